@@ -7,13 +7,13 @@ use Rattle.swap_job.specs.declared.job.Job.{Job}
 use Rattle.refusals.specs.declared.refusal.Refusal.{Refusal}
 use Rattle.transcript_reader.specs.declared.reason.TranscriptReason.{TranscriptReason}
 use Rattle.transcript_reader.specs.Stages.{Progress}
-use Rattle.transcript_reader.specs.Reading.{finished, story_of}
-use Rattle.command_input.specs.Faults.{told_by}
+use Rattle.transcript_reader.specs.Reading.{finished, job_story}
+use Rattle.command_input.specs.Faults.{parse_told}
 use Rattle.command_input.specs.declared.fault.InputFault.{InputFault}
 use Rattle.command_input.specs.declared.fault.InputFault.TheVariants.{Refused, ReadFault, TooLong, NoMemory}
 use Rattle.command_input.specs.Input.{At, Desk, Ends, HasStopped, IsPart, IsTooLong, desk, fresh, limit}
 use Rattle.command_input.proofs.Streams.{no_memory_after}
-use Rattle.audit_command.specs.Output.{by_text, refused_by, story_in}
+use Rattle.audit_command.specs.Output.{by_text, to_refusal, story_in}
 use Rattle.audit_command.specs.Reading.{Concludes, HasRead, IsAgainst, IsBad, IsRead, IsStory, Stopped}
 
 -- a part was read
@@ -27,7 +27,7 @@ pub all_consumed : (P : List ℕ → Type 0) (a b : Option (List ℕ)) (n m : �
 all_consumed P a b n m k = (k.ends.bytes, omega (arith, k.ends.stands.took.counted, k.ends.stands.fits.within), k.ends.stands.took.consumed)
 
 -- a reason as it is told
-pub told_stopped : (old new : Desk) (f : InputFault TranscriptReason) → HasStopped IsBad old new f → HasStopped IsAgainst old new (told_by refused_by f)
+pub told_stopped : (old new : Desk) (f : InputFault TranscriptReason) → HasStopped IsBad old new f → HasStopped IsAgainst old new (parse_told to_refusal f)
 unfolding story_in
 told_stopped old new (Refused reason) h = record { bytes = h.bytes; stands = h.stands; can = h.can; told = ap by_text h.told; ended = h.ended }
 told_stopped old new ReadFault h = h
@@ -38,7 +38,7 @@ told_stopped old new NoMemory h = h
 
 module _ (a b : Option (List ℕ)) (n m : ℕ) (now : At) (p : Progress) (rest : List ℕ) (k : Ends (IsRead p rest) (desk a n fresh) (desk b m now)) where
   pub concluded_ok : (r : Result (Job × Book) (InputFault Refusal)) → Concludes r (finished p rest)
-      → IfOk r (λ x. HasRead (IsStory (story_of x)) a b n m)
+      → IfOk r (λ x. HasRead (IsStory (job_story x)) a b n m)
   concluded_ok (Ok x) e =
       record { now = now; ends = record { bytes = k.bytes; stands = k.stands; can = k.can; told = k.told ∙ e; ended = k.ended } }
   concluded_ok (Err f) e = tt

@@ -16,12 +16,9 @@ use Rattle.command_input.specs.Input.{At, Desk, Ends, GivesPart, IsFed, IsRest, 
 use Rattle.command_input.proofs.Ahead.{stands_none, stands_on}
 use Rattle.command_input.proofs.Streams.{can_come, fits_fresh, no_memory_after}
 use Rattle.audit_command.specs.Reading.{IsBad, IsRead}
+use Rattle.transcript_reader.proofs.Back.{not_feed}
 
 -- ---- lines
-
-not_feed : (t : Bool) → not t ≡ true → t ≡ false
-not_feed true e = absurd (cc e)
-not_feed false e = refl
 
 -- a line that a line feed ends is the first part
 one_line : (text rest : List ℕ) → IsTrue (lacks_feed text) → parts_at 10 (text ++ 10 ∷ rest) ≡ text ∷ parts_at 10 rest
@@ -112,6 +109,6 @@ pub line_of : (more : Bool) (s t : Desk) → more ≡ true → GivesPart more s 
 line_of true s t e p = p
 line_of false s t e p = absurd (cc e)
 
-pub last_of : (more : Bool) (s t : Desk) → more ≡ false → GivesPart more s t → IsRest s t
-last_of true s t e p = absurd (cc e)
-last_of false s t e p = p
+pub last_run : (more : Bool) (s t : Desk) → more ≡ false → GivesPart more s t → IsRest s t
+last_run true s t e p = absurd (cc e)
+last_run false s t e p = p

@@ -18,14 +18,14 @@ use Rattle.command_input.specs.Input.{At, Ends, desk, fresh}
 use Rattle.command_input.specs.Streams.{streams}
 use Rattle.audit_command.proofs.Ends.{is_consumed, too_long}
 use Rattle.command_input.specs.Written.{Writes, Written}
-use Rattle.audit_command.specs.Output.{audit_of, by_text, judged, written_of, story_in, told}
+use Rattle.audit_command.specs.Output.{audit_output, by_text, judged, story_output, story_in, told}
 use Rattle.audit_command.specs.Promised.{IsSound}
 use Rattle.audit_command.specs.Reading.{HasRead, IsAgainst, IsStory, Stopped}
 use Rattle.audit_command.specs.Says.{HasAnswer, HasAuditOutput, AuditSays}
 
 -- an answer to an input that was read
 answered : (P : List ℕ → Type 0) (a b : Option (List ℕ)) (n m : ℕ) (now : At) (output : Result Written Refusal)
-    (k : Ends P (desk a n fresh) (desk b m now)) → audit_of k.bytes ≡ output → HasAnswer a b output
+    (k : Ends P (desk a n fresh) (desk b m now)) → audit_output k.bytes ≡ output → HasAnswer a b output
 answered P a b n m now output k e = record {
   input = k.bytes;
   taken = k.stands.took.consumed;
@@ -35,8 +35,8 @@ answered P a b n m now output k e = record {
 }
 
 -- no story
-refused_input : (input : List ℕ) (refusal : Refusal) → story_in input ≡ Err refusal → audit_of input ≡ Err refusal
-unfolding audit_of
+refused_input : (input : List ℕ) (refusal : Refusal) → story_in input ≡ Err refusal → audit_output input ≡ Err refusal
+unfolding audit_output
 refused_input input refusal e = ap (λ (r : Result Story Refusal). r >>= told) e
 
 pub says_unread : (a b : Option (List ℕ)) (n m : ℕ) (taken : Option (List ℕ)) (p : ℕ) (f : InputFault Refusal) → Stopped a b n m f
@@ -53,8 +53,8 @@ module _ (a b : Option (List ℕ)) (n m : ℕ) (t : Story) (k : HasRead (IsStory
   pub is_formed : IsWellFormed t.job.deal t.book
   is_formed = (text_is_whole header_read k.ends.bytes t k.ends.told).whole.stated.formed
 
-  of_story : audit_of k.ends.bytes ≡ told t
-  unfolding audit_of story_in
+  of_story : audit_output k.ends.bytes ≡ told t
+  unfolding audit_output story_in
   of_story = ap (λ (r : Result Story TranscriptReason). by_text r >>= told) k.ends.told
 
   pub says_refused : (taken : Option (List ℕ)) (p : ℕ) (refusal : Refusal) → judged t ≡ Err refusal
@@ -62,16 +62,16 @@ module _ (a b : Option (List ℕ)) (n m : ℕ) (t : Story) (k : HasRead (IsStory
   unfolding told
   says_refused taken p refusal e = (
     answered (IsStory t) a b n m k.now (Err refusal) k.ends
-        (of_story ∙ ap (λ (r : Result Report Refusal). r >>= λ x. Ok (written_of t x)) e),
+        (of_story ∙ ap (λ (r : Result Report Refusal). r >>= λ x. Ok (story_output t x)) e),
     Keeps-refl taken,
   )
 
-  output_is : (P : Written → Type 0) (r : Report) → IsTold t.job → judged t ≡ Ok r → IsSound t r → P (written_of t r) → HasAuditOutput P a b
+  output_is : (P : Written → Type 0) (r : Report) → IsTold t.job → judged t ≡ Ok r → IsSound t r → P (story_output t r) → HasAuditOutput P a b
   unfolding told answered
   output_is P r job e sound w = record {
-    output = written_of t r;
-    read = answered (IsStory t) a b n m k.now (Ok (written_of t r)) k.ends
-        (of_story ∙ ap (λ (x : Result Report Refusal). x >>= λ y. Ok (written_of t y)) e);
+    output = story_output t r;
+    read = answered (IsStory t) a b n m k.now (Ok (story_output t r)) k.ends
+        (of_story ∙ ap (λ (x : Result Report Refusal). x >>= λ y. Ok (story_output t y)) e);
     promised = record {
       story = t;
       read = k.ends.told;
@@ -85,7 +85,7 @@ module _ (a b : Option (List ℕ)) (n m : ℕ) (t : Story) (k : HasRead (IsStory
   }
 
   pub says_written : (taken taken' : Option (List ℕ)) (p q : ℕ) (r : Report) → IsTold t.job → judged t ≡ Ok r → IsSound t r → (s : Status)
-      → Writes taken taken' p q (written_of t r) s → AuditSays (streams a n taken p) (streams b m taken' q) s
+      → Writes taken taken' p q (story_output t r) s → AuditSays (streams a n taken p) (streams b m taken' q) s
   says_written taken taken' p q r job e sound Done w = output_is _ r job e sound w
   says_written taken taken' p q r job e sound Named w = output_is _ r job e sound w
   says_written taken taken' p q r job e sound WrongWords w = absurd w

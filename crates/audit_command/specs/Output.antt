@@ -25,15 +25,15 @@ abbrev pub nameless : Reason → Refusal
 nameless reason = refusal [] reason
 
 -- A refusal of a text. Of an input within its limit none is that it is too long.
-abbrev pub refused_by : TranscriptReason → Refusal
-refused_by (BadLine line) = nameless (reasons.BadLine line)
-refused_by TooLong = nameless reasons.CutShort
-refused_by CutShort = nameless reasons.CutShort
-refused_by (Header reason) = reason
+abbrev pub to_refusal : TranscriptReason → Refusal
+to_refusal (BadLine line) = nameless (reasons.BadLine line)
+to_refusal TooLong = nameless reasons.CutShort
+to_refusal CutShort = nameless reasons.CutShort
+to_refusal (Header reason) = reason
 
 abbrev pub by_text : Result Story TranscriptReason → Result Story Refusal
 by_text (Ok t) = Ok t
-by_text (Err reason) = Err (refused_by reason)
+by_text (Err reason) = Err (to_refusal reason)
 
 -- the job and the book that an input's lines state, or the first reason against them
 unfoldable pub story_in : List ℕ → Result Story Refusal
@@ -51,13 +51,13 @@ by_replies (Err b) = Err (refused_reply b)
 unfoldable pub judged : Story → Result Report Refusal
 judged t = by_replies (audited t.job.deal t.job.conforming t.book)
 
-abbrev pub written_of : Story → Report → Written
-written_of t r = record { text = report t.job t.book r; found = not (length r.findings == 0) }
+abbrev pub story_output : Story → Report → Written
+story_output t r = record { text = report t.job t.book r; found = not (length r.findings == 0) }
 
 -- what is written of a job and its book
 unfoldable pub told : Story → Result Written Refusal
-told t = judged t >>= λ r. Ok (written_of t r)
+told t = judged t >>= λ r. Ok (story_output t r)
 
 -- what an audit writes for an input, or the first reason why it is refused
-unfoldable pub audit_of : List ℕ → Result Written Refusal
-audit_of input = story_in input >>= told
+unfoldable pub audit_output : List ℕ → Result Written Refusal
+audit_output input = story_in input >>= told

@@ -4,26 +4,26 @@ use Rattle.ledger_core.specs.Book.{IsLegalBook}
 use Rattle.swap_rules.specs.Accepted.{IsAccepted}
 use Rattle.swap_rules.specs.Laws.{FindsNothing, IsTransferred}
 use Rattle.outcome_rules.specs.declared.report.Report.{Report}
-use Rattle.outcome_rules.specs.Report.{conforms_in, report_of}
+use Rattle.outcome_rules.specs.Report.{conforms_in, build_report}
 use Rattle.outcome_rules.specs.Promises.{AllAreConforming, AllAreWhole, AllHaveRefunds, NoneIsUnderwater, shown_outcome}
-use Rattle.swap_auditor.specs.Audit.{UnitsAddUp}
+use Rattle.swap_auditor.specs.Audit.{AreUnitsConserved}
 use Rattle.transcript_reader.specs.Header.{header_read, IsTold}
 use Rattle.transcript_reader.specs.Laws.{IsWholeText}
 use Rattle.transcript_reader.specs.Reading.{Story, transcript_read}
-use Rattle.audit_command.specs.Output.{written_of}
+use Rattle.audit_command.specs.Output.{story_output}
 use Rattle.command_input.specs.Written.{Written}
 
 -- the report of a job's book
-abbrev pub report_for : Story → Report
-report_for t = report_of t.job.deal t.job.conforming t.book
+abbrev pub story_report : Story → Report
+story_report t = build_report t.job.deal t.job.conforming t.book
 
 -- What an audit promises of a job and its book, of which r is the report.
 pub record IsSound (t : Story) (r : Report) : Type 0 where
-  pub report : r ≡ report_for t
+  pub report : r ≡ story_report t
   pub accepted : IsAccepted t.job.deal
   -- every reply is the table's, and at every moment each unit is in one place
   pub legal : IsLegalBook t.job.deal t.book
-  pub units : UnitsAddUp t.job.deal t.book
+  pub units : AreUnitsConserved t.job.deal t.book
   -- a conforming party that no finding endangers doesn't end underwater, and one that none strands has its refunds
   pub safe : NoneIsUnderwater t.job.deal t.job.conforming (shown_outcome r) r.findings
   pub refunds : AllHaveRefunds t.job.deal t.job.conforming t.book r.findings
@@ -40,5 +40,5 @@ pub record IsAudit (input : List ℕ) (output : Written) : Type 0 where
   pub whole : IsWholeText header_read input story
   pub job : IsTold story.job
   pub report : Report
-  pub shown : output ≡ written_of story report
+  pub shown : output ≡ story_output story report
   pub sound : IsSound story report

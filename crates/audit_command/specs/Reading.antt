@@ -6,7 +6,7 @@ use Rattle.refusals.specs.declared.refusal.Refusal.{Refusal}
 use Rattle.transcript_reader.specs.declared.reason.TranscriptReason.{TranscriptReason}
 use Rattle.transcript_reader.specs.Header.{header_read}
 use Rattle.transcript_reader.specs.Stages.{Progress}
-use Rattle.transcript_reader.specs.Reading.{Story, finished, story_of, transcript_read}
+use Rattle.transcript_reader.specs.Reading.{Story, finished, job_story, transcript_read}
 use Rattle.command_input.specs.declared.fault.InputFault.{InputFault}
 use Rattle.command_input.specs.declared.fault.InputFault.TheVariants.{Refused, ReadFault, TooLong, NoMemory}
 use Rattle.command_input.specs.Input.{At, Ends, HasStopped, desk, fresh}
@@ -40,7 +40,7 @@ pub record Stopped (left left' : Option (List ℕ)) (n m : ℕ) (fault : InputFa
 
 -- what is concluded from what the reader of all lines tells
 abbrev pub Concludes : Result (Job × Book) (InputFault Refusal) → Result Story TranscriptReason → Type 0
-Concludes (Ok p) read = read ≡ Ok (story_of p)
+Concludes (Ok p) read = read ≡ Ok (job_story p)
 Concludes (Err (Refused refusal)) read = by_text read ≡ Err refusal
 Concludes (Err NoMemory) read = Unit {0}
 Concludes (Err ReadFault) read = ⊥

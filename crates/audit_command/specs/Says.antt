@@ -10,7 +10,7 @@ use Rattle.command_input.specs.declared.status.Status.TheVariants.{Done, Named, 
 use Rattle.command_input.specs.Input.{limit}
 use Rattle.command_input.specs.Streams.{HasReadFault, HasWriteFault, Streams}
 use Rattle.command_input.specs.Written.{IsWrittenWhole, Written}
-use Rattle.audit_command.specs.Output.{audit_of}
+use Rattle.audit_command.specs.Output.{audit_output}
 use Rattle.audit_command.specs.Promised.{IsAudit}
 
 -- The whole input was read, and this is the audit's output for it.
@@ -19,7 +19,7 @@ pub record HasAnswer (left left' : Option (List ℕ)) (output : Result Written R
   pub taken : Consumes left left' input
   pub ended : IsAtEnd left'
   pub within : length input ≤ limit
-  pub gives : audit_of input ≡ output
+  pub gives : audit_output input ≡ output
 
 -- The input was read and has an output, which is promised, and P tells what was written of its text.
 pub record HasAuditOutput (P : Written → Type 0) (left left' : Option (List ℕ)) : Type 0 where

@@ -3,7 +3,7 @@
 ghost use Rattle.std.specs.Prelude.{◌≡◌};
 ghost use Rattle.command_input.specs.Streams.{streams};
 ghost use Rattle.command_input.specs.Written.{Writes};
-ghost use Rattle.audit_command.specs.Output.{written_of, story};
+ghost use Rattle.audit_command.specs.Output.{story_output, story};
 ghost use Rattle.audit_command.specs.Promised.{IsSound};
 ghost use Rattle.audit_command.specs.Says.{AuditSays};
 ghost use Rattle.transcript_reader.specs.Header.{IsTold};
@@ -23,7 +23,7 @@ use swap_job::Job;
 fn tell<K: Sink>(alloc: Global, sink: &mut K, job: &Job, book: &Book, report: &Report) -> Status
     requires told { IsTold job.now }
     requires sound { IsSound (story job.now book.now.histories) report.now }
-    ensures { Writes (K.taken sink.old) (K.taken sink.new) (K.faults sink.old) (K.faults sink.new) (written_of (story job.now book.now.histories) report.now)
+    ensures { Writes (K.taken sink.old) (K.taken sink.new) (K.faults sink.old) (K.faults sink.new) (story_output (story job.now book.now.histories) report.now)
         result }
 {
     match write_report(alloc, sink, job, book, report) {

@@ -2,10 +2,10 @@
 
 ghost use Rattle.std.specs.Prelude.{◌≡◌, IfOk, IfErr};
 ghost use Rattle.transcript_reader.specs.Header.{IsTold};
-ghost use Rattle.transcript_reader.specs.Reading.{finished, story_of};
-ghost use Rattle.audit_command.specs.Output.{refused_by};
+ghost use Rattle.transcript_reader.specs.Reading.{finished, job_story};
+ghost use Rattle.audit_command.specs.Output.{to_refusal};
 ghost use Rattle.audit_command.specs.Reading.{Concludes, HasRead, IsStory, Stopped};
-ghost use Rattle.command_input.specs.Faults.{told_by};
+ghost use Rattle.command_input.specs.Faults.{parse_told};
 
 use crate::input::read_lines;
 use command_input::{Input, InputFault};
@@ -18,8 +18,8 @@ use swap_job::Job;
 use transcript_reader::{TranscriptReader, TranscriptReason};
 
 /// The refusal of a text.
-fn refused_by(alloc: Global, reason: TranscriptReason) -> Refusal
-    ensures { result ≡ refused_by reason }
+fn to_refusal(alloc: Global, reason: TranscriptReason) -> Refusal
+    ensures { result ≡ to_refusal reason }
 {
     match reason {
         TranscriptReason::BadLine(line) => nameless(alloc, Reason::BadLine(line)),
@@ -40,17 +40,17 @@ fn conclude(
 {
     match reader.finish(rest) {
         Ok(story) => Ok(story),
-        Err(Fault::Refused(reason)) => Err(InputFault::Refused(refused_by(alloc, reason))),
+        Err(Fault::Refused(reason)) => Err(InputFault::Refused(to_refusal(alloc, reason))),
         Err(Fault::NoMemory) => Err(InputFault::NoMemory),
     }
 }
 
 /// The fault with the refusal of a text.
 fn refused(alloc: Global, fault: InputFault<TranscriptReason>) -> InputFault<Refusal>
-    ensures { result ≡ told_by refused_by fault }
+    ensures { result ≡ parse_told to_refusal fault }
 {
     match fault {
-        InputFault::Refused(reason) => InputFault::Refused(refused_by(alloc, reason)),
+        InputFault::Refused(reason) => InputFault::Refused(to_refusal(alloc, reason)),
         InputFault::ReadFault => InputFault::ReadFault,
         InputFault::TooLong => InputFault::TooLong,
         InputFault::NoMemory => InputFault::NoMemory,
@@ -62,7 +62,7 @@ pub(crate) fn read_story<S: Source>(
     alloc: Global,
     source: &mut S,
 ) -> Result<(Job, Book), InputFault<Refusal>>
-    ensures read { IfOk result (λ p. HasRead (IsStory (story_of p)) (S.left source.old) (S.left source.new) (S.faults source.old) (S.faults source.new)) }
+    ensures read { IfOk result (λ p. HasRead (IsStory (job_story p)) (S.left source.old) (S.left source.new) (S.faults source.old) (S.faults source.new)) }
     ensures told { IfOk result (λ p. IsTold p.0) }
     ensures stops { IfErr result (Stopped (S.left source.old) (S.left source.new) (S.faults source.old) (S.faults source.new)) }
 {

@@ -15,8 +15,8 @@ use Rattle.deviators.specs.Program.{program_rule}
 use Rattle.refusals.specs.declared.reason.Reason.{Reason}
 use Rattle.offer_fields.proofs.Chains.{went}
 use Rattle.offer_header.specs.Raw.{is_plain}
-use Rattle.swap_offer.specs.Job.{events_for, job_header_of, job_of, job_of_lines}
-use Rattle.command_input.specs.Lines.{filled_lines, lines_of}
+use Rattle.swap_offer.specs.Job.{parse_job_events, job_header_of, parse_job, job_of_lines}
+use Rattle.command_input.specs.Lines.{filled_lines, collect_lines}
 use Rattle.read_back.specs.Headers.{IsShowable}
 use Rattle.read_back.proofs.Onward.{ok_is}
 use Rattle.read_back.proofs.Showable.{read_is_showable}
@@ -27,10 +27,10 @@ use Rattle.transcript_lines.specs.Lines.{transcript}
 use Rattle.typed_books.specs.Typed.{IsTypedCall, IsTypedWhat}
 use Rattle.typed_books.specs.Books.{IsTypedBook, IsTypedEntry}
 use Rattle.command_input.specs.Input.{limit}
-use Rattle.audit_command.specs.Output.{audit_of}
+use Rattle.audit_command.specs.Output.{audit_output}
 use Rattle.command_input.specs.Written.{Written}
 use Rattle.command_input.specs.Streams.{Streams}
-use Rattle.swap_commands.specs.Output.{Chance, book_of, by_reason, output_by, reported}
+use Rattle.swap_commands.specs.Output.{Chance, collected_book, by_reason, output_by, reported}
 use Rattle.swap_commands.specs.Words.{OfJob, Audit, Run, Race, Command}
 use Rattle.swap_commands.specs.Promised.{AsPromised}
 use Rattle.swap_commands.specs.Strategies.{strategies}
@@ -48,14 +48,14 @@ lines_showable : (has : List ℕ → Bool) (purpose : Purpose) (ls : List (ℕ �
 lines_showable has purpose [] job events stated e = absurd (cc e)
 lines_showable has purpose (l ∷ ls) job events stated e =
     let one = went (job_header_of has purpose l.0 l.1) _ (job, events) e in
-    let two = went (events_for purpose one.0 ls) _ (job, events) one.2 in
+    let two = went (parse_job_events purpose one.0 ls) _ (job, events) one.2 in
     let same : one.0 ≡ job = ap (λ (p : Job × List Event). p.0) (ok_is (one.0, two.0) (job, events) two.2) in
     subst IsShowable same (read_is_showable has purpose l.0 l.1 one.0 stated one.1)
 
 job_showable : (has : List ℕ → Bool) (purpose : Purpose) (input : List ℕ) (job : Job) (events : List Event) → is_plain purpose ≡ false
-    → job_of has purpose input ≡ Ok (job, events) → IsShowable job
-unfolding job_of
-job_showable has purpose input job events stated e = lines_showable has purpose (filled_lines 1 (lines_of input)) job events stated e
+    → parse_job has purpose input ≡ Ok (job, events) → IsShowable job
+unfolding parse_job
+job_showable has purpose input job events stated e = lines_showable has purpose (filled_lines 1 (collect_lines input)) job events stated e
 
 -- ---- a book of the program's own types holds digests
 
@@ -87,18 +87,18 @@ audit_writes has chance job b output showable legal digests is le =
       digests = digests;
       short = subst (λ (l : List ℕ). length l ≤ limit) text le;
     } in
-    ap (λ (l : List ℕ). by_reason (audit_of l)) text
+    ap (λ (l : List ℕ). by_reason (audit_output l)) text
     ∙ ap by_reason (same_report job b k)
 
 -- ---- what a run and a race write
 
-run_writes : (has : List ℕ → Bool) (chance : Chance) (input : List ℕ) (job : Job) (events : List Event) → job_of has purposes.Run input ≡ Ok (job, events)
-    → output_by has chance (OfJob (Run false)) input ≡ Ok (reported false job (book_of chance.answers job events))
+run_writes : (has : List ℕ → Bool) (chance : Chance) (input : List ℕ) (job : Job) (events : List Event) → parse_job has purposes.Run input ≡ Ok (job, events)
+    → output_by has chance (OfJob (Run false)) input ≡ Ok (reported false job (collected_book chance.answers job events))
 unfolding output_by
 run_writes has chance input job events e =
-    ap (λ (r : Result (Job × List Event) Reason). r >>= λ j. Ok (reported false j.0 (book_of chance.answers j.0 j.1))) e
+    ap (λ (r : Result (Job × List Event) Reason). r >>= λ j. Ok (reported false j.0 (collected_book chance.answers j.0 j.1))) e
 
-race_writes : (has : List ℕ → Bool) (chance : Chance) (ticks : ℕ) (input : List ℕ) (job : Job) → job_of has purposes.Race input ≡ Ok (job, [])
+race_writes : (has : List ℕ → Bool) (chance : Chance) (ticks : ℕ) (input : List ℕ) (job : Job) → parse_job has purposes.Race input ≡ Ok (job, [])
     → output_by has chance (OfJob (Race ticks false)) input ≡ Ok (reported false job chance.book)
 unfolding output_by
 race_writes has chance ticks input job e =
@@ -123,7 +123,7 @@ audited_as has chance command input job b output showable legal digests is le wr
 
 pub runs_are_audited : RunsAreAudited
 runs_are_audited rule has chance input output keeps p le =
-    audited_as has chance (OfJob (Run false)) input p.job (book_of chance.answers p.job p.events) output
+    audited_as has chance (OfJob (Run false)) input p.job (collected_book chance.answers p.job p.events) output
     (job_showable has purposes.Run input p.job p.events refl p.is_read) p.promised.kept.legal
     (runs_hold_digests rule has chance.answers input p.job p.events keeps p.is_read p.given) p.shown le
     (run_writes has chance input p.job p.events p.is_read)

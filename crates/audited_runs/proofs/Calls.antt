@@ -4,11 +4,11 @@ use Rattle.std.specs.Prelude.{All}
 use Rattle.std.specs.List.{flat_map}
 use Rattle.std.proofs.lemmas.List.Elements.{All-append, All-cons, All-head, All-nil, All-tail}
 use Rattle.swap_base.specs.Lists.{first_of, or_else}
-use Rattle.swap_digraph.specs.Graph.{entering, is_among, leaving}
+use Rattle.swap_digraph.specs.Graph.{entering, is_listed, leaving}
 use Rattle.swap_digraph.specs.declared.deal.Deal.{Deal}
 use Rattle.swap_digraph.specs.Deal.{leads, locks}
 use Rattle.hashkey_path.specs.declared.hashkey.Hashkey.{Hashkey}
-use Rattle.escrow_core.specs.Terms.{terms_of}
+use Rattle.escrow_core.specs.Terms.{stated_terms}
 use Rattle.escrow_core.specs.declared.reply.Reply.{Reply}
 use Rattle.escrow_core.specs.declared.reply.Reply.TheVariants.{Accepted}
 use Rattle.ledger_core.specs.declared.entry.Call.{Call}
@@ -19,12 +19,12 @@ use Rattle.ledger_core.specs.declared.entry.Entry.{Entry}
 use Rattle.ledger_core.specs.History.{accepted, accepted_call, opened, opening, Opening}
 use Rattle.ledger_core.specs.Book.{Histories, history}
 use Rattle.swap_rules.specs.Party.{key_without}
-use Rattle.swap_rules.specs.Due.{Action, Wallet, due, due_claims, due_key, due_publishes, due_refunds, due_unlock_on, due_unlocks, extended, first}
+use Rattle.swap_rules.specs.Due.{Action, Wallet, due, due_claims, due_key, due_publishes, due_refunds, due_arc_unlock, due_unlocks, extended, first}
 use Rattle.swap_rules.specs.Due.{is_due_claim, is_due_publish, is_due_refund, may_unlock, presented, seen_key, when_due}
 use Rattle.swap_job.specs.declared.moves.Move.{Move}
 use Rattle.swap_job.specs.declared.moves.Move.TheVariants.{Publish, Craft, Replay, Raw, Claim, Refund, Transfer, Wait}
 use Rattle.swap_job.specs.Crafted.{Seeds, crafted, crafted_onto}
-use Rattle.swap_job.specs.Resolved.{move_arc, call_of_move, call_with, key_opened, opening_named, resolved}
+use Rattle.swap_job.specs.Resolved.{move_arc, call_of_move, build_call, key_opened, opening_named, resolved}
 use Rattle.typed_books.specs.Typed.{IsDigest}
 use Rattle.audited_runs.specs.Digests.{HasDigests, StatesDigests}
 use Rattle.audited_runs.proofs.Hashes.{May, KeyHas, WalletHas, crafted_has, onto_crafted_has}
@@ -98,7 +98,7 @@ opening_has i t (Tick k) r h = tt
 opened_has : (h : List Entry) (i : ℕ) → Has h → May OpeningHas (opened h i)
 opened_has h i k = first_has OpeningHas EntryHas (λ e. opening i e.height (accepted e)) h (λ e s. opening_has i e.height e.what e.reply s) k
 
-history_has : (b : Histories) (a : ℕ) → BookHas b → Has (history b a)
+pub history_has : (b : Histories) (a : ℕ) → BookHas b → Has (history b a)
 history_has b a k = at_or Has b a [] (All-nil EntryHas) k
 
 key_opened_has : (b : Histories) (o : Option (ℕ × ℕ)) → BookHas b → May KeyHas (key_opened b o)
@@ -107,7 +107,7 @@ key_opened_has b (Some x) k = map_has KeyHas (λ (o : Opening). o.key) (opened (
 
 without_has : (v : ℕ) (o : Option Opening) → May OpeningHas o → May KeyHas (key_without v o)
 without_has v None k = tt
-without_has v (Some o) k = by (is_among v o.key.path)
+without_has v (Some o) k = by (is_listed v o.key.path)
   where
     by : (t : Bool) → May KeyHas (cond t None (Some o.key))
     by true = tt
@@ -126,7 +126,7 @@ unlock_has None k = tt
 unlock_has (Some key) k = k
 
 call_has : (d : Deal) (seeds : Seeds) (key : Option Hashkey) (mv : Move) → All IsDigest d.hashlocks → May KeyHas key → MoveHas mv
-    → May HasDigests (call_with d seeds key mv)
+    → May HasDigests (build_call d seeds key mv)
 call_has d seeds key (Craft a lock via None) locks k m = unlock_has (crafted d seeds lock None via) (crafted_has d seeds lock None via tt)
 call_has d seeds key (Craft a lock via (Some onto)) locks k m = unlock_has (crafted_onto d seeds lock key via) (onto_crafted_has d seeds lock key via k)
 call_has d seeds key (Replay a lock onto) locks k m = unlock_has key k
@@ -168,8 +168,8 @@ module _ (d : Deal) (v : ℕ) (w : Wallet) (signed : ℕ → Option Hashkey) (b 
       by true = own.first i
       by false = extended_has w (seen_key d v b i) own (seen_has d b v i known)
 
-  unlock_on_has : (i a : ℕ) → All ActionHas (due_unlock_on d v w (signed i) b i a)
-  unfolding due_unlock_on
+  unlock_on_has : (i a : ℕ) → All ActionHas (due_arc_unlock d v w (signed i) b i a)
+  unfolding due_arc_unlock
   unlock_on_has i a = by (may_unlock d v b i a)
     where
       by : (t : Bool) → All ActionHas (cond t (presented a (due_key d v w (signed i) b i)) [])
@@ -182,10 +182,10 @@ module _ (d : Deal) (v : ℕ) (w : Wallet) (signed : ℕ → Option Hashkey) (b 
       All-append ActionHas (due_publishes d v b ++ due_unlocks d v w signed b ++ due_claims d v b) (due_refunds d v b)
       (All-append ActionHas (due_publishes d v b ++ due_unlocks d v w signed b) (due_claims d v b)
       (All-append ActionHas (due_publishes d v b) (due_unlocks d v w signed b)
-      (flat_has ActionHas (λ a. when_due (is_due_publish d v b a) a (calls.Publish (terms_of d a))) (leaving d.graph v)
-      (λ a. when_has (is_due_publish d v b a) a (calls.Publish (terms_of d a)) hashlocks))
-      (flat_has ActionHas (λ i. flat_map (due_unlock_on d v w (signed i) b i) (entering d.graph v)) (locks d)
-      (λ i. flat_has ActionHas (due_unlock_on d v w (signed i) b i) (entering d.graph v) (unlock_on_has i))))
+      (flat_has ActionHas (λ a. when_due (is_due_publish d v b a) a (calls.Publish (stated_terms d a))) (leaving d.graph v)
+      (λ a. when_has (is_due_publish d v b a) a (calls.Publish (stated_terms d a)) hashlocks))
+      (flat_has ActionHas (λ i. flat_map (due_arc_unlock d v w (signed i) b i) (entering d.graph v)) (locks d)
+      (λ i. flat_has ActionHas (due_arc_unlock d v w (signed i) b i) (entering d.graph v) (unlock_on_has i))))
       (flat_has ActionHas (λ a. when_due (is_due_claim d v b a) a calls.Claim) (entering d.graph v)
       (λ a. when_has (is_due_claim d v b a) a calls.Claim tt)))
       (flat_has ActionHas (λ a. when_due (is_due_refund d v b a) a calls.Refund) (leaving d.graph v)

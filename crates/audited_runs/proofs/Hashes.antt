@@ -4,21 +4,19 @@ use Rattle.std.specs.Prelude.{All}
 use Rattle.std.specs.List.{range_with_len}
 use Rattle.std.proofs.lemmas.List.Elements.{All-cons, All-map, All-nil}
 use Rattle.std.proofs.lemmas.List.FromFn.{length-map-range_with_len}
-use Rattle.sha2.specs.Sha256.{sha256}
-use Rattle.sha2.proofs.Facts256.{length-sha256}
 use Rattle.swap_digraph.specs.declared.deal.Deal.{Deal}
 use Rattle.swap_digraph.specs.declared.deal.Mode.{Mode}
 use Rattle.swap_digraph.specs.declared.deal.Mode.TheVariants.{Timelocks, Hashkeys}
 use Rattle.swap_digraph.specs.Deal.{path_limit}
 use Rattle.hash_chains.specs.Chains.{chain_after, chain_start}
-use Rattle.hash_signature.specs.Signature.{digit, for_chains, secret_of, signature_of, signed_value}
+use Rattle.hash_signature.specs.Signature.{digit, for_chains, derive_secret, parse_signature, signed_value}
 use Rattle.hashkey_path.specs.declared.hashkey.Hashkey.{Hashkey}
 use Rattle.hashkey_path.specs.Signed.{suffix_signature}
 use Rattle.party_wallet.specs.Keys.{onto_key, own_key}
-use Rattle.party_machine.proofs.Digests.{digest_below}
 use Rattle.swap_rules.specs.Due.{Wallet}
-use Rattle.swap_job.specs.Crafted.{Seeds, crafted, crafted_onto, put_before, seed_of}
+use Rattle.swap_job.specs.Crafted.{Seeds, crafted, crafted_onto, prepend_party, make_seed}
 use Rattle.typed_books.specs.Typed.{IsDigest, IsSignature}
+use Rattle.read_back.proofs.Plain.{hash_is}
 
 -- what is there meets P
 abbrev pub May : {A : Type 0} → (A → Type 0) → Option A → Type 0
@@ -28,9 +26,6 @@ May P (Some x) = P x
 abbrev pub KeyHas : Hashkey → Type 0
 KeyHas key = IsDigest key.secret × All IsSignature key.sigs
 
-pub hash_is : (m : List ℕ) → IsDigest (sha256 m)
-hash_is m = record { size = length-sha256 m; bytes = digest_below m }
-
 chain_is : (n : ℕ) (y : List ℕ) → IsDigest y → IsDigest (chain_after n y)
 unfolding chain_after
 chain_is zero y k = k
@@ -39,8 +34,8 @@ chain_is (suc n) y k = hash_is (2 ∷ chain_after n y)
 value_is : (seed : List ℕ) (party lock : ℕ) (message : List ℕ) (j : ℕ) → IsDigest (signed_value seed party lock message j)
 value_is seed party lock message j = chain_is (digit message j) (chain_start seed party lock j) (hash_is _)
 
-signature_is : (seed : List ℕ) (party lock : ℕ) (message : List ℕ) → IsSignature (signature_of seed party lock message)
-unfolding signature_of for_chains
+signature_is : (seed : List ℕ) (party lock : ℕ) (message : List ℕ) → IsSignature (parse_signature seed party lock message)
+unfolding parse_signature for_chains
 signature_is seed party lock message = record {
   size = length-map-range_with_len (signed_value seed party lock message) 0 67;
   values = All-map IsDigest (signed_value seed party lock message) (range_with_len 0 67) (λ k j lt. value_is seed party lock message _);
@@ -50,7 +45,7 @@ pub own_has : (m : Mode) (d : Deal) (v : ℕ) (seed : List ℕ) (i : ℕ) → Ke
 own_has Timelocks d v seed i = (hash_is (5 ∷ seed), All-nil IsSignature)
 own_has Hashkeys d v seed i = (
   hash_is (5 ∷ seed),
-  All-cons IsSignature (suffix_signature d i (secret_of seed) v seed [] []) [] (signature_is seed v i _) (All-nil IsSignature),
+  All-cons IsSignature (suffix_signature d i (derive_secret seed) v seed [] []) [] (signature_is seed v i _) (All-nil IsSignature),
 )
 
 pub onto_has : (m : Mode) (d : Deal) (v : ℕ) (seed : List ℕ) (inner : Hashkey) → KeyHas inner → KeyHas (onto_key m d v seed inner)
@@ -71,13 +66,13 @@ pub fold_keeps : {S A : Type 0} (P : S → Type 0) (f : S → A → S) (s : S) (
 fold_keeps P f s [] p keep = p
 fold_keeps P f s (x ∷ xs) p keep = fold_keeps P f (f s x) xs (keep s x p) keep
 
-put_has : (d : Deal) (seeds : Seeds) (i : ℕ) (made : Option Hashkey) (v : ℕ) → May KeyHas made → KeyHas (put_before d seeds i made v)
-put_has d seeds i None v k = own_has d.mode d v (seed_of seeds v) i
-put_has d seeds i (Some key) v k = onto_has d.mode d v (seed_of seeds v) key k
+put_has : (d : Deal) (seeds : Seeds) (i : ℕ) (made : Option Hashkey) (v : ℕ) → May KeyHas made → KeyHas (prepend_party d seeds i made v)
+put_has d seeds i None v k = own_has d.mode d v (make_seed seeds v) i
+put_has d seeds i (Some key) v k = onto_has d.mode d v (make_seed seeds v) key k
 
 pub crafted_has : (d : Deal) (seeds : Seeds) (i : ℕ) (start : Option Hashkey) (via : List ℕ) → May KeyHas start → May KeyHas (crafted d seeds i start via)
 crafted_has d seeds i start via k =
-    fold_keeps (May KeyHas) (λ made v. Some (put_before d seeds i made v)) start (reverse via) k (λ made v m. put_has d seeds i made v m)
+    fold_keeps (May KeyHas) (λ made v. Some (prepend_party d seeds i made v)) start (reverse via) k (λ made v m. put_has d seeds i made v m)
 
 pub onto_crafted_has : (d : Deal) (seeds : Seeds) (i : ℕ) (o : Option Hashkey) (via : List ℕ) → May KeyHas o → May KeyHas (crafted_onto d seeds i o via)
 onto_crafted_has d seeds i None via k = tt

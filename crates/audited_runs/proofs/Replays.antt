@@ -17,7 +17,7 @@ use Rattle.ledger_core.specs.declared.entry.Entry.{Entry}
 use Rattle.ledger_core.specs.History.{IsLegal, IsLegalEntry, IsLegalMoment}
 use Rattle.ledger_core.specs.Book.{Histories, history, IsLegalBook}
 use Rattle.swap_auditor.specs.declared.replay.BadReply.{BadReply}
-use Rattle.swap_auditor.specs.Audit.{replay, replay_from, replayed, with_entry}
+use Rattle.swap_auditor.specs.Audit.{replay, replay_histories, replayed, with_entry}
 use Rattle.swap_auditor.specs.Replies.{same_reply}
 use Rattle.swap_auditor.proofs.Replays.{entry_stands}
 
@@ -66,17 +66,17 @@ module _ (d : Deal) (a : ℕ) where
   replay_is : (h : List Entry) → IsLegal d a h → replay d a h ≡ Ok h
   replay_is h l = replay_on [] h l
 
-from_arc : (d : Deal) (a : ℕ) (b : Histories) → ((i : ℕ) → i < length b → IsLegal d (a + i) (history b i)) → replay_from d a b ≡ Ok tt
+from_arc : (d : Deal) (a : ℕ) (b : Histories) → ((i : ℕ) → i < length b → IsLegal d (a + i) (history b i)) → replay_histories d a b ≡ Ok tt
 from_arc d a [] l = refl
 from_arc d a (h ∷ b) l =
     let here : ◌≡◌ {A = ℕ} (a + 0) a = omega arith in
     let first : IsLegal d a h = subst (λ (n : ℕ). IsLegal d n h) here (l 0 (omega arith)) in
-    ap (λ (r : Result (List Entry) BadReply). r >>= λ _. replay_from d (a + 1) b) (replay_is d a h first)
+    ap (λ (r : Result (List Entry) BadReply). r >>= λ _. replay_histories d (a + 1) b) (replay_is d a h first)
     ∙ from_arc d (a + 1) b (λ i lt.
     let next : ◌≡◌ {A = ℕ} (a + suc i) (a + 1 + i) = omega arith in
     subst (λ (n : ℕ). IsLegal d n (history b i)) next (l (suc i) (omega (arith, lt))))
 
-pub book_stands : (d : Deal) (b : Histories) → IsLegalBook d b → replay_from d 0 b ≡ Ok tt
+pub book_stands : (d : Deal) (b : Histories) → IsLegalBook d b → replay_histories d 0 b ≡ Ok tt
 book_stands d b l =
     from_arc d 0 b (λ i lt.
     let same : ◌≡◌ {A = ℕ} i (0 + i) = omega arith in

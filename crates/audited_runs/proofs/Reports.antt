@@ -4,14 +4,14 @@ use Rattle.swap_base.specs.Fault.{◌>>=◌}
 use Rattle.ledger_core.specs.Book.{Histories}
 use Rattle.swap_job.specs.declared.job.Job.{Job}
 use Rattle.outcome_rules.specs.declared.report.Report.{Report}
-use Rattle.outcome_rules.specs.Report.{report_of}
+use Rattle.outcome_rules.specs.Report.{build_report}
 use Rattle.refusals.specs.declared.refusal.Refusal.{Refusal}
 use Rattle.swap_auditor.specs.declared.replay.BadReply.{BadReply}
 use Rattle.swap_auditor.specs.Audit.{audited}
 use Rattle.report_text.specs.Report.{report}
 use Rattle.transcript_lines.specs.Lines.{transcript}
 use Rattle.transcript_reader.specs.Reading.{Story}
-use Rattle.audit_command.specs.Output.{audit_of, by_replies, by_text, judged, story, story_in, told, written_of}
+use Rattle.audit_command.specs.Output.{audit_output, by_replies, by_text, judged, story, story_in, told, story_output}
 use Rattle.command_input.specs.Written.{Written}
 use Rattle.read_back.specs.Headers.{audited_job}
 use Rattle.audited_runs.specs.Transcripts.{HasTranscript, SameReport, reported_book}
@@ -22,15 +22,15 @@ story_is : (job : Job) (b : Histories) → HasTranscript job b → story_in (tra
 unfolding story_in
 story_is job b k = ap by_text (round_trip job b k)
 
-report_is : (job : Job) (b : Histories) → HasTranscript job b → audited job.deal job.conforming b ≡ Ok (report_of job.deal job.conforming b)
+report_is : (job : Job) (b : Histories) → HasTranscript job b → audited job.deal job.conforming b ≡ Ok (build_report job.deal job.conforming b)
 report_is job b k =
-    ap (λ (r : Result (Unit {0}) BadReply). r >>= λ _. Ok (report_of job.deal job.conforming b)) (book_stands job.deal b k.legal)
+    ap (λ (r : Result (Unit {0}) BadReply). r >>= λ _. Ok (build_report job.deal job.conforming b)) (book_stands job.deal b k.legal)
 
 told_is : (job : Job) (b : Histories) → HasTranscript job b
-    → told (story (audited_job job) b) ≡ Ok (written_of (story (audited_job job) b) (report_of job.deal job.conforming b))
+    → told (story (audited_job job) b) ≡ Ok (story_output (story (audited_job job) b) (build_report job.deal job.conforming b))
 unfolding told judged
 told_is job b k =
-    ap (λ (r : Result Report BadReply). by_replies r >>= λ x. Ok (written_of (story (audited_job job) b) x)) (report_is job b k)
+    ap (λ (r : Result Report BadReply). by_replies r >>= λ x. Ok (story_output (story (audited_job job) b) x)) (report_is job b k)
 
 -- the report shows nothing that the header line doesn't
 same_text : (job : Job) (b : Histories) (r : Report) → report (audited_job job) b r ≡ report job b r
@@ -38,9 +38,9 @@ unfolding report
 same_text job b r = refl
 
 pub same_report : SameReport
-unfolding audit_of
+unfolding audit_output
 same_report job b k =
     ap (λ (s : Result Story Refusal). s >>= told) (story_is job b k)
     ∙ told_is job b k
     ∙ ap (λ (t : List ℕ). let w : Written = record { text = t; found = (reported_book job b).found } in Ok w)
-    (same_text job b (report_of job.deal job.conforming b))
+    (same_text job b (build_report job.deal job.conforming b))

@@ -13,7 +13,7 @@ use Rattle.party_wallet.specs.Value.{signed_in}
 use Rattle.ledger_core.specs.declared.entry.Call.{Call}
 use Rattle.ledger_core.specs.declared.entry.Call.TheVariants as calls
 use Rattle.ledger_core.specs.declared.entry.Entry.{Entry}
-use Rattle.ledger_core.specs.History.{height, reply_to, reply_to_tick}
+use Rattle.ledger_core.specs.History.{height, history_reply, reply_to_tick}
 use Rattle.ledger_core.specs.Ledger.{after_call, call_entry, is_sender_full, tick_entry}
 use Rattle.ledger_core.specs.Book.{Histories, history}
 use Rattle.swap_rules.specs.Due.{Action}
@@ -26,10 +26,10 @@ use Rattle.swap_job.specs.declared.job.Role.{Role}
 use Rattle.swap_job.specs.declared.job.Role.TheVariants.{Conforming, Manual, Script, Strategy}
 use Rattle.swap_job.specs.declared.moves.Move.{Move}
 use Rattle.swap_job.specs.Resolved.{resolved}
-use Rattle.deviators.specs.Script.{first_call, is_over, is_wait, moves_left, next_call, past_waits, without_first}
+use Rattle.deviators.specs.Script.{first_call, is_finished, is_wait, moves_left, next_call, past_waits, without_first}
 use Rattle.swap_run.specs.Run.{Cast, Notes, Plan, Question, State, act, act_as, after_question, after_tick, after_turn, answer_for, ask, conforms}
-use Rattle.swap_run.specs.Run.{first_plan, follow, is_answer_of, is_clock_full_reply, is_planned, look, make, next_of, no_histories, no_notes}
-use Rattle.swap_run.specs.Run.{notes_of, plan_of, question, plan_up_to, plans_seen, role_of, run, run_from, signed_after, start, step}
+use Rattle.swap_run.specs.Run.{first_plan, follow, is_party_answer, is_clock_full_reply, is_planned, look, make, next_action, no_histories, no_notes}
+use Rattle.swap_run.specs.Run.{state_notes, party_plan, question, plan_up_to, plans_seen, party_role, run, continued_run, signed_after, start, step}
 use Rattle.swap_run.specs.Run.{take_call, watch, crash, is_recorded, recorded_after, relearnt}
 use Rattle.swap_run.specs.Fair.{acts, adjacent_arcs, finish, has_ended, looks, most_acts, repeat, round, round_unless_ended, the_horizon, tick_low, ticks, turn}
 use Rattle.swap_run.specs.Fair.{turns}
@@ -37,7 +37,7 @@ use Rattle.swap_commands.specs.Output.{finished}
 use Rattle.typed_books.specs.Typed.{IsDigest}
 use Rattle.audited_runs.specs.Digests.{HasDigests}
 use Rattle.audited_runs.proofs.Hashes.{May, KeyHas, WalletHas}
-use Rattle.audited_runs.proofs.Calls.{ActionHas, AnswerHas, BookHas, EntryHas, Has, MoveHas, at_or, next_has, resolved_has}
+use Rattle.audited_runs.proofs.Calls.{ActionHas, AnswerHas, BookHas, EntryHas, Has, MoveHas, at_or, next_has, resolved_has, history_has}
 
 abbrev pub RoleHas : Role → Type 0
 RoleHas (Script moves) = All MoveHas moves
@@ -72,23 +72,20 @@ tick_has k h p = by (is_clock_full_reply (reply_to_tick h k))
 
 made_has : (d : Deal) (a p : ℕ) (c : Call) (h : List Entry) → HasDigests c → Has h → Has (after_call d a p c h)
 unfolding after_call
-made_has d a p c h digests k = by (is_sender_full (reply_to d a h p c))
+made_has d a p c h digests k = by (is_sender_full (history_reply d a h p c))
   where
-    by : (t : Bool) → Has (cond t h (h ++ call_entry p (height h) c (reply_to d a h p c) ∷ []))
+    by : (t : Bool) → Has (cond t h (h ++ call_entry p (height h) c (history_reply d a h p c) ∷ []))
     by true = k
-    by false = All-push EntryHas h (call_entry p (height h) c (reply_to d a h p c)) k digests
-
-history_has : (b : Histories) (a : ℕ) → BookHas b → Has (history b a)
-history_has b a k = at_or Has b a [] (All-nil EntryHas) k
+    by false = All-push EntryHas h (call_entry p (height h) c (history_reply d a h p c)) k digests
 
 set_has : (b : Histories) (a : ℕ) (h : List Entry) → Has h → BookHas b → BookHas (slice_set b a h)
 set_has b a h p k = All-set Has b a h p k
 
-notes_have : (s : State) (v : ℕ) → All NotesHave s.notes → NotesHave (notes_of s v)
+notes_have : (s : State) (v : ℕ) → All NotesHave s.notes → NotesHave (state_notes s v)
 notes_have s v k =
     at_or NotesHave s.notes v (record { known = []; signed = [] }) (record { known = All-nil Has; signed = All-nil (May KeyHas) }) k
 
-plan_has : (s : State) (v : ℕ) → All PlanHas s.plans → PlanHas (plan_of s v)
+plan_has : (s : State) (v : ℕ) → All PlanHas s.plans → PlanHas (party_plan s v)
 plan_has s v k =
     at_or PlanHas s.plans v (record { known = []; moves = []; turns = 0 }) (record { known = All-nil Has; moves = All-nil MoveHas }) k
 
@@ -114,7 +111,7 @@ after_has signed c h k =
 
 past_has : (k : Histories) (moves : List Move) → All MoveHas moves → All MoveHas (past_waits k moves)
 past_has k [] h = All-nil MoveHas
-past_has k (mv ∷ moves) h = by (is_over k mv) (past_has k moves (All-tail MoveHas mv moves h))
+past_has k (mv ∷ moves) h = by (is_finished k mv) (past_has k moves (All-tail MoveHas mv moves h))
   where
     by : (t : Bool) → All MoveHas (past_waits k moves) → All MoveHas (cond t (past_waits k moves) (mv ∷ moves))
     by true rest = rest
@@ -144,13 +141,13 @@ module _ (c : Cast) (hashlocks : All IsDigest c.deal.hashlocks) (wallets : (v : 
   first_call_has k (mv ∷ moves) known h = resolved_has c.deal c.seeds k mv hashlocks known (All-head MoveHas mv moves h)
 
   seen_has : (s : State) (v a : ℕ) (h : List Entry) → Has h → All PlanHas s.plans → All PlanHas (plans_seen c s v a h)
-  seen_has s v a h p k = by (is_planned (role_of c v))
+  seen_has s v a h p k = by (is_planned (party_role c v))
     where
-      by : (t : Bool) → All PlanHas (cond t (slice_set s.plans v (plan_up_to (plan_of s v) a h)) s.plans)
+      by : (t : Bool) → All PlanHas (cond t (slice_set s.plans v (plan_up_to (party_plan s v) a h)) s.plans)
       by true =
           let n = plan_has s v k in
-          All-set PlanHas s.plans v (plan_up_to (plan_of s v) a h)
-          (record { known = set_has (plan_of s v).known a h p n.known; moves = n.moves }) k
+          All-set PlanHas s.plans v (plan_up_to (party_plan s v) a h)
+          (record { known = set_has (party_plan s v).known a h p n.known; moves = n.moves }) k
       by false = k
 
   make_has : (s : State) (v : ℕ) (o : Option Action) → May ActionHas o → StateHas s → StateHas (make c.deal s v o)
@@ -162,8 +159,8 @@ module _ (c : Cast) (hashlocks : All IsDigest c.deal.hashlocks) (wallets : (v : 
       record {
         book = set_has s.book x.arc (after_call c.deal x.arc v x.call (history s.book x.arc)) new k.book;
         notes = All-set NotesHave s.notes v _ (record {
-          known = set_has (notes_of s v).known x.arc (after_call c.deal x.arc v x.call (history s.book x.arc)) new n.known;
-          signed = after_has (notes_of s v).signed x.call h n.signed;
+          known = set_has (state_notes s v).known x.arc (after_call c.deal x.arc v x.call (history s.book x.arc)) new n.known;
+          signed = after_has (state_notes s v).signed x.call h n.signed;
         }) k.notes;
         plans = k.plans;
       }
@@ -187,22 +184,23 @@ module _ (c : Cast) (hashlocks : All IsDigest c.deal.hashlocks) (wallets : (v : 
   act_has : (v : ℕ) (s : State) → StateHas s → StateHas (act c s v)
   act_has v s k =
       let n = notes_have s v k.notes in
-      make_has s v (next_of c s v)
-      (next_has c.deal v (c.wallet v) (signed_in (notes_of s v).signed) (notes_of s v).known hashlocks (wallets v)
-      (λ i. signed_has (notes_of s v).signed i n.signed) n.known) k
+      make_has s v (next_action c s v)
+      (next_has c.deal v (c.wallet v) (signed_in (state_notes s v).signed) (state_notes s v).known hashlocks (wallets v)
+      (λ i. signed_has (state_notes s v).signed i n.signed) n.known) k
 
   follow_has : (v : ℕ) (s : State) → StateHas s → StateHas (follow c s v)
   follow_has v s k =
       let n = plan_has s v k.plans in
-      let past : All MoveHas (past_waits (plan_of s v).known (plan_of s v).moves) = past_has (plan_of s v).known (plan_of s v).moves n.moves in
-      take_has (after_turn s v (moves_left (plan_of s v).known (plan_of s v).moves)) v
-      (next_call c.deal c.seeds (plan_of s v).known (plan_of s v).moves)
-      (first_call_has (plan_of s v).known (past_waits (plan_of s v).known (plan_of s v).moves) n.known past)
-      (turned_has s v (moves_left (plan_of s v).known (plan_of s v).moves) (without_has (past_waits (plan_of s v).known (plan_of s v).moves) past) k)
+      let past : All MoveHas (past_waits (party_plan s v).known (party_plan s v).moves) = past_has (party_plan s v).known (party_plan s v).moves n.moves in
+      take_has (after_turn s v (moves_left (party_plan s v).known (party_plan s v).moves)) v
+      (next_call c.deal c.seeds (party_plan s v).known (party_plan s v).moves)
+      (first_call_has (party_plan s v).known (past_waits (party_plan s v).known (party_plan s v).moves) n.known past)
+      (turned_has s v (moves_left (party_plan s v).known (party_plan s v).moves) (without_has (past_waits (party_plan s v).known
+      (party_plan s v).moves) past) k)
 
   answer_has : (v : ℕ) (o : Option (ℕ × Call)) → May AnswerHas o → May AnswerHas (answer_for c.deal v o)
   answer_has v None h = tt
-  answer_has v (Some x) h = by (is_answer_of c.deal v x)
+  answer_has v (Some x) h = by (is_party_answer c.deal v x)
     where
       by : (t : Bool) → May AnswerHas (cond t (Some x) None)
       by true = h
@@ -210,7 +208,7 @@ module _ (c : Cast) (hashlocks : All IsDigest c.deal.hashlocks) (wallets : (v : 
 
   asked_has : (s : State) (v : ℕ) (name : List ℕ) → StateHas s → StateHas (after_question s v name)
   asked_has s v name k =
-      let t = turned_has s v (plan_of s v).moves (plan_has s v k.plans).moves k in
+      let t = turned_has s v (party_plan s v).moves (plan_has s v k.plans).moves k in
       record { book = t.book; notes = t.notes; plans = t.plans }
 
   ask_has : (v : ℕ) (name : List ℕ) (s : State) → May AnswerHas (c.answers (length s.asked)) → StateHas s → StateHas (ask c s v name)
@@ -224,7 +222,7 @@ module _ (c : Cast) (hashlocks : All IsDigest c.deal.hashlocks) (wallets : (v : 
       record {
         book = k.book;
         notes = All-set NotesHave s.notes v _ (record {
-          known = set_has (notes_of s v).known a (history s.book a) (history_has s.book a k.book) n.known;
+          known = set_has (state_notes s v).known a (history s.book a) (history_has s.book a k.book) n.known;
           signed = n.signed;
         }) k.notes;
         plans = k.plans;
@@ -254,9 +252,9 @@ module _ (c : Cast) (hashlocks : All IsDigest c.deal.hashlocks) (wallets : (v : 
         book = has.book;
         notes = All-set NotesHave s.notes v _ (record {
           known = relearnt_has v s.book has.book;
-          signed = recorded_has (notes_of s v).signed (next_of c s v) k image
-              (next_has c.deal v (c.wallet v) (signed_in (notes_of s v).signed) (notes_of s v).known hashlocks (wallets v)
-              (λ i. signed_has (notes_of s v).signed i n.signed) n.known) n.signed;
+          signed = recorded_has (state_notes s v).signed (next_action c s v) k image
+              (next_has c.deal v (c.wallet v) (signed_in (state_notes s v).signed) (state_notes s v).known hashlocks (wallets v)
+              (λ i. signed_has (state_notes s v).signed i n.signed) n.known) n.signed;
         }) has.notes;
         plans = has.plans;
       }
@@ -373,8 +371,8 @@ module _ (c : Cast) (hashlocks : All IsDigest c.deal.hashlocks) (wallets : (v : 
     acts_as v Manual = rests
     acts_as v (Script moves) =
         unasked (λ s. follow c s v) (λ s.
-        taken_asked c (after_turn s v (moves_left (plan_of s v).known (plan_of s v).moves)) v
-        (next_call c.deal c.seeds (plan_of s v).known (plan_of s v).moves)) (follow_has v)
+        taken_asked c (after_turn s v (moves_left (party_plan s v).known (party_plan s v).moves)) v
+        (next_call c.deal c.seeds (party_plan s v).known (party_plan s v).moves)) (follow_has v)
     acts_as v (Strategy name) = asks v name
 
     looking : (v a : ℕ) → Walks (λ s. step c s (Look v a))
@@ -384,8 +382,8 @@ module _ (c : Cast) (hashlocks : All IsDigest c.deal.hashlocks) (wallets : (v : 
 
     acting : (v : ℕ) → Walks (λ s. step c s (Act v))
     acting v =
-        either (λ s. conforms c v) (λ s. act c s v) (λ s. act_as c s v (role_of c v))
-        (unasked (λ s. act c s v) (λ s. made_asked c.deal s v (next_of c s v)) (act_has v)) (acts_as v (role_of c v))
+        either (λ s. conforms c v) (λ s. act c s v) (λ s. act_as c s v (party_role c v))
+        (unasked (λ s. act c s v) (λ s. made_asked c.deal s v (next_action c s v)) (act_has v)) (acts_as v (party_role c v))
 
     ticking : (a n : ℕ) → Walks (λ s. step c s (Tick a n))
     ticking a n = unasked (λ s. step c s (Tick a n)) (λ s. refl) (ticked_has a n)
@@ -399,10 +397,10 @@ module _ (c : Cast) (hashlocks : All IsDigest c.deal.hashlocks) (wallets : (v : 
         (λ s k. take_has s v (resolved c.deal c.seeds s.book mv) (resolved_has c.deal c.seeds s.book mv hashlocks k.book h) k)
     stepping (Crash v k image) h = unasked (λ s. crash c s v k image) (λ s. refl) (crash_has v k image)
 
-    running : (events : List Event) → All EventHas events → Walks (λ s. run_from c s events)
+    running : (events : List Event) → All EventHas events → Walks (λ s. continued_run c s events)
     running [] h = rests
     running (e ∷ events) h =
-        both (λ s. step c s e) (λ s. run_from c s events) (stepping e (All-head EventHas e events h)) (running events (All-tail EventHas e events h))
+        both (λ s. step c s e) (λ s. continued_run c s events) (stepping e (All-head EventHas e events h)) (running events (All-tail EventHas e events h))
 
     -- ---- the fair finish
 
@@ -441,5 +439,5 @@ module _ (c : Cast) (hashlocks : All IsDigest c.deal.hashlocks) (wallets : (v : 
     pub whole_has : (f : Finish) (events : List Event) → All EventHas events → total ≡ (finished f c (run c events)).asked
         → StateHas (finished f c (run c events))
     whole_has f events h e =
-        let w = both (λ s. run_from c s events) (finished f c) (running events h) (finished_walks f) in
+        let w = both (λ s. continued_run c s events) (finished f c) (running events h) (finished_walks f) in
         w.keeps (start c) ([], e ∙ sym (append-nil (finished f c (run c events)).asked)) start_has

@@ -7,19 +7,19 @@ use Rattle.std.proofs.lemmas.Bool.{leb-true}
 use Rattle.std.proofs.lemmas.List.Elements.{All-nil, All-cons}
 use Rattle.swap_base.specs.Lists.{IsIn, moments_after}
 use Rattle.swap_base.proofs.Lists.{all_moments_push, and_parts, from_range}
-use Rattle.swap_digraph.specs.Graph.{arcs_of}
+use Rattle.swap_digraph.specs.Graph.{listed_arcs}
 use Rattle.swap_digraph.specs.declared.deal.Deal.{Deal}
 use Rattle.swap_digraph.specs.declared.deal.Mode.{Mode}
 use Rattle.swap_digraph.specs.declared.deal.Mode.TheVariants.{Timelocks, Hashkeys}
 use Rattle.swap_digraph.specs.declared.deal.Version.{Version}
 use Rattle.swap_digraph.specs.declared.deal.Version.TheVariants.{One, Two}
-use Rattle.swap_digraph.specs.Deal.{counterparty, locks, most_parties, party, path_limit, path_limit_of, touches, IsWellSized}
+use Rattle.swap_digraph.specs.Deal.{counterparty, locks, most_parties, party, path_limit, version_path_limit, touches, IsWellSized}
 use Rattle.hashkey_path.specs.declared.hashkey.Hashkey.{Hashkey}
 use Rattle.escrow_core.specs.declared.terms.Terms.{Terms}
 use Rattle.escrow_core.specs.declared.reply.Reply.{Reply}
 use Rattle.escrow_core.specs.declared.reply.Reply.TheVariants.{ClockFull}
 use Rattle.escrow_core.specs.Table.{closed_lock, first_row}
-use Rattle.escrow_core.specs.Terms.{closed_locks, expiry_in, is_own, last_in, least, refund_expiry}
+use Rattle.escrow_core.specs.Terms.{closed_locks, lock_expiry, is_own, last_unlock, least, refund_expiry}
 use Rattle.ledger_core.specs.declared.entry.Call.{Call}
 use Rattle.ledger_core.specs.declared.entry.Call.TheVariants.{Publish, Unlock, Claim, Refund, Transfer}
 use Rattle.ledger_core.specs.declared.entry.Sender.{Sender}
@@ -27,7 +27,8 @@ use Rattle.ledger_core.specs.declared.entry.Sender.TheVariants.{Party, Clock}
 use Rattle.ledger_core.specs.declared.entry.What.{What}
 use Rattle.ledger_core.specs.declared.entry.What.TheVariants.{Call as Made, Tick}
 use Rattle.ledger_core.specs.declared.entry.Entry.{Entry}
-use Rattle.ledger_core.specs.History.{accounts, balance, fit, is_clock_full, is_open, published, rows, the_terms, terms_in, Publication, IsLegal, IsLegalEntry}
+use Rattle.ledger_core.specs.History.{accounts, balance, fit, is_clock_full, is_open, published, rows, the_terms, parse_terms, Publication, IsLegal}
+use Rattle.ledger_core.specs.History.{IsLegalEntry}
 use Rattle.ledger_core.specs.History.{IsLegalMoment}
 use Rattle.ledger_core.specs.Book.{history}
 use Rattle.ledger_core.proofs.History.{lock-below, published_done}
@@ -42,7 +43,7 @@ few_parties : (v : Version) → most_parties v ≤ 32
 few_parties One = omega arith
 few_parties Two = omega arith
 
-short_paths : (v : Version) → path_limit_of v ≤ 32
+short_paths : (v : Version) → version_path_limit v ≤ 32
 short_paths One = omega arith
 short_paths Two = omega arith
 
@@ -137,14 +138,14 @@ product x y lx ly = let m : x * y ≤ 2000033 * y = mul-le-mul_right y lx in ome
 sum_low : (s q : ℕ) → s ≤ 1000000 → q ≤ 2000033000000 → s + q ≤ 2000034000000
 sum_low s q ls lq = omega arith
 
-late_low : (m : Mode) (t : Terms) (key : Hashkey) → AreLow t → length key.path ≤ 32 → last_in m t key ≤ 2000034000000
+late_low : (m : Mode) (t : Terms) (key : Hashkey) → AreLow t → length key.path ≤ 32 → last_unlock m t key ≤ 2000034000000
 late_low Timelocks t key k le = let timelock : t.timelock ≤ 1000000 = k.timelock in omega (arith, timelock)
 late_low Hashkeys t key k le =
     let bound : t.bound ≤ 1000000 = k.bound in
-    sum_low t.start ((t.bound + 1 + arcs_of key.path) * t.delta) k.start
-    (product (t.bound + 1 + arcs_of key.path) t.delta (omega (arith, bound, le)) k.delta)
+    sum_low t.start ((t.bound + 1 + listed_arcs key.path) * t.delta) k.start
+    (product (t.bound + 1 + listed_arcs key.path) t.delta (omega (arith, bound, le)) k.delta)
 
-expiry_low : (m : Mode) (d : Deal) (a : ℕ) (t : Terms) (i : ℕ) → AreLow t → expiry_in m d a t i ≤ 2000034000000
+expiry_low : (m : Mode) (d : Deal) (a : ℕ) (t : Terms) (i : ℕ) → AreLow t → lock_expiry m d a t i ≤ 2000034000000
 expiry_low Timelocks d a t i k = let timelock : t.timelock ≤ 1000000 = k.timelock in omega (arith, timelock)
 expiry_low Hashkeys d a t i k = by (is_own d.version d a i)
   where
@@ -193,7 +194,7 @@ module _ (d : Deal) (sized : IsWellSized d) (a : ℕ) (lt : a < length d.graph.a
   the_low : (past : List Entry) → IsLegal d a past → AreLow (the_terms past)
   the_low past l = by (published past) refl
     where
-      by : (o : Option Publication) → published past ≡ o → AreLow (terms_in o)
+      by : (o : Option Publication) → published past ≡ o → AreLow (parse_terms o)
       by None e = record { start = omega arith; delta = omega arith; bound = omega arith; timelock = omega arith; amount = omega arith }
       by (Some p) e = low_terms d a p.terms (published_done d a past p l e).act.fits
 
@@ -207,12 +208,12 @@ module _ (d : Deal) (sized : IsWellSized d) (a : ℕ) (lt : a < length d.graph.a
   unfolding rows
   typed_rows past p (Publish t) l f = (tt, (tt, (tt, (low_balance past p l, tt))))
   typed_rows past p (Unlock key) l f =
-      let low : last_in d.mode (the_terms past) key ≤ 2000034000000 = late_low d.mode (the_terms past) key (the_low past l) (short_path key f) in
+      let low : last_unlock d.mode (the_terms past) key ≤ 2000034000000 = late_low d.mode (the_terms past) key (the_low past l) (short_path key f) in
       (tt, (tt, (tt, (tt, (tt, (tt, (tt, (tt, (low_number _ low, tt)))))))))
   typed_rows past p Claim l f = (tt, (tt, (tt, (tt, (closed_low (is_open past) (locks d) few_locks, tt)))))
   typed_rows past p Refund l f =
       let low : refund_expiry d a (the_terms past) (is_open past) ≤ 2000034000000 =
-      least_low (expiry_in d.mode d a (the_terms past)) 2000034000000 (closed_locks d (is_open past))
+      least_low (lock_expiry d.mode d a (the_terms past)) 2000034000000 (closed_locks d (is_open past))
       (λ i. expiry_low d.mode d a (the_terms past) i (the_low past l)) in
       (tt, (tt, (tt, (tt, (tt, (next_low _ low, tt))))))
   typed_rows past p (Transfer to units) l f = (tt, (low_balance past p l, tt))

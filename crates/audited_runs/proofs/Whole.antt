@@ -9,9 +9,9 @@ use Rattle.swap_job.specs.declared.job.Purpose.TheVariants as purposes
 use Rattle.swap_run.specs.Asked.{Answers}
 use Rattle.swap_run.specs.Run.{Question}
 use Rattle.swap_world.specs.Cast.{wallet_with}
-use Rattle.swap_offer.specs.Job.{events_of, job_header_of, job_of, job_of_lines}
-use Rattle.command_input.specs.Lines.{filled_lines, lines_of}
-use Rattle.swap_commands.specs.Output.{AreGiven, cast_by, state_of}
+use Rattle.swap_offer.specs.Job.{parse_events, job_header_of, parse_job, job_of_lines}
+use Rattle.command_input.specs.Lines.{filled_lines, collect_lines}
+use Rattle.swap_commands.specs.Output.{AreGiven, command_cast, inside_state}
 use Rattle.swap_main.specs.Known.{by_rule}
 use Rattle.read_back.specs.Headers.{IsShowable}
 use Rattle.read_back.proofs.Onward.{landed, onward}
@@ -32,28 +32,28 @@ lines_are_read : (has : List ℕ → Bool) (ls : List (ℕ × List ℕ)) (j : Jo
 lines_are_read has [] j e = absurd (cc e)
 lines_are_read has (l ∷ ls) j e =
     onward (job_header_of has purposes.Run l.0 l.1) _ AreRead (λ job h.
-    onward (events_of job 0 ls) _ AreRead (λ events e.
+    onward (parse_events job 0 ls) _ AreRead (λ events e.
     landed (job, events) AreRead (record {
       showable = read_is_showable has purposes.Run l.0 l.1 job refl h;
       scripts = header_job_has has purposes.Run l.0 l.1 job h;
       events = events_have job 0 ls events e;
     }))) j e
 
-is_read : (has : List ℕ → Bool) (input : List ℕ) (j : Job × List Event) → job_of has purposes.Run input ≡ Ok j → AreRead j
-unfolding job_of
-is_read has input j e = lines_are_read has (filled_lines 1 (lines_of input)) j e
+is_read : (has : List ℕ → Bool) (input : List ℕ) (j : Job × List Event) → parse_job has purposes.Run input ≡ Ok j → AreRead j
+unfolding parse_job
+is_read has input j e = lines_are_read has (filled_lines 1 (collect_lines input)) j e
 
 wallet_has : (o : Option (List ℕ)) (v : ℕ) (d : Deal) → WalletHas (wallet_with o v d)
 wallet_has (Some seed) v d = record { first = own_has d.mode d v seed; onto = onto_has d.mode d v seed }
 wallet_has None v d = record { first = own_has d.mode d v []; onto = onto_has d.mode d v [] }
 
 module _ (rule : Rule) (keeps : KeepsDigests rule) (answers : Answers) (job : Job) (events : List Event) (k : AreRead (job, events))
-    (given : AreGiven (by_rule rule) job.deal answers (state_of answers job events).asked) where
-  wallets : (v : ℕ) → WalletHas ((cast_by answers job).wallet v)
+    (given : AreGiven (by_rule rule) job.deal answers (inside_state answers job events).asked) where
+  wallets : (v : ℕ) → WalletHas ((command_cast answers job).wallet v)
   wallets v = wallet_has (slice_index_or job.seeds v None) v job.deal
 
   -- an answer that was given holds digests, where its question does
-  sure : (i : ℕ) (q : Question) → i < length (state_of answers job events).asked → q ≡ slice_index_or (state_of answers job events).asked i q
+  sure : (i : ℕ) (q : Question) → i < length (inside_state answers job events).asked → q ≡ slice_index_or (inside_state answers job events).asked i q
       → BookHas q.known → May AnswerHas (answers i)
   sure i q lt is known = by (answers i) (given i q lt is)
     where
@@ -61,9 +61,9 @@ module _ (rule : Rule) (keeps : KeepsDigests rule) (answers : Answers) (job : Jo
       by None e = tt
       by (Some x) e = keeps q.strategy job.deal q.party q.turn q.known x k.showable.hashlocks (λ a l. known a [] l) (sym e)
 
-  state_has : StateHas (state_of answers job events)
+  state_has : StateHas (inside_state answers job events)
   state_has =
-      whole_has (cast_by answers job) k.showable.hashlocks wallets k.scripts (state_of answers job events).asked sure job.finish events k.events refl
+      whole_has (command_cast answers job) k.showable.hashlocks wallets k.scripts (inside_state answers job events).asked sure job.finish events k.events refl
 
 pub runs_hold_digests : RunsHoldDigests
 runs_hold_digests rule has answers input job events keeps e given = λ a lt.

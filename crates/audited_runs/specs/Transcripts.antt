@@ -2,14 +2,14 @@
 use Rattle.std.specs.Prelude.{◌≡◌, ◌≤◌, ◌==◌, not, length, Ok}
 use Rattle.ledger_core.specs.Book.{Histories, IsLegalBook}
 use Rattle.swap_job.specs.declared.job.Job.{Job}
-use Rattle.outcome_rules.specs.Report.{report_of}
+use Rattle.outcome_rules.specs.Report.{build_report}
 use Rattle.read_back.specs.Headers.{IsShowable, audited_job}
 use Rattle.report_text.specs.Report.{report}
 use Rattle.transcript_lines.specs.Lines.{transcript}
 use Rattle.transcript_reader.specs.Header.{header_read}
 use Rattle.transcript_reader.specs.Reading.{transcript_read}
 use Rattle.command_input.specs.Input.{limit}
-use Rattle.audit_command.specs.Output.{audit_of}
+use Rattle.audit_command.specs.Output.{audit_output}
 use Rattle.command_input.specs.Written.{Written}
 use Rattle.audited_runs.specs.Digests.{HoldsDigests}
 
@@ -27,10 +27,10 @@ RoundTrip = (job : Job) (b : Histories) → HasTranscript job b → transcript_r
 -- the report of a job's book, and whether it tells of a finding
 abbrev pub reported_book : Job → Histories → Written
 reported_book job b = record {
-  text = report job b (report_of job.deal job.conforming b);
-  found = not (length (report_of job.deal job.conforming b).findings == 0);
+  text = report job b (build_report job.deal job.conforming b);
+  found = not (length (build_report job.deal job.conforming b).findings == 0);
 }
 
 -- And what an audit of it writes is, byte for byte, the report of the job and the book that were written.
 abbrev pub SameReport : Type 0
-SameReport = (job : Job) (b : Histories) → HasTranscript job b → audit_of (transcript job b) ≡ Ok (reported_book job b)
+SameReport = (job : Job) (b : Histories) → HasTranscript job b → audit_output (transcript job b) ≡ Ok (reported_book job b)

@@ -7,8 +7,8 @@ use Rattle.offer_fields.specs.Lists.{each_of}
 use Rattle.offer_fields.proofs.Lists.{with_front, goes_on, ends}
 
 -- the default is of no account below the length
-same_at : {A : Type 0} (xs : List A) (i : ℕ) (d e : A) → i < length xs → get_or xs i d ≡ get_or xs i e
-same_at xs i d e lt =
+find_same_key : {A : Type 0} (xs : List A) (i : ℕ) (d e : A) → i < length xs → get_or xs i d ≡ get_or xs i e
+find_same_key xs i d e lt =
     let p : drop i xs ≡ get_or xs i d ∷ drop (i + 1) xs = rw (add-one, drop-cons xs i d) refl in
     let q : drop i xs ≡ get_or xs i e ∷ drop (i + 1) xs = rw (add-one, drop-cons xs i e) refl in
     cc (sym p ∙ q)
@@ -17,9 +17,9 @@ pub goes_on_at : {A B R : Type 0} (f : A → Result B R) (front : List B) (xs : 
     → f (get_or xs i d) ≡ Ok y
     → with_front front (each_of f (drop i xs)) ≡ total → with_front (front ++ y ∷ []) (each_of f (drop (i + 1) xs)) ≡ total
 goes_on_at f front xs i d y total lt h so_far =
-    goes_on f front xs i (get_or xs i d) y total lt (same_at xs i d (get_or xs i d) lt) h so_far
+    goes_on f front xs i (get_or xs i d) y total lt (find_same_key xs i d (get_or xs i d) lt) h so_far
 
 pub ends_at : {A B R : Type 0} (f : A → Result B R) (e : Fault R) (front : List B) (xs : List A) (i : ℕ) (d : A) (total : Result (List B) R) → i < length xs
     → Fails e (f (get_or xs i d)) → with_front front (each_of f (drop i xs)) ≡ total → Fails e total
 ends_at f e front xs i d total lt h so_far =
-    ends f e front xs i (get_or xs i d) total lt (same_at xs i d (get_or xs i d) lt) h so_far
+    ends f e front xs i (get_or xs i d) total lt (find_same_key xs i d (get_or xs i d) lt) h so_far

@@ -7,7 +7,7 @@ use Rattle.offer_header.specs.Names.{AreNames, named_ends, name_step, no_strateg
 use Rattle.offer_header.specs.declared.raw.RawArc.{RawArc}
 use Rattle.offer_header.proofs.Numbered.{ends_below, keeps_names}
 use Rattle.offer_header.proofs.Walked.{steps_keep}
-use Rattle.clear_line.specs.Names.{wished_name_step, numbered_arc, party_named, HasEndsBelow}
+use Rattle.clear_line.specs.Names.{wished_name_step, numbered_arc, party_named, HasBoundedEnds}
 use Rattle.clear_line.specs.declared.names.NumberedArc.{NumberedArc}
 
 -- a step of a header's names
@@ -23,13 +23,13 @@ pub names_of : (line : ℕ) (parties names : List (List ℕ)) → steps (wished_
 names_of line parties names h = steps_keep (λ l. AreNames l) (wished_name_step line) (keeps line) [] parties names
     (record { name = λ p lt. absurd (omega arith); apart = λ p q a b e. absurd (omega arith) }) h
 
-is_below : (line : ℕ) (names : List (List ℕ)) (a : RawArc) (n : NumberedArc) → numbered_arc line names a ≡ Ok n → HasEndsBelow (length names) n
+is_below : (line : ℕ) (names : List (List ℕ)) (a : RawArc) (n : NumberedArc) → numbered_arc line names a ≡ Ok n → HasBoundedEnds (length names) n
 unfolding numbered_arc
 is_below line names a n h =
     let one = went (named_ends line names a) (λ ends. Ok (record { ends = ends; amount = a.amount })) n h in
     let same : record { ends = one.0; amount = a.amount } ≡ n = cc (one.2) in
-    subst (HasEndsBelow (length names)) same (ends_below line names a one.0 one.1)
+    subst (HasBoundedEnds (length names)) same (ends_below line names a one.0 one.1)
 
-pub arcs_of : (line : ℕ) (names : List (List ℕ)) (arcs : List RawArc) (numbered : List NumberedArc) → each_of (numbered_arc line names) arcs ≡ Ok numbered
-    → (a : ℕ) (d : NumberedArc) → a < length numbered → HasEndsBelow (length names) (get_or numbered a d)
-arcs_of line names arcs numbered h a d lt = each_all (HasEndsBelow (length names)) (numbered_arc line names) (is_below line names) arcs numbered h a d lt
+pub listed_arcs : (line : ℕ) (names : List (List ℕ)) (arcs : List RawArc) (numbered : List NumberedArc) → each_of (numbered_arc line names) arcs ≡ Ok numbered
+    → (a : ℕ) (d : NumberedArc) → a < length numbered → HasBoundedEnds (length names) (get_or numbered a d)
+listed_arcs line names arcs numbered h a d lt = each_all (HasBoundedEnds (length names)) (numbered_arc line names) (is_below line names) arcs numbered h a d lt

@@ -3,7 +3,7 @@ use Rattle.std.proofs.Common.{◌≡◌, ℕ, ◌^◌, ◌<◌, ◌≤◌, lengt
 use Rattle.std.specs.Prelude.{codes}
 use Rattle.swap_base.specs.Fault.{◌>>=◌}
 use Rattle.offer_fields.specs.Lists.{each_of}
-use Rattle.offer_fields.specs.Limits.{number_within, within}
+use Rattle.offer_fields.specs.Limits.{ranged_number, within}
 use Rattle.offer_fields.proofs.Chains.{went, each_at, each_length}
 use Rattle.offer_fields.proofs.Ranges.{number_within_ok, within_ok}
 use Rattle.offer_header.specs.Names.{AreNames}
@@ -11,18 +11,18 @@ use Rattle.swap_clear.specs.Proposals.{proposed_graph}
 use Rattle.swap_clear.specs.declared.answer.Clearing.{Clearing}
 use Rattle.swap_clear.specs.declared.proposed.Proposed.{Proposed}
 use Rattle.clear_line.specs.Cleared.{IsShown, Shows}
-use Rattle.clear_line.specs.Limits.{proposed_of, proposals_of, times_of, AreWishesWithin}
-use Rattle.clear_line.specs.Names.{AreEndsBelow, HasEndsBelow}
+use Rattle.clear_line.specs.Limits.{proposed_arc, proposals_of, parse_times, AreWishesWithin}
+use Rattle.clear_line.specs.Names.{AreBoundedEnds, HasBoundedEnds}
 use Rattle.clear_line.specs.declared.fields.RawWishes.{RawWishes}
 use Rattle.clear_line.specs.declared.limits.Wishes.{Wishes}
 use Rattle.clear_line.specs.declared.names.Numbered.{Numbered}
 use Rattle.clear_line.specs.declared.names.NumberedArc.{NumberedArc}
 
-pub times_ok : (line : ℕ) (w : RawWishes) (t : ℕ × ℕ) → times_of line w ≡ Ok t → ((1 ≤ t.0) × (t.0 ≤ 1000)) × ((1 ≤ t.1) × (t.1 ≤ 100))
-unfolding times_of
+pub times_ok : (line : ℕ) (w : RawWishes) (t : ℕ × ℕ) → parse_times line w ≡ Ok t → ((1 ≤ t.0) × (t.0 ≤ 1000)) × ((1 ≤ t.1) × (t.1 ≤ 100))
+unfolding parse_times
 times_ok line w t h =
-    let one = went (number_within line (codes "start") 1 1000 w.start) (λ s. number_within line (codes "delta") 1 100 w.delta >>= λ d. Ok (s, d)) t h in
-    let two = went (number_within line (codes "delta") 1 100 w.delta) (λ d. Ok (one.0, d)) t one.2 in
+    let one = went (ranged_number line (codes "start") 1 1000 w.start) (λ s. ranged_number line (codes "delta") 1 100 w.delta >>= λ d. Ok (s, d)) t h in
+    let two = went (ranged_number line (codes "delta") 1 100 w.delta) (λ d. Ok (one.0, d)) t one.2 in
     let same : (one.0, two.0) ≡ t = cc (two.2) in
     let a = number_within_ok line (codes "start") 1 1000 w.start one.0 one.1 in
     let b = number_within_ok line (codes "delta") 1 100 w.delta two.0 two.1 in
@@ -32,14 +32,14 @@ times_ok line w t h =
 pub record AreRead (line : ℕ) (n : Numbered) (arcs : List Proposed) : Type 0 where
   pub parties : (2 ≤ length n.names) × (length n.names ≤ 32)
   pub size : (1 ≤ length n.arcs) × (length n.arcs ≤ 128)
-  pub each : each_of (proposed_of line) n.arcs ≡ Ok arcs
+  pub each : each_of (proposed_arc line) n.arcs ≡ Ok arcs
 
 pub are_read : (line : ℕ) (n : Numbered) (arcs : List Proposed) → proposals_of line n ≡ Ok arcs → AreRead line n arcs
 unfolding proposals_of
 are_read line n arcs h =
     let one = went (within line (codes "parties") 2 32 (length n.names)) (λ u. within line (codes "arcs") 1 128 (length n.arcs)
-    >>= λ v. each_of (proposed_of line) n.arcs) arcs h in
-    let two = went (within line (codes "arcs") 1 128 (length n.arcs)) (λ v. each_of (proposed_of line) n.arcs) arcs one.2 in
+    >>= λ v. each_of (proposed_arc line) n.arcs) arcs h in
+    let two = went (within line (codes "arcs") 1 128 (length n.arcs)) (λ v. each_of (proposed_arc line) n.arcs) arcs one.2 in
     record {
       parties = within_ok line (codes "parties") 2 32 (length n.names) one.0 one.1;
       size = within_ok line (codes "arcs") 1 128 (length n.arcs) two.0 two.1;
@@ -47,9 +47,9 @@ are_read line n arcs h =
     }
 
 -- the ends of a proposed transfer are those of its arc, and its amount is within its limits
-pub proposed_ok : (line : ℕ) (a : NumberedArc) (p : Proposed) → proposed_of line a ≡ Ok p
+pub proposed_ok : (line : ℕ) (a : NumberedArc) (p : Proposed) → proposed_arc line a ≡ Ok p
     → (p.from ≡ a.ends.from) × (p.to ≡ a.ends.to) × (1 ≤ p.amount) × (p.amount ≤ 10 ^ 12)
-unfolding proposed_of
+unfolding proposed_arc
 proposed_ok line a p h =
     let one = went (within line (codes "amount") 1 (10 ^ 12) a.amount) (λ u. Ok (record { from = a.ends.from; to = a.ends.to; amount = a.amount })) p h in
     let same : record { from = a.ends.from; to = a.ends.to; amount = a.amount } ≡ p = cc (one.2) in
@@ -59,16 +59,17 @@ proposed_ok line a p h =
 abbrev zero_arc : NumberedArc
 zero_arc = record { ends = record { from = 0; to = 0 }; amount = 0 }
 
-pub is_within : (line : ℕ) (w : RawWishes) (n : Numbered) (t : ℕ × ℕ) (arcs : List Proposed) → AreNames n.names → AreEndsBelow n → times_of line w ≡ Ok t
+pub set_contains_ends : (line : ℕ) (w : RawWishes) (n : Numbered) (t : ℕ × ℕ) (arcs : List Proposed) → AreNames n.names → AreBoundedEnds n
+    → parse_times line w ≡ Ok t
     → proposals_of line n ≡ Ok arcs → AreWishesWithin (record { start = t.0; delta = t.1; names = n.names; arcs = arcs })
-is_within line w n t arcs names ends times proposals =
+set_contains_ends line w n t arcs names ends times proposals =
     let k = times_ok line w t times in
     let r = are_read line n arcs proposals in
-    let same : length arcs ≡ length n.arcs = each_length (proposed_of line) n.arcs arcs r.each in
-    let at : (a : ℕ) (d : Proposed) → a < length arcs → proposed_of line (get_or n.arcs a zero_arc) ≡ Ok (get_or arcs a d) = λ a d lt.
-    each_at (proposed_of line) n.arcs arcs zero_arc d r.each a (omega arith) in
+    let same : length arcs ≡ length n.arcs = each_length (proposed_arc line) n.arcs arcs r.each in
+    let at : (a : ℕ) (d : Proposed) → a < length arcs → proposed_arc line (get_or n.arcs a zero_arc) ≡ Ok (get_or arcs a d) = λ a d lt.
+    each_at (proposed_arc line) n.arcs arcs zero_arc d r.each a (omega arith) in
     let ok = λ (a : ℕ) (d : Proposed) (lt : a < length arcs). proposed_ok line (get_or n.arcs a zero_arc) (get_or arcs a d) (at a d lt) in
-    let below : (a : ℕ) → a < length arcs → HasEndsBelow (length n.names) (get_or n.arcs a zero_arc) = λ a lt. ends a zero_arc (omega arith) in
+    let below : (a : ℕ) → a < length arcs → HasBoundedEnds (length n.names) (get_or n.arcs a zero_arc) = λ a lt. ends a zero_arc (omega arith) in
     record {
       start = k.0;
       delta = k.1;
@@ -81,7 +82,8 @@ is_within line w n t arcs names ends times proposals =
     }
 
 -- few parties have small numbers
-pub small_ends : (n : Numbered) → length n.names ≤ 32 → AreEndsBelow n → (a : ℕ) (d : NumberedArc) → a < length n.arcs → HasEndsBelow 256 (get_or n.arcs a d)
+pub small_ends : (n : Numbered) → length n.names ≤ 32 → AreBoundedEnds n → (a : ℕ) (d : NumberedArc) → a < length n.arcs
+    → HasBoundedEnds 256 (get_or n.arcs a d)
 small_ends n few ends a d lt =
     let k = ends a d lt in
     (omega (arith, few, k.0), omega (arith, few, k.1))

@@ -9,7 +9,7 @@ use Rattle.swap_digraph.specs.Graph.{IsStronglyConnected}
 use Rattle.refusals.specs.declared.reason.Reason.{Reason}
 use Rattle.refusals.specs.declared.reason.Reason.TheVariants as reasons
 use Rattle.swap_clear.specs.Proposals.{proposed_graph}
-use Rattle.swap_clear.specs.Clearing.{clearing_of}
+use Rattle.swap_clear.specs.Clearing.{cleared_groups}
 use Rattle.swap_clear.specs.Cyclic.{TellsLeftOut}
 use Rattle.swap_clear.specs.Together.{AreGroups}
 use Rattle.swap_clear.specs.Led.{own, IsLed, HasCycles, NoFewerLead, IsBound}
@@ -19,7 +19,7 @@ use Rattle.swap_clear.specs.declared.answer.Clearing.{Clearing}
 use Rattle.swap_clear.specs.declared.fault.ClearReason.{ClearReason}
 use Rattle.swap_clear.specs.declared.fault.ClearReason.TheVariants.{OutOfRange, SelfArc, TooManyLeaders}
 use Rattle.swap_clear.specs.declared.proposed.Proposed.{Proposed}
-use Rattle.clear_line.specs.Limits.{wishes_of}
+use Rattle.clear_line.specs.Limits.{parse_wish_text}
 use Rattle.clear_line.specs.declared.limits.Wishes.{Wishes}
 use Rattle.clear_line.specs.declared.cleared.Cleared.{Cleared}
 
@@ -40,14 +40,14 @@ unfoldable pub started : (start delta : ℕ) → Result (Unit {0}) Reason
 started start delta = if nat_lt start delta then Err (reasons.StartTooSoon start delta) else Ok tt
 
 -- A reason of the proposals. The ends of a line's arcs are parties, and none leads from a party to itself, so that the first two never come.
-abbrev pub reason_of : ClearReason → Reason
-reason_of (OutOfRange arc) = reasons.SelfArc arc
-reason_of (SelfArc arc) = reasons.SelfArc arc
-reason_of (TooManyLeaders group count) = reasons.TooManyLeaders group count
+abbrev pub clear_reason : ClearReason → Reason
+clear_reason (OutOfRange arc) = reasons.SelfArc arc
+clear_reason (SelfArc arc) = reasons.SelfArc arc
+clear_reason (TooManyLeaders group count) = reasons.TooManyLeaders group count
 
-abbrev pub fault_of : Fault ClearReason → Fault Reason
-fault_of (Refused reason) = Refused (reason_of reason)
-fault_of NoMemory = NoMemory
+abbrev pub to_offer_fault : Fault ClearReason → Fault Reason
+to_offer_fault (Refused reason) = Refused (clear_reason reason)
+to_offer_fault NoMemory = NoMemory
 
 -- an arc that a reason names has a small number
 abbrev pub small : ClearReason → Type 0
@@ -57,20 +57,20 @@ small (TooManyLeaders group count) = Unit {0}
 
 abbrev pub by_clearing : {A : Type 0} → Result A ClearReason → Result A Reason
 by_clearing (Ok x) = Ok x
-by_clearing (Err reason) = Err (reason_of reason)
+by_clearing (Err reason) = Err (clear_reason reason)
 
 -- what of the wishes can be swapped: first the ends of the arcs, then the start, then the leaders
-unfoldable pub clearing_for : Wishes → Result Clearing Reason
-clearing_for w = do
+unfoldable pub make_clearing : Wishes → Result Clearing Reason
+make_clearing w = do
   u ← without_self_arcs w.arcs
   v ← started w.start w.delta
-  by_clearing (clearing_of (length w.names) w.arcs)
+  by_clearing (cleared_groups (length w.names) w.arcs)
 
 -- what is cleared of a line, or the first reason why it is refused
-unfoldable pub cleared_of : ℕ → List ℕ → Result Cleared Reason
-cleared_of line text = do
-  wishes ← wishes_of line text
-  clearing ← clearing_for wishes
+unfoldable pub parse_cleared : ℕ → List ℕ → Result Cleared Reason
+parse_cleared line text = do
+  wishes ← parse_wish_text line text
+  clearing ← make_clearing wishes
   Ok (record { wishes = wishes; clearing = clearing })
 
 -- What holds of a clearing of proposals: what is left out lies on no cycle, and each group makes a deal.

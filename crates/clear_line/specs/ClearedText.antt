@@ -10,7 +10,7 @@ use Rattle.refusals.specs.declared.reason.Reason.{Reason}
 use Rattle.swap_clear.specs.declared.answer.Group.{Group}
 use Rattle.swap_clear.specs.declared.answer.LeftOut.{LeftOut}
 use Rattle.swap_clear.specs.declared.proposed.Proposed.{Proposed}
-use Rattle.clear_line.specs.Cleared.{cleared_of, Shows}
+use Rattle.clear_line.specs.Cleared.{parse_cleared, Shows}
 use Rattle.clear_line.specs.Limits.{AreWishesWithin}
 use Rattle.clear_line.specs.declared.cleared.Cleared.{Cleared}
 use Rattle.clear_line.specs.declared.limits.Wishes.{Wishes}
@@ -80,13 +80,13 @@ cleared_text c =
 -- what is written of a line, or the first reason why it is refused
 unfoldable pub cleared_line : ℕ → List ℕ → Result (List ℕ) Reason
 cleared_line line text = do
-  cleared ← cleared_of line text
+  cleared ← parse_cleared line text
   Ok (cleared_text cleared)
 
 -- The text is that of a line's clearing, and what is cleared shows what it says.
 pub record IsClearedLine (line : ℕ) (text written : List ℕ) : Type 0 where
   pub cleared : Cleared
-  pub is_read : cleared_of line text ≡ Ok cleared
+  pub is_read : parse_cleared line text ≡ Ok cleared
   pub within : AreWishesWithin cleared.wishes
   pub shown : written ≡ cleared_text cleared
   pub shows : Shows cleared

@@ -21,8 +21,8 @@ abbrev pub fields : List (List ℕ)
 fields = codes "arcs" ∷ codes "clear" ∷ codes "delta" ∷ codes "parties" ∷ codes "start" ∷ []
 
 -- an arc has the fields that it has in a plain job with hashkeys: `from`, `to` and `amount`
-abbrev pub arc_in : ℕ → Data → Result RawArc Reason
-arc_in line d = raw_arc_of (record { purpose = Make; mode = Hashkeys }) line d
+abbrev pub read_clear_arc : ℕ → Data → Result RawArc Reason
+read_clear_arc line d = raw_arc_of (record { purpose = Make; mode = Hashkeys }) line d
 
 -- the fields of a line
 unfoldable pub raw_wishes : ℕ → Data → Result RawWishes Reason
@@ -31,6 +31,6 @@ raw_wishes line d = do
   start ← number_at line (codes "start") d
   delta ← number_at line (codes "delta") d
   parties ← list_at line (codes "parties") (member_text_of line (codes "parties")) d
-  arcs ← list_at line (codes "arcs") (arc_in line) d
+  arcs ← list_at line (codes "arcs") (read_clear_arc line) d
   u ← only line fields d
   Ok (record { start = start; delta = delta; parties = parties; arcs = arcs })

@@ -2,8 +2,8 @@
 use Rattle.std.specs.Prelude.{ℕ, ◌^◌, ◌<◌, ◌≤◌, List, codes, length, slice_index_or, Result, Ok}
 use Rattle.swap_base.specs.Fault.{◌>>=◌}
 use Rattle.refusals.specs.declared.reason.Reason.{Reason}
-use Rattle.offer_fields.specs.Fields.{object_of}
-use Rattle.offer_fields.specs.Limits.{number_within, within}
+use Rattle.offer_fields.specs.Fields.{parse_data}
+use Rattle.offer_fields.specs.Limits.{ranged_number, within}
 use Rattle.offer_fields.specs.Lists.{each_of}
 use Rattle.offer_header.specs.Names.{AreNames}
 use Rattle.swap_clear.specs.Ready.{AreAmounts}
@@ -16,16 +16,16 @@ use Rattle.clear_line.specs.declared.names.NumberedArc.{NumberedArc}
 use Rattle.clear_line.specs.declared.limits.Wishes.{Wishes}
 
 -- a proposed transfer
-unfoldable pub proposed_of : ℕ → NumberedArc → Result Proposed Reason
-proposed_of line a = do
+unfoldable pub proposed_arc : ℕ → NumberedArc → Result Proposed Reason
+proposed_arc line a = do
   u ← within line (codes "amount") 1 (10 ^ 12) a.amount
   Ok (record { from = a.ends.from; to = a.ends.to; amount = a.amount })
 
 -- the start and delta
-unfoldable pub times_of : ℕ → RawWishes → Result (ℕ × ℕ) Reason
-times_of line w = do
-  start ← number_within line (codes "start") 1 1000 w.start
-  delta ← number_within line (codes "delta") 1 100 w.delta
+unfoldable pub parse_times : ℕ → RawWishes → Result (ℕ × ℕ) Reason
+parse_times line w = do
+  start ← ranged_number line (codes "start") 1 1000 w.start
+  delta ← ranged_number line (codes "delta") 1 100 w.delta
   Ok (start, delta)
 
 -- the lengths of the lists, and then each arc
@@ -33,22 +33,22 @@ unfoldable pub proposals_of : ℕ → Numbered → Result (List Proposed) Reason
 proposals_of line numbered = do
   u ← within line (codes "parties") 2 32 (length numbered.names)
   v ← within line (codes "arcs") 1 128 (length numbered.arcs)
-  each_of (proposed_of line) numbered.arcs
+  each_of (proposed_arc line) numbered.arcs
 
 -- the wishes that fields give: the names first, and then the limits
-unfoldable pub wishes_by : ℕ → RawWishes → Result Wishes Reason
-wishes_by line w = do
+unfoldable pub parse_wishes : ℕ → RawWishes → Result Wishes Reason
+parse_wishes line w = do
   numbered ← numbered_wishes line w
-  times ← times_of line w
+  times ← parse_times line w
   arcs ← proposals_of line numbered
   Ok (record { start = times.0; delta = times.1; names = numbered.names; arcs = arcs })
 
 -- the wishes that a line gives, or the first reason why it is refused
-unfoldable pub wishes_of : ℕ → List ℕ → Result Wishes Reason
-wishes_of line text = do
-  object ← object_of line text
+unfoldable pub parse_wish_text : ℕ → List ℕ → Result Wishes Reason
+parse_wish_text line text = do
+  object ← parse_data line text
   raw ← raw_wishes line object
-  wishes_by line raw
+  parse_wishes line raw
 
 -- Wishes within their limits.
 pub record AreWishesWithin (w : Wishes) : Type 0 where

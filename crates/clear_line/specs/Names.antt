@@ -32,9 +32,9 @@ numbered_wishes line w = do
   arcs ← each_of (numbered_arc line names) w.arcs
   Ok (record { names = names; arcs = arcs })
 
-abbrev pub HasEndsBelow : ℕ → NumberedArc → Type 0
-HasEndsBelow n a = (a.ends.from < n) × (a.ends.to < n)
+abbrev pub HasBoundedEnds : ℕ → NumberedArc → Type 0
+HasBoundedEnds n a = (a.ends.from < n) × (a.ends.to < n)
 
 -- each end is the number of a party
-abbrev pub AreEndsBelow : Numbered → Type 0
-AreEndsBelow numbered = (a : ℕ) (d : NumberedArc) → a < length numbered.arcs → HasEndsBelow (length numbered.names) (slice_index_or numbered.arcs a d)
+abbrev pub AreBoundedEnds : Numbered → Type 0
+AreBoundedEnds numbered = (a : ℕ) (d : NumberedArc) → a < length numbered.arcs → HasBoundedEnds (length numbered.names) (slice_index_or numbered.arcs a d)

@@ -3,10 +3,10 @@
 ghost use Rattle.std.specs.Prelude.{◌≡◌, ◌<◌, ◌≤◌, length, position, IfOk};
 ghost use Rattle.swap_base.specs.Fault.{Gives};
 ghost use Rattle.swap_clear.specs.Refused.{IfRefused};
-ghost use Rattle.clear_line.specs.Cleared.{cleared_of, clearing_for, fault_of, first_self, small, started, without_self_arcs, Shows};
+ghost use Rattle.clear_line.specs.Cleared.{parse_cleared, make_clearing, to_offer_fault, first_self, small, started, without_self_arcs, Shows};
 ghost use Rattle.clear_line.specs.Limits.{AreWishesWithin};
 
-use crate::limits::{Wishes, wishes_in};
+use crate::limits::{Wishes, decode_wishes};
 use refusals::{OfferFault, Reason};
 use std::alloc::Global;
 use swap_base::{ArcId, Fault};
@@ -49,9 +49,9 @@ fn started(start: u32, delta: u32) -> Result<(), OfferFault>
     Ok(())
 }
 
-fn fault_of(fault: ClearFault) -> OfferFault
+fn to_offer_fault(fault: ClearFault) -> OfferFault
     requires { IfRefused fault small }
-    ensures { result ≡ fault_of fault }
+    ensures { result ≡ to_offer_fault fault }
 {
     match fault {
         Fault::Refused(ClearReason::OutOfRange(arc)) => Fault::Refused(Reason::SelfArc(
@@ -66,28 +66,28 @@ fn fault_of(fault: ClearFault) -> OfferFault
 }
 
 /// What of the wishes can be swapped, or the first reason against them.
-#[tactic(auto, unfolding(crate::specs::Cleared::clearing_for))]
-fn clearing_for(alloc: Global, wishes: &Wishes) -> Result<Clearing, OfferFault>
+#[tactic(auto, unfolding(crate::specs::Cleared::make_clearing))]
+fn make_clearing(alloc: Global, wishes: &Wishes) -> Result<Clearing, OfferFault>
     requires { AreWishesWithin wishes.now }
-    ensures exact { Gives (λ c. c) result (clearing_for wishes.now) }
+    ensures exact { Gives (λ c. c) result (make_clearing wishes.now) }
     ensures shows { IfOk result (λ c. Shows (record { wishes = wishes.now; clearing = c })) }
 {
     without_self_arcs(wishes.arcs.as_slice())?;
     started(wishes.start, wishes.delta)?;
     match clear(alloc, wishes.names.len() as u8, wishes.arcs.as_slice()) {
         Ok(clearing) => Ok(clearing),
-        Err(fault) => Err(fault_of(fault)),
+        Err(fault) => Err(to_offer_fault(fault)),
     }
 }
 
 /// What is cleared of a line's wishes, or the first reason why the line is refused.
-#[tactic(auto, unfolding(crate::specs::Cleared::cleared_of))]
-pub fn cleared_in(alloc: Global, line: u32, text: &[u8]) -> Result<Cleared, OfferFault>
-    ensures exact { Gives (λ c. c) result (cleared_of line text.now) }
+#[tactic(auto, unfolding(crate::specs::Cleared::parse_cleared))]
+pub fn read_cleared(alloc: Global, line: u32, text: &[u8]) -> Result<Cleared, OfferFault>
+    ensures exact { Gives (λ c. c) result (parse_cleared line text.now) }
     ensures within { IfOk result (λ c. AreWishesWithin c.wishes) }
     ensures shows { IfOk result Shows }
 {
-    let wishes = wishes_in(alloc, line, text)?;
-    let clearing = clearing_for(alloc, &wishes)?;
+    let wishes = decode_wishes(alloc, line, text)?;
+    let clearing = make_clearing(alloc, &wishes)?;
     Ok(Cleared { wishes, clearing })
 }

@@ -6,7 +6,7 @@ ghost use Rattle.swap_base.specs.Fault.{Gives};
 ghost use Rattle.offer_fields.specs.Fields.{list_at, member_text_of, only};
 ghost use Rattle.clear_line.specs.Fields.{fields, kind_at, raw_wishes};
 
-use offer_fields::{TextRef, array_in, list_in, number_in, only_in, texts_in};
+use offer_fields::{TextRef, allow_only, array_in, number_in, read_list, read_texts};
 use offer_header::{RawArc, Reading};
 use refusals::{OfferFault, wrong_kind};
 use serde_json::Value;
@@ -38,7 +38,7 @@ fn check_kind(alloc: Global, line: u32, object: &Value) -> Result<(), OfferFault
 }
 
 #[tactic(auto, unfolding(offer_fields::specs::Fields::list_at))]
-fn parties_in<'v>(
+fn read_parties<'v>(
     alloc: Global,
     line: u32,
     object: &'v Value,
@@ -46,19 +46,19 @@ fn parties_in<'v>(
     ensures { Gives (λ x. x) result (list_at line (codes "parties") (member_text_of line (codes "parties")) (view object.now)) }
 {
     let values = array_in(alloc, line, "parties", object)?;
-    texts_in(alloc, line, "parties", values)
+    read_texts(alloc, line, "parties", values)
 }
 
 fn only_fields(alloc: Global, line: u32, object: &Value) -> Result<(), OfferFault>
     ensures { Gives (λ u. u) result (only line fields (view object.now)) }
 {
     let allowed = ["arcs", "clear", "delta", "parties", "start"];
-    only_in(alloc, line, &allowed, object)
+    allow_only(alloc, line, &allowed, object)
 }
 
 /// The fields of the line, or the first reason why one is refused. An arc has the fields that it has in a plain job with hashkeys.
 #[tactic(auto, unfolding(crate::specs::Fields::raw_wishes))]
-pub(crate) fn raw_in<'v>(
+pub(crate) fn parse_raw<'v>(
     alloc: Global,
     line: u32,
     object: &'v Value,
@@ -68,12 +68,12 @@ pub(crate) fn raw_in<'v>(
     check_kind(alloc, line, object)?;
     let start = number_in(alloc, line, "start", object)?;
     let delta = number_in(alloc, line, "delta", object)?;
-    let parties = parties_in(alloc, line, object)?;
+    let parties = read_parties(alloc, line, object)?;
     let reading = Reading {
         purpose: Purpose::Make,
         mode: Mode::Hashkeys,
     };
-    let arcs = list_in(alloc, reading, line, "arcs", object)?;
+    let arcs = read_list(alloc, reading, line, "arcs", object)?;
     only_fields(alloc, line, object)?;
     Ok(RawWishes {
         start,

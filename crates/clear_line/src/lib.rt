@@ -13,6 +13,6 @@ mod lists;
 mod names;
 mod text;
 
-pub use cleared::{Cleared, cleared_in};
+pub use cleared::{Cleared, read_cleared};
 pub use limits::Wishes;
 pub use text::cleared_line;

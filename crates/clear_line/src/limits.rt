@@ -3,13 +3,13 @@
 ghost use Rattle.std.specs.Prelude.{◌<◌, ℕ, length, slice_index_or, IfOk};
 ghost use Rattle.swap_base.specs.Fault.{Gives};
 ghost use Rattle.offer_fields.specs.Lists.{each_of};
-ghost use Rattle.clear_line.specs.Limits.{proposed_of, times_of, proposals_of, wishes_by, wishes_of, AreWishesWithin};
-ghost use Rattle.clear_line.specs.Names.{AreEndsBelow, HasEndsBelow};
+ghost use Rattle.clear_line.specs.Limits.{proposed_arc, parse_times, proposals_of, parse_wishes, parse_wish_text, AreWishesWithin};
+ghost use Rattle.clear_line.specs.Names.{AreBoundedEnds, HasBoundedEnds};
 ghost use Rattle.clear_line.specs.declared.names.NumberedArc.{NumberedArc as Arc};
 
-use crate::fields::{RawWishes, raw_in};
-use crate::names::{Numbered, NumberedArc, numbered_in};
-use offer_fields::{number_within, object_in, within};
+use crate::fields::{RawWishes, parse_raw};
+use crate::names::{Numbered, NumberedArc, assign_numbers};
+use offer_fields::{parse_object, ranged_number, within};
 use refusals::OfferFault;
 use std::alloc::Global;
 use swap_base::{ByteText, Listed};
@@ -27,10 +27,10 @@ pub struct Wishes {
     pub arcs: Listed<Proposed>,
 }
 
-#[tactic(auto, unfolding(crate::specs::Limits::proposed_of))]
-fn proposed_of(alloc: Global, line: u32, arc: NumberedArc) -> Result<Proposed, OfferFault>
-    requires { HasEndsBelow 256 arc }
-    ensures { Gives (λ p. p) result (proposed_of line arc) }
+#[tactic(auto, unfolding(crate::specs::Limits::proposed_arc))]
+fn proposed_arc(alloc: Global, line: u32, arc: NumberedArc) -> Result<Proposed, OfferFault>
+    requires { HasBoundedEnds 256 arc }
+    ensures { Gives (λ p. p) result (proposed_arc line arc) }
 {
     within(alloc, line, "amount", 1, 1_000_000_000_000, arc.amount)?;
     Ok(Proposed {
@@ -45,34 +45,34 @@ fn each_proposed(
     line: u32,
     arcs: &[NumberedArc],
 ) -> Result<Listed<Proposed>, OfferFault>
-    requires { (a : ℕ) (d : Arc) → a < length arcs.now → HasEndsBelow 256 (slice_index_or arcs.now a d) }
-    ensures { Gives (λ x. x) result (each_of (proposed_of line) arcs.now) }
+    requires { (a : ℕ) (d : Arc) → a < length arcs.now → HasBoundedEnds 256 (slice_index_or arcs.now a d) }
+    ensures { Gives (λ x. x) result (each_of (proposed_arc line) arcs.now) }
 {
     let mut list = Vec::new(alloc);
     for arc in arcs {
-        list.push(proposed_of(alloc, line, *arc)?)?;
+        list.push(proposed_arc(alloc, line, *arc)?)?;
     }
     Ok(Listed::new(list))
 }
 
 /// The start and delta.
-#[tactic(auto, unfolding(crate::specs::Limits::times_of))]
-fn times_in(alloc: Global, line: u32, wishes: &RawWishes<'_>) -> Result<(u32, u32), OfferFault>
-    ensures { Gives (λ t. t) result (times_of line wishes.now) }
+#[tactic(auto, unfolding(crate::specs::Limits::parse_times))]
+fn read_times(alloc: Global, line: u32, wishes: &RawWishes<'_>) -> Result<(u32, u32), OfferFault>
+    ensures { Gives (λ t. t) result (parse_times line wishes.now) }
 {
-    let start = number_within(alloc, line, "start", 1, 1000, wishes.start)?;
-    let delta = number_within(alloc, line, "delta", 1, 100, wishes.delta)?;
+    let start = ranged_number(alloc, line, "start", 1, 1000, wishes.start)?;
+    let delta = ranged_number(alloc, line, "delta", 1, 100, wishes.delta)?;
     Ok((start, delta))
 }
 
 /// The arcs, where neither they nor the parties are too few or too many.
 #[tactic(auto, unfolding(crate::specs::Limits::proposals_of))]
-fn proposals_in(
+fn make_proposals(
     alloc: Global,
     line: u32,
     numbered: &Numbered,
 ) -> Result<Listed<Proposed>, OfferFault>
-    requires { AreEndsBelow numbered.now }
+    requires { AreBoundedEnds numbered.now }
     ensures { Gives (λ x. x) result (proposals_of line numbered.now) }
 {
     within(alloc, line, "parties", 2, 32, numbered.names.len() as u64)?;
@@ -81,14 +81,14 @@ fn proposals_in(
 }
 
 /// The wishes that fields give, or the first reason why one is refused.
-#[tactic(auto, using(crate::proofs::Within::is_within), unfolding(crate::specs::Limits::wishes_by))]
-fn wishes_by(alloc: Global, line: u32, raw: &RawWishes<'_>) -> Result<Wishes, OfferFault>
-    ensures exact { Gives (λ w. w) result (wishes_by line raw.now) }
+#[tactic(auto, using(crate::proofs::Within::set_contains_ends), unfolding(crate::specs::Limits::parse_wishes))]
+fn parse_wishes(alloc: Global, line: u32, raw: &RawWishes<'_>) -> Result<Wishes, OfferFault>
+    ensures exact { Gives (λ w. w) result (parse_wishes line raw.now) }
     ensures within { IfOk result AreWishesWithin }
 {
-    let numbered = numbered_in(alloc, line, raw)?;
-    let (start, delta) = times_in(alloc, line, raw)?;
-    let arcs = proposals_in(alloc, line, &numbered)?;
+    let numbered = assign_numbers(alloc, line, raw)?;
+    let (start, delta) = read_times(alloc, line, raw)?;
+    let arcs = make_proposals(alloc, line, &numbered)?;
     Ok(Wishes {
         start,
         delta,
@@ -98,12 +98,12 @@ fn wishes_by(alloc: Global, line: u32, raw: &RawWishes<'_>) -> Result<Wishes, Of
 }
 
 /// The wishes that the line's text gives, or the first reason why it is refused.
-#[tactic(auto, unfolding(crate::specs::Limits::wishes_of))]
-pub(crate) fn wishes_in(alloc: Global, line: u32, text: &[u8]) -> Result<Wishes, OfferFault>
-    ensures exact { Gives (λ w. w) result (wishes_of line text.now) }
+#[tactic(auto, unfolding(crate::specs::Limits::parse_wish_text))]
+pub(crate) fn decode_wishes(alloc: Global, line: u32, text: &[u8]) -> Result<Wishes, OfferFault>
+    ensures exact { Gives (λ w. w) result (parse_wish_text line text.now) }
     ensures within { IfOk result AreWishesWithin }
 {
-    let object = object_in(alloc, line, text)?;
-    let raw = raw_in(alloc, line, &object)?;
-    wishes_by(alloc, line, &raw)
+    let object = parse_object(alloc, line, text)?;
+    let raw = parse_raw(alloc, line, &object)?;
+    parse_wishes(alloc, line, &raw)
 }

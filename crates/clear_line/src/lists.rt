@@ -6,19 +6,19 @@ ghost use Rattle.serde_json.specs.View.{view, members_view};
 ghost use Rattle.offer_text.specs.Words.{list_data, name_data, AreTexts};
 ghost use Rattle.clear_line.specs.ClearedText.{proposal_data, named_data, proposal};
 
-use offer_text::{put_number, put_text, text_of};
-use refusals::name_at;
+use offer_text::{put_number, put_text, to_text};
+use refusals::party_name;
 use serde_json::{Map, Value};
 use std::alloc::Global;
 use swap_base::{ByteText, NoMemory, PartyId};
 use swap_clear::Proposed;
 
 /// The name of a party; no text where the number is nobody's.
-fn name_of(names: &[ByteText], p: PartyId) -> &str
+fn party_label(names: &[ByteText], p: PartyId) -> &str
     requires { AreTexts names.now }
     ensures { string result.now ≡ name_data names.now p }
 {
-    text_of(name_at(names, p))
+    to_text(party_name(names, p))
 }
 
 /// An object whose one field is the name of a party.
@@ -32,7 +32,7 @@ fn named_value(
     ensures { IfOk result (λ v. view v ≡ named_data field.now names.now p) }
 {
     let mut fields = Map::new(alloc);
-    put_text(alloc, &mut fields, field, name_of(names, p))?;
+    put_text(alloc, &mut fields, field, party_label(names, p))?;
     Ok(Value::Object(fields))
 }
 
@@ -77,8 +77,8 @@ fn put_arc(
     requires texts { AreTexts names.now }
     ensures { OnOk result (object (members_view fields.new.entries) ≡ proposal_data names.now arc) }
 {
-    put_text(alloc, fields, "to", name_of(names, arc.to))?;
-    put_text(alloc, fields, "from", name_of(names, arc.from))?;
+    put_text(alloc, fields, "to", party_label(names, arc.to))?;
+    put_text(alloc, fields, "from", party_label(names, arc.from))?;
     put_number(alloc, fields, "amount", arc.amount)
 }
 

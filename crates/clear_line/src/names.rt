@@ -4,12 +4,12 @@ ghost use Rattle.std.specs.Prelude.{◌≡◌, [], map, IfOk};
 ghost use Rattle.swap_base.specs.Fault.{Gives, steps};
 ghost use Rattle.offer_fields.specs.Lists.{each_of};
 ghost use Rattle.offer_header.specs.Names.{AreNames};
-ghost use Rattle.clear_line.specs.Names.{wished_name_step, numbered_arc, numbered_wishes, AreEndsBelow};
+ghost use Rattle.clear_line.specs.Names.{wished_name_step, numbered_arc, numbered_wishes, AreBoundedEnds};
 
 use crate::fields::RawWishes;
 use indexmap::IndexSet;
 use offer_fields::TextRef;
-use offer_header::{Ends, RawActor, RawArc, RawParty, add_name, ends_of, kept_names};
+use offer_header::{Ends, RawActor, RawArc, RawParty, add_name, kept_names, resolve_arc_ends};
 use refusals::OfferFault;
 use std::alloc::Global;
 use swap_base::{ByteText, Listed};
@@ -70,14 +70,14 @@ fn numbered_arc(
 ) -> Result<NumberedArc, OfferFault>
     ensures { Gives (λ a. a) result (numbered_arc line (map (λ k. k.now) names.now.keys) arc.now) }
 {
-    let ends = ends_of(alloc, line, names, arc)?;
+    let ends = resolve_arc_ends(alloc, line, names, arc)?;
     Ok(NumberedArc {
         ends,
         amount: arc.amount,
     })
 }
 
-fn arcs_in(
+fn parse_arcs(
     alloc: Global,
     line: u32,
     names: &IndexSet<&[u8]>,
@@ -93,19 +93,19 @@ fn arcs_in(
 }
 
 /// The names of the parties and the numbers that stand for them, or the first reason why a name is refused.
-#[tactic(auto, using(crate::proofs::Named::names_of, crate::proofs::Named::arcs_of), unfolding(crate::specs::Names::numbered_wishes))]
-pub(crate) fn numbered_in(
+#[tactic(auto, using(crate::proofs::Named::names_of, crate::proofs::Named::listed_arcs), unfolding(crate::specs::Names::numbered_wishes))]
+pub(crate) fn assign_numbers(
     alloc: Global,
     line: u32,
     wishes: &RawWishes<'_>,
 ) -> Result<Numbered, OfferFault>
     ensures exact { Gives (λ n. n) result (numbered_wishes line wishes.now) }
     ensures names { IfOk result (λ n. AreNames n.names) }
-    ensures ends { IfOk result (λ n. AreEndsBelow n) }
+    ensures ends { IfOk result (λ n. AreBoundedEnds n) }
 {
     let mut names = IndexSet::new(alloc);
     add_parties(alloc, line, &mut names, wishes.parties.as_slice())?;
-    let arcs = arcs_in(alloc, line, &names, wishes.arcs.as_slice())?;
+    let arcs = parse_arcs(alloc, line, &names, wishes.arcs.as_slice())?;
     Ok(Numbered {
         names: kept_names(alloc, &names)?,
         arcs,

@@ -6,7 +6,7 @@ ghost use Rattle.swap_base.specs.Text.{lines};
 ghost use Rattle.offer_text.specs.Words.{AreTexts};
 ghost use Rattle.clear_line.specs.ClearedText.{cleared_line, cleared_text, group_text, left_out_line, IsClearedLine};
 
-use crate::cleared::{Cleared, cleared_in};
+use crate::cleared::{Cleared, read_cleared};
 use crate::group::put_group;
 use crate::limits::Wishes;
 use refusals::{OfferFault, put_names};
@@ -57,7 +57,7 @@ fn put_groups(
 
 /// The text of what is cleared.
 #[tactic(auto, unfolding(crate::specs::ClearedText::cleared_text))]
-fn text_of(alloc: Global, cleared: &Cleared) -> Result<Vec<u8>, NoMemory>
+fn to_text(alloc: Global, cleared: &Cleared) -> Result<Vec<u8>, NoMemory>
     requires { AreTexts cleared.now.wishes.names }
     ensures { IfOk result (λ t. t.items ≡ cleared_text cleared.now) }
 {
@@ -80,7 +80,7 @@ pub fn cleared_line(alloc: Global, line: u32, text: &[u8]) -> Result<Vec<u8>, Of
     ensures exact { Gives (λ t. t.items) result (cleared_line line text.now) }
     ensures shows { IfOk result (λ t. IsClearedLine line text.now t.items) }
 {
-    let cleared = cleared_in(alloc, line, text)?;
-    let text = text_of(alloc, &cleared)?;
+    let cleared = read_cleared(alloc, line, text)?;
+    let text = to_text(alloc, &cleared)?;
     Ok(text)
 }

@@ -13,8 +13,8 @@ use Rattle.swap_io.specs.declared.line_end.LineEnd.TheVariants.{Ended, Rest, End
 use Rattle.swap_io.proofs.Feeds.{took_none, took_on}
 use Rattle.command_input.specs.declared.fault.InputFault.{InputFault}
 use Rattle.command_input.specs.declared.fault.InputFault.TheVariants.{Refused, ReadFault, TooLong, NoMemory}
-use Rattle.command_input.specs.Faults.{of_line, told_by}
-use Rattle.command_input.specs.Lines.{lines_of, with_first, filled_lines, is_blank}
+use Rattle.command_input.specs.Faults.{of_line, parse_told}
+use Rattle.command_input.specs.Lines.{collect_lines, with_first, filled_lines, is_blank}
 use Rattle.command_input.proofs.Filled.{one_more}
 use Rattle.swap_io.specs.declared.fault.DrainFault.{DrainFault}
 use Rattle.swap_io.specs.declared.fault.DrainFault.TheVariants as drained
@@ -25,42 +25,42 @@ not_feed : (t : Bool) → not t ≡ true → t ≡ false
 not_feed true e = absurd (cc e)
 not_feed false e = refl
 
-by_test : (b : ℕ) (t : Bool) (bs : List ℕ) (line : List ℕ) (rest : List (List ℕ)) → t ≡ false → lines_of bs ≡ line ∷ rest
-    → cond t ([] ∷ lines_of bs) (with_first b (lines_of bs)) ≡ (b ∷ line) ∷ rest
+by_test : (b : ℕ) (t : Bool) (bs : List ℕ) (line : List ℕ) (rest : List (List ℕ)) → t ≡ false → collect_lines bs ≡ line ∷ rest
+    → cond t ([] ∷ collect_lines bs) (with_first b (collect_lines bs)) ≡ (b ∷ line) ∷ rest
 by_test b t bs line rest f e = rw (f, e) refl
 
 -- a line that a line feed ends is the first
-pub feed_first : (line rest : List ℕ) → IsTrue (lacks_feed line) → lines_of (line ++ (10 ∷ rest)) ≡ line ∷ lines_of rest
-unfolding lines_of
+pub feed_first : (line rest : List ℕ) → IsTrue (lacks_feed line) → collect_lines (line ++ (10 ∷ rest)) ≡ line ∷ collect_lines rest
+unfolding collect_lines
 feed_first [] rest one = refl
 feed_first (b ∷ line) rest one =
     let p = and_parts (not (b == 10)) (lacks_feed line) one in
-    by_test b (eqb b 10) (line ++ (10 ∷ rest)) line (lines_of rest) (not_feed (b == 10) p.0) (feed_first line rest p.1)
+    by_test b (eqb b 10) (line ++ (10 ∷ rest)) line (collect_lines rest) (not_feed (b == 10) p.0) (feed_first line rest p.1)
 
 -- bytes that no line feed ends are the last
-pub no_feed_last : (b : ℕ) (line : List ℕ) → IsTrue (lacks_feed (b ∷ line)) → lines_of (b ∷ line) ≡ (b ∷ line) ∷ []
-unfolding lines_of
+pub no_feed_last : (b : ℕ) (line : List ℕ) → IsTrue (lacks_feed (b ∷ line)) → collect_lines (b ∷ line) ≡ (b ∷ line) ∷ []
+unfolding collect_lines
 no_feed_last b [] one = rw (not_feed (b == 10) (and_parts (not (b == 10)) true one).0) refl
 no_feed_last b (c ∷ line) one =
     let p = and_parts (not (b == 10)) (lacks_feed (c ∷ line)) one in
     by_test b (eqb b 10) (c ∷ line) (c ∷ line) [] (not_feed (b == 10) p.0) (no_feed_last c line p.1)
 
-pub last_line : (line : List ℕ) → 0 < length line → IsTrue (lacks_feed line) → lines_of line ≡ line ∷ []
+pub last_line : (line : List ℕ) → 0 < length line → IsTrue (lacks_feed line) → collect_lines line ≡ line ∷ []
 last_line [] some one = absurd (omega arith)
 last_line (b ∷ line) some one = no_feed_last b line one
 
 -- what was kept and what was taken is a line with its line feed and what is kept now, whatever comes after it
 pub ended_ahead : (kept bytes line kept' rest : List ℕ) → kept ++ bytes ≡ line ++ ((10 ∷ []) ++ kept') → IsTrue (lacks_feed line)
-    → lines_of (kept ++ (bytes ++ rest)) ≡ line ∷ lines_of (kept' ++ rest)
+    → collect_lines (kept ++ (bytes ++ rest)) ≡ line ∷ collect_lines (kept' ++ rest)
 ended_ahead kept bytes line kept' rest parts one =
     let e : kept ++ (bytes ++ rest) ≡ line ++ (10 ∷ (kept' ++ rest)) = sym (append_assoc kept bytes rest) ∙ ap (λ (xs : List ℕ). xs ++ rest) parts
     ∙ append_assoc line (10 ∷ kept') rest in
-    ap lines_of e ∙ feed_first line (kept' ++ rest) one
+    ap collect_lines e ∙ feed_first line (kept' ++ rest) one
 
 pub rest_ahead : (kept bytes line : List ℕ) → kept ++ bytes ≡ line ++ ([] ++ []) → 0 < length line → IsTrue (lacks_feed line)
-    → lines_of (kept ++ (bytes ++ [])) ≡ line ∷ lines_of ([] ++ [])
-unfolding lines_of
-rest_ahead kept bytes line parts some one = ap (λ (xs : List ℕ). lines_of (kept ++ xs)) (append-nil bytes) ∙ ap lines_of (parts ∙ append-nil line)
+    → collect_lines (kept ++ (bytes ++ [])) ≡ line ∷ collect_lines ([] ++ [])
+unfolding collect_lines
+rest_ahead kept bytes line parts some one = ap (λ (xs : List ℕ). collect_lines (kept ++ xs)) (append-nil bytes) ∙ ap collect_lines (parts ∙ append-nil line)
     ∙ last_line line some one
 
 -- a blank line is passed over, another is given
@@ -135,7 +135,7 @@ reads_ended s t line p calm fits text number = record {
   bytes = p.bytes;
   stands = record { took = p.took; calm = calm; fits = fits };
   first = λ rest can. ended_ahead s.at.reading.kept p.bytes line t.at.reading.kept rest p.parts p.one
-      ∙ ap (λ (l : List ℕ). l ∷ lines_of (t.at.reading.kept ++ rest)) (sym text);
+      ∙ ap (λ (l : List ℕ). l ∷ collect_lines (t.at.reading.kept ++ rest)) (sym text);
   counted = number;
 }
 
@@ -149,19 +149,19 @@ reads_rest s t line p calm within text number over = record {
       let kept : t.at.reading.kept ≡ [] = p.ends.1.kept in
       let none : rest ≡ [] = can over in
       let parts : s.at.reading.kept ++ p.bytes ≡ line ++ ([] ++ []) = p.parts ∙ ap (λ (xs : List ℕ). line ++ ([] ++ xs)) kept in
-      ap (λ (xs : List ℕ). lines_of (s.at.reading.kept ++ (p.bytes ++ xs))) none ∙ rest_ahead s.at.reading.kept p.bytes line parts p.ends.0 p.one
-      ∙ ap₂ (λ (xs ys : List ℕ). line ∷ lines_of (xs ++ ys)) (sym kept) (sym none)
-      ∙ ap (λ (l : List ℕ). l ∷ lines_of (t.at.reading.kept ++ rest)) (sym text);
+      ap (λ (xs : List ℕ). collect_lines (s.at.reading.kept ++ (p.bytes ++ xs))) none ∙ rest_ahead s.at.reading.kept p.bytes line parts p.ends.0 p.one
+      ∙ ap₂ (λ (xs ys : List ℕ). line ∷ collect_lines (xs ++ ys)) (sym kept) (sym none)
+      ∙ ap (λ (l : List ℕ). l ∷ collect_lines (t.at.reading.kept ++ rest)) (sym text);
   counted = number;
 }
 
 pub reads_none : (s t : Desk) (line : List ℕ) → IsNext s.left t.left s.at.reading t.at.reading line End → IsCalm s t → t.at.reading.taken ≤ limit
     → t.at.number ≡ s.at.number → t.at.over ≡ true → ReadsNone s t
-unfolding lines_of
+unfolding collect_lines
 reads_none s t line p calm within number over = record {
   bytes = p.bytes;
   stands = record { took = p.took; calm = calm; fits = record { within = within; ended = λ o. p.ends.1.none_left } };
-  none = ap lines_of (p.parts ∙ ap₂ (λ (xs ys : List ℕ). xs ++ ([] ++ ys)) p.ends.0 p.ends.1.kept);
+  none = ap collect_lines (p.parts ∙ ap₂ (λ (xs ys : List ℕ). xs ++ ([] ++ ys)) p.ends.0 p.ends.1.kept);
   number = number;
   kept = p.ends.1.kept;
   met = over;
@@ -228,7 +228,7 @@ too_long_on r s t xs p q = ((xs ++ q.0.0, took_on r.left s.left t.left r.at.read
 
 -- a fault behind what was taken, of a reading that tells its refusals by other values
 pub faulted_on : {R E : Type 0} (Q : R → Type 0) (P : E → Type 0) (r s t : Desk) (xs : List ℕ) → Stands r s xs → (said : R → E)
-    → ((x : R) → Q x → P (said x)) → (f : InputFault R) → Faulted Q s t f → Faulted P r t (told_by said f)
+    → ((x : R) → Q x → P (said x)) → (f : InputFault R) → Faulted Q s t f → Faulted P r t (parse_told said f)
 faulted_on Q P r s t xs p said says (Refused x) h = says x h
 faulted_on Q P r s t xs p said says ReadFault h = (subst (λ (n : ℕ). Rose n t.faults) p.calm h.0, part_on r s t xs p h.1)
 faulted_on Q P r s t xs p said says TooLong h = (h.0 ∙ p.calm, too_long_on r s t xs p h.1)
@@ -273,8 +273,9 @@ passed_on first s t p going q blank = record {
   stays = λ over. absurd (not_over s going (p.stays over));
   blank = λ rest can.
       ap (ahead first.at) (append_assoc p.bytes q.bytes rest) ∙ p.blank (q.bytes ++ rest) (λ over. absurd (not_over s going over))
-      ∙ blank_ahead s.at.number t.at.text (lines_of (s.at.reading.kept ++ (q.bytes ++ rest))) (lines_of (t.at.reading.kept ++ rest)) (q.first rest can) blank
-      ∙ ap (λ n. filled_lines (n + 1) (lines_of (t.at.reading.kept ++ rest))) (sym q.counted);
+      ∙ blank_ahead s.at.number t.at.text (collect_lines (s.at.reading.kept ++ (q.bytes ++ rest))) (collect_lines (t.at.reading.kept ++ rest))
+      (q.first rest can) blank
+      ∙ ap (λ n. filled_lines (n + 1) (collect_lines (t.at.reading.kept ++ rest))) (sym q.counted);
   later = omega (arith, p.later, q.counted);
 }
 
@@ -285,8 +286,9 @@ is_line first s t p going q some few = record {
   open_yet = still first.at.over (λ over. not_over s going (p.stays over));
   first = λ rest can.
       ap (ahead first.at) (append_assoc p.bytes q.bytes rest) ∙ p.blank (q.bytes ++ rest) (λ over. absurd (not_over s going over))
-      ∙ line_ahead s.at.number t.at.text (lines_of (s.at.reading.kept ++ (q.bytes ++ rest))) (lines_of (t.at.reading.kept ++ rest)) (q.first rest can) some
-      ∙ ap (λ n. (n, t.at.text) ∷ filled_lines (n + 1) (lines_of (t.at.reading.kept ++ rest))) (sym q.counted);
+      ∙ line_ahead s.at.number t.at.text (collect_lines (s.at.reading.kept ++ (q.bytes ++ rest))) (collect_lines (t.at.reading.kept ++ rest))
+      (q.first rest can) some
+      ∙ ap (λ n. (n, t.at.text) ∷ filled_lines (n + 1) (collect_lines (t.at.reading.kept ++ rest))) (sym q.counted);
   counted = omega (arith, p.later, q.counted);
   few = few;
 }
@@ -297,7 +299,7 @@ is_line first s t p going q some few = record {
 
 -- the end was met behind blank lines
 pub passed_end : (first s t : Desk) → Passed first s → s.at.over ≡ false → ReadsNone s t → Passed first t
-unfolding lines_of filled_lines
+unfolding collect_lines filled_lines
 passed_end first s t p going q = record {
   bytes = p.bytes ++ q.bytes;
   stands = stands_on first s t p.bytes q.bytes p.stands q.stands;
@@ -306,33 +308,33 @@ passed_end first s t p going q = record {
   blank = λ rest can.
       let none : rest ≡ [] = can q.met in
       ap (ahead first.at) (append_assoc p.bytes q.bytes rest) ∙ p.blank (q.bytes ++ rest) (λ over. absurd (not_over s going over))
-      ∙ ap (λ (xs : List ℕ). filled_lines (s.at.number + 1) (lines_of (s.at.reading.kept ++ (q.bytes ++ xs)))) none
-      ∙ ap (λ (xs : List ℕ). filled_lines (s.at.number + 1) (lines_of (s.at.reading.kept ++ xs))) (append-nil q.bytes)
+      ∙ ap (λ (xs : List ℕ). filled_lines (s.at.number + 1) (collect_lines (s.at.reading.kept ++ (q.bytes ++ xs)))) none
+      ∙ ap (λ (xs : List ℕ). filled_lines (s.at.number + 1) (collect_lines (s.at.reading.kept ++ xs))) (append-nil q.bytes)
       ∙ ap (filled_lines (s.at.number + 1)) q.none
-      ∙ sym (ap₂ (λ (xs ys : List ℕ). filled_lines (t.at.number + 1) (lines_of (xs ++ ys))) q.kept none);
+      ∙ sym (ap₂ (λ (xs ys : List ℕ). filled_lines (t.at.number + 1) (collect_lines (xs ++ ys))) q.kept none);
   later = omega (arith, p.later, q.number);
 }
 
 -- a line feed at the front is a line that is passed over
 past_one : (t : Bool) (n b : ℕ) (bs rest : List ℕ)
-    → lines_of (b ∷ (bs ++ rest)) ≡ cond t ([] ∷ lines_of (bs ++ rest)) (with_first b (lines_of (bs ++ rest)))
-    → filled_lines ((n + 1) + 1) (lines_of (bs ++ rest)) ≡ filled_lines (((n + 1) + feeds bs) + 1) (lines_of (drop (feeds bs) bs ++ rest))
-    → filled_lines (n + 1) (lines_of (b ∷ (bs ++ rest)))
-    ≡ filled_lines ((n + cond t (suc (feeds bs)) 0) + 1) (lines_of (drop (cond t (suc (feeds bs)) 0) (b ∷ bs) ++ rest))
+    → collect_lines (b ∷ (bs ++ rest)) ≡ cond t ([] ∷ collect_lines (bs ++ rest)) (with_first b (collect_lines (bs ++ rest)))
+    → filled_lines ((n + 1) + 1) (collect_lines (bs ++ rest)) ≡ filled_lines (((n + 1) + feeds bs) + 1) (collect_lines (drop (feeds bs) bs ++ rest))
+    → filled_lines (n + 1) (collect_lines (b ∷ (bs ++ rest)))
+    ≡ filled_lines ((n + cond t (suc (feeds bs)) 0) + 1) (collect_lines (drop (cond t (suc (feeds bs)) 0) (b ∷ bs) ++ rest))
 past_one true n b bs rest e others =
     let same : ◌≡◌ {A = ℕ} ((n + 1) + feeds bs) (n + suc (feeds bs)) = omega arith in
-    blank_ahead n [] (lines_of (b ∷ (bs ++ rest))) (lines_of (bs ++ rest)) e refl ∙ others
-    ∙ ap (λ (k : ℕ). filled_lines (k + 1) (lines_of (drop (feeds bs) bs ++ rest))) same
+    blank_ahead n [] (collect_lines (b ∷ (bs ++ rest))) (collect_lines (bs ++ rest)) e refl ∙ others
+    ∙ ap (λ (k : ℕ). filled_lines (k + 1) (collect_lines (drop (feeds bs) bs ++ rest))) same
 past_one false n b bs rest e others =
     let same : ◌≡◌ {A = ℕ} n (n + 0) = omega arith in
-    ap (λ (k : ℕ). filled_lines (k + 1) (lines_of (b ∷ (bs ++ rest)))) same
+    ap (λ (k : ℕ). filled_lines (k + 1) (collect_lines (b ∷ (bs ++ rest)))) same
 
 past_ahead : (n : ℕ) (kept rest : List ℕ)
-    → filled_lines (n + 1) (lines_of (kept ++ rest)) ≡ filled_lines ((n + feeds kept) + 1) (lines_of (drop (feeds kept) kept ++ rest))
-unfolding lines_of
+    → filled_lines (n + 1) (collect_lines (kept ++ rest)) ≡ filled_lines ((n + feeds kept) + 1) (collect_lines (drop (feeds kept) kept ++ rest))
+unfolding collect_lines
 past_ahead n [] rest =
     let same : ◌≡◌ {A = ℕ} n (n + 0) = omega arith in
-    ap (λ (k : ℕ). filled_lines (k + 1) (lines_of rest)) same
+    ap (λ (k : ℕ). filled_lines (k + 1) (collect_lines rest)) same
 past_ahead n (b ∷ bs) rest = past_one (eqb b 10) n b bs rest refl (past_ahead (n + 1) bs rest)
 
 -- empty lines are passed over
@@ -361,12 +363,12 @@ past_less s = still_less s.over (limit + 2 - s.reading.taken) (length (drop (fee
 
 -- no line is ahead
 pub is_last : (first s : Desk) → Passed first s → s.at.over ≡ true → s.at.reading.kept ≡ [] → IsLast first s
-unfolding lines_of filled_lines
+unfolding collect_lines filled_lines
 is_last first s p over kept = record {
   bytes = p.bytes;
   stands = p.stands;
   can = p.can;
   none = ap (ahead first.at) (sym (append-nil p.bytes)) ∙ p.blank [] (λ over. refl)
-      ∙ ap (λ (xs : List ℕ). filled_lines (s.at.number + 1) (lines_of (xs ++ []))) kept;
+      ∙ ap (λ (xs : List ℕ). filled_lines (s.at.number + 1) (collect_lines (xs ++ []))) kept;
   met = over;
 }

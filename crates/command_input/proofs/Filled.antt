@@ -2,20 +2,20 @@
 use Rattle.std.proofs.Common.{◌≡◌, ℕ, ◌+◌, ◌<◌, ◌≤◌, ◌++◌, suc, length, List, [], ◌∷◌, Bool, true, false, eqb, cond, refl, sym, ap}
 use Rattle.std.proofs.Common.{◌∙◌, arith, append_assoc}
 use Rattle.std.proofs.lemmas.List.{append-nil}
-use Rattle.command_input.specs.Lines.{before, after, with_first, lines_of, is_blank, filled_lines}
+use Rattle.command_input.specs.Lines.{before, after, with_first, collect_lines, is_blank, filled_lines}
 
-by_test : (b : ℕ) (t : Bool) (bs : List ℕ) (rest : List (List ℕ)) (line left : List ℕ) → rest ≡ line ∷ lines_of left
-    → cond t ([] ∷ lines_of bs) (with_first b rest) ≡ cond t [] (b ∷ line) ∷ lines_of (cond t bs left)
+by_test : (b : ℕ) (t : Bool) (bs : List ℕ) (rest : List (List ℕ)) (line left : List ℕ) → rest ≡ line ∷ collect_lines left
+    → cond t ([] ∷ collect_lines bs) (with_first b rest) ≡ cond t [] (b ∷ line) ∷ collect_lines (cond t bs left)
 by_test b true bs rest line left e = refl
 by_test b false bs rest line left e = rw e refl
 
 -- a file that is not empty is its first line and those after it
-pub first_of : (b : ℕ) (bs : List ℕ) → lines_of (b ∷ bs) ≡ before (b ∷ bs) ∷ lines_of (after (b ∷ bs))
-unfolding lines_of
-first_of b [] = elim (eqb b 10) as (λ t. cond t ([] ∷ []) ((b ∷ []) ∷ []) ≡ cond t [] (b ∷ []) ∷ lines_of (cond t [] [])) [ true ↦ refl | false ↦ refl ]
-first_of b (c ∷ bs) = by_test b (eqb b 10) (c ∷ bs) (lines_of (c ∷ bs)) (before (c ∷ bs)) (after (c ∷ bs)) (first_of c bs)
+pub first_of : (b : ℕ) (bs : List ℕ) → collect_lines (b ∷ bs) ≡ before (b ∷ bs) ∷ collect_lines (after (b ∷ bs))
+unfolding collect_lines
+first_of b [] = elim (eqb b 10) as (λ t. cond t ([] ∷ []) ((b ∷ []) ∷ []) ≡ cond t [] (b ∷ []) ∷ collect_lines (cond t [] [])) [ true ↦ refl | false ↦ refl ]
+first_of b (c ∷ bs) = by_test b (eqb b 10) (c ∷ bs) (collect_lines (c ∷ bs)) (before (c ∷ bs)) (after (c ∷ bs)) (first_of c bs)
 
-pub first : (bs : List ℕ) → 0 < length bs → lines_of bs ≡ before bs ∷ lines_of (after bs)
+pub first : (bs : List ℕ) → 0 < length bs → collect_lines bs ≡ before bs ∷ collect_lines (after bs)
 first [] h = absurd (omega arith)
 first (b ∷ bs) h = first_of b bs
 
@@ -33,18 +33,18 @@ pub one_more : (n : ℕ) (l : List ℕ) (ls : List (List ℕ)) → filled_lines 
 unfolding filled_lines
 one_more n l ls = refl
 
-pub none_left : (n : ℕ) (bs : List ℕ) → length bs ≡ 0 → filled_lines n (lines_of bs) ≡ []
-unfolding filled_lines lines_of
+pub none_left : (n : ℕ) (bs : List ℕ) → length bs ≡ 0 → filled_lines n (collect_lines bs) ≡ []
+unfolding filled_lines collect_lines
 none_left n [] h = refl
 none_left n (b ∷ bs) h = absurd (omega arith)
 
 pub on_filled : (bs : List ℕ) (out new total : List (ℕ × List ℕ)) (n : ℕ) → 0 < length bs → is_blank (before bs) ≡ false → new ≡ out ++ (n, before bs) ∷ []
-    → out ++ filled_lines n (lines_of bs) ≡ total → new ++ filled_lines (n + 1) (lines_of (after bs)) ≡ total
+    → out ++ filled_lines n (collect_lines bs) ≡ total → new ++ filled_lines (n + 1) (collect_lines (after bs)) ≡ total
 on_filled bs out new total n some blank is so_far =
-    let e : out ++ filled_lines n (lines_of bs) ≡ out ++ ((n, before bs) ∷ filled_lines (n + 1) (lines_of (after bs))) =
+    let e : out ++ filled_lines n (collect_lines bs) ≡ out ++ ((n, before bs) ∷ filled_lines (n + 1) (collect_lines (after bs))) =
     ap (λ (ls : List (List ℕ)). out ++ filled_lines n ls) (first bs some)
-    ∙ ap (λ (w : List (ℕ × List ℕ)). out ++ w) (one_more n (before bs) (lines_of (after bs)) ∙ rw blank refl) in
-    rw is (append_assoc out ((n, before bs) ∷ []) (filled_lines (n + 1) (lines_of (after bs))) ∙ sym e ∙ so_far)
+    ∙ ap (λ (w : List (ℕ × List ℕ)). out ++ w) (one_more n (before bs) (collect_lines (after bs)) ∙ rw blank refl) in
+    rw is (append_assoc out ((n, before bs) ∷ []) (filled_lines (n + 1) (collect_lines (after bs))) ∙ sym e ∙ so_far)
 
-pub ended : (bs : List ℕ) (out total : List (ℕ × List ℕ)) (n : ℕ) → length bs ≡ 0 → out ++ filled_lines n (lines_of bs) ≡ total → out ≡ total
+pub ended : (bs : List ℕ) (out total : List (ℕ × List ℕ)) (n : ℕ) → length bs ≡ 0 → out ++ filled_lines n (collect_lines bs) ≡ total → out ≡ total
 ended bs out total n none so_far = sym (append-nil out) ∙ ap (λ (w : List (ℕ × List ℕ)). out ++ w) (sym (none_left n bs none)) ∙ so_far

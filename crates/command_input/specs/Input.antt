@@ -6,7 +6,7 @@ use Rattle.swap_io.specs.Lines.{Reading, Took, feeds, lacks_feed, past_feeds}
 use Rattle.swap_io.specs.declared.fault.LineFault.{LineFault}
 use Rattle.swap_io.specs.declared.fault.DrainFault.{DrainFault}
 use Rattle.command_input.specs.Faults.{of_drain, of_line}
-use Rattle.command_input.specs.Lines.{lines_of, filled_lines}
+use Rattle.command_input.specs.Lines.{collect_lines, filled_lines}
 use Rattle.command_input.specs.declared.fault.InputFault.{InputFault}
 use Rattle.command_input.specs.declared.fault.InputFault.TheVariants.{Refused, ReadFault, TooLong, NoMemory}
 
@@ -30,7 +30,7 @@ fresh = record { reading = record { kept = []; taken = 0; limit = limit }; numbe
 
 -- the lines ahead that aren't blank, where these bytes are still to come
 abbrev pub ahead : At → List ℕ → List (ℕ × List ℕ)
-ahead s rest = filled_lines (s.number + 1) (lines_of (s.reading.kept ++ rest))
+ahead s rest = filled_lines (s.number + 1) (collect_lines (s.reading.kept ++ rest))
 
 -- the empty lines that were there already were passed over
 abbrev pub past_empty : At → At
@@ -84,14 +84,14 @@ pub record ReadsLine (old new : Desk) : Type 0 where
   pub bytes : List ℕ
   pub stands : Stands old new bytes
   pub first : (rest : List ℕ) → CanBeLeft new.at rest
-      → lines_of (old.at.reading.kept ++ (bytes ++ rest)) ≡ new.at.text ∷ lines_of (new.at.reading.kept ++ rest)
+      → collect_lines (old.at.reading.kept ++ (bytes ++ rest)) ≡ new.at.text ∷ collect_lines (new.at.reading.kept ++ rest)
   pub counted : new.at.number ≡ old.at.number + 1
 
 -- No line came, and the end was met.
 pub record ReadsNone (old new : Desk) : Type 0 where
   pub bytes : List ℕ
   pub stands : Stands old new bytes
-  pub none : lines_of (old.at.reading.kept ++ bytes) ≡ []
+  pub none : collect_lines (old.at.reading.kept ++ bytes) ≡ []
   pub number : new.at.number ≡ old.at.number
   pub kept : new.at.reading.kept ≡ []
   pub met : new.at.over ≡ true

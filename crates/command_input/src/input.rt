@@ -126,7 +126,7 @@ impl Input {
         ensures fails { IfErr result (GivesNoLine (desk (S.left source.old) (S.faults source.old) self.old)
             (desk (S.left source.new) (S.faults source.new) self.new)) }
     {
-        'lines: while !self.is_over() {
+        'lines: while !self.is_finished() {
             if !self.read_line(source)? {
                 return Ok(false);
             }
@@ -139,7 +139,7 @@ impl Input {
     }
 
     /// Whether the end was met.
-    fn is_over(&self) -> bool
+    fn is_finished(&self) -> bool
         ensures over { result ≡ self.now.over }
         ensures kept { self.now.over ≡ true → self.now.reading.kept ≡ [] }
     {

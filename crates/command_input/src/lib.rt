@@ -18,4 +18,4 @@ pub use fault::{InputFault, no_line};
 pub use input::{INPUT_LIMIT, Input};
 pub use lines::{filled_lines, is_blank};
 pub use status::{Status, unread};
-pub use words::words_of;
+pub use words::collect_words;

@@ -1,7 +1,7 @@
 //! The lines of a file.
 
 ghost use Rattle.std.specs.Prelude.{◌≡◌, ◌+◌, ◌<◌, ◌^◌, List, length, map, IfOk, ◌≤◌};
-ghost use Rattle.command_input.specs.Lines.{before, after, is_blank, lines_of, filled_lines};
+ghost use Rattle.command_input.specs.Lines.{before, after, is_blank, collect_lines, filled_lines};
 
 use std::alloc::Global;
 use swap_base::NoMemory;
@@ -36,7 +36,7 @@ pub fn is_blank(line: &[u8]) -> bool
 #[tactic(auto, using(crate::proofs::Filled::first, crate::proofs::Filled::one_more, crate::proofs::Filled::none_left, std::proofs::lemmas::List::map_push))]
 pub fn filled_lines(alloc: Global, bytes: &[u8]) -> Result<Vec<(u32, &[u8])>, NoMemory>
     requires { length bytes.now < 2 ^ 31 }
-    ensures lines { IfOk result (λ v. map (λ p. (p.0, p.1.now)) v.items ≡ filled_lines 1 (lines_of bytes.now)) }
+    ensures lines { IfOk result (λ v. map (λ p. (p.0, p.1.now)) v.items ≡ filled_lines 1 (collect_lines bytes.now)) }
     ensures few { IfOk result (λ v. length v.items ≤ length bytes.now) }
 {
     let mut list = Vec::new(alloc);

@@ -24,7 +24,7 @@ fn behind_first(alloc: Global, args: Args) -> Result<Vec<String>, NoMemory>
 }
 
 /// The words after the program's name; none where one of them is no text.
-pub fn words_of(alloc: Global, args: io::Result<Args>) -> Result<Option<Vec<String>>, NoMemory>
+pub fn collect_words(alloc: Global, args: io::Result<Args>) -> Result<Option<Vec<String>>, NoMemory>
     ensures words { IfOk args (λ all. IfOk result (λ o. MatchOption o ⊥ (λ words. words.items ≡ drop 1 (into_iter_items all)))) }
     ensures none { IfErr args (λ e. IfOk result (λ o. o ≡ None)) }
     ensures memory { IfErr args (λ e. error_kind e ≡ ErrorKind.OutOfMemory → IsErr result) }

@@ -6,7 +6,7 @@ use Rattle.ledger_core.specs.declared.entry.Call.{Call}
 use Rattle.ledger_core.specs.declared.entry.What.TheVariants.{Tick}
 use Rattle.ledger_core.specs.declared.entry.Entry.{Entry}
 use Rattle.ledger_core.specs.History.{accepted, accepted_call}
-use Rattle.swap_rules.specs.Party.{call_by}
+use Rattle.swap_rules.specs.Party.{pick_call}
 use Rattle.history_index.specs.declared.made.Made.{Made}
 use Rattle.history_index.specs.Made.{made_in}
 use Rattle.history_index.proofs.Calls.{any_made, count_made, SaysNothing}
@@ -20,8 +20,8 @@ pub any_accepted : (q : Option Call → Bool) (h : List Entry) → q None ≡ fa
 any_accepted q h none = sym (any_made (λ e. q (accepted e)) h (λ e k is. ap q (accepted_of_tick e k is) ∙ none))
 
 pub count_calls : (q : Option Call → Bool) (v : ℕ) (h : List Entry) → q None ≡ false
-    → count_by (λ m. q (call_by v m.entry)) (made_in h) ≡ count_by (λ e. q (call_by v e)) h
-count_calls q v h none = sym (count_made (λ e. q (call_by v e)) h (λ e k is. ap q (sent_of_tick v e k is) ∙ none))
+    → count_by (λ m. q (pick_call v m.entry)) (made_in h) ≡ count_by (λ e. q (pick_call v e)) h
+count_calls q v h none = sym (count_made (λ e. q (pick_call v e)) h (λ e k is. ap q (sent_of_tick v e k is) ∙ none))
 
 none_at : {A : Type 0} (p : A → Bool) (xs : List A) (i : ℕ) (d : A) → i < length xs → list_any p xs ≡ false → p (get_or xs i d) ≡ false
 none_at p [] i d l e = absurd (omega arith)

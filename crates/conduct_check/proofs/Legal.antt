@@ -19,13 +19,13 @@ use Rattle.ledger_core.specs.declared.entry.Sender.TheVariants.{Party, Clock}
 use Rattle.ledger_core.specs.declared.entry.What.{What}
 use Rattle.ledger_core.specs.declared.entry.What.TheVariants.{Call as Made, Tick}
 use Rattle.ledger_core.specs.declared.entry.Entry.{Entry}
-use Rattle.ledger_core.specs.History.{accepted, accepted_call, fit, sent_by, IsLegal, IsLegalEntry, IsLegalMoment, call_in}
+use Rattle.ledger_core.specs.History.{accepted, accepted_call, fit, is_sender, IsLegal, IsLegalEntry, IsLegalMoment, read_raw_call}
 use Rattle.ledger_core.specs.Book.{Histories, history, IsLegalBook}
 use Rattle.history_index.specs.declared.made.Made.{Made as Numbered}
 use Rattle.history_index.specs.Made.{made_in}
-use Rattle.swap_rules.specs.Party.{call_by}
+use Rattle.swap_rules.specs.Party.{pick_call}
 use Rattle.swap_rules.specs.declared.finding.Finding.TheVariants.{Broke}
-use Rattle.swap_rules.specs.Conduct.{keeps, keeps_at}
+use Rattle.swap_rules.specs.Conduct.{keeps, keeps_entry}
 use Rattle.swap_rules.specs.Forged.{forges, is_forged}
 use Rattle.swap_rules.specs.Findings.{failing}
 use Rattle.conduct_check.specs.Parts.{IsWithin}
@@ -51,28 +51,29 @@ fits_within d a Claim f = tt
 fits_within d a Refund f = tt
 fits_within d a (Transfer to units) f = tt
 
-within_what : (d : Deal) (a : ℕ) (past : List Entry) (s : Sender) (w : What) (at : ℕ) (r : Reply) → IsLegalEntry d a past s w at r → IsWithin d (call_in w)
+within_what : (d : Deal) (a : ℕ) (past : List Entry) (s : Sender) (w : What) (at : ℕ) (r : Reply) → IsLegalEntry d a past s w at r
+    → IsWithin d (read_raw_call w)
 within_what d a past (Party p) (Made c) at r l = fits_within d a c l.fits
 within_what d a past s (Tick k) at r l = tt
 within_what d a past Clock (Made c) at r l = absurd l
 
-within_sent : (d : Deal) (w : What) (b : Bool) → IsWithin d (call_in w) → IsWithin d (cond b (call_in w) None)
+within_sent : (d : Deal) (w : What) (b : Bool) → IsWithin d (read_raw_call w) → IsWithin d (cond b (read_raw_call w) None)
 within_sent d w true h = h
 within_sent d w false h = tt
 
-within_accepted : (d : Deal) (w : What) (r : Reply) → IsWithin d (call_in w) → IsWithin d (accepted_call w r)
+within_accepted : (d : Deal) (w : What) (r : Reply) → IsWithin d (read_raw_call w) → IsWithin d (accepted_call w r)
 within_accepted d (Made c) Accepted h = h
 within_accepted d (Made c) _ h = tt
 within_accepted d (Tick k) r h = tt
 
 -- the same as a test
 
-is_within : Deal → Option Call → Bool
-is_within d (Some (Unlock key)) = nat_lt key.lock (length d.leaders)
-is_within d _ = true
+set_contains_ends : Deal → Option Call → Bool
+set_contains_ends d (Some (Unlock key)) = nat_lt key.lock (length d.leaders)
+set_contains_ends d _ = true
 
-passes : (d : Deal) (o : Option Call) → IsWithin d o → is_within d o ≡ true
-unfolding is_within
+passes : (d : Deal) (o : Option Call) → IsWithin d o → set_contains_ends d o ≡ true
+unfolding set_contains_ends
 passes d None h = refl
 passes d (Some (Publish t)) h = refl
 passes d (Some (Unlock key)) h = lt-ltb key.lock (length d.leaders) h
@@ -80,8 +81,8 @@ passes d (Some Claim) h = refl
 passes d (Some Refund) h = refl
 passes d (Some (Transfer to units)) h = refl
 
-from_passed : (d : Deal) (o : Option Call) → is_within d o ≡ true → IsWithin d o
-unfolding is_within
+from_passed : (d : Deal) (o : Option Call) → set_contains_ends d o ≡ true → IsWithin d o
+unfolding set_contains_ends
 from_passed d None h = tt
 from_passed d (Some (Publish t)) h = tt
 from_passed d (Some (Unlock key)) h = ltb-true key.lock (length d.leaders) h
@@ -90,37 +91,37 @@ from_passed d (Some Refund) h = tt
 from_passed d (Some (Transfer to units)) h = tt
 
 is_outside : Deal → Entry → Bool
-is_outside d e = not (is_within d (call_in e.what))
+is_outside d e = not (set_contains_ends d (read_raw_call e.what))
 
 no_tick_outside : (d : Deal) (e : Entry) (k : ℕ) → e.what ≡ Tick k → is_outside d e ≡ false
-unfolding is_outside is_within
-no_tick_outside d e k is = ap (λ w. not (is_within d (call_in w))) is
+unfolding is_outside set_contains_ends
+no_tick_outside d e k is = ap (λ w. not (set_contains_ends d (read_raw_call w))) is
 
 none_outside : (d : Deal) (a : ℕ) (past h : List Entry) → AllByRecursion (IsLegalMoment d a) (moments_after past h) → list_any (is_outside d) h ≡ false
 unfolding is_outside
 none_outside d a past [] l = refl
 none_outside d a past (e ∷ h) l =
-    ap (λ b. not b || list_any (is_outside d) h) (passes d (call_in e.what) (within_what d a past e.sender e.what e.height e.reply l.0))
+    ap (λ b. not b || list_any (is_outside d) h) (passes d (read_raw_call e.what) (within_what d a past e.sender e.what e.height e.reply l.0))
     ∙ none_outside d a (past ++ e ∷ []) h l.1
 
-inside : (d : Deal) (e : Entry) → is_outside d e ≡ false → IsWithin d (call_in e.what)
+inside : (d : Deal) (e : Entry) → is_outside d e ≡ false → IsWithin d (read_raw_call e.what)
 unfolding is_outside
-inside d e h = from_passed d (call_in e.what) (not-false (is_within d (call_in e.what)) h)
+inside d e h = from_passed d (read_raw_call e.what) (not-false (set_contains_ends d (read_raw_call e.what)) h)
 
 within_at : (d : Deal) (b : Histories) (a i : ℕ) (ms : List Numbered) (x : Numbered) → IsLegalBook d b → a < length d.graph.arcs
-    → ms ≡ made_in (history b a) → i < length ms → x ≡ get_or ms i x → IsWithin d (call_in x.entry.what)
+    → ms ≡ made_in (history b a) → i < length ms → x ≡ get_or ms i x → IsWithin d (read_raw_call x.entry.what)
 within_at d b a i ms x l arc is lt at =
     let h = history b a in
     let small : i < length (made_in h) = subst (λ (z : List Numbered). i < length z) is lt in
     let same : get_or (made_in h) i x ≡ x = sym (at ∙ ap (λ (z : List Numbered). get_or z i x) is) in
-    subst (λ (z : Numbered). IsWithin d (call_in z.entry.what)) same
+    subst (λ (z : Numbered). IsWithin d (read_raw_call z.entry.what)) same
     (inside d (get_or (made_in h) i x).entry (made_fails (is_outside d) h i x (no_tick_outside d) small
     (none_outside d a [] h (legal_of d b a l arc))))
 
 -- so is each call of the arc's index
 pub call_within : (d : Deal) (b : Histories) (a i v : ℕ) (ms : List Numbered) (x : Numbered) → IsLegalBook d b → a < length d.graph.arcs
-    → ms ≡ made_in (history b a) → i < length ms → x ≡ get_or ms i x → IsWithin d (call_by v x.entry)
-call_within d b a i v ms x l arc is lt at = within_sent d x.entry.what (sent_by v x.entry.sender) (within_at d b a i ms x l arc is lt at)
+    → ms ≡ made_in (history b a) → i < length ms → x ≡ get_or ms i x → IsWithin d (pick_call v x.entry)
+call_within d b a i v ms x l arc is lt at = within_sent d x.entry.what (is_sender v x.entry.sender) (within_at d b a i ms x l arc is lt at)
 
 pub accepted_within : (d : Deal) (b : Histories) (a i : ℕ) (ms : List Numbered) (x : Numbered) → IsLegalBook d b → a < length d.graph.arcs
     → ms ≡ made_in (history b a) → i < length ms → x ≡ get_or ms i x → IsWithin d (accepted x.entry)
@@ -133,22 +134,22 @@ unfolding keeps
 kept d b v a past at o e = ap (keeps d b v a past at) e
 
 none_fails : (d : Deal) (b : Histories) (v a : ℕ) (past h : List Entry) → AllByRecursion (IsLegalMoment d a) (moments_after past h)
-    → touches d v a ≡ false → filter_map (λ m. if keeps_at d b v a m then None else Some (Broke v a (length m.past))) (moments_after past h) ≡ []
+    → touches d v a ≡ false → filter_map (λ m. if keeps_entry d b v a m then None else Some (Broke v a (length m.past))) (moments_after past h) ≡ []
 none_fails d b v a past [] l t = refl
 none_fails d b v a past (e ∷ h) l t =
     ap (λ x. cons_option (cond x None (Some (Broke v a (length past))))
-    (filter_map (λ m. if keeps_at d b v a m then None else Some (Broke v a (length m.past))) (moments_after (past ++ e ∷ []) h)))
-    (kept d b v a past e.height (call_by v e) (unsent d a v past e.sender e.what e.height e.reply l.0 t))
+    (filter_map (λ m. if keeps_entry d b v a m then None else Some (Broke v a (length m.past))) (moments_after (past ++ e ∷ []) h)))
+    (kept d b v a past e.height (pick_call v e) (unsent d a v past e.sender e.what e.height e.reply l.0 t))
     ∙ none_fails d b v a (past ++ e ∷ []) h l.1 t
 
 pub untouched : (d : Deal) (b : Histories) (v a : ℕ) → IsLegalBook d b → a < length d.graph.arcs → touches d v a ≡ false
-    → failing (Broke v a) (keeps_at d b v a) (history b a) ≡ []
+    → failing (Broke v a) (keeps_entry d b v a) (history b a) ≡ []
 untouched d b v a l arc t = none_fails d b v a [] (history b a) (legal_of d b a l arc) t
 
 -- Ticks keep the rules of conduct.
 pub tick_keeps : (d : Deal) (b : Histories) (v a : ℕ) (past : List Entry) (e : Entry) (k : ℕ) → e.what ≡ Tick k
-    → keeps_at d b v a (record { past = past; now = e }) ≡ true
-tick_keeps d b v a past e k is = kept d b v a past e.height (call_by v e) (sent_of_tick v e k is)
+    → keeps_entry d b v a (record { past = past; now = e }) ≡ true
+tick_keeps d b v a past e k is = kept d b v a past e.height (pick_call v e) (sent_of_tick v e k is)
 
 unforged : (m : Mode) (d : Deal) (b : Histories) (v : ℕ) (o : Option Call) → o ≡ None → not (forges m d b v o) ≡ true
 unfolding forges

@@ -4,8 +4,8 @@ use Rattle.std.proofs.Common.{sym, ap, subst, ◌∙◌, eq-eqb, inl, arith, suc
 use Rattle.std.specs.List.{flat_map, list_any}
 use Rattle.swap_base.specs.Lists.{IsIn}
 use Rattle.swap_base.proofs.Lists.{any_at, and_both, first_at, in_from_moment, in_filter, in_range, and_parts}
-use Rattle.swap_digraph.specs.Graph.{arcs, ends, entering, is_path, first_is, last_is, is_among, leaving}
-use Rattle.swap_digraph.specs.Deal.{counterparty, leader_of, hashlock_of}
+use Rattle.swap_digraph.specs.Graph.{arcs, ends, entering, is_path, first_is, last_is, is_listed, leaving}
+use Rattle.swap_digraph.specs.Deal.{counterparty, lock_leader, lock_hashlock}
 use Rattle.swap_digraph.specs.declared.deal.Mode.{Mode}
 use Rattle.swap_digraph.specs.declared.deal.Mode.TheVariants.{Timelocks, Hashkeys}
 use Rattle.swap_digraph.specs.declared.deal.Deal.{Deal}
@@ -15,7 +15,7 @@ use Rattle.hashkey_path.specs.Hashkey.{is_valid}
 use Rattle.hashkey_path.specs.Known.{is_last_signed, are_last_signed}
 use Rattle.hashkey_path.proofs.Validity.{bytes_eq_self}
 use Rattle.hashkey_path.proofs.Known.{valid_is_known}
-use Rattle.hash_signature.specs.Signature.{hash_of}
+use Rattle.hash_signature.specs.Signature.{hashed_value}
 use Rattle.ledger_core.specs.declared.entry.Entry.{Entry}
 use Rattle.ledger_core.specs.History.{Opening, opened, IsLegal, accepted, rows}
 use Rattle.ledger_core.specs.Book.{Histories, history, IsLegalBook}
@@ -23,10 +23,10 @@ use Rattle.ledger_core.proofs.History.{opened_done, of_unlock, clear_at, AreClea
 use Rattle.hash_signature.specs.declared.sig.Sig.{Sig}
 use Rattle.ledger_core.specs.declared.entry.Call.{Call}
 use Rattle.ledger_core.specs.declared.entry.Call.TheVariants.{Unlock}
-use Rattle.swap_rules.specs.Party.{call_by, first_key, key_in}
+use Rattle.swap_rules.specs.Party.{pick_call, first_key, fetch_key}
 use Rattle.swap_rules.specs.Conduct.{is_first_key, extends_with, extends_without, has_seen}
 use Rattle.swap_rules.proofs.Words.{enters, key_parts, same_key-true, leaves}
-use Rattle.conduct_check.specs.Standing.{is_opened_by, valid_on}
+use Rattle.conduct_check.specs.Standing.{key_opens_arc, valid_on}
 use Rattle.conduct_check.proofs.Legal.{legal_of}
 
 -- A hashkey that opened a lock has valid signatures, whatever the terms.
@@ -36,23 +36,23 @@ accepted_signed : (n : ℕ) (d : Deal) (a : ℕ) (past : List Entry) (by : ℕ) 
     → is_last_signed n d key ≡ true
 accepted_signed n d a past by key k =
     let c = of_unlock d a past by key k in
-    let s = hash_of key.secret in
+    let s = hashed_value key.secret in
     let secret : not (is_wrong_secret s key) ≡ true = ap (λ b. not (not b)) (bytes_eq_self s) in
     valid_is_known n d a s key
     (and_both (not (is_wrong_secret s key) && not (is_wrong_path d a d.mode key)) (not (is_wrong_signature d d.mode key))
     (and_both (not (is_wrong_secret s key)) (not (is_wrong_path d a d.mode key)) secret (ap not c.path)) (ap not c.signature))
 
 opened_signed : (n : ℕ) (d : Deal) (a : ℕ) (h : List Entry) (key : Hashkey) (o : Option Opening) → IsLegal d a h → opened h key.lock ≡ o
-    → is_opened_by key o ≡ true → is_last_signed n d key ≡ true
+    → key_opens_arc key o ≡ true → is_last_signed n d key ≡ true
 opened_signed n d a h key None l e k = absurd (cc k)
 opened_signed n d a h key (Some o) l e k =
     let u = opened_done d a h key.lock o l e in
     subst (λ (z : Hashkey). is_last_signed n d z ≡ true) (same_key-true o.key key k) (accepted_signed n d a u.0.past u.0.act.by o.key u.0.clear)
 
 pub known_opened : (n : ℕ) (d : Deal) (b : Histories) (v : ℕ) (key : Hashkey) → IsLegalBook d b
-    → list_any (λ a. is_opened_by key (opened (history b a) key.lock)) (entering d.graph v) ≡ true → is_last_signed n d key ≡ true
+    → list_any (λ a. key_opens_arc key (opened (history b a) key.lock)) (entering d.graph v) ≡ true → is_last_signed n d key ≡ true
 known_opened n d b v key l e =
-    let f = any_at (λ a. is_opened_by key (opened (history b a) key.lock)) (entering d.graph v) e in
+    let f = any_at (λ a. key_opens_arc key (opened (history b a) key.lock)) (entering d.graph v) e in
     let i : IsIn f.now (entering d.graph v) = subst (IsIn f.now) (sym f.stands.1) (in_from_moment f.past f.now f.stands.0) in
     opened_signed n d f.now (history b f.now) key (opened (history b f.now) key.lock) (legal_of d b f.now l (enters d v f.now i).0) refl f.passes
 
@@ -86,7 +86,7 @@ extended d v key inner (u ∷ p) (s ∷ sigs) e h =
 from_call : (d : Deal) (v : ℕ) (key : Hashkey) (o : Option Call) → extends_without v key o ≡ true
     → ((inner : Hashkey) → o ≡ Some (Unlock inner) → (n : ℕ) → is_last_signed n d inner ≡ true) → AllButFirst d key key.path key.sigs
 from_call d v key (Some (Unlock inner)) e h =
-    extended d v key inner key.path key.sigs (and_parts (not (is_among v inner.path)) (extends_with v inner key.path key.sigs key) e).1 (h inner refl)
+    extended d v key inner key.path key.sigs (and_parts (not (is_listed v inner.path)) (extends_with v inner key.path key.sigs key) e).1 (h inner refl)
 from_call d v key _ e h = absurd (cc e)
 
 pub known_seen : (d : Deal) (b : Histories) (v : ℕ) (key : Hashkey) → IsLegalBook d b → has_seen d b v (extends_without v key) ≡ true
@@ -104,21 +104,21 @@ known_seen d b v key l e =
 same_path : (m : Mode) (d : Deal) (a c : ℕ) (key : Hashkey) → counterparty d a ≡ counterparty d c → is_wrong_path d a m key ≡ is_wrong_path d c m key
 same_path Timelocks d a c key e = refl
 same_path Hashkeys d a c key e =
-    ap (λ v. not (is_path d.graph key.path && first_is v key.path && last_is (leader_of d key.lock) key.path && (length key.path == length key.sigs))) e
+    ap (λ v. not (is_path d.graph key.path && first_is v key.path && last_is (lock_leader d key.lock) key.path && (length key.path == length key.sigs))) e
 
 same_valid : (d : Deal) (a c : ℕ) (hashlock : List ℕ) (key : Hashkey) → counterparty d a ≡ counterparty d c
     → is_valid d a hashlock key ≡ is_valid d c hashlock key
 same_valid d a c hashlock key e = ap (λ p. not (is_wrong_secret hashlock key) && not p && not (is_wrong_signature d d.mode key)) (same_path d.mode d a c key e)
 
 pub valid_into : (d : Deal) (v a : ℕ) (key : Hashkey) → a < length d.graph.arcs → counterparty d a ≡ v
-    → valid_on d (entering d.graph v) (Some key) ≡ is_valid d a (hashlock_of d key.lock) key
+    → valid_on d (entering d.graph v) (Some key) ≡ is_valid d a (lock_hashlock d key.lock) key
 valid_into d v a key l e =
     go (entering d.graph v) refl (in_filter (λ a. (ends d.graph a).to == v) a (arcs d.graph) (in_range a (length d.graph.arcs) l)
     (eq-eqb (ends d.graph a).to v e))
   where
-    go : (cs : List ℕ) → entering d.graph v ≡ cs → IsIn a cs → valid_on d cs (Some key) ≡ is_valid d a (hashlock_of d key.lock) key
+    go : (cs : List ℕ) → entering d.graph v ≡ cs → IsIn a cs → valid_on d cs (Some key) ≡ is_valid d a (lock_hashlock d key.lock) key
     go [] q i = absurd i
-    go (c ∷ cs) q i = same_valid d c a (hashlock_of d key.lock) key ((enters d v c (subst (IsIn c) (sym q) (inl refl))).1 ∙ sym e)
+    go (c ∷ cs) q i = same_valid d c a (lock_hashlock d key.lock) key ((enters d v c (subst (IsIn c) (sym q) (inl refl))).1 ∙ sym e)
 
 -- First hashkeys.
 
@@ -128,7 +128,7 @@ first_is_key (Some k) key e = ap (λ (z : Hashkey). Some z) (same_key-true k key
 
 pub first_lock : (b : Histories) (v i : ℕ) (key : Hashkey) → first_key b v i ≡ Some key → key.lock ≡ i
 unfolding first_key
-first_lock b v i key e = let f = first_at (λ x. key_in i (call_by v x)) (flat_map (λ h. h) b) key e in (key_parts i (call_by v f.now) key f.gives).1
+first_lock b v i key e = let f = first_at (λ x. fetch_key i (pick_call v x)) (flat_map (λ h. h) b) key e in (key_parts i (pick_call v f.now) key f.gives).1
 
 -- the first of the arcs that enter v is an arc
 pub first_entering : (d : Deal) (v : ℕ) (cs : List ℕ) → cs ≡ entering d.graph v → 0 < length cs → get_or cs 0 0 < length d.graph.arcs

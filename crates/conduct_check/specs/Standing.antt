@@ -6,28 +6,28 @@ use Rattle.hashkey_path.specs.declared.hashkey.Hashkey.{Hashkey}
 use Rattle.hashkey_path.specs.Hashkey.{same_key, is_valid}
 use Rattle.ledger_core.specs.History.{Opening}
 use Rattle.ledger_core.specs.Book.{Histories}
-use Rattle.swap_digraph.specs.Deal.{hashlock_of}
+use Rattle.swap_digraph.specs.Deal.{lock_hashlock}
 use Rattle.swap_rules.specs.Party.{first_key, is_ready, leads_one}
 use Rattle.swap_rules.specs.Conduct.{has_origin}
 use Rattle.conduct_check.specs.declared.standing.Standing.{Standing}
 
 -- whether the accepted unlock is with the hashkey
-abbrev pub is_opened_by : Hashkey → Option Opening → Bool
-is_opened_by key None = false
-is_opened_by key (Some o) = same_key o.key key
+abbrev pub key_opens_arc : Hashkey → Option Opening → Bool
+key_opens_arc key None = false
+key_opens_arc key (Some o) = same_key o.key key
 
 -- whether the hashkey is well come by
-abbrev pub origin_of : Deal → Histories → ℕ → Option Hashkey → Bool
-origin_of d b v None = false
-origin_of d b v (Some key) = has_origin d.mode d b v key
+abbrev pub has_key_origin : Deal → Histories → ℕ → Option Hashkey → Bool
+has_key_origin d b v None = false
+has_key_origin d b v (Some key) = has_origin d.mode d b v key
 
 -- whether v's first hashkey for lock i is
 abbrev pub first_origin : Deal → Histories → ℕ → ℕ → Bool
-first_origin d b v i = origin_of d b v (first_key b v i)
+first_origin d b v i = has_key_origin d b v (first_key b v i)
 
 -- whether the hashkey is valid on the first of the arcs
 abbrev pub valid_on : Deal → List ℕ → Option Hashkey → Bool
-valid_on d (a ∷ rest) (Some key) = is_valid d a (hashlock_of d key.lock) key
+valid_on d (a ∷ rest) (Some key) = is_valid d a (lock_hashlock d key.lock) key
 valid_on d _ _ = false
 
 -- whether v's first hashkey for lock i is valid on the arcs that enter v; the answer is the same

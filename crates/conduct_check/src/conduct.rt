@@ -3,21 +3,21 @@
 ghost use Rattle.std.specs.Prelude.{◌≡◌, ◌==◌, ◌<◌, ℕ, Some, true, length, count_by, option_copied};
 ghost use Rattle.swap_digraph.specs.Deal.{IsWellSized};
 ghost use Rattle.ledger_core.specs.Book.{history};
-ghost use Rattle.swap_rules.specs.Party.{call_by};
+ghost use Rattle.swap_rules.specs.Party.{pick_call};
 ghost use Rattle.swap_rules.specs.Conduct.{is_publish, keeps};
-ghost use Rattle.history_index.specs.Indexes.{entries_in, AreIndexes};
-ghost use Rattle.sent_keys.specs.Sent.{shown, unlocks_of};
+ghost use Rattle.history_index.specs.Indexes.{all_entries, AreIndexes};
+ghost use Rattle.sent_keys.specs.Sent.{shown, party_unlocks};
 ghost use Rattle.conduct_check.specs.Standing.{IsStanding};
-ghost use Rattle.conduct_check.specs.Parts.{is_first, is_good_key, is_valid_at, keeps_call, keeps_made, IsWithin};
+ghost use Rattle.conduct_check.specs.Parts.{is_first, is_good_key, is_arc_key_valid, keeps_call, keeps_made, IsWithin};
 
-use crate::past::{had_expired, made_on, was_published, was_triggered};
+use crate::past::{had_expired, made_calls, was_published, was_triggered};
 use crate::standing::Standing;
 use crate::validity::is_valid;
-use escrow_core::{Terms, terms_of};
+use escrow_core::{Terms, stated_terms};
 use hashkey_path::Hashkey;
 use history_index::{Index, Made};
 use ledger_core::Call;
-use sent_keys::{call_by, first_key, is_first_key};
+use sent_keys::{first_key, is_first_key, pick_call};
 use swap_base::{ArcId, PartyId};
 use swap_digraph::Deal;
 
@@ -32,19 +32,19 @@ fn is_publish(call: Option<&Call>) -> bool
 
 /// How many publishes of the party are among the calls.
 fn count_publishes(calls: &[Made], party: PartyId) -> usize
-    ensures { result ≡ count_by (λ m. is_publish (call_by party m.entry)) calls.now }
+    ensures { result ≡ count_by (λ m. is_publish (pick_call party m.entry)) calls.now }
 {
     calls
         .iter()
-        .filter(|made| is_publish(call_by(party, &made.entry)))
+        .filter(|made| is_publish(pick_call(party, &made.entry)))
         .count()
 }
 
 /// Whether the party has exactly one publish on the arc.
 fn publishes_once(known: &[Index], party: PartyId, arc: ArcId) -> bool
-    ensures { result ≡ (count_by (λ e. is_publish (call_by party e)) (history (entries_in known.now) arc) == 1) }
+    ensures { result ≡ (count_by (λ e. is_publish (pick_call party e)) (history (all_entries known.now) arc) == 1) }
 {
-    count_publishes(made_on(known, arc), party) == 1
+    count_publishes(made_calls(known, arc), party) == 1
 }
 
 /// Whether a publish has the correct terms and is the party's only one on the arc, and the party leads or is ready.
@@ -58,17 +58,17 @@ fn keeps_publish(
     terms: &Terms,
 ) -> bool
     requires sized { IsWellSized deal.now }
-    requires standing { IsStanding deal.now (entries_in known.now) party standing.now }
+    requires standing { IsStanding deal.now (all_entries known.now) party standing.now }
     requires arc { arc < length deal.now.graph.arcs }
-    ensures { (past : _) (at : ℕ) → result ≡ keeps deal.now (entries_in known.now) party arc past at (Some (Call.Publish terms.now)) }
+    ensures { (past : _) (at : ℕ) → result ≡ keeps deal.now (all_entries known.now) party arc past at (Some (Call.Publish terms.now)) }
 {
-    terms.same(&terms_of(deal, arc))
+    terms.same(&stated_terms(deal, arc))
         && publishes_once(known, party, arc)
         && (standing.leads || standing.ready)
 }
 
 /// Whether the hashkey is valid on the arc, where it is the party's first one for its lock. On an arc that doesn't enter the party it verifies signatures anew.
-fn is_valid_on(
+fn is_valid_arc_key(
     deal: &Deal,
     known: &[Index],
     party: PartyId,
@@ -77,10 +77,10 @@ fn is_valid_on(
     key: &Hashkey,
 ) -> bool
     requires sized { IsWellSized deal.now }
-    requires standing { IsStanding deal.now (entries_in known.now) party standing.now }
+    requires standing { IsStanding deal.now (all_entries known.now) party standing.now }
     requires arc { arc < length deal.now.graph.arcs }
     requires lock { key.now.lock < length deal.now.leaders }
-    ensures { is_first (entries_in known.now) party key.now ≡ true → result ≡ is_valid_at deal.now arc key.now }
+    ensures { is_first (all_entries known.now) party key.now ≡ true → result ≡ is_arc_key_valid deal.now arc key.now }
 {
     if deal.graph.arcs()[arc as usize].to == party {
         standing.valid[key.lock as usize]
@@ -102,12 +102,12 @@ fn keeps_first(
     key: &Hashkey,
 ) -> bool
     requires sized { IsWellSized deal.now }
-    requires standing { IsStanding deal.now (entries_in known.now) party standing.now }
+    requires standing { IsStanding deal.now (all_entries known.now) party standing.now }
     requires arc { arc < length deal.now.graph.arcs }
     requires lock { key.now.lock < length deal.now.leaders }
-    ensures { is_first (entries_in known.now) party key.now ≡ true → result ≡ is_good_key deal.now (entries_in known.now) party arc key.now }
+    ensures { is_first (all_entries known.now) party key.now ≡ true → result ≡ is_good_key deal.now (all_entries known.now) party arc key.now }
 {
-    standing.origins[key.lock as usize] && is_valid_on(deal, known, party, standing, arc, key)
+    standing.origins[key.lock as usize] && is_valid_arc_key(deal, known, party, standing, arc, key)
 }
 
 /// Whether an unlock stands after its arc's accepted publish, the party is ready, and the hashkey is its first one for the lock, valid and well come by.
@@ -123,11 +123,11 @@ fn keeps_unlock(
     key: &Hashkey,
 ) -> bool
     requires sized { IsWellSized deal.now }
-    requires keys { shown keys.now ≡ unlocks_of (entries_in known.now) party }
-    requires standing { IsStanding deal.now (entries_in known.now) party standing.now }
+    requires keys { shown keys.now ≡ party_unlocks (all_entries known.now) party }
+    requires standing { IsStanding deal.now (all_entries known.now) party standing.now }
     requires arc { arc < length deal.now.graph.arcs }
     requires lock { key.now.lock < length deal.now.leaders }
-    ensures { (at : ℕ) → result ≡ keeps_call deal.now (entries_in known.now) party arc number at (Call.Unlock key.now) }
+    ensures { (at : ℕ) → result ≡ keeps_call deal.now (all_entries known.now) party arc number at (Call.Unlock key.now) }
 {
     was_published(known, arc, number)
         && standing.ready
@@ -137,7 +137,7 @@ fn keeps_unlock(
 
 /// Whether the call on the arc, where it is the party's, keeps the rules of conduct.
 #[tactic(auto, unfolding(swap_rules::specs::Conduct::keeps))]
-pub(crate) fn keeps_at(
+pub(crate) fn keeps_entry(
     deal: &Deal,
     known: &[Index],
     party: PartyId,
@@ -148,13 +148,13 @@ pub(crate) fn keeps_at(
 ) -> bool
     requires sized { IsWellSized deal.now }
     requires known { AreIndexes deal.now known.now }
-    requires keys { shown keys.now ≡ unlocks_of (entries_in known.now) party }
-    requires standing { IsStanding deal.now (entries_in known.now) party standing.now }
+    requires keys { shown keys.now ≡ party_unlocks (all_entries known.now) party }
+    requires standing { IsStanding deal.now (all_entries known.now) party standing.now }
     requires arc { arc < length deal.now.graph.arcs }
-    requires within { IsWithin deal.now (call_by party made.now.entry) }
-    ensures { result ≡ keeps_made deal.now (entries_in known.now) party arc made.now }
+    requires within { IsWithin deal.now (pick_call party made.now.entry) }
+    ensures { result ≡ keeps_made deal.now (all_entries known.now) party arc made.now }
 {
-    let Some(call) = call_by(party, &made.entry) else {
+    let Some(call) = pick_call(party, &made.entry) else {
         return true;
     };
     match call {

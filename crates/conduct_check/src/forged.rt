@@ -4,12 +4,12 @@ ghost use Rattle.std.specs.Prelude.{◌≡◌, ◌<◌, length};
 ghost use Rattle.swap_digraph.specs.Deal.{IsWellSized};
 ghost use Rattle.ledger_core.specs.History.{accepted};
 ghost use Rattle.swap_rules.specs.Forged.{has_forged_suffix, is_forged};
-ghost use Rattle.history_index.specs.Indexes.{entries_in};
-ghost use Rattle.sent_keys.specs.Sent.{shown, unlocks_of};
+ghost use Rattle.history_index.specs.Indexes.{all_entries};
+ghost use Rattle.sent_keys.specs.Sent.{shown, party_unlocks};
 ghost use Rattle.conduct_check.specs.Parts.{has_made_parts, has_sent, is_forged_secret, IsWithin};
 
 use due_calls::leads;
-use hash_signature::{Sig, hash_of};
+use hash_signature::{Sig, hashed_value};
 use hashkey_path::Hashkey;
 use history_index::Index;
 use ledger_core::{Call, Entry};
@@ -27,8 +27,8 @@ fn has_made(
     path: &[PartyId],
     sigs: &[Sig],
 ) -> bool
-    requires keys { shown keys.now ≡ unlocks_of (entries_in known.now) party }
-    ensures { result ≡ has_made_parts (entries_in known.now) party lock secret.now path.now sigs.now }
+    requires keys { shown keys.now ≡ party_unlocks (all_entries known.now) party }
+    ensures { result ≡ has_made_parts (all_entries known.now) party lock secret.now path.now sigs.now }
 {
     keys.iter()
         .any(|sent| has_parts(*sent, lock, secret, path, sigs))
@@ -36,8 +36,8 @@ fn has_made(
 
 /// Whether an unlock call of the party carries the secret.
 fn has_sent(known: &[Index], party: PartyId, keys: &[&Hashkey], secret: &Digest) -> bool
-    requires keys { shown keys.now ≡ unlocks_of (entries_in known.now) party }
-    ensures { result ≡ has_sent (entries_in known.now) party secret.now }
+    requires keys { shown keys.now ≡ party_unlocks (all_entries known.now) party }
+    ensures { result ≡ has_sent (all_entries known.now) party secret.now }
 {
     keys.iter().any(|sent| sent.secret == *secret)
 }
@@ -52,8 +52,8 @@ fn has_forged_suffix(
     path: &[PartyId],
     sigs: &[Sig],
 ) -> bool
-    requires keys { shown keys.now ≡ unlocks_of (entries_in known.now) party }
-    ensures { result ≡ has_forged_suffix (entries_in known.now) party key.now path.now sigs.now }
+    requires keys { shown keys.now ≡ party_unlocks (all_entries known.now) party }
+    ensures { result ≡ has_forged_suffix (all_entries known.now) party key.now path.now sigs.now }
 {
     match path {
         [first, rest @ ..] => match sigs {
@@ -79,13 +79,13 @@ fn is_forged_secret(
 ) -> bool
     requires sized { IsWellSized deal.now }
     requires party { party < deal.now.graph.n }
-    requires keys { shown keys.now ≡ unlocks_of (entries_in known.now) party }
+    requires keys { shown keys.now ≡ party_unlocks (all_entries known.now) party }
     requires lock { key.now.lock < length deal.now.leaders }
-    ensures { result ≡ is_forged_secret deal.now (entries_in known.now) party key.now }
+    ensures { result ≡ is_forged_secret deal.now (all_entries known.now) party key.now }
 {
     leads(deal, party, key.lock)
         && !has_sent(known, party, keys, &key.secret)
-        && hash_of(&key.secret) == deal.hashlocks.as_slice()[key.lock as usize]
+        && hashed_value(&key.secret) == deal.hashlocks.as_slice()[key.lock as usize]
 }
 
 /// Whether the entry is forged in the party's name.
@@ -99,9 +99,9 @@ pub(crate) fn is_forged(
 ) -> bool
     requires sized { IsWellSized deal.now }
     requires party { party < deal.now.graph.n }
-    requires keys { shown keys.now ≡ unlocks_of (entries_in known.now) party }
+    requires keys { shown keys.now ≡ party_unlocks (all_entries known.now) party }
     requires within { IsWithin deal.now (accepted entry.now) }
-    ensures { result ≡ is_forged deal.now (entries_in known.now) party entry.now }
+    ensures { result ≡ is_forged deal.now (all_entries known.now) party entry.now }
 {
     match accepted(entry) {
         Some(Call::Unlock(key)) => match deal.mode {

@@ -4,15 +4,15 @@ ghost use Rattle.std.specs.Prelude.{◌≡◌, ◌<◌, ◌++◌, ◌∷◌, [],
 ghost use Rattle.swap_digraph.specs.Deal.{IsWellSized};
 ghost use Rattle.ledger_core.specs.Book.{IsLegalBook};
 ghost use Rattle.swap_rules.specs.Findings.{broken, forgeries};
-ghost use Rattle.history_index.specs.Indexes.{entries_in, AreIndexes};
-ghost use Rattle.sent_keys.specs.Sent.{shown, unlocks_of};
+ghost use Rattle.history_index.specs.Indexes.{all_entries, AreIndexes};
+ghost use Rattle.sent_keys.specs.Sent.{shown, party_unlocks};
 ghost use Rattle.conduct_check.specs.Standing.{IsStanding};
-ghost use Rattle.conduct_check.specs.Parts.{broken_on, forged_on};
+ghost use Rattle.conduct_check.specs.Parts.{arc_broken_findings, arc_forged_findings};
 
-use crate::conduct::keeps_at;
+use crate::conduct::keeps_entry;
 use crate::forged::is_forged;
-use crate::past::made_on;
-use crate::standing::{Standing, standing_of};
+use crate::past::made_calls;
+use crate::standing::{Standing, party_standing};
 use hashkey_path::Hashkey;
 use history_index::Index;
 use ledger_core::is_adjacent;
@@ -31,7 +31,7 @@ fn put_if(out: &mut Vec<Finding>, test: bool, finding: Finding) -> Result<(), No
 }
 
 /// Adds the entries of the arc by which the party broke a rule of conduct. There is none where the arc isn't the party's.
-fn put_broken_on(
+fn put_broken_arc(
     out: &mut Vec<Finding>,
     deal: &Deal,
     known: &[Index],
@@ -42,18 +42,18 @@ fn put_broken_on(
 ) -> Result<(), NoMemory>
     requires sized { IsWellSized deal.now }
     requires known { AreIndexes deal.now known.now }
-    requires legal { IsLegalBook deal.now (entries_in known.now) }
-    requires keys { shown keys.now ≡ unlocks_of (entries_in known.now) party }
-    requires standing { IsStanding deal.now (entries_in known.now) party standing.now }
+    requires legal { IsLegalBook deal.now (all_entries known.now) }
+    requires keys { shown keys.now ≡ party_unlocks (all_entries known.now) party }
+    requires standing { IsStanding deal.now (all_entries known.now) party standing.now }
     requires arc { arc < length deal.now.graph.arcs }
-    ensures { OnOk result (out.new.items ≡ out.old.items ++ broken_on deal.now (entries_in known.now) party arc) }
+    ensures { OnOk result (out.new.items ≡ out.old.items ++ arc_broken_findings deal.now (all_entries known.now) party arc) }
 {
     if !is_adjacent(deal, arc, party) {
         return Ok(());
     }
-    let calls = made_on(known, arc);
+    let calls = made_calls(known, arc);
     for made in calls {
-        let kept = keeps_at(deal, known, party, keys, standing, arc, made);
+        let kept = keeps_entry(deal, known, party, keys, standing, arc, made);
         put_if(out, !kept, Finding::Broke(party, arc, made.number))?;
     }
     Ok(())
@@ -70,14 +70,14 @@ fn put_broken_arcs(
 ) -> Result<(), NoMemory>
     requires sized { IsWellSized deal.now }
     requires known { AreIndexes deal.now known.now }
-    requires legal { IsLegalBook deal.now (entries_in known.now) }
+    requires legal { IsLegalBook deal.now (all_entries known.now) }
     requires party { party < deal.now.graph.n }
-    requires keys { shown keys.now ≡ unlocks_of (entries_in known.now) party }
-    ensures { OnOk result (out.new.items ≡ out.old.items ++ broken deal.now (entries_in known.now) party) }
+    requires keys { shown keys.now ≡ party_unlocks (all_entries known.now) party }
+    ensures { OnOk result (out.new.items ≡ out.old.items ++ broken deal.now (all_entries known.now) party) }
 {
-    let standing = standing_of(deal, known, party, keys);
+    let standing = party_standing(deal, known, party, keys);
     for arc in 0..deal.graph.arcs().len() as u8 {
-        put_broken_on(out, deal, known, party, keys, &standing, arc)?;
+        put_broken_arc(out, deal, known, party, keys, &standing, arc)?;
     }
     Ok(())
 }
@@ -93,10 +93,10 @@ pub fn put_broken(
 ) -> Result<(), NoMemory>
     requires sized { IsWellSized deal.now }
     requires known { AreIndexes deal.now known.now }
-    requires legal { IsLegalBook deal.now (entries_in known.now) }
+    requires legal { IsLegalBook deal.now (all_entries known.now) }
     requires party { party < deal.now.graph.n }
-    requires keys { shown keys.now ≡ unlocks_of (entries_in known.now) party }
-    ensures ok { OnOk result (out.new.items ≡ out.old.items ++ broken deal.now (entries_in known.now) party) }
+    requires keys { shown keys.now ≡ party_unlocks (all_entries known.now) party }
+    ensures ok { OnOk result (out.new.items ≡ out.old.items ++ broken deal.now (all_entries known.now) party) }
     ensures err { OnErr result (out.new.items ≡ out.old.items) }
 {
     let mut found = Vec::new(*out.allocator());
@@ -106,7 +106,7 @@ pub fn put_broken(
 }
 
 /// Adds the entries of the arc that are forged in the party's name.
-fn put_forged_on(
+fn put_forged_arc(
     out: &mut Vec<Finding>,
     deal: &Deal,
     known: &[Index],
@@ -115,13 +115,13 @@ fn put_forged_on(
     arc: ArcId,
 ) -> Result<(), NoMemory>
     requires sized { IsWellSized deal.now }
-    requires legal { IsLegalBook deal.now (entries_in known.now) }
+    requires legal { IsLegalBook deal.now (all_entries known.now) }
     requires party { party < deal.now.graph.n }
-    requires keys { shown keys.now ≡ unlocks_of (entries_in known.now) party }
+    requires keys { shown keys.now ≡ party_unlocks (all_entries known.now) party }
     requires arc { arc < length deal.now.graph.arcs }
-    ensures { OnOk result (out.new.items ≡ out.old.items ++ forged_on deal.now (entries_in known.now) party arc) }
+    ensures { OnOk result (out.new.items ≡ out.old.items ++ arc_forged_findings deal.now (all_entries known.now) party arc) }
 {
-    let calls = made_on(known, arc);
+    let calls = made_calls(known, arc);
     for made in calls {
         let forged = is_forged(deal, known, party, keys, &made.entry);
         put_if(out, forged, Finding::Forged(party, arc, made.number))?;
@@ -141,13 +141,13 @@ fn put_forged_arcs(
 ) -> Result<(), NoMemory>
     requires sized { IsWellSized deal.now }
     requires known { AreIndexes deal.now known.now }
-    requires legal { IsLegalBook deal.now (entries_in known.now) }
+    requires legal { IsLegalBook deal.now (all_entries known.now) }
     requires party { party < deal.now.graph.n }
-    requires keys { shown keys.now ≡ unlocks_of (entries_in known.now) party }
-    ensures { OnOk result (out.new.items ≡ out.old.items ++ forgeries deal.now (entries_in known.now) party) }
+    requires keys { shown keys.now ≡ party_unlocks (all_entries known.now) party }
+    ensures { OnOk result (out.new.items ≡ out.old.items ++ forgeries deal.now (all_entries known.now) party) }
 {
     for arc in 0..deal.graph.arcs().len() as u8 {
-        put_forged_on(out, deal, known, party, keys, arc)?;
+        put_forged_arc(out, deal, known, party, keys, arc)?;
     }
     Ok(())
 }
@@ -163,10 +163,10 @@ pub fn put_forgeries(
 ) -> Result<(), NoMemory>
     requires sized { IsWellSized deal.now }
     requires known { AreIndexes deal.now known.now }
-    requires legal { IsLegalBook deal.now (entries_in known.now) }
+    requires legal { IsLegalBook deal.now (all_entries known.now) }
     requires party { party < deal.now.graph.n }
-    requires keys { shown keys.now ≡ unlocks_of (entries_in known.now) party }
-    ensures ok { OnOk result (out.new.items ≡ out.old.items ++ forgeries deal.now (entries_in known.now) party) }
+    requires keys { shown keys.now ≡ party_unlocks (all_entries known.now) party }
+    ensures ok { OnOk result (out.new.items ≡ out.old.items ++ forgeries deal.now (all_entries known.now) party) }
     ensures err { OnErr result (out.new.items ≡ out.old.items) }
 {
     let mut found = Vec::new(*out.allocator());

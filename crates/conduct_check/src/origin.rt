@@ -5,9 +5,9 @@ ghost use Rattle.std.specs.List.{list_any};
 ghost use Rattle.ledger_core.specs.Book.{history};
 ghost use Rattle.ledger_core.specs.History.{accepted};
 ghost use Rattle.swap_rules.specs.Conduct.{carries, extends_without, has_origin, has_seen, is_alone};
-ghost use Rattle.history_index.specs.Indexes.{entries_in};
+ghost use Rattle.history_index.specs.Indexes.{all_entries};
 
-use crate::past::made_on;
+use crate::past::made_calls;
 use due_calls::leads;
 use hashkey_path::Hashkey;
 use history_index::{Index, Made};
@@ -55,44 +55,46 @@ fn has_inner(calls: &[Made], party: PartyId, key: &Hashkey) -> bool
 }
 
 /// Whether an unlock with that secret was accepted on the arc.
-fn has_secret_on(known: &[Index], arc: ArcId, secret: &Digest) -> bool
-    ensures { result ≡ list_any (λ e. carries secret.now (accepted e)) (history (entries_in known.now) arc) }
+fn arc_has_secret(known: &[Index], arc: ArcId, secret: &Digest) -> bool
+    ensures { result ≡ list_any (λ e. carries secret.now (accepted e)) (history (all_entries known.now) arc) }
 {
-    has_secret(made_on(known, arc), secret)
+    has_secret(made_calls(known, arc), secret)
 }
 
 /// Whether an unlock with an inner hashkey was accepted on the arc: this hashkey extends the inner
 /// one by the party, and the inner path lacks the party.
-fn has_inner_on(known: &[Index], arc: ArcId, party: PartyId, key: &Hashkey) -> bool
-    ensures { result ≡ list_any (λ e. extends_without party key.now (accepted e)) (history (entries_in known.now) arc) }
+fn arc_has_inner(known: &[Index], arc: ArcId, party: PartyId, key: &Hashkey) -> bool
+    ensures { result ≡ list_any (λ e. extends_without party key.now (accepted e)) (history (all_entries known.now) arc) }
 {
-    has_inner(made_on(known, arc), party, key)
+    has_inner(made_calls(known, arc), party, key)
 }
 
 fn has_seen_secret(deal: &Deal, known: &[Index], party: PartyId, secret: &Digest) -> bool
     requires { party < deal.now.graph.n }
-    ensures { result ≡ has_seen deal.now (entries_in known.now) party (carries secret.now) }
+    ensures { result ≡ has_seen deal.now (all_entries known.now) party (carries secret.now) }
 {
     let leaving = deal.graph.leaving(party);
-    leaving.iter().any(|arc| has_secret_on(known, *arc, secret))
+    leaving
+        .iter()
+        .any(|arc| arc_has_secret(known, *arc, secret))
 }
 
 /// Whether an inner hashkey was accepted on an arc that leaves the party: this hashkey extends the
 /// inner one by the party, and the inner path lacks the party.
 pub(crate) fn has_seen_inner(deal: &Deal, known: &[Index], party: PartyId, key: &Hashkey) -> bool
     requires { party < deal.now.graph.n }
-    ensures { result ≡ has_seen deal.now (entries_in known.now) party (extends_without party key.now) }
+    ensures { result ≡ has_seen deal.now (all_entries known.now) party (extends_without party key.now) }
 {
     let leaving = deal.graph.leaving(party);
     leaving
         .iter()
-        .any(|arc| has_inner_on(known, *arc, party, key))
+        .any(|arc| arc_has_inner(known, *arc, party, key))
 }
 
 /// Whether the hashkey is the party's own where it leads the lock, and else comes from an arc that leaves it.
 pub(crate) fn has_origin(deal: &Deal, known: &[Index], party: PartyId, key: &Hashkey) -> bool
     requires { party < deal.now.graph.n }
-    ensures { result ≡ has_origin deal.now.mode deal.now (entries_in known.now) party key.now }
+    ensures { result ≡ has_origin deal.now.mode deal.now (all_entries known.now) party key.now }
 {
     let own = leads(deal, party, key.lock);
     match deal.mode {

@@ -5,9 +5,9 @@ ghost use Rattle.swap_digraph.specs.Deal.{IsWellSized};
 ghost use Rattle.ledger_core.specs.Book.{history};
 ghost use Rattle.ledger_core.specs.History.{is_open, published, triggered};
 ghost use Rattle.swap_rules.specs.Party.{expiry, has_expired};
-ghost use Rattle.history_index.specs.Indexes.{entries_in, AreIndexes};
+ghost use Rattle.history_index.specs.Indexes.{all_entries, AreIndexes};
 ghost use Rattle.history_index.specs.Made.{made_in};
-ghost use Rattle.history_index.specs.Numbers.{is_before, published_number};
+ghost use Rattle.history_index.specs.Numbers.{comes_earlier, published_number};
 ghost use Rattle.ledger_core.specs.Facts.{opened_number};
 
 use due_calls::expiry;
@@ -17,8 +17,8 @@ use swap_base::{ArcId, LockId};
 use swap_digraph::Deal;
 
 /// The calls on the arc, with their numbers.
-pub(crate) fn made_on<'a>(known: &'a [Index], arc: ArcId) -> &'a [Made]
-    ensures { result.now ≡ made_in (history (entries_in known.now) arc) }
+pub(crate) fn made_calls<'a>(known: &'a [Index], arc: ArcId) -> &'a [Made]
+    ensures { result.now ≡ made_in (history (all_entries known.now) arc) }
 {
     match known.get(arc as usize) {
         Some(index) => index.made(),
@@ -26,8 +26,8 @@ pub(crate) fn made_on<'a>(known: &'a [Index], arc: ArcId) -> &'a [Made]
     }
 }
 
-fn is_before(at: Option<u32>, number: u32) -> bool
-    ensures { result ≡ is_before at number }
+fn comes_earlier(at: Option<u32>, number: u32) -> bool
+    ensures { result ≡ comes_earlier at number }
 {
     match at {
         None => false,
@@ -37,7 +37,7 @@ fn is_before(at: Option<u32>, number: u32) -> bool
 
 /// The number of the accepted publish on the arc.
 fn published_number(known: &[Index], arc: ArcId) -> Option<u32>
-    ensures { result ≡ published_number (history (entries_in known.now) arc) }
+    ensures { result ≡ published_number (history (all_entries known.now) arc) }
 {
     match known.get(arc as usize) {
         Some(index) => index.published_number(),
@@ -50,7 +50,7 @@ fn opened_number(deal: &Deal, known: &[Index], arc: ArcId, lock: LockId) -> Opti
     requires sized { IsWellSized deal.now }
     requires known { AreIndexes deal.now known.now }
     requires lock { lock < length deal.now.leaders }
-    ensures { result ≡ opened_number (history (entries_in known.now) arc) lock }
+    ensures { result ≡ opened_number (history (all_entries known.now) arc) lock }
 {
     match known.get(arc as usize) {
         Some(index) => index.unlocked(lock),
@@ -61,9 +61,9 @@ fn opened_number(deal: &Deal, known: &[Index], arc: ArcId, lock: LockId) -> Opti
 /// Whether a publish was accepted on the arc before.
 #[tactic(auto, using(history_index::proofs::Calls::published_before))]
 pub(crate) fn was_published(known: &[Index], arc: ArcId, number: u32) -> bool
-    ensures { result ≡ is_some (published (take number (history (entries_in known.now) arc))) }
+    ensures { result ≡ is_some (published (take number (history (all_entries known.now) arc))) }
 {
-    is_before(published_number(known, arc), number)
+    comes_earlier(published_number(known, arc), number)
 }
 
 /// Whether the lock was opened on the arc before.
@@ -72,16 +72,16 @@ fn was_open(deal: &Deal, known: &[Index], arc: ArcId, number: u32, lock: LockId)
     requires sized { IsWellSized deal.now }
     requires known { AreIndexes deal.now known.now }
     requires lock { lock < length deal.now.leaders }
-    ensures { result ≡ is_open (take number (history (entries_in known.now) arc)) lock }
+    ensures { result ≡ is_open (take number (history (all_entries known.now) arc)) lock }
 {
-    is_before(opened_number(deal, known, arc, lock), number)
+    comes_earlier(opened_number(deal, known, arc, lock), number)
 }
 
 /// Whether every lock was opened on the arc before.
 pub(crate) fn was_triggered(deal: &Deal, known: &[Index], arc: ArcId, number: u32) -> bool
     requires sized { IsWellSized deal.now }
     requires known { AreIndexes deal.now known.now }
-    ensures { result ≡ triggered deal.now (take number (history (entries_in known.now) arc)) }
+    ensures { result ≡ triggered deal.now (take number (history (all_entries known.now) arc)) }
 {
     (0..deal.leaders.len() as u8).all(|lock| was_open(deal, known, arc, number, lock))
 }
@@ -92,7 +92,7 @@ fn was_expired(deal: &Deal, known: &[Index], arc: ArcId, number: u32, at: u32, l
     requires known { AreIndexes deal.now known.now }
     requires arc { arc < length deal.now.graph.arcs }
     requires lock { lock < length deal.now.leaders }
-    ensures { result ≡ (not (is_open (take number (history (entries_in known.now) arc)) lock) && nat_lt (expiry deal.now arc lock) at) }
+    ensures { result ≡ (not (is_open (take number (history (all_entries known.now) arc)) lock) && nat_lt (expiry deal.now arc lock) at) }
 {
     !was_open(deal, known, arc, number, lock) && expiry(deal, arc, lock) < at as u64
 }
@@ -102,7 +102,7 @@ pub(crate) fn had_expired(deal: &Deal, known: &[Index], arc: ArcId, number: u32,
     requires sized { IsWellSized deal.now }
     requires known { AreIndexes deal.now known.now }
     requires arc { arc < length deal.now.graph.arcs }
-    ensures { result ≡ has_expired deal.now arc (take number (history (entries_in known.now) arc)) at }
+    ensures { result ≡ has_expired deal.now arc (take number (history (all_entries known.now) arc)) at }
 {
     (0..deal.leaders.len() as u8).any(|lock| was_expired(deal, known, arc, number, at, lock))
 }

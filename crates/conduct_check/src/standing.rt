@@ -3,12 +3,12 @@
 ghost use Rattle.std.specs.Prelude.{◌≡◌, ◌<◌, ℕ, length, slice_index_or, false};
 ghost use Rattle.swap_digraph.specs.Deal.{IsWellSized};
 ghost use Rattle.ledger_core.specs.Book.{IsLegalBook};
-ghost use Rattle.history_index.specs.Indexes.{entries_in, AreIndexes};
-ghost use Rattle.sent_keys.specs.Sent.{shown, unlocks_of};
+ghost use Rattle.history_index.specs.Indexes.{all_entries, AreIndexes};
+ghost use Rattle.sent_keys.specs.Sent.{shown, party_unlocks};
 ghost use Rattle.conduct_check.specs.Standing.{first_origin, first_valid, IsStanding};
 
 use crate::origin::has_origin;
-use crate::validity::is_valid_into;
+use crate::validity::is_valid_entering;
 use due_calls::{is_ready, leads_one};
 use hashkey_path::Hashkey;
 use history_index::Index;
@@ -35,8 +35,8 @@ fn has_first_origin(
     lock: LockId,
 ) -> bool
     requires party { party < deal.now.graph.n }
-    requires keys { shown keys.now ≡ unlocks_of (entries_in known.now) party }
-    ensures { result ≡ first_origin deal.now (entries_in known.now) party lock }
+    requires keys { shown keys.now ≡ party_unlocks (all_entries known.now) party }
+    ensures { result ≡ first_origin deal.now (all_entries known.now) party lock }
 {
     match first_key(known, party, keys, lock) {
         Some(key) => has_origin(deal, known, party, key),
@@ -54,24 +54,24 @@ fn is_first_valid(
 ) -> bool
     requires sized { IsWellSized deal.now }
     requires known { AreIndexes deal.now known.now }
-    requires legal { IsLegalBook deal.now (entries_in known.now) }
+    requires legal { IsLegalBook deal.now (all_entries known.now) }
     requires party { party < deal.now.graph.n }
-    requires keys { shown keys.now ≡ unlocks_of (entries_in known.now) party }
+    requires keys { shown keys.now ≡ party_unlocks (all_entries known.now) party }
     requires lock { lock < length deal.now.leaders }
-    ensures { result ≡ first_valid deal.now (entries_in known.now) party lock }
+    ensures { result ≡ first_valid deal.now (all_entries known.now) party lock }
 {
     match first_key(known, party, keys, lock) {
-        Some(key) => is_valid_into(deal, known, party, key),
+        Some(key) => is_valid_entering(deal, known, party, key),
         None => false,
     }
 }
 
-fn origins_of(deal: &Deal, known: &[Index], party: PartyId, keys: &[&Hashkey]) -> [bool; 8]
+fn key_origins(deal: &Deal, known: &[Index], party: PartyId, keys: &[&Hashkey]) -> [bool; 8]
     requires sized { IsWellSized deal.now }
     requires party { party < deal.now.graph.n }
-    requires keys { shown keys.now ≡ unlocks_of (entries_in known.now) party }
+    requires keys { shown keys.now ≡ party_unlocks (all_entries known.now) party }
     ensures places { length result ≡ 8 }
-    ensures each { (i : ℕ) → i < length deal.now.leaders → slice_index_or result i false ≡ first_origin deal.now (entries_in known.now) party i }
+    ensures each { (i : ℕ) → i < length deal.now.leaders → slice_index_or result i false ≡ first_origin deal.now (all_entries known.now) party i }
 {
     let mut origins = [false; 8];
     for lock in 0..deal.leaders.len() as u8 {
@@ -80,14 +80,14 @@ fn origins_of(deal: &Deal, known: &[Index], party: PartyId, keys: &[&Hashkey]) -
     origins
 }
 
-fn valid_of(deal: &Deal, known: &[Index], party: PartyId, keys: &[&Hashkey]) -> [bool; 8]
+fn validity_flags(deal: &Deal, known: &[Index], party: PartyId, keys: &[&Hashkey]) -> [bool; 8]
     requires sized { IsWellSized deal.now }
     requires known { AreIndexes deal.now known.now }
-    requires legal { IsLegalBook deal.now (entries_in known.now) }
+    requires legal { IsLegalBook deal.now (all_entries known.now) }
     requires party { party < deal.now.graph.n }
-    requires keys { shown keys.now ≡ unlocks_of (entries_in known.now) party }
+    requires keys { shown keys.now ≡ party_unlocks (all_entries known.now) party }
     ensures places { length result ≡ 8 }
-    ensures each { (i : ℕ) → i < length deal.now.leaders → slice_index_or result i false ≡ first_valid deal.now (entries_in known.now) party i }
+    ensures each { (i : ℕ) → i < length deal.now.leaders → slice_index_or result i false ≡ first_valid deal.now (all_entries known.now) party i }
 {
     let mut valid = [false; 8];
     for lock in 0..deal.leaders.len() as u8 {
@@ -97,7 +97,7 @@ fn valid_of(deal: &Deal, known: &[Index], party: PartyId, keys: &[&Hashkey]) -> 
 }
 
 /// What is read once of the party.
-pub(crate) fn standing_of(
+pub(crate) fn party_standing(
     deal: &Deal,
     known: &[Index],
     party: PartyId,
@@ -105,15 +105,15 @@ pub(crate) fn standing_of(
 ) -> Standing
     requires sized { IsWellSized deal.now }
     requires known { AreIndexes deal.now known.now }
-    requires legal { IsLegalBook deal.now (entries_in known.now) }
+    requires legal { IsLegalBook deal.now (all_entries known.now) }
     requires party { party < deal.now.graph.n }
-    requires keys { shown keys.now ≡ unlocks_of (entries_in known.now) party }
-    ensures { IsStanding deal.now (entries_in known.now) party result }
+    requires keys { shown keys.now ≡ party_unlocks (all_entries known.now) party }
+    ensures { IsStanding deal.now (all_entries known.now) party result }
 {
     Standing {
         leads: leads_one(deal, party),
         ready: is_ready(deal, party, known),
-        origins: origins_of(deal, known, party, keys),
-        valid: valid_of(deal, known, party, keys),
+        origins: key_origins(deal, known, party, keys),
+        valid: validity_flags(deal, known, party, keys),
     }
 }

@@ -2,14 +2,14 @@
 
 ghost use Rattle.std.specs.Prelude.{◌≡◌, ◌<◌, Some, IsTrue, length};
 ghost use Rattle.std.specs.List.{list_any};
-ghost use Rattle.swap_digraph.specs.Deal.{IsWellSized, hashlock_of};
+ghost use Rattle.swap_digraph.specs.Deal.{IsWellSized, lock_hashlock};
 ghost use Rattle.swap_digraph.specs.Graph.{entering};
 ghost use Rattle.hashkey_path.specs.Hashkey.{is_valid};
 ghost use Rattle.hashkey_path.specs.Known.{is_last_signed};
 ghost use Rattle.ledger_core.specs.Book.{history, IsLegalBook};
 ghost use Rattle.ledger_core.specs.History.{opened};
-ghost use Rattle.history_index.specs.Indexes.{entries_in, AreIndexes};
-ghost use Rattle.conduct_check.specs.Standing.{is_opened_by, valid_on};
+ghost use Rattle.history_index.specs.Indexes.{all_entries, AreIndexes};
+ghost use Rattle.conduct_check.specs.Standing.{key_opens_arc, valid_on};
 
 use crate::origin::has_seen_inner;
 use hashkey_path::{Hashkey, HashkeyAnswer, check};
@@ -19,11 +19,11 @@ use swap_base::{ArcId, PartyId};
 use swap_digraph::Deal;
 
 /// Whether the hashkey opened its lock on the arc.
-fn is_opened_by(deal: &Deal, known: &[Index], arc: ArcId, key: &Hashkey) -> bool
+fn key_opens_arc(deal: &Deal, known: &[Index], arc: ArcId, key: &Hashkey) -> bool
     requires sized { IsWellSized deal.now }
     requires known { AreIndexes deal.now known.now }
     requires lock { key.now.lock < length deal.now.leaders }
-    ensures { result ≡ is_opened_by key.now (opened (history (entries_in known.now) arc) key.now.lock) }
+    ensures { result ≡ key_opens_arc key.now (opened (history (all_entries known.now) arc) key.now.lock) }
 {
     match known.get(arc as usize) {
         Some(index) => match index.opened(key.lock) {
@@ -40,12 +40,12 @@ fn was_accepted(deal: &Deal, known: &[Index], party: PartyId, key: &Hashkey) -> 
     requires known { AreIndexes deal.now known.now }
     requires party { party < deal.now.graph.n }
     requires lock { key.now.lock < length deal.now.leaders }
-    ensures { result ≡ list_any (λ a. is_opened_by key.now (opened (history (entries_in known.now) a) key.now.lock)) (entering deal.now.graph party) }
+    ensures { result ≡ list_any (λ a. key_opens_arc key.now (opened (history (all_entries known.now) a) key.now.lock)) (entering deal.now.graph party) }
 {
     let entering = deal.graph.entering(party);
     entering
         .iter()
-        .any(|arc| is_opened_by(deal, known, *arc, key))
+        .any(|arc| key_opens_arc(deal, known, *arc, key))
 }
 
 /// How many of the hashkey's last signatures are known to be valid. All are, if the hashkey opened
@@ -54,7 +54,7 @@ fn was_accepted(deal: &Deal, known: &[Index], party: PartyId, key: &Hashkey) -> 
 fn known_signatures(deal: &Deal, known: &[Index], party: PartyId, key: &Hashkey) -> usize
     requires sized { IsWellSized deal.now }
     requires known { AreIndexes deal.now known.now }
-    requires legal { IsLegalBook deal.now (entries_in known.now) }
+    requires legal { IsLegalBook deal.now (all_entries known.now) }
     requires party { party < deal.now.graph.n }
     requires lock { key.now.lock < length deal.now.leaders }
     ensures { IsTrue (is_last_signed result deal.now key.now) }
@@ -76,7 +76,7 @@ pub(crate) fn is_valid(deal: &Deal, arc: ArcId, key: &Hashkey, signatures: usize
     requires arc { arc < length deal.now.graph.arcs }
     requires lock { key.now.lock < length deal.now.leaders }
     requires signatures { IsTrue (is_last_signed signatures deal.now key.now) }
-    ensures { result ≡ is_valid deal.now arc (hashlock_of deal.now key.now.lock) key.now }
+    ensures { result ≡ is_valid deal.now arc (lock_hashlock deal.now key.now.lock) key.now }
 {
     let hashlock = &deal.hashlocks.as_slice()[key.lock as usize];
     check(deal, arc, hashlock, key, signatures) == HashkeyAnswer::Valid
@@ -85,10 +85,10 @@ pub(crate) fn is_valid(deal: &Deal, arc: ArcId, key: &Hashkey, signatures: usize
 /// Whether the hashkey is valid on the arcs that enter the party; the answer is the same for each.
 /// If the hashkey opened its lock on one of them, it verifies no signature. If the rest of its
 /// signatures were accepted, it verifies the party's own alone.
-pub(crate) fn is_valid_into(deal: &Deal, known: &[Index], party: PartyId, key: &Hashkey) -> bool
+pub(crate) fn is_valid_entering(deal: &Deal, known: &[Index], party: PartyId, key: &Hashkey) -> bool
     requires sized { IsWellSized deal.now }
     requires known { AreIndexes deal.now known.now }
-    requires legal { IsLegalBook deal.now (entries_in known.now) }
+    requires legal { IsLegalBook deal.now (all_entries known.now) }
     requires party { party < deal.now.graph.n }
     requires lock { key.now.lock < length deal.now.leaders }
     ensures { result ≡ valid_on deal.now (entering deal.now.graph party) (Some key.now) }

@@ -16,7 +16,7 @@ use Rattle.ledger_core.specs.declared.entry.Call.TheVariants.{Publish, Unlock, C
 use Rattle.ledger_core.specs.History.{accepted, fit, IsLegal}
 use Rattle.ledger_core.specs.Book.{Histories, IsLegalBook}
 use Rattle.ledger_core.proofs.History.{clear_at}
-use Rattle.deviators.specs.Rules.{around, greedy, replayer, spoiler, spoiled_terms, key_in, keys_known, unlock_with}
+use Rattle.deviators.specs.Rules.{around, greedy, replayer, spoiler, spoiled_terms, fetch_key, keys_known, make_unlock}
 use Rattle.deviators.specs.View.{IsAnswerOf, MayAnswer}
 use Rattle.swap_job.specs.Fitting.{is_near}
 
@@ -96,7 +96,7 @@ place [] x d i = absurd i
 place (y ∷ xs) x d (inl e) = (0, omega arith, e)
 place (y ∷ xs) x d (inr i) = let r = place xs x d i in (suc r.0, (let l = r.1 in omega arith), r.2)
 
-key_of : (o : Option Call) (key : Hashkey) → IsIn key (key_in o) → o ≡ Some (Unlock key)
+key_of : (o : Option Call) (key : Hashkey) → IsIn key (fetch_key o) → o ≡ Some (Unlock key)
 key_of None key i = absurd i
 key_of (Some (Unlock k)) key (inl e) = ap (λ x. Some (Unlock x)) (sym e)
 key_of (Some (Unlock k)) key (inr i) = absurd i
@@ -104,15 +104,15 @@ key_of (Some _) key i = absurd i
 
 known_fits : (d : Deal) (k : Histories) (key : Hashkey) → IsLegalBook d k → IsIn key (keys_known k) → IsTrue (fit d 0 (Unlock key))
 known_fits d k key legal i =
-    let h = from_flat (λ h. flat_map (λ e. key_in (accepted e)) h) k key i in
-    let e = from_flat (λ e. key_in (accepted e)) h.0 key h.2 in
+    let h = from_flat (λ h. flat_map (λ e. fetch_key (accepted e)) h) k key i in
+    let e = from_flat (λ e. fetch_key (accepted e)) h.0 key h.2 in
     let at = place k h.0 [] h.1 in
     let m = moment_from_in h.0 e.0 e.1 in
     (clear_at d at.0 h.0 m.0 e.0 (Unlock key) (subst (IsLegal d at.0) (sym at.2) (legal.legal at.0 at.1)) m.1 (key_of (accepted e.0) key e.2)).0.fits
 
 pub unlock_may : (d : Deal) (v : ℕ) (oa : Option ℕ) (ok : Option Hashkey) → ((a : ℕ) → oa ≡ Some a → (a < length d.graph.arcs) × (is_near d v a ≡ true))
     → ((key : Hashkey) → ok ≡ Some key → IsTrue (fit d 0 (Unlock key)))
-    → MayAnswer d v (unlock_with oa ok)
+    → MayAnswer d v (make_unlock oa ok)
 unlock_may d v None ok ha hk = λ x q. absurd (cc q)
 unlock_may d v (Some a) None ha hk = λ x q. absurd (cc q)
 unlock_may d v (Some a) (Some key) ha hk =

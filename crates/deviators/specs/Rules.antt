@@ -5,7 +5,7 @@ use Rattle.swap_digraph.specs.declared.deal.Deal.{Deal}
 use Rattle.swap_digraph.specs.Graph.{entering, leaving}
 use Rattle.hashkey_path.specs.declared.hashkey.Hashkey.{Hashkey}
 use Rattle.escrow_core.specs.declared.terms.Terms.{Terms}
-use Rattle.escrow_core.specs.Terms.{terms_of}
+use Rattle.escrow_core.specs.Terms.{stated_terms}
 use Rattle.ledger_core.specs.declared.entry.Call.{Call}
 use Rattle.ledger_core.specs.declared.entry.Call.TheVariants.{Publish, Unlock, Claim}
 use Rattle.ledger_core.specs.History.{accepted}
@@ -27,32 +27,32 @@ abbrev pub greedy : Deal → ℕ → ℕ → Histories → Option (ℕ × Call)
 greedy d v t k = option_map (λ a. (a, Claim)) (around (entering d.graph v) t)
 
 -- the hashkey of a call, where it is an unlock
-abbrev pub key_in : Option Call → List Hashkey
-key_in (Some (Unlock key)) = key ∷ []
-key_in _ = []
+abbrev pub fetch_key : Option Call → List Hashkey
+fetch_key (Some (Unlock key)) = key ∷ []
+fetch_key _ = []
 
 -- the hashkeys of the accepted unlocks that are known, by arc and entry
 abbrev pub keys_known : Histories → List Hashkey
-keys_known k = flat_map (λ h. flat_map (λ e. key_in (accepted e)) h) k
+keys_known k = flat_map (λ h. flat_map (λ e. fetch_key (accepted e)) h) k
 
 -- an unlock on the arc with the hashkey, where both are there
-abbrev pub unlock_with : Option ℕ → Option Hashkey → Option (ℕ × Call)
-unlock_with (Some a) (Some key) = Some (a, Unlock key)
-unlock_with _ _ = None
+abbrev pub make_unlock : Option ℕ → Option Hashkey → Option (ℕ × Call)
+make_unlock (Some a) (Some key) = Some (a, Unlock key)
+make_unlock _ _ = None
 
 -- an unlock on entering arc number t with known hashkey number t
 abbrev pub replayer : Deal → ℕ → ℕ → Histories → Option (ℕ × Call)
-replayer d v t k = unlock_with (around (entering d.graph v) t) (around (keys_known k) t)
+replayer d v t k = make_unlock (around (entering d.graph v) t) (around (keys_known k) t)
 
 -- the correct terms of arc a but for a bound of 0, which is never correct
 abbrev pub spoiled_terms : Deal → ℕ → Terms
-spoiled_terms d a = record (terms_of d a) { bound = 0 }
+spoiled_terms d a = record (stated_terms d a) { bound = 0 }
 
 -- a publish of spoiled terms on leaving arc number t
 abbrev pub spoiler : Deal → ℕ → ℕ → Histories → Option (ℕ × Call)
 spoiler d v t k = option_map (λ a. (a, Publish (spoiled_terms d a))) (around (leaving d.graph v) t)
 
 -- the hashkeys of the item's accepted unlocks: one for an accepted unlock, none for ticks
-abbrev pub keys_in : Item → List Hashkey
-keys_in (One e) = key_in (accepted e)
-keys_in (Ticks r) = []
+abbrev pub read_keys : Item → List Hashkey
+read_keys (One e) = fetch_key (accepted e)
+read_keys (Ticks r) = []

@@ -2,12 +2,12 @@
 
 ghost use Rattle.std.specs.Prelude.{◌≡◌, ◌<◌, IfOk, Ok, None, [], length};
 ghost use Rattle.swap_digraph.specs.Deal.{IsWellSized};
-ghost use Rattle.escrow_core.specs.Terms.{terms_of};
+ghost use Rattle.escrow_core.specs.Terms.{stated_terms};
 ghost use Rattle.deviators.specs.Rules.{around, silent, greedy, replayer, spoiler, spoiled_terms};
 ghost use Rattle.deviators.specs.View.{IsView, MayAnswer};
 
 use crate::replayed::{key_around, keys_known};
-use escrow_core::{Terms, terms_of};
+use escrow_core::{Terms, stated_terms};
 use ledger_core::{Book, Call};
 use std::alloc::Global;
 use swap_base::{ArcId, NoMemory, PartyId, Shared};
@@ -104,7 +104,7 @@ fn spoiled_terms(deal: &Deal, arc: ArcId) -> Terms
 {
     Terms {
         bound: 0,
-        ..terms_of(deal, arc)
+        ..stated_terms(deal, arc)
     }
 }
 

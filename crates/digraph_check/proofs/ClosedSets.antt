@@ -5,18 +5,18 @@ use Rattle.std.proofs.lemmas.Bool.{eqb-false, both_ways, not-true}
 use Rattle.std.specs.List.{range_with_len, list_all}
 use Rattle.swap_base.proofs.Lists.{list_all-in, list_all-from, in_range, from_range}
 use Rattle.swap_digraph.specs.Value.{Graph}
-use Rattle.swap_digraph.specs.Graph.{parties, ends, is_among, HasEnds, IsStronglyConnected}
+use Rattle.swap_digraph.specs.Graph.{parties, ends, is_listed, HasEnds, IsStronglyConnected}
 use Rattle.digraph_check.specs.Reach.{reaches_in, reaches, reached, stranded, closed_set}
 use Rattle.digraph_check.specs.Closed.{IsClosedSet}
 use Rattle.digraph_check.proofs.ListTests.{failing, among_where, where_among, where_ascends}
-use Rattle.digraph_check.proofs.Walks.{Along, goes_on, at_once, stays, snoc, along, two_walks, arc_at, arc_number}
-use Rattle.digraph_check.proofs.Paths.{PathBetween, path_of, path_reaches, walk_reaches}
+use Rattle.digraph_check.proofs.Walks.{Along, goes_on, at_once, stays, snoc, along, two_walks, arc_json, arc_number}
+use Rattle.digraph_check.proofs.Paths.{PathBetween, make_path, path_reaches, walk_reaches}
 
 -- a member shows that a set isn't empty
-not_empty : (set : List ℕ) (v : ℕ) → is_among v set ≡ true → set ≢ []
-not_empty set v h e = let k : false ≡ true = sym (ap (is_among v) e) ∙ h in absurd (cc k)
+not_empty : (set : List ℕ) (v : ℕ) → is_listed v set ≡ true → set ≢ []
+not_empty set v h e = let k : false ≡ true = sym (ap (is_listed v) e) ∙ h in absurd (cc k)
 
-no_member : (p : ℕ → Bool) (n v : ℕ) (b : Bool) → is_among v (filter p (range_with_len 0 n)) ≡ b → p v ≡ false → b ≡ false
+no_member : (p : ℕ → Bool) (n v : ℕ) (b : Bool) → is_listed v (filter p (range_with_len 0 n)) ≡ b → p v ≡ false → b ≡ false
 no_member p n v false h e = refl
 no_member p n v true h e = absurd (both_ways (p v) e (where_among p n v h).1)
 
@@ -27,7 +27,7 @@ closed_where g p u v has lu pu lv pv keeps = record {
   some = not_empty (filter p (parties g)) u (among_where p g.n u lu pu);
   ascending = where_ascends p g.n;
   parties = λ w h. (where_among p g.n w h).0;
-  others = (v, lv, no_member p g.n v (is_among v (filter p (parties g))) refl pv);
+  others = (v, lv, no_member p g.n v (is_listed v (filter p (parties g))) refl pv);
   closed = λ a lt h. among_where p g.n (ends g a).to (has.to a lt) (keeps a lt (where_among p g.n (ends g a).from h).1);
 }
 
@@ -38,12 +38,13 @@ reaches_itself g u = stays g g.n u
 -- what party 0 reaches goes on along arcs
 on_from_zero : (g : Graph) (a : ℕ) → HasEnds g → 0 < g.n → a < length g.arcs → reaches g 0 (ends g a).from ≡ true → reaches g 0 (ends g a).to ≡ true
 unfolding reaches
-on_from_zero g a has some lt h = walk_reaches g (suc g.n) 0 (ends g a).to some (snoc g g.n 0 (ends g a).from (ends g a).to (has.to a lt) (arc_at g.arcs a lt) h)
+on_from_zero g a has some lt h = walk_reaches g (suc g.n) 0 (ends g a).to some (snoc g g.n 0 (ends g a).from (ends g a).to (has.to a lt)
+    (arc_json g.arcs a lt) h)
 
 back_to_zero : (g : Graph) (a : ℕ) → HasEnds g → a < length g.arcs → reaches g (ends g a).to 0 ≡ true → reaches g (ends g a).from 0 ≡ true
 unfolding reaches
 back_to_zero g a has lt h =
-    walk_reaches g (suc g.n) (ends g a).from 0 (has.from a lt) (along g g.n (ends g a).from (ends g a).to 0 (has.to a lt) (arc_at g.arcs a lt) h)
+    walk_reaches g (suc g.n) (ends g a).from 0 (has.from a lt) (along g g.n (ends g a).from (ends g a).to 0 (has.to a lt) (arc_json g.arcs a lt) h)
 
 -- what doesn't reach party 0 has no arc to what does
 still_stranded : (g : Graph) (a : ℕ) → HasEnds g → a < length g.arcs → not (reaches g (ends g a).from 0) ≡ true → (b : Bool)
@@ -96,7 +97,7 @@ through_zero g u v both lu lv =
     let back = list_all-in (λ w. reaches_in g g.n w 0) (parties g) u both.to_zero (in_range u g.n lu) in
     let on = list_all-in (λ w. reaches_in g g.n 0 w) (parties g) v both.from_zero (in_range v g.n lv) in
     let w = two_walks g g.n g.n u 0 v back on in
-    path_of g w.most u v lu w.walk
+    make_path g w.most u v lu w.walk
 
 pub connected_of_none : (g : Graph) → closed_set g ≡ None → IsStronglyConnected g
 connected_of_none g e u v lu lv apart =
@@ -117,20 +118,20 @@ none_of_connected g strong =
 
 -- No walk leaves a closed set.
 
-remains_on : (g : Graph) (set : List ℕ) (k u v : ℕ) → IsClosedSet g set → is_among u set ≡ true → (u ≡ v) ⊎ Along g k u v
-    → ((w : ℕ) → is_among w set ≡ true → reaches_in g k w v ≡ true → is_among v set ≡ true) → is_among v set ≡ true
-remains_on g set k u v closed h (inl e) rest = subst (λ (w : ℕ). is_among w set ≡ true) e h
+remains_on : (g : Graph) (set : List ℕ) (k u v : ℕ) → IsClosedSet g set → is_listed u set ≡ true → (u ≡ v) ⊎ Along g k u v
+    → ((w : ℕ) → is_listed w set ≡ true → reaches_in g k w v ≡ true → is_listed v set ≡ true) → is_listed v set ≡ true
+remains_on g set k u v closed h (inl e) rest = subst (λ (w : ℕ). is_listed w set ≡ true) e h
 remains_on g set k u v closed h (inr a) rest =
     let r = arc_number g.arcs u a.next a.arc in
-    rest a.next (subst (λ (w : ℕ). is_among w set ≡ true) r.to
-    (closed.closed r.number r.stands (subst (λ (w : ℕ). is_among w set ≡ true) (sym r.from) h))) a.rest
+    rest a.next (subst (λ (w : ℕ). is_listed w set ≡ true) r.to
+    (closed.closed r.number r.stands (subst (λ (w : ℕ). is_listed w set ≡ true) (sym r.from) h))) a.rest
 
-remains : (g : Graph) (set : List ℕ) (k u v : ℕ) → IsClosedSet g set → is_among u set ≡ true → reaches_in g k u v ≡ true → is_among v set ≡ true
-remains g set zero u v closed h r = subst (λ (w : ℕ). is_among w set ≡ true) (at_once g u v r) h
+remains : (g : Graph) (set : List ℕ) (k u v : ℕ) → IsClosedSet g set → is_listed u set ≡ true → reaches_in g k u v ≡ true → is_listed v set ≡ true
+remains g set zero u v closed h r = subst (λ (w : ℕ). is_listed w set ≡ true) (at_once g u v r) h
 remains g set (suc k) u v closed h r = remains_on g set k u v closed h (goes_on g k u v r) (λ w i s. remains g set k w v closed i s)
 
 -- a member
-member : (set : List ℕ) → set ≢ [] → (u : ℕ) × (is_among u set ≡ true)
+member : (set : List ℕ) → set ≢ [] → (u : ℕ) × (is_listed u set ≡ true)
 member [] apart = absurd (apart refl)
 member (u ∷ set) apart = (u, rw (eq-eqb u u refl) refl)
 
@@ -139,7 +140,7 @@ unfolding reaches
 excluded g set closed strong =
     let m = member set closed.some in
     let o = closed.others in
-    both_ways (is_among o.0 set) o.2 (remains g set g.n m.0 o.0 closed m.1 (connected_reaches g m.0 o.0 (m.0 == o.0) refl strong (closed.parties m.0 m.1) o.1))
+    both_ways (is_listed o.0 set) o.2 (remains g set g.n m.0 o.0 closed m.1 (connected_reaches g m.0 o.0 (m.0 == o.0) refl strong (closed.parties m.0 m.1) o.1))
 
 some_set : {xs ys : List ℕ} → Some xs ≡ Some ys → xs ≡ ys
 some_set e = cc e

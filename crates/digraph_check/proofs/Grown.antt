@@ -9,9 +9,9 @@ use Rattle.swap_base.proofs.Lists.{list_all-in, in_range, or_neither}
 use Rattle.swap_digraph.specs.Value.{Graph}
 use Rattle.swap_digraph.specs.Graph.{ends, has_arc, HasEnds}
 use Rattle.digraph_check.specs.Reach.{reaches_in, reaches}
-use Rattle.digraph_check.specs.Tree.{tree_arc, is_entered, all_entered, parent_of, walked_back, IsCrossing, IsTree, IsSearch}
+use Rattle.digraph_check.specs.Tree.{tree_arc, is_entered, all_entered, tree_parent, walked_back, IsCrossing, IsTree, IsSearch}
 use Rattle.digraph_check.proofs.ListTests.{or_split, same_test}
-use Rattle.digraph_check.proofs.Walks.{Along, goes_on, is_there, at_once, snoc, at_most, more, arc_at, arc_number}
+use Rattle.digraph_check.proofs.Walks.{Along, goes_on, is_there, at_once, snoc, at_most, more, arc_json, arc_number}
 
 -- how many parties have no arc
 pub open_count : List (Option ℕ) → ℕ
@@ -91,7 +91,7 @@ open_set (Some b ∷ tree) (suc w) a lt e = open_set tree w a (omega arith) e
 stuck : (g : Graph) (tree : List (Option ℕ)) (k w : ℕ) → tree_arc tree w ≡ None → walked_back g tree k w ≡ w
 unfolding walked_back
 stuck g tree zero w e = refl
-stuck g tree (suc k) w e = ap (λ (o : Option ℕ). walked_back g tree k (parent_of g w o)) e ∙ stuck g tree k w e
+stuck g tree (suc k) w e = ap (λ (o : Option ℕ). walked_back g tree k (tree_parent g w o)) e ∙ stuck g tree k w e
 
 -- an arc at a party that no walk to 0 passes leaves those walks as they were
 kept_at : (g : Graph) (tree : List (Option ℕ)) (k w a v : ℕ) (b : Bool) → (v == w) ≡ b → w ≢ 0 → tree_arc tree w ≡ None → walked_back g tree (suc k) v ≡ 0
@@ -101,8 +101,8 @@ kept_at g tree k w a v true e apart none h rest =
     let same : v ≡ w = eqb-true v w e in
     absurd (apart (sym (stuck g tree (suc k) w none) ∙ subst (λ (u : ℕ). walked_back g tree (suc k) u ≡ 0) same h))
 kept_at g tree k w a v false e apart none h rest =
-    ap (λ (o : Option ℕ). walked_back g (set tree w (Some a)) k (parent_of g v o)) (get_or-set_other tree w v (Some a) None (eqb-false v w e))
-    ∙ rest (parent_of g v (tree_arc tree v)) h
+    ap (λ (o : Option ℕ). walked_back g (set tree w (Some a)) k (tree_parent g v o)) (get_or-set_other tree w v (Some a) None (eqb-false v w e))
+    ∙ rest (tree_parent g v (tree_arc tree v)) h
 
 kept : (g : Graph) (tree : List (Option ℕ)) (k w a v : ℕ) → w ≢ 0 → tree_arc tree w ≡ None → walked_back g tree k v ≡ 0
     → walked_back g (set tree w (Some a)) k v ≡ 0
@@ -113,7 +113,7 @@ kept g tree (suc k) w a v apart none h = kept_at g tree k w a v (v == w) refl ap
 step_back : (g : Graph) (tree : List (Option ℕ)) (k a v : ℕ) → tree_arc tree v ≡ Some a → walked_back g tree k (ends g a).from ≡ 0
     → walked_back g tree (suc k) v ≡ 0
 unfolding walked_back
-step_back g tree k a v e h = ap (λ (o : Option ℕ). walked_back g tree k (parent_of g v o)) e ∙ h
+step_back g tree k a v e h = ap (λ (o : Option ℕ). walked_back g tree k (tree_parent g v o)) e ∙ h
 
 some_is : (a b : ℕ) → Some a ≡ Some b → a ≡ b
 some_is a b e = cc e
@@ -174,12 +174,13 @@ grown_smaller g tree new a has grown lt crossing is =
 -- The last tree enters what party 0 reaches.
 
 by_entry : (g : Graph) (tree : List (Option ℕ)) (k v : ℕ) → HasEnds g → IsGrown g tree → v < g.n → (o : Option ℕ) → tree_arc tree v ≡ o
-    → walked_back g tree k (parent_of g v o) ≡ 0 → ((u : ℕ) → u < g.n → walked_back g tree k u ≡ 0 → reaches_in g k 0 u ≡ true)
+    → walked_back g tree k (tree_parent g v o) ≡ 0 → ((u : ℕ) → u < g.n → walked_back g tree k u ≡ 0 → reaches_in g k 0 u ≡ true)
     → reaches_in g (suc k) 0 v ≡ true
 by_entry g tree k v has grown lt None e h rest = more g k 0 v (rest v lt h)
 by_entry g tree k v has grown lt (Some a) e h rest =
     let t = grown.arc v a e in
-    snoc g k 0 (ends g a).from v lt (subst (λ (w : ℕ). has_arc g (ends g a).from w ≡ true) t.1 (arc_at g.arcs a t.0)) (rest (ends g a).from (has.from a t.0) h)
+    snoc g k 0 (ends g a).from v lt (subst (λ (w : ℕ). has_arc g (ends g a).from w
+    ≡ true) t.1 (arc_json g.arcs a t.0)) (rest (ends g a).from (has.from a t.0) h)
 
 walk_of_steps : (g : Graph) (tree : List (Option ℕ)) (k v : ℕ) → HasEnds g → IsGrown g tree → v < g.n → walked_back g tree k v ≡ 0 → reaches_in g k 0 v ≡ true
 unfolding walked_back
@@ -205,8 +206,8 @@ enters g tree (suc k) u v none h r = enters_on g tree k u v none h (goes_on g k 
 
 still_back : (g : Graph) (tree : List (Option ℕ)) (k v : ℕ) → tree_arc tree 0 ≡ None → walked_back g tree k v ≡ 0 → walked_back g tree (suc k) v ≡ 0
 unfolding walked_back
-still_back g tree zero v root h = ap (λ (u : ℕ). parent_of g u (tree_arc tree u)) h ∙ ap (parent_of g 0) root
-still_back g tree (suc k) v root h = still_back g tree k (parent_of g v (tree_arc tree v)) root h
+still_back g tree zero v root h = ap (λ (u : ℕ). tree_parent g u (tree_arc tree u)) h ∙ ap (tree_parent g 0) root
+still_back g tree (suc k) v root h = still_back g tree k (tree_parent g v (tree_arc tree v)) root h
 
 back_by : (g : Graph) (tree : List (Option ℕ)) (j k n v : ℕ) → j + k ≡ n → tree_arc tree 0 ≡ None → walked_back g tree k v ≡ 0 → walked_back g tree n v ≡ 0
 back_by g tree zero k n v e root h = let same : k ≡ n = omega arith in subst (λ (m : ℕ). walked_back g tree m v ≡ 0) same h

@@ -8,7 +8,7 @@ use Rattle.std.specs.List.{list_any, list_all, range_with_len}
 use Rattle.std.specs.List.Sorted.{IsStrictlyIncreasing}
 use Rattle.swap_base.specs.Lists.{IsIn}
 use Rattle.swap_base.proofs.Lists.{list_any-in, list_all-in, list_all-from, in_range, from_range, in_filter, from_filter}
-use Rattle.swap_digraph.specs.Graph.{is_among}
+use Rattle.swap_digraph.specs.Graph.{is_listed}
 
 pub or_split : (a b : Bool) → (a || b) ≡ true → (a ≡ true) ⊎ (b ≡ true)
 or_split true b h = inl refl
@@ -72,10 +72,10 @@ list_all-same p q (x ∷ xs) h = rw (h x (inl refl), list_all-same p q xs (λ y 
 
 -- Of the numbers below n, those that pass.
 
-pub among_where : (p : ℕ → Bool) (n v : ℕ) → v < n → p v ≡ true → is_among v (filter p (range_with_len 0 n)) ≡ true
+pub among_where : (p : ℕ → Bool) (n v : ℕ) → v < n → p v ≡ true → is_listed v (filter p (range_with_len 0 n)) ≡ true
 among_where p n v lt e = list_any-in (λ w. w == v) (filter p (range_with_len 0 n)) v (eq-eqb v v refl) (in_filter p v (range_with_len 0 n) (in_range v n lt) e)
 
-pub where_among : (p : ℕ → Bool) (n v : ℕ) → is_among v (filter p (range_with_len 0 n)) ≡ true → (v < n) × (p v ≡ true)
+pub where_among : (p : ℕ → Bool) (n v : ℕ) → is_listed v (filter p (range_with_len 0 n)) ≡ true → (v < n) × (p v ≡ true)
 where_among p n v h =
     let r = passing (λ w. w == v) (filter p (range_with_len 0 n)) h in
     let e : r.one ≡ v = eqb-true r.one v r.passes in

@@ -6,7 +6,7 @@ use Rattle.std.specs.List.{list_any}
 use Rattle.swap_base.proofs.Lists.{and_swap}
 use Rattle.swap_digraph.specs.declared.arc_ends.ArcEnds.{ArcEnds}
 use Rattle.swap_digraph.specs.Value.{Graph}
-use Rattle.swap_digraph.specs.Graph.{has_arc, HasEnds, ends_in}
+use Rattle.swap_digraph.specs.Graph.{has_arc, HasEnds, resolve_all_ends}
 use Rattle.digraph_check.specs.Reach.{reaches_in, reaches, reversed, reversed_ends}
 use Rattle.digraph_check.proofs.ListTests.{same_test}
 use Rattle.digraph_check.proofs.Walks.{Along, goes_on, is_there, at_once, snoc}
@@ -36,7 +36,7 @@ reaches-reversed g u v lu lv =
     (turn (reversed g) g g.n u v refl (λ x y e. sym (arc_turned g.arcs y x) ∙ e) lu)
     (turn g (reversed g) g.n v u refl (λ x y e. arc_turned g.arcs x y ∙ e) lv)
 
-pub ends_turned : (arcs : List ArcEnds) (a : ℕ) → a < length arcs → ends_in (map reversed_ends arcs) a ≡ reversed_ends (ends_in arcs a)
+pub ends_turned : (arcs : List ArcEnds) (a : ℕ) → a < length arcs → resolve_all_ends (map reversed_ends arcs) a ≡ reversed_ends (resolve_all_ends arcs a)
 ends_turned [] a lt = absurd (omega arith)
 ends_turned (x ∷ arcs) zero lt = refl
 ends_turned (x ∷ arcs) (suc a) lt = ends_turned arcs a (omega arith)

@@ -5,7 +5,7 @@ use Rattle.std.specs.List.{list_any}
 use Rattle.swap_base.proofs.Lists.{list_any-in, or-right, and_parts, and_both, in_range, from_range}
 use Rattle.swap_digraph.specs.declared.arc_ends.ArcEnds.{ArcEnds}
 use Rattle.swap_digraph.specs.Value.{Graph}
-use Rattle.swap_digraph.specs.Graph.{parties, has_arc, ends_in}
+use Rattle.swap_digraph.specs.Graph.{parties, has_arc, resolve_all_ends}
 use Rattle.digraph_check.specs.Reach.{reaches_in}
 use Rattle.digraph_check.proofs.ListTests.{or_split, or-left, passing}
 
@@ -91,22 +91,23 @@ two_walks g (suc k) m u w v h r = two_along g k m u w v (goes_on g k u w h) r (�
 
 -- Arcs by number.
 
-pub arc_at : (arcs : List ArcEnds) (a : ℕ) → a < length arcs → list_any (λ b. (b.from == (ends_in arcs a).from) && (b.to == (ends_in arcs a).to)) arcs ≡ true
-arc_at [] a lt = absurd (omega arith)
-arc_at (x ∷ arcs) zero lt =
+pub arc_json : (arcs : List ArcEnds) (a : ℕ) → a < length arcs
+    → list_any (λ b. (b.from == (resolve_all_ends arcs a).from) && (b.to == (resolve_all_ends arcs a).to)) arcs ≡ true
+arc_json [] a lt = absurd (omega arith)
+arc_json (x ∷ arcs) zero lt =
     or-left ((x.from == x.from) && (x.to == x.to)) (list_any (λ b. (b.from == x.from) && (b.to == x.to)) arcs)
     (and_both (x.from == x.from) (x.to == x.to) (eq-eqb x.from x.from refl) (eq-eqb x.to x.to refl))
-arc_at (x ∷ arcs) (suc a) lt =
-    or-right ((x.from == (ends_in arcs a).from) && (x.to == (ends_in arcs a).to))
-    (list_any (λ b. (b.from == (ends_in arcs a).from) && (b.to == (ends_in arcs a).to)) arcs)
-    (arc_at arcs a (omega arith))
+arc_json (x ∷ arcs) (suc a) lt =
+    or-right ((x.from == (resolve_all_ends arcs a).from) && (x.to == (resolve_all_ends arcs a).to))
+    (list_any (λ b. (b.from == (resolve_all_ends arcs a).from) && (b.to == (resolve_all_ends arcs a).to)) arcs)
+    (arc_json arcs a (omega arith))
 
 -- an arc with these ends
 pub record ArcFrom (arcs : List ArcEnds) (u w : ℕ) : Type 0 where
   pub number : ℕ
   pub stands : number < length arcs
-  pub from : (ends_in arcs number).from ≡ u
-  pub to : (ends_in arcs number).to ≡ w
+  pub from : (resolve_all_ends arcs number).from ≡ u
+  pub to : (resolve_all_ends arcs number).to ≡ w
 
 arc_head : (x : ArcEnds) (arcs : List ArcEnds) (u w : ℕ) → (((x.from == u) && (x.to == w)) ≡ true)
     ⊎ (list_any (λ b. (b.from == u) && (b.to == w)) arcs ≡ true) → (list_any (λ b. (b.from == u) && (b.to == w)) arcs ≡ true → ArcFrom arcs u w)

@@ -3,7 +3,7 @@ use Rattle.std.specs.Prelude.{◌≡◌, ◌≢◌, ℕ, zero, suc, ◌<◌, Boo
 use Rattle.std.specs.List.{list_all, range_with_len}
 use Rattle.swap_digraph.specs.declared.arc_ends.ArcEnds.{ArcEnds}
 use Rattle.swap_digraph.specs.Value.{Graph}
-use Rattle.swap_digraph.specs.Graph.{ends, ends_in}
+use Rattle.swap_digraph.specs.Graph.{ends, resolve_all_ends}
 use Rattle.digraph_check.specs.Reach.{reaches, reversed}
 use Rattle.digraph_check.specs.declared.certificate.Trees.{Trees}
 
@@ -20,17 +20,17 @@ all_entered tree = list_all (λ v. is_entered tree v) (range_with_len 0 (length 
 
 -- the arc leads from a party that the tree enters to one that it doesn't
 abbrev pub IsCrossing : List ArcEnds → List (Option ℕ) → ℕ → Type 0
-IsCrossing arcs tree a = IsTrue (is_entered tree (ends_in arcs a).from) × (is_entered tree (ends_in arcs a).to ≡ false)
+IsCrossing arcs tree a = IsTrue (is_entered tree (resolve_all_ends arcs a).from) × (is_entered tree (resolve_all_ends arcs a).to ≡ false)
 
 -- where the arc came from, and v itself where there is none
-abbrev pub parent_of : Graph → ℕ → Option ℕ → ℕ
-parent_of g v None = v
-parent_of g v (Some a) = (ends g a).from
+abbrev pub tree_parent : Graph → ℕ → Option ℕ → ℕ
+tree_parent g v None = v
+tree_parent g v (Some a) = (ends g a).from
 
 -- where one stands after k steps back from v, against the arcs of the tree; party 0 has none and ends the walk
 unfoldable pub walked_back : Graph → List (Option ℕ) → ℕ → ℕ → ℕ
 walked_back g tree zero v = v
-walked_back g tree (suc k) v = walked_back g tree k (parent_of g v (tree_arc tree v))
+walked_back g tree (suc k) v = walked_back g tree k (tree_parent g v (tree_arc tree v))
 
 -- Every party but 0 has an arc that enters it, and these arcs, walked back, lead to party 0.
 pub record IsTree (g : Graph) (tree : List (Option ℕ)) : Type 0 where

@@ -1,7 +1,7 @@
 //! What reaching means.
 
 ghost use Rattle.std.specs.Prelude.{◌≡◌, ◌<◌, ◌≤◌, ◌↔◌, ℕ, List, Some, None, IsTrue};
-ghost use Rattle.swap_digraph.specs.Graph.{HasEnds, IsPathBetween, IsStronglyConnected};
+ghost use Rattle.swap_digraph.specs.Graph.{HasEnds, IsConnectingPath, IsStronglyConnected};
 ghost use Rattle.digraph_check.specs.Reach.{reaches, closed_set};
 ghost use Rattle.digraph_check.specs.Closed.{IsClosedSet};
 
@@ -12,7 +12,7 @@ use swap_digraph::Digraph;
 /// where the digraph is strongly connected.
 pub fn paths_tell(graph: &Digraph)
     ensures paths { (u v : ℕ) → u < graph.now.n → v < graph.now.n
-        → (IsTrue (reaches graph.now u v) ↔ ((p : List ℕ) × IsPathBetween graph.now u v p)) }
+        → (IsTrue (reaches graph.now u v) ↔ ((p : List ℕ) × IsConnectingPath graph.now u v p)) }
     ensures connected { (closed_set graph.now ≡ None) ↔ IsStronglyConnected graph.now }
     ensures closed { HasEnds graph.now → 1 ≤ graph.now.n
         → (set : List ℕ) → closed_set graph.now ≡ Some set → IsClosedSet graph.now set }

@@ -6,7 +6,7 @@ use Rattle.std.specs.List.{find, flat_map}
 use Rattle.swap_base.specs.Lists.{IsIn}
 use Rattle.swap_base.proofs.Lists.{from_filter, from_range}
 use Rattle.swap_digraph.specs.declared.arc_ends.ArcEnds.{ArcEnds}
-use Rattle.swap_digraph.specs.Graph.{ends_in, entering_among, leaving_among}
+use Rattle.swap_digraph.specs.Graph.{resolve_all_ends, entering_numbers, leaving_numbers}
 use Rattle.ledger_core.specs.declared.entry.Call.{Call}
 use Rattle.swap_rules.specs.Due.{Action, when_due, first}
 
@@ -42,12 +42,12 @@ some_below n None h = tt
 some_below n (Some a) h = h a refl
 
 -- an arc that is found is an arc of the digraph
-pub leaving_below : (test : ℕ → Bool) (arcs : List ArcEnds) (v : ℕ) (o : Option ℕ) → o ≡ find test (leaving_among arcs v) → IfSome o (λ a. a < length arcs)
+pub leaving_below : (test : ℕ → Bool) (arcs : List ArcEnds) (v : ℕ) (o : Option ℕ) → o ≡ find test (leaving_numbers arcs v) → IfSome o (λ a. a < length arcs)
 leaving_below test arcs v o e =
     some_below (length arcs) o (λ a h. from_range a (length arcs)
-    (from_filter (λ a. (ends_in arcs a).from == v) a _ (find_in test (leaving_among arcs v) a (sym e ∙ h))).0)
+    (from_filter (λ a. (resolve_all_ends arcs a).from == v) a _ (find_in test (leaving_numbers arcs v) a (sym e ∙ h))).0)
 
-pub entering_below : (test : ℕ → Bool) (arcs : List ArcEnds) (v : ℕ) (o : Option ℕ) → o ≡ find test (entering_among arcs v) → IfSome o (λ a. a < length arcs)
+pub entering_below : (test : ℕ → Bool) (arcs : List ArcEnds) (v : ℕ) (o : Option ℕ) → o ≡ find test (entering_numbers arcs v) → IfSome o (λ a. a < length arcs)
 entering_below test arcs v o e =
     some_below (length arcs) o (λ a h. from_range a (length arcs)
-    (from_filter (λ a. (ends_in arcs a).to == v) a _ (find_in test (entering_among arcs v) a (sym e ∙ h))).0)
+    (from_filter (λ a. (resolve_all_ends arcs a).to == v) a _ (find_in test (entering_numbers arcs v) a (sym e ∙ h))).0)

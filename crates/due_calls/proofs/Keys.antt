@@ -3,14 +3,14 @@ use Rattle.std.proofs.Common.{◌≡◌, ℕ, Bool, true, false, cond, not, List
 use Rattle.std.specs.List.{find}
 use Rattle.swap_base.specs.Lists.{or_else, first_of}
 use Rattle.swap_digraph.specs.declared.deal.Deal.{Deal}
-use Rattle.swap_digraph.specs.Graph.{is_among, leaving}
+use Rattle.swap_digraph.specs.Graph.{is_listed, leaving}
 use Rattle.swap_digraph.specs.Deal.{leads}
 use Rattle.hashkey_path.specs.declared.hashkey.Hashkey.{Hashkey}
 use Rattle.ledger_core.specs.History.{Opening, opened}
 use Rattle.ledger_core.specs.Book.{Histories, history}
 use Rattle.swap_rules.specs.Party.{opens_without, key_without, first_seen_key}
 use Rattle.swap_rules.specs.Due.{Wallet, due_key, seen_key, extended}
-use Rattle.due_calls.specs.Unlocks.{key_from, seen_on}
+use Rattle.due_calls.specs.Unlocks.{make_due_key, first_seen_arc}
 use Rattle.due_calls.specs.Parts.{due_base}
 use Rattle.due_calls.specs.declared.unlock_due.Base.{Base}
 use Rattle.due_calls.specs.declared.unlock_due.Base.TheVariants.{Signed, Own, Onto}
@@ -28,7 +28,7 @@ by_path o x u false found key e h = (u.key, ap (option_map (λ u. u.key)) e, ref
 by_opening : (v : ℕ) (o : ℕ → Option Opening) (x : ℕ) (q : Option Opening) (found : Option ℕ) (key : Option Hashkey) → o x ≡ q → Opens o found key
     → Opens o (cond (opens_without v q) (Some x) found) (or_else (key_without v q) key)
 by_opening v o x None found key e h = h
-by_opening v o x (Some u) found key e h = by_path o x u (is_among v u.key.path) found key e h
+by_opening v o x (Some u) found key e h = by_path o x u (is_listed v u.key.path) found key e h
 
 opens : (v : ℕ) (o : ℕ → Option Opening) (xs : List ℕ) → Opens o (find (λ a. opens_without v (o a)) xs) (first_of (λ a. key_without v (o a)) xs)
 opens v o [] = refl
@@ -37,7 +37,7 @@ opens v o (x ∷ xs) = by_opening v o x (o x) (find (λ a. opens_without v (o a)
 -- the hashkey for the lock is the one that comes from the base
 abbrev pub ComesFrom : Wallet → (ℕ → Option Hashkey) → Histories → ℕ → Option Base → Option Hashkey → Type 0
 ComesFrom w signed k i None key = key ≡ None
-ComesFrom w signed k i (Some b) key = (x : Hashkey) × (key_from w signed k i b ≡ Some x) × (key ≡ Some x)
+ComesFrom w signed k i (Some b) key = (x : Hashkey) × (make_due_key w signed k i b ≡ Some x) × (key ≡ Some x)
 
 onto : (w : Wallet) (signed : ℕ → Option Hashkey) (k : Histories) (i : ℕ) (found : Option ℕ) (key : Option Hashkey)
     → Opens (λ a. opened (history k a) i) found key → ComesFrom w signed k i (option_map Onto found) (extended w key)
@@ -59,5 +59,5 @@ pub comes_from : (d : Deal) (v : ℕ) (w : Wallet) (signed : ℕ → Option Hash
 unfolding due_base due_key seen_key
 comes_from d v w signed k i =
     by_signed w signed k i (signed i) _ _ refl
-    (by_lead w signed k i (leads d v i) _ _ (onto w signed k i (seen_on d v k i) (first_seen_key d k v i)
+    (by_lead w signed k i (leads d v i) _ _ (onto w signed k i (first_seen_arc d v k i) (first_seen_key d k v i)
     (opens v (λ a. opened (history k a) i) (leaving d.graph v))))

@@ -12,12 +12,12 @@ use Rattle.swap_digraph.specs.declared.deal.Deal.{Deal}
 use Rattle.swap_digraph.specs.Deal.{IsWellSized}
 use Rattle.escrow_core.specs.declared.terms.Terms.{Terms}
 use Rattle.ledger_core.specs.declared.entry.Entry.{Entry}
-use Rattle.swap_digraph.specs.Graph.{is_among}
+use Rattle.swap_digraph.specs.Graph.{is_listed}
 use Rattle.hashkey_path.specs.declared.hashkey.Hashkey.{Hashkey}
 use Rattle.swap_rules.specs.Party.{opens_without}
 use Rattle.ledger_core.specs.History.{accepted, Opening, opening, opened, is_open}
 use Rattle.ledger_core.specs.Facts.{opened_number}
-use Rattle.due_calls.specs.Known.{AreMadeFor}
+use Rattle.due_calls.specs.Known.{AreDealTerms}
 use Rattle.due_calls.proofs.Known.{terms_at}
 
 -- the first answer is that of the first element with an answer
@@ -80,7 +80,7 @@ pub not_opened : (h : List Entry) (i : ℕ) → opened_number h i ≡ None → o
 not_opened h i e = none_of (opened h i) (opened_number h i) (open_number h i) e
 
 -- a lock of the deal is a lock of the arc's correct terms
-pub has_lock : {A : Type 0} (terms : A → Terms) (d : Deal) (known : List A) (a i : ℕ) (x : A) → IsWellSized d → AreMadeFor terms d known
+pub has_lock : {A : Type 0} (terms : A → Terms) (d : Deal) (known : List A) (a i : ℕ) (x : A) → IsWellSized d → AreDealTerms terms d known
     → a < length known → x ≡ get_or known a x → i < length d.leaders → i < length (terms x).locks
 has_lock terms d known a i x sized made within is l =
     let e : length (terms x).locks ≡ length d.hashlocks = ap (λ t. length t.locks) (terms_at terms d known a x made within is) in
@@ -89,9 +89,9 @@ has_lock terms d known a i x sized made within is l =
 
 -- whether a path without v opened the lock, by the hashkey alone
 
-pub opens_by_key : (v : ℕ) (o : Option Opening) (key : Hashkey) → Some key ≡ option_map (λ x. x.key) o → not (is_among v key.path) ≡ opens_without v o
+pub opens_by_key : (v : ℕ) (o : Option Opening) (key : Hashkey) → Some key ≡ option_map (λ x. x.key) o → not (is_listed v key.path) ≡ opens_without v o
 opens_by_key v None key e = absurd (cc e)
-opens_by_key v (Some o) key e = ap (λ k. not (is_among v k.path)) (same_some key o.key e)
+opens_by_key v (Some o) key e = ap (λ k. not (is_listed v k.path)) (same_some key o.key e)
 
 pub opens_by_none : (v : ℕ) (o : Option Opening) → ◌≡◌ {A = Option Hashkey} None (option_map (λ x. x.key) o) → false ≡ opens_without v o
 opens_by_none v None e = refl

@@ -10,8 +10,8 @@ use Rattle.ledger_core.specs.History.{opened}
 use Rattle.ledger_core.specs.Book.{Histories, history}
 use Rattle.swap_rules.specs.Party.{opens_without}
 use Rattle.due_calls.proofs.First.{leaving_below, entering_below}
-use Rattle.due_calls.specs.Unlocks.{seen_on, IsSeenOn}
-use Rattle.due_calls.specs.Parts.{not_called, due_base, first_closed, unlock_due, unlock_for}
+use Rattle.due_calls.specs.Unlocks.{first_seen_arc, IsSeenOn}
+use Rattle.due_calls.specs.Parts.{not_called, due_base, first_closed, unlock_due, next_due_unlock}
 use Rattle.due_calls.specs.declared.unlock_due.Base.{Base}
 use Rattle.due_calls.specs.declared.unlock_due.Base.TheVariants.{Signed, Own, Onto}
 use Rattle.due_calls.specs.declared.unlock_due.UnlockDue.{UnlockDue}
@@ -25,7 +25,7 @@ same_some : {A : Type 0} (x y : A) → Some x ≡ Some y → x ≡ y
 same_some x y e = cc e
 
 module _ (d : Deal) (v : ℕ) (k : Histories) (i : ℕ) where
-  by_arc : (o : Option ℕ) (base : Base) → seen_on d v k i ≡ o → option_map Onto o ≡ Some base → IsSeenOn d v k i base
+  by_arc : (o : Option ℕ) (base : Base) → first_seen_arc d v k i ≡ o → option_map Onto o ≡ Some base → IsSeenOn d v k i base
   by_arc None base e h = absurd (cc h)
   by_arc (Some a) base e h =
       subst (IsSeenOn d v k i) (same_some (Onto a) base h) (
@@ -34,9 +34,9 @@ module _ (d : Deal) (v : ℕ) (k : Histories) (i : ℕ) where
         e,
       )
 
-  by_lead : (b : Bool) (base : Base) → cond b (Some Own) (option_map Onto (seen_on d v k i)) ≡ Some base → IsSeenOn d v k i base
+  by_lead : (b : Bool) (base : Base) → cond b (Some Own) (option_map Onto (first_seen_arc d v k i)) ≡ Some base → IsSeenOn d v k i base
   by_lead true base h = subst (IsSeenOn d v k i) (same_some Own base h) tt
-  by_lead false base h = by_arc (seen_on d v k i) base refl h
+  by_lead false base h = by_arc (first_seen_arc d v k i) base refl h
 
   by_signed : (signed : Option Hashkey) (base : Base) → due_base d v signed k i ≡ Some base → IsSeenOn d v k i base
   unfolding due_base
@@ -54,15 +54,15 @@ module _ (d : Deal) (v : ℕ) (k : Histories) (i : ℕ) where
   })
 
 in_lock : (d : Deal) (v : ℕ) (signed : ℕ → Option Hashkey) (k : Histories) (i : ℕ) (u : UnlockDue) → i < length d.leaders
-    → unlock_for d v signed k i ≡ Some u → IsPlaced d v k u
-unfolding unlock_for
+    → next_due_unlock d v signed k i ≡ Some u → IsPlaced d v k u
+unfolding next_due_unlock
 in_lock d v signed k i u l h = by_parts d v k i (signed i) (first_closed d v k i) (due_base d v (signed i) k i) u l refl refl h
 
-pub placed : (d : Deal) (v : ℕ) (signed : ℕ → Option Hashkey) (k : Histories) (r : Option UnlockDue) → r ≡ first_of (unlock_for d v signed k) (locks d)
+pub placed : (d : Deal) (v : ℕ) (signed : ℕ → Option Hashkey) (k : Histories) (r : Option UnlockDue) → r ≡ first_of (next_due_unlock d v signed k) (locks d)
     → IfSome r (IsPlaced d v k)
 placed d v signed k None e = tt
 placed d v signed k (Some u) e =
-    let x = first_at (unlock_for d v signed k) (locks d) u (sym e) in
+    let x = first_at (next_due_unlock d v signed k) (locks d) u (sym e) in
     let i = subst (IsIn x.now) (sym x.stands.1) (in_from_moment x.past x.now x.stands.0) in
     in_lock d v signed k x.now u (from_range x.now (length d.leaders) i) x.gives
 

@@ -3,7 +3,7 @@ use Rattle.std.proofs.Common.{◌≡◌, ◌∙◌, ℕ, Bool, true, false, ◌&
 use Rattle.std.specs.List.{find}
 use Rattle.swap_digraph.specs.Graph.{leaving}
 use Rattle.swap_digraph.specs.declared.deal.Deal.{Deal}
-use Rattle.escrow_core.specs.Terms.{terms_of}
+use Rattle.escrow_core.specs.Terms.{stated_terms}
 use Rattle.ledger_core.specs.declared.entry.Call.TheVariants.{Publish}
 use Rattle.ledger_core.specs.Book.{Histories, history}
 use Rattle.swap_rules.specs.Party.{is_ready, leads_one}
@@ -19,7 +19,7 @@ unpublished v k a = not (has_called v is_publish (history k a))
 if_may : (d : Deal) (v : ℕ) (k : Histories) → first (due_publishes d v k)
     ≡ option_map (publish_on d) (find (λ a. (leads_one d v || is_ready d k v) && unpublished v k a) (leaving d.graph v))
 unfolding is_due_publish
-if_may d v k = first_find (λ a. Publish (terms_of d a)) (is_due_publish d v k) (leaving d.graph v)
+if_may d v k = first_find (λ a. Publish (stated_terms d a)) (is_due_publish d v k) (leaving d.graph v)
 
 pub may : (d : Deal) (v : ℕ) (k : Histories) (b : Bool) (r : Option ℕ) → b ≡ (leads_one d v || is_ready d k v) → b ≡ true
     → r ≡ find (unpublished v k) (leaving d.graph v) → option_map (publish_on d) r ≡ first (due_publishes d v k)

@@ -10,10 +10,10 @@ use Rattle.hashkey_path.specs.declared.hashkey.Hashkey.{Hashkey}
 use Rattle.ledger_core.specs.declared.entry.Call.TheVariants.{Unlock}
 use Rattle.ledger_core.specs.Book.{Histories}
 use Rattle.swap_rules.specs.Party.{is_ready}
-use Rattle.swap_rules.specs.Due.{Wallet, Action, due_key, due_unlock_on, due_unlocks, presented, first}
+use Rattle.swap_rules.specs.Due.{Wallet, Action, due_key, due_arc_unlock, due_unlocks, presented, first}
 use Rattle.due_calls.proofs.First.{call_on, first_find}
-use Rattle.due_calls.specs.Unlocks.{key_from, IsFirstUnlock}
-use Rattle.due_calls.specs.Parts.{not_called, due_base, first_closed, unlock_due, unlock_for}
+use Rattle.due_calls.specs.Unlocks.{make_due_key, IsFirstUnlock}
+use Rattle.due_calls.specs.Parts.{not_called, due_base, first_closed, unlock_due, next_due_unlock}
 use Rattle.due_calls.specs.declared.unlock_due.Base.{Base}
 use Rattle.due_calls.specs.declared.unlock_due.UnlockDue.{UnlockDue}
 use Rattle.due_calls.proofs.Keys.{ComesFrom, comes_from}
@@ -21,7 +21,7 @@ use Rattle.due_calls.proofs.Keys.{ComesFrom, comes_from}
 -- the due unlock stands for the action
 abbrev Means : Wallet → (ℕ → Option Hashkey) → Histories → Option UnlockDue → Option Action → Type 0
 Means w signed k None o = o ≡ None
-Means w signed k (Some u) o = (key : Hashkey) × (key_from w signed k u.lock u.base ≡ Some key) × (o ≡ Some (record { arc = u.arc; call = Unlock key }))
+Means w signed k (Some u) o = (key : Hashkey) × (make_due_key w signed k u.lock u.base ≡ Some key) × (o ≡ Some (record { arc = u.arc; call = Unlock key }))
 
 -- On the arcs of one lock.
 
@@ -34,34 +34,34 @@ same_branches true x = refl
 same_branches false x = refl
 
 -- the unlock on the arc with the hashkey, where there are both
-abbrev unlock_with : Option Hashkey → Option ℕ → Option Action
-unlock_with None a = None
-unlock_with (Some key) a = option_map (call_on (λ a. Unlock key)) a
+abbrev make_unlock : Option Hashkey → Option ℕ → Option Action
+make_unlock None a = None
+make_unlock (Some key) a = option_map (call_on (λ a. Unlock key)) a
 
 first_present : (test : ℕ → Bool) (key : Option Hashkey) (xs : List ℕ)
-    → first (flat_map (λ a. cond (test a) (presented a key) []) xs) ≡ unlock_with key (find test xs)
+    → first (flat_map (λ a. cond (test a) (presented a key) []) xs) ≡ make_unlock key (find test xs)
 first_present test None xs = ap first (empty_flat (λ a. cond (test a) [] []) xs (λ a. same_branches (test a) []))
 first_present test (Some key) xs = first_find (λ a. Unlock key) test xs
 
-no_arc : (key : Option Hashkey) → unlock_with key None ≡ None
+no_arc : (key : Option Hashkey) → make_unlock key None ≡ None
 no_arc None = refl
 no_arc (Some key) = refl
 
 on_arc : (w : Wallet) (signed : ℕ → Option Hashkey) (k : Histories) (i : ℕ) (a : Option ℕ) (base : Option Base) (key : Option Hashkey)
-    → ComesFrom w signed k i base key → Means w signed k (unlock_due i a base) (unlock_with key a)
+    → ComesFrom w signed k i base key → Means w signed k (unlock_due i a base) (make_unlock key a)
 on_arc w signed k i None base key h = no_arc key
-on_arc w signed k i (Some a) None key h = ap (λ o. unlock_with o (Some a)) h
-on_arc w signed k i (Some a) (Some b) key h = (h.0, h.1, ap (λ o. unlock_with o (Some a)) h.2)
+on_arc w signed k i (Some a) None key h = ap (λ o. make_unlock o (Some a)) h
+on_arc w signed k i (Some a) (Some b) key h = (h.0, h.1, ap (λ o. make_unlock o (Some a)) h.2)
 
 on_lock : (d : Deal) (v : ℕ) (w : Wallet) (signed : ℕ → Option Hashkey) (k : Histories) → is_ready d k v ≡ true → (i : ℕ)
-    → Means w signed k (unlock_for d v signed k i) (first (flat_map (due_unlock_on d v w (signed i) k i) (entering d.graph v)))
-unfolding unlock_for due_unlock_on
+    → Means w signed k (next_due_unlock d v signed k i) (first (flat_map (due_arc_unlock d v w (signed i) k i) (entering d.graph v)))
+unfolding next_due_unlock due_arc_unlock
 on_lock d v w signed k ready i =
     let key = due_key d v w (signed i) k i in
-    let same : first (flat_map (due_unlock_on d v w (signed i) k i) (entering d.graph v)) ≡ unlock_with key (first_closed d v k i) =
+    let same : first (flat_map (due_arc_unlock d v w (signed i) k i) (entering d.graph v)) ≡ make_unlock key (first_closed d v k i) =
     ap (λ b. first (flat_map (λ a. cond (b && not_called v k i a) (presented a key) []) (entering d.graph v))) ready
     ∙ first_present (not_called v k i) key (entering d.graph v) in
-    subst (Means w signed k (unlock_for d v signed k i)) (sym same)
+    subst (Means w signed k (next_due_unlock d v signed k i)) (sym same)
     (on_arc w signed k i (first_closed d v k i) (due_base d v (signed i) k i) key (comes_from d v w signed k i))
 
 -- On all locks.
@@ -85,10 +85,10 @@ on_locks w signed k r f h (x ∷ xs) =
 -- What the first due unlock stands for.
 
 first_means : (d : Deal) (v : ℕ) (signed : ℕ → Option Hashkey) (k : Histories) (r : Option UnlockDue) → is_ready d k v ≡ true
-    → r ≡ first_of (unlock_for d v signed k) (locks d) → (w : Wallet) → Means w signed k r (first (due_unlocks d v w signed k))
+    → r ≡ first_of (next_due_unlock d v signed k) (locks d) → (w : Wallet) → Means w signed k r (first (due_unlocks d v w signed k))
 first_means d v signed k r ready e w =
     subst (λ r. Means w signed k r (first (due_unlocks d v w signed k))) (sym e)
-    (on_locks w signed k (unlock_for d v signed k) (λ i. flat_map (due_unlock_on d v w (signed i) k i) (entering d.graph v))
+    (on_locks w signed k (next_due_unlock d v signed k) (λ i. flat_map (due_arc_unlock d v w (signed i) k i) (entering d.graph v))
     (on_lock d v w signed k ready) (locks d))
 
 some_means : (d : Deal) (v : ℕ) (signed : ℕ → Option Hashkey) (k : Histories) (r : Option UnlockDue)
@@ -97,7 +97,7 @@ some_means d v signed k None h = tt
 some_means d v signed k (Some u) h = λ w. let m = h w in record { key = m.0; from = m.1; call = m.2 }
 
 pub some : (d : Deal) (v : ℕ) (signed : ℕ → Option Hashkey) (k : Histories) (r : Option UnlockDue) → is_ready d k v ≡ true
-    → r ≡ first_of (unlock_for d v signed k) (locks d) → IfSome r (λ u. (w : Wallet) → IsFirstUnlock d v signed k u w)
+    → r ≡ first_of (next_due_unlock d v signed k) (locks d) → IfSome r (λ u. (w : Wallet) → IsFirstUnlock d v signed k u w)
 some d v signed k r ready e = some_means d v signed k r (first_means d v signed k r ready e)
 
 empty_of : (xs : List Action) → first xs ≡ None → xs ≡ []
@@ -105,15 +105,15 @@ empty_of [] e = refl
 empty_of (x ∷ xs) e = absurd (cc e)
 
 pub none : (d : Deal) (v : ℕ) (signed : ℕ → Option Hashkey) (k : Histories) (r : Option UnlockDue) → is_ready d k v ≡ true
-    → r ≡ first_of (unlock_for d v signed k) (locks d) → r ≡ None → (w : Wallet) → due_unlocks d v w signed k ≡ []
+    → r ≡ first_of (next_due_unlock d v signed k) (locks d) → r ≡ None → (w : Wallet) → due_unlocks d v w signed k ≡ []
 none d v signed k r ready e n w =
     empty_of (due_unlocks d v w signed k) (subst (λ r. Means w signed k r (first (due_unlocks d v w signed k))) n
     (first_means d v signed k r ready e w))
 
 -- nothing is due before the party is ready
 pub not_ready : (d : Deal) (v : ℕ) (w : Wallet) (signed : ℕ → Option Hashkey) (k : Histories) → is_ready d k v ≡ false → due_unlocks d v w signed k ≡ []
-unfolding due_unlock_on
+unfolding due_arc_unlock
 not_ready d v w signed k e =
-    empty_flat (λ i. flat_map (due_unlock_on d v w (signed i) k i) (entering d.graph v)) (locks d)
-    (λ i. empty_flat (due_unlock_on d v w (signed i) k i) (entering d.graph v) (λ a.
+    empty_flat (λ i. flat_map (due_arc_unlock d v w (signed i) k i) (entering d.graph v)) (locks d)
+    (λ i. empty_flat (due_arc_unlock d v w (signed i) k i) (entering d.graph v) (λ a.
     ap (λ b. cond (b && not_called v k i a) (presented a (due_key d v w (signed i) k i)) []) e))

@@ -3,8 +3,8 @@ use Rattle.std.specs.Prelude.{◌≡◌, List, map}
 use Rattle.swap_digraph.specs.Graph.{arcs}
 use Rattle.swap_digraph.specs.declared.deal.Deal.{Deal}
 use Rattle.escrow_core.specs.declared.terms.Terms.{Terms}
-use Rattle.escrow_core.specs.Terms.{terms_of}
+use Rattle.escrow_core.specs.Terms.{stated_terms}
 
 -- One member per arc, made for the arc's correct terms.
-abbrev pub AreMadeFor : {A : Type 0} → (A → Terms) → Deal → List A → Type 0
-AreMadeFor terms d known = map terms known ≡ map (terms_of d) (arcs d.graph)
+abbrev pub AreDealTerms : {A : Type 0} → (A → Terms) → Deal → List A → Type 0
+AreDealTerms terms d known = map terms known ≡ map (stated_terms d) (arcs d.graph)

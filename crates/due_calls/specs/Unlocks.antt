@@ -18,24 +18,24 @@ abbrev pub key_on : Histories → ℕ → ℕ → Option Hashkey
 key_on k a i = option_map (λ o. o.key) (opened (history k a) i)
 
 -- the hashkey for lock i that comes from there, if any
-abbrev pub key_from : Wallet → (ℕ → Option Hashkey) → Histories → ℕ → Base → Option Hashkey
-key_from w signed k i Signed = signed i
-key_from w signed k i Own = Some (w.first i)
-key_from w signed k i (Onto a) = extended w (key_on k a i)
+abbrev pub make_due_key : Wallet → (ℕ → Option Hashkey) → Histories → ℕ → Base → Option Hashkey
+make_due_key w signed k i Signed = signed i
+make_due_key w signed k i Own = Some (w.first i)
+make_due_key w signed k i (Onto a) = extended w (key_on k a i)
 
 -- The first due unlock of v is the call on that arc with the hashkey that comes from there.
 pub record IsFirstUnlock (d : Deal) (v : ℕ) (signed : ℕ → Option Hashkey) (k : Histories) (u : UnlockDue) (w : Wallet) : Type 0 where
   pub key : Hashkey
-  pub from : key_from w signed k u.lock u.base ≡ Some key
+  pub from : make_due_key w signed k u.lock u.base ≡ Some key
   pub call : first (due_unlocks d v w signed k) ≡ Some (record { arc = u.arc; call = Unlock key })
 
 -- the least-numbered arc that leaves v on which a path without v opened lock i
-abbrev pub seen_on : Deal → ℕ → Histories → ℕ → Option ℕ
-seen_on d v k i = find (λ a. opens_without v (opened (history k a) i)) (leaving d.graph v)
+abbrev pub first_seen_arc : Deal → ℕ → Histories → ℕ → Option ℕ
+first_seen_arc d v k i = find (λ a. opens_without v (opened (history k a) i)) (leaving d.graph v)
 
 -- The arc whose hashkey the party extends, if any: the least-numbered arc that leaves v and on
 -- which a path without v opened lock i.
 abbrev pub IsSeenOn : Deal → ℕ → Histories → ℕ → Base → Type 0
 IsSeenOn d v k i Signed = Unit {0}
 IsSeenOn d v k i Own = Unit {0}
-IsSeenOn d v k i (Onto a) = (a < length d.graph.arcs) × (seen_on d v k i ≡ Some a)
+IsSeenOn d v k i (Onto a) = (a < length d.graph.arcs) × (first_seen_arc d v k i ≡ Some a)

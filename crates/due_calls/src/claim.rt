@@ -6,7 +6,7 @@ ghost use Rattle.swap_digraph.specs.Graph.{entering};
 ghost use Rattle.swap_digraph.specs.Deal.{IsWellSized};
 ghost use Rattle.swap_rules.specs.Due.{due_claims, first, has_called, is_claiming, is_due_claim};
 ghost use Rattle.ledger_core.specs.Book.{history};
-ghost use Rattle.due_calls.specs.Known.{AreMadeFor};
+ghost use Rattle.due_calls.specs.Known.{AreDealTerms};
 ghost use Rattle.due_calls.specs.Settling.{claim_on};
 
 use crate::locks::is_triggered;
@@ -29,7 +29,7 @@ fn has_claimed<F: Facts>(me: PartyId, known: &[F], arc: ArcId) -> bool
 #[tactic(auto, unfolding(swap_rules::specs::Due::is_due_claim))]
 pub fn is_due_claim<F: Facts>(deal: &Deal, me: PartyId, known: &[F], arc: ArcId) -> bool
     requires sized { IsWellSized deal.now }
-    requires known { AreMadeFor F.terms deal.now known.now }
+    requires known { AreDealTerms F.terms deal.now known.now }
     ensures { result ≡ is_due_claim deal.now me (map F.entries known.now) arc }
 {
     is_correct(deal, known, arc) && is_triggered(deal, known, arc) && !has_claimed(me, known, arc)
@@ -39,7 +39,7 @@ pub fn is_due_claim<F: Facts>(deal: &Deal, me: PartyId, known: &[F], arc: ArcId)
 fn first_claim<F: Facts>(deal: &Deal, me: PartyId, known: &[F]) -> Option<ArcId>
     requires sized { IsWellSized deal.now }
     requires me { me < deal.now.graph.n }
-    requires known { AreMadeFor F.terms deal.now known.now }
+    requires known { AreDealTerms F.terms deal.now known.now }
     ensures { result ≡ find (is_due_claim deal.now me (map F.entries known.now)) (entering deal.now.graph me) }
 {
     let entering = deal.graph.entering(me);
@@ -53,7 +53,7 @@ fn first_claim<F: Facts>(deal: &Deal, me: PartyId, known: &[F]) -> Option<ArcId>
 pub fn due_claim<F: Facts>(deal: &Deal, me: PartyId, known: &[F]) -> Option<ArcId>
     requires sized { IsWellSized deal.now }
     requires me { me < deal.now.graph.n }
-    requires known { AreMadeFor F.terms deal.now known.now }
+    requires known { AreDealTerms F.terms deal.now known.now }
     ensures first { option_map claim_on result ≡ first (due_claims deal.now me (map F.entries known.now)) }
     ensures arc { IfSome result (λ a. a < length deal.now.graph.arcs) }
 {

@@ -4,8 +4,8 @@ ghost use Rattle.std.specs.Prelude.{◌≡◌, ◌<◌, ◌^◌, length, map};
 ghost use Rattle.swap_digraph.specs.Deal.{IsWellSized};
 ghost use Rattle.ledger_core.specs.Book.{history};
 ghost use Rattle.ledger_core.specs.History.{height, published};
-ghost use Rattle.swap_rules.specs.Party.{height_in, least_expiry, ready_height};
-ghost use Rattle.due_calls.specs.Known.{AreMadeFor};
+ghost use Rattle.swap_rules.specs.Party.{publication_height, least_expiry, ready_height};
+ghost use Rattle.due_calls.specs.Known.{AreDealTerms};
 
 use crate::locks::{expiry, is_open};
 use crate::readings::published;
@@ -15,7 +15,7 @@ use swap_base::{ArcId, PartyId};
 use swap_digraph::Deal;
 
 /// The height of the arc's ledger, the sum of its ticks.
-pub fn height_on<F: Facts>(known: &[F], arc: ArcId) -> u32
+pub fn arc_height<F: Facts>(known: &[F], arc: ArcId) -> u32
     ensures { result ≡ height (history (map F.entries known.now) arc) }
 {
     match known.get(arc as usize) {
@@ -26,8 +26,8 @@ pub fn height_on<F: Facts>(known: &[F], arc: ArcId) -> u32
 
 /// The height of the arc's accepted publish, 0 where there is none.
 pub fn publish_height<F: Facts>(deal: &Deal, known: &[F], arc: ArcId) -> u32
-    requires known { AreMadeFor F.terms deal.now known.now }
-    ensures { result ≡ height_in (published (history (map F.entries known.now) arc)) }
+    requires known { AreDealTerms F.terms deal.now known.now }
+    ensures { result ≡ publication_height (published (history (map F.entries known.now) arc)) }
 {
     match published(deal, known, arc) {
         Some(publish) => publish.height,
@@ -39,7 +39,7 @@ pub fn publish_height<F: Facts>(deal: &Deal, known: &[F], arc: ArcId) -> u32
 #[tactic(auto, using(crate::proofs::Greatest::greatest_fold), unfolding(swap_rules::specs::Party::ready_height))]
 pub fn ready_height<F: Facts>(deal: &Deal, me: PartyId, known: &[F]) -> u32
     requires me { me < deal.now.graph.n }
-    requires known { AreMadeFor F.terms deal.now known.now }
+    requires known { AreDealTerms F.terms deal.now known.now }
     ensures { result ≡ ready_height deal.now (map F.entries known.now) me }
 {
     let entering = deal.graph.entering(me);
@@ -53,7 +53,7 @@ pub fn ready_height<F: Facts>(deal: &Deal, me: PartyId, known: &[F]) -> u32
 #[tactic(auto, using(escrow_core::proofs::Least::unwrap_least))]
 pub fn least_expiry<F: Facts>(deal: &Deal, known: &[F], arc: ArcId) -> u64
     requires sized { IsWellSized deal.now }
-    requires known { AreMadeFor F.terms deal.now known.now }
+    requires known { AreDealTerms F.terms deal.now known.now }
     requires arc { arc < length deal.now.graph.arcs }
     ensures exact { result ≡ least_expiry deal.now arc (history (map F.entries known.now) arc) }
     ensures small { result < 2 ^ 62 }

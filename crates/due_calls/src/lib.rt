@@ -23,11 +23,11 @@ mod unlock;
 mod unlock_due;
 
 pub use claim::{due_claim, is_due_claim};
-pub use heights::{height_on, least_expiry, publish_height, ready_height};
+pub use heights::{arc_height, least_expiry, publish_height, ready_height};
 pub use locks::{expiry, is_open, is_triggered, leads};
 pub use publish::{due_publish, has_published, may_publish};
 pub use readings::{is_correct, is_good, is_ready, leads_one, published};
 pub use refund::{due_refund, is_due_refund};
-pub use rest::rest_until;
+pub use rest::rest_deadline;
 pub use unlock::{due_base, due_unlock};
 pub use unlock_due::{Base, UnlockDue};

@@ -5,7 +5,7 @@ ghost use Rattle.swap_digraph.specs.Deal.{leads, IsWellSized};
 ghost use Rattle.ledger_core.specs.Book.{history};
 ghost use Rattle.ledger_core.specs.History.{is_open};
 ghost use Rattle.swap_rules.specs.Party.{expiry, has_expired, is_triggered};
-ghost use Rattle.due_calls.specs.Known.{AreMadeFor};
+ghost use Rattle.due_calls.specs.Known.{AreDealTerms};
 
 use ledger_core::Facts;
 use swap_base::{ArcId, LockId, PartyId};
@@ -15,7 +15,7 @@ use time_bounds::{last_expiry, own_expiry};
 /// Whether the lock is opened on the arc.
 pub fn is_open<F: Facts>(deal: &Deal, known: &[F], arc: ArcId, lock: LockId) -> bool
     requires sized { IsWellSized deal.now }
-    requires known { AreMadeFor F.terms deal.now known.now }
+    requires known { AreDealTerms F.terms deal.now known.now }
     requires lock { lock < length deal.now.leaders }
     ensures { result ≡ is_open (history (map F.entries known.now) arc) lock }
 {
@@ -28,7 +28,7 @@ pub fn is_open<F: Facts>(deal: &Deal, known: &[F], arc: ArcId, lock: LockId) -> 
 /// Whether every lock of the arc is opened.
 pub fn is_triggered<F: Facts>(deal: &Deal, known: &[F], arc: ArcId) -> bool
     requires sized { IsWellSized deal.now }
-    requires known { AreMadeFor F.terms deal.now known.now }
+    requires known { AreDealTerms F.terms deal.now known.now }
     ensures { result ≡ is_triggered deal.now (map F.entries known.now) arc }
 {
     (0..deal.leaders.len() as u8).all(|lock| is_open(deal, known, arc, lock))
@@ -68,7 +68,7 @@ pub fn expiry(deal: &Deal, arc: ArcId, lock: LockId) -> u64
 /// Whether the lock isn't opened on the arc, and a height is above its expiry.
 fn is_expired<F: Facts>(deal: &Deal, known: &[F], arc: ArcId, at: u32, lock: LockId) -> bool
     requires sized { IsWellSized deal.now }
-    requires known { AreMadeFor F.terms deal.now known.now }
+    requires known { AreDealTerms F.terms deal.now known.now }
     requires arc { arc < length deal.now.graph.arcs }
     requires lock { lock < length deal.now.leaders }
     ensures { result ≡ (not (is_open (history (map F.entries known.now) arc) lock) && nat_lt (expiry deal.now arc lock) at) }
@@ -79,7 +79,7 @@ fn is_expired<F: Facts>(deal: &Deal, known: &[F], arc: ArcId, at: u32, lock: Loc
 /// Whether a height is above the expiry of a lock that isn't opened on the arc.
 pub fn has_expired<F: Facts>(deal: &Deal, known: &[F], arc: ArcId, at: u32) -> bool
     requires sized { IsWellSized deal.now }
-    requires known { AreMadeFor F.terms deal.now known.now }
+    requires known { AreDealTerms F.terms deal.now known.now }
     requires arc { arc < length deal.now.graph.arcs }
     ensures { result ≡ has_expired deal.now arc (history (map F.entries known.now) arc) at }
 {

@@ -8,7 +8,7 @@ ghost use Rattle.swap_rules.specs.Party.{is_ready, leads_one};
 ghost use Rattle.swap_rules.specs.Conduct.{is_publish};
 ghost use Rattle.swap_rules.specs.Due.{due_publishes, first, has_called};
 ghost use Rattle.ledger_core.specs.Book.{history};
-ghost use Rattle.due_calls.specs.Known.{AreMadeFor};
+ghost use Rattle.due_calls.specs.Known.{AreDealTerms};
 ghost use Rattle.due_calls.specs.Publish.{publish_on};
 
 use crate::readings::{is_ready, leads_one};
@@ -42,7 +42,7 @@ fn first_unpublished<F: Facts>(deal: &Deal, me: PartyId, known: &[F]) -> Option<
 pub fn may_publish<F: Facts>(deal: &Deal, me: PartyId, known: &[F]) -> bool
     requires sized { IsWellSized deal.now }
     requires me { me < deal.now.graph.n }
-    requires known { AreMadeFor F.terms deal.now known.now }
+    requires known { AreDealTerms F.terms deal.now known.now }
     ensures { result ≡ (leads_one deal.now me || is_ready deal.now (map F.entries known.now) me) }
 {
     leads_one(deal, me) || is_ready(deal, me, known)
@@ -52,7 +52,7 @@ pub fn may_publish<F: Facts>(deal: &Deal, me: PartyId, known: &[F]) -> bool
 pub fn due_publish<F: Facts>(deal: &Deal, me: PartyId, known: &[F]) -> Option<ArcId>
     requires sized { IsWellSized deal.now }
     requires me { me < deal.now.graph.n }
-    requires known { AreMadeFor F.terms deal.now known.now }
+    requires known { AreDealTerms F.terms deal.now known.now }
     ensures first { option_map (publish_on deal.now) result ≡ first (due_publishes deal.now me (map F.entries known.now)) }
     ensures arc { IfSome result (λ a. a < length deal.now.graph.arcs) }
 {

@@ -5,13 +5,13 @@ ghost use Rattle.swap_digraph.specs.Deal.{IsWellSized};
 ghost use Rattle.swap_rules.specs.Party.{is_correct, is_good, is_ready, leads_one};
 ghost use Rattle.ledger_core.specs.Book.{history};
 ghost use Rattle.ledger_core.specs.Facts.{published_as};
-ghost use Rattle.escrow_core.specs.Terms.{terms_of};
-ghost use Rattle.due_calls.specs.Known.{AreMadeFor};
+ghost use Rattle.escrow_core.specs.Terms.{stated_terms};
+ghost use Rattle.due_calls.specs.Known.{AreDealTerms};
 
 use ledger_core::{Facts, Published};
 use swap_base::{ArcId, PartyId};
 use swap_digraph::Deal;
-use time_bounds::open_by;
+use time_bounds::opening_deadline;
 
 /// Whether the party leads a lock.
 pub fn leads_one(deal: &Deal, me: PartyId) -> bool
@@ -22,8 +22,8 @@ pub fn leads_one(deal: &Deal, me: PartyId) -> bool
 
 /// The arc's accepted publish: its height, and whether it has the correct terms.
 pub fn published<F: Facts>(deal: &Deal, known: &[F], arc: ArcId) -> Option<Published>
-    requires known { AreMadeFor F.terms deal.now known.now }
-    ensures { result ≡ published_as (terms_of deal.now arc) (history (map F.entries known.now) arc) }
+    requires known { AreDealTerms F.terms deal.now known.now }
+    ensures { result ≡ published_as (stated_terms deal.now arc) (history (map F.entries known.now) arc) }
 {
     match known.get(arc as usize) {
         Some(fact) => fact.published(),
@@ -33,7 +33,7 @@ pub fn published<F: Facts>(deal: &Deal, known: &[F], arc: ArcId) -> Option<Publi
 
 /// Whether the arc's accepted publish has the correct terms.
 pub fn is_correct<F: Facts>(deal: &Deal, known: &[F], arc: ArcId) -> bool
-    requires known { AreMadeFor F.terms deal.now known.now }
+    requires known { AreDealTerms F.terms deal.now known.now }
     ensures { result ≡ is_correct deal.now (map F.entries known.now) arc }
 {
     match published(deal, known, arc) {
@@ -45,12 +45,13 @@ pub fn is_correct<F: Facts>(deal: &Deal, known: &[F], arc: ArcId) -> bool
 /// Whether the arc's accepted publish has the correct terms, and came at most at the height by which contracts open.
 pub fn is_good<F: Facts>(deal: &Deal, known: &[F], arc: ArcId) -> bool
     requires sized { IsWellSized deal.now }
-    requires known { AreMadeFor F.terms deal.now known.now }
+    requires known { AreDealTerms F.terms deal.now known.now }
     ensures { result ≡ is_good deal.now (map F.entries known.now) arc }
 {
     match published(deal, known, arc) {
         Some(publish) => {
-            publish.correct && publish.height as u64 <= open_by(deal.start, deal.delta, deal.bound)
+            publish.correct
+                && publish.height as u64 <= opening_deadline(deal.start, deal.delta, deal.bound)
         }
         None => false,
     }
@@ -61,7 +62,7 @@ pub fn is_good<F: Facts>(deal: &Deal, known: &[F], arc: ArcId) -> bool
 pub fn is_ready<F: Facts>(deal: &Deal, me: PartyId, known: &[F]) -> bool
     requires sized { IsWellSized deal.now }
     requires me { me < deal.now.graph.n }
-    requires known { AreMadeFor F.terms deal.now known.now }
+    requires known { AreDealTerms F.terms deal.now known.now }
     ensures { result ≡ is_ready deal.now (map F.entries known.now) me }
 {
     let entering = deal.graph.entering(me);

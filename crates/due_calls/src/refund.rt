@@ -7,10 +7,10 @@ ghost use Rattle.swap_digraph.specs.Deal.{IsWellSized};
 ghost use Rattle.swap_rules.specs.Due.{due_refunds, first, has_called, is_due_refund, is_refunding};
 ghost use Rattle.ledger_core.specs.Book.{history};
 ghost use Rattle.ledger_core.specs.History.{published, settled};
-ghost use Rattle.due_calls.specs.Known.{AreMadeFor};
+ghost use Rattle.due_calls.specs.Known.{AreDealTerms};
 ghost use Rattle.due_calls.specs.Settling.{refund_on};
 
-use crate::heights::height_on;
+use crate::heights::arc_height;
 use crate::locks::{has_expired, is_triggered};
 use ledger_core::{CallKind, Facts};
 use swap_base::{ArcId, PartyId};
@@ -41,12 +41,12 @@ pub(crate) fn has_refunded<F: Facts>(me: PartyId, known: &[F], arc: ArcId) -> bo
 #[tactic(auto, unfolding(swap_rules::specs::Due::is_due_refund))]
 pub fn is_due_refund<F: Facts>(deal: &Deal, me: PartyId, known: &[F], arc: ArcId) -> bool
     requires sized { IsWellSized deal.now }
-    requires known { AreMadeFor F.terms deal.now known.now }
+    requires known { AreDealTerms F.terms deal.now known.now }
     ensures { result ≡ is_due_refund deal.now me (map F.entries known.now) arc }
 {
     is_held(known, arc)
         && !is_triggered(deal, known, arc)
-        && has_expired(deal, known, arc, height_on(known, arc))
+        && has_expired(deal, known, arc, arc_height(known, arc))
         && !has_refunded(me, known, arc)
 }
 
@@ -54,7 +54,7 @@ pub fn is_due_refund<F: Facts>(deal: &Deal, me: PartyId, known: &[F], arc: ArcId
 fn first_refund<F: Facts>(deal: &Deal, me: PartyId, known: &[F]) -> Option<ArcId>
     requires sized { IsWellSized deal.now }
     requires me { me < deal.now.graph.n }
-    requires known { AreMadeFor F.terms deal.now known.now }
+    requires known { AreDealTerms F.terms deal.now known.now }
     ensures { result ≡ find (is_due_refund deal.now me (map F.entries known.now)) (leaving deal.now.graph me) }
 {
     let leaving = deal.graph.leaving(me);
@@ -68,7 +68,7 @@ fn first_refund<F: Facts>(deal: &Deal, me: PartyId, known: &[F]) -> Option<ArcId
 pub fn due_refund<F: Facts>(deal: &Deal, me: PartyId, known: &[F]) -> Option<ArcId>
     requires sized { IsWellSized deal.now }
     requires me { me < deal.now.graph.n }
-    requires known { AreMadeFor F.terms deal.now known.now }
+    requires known { AreDealTerms F.terms deal.now known.now }
     ensures first { option_map refund_on result ≡ first (due_refunds deal.now me (map F.entries known.now)) }
     ensures arc { IfSome result (λ a. a < length deal.now.graph.arcs) }
 {

@@ -2,8 +2,8 @@
 
 ghost use Rattle.std.specs.Prelude.{◌≡◌, ◌<◌, true, map, length};
 ghost use Rattle.swap_digraph.specs.Deal.{IsWellSized};
-ghost use Rattle.swap_rules.specs.Rest.{is_waiting, rest_until};
-ghost use Rattle.due_calls.specs.Known.{AreMadeFor};
+ghost use Rattle.swap_rules.specs.Rest.{is_waiting, rest_deadline};
+ghost use Rattle.due_calls.specs.Known.{AreDealTerms};
 
 use crate::heights::least_expiry;
 use crate::locks::is_triggered;
@@ -16,7 +16,7 @@ use swap_digraph::Deal;
 /// Whether the party waits for a refund on the arc, which leaves it.
 fn is_waiting<F: Facts>(deal: &Deal, me: PartyId, known: &[F], arc: ArcId) -> bool
     requires sized { IsWellSized deal.now }
-    requires known { AreMadeFor F.terms deal.now known.now }
+    requires known { AreDealTerms F.terms deal.now known.now }
     ensures exact { result ≡ is_waiting deal.now me (map F.entries known.now) arc }
     ensures within { result ≡ true → arc < length known.now }
 {
@@ -25,11 +25,11 @@ fn is_waiting<F: Facts>(deal: &Deal, me: PartyId, known: &[F], arc: ArcId) -> bo
 
 /// The height up to which a party for which nothing is due may rest: the least expiry of the refunds that it waits for, none where it waits for none.
 /// Ticks up to it make nothing due. It takes no memory.
-pub fn rest_until<F: Facts>(deal: &Deal, me: PartyId, known: &[F]) -> Option<u64>
+pub fn rest_deadline<F: Facts>(deal: &Deal, me: PartyId, known: &[F]) -> Option<u64>
     requires sized { IsWellSized deal.now }
     requires me { me < deal.now.graph.n }
-    requires known { AreMadeFor F.terms deal.now known.now }
-    ensures { result ≡ rest_until deal.now me (map F.entries known.now) }
+    requires known { AreDealTerms F.terms deal.now known.now }
+    ensures { result ≡ rest_deadline deal.now me (map F.entries known.now) }
 {
     let mut until = None;
     'arcs: for arc in deal.graph.leaving(me) {

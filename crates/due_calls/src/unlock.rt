@@ -4,12 +4,12 @@ ghost use Rattle.std.specs.Prelude.{◌≡◌, ◌<◌, [], None, IfSome, is_som
 ghost use Rattle.swap_base.specs.Lists.{first_of};
 ghost use Rattle.swap_digraph.specs.Deal.{locks, IsWellSized};
 ghost use Rattle.swap_rules.specs.Party.{opens_without};
-ghost use Rattle.swap_rules.specs.Due.{due_unlocks, has_called, is_unlock_for, Wallet};
+ghost use Rattle.swap_rules.specs.Due.{due_unlocks, has_called, unlocks_lock, Wallet};
 ghost use Rattle.ledger_core.specs.Book.{history};
 ghost use Rattle.ledger_core.specs.History.{opened};
-ghost use Rattle.due_calls.specs.Known.{AreMadeFor};
-ghost use Rattle.due_calls.specs.Parts.{due_base, first_closed, unlock_for};
-ghost use Rattle.due_calls.specs.Unlocks.{seen_on, IsFirstUnlock, IsSeenOn};
+ghost use Rattle.due_calls.specs.Known.{AreDealTerms};
+ghost use Rattle.due_calls.specs.Parts.{due_base, first_closed, next_due_unlock};
+ghost use Rattle.due_calls.specs.Unlocks.{first_seen_arc, IsFirstUnlock, IsSeenOn};
 ghost use Rattle.party_wallet.specs.Value.{signed_in};
 
 use crate::locks::leads;
@@ -18,18 +18,18 @@ use crate::unlock_due::{Base, UnlockDue};
 use ledger_core::{CallKind, Facts};
 use party_wallet::Signed;
 use swap_base::{ArcId, LockId, PartyId};
-use swap_digraph::{Deal, is_among};
+use swap_digraph::{Deal, is_listed};
 
 /// Whether a path without the party opened the lock on the arc.
 fn is_seen<F: Facts>(deal: &Deal, me: PartyId, known: &[F], lock: LockId, arc: ArcId) -> bool
     requires sized { IsWellSized deal.now }
-    requires known { AreMadeFor F.terms deal.now known.now }
+    requires known { AreDealTerms F.terms deal.now known.now }
     requires lock { lock < length deal.now.leaders }
     ensures { result ≡ opens_without me (opened (history (map F.entries known.now) arc) lock) }
 {
     match known.get(arc as usize) {
         Some(fact) => match fact.opened_key(lock) {
-            Some(key) => !is_among(me, key.path.as_slice()),
+            Some(key) => !is_listed(me, key.path.as_slice()),
             None => false,
         },
         None => false,
@@ -37,12 +37,12 @@ fn is_seen<F: Facts>(deal: &Deal, me: PartyId, known: &[F], lock: LockId, arc: A
 }
 
 /// The first leaving arc on which a path without the party opened the lock.
-fn seen_on<F: Facts>(deal: &Deal, me: PartyId, known: &[F], lock: LockId) -> Option<ArcId>
+fn first_seen_arc<F: Facts>(deal: &Deal, me: PartyId, known: &[F], lock: LockId) -> Option<ArcId>
     requires sized { IsWellSized deal.now }
     requires me { me < deal.now.graph.n }
-    requires known { AreMadeFor F.terms deal.now known.now }
+    requires known { AreDealTerms F.terms deal.now known.now }
     requires lock { lock < length deal.now.leaders }
-    ensures { result ≡ seen_on deal.now me (map F.entries known.now) lock }
+    ensures { result ≡ first_seen_arc deal.now me (map F.entries known.now) lock }
 {
     let leaving = deal.graph.leaving(me);
     leaving
@@ -62,7 +62,7 @@ pub fn due_base<F: Facts>(
 ) -> Option<Base>
     requires sized { IsWellSized deal.now }
     requires me { me < deal.now.graph.n }
-    requires known { AreMadeFor F.terms deal.now known.now }
+    requires known { AreDealTerms F.terms deal.now known.now }
     requires lock { lock < length deal.now.leaders }
     requires signed { length signed.now.keys ≡ length deal.now.leaders }
     ensures { result ≡ due_base deal.now me (signed_in signed.now.keys lock) (map F.entries known.now) lock }
@@ -72,7 +72,7 @@ pub fn due_base<F: Facts>(
     } else if leads(deal, me, lock) {
         Some(Base::Own)
     } else {
-        match seen_on(deal, me, known, lock) {
+        match first_seen_arc(deal, me, known, lock) {
             Some(arc) => Some(Base::Onto(arc)),
             None => None,
         }
@@ -81,7 +81,7 @@ pub fn due_base<F: Facts>(
 
 /// Whether the party made an unlock for the lock on the arc, whatever the reply.
 fn has_called<F: Facts>(me: PartyId, known: &[F], lock: LockId, arc: ArcId) -> bool
-    ensures { result ≡ has_called me (is_unlock_for lock) (history (map F.entries known.now) arc) }
+    ensures { result ≡ has_called me (unlocks_lock lock) (history (map F.entries known.now) arc) }
 {
     match known.get(arc as usize) {
         Some(fact) => fact.called(me, CallKind::Unlock(lock)),
@@ -102,8 +102,8 @@ fn first_closed<F: Facts>(deal: &Deal, me: PartyId, known: &[F], lock: LockId) -
 }
 
 /// The unlock for the lock that is due where the party is ready.
-#[tactic(auto, unfolding(crate::specs::Parts::unlock_for))]
-fn unlock_for<F: Facts>(
+#[tactic(auto, unfolding(crate::specs::Parts::next_due_unlock))]
+fn next_due_unlock<F: Facts>(
     deal: &Deal,
     me: PartyId,
     known: &[F],
@@ -112,10 +112,10 @@ fn unlock_for<F: Facts>(
 ) -> Option<UnlockDue>
     requires sized { IsWellSized deal.now }
     requires me { me < deal.now.graph.n }
-    requires known { AreMadeFor F.terms deal.now known.now }
+    requires known { AreDealTerms F.terms deal.now known.now }
     requires lock { lock < length deal.now.leaders }
     requires signed { length signed.now.keys ≡ length deal.now.leaders }
-    ensures { result ≡ unlock_for deal.now me (signed_in signed.now.keys) (map F.entries known.now) lock }
+    ensures { result ≡ next_due_unlock deal.now me (signed_in signed.now.keys) (map F.entries known.now) lock }
 {
     match first_closed(deal, me, known, lock) {
         Some(arc) => match due_base(deal, me, known, signed, lock) {
@@ -135,12 +135,12 @@ fn first_unlock<F: Facts>(
 ) -> Option<UnlockDue>
     requires sized { IsWellSized deal.now }
     requires me { me < deal.now.graph.n }
-    requires known { AreMadeFor F.terms deal.now known.now }
+    requires known { AreDealTerms F.terms deal.now known.now }
     requires signed { length signed.now.keys ≡ length deal.now.leaders }
-    ensures { result ≡ first_of (unlock_for deal.now me (signed_in signed.now.keys) (map F.entries known.now)) (locks deal.now) }
+    ensures { result ≡ first_of (next_due_unlock deal.now me (signed_in signed.now.keys) (map F.entries known.now)) (locks deal.now) }
 {
     for lock in 0..deal.leaders.len() as u8 {
-        let found = unlock_for(deal, me, known, signed, lock);
+        let found = next_due_unlock(deal, me, known, signed, lock);
         if found.is_some() {
             return found;
         }
@@ -157,7 +157,7 @@ pub fn due_unlock<F: Facts>(
 ) -> Option<UnlockDue>
     requires sized { IsWellSized deal.now }
     requires me { me < deal.now.graph.n }
-    requires known { AreMadeFor F.terms deal.now known.now }
+    requires known { AreDealTerms F.terms deal.now known.now }
     requires signed { length signed.now.keys ≡ length deal.now.leaders }
     ensures some { IfSome result (λ u. (w : Wallet) → IsFirstUnlock deal.now me (signed_in signed.now.keys) (map F.entries known.now) u w) }
     ensures none { result ≡ None → (w : Wallet) → due_unlocks deal.now me w (signed_in signed.now.keys) (map F.entries known.now) ≡ [] }

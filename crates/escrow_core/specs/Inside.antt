@@ -4,8 +4,8 @@ use Rattle.std.proofs.Common.{sym, ap, ◌∙◌, arith, length-take, take-appen
 use Rattle.escrow_core.specs.Value.{ContractState}
 use Rattle.escrow_core.specs.declared.contract.Contract.TheInside.{Inside}
 
-abbrev pub state_of : Inside → ContractState
-state_of c = record { arc = c.arc; from = c.from; to = c.to; terms = c.terms; opened = take (length c.terms.locks) c.opened; settled = c.settled }
+abbrev pub inside_state : Inside → ContractState
+inside_state c = record { arc = c.arc; from = c.from; to = c.to; terms = c.terms; opened = take (length c.terms.locks) c.opened; settled = c.settled }
 
 -- The places beyond the locks are false.
 pub record HasPlaces (c : Inside) : Type 0 where
@@ -16,7 +16,7 @@ pub record HasPlaces (c : Inside) : Type 0 where
 abbrev pub inside_of : ContractState → Inside
 inside_of s = record { arc = s.arc; from = s.from; to = s.to; terms = s.terms; opened = s.opened ++ replicate (8 - length s.opened) false; settled = s.settled }
 
-pub inside_of_ok : (c : Inside) → HasPlaces c → inside_of (state_of c) ≡ c
+pub inside_of_ok : (c : Inside) → HasPlaces c → inside_of (inside_state c) ≡ c
 inside_of_ok c p =
     let n : length (take (length c.terms.locks) c.opened) ≡ length c.terms.locks =
     (let z = length-take (length c.terms.locks) c.opened in let a = p.places in let b = p.within in omega arith) in

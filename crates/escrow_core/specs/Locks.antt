@@ -6,8 +6,8 @@ use Rattle.escrow_core.specs.declared.lock_list.LockList.TheInside.{Inside}
 abbrev pub zeros : List ℕ
 zeros = replicate 32 0
 
-abbrev pub digests_of : Inside → List (List ℕ)
-digests_of l = take l.len l.digests
+abbrev pub list_digests : Inside → List (List ℕ)
+list_digests l = take l.len l.digests
 
 pub record IsPadded (l : Inside) : Type 0 where
   pub places : length l.digests ≡ 8
@@ -17,7 +17,7 @@ pub record IsPadded (l : Inside) : Type 0 where
 abbrev pub padded : List (List ℕ) → Inside
 padded xs = record { len = length xs; digests = xs ++ replicate (8 - length xs) zeros }
 
-pub padded_ok : (l : Inside) → IsPadded l → padded (digests_of l) ≡ l
+pub padded_ok : (l : Inside) → IsPadded l → padded (list_digests l) ≡ l
 padded_ok l p =
     let n : length (take l.len l.digests) ≡ l.len = (let z = length-take l.len l.digests in let a = p.places in let b = p.within in omega arith) in
     let m : take l.len l.digests ++ replicate (8 - length (take l.len l.digests)) zeros ≡ l.digests =

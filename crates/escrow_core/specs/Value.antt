@@ -16,8 +16,8 @@ pub record ContractState : Type 0 where
   pub settled : Bool
 
 -- whether lock i is opened
-abbrev pub is_open_in : ContractState → ℕ → Bool
-is_open_in c i = slice_index_or c.opened i false
+abbrev pub is_lock_open : ContractState → ℕ → Bool
+is_lock_open c i = slice_index_or c.opened i false
 
 -- Terms that a call may state: a hashlock per lock, and numbers in their ranges.
 pub record AreFitting (d : Deal) (t : Terms) : Type 0 where

@@ -5,7 +5,7 @@ ghost use Rattle.swap_digraph.specs.declared.deal.Deal.{Deal};
 ghost use Rattle.swap_digraph.specs.Deal.{IsWellSized};
 ghost use Rattle.hashkey_path.specs.Known.{is_last_signed};
 ghost use Rattle.escrow_core.specs.Table.{first_row, unlock_rows, claim_rows, refund_rows};
-ghost use Rattle.escrow_core.specs.Value.{AreFitting, IsFor, is_open_in, new_contract, with_opened, with_settled};
+ghost use Rattle.escrow_core.specs.Value.{AreFitting, IsFor, is_lock_open, new_contract, with_opened, with_settled};
 ghost use Rattle.escrow_core.specs.Parts.{own_claim_rows};
 
 use crate::decisions::{first_closed, key_reply};
@@ -33,9 +33,9 @@ impl Model for Contract {
 
     ghost Value = { ContractState };
 
-    ghost use Rattle.escrow_core.specs.Inside.{state_of, HasPlaces, inside_of, inside_of_ok};
+    ghost use Rattle.escrow_core.specs.Inside.{inside_state, HasPlaces, inside_of, inside_of_ok};
 
-    ghost view = { state_of };
+    ghost view = { inside_state };
 
     ghost invariant = { HasPlaces };
 
@@ -81,7 +81,7 @@ impl Contract {
     /// Whether the lock is opened.
     pub fn is_open(&self, lock: LockId) -> bool
         requires { lock < length self.now.opened }
-        ensures { result ≡ is_open_in self.now lock }
+        ensures { result ≡ is_lock_open self.now lock }
     {
         self.opened[lock as usize]
     }
@@ -113,7 +113,7 @@ impl Contract {
         requires of_the_deal { IsFor deal.now self.now }
         requires lock { key.now.lock < length deal.now.leaders }
         requires known { IsTrue (is_last_signed known deal.now key.now) }
-        ensures { result ≡ first_row (unlock_rows deal.now self.now.arc self.now.terms (is_open_in self.now) self.now.settled height sender key.now) }
+        ensures { result ≡ first_row (unlock_rows deal.now self.now.arc self.now.terms (is_lock_open self.now) self.now.settled height sender key.now) }
     {
         if self.is_settled() {
             return Reply::Settled;
@@ -145,7 +145,7 @@ impl Contract {
     fn refund_reply(&self, deal: &Deal, height: u32, sender: PartyId) -> Reply
         requires sized { IsWellSized deal.now }
         requires of_the_deal { IsFor deal.now self.now }
-        ensures { result ≡ first_row (refund_rows deal.now self.now.arc self.now.terms (is_open_in self.now) self.now.settled height sender) }
+        ensures { result ≡ first_row (refund_rows deal.now self.now.arc self.now.terms (is_lock_open self.now) self.now.settled height sender) }
     {
         if self.is_settled() {
             return Reply::Settled;
@@ -190,7 +190,7 @@ impl Contract {
         requires of_the_deal { IsFor deal.now self.old }
         requires lock { key.now.lock < length deal.now.leaders }
         requires known { IsTrue (is_last_signed known deal.now key.now) }
-        ensures reply { result ≡ first_row (unlock_rows deal.now self.old.arc self.old.terms (is_open_in self.old) self.old.settled height sender key.now) }
+        ensures reply { result ≡ first_row (unlock_rows deal.now self.old.arc self.old.terms (is_lock_open self.old) self.old.settled height sender key.now) }
         ensures accepted { result ≡ Reply.Accepted → self.new ≡ with_opened self.old key.now.lock }
         ensures refused { result ≢ Reply.Accepted → self.new ≡ self.old }
         ensures kept { IsFor deal.now self.new }
@@ -205,7 +205,7 @@ impl Contract {
 
     /// Settles the contract for its counterparty, where the table accepts it.
     pub fn claim(&mut self, sender: PartyId) -> Reply
-        ensures reply { (d : Deal) → IsFor d self.old → result ≡ first_row (claim_rows d self.old.arc (is_open_in self.old) self.old.settled sender) }
+        ensures reply { (d : Deal) → IsFor d self.old → result ≡ first_row (claim_rows d self.old.arc (is_lock_open self.old) self.old.settled sender) }
         ensures accepted { result ≡ Reply.Accepted → self.new ≡ with_settled self.old }
         ensures refused { result ≢ Reply.Accepted → self.new ≡ self.old }
         ensures kept { (d : Deal) → IsFor d self.old → IsFor d self.new }
@@ -222,7 +222,7 @@ impl Contract {
     pub fn refund(&mut self, deal: &Deal, height: u32, sender: PartyId) -> Reply
         requires sized { IsWellSized deal.now }
         requires of_the_deal { IsFor deal.now self.old }
-        ensures reply { result ≡ first_row (refund_rows deal.now self.old.arc self.old.terms (is_open_in self.old) self.old.settled height sender) }
+        ensures reply { result ≡ first_row (refund_rows deal.now self.old.arc self.old.terms (is_lock_open self.old) self.old.settled height sender) }
         ensures accepted { result ≡ Reply.Accepted → self.new ≡ with_settled self.old }
         ensures refused { result ≢ Reply.Accepted → self.new ≡ self.old }
         ensures kept { IsFor deal.now self.new }

@@ -10,7 +10,7 @@ ghost use Rattle.escrow_core.specs.Parts.{key_rows};
 
 use crate::reply::Reply;
 use crate::terms::Terms;
-use crate::times::last_in;
+use crate::times::last_unlock;
 use hashkey_path::{Hashkey, HashkeyAnswer, check};
 use swap_base::ArcId;
 use swap_digraph::Deal;
@@ -45,7 +45,7 @@ pub(crate) fn key_reply(
         HashkeyAnswer::WrongPath => Reply::WrongPath,
         HashkeyAnswer::WrongSignature(_) => Reply::WrongSignature,
         HashkeyAnswer::Valid => {
-            let last = last_in(deal.mode, terms, key);
+            let last = last_unlock(deal.mode, terms, key);
             if last < height as u64 {
                 Reply::TooLate(last)
             } else {

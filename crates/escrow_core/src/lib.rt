@@ -13,5 +13,5 @@ mod times;
 pub use contract::Contract;
 pub use lock_list::LockList;
 pub use reply::Reply;
-pub use terms::{Terms, terms_of};
+pub use terms::{Terms, stated_terms};
 pub use times::lesser;

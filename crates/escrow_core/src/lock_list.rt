@@ -19,9 +19,9 @@ impl Model for LockList {
 
     ghost Value = { List (List ℕ) };
 
-    ghost use Rattle.escrow_core.specs.Locks.{digests_of, IsPadded, padded, padded_ok};
+    ghost use Rattle.escrow_core.specs.Locks.{list_digests, IsPadded, padded, padded_ok};
 
-    ghost view = { digests_of };
+    ghost view = { list_digests };
 
     ghost invariant = { IsPadded };
 

@@ -2,7 +2,7 @@
 
 ghost use Rattle.std.specs.Prelude.{◌≡◌, ◌<◌, length};
 ghost use Rattle.swap_digraph.specs.Deal.{IsWellSized};
-ghost use Rattle.escrow_core.specs.Terms.{same_terms, terms_of};
+ghost use Rattle.escrow_core.specs.Terms.{same_terms, stated_terms};
 
 use crate::lock_list::LockList;
 use swap_base::ArcId;
@@ -36,10 +36,10 @@ impl Terms {
 }
 
 /// The correct terms of an arc, which are those of the deal.
-pub fn terms_of(deal: &Deal, arc: ArcId) -> Terms
+pub fn stated_terms(deal: &Deal, arc: ArcId) -> Terms
     requires sized { IsWellSized deal.now }
     requires arc { arc < length deal.now.graph.arcs }
-    ensures { result ≡ terms_of deal.now arc }
+    ensures { result ≡ stated_terms deal.now arc }
 {
     Terms {
         locks: LockList::from_slice(deal.hashlocks.as_slice()),

@@ -1,7 +1,7 @@
 //! The times of a contract, which come from its own terms.
 
 ghost use Rattle.std.specs.Prelude.{◌≡◌, ◌≤◌, ◌<◌, ◌^◌, false, length, slice_index_or};
-ghost use Rattle.escrow_core.specs.Terms.{expiry_in, is_own, last_in, refund_expiry};
+ghost use Rattle.escrow_core.specs.Terms.{lock_expiry, is_own, last_unlock, refund_expiry};
 ghost use Rattle.escrow_core.specs.Value.{AreFitting};
 ghost use Rattle.escrow_core.specs.Parts.{lesser};
 
@@ -25,11 +25,11 @@ fn is_own(deal: &Deal, arc: ArcId, lock: LockId) -> bool
 }
 
 /// The height above which the lock is expired on the arc.
-fn expiry_in(deal: &Deal, arc: ArcId, terms: &Terms, lock: LockId) -> u64
+fn lock_expiry(deal: &Deal, arc: ArcId, terms: &Terms, lock: LockId) -> u64
     requires arc { arc < length deal.now.graph.arcs }
     requires fitting { AreFitting deal.now terms.now }
     requires lock { lock < length deal.now.leaders }
-    ensures exact { result ≡ expiry_in deal.now.mode deal.now arc terms.now lock }
+    ensures exact { result ≡ lock_expiry deal.now.mode deal.now arc terms.now lock }
     ensures small { result < 2 ^ 62 }
 {
     match deal.mode {
@@ -45,12 +45,12 @@ fn expiry_in(deal: &Deal, arc: ArcId, terms: &Terms, lock: LockId) -> u64
 }
 
 /// The last height at which the hashkey is accepted.
-pub(crate) fn last_in(mode: Mode, terms: &Terms, key: &Hashkey) -> u64
+pub(crate) fn last_unlock(mode: Mode, terms: &Terms, key: &Hashkey) -> u64
     requires start { terms.now.start ≤ 1000000 }
     requires delta { terms.now.delta ≤ 1000000 }
     requires bound { terms.now.bound ≤ 1000000 }
     requires few { mode ≡ Mode.Hashkeys → length key.now.path ≤ 1000000 }
-    ensures { result ≡ last_in mode terms.now key.now }
+    ensures { result ≡ last_unlock mode terms.now key.now }
 {
     match mode {
         Mode::Timelocks => terms.timelock as u64,
@@ -84,7 +84,7 @@ pub(crate) fn refund_expiry(deal: &Deal, arc: ArcId, terms: &Terms, opened: &[bo
     let mut least = None;
     for lock in 0..opened.len() {
         if !opened[lock] {
-            least = Some(lesser(least, expiry_in(deal, arc, terms, lock as u8)));
+            least = Some(lesser(least, lock_expiry(deal, arc, terms, lock as u8)));
         }
     }
     least.unwrap_or(0)

@@ -44,7 +44,7 @@ pub(crate) fn chain_step(y: [V; 8]) -> [V; 8]
 }
 
 // The start that each lane's seed and the first three bytes of its tail give. Its message has 36 bytes.
-fn start_of(seed: [V; 8], tail: V) -> [V; 8]
+fn lane_start(seed: [V; 8], tail: V) -> [V; 8]
     ensures { (j : ℕ) → j < 4 → lane result j ≡ word_start (lane seed j) (slice_index tail j) }
 {
     first_hash(block(1, seed, tail, 0x8000_0000, 288))
@@ -73,5 +73,5 @@ pub(crate) fn four_starts(seed: [V; 8], party: u8, lock: u8, first: u8) -> [V; 8
     requires { first < 250 }
     ensures { (j : ℕ) → j < 4 → digest_bytes (lane result j) 8 ≡ chain_start (digest_bytes (lane seed j) 8) party lock (first + j) }
 {
-    start_of(seed, tails(party, lock, first))
+    lane_start(seed, tails(party, lock, first))
 }

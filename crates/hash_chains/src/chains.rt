@@ -8,7 +8,7 @@ ghost use Rattle.hash_chains.specs.Lanes.{lane};
 
 use crate::blocks::{chain_step, four_starts};
 use crate::ops::V;
-use crate::values::{four_values, lanes_of};
+use crate::values::{four_values, value_lanes};
 use std::alloc::{AllocError, Global};
 use std::marker::Model;
 
@@ -74,7 +74,7 @@ fn put_four_chains(four: &mut Four, seed: &ChainValue, party: u8, lock: u8, firs
     requires { first < 250 }
     ensures { AreFourChains seed.now party lock first four.new }
 {
-    let words = lanes_of(&[*seed, *seed, *seed, *seed]);
+    let words = value_lanes(&[*seed, *seed, *seed, *seed]);
     walk(&mut four.rows, four_starts(words, party, lock, first));
 }
 

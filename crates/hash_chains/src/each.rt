@@ -10,7 +10,7 @@ use crate::ops::V;
 use std::simd::prelude::*;
 
 #[inline(always)]
-fn moved_on(reached: V, next: V, at: u32, counts: V) -> V
+fn advanced_chain(reached: V, next: V, at: u32, counts: V) -> V
     ensures { (j : ℕ) → j < 4 → slice_index result j ≡ cond (nat_lt at (slice_index counts j)) (slice_index next j) (slice_index reached j) }
 {
     V::splat(at).simd_lt(counts).select(next, reached)
@@ -18,20 +18,20 @@ fn moved_on(reached: V, next: V, at: u32, counts: V) -> V
 
 // The values of `next` in the lanes whose count is above `at`, and else those of `reached`.
 #[inline(always)]
-fn all_moved_on(reached: [V; 8], next: [V; 8], at: u32, counts: V) -> [V; 8]
+fn all_advanced(reached: [V; 8], next: [V; 8], at: u32, counts: V) -> [V; 8]
     ensures { (j : ℕ) → j < 4 → lane result j ≡ cond (nat_lt at (slice_index counts j)) (first_eight (lane next j)) (first_eight (lane reached j)) }
 {
     let [a, b, c, d, e, f, g, h] = next;
     let [p, q, r, s, t, u, v, w] = reached;
     [
-        moved_on(p, a, at, counts),
-        moved_on(q, b, at, counts),
-        moved_on(r, c, at, counts),
-        moved_on(s, d, at, counts),
-        moved_on(t, e, at, counts),
-        moved_on(u, f, at, counts),
-        moved_on(v, g, at, counts),
-        moved_on(w, h, at, counts),
+        advanced_chain(p, a, at, counts),
+        advanced_chain(q, b, at, counts),
+        advanced_chain(r, c, at, counts),
+        advanced_chain(s, d, at, counts),
+        advanced_chain(t, e, at, counts),
+        advanced_chain(u, f, at, counts),
+        advanced_chain(v, g, at, counts),
+        advanced_chain(w, h, at, counts),
     ]
 }
 
@@ -43,7 +43,7 @@ pub(crate) fn chain_after_each(y: [V; 8], counts: V, most: u32) -> [V; 8]
     let mut reached = y;
     'steps: for i in 0..most {
         let next = chain_step(reached);
-        let moved = all_moved_on(reached, next, i, counts);
+        let moved = all_advanced(reached, next, i, counts);
         reached = moved;
     }
     reached

@@ -6,13 +6,13 @@ ghost use Rattle.hash_chains.specs.Fours.{AreStarts};
 
 use crate::blocks::four_starts;
 use crate::chains::{CHAINS, ChainValue, FOURS};
-use crate::values::{four_values, lanes_of};
+use crate::values::{four_values, value_lanes};
 
 // The starts by fours. The last of them has one that isn't the key's.
 fn starts_by_fours(seed: &ChainValue, party: u8, lock: u8) -> [[ChainValue; 4]; FOURS]
     ensures { (g : ℕ) → g < 17 → AreStarts seed.now party lock (4 * g) (slice_index_or result g []) }
 {
-    let words = lanes_of(&[*seed, *seed, *seed, *seed]);
+    let words = value_lanes(&[*seed, *seed, *seed, *seed]);
     let mut fours = [[[0; 32]; 4]; FOURS];
     'fours: for g in 0..FOURS {
         fours[g] = four_values(&four_starts(words, party, lock, 4 * g as u8));

@@ -35,7 +35,7 @@ fn column(values: &[ChainValue; 4], i: usize) -> V
 }
 
 /// The words of four values.
-pub(crate) fn lanes_of(values: &[ChainValue; 4]) -> [V; 8]
+pub(crate) fn value_lanes(values: &[ChainValue; 4]) -> [V; 8]
     ensures { (j : ℕ) → j < 4 → digest_bytes (lane result j) 8 ≡ slice_index_or values.now j [] }
 {
     [

@@ -6,7 +6,7 @@ use Rattle.std.proofs.lemmas.Slice.Eq.{bytes_eq-Decides}
 use Rattle.swap_base.specs.Lists.{same_list}
 use Rattle.swap_base.specs.Text.{joined}
 use Rattle.swap_base.proofs.Lists.{same_list-true, same_list-refl}
-use Rattle.hash_signature.specs.Signature.{values_of}
+use Rattle.hash_signature.specs.Signature.{text_values}
 use Rattle.hash_signature.specs.declared.sig.Sig.{Sig}
 
 -- tests that hold at once are the same
@@ -22,11 +22,11 @@ bytes_eq_self : (xs : List ℕ) → bytes_eq xs xs ≡ true
 bytes_eq_self xs = (bytes_eq-Decides xs xs).1 refl
 
 -- where the values are those of the bytes, and the bytes those of the values
-pub same_bytes : (bytes others : List ℕ) (values further : List (List ℕ)) → bytes ≡ joined values → values_of bytes ≡ values → others ≡ joined further
-    → values_of others ≡ further → bytes_eq bytes others ≡ same_list bytes_eq values further
+pub same_bytes : (bytes others : List ℕ) (values further : List (List ℕ)) → bytes ≡ joined values → text_values bytes ≡ values → others ≡ joined further
+    → text_values others ≡ further → bytes_eq bytes others ≡ same_list bytes_eq values further
 same_bytes bytes others values further joins cut joins_other cut_other =
     same_truth _ _
-    (λ e. ap (λ v. same_list bytes_eq values v) (sym (sym cut ∙ ap values_of (bytes_are_same bytes others e) ∙ cut_other))
+    (λ e. ap (λ v. same_list bytes_eq values v) (sym (sym cut ∙ ap text_values (bytes_are_same bytes others e) ∙ cut_other))
     ∙ same_list-refl bytes_eq bytes_eq_self values)
     (λ e. ap (λ v. bytes_eq bytes v) (sym (joins ∙ ap joined (same_list-true bytes_eq bytes_are_same values further e) ∙ sym joins_other))
     ∙ bytes_eq_self bytes)

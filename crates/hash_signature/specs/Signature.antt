@@ -9,12 +9,12 @@ use Rattle.swap_base.specs.Text.{joined}
 pub use Rattle.hash_chains.specs.Chains.{chain_start, chain_step, chain_after}
 
 -- the hashlock of a secret
-abbrev pub hash_of : List ℕ → List ℕ
-hash_of secret = sha256 secret
+abbrev pub hashed_value : List ℕ → List ℕ
+hashed_value secret = sha256 secret
 
 -- the secret made from a seed
-abbrev pub secret_of : List ℕ → List ℕ
-secret_of seed = sha256 (5 ∷ seed)
+abbrev pub derive_secret : List ℕ → List ℕ
+derive_secret seed = sha256 (5 ∷ seed)
 
 -- the end of chain j: its start after 15 steps
 abbrev pub chain_end : List ℕ → ℕ → ℕ → ℕ → List ℕ
@@ -29,8 +29,8 @@ abbrev pub digest_of_ends : List (List ℕ) → List ℕ
 digest_of_ends ends = sha256 (3 ∷ joined ends)
 
 -- the public key of a party for a lock
-unfoldable pub public_key_of : List ℕ → ℕ → ℕ → List ℕ
-public_key_of seed party lock = digest_of_ends (for_chains (chain_end seed party lock))
+unfoldable pub derive_public_key : List ℕ → ℕ → ℕ → List ℕ
+derive_public_key seed party lock = digest_of_ends (for_chains (chain_end seed party lock))
 
 -- the digits of 4 bits of each byte, the high half first
 abbrev pub half_bytes : List ℕ → List ℕ
@@ -59,8 +59,8 @@ abbrev pub signed_value : List ℕ → ℕ → ℕ → List ℕ → ℕ → List
 signed_value seed party lock message j = chain_after (digit message j) (chain_start seed party lock j)
 
 -- the signature over a message
-unfoldable pub signature_of : List ℕ → ℕ → ℕ → List ℕ → List (List ℕ)
-signature_of seed party lock message = for_chains (signed_value seed party lock message)
+unfoldable pub parse_signature : List ℕ → ℕ → ℕ → List ℕ → List (List ℕ)
+parse_signature seed party lock message = for_chains (signed_value seed party lock message)
 
 -- the value of a signature at chain j, carried on to where the chain is to end
 abbrev pub carried_on : List ℕ → List (List ℕ) → ℕ → List ℕ
@@ -75,5 +75,5 @@ abbrev pub value_at : List ℕ → ℕ → List ℕ
 value_at bytes j = take 32 (drop (32 * j) bytes)
 
 -- the values of a signature whose bytes follow each other
-unfoldable pub values_of : List ℕ → List (List ℕ)
-values_of bytes = for_chains (value_at bytes)
+unfoldable pub text_values : List ℕ → List (List ℕ)
+text_values bytes = for_chains (value_at bytes)

@@ -3,7 +3,7 @@
 ghost use Rattle.std.specs.Prelude.{◌≡◌, IfOk, IsTrue};
 ghost use Rattle.hash_signature.specs.Key.{KeyParts};
 ghost use Rattle.hash_signature.specs.Inside.{parts_of};
-ghost use Rattle.hash_signature.specs.Signature.{public_key_of, signature_of, is_valid_signature};
+ghost use Rattle.hash_signature.specs.Signature.{derive_public_key, parse_signature, is_valid_signature};
 
 use crate::digits::digits;
 use crate::sig::Sig;
@@ -54,7 +54,7 @@ pub fn keygen(
     lock: LockId,
 ) -> Result<(OneTimeKey, Digest), NoMemory>
     ensures key { IfOk result (λ p. p.0 ≡ record { seed = seed.now; party = party; lock = lock }) }
-    ensures public { IfOk result (λ p. p.1 ≡ public_key_of seed.now party lock) }
+    ensures public { IfOk result (λ p. p.1 ≡ derive_public_key seed.now party lock) }
 {
     let chains = Chains::new(alloc, seed, party, lock)?;
     let public = public_key(&chains);
@@ -76,7 +76,7 @@ pub fn key_of(seed: &Digest, party: PartyId, lock: LockId) -> OneTimeKey
 }
 
 fn public_key(chains: &Chains) -> Digest
-    ensures { result ≡ public_key_of chains.now.seed chains.now.party chains.now.lock }
+    ensures { result ≡ derive_public_key chains.now.seed chains.now.party chains.now.lock }
 {
     let mut hasher = Sha256::new();
     hasher.update([3u8]);
@@ -87,7 +87,7 @@ fn public_key(chains: &Chains) -> Digest
 }
 
 fn picked(chains: &Chains, message: &Digest) -> [Digest; CHAINS]
-    ensures { result ≡ signature_of chains.now.seed chains.now.party chains.now.lock message.now }
+    ensures { result ≡ parse_signature chains.now.seed chains.now.party chains.now.lock message.now }
 {
     let wanted = digits(message);
     let mut values = [[0u8; 32]; CHAINS];
@@ -98,13 +98,13 @@ fn picked(chains: &Chains, message: &Digest) -> [Digest; CHAINS]
 }
 
 fn walked(seed: &Digest, party: PartyId, lock: LockId, message: &Digest) -> [Digest; CHAINS]
-    ensures { result ≡ signature_of seed.now party lock message.now }
+    ensures { result ≡ parse_signature seed.now party lock message.now }
 {
     carried(&chain_starts(seed, party, lock), &digits(message))
 }
 
 fn opened_values(source: &Source, message: &Digest) -> [Digest; CHAINS]
-    ensures { result ≡ (let key = parts_of source.now in signature_of key.seed key.party key.lock message.now) }
+    ensures { result ≡ (let key = parts_of source.now in parse_signature key.seed key.party key.lock message.now) }
 {
     match source {
         Source::Walked(chains) => picked(chains, message),
@@ -115,8 +115,8 @@ fn opened_values(source: &Source, message: &Digest) -> [Digest; CHAINS]
 impl OneTimeKey {
     /// The key's signature over the message, which spends the key.
     pub fn sign(self, message: &Digest) -> Sig
-        ensures value { result ≡ signature_of self.seed self.party self.lock message.now }
-        ensures valid { IsTrue (is_valid_signature (public_key_of self.seed self.party self.lock) message.now result) }
+        ensures value { result ≡ parse_signature self.seed self.party self.lock message.now }
+        ensures valid { IsTrue (is_valid_signature (derive_public_key self.seed self.party self.lock) message.now result) }
     {
         Sig::new(opened_values(&self.source, message))
     }

@@ -3,7 +3,7 @@
 //! A signer has one key for each party and lock. Its public key is the digest of the ends of 67 chains, and a signature opens each chain as far as the
 //! digit of the message at that chain says. Who signs twice with one key gives others the means to sign.
 //!
-//! Read `specs/Signature.antt` first: `is_valid_signature` says what `verify` answers, and `signature_of` what `sign` does.
+//! Read `specs/Signature.antt` first: `is_valid_signature` says what `verify` answers, and `parse_signature` what `sign` does.
 #![tactic(auto)]
 
 mod digits;
@@ -17,6 +17,6 @@ pub use hash_chains::CHAINS;
 pub use key::{OneTimeKey, key_of, keygen};
 pub use law::checksum_law;
 pub use same::same_sigs;
-pub use secret::{hash_of, secret_of};
+pub use secret::{derive_secret, hashed_value};
 pub use sig::{SIGNATURE_BYTES, Sig, verify};
 pub use swap_base::{Digest, LockId, PartyId};

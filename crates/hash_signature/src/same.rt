@@ -4,7 +4,7 @@ ghost use Rattle.std.specs.Prelude.{◌≡◌, length, true};
 ghost use Rattle.std.specs.Str.{bytes_eq};
 ghost use Rattle.swap_base.specs.Lists.{same_list};
 ghost use Rattle.swap_base.specs.Text.{joined};
-ghost use Rattle.hash_signature.specs.Signature.{values_of};
+ghost use Rattle.hash_signature.specs.Signature.{text_values};
 
 use crate::sig::Sig;
 use crate::{CHAINS, Digest};
@@ -15,9 +15,9 @@ fn read_size(_value: &Digest)
 {}
 
 /// The bytes of a signature's values where they lie, one value after another.
-fn bytes_in(values: &[Digest; CHAINS]) -> &[u8]
+fn value_bytes(values: &[Digest; CHAINS]) -> &[u8]
     ensures bytes { result.now ≡ joined values.now }
-    ensures values { values_of result.now ≡ values.now }
+    ensures values { text_values result.now ≡ values.now }
 {
     'values: for value in values {
         read_size(value);
@@ -30,7 +30,7 @@ fn bytes_in(values: &[Digest; CHAINS]) -> &[u8]
 fn same_sig(one: &Sig, other: &Sig) -> bool
     ensures { result ≡ same_list bytes_eq one.now other.now }
 {
-    bytes_in(one.values()) == bytes_in(other.values())
+    value_bytes(one.values()) == value_bytes(other.values())
 }
 
 fn are_same(one: &[Sig], other: &[Sig]) -> bool

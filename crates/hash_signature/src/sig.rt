@@ -2,7 +2,7 @@
 
 ghost use Rattle.std.specs.Prelude.{◌≡◌, ◌<◌, List, ℕ};
 ghost use Rattle.swap_base.specs.Text.{joined};
-ghost use Rattle.hash_signature.specs.Signature.{carried_on, digest_of_ends, for_chains, is_valid_signature, value_at, values_of};
+ghost use Rattle.hash_signature.specs.Signature.{carried_on, digest_of_ends, for_chains, is_valid_signature, value_at, text_values};
 
 use crate::digits::{digits, rests};
 use crate::{CHAINS, Digest};
@@ -39,7 +39,7 @@ fn value_at(bytes: &[u8; SIGNATURE_BYTES], i: usize) -> Digest
 
 fn bytes_of(values: &[Digest; CHAINS]) -> [u8; SIGNATURE_BYTES]
     ensures bytes { result ≡ joined values.now }
-    ensures values { values_of result ≡ values.now }
+    ensures values { text_values result ≡ values.now }
 {
     let mut bytes = [0u8; SIGNATURE_BYTES];
     'values: for i in 0..CHAINS {
@@ -65,7 +65,7 @@ impl Sig {
 
     /// The signature whose values follow each other in these bytes.
     pub fn from_bytes(bytes: &[u8; SIGNATURE_BYTES]) -> Sig
-        ensures values { result ≡ values_of bytes.now }
+        ensures values { result ≡ text_values bytes.now }
         ensures bytes { joined result ≡ bytes.now }
     {
         let mut values = [[0u8; 32]; CHAINS];
@@ -78,7 +78,7 @@ impl Sig {
     /// The bytes of the values, in order.
     pub fn to_bytes(&self) -> [u8; SIGNATURE_BYTES]
         ensures bytes { result ≡ joined self.now }
-        ensures values { values_of result ≡ self.now }
+        ensures values { text_values result ≡ self.now }
     {
         bytes_of(&self.values)
     }

@@ -10,7 +10,7 @@ use Rattle.swap_digraph.specs.declared.deal.Mode.{Mode}
 use Rattle.swap_digraph.specs.declared.deal.Mode.TheVariants.{Timelocks, Hashkeys}
 use Rattle.swap_digraph.specs.declared.deal.Version.{Version}
 use Rattle.swap_digraph.specs.declared.deal.Version.TheVariants.{One, Two}
-use Rattle.swap_digraph.specs.Deal.{counterparty, leader_of, most_parties}
+use Rattle.swap_digraph.specs.Deal.{counterparty, lock_leader, most_parties}
 use Rattle.swap_digraph.proofs.Paths.{path_length, path_below}
 use Rattle.hashkey_path.specs.declared.hashkey.Hashkey.{Hashkey}
 use Rattle.hashkey_path.specs.Hashkey.{is_wrong_path}
@@ -40,9 +40,9 @@ pub right_path_fits : (m : Mode) (d : Deal) (a : ℕ) (key : Hashkey) → m ≡ 
 right_path_fits Timelocks d a key e h = absurd (cc e)
 right_path_fits Hashkeys d a key e h =
     let one =
-    and_parts (is_path d.graph key.path && first_is (counterparty d a) key.path && last_is (leader_of d key.lock) key.path)
+    and_parts (is_path d.graph key.path && first_is (counterparty d a) key.path && last_is (lock_leader d key.lock) key.path)
     (length key.path == length key.sigs) (not-false _ h) in
-    let two = and_parts (is_path d.graph key.path && first_is (counterparty d a) key.path) (last_is (leader_of d key.lock) key.path) one.0 in
+    let two = and_parts (is_path d.graph key.path && first_is (counterparty d a) key.path) (last_is (lock_leader d key.lock) key.path) one.0 in
     let three = and_parts (is_path d.graph key.path) (first_is (counterparty d a) key.path) two.0 in
     path_fits d.graph key.path three.0
 

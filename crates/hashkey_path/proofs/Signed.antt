@@ -10,24 +10,24 @@ use Rattle.swap_digraph.specs.Value.{Graph}
 use Rattle.swap_digraph.specs.declared.deal.Deal.{Deal}
 use Rattle.swap_digraph.specs.declared.deal.Mode.{Mode}
 use Rattle.swap_digraph.specs.declared.deal.Mode.TheVariants.{Timelocks, Hashkeys}
-use Rattle.swap_digraph.specs.Graph.{is_path, is_among, ends_in, has_arc, first_is, IsPathBetween}
-use Rattle.swap_digraph.specs.Deal.{party, counterparty, leader_of, hashlock_of}
+use Rattle.swap_digraph.specs.Graph.{is_path, is_listed, resolve_all_ends, has_arc, first_is, IsConnectingPath}
+use Rattle.swap_digraph.specs.Deal.{party, counterparty, lock_leader, lock_hashlock}
 use Rattle.hash_signature.specs.declared.sig.Sig.{Sig}
-use Rattle.hash_signature.specs.Signature.{is_valid_signature, public_key_of, signature_of}
+use Rattle.hash_signature.specs.Signature.{is_valid_signature, derive_public_key, parse_signature}
 use Rattle.hashkey_path.specs.declared.hashkey.Hashkey.{Hashkey}
-use Rattle.hashkey_path.specs.Hashkey.{key_of, message_of, is_signed, wrong_signature, HasPath, IsValidHashkey}
-use Rattle.hashkey_path.specs.Signed.{suffix_signature, leaders_key, extended_key, IsLeadersOwn, CanExtend, IsValidInto}
+use Rattle.hashkey_path.specs.Hashkey.{key_of, signing_message, is_signed, wrong_signature, HasPath, IsValidHashkey}
+use Rattle.hashkey_path.specs.Signed.{suffix_signature, leaders_key, extended_key, IsLeadersOwn, CanExtend, IsValidEntering}
 use Rattle.hashkey_path.proofs.Validity.{SignsEach, signed_both, each_from_none, none_from_each}
 
 -- a signature of the deal's key for the party is the right one at its place
 pub signed_by : (d : Deal) (lock : ℕ) (secret : List ℕ) (party : ℕ) (seed rest : List ℕ) (inner : List Sig)
-    → key_of d party lock ≡ public_key_of seed party lock
-    → IsTrue (is_valid_signature (public_key_of seed party lock) (message_of d.id lock (party ∷ rest) secret inner)
+    → key_of d party lock ≡ derive_public_key seed party lock
+    → IsTrue (is_valid_signature (derive_public_key seed party lock) (signing_message d.id lock (party ∷ rest) secret inner)
     (suffix_signature d lock secret party seed rest inner))
     → is_signed d lock secret party rest (suffix_signature d lock secret party seed rest inner) inner ≡ true
 unfolding is_signed
 signed_by d lock secret party seed rest inner key valid =
-    ap (λ (public : List ℕ). is_valid_signature public (message_of d.id lock (party ∷ rest) secret inner)
+    ap (λ (public : List ℕ). is_valid_signature public (signing_message d.id lock (party ∷ rest) secret inner)
     (suffix_signature d lock secret party seed rest inner)) key ∙ valid
 
 -- one signature more before right ones
@@ -56,14 +56,14 @@ is_self : (u v : ℕ) → u ≡ v → (u == v) ≡ true
 is_self u v e = eq-eqb u v e
 
 pub first_is_valid : (d : Deal) (lock : ℕ) (secret : List ℕ) (party : ℕ) (seed : List ℕ) → party < d.graph.n → IsLeadersOwn d lock secret party seed
-    → IsTrue (is_valid_signature (public_key_of seed party lock) (message_of d.id lock (party ∷ []) secret [])
-    (suffix_signature d lock secret party seed [] [])) → IsValidInto d party (hashlock_of d lock) (leaders_key d lock secret party seed)
+    → IsTrue (is_valid_signature (derive_public_key seed party lock) (signing_message d.id lock (party ∷ []) secret [])
+    (suffix_signature d lock secret party seed [] [])) → IsValidEntering d party (lock_hashlock d lock) (leaders_key d lock secret party seed)
 first_is_valid d lock secret party seed lt own valid a in_range enters =
-    let leader : party ≡ leader_of d lock = sym (same_leader d.leaders lock d.graph.n party lt own.leads) in
+    let leader : party ≡ lock_leader d lock = sym (same_leader d.leaders lock d.graph.n party lt own.leads) in
     record {
       secret = own.opens;
       path = has_path_in d.mode d a (leaders_key d lock secret party seed) own.mode (
-        (lt-ltb party d.graph.n lt, is_self party (counterparty d a) (sym enters), is_self party (leader_of d lock) leader),
+        (lt-ltb party d.graph.n lt, is_self party (counterparty d a) (sym enters), is_self party (lock_leader d lock) leader),
         refl,
         one_more d lock secret party [] (suffix_signature d lock secret party seed [] []) [] (signed_by d lock secret party seed [] [] own.key valid)
             (each_from_none d lock secret [] [] refl),
@@ -71,24 +71,25 @@ first_is_valid d lock secret party seed lt own valid a in_range enters =
     }
 
 -- a vertex that isn't on a path, with an arc to its first vertex, goes before it
-pub longer_path : (g : Graph) (u w v : ℕ) (p : List ℕ) → u < g.n → is_among u p ≡ false → has_arc g u (get_or p 0 0) ≡ true → IsPathBetween g w v p
-    → IsPathBetween g u v (u ∷ p)
+pub longer_path : (g : Graph) (u w v : ℕ) (p : List ℕ) → u < g.n → is_listed u p ≡ false → has_arc g u (get_or p 0 0) ≡ true → IsConnectingPath g w v p
+    → IsConnectingPath g u v (u ∷ p)
 longer_path g u w v [] lt apart arc h = absurd (cc h.0)
 longer_path g u w v (x ∷ p) lt apart arc h = (
-  and_both (nat_lt u g.n && not (is_among u (x ∷ p)) && has_arc g u x) (is_path g (x ∷ p))
-      (and_both (nat_lt u g.n && not (is_among u (x ∷ p))) (has_arc g u x)
-      (and_both (nat_lt u g.n) (not (is_among u (x ∷ p))) (lt-ltb u g.n lt) (ap not apart)) arc) h.0,
+  and_both (nat_lt u g.n && not (is_listed u (x ∷ p)) && has_arc g u x) (is_path g (x ∷ p))
+      (and_both (nat_lt u g.n && not (is_listed u (x ∷ p))) (has_arc g u x)
+      (and_both (nat_lt u g.n) (not (is_listed u (x ∷ p))) (lt-ltb u g.n lt) (ap not apart)) arc) h.0,
   is_self u u refl,
   h.2,
 )
 
 pub extended_is_valid : (d : Deal) (inner : Hashkey) (party : ℕ) (seed : List ℕ) (b : ℕ) (hashlock : List ℕ) → party < d.graph.n
     → IsValidHashkey d b hashlock inner → CanExtend d inner party seed
-    → IsTrue (is_valid_signature (public_key_of seed party inner.lock) (message_of d.id inner.lock (party ∷ inner.path) inner.secret inner.sigs)
-    (suffix_signature d inner.lock inner.secret party seed inner.path inner.sigs)) → IsValidInto d party hashlock (extended_key d inner party seed)
+    → IsTrue (is_valid_signature (derive_public_key seed party inner.lock) (signing_message d.id inner.lock (party ∷ inner.path) inner.secret inner.sigs)
+    (suffix_signature d inner.lock inner.secret party seed inner.path inner.sigs)) → IsValidEntering d party hashlock (extended_key d inner party seed)
 extended_is_valid d inner party seed b hashlock lt right can valid a in_range enters =
     let h : HasPath Hashkeys d b inner = has_path_out d.mode d b inner can.mode right.path in
-    let p = longer_path d.graph party (counterparty d b) (leader_of d inner.lock) inner.path lt (not-true (is_among party inner.path) can.apart) can.arc h.0 in
+    let p = longer_path d.graph party (counterparty d b) (lock_leader d inner.lock) inner.path lt (not-true
+    (is_listed party inner.path) can.apart) can.arc h.0 in
     record {
       secret = right.secret;
       path = has_path_in d.mode d a (extended_key d inner party seed) can.mode (
@@ -102,15 +103,15 @@ extended_is_valid d inner party seed b hashlock lt right can valid a in_range en
 -- the signature of a key that is the party's for the lock, over lists that are known
 pub signed_as : (id : List ℕ) (lock : ℕ) (secret : List ℕ) (party : ℕ) (seed rest : List ℕ) (inner : List Sig) (p l : ℕ) (path : List ℕ)
     (sigs : List Sig) → p ≡ party → l ≡ lock → path ≡ party ∷ rest → sigs ≡ inner
-    → IsTrue (is_valid_signature (public_key_of seed p l) (message_of id lock path secret sigs)
-    (signature_of seed p l (message_of id lock path secret sigs)))
-    → IsTrue (is_valid_signature (public_key_of seed party lock) (message_of id lock (party ∷ rest) secret inner)
-    (signature_of seed party lock (message_of id lock (party ∷ rest) secret inner)))
+    → IsTrue (is_valid_signature (derive_public_key seed p l) (signing_message id lock path secret sigs)
+    (parse_signature seed p l (signing_message id lock path secret sigs)))
+    → IsTrue (is_valid_signature (derive_public_key seed party lock) (signing_message id lock (party ∷ rest) secret inner)
+    (parse_signature seed party lock (signing_message id lock (party ∷ rest) secret inner)))
 signed_as id lock secret party seed rest inner p l path sigs e₁ e₂ e₃ e₄ h = rw (e₁, e₂, e₃, e₄) at h
 
 -- For the crates above: a hashkey that is valid on an arc leads on from the party that the arc leaves.
 
-ends_among : (u v : ℕ) (arcs : List ArcEnds) (a : ℕ) → a < length arcs → (ends_in arcs a).from ≡ u → (ends_in arcs a).to ≡ v
+ends_among : (u v : ℕ) (arcs : List ArcEnds) (a : ℕ) → a < length arcs → (resolve_all_ends arcs a).from ≡ u → (resolve_all_ends arcs a).to ≡ v
     → list_any (λ e. (e.from == u) && (e.to == v)) arcs ≡ true
 ends_among u v [] a lt from to = absurd (omega arith)
 ends_among u v (e ∷ arcs) zero lt from to =

@@ -9,12 +9,12 @@ use Rattle.swap_digraph.specs.declared.deal.Deal.{Deal}
 use Rattle.swap_digraph.specs.declared.deal.Mode.{Mode}
 use Rattle.swap_digraph.specs.declared.deal.Mode.TheVariants.{Timelocks, Hashkeys}
 use Rattle.swap_digraph.specs.Graph.{is_path, first_is, last_is}
-use Rattle.swap_digraph.specs.Deal.{counterparty, leader_of}
+use Rattle.swap_digraph.specs.Deal.{counterparty, lock_leader}
 use Rattle.hash_signature.specs.declared.sig.Sig.{Sig}
-use Rattle.hash_signature.specs.Signature.{hash_of}
+use Rattle.hash_signature.specs.Signature.{hashed_value}
 use Rattle.hashkey_path.specs.declared.hashkey.Hashkey.{Hashkey}
 use Rattle.hashkey_path.specs.declared.hashkey.HashkeyAnswer.TheVariants.{Valid, WrongSecret, WrongPath}
-use Rattle.hashkey_path.specs.Hashkey.{is_signed, are_signed, wrong_signature, is_wrong_secret, is_wrong_path, of_signatures, answer_of, HasPath}
+use Rattle.hashkey_path.specs.Hashkey.{is_signed, are_signed, wrong_signature, is_wrong_secret, is_wrong_path, of_signatures, computed_answer, HasPath}
 use Rattle.hashkey_path.specs.Hashkey.{IsValidHashkey}
 
 -- The walk over the signatures.
@@ -97,9 +97,9 @@ path_from Timelocks d a key w v =
     (nil_from_length key.path (eqb-true _ _ k.0), nil_from_length key.sigs (eqb-true _ _ k.1))
 path_from Hashkeys d a key w v =
     let one =
-    and_parts (is_path d.graph key.path && first_is (counterparty d a) key.path && last_is (leader_of d key.lock) key.path)
+    and_parts (is_path d.graph key.path && first_is (counterparty d a) key.path && last_is (lock_leader d key.lock) key.path)
     (length key.path == length key.sigs) (not-false _ w) in
-    let two = and_parts (is_path d.graph key.path && first_is (counterparty d a) key.path) (last_is (leader_of d key.lock) key.path) one.0 in
+    let two = and_parts (is_path d.graph key.path && first_is (counterparty d a) key.path) (last_is (lock_leader d key.lock) key.path) one.0 in
     let three = and_parts (is_path d.graph key.path) (first_is (counterparty d a) key.path) two.0 in (
       (three.0, three.1, two.1),
       sym (eqb-true (length key.path) (length key.sigs) one.1),
@@ -116,7 +116,7 @@ to_path Timelocks d a key h =
     (not_from_true _ (and_both (length key.path == 0) (length key.sigs == 0) (eq-eqb _ _ (ap length h.0)) (eq-eqb _ _ (ap length h.1))), refl)
 to_path Hashkeys d a key h = (
   not_from_true _ (and_both _ (length key.path == length key.sigs)
-      (and_both _ (last_is (leader_of d key.lock) key.path) (and_both (is_path d.graph key.path) (first_is (counterparty d a) key.path) h.0.0 h.0.1)
+      (and_both _ (last_is (lock_leader d key.lock) key.path) (and_both (is_path d.graph key.path) (first_is (counterparty d a) key.path) h.0.0 h.0.1)
       h.0.2) (eq-eqb (length key.path) (length key.sigs) (sym h.1))),
   ap (of_signatures Hashkeys) (none_from_each 0 d key.lock key.secret key.path key.sigs h.2),
 )
@@ -133,17 +133,17 @@ from_parts m true path o a b e = absurd (cc a)
 from_parts m false true o a b e = absurd (cc b)
 from_parts m false false o a b e = e
 
-pub valid_from : (d : Deal) (a : ℕ) (hashlock : List ℕ) (key : Hashkey) → answer_of d a hashlock key ≡ Valid → IsValidHashkey d a hashlock key
-unfolding answer_of
+pub valid_from : (d : Deal) (a : ℕ) (hashlock : List ℕ) (key : Hashkey) → computed_answer d a hashlock key ≡ Valid → IsValidHashkey d a hashlock key
+unfolding computed_answer
 valid_from d a hashlock key e =
     let p = parts_of d.mode (is_wrong_secret hashlock key) (is_wrong_path d a d.mode key) (wrong_signature 0 d key.lock key.secret key.path key.sigs) e in
     record {
-      secret = bytes_eq-true (hash_of key.secret) hashlock (not-false _ p.0);
+      secret = bytes_eq-true (hashed_value key.secret) hashlock (not-false _ p.0);
       path = path_from d.mode d a key p.1 p.2;
     }
 
-pub to_valid : (d : Deal) (a : ℕ) (hashlock : List ℕ) (key : Hashkey) → IsValidHashkey d a hashlock key → answer_of d a hashlock key ≡ Valid
-unfolding answer_of
+pub to_valid : (d : Deal) (a : ℕ) (hashlock : List ℕ) (key : Hashkey) → IsValidHashkey d a hashlock key → computed_answer d a hashlock key ≡ Valid
+unfolding computed_answer
 to_valid d a hashlock key v =
     let p = to_path d.mode d a key v.path in
     from_parts d.mode (is_wrong_secret hashlock key) (is_wrong_path d a d.mode key) (wrong_signature 0 d key.lock key.secret key.path key.sigs)

@@ -8,10 +8,10 @@ use Rattle.swap_base.specs.Text.{joined}
 use Rattle.swap_digraph.specs.declared.deal.Deal.{Deal}
 use Rattle.swap_digraph.specs.declared.deal.Mode.{Mode}
 use Rattle.swap_digraph.specs.declared.deal.Mode.TheVariants.{Timelocks, Hashkeys}
-use Rattle.swap_digraph.specs.Graph.{is_path, first_is, last_is, IsPathBetween}
-use Rattle.swap_digraph.specs.Deal.{counterparty, leader_of}
+use Rattle.swap_digraph.specs.Graph.{is_path, first_is, last_is, IsConnectingPath}
+use Rattle.swap_digraph.specs.Deal.{counterparty, lock_leader}
 use Rattle.hash_signature.specs.declared.sig.Sig.{Sig}
-use Rattle.hash_signature.specs.Signature.{hash_of, is_valid_signature}
+use Rattle.hash_signature.specs.Signature.{hashed_value, is_valid_signature}
 use Rattle.hashkey_path.specs.declared.hashkey.Hashkey.{Hashkey}
 use Rattle.hashkey_path.specs.declared.hashkey.HashkeyAnswer.{HashkeyAnswer}
 use Rattle.hashkey_path.specs.declared.hashkey.HashkeyAnswer.TheVariants.{Valid, WrongSecret, WrongPath, WrongSignature}
@@ -32,12 +32,12 @@ inner_bytes [] = []
 inner_bytes (s ∷ sigs) = joined s
 
 -- what the first vertex of a suffix signs: the deal, the lock, the suffix, the secret and the signature of the next suffix
-unfoldable pub message_of : List ℕ → ℕ → List ℕ → List ℕ → List Sig → List ℕ
-message_of id lock path secret inner = sha256 (4 ∷ id ++ lock ∷ length path ∷ path ++ secret ++ inner_bytes inner)
+unfoldable pub signing_message : List ℕ → ℕ → List ℕ → List ℕ → List Sig → List ℕ
+signing_message id lock path secret inner = sha256 (4 ∷ id ++ lock ∷ length path ∷ path ++ secret ++ inner_bytes inner)
 
 -- whether s is the signature of v over the suffix that it begins, where inner are the signatures after s
 unfoldable pub is_signed : Deal → ℕ → List ℕ → ℕ → List ℕ → Sig → List Sig → Bool
-is_signed d lock secret v rest s inner = is_valid_signature (key_of d v lock) (message_of d.id lock (v ∷ rest) secret inner) s
+is_signed d lock secret v rest s inner = is_valid_signature (key_of d v lock) (signing_message d.id lock (v ∷ rest) secret inner) s
 
 -- each signature is that of its vertex over the suffix from there
 abbrev pub are_signed : Deal → ℕ → List ℕ → List ℕ → List Sig → Bool
@@ -51,13 +51,13 @@ wrong_signature j d lock secret (v ∷ rest) (s ∷ inner) =
 wrong_signature j d lock secret _ _ = None
 
 abbrev pub is_wrong_secret : List ℕ → Hashkey → Bool
-is_wrong_secret hashlock key = not (bytes_eq (hash_of key.secret) hashlock)
+is_wrong_secret hashlock key = not (bytes_eq (hashed_value key.secret) hashlock)
 
 -- In hashkeys mode the path leads from the arc's counterparty to the lock's leader, with as many signatures as vertices; in timelocks mode there is none.
 abbrev pub is_wrong_path : Deal → ℕ → Mode → Hashkey → Bool
 is_wrong_path d a Timelocks key = not ((length key.path == 0) && (length key.sigs == 0))
 is_wrong_path d a Hashkeys key =
-    not (is_path d.graph key.path && first_is (counterparty d a) key.path && last_is (leader_of d key.lock) key.path && (length key.path == length key.sigs))
+    not (is_path d.graph key.path && first_is (counterparty d a) key.path && last_is (lock_leader d key.lock) key.path && (length key.path == length key.sigs))
 
 abbrev pub is_wrong_signature : Deal → Mode → Hashkey → Bool
 is_wrong_signature d Timelocks key = false
@@ -73,8 +73,8 @@ of_signatures Hashkeys None = Valid
 of_signatures Hashkeys (Some j) = WrongSignature j
 
 -- the first thing that is wrong with the hashkey
-unfoldable pub answer_of : Deal → ℕ → List ℕ → Hashkey → HashkeyAnswer
-answer_of d a hashlock key =
+unfoldable pub computed_answer : Deal → ℕ → List ℕ → Hashkey → HashkeyAnswer
+computed_answer d a hashlock key =
     if is_wrong_secret hashlock key then WrongSecret
     else if is_wrong_path d a d.mode key then WrongPath
     else of_signatures d.mode (wrong_signature 0 d key.lock key.secret key.path key.sigs)
@@ -89,9 +89,9 @@ SignsEachSuffix d key =
 abbrev pub HasPath : Mode → Deal → ℕ → Hashkey → Type 0
 HasPath Timelocks d a key = (key.path ≡ []) × (key.sigs ≡ [])
 HasPath Hashkeys d a key =
-    IsPathBetween d.graph (counterparty d a) (leader_of d key.lock) key.path × (length key.sigs ≡ length key.path) × SignsEachSuffix d key
+    IsConnectingPath d.graph (counterparty d a) (lock_leader d key.lock) key.path × (length key.sigs ≡ length key.path) × SignsEachSuffix d key
 
 -- A hashkey that is valid on arc a under the hashlock.
 pub record IsValidHashkey (d : Deal) (a : ℕ) (hashlock : List ℕ) (key : Hashkey) : Type 0 where
-  pub secret : hash_of key.secret ≡ hashlock
+  pub secret : hashed_value key.secret ≡ hashlock
   pub path : HasPath d.mode d a key

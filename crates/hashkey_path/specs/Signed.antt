@@ -2,16 +2,16 @@
 use Rattle.std.specs.Prelude.{◌≡◌, ℕ, ◌<◌, IsTrue, not, List, [], ◌∷◌, length, slice_index}
 use Rattle.swap_digraph.specs.declared.deal.Deal.{Deal}
 use Rattle.swap_digraph.specs.declared.deal.Mode.TheVariants.{Hashkeys}
-use Rattle.swap_digraph.specs.Graph.{is_among, has_arc}
-use Rattle.swap_digraph.specs.Deal.{counterparty, leads, hashlock_of}
+use Rattle.swap_digraph.specs.Graph.{is_listed, has_arc}
+use Rattle.swap_digraph.specs.Deal.{counterparty, leads, lock_hashlock}
 use Rattle.hash_signature.specs.declared.sig.Sig.{Sig}
-use Rattle.hash_signature.specs.Signature.{hash_of, public_key_of, signature_of}
+use Rattle.hash_signature.specs.Signature.{hashed_value, derive_public_key, parse_signature}
 use Rattle.hashkey_path.specs.declared.hashkey.Hashkey.{Hashkey}
-use Rattle.hashkey_path.specs.Hashkey.{key_of, message_of, IsValidHashkey}
+use Rattle.hashkey_path.specs.Hashkey.{key_of, signing_message, IsValidHashkey}
 
 -- the party's signature over the suffix that it begins, where rest are the vertices after it and inner their signatures
 abbrev pub suffix_signature : Deal → ℕ → List ℕ → ℕ → List ℕ → List ℕ → List Sig → Sig
-suffix_signature d lock secret party seed rest inner = signature_of seed party lock (message_of d.id lock (party ∷ rest) secret inner)
+suffix_signature d lock secret party seed rest inner = parse_signature seed party lock (signing_message d.id lock (party ∷ rest) secret inner)
 
 -- the hashkey whose path is the party alone, signed with the key of its seed
 abbrev pub leaders_key : Deal → ℕ → List ℕ → ℕ → List ℕ → Hashkey
@@ -37,16 +37,16 @@ extended_key d inner party seed =
 pub record IsLeadersOwn (d : Deal) (lock : ℕ) (secret : List ℕ) (party : ℕ) (seed : List ℕ) : Type 0 where
   pub mode : d.mode ≡ Hashkeys
   pub leads : IsTrue (leads d party lock)
-  pub opens : hash_of secret ≡ hashlock_of d lock
-  pub key : key_of d party lock ≡ public_key_of seed party lock
+  pub opens : hashed_value secret ≡ lock_hashlock d lock
+  pub key : key_of d party lock ≡ derive_public_key seed party lock
 
 -- The party isn't on the path, has an arc to its first vertex, and the key of the seed is the one that the deal states.
 pub record CanExtend (d : Deal) (inner : Hashkey) (party : ℕ) (seed : List ℕ) : Type 0 where
   pub mode : d.mode ≡ Hashkeys
-  pub apart : IsTrue (not (is_among party inner.path))
+  pub apart : IsTrue (not (is_listed party inner.path))
   pub arc : IsTrue (has_arc d.graph party (slice_index inner.path 0))
-  pub key : key_of d party inner.lock ≡ public_key_of seed party inner.lock
+  pub key : key_of d party inner.lock ≡ derive_public_key seed party inner.lock
 
 -- The hashkey is valid under the hashlock on every arc that enters the party.
-abbrev pub IsValidInto : Deal → ℕ → List ℕ → Hashkey → Type 0
-IsValidInto d party hashlock key = (a : ℕ) → a < length d.graph.arcs → counterparty d a ≡ party → IsValidHashkey d a hashlock key
+abbrev pub IsValidEntering : Deal → ℕ → List ℕ → Hashkey → Type 0
+IsValidEntering d party hashlock key = (a : ℕ) → a < length d.graph.arcs → counterparty d a ≡ party → IsValidHashkey d a hashlock key

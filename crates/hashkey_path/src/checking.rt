@@ -2,13 +2,13 @@
 
 ghost use Rattle.std.specs.Prelude.{◌≡◌, ◌<◌, ◌↔◌, IsTrue, length};
 ghost use Rattle.swap_digraph.specs.Deal.{IsWellSized};
-ghost use Rattle.hashkey_path.specs.Hashkey.{answer_of, is_wrong_path, IsValidHashkey};
+ghost use Rattle.hashkey_path.specs.Hashkey.{computed_answer, is_wrong_path, IsValidHashkey};
 ghost use Rattle.hashkey_path.specs.Known.{is_last_signed};
 
 use crate::hashkey::{Hashkey, HashkeyAnswer};
 use crate::path::{first_is, is_path, last_is};
 use crate::suffix::wrong_signature;
-use hash_signature::hash_of;
+use hash_signature::hashed_value;
 use swap_base::{ArcId, Digest};
 use swap_digraph::{Deal, Mode};
 
@@ -31,8 +31,8 @@ fn is_wrong_path(deal: &Deal, arc: ArcId, key: &Hashkey) -> bool
     }
 }
 
-#[tactic(auto, unfolding(crate::specs::Hashkey::answer_of))]
-fn answer_of(
+#[tactic(auto, unfolding(crate::specs::Hashkey::computed_answer))]
+fn computed_answer(
     deal: &Deal,
     arc: ArcId,
     hashlock: &Digest,
@@ -43,9 +43,9 @@ fn answer_of(
     requires arc { arc < length deal.now.graph.arcs }
     requires lock { key.now.lock < length deal.now.leaders }
     requires known { IsTrue (is_last_signed known deal.now key.now) }
-    ensures { result ≡ answer_of deal.now arc hashlock.now key.now }
+    ensures { result ≡ computed_answer deal.now arc hashlock.now key.now }
 {
-    if hash_of(&key.secret) != *hashlock {
+    if hashed_value(&key.secret) != *hashlock {
         return HashkeyAnswer::WrongSecret;
     }
     if is_wrong_path(deal, arc, key) {
@@ -77,8 +77,8 @@ pub fn check(
     requires arc { arc < length deal.now.graph.arcs }
     requires lock { key.now.lock < length deal.now.leaders }
     requires known { IsTrue (is_last_signed known deal.now key.now) }
-    ensures first { result ≡ answer_of deal.now arc hashlock.now key.now }
+    ensures first { result ≡ computed_answer deal.now arc hashlock.now key.now }
     ensures valid { (result ≡ HashkeyAnswer.Valid) ↔ IsValidHashkey deal.now arc hashlock.now key.now }
 {
-    answer_of(deal, arc, hashlock, key, known)
+    computed_answer(deal, arc, hashlock, key, known)
 }

@@ -2,8 +2,8 @@
 
 ghost use Rattle.std.specs.Prelude.{◌≡◌, ◌∷◌, ◌+◌, ◌<◌, IfOk, IfErr, length};
 ghost use Rattle.swap_digraph.specs.Deal.{path_limit};
-ghost use Rattle.hash_signature.specs.Signature.{signature_of};
-ghost use Rattle.hashkey_path.specs.Hashkey.{message_of};
+ghost use Rattle.hash_signature.specs.Signature.{parse_signature};
+ghost use Rattle.hashkey_path.specs.Hashkey.{signing_message};
 ghost use Rattle.hashkey_path.specs.Signed.{leaders_key, extended_key};
 
 use crate::hashkey::Hashkey;
@@ -77,12 +77,12 @@ impl Places {
         secret: &Digest,
         key: OneTimeKey,
     ) -> Result<(Shared<Hashkey>, Shared<Hashkey>), KeyBack>
-        ensures exact { let message = message_of deal.now.id lock self.lists.path.items secret.now self.lists.sigs.items in
+        ensures exact { let message = signing_message deal.now.id lock self.lists.path.items secret.now self.lists.sigs.items in
             IfOk result (λ held. held.0 ≡ record {
               lock = lock;
               secret = secret.now;
               path = self.lists.path.items;
-              sigs = signature_of key.seed key.party key.lock message ∷ self.lists.sigs.items;
+              sigs = parse_signature key.seed key.party key.lock message ∷ self.lists.sigs.items;
             }) }
         ensures equal { IfOk result (λ held. held.1 ≡ held.0) }
         ensures back { IfErr result (λ b. b.key ≡ key) }

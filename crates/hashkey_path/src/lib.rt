@@ -1,6 +1,6 @@
 //! Hashkeys: a secret, the path that it took from a party to its leader, and nested signatures over the suffixes of that path (Herlihy 2018, section 4.1).
 //!
-//! Read `specs/Hashkey.antt` first: `IsValidHashkey` speaks of all suffixes at once, `answer_of` says what `check` answers. `specs/Signed.antt` says
+//! Read `specs/Hashkey.antt` first: `IsValidHashkey` speaks of all suffixes at once, `computed_answer` says what `check` answers. `specs/Signed.antt` says
 //! what `first`, `extend` and their likes of `held.rt` make, and `specs/Digest.antt` what a deal's id is taken of.
 #![tactic(auto)]
 

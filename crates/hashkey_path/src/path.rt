@@ -4,7 +4,7 @@ ghost use Rattle.std.specs.Prelude.{◌≡◌, ◌<◌};
 ghost use Rattle.swap_digraph.specs.Graph.{is_path, has_arc, first_is, last_is};
 
 use swap_base::PartyId;
-use swap_digraph::{Digraph, is_among};
+use swap_digraph::{Digraph, is_listed};
 
 fn has_arc(graph: &Digraph, from: PartyId, to: PartyId) -> bool
     ensures { result ≡ has_arc graph.now from to }
@@ -24,7 +24,7 @@ pub(crate) fn is_path(graph: &Digraph, path: &[PartyId]) -> bool
         [v] => *v < graph.n(),
         [u, v, ..] => {
             let rest = &path[1..];
-            *u < graph.n() && !is_among(*u, rest) && has_arc(graph, *u, *v) && is_path(graph, rest)
+            *u < graph.n() && !is_listed(*u, rest) && has_arc(graph, *u, *v) && is_path(graph, rest)
         }
     }
 }

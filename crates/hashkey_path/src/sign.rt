@@ -2,13 +2,13 @@
 
 ghost use Rattle.std.specs.Prelude.{◌≡◌, ◌∷◌, ℕ, List, ◌+◌, ◌<◌, IfOk, IfErr, IsTrue, length, vec_len};
 ghost use Rattle.std.specs.Vec.{vec_capacity};
-ghost use Rattle.swap_digraph.specs.Deal.{path_limit, hashlock_of};
-ghost use Rattle.hashkey_path.specs.Hashkey.{message_of, IsValidHashkey};
-ghost use Rattle.hash_signature.specs.Signature.{is_valid_signature, public_key_of, signature_of};
-ghost use Rattle.hashkey_path.specs.Signed.{leaders_key, extended_key, CanExtend, IsLeadersOwn, IsValidInto};
+ghost use Rattle.swap_digraph.specs.Deal.{path_limit, lock_hashlock};
+ghost use Rattle.hashkey_path.specs.Hashkey.{signing_message, IsValidHashkey};
+ghost use Rattle.hash_signature.specs.Signature.{is_valid_signature, derive_public_key, parse_signature};
+ghost use Rattle.hashkey_path.specs.Signed.{leaders_key, extended_key, CanExtend, IsLeadersOwn, IsValidEntering};
 
 use crate::hashkey::Hashkey;
-use crate::suffix::message_of;
+use crate::suffix::signing_message;
 use hash_signature::{OneTimeKey, Sig};
 use std::alloc::Global;
 use swap_base::{Digest, Listed, LockId, NoMemory, PartyId, TryCopy};
@@ -29,7 +29,7 @@ pub(crate) struct Unsigned {
     ghost room: { vec_len sigs < vec_capacity sigs },
 }
 
-fn path_of(alloc: Global, party: PartyId, rest: &[PartyId]) -> Result<Vec<PartyId>, NoMemory>
+fn make_path(alloc: Global, party: PartyId, rest: &[PartyId]) -> Result<Vec<PartyId>, NoMemory>
     ensures { IfOk result (λ path. path.items ≡ party ∷ rest.now) }
 {
     let mut path = Vec::new(alloc);
@@ -63,25 +63,25 @@ impl Unsigned {
         ensures path { IfOk result (λ lists. lists.path.items ≡ party ∷ rest.now) }
         ensures sigs { IfOk result (λ lists. lists.sigs.items ≡ inner.now) }
     {
-        let path = path_of(alloc, party, rest)?;
+        let path = make_path(alloc, party, rest)?;
         let sigs = with_room(alloc, inner)?;
         Ok(Unsigned { path, sigs })
     }
 
     /// Signs with the key, which spends it. It takes no memory.
     fn sign(self, deal: &Deal, lock: LockId, secret: &Digest, key: OneTimeKey) -> Hashkey
-        ensures exact { let message = message_of deal.now.id lock self.path.items secret.now self.sigs.items in
+        ensures exact { let message = signing_message deal.now.id lock self.path.items secret.now self.sigs.items in
             result ≡ record {
               lock = lock;
               secret = secret.now;
               path = self.path.items;
-              sigs = signature_of key.seed key.party key.lock message ∷ self.sigs.items;
+              sigs = parse_signature key.seed key.party key.lock message ∷ self.sigs.items;
             } }
-        ensures valid { let message = message_of deal.now.id lock self.path.items secret.now self.sigs.items in
-            IsTrue (is_valid_signature (public_key_of key.seed key.party key.lock) message (signature_of key.seed key.party key.lock message)) }
+        ensures valid { let message = signing_message deal.now.id lock self.path.items secret.now self.sigs.items in
+            IsTrue (is_valid_signature (derive_public_key key.seed key.party key.lock) message (parse_signature key.seed key.party key.lock message)) }
     {
         let Unsigned { path, mut sigs } = self;
-        let message = message_of(&deal.id, lock, &path, secret, &sigs);
+        let message = signing_message(&deal.id, lock, &path, secret, &sigs);
         sigs.insert(0, key.sign(&message)).unwrap();
         Hashkey {
             lock,
@@ -116,16 +116,16 @@ impl Unsigned {
     ) -> (Hashkey, Hashkey)
         requires path { twin.path.items ≡ self.path.items }
         requires sigs { twin.sigs.items ≡ self.sigs.items }
-        ensures exact { let message = message_of deal.now.id lock self.path.items secret.now self.sigs.items in
+        ensures exact { let message = signing_message deal.now.id lock self.path.items secret.now self.sigs.items in
             result.0 ≡ record {
               lock = lock;
               secret = secret.now;
               path = self.path.items;
-              sigs = signature_of key.seed key.party key.lock message ∷ self.sigs.items;
+              sigs = parse_signature key.seed key.party key.lock message ∷ self.sigs.items;
             } }
         ensures equal { result.1 ≡ result.0 }
     {
-        let message = message_of(&deal.id, lock, &self.path, secret, &self.sigs);
+        let message = signing_message(&deal.id, lock, &self.path, secret, &self.sigs);
         let sig = key.sign(&message);
         let same = Sig::new(*sig.values());
         (
@@ -148,7 +148,7 @@ pub fn first(
     requires of_party { key.party ≡ party }
     requires of_lock { key.lock ≡ lock }
     ensures value { IfOk result (λ k. k ≡ leaders_key deal.now lock secret.now party key.seed) }
-    ensures valid { IfOk result (λ k. IsLeadersOwn deal.now lock secret.now party key.seed → IsValidInto deal.now party (hashlock_of deal.now lock) k) }
+    ensures valid { IfOk result (λ k. IsLeadersOwn deal.now lock secret.now party key.seed → IsValidEntering deal.now party (lock_hashlock deal.now lock) k) }
     ensures back { IfErr result (λ b. b.key ≡ key) }
 {
     match Unsigned::new(alloc, party, &[], &[]) {
@@ -173,7 +173,7 @@ pub fn extend(
     requires paired { length inner.now.sigs ≡ length inner.now.path }
     ensures value { IfOk result (λ k. k ≡ extended_key deal.now inner.now party key.seed) }
     ensures valid { IfOk result (λ k. (a : ℕ) (hashlock : List ℕ) → IsValidHashkey deal.now a hashlock inner.now
-        → CanExtend deal.now inner.now party key.seed → IsValidInto deal.now party hashlock k) }
+        → CanExtend deal.now inner.now party key.seed → IsValidEntering deal.now party hashlock k) }
     ensures back { IfErr result (λ b. b.key ≡ key) }
 {
     match Unsigned::new(alloc, party, inner.path.as_slice(), inner.sigs.as_slice()) {

@@ -2,7 +2,7 @@
 
 ghost use Rattle.std.specs.Prelude.{◌≡◌, ◌+◌, ◌<◌, All, IsTrue, length};
 ghost use Rattle.swap_digraph.specs.Deal.{HasKeys};
-ghost use Rattle.hashkey_path.specs.Hashkey.{key_of, message_of, wrong_signature};
+ghost use Rattle.hashkey_path.specs.Hashkey.{key_of, signing_message, wrong_signature};
 ghost use Rattle.hashkey_path.specs.Known.{are_last_signed};
 
 use hash_signature::{Sig, verify};
@@ -22,8 +22,8 @@ pub(crate) fn key_of(deal: &Deal, party: PartyId, lock: LockId) -> Digest
 }
 
 /// What the first vertex of a suffix signs, where `inner` are the signatures of the shorter suffixes.
-#[tactic(auto, unfolding(crate::specs::Hashkey::message_of))]
-pub(crate) fn message_of(
+#[tactic(auto, unfolding(crate::specs::Hashkey::signing_message))]
+pub(crate) fn signing_message(
     id: &Digest,
     lock: LockId,
     path: &[PartyId],
@@ -31,7 +31,7 @@ pub(crate) fn message_of(
     inner: &[Sig],
 ) -> Digest
     requires { length path.now < 256 }
-    ensures { result ≡ message_of id.now lock path.now secret.now inner.now }
+    ensures { result ≡ signing_message id.now lock path.now secret.now inner.now }
 {
     let mut hasher = Sha256::new();
     hasher.update([4u8]);
@@ -73,7 +73,7 @@ pub(crate) fn wrong_signature(
                 return None;
             }
             let public = key_of(deal, *v, lock);
-            let message = message_of(&deal.id, lock, path, secret, inner);
+            let message = signing_message(&deal.id, lock, path, secret, inner);
             if verify(&public, &message, sig) {
                 wrong_signature(place + 1, deal, lock, secret, rest, inner, known)
             } else {

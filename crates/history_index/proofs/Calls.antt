@@ -13,7 +13,7 @@ use Rattle.ledger_core.specs.declared.entry.Entry.{Entry}
 use Rattle.ledger_core.specs.History.{publication, published, opening, opened, accepted, is_open}
 use Rattle.ledger_core.specs.Facts.{opened_number}
 use Rattle.history_index.specs.declared.made.Made.{Made}
-use Rattle.history_index.specs.Numbers.{published_number, is_before}
+use Rattle.history_index.specs.Numbers.{published_number, comes_earlier}
 use Rattle.ledger_core.specs.Facts.{is_call}
 use Rattle.history_index.specs.Made.{made_from, made_in}
 
@@ -31,32 +31,33 @@ place_head false k len = go (nat_lt k len) refl
 position_head : {A : Type 0} (p : A → Bool) (x : A) (xs : List A) → position p (x ∷ xs) ≡ cond (p x) (Some 0) (option_map (λ i. suc i) (position p xs))
 position_head p x xs = place_head (p x) (prefix_len (λ y. not (p y)) xs) (length xs)
 
-before_next : (o : Option ℕ) (n : ℕ) → is_before (option_map (λ i. suc i) o) (suc n) ≡ is_before o n
+before_next : (o : Option ℕ) (n : ℕ) → comes_earlier (option_map (λ i. suc i) o) (suc n) ≡ comes_earlier o n
 before_next None n = refl
 before_next (Some k) n = grind arith
 
-before_none : (o : Option ℕ) → is_before o 0 ≡ false
+before_none : (o : Option ℕ) → comes_earlier o 0 ≡ false
 before_none None = refl
 before_none (Some k) = grind arith
 
-before_head : {B : Type 0} (o r : Option B) (k : Option ℕ) (n : ℕ) → is_some r ≡ is_before k n
-    → is_some (or_else o r) ≡ is_before (cond (is_some o) (Some 0) (option_map (λ i. suc i) k)) (suc n)
+before_head : {B : Type 0} (o r : Option B) (k : Option ℕ) (n : ℕ) → is_some r ≡ comes_earlier k n
+    → is_some (or_else o r) ≡ comes_earlier (cond (is_some o) (Some 0) (option_map (λ i. suc i) k)) (suc n)
 before_head None r k n h = h ∙ sym (before_next k n)
 before_head (Some x) r k n h = grind arith
 
-pub some_before : {A B : Type 0} (f : A → Option B) (xs : List A) (n : ℕ) → is_some (first_of f (take n xs)) ≡ is_before (position (λ x. is_some (f x)) xs) n
+pub some_before : {A B : Type 0} (f : A → Option B) (xs : List A) (n : ℕ)
+    → is_some (first_of f (take n xs)) ≡ comes_earlier (position (λ x. is_some (f x)) xs) n
 some_before f xs zero = sym (before_none (position (λ x. is_some (f x)) xs))
 some_before f [] (suc n) = refl
 some_before f (x ∷ xs) (suc n) =
     before_head (f x) (first_of f (take n xs)) (position (λ y. is_some (f y)) xs) n (some_before f xs n)
-    ∙ ap (λ o. is_before o (suc n)) (sym (position_head (λ y. is_some (f y)) x xs))
+    ∙ ap (λ o. comes_earlier o (suc n)) (sym (position_head (λ y. is_some (f y)) x xs))
 
 -- a prefix holds the accepted publish where its number is below the prefix's length
-pub published_before : (h : List Entry) (n : ℕ) → is_some (published (take n h)) ≡ is_before (published_number h) n
+pub published_before : (h : List Entry) (n : ℕ) → is_some (published (take n h)) ≡ comes_earlier (published_number h) n
 published_before h n = some_before (λ e. publication e.height (accepted e)) h n
 
 -- a prefix holds the accepted unlock for a lock where its number is below the prefix's length
-pub open_before : (h : List Entry) (i n : ℕ) → is_open (take n h) i ≡ is_before (opened_number h i) n
+pub open_before : (h : List Entry) (i n : ℕ) → is_open (take n h) i ≡ comes_earlier (opened_number h i) n
 open_before h i n = some_before (λ e. opening i e.height (accepted e)) h n
 
 some_head : {B : Type 0} (o r : Option B) (k : Option ℕ) → is_some r ≡ is_some k

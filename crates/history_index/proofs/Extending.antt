@@ -2,7 +2,7 @@
 use Rattle.std.proofs.Common.{◌≡◌, ℕ, ◌+◌, List, [], ◌++◌, length, sym, ap, ◌∙◌, subst, append_assoc, append-nil}
 use Rattle.ledger_core.specs.declared.entry.Entry.{Entry}
 use Rattle.ledger_core.specs.declared.runs.Run.{Run}
-use Rattle.ledger_core.specs.Runs.{ticks_of}
+use Rattle.ledger_core.specs.Runs.{run_ticks}
 use Rattle.ledger_core.proofs.Ticks.{length_ticks}
 use Rattle.history_index.specs.Value.{IndexState, IsSameArc}
 use Rattle.history_index.specs.Numbers.{IsIndexable}
@@ -33,7 +33,7 @@ takes_same old new more s e t front rest f =
     subst (λ n. IsIndexable new.from n front) (sym s.to) (subst (λ n.
     IsIndexable n old.to front) (sym s.from) (t front rest (ap (λ (xs : List Entry). xs ++ more) (sym e) ∙ f)))
 
-pub length_run : (r : Run) → length (ticks_of r) ≡ r.count
+pub length_run : (r : Run) → length (run_ticks r) ≡ r.count
 length_run r = length_ticks r.above r.by r.count
 
 -- what is left of it

@@ -12,8 +12,8 @@ use Rattle.ledger_core.specs.declared.entry.Sender.TheVariants.{Party, Clock}
 use Rattle.ledger_core.specs.declared.entry.What.{What}
 use Rattle.ledger_core.specs.declared.entry.What.TheVariants.{Call as Made, Tick}
 use Rattle.ledger_core.specs.declared.entry.Entry.{Entry}
-use Rattle.ledger_core.specs.History.{sent_by, IsLegal, IsLegalEntry, IsLegalMoment}
-use Rattle.ledger_core.proofs.Bounds.{calls_of, bounds, countable}
+use Rattle.ledger_core.specs.History.{is_sender, IsLegal, IsLegalEntry, IsLegalMoment}
+use Rattle.ledger_core.proofs.Bounds.{total_calls, bounds, countable}
 use Rattle.ledger_core.proofs.History.{lock-below}
 use Rattle.history_index.specs.Numbers.{numbers_from, comes_from, names_lock, IsIndexable}
 
@@ -21,11 +21,11 @@ one_more : (b : Bool) (n : ℕ) (xs : List ℕ) (m : ℕ) → length xs ≡ m �
 one_more true n xs m e = omega arith
 one_more false n xs m e = omega arith
 
-length-numbers : (n p : ℕ) (h : List Entry) → length (numbers_from n p h) ≡ calls_of p h
+length-numbers : (n p : ℕ) (h : List Entry) → length (numbers_from n p h) ≡ total_calls p h
 length-numbers n p [] = refl
 length-numbers n p (e ∷ h) =
-    one_more (sent_by p e.sender) n (numbers_from (n + 1) p h) (calls_of p h) (length-numbers (n + 1) p h)
-    ∙ sym (sum_by-cons (λ x. cond (sent_by p x.sender) 1 0) e h)
+    one_more (is_sender p e.sender) n (numbers_from (n + 1) p h) (total_calls p h) (length-numbers (n + 1) p h)
+    ∙ sym (sum_by-cons (λ x. cond (is_sender p x.sender) 1 0) e h)
 
 module _ (d : Deal) (a : ℕ) where
   among : (past : List Entry) (s : Sender) (w : What) (at : ℕ) (r : _) → IsLegalEntry d a past s w at r → comes_from (party d a) (counterparty d a) s w ≡ true

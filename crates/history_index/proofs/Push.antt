@@ -25,10 +25,10 @@ use Rattle.ledger_core.specs.declared.entry.What.TheVariants.{Call as Made, Tick
 use Rattle.ledger_core.specs.declared.entry.Entry.{Entry}
 use Rattle.ledger_core.specs.declared.facts.CallKind.{CallKind}
 use Rattle.ledger_core.specs.declared.facts.CallKind.TheVariants.{Publish, Unlock, Claim, Refund}
-use Rattle.ledger_core.specs.History.{ticks_in, accepted_call, accepted, publication, Opening, opening, settling, sent_by}
+use Rattle.ledger_core.specs.History.{entry_ticks, accepted_call, accepted, publication, Opening, opening, settling, is_sender}
 use Rattle.ledger_core.specs.Facts.{shown_as, is_of_kind, has_call}
 use Rattle.ledger_core.specs.declared.runs.Item.{Item}
-use Rattle.ledger_core.specs.Runs.{entries_of, expand}
+use Rattle.ledger_core.specs.Runs.{ledger_entries, expand}
 use Rattle.ledger_core.proofs.Bounds.{height-push}
 use Rattle.history_index.specs.declared.kinds.Kinds.{Kinds}
 use Rattle.history_index.specs.declared.answers.Answers.{Answers}
@@ -48,8 +48,8 @@ cond_front true n xs ys zs e = ap (λ l. n ∷ l) e
 cond_front false n xs ys zs e = e
 
 pub numbers_push : (n p : ℕ) (h : List Entry) (e : Entry)
-    → numbers_from n p (h ++ e ∷ []) ≡ numbers_from n p h ++ number_where (sent_by p e.sender) (n + length h)
-numbers_push n p [] e = go (sent_by p e.sender)
+    → numbers_from n p (h ++ e ∷ []) ≡ numbers_from n p h ++ number_where (is_sender p e.sender) (n + length h)
+numbers_push n p [] e = go (is_sender p e.sender)
   where
     go : (b : Bool) → cond b (n ∷ []) [] ≡ number_where b (n + 0)
     go true = ap (λ k. k ∷ []) (omega arith)
@@ -57,20 +57,20 @@ numbers_push n p [] e = go (sent_by p e.sender)
 numbers_push n p (x ∷ h) e =
     let rest = numbers_push (n + 1) p h e in
     let k : n + 1 + length h ≡ n + length (x ∷ h) = omega arith in
-    cond_front (sent_by p x.sender) n _ _ _ (rest ∙ ap (λ m. numbers_from (n + 1) p h ++ number_where (sent_by p e.sender) m) k)
+    cond_front (is_sender p x.sender) n _ _ _ (rest ∙ ap (λ m. numbers_from (n + 1) p h ++ number_where (is_sender p e.sender) m) k)
 
-pub call_numbers_push : (p : ℕ) (h : List Entry) (e : Entry) → call_numbers p (h ++ e ∷ []) ≡ call_numbers p h ++ number_where (sent_by p e.sender) (length h)
+pub call_numbers_push : (p : ℕ) (h : List Entry) (e : Entry) → call_numbers p (h ++ e ∷ []) ≡ call_numbers p h ++ number_where (is_sender p e.sender) (length h)
 call_numbers_push p h e =
     let k : 0 + length h ≡ length h = omega arith in
-    numbers_push 0 p h e ∙ ap (λ m. call_numbers p h ++ number_where (sent_by p e.sender) m) k
+    numbers_push 0 p h e ∙ ap (λ m. call_numbers p h ++ number_where (is_sender p e.sender) m) k
 
 -- The kinds of call.
 
 has_call_push : (p : ℕ) (k : CallKind) (h : List Entry) (e : Entry)
-    → has_call p k (h ++ e ∷ []) ≡ (has_call p k h || cond (sent_by p e.sender) (is_of_kind k e.what) false)
+    → has_call p k (h ++ e ∷ []) ≡ (has_call p k h || cond (is_sender p e.sender) (is_of_kind k e.what) false)
 has_call_push p k h e =
-    list_any-append (λ x. cond (sent_by p x.sender) (is_of_kind k x.what) false) h (e ∷ [])
-    ∙ ap (λ b. has_call p k h || b) (or-false (cond (sent_by p e.sender) (is_of_kind k e.what) false))
+    list_any-append (λ x. cond (is_sender p x.sender) (is_of_kind k x.what) false) h (e ∷ [])
+    ∙ ap (λ b. has_call p k h || b) (or-false (cond (is_sender p e.sender) (is_of_kind k e.what) false))
 
 lock_set : (xs : List Bool) (l i : ℕ) → l < length xs → slice_index_or (slice_set xs l true) i false ≡ (slice_index_or xs i false || (l == i))
 lock_set xs l i lt = go (l == i) refl
@@ -107,9 +107,9 @@ places_set ks (Tick m) = refl
 
 pub calls_push : (p : ℕ) (h : List Entry) (e : Entry) (ns : List ℕ) (ks : Kinds) → IsTrue (names_lock e.what) → AreCalls p h ns ks
     → AreCalls p (h ++ e ∷ []) (numbers_after (length h) p e ns) (kinds_after p e ks)
-calls_push p h e ns ks l a = go (sent_by p e.sender) refl
+calls_push p h e ns ks l a = go (is_sender p e.sender) refl
   where
-    go : (b : Bool) → sent_by p e.sender ≡ b → AreCalls p (h ++ e ∷ []) (cond b (ns ++ length h ∷ []) ns) (cond b (with_call ks e.what) ks)
+    go : (b : Bool) → is_sender p e.sender ≡ b → AreCalls p (h ++ e ∷ []) (cond b (ns ++ length h ∷ []) ns) (cond b (with_call ks e.what) ks)
     go true s = record {
       numbers = ap (λ xs. xs ++ length h ∷ []) a.numbers ∙ sym (call_numbers_push p h e ∙ ap (λ b. call_numbers p h ++ number_where b (length h)) s);
       places = places_set ks e.what ∙ a.places;
@@ -169,7 +169,7 @@ places_opening us n _ = refl
 pub answers_push : (t : Terms) (h : List Entry) (e : Entry) (a : Answers) → IsTrue (names_lock e.what) → AreAnswers t h a
     → AreAnswers t (h ++ e ∷ []) (answers_after t (length h) e a)
 answers_push t h e a l k = record {
-  height = ap (λ n. n + ticks_in e.what) k.height ∙ sym (height-push h e);
+  height = ap (λ n. n + entry_ticks e.what) k.height ∙ sym (height-push h e);
   published =
       ap (λ o. or_else o (option_map (shown_as t) (publication e.height (accepted e)))) k.published
       ∙ sym (ap (option_map (shown_as t)) (first_push (λ x. publication x.height (accepted x)) h e) ∙ map_or_else (shown_as t) _ _);
@@ -213,13 +213,13 @@ made_in_push h e =
 
 -- Who sent what.
 
-sent_of_two : (from to : ℕ) (s : Sender) (w : What) → comes_from from to s w ≡ true → is_call w ≡ true → (sent_by from s || sent_by to s) ≡ true
+sent_of_two : (from to : ℕ) (s : Sender) (w : What) → comes_from from to s w ≡ true → is_call w ≡ true → (is_sender from s || is_sender to s) ≡ true
 sent_of_two from to (Party p) (Made c) a k = a
 sent_of_two from to (Party p) (Tick n) a k = absurd (false≢true a)
 sent_of_two from to Clock (Made c) a k = absurd (false≢true a)
 sent_of_two from to Clock (Tick n) a k = absurd (false≢true k)
 
-sent_call : (from to p : ℕ) (s : Sender) (w : What) → comes_from from to s w ≡ true → sent_by p s ≡ true → is_call w ≡ true
+sent_call : (from to p : ℕ) (s : Sender) (w : What) → comes_from from to s w ≡ true → is_sender p s ≡ true → is_call w ≡ true
 sent_call from to p (Party q) (Made c) a k = refl
 sent_call from to p (Party q) (Tick n) a k = absurd (false≢true a)
 sent_call from to p Clock w a k = absurd (false≢true k)
@@ -240,7 +240,7 @@ made_few : (from to n : ℕ) (h : List Entry) → IsTrue (list_all (λ e. comes_
 made_few from to n [] a = omega arith
 made_few from to n (e ∷ h) a =
     let parts = and_parts (comes_from from to e.sender e.what) (list_all (λ x. comes_from from to x.sender x.what) h) a in
-    few_more (is_call e.what) (sent_by from e.sender) (sent_by to e.sender) (record {
+    few_more (is_call e.what) (is_sender from e.sender) (is_sender to e.sender) (record {
       number = n;
       entry =
           e;
@@ -255,7 +255,7 @@ few_made from to h ms i e =
     let to_few = i.to_few in
     omega arith
 
-not_sent : (from to p : ℕ) (s : Sender) (w : What) → comes_from from to s w ≡ true → (p ≡ from → ⊥) → (p ≡ to → ⊥) → sent_by p s ≡ false
+not_sent : (from to p : ℕ) (s : Sender) (w : What) → comes_from from to s w ≡ true → (p ≡ from → ⊥) → (p ≡ to → ⊥) → is_sender p s ≡ false
 not_sent from to p (Party q) (Made c) h nf nt = go (q == p) (q == from) (q == to) refl refl refl h
   where
     go : (b x y : Bool) → (q == p) ≡ b → (q == from) ≡ x → (q == to) ≡ y → (x || y) ≡ true → (q == p) ≡ false
@@ -284,7 +284,7 @@ last_passes f h e a =
 pub last_lock : (from to : ℕ) (h : List Entry) (e : Entry) → IsIndexable from to (h ++ e ∷ []) → IsTrue (names_lock e.what)
 last_lock from to h e i = last_passes (λ x. names_lock x.what) h e i.locks
 
-pub last_sent : (from to p : ℕ) (h : List Entry) (e : Entry) → IsIndexable from to (h ++ e ∷ []) → sent_by p e.sender ≡ true → is_call e.what ≡ true
+pub last_sent : (from to p : ℕ) (h : List Entry) (e : Entry) → IsIndexable from to (h ++ e ∷ []) → is_sender p e.sender ≡ true → is_call e.what ≡ true
 last_sent from to p h e i = sent_call from to p e.sender e.what (last_passes (λ x. comes_from from to x.sender x.what) h e i.senders)
 
 -- room for further elements after one more; the element takes a place if s holds, and room was set
@@ -301,8 +301,8 @@ room_kept false false x xs xs' room room' cap cap' e h r k l m = let n : length 
 
 -- What is kept after a push: the entries xs are h and e, which has number n, and what is marked is what was kept, with e.
 
-pub expand_push : (items : List Item) (x : Item) → expand (items ++ x ∷ []) ≡ expand items ++ entries_of x
-expand_push items x = flat_map-append entries_of items (x ∷ []) ∙ ap (λ l. expand items ++ l) (append-nil (entries_of x))
+pub expand_push : (items : List Item) (x : Item) → expand (items ++ x ∷ []) ≡ expand items ++ ledger_entries x
+expand_push items x = flat_map-append ledger_entries items (x ∷ []) ∙ ap (λ l. expand items ++ l) (append-nil (ledger_entries x))
 
 pub answers_kept : (t : Terms) (h xs : List Entry) (e : Entry) (n : ℕ) (a a' : Answers) → xs ≡ h ++ e ∷ [] → n ≡ length h → a' ≡ answers_after t n e a
     → IsTrue (names_lock e.what) → AreAnswers t h a → AreAnswers t xs a'

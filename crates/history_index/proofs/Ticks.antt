@@ -12,7 +12,7 @@ use Rattle.ledger_core.specs.declared.facts.Settlement.{Settlement}
 use Rattle.ledger_core.specs.declared.runs.Run.{Run}
 use Rattle.ledger_core.specs.History.{height}
 use Rattle.ledger_core.specs.Ledger.{tick_entry}
-use Rattle.ledger_core.specs.Runs.{ticks_above, ticks_of}
+use Rattle.ledger_core.specs.Runs.{ticks_above, run_ticks}
 use Rattle.ledger_core.proofs.Bounds.{height-push}
 use Rattle.history_index.specs.declared.answers.Answers.{Answers}
 use Rattle.history_index.specs.declared.kinds.Kinds.{Kinds}
@@ -46,15 +46,15 @@ length_ticks h at k (suc n) =
 
 -- What is kept.
 
-answers_of : ℕ → Option Published → Option ℕ → List (Option ℕ) → Option Settlement → Answers
-answers_of t p k us s = record { height = t; published = p; published_number = k; unlocked = us; settled = s }
+world_answers : ℕ → Option Published → Option ℕ → List (Option ℕ) → Option Settlement → Answers
+world_answers t p k us s = record { height = t; published = p; published_number = k; unlocked = us; settled = s }
 
 answers_tick : (t : Terms) (n k at : ℕ) (a : Answers) → answers_after t n (tick_entry k at Accepted) a ≡ record a { height = a.height + k }
-unfolding answers_of
+unfolding world_answers
 answers_tick t n k at a =
-    ap (λ p. answers_of (a.height + k) p (or_else a.published_number None) a.unlocked (or_else a.settled None)) (or_else-none a.published)
-    ∙ (ap (λ m. answers_of (a.height + k) a.published m a.unlocked (or_else a.settled None)) (or_else-none a.published_number)
-    ∙ ap (λ s. answers_of (a.height + k) a.published a.published_number a.unlocked s) (or_else-none a.settled))
+    ap (λ p. world_answers (a.height + k) p (or_else a.published_number None) a.unlocked (or_else a.settled None)) (or_else-none a.published)
+    ∙ (ap (λ m. world_answers (a.height + k) a.published m a.unlocked (or_else a.settled None)) (or_else-none a.published_number)
+    ∙ ap (λ s. world_answers (a.height + k) a.published a.published_number a.unlocked s) (or_else-none a.settled))
 
 answers_ticks : (t : Terms) (h : List Entry) (at k n : ℕ) (a : Answers) → AreAnswers t h a
     → AreAnswers t (h ++ ticks_above at k n) (record a { height = a.height + k * n })
@@ -86,31 +86,31 @@ made_ticks h at k (suc n) =
 
 -- What is kept after the ticks of a run: the entries xs are h and these.
 
-pub has_height : (h : List Entry) (r : Run) (from to : ℕ) → IsIndexable from to (h ++ ticks_of r) → height h + r.by * r.count < 2 ^ 32
+pub has_height : (h : List Entry) (r : Run) (from to : ℕ) → IsIndexable from to (h ++ run_ticks r) → height h + r.by * r.count < 2 ^ 32
 has_height h r from to i =
     let e = height_ticks h r.above r.by r.count in
     let l = i.countable.height in
     omega arith
 
-pub has_count : (h : List Entry) (r : Run) (from to : ℕ) → IsIndexable from to (h ++ ticks_of r) → length h + r.count < 2 ^ 32
+pub has_count : (h : List Entry) (r : Run) (from to : ℕ) → IsIndexable from to (h ++ run_ticks r) → length h + r.count < 2 ^ 32
 has_count h r from to i =
     let e = length_ticks h r.above r.by r.count in
     let l = i.countable.count in
     omega arith
 
-pub count_run : (h xs : List Entry) (r : Run) (n n' : ℕ) → xs ≡ h ++ ticks_of r → n ≡ length h → n' ≡ n + r.count → n' ≡ length xs
+pub count_run : (h xs : List Entry) (r : Run) (n n' : ℕ) → xs ≡ h ++ run_ticks r → n ≡ length h → n' ≡ n + r.count → n' ≡ length xs
 count_run h xs r n n' ex en e =
     let k = length_ticks h r.above r.by r.count in
-    let l : length xs ≡ length (h ++ ticks_of r) = ap length ex in
+    let l : length xs ≡ length (h ++ run_ticks r) = ap length ex in
     omega arith
 
-pub answers_run : (t : Terms) (h xs : List Entry) (r : Run) (a : Answers) → xs ≡ h ++ ticks_of r → AreAnswers t h a
+pub answers_run : (t : Terms) (h xs : List Entry) (r : Run) (a : Answers) → xs ≡ h ++ run_ticks r → AreAnswers t h a
     → AreAnswers t xs (record a { height = a.height + r.by * r.count })
 answers_run t h xs r a ex i =
     subst (λ ys. AreAnswers t ys (record a { height = a.height + r.by * r.count })) (sym ex) (answers_ticks t h r.above r.by r.count a i)
 
-pub calls_run : (p : ℕ) (h xs : List Entry) (r : Run) (ns : List ℕ) (ks : Kinds) → xs ≡ h ++ ticks_of r → AreCalls p h ns ks → AreCalls p xs ns ks
+pub calls_run : (p : ℕ) (h xs : List Entry) (r : Run) (ns : List ℕ) (ks : Kinds) → xs ≡ h ++ run_ticks r → AreCalls p h ns ks → AreCalls p xs ns ks
 calls_run p h xs r ns ks ex c = subst (λ ys. AreCalls p ys ns ks) (sym ex) (calls_ticks p h r.above r.by r.count ns ks c)
 
-pub made_run : (h xs : List Entry) (r : Run) (ms : List Made) → xs ≡ h ++ ticks_of r → ms ≡ made_in h → ms ≡ made_in xs
+pub made_run : (h xs : List Entry) (r : Run) (ms : List Made) → xs ≡ h ++ run_ticks r → ms ≡ made_in h → ms ≡ made_in xs
 made_run h xs r ms ex e = e ∙ (made_ticks h r.above r.by r.count ∙ ap made_in (sym ex))

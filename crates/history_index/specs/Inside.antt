@@ -9,8 +9,8 @@ use Rattle.history_index.specs.declared.caller.Caller.{Caller}
 use Rattle.history_index.specs.declared.index.Index.TheInside.{Inside}
 
 -- what its fields show
-abbrev pub index_of : Inside → IndexState
-index_of i = record { arc = i.arc; from = i.from.party; to = i.to.party; terms = i.terms; entries = expand i.past.items; spare = i.room }
+abbrev pub build_index : Inside → IndexState
+build_index i = record { arc = i.arc; from = i.from.party; to = i.to.party; terms = i.terms; entries = expand i.past.items; spare = i.room }
 
 -- So many further numbers have room.
 abbrev pub HasRoom : ℕ → Caller → Type 0

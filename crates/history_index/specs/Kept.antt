@@ -10,7 +10,7 @@ use Rattle.ledger_core.specs.declared.entry.What.TheVariants.{Call as Made}
 use Rattle.ledger_core.specs.declared.entry.Entry.{Entry}
 use Rattle.ledger_core.specs.declared.facts.CallKind.{CallKind}
 use Rattle.ledger_core.specs.declared.facts.CallKind.TheVariants.{Publish, Unlock, Claim, Refund}
-use Rattle.ledger_core.specs.History.{ticks_in, accepted, publication, settling, sent_by, height, settled}
+use Rattle.ledger_core.specs.History.{entry_ticks, accepted, publication, settling, is_sender, height, settled}
 use Rattle.ledger_core.specs.Facts.{shown_as, published_as, opened_number, has_call}
 use Rattle.history_index.specs.Numbers.{call_numbers, published_number}
 use Rattle.history_index.specs.declared.kinds.Kinds.{Kinds}
@@ -37,11 +37,11 @@ with_call k _ = k
 
 -- the numbers of p's entries after an entry with number n
 abbrev pub numbers_after : (n p : ℕ) → Entry → List ℕ → List ℕ
-numbers_after n p e ns = if sent_by p e.sender then ns ++ n ∷ [] else ns
+numbers_after n p e ns = if is_sender p e.sender then ns ++ n ∷ [] else ns
 
 -- the kinds of p's calls after an entry
 abbrev pub kinds_after : ℕ → Entry → Kinds → Kinds
-kinds_after p e ks = if sent_by p e.sender then with_call ks e.what else ks
+kinds_after p e ks = if is_sender p e.sender then with_call ks e.what else ks
 
 -- over no entries
 abbrev pub no_answers : Answers
@@ -55,7 +55,7 @@ with_opening us n _ = us
 -- after an entry with number n
 abbrev pub answers_after : Terms → ℕ → Entry → Answers → Answers
 answers_after t n e a = record {
-  height = a.height + ticks_in e.what;
+  height = a.height + entry_ticks e.what;
   published = or_else a.published (option_map (shown_as t) (publication e.height (accepted e)));
   published_number = or_else a.published_number (if is_some (publication e.height (accepted e)) then Some n else None);
   unlocked = with_opening a.unlocked n (accepted e);

@@ -20,5 +20,5 @@ abbrev pub made_after : ℕ → Entry → List Made → List Made
 made_after n e ms = if is_call e.what then ms ++ record { number = n; entry = e } ∷ [] else ms
 
 -- the unlock, whose hashkey lies in the index
-abbrev pub opening_of : Opened → Opening
-opening_of o = record { height = o.height; key = o.key.now }
+abbrev pub key_opening : Opened → Opening
+key_opening o = record { height = o.height; key = o.key.now }

@@ -8,13 +8,13 @@ use Rattle.ledger_core.specs.declared.entry.Sender.TheVariants.{Party, Clock}
 use Rattle.ledger_core.specs.declared.entry.What.{What}
 use Rattle.ledger_core.specs.declared.entry.What.TheVariants.{Call as Made, Tick}
 use Rattle.ledger_core.specs.declared.entry.Entry.{Entry}
-use Rattle.ledger_core.specs.History.{sent_by, publication, accepted}
+use Rattle.ledger_core.specs.History.{is_sender, publication, accepted}
 use Rattle.ledger_core.specs.Value.{IsCountable}
 
 -- the numbers, counted from n, of the entries that p sent
 abbrev pub numbers_from : (n p : ℕ) → List Entry → List ℕ
 numbers_from n p [] = []
-numbers_from n p (e ∷ h) = if sent_by p e.sender then n ∷ numbers_from (n + 1) p h else numbers_from (n + 1) p h
+numbers_from n p (e ∷ h) = if is_sender p e.sender then n ∷ numbers_from (n + 1) p h else numbers_from (n + 1) p h
 
 -- the numbers of the entries that p sent, ascending
 abbrev pub call_numbers : ℕ → List Entry → List ℕ
@@ -25,9 +25,9 @@ abbrev pub published_number : List Entry → Option ℕ
 published_number h = position (λ e. is_some (publication e.height (accepted e))) h
 
 -- whether there is a number, and it is below n
-abbrev pub is_before : Option ℕ → ℕ → Bool
-is_before None n = false
-is_before (Some k) n = nat_lt k n
+abbrev pub comes_earlier : Option ℕ → ℕ → Bool
+comes_earlier None n = false
+comes_earlier (Some k) n = nat_lt k n
 
 -- a call is of one of the two parties, and a tick of the clock
 abbrev pub comes_from : (from to : ℕ) → Sender → What → Bool

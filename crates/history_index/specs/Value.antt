@@ -3,7 +3,7 @@ use Rattle.std.specs.Prelude.{◌≡◌, ℕ, List, []}
 use Rattle.swap_digraph.specs.declared.deal.Deal.{Deal}
 use Rattle.swap_digraph.specs.Deal.{party, counterparty}
 use Rattle.escrow_core.specs.declared.terms.Terms.{Terms}
-use Rattle.escrow_core.specs.Terms.{terms_of}
+use Rattle.escrow_core.specs.Terms.{stated_terms}
 use Rattle.ledger_core.specs.declared.entry.Entry.{Entry}
 
 pub record IndexState : Type 0 where
@@ -19,7 +19,7 @@ pub record IndexState : Type 0 where
 
 -- the index of arc a without entries
 abbrev pub new_index : Deal → ℕ → IndexState
-new_index d a = record { arc = a; from = party d a; to = counterparty d a; terms = terms_of d a; entries = []; spare = 0 }
+new_index d a = record { arc = a; from = party d a; to = counterparty d a; terms = stated_terms d a; entries = []; spare = 0 }
 
 -- Both are of one arc, with the same parties and terms.
 pub record IsSameArc (old new : IndexState) : Type 0 where

@@ -2,11 +2,11 @@
 
 ghost use Rattle.std.specs.Prelude.{◌≡◌, ◌+◌, ◌<◌, ◌^◌, IsTrue, length, is_some, if◌then◌else◌};
 ghost use Rattle.escrow_core.specs.declared.terms.Terms.{Terms};
-ghost use Rattle.ledger_core.specs.History.{ticks_in, accepted, publication};
+ghost use Rattle.ledger_core.specs.History.{entry_ticks, accepted, publication};
 ghost use Rattle.history_index.specs.Numbers.{names_lock};
 ghost use Rattle.history_index.specs.Kept.{answers_after, no_answers, with_opening};
 
-use crate::entry_facts::{publication_of, settlement_of, ticks_in};
+use crate::entry_facts::{entry_publication, entry_settlement, entry_ticks};
 use escrow_core::{Reply, Terms};
 use ledger_core::{Call, Entry, Published, Settlement, What};
 
@@ -60,14 +60,14 @@ impl Answers {
     /// Takes in an entry with its number.
     pub fn add(&mut self, terms: &Terms, number: u32, entry: &Entry)
         requires places { length self.old.unlocked ≡ 8 }
-        requires height { self.old.height + ticks_in entry.now.what < 2 ^ 32 }
+        requires height { self.old.height + entry_ticks entry.now.what < 2 ^ 32 }
         requires lock { IsTrue (names_lock entry.now.what) }
         ensures { self.new ≡ answers_after terms.now number entry.now self.old }
     {
-        self.height += ticks_in(entry);
-        self.published = self.published.or(publication_of(terms, entry));
+        self.height += entry_ticks(entry);
+        self.published = self.published.or(entry_publication(terms, entry));
         self.published_number = self.published_number.or(publication_number(number, entry));
         add_opening(&mut self.unlocked, number, entry);
-        self.settled = self.settled.or(settlement_of(entry));
+        self.settled = self.settled.or(entry_settlement(entry));
     }
 }

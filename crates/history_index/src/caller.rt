@@ -1,7 +1,7 @@
 //! One of the arc's two parties.
 
 ghost use Rattle.std.specs.Prelude.{◌≡◌, ◌<◌, ◌≤◌, [], IsTrue, length, vec_capacity};
-ghost use Rattle.ledger_core.specs.History.{sent_by};
+ghost use Rattle.ledger_core.specs.History.{is_sender};
 ghost use Rattle.history_index.specs.Numbers.{names_lock};
 ghost use Rattle.history_index.specs.Kept.{no_kinds, numbers_after, kinds_after};
 
@@ -35,7 +35,7 @@ impl Caller {
     /// Takes in an entry with its number, where the party sent it. It takes no memory.
     pub fn add(&mut self, number: u32, entry: &Entry)
         requires places { length self.old.kinds.unlock ≡ 8 }
-        requires room { IsTrue (sent_by self.old.party entry.now.sender) → length self.old.numbers.items < vec_capacity self.old.numbers }
+        requires room { IsTrue (is_sender self.old.party entry.now.sender) → length self.old.numbers.items < vec_capacity self.old.numbers }
         requires lock { IsTrue (names_lock entry.now.what) }
         ensures party { self.new.party ≡ self.old.party }
         ensures numbers { self.new.numbers.items ≡ numbers_after number self.old.party entry.now self.old.numbers.items }

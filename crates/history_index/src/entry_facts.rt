@@ -1,15 +1,15 @@
 //! What one entry says.
 
 ghost use Rattle.std.specs.Prelude.{◌≡◌, option_map};
-ghost use Rattle.ledger_core.specs.History.{accepted, publication, settling, ticks_in};
+ghost use Rattle.ledger_core.specs.History.{accepted, publication, settling, entry_ticks};
 ghost use Rattle.ledger_core.specs.Facts.{shown_as};
 
 use escrow_core::{Reply, Terms};
 use ledger_core::{Call, Entry, Published, Settlement, What};
 
 /// By how many heights the entry raised its ledger.
-pub(crate) fn ticks_in(e: &Entry) -> u32
-    ensures { result ≡ ticks_in e.now.what }
+pub(crate) fn entry_ticks(e: &Entry) -> u32
+    ensures { result ≡ entry_ticks e.now.what }
 {
     match &e.what {
         What::Call(_) => 0,
@@ -18,7 +18,7 @@ pub(crate) fn ticks_in(e: &Entry) -> u32
 }
 
 /// The publish that the entry is, where it was accepted.
-pub(crate) fn publication_of(terms: &Terms, e: &Entry) -> Option<Published>
+pub(crate) fn entry_publication(terms: &Terms, e: &Entry) -> Option<Published>
     ensures { result ≡ option_map (shown_as terms.now) (publication e.now.height (accepted e.now)) }
 {
     match (&e.what, e.reply) {
@@ -31,7 +31,7 @@ pub(crate) fn publication_of(terms: &Terms, e: &Entry) -> Option<Published>
 }
 
 /// The settlement that the entry is, where it was accepted.
-pub(crate) fn settlement_of(e: &Entry) -> Option<Settlement>
+pub(crate) fn entry_settlement(e: &Entry) -> Option<Settlement>
     ensures { result ≡ settling (accepted e.now) }
 {
     match (&e.what, e.reply) {

@@ -4,7 +4,7 @@ ghost use Rattle.std.specs.Prelude.{◌≡◌, ◌≤◌, ◌+◌, ◌++◌, Lis
 ghost use Rattle.std.specs.List.{AllByRecursion};
 ghost use Rattle.ledger_core.specs.declared.entry.Entry.{Entry};
 ghost use Rattle.ledger_core.specs.Facts.{is_call};
-ghost use Rattle.ledger_core.specs.Runs.{entries_of, expand, IsRight};
+ghost use Rattle.ledger_core.specs.Runs.{ledger_entries, expand, IsRight};
 ghost use Rattle.history_index.specs.Value.{IsSameArc};
 ghost use Rattle.history_index.specs.Numbers.{IsIndexable};
 
@@ -17,11 +17,11 @@ use swap_base::NoMemory;
 /// Adds the entries of an item.
 fn push_item<L: Ledger>(index: &mut Index, item: Item, steps: &mut Steps<L>)
     requires right { IsRight item }
-    requires indexable { (front rest : List Entry) → index.old.entries ++ entries_of item ≡ front ++ rest → IsIndexable index.old.from index.old.to front }
-    requires room { count_by (λ e. is_call e.what) (entries_of item) ≤ index.old.spare }
-    ensures entries { index.new.entries ≡ index.old.entries ++ entries_of item }
-    ensures steps { steps.new ≡ steps.old + length (entries_of item) }
-    ensures spare { index.old.spare ≤ index.new.spare + count_by (λ e. is_call e.what) (entries_of item) }
+    requires indexable { (front rest : List Entry) → index.old.entries ++ ledger_entries item ≡ front ++ rest → IsIndexable index.old.from index.old.to front }
+    requires room { count_by (λ e. is_call e.what) (ledger_entries item) ≤ index.old.spare }
+    ensures entries { index.new.entries ≡ index.old.entries ++ ledger_entries item }
+    ensures steps { steps.new ≡ steps.old + length (ledger_entries item) }
+    ensures spare { index.old.spare ≤ index.new.spare + count_by (λ e. is_call e.what) (ledger_entries item) }
     ensures arc { IsSameArc index.old index.new }
 {
     match item {

@@ -7,18 +7,18 @@ ghost use Rattle.escrow_core.specs.declared.terms.Terms.{Terms};
 ghost use Rattle.ledger_core.specs.declared.entry.Entry.{Entry};
 ghost use Rattle.ledger_core.specs.declared.runs.Item.TheVariants.{One};
 ghost use Rattle.ledger_core.specs.History.{opened};
-ghost use Rattle.ledger_core.specs.Runs.{ticks_of, IsRightRun};
+ghost use Rattle.ledger_core.specs.Runs.{run_ticks, IsRightRun};
 ghost use Rattle.history_index.specs.Value.{new_index, IsSameArc};
 ghost use Rattle.history_index.specs.Numbers.{call_numbers, published_number, IsIndexable};
 ghost use Rattle.ledger_core.specs.Facts.{is_call};
-ghost use Rattle.history_index.specs.Made.{made_in, opening_of};
+ghost use Rattle.history_index.specs.Made.{made_in, key_opening};
 ghost use Rattle.history_index.specs.Kept.{AreCalls};
 
 use crate::answers::Answers;
 use crate::caller::Caller;
-use crate::made::{Made, Opened, calls_in, keep, opened_in};
+use crate::made::{Made, Opened, call_count, find_opened, keep};
 use crate::steps::Steps;
-use escrow_core::{Terms, terms_of};
+use escrow_core::{Terms, stated_terms};
 use hashkey_path::Hashkey;
 use ledger_core::{BoxedEntry, CallKind, Entry, Facts, Item, Published, Run, Settlement};
 use std::alloc::Global;
@@ -48,9 +48,9 @@ impl Model for Index {
 
     ghost Value = { IndexState };
 
-    ghost use Rattle.history_index.specs.Inside.{index_of, IsKept};
+    ghost use Rattle.history_index.specs.Inside.{build_index, IsKept};
 
-    ghost view = { index_of };
+    ghost view = { build_index };
 
     ghost invariant = { IsKept };
 }
@@ -65,7 +65,7 @@ impl Index {
         let ends = deal.graph.arcs()[arc as usize];
         Ok(Index {
             arc,
-            terms: terms_of(deal, arc),
+            terms: stated_terms(deal, arc),
             from: Caller::new(alloc, ends.from),
             to: Caller::new(alloc, ends.to),
             past: Past::new(),
@@ -113,7 +113,7 @@ impl Index {
         self.from.add(number, &entry);
         self.to.add(number, &entry);
         self.count += 1;
-        self.room -= calls_in(&entry);
+        self.room -= call_count(&entry);
         keep(&mut self.made, number, entry);
         steps.count();
     }
@@ -121,8 +121,8 @@ impl Index {
     /// Adds ticks, in one step each. It takes no memory, and as long for many as for one.
     pub fn push_ticks<L: Ledger>(&mut self, run: Run, steps: &mut Steps<L>)
         requires right { IsRightRun run }
-        requires indexable { IsIndexable self.old.from self.old.to (self.old.entries ++ ticks_of run) }
-        ensures entries { self.new.entries ≡ self.old.entries ++ ticks_of run }
+        requires indexable { IsIndexable self.old.from self.old.to (self.old.entries ++ run_ticks run) }
+        ensures entries { self.new.entries ≡ self.old.entries ++ run_ticks run }
         ensures steps { steps.new ≡ steps.old + run.count }
         ensures arc { IsSameArc self.old self.new }
         ensures spare { self.old.spare ≤ self.new.spare }
@@ -151,12 +151,12 @@ impl Index {
     /// The accepted unlock of the lock.
     pub fn opened(&self, lock: LockId) -> Option<Opened<'_>>
         requires { lock < length self.now.terms.locks }
-        ensures { option_map opening_of result ≡ opened self.now.entries lock }
+        ensures { option_map key_opening result ≡ opened self.now.entries lock }
     {
         if self.answers.unlocked[lock as usize].is_none() {
             return None;
         }
-        opened_in(&self.made, lock)
+        find_opened(&self.made, lock)
     }
 
     /// The numbers of the entries that one of the arc's two parties sent, ascending.

@@ -4,7 +4,7 @@ ghost use Rattle.std.specs.Prelude.{◌≡◌, ◌<◌, ◌≤◌, IsTrue, optio
 ghost use Rattle.swap_base.specs.Lists.{first_of};
 ghost use Rattle.ledger_core.specs.History.{opening, accepted};
 ghost use Rattle.ledger_core.specs.Facts.{is_call};
-ghost use Rattle.history_index.specs.Made.{made_after, opening_of};
+ghost use Rattle.history_index.specs.Made.{made_after, key_opening};
 
 use escrow_core::Reply;
 use hashkey_path::Hashkey;
@@ -26,7 +26,7 @@ pub struct Opened<'a> {
 }
 
 /// How many calls the entry is.
-pub(crate) fn calls_in(entry: &Entry) -> usize
+pub(crate) fn call_count(entry: &Entry) -> usize
     ensures { result ≡ (if is_call entry.now.what then 1 else 0) }
 {
     match &entry.what {
@@ -41,7 +41,7 @@ pub(crate) fn keep(made: &mut Vec<Made>, number: u32, entry: Entry)
     ensures made { made.new.items ≡ made_after number entry made.old.items }
     ensures capacity { vec_capacity made.old ≤ vec_capacity made.new }
 {
-    if calls_in(&entry) == 0 {
+    if call_count(&entry) == 0 {
         return;
     }
     match made.push(Made { number, entry }) {
@@ -51,7 +51,7 @@ pub(crate) fn keep(made: &mut Vec<Made>, number: u32, entry: Entry)
 }
 
 fn opening<'a>(lock: LockId, made: &'a Made) -> Option<Opened<'a>>
-    ensures { option_map opening_of result ≡ opening lock made.now.entry.height (accepted made.now.entry) }
+    ensures { option_map key_opening result ≡ opening lock made.now.entry.height (accepted made.now.entry) }
 {
     match (&made.entry.what, made.entry.reply) {
         (What::Call(Call::Unlock(key)), Reply::Accepted) => {
@@ -69,8 +69,8 @@ fn opening<'a>(lock: LockId, made: &'a Made) -> Option<Opened<'a>>
 }
 
 /// The accepted unlock of the lock among the calls.
-pub(crate) fn opened_in<'a>(made: &'a [Made], lock: LockId) -> Option<Opened<'a>>
-    ensures { option_map opening_of result ≡ first_of (λ m. opening lock m.entry.height (accepted m.entry)) made.now }
+pub(crate) fn find_opened<'a>(made: &'a [Made], lock: LockId) -> Option<Opened<'a>>
+    ensures { option_map key_opening result ≡ first_of (λ m. opening lock m.entry.height (accepted m.entry)) made.now }
 {
     for call in made {
         let found = opening(lock, call);

@@ -5,7 +5,7 @@ use Rattle.std.specs.List.{list_any, range_with_len}
 use denote.Ref.{Bor}
 use Rattle.swap_base.proofs.Lists.{in_filter, from_filter, in_range}
 use Rattle.swap_digraph.specs.Value.{Graph}
-use Rattle.swap_digraph.specs.Graph.{ends, entering, is_among, leaving}
+use Rattle.swap_digraph.specs.Graph.{ends, entering, is_listed, leaving}
 use Rattle.swap_digraph.specs.declared.deal.Deal.{Deal}
 use Rattle.swap_digraph.specs.Deal.{leads}
 use Rattle.hashkey_path.specs.declared.hashkey.Hashkey.{Hashkey}
@@ -16,39 +16,39 @@ use Rattle.ledger_core.specs.History.{opened, published}
 use Rattle.swap_rules.specs.declared.finding.Rule.TheVariants.{Publish as ToPublish, Unlock as ToUnlock, Claim as ToClaim, Refund as ToRefund}
 use Rattle.swap_rules.specs.Party.{first_key, is_correct, is_ready, is_triggered, least_expiry, leads_one, ready_height, opens_without}
 use Rattle.swap_rules.specs.Conduct.{is_first_key}
-use Rattle.swap_rules.specs.Late.{base_of, counts, ref_of, trigger_height, when}
-use Rattle.swap_digraph.proofs.Paths.{is_among-true, in-is_among}
+use Rattle.swap_rules.specs.Late.{unlock_base, counts, ref_of, trigger_height, when}
+use Rattle.swap_digraph.proofs.Paths.{is_listed-true, in-is_listed}
 use Rattle.hash_signature.proofs.Bytes.{same_truth}
 use Rattle.late_check.specs.declared.counting.Counted.TheVariants as counted
-use Rattle.late_check.specs.Parts.{claim_from, counts_as, publish_from, refund_from, unlock_from, IsAsked}
+use Rattle.late_check.specs.Parts.{claim_start, counts_as, publish_start, refund_start, unlock_start, IsAsked}
 
 -- The ends of an arc tell whether it leaves or enters a party.
 
-among_filter : (p : ℕ → Bool) (a n : ℕ) → a < n → p a ≡ is_among a (filter p (range_with_len 0 n))
+among_filter : (p : ℕ → Bool) (a n : ℕ) → a < n → p a ≡ is_listed a (filter p (range_with_len 0 n))
 among_filter p a n l =
-    same_truth (p a) (is_among a (filter p (range_with_len 0 n)))
-    (λ t. in-is_among a (filter p (range_with_len 0 n)) (in_filter p a (range_with_len 0 n) (in_range a n l) t))
-    (λ t. (from_filter p a (range_with_len 0 n) (is_among-true a (filter p (range_with_len 0 n)) t)).1)
+    same_truth (p a) (is_listed a (filter p (range_with_len 0 n)))
+    (λ t. in-is_listed a (filter p (range_with_len 0 n)) (in_filter p a (range_with_len 0 n) (in_range a n l) t))
+    (λ t. (from_filter p a (range_with_len 0 n) (is_listed-true a (filter p (range_with_len 0 n)) t)).1)
 
 -- What each rule asks where the arc touches the party on the rule's side, and that it asks nothing elsewhere.
 
 module _ (d : Deal) (b : Histories) (v a : ℕ) where
-  pub no_publish : is_among a (leaving d.graph v) ≡ false → ref_of d b v ToPublish a ≡ None
+  pub no_publish : is_listed a (leaving d.graph v) ≡ false → ref_of d b v ToPublish a ≡ None
   unfolding ref_of
   no_publish e = ap (λ x. when (x && (leads_one d v || is_ready d b v)) (cond (leads_one d v) 0 (ready_height d b v))) e
 
-  pub no_unlock : (i : ℕ) → is_among a (entering d.graph v) ≡ false → ref_of d b v (ToUnlock i) a ≡ None
+  pub no_unlock : (i : ℕ) → is_listed a (entering d.graph v) ≡ false → ref_of d b v (ToUnlock i) a ≡ None
   unfolding ref_of
   no_unlock i e =
       ap (λ x. when (x && is_ready d b v && (leads d v i || is_some (first_key b v i)
       || list_any (λ c. opens_without v (opened (history b c) i)) (leaving d.graph v)))
-      (cond (leads d v i) (ready_height d b v) (max (ready_height d b v) (base_of d.mode d b v i (first_key b v i))))) e
+      (cond (leads d v i) (ready_height d b v) (max (ready_height d b v) (unlock_base d.mode d b v i (first_key b v i))))) e
 
-  pub no_claim : is_among a (entering d.graph v) ≡ false → ref_of d b v ToClaim a ≡ None
+  pub no_claim : is_listed a (entering d.graph v) ≡ false → ref_of d b v ToClaim a ≡ None
   unfolding ref_of
   no_claim e = ap (λ x. when (x && is_correct d b a && is_triggered d b a) (trigger_height d (history b a))) e
 
-  pub no_refund : is_among a (leaving d.graph v) ≡ false → ref_of d b v ToRefund a ≡ None
+  pub no_refund : is_listed a (leaving d.graph v) ≡ false → ref_of d b v ToRefund a ≡ None
   unfolding ref_of
   no_refund e = ap (λ x. when (x && is_some (published (history b a)) && not (is_triggered d b a)) (least_expiry d a (history b a))) e
 
@@ -90,42 +90,42 @@ module _ (d : Deal) (b : Histories) (v a : ℕ) where
   refund_calls least e at (Some Refund) = ap (λ n. nat_lt n at) e
   refund_calls least e at (Some (Transfer to units)) = refl
 
-  pub publish_asked : (from : Option ℕ) → from ≡ publish_from d b v → is_among a (leaving d.graph v) ≡ true → IsAsked d b v ToPublish a from counted.Publish
+  pub publish_asked : (from : Option ℕ) → from ≡ publish_start d b v → is_listed a (leaving d.graph v) ≡ true → IsAsked d b v ToPublish a from counted.Publish
   unfolding ref_of
   publish_asked from e t = record {
     height = e ∙ ap (λ x. when (x && (leads_one d v || is_ready d b v)) (cond (leads_one d v) 0 (ready_height d b v))) (sym t);
     calls = publish_calls;
   }
 
-  pub unlock_asked : (i : ℕ) (first : Option (Bor Hashkey)) (from : Option ℕ) → option_copied first ≡ first_key b v i → from ≡ unlock_from d b v i
-      → is_among a (entering d.graph v) ≡ true → IsAsked d b v (ToUnlock i) a from (counted.Unlock i first)
+  pub unlock_asked : (i : ℕ) (first : Option (Bor Hashkey)) (from : Option ℕ) → option_copied first ≡ first_key b v i → from ≡ unlock_start d b v i
+      → is_listed a (entering d.graph v) ≡ true → IsAsked d b v (ToUnlock i) a from (counted.Unlock i first)
   unfolding ref_of
   unlock_asked i first from k e t = record {
     height =
         e
         ∙ ap (λ x. when (x && is_ready d b v && (leads d v i || is_some (first_key b v i)
         || list_any (λ c. opens_without v (opened (history b c) i)) (leaving d.graph v)))
-        (cond (leads d v i) (ready_height d b v) (max (ready_height d b v) (base_of d.mode d b v i (first_key b v i))))) (sym t);
+        (cond (leads d v i) (ready_height d b v) (max (ready_height d b v) (unlock_base d.mode d b v i (first_key b v i))))) (sym t);
     calls = unlock_calls i first k;
   }
 
-  pub claim_asked : (from : Option ℕ) → from ≡ claim_from d b a → is_among a (entering d.graph v) ≡ true → IsAsked d b v ToClaim a from counted.Claim
+  pub claim_asked : (from : Option ℕ) → from ≡ claim_start d b a → is_listed a (entering d.graph v) ≡ true → IsAsked d b v ToClaim a from counted.Claim
   unfolding ref_of
   claim_asked from e t = record {
     height = e ∙ ap (λ x. when (x && is_correct d b a && is_triggered d b a) (trigger_height d (history b a))) (sym t);
     calls = claim_calls;
   }
 
-  pub refund_asked : (least : ℕ) (from : Option ℕ) → least ≡ least_expiry d a (history b a) → from ≡ refund_from d b a
-      → is_among a (leaving d.graph v) ≡ true → IsAsked d b v ToRefund a from (counted.Refund least)
+  pub refund_asked : (least : ℕ) (from : Option ℕ) → least ≡ least_expiry d a (history b a) → from ≡ refund_start d b a
+      → is_listed a (leaving d.graph v) ≡ true → IsAsked d b v ToRefund a from (counted.Refund least)
   unfolding ref_of
   refund_asked least from k e t = record {
     height = e ∙ ap (λ x. when (x && is_some (published (history b a)) && not (is_triggered d b a)) (least_expiry d a (history b a))) (sym t);
     calls = refund_calls least k;
   }
 
-pub leaves_by_end : (g : Graph) (v a : ℕ) → a < length g.arcs → ((ends g a).from == v) ≡ is_among a (leaving g v)
+pub leaves_by_end : (g : Graph) (v a : ℕ) → a < length g.arcs → ((ends g a).from == v) ≡ is_listed a (leaving g v)
 leaves_by_end g v a l = among_filter (λ x. (ends g x).from == v) a (length g.arcs) l
 
-pub enters_by_end : (g : Graph) (v a : ℕ) → a < length g.arcs → ((ends g a).to == v) ≡ is_among a (entering g v)
+pub enters_by_end : (g : Graph) (v a : ℕ) → a < length g.arcs → ((ends g a).to == v) ≡ is_listed a (entering g v)
 enters_by_end g v a l = among_filter (λ x. (ends g x).to == v) a (length g.arcs) l

@@ -2,20 +2,20 @@
 use Rattle.std.proofs.Common.{◌≡◌, ℕ, Bool, true, false, cond, not, ◌||◌, List, [], ◌∷◌, Option, Some, None, is_some, refl, sym, ap, ◌∙◌}
 use Rattle.std.specs.List.{list_any}
 use Rattle.swap_base.specs.Lists.{greatest}
-use Rattle.swap_digraph.specs.Graph.{is_among, leaving}
+use Rattle.swap_digraph.specs.Graph.{is_listed, leaving}
 use Rattle.swap_digraph.specs.declared.deal.Deal.{Deal}
 use Rattle.swap_digraph.specs.declared.deal.Mode.TheVariants.{Hashkeys}
 use Rattle.hashkey_path.specs.declared.hashkey.Hashkey.{Hashkey}
 use Rattle.ledger_core.specs.History.{Opening, opened}
 use Rattle.ledger_core.specs.Book.{Histories, history}
 use Rattle.swap_rules.specs.Party.{first_seen_key, key_without, opens_without}
-use Rattle.swap_rules.specs.Late.{base_of}
-use Rattle.late_check.specs.Parts.{greatest_used_in}
+use Rattle.swap_rules.specs.Late.{unlock_base}
+use Rattle.late_check.specs.Parts.{greatest_index_use}
 use Rattle.late_check.proofs.FirstAnswer.{some_first}
 
 pub base_with : (d : Deal) (b : Histories) (v i : ℕ) (first : Option Hashkey)
-    → base_of Hashkeys d b v i first ≡ greatest (λ a. greatest_used_in v first (first_seen_key d b v i) (history b a)) (leaving d.graph v)
-unfolding greatest_used_in
+    → unlock_base Hashkeys d b v i first ≡ greatest (λ a. greatest_index_use v first (first_seen_key d b v i) (history b a)) (leaving d.graph v)
+unfolding greatest_index_use
 base_with d b v i None = refl
 base_with d b v i (Some key) = refl
 
@@ -29,7 +29,7 @@ by_path false key = refl
 
 by_opening : (v : ℕ) (o : Option Opening) → opens_without v o ≡ is_some (key_without v o)
 by_opening v None = refl
-by_opening v (Some o) = by_path (is_among v o.key.path) o.key
+by_opening v (Some o) = by_path (is_listed v o.key.path) o.key
 
 -- a path without v opened the lock where there is a first hashkey that it did
 pub seen_some : (d : Deal) (b : Histories) (v i : ℕ)

@@ -15,10 +15,10 @@ use Rattle.swap_rules.specs.declared.finding.Rule.TheVariants.{Publish as ToPubl
 use Rattle.swap_rules.specs.declared.finding.Finding.{Finding}
 use Rattle.swap_rules.specs.declared.finding.Finding.TheVariants.{Late}
 use Rattle.swap_rules.specs.Late.{counts, is_done, late_at, ref_of}
-use Rattle.swap_rules.specs.Party.{call_by}
+use Rattle.swap_rules.specs.Party.{pick_call}
 use Rattle.swap_rules.specs.Findings.{late_on, lates, or_zero}
 use Rattle.late_check.specs.declared.counting.Counted.{Counted}
-use Rattle.late_check.specs.Parts.{counts_as, counts_by, is_done_in, is_overdue, lates_by, overdue, IsAsked}
+use Rattle.late_check.specs.Parts.{counts_as, counts_entry, is_done_in, is_overdue, lates_by, overdue, IsAsked}
 use Rattle.late_check.proofs.Base.{any_same}
 
 abbrev pub listed : ℕ → Rule → ℕ → Option ℕ → List Finding
@@ -32,9 +32,9 @@ by_test v rule a from delta false = refl
 
 counts_same : (d : Deal) (b : Histories) (v : ℕ) (rule : Rule) (a : ℕ) (c : Counted) (due : ℕ)
     → ((at : ℕ) (o : Option Call) → counts_as c at o ≡ counts d b v rule a at o) → (e : Entry)
-    → (counts d b v rule a e.height (call_by v e) && nat_le e.height due) ≡ counts_by c v due e
-unfolding counts_by
-counts_same d b v rule a c due same e = ap (λ x. x && nat_le e.height due) (sym (same e.height (call_by v e)))
+    → (counts d b v rule a e.height (pick_call v e) && nat_le e.height due) ≡ counts_entry c v due e
+unfolding counts_entry
+counts_same d b v rule a c due same e = ap (λ x. x && nat_le e.height due) (sym (same e.height (pick_call v e)))
 
 by_ref : (d : Deal) (b : Histories) (v : ℕ) (rule : Rule) (a : ℕ) (c : Counted)
     → ((at : ℕ) (o : Option Call) → counts_as c at o ≡ counts d b v rule a at o) → (ref : Option ℕ)
@@ -43,7 +43,7 @@ by_ref d b v rule a c same None = refl
 by_ref d b v rule a c same (Some from) =
     let due = from + d.delta in
     let done : is_done d b v rule a due ≡ is_done_in c v due (history b a) =
-    any_same (λ e. counts d b v rule a e.height (call_by v e) && nat_le e.height due) (counts_by c v due) (history b a)
+    any_same (λ e. counts d b v rule a e.height (pick_call v e) && nat_le e.height due) (counts_entry c v due) (history b a)
     (counts_same d b v rule a c due same) in
     ap (λ x. cond (nat_lt due (height (history b a)) && not x) (Late v rule a due ∷ []) []) done
     ∙ by_test v rule a from d.delta (is_overdue d.delta c v (Some from) (history b a))

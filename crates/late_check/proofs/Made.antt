@@ -6,15 +6,15 @@ use Rattle.hashkey_path.specs.declared.hashkey.Hashkey.{Hashkey}
 use Rattle.ledger_core.specs.declared.entry.Call.{Call}
 use Rattle.ledger_core.specs.declared.entry.What.TheVariants.{Tick}
 use Rattle.ledger_core.specs.declared.entry.Entry.{Entry}
-use Rattle.ledger_core.specs.History.{accepted_call, sent_by, call_in}
+use Rattle.ledger_core.specs.History.{accepted_call, is_sender, read_raw_call}
 use Rattle.history_index.specs.Made.{made_in}
 use Rattle.history_index.proofs.Calls.{any_made, greatest_made}
-use Rattle.swap_rules.specs.Party.{call_by}
+use Rattle.swap_rules.specs.Party.{pick_call}
 use Rattle.swap_rules.specs.Conduct.{extends}
 use Rattle.swap_rules.specs.Late.{height_if, is_carried}
 use Rattle.late_check.specs.declared.counting.Counted.{Counted}
 use Rattle.late_check.specs.declared.counting.Counted.TheVariants as counted
-use Rattle.late_check.specs.Parts.{counts_as, counts_by, greatest_used_in, is_done_in, is_used_with}
+use Rattle.late_check.specs.Parts.{counts_as, counts_entry, greatest_index_use, is_done_in, is_used_with}
 
 -- no tick is a call
 
@@ -28,14 +28,14 @@ none_counts (counted.Unlock i first) at = refl
 none_counts counted.Claim at = refl
 none_counts (counted.Refund least) at = refl
 
-none_counts_by : (c : Counted) (v due : ℕ) (e : Entry) (k : ℕ) → e.what ≡ Tick k → counts_by c v due e ≡ false
-unfolding counts_by
+none_counts_by : (c : Counted) (v due : ℕ) (e : Entry) (k : ℕ) → e.what ≡ Tick k → counts_entry c v due e ≡ false
+unfolding counts_entry
 none_counts_by c v due e k w =
-    let none : call_by v e ≡ None = ap (λ x. cond (sent_by v e.sender) (call_in x) None) w ∙ no_call (sent_by v e.sender) in
+    let none : pick_call v e ≡ None = ap (λ x. cond (is_sender v e.sender) (read_raw_call x) None) w ∙ no_call (is_sender v e.sender) in
     ap (λ o. counts_as c e.height o && nat_le e.height due) none ∙ ap (λ x. x && nat_le e.height due) (none_counts c e.height)
 
-pub done_made : (c : Counted) (v due : ℕ) (h : List Entry) → is_done_in c v due h ≡ list_any (λ m. counts_by c v due m.entry) (made_in h)
-done_made c v due h = any_made (counts_by c v due) h (none_counts_by c v due)
+pub done_made : (c : Counted) (v due : ℕ) (h : List Entry) → is_done_in c v due h ≡ list_any (λ m. counts_entry c v due m.entry) (made_in h)
+done_made c v due h = any_made (counts_entry c v due) h (none_counts_by c v due)
 
 none_used : (v : ℕ) (first seen : Option Hashkey) (e : Entry) (k : ℕ) → e.what ≡ Tick k → is_used_with v first seen e ≡ false
 none_used v (Some key) seen e k w = ap (λ x. extends v key (accepted_call x e.reply)) w
@@ -43,7 +43,7 @@ none_used v None None e k w = ap (λ x. is_carried None (accepted_call x e.reply
 none_used v None (Some key) e k w = ap (λ x. is_carried (Some key) (accepted_call x e.reply)) w
 
 pub used_made : (v : ℕ) (first seen : Option Hashkey) (h : List Entry)
-    → greatest_used_in v first seen h ≡ greatest (λ m. height_if (is_used_with v first seen m.entry) m.entry.height) (made_in h)
-unfolding greatest_used_in
+    → greatest_index_use v first seen h ≡ greatest (λ m. height_if (is_used_with v first seen m.entry) m.entry.height) (made_in h)
+unfolding greatest_index_use
 used_made v first seen h =
     greatest_made (λ e. height_if (is_used_with v first seen e) e.height) h (λ e k w. ap (λ x. height_if x e.height) (none_used v first seen e k w))

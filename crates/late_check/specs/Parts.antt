@@ -14,30 +14,30 @@ use Rattle.ledger_core.specs.History.{height, accepted, opened, published}
 use Rattle.ledger_core.specs.Book.{Histories, history}
 use Rattle.swap_rules.specs.declared.finding.Rule.{Rule}
 use Rattle.swap_rules.specs.declared.finding.Finding.{Finding}
-use Rattle.swap_rules.specs.Party.{call_by, first_key, is_correct, is_ready, is_triggered, least_expiry, leads_one, ready_height, opens_without}
+use Rattle.swap_rules.specs.Party.{pick_call, first_key, is_correct, is_ready, is_triggered, least_expiry, leads_one, ready_height, opens_without}
 use Rattle.swap_rules.specs.Conduct.{extends, is_first_key}
-use Rattle.swap_rules.specs.Late.{base_of, counts, height_if, is_carried, ref_of, trigger_height, when}
+use Rattle.swap_rules.specs.Late.{unlock_base, counts, height_if, is_carried, ref_of, trigger_height, when}
 use Rattle.swap_rules.specs.Findings.{late_on}
 use Rattle.late_check.specs.declared.counting.Counted.{Counted}
 use Rattle.late_check.specs.declared.counting.Counted.TheVariants as counted
 
 -- the height from which v is to publish on the arcs that leave it
-abbrev pub publish_from : Deal → Histories → ℕ → Option ℕ
-publish_from d b v = when (leads_one d v || is_ready d b v) (if leads_one d v then 0 else ready_height d b v)
+abbrev pub publish_start : Deal → Histories → ℕ → Option ℕ
+publish_start d b v = when (leads_one d v || is_ready d b v) (if leads_one d v then 0 else ready_height d b v)
 
 -- the height from which v is to unlock lock i on the arcs that enter it
-abbrev pub unlock_from : Deal → Histories → ℕ → ℕ → Option ℕ
-unlock_from d b v i =
+abbrev pub unlock_start : Deal → Histories → ℕ → ℕ → Option ℕ
+unlock_start d b v i =
     when (is_ready d b v && (leads d v i || is_some (first_key b v i) || list_any (λ c. opens_without v (opened (history b c) i)) (leaving d.graph v)))
-    (if leads d v i then ready_height d b v else max (ready_height d b v) (base_of d.mode d b v i (first_key b v i)))
+    (if leads d v i then ready_height d b v else max (ready_height d b v) (unlock_base d.mode d b v i (first_key b v i)))
 
 -- the height from which the counterparty is to claim on arc a
-abbrev pub claim_from : Deal → Histories → ℕ → Option ℕ
-claim_from d b a = when (is_correct d b a && is_triggered d b a) (trigger_height d (history b a))
+abbrev pub claim_start : Deal → Histories → ℕ → Option ℕ
+claim_start d b a = when (is_correct d b a && is_triggered d b a) (trigger_height d (history b a))
 
 -- the height from which the party is to refund on arc a
-abbrev pub refund_from : Deal → Histories → ℕ → Option ℕ
-refund_from d b a = when (is_some (published (history b a)) && not (is_triggered d b a)) (least_expiry d a (history b a))
+abbrev pub refund_start : Deal → Histories → ℕ → Option ℕ
+refund_start d b a = when (is_some (published (history b a)) && not (is_triggered d b a)) (least_expiry d a (history b a))
 
 -- whether a call made at a height counts
 abbrev pub counts_as : Counted → ℕ → Option Call → Bool
@@ -48,12 +48,12 @@ counts_as (counted.Refund least) at (Some Refund) = nat_lt least at
 counts_as _ at _ = false
 
 -- whether the entry is a call of v that counts, at a height of at most due
-unfoldable pub counts_by : Counted → ℕ → ℕ → Entry → Bool
-counts_by c v due e = counts_as c e.height (call_by v e) && nat_le e.height due
+unfoldable pub counts_entry : Counted → ℕ → ℕ → Entry → Bool
+counts_entry c v due e = counts_as c e.height (pick_call v e) && nat_le e.height due
 
 -- whether v made a call that counts at a height of at most due
 abbrev pub is_done_in : Counted → ℕ → ℕ → List Entry → Bool
-is_done_in c v due h = list_any (counts_by c v due) h
+is_done_in c v due h = list_any (counts_entry c v due) h
 
 -- the entry was accepted with the hashkey that v's first one extends, or else with the one that was seen
 abbrev pub is_used_with : ℕ → Option Hashkey → Option Hashkey → Entry → Bool
@@ -61,8 +61,8 @@ is_used_with v (Some key) seen e = extends v key (accepted e)
 is_used_with v None seen e = is_carried seen (accepted e)
 
 -- the greatest height at which an entry was accepted with that hashkey
-unfoldable pub greatest_used_in : ℕ → Option Hashkey → Option Hashkey → List Entry → ℕ
-greatest_used_in v first seen h = greatest (λ e. height_if (is_used_with v first seen e) e.height) h
+unfoldable pub greatest_index_use : ℕ → Option Hashkey → Option Hashkey → List Entry → ℕ
+greatest_index_use v first seen h = greatest (λ e. height_if (is_used_with v first seen e) e.height) h
 
 -- the height by which an action was due, if the test says that it is late
 abbrev pub due_if : Bool → ℕ → Option ℕ → Option ℕ

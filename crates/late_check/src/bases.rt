@@ -6,9 +6,9 @@ ghost use Rattle.swap_digraph.specs.Graph.{leaving};
 ghost use Rattle.swap_digraph.specs.Deal.{IsWellSized};
 ghost use Rattle.ledger_core.specs.Book.{history};
 ghost use Rattle.ledger_core.specs.History.{opened};
-ghost use Rattle.history_index.specs.Indexes.{entries_in, AreIndexes};
-ghost use Rattle.swap_rules.specs.Late.{base_of, height_of_opening, is_carried};
-ghost use Rattle.late_check.specs.Parts.{greatest_used_in, is_used_with};
+ghost use Rattle.history_index.specs.Indexes.{all_entries, AreIndexes};
+ghost use Rattle.swap_rules.specs.Late.{unlock_base, height_of_opening, is_carried};
+ghost use Rattle.late_check.specs.Parts.{greatest_index_use, is_used_with};
 
 use crate::openings::{first_seen_key, opening_height};
 use hashkey_path::Hashkey;
@@ -39,13 +39,13 @@ fn is_used(party: PartyId, first: Option<&Hashkey>, seen: Option<&Hashkey>, entr
 
 /// The greatest height at which the used hashkey was accepted, or 0 if it never was.
 #[tactic(auto, using(due_calls::proofs::Greatest::greatest_fold, crate::proofs::Made::used_made))]
-fn greatest_used_in(
+fn greatest_index_use(
     index: &Index,
     party: PartyId,
     first: Option<&Hashkey>,
     seen: Option<&Hashkey>,
 ) -> u32
-    ensures { result ≡ greatest_used_in party (option_copied first.entry) (option_copied seen.entry) index.now.entries }
+    ensures { result ≡ greatest_index_use party (option_copied first.entry) (option_copied seen.entry) index.now.entries }
 {
     index
         .made()
@@ -59,18 +59,18 @@ fn greatest_used_in(
 }
 
 /// The greatest height at which the used hashkey was accepted on the arc.
-#[tactic(auto, unfolding(crate::specs::Parts::greatest_used_in))]
-fn greatest_used_on(
+#[tactic(auto, unfolding(crate::specs::Parts::greatest_index_use))]
+fn greatest_arc_use(
     known: &[Index],
     party: PartyId,
     first: Option<&Hashkey>,
     seen: Option<&Hashkey>,
     arc: ArcId,
 ) -> u32
-    ensures { result ≡ greatest_used_in party (option_copied first.entry) (option_copied seen.entry) (history (entries_in known.now) arc) }
+    ensures { result ≡ greatest_index_use party (option_copied first.entry) (option_copied seen.entry) (history (all_entries known.now) arc) }
 {
     match known.get(arc as usize) {
-        Some(index) => greatest_used_in(index, party, first, seen),
+        Some(index) => greatest_index_use(index, party, first, seen),
         None => 0,
     }
 }
@@ -85,13 +85,13 @@ fn base_by_key(
     seen: Option<&Hashkey>,
 ) -> u32
     requires { party < deal.now.graph.n }
-    ensures { result ≡ greatest (λ a. greatest_used_in party (option_copied first.entry) (option_copied seen.entry) (history (entries_in known.now) a))
+    ensures { result ≡ greatest (λ a. greatest_index_use party (option_copied first.entry) (option_copied seen.entry) (history (all_entries known.now) a))
         (leaving deal.now.graph party) }
 {
     let leaving = deal.graph.leaving(party);
     leaving
         .iter()
-        .map(|arc| greatest_used_on(known, party, first, seen, *arc))
+        .map(|arc| greatest_arc_use(known, party, first, seen, *arc))
         .fold(0, |most, height| most.max(height))
 }
 
@@ -102,7 +102,7 @@ fn base_by_lock(deal: &Deal, known: &[Index], party: PartyId, lock: LockId) -> u
     requires known { AreIndexes deal.now known.now }
     requires party { party < deal.now.graph.n }
     requires lock { lock < length deal.now.leaders }
-    ensures { result ≡ greatest (λ a. height_of_opening (opened (history (entries_in known.now) a) lock)) (leaving deal.now.graph party) }
+    ensures { result ≡ greatest (λ a. height_of_opening (opened (history (all_entries known.now) a) lock)) (leaving deal.now.graph party) }
 {
     let leaving = deal.graph.leaving(party);
     leaving
@@ -113,7 +113,7 @@ fn base_by_lock(deal: &Deal, known: &[Index], party: PartyId, lock: LockId) -> u
 
 /// The base height of the party's unlocks of the lock, where these are its first hashkey and the one that it would extend.
 #[tactic(auto, using(crate::proofs::Base::base_with))]
-pub(crate) fn base_of(
+pub(crate) fn unlock_base(
     deal: &Deal,
     known: &[Index],
     party: PartyId,
@@ -124,7 +124,7 @@ pub(crate) fn base_of(
     requires known { AreIndexes deal.now known.now }
     requires party { party < deal.now.graph.n }
     requires lock { lock < length deal.now.leaders }
-    ensures { result ≡ base_of deal.now.mode deal.now (entries_in known.now) party lock (option_copied first.entry) }
+    ensures { result ≡ unlock_base deal.now.mode deal.now (all_entries known.now) party lock (option_copied first.entry) }
 {
     match deal.mode {
         Mode::Timelocks => base_by_lock(deal, known, party, lock),

@@ -3,13 +3,13 @@
 ghost use Rattle.std.specs.Prelude.{◌≡◌, option_copied};
 ghost use Rattle.std.specs.List.{list_any};
 ghost use Rattle.ledger_core.specs.Book.{history};
-ghost use Rattle.history_index.specs.Indexes.{entries_in};
-ghost use Rattle.late_check.specs.Parts.{counts_as, counts_by, is_done_in};
+ghost use Rattle.history_index.specs.Indexes.{all_entries};
+ghost use Rattle.late_check.specs.Parts.{counts_as, counts_entry, is_done_in};
 
 use hashkey_path::Hashkey;
 use history_index::{Index, Made};
 use ledger_core::{Call, Entry};
-use sent_keys::{call_by, is_first_key};
+use sent_keys::{is_first_key, pick_call};
 use swap_base::{ArcId, LockId, PartyId};
 
 /// The calls that count for a rule: a refund above the arc's least expiry, and an unlock of the lock with the party's first hashkey for it.
@@ -37,20 +37,20 @@ fn counts(counted: &Counted, at: u32, call: Option<&Call>) -> bool
 }
 
 /// Whether the entry is a call of the party that counts, at a height of at most due.
-#[tactic(auto, unfolding(crate::specs::Parts::counts_by))]
-fn counts_by(counted: &Counted, party: PartyId, due: u64, entry: &Entry) -> bool
-    ensures { result ≡ counts_by counted.now party due entry.now }
+#[tactic(auto, unfolding(crate::specs::Parts::counts_entry))]
+fn counts_entry(counted: &Counted, party: PartyId, due: u64, entry: &Entry) -> bool
+    ensures { result ≡ counts_entry counted.now party due entry.now }
 {
-    counts(counted, entry.height, call_by(party, entry)) && entry.height as u64 <= due
+    counts(counted, entry.height, pick_call(party, entry)) && entry.height as u64 <= due
 }
 
 /// Whether one of the calls is of the party and counts, at a height of at most due.
 fn any_counts(calls: &[Made], party: PartyId, counted: &Counted, due: u64) -> bool
-    ensures { result ≡ list_any (λ m. counts_by counted.now party due m.entry) calls.now }
+    ensures { result ≡ list_any (λ m. counts_entry counted.now party due m.entry) calls.now }
 {
     calls
         .iter()
-        .any(|made| counts_by(counted, party, due, &made.entry))
+        .any(|made| counts_entry(counted, party, due, &made.entry))
 }
 
 /// Whether a call of the party that counts stands on the arc at a height of at most due.
@@ -62,7 +62,7 @@ pub(crate) fn is_done(
     arc: ArcId,
     due: u64,
 ) -> bool
-    ensures { result ≡ is_done_in counted.now party due (history (entries_in known.now) arc) }
+    ensures { result ≡ is_done_in counted.now party due (history (all_entries known.now) arc) }
 {
     match known.get(arc as usize) {
         Some(index) => any_counts(index.made(), party, counted, due),

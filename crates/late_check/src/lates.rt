@@ -2,18 +2,18 @@
 
 ghost use Rattle.std.specs.Prelude.{◌≡◌, ◌<◌, ◌^◌, ◌++◌, IfSome, OnOk, OnErr, length, option_copied};
 ghost use Rattle.std.specs.List.{flat_map};
-ghost use Rattle.swap_digraph.specs.Graph.{entering, is_among, leaving};
+ghost use Rattle.swap_digraph.specs.Graph.{entering, is_listed, leaving};
 ghost use Rattle.swap_digraph.specs.Deal.{locks, IsWellSized};
 ghost use Rattle.ledger_core.specs.Book.{history};
-ghost use Rattle.history_index.specs.Indexes.{entries_in, AreIndexes};
+ghost use Rattle.history_index.specs.Indexes.{all_entries, AreIndexes};
 ghost use Rattle.swap_rules.specs.Party.{first_key};
 ghost use Rattle.swap_rules.specs.Findings.{late_on, lates};
-ghost use Rattle.sent_keys.specs.Sent.{shown, unlocks_of};
-ghost use Rattle.late_check.specs.Parts.{lates_by, overdue, publish_from, unlock_from, IsAsked};
+ghost use Rattle.sent_keys.specs.Sent.{shown, party_unlocks};
+ghost use Rattle.late_check.specs.Parts.{lates_by, overdue, publish_start, unlock_start, IsAsked};
 
 use crate::counting::{Counted, is_done};
-use crate::froms::{claim_from, publish_from, refund_from, unlock_from};
-use due_calls::{height_on, least_expiry};
+use crate::froms::{claim_start, publish_start, refund_start, unlock_start};
+use due_calls::{arc_height, least_expiry};
 use hashkey_path::Hashkey;
 use history_index::Index;
 use sent_keys::first_key;
@@ -23,14 +23,14 @@ use swap_rules::{Finding, Rule};
 
 fn leaves(deal: &Deal, party: PartyId, arc: ArcId) -> bool
     requires arc { arc < length deal.now.graph.arcs }
-    ensures { result ≡ is_among arc (leaving deal.now.graph party) }
+    ensures { result ≡ is_listed arc (leaving deal.now.graph party) }
 {
     deal.graph.arcs()[arc as usize].from == party
 }
 
 fn enters(deal: &Deal, party: PartyId, arc: ArcId) -> bool
     requires arc { arc < length deal.now.graph.arcs }
-    ensures { result ≡ is_among arc (entering deal.now.graph party) }
+    ensures { result ≡ is_listed arc (entering deal.now.graph party) }
 {
     deal.graph.arcs()[arc as usize].to == party
 }
@@ -45,12 +45,12 @@ fn overdue(
     counted: &Counted,
 ) -> Option<u64>
     requires { IfSome from (λ n. n < 2 ^ 62) }
-    ensures { result ≡ overdue deal.now.delta counted.now party from (history (entries_in known.now) arc) }
+    ensures { result ≡ overdue deal.now.delta counted.now party from (history (all_entries known.now) arc) }
 {
     match from {
         Some(from) => {
             let due = from + deal.delta as u64;
-            if due < height_on(known, arc) as u64 && !is_done(known, party, counted, arc, due) {
+            if due < arc_height(known, arc) as u64 && !is_done(known, party, counted, arc, due) {
                 Some(due)
             } else {
                 None
@@ -61,7 +61,7 @@ fn overdue(
 }
 
 /// Adds that the party is late by the rule on the arc, where it is.
-fn put_late_on(
+fn put_late_arc(
     out: &mut Vec<Finding>,
     deal: &Deal,
     known: &[Index],
@@ -72,8 +72,8 @@ fn put_late_on(
     counted: &Counted,
 ) -> Result<(), NoMemory>
     requires small { IfSome from (λ n. n < 2 ^ 62) }
-    requires asked { IsAsked deal.now (entries_in known.now) party rule arc from counted.now }
-    ensures { OnOk result (out.new.items ≡ out.old.items ++ late_on deal.now (entries_in known.now) party rule arc) }
+    requires asked { IsAsked deal.now (all_entries known.now) party rule arc from counted.now }
+    ensures { OnOk result (out.new.items ≡ out.old.items ++ late_on deal.now (all_entries known.now) party rule arc) }
 {
     match overdue(deal, known, party, arc, from, counted) {
         Some(due) => out.push(Finding::Late(party, rule, arc, due))?,
@@ -92,14 +92,14 @@ fn put_late_publish(
     from: Option<u64>,
 ) -> Result<(), NoMemory>
     requires arc { arc < length deal.now.graph.arcs }
-    requires from { from ≡ publish_from deal.now (entries_in known.now) party }
+    requires from { from ≡ publish_start deal.now (all_entries known.now) party }
     requires small { IfSome from (λ n. n < 2 ^ 62) }
-    ensures { OnOk result (out.new.items ≡ out.old.items ++ late_on deal.now (entries_in known.now) party Rule.Publish arc) }
+    ensures { OnOk result (out.new.items ≡ out.old.items ++ late_on deal.now (all_entries known.now) party Rule.Publish arc) }
 {
     if !leaves(deal, party, arc) {
         return Ok(());
     }
-    put_late_on(
+    put_late_arc(
         out,
         deal,
         known,
@@ -122,9 +122,9 @@ fn put_late_publishes(
     requires sized { IsWellSized deal.now }
     requires known { AreIndexes deal.now known.now }
     requires party { party < deal.now.graph.n }
-    ensures { OnOk result (out.new.items ≡ out.old.items ++ lates_by deal.now (entries_in known.now) party Rule.Publish) }
+    ensures { OnOk result (out.new.items ≡ out.old.items ++ lates_by deal.now (all_entries known.now) party Rule.Publish) }
 {
-    let from = publish_from(deal, known, party);
+    let from = publish_start(deal, known, party);
     for arc in 0..deal.graph.arcs().len() as u8 {
         put_late_publish(out, deal, known, party, arc, from)?;
     }
@@ -143,16 +143,16 @@ fn put_late_unlock(
     from: Option<u64>,
 ) -> Result<(), NoMemory>
     requires arc { arc < length deal.now.graph.arcs }
-    requires first { option_copied first ≡ first_key (entries_in known.now) party lock }
-    requires from { from ≡ unlock_from deal.now (entries_in known.now) party lock }
+    requires first { option_copied first ≡ first_key (all_entries known.now) party lock }
+    requires from { from ≡ unlock_start deal.now (all_entries known.now) party lock }
     requires small { IfSome from (λ n. n < 2 ^ 62) }
-    ensures { OnOk result (out.new.items ≡ out.old.items ++ late_on deal.now (entries_in known.now) party (Rule.Unlock lock) arc) }
+    ensures { OnOk result (out.new.items ≡ out.old.items ++ late_on deal.now (all_entries known.now) party (Rule.Unlock lock) arc) }
 {
     if !enters(deal, party, arc) {
         return Ok(());
     }
     let counted = Counted::Unlock(lock, first);
-    put_late_on(
+    put_late_arc(
         out,
         deal,
         known,
@@ -166,7 +166,7 @@ fn put_late_unlock(
 
 /// Adds where the party is late by an unlock of the lock, by arc.
 #[tactic(auto, using(sent_keys::proofs::Loops::flat_more))]
-fn put_late_unlocks_of(
+fn put_late_lock_unlocks(
     out: &mut Vec<Finding>,
     deal: &Deal,
     known: &[Index],
@@ -177,12 +177,12 @@ fn put_late_unlocks_of(
     requires sized { IsWellSized deal.now }
     requires known { AreIndexes deal.now known.now }
     requires party { party < deal.now.graph.n }
-    requires keys { shown keys.now ≡ unlocks_of (entries_in known.now) party }
+    requires keys { shown keys.now ≡ party_unlocks (all_entries known.now) party }
     requires lock { lock < length deal.now.leaders }
-    ensures { OnOk result (out.new.items ≡ out.old.items ++ lates_by deal.now (entries_in known.now) party (Rule.Unlock lock)) }
+    ensures { OnOk result (out.new.items ≡ out.old.items ++ lates_by deal.now (all_entries known.now) party (Rule.Unlock lock)) }
 {
     let first = first_key(known, party, keys, lock);
-    let from = unlock_from(deal, known, party, lock, first);
+    let from = unlock_start(deal, known, party, lock, first);
     for arc in 0..deal.graph.arcs().len() as u8 {
         put_late_unlock(out, deal, known, party, lock, first, arc, from)?;
     }
@@ -201,11 +201,11 @@ fn put_late_unlocks(
     requires sized { IsWellSized deal.now }
     requires known { AreIndexes deal.now known.now }
     requires party { party < deal.now.graph.n }
-    requires keys { shown keys.now ≡ unlocks_of (entries_in known.now) party }
-    ensures { OnOk result (out.new.items ≡ out.old.items ++ flat_map (λ i. lates_by deal.now (entries_in known.now) party (Rule.Unlock i)) (locks deal.now)) }
+    requires keys { shown keys.now ≡ party_unlocks (all_entries known.now) party }
+    ensures { OnOk result (out.new.items ≡ out.old.items ++ flat_map (λ i. lates_by deal.now (all_entries known.now) party (Rule.Unlock i)) (locks deal.now)) }
 {
     for lock in 0..deal.leaders.len() as u8 {
-        put_late_unlocks_of(out, deal, known, party, keys, lock)?;
+        put_late_lock_unlocks(out, deal, known, party, keys, lock)?;
     }
     Ok(())
 }
@@ -221,13 +221,13 @@ fn put_late_claim(
     requires sized { IsWellSized deal.now }
     requires known { AreIndexes deal.now known.now }
     requires arc { arc < length deal.now.graph.arcs }
-    ensures { OnOk result (out.new.items ≡ out.old.items ++ late_on deal.now (entries_in known.now) party Rule.Claim arc) }
+    ensures { OnOk result (out.new.items ≡ out.old.items ++ late_on deal.now (all_entries known.now) party Rule.Claim arc) }
 {
     if !enters(deal, party, arc) {
         return Ok(());
     }
-    let from = claim_from(deal, known, arc);
-    put_late_on(
+    let from = claim_start(deal, known, arc);
+    put_late_arc(
         out,
         deal,
         known,
@@ -249,7 +249,7 @@ fn put_late_claims(
 ) -> Result<(), NoMemory>
     requires sized { IsWellSized deal.now }
     requires known { AreIndexes deal.now known.now }
-    ensures { OnOk result (out.new.items ≡ out.old.items ++ lates_by deal.now (entries_in known.now) party Rule.Claim) }
+    ensures { OnOk result (out.new.items ≡ out.old.items ++ lates_by deal.now (all_entries known.now) party Rule.Claim) }
 {
     for arc in 0..deal.graph.arcs().len() as u8 {
         put_late_claim(out, deal, known, party, arc)?;
@@ -268,14 +268,14 @@ fn put_late_refund(
     requires sized { IsWellSized deal.now }
     requires known { AreIndexes deal.now known.now }
     requires arc { arc < length deal.now.graph.arcs }
-    ensures { OnOk result (out.new.items ≡ out.old.items ++ late_on deal.now (entries_in known.now) party Rule.Refund arc) }
+    ensures { OnOk result (out.new.items ≡ out.old.items ++ late_on deal.now (all_entries known.now) party Rule.Refund arc) }
 {
     if !leaves(deal, party, arc) {
         return Ok(());
     }
     let least = least_expiry(deal, known, arc);
-    let from = refund_from(deal, known, arc, least);
-    put_late_on(
+    let from = refund_start(deal, known, arc, least);
+    put_late_arc(
         out,
         deal,
         known,
@@ -297,7 +297,7 @@ fn put_late_refunds(
 ) -> Result<(), NoMemory>
     requires sized { IsWellSized deal.now }
     requires known { AreIndexes deal.now known.now }
-    ensures { OnOk result (out.new.items ≡ out.old.items ++ lates_by deal.now (entries_in known.now) party Rule.Refund) }
+    ensures { OnOk result (out.new.items ≡ out.old.items ++ lates_by deal.now (all_entries known.now) party Rule.Refund) }
 {
     for arc in 0..deal.graph.arcs().len() as u8 {
         put_late_refund(out, deal, known, party, arc)?;
@@ -316,8 +316,8 @@ fn put_lates_by_rule(
     requires sized { IsWellSized deal.now }
     requires known { AreIndexes deal.now known.now }
     requires party { party < deal.now.graph.n }
-    requires keys { shown keys.now ≡ unlocks_of (entries_in known.now) party }
-    ensures { OnOk result (out.new.items ≡ out.old.items ++ lates deal.now (entries_in known.now) party) }
+    requires keys { shown keys.now ≡ party_unlocks (all_entries known.now) party }
+    ensures { OnOk result (out.new.items ≡ out.old.items ++ lates deal.now (all_entries known.now) party) }
 {
     put_late_publishes(out, deal, known, party)?;
     put_late_unlocks(out, deal, known, party, keys)?;
@@ -338,8 +338,8 @@ pub fn put_lates(
     requires sized { IsWellSized deal.now }
     requires known { AreIndexes deal.now known.now }
     requires party { party < deal.now.graph.n }
-    requires keys { shown keys.now ≡ unlocks_of (entries_in known.now) party }
-    ensures ok { OnOk result (out.new.items ≡ out.old.items ++ lates deal.now (entries_in known.now) party) }
+    requires keys { shown keys.now ≡ party_unlocks (all_entries known.now) party }
+    ensures ok { OnOk result (out.new.items ≡ out.old.items ++ lates deal.now (all_entries known.now) party) }
     ensures err { OnErr result (out.new.items ≡ out.old.items) }
 {
     let mut found = Vec::new(*out.allocator());

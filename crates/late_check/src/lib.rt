@@ -12,5 +12,5 @@ mod froms;
 mod lates;
 mod openings;
 
-pub use froms::{claim_from, publish_from, refund_from, unlock_from};
+pub use froms::{claim_start, publish_start, refund_start, unlock_start};
 pub use lates::put_lates;

@@ -4,22 +4,22 @@ ghost use Rattle.std.specs.Prelude.{◌≡◌, ◌<◌, length, option_copied, o
 ghost use Rattle.swap_digraph.specs.Deal.{IsWellSized};
 ghost use Rattle.ledger_core.specs.Book.{history};
 ghost use Rattle.ledger_core.specs.History.{opened};
-ghost use Rattle.history_index.specs.Indexes.{entries_in, AreIndexes};
-ghost use Rattle.history_index.specs.Made.{opening_of};
+ghost use Rattle.history_index.specs.Indexes.{all_entries, AreIndexes};
+ghost use Rattle.history_index.specs.Made.{key_opening};
 ghost use Rattle.swap_rules.specs.Party.{first_seen_key, key_without};
 ghost use Rattle.swap_rules.specs.Late.{height_of_opening, trigger_height};
 
 use hashkey_path::Hashkey;
 use history_index::{Index, Opened};
 use swap_base::{ArcId, LockId, PartyId};
-use swap_digraph::{Deal, is_among};
+use swap_digraph::{Deal, is_listed};
 
 /// The accepted unlock of the lock on the arc.
 fn opened<'a>(deal: &Deal, known: &'a [Index], arc: ArcId, lock: LockId) -> Option<Opened<'a>>
     requires sized { IsWellSized deal.now }
     requires known { AreIndexes deal.now known.now }
     requires lock { lock < length deal.now.leaders }
-    ensures { option_map opening_of result ≡ opened (history (entries_in known.now) arc) lock }
+    ensures { option_map key_opening result ≡ opened (history (all_entries known.now) arc) lock }
 {
     match known.get(arc as usize) {
         Some(index) => index.opened(lock),
@@ -32,7 +32,7 @@ pub(crate) fn opening_height(deal: &Deal, known: &[Index], arc: ArcId, lock: Loc
     requires sized { IsWellSized deal.now }
     requires known { AreIndexes deal.now known.now }
     requires lock { lock < length deal.now.leaders }
-    ensures { result ≡ height_of_opening (opened (history (entries_in known.now) arc) lock) }
+    ensures { result ≡ height_of_opening (opened (history (all_entries known.now) arc) lock) }
 {
     match opened(deal, known, arc, lock) {
         Some(unlock) => unlock.height,
@@ -51,11 +51,11 @@ fn key_without<'a>(
     requires sized { IsWellSized deal.now }
     requires known { AreIndexes deal.now known.now }
     requires lock { lock < length deal.now.leaders }
-    ensures { option_copied result ≡ key_without party (opened (history (entries_in known.now) arc) lock) }
+    ensures { option_copied result ≡ key_without party (opened (history (all_entries known.now) arc) lock) }
 {
     match opened(deal, known, arc, lock) {
         Some(unlock) => {
-            if is_among(party, unlock.key.path.as_slice()) {
+            if is_listed(party, unlock.key.path.as_slice()) {
                 None
             } else {
                 Some(unlock.key)
@@ -77,7 +77,7 @@ pub(crate) fn first_seen_key<'a>(
     requires known { AreIndexes deal.now known.now }
     requires party { party < deal.now.graph.n }
     requires lock { lock < length deal.now.leaders }
-    ensures { option_copied result ≡ first_seen_key deal.now (entries_in known.now) party lock }
+    ensures { option_copied result ≡ first_seen_key deal.now (all_entries known.now) party lock }
 {
     for arc in deal.graph.leaving(party) {
         let found = key_without(deal, known, party, *arc, lock);
@@ -93,7 +93,7 @@ pub(crate) fn first_seen_key<'a>(
 pub(crate) fn trigger_height(deal: &Deal, known: &[Index], arc: ArcId) -> u32
     requires sized { IsWellSized deal.now }
     requires known { AreIndexes deal.now known.now }
-    ensures { result ≡ trigger_height deal.now (history (entries_in known.now) arc) }
+    ensures { result ≡ trigger_height deal.now (history (all_entries known.now) arc) }
 {
     let mut last = 0;
     for lock in 0..deal.leaders.len() as u8 {

@@ -6,22 +6,22 @@ use Rattle.swap_base.specs.Lists.{IsIn, greatest}
 use Rattle.swap_base.proofs.Lists.{and_both, greatest-in, greatest-below}
 use Rattle.swap_digraph.specs.declared.arc_ends.ArcEnds.{ArcEnds}
 use Rattle.swap_digraph.specs.Value.{Graph}
-use Rattle.swap_digraph.specs.Graph.{is_path, has_arc, is_among, last_is, arcs_of, are_followers, IsPathBetween, IsStronglyConnected}
+use Rattle.swap_digraph.specs.Graph.{is_path, has_arc, is_listed, last_is, listed_arcs, are_followers, IsConnectingPath, IsStronglyConnected}
 use Rattle.swap_digraph.specs.Graph.{IsFeedback, IsHeight, IsDist, HasEnds}
 use Rattle.time_bounds.specs.Times.{need}
 use Rattle.leader_check.specs.Followers.{is_follower}
-use Rattle.leader_check.proofs.Followers.{follower_is, arc_of, arc_from, greatest-reached}
-use Rattle.swap_digraph.proofs.Paths.{in-is_among, path_step, path_more, path_length}
+use Rattle.leader_check.proofs.Followers.{follower_is, parse_arc, arc_from, greatest-reached}
+use Rattle.swap_digraph.proofs.Paths.{in-is_listed, path_step, path_more, path_length}
 use Rattle.swap_digraph.proofs.Parts.{leader_among, not_leader, is_leader_not, meets_rest, part_to}
 use Rattle.leader_check.proofs.Bounds.{paths_to_leaders_are_bounded}
-use Rattle.leader_check.specs.Distance.{most_after, dist_before, dist_within, dist_of}
+use Rattle.leader_check.specs.Distance.{most_after, prior_distance, bounded_distance, dist_of}
 
 -- Values after a vertex.
 
 after-arc : (g : Graph) (f : ℕ → ℕ) (v w : ℕ) → has_arc g v w ≡ true → f w ≤ most_after g f v
 unfolding most_after
 after-arc g f v w e =
-    let a = arc_of g v w e in
+    let a = parse_arc g v w e in
     let m = greatest-in (λ b. cond (b.from == v) (f b.to) 0) g.arcs a.arc a.among in
     let k : cond (a.arc.from == v) (f a.arc.to) 0 ≡ f w = ap (λ b. cond b (f a.arc.to) 0) (eq-eqb a.arc.from v a.from) ∙ ap f a.to in
     omega (arith, m, k)
@@ -51,42 +51,42 @@ after-below g f v m le = greatest-below (λ b. cond (b.from == v) (f b.to) 0) g.
     go true w = le w
     go false w = omega arith
 
-pub before-follower : (g : Graph) (l : ℕ) (f : ℕ → ℕ) (v : ℕ) → is_follower g (l ∷ []) v ≡ true → dist_before g l f v ≡ most_after g f v + 1
-unfolding dist_before
+pub before-follower : (g : Graph) (l : ℕ) (f : ℕ → ℕ) (v : ℕ) → is_follower g (l ∷ []) v ≡ true → prior_distance g l f v ≡ most_after g f v + 1
+unfolding prior_distance
 before-follower g l f v e = ap (λ b. cond b (most_after g f v + 1) 0) e
 
-pub before-other : (g : Graph) (l : ℕ) (f : ℕ → ℕ) (v : ℕ) → is_follower g (l ∷ []) v ≡ false → dist_before g l f v ≡ 0
-unfolding dist_before
+pub before-other : (g : Graph) (l : ℕ) (f : ℕ → ℕ) (v : ℕ) → is_follower g (l ∷ []) v ≡ false → prior_distance g l f v ≡ 0
+unfolding prior_distance
 before-other g l f v e = ap (λ b. cond b (most_after g f v + 1) 0) e
 
-before-below : (g : Graph) (l : ℕ) (f : ℕ → ℕ) (v m : ℕ) → ((w : ℕ) → f w ≤ m) → dist_before g l f v ≤ suc m
-unfolding dist_before
+before-below : (g : Graph) (l : ℕ) (f : ℕ → ℕ) (v m : ℕ) → ((w : ℕ) → f w ≤ m) → prior_distance g l f v ≤ suc m
+unfolding prior_distance
 before-below g l f v m le = go (is_follower g (l ∷ []) v) (after-below g f v m le)
   where
     go : (b : Bool) → most_after g f v ≤ m → cond b (most_after g f v + 1) 0 ≤ suc m
     go true k = omega arith
     go false k = omega arith
 
-pub within-suc : (g : Graph) (l k v : ℕ) → dist_within g l (suc k) v ≡ dist_before g l (dist_within g l k) v
-unfolding dist_within
+pub within-suc : (g : Graph) (l k v : ℕ) → bounded_distance g l (suc k) v ≡ prior_distance g l (bounded_distance g l k) v
+unfolding bounded_distance
 within-suc g l k v = refl
 
-pub within-below : (g : Graph) (l k v : ℕ) → dist_within g l k v ≤ k
-unfolding dist_within
+pub within-below : (g : Graph) (l k v : ℕ) → bounded_distance g l k v ≤ k
+unfolding bounded_distance
 within-below g l zero v = omega arith
-within-below g l (suc k) v = before-below g l (dist_within g l k) v k (within-below g l k)
+within-below g l (suc k) v = before-below g l (bounded_distance g l k) v k (within-below g l k)
 
 -- Ends of arcs.
 
-place_of : {A : Type 0} (xs : List A) (x d : A) → IsIn x xs → (i : ℕ) × (i < length xs) × (get_or xs i d ≡ x)
-place_of [] x d i = absurd i
-place_of (y ∷ xs) x d (inl e) = (0, omega arith, sym e)
-place_of (y ∷ xs) x d (inr i) = let r = place_of xs x d i in (suc r.0, omega arith, r.2)
+find_place : {A : Type 0} (xs : List A) (x d : A) → IsIn x xs → (i : ℕ) × (i < length xs) × (get_or xs i d ≡ x)
+find_place [] x d i = absurd i
+find_place (y ∷ xs) x d (inl e) = (0, omega arith, sym e)
+find_place (y ∷ xs) x d (inr i) = let r = find_place xs x d i in (suc r.0, omega arith, r.2)
 
 arc_below : (g : Graph) (v w : ℕ) → HasEnds g → has_arc g v w ≡ true → w < g.n
 arc_below g v w ends e =
-    let a = arc_of g v w e in
-    let p = place_of g.arcs a.arc (record { from = 0; to = 0 }) a.among in
+    let a = parse_arc g v w e in
+    let p = find_place g.arcs a.arc (record { from = 0; to = 0 }) a.among in
     let b = ends.to p.0 p.1 in
     let s : (get_or g.arcs p.0 (record { from = 0; to = 0 })).to ≡ w = ap (λ (x : ArcEnds). x.to) p.2 ∙ a.to in
     rw s at b
@@ -94,26 +94,26 @@ arc_below g v w ends e =
 -- The leader.
 
 pub leader_follows_not : (g : Graph) (l v : ℕ) → v < g.n → l ≡ v → is_follower g (l ∷ []) v ≡ false
-leader_follows_not g l v b e = follower_is g (l ∷ []) v b ∙ ap not (in-is_among v (l ∷ []) (inl (sym e)))
+leader_follows_not g l v b e = follower_is g (l ∷ []) v b ∙ ap not (in-is_listed v (l ∷ []) (inl (sym e)))
 
 pub other_follows : (g : Graph) (l v : ℕ) → v < g.n → (l ≡ v → ⊥) → is_follower g (l ∷ []) v ≡ true
 other_follows g l v b n = follower_is g (l ∷ []) v b ∙ not_leader l v (λ e. n (sym e))
 
 -- the distance of a party, by a test whether it leads
-pub before_is : (g : Graph) (l : ℕ) (f : ℕ → ℕ) (v : ℕ) → v < g.n → cond (l == v) 0 (most_after g f v + 1) ≡ dist_before g l f v
+pub before_is : (g : Graph) (l : ℕ) (f : ℕ → ℕ) (v : ℕ) → v < g.n → cond (l == v) 0 (most_after g f v + 1) ≡ prior_distance g l f v
 before_is g l f v b = go (l == v) refl
   where
     no : (t : Bool) → t ≡ false → t ≡ true → ⊥
     no true h i = cc h
     no false h i = cc i
 
-    go : (t : Bool) → (l == v) ≡ t → cond t 0 (most_after g f v + 1) ≡ dist_before g l f v
+    go : (t : Bool) → (l == v) ≡ t → cond t 0 (most_after g f v + 1) ≡ prior_distance g l f v
     go true e = sym (before-other g l f v (leader_follows_not g l v b (eqb-true l v e)))
     go false e = sym (before-follower g l f v (other_follows g l v b (λ q. no (l == v) e (eq-eqb l v q))))
 
 module _ (g : Graph) (l : ℕ) where
   -- every path to the leader is at most as long
-  far-most : (u : ℕ) (p : List ℕ) (m : ℕ) → is_path g (u ∷ p) ≡ true → last_is l (u ∷ p) ≡ true → length p ≤ m → length p ≤ dist_within g l m u
+  far-most : (u : ℕ) (p : List ℕ) (m : ℕ) → is_path g (u ∷ p) ≡ true → last_is l (u ∷ p) ≡ true → length p ≤ m → length p ≤ bounded_distance g l m u
   far-most u [] m e last le = omega arith
   far-most u (w ∷ p) zero e last le = absurd (omega arith)
   far-most u (w ∷ p) (suc m) e last le =
@@ -121,8 +121,9 @@ module _ (g : Graph) (l : ℕ) where
       let k = meets_rest g l u w p e (inl last) in
       let r = far-most w p m s.rest last (omega arith) in
       let follows = follower_is g (l ∷ []) u s.below ∙ k.0 in
-      let x : dist_within g l (suc m) u ≡ most_after g (dist_within g l m) u + 1 = within-suc g l m u ∙ before-follower g l (dist_within g l m) u follows in
-      let y = after-arc g (dist_within g l m) u w s.arc in
+      let x : bounded_distance g l (suc m) u ≡ most_after g (bounded_distance g l m) u + 1 = within-suc g l m u
+      ∙ before-follower g l (bounded_distance g l m) u follows in
+      let y = after-arc g (bounded_distance g l m) u w s.arc in
       omega (arith, r, x, y)
 
 module _ (g : Graph) (l : ℕ) (ends : HasEnds g) (strong : IsStronglyConnected g) (leads : l < g.n) (feedback : IsFeedback g (l ∷ [])) where
@@ -137,7 +138,7 @@ module _ (g : Graph) (l : ℕ) (ends : HasEnds g) (strong : IsStronglyConnected 
   has_next : (v : ℕ) → v < g.n → (v ≡ l → ⊥) → (w : ℕ) × (has_arc g v w ≡ true)
   has_next v b n = let s = strong v l b leads n in go s.0 s.1
     where
-      go : (p : List ℕ) → IsPathBetween g v l p → (w : ℕ) × (has_arc g v w ≡ true)
+      go : (p : List ℕ) → IsConnectingPath g v l p → (w : ℕ) × (has_arc g v w ≡ true)
       go [] k = absurd (cc k.0)
       go (u ∷ []) k = absurd (n (sym (eqb-true u v k.1) ∙ eqb-true u l k.2))
       go (u ∷ w ∷ p) k = (w, ap (λ x. has_arc g x w) (sym (eqb-true u v k.1)) ∙ (path_step g u w p k.0).arc)
@@ -153,7 +154,7 @@ module _ (g : Graph) (l : ℕ) (ends : HasEnds g) (strong : IsStronglyConnected 
   at_leader : (v k : ℕ) → v ≡ l → v < g.n → Far v k 0
   at_leader v k e b = record { rest = []; path = lt-ltb v g.n b; size = refl; end = inl (eq-eqb v l e) }
 
-  further : (v w k d : ℕ) → v < g.n → not (is_among v (l ∷ [])) ≡ true → has_arc g v w ≡ true → Far w k d → Far v (suc k) (d + 1)
+  further : (v w k d : ℕ) → v < g.n → not (is_listed v (l ∷ [])) ≡ true → has_arc g v w ≡ true → Far w k d → Far v (suc k) (d + 1)
   further v w k d b follows a r =
       let fresh : IsIn v (w ∷ r.rest) → ⊥ = λ i.
       let t = part_to g l w v r.rest r.path (elim r.end [ inl x ↦ inl x | inr x ↦ inr x.0 ]) (is_leader_not l v follows) i in
@@ -163,58 +164,58 @@ module _ (g : Graph) (l : ℕ) (ends : HasEnds g) (strong : IsStronglyConnected 
         rest = w ∷ r.rest;
         path = path_more g v w r.rest b fresh a r.path;
         size = omega (arith, s);
-        end = elim r.end [ inl x ↦ inl x | inr x ↦ inr (and_both (not (is_among v (l ∷ []))) (are_followers (l ∷ []) (w ∷ r.rest)) follows x.0, ap suc x.1) ];
+        end = elim r.end [ inl x ↦ inl x | inr x ↦ inr (and_both (not (is_listed v (l ∷ []))) (are_followers (l ∷ []) (w ∷ r.rest)) follows x.0, ap suc x.1) ];
       }
 
-  far : (k v : ℕ) → v < g.n → Far v k (dist_within g l k v)
-  unfolding dist_within
-  far zero v b = go (not (is_among v (l ∷ []))) refl
+  far : (k v : ℕ) → v < g.n → Far v k (bounded_distance g l k v)
+  unfolding bounded_distance
+  far zero v b = go (not (is_listed v (l ∷ []))) refl
     where
-      go : (t : Bool) → not (is_among v (l ∷ [])) ≡ t → Far v 0 0
-      go true e = record { rest = []; path = lt-ltb v g.n b; size = refl; end = inr (and_both (not (is_among v (l ∷ []))) true e refl, refl) }
+      go : (t : Bool) → not (is_listed v (l ∷ [])) ≡ t → Far v 0 0
+      go true e = record { rest = []; path = lt-ltb v g.n b; size = refl; end = inr (and_both (not (is_listed v (l ∷ []))) true e refl, refl) }
       go false e = at_leader v 0 (leader_among l v e) b
-  far (suc k) v b = go (far k) (not (is_among v (l ∷ []))) refl
+  far (suc k) v b = go (far k) (not (is_listed v (l ∷ []))) refl
     where
-      go : ((w : ℕ) → w < g.n → Far w k (dist_within g l k w)) → (t : Bool) → not (is_among v (l ∷ [])) ≡ t
-          → Far v (suc k) (dist_before g l (dist_within g l k) v)
+      go : ((w : ℕ) → w < g.n → Far w k (bounded_distance g l k w)) → (t : Bool) → not (is_listed v (l ∷ [])) ≡ t
+          → Far v (suc k) (prior_distance g l (bounded_distance g l k) v)
       go rest true e =
-          let w = farthest (dist_within g l k) v b (is_leader_not l v e) in
-          let r = further v w.0 k (dist_within g l k w.0) b e w.1 (rest w.0 (arc_below g v w.0 ends w.1)) in
-          let s : dist_before g l (dist_within g l k) v ≡ dist_within g l k w.0 + 1 =
-          before-follower g l (dist_within g l k) v (follower_is g (l ∷ []) v b ∙ e) ∙ ap (λ d. d + 1) (sym w.2) in
+          let w = farthest (bounded_distance g l k) v b (is_leader_not l v e) in
+          let r = further v w.0 k (bounded_distance g l k w.0) b e w.1 (rest w.0 (arc_below g v w.0 ends w.1)) in
+          let s : prior_distance g l (bounded_distance g l k) v ≡ bounded_distance g l k w.0 + 1 =
+          before-follower g l (bounded_distance g l k) v (follower_is g (l ∷ []) v b ∙ e) ∙ ap (λ d. d + 1) (sym w.2) in
           subst (Far v (suc k)) (sym s) r
       go rest false e =
-          let s : dist_before g l (dist_within g l k) v ≡ 0 = before-other g l (dist_within g l k) v (follower_is g (l ∷ []) v b ∙ e) in
+          let s : prior_distance g l (bounded_distance g l k) v ≡ 0 = before-other g l (bounded_distance g l k) v (follower_is g (l ∷ []) v b ∙ e) in
           subst (Far v (suc k)) (sym s) (at_leader v (suc k) (leader_among l v e) b)
 
   -- so many arcs are enough
-  pub dist_is : (h k v : ℕ) → IsHeight g (l ∷ []) h → h ≤ k → v < g.n → IsDist g l v (dist_within g l k v)
+  pub dist_is : (h k v : ℕ) → IsHeight g (l ∷ []) h → h ≤ k → v < g.n → IsDist g l v (bounded_distance g l k v)
   dist_is h k v height le b = record { reached = go (far k v b); most = most }
     where
-      go : Far v k (dist_within g l k v) → (p : List ℕ) × IsPathBetween g v l p × (arcs_of p ≡ dist_within g l k v)
+      go : Far v k (bounded_distance g l k v) → (p : List ℕ) × IsConnectingPath g v l p × (listed_arcs p ≡ bounded_distance g l k v)
       go r = by_end r.end
         where
           by_end : (last_is l (v ∷ r.rest) ≡ true) ⊎ ((are_followers (l ∷ []) (v ∷ r.rest) ≡ true) × (length r.rest ≡ k))
-              → (p : List ℕ) × IsPathBetween g v l p × (arcs_of p ≡ dist_within g l k v)
+              → (p : List ℕ) × IsConnectingPath g v l p × (listed_arcs p ≡ bounded_distance g l k v)
           by_end (inl x) = let s = r.size in (v ∷ r.rest, (r.path, eq-eqb v v refl, x), omega (arith, s))
           by_end (inr x) =
               let m = height.most (v ∷ r.rest) r.path x.0 in
               let s = x.1 in
               absurd (omega (arith, m, s))
 
-      most : (p : List ℕ) → IsPathBetween g v l p → arcs_of p ≤ dist_within g l k v
+      most : (p : List ℕ) → IsConnectingPath g v l p → listed_arcs p ≤ bounded_distance g l k v
       most [] x = absurd (cc x.0)
       most (u ∷ p) x =
           let same : u ≡ v = eqb-true u v x.1 in
-          let law = paths_to_leaders_are_bounded g (l ∷ []) h height (u ∷ p) l x.0 x.2 (in-is_among l (l ∷ []) (inl refl)) in
+          let law = paths_to_leaders_are_bounded g (l ∷ []) h height (u ∷ p) l x.0 x.2 (in-is_listed l (l ∷ []) (inl refl)) in
           let m = far-most g l u p k x.0 x.2 (omega (arith, law, le)) in
-          let s : dist_within g l k u ≡ dist_within g l k v = ap (dist_within g l k) same in
+          let s : bounded_distance g l k u ≡ bounded_distance g l k v = ap (bounded_distance g l k) same in
           omega (arith, m, s)
 
   pub dist_bounded : (h v d : ℕ) → IsHeight g (l ∷ []) h → IsDist g l v d → d ≤ need g.n 1 h
   dist_bounded h v d height is =
       let r = is.reached in
-      let law = paths_to_leaders_are_bounded g (l ∷ []) h height r.0 l r.1.0 r.1.2 (in-is_among l (l ∷ []) (inl refl)) in
+      let law = paths_to_leaders_are_bounded g (l ∷ []) h height r.0 l r.1.0 r.1.2 (in-is_listed l (l ∷ []) (inl refl)) in
       let e = r.2 in
       omega (arith, law, e)
 
@@ -234,7 +235,8 @@ module _ (g : Graph) (l : ℕ) (ends : HasEnds g) (strong : IsStronglyConnected 
       go (inr p) = let n = path_length g p.0 p.1 in let e = p.3 in omega (arith, n, e)
 
   -- h rounds give the distance
-  pub dist_by_rounds : (h v : ℕ) → IsHeight g (l ∷ []) h → v < g.n → dist_within g l h v ≡ dist_of g l v
+  pub dist_by_rounds : (h v : ℕ) → IsHeight g (l ∷ []) h → v < g.n → bounded_distance g l h v ≡ dist_of g l v
   unfolding dist_of
   dist_by_rounds h v height b =
-      dist_one v (dist_within g l h v) (dist_within g l g.n v) (dist_is h h v height (omega arith) b) (dist_is h g.n v height (height_below h height) b)
+      dist_one v (bounded_distance g l h v) (bounded_distance g l g.n v) (dist_is h h v height (omega arith) b) (dist_is h g.n v height
+      (height_below h height) b)

@@ -5,17 +5,17 @@ use Rattle.swap_base.specs.Lists.{IsIn, greatest}
 use Rattle.swap_base.proofs.Lists.{and_parts, and_both, any_at, list_any-in, in_from_moment}
 use Rattle.swap_digraph.specs.declared.arc_ends.ArcEnds.{ArcEnds}
 use Rattle.swap_digraph.specs.Value.{Graph}
-use Rattle.swap_digraph.specs.Graph.{has_arc, is_among}
+use Rattle.swap_digraph.specs.Graph.{has_arc, is_listed}
 use Rattle.leader_check.specs.Followers.{is_follower}
 
-pub follower_parts : (g : Graph) (ls : List ℕ) (v : ℕ) → is_follower g ls v ≡ true → (v < g.n) × (not (is_among v ls) ≡ true)
-follower_parts g ls v e = let k = and_parts (nat_lt v g.n) (not (is_among v ls)) e in (ltb-true v g.n k.0, k.1)
+pub follower_parts : (g : Graph) (ls : List ℕ) (v : ℕ) → is_follower g ls v ≡ true → (v < g.n) × (not (is_listed v ls) ≡ true)
+follower_parts g ls v e = let k = and_parts (nat_lt v g.n) (not (is_listed v ls)) e in (ltb-true v g.n k.0, k.1)
 
-pub follower_from : (g : Graph) (ls : List ℕ) (v : ℕ) → v < g.n → not (is_among v ls) ≡ true → is_follower g ls v ≡ true
-follower_from g ls v b e = and_both (nat_lt v g.n) (not (is_among v ls)) (lt-ltb v g.n b) e
+pub follower_from : (g : Graph) (ls : List ℕ) (v : ℕ) → v < g.n → not (is_listed v ls) ≡ true → is_follower g ls v ≡ true
+follower_from g ls v b e = and_both (nat_lt v g.n) (not (is_listed v ls)) (lt-ltb v g.n b) e
 
-pub follower_is : (g : Graph) (ls : List ℕ) (v : ℕ) → v < g.n → is_follower g ls v ≡ not (is_among v ls)
-follower_is g ls v b = ap (λ t. t && not (is_among v ls)) (lt-ltb v g.n b)
+pub follower_is : (g : Graph) (ls : List ℕ) (v : ℕ) → v < g.n → is_follower g ls v ≡ not (is_listed v ls)
+follower_is g ls v b = ap (λ t. t && not (is_listed v ls)) (lt-ltb v g.n b)
 
 -- an arc with those ends
 pub record Arc (g : Graph) (u v : ℕ) : Type 0 where
@@ -24,8 +24,8 @@ pub record Arc (g : Graph) (u v : ℕ) : Type 0 where
   pub from : arc.from ≡ u
   pub to : arc.to ≡ v
 
-pub arc_of : (g : Graph) (u v : ℕ) → has_arc g u v ≡ true → Arc g u v
-arc_of g u v e =
+pub parse_arc : (g : Graph) (u v : ℕ) → has_arc g u v ≡ true → Arc g u v
+parse_arc g u v e =
     let m = any_at (λ a. (a.from == u) && (a.to == v)) g.arcs e in
     let k = and_parts (m.now.from == u) (m.now.to == v) m.passes in
     record {

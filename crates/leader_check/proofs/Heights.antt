@@ -6,17 +6,17 @@ use Rattle.swap_base.specs.Lists.{IsIn, greatest}
 use Rattle.swap_base.proofs.Lists.{and_parts, and_both, greatest-in, greatest-below, in_range}
 use Rattle.swap_digraph.specs.declared.arc_ends.ArcEnds.{ArcEnds}
 use Rattle.swap_digraph.specs.Value.{Graph}
-use Rattle.swap_digraph.specs.Graph.{parties, is_path, has_arc, is_among, last_is, are_followers, IsFeedback, IsHeight}
+use Rattle.swap_digraph.specs.Graph.{parties, is_path, has_arc, is_listed, last_is, are_followers, IsFeedback, IsHeight}
 use Rattle.leader_check.specs.Followers.{is_follower}
-use Rattle.leader_check.specs.Levels.{most_before, level_after, level_within, level_of, height_of, IsLevel}
+use Rattle.leader_check.specs.Levels.{most_before, following_level, bounded_level, party_level, latest_height, IsLevel}
 use Rattle.leader_check.specs.Laws.{GreatestLevelIsHeight}
-use Rattle.leader_check.proofs.Followers.{follower_parts, follower_from, arc_of, arc_from, greatest-reached, greatest-more}
+use Rattle.leader_check.proofs.Followers.{follower_parts, follower_from, parse_arc, arc_from, greatest-reached, greatest-more}
 use Rattle.swap_digraph.proofs.Paths.{path_step, path_below, path_length, path_snoc, suffix_from, followers-append}
 
 pub before-arc : (g : Graph) (f : ℕ → ℕ) (u v : ℕ) → has_arc g u v ≡ true → f u ≤ most_before g f v
 unfolding most_before
 before-arc g f u v e =
-    let a = arc_of g u v e in
+    let a = parse_arc g u v e in
     let m = greatest-in (λ b. cond (b.to == v) (f b.from) 0) g.arcs a.arc a.among in
     let k : cond (a.arc.to == v) (f a.arc.from) 0 ≡ f u = ap (λ b. cond b (f a.arc.from) 0) (eq-eqb a.arc.to v a.to) ∙ ap f a.from in
     omega (arith, m, k)
@@ -46,39 +46,39 @@ before-reached g f v = go (greatest-reached (λ b. cond (b.to == v) (f b.from) 0
     go (inl z) = inl z
     go (inr a) = by_test a.0 (a.0.to == v) (greatest (λ b. cond (b.to == v) (f b.from) 0) g.arcs) a.1 refl a.2
 
-pub after-follower : (g : Graph) (ls : List ℕ) (f : ℕ → ℕ) (v : ℕ) → is_follower g ls v ≡ true → level_after g ls f v ≡ most_before g f v + 1
-unfolding level_after
+pub after-follower : (g : Graph) (ls : List ℕ) (f : ℕ → ℕ) (v : ℕ) → is_follower g ls v ≡ true → following_level g ls f v ≡ most_before g f v + 1
+unfolding following_level
 after-follower g ls f v e = ap (λ b. cond b (most_before g f v + 1) 0) e
 
-pub after-other : (g : Graph) (ls : List ℕ) (f : ℕ → ℕ) (v : ℕ) → is_follower g ls v ≡ false → level_after g ls f v ≡ 0
-unfolding level_after
+pub after-other : (g : Graph) (ls : List ℕ) (f : ℕ → ℕ) (v : ℕ) → is_follower g ls v ≡ false → following_level g ls f v ≡ 0
+unfolding following_level
 after-other g ls f v e = ap (λ b. cond b (most_before g f v + 1) 0) e
 
-after-more : (g : Graph) (ls : List ℕ) (f h : ℕ → ℕ) (v : ℕ) → ((u : ℕ) → f u ≤ h u) → level_after g ls f v ≤ level_after g ls h v
-unfolding level_after
+after-more : (g : Graph) (ls : List ℕ) (f h : ℕ → ℕ) (v : ℕ) → ((u : ℕ) → f u ≤ h u) → following_level g ls f v ≤ following_level g ls h v
+unfolding following_level
 after-more g ls f h v le = go (is_follower g ls v) (before-more g f h v le)
   where
     go : (b : Bool) → most_before g f v ≤ most_before g h v → cond b (most_before g f v + 1) 0 ≤ cond b (most_before g h v + 1) 0
     go true k = omega arith
     go false k = omega arith
 
-pub within-suc : (g : Graph) (ls : List ℕ) (k v : ℕ) → level_within g ls (suc k) v ≡ level_after g ls (level_within g ls k) v
-unfolding level_within
+pub within-suc : (g : Graph) (ls : List ℕ) (k v : ℕ) → bounded_level g ls (suc k) v ≡ following_level g ls (bounded_level g ls k) v
+unfolding bounded_level
 within-suc g ls k v = refl
 
-within-more : (g : Graph) (ls : List ℕ) (k v : ℕ) → level_within g ls k v ≤ level_within g ls (suc k) v
-unfolding level_within
+within-more : (g : Graph) (ls : List ℕ) (k v : ℕ) → bounded_level g ls k v ≤ bounded_level g ls (suc k) v
+unfolding bounded_level
 within-more g ls zero v = omega arith
-within-more g ls (suc k) v = after-more g ls (level_within g ls k) (level_within g ls (suc k)) v (within-more g ls k)
+within-more g ls (suc k) v = after-more g ls (bounded_level g ls k) (bounded_level g ls (suc k)) v (within-more g ls k)
 
 le_split : (k m : ℕ) → k ≤ suc m → (k ≤ m) ⊎ (k ≡ suc m)
 le_split k m h = grind arith
 
-within-grows : (g : Graph) (ls : List ℕ) (k m v : ℕ) → k ≤ m → level_within g ls k v ≤ level_within g ls m v
+within-grows : (g : Graph) (ls : List ℕ) (k m v : ℕ) → k ≤ m → bounded_level g ls k v ≤ bounded_level g ls m v
 within-grows g ls k zero v h = let e : k ≡ 0 = omega arith in rw e (omega arith)
 within-grows g ls k (suc m) v h = go (le_split k m h) (within-grows g ls k m v)
   where
-    go : (k ≤ m) ⊎ (k ≡ suc m) → (k ≤ m → level_within g ls k v ≤ level_within g ls m v) → level_within g ls k v ≤ level_within g ls (suc m) v
+    go : (k ≤ m) ⊎ (k ≡ suc m) → (k ≤ m → bounded_level g ls k v ≤ bounded_level g ls m v) → bounded_level g ls k v ≤ bounded_level g ls (suc m) v
     go (inl l) below = let a = below l in let b = within-more g ls m v in omega (arith, a, b)
     go (inr e) below = rw e (omega arith)
 
@@ -90,45 +90,45 @@ before-below g f v m le = greatest-below (λ b. cond (b.to == v) (f b.from) 0) g
     go true u = le u
     go false u = omega arith
 
-after-below : (g : Graph) (ls : List ℕ) (f : ℕ → ℕ) (v m : ℕ) → ((u : ℕ) → f u ≤ m) → level_after g ls f v ≤ suc m
-unfolding level_after
+after-below : (g : Graph) (ls : List ℕ) (f : ℕ → ℕ) (v m : ℕ) → ((u : ℕ) → f u ≤ m) → following_level g ls f v ≤ suc m
+unfolding following_level
 after-below g ls f v m le = go (is_follower g ls v) (before-below g f v m le)
   where
     go : (b : Bool) → most_before g f v ≤ m → cond b (most_before g f v + 1) 0 ≤ suc m
     go true k = omega arith
     go false k = omega arith
 
-pub within-below : (g : Graph) (ls : List ℕ) (k v : ℕ) → level_within g ls k v ≤ k
-unfolding level_within
+pub within-below : (g : Graph) (ls : List ℕ) (k v : ℕ) → bounded_level g ls k v ≤ k
+unfolding bounded_level
 within-below g ls zero v = omega arith
-within-below g ls (suc k) v = after-below g ls (level_within g ls k) v k (within-below g ls k)
+within-below g ls (suc k) v = after-below g ls (bounded_level g ls k) v k (within-below g ls k)
 
 -- along a path of followers the level rises
 rises : (g : Graph) (ls : List ℕ) (u : ℕ) (q : List ℕ) (v m t : ℕ) → is_path g (u ∷ q) ≡ true → last_is v (u ∷ q) ≡ true
-    → are_followers ls (u ∷ q) ≡ true → t ≡ m + length q → level_within g ls m u + length q ≤ level_within g ls t v
+    → are_followers ls (u ∷ q) ≡ true → t ≡ m + length q → bounded_level g ls m u + length q ≤ bounded_level g ls t v
 rises g ls u [] v m t e last o s =
     let a : t ≡ m = omega arith in
     let b : u ≡ v = eqb-true u v last in
     rw (a, b) (omega arith)
 rises g ls u (w ∷ q) v m t e last o s =
     let p = path_step g u w q e in
-    let k = and_parts (not (is_among u ls)) (are_followers ls (w ∷ q)) o in
-    let l = and_parts (not (is_among w ls)) (are_followers ls q) k.1 in
+    let k = and_parts (not (is_listed u ls)) (are_followers ls (w ∷ q)) o in
+    let l = and_parts (not (is_listed w ls)) (are_followers ls q) k.1 in
     let r = rises g ls w q v (suc m) t p.rest last k.1 (omega arith) in
     let follows = follower_from g ls w (path_below g (w ∷ q) w p.rest (inl refl)) l.0 in
-    let x : level_within g ls (suc m) w ≡ most_before g (level_within g ls m) w + 1 =
-    within-suc g ls m w ∙ after-follower g ls (level_within g ls m) w follows in
-    let y = before-arc g (level_within g ls m) u w p.arc in
+    let x : bounded_level g ls (suc m) w ≡ most_before g (bounded_level g ls m) w + 1 =
+    within-suc g ls m w ∙ after-follower g ls (bounded_level g ls m) w follows in
+    let y = before-arc g (bounded_level g ls m) u w p.arc in
     omega (arith, r, x, y)
 
 pub level-most : (g : Graph) (ls : List ℕ) (v : ℕ) (p : List ℕ) → is_path g p ≡ true → last_is v p ≡ true → are_followers ls p ≡ true
-    → length p ≤ level_of g ls v
-unfolding level_of
+    → length p ≤ party_level g ls v
+unfolding party_level
 level-most g ls v [] e last o = absurd (cc e)
 level-most g ls v (u ∷ q) e last o =
-    let k = and_parts (not (is_among u ls)) (are_followers ls q) o in
+    let k = and_parts (not (is_listed u ls)) (are_followers ls q) o in
     let follows = follower_from g ls u (path_below g (u ∷ q) u e (inl refl)) k.0 in
-    let x : level_within g ls 1 u ≡ most_before g (level_within g ls 0) u + 1 = within-suc g ls 0 u ∙ after-follower g ls (level_within g ls 0) u follows in
+    let x : bounded_level g ls 1 u ≡ most_before g (bounded_level g ls 0) u + 1 = within-suc g ls 0 u ∙ after-follower g ls (bounded_level g ls 0) u follows in
     let r = rises g ls u q v 1 (1 + length q) e last o refl in
     let n = path_length g (u ∷ q) e in
     let m = within-grows g ls (1 + length q) g.n v (omega arith) in
@@ -150,7 +150,7 @@ module _ (g : Graph) (ls : List ℕ) (feedback : IsFeedback g ls) where
   alone : (v : ℕ) → is_follower g ls v ≡ true → Run v 1
   alone v e =
       let k = follower_parts g ls v e in
-      record { run = v ∷ []; path = lt-ltb v g.n k.0; last = eq-eqb v v refl; followers = and_both (not (is_among v ls)) true k.1 refl; size = omega arith }
+      record { run = v ∷ []; path = lt-ltb v g.n k.0; last = eq-eqb v v refl; followers = and_both (not (is_listed v ls)) true k.1 refl; size = omega arith }
 
   further : (u v k : ℕ) → is_follower g ls v ≡ true → has_arc g u v ≡ true → Run u k → Run v (k + 1)
   further u v k e a r =
@@ -165,7 +165,7 @@ module _ (g : Graph) (ls : List ℕ) (feedback : IsFeedback g ls) where
         run = r.run ++ v ∷ [];
         path = p.0;
         last = p.1;
-        followers = followers-append ls r.run v r.followers (no_not (is_among v ls) f.1);
+        followers = followers-append ls r.run v r.followers (no_not (is_listed v ls) f.1);
         size =
             omega arith;
       }
@@ -174,68 +174,68 @@ module _ (g : Graph) (ls : List ℕ) (feedback : IsFeedback g ls) where
       no_not true h = absurd (cc h)
       no_not false h = refl
 
-  pub within-reached : (k v : ℕ) → (level_within g ls k v ≡ 0) ⊎ Run v (level_within g ls k v)
-  unfolding level_within
+  pub within-reached : (k v : ℕ) → (bounded_level g ls k v ≡ 0) ⊎ Run v (bounded_level g ls k v)
+  unfolding bounded_level
   within-reached zero v = inl refl
   within-reached (suc k) v = go (within-reached k) (is_follower g ls v) refl
     where
-      by_before : ((u : ℕ) → (level_within g ls k u ≡ 0) ⊎ Run u (level_within g ls k u)) → is_follower g ls v ≡ true
-          → (most_before g (level_within g ls k) v ≡ 0) ⊎ ((u : ℕ) × (has_arc g u v ≡ true)
-          × (level_within g ls k u ≡ most_before g (level_within g ls k) v)) → Run v (most_before g (level_within g ls k) v + 1)
+      by_before : ((u : ℕ) → (bounded_level g ls k u ≡ 0) ⊎ Run u (bounded_level g ls k u)) → is_follower g ls v ≡ true
+          → (most_before g (bounded_level g ls k) v ≡ 0) ⊎ ((u : ℕ) × (has_arc g u v ≡ true)
+          × (bounded_level g ls k u ≡ most_before g (bounded_level g ls k) v)) → Run v (most_before g (bounded_level g ls k) v + 1)
       by_before rest e (inl z) = rw z (alone v e)
       by_before rest e (inr r) = by_run r.0 r.1 r.2 (rest r.0)
         where
-          by_run : (u : ℕ) → has_arc g u v ≡ true → level_within g ls k u ≡ most_before g (level_within g ls k) v
-              → (level_within g ls k u ≡ 0) ⊎ Run u (level_within g ls k u) → Run v (most_before g (level_within g ls k) v + 1)
-          by_run u a s (inl z) = let y : most_before g (level_within g ls k) v ≡ 0 = sym s ∙ z in rw y (alone v e)
-          by_run u a s (inr q) = further u v (most_before g (level_within g ls k) v) e a (subst (Run u) s q)
+          by_run : (u : ℕ) → has_arc g u v ≡ true → bounded_level g ls k u ≡ most_before g (bounded_level g ls k) v
+              → (bounded_level g ls k u ≡ 0) ⊎ Run u (bounded_level g ls k u) → Run v (most_before g (bounded_level g ls k) v + 1)
+          by_run u a s (inl z) = let y : most_before g (bounded_level g ls k) v ≡ 0 = sym s ∙ z in rw y (alone v e)
+          by_run u a s (inr q) = further u v (most_before g (bounded_level g ls k) v) e a (subst (Run u) s q)
 
-      go : ((u : ℕ) → (level_within g ls k u ≡ 0) ⊎ Run u (level_within g ls k u)) → (b : Bool) → is_follower g ls v ≡ b
-          → (level_after g ls (level_within g ls k) v ≡ 0) ⊎ Run v (level_after g ls (level_within g ls k) v)
-      go rest true e = inr (rw (after-follower g ls (level_within g ls k) v e) (by_before rest e (before-reached g (level_within g ls k) v)))
-      go rest false e = inl (after-other g ls (level_within g ls k) v e)
+      go : ((u : ℕ) → (bounded_level g ls k u ≡ 0) ⊎ Run u (bounded_level g ls k u)) → (b : Bool) → is_follower g ls v ≡ b
+          → (following_level g ls (bounded_level g ls k) v ≡ 0) ⊎ Run v (following_level g ls (bounded_level g ls k) v)
+      go rest true e = inr (rw (after-follower g ls (bounded_level g ls k) v e) (by_before rest e (before-reached g (bounded_level g ls k) v)))
+      go rest false e = inl (after-other g ls (bounded_level g ls k) v e)
 
-  level-reached : (v : ℕ) → (level_of g ls v ≡ 0) ⊎ Run v (level_of g ls v)
-  unfolding level_of
+  level-reached : (v : ℕ) → (party_level g ls v ≡ 0) ⊎ Run v (party_level g ls v)
+  unfolding party_level
   level-reached v = within-reached g.n v
 
-  pub is_level : (v : ℕ) → IsLevel g ls v (level_of g ls v)
+  pub is_level : (v : ℕ) → IsLevel g ls v (party_level g ls v)
   is_level v = record { reached = go (level-reached v); most = level-most g ls v }
     where
-      go : (level_of g ls v ≡ 0) ⊎ Run v (level_of g ls v) → (level_of g ls v ≡ 0)
-          ⊎ ((p : List ℕ) × IsTrue (is_path g p) × IsTrue (last_is v p) × IsTrue (are_followers ls p) × (length p ≡ level_of g ls v))
+      go : (party_level g ls v ≡ 0) ⊎ Run v (party_level g ls v) → (party_level g ls v ≡ 0)
+          ⊎ ((p : List ℕ) × IsTrue (is_path g p) × IsTrue (last_is v p) × IsTrue (are_followers ls p) × (length p ≡ party_level g ls v))
       go (inl z) = inl z
       go (inr r) = inr (r.run, r.path, r.last, r.followers, r.size)
 
-  last_of : (u : ℕ) (p : List ℕ) → is_path g (u ∷ p) ≡ true → (v : ℕ) × (last_is v (u ∷ p) ≡ true) × (v < g.n)
-  last_of u [] e = (u, eq-eqb u u refl, ltb-true u g.n e)
-  last_of u (w ∷ p) e = let s = path_step g u w p e in last_of w p s.rest
+  last_run : (u : ℕ) (p : List ℕ) → is_path g (u ∷ p) ≡ true → (v : ℕ) × (last_is v (u ∷ p) ≡ true) × (v < g.n)
+  last_run u [] e = (u, eq-eqb u u refl, ltb-true u g.n e)
+  last_run u (w ∷ p) e = let s = path_step g u w p e in last_run w p s.rest
 
-  height-most : (p : List ℕ) → is_path g p ≡ true → are_followers ls p ≡ true → length p ≤ height_of g ls
-  unfolding height_of
+  height-most : (p : List ℕ) → is_path g p ≡ true → are_followers ls p ≡ true → length p ≤ latest_height g ls
+  unfolding latest_height
   height-most [] e o = absurd (cc e)
   height-most (u ∷ p) e o =
-      let l = last_of u p e in
+      let l = last_run u p e in
       let a = level-most g ls l.0 (u ∷ p) e l.1 o in
-      let b = greatest-in (level_of g ls) (parties g) l.0 (in_range l.0 g.n l.2) in
+      let b = greatest-in (party_level g ls) (parties g) l.0 (in_range l.0 g.n l.2) in
       omega (arith, a, b)
 
-  height-reached : (height_of g ls ≡ 0) ⊎ ((p : List ℕ) × IsTrue (is_path g p) × IsTrue (are_followers ls p) × (length p ≡ height_of g ls))
-  unfolding height_of
-  height-reached = go (greatest-reached (level_of g ls) (parties g))
+  height-reached : (latest_height g ls ≡ 0) ⊎ ((p : List ℕ) × IsTrue (is_path g p) × IsTrue (are_followers ls p) × (length p ≡ latest_height g ls))
+  unfolding latest_height
+  height-reached = go (greatest-reached (party_level g ls) (parties g))
     where
-      by_run : (v h : ℕ) → level_of g ls v ≡ h → (level_of g ls v ≡ 0) ⊎ Run v (level_of g ls v)
+      by_run : (v h : ℕ) → party_level g ls v ≡ h → (party_level g ls v ≡ 0) ⊎ Run v (party_level g ls v)
           → (h ≡ 0) ⊎ ((p : List ℕ) × IsTrue (is_path g p) × IsTrue (are_followers ls p) × (length p ≡ h))
       by_run v h e (inl z) = inl (sym e ∙ z)
       by_run v h e (inr r) = inr (r.run, r.path, r.followers, r.size ∙ e)
 
-      go : (greatest (level_of g ls) (parties g) ≡ 0) ⊎ ((v : ℕ) × IsIn v (parties g) × (level_of g ls v ≡ greatest (level_of g ls) (parties g)))
-          → (greatest (level_of g ls) (parties g) ≡ 0) ⊎ ((p : List ℕ) × IsTrue (is_path g p) × IsTrue (are_followers ls p)
-          × (length p ≡ greatest (level_of g ls) (parties g)))
+      go : (greatest (party_level g ls) (parties g) ≡ 0) ⊎ ((v : ℕ) × IsIn v (parties g) × (party_level g ls v ≡ greatest (party_level g ls) (parties g)))
+          → (greatest (party_level g ls) (parties g) ≡ 0) ⊎ ((p : List ℕ) × IsTrue (is_path g p) × IsTrue (are_followers ls p)
+          × (length p ≡ greatest (party_level g ls) (parties g)))
       go (inl z) = inl z
-      go (inr r) = by_run r.0 (greatest (level_of g ls) (parties g)) r.2 (level-reached r.0)
+      go (inr r) = by_run r.0 (greatest (party_level g ls) (parties g)) r.2 (level-reached r.0)
 
-  pub is_height : IsHeight g ls (height_of g ls)
+  pub is_height : IsHeight g ls (latest_height g ls)
   is_height = record { reached = height-reached; most = height-most }
 
 pub greatest_level_is_height : GreatestLevelIsHeight

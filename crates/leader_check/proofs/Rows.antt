@@ -12,8 +12,9 @@ use Rattle.swap_base.proofs.Lists.{below_or}
 use Rattle.swap_digraph.specs.Value.{Graph}
 use Rattle.swap_digraph.specs.Graph.{parties}
 use Rattle.leader_check.specs.Followers.{is_follower, at}
-use Rattle.leader_check.specs.Levels.{most_before, level_after, level_within, levels_within, level_of, height_of}
-use Rattle.leader_check.specs.Cycles.{only_if, leads_into, first_step, walks, walk_of, cycle_of, cycle_from, has_bit, has_bit_in, cycle_by, TellsWalks}
+use Rattle.leader_check.specs.Levels.{most_before, following_level, bounded_level, bounded_levels, party_level, latest_height}
+use Rattle.leader_check.specs.Cycles.{only_if, enters_led, first_step, walks, walk_of, shortest_cycle, traced_cycle, has_bit, has_row_bit}
+use Rattle.leader_check.specs.Cycles.{distance_cycle, TellsWalks}
 use Rattle.leader_check.specs.Cycles.{TellAllWalks}
 use Rattle.leader_check.proofs.Followers.{follower_parts}
 use Rattle.leader_check.proofs.Heights.{after-other, within-below}
@@ -41,10 +42,10 @@ no_follower g ls v le = by_test (is_follower g ls v) (λ e. let k = (follower_pa
     by_test true h = absurd (h refl)
     by_test false h = refl
 
-within-outside : (g : Graph) (ls : List ℕ) (k v : ℕ) → g.n ≤ v → level_within g ls k v ≡ 0
-unfolding level_within
+within-outside : (g : Graph) (ls : List ℕ) (k v : ℕ) → g.n ≤ v → bounded_level g ls k v ≡ 0
+unfolding bounded_level
 within-outside g ls zero v le = refl
-within-outside g ls (suc k) v le = after-other g ls (level_within g ls k) v (no_follower g ls v le)
+within-outside g ls (suc k) v le = after-other g ls (bounded_level g ls k) v (no_follower g ls v le)
 
 walks-outside : (g : Graph) (ls : List ℕ) (v k u : ℕ) → g.n ≤ u → walks g ls v k u ≡ false
 walks-outside g ls v k u le = by_test (walks g ls v k u) (λ e. let m = (follower_parts g ls u (on.walks-follower g ls v k u e)).0 in omega arith)
@@ -58,8 +59,8 @@ follows_at g ls follows e = fun_ext (row_reads (is_follower g ls) g.n false foll
 
 -- The rounds of levels.
 
-pub levels_none : (g : Graph) (ls : List ℕ) → replicate {A = ℕ} g.n 0 ≡ levels_within g ls 0
-unfolding level_within
+pub levels_none : (g : Graph) (ls : List ℕ) → replicate {A = ℕ} g.n 0 ≡ bounded_levels g ls 0
+unfolding bounded_level
 levels_none g ls = go 0 g.n
   where
     go : (a n : ℕ) → replicate {A = ℕ} n 0 ≡ map (λ (v : ℕ). 0) (range_with_len a n)
@@ -67,32 +68,32 @@ levels_none g ls = go 0 g.n
     go a (suc n) = ap (λ xs. 0 ∷ xs) (go (a + 1) n)
 
 pub levels_next : (g : Graph) (ls : List ℕ) (k : ℕ) (follows : List Bool) (row next : List ℕ) → follows ≡ map (is_follower g ls) (parties g)
-    → row ≡ levels_within g ls k → next ≡ map (λ v. cond (at follows v) (most_before g (slice_index row) v + 1) 0) (parties g)
-    → next ≡ levels_within g ls (k + 1)
-unfolding level_within level_after
+    → row ≡ bounded_levels g ls k → next ≡ map (λ v. cond (at follows v) (most_before g (slice_index row) v + 1) 0) (parties g)
+    → next ≡ bounded_levels g ls (k + 1)
+unfolding bounded_level following_level
 levels_next g ls k follows row next e is h =
     let s : k + 1 ≡ suc k = omega arith in
-    let f : slice_index row ≡ level_within g ls k = fun_ext (row_reads (level_within g ls k) g.n 0 row (within-outside g ls k) is) in
+    let f : slice_index row ≡ bounded_level g ls k = fun_ext (row_reads (bounded_level g ls k) g.n 0 row (within-outside g ls k) is) in
     h ∙ ap (λ (t : ℕ → Bool). map (λ v. cond (t v) (most_before g (slice_index row) v + 1) 0) (parties g)) (follows_at g ls follows e)
-    ∙ ap (λ (t : ℕ → ℕ). map (λ v. cond (is_follower g ls v) (most_before g t v + 1) 0) (parties g)) f ∙ ap (levels_within g ls) (sym s)
+    ∙ ap (λ (t : ℕ → ℕ). map (λ v. cond (is_follower g ls v) (most_before g t v + 1) 0) (parties g)) f ∙ ap (bounded_levels g ls) (sym s)
 
-pub levels_low : (g : Graph) (ls : List ℕ) (k : ℕ) (row : List ℕ) → row ≡ levels_within g ls k → k ≤ 32 → (v : ℕ) → slice_index row v ≤ 32
+pub levels_low : (g : Graph) (ls : List ℕ) (k : ℕ) (row : List ℕ) → row ≡ bounded_levels g ls k → k ≤ 32 → (v : ℕ) → slice_index row v ≤ 32
 levels_low g ls k row e le v =
-    let a = row_reads (level_within g ls k) g.n 0 row (within-outside g ls k) e v in
+    let a = row_reads (bounded_level g ls k) g.n 0 row (within-outside g ls k) e v in
     let b = within-below g ls k v in
     omega (arith, a, b)
 
-pub levels_all : (g : Graph) (ls : List ℕ) (k : ℕ) (row : List ℕ) → row ≡ levels_within g ls k → k ≡ g.n → row ≡ map (level_of g ls) (parties g)
-unfolding level_of
-levels_all g ls k row e s = e ∙ ap (levels_within g ls) s
+pub levels_all : (g : Graph) (ls : List ℕ) (k : ℕ) (row : List ℕ) → row ≡ bounded_levels g ls k → k ≡ g.n → row ≡ map (party_level g ls) (parties g)
+unfolding party_level
+levels_all g ls k row e s = e ∙ ap (bounded_levels g ls) s
 
 pub greatest-map : (f : ℕ → ℕ) (xs : List ℕ) → greatest (λ x. x) (map f xs) ≡ greatest f xs
 greatest-map f [] = refl
 greatest-map f (x ∷ xs) = ap (max (f x)) (greatest-map f xs)
 
-pub height_is : (g : Graph) (ls : List ℕ) (row : List ℕ) → row ≡ map (level_of g ls) (parties g) → greatest (λ x. x) row ≡ height_of g ls
-unfolding height_of
-height_is g ls row e = ap (greatest (λ x. x)) e ∙ greatest-map (level_of g ls) (parties g)
+pub height_is : (g : Graph) (ls : List ℕ) (row : List ℕ) → row ≡ map (party_level g ls) (parties g) → greatest (λ x. x) row ≡ latest_height g ls
+unfolding latest_height
+height_is g ls row e = ap (greatest (λ x. x)) e ∙ greatest-map (party_level g ls) (parties g)
 
 -- The rows of walks.
 
@@ -121,15 +122,15 @@ walks_none g ls follows row e size stays =
     }
 
 pub walks_next : (g : Graph) (ls : List ℕ) (k : ℕ) (follows : List Bool) (row next : List ℕ) → follows ≡ map (is_follower g ls) (parties g)
-    → TellsWalks g ls k row → length next ≡ g.n → ((v u : ℕ) → u < g.n → has_bit next v u ≡ (at follows u && leads_into g (has_bit row v) u))
+    → TellsWalks g ls k row → length next ≡ g.n → ((v u : ℕ) → u < g.n → has_bit next v u ≡ (at follows u && enters_led g (has_bit row v) u))
     → TellsWalks g ls (k + 1) next
 unfolding walks
 walks_next g ls k follows row next e tells size leads =
     let s : suc k ≡ k + 1 = omega arith in
     let at_row : (v : ℕ) → has_bit row v ≡ walks g ls v k = λ v. fun_ext (tells.tells v) in
     let inside : (v u : ℕ) → u < g.n → has_bit next v u ≡ walks g ls v (suc k) u =
-    λ v u lt. leads v u lt ∙ ap (λ (t : ℕ → Bool). t u && leads_into g (has_bit row v) u) (follows_at g ls follows e)
-    ∙ ap (λ (t : ℕ → Bool). is_follower g ls u && leads_into g t u) (at_row v) in
+    λ v u lt. leads v u lt ∙ ap (λ (t : ℕ → Bool). t u && enters_led g (has_bit row v) u) (follows_at g ls follows e)
+    ∙ ap (λ (t : ℕ → Bool). is_follower g ls u && enters_led g t u) (at_row v) in
     subst (λ (j : ℕ). TellsWalks g ls j next) s (record {
       parties = size;
       tells =
@@ -193,7 +194,7 @@ same_walk g f h (suc k) u e =
     ap (λ (t : ℕ → Bool). u ∷ walk_of g f k (first_step g t u)) (e k (omega arith))
     ∙ ap (λ (xs : List ℕ). u ∷ xs) (same_walk g f h k (first_step g (h k) u) (λ j lt. e j (omega arith)))
 
-same_cycle : (g : Graph) (f h : ℕ → ℕ → Bool) (v k : ℕ) → ((j : ℕ) → j ≤ k → f j ≡ h j) → cycle_by g f v k ≡ cycle_by g h v k
+same_cycle : (g : Graph) (f h : ℕ → ℕ → Bool) (v k : ℕ) → ((j : ℕ) → j ≤ k → f j ≡ h j) → distance_cycle g f v k ≡ distance_cycle g h v k
 same_cycle g f h v k e =
     ap (λ (t : ℕ → Bool). only_if (t v) (walk_of g f k v)) (e k (omega arith))
     ∙ ap (λ (xs : List ℕ). only_if (h k v) xs) (same_walk g f h k v (λ j lt. e j (omega arith)))
@@ -205,11 +206,11 @@ first_same {B = B} f h a (suc n) e =
     ∙ ap (λ (o : Option B). or_else (h a) o) (first_same f h (a + 1) n (λ k lt. e k (omega arith)))
 
 pub cycle_is_from : (g : Graph) (ls : List ℕ) (rows : List (List ℕ)) (v : ℕ) → TellAllWalks g ls rows
-    → first_of (cycle_by g (has_bit_in rows v) v) (range_with_len 1 g.n) ≡ cycle_from g ls v
-unfolding cycle_from
+    → first_of (distance_cycle g (has_row_bit rows v) v) (range_with_len 1 g.n) ≡ traced_cycle g ls v
+unfolding traced_cycle
 cycle_is_from g ls rows v tell =
-    first_same (cycle_by g (has_bit_in rows v) v) (cycle_of g ls v) 1 g.n (λ k lt.
-    same_cycle g (has_bit_in rows v) (walks g ls v) v k (λ j le. fun_ext ((tell.row j (omega arith)).tells v)))
+    first_same (distance_cycle g (has_row_bit rows v) v) (shortest_cycle g ls v) 1 g.n (λ k lt.
+    same_cycle g (has_row_bit rows v) (walks g ls v) v k (λ j le. fun_ext ((tell.row j (omega arith)).tells v)))
 
 -- The loop that walks.
 

@@ -6,12 +6,12 @@ use Rattle.swap_base.specs.Lists.{or_else, first_of, IsIn}
 use Rattle.swap_base.proofs.Lists.{and_parts, and_both, any_at, list_any-in, in_from_moment, in_range, in_range_from, first_at, first_of-in}
 use Rattle.swap_base.proofs.Lists.{none_in, below_or}
 use Rattle.swap_digraph.specs.Value.{Graph}
-use Rattle.swap_digraph.specs.Graph.{parties, is_path, has_arc, is_among, first_is, last_is, are_followers, IsPathBetween, IsFeedback}
+use Rattle.swap_digraph.specs.Graph.{parties, is_path, has_arc, is_listed, first_is, last_is, are_followers, IsConnectingPath, IsFeedback}
 use Rattle.leader_check.specs.Followers.{is_follower}
-use Rattle.leader_check.specs.Cycles.{only_if, leads_into, first_step, walks, walk_of, cycle_of, cycle_from, follower_cycle, IsFollowerCycle}
+use Rattle.leader_check.specs.Cycles.{only_if, enters_led, first_step, walks, walk_of, shortest_cycle, traced_cycle, follower_cycle, IsFollowerCycle}
 use Rattle.leader_check.specs.Cycles.{IsCycleThrough}
 use Rattle.leader_check.specs.Laws.{NoCycleIsFeedback}
-use Rattle.leader_check.proofs.Followers.{follower_parts, follower_from, arc_of, arc_from}
+use Rattle.leader_check.proofs.Followers.{follower_parts, follower_from, parse_arc, arc_from}
 use Rattle.swap_digraph.proofs.Paths.{path_step, path_more, path_below, path_length, some_length}
 
 -- The first answer along a range.
@@ -71,7 +71,7 @@ module _ (g : Graph) (ls : List ℕ) where
     pub rest : walks g ls v k next ≡ true
 
   pub walks-suc : (v k u : ℕ) → walks g ls v (suc k) u ≡ true → Onward v k u
-  unfolding walks leads_into
+  unfolding walks enters_led
   walks-suc v k u e =
       let p = and_parts (is_follower g ls u) (list_any (λ a. (a.from == u) && walks g ls v k a.to) g.arcs) e in
       let m = any_at (λ a. (a.from == u) && walks g ls v k a.to) g.arcs p.1 in
@@ -86,9 +86,9 @@ module _ (g : Graph) (ls : List ℕ) where
       }
 
   pub walks-step : (v k u w : ℕ) → is_follower g ls u ≡ true → has_arc g u w ≡ true → walks g ls v k w ≡ true → walks g ls v (suc k) u ≡ true
-  unfolding walks leads_into
+  unfolding walks enters_led
   walks-step v k u w f e r =
-      let a = arc_of g u w e in
+      let a = parse_arc g u w e in
       and_both (is_follower g ls u) (list_any (λ b. (b.from == u) && walks g ls v k b.to) g.arcs) f
       (list_any-in (λ b. (b.from == u) && walks g ls v k b.to) g.arcs a.arc
       (and_both (a.arc.from == u) (walks g ls v k a.arc.to) (eq-eqb a.arc.from u a.from) (ap (walks g ls v k) a.to ∙ r)) a.among)
@@ -113,10 +113,10 @@ module _ (g : Graph) (ls : List ℕ) where
     pub arc : has_arc g u s ≡ true
     pub holds : f s ≡ true
 
-  least_of : (f : ℕ → Bool) (u : ℕ) (o : Option ℕ) → first_of (λ w. only_if (has_arc g u w && f w) w) (parties g) ≡ o → is_some o ≡ true
+  least_number : (f : ℕ → Bool) (u : ℕ) (o : Option ℕ) → first_of (λ w. only_if (has_arc g u w && f w) w) (parties g) ≡ o → is_some o ≡ true
       → Least f u (unwrap_or o 0)
-  least_of f u None e s = absurd (cc s)
-  least_of f u (Some y) e s =
+  least_number f u None e s = absurd (cc s)
+  least_number f u (Some y) e s =
       let m = first_at (λ w. only_if (has_arc g u w && f w) w) (parties g) y e in
       let k = only_if-some (has_arc g u m.now && f m.now) m.now y m.gives in
       let p = and_parts (has_arc g u m.now) (f m.now) k.0 in
@@ -125,7 +125,7 @@ module _ (g : Graph) (ls : List ℕ) where
   first_step-is : (f : ℕ → Bool) (u w : ℕ) → w < g.n → has_arc g u w ≡ true → f w ≡ true → Least f u (first_step g f u)
   unfolding first_step
   first_step-is f u w b a h =
-      least_of f u (first_of (λ x. only_if (has_arc g u x && f x) x) (parties g)) refl
+      least_number f u (first_of (λ x. only_if (has_arc g u x && f x) x) (parties g)) refl
       (first_of-in (λ x. only_if (has_arc g u x && f x) x) (parties g) w w (in_range w g.n b) (ap (λ t. only_if t w) (and_both (has_arc g u w) (f w) a h)))
 
   onward : (v k u : ℕ) → walks g ls v (suc k) u ≡ true → Least (walks g ls v k) u (first_step g (walks g ls v k) u)
@@ -191,7 +191,7 @@ module _ (g : Graph) (ls : List ℕ) where
         end = u;
         last = eq-eqb u u refl;
         closes = ap (has_arc g u) (sym (walks-zero v o.next o.rest).1) ∙ o.arc;
-        followers = and_both (not (is_among u ls)) true f.1 refl;
+        followers = and_both (not (is_listed u ls)) true f.1 refl;
       }
   chain v (suc k) u e short =
       let l = onward v (suc k) u e in
@@ -209,7 +209,7 @@ module _ (g : Graph) (ls : List ℕ) where
         end = c.end;
         last = c.last;
         closes = c.closes;
-        followers = and_both (not (is_among u ls)) (are_followers ls (walk_of g (walks g ls v) (suc k) s)) f.1 c.followers;
+        followers = and_both (not (is_listed u ls)) (are_followers ls (walk_of g (walks g ls v) (suc k) s)) f.1 c.followers;
       }
 
   -- The cycle that is shown.
@@ -223,10 +223,10 @@ module _ (g : Graph) (ls : List ℕ) where
     pub is : walk_of g (walks g ls v) size v ≡ c
     pub shortest : Shortest v size v
 
-  pub closed_from : (v : ℕ) (c : List ℕ) → cycle_from g ls v ≡ Some c → Closed v c
-  unfolding cycle_from
+  pub closed_from : (v : ℕ) (c : List ℕ) → traced_cycle g ls v ≡ Some c → Closed v c
+  unfolding traced_cycle
   closed_from v c e =
-      let m = first_in (cycle_of g ls v) 1 g.n c e in
+      let m = first_in (shortest_cycle g ls v) 1 g.n c e in
       let k = only_if-some (walks g ls v m.now v) (walk_of g (walks g ls v) m.now v) c m.gives in
       let t = m.to in
       record {
@@ -240,13 +240,13 @@ module _ (g : Graph) (ls : List ℕ) where
       }
 
   -- a closed walk from v is found
-  walk_found : (v k : ℕ) → 1 ≤ k → k ≤ g.n → walks g ls v k v ≡ true → cycle_from g ls v ≡ None → ⊥
-  unfolding cycle_from
+  walk_found : (v k : ℕ) → 1 ≤ k → k ≤ g.n → walks g ls v k v ≡ true → traced_cycle g ls v ≡ None → ⊥
+  unfolding traced_cycle
   walk_found v k low high w e =
       not_both (walks g ls v k v) (walk_of g (walks g ls v) k v) w
-      (none_in (cycle_of g ls v) (range_with_len 1 g.n) k e (in_range_from 1 k g.n low (omega arith)))
+      (none_in (shortest_cycle g ls v) (range_with_len 1 g.n) k e (in_range_from 1 k g.n low (omega arith)))
 
-  least_first : (v : ℕ) (c : List ℕ) → ((j : ℕ) → 0 ≤ j → j < v → cycle_from g ls j ≡ None) → Closed v c → (x : ℕ) → IsIn x c → v ≤ x
+  least_first : (v : ℕ) (c : List ℕ) → ((j : ℕ) → 0 ≤ j → j < v → traced_cycle g ls j ≡ None) → Closed v c → (x : ℕ) → IsIn x c → v ≤ x
   least_first v c none k x i = go (below_or x v)
     where
       go : (x < v) ⊎ (v ≤ x) → v ≤ x
@@ -256,7 +256,7 @@ module _ (g : Graph) (ls : List ℕ) where
           let s = b.sum in
           absurd (walk_found x k.size k.low k.high (walks-join v x b.after b.before k.size x (omega arith) b.on b.to) (none x (omega arith) h))
 
-  cycle_by_size : (v m : ℕ) (c : List ℕ) → ((j : ℕ) → 0 ≤ j → j < v → cycle_from g ls j ≡ None) → (k : Closed v c) → k.size ≡ m → IsFollowerCycle g ls c
+  cycle_by_size : (v m : ℕ) (c : List ℕ) → ((j : ℕ) → 0 ≤ j → j < v → traced_cycle g ls j ≡ None) → (k : Closed v c) → k.size ≡ m → IsFollowerCycle g ls c
   cycle_by_size v zero c none k s = let l = k.low in absurd (omega arith)
   cycle_by_size v (suc m) c none k s =
       let r = chain v m v (ap (λ j. walks g ls v j v) (sym s) ∙ k.walk) (λ j low below. k.shortest j low (omega arith)) in
@@ -267,7 +267,7 @@ module _ (g : Graph) (ls : List ℕ) where
   pub cycle_is : (c : List ℕ) → follower_cycle g ls ≡ Some c → IsFollowerCycle g ls c
   unfolding follower_cycle
   cycle_is c e =
-      let m = first_in (cycle_from g ls) 0 g.n c e in
+      let m = first_in (traced_cycle g ls) 0 g.n c e in
       let k = closed_from m.now c m.gives in
       cycle_by_size m.now k.size c m.below k refl
 
@@ -282,24 +282,24 @@ module _ (g : Graph) (ls : List ℕ) where
   path_walks : (u : ℕ) (q : List ℕ) (v t : ℕ) → is_path g (u ∷ q) ≡ true → last_is v (u ∷ q) ≡ true → are_followers ls (u ∷ q) ≡ true
       → has_arc g v t ≡ true → is_follower g ls t ≡ true → walks g ls t (suc (length q)) u ≡ true
   path_walks u [] v t e last o a f =
-      let k = and_parts (not (is_among u ls)) true o in
+      let k = and_parts (not (is_listed u ls)) true o in
       let same : u ≡ v = eqb-true u v last in
       walks-step t 0 u t (follower_from g ls u (path_below g (u ∷ []) u e (inl refl)) k.0) (ap (λ x. has_arc g x t) same ∙ a) (walks-none t f)
   path_walks u (w ∷ q) v t e last o a f =
       let s = path_step g u w q e in
-      let k = and_parts (not (is_among u ls)) (are_followers ls (w ∷ q)) o in
+      let k = and_parts (not (is_listed u ls)) (are_followers ls (w ∷ q)) o in
       walks-step t (suc (length q)) u w (follower_from g ls u s.below k.0) s.arc (path_walks w q v t s.rest last k.1 a f)
 
-  no_arc_back : (u v : ℕ) (p : List ℕ) → follower_cycle g ls ≡ None → IsPathBetween g u v p → are_followers ls p ≡ true → has_arc g v u ≡ true → ⊥
+  no_arc_back : (u v : ℕ) (p : List ℕ) → follower_cycle g ls ≡ None → IsConnectingPath g u v p → are_followers ls p ≡ true → has_arc g v u ≡ true → ⊥
   unfolding follower_cycle
   no_arc_back u v [] none b o a = cc b.0
   no_arc_back u v (x ∷ q) none b o a =
       let same : x ≡ u = eqb-true x u b.1 in
-      let k = and_parts (not (is_among x ls)) (are_followers ls q) o in
+      let k = and_parts (not (is_listed x ls)) (are_followers ls q) o in
       let below = path_below g (x ∷ q) x b.0 (inl refl) in
       let w = path_walks x q v x b.0 b.2 o (ap (has_arc g v) same ∙ a) (follower_from g ls x below k.0) in
       let n = path_length g (x ∷ q) b.0 in
-      walk_found x (suc (length q)) (omega arith) (omega arith) w (none_in (cycle_from g ls) (parties g) x none (in_range x g.n below))
+      walk_found x (suc (length q)) (omega arith) (omega arith) w (none_in (traced_cycle g ls) (parties g) x none (in_range x g.n below))
 
   pub none_feedback : follower_cycle g ls ≡ None → IsFeedback g ls
   none_feedback none u v p b o = by_test (has_arc g v u) (no_arc_back u v p none b o)
@@ -322,11 +322,11 @@ module _ (g : Graph) (ls : List ℕ) where
   walk_length f zero u = refl
   walk_length f (suc k) u = ap (λ (n : ℕ). suc n) (walk_length f k (first_step g (f k) u))
 
-  cycle_walks : (v end : ℕ) (p : List ℕ) → IsPathBetween g v end p → are_followers ls p ≡ true → has_arc g end v ≡ true → walks g ls v (length p) v ≡ true
+  cycle_walks : (v end : ℕ) (p : List ℕ) → IsConnectingPath g v end p → are_followers ls p ≡ true → has_arc g end v ≡ true → walks g ls v (length p) v ≡ true
   cycle_walks v end [] b o a = absurd (cc b.0)
   cycle_walks v end (x ∷ q) b o a =
       let same : x ≡ v = eqb-true x v b.1 in
-      let k = and_parts (not (is_among x ls)) (are_followers ls q) o in
+      let k = and_parts (not (is_listed x ls)) (are_followers ls q) o in
       let below = path_below g (x ∷ q) x b.0 (inl refl) in
       subst (λ (y : ℕ). walks g ls y (suc (length q)) y ≡ true) same
       (path_walks x q end x b.0 b.2 o (ap (has_arc g end) same ∙ a) (follower_from g ls x below k.0))
@@ -346,15 +346,15 @@ module _ (g : Graph) (ls : List ℕ) where
         shortest = λ other end b o a. no_shorter other end long b o a (below_or (length other) k.size);
       }
     where
-      no_shorter : (other : List ℕ) (end : ℕ) → length c ≡ k.size → IsPathBetween g v end other → are_followers ls other ≡ true → has_arc g end v ≡ true
+      no_shorter : (other : List ℕ) (end : ℕ) → length c ≡ k.size → IsConnectingPath g v end other → are_followers ls other ≡ true → has_arc g end v ≡ true
           → (length other < k.size) ⊎ (k.size ≤ length other) → length c ≤ length other
       no_shorter other end long b o a (inl lt) = absurd (k.shortest (length other) (some_length g other b.0) lt (cycle_walks v end other b o a))
       no_shorter other end long b o a (inr le) = omega (arith, le, long)
 
-  pub through : (v : ℕ) (c : List ℕ) → cycle_from g ls v ≡ Some c → IsCycleThrough g ls v c
+  pub through : (v : ℕ) (c : List ℕ) → traced_cycle g ls v ≡ Some c → IsCycleThrough g ls v c
   through v c e = let k = closed_from v c e in through_by_size v k.size c k refl
 
-  pub none_through : (v end : ℕ) (p : List ℕ) → cycle_from g ls v ≡ None → IsPathBetween g v end p → are_followers ls p ≡ true → has_arc g end v ≡ true → ⊥
+  pub none_through : (v end : ℕ) (p : List ℕ) → traced_cycle g ls v ≡ None → IsConnectingPath g v end p → are_followers ls p ≡ true → has_arc g end v ≡ true → ⊥
   none_through v end p none b o a = walk_found v (length p) (some_length g p b.0) (path_length g p b.0) (cycle_walks v end p b o a) none
 
   -- A cycle that meets a vertex goes through it: from its first vertex on to v, and from v on to its end.
@@ -370,7 +370,7 @@ module _ (g : Graph) (ls : List ℕ) where
   meets : (v u w : ℕ) (q : List ℕ) → is_path g (u ∷ q) ≡ true → last_is w (u ∷ q) ≡ true → are_followers ls (u ∷ q) ≡ true → IsIn v (u ∷ q)
       → Meets v u w (suc (length q))
   meets v u w q e last o (inl s) =
-      let k = and_parts (not (is_among u ls)) (are_followers ls q) o in
+      let k = and_parts (not (is_listed u ls)) (are_followers ls q) o in
       let f = follower_from g ls u (path_below g (u ∷ q) u e (inl refl)) k.0 in
       record {
         before = 0;
@@ -384,7 +384,7 @@ module _ (g : Graph) (ls : List ℕ) where
   meets v u w [] e last o (inr i) = absurd i
   meets v u w (x ∷ q) e last o (inr i) =
       let s = path_step g u x q e in
-      let k = and_parts (not (is_among u ls)) (are_followers ls (x ∷ q)) o in
+      let k = and_parts (not (is_listed u ls)) (are_followers ls (x ∷ q)) o in
       let m = meets v x w q s.rest last k.1 i in
       let l = m.sum in
       record {
@@ -397,12 +397,12 @@ module _ (g : Graph) (ls : List ℕ) where
         sum = omega (arith, l);
       }
 
-  pub none_meets : (v u w : ℕ) (p : List ℕ) → cycle_from g ls v ≡ None → IsPathBetween g u w p → are_followers ls p ≡ true → has_arc g w u ≡ true
+  pub none_meets : (v u w : ℕ) (p : List ℕ) → traced_cycle g ls v ≡ None → IsConnectingPath g u w p → are_followers ls p ≡ true → has_arc g w u ≡ true
       → IsIn v p → ⊥
   none_meets v u w [] none b o a i = absurd (cc b.0)
   none_meets v u w (x ∷ q) none b o a i =
       let same : x ≡ u = eqb-true x u b.1 in
-      let k = and_parts (not (is_among x ls)) (are_followers ls q) o in
+      let k = and_parts (not (is_listed x ls)) (are_followers ls q) o in
       let below = path_below g (x ∷ q) x b.0 (inl refl) in
       let m = meets v x w q b.0 b.2 o i in
       let l = m.sum in

@@ -5,7 +5,7 @@ use Rattle.std.specs.Int.{bit_at}
 use Rattle.std.specs.List.{list_any, range_with_len}
 use Rattle.swap_base.specs.Lists.{first_of, IsIn}
 use Rattle.swap_digraph.specs.Value.{Graph}
-use Rattle.swap_digraph.specs.Graph.{parties, has_arc, are_followers, IsPathBetween}
+use Rattle.swap_digraph.specs.Graph.{parties, has_arc, are_followers, IsConnectingPath}
 use Rattle.leader_check.specs.Followers.{is_follower}
 
 -- x, where the test holds
@@ -14,8 +14,8 @@ only_if true x = Some x
 only_if false x = None
 
 -- whether u has an arc to a vertex at which f holds
-unfoldable pub leads_into : Graph → (ℕ → Bool) → ℕ → Bool
-leads_into g f u = list_any (λ a. (a.from == u) && f a.to) g.arcs
+unfoldable pub enters_led : Graph → (ℕ → Bool) → ℕ → Bool
+enters_led g f u = list_any (λ a. (a.from == u) && f a.to) g.arcs
 
 -- the least vertex to which u has an arc and at which f holds
 unfoldable pub first_step : Graph → (ℕ → Bool) → ℕ → ℕ
@@ -24,7 +24,7 @@ first_step g f u = unwrap_or (first_of (λ w. only_if (has_arc g u w && f w) w) 
 -- whether a walk of exactly k arcs leads over followers alone from u to v
 unfoldable pub walks : Graph → List ℕ → ℕ → ℕ → ℕ → Bool
 walks g leaders v zero u = is_follower g leaders u && (u == v)
-walks g leaders v (suc k) u = is_follower g leaders u && leads_into g (walks g leaders v k) u
+walks g leaders v (suc k) u = is_follower g leaders u && enters_led g (walks g leaders v k) u
 
 -- k vertices of a walk that begins with u: the least vertex comes next of those that f allows, and
 -- f tells which it allows by the number of arcs that are left
@@ -33,24 +33,24 @@ walk_of g f zero u = []
 walk_of g f (suc k) u = u ∷ walk_of g f k (first_step g (f k) u)
 
 -- the cycle of k vertices that begins with v: each next vertex is the least from which a walk leads back to v in the arcs that are left
-abbrev pub cycle_of : Graph → List ℕ → ℕ → ℕ → Option (List ℕ)
-cycle_of g leaders v k = only_if (walks g leaders v k v) (walk_of g (walks g leaders v) k v)
+abbrev pub shortest_cycle : Graph → List ℕ → ℕ → ℕ → Option (List ℕ)
+shortest_cycle g leaders v k = only_if (walks g leaders v k v) (walk_of g (walks g leaders v) k v)
 
 -- a shortest cycle of followers that begins with v
-unfoldable pub cycle_from : Graph → List ℕ → ℕ → Option (List ℕ)
-cycle_from g leaders v = first_of (cycle_of g leaders v) (range_with_len 1 g.n)
+unfoldable pub traced_cycle : Graph → List ℕ → ℕ → Option (List ℕ)
+traced_cycle g leaders v = first_of (shortest_cycle g leaders v) (range_with_len 1 g.n)
 
 -- a shortest cycle of followers through the least follower that lies on any, and of such cycles the least in the order of their vertices
 unfoldable pub follower_cycle : Graph → List ℕ → Option (List ℕ)
-follower_cycle g leaders = first_of (cycle_from g leaders) (parties g)
+follower_cycle g leaders = first_of (traced_cycle g leaders) (parties g)
 
 -- whether the number at place u of the list has bit v
 abbrev pub has_bit : List ℕ → ℕ → ℕ → Bool
 has_bit row v u = bit_at (slice_index row u) v == 1
 
 -- whether the number at place u of the k-th list has bit v
-abbrev pub has_bit_in : List (List ℕ) → ℕ → ℕ → ℕ → Bool
-has_bit_in rows v k u = has_bit (slice_index_or rows k []) v u
+abbrev pub has_row_bit : List (List ℕ) → ℕ → ℕ → ℕ → Bool
+has_row_bit rows v k u = has_bit (slice_index_or rows k []) v u
 
 -- Bit v of the number at place u tells whether a walk of exactly k arcs leads over followers alone from u to v.
 pub record TellsWalks (g : Graph) (leaders : List ℕ) (k : ℕ) (row : List ℕ) : Type 0 where
@@ -64,15 +64,15 @@ pub record TellAllWalks (g : Graph) (leaders : List ℕ) (rows : List (List ℕ)
 
 -- the cycle of k vertices that begins with v; f tells, by the number of arcs, from which vertices a
 -- walk leads to v
-abbrev pub cycle_by : Graph → (ℕ → ℕ → Bool) → ℕ → ℕ → Option (List ℕ)
-cycle_by g f v k = only_if (f k v) (walk_of g f k v)
+abbrev pub distance_cycle : Graph → (ℕ → ℕ → Bool) → ℕ → ℕ → Option (List ℕ)
+distance_cycle g f v k = only_if (f k v) (walk_of g f k v)
 
 -- The list is a cycle of distinct followers, and begins with its least.
 pub record IsFollowerCycle (g : Graph) (leaders list : List ℕ) : Type 0 where
   pub first : ℕ
   pub last : ℕ
   -- distinct vertices, each with an arc to the next
-  pub path : IsPathBetween g first last list
+  pub path : IsConnectingPath g first last list
   pub followers : IsTrue (are_followers leaders list)
   pub closes : IsTrue (has_arc g last first)
   pub least : (v : ℕ) → IsIn v list → first ≤ v
@@ -81,8 +81,8 @@ pub record IsFollowerCycle (g : Graph) (leaders list : List ℕ) : Type 0 where
 pub record IsCycleThrough (g : Graph) (leaders : List ℕ) (v : ℕ) (list : List ℕ) : Type 0 where
   pub last : ℕ
   -- distinct vertices, each with an arc to the next
-  pub path : IsPathBetween g v last list
+  pub path : IsConnectingPath g v last list
   pub followers : IsTrue (are_followers leaders list)
   pub closes : IsTrue (has_arc g last v)
-  pub shortest : (other : List ℕ) (end : ℕ) → IsPathBetween g v end other → IsTrue (are_followers leaders other) → IsTrue (has_arc g end v)
+  pub shortest : (other : List ℕ) (end : ℕ) → IsConnectingPath g v end other → IsTrue (are_followers leaders other) → IsTrue (has_arc g end v)
       → length list ≤ length other

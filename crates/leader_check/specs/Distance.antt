@@ -10,18 +10,18 @@ unfoldable pub most_after : Graph → (ℕ → ℕ) → ℕ → ℕ
 most_after g f v = greatest (λ a. if a.from == v then f a.to else 0) g.arcs
 
 -- the distance of v, where f is the distance of the vertices after it
-unfoldable pub dist_before : Graph → ℕ → (ℕ → ℕ) → ℕ → ℕ
-dist_before g leader f v = if is_follower g (leader ∷ []) v then most_after g f v + 1 else 0
+unfoldable pub prior_distance : Graph → ℕ → (ℕ → ℕ) → ℕ → ℕ
+prior_distance g leader f v = if is_follower g (leader ∷ []) v then most_after g f v + 1 else 0
 
 -- the distance of v, counted along walks of at most so many arcs
-unfoldable pub dist_within : Graph → ℕ → ℕ → ℕ → ℕ
-dist_within g leader zero v = 0
-dist_within g leader (suc most) v = dist_before g leader (dist_within g leader most) v
+unfoldable pub bounded_distance : Graph → ℕ → ℕ → ℕ → ℕ
+bounded_distance g leader zero v = 0
+bounded_distance g leader (suc most) v = prior_distance g leader (bounded_distance g leader most) v
 
 -- 0 for the leader; for a follower 1 plus the greatest distance of the counterparties of its leaving arcs
 unfoldable pub dist_of : Graph → ℕ → ℕ → ℕ
-dist_of g leader v = dist_within g leader g.n v
+dist_of g leader v = bounded_distance g leader g.n v
 
 -- the distances of the parties, counted along walks of at most so many arcs
-abbrev pub dists_within : Graph → ℕ → ℕ → List ℕ
-dists_within g leader most = map (dist_within g leader most) (parties g)
+abbrev pub bounded_distances : Graph → ℕ → ℕ → List ℕ
+bounded_distances g leader most = map (bounded_distance g leader most) (parties g)

@@ -1,10 +1,10 @@
 -- The followers of a digraph, which are the parties that don't lead.
 use Rattle.std.specs.Prelude.{ℕ, Bool, false, not, ◌&&◌, nat_lt, List, slice_index_or}
 use Rattle.swap_digraph.specs.Value.{Graph}
-use Rattle.swap_digraph.specs.Graph.{is_among}
+use Rattle.swap_digraph.specs.Graph.{is_listed}
 
 abbrev pub is_follower : Graph → List ℕ → ℕ → Bool
-is_follower g leaders v = nat_lt v g.n && not (is_among v leaders)
+is_follower g leaders v = nat_lt v g.n && not (is_listed v leaders)
 
 -- whether the list holds true at that place
 abbrev pub at : List Bool → ℕ → Bool

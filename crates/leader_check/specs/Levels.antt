@@ -11,25 +11,25 @@ unfoldable pub most_before : Graph → (ℕ → ℕ) → ℕ → ℕ
 most_before g f v = greatest (λ a. if a.to == v then f a.from else 0) g.arcs
 
 -- the level of v, where f is the level of the vertices before it
-unfoldable pub level_after : Graph → List ℕ → (ℕ → ℕ) → ℕ → ℕ
-level_after g leaders f v = if is_follower g leaders v then most_before g f v + 1 else 0
+unfoldable pub following_level : Graph → List ℕ → (ℕ → ℕ) → ℕ → ℕ
+following_level g leaders f v = if is_follower g leaders v then most_before g f v + 1 else 0
 
 -- the most vertices on a walk of followers that ends in v, of walks with at most so many vertices
-unfoldable pub level_within : Graph → List ℕ → ℕ → ℕ → ℕ
-level_within g leaders zero v = 0
-level_within g leaders (suc most) v = level_after g leaders (level_within g leaders most) v
+unfoldable pub bounded_level : Graph → List ℕ → ℕ → ℕ → ℕ
+bounded_level g leaders zero v = 0
+bounded_level g leaders (suc most) v = following_level g leaders (bounded_level g leaders most) v
 
 -- 0 for a leader; for a follower the most vertices on a walk of followers that ends in it, of walks with no more vertices than parties
-unfoldable pub level_of : Graph → List ℕ → ℕ → ℕ
-level_of g leaders v = level_within g leaders g.n v
+unfoldable pub party_level : Graph → List ℕ → ℕ → ℕ
+party_level g leaders v = bounded_level g leaders g.n v
 
 -- the greatest level
-unfoldable pub height_of : Graph → List ℕ → ℕ
-height_of g leaders = greatest (level_of g leaders) (parties g)
+unfoldable pub latest_height : Graph → List ℕ → ℕ
+latest_height g leaders = greatest (party_level g leaders) (parties g)
 
 -- the levels of the parties, of walks with at most so many vertices
-abbrev pub levels_within : Graph → List ℕ → ℕ → List ℕ
-levels_within g leaders most = map (level_within g leaders most) (parties g)
+abbrev pub bounded_levels : Graph → List ℕ → ℕ → List ℕ
+bounded_levels g leaders most = map (bounded_level g leaders most) (parties g)
 
 -- k is the most vertices on a path of followers alone that ends in v: 0 for a leader
 pub record IsLevel (g : Graph) (leaders : List ℕ) (v k : ℕ) : Type 0 where

@@ -2,7 +2,7 @@
 
 ghost use Rattle.std.specs.Prelude.{◌≡◌, ◌≤◌, ◌<◌, ◌↔◌, ℕ, true, not, length, map, slice_index, is_some, IfOk};
 ghost use Rattle.swap_digraph.specs.Graph.{parties, HasEnds, IsFeedback, IsHeight};
-ghost use Rattle.leader_check.specs.Levels.{level_of, height_of, IsLevel};
+ghost use Rattle.leader_check.specs.Levels.{party_level, latest_height, IsLevel};
 ghost use Rattle.leader_check.specs.Cycles.{follower_cycle, IsFollowerCycle};
 ghost use Rattle.leader_check.specs.Laws.{EndWithin};
 ghost use Rattle.time_bounds.specs.Times.{need};
@@ -10,7 +10,7 @@ ghost use Rattle.leader_check.specs.Shown.{cycle_shown, IfLevels, IfCycle};
 
 use crate::cycle::follower_cycle;
 use crate::leader_answer::LeaderAnswer;
-use crate::rounds::{level_row, rise_on, with_greatest};
+use crate::rounds::{level_row, levels_rise, with_greatest};
 use std::alloc::Global;
 use swap_base::{NoMemory, PartyId};
 use swap_digraph::{Digraph, PathList};
@@ -24,10 +24,10 @@ fn cycle_if_any(
 ) -> Result<Option<PathList>, NoMemory>
     requires parties { graph.now.n ≤ 32 }
     requires ends { HasEnds graph.now }
-    requires row { row.now ≡ map (level_of graph.now leaders.now) (parties graph.now) }
+    requires row { row.now ≡ map (party_level graph.now leaders.now) (parties graph.now) }
     ensures { IfOk result (λ o. o ≡ follower_cycle graph.now leaders.now) }
 {
-    if rise_on(alloc, graph, leaders, row)? {
+    if levels_rise(alloc, graph, leaders, row)? {
         follower_cycle(alloc, graph, leaders)
     } else {
         Ok(None)
@@ -45,10 +45,10 @@ pub fn levels(alloc: Global, graph: &Digraph, leaders: &[PartyId]) -> Result<Lea
     ensures cycle { IfOk result (λ a. IfCycle a (λ list. IsFollowerCycle graph.now leaders.now list)) }
     ensures parties { IfOk result (λ a. IfLevels a (λ l. length l.level ≡ graph.now.n)) }
     ensures level { IfOk result (λ a. IfLevels a (λ l. (v : ℕ) → v < graph.now.n
-        → slice_index l.level v ≡ level_of graph.now leaders.now v)) }
+        → slice_index l.level v ≡ party_level graph.now leaders.now v)) }
     ensures longest { IfOk result (λ a. IfLevels a (λ l. (v : ℕ) → v < graph.now.n
         → IsLevel graph.now leaders.now v (slice_index l.level v))) }
-    ensures greatest { IfOk result (λ a. IfLevels a (λ l. l.h ≡ height_of graph.now leaders.now)) }
+    ensures greatest { IfOk result (λ a. IfLevels a (λ l. l.h ≡ latest_height graph.now leaders.now)) }
     ensures height { IfOk result (λ a. IfLevels a (λ l. IsHeight graph.now leaders.now l.h)) }
     ensures paths { IfOk result (λ a. IfLevels a (λ l. EndWithin graph.now leaders.now (need graph.now.n (length leaders.now) l.h))) }
 {
@@ -67,14 +67,14 @@ pub fn is_feedback(alloc: Global, graph: &Digraph, leaders: &[PartyId]) -> Resul
     ensures feedback { IfOk result (λ b. (b ≡ true) ↔ IsFeedback graph.now leaders.now) }
 {
     let row = level_row(alloc, graph, leaders)?;
-    Ok(!rise_on(alloc, graph, leaders, &row)?)
+    Ok(!levels_rise(alloc, graph, leaders, &row)?)
 }
 
 /// The greatest level: where the leaders are a feedback vertex set, the most vertices on a path of followers alone.
 pub fn height(alloc: Global, graph: &Digraph, leaders: &[PartyId]) -> Result<u8, NoMemory>
     requires parties { graph.now.n ≤ 32 }
     requires ends { HasEnds graph.now }
-    ensures exact { IfOk result (λ h. h ≡ height_of graph.now leaders.now) }
+    ensures exact { IfOk result (λ h. h ≡ latest_height graph.now leaders.now) }
     ensures height { IfOk result (λ h. IsFeedback graph.now leaders.now → IsHeight graph.now leaders.now h) }
 {
     let row = level_row(alloc, graph, leaders)?;

@@ -6,7 +6,7 @@ ghost use Rattle.std.specs.List.{range_with_len};
 ghost use Rattle.swap_base.specs.Lists.{first_of};
 ghost use Rattle.swap_digraph.specs.Graph.{parties, has_arc, HasEnds};
 ghost use Rattle.leader_check.specs.Followers.{at};
-ghost use Rattle.leader_check.specs.Cycles.{has_bit, has_bit_in, leads_into, first_step, walk_of, cycle_by, cycle_from, follower_cycle};
+ghost use Rattle.leader_check.specs.Cycles.{has_bit, has_row_bit, enters_led, first_step, walk_of, distance_cycle, traced_cycle, follower_cycle};
 ghost use Rattle.leader_check.specs.Cycles.{TellAllWalks, IsCycleThrough};
 
 use crate::rounds::followers;
@@ -23,7 +23,7 @@ fn holds(bits: u32, v: PartyId) -> bool
 }
 
 /// The bit of v, where it follows.
-fn bit_of(follows: bool, v: PartyId) -> u32
+fn party_bit(follows: bool, v: PartyId) -> u32
     requires { v < 32 }
     ensures { (w : ℕ) → (bit_at result w == 1) ≡ (follows && (v == w)) }
 {
@@ -75,7 +75,7 @@ pub fn leads_each(alloc: Global, graph: &Digraph, row: &[u32]) -> Result<Vec<u32
     requires row { length row.now ≡ graph.now.n }
     ensures parties { IfOk result (λ l. length l.items ≡ graph.now.n) }
     ensures leads { IfOk result (λ l. (v u : ℕ) → u < graph.now.n
-        → has_bit l.items v u ≡ leads_into graph.now (has_bit row.now v) u) }
+        → has_bit l.items v u ≡ enters_led graph.now (has_bit row.now v) u) }
 {
     let mut leads = vec![in alloc; 0u32; graph.n() as usize]?;
     for arc in graph.arcs() {
@@ -97,7 +97,7 @@ fn next_row(
     requires row { length row.now ≡ graph.now.n }
     ensures parties { IfOk result (λ l. length l ≡ graph.now.n) }
     ensures leads { IfOk result (λ l. (v u : ℕ) → u < graph.now.n
-        → has_bit l v u ≡ (at follows.now u && leads_into graph.now (has_bit row.now v) u)) }
+        → has_bit l v u ≡ (at follows.now u && enters_led graph.now (has_bit row.now v) u)) }
 {
     let leads = leads_each(alloc, graph, row)?;
     let mut next = Vec::new(alloc);
@@ -116,7 +116,7 @@ fn first_row(alloc: Global, follows: &[bool]) -> Result<Listed<u32>, NoMemory>
 {
     let mut row = Vec::new(alloc);
     for u in 0..follows.len() {
-        row.push(bit_of(follows[u], u as u8))?;
+        row.push(party_bit(follows[u], u as u8))?;
     }
     Ok(Listed::new(row))
 }
@@ -154,7 +154,7 @@ fn walk_of(
     requires v { v < graph.now.n }
     requires k { k ≤ length rows.now }
     requires rows { (j : ℕ) → j < length rows.now → length (slice_index_or rows.now j []) ≡ graph.now.n }
-    ensures { IfOk result (λ l. l ≡ walk_of graph.now (has_bit_in rows.now v) k v) }
+    ensures { IfOk result (λ l. l ≡ walk_of graph.now (has_row_bit rows.now v) k v) }
 {
     let mut list = Vec::new(alloc);
     let mut u = v;
@@ -166,7 +166,7 @@ fn walk_of(
 }
 
 /// A shortest cycle of followers that begins with v.
-fn cycle_from(
+fn traced_cycle(
     alloc: Global,
     graph: &Digraph,
     rows: &[Listed<u32>],
@@ -177,7 +177,7 @@ fn cycle_from(
     requires size { length rows.now ≡ graph.now.n + 1 }
     requires rows { (j : ℕ) → j < length rows.now → length (slice_index_or rows.now j []) ≡ graph.now.n }
     requires v { v < graph.now.n }
-    ensures { IfOk result (λ o. o ≡ first_of (cycle_by graph.now (has_bit_in rows.now v) v) (range_with_len 1 graph.now.n)) }
+    ensures { IfOk result (λ o. o ≡ first_of (distance_cycle graph.now (has_row_bit rows.now v) v) (range_with_len 1 graph.now.n)) }
 {
     for k in 1..graph.n() + 1 {
         if holds(rows[k as usize].as_slice()[v as usize], v) {
@@ -199,7 +199,7 @@ pub fn follower_cycle(
 {
     let rows = walk_rows(alloc, graph, leaders)?;
     for v in 0..graph.n() {
-        let found = cycle_from(alloc, graph, &rows, v)?;
+        let found = traced_cycle(alloc, graph, &rows, v)?;
         if found.is_some() {
             return Ok(found);
         }
@@ -208,7 +208,7 @@ pub fn follower_cycle(
 }
 
 /// A shortest cycle of followers that begins with v.
-pub fn cycle_through(
+pub fn find_cycle(
     alloc: Global,
     graph: &Digraph,
     leaders: &[PartyId],
@@ -217,10 +217,10 @@ pub fn cycle_through(
     requires parties { graph.now.n ≤ 32 }
     requires ends { HasEnds graph.now }
     requires v { v < graph.now.n }
-    ensures exact { IfOk result (λ o. o ≡ cycle_from graph.now leaders.now v) }
+    ensures exact { IfOk result (λ o. o ≡ traced_cycle graph.now leaders.now v) }
     ensures cycle { IfOk result (λ o. IfSome o (λ list. IsCycleThrough graph.now leaders.now v list)) }
     ensures none { IfOk result (λ o. IfNone o ((list : List ℕ) → IsCycleThrough graph.now leaders.now v list → ⊥)) }
 {
     let rows = walk_rows(alloc, graph, leaders)?;
-    cycle_from(alloc, graph, &rows, v)
+    traced_cycle(alloc, graph, &rows, v)
 }

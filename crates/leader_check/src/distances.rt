@@ -3,7 +3,7 @@
 ghost use Rattle.std.specs.Prelude.{◌≡◌, ◌≤◌, ◌<◌, ◌+◌, ◌∷◌, [], ℕ, length, map, slice_index, IfOk, if◌then◌else◌};
 ghost use Rattle.swap_digraph.specs.Graph.{parties, HasEnds, IsDist, IsFeedback, IsHeight, IsStronglyConnected};
 ghost use Rattle.time_bounds.specs.Times.{need};
-ghost use Rattle.leader_check.specs.Distance.{most_after, dist_before, dist_of};
+ghost use Rattle.leader_check.specs.Distance.{most_after, prior_distance, dist_of};
 
 use crate::leader_answer::Levels;
 use std::alloc::Global;
@@ -27,7 +27,7 @@ fn most_after_each(alloc: Global, graph: &Digraph, row: &[u32]) -> Result<Vec<u3
 }
 
 /// The distance of a party, by the greatest of the vertices after it.
-fn dist_over(leads: bool, most: u32) -> u32
+fn extended_distance(leads: bool, most: u32) -> u32
     requires { most ≤ 255 }
     ensures { result ≡ (if leads then 0 else most + 1) }
 {
@@ -44,12 +44,12 @@ fn next_dists(
     requires ends { HasEnds graph.now }
     requires row { length row.now ≡ graph.now.n }
     requires low { (v : ℕ) → slice_index row.now v ≤ 255 }
-    ensures { IfOk result (λ l. l.items ≡ map (dist_before graph.now leader (slice_index row.now)) (parties graph.now)) }
+    ensures { IfOk result (λ l. l.items ≡ map (prior_distance graph.now leader (slice_index row.now)) (parties graph.now)) }
 {
     let most = most_after_each(alloc, graph, row)?;
     let mut next = Vec::new(alloc);
     for v in 0..graph.n() {
-        next.push(dist_over(leader == v, most[v as usize]))?;
+        next.push(extended_distance(leader == v, most[v as usize]))?;
     }
     Ok(next)
 }

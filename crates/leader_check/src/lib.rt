@@ -13,7 +13,7 @@ mod leader_answer;
 mod rounds;
 
 pub use check::{height, is_feedback, levels};
-pub use cycle::{cycle_through, leads_each};
+pub use cycle::{find_cycle, leads_each};
 pub use distance_laws::distances_follow_arcs;
 pub use distances::dist;
 pub use laws::{greatest_level_is_height, no_cycle_is_feedback, paths_to_leaders_are_bounded};

@@ -2,9 +2,9 @@
 
 ghost use Rattle.std.specs.Prelude.{◌≡◌, ◌≤◌, ◌<◌, ◌+◌, ℕ, not, length, is_some, map, slice_index, IfOk, if◌then◌else◌};
 ghost use Rattle.swap_base.specs.Lists.{greatest};
-ghost use Rattle.swap_digraph.specs.Graph.{parties, is_among, HasEnds};
+ghost use Rattle.swap_digraph.specs.Graph.{parties, is_listed, HasEnds};
 ghost use Rattle.leader_check.specs.Followers.{is_follower, at};
-ghost use Rattle.leader_check.specs.Levels.{most_before, level_of};
+ghost use Rattle.leader_check.specs.Levels.{most_before, party_level};
 ghost use Rattle.leader_check.specs.Cycles.{follower_cycle};
 
 use crate::leader_answer::Levels;
@@ -13,7 +13,7 @@ use swap_base::{Listed, NoMemory, PartyId};
 use swap_digraph::Digraph;
 
 fn follows(leaders: &[PartyId], v: PartyId) -> bool
-    ensures { result ≡ not (is_among v leaders.now) }
+    ensures { result ≡ not (is_listed v leaders.now) }
 {
     !leaders.contains(&v)
 }
@@ -46,7 +46,7 @@ fn most_before_each(alloc: Global, graph: &Digraph, row: &[u8]) -> Result<Vec<u8
 }
 
 /// The level of a party, by the greatest of the vertices before it.
-fn level_over(follows: bool, most: u8) -> u8
+fn raised_level(follows: bool, most: u8) -> u8
     requires { most ≤ 32 }
     ensures { result ≡ (if follows then most + 1 else 0) }
 {
@@ -69,7 +69,7 @@ fn next_levels(
     let most = most_before_each(alloc, graph, row)?;
     let mut next = Vec::new(alloc);
     for v in 0..graph.n() {
-        next.push(level_over(follows[v as usize], most[v as usize]))?;
+        next.push(raised_level(follows[v as usize], most[v as usize]))?;
     }
     Ok(next)
 }
@@ -78,7 +78,7 @@ fn next_levels(
 pub fn level_row(alloc: Global, graph: &Digraph, leaders: &[PartyId]) -> Result<Vec<u8>, NoMemory>
     requires parties { graph.now.n ≤ 32 }
     requires ends { HasEnds graph.now }
-    ensures { IfOk result (λ l. l.items ≡ map (level_of graph.now leaders.now) (parties graph.now)) }
+    ensures { IfOk result (λ l. l.items ≡ map (party_level graph.now leaders.now) (parties graph.now)) }
 {
     let n = graph.n();
     let follows = followers(alloc, graph, leaders)?;
@@ -89,7 +89,7 @@ pub fn level_row(alloc: Global, graph: &Digraph, leaders: &[PartyId]) -> Result<
     Ok(row)
 }
 
-fn greatest_of(row: &[u8]) -> u8
+fn row_maximum(row: &[u8]) -> u8
     ensures { result ≡ greatest (λ x. x) row.now }
 {
     let mut most = 0;
@@ -104,7 +104,7 @@ pub fn with_greatest(row: Vec<u8>) -> Levels
     ensures level { result.level ≡ row.items }
     ensures height { result.h ≡ greatest (λ x. x) row.items }
 {
-    let h = greatest_of(&row);
+    let h = row_maximum(&row);
     Levels {
         level: Listed::new(row),
         h,
@@ -113,7 +113,7 @@ pub fn with_greatest(row: Vec<u8>) -> Levels
 
 /// Whether the levels still rise after one round for each party. They do exactly where followers
 /// form a cycle.
-pub fn rise_on(
+pub fn levels_rise(
     alloc: Global,
     graph: &Digraph,
     leaders: &[PartyId],
@@ -121,10 +121,10 @@ pub fn rise_on(
 ) -> Result<bool, NoMemory>
     requires parties { graph.now.n ≤ 32 }
     requires ends { HasEnds graph.now }
-    requires row { row.now ≡ map (level_of graph.now leaders.now) (parties graph.now) }
+    requires row { row.now ≡ map (party_level graph.now leaders.now) (parties graph.now) }
     ensures { IfOk result (λ b. b ≡ is_some (follower_cycle graph.now leaders.now)) }
 {
     let follows = followers(alloc, graph, leaders)?;
     let next = next_levels(alloc, graph, &follows, row)?;
-    Ok(greatest_of(&next) > graph.n())
+    Ok(row_maximum(&next) > graph.n())
 }

@@ -15,15 +15,15 @@ use Rattle.escrow_core.specs.declared.terms.Terms.{Terms}
 use Rattle.escrow_core.specs.declared.reply.Reply.{Reply}
 use Rattle.escrow_core.specs.declared.reply.Reply.TheVariants.{NoContract}
 use Rattle.escrow_core.specs.Table.{first_row, unlock_rows, claim_rows, refund_rows}
-use Rattle.escrow_core.specs.Value.{ContractState, AreFitting, is_open_in, with_opened, with_settled}
+use Rattle.escrow_core.specs.Value.{ContractState, AreFitting, is_lock_open, with_opened, with_settled}
 use Rattle.ledger_core.specs.declared.entry.Call.{Call}
 use Rattle.ledger_core.specs.declared.entry.Call.TheVariants.{Publish, Unlock, Claim, Refund, Transfer}
 use Rattle.ledger_core.specs.declared.entry.Entry.{Entry}
 use Rattle.ledger_core.specs.declared.facts.Settlement.{Settlement}
 use Rattle.ledger_core.specs.declared.facts.Settlement.TheVariants.{Claimed, Refunded}
 use Rattle.ledger_core.specs.History.{height, accepted, Publication, publication, published, Opening, opening, opened, settling, settled, is_open}
-use Rattle.ledger_core.specs.History.{terms_in, is_full, rows, reply_to, fit, balance, IsLegal}
-use Rattle.ledger_core.specs.Ledger.{contract_with, contract_of, contract_after, IsContractIn, by_contract, reply_by}
+use Rattle.ledger_core.specs.History.{parse_terms, is_full, rows, history_reply, fit, balance, IsLegal}
+use Rattle.ledger_core.specs.Ledger.{published_contract, history_contract, next_contract, IsHistoryContract, by_contract, reply_by}
 use Rattle.ledger_core.proofs.History.{published_done, opened_done, of_publish, of_unlock, of_claim, of_refund, clear_at, published-past, lock-below}
 use Rattle.ledger_core.proofs.Units.{settled-published}
 
@@ -60,10 +60,10 @@ opened_below : (f : ℕ → Bool) (i k n : ℕ) → i < k → map (opened_too f 
 opened_below f i k zero l = refl
 opened_below f i k (suc n) l = ap₂ (λ y ys. y ∷ ys) (or-false (f k) (i == k) (apart i k (λ e. omega arith))) (opened_below f i (k + 1) n (omega arith))
 
-opened_in : (f : ℕ → Bool) (k n j i : ℕ) → i ≡ k + j → map (opened_too f i) (range_with_len k n) ≡ slice_set (map f (range_with_len k n)) j true
-opened_in f k zero j i e = refl
-opened_in f k (suc n) zero i e = ap₂ (λ y ys. y ∷ ys) (or-true (f k) (i == k) (eq-eqb i k (omega arith))) (opened_below f i (k + 1) n (omega arith))
-opened_in f k (suc n) (suc j) i e = ap₂ (λ y ys. y ∷ ys) (or-false (f k) (i == k) (apart i k (λ z. omega arith))) (opened_in f (k + 1) n j i (omega arith))
+find_opened : (f : ℕ → Bool) (k n j i : ℕ) → i ≡ k + j → map (opened_too f i) (range_with_len k n) ≡ slice_set (map f (range_with_len k n)) j true
+find_opened f k zero j i e = refl
+find_opened f k (suc n) zero i e = ap₂ (λ y ys. y ∷ ys) (or-true (f k) (i == k) (eq-eqb i k (omega arith))) (opened_below f i (k + 1) n (omega arith))
+find_opened f k (suc n) (suc j) i e = ap₂ (λ y ys. y ∷ ys) (or-false (f k) (i == k) (apart i k (λ z. omega arith))) (find_opened f (k + 1) n j i (omega arith))
 
 pub is_some-map : {A B : Type 0} (f : A → B) (o : Option A) → is_some (option_map f o) ≡ is_some o
 is_some-map f None = refl
@@ -114,7 +114,7 @@ module _ (d : Deal) (a : ℕ) where
           let same : w.key.lock ≡ i = u.1 in
           absurd (omega arith)
 
-  open_at : (h : List Entry) → IsLegal d a h → (p : Publication) (i : ℕ) → is_open_in (contract_with d a h p) i ≡ is_open h i
+  open_at : (h : List Entry) → IsLegal d a h → (p : Publication) (i : ℕ) → is_lock_open (published_contract d a h p) i ≡ is_open h i
   open_at h l p i = go (nat_lt i (length d.leaders)) refl
     where
       go : (b : Bool) → nat_lt i (length d.leaders) ≡ b → get_or (map (is_open h) (locks d)) i false ≡ is_open h i
@@ -125,7 +125,7 @@ module _ (d : Deal) (a : ℕ) where
           get_or-eq_default (map (is_open h) (locks d)) false (omega arith) ∙ sym (opened-beyond h l i beyond)
 
   -- the contract tells the opened locks
-  open_in : (h : List Entry) → IsLegal d a h → (p : Publication) → is_open_in (contract_with d a h p) ≡ is_open h
+  open_in : (h : List Entry) → IsLegal d a h → (p : Publication) → is_lock_open (published_contract d a h p) ≡ is_open h
   open_in h l p = λ j i. open_at h l p i j
 
   abbrev shown : Option Publication → (ℕ → Bool) → Option Settlement → Option ContractState
@@ -148,7 +148,7 @@ module _ (d : Deal) (a : ℕ) where
   opened_shown None f s i = refl
   opened_shown (Some p) f s i =
       ap (λ os. Some (record { arc = a; from = party d a; to = counterparty d a; terms = p.terms; opened = os; settled = is_some s }))
-      (opened_in f 0 (length d.leaders) i i (omega arith))
+      (find_opened f 0 (length d.leaders) i i (omega arith))
 
   open_more : (o : Option Opening) (i j t : ℕ) (key : Hashkey) → key.lock ≡ i
       → is_some (or_else o (or_else (opening j t (Some (Unlock key))) None)) ≡ (is_some o || (i == j))
@@ -160,7 +160,7 @@ module _ (d : Deal) (a : ℕ) where
       go true k = sym (eq-eqb i j (sym e ∙ eqb-true key.lock j k))
       go false k = sym k ∙ ap (λ x. x == j) e
 
-  after_push : (h : List Entry) (e : Entry) (o : Option Call) → accepted e ≡ o → contract_of d a (h ++ e ∷ [])
+  after_push : (h : List Entry) (e : Entry) (o : Option Call) → accepted e ≡ o → history_contract d a (h ++ e ∷ [])
       ≡ shown (or_else (published h) (or_else (publication e.height o) None)) (λ i.
       is_some (or_else (opened h i) (or_else (opening i e.height o) None))) (or_else (settled h) (or_else (settling o) None))
   after_push h e o k =
@@ -171,12 +171,12 @@ module _ (d : Deal) (a : ℕ) where
       (first_of-append (λ x. settling (accepted x)) h (e ∷ []) ∙ ap (λ z. or_else (settled h) (or_else (settling z) None)) k)
 
   -- an entry that publishes, opens and settles nothing
-  stays : (h : List Entry) → shown (or_else (published h) None) (λ i. is_some (or_else (opened h i) None)) (or_else (settled h) None) ≡ contract_of d a h
+  stays : (h : List Entry) → shown (or_else (published h) None) (λ i. is_some (or_else (opened h i) None)) (or_else (settled h) None) ≡ history_contract d a h
   stays h = same_shown _ _ _ _ _ _ (or_else-none (published h)) (λ i. ap is_some (or_else-none (opened h i))) (or_else-none (settled h))
 
   -- one more entry changes the contract as its call says
   pub contract-push : (h : List Entry) (e : Entry) (o : Option Call) → accepted e ≡ o → IsLegal d a (h ++ e ∷ []) → IsLegal d a h
-      → contract_of d a (h ++ e ∷ []) ≡ contract_after d a (contract_of d a h) o
+      → history_contract d a (h ++ e ∷ []) ≡ next_contract d a (history_contract d a h) o
   contract-push h e None k l l0 = after_push h e None k ∙ stays h
   contract-push h e (Some (Transfer to units)) k l l0 = after_push h e (Some (Transfer to units)) k ∙ stays h
   contract-push h e (Some (Publish t)) k l l0 =
@@ -212,10 +212,10 @@ module _ (d : Deal) (a : ℕ) where
       ∙ ap (λ s. option_map with_settled (shown (published h) (is_open h) s)) (sym p.unsettled)
 
   -- the contract is the arc's, with terms that fit
-  pub contract_in : (h : List Entry) → a < length d.graph.arcs → IsLegal d a h → IsContractIn d a (contract_of d a h)
+  pub contract_in : (h : List Entry) → a < length d.graph.arcs → IsLegal d a h → IsHistoryContract d a (history_contract d a h)
   contract_in h lt l = go (published h) refl
     where
-      go : (o : Option Publication) → published h ≡ o → IsContractIn d a (option_map (contract_with d a h) o)
+      go : (o : Option Publication) → published h ≡ o → IsHistoryContract d a (option_map (published_contract d a h) o)
       go None e = tt
       go (Some p) e =
           record {
@@ -233,15 +233,15 @@ module _ (d : Deal) (a : ℕ) where
   -- The contract's replies are those of the table.
 
   by_settled_rows : (h : List Entry) (o : Option Publication) → IsLegal d a h → (rs : Terms → (ℕ → Bool) → Bool → List (Bool × Reply))
-      → by_contract (option_map (contract_with d a h) o) (λ c. rs c.terms (is_open_in c) c.settled)
-      ≡ cond (is_none o) NoContract (first_row (rs (terms_in o) (is_open h) (is_some (settled h))))
+      → by_contract (option_map (published_contract d a h) o) (λ c. rs c.terms (is_lock_open c) c.settled)
+      ≡ cond (is_none o) NoContract (first_row (rs (parse_terms o) (is_open h) (is_some (settled h))))
   by_settled_rows h None l rs = refl
   by_settled_rows h (Some p) l rs = ap (λ f. first_row (rs p.terms f (is_some (settled h)))) (open_in h l p)
 
   pub answer_is : (h : List Entry) (p : ℕ) (c : Call) → IsLegal d a h → is_full h p ≡ false
-      → reply_by d a (contract_of d a h) (height h) (balance d a h p) p c ≡ reply_to d a h p c
+      → reply_by d a (history_contract d a h) (height h) (balance d a h p) p c ≡ history_reply d a h p c
   unfolding rows
-  answer_is h p (Publish t) l f = rw (f, is_some-map (contract_with d a h) (published h)) refl
+  answer_is h p (Publish t) l f = rw (f, is_some-map (published_contract d a h) (published h)) refl
   answer_is h p (Unlock key) l f = by_settled_rows h (published h) l (λ t g s. unlock_rows d a t g s (height h) p key) ∙ rw f refl
   answer_is h p Claim l f = by_settled_rows h (published h) l (λ t g s. claim_rows d a g s p) ∙ rw f refl
   answer_is h p Refund l f = by_settled_rows h (published h) l (λ t g s. refund_rows d a t g s (height h) p) ∙ rw f refl

@@ -23,12 +23,12 @@ use Rattle.ledger_core.specs.declared.entry.Entry.{Entry}
 use Rattle.swap_digraph.specs.Deal.{party, counterparty, locks, path_limit, touches}
 use Rattle.hashkey_path.specs.Hashkey.{is_wrong_secret, is_wrong_path, is_wrong_signature}
 use Rattle.escrow_core.specs.Table.{first_row}
-use Rattle.escrow_core.specs.Terms.{hashlock_in, last_in, refund_expiry}
+use Rattle.escrow_core.specs.Terms.{read_hashlock, last_unlock, refund_expiry}
 use Rattle.ledger_core.specs.declared.facts.Settlement.{Settlement}
 use Rattle.ledger_core.specs.declared.facts.Settlement.TheVariants.{Claimed, Refunded}
-use Rattle.ledger_core.specs.History.{call_in}
-use Rattle.ledger_core.specs.History.{ticks_in, height, accepted_call, accepted, Publication, publication, published, Opening, opening, opened, settling}
-use Rattle.ledger_core.specs.History.{settled, is_open, triggered, the_terms, terms_in, is_full, rows, reply_to, fit, IsLegalEntry, IsLegalMoment}
+use Rattle.ledger_core.specs.History.{read_raw_call}
+use Rattle.ledger_core.specs.History.{entry_ticks, height, accepted_call, accepted, Publication, publication, published, Opening, opening, opened, settling}
+use Rattle.ledger_core.specs.History.{settled, is_open, triggered, the_terms, parse_terms, is_full, rows, history_reply, fit, IsLegalEntry, IsLegalMoment}
 use Rattle.ledger_core.specs.History.{IsLegal, balance}
 
 -- The table of replies.
@@ -62,7 +62,7 @@ only_refusals d a past p Claim = refl
 only_refusals d a past p Refund = refl
 only_refusals d a past p (Transfer to units) = refl
 
-pub accepted_clear : (d : Deal) (a : ℕ) (past : List Entry) (p : ℕ) (c : Call) → reply_to d a past p c ≡ Accepted → AreClear (rows d a past p c)
+pub accepted_clear : (d : Deal) (a : ℕ) (past : List Entry) (p : ℕ) (c : Call) → history_reply d a past p c ≡ Accepted → AreClear (rows d a past p c)
 accepted_clear d a past p c e = clear (rows d a past p c) (only_refusals d a past p c) e
 
 -- A call at its moment.
@@ -74,10 +74,10 @@ pub record Act (d : Deal) (a : ℕ) (past : List Entry) (e : Entry) (c : Call) :
   pub at : e.height ≡ height past
   pub of_the_two : IsTrue (touches d by a)
   pub fits : IsTrue (fit d a c)
-  pub reply : e.reply ≡ reply_to d a past by c
+  pub reply : e.reply ≡ history_reply d a past by c
   pub room : e.reply ≢ SenderFull
 
-made : (d : Deal) (a : ℕ) (past : List Entry) (e : Entry) (c : Call) (s : Sender) (w : What) → e.sender ≡ s → e.what ≡ w → call_in w ≡ Some c
+made : (d : Deal) (a : ℕ) (past : List Entry) (e : Entry) (c : Call) (s : Sender) (w : What) → e.sender ≡ s → e.what ≡ w → read_raw_call w ≡ Some c
     → IsLegalEntry d a past s w e.height e.reply → Act d a past e c
 made d a past e c (Party p) (Made c') es ew k l =
     let same : c' ≡ c = cc in
@@ -88,17 +88,18 @@ made d a past e c (Party p) (Made c') es ew k l =
       at = l.height;
       of_the_two = l.of_the_two;
       fits = subst (λ x. IsTrue (fit d a x)) same l.fits;
-      reply = l.reply ∙ ap (reply_to d a past p) same;
+      reply = l.reply ∙ ap (history_reply d a past p) same;
       room = l.room;
     }
 made d a past e c Clock (Made c') es ew k l = absurd l
 made d a past e c (Party p) (Tick n) es ew k l = absurd l
 made d a past e c Clock (Tick n) es ew k l = absurd (cc k)
 
-pub act_at : (d : Deal) (a : ℕ) (h past : List Entry) (e : Entry) (c : Call) → IsLegal d a h → IsMoment h past e → call_in e.what ≡ Some c → Act d a past e c
+pub act_at : (d : Deal) (a : ℕ) (h past : List Entry) (e : Entry) (c : Call) → IsLegal d a h → IsMoment h past e → read_raw_call e.what ≡ Some c
+    → Act d a past e c
 act_at d a h past e c l m k = made d a past e c e.sender e.what refl refl k (at_moment (IsLegalMoment d a) h past e l m)
 
-accepted_parts : (w : What) (r : Reply) (c : Call) → accepted_call w r ≡ Some c → (call_in w ≡ Some c) × (r ≡ Accepted)
+accepted_parts : (w : What) (r : Reply) (c : Call) → accepted_call w r ≡ Some c → (read_raw_call w ≡ Some c) × (r ≡ Accepted)
 accepted_parts (Made c') Accepted c e = (e, refl)
 accepted_parts _ _ c e = absurd (cc e)
 
@@ -213,26 +214,27 @@ pub record OfUnlock (d : Deal) (a : ℕ) (past : List Entry) (by : ℕ) (key : H
   pub unsettled : settled past ≡ None
   pub counterparty : by ≡ counterparty d a
   pub closed : is_open past key.lock ≡ false
-  pub secret : is_wrong_secret (hashlock_in contract.terms key.lock) key ≡ false
+  pub secret : is_wrong_secret (read_hashlock contract.terms key.lock) key ≡ false
   pub path : is_wrong_path d a d.mode key ≡ false
   pub signature : is_wrong_signature d d.mode key ≡ false
-  pub in_time : height past ≤ last_in d.mode contract.terms key
+  pub in_time : height past ≤ last_unlock d.mode contract.terms key
 
 pub of_unlock : (d : Deal) (a : ℕ) (past : List Entry) (by : ℕ) (key : Hashkey) → AreClear (rows d a past by (Unlock key)) → OfUnlock d a past by key
 unfolding rows
 of_unlock d a past by key k =
     let c = some_of (published past) k.1.0 in
-    let same : the_terms past ≡ c.0.terms = ap terms_in c.1 in
+    let same : the_terms past ≡ c.0.terms = ap parse_terms c.1 in
     record {
       contract = c.0;
       published = c.1;
       unsettled = none_of (settled past) k.1.1.0;
       counterparty = eqb-true by (counterparty d a) (not-false (by == counterparty d a) k.1.1.1.0);
       closed = k.1.1.1.1.0;
-      secret = subst (λ t. is_wrong_secret (hashlock_in t key.lock) key ≡ false) same k.1.1.1.1.1.0;
+      secret = subst (λ t. is_wrong_secret (read_hashlock t key.lock) key ≡ false) same k.1.1.1.1.1.0;
       path = k.1.1.1.1.1.1.0;
       signature = k.1.1.1.1.1.1.1.0;
-      in_time = subst (λ t. height past ≤ last_in d.mode t key) same (ltb-false (last_in d.mode (the_terms past) key) (height past) k.1.1.1.1.1.1.1.1.0);
+      in_time = subst (λ t. height past ≤ last_unlock d.mode t key) same (ltb-false (last_unlock d.mode (the_terms past) key)
+          (height past) k.1.1.1.1.1.1.1.1.0);
     }
 
 pub record OfClaim (d : Deal) (a : ℕ) (past : List Entry) (by : ℕ) : Type 0 where
@@ -266,7 +268,7 @@ pub of_refund : (d : Deal) (a : ℕ) (past : List Entry) (by : ℕ) → AreClear
 unfolding rows
 of_refund d a past by k =
     let c = some_of (published past) k.1.0 in
-    let same : the_terms past ≡ c.0.terms = ap terms_in c.1 in
+    let same : the_terms past ≡ c.0.terms = ap parse_terms c.1 in
     let late : refund_expiry d a (the_terms past) (is_open past) + 1 ≤ height past =
     ltb-false (height past) (refund_expiry d a (the_terms past) (is_open past) + 1) k.1.1.1.1.1.0 in
     record {
@@ -285,7 +287,7 @@ of_transfer d a past by to units k = ltb-false (balance d a past by) units k.1.0
 -- Heights only grow.
 
 pub height_append : (xs ys : List Entry) → height (xs ++ ys) ≡ height xs + height ys
-height_append xs ys = sum_by-append (λ e. ticks_in e.what) xs ys
+height_append xs ys = sum_by-append (λ e. entry_ticks e.what) xs ys
 
 pub height-past : (h past : List Entry) (e : Entry) → IsMoment h past e → height past ≤ height h
 height-past h past e m =
@@ -349,7 +351,7 @@ refunded-untriggered d a h l s t =
 
 -- A call that no row refuses is accepted.
 
-pub full_reply : (d : Deal) (a : ℕ) (past : List Entry) (p : ℕ) (c : Call) → is_full past p ≡ true → reply_to d a past p c ≡ SenderFull
+pub full_reply : (d : Deal) (a : ℕ) (past : List Entry) (p : ℕ) (c : Call) → is_full past p ≡ true → history_reply d a past p c ≡ SenderFull
 unfolding rows
 full_reply d a past p (Publish t) e = rw e refl
 full_reply d a past p (Unlock key) e = rw e refl

@@ -18,17 +18,17 @@ use Rattle.ledger_core.specs.declared.entry.Call.TheVariants.{Publish, Unlock, C
 use Rattle.ledger_core.specs.declared.entry.What.TheVariants.{Call as Made}
 use Rattle.ledger_core.specs.declared.entry.Entry.{Entry}
 use Rattle.ledger_core.specs.History.{height, accepted_call, accepted, publication, published, opening, opened, settling, settled, accounts, balance}
-use Rattle.ledger_core.specs.History.{held, moved_by, terms_in, rows, reply_to, is_full, IsLegal, IsLegalMoment, IsLegalCall, IsLegalTick}
-use Rattle.ledger_core.specs.Ledger.{call_entry, tick_entry, AreKept, AddUp, contract_of, contract_after, reply_by, CanMove}
+use Rattle.ledger_core.specs.History.{held, moved_accounts, parse_terms, rows, history_reply, is_full, IsLegal, IsLegalMoment, IsLegalCall, IsLegalTick}
+use Rattle.ledger_core.specs.Ledger.{call_entry, tick_entry, AreKept, AddUp, history_contract, next_contract, reply_by, CanMove}
 use Rattle.ledger_core.specs.Inside.{AreScans}
 use Rattle.ledger_core.proofs.History.{accepted_clear, of_publish, of_transfer, not-true}
 use Rattle.ledger_core.proofs.Units.{units, accounts-push}
-use Rattle.ledger_core.proofs.Bounds.{calls_of, ticks_of, calls-push, ticks-push, height-push}
+use Rattle.ledger_core.proofs.Bounds.{total_calls, run_ticks, calls-push, ticks-push, height-push}
 use Rattle.ledger_core.proofs.Contracts.{contract-push, answer_is}
 
 -- The sender of an accepted call has what it moves.
 
-can_publish : (d : Deal) (a : ℕ) (h : List Entry) (p : ℕ) (t : Terms) (b : Accounts) → b ≡ accounts d a h → reply_to d a h p (Publish t) ≡ Accepted
+can_publish : (d : Deal) (a : ℕ) (h : List Entry) (p : ℕ) (t : Terms) (b : Accounts) → b ≡ accounts d a h → history_reply d a h p (Publish t) ≡ Accepted
     → t.amount ≤ b.party
 can_publish d a h p t b e r =
     let o = of_publish d a h p t (accepted_clear d a h p (Publish t) r) in
@@ -36,7 +36,7 @@ can_publish d a h p t b e r =
     (eq-eqb p (party d a) o.party) o.funds)
 
 pub can_move : (d : Deal) (a : ℕ) (h : List Entry) (p q : ℕ) (c : Call) (r : Reply) (b : Accounts) → q ≡ party d a → b ≡ accounts d a h
-    → r ≡ reply_to d a h p c → CanMove b (p == q) (accepted_call (Made c) r)
+    → r ≡ history_reply d a h p c → CanMove b (p == q) (accepted_call (Made c) r)
 can_move d a h p q (Publish t) Accepted b eq e k = can_publish d a h p t b e (sym k)
 can_move d a h p q (Transfer to units) Accepted b eq e k =
     subst (λ z. units ≤ cond (p == z) b.party b.counterparty) (sym eq)
@@ -102,7 +102,7 @@ other_reply : (rs : List (Bool × Reply)) → first_test rs ≡ false → list_a
 other_reply [] f h = refl
 other_reply (row ∷ rs) f h = ap (λ z. is_other (cond z row.1 (first_row rs))) f ∙ others rs h
 
-has_other : (d : Deal) (a : ℕ) (h : List Entry) (p : ℕ) (c : Call) → is_full h p ≡ false → is_other (reply_to d a h p c) ≡ true
+has_other : (d : Deal) (a : ℕ) (h : List Entry) (p : ℕ) (c : Call) → is_full h p ≡ false → is_other (history_reply d a h p c) ≡ true
 unfolding rows
 has_other d a h p (Publish t) f = other_reply (rows d a h p (Publish t)) f refl
 has_other d a h p (Unlock key) f = other_reply (rows d a h p (Unlock key)) f refl
@@ -110,7 +110,7 @@ has_other d a h p Claim f = other_reply (rows d a h p Claim) f refl
 has_other d a h p Refund f = other_reply (rows d a h p Refund) f refl
 has_other d a h p (Transfer to units) f = other_reply (rows d a h p (Transfer to units)) f refl
 
-pub has_room : (d : Deal) (a : ℕ) (h : List Entry) (p : ℕ) (c : Call) (r : Reply) → is_full h p ≡ false → r ≡ reply_to d a h p c → r ≢ SenderFull
+pub has_room : (d : Deal) (a : ℕ) (h : List Entry) (p : ℕ) (c : Call) (r : Reply) → is_full h p ≡ false → r ≡ history_reply d a h p c → r ≢ SenderFull
 has_room d a h p c r f e k = false≢true (ap is_other (sym k ∙ e) ∙ has_other d a h p c f)
 
 -- Refusals.
@@ -136,10 +136,10 @@ kept_entry d a h e k =
     let s : settled (h ++ e ∷ []) ≡ settled h =
     first_of-append (λ x. settling (accepted x)) h (e ∷ [])
     ∙ (ap (λ o. or_else (settled h) (or_else (settling o) None)) k ∙ or_else-none (settled h)) in
-    let b : accounts d a (h ++ e ∷ []) ≡ accounts d a h = accounts-push d a h e ∙ ap (moved_by (party d a) (accounts d a h) _) k in
+    let b : accounts d a (h ++ e ∷ []) ≡ accounts d a h = accounts-push d a h e ∙ ap (moved_accounts (party d a) (accounts d a h) _) k in
     record {
       balances = λ q. ap (λ x. cond (q == party d a) x.party x.counterparty) b;
-      held = ap₂ (λ x y. cond (is_some x) 0 (terms_in y).amount) s p;
+      held = ap₂ (λ x y. cond (is_some x) 0 (parse_terms y).amount) s p;
       published = p;
       opened =
           λ i. first_of-append (λ x. opening i x.height (accepted x)) h (e ∷ [])
@@ -152,17 +152,17 @@ kept_call d a h p at c r n = kept_entry d a h (call_entry p at c r) (not_accepte
 
 -- the reply by what is kept is that of the table
 pub reply_is : (d : Deal) (a : ℕ) (h : List Entry) (at : ℕ) (b : Accounts) (o : Option ContractState) (pc cc ticks have p : ℕ) (c : Call) (r : Reply)
-    → AreScans d a h at b o pc cc ticks → is_full h p ≡ false → have ≡ balance d a h p → r ≡ reply_by d a o at have p c → r ≡ reply_to d a h p c
+    → AreScans d a h at b o pc cc ticks → is_full h p ≡ false → have ≡ balance d a h p → r ≡ reply_by d a o at have p c → r ≡ history_reply d a h p c
 reply_is d a h at b o pc cc ticks have p c r k f eh e =
     e ∙ (ap (λ x. reply_by d a x at have p c) k.contract
-    ∙ (ap (λ x. reply_by d a (contract_of d a h) x have p c) k.height
-    ∙ (ap (λ x. reply_by d a (contract_of d a h) (height h) x p c) eh ∙ answer_is d a h p c k.legal f)))
+    ∙ (ap (λ x. reply_by d a (history_contract d a h) x have p c) k.height
+    ∙ (ap (λ x. reply_by d a (history_contract d a h) (height h) x p c) eh ∙ answer_is d a h p c k.legal f)))
 
 -- One more call.
 pub call_scans : (d : Deal) (a : ℕ) (h : List Entry) (at : ℕ) (b b' : Accounts) (o o' : Option ContractState) (pc pc' cc cc' ticks p : ℕ) (c : Call) (r : Reply)
     → AreScans d a h at b o pc cc ticks → IsLegalCall d a h p c at r
-    → b' ≡ moved_by (party d a) b (p == party d a) (accepted_call (Made c) r)
-    → o' ≡ contract_after d a o (accepted_call (Made c) r)
+    → b' ≡ moved_accounts (party d a) b (p == party d a) (accepted_call (Made c) r)
+    → o' ≡ next_contract d a o (accepted_call (Made c) r)
     → pc' ≡ pc + cond (p == party d a) 1 0
     → cc' ≡ cc + cond (p == counterparty d a) 1 0
     → AreScans d a (h ++ call_entry p at c r ∷ []) at b' o' pc' cc' ticks
@@ -171,21 +171,21 @@ call_scans d a h at b b' o o' pc pc' cc cc' ticks p c r k l eb eo ep ec =
     record {
       legal = legal;
       height = let z : height (h ++ call_entry p at c r ∷ []) ≡ height h + 0 = height-push h (call_entry p at c r) in let y = k.height in omega arith;
-      accounts = eb ∙ (ap (λ x. moved_by (party d a) x (p == party d a) (accepted_call (Made c) r)) k.accounts
+      accounts = eb ∙ (ap (λ x. moved_accounts (party d a) x (p == party d a) (accepted_call (Made c) r)) k.accounts
           ∙ sym (accounts-push d a h (call_entry p at c r)));
       contract =
-          eo ∙ (ap (λ x. contract_after d a x (accepted_call (Made c) r)) k.contract
+          eo ∙ (ap (λ x. next_contract d a x (accepted_call (Made c) r)) k.contract
           ∙ sym (contract-push d a h (call_entry p at c r) (accepted_call (Made c) r) refl legal k.legal));
       by_party = ep ∙ (ap (λ n. n + cond (p == party d a) 1 0) k.by_party ∙ sym (calls-push h (call_entry p at c r) (party d a)));
       by_counterparty = ec ∙ (ap (λ n. n + cond (p == counterparty d a) 1 0) k.by_counterparty ∙ sym (calls-push h (call_entry p at c r) (counterparty d a)));
-      ticks = let z : ticks_of (h ++ call_entry p at c r ∷ []) ≡ ticks_of h + 0 = ticks-push h (call_entry p at c r) in let y = k.ticks in omega arith;
+      ticks = let z : run_ticks (h ++ call_entry p at c r ∷ []) ≡ run_ticks h + 0 = ticks-push h (call_entry p at c r) in let y = k.ticks in omega arith;
     }
 
 -- a tick for which there is room is legal
-pub legal_tick : (h : List Entry) (at ticks k : ℕ) → at ≡ height h → ticks ≡ ticks_of h → 1 ≤ k → k ≤ 1000000 → ticks < 20000 → at + k ≤ 1000000
+pub legal_tick : (h : List Entry) (at ticks k : ℕ) → at ≡ height h → ticks ≡ run_ticks h → 1 ≤ k → k ≤ 1000000 → ticks < 20000 → at + k ≤ 1000000
     → IsLegalTick h k (at + k) Accepted
 legal_tick h at ticks k eh et some below few low =
-    let ticks_fit : nat_le 20000 (ticks_of h) ≡ false = lt-leb 20000 (ticks_of h) (omega arith) in
+    let ticks_fit : nat_le 20000 (run_ticks h) ≡ false = lt-leb 20000 (run_ticks h) (omega arith) in
     let height_fits : nat_lt 1000000 (height h + k) ≡ false = le-ltb 1000000 (height h + k) (omega arith) in
     record {
       some = some;
@@ -208,10 +208,10 @@ tick_scans d a h at at' b o pc cc ticks ticks' n k l et =
           l.height in omega arith;
       accounts = k.accounts ∙ sym (accounts-push d a h (tick_entry n at' Accepted));
       contract = k.contract ∙ sym (contract-push d a h (tick_entry n at' Accepted) None refl legal k.legal);
-      by_party = let z : calls_of (party d a) (h ++ tick_entry n at' Accepted ∷ []) ≡ calls_of (party d a) h + 0 =
+      by_party = let z : total_calls (party d a) (h ++ tick_entry n at' Accepted ∷ []) ≡ total_calls (party d a) h + 0 =
           calls-push h (tick_entry n at' Accepted) (party d a) in let y = k.by_party in omega arith;
-      by_counterparty = let z : calls_of (counterparty d a) (h ++ tick_entry n at' Accepted ∷ []) ≡ calls_of (counterparty d a) h + 0 =
+      by_counterparty = let z : total_calls (counterparty d a) (h ++ tick_entry n at' Accepted ∷ []) ≡ total_calls (counterparty d a) h + 0 =
           calls-push h (tick_entry n at' Accepted) (counterparty d a) in let y = k.by_counterparty in omega arith;
-      ticks = let z : ticks_of (h ++ tick_entry n at' Accepted ∷ []) ≡ ticks_of h + 1 = ticks-push h (tick_entry n at' Accepted) in let y =
+      ticks = let z : run_ticks (h ++ tick_entry n at' Accepted ∷ []) ≡ run_ticks h + 1 = ticks-push h (tick_entry n at' Accepted) in let y =
           k.ticks in omega arith;
     }

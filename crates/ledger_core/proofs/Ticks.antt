@@ -18,7 +18,7 @@ use Rattle.ledger_core.specs.declared.runs.Item.{Item}
 use Rattle.ledger_core.specs.Facts.{is_call}
 use Rattle.ledger_core.specs.History.{height, accounts}
 use Rattle.ledger_core.specs.Ledger.{tick_entry}
-use Rattle.ledger_core.specs.Runs.{ticks_above, ticks_of, entries_of, expand, IsRight, IsRightRun}
+use Rattle.ledger_core.specs.Runs.{ticks_above, run_ticks, ledger_entries, expand, IsRight, IsRightRun}
 use Rattle.ledger_core.proofs.Bounds.{height-push}
 use Rattle.ledger_core.proofs.Units.{accounts-push}
 
@@ -40,7 +40,7 @@ drop_ticks at k s (suc n) (suc m) e =
     (let f : at + k * suc m ≡ at + k * (s + suc n) = ap (λ z. at + k * z) e in f ∙ omega arith)
 
 -- the last n ticks of a run
-pub last_ticks : (r : Run) (n : ℕ) → n ≤ r.count → ticks_above (r.above + r.by * (r.count - n)) r.by n ≡ drop (r.count - n) (ticks_of r)
+pub last_ticks : (r : Run) (n : ℕ) → n ≤ r.count → ticks_above (r.above + r.by * (r.count - n)) r.by n ≡ drop (r.count - n) (run_ticks r)
 last_ticks r n l = sym (drop_ticks r.above r.by (r.count - n) n r.count (omega arith))
 
 -- they end where it ends
@@ -104,13 +104,13 @@ accounts_ticks d a h at k (suc n) =
 -- Items.
 
 pub expand_append : (xs ys : List Item) → expand (xs ++ ys) ≡ expand xs ++ expand ys
-expand_append xs ys = flat_map-append entries_of xs ys
+expand_append xs ys = flat_map-append ledger_entries xs ys
 
-pub expand_cons : (x : Item) (xs : List Item) → expand (x ∷ xs) ≡ entries_of x ++ expand xs
-expand_cons x xs = flat_map-cons entries_of x xs
+pub expand_cons : (x : Item) (xs : List Item) → expand (x ∷ xs) ≡ ledger_entries x ++ expand xs
+expand_cons x xs = flat_map-cons ledger_entries x xs
 
-pub expand_push : (xs : List Item) (x : Item) → expand (xs ++ x ∷ []) ≡ expand xs ++ entries_of x
-expand_push xs x = expand_append xs (x ∷ []) ∙ ap (λ ys. expand xs ++ ys) (expand_cons x [] ∙ append-nil (entries_of x))
+pub expand_push : (xs : List Item) (x : Item) → expand (xs ++ x ∷ []) ≡ expand xs ++ ledger_entries x
+expand_push xs x = expand_append xs (x ∷ []) ∙ ap (λ ys. expand xs ++ ys) (expand_cons x [] ∙ append-nil (ledger_entries x))
 
 pub right_push : (xs : List Item) (x : Item) → AllByRecursion IsRight xs → IsRight x → AllByRecursion IsRight (xs ++ x ∷ [])
 right_push [] x h k = (k, tt)
@@ -127,21 +127,21 @@ right_at (y ∷ ys) zero x h l e = subst IsRight (sym e) h.0
 right_at (y ∷ ys) (suc i) x h l e = right_at ys i x h.1 (omega arith) e
 
 -- one more item
-pub expand_more : (xs : List Item) (i : ℕ) (x : Item) → i < length xs → x ≡ get_or xs i x → expand (take (i + 1) xs) ≡ expand (take i xs) ++ entries_of x
+pub expand_more : (xs : List Item) (i : ℕ) (x : Item) → i < length xs → x ≡ get_or xs i x → expand (take (i + 1) xs) ≡ expand (take i xs) ++ ledger_entries x
 expand_more xs i x l e = ap expand (take_more xs i x l ∙ ap (λ z. take i xs ++ z ∷ []) (sym e)) ∙ expand_push (take i xs) x
 
 -- those before an item, its own, and those after it
 pub expand_split : (xs : List Item) (i : ℕ) (x : Item) → i < length xs → x ≡ get_or xs i x
-    → expand xs ≡ expand (take i xs) ++ (entries_of x ++ expand (drop (i + 1) xs))
+    → expand xs ≡ expand (take i xs) ++ (ledger_entries x ++ expand (drop (i + 1) xs))
 expand_split xs i x l e =
     ap expand (sym (take-append-drop i xs)) ∙ expand_append (take i xs) (drop i xs)
     ∙ ap (λ ys. expand (take i xs) ++ ys) (ap expand (drop_more xs i x l ∙ ap (λ z. z ∷ drop (i + 1) xs) (sym e)) ∙ expand_cons x (drop (i + 1) xs))
 
 -- so far the items' entries were put, and then one more's
 pub put_more : (start out out' : List Entry) (xs : List Item) (i : ℕ) (x : Item) → i < length xs → x ≡ get_or xs i x
-    → out ≡ start ++ expand (take i xs) → out' ≡ out ++ entries_of x → out' ≡ start ++ expand (take (i + 1) xs)
+    → out ≡ start ++ expand (take i xs) → out' ≡ out ++ ledger_entries x → out' ≡ start ++ expand (take (i + 1) xs)
 put_more start out out' xs i x l e so_far put =
-    put ∙ ap (λ z. z ++ entries_of x) so_far ∙ append_assoc start (expand (take i xs)) (entries_of x)
+    put ∙ ap (λ z. z ++ ledger_entries x) so_far ∙ append_assoc start (expand (take i xs)) (ledger_entries x)
     ∙ ap (λ z. start ++ z) (sym (expand_more xs i x l e))
 
 pub put_all : (start out : List Entry) (xs : List Item) (i : ℕ) → length xs ≤ i → out ≡ start ++ expand (take i xs) → out ≡ start ++ expand xs
@@ -149,12 +149,12 @@ put_all start out xs i l so_far = so_far ∙ ap (λ z. start ++ expand z) (take_
 
 -- what an item raises the height to is at most what all items do
 pub height_to : (xs : List Item) (i : ℕ) (x : Item) → i < length xs → x ≡ get_or xs i x
-    → height (expand (take i xs)) + height (entries_of x) ≤ height (expand xs)
+    → height (expand (take i xs)) + height (ledger_entries x) ≤ height (expand xs)
 height_to xs i x l e =
     let after = expand (drop (i + 1) xs) in
-    let a : height (expand xs) ≡ height (expand (take i xs)) + height (entries_of x ++ after) =
-    ap height (expand_split xs i x l e) ∙ height_append (expand (take i xs)) (entries_of x ++ after) in
-    let b : height (entries_of x ++ after) ≡ height (entries_of x) + height after = height_append (entries_of x) after in
+    let a : height (expand xs) ≡ height (expand (take i xs)) + height (ledger_entries x ++ after) =
+    ap height (expand_split xs i x l e) ∙ height_append (expand (take i xs)) (ledger_entries x ++ after) in
+    let b : height (ledger_entries x ++ after) ≡ height (ledger_entries x) + height after = height_append (ledger_entries x) after in
     omega arith
 
 pub calls_append : (xs ys : List Entry) → count_by (λ e. is_call e.what) (xs ++ ys) ≡ count_by (λ e. is_call e.what) xs + count_by (λ e. is_call e.what) ys
@@ -175,15 +175,15 @@ next_some xs zero m n s e l = absurd (omega arith)
 next_some xs (suc j) m n s e l = omega arith
 
 -- the last n entries begin m entries before the end of an item
-pub last_from : (xs : List Item) (j m n : ℕ) (x : Item) → 0 < j → j ≤ length xs → x ≡ get_or xs (j - 1) x → m ≤ length (entries_of x)
-    → m + length (expand (drop j xs)) ≡ n → drop (length (entries_of x) - m) (entries_of x) ++ expand (drop j xs)
+pub last_from : (xs : List Item) (j m n : ℕ) (x : Item) → 0 < j → j ≤ length xs → x ≡ get_or xs (j - 1) x → m ≤ length (ledger_entries x)
+    → m + length (expand (drop j xs)) ≡ n → drop (length (ledger_entries x) - m) (ledger_entries x) ++ expand (drop j xs)
     ≡ drop (length (expand xs) - n) (expand xs)
 last_from xs j m n x some l k b e =
     let after : ℕ → List Entry = λ i. expand (drop i xs) in
     let i : j - 1 + 1 ≡ j = omega arith in
-    let split : expand xs ≡ expand (take (j - 1) xs) ++ (entries_of x ++ after j) =
-    expand_split xs (j - 1) x (omega arith) k ∙ ap (λ z. expand (take (j - 1) xs) ++ (entries_of x ++ after z)) i in
-    sym (ap (λ z. drop (length z - n) z) split ∙ drop_middle (expand (take (j - 1) xs)) (entries_of x) (after j) m n b e)
+    let split : expand xs ≡ expand (take (j - 1) xs) ++ (ledger_entries x ++ after j) =
+    expand_split xs (j - 1) x (omega arith) k ∙ ap (λ z. expand (take (j - 1) xs) ++ (ledger_entries x ++ after z)) i in
+    sym (ap (λ z. drop (length z - n) z) split ∙ drop_middle (expand (take (j - 1) xs)) (ledger_entries x) (after j) m n b e)
 
 -- what is left after k entries lies in the second list
 pub drop_within : (xs ys : List Entry) (k n : ℕ) → n ≤ length ys → k + n ≡ length (xs ++ ys) → drop k (xs ++ ys) ≡ drop (length ys - n) ys

@@ -15,7 +15,7 @@ use Rattle.ledger_core.specs.declared.accounts.Accounts.{Accounts}
 use Rattle.swap_digraph.specs.Deal.{party, amount}
 use Rattle.ledger_core.specs.declared.facts.Settlement.{Settlement}
 use Rattle.ledger_core.specs.declared.facts.Settlement.TheVariants.{Claimed, Refunded}
-use Rattle.ledger_core.specs.History.{accepted, Publication, publication, published, settling, settled, terms_in, opening_accounts, transferred, moved}
+use Rattle.ledger_core.specs.History.{accepted, Publication, publication, published, settling, settled, parse_terms, opening_accounts, transferred, moved}
 use Rattle.ledger_core.specs.History.{accounts, held, rows, IsLegalMoment, IsLegal}
 use Rattle.swap_base.proofs.Lists.{first_of-append, grow, all_moments_front}
 use Rattle.ledger_core.proofs.History.{claimed_done, refunded_done, of_publish, of_claim, of_refund, published-past, clear_at, of_transfer}
@@ -49,7 +49,7 @@ module _ (d : Deal) (a : ℕ) where
           of_refund d a c.past c.act.by c.clear in absurd (none-some k.contract (sym n ∙ published-past h c.past c.now k.contract c.stands k.published))
 
   abbrev held_of : Option Settlement → Option Publication → ℕ
-  held_of s p = if is_some s then 0 else (terms_in p).amount
+  held_of s p = if is_some s then 0 else (parse_terms p).amount
 
   or_else-none : {B : Type 0} (o : Option B) → or_else o None ≡ o
   or_else-none None = refl

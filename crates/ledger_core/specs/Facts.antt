@@ -12,7 +12,7 @@ use Rattle.ledger_core.specs.declared.facts.Published.{Published}
 use Rattle.ledger_core.specs.declared.facts.CallKind.{CallKind}
 use Rattle.ledger_core.specs.declared.facts.CallKind.TheVariants.{Publish, Unlock, Claim, Refund}
 use Rattle.hashkey_path.specs.declared.hashkey.Hashkey.{Hashkey}
-use Rattle.ledger_core.specs.History.{Publication, published, opening, opened, accepted, sent_by}
+use Rattle.ledger_core.specs.History.{Publication, published, opening, opened, accepted, is_sender}
 
 abbrev pub shown_as : Terms → Publication → Published
 shown_as t p = record { height = p.height; correct = same_terms p.terms t }
@@ -47,4 +47,4 @@ is_of_kind kind (Tick k) = false
 
 -- whether p made a call of that kind, whatever the reply
 abbrev pub has_call : ℕ → CallKind → List Entry → Bool
-has_call p kind h = list_any (λ e. if sent_by p e.sender then is_of_kind kind e.what else false) h
+has_call p kind h = list_any (λ e. if is_sender p e.sender then is_of_kind kind e.what else false) h

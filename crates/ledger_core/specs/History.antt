@@ -23,18 +23,18 @@ use Rattle.ledger_core.specs.declared.facts.Settlement.TheVariants.{Claimed, Ref
 
 -- What stands in a list of entries.
 
-abbrev pub ticks_in : What → ℕ
-ticks_in (Made c) = 0
-ticks_in (Tick k) = k
+abbrev pub entry_ticks : What → ℕ
+entry_ticks (Made c) = 0
+entry_ticks (Tick k) = k
 
 -- the sum of its ticks
 abbrev pub height : List Entry → ℕ
-height h = sum_by (λ e. ticks_in e.what) h
+height h = sum_by (λ e. entry_ticks e.what) h
 
 -- the call that an entry is, whatever its reply
-abbrev pub call_in : What → Option Call
-call_in (Made c) = Some c
-call_in (Tick k) = None
+abbrev pub read_raw_call : What → Option Call
+read_raw_call (Made c) = Some c
+read_raw_call (Tick k) = None
 
 -- the call that an entry is, where it was accepted
 abbrev pub accepted_call : What → Reply → Option Call
@@ -89,12 +89,12 @@ triggered d h = are_open d (is_open h)
 abbrev pub no_terms : Terms
 no_terms = record { locks = []; start = 0; delta = 0; bound = 0; timelock = 0; amount = 0 }
 
-abbrev pub terms_in : Option Publication → Terms
-terms_in None = no_terms
-terms_in (Some p) = p.terms
+abbrev pub parse_terms : Option Publication → Terms
+parse_terms None = no_terms
+parse_terms (Some p) = p.terms
 
 abbrev pub the_terms : List Entry → Terms
-the_terms h = terms_in (published h)
+the_terms h = parse_terms (published h)
 
 -- Balances: the opening ones with each accepted call applied.
 
@@ -113,16 +113,16 @@ is_party d a (Party p) = p == party d a
 is_party d a Clock = false
 
 -- after an accepted call, of the arc's party p where from_party
-abbrev pub moved_by : ℕ → Accounts → (from_party : Bool) → Option Call → Accounts
-moved_by p b from None = b
-moved_by p b from (Some (Publish terms)) = record { party = b.party - terms.amount; counterparty = b.counterparty; held = b.held + terms.amount }
-moved_by p b from (Some (Unlock key)) = b
-moved_by p b from (Some Claim) = record { party = b.party; counterparty = b.counterparty + b.held; held = 0 }
-moved_by p b from (Some Refund) = record { party = b.party + b.held; counterparty = b.counterparty; held = 0 }
-moved_by p b from (Some (Transfer to units)) = transferred b from (to == p) units
+abbrev pub moved_accounts : ℕ → Accounts → (from_party : Bool) → Option Call → Accounts
+moved_accounts p b from None = b
+moved_accounts p b from (Some (Publish terms)) = record { party = b.party - terms.amount; counterparty = b.counterparty; held = b.held + terms.amount }
+moved_accounts p b from (Some (Unlock key)) = b
+moved_accounts p b from (Some Claim) = record { party = b.party; counterparty = b.counterparty + b.held; held = 0 }
+moved_accounts p b from (Some Refund) = record { party = b.party + b.held; counterparty = b.counterparty; held = 0 }
+moved_accounts p b from (Some (Transfer to units)) = transferred b from (to == p) units
 
 abbrev pub moved : Deal → ℕ → Accounts → Sender → Option Call → Accounts
-moved d a b s o = moved_by (party d a) b (is_party d a s) o
+moved d a b s o = moved_accounts (party d a) b (is_party d a s) o
 
 abbrev pub accounts : Deal → ℕ → List Entry → Accounts
 accounts d a h = fold (λ b e. moved d a b e.sender (accepted e)) (opening_accounts d a) h
@@ -136,16 +136,16 @@ held h = if is_some (settled h) then 0 else (the_terms h).amount
 
 -- The table of replies.
 
-abbrev pub sent_by : ℕ → Sender → Bool
-sent_by p (Party q) = q == p
-sent_by p Clock = false
+abbrev pub is_sender : ℕ → Sender → Bool
+is_sender p (Party q) = q == p
+is_sender p Clock = false
 
 abbrev pub is_tick : Sender → Bool
 is_tick (Party q) = false
 is_tick Clock = true
 
 abbrev pub is_full : List Entry → ℕ → Bool
-is_full h p = nat_le 32 (count_by (λ e. sent_by p e.sender) h)
+is_full h p = nat_le 32 (count_by (λ e. is_sender p e.sender) h)
 
 abbrev pub is_clock_full : List Entry → ℕ → Bool
 is_clock_full h k = nat_le 20000 (count_by (λ e. is_tick e.sender) h) || nat_lt 1000000 (height h + k)
@@ -173,8 +173,8 @@ rows d a past p (Transfer to units) =
     (nat_lt (balance d a past p) units, NoFunds (balance d a past p)) ∷ []
 
 -- the reply to a call of p over the entries before it: the first row that applies
-abbrev pub reply_to : Deal → ℕ → List Entry → ℕ → Call → Reply
-reply_to d a past p c = first_row (rows d a past p c)
+abbrev pub history_reply : Deal → ℕ → List Entry → ℕ → Call → Reply
+history_reply d a past p c = first_row (rows d a past p c)
 
 abbrev pub reply_to_tick : List Entry → ℕ → Reply
 reply_to_tick past k = first_row ((is_clock_full past k, ClockFull) ∷ [])
@@ -196,7 +196,7 @@ pub record IsLegalCall (d : Deal) (a : ℕ) (past : List Entry) (p : ℕ) (c : C
   pub of_the_two : IsTrue (touches d p a)
   pub fits : IsTrue (fit d a c)
   pub height : at ≡ height past
-  pub reply : answer ≡ reply_to d a past p c
+  pub reply : answer ≡ history_reply d a past p c
   pub room : answer ≢ SenderFull
 
 pub record IsLegalTick (past : List Entry) (k at : ℕ) (answer : Reply) : Type 0 where

@@ -5,13 +5,13 @@ use Rattle.swap_digraph.specs.Deal.{party, counterparty, IsWellSized}
 use Rattle.escrow_core.specs.Value.{ContractState}
 use Rattle.ledger_core.specs.declared.entry.Entry.{Entry}
 use Rattle.ledger_core.specs.declared.accounts.Accounts.{Accounts}
-use Rattle.ledger_core.specs.History.{height, accounts, sent_by, is_tick, IsLegal}
+use Rattle.ledger_core.specs.History.{height, accounts, is_sender, is_tick, IsLegal}
 use Rattle.ledger_core.specs.Value.{LedgerState}
-use Rattle.ledger_core.specs.Ledger.{contract_of}
+use Rattle.ledger_core.specs.Ledger.{history_contract}
 use Rattle.ledger_core.specs.declared.ledger.Ledger.TheInside as ledger
 
-abbrev pub ledger_of : ledger.Inside → LedgerState
-ledger_of l = record { deal = l.deal; arc = l.arc; history = l.history.list; spare = l.history.spare }
+abbrev pub make_ledger : ledger.Inside → LedgerState
+make_ledger l = record { deal = l.deal; arc = l.arc; history = l.history.list; spare = l.history.spare }
 
 -- The history is legal, and what is kept beside it is what the scans of it give.
 pub record AreScans (d : Deal) (a : ℕ) (h : List Entry) (at : ℕ) (now : Accounts) (state : Option ContractState)
@@ -19,9 +19,9 @@ pub record AreScans (d : Deal) (a : ℕ) (h : List Entry) (at : ℕ) (now : Acco
   pub legal : IsLegal d a h
   pub height : at ≡ height h
   pub accounts : now ≡ accounts d a h
-  pub contract : state ≡ contract_of d a h
-  pub by_party : party_calls ≡ count_by (λ e. sent_by (party d a) e.sender) h
-  pub by_counterparty : counterparty_calls ≡ count_by (λ e. sent_by (counterparty d a) e.sender) h
+  pub contract : state ≡ history_contract d a h
+  pub by_party : party_calls ≡ count_by (λ e. is_sender (party d a) e.sender) h
+  pub by_counterparty : counterparty_calls ≡ count_by (λ e. is_sender (counterparty d a) e.sender) h
   pub ticks : clock_calls ≡ count_by (λ e. is_tick e.sender) h
 
 pub record IsKept (l : ledger.Inside) : Type 0 where

@@ -6,14 +6,14 @@ use Rattle.swap_digraph.specs.Deal.{party, counterparty, amount, locks}
 use Rattle.escrow_core.specs.declared.reply.Reply.{Reply}
 use Rattle.escrow_core.specs.declared.reply.Reply.TheVariants.{NotParty, NoContract, AlreadyPublished, NoFunds, SenderFull}
 use Rattle.escrow_core.specs.Table.{first_row, unlock_rows, claim_rows, refund_rows}
-use Rattle.escrow_core.specs.Value.{ContractState, IsFor, is_open_in, new_contract, with_opened, with_settled}
+use Rattle.escrow_core.specs.Value.{ContractState, IsFor, is_lock_open, new_contract, with_opened, with_settled}
 use Rattle.ledger_core.specs.declared.entry.Call.{Call}
 use Rattle.ledger_core.specs.declared.entry.Call.TheVariants.{Publish, Unlock, Claim, Refund, Transfer}
 use Rattle.ledger_core.specs.declared.entry.Sender.TheVariants.{Party, Clock}
 use Rattle.ledger_core.specs.declared.entry.What.TheVariants.{Call as Made, Tick}
 use Rattle.ledger_core.specs.declared.entry.Entry.{Entry}
 use Rattle.ledger_core.specs.declared.accounts.Accounts.{Accounts}
-use Rattle.ledger_core.specs.History.{Publication, published, opened, settled, is_open, balance, held, height, reply_to}
+use Rattle.ledger_core.specs.History.{Publication, published, opened, settled, is_open, balance, held, height, history_reply}
 use Rattle.ledger_core.specs.Value.{LedgerState}
 
 -- the entry of a call of p, at a height
@@ -27,7 +27,7 @@ is_sender_full _ = false
 
 -- the history of arc a after a call of p, which leaves no entry where the sender is full
 unfoldable pub after_call : Deal → ℕ → ℕ → Call → List Entry → List Entry
-after_call d a p c h = if is_sender_full (reply_to d a h p c) then h else h ++ call_entry p (height h) c (reply_to d a h p c) ∷ []
+after_call d a p c h = if is_sender_full (history_reply d a h p c) then h else h ++ call_entry p (height h) c (history_reply d a h p c) ∷ []
 
 -- the entry of a tick by k, with the height after it
 abbrev pub tick_entry : (k at : ℕ) → Reply → Entry
@@ -53,30 +53,30 @@ AddUp d a h = (past rest : List Entry) → h ≡ past ++ rest → balance d a pa
 
 -- The contract that a history leaves.
 
-abbrev pub contract_with : Deal → ℕ → List Entry → Publication → ContractState
-contract_with d a h p =
+abbrev pub published_contract : Deal → ℕ → List Entry → Publication → ContractState
+published_contract d a h p =
     record { arc = a; from = party d a; to = counterparty d a; terms = p.terms; opened = map (is_open h) (locks d); settled = is_some (settled h) }
 
-abbrev pub contract_of : Deal → ℕ → List Entry → Option ContractState
-contract_of d a h = option_map (contract_with d a h) (published h)
+abbrev pub history_contract : Deal → ℕ → List Entry → Option ContractState
+history_contract d a h = option_map (published_contract d a h) (published h)
 
 -- after an accepted call
-abbrev pub contract_after : Deal → ℕ → Option ContractState → Option Call → Option ContractState
-contract_after d a c None = c
-contract_after d a c (Some (Publish t)) = Some (new_contract d a t)
-contract_after d a c (Some (Unlock key)) = option_map (λ s. with_opened s key.lock) c
-contract_after d a c (Some Claim) = option_map with_settled c
-contract_after d a c (Some Refund) = option_map with_settled c
-contract_after d a c (Some (Transfer to units)) = c
+abbrev pub next_contract : Deal → ℕ → Option ContractState → Option Call → Option ContractState
+next_contract d a c None = c
+next_contract d a c (Some (Publish t)) = Some (new_contract d a t)
+next_contract d a c (Some (Unlock key)) = option_map (λ s. with_opened s key.lock) c
+next_contract d a c (Some Claim) = option_map with_settled c
+next_contract d a c (Some Refund) = option_map with_settled c
+next_contract d a c (Some (Transfer to units)) = c
 
 -- A contract of arc a.
 pub record IsContractOf (d : Deal) (a : ℕ) (c : ContractState) : Type 0 where
   pub arc : c.arc ≡ a
   pub kept : IsFor d c
 
-abbrev pub IsContractIn : Deal → ℕ → Option ContractState → Type 0
-IsContractIn d a None = Unit {0}
-IsContractIn d a (Some c) = IsContractOf d a c
+abbrev pub IsHistoryContract : Deal → ℕ → Option ContractState → Type 0
+IsHistoryContract d a None = Unit {0}
+IsHistoryContract d a (Some c) = IsContractOf d a c
 
 -- the rows of the contract, where there is one
 abbrev pub by_contract : Option ContractState → (ContractState → List (Bool × Reply)) → Reply
@@ -87,9 +87,9 @@ by_contract (Some c) rows = first_row (rows c)
 abbrev pub reply_by : Deal → ℕ → Option ContractState → (height have p : ℕ) → Call → Reply
 reply_by d a o t have p (Publish terms) =
     first_row ((not (p == party d a), NotParty) ∷ (is_some o, AlreadyPublished) ∷ (nat_lt have terms.amount, NoFunds have) ∷ [])
-reply_by d a o t have p (Unlock key) = by_contract o (λ c. unlock_rows d a c.terms (is_open_in c) c.settled t p key)
-reply_by d a o t have p Claim = by_contract o (λ c. claim_rows d a (is_open_in c) c.settled p)
-reply_by d a o t have p Refund = by_contract o (λ c. refund_rows d a c.terms (is_open_in c) c.settled t p)
+reply_by d a o t have p (Unlock key) = by_contract o (λ c. unlock_rows d a c.terms (is_lock_open c) c.settled t p key)
+reply_by d a o t have p Claim = by_contract o (λ c. claim_rows d a (is_lock_open c) c.settled p)
+reply_by d a o t have p Refund = by_contract o (λ c. refund_rows d a c.terms (is_lock_open c) c.settled t p)
 reply_by d a o t have p (Transfer to units) = first_row ((nat_lt have units, NoFunds have) ∷ [])
 
 -- The sender of an accepted call has what it moves.

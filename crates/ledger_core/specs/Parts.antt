@@ -2,22 +2,22 @@
 use Rattle.std.specs.Prelude.{◌≡◌, ◌-◌, ◌++◌, ℕ, Bool, true, false, nat_lt, if◌then◌else◌, List, length, is_some, vec_len, vec_capacity}
 use Rattle.std.specs.List.{AllByRecursion}
 use Rattle.ledger_core.specs.declared.entry.Entry.{Entry}
-use Rattle.ledger_core.specs.Runs.{expand, ticks_of, IsRight, IsRightRun}
+use Rattle.ledger_core.specs.Runs.{expand, run_ticks, IsRight, IsRightRun}
 use Rattle.ledger_core.specs.Value.{HistoryState}
 use Rattle.ledger_core.specs.declared.ledger_history.LedgerHistory.TheInside.{Inside}
 
-abbrev pub list_of : Inside → List Entry
-list_of h = expand h.items.items ++ ticks_of h.open
+abbrev pub inside_entries : Inside → List Entry
+inside_entries h = expand h.items.items ++ run_ticks h.open
 
 -- An entry may need two places, one for the ticks that it closes and its own, and a call's entry has memory of its own besides.
 abbrev pub spare_of : (has_room : Bool) (places : ℕ) → ℕ
 spare_of false places = 0
 spare_of true places = if nat_lt 1 places then 1 else 0
 
-abbrev pub history_of : Inside → HistoryState
-history_of h = record { list = list_of h; spare = spare_of (is_some h.room) (vec_capacity h.items - vec_len h.items) }
+abbrev pub released_history : Inside → HistoryState
+released_history h = record { list = inside_entries h; spare = spare_of (is_some h.room) (vec_capacity h.items - vec_len h.items) }
 
 pub record AreParts (h : Inside) : Type 0 where
   pub items : AllByRecursion IsRight h.items.items
   pub run : IsRightRun h.open
-  pub count : h.count ≡ length (list_of h)
+  pub count : h.count ≡ length (inside_entries h)

@@ -14,17 +14,17 @@ ticks_above at k zero = []
 ticks_above at k (suc n) = ticks_above at k n ++ tick_entry k (at + k * suc n) Accepted ∷ []
 
 -- the ticks of a run
-abbrev pub ticks_of : Run → List Entry
-ticks_of r = ticks_above r.above r.by r.count
+abbrev pub run_ticks : Run → List Entry
+run_ticks r = ticks_above r.above r.by r.count
 
 -- the entries of an item
-abbrev pub entries_of : Item → List Entry
-entries_of (One e) = e ∷ []
-entries_of (Ticks r) = ticks_of r
+abbrev pub ledger_entries : Item → List Entry
+ledger_entries (One e) = e ∷ []
+ledger_entries (Ticks r) = run_ticks r
 
 -- the entries of the items, oldest first
 abbrev pub expand : List Item → List Entry
-expand items = flat_map entries_of items
+expand items = flat_map ledger_entries items
 
 -- the height after the run's last tick is a number of 32 bits
 abbrev pub IsRightRun : Run → Type 0

@@ -9,7 +9,7 @@ ghost use Rattle.ledger_core.specs.Runs.{expand};
 use crate::accounts::Accounts;
 use crate::entry::{Entry, Sender, What};
 use crate::entry_list::EntryList;
-use crate::reply_of::accounts_after;
+use crate::make_reply::updated_accounts;
 use crate::runs::Item;
 use swap_base::ArcId;
 use swap_digraph::Deal;
@@ -26,7 +26,7 @@ fn is_party(deal: &Deal, arc: ArcId, sender: Sender) -> bool
 }
 
 /// The accounts after an entry, from those before it.
-fn accounts_with(deal: &Deal, arc: ArcId, accounts: Accounts, entry: &Entry) -> Accounts
+fn next_accounts(deal: &Deal, arc: ArcId, accounts: Accounts, entry: &Entry) -> Accounts
     requires arc { arc < length deal.now.graph.arcs }
     requires funds { CanMove accounts (is_party deal.now arc entry.now.sender) (accepted entry.now) }
     requires bound { accounts.party + accounts.counterparty + accounts.held ≤ 1000000000000 }
@@ -35,13 +35,13 @@ fn accounts_with(deal: &Deal, arc: ArcId, accounts: Accounts, entry: &Entry) -> 
     let from_party = is_party(deal, arc, entry.sender);
     let party = deal.graph.arcs()[arc as usize].from;
     match &entry.what {
-        What::Call(call) => accounts_after(party, accounts, from_party, call, entry.reply),
+        What::Call(call) => updated_accounts(party, accounts, from_party, call, entry.reply),
         What::Tick(_) => accounts,
     }
 }
 
 /// The balances and the held amount of the arc's ledger after the entries of these items, in units.
-fn accounts_in(deal: &Deal, arc: ArcId, items: &[Item]) -> Accounts
+fn collect_accounts(deal: &Deal, arc: ArcId, items: &[Item]) -> Accounts
     requires sized { IsWellSized deal.now }
     requires arc { arc < length deal.now.graph.arcs }
     requires legal { IsLegal deal.now arc (expand items.now) }
@@ -54,7 +54,7 @@ fn accounts_in(deal: &Deal, arc: ArcId, items: &[Item]) -> Accounts
     };
     for item in items {
         accounts = match item {
-            Item::One(entry) => accounts_with(deal, arc, accounts, entry),
+            Item::One(entry) => next_accounts(deal, arc, accounts, entry),
             Item::Ticks(_) => accounts,
         };
     }
@@ -62,7 +62,7 @@ fn accounts_in(deal: &Deal, arc: ArcId, items: &[Item]) -> Accounts
 }
 
 /// The balances and the held amount of the arc's ledger after these entries, in units.
-pub fn accounts_of(deal: &Deal, arc: ArcId, list: &EntryList) -> Accounts
+pub fn history_accounts(deal: &Deal, arc: ArcId, list: &EntryList) -> Accounts
     requires sized { IsWellSized deal.now }
     requires arc { arc < length deal.now.graph.arcs }
     requires legal { IsLegal deal.now arc list.now }
@@ -70,5 +70,5 @@ pub fn accounts_of(deal: &Deal, arc: ArcId, list: &EntryList) -> Accounts
 {
     // Ticks move no units.
     let (items, _) = list.parts();
-    accounts_in(deal, arc, items)
+    collect_accounts(deal, arc, items)
 }

@@ -5,11 +5,11 @@ ghost use Rattle.std.specs.List.{AllByRecursion};
 ghost use Rattle.ledger_core.specs.Facts.{is_call};
 ghost use Rattle.ledger_core.specs.History.{height};
 ghost use Rattle.ledger_core.specs.Ledger.{tick_entry};
-ghost use Rattle.ledger_core.specs.Runs.{ticks_of, expand, IsRight, IsRightRun};
+ghost use Rattle.ledger_core.specs.Runs.{run_ticks, expand, IsRight, IsRightRun};
 
 use crate::entry::{Entry, Sender, What};
 use crate::ledger_history::LedgerHistory;
-use crate::runs::{Item, Run, calls_in, rise_in, rise_of};
+use crate::runs::{Item, Run, call_count, item_rise, run_rise};
 use crate::spread::{put_items, put_ticks};
 use escrow_core::Reply;
 use std::alloc::Global;
@@ -62,7 +62,7 @@ impl EntryList {
 
     /// The items, and the ticks after them.
     pub fn parts(&self) -> (&[Item], Run)
-        ensures list { self.now ≡ expand result.0.now ++ ticks_of result.1 }
+        ensures list { self.now ≡ expand result.0.now ++ run_ticks result.1 }
         ensures right { AllByRecursion IsRight result.0.now }
         ensures right_run { IsRightRun result.1 }
     {
@@ -71,7 +71,7 @@ impl EntryList {
 
     /// The items, and the ticks after them, without taking memory.
     pub fn into_parts(self) -> (Vec<Item>, Run)
-        ensures list { self ≡ expand result.0.items ++ ticks_of result.1 }
+        ensures list { self ≡ expand result.0.items ++ run_ticks result.1 }
         ensures right { AllByRecursion IsRight result.0.items }
         ensures right_run { IsRightRun result.1 }
     {
@@ -85,7 +85,7 @@ impl EntryList {
         ensures { result ≡ height self.now }
     {
         let (items, open) = self.entries.parts();
-        height_of(items) + rise_of(open)
+        latest_height(items) + run_rise(open)
     }
 
     /// How many entries are calls.
@@ -94,7 +94,7 @@ impl EntryList {
         ensures { result ≡ count_by (λ e. is_call e.what) self.now }
     {
         let (items, _) = self.entries.parts();
-        calls_of(items)
+        total_calls(items)
     }
 
     /// The entries one by one.
@@ -117,7 +117,7 @@ impl EntryList {
             return Err(NoMemory);
         }
         self.entries.reserve()?;
-        match tick_of(&entry) {
+        match entry_tick(&entry) {
             Some(k) => self.entries.tick(k, entry.height),
             None => self.entries.push(entry),
         }
@@ -136,13 +136,13 @@ impl EntryList {
 impl TryCopy for EntryList {
     fn copy(&self) -> Result<EntryList, NoMemory> {
         Ok(EntryList {
-            entries: self.entries.copy_from(0)?,
+            entries: self.entries.copy_tail(0)?,
         })
     }
 }
 
 /// By how many heights an entry raised the ledger, where it is a tick that the ledger accepted.
-fn tick_of(entry: &Entry) -> Option<u32>
+fn entry_tick(entry: &Entry) -> Option<u32>
     ensures entry { IfSome result (λ k. entry.now ≡ tick_entry k entry.now.height Reply.Accepted) }
     ensures low { IfSome result (λ k. k ≤ entry.now.height) }
 {
@@ -155,24 +155,24 @@ fn tick_of(entry: &Entry) -> Option<u32>
 }
 
 /// By how many heights the items raise a ledger.
-fn height_of(items: &[Item]) -> u32
+fn latest_height(items: &[Item]) -> u32
     requires { height (expand items.now) < 2 ^ 32 }
     ensures { result ≡ height (expand items.now) }
 {
     let mut sum: u32 = 0;
     for item in items {
-        sum += rise_in(item);
+        sum += item_rise(item);
     }
     sum
 }
 
 /// How many entries of the items are calls.
-fn calls_of(items: &[Item]) -> usize
+fn total_calls(items: &[Item]) -> usize
     ensures { result ≡ count_by (λ e. is_call e.what) (expand items.now) }
 {
     let mut sum: usize = 0;
     for item in items {
-        sum += calls_in(item);
+        sum += call_count(item);
     }
     sum
 }

@@ -2,15 +2,15 @@
 
 ghost use Rattle.std.specs.Prelude.{◌≡◌, ◌≢◌, ◌<◌, ◌≤◌, ◌+◌, ◌==◌, ◌||◌, ◌&&◌, [], IsTrue, length, drop, is_some, is_none, OnOk, OnErr, IfOk};
 ghost use Rattle.swap_digraph.specs.Deal.{party, counterparty, IsWellSized, touches};
-ghost use Rattle.ledger_core.specs.History.{height, held, balance, accounts, published, settled, fit, is_full, reply_to, reply_to_tick, IsLegal};
-ghost use Rattle.ledger_core.specs.Known.{is_known_in};
+ghost use Rattle.ledger_core.specs.History.{height, held, balance, accounts, published, settled, fit, is_full, history_reply, reply_to_tick, IsLegal};
+ghost use Rattle.ledger_core.specs.Known.{is_known_call};
 ghost use Rattle.ledger_core.specs.Ledger.{call_entry, tick_entry, IsAfter, AreKept, AddUp};
 
 use crate::accounts::Accounts;
 use crate::entry::{Call, Entry, Sender, What};
 use crate::entry_list::EntryList;
 use crate::ledger_history::LedgerHistory;
-use crate::reply_of::{accounts_after, one_more_where, reply_of};
+use crate::make_reply::{make_reply, one_more_where, updated_accounts};
 use escrow_core::{Contract, Reply};
 use std::alloc::Global;
 use std::marker::Model;
@@ -38,9 +38,9 @@ impl Model for Ledger {
 
     ghost Value = { LedgerState };
 
-    ghost use Rattle.ledger_core.specs.Inside.{ledger_of, IsKept};
+    ghost use Rattle.ledger_core.specs.Inside.{make_ledger, IsKept};
 
-    ghost view = { ledger_of };
+    ghost view = { make_ledger };
 
     ghost invariant = { IsKept };
 }
@@ -105,8 +105,8 @@ impl Ledger {
         requires spare { 0 < self.old.spare }
         requires of_the_two { IsTrue (touches self.old.deal sender self.old.arc) }
         requires fits { IsTrue (fit self.old.deal self.old.arc call) }
-        requires known { IsTrue (is_known_in known self.old.deal call) }
-        ensures reply { result ≡ reply_to self.old.deal self.old.arc self.old.history sender call }
+        requires known { IsTrue (is_known_call known self.old.deal call) }
+        ensures reply { result ≡ history_reply self.old.deal self.old.arc self.old.history sender call }
         ensures full { result ≡ Reply.SenderFull → self.new ≡ self.old }
         ensures kept { result ≢ Reply.SenderFull → IsAfter self.old (call_entry sender (height self.old.history) call result) self.new }
         ensures refused { result ≢ Reply.Accepted → AreKept self.old.deal self.old.arc self.old.history self.new.history }
@@ -118,7 +118,7 @@ impl Ledger {
         }
         let balance = self.balance(sender);
         let from_party = sender == self.party;
-        let reply = reply_of(
+        let reply = make_reply(
             &self.deal,
             self.arc,
             &mut self.contract,
@@ -128,7 +128,7 @@ impl Ledger {
             &call,
             known,
         );
-        self.accounts = accounts_after(self.party, self.accounts, from_party, &call, reply);
+        self.accounts = updated_accounts(self.party, self.accounts, from_party, &call, reply);
         self.party_calls = one_more_where(from_party, self.party_calls);
         self.counterparty_calls = one_more_where(
             sender == self.counterparty,
@@ -255,10 +255,10 @@ impl Ledger {
     }
 
     /// A copy of the entries from k on.
-    pub fn copy_from(&self, k: usize) -> Result<EntryList, NoMemory>
+    pub fn copy_tail(&self, k: usize) -> Result<EntryList, NoMemory>
         requires { k ≤ length self.now.history }
         ensures { IfOk result (λ l. l ≡ drop k self.now.history) }
     {
-        Ok(EntryList::of(self.history.copy_from(k)?))
+        Ok(EntryList::of(self.history.copy_tail(k)?))
     }
 }

@@ -3,11 +3,11 @@
 ghost use Rattle.std.specs.Prelude.{◌≡◌, ◌<◌, ◌≤◌, ◌+◌, ◌-◌, ◌++◌, ◌∷◌, [], OnOk, OnErr, IfOk, length, drop, is_some, true, false, vec_len, vec_capacity};
 ghost use Rattle.std.specs.List.{AllByRecursion};
 ghost use Rattle.ledger_core.specs.Ledger.{tick_entry};
-ghost use Rattle.ledger_core.specs.Runs.{ticks_of, entries_of, expand, IsRight, IsRightRun};
+ghost use Rattle.ledger_core.specs.Runs.{run_ticks, ledger_entries, expand, IsRight, IsRightRun};
 
 use crate::boxed_entry::BoxedEntry;
 use crate::entry::{Entry, Sender, What};
-use crate::runs::{Item, Run, ending, entries_in, joined, last_of, longer, no_ticks, single};
+use crate::runs::{Item, Run, all_entries, ending, joined, last_run, longer, no_ticks, single};
 use escrow_core::Reply;
 use std::alloc::Global;
 use std::marker::Model;
@@ -28,9 +28,9 @@ impl Model for LedgerHistory {
 
     ghost Value = { HistoryState };
 
-    ghost use Rattle.ledger_core.specs.Parts.{history_of, AreParts};
+    ghost use Rattle.ledger_core.specs.Parts.{released_history, AreParts};
 
-    ghost view = { history_of };
+    ghost view = { released_history };
 
     ghost invariant = { AreParts };
 }
@@ -101,7 +101,7 @@ impl LedgerHistory {
     fn join(&mut self, run: Run) -> bool
         requires right { IsRightRun run }
         requires few { length self.old.list + run.count ≤ usize.MAX }
-        ensures joined { result ≡ true → self.new.list ≡ self.old.list ++ ticks_of run }
+        ensures joined { result ≡ true → self.new.list ≡ self.old.list ++ run_ticks run }
         ensures apart { result ≡ false → self.new ≡ self.old }
     {
         match joined(self.open, run) {
@@ -131,7 +131,7 @@ impl LedgerHistory {
         if items.is_empty() && self.join(open) {
             return Ok(());
         }
-        put_on(&mut self.items, self.open, items)?;
+        append_items(&mut self.items, self.open, items)?;
         self.open = open;
         self.count += count;
         Ok(())
@@ -146,7 +146,7 @@ impl LedgerHistory {
 
     /// The items, and the ticks after them.
     pub fn parts(&self) -> (&[Item], Run)
-        ensures list { self.now.list ≡ expand result.0.now ++ ticks_of result.1 }
+        ensures list { self.now.list ≡ expand result.0.now ++ run_ticks result.1 }
         ensures right { AllByRecursion IsRight result.0.now }
         ensures right_run { IsRightRun result.1 }
     {
@@ -155,7 +155,7 @@ impl LedgerHistory {
 
     /// The items, and the ticks after them, without taking memory.
     pub fn into_parts(self) -> (Vec<Item>, Run)
-        ensures list { self.list ≡ expand result.0.items ++ ticks_of result.1 }
+        ensures list { self.list ≡ expand result.0.items ++ run_ticks result.1 }
         ensures right { AllByRecursion IsRight result.0.items }
         ensures right_run { IsRightRun result.1 }
     {
@@ -163,7 +163,7 @@ impl LedgerHistory {
     }
 
     /// A copy of the entries from k on. What it costs grows with them alone, and it takes no memory where they are ticks after the last item.
-    pub fn copy_from(&self, k: usize) -> Result<LedgerHistory, NoMemory>
+    pub fn copy_tail(&self, k: usize) -> Result<LedgerHistory, NoMemory>
         requires { k ≤ length self.now.list }
         ensures { IfOk result (λ h. h.list ≡ drop k self.now.list) }
     {
@@ -173,7 +173,7 @@ impl LedgerHistory {
         if fresh <= after {
             return Ok(LedgerHistory {
                 items: Vec::new(alloc),
-                open: last_of(self.open, fresh),
+                open: last_run(self.open, fresh),
                 count: fresh,
                 room: None,
             });
@@ -240,7 +240,7 @@ fn close(items: &mut Vec<Item>, run: Run)
     requires room { vec_len items.old < vec_capacity items.old }
     requires right { AllByRecursion IsRight items.old.items }
     requires right_run { IsRightRun run }
-    ensures list { expand items.new.items ≡ expand items.old.items ++ ticks_of run }
+    ensures list { expand items.new.items ≡ expand items.old.items ++ run_ticks run }
     ensures right { AllByRecursion IsRight items.new.items }
     ensures len { vec_len items.new ≤ vec_len items.old + 1 }
     ensures capacity { vec_capacity items.old ≤ vec_capacity items.new }
@@ -251,11 +251,11 @@ fn close(items: &mut Vec<Item>, run: Run)
 }
 
 /// Puts a run and further items after the items, all or nothing.
-fn put_on(items: &mut Vec<Item>, run: Run, mut more: Vec<Item>) -> Result<(), NoMemory>
+fn append_items(items: &mut Vec<Item>, run: Run, mut more: Vec<Item>) -> Result<(), NoMemory>
     requires right { AllByRecursion IsRight items.old.items }
     requires right_run { IsRightRun run }
     requires right_more { AllByRecursion IsRight more.items }
-    ensures list { OnOk result (expand items.new.items ≡ expand items.old.items ++ ticks_of run ++ expand more.items) }
+    ensures list { OnOk result (expand items.new.items ≡ expand items.old.items ++ run_ticks run ++ expand more.items) }
     ensures right { OnOk result (AllByRecursion IsRight items.new.items) }
     ensures err { OnErr result (items.new.items ≡ items.old.items) }
     ensures err_len { OnErr result (vec_len items.new ≡ vec_len items.old) }
@@ -281,19 +281,19 @@ struct Begin {
 }
 
 /// Where the last n entries of the items begin.
-fn begin_of(items: &[Item], n: usize) -> Result<Begin, NoMemory>
+fn copied_begin(items: &[Item], n: usize) -> Result<Begin, NoMemory>
     requires some { 0 < n }
     requires within { n ≤ length (expand items.now) }
     requires right { AllByRecursion IsRight items.now }
     ensures next { IfOk result (λ b. b.next ≤ length items.now) }
     ensures right { IfOk result (λ b. IsRight b.first) }
-    ensures list { IfOk result (λ b. entries_of b.first ++ expand (drop b.next items.now) ≡ drop (length (expand items.now) - n) (expand items.now)) }
+    ensures list { IfOk result (λ b. ledger_entries b.first ++ expand (drop b.next items.now) ≡ drop (length (expand items.now) - n) (expand items.now)) }
 {
     let mut next = items.len();
     let mut missing = n;
     loop {
         let item = &items[next - 1];
-        let size = entries_in(item);
+        let size = all_entries(item);
         if missing <= size {
             let first = ending(item, missing)?;
             return Ok(Begin { first, next });
@@ -304,7 +304,7 @@ fn begin_of(items: &[Item], n: usize) -> Result<Begin, NoMemory>
 }
 
 /// Copies items to the end of a list.
-fn copy_onto(list: &mut Vec<Item>, items: &[Item]) -> Result<(), NoMemory>
+fn append_copies(list: &mut Vec<Item>, items: &[Item]) -> Result<(), NoMemory>
     ensures { OnOk result (list.new.items ≡ list.old.items ++ items.now) }
 {
     for item in items {
@@ -321,9 +321,9 @@ fn copy_last(alloc: Global, items: &[Item], n: usize) -> Result<Vec<Item>, NoMem
     ensures list { IfOk result (λ v. expand v.items ≡ drop (length (expand items.now) - n) (expand items.now)) }
     ensures right { IfOk result (λ v. AllByRecursion IsRight v.items) }
 {
-    let Begin { first, next } = begin_of(items, n)?;
+    let Begin { first, next } = copied_begin(items, n)?;
     let mut list = Vec::with_capacity(alloc, items.len() - next + 1)?;
     list.push(first)?;
-    copy_onto(&mut list, &items[next..])?;
+    append_copies(&mut list, &items[next..])?;
     Ok(list)
 }

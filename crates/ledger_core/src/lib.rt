@@ -21,12 +21,12 @@ mod fitting;
 mod held_deal;
 mod ledger;
 mod ledger_history;
-mod reply_of;
+mod make_reply;
 mod runs;
 mod spread;
 
 pub use accounts::Accounts;
-pub use balances::accounts_of;
+pub use balances::history_accounts;
 pub use boxed_entry::BoxedEntry;
 pub use entry::{Book, Call, Entry, Sender, What};
 pub use entry_list::EntryList;

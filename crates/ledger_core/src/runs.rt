@@ -4,7 +4,7 @@ ghost use Rattle.std.specs.Prelude.{◌≡◌, ◌<◌, ◌≤◌, ◌-◌, ◌+
 ghost use Rattle.ledger_core.specs.Facts.{is_call};
 ghost use Rattle.ledger_core.specs.History.{height};
 ghost use Rattle.ledger_core.specs.Ledger.{tick_entry};
-ghost use Rattle.ledger_core.specs.Runs.{ticks_of, entries_of, IsRight, IsRightRun};
+ghost use Rattle.ledger_core.specs.Runs.{run_ticks, ledger_entries, IsRight, IsRightRun};
 
 use crate::boxed_entry::BoxedEntry;
 use crate::entry::What;
@@ -40,7 +40,7 @@ impl TryCopy for Item {
 
 /// A run without ticks.
 pub(crate) fn no_ticks() -> Run
-    ensures ticks { ticks_of result ≡ [] }
+    ensures ticks { run_ticks result ≡ [] }
     ensures right { IsRightRun result }
     ensures count { result.count ≡ 0 }
 {
@@ -54,7 +54,7 @@ pub(crate) fn no_ticks() -> Run
 /// A run of one tick by k, after which the height is `height`.
 pub(crate) fn single(k: u32, height: u32) -> Run
     requires { k ≤ height }
-    ensures ticks { ticks_of result ≡ tick_entry k height Reply.Accepted ∷ [] }
+    ensures ticks { run_ticks result ≡ tick_entry k height Reply.Accepted ∷ [] }
     ensures right { IsRightRun result }
 {
     Run {
@@ -68,7 +68,7 @@ pub(crate) fn single(k: u32, height: u32) -> Run
 pub(crate) fn longer(run: Run, k: u32, height: u32) -> Option<Run>
     requires low { k ≤ height }
     requires right { IsRightRun run }
-    ensures ticks { IfSome result (λ r. ticks_of r ≡ ticks_of run ++ tick_entry k height Reply.Accepted ∷ []) }
+    ensures ticks { IfSome result (λ r. run_ticks r ≡ run_ticks run ++ tick_entry k height Reply.Accepted ∷ []) }
     ensures right { IfSome result IsRightRun }
 {
     if run.by == k && run.above + run.by * run.count == height - k && run.count < u32::MAX {
@@ -87,7 +87,7 @@ pub(crate) fn longer(run: Run, k: u32, height: u32) -> Option<Run>
 pub(crate) fn joined(run: Run, more: Run) -> Option<Run>
     requires right { IsRightRun run }
     requires right_more { IsRightRun more }
-    ensures ticks { IfSome result (λ r. ticks_of r ≡ ticks_of run ++ ticks_of more) }
+    ensures ticks { IfSome result (λ r. run_ticks r ≡ run_ticks run ++ run_ticks more) }
     ensures right { IfSome result IsRightRun }
 {
     if run.by == more.by
@@ -106,10 +106,10 @@ pub(crate) fn joined(run: Run, more: Run) -> Option<Run>
 
 /// The last n ticks of a run.
 #[tactic(auto, using(crate::proofs::Ticks::last_right))]
-pub(crate) fn last_of(run: Run, n: usize) -> Run
+pub(crate) fn last_run(run: Run, n: usize) -> Run
     requires within { n ≤ run.count }
     requires right { IsRightRun run }
-    ensures ticks { ticks_of result ≡ drop (run.count - n) (ticks_of run) }
+    ensures ticks { run_ticks result ≡ drop (run.count - n) (run_ticks run) }
     ensures right { IsRightRun result }
 {
     let count = n as u32;
@@ -122,8 +122,8 @@ pub(crate) fn last_of(run: Run, n: usize) -> Run
 
 /// How many entries an item stands for.
 #[tactic(auto, using(crate::proofs::Ticks::length_ticks))]
-pub(crate) fn entries_in(item: &Item) -> usize
-    ensures { result ≡ length (entries_of item.now) }
+pub(crate) fn all_entries(item: &Item) -> usize
+    ensures { result ≡ length (ledger_entries item.now) }
 {
     match item {
         Item::One(_) => 1,
@@ -135,44 +135,44 @@ pub(crate) fn entries_in(item: &Item) -> usize
 #[tactic(auto, using(crate::proofs::Ticks::length_ticks))]
 pub(crate) fn ending(item: &Item, n: usize) -> Result<Item, NoMemory>
     requires some { 0 < n }
-    requires within { n ≤ length (entries_of item.now) }
+    requires within { n ≤ length (ledger_entries item.now) }
     requires right { IsRight item.now }
-    ensures entries { IfOk result (λ i. entries_of i ≡ drop (length (entries_of item.now) - n) (entries_of item.now)) }
+    ensures entries { IfOk result (λ i. ledger_entries i ≡ drop (length (ledger_entries item.now) - n) (ledger_entries item.now)) }
     ensures right { IfOk result IsRight }
 {
     match item {
         Item::One(entry) => Ok(Item::One(entry.copy()?)),
-        Item::Ticks(run) => Ok(Item::Ticks(last_of(*run, n))),
+        Item::Ticks(run) => Ok(Item::Ticks(last_run(*run, n))),
     }
 }
 
 /// By how many heights a run raises the ledger.
 #[tactic(auto, using(crate::proofs::Ticks::height_ticks))]
-pub(crate) fn rise_of(run: Run) -> u32
-    requires { height (ticks_of run) < 2 ^ 32 }
-    ensures { result ≡ height (ticks_of run) }
+pub(crate) fn run_rise(run: Run) -> u32
+    requires { height (run_ticks run) < 2 ^ 32 }
+    ensures { result ≡ height (run_ticks run) }
 {
     run.by * run.count
 }
 
 /// By how many heights an item raises the ledger.
-pub(crate) fn rise_in(item: &Item) -> u32
-    requires { height (entries_of item.now) < 2 ^ 32 }
-    ensures { result ≡ height (entries_of item.now) }
+pub(crate) fn item_rise(item: &Item) -> u32
+    requires { height (ledger_entries item.now) < 2 ^ 32 }
+    ensures { result ≡ height (ledger_entries item.now) }
 {
     match item {
         Item::One(entry) => match &entry.what {
             What::Call(_) => 0,
             What::Tick(k) => *k,
         },
-        Item::Ticks(run) => rise_of(*run),
+        Item::Ticks(run) => run_rise(*run),
     }
 }
 
 /// How many calls an item stands for.
 #[tactic(auto, using(crate::proofs::Ticks::calls_ticks))]
-pub(crate) fn calls_in(item: &Item) -> usize
-    ensures value { result ≡ count_by (λ e. is_call e.what) (entries_of item.now) }
+pub(crate) fn call_count(item: &Item) -> usize
+    ensures value { result ≡ count_by (λ e. is_call e.what) (ledger_entries item.now) }
     ensures few { result ≤ 1 }
 {
     match item {

@@ -2,7 +2,7 @@
 
 ghost use Rattle.std.specs.Prelude.{◌≡◌, ◌++◌, ◌∷◌, [], OnOk};
 ghost use Rattle.std.specs.List.{AllByRecursion};
-ghost use Rattle.ledger_core.specs.Runs.{ticks_of, entries_of, expand, IsRight, IsRightRun};
+ghost use Rattle.ledger_core.specs.Runs.{run_ticks, ledger_entries, expand, IsRight, IsRightRun};
 
 use crate::entry::{Entry, Sender, What};
 use crate::runs::{Item, Run};
@@ -12,7 +12,7 @@ use swap_base::{NoMemory, TryCopy};
 /// Adds the ticks of a run, one by one.
 pub(crate) fn put_ticks(out: &mut Vec<Entry>, run: Run) -> Result<(), NoMemory>
     requires { IsRightRun run }
-    ensures { OnOk result (out.new.items ≡ out.old.items ++ ticks_of run) }
+    ensures { OnOk result (out.new.items ≡ out.old.items ++ run_ticks run) }
 {
     let mut height = run.above;
     'ticks: for _ in 0..run.count {
@@ -36,7 +36,7 @@ fn put_entry(out: &mut Vec<Entry>, entry: &Entry) -> Result<(), NoMemory>
 
 fn put_item(out: &mut Vec<Entry>, item: &Item) -> Result<(), NoMemory>
     requires { IsRight item.now }
-    ensures { OnOk result (out.new.items ≡ out.old.items ++ entries_of item.now) }
+    ensures { OnOk result (out.new.items ≡ out.old.items ++ ledger_entries item.now) }
 {
     match item {
         Item::One(entry) => put_entry(out, entry)?,

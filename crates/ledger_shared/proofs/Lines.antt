@@ -11,55 +11,55 @@ use Rattle.ledger_core.specs.declared.entry.Sender.{Sender}
 use Rattle.ledger_core.specs.declared.entry.Sender.TheVariants.{Party, Clock}
 use Rattle.ledger_shared.specs.declared.shelf.Line.{Line}
 use Rattle.ledger_shared.specs.declared.shelf.Line.TheVariants.{Head, Made}
-use Rattle.ledger_shared.specs.Lines.{side_of, entries_on, made_lines, lines, author_of, entries_in, arc_in, deal_in}
+use Rattle.ledger_shared.specs.Lines.{sender_side, entries_on, made_lines, lines, line_author, all_entries, read_clear_arc, deal_in}
 
-pub unmade_append : (d : Deal) (a : ℕ) (h : List Entry) (ls : List Line) → entries_in (made_lines d a h ++ ls) ≡ h ++ entries_in ls
+pub unmade_append : (d : Deal) (a : ℕ) (h : List Entry) (ls : List Line) → all_entries (made_lines d a h ++ ls) ≡ h ++ all_entries ls
 unmade_append d a [] ls = refl
 unmade_append d a (e ∷ h) ls = ap (λ w. e ∷ w) (unmade_append d a h ls)
 
-pub unmade : (d : Deal) (a : ℕ) (h : List Entry) → entries_in (lines d a h) ≡ h
+pub unmade : (d : Deal) (a : ℕ) (h : List Entry) → all_entries (lines d a h) ≡ h
 unmade d a [] = refl
 unmade d a (e ∷ h) = ap (λ w. e ∷ w) (unmade d a h)
 
 pub made_append : (d : Deal) (a : ℕ) (h k : List Entry) → made_lines d a (h ++ k) ≡ made_lines d a h ++ made_lines d a k
 made_append d a [] k = refl
-made_append d a (e ∷ h) k = ap (λ w. Made (side_of d a e.sender) e ∷ w) (made_append d a h k)
+made_append d a (e ∷ h) k = ap (λ w. Made (sender_side d a e.sender) e ∷ w) (made_append d a h k)
 
 pub length_made : (d : Deal) (a : ℕ) (h : List Entry) → length (made_lines d a h) ≡ length h
 length_made d a [] = refl
 length_made d a (e ∷ h) = ap (λ n. suc n) (length_made d a h)
 
-both : (b : Bool) (k : ℕ) (e : Entry) (ls : List Line) (h : List Entry) → entries_in ls ≡ h
-    → entries_in (if b then Made k e ∷ ls else ls) ≡ (if b then e ∷ h else h)
+both : (b : Bool) (k : ℕ) (e : Entry) (ls : List Line) (h : List Entry) → all_entries ls ≡ h
+    → all_entries (if b then Made k e ∷ ls else ls) ≡ (if b then e ∷ h else h)
 both true k e ls h is = ap (λ w. e ∷ w) is
 both false k e ls h is = is
 
-headed : (b : Bool) (d : Deal) (a : ℕ) (ls : List Line) → entries_in (if b then Head d a ∷ ls else ls) ≡ entries_in ls
+headed : (b : Bool) (d : Deal) (a : ℕ) (ls : List Line) → all_entries (if b then Head d a ∷ ls else ls) ≡ all_entries ls
 headed true d a ls = refl
 headed false d a ls = refl
 
-unmade_by : (k : ℕ) (d : Deal) (a : ℕ) (h : List Entry) → entries_in (entries_by author_of k (made_lines d a h)) ≡ entries_on d a k h
+unmade_by : (k : ℕ) (d : Deal) (a : ℕ) (h : List Entry) → all_entries (entries_by line_author k (made_lines d a h)) ≡ entries_on d a k h
 unmade_by k d a [] = refl
-unmade_by k d a (e ∷ h) = both (side_of d a e.sender == k) (side_of d a e.sender) e (entries_by author_of k (made_lines d a h)) (entries_on d a k h)
+unmade_by k d a (e ∷ h) = both (sender_side d a e.sender == k) (sender_side d a e.sender) e (entries_by line_author k (made_lines d a h)) (entries_on d a k h)
     (unmade_by k d a h)
 
-lines_by : (k : ℕ) (d : Deal) (a : ℕ) (h : List Entry) → entries_in (entries_by author_of k (lines d a h)) ≡ entries_on d a k h
-lines_by k d a h = headed (2 == k) d a (entries_by author_of k (made_lines d a h)) ∙ unmade_by k d a h
+lines_by : (k : ℕ) (d : Deal) (a : ℕ) (h : List Entry) → all_entries (entries_by line_author k (lines d a h)) ≡ entries_on d a k h
+lines_by k d a h = headed (2 == k) d a (entries_by line_author k (made_lines d a h)) ∙ unmade_by k d a h
 
-pub same_deal : (k : ℕ) (d c : Deal) (a b : ℕ) (h s : List Entry) → Covers author_of (lines d a h) (k, lines c b s) → d ≡ c
+pub same_deal : (k : ℕ) (d c : Deal) (a b : ℕ) (h s : List Entry) → Covers line_author (lines d a h) (k, lines c b s) → d ≡ c
 same_deal k d c a b h s v = sym (ap deal_in v.0.1)
 
-pub same_arc : (k : ℕ) (d c : Deal) (a b : ℕ) (h s : List Entry) → Covers author_of (lines d a h) (k, lines c b s) → a ≡ b
-same_arc k d c a b h s v = sym (ap arc_in v.0.1)
+pub same_arc : (k : ℕ) (d c : Deal) (a b : ℕ) (h s : List Entry) → Covers line_author (lines d a h) (k, lines c b s) → a ≡ b
+same_arc k d c a b h s v = sym (ap read_clear_arc v.0.1)
 
-pub goes_longer : (k : ℕ) (d c : Deal) (a b : ℕ) (h s : List Entry) → Covers author_of (lines d a h) (k, lines c b s) → IsPrefix s h
-goes_longer k d c a b h s v = (entries_in v.0.0, sym (unmade_append c b s v.0.0) ∙ (ap entries_in v.0.1 ∙ unmade d a h))
+pub goes_longer : (k : ℕ) (d c : Deal) (a b : ℕ) (h s : List Entry) → Covers line_author (lines d a h) (k, lines c b s) → IsPrefix s h
+goes_longer k d c a b h s v = (all_entries v.0.0, sym (unmade_append c b s v.0.0) ∙ (ap all_entries v.0.1 ∙ unmade d a h))
 
-pub goes_on : (k : ℕ) (d c : Deal) (a b : ℕ) (h s : List Entry) → Covers author_of (lines d a h) (k, lines c b s) → entries_on d a k h ≡ entries_on c b k s
-goes_on k d c a b h s v = sym (lines_by k d a h) ∙ (ap entries_in v.1 ∙ lines_by k c b s)
+pub goes_on : (k : ℕ) (d c : Deal) (a b : ℕ) (h s : List Entry) → Covers line_author (lines d a h) (k, lines c b s) → entries_on d a k h ≡ entries_on c b k s
+goes_on k d c a b h s v = sym (lines_by k d a h) ∙ (ap all_entries v.1 ∙ lines_by k c b s)
 
-pub all_made : (d : Deal) (a k : ℕ) (rest : List Entry) → AllByRecursion (λ e. side_of d a e.sender ≡ k) rest
-    → AllByRecursion (λ l. author_of l ≡ k) (made_lines d a rest)
+pub all_made : (d : Deal) (a k : ℕ) (rest : List Entry) → AllByRecursion (λ e. sender_side d a e.sender ≡ k) rest
+    → AllByRecursion (λ l. line_author l ≡ k) (made_lines d a rest)
 all_made d a k [] all = tt
 all_made d a k (e ∷ es) all = (all.0, all_made d a k es all.1)
 
@@ -68,13 +68,13 @@ three_ways true c = omega arith
 three_ways false true = omega arith
 three_ways false false = omega arith
 
-side_below : (d : Deal) (a : ℕ) (s : Sender) → side_of d a s < 3
+side_below : (d : Deal) (a : ℕ) (s : Sender) → sender_side d a s < 3
 side_below d a (Party p) = three_ways (p == party d a) (p == counterparty d a)
 side_below d a Clock = omega arith
 
-made_below : (d : Deal) (a : ℕ) (h : List Entry) → AreBelow author_of 3 (made_lines d a h)
+made_below : (d : Deal) (a : ℕ) (h : List Entry) → AreBelow line_author 3 (made_lines d a h)
 made_below d a [] = tt
 made_below d a (e ∷ h) = (side_below d a e.sender, made_below d a h)
 
-pub lines_below : (d : Deal) (a : ℕ) (h : List Entry) → AreBelow author_of 3 (lines d a h)
+pub lines_below : (d : Deal) (a : ℕ) (h : List Entry) → AreBelow line_author 3 (lines d a h)
 lines_below d a h = (omega arith, made_below d a h)

@@ -16,13 +16,13 @@ use Rattle.ledger_core.specs.declared.entry.Sender.TheVariants.{Party, Clock}
 use Rattle.escrow_core.specs.declared.reply.Reply.{Reply}
 use Rattle.escrow_core.specs.declared.reply.Reply.TheVariants.{SenderFull, ClockFull}
 use Rattle.ledger_core.specs.declared.entry.Call.{Call}
-use Rattle.ledger_core.specs.History.{height, sent_by, is_tick, reply_to, reply_to_tick}
+use Rattle.ledger_core.specs.History.{height, is_sender, is_tick, history_reply, reply_to_tick}
 use Rattle.ledger_core.specs.Ledger.{call_entry, tick_entry}
 use Rattle.ledger_core.specs.Value.{LedgerState}
-use Rattle.ledger_shared.specs.Lines.{side_of, entries_on}
+use Rattle.ledger_shared.specs.Lines.{sender_side, entries_on}
 use Rattle.ledger_shared.specs.Seat.{SeatState, knowing, new_seat, GoesOn, IsContinued}
-use Rattle.ledger_shared.specs.Pass.{pass_of, clock_pass_of, Rests, IsOfParty, IsOfClock}
-use Rattle.ledger_shared.specs.Value.{made_by, ticks_in_order, with_seen, clock_with_seen, added_by_call, added_by_tick, HasCalled, HasTicked, Closes}
+use Rattle.ledger_shared.specs.Pass.{inside_pass, clock_pass_of, Rests, IsOfParty, IsOfClock}
+use Rattle.ledger_shared.specs.Value.{party_made, ticks_in_order, with_seen, clock_with_seen, added_by_call, added_by_tick, HasCalled, HasTicked, Closes}
 use Rattle.ledger_shared.specs.Value.{ClosesClock}
 use Rattle.ledger_shared.specs.declared.pass.Pass.TheInside as pass
 use Rattle.ledger_shared.specs.declared.pass.ClockPass.TheInside as clock
@@ -54,7 +54,7 @@ own_all f n h is = ap (filter f) (sym (take_all n h (omega arith)))
 
 -- Which entries are a side's.
 
-pub sides_are : (d : Deal) (a k p : ℕ) (h : List Entry) → ((s : Sender) → (side_of d a s == k) ≡ sent_by p s) → entries_on d a k h ≡ made_by p h
+pub sides_are : (d : Deal) (a k p : ℕ) (h : List Entry) → ((s : Sender) → (sender_side d a s == k) ≡ is_sender p s) → entries_on d a k h ≡ party_made p h
 sides_are d a k p h side = ap (λ (f : Entry → Bool). filter f h) (λ i e. side e.sender i)
 
 one_more : {A : Type 0} (p : A → Bool) (x : A) (b c : Bool) (qs ps : List A) → filter p qs ≡ ps → p x ≡ b → (b ≡ true → c ≡ true)
@@ -67,15 +67,15 @@ filter_twice : {A : Type 0} (p q : A → Bool) (xs : List A) → ((x : A) → p 
 filter_twice p q [] inside = refl
 filter_twice p q (x ∷ xs) inside = one_more p x (p x) (q x) (filter q xs) (filter p xs) (filter_twice p q xs inside) refl (inside x)
 
-tick_side : (d : Deal) (a : ℕ) (s : Sender) → is_tick s ≡ true → (side_of d a s == 2) ≡ true
+tick_side : (d : Deal) (a : ℕ) (s : Sender) → is_tick s ≡ true → (sender_side d a s == 2) ≡ true
 tick_side d a (Party p) e = absurd (true≢false (sym e))
 tick_side d a Clock e = refl
 
 -- a history with the entries of the third side as before has the ticks as before
 pub ticks_stay : (d : Deal) (a : ℕ) (h k : List Entry) → entries_on d a 2 h ≡ entries_on d a 2 k → ticks_in_order h ≡ ticks_in_order k
 ticks_stay d a h k same =
-    sym (filter_twice (λ (e : Entry). is_tick e.sender) (λ e. side_of d a e.sender == 2) h (λ e. tick_side d a e.sender))
-    ∙ (ap ticks_in_order same ∙ filter_twice (λ (e : Entry). is_tick e.sender) (λ e. side_of d a e.sender == 2) k (λ e. tick_side d a e.sender))
+    sym (filter_twice (λ (e : Entry). is_tick e.sender) (λ e. sender_side d a e.sender == 2) h (λ e. tick_side d a e.sender))
+    ∙ (ap ticks_in_order same ∙ filter_twice (λ (e : Entry). is_tick e.sender) (λ e. sender_side d a e.sender == 2) k (λ e. tick_side d a e.sender))
 
 -- What a turn does to a seat that rests.
 
@@ -137,7 +137,7 @@ module _ (p : pass.Inside) (k : IsOfParty p) where
   abbrev then_at : SeatState → ℕ → pass.Inside
   then_at s n = record { seat = s; party = p.party; seen = n }
 
-  same_mine : (l : LedgerState) → GoesOn p.seat l → made_by p.party l.history ≡ made_by p.party p.seat.known
+  same_mine : (l : LedgerState) → GoesOn p.seat l → party_made p.party l.history ≡ party_made p.party p.seat.known
   same_mine l g = sym (sides_are p.seat.deal p.seat.arc p.seat.number p.party l.history k.side)
       ∙ (g.own ∙ sides_are p.seat.deal p.seat.arc p.seat.number p.party p.seat.known k.side)
 
@@ -148,7 +148,7 @@ module _ (p : pass.Inside) (k : IsOfParty p) where
         k.of_the_two;
     apart = k.apart;
     side = k.side;
-    mine = own_all (λ e. sent_by p.party e.sender) n h len;
+    mine = own_all (λ e. is_sender p.party e.sender) n h len;
   })
 
   pub party_kept : (s : SeatState) (l : LedgerState) → GoesOn p.seat l → s ≡ knowing p.seat false l.history → IsOfParty (then_at s p.seen)
@@ -158,12 +158,12 @@ module _ (p : pass.Inside) (k : IsOfParty p) where
         of_the_two = k.of_the_two;
         apart = k.apart;
         side = k.side;
-        mine = own_kept (λ e. sent_by p.party e.sender) p.seen p.seat.known l.history k.rests.within g.longer k.mine (same_mine l g);
+        mine = own_kept (λ e. is_sender p.party e.sender) p.seen p.seat.known l.history k.rests.within g.longer k.mine (same_mine l g);
       })
 
   pub party_sees : (s : SeatState) (n : ℕ) (h fresh : List Entry) → s ≡ knowing p.seat false h → n ≡ length h → h ≡ take p.seen p.seat.known ++ fresh
-      → pass_of (then_at s n) ≡ with_seen (pass_of p) fresh
-  party_sees s n h fresh is len grows = ap (λ x. pass_of (then_at x n)) is ∙ (λ i. record {
+      → inside_pass (then_at s n) ≡ with_seen (inside_pass p) fresh
+  party_sees s n h fresh is len grows = ap (λ x. inside_pass (then_at x n)) is ∙ (λ i. record {
     lock = p.seat.lock;
     deal = p.seat.deal;
     arc = p.seat.arc;
@@ -172,8 +172,8 @@ module _ (p : pass.Inside) (k : IsOfParty p) where
     seen = (take_all n h (omega arith) ∙ grows) i;
   })
 
-  pub party_same : (s : SeatState) (l : LedgerState) → GoesOn p.seat l → s ≡ knowing p.seat false l.history → pass_of (then_at s p.seen) ≡ pass_of p
-  party_same s l g is = ap (λ x. pass_of (then_at x p.seen)) is ∙ (λ i. record {
+  pub party_same : (s : SeatState) (l : LedgerState) → GoesOn p.seat l → s ≡ knowing p.seat false l.history → inside_pass (then_at s p.seen) ≡ inside_pass p
+  party_same s l g is = ap (λ x. inside_pass (then_at x p.seen)) is ∙ (λ i. record {
     lock = p.seat.lock;
     deal = p.seat.deal;
     arc = p.seat.arc;
@@ -187,23 +187,24 @@ module _ (p : pass.Inside) (k : IsOfParty p) where
   party_whole s n h is len pre =
       subst (λ w. IsPrefix p.seat.shared w) (sym (seen_is s n p.seat h is len)) (prefix_trans p.seat.shared p.seat.known h k.rests.began pre)
 
-  pub party_foreign : (l : LedgerState) → GoesOn p.seat l → made_by p.party (drop p.seen l.history) ≡ []
-  party_foreign l g = none_fresh (λ e. sent_by p.party e.sender) p.seen p.seat.known l.history k.rests.within g.longer k.mine (same_mine l g)
+  pub party_foreign : (l : LedgerState) → GoesOn p.seat l → party_made p.party (drop p.seen l.history) ≡ []
+  party_foreign l g = none_fresh (λ e. is_sender p.party e.sender) p.seen p.seat.known l.history k.rests.within g.longer k.mine (same_mine l g)
 
   pub party_called : (l : LedgerState) (call : Call) (answer : Reply) (fresh : List Entry) → GoesOn p.seat l
-      → answer ≡ reply_to l.deal l.arc l.history p.party call
-      → fresh ≡ drop p.seen l.history ++ added_by_call answer (call_entry p.party (height l.history) call answer) → HasCalled (pass_of p) call answer fresh
+      → answer ≡ history_reply l.deal l.arc l.history p.party call
+      → fresh ≡ drop p.seen l.history ++ added_by_call answer (call_entry p.party (height l.history) call answer) → HasCalled (inside_pass p) call answer fresh
   party_called l call answer fresh g is fresh_is =
       let whole = sym (seen_whole p.seen p.seat.known l.history k.rests.within g.longer) in record {
         others = drop p.seen l.history;
         foreign = party_foreign l g;
-        reply = is ∙ (λ i. reply_to (g.deal i) (g.arc i) (whole i) p.party call);
+        reply = is ∙ (λ i. history_reply (g.deal i) (g.arc i) (whole i) p.party call);
         entries = fresh_is ∙ ap (λ (w : List Entry). drop p.seen l.history ++ added_by_call answer (call_entry p.party (height w) call answer)) whole;
       }
 
   -- the own entry is of the seat's side
-  pub own_side : (e : Entry) → e.sender ≡ Party p.party → side_of p.seat.deal p.seat.arc e.sender ≡ p.seat.number
-  own_side e is = eqb-true (side_of p.seat.deal p.seat.arc e.sender) p.seat.number (k.side e.sender ∙ (ap (sent_by p.party) is ∙ eq-eqb p.party p.party refl))
+  pub own_side : (e : Entry) → e.sender ≡ Party p.party → sender_side p.seat.deal p.seat.arc e.sender ≡ p.seat.number
+  own_side e is = eqb-true (sender_side p.seat.deal p.seat.arc e.sender) p.seat.number (k.side e.sender ∙ (ap (is_sender p.party) is
+      ∙ eq-eqb p.party p.party refl))
 
   pub party_continued : (l : LedgerState) (h : List Entry) (call : Call) (answer : Reply) → GoesOn p.seat l
       → h ≡ l.history ++ added_by_call answer (call_entry p.party (height l.history) call answer)
@@ -211,11 +212,11 @@ module _ (p : pass.Inside) (k : IsOfParty p) where
   party_continued l h call answer g is = (
     added_by_call answer (call_entry p.party (height l.history) call answer),
     is,
-    of_added (λ e. side_of p.seat.deal p.seat.arc e.sender ≡ p.seat.number) answer (call_entry p.party (height l.history) call answer)
+    of_added (λ e. sender_side p.seat.deal p.seat.arc e.sender ≡ p.seat.number) answer (call_entry p.party (height l.history) call answer)
         (own_side (call_entry p.party (height l.history) call answer) refl),
   )
 
-  pub party_closes : (l : LedgerState) → GoesOn p.seat l → Closes l (pass_of p)
+  pub party_closes : (l : LedgerState) → GoesOn p.seat l → Closes l (inside_pass p)
   party_closes l g = record {
     deal = g.deal;
     arc = g.arc;
@@ -301,7 +302,7 @@ module _ (p : clock.Inside) (k : IsOfClock p) where
   clock_continued l h t answer is = (
     added_by_tick answer (tick_entry t (height l.history + t) answer),
     is,
-    of_ticked (λ e. side_of p.seat.deal p.seat.arc e.sender ≡ p.seat.number) answer (tick_entry t (height l.history + t) answer) (sym k.side),
+    of_ticked (λ e. sender_side p.seat.deal p.seat.arc e.sender ≡ p.seat.number) answer (tick_entry t (height l.history + t) answer) (sym k.side),
   )
 
   pub clock_closes : (l : LedgerState) → GoesOn p.seat l → ClosesClock l (clock_pass_of p)
@@ -328,11 +329,11 @@ second_test true false n = refl
 second_test false true n = refl
 second_test false false n = refl
 
-first_side : (d : Deal) (a : ℕ) (s : Sender) → (side_of d a s == 0) ≡ sent_by (party d a) s
+first_side : (d : Deal) (a : ℕ) (s : Sender) → (sender_side d a s == 0) ≡ is_sender (party d a) s
 first_side d a (Party q) = first_test (q == party d a) (q == counterparty d a)
 first_side d a Clock = refl
 
-second_side : (d : Deal) (a : ℕ) → party d a ≢ counterparty d a → (s : Sender) → (side_of d a s == 1) ≡ sent_by (counterparty d a) s
+second_side : (d : Deal) (a : ℕ) → party d a ≢ counterparty d a → (s : Sender) → (sender_side d a s == 1) ≡ is_sender (counterparty d a) s
 second_side d a apart (Party q) = second_test (q == party d a) (q == counterparty d a) (λ b c. apart (sym (eqb-true q (party d a) b)
     ∙ eqb-true q (counterparty d a) c))
 second_side d a apart Clock = refl
@@ -347,7 +348,7 @@ none_past f n h none = ap (filter f) (sym (take-append-drop n h)) ∙ (filter-ap
 
 new_party : (l : LedgerState) (lock : TableId) (s : SeatState) (k p n : ℕ) → s ≡ new_seat lock l k → party l.deal l.arc ≢ counterparty l.deal l.arc
     → IsTrue ((p == party l.deal l.arc) || (p == counterparty l.deal l.arc))
-    → ((s : Sender) → (side_of l.deal l.arc s == k) ≡ sent_by p s) → n ≤ length l.history → made_by p (drop n l.history) ≡ []
+    → ((s : Sender) → (sender_side l.deal l.arc s == k) ≡ is_sender p s) → n ≤ length l.history → party_made p (drop n l.history) ≡ []
     → IsOfParty (record { seat = s; party = p; seen = n })
 new_party l lock s k p n is apart two side within none = subst (λ x. IsOfParty (record { seat = x; party = p; seen = n })) (sym is)
     (record {
@@ -356,18 +357,18 @@ new_party l lock s k p n is apart two side within none = subst (λ x. IsOfParty 
       apart = apart;
       side = side;
       mine =
-          none_past (λ e. sent_by p e.sender) n l.history none;
+          none_past (λ e. is_sender p e.sender) n l.history none;
     })
 
 pub new_first : (l : LedgerState) (lock : TableId) (s : SeatState) (p n : ℕ) → s ≡ new_seat lock l 0 → p ≡ party l.deal l.arc
-    → party l.deal l.arc ≢ counterparty l.deal l.arc → n ≤ length l.history → made_by (party l.deal l.arc) (drop n l.history) ≡ []
+    → party l.deal l.arc ≢ counterparty l.deal l.arc → n ≤ length l.history → party_made (party l.deal l.arc) (drop n l.history) ≡ []
     → IsOfParty (record { seat = s; party = p; seen = n })
 new_first l lock s p n is whose apart within none = subst (λ q. IsOfParty (record { seat = s; party = q; seen = n })) (sym whose)
     (new_party l lock s 0 (party l.deal l.arc) n is apart (ap (λ b. b || (party l.deal l.arc == counterparty l.deal l.arc))
     (eq-eqb (party l.deal l.arc) (party l.deal l.arc) refl)) (first_side l.deal l.arc) within none)
 
 pub new_second : (l : LedgerState) (lock : TableId) (s : SeatState) (p n : ℕ) → s ≡ new_seat lock l 1 → p ≡ counterparty l.deal l.arc
-    → party l.deal l.arc ≢ counterparty l.deal l.arc → n ≤ length l.history → made_by (counterparty l.deal l.arc) (drop n l.history) ≡ []
+    → party l.deal l.arc ≢ counterparty l.deal l.arc → n ≤ length l.history → party_made (counterparty l.deal l.arc) (drop n l.history) ≡ []
     → IsOfParty (record { seat = s; party = p; seen = n })
 new_second l lock s p n is whose apart within none = subst (λ q. IsOfParty (record { seat = s; party = q; seen = n })) (sym whose)
     (new_party l lock s 1 (counterparty l.deal l.arc) n is apart
@@ -376,8 +377,8 @@ new_second l lock s p n is whose apart within none = subst (λ q. IsOfParty (rec
     (second_side l.deal l.arc apart) within none)
 
 -- whose number a pass has
-number_of_party : (p : pass.Inside) → IsOfParty p → side_of p.seat.deal p.seat.arc (Party p.party) ≡ p.seat.number
-number_of_party p k = eqb-true (side_of p.seat.deal p.seat.arc (Party p.party)) p.seat.number (k.side (Party p.party) ∙ eq-eqb p.party p.party refl)
+number_of_party : (p : pass.Inside) → IsOfParty p → sender_side p.seat.deal p.seat.arc (Party p.party) ≡ p.seat.number
+number_of_party p k = eqb-true (sender_side p.seat.deal p.seat.arc (Party p.party)) p.seat.number (k.side (Party p.party) ∙ eq-eqb p.party p.party refl)
 
 pub first_number : (p : pass.Inside) → IsOfParty p → p.party ≡ party p.seat.deal p.seat.arc → p.seat.number ≡ 0
 first_number p k whose = sym (number_of_party p k) ∙ ap (λ b. if b then 0 else (if p.party == counterparty p.seat.deal p.seat.arc then 1 else 2))

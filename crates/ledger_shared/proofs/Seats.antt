@@ -6,15 +6,15 @@ use Rattle.turn_lock.specs.Parts.{IsContinuedBy, has_number, Covers, Part}
 use Rattle.atomic_table.specs.declared.shared.Seat.{Seat}
 use Rattle.turn_lock.specs.declared.view.View.{View}
 use Rattle.std.specs.Prelude.{Option}
-use Rattle.turn_lock.specs.Turns.{SeatsFrom, Sat, idle, busy, both_of, opening_of, number_of, known_of, IsIdle, IsBusy, IsResting}
+use Rattle.turn_lock.specs.Turns.{SeatsFrom, Sat, idle, busy, both_of, key_opening, number_of, known_key, IsIdle, IsBusy, IsResting}
 use Rattle.swap_digraph.specs.declared.deal.Deal.{Deal}
 use Rattle.ledger_core.specs.declared.entry.Entry.{Entry}
 use Rattle.ledger_core.specs.Value.{LedgerState}
 use Rattle.ledger_shared.specs.declared.shelf.Line.{Line}
 use Rattle.ledger_shared.specs.declared.shelf.Line.TheVariants.{Head}
 use Rattle.ledger_shared.specs.declared.shelf.Shelf.{Shelf}
-use Rattle.ledger_shared.specs.Lines.{entries_on, made_lines, lines, author_of}
-use Rattle.ledger_shared.specs.Seat.{SeatState, state_of, at, IsAt, knowing, new_seat, GoesOn, IsContinued}
+use Rattle.ledger_shared.specs.Lines.{entries_on, made_lines, lines, line_author}
+use Rattle.ledger_shared.specs.Seat.{SeatState, inside_state, at, IsAt, knowing, new_seat, GoesOn, IsContinued}
 use Rattle.ledger_shared.proofs.Lines.{unmade, made_append, all_made, same_deal, same_arc, goes_longer, goes_on}
 
 abbrev Me : Type 0
@@ -23,23 +23,23 @@ Me = Sat Shelf Line
 -- What a seat whose histories are those lines says of itself.
 
 pub says : (lock : TableId) (d : Deal) (a k : ℕ) (shared h : List Entry) (b : Bool)
-    → state_of lock (at b (lines d a shared) k (lines d a h)) ≡ record { lock = lock; deal = d; arc = a; number = k; holds = b; shared = shared; known = h }
+    → inside_state lock (at b (lines d a shared) k (lines d a h)) ≡ record { lock = lock; deal = d; arc = a; number = k; holds = b; shared = shared; known = h }
 says lock d a k shared h true = λ i. record { lock = lock; deal = d; arc = a; number = k; holds = true; shared = unmade d a shared i; known = unmade d a h i }
 says lock d a k shared h false = λ i. record { lock = lock; deal = d; arc = a; number = k; holds = false; shared = unmade d a shared i; known = unmade d a h i }
 
 pub is_at : (lock : TableId) (d : Deal) (a k : ℕ) (shared h : List Entry) (b : Bool) (m : Me) → m ≡ at b (lines d a shared) k (lines d a h)
-    → IsAt (state_of lock m) m
+    → IsAt (inside_state lock m) m
 is_at lock d a k shared h b m is =
-    subst (λ (x : Me). IsAt (state_of lock x) x) (sym is) (subst (λ s. IsAt s (at b (lines d a shared) k (lines d a h)))
+    subst (λ (x : Me). IsAt (inside_state lock x) x) (sym is) (subst (λ s. IsAt s (at b (lines d a shared) k (lines d a h)))
     (sym (says lock d a k shared h b)) refl)
 
 pub says_of : (lock : TableId) (d : Deal) (a k : ℕ) (shared h : List Entry) (b : Bool) (m : Me) → m ≡ at b (lines d a shared) k (lines d a h)
-    → state_of lock m ≡ record { lock = lock; deal = d; arc = a; number = k; holds = b; shared = shared; known = h }
-says_of lock d a k shared h b m is = ap (state_of lock) is ∙ says lock d a k shared h b
+    → inside_state lock m ≡ record { lock = lock; deal = d; arc = a; number = k; holds = b; shared = shared; known = h }
+says_of lock d a k shared h b m is = ap (inside_state lock) is ∙ says lock d a k shared h b
 
 -- it is the seat s, which knows the history h
 now_knows : (s : SeatState) (lock : TableId) (b : Bool) (h : List Entry) (m : Me) → m ≡ at b (lines s.deal s.arc s.shared) s.number (lines s.deal s.arc h)
-    → lock ≡ s.lock → state_of lock m ≡ knowing s b h
+    → lock ≡ s.lock → inside_state lock m ≡ knowing s b h
 now_knows s lock b h m is same = says_of lock s.deal s.arc s.number s.shared h b m is ∙ (λ i. record {
   lock = same i;
   deal = s.deal;
@@ -70,7 +70,7 @@ to_resting s m is free = subst IsResting (sym (is_idle s m is free)) (refl, refl
 -- Taking and giving.
 
 -- a history that covers what the seat knows
-pub covered_known : (s : SeatState) (l : LedgerState) → Covers author_of (lines l.deal l.arc l.history) (s.number, lines s.deal s.arc s.known) → GoesOn s l
+pub covered_known : (s : SeatState) (l : LedgerState) → Covers line_author (lines l.deal l.arc l.history) (s.number, lines s.deal s.arc s.known) → GoesOn s l
 covered_known s l v =
     let deal = same_deal s.number l.deal s.deal l.arc s.arc l.history s.known v in
     let arc = same_arc s.number l.deal s.deal l.arc s.arc l.history s.known v in record {
@@ -81,53 +81,54 @@ covered_known s l v =
           (goes_on s.number l.deal s.deal l.arc s.arc l.history s.known v);
     }
 
-pub covered : (s : SeatState) (m : Me) (l : LedgerState) → IsAt s m → s.holds ≡ false → Covers author_of (lines l.deal l.arc l.history) (
+pub covered : (s : SeatState) (m : Me) (l : LedgerState) → IsAt s m → s.holds ≡ false → Covers line_author (lines l.deal l.arc l.history) (
   number_of m,
-  known_of m,
+  known_key m,
 ) → GoesOn s l
-covered s m l is free c = covered_known s l (subst (λ (x : Me). Covers author_of (lines l.deal l.arc l.history) (
+covered s m l is free c = covered_known s l (subst (λ (x : Me). Covers line_author (lines l.deal l.arc l.history) (
   number_of x,
-  known_of x,
+  known_key x,
 )) (is_idle s m is free) c)
 
-lines_of : (d c : Deal) (a b : ℕ) (h : List Entry) → d ≡ c → a ≡ b → lines d a h ≡ lines c b h
-lines_of d c a b h e f = λ i. lines (e i) (f i) h
+collect_lines : (d c : Deal) (a b : ℕ) (h : List Entry) → d ≡ c → a ≡ b → lines d a h ≡ lines c b h
+collect_lines d c a b h e f = λ i. lines (e i) (f i) h
 
 pub taken : (s : SeatState) (m m' : Me) (l : LedgerState) → IsAt s m → s.holds ≡ false → GoesOn s l
-    → m' ≡ busy (opening_of m) (number_of m) (lines l.deal l.arc l.history) → m' ≡ at true (lines s.deal s.arc s.shared) s.number (lines s.deal s.arc l.history)
+    → m' ≡ busy (key_opening m) (number_of m) (lines l.deal l.arc l.history)
+    → m' ≡ at true (lines s.deal s.arc s.shared) s.number (lines s.deal s.arc l.history)
 taken s m m' l is free g e = e
-    ∙ (ap (λ (x : Me). busy (opening_of x) (number_of x) (lines l.deal l.arc l.history)) (is_idle s m is free)
-    ∙ ap (λ (w : List Line). busy (lines s.deal s.arc s.shared) s.number w) (lines_of l.deal s.deal l.arc s.arc l.history g.deal g.arc))
+    ∙ (ap (λ (x : Me). busy (key_opening x) (number_of x) (lines l.deal l.arc l.history)) (is_idle s m is free)
+    ∙ ap (λ (w : List Line). busy (lines s.deal s.arc s.shared) s.number w) (collect_lines l.deal s.deal l.arc s.arc l.history g.deal g.arc))
 
 pub given : (s : SeatState) (m m' : Me) (l : LedgerState) → IsAt s m → s.holds ≡ true → l.deal ≡ s.deal → l.arc ≡ s.arc
-    → m' ≡ idle (opening_of m) (number_of m) (lines l.deal l.arc l.history)
+    → m' ≡ idle (key_opening m) (number_of m) (lines l.deal l.arc l.history)
     → m' ≡ at false (lines s.deal s.arc s.shared) s.number (lines s.deal s.arc l.history)
 given s m m' l is held deal arc e = e
-    ∙ (ap (λ (x : Me). idle (opening_of x) (number_of x) (lines l.deal l.arc l.history)) (is_busy s m is held)
-    ∙ ap (λ (w : List Line). idle (lines s.deal s.arc s.shared) s.number w) (lines_of l.deal s.deal l.arc s.arc l.history deal arc))
+    ∙ (ap (λ (x : Me). idle (key_opening x) (number_of x) (lines l.deal l.arc l.history)) (is_busy s m is held)
+    ∙ ap (λ (w : List Line). idle (lines s.deal s.arc s.shared) s.number w) (collect_lines l.deal s.deal l.arc s.arc l.history deal arc))
 
 pub continued : (s : SeatState) (m : Me) (l : LedgerState) → IsAt s m → s.holds ≡ true → l.deal ≡ s.deal → l.arc ≡ s.arc → IsContinued s l.history
-    → IsContinuedBy author_of (number_of m) (known_of m) (lines l.deal l.arc l.history)
-continued s m l is held deal arc on = subst (λ (x : Me). IsContinuedBy author_of (number_of x) (known_of x) (lines l.deal l.arc l.history))
+    → IsContinuedBy line_author (number_of m) (known_key m) (lines l.deal l.arc l.history)
+continued s m l is held deal arc on = subst (λ (x : Me). IsContinuedBy line_author (number_of x) (known_key x) (lines l.deal l.arc l.history))
     (sym (is_busy s m is held)) (
       made_lines s.deal s.arc on.0,
       ap (λ (w : List Line). Head s.deal s.arc ∷ w) (sym (made_append s.deal s.arc s.known on.0)) ∙ (ap (lines s.deal s.arc) (sym on.1)
-          ∙ sym (lines_of l.deal s.deal l.arc s.arc l.history deal arc)),
+          ∙ sym (collect_lines l.deal s.deal l.arc s.arc l.history deal arc)),
       all_made s.deal s.arc s.number on.0 on.2,
     )
 
 -- the seat with its turn: it knows the lines of the ledger, and they go on from what it knew
 pub take_step : (s : SeatState) (lock : TableId) (m m' : Me) (l : LedgerState) → IsAt s m → s.holds ≡ false → lock ≡ s.lock
-    → Covers author_of (lines l.deal l.arc l.history) (number_of m, known_of m) → m' ≡ busy (opening_of m) (number_of m) (lines l.deal l.arc l.history)
-    → IsAt (state_of lock m') m' × (state_of lock m' ≡ knowing s true l.history) × GoesOn s l
+    → Covers line_author (lines l.deal l.arc l.history) (number_of m, known_key m) → m' ≡ busy (key_opening m) (number_of m) (lines l.deal l.arc l.history)
+    → IsAt (inside_state lock m') m' × (inside_state lock m' ≡ knowing s true l.history) × GoesOn s l
 take_step s lock m m' l is free same c turn =
     let g = covered s m l is free c in
     let me = taken s m m' l is free g turn in
     (is_at lock s.deal s.arc s.number s.shared l.history true m' me, now_knows s lock true l.history m' me same, g)
 
 pub give_step : (s : SeatState) (lock : TableId) (m m' : Me) (l : LedgerState) → IsAt s m → s.holds ≡ true → lock ≡ s.lock → l.deal ≡ s.deal → l.arc ≡ s.arc
-    → m' ≡ idle (opening_of m) (number_of m) (lines l.deal l.arc l.history)
-    → IsAt (state_of lock m') m' × (state_of lock m' ≡ knowing s false l.history)
+    → m' ≡ idle (key_opening m) (number_of m) (lines l.deal l.arc l.history)
+    → IsAt (inside_state lock m') m' × (inside_state lock m' ≡ knowing s false l.history)
 give_step s lock m m' l is held same deal arc turn =
     let me = given s m m' l is held deal arc turn in
     (is_at lock s.deal s.arc s.number s.shared l.history false m' me, now_knows s lock false l.history m' me same)
@@ -144,7 +145,7 @@ pub three_seats : (lock : TableId) (start : List Line) (items : List LockSeat) (
 three_seats lock start items a b c is seats = let all = subst (SeatsFrom lock start 0) is seats in (all.0, all.1.0, all.1.1.0)
 
 pub new_step : (l : LedgerState) (lock mine : TableId) (k : ℕ) (m : Me) → (mine ≡ lock)
-    × (m ≡ idle (lines l.deal l.arc l.history) k (lines l.deal l.arc l.history)) → IsAt (state_of mine m) m × (state_of mine m ≡ new_seat lock l k)
+    × (m ≡ idle (lines l.deal l.arc l.history) k (lines l.deal l.arc l.history)) → IsAt (inside_state mine m) m × (inside_state mine m ≡ new_seat lock l k)
 new_step l lock mine k m e = (
   is_at mine l.deal l.arc k l.history l.history false m e.1,
   says_of mine l.deal l.arc k l.history l.history false m e.1 ∙ (λ i. record {
@@ -197,12 +198,12 @@ has_each r s t ps zero_r one_s two_t is n k three below =
 -- the ledger that comes of the joined seats goes on from what each knew
 pub close_step : (r s t : SeatState) (a b c two three : Me) (l : LedgerState) → IsAt r a → IsAt s b → IsAt t c → r.holds ≡ false → s.holds ≡ false
     → t.holds ≡ false → two ≡ (both_of a.0 b.0, []) → three ≡ (both_of two.0 c.0, [])
-    → AllByRecursion (Covers author_of (lines l.deal l.arc l.history)) three.0.parts → GoesOn r l × GoesOn s l × GoesOn t l
+    → AllByRecursion (Covers line_author (lines l.deal l.arc l.history)) three.0.parts → GoesOn r l × GoesOn s l × GoesOn t l
 close_step r s t a b c two three l is_r is_s is_t free_r free_s free_t is_two is_three all =
-    let each : AllByRecursion (Covers author_of (lines l.deal l.arc l.history)) ((r.number, lines r.deal r.arc r.known) ∷ (
+    let each : AllByRecursion (Covers line_author (lines l.deal l.arc l.history)) ((r.number, lines r.deal r.arc r.known) ∷ (
       s.number,
       lines s.deal s.arc s.known,
     ) ∷ (t.number, lines t.deal t.arc t.known) ∷ []) =
-    subst (AllByRecursion (Covers author_of (lines l.deal l.arc l.history)))
+    subst (AllByRecursion (Covers line_author (lines l.deal l.arc l.history)))
     (parts_of r s t a b c two three is_r is_s is_t free_r free_s free_t is_two is_three) all in
     (covered_known r l each.0, covered_known s l each.1.0, covered_known t l each.1.1.0)

@@ -11,35 +11,35 @@ use Rattle.ledger_shared.specs.declared.shelf.Line.{Line}
 use Rattle.ledger_shared.specs.declared.shelf.Line.TheVariants.{Head, Made}
 
 -- the number of the seat that makes the sender's entries: 0 for the arc's party, 1 for its counterparty, 2 for the clock
-abbrev pub side_of : Deal → ℕ → Sender → ℕ
-side_of d a (Party p) = if p == party d a then 0 else (if p == counterparty d a then 1 else 2)
-side_of d a Clock = 2
+abbrev pub sender_side : Deal → ℕ → Sender → ℕ
+sender_side d a (Party p) = if p == party d a then 0 else (if p == counterparty d a then 1 else 2)
+sender_side d a Clock = 2
 
 -- the entries of one side
 abbrev pub entries_on : Deal → ℕ → ℕ → List Entry → List Entry
-entries_on d a k h = filter (λ e. side_of d a e.sender == k) h
+entries_on d a k h = filter (λ e. sender_side d a e.sender == k) h
 
 abbrev pub made_lines : Deal → ℕ → List Entry → List Line
 made_lines d a [] = []
-made_lines d a (e ∷ es) = Made (side_of d a e.sender) e ∷ made_lines d a es
+made_lines d a (e ∷ es) = Made (sender_side d a e.sender) e ∷ made_lines d a es
 
 abbrev pub lines : Deal → ℕ → List Entry → List Line
 lines d a h = Head d a ∷ made_lines d a h
 
-abbrev pub author_of : Line → ℕ
-author_of (Head d a) = 2
-author_of (Made k e) = k
+abbrev pub line_author : Line → ℕ
+line_author (Head d a) = 2
+line_author (Made k e) = k
 
 -- What the lines say.
 
-abbrev pub entries_in : List Line → List Entry
-entries_in [] = []
-entries_in (Head d a ∷ ls) = entries_in ls
-entries_in (Made k e ∷ ls) = e ∷ entries_in ls
+abbrev pub all_entries : List Line → List Entry
+all_entries [] = []
+all_entries (Head d a ∷ ls) = all_entries ls
+all_entries (Made k e ∷ ls) = e ∷ all_entries ls
 
-abbrev pub arc_in : List Line → ℕ
-arc_in (Head d a ∷ ls) = a
-arc_in _ = 0
+abbrev pub read_clear_arc : List Line → ℕ
+read_clear_arc (Head d a ∷ ls) = a
+read_clear_arc _ = 0
 
 abbrev pub no_deal : Deal
 no_deal =

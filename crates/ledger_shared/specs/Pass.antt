@@ -3,15 +3,15 @@ use Rattle.std.specs.Prelude.{◌≡◌, ◌≢◌, ◌≤◌, ◌==◌, ◌||�
 use mathlib.Core.List.{IsPrefix}
 use Rattle.swap_digraph.specs.Deal.{party, counterparty}
 use Rattle.ledger_core.specs.declared.entry.Sender.{Sender}
-use Rattle.ledger_core.specs.History.{sent_by}
-use Rattle.ledger_shared.specs.Lines.{side_of}
+use Rattle.ledger_core.specs.History.{is_sender}
+use Rattle.ledger_shared.specs.Lines.{sender_side}
 use Rattle.ledger_shared.specs.Seat.{SeatState}
-use Rattle.ledger_shared.specs.Value.{PassState, ClockState, made_by, ticks_in_order}
+use Rattle.ledger_shared.specs.Value.{PassState, ClockState, party_made, ticks_in_order}
 use Rattle.ledger_shared.specs.declared.pass.Pass.TheInside as pass
 use Rattle.ledger_shared.specs.declared.pass.ClockPass.TheInside as clock
 
-abbrev pub pass_of : pass.Inside → PassState
-pass_of p = record { lock = p.seat.lock; deal = p.seat.deal; arc = p.seat.arc; party = p.party; shared = p.seat.shared; seen = take p.seen p.seat.known }
+abbrev pub inside_pass : pass.Inside → PassState
+inside_pass p = record { lock = p.seat.lock; deal = p.seat.deal; arc = p.seat.arc; party = p.party; shared = p.seat.shared; seen = take p.seen p.seat.known }
 
 abbrev pub clock_pass_of : clock.Inside → ClockState
 clock_pass_of p = record { lock = p.seat.lock; deal = p.seat.deal; arc = p.seat.arc; shared = p.seat.shared; seen = take p.seen p.seat.known }
@@ -27,8 +27,8 @@ pub record IsOfParty (p : pass.Inside) : Type 0 where
   pub rests : Rests p.seat p.seen
   pub of_the_two : IsTrue ((p.party == party p.seat.deal p.seat.arc) || (p.party == counterparty p.seat.deal p.seat.arc))
   pub apart : party p.seat.deal p.seat.arc ≢ counterparty p.seat.deal p.seat.arc
-  pub side : (s : Sender) → (side_of p.seat.deal p.seat.arc s == p.seat.number) ≡ sent_by p.party s
-  pub mine : made_by p.party p.seat.known ≡ made_by p.party (take p.seen p.seat.known)
+  pub side : (s : Sender) → (sender_side p.seat.deal p.seat.arc s == p.seat.number) ≡ is_sender p.party s
+  pub mine : party_made p.party p.seat.known ≡ party_made p.party (take p.seen p.seat.known)
 
 -- The seat makes the ticks, and none stands past what was seen.
 pub record IsOfClock (p : clock.Inside) : Type 0 where

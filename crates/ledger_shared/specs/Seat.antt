@@ -3,14 +3,14 @@ use Rattle.std.specs.Prelude.{◌≡◌, ℕ, Bool, true, false, List, ◌++◌}
 use Rattle.std.specs.List.{AllByRecursion}
 use mathlib.Core.List.{IsPrefix}
 use Rattle.atomic_table.specs.Seated.{TableId}
-use Rattle.turn_lock.specs.Turns.{Sat, idle, busy, opening_of, number_of, known_of}
+use Rattle.turn_lock.specs.Turns.{Sat, idle, busy, key_opening, number_of, known_key}
 use Rattle.swap_digraph.specs.declared.deal.Deal.{Deal}
 use Rattle.ledger_core.specs.declared.entry.Entry.{Entry}
 use Rattle.ledger_core.specs.Value.{LedgerState}
 use Rattle.ledger_shared.specs.declared.shelf.Line.{Line}
 use Rattle.ledger_shared.specs.declared.shelf.Shelf.{Shelf}
 use Rattle.ledger_shared.specs.declared.seat.LedgerSeat.TheInside.{Inside}
-use Rattle.ledger_shared.specs.Lines.{lines, entries_in, deal_in, arc_in, side_of, entries_on}
+use Rattle.ledger_shared.specs.Lines.{lines, all_entries, deal_in, read_clear_arc, sender_side, entries_on}
 
 pub record SeatState : Type 0 where
   pub lock : TableId
@@ -24,20 +24,20 @@ pub record SeatState : Type 0 where
   -- the history that it knows
   pub known : List Entry
 
-abbrev pub state_of : TableId → Sat Shelf Line → SeatState
-state_of lock m =
+abbrev pub inside_state : TableId → Sat Shelf Line → SeatState
+inside_state lock m =
     record {
       lock = lock;
-      deal = deal_in (opening_of m);
-      arc = arc_in (opening_of m);
+      deal = deal_in (key_opening m);
+      arc = read_clear_arc (key_opening m);
       number = number_of m;
       holds = m.0.holds;
-      shared = entries_in (opening_of m);
-      known = entries_in (known_of m);
+      shared = all_entries (key_opening m);
+      known = all_entries (known_key m);
     }
 
-abbrev pub seat_of : Inside → SeatState
-seat_of s = state_of s.seat.table_id s.seat.me
+abbrev pub inside_seat : Inside → SeatState
+inside_seat s = inside_state s.seat.table_id s.seat.me
 
 -- with the turn or without
 abbrev pub at : Bool → List Line → ℕ → List Line → Sat Shelf Line
@@ -49,7 +49,7 @@ abbrev pub IsAt : SeatState → Sat Shelf Line → Type 0
 IsAt s m = m ≡ at s.holds (lines s.deal s.arc s.shared) s.number (lines s.deal s.arc s.known)
 
 abbrev pub KnowsLines : Inside → Type 0
-KnowsLines s = IsAt (seat_of s) s.seat.me
+KnowsLines s = IsAt (inside_seat s) s.seat.me
 
 -- the same seat, with the turn or without, which knows the history h
 abbrev pub knowing : SeatState → Bool → List Entry → SeatState
@@ -68,4 +68,4 @@ pub record GoesOn (s : SeatState) (l : LedgerState) : Type 0 where
 
 -- The history goes on from what the seat knows, by entries of its side alone.
 abbrev pub IsContinued : SeatState → List Entry → Type 0
-IsContinued s h = (rest : List Entry) × (h ≡ s.known ++ rest) × AllByRecursion (λ e. side_of s.deal s.arc e.sender ≡ s.number) rest
+IsContinued s h = (rest : List Entry) × (h ≡ s.known ++ rest) × AllByRecursion (λ e. sender_side s.deal s.arc e.sender ≡ s.number) rest

@@ -8,7 +8,7 @@ use Rattle.escrow_core.specs.declared.reply.Reply.{Reply}
 use Rattle.escrow_core.specs.declared.reply.Reply.TheVariants.{SenderFull, ClockFull}
 use Rattle.ledger_core.specs.declared.entry.Call.{Call}
 use Rattle.ledger_core.specs.declared.entry.Entry.{Entry}
-use Rattle.ledger_core.specs.History.{height, sent_by, is_tick, reply_to, reply_to_tick}
+use Rattle.ledger_core.specs.History.{height, is_sender, is_tick, history_reply, reply_to_tick}
 use Rattle.ledger_core.specs.Ledger.{call_entry, tick_entry}
 use Rattle.ledger_core.specs.Value.{LedgerState}
 
@@ -35,8 +35,8 @@ pub record ClockState : Type 0 where
   pub seen : List Entry
 
 -- the entries of a party
-abbrev pub made_by : ℕ → List Entry → List Entry
-made_by p h = filter (λ e. sent_by p e.sender) h
+abbrev pub party_made : ℕ → List Entry → List Entry
+party_made p h = filter (λ e. is_sender p e.sender) h
 
 -- the ticks of the clock
 abbrev pub ticks_in_order : List Entry → List Entry
@@ -44,7 +44,7 @@ ticks_in_order h = filter (λ e. is_tick e.sender) h
 
 -- the party's own entries of those that its pass has seen
 abbrev pub mine : PassState → List Entry
-mine p = made_by p.party p.seen
+mine p = party_made p.party p.seen
 
 -- the ticks of those entries that the clock's pass has seen
 abbrev pub clock_mine : ClockState → List Entry
@@ -62,8 +62,8 @@ abbrev pub pass_at : TableId → LedgerState → (p : ℕ) (seen : List Entry) �
 pass_at lock l p seen = record { lock = lock; deal = l.deal; arc = l.arc; party = p; shared = l.history; seen = seen }
 
 -- the clock's pass has seen all that was shared
-abbrev pub clock_at : TableId → LedgerState → ClockState
-clock_at lock l = record { lock = lock; deal = l.deal; arc = l.arc; shared = l.history; seen = l.history }
+abbrev pub table_clock : TableId → LedgerState → ClockState
+table_clock lock l = record { lock = lock; deal = l.deal; arc = l.arc; shared = l.history; seen = l.history }
 
 -- the pass is that of the arc's party at the ledger, or of its counterparty
 abbrev pub IsFirstAt : TableId → PassState → Type 0
@@ -85,8 +85,8 @@ added_by_tick _ e = e ∷ []
 -- After entries of others, which the pass hadn't seen, stands its own, with the reply of the ledger at that point.
 pub record HasCalled (old : PassState) (call : Call) (answer : Reply) (fresh : List Entry) : Type 0 where
   pub others : List Entry
-  pub foreign : made_by old.party others ≡ []
-  pub reply : answer ≡ reply_to old.deal old.arc (old.seen ++ others) old.party call
+  pub foreign : party_made old.party others ≡ []
+  pub reply : answer ≡ history_reply old.deal old.arc (old.seen ++ others) old.party call
   pub entries : fresh ≡ others ++ added_by_call answer (call_entry old.party (height (old.seen ++ others)) call answer)
 
 -- After entries of the parties, which the pass hadn't seen, stands the tick, with the reply of the ledger at that point.
@@ -102,7 +102,7 @@ pub record Closes (l : LedgerState) (p : PassState) : Type 0 where
   pub deal : l.deal ≡ p.deal
   pub arc : l.arc ≡ p.arc
   pub seen : IsPrefix p.seen l.history
-  pub mine : made_by p.party l.history ≡ mine p
+  pub mine : party_made p.party l.history ≡ mine p
 
 pub record ClosesClock (l : LedgerState) (p : ClockState) : Type 0 where
   pub deal : l.deal ≡ p.deal

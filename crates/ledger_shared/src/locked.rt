@@ -2,8 +2,8 @@
 
 ghost use Rattle.std.specs.Prelude.{◌≡◌, ◌<◌, ◌≤◌, ◌+◌, ◌^◌, ◌++◌, ◌==◌, ◌||◌, IsTrue, OnOk, OnErr, IfOk, IfErr, length, drop};
 ghost use Rattle.swap_digraph.specs.Deal.{party, counterparty};
-ghost use Rattle.ledger_core.specs.History.{height, fit, reply_to, reply_to_tick, IsLegal};
-ghost use Rattle.ledger_core.specs.Known.{is_known_in};
+ghost use Rattle.ledger_core.specs.History.{height, fit, history_reply, reply_to_tick, IsLegal};
+ghost use Rattle.ledger_core.specs.Known.{is_known_call};
 ghost use Rattle.ledger_core.specs.Ledger.{call_entry, tick_entry};
 ghost use Rattle.ledger_shared.specs.Value.{added_by_call, added_by_tick};
 
@@ -28,12 +28,12 @@ struct Prepared {
 }
 
 /// The entries from `seen` on.
-pub(crate) fn fresh_in(ledger: &Ledger, seen: u32) -> Result<EntryList, NoMemory>
+pub(crate) fn fresh_entries(ledger: &Ledger, seen: u32) -> Result<EntryList, NoMemory>
     requires { seen ≤ length ledger.now.history }
     ensures fresh { IfOk result (λ l. l ≡ drop seen ledger.now.history) }
     ensures legal { OnOk result (IsLegal ledger.now.deal ledger.now.arc ledger.now.history) }
 {
-    Ok(EntryList::of(ledger.history().copy_from(seen as usize)?))
+    Ok(EntryList::of(ledger.history().copy_tail(seen as usize)?))
 }
 
 fn prepare(ledger: &mut Ledger, seen: u32, call: &Call) -> Result<Prepared, NoMemory>
@@ -47,7 +47,7 @@ fn prepare(ledger: &mut Ledger, seen: u32, call: &Call) -> Result<Prepared, NoMe
 {
     ledger.reserve()?;
     let count = ledger.len();
-    let mut fresh = ledger.history().copy_from(seen as usize)?;
+    let mut fresh = ledger.history().copy_tail(seen as usize)?;
     fresh.reserve()?;
     let call = call.copy()?;
     Ok(Prepared { fresh, call })
@@ -64,8 +64,8 @@ fn make(
     requires copied { prepared.call ≡ call }
     requires of_the_two { IsTrue ((sender == party ledger.old.deal ledger.old.arc) || (sender == counterparty ledger.old.deal ledger.old.arc)) }
     requires fits { IsTrue (fit ledger.old.deal ledger.old.arc call) }
-    requires known { IsTrue (is_known_in known ledger.old.deal call) }
-    ensures reply { result.reply ≡ reply_to ledger.old.deal ledger.old.arc ledger.old.history sender call }
+    requires known { IsTrue (is_known_call known ledger.old.deal call) }
+    ensures reply { result.reply ≡ history_reply ledger.old.deal ledger.old.arc ledger.old.history sender call }
     ensures deal { ledger.new.deal ≡ ledger.old.deal }
     ensures arc { ledger.new.arc ≡ ledger.old.arc }
     ensures history { ledger.new.history ≡ ledger.old.history ++ added_by_call result.reply (call_entry sender (height ledger.old.history) call result.reply) }
@@ -104,8 +104,8 @@ pub(crate) fn call_at_end(
     requires seen { seen ≤ length ledger.old.history }
     requires of_the_two { IsTrue ((sender == party ledger.old.deal ledger.old.arc) || (sender == counterparty ledger.old.deal ledger.old.arc)) }
     requires fits { IsTrue (fit ledger.old.deal ledger.old.arc call) }
-    requires known { IsTrue (is_known_in known ledger.old.deal call) }
-    ensures reply { IfOk result (λ c. c.reply ≡ reply_to ledger.old.deal ledger.old.arc ledger.old.history sender call) }
+    requires known { IsTrue (is_known_call known ledger.old.deal call) }
+    ensures reply { IfOk result (λ c. c.reply ≡ history_reply ledger.old.deal ledger.old.arc ledger.old.history sender call) }
     ensures deal { ledger.new.deal ≡ ledger.old.deal }
     ensures arc { ledger.new.arc ≡ ledger.old.arc }
     ensures history { IfOk result (λ c. ledger.new.history ≡ ledger.old.history ++ added_by_call c.reply

@@ -19,9 +19,9 @@ impl Model for Pass {
 
     ghost Value = { PassState };
 
-    ghost use Rattle.ledger_shared.specs.Pass.{pass_of, IsOfParty};
+    ghost use Rattle.ledger_shared.specs.Pass.{inside_pass, IsOfParty};
 
-    ghost view = { pass_of };
+    ghost view = { inside_pass };
 
     ghost invariant = { IsOfParty };
 }

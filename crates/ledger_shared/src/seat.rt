@@ -17,11 +17,11 @@ pub(crate) struct LedgerSeat {
 }
 
 impl Model for LedgerSeat {
-    ghost use Rattle.ledger_shared.specs.Seat.{SeatState, seat_of, KnowsLines};
+    ghost use Rattle.ledger_shared.specs.Seat.{SeatState, inside_seat, KnowsLines};
 
     ghost Value = { SeatState };
 
-    ghost view = { seat_of };
+    ghost view = { inside_seat };
 
     ghost invariant = { KnowsLines };
 }

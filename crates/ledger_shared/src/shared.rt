@@ -4,11 +4,11 @@ ghost use Rattle.std.specs.Prelude.{◌≡◌, ◌≤◌, [], IsTrue, OnOk, OnEr
 ghost use mathlib.Core.List.{IsPrefix};
 ghost use Rattle.swap_digraph.specs.Deal.{party, counterparty};
 ghost use Rattle.ledger_core.specs.History.{fit, IsLegal};
-ghost use Rattle.ledger_core.specs.Known.{is_known_in};
-ghost use Rattle.ledger_shared.specs.Value.{made_by, with_seen, pass_at, clock_at, IsFirstAt, IsSecondAt, HasCalled, HasTicked, Closes};
+ghost use Rattle.ledger_core.specs.Known.{is_known_call};
+ghost use Rattle.ledger_shared.specs.Value.{party_made, with_seen, pass_at, table_clock, IsFirstAt, IsSecondAt, HasCalled, HasTicked, Closes};
 ghost use Rattle.ledger_shared.specs.Value.{ClosesClock};
 
-use crate::locked::{Called, call_at_end, fresh_in, tick_at_end};
+use crate::locked::{Called, call_at_end, fresh_entries, tick_at_end};
 use crate::pass::{ClockPass, Pass};
 use crate::seat::{Seated, close, give, seat_three, take};
 use crate::shelf::Shelf;
@@ -59,13 +59,13 @@ pub fn share<R: Wait>(
     first: u32,
     second: u32,
 ) -> Result<(SharedLedger, Pass, Pass, ClockPass), LedgerBack>
-    requires first { (first ≤ length ledger.value.history) × (made_by (party ledger.value.deal ledger.value.arc) (drop first ledger.value.history) ≡ []) }
-    requires second { (second ≤ length ledger.value.history) × (made_by (counterparty ledger.value.deal ledger.value.arc) (drop second ledger.value.history)
+    requires first { (first ≤ length ledger.value.history) × (party_made (party ledger.value.deal ledger.value.arc) (drop first ledger.value.history) ≡ []) }
+    requires second { (second ≤ length ledger.value.history) × (party_made (counterparty ledger.value.deal ledger.value.arc) (drop second ledger.value.history)
         ≡ []) }
     ensures first { IfOk result (λ s. s.1 ≡ pass_at s.0.lock ledger.value (party ledger.value.deal ledger.value.arc) (take first ledger.value.history)) }
     ensures second { IfOk result (λ s. s.2 ≡ pass_at s.0.lock ledger.value (counterparty ledger.value.deal ledger.value.arc)
         (take second ledger.value.history)) }
-    ensures clock { IfOk result (λ s. s.3 ≡ clock_at s.0.lock ledger.value) }
+    ensures clock { IfOk result (λ s. s.3 ≡ table_clock s.0.lock ledger.value) }
     ensures back { IfErr result (λ b. b.ledger ≡ ledger) }
 {
     let whole = ledger.len();
@@ -124,7 +124,7 @@ impl SharedLedger {
     ) -> Result<Called, CallBack>
         requires lock { pass.old.lock ≡ self.now.lock }
         requires fits { IsTrue (fit pass.old.deal pass.old.arc call) }
-        requires known { IsTrue (is_known_in known pass.old.deal call) }
+        requires known { IsTrue (is_known_call known pass.old.deal call) }
         ensures called { IfOk result (λ c. HasCalled pass.old call c.reply c.fresh) }
         ensures seen { IfOk result (λ c. pass.new ≡ with_seen pass.old c.fresh) }
         ensures whole { OnOk result (IsPrefix pass.old.shared pass.new.seen) }
@@ -150,13 +150,13 @@ impl SharedLedger {
     pub fn look<R: Wait>(&self, rt: &R, pass: &mut Pass) -> Result<EntryList, NoMemory>
         requires lock { pass.old.lock ≡ self.now.lock }
         ensures seen { IfOk result (λ fresh. pass.new ≡ with_seen pass.old fresh) }
-        ensures foreign { IfOk result (λ fresh. made_by pass.old.party fresh ≡ []) }
+        ensures foreign { IfOk result (λ fresh. party_made pass.old.party fresh ≡ []) }
         ensures whole { OnOk result (IsPrefix pass.old.shared pass.new.seen) }
         ensures legal { OnOk result (IsLegal pass.old.deal pass.old.arc pass.new.seen) }
         ensures kept { OnErr result (pass.new ≡ pass.old) }
     {
         let ledger = take(rt, &self.lock, &mut pass.seat);
-        match fresh_in(&ledger, pass.seen) {
+        match fresh_entries(&ledger, pass.seen) {
             Ok(fresh) => {
                 pass.seen = ledger.len();
                 give(&self.lock, &mut pass.seat, ledger);

@@ -22,11 +22,11 @@ pub struct Shelf {
 impl Journal for Shelf {
     type Entry = Line;
 
-    ghost use Rattle.ledger_shared.specs.Lines.{lines, author_of};
+    ghost use Rattle.ledger_shared.specs.Lines.{lines, line_author};
 
     ghost history = { λ s. lines s.ledger.value.deal s.ledger.value.arc s.ledger.value.history };
 
-    ghost author = { author_of };
+    ghost author = { line_author };
 
     fn count(&self) -> u64 {
         self.ledger.len() as u64 + 1

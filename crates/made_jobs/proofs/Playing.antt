@@ -10,7 +10,7 @@ use Rattle.swap_job.specs.declared.event.Event.{Event}
 use Rattle.swap_job.specs.declared.job.Job.{Job}
 use Rattle.swap_job.specs.declared.job.Role.{Role}
 use Rattle.swap_job.specs.declared.job.Role.TheVariants.{Conforming, Manual}
-use Rattle.swap_job.specs.Step.{CanStep, IsEventOf}
+use Rattle.swap_job.specs.Step.{CanStep, IsJobEvent}
 use Rattle.swap_job.specs.Roles.{is_conforming}
 use Rattle.swap_rules.specs.Accepted.{IsAccepted}
 use Rattle.swap_rules.proofs.Accepted.{accepted_is_well_sized}
@@ -18,19 +18,19 @@ use Rattle.party_wallet.specs.Value.{WalletState}
 use Rattle.ledger_core.specs.Book.{Histories}
 use Rattle.swap_rules.specs.Outcome.{IsEnded}
 use Rattle.swap_run.specs.Asked.{is_strategy}
-use Rattle.swap_run.specs.Run.{Cast, State, is_planned, run, run_from, start, step}
+use Rattle.swap_run.specs.Run.{Cast, State, is_planned, run, continued_run, start, step}
 use Rattle.swap_run.specs.Fair.{finish}
 use Rattle.swap_run.specs.Laws.{IsKept}
-use Rattle.swap_world.specs.Cast.{cast_of, cast_with}
+use Rattle.swap_world.specs.Cast.{job_cast, made_cast}
 use Rattle.swap_world.specs.Actors.{AllFit, HaveRoles, ConformingHaveSeeds}
 use Rattle.swap_world.specs.Gone.{MayGive, HasGone}
-use Rattle.swap_world.specs.Value.{WorldState, cast_at, new_world}
+use Rattle.swap_world.specs.Value.{WorldState, world_cast, new_world}
 use Rattle.swap_world.proofs.Plain.{plain_finish}
 use Rattle.swap_world.proofs.Team.{all_fit, nobody_asks, plain_roles}
 use Rattle.swap_gen.specs.Drawn.{generated, plain_job, plain_deal, drawn_seed}
 use Rattle.swap_gen.specs.Made.{made_deal}
 use Rattle.swap_gen.specs.Events.{generated_events, GeneratorState}
-use Rattle.swap_gen.specs.Owned.{wallets_in, OwnsKeys}
+use Rattle.swap_gen.specs.Owned.{inside_wallets, OwnsKeys}
 use Rattle.made_jobs.specs.Generating.{generated_book, IsOf}
 
 pub is_sized : (d : Deal) → IsAccepted d → IsWellSized d
@@ -52,10 +52,10 @@ have_seeds job own conforming seeds = record {
 pub owners_fit : (job : Job) → ((p : ℕ) → p < job.deal.graph.n → OwnsKeys job p) → AllFit job
 owners_fit job own = all_fit job (λ p lt c. let k = own p lt in (k.seed, k.there, k.fits))
 
-same_cast : (job : Job) (w : WorldState) → IsOf job w → cast_at w ≡ cast_of job
+same_cast : (job : Job) (w : WorldState) → IsOf job w → world_cast w ≡ job_cast job
 same_cast job w k =
-    ap₂ (λ (d : Deal) (rs : List Role). cast_with d w.conforming w.seeds rs) k.deal k.roles
-    ∙ ap₂ (λ (c : List Bool) (s : List (Option (List ℕ))). cast_with job.deal c s job.roles) k.conforming k.seeds
+    ap₂ (λ (d : Deal) (rs : List Role). made_cast d w.conforming w.seeds rs) k.deal k.roles
+    ∙ ap₂ (λ (c : List Bool) (s : List (Option (List ℕ))). made_cast job.deal c s job.roles) k.conforming k.seeds
 
 -- the lists of a generated job
 
@@ -92,13 +92,13 @@ generated_roles seed n = plain_roles role role_conforms role_plans (generated se
 -- one more event
 
 pub can_step : (seed n : ℕ) (g : GeneratorState) (w : WorldState) (event : Event) → g.seed ≡ seed → g.parties ≡ n → IsOf (generated seed n) w
-    → IsEventOf (generated g.seed g.parties) event → CanStep w.deal w.conforming w.seeds event
+    → IsJobEvent (generated g.seed g.parties) event → CanStep w.deal w.conforming w.seeds event
 can_step seed n g w event s p k can =
     subst (λ (d : Deal). CanStep d w.conforming w.seeds event) (sym k.deal)
     (subst (λ (c : List Bool). CanStep (generated seed n).deal c w.seeds event) (sym k.conforming)
     (subst (λ (ss : List (Option (List ℕ))). CanStep (generated seed n).deal (generated seed n).conforming ss event) (sym k.seeds)
-    (subst (λ (m : ℕ). IsEventOf (generated seed m) event) p
-    (subst (λ (x : ℕ). IsEventOf (generated x g.parties) event) s can))))
+    (subst (λ (m : ℕ). IsJobEvent (generated seed m) event) p
+    (subst (λ (x : ℕ). IsJobEvent (generated x g.parties) event) s can))))
 
 module _ (gives : MayGive) (f : Cast → State → State) (w new : WorldState) (k : HasGone gives f w new) where
   pub is_still : (job : Job) → IsOf job w → IsOf job new
@@ -113,12 +113,12 @@ module _ (gives : MayGive) (f : Cast → State → State) (w new : WorldState) (
   goes_on_still on = ap (λ (x : WorldState). x.stopped) k.same ∙ on
 
 pub one_more : (job : Job) (w new : WorldState) (event : Event) (left rest : List Event) (total : State) → IsOf job w
-    → new.state ≡ step (cast_at w) w.state event → left ≡ event ∷ rest → run_from (cast_of job) w.state left ≡ total
-    → run_from (cast_of job) new.state rest ≡ total
+    → new.state ≡ step (world_cast w) w.state event → left ≡ event ∷ rest → continued_run (job_cast job) w.state left ≡ total
+    → continued_run (job_cast job) new.state rest ≡ total
 one_more job w new event left rest total k e first so_far =
-    ap (λ (s : State). run_from (cast_of job) s rest)
+    ap (λ (s : State). continued_run (job_cast job) s rest)
     (e ∙ ap (λ (c : Cast). step c w.state event) (same_cast job w k))
-    ∙ sym (ap (run_from (cast_of job) w.state) first) ∙ so_far
+    ∙ sym (ap (continued_run (job_cast job) w.state) first) ∙ so_far
 
 -- nobody is asked in a generated job
 
@@ -130,8 +130,8 @@ generated_unasked seed n =
 pub unasked_in : (seed n : ℕ) (w : WorldState) → IsOf (generated seed n) w → list_any is_strategy w.roles ≡ false
 unasked_in seed n w k = ap (λ (rs : List Role). list_any is_strategy rs) k.roles ∙ generated_unasked seed n
 
-pub all_taken : (job : Job) (s : State) (left : List Event) (total : State) → left ≡ [] → run_from (cast_of job) s left ≡ total → s ≡ total
-all_taken job s left total none so_far = sym (ap (run_from (cast_of job) s) none) ∙ so_far
+pub all_taken : (job : Job) (s : State) (left : List Event) (total : State) → left ≡ [] → continued_run (job_cast job) s left ≡ total → s ≡ total
+all_taken job s left total none so_far = sym (ap (continued_run (job_cast job) s) none) ∙ so_far
 
 -- The job of a generator.
 
@@ -144,8 +144,8 @@ job_seeds j seed n e = subst (λ (x : Job). length x.seeds ≡ x.deal.graph.n) (
 pub job_roles : (j : Job) (seed n : ℕ) → j ≡ generated seed n → HaveRoles j
 job_roles j seed n e = subst HaveRoles (sym e) (generated_roles seed n)
 
-pub job_wallets : (j job : Job) (wallets : List (Option WalletState)) → j ≡ job → wallets ≡ wallets_in job → wallets ≡ wallets_in j
-job_wallets j job wallets same e = e ∙ ap wallets_in (sym same)
+pub job_wallets : (j job : Job) (wallets : List (Option WalletState)) → j ≡ job → wallets ≡ inside_wallets job → wallets ≡ inside_wallets j
+job_wallets j job wallets same e = e ∙ ap inside_wallets (sym same)
 
 -- its world before any event
 
@@ -157,8 +157,8 @@ is_of_new j job w e new = record {
   roles = ap (λ (x : WorldState). x.roles) new ∙ ap (λ (x : Job). x.roles) e;
 }
 
-pub starts : (j job : Job) (w : WorldState) → j ≡ job → w ≡ new_world j → w.state ≡ start (cast_of job)
-starts j job w e new = ap (λ (x : WorldState). x.state) new ∙ ap (λ (x : Job). start (cast_of x)) e
+pub starts : (j job : Job) (w : WorldState) → j ≡ job → w ≡ new_world j → w.state ≡ start (job_cast job)
+starts j job w e new = ap (λ (x : WorldState). x.state) new ∙ ap (λ (x : Job). start (job_cast x)) e
 
 pub goes_on_new : (j : Job) (w : WorldState) → w ≡ new_world j → w.stopped ≡ false
 goes_on_new j w new = ap (λ (x : WorldState). x.stopped) new
@@ -166,34 +166,34 @@ goes_on_new j w new = ap (λ (x : WorldState). x.stopped) new
 -- A world after the fair finish, and its book.
 
 module _ (gives : MayGive) (w new : WorldState) (none : list_any is_strategy w.roles ≡ false) (k : HasGone gives finish w new) where
-  pub finished_book : new.state.book ≡ (finish (cast_at w) w.state).book
+  pub finished_book : new.state.book ≡ (finish (world_cast w) w.state).book
   finished_book = ap (λ (s : State). s.book) (plain_finish gives w new none k)
 
-  pub finished_kept : IsKept (cast_at new) new.state.book → IsKept (cast_at w) (finish (cast_at w) w.state).book
+  pub finished_kept : IsKept (world_cast new) new.state.book → IsKept (world_cast w) (finish (world_cast w) w.state).book
   finished_kept kept =
-      subst (λ (b : Histories). IsKept (cast_at w) b) finished_book (subst (λ (c : Cast). IsKept c new.state.book) (ap cast_at k.same) kept)
+      subst (λ (b : Histories). IsKept (world_cast w) b) finished_book (subst (λ (c : Cast). IsKept c new.state.book) (ap world_cast k.same) kept)
 
-  pub finished_ended : IsEnded w.deal new.state.book → IsEnded w.deal (finish (cast_at w) w.state).book
+  pub finished_ended : IsEnded w.deal new.state.book → IsEnded w.deal (finish (world_cast w) w.state).book
   finished_ended e = subst (λ (b : Histories). IsEnded w.deal b) finished_book e
 
 -- the run of a number's job, where first is its world before any event, and played the world after all of them
-module _ (seed n count : ℕ) (first played : WorldState) (begins : first.state ≡ start (cast_of (generated seed n)))
-    (runs : played.state ≡ run_from (cast_of (generated seed n)) first.state (generated_events seed n count)) (of : IsOf (generated seed n) played) where
-  run_is : played.state ≡ run (cast_of (generated seed n)) (generated_events seed n count)
-  run_is = runs ∙ ap (λ (s : State). run_from (cast_of (generated seed n)) s (generated_events seed n count)) begins
+module _ (seed n count : ℕ) (first played : WorldState) (begins : first.state ≡ start (job_cast (generated seed n)))
+    (runs : played.state ≡ continued_run (job_cast (generated seed n)) first.state (generated_events seed n count)) (of : IsOf (generated seed n) played) where
+  run_is : played.state ≡ run (job_cast (generated seed n)) (generated_events seed n count)
+  run_is = runs ∙ ap (λ (s : State). continued_run (job_cast (generated seed n)) s (generated_events seed n count)) begins
 
-  pub book_is : (finish (cast_at played) played.state).book ≡ generated_book seed n count
+  pub book_is : (finish (world_cast played) played.state).book ≡ generated_book seed n count
   unfolding generated_book
   book_is =
       ap (λ (c : Cast). (finish c played.state).book) (same_cast (generated seed n) played of)
-      ∙ ap (λ (s : State). (finish (cast_of (generated seed n)) s).book) run_is
+      ∙ ap (λ (s : State). (finish (job_cast (generated seed n)) s).book) run_is
 
-  pub is_kept : IsKept (cast_at played) (finish (cast_at played) played.state).book → IsKept (cast_of (generated seed n)) (generated_book seed n count)
+  pub is_kept : IsKept (world_cast played) (finish (world_cast played) played.state).book → IsKept (job_cast (generated seed n)) (generated_book seed n count)
   is_kept k =
-      subst (λ (b : Histories). IsKept (cast_of (generated seed n)) b) book_is
-      (subst (λ (c : Cast). IsKept c (finish (cast_at played) played.state).book) (same_cast (generated seed n) played of) k)
+      subst (λ (b : Histories). IsKept (job_cast (generated seed n)) b) book_is
+      (subst (λ (c : Cast). IsKept c (finish (world_cast played) played.state).book) (same_cast (generated seed n) played of) k)
 
-  pub has_ended : IsEnded played.deal (finish (cast_at played) played.state).book → IsEnded (generated seed n).deal (generated_book seed n count)
+  pub has_ended : IsEnded played.deal (finish (world_cast played) played.state).book → IsEnded (generated seed n).deal (generated_book seed n count)
   has_ended k =
       subst (λ (b : Histories). IsEnded (generated seed n).deal b) book_is
-      (subst (λ (d : Deal). IsEnded d (finish (cast_at played) played.state).book) of.deal k)
+      (subst (λ (d : Deal). IsEnded d (finish (world_cast played) played.state).book) of.deal k)

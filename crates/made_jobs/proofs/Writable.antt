@@ -22,15 +22,15 @@ use Rattle.swap_job.specs.declared.moves.Move.{Move}
 use Rattle.swap_job.specs.declared.moves.Move.TheVariants.{Publish, Craft, Replay, Raw, Claim, Refund, Transfer, Wait}
 use Rattle.swap_job.specs.Crafted.{Seeds}
 use Rattle.swap_job.specs.Fitting.{IsFitting, IsMoveOf}
-use Rattle.swap_job.specs.Roles.{script_of}
+use Rattle.swap_job.specs.Roles.{role_script}
 use Rattle.offer_header.specs.Names.{AreNames}
 use Rattle.swap_offer.specs.Job.{IsWholeJob}
 use Rattle.swap_offer.specs.Wallets.{HaveScripts}
 use Rattle.swap_gen.specs.Made.{made, made_deal}
 use Rattle.swap_gen.specs.Owned.{OwnsKeys}
-use Rattle.swap_gen.specs.Drawn.{generated, name_of, plain_deal, plain_job, drawn_seed}
+use Rattle.swap_gen.specs.Drawn.{generated, party_label, plain_deal, plain_job, drawn_seed}
 use Rattle.offer_text.specs.Words.{AreTexts}
-use Rattle.offer_text.specs.Moves.{AreBelow, NamesBelow}
+use Rattle.offer_text.specs.Moves.{AreBelow, BoundedNames}
 use Rattle.offer_text.specs.HeaderLine.{AreSayable, IsSayable, IsWritable}
 use Rattle.made_jobs.specs.Making.{IsMade}
 
@@ -59,7 +59,7 @@ both_below x n f t b lf lt e = go (x == f) (x == t) refl refl (and_parts ((x == 
 all_below : (n : ℕ) (ps : List ℕ) → list_all (λ v. nat_lt v n) ps ≡ true → AreBelow n ps
 all_below n ps e i d lt = ltb-true (get_or ps i d) n (list_all-in (λ v. nat_lt v n) ps (get_or ps i d) e (in_place ps i d lt))
 
-names_below : (d : Deal) (seeds : Seeds) → HasEnds d.graph → (mv : Move) → IsFitting d seeds mv → NamesBelow d.graph.n mv
+names_below : (d : Deal) (seeds : Seeds) → HasEnds d.graph → (mv : Move) → IsFitting d seeds mv → BoundedNames d.graph.n mv
 names_below d seeds ends (Publish a start delta bound timelock amount locks) k = tt
 names_below d seeds ends (Craft a lock via onto) k = all_below d.graph.n via k.names.1.known
 names_below d seeds ends (Replay a lock onto) k = tt
@@ -73,7 +73,7 @@ names_below d seeds ends (Transfer a to units) k =
     both_below to d.graph.n (party d a) (counterparty d a) (nat_le units 1000000000000) (ends.from a k.arc) (ends.to a k.arc) k.names
 names_below d seeds ends (Wait a height) k = tt
 
-said : (d : Deal) (seeds : Seeds) (p : ℕ) → HasEnds d.graph → (role : Role) → All (IsMoveOf d seeds p) (script_of role) → IsSayable d.graph.n role
+said : (d : Deal) (seeds : Seeds) (p : ℕ) → HasEnds d.graph → (role : Role) → All (IsMoveOf d seeds p) (role_script role) → IsSayable d.graph.n role
 said d seeds p ends Conforming moves = tt
 said d seeds p ends Manual moves = tt
 said d seeds p ends (Script ms) moves = λ i mv lt. names_below d seeds ends (get_or ms i mv) (moves i mv lt).fits
@@ -114,7 +114,7 @@ is_made job m e k own = record {
 
 -- The names of a generated job are text.
 
-name_is_text : (i : ℕ) → i < 256 → IsUtf8 (name_of i)
+name_is_text : (i : ℕ) → i < 256 → IsUtf8 (party_label i)
 name_is_text i lt =
     let first : IsUtf8 (codes "p") = IsUtf8-from_ascii (codes "p") (below (codes "p") (λ k l. p_is k l)) in
     IsUtf8-append (codes "p") (decimal i) first (IsUtf8-from_ascii (decimal i) (IsAscii-decimal i (omega arith)))
@@ -127,10 +127,10 @@ pub generated_is_writable : (seed n : ℕ) → n ≤ 24 → IsAccepted (generate
 unfolding plain_job plain_deal made_deal
 generated_is_writable seed n few k = record {
   sized = accepted_is_well_sized (generated seed n).deal k;
-  names = length-map-range_with_len name_of 0 n;
+  names = length-map-range_with_len party_label 0 n;
   texts = λ p d lt.
-      let low : p < n = omega (arith, length-map-range_with_len name_of 0 n, lt) in
-      subst IsUtf8 (sym (get_or-map-range_with_len name_of 0 n p p d low (omega arith))) (name_is_text p (omega (arith, low, few)));
+      let low : p < n = omega (arith, length-map-range_with_len party_label 0 n, lt) in
+      subst IsUtf8 (sym (get_or-map-range_with_len party_label 0 n p p d low (omega arith))) (name_is_text p (omega (arith, low, few)));
   conforming = length-replicate n true;
   roles = length-replicate n Conforming;
   seeds = length-map-range_with_len (λ i. Some (drawn_seed seed i)) 0 n;

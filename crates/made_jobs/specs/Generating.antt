@@ -5,9 +5,9 @@ use Rattle.ledger_core.specs.Book.{Histories}
 use Rattle.swap_job.specs.declared.job.Job.{Job}
 use Rattle.swap_run.specs.Run.{run}
 use Rattle.swap_run.specs.Fair.{finish}
-use Rattle.swap_world.specs.Cast.{cast_of}
+use Rattle.swap_world.specs.Cast.{job_cast}
 use Rattle.swap_world.specs.Value.{WorldState}
-use Rattle.outcome_rules.specs.Report.{report_of}
+use Rattle.outcome_rules.specs.Report.{build_report}
 use Rattle.swap_gen.specs.Drawn.{drawn_graph, generated}
 use Rattle.swap_gen.specs.Events.{events_from, generated_events, GeneratorState}
 use Rattle.swap_gen.specs.Line.{event_line}
@@ -22,7 +22,7 @@ generated_text seed parties events =
 -- the histories after so many events and the fair finish
 unfoldable pub generated_book : (seed parties events : ℕ) → Histories
 generated_book seed parties events =
-    (finish (cast_of (generated seed parties)) (run (cast_of (generated seed parties)) (generated_events seed parties events))).book
+    (finish (job_cast (generated seed parties)) (run (job_cast (generated seed parties)) (generated_events seed parties events))).book
 
 -- the summary of that run
 unfoldable pub generated_summary : (seed parties events : ℕ) → List ℕ
@@ -30,7 +30,7 @@ generated_summary seed parties events = summary (generated seed parties) events 
 
 -- whether something is found in a book of a job
 abbrev pub is_found : Job → Histories → Bool
-is_found job b = not (length (report_of job.deal job.conforming b).findings == 0)
+is_found job b = not (length (build_report job.deal job.conforming b).findings == 0)
 
 -- Of a job's events so many were drawn: the generator's next event is the next of them.
 pub record StandsAt (seed parties events drawn : ℕ) (g : GeneratorState) : Type 0 where

@@ -7,7 +7,7 @@ use Rattle.swap_job.specs.declared.event.Event.{Event}
 use Rattle.swap_job.specs.declared.job.Job.{Job}
 use Rattle.swap_job.specs.declared.job.Purpose.TheVariants.{Make}
 use Rattle.refusals.specs.declared.reason.Reason.{Reason}
-use Rattle.command_input.specs.Lines.{lines_of, filled_lines}
+use Rattle.command_input.specs.Lines.{collect_lines, filled_lines}
 use Rattle.swap_offer.specs.Job.{counted, job_of_lines}
 use Rattle.swap_gen.specs.Made.{made}
 use Rattle.swap_gen.specs.Owned.{OwnsKeys}
@@ -34,7 +34,7 @@ made_of has lines = text_for lines (job_of_lines has Make lines)
 
 -- what is written of an input's bytes, or the first reason why they are refused
 unfoldable pub made_output : (List ℕ → Bool) → List ℕ → Result (List ℕ) Reason
-made_output has input = made_of has (filled_lines 1 (lines_of input))
+made_output has input = made_of has (filled_lines 1 (collect_lines input))
 
 -- How many further lines were written, and the text so far: after one more line, or the reason against it.
 unfoldable pub line_step : ℕ × List ℕ → ℕ × List ℕ → Result (ℕ × List ℕ) Reason

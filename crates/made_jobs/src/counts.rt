@@ -2,7 +2,7 @@
 
 ghost use Rattle.std.specs.Prelude.{◌≡◌, ◌<◌, ◌≤◌, ℕ, length, count_by};
 ghost use Rattle.ledger_core.specs.Book.{history};
-ghost use Rattle.ledger_core.specs.Runs.{entries_of, expand};
+ghost use Rattle.ledger_core.specs.Runs.{ledger_entries, expand};
 ghost use Rattle.made_jobs.specs.Counts.{ended_so, entry_count, is_accepted, is_refused, refused_count, same_outcome};
 
 use escrow_core::Reply;
@@ -20,8 +20,8 @@ fn is_accepted(reply: Reply) -> bool
 
 /// How many entries of an item are refused; ticks that are one item are none.
 #[tactic(auto, using(crate::proofs::Refused::none_refused))]
-fn refused_in(item: &Item) -> usize
-    ensures value { result ≡ count_by is_refused (entries_of item.now) }
+fn refused_calls(item: &Item) -> usize
+    ensures value { result ≡ count_by is_refused (ledger_entries item.now) }
     ensures few { result ≤ 1 }
 {
     match item {
@@ -30,23 +30,23 @@ fn refused_in(item: &Item) -> usize
     }
 }
 
-fn refused_among(items: &[Item]) -> usize
+fn count_refused(items: &[Item]) -> usize
     ensures { result ≡ count_by is_refused (expand items.now) }
 {
     let mut sum: usize = 0;
     for item in items {
-        sum += refused_in(item);
+        sum += refused_calls(item);
     }
     sum
 }
 
 /// How many entries of a history are refused.
 #[tactic(auto, using(crate::proofs::Refused::refused_append, crate::proofs::Refused::none_refused))]
-fn refused_of(entries: &EntryList) -> usize
+fn total_refused(entries: &EntryList) -> usize
     ensures { result ≡ count_by is_refused entries.now }
 {
     let (items, _) = entries.parts();
-    refused_among(items)
+    count_refused(items)
 }
 
 /// All entries of a book, ticks too.
@@ -70,7 +70,7 @@ pub(crate) fn refused_count(histories: &[EntryList]) -> u64
 {
     let mut sum: u64 = 0;
     for entries in histories {
-        sum += refused_of(entries) as u64;
+        sum += total_refused(entries) as u64;
     }
     sum
 }

@@ -15,7 +15,7 @@ use crate::header::put_header;
 use std::alloc::Global;
 use swap_base::{ByteText, Listed, NoMemory, TryCopy};
 use swap_gen::{Generator, put_event};
-use swap_io::{Sink, TextFault, flush, pass_on};
+use swap_io::{Sink, TextFault, flush, flush_waiting};
 
 /// A job before its first event.
 #[derive(Drop)]
@@ -53,7 +53,7 @@ fn write_events<K: Sink>(
     'events: for _e in 0..events {
         let event = generator.next_event();
         put_event(out, names, &event)?;
-        pass_on(sink, out)?;
+        flush_waiting(sink, out)?;
     }
     Ok(())
 }

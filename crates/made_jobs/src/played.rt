@@ -5,15 +5,15 @@ ghost use Rattle.std.specs.List.{list_any};
 ghost use Rattle.swap_rules.specs.Accepted.{IsAccepted};
 ghost use Rattle.swap_rules.specs.Outcome.{IsEnded};
 ghost use Rattle.swap_run.specs.Asked.{is_strategy};
-ghost use Rattle.swap_run.specs.Run.{run_from, start};
+ghost use Rattle.swap_run.specs.Run.{continued_run, start};
 ghost use Rattle.swap_run.specs.Fair.{finish};
 ghost use Rattle.swap_run.specs.Laws.{IsKept};
-ghost use Rattle.swap_world.specs.Cast.{cast_of};
+ghost use Rattle.swap_world.specs.Cast.{job_cast};
 ghost use Rattle.swap_world.specs.Actors.{HaveRoles};
-ghost use Rattle.swap_world.specs.Value.{cast_at, new_world};
+ghost use Rattle.swap_world.specs.Value.{world_cast, new_world};
 ghost use Rattle.swap_gen.specs.Drawn.{generated};
 ghost use Rattle.swap_gen.specs.Events.{generated_events};
-ghost use Rattle.swap_gen.specs.Owned.{wallets_in, OwnsKeys};
+ghost use Rattle.swap_gen.specs.Owned.{inside_wallets, OwnsKeys};
 ghost use Rattle.made_jobs.specs.Generating.{generated_book, IsOf, StandsAt};
 
 use deviators::Kit;
@@ -33,7 +33,7 @@ fn new_world(alloc: Global, job: &Job, wallets: Vec<Option<Wallet>>) -> Result<W
     requires conforming { length job.now.conforming ≡ job.now.deal.graph.n }
     requires seeds { length job.now.seeds ≡ job.now.deal.graph.n }
     requires roles { HaveRoles job.now }
-    requires wallets { wallets.items ≡ wallets_in job.now }
+    requires wallets { wallets.items ≡ inside_wallets job.now }
     ensures { IfOk result (λ w. w ≡ new_world job.now) }
 {
     World::fitting(alloc, job, wallets)
@@ -45,9 +45,9 @@ fn first_world(
     generator: &Generator,
     wallets: Vec<Option<Wallet>>,
 ) -> Result<World, NoMemory>
-    requires { wallets.items ≡ wallets_in (generated generator.now.seed generator.now.parties) }
+    requires { wallets.items ≡ inside_wallets (generated generator.now.seed generator.now.parties) }
     ensures of { IfOk result (λ w. IsOf (generated generator.now.seed generator.now.parties) w) }
-    ensures state { IfOk result (λ w. w.state ≡ start (cast_of (generated generator.now.seed generator.now.parties))) }
+    ensures state { IfOk result (λ w. w.state ≡ start (job_cast (generated generator.now.seed generator.now.parties))) }
     ensures goes_on { IfOk result (λ w. w.stopped ≡ false) }
 {
     let world = new_world(alloc, generator.job(), wallets)?;
@@ -67,7 +67,7 @@ fn take_events(
     ensures seed { OnOk result (generator.new.seed ≡ generator.old.seed) }
     ensures parties { OnOk result (generator.new.parties ≡ generator.old.parties) }
     ensures of { OnOk result (IsOf (generated generator.old.seed generator.old.parties) world.new) }
-    ensures state { OnOk result (world.new.state ≡ run_from (cast_of (generated generator.old.seed generator.old.parties)) world.old.state
+    ensures state { OnOk result (world.new.state ≡ continued_run (job_cast (generated generator.old.seed generator.old.parties)) world.old.state
         (generated_events generator.old.seed generator.old.parties events)) }
 {
     'events: for _e in 0..events {
@@ -80,9 +80,9 @@ fn take_events(
 /// The book of a world after the fair finish.
 fn finished_book(alloc: Global, mut world: World, kit: &Kit) -> Result<Book, NoMemory>
     requires { list_any is_strategy world.roles ≡ false }
-    ensures book { IfOk result (λ b. b.histories ≡ (finish (cast_at world) world.state).book) }
-    ensures kept { OnOk result (IsKept (cast_at world) (finish (cast_at world) world.state).book) }
-    ensures ended { OnOk result (IsEnded world.deal (finish (cast_at world) world.state).book) }
+    ensures book { IfOk result (λ b. b.histories ≡ (finish (world_cast world) world.state).book) }
+    ensures kept { OnOk result (IsKept (world_cast world) (finish (world_cast world) world.state).book) }
+    ensures ended { OnOk result (IsEnded world.deal (finish (world_cast world) world.state).book) }
 {
     world.finish_fair(kit)?;
     let book = world.into_book(alloc)?;
@@ -98,9 +98,9 @@ pub(crate) fn played(
     events: u32,
 ) -> Result<Book, NoMemory>
     requires first { StandsAt generator.old.seed generator.old.parties events 0 generator.old }
-    requires wallets { wallets.items ≡ wallets_in (generated generator.old.seed generator.old.parties) }
+    requires wallets { wallets.items ≡ inside_wallets (generated generator.old.seed generator.old.parties) }
     ensures book { IfOk result (λ b. b.histories ≡ generated_book generator.old.seed generator.old.parties events) }
-    ensures kept { OnOk result (IsKept (cast_of (generated generator.old.seed generator.old.parties))
+    ensures kept { OnOk result (IsKept (job_cast (generated generator.old.seed generator.old.parties))
         (generated_book generator.old.seed generator.old.parties events)) }
     ensures ended { OnOk result (IsEnded (generated generator.old.seed generator.old.parties).deal
         (generated_book generator.old.seed generator.old.parties events)) }

@@ -5,7 +5,7 @@ ghost use Rattle.swap_digraph.specs.Deal.{IsWellSized};
 ghost use Rattle.ledger_core.specs.Book.{IsLegalBook};
 ghost use Rattle.swap_rules.specs.Outcome.{IsEnded};
 ghost use Rattle.swap_run.specs.Laws.{IsKept};
-ghost use Rattle.swap_world.specs.Cast.{cast_of};
+ghost use Rattle.swap_world.specs.Cast.{job_cast};
 ghost use Rattle.swap_gen.specs.Drawn.{generated};
 ghost use Rattle.made_jobs.specs.Summary.{summary};
 ghost use Rattle.made_jobs.specs.Generating.{generated_book, generated_summary, is_found};
@@ -13,7 +13,7 @@ ghost use Rattle.made_jobs.specs.Generating.{generated_book, generated_summary, 
 use crate::played::played;
 use crate::summary_lines::summary_text;
 use ledger_core::Book;
-use outcome_rules::report_of;
+use outcome_rules::build_report;
 use std::alloc::Global;
 use swap_base::{ByteText, NoMemory};
 use swap_gen::Generator;
@@ -34,7 +34,7 @@ fn summed(alloc: Global, job: &Job, events: u32, book: &Book) -> Result<Summary,
     ensures text { IfOk result (λ s. s.text ≡ summary job.now events book.now.histories) }
     ensures found { IfOk result (λ s. s.found ≡ is_found job.now book.now.histories) }
 {
-    let report = report_of(alloc, &job.deal, &job.conforming, book)?;
+    let report = build_report(alloc, &job.deal, &job.conforming, book)?;
     let outcomes = report.outcomes.as_slice();
     let count = report.findings.len();
     let text = summary_text(alloc, &job.deal, events, book, outcomes, count)?;
@@ -49,7 +49,7 @@ pub fn summarize(alloc: Global, seed: u32, parties: u8, events: u32) -> Result<S
     ensures text { IfOk result (λ s. s.text ≡ generated_summary seed parties events) }
     ensures found { IfOk result (λ s. s.found ≡ is_found (generated seed parties) (generated_book seed parties events)) }
     // Whatever is drawn, every party keeps its conduct, and every ledger ends.
-    ensures kept { OnOk result (IsKept (cast_of (generated seed parties)) (generated_book seed parties events)) }
+    ensures kept { OnOk result (IsKept (job_cast (generated seed parties)) (generated_book seed parties events)) }
     ensures ended { OnOk result (IsEnded (generated seed parties).deal (generated_book seed parties events)) }
 {
     let (mut generator, wallets) = Generator::with_wallets(alloc, seed, parties)?;

@@ -2,10 +2,10 @@
 
 ghost use Rattle.std.specs.Prelude.{◌≡◌, IfOk, OnOk};
 ghost use Rattle.swap_base.specs.Fault.{Gives};
-ghost use Rattle.many_fields.specs.Fields.{account_added, accounts_of, accounts_on, may_add};
+ghost use Rattle.many_fields.specs.Fields.{account_added, history_accounts, accounts_on, may_add};
 ghost use Rattle.many_fields.specs.Whole.{AreFew, IsChain};
 
-use crate::number::units_in;
+use crate::number::parse_units;
 use offer_header::{is_known, is_name};
 use std::alloc::Global;
 use swap_base::{ByteText, Listed};
@@ -41,7 +41,7 @@ fn add_account(
     if !may_add(accounts.names.as_slice(), name) {
         return Err(misspelt());
     }
-    let units = units_in(word)?;
+    let units = parse_units(word)?;
     accounts.names.push(ByteText::from_slice(alloc, name)?)?;
     accounts.units.push(units)?;
     Ok(())
@@ -66,9 +66,9 @@ fn add_accounts(
 }
 
 /// The accounts of a chain, by the fields after the first.
-#[tactic(auto, unfolding(crate::specs::Fields::accounts_of))]
+#[tactic(auto, unfolding(crate::specs::Fields::history_accounts))]
 pub fn read_accounts(alloc: Global, fields: &mut Parts<'_>) -> Result<ChainAccounts, WordFault>
-    ensures exact { Gives (λ a. a) result (accounts_of fields.old) }
+    ensures exact { Gives (λ a. a) result (history_accounts fields.old) }
     ensures whole { IfOk result (λ a. IsChain a.names a.units) }
 {
     let mut accounts = ChainAccounts {

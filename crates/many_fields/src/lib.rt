@@ -10,5 +10,5 @@ mod swap;
 
 pub use accounts::{ChainAccounts, read_accounts};
 pub use event::{Payment, read_payment, read_sweep, read_tick};
-pub use number::read_below;
+pub use number::read_bounded;
 pub use swap::{read_chains, read_finish};

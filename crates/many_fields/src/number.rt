@@ -2,8 +2,8 @@
 
 ghost use Rattle.std.specs.Prelude.{◌<◌, ◌≤◌, IfOk};
 ghost use Rattle.swap_base.specs.Fault.{Gives};
-ghost use Rattle.transcript_lines.specs.Reading.{number_below};
-ghost use Rattle.many_fields.specs.Fields.{most_units, units_in};
+ghost use Rattle.transcript_lines.specs.Reading.{bounded_number};
+ghost use Rattle.many_fields.specs.Fields.{most_units, parse_units};
 
 use transcript_book::{WordFault, misspelt, number_of};
 
@@ -11,8 +11,8 @@ use transcript_book::{WordFault, misspelt, number_of};
 const MOST_UNITS: u64 = 1_000_000_000_000_000;
 
 /// The number that a field says, below a limit.
-pub fn read_below(limit: u64, word: &[u8]) -> Result<u64, WordFault>
-    ensures exact { Gives (λ n. n) result (number_below limit word.now) }
+pub fn read_bounded(limit: u64, word: &[u8]) -> Result<u64, WordFault>
+    ensures exact { Gives (λ n. n) result (bounded_number limit word.now) }
     ensures below { IfOk result (λ n. n < limit) }
 {
     let n = number_of(word)?;
@@ -20,9 +20,9 @@ pub fn read_below(limit: u64, word: &[u8]) -> Result<u64, WordFault>
 }
 
 /// The units that a field says.
-pub(crate) fn units_in(word: &[u8]) -> Result<u64, WordFault>
-    ensures exact { Gives (λ n. n) result (units_in word.now) }
+pub(crate) fn parse_units(word: &[u8]) -> Result<u64, WordFault>
+    ensures exact { Gives (λ n. n) result (parse_units word.now) }
     ensures low { IfOk result (λ n. n ≤ most_units) }
 {
-    read_below(MOST_UNITS + 1, word)
+    read_bounded(MOST_UNITS + 1, word)
 }

@@ -4,29 +4,29 @@ ghost use Rattle.std.specs.Prelude.{◌≤◌, IfOk};
 ghost use Rattle.swap_base.specs.Fault.{Gives};
 ghost use Rattle.transcript_book.specs.Taking.{Takes};
 ghost use Rattle.transcript_lines.specs.Reading.{field_of};
-ghost use Rattle.many_fields.specs.Fields.{chains_of, finish_of, finish_word};
+ghost use Rattle.many_fields.specs.Fields.{parse_chain_list, finish_of, finish_word};
 ghost use Rattle.many_fields.specs.Whole.{AreBelow};
 
-use crate::number::read_below;
+use crate::number::read_bounded;
 use std::alloc::Global;
 use swap_base::Listed;
 use swap_job::Finish;
 use transcript_book::{Parts, WordFault, misspelt, nothing_more, word};
 
 /// The chains of a swap's arcs, one for each arc, by the fields after the first.
-#[tactic(auto, using(crate::proofs::Pairs::below_more), unfolding(crate::specs::Fields::chains_of))]
+#[tactic(auto, using(crate::proofs::Pairs::below_more), unfolding(crate::specs::Fields::parse_chain_list))]
 pub fn read_chains(
     alloc: Global,
     count: usize,
     fields: &mut Parts<'_>,
 ) -> Result<Listed<u8>, WordFault>
     requires { count ≤ 256 }
-    ensures exact { Gives (λ l. l) result (chains_of count fields.old) }
+    ensures exact { Gives (λ l. l) result (parse_chain_list count fields.old) }
     ensures below { IfOk result (λ l. AreBelow count l) }
 {
     let mut list = Vec::new(alloc);
     while let Some(word) = fields.next() {
-        list.push(read_below(count as u64, word)? as u8)?;
+        list.push(read_bounded(count as u64, word)? as u8)?;
     }
     Ok(Listed::new(list))
 }

@@ -3,7 +3,7 @@ use Rattle.std.proofs.Common.{◌≡◌, ◌<◌, ◌≤◌, ℕ, Bool, true, fa
 use Rattle.std.proofs.lemmas.Bool.{ltb-true}
 use Rattle.std.specs.Prelude.{nat_lt, slice_index_or, IfOk, Result, Ok, Err}
 use Rattle.swap_job.specs.declared.job.Job.{Job}
-use Rattle.swap_job.specs.Step.{IsEventOf}
+use Rattle.swap_job.specs.Step.{IsJobEvent}
 use Rattle.swap_many.specs.declared.many_event.ManyEvent.{ManyEvent}
 use Rattle.swap_many.specs.declared.many_event.ManyEvent.TheVariants.{Tick, Pay, Sweep}
 use Rattle.many_fields.specs.declared.event.Payment.{Payment}
@@ -36,7 +36,7 @@ sweep_comes many s a is =
 
 event_comes : (many : ManyJob) (s : ℕ) (job : Job) (e : ManyEvent) → s < length many.jobs → job_at many.jobs s ≡ job → IsEventIn s job e → MayCome many e
 event_comes many s job e lt is h =
-    let can : IsEventOf (job_at many.jobs s) h.event = subst (λ (j : Job). IsEventOf j h.event) (sym is) h.can in
+    let can : IsJobEvent (job_at many.jobs s) h.event = subst (λ (j : Job). IsJobEvent j h.event) (sym is) h.can in
     subst (MayCome many) (sym h.is) (λ g places. record { swap = lt; no_tick = h.no_tick; can = can })
 
 pub events_come : {F : Type 0} (many : ManyJob) (s : ℕ) (job : Job) (result : Result ManyEvent F) → s < length many.jobs → job_at many.jobs s ≡ job

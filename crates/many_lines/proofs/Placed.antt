@@ -12,16 +12,16 @@ use Rattle.swap_many.specs.Chains.{nowhere}
 use Rattle.swap_many.specs.Opening.{IsPlaceOn}
 use Rattle.swap_many.specs.declared.place.Place.{Place}
 use Rattle.many_fields.specs.Whole.{AreBelow}
-use Rattle.many_lines.specs.Places.{account_of, arc_places, job_at, place_by, place_of, place_on, place_or, places_of, swap_places}
+use Rattle.many_lines.specs.Places.{find_account, arc_places, job_at, make_place, find_place, arc_place, place_or, find_places, swap_places}
 use Rattle.many_lines.specs.Whole.{AreChains, ArePlaced, AreSwaps}
 use Rattle.many_lines.specs.declared.many_job.ManyJob.{ManyJob}
 
 -- an account that is found is one of them
-is_known : (accounts : List (List ℕ)) (name : List ℕ) (x : ℕ) → account_of accounts name ≡ Some x → x < length accounts
+is_known : (accounts : List (List ℕ)) (name : List ℕ) (x : ℕ) → find_account accounts name ≡ Some x → x < length accounts
 is_known accounts name x is = (position-Some (bytes_eq name) accounts x [] is).0
 
 by_both : (n chain : ℕ) (from to : Option ℕ) (p : Place) → ((x : ℕ) → from ≡ Some x → x < n) → ((x : ℕ) → to ≡ Some x → x < n)
-    → place_by chain from to ≡ Some p → (p.chain ≡ chain) × (p.from < n) × (p.to < n)
+    → make_place chain from to ≡ Some p → (p.chain ≡ chain) × (p.from < n) × (p.to < n)
 by_both n chain (Some x) (Some y) p low high is =
     let there : Place = record { chain = chain; from = x; to = y } in
     let same : there ≡ p = cc is in (
@@ -37,11 +37,11 @@ is_there s a (Some q) p is = cc is
 is_there s a None p is = absurd (cc is)
 
 module _ (many : ManyJob) (chains : AreChains many) where
-  place_known : (s : ℕ) (job : Job) (chain a : ℕ) (p : Place) → chain < length many.names → place_of many.names s job chain a ≡ Ok p
+  place_known : (s : ℕ) (job : Job) (chain a : ℕ) (p : Place) → chain < length many.names → find_place many.names s job chain a ≡ Ok p
       → IsPlaceOn many.units p
   place_known s job chain a p lt is =
       let accounts : List (List ℕ) = slice_index_or many.names chain [] in
-      let at = is_there s a (place_on accounts job chain a) p is in
+      let at = is_there s a (arc_place accounts job chain a) p is in
       let t = by_both (length accounts) chain _ _ p (λ x e. is_known accounts _ x e) (λ x e. is_known accounts _ x e) at in
       let same : length (slice_index_or many.units chain []) ≡ length accounts = (chains.chains chain lt).each in
       record { chain = omega (arith, t.0, lt, chains.each); from = rw (t.0, same) t.1; to = rw (t.0, same) t.2 }
@@ -53,7 +53,7 @@ module _ (many : ManyJob) (chains : AreChains many) where
       let e : ◌≡◌ {A = List Place} [] places = cc is in
       (subst (λ (ps : List Place). length ps ≡ 0) e refl, subst (All (IsPlaceOn many.units)) e (All-nil (IsPlaceOn many.units)))
   arcs_placed s job a (chain ∷ on) places below is =
-      let one = went (place_of many.names s job chain a) (λ place. arc_places many.names s job (a + 1) on >>= λ ps. Ok (place ∷ ps)) places is in
+      let one = went (find_place many.names s job chain a) (λ place. arc_places many.names s job (a + 1) on >>= λ ps. Ok (place ∷ ps)) places is in
       let two = went (arc_places many.names s job (a + 1) on) (λ ps. Ok (one.0 ∷ ps)) places one.2 in
       let e : one.0 ∷ two.0 ≡ places = cc two.2 in
       let rest = arcs_placed s job (a + 1) on two.0 (All-tail (λ n. n < length many.names) chain on below) two.1 in
@@ -90,7 +90,7 @@ module _ (many : ManyJob) (chains : AreChains many) where
             (cons_each on more one.0 two.0 here rest.1),
       )
 
-pub are_placed : (many : ManyJob) (places : List (List Place)) → AreChains many → AreSwaps many → places_of many ≡ Ok places → ArePlaced many places
+pub are_placed : (many : ManyJob) (places : List (List Place)) → AreChains many → AreSwaps many → find_places many ≡ Ok places → ArePlaced many places
 are_placed many places chains swaps is =
     let t = swaps_placed many chains 0 many.chains places (λ k lt. (swaps.swaps k (omega (arith, lt, swaps.each))).below) is in
     record {

@@ -8,7 +8,7 @@ use Rattle.swap_base.specs.Fault.{◌>>=◌, Fails}
 use Rattle.swap_job.specs.declared.job.Job.{Job}
 use Rattle.refusals.specs.declared.refusal.Refusal.{Refusal}
 use Rattle.swap_many.specs.declared.place.Place.{Place}
-use Rattle.many_lines.specs.Places.{arc_places, job_at, place_of, swap_places}
+use Rattle.many_lines.specs.Places.{arc_places, job_at, find_place, swap_places}
 use Rattle.many_lines.specs.declared.many_job.ManyJob.{ManyJob}
 
 -- what was found before, and what is still found
@@ -27,7 +27,7 @@ regroup front y (Err e) = refl
 -- ---- the arcs of a swap
 
 module _ (names : List (List (List ℕ))) (s : ℕ) (job : Job) (front : List Place) (chains : List ℕ) (i : ℕ) (total : Result (List Place) Refusal) where
-  pub arcs_on : (d : ℕ) (place : Place) → i < length chains → place_of names s job (get_or chains i d) i ≡ Ok place
+  pub arcs_on : (d : ℕ) (place : Place) → i < length chains → find_place names s job (get_or chains i d) i ≡ Ok place
       → with_front front (arc_places names s job i (drop i chains)) ≡ total
       → with_front (front ++ place ∷ []) (arc_places names s job (i + 1) (drop (i + 1) chains)) ≡ total
   arcs_on d place lt found so_far =
@@ -37,7 +37,7 @@ module _ (names : List (List (List ℕ))) (s : ℕ) (job : Job) (front : List Pl
       rw (e, found) (regroup front place (arc_places names s job (i + 1) (drop (i + 1) chains))) in
       sym one ∙ so_far
 
-  pub arcs_fail : (d : ℕ) (fault : Fault Refusal) → i < length chains → Fails fault (place_of names s job (get_or chains i d) i)
+  pub arcs_fail : (d : ℕ) (fault : Fault Refusal) → i < length chains → Fails fault (find_place names s job (get_or chains i d) i)
       → with_front front (arc_places names s job i (drop i chains)) ≡ total → Fails fault total
   arcs_fail d NoMemory lt found so_far = tt
   arcs_fail d (Refused reason) lt found so_far =

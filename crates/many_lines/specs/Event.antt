@@ -11,10 +11,10 @@ use Rattle.refusals.specs.declared.reason.Reason.{Reason}
 use Rattle.refusals.specs.declared.reason.Reason.TheVariants.{NotConforming, OverLimit}
 use Rattle.refusals.specs.declared.refusal.Refusal.{Refusal}
 use Rattle.refusals.specs.Refusal.{refusal}
-use Rattle.offer_events.specs.Event.{event_of}
+use Rattle.offer_events.specs.Event.{parse_event}
 use Rattle.transcript_lines.specs.Between.{parts_at}
-use Rattle.transcript_lines.specs.Reading.{is_word, number_below}
-use Rattle.many_fields.specs.Fields.{payment_of, sweep_of, tick_of}
+use Rattle.transcript_lines.specs.Reading.{is_word, bounded_number}
+use Rattle.many_fields.specs.Fields.{parse_payment_fields, parse_sweep_fields, entry_tick}
 use Rattle.swap_many.specs.declared.many_event.ManyEvent.{ManyEvent}
 use Rattle.swap_many.specs.declared.many_event.ManyEvent.TheVariants.{Tick, In, Pay, Sweep}
 use Rattle.many_lines.specs.Heading.{bad, bad_line, by_fields}
@@ -32,12 +32,12 @@ after_space (b ∷ bs) = if b == 32 then bs else after_space bs
 
 unfoldable pub tick_told : ManyJob → ℕ → List ℕ → Result ManyEvent Refusal
 tick_told many line rest = do
-  t ← by_fields line (tick_of (length many.names) (parts_at 32 rest))
+  t ← by_fields line (entry_tick (length many.names) (parts_at 32 rest))
   Ok (Tick t.0 t.1)
 
 unfoldable pub payment_told : ManyJob → ℕ → List ℕ → Result ManyEvent Refusal
 payment_told many line rest = do
-  p ← by_fields line (payment_of many.names (parts_at 32 rest))
+  p ← by_fields line (parse_payment_fields many.names (parts_at 32 rest))
   Ok (Pay p.chain p.from p.to p.units)
 
 -- the number is that of a swap, with an arc of that number
@@ -46,7 +46,7 @@ is_slot jobs s a = if nat_lt s (length jobs) then nat_lt a (length (job_at jobs 
 
 unfoldable pub sweep_told : ManyJob → ℕ → List ℕ → Result ManyEvent Refusal
 sweep_told many line rest = do
-  t ← by_fields line (sweep_of (parts_at 32 rest))
+  t ← by_fields line (parse_sweep_fields (parts_at 32 rest))
   if is_slot many.jobs t.0 t.1 then Ok (Sweep t.0 t.1) else bad line
 
 -- an event of a swap is no tick, since chains tick, and no crash
@@ -78,18 +78,18 @@ IsAgainst line names fault NoMemory = Unit {0}
 IsAgainst line names fault (Refused refusal) = event_fault line names fault ≡ Refused refusal
 
 -- an event line of swap s
-unfoldable pub event_in : ℕ → ℕ → Job → List ℕ → Result ManyEvent Refusal
-event_in line s job text = do
-  e ← with_reason line job.names (event_of job line text)
+unfoldable pub read_raw_event : ℕ → ℕ → Job → List ℕ → Result ManyEvent Refusal
+read_raw_event line s job text = do
+  e ← with_reason line job.names (parse_event job line text)
   own_event line s e
 
 -- an event line behind the number of its swap
 unfoldable pub swap_told : ManyJob → ℕ → List ℕ → List ℕ → Result ManyEvent Refusal
 swap_told many line word text =
-    if length text == 0 then bad line else (by_fields line (number_below (length many.jobs) word) >>= λ s. event_in line s (job_at many.jobs s) text)
+    if length text == 0 then bad line else (by_fields line (bounded_number (length many.jobs) word) >>= λ s. read_raw_event line s (job_at many.jobs s) text)
 
-abbrev pub told_by : ManyJob → ℕ → List ℕ → List ℕ → Result ManyEvent Refusal
-told_by many line word rest =
+abbrev pub parse_told : ManyJob → ℕ → List ℕ → List ℕ → Result ManyEvent Refusal
+parse_told many line word rest =
     if is_word word (codes "tick") then tick_told many line rest
     else if is_word word (codes "pay") then payment_told many line rest
     else if is_word word (codes "sweep") then sweep_told many line rest
@@ -98,4 +98,4 @@ told_by many line word rest =
 -- the event of a line, where so many event lines came before: what the line says goes by its first field
 unfoldable pub next_told : ManyJob → ℕ → ℕ → List ℕ → Result ManyEvent Refusal
 next_told many count line text =
-    if count == 200000 then Err (refusal [] (OverLimit line (codes "events") 200001)) else told_by many line (before_space text) (after_space text)
+    if count == 200000 then Err (refusal [] (OverLimit line (codes "events") 200001)) else parse_told many line (before_space text) (after_space text)

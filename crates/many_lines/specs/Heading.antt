@@ -12,12 +12,12 @@ use Rattle.refusals.specs.declared.reason.Reason.{Reason}
 use Rattle.refusals.specs.declared.reason.Reason.TheVariants.{BadLine, CutShort}
 use Rattle.refusals.specs.declared.refusal.Refusal.{Refusal}
 use Rattle.refusals.specs.Refusal.{fault_with, named, refusal}
-use Rattle.offer_fields.specs.Fields.{object_of}
+use Rattle.offer_fields.specs.Fields.{parse_data}
 use Rattle.transcript_lines.specs.declared.said.Misspelling.{Misspelling}
 use Rattle.transcript_lines.specs.Between.{parts_at}
 use Rattle.transcript_lines.specs.Reading.{is_word}
 use Rattle.swap_offer.specs.Job.{job_header_of, names_at}
-use Rattle.many_fields.specs.Fields.{accounts_of, chains_of, finish_of}
+use Rattle.many_fields.specs.Fields.{history_accounts, parse_chain_list, finish_of}
 use Rattle.many_fields.specs.declared.accounts.ChainAccounts.{ChainAccounts}
 use Rattle.many_lines.specs.declared.many_job.ManyJob.{ManyJob}
 use Rattle.many_lines.specs.declared.stage.Stage.{Stage}
@@ -77,14 +77,15 @@ with_accounts h a = record {
 -- one more chain: at most 32, all before the first swap
 unfoldable pub chain_taken : HeadingState → ℕ → List (List ℕ) → Result HeadingState Refusal
 chain_taken h line ws =
-    if length h.many.jobs == 0 then (if nat_lt (length h.many.names) 32 then (by_fields line (accounts_of ws) >>= λ a. Ok (with_accounts h a)) else bad line)
+    if length h.many.jobs == 0 then (if nat_lt (length h.many.names) 32 then (by_fields line (history_accounts ws) >>= λ a. Ok
+    (with_accounts h a)) else bad line)
     else bad line
 
 -- a swap of at most 8, with the chains of its arcs; its header comes next
 unfoldable pub swap_taken : HeadingState → ℕ → List (List ℕ) → Result HeadingState Refusal
 swap_taken h line ws =
     if nat_lt (length h.many.jobs) 8 then
-    (by_fields line (chains_of (length h.many.names) ws) >>= λ chains. Ok (record { many = h.many; stage = Header line chains }))
+    (by_fields line (parse_chain_list (length h.many.names) ws) >>= λ chains. Ok (record { many = h.many; stage = Header line chains }))
     else bad line
 
 -- the finish, after at least one swap
@@ -106,7 +107,7 @@ fields_taken h line (w ∷ ws) = kind_taken h line w ws
 
 -- whether the object of a line states a finish
 unfoldable pub tells_finish : ℕ → List ℕ → Result Bool Reason
-tells_finish line text = object_of line text >>= λ d. Ok (is_some (get (codes "finish") d))
+tells_finish line text = parse_data line text >>= λ d. Ok (is_some (get (codes "finish") d))
 
 -- a header states no finish, since all swaps have one finish
 unfoldable pub without_finish : ℕ → List ℕ → Result (Unit {0}) Refusal

@@ -1,7 +1,7 @@
 -- What a reader of the lines before the events keeps.
 use Rattle.std.specs.Prelude.{◌≡◌, ◌≤◌, ◌<◌, ℕ, true, List, is_some, length, map, vec_capacity}
 use Rattle.swap_job.specs.declared.job.Purpose.TheVariants.{Run}
-use Rattle.swap_offer.specs.Wallets.{wallets_for}
+use Rattle.swap_offer.specs.Wallets.{prepared_wallets}
 use Rattle.many_fields.specs.Whole.{AreBelow}
 use Rattle.many_lines.specs.declared.heading.Heading.TheInside.{Inside}
 use Rattle.many_lines.specs.declared.many_job.ManyJob.{ManyJob}
@@ -9,11 +9,11 @@ use Rattle.many_lines.specs.declared.stage.Stage.TheVariants.{Header}
 use Rattle.many_lines.specs.Heading.{HeadingState, finish_told}
 use Rattle.many_lines.specs.Whole.{AreChains, AreSwaps}
 
-abbrev pub many_in : Inside → ManyJob
-many_in h = record { names = h.names.items; units = h.units.items; jobs = h.jobs.items; chains = h.chains.items }
+abbrev pub inside_many_job : Inside → ManyJob
+inside_many_job h = record { names = h.names.items; units = h.units.items; jobs = h.jobs.items; chains = h.chains.items }
 
 abbrev pub heading_in : Inside → HeadingState
-heading_in h = record { many = many_in h; stage = h.stage }
+heading_in h = record { many = inside_many_job h; stage = h.stage }
 
 -- There is room for all chains and swaps, and the wallets are those of the swaps.
 pub record IsReading (h : Inside) : Type 0 where
@@ -22,10 +22,10 @@ pub record IsReading (h : Inside) : Type 0 where
   pub jobs_room : 8 ≤ vec_capacity h.jobs
   pub chains_room : 8 ≤ vec_capacity h.chains
   pub wallets_room : 8 ≤ vec_capacity h.wallets
-  pub chains : AreChains (many_in h)
-  pub swaps : AreSwaps (many_in h)
+  pub chains : AreChains (inside_many_job h)
+  pub swaps : AreSwaps (inside_many_job h)
   pub next : (before : ℕ) (chains : List ℕ) → h.stage ≡ Header before chains → length h.jobs.items < 8
   pub below : (before : ℕ) (chains : List ℕ) → h.stage ≡ Header before chains → AreBelow (length h.names.items) chains
   pub some : is_some (finish_told h.stage) ≡ true → 1 ≤ length h.jobs.items
   pub each_wallets : length h.wallets.items ≡ length h.jobs.items
-  pub wallets : map (λ v. v.items) h.wallets.items ≡ map (wallets_for Run) h.jobs.items
+  pub wallets : map (λ v. v.items) h.wallets.items ≡ map (prepared_wallets Run) h.jobs.items

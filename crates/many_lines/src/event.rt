@@ -4,7 +4,7 @@ ghost use Rattle.std.specs.Prelude.{◌≡◌, true, IfOk};
 ghost use Rattle.swap_base.specs.Fault.{Gives};
 ghost use Rattle.swap_offer.specs.Job.{IsWholeJob};
 ghost use Rattle.swap_run.specs.CalledLaws.{is_no_tick};
-ghost use Rattle.many_lines.specs.Event.{after_space, before_space, event_in, is_slot, next_told, payment_told, sweep_told, swap_told, tick_told, told_by};
+ghost use Rattle.many_lines.specs.Event.{after_space, before_space, read_raw_event, is_slot, next_told, payment_told, sweep_told, swap_told, tick_told, parse_told};
 ghost use Rattle.many_lines.specs.Event.{IsAgainst, is_of_crash, own_event};
 ghost use Rattle.many_lines.specs.Heading.{IsNamed};
 ghost use Rattle.many_lines.specs.Setup.{IsEventIn, MayCome};
@@ -12,7 +12,7 @@ ghost use Rattle.many_lines.specs.Whole.{AreChains, AreSwaps};
 
 use crate::fault::{bad, nameless};
 use crate::many_job::ManyJob;
-use crate::said::{payment_in, swap_in, sweep_in, tick_in};
+use crate::said::{parse_swap, parse_sweep, parse_tick, read_chain_payment};
 use refusals::{HeaderFault, OfferFault, Reason, over_limit, with_names};
 use std::alloc::Global;
 use swap_base::{ByteText, Fault, Listed, NoMemory, TryCopy};
@@ -48,7 +48,7 @@ fn told_tick(
     ensures exact { Gives (λ e. e) result (tick_told many.now line rest.now) }
     ensures can { IfOk result (λ e. MayCome many.now e) }
 {
-    let (chain, by) = tick_in(alloc, line, many.names.len(), &mut Parts::new(b' ', rest))?;
+    let (chain, by) = parse_tick(alloc, line, many.names.len(), &mut Parts::new(b' ', rest))?;
     Ok(ManyEvent::Tick(chain, by))
 }
 
@@ -63,7 +63,7 @@ fn told_payment(
     ensures exact { Gives (λ e. e) result (payment_told many.now line rest.now) }
     ensures can { IfOk result (λ e. MayCome many.now e) }
 {
-    let paid = payment_in(
+    let paid = read_chain_payment(
         alloc,
         line,
         many.names.as_slice(),
@@ -93,7 +93,7 @@ fn told_sweep(
     ensures exact { Gives (λ e. e) result (sweep_told many.now line rest.now) }
     ensures can { IfOk result (λ e. MayCome many.now e) }
 {
-    let (swap, arc) = sweep_in(alloc, line, &mut Parts::new(b' ', rest))?;
+    let (swap, arc) = parse_sweep(alloc, line, &mut Parts::new(b' ', rest))?;
     if !is_slot(many.jobs.as_slice(), swap, arc) {
         return Err(bad(alloc, line));
     }
@@ -151,8 +151,8 @@ fn against_event(
 }
 
 /// The event of a swap's event line.
-#[tactic(auto, using(crate::proofs::Failing::against_line), unfolding(crate::specs::Event::event_in))]
-fn event_in(
+#[tactic(auto, using(crate::proofs::Failing::against_line), unfolding(crate::specs::Event::read_raw_event))]
+fn read_raw_event(
     alloc: Global,
     line: u32,
     swap: u8,
@@ -161,7 +161,7 @@ fn event_in(
 ) -> Result<ManyEvent, HeaderFault>
     requires whole { IsWholeJob job.now }
     requires purpose { job.now.purpose ≡ Purpose.Run }
-    ensures exact { Gives (λ e. e) result (event_in line swap job.now text.now) }
+    ensures exact { Gives (λ e. e) result (read_raw_event line swap job.now text.now) }
     ensures can { IfOk result (λ e. IsEventIn swap job.now e) }
 {
     match read_event(alloc, job, line, text) {
@@ -186,11 +186,11 @@ fn told_in_swap(
         return Err(bad(alloc, line));
     }
     let jobs = many.jobs.as_slice();
-    let swap = swap_in(alloc, line, jobs.len(), word)?;
-    event_in(alloc, line, swap as u8, &jobs[swap as usize], text)
+    let swap = parse_swap(alloc, line, jobs.len(), word)?;
+    read_raw_event(alloc, line, swap as u8, &jobs[swap as usize], text)
 }
 
-fn told_by(
+fn parse_told(
     alloc: Global,
     many: &ManyJob,
     line: u32,
@@ -199,7 +199,7 @@ fn told_by(
 ) -> Result<ManyEvent, HeaderFault>
     requires chains { AreChains many.now }
     requires swaps { AreSwaps many.now }
-    ensures exact { Gives (λ e. e) result (told_by many.now line word.now rest.now) }
+    ensures exact { Gives (λ e. e) result (parse_told many.now line word.now rest.now) }
     ensures can { IfOk result (λ e. MayCome many.now e) }
 {
     if word == b"tick".as_slice() {
@@ -232,5 +232,5 @@ pub fn next_many(
         return Err(nameless(alloc, fault));
     }
     let (word, rest) = cut_at_space(text);
-    told_by(alloc, many, line, word, rest)
+    parse_told(alloc, many, line, word, rest)
 }

@@ -8,11 +8,11 @@ ghost use Rattle.many_lines.specs.Heading.{chain_taken, fields_taken, finish_tak
 ghost use Rattle.many_lines.specs.Heading.{finish_told, with_swap};
 ghost use Rattle.many_lines.specs.Whole.{AreChains, AreSwaps, HoldsEverySwap, IsSwap};
 ghost use Rattle.many_fields.specs.Whole.{AreBelow};
-ghost use Rattle.swap_offer.specs.Wallets.{wallets_for};
+ghost use Rattle.swap_offer.specs.Wallets.{prepared_wallets};
 
 use crate::fault::{bad, by_field};
 use crate::many_job::ManyJob;
-use crate::said::{accounts_in, chains_in, finish_in};
+use crate::said::{collect_accounts, parse_chains, parse_finish};
 use crate::stage::Stage;
 use crate::swap::read_swap;
 use party_wallet::Wallet;
@@ -97,7 +97,7 @@ impl Heading {
         if !self.jobs.is_empty() || self.names.len() >= MOST_CHAINS {
             return Err(bad(alloc, line));
         }
-        let accounts = accounts_in(alloc, line, fields)?;
+        let accounts = collect_accounts(alloc, line, fields)?;
         self.names.push(accounts.names).unwrap();
         self.units.push(accounts.units).unwrap();
         Ok(())
@@ -117,7 +117,7 @@ impl Heading {
         if self.jobs.len() >= MOST_SWAPS {
             return Err(bad(alloc, line));
         }
-        let chains = chains_in(alloc, line, self.names.len(), fields)?;
+        let chains = parse_chains(alloc, line, self.names.len(), fields)?;
         self.stage = Stage::Header(line, chains);
         Ok(())
     }
@@ -136,7 +136,7 @@ impl Heading {
         if self.jobs.is_empty() {
             return Err(bad(alloc, line));
         }
-        let finish = finish_in(alloc, line, fields)?;
+        let finish = parse_finish(alloc, line, fields)?;
         self.stage = Stage::Over(finish);
         Ok(())
     }
@@ -186,7 +186,7 @@ impl Heading {
         requires next { length self.old.many.jobs < 8 }
         requires words { self.old.stage ≡ Words }
         requires swap { IsSwap (length self.old.many.names) swap.job chains }
-        requires wallets { swap.wallets.items ≡ wallets_for Purpose.Run swap.job }
+        requires wallets { swap.wallets.items ≡ prepared_wallets Purpose.Run swap.job }
         ensures { self.new ≡ with_swap self.old.many swap.job chains }
     {
         let Prepared { job, wallets, .. } = swap;
@@ -258,7 +258,7 @@ impl Heading {
     /// The swaps that were read, and the wallets of each.
     pub fn into_parts(self) -> (ManyJob, Vec<Vec<Option<Wallet>>>)
         ensures many { result.0 ≡ self.many }
-        ensures wallets { map (λ v. v.items) result.1.items ≡ map (wallets_for Purpose.Run) self.many.jobs }
+        ensures wallets { map (λ v. v.items) result.1.items ≡ map (prepared_wallets Purpose.Run) self.many.jobs }
         ensures chains { AreChains self.many }
         ensures swaps { AreSwaps self.many }
         // Once the finish was read there are a swap and a chain.

@@ -16,5 +16,5 @@ mod swap;
 pub use event::next_many;
 pub use heading::Heading;
 pub use many_job::ManyJob;
-pub use places::places_of;
+pub use places::find_places;
 pub use stage::Stage;

@@ -3,29 +3,29 @@
 ghost use Rattle.std.specs.Prelude.{◌≡◌, ◌<◌, ◌≤◌, [], ℕ, length, slice_index_or, IfOk, IfSome};
 ghost use Rattle.swap_base.specs.Fault.{Gives};
 ghost use Rattle.swap_digraph.specs.Graph.{ends};
-ghost use Rattle.refusals.specs.Words.{name_at};
+ghost use Rattle.refusals.specs.Words.{party_name};
 ghost use Rattle.swap_offer.specs.Job.{IsWholeJob};
-ghost use Rattle.many_lines.specs.Places.{account_of, arc_places, place_by, place_of, place_on, places_of};
+ghost use Rattle.many_lines.specs.Places.{find_account, arc_places, make_place, find_place, arc_place, find_places};
 ghost use Rattle.many_lines.specs.Whole.{AreChains, ArePlaced, AreSwaps};
 
 use crate::many_job::ManyJob;
-use refusals::{HeaderFault, Reason, Refusal, name_at};
+use refusals::{HeaderFault, Reason, Refusal, party_name};
 use std::alloc::Global;
 use swap_base::{ArcId, ByteText, Fault, Listed};
 use swap_job::Job;
 use swap_many::Place;
 
 /// The place of an account among those of a chain.
-fn account_of(accounts: &[ByteText], name: &[u8]) -> Option<usize>
-    ensures { result ≡ account_of accounts.now name.now }
+fn find_account(accounts: &[ByteText], name: &[u8]) -> Option<usize>
+    ensures { result ≡ find_account accounts.now name.now }
 {
     accounts.iter().position(|known| name == known.as_slice())
 }
 
-fn place_by(chain: u8, from: Option<usize>, to: Option<usize>) -> Option<Place>
+fn make_place(chain: u8, from: Option<usize>, to: Option<usize>) -> Option<Place>
     requires from { IfSome from (λ x. x < 256) }
     requires to { IfSome to (λ x. x < 256) }
-    ensures { result ≡ place_by chain from to }
+    ensures { result ≡ make_place chain from to }
 {
     match (from, to) {
         (Some(from), Some(to)) => Some(Place {
@@ -40,9 +40,9 @@ fn place_by(chain: u8, from: Option<usize>, to: Option<usize>) -> Option<Place>
 /// The name of an arc's party.
 fn name_of_party(job: &Job, arc: ArcId) -> &[u8]
     requires { arc < length job.now.deal.graph.arcs }
-    ensures { result.now ≡ name_at job.now.names (ends job.now.deal.graph arc).from }
+    ensures { result.now ≡ party_name job.now.names (ends job.now.deal.graph arc).from }
 {
-    name_at(
+    party_name(
         job.names.as_slice(),
         job.deal.graph.arcs()[arc as usize].from,
     )
@@ -51,24 +51,24 @@ fn name_of_party(job: &Job, arc: ArcId) -> &[u8]
 /// The name of an arc's counterparty.
 fn name_of_counterparty(job: &Job, arc: ArcId) -> &[u8]
     requires { arc < length job.now.deal.graph.arcs }
-    ensures { result.now ≡ name_at job.now.names (ends job.now.deal.graph arc).to }
+    ensures { result.now ≡ party_name job.now.names (ends job.now.deal.graph arc).to }
 {
-    name_at(job.names.as_slice(), job.deal.graph.arcs()[arc as usize].to)
+    party_name(job.names.as_slice(), job.deal.graph.arcs()[arc as usize].to)
 }
 
 /// The place of an arc on a chain with these accounts, where both its parties have one.
-fn place_on(accounts: &[ByteText], job: &Job, chain: u8, arc: ArcId) -> Option<Place>
+fn arc_place(accounts: &[ByteText], job: &Job, chain: u8, arc: ArcId) -> Option<Place>
     requires few { length accounts.now ≤ 256 }
     requires arc { arc < length job.now.deal.graph.arcs }
-    ensures { result ≡ place_on accounts.now job.now chain arc }
+    ensures { result ≡ arc_place accounts.now job.now chain arc }
 {
-    let from = account_of(accounts, name_of_party(job, arc));
-    let to = account_of(accounts, name_of_counterparty(job, arc));
-    place_by(chain, from, to)
+    let from = find_account(accounts, name_of_party(job, arc));
+    let to = find_account(accounts, name_of_counterparty(job, arc));
+    make_place(chain, from, to)
 }
 
 /// Where an arc of a swap stands, by its chain.
-fn place_of(
+fn find_place(
     alloc: Global,
     names: &[Listed<ByteText>],
     swap: u8,
@@ -80,9 +80,9 @@ fn place_of(
     requires arc { arc < length job.now.deal.graph.arcs }
     requires chain { chain < length names.now }
     requires accounts { (i : ℕ) → i < length names.now → length (slice_index_or names.now i []) ≤ 256 }
-    ensures { Gives (λ p. p) result (place_of names.now swap job.now chain arc) }
+    ensures { Gives (λ p. p) result (find_place names.now swap job.now chain arc) }
 {
-    match place_on(names[chain as usize].as_slice(), job, chain, arc) {
+    match arc_place(names[chain as usize].as_slice(), job, chain, arc) {
         Some(place) => Ok(place),
         None => Err(Fault::Refused(Refusal {
             reason: Reason::NoAccount(swap, arc),
@@ -107,17 +107,17 @@ fn arc_places(
 {
     let mut list = Vec::new(alloc);
     'arcs: for arc in 0..chains.len() as ArcId {
-        let place = place_of(alloc, names, swap, job, chains[arc as usize], arc as ArcId)?;
+        let place = find_place(alloc, names, swap, job, chains[arc as usize], arc as ArcId)?;
         list.push(place)?;
     }
     Ok(Listed::new(list))
 }
 
 /// Where the arcs of all swaps stand, or the least arc one of whose parties has no account there.
-pub fn places_of(alloc: Global, many: &ManyJob) -> Result<Listed<Listed<Place>>, HeaderFault>
+pub fn find_places(alloc: Global, many: &ManyJob) -> Result<Listed<Listed<Place>>, HeaderFault>
     requires chains { AreChains many.now }
     requires swaps { AreSwaps many.now }
-    ensures exact { Gives (λ l. l) result (places_of many.now) }
+    ensures exact { Gives (λ l. l) result (find_places many.now) }
     ensures placed { IfOk result (λ l. ArePlaced many.now l) }
 {
     let jobs = many.jobs.as_slice();

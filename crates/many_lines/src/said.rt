@@ -2,14 +2,14 @@
 
 ghost use Rattle.std.specs.Prelude.{◌<◌, ◌≤◌, [], ℕ, length, slice_index_or, IfOk};
 ghost use Rattle.swap_base.specs.Fault.{Gives};
-ghost use Rattle.transcript_lines.specs.Reading.{number_below};
-ghost use Rattle.many_fields.specs.Fields.{accounts_of, chains_of, finish_of, payment_of, sweep_of, tick_of};
+ghost use Rattle.transcript_lines.specs.Reading.{bounded_number};
+ghost use Rattle.many_fields.specs.Fields.{history_accounts, parse_chain_list, finish_of, parse_payment_fields, parse_sweep_fields, entry_tick};
 ghost use Rattle.many_fields.specs.Whole.{AreBelow, IsChain};
 ghost use Rattle.many_lines.specs.Heading.{by_fields};
 
 use crate::fault::by_field;
 use many_fields::{
-    ChainAccounts, Payment, read_accounts, read_below, read_chains, read_finish, read_payment,
+    ChainAccounts, Payment, read_accounts, read_bounded, read_chains, read_finish, read_payment,
     read_sweep, read_tick,
 };
 use refusals::HeaderFault;
@@ -20,12 +20,12 @@ use transcript_book::Parts;
 
 /// The accounts of a chain.
 #[tactic(auto, using(crate::proofs::Failing::fails))]
-pub(crate) fn accounts_in(
+pub(crate) fn collect_accounts(
     alloc: Global,
     line: u32,
     fields: &mut Parts<'_>,
 ) -> Result<ChainAccounts, HeaderFault>
-    ensures exact { Gives (λ a. a) result (by_fields line (accounts_of fields.old)) }
+    ensures exact { Gives (λ a. a) result (by_fields line (history_accounts fields.old)) }
     ensures whole { IfOk result (λ a. IsChain a.names a.units) }
 {
     match read_accounts(alloc, fields) {
@@ -36,14 +36,14 @@ pub(crate) fn accounts_in(
 
 /// The chains of a swap's arcs, one for each arc.
 #[tactic(auto, using(crate::proofs::Failing::fails))]
-pub(crate) fn chains_in(
+pub(crate) fn parse_chains(
     alloc: Global,
     line: u32,
     count: usize,
     fields: &mut Parts<'_>,
 ) -> Result<Listed<u8>, HeaderFault>
     requires { count ≤ 256 }
-    ensures exact { Gives (λ l. l) result (by_fields line (chains_of count fields.old)) }
+    ensures exact { Gives (λ l. l) result (by_fields line (parse_chain_list count fields.old)) }
     ensures below { IfOk result (λ l. AreBelow count l) }
 {
     match read_chains(alloc, count, fields) {
@@ -54,7 +54,7 @@ pub(crate) fn chains_in(
 
 /// The finish.
 #[tactic(auto, using(crate::proofs::Failing::fails))]
-pub(crate) fn finish_in(
+pub(crate) fn parse_finish(
     alloc: Global,
     line: u32,
     fields: &mut Parts<'_>,
@@ -69,14 +69,14 @@ pub(crate) fn finish_in(
 
 /// A tick of one of so many chains.
 #[tactic(auto, using(crate::proofs::Failing::fails))]
-pub(crate) fn tick_in(
+pub(crate) fn parse_tick(
     alloc: Global,
     line: u32,
     chains: usize,
     fields: &mut Parts<'_>,
 ) -> Result<(u8, u32), HeaderFault>
     requires { chains ≤ 256 }
-    ensures exact { Gives (λ t. t) result (by_fields line (tick_of chains fields.old)) }
+    ensures exact { Gives (λ t. t) result (by_fields line (entry_tick chains fields.old)) }
     ensures chain { IfOk result (λ t. t.0 < chains) }
     ensures some { IfOk result (λ t. 1 ≤ t.1) }
     ensures few { IfOk result (λ t. t.1 ≤ 1000000) }
@@ -89,7 +89,7 @@ pub(crate) fn tick_in(
 
 /// A payment, by the names of each chain's accounts.
 #[tactic(auto, using(crate::proofs::Failing::fails))]
-pub(crate) fn payment_in(
+pub(crate) fn read_chain_payment(
     alloc: Global,
     line: u32,
     names: &[Listed<ByteText>],
@@ -97,7 +97,7 @@ pub(crate) fn payment_in(
 ) -> Result<Payment, HeaderFault>
     requires chains { length names.now ≤ 256 }
     requires accounts { (i : ℕ) → i < length names.now → length (slice_index_or names.now i []) ≤ 256 }
-    ensures exact { Gives (λ p. p) result (by_fields line (payment_of names.now fields.old)) }
+    ensures exact { Gives (λ p. p) result (by_fields line (parse_payment_fields names.now fields.old)) }
     ensures chain { IfOk result (λ p. p.chain < length names.now) }
     ensures from { IfOk result (λ p. p.from < length (slice_index_or names.now p.chain [])) }
     ensures to { IfOk result (λ p. p.to < length (slice_index_or names.now p.chain [])) }
@@ -110,12 +110,12 @@ pub(crate) fn payment_in(
 
 /// A sweep.
 #[tactic(auto, using(crate::proofs::Failing::fails))]
-pub(crate) fn sweep_in(
+pub(crate) fn parse_sweep(
     alloc: Global,
     line: u32,
     fields: &mut Parts<'_>,
 ) -> Result<(u8, u8), HeaderFault>
-    ensures { Gives (λ s. s) result (by_fields line (sweep_of fields.old)) }
+    ensures { Gives (λ s. s) result (by_fields line (parse_sweep_fields fields.old)) }
 {
     match read_sweep(fields) {
         Ok(sweep) => Ok(sweep),
@@ -125,16 +125,16 @@ pub(crate) fn sweep_in(
 
 /// The number of a swap, of so many.
 #[tactic(auto, using(crate::proofs::Failing::fails))]
-pub(crate) fn swap_in(
+pub(crate) fn parse_swap(
     alloc: Global,
     line: u32,
     swaps: usize,
     word: &[u8],
 ) -> Result<u64, HeaderFault>
-    ensures exact { Gives (λ n. n) result (by_fields line (number_below swaps word.now)) }
+    ensures exact { Gives (λ n. n) result (by_fields line (bounded_number swaps word.now)) }
     ensures below { IfOk result (λ n. n < swaps) }
 {
-    match read_below(swaps as u64, word) {
+    match read_bounded(swaps as u64, word) {
         Ok(swap) => Ok(swap),
         Err(fault) => Err(by_field(alloc, line, fault)),
     }

@@ -6,11 +6,11 @@ ghost use Rattle.offer_header.specs.Limits.{HoldsEach};
 ghost use Rattle.offer_header.specs.Names.{AreNames, has_strategy};
 ghost use Rattle.swap_offer.specs.Checks.{IsAcceptedFor};
 ghost use Rattle.swap_offer.specs.Job.{IsWholeJob};
-ghost use Rattle.swap_offer.specs.Wallets.{HaveScriptsFor, HaveSeedsFor, HaveWalletsFor, wallets_for};
+ghost use Rattle.swap_offer.specs.Wallets.{HaveScriptsFor, HaveSeedsFor, HaveWalletsFor, prepared_wallets};
 ghost use Rattle.many_lines.specs.Heading.{swap_job, tells_finish, without_finish};
 
 use crate::fault::{bad, nameless};
-use offer_fields::object_in;
+use offer_fields::parse_object;
 use refusals::{HeaderFault, OfferFault};
 use std::alloc::Global;
 use swap_base::ByteText;
@@ -22,7 +22,7 @@ use swap_offer::{Prepared, read_header};
 fn tells_finish(alloc: Global, line: u32, text: &[u8]) -> Result<bool, OfferFault>
     ensures { Gives (λ b. b) result (tells_finish line text.now) }
 {
-    let object = object_in(alloc, line, text)?;
+    let object = parse_object(alloc, line, text)?;
     Ok(object.get("finish").is_some())
 }
 
@@ -55,7 +55,7 @@ pub(crate) fn read_swap(
     ensures wallets { IfOk result (λ p. HaveWalletsFor Purpose.Run p.job) }
     ensures strategies { IfOk result (λ p. HoldsEach (has_strategy strategies.now) p.job.roles) }
     ensures scripts { IfOk result (λ p. HaveScriptsFor Purpose.Run p.job) }
-    ensures made { IfOk result (λ p. p.wallets.items ≡ wallets_for Purpose.Run p.job) }
+    ensures made { IfOk result (λ p. p.wallets.items ≡ prepared_wallets Purpose.Run p.job) }
 {
     let prepared = read_header(alloc, line, text, Purpose::Run, strategies)?;
     without_finish(alloc, line, text)?;

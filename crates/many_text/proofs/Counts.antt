@@ -9,7 +9,7 @@ use Rattle.swap_digraph.specs.Deal.{most_parties}
 use Rattle.ledger_core.specs.Book.{Histories}
 use Rattle.swap_rules.specs.Outcome.{outcome}
 use Rattle.outcome_rules.specs.declared.report.Report.{Report}
-use Rattle.outcome_rules.specs.Report.{report_of}
+use Rattle.outcome_rules.specs.Report.{build_report}
 use Rattle.swap_job.specs.declared.job.Job.{Job}
 use Rattle.swap_many.specs.Kept.{Kept}
 use Rattle.many_text.specs.ManyText.{findings_from, report_in}
@@ -36,10 +36,10 @@ most : (v : Version) → most_parties v ≤ 32
 most One = omega arith
 most Two = omega arith
 
-few_outcomes : (d : Deal) (conforming : List Bool) (b : Histories) → d.graph.n ≤ most_parties d.version → length (report_of d conforming b).outcomes ≤ 256
-unfolding report_of
+few_outcomes : (d : Deal) (conforming : List Bool) (b : Histories) → d.graph.n ≤ most_parties d.version → length (build_report d conforming b).outcomes ≤ 256
+unfolding build_report
 few_outcomes d conforming b le = let m = most d.version in rw (length-map-range_with_len (outcome d b) 0 d.graph.n) (omega (arith, le, m))
 
-pub few_told : (d : Deal) (conforming : List Bool) (b : Histories) (r : Report) → r ≡ report_of d conforming b → d.graph.n ≤ most_parties d.version
+pub few_told : (d : Deal) (conforming : List Bool) (b : Histories) (r : Report) → r ≡ build_report d conforming b → d.graph.n ≤ most_parties d.version
     → length r.outcomes ≤ 256
 few_told d conforming b r is le = subst (λ (x : Report). length x.outcomes ≤ 256) (sym is) (few_outcomes d conforming b le)

@@ -1,5 +1,5 @@
 -- A text written by a call that hands all of it on, and the parts of the whole text.
-use Rattle.std.proofs.Common.{◌≡◌, ◌≤◌, ℕ, List, [], ◌++◌, take, drop, Option, Result, Ok, Err, refl, sym, ap, arith, append-nil, append_assoc, ◌∙◌}
+use Rattle.std.proofs.Common.{◌≡◌, ◌≤◌, ℕ, List, [], ◌++◌, take, drop, Option, Result, Ok, Err, refl, sym, ap, arith, append-nil, ◌∙◌}
 use Rattle.std.proofs.lemmas.List.{take-append-drop, length-drop}
 use Rattle.std.specs.Prelude.{OnOk, IsErrOf}
 use Rattle.std.specs.Io.KnownBytes.{Appends}
@@ -46,6 +46,3 @@ pub of_many : (jobs : List Job) (names : List (List (List ℕ))) (z : Kept)
     → lines (swap_text_in z) 0 jobs ++ (lines (chain_text_in z) 0 names ++ (count_line (findings_from z 0 jobs) ++ [])) ≡ many_text jobs names z
 unfolding many_text
 of_many jobs names z = refl
-
-pub all_three : (x y z : List ℕ) → (x ++ y) ++ z ≡ x ++ (y ++ (z ++ []))
-all_three x y z = simp (append_assoc, append-nil)

@@ -4,18 +4,18 @@ use Rattle.swap_base.specs.Text.{joined, lines}
 use Rattle.ledger_core.specs.Book.{Histories}
 use Rattle.swap_job.specs.declared.job.Job.{Job}
 use Rattle.outcome_rules.specs.declared.report.Report.{Report}
-use Rattle.outcome_rules.specs.Report.{report_of}
+use Rattle.outcome_rules.specs.Report.{build_report}
 use Rattle.report_text.specs.Report.{count_line, report}
 use Rattle.swap_many.specs.Chains.{Units}
 use Rattle.swap_many.specs.Kept.{Kept}
 
 -- the book of swap s
-abbrev pub book_in : Kept → ℕ → Histories
-book_in z s = (z.swaps s).book
+abbrev pub swap_book : Kept → ℕ → Histories
+swap_book z s = (z.swaps s).book
 
 -- its report
 abbrev pub report_in : Kept → ℕ → Job → Report
-report_in z s job = report_of job.deal job.conforming (book_in z s)
+report_in z s job = build_report job.deal job.conforming (swap_book z s)
 
 abbrev pub swap_line : ℕ → List ℕ
 swap_line s = joined (codes "swap " ∷ decimal s ∷ codes "\n" ∷ [])
@@ -25,7 +25,7 @@ unfoldable pub swap_text : ℕ → Job → Histories → Report → List ℕ
 swap_text s job b r = joined (swap_line s ∷ report job b r ∷ [])
 
 abbrev pub swap_text_in : Kept → ℕ → Job → List ℕ
-swap_text_in z s job = swap_text s job (book_in z s) (report_in z s job)
+swap_text_in z s job = swap_text s job (swap_book z s) (report_in z s job)
 
 -- an account and its free units
 abbrev pub account_text : Units → ℕ → List ℕ → List ℕ

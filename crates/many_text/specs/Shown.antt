@@ -1,11 +1,11 @@
 -- A world whose swaps and chains can be shown.
 use Rattle.std.specs.Prelude.{◌≡◌, ◌<◌, ◌≤◌, ℕ, List, [], length, slice_index_or}
 use Rattle.swap_job.specs.declared.job.Job.{Job}
-use Rattle.swap_many.specs.Value.{ManyState, world_at}
+use Rattle.swap_many.specs.Value.{ManyState, nth_world}
 
 -- Swap s of the world is that job.
 pub record IsShown (w : ManyState) (s : ℕ) (job : Job) : Type 0 where
-  pub deal : (world_at w s).deal ≡ job.deal
+  pub deal : (nth_world w s).deal ≡ job.deal
   pub conforming : length job.conforming ≡ job.deal.graph.n
 
 -- The world has these swaps.

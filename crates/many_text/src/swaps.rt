@@ -4,15 +4,15 @@ ghost use Rattle.std.specs.Prelude.{◌≡◌, ◌+◌, ◌++◌, ◌<◌, ◌�
 ghost use Rattle.swap_base.specs.Text.{lines};
 ghost use Rattle.swap_digraph.specs.Deal.{IsWellSized};
 ghost use Rattle.ledger_core.specs.Book.{IsLegalBook};
-ghost use Rattle.report_text.specs.Report.{report as text_of};
-ghost use Rattle.outcome_rules.specs.Report.{report_of};
+ghost use Rattle.report_text.specs.Report.{report as to_text};
+ghost use Rattle.outcome_rules.specs.Report.{build_report};
 ghost use Rattle.swap_io.specs.Handed.{Hands};
-ghost use Rattle.swap_many.specs.Value.{kept_of};
-ghost use Rattle.many_text.specs.ManyText.{book_in, findings_from, report_in, swap_line, swap_text, swap_text_in};
+ghost use Rattle.swap_many.specs.Value.{kept_state};
+ghost use Rattle.many_text.specs.ManyText.{swap_book, findings_from, report_in, swap_line, swap_text, swap_text_in};
 ghost use Rattle.many_text.specs.Shown.{AreShown, IsShown};
 
 use ledger_core::Book;
-use outcome_rules::{Report, report_of};
+use outcome_rules::{Report, build_report};
 use report_text::write_report;
 use std::alloc::Global;
 use swap_base::{NoMemory, Piece, put};
@@ -46,7 +46,7 @@ fn hand_report<K: Sink>(
     requires legal { IsLegalBook job.now.deal book.now.histories }
     requires parties { length report.now.outcomes ≤ 256 }
     ensures { Hands (K.taken sink.old) (K.taken sink.new) (K.faults sink.old) (K.faults sink.new) out.old.items out.new.items
-        (text_of job.now book.now.histories report.now) result }
+        (to_text job.now book.now.histories report.now) result }
 {
     flush(sink, out)?;
     write_report(alloc, sink, job, book, report)
@@ -74,7 +74,7 @@ fn write_swap<K: Sink>(
 
 /// The book of a swap, and its report.
 #[tactic(auto, using(crate::proofs::Counts::few_told))]
-fn told_at(
+fn told_swap(
     alloc: Global,
     number: u8,
     job: &Job,
@@ -82,20 +82,20 @@ fn told_at(
 ) -> Result<(Book, Report), NoMemory>
     requires here { number < length world.now.worlds }
     requires shown { IsShown world.now number job.now }
-    ensures book { IfOk result (λ t. t.0.histories ≡ book_in (kept_of world.now) number) }
-    ensures report { IfOk result (λ t. t.1 ≡ report_in (kept_of world.now) number job.now) }
+    ensures book { IfOk result (λ t. t.0.histories ≡ swap_book (kept_state world.now) number) }
+    ensures report { IfOk result (λ t. t.1 ≡ report_in (kept_state world.now) number job.now) }
     ensures sized { IfOk result (λ t. IsWellSized job.now.deal) }
     ensures legal { IfOk result (λ t. IsLegalBook job.now.deal t.0.histories) }
     ensures parties { IfOk result (λ t. length t.1.outcomes ≤ 256) }
 {
     let deal = world.deal(number);
     let book = world.copy_book(alloc, number)?;
-    let report = report_of(alloc, deal, &job.conforming, &book)?;
+    let report = build_report(alloc, deal, &job.conforming, &book)?;
     Ok((book, report))
 }
 
 /// A swap of the world, handed on, and how many findings its report tells.
-fn write_swap_at<K: Sink>(
+fn write_numbered_swap<K: Sink>(
     alloc: Global,
     sink: &mut K,
     out: &mut Vec<u8>,
@@ -106,10 +106,10 @@ fn write_swap_at<K: Sink>(
     requires here { number < length world.now.worlds }
     requires shown { IsShown world.now number job.now }
     ensures hands { Hands (K.taken sink.old) (K.taken sink.new) (K.faults sink.old) (K.faults sink.new) out.old.items out.new.items
-        (swap_text_in (kept_of world.now) number job.now) result }
-    ensures count { IfOk result (λ n. n ≡ length (report_in (kept_of world.now) number job.now).findings) }
+        (swap_text_in (kept_state world.now) number job.now) result }
+    ensures count { IfOk result (λ n. n ≡ length (report_in (kept_state world.now) number job.now).findings) }
 {
-    let (book, report) = told_at(alloc, number, job, world)?;
+    let (book, report) = told_swap(alloc, number, job, world)?;
     write_swap(alloc, sink, out, number as u64, job, &book, &report)?;
     Ok(report.findings.len() as u64)
 }
@@ -131,13 +131,13 @@ pub(crate) fn write_swaps<K: Sink>(
 ) -> Result<u64, TextFault>
     requires shown { AreShown world.now jobs.now }
     ensures hands { Hands (K.taken sink.old) (K.taken sink.new) (K.faults sink.old) (K.faults sink.new) out.old.items out.new.items
-        (lines (swap_text_in (kept_of world.now)) 0 jobs.now) result }
-    ensures count { IfOk result (λ n. n ≡ findings_from (kept_of world.now) 0 jobs.now) }
+        (lines (swap_text_in (kept_state world.now)) 0 jobs.now) result }
+    ensures count { IfOk result (λ n. n ≡ findings_from (kept_state world.now) 0 jobs.now) }
 {
     let mut count: u64 = 0;
     let all = world.swaps();
     'each: for swap in 0..all {
-        let found = write_swap_at(alloc, sink, out, swap, &jobs[swap as usize], world)?;
+        let found = write_numbered_swap(alloc, sink, out, swap, &jobs[swap as usize], world)?;
         count = sum(count, found)?;
     }
     Ok(count)

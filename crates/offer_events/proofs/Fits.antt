@@ -15,12 +15,12 @@ use Rattle.swap_job.specs.declared.event.Event.TheVariants.{Tick, Look, Act, Cal
 use Rattle.swap_job.specs.Crafted.{Seeds}
 use Rattle.swap_job.specs.Fitting.{IsFitting}
 use Rattle.swap_job.specs.Resolved.{move_arc}
-use Rattle.swap_job.specs.Step.{CanStep, IsEventOf}
+use Rattle.swap_job.specs.Step.{CanStep, IsJobEvent}
 use Rattle.refusals.specs.declared.reason.Reason.TheVariants.{NoSeed, NotConforming}
-use Rattle.offer_fields.specs.Limits.{number_within}
+use Rattle.offer_fields.specs.Limits.{ranged_number}
 use Rattle.offer_fields.specs.Names.{party_of_name}
 use Rattle.offer_moves.specs.declared.raw.RawMove.{RawMove}
-use Rattle.offer_moves.specs.Moves.{sizes_of, arc_of, move_of}
+use Rattle.offer_moves.specs.Moves.{deal_sizes, parse_arc, parse_move}
 use Rattle.offer_moves.specs.Placed.{deviating, adjacent, placed}
 use Rattle.offer_moves.specs.Kept.{AreSeeded, IsMade}
 use Rattle.offer_moves.proofs.Made.{arc_fits, adjacent_fits, move_made, placed_fits}
@@ -66,11 +66,11 @@ deviates_of line false u e = refl
 deviates_of line true u e = absurd (cc e)
 
 call_fits : (job : Job) (line : ℕ) (name : List ℕ) (raw : RawMove) (event : Event) → IsWellSized job.deal → length job.names ≡ job.deal.graph.n
-    → needs_seeds job.purpose ≡ true → event_of_call job line name raw ≡ Ok event → IsEventOf job event
+    → needs_seeds job.purpose ≡ true → event_of_call job line name raw ≡ Ok event → IsJobEvent job event
 unfolding event_of_call
 call_fits job line name raw event w same needs e =
     let p = went (party_of_name line job.names name) _ event e in
-    let q = went (move_of (sizes_of job.deal) job.names line raw) _ event p.2 in
+    let q = went (parse_move (deal_sizes job.deal) job.names line raw) _ event p.2 in
     let r = went (deviating line _) _ event q.2 in
     let b = went (permitted job line p.0 q.0) _ event r.2 in
     let s : Call p.0 q.0 ≡ event = cc (b.2) in
@@ -78,7 +78,7 @@ call_fits job line name raw event w same needs e =
     let made = move_made job.deal job.seeds job.names line raw q.0 w same q.1 in
     let k = deviates_of line (slice_index_or job.conforming p.0 false) r.0 r.1 in
     let k1 = permitted_fits job line p.0 q.0 b.0 made needs b.1 in
-    subst (IsEventOf job) s (record {
+    subst (IsJobEvent job) s (record {
       known = omega (arith, known, same);
       deviates = k;
       fits = k1.0;
@@ -86,35 +86,35 @@ call_fits job line name raw event w same needs e =
     })
 
 look_fits : (job : Job) (line : ℕ) (name : List ℕ) (n : ℕ) (event : Event) → IsWellSized job.deal → length job.names ≡ job.deal.graph.n
-    → event_of_look job line name n ≡ Ok event → IsEventOf job event
+    → event_of_look job line name n ≡ Ok event → IsJobEvent job event
 unfolding event_of_look
 look_fits job line name n event w same e =
     let p = went (party_of_name line job.names name) _ event e in
-    let q = went (arc_of (sizes_of job.deal) line (codes "arc") n) _ event p.2 in
+    let q = went (parse_arc (deal_sizes job.deal) line (codes "arc") n) _ event p.2 in
     let r = went (adjacent job.deal.graph.arcs line p.0 q.0) _ event q.2 in
     let s : Look p.0 q.0 ≡ event = cc (r.2) in
     let known : p.0 < length job.names = party_below line job.names name p.0 p.1 in
-    subst (IsEventOf job) s (record {
+    subst (IsJobEvent job) s (record {
       known = omega (arith, known, same);
       arc = arc_fits job.deal line (codes "arc") n q.0 q.1;
       adjacent = adjacent_fits job.deal line p.0 q.0 r.0 r.1;
     })
 
 act_fits : (job : Job) (line : ℕ) (name : List ℕ) (event : Event) → length job.names ≡ job.deal.graph.n → event_of_act job line name ≡ Ok event
-    → IsEventOf job event
+    → IsJobEvent job event
 unfolding event_of_act
 act_fits job line name event same e =
     let p = went (party_of_name line job.names name) _ event e in
     let s : Act p.0 ≡ event = cc (p.2) in
     let known : p.0 < length job.names = party_below line job.names name p.0 p.1 in
-    subst (IsEventOf job) s (omega (arith, known, same))
+    subst (IsJobEvent job) s (omega (arith, known, same))
 
 tick_fits : (d : Deal) (c : List Bool) (seeds : Seeds) (line n : ℕ) (by : Option ℕ) (event : Event) → event_of_tick d line n by ≡ Ok event
     → CanStep d c seeds event
 unfolding event_of_tick
 tick_fits d c seeds line n by event e =
-    let p = went (arc_of (sizes_of d) line (codes "tick") n) _ event e in
-    let q = went (number_within line (codes "by") 1 1000000 (unwrap_or by 1)) _ event p.2 in
+    let p = went (parse_arc (deal_sizes d) line (codes "tick") n) _ event e in
+    let q = went (ranged_number line (codes "by") 1 1000000 (unwrap_or by 1)) _ event p.2 in
     let s : Tick p.0 q.0 ≡ event = cc (q.2) in
     let k = number_within_ok line (codes "by") 1 1000000 (unwrap_or by 1) q.0 q.1 in
     subst (λ x. CanStep d c seeds x) s (record { arc = arc_fits d line (codes "tick") n p.0 p.1; some = k.0; few = k.1 })
@@ -124,25 +124,25 @@ conforms_of line true u e = refl
 conforms_of line false u e = absurd (cc e)
 
 crash_fits : (job : Job) (line : ℕ) (name : List ℕ) (n m : ℕ) (event : Event) (u : Unit {0}) → length job.names ≡ job.deal.graph.n
-    → event_of_crash job line name n m ≡ Ok event → conforming_crash job.conforming line event ≡ Ok u → IsEventOf job event
+    → event_of_crash job line name n m ≡ Ok event → conforming_crash job.conforming line event ≡ Ok u → IsJobEvent job event
 unfolding event_of_crash
 crash_fits job line name n m event u same e conforming =
     let p = went (party_of_name line job.names name) _ event e in
-    let q = went (number_within line (codes "after") 0 3 n) _ event p.2 in
-    let r = went (number_within line (codes "image") 0 255 m) _ event q.2 in
+    let q = went (ranged_number line (codes "after") 0 3 n) _ event p.2 in
+    let r = went (ranged_number line (codes "image") 0 255 m) _ event q.2 in
     let s : Crash p.0 q.0 r.0 ≡ event = cc (r.2) in
     let known : p.0 < length job.names = party_below line job.names name p.0 p.1 in
     let few = number_within_ok line (codes "after") 0 3 n q.0 q.1 in
     let own : conforming_crash job.conforming line (Crash p.0 q.0 r.0) ≡ Ok u =
     subst (λ (x : Event). conforming_crash job.conforming line x ≡ Ok u) (sym s) conforming in
-    subst (IsEventOf job) s (record {
+    subst (IsJobEvent job) s (record {
       known = omega (arith, known, same);
       conforms = conforms_of line (slice_index_or job.conforming p.0 false) u own;
       few = few.1;
     })
 
 pub checked_fits : (job : Job) (line : ℕ) (raw : RawEvent) (event : Event) (u : Unit {0}) → IsWellSized job.deal → length job.names ≡ job.deal.graph.n
-    → needs_seeds job.purpose ≡ true → checked job line raw ≡ Ok event → conforming_crash job.conforming line event ≡ Ok u → IsEventOf job event
+    → needs_seeds job.purpose ≡ true → checked job line raw ≡ Ok event → conforming_crash job.conforming line event ≡ Ok u → IsJobEvent job event
 checked_fits job line (raw_events.Tick n by) event u w same needs e own = tick_fits job.deal job.conforming job.seeds line n by event e
 checked_fits job line (raw_events.Look name n) event u w same needs e own = look_fits job line name n event w same e
 checked_fits job line (raw_events.Act name) event u w same needs e own = act_fits job line name event same e

@@ -20,12 +20,12 @@ use Rattle.serde_json.specs.Data.{unsigned, number, string, object, Members, no_
 use Rattle.serde_json.specs.Read.{read, of_json, max_depth}
 use Rattle.serde_json.proofs.Numbers.{number_of-decimal}
 use Rattle.swap_job.specs.declared.job.Job.{Job}
-use Rattle.offer_fields.specs.Fields.{object_of, needed, number_at, text_at, optional_number_at, only}
+use Rattle.offer_fields.specs.Fields.{parse_data, needed, number_at, text_at, optional_number_at, only}
 use Rattle.offer_events.specs.declared.raw.RawEvent.{RawEvent}
 use Rattle.offer_events.specs.declared.raw.RawEvent.TheVariants.{Tick, Look, Act}
 use Rattle.offer_events.specs.Reading.{event_at, tick_at, look_at, act_at}
 use Rattle.swap_base.proofs.Lists.{and_both}
-use Rattle.offer_events.specs.Event.{asked, event_of}
+use Rattle.offer_events.specs.Event.{asked, parse_event}
 use Rattle.offer_events.specs.Plain.{is_plain_byte, Says}
 
 -- the text that a tree of printable tokens is printed as is read as that tree
@@ -69,7 +69,7 @@ escape_plain (x ∷ xs) h = let p = and_parts (is_plain_byte x) (list_all is_pla
 -- a line of ASCII that reads as an object which says an event
 says : (line : ℕ) (text : List ℕ) (ms : Members) (raw : RawEvent) → are_ascii text ≡ true → read text ≡ Some (object ms)
     → event_at line (object ms) ≡ Ok raw → Says line text raw
-unfolding object_of
+unfolding parse_data
 says line text ms raw ascii is fields = record {
   object = object ms;
   is_object = rw (is_utf8-from_IsUtf8 text (IsUtf8-are_ascii text ascii), is) refl;
@@ -183,6 +183,6 @@ act_alone line name text end plain same closed =
     let is : read text ≡ Some (object members) = reads tree text (tt, tt) (omega arith) printed ∙ refl in
     says line text members (Act name) (rw whole (ascii_plain name (34 ∷ 125 ∷ []) plain refl)) is refl
 
-pub asked_by : (job : Job) (line : ℕ) (text : List ℕ) (raw : RawEvent) → Says line text raw → event_of job line text ≡ asked job line raw
-unfolding event_of
+pub asked_by : (job : Job) (line : ℕ) (text : List ℕ) (raw : RawEvent) → Says line text raw → parse_event job line text ≡ asked job line raw
+unfolding parse_event
 asked_by job line text raw said = rw (said.is_object, said.says) refl

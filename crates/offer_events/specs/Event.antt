@@ -12,11 +12,11 @@ use Rattle.swap_job.specs.declared.event.Event.{Event}
 use Rattle.swap_job.specs.declared.event.Event.TheVariants.{Tick, Look, Act, Call, Crash}
 use Rattle.refusals.specs.declared.reason.Reason.{Reason}
 use Rattle.refusals.specs.declared.reason.Reason.TheVariants.{NoSeed, EventInRace, NotConforming}
-use Rattle.offer_fields.specs.Fields.{object_of}
-use Rattle.offer_fields.specs.Limits.{number_within}
+use Rattle.offer_fields.specs.Fields.{parse_data}
+use Rattle.offer_fields.specs.Limits.{ranged_number}
 use Rattle.offer_fields.specs.Names.{party_of_name}
 use Rattle.offer_moves.specs.declared.raw.RawMove.{RawMove}
-use Rattle.offer_moves.specs.Moves.{sizes_of, arc_of, move_of}
+use Rattle.offer_moves.specs.Moves.{deal_sizes, parse_arc, parse_move}
 use Rattle.offer_moves.specs.Placed.{deviating, adjacent, placed}
 use Rattle.offer_events.specs.declared.raw.RawEvent.{RawEvent}
 use Rattle.offer_events.specs.declared.raw.RawEvent.TheVariants as raws
@@ -25,15 +25,15 @@ use Rattle.offer_events.specs.Reading.{event_at}
 -- a tick is by 1 height where it doesn't say
 unfoldable pub event_of_tick : Deal → ℕ → ℕ → Option ℕ → Result Event Reason
 event_of_tick d line n by = do
-  arc ← arc_of (sizes_of d) line (codes "tick") n
-  heights ← number_within line (codes "by") 1 1000000 (unwrap_or by 1)
+  arc ← parse_arc (deal_sizes d) line (codes "tick") n
+  heights ← ranged_number line (codes "by") 1 1000000 (unwrap_or by 1)
   Ok (Tick arc heights)
 
 -- a party looks at a ledger of its own arcs
 unfoldable pub event_of_look : Job → ℕ → List ℕ → ℕ → Result Event Reason
 event_of_look job line name n = do
   p ← party_of_name line job.names name
-  arc ← arc_of (sizes_of job.deal) line (codes "arc") n
+  arc ← parse_arc (deal_sizes job.deal) line (codes "arc") n
   u ← adjacent job.deal.graph.arcs line p arc
   Ok (Look p arc)
 
@@ -68,7 +68,7 @@ permitted job line p mv = do
 unfoldable pub event_of_call : Job → ℕ → List ℕ → RawMove → Result Event Reason
 event_of_call job line name raw = do
   p ← party_of_name line job.names name
-  mv ← move_of (sizes_of job.deal) job.names line raw
+  mv ← parse_move (deal_sizes job.deal) job.names line raw
   u ← deviating line (slice_index_or job.conforming p false)
   w ← permitted job line p mv
   Ok (Call p mv)
@@ -77,8 +77,8 @@ event_of_call job line name raw = do
 unfoldable pub event_of_crash : Job → ℕ → List ℕ → ℕ → ℕ → Result Event Reason
 event_of_crash job line name n m = do
   p ← party_of_name line job.names name
-  k ← number_within line (codes "after") 0 3 n
-  image ← number_within line (codes "image") 0 255 m
+  k ← ranged_number line (codes "after") 0 3 n
+  image ← ranged_number line (codes "image") 0 255 m
   Ok (Crash p k image)
 
 -- the event of what a line says
@@ -108,8 +108,8 @@ asked job line raw = do
   Ok event
 
 -- the event of a line
-unfoldable pub event_of : Job → ℕ → List ℕ → Result Event Reason
-event_of job line text = do
-  d ← object_of line text
+unfoldable pub parse_event : Job → ℕ → List ℕ → Result Event Reason
+parse_event job line text = do
+  d ← parse_data line text
   raw ← event_at line d
   asked job line raw

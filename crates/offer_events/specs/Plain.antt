@@ -1,7 +1,7 @@
 -- Lines in a plain form: no blanks, numbers in decimal, and names that need no escape.
 use Rattle.std.specs.Prelude.{◌≡◌, ◌&&◌, ◌==◌, ℕ, Bool, not, nat_le, List, Ok}
 use Rattle.serde_json.specs.Data.{Data}
-use Rattle.offer_fields.specs.Fields.{object_of}
+use Rattle.offer_fields.specs.Fields.{parse_data}
 use Rattle.offer_events.specs.declared.raw.RawEvent.{RawEvent}
 use Rattle.offer_events.specs.Reading.{event_at}
 
@@ -12,5 +12,5 @@ is_plain_byte x = nat_le 32 x && (nat_le x 126 && (not (x == 34) && not (x == 92
 -- the line is an object, and its fields say that event
 pub record Says (line : ℕ) (text : List ℕ) (raw : RawEvent) : Type 0 where
   pub object : Data
-  pub is_object : object_of line text ≡ Ok object
+  pub is_object : parse_data line text ≡ Ok object
   pub says : event_at line object ≡ Ok raw

@@ -30,8 +30,8 @@ act_at line d = do
   u ← only line (codes "act" ∷ []) d
   Ok (Act name)
 
-unfoldable pub call_at : ℕ → Data → Result RawEvent Reason
-call_at line d = do
+unfoldable pub submit_call : ℕ → Data → Result RawEvent Reason
+submit_call line d = do
   name ← text_at line (codes "call") d
   value ← needed line (codes "move") d
   o ← object_at line (codes "move") value
@@ -53,6 +53,6 @@ event_at line d =
     if is_some (get (codes "tick") d) then tick_at line d
     else if is_some (get (codes "look") d) then look_at line d
     else if is_some (get (codes "act") d) then act_at line d
-    else if is_some (get (codes "call") d) then call_at line d
+    else if is_some (get (codes "call") d) then submit_call line d
     else if is_some (get (codes "crash") d) then crash_at line d
     else Err (Missing line (codes "tick"))

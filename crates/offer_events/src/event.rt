@@ -5,17 +5,17 @@ ghost use Rattle.std.specs.List.{list_all};
 ghost use Rattle.swap_base.specs.Fault.{Gives};
 ghost use Rattle.swap_digraph.specs.Deal.{IsWellSized};
 ghost use Rattle.swap_job.specs.Resolved.{move_arc};
-ghost use Rattle.swap_job.specs.Step.{IsEventOf};
-ghost use Rattle.offer_moves.specs.Kept.{AreCraftersBelow};
+ghost use Rattle.swap_job.specs.Step.{IsJobEvent};
+ghost use Rattle.offer_moves.specs.Kept.{AreBoundedCrafters};
 ghost use Rattle.offer_events.specs.Event.{event_of_tick, event_of_look, event_of_act, permitted, event_of_call, event_of_crash, checked};
-ghost use Rattle.offer_events.specs.Event.{outside_race, conforming_crash, asked, event_of, each_seeded, needs_seeds, crafted_with_seeds};
+ghost use Rattle.offer_events.specs.Event.{outside_race, conforming_crash, asked, parse_event, each_seeded, needs_seeds, crafted_with_seeds};
 
 use crate::plain::plain_event;
 use crate::raw::RawEvent;
-use crate::reading::event_in;
-use offer_fields::{number_within, object_in, party_of_name};
+use crate::reading::read_raw_event;
+use offer_fields::{parse_object, party_of_name, ranged_number};
 use offer_moves::{
-    RawMove, arc_of, check_adjacent, check_deviator, check_place, move_of, sizes_of,
+    RawMove, check_adjacent, check_deviator, check_place, deal_sizes, parse_arc, parse_move,
 };
 use refusals::{OfferFault, Reason};
 use std::alloc::Global;
@@ -34,8 +34,8 @@ fn event_of_tick(
     requires sized { IsWellSized deal.now }
     ensures { Gives (λ e. e) result (event_of_tick deal.now line number by) }
 {
-    let arc = arc_of(alloc, sizes_of(deal), line, "tick", number)?;
-    let heights = number_within(alloc, line, "by", 1, 1_000_000, by.unwrap_or(1))?;
+    let arc = parse_arc(alloc, deal_sizes(deal), line, "tick", number)?;
+    let heights = ranged_number(alloc, line, "by", 1, 1_000_000, by.unwrap_or(1))?;
     Ok(Event::Tick(arc, heights))
 }
 
@@ -52,7 +52,7 @@ fn event_of_look(
     ensures { Gives (λ e. e) result (event_of_look job.now line name.now number) }
 {
     let p = party_of_name(alloc, line, job.names.as_slice(), name)?;
-    let arc = arc_of(alloc, sizes_of(&job.deal), line, "arc", number)?;
+    let arc = parse_arc(alloc, deal_sizes(&job.deal), line, "arc", number)?;
     check_adjacent(job.deal.graph.arcs(), line, p, arc)?;
     Ok(Event::Look(p, arc))
 }
@@ -93,7 +93,7 @@ fn needs_seeds(purpose: Purpose) -> bool
 
 /// Each party that crafts a hashkey has a seed.
 fn check_seeds(job: &Job, mv: &Move) -> Result<(), OfferFault>
-    requires via { AreCraftersBelow (length job.now.seeds) mv.now }
+    requires via { AreBoundedCrafters (length job.now.seeds) mv.now }
     ensures { Gives (λ u. u) result (crafted_with_seeds job.now mv.now) }
 {
     match mv {
@@ -111,8 +111,8 @@ fn check_seeds(job: &Job, mv: &Move) -> Result<(), OfferFault>
 #[tactic(auto, unfolding(crate::specs::Event::permitted))]
 fn check_move(job: &Job, line: u32, p: PartyId, mv: &Move) -> Result<(), OfferFault>
     requires arc { move_arc mv.now < length job.now.deal.graph.arcs }
-    requires conforming { AreCraftersBelow (length job.now.conforming) mv.now }
-    requires seeds { AreCraftersBelow (length job.now.seeds) mv.now }
+    requires conforming { AreBoundedCrafters (length job.now.conforming) mv.now }
+    requires seeds { AreBoundedCrafters (length job.now.seeds) mv.now }
     ensures { Gives (λ u. u) result (permitted job.now line p mv.now) }
 {
     check_place(
@@ -141,7 +141,7 @@ fn event_of_call(
 {
     let names = job.names.as_slice();
     let p = party_of_name(alloc, line, names, name)?;
-    let mv = move_of(alloc, sizes_of(&job.deal), names, line, raw)?;
+    let mv = parse_move(alloc, deal_sizes(&job.deal), names, line, raw)?;
     check_deviator(line, job.conforming.as_slice()[p as usize])?;
     check_move(job, line, p, &mv)?;
     Ok(Event::Call(p, Shared::new(alloc, mv)?))
@@ -161,8 +161,8 @@ fn event_of_crash(
     ensures exact { Gives (λ e. e) result (event_of_crash job.now line name.now after image) }
 {
     let p = party_of_name(alloc, line, job.names.as_slice(), name)?;
-    let k = number_within(alloc, line, "after", 0, 3, after)?;
-    let j = number_within(alloc, line, "image", 0, 255, image)?;
+    let k = ranged_number(alloc, line, "after", 0, 3, after)?;
+    let j = ranged_number(alloc, line, "image", 0, 255, image)?;
     Ok(Event::Crash(p, k as u8, j as u8))
 }
 
@@ -225,7 +225,7 @@ fn read_raw(alloc: Global, job: &Job, line: u32, raw: &RawEvent<'_>) -> Result<E
     requires conforming { length job.now.conforming ≡ job.now.deal.graph.n }
     requires seeds { length job.now.seeds ≡ job.now.deal.graph.n }
     ensures exact { Gives (λ e. e) result (asked job.now line raw.now) }
-    ensures fits { IfOk result (λ e. needs_seeds job.now.purpose ≡ true → IsEventOf job.now e) }
+    ensures fits { IfOk result (λ e. needs_seeds job.now.purpose ≡ true → IsJobEvent job.now e) }
 {
     let event = check_event(alloc, job, line, raw)?;
     check_no_race(line, job.purpose)?;
@@ -234,17 +234,17 @@ fn read_raw(alloc: Global, job: &Job, line: u32, raw: &RawEvent<'_>) -> Result<E
 }
 
 /// The event of a line of any form.
-#[tactic(auto, unfolding(crate::specs::Event::event_of))]
+#[tactic(auto, unfolding(crate::specs::Event::parse_event))]
 fn read_object(alloc: Global, job: &Job, line: u32, text: &[u8]) -> Result<Event, OfferFault>
     requires sized { IsWellSized job.now.deal }
     requires names { length job.now.names ≡ job.now.deal.graph.n }
     requires conforming { length job.now.conforming ≡ job.now.deal.graph.n }
     requires seeds { length job.now.seeds ≡ job.now.deal.graph.n }
-    ensures exact { Gives (λ e. e) result (event_of job.now line text.now) }
-    ensures fits { IfOk result (λ e. needs_seeds job.now.purpose ≡ true → IsEventOf job.now e) }
+    ensures exact { Gives (λ e. e) result (parse_event job.now line text.now) }
+    ensures fits { IfOk result (λ e. needs_seeds job.now.purpose ≡ true → IsJobEvent job.now e) }
 {
-    let object = object_in(alloc, line, text)?;
-    let raw = event_in(alloc, line, &object)?;
+    let object = parse_object(alloc, line, text)?;
+    let raw = read_raw_event(alloc, line, &object)?;
     read_raw(alloc, job, line, &raw)
 }
 
@@ -254,8 +254,8 @@ pub fn read_event(alloc: Global, job: &Job, line: u32, text: &[u8]) -> Result<Ev
     requires names { length job.now.names ≡ job.now.deal.graph.n }
     requires conforming { length job.now.conforming ≡ job.now.deal.graph.n }
     requires seeds { length job.now.seeds ≡ job.now.deal.graph.n }
-    ensures exact { Gives (λ e. e) result (event_of job.now line text.now) }
-    ensures fits { IfOk result (λ e. needs_seeds job.now.purpose ≡ true → IsEventOf job.now e) }
+    ensures exact { Gives (λ e. e) result (parse_event job.now line text.now) }
+    ensures fits { IfOk result (λ e. needs_seeds job.now.purpose ≡ true → IsJobEvent job.now e) }
 {
     match plain_event(text) {
         Some(raw) => read_raw(alloc, job, line, &raw),

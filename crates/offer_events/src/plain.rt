@@ -20,7 +20,7 @@ fn is_closed(text: &[u8]) -> bool
 }
 
 /// The number after its first digit was read, and the text behind it.
-fn number_on(first: u8, text: &[u8]) -> (u64, &[u8])
+fn scan_number(first: u8, text: &[u8]) -> (u64, &[u8])
     requires digit { (49 ≤ first) × (first ≤ 57) }
     ensures digits { first ∷ text.now ≡ decimal result.0 ++ result.1.now }
     ensures small { result.0 < 10 ^ 19 }
@@ -44,7 +44,7 @@ fn number(text: &[u8]) -> Option<(u64, &[u8])>
 {
     match text {
         [b'0', rest @ ..] => Some((0, rest)),
-        [first @ b'1'..=b'9', rest @ ..] => Some(number_on(*first, rest)),
+        [first @ b'1'..=b'9', rest @ ..] => Some(scan_number(*first, rest)),
         _ => None,
     }
 }
@@ -73,14 +73,14 @@ fn name(text: &[u8]) -> Option<(&[u8], &[u8])>
     Some((&text[..end], &text[end + 1..]))
 }
 
-fn number_after<'a>(text: &'a [u8], prefix: &[u8]) -> Option<(u64, &'a [u8])>
+fn split_number<'a>(text: &'a [u8], prefix: &[u8]) -> Option<(u64, &'a [u8])>
     ensures digits { MatchOption result (Unit {0}) (λ p. text.now ≡ prefix.now ++ (decimal p.0 ++ p.1.now)) }
     ensures small { MatchOption result (Unit {0}) (λ p. p.0 < 10 ^ 19) }
 {
     number(after(text, prefix)?)
 }
 
-fn name_after<'a>(text: &'a [u8], prefix: &[u8]) -> Option<(&'a [u8], &'a [u8])>
+fn split_name<'a>(text: &'a [u8], prefix: &[u8]) -> Option<(&'a [u8], &'a [u8])>
     ensures quoted { MatchOption result (Unit {0}) (λ p. text.now ≡ prefix.now ++ (p.0.now ++ 34 ∷ p.1.now)) }
     ensures plain { MatchOption result (Unit {0}) (λ p. list_all is_plain_byte p.0.now ≡ true) }
 {
@@ -91,11 +91,11 @@ fn name_after<'a>(text: &'a [u8], prefix: &[u8]) -> Option<(&'a [u8], &'a [u8])>
 fn tick_first(text: &[u8]) -> Option<RawEvent<'_>>
     ensures { MatchOption result (Unit {0}) (λ e. (line : ℕ) → Says line text.now e) }
 {
-    let (arc, rest) = number_after(text, b"{\"tick\":")?;
+    let (arc, rest) = split_number(text, b"{\"tick\":")?;
     if is_closed(rest) {
         return Some(RawEvent::Tick { arc, by: None });
     }
-    let (heights, end) = number_after(rest, b",\"by\":")?;
+    let (heights, end) = split_number(rest, b",\"by\":")?;
     if !is_closed(end) {
         return None;
     }
@@ -107,8 +107,8 @@ fn tick_first(text: &[u8]) -> Option<RawEvent<'_>>
 fn by_first(text: &[u8]) -> Option<RawEvent<'_>>
     ensures { MatchOption result (Unit {0}) (λ e. (line : ℕ) → Says line text.now e) }
 {
-    let (heights, rest) = number_after(text, b"{\"by\":")?;
-    let (arc, end) = number_after(rest, b",\"tick\":")?;
+    let (heights, rest) = split_number(text, b"{\"by\":")?;
+    let (arc, end) = split_number(rest, b",\"tick\":")?;
     if !is_closed(end) {
         return None;
     }
@@ -120,8 +120,8 @@ fn by_first(text: &[u8]) -> Option<RawEvent<'_>>
 fn look_first(text: &[u8]) -> Option<RawEvent<'_>>
     ensures { MatchOption result (Unit {0}) (λ e. (line : ℕ) → Says line text.now e) }
 {
-    let (name, rest) = name_after(text, b"{\"look\":\"")?;
-    let (arc, end) = number_after(rest, b",\"arc\":")?;
+    let (name, rest) = split_name(text, b"{\"look\":\"")?;
+    let (arc, end) = split_number(rest, b",\"arc\":")?;
     if !is_closed(end) {
         return None;
     }
@@ -135,8 +135,8 @@ fn look_first(text: &[u8]) -> Option<RawEvent<'_>>
 fn arc_first(text: &[u8]) -> Option<RawEvent<'_>>
     ensures { MatchOption result (Unit {0}) (λ e. (line : ℕ) → Says line text.now e) }
 {
-    let (arc, rest) = number_after(text, b"{\"arc\":")?;
-    let (name, end) = name_after(rest, b",\"look\":\"")?;
+    let (arc, rest) = split_number(text, b"{\"arc\":")?;
+    let (name, end) = split_name(rest, b",\"look\":\"")?;
     if !is_closed(end) {
         return None;
     }
@@ -150,7 +150,7 @@ fn arc_first(text: &[u8]) -> Option<RawEvent<'_>>
 fn act_alone(text: &[u8]) -> Option<RawEvent<'_>>
     ensures { MatchOption result (Unit {0}) (λ e. (line : ℕ) → Says line text.now e) }
 {
-    let (name, end) = name_after(text, b"{\"act\":\"")?;
+    let (name, end) = split_name(text, b"{\"act\":\"")?;
     if !is_closed(end) {
         return None;
     }

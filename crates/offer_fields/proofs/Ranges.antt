@@ -6,7 +6,7 @@ use Rattle.std.proofs.lemmas.Bool.{leb-true}
 use Rattle.std.proofs.lemmas.List.Quantifiers.{position-Some}
 use Rattle.swap_base.proofs.Lists.{and_parts}
 use Rattle.refusals.specs.declared.reason.Reason.TheVariants.{OverLimit}
-use Rattle.offer_fields.specs.Limits.{number_within, within}
+use Rattle.offer_fields.specs.Limits.{ranged_number, within}
 use Rattle.offer_fields.specs.Names.{found, party_of_name}
 use Rattle.offer_fields.proofs.Chains.{went}
 
@@ -21,8 +21,8 @@ within_ok line field low high n u e =
     let q = and_parts (nat_le low n) (nat_le n high) p.0 in
     (leb-true low n q.0, leb-true n high q.1)
 
-pub number_within_ok : (line : ℕ) (field : List ℕ) (low high n m : ℕ) → number_within line field low high n ≡ Ok m → (low ≤ m) × (m ≤ high) × (m ≡ n)
-unfolding number_within
+pub number_within_ok : (line : ℕ) (field : List ℕ) (low high n m : ℕ) → ranged_number line field low high n ≡ Ok m → (low ≤ m) × (m ≤ high) × (m ≡ n)
+unfolding ranged_number
 number_within_ok line field low high n m h =
     let one = went (within line field low high n) (λ u. Ok n) m h in
     let r = within_ok line field low high n one.0 one.1 in

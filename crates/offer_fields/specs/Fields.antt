@@ -14,8 +14,8 @@ abbrev pub object_or : ℕ → Option Data → Result Data Reason
 object_or line (Some d) = if is_some (as_object d) then Ok d else Err (NotJson line)
 object_or line None = Err (NotJson line)
 
-unfoldable pub object_of : ℕ → List ℕ → Result Data Reason
-object_of line text = if is_utf8 text then object_or line (read text) else Err (NotJson line)
+unfoldable pub parse_data : ℕ → List ℕ → Result Data Reason
+parse_data line text = if is_utf8 text then object_or line (read text) else Err (NotJson line)
 
 -- the value, or a wrong kind
 abbrev pub kind : {A : Type 0} → ℕ → List ℕ → Option A → Result A Reason
@@ -41,9 +41,9 @@ text_at line field d = do
 
 -- one of the words that a field may hold
 abbrev pub word_at : {A : Type 0} → ℕ → List ℕ → (List ℕ → Option A) → Data → Result A Reason
-word_at line field word_of d = do
+word_at line field choice_word d = do
   word ← text_at line field d
-  kind line field (word_of word)
+  kind line field (choice_word word)
 
 abbrev pub optional_number : ℕ → List ℕ → Option Data → Result (Option ℕ) Reason
 optional_number line field None = Ok None
@@ -73,14 +73,14 @@ listed (item d ds) = d ∷ listed ds
 unfoldable pub each : {A : Type 0} → (Data → Result A Reason) → Items → Result (List A) Reason
 each f ds = each_of f (listed ds)
 
-unfoldable pub array_at : ℕ → List ℕ → Data → Result Items Reason
-array_at line field d = do
+unfoldable pub read_array_field : ℕ → List ℕ → Data → Result Items Reason
+read_array_field line field d = do
   value ← needed line field d
   kind line field (as_array value)
 
 unfoldable pub list_at : {A : Type 0} → ℕ → List ℕ → (Data → Result A Reason) → Data → Result (List A) Reason
 list_at line field f d = do
-  items ← array_at line field d
+  items ← read_array_field line field d
   each f items
 
 -- a member of the list of this name is an object

@@ -11,8 +11,8 @@ unfoldable pub within : ℕ → List ℕ → ℕ → ℕ → ℕ → Result (Uni
 within line field low high n = if nat_le low n && nat_le n high then Ok tt else Err (OverLimit line field n)
 
 -- a number from low to high
-unfoldable pub number_within : ℕ → List ℕ → ℕ → ℕ → ℕ → Result ℕ Reason
-number_within line field low high n = do
+unfoldable pub ranged_number : ℕ → List ℕ → ℕ → ℕ → ℕ → Result ℕ Reason
+ranged_number line field low high n = do
   u ← within line field low high n
   Ok n
 
@@ -21,5 +21,5 @@ decoded line field (Ok bytes) = Ok bytes
 decoded line field (Err e) = Err (WrongHex line field)
 
 -- the digest that a text of 64 hexadecimal digits is
-unfoldable pub digest_of : ℕ → List ℕ → List ℕ → Result (List ℕ) Reason
-digest_of line field text = decoded line field (decode_sized text 32)
+unfoldable pub to_digest : ℕ → List ℕ → List ℕ → Result (List ℕ) Reason
+to_digest line field text = decoded line field (decode_sized text 32)

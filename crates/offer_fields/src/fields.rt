@@ -7,7 +7,7 @@ ghost use Rattle.serde_json.specs.View.{view, items_view, members_view};
 ghost use Rattle.serde_json.specs.Data.{Data};
 ghost use Rattle.swap_base.specs.Fault.{Gives};
 ghost use Rattle.offer_fields.specs.Fields.{needed, number_at, text_at, optional_number_at, optional_text_at, member_text_of, first_unknown as unknown, only};
-ghost use Rattle.offer_fields.specs.Fields.{each, array_at, list_at, object_at};
+ghost use Rattle.offer_fields.specs.Fields.{each, read_array_field, list_at, object_at};
 ghost use Rattle.refusals.specs.declared.reason.Reason.{Reason};
 
 use crate::text::TextRef;
@@ -17,7 +17,7 @@ use std::alloc::Global;
 use swap_base::Listed;
 
 #[tactic(auto, unfolding(crate::specs::Fields::needed))]
-pub fn value_in<'v>(
+pub fn field_value<'v>(
     alloc: Global,
     line: u32,
     field: &str,
@@ -35,14 +35,14 @@ pub fn value_in<'v>(
 pub fn number_in(alloc: Global, line: u32, field: &str, object: &Value) -> Result<u64, OfferFault>
     ensures { Gives (λ n. n) result (number_at line field.now (view object.now)) }
 {
-    match value_in(alloc, line, field, object)?.as_u64() {
+    match field_value(alloc, line, field, object)?.as_u64() {
         Some(number) => Ok(number),
         None => Err(wrong_kind(alloc, line, field.as_bytes())),
     }
 }
 
 #[tactic(auto, unfolding(crate::specs::Fields::text_at))]
-pub fn text_in<'v>(
+pub fn read_text_field<'v>(
     alloc: Global,
     line: u32,
     field: &str,
@@ -50,14 +50,14 @@ pub fn text_in<'v>(
 ) -> Result<&'v str, OfferFault>
     ensures { Gives (λ s. s.now) result (text_at line field.now (view object.now)) }
 {
-    match value_in(alloc, line, field, object)?.as_str() {
+    match field_value(alloc, line, field, object)?.as_str() {
         Some(text) => Ok(text),
         None => Err(wrong_kind(alloc, line, field.as_bytes())),
     }
 }
 
 #[tactic(auto, unfolding(crate::specs::Fields::optional_number_at))]
-pub fn optional_number_in(
+pub fn read_optional_number(
     alloc: Global,
     line: u32,
     field: &str,
@@ -74,16 +74,16 @@ pub fn optional_number_in(
     }
 }
 
-#[tactic(auto, unfolding(crate::specs::Fields::array_at))]
+#[tactic(auto, unfolding(crate::specs::Fields::read_array_field))]
 pub fn array_in<'v>(
     alloc: Global,
     line: u32,
     field: &str,
     object: &'v Value,
 ) -> Result<&'v Vec<Value>, OfferFault>
-    ensures { Gives (λ v. items_view v.now.items) result (array_at line field.now (view object.now)) }
+    ensures { Gives (λ v. items_view v.now.items) result (read_array_field line field.now (view object.now)) }
 {
-    match value_in(alloc, line, field, object)?.as_array() {
+    match field_value(alloc, line, field, object)?.as_array() {
         Some(values) => Ok(values),
         None => Err(wrong_kind(alloc, line, field.as_bytes())),
     }
@@ -100,7 +100,7 @@ pub fn is_object(alloc: Global, line: u32, field: &str, value: &Value) -> Result
     }
 }
 
-fn is_among(word: &str, words: &[&str]) -> bool
+fn is_listed(word: &str, words: &[&str]) -> bool
     ensures { result ≡ list_any (bytes_eq word.now) (map (λ w. w.now) words.now) }
 {
     for known in words {
@@ -115,7 +115,7 @@ fn first_unknown<'v>(members: &'v Map<String, Value>, allowed: &[&str]) -> Optio
     ensures { option_map (λ k. k.now) result ≡ unknown (map (λ w. w.now) allowed.now) (members_view members.now.entries) }
 {
     for (key, _) in members {
-        if !is_among(key.as_str(), allowed) {
+        if !is_listed(key.as_str(), allowed) {
             return Some(key.as_str());
         }
     }
@@ -123,7 +123,12 @@ fn first_unknown<'v>(members: &'v Map<String, Value>, allowed: &[&str]) -> Optio
 }
 
 #[tactic(auto, unfolding(crate::specs::Fields::only))]
-pub fn only_in(alloc: Global, line: u32, allowed: &[&str], object: &Value) -> Result<(), OfferFault>
+pub fn allow_only(
+    alloc: Global,
+    line: u32,
+    allowed: &[&str],
+    object: &Value,
+) -> Result<(), OfferFault>
     ensures { Gives (λ u. u) result (only line (map (λ w. w.now) allowed.now) (view object.now)) }
 {
     let Some(members) = object.as_object() else {
@@ -145,7 +150,7 @@ pub trait Member<'v, C: Copy>: Sized {
 
 /// The list of that name, each member read in turn.
 #[tactic(auto, unfolding(crate::specs::Fields::list_at))]
-pub fn list_in<'v, C: Copy, T: Member<'v, C> + Drop>(
+pub fn read_list<'v, C: Copy, T: Member<'v, C> + Drop>(
     alloc: Global,
     context: C,
     line: u32,
@@ -155,11 +160,11 @@ pub fn list_in<'v, C: Copy, T: Member<'v, C> + Drop>(
     ensures { Gives (λ x. x) result (list_at line field.now (T.said context line) (view object.now)) }
 {
     let values = array_in(alloc, line, field, object)?;
-    each_in(alloc, context, line, values)
+    read_each(alloc, context, line, values)
 }
 
 /// The members of a list, each read in turn.
-fn each_in<'v, C: Copy, T: Member<'v, C> + Drop>(
+fn read_each<'v, C: Copy, T: Member<'v, C> + Drop>(
     alloc: Global,
     context: C,
     line: u32,
@@ -188,7 +193,7 @@ fn text_ref<'v>(
 }
 
 /// The texts that the members of the list of that name are.
-pub fn texts_in<'v>(
+pub fn read_texts<'v>(
     alloc: Global,
     line: u32,
     field: &str,
@@ -205,7 +210,7 @@ pub fn texts_in<'v>(
 
 /// The text of a field that may be absent.
 #[tactic(auto, unfolding(crate::specs::Fields::optional_text_at))]
-pub fn optional_text_in<'v>(
+pub fn read_optional_text<'v>(
     alloc: Global,
     line: u32,
     field: &str,

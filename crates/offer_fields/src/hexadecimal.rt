@@ -1,7 +1,7 @@
 //! Digests in hexadecimal.
 
 ghost use Rattle.swap_base.specs.Fault.{Gives};
-ghost use Rattle.offer_fields.specs.Limits.{digest_of};
+ghost use Rattle.offer_fields.specs.Limits.{to_digest};
 
 use hex::FromHex;
 use refusals::{OfferFault, wrong_hex};
@@ -9,9 +9,14 @@ use std::alloc::Global;
 use swap_base::Digest;
 
 /// The digest that a text of 64 hexadecimal digits is.
-#[tactic(auto, unfolding(crate::specs::Limits::digest_of))]
-pub fn digest_in(alloc: Global, line: u32, field: &str, text: &[u8]) -> Result<Digest, OfferFault>
-    ensures { Gives (λ d. d) result (digest_of line field.now text.now) }
+#[tactic(auto, unfolding(crate::specs::Limits::to_digest))]
+pub fn parse_digest(
+    alloc: Global,
+    line: u32,
+    field: &str,
+    text: &[u8],
+) -> Result<Digest, OfferFault>
+    ensures { Gives (λ d. d) result (to_digest line field.now text.now) }
 {
     match <[u8; 32] as FromHex>::from_hex(text) {
         Ok(digest) => Ok(digest),

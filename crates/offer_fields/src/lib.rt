@@ -11,11 +11,11 @@ mod object;
 mod text;
 
 pub use fields::{
-    Member, array_in, is_object, list_in, member_text, number_in, only_in, optional_number_in,
-    optional_text_in, text_in, texts_in, value_in,
+    Member, allow_only, array_in, field_value, is_object, member_text, number_in, read_list,
+    read_optional_number, read_optional_text, read_text_field, read_texts,
 };
-pub use hexadecimal::digest_in;
-pub use limits::{number_within, within};
+pub use hexadecimal::parse_digest;
+pub use limits::{ranged_number, within};
 pub use names::party_of_name;
-pub use object::object_in;
+pub use object::parse_object;
 pub use text::TextRef;

@@ -2,7 +2,7 @@
 
 ghost use Rattle.std.specs.Prelude.{◌≤◌, IfOk};
 ghost use Rattle.swap_base.specs.Fault.{Gives};
-ghost use Rattle.offer_fields.specs.Limits.{number_within, within};
+ghost use Rattle.offer_fields.specs.Limits.{ranged_number, within};
 
 use refusals::{OfferFault, over_limit};
 use std::alloc::Global;
@@ -26,8 +26,8 @@ pub fn within(
 }
 
 /// The number itself, where it is from low to high.
-#[tactic(auto, unfolding(crate::specs::Limits::number_within, crate::specs::Limits::within))]
-pub fn number_within(
+#[tactic(auto, unfolding(crate::specs::Limits::ranged_number, crate::specs::Limits::within))]
+pub fn ranged_number(
     alloc: Global,
     line: u32,
     field: &str,
@@ -35,7 +35,7 @@ pub fn number_within(
     high: u32,
     number: u64,
 ) -> Result<u32, OfferFault>
-    ensures exact { Gives (λ n. n) result (number_within line field.now low high number) }
+    ensures exact { Gives (λ n. n) result (ranged_number line field.now low high number) }
     ensures within { IfOk result (λ n. (low ≤ n) × (n ≤ high)) }
 {
     if low as u64 <= number && number <= high as u64 {

@@ -6,7 +6,7 @@ ghost use Rattle.offer_fields.specs.Names.{party_of_name};
 
 use refusals::{OfferFault, unknown};
 use std::alloc::Global;
-use swap_base::{ByteText, PartyId, place_of};
+use swap_base::{ByteText, PartyId, find_place};
 
 /// The number of the party of that name: its place among the names.
 #[tactic(auto, unfolding(crate::specs::Names::party_of_name))]
@@ -20,7 +20,7 @@ pub fn party_of_name(
     ensures exact { Gives (λ p. p) result (party_of_name line names.now name.now) }
     ensures below { IfOk result (λ p. p < length names.now) }
 {
-    match place_of(names, name) {
+    match find_place(names, name) {
         Some(place) => Ok(place as PartyId),
         None => Err(unknown(alloc, line, name)),
     }

@@ -4,7 +4,7 @@ ghost use Rattle.std.specs.Prelude.{◌≡◌};
 ghost use Rattle.serde_json.specs.View.{view};
 ghost use Rattle.serde_json.specs.Errors.{IsMemory};
 ghost use Rattle.swap_base.specs.Fault.{Gives};
-ghost use Rattle.offer_fields.specs.Fields.{object_of};
+ghost use Rattle.offer_fields.specs.Fields.{parse_data};
 
 use refusals::{OfferFault, Reason};
 use serde_json::{Error, Value};
@@ -24,8 +24,8 @@ fn not_json(line: u32, e: &Error) -> OfferFault
 
 /// The object that the text of a line is.
 #[tactic(auto, using(crate::proofs::Lines::is_read, crate::proofs::Lines::is_no_object, crate::proofs::Lines::refused))]
-pub fn object_in(alloc: Global, line: u32, text: &[u8]) -> Result<Value, OfferFault>
-    ensures { Gives view result (object_of line text.now) }
+pub fn parse_object(alloc: Global, line: u32, text: &[u8]) -> Result<Value, OfferFault>
+    ensures { Gives view result (parse_data line text.now) }
 {
     let value = match Value::from_slice(alloc, text) {
         Ok(value) => value,

@@ -7,19 +7,19 @@ use Rattle.swap_base.specs.declared.fault.Fault.{Fault}
 use Rattle.swap_job.specs.declared.job.Purpose.{Purpose}
 use Rattle.refusals.specs.declared.reason.Reason.{Reason}
 use Rattle.offer_fields.specs.Fields.{number_at, list_at, only}
-use Rattle.offer_header.specs.Raw.{raw_arc_of, finish_at, header_fields, keys_at, raw_leader_of, mode_at, party_of, raw_of, states_keys, version_at}
-use Rattle.offer_header.specs.Raw.{IsModeOf, IsUntimed, IsUntold, HasWords}
+use Rattle.offer_header.specs.Raw.{raw_arc_of, finish_at, header_fields, keys_at, raw_leader_of, mode_at, parse_party, raw_of, states_keys, version_at}
+use Rattle.offer_header.specs.Raw.{IsVersionMode, IsUntimed, IsUntold, HasWords}
 use Rattle.offer_header.specs.Names.{numbered_of}
 use Rattle.offer_header.specs.Limits.{limited_of, HoldsEach}
 use Rattle.offer_header.specs.Scripts.{scripts_placed, AreMade}
-use Rattle.offer_header.specs.Header.{header_by, AreSimpleFor, IsUntoldFor, IsHeaderWithin}
+use Rattle.offer_header.specs.Header.{resolve_header, AreSimpleFor, IsUntoldFor, IsHeaderWithin}
 use Rattle.offer_header.specs.declared.raw.RawHeader.{RawHeader}
 use Rattle.offer_header.specs.declared.names.Numbered.{Numbered}
 use Rattle.offer_header.specs.declared.header.Header.{Header}
 use Rattle.offer_header.proofs.Allowed.{is_mode_of}
 use Rattle.offer_header.proofs.Answered.{after, answered, by_value}
 use Rattle.offer_header.proofs.Held.{are_held}
-use Rattle.offer_header.proofs.Limited.{is_within, opened}
+use Rattle.offer_header.proofs.Limited.{set_contains_ends, opened}
 use Rattle.offer_header.proofs.Numbered.{is_numbered}
 use Rattle.offer_header.proofs.Simple.{are_simple, has_words}
 use Rattle.offer_header.proofs.Standing.{all_made}
@@ -29,13 +29,13 @@ use Rattle.offer_header.proofs.Untold.{is_untold, limited_untold}
 -- ---- the fields
 
 record IsFit (purpose : Purpose) (h : RawHeader) : Type 0 where
-  mode : IsModeOf h.version h.mode
+  mode : IsVersionMode h.version h.mode
   untimed : IsUntimed h
   untold : IsUntold purpose h
   words : HasWords purpose h
 
 fits : (purpose : Purpose) (line : ℕ) (d : Data) (h : RawHeader) → mode_at line h.version d ≡ Ok h.mode
-    → list_at line (codes "parties") (party_of (record { purpose = purpose; mode = h.mode }) line) d ≡ Ok h.parties
+    → list_at line (codes "parties") (parse_party (record { purpose = purpose; mode = h.mode }) line) d ≡ Ok h.parties
     → list_at line (codes "arcs") (raw_arc_of (record { purpose = purpose; mode = h.mode }) line) d ≡ Ok h.arcs
     → finish_at line purpose d ≡ Ok h.finish → IsFit purpose h
 fits purpose line d h m ps arcs f = record {
@@ -53,7 +53,7 @@ raw_fits purpose line d =
     after (number_at line (codes "start") d) _ (IsFit purpose) (λ start s.
     after (number_at line (codes "delta") d) _ (IsFit purpose) (λ delta t.
     after (number_at line (codes "bound") d) _ (IsFit purpose) (λ bound b.
-    after (list_at line (codes "parties") (party_of (record { purpose = purpose; mode = mode }) line) d) _ (IsFit purpose) (λ parties ps.
+    after (list_at line (codes "parties") (parse_party (record { purpose = purpose; mode = mode }) line) d) _ (IsFit purpose) (λ parties ps.
     after (list_at line (codes "arcs") (raw_arc_of (record { purpose = purpose; mode = mode }) line) d) _ (IsFit purpose) (λ arcs some.
     after (list_at line (codes "leaders") (raw_leader_of (record { purpose = purpose; mode = mode }) line) d) _ (IsFit purpose) (λ leaders ls.
     after (keys_at line (states_keys purpose mode) d) _ (IsFit purpose) (λ keys ks.
@@ -90,7 +90,7 @@ is_read has purpose line raw n h fit m l s =
     let numbered = is_numbered has line raw n m in
     let o = opened line purpose raw n h l in record {
       purpose_is = ap (λ (x : Header). x.purpose) (sym o.same);
-      within = is_within line purpose raw n h numbered fit.mode fit.untimed l;
+      within = set_contains_ends line purpose raw n h numbered fit.mode fit.untimed l;
       untold = limited_untold line purpose raw n h fit.untold l;
       simple = are_simple line purpose raw n h fit.words l;
       strategies = are_held has line purpose raw n h m l;
@@ -99,7 +99,7 @@ is_read has purpose line raw n h fit m l s =
     }
 
 all_read : (has : List ℕ → Bool) (purpose : Purpose) (line : ℕ) (raw : RawHeader) → IsFit purpose raw
-    → IfOk (header_by has purpose line raw) (IsRead has purpose line)
+    → IfOk (resolve_header has purpose line raw) (IsRead has purpose line)
 all_read has purpose line raw fit =
     after (numbered_of has line raw) _ (IsRead has purpose line) (λ n m.
     after (limited_of purpose line raw n) _ (IsRead has purpose line) (λ h l.
@@ -111,7 +111,7 @@ weaker (Err e) P Q h p = tt
 
 -- and so it holds of what is answered once the fields are read
 pub read_so : (has : List ℕ → Bool) (purpose : Purpose) (line : ℕ) (d : Data) (raw : RawHeader) (r : Result Header (Fault Reason)) (Q : Header → Type 0)
-    → raw_of purpose line d ≡ Ok raw → Gives (λ h. h) r (header_by has purpose line raw) → ((h : Header) → IsRead has purpose line h → Q h) → IfOk r Q
+    → raw_of purpose line d ≡ Ok raw → Gives (λ h. h) r (resolve_header has purpose line raw) → ((h : Header) → IsRead has purpose line h → Q h) → IfOk r Q
 read_so has purpose line d raw r Q e g h =
     let fit = by_value raw (raw_of purpose line d) (IsFit purpose) e (raw_fits purpose line d) in
-    weaker r (IsRead has purpose line) Q h (answered r (header_by has purpose line raw) (IsRead has purpose line) g (all_read has purpose line raw fit))
+    weaker r (IsRead has purpose line) Q h (answered r (resolve_header has purpose line raw) (IsRead has purpose line) g (all_read has purpose line raw fit))

@@ -15,9 +15,9 @@ use Rattle.swap_job.specs.declared.job.Role.TheVariants as kinds
 use Rattle.offer_fields.specs.Limits.{within}
 use Rattle.offer_fields.specs.Lists.{each_of}
 use Rattle.offer_fields.proofs.Chains.{went, each_at, each_length}
-use Rattle.offer_moves.specs.Moves.{move_of}
+use Rattle.offer_moves.specs.Moves.{parse_move}
 use Rattle.offer_moves.specs.declared.moves.Sizes.{Sizes}
-use Rattle.offer_header.specs.Limits.{script_role, checked_role, checked_seed, acting_of, parties_of, sizes_in, limited_of, HoldsEach}
+use Rattle.offer_header.specs.Limits.{script_role, checked_role, checked_seed, parse_acting, count_parties, header_sizes, limited_of, HoldsEach}
 use Rattle.offer_header.specs.Names.{actor_known, name_added, name_step, names_stated, named_ends, leader_step, numbered_of}
 use Rattle.offer_header.specs.declared.raw.RawActor.{RawActor}
 use Rattle.offer_header.specs.declared.raw.RawActor.TheVariants.{Conforming, Manual, Script, Strategy}
@@ -54,12 +54,12 @@ module _ (has : List ℕ → Bool) (line : ℕ) where
       let is : kinds.Strategy name ≡ role = cc e in subst (IsHeld has) is (one_test (has name) (Unknown line name) u k)
   held s names all (Script raws) role u k e =
       let p = went (within line (codes "script") 0 1000 (length raws)) _ role e in
-      let q = went (each_of (move_of s names line) raws) _ role p.2 in
+      let q = went (each_of (parse_move s names line) raws) _ role p.2 in
       let is : kinds.Script q.0 ≡ role = cc (q.2) in
       subst (IsHeld has) is tt
 
-  acting_held : (s : Sizes) (names all : List (List ℕ)) (p : RawParty) (a : Acting) → IsKnownIn all p → acting_of s names line p ≡ Ok a → IsHeld has a.role
-  unfolding acting_of
+  acting_held : (s : Sizes) (names all : List (List ℕ)) (p : RawParty) (a : Acting) → IsKnownIn all p → parse_acting s names line p ≡ Ok a → IsHeld has a.role
+  unfolding parse_acting
   acting_held s names all p a k e =
       let one = went (checked_role s names line p.actor) _ a e in
       let two = went (checked_seed line p) _ a one.2 in
@@ -81,23 +81,23 @@ abbrev zero_acting : Acting
 zero_acting = record { role = kinds.Manual; seed = None }
 
 each_held : (has : List ℕ → Bool) (version : Version) (s : Sizes) (names all : List (List ℕ)) (line : ℕ) (parties : List RawParty) (acting : List Acting)
-    → All (IsKnownIn has line all) parties → parties_of version s names line parties ≡ Ok acting
+    → All (IsKnownIn has line all) parties → count_parties version s names line parties ≡ Ok acting
     → HoldsEach has (map (λ (a : Acting). a.role) acting)
-unfolding parties_of
+unfolding count_parties
 each_held has version s names all line parties acting known e =
     let one = went (within line (codes "parties") 2 (most_parties version) (length parties)) _ acting e in
-    let size = each_length (acting_of s names line) parties acting one.2 in
+    let size = each_length (parse_acting s names line) parties acting one.2 in
     let n = length-map acting (λ (a : Acting). a.role) in
     All-from_get_or (IsHeld has) (map (λ (a : Acting). a.role) acting) kinds.Manual
     (λ i lt.
     subst (IsHeld has) (sym (get_or-map (λ (a : Acting). a.role) acting i zero_acting kinds.Manual (omega (arith, lt, n))))
     (acting_held has line s names all (get_or parties i zero_party) (get_or acting i zero_acting)
     (All-get_or (IsKnownIn has line all) parties i zero_party (omega (arith, lt, n, size)) known)
-    (each_at (acting_of s names line) parties acting zero_party zero_acting one.2 i (omega (arith, lt, n, size)))))
+    (each_at (parse_acting s names line) parties acting zero_party zero_acting one.2 i (omega (arith, lt, n, size)))))
 
 pub are_held : (has : List ℕ → Bool) (line : ℕ) (purpose : Purpose) (raw : RawHeader) (n : Numbered) (h : Header) → numbered_of has line raw ≡ Ok n
     → limited_of purpose line raw n ≡ Ok h → HoldsEach has h.roles
 are_held has line purpose raw n h known e =
     let o = opened line purpose raw n h e in
     subst (λ (x : Header). HoldsEach has x.roles) o.same
-    (each_held has raw.version (sizes_in raw) n.names (names_stated raw.parties) line raw.parties o.acting (all_known has line raw n known) o.acting_are)
+    (each_held has raw.version (header_sizes raw) n.names (names_stated raw.parties) line raw.parties o.acting (all_known has line raw n known) o.acting_are)

@@ -3,13 +3,13 @@ use Rattle.std.proofs.Common.{◌≡◌, ℕ, ◌<◌, ◌≤◌, ◌^◌, lengt
 use Rattle.std.proofs.Common.{sym, ap, ◌∙◌, subst, arith, codes}
 use Rattle.std.proofs.lemmas.List.{get_or-map, length-map}
 use Rattle.swap_base.specs.Fault.{◌>>=◌}
-use Rattle.offer_fields.specs.Limits.{number_within, within}
+use Rattle.offer_fields.specs.Limits.{ranged_number, within}
 use Rattle.offer_fields.specs.Lists.{each_of}
 use Rattle.offer_header.specs.Names.{AreLeaders, AreEnds, IsNumbered}
-use Rattle.offer_header.specs.Raw.{is_plain, IsModeOf, IsUntimed}
-use Rattle.offer_header.specs.Limits.{acting_of, parties_of, sizes_in, terms_of, all_terms_of, arc_ends}
-use Rattle.offer_header.specs.Limits.{hashlock_of, no_digests, hashlocks_by, hashlocks_of}
-use Rattle.offer_header.specs.Limits.{key_digest, party_keys_of, stated_keys_of, keys_of, header_with, limited_of}
+use Rattle.offer_header.specs.Raw.{is_plain, IsVersionMode, IsUntimed}
+use Rattle.offer_header.specs.Limits.{parse_acting, count_parties, header_sizes, stated_terms, parse_all_terms, arc_ends}
+use Rattle.offer_header.specs.Limits.{lock_hashlock, no_digests, read_hashlocks, hashlocks_of}
+use Rattle.offer_header.specs.Limits.{key_digest, party_keys_of, stated_keys_of, derived_keys, assemble_header, limited_of}
 use Rattle.offer_header.specs.Header.{HasKeysFor, IsHeaderWithin}
 use Rattle.offer_header.specs.declared.raw.RawActor.TheVariants.{Manual}
 use Rattle.offer_header.specs.declared.raw.RawParty.{RawParty}
@@ -37,13 +37,13 @@ use Rattle.offer_header.proofs.Allowed.{few_parties}
 -- ---- parties
 
 pub parties_ok : (version : Version) (sizes : Sizes) (names : List (List ℕ)) (line : ℕ) (parties : List RawParty) (acting : List Acting)
-    → parties_of version sizes names line parties ≡ Ok acting
+    → count_parties version sizes names line parties ≡ Ok acting
     → (2 ≤ length parties) × (length parties ≤ most_parties version) × (length acting ≡ length parties)
-unfolding parties_of
+unfolding count_parties
 parties_ok version sizes names line parties acting h =
-    let one = went (within line (codes "parties") 2 (most_parties version) (length parties)) (λ u. each_of (acting_of sizes names line) parties) acting h in
+    let one = went (within line (codes "parties") 2 (most_parties version) (length parties)) (λ u. each_of (parse_acting sizes names line) parties) acting h in
     let r = within_ok line (codes "parties") 2 (most_parties version) (length parties) one.0 one.1 in
-    (r.0, r.1, each_length (acting_of sizes names line) parties acting one.2)
+    (r.0, r.1, each_length (parse_acting sizes names line) parties acting one.2)
 
 -- a party conforms exactly where its role says so
 roles_conform : (acting : List Acting) → map (λ (p : Acting). is_conforming p.role) acting ≡ map is_conforming (map (λ (p : Acting). p.role) acting)
@@ -60,32 +60,32 @@ wider_leaders : (n : ℕ) (leaders : List ℕ) → n ≤ 256 → AreLeaders n le
 wider_leaders n leaders le h = record { below = λ i lt. let k = h.below i lt in omega arith; apart = h.apart }
 
 pub small_ends : (line : ℕ) (raw : RawHeader) (n : Numbered) (acting : List Acting) → IsNumbered raw n
-    → parties_of raw.version (sizes_in raw) n.names line raw.parties ≡ Ok acting
+    → count_parties raw.version (header_sizes raw) n.names line raw.parties ≡ Ok acting
     → AreEnds 256 n.arcs
 small_ends line raw n acting is h =
-    let r = parties_ok raw.version (sizes_in raw) n.names line raw.parties acting h in
+    let r = parties_ok raw.version (header_sizes raw) n.names line raw.parties acting h in
     let most = few_parties raw.version in
     let e = is.parties in
     wider_ends (length n.names) n.arcs (omega arith) is.ends
 
 pub small_leaders : (line : ℕ) (raw : RawHeader) (n : Numbered) (acting : List Acting) → IsNumbered raw n
-    → parties_of raw.version (sizes_in raw) n.names line raw.parties ≡ Ok acting
+    → count_parties raw.version (header_sizes raw) n.names line raw.parties ≡ Ok acting
     → AreLeaders 256 n.leaders
 small_leaders line raw n acting is h =
-    let r = parties_ok raw.version (sizes_in raw) n.names line raw.parties acting h in
+    let r = parties_ok raw.version (header_sizes raw) n.names line raw.parties acting h in
     let most = few_parties raw.version in
     let e = is.parties in
     wider_leaders (length n.names) n.leaders (omega arith) is.leader
 
 -- ---- arcs
 
-terms_ok : (line : ℕ) (a : RawArc) (t : ArcTerms) → terms_of line a ≡ Ok t
+terms_ok : (line : ℕ) (a : RawArc) (t : ArcTerms) → stated_terms line a ≡ Ok t
     → ((1 ≤ t.amount) × (t.amount ≤ 10 ^ 12)) × (t.timelock ≤ 1000000) × (t.timelock ≡ a.timelock)
-unfolding terms_of
+unfolding stated_terms
 terms_ok line a t h =
-    let one = went (within line (codes "amount") 1 (10 ^ 12) a.amount) (λ u. number_within line (codes "timelock") 0 1000000 a.timelock >>= λ timelock.
+    let one = went (within line (codes "amount") 1 (10 ^ 12) a.amount) (λ u. ranged_number line (codes "timelock") 0 1000000 a.timelock >>= λ timelock.
     Ok (record { amount = a.amount; timelock = timelock })) t h in
-    let two = went (number_within line (codes "timelock") 0 1000000 a.timelock)
+    let two = went (ranged_number line (codes "timelock") 0 1000000 a.timelock)
     (λ timelock. Ok (record { amount = a.amount; timelock = timelock })) t one.2 in
     let same : record { amount = a.amount; timelock = two.0 } ≡ t = cc (two.2) in
     let r = within_ok line (codes "amount") 1 (10 ^ 12) a.amount one.0 one.1 in
@@ -106,17 +106,17 @@ record AreTerms (version : Version) (arcs : List RawArc) (terms : List ArcTerms)
   timelock : (a : ℕ) → a < length terms → (get_or terms a zero_terms).timelock ≤ 1000000
   stated : (a : ℕ) → a < length terms → (get_or terms a zero_terms).timelock ≡ (get_or arcs a zero_arc).timelock
 
-are_terms : (version : Version) (line : ℕ) (arcs : List RawArc) (terms : List ArcTerms) → all_terms_of version line arcs ≡ Ok terms
+are_terms : (version : Version) (line : ℕ) (arcs : List RawArc) (terms : List ArcTerms) → parse_all_terms version line arcs ≡ Ok terms
     → AreTerms version arcs terms
-unfolding all_terms_of
+unfolding parse_all_terms
 are_terms version line arcs terms h =
-    let one = went (within line (codes "arcs") 2 (most_arcs version) (length arcs)) (λ u. each_of (terms_of line) arcs) terms h in
+    let one = went (within line (codes "arcs") 2 (most_arcs version) (length arcs)) (λ u. each_of (stated_terms line) arcs) terms h in
     let r = within_ok line (codes "arcs") 2 (most_arcs version) (length arcs) one.0 one.1 in
-    let l : length terms ≡ length arcs = each_length (terms_of line) arcs terms one.2 in
+    let l : length terms ≡ length arcs = each_length (stated_terms line) arcs terms one.2 in
     let at : (a : ℕ) → a < length terms → ((1 ≤ (get_or terms a zero_terms).amount) × ((get_or terms a zero_terms).amount ≤ 10 ^ 12))
     × ((get_or terms a zero_terms).timelock ≤ 1000000) × ((get_or terms a zero_terms).timelock ≡ (get_or arcs a zero_arc).timelock) =
     λ a lt. terms_ok line (get_or arcs a zero_arc) (get_or terms a zero_terms)
-    (each_at (terms_of line) arcs terms zero_arc zero_terms one.2 a (omega arith)) in
+    (each_at (stated_terms line) arcs terms zero_arc zero_terms one.2 a (omega arith)) in
     record {
       few = (omega arith, omega arith);
       each = l;
@@ -127,18 +127,18 @@ are_terms version line arcs terms h =
 
 -- ---- leaders and keys
 
-by_hashlocks : (plain : Bool) (line : ℕ) (leaders : List RawLeader) (hashlocks : List (List ℕ)) → hashlocks_by plain line leaders ≡ Ok hashlocks
+by_hashlocks : (plain : Bool) (line : ℕ) (leaders : List RawLeader) (hashlocks : List (List ℕ)) → read_hashlocks plain line leaders ≡ Ok hashlocks
     → length hashlocks ≡ length leaders
 by_hashlocks true line leaders hashlocks h =
     let same : no_digests leaders ≡ hashlocks = cc h in
     ap length (sym same) ∙ length-map leaders _
-by_hashlocks false line leaders hashlocks h = each_length (hashlock_of line) leaders hashlocks h
+by_hashlocks false line leaders hashlocks h = each_length (lock_hashlock line) leaders hashlocks h
 
 hashlocks_ok : (plain : Bool) (line : ℕ) (leaders : List RawLeader) (hashlocks : List (List ℕ)) → hashlocks_of plain line leaders ≡ Ok hashlocks
     → (1 ≤ length leaders) × (length leaders ≤ 8) × (length hashlocks ≡ length leaders)
 unfolding hashlocks_of
 hashlocks_ok plain line leaders hashlocks h =
-    let one = went (within line (codes "leaders") 1 8 (length leaders)) (λ u. hashlocks_by plain line leaders) hashlocks h in
+    let one = went (within line (codes "leaders") 1 8 (length leaders)) (λ u. read_hashlocks plain line leaders) hashlocks h in
     let r = within_ok line (codes "leaders") 1 8 (length leaders) one.0 one.1 in
     (r.0, r.1, by_hashlocks plain line leaders hashlocks one.2)
 
@@ -176,7 +176,7 @@ unstated_keys_ok h keys same = subst (HasKeysFor Hashkeys (length h.parties) (le
   λ p lt. ap length (get_or-map (λ (p : RawParty). no_digests h.leaders) h.parties p zero_party [] lt) ∙ length-map h.leaders _,
 )
 
-keys_ok : (mode : Mode) (plain : Bool) (line : ℕ) (h : RawHeader) (keys : List (List (List ℕ))) → keys_of mode plain line h ≡ Ok keys
+keys_ok : (mode : Mode) (plain : Bool) (line : ℕ) (h : RawHeader) (keys : List (List (List ℕ))) → derived_keys mode plain line h ≡ Ok keys
     → HasKeysFor mode (length h.parties) (length h.leaders) keys
 keys_ok Timelocks plain line h keys e = cc e
 keys_ok Hashkeys true line h keys e = unstated_keys_ok h keys (cc e)
@@ -192,14 +192,14 @@ zero_arc_ends = record { from = 0; to = 0 }
 
 all_within : (purpose : Purpose) (raw : RawHeader) (n : Numbered) (start delta bound : ℕ) (acting : List Acting) (terms : List ArcTerms)
     (hashlocks : List (List ℕ)) (keys : List (List (List ℕ)))
-    → IsNumbered raw n → IsModeOf raw.version raw.mode → IsUntimed raw
+    → IsNumbered raw n → IsVersionMode raw.version raw.mode → IsUntimed raw
     → (1 ≤ start) × (start ≤ 1000) × (start ≡ raw.start) → (1 ≤ delta) × (delta ≤ 100) × (delta ≡ raw.delta)
     → (1 ≤ bound) × (bound ≤ 64) × (bound ≡ raw.bound)
     → (2 ≤ length raw.parties) × (length raw.parties ≤ most_parties raw.version) × (length acting ≡ length raw.parties)
     → AreTerms raw.version raw.arcs terms
     → (1 ≤ length raw.leaders) × (length raw.leaders ≤ 8) × (length hashlocks ≡ length raw.leaders)
     → HasKeysFor raw.mode (length raw.parties) (length raw.leaders) keys
-    → IsHeaderWithin (header_with purpose raw n start delta bound acting terms hashlocks keys)
+    → IsHeaderWithin (assemble_header purpose raw n start delta bound acting terms hashlocks keys)
 all_within purpose raw n start delta bound acting terms hashlocks keys is mode untimed s d b ps ts ls ks =
     let lp : length n.names ≡ length raw.parties = is.parties in
     let la : length n.arcs ≡ length raw.arcs = is.arcs in
@@ -248,44 +248,44 @@ pub record Opened (line : ℕ) (purpose : Purpose) (raw : RawHeader) (n : Number
   pub terms : List ArcTerms
   pub hashlocks : List (List ℕ)
   pub keys : List (List (List ℕ))
-  pub start_is : number_within line (codes "start") 1 1000 raw.start ≡ Ok start
-  pub delta_is : number_within line (codes "delta") 1 100 raw.delta ≡ Ok delta
-  pub bound_is : number_within line (codes "bound") 1 64 raw.bound ≡ Ok bound
-  pub acting_are : parties_of raw.version (sizes_in raw) n.names line raw.parties ≡ Ok acting
-  pub terms_are : all_terms_of raw.version line raw.arcs ≡ Ok terms
+  pub start_is : ranged_number line (codes "start") 1 1000 raw.start ≡ Ok start
+  pub delta_is : ranged_number line (codes "delta") 1 100 raw.delta ≡ Ok delta
+  pub bound_is : ranged_number line (codes "bound") 1 64 raw.bound ≡ Ok bound
+  pub acting_are : count_parties raw.version (header_sizes raw) n.names line raw.parties ≡ Ok acting
+  pub terms_are : parse_all_terms raw.version line raw.arcs ≡ Ok terms
   pub hashlocks_are : hashlocks_of (is_plain purpose) line raw.leaders ≡ Ok hashlocks
-  pub keys_are : keys_of raw.mode (is_plain purpose) line raw ≡ Ok keys
-  pub same : header_with purpose raw n start delta bound acting terms hashlocks keys ≡ h
+  pub keys_are : derived_keys raw.mode (is_plain purpose) line raw ≡ Ok keys
+  pub same : assemble_header purpose raw n start delta bound acting terms hashlocks keys ≡ h
 
 pub opened : (line : ℕ) (purpose : Purpose) (raw : RawHeader) (n : Numbered) (h : Header) → limited_of purpose line raw n ≡ Ok h
     → Opened line purpose raw n h
 unfolding limited_of
 opened line purpose raw n h e =
-    let one = went (number_within line (codes "start") 1 1000 raw.start) (λ start. number_within line (codes "delta") 1 100 raw.delta >>= λ delta.
-    number_within line (codes "bound") 1 64 raw.bound >>= λ bound. parties_of raw.version (sizes_in raw) n.names line raw.parties >>= λ acting.
-    all_terms_of raw.version line raw.arcs >>= λ terms.
-    hashlocks_of (is_plain purpose) line raw.leaders >>= λ hashlocks. keys_of raw.mode (is_plain purpose) line raw >>= λ keys.
-    Ok (header_with purpose raw n start delta bound acting terms hashlocks keys)) h e in
-    let two = went (number_within line (codes "delta") 1 100 raw.delta) (λ delta. number_within line (codes "bound") 1 64 raw.bound >>= λ bound.
-    parties_of raw.version (sizes_in raw) n.names line raw.parties >>= λ acting. all_terms_of raw.version line raw.arcs >>= λ terms.
+    let one = went (ranged_number line (codes "start") 1 1000 raw.start) (λ start. ranged_number line (codes "delta") 1 100 raw.delta >>= λ delta.
+    ranged_number line (codes "bound") 1 64 raw.bound >>= λ bound. count_parties raw.version (header_sizes raw) n.names line raw.parties >>= λ acting.
+    parse_all_terms raw.version line raw.arcs >>= λ terms.
+    hashlocks_of (is_plain purpose) line raw.leaders >>= λ hashlocks. derived_keys raw.mode (is_plain purpose) line raw >>= λ keys.
+    Ok (assemble_header purpose raw n start delta bound acting terms hashlocks keys)) h e in
+    let two = went (ranged_number line (codes "delta") 1 100 raw.delta) (λ delta. ranged_number line (codes "bound") 1 64 raw.bound >>= λ bound.
+    count_parties raw.version (header_sizes raw) n.names line raw.parties >>= λ acting. parse_all_terms raw.version line raw.arcs >>= λ terms.
     hashlocks_of (is_plain purpose) line raw.leaders >>= λ hashlocks.
-    keys_of raw.mode (is_plain purpose) line raw >>= λ keys.
-    Ok (header_with purpose raw n one.0 delta bound acting terms hashlocks keys)) h one.2 in
-    let three = went (number_within line (codes "bound") 1 64 raw.bound) (λ bound. parties_of raw.version (sizes_in raw) n.names line raw.parties >>= λ acting.
-    all_terms_of raw.version line raw.arcs >>= λ terms. hashlocks_of (is_plain purpose) line raw.leaders >>= λ hashlocks.
-    keys_of raw.mode (is_plain purpose) line raw >>= λ keys.
-    Ok (header_with purpose raw n one.0 two.0 bound acting terms hashlocks keys)) h two.2 in
-    let four = went (parties_of raw.version (sizes_in raw) n.names line raw.parties) (λ acting. all_terms_of raw.version line raw.arcs >>= λ terms.
-    hashlocks_of (is_plain purpose) line raw.leaders >>= λ hashlocks. keys_of raw.mode (is_plain purpose) line raw >>= λ keys.
-    Ok (header_with purpose raw n one.0 two.0 three.0 acting terms hashlocks keys)) h three.2 in
-    let five = went (all_terms_of raw.version line raw.arcs) (λ terms. hashlocks_of (is_plain purpose) line raw.leaders >>= λ hashlocks.
-    keys_of raw.mode (is_plain purpose) line raw >>= λ keys.
-    Ok (header_with purpose raw n one.0 two.0 three.0 four.0 terms hashlocks keys)) h four.2 in
-    let six = went (hashlocks_of (is_plain purpose) line raw.leaders) (λ hashlocks. keys_of raw.mode (is_plain purpose) line raw >>= λ keys.
-    Ok (header_with purpose raw n one.0 two.0 three.0 four.0 five.0 hashlocks keys)) h five.2 in
-    let seven = went (keys_of raw.mode (is_plain purpose) line raw)
-    (λ keys. Ok (header_with purpose raw n one.0 two.0 three.0 four.0 five.0 six.0 keys)) h six.2 in
-    let same : header_with purpose raw n one.0 two.0 three.0 four.0 five.0 six.0 seven.0 ≡ h = cc (seven.2) in
+    derived_keys raw.mode (is_plain purpose) line raw >>= λ keys.
+    Ok (assemble_header purpose raw n one.0 delta bound acting terms hashlocks keys)) h one.2 in
+    let three = went (ranged_number line (codes "bound") 1 64 raw.bound) (λ bound. count_parties raw.version (header_sizes raw) n.names line raw.parties >>= λ acting.
+    parse_all_terms raw.version line raw.arcs >>= λ terms. hashlocks_of (is_plain purpose) line raw.leaders >>= λ hashlocks.
+    derived_keys raw.mode (is_plain purpose) line raw >>= λ keys.
+    Ok (assemble_header purpose raw n one.0 two.0 bound acting terms hashlocks keys)) h two.2 in
+    let four = went (count_parties raw.version (header_sizes raw) n.names line raw.parties) (λ acting. parse_all_terms raw.version line raw.arcs >>= λ terms.
+    hashlocks_of (is_plain purpose) line raw.leaders >>= λ hashlocks. derived_keys raw.mode (is_plain purpose) line raw >>= λ keys.
+    Ok (assemble_header purpose raw n one.0 two.0 three.0 acting terms hashlocks keys)) h three.2 in
+    let five = went (parse_all_terms raw.version line raw.arcs) (λ terms. hashlocks_of (is_plain purpose) line raw.leaders >>= λ hashlocks.
+    derived_keys raw.mode (is_plain purpose) line raw >>= λ keys.
+    Ok (assemble_header purpose raw n one.0 two.0 three.0 four.0 terms hashlocks keys)) h four.2 in
+    let six = went (hashlocks_of (is_plain purpose) line raw.leaders) (λ hashlocks. derived_keys raw.mode (is_plain purpose) line raw >>= λ keys.
+    Ok (assemble_header purpose raw n one.0 two.0 three.0 four.0 five.0 hashlocks keys)) h five.2 in
+    let seven = went (derived_keys raw.mode (is_plain purpose) line raw)
+    (λ keys. Ok (assemble_header purpose raw n one.0 two.0 three.0 four.0 five.0 six.0 keys)) h six.2 in
+    let same : assemble_header purpose raw n one.0 two.0 three.0 four.0 five.0 six.0 seven.0 ≡ h = cc (seven.2) in
     record {
       start = one.0;
       delta = two.0;
@@ -304,16 +304,16 @@ opened line purpose raw n h e =
       same = same;
     }
 
-pub is_within : (line : ℕ) (purpose : Purpose) (raw : RawHeader) (n : Numbered) (h : Header) → IsNumbered raw n → IsModeOf raw.version raw.mode
+pub set_contains_ends : (line : ℕ) (purpose : Purpose) (raw : RawHeader) (n : Numbered) (h : Header) → IsNumbered raw n → IsVersionMode raw.version raw.mode
     → IsUntimed raw → limited_of purpose line raw n ≡ Ok h → IsHeaderWithin h
-is_within line purpose raw n h is mode untimed e =
+set_contains_ends line purpose raw n h is mode untimed e =
     let o = opened line purpose raw n h e in
-    within_along (header_with purpose raw n o.start o.delta o.bound o.acting o.terms o.hashlocks o.keys) h o.same
+    within_along (assemble_header purpose raw n o.start o.delta o.bound o.acting o.terms o.hashlocks o.keys) h o.same
     (all_within purpose raw n o.start o.delta o.bound o.acting o.terms o.hashlocks o.keys is mode untimed
     (number_within_ok line (codes "start") 1 1000 raw.start o.start o.start_is)
     (number_within_ok line (codes "delta") 1 100 raw.delta o.delta o.delta_is)
     (number_within_ok line (codes "bound") 1 64 raw.bound o.bound o.bound_is)
-    (parties_ok raw.version (sizes_in raw) n.names line raw.parties o.acting o.acting_are)
+    (parties_ok raw.version (header_sizes raw) n.names line raw.parties o.acting o.acting_are)
     (are_terms raw.version line raw.arcs o.terms o.terms_are)
     (hashlocks_ok (is_plain purpose) line raw.leaders o.hashlocks o.hashlocks_are)
     (keys_ok raw.mode (is_plain purpose) line raw o.keys o.keys_are))
@@ -322,7 +322,7 @@ is_within line purpose raw n h is mode untimed e =
 pub few_roles : (line : ℕ) (purpose : Purpose) (raw : RawHeader) (n : Numbered) (h : Header) → limited_of purpose line raw n ≡ Ok h → length h.roles ≤ 256
 few_roles line purpose raw n h e =
     let o = opened line purpose raw n h e in
-    let r = parties_ok raw.version (sizes_in raw) n.names line raw.parties o.acting o.acting_are in
+    let r = parties_ok raw.version (header_sizes raw) n.names line raw.parties o.acting o.acting_are in
     let most = few_parties raw.version in
     let size : length (map (λ (p : Acting). p.role) o.acting) ≡ length o.acting = length-map o.acting _ in
     let is : length h.roles ≡ length (map (λ (p : Acting). p.role) o.acting) = ap (λ (x : Header). length x.roles) (sym o.same) in

@@ -17,12 +17,12 @@ use Rattle.swap_job.specs.declared.job.Purpose.{Purpose}
 use Rattle.swap_job.specs.declared.job.Purpose.TheVariants.{Check, Run, Race, Make, Audit}
 use Rattle.swap_job.specs.declared.job.Role.{Role}
 use Rattle.swap_job.specs.declared.job.Role.TheVariants as kinds
-use Rattle.offer_fields.specs.Fields.{text_at, object_at, array_at, list_at, listed, each, only, member_text_of}
+use Rattle.offer_fields.specs.Fields.{text_at, object_at, read_array_field, list_at, listed, each, only, member_text_of}
 use Rattle.offer_fields.specs.Limits.{within}
 use Rattle.offer_fields.proofs.Chains.{went, each_all, each_at, each_length}
 use Rattle.offer_moves.specs.declared.moves.Sizes.{Sizes}
-use Rattle.offer_header.specs.Raw.{object_actor, actor_of_word, actor_of, actor_or_conforming, actor_at, seed_at, party_fields, party_of, IsWord, HasWords}
-use Rattle.offer_header.specs.Limits.{checked_role, checked_seed, acting_of, parties_of, sizes_in, limited_of}
+use Rattle.offer_header.specs.Raw.{object_actor, actor_of_word, new_actor, actor_or_conforming, actor_at, seed_at, party_fields, parse_party, IsWord, HasWords}
+use Rattle.offer_header.specs.Limits.{checked_role, checked_seed, parse_acting, count_parties, header_sizes, limited_of}
 use Rattle.offer_header.specs.Header.{simple_role, AreSimpleFor}
 use Rattle.offer_header.proofs.Limited.{opened}
 use Rattle.offer_header.specs.declared.raw.RawActor.{RawActor}
@@ -45,7 +45,7 @@ word_is line word a e = go (bytes_eq word (codes "conforming")) (bytes_eq word (
 
 -- where no actor is an object
 module _ (purpose : Purpose) (none : (line : ℕ) (d : Data) (a : RawActor) → object_actor line purpose d ≡ Ok a → ⊥) where
-  said_is : (line : ℕ) (v : Data) (a : RawActor) → actor_of line purpose v ≡ Ok a → IsWord a
+  said_is : (line : ℕ) (v : Data) (a : RawActor) → new_actor line purpose v ≡ Ok a → IsWord a
   said_is line v a e = go (is_some (as_object v)) refl
     where
       go : (b : Bool) → is_some (as_object v) ≡ b → IsWord a
@@ -62,8 +62,8 @@ module _ (purpose : Purpose) (none : (line : ℕ) (d : Data) (a : RawActor) → 
       go None f = let is : Conforming ≡ a = cc f in subst IsWord is tt
       go (Some v) f = said_is line v a f
 
-  party_is : (mode : Mode) (line : ℕ) (d : Data) (p : RawParty) → party_of (record { purpose = purpose; mode = mode }) line d ≡ Ok p → IsWord p.actor
-  unfolding party_of
+  party_is : (mode : Mode) (line : ℕ) (d : Data) (p : RawParty) → parse_party (record { purpose = purpose; mode = mode }) line d ≡ Ok p → IsWord p.actor
+  unfolding parse_party
   party_is mode line d p h =
       let one = went (object_at line (codes "parties") d) _ p h in
       let two = went (text_at line (codes "name") d) _ p one.2 in
@@ -74,19 +74,19 @@ module _ (purpose : Purpose) (none : (line : ℕ) (d : Data) (a : RawActor) → 
       subst (λ (x : RawParty). IsWord x.actor) same (actor_is line d three.0 three.1)
 
   parties_are : (mode : Mode) (line : ℕ) (d : Data) (ps : List RawParty)
-      → list_at line (codes "parties") (party_of (record { purpose = purpose; mode = mode }) line) d ≡ Ok ps
+      → list_at line (codes "parties") (parse_party (record { purpose = purpose; mode = mode }) line) d ≡ Ok ps
       → (p : ℕ) (e : RawParty) → p < length ps → IsWord (get_or ps p e).actor
   unfolding list_at each
   parties_are mode line d ps h =
-      let read : Data → Result RawParty Reason = party_of (record { purpose = purpose; mode = mode }) line in
-      let one = went (array_at line (codes "parties") d) (λ items. each read items) ps h in
+      let read : Data → Result RawParty Reason = parse_party (record { purpose = purpose; mode = mode }) line in
+      let one = went (read_array_field line (codes "parties") d) (λ items. each read items) ps h in
       each_all (λ p. IsWord p.actor) read (λ d p e. party_is mode line d p e) (listed one.0) ps one.2
 
 none_told : (line : ℕ) (d : Data) (a : RawActor) → object_actor line Audit d ≡ Ok a → ⊥
 none_told line d a e = cc e
 
 pub has_words : (purpose : Purpose) (mode : Mode) (line : ℕ) (d : Data) (h : RawHeader)
-    → list_at line (codes "parties") (party_of (record { purpose = purpose; mode = mode }) line) d ≡ Ok h.parties → HasWords purpose h
+    → list_at line (codes "parties") (parse_party (record { purpose = purpose; mode = mode }) line) d ≡ Ok h.parties → HasWords purpose h
 has_words Audit mode line d h ps = parties_are Audit none_told mode line d h.parties ps
 has_words Check mode line d h ps = tt
 has_words Run mode line d h ps = tt
@@ -102,9 +102,9 @@ simple s names line Manual role w e = let is : kinds.Manual ≡ role = cc e in s
 simple s names line (Script moves) role w e = absurd w
 simple s names line (Strategy name) role w e = absurd w
 
-acting_simple : (s : Sizes) (names : List (List ℕ)) (line : ℕ) (p : RawParty) (a : Acting) → IsWord p.actor → acting_of s names line p ≡ Ok a
+acting_simple : (s : Sizes) (names : List (List ℕ)) (line : ℕ) (p : RawParty) (a : Acting) → IsWord p.actor → parse_acting s names line p ≡ Ok a
     → a.role ≡ simple_role (is_conforming a.role)
-unfolding acting_of
+unfolding parse_acting
 acting_simple s names line p a w e =
     let one = went (checked_role s names line p.actor) _ a e in
     let two = went (checked_seed line p) _ a one.2 in
@@ -125,22 +125,22 @@ each_simple (a ∷ acting) h =
     (each_simple acting (All-tail (λ (a : Acting). a.role ≡ simple_role (is_conforming a.role)) a acting h))
 
 all_simple : (version : Version) (s : Sizes) (names : List (List ℕ)) (line : ℕ) (parties : List RawParty) (acting : List Acting)
-    → parties_of version s names line parties ≡ Ok acting
+    → count_parties version s names line parties ≡ Ok acting
     → ((p : ℕ) (d : RawParty) → p < length parties → IsWord (get_or parties p d).actor)
     → map (λ (a : Acting). a.role) acting ≡ map simple_role (map (λ (a : Acting). is_conforming a.role) acting)
-unfolding parties_of
+unfolding count_parties
 all_simple version s names line parties acting e words =
     let one = went (within line (codes "parties") 2 (most_parties version) (length parties)) _ acting e in
-    let size = each_length (acting_of s names line) parties acting one.2 in
+    let size = each_length (parse_acting s names line) parties acting one.2 in
     each_simple acting (All-from_get_or (λ (a : Acting). a.role ≡ simple_role (is_conforming a.role)) acting zero_acting (λ i lt.
     acting_simple s names line (get_or parties i zero_party) (get_or acting i zero_acting) (words i zero_party (omega (arith, lt, size)))
-    (each_at (acting_of s names line) parties acting zero_party zero_acting one.2 i (omega (arith, lt, size)))))
+    (each_at (parse_acting s names line) parties acting zero_party zero_acting one.2 i (omega (arith, lt, size)))))
 
 simple_for : (purpose : Purpose) (line : ℕ) (raw : RawHeader) (n : Numbered) (acting : List Acting) (h : Header) → HasWords purpose raw
-    → parties_of raw.version (sizes_in raw) n.names line raw.parties ≡ Ok acting → map (λ (a : Acting). a.role) acting ≡ h.roles
+    → count_parties raw.version (header_sizes raw) n.names line raw.parties ≡ Ok acting → map (λ (a : Acting). a.role) acting ≡ h.roles
     → map (λ (a : Acting). is_conforming a.role) acting ≡ h.conforming → AreSimpleFor purpose h
 simple_for Audit line raw n acting h words e roles conforming =
-    sym roles ∙ (all_simple raw.version (sizes_in raw) n.names line raw.parties acting e words ∙ ap (λ (bs : List Bool). map simple_role bs) conforming)
+    sym roles ∙ (all_simple raw.version (header_sizes raw) n.names line raw.parties acting e words ∙ ap (λ (bs : List Bool). map simple_role bs) conforming)
 simple_for Check line raw n acting h words e roles conforming = tt
 simple_for Run line raw n acting h words e roles conforming = tt
 simple_for Race line raw n acting h words e roles conforming = tt

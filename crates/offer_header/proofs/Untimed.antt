@@ -4,7 +4,7 @@ use Rattle.serde_json.specs.Data.{Data}
 use Rattle.swap_base.specs.Fault.{◌>>=◌}
 use Rattle.swap_digraph.specs.declared.deal.Mode.{Mode}
 use Rattle.swap_digraph.specs.declared.deal.Mode.TheVariants.{Timelocks, Hashkeys}
-use Rattle.offer_fields.specs.Fields.{number_at, text_at, object_at, array_at, list_at, listed, each, only}
+use Rattle.offer_fields.specs.Fields.{number_at, text_at, object_at, read_array_field, list_at, listed, each, only}
 use Rattle.swap_job.specs.declared.job.Purpose.{Purpose}
 use Rattle.offer_header.specs.Raw.{states_timelocks, timelock_at, arc_fields, raw_arc_of}
 use Rattle.offer_header.specs.declared.raw.Reading.{Reading}
@@ -44,5 +44,5 @@ pub arcs_untimed : (reading : Reading) (line : ℕ) (d : Data) (arcs : List RawA
     → list_at line (codes "arcs") (raw_arc_of reading line) d ≡ Ok arcs → (a : ℕ) (e : RawArc) → a < length arcs → (get_or arcs a e).timelock ≡ 0
 unfolding list_at each
 arcs_untimed reading line d arcs is h =
-    let one = went (array_at line (codes "arcs") d) (λ items. each (raw_arc_of reading line) items) arcs h in
+    let one = went (read_array_field line (codes "arcs") d) (λ items. each (raw_arc_of reading line) items) arcs h in
     each_all (λ a. a.timelock ≡ 0) (raw_arc_of reading line) (λ d a e. arc_untimed reading line d a is e) (listed one.0) arcs one.2

@@ -10,12 +10,12 @@ use Rattle.swap_digraph.specs.declared.deal.Mode.{Mode}
 use Rattle.swap_digraph.specs.declared.deal.Version.{Version}
 use Rattle.swap_job.specs.declared.job.Purpose.{Purpose}
 use Rattle.swap_job.specs.declared.job.Purpose.TheVariants.{Check, Run, Race, Make, Audit}
-use Rattle.offer_fields.specs.Fields.{text_at, object_at, array_at, list_at, listed, each, only}
+use Rattle.offer_fields.specs.Fields.{text_at, object_at, read_array_field, list_at, listed, each, only}
 use Rattle.offer_fields.specs.Limits.{within}
 use Rattle.offer_fields.specs.Lists.{each_of}
 use Rattle.offer_fields.proofs.Chains.{went, each_all, each_at, each_length}
-use Rattle.offer_header.specs.Raw.{actor_at, party_fields, party_of, finish_at, IsUntold}
-use Rattle.offer_header.specs.Limits.{seed_or_none, checked_seed, checked_role, acting_of, parties_of, sizes_in, limited_of}
+use Rattle.offer_header.specs.Raw.{actor_at, party_fields, parse_party, finish_at, IsUntold}
+use Rattle.offer_header.specs.Limits.{seed_or_none, checked_seed, checked_role, parse_acting, count_parties, header_sizes, limited_of}
 use Rattle.offer_header.specs.Header.{IsUntoldFor}
 use Rattle.offer_header.proofs.Limited.{opened}
 use Rattle.swap_job.specs.declared.job.Role.TheVariants as kinds
@@ -27,8 +27,8 @@ use Rattle.offer_header.specs.declared.raw.RawHeader.{RawHeader}
 use Rattle.offer_header.specs.declared.names.Numbered.{Numbered}
 use Rattle.offer_header.specs.declared.header.Header.{Header}
 
-party_untold : (mode : Mode) (line : ℕ) (d : Data) (p : RawParty) → party_of (record { purpose = Audit; mode = mode }) line d ≡ Ok p → p.seed ≡ None
-unfolding party_of
+party_untold : (mode : Mode) (line : ℕ) (d : Data) (p : RawParty) → parse_party (record { purpose = Audit; mode = mode }) line d ≡ Ok p → p.seed ≡ None
+unfolding parse_party
 party_untold mode line d p h =
     let one = went (object_at line (codes "parties") d) _ p h in
     let two = went (text_at line (codes "name") d) _ p one.2 in
@@ -38,16 +38,16 @@ party_untold mode line d p h =
     ap (λ (x : RawParty). x.seed) (sym same)
 
 parties_untold : (mode : Mode) (line : ℕ) (d : Data) (ps : List RawParty)
-    → list_at line (codes "parties") (party_of (record { purpose = Audit; mode = mode }) line) d ≡ Ok ps
+    → list_at line (codes "parties") (parse_party (record { purpose = Audit; mode = mode }) line) d ≡ Ok ps
     → (p : ℕ) (e : RawParty) → p < length ps → (get_or ps p e).seed ≡ None
 unfolding list_at each
 parties_untold mode line d ps h =
-    let read : Data → Result RawParty Reason = party_of (record { purpose = Audit; mode = mode }) line in
-    let one = went (array_at line (codes "parties") d) (λ items. each read items) ps h in
+    let read : Data → Result RawParty Reason = parse_party (record { purpose = Audit; mode = mode }) line in
+    let one = went (read_array_field line (codes "parties") d) (λ items. each read items) ps h in
     each_all (λ p. p.seed ≡ None) read (λ d p e. party_untold mode line d p e) (listed one.0) ps one.2
 
 pub is_untold : (purpose : Purpose) (mode : Mode) (line : ℕ) (d : Data) (h : RawHeader)
-    → list_at line (codes "parties") (party_of (record { purpose = purpose; mode = mode }) line) d ≡ Ok h.parties
+    → list_at line (codes "parties") (parse_party (record { purpose = purpose; mode = mode }) line) d ≡ Ok h.parties
     → finish_at line purpose d ≡ Ok h.finish → IsUntold purpose h
 is_untold Audit mode line d h ps f = (parties_untold mode line d h.parties ps, sym (cc f))
 is_untold Check mode line d h ps f = tt
@@ -63,8 +63,9 @@ zero_party = record { name = []; actor = Manual; seed = None }
 abbrev zero_acting : Acting
 zero_acting = record { role = kinds.Manual; seed = None }
 
-no_seed : (sizes : Sizes) (names : List (List ℕ)) (line : ℕ) (p : RawParty) (a : Acting) → p.seed ≡ None → acting_of sizes names line p ≡ Ok a → a.seed ≡ None
-unfolding acting_of checked_seed
+no_seed : (sizes : Sizes) (names : List (List ℕ)) (line : ℕ) (p : RawParty) (a : Acting) → p.seed ≡ None → parse_acting sizes names line p ≡ Ok a
+    → a.seed ≡ None
+unfolding parse_acting checked_seed
 no_seed sizes names line p a none e =
     let one = went (checked_role sizes names line p.actor) _ a e in
     let two = went (seed_or_none line p.seed) _ a one.2 in
@@ -77,21 +78,21 @@ abbrev seeds : List Acting → List (Option (List ℕ))
 seeds acting = map (λ (a : Acting). a.seed) acting
 
 no_seeds : (version : Version) (sizes : Sizes) (names : List (List ℕ)) (line : ℕ) (parties : List RawParty) (acting : List Acting)
-    → parties_of version sizes names line parties ≡ Ok acting
+    → count_parties version sizes names line parties ≡ Ok acting
     → ((p : ℕ) (d : RawParty) → p < length parties → (get_or parties p d).seed ≡ None) → (p : ℕ) → get_or (seeds acting) p None ≡ None
-unfolding parties_of
+unfolding count_parties
 no_seeds version sizes names line parties acting h none p =
     let one = went (within line (codes "parties") 2 (most_parties version) (length parties)) _ acting h in
-    let size = each_length (acting_of sizes names line) parties acting one.2 in
+    let size = each_length (parse_acting sizes names line) parties acting one.2 in
     go (nat_lt p (length parties)) refl one.2 size
   where
-    go : (b : Bool) → nat_lt p (length parties) ≡ b → each_of (acting_of sizes names line) parties ≡ Ok acting → length acting ≡ length parties
+    go : (b : Bool) → nat_lt p (length parties) ≡ b → each_of (parse_acting sizes names line) parties ≡ Ok acting → length acting ≡ length parties
         → get_or (seeds acting) p None ≡ None
     go true e each size =
         let lt = ltb-true p (length parties) e in
         get_or-map (λ (a : Acting). a.seed) acting p zero_acting None (omega (arith, lt, size))
         ∙ no_seed sizes names line (get_or parties p zero_party) (get_or acting p zero_acting) (none p zero_party lt)
-        (each_at (acting_of sizes names line) parties acting zero_party zero_acting each p lt)
+        (each_at (parse_acting sizes names line) parties acting zero_party zero_acting each p lt)
     go false e each size =
         let le = ltb-false p (length parties) e in
         let n = length-map acting (λ (a : Acting). a.seed) in
@@ -114,4 +115,4 @@ limited_untold line purpose raw n h u e =
     let finish : raw.finish ≡ h.finish = ap (λ (x : Header). x.finish) o.same in
     with_told purpose raw h u
     (λ none p. sym (ap (λ (ss : List (Option (List ℕ))). get_or ss p None) told)
-    ∙ no_seeds raw.version (sizes_in raw) n.names line raw.parties o.acting o.acting_are none p) (sym finish)
+    ∙ no_seeds raw.version (header_sizes raw) n.names line raw.parties o.acting o.acting_are none p) (sym finish)

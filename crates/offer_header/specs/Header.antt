@@ -4,7 +4,7 @@ use Rattle.swap_base.specs.Fault.{◌>>=◌}
 use Rattle.swap_digraph.specs.declared.deal.Mode.{Mode}
 use Rattle.swap_digraph.specs.declared.deal.Mode.TheVariants.{Timelocks, Hashkeys}
 use Rattle.swap_digraph.specs.Deal.{most_arcs, most_parties}
-use Rattle.swap_digraph.specs.Graph.{ends_in}
+use Rattle.swap_digraph.specs.Graph.{resolve_all_ends}
 use Rattle.swap_job.specs.Roles.{is_conforming}
 use Rattle.swap_job.specs.declared.job.Role.{Role}
 use Rattle.swap_job.specs.declared.job.Role.TheVariants.{Conforming, Manual}
@@ -12,8 +12,8 @@ use Rattle.swap_job.specs.declared.job.Purpose.{Purpose}
 use Rattle.swap_job.specs.declared.job.Purpose.TheVariants.{Audit}
 use Rattle.swap_job.specs.declared.job.Finish.TheVariants.{Stop}
 use Rattle.refusals.specs.declared.reason.Reason.{Reason}
-use Rattle.offer_fields.specs.Fields.{object_of}
-use Rattle.offer_header.specs.Raw.{raw_of, IsModeOf}
+use Rattle.offer_fields.specs.Fields.{parse_data}
+use Rattle.offer_header.specs.Raw.{raw_of, IsVersionMode}
 use Rattle.offer_header.specs.declared.raw.RawHeader.{RawHeader}
 use Rattle.offer_header.specs.Names.{numbered_of, AreNames, AreLeaders}
 use Rattle.offer_header.specs.Limits.{limited_of}
@@ -27,19 +27,19 @@ placed_of line h = do
   Ok h
 
 -- the header that fields give
-abbrev pub header_by : (List ℕ → Bool) → Purpose → ℕ → RawHeader → Result Header Reason
-header_by has purpose line raw = do
+abbrev pub resolve_header : (List ℕ → Bool) → Purpose → ℕ → RawHeader → Result Header Reason
+resolve_header has purpose line raw = do
   numbered ← numbered_of has line raw
   h ← limited_of purpose line raw numbered
   placed_of line h
 
 -- The header that a line gives, or the first reason why it is refused: all fields come before all names, all names before all limits, and these
 -- before where the moves of scripts stand.
-unfoldable pub header_of : (List ℕ → Bool) → Purpose → ℕ → List ℕ → Result Header Reason
-header_of has purpose line text = do
-  d ← object_of line text
+unfoldable pub parse_whole_header : (List ℕ → Bool) → Purpose → ℕ → List ℕ → Result Header Reason
+parse_whole_header has purpose line text = do
+  d ← parse_data line text
   raw ← raw_of purpose line d
-  header_by has purpose line raw
+  resolve_header has purpose line raw
 
 -- The keys have a row per party and a key per lock in hashkeys mode, and are none in timelocks mode.
 abbrev pub HasKeysFor : Mode → ℕ → ℕ → List (List (List ℕ)) → Type 0
@@ -48,7 +48,7 @@ HasKeysFor Hashkeys parties locks keys = (length keys ≡ parties) × ((p : ℕ)
 
 -- A header's lists are as long as its version, names, arcs and leaders ask, its numbers are in their ranges, and its mode is one of its version.
 pub record IsHeaderWithin (h : Header) : Type 0 where
-  pub mode : IsModeOf h.version h.mode
+  pub mode : IsVersionMode h.version h.mode
   pub start : (1 ≤ h.start) × (h.start ≤ 1000)
   pub delta : (1 ≤ h.delta) × (h.delta ≤ 100)
   pub bound : (1 ≤ h.bound) × (h.bound ≤ 64)
@@ -58,8 +58,8 @@ pub record IsHeaderWithin (h : Header) : Type 0 where
   pub conforming : h.conforming ≡ map is_conforming h.roles
   pub seeds : length h.seeds ≡ length h.names
   pub arcs : (2 ≤ length h.arcs) × (length h.arcs ≤ most_arcs h.version)
-  pub from : (a : ℕ) → a < length h.arcs → (ends_in h.arcs a).from < length h.names
-  pub to : (a : ℕ) → a < length h.arcs → (ends_in h.arcs a).to < length h.names
+  pub from : (a : ℕ) → a < length h.arcs → (resolve_all_ends h.arcs a).from < length h.names
+  pub to : (a : ℕ) → a < length h.arcs → (resolve_all_ends h.arcs a).to < length h.names
   pub amounts : length h.amounts ≡ length h.arcs
   pub amount : (a : ℕ) → a < length h.arcs → (1 ≤ slice_index h.amounts a) × (slice_index h.amounts a ≤ 10 ^ 12)
   pub timelocks : length h.timelocks ≡ length h.arcs

@@ -5,16 +5,16 @@ use Rattle.swap_digraph.specs.declared.arc_ends.ArcEnds.{ArcEnds}
 use Rattle.swap_digraph.specs.declared.deal.Mode.{Mode}
 use Rattle.swap_digraph.specs.declared.deal.Mode.TheVariants.{Timelocks, Hashkeys}
 use Rattle.swap_digraph.specs.declared.deal.Version.{Version}
-use Rattle.swap_digraph.specs.Deal.{most_arcs, most_parties, path_limit_of}
+use Rattle.swap_digraph.specs.Deal.{most_arcs, most_parties, version_path_limit}
 use Rattle.swap_job.specs.Roles.{IsHeld, is_conforming}
 use Rattle.swap_job.specs.declared.job.Purpose.{Purpose}
 use Rattle.swap_job.specs.declared.job.Role.{Role}
 use Rattle.swap_job.specs.declared.job.Role.TheVariants as kinds
 use Rattle.offer_moves.specs.declared.moves.Sizes.{Sizes}
 use Rattle.offer_moves.specs.declared.raw.RawMove.{RawMove}
-use Rattle.offer_moves.specs.Moves.{move_of}
+use Rattle.offer_moves.specs.Moves.{parse_move}
 use Rattle.refusals.specs.declared.reason.Reason.{Reason}
-use Rattle.offer_fields.specs.Limits.{number_within, within, digest_of}
+use Rattle.offer_fields.specs.Limits.{ranged_number, within, to_digest}
 use Rattle.offer_fields.specs.Lists.{each_of}
 use Rattle.offer_header.specs.Raw.{is_plain}
 use Rattle.offer_header.specs.declared.raw.RawActor.{RawActor}
@@ -34,7 +34,7 @@ use Rattle.offer_header.specs.declared.header.Header.{Header}
 
 abbrev pub seed_or_none : ℕ → Option (List ℕ) → Result (Option (List ℕ)) Reason
 seed_or_none line None = Ok None
-seed_or_none line (Some text) = digest_of line (codes "seed") text >>= λ seed. Ok (Some seed)
+seed_or_none line (Some text) = to_digest line (codes "seed") text >>= λ seed. Ok (Some seed)
 
 unfoldable pub checked_seed : ℕ → RawParty → Result (Option (List ℕ)) Reason
 checked_seed line p = seed_or_none line p.seed
@@ -43,7 +43,7 @@ checked_seed line p = seed_or_none line p.seed
 unfoldable pub script_role : Sizes → List (List ℕ) → ℕ → List RawMove → Result Role Reason
 script_role sizes names line raws = do
   u ← within line (codes "script") 0 1000 (length raws)
-  moves ← each_of (move_of sizes names line) raws
+  moves ← each_of (parse_move sizes names line) raws
   Ok (kinds.Script moves)
 
 -- how a party acts
@@ -54,45 +54,45 @@ checked_role sizes names line (Script raws) = script_role sizes names line raws
 checked_role sizes names line (Strategy name) = Ok (kinds.Strategy name)
 
 -- how a party acts, and then its seed
-unfoldable pub acting_of : Sizes → List (List ℕ) → ℕ → RawParty → Result Acting Reason
-acting_of sizes names line p = do
+unfoldable pub parse_acting : Sizes → List (List ℕ) → ℕ → RawParty → Result Acting Reason
+parse_acting sizes names line p = do
   role ← checked_role sizes names line p.actor
   seed ← checked_seed line p
   Ok (record { role = role; seed = seed })
 
-unfoldable pub parties_of : Version → Sizes → List (List ℕ) → ℕ → List RawParty → Result (List Acting) Reason
-parties_of version sizes names line parties = do
+unfoldable pub count_parties : Version → Sizes → List (List ℕ) → ℕ → List RawParty → Result (List Acting) Reason
+count_parties version sizes names line parties = do
   u ← within line (codes "parties") 2 (most_parties version) (length parties)
-  each_of (acting_of sizes names line) parties
+  each_of (parse_acting sizes names line) parties
 
 -- and so is that of each role
 abbrev pub HoldsEach : (List ℕ → Bool) → List Role → Type 0
 HoldsEach has roles = All (IsHeld has) roles
 
 -- what the moves of a header's scripts may name: an arc, a lock, and a path of its version
-abbrev pub sizes_in : RawHeader → Sizes
-sizes_in h = record { arcs = length h.arcs; locks = length h.leaders; path = path_limit_of h.version }
+abbrev pub header_sizes : RawHeader → Sizes
+header_sizes h = record { arcs = length h.arcs; locks = length h.leaders; path = version_path_limit h.version }
 
 -- ---- arcs
 
-unfoldable pub terms_of : ℕ → RawArc → Result ArcTerms Reason
-terms_of line a = do
+unfoldable pub stated_terms : ℕ → RawArc → Result ArcTerms Reason
+stated_terms line a = do
   u ← within line (codes "amount") 1 (10 ^ 12) a.amount
-  timelock ← number_within line (codes "timelock") 0 1000000 a.timelock
+  timelock ← ranged_number line (codes "timelock") 0 1000000 a.timelock
   Ok (record { amount = a.amount; timelock = timelock })
 
-unfoldable pub all_terms_of : Version → ℕ → List RawArc → Result (List ArcTerms) Reason
-all_terms_of version line arcs = do
+unfoldable pub parse_all_terms : Version → ℕ → List RawArc → Result (List ArcTerms) Reason
+parse_all_terms version line arcs = do
   u ← within line (codes "arcs") 2 (most_arcs version) (length arcs)
-  each_of (terms_of line) arcs
+  each_of (stated_terms line) arcs
 
 abbrev pub arc_ends : Ends → ArcEnds
 arc_ends e = record { from = e.from; to = e.to }
 
 -- ---- leaders and keys
 
-unfoldable pub hashlock_of : ℕ → RawLeader → Result (List ℕ) Reason
-hashlock_of line l = digest_of line (codes "hashlock") l.hashlock
+unfoldable pub lock_hashlock : ℕ → RawLeader → Result (List ℕ) Reason
+lock_hashlock line l = to_digest line (codes "hashlock") l.hashlock
 
 -- what stands in the place of a hashlock or a key that isn't stated
 abbrev pub no_digest : List ℕ
@@ -102,17 +102,17 @@ no_digest = replicate 32 0
 abbrev pub no_digests : List RawLeader → List (List ℕ)
 no_digests leaders = map (λ l. no_digest) leaders
 
-abbrev pub hashlocks_by : (plain : Bool) → ℕ → List RawLeader → Result (List (List ℕ)) Reason
-hashlocks_by true line leaders = Ok (no_digests leaders)
-hashlocks_by false line leaders = each_of (hashlock_of line) leaders
+abbrev pub read_hashlocks : (plain : Bool) → ℕ → List RawLeader → Result (List (List ℕ)) Reason
+read_hashlocks true line leaders = Ok (no_digests leaders)
+read_hashlocks false line leaders = each_of (lock_hashlock line) leaders
 
 unfoldable pub hashlocks_of : (plain : Bool) → ℕ → List RawLeader → Result (List (List ℕ)) Reason
 hashlocks_of plain line leaders = do
   u ← within line (codes "leaders") 1 8 (length leaders)
-  hashlocks_by plain line leaders
+  read_hashlocks plain line leaders
 
 unfoldable pub key_digest : ℕ → List ℕ → Result (List ℕ) Reason
-key_digest line text = digest_of line (codes "keys") text
+key_digest line text = to_digest line (codes "keys") text
 
 -- a party's keys, one for each lock
 unfoldable pub party_keys_of : ℕ → ℕ → RawRow → Result (List (List ℕ)) Reason
@@ -126,19 +126,19 @@ stated_keys_of line h = do
   u ← within line (codes "keys") (length h.parties) (length h.parties) (length h.keys)
   each_of (party_keys_of (length h.leaders) line) h.keys
 
-abbrev pub keys_by : (plain : Bool) → ℕ → RawHeader → Result (List (List (List ℕ))) Reason
-keys_by true line h = Ok (map (λ p. no_digests h.leaders) h.parties)
-keys_by false line h = stated_keys_of line h
+abbrev pub read_listed_keys : (plain : Bool) → ℕ → RawHeader → Result (List (List (List ℕ))) Reason
+read_listed_keys true line h = Ok (map (λ p. no_digests h.leaders) h.parties)
+read_listed_keys false line h = stated_keys_of line h
 
-abbrev pub keys_of : Mode → (plain : Bool) → ℕ → RawHeader → Result (List (List (List ℕ))) Reason
-keys_of Timelocks plain line h = Ok []
-keys_of Hashkeys plain line h = keys_by plain line h
+abbrev pub derived_keys : Mode → (plain : Bool) → ℕ → RawHeader → Result (List (List (List ℕ))) Reason
+derived_keys Timelocks plain line h = Ok []
+derived_keys Hashkeys plain line h = read_listed_keys plain line h
 
 -- ---- the header
 
 -- the header of these parts
-abbrev pub header_with : Purpose → RawHeader → Numbered → ℕ → ℕ → ℕ → List Acting → List ArcTerms → List (List ℕ) → List (List (List ℕ)) → Header
-header_with purpose raw numbered start delta bound parties terms hashlocks keys = record {
+abbrev pub assemble_header : Purpose → RawHeader → Numbered → ℕ → ℕ → ℕ → List Acting → List ArcTerms → List (List ℕ) → List (List (List ℕ)) → Header
+assemble_header purpose raw numbered start delta bound parties terms hashlocks keys = record {
   purpose = purpose;
   version = raw.version;
   mode = raw.mode;
@@ -161,15 +161,15 @@ header_with purpose raw numbered start delta bound parties terms hashlocks keys 
 -- the lists of a header within their limits, after its numbers
 abbrev pub parts_of : Purpose → ℕ → RawHeader → Numbered → (start delta bound : ℕ) → Result Header Reason
 parts_of purpose line raw numbered start delta bound = do
-  parties ← parties_of raw.version (sizes_in raw) numbered.names line raw.parties
-  terms ← all_terms_of raw.version line raw.arcs
+  parties ← count_parties raw.version (header_sizes raw) numbered.names line raw.parties
+  terms ← parse_all_terms raw.version line raw.arcs
   hashlocks ← hashlocks_of (is_plain purpose) line raw.leaders
-  keys ← keys_of raw.mode (is_plain purpose) line raw
-  Ok (header_with purpose raw numbered start delta bound parties terms hashlocks keys)
+  keys ← derived_keys raw.mode (is_plain purpose) line raw
+  Ok (assemble_header purpose raw numbered start delta bound parties terms hashlocks keys)
 
 unfoldable pub limited_of : Purpose → ℕ → RawHeader → Numbered → Result Header Reason
 limited_of purpose line raw numbered = do
-  start ← number_within line (codes "start") 1 1000 raw.start
-  delta ← number_within line (codes "delta") 1 100 raw.delta
-  bound ← number_within line (codes "bound") 1 64 raw.bound
+  start ← ranged_number line (codes "start") 1 1000 raw.start
+  delta ← ranged_number line (codes "delta") 1 100 raw.delta
+  bound ← ranged_number line (codes "bound") 1 64 raw.bound
   parts_of purpose line raw numbered start delta bound

@@ -93,21 +93,21 @@ leader_step line names seen l = do
   if list_any (λ n. nat_eq n k) seen then Err (Duplicate line l.party) else Ok (seen ++ k ∷ [])
 
 -- the ends of the arcs, and then the leaders, where these are the names
-abbrev pub numbered_by : ℕ → List (List ℕ) → RawHeader → Result Numbered Reason
-numbered_by line names h = do
+abbrev pub resolve_numbers : ℕ → List (List ℕ) → RawHeader → Result Numbered Reason
+resolve_numbers line names h = do
   arcs ← each_of (named_ends line names) h.arcs
   leaders ← steps (leader_step line names) [] h.leaders
   Ok (record { names = names; arcs = arcs; leaders = leaders })
 
 -- the names in their order, each with that of the party's strategy or those in its script, which are among all, and then what has numbers
-abbrev pub numbered_among : (List ℕ → Bool) → ℕ → List (List ℕ) → RawHeader → Result Numbered Reason
-numbered_among has line all h = do
+abbrev pub assign_checked_numbers : (List ℕ → Bool) → ℕ → List (List ℕ) → RawHeader → Result Numbered Reason
+assign_checked_numbers has line all h = do
   names ← steps (name_step has line all) [] h.parties
-  numbered_by line names h
+  resolve_numbers line names h
 
 -- the names in their order, those in scripts among the names that the header states, then the ends of the arcs, then the leaders
 unfoldable pub numbered_of : (List ℕ → Bool) → ℕ → RawHeader → Result Numbered Reason
-numbered_of has line h = numbered_among has line (names_stated h.parties) h
+numbered_of has line h = assign_checked_numbers has line (names_stated h.parties) h
 
 -- A name of 1 to 16 bytes of ASCII.
 pub record IsName (name : List ℕ) : Type 0 where

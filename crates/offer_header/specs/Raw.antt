@@ -75,15 +75,15 @@ actor_of_word line word =
     else if bytes_eq word (codes "manual") then Ok Manual
     else Err (WrongKind line (codes "actor"))
 
-abbrev pub actor_of : ℕ → Purpose → Data → Result RawActor Reason
-actor_of line purpose d =
+abbrev pub new_actor : ℕ → Purpose → Data → Result RawActor Reason
+new_actor line purpose d =
     if is_some (as_object d) then object_actor line purpose d
     else member_text_of line (codes "actor") d >>= λ word. actor_of_word line word
 
 -- an actor that is absent conforms
 abbrev pub actor_or_conforming : ℕ → Purpose → Option Data → Result RawActor Reason
 actor_or_conforming line purpose None = Ok Conforming
-actor_or_conforming line purpose (Some d) = actor_of line purpose d
+actor_or_conforming line purpose (Some d) = new_actor line purpose d
 
 unfoldable pub actor_at : ℕ → Purpose → Data → Result RawActor Reason
 actor_at line purpose d = actor_or_conforming line purpose (get (codes "actor") d)
@@ -97,8 +97,8 @@ abbrev pub party_fields : Purpose → List (List ℕ)
 party_fields Audit = codes "actor" ∷ codes "name" ∷ []
 party_fields _ = codes "actor" ∷ codes "name" ∷ codes "seed" ∷ []
 
-unfoldable pub party_of : Reading → ℕ → Data → Result RawParty Reason
-party_of reading line d = do
+unfoldable pub parse_party : Reading → ℕ → Data → Result RawParty Reason
+parse_party reading line d = do
   o ← object_at line (codes "parties") d
   name ← text_at line (codes "name") d
   actor ← actor_at line reading.purpose d
@@ -117,8 +117,8 @@ arc_fields true = codes "amount" ∷ codes "from" ∷ codes "timelock" ∷ codes
 arc_fields false = codes "amount" ∷ codes "from" ∷ codes "to" ∷ []
 
 -- the arc between these, by its numbers
-abbrev pub arc_between : (stated : Bool) → ℕ → Data → (from to : List ℕ) → Result RawArc Reason
-arc_between stated line d from to = do
+abbrev pub read_arc : (stated : Bool) → ℕ → Data → (from to : List ℕ) → Result RawArc Reason
+read_arc stated line d from to = do
   amount ← number_at line (codes "amount") d
   timelock ← timelock_at line stated d
   u ← only line (arc_fields stated) d
@@ -129,7 +129,7 @@ raw_arc_of reading line d = do
   o ← object_at line (codes "arcs") d
   from ← text_at line (codes "from") d
   to ← text_at line (codes "to") d
-  arc_between (states_timelocks reading.purpose reading.mode) line d from to
+  read_arc (states_timelocks reading.purpose reading.mode) line d from to
 
 -- ---- leaders and keys
 
@@ -149,20 +149,20 @@ raw_leader_of reading line d = do
   u ← only line (leader_fields (is_plain reading.purpose)) d
   Ok (record { party = party; hashlock = hashlock })
 
-unfoldable pub row_of : ℕ → Data → Result RawRow Reason
-row_of line d = do
+unfoldable pub parse_row : ℕ → Data → Result RawRow Reason
+parse_row line d = do
   items ← kind line (codes "keys") (as_array d)
   texts ← each (member_text_of line (codes "keys")) items
   Ok (record { texts = texts })
 
 abbrev pub keys_at : ℕ → (stated : Bool) → Data → Result (List RawRow) Reason
-keys_at line stated d = if stated then list_at line (codes "keys") (row_of line) d else Ok []
+keys_at line stated d = if stated then list_at line (codes "keys") (parse_row line) d else Ok []
 
 -- ---- the header
 
 -- there are two versions
-abbrev pub version_of : ℕ → ℕ → Result Version Reason
-version_of line n =
+abbrev pub parse_version : ℕ → ℕ → Result Version Reason
+parse_version line n =
     if n == 1 then Ok One
     else if n == 2 then Ok Two
     else Err (WrongKind line (codes "swap"))
@@ -170,27 +170,27 @@ version_of line n =
 unfoldable pub version_at : ℕ → Data → Result Version Reason
 version_at line d = do
   n ← number_at line (codes "swap") d
-  version_of line n
+  parse_version line n
 
-abbrev pub mode_of : List ℕ → Option Mode
-mode_of word =
+abbrev pub parse_mode : List ℕ → Option Mode
+parse_mode word =
     if bytes_eq word (codes "timelocks") then Some Timelocks
     else if bytes_eq word (codes "hashkeys") then Some Hashkeys
     else None
 
 -- version 2 has hashkeys alone
-abbrev pub mode_for : ℕ → Version → Mode → Result Mode Reason
-mode_for line One mode = Ok mode
-mode_for line Two Timelocks = Err (WrongKind line (codes "mode"))
-mode_for line Two Hashkeys = Ok Hashkeys
+abbrev pub checked_mode : ℕ → Version → Mode → Result Mode Reason
+checked_mode line One mode = Ok mode
+checked_mode line Two Timelocks = Err (WrongKind line (codes "mode"))
+checked_mode line Two Hashkeys = Ok Hashkeys
 
 unfoldable pub stated_mode_at : ℕ → Data → Result Mode Reason
-stated_mode_at line d = word_at line (codes "mode") mode_of d
+stated_mode_at line d = word_at line (codes "mode") parse_mode d
 
 unfoldable pub mode_at : ℕ → Version → Data → Result Mode Reason
 mode_at line version d = do
   mode ← stated_mode_at line d
-  mode_for line version mode
+  checked_mode line version mode
 
 -- what a run does after its last event: it stops, or it goes on to a fair finish
 abbrev pub finish_of_word : ℕ → List ℕ → Result Finish Reason
@@ -232,7 +232,7 @@ header_fields _ keyed = job_fields keyed
 -- the lists of a header and what stands beside them, after its version, its mode and its numbers
 abbrev pub lists_of : Purpose → Front → ℕ → Data → Result RawHeader Reason
 lists_of purpose front line d = do
-  parties ← list_at line (codes "parties") (party_of (record { purpose = purpose; mode = front.mode }) line) d
+  parties ← list_at line (codes "parties") (parse_party (record { purpose = purpose; mode = front.mode }) line) d
   arcs ← list_at line (codes "arcs") (raw_arc_of (record { purpose = purpose; mode = front.mode }) line) d
   leaders ← list_at line (codes "leaders") (raw_leader_of (record { purpose = purpose; mode = front.mode }) line) d
   keys ← keys_at line (states_keys purpose front.mode) d
@@ -261,9 +261,9 @@ raw_of purpose line d = do
   lists_of purpose (record { version = version; mode = mode; start = start; delta = delta; bound = bound }) line d
 
 -- The mode is one of the version: version 2 has hashkeys alone.
-abbrev pub IsModeOf : Version → Mode → Type 0
-IsModeOf One mode = Unit {0}
-IsModeOf Two mode = mode ≡ Hashkeys
+abbrev pub IsVersionMode : Version → Mode → Type 0
+IsVersionMode One mode = Unit {0}
+IsVersionMode Two mode = mode ≡ Hashkeys
 
 -- With hashkeys no arc has a timelock.
 abbrev pub IsUntimed : RawHeader → Type 0

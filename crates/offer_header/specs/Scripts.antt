@@ -3,14 +3,14 @@ use Rattle.std.specs.Prelude.{◌≡◌, ℕ, ◌+◌, Bool, List, [], ◌∷◌
 use Rattle.swap_base.specs.Fault.{◌>>=◌, steps}
 use Rattle.swap_digraph.specs.declared.arc_ends.ArcEnds.{ArcEnds}
 use Rattle.swap_digraph.specs.declared.deal.Deal.{Deal}
-use Rattle.swap_digraph.specs.Deal.{IsWellSized, path_limit_of}
+use Rattle.swap_digraph.specs.Deal.{IsWellSized, version_path_limit}
 use Rattle.swap_job.specs.Crafted.{Seeds}
-use Rattle.swap_job.specs.Roles.{script_of}
+use Rattle.swap_job.specs.Roles.{role_script}
 use Rattle.swap_job.specs.declared.job.Role.{Role}
 use Rattle.swap_job.specs.declared.job.Role.TheVariants.{Script}
 use Rattle.refusals.specs.declared.reason.Reason.{Reason}
 use Rattle.offer_moves.specs.Kept.{CanStand, IsMade}
-use Rattle.offer_moves.specs.Moves.{sizes_of}
+use Rattle.offer_moves.specs.Moves.{deal_sizes}
 use Rattle.offer_moves.specs.Placed.{placed}
 use Rattle.offer_header.specs.declared.header.Header.{Header}
 
@@ -32,11 +32,11 @@ scripts_placed line h = roles_placed h.arcs h.conforming line 0 h.roles
 
 -- every move of a header's scripts stands on one of its arcs, and its parties craft
 abbrev pub AllStand : Header → Type 0
-AllStand h = All (λ r. All (CanStand (length h.arcs) (length h.conforming)) (script_of r)) h.roles
+AllStand h = All (λ r. All (CanStand (length h.arcs) (length h.conforming)) (role_script r)) h.roles
 
 -- every move of a header's scripts is made for its deal, whatever else the deal says
 abbrev pub AreMade : ℕ → Header → Type 0
 AreMade line h =
     (d : Deal) (seeds : Seeds) → IsWellSized d
-    → sizes_of d ≡ record { arcs = length h.arcs; locks = length h.leaders; path = path_limit_of h.version }
-    → d.graph.n ≡ length h.names → All (λ r. All (IsMade d seeds line) (script_of r)) h.roles
+    → deal_sizes d ≡ record { arcs = length h.arcs; locks = length h.leaders; path = version_path_limit h.version }
+    → d.graph.n ≡ length h.names → All (λ r. All (IsMade d seeds line) (role_script r)) h.roles

@@ -3,11 +3,11 @@
 ghost use Rattle.serde_json.specs.View.{view};
 ghost use Rattle.swap_base.specs.Fault.{Gives};
 ghost use Rattle.offer_fields.specs.Fields.{only};
-ghost use Rattle.offer_header.specs.Raw.{version_at, mode_for, stated_mode_at, mode_at, states_keys, keys_at, finish_of_word, stated_finish_at, finish_at};
+ghost use Rattle.offer_header.specs.Raw.{version_at, checked_mode, stated_mode_at, mode_at, states_keys, keys_at, finish_of_word, stated_finish_at, finish_at};
 ghost use Rattle.offer_header.specs.Raw.{transcript_fields, job_fields, header_fields, lists_of, raw_of};
 
 use crate::raw::{Front, RawHeader, RawRow, Reading};
-use offer_fields::{list_in, number_in, only_in, optional_text_in, text_in};
+use offer_fields::{allow_only, number_in, read_list, read_optional_text, read_text_field};
 use refusals::{OfferFault, wrong_kind};
 use serde_json::Value;
 use std::alloc::Global;
@@ -16,7 +16,7 @@ use swap_digraph::{Mode, Version};
 use swap_job::{Finish, Purpose};
 
 #[tactic(auto, unfolding(crate::specs::Raw::version_at))]
-fn version_in(alloc: Global, line: u32, object: &Value) -> Result<Version, OfferFault>
+fn read_version(alloc: Global, line: u32, object: &Value) -> Result<Version, OfferFault>
     ensures { Gives (λ v. v) result (version_at line (view object.now)) }
 {
     let number = number_in(alloc, line, "swap", object)?;
@@ -30,10 +30,10 @@ fn version_in(alloc: Global, line: u32, object: &Value) -> Result<Version, Offer
 }
 
 #[tactic(auto, unfolding(crate::specs::Raw::stated_mode_at))]
-fn stated_mode_in(alloc: Global, line: u32, object: &Value) -> Result<Mode, OfferFault>
+fn read_stated_mode(alloc: Global, line: u32, object: &Value) -> Result<Mode, OfferFault>
     ensures { Gives (λ m. m) result (stated_mode_at line (view object.now)) }
 {
-    match text_in(alloc, line, "mode", object)? {
+    match read_text_field(alloc, line, "mode", object)? {
         "timelocks" => Ok(Mode::Timelocks),
         "hashkeys" => Ok(Mode::Hashkeys),
         _ => Err(wrong_kind(alloc, line, b"mode")),
@@ -41,8 +41,8 @@ fn stated_mode_in(alloc: Global, line: u32, object: &Value) -> Result<Mode, Offe
 }
 
 /// Version 2 has hashkeys alone.
-fn mode_for(alloc: Global, line: u32, version: Version, mode: Mode) -> Result<Mode, OfferFault>
-    ensures { Gives (λ m. m) result (mode_for line version mode) }
+fn checked_mode(alloc: Global, line: u32, version: Version, mode: Mode) -> Result<Mode, OfferFault>
+    ensures { Gives (λ m. m) result (checked_mode line version mode) }
 {
     match (version, mode) {
         (Version::One, mode) => Ok(mode),
@@ -52,14 +52,14 @@ fn mode_for(alloc: Global, line: u32, version: Version, mode: Mode) -> Result<Mo
 }
 
 #[tactic(auto, unfolding(crate::specs::Raw::mode_at))]
-fn mode_in(alloc: Global, line: u32, version: Version, object: &Value) -> Result<Mode, OfferFault>
+fn read_mode(alloc: Global, line: u32, version: Version, object: &Value) -> Result<Mode, OfferFault>
     ensures { Gives (λ m. m) result (mode_at line version (view object.now)) }
 {
-    let mode = stated_mode_in(alloc, line, object)?;
-    mode_for(alloc, line, version, mode)
+    let mode = read_stated_mode(alloc, line, object)?;
+    checked_mode(alloc, line, version, mode)
 }
 
-fn keys_in<'v>(
+fn read_keys<'v>(
     alloc: Global,
     reading: Reading,
     line: u32,
@@ -68,7 +68,7 @@ fn keys_in<'v>(
     ensures { Gives (λ k. k) result (keys_at line (states_keys reading.purpose reading.mode) (view object.now)) }
 {
     if reading.states_keys() {
-        list_in(alloc, reading, line, "keys", object)
+        read_list(alloc, reading, line, "keys", object)
     } else {
         Ok(Listed::empty(alloc))
     }
@@ -85,16 +85,16 @@ fn finish_of_word(alloc: Global, line: u32, word: &str) -> Result<Finish, OfferF
 }
 
 #[tactic(auto, unfolding(crate::specs::Raw::stated_finish_at))]
-fn stated_finish_in(alloc: Global, line: u32, object: &Value) -> Result<Finish, OfferFault>
+fn read_stated_finish(alloc: Global, line: u32, object: &Value) -> Result<Finish, OfferFault>
     ensures { Gives (λ f. f) result (stated_finish_at line (view object.now)) }
 {
-    match optional_text_in(alloc, line, "finish", object)? {
+    match read_optional_text(alloc, line, "finish", object)? {
         None => Ok(Finish::Stop),
         Some(word) => finish_of_word(alloc, line, word),
     }
 }
 
-fn finish_in(
+fn parse_finish(
     alloc: Global,
     line: u32,
     purpose: Purpose,
@@ -104,7 +104,7 @@ fn finish_in(
 {
     match purpose {
         Purpose::Audit => Ok(Finish::Stop),
-        _ => stated_finish_in(alloc, line, object),
+        _ => read_stated_finish(alloc, line, object),
     }
 }
 
@@ -120,12 +120,12 @@ fn only_transcript_fields(
         let allowed = [
             "arcs", "bound", "delta", "keys", "leaders", "mode", "parties", "start", "swap",
         ];
-        return only_in(alloc, line, &allowed, object);
+        return allow_only(alloc, line, &allowed, object);
     }
     let allowed = [
         "arcs", "bound", "delta", "leaders", "mode", "parties", "start", "swap",
     ];
-    only_in(alloc, line, &allowed, object)
+    allow_only(alloc, line, &allowed, object)
 }
 
 fn only_job_fields(alloc: Global, line: u32, keyed: bool, object: &Value) -> Result<(), OfferFault>
@@ -136,12 +136,12 @@ fn only_job_fields(alloc: Global, line: u32, keyed: bool, object: &Value) -> Res
             "arcs", "bound", "delta", "finish", "keys", "leaders", "mode", "parties", "start",
             "swap",
         ];
-        return only_in(alloc, line, &allowed, object);
+        return allow_only(alloc, line, &allowed, object);
     }
     let allowed = [
         "arcs", "bound", "delta", "finish", "leaders", "mode", "parties", "start", "swap",
     ];
-    only_in(alloc, line, &allowed, object)
+    allow_only(alloc, line, &allowed, object)
 }
 
 fn only_header_fields(
@@ -160,7 +160,7 @@ fn only_header_fields(
 }
 
 /// The lists of the header and what stands beside them, or the first reason why a field is refused.
-fn lists_in<'v>(
+fn read_lists<'v>(
     alloc: Global,
     purpose: Purpose,
     front: Front,
@@ -173,11 +173,11 @@ fn lists_in<'v>(
         purpose,
         mode: front.mode,
     };
-    let parties = list_in(alloc, reading, line, "parties", object)?;
-    let arcs = list_in(alloc, reading, line, "arcs", object)?;
-    let leaders = list_in(alloc, reading, line, "leaders", object)?;
-    let keys = keys_in(alloc, reading, line, object)?;
-    let finish = finish_in(alloc, line, purpose, object)?;
+    let parties = read_list(alloc, reading, line, "parties", object)?;
+    let arcs = read_list(alloc, reading, line, "arcs", object)?;
+    let leaders = read_list(alloc, reading, line, "leaders", object)?;
+    let keys = read_keys(alloc, reading, line, object)?;
+    let finish = parse_finish(alloc, line, purpose, object)?;
     only_header_fields(alloc, line, purpose, reading.states_keys(), object)?;
     Ok(RawHeader {
         version: front.version,
@@ -195,7 +195,7 @@ fn lists_in<'v>(
 
 /// The fields of the header, or the first reason why one is refused.
 #[tactic(auto, unfolding(crate::specs::Raw::raw_of))]
-pub(crate) fn raw_in<'v>(
+pub(crate) fn parse_raw<'v>(
     alloc: Global,
     purpose: Purpose,
     line: u32,
@@ -203,13 +203,13 @@ pub(crate) fn raw_in<'v>(
 ) -> Result<RawHeader<'v>, OfferFault>
     ensures { Gives (λ h. h) result (raw_of purpose line (view object.now)) }
 {
-    let version = version_in(alloc, line, object)?;
+    let version = read_version(alloc, line, object)?;
     let front = Front {
         version,
-        mode: mode_in(alloc, line, version, object)?,
+        mode: read_mode(alloc, line, version, object)?,
         start: number_in(alloc, line, "start", object)?,
         delta: number_in(alloc, line, "delta", object)?,
         bound: number_in(alloc, line, "bound", object)?,
     };
-    lists_in(alloc, purpose, front, line, object)
+    read_lists(alloc, purpose, front, line, object)
 }

@@ -2,17 +2,17 @@
 
 ghost use Rattle.std.specs.Prelude.{◌≡◌, ◌≤◌, Ok, IfOk, length};
 ghost use Rattle.swap_base.specs.Fault.{Gives};
-ghost use Rattle.offer_header.specs.Header.{header_by, header_of, placed_of, AreSimpleFor, IsUntoldFor, IsHeaderWithin};
+ghost use Rattle.offer_header.specs.Header.{resolve_header, parse_whole_header, placed_of, AreSimpleFor, IsUntoldFor, IsHeaderWithin};
 ghost use Rattle.offer_header.specs.Limits.{HoldsEach};
 ghost use Rattle.offer_header.specs.Names.{has_strategy};
 ghost use Rattle.offer_header.specs.Scripts.{scripts_placed, AllStand, AreMade};
 
-use crate::fields::raw_in;
-use crate::limits::limited_in;
-use crate::names::numbered_in;
+use crate::fields::parse_raw;
+use crate::limits::apply_limits;
+use crate::names::assign_numbers;
 use crate::raw::RawHeader;
 use crate::scripts::check_scripts;
-use offer_fields::object_in;
+use offer_fields::parse_object;
 use refusals::OfferFault;
 use std::alloc::Global;
 use swap_base::{ByteText, Digest, Listed, PartyId};
@@ -64,30 +64,30 @@ fn placed(line: u32, header: Header) -> Result<Header, OfferFault>
 }
 
 /// The header that fields give, or the first reason why one is refused.
-fn header_by(
+fn resolve_header(
     alloc: Global,
     strategies: &[ByteText],
     purpose: Purpose,
     line: u32,
     raw: &RawHeader<'_>,
 ) -> Result<Header, OfferFault>
-    ensures { Gives (λ h. h) result (header_by (has_strategy strategies.now) purpose line raw.now) }
+    ensures { Gives (λ h. h) result (resolve_header (has_strategy strategies.now) purpose line raw.now) }
 {
-    let numbered = numbered_in(alloc, strategies, line, raw)?;
-    let header = limited_in(alloc, purpose, line, raw, numbered)?;
+    let numbered = assign_numbers(alloc, strategies, line, raw)?;
+    let header = apply_limits(alloc, purpose, line, raw, numbered)?;
     placed(line, header)
 }
 
 /// The header that the line's text gives, or the first reason why it is refused; its strategies are among these.
-#[tactic(auto, unfolding(crate::specs::Header::header_of))]
-pub fn header_in(
+#[tactic(auto, unfolding(crate::specs::Header::parse_whole_header))]
+pub fn parse_header(
     alloc: Global,
     strategies: &[ByteText],
     purpose: Purpose,
     line: u32,
     text: &[u8],
 ) -> Result<Header, OfferFault>
-    ensures exact { Gives (λ h. h) result (header_of (has_strategy strategies.now) purpose line text.now) }
+    ensures exact { Gives (λ h. h) result (parse_whole_header (has_strategy strategies.now) purpose line text.now) }
     ensures purpose { IfOk result (λ h. h.purpose ≡ purpose) }
     ensures within { IfOk result (λ h. IsHeaderWithin h) }
     ensures untold { IfOk result (λ h. IsUntoldFor purpose h) }
@@ -96,7 +96,7 @@ pub fn header_in(
     ensures placed { IfOk result (λ h. scripts_placed line h ≡ Ok tt) }
     ensures made { IfOk result (AreMade line) }
 {
-    let object = object_in(alloc, line, text)?;
-    let raw = raw_in(alloc, purpose, line, &object)?;
-    header_by(alloc, strategies, purpose, line, &raw)
+    let object = parse_object(alloc, line, text)?;
+    let raw = parse_raw(alloc, purpose, line, &object)?;
+    resolve_header(alloc, strategies, purpose, line, &raw)
 }

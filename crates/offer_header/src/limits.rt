@@ -5,18 +5,18 @@ ghost use Rattle.swap_base.specs.Fault.{Gives};
 ghost use Rattle.swap_job.specs.Roles.{is_conforming};
 ghost use Rattle.refusals.specs.declared.reason.Reason.{Reason};
 ghost use Rattle.offer_fields.specs.Lists.{each_of};
-ghost use Rattle.offer_moves.specs.Moves.{move_of};
-ghost use Rattle.offer_header.specs.Limits.{checked_seed, script_role, checked_role, acting_of, parties_of, sizes_in, terms_of, all_terms_of, arc_ends};
-ghost use Rattle.offer_header.specs.Limits.{hashlock_of, no_digests, hashlocks_by};
-ghost use Rattle.offer_header.specs.Limits.{hashlocks_of, key_digest, party_keys_of, stated_keys_of, keys_by, keys_of, header_with, parts_of, limited_of};
+ghost use Rattle.offer_moves.specs.Moves.{parse_move};
+ghost use Rattle.offer_header.specs.Limits.{checked_seed, script_role, checked_role, parse_acting, count_parties, header_sizes, stated_terms, parse_all_terms, arc_ends};
+ghost use Rattle.offer_header.specs.Limits.{lock_hashlock, no_digests, read_hashlocks};
+ghost use Rattle.offer_header.specs.Limits.{hashlocks_of, key_digest, party_keys_of, stated_keys_of, read_listed_keys, derived_keys, assemble_header, parts_of, limited_of};
 ghost use Rattle.offer_header.specs.Names.{AreEnds, AreLeaders, IsNumbered};
 
 use crate::header::Header;
 use crate::names::{Ends, Numbered};
 use crate::raw::{RawActor, RawArc, RawHeader, RawLeader, RawParty, RawRow, is_plain};
-use crate::versions::{most_arcs, most_parties, path_limit_of};
-use offer_fields::{TextRef, digest_in, number_within, within};
-use offer_moves::{RawMove, Sizes, move_of};
+use crate::versions::{most_arcs, most_parties, version_path_limit};
+use offer_fields::{TextRef, parse_digest, ranged_number, within};
+use offer_moves::{RawMove, Sizes, parse_move};
 use refusals::{OfferFault, Reason};
 use std::alloc::Global;
 use swap_base::{ByteText, Digest, Listed, NoMemory, PartyId, TryCopy};
@@ -62,7 +62,7 @@ pub struct Acting {
 }
 
 #[tactic(auto, using(offer_fields::proofs::Lists::goes_on, offer_fields::proofs::Lists::ends, offer_fields::proofs::Lists::is_done))]
-fn moves_in(
+fn parse_moves(
     alloc: Global,
     sizes: Sizes,
     names: &[ByteText],
@@ -70,11 +70,11 @@ fn moves_in(
     moves: &[RawMove<'_>],
 ) -> Result<MoveList, OfferFault>
     requires names { length names.now ≤ 256 }
-    ensures { Gives (λ l. l) result (each_of (move_of sizes names.now line) moves.now) }
+    ensures { Gives (λ l. l) result (each_of (parse_move sizes names.now line) moves.now) }
 {
     let mut list = Vec::new(alloc);
     for mv in moves {
-        list.push(move_of(alloc, sizes, names, line, mv)?)?;
+        list.push(parse_move(alloc, sizes, names, line, mv)?)?;
     }
     Ok(Listed::new(list))
 }
@@ -92,11 +92,11 @@ fn script_role(
     ensures { Gives (λ r. r) result (script_role sizes names.now line moves.now) }
 {
     within(alloc, line, "script", 0, 1000, moves.len() as u64)?;
-    let moves = moves_in(alloc, sizes, names, line, moves)?;
+    let moves = parse_moves(alloc, sizes, names, line, moves)?;
     Ok(Role::Script(moves))
 }
 
-fn role_of(
+fn party_role(
     alloc: Global,
     sizes: Sizes,
     names: &[ByteText],
@@ -115,17 +115,17 @@ fn role_of(
 }
 
 #[tactic(auto, unfolding(crate::specs::Limits::checked_seed))]
-fn seed_of(alloc: Global, line: u32, party: &RawParty<'_>) -> Result<Option<Digest>, OfferFault>
+fn make_seed(alloc: Global, line: u32, party: &RawParty<'_>) -> Result<Option<Digest>, OfferFault>
     ensures { Gives (λ s. s) result (checked_seed line party.now) }
 {
     match &party.seed {
         None => Ok(None),
-        Some(text) => Ok(Some(digest_in(alloc, line, "seed", text.as_slice())?)),
+        Some(text) => Ok(Some(parse_digest(alloc, line, "seed", text.as_slice())?)),
     }
 }
 
-#[tactic(auto, unfolding(crate::specs::Limits::acting_of))]
-fn acting_of(
+#[tactic(auto, unfolding(crate::specs::Limits::parse_acting))]
+fn parse_acting(
     alloc: Global,
     sizes: Sizes,
     names: &[ByteText],
@@ -133,10 +133,10 @@ fn acting_of(
     party: &RawParty<'_>,
 ) -> Result<Acting, OfferFault>
     requires names { length names.now ≤ 256 }
-    ensures { Gives (λ a. a) result (acting_of sizes names.now line party.now) }
+    ensures { Gives (λ a. a) result (parse_acting sizes names.now line party.now) }
 {
-    let role = role_of(alloc, sizes, names, line, &party.actor)?;
-    let seed = seed_of(alloc, line, party)?;
+    let role = party_role(alloc, sizes, names, line, &party.actor)?;
+    let seed = make_seed(alloc, line, party)?;
     Ok(Acting { role, seed })
 }
 
@@ -149,22 +149,22 @@ fn each_acting(
     parties: &[RawParty<'_>],
 ) -> Result<Listed<Acting>, OfferFault>
     requires names { length names.now ≤ 256 }
-    ensures { Gives (λ l. l) result (each_of (acting_of sizes names.now line) parties.now) }
+    ensures { Gives (λ l. l) result (each_of (parse_acting sizes names.now line) parties.now) }
 {
     let mut list = Vec::new(alloc);
     for party in parties {
-        list.push(acting_of(alloc, sizes, names, line, party)?)?;
+        list.push(parse_acting(alloc, sizes, names, line, party)?)?;
     }
     Ok(Listed::new(list))
 }
 
 impl<'v> Limited<(), ArcTerms> for RawArc<'v> {
-    ghost limited_of = { λ _. terms_of };
+    ghost limited_of = { λ _. stated_terms };
 
-    #[tactic(auto, unfolding(crate::specs::Limits::terms_of))]
+    #[tactic(auto, unfolding(crate::specs::Limits::stated_terms))]
     fn limit(&self, alloc: Global, _context: (), line: u32) -> Result<ArcTerms, OfferFault> {
         within(alloc, line, "amount", 1, 1_000_000_000_000, self.amount)?;
-        let timelock = number_within(alloc, line, "timelock", 0, 1_000_000, self.timelock)?;
+        let timelock = ranged_number(alloc, line, "timelock", 0, 1_000_000, self.timelock)?;
         Ok(ArcTerms {
             amount: self.amount,
             timelock,
@@ -173,11 +173,11 @@ impl<'v> Limited<(), ArcTerms> for RawArc<'v> {
 }
 
 impl<'v> Limited<(), Digest> for RawLeader<'v> {
-    ghost limited_of = { λ _. hashlock_of };
+    ghost limited_of = { λ _. lock_hashlock };
 
-    #[tactic(auto, unfolding(crate::specs::Limits::hashlock_of))]
+    #[tactic(auto, unfolding(crate::specs::Limits::lock_hashlock))]
     fn limit(&self, alloc: Global, _context: (), line: u32) -> Result<Digest, OfferFault> {
-        digest_in(alloc, line, "hashlock", self.hashlock.as_slice())
+        parse_digest(alloc, line, "hashlock", self.hashlock.as_slice())
     }
 }
 
@@ -186,7 +186,7 @@ impl<'v> Limited<(), Digest> for TextRef<'v> {
 
     #[tactic(auto, unfolding(crate::specs::Limits::key_digest))]
     fn limit(&self, alloc: Global, _context: (), line: u32) -> Result<Digest, OfferFault> {
-        digest_in(alloc, line, "keys", self.as_slice())
+        parse_digest(alloc, line, "keys", self.as_slice())
     }
 }
 
@@ -202,8 +202,8 @@ impl<'v> Limited<usize, Listed<Digest>> for RawRow<'v> {
 }
 
 /// How each party acts, and its seed. There are as many names as parties.
-#[tactic(auto, unfolding(crate::specs::Limits::parties_of))]
-fn parties_in(
+#[tactic(auto, unfolding(crate::specs::Limits::count_parties))]
+fn read_parties(
     alloc: Global,
     version: Version,
     sizes: Sizes,
@@ -212,21 +212,21 @@ fn parties_in(
     parties: &[RawParty<'_>],
 ) -> Result<Listed<Acting>, OfferFault>
     requires names { length names.now ≡ length parties.now }
-    ensures { Gives (λ l. l) result (parties_of version sizes names.now line parties.now) }
+    ensures { Gives (λ l. l) result (count_parties version sizes names.now line parties.now) }
 {
     let most = most_parties(version);
     within(alloc, line, "parties", 2, most, parties.len() as u64)?;
     each_acting(alloc, sizes, names, line, parties)
 }
 
-#[tactic(auto, unfolding(crate::specs::Limits::all_terms_of))]
-fn terms_in(
+#[tactic(auto, unfolding(crate::specs::Limits::parse_all_terms))]
+fn parse_terms(
     alloc: Global,
     version: Version,
     line: u32,
     arcs: &[RawArc<'_>],
 ) -> Result<Listed<ArcTerms>, OfferFault>
-    ensures { Gives (λ t. t) result (all_terms_of version line arcs.now) }
+    ensures { Gives (λ t. t) result (parse_all_terms version line arcs.now) }
 {
     within(
         alloc,
@@ -249,13 +249,13 @@ fn no_digests(alloc: Global, leaders: &[RawLeader<'_>]) -> Result<Listed<Digest>
     Ok(Listed::new(list))
 }
 
-fn hashlocks_by(
+fn read_hashlocks(
     alloc: Global,
     plain: bool,
     line: u32,
     leaders: &[RawLeader<'_>],
 ) -> Result<Listed<Digest>, OfferFault>
-    ensures { Gives (λ h. h) result (hashlocks_by plain line leaders.now) }
+    ensures { Gives (λ h. h) result (read_hashlocks plain line leaders.now) }
 {
     if plain {
         Ok(no_digests(alloc, leaders)?)
@@ -265,7 +265,7 @@ fn hashlocks_by(
 }
 
 #[tactic(auto, unfolding(crate::specs::Limits::hashlocks_of))]
-fn hashlocks_in(
+fn parse_hashlocks(
     alloc: Global,
     plain: bool,
     line: u32,
@@ -274,7 +274,7 @@ fn hashlocks_in(
     ensures { Gives (λ h. h) result (hashlocks_of plain line leaders.now) }
 {
     within(alloc, line, "leaders", 1, 8, leaders.len() as u64)?;
-    hashlocks_by(alloc, plain, line, leaders)
+    read_hashlocks(alloc, plain, line, leaders)
 }
 
 fn no_keys(
@@ -292,7 +292,7 @@ fn no_keys(
 }
 
 #[tactic(auto, unfolding(crate::specs::Limits::stated_keys_of))]
-fn stated_keys_in(
+fn read_stated_keys(
     alloc: Global,
     line: u32,
     raw: &RawHeader<'_>,
@@ -304,32 +304,32 @@ fn stated_keys_in(
     limit_each(alloc, raw.leaders.len(), line, raw.keys.as_slice())
 }
 
-fn keys_by(
+fn read_listed_keys(
     alloc: Global,
     plain: bool,
     line: u32,
     raw: &RawHeader<'_>,
 ) -> Result<Listed<Listed<Digest>>, OfferFault>
-    ensures { Gives (λ k. k) result (keys_by plain line raw.now) }
+    ensures { Gives (λ k. k) result (read_listed_keys plain line raw.now) }
 {
     if plain {
         Ok(no_keys(alloc, raw.parties.as_slice(), raw.leaders.as_slice())?)
     } else {
-        stated_keys_in(alloc, line, raw)
+        read_stated_keys(alloc, line, raw)
     }
 }
 
-fn keys_in(
+fn read_keys(
     alloc: Global,
     plain: bool,
     line: u32,
     raw: &RawHeader<'_>,
 ) -> Result<Listed<Listed<Digest>>, OfferFault>
-    ensures { Gives (λ k. k) result (keys_of raw.now.mode plain line raw.now) }
+    ensures { Gives (λ k. k) result (derived_keys raw.now.mode plain line raw.now) }
 {
     match raw.mode {
         Mode::Timelocks => Ok(Listed::empty(alloc)),
-        Mode::Hashkeys => keys_by(alloc, plain, line, raw),
+        Mode::Hashkeys => read_listed_keys(alloc, plain, line, raw),
     }
 }
 
@@ -342,7 +342,7 @@ fn conforms(role: &Role) -> bool
     }
 }
 
-fn conforming_in(alloc: Global, parties: &[Acting]) -> Result<Listed<bool>, NoMemory>
+fn conforming_flags(alloc: Global, parties: &[Acting]) -> Result<Listed<bool>, NoMemory>
     ensures { IfOk result (λ l. l ≡ map (λ p. is_conforming p.role) parties.now) }
 {
     let mut list = Vec::new(alloc);
@@ -352,7 +352,7 @@ fn conforming_in(alloc: Global, parties: &[Acting]) -> Result<Listed<bool>, NoMe
     Ok(Listed::new(list))
 }
 
-fn seeds_in(alloc: Global, parties: &[Acting]) -> Result<Listed<Option<Digest>>, NoMemory>
+fn party_seeds(alloc: Global, parties: &[Acting]) -> Result<Listed<Option<Digest>>, NoMemory>
     ensures { IfOk result (λ l. l ≡ map (λ p. p.seed) parties.now) }
 {
     let mut list = Vec::new(alloc);
@@ -363,7 +363,7 @@ fn seeds_in(alloc: Global, parties: &[Acting]) -> Result<Listed<Option<Digest>>,
 }
 
 /// The roles, without taking memory for their moves.
-fn roles_in(alloc: Global, parties: Listed<Acting>) -> Result<Listed<Role>, NoMemory>
+fn take_roles(alloc: Global, parties: Listed<Acting>) -> Result<Listed<Role>, NoMemory>
     ensures { IfOk result (λ l. l ≡ map (λ p. p.role) parties) }
 {
     let mut list = Vec::new(alloc);
@@ -373,21 +373,21 @@ fn roles_in(alloc: Global, parties: Listed<Acting>) -> Result<Listed<Role>, NoMe
     Ok(Listed::new(list))
 }
 
-fn amounts_in(alloc: Global, terms: &[ArcTerms]) -> Result<Listed<u64>, NoMemory>
+fn term_amounts(alloc: Global, terms: &[ArcTerms]) -> Result<Listed<u64>, NoMemory>
     ensures { IfOk result (λ l. l ≡ map (λ t. t.amount) terms.now) }
 {
     let list: Vec<u64> = terms.iter().map(|t| t.amount).collect(alloc)?;
     Ok(Listed::new(list))
 }
 
-fn timelocks_in(alloc: Global, terms: &[ArcTerms]) -> Result<Listed<u32>, NoMemory>
+fn term_timelocks(alloc: Global, terms: &[ArcTerms]) -> Result<Listed<u32>, NoMemory>
     ensures { IfOk result (λ l. l ≡ map (λ t. t.timelock) terms.now) }
 {
     let list: Vec<u32> = terms.iter().map(|t| t.timelock).collect(alloc)?;
     Ok(Listed::new(list))
 }
 
-fn arc_ends_in(alloc: Global, arcs: &[Ends]) -> Result<Listed<ArcEnds>, NoMemory>
+fn collect_arc_ends(alloc: Global, arcs: &[Ends]) -> Result<Listed<ArcEnds>, NoMemory>
     requires { AreEnds 256 arcs.now }
     ensures { IfOk result (λ l. l ≡ map arc_ends arcs.now) }
 {
@@ -400,7 +400,7 @@ fn arc_ends_in(alloc: Global, arcs: &[Ends]) -> Result<Listed<ArcEnds>, NoMemory
     Ok(Listed::new(list))
 }
 
-fn leaders_in(alloc: Global, leaders: &[usize]) -> Result<Listed<PartyId>, NoMemory>
+fn number_leaders(alloc: Global, leaders: &[usize]) -> Result<Listed<PartyId>, NoMemory>
     requires { AreLeaders 256 leaders.now }
     ensures { IfOk result (λ l. l ≡ leaders.now) }
 {
@@ -412,13 +412,13 @@ fn leaders_in(alloc: Global, leaders: &[usize]) -> Result<Listed<PartyId>, NoMem
 }
 
 /// What the moves of a header's scripts may name.
-fn sizes_in(raw: &RawHeader<'_>) -> Sizes
-    ensures { result ≡ sizes_in raw.now }
+fn header_sizes(raw: &RawHeader<'_>) -> Sizes
+    ensures { result ≡ header_sizes raw.now }
 {
     Sizes {
         arcs: raw.arcs.len(),
         locks: raw.leaders.len(),
-        path: path_limit_of(raw.version),
+        path: version_path_limit(raw.version),
     }
 }
 
@@ -430,14 +430,14 @@ struct Acted {
     seeds: Listed<Option<Digest>>,
 }
 
-fn acted_in(alloc: Global, parties: Listed<Acting>) -> Result<Acted, NoMemory>
+fn collect_acted(alloc: Global, parties: Listed<Acting>) -> Result<Acted, NoMemory>
     ensures roles { IfOk result (λ a. a.roles ≡ map (λ p. p.role) parties) }
     ensures conforming { IfOk result (λ a. a.conforming ≡ map (λ p. is_conforming p.role) parties) }
     ensures seeds { IfOk result (λ a. a.seeds ≡ map (λ p. p.seed) parties) }
 {
-    let conforming = conforming_in(alloc, parties.as_slice())?;
-    let seeds = seeds_in(alloc, parties.as_slice())?;
-    let roles = roles_in(alloc, parties)?;
+    let conforming = conforming_flags(alloc, parties.as_slice())?;
+    let seeds = party_seeds(alloc, parties.as_slice())?;
+    let roles = take_roles(alloc, parties)?;
     Ok(Acted {
         roles,
         conforming,
@@ -452,12 +452,12 @@ struct Priced {
     timelocks: Listed<u32>,
 }
 
-fn priced_in(alloc: Global, terms: &[ArcTerms]) -> Result<Priced, NoMemory>
+fn priced_terms(alloc: Global, terms: &[ArcTerms]) -> Result<Priced, NoMemory>
     ensures amounts { IfOk result (λ p. p.amounts ≡ map (λ t. t.amount) terms.now) }
     ensures timelocks { IfOk result (λ p. p.timelocks ≡ map (λ t. t.timelock) terms.now) }
 {
-    let amounts = amounts_in(alloc, terms)?;
-    let timelocks = timelocks_in(alloc, terms)?;
+    let amounts = term_amounts(alloc, terms)?;
+    let timelocks = term_timelocks(alloc, terms)?;
     Ok(Priced { amounts, timelocks })
 }
 
@@ -477,7 +477,7 @@ struct Digests {
 }
 
 /// The header of these parts.
-fn header_with(
+fn assemble_header(
     alloc: Global,
     purpose: Purpose,
     raw: &RawHeader<'_>,
@@ -489,13 +489,13 @@ fn header_with(
 ) -> Result<Header, NoMemory>
     requires ends { AreEnds 256 numbered.arcs }
     requires leaders { AreLeaders 256 numbered.leaders }
-    ensures { IfOk result (λ h. h ≡ header_with purpose raw.now numbered bounds.start bounds.delta bounds.bound parties terms
+    ensures { IfOk result (λ h. h ≡ assemble_header purpose raw.now numbered bounds.start bounds.delta bounds.bound parties terms
         digests.hashlocks digests.keys) }
 {
-    let acted = acted_in(alloc, parties)?;
-    let priced = priced_in(alloc, terms.as_slice())?;
-    let arcs = arc_ends_in(alloc, numbered.arcs.as_slice())?;
-    let leaders = leaders_in(alloc, numbered.leaders.as_slice())?;
+    let acted = collect_acted(alloc, parties)?;
+    let priced = priced_terms(alloc, terms.as_slice())?;
+    let arcs = collect_arc_ends(alloc, numbered.arcs.as_slice())?;
+    let leaders = number_leaders(alloc, numbered.leaders.as_slice())?;
     Ok(Header {
         purpose,
         version: raw.version,
@@ -519,7 +519,7 @@ fn header_with(
 
 /// The lists of the header within their limits.
 #[tactic(auto, using(crate::proofs::Limited::small_ends, crate::proofs::Limited::small_leaders))]
-fn parts_in(
+fn check_parts(
     alloc: Global,
     purpose: Purpose,
     line: u32,
@@ -532,8 +532,8 @@ fn parts_in(
 {
     let plain = is_plain(purpose);
     let names = numbered.names.as_slice();
-    let sizes = sizes_in(raw);
-    let parties = parties_in(
+    let sizes = header_sizes(raw);
+    let parties = read_parties(
         alloc,
         raw.version,
         sizes,
@@ -541,18 +541,18 @@ fn parts_in(
         line,
         raw.parties.as_slice(),
     )?;
-    let terms = terms_in(alloc, raw.version, line, raw.arcs.as_slice())?;
-    let hashlocks = hashlocks_in(alloc, plain, line, raw.leaders.as_slice())?;
-    let keys = keys_in(alloc, plain, line, raw)?;
+    let terms = parse_terms(alloc, raw.version, line, raw.arcs.as_slice())?;
+    let hashlocks = parse_hashlocks(alloc, plain, line, raw.leaders.as_slice())?;
+    let keys = read_keys(alloc, plain, line, raw)?;
     let digests = Digests { hashlocks, keys };
-    Ok(header_with(
+    Ok(assemble_header(
         alloc, purpose, raw, numbered, bounds, parties, terms, digests,
     )?)
 }
 
 /// The header within its limits, or the first reason why a number, a list or a text is refused.
 #[tactic(auto, unfolding(crate::specs::Limits::limited_of))]
-pub(crate) fn limited_in(
+pub(crate) fn apply_limits(
     alloc: Global,
     purpose: Purpose,
     line: u32,
@@ -563,9 +563,9 @@ pub(crate) fn limited_in(
     ensures { Gives (λ h. h) result (limited_of purpose line raw.now numbered) }
 {
     let bounds = Bounds {
-        start: number_within(alloc, line, "start", 1, 1000, raw.start)?,
-        delta: number_within(alloc, line, "delta", 1, 100, raw.delta)?,
-        bound: number_within(alloc, line, "bound", 1, 64, raw.bound)?,
+        start: ranged_number(alloc, line, "start", 1, 1000, raw.start)?,
+        delta: ranged_number(alloc, line, "delta", 1, 100, raw.delta)?,
+        bound: ranged_number(alloc, line, "bound", 1, 64, raw.bound)?,
     };
-    parts_in(alloc, purpose, line, raw, numbered, bounds)
+    check_parts(alloc, purpose, line, raw, numbered, bounds)
 }

@@ -8,7 +8,7 @@ ghost use Rattle.offer_fields.specs.Lists.{each_of};
 ghost use Rattle.offer_fields.specs.Names.{party_of_name};
 ghost use Rattle.offer_header.specs.Names.{has_strategy, strategy_known};
 ghost use Rattle.offer_header.specs.Names.{is_name, is_name_byte, known, all_known, move_known, actor_known, name_added, name_step};
-ghost use Rattle.offer_header.specs.Names.{with_name, names_stated, named_ends, leader_step, numbered_among, numbered_by, numbered_of};
+ghost use Rattle.offer_header.specs.Names.{with_name, names_stated, named_ends, leader_step, assign_checked_numbers, resolve_numbers, numbered_of};
 
 use crate::raw::{RawActor, RawArc, RawHeader, RawLeader, RawParty};
 use indexmap::IndexSet;
@@ -248,7 +248,7 @@ fn add_parties<'h>(
 }
 
 #[tactic(auto, using(swap_base::proofs::Steps::position_map), unfolding(offer_fields::specs::Names::party_of_name))]
-fn number_among(
+fn name_number(
     alloc: Global,
     line: u32,
     names: &IndexSet<&[u8]>,
@@ -264,7 +264,7 @@ fn number_among(
 
 /// The ends of an arc by their parties' numbers.
 #[tactic(auto, unfolding(crate::specs::Names::named_ends))]
-pub fn ends_of(
+pub fn resolve_arc_ends(
     alloc: Global,
     line: u32,
     names: &IndexSet<&[u8]>,
@@ -272,12 +272,12 @@ pub fn ends_of(
 ) -> Result<Ends, OfferFault>
     ensures { Gives (λ e. e) result (named_ends line (map (λ k. k.now) names.now.keys) arc.now) }
 {
-    let from = number_among(alloc, line, names, arc.from.as_slice())?;
-    let to = number_among(alloc, line, names, arc.to.as_slice())?;
+    let from = name_number(alloc, line, names, arc.from.as_slice())?;
+    let to = name_number(alloc, line, names, arc.to.as_slice())?;
     Ok(Ends { from, to })
 }
 
-fn ends_in(
+fn resolve_all_ends(
     alloc: Global,
     line: u32,
     names: &IndexSet<&[u8]>,
@@ -287,7 +287,7 @@ fn ends_in(
 {
     let mut list = Vec::new(alloc);
     for arc in arcs {
-        list.push(ends_of(alloc, line, names, arc)?)?;
+        list.push(resolve_arc_ends(alloc, line, names, arc)?)?;
     }
     Ok(Listed::new(list))
 }
@@ -302,7 +302,7 @@ fn add_leader(
 ) -> Result<(), OfferFault>
     ensures { Gives (λ _. numbers.new.items) result (leader_step line (map (λ k. k.now) names.now.keys) numbers.old.items leader.now) }
 {
-    let number = number_among(alloc, line, names, leader.party.as_slice())?;
+    let number = name_number(alloc, line, names, leader.party.as_slice())?;
     if numbers.contains(&number) {
         return Err(duplicate(alloc, line, leader.party.as_slice()));
     }
@@ -311,7 +311,7 @@ fn add_leader(
 }
 
 #[tactic(auto, using(swap_base::proofs::Steps::steps_on, swap_base::proofs::Steps::steps_fail, swap_base::proofs::Steps::steps_done))]
-fn leaders_in(
+fn number_leaders(
     alloc: Global,
     line: u32,
     names: &IndexSet<&[u8]>,
@@ -338,16 +338,16 @@ pub fn kept_names(alloc: Global, names: &IndexSet<&[u8]>) -> Result<Listed<ByteT
 }
 
 /// The arcs and the leaders by the numbers of their names, or the first reason why a name is refused.
-fn numbered_by(
+fn resolve_numbers(
     alloc: Global,
     line: u32,
     names: &IndexSet<&[u8]>,
     header: &RawHeader<'_>,
 ) -> Result<Numbered, OfferFault>
-    ensures { Gives (λ n. n) result (numbered_by line (map (λ k. k.now) names.now.keys) header.now) }
+    ensures { Gives (λ n. n) result (resolve_numbers line (map (λ k. k.now) names.now.keys) header.now) }
 {
-    let arcs = ends_in(alloc, line, names, header.arcs.as_slice())?;
-    let leaders = leaders_in(alloc, line, names, header.leaders.as_slice())?;
+    let arcs = resolve_all_ends(alloc, line, names, header.arcs.as_slice())?;
+    let leaders = number_leaders(alloc, line, names, header.leaders.as_slice())?;
     Ok(Numbered {
         names: kept_names(alloc, names)?,
         arcs,
@@ -356,7 +356,7 @@ fn numbered_by(
 }
 
 /// The same, where all names that the header states are known.
-fn numbered_among(
+fn assign_checked_numbers(
     alloc: Global,
     strategies: &[ByteText],
     line: u32,
@@ -364,7 +364,7 @@ fn numbered_among(
     header: &RawHeader<'_>,
 ) -> Result<Numbered, OfferFault>
     ensures { Gives (λ n. n) result
-        (numbered_among (has_strategy strategies.now) line (map (λ k. k.now) all.now.keys) header.now) }
+        (assign_checked_numbers (has_strategy strategies.now) line (map (λ k. k.now) all.now.keys) header.now) }
 {
     let mut names = IndexSet::new(alloc);
     add_parties(
@@ -375,12 +375,12 @@ fn numbered_among(
         &mut names,
         header.parties.as_slice(),
     )?;
-    numbered_by(alloc, line, &names, header)
+    resolve_numbers(alloc, line, &names, header)
 }
 
 /// The names of the header and the numbers that stand for them, or the first reason why a name is refused.
 #[tactic(auto, unfolding(crate::specs::Names::numbered_of))]
-pub(crate) fn numbered_in(
+pub(crate) fn assign_numbers(
     alloc: Global,
     strategies: &[ByteText],
     line: u32,
@@ -390,5 +390,5 @@ pub(crate) fn numbered_in(
 {
     let mut all = IndexSet::new(alloc);
     state_names(&mut all, header.parties.as_slice())?;
-    numbered_among(alloc, strategies, line, &all, header)
+    assign_checked_numbers(alloc, strategies, line, &all, header)
 }

@@ -4,14 +4,14 @@ ghost use Rattle.std.specs.Prelude.{codes};
 ghost use Rattle.serde_json.specs.View.{view};
 ghost use Rattle.swap_base.specs.Fault.{Gives};
 ghost use Rattle.offer_fields.specs.Fields.{only, optional_text_at, text_at};
-ghost use Rattle.offer_header.specs.Raw.{script_at, strategy_at, planned_actor, object_actor, actor_of_word, actor_at, seed_at, party_fields, party_of};
-ghost use Rattle.offer_header.specs.Raw.{timelock_at, arc_fields, arc_between, raw_arc_of};
-ghost use Rattle.offer_header.specs.Raw.{hashlock_at, leader_fields, raw_leader_of, row_of};
+ghost use Rattle.offer_header.specs.Raw.{script_at, strategy_at, planned_actor, object_actor, actor_of_word, actor_at, seed_at, party_fields, parse_party};
+ghost use Rattle.offer_header.specs.Raw.{timelock_at, arc_fields, read_arc, raw_arc_of};
+ghost use Rattle.offer_header.specs.Raw.{hashlock_at, leader_fields, raw_leader_of, parse_row};
 
 use crate::raw::{RawActor, RawArc, RawLeader, RawParty, RawRow, Reading, is_plain};
 use offer_fields::{
-    Member, TextRef, is_object, list_in, member_text, number_in, only_in, optional_text_in,
-    text_in, texts_in,
+    Member, TextRef, allow_only, is_object, member_text, number_in, read_list, read_optional_text,
+    read_text_field, read_texts,
 };
 use refusals::{OfferFault, wrong_kind};
 use serde_json::Value;
@@ -21,21 +21,25 @@ use swap_job::Purpose;
 
 /// A script, by its moves.
 #[tactic(auto, unfolding(crate::specs::Raw::script_at))]
-fn script_in<'v>(alloc: Global, line: u32, object: &'v Value) -> Result<RawActor<'v>, OfferFault>
+fn read_script<'v>(alloc: Global, line: u32, object: &'v Value) -> Result<RawActor<'v>, OfferFault>
     ensures { Gives (λ a. a) result (script_at line (view object.now)) }
 {
-    let moves = list_in(alloc, (), line, "script", object)?;
-    only_in(alloc, line, &["script"], object)?;
+    let moves = read_list(alloc, (), line, "script", object)?;
+    allow_only(alloc, line, &["script"], object)?;
     Ok(RawActor::Script(moves))
 }
 
 /// A strategy, by its name.
 #[tactic(auto, unfolding(crate::specs::Raw::strategy_at))]
-fn strategy_in<'v>(alloc: Global, line: u32, object: &'v Value) -> Result<RawActor<'v>, OfferFault>
+fn read_strategy<'v>(
+    alloc: Global,
+    line: u32,
+    object: &'v Value,
+) -> Result<RawActor<'v>, OfferFault>
     ensures { Gives (λ a. a) result (strategy_at line (view object.now)) }
 {
-    let name = text_in(alloc, line, "strategy", object)?;
-    only_in(alloc, line, &["strategy"], object)?;
+    let name = read_text_field(alloc, line, "strategy", object)?;
+    allow_only(alloc, line, &["strategy"], object)?;
     let name = ByteText::from_slice(alloc, name.as_bytes())?;
     Ok(RawActor::Strategy(name))
 }
@@ -48,9 +52,9 @@ fn planned_actor<'v>(
     ensures { Gives (λ a. a) result (planned_actor line (view object.now)) }
 {
     if object.get("script").is_some() {
-        return script_in(alloc, line, object);
+        return read_script(alloc, line, object);
     }
-    strategy_in(alloc, line, object)
+    read_strategy(alloc, line, object)
 }
 
 fn object_actor<'v>(
@@ -78,7 +82,7 @@ fn actor_of_word<'v>(alloc: Global, line: u32, word: &str) -> Result<RawActor<'v
 }
 
 #[tactic(auto, unfolding(crate::specs::Raw::actor_at))]
-fn actor_in<'v>(
+fn read_actor<'v>(
     alloc: Global,
     line: u32,
     purpose: Purpose,
@@ -96,20 +100,20 @@ fn actor_in<'v>(
     actor_of_word(alloc, line, word)
 }
 
-fn stated_seed_in<'v>(
+fn read_stated_seed<'v>(
     alloc: Global,
     line: u32,
     object: &'v Value,
 ) -> Result<Option<TextRef<'v>>, OfferFault>
     ensures { Gives (λ s. s) result (optional_text_at line (codes "seed") (view object.now)) }
 {
-    match optional_text_in(alloc, line, "seed", object)? {
+    match read_optional_text(alloc, line, "seed", object)? {
         None => Ok(None),
         Some(seed) => Ok(Some(TextRef::new(seed.as_bytes()))),
     }
 }
 
-fn seed_in<'v>(
+fn read_seed<'v>(
     alloc: Global,
     line: u32,
     purpose: Purpose,
@@ -119,7 +123,7 @@ fn seed_in<'v>(
 {
     match purpose {
         Purpose::Audit => Ok(None),
-        _ => stated_seed_in(alloc, line, object),
+        _ => read_stated_seed(alloc, line, object),
     }
 }
 
@@ -132,15 +136,15 @@ fn only_party_fields(
     ensures { Gives (λ u. u) result (only line (party_fields purpose) (view object.now)) }
 {
     match purpose {
-        Purpose::Audit => only_in(alloc, line, &["actor", "name"], object),
-        _ => only_in(alloc, line, &["actor", "name", "seed"], object),
+        Purpose::Audit => allow_only(alloc, line, &["actor", "name"], object),
+        _ => allow_only(alloc, line, &["actor", "name", "seed"], object),
     }
 }
 
 impl<'v> Member<'v, Reading> for RawParty<'v> {
-    ghost said = { party_of };
+    ghost said = { parse_party };
 
-    #[tactic(auto, unfolding(crate::specs::Raw::party_of))]
+    #[tactic(auto, unfolding(crate::specs::Raw::parse_party))]
     fn read(
         alloc: Global,
         reading: Reading,
@@ -148,9 +152,9 @@ impl<'v> Member<'v, Reading> for RawParty<'v> {
         value: &'v Value,
     ) -> Result<RawParty<'v>, OfferFault> {
         is_object(alloc, line, "parties", value)?;
-        let name = text_in(alloc, line, "name", value)?;
-        let actor = actor_in(alloc, line, reading.purpose, value)?;
-        let seed = seed_in(alloc, line, reading.purpose, value)?;
+        let name = read_text_field(alloc, line, "name", value)?;
+        let actor = read_actor(alloc, line, reading.purpose, value)?;
+        let seed = read_seed(alloc, line, reading.purpose, value)?;
         only_party_fields(alloc, line, reading.purpose, value)?;
         Ok(RawParty {
             name: TextRef::new(name.as_bytes()),
@@ -160,7 +164,7 @@ impl<'v> Member<'v, Reading> for RawParty<'v> {
     }
 }
 
-fn timelock_in(alloc: Global, line: u32, stated: bool, object: &Value) -> Result<u64, OfferFault>
+fn read_timelock(alloc: Global, line: u32, stated: bool, object: &Value) -> Result<u64, OfferFault>
     ensures { Gives (λ n. n) result (timelock_at line stated (view object.now)) }
 {
     if stated {
@@ -174,13 +178,13 @@ fn only_arc_fields(alloc: Global, line: u32, stated: bool, object: &Value) -> Re
     ensures { Gives (λ u. u) result (only line (arc_fields stated) (view object.now)) }
 {
     if stated {
-        return only_in(alloc, line, &["amount", "from", "timelock", "to"], object);
+        return allow_only(alloc, line, &["amount", "from", "timelock", "to"], object);
     }
-    only_in(alloc, line, &["amount", "from", "to"], object)
+    allow_only(alloc, line, &["amount", "from", "to"], object)
 }
 
 /// The arc between parties of these names.
-fn arc_between<'v>(
+fn read_arc<'v>(
     alloc: Global,
     stated: bool,
     line: u32,
@@ -188,10 +192,10 @@ fn arc_between<'v>(
     from: &'v str,
     to: &'v str,
 ) -> Result<RawArc<'v>, OfferFault>
-    ensures { Gives (λ a. a) result (arc_between stated line (view object.now) from.now to.now) }
+    ensures { Gives (λ a. a) result (read_arc stated line (view object.now) from.now to.now) }
 {
     let amount = number_in(alloc, line, "amount", object)?;
-    let timelock = timelock_in(alloc, line, stated, object)?;
+    let timelock = read_timelock(alloc, line, stated, object)?;
     only_arc_fields(alloc, line, stated, object)?;
     Ok(RawArc {
         from: TextRef::new(from.as_bytes()),
@@ -212,24 +216,24 @@ impl<'v> Member<'v, Reading> for RawArc<'v> {
         value: &'v Value,
     ) -> Result<RawArc<'v>, OfferFault> {
         is_object(alloc, line, "arcs", value)?;
-        let from = text_in(alloc, line, "from", value)?;
-        let to = text_in(alloc, line, "to", value)?;
-        arc_between(alloc, reading.states_timelocks(), line, value, from, to)
+        let from = read_text_field(alloc, line, "from", value)?;
+        let to = read_text_field(alloc, line, "to", value)?;
+        read_arc(alloc, reading.states_timelocks(), line, value, from, to)
     }
 }
 
-fn stated_hashlock_in<'v>(
+fn read_stated_hashlock<'v>(
     alloc: Global,
     line: u32,
     object: &'v Value,
 ) -> Result<TextRef<'v>, OfferFault>
     ensures { Gives (λ t. t) result (text_at line (codes "hashlock") (view object.now)) }
 {
-    let hashlock = text_in(alloc, line, "hashlock", object)?;
+    let hashlock = read_text_field(alloc, line, "hashlock", object)?;
     Ok(TextRef::new(hashlock.as_bytes()))
 }
 
-fn hashlock_in<'v>(
+fn read_hashlock<'v>(
     alloc: Global,
     line: u32,
     plain: bool,
@@ -240,7 +244,7 @@ fn hashlock_in<'v>(
     if plain {
         Ok(TextRef::new(&[]))
     } else {
-        stated_hashlock_in(alloc, line, object)
+        read_stated_hashlock(alloc, line, object)
     }
 }
 
@@ -253,9 +257,9 @@ fn only_leader_fields(
     ensures { Gives (λ u. u) result (only line (leader_fields plain) (view object.now)) }
 {
     if plain {
-        return only_in(alloc, line, &["party"], object);
+        return allow_only(alloc, line, &["party"], object);
     }
-    only_in(alloc, line, &["hashlock", "party"], object)
+    allow_only(alloc, line, &["hashlock", "party"], object)
 }
 
 impl<'v> Member<'v, Reading> for RawLeader<'v> {
@@ -269,9 +273,9 @@ impl<'v> Member<'v, Reading> for RawLeader<'v> {
         value: &'v Value,
     ) -> Result<RawLeader<'v>, OfferFault> {
         is_object(alloc, line, "leaders", value)?;
-        let party = text_in(alloc, line, "party", value)?;
+        let party = read_text_field(alloc, line, "party", value)?;
         let plain = is_plain(reading.purpose);
-        let hashlock = hashlock_in(alloc, line, plain, value)?;
+        let hashlock = read_hashlock(alloc, line, plain, value)?;
         only_leader_fields(alloc, line, plain, value)?;
         Ok(RawLeader {
             party: TextRef::new(party.as_bytes()),
@@ -281,9 +285,9 @@ impl<'v> Member<'v, Reading> for RawLeader<'v> {
 }
 
 impl<'v> Member<'v, Reading> for RawRow<'v> {
-    ghost said = { λ _. row_of };
+    ghost said = { λ _. parse_row };
 
-    #[tactic(auto, unfolding(crate::specs::Raw::row_of))]
+    #[tactic(auto, unfolding(crate::specs::Raw::parse_row))]
     fn read(
         alloc: Global,
         _reading: Reading,
@@ -293,7 +297,7 @@ impl<'v> Member<'v, Reading> for RawRow<'v> {
         let Some(values) = value.as_array() else {
             return Err(wrong_kind(alloc, line, b"keys"));
         };
-        let texts = texts_in(alloc, line, "keys", values)?;
+        let texts = read_texts(alloc, line, "keys", values)?;
         Ok(RawRow { texts })
     }
 }

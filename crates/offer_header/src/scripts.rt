@@ -2,7 +2,7 @@
 
 ghost use Rattle.std.specs.Prelude.{◌≤◌, length, All};
 ghost use Rattle.swap_base.specs.Fault.{Gives, steps};
-ghost use Rattle.swap_job.specs.Roles.{script_of};
+ghost use Rattle.swap_job.specs.Roles.{role_script};
 ghost use Rattle.offer_moves.specs.Kept.{CanStand};
 ghost use Rattle.offer_moves.specs.Placed.{placed};
 ghost use Rattle.offer_header.specs.Scripts.{role_placed, roles_placed, scripts_placed, AllStand};
@@ -39,7 +39,7 @@ fn check_role(
     p: PartyId,
     role: &Role,
 ) -> Result<(), OfferFault>
-    requires stand { All (CanStand (length arcs.now) (length conforming.now)) (script_of role.now) }
+    requires stand { All (CanStand (length arcs.now) (length conforming.now)) (role_script role.now) }
     ensures { Gives (λ u. u) result (role_placed arcs.now conforming.now line p role.now) }
 {
     match role {
@@ -57,7 +57,7 @@ fn check_roles(
     roles: &[Role],
 ) -> Result<(), OfferFault>
     requires few { length roles.now ≤ 256 }
-    requires stand { All (λ r. All (CanStand (length arcs.now) (length conforming.now)) (script_of r)) roles.now }
+    requires stand { All (λ r. All (CanStand (length arcs.now) (length conforming.now)) (role_script r)) roles.now }
     ensures { Gives (λ u. u) result (roles_placed arcs.now conforming.now line 0 roles.now) }
 {
     for (p, role) in roles.iter().enumerate() {

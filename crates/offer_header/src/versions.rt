@@ -1,7 +1,7 @@
 //! The limits that a version sets.
 
 ghost use Rattle.std.specs.Prelude.{◌≡◌};
-ghost use Rattle.swap_digraph.specs.Deal.{most_arcs, most_parties, path_limit_of};
+ghost use Rattle.swap_digraph.specs.Deal.{most_arcs, most_parties, version_path_limit};
 
 use swap_digraph::Version;
 
@@ -26,8 +26,8 @@ pub(crate) fn most_arcs(version: Version) -> u64
 }
 
 /// The most parties on a path: 24 in version 1 and 32 in version 2.
-pub(crate) fn path_limit_of(version: Version) -> u64
-    ensures { result ≡ path_limit_of version }
+pub(crate) fn version_path_limit(version: Version) -> u64
+    ensures { result ≡ version_path_limit version }
 {
     match version {
         Version::One => 24,

@@ -8,7 +8,7 @@ use Rattle.swap_base.proofs.Lists.{and_both}
 use Rattle.swap_digraph.specs.declared.deal.Deal.{Deal}
 use Rattle.swap_digraph.specs.Deal.{IsWellSized, party, counterparty, path_limit}
 use Rattle.hashkey_path.specs.declared.hashkey.Hashkey.{Hashkey}
-use Rattle.escrow_core.specs.Terms.{terms_of}
+use Rattle.escrow_core.specs.Terms.{stated_terms}
 use Rattle.swap_job.specs.declared.moves.Move.{Move}
 use Rattle.swap_job.specs.declared.moves.Move.TheVariants.{Publish, Craft, Replay, Raw, Claim, Refund, Transfer, Wait}
 use Rattle.swap_job.specs.Crafted.{Seeds}
@@ -16,44 +16,45 @@ use Rattle.swap_job.specs.Fitting.{IsArc, IsFitting}
 use Rattle.swap_job.specs.Resolved.{move_arc}
 use Rattle.refusals.specs.declared.reason.Reason.TheVariants.{NotAdjacent}
 use Rattle.offer_fields.specs.Lists.{each_of}
-use Rattle.offer_fields.specs.Limits.{number_within, within, digest_of}
+use Rattle.offer_fields.specs.Limits.{ranged_number, within, to_digest}
 use Rattle.offer_fields.specs.Names.{party_of_name}
 use Rattle.offer_moves.specs.declared.raw.RawTerms.{RawTerms}
 use Rattle.offer_moves.specs.declared.raw.RawKey.{RawKey}
 use Rattle.offer_moves.specs.declared.raw.RawCraft.{RawCraft}
 use Rattle.offer_moves.specs.declared.raw.RawMove.{RawMove}
 use Rattle.offer_moves.specs.declared.raw.RawMove.TheVariants as raw_moves
-use Rattle.offer_moves.specs.Limits.{number_below, optional_most, kept, locks_of, optional_locks, sig_of}
-use Rattle.offer_moves.specs.Moves.{sizes_of, arc_of, optional_arc, publish_of, craft_of, replay_of, key_of, unlock_of, claim_of, refund_of, transfer_of}
-use Rattle.offer_moves.specs.Moves.{wait_of, move_of}
+use Rattle.offer_moves.specs.Limits.{bounded_number, optional_most, kept, parse_locks, optional_locks, parse_sig}
+use Rattle.offer_moves.specs.Moves.{deal_sizes, parse_arc, optional_arc, make_publish, parse_craft, parse_replay, key_of, parse_unlock, parse_claim}
+use Rattle.offer_moves.specs.Moves.{parse_refund, parse_transfer}
+use Rattle.offer_moves.specs.Moves.{parse_wait, parse_move}
 use Rattle.offer_moves.specs.Placed.{adjacent, crafted_by_others, placed}
 use Rattle.offer_moves.specs.Kept.{AreSeeded, IsMade}
 use Rattle.offer_fields.proofs.Chains.{went, each_length}
 use Rattle.offer_fields.proofs.Ranges.{passed, within_ok, number_within_ok}
 use Rattle.offer_moves.proofs.Parts.{number_below_ok, each_below}
 
-pub arc_fits : (d : Deal) (line : ℕ) (field : List ℕ) (n a : ℕ) → arc_of (sizes_of d) line field n ≡ Ok a → a < length d.graph.arcs
-unfolding arc_of
+pub arc_fits : (d : Deal) (line : ℕ) (field : List ℕ) (n a : ℕ) → parse_arc (deal_sizes d) line field n ≡ Ok a → a < length d.graph.arcs
+unfolding parse_arc
 arc_fits d line field n a e = number_below_ok line field (length d.graph.arcs) n a e
 
 optional_fits : (line : ℕ) (field : List ℕ) (high : ℕ) (o given : Option ℕ) (own : ℕ) → optional_most line field high o ≡ Ok given → own ≤ high
     → unwrap_or given own ≤ high
 optional_fits line field high None given own e l = let s : given ≡ None = cc e in rw s l
 optional_fits line field high (Some n) given own e l =
-    let p = went (number_within line field 0 high n) _ given e in
+    let p = went (ranged_number line field 0 high n) _ given e in
     let s : given ≡ Some p.0 = cc (p.2) in
     rw s (number_within_ok line field 0 high n p.0 p.1).1
 
 kept_all : (digests : List (List ℕ)) → length digests ≤ 8 → kept digests ≡ digests
 kept_all digests few = ap (λ (b : Bool). cond b digests []) (le-leb (length digests) 8 few)
 
-locks_length : (line count : ℕ) (texts locks : List (List ℕ)) → count ≤ 8 → locks_of line count texts ≡ Ok locks → length locks ≡ count
-unfolding locks_of
+locks_length : (line count : ℕ) (texts locks : List (List ℕ)) → count ≤ 8 → parse_locks line count texts ≡ Ok locks → length locks ≡ count
+unfolding parse_locks
 locks_length line count texts locks few e =
     let p = went (within line (codes "locks") count count (length texts)) _ locks e in
     let w = within_ok line (codes "locks") count count (length texts) p.0 p.1 in
-    let q = went (each_of (digest_of line (codes "locks")) texts) _ locks p.2 in
-    let l = each_length (digest_of line (codes "locks")) texts q.0 q.1 in
+    let q = went (each_of (to_digest line (codes "locks")) texts) _ locks p.2 in
+    let l = each_length (to_digest line (codes "locks")) texts q.0 q.1 in
     let s : kept q.0 ≡ locks = cc (q.2) in
     let same : locks ≡ q.0 = sym s ∙ kept_all q.0 (omega arith) in
     ap (λ (ds : List (List ℕ)). length ds) same ∙ omega arith
@@ -63,7 +64,7 @@ optional_length : (line count : ℕ) (o given : Option (List (List ℕ))) (own :
     → length (unwrap_or given own) ≡ count
 optional_length line count None given own few e l = let s : given ≡ None = cc e in rw s l
 optional_length line count (Some texts) given own few e l =
-    let p = went (locks_of line count texts) _ given e in
+    let p = went (parse_locks line count texts) _ given e in
     let s : given ≡ Some p.0 = cc (p.2) in
     rw s (locks_length line count texts p.0 few p.1)
 
@@ -73,11 +74,11 @@ and_six a b c d e f p q r s t u = rw (p, q, r, s, t, u) refl
 and_four : (a b c d : Bool) → a ≡ true → b ≡ true → c ≡ true → d ≡ true → (a && b && c && d) ≡ true
 and_four a b c d p q r s = rw (p, q, r, s) refl
 
-publish_made : (d : Deal) (seeds : Seeds) (line n : ℕ) (t : RawTerms) (mv : Move) → IsWellSized d → publish_of (sizes_of d) line n t ≡ Ok mv
+publish_made : (d : Deal) (seeds : Seeds) (line n : ℕ) (t : RawTerms) (mv : Move) → IsWellSized d → make_publish (deal_sizes d) line n t ≡ Ok mv
     → IsMade d seeds line mv
-unfolding publish_of
+unfolding make_publish
 publish_made d seeds line n t mv w e =
-    let p = went (arc_of (sizes_of d) line (codes "arc") n) _ mv e in
+    let p = went (parse_arc (deal_sizes d) line (codes "arc") n) _ mv e in
     let q = went (optional_most line (codes "start") 1000000 t.start) _ mv p.2 in
     let r = went (optional_most line (codes "delta") 1000000 t.delta) _ mv q.2 in
     let b = went (optional_most line (codes "bound") 1000000 t.bound) _ mv r.2 in
@@ -86,7 +87,7 @@ publish_made d seeds line n t mv w e =
     let l = went (optional_locks line (length d.leaders) t.locks) _ mv m.2 in
     let s : Publish p.0 q.0 r.0 b.0 k.0 m.0 l.0 ≡ mv = cc (l.2) in
     let a : p.0 < length d.graph.arcs = arc_fits d line (codes "arc") n p.0 p.1 in
-    let own = terms_of d p.0 in
+    let own = stated_terms d p.0 in
     subst (λ x. IsMade d seeds line x) s (record {
       arc = a;
       below = tt;
@@ -106,17 +107,17 @@ record IsKey (d : Deal) (path : List ℕ) (k : RawKey) (key : Hashkey) : Type 0 
   path_few : length k.path ≤ path_limit d
   sigs_few : length key.sigs ≤ path_limit d
 
-key_fits : (d : Deal) (line : ℕ) (path : List ℕ) (k : RawKey) (key : Hashkey) → key_of (sizes_of d) line path k ≡ Ok key → IsKey d path k key
+key_fits : (d : Deal) (line : ℕ) (path : List ℕ) (k : RawKey) (key : Hashkey) → key_of (deal_sizes d) line path k ≡ Ok key → IsKey d path k key
 unfolding key_of
 key_fits d line path k key e =
-    let p = went (number_below line (codes "lock") (length d.leaders) k.lock) _ key e in
-    let q = went (digest_of line (codes "secret") k.secret) _ key p.2 in
+    let p = went (bounded_number line (codes "lock") (length d.leaders) k.lock) _ key e in
+    let q = went (to_digest line (codes "secret") k.secret) _ key p.2 in
     let r = went (within line (codes "path") 0 (path_limit d) (length k.path)) _ key q.2 in
     let b = went (within line (codes "sigs") 0 (path_limit d) (length k.sigs)) _ key r.2 in
-    let l = went (each_of (sig_of line) k.sigs) _ key b.2 in
+    let l = went (each_of (parse_sig line) k.sigs) _ key b.2 in
     let made : Hashkey = record { lock = p.0; secret = q.0; path = path; sigs = l.0 } in
     let s : made ≡ key = cc (l.2) in
-    let n = each_length (sig_of line) k.sigs l.0 l.1 in
+    let n = each_length (parse_sig line) k.sigs l.0 l.1 in
     let few = within_ok line (codes "sigs") 0 (path_limit d) (length k.sigs) b.0 b.1 in
     subst (λ x. IsKey d path k x) s (record {
       lock = number_below_ok line (codes "lock") (length d.leaders) k.lock p.0 p.1;
@@ -126,13 +127,13 @@ key_fits d line path k key e =
     })
 
 unlock_made : (d : Deal) (seeds : Seeds) (names : List (List ℕ)) (line n : ℕ) (k : RawKey) (mv : Move) → length names ≡ d.graph.n
-    → unlock_of (sizes_of d) names line n k ≡ Ok mv
+    → parse_unlock (deal_sizes d) names line n k ≡ Ok mv
     → IsMade d seeds line mv
-unfolding unlock_of
+unfolding parse_unlock
 unlock_made d seeds names line n k mv same e =
     let p = went (each_of (party_of_name line names) k.path) _ mv e in
-    let q = went (arc_of (sizes_of d) line (codes "arc") n) _ mv p.2 in
-    let r = went (key_of (sizes_of d) line p.0 k) _ mv q.2 in
+    let q = went (parse_arc (deal_sizes d) line (codes "arc") n) _ mv p.2 in
+    let r = went (key_of (deal_sizes d) line p.0 k) _ mv q.2 in
     let s : Raw q.0 r.0 ≡ mv = cc (r.2) in
     let key = key_fits d line p.0 k r.0 r.1 in
     let len = each_length (party_of_name line names) k.path p.0 p.1 in
@@ -147,22 +148,22 @@ unlock_made d seeds names line n k mv same e =
           (rw key.same all);
     })
 
-optional_arc_fits : (d : Deal) (line : ℕ) (field : List ℕ) (o given : Option ℕ) → optional_arc (sizes_of d) line field o ≡ Ok given → IsArc d given
+optional_arc_fits : (d : Deal) (line : ℕ) (field : List ℕ) (o given : Option ℕ) → optional_arc (deal_sizes d) line field o ≡ Ok given → IsArc d given
 optional_arc_fits d line field None given e = let s : given ≡ None = cc e in subst (IsArc d) (sym s) tt
 optional_arc_fits d line field (Some n) given e =
-    let p = went (arc_of (sizes_of d) line field n) _ given e in
+    let p = went (parse_arc (deal_sizes d) line field n) _ given e in
     let s : given ≡ Some p.0 = cc (p.2) in
     subst (IsArc d) (sym s) (arc_fits d line field n p.0 p.1)
 
 craft_made : (d : Deal) (seeds : Seeds) (names : List (List ℕ)) (line n : ℕ) (k : RawCraft) (mv : Move) → length names ≡ d.graph.n
-    → craft_of (sizes_of d) names line n k ≡ Ok mv → IsMade d seeds line mv
-unfolding craft_of
+    → parse_craft (deal_sizes d) names line n k ≡ Ok mv → IsMade d seeds line mv
+unfolding parse_craft
 craft_made d seeds names line n k mv same e =
     let p = went (each_of (party_of_name line names) k.via) _ mv e in
-    let q = went (arc_of (sizes_of d) line (codes "arc") n) _ mv p.2 in
-    let l = went (number_below line (codes "lock") (length d.leaders) k.lock) _ mv q.2 in
+    let q = went (parse_arc (deal_sizes d) line (codes "arc") n) _ mv p.2 in
+    let l = went (bounded_number line (codes "lock") (length d.leaders) k.lock) _ mv q.2 in
     let w = went (within line (codes "via") 1 (path_limit d) (length k.via)) _ mv l.2 in
-    let o = went (optional_arc (sizes_of d) line (codes "onto") k.onto) _ mv w.2 in
+    let o = went (optional_arc (deal_sizes d) line (codes "onto") k.onto) _ mv w.2 in
     let s : Craft q.0 l.0 p.0 o.0 ≡ mv = cc (o.2) in
     let len = each_length (party_of_name line names) k.via p.0 p.1 in
     let many = within_ok line (codes "via") 1 (path_limit d) (length k.via) w.0 w.1 in
@@ -177,12 +178,12 @@ craft_made d seeds names line n k mv same e =
       );
     })
 
-replay_made : (d : Deal) (seeds : Seeds) (line n m k : ℕ) (mv : Move) → replay_of (sizes_of d) line n m k ≡ Ok mv → IsMade d seeds line mv
-unfolding replay_of
+replay_made : (d : Deal) (seeds : Seeds) (line n m k : ℕ) (mv : Move) → parse_replay (deal_sizes d) line n m k ≡ Ok mv → IsMade d seeds line mv
+unfolding parse_replay
 replay_made d seeds line n m k mv e =
-    let p = went (arc_of (sizes_of d) line (codes "arc") n) _ mv e in
-    let q = went (number_below line (codes "lock") (length d.leaders) m) _ mv p.2 in
-    let r = went (arc_of (sizes_of d) line (codes "onto") k) _ mv q.2 in
+    let p = went (parse_arc (deal_sizes d) line (codes "arc") n) _ mv e in
+    let q = went (bounded_number line (codes "lock") (length d.leaders) m) _ mv p.2 in
+    let r = went (parse_arc (deal_sizes d) line (codes "onto") k) _ mv q.2 in
     let s : Replay p.0 q.0 r.0 ≡ mv = cc (r.2) in
     subst (λ x. IsMade d seeds line x) s (record {
       arc = arc_fits d line (codes "arc") n p.0 p.1;
@@ -190,17 +191,17 @@ replay_made d seeds line n m k mv e =
       names = λ u h y. (number_below_ok line (codes "lock") (length d.leaders) m q.0 q.1, arc_fits d line (codes "onto") k r.0 r.1);
     })
 
-claim_made : (d : Deal) (seeds : Seeds) (line n : ℕ) (mv : Move) → claim_of (sizes_of d) line n ≡ Ok mv → IsMade d seeds line mv
-unfolding claim_of
+claim_made : (d : Deal) (seeds : Seeds) (line n : ℕ) (mv : Move) → parse_claim (deal_sizes d) line n ≡ Ok mv → IsMade d seeds line mv
+unfolding parse_claim
 claim_made d seeds line n mv e =
-    let p = went (arc_of (sizes_of d) line (codes "arc") n) _ mv e in
+    let p = went (parse_arc (deal_sizes d) line (codes "arc") n) _ mv e in
     let s : Claim p.0 ≡ mv = cc (p.2) in
     subst (λ x. IsMade d seeds line x) s (record { arc = arc_fits d line (codes "arc") n p.0 p.1; below = tt; names = λ u h k. refl })
 
-refund_made : (d : Deal) (seeds : Seeds) (line n : ℕ) (mv : Move) → refund_of (sizes_of d) line n ≡ Ok mv → IsMade d seeds line mv
-unfolding refund_of
+refund_made : (d : Deal) (seeds : Seeds) (line n : ℕ) (mv : Move) → parse_refund (deal_sizes d) line n ≡ Ok mv → IsMade d seeds line mv
+unfolding parse_refund
 refund_made d seeds line n mv e =
-    let p = went (arc_of (sizes_of d) line (codes "arc") n) _ mv e in
+    let p = went (parse_arc (deal_sizes d) line (codes "arc") n) _ mv e in
     let s : Refund p.0 ≡ mv = cc (p.2) in
     subst (λ x. IsMade d seeds line x) s (record { arc = arc_fits d line (codes "arc") n p.0 p.1; below = tt; names = λ u h k. refl })
 
@@ -209,13 +210,13 @@ unfolding adjacent
 adjacent_fits d line p a u e = (passed ((p == party d a) || (p == counterparty d a)) tt u (NotAdjacent line) e).0
 
 transfer_made : (d : Deal) (seeds : Seeds) (names : List (List ℕ)) (line n : ℕ) (name : List ℕ) (amount : ℕ) (mv : Move)
-    → transfer_of (sizes_of d) names line n name amount ≡ Ok mv
+    → parse_transfer (deal_sizes d) names line n name amount ≡ Ok mv
     → IsMade d seeds line mv
-unfolding transfer_of
+unfolding parse_transfer
 transfer_made d seeds names line n name amount mv e =
     let p = went (party_of_name line names name) _ mv e in
-    let q = went (arc_of (sizes_of d) line (codes "arc") n) _ mv p.2 in
-    let r = went (number_within line (codes "units") 0 1000000000000 amount) _ mv q.2 in
+    let q = went (parse_arc (deal_sizes d) line (codes "arc") n) _ mv p.2 in
+    let r = went (ranged_number line (codes "units") 0 1000000000000 amount) _ mv q.2 in
     let s : Transfer q.0 p.0 r.0 ≡ mv = cc (r.2) in
     subst (λ x. IsMade d seeds line x) s (record {
       arc = arc_fits d line (codes "arc") n q.0 q.1;
@@ -223,16 +224,16 @@ transfer_made d seeds names line n name amount mv e =
       names = λ u h k'. and_both _ _ (adjacent_fits d line p.0 q.0 u h) (le-leb _ _ (number_within_ok line (codes "units") 0 1000000000000 amount r.0 r.1).1);
     })
 
-wait_made : (d : Deal) (seeds : Seeds) (line n height : ℕ) (mv : Move) → wait_of (sizes_of d) line n height ≡ Ok mv → IsMade d seeds line mv
-unfolding wait_of
+wait_made : (d : Deal) (seeds : Seeds) (line n height : ℕ) (mv : Move) → parse_wait (deal_sizes d) line n height ≡ Ok mv → IsMade d seeds line mv
+unfolding parse_wait
 wait_made d seeds line n height mv e =
-    let p = went (arc_of (sizes_of d) line (codes "arc") n) _ mv e in
-    let q = went (number_within line (codes "height") 0 1000000 height) _ mv p.2 in
+    let p = went (parse_arc (deal_sizes d) line (codes "arc") n) _ mv e in
+    let q = went (ranged_number line (codes "height") 0 1000000 height) _ mv p.2 in
     let s : Wait p.0 q.0 ≡ mv = cc (q.2) in
     subst (λ x. IsMade d seeds line x) s (record { arc = arc_fits d line (codes "arc") n p.0 p.1; below = tt; names = λ u h k. refl })
 
 pub move_made : (d : Deal) (seeds : Seeds) (names : List (List ℕ)) (line : ℕ) (raw : RawMove) (mv : Move) → IsWellSized d → length names ≡ d.graph.n
-    → move_of (sizes_of d) names line raw ≡ Ok mv → IsMade d seeds line mv
+    → parse_move (deal_sizes d) names line raw ≡ Ok mv → IsMade d seeds line mv
 move_made d seeds names line (raw_moves.Publish n t) mv w same e = publish_made d seeds line n t mv w e
 move_made d seeds names line (raw_moves.Craft n k) mv w same e = craft_made d seeds names line n k mv same e
 move_made d seeds names line (raw_moves.Replay n lock onto) mv w same e = replay_made d seeds line n lock onto mv e

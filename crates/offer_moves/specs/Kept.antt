@@ -10,14 +10,14 @@ use Rattle.swap_digraph.specs.declared.deal.Deal.{Deal}
 use Rattle.offer_moves.specs.Placed.{received}
 
 -- the parties that craft are below n
-abbrev pub AreCraftersBelow : ℕ → Move → Type 0
-AreCraftersBelow n (Craft a lock via onto) = IsTrue (list_all (λ v. nat_lt v n) via)
-AreCraftersBelow n _ = Unit {0}
+abbrev pub AreBoundedCrafters : ℕ → Move → Type 0
+AreBoundedCrafters n (Craft a lock via onto) = IsTrue (list_all (λ v. nat_lt v n) via)
+AreBoundedCrafters n _ = Unit {0}
 
 -- A move stands on one of the arcs, and each party that crafts is one of the parties.
 pub record CanStand (arcs parties : ℕ) (mv : Move) : Type 0 where
   pub arc : move_arc mv < arcs
-  pub crafters : AreCraftersBelow parties mv
+  pub crafters : AreBoundedCrafters parties mv
 
 -- the parties that craft have seeds
 abbrev pub AreSeeded : Seeds → Move → Type 0
@@ -27,5 +27,5 @@ AreSeeded seeds _ = Unit {0}
 -- what a move keeps to before it is known where it stands
 pub record IsMade (d : Deal) (seeds : Seeds) (line : ℕ) (mv : Move) : Type 0 where
   pub arc : move_arc mv < length d.graph.arcs
-  pub below : AreCraftersBelow d.graph.n mv
+  pub below : AreBoundedCrafters d.graph.n mv
   pub names : (u : Unit {0}) → received d.graph.arcs line mv ≡ Ok u → AreSeeded seeds mv → NamesFitting d seeds mv

@@ -8,7 +8,7 @@ use Rattle.swap_job.specs.declared.moves.Move.{Move}
 use Rattle.swap_job.specs.declared.moves.Move.TheVariants.{Publish, Craft, Replay, Raw, Claim, Refund, Transfer, Wait}
 use Rattle.refusals.specs.declared.reason.Reason.{Reason}
 use Rattle.offer_fields.specs.Lists.{each_of}
-use Rattle.offer_fields.specs.Limits.{number_within, within, digest_of}
+use Rattle.offer_fields.specs.Limits.{ranged_number, within, to_digest}
 use Rattle.offer_fields.specs.Names.{party_of_name}
 use Rattle.offer_moves.specs.declared.moves.Sizes.{Sizes}
 use Rattle.offer_moves.specs.declared.raw.RawTerms.{RawTerms}
@@ -16,19 +16,19 @@ use Rattle.offer_moves.specs.declared.raw.RawKey.{RawKey}
 use Rattle.offer_moves.specs.declared.raw.RawCraft.{RawCraft}
 use Rattle.offer_moves.specs.declared.raw.RawMove.{RawMove}
 use Rattle.offer_moves.specs.declared.raw.RawMove.TheVariants as raws
-use Rattle.offer_moves.specs.Limits.{number_below, optional_most, optional_locks, sig_of}
+use Rattle.offer_moves.specs.Limits.{bounded_number, optional_most, optional_locks, parse_sig}
 
 -- how many arcs and locks a deal has, and the most vertices of a path
-abbrev pub sizes_of : Deal → Sizes
-sizes_of d = record { arcs = length d.graph.arcs; locks = length d.leaders; path = path_limit d }
+abbrev pub deal_sizes : Deal → Sizes
+deal_sizes d = record { arcs = length d.graph.arcs; locks = length d.leaders; path = path_limit d }
 
 -- the arc of that number
-unfoldable pub arc_of : Sizes → ℕ → List ℕ → ℕ → Result ℕ Reason
-arc_of s line field n = number_below line field s.arcs n
+unfoldable pub parse_arc : Sizes → ℕ → List ℕ → ℕ → Result ℕ Reason
+parse_arc s line field n = bounded_number line field s.arcs n
 
-unfoldable pub publish_of : Sizes → ℕ → ℕ → RawTerms → Result Move Reason
-publish_of s line n t = do
-  arc ← arc_of s line (codes "arc") n
+unfoldable pub make_publish : Sizes → ℕ → ℕ → RawTerms → Result Move Reason
+make_publish s line n t = do
+  arc ← parse_arc s line (codes "arc") n
   start ← optional_most line (codes "start") 1000000 t.start
   delta ← optional_most line (codes "delta") 1000000 t.delta
   bound ← optional_most line (codes "bound") 1000000 t.bound
@@ -41,71 +41,71 @@ publish_of s line n t = do
 abbrev pub optional_arc : Sizes → ℕ → List ℕ → Option ℕ → Result (Option ℕ) Reason
 optional_arc s line field None = Ok None
 optional_arc s line field (Some n) = do
-  arc ← arc_of s line field n
+  arc ← parse_arc s line field n
   Ok (Some arc)
 
-unfoldable pub craft_of : Sizes → List (List ℕ) → ℕ → ℕ → RawCraft → Result Move Reason
-craft_of s names line n k = do
+unfoldable pub parse_craft : Sizes → List (List ℕ) → ℕ → ℕ → RawCraft → Result Move Reason
+parse_craft s names line n k = do
   via ← each_of (party_of_name line names) k.via
-  arc ← arc_of s line (codes "arc") n
-  lock ← number_below line (codes "lock") s.locks k.lock
+  arc ← parse_arc s line (codes "arc") n
+  lock ← bounded_number line (codes "lock") s.locks k.lock
   u ← within line (codes "via") 1 s.path (length k.via)
   onto ← optional_arc s line (codes "onto") k.onto
   Ok (Craft arc lock via onto)
 
-unfoldable pub replay_of : Sizes → ℕ → ℕ → ℕ → ℕ → Result Move Reason
-replay_of s line n m k = do
-  arc ← arc_of s line (codes "arc") n
-  lock ← number_below line (codes "lock") s.locks m
-  onto ← arc_of s line (codes "onto") k
+unfoldable pub parse_replay : Sizes → ℕ → ℕ → ℕ → ℕ → Result Move Reason
+parse_replay s line n m k = do
+  arc ← parse_arc s line (codes "arc") n
+  lock ← bounded_number line (codes "lock") s.locks m
+  onto ← parse_arc s line (codes "onto") k
   Ok (Replay arc lock onto)
 
 unfoldable pub key_of : Sizes → ℕ → List ℕ → RawKey → Result Hashkey Reason
 key_of s line path k = do
-  lock ← number_below line (codes "lock") s.locks k.lock
-  secret ← digest_of line (codes "secret") k.secret
+  lock ← bounded_number line (codes "lock") s.locks k.lock
+  secret ← to_digest line (codes "secret") k.secret
   u ← within line (codes "path") 0 s.path (length k.path)
   w ← within line (codes "sigs") 0 s.path (length k.sigs)
-  sigs ← each_of (sig_of line) k.sigs
+  sigs ← each_of (parse_sig line) k.sigs
   Ok (record { lock = lock; secret = secret; path = path; sigs = sigs })
 
-unfoldable pub unlock_of : Sizes → List (List ℕ) → ℕ → ℕ → RawKey → Result Move Reason
-unlock_of s names line n k = do
+unfoldable pub parse_unlock : Sizes → List (List ℕ) → ℕ → ℕ → RawKey → Result Move Reason
+parse_unlock s names line n k = do
   path ← each_of (party_of_name line names) k.path
-  arc ← arc_of s line (codes "arc") n
+  arc ← parse_arc s line (codes "arc") n
   key ← key_of s line path k
   Ok (Raw arc key)
 
-unfoldable pub claim_of : Sizes → ℕ → ℕ → Result Move Reason
-claim_of s line n = do
-  arc ← arc_of s line (codes "arc") n
+unfoldable pub parse_claim : Sizes → ℕ → ℕ → Result Move Reason
+parse_claim s line n = do
+  arc ← parse_arc s line (codes "arc") n
   Ok (Claim arc)
 
-unfoldable pub refund_of : Sizes → ℕ → ℕ → Result Move Reason
-refund_of s line n = do
-  arc ← arc_of s line (codes "arc") n
+unfoldable pub parse_refund : Sizes → ℕ → ℕ → Result Move Reason
+parse_refund s line n = do
+  arc ← parse_arc s line (codes "arc") n
   Ok (Refund arc)
 
-unfoldable pub transfer_of : Sizes → List (List ℕ) → ℕ → ℕ → List ℕ → ℕ → Result Move Reason
-transfer_of s names line n name m = do
+unfoldable pub parse_transfer : Sizes → List (List ℕ) → ℕ → ℕ → List ℕ → ℕ → Result Move Reason
+parse_transfer s names line n name m = do
   to ← party_of_name line names name
-  arc ← arc_of s line (codes "arc") n
-  units ← number_within line (codes "units") 0 1000000000000 m
+  arc ← parse_arc s line (codes "arc") n
+  units ← ranged_number line (codes "units") 0 1000000000000 m
   Ok (Transfer arc to units)
 
-unfoldable pub wait_of : Sizes → ℕ → ℕ → ℕ → Result Move Reason
-wait_of s line n m = do
-  arc ← arc_of s line (codes "arc") n
-  height ← number_within line (codes "height") 0 1000000 m
+unfoldable pub parse_wait : Sizes → ℕ → ℕ → ℕ → Result Move Reason
+parse_wait s line n m = do
+  arc ← parse_arc s line (codes "arc") n
+  height ← ranged_number line (codes "height") 0 1000000 m
   Ok (Wait arc height)
 
 -- the move that a line asks for
-abbrev pub move_of : Sizes → List (List ℕ) → ℕ → RawMove → Result Move Reason
-move_of s names line (raws.Publish n t) = publish_of s line n t
-move_of s names line (raws.Craft n k) = craft_of s names line n k
-move_of s names line (raws.Replay n lock onto) = replay_of s line n lock onto
-move_of s names line (raws.Raw n k) = unlock_of s names line n k
-move_of s names line (raws.Claim n) = claim_of s line n
-move_of s names line (raws.Refund n) = refund_of s line n
-move_of s names line (raws.Transfer n to units) = transfer_of s names line n to units
-move_of s names line (raws.Wait n height) = wait_of s line n height
+abbrev pub parse_move : Sizes → List (List ℕ) → ℕ → RawMove → Result Move Reason
+parse_move s names line (raws.Publish n t) = make_publish s line n t
+parse_move s names line (raws.Craft n k) = parse_craft s names line n k
+parse_move s names line (raws.Replay n lock onto) = parse_replay s line n lock onto
+parse_move s names line (raws.Raw n k) = parse_unlock s names line n k
+parse_move s names line (raws.Claim n) = parse_claim s line n
+parse_move s names line (raws.Refund n) = parse_refund s line n
+parse_move s names line (raws.Transfer n to units) = parse_transfer s names line n to units
+parse_move s names line (raws.Wait n height) = parse_wait s line n height

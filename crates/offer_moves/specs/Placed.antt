@@ -3,7 +3,7 @@ use Rattle.std.specs.Prelude.{◌==◌, ◌||◌, ℕ, Bool, false, List, slice_
 use Rattle.std.specs.List.{list_any}
 use Rattle.swap_base.specs.Fault.{◌>>=◌}
 use Rattle.swap_digraph.specs.declared.arc_ends.ArcEnds.{ArcEnds}
-use Rattle.swap_digraph.specs.Graph.{ends_in}
+use Rattle.swap_digraph.specs.Graph.{resolve_all_ends}
 use Rattle.swap_job.specs.declared.moves.Move.{Move}
 use Rattle.swap_job.specs.declared.moves.Move.TheVariants.{Craft, Transfer}
 use Rattle.swap_job.specs.Resolved.{move_arc}
@@ -16,7 +16,7 @@ deviating line is_conforming = if is_conforming then Err (ConformingCall line) e
 
 -- p is one of the arc's two parties
 unfoldable pub adjacent : List ArcEnds → ℕ → ℕ → ℕ → Result (Unit {0}) Reason
-adjacent arcs line p a = if (p == (ends_in arcs a).from) || (p == (ends_in arcs a).to) then Ok tt else Err (NotAdjacent line)
+adjacent arcs line p a = if (p == (resolve_all_ends arcs a).from) || (p == (resolve_all_ends arcs a).to) then Ok tt else Err (NotAdjacent line)
 
 -- who gets units is one of the arc's two parties
 abbrev pub received : List ArcEnds → ℕ → Move → Result (Unit {0}) Reason

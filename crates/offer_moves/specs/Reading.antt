@@ -16,15 +16,15 @@ use Rattle.offer_moves.specs.declared.raw.RawMove.{RawMove}
 use Rattle.offer_moves.specs.declared.raw.RawMove.TheVariants.{Publish, Craft, Replay, Raw, Claim, Refund, Transfer, Wait}
 
 -- the texts of a list
-unfoldable pub texts_of : ℕ → List ℕ → Option Items → Result (List (List ℕ)) Reason
-texts_of line field items = do
+unfoldable pub list_texts : ℕ → List ℕ → Option Items → Result (List (List ℕ)) Reason
+list_texts line field items = do
   members ← kind line field items
   each (member_text_of line field) members
 
 abbrev pub optional_texts : ℕ → List ℕ → Option Data → Result (Option (List (List ℕ))) Reason
 optional_texts line field None = Ok None
 optional_texts line field (Some d) = do
-  texts ← texts_of line field (as_array d)
+  texts ← list_texts line field (as_array d)
   Ok (Some texts)
 
 -- the texts of a list that may be absent
@@ -36,8 +36,8 @@ unfoldable pub texts_at : ℕ → List ℕ → Data → Result (List (List ℕ))
 texts_at line field d = list_at line field (member_text_of line field) d
 
 -- a wait is a move in a script alone
-abbrev pub wait_of : ℕ → (scripted : Bool) → List ℕ → Result MoveKind Reason
-wait_of line scripted word = if scripted && bytes_eq word (codes "wait") then Ok kinds.Wait else Err (WrongKind line (codes "do"))
+abbrev pub parse_wait : ℕ → (scripted : Bool) → List ℕ → Result MoveKind Reason
+parse_wait line scripted word = if scripted && bytes_eq word (codes "wait") then Ok kinds.Wait else Err (WrongKind line (codes "do"))
 
 -- the move that a word asks for
 abbrev pub kind_of : ℕ → (scripted : Bool) → List ℕ → Result MoveKind Reason
@@ -49,7 +49,7 @@ kind_of line scripted word =
     else if bytes_eq word (codes "transfer") then Ok kinds.Transfer
     else if bytes_eq word (codes "craft") then Ok kinds.Craft
     else if bytes_eq word (codes "replay") then Ok kinds.Replay
-    else wait_of line scripted word
+    else parse_wait line scripted word
 
 unfoldable pub kind_at : ℕ → (scripted : Bool) → Data → Result MoveKind Reason
 kind_at line scripted d = do

@@ -1,6 +1,6 @@
 //! Reads one move of an offer, of an event line or of a script: its fields, its names, its numbers and texts, and where it stands.
 //!
-//! Read `specs/Moves.antt` first: `move_of` is the move that is asked for, or the first reason against it.
+//! Read `specs/Moves.antt` first: `parse_move` is the move that is asked for, or the first reason against it.
 #![tactic(auto)]
 
 mod limits;
@@ -10,7 +10,7 @@ mod placed;
 mod raw;
 mod reading;
 
-pub use moves::{Sizes, arc_of, move_of, sizes_of};
+pub use moves::{Sizes, deal_sizes, parse_arc, parse_move};
 pub use placed::{check_adjacent, check_deviator, check_place};
 pub use raw::{MoveKind, RawCraft, RawKey, RawMove, RawTerms};
-pub use reading::move_in;
+pub use reading::read_move;

@@ -2,29 +2,29 @@
 
 ghost use Rattle.std.specs.Prelude.{◌≡◌, ◌<◌, ◌^◌, codes};
 ghost use Rattle.swap_base.specs.Fault.{Gives};
-ghost use Rattle.offer_fields.specs.Limits.{digest_of, number_within};
+ghost use Rattle.offer_fields.specs.Limits.{to_digest, ranged_number};
 ghost use Rattle.offer_fields.specs.Lists.{each_of};
-ghost use Rattle.offer_moves.specs.Limits.{number_below, optional_most, kept, locks_of, optional_locks, sig_of};
+ghost use Rattle.offer_moves.specs.Limits.{bounded_number, optional_most, kept, parse_locks, optional_locks, parse_sig};
 
 use escrow_core::LockList;
 use hash_signature::Sig;
 use hashkey_path::SigList;
 use hex::FromHex;
-use offer_fields::{TextRef, digest_in, number_within, within};
+use offer_fields::{TextRef, parse_digest, ranged_number, within};
 use refusals::{OfferFault, over_limit, wrong_hex};
 use std::alloc::Global;
 use swap_base::{Digest, Listed};
 
 /// A number that is below a count, kept in a byte.
-#[tactic(auto, unfolding(crate::specs::Limits::number_below))]
-pub fn number_below(
+#[tactic(auto, unfolding(crate::specs::Limits::bounded_number))]
+pub fn bounded_number(
     alloc: Global,
     line: u32,
     field: &str,
     count: usize,
     number: u64,
 ) -> Result<u8, OfferFault>
-    ensures { Gives (λ n. n) result (number_below line field.now count number) }
+    ensures { Gives (λ n. n) result (bounded_number line field.now count number) }
 {
     if number < count as u64 {
         return Ok((number % 256) as u8);
@@ -43,14 +43,14 @@ pub fn optional_most(
 {
     match number {
         None => Ok(None),
-        Some(number) => Ok(Some(number_within(alloc, line, field, 0, 1_000_000, number)?)),
+        Some(number) => Ok(Some(ranged_number(alloc, line, field, 0, 1_000_000, number)?)),
     }
 }
 
 /// Units, at most 10^12.
-#[tactic(auto, unfolding(offer_fields::specs::Limits::number_within))]
+#[tactic(auto, unfolding(offer_fields::specs::Limits::ranged_number))]
 pub fn units(alloc: Global, line: u32, field: &str, number: u64) -> Result<u64, OfferFault>
-    ensures { Gives (λ n. n) result (number_within line field.now 0 1000000000000 number) }
+    ensures { Gives (λ n. n) result (ranged_number line field.now 0 1000000000000 number) }
 {
     within(alloc, line, field, 0, 1_000_000_000_000, number)?;
     Ok(number)
@@ -72,12 +72,16 @@ pub fn optional_units(
 }
 
 #[tactic(auto, using(offer_fields::proofs::Lists::goes_on, offer_fields::proofs::Lists::ends, offer_fields::proofs::Lists::is_done))]
-fn digests_of(alloc: Global, line: u32, texts: &[TextRef<'_>]) -> Result<Listed<Digest>, OfferFault>
-    ensures { Gives (λ l. l) result (each_of (digest_of line (codes "locks")) texts.now) }
+fn list_digests(
+    alloc: Global,
+    line: u32,
+    texts: &[TextRef<'_>],
+) -> Result<Listed<Digest>, OfferFault>
+    ensures { Gives (λ l. l) result (each_of (to_digest line (codes "locks")) texts.now) }
 {
     let mut digests = Vec::new(alloc);
     for text in texts {
-        digests.push(digest_in(alloc, line, "locks", text.as_slice())?)?;
+        digests.push(parse_digest(alloc, line, "locks", text.as_slice())?)?;
     }
     Ok(Listed::new(digests))
 }
@@ -93,18 +97,18 @@ fn kept(digests: &[Digest]) -> LockList
 }
 
 /// One digest for each lock.
-#[tactic(auto, unfolding(crate::specs::Limits::locks_of))]
-fn locks_of(
+#[tactic(auto, unfolding(crate::specs::Limits::parse_locks))]
+fn parse_locks(
     alloc: Global,
     line: u32,
     count: usize,
     texts: &[TextRef<'_>],
 ) -> Result<LockList, OfferFault>
-    ensures { Gives (λ l. l) result (locks_of line count texts.now) }
+    ensures { Gives (λ l. l) result (parse_locks line count texts.now) }
 {
     let count = count as u64;
     within(alloc, line, "locks", count, count, texts.len() as u64)?;
-    let digests = digests_of(alloc, line, texts)?;
+    let digests = list_digests(alloc, line, texts)?;
     Ok(kept(digests.as_slice()))
 }
 
@@ -119,14 +123,14 @@ pub fn optional_locks(
 {
     match texts {
         None => Ok(None),
-        Some(texts) => Ok(Some(locks_of(alloc, line, count, texts.as_slice())?)),
+        Some(texts) => Ok(Some(parse_locks(alloc, line, count, texts.as_slice())?)),
     }
 }
 
 /// A signature.
-#[tactic(auto, unfolding(crate::specs::Limits::sig_of))]
-fn sig_of(alloc: Global, line: u32, text: &[u8]) -> Result<Sig, OfferFault>
-    ensures { Gives (λ s. s) result (sig_of line text.now) }
+#[tactic(auto, unfolding(crate::specs::Limits::parse_sig))]
+fn parse_sig(alloc: Global, line: u32, text: &[u8]) -> Result<Sig, OfferFault>
+    ensures { Gives (λ s. s) result (parse_sig line text.now) }
 {
     match <[u8; 2144] as FromHex>::from_hex(text) {
         Ok(bytes) => Ok(Sig::from_bytes(&bytes)),
@@ -136,12 +140,12 @@ fn sig_of(alloc: Global, line: u32, text: &[u8]) -> Result<Sig, OfferFault>
 
 /// Signatures.
 #[tactic(auto, using(offer_fields::proofs::Lists::goes_on, offer_fields::proofs::Lists::ends, offer_fields::proofs::Lists::is_done))]
-pub fn sigs_of(alloc: Global, line: u32, texts: &[TextRef<'_>]) -> Result<SigList, OfferFault>
-    ensures { Gives (λ l. l) result (each_of (sig_of line) texts.now) }
+pub fn parse_sigs(alloc: Global, line: u32, texts: &[TextRef<'_>]) -> Result<SigList, OfferFault>
+    ensures { Gives (λ l. l) result (each_of (parse_sig line) texts.now) }
 {
     let mut sigs = Vec::new(alloc);
     for text in texts {
-        sigs.push(sig_of(alloc, line, text.as_slice())?)?;
+        sigs.push(parse_sig(alloc, line, text.as_slice())?)?;
     }
     Ok(Listed::new(sigs))
 }

@@ -2,14 +2,16 @@
 
 ghost use Rattle.std.specs.Prelude.{◌≡◌, ◌≤◌, length};
 ghost use Rattle.swap_base.specs.Fault.{Gives};
-ghost use Rattle.offer_moves.specs.Moves.{arc_of, optional_arc, publish_of, craft_of, replay_of, key_of, unlock_of, claim_of, refund_of, transfer_of};
-ghost use Rattle.offer_moves.specs.Moves.{sizes_of, wait_of, move_of};
+ghost use Rattle.offer_moves.specs.Moves.{parse_arc, optional_arc, make_publish, parse_craft, parse_replay, key_of, parse_unlock, parse_claim, parse_refund, parse_transfer};
+ghost use Rattle.offer_moves.specs.Moves.{deal_sizes, parse_wait, parse_move};
 
-use crate::limits::{number_below, optional_locks, optional_most, optional_units, sigs_of, units};
-use crate::names::numbers_of;
+use crate::limits::{
+    bounded_number, optional_locks, optional_most, optional_units, parse_sigs, units,
+};
+use crate::names::path_numbers;
 use crate::raw::{RawCraft, RawKey, RawMove, RawTerms};
 use hashkey_path::Hashkey;
-use offer_fields::{TextRef, digest_in, number_within, party_of_name, within};
+use offer_fields::{TextRef, parse_digest, party_of_name, ranged_number, within};
 use refusals::OfferFault;
 use std::alloc::Global;
 use swap_base::{ArcId, ByteText};
@@ -26,8 +28,8 @@ pub struct Sizes {
 }
 
 /// The sizes of a deal.
-pub fn sizes_of(deal: &Deal) -> Sizes
-    ensures { result ≡ sizes_of deal.now }
+pub fn deal_sizes(deal: &Deal) -> Sizes
+    ensures { result ≡ deal_sizes deal.now }
 {
     Sizes {
         arcs: deal.graph.arcs().len(),
@@ -37,30 +39,30 @@ pub fn sizes_of(deal: &Deal) -> Sizes
 }
 
 /// The arc of that number.
-#[tactic(auto, unfolding(crate::specs::Moves::arc_of))]
-pub fn arc_of(
+#[tactic(auto, unfolding(crate::specs::Moves::parse_arc))]
+pub fn parse_arc(
     alloc: Global,
     sizes: Sizes,
     line: u32,
     field: &str,
     number: u64,
 ) -> Result<ArcId, OfferFault>
-    ensures { Gives (λ a. a) result (arc_of sizes line field.now number) }
+    ensures { Gives (λ a. a) result (parse_arc sizes line field.now number) }
 {
-    number_below(alloc, line, field, sizes.arcs, number)
+    bounded_number(alloc, line, field, sizes.arcs, number)
 }
 
-#[tactic(auto, unfolding(crate::specs::Moves::publish_of))]
-fn publish_of(
+#[tactic(auto, unfolding(crate::specs::Moves::make_publish))]
+fn make_publish(
     alloc: Global,
     sizes: Sizes,
     line: u32,
     number: u64,
     terms: &RawTerms<'_>,
 ) -> Result<Move, OfferFault>
-    ensures { Gives (λ m. m) result (publish_of sizes line number terms.now) }
+    ensures { Gives (λ m. m) result (make_publish sizes line number terms.now) }
 {
-    let arc = arc_of(alloc, sizes, line, "arc", number)?;
+    let arc = parse_arc(alloc, sizes, line, "arc", number)?;
     let start = optional_most(alloc, line, "start", terms.start)?;
     let delta = optional_most(alloc, line, "delta", terms.delta)?;
     let bound = optional_most(alloc, line, "bound", terms.bound)?;
@@ -90,12 +92,12 @@ fn optional_arc(
 {
     match number {
         None => Ok(None),
-        Some(number) => Ok(Some(arc_of(alloc, sizes, line, field, number)?)),
+        Some(number) => Ok(Some(parse_arc(alloc, sizes, line, field, number)?)),
     }
 }
 
-#[tactic(auto, unfolding(crate::specs::Moves::craft_of))]
-fn craft_of(
+#[tactic(auto, unfolding(crate::specs::Moves::parse_craft))]
+fn parse_craft(
     alloc: Global,
     sizes: Sizes,
     names: &[ByteText],
@@ -104,11 +106,11 @@ fn craft_of(
     craft: &RawCraft<'_>,
 ) -> Result<Move, OfferFault>
     requires names { length names.now ≤ 256 }
-    ensures { Gives (λ m. m) result (craft_of sizes names.now line number craft.now) }
+    ensures { Gives (λ m. m) result (parse_craft sizes names.now line number craft.now) }
 {
-    let via = numbers_of(alloc, line, names, craft.via.as_slice())?;
-    let arc = arc_of(alloc, sizes, line, "arc", number)?;
-    let lock = number_below(alloc, line, "lock", sizes.locks, craft.lock)?;
+    let via = path_numbers(alloc, line, names, craft.via.as_slice())?;
+    let arc = parse_arc(alloc, sizes, line, "arc", number)?;
+    let lock = bounded_number(alloc, line, "lock", sizes.locks, craft.lock)?;
     within(alloc, line, "via", 1, sizes.path, craft.via.len() as u64)?;
     let onto = optional_arc(alloc, sizes, line, "onto", craft.onto)?;
     Ok(Move::Craft {
@@ -119,8 +121,8 @@ fn craft_of(
     })
 }
 
-#[tactic(auto, unfolding(crate::specs::Moves::replay_of))]
-fn replay_of(
+#[tactic(auto, unfolding(crate::specs::Moves::parse_replay))]
+fn parse_replay(
     alloc: Global,
     sizes: Sizes,
     line: u32,
@@ -128,11 +130,11 @@ fn replay_of(
     lock: u64,
     onto: u64,
 ) -> Result<Move, OfferFault>
-    ensures { Gives (λ m. m) result (replay_of sizes line number lock onto) }
+    ensures { Gives (λ m. m) result (parse_replay sizes line number lock onto) }
 {
-    let arc = arc_of(alloc, sizes, line, "arc", number)?;
-    let lock = number_below(alloc, line, "lock", sizes.locks, lock)?;
-    let onto = arc_of(alloc, sizes, line, "onto", onto)?;
+    let arc = parse_arc(alloc, sizes, line, "arc", number)?;
+    let lock = bounded_number(alloc, line, "lock", sizes.locks, lock)?;
+    let onto = parse_arc(alloc, sizes, line, "onto", onto)?;
     Ok(Move::Replay { arc, lock, onto })
 }
 
@@ -146,11 +148,11 @@ fn key_of(
 ) -> Result<Hashkey, OfferFault>
     ensures { Gives (λ k. k) result (key_of sizes line path key.now) }
 {
-    let lock = number_below(alloc, line, "lock", sizes.locks, key.lock)?;
-    let secret = digest_in(alloc, line, "secret", key.secret.as_slice())?;
+    let lock = bounded_number(alloc, line, "lock", sizes.locks, key.lock)?;
+    let secret = parse_digest(alloc, line, "secret", key.secret.as_slice())?;
     within(alloc, line, "path", 0, sizes.path, key.path.len() as u64)?;
     within(alloc, line, "sigs", 0, sizes.path, key.sigs.len() as u64)?;
-    let sigs = sigs_of(alloc, line, key.sigs.as_slice())?;
+    let sigs = parse_sigs(alloc, line, key.sigs.as_slice())?;
     Ok(Hashkey {
         lock,
         secret,
@@ -159,8 +161,8 @@ fn key_of(
     })
 }
 
-#[tactic(auto, unfolding(crate::specs::Moves::unlock_of))]
-fn unlock_of(
+#[tactic(auto, unfolding(crate::specs::Moves::parse_unlock))]
+fn parse_unlock(
     alloc: Global,
     sizes: Sizes,
     names: &[ByteText],
@@ -169,32 +171,32 @@ fn unlock_of(
     key: &RawKey<'_>,
 ) -> Result<Move, OfferFault>
     requires names { length names.now ≤ 256 }
-    ensures { Gives (λ m. m) result (unlock_of sizes names.now line number key.now) }
+    ensures { Gives (λ m. m) result (parse_unlock sizes names.now line number key.now) }
 {
-    let path = numbers_of(alloc, line, names, key.path.as_slice())?;
-    let arc = arc_of(alloc, sizes, line, "arc", number)?;
+    let path = path_numbers(alloc, line, names, key.path.as_slice())?;
+    let arc = parse_arc(alloc, sizes, line, "arc", number)?;
     let key = key_of(alloc, sizes, line, path, key)?;
     Ok(Move::Raw { arc, key })
 }
 
-#[tactic(auto, unfolding(crate::specs::Moves::claim_of))]
-fn claim_of(alloc: Global, sizes: Sizes, line: u32, number: u64) -> Result<Move, OfferFault>
-    ensures { Gives (λ m. m) result (claim_of sizes line number) }
+#[tactic(auto, unfolding(crate::specs::Moves::parse_claim))]
+fn parse_claim(alloc: Global, sizes: Sizes, line: u32, number: u64) -> Result<Move, OfferFault>
+    ensures { Gives (λ m. m) result (parse_claim sizes line number) }
 {
-    let arc = arc_of(alloc, sizes, line, "arc", number)?;
+    let arc = parse_arc(alloc, sizes, line, "arc", number)?;
     Ok(Move::Claim { arc })
 }
 
-#[tactic(auto, unfolding(crate::specs::Moves::refund_of))]
-fn refund_of(alloc: Global, sizes: Sizes, line: u32, number: u64) -> Result<Move, OfferFault>
-    ensures { Gives (λ m. m) result (refund_of sizes line number) }
+#[tactic(auto, unfolding(crate::specs::Moves::parse_refund))]
+fn parse_refund(alloc: Global, sizes: Sizes, line: u32, number: u64) -> Result<Move, OfferFault>
+    ensures { Gives (λ m. m) result (parse_refund sizes line number) }
 {
-    let arc = arc_of(alloc, sizes, line, "arc", number)?;
+    let arc = parse_arc(alloc, sizes, line, "arc", number)?;
     Ok(Move::Refund { arc })
 }
 
-#[tactic(auto, unfolding(crate::specs::Moves::transfer_of))]
-fn transfer_of(
+#[tactic(auto, unfolding(crate::specs::Moves::parse_transfer))]
+fn parse_transfer(
     alloc: Global,
     sizes: Sizes,
     names: &[ByteText],
@@ -204,31 +206,31 @@ fn transfer_of(
     amount: u64,
 ) -> Result<Move, OfferFault>
     requires names { length names.now ≤ 256 }
-    ensures { Gives (λ m. m) result (transfer_of sizes names.now line number name.now amount) }
+    ensures { Gives (λ m. m) result (parse_transfer sizes names.now line number name.now amount) }
 {
     let to = party_of_name(alloc, line, names, name.as_slice())?;
-    let arc = arc_of(alloc, sizes, line, "arc", number)?;
+    let arc = parse_arc(alloc, sizes, line, "arc", number)?;
     let units = units(alloc, line, "units", amount)?;
     Ok(Move::Transfer { arc, to, units })
 }
 
-#[tactic(auto, unfolding(crate::specs::Moves::wait_of))]
-fn wait_of(
+#[tactic(auto, unfolding(crate::specs::Moves::parse_wait))]
+fn parse_wait(
     alloc: Global,
     sizes: Sizes,
     line: u32,
     number: u64,
     height: u64,
 ) -> Result<Move, OfferFault>
-    ensures { Gives (λ m. m) result (wait_of sizes line number height) }
+    ensures { Gives (λ m. m) result (parse_wait sizes line number height) }
 {
-    let arc = arc_of(alloc, sizes, line, "arc", number)?;
-    let height = number_within(alloc, line, "height", 0, 1_000_000, height)?;
+    let arc = parse_arc(alloc, sizes, line, "arc", number)?;
+    let height = ranged_number(alloc, line, "height", 0, 1_000_000, height)?;
     Ok(Move::Wait { arc, height })
 }
 
 /// The move that a line asks for, or the first reason against a name or a limit of it.
-pub fn move_of(
+pub fn parse_move(
     alloc: Global,
     sizes: Sizes,
     names: &[ByteText],
@@ -236,18 +238,18 @@ pub fn move_of(
     raw: &RawMove<'_>,
 ) -> Result<Move, OfferFault>
     requires names { length names.now ≤ 256 }
-    ensures { Gives (λ m. m) result (move_of sizes names.now line raw.now) }
+    ensures { Gives (λ m. m) result (parse_move sizes names.now line raw.now) }
 {
     match raw {
-        RawMove::Publish { arc, terms } => publish_of(alloc, sizes, line, *arc, terms),
-        RawMove::Craft { arc, craft } => craft_of(alloc, sizes, names, line, *arc, craft),
-        RawMove::Replay { arc, lock, onto } => replay_of(alloc, sizes, line, *arc, *lock, *onto),
-        RawMove::Raw { arc, key } => unlock_of(alloc, sizes, names, line, *arc, key),
-        RawMove::Claim { arc } => claim_of(alloc, sizes, line, *arc),
-        RawMove::Refund { arc } => refund_of(alloc, sizes, line, *arc),
+        RawMove::Publish { arc, terms } => make_publish(alloc, sizes, line, *arc, terms),
+        RawMove::Craft { arc, craft } => parse_craft(alloc, sizes, names, line, *arc, craft),
+        RawMove::Replay { arc, lock, onto } => parse_replay(alloc, sizes, line, *arc, *lock, *onto),
+        RawMove::Raw { arc, key } => parse_unlock(alloc, sizes, names, line, *arc, key),
+        RawMove::Claim { arc } => parse_claim(alloc, sizes, line, *arc),
+        RawMove::Refund { arc } => parse_refund(alloc, sizes, line, *arc),
         RawMove::Transfer { arc, to, units } => {
-            transfer_of(alloc, sizes, names, line, *arc, to, *units)
+            parse_transfer(alloc, sizes, names, line, *arc, to, *units)
         }
-        RawMove::Wait { arc, height } => wait_of(alloc, sizes, line, *arc, *height),
+        RawMove::Wait { arc, height } => parse_wait(alloc, sizes, line, *arc, *height),
     }
 }

@@ -13,7 +13,7 @@ use swap_digraph::PathList;
 
 /// The numbers of the parties of those names.
 #[tactic(auto, using(offer_fields::proofs::Lists::goes_on, offer_fields::proofs::Lists::ends, offer_fields::proofs::Lists::is_done))]
-pub fn numbers_of(
+pub fn path_numbers(
     alloc: Global,
     line: u32,
     names: &[ByteText],

@@ -4,7 +4,7 @@ ghost use Rattle.std.specs.Prelude.{◌≡◌, ◌==◌, ◌||◌, ◌<◌, fals
 ghost use Rattle.std.specs.List.{list_all, list_any};
 ghost use Rattle.swap_base.specs.Fault.{Gives};
 ghost use Rattle.swap_job.specs.Resolved.{move_arc};
-ghost use Rattle.offer_moves.specs.Kept.{AreCraftersBelow};
+ghost use Rattle.offer_moves.specs.Kept.{AreBoundedCrafters};
 ghost use Rattle.offer_moves.specs.Placed.{deviating, adjacent, received, crafted_by_others, placed};
 
 use refusals::{OfferFault, Reason};
@@ -62,7 +62,7 @@ fn any_conforms(conforming: &[bool], via: &[PartyId]) -> bool
 
 /// No party that crafts a hashkey conforms.
 fn check_crafters(line: u32, conforming: &[bool], mv: &Move) -> Result<(), OfferFault>
-    requires via { AreCraftersBelow (length conforming.now) mv.now }
+    requires via { AreBoundedCrafters (length conforming.now) mv.now }
     ensures { Gives (λ u. u) result (crafted_by_others conforming.now line mv.now) }
 {
     match mv {
@@ -81,7 +81,7 @@ pub fn check_place(
     mv: &Move,
 ) -> Result<(), OfferFault>
     requires arc { move_arc mv.now < length arcs.now }
-    requires conforming { AreCraftersBelow (length conforming.now) mv.now }
+    requires conforming { AreBoundedCrafters (length conforming.now) mv.now }
     ensures { Gives (λ u. u) result (placed arcs.now conforming.now line p mv.now) }
 {
     check_adjacent(arcs, line, p, arc_of_move(mv))?;

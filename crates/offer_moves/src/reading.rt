@@ -4,14 +4,14 @@ ghost use Rattle.serde_json.specs.View.{view};
 ghost use Rattle.serde_json.specs.Find.{as_array};
 ghost use Rattle.swap_base.specs.Fault.{Gives};
 ghost use Rattle.offer_fields.specs.Fields.{only};
-ghost use Rattle.offer_moves.specs.Reading.{texts_of, optional_texts_at, texts_at, kind_of, kind_at, terms_at, publish_fields, publish_at, key_at};
+ghost use Rattle.offer_moves.specs.Reading.{list_texts, optional_texts_at, texts_at, kind_of, kind_at, terms_at, publish_fields, publish_at, key_at};
 ghost use Rattle.offer_moves.specs.Reading.{raw_fields, raw_at, claim_at, refund_at, transfer_at, rest_at, move_at, crafting_at, craft_at, replay_at};
-ghost use Rattle.offer_moves.specs.Reading.{scripted_at, wait_of, wait_at};
+ghost use Rattle.offer_moves.specs.Reading.{scripted_at, parse_wait, wait_at};
 
 use crate::raw::{MoveKind, RawCraft, RawKey, RawMove, RawTerms};
 use offer_fields::{
-    Member, TextRef, array_in, is_object, number_in, only_in, optional_number_in, text_in,
-    texts_in as members_in,
+    Member, TextRef, allow_only, array_in, is_object, number_in, read_optional_number,
+    read_text_field, read_texts as members_in,
 };
 use refusals::{OfferFault, wrong_kind};
 use serde_json::Value;
@@ -19,14 +19,14 @@ use std::alloc::Global;
 use swap_base::Listed;
 
 /// The texts that a list holds.
-#[tactic(auto, unfolding(crate::specs::Reading::texts_of))]
-fn texts_of<'v>(
+#[tactic(auto, unfolding(crate::specs::Reading::list_texts))]
+fn list_texts<'v>(
     alloc: Global,
     line: u32,
     field: &str,
     list: &'v Value,
 ) -> Result<Listed<TextRef<'v>>, OfferFault>
-    ensures { Gives (λ x. x) result (texts_of line field.now (as_array (view list.now))) }
+    ensures { Gives (λ x. x) result (list_texts line field.now (as_array (view list.now))) }
 {
     match list.as_array() {
         Some(values) => members_in(alloc, line, field, values),
@@ -36,7 +36,7 @@ fn texts_of<'v>(
 
 /// The texts of a list that may be absent.
 #[tactic(auto, unfolding(crate::specs::Reading::optional_texts_at))]
-fn optional_texts_in<'v>(
+fn read_optional_texts<'v>(
     alloc: Global,
     line: u32,
     field: &str,
@@ -46,13 +46,13 @@ fn optional_texts_in<'v>(
 {
     match object.get(field) {
         None => Ok(None),
-        Some(list) => Ok(Some(texts_of(alloc, line, field, list)?)),
+        Some(list) => Ok(Some(list_texts(alloc, line, field, list)?)),
     }
 }
 
 /// The texts of a list.
 #[tactic(auto, unfolding(crate::specs::Reading::texts_at, offer_fields::specs::Fields::list_at))]
-fn texts_in<'v>(
+fn read_texts<'v>(
     alloc: Global,
     line: u32,
     field: &str,
@@ -65,8 +65,8 @@ fn texts_in<'v>(
 }
 
 /// What a word asks for that no other move is: a wait, in a script.
-fn wait_of(alloc: Global, line: u32, scripted: bool, word: &str) -> Result<MoveKind, OfferFault>
-    ensures { Gives (λ k. k) result (wait_of line scripted word.now) }
+fn parse_wait(alloc: Global, line: u32, scripted: bool, word: &str) -> Result<MoveKind, OfferFault>
+    ensures { Gives (λ k. k) result (parse_wait line scripted word.now) }
 {
     if scripted && word == "wait" {
         return Ok(MoveKind::Wait);
@@ -85,28 +85,33 @@ fn kind_of(alloc: Global, line: u32, scripted: bool, word: &str) -> Result<MoveK
         "transfer" => Ok(MoveKind::Transfer),
         "craft" => Ok(MoveKind::Craft),
         "replay" => Ok(MoveKind::Replay),
-        _ => wait_of(alloc, line, scripted, word),
+        _ => parse_wait(alloc, line, scripted, word),
     }
 }
 
 #[tactic(auto, unfolding(crate::specs::Reading::kind_at))]
-fn kind_in(alloc: Global, line: u32, scripted: bool, object: &Value) -> Result<MoveKind, OfferFault>
+fn read_kind(
+    alloc: Global,
+    line: u32,
+    scripted: bool,
+    object: &Value,
+) -> Result<MoveKind, OfferFault>
     ensures { Gives (λ k. k) result (kind_at line scripted (view object.now)) }
 {
-    let word = text_in(alloc, line, "do", object)?;
+    let word = read_text_field(alloc, line, "do", object)?;
     kind_of(alloc, line, scripted, word)
 }
 
 #[tactic(auto, unfolding(crate::specs::Reading::terms_at))]
-fn terms_in<'v>(alloc: Global, line: u32, object: &'v Value) -> Result<RawTerms<'v>, OfferFault>
+fn parse_terms<'v>(alloc: Global, line: u32, object: &'v Value) -> Result<RawTerms<'v>, OfferFault>
     ensures { Gives (λ t. t) result (terms_at line (view object.now)) }
 {
-    let start = optional_number_in(alloc, line, "start", object)?;
-    let delta = optional_number_in(alloc, line, "delta", object)?;
-    let bound = optional_number_in(alloc, line, "bound", object)?;
-    let timelock = optional_number_in(alloc, line, "timelock", object)?;
-    let amount = optional_number_in(alloc, line, "amount", object)?;
-    let locks = optional_texts_in(alloc, line, "locks", object)?;
+    let start = read_optional_number(alloc, line, "start", object)?;
+    let delta = read_optional_number(alloc, line, "delta", object)?;
+    let bound = read_optional_number(alloc, line, "bound", object)?;
+    let timelock = read_optional_number(alloc, line, "timelock", object)?;
+    let amount = read_optional_number(alloc, line, "amount", object)?;
+    let locks = read_optional_texts(alloc, line, "locks", object)?;
     Ok(RawTerms {
         start,
         delta,
@@ -123,11 +128,11 @@ fn only_publish(alloc: Global, line: u32, object: &Value) -> Result<(), OfferFau
     let allowed = [
         "amount", "arc", "bound", "delta", "do", "locks", "start", "timelock",
     ];
-    only_in(alloc, line, &allowed, object)
+    allow_only(alloc, line, &allowed, object)
 }
 
 #[tactic(auto, unfolding(crate::specs::Reading::publish_at))]
-fn publish_in<'v>(
+fn read_publish<'v>(
     alloc: Global,
     line: u32,
     arc: u64,
@@ -135,23 +140,27 @@ fn publish_in<'v>(
 ) -> Result<RawMove<'v>, OfferFault>
     ensures { Gives (λ m. m) result (publish_at line arc (view object.now)) }
 {
-    let terms = terms_in(alloc, line, object)?;
+    let terms = parse_terms(alloc, line, object)?;
     only_publish(alloc, line, object)?;
     Ok(RawMove::Publish { arc, terms })
 }
 
 #[tactic(auto, unfolding(crate::specs::Reading::crafting_at))]
-fn crafting_in<'v>(alloc: Global, line: u32, object: &'v Value) -> Result<RawCraft<'v>, OfferFault>
+fn read_crafting<'v>(
+    alloc: Global,
+    line: u32,
+    object: &'v Value,
+) -> Result<RawCraft<'v>, OfferFault>
     ensures { Gives (λ k. k) result (crafting_at line (view object.now)) }
 {
     let lock = number_in(alloc, line, "lock", object)?;
-    let via = texts_in(alloc, line, "via", object)?;
-    let onto = optional_number_in(alloc, line, "onto", object)?;
+    let via = read_texts(alloc, line, "via", object)?;
+    let onto = read_optional_number(alloc, line, "onto", object)?;
     Ok(RawCraft { lock, via, onto })
 }
 
 #[tactic(auto, unfolding(crate::specs::Reading::craft_at))]
-fn craft_in<'v>(
+fn read_craft<'v>(
     alloc: Global,
     line: u32,
     arc: u64,
@@ -159,13 +168,13 @@ fn craft_in<'v>(
 ) -> Result<RawMove<'v>, OfferFault>
     ensures { Gives (λ m. m) result (craft_at line arc (view object.now)) }
 {
-    let craft = crafting_in(alloc, line, object)?;
-    only_in(alloc, line, &["arc", "do", "lock", "onto", "via"], object)?;
+    let craft = read_crafting(alloc, line, object)?;
+    allow_only(alloc, line, &["arc", "do", "lock", "onto", "via"], object)?;
     Ok(RawMove::Craft { arc, craft })
 }
 
 #[tactic(auto, unfolding(crate::specs::Reading::replay_at))]
-fn replay_in<'v>(
+fn read_replay<'v>(
     alloc: Global,
     line: u32,
     arc: u64,
@@ -175,18 +184,18 @@ fn replay_in<'v>(
 {
     let lock = number_in(alloc, line, "lock", object)?;
     let onto = number_in(alloc, line, "onto", object)?;
-    only_in(alloc, line, &["arc", "do", "lock", "onto"], object)?;
+    allow_only(alloc, line, &["arc", "do", "lock", "onto"], object)?;
     Ok(RawMove::Replay { arc, lock, onto })
 }
 
 #[tactic(auto, unfolding(crate::specs::Reading::key_at))]
-fn key_in<'v>(alloc: Global, line: u32, object: &'v Value) -> Result<RawKey<'v>, OfferFault>
+fn fetch_key<'v>(alloc: Global, line: u32, object: &'v Value) -> Result<RawKey<'v>, OfferFault>
     ensures { Gives (λ k. k) result (key_at line (view object.now)) }
 {
     let lock = number_in(alloc, line, "lock", object)?;
-    let secret = text_in(alloc, line, "secret", object)?;
-    let path = texts_in(alloc, line, "path", object)?;
-    let sigs = texts_in(alloc, line, "sigs", object)?;
+    let secret = read_text_field(alloc, line, "secret", object)?;
+    let path = read_texts(alloc, line, "path", object)?;
+    let sigs = read_texts(alloc, line, "sigs", object)?;
     Ok(RawKey {
         lock,
         secret: TextRef::new(secret.as_bytes()),
@@ -199,11 +208,11 @@ fn only_raw(alloc: Global, line: u32, object: &Value) -> Result<(), OfferFault>
     ensures { Gives (λ u. u) result (only line raw_fields (view object.now)) }
 {
     let allowed = ["arc", "do", "lock", "path", "secret", "sigs"];
-    only_in(alloc, line, &allowed, object)
+    allow_only(alloc, line, &allowed, object)
 }
 
 #[tactic(auto, unfolding(crate::specs::Reading::raw_at))]
-fn raw_in<'v>(
+fn parse_raw<'v>(
     alloc: Global,
     line: u32,
     arc: u64,
@@ -211,13 +220,13 @@ fn raw_in<'v>(
 ) -> Result<RawMove<'v>, OfferFault>
     ensures { Gives (λ m. m) result (raw_at line arc (view object.now)) }
 {
-    let key = key_in(alloc, line, object)?;
+    let key = fetch_key(alloc, line, object)?;
     only_raw(alloc, line, object)?;
     Ok(RawMove::Raw { arc, key })
 }
 
 #[tactic(auto, unfolding(crate::specs::Reading::claim_at))]
-fn claim_in<'v>(
+fn read_claim<'v>(
     alloc: Global,
     line: u32,
     arc: u64,
@@ -225,12 +234,12 @@ fn claim_in<'v>(
 ) -> Result<RawMove<'v>, OfferFault>
     ensures { Gives (λ m. m) result (claim_at line arc (view object.now)) }
 {
-    only_in(alloc, line, &["arc", "do"], object)?;
+    allow_only(alloc, line, &["arc", "do"], object)?;
     Ok(RawMove::Claim { arc })
 }
 
 #[tactic(auto, unfolding(crate::specs::Reading::refund_at))]
-fn refund_in<'v>(
+fn read_refund<'v>(
     alloc: Global,
     line: u32,
     arc: u64,
@@ -238,12 +247,12 @@ fn refund_in<'v>(
 ) -> Result<RawMove<'v>, OfferFault>
     ensures { Gives (λ m. m) result (refund_at line arc (view object.now)) }
 {
-    only_in(alloc, line, &["arc", "do"], object)?;
+    allow_only(alloc, line, &["arc", "do"], object)?;
     Ok(RawMove::Refund { arc })
 }
 
 #[tactic(auto, unfolding(crate::specs::Reading::transfer_at))]
-fn transfer_in<'v>(
+fn read_transfer<'v>(
     alloc: Global,
     line: u32,
     arc: u64,
@@ -251,15 +260,15 @@ fn transfer_in<'v>(
 ) -> Result<RawMove<'v>, OfferFault>
     ensures { Gives (λ m. m) result (transfer_at line arc (view object.now)) }
 {
-    let to = text_in(alloc, line, "to", object)?;
+    let to = read_text_field(alloc, line, "to", object)?;
     let units = number_in(alloc, line, "units", object)?;
-    only_in(alloc, line, &["arc", "do", "to", "units"], object)?;
+    allow_only(alloc, line, &["arc", "do", "to", "units"], object)?;
     let to = TextRef::new(to.as_bytes());
     Ok(RawMove::Transfer { arc, to, units })
 }
 
 #[tactic(auto, unfolding(crate::specs::Reading::wait_at))]
-fn wait_in<'v>(
+fn read_wait<'v>(
     alloc: Global,
     line: u32,
     arc: u64,
@@ -268,12 +277,12 @@ fn wait_in<'v>(
     ensures { Gives (λ m. m) result (wait_at line arc (view object.now)) }
 {
     let height = number_in(alloc, line, "height", object)?;
-    only_in(alloc, line, &["arc", "do", "height"], object)?;
+    allow_only(alloc, line, &["arc", "do", "height"], object)?;
     Ok(RawMove::Wait { arc, height })
 }
 
 /// The further fields of a move.
-fn rest_in<'v>(
+fn read_rest<'v>(
     alloc: Global,
     line: u32,
     kind: MoveKind,
@@ -283,20 +292,20 @@ fn rest_in<'v>(
     ensures { Gives (λ m. m) result (rest_at line kind arc (view object.now)) }
 {
     match kind {
-        MoveKind::Publish => publish_in(alloc, line, arc, object),
-        MoveKind::Craft => craft_in(alloc, line, arc, object),
-        MoveKind::Replay => replay_in(alloc, line, arc, object),
-        MoveKind::Raw => raw_in(alloc, line, arc, object),
-        MoveKind::Claim => claim_in(alloc, line, arc, object),
-        MoveKind::Refund => refund_in(alloc, line, arc, object),
-        MoveKind::Transfer => transfer_in(alloc, line, arc, object),
-        MoveKind::Wait => wait_in(alloc, line, arc, object),
+        MoveKind::Publish => read_publish(alloc, line, arc, object),
+        MoveKind::Craft => read_craft(alloc, line, arc, object),
+        MoveKind::Replay => read_replay(alloc, line, arc, object),
+        MoveKind::Raw => parse_raw(alloc, line, arc, object),
+        MoveKind::Claim => read_claim(alloc, line, arc, object),
+        MoveKind::Refund => read_refund(alloc, line, arc, object),
+        MoveKind::Transfer => read_transfer(alloc, line, arc, object),
+        MoveKind::Wait => read_wait(alloc, line, arc, object),
     }
 }
 
 /// The move that an object states; a wait is one in a script alone.
 #[tactic(auto, unfolding(crate::specs::Reading::move_at))]
-pub fn move_in<'v>(
+pub fn read_move<'v>(
     alloc: Global,
     line: u32,
     scripted: bool,
@@ -304,9 +313,9 @@ pub fn move_in<'v>(
 ) -> Result<RawMove<'v>, OfferFault>
     ensures { Gives (λ m. m) result (move_at line scripted (view object.now)) }
 {
-    let kind = kind_in(alloc, line, scripted, object)?;
+    let kind = read_kind(alloc, line, scripted, object)?;
     let arc = number_in(alloc, line, "arc", object)?;
-    rest_in(alloc, line, kind, arc, object)
+    read_rest(alloc, line, kind, arc, object)
 }
 
 /// A move of a script.
@@ -321,6 +330,6 @@ impl<'v> Member<'v, ()> for RawMove<'v> {
         value: &'v Value,
     ) -> Result<RawMove<'v>, OfferFault> {
         is_object(alloc, line, "script", value)?;
-        move_in(alloc, line, true, value)
+        read_move(alloc, line, true, value)
     }
 }

@@ -18,7 +18,8 @@ use Rattle.swap_job.specs.declared.moves.Move.{Move}
 use Rattle.swap_job.specs.declared.moves.Move.TheVariants.{Publish, Craft, Replay, Raw, Claim, Refund, Transfer, Wait}
 use Rattle.offer_text.specs.Words.{digest_data, list_data, name_data, number_data, with_optional}
 use Rattle.offer_text.specs.Moves.{move_data, signature_data}
-use Rattle.offer_text.specs.HeaderLine.{arc_data, arc_at, arcs_data, leader_at, shown_party, actor_data, made_party, fields_by_mode, parties_data, shown_header}
+use Rattle.offer_text.specs.HeaderLine.{arc_data, arc_json, arcs_data, leader_value, shown_party, actor_data, made_party, fields_by_mode, parties_data}
+use Rattle.offer_text.specs.HeaderLine.{shown_header}
 use Rattle.offer_text.specs.HeaderLine.{made_header, header_data, is_make}
 
 items_without : {A : Type 0} (f : A → Data) → ((x : A) → has_float (f x) ≡ false) → (xs : List A) → items_have_float (items_of (map f xs)) ≡ false
@@ -37,13 +38,13 @@ row_without row = list_without digest_data (λ x. refl) row
 
 fields_without : (m : Mode) (names : List (List ℕ)) (parties : Data) (d : Deal) → has_float parties ≡ false
     → members_have_float (fields_by_mode m names parties d) ≡ false
-fields_without Timelocks names parties d p = rw (list_without (leader_at names d) (λ i. refl) (locks d), p) refl
+fields_without Timelocks names parties d p = rw (list_without (leader_value names d) (λ i. refl) (locks d), p) refl
 fields_without Hashkeys names parties d p =
-    rw (list_without (list_data digest_data) row_without d.keys, list_without (leader_at names d) (λ i. refl) (locks d), p) refl
+    rw (list_without (list_data digest_data) row_without d.keys, list_without (leader_value names d) (λ i. refl) (locks d), p) refl
 
 arcs_without : (names : List (List ℕ)) (d : Deal) → has_float (arcs_data names d) ≡ false
 arcs_without names d =
-    list_without (arc_at names d) (λ a. arc_without d.mode names (ends d.graph a) (amount d a) (slice_index d.timelocks a)) (arcs d.graph)
+    list_without (arc_json names d) (λ a. arc_without d.mode names (ends d.graph a) (amount d a) (slice_index d.timelocks a)) (arcs d.graph)
 
 shown_has_none : (job : Job) → has_float (shown_header job) ≡ false
 shown_has_none job =

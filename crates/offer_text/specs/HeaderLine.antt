@@ -11,7 +11,7 @@ use Rattle.swap_digraph.specs.declared.deal.Mode.{Mode}
 use Rattle.swap_digraph.specs.declared.deal.Mode.TheVariants.{Timelocks, Hashkeys}
 use Rattle.swap_digraph.specs.declared.deal.Version.{Version}
 use Rattle.swap_digraph.specs.declared.deal.Version.TheVariants.{One, Two}
-use Rattle.swap_digraph.specs.Deal.{amount, leader_of, locks, IsWellSized}
+use Rattle.swap_digraph.specs.Deal.{amount, lock_leader, locks, IsWellSized}
 use Rattle.swap_job.specs.declared.job.Job.{Job}
 use Rattle.swap_job.specs.declared.job.Role.{Role}
 use Rattle.swap_job.specs.declared.job.Role.TheVariants.{Conforming, Manual, Script, Strategy}
@@ -20,7 +20,7 @@ use Rattle.swap_job.specs.declared.job.Finish.TheVariants.{Stop, Fair}
 use Rattle.swap_job.specs.declared.job.Purpose.{Purpose}
 use Rattle.swap_job.specs.declared.job.Purpose.TheVariants.{Make}
 use Rattle.offer_text.specs.Words.{number_data, digest_data, name_data, list_data, with_optional, AreTexts}
-use Rattle.offer_text.specs.Moves.{move_data, NamesBelow}
+use Rattle.offer_text.specs.Moves.{move_data, BoundedNames}
 
 -- ---- the arcs, leaders and keys of a deal
 
@@ -36,20 +36,20 @@ arc_data Hashkeys names arc amount timelock =
     (member (codes "from") (name_data names arc.from)
     (member (codes "to") (name_data names arc.to) no_members)))
 
-abbrev pub arc_at : List (List ℕ) → Deal → ℕ → Data
-arc_at names d a = arc_data d.mode names (ends d.graph a) (amount d a) (slice_index d.timelocks a)
+abbrev pub arc_json : List (List ℕ) → Deal → ℕ → Data
+arc_json names d a = arc_data d.mode names (ends d.graph a) (amount d a) (slice_index d.timelocks a)
 
 abbrev pub arcs_data : List (List ℕ) → Deal → Data
-arcs_data names d = list_data (arc_at names d) (arcs d.graph)
+arcs_data names d = list_data (arc_json names d) (arcs d.graph)
 
 -- the leader of lock i, with its hashlock
-abbrev pub leader_at : List (List ℕ) → Deal → ℕ → Data
-leader_at names d i =
+abbrev pub leader_value : List (List ℕ) → Deal → ℕ → Data
+leader_value names d i =
     object (member (codes "hashlock") (digest_data (slice_index_or d.hashlocks i []))
-    (member (codes "party") (name_data names (leader_of d i)) no_members))
+    (member (codes "party") (name_data names (lock_leader d i)) no_members))
 
 abbrev pub leaders_data : List (List ℕ) → Deal → Data
-leaders_data names d = list_data (leader_at names d) (locks d)
+leaders_data names d = list_data (leader_value names d) (locks d)
 
 -- per party a list of its key for each lock
 abbrev pub keys_data : List (List (List ℕ)) → Data
@@ -141,7 +141,7 @@ header_line job = compact_text (header_data job)
 
 -- a role with moves that name only parties below n
 abbrev pub IsSayable : ℕ → Role → Type 0
-IsSayable n (Script moves) = All (NamesBelow n) moves
+IsSayable n (Script moves) = All (BoundedNames n) moves
 IsSayable n _ = Unit {0}
 
 -- the actors of a job can be said

@@ -66,8 +66,8 @@ abbrev pub AreBelow : ℕ → List ℕ → Type 0
 AreBelow n ps = All (λ p. p < n) ps
 
 -- the parties that a move names are below n
-abbrev pub NamesBelow : ℕ → Move → Type 0
-NamesBelow n (Craft arc lock via onto) = AreBelow n via
-NamesBelow n (Raw arc key) = AreBelow n key.path
-NamesBelow n (Transfer arc to units) = to < n
-NamesBelow n _ = Unit {0}
+abbrev pub BoundedNames : ℕ → Move → Type 0
+BoundedNames n (Craft arc lock via onto) = AreBelow n via
+BoundedNames n (Raw arc key) = AreBelow n key.path
+BoundedNames n (Transfer arc to units) = to < n
+BoundedNames n _ = Unit {0}

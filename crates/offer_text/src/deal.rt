@@ -5,10 +5,10 @@ ghost use Rattle.serde_json.specs.Data.{member, no_members, object, string};
 ghost use Rattle.serde_json.specs.View.{view, members_view};
 ghost use Rattle.swap_digraph.specs.Deal.{IsWellSized};
 ghost use Rattle.offer_text.specs.Words.{number_data, AreTexts, IsBelow};
-ghost use Rattle.offer_text.specs.HeaderLine.{arc_data, arc_at, arcs_data, leader_at, leaders_data};
+ghost use Rattle.offer_text.specs.HeaderLine.{arc_data, arc_json, arcs_data, leader_value, leaders_data};
 
 use crate::fields::{put_first, put_number, put_text};
-use crate::words::{digest_value, name_of};
+use crate::words::{digest_value, party_label};
 use serde_json::{Map, Value};
 use std::alloc::Global;
 use swap_base::{ArcId, ByteText, LockId, NoMemory};
@@ -44,8 +44,8 @@ fn put_arc(
     requires texts { AreTexts names.now }
     ensures { OnOk result (object (members_view fields.new.entries) ≡ arc_data mode names.now arc amount timelock) }
 {
-    let from = name_of(names, arc.from);
-    put_text(alloc, fields, "to", name_of(names, arc.to))?;
+    let from = party_label(names, arc.from);
+    put_text(alloc, fields, "to", party_label(names, arc.to))?;
     match mode {
         Mode::Timelocks => {
             put_number(alloc, fields, "timelock", timelock as u64)?;
@@ -55,12 +55,12 @@ fn put_arc(
     }
 }
 
-fn arc_at(alloc: Global, names: &[ByteText], deal: &Deal, arc: ArcId) -> Result<Value, NoMemory>
+fn arc_json(alloc: Global, names: &[ByteText], deal: &Deal, arc: ArcId) -> Result<Value, NoMemory>
     requires sized { IsWellSized deal.now }
     requires arc { arc < length deal.now.graph.arcs }
     requires names { length names.now ≡ deal.now.graph.n }
     requires texts { AreTexts names.now }
-    ensures { IfOk result (λ v. view v ≡ arc_at names.now deal.now arc) }
+    ensures { IfOk result (λ v. view v ≡ arc_json names.now deal.now arc) }
 {
     let ends = deal.graph.arcs()[arc as usize];
     let amount = deal.amounts.as_slice()[arc as usize];
@@ -79,7 +79,7 @@ pub(crate) fn arcs_value(alloc: Global, names: &[ByteText], deal: &Deal) -> Resu
 {
     let mut list = Vec::new(alloc);
     for arc in 0..deal.graph.arcs().len() as ArcId {
-        list.push(arc_at(alloc, names, deal, arc)?)?;
+        list.push(arc_json(alloc, names, deal, arc)?)?;
     }
     Ok(Value::Array(list))
 }
@@ -96,15 +96,15 @@ fn put_leader(
     requires lock { lock < length deal.now.leaders }
     requires names { length names.now ≡ deal.now.graph.n }
     requires texts { AreTexts names.now }
-    ensures { OnOk result (object (members_view fields.new.entries) ≡ leader_at names.now deal.now lock) }
+    ensures { OnOk result (object (members_view fields.new.entries) ≡ leader_value names.now deal.now lock) }
 {
-    let party = name_of(names, deal.leaders.as_slice()[lock as usize]);
+    let party = party_label(names, deal.leaders.as_slice()[lock as usize]);
     put_text(alloc, fields, "party", party)?;
     let hashlock = digest_value(alloc, &deal.hashlocks.as_slice()[lock as usize])?;
     put_first(alloc, fields, "hashlock", hashlock)
 }
 
-fn leader_at(
+fn leader_value(
     alloc: Global,
     names: &[ByteText],
     deal: &Deal,
@@ -114,7 +114,7 @@ fn leader_at(
     requires lock { lock < length deal.now.leaders }
     requires names { length names.now ≡ deal.now.graph.n }
     requires texts { AreTexts names.now }
-    ensures { IfOk result (λ v. view v ≡ leader_at names.now deal.now lock) }
+    ensures { IfOk result (λ v. view v ≡ leader_value names.now deal.now lock) }
 {
     let mut fields = Map::new(alloc);
     put_leader(alloc, &mut fields, names, deal, lock)?;
@@ -134,7 +134,7 @@ pub(crate) fn leaders_value(
 {
     let mut list = Vec::new(alloc);
     for lock in 0..deal.leaders.len() as LockId {
-        list.push(leader_at(alloc, names, deal, lock)?)?;
+        list.push(leader_value(alloc, names, deal, lock)?)?;
     }
     Ok(Value::Array(list))
 }

@@ -14,4 +14,4 @@ mod words;
 
 pub use fields::{put_first, put_number, put_text};
 pub use header::write_deal;
-pub use words::text_of;
+pub use words::to_text;

@@ -6,12 +6,12 @@ ghost use Rattle.serde_json.specs.View.{view, members_view};
 ghost use Rattle.swap_job.specs.declared.moves.Move.TheVariants.{Craft as crafts, Replay as replays, Raw as presents};
 ghost use Rattle.swap_job.specs.declared.moves.Move.TheVariants.{Transfer as transfers, Wait as waits};
 ghost use Rattle.offer_text.specs.Words.{digest_data, list_data, name_data, number_data, with_optional, AreTexts, IsBelow};
-ghost use Rattle.offer_text.specs.Moves.{move_data, signature_data, AreBelow, NamesBelow};
+ghost use Rattle.offer_text.specs.Moves.{move_data, signature_data, AreBelow, BoundedNames};
 
 use crate::fields::{put_first, put_number, put_text};
 use crate::shown::list_value;
 use crate::terms::{put_first_terms, put_last_terms};
-use crate::words::{digest_value, name_of, names_value};
+use crate::words::{digest_value, names_value, party_label};
 use hashkey_path::Hashkey;
 use serde_json::{Map, Value};
 use std::alloc::Global;
@@ -145,7 +145,7 @@ fn put_transfer(
     ensures { OnOk result (object (members_view fields.new.entries) ≡ move_data names.now (transfers arc to units)) }
 {
     put_number(alloc, fields, "units", units)?;
-    put_text(alloc, fields, "to", name_of(names, to))?;
+    put_text(alloc, fields, "to", party_label(names, to))?;
     put_head(alloc, fields, "transfer", arc)
 }
 
@@ -172,7 +172,7 @@ fn put_move(
 ) -> Result<(), NoMemory>
     requires none { members_view fields.old.entries ≡ no_members }
     requires texts { AreTexts names.now }
-    requires known { NamesBelow (length names.now) mv.now }
+    requires known { BoundedNames (length names.now) mv.now }
     ensures { OnOk result (object (members_view fields.new.entries) ≡ move_data names.now mv.now) }
 {
     match mv {
@@ -207,7 +207,7 @@ fn put_move(
 
 fn move_value(alloc: Global, names: &[ByteText], mv: &Move) -> Result<Value, NoMemory>
     requires texts { AreTexts names.now }
-    requires known { NamesBelow (length names.now) mv.now }
+    requires known { BoundedNames (length names.now) mv.now }
     ensures { IfOk result (λ v. view v ≡ move_data names.now mv.now) }
 {
     let mut fields = Map::new(alloc);
@@ -222,7 +222,7 @@ pub(crate) fn moves_value(
     moves: &[Move],
 ) -> Result<Value, NoMemory>
     requires texts { AreTexts names.now }
-    requires known { All (NamesBelow (length names.now)) moves.now }
+    requires known { All (BoundedNames (length names.now)) moves.now }
     ensures { IfOk result (λ v. view v ≡ list_data (move_data names.now) moves.now) }
 {
     let mut list = Vec::new(alloc);

@@ -9,7 +9,7 @@ ghost use Rattle.offer_text.specs.HeaderLine.{shown_party, made_party, parties_d
 
 use crate::fields::{put_first, put_text};
 use crate::moves::moves_value;
-use crate::words::{digest_value, name_of, word_value};
+use crate::words::{digest_value, party_label, word_value};
 use serde_json::{Map, Value};
 use std::alloc::Global;
 use swap_base::{ByteText, Digest, NoMemory, PartyId};
@@ -32,7 +32,7 @@ fn put_shown_party(
     requires party { p < job.now.deal.graph.n }
     ensures { OnOk result (object (members_view fields.new.entries) ≡ shown_party job.now p) }
 {
-    put_text(alloc, fields, "name", name_of(job.names.as_slice(), p))?;
+    put_text(alloc, fields, "name", party_label(job.names.as_slice(), p))?;
     let actor = word_of_conforming(job.conforming.as_slice()[p as usize]);
     put_text(alloc, fields, "actor", actor)
 }
@@ -122,7 +122,7 @@ fn put_made_party(
 {
     let names = job.names.as_slice();
     put_seed(alloc, fields, &job.seeds.as_slice()[p as usize])?;
-    put_text(alloc, fields, "name", name_of(names, p))?;
+    put_text(alloc, fields, "name", party_label(names, p))?;
     let actor = actor_value(alloc, names, &job.roles.as_slice()[p as usize])?;
     put_first(alloc, fields, "actor", actor)
 }

@@ -13,7 +13,7 @@ use std::str;
 use swap_base::{ByteText, Digest, NoMemory, PartyId};
 
 /// The bytes as text.
-pub fn text_of(bytes: &[u8]) -> &str
+pub fn to_text(bytes: &[u8]) -> &str
     requires { IsUtf8 bytes.now }
     ensures { result.now ≡ bytes.now }
 {
@@ -24,12 +24,12 @@ pub fn text_of(bytes: &[u8]) -> &str
 }
 
 /// The name of a party.
-pub(crate) fn name_of(names: &[ByteText], p: PartyId) -> &str
+pub(crate) fn party_label(names: &[ByteText], p: PartyId) -> &str
     requires party { p < length names.now }
     requires texts { AreTexts names.now }
     ensures { string result.now ≡ name_data names.now p }
 {
-    text_of(names[p as usize].as_slice())
+    to_text(names[p as usize].as_slice())
 }
 
 /// A word, as it is.
@@ -51,7 +51,7 @@ pub(crate) fn names_value(
 {
     let mut list = Vec::new(alloc);
     for p in parties {
-        list.push(word_value(alloc, name_of(names, *p))?)?;
+        list.push(word_value(alloc, party_label(names, *p))?)?;
     }
     Ok(Value::Array(list))
 }

@@ -10,10 +10,10 @@ use Rattle.swap_rules.specs.declared.outcome.Outcome.TheVariants.{Underwater, De
 use Rattle.swap_rules.specs.Accepted.{IsAccepted}
 use Rattle.swap_rules.specs.Findings.{findings}
 use Rattle.swap_rules.specs.Outcome.{outcome}
-use Rattle.swap_rules.specs.Laws.{is_in_name_of, FindsNothing, IsTransferred}
+use Rattle.swap_rules.specs.Laws.{names_party, FindsNothing, IsTransferred}
 use Rattle.swap_rules.specs.Walking.{endangers, strands}
 use Rattle.swap_rules.proofs.Found as found
-use Rattle.outcome_rules.specs.Report.{conforms_in, outcomes_of}
+use Rattle.outcome_rules.specs.Report.{conforms_in, deal_outcomes}
 use Rattle.outcome_rules.specs.Promises.{AllAreConforming, AllHaveRefunds, NoneIsUnderwater}
 
 module _ (d : Deal) (conforming : List Bool) (b : Histories) (l : List Finding) (legal : IsLegalBook d b)
@@ -21,7 +21,7 @@ module _ (d : Deal) (conforming : List Bool) (b : Histories) (l : List Finding) 
   pub none_is_underwater : IsAccepted d → NoneIsUnderwater d conforming (outcome d b) l
   none_is_underwater k v c none =
       found.late_publish_is_safe d (conforms_in conforming) b v k legal c.party c.conforms (subst (λ l. list_any (endangers v) l ≡ false) exact c.clear)
-      (subst (λ l. list_any (is_in_name_of d v) l ≡ false) exact none)
+      (subst (λ l. list_any (names_party d v) l ≡ false) exact none)
 
   pub all_have_refunds : IsAccepted d → AllHaveRefunds d conforming b l
   all_have_refunds k v c =
@@ -33,7 +33,7 @@ module _ (d : Deal) (conforming : List Bool) (b : Histories) (l : List Finding) 
   pub finds_nothing : l ≡ [] → FindsNothing d (conforms_in conforming) b
   finds_nothing none = found.nothing_found d (conforms_in conforming) b legal (sym exact ∙ none)
 
-module _ (d : Deal) (b : Histories) (shown : List Outcome) (exact : shown ≡ outcomes_of d b) where
+module _ (d : Deal) (b : Histories) (shown : List Outcome) (exact : shown ≡ deal_outcomes d b) where
   outcome_shown : (v : ℕ) → v < d.graph.n → slice_index_or shown v Underwater ≡ outcome d b v
   outcome_shown v l =
       let z : ◌≡◌ {A = ℕ} (0 + v) v = omega arith in

@@ -4,7 +4,7 @@ use Rattle.swap_digraph.specs.declared.deal.Deal.{Deal}
 use Rattle.ledger_core.specs.declared.entry.Entry.{Entry}
 use Rattle.ledger_core.specs.Book.{Histories}
 use Rattle.history_index.specs.Value.{IndexState, new_index, IsSameArc}
-use Rattle.history_index.specs.Indexes.{entries_in, AreIndexes}
+use Rattle.history_index.specs.Indexes.{all_entries, AreIndexes}
 
 -- The index of arc a, with these entries.
 pub record IsIndexOf (d : Deal) (a : ℕ) (h : List Entry) (i : IndexState) : Type 0 where
@@ -14,4 +14,4 @@ pub record IsIndexOf (d : Deal) (a : ℕ) (h : List Entry) (i : IndexState) : Ty
 -- One index per arc, with the histories of the book.
 pub record AreIndexesOf (d : Deal) (b : Histories) (known : List IndexState) : Type 0 where
   pub indexes : AreIndexes d known
-  pub entries : entries_in known ≡ b
+  pub entries : all_entries known ≡ b

@@ -6,5 +6,5 @@ use Rattle.swap_rules.specs.declared.finding.Finding.{Finding}
 use Rattle.swap_rules.specs.declared.finding.Finding.TheVariants.{Unfinished}
 
 -- the ledger of arc a, where it isn't above the horizon
-abbrev pub unfinished_at : ℕ → Histories → ℕ → List Finding
-unfinished_at end b a = if nat_lt end (height (history b a)) then [] else Unfinished a (height (history b a)) ∷ []
+abbrev pub arc_unfinished : ℕ → Histories → ℕ → List Finding
+arc_unfinished end b a = if nat_lt end (height (history b a)) then [] else Unfinished a (height (history b a)) ∷ []

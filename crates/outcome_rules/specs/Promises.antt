@@ -6,7 +6,7 @@ use Rattle.ledger_core.specs.Book.{Histories}
 use Rattle.swap_rules.specs.declared.finding.Finding.{Finding}
 use Rattle.swap_rules.specs.declared.outcome.Outcome.{Outcome}
 use Rattle.swap_rules.specs.declared.outcome.Outcome.TheVariants.{Underwater, Deal as WholeDeal}
-use Rattle.swap_rules.specs.Laws.{is_in_name_of, HasRefunds}
+use Rattle.swap_rules.specs.Laws.{names_party, HasRefunds}
 use Rattle.swap_rules.specs.Walking.{endangers, strands}
 use Rattle.outcome_rules.specs.declared.report.Report.{Report}
 use Rattle.outcome_rules.specs.Report.{conforms_in}
@@ -20,7 +20,8 @@ pub record IsClear (says : Finding → Bool) (d : Deal) (conforming : List Bool)
 -- A conforming party doesn't end underwater if no finding endangers it and none stands in its name
 -- on an arc that leaves it. It may have published or asked back late.
 abbrev pub NoneIsUnderwater : Deal → List Bool → (ℕ → Outcome) → List Finding → Type 0
-NoneIsUnderwater d conforming outcome_of found = (v : ℕ) → IsClear (endangers v) d conforming found v → list_any (is_in_name_of d v) found ≡ false → outcome_of v ≢ Underwater
+NoneIsUnderwater d conforming outcome_of found = (v : ℕ) → IsClear (endangers v) d conforming found v → list_any (names_party d v) found ≡ false
+    → outcome_of v ≢ Underwater
 
 -- every conforming party that no finding strands, forged or not, has the whole amount of each leaving arc that isn't triggered, however late it unlocked
 -- or claimed

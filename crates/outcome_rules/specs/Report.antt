@@ -19,9 +19,9 @@ abbrev pub conforms_in : List Bool → ℕ → Bool
 conforms_in conforming p = slice_index_or conforming p false
 
 -- how each party ended
-abbrev pub outcomes_of : Deal → Histories → List Outcome
-outcomes_of d b = map (outcome d b) (range_with_len 0 d.graph.n)
+abbrev pub deal_outcomes : Deal → Histories → List Outcome
+deal_outcomes d b = map (outcome d b) (range_with_len 0 d.graph.n)
 
 -- the report of a book
-unfoldable pub report_of : Deal → List Bool → Histories → Report
-report_of d conforming b = record { ended = has_ended d b; outcomes = outcomes_of d b; findings = findings d (conforms_in conforming) b }
+unfoldable pub build_report : Deal → List Bool → Histories → Report
+build_report d conforming b = record { ended = has_ended d b; outcomes = deal_outcomes d b; findings = findings d (conforms_in conforming) b }

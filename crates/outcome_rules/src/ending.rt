@@ -4,7 +4,7 @@ ghost use Rattle.std.specs.Prelude.{◌≡◌, ◌<◌};
 ghost use Rattle.swap_digraph.specs.Deal.{IsWellSized};
 ghost use Rattle.ledger_core.specs.Book.{history};
 ghost use Rattle.ledger_core.specs.History.{settled};
-ghost use Rattle.history_index.specs.Indexes.{entries_in, AreIndexes};
+ghost use Rattle.history_index.specs.Indexes.{all_entries, AreIndexes};
 ghost use Rattle.swap_rules.specs.Outcome.{got, is_claim, lost, outcome};
 
 use due_calls::{is_correct, is_triggered};
@@ -16,7 +16,7 @@ use swap_rules::Outcome;
 
 /// Whether the arc has an accepted claim.
 fn is_claimed(known: &[Index], arc: ArcId) -> bool
-    ensures { result ≡ is_claim (settled (history (entries_in known.now) arc)) }
+    ensures { result ≡ is_claim (settled (history (all_entries known.now) arc)) }
 {
     match known.get(arc as usize) {
         Some(index) => index.settled() == Some(Settlement::Claimed),
@@ -28,7 +28,7 @@ fn is_claimed(known: &[Index], arc: ArcId) -> bool
 fn got(deal: &Deal, known: &[Index], party: PartyId) -> usize
     requires known { AreIndexes deal.now known.now }
     requires party { party < deal.now.graph.n }
-    ensures { result ≡ got deal.now (entries_in known.now) party }
+    ensures { result ≡ got deal.now (all_entries known.now) party }
 {
     let entering = deal.graph.entering(party);
     entering
@@ -42,7 +42,7 @@ fn lost(deal: &Deal, known: &[Index], party: PartyId) -> usize
     requires sized { IsWellSized deal.now }
     requires known { AreIndexes deal.now known.now }
     requires party { party < deal.now.graph.n }
-    ensures { result ≡ lost deal.now (entries_in known.now) party }
+    ensures { result ≡ lost deal.now (all_entries known.now) party }
 {
     let leaving = deal.graph.leaving(party);
     leaving
@@ -57,7 +57,7 @@ pub fn outcome(deal: &Deal, known: &[Index], party: PartyId) -> Outcome
     requires sized { IsWellSized deal.now }
     requires known { AreIndexes deal.now known.now }
     requires party { party < deal.now.graph.n }
-    ensures { result ≡ outcome deal.now (entries_in known.now) party }
+    ensures { result ≡ outcome deal.now (all_entries known.now) party }
 {
     let lost = lost(deal, known, party);
     let got = got(deal, known, party);

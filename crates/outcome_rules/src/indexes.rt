@@ -36,7 +36,7 @@ fn index_counted<L: Ledger>(
 }
 
 /// The index of the arc with these entries, a legal history of it.
-fn index_of(alloc: Global, deal: &Deal, arc: ArcId, list: &EntryList) -> Result<Index, NoMemory>
+fn build_index(alloc: Global, deal: &Deal, arc: ArcId, list: &EntryList) -> Result<Index, NoMemory>
     requires sized { IsWellSized deal.now }
     requires arc { arc < length deal.now.graph.arcs }
     requires legal { IsLegal deal.now arc list.now }
@@ -46,14 +46,14 @@ fn index_of(alloc: Global, deal: &Deal, arc: ArcId, list: &EntryList) -> Result<
 }
 
 /// One index per arc, with the entries of its history.
-pub fn indexes_of(alloc: Global, deal: &Deal, book: &Book) -> Result<Vec<Index>, NoMemory>
+pub fn build_indexes(alloc: Global, deal: &Deal, book: &Book) -> Result<Vec<Index>, NoMemory>
     requires sized { IsWellSized deal.now }
     requires legal { IsLegalBook deal.now book.now.histories }
     ensures { IfOk result (λ v. AreIndexesOf deal.now book.now.histories v.items) }
 {
     let mut known = Vec::new(alloc);
     for (arc, list) in book.histories.as_slice().iter().enumerate() {
-        known.push(index_of(alloc, deal, arc as u8, list)?)?;
+        known.push(build_index(alloc, deal, arc as u8, list)?)?;
     }
     Ok(known)
 }

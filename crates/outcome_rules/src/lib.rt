@@ -11,6 +11,6 @@ mod listing;
 mod report;
 
 pub use ending::outcome;
-pub use indexes::indexes_of;
+pub use indexes::build_indexes;
 pub use listing::{findings, findings_indexed, unfinished};
-pub use report::{Report, report_of};
+pub use report::{Report, build_report};

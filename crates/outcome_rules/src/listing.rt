@@ -3,18 +3,18 @@
 ghost use Rattle.std.specs.Prelude.{◌≡◌, ◌<◌, ◌++◌, [], IfOk, OnOk, length, if◌then◌else◌};
 ghost use Rattle.swap_digraph.specs.Deal.{IsWellSized};
 ghost use Rattle.ledger_core.specs.Book.{IsLegalBook};
-ghost use Rattle.history_index.specs.Indexes.{entries_in, AreIndexes};
+ghost use Rattle.history_index.specs.Indexes.{all_entries, AreIndexes};
 ghost use Rattle.swap_rules.specs.Accepted.{IsAccepted};
-ghost use Rattle.swap_rules.specs.Findings.{findings, findings_of, unfinished};
+ghost use Rattle.swap_rules.specs.Findings.{findings, party_findings, unfinished};
 ghost use Rattle.swap_rules.specs.Outcome.{outcome};
 ghost use Rattle.swap_rules.specs.Laws.{FindsNothing, IsTransferred};
-ghost use Rattle.outcome_rules.specs.Parts.{unfinished_at};
+ghost use Rattle.outcome_rules.specs.Parts.{arc_unfinished};
 ghost use Rattle.outcome_rules.specs.Promises.{AllAreConforming, AllHaveRefunds, NoneIsUnderwater};
 ghost use Rattle.outcome_rules.specs.Report.{conforms_in};
 
-use crate::indexes::indexes_of;
+use crate::indexes::build_indexes;
 use conduct_check::{put_broken, put_forgeries};
-use due_calls::height_on;
+use due_calls::arc_height;
 use history_index::Index;
 use late_check::put_lates;
 use ledger_core::Book;
@@ -26,7 +26,7 @@ use swap_rules::Finding;
 use time_bounds::horizon;
 
 /// Adds what is found of the party.
-fn put_findings_of(
+fn put_rule_findings(
     alloc: Global,
     out: &mut Vec<Finding>,
     deal: &Deal,
@@ -35,9 +35,9 @@ fn put_findings_of(
 ) -> Result<(), NoMemory>
     requires sized { IsWellSized deal.now }
     requires known { AreIndexes deal.now known.now }
-    requires legal { IsLegalBook deal.now (entries_in known.now) }
+    requires legal { IsLegalBook deal.now (all_entries known.now) }
     requires party { party < deal.now.graph.n }
-    ensures { OnOk result (out.new.items ≡ out.old.items ++ findings_of deal.now (entries_in known.now) party) }
+    ensures { OnOk result (out.new.items ≡ out.old.items ++ party_findings deal.now (all_entries known.now) party) }
 {
     let keys = unlocks_on_own_arcs(alloc, deal, known, party)?;
     put_broken(out, deal, known, party, &keys)?;
@@ -47,7 +47,7 @@ fn put_findings_of(
 }
 
 /// Adds what is found of the party, where it conforms.
-fn put_findings_at(
+fn put_party_findings(
     alloc: Global,
     out: &mut Vec<Finding>,
     deal: &Deal,
@@ -58,27 +58,27 @@ fn put_findings_at(
     requires sized { IsWellSized deal.now }
     requires conforming { length conforming.now ≡ deal.now.graph.n }
     requires known { AreIndexes deal.now known.now }
-    requires legal { IsLegalBook deal.now (entries_in known.now) }
+    requires legal { IsLegalBook deal.now (all_entries known.now) }
     requires party { party < deal.now.graph.n }
     ensures { OnOk result (out.new.items ≡ out.old.items
-        ++ (if conforms_in conforming.now party then findings_of deal.now (entries_in known.now) party else [])) }
+        ++ (if conforms_in conforming.now party then party_findings deal.now (all_entries known.now) party else [])) }
 {
     if conforming.as_slice()[party as usize] {
-        put_findings_of(alloc, out, deal, known, party)?;
+        put_rule_findings(alloc, out, deal, known, party)?;
     }
     Ok(())
 }
 
 /// Adds the ledger of the arc, where it isn't above the horizon.
-fn put_unfinished_at(
+fn put_unfinished_arc(
     out: &mut Vec<Finding>,
     horizon: u64,
     known: &[Index],
     arc: ArcId,
 ) -> Result<(), NoMemory>
-    ensures { OnOk result (out.new.items ≡ out.old.items ++ unfinished_at horizon (entries_in known.now) arc) }
+    ensures { OnOk result (out.new.items ≡ out.old.items ++ arc_unfinished horizon (all_entries known.now) arc) }
 {
-    let height = height_on(known, arc);
+    let height = arc_height(known, arc);
     if height as u64 <= horizon {
         out.push(Finding::Unfinished(arc, height))?;
     }
@@ -89,11 +89,11 @@ fn put_unfinished_at(
 #[tactic(auto, using(sent_keys::proofs::Loops::flat_more))]
 fn put_unfinished(out: &mut Vec<Finding>, deal: &Deal, known: &[Index]) -> Result<(), NoMemory>
     requires { IsWellSized deal.now }
-    ensures { OnOk result (out.new.items ≡ out.old.items ++ unfinished deal.now (entries_in known.now)) }
+    ensures { OnOk result (out.new.items ≡ out.old.items ++ unfinished deal.now (all_entries known.now)) }
 {
     let horizon = horizon(deal.start, deal.delta, deal.bound);
     for arc in 0..deal.graph.arcs().len() as u8 {
-        put_unfinished_at(out, horizon, known, arc)?;
+        put_unfinished_arc(out, horizon, known, arc)?;
     }
     Ok(())
 }
@@ -104,7 +104,7 @@ pub fn unfinished(alloc: Global, deal: &Deal, book: &Book) -> Result<Listed<Find
     requires legal { IsLegalBook deal.now book.now.histories }
     ensures { IfOk result (λ l. l ≡ unfinished deal.now book.now.histories) }
 {
-    let known = indexes_of(alloc, deal, book)?;
+    let known = build_indexes(alloc, deal, book)?;
     let mut list = Vec::new(alloc);
     put_unfinished(&mut list, deal, &known)?;
     Ok(Listed::new(list))
@@ -120,17 +120,17 @@ pub fn findings_indexed(
     requires sized { IsWellSized deal.now }
     requires conforming { length conforming.now ≡ deal.now.graph.n }
     requires known { AreIndexes deal.now known.now }
-    requires legal { IsLegalBook deal.now (entries_in known.now) }
-    ensures exact { IfOk result (λ l. l ≡ findings deal.now (conforms_in conforming.now) (entries_in known.now)) }
-    ensures safe { IfOk result (λ l. IsAccepted deal.now → NoneIsUnderwater deal.now conforming.now (outcome deal.now (entries_in known.now)) l) }
-    ensures refunds { IfOk result (λ l. IsAccepted deal.now → AllHaveRefunds deal.now conforming.now (entries_in known.now) l) }
+    requires legal { IsLegalBook deal.now (all_entries known.now) }
+    ensures exact { IfOk result (λ l. l ≡ findings deal.now (conforms_in conforming.now) (all_entries known.now)) }
+    ensures safe { IfOk result (λ l. IsAccepted deal.now → NoneIsUnderwater deal.now conforming.now (outcome deal.now (all_entries known.now)) l) }
+    ensures refunds { IfOk result (λ l. IsAccepted deal.now → AllHaveRefunds deal.now conforming.now (all_entries known.now) l) }
     ensures transfer { IfOk result (λ l. (k : IsAccepted deal.now) → AllAreConforming deal.now conforming.now → l ≡ []
-        → IsTransferred deal.now (entries_in known.now) k) }
-    ensures nothing_found { IfOk result (λ l. l ≡ [] → FindsNothing deal.now (conforms_in conforming.now) (entries_in known.now)) }
+        → IsTransferred deal.now (all_entries known.now) k) }
+    ensures nothing_found { IfOk result (λ l. l ≡ [] → FindsNothing deal.now (conforms_in conforming.now) (all_entries known.now)) }
 {
     let mut list = Vec::new(alloc);
     for party in 0..deal.graph.n() {
-        put_findings_at(alloc, &mut list, deal, conforming, known, party)?;
+        put_party_findings(alloc, &mut list, deal, conforming, known, party)?;
     }
     put_unfinished(&mut list, deal, known)?;
     Ok(Listed::new(list))
@@ -155,6 +155,6 @@ pub fn findings(
         → IsTransferred deal.now book.now.histories k) }
     ensures nothing_found { IfOk result (λ l. l ≡ [] → FindsNothing deal.now (conforms_in conforming.now) book.now.histories) }
 {
-    let known = indexes_of(alloc, deal, book)?;
+    let known = build_indexes(alloc, deal, book)?;
     findings_indexed(alloc, deal, conforming, &known)
 }

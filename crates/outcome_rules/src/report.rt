@@ -3,16 +3,16 @@
 ghost use Rattle.std.specs.Prelude.{◌≡◌, [], nat_lt, IfOk, length};
 ghost use Rattle.std.specs.List.{list_all};
 ghost use Rattle.swap_digraph.specs.Deal.{IsWellSized};
-ghost use Rattle.ledger_core.specs.History.{height as height_of};
+ghost use Rattle.ledger_core.specs.History.{height as latest_height};
 ghost use Rattle.ledger_core.specs.Book.{IsLegalBook};
-ghost use Rattle.history_index.specs.Indexes.{entries_in, AreIndexes};
+ghost use Rattle.history_index.specs.Indexes.{all_entries, AreIndexes};
 ghost use Rattle.swap_rules.specs.Accepted.{IsAccepted};
 ghost use Rattle.swap_rules.specs.Laws.{FindsNothing, IsTransferred};
 ghost use Rattle.outcome_rules.specs.Promises.{AllAreConforming, AllAreWhole, AllHaveRefunds, NoneIsUnderwater, shown_outcome};
-ghost use Rattle.outcome_rules.specs.Report.{conforms_in, has_ended, outcomes_of, report_of};
+ghost use Rattle.outcome_rules.specs.Report.{conforms_in, has_ended, deal_outcomes, build_report};
 
 use crate::ending::outcome;
-use crate::indexes::indexes_of;
+use crate::indexes::build_indexes;
 use crate::listing::findings_indexed;
 use history_index::Index;
 use ledger_core::{Book, Facts};
@@ -32,8 +32,8 @@ pub struct Report {
 }
 
 /// Whether each ledger's height is above this one.
-fn are_above(known: &[Index], height: u64) -> bool
-    ensures { result ≡ list_all (λ x. nat_lt height (height_of x.entries)) known.now }
+fn exceed_height(known: &[Index], height: u64) -> bool
+    ensures { result ≡ list_all (λ x. nat_lt height (latest_height x.entries)) known.now }
 {
     known.iter().all(|index| height < index.height() as u64)
 }
@@ -41,17 +41,17 @@ fn are_above(known: &[Index], height: u64) -> bool
 /// Whether each ledger's height is above the horizon.
 fn has_ended(deal: &Deal, known: &[Index]) -> bool
     requires { IsWellSized deal.now }
-    ensures { result ≡ has_ended deal.now (entries_in known.now) }
+    ensures { result ≡ has_ended deal.now (all_entries known.now) }
 {
-    are_above(known, horizon(deal.start, deal.delta, deal.bound))
+    exceed_height(known, horizon(deal.start, deal.delta, deal.bound))
 }
 
 /// How each party ended.
 #[tactic(auto, using(crate::proofs::Loops::map_one_more))]
-fn outcomes_of(alloc: Global, deal: &Deal, known: &[Index]) -> Result<Listed<Outcome>, NoMemory>
+fn deal_outcomes(alloc: Global, deal: &Deal, known: &[Index]) -> Result<Listed<Outcome>, NoMemory>
     requires sized { IsWellSized deal.now }
     requires known { AreIndexes deal.now known.now }
-    ensures { IfOk result (λ l. l ≡ outcomes_of deal.now (entries_in known.now)) }
+    ensures { IfOk result (λ l. l ≡ deal_outcomes deal.now (all_entries known.now)) }
 {
     let mut list = Vec::new(alloc);
     for party in 0..deal.graph.n() {
@@ -61,7 +61,7 @@ fn outcomes_of(alloc: Global, deal: &Deal, known: &[Index]) -> Result<Listed<Out
 }
 
 /// The report of what the indexes hold.
-#[tactic(auto, unfolding(crate::specs::Report::report_of))]
+#[tactic(auto, unfolding(crate::specs::Report::build_report))]
 fn report_indexed(
     alloc: Global,
     deal: &Deal,
@@ -71,24 +71,24 @@ fn report_indexed(
     requires sized { IsWellSized deal.now }
     requires conforming { length conforming.now ≡ deal.now.graph.n }
     requires known { AreIndexes deal.now known.now }
-    requires legal { IsLegalBook deal.now (entries_in known.now) }
-    ensures exact { IfOk result (λ r. r ≡ report_of deal.now conforming.now (entries_in known.now)) }
+    requires legal { IsLegalBook deal.now (all_entries known.now) }
+    ensures exact { IfOk result (λ r. r ≡ build_report deal.now conforming.now (all_entries known.now)) }
     ensures safe { IfOk result (λ r. IsAccepted deal.now → NoneIsUnderwater deal.now conforming.now (shown_outcome r) r.findings) }
-    ensures refunds { IfOk result (λ r. IsAccepted deal.now → AllHaveRefunds deal.now conforming.now (entries_in known.now) r.findings) }
+    ensures refunds { IfOk result (λ r. IsAccepted deal.now → AllHaveRefunds deal.now conforming.now (all_entries known.now) r.findings) }
     ensures transfer { IfOk result (λ r. (k : IsAccepted deal.now) → AllAreConforming deal.now conforming.now → r.findings ≡ []
-        → IsTransferred deal.now (entries_in known.now) k) }
+        → IsTransferred deal.now (all_entries known.now) k) }
     ensures whole { IfOk result (λ r. IsAccepted deal.now → AllAreConforming deal.now conforming.now → r.findings ≡ [] → AllAreWhole deal.now r) }
-    ensures nothing_found { IfOk result (λ r. r.findings ≡ [] → FindsNothing deal.now (conforms_in conforming.now) (entries_in known.now)) }
+    ensures nothing_found { IfOk result (λ r. r.findings ≡ [] → FindsNothing deal.now (conforms_in conforming.now) (all_entries known.now)) }
 {
     Ok(Report {
         ended: has_ended(deal, known),
-        outcomes: outcomes_of(alloc, deal, known)?,
+        outcomes: deal_outcomes(alloc, deal, known)?,
         findings: findings_indexed(alloc, deal, conforming, known)?,
     })
 }
 
 /// The report of a book. Findings are those of the parties that conform, and of ledgers that aren't above the horizon.
-pub fn report_of(
+pub fn build_report(
     alloc: Global,
     deal: &Deal,
     conforming: &Listed<bool>,
@@ -97,7 +97,7 @@ pub fn report_of(
     requires sized { IsWellSized deal.now }
     requires conforming { length conforming.now ≡ deal.now.graph.n }
     requires legal { IsLegalBook deal.now book.now.histories }
-    ensures exact { IfOk result (λ r. r ≡ report_of deal.now conforming.now book.now.histories) }
+    ensures exact { IfOk result (λ r. r ≡ build_report deal.now conforming.now book.now.histories) }
     ensures safe { IfOk result (λ r. IsAccepted deal.now → NoneIsUnderwater deal.now conforming.now (shown_outcome r) r.findings) }
     ensures refunds { IfOk result (λ r. IsAccepted deal.now → AllHaveRefunds deal.now conforming.now book.now.histories r.findings) }
     ensures transfer { IfOk result (λ r. (k : IsAccepted deal.now) → AllAreConforming deal.now conforming.now → r.findings ≡ []
@@ -105,6 +105,6 @@ pub fn report_of(
     ensures whole { IfOk result (λ r. IsAccepted deal.now → AllAreConforming deal.now conforming.now → r.findings ≡ [] → AllAreWhole deal.now r) }
     ensures nothing_found { IfOk result (λ r. r.findings ≡ [] → FindsNothing deal.now (conforms_in conforming.now) book.now.histories) }
 {
-    let known = indexes_of(alloc, deal, book)?;
+    let known = build_indexes(alloc, deal, book)?;
     report_indexed(alloc, deal, conforming, &known)
 }

@@ -1,7 +1,7 @@
 //! The program: `party alice < lines`.
 #![tactic(auto)]
 
-use command_input::words_of;
+use command_input::collect_words;
 use party_main::{Exit, PartyStatus, ending, party_top};
 use std::alloc::Global;
 use std::process::ExitCode;
@@ -9,7 +9,7 @@ use std::{env, io};
 use swap_io::{ReaderSource, WriterSink, write_all};
 
 fn main(rt: HostRuntime) -> ExitCode {
-    let status = match words_of(rt.alloc(), env::args(&rt)) {
+    let status = match collect_words(rt.alloc(), env::args(&rt)) {
         Ok(Some(words)) => {
             let mut source = ReaderSource::new(rt.reader());
             let mut sink = WriterSink::new(io::writer(&rt));

@@ -14,10 +14,10 @@ use Rattle.ledger_core.specs.History.{height}
 use Rattle.ledger_core.specs.Book.{Histories, history, IsLegalBook}
 use Rattle.history_index.specs.Value.{IndexState}
 use Rattle.swap_job.specs.declared.job.Job.{Job}
-use Rattle.history_index.specs.Indexes.{entries_in}
+use Rattle.history_index.specs.Indexes.{all_entries}
 use Rattle.swap_rules.specs.Accepted.{IsAccepted}
 use Rattle.swap_rules.specs.Due.{Action}
-use Rattle.swap_rules.specs.Rest.{rest_until, StaysLow}
+use Rattle.swap_rules.specs.Rest.{rest_deadline, StaysLow}
 use Rattle.swap_rules.proofs.Rest.{rests_below}
 use Rattle.swap_rules.proofs.Useful.{ticks_make_nothing_useful}
 use Rattle.party_wallet.specs.Value.{signed_in}
@@ -27,48 +27,49 @@ use Rattle.wallet_promise.specs.Answers.{answers_for}
 use Rattle.wallet_promise.proofs.AllAnswers.{all_is_useful, all_may_be_kept, all_may_go, each_key_is_asked, none_is_sent_twice, nothing_is_left_out}
 use Rattle.told_books.proofs.Enough.{same_useful}
 use Rattle.transcript_reader.specs.Header.{IsTold}
-use Rattle.party_notes.specs.Kept.{KeptState, kept_of}
+use Rattle.party_notes.specs.Kept.{KeptState, kept_state}
 use Rattle.party_answer.specs.declared.reason.AnswerReason.{AnswerReason}
-use Rattle.party_answer.specs.Asked.{Question, SaidState, asked, by_reason, first_unkept, own_seed, party_named, question_of, replayed, said_in, unless_unkept}
-use Rattle.party_answer.specs.Text.{all_useful, asking_of, line_of, rest_lines, sent_on, text_of, wallet_in}
+use Rattle.party_answer.specs.Asked.{Question, SaidState, asked, by_reason, first_unkept, own_seed, party_named, answer_question, replayed, said_in}
+use Rattle.party_answer.specs.Asked.{unless_unkept}
+use Rattle.party_answer.specs.Text.{all_useful, question_asking, line_of, rest_lines, sent_on, to_text, wallet_in}
 use Rattle.party_answer.specs.Promised.{IsAnswerTo, IsAtRest}
 
 -- Few parties and few arcs.
 
-parties_of : (v : Version) → most_parties v ≤ 32
-parties_of One = omega arith
-parties_of Two = omega arith
+count_parties : (v : Version) → most_parties v ≤ 32
+count_parties One = omega arith
+count_parties Two = omega arith
 
-arcs_of : (v : Version) → most_arcs v ≤ 128
-arcs_of One = omega arith
-arcs_of Two = omega arith
+listed_arcs : (v : Version) → most_arcs v ≤ 128
+listed_arcs One = omega arith
+listed_arcs Two = omega arith
 
 pub few_names : (job : Job) → IsTold job → length job.names ≤ 256
 few_names job told =
     let few = told.whole.sized.parties.1 in
-    let most = parties_of job.deal.version in omega (arith, told.whole.names, few, most)
+    let most = count_parties job.deal.version in omega (arith, told.whole.names, few, most)
 
-pub few_known : (d : Deal) (known : List IndexState) → IsWellSized d → IsLegalBook d (entries_in known) → length known ≤ 256
+pub few_known : (d : Deal) (known : List IndexState) → IsWellSized d → IsLegalBook d (all_entries known) → length known ≤ 256
 few_known d known sized legal =
     let few = sized.arcs.1 in
-    let most = arcs_of d.version in
+    let most = listed_arcs d.version in
     omega (arith, length-map known (λ x. x.entries), legal.one_each, few, most)
 
 -- The lines of what is useful.
 pub text_given : {E : Type 0} (q : Question) (xs : List Action) (r : Result (List ℕ) E) → xs ≡ all_useful q
-    → IfOk r (λ t. t ≡ flat_map (line_of q.me) (answers_for (signed_in q.kept.keys) (sent_on q) xs) ++ rest_lines xs (rest_until q.deal q.me q.known))
-    → IfOk r (λ t. t ≡ text_of q)
-unfolding text_of
+    → IfOk r (λ t. t ≡ flat_map (line_of q.me) (answers_for (signed_in q.kept.keys) (sent_on q) xs) ++ rest_lines xs (rest_deadline q.deal q.me q.known))
+    → IfOk r (λ t. t ≡ to_text q)
+unfolding to_text
 text_given q xs r e is =
     subst (λ (ys : List Action). IfOk r (λ t. t ≡ flat_map (line_of q.me) (answers_for (signed_in q.kept.keys) (sent_on q) ys)
-    ++ rest_lines ys (rest_until q.deal q.me q.known))) e is
+    ++ rest_lines ys (rest_deadline q.deal q.me q.known))) e is
 
 -- Every hashkey was kept.
-pub over_kept : (u : Result (Unit {0}) AnswerReason) (q : Question) (text : List ℕ) → u ≡ Ok tt → text ≡ text_of q → (u >>= λ x. Ok (text_of q)) ≡ Ok text
-over_kept u q text none is = ap (λ (r : Result (Unit {0}) AnswerReason). r >>= λ x. Ok (text_of q)) none ∙ ap Ok (sym is)
+pub over_kept : (u : Result (Unit {0}) AnswerReason) (q : Question) (text : List ℕ) → u ≡ Ok tt → text ≡ to_text q → (u >>= λ x. Ok (to_text q)) ≡ Ok text
+over_kept u q text none is = ap (λ (r : Result (Unit {0}) AnswerReason). r >>= λ x. Ok (to_text q)) none ∙ ap Ok (sym is)
 
 -- Rest.
-stays_low : (d : Deal) (v : ℕ) (k : Histories) (a : ℕ) (more : List Entry) → IsAtRest (rest_until d v k) (height (history k a ++ more))
+stays_low : (d : Deal) (v : ℕ) (k : Histories) (a : ℕ) (more : List Entry) → IsAtRest (rest_deadline d v k) (height (history k a ++ more))
     → StaysLow d v k a more
 stays_low d v k a more low i waits =
     let b = rests_below d v k a i waits in
@@ -81,37 +82,37 @@ step : {A B R : Type 0} (r : Result A R) (x : A) (f : A → Result B R) → r �
 step r x f e = ap (λ z. z >>= f) e
 
 module _ (first : ℕ) (name seed : List ℕ) (s : SaidState) (me : ℕ) (kept : KeptState) (named : party_named s name ≡ Ok me)
-    (owned : own_seed s me seed ≡ Ok tt) (notes : by_reason (kept_of s.story.job.deal me first s.notes) ≡ Ok kept) (right : replayed s ≡ Ok tt) where
+    (owned : own_seed s me seed ≡ Ok tt) (notes : by_reason (kept_state s.story.job.deal me first s.notes) ≡ Ok kept) (right : replayed s ≡ Ok tt) where
   abbrev the : Question
   the = record { deal = s.story.job.deal; me = me; seed = seed; known = s.story.book; kept = kept }
 
   abbrev all_kept : Result (Unit {0}) AnswerReason
   all_kept = unless_unkept (first_unkept (signed_in kept.keys) me 0 s.story.book)
 
-  asks : question_of first name seed s ≡ (all_kept >>= λ u. Ok the)
-  unfolding question_of
+  asks : answer_question first name seed s ≡ (all_kept >>= λ u. Ok the)
+  unfolding answer_question
   asks = step _ me _ named ∙ (step _ tt _ owned ∙ (step _ kept _ notes ∙ step _ tt _ right))
 
-  as_one : (r : Result (Unit {0}) AnswerReason) → ((r >>= λ u. Ok the) >>= λ q. Ok (text_of q)) ≡ (r >>= λ u. Ok (text_of the))
+  as_one : (r : Result (Unit {0}) AnswerReason) → ((r >>= λ u. Ok the) >>= λ q. Ok (to_text q)) ≡ (r >>= λ u. Ok (to_text the))
   as_one (Ok u) = refl
   as_one (Err e) = refl
 
-  pub gives_asked : (r : Result (List ℕ) (Fault AnswerReason)) → Gives (λ t. t) r (all_kept >>= λ u. Ok (text_of the))
-      → Gives (λ t. t) r (question_of first name seed s >>= λ q. Ok (text_of q))
+  pub gives_asked : (r : Result (List ℕ) (Fault AnswerReason)) → Gives (λ t. t) r (all_kept >>= λ u. Ok (to_text the))
+      → Gives (λ t. t) r (answer_question first name seed s >>= λ q. Ok (to_text q))
   gives_asked r g =
       subst (λ (x : Result (List ℕ) AnswerReason). Gives (λ t. t) r x)
-      (sym (ap (λ (x : Result Question AnswerReason). x >>= λ q. Ok (text_of q)) asks ∙ as_one all_kept)) g
+      (sym (ap (λ (x : Result Question AnswerReason). x >>= λ q. Ok (to_text q)) asks ∙ as_one all_kept)) g
 
   -- What is promised of it.
   module _ (accepted : IsAccepted s.story.job.deal) (party : me < s.story.job.deal.graph.n) (legal : IsLegalBook s.story.job.deal s.story.book)
       (fits : wrong_lock s.story.job.deal me seed ≡ None) where
-    holds : (t : List ℕ) (u : Result (Unit {0}) AnswerReason) → all_kept ≡ u → (u >>= λ x. Ok (text_of the)) ≡ Ok t
-        → IsAnswerTo (question_of first name seed s) t
+    holds : (t : List ℕ) (u : Result (Unit {0}) AnswerReason) → all_kept ≡ u → (u >>= λ x. Ok (to_text the)) ≡ Ok t
+        → IsAnswerTo (answer_question first name seed s) t
     holds t (Err e) is g = absurd (cc g)
     holds t (Ok x) is g =
-        let same : text_of the ≡ t = cc g in
+        let same : to_text the ≡ t = cc g in
         let w = wallet_in the in
-        let q = asking_of the in
+        let q = question_asking the in
         let sent = sent_on the in
         record {
           question = the;
@@ -132,13 +133,14 @@ module _ (first : ℕ) (name seed : List ℕ) (s : SaidState) (me : ℕ) (kept :
               (stays_low s.story.job.deal me s.story.book a more low);
         }
 
-    pub promised_of : (r : Result (List ℕ) (Fault AnswerReason)) → Gives (λ t. t) r (all_kept >>= λ u. Ok (text_of the))
-        → IfOk r (λ t. IsAnswerTo (question_of first name seed s) t)
+    pub promised_of : (r : Result (List ℕ) (Fault AnswerReason)) → Gives (λ t. t) r (all_kept >>= λ u. Ok (to_text the))
+        → IfOk r (λ t. IsAnswerTo (answer_question first name seed s) t)
     promised_of (Err e) g = tt
     promised_of (Ok t) g = holds t all_kept refl g
 
 -- ---- a whole text
 
-pub asked_of : (first : ℕ) (name seed text : List ℕ) (s : SaidState) → said_in first text ≡ Ok s → asked first name seed text ≡ question_of first name seed s
+pub asked_of : (first : ℕ) (name seed text : List ℕ) (s : SaidState) → said_in first text ≡ Ok s
+    → asked first name seed text ≡ answer_question first name seed s
 unfolding asked
-asked_of first name seed text s e = ap (λ (r : Result SaidState AnswerReason). r >>= question_of first name seed) e
+asked_of first name seed text s e = ap (λ (r : Result SaidState AnswerReason). r >>= answer_question first name seed) e

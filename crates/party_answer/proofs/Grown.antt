@@ -4,7 +4,7 @@ use Rattle.std.proofs.Common.{Result, refl, sym, ap, ap₂, ◌∙◌, subst, ar
 use Rattle.std.specs.Prelude.{OnOk}
 use Rattle.std.specs.List.{flat_map}
 use Rattle.std.proofs.lemmas.List.{length-drop, nil_from_length}
-use Rattle.swap_digraph.specs.Graph.{is_among}
+use Rattle.swap_digraph.specs.Graph.{is_listed}
 use Rattle.hashkey_path.specs.declared.hashkey.Hashkey.{Hashkey}
 use Rattle.ledger_core.specs.declared.entry.Call.{Call}
 use Rattle.ledger_core.specs.declared.entry.Call.TheVariants.{Publish, Unlock, Claim, Refund, Transfer}
@@ -13,11 +13,11 @@ use Rattle.swap_rules.specs.Due.{Action}
 use Rattle.wallet_promise.specs.Life.{Answer, Make, Keep, answer_for, make_if}
 use Rattle.wallet_promise.specs.Answers.{is_asked, once, unsent, was_sent}
 use Rattle.party_due.specs.declared.due_call.DueCall.{DueCall}
-use Rattle.party_due.specs.Actions.{action_of, actions}
+use Rattle.party_due.specs.Actions.{due_action, actions}
 use Rattle.transcript_lines.specs.Between.{spaced}
 use Rattle.transcript_lines.specs.Words.{call_words}
 use Rattle.party_answer.specs.Text.{line_of, rest_line, rest_lines}
-use Rattle.party_answer.specs.Lines.{answers_on, asking_line, IsLineOf}
+use Rattle.party_answer.specs.Lines.{answers_on, asking_line, IsAnswerLine}
 use Rattle.party_answer.specs.Unkept.{unkept_key}
 
 -- The line of a call, put one part after another.
@@ -94,26 +94,26 @@ module _ (v : ℕ) (kept : ℕ → Option Hashkey) (sent : List ℕ) where
   -- The line of the first call.
 
   abbrev each : List Action → List Answer
-  each xs = map (λ x. answer_for kept (Some x)) (unsent (λ a. is_among a sent) xs)
+  each xs = map (λ x. answer_for kept (Some x)) (unsent (λ a. is_listed a sent) xs)
 
   abbrev texts : List Answer → List ℕ
   texts ys = flat_map (line_of v) ys
 
-  if_sent : (b : Bool) (asked : Option ℕ) (x : Action) (xs : List Action) → was_sent (λ a. is_among a sent) x ≡ b
+  if_sent : (b : Bool) (asked : Option ℕ) (x : Action) (xs : List Action) → was_sent (λ a. is_listed a sent) x ≡ b
       → answers_on kept sent asked (x ∷ xs)
-      ≡ once asked (map (λ y. answer_for kept (Some y)) (cond (not b) (x ∷ unsent (λ a. is_among a sent) xs) (unsent (λ a. is_among a sent) xs)))
+      ≡ once asked (map (λ y. answer_for kept (Some y)) (cond (not b) (x ∷ unsent (λ a. is_listed a sent) xs) (unsent (λ a. is_listed a sent) xs)))
   if_sent b asked x xs e =
       ap (λ (t : Bool). once asked (map (λ y. answer_for kept (Some y))
-      (cond (not t) (x ∷ unsent (λ a. is_among a sent) xs) (unsent (λ a. is_among a sent) xs)))) e
+      (cond (not t) (x ∷ unsent (λ a. is_listed a sent) xs) (unsent (λ a. is_listed a sent) xs)))) e
 
   -- a publish that was sent
-  pub line_sent : (asked : Option ℕ) (old : List ℕ) (x : Action) (xs : List Action) → was_sent (λ a. is_among a sent) x ≡ true
-      → IsLineOf v kept sent asked asked old old x xs
+  pub line_sent : (asked : Option ℕ) (old : List ℕ) (x : Action) (xs : List Action) → was_sent (λ a. is_listed a sent) x ≡ true
+      → IsAnswerLine v kept sent asked asked old old x xs
   line_sent asked old x xs e = ap (λ (ys : List Answer). old ++ texts ys) (if_sent true asked x xs e)
 
   -- a call that may go out
-  pub line_going : (asked : Option ℕ) (old new : List ℕ) (a : ℕ) (c : Call) (xs : List Action) → was_sent (λ a. is_among a sent) (at_arc a c) ≡ false
-      → None ≡ unkept_key kept c → new ≡ old ++ line_of v (Make (at_arc a c)) → IsLineOf v kept sent asked asked old new (at_arc a c) xs
+  pub line_going : (asked : Option ℕ) (old new : List ℕ) (a : ℕ) (c : Call) (xs : List Action) → was_sent (λ a. is_listed a sent) (at_arc a c) ≡ false
+      → None ≡ unkept_key kept c → new ≡ old ++ line_of v (Make (at_arc a c)) → IsAnswerLine v kept sent asked asked old new (at_arc a c) xs
   line_going asked old new a c xs s k e =
       ap (λ (ys : List Answer). old ++ texts ys) (if_sent false asked (at_arc a c) xs s
       ∙ ap (λ (y : Answer). once asked (y ∷ each xs)) (no_key a c k))
@@ -135,8 +135,8 @@ module _ (v : ℕ) (kept : ℕ → Option Hashkey) (sent : List ℕ) where
 
   -- a hashkey that must be kept first
   pub line_asking : (asked : Option ℕ) (old new : List ℕ) (a : ℕ) (c : Call) (xs : List Action) (key : Hashkey)
-      → was_sent (λ a. is_among a sent) (at_arc a c) ≡ false → Some key ≡ unkept_key kept c → new ≡ old ++ asking_line v asked key
-      → IsLineOf v kept sent asked (Some key.lock) old new (at_arc a c) xs
+      → was_sent (λ a. is_listed a sent) (at_arc a c) ≡ false → Some key ≡ unkept_key kept c → new ≡ old ++ asking_line v asked key
+      → IsAnswerLine v kept sent asked (Some key.lock) old new (at_arc a c) xs
   line_asking asked old new a c xs key s k e =
       ap (λ (ys : List Answer). old ++ texts ys) (if_sent false asked (at_arc a c) xs s
       ∙ ap (λ (y : Answer). once asked (y ∷ each xs)) (by_key a c key k))
@@ -146,7 +146,7 @@ module _ (v : ℕ) (kept : ℕ → Option Hashkey) (sent : List ℕ) where
 
   pub lines_on : (all now new : List ℕ) (asked next : Option ℕ) (xs : List DueCall) (i : ℕ) (x : DueCall) → i < length xs → x ≡ get_or xs i x
       → all ≡ now ++ texts (answers_on kept sent asked (actions (drop i xs)))
-      → ((ys : List Action) → IsLineOf v kept sent asked next now new (action_of x) ys)
+      → ((ys : List Action) → IsAnswerLine v kept sent asked next now new (due_action x) ys)
       → all ≡ new ++ texts (answers_on kept sent next (actions (drop (i + 1) xs)))
   lines_on all now new asked next xs i x lt is so_far line =
       let here : drop i xs ≡ x ∷ drop (i + 1) xs = rw (add-one, drop-cons xs i x, ← is) in

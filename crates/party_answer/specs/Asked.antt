@@ -7,14 +7,14 @@ use Rattle.hashkey_path.specs.declared.hashkey.Hashkey.{Hashkey}
 use Rattle.ledger_core.specs.declared.entry.Call.{Call}
 use Rattle.ledger_core.specs.declared.entry.Entry.{Entry}
 use Rattle.ledger_core.specs.Book.{Histories}
-use Rattle.swap_rules.specs.Party.{call_by}
+use Rattle.swap_rules.specs.Party.{pick_call}
 use Rattle.refusals.specs.declared.reason.Reason.{Reason}
 use Rattle.refusals.specs.declared.reason.Reason.TheVariants.{Unknown, WrongWallet, BadReply as WrongReply}
 use Rattle.refusals.specs.Refusal.{refusal}
 use Rattle.party_wallet.specs.Value.{signed_in}
 use Rattle.party_wallet.specs.Fits.{wrong_lock}
 use Rattle.swap_auditor.specs.declared.replay.BadReply.{BadReply}
-use Rattle.swap_auditor.specs.Audit.{replay_from}
+use Rattle.swap_auditor.specs.Audit.{replay_histories}
 use Rattle.transcript_lines.specs.Between.{parts_at}
 use Rattle.transcript_reader.specs.declared.reason.TranscriptReason.{TranscriptReason}
 use Rattle.transcript_reader.specs.Header.{header_read}
@@ -23,10 +23,10 @@ use Rattle.transcript_reader.specs.Reading.{Story, parts_read}
 use Rattle.wallet_promise.specs.Life.{is_kept}
 use Rattle.party_notes.specs.declared.note.Note.{Note}
 use Rattle.party_notes.specs.Notes.{notes_in}
-use Rattle.party_notes.specs.Kept.{KeptState, kept_of}
+use Rattle.party_notes.specs.Kept.{KeptState, kept_state}
 use Rattle.party_answer.specs.declared.reason.AnswerReason.{AnswerReason}
 use Rattle.party_answer.specs.declared.reason.AnswerReason.TheVariants.{Refused, NotKept}
-use Rattle.party_answer.specs.Shifted.{behind, refusal_behind}
+use Rattle.party_answer.specs.Shifted.{behind, later_refusal}
 
 -- a reason that speaks of no party by its number
 abbrev pub nameless : Reason → AnswerReason
@@ -45,7 +45,7 @@ pub record SaidState : Type 0 where
 
 abbrev pub by_story : ℕ → Result Story TranscriptReason → Result Story AnswerReason
 by_story lines (Ok t) = Ok t
-by_story lines (Err reason) = Err (Refused (refusal_behind lines reason))
+by_story lines (Err reason) = Err (Refused (later_refusal lines reason))
 
 -- what a text says if its first line has number n
 unfoldable pub said_in : ℕ → List ℕ → Result SaidState AnswerReason
@@ -76,7 +76,7 @@ by_replies (Err b) = Err (nameless (WrongReply b.arc b.entry b.stated b.replayed
 
 -- every stated reply has to be the ledger's
 abbrev pub replayed : SaidState → Result (Unit {0}) AnswerReason
-replayed s = by_replies (replay_from s.story.job.deal 0 s.story.book)
+replayed s = by_replies (replay_histories s.story.job.deal 0 s.story.book)
 
 -- the call, if it is v's and presents a hashkey that wasn't kept
 abbrev pub is_unkept : (ℕ → Option Hashkey) → Option Call → Bool
@@ -86,7 +86,7 @@ is_unkept kept (Some c) = not (is_kept kept c)
 -- the number of the first entry from n on that is a call of v with a hashkey that wasn't kept
 abbrev pub unkept_from : (ℕ → Option Hashkey) → ℕ → ℕ → List Entry → Option ℕ
 unkept_from kept v n [] = None
-unkept_from kept v n (e ∷ h) = if is_unkept kept (call_by v e) then Some n else unkept_from kept v (n + 1) h
+unkept_from kept v n (e ∷ h) = if is_unkept kept (pick_call v e) then Some n else unkept_from kept v (n + 1) h
 
 abbrev pub on_arc : ℕ → Option ℕ → Option (ℕ × ℕ) → Option (ℕ × ℕ)
 on_arc a (Some n) later = Some (a, n)
@@ -111,15 +111,15 @@ pub record Question : Type 0 where
   pub kept : KeptState
 
 -- what is asked by what a text says if its first line has number n
-unfoldable pub question_of : ℕ → List ℕ → List ℕ → SaidState → Result Question AnswerReason
-question_of first name seed s = do
+unfoldable pub answer_question : ℕ → List ℕ → List ℕ → SaidState → Result Question AnswerReason
+answer_question first name seed s = do
   me ← party_named s name
   owned ← own_seed s me seed
-  kept ← by_reason (kept_of s.story.job.deal me first s.notes)
+  kept ← by_reason (kept_state s.story.job.deal me first s.notes)
   right ← replayed s
   all ← unless_unkept (first_unkept (signed_in kept.keys) me 0 s.story.book)
   Ok (record { deal = s.story.job.deal; me = me; seed = seed; known = s.story.book; kept = kept })
 
 -- what a text asks if its first line has number n
 unfoldable pub asked : ℕ → List ℕ → List ℕ → List ℕ → Result Question AnswerReason
-asked first name seed text = said_in first text >>= question_of first name seed
+asked first name seed text = said_in first text >>= answer_question first name seed

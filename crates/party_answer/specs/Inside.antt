@@ -8,8 +8,8 @@ use Rattle.ledger_core.specs.Book.{Histories}
 use Rattle.party_notes.specs.declared.kept.Kept.{Kept}
 use Rattle.party_answer.specs.Asked.{SaidState, Question}
 
-abbrev pub said_of : Said → SaidState
-said_of s = record { notes = s.notes; story = record { job = s.job; book = s.book.histories }; lines = s.lines }
+abbrev pub inside_said : Said → SaidState
+inside_said s = record { notes = s.notes; story = record { job = s.job; book = s.book.histories }; lines = s.lines }
 
 -- The transcript states an accepted deal, and a book that fits it.
 pub record IsSaid (s : Said) : Type 0 where

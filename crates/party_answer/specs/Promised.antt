@@ -9,26 +9,26 @@ use Rattle.swap_rules.specs.Accepted.{IsAccepted}
 use Rattle.swap_rules.specs.Due.{Action}
 use Rattle.swap_rules.specs.Useful.{useful, IsHarmful}
 use Rattle.swap_rules.specs.Machine.{IsWallet}
-use Rattle.swap_rules.specs.Rest.{are_ticks, rest_until}
+use Rattle.swap_rules.specs.Rest.{are_ticks, rest_deadline}
 use Rattle.party_wallet.specs.Value.{signed_in}
 use Rattle.wallet_promise.specs.Life.{Answer, Make, Keep, MayGo, MayKeep}
 use Rattle.wallet_promise.specs.Answers.{answers, was_sent}
 use Rattle.told_books.specs.Told.{SayEnough}
 use Rattle.party_answer.specs.declared.reason.AnswerReason.{AnswerReason}
 use Rattle.party_answer.specs.Asked.{Question, asked}
-use Rattle.party_answer.specs.Text.{all_useful, asking_of, sent_on, text_of, wallet_in}
+use Rattle.party_answer.specs.Text.{all_useful, question_asking, sent_on, to_text, wallet_in}
 
 -- all that is answered to a question
 abbrev pub answers_in : Question → List Answer
-answers_in q = answers q.deal q.me (wallet_in q) (asking_of q) (sent_on q)
+answers_in q = answers q.deal q.me (wallet_in q) (question_asking q) (sent_on q)
 
 -- the call may go out
 abbrev pub MayGoIn : Question → Action → Type 0
-MayGoIn q x = MayGo q.deal q.me (wallet_in q) (asking_of q) x
+MayGoIn q x = MayGo q.deal q.me (wallet_in q) (question_asking q) x
 
 -- the hashkey may be kept
 abbrev pub MayKeepIn : Question → Hashkey → Type 0
-MayKeepIn q key = MayKeep q.deal q.me (wallet_in q) (asking_of q) key
+MayKeepIn q key = MayKeep q.deal q.me (wallet_in q) (question_asking q) key
 
 -- all that is useful to it over other ledgers
 abbrev pub useful_over : Question → Histories → List Action
@@ -53,7 +53,7 @@ IsHarmfulIn q x = IsHarmful q.deal q.me (wallet_in q) (signed_in q.kept.keys) q.
 pub record IsAnswerTo (asks : Result Question AnswerReason) (answer : List ℕ) : Type 0 where
   pub question : Question
   pub asked : asks ≡ Ok question
-  pub is : answer ≡ text_of question
+  pub is : answer ≡ to_text question
   pub accepted : IsAccepted question.deal
   pub party : question.me < question.deal.graph.n
   pub wallet : IsWallet question.deal question.me (wallet_in question)
@@ -68,7 +68,7 @@ pub record IsAnswerTo (asks : Result Question AnswerReason) (answer : List ℕ) 
       → ((other : Hashkey) × IsIn (Keep other) (answers_in question) × (other.lock ≡ key.lock)) ⊎ IsHarmfulIn question (MayKeep.unlock may)
   pub heard : (h : Histories) → SayEnough question.deal question.me question.known h → useful_over question h ≡ all_useful question
   pub rest : (a : ℕ) (more : List Entry) → all_useful question ≡ [] → are_ticks more ≡ true
-      → IsAtRest (rest_until question.deal question.me question.known) (height (history question.known a ++ more))
+      → IsAtRest (rest_deadline question.deal question.me question.known) (height (history question.known a ++ more))
       → useful_over question (set question.known a (history question.known a ++ more)) ≡ []
 
 -- A text is the answer to an input text whose first line has number n, for the party with this name

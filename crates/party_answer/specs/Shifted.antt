@@ -30,8 +30,8 @@ shifted lines (reasons.NotConforming n) = reasons.NotConforming (behind lines n)
 shifted lines reason = reason
 
 -- why a transcript is refused that stands behind so many lines; it is within its limit where the input is
-abbrev pub refusal_behind : ℕ → TranscriptReason → Refusal
-refusal_behind lines (BadLine n) = refusal [] (reasons.BadLine (behind lines n))
-refusal_behind lines TooLong = refusal [] reasons.CutShort
-refusal_behind lines CutShort = refusal [] reasons.CutShort
-refusal_behind lines (Header r) = refusal r.names (shifted lines r.reason)
+abbrev pub later_refusal : ℕ → TranscriptReason → Refusal
+later_refusal lines (BadLine n) = refusal [] (reasons.BadLine (behind lines n))
+later_refusal lines TooLong = refusal [] reasons.CutShort
+later_refusal lines CutShort = refusal [] reasons.CutShort
+later_refusal lines (Header r) = refusal r.names (shifted lines r.reason)

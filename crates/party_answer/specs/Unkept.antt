@@ -4,7 +4,7 @@ use Rattle.hashkey_path.specs.declared.hashkey.Hashkey.{Hashkey}
 use Rattle.ledger_core.specs.declared.entry.Call.{Call}
 use Rattle.ledger_core.specs.declared.entry.Call.TheVariants.{Unlock}
 use Rattle.history_index.specs.declared.made.Made.{Made}
-use Rattle.swap_rules.specs.Party.{call_by}
+use Rattle.swap_rules.specs.Party.{pick_call}
 use Rattle.swap_rules.specs.Conduct.{is_first_key}
 use Rattle.party_answer.specs.Asked.{is_unkept}
 
@@ -16,4 +16,4 @@ unkept_key kept _ = None
 -- the number of the first of these calls, which an index keeps, that is v's, with a hashkey that wasn't kept
 abbrev pub unkept_made : (ℕ → Option Hashkey) → ℕ → List Made → Option ℕ
 unkept_made kept v [] = None
-unkept_made kept v (m ∷ ms) = if is_unkept kept (call_by v m.entry) then Some m.number else unkept_made kept v ms
+unkept_made kept v (m ∷ ms) = if is_unkept kept (pick_call v m.entry) then Some m.number else unkept_made kept v ms

@@ -3,33 +3,33 @@
 ghost use Rattle.std.specs.Prelude.{◌≡◌, ◌<◌, ◌++◌, ◌∷◌, [], List, IfOk, OnOk, codes};
 ghost use Rattle.std.specs.List.{flat_map};
 ghost use Rattle.swap_digraph.specs.Deal.{IsWellSized};
-ghost use Rattle.swap_digraph.specs.Graph.{is_among};
-ghost use Rattle.history_index.specs.Indexes.{entries_in, AreIndexes};
+ghost use Rattle.swap_digraph.specs.Graph.{is_listed};
+ghost use Rattle.history_index.specs.Indexes.{all_entries, AreIndexes};
 ghost use Rattle.swap_rules.specs.Due.{Action};
-ghost use Rattle.swap_rules.specs.Rest.{rest_until};
+ghost use Rattle.swap_rules.specs.Rest.{rest_deadline};
 ghost use Rattle.party_wallet.specs.Value.{signed_in};
-ghost use Rattle.party_due.specs.Actions.{action_of, actions};
+ghost use Rattle.party_due.specs.Actions.{due_action, actions};
 ghost use Rattle.transcript_lines.specs.Between.{spaced};
 ghost use Rattle.transcript_lines.specs.Words.{key_words};
 ghost use Rattle.wallet_promise.specs.Life.{Make};
 ghost use Rattle.wallet_promise.specs.Answers.{answers_for, is_asked, was_sent};
 ghost use Rattle.party_answer.specs.Text.{line_of, rest_line, rest_lines};
-ghost use Rattle.party_answer.specs.Lines.{asking_line, IsLineOf};
+ghost use Rattle.party_answer.specs.Lines.{asking_line, IsAnswerLine};
 
 use crate::unkept::unkept_key;
-use due_calls::rest_until;
+use due_calls::rest_deadline;
 use hashkey_path::Hashkey;
 use history_index::Index;
 use ledger_core::Call;
 use party_due::DueCall;
 use party_notes::Kept;
 use swap_base::{ArcId, LockId, NoMemory, PartyId, Piece, put};
-use swap_digraph::{Deal, is_among};
+use swap_digraph::{Deal, is_listed};
 use transcript_writer::{put_call, put_hashkey};
 
 /// Appends the line of a call that may go out.
 fn put_going(out: &mut Vec<u8>, me: PartyId, due: &DueCall) -> Result<(), NoMemory>
-    ensures { OnOk result (out.new.items ≡ out.old.items ++ line_of me (Make (action_of due.now))) }
+    ensures { OnOk result (out.new.items ≡ out.old.items ++ line_of me (Make (due_action due.now))) }
 {
     put(
         out,
@@ -56,10 +56,10 @@ fn put_asking(out: &mut Vec<u8>, key: &Hashkey) -> Result<(), NoMemory>
 
 /// Whether the call is a publish, and one was sent on its arc.
 fn was_sent(kept: &Kept, due: &DueCall) -> bool
-    ensures { result ≡ was_sent (λ a. is_among a kept.now.sent) (action_of due.now) }
+    ensures { result ≡ was_sent (λ a. is_listed a kept.now.sent) (due_action due.now) }
 {
     match due.call {
-        Call::Publish(_) => is_among(due.arc, kept.sent.as_slice()),
+        Call::Publish(_) => is_listed(due.arc, kept.sent.as_slice()),
         _ => false,
     }
 }
@@ -98,7 +98,7 @@ fn put_answer(
     due: &DueCall,
 ) -> Result<Option<LockId>, NoMemory>
     ensures { IfOk result (λ next. (xs : List Action)
-        → IsLineOf me (signed_in kept.now.signed.keys) kept.now.sent asked next out.old.items out.new.items (action_of due.now) xs) }
+        → IsAnswerLine me (signed_in kept.now.signed.keys) kept.now.sent asked next out.old.items out.new.items (due_action due.now) xs) }
 {
     if was_sent(kept, due) {
         return Ok(asked);
@@ -123,7 +123,7 @@ pub(crate) fn put_answers(
     calls: &[DueCall],
 ) -> Result<(), NoMemory>
     ensures { OnOk result (out.new.items ≡ out.old.items
-        ++ flat_map (line_of me) (answers_for (signed_in kept.now.signed.keys) (λ a. is_among a kept.now.sent) (actions calls.now))) }
+        ++ flat_map (line_of me) (answers_for (signed_in kept.now.signed.keys) (λ a. is_listed a kept.now.sent) (actions calls.now))) }
 {
     let mut asked = None;
     for due in calls {
@@ -160,10 +160,10 @@ pub(crate) fn put_end(
     requires sized { IsWellSized deal.now }
     requires me { me < deal.now.graph.n }
     requires known { AreIndexes deal.now known.now }
-    ensures { OnOk result (out.new.items ≡ out.old.items ++ rest_lines (actions calls.now) (rest_until deal.now me (entries_in known.now))) }
+    ensures { OnOk result (out.new.items ≡ out.old.items ++ rest_lines (actions calls.now) (rest_deadline deal.now me (all_entries known.now))) }
 {
     if calls.is_empty() {
-        put_rest(out, rest_until(deal, me, known))
+        put_rest(out, rest_deadline(deal, me, known))
     } else {
         Ok(())
     }

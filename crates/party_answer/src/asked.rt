@@ -8,23 +8,23 @@ ghost use Rattle.ledger_core.specs.Book.{IsLegalBook};
 ghost use Rattle.ledger_core.specs.WellFormed.{IsWellFormed};
 ghost use Rattle.transcript_lines.specs.Between.{parts_at};
 ghost use Rattle.transcript_reader.specs.Header.{header_read, IsTold};
-ghost use Rattle.transcript_reader.specs.Reading.{parts_read, story_of};
+ghost use Rattle.transcript_reader.specs.Reading.{parts_read, job_story};
 ghost use Rattle.transcript_reader.specs.Stages.{no_lines};
 ghost use Rattle.party_wallet.specs.Fits.{wrong_lock};
 ghost use Rattle.party_notes.specs.Notes.{notes_in};
-ghost use Rattle.party_notes.specs.Kept.{kept_of};
+ghost use Rattle.party_notes.specs.Kept.{kept_state};
 ghost use Rattle.party_answer.specs.Asked.{by_reason, by_story, own_seed, party_named, replayed, said_in};
-ghost use Rattle.party_answer.specs.Inside.{said_of, IsSaid};
+ghost use Rattle.party_answer.specs.Inside.{inside_said, IsSaid};
 
 use crate::reason::{AnswerFault, AnswerReason, nameless};
-use crate::shifted::refusal_behind;
+use crate::shifted::later_refusal;
 use ledger_core::Book;
-use party_notes::{Kept, Note, Notes, kept_of, read_notes};
+use party_notes::{Kept, Note, Notes, kept_state, read_notes};
 use party_wallet::Wallet;
 use refusals::{Reason, Refusal};
 use std::alloc::Global;
 use swap_auditor::replay_book;
-use swap_base::{ByteText, Digest, Fault, Listed, LockId, NoMemory, PartyId, TryCopy, place_of};
+use swap_base::{ByteText, Digest, Fault, Listed, LockId, NoMemory, PartyId, TryCopy, find_place};
 use swap_digraph::Deal;
 use swap_job::Job;
 use transcript_reader::read_transcript;
@@ -41,13 +41,13 @@ pub struct Said {
 /// The job and the book of a transcript that stands behind so many lines.
 #[tactic(auto, unfolding(transcript_reader::specs::Reading::transcript_read))]
 fn read_story(alloc: Global, lines: u32, text: &[u8]) -> Result<(Job, Book), AnswerFault>
-    ensures exact { Gives story_of result (by_story lines (parts_read header_read no_lines (parts_at 10 text.now))) }
+    ensures exact { Gives job_story result (by_story lines (parts_read header_read no_lines (parts_at 10 text.now))) }
     ensures told { IfOk result (λ p. IsTold p.0) }
     ensures formed { IfOk result (λ p. IsWellFormed p.0.deal p.1.histories) }
 {
     match read_transcript(alloc, text) {
         Ok(story) => Ok(story),
-        Err(Fault::Refused(reason)) => Err(Fault::Refused(AnswerReason::Refused(refusal_behind(
+        Err(Fault::Refused(reason)) => Err(Fault::Refused(AnswerReason::Refused(later_refusal(
             alloc, lines, reason,
         )))),
         Err(Fault::NoMemory) => Err(Fault::NoMemory),
@@ -69,7 +69,7 @@ fn noted(alloc: Global, first: u32, text: &[u8]) -> Result<Notes, AnswerFault>
 /// What a text says. Its first line has this number.
 #[tactic(auto, unfolding(crate::specs::Asked::said_in))]
 pub(crate) fn read_said(alloc: Global, first: u32, text: &[u8]) -> Result<Said, AnswerFault>
-    ensures exact { Gives said_of result (said_in first text.now) }
+    ensures exact { Gives inside_said result (said_in first text.now) }
     ensures said { IfOk result IsSaid }
 {
     let notes = noted(alloc, first, text)?;
@@ -83,12 +83,12 @@ pub(crate) fn read_said(alloc: Global, first: u32, text: &[u8]) -> Result<Said, 
     })
 }
 
-fn party_at(names: &[ByteText], name: &[u8]) -> Option<PartyId>
+fn find_party(names: &[ByteText], name: &[u8]) -> Option<PartyId>
     requires { length names.now ≤ 256 }
     ensures exact { result ≡ position (bytes_eq name.now) names.now }
     ensures below { IfSome result (λ p. p < length names.now) }
 {
-    match place_of(names, name) {
+    match find_place(names, name) {
         Some(place) => Some(place as PartyId),
         None => None,
     }
@@ -97,10 +97,10 @@ fn party_at(names: &[ByteText], name: &[u8]) -> Option<PartyId>
 /// The party of that name.
 pub(crate) fn party_named(alloc: Global, said: &Said, name: &[u8]) -> Result<PartyId, AnswerFault>
     requires { IsSaid said.now }
-    ensures exact { Gives (λ p. p) result (party_named (said_of said.now) name.now) }
+    ensures exact { Gives (λ p. p) result (party_named (inside_said said.now) name.now) }
     ensures party { IfOk result (λ p. p < said.now.job.deal.graph.n) }
 {
-    match party_at(said.job.names.as_slice(), name) {
+    match find_party(said.job.names.as_slice(), name) {
         Some(party) => Ok(party),
         None => {
             let name = ByteText::from_slice(alloc, name)?;
@@ -134,7 +134,7 @@ pub(crate) fn own_seed(
 ) -> Result<(), AnswerFault>
     requires said { IsSaid said.now }
     requires me { me < said.now.job.deal.graph.n }
-    ensures exact { Gives (λ u. u) result (own_seed (said_of said.now) me seed.now) }
+    ensures exact { Gives (λ u. u) result (own_seed (inside_said said.now) me seed.now) }
     ensures fits { OnOk result (wrong_lock said.now.job.deal me seed.now ≡ None) }
 {
     match wrong_lock(alloc, &said.job.deal, me, seed)? {
@@ -148,7 +148,7 @@ pub(crate) fn own_seed(
 }
 
 /// What the party kept and sent, by its notes. The first note is the line with this number.
-pub(crate) fn kept_by(
+pub(crate) fn collect_kept(
     alloc: Global,
     said: &Said,
     me: PartyId,
@@ -157,10 +157,10 @@ pub(crate) fn kept_by(
     requires said { IsSaid said.now }
     requires me { me < said.now.job.deal.graph.n }
     ensures exact { Gives (λ k. record { keys = k.signed.keys; sent = k.sent }) result
-        (by_reason (kept_of said.now.job.deal me first said.now.notes)) }
+        (by_reason (kept_state said.now.job.deal me first said.now.notes)) }
     ensures places { IfOk result (λ k. length k.signed.keys ≡ length said.now.job.deal.leaders) }
 {
-    match kept_of(alloc, &said.job.deal, me, first, said.notes.as_slice()) {
+    match kept_state(alloc, &said.job.deal, me, first, said.notes.as_slice()) {
         Ok(kept) => Ok(kept),
         Err(fault) => Err(nameless(alloc, fault)),
     }
@@ -169,7 +169,7 @@ pub(crate) fn kept_by(
 /// Every stated reply has to be the ledger's.
 pub(crate) fn replayed(alloc: Global, said: &Said) -> Result<(), AnswerFault>
     requires { IsSaid said.now }
-    ensures exact { Gives (λ u. u) result (replayed (said_of said.now)) }
+    ensures exact { Gives (λ u. u) result (replayed (inside_said said.now)) }
     ensures legal { OnOk result (IsLegalBook said.now.job.deal said.now.book.histories) }
 {
     match replay_book(alloc, &said.job.deal, &said.book) {

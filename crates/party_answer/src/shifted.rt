@@ -1,7 +1,7 @@
 //! The reasons against a transcript that stands behind other lines.
 
 ghost use Rattle.std.specs.Prelude.{◌≡◌};
-ghost use Rattle.party_answer.specs.Shifted.{behind, refusal_behind, shifted};
+ghost use Rattle.party_answer.specs.Shifted.{behind, later_refusal, shifted};
 
 use refusals::{Reason, Refusal, nameless};
 use std::alloc::Global;
@@ -40,8 +40,8 @@ fn shifted(lines: u32, reason: Reason) -> Reason
 }
 
 /// Why a transcript is refused that stands behind so many lines.
-pub(crate) fn refusal_behind(alloc: Global, lines: u32, reason: TranscriptReason) -> Refusal
-    ensures { result ≡ refusal_behind lines reason }
+pub(crate) fn later_refusal(alloc: Global, lines: u32, reason: TranscriptReason) -> Refusal
+    ensures { result ≡ later_refusal lines reason }
 {
     match reason {
         TranscriptReason::BadLine(line) => { nameless(alloc, Reason::BadLine(behind(lines, line))) }

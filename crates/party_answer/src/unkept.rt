@@ -1,7 +1,7 @@
 //! Unlocks of a party with hashkeys that it never kept.
 
 ghost use Rattle.std.specs.Prelude.{◌≡◌, ◌≤◌, length, option_copied};
-ghost use Rattle.history_index.specs.Indexes.{entries_in};
+ghost use Rattle.history_index.specs.Indexes.{all_entries};
 ghost use Rattle.party_wallet.specs.Value.{signed_in};
 ghost use Rattle.wallet_promise.specs.Life.{is_kept};
 ghost use Rattle.party_answer.specs.Asked.{first_unkept, is_unkept, unkept_from};
@@ -11,7 +11,7 @@ use hashkey_path::Hashkey;
 use history_index::{Index, Made};
 use ledger_core::Call;
 use party_wallet::Signed;
-use sent_keys::{call_by, is_first_key};
+use sent_keys::{is_first_key, pick_call};
 use swap_base::{ArcId, LockId, PartyId};
 
 /// The hashkey that was kept for the lock, if any.
@@ -61,11 +61,11 @@ fn is_unkept(kept: &Signed, call: Option<&Call>) -> bool
 }
 
 /// The number of the first of these calls that is the party's, and presents a hashkey that wasn't kept.
-fn unkept_among(kept: &Signed, me: PartyId, calls: &[Made]) -> Option<u32>
+fn find_unkept_call(kept: &Signed, me: PartyId, calls: &[Made]) -> Option<u32>
     ensures { result ≡ unkept_made (signed_in kept.now.keys) me calls.now }
 {
     for made in calls {
-        if is_unkept(kept, call_by(me, &made.entry)) {
+        if is_unkept(kept, pick_call(me, &made.entry)) {
             return Some(made.number);
         }
     }
@@ -74,19 +74,19 @@ fn unkept_among(kept: &Signed, me: PartyId, calls: &[Made]) -> Option<u32>
 
 /// The number of the party's first call on an arc that presents a hashkey which wasn't kept.
 #[tactic(auto, using(crate::proofs::Keeping::made_unkept))]
-fn unkept_on(kept: &Signed, me: PartyId, index: &Index) -> Option<u32>
+fn find_unkept(kept: &Signed, me: PartyId, index: &Index) -> Option<u32>
     ensures { result ≡ unkept_from (signed_in kept.now.keys) me 0 index.now.entries }
 {
-    unkept_among(kept, me, index.made())
+    find_unkept_call(kept, me, index.made())
 }
 
 /// The arc and the number of the first call of the party, by arc and entry, that presents a hashkey which wasn't kept.
 pub(crate) fn first_unkept(kept: &Signed, me: PartyId, known: &[Index]) -> Option<(ArcId, u32)>
     requires { length known.now ≤ 256 }
-    ensures { result ≡ first_unkept (signed_in kept.now.keys) me 0 (entries_in known.now) }
+    ensures { result ≡ first_unkept (signed_in kept.now.keys) me 0 (all_entries known.now) }
 {
     'arcs: for arc in 0..known.len() {
-        match unkept_on(kept, me, &known[arc]) {
+        match find_unkept(kept, me, &known[arc]) {
             Some(entry) => return Some((arc as ArcId, entry)),
             None => {}
         }

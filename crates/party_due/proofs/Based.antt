@@ -16,9 +16,9 @@ use Rattle.ledger_core.specs.History.{opened}
 use Rattle.ledger_core.specs.Book.{Histories, history, IsLegalBook}
 use Rattle.ledger_core.specs.Facts.{opened_key}
 use Rattle.history_index.specs.Value.{IndexState}
-use Rattle.history_index.specs.Indexes.{entries_in, AreIndexes}
+use Rattle.history_index.specs.Indexes.{all_entries, AreIndexes}
 use Rattle.swap_rules.specs.Party.{is_ready, opens_without}
-use Rattle.swap_rules.specs.Due.{Wallet, Action, due_key, due_unlock_on, extended, has_called, is_unlock_for, may_unlock, presented, when_due}
+use Rattle.swap_rules.specs.Due.{Wallet, Action, due_key, due_arc_unlock, extended, has_called, unlocks_lock, may_unlock, presented, when_due}
 use Rattle.swap_rules.specs.Walking.{pressing_unlocks}
 use Rattle.swap_rules.specs.Useful.{useful_unlocks}
 use Rattle.swap_rules.proofs.Words.{leaves, flat_map_none}
@@ -28,10 +28,10 @@ use Rattle.due_calls.proofs.Openings.{has_lock}
 use Rattle.due_calls.specs.declared.unlock_due.Base.{Base}
 use Rattle.due_calls.specs.declared.unlock_due.Base.TheVariants.{Signed, Own, Onto}
 use Rattle.due_calls.specs.Parts.{due_base}
-use Rattle.due_calls.specs.Unlocks.{key_from, seen_on}
+use Rattle.due_calls.specs.Unlocks.{make_due_key, first_seen_arc}
 use Rattle.due_calls.proofs.Keys.{ComesFrom, comes_from}
 use Rattle.party_machine.specs.Unlocking.{CanPutOnto}
-use Rattle.party_machine.proofs.Known.{history_of}
+use Rattle.party_machine.proofs.Known.{released_history}
 use Rattle.party_machine.proofs.Onto.{can_put_onto, found}
 
 -- Where a hashkey comes from.
@@ -43,7 +43,7 @@ not_signed false (Some a) e = cc e
 
 pub is_signed : (d : Deal) (v : ℕ) (s : Option Hashkey) (k : Histories) (i : ℕ) → due_base d v s k i ≡ Some Signed → IsSome s
 unfolding due_base
-is_signed d v None k i e = absurd (not_signed (leads d v i) (seen_on d v k i) e)
+is_signed d v None k i e = absurd (not_signed (leads d v i) (first_seen_arc d v k i) e)
 is_signed d v (Some key) k i e = refl
 
 onto_seen : (b : Bool) (o : Option ℕ) (a : ℕ) → cond b (Some Own) (option_map Onto o) ≡ Some (Onto a) → o ≡ Some a
@@ -51,43 +51,43 @@ onto_seen true o a e = absurd (cc e)
 onto_seen false None a e = absurd (cc e)
 onto_seen false (Some c) a e = cc e
 
-pub is_seen : (d : Deal) (v : ℕ) (s : Option Hashkey) (k : Histories) (i a : ℕ) → due_base d v s k i ≡ Some (Onto a) → seen_on d v k i ≡ Some a
+pub is_seen : (d : Deal) (v : ℕ) (s : Option Hashkey) (k : Histories) (i a : ℕ) → due_base d v s k i ≡ Some (Onto a) → first_seen_arc d v k i ≡ Some a
 unfolding due_base
-is_seen d v None k i a e = onto_seen (leads d v i) (seen_on d v k i) a e
+is_seen d v None k i a e = onto_seen (leads d v i) (first_seen_arc d v k i) a e
 is_seen d v (Some key) k i a e = absurd (cc e)
 
 -- One index per arc, of a legal book, in which the party saw an opening of the lock on arc a.
 module _ (d : Deal) (v : ℕ) (s : Option Hashkey) (known : List IndexState) (i a : ℕ) (sized : IsWellSized d) (party : v < d.graph.n)
-    (indexes : AreIndexes d known) (legal : IsLegalBook d (entries_in known)) (base : due_base d v s (entries_in known) i ≡ Some (Onto a)) where
-  seen : seen_on d v (entries_in known) i ≡ Some a
-  seen = is_seen d v s (entries_in known) i a base
+    (indexes : AreIndexes d known) (legal : IsLegalBook d (all_entries known)) (base : due_base d v s (all_entries known) i ≡ Some (Onto a)) where
+  seen : first_seen_arc d v (all_entries known) i ≡ Some a
+  seen = is_seen d v s (all_entries known) i a base
 
   one_each : length known ≡ length d.graph.arcs
   one_each = sym (length-map known (λ x. x.entries)) ∙ legal.one_each
 
   pub seen_below : a < length known
   seen_below =
-      let f = found (λ c. opens_without v (opened (history (entries_in known) c) i)) (leaving d.graph v) a seen in
+      let f = found (λ c. opens_without v (opened (history (all_entries known) c) i)) (leaving d.graph v) a seen in
       rw one_each (leaves d v a f.0).0
 
   pub seen_lock : (x : IndexState) → x ≡ get_or known a x → i < length d.leaders → i < length x.terms.locks
   seen_lock x is lock = has_lock (λ x. x.terms) d known a i x sized indexes.terms seen_below is lock
 
-  pub seen_entries : (x : IndexState) → x ≡ get_or known a x → history (entries_in known) a ≡ x.entries
-  seen_entries x is = history_of known a x seen_below is
+  pub seen_entries : (x : IndexState) → x ≡ get_or known a x → history (all_entries known) a ≡ x.entries
+  seen_entries x is = released_history known a x seen_below is
 
   pub seen_onto : (x : IndexState) → x ≡ get_or known a x → CanPutOnto d i (opened_key x.entries i)
   seen_onto x is =
       subst (λ (h : List Entry). CanPutOnto d i (opened_key h i)) (seen_entries x is)
-      (can_put_onto d v i a (entries_in known) sized party (λ c lt. legal.legal c (rw legal.one_each lt)) seen)
+      (can_put_onto d v i a (all_entries known) sized party (λ c lt. legal.legal c (rw legal.one_each lt)) seen)
 
   pub seen_key : (w : Wallet) (signed : ℕ → Option Hashkey) (x : IndexState) (key : Hashkey) → x ≡ get_or known a x
-      → extended w (opened_key x.entries i) ≡ Some key → key_from w signed (entries_in known) i (Onto a) ≡ Some key
+      → extended w (opened_key x.entries i) ≡ Some key → make_due_key w signed (all_entries known) i (Onto a) ≡ Some key
   seen_key w signed x key is e = ap (λ (h : List Entry). extended w (opened_key h i)) (seen_entries x is) ∙ e
 
 -- the hashkey for the lock is the one that comes from its base
 pub by_base : (d : Deal) (v : ℕ) (w : Wallet) (signed : ℕ → Option Hashkey) (k : Histories) (i : ℕ) (base : Base) (key : Hashkey)
-    → Some base ≡ due_base d v (signed i) k i → key_from w signed k i base ≡ Some key → Some key ≡ due_key d v w (signed i) k i
+    → Some base ≡ due_base d v (signed i) k i → make_due_key w signed k i base ≡ Some key → Some key ≡ due_key d v w (signed i) k i
 by_base d v w signed k i base key e from =
     let c = subst (λ (o : Option Base). ComesFrom w signed k i o (due_key d v w (signed i) k i)) (sym e) (comes_from d v w signed k i) in
     sym from ∙ (c.1 ∙ sym c.2)
@@ -114,31 +114,31 @@ none_called ready false a o e = absurd (cc e)
 
 -- none is due where the party made one on each entering arc
 pub all_called : (d : Deal) (v : ℕ) (w : Wallet) (signed : Option Hashkey) (k : Histories) (i : ℕ) (xs : List ℕ)
-    → list_all (λ a. has_called v (is_unlock_for i) (history k a)) xs ≡ true → flat_map (due_unlock_on d v w signed k i) xs ≡ []
-unfolding due_unlock_on
+    → list_all (λ a. has_called v (unlocks_lock i) (history k a)) xs ≡ true → flat_map (due_arc_unlock d v w signed k i) xs ≡ []
+unfolding due_arc_unlock
 all_called d v w signed k i xs e =
-    empty_flat (due_unlock_on d v w signed k i) xs (λ a m. none_called (is_ready d k v) (has_called v (is_unlock_for i) (history k a)) a
-    (due_key d v w signed k i) (list_all-in (λ a. has_called v (is_unlock_for i) (history k a)) xs a e m))
+    empty_flat (due_arc_unlock d v w signed k i) xs (λ a m. none_called (is_ready d k v) (has_called v (unlocks_lock i) (history k a)) a
+    (due_key d v w signed k i) (list_all-in (λ a. has_called v (unlocks_lock i) (history k a)) xs a e m))
 
 -- none is due without a hashkey
 pub without_key : (d : Deal) (v : ℕ) (w : Wallet) (signed : Option Hashkey) (k : Histories) (i : ℕ) (xs : List ℕ) → None ≡ due_key d v w signed k i
-    → flat_map (due_unlock_on d v w signed k i) xs ≡ []
-unfolding due_unlock_on
+    → flat_map (due_arc_unlock d v w signed k i) xs ≡ []
+unfolding due_arc_unlock
 without_key d v w signed k i xs e =
-    empty_flat (due_unlock_on d v w signed k i) xs (λ a m. ap (λ o. cond (may_unlock d v k i a) (presented a o) []) (sym e)
+    empty_flat (due_arc_unlock d v w signed k i) xs (λ a m. ap (λ o. cond (may_unlock d v k i a) (presented a o) []) (sym e)
     ∙ none_presented (may_unlock d v k i a) a)
 
 -- with a hashkey each that the ready party didn't make is due
 pub with_key : (d : Deal) (v : ℕ) (w : Wallet) (signed : Option Hashkey) (k : Histories) (i : ℕ) (xs : List ℕ) (key : Hashkey)
     → Some key ≡ due_key d v w signed k i → is_ready d k v ≡ true
-    → flat_map (λ a. when_due (not (has_called v (is_unlock_for i) (history k a))) a (Unlock key)) xs ≡ flat_map (due_unlock_on d v w signed k i) xs
-unfolding due_unlock_on
+    → flat_map (λ a. when_due (not (has_called v (unlocks_lock i) (history k a))) a (Unlock key)) xs ≡ flat_map (due_arc_unlock d v w signed k i) xs
+unfolding due_arc_unlock
 with_key d v w signed k i xs key e ready =
     ap (λ (f : ℕ → List Action). flat_map f xs) (λ r a. (each a) r)
   where
-    each : (a : ℕ) → when_due (not (has_called v (is_unlock_for i) (history k a))) a (Unlock key) ≡ due_unlock_on d v w signed k i a
+    each : (a : ℕ) → when_due (not (has_called v (unlocks_lock i) (history k a))) a (Unlock key) ≡ due_arc_unlock d v w signed k i a
     each a =
-        ap₂ (λ (b : Bool) (o : Option Hashkey). cond (b && not (has_called v (is_unlock_for i) (history k a))) (presented a o) []) (sym ready) e
+        ap₂ (λ (b : Bool) (o : Option Hashkey). cond (b && not (has_called v (unlocks_lock i) (history k a))) (presented a o) []) (sym ready) e
 
 pub nothing_more : {A : Type 0} (old new xs : List A) → new ≡ old → xs ≡ [] → new ≡ old ++ xs
 nothing_more old new xs e none = e ∙ (sym (append-nil old) ∙ ap (λ ys. old ++ ys) (sym none))
@@ -149,4 +149,4 @@ pub none_useful : (d : Deal) (v : ℕ) (w : Wallet) (signed : ℕ → Option Has
 none_useful d v w signed k e =
     empty_flat (pressing_unlocks d v w signed k) (locks d) (λ i j.
     none_pressing d v w signed k i
-    (flat_map_none (λ i. flat_map (due_unlock_on d v w (signed i) k i) (entering d.graph v)) (locks d) i (not_ready d v w signed k e) j))
+    (flat_map_none (λ i. flat_map (due_arc_unlock d v w (signed i) k i) (entering d.graph v)) (locks d) i (not_ready d v w signed k e) j))

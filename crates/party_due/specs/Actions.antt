@@ -4,9 +4,9 @@ use Rattle.swap_rules.specs.Due.{Action}
 use Rattle.party_due.specs.declared.due_call.DueCall.{DueCall}
 
 -- a call on an arc
-abbrev pub action_of : DueCall → Action
-action_of x = record { arc = x.arc; call = x.call }
+abbrev pub due_action : DueCall → Action
+due_action x = record { arc = x.arc; call = x.call }
 
 -- calls on arcs
 abbrev pub actions : List DueCall → List Action
-actions xs = map action_of xs
+actions xs = map due_action xs

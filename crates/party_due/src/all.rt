@@ -3,10 +3,10 @@
 ghost use Rattle.std.specs.Prelude.{◌≡◌, ◌<◌, IfOk, length};
 ghost use Rattle.swap_digraph.specs.Deal.{IsWellSized};
 ghost use Rattle.ledger_core.specs.Book.{IsLegalBook};
-ghost use Rattle.history_index.specs.Indexes.{entries_in, AreIndexes};
+ghost use Rattle.history_index.specs.Indexes.{all_entries, AreIndexes};
 ghost use Rattle.swap_rules.specs.Useful.{useful};
 ghost use Rattle.party_wallet.specs.Value.{signed_in};
-ghost use Rattle.party_machine.specs.Wallet.{wallet_of};
+ghost use Rattle.party_machine.specs.Wallet.{seed_wallet};
 ghost use Rattle.party_due.specs.Actions.{actions};
 
 use crate::due_call::DueCall;
@@ -33,10 +33,10 @@ pub fn all_useful(
     requires sized { IsWellSized deal.now }
     requires me { me < deal.now.graph.n }
     requires known { AreIndexes deal.now known.now }
-    requires legal { IsLegalBook deal.now (entries_in known.now) }
+    requires legal { IsLegalBook deal.now (all_entries known.now) }
     requires kept { length kept.now.keys ≡ length deal.now.leaders }
     ensures useful { IfOk result (λ v. actions v.items
-        ≡ useful deal.now me (wallet_of seed.now me deal.now) (signed_in kept.now.keys) (entries_in known.now)) }
+        ≡ useful deal.now me (seed_wallet seed.now me deal.now) (signed_in kept.now.keys) (all_entries known.now)) }
 {
     let mut calls = Vec::new(alloc);
     put_publishes(alloc, deal, me, known, &mut calls)?;

@@ -4,12 +4,12 @@ ghost use Rattle.std.specs.Prelude.{◌≡◌, ◌<◌, Some, IfOk, IsSome, leng
 ghost use Rattle.swap_digraph.specs.Deal.{IsWellSized};
 ghost use Rattle.ledger_core.specs.Book.{IsLegalBook};
 ghost use Rattle.ledger_core.specs.Facts.{opened_key};
-ghost use Rattle.history_index.specs.Indexes.{entries_in, AreIndexes};
+ghost use Rattle.history_index.specs.Indexes.{all_entries, AreIndexes};
 ghost use Rattle.swap_rules.specs.Due.{due_key, extended};
 ghost use Rattle.party_wallet.specs.Value.{signed_in};
 ghost use Rattle.due_calls.specs.Parts.{due_base};
-ghost use Rattle.due_calls.specs.Unlocks.{key_from};
-ghost use Rattle.party_machine.specs.Wallet.{wallet_of};
+ghost use Rattle.due_calls.specs.Unlocks.{make_due_key};
+ghost use Rattle.party_machine.specs.Wallet.{seed_wallet};
 ghost use Rattle.party_machine.specs.Unlocking.{CanPutOnto};
 
 use due_calls::{Base, due_base};
@@ -42,14 +42,14 @@ fn own_key(
     lock: LockId,
 ) -> Result<Shared<Hashkey>, NoMemory>
     requires me { me < deal.now.graph.n }
-    ensures { IfOk result (λ k. k ≡ (wallet_of seed.now me deal.now).first lock) }
+    ensures { IfOk result (λ k. k ≡ (seed_wallet seed.now me deal.now).first lock) }
 {
     let key = sign_own_anew(alloc, deal, me, seed, lock)?;
     Shared::new(alloc, key)
 }
 
 /// The party's signature put onto the hashkey that opened the lock there.
-fn put_onto(
+fn extend_key(
     alloc: Global,
     deal: &Deal,
     me: PartyId,
@@ -60,7 +60,7 @@ fn put_onto(
     requires me { me < deal.now.graph.n }
     requires lock { lock < length index.now.terms.locks }
     requires onto { CanPutOnto deal.now lock (opened_key index.now.entries lock) }
-    ensures { IfOk result (λ k. extended (wallet_of seed.now me deal.now) (opened_key index.now.entries lock) ≡ Some k) }
+    ensures { IfOk result (λ k. extended (seed_wallet seed.now me deal.now) (opened_key index.now.entries lock) ≡ Some k) }
 {
     match index.opened_key(lock) {
         Some(inner) => {
@@ -72,7 +72,7 @@ fn put_onto(
 }
 
 /// The hashkey that comes from there.
-fn key_from(
+fn make_due_key(
     alloc: Global,
     deal: &Deal,
     me: PartyId,
@@ -85,16 +85,16 @@ fn key_from(
     requires sized { IsWellSized deal.now }
     requires me { me < deal.now.graph.n }
     requires known { AreIndexes deal.now known.now }
-    requires legal { IsLegalBook deal.now (entries_in known.now) }
+    requires legal { IsLegalBook deal.now (all_entries known.now) }
     requires lock { lock < length deal.now.leaders }
     requires kept { length kept.now.keys ≡ length deal.now.leaders }
-    requires base { due_base deal.now me (signed_in kept.now.keys lock) (entries_in known.now) lock ≡ Some base }
-    ensures { IfOk result (λ k. key_from (wallet_of seed.now me deal.now) (signed_in kept.now.keys) (entries_in known.now) lock base ≡ Some k) }
+    requires base { due_base deal.now me (signed_in kept.now.keys lock) (all_entries known.now) lock ≡ Some base }
+    ensures { IfOk result (λ k. make_due_key (seed_wallet seed.now me deal.now) (signed_in kept.now.keys) (all_entries known.now) lock base ≡ Some k) }
 {
     match base {
         Base::Signed => copy_kept(kept, lock),
         Base::Own => own_key(alloc, deal, me, seed, lock),
-        Base::Onto(arc) => put_onto(alloc, deal, me, seed, &known[arc as usize], lock),
+        Base::Onto(arc) => extend_key(alloc, deal, me, seed, &known[arc as usize], lock),
     }
 }
 
@@ -113,14 +113,14 @@ pub(crate) fn due_key(
     requires sized { IsWellSized deal.now }
     requires me { me < deal.now.graph.n }
     requires known { AreIndexes deal.now known.now }
-    requires legal { IsLegalBook deal.now (entries_in known.now) }
+    requires legal { IsLegalBook deal.now (all_entries known.now) }
     requires lock { lock < length deal.now.leaders }
     requires kept { length kept.now.keys ≡ length deal.now.leaders }
-    ensures { IfOk result (λ o. o ≡ due_key deal.now me (wallet_of seed.now me deal.now) (signed_in kept.now.keys lock) (entries_in known.now) lock) }
+    ensures { IfOk result (λ o. o ≡ due_key deal.now me (seed_wallet seed.now me deal.now) (signed_in kept.now.keys lock) (all_entries known.now) lock) }
 {
     match due_base(deal, me, known, kept, lock) {
         Some(base) => {
-            let key = key_from(alloc, deal, me, seed, kept, known, lock, base)?;
+            let key = make_due_key(alloc, deal, me, seed, kept, known, lock, base)?;
             Ok(Some(key))
         }
         None => Ok(None),

@@ -2,7 +2,7 @@
 
 ghost use Rattle.std.specs.Prelude.{◌≡◌, ◌<◌, ◌++◌, OnOk};
 ghost use Rattle.swap_digraph.specs.Deal.{IsWellSized};
-ghost use Rattle.history_index.specs.Indexes.{entries_in, AreIndexes};
+ghost use Rattle.history_index.specs.Indexes.{all_entries, AreIndexes};
 ghost use Rattle.swap_rules.specs.Due.{due_claims, due_refunds};
 ghost use Rattle.party_due.specs.Actions.{actions};
 
@@ -23,7 +23,7 @@ pub(crate) fn put_claims(
     requires sized { IsWellSized deal.now }
     requires me { me < deal.now.graph.n }
     requires known { AreIndexes deal.now known.now }
-    ensures { OnOk result (actions calls.new.items ≡ actions calls.old.items ++ due_claims deal.now me (entries_in known.now)) }
+    ensures { OnOk result (actions calls.new.items ≡ actions calls.old.items ++ due_claims deal.now me (all_entries known.now)) }
 {
     'arcs: for arc in deal.graph.entering(me) {
         let test = is_due_claim(deal, me, known, *arc);
@@ -42,7 +42,7 @@ pub(crate) fn put_refunds(
     requires sized { IsWellSized deal.now }
     requires me { me < deal.now.graph.n }
     requires known { AreIndexes deal.now known.now }
-    ensures { OnOk result (actions calls.new.items ≡ actions calls.old.items ++ due_refunds deal.now me (entries_in known.now)) }
+    ensures { OnOk result (actions calls.new.items ≡ actions calls.old.items ++ due_refunds deal.now me (all_entries known.now)) }
 {
     'arcs: for arc in deal.graph.leaving(me) {
         let test = is_due_refund(deal, me, known, *arc);

@@ -6,13 +6,13 @@ ghost use Rattle.swap_digraph.specs.Graph.{entering};
 ghost use Rattle.swap_digraph.specs.Deal.{IsWellSized};
 ghost use Rattle.ledger_core.specs.declared.entry.Call.TheVariants.{Unlock};
 ghost use Rattle.ledger_core.specs.Book.{history, IsLegalBook};
-ghost use Rattle.history_index.specs.Indexes.{entries_in, AreIndexes};
+ghost use Rattle.history_index.specs.Indexes.{all_entries, AreIndexes};
 ghost use Rattle.swap_rules.specs.Party.{is_ready};
-ghost use Rattle.swap_rules.specs.Due.{due_key, due_unlock_on, has_called, is_unlock_for, when_due};
+ghost use Rattle.swap_rules.specs.Due.{due_key, due_arc_unlock, has_called, unlocks_lock, when_due};
 ghost use Rattle.swap_rules.specs.Walking.{pressing_unlocks};
 ghost use Rattle.swap_rules.specs.Useful.{useful_unlocks};
 ghost use Rattle.party_wallet.specs.Value.{signed_in};
-ghost use Rattle.party_machine.specs.Wallet.{wallet_of};
+ghost use Rattle.party_machine.specs.Wallet.{seed_wallet};
 ghost use Rattle.party_due.specs.Actions.{actions};
 
 use crate::due_call::{DueCall, put_when};
@@ -29,7 +29,7 @@ use swap_digraph::Deal;
 
 /// Whether the party made an unlock for the lock on the arc, whatever the reply.
 fn has_unlocked(me: PartyId, known: &[Index], lock: LockId, arc: ArcId) -> bool
-    ensures { result ≡ has_called me (is_unlock_for lock) (history (entries_in known.now) arc) }
+    ensures { result ≡ has_called me (unlocks_lock lock) (history (all_entries known.now) arc) }
 {
     match known.get(arc as usize) {
         Some(index) => index.called(me, CallKind::Unlock(lock)),
@@ -40,7 +40,7 @@ fn has_unlocked(me: PartyId, known: &[Index], lock: LockId, arc: ArcId) -> bool
 /// Whether the party made an unlock for the lock on each entering arc.
 fn has_unlocked_all(deal: &Deal, me: PartyId, known: &[Index], lock: LockId) -> bool
     requires me { me < deal.now.graph.n }
-    ensures { result ≡ list_all (λ a. has_called me (is_unlock_for lock) (history (entries_in known.now) a)) (entering deal.now.graph me) }
+    ensures { result ≡ list_all (λ a. has_called me (unlocks_lock lock) (history (all_entries known.now) a)) (entering deal.now.graph me) }
 {
     deal.graph
         .entering(me)
@@ -58,14 +58,14 @@ fn put_unlock(
     calls: &mut Vec<DueCall>,
 ) -> Result<(), NoMemory>
     ensures { OnOk result (actions calls.new.items ≡ actions calls.old.items
-        ++ when_due (not (has_called me (is_unlock_for lock) (history (entries_in known.now) arc))) arc (Unlock key.now)) }
+        ++ when_due (not (has_called me (unlocks_lock lock) (history (all_entries known.now) arc))) arc (Unlock key.now)) }
 {
     let test = !has_unlocked(me, known, lock, arc);
     put_when(calls, test, arc, Call::Unlock(key.copy()?))
 }
 
 /// Adds the unlocks for the lock with the hashkey, by entering arc.
-fn put_unlocks_with(
+fn put_key_unlocks(
     deal: &Deal,
     me: PartyId,
     known: &[Index],
@@ -75,7 +75,7 @@ fn put_unlocks_with(
 ) -> Result<(), NoMemory>
     requires me { me < deal.now.graph.n }
     ensures { OnOk result (actions calls.new.items ≡ actions calls.old.items
-        ++ flat_map (λ a. when_due (not (has_called me (is_unlock_for lock) (history (entries_in known.now) a))) a (Unlock key.now))
+        ++ flat_map (λ a. when_due (not (has_called me (unlocks_lock lock) (history (all_entries known.now) a))) a (Unlock key.now))
         (entering deal.now.graph me)) }
 {
     'arcs: for arc in deal.graph.entering(me) {
@@ -85,7 +85,7 @@ fn put_unlocks_with(
 }
 
 /// Adds the unlocks for the lock that are due where the party is ready. Nothing is signed where there is none.
-fn put_unlocks_for(
+fn put_lock_unlocks(
     alloc: Global,
     deal: &Deal,
     me: PartyId,
@@ -98,26 +98,26 @@ fn put_unlocks_for(
     requires sized { IsWellSized deal.now }
     requires me { me < deal.now.graph.n }
     requires known { AreIndexes deal.now known.now }
-    requires legal { IsLegalBook deal.now (entries_in known.now) }
+    requires legal { IsLegalBook deal.now (all_entries known.now) }
     requires lock { lock < length deal.now.leaders }
     requires kept { length kept.now.keys ≡ length deal.now.leaders }
-    requires ready { is_ready deal.now (entries_in known.now) me ≡ true }
+    requires ready { is_ready deal.now (all_entries known.now) me ≡ true }
     ensures { OnOk result (actions calls.new.items ≡ actions calls.old.items
-        ++ flat_map (due_unlock_on deal.now me (wallet_of seed.now me deal.now) (signed_in kept.now.keys lock) (entries_in known.now) lock)
+        ++ flat_map (due_arc_unlock deal.now me (seed_wallet seed.now me deal.now) (signed_in kept.now.keys lock) (all_entries known.now) lock)
         (entering deal.now.graph me)) }
 {
     if has_unlocked_all(deal, me, known, lock) {
         return Ok(());
     }
     match due_key(alloc, deal, me, seed, kept, known, lock)? {
-        Some(key) => put_unlocks_with(deal, me, known, lock, &key, calls),
+        Some(key) => put_key_unlocks(deal, me, known, lock, &key, calls),
         None => Ok(()),
     }
 }
 
 /// Adds the unlocks for the lock that are useful where the party is ready: none where the lock is
 /// withheld.
-fn put_useful_for(
+fn put_useful_unlocks(
     alloc: Global,
     deal: &Deal,
     me: PartyId,
@@ -130,17 +130,17 @@ fn put_useful_for(
     requires sized { IsWellSized deal.now }
     requires me { me < deal.now.graph.n }
     requires known { AreIndexes deal.now known.now }
-    requires legal { IsLegalBook deal.now (entries_in known.now) }
+    requires legal { IsLegalBook deal.now (all_entries known.now) }
     requires lock { lock < length deal.now.leaders }
     requires kept { length kept.now.keys ≡ length deal.now.leaders }
-    requires ready { is_ready deal.now (entries_in known.now) me ≡ true }
+    requires ready { is_ready deal.now (all_entries known.now) me ≡ true }
     ensures { OnOk result (actions calls.new.items ≡ actions calls.old.items
-        ++ pressing_unlocks deal.now me (wallet_of seed.now me deal.now) (signed_in kept.now.keys) (entries_in known.now) lock) }
+        ++ pressing_unlocks deal.now me (seed_wallet seed.now me deal.now) (signed_in kept.now.keys) (all_entries known.now) lock) }
 {
     if is_withheld(deal, me, known, lock) {
         return Ok(());
     }
-    put_unlocks_for(alloc, deal, me, seed, kept, known, lock, calls)
+    put_lock_unlocks(alloc, deal, me, seed, kept, known, lock, calls)
 }
 
 /// Adds the unlocks that are useful, by lock and entering arc.
@@ -156,16 +156,16 @@ pub(crate) fn put_unlocks(
     requires sized { IsWellSized deal.now }
     requires me { me < deal.now.graph.n }
     requires known { AreIndexes deal.now known.now }
-    requires legal { IsLegalBook deal.now (entries_in known.now) }
+    requires legal { IsLegalBook deal.now (all_entries known.now) }
     requires kept { length kept.now.keys ≡ length deal.now.leaders }
     ensures { OnOk result (actions calls.new.items ≡ actions calls.old.items
-        ++ useful_unlocks deal.now me (wallet_of seed.now me deal.now) (signed_in kept.now.keys) (entries_in known.now)) }
+        ++ useful_unlocks deal.now me (seed_wallet seed.now me deal.now) (signed_in kept.now.keys) (all_entries known.now)) }
 {
     if !is_ready(deal, me, known) {
         return Ok(());
     }
     for lock in 0..deal.leaders.len() as u8 {
-        put_useful_for(alloc, deal, me, seed, kept, known, lock, calls)?;
+        put_useful_unlocks(alloc, deal, me, seed, kept, known, lock, calls)?;
     }
     Ok(())
 }

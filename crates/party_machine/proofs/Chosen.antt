@@ -12,7 +12,7 @@ use Rattle.ledger_core.specs.declared.entry.Call.TheVariants.{Unlock}
 use Rattle.ledger_core.specs.History.{opened, IsLegal}
 use Rattle.ledger_core.specs.Book.{Histories, history}
 use Rattle.swap_rules.specs.Party.{key_without, first_seen_key}
-use Rattle.swap_rules.specs.Due.{Wallet, Action, seen_key, extended, due_key, presented, may_unlock, due_unlock_on, due_unlocks, first}
+use Rattle.swap_rules.specs.Due.{Wallet, Action, seen_key, extended, due_key, presented, may_unlock, due_arc_unlock, due_unlocks, first}
 use Rattle.swap_rules.proofs.Prefixes.{from_flat_map}
 use Rattle.swap_rules.proofs.Words.{leaves, key_without_parts}
 use Rattle.ledger_core.proofs.History.{opened_done}
@@ -64,10 +64,10 @@ module _ (d : Deal) (v : ℕ) (w : Wallet) (signed : ℕ → Option Hashkey) (k 
     pub due : or_else (signed lock) (cond (leads d v lock) (Some (w.first lock)) (extended w (first_seen_key d k v lock))) ≡ Some key
 
   comes : (x : Action) → IsIn x (due_unlocks d v w signed k) → Comes x
-  unfolding due_unlock_on due_key seen_key
+  unfolding due_arc_unlock due_key seen_key
   comes x i =
-      let a = from_flat_map (λ i. flat_map (due_unlock_on d v w (signed i) k i) (entering d.graph v)) (locks d) x i in
-      let b = from_flat_map (due_unlock_on d v w (signed a.0) k a.0) (entering d.graph v) x a.2 in
+      let a = from_flat_map (λ i. flat_map (due_arc_unlock d v w (signed i) k i) (entering d.graph v)) (locks d) x i in
+      let b = from_flat_map (due_arc_unlock d v w (signed a.0) k a.0) (entering d.graph v) x a.2 in
       let p = present_in b.0 (due_key d v w (signed a.0) k a.0) x (if_in (may_unlock d v k a.0 b.0) (presented b.0 (due_key d v w (signed a.0) k a.0)) x b.2) in
       record { lock = a.0; key = p.0; call = p.2; due = p.1 }
 

@@ -11,7 +11,7 @@ use Rattle.swap_digraph.specs.declared.deal.Deal.{Deal}
 use Rattle.swap_digraph.specs.Graph.{arcs}
 use Rattle.swap_digraph.specs.Deal.{party, counterparty, IsWellSized}
 use Rattle.hashkey_path.specs.declared.hashkey.Hashkey.{Hashkey}
-use Rattle.escrow_core.specs.Terms.{terms_of}
+use Rattle.escrow_core.specs.Terms.{stated_terms}
 use Rattle.ledger_core.specs.declared.entry.Entry.{Entry}
 use Rattle.ledger_core.specs.History.{IsLegal}
 use Rattle.ledger_core.specs.Book.{Histories, history, IsLegalBook}
@@ -24,26 +24,26 @@ use Rattle.swap_rules.proofs.Prefixes.{same_or_not}
 use Rattle.swap_rules.proofs.Conducting.{history_same, history_other}
 use Rattle.party_wallet.specs.Value.{WalletState, signed_in}
 use Rattle.party_wallet.specs.Keys.{new_wallet, with_recorded}
-use Rattle.party_machine.specs.Wallet.{wallet_of}
-use Rattle.party_wallet.specs.Fits.{wrong_in, wrong_lock}
-use Rattle.party_machine.specs.Machine.{MachineState, new_machine, machine_or, machine_for, resumed_machine, learnt}
-use Rattle.party_machine.specs.Within.{entries_in, machine_in, AreIndexes, IsPartys, IsReady, IsKept}
+use Rattle.party_machine.specs.Wallet.{seed_wallet}
+use Rattle.party_wallet.specs.Fits.{find_wrong_lock, wrong_lock}
+use Rattle.party_machine.specs.Machine.{MachineState, new_machine, machine_or, fresh_machine, resumed_machine, learnt}
+use Rattle.party_machine.specs.Within.{all_entries, inside_machine, AreIndexes, IsPartys, IsReady, IsKept}
 use Rattle.party_machine.specs.declared.machine.Machine.TheInside.{Inside}
 use Rattle.party_machine.proofs.Good.{fitting_is_good}
 
 -- What a machine shows of what it keeps.
 
 abbrev pub IsGoodFor : MachineState → Type 0
-IsGoodFor s = IsAccepted s.deal → IsWallet s.deal s.me (wallet_of s.seed s.me s.deal)
+IsGoodFor s = IsAccepted s.deal → IsWallet s.deal s.me (seed_wallet s.seed s.me s.deal)
 
-pub is_good : (m : Inside) (s : MachineState) → machine_in m ≡ s → IsKept m → IsGoodFor s
+pub is_good : (m : Inside) (s : MachineState) → inside_machine m ≡ s → IsKept m → IsGoodFor s
 is_good m s e r = subst IsGoodFor e (λ accepted. fitting_is_good m.deal m.wallet.party m.wallet.seed accepted r.ready.partys.party r.ready.partys.fits)
 
 pub legal_at : (d : Deal) (w : WalletState) (known : List IndexState) (a : ℕ) → IsReady d w known → a < length d.graph.arcs
-    → IsLegal d a (history (entries_in known) a)
+    → IsLegal d a (history (all_entries known) a)
 legal_at d w known a r lt = r.legal.legal a (rw r.legal.one_each lt)
 
-pub is_legal : (m : Inside) (s : MachineState) (a : ℕ) → machine_in m ≡ s → IsKept m → a < length s.deal.graph.arcs → IsLegal s.deal a (history s.known a)
+pub is_legal : (m : Inside) (s : MachineState) (a : ℕ) → inside_machine m ≡ s → IsKept m → a < length s.deal.graph.arcs → IsLegal s.deal a (history s.known a)
 is_legal m s a e r lt =
     subst (λ (x : MachineState). a < length x.deal.graph.arcs
     → IsLegal x.deal a (history x.known a)) e (legal_at m.deal m.wallet m.known.items a r.ready) lt
@@ -52,13 +52,14 @@ pub one_each : (d : Deal) (w : WalletState) (known : List IndexState) → IsRead
 one_each d w known r = sym (length-map known (λ x. x.entries)) ∙ r.legal.one_each
 
 -- the entries of an index are the history of its arc
-pub history_of : (known : List IndexState) (a : ℕ) (x : IndexState) → a < length known → x ≡ get_or known a x → history (entries_in known) a ≡ x.entries
-history_of known a x lt e = get_or-map (λ y. y.entries) known a x [] lt ∙ ap (λ (y : IndexState). y.entries) (sym e)
+pub released_history : (known : List IndexState) (a : ℕ) (x : IndexState) → a < length known → x ≡ get_or known a x → history (all_entries known) a ≡ x.entries
+released_history known a x lt e = get_or-map (λ y. y.entries) known a x [] lt ∙ ap (λ (y : IndexState). y.entries) (sym e)
 
 -- what holds of each index, at its place
-place_of : (d : Deal) (w : WalletState) (known : List IndexState) (a : ℕ) (x : IndexState) → IsReady d w known → a < length d.graph.arcs → x ≡ get_or known a x
+find_place : (d : Deal) (w : WalletState) (known : List IndexState) (a : ℕ) (x : IndexState) → IsReady d w known → a < length d.graph.arcs
+    → x ≡ get_or known a x
     → {B : Type 0} (g : IndexState → B) (of : ℕ → B) → map g known ≡ map of (arcs d.graph) → g x ≡ of a
-place_of d w known a x ready lt e {B} g of made =
+find_place d w known a x ready lt e {B} g of made =
     ap g e
     ∙ sym (get_or-map g known a x (g x) (rw (one_each d w known ready) lt))
     ∙ ap (λ (ts : List B). get_or ts a (g x)) made
@@ -69,20 +70,20 @@ same_numbers [] = refl
 same_numbers (x ∷ xs) = ap (λ (ys : List ℕ). x ∷ ys) (same_numbers xs)
 
 -- it was made for its arc
-pub made_for : (d : Deal) (w : WalletState) (known : List IndexState) (a : ℕ) (x : IndexState) → IsReady d w known → a < length d.graph.arcs
+pub renewed_wallet : (d : Deal) (w : WalletState) (known : List IndexState) (a : ℕ) (x : IndexState) → IsReady d w known → a < length d.graph.arcs
     → x ≡ get_or known a x
     → IsSameArc (new_index d a) x
-made_for d w known a x ready lt e =
+renewed_wallet d w known a x ready lt e =
     record {
-      arc = place_of d w known a x ready lt e (λ z. z.arc) (λ n. n) (ready.arcs ∙ sym (same_numbers (arcs d.graph)));
-      from = place_of d w known a x ready lt e (λ z. z.from) (party d) ready.indexes.from;
-      to = place_of d w known a x ready lt e (λ z. z.to) (counterparty d) ready.indexes.to;
-      terms = place_of d w known a x ready lt e (λ z. z.terms) (terms_of d) ready.indexes.terms;
+      arc = find_place d w known a x ready lt e (λ z. z.arc) (λ n. n) (ready.arcs ∙ sym (same_numbers (arcs d.graph)));
+      from = find_place d w known a x ready lt e (λ z. z.from) (party d) ready.indexes.from;
+      to = find_place d w known a x ready lt e (λ z. z.to) (counterparty d) ready.indexes.to;
+      terms = find_place d w known a x ready lt e (λ z. z.terms) (stated_terms d) ready.indexes.terms;
     }
 
 -- A new machine.
 
-nothing_known : (d : Deal) (k n : ℕ) → entries_in (map (new_index d) (range_with_len k n)) ≡ replicate n []
+nothing_known : (d : Deal) (k n : ℕ) → all_entries (map (new_index d) (range_with_len k n)) ≡ replicate n []
 nothing_known d k zero = refl
 nothing_known d k (suc n) = ap (λ (hs : Histories). [] ∷ hs) (nothing_known d (k + 1) n)
 
@@ -91,8 +92,8 @@ none_of_none zero i d = refl
 none_of_none (suc n) zero d = refl
 none_of_none (suc n) (suc i) d = none_of_none n i d
 
-entries_new : (d : Deal) (known : List IndexState) → known ≡ map (new_index d) (arcs d.graph) → entries_in known ≡ replicate (length d.graph.arcs) []
-entries_new d known e = ap entries_in e ∙ nothing_known d 0 (length d.graph.arcs)
+entries_new : (d : Deal) (known : List IndexState) → known ≡ map (new_index d) (arcs d.graph) → all_entries known ≡ replicate (length d.graph.arcs) []
+entries_new d known e = ap all_entries e ∙ nothing_known d 0 (length d.graph.arcs)
 
 legal_new : (d : Deal) → IsLegalBook d (replicate (length d.graph.arcs) [])
 legal_new d = record {
@@ -132,28 +133,28 @@ new_ready c d v w known ec ew ek sized lt fits =
     })
 
 pub new_is : (c d : Deal) (v : ℕ) (w : WalletState) (known : List IndexState) → c ≡ d → w ≡ new_wallet w.seed v d → known ≡ map (new_index d) (arcs d.graph)
-    → ◌≡◌ {A = MachineState} (record { deal = c; me = w.party; seed = w.seed; known = entries_in known; signed = w.signed }) (new_machine d v w.seed)
+    → ◌≡◌ {A = MachineState} (record { deal = c; me = w.party; seed = w.seed; known = all_entries known; signed = w.signed }) (new_machine d v w.seed)
 new_is c d v w known ec ew ek =
     let p : w.party ≡ v = ap (λ (x : WalletState). x.party) ew in
     let s : w.signed ≡ replicate (length d.leaders) None = ap (λ (x : WalletState). x.signed) ew in
-    let k : entries_in known ≡ replicate (length d.graph.arcs) [] = entries_new d known ek in
+    let k : all_entries known ≡ replicate (length d.graph.arcs) [] = entries_new d known ek in
     rw (ec, p, s, k) refl
 
 -- a wallet that was made anew for the party and the deal
 
-pub seed_of : (d : Deal) (v : ℕ) (seed : List ℕ) (f : WalletState) → f ≡ new_wallet seed v d → f.seed ≡ seed
-seed_of d v seed f is = ap (λ (w : WalletState). w.seed) is
+pub make_seed : (d : Deal) (v : ℕ) (seed : List ℕ) (f : WalletState) → f ≡ new_wallet seed v d → f.seed ≡ seed
+make_seed d v seed f is = ap (λ (w : WalletState). w.seed) is
 
 pub made_fresh : (d : Deal) (v : ℕ) (seed : List ℕ) (f : WalletState) → f ≡ new_wallet seed v d → f ≡ new_wallet f.seed v d
-made_fresh d v seed f is = is ∙ ap (λ (s : List ℕ). new_wallet s v d) (sym (seed_of d v seed f is))
+made_fresh d v seed f is = is ∙ ap (λ (s : List ℕ). new_wallet s v d) (sym (make_seed d v seed f is))
 
 pub fits_fresh : (d : Deal) (v : ℕ) (w f : WalletState) → f ≡ new_wallet w.seed v d → wrong_lock d v w.seed ≡ None → wrong_lock d v f.seed ≡ None
-fits_fresh d v w f is fits = ap (wrong_lock d v) (seed_of d v w.seed f is) ∙ fits
+fits_fresh d v w f is fits = ap (wrong_lock d v) (make_seed d v w.seed f is) ∙ fits
 
 pub fitting_shows : (d : Deal) (v : ℕ) (w f : WalletState) (m : MachineState) → f ≡ new_wallet w.seed v d → m ≡ new_machine d v f.seed
-    → wrong_in d v w ≡ None → machine_for d v w ≡ Ok m
+    → find_wrong_lock d v w ≡ None → fresh_machine d v w ≡ Ok m
 fitting_shows d v w f m is e fits =
-    ap (machine_or d v w.seed) fits ∙ ap (λ (x : MachineState). Ok x) (sym (e ∙ ap (new_machine d v) (seed_of d v w.seed f is)))
+    ap (machine_or d v w.seed) fits ∙ ap (λ (x : MachineState). Ok x) (sym (e ∙ ap (new_machine d v) (make_seed d v w.seed f is)))
 
 -- a party's wallet with recorded hashkeys
 partys_recorded : (d : Deal) (w w' : WalletState) (recorded : List (Option Hashkey)) → IsPartys d w → w' ≡ with_recorded w recorded
@@ -193,13 +194,13 @@ restarted_ready d w w' old known recorded r ek ew places locks = record {
 -- what it shows
 pub restarted_is : (d : Deal) (w w' : WalletState) (known : List IndexState) (recorded : List (Option Hashkey)) → known ≡ map (new_index d) (arcs d.graph)
     → w' ≡ with_recorded w recorded
-    → ◌≡◌ {A = MachineState} (record { deal = d; me = w'.party; seed = w'.seed; known = entries_in known; signed = w'.signed })
+    → ◌≡◌ {A = MachineState} (record { deal = d; me = w'.party; seed = w'.seed; known = all_entries known; signed = w'.signed })
     (resumed_machine d w.party w.seed recorded)
 restarted_is d w w' known recorded ek ew =
     let p : w'.party ≡ w.party = ap (λ (x : WalletState). x.party) ew in
     let s : w'.seed ≡ w.seed = ap (λ (x : WalletState). x.seed) ew in
     let g : w'.signed ≡ recorded = ap (λ (x : WalletState). x.signed) ew in
-    let k : entries_in known ≡ replicate (length d.graph.arcs) [] = entries_new d known ek in
+    let k : all_entries known ≡ replicate (length d.graph.arcs) [] = entries_new d known ek in
     λ i. record { deal = d; me = p i; seed = s i; known = k i; signed = g i }
 
 -- More entries of an arc.
@@ -217,19 +218,19 @@ learnt_ready d w known a x y r lt e same legal = record {
   };
   arcs = map-set_same (λ z. z.arc) known a y x (same.arc ∙ ap (λ (z : IndexState). z.arc) e) ∙ r.arcs;
   legal = subst (IsLegalBook d) (sym (map-set (λ z. z.entries) known a y)) (record {
-    one_each = length-set (entries_in known) a y.entries ∙ r.legal.one_each;
-    legal = λ c l. at c (same_or_not c a) (subst (λ z. c < z) (length-set (entries_in known) a y.entries) l);
+    one_each = length-set (all_entries known) a y.entries ∙ r.legal.one_each;
+    legal = λ c l. at c (same_or_not c a) (subst (λ z. c < z) (length-set (all_entries known) a y.entries) l);
   });
 }
   where
-    below : a < length (entries_in known)
+    below : a < length (all_entries known)
     below = rw r.legal.one_each lt
 
-    at : (c : ℕ) → (c ≡ a) ⊎ (c ≢ a) → c < length (entries_in known) → IsLegal d c (history (set (entries_in known) a y.entries) c)
+    at : (c : ℕ) → (c ≡ a) ⊎ (c ≢ a) → c < length (all_entries known) → IsLegal d c (history (set (all_entries known) a y.entries) c)
     at c (inl q) l =
-        subst (λ z. IsLegal d z (history (set (entries_in known) a y.entries) z)) (sym q)
-        (subst (IsLegal d a) (sym (history_same (entries_in known) a y.entries below)) legal)
-    at c (inr n) l = subst (IsLegal d c) (sym (history_other (entries_in known) a c y.entries n)) (r.legal.legal c l)
+        subst (λ z. IsLegal d z (history (set (all_entries known) a y.entries) z)) (sym q)
+        (subst (IsLegal d a) (sym (history_same (all_entries known) a y.entries below)) legal)
+    at c (inr n) l = subst (IsLegal d c) (sym (history_other (all_entries known) a c y.entries n)) (r.legal.legal c l)
 
 -- what the call did, by its answer
 legal_by : {A E : Type 0} (d : Deal) (a : ℕ) (x y : IndexState) (more : List Entry) (r : Result A E) → IsLegal d a x.entries
@@ -238,10 +239,10 @@ legal_by d a x y more (Ok u) before after ok err = subst (IsLegal d a) (sym ok) 
 legal_by d a x y more (Err u) before after ok err = subst (λ (z : IndexState). IsLegal d a z.entries) (sym err) before
 
 pub called_ready : {A E : Type 0} (d : Deal) (w : WalletState) (known : List IndexState) (a : ℕ) (x y : IndexState) (more : List Entry) (r : Result A E)
-    → IsReady d w known → a < length d.graph.arcs → x ≡ get_or known a x → IsSameArc x y → IsLegal d a (history (entries_in known) a ++ more)
+    → IsReady d w known → a < length d.graph.arcs → x ≡ get_or known a x → IsSameArc x y → IsLegal d a (history (all_entries known) a ++ more)
     → OnOk r (y.entries ≡ x.entries ++ more) → OnErr r (y ≡ x) → IsReady d w (set known a y)
 called_ready d w known a x y more r ready lt e same legal ok err =
-    let h : history (entries_in known) a ≡ x.entries = history_of known a x (rw (one_each d w known ready) lt) e in
+    let h : history (all_entries known) a ≡ x.entries = released_history known a x (rw (one_each d w known ready) lt) e in
     let before : IsLegal d a x.entries = subst (IsLegal d a) h (legal_at d w known a ready lt) in
     let after : IsLegal d a (x.entries ++ more) = subst (λ (z : List Entry). IsLegal d a (z ++ more)) h legal in
     learnt_ready d w known a x y ready lt e same (legal_by d a x y more r before after ok err)
@@ -252,25 +253,25 @@ pub called_shows : {A E : Type 0} (d : Deal) (w : WalletState) (known : List Ind
       deal = d;
       me = w.party;
       seed = w.seed;
-      known = entries_in (set known a y);
+      known = all_entries (set known a y);
       signed =
           w.signed;
-    }) (learnt (record { deal = d; me = w.party; seed = w.seed; known = entries_in known; signed = w.signed }) a more))
+    }) (learnt (record { deal = d; me = w.party; seed = w.seed; known = all_entries known; signed = w.signed }) a more))
 called_shows d w known a x y more (Err u) ready lt e ok = tt
 called_shows d w known a x y more (Ok u) ready lt e ok =
-    let h : history (entries_in known) a ≡ x.entries = history_of known a x (rw (one_each d w known ready) lt) e in
-    let k : entries_in (set known a y) ≡ set (entries_in known) a (history (entries_in known) a ++ more) =
-    map-set (λ z. z.entries) known a y ∙ ap (set (entries_in known) a) (ok ∙ ap (λ (z : List Entry). z ++ more) (sym h)) in
+    let h : history (all_entries known) a ≡ x.entries = released_history known a x (rw (one_each d w known ready) lt) e in
+    let k : all_entries (set known a y) ≡ set (all_entries known) a (history (all_entries known) a ++ more) =
+    map-set (λ z. z.entries) known a y ∙ ap (set (all_entries known) a) (ok ∙ ap (λ (z : List Entry). z ++ more) (sym h)) in
     ap (λ (b : Histories). record { deal = d; me = w.party; seed = w.seed; known = b; signed = w.signed }) k
 
 -- all that comes is indexable
 pub fronts : (d : Deal) (w : WalletState) (known : List IndexState) (a : ℕ) (x : IndexState) (more : List Entry) → IsReady d w known
-    → a < length d.graph.arcs → x ≡ get_or known a x → IsLegal d a (history (entries_in known) a ++ more)
+    → a < length d.graph.arcs → x ≡ get_or known a x → IsLegal d a (history (all_entries known) a ++ more)
     → (front rest : List Entry) → x.entries ++ more ≡ front ++ rest → IsIndexable x.from x.to front
 fronts d w known a x more ready lt e legal front rest q =
     let below : a < length known = rw (one_each d w known ready) lt in
-    let h : history (entries_in known) a ≡ x.entries = history_of known a x below e in
-    let made = made_for d w known a x ready lt e in
+    let h : history (all_entries known) a ≡ x.entries = released_history known a x below e in
+    let made = renewed_wallet d w known a x ready lt e in
     let f : x.from ≡ party d a = made.from in
     let t : x.to ≡ counterparty d a = made.to in
     let whole : IsLegal d a (front ++ rest) = subst (IsLegal d a) (ap (λ (z : List Entry). z ++ more) h ∙ q) legal in

@@ -4,8 +4,8 @@ use Rattle.swap_base.specs.Lists.{or_else}
 use Rattle.ledger_core.specs.declared.entry.Call.{Call}
 use Rattle.swap_rules.specs.Due.{Action, due, due_publishes, due_unlocks, due_claims, due_refunds, first}
 use Rattle.party_wallet.specs.Value.{signed_in}
-use Rattle.party_machine.specs.Wallet.{wallet_of}
-use Rattle.party_machine.specs.Machine.{MachineState, action_of, next_due}
+use Rattle.party_machine.specs.Wallet.{seed_wallet}
+use Rattle.party_machine.specs.Machine.{MachineState, due_action, next_due}
 
 pub first_append : (xs ys : List Action) → first (xs ++ ys) ≡ or_else (first xs) (first ys)
 first_append [] ys = refl
@@ -16,16 +16,16 @@ or_else_assoc None r s = refl
 or_else_assoc (Some x) r s = refl
 
 -- what a machine's unlocks are
-abbrev pub unlocks_of : MachineState → List Action
-unlocks_of m = due_unlocks m.deal m.me (wallet_of m.seed m.me m.deal) (signed_in m.signed) m.known
+abbrev pub party_unlocks : MachineState → List Action
+party_unlocks m = due_unlocks m.deal m.me (seed_wallet m.seed m.me m.deal) (signed_in m.signed) m.known
 
 pub split : (m : MachineState)
     → next_due m ≡ or_else (first (due_publishes m.deal m.me m.known))
-    (or_else (first (unlocks_of m)) (first (due_claims m.deal m.me m.known ++ due_refunds m.deal m.me m.known)))
+    (or_else (first (party_unlocks m)) (first (due_claims m.deal m.me m.known ++ due_refunds m.deal m.me m.known)))
 unfolding due
 split m =
     let p = due_publishes m.deal m.me m.known in
-    let u = unlocks_of m in
+    let u = party_unlocks m in
     let c = due_claims m.deal m.me m.known in
     let r = due_refunds m.deal m.me m.known in
     first_append ((p ++ u) ++ c) r
@@ -35,19 +35,19 @@ split m =
     ∙ or_else_assoc (first p) (first u) (first (c ++ r)))))
 
 -- an answer of the first kind
-pub at_once : (m : MachineState) (o : Option (ℕ × Call)) → option_map action_of o ≡ first (due_publishes m.deal m.me m.known) → is_some o ≡ true
-    → option_map action_of o ≡ next_due m
+pub at_once : (m : MachineState) (o : Option (ℕ × Call)) → option_map due_action o ≡ first (due_publishes m.deal m.me m.known) → is_some o ≡ true
+    → option_map due_action o ≡ next_due m
 at_once m None e s = absurd (cc s)
 at_once m (Some x) e s =
-    ap (λ z. or_else z (or_else (first (unlocks_of m)) (first (due_claims m.deal m.me m.known ++ due_refunds m.deal m.me m.known)))) e ∙ sym (split m)
+    ap (λ z. or_else z (or_else (first (party_unlocks m)) (first (due_claims m.deal m.me m.known ++ due_refunds m.deal m.me m.known)))) e ∙ sym (split m)
 
 -- none of the first kind, and the others' answer
-pub later : (m : MachineState) (o : Option (ℕ × Call)) (r : Option Action) → option_map action_of o ≡ first (due_publishes m.deal m.me m.known)
-    → is_some o ≡ false → or_else (first (unlocks_of m)) (first (due_claims m.deal m.me m.known ++ due_refunds m.deal m.me m.known)) ≡ r → r ≡ next_due m
+pub later : (m : MachineState) (o : Option (ℕ × Call)) (r : Option Action) → option_map due_action o ≡ first (due_publishes m.deal m.me m.known)
+    → is_some o ≡ false → or_else (first (party_unlocks m)) (first (due_claims m.deal m.me m.known ++ due_refunds m.deal m.me m.known)) ≡ r → r ≡ next_due m
 later m None r e s h =
-    sym h ∙ (ap (λ z. or_else z (or_else (first (unlocks_of m)) (first (due_claims m.deal m.me m.known ++ due_refunds m.deal m.me m.known)))) e
+    sym h ∙ (ap (λ z. or_else z (or_else (first (party_unlocks m)) (first (due_claims m.deal m.me m.known ++ due_refunds m.deal m.me m.known)))) e
     ∙ sym (split m))
 later m (Some x) r e s h = absurd (cc s)
 
-pub last_of : {o : Option Action} (xs ys : List Action) → xs ≡ [] → o ≡ first ys → or_else (first xs) (first ys) ≡ o
-last_of xs ys e h = ap (λ zs. or_else (first zs) (first ys)) e ∙ sym h
+pub last_run : {o : Option Action} (xs ys : List Action) → xs ≡ [] → o ≡ first ys → or_else (first xs) (first ys) ≡ o
+last_run xs ys e h = ap (λ zs. or_else (first zs) (first ys)) e ∙ sym h

@@ -6,7 +6,7 @@ use Rattle.std.proofs.lemmas.Option.{same_Some}
 use Rattle.swap_digraph.specs.declared.deal.Deal.{Deal}
 use Rattle.swap_digraph.specs.declared.deal.Version.{Version}
 use Rattle.swap_digraph.specs.declared.deal.Version.TheVariants.{One, Two}
-use Rattle.swap_digraph.specs.Deal.{path_limit_of}
+use Rattle.swap_digraph.specs.Deal.{version_path_limit}
 use Rattle.hashkey_path.specs.declared.hashkey.Hashkey.{Hashkey}
 use Rattle.ledger_core.specs.declared.entry.Call.{Call}
 use Rattle.ledger_core.specs.declared.entry.Call.TheVariants.{Publish, Unlock, Claim, Refund, Transfer}
@@ -16,7 +16,7 @@ use Rattle.wallet_journal.specs.Device.{LeavesOnly}
 use Rattle.wallet_journal.specs.Layout.{recorded}
 use Rattle.wallet_journal.specs.Journal.{IsBeforeOrAfter}
 use Rattle.wallet_journal.specs.Own.{FitsDeal}
-use Rattle.party_machine.specs.Machine.{MachineState, action_of, next_due, noted_for}
+use Rattle.party_machine.specs.Machine.{MachineState, due_action, next_due, noted_for}
 use Rattle.party_machine.specs.Recording.{unsigned_key, new_key, signs_next, MayHave, IsCallPlaced, IsPlaced, IsCallRecorded, IsRecorded}
 use Rattle.party_machine.proofs.Signed.{set_again, is_noted}
 use Rattle.party_machine.proofs.Whole.{fresh}
@@ -85,7 +85,7 @@ call_stays old new (Transfer to units) e places p n = by_places old new (sym pla
 
 -- where no hashkey is new, what was signed stays as it is
 stays_signed : (old new : List (Option Hashkey)) (o : Option (ℕ × Call)) → signed_in new ≡ noted_for (signed_in old) o → length new ≡ length old
-    → IsPlaced old o → new_key old (option_map action_of o) ≡ None → old ≡ new
+    → IsPlaced old o → new_key old (option_map due_action o) ≡ None → old ≡ new
 stays_signed old new None e places p n = by_places old new (sym places) (sym e)
 stays_signed old new (Some x) e places p n = call_stays old new x.1 e places p n
 
@@ -106,7 +106,7 @@ new_call old new Refund k e places p n = absurd (cc n)
 new_call old new (Transfer to units) k e places p n = absurd (cc n)
 
 is_new : (old new : List (Option Hashkey)) (o : Option (ℕ × Call)) (k : Hashkey) → signed_in new ≡ noted_for (signed_in old) o → length new ≡ length old
-    → IsPlaced old o → new_key old (option_map action_of o) ≡ Some k → IsNew old new k
+    → IsPlaced old o → new_key old (option_map due_action o) ≡ Some k → IsNew old new k
 is_new old new None k e places p n = absurd (cc n)
 is_new old new (Some x) k e places p n = new_call old new x.1 k e places p n
 
@@ -122,7 +122,7 @@ call_carried outcomes old (Transfer to units) k n h = tt
 
 -- where the new hashkey is recorded, the answer's is
 pub carried : (outcomes : List ℕ → Type 0) (old : List (Option Hashkey)) (o : Option (ℕ × Call)) (k : Hashkey)
-    → Some k ≡ new_key old (option_map action_of o)
+    → Some k ≡ new_key old (option_map due_action o)
     → ((e : List ℕ) → outcomes e → recorded e k.lock ≡ Some k) → IsRecorded outcomes o
 carried outcomes old None k n h = tt
 carried outcomes old (Some x) k n h = call_carried outcomes old x.1 k (sym n) h
@@ -140,19 +140,19 @@ module _ (mine theirs new : List (Option Hashkey)) (o : Option (ℕ × Call)) (s
   answer_placed =
       placed theirs new o noted_theirs (λ i k h. once i k (ap (λ (l : List (Option Hashkey)). signed_in l i) (sym same) ∙ h)) as_long
 
-  pub answer_stays : (r : Option Hashkey) → r ≡ new_key theirs (option_map action_of o) → r ≡ None → theirs ≡ new
+  pub answer_stays : (r : Option Hashkey) → r ≡ new_key theirs (option_map due_action o) → r ≡ None → theirs ≡ new
   answer_stays r is none = stays_signed theirs new o noted_theirs as_long answer_placed (sym is ∙ none)
 
-  pub answer_new : (k : Hashkey) → Some k ≡ new_key theirs (option_map action_of o) → IsNew theirs new k
+  pub answer_new : (k : Hashkey) → Some k ≡ new_key theirs (option_map due_action o) → IsNew theirs new k
   answer_new k is = is_new theirs new o k noted_theirs as_long answer_placed (sym is)
 
   -- and it is then signed
-  pub answer_signed : (k : Hashkey) → Some k ≡ new_key theirs (option_map action_of o) → signed_in new k.lock ≡ Some k
+  pub answer_signed : (k : Hashkey) → Some k ≡ new_key theirs (option_map due_action o) → signed_in new k.lock ≡ Some k
   answer_signed k is =
       let n = answer_new k is in
       ap (λ (l : List (Option Hashkey)). signed_in l k.lock) (sym n.gained) ∙ get_or-set_same theirs k.lock (Some k) None n.lock
 
-most : (ver : Version) → path_limit_of ver ≤ 32
+most : (ver : Version) → version_path_limit ver ≤ 32
 most One = omega arith
 most Two = omega arith
 
@@ -162,7 +162,7 @@ few_vertices d k fits = let limit = most d.version in omega (arith, fits.few, li
 
 -- the hashkey that a machine signs next, from what it answers
 pub signs : (m : MachineState) (signed : List (Option Hashkey)) (o : Option (ℕ × Call)) (r : Option Hashkey) → signed ≡ m.signed
-    → option_map action_of o ≡ next_due m → r ≡ new_key signed (option_map action_of o) → signs_next m ≡ r
+    → option_map due_action o ≡ next_due m → r ≡ new_key signed (option_map due_action o) → signs_next m ≡ r
 signs m signed o r same due is = sym (is ∙ (λ i. new_key (same i) (due i)))
 
 -- Crashes.

@@ -17,24 +17,24 @@ use Rattle.ledger_core.specs.Facts.{is_call}
 use Rattle.escrow_core.specs.declared.reply.Reply.TheVariants.{Accepted}
 use Rattle.ledger_core.specs.declared.runs.Run.{Run}
 use Rattle.ledger_core.specs.Ledger.{tick_entry}
-use Rattle.ledger_core.specs.Runs.{ticks_above, ticks_of}
+use Rattle.ledger_core.specs.Runs.{ticks_above, run_ticks}
 use Rattle.ledger_core.specs.History.{height}
 use Rattle.ledger_core.specs.Book.{Histories, history}
 use Rattle.history_index.specs.Value.{IndexState}
 use Rattle.swap_digraph.specs.Graph.{leaving}
 use Rattle.swap_rules.specs.Party.{least_expiry}
 use Rattle.swap_rules.specs.Due.{Action, due, first}
-use Rattle.swap_rules.specs.Rest.{are_ticks, is_ticking, least_of, rest_until}
+use Rattle.swap_rules.specs.Rest.{are_ticks, is_ticking, least_number, rest_deadline}
 use Rattle.swap_rules.proofs.Rest.{reads, same_waiting, same_expiry, rests_below, ticks_make_nothing_due}
 use Rattle.party_wallet.specs.Value.{signed_in}
 use Rattle.party_wallet.specs.Value.{WalletState}
-use Rattle.party_machine.specs.Wallet.{wallet_of}
-use Rattle.party_machine.specs.Machine.{MachineState, action_of, learnt, next_due}
-use Rattle.party_machine.specs.Rest.{height_of, rest_after, EndsBy, IsAtRest, MayRest}
-use Rattle.party_machine.specs.Within.{entries_in, IsReady}
+use Rattle.party_machine.specs.Wallet.{seed_wallet}
+use Rattle.party_machine.specs.Machine.{MachineState, due_action, learnt, next_due}
+use Rattle.party_machine.specs.Rest.{latest_height, rest_after, EndsBy, IsAtRest, MayRest}
+use Rattle.party_machine.specs.Within.{all_entries, IsReady}
 use Rattle.party_machine.specs.declared.rest.Rest.{Rest}
 use Rattle.party_machine.specs.declared.rest.Rest.TheVariants.{Awake, Until}
-use Rattle.party_machine.proofs.Known.{one_each, history_of, called_shows}
+use Rattle.party_machine.proofs.Known.{one_each, released_history, called_shows}
 
 -- what is awake may be
 pub awake : (r : Rest) (s : MachineState) → r ≡ Awake → MayRest r s
@@ -42,19 +42,22 @@ awake r s e = subst (λ x. MayRest x s) (sym e) tt
 
 -- Rest begins.
 
-none_of : (o : Option (ℕ × Call)) (r : Option Action) → option_map action_of o ≡ r → is_some o ≡ false → r ≡ None
+none_of : (o : Option (ℕ × Call)) (r : Option Action) → option_map due_action o ≡ r → is_some o ≡ false → r ≡ None
 none_of None r e n = sym e
 none_of (Some x) r e n = absurd (cc n)
 
-pub begins : (s : MachineState) (o : Option (ℕ × Call)) (until : Option ℕ) → option_map action_of o ≡ next_due s → is_some o ≡ false
-    → until ≡ rest_until s.deal s.me s.known
+pub begins : (s : MachineState) (o : Option (ℕ × Call)) (until : Option ℕ) → option_map due_action o ≡ next_due s → is_some o ≡ false
+    → until ≡ rest_deadline s.deal s.me s.known
     → MayRest (Until until) s
-begins s o until e n u = (u, record {
-  nothing = none_of o (next_due s) e n;
-  ends = λ a i waits.
-      let b = rests_below s.deal s.me s.known a i waits in
-      subst (λ t. EndsBy t (least_expiry s.deal a (history s.known a))) (sym (u ∙ b.1)) b.2;
-})
+begins s o until e n u = (
+  u,
+  record {
+    nothing = none_of o (next_due s) e n;
+    ends = λ a i waits.
+        let b = rests_below s.deal s.me s.known a i waits in
+        subst (λ t. EndsBy t (least_expiry s.deal a (history s.known a))) (sym (u ∙ b.1)) b.2;
+  },
+)
 
 -- Rest, by the machine's own word for it.
 
@@ -66,11 +69,11 @@ rests_always r s t e m =
     let n : IsAtRest None s = (subst (λ x. MayRest x s) e m).1 in
     record { nothing = n.nothing; ends = λ a i waits. absurd (n.ends a i waits) }
 
-pub least_by : (r : Rest) (s : MachineState) (t : ℕ) → r ≡ Until (Some t) → MayRest r s → t ≡ height_of (rest_until s.deal s.me s.known)
-least_by r s t e m = ap height_of (subst (λ x. MayRest x s) e m).0
+pub least_by : (r : Rest) (s : MachineState) (t : ℕ) → r ≡ Until (Some t) → MayRest r s → t ≡ latest_height (rest_deadline s.deal s.me s.known)
+least_by r s t e m = ap latest_height (subst (λ x. MayRest x s) e m).0
 
-pub least_always : (r : Rest) (s : MachineState) → r ≡ Until None → MayRest r s → 4294967295 ≡ height_of (rest_until s.deal s.me s.known)
-least_always r s e m = ap height_of (subst (λ x. MayRest x s) e m).0
+pub least_always : (r : Rest) (s : MachineState) → r ≡ Until None → MayRest r s → 4294967295 ≡ latest_height (rest_deadline s.deal s.me s.known)
+least_always r s e m = ap latest_height (subst (λ x. MayRest x s) e m).0
 
 -- Rest goes on.
 
@@ -82,7 +85,7 @@ pub still : (until : Option ℕ) (s : MachineState) (a : ℕ) (more : List Entry
     → ((e : ℕ) → EndsBy until e → height (history s.known a ++ more) ≤ e)
     → IsAtRest until s → IsAtRest until (learnt s a more)
 still until s a more ticks low r =
-    let w = wallet_of s.seed s.me s.deal in
+    let w = seed_wallet s.seed s.me s.deal in
     let signed = signed_in s.signed in
     let before = s.known in
     let after = set s.known a (history s.known a ++ more) in
@@ -99,12 +102,12 @@ still until s a more ticks low r =
 
 -- ticks leave the height up to which it rests as it was
 same_height : (s : MachineState) (a : ℕ) (more : List Entry) → are_ticks more ≡ true
-    → rest_until s.deal s.me (set s.known a (history s.known a ++ more)) ≡ rest_until s.deal s.me s.known
+    → rest_deadline s.deal s.me (set s.known a (history s.known a ++ more)) ≡ rest_deadline s.deal s.me s.known
 same_height s a more ticks =
     let before = s.known in
     let after = set s.known a (history s.known a ++ more) in
-    let same = reads s.deal s.me (wallet_of s.seed s.me s.deal) (signed_in s.signed) before a more ticks in
-    λ j. least_of (map (λ c. same_expiry s.deal s.me before after same c j)
+    let same = reads s.deal s.me (seed_wallet s.seed s.me s.deal) (signed_in s.signed) before a more ticks in
+    λ j. least_number (map (λ c. same_expiry s.deal s.me before after same c j)
     (filter (λ c. same_waiting s.deal s.me before after same c j) (leaving s.deal.graph s.me)))
 
 goes_still : (until : Option ℕ) (s : MachineState) (a : ℕ) (more : List Entry) → are_ticks more ≡ true
@@ -140,7 +143,7 @@ stays (Until (Some until)) s true at m = go (nat_le at until)
 
 -- what a machine of these parts shows
 abbrev pub shown : Deal → WalletState → List IndexState → MachineState
-shown d w known = record { deal = d; me = w.party; seed = w.seed; known = entries_in known; signed = w.signed }
+shown d w known = record { deal = d; me = w.party; seed = w.seed; known = all_entries known; signed = w.signed }
 
 pub learns : {A E : Type 0} (rest : Rest) (d : Deal) (w : WalletState) (known : List IndexState) (a : ℕ) (x y : IndexState) (more : List Entry)
     (r : Result A E) (ticks : Bool) (at : ℕ)
@@ -148,12 +151,12 @@ pub learns : {A E : Type 0} (rest : Rest) (d : Deal) (w : WalletState) (known : 
     → OnErr r (y ≡ x)
     → ticks ≡ are_ticks more → at ≡ height y.entries → MayRest (rest_after rest ticks at) (shown d w (set known a y))
 learns {A = A} {E = E} rest d w known a x y more (Ok u) ticks at ready m lt e ok err t h =
-    let here : history (entries_in known) a ≡ x.entries = history_of known a x (rw (one_each d w known ready) lt) e in
-    let up : at ≡ height (history (entries_in known) a ++ more) = h ∙ ap height (ok ∙ ap (λ (z : List Entry). z ++ more) (sym here)) in
+    let here : history (all_entries known) a ≡ x.entries = released_history known a x (rw (one_each d w known ready) lt) e in
+    let up : at ≡ height (history (all_entries known) a ++ more) = h ∙ ap height (ok ∙ ap (λ (z : List Entry). z ++ more) (sym here)) in
     let after = called_shows {A = A} {E = E} d w known a x y more (Ok u) ready lt e ok in
     subst (MayRest (rest_after rest ticks at)) (sym after) (goes_on rest (shown d w known) a more ticks at t up m)
 learns rest d w known a x y more (Err u) ticks at ready m lt e ok err t h =
-    let same : entries_in (set known a y) ≡ entries_in known = map-set_same (λ z. z.entries) known a y x (ap (λ (z : IndexState). z.entries) (err ∙ e)) in
+    let same : all_entries (set known a y) ≡ all_entries known = map-set_same (λ z. z.entries) known a y x (ap (λ (z : IndexState). z.entries) (err ∙ e)) in
     let at_known = λ (b : Histories). MayRest (rest_after rest ticks at) (record { deal = d; me = w.party; seed = w.seed; known = b; signed = w.signed }) in
     subst at_known (sym same) (stays rest (shown d w known) ticks at m)
 
@@ -177,5 +180,5 @@ ticks_above_are at k (suc n) =
     list_all-append (λ e. is_ticking e.what) (ticks_above at k n) (tick_entry k (at + k * suc n) Accepted ∷ [])
     ∙ ap (λ b. b && true) (ticks_above_are at k n)
 
-pub are_all_ticks : (r : Run) → are_ticks (ticks_of r) ≡ true
+pub are_all_ticks : (r : Run) → are_ticks (run_ticks r) ≡ true
 are_all_ticks r = ticks_above_are r.above r.by r.count

@@ -17,14 +17,14 @@ use Rattle.swap_rules.specs.Due.{extended}
 use Rattle.swap_rules.specs.Machine.{noted}
 use Rattle.party_wallet.specs.Value.{WalletState, signed_in}
 use Rattle.party_wallet.specs.Keys.{own_key, onto_key}
-use Rattle.due_calls.specs.Unlocks.{key_on, key_from, IsSeenOn}
+use Rattle.due_calls.specs.Unlocks.{key_on, make_due_key, IsSeenOn}
 use Rattle.due_calls.specs.declared.unlock_due.Base.{Base}
 use Rattle.due_calls.specs.declared.unlock_due.Base.TheVariants.{Signed, Own, Onto}
 use Rattle.due_calls.specs.declared.unlock_due.UnlockDue.{UnlockDue}
-use Rattle.wallet_journal.specs.Layout.{are_below}
-use Rattle.party_machine.specs.Wallet.{wallet_of}
-use Rattle.party_machine.specs.Machine.{action_of, noted_for}
-use Rattle.party_machine.specs.Within.{entries_in, IsReady}
+use Rattle.wallet_journal.specs.Layout.{are_bounded}
+use Rattle.party_machine.specs.Wallet.{seed_wallet}
+use Rattle.party_machine.specs.Machine.{due_action, noted_for}
+use Rattle.party_machine.specs.Within.{all_entries, IsReady}
 use Rattle.party_machine.specs.Unlocking.{CanPutOnto, base_key, due_hashkey}
 use Rattle.party_machine.specs.Recording.{new_key, unsigned_key, IsWholeKey}
 use Rattle.party_machine.proofs.Known.{legal_at}
@@ -43,17 +43,17 @@ own_whole Hashkeys d v seed i lt =
     }
 
 onto_whole : (m : Mode) (d : Deal) (v : ℕ) (seed : List ℕ) (k : Hashkey) → v < d.graph.n → length k.path < path_limit d → length k.sigs ≡ length k.path
-    → are_below d.graph.n k.path ≡ true → IsWholeKey d (onto_key m d v seed k)
+    → are_bounded d.graph.n k.path ≡ true → IsWholeKey d (onto_key m d v seed k)
 onto_whole Timelocks d v seed k lt few paired parties =
     let room = some_room d.version in
     record { fits = record { few = omega (arith, room); parties = refl }; paired = refl }
 onto_whole Hashkeys d v seed k lt few paired parties = record {
-  fits = record { few = omega (arith, few); parties = and_both (nat_lt v d.graph.n) (are_below d.graph.n k.path) (lt-ltb v d.graph.n lt) parties };
+  fits = record { few = omega (arith, few); parties = and_both (nat_lt v d.graph.n) (are_bounded d.graph.n k.path) (lt-ltb v d.graph.n lt) parties };
   paired = ap suc paired;
 }
 
 put_whole : (d : Deal) (v : ℕ) (seed : List ℕ) (i : ℕ) (o : Option Hashkey) (key : Hashkey) → v < d.graph.n → CanPutOnto d i o
-    → extended (wallet_of seed v d) o ≡ Some key → IsWholeKey d key
+    → extended (seed_wallet seed v d) o ≡ Some key → IsWholeKey d key
 put_whole d v seed i None key lt can e = absurd can
 put_whole d v seed i (Some k) key lt can e =
     subst (IsWholeKey d) (same_Some (onto_key d.mode d v seed k) key e) (onto_whole d.mode d v seed k lt can.1 can.2 can.3)
@@ -68,24 +68,24 @@ fresh None key k e = (refl, same_Some key k e)
 fresh (Some l) key k e = absurd (cc e)
 
 module _ (d : Deal) (w : WalletState) (known : List IndexState) (ready : IsReady d w known) where
-  base_whole : (u : UnlockDue) (b : Base) → IsSeenOn d w.party (entries_in known) u.lock b → signed_in w.signed u.lock ≡ None → (key : Hashkey)
-      → key_from (wallet_of w.seed w.party d) (signed_in w.signed) (entries_in known) u.lock b ≡ Some key → IsWholeKey d key
+  base_whole : (u : UnlockDue) (b : Base) → IsSeenOn d w.party (all_entries known) u.lock b → signed_in w.signed u.lock ≡ None → (key : Hashkey)
+      → make_due_key (seed_wallet w.seed w.party d) (signed_in w.signed) (all_entries known) u.lock b ≡ Some key → IsWholeKey d key
   base_whole u Signed s none key e = absurd (cc (sym none ∙ e))
   base_whole u Own s none key e =
       subst (IsWholeKey d) (same_Some (own_key d.mode d w.party w.seed u.lock) key e) (own_whole d.mode d w.party w.seed u.lock ready.partys.party)
   base_whole u (Onto a) s none key e =
-      put_whole d w.party w.seed u.lock (key_on (entries_in known) a u.lock) key ready.partys.party
-      (can_put_onto d w.party u.lock a (entries_in known) ready.sized ready.partys.party (λ c lt. legal_at d w known c ready lt) s.1) e
+      put_whole d w.party w.seed u.lock (key_on (all_entries known) a u.lock) key ready.partys.party
+      (can_put_onto d w.party u.lock a (all_entries known) ready.sized ready.partys.party (λ c lt. legal_at d w known c ready lt) s.1) e
 
   -- a hashkey that is signed for a due unlock
-  pub due_whole : (u : UnlockDue) (key : Hashkey) → IsSeenOn d w.party (entries_in known) u.lock u.base → due_hashkey d w (entries_in known) u ≡ Some key
+  pub due_whole : (u : UnlockDue) (key : Hashkey) → IsSeenOn d w.party (all_entries known) u.lock u.base → due_hashkey d w (all_entries known) u ≡ Some key
       → (k : Hashkey) → unsigned_key w.signed (Unlock key) ≡ Some k → IsWholeKey d k
   due_whole u key s e k new =
       let f = fresh (signed_in w.signed key.lock) key k new in
       let at : key.lock ≡ u.lock = due_lock d w known ready u key s e in
       let none : signed_in w.signed u.lock ≡ None = ap (signed_in w.signed) (sym at) ∙ f.0 in
       subst (IsWholeKey d) f.1
-      (base_whole u u.base s none key (or_none (signed_in w.signed u.lock) (base_key d w (entries_in known) u) key none e))
+      (base_whole u u.base s none key (or_none (signed_in w.signed u.lock) (base_key d w (all_entries known) u) key none e))
 
 call_without : (signed : List (Option Hashkey)) (d : Deal) (c : Call) → ((s : ℕ → Option Hashkey) → noted s c ≡ s) → (k : Hashkey)
     → unsigned_key signed c ≡ Some k → IsWholeKey d k
@@ -101,6 +101,6 @@ call_without signed d (Transfer to units) h k e = absurd (cc e)
 
 -- a call that carries no hashkey signs none
 pub none_whole : (signed : List (Option Hashkey)) (d : Deal) (o : Option (ℕ × Call)) → ((s : ℕ → Option Hashkey) → noted_for s o ≡ s) → (k : Hashkey)
-    → new_key signed (option_map action_of o) ≡ Some k → IsWholeKey d k
+    → new_key signed (option_map due_action o) ≡ Some k → IsWholeKey d k
 none_whole signed d None h k e = absurd (cc e)
 none_whole signed d (Some x) h k e = call_without signed d x.1 h k e

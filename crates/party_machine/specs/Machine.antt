@@ -8,8 +8,8 @@ use Rattle.ledger_core.specs.Book.{Histories, history}
 use Rattle.swap_rules.specs.Due.{Action, due, first}
 use Rattle.swap_rules.specs.Machine.{noted}
 use Rattle.party_wallet.specs.Value.{WalletState, signed_in}
-use Rattle.party_machine.specs.Wallet.{wallet_of}
-use Rattle.party_wallet.specs.Fits.{wrong_in}
+use Rattle.party_machine.specs.Wallet.{seed_wallet}
+use Rattle.party_wallet.specs.Fits.{find_wrong_lock}
 use Rattle.party_machine.specs.declared.misfit.Misfit.{Misfit}
 use Rattle.party_machine.specs.declared.misfit.Misfit.TheVariants.{WrongWallet}
 
@@ -31,8 +31,8 @@ machine_or d v seed None = Ok (new_machine d v seed)
 machine_or d v seed (Some i) = Err (WrongWallet i)
 
 -- the machine of v with the wallet's seed, or the least lock for which the wallet lacks what the deal states of v
-abbrev pub machine_for : Deal → ℕ → WalletState → Result MachineState Misfit
-machine_for d v w = machine_or d v w.seed (wrong_in d v w)
+abbrev pub fresh_machine : Deal → ℕ → WalletState → Result MachineState Misfit
+fresh_machine d v w = machine_or d v w.seed (find_wrong_lock d v w)
 
 -- the machine of v, which knows nothing, with the hashkeys that it signed before
 abbrev pub resumed_machine : Deal → ℕ → List ℕ → List (Option Hashkey) → MachineState
@@ -44,19 +44,19 @@ resumed_or d v seed signed (Some i) = Err (WrongWallet i)
 
 -- the same, or the least lock for which the wallet lacks what the deal states of v
 abbrev pub resumed_for : Deal → ℕ → WalletState → List (Option Hashkey) → Result MachineState Misfit
-resumed_for d v w signed = resumed_or d v w.seed signed (wrong_in d v w)
+resumed_for d v w signed = resumed_or d v w.seed signed (find_wrong_lock d v w)
 
 -- after more entries of arc a
 abbrev pub learnt : MachineState → ℕ → List Entry → MachineState
 learnt m a more = record { deal = m.deal; me = m.me; seed = m.seed; known = set m.known a (history m.known a ++ more); signed = m.signed }
 
 -- an arc with a call on it
-abbrev pub action_of : ℕ × Call → Action
-action_of x = record { arc = x.0; call = x.1 }
+abbrev pub due_action : ℕ × Call → Action
+due_action x = record { arc = x.0; call = x.1 }
 
 -- the first of what is due for a machine
 abbrev pub next_due : MachineState → Option Action
-next_due m = first (due m.deal m.me (wallet_of m.seed m.me m.deal) (signed_in m.signed) m.known)
+next_due m = first (due m.deal m.me (seed_wallet m.seed m.me m.deal) (signed_in m.signed) m.known)
 
 -- the hashkeys that were signed, after a call, if any
 abbrev pub noted_for : (ℕ → Option Hashkey) → Option (ℕ × Call) → ℕ → Option Hashkey

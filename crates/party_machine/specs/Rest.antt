@@ -4,7 +4,7 @@ use Rattle.swap_base.specs.Lists.{IsIn}
 use Rattle.swap_digraph.specs.Graph.{leaving}
 use Rattle.ledger_core.specs.Book.{history}
 use Rattle.swap_rules.specs.Party.{least_expiry}
-use Rattle.swap_rules.specs.Rest.{is_waiting, rest_until}
+use Rattle.swap_rules.specs.Rest.{is_waiting, rest_deadline}
 use Rattle.party_machine.specs.Machine.{MachineState, next_due}
 use Rattle.party_machine.specs.declared.rest.Rest.{Rest}
 use Rattle.party_machine.specs.declared.rest.Rest.TheVariants.{Awake, Until}
@@ -30,9 +30,9 @@ pub record IsAtRest (until : Option ℕ) (m : MachineState) : Type 0 where
 -- a machine that rests may, and does so up to the least of the least expiries that it waits for
 abbrev pub MayRest : Rest → MachineState → Type 0
 MayRest Awake m = Unit {0}
-MayRest (Until until) m = (until ≡ rest_until m.deal m.me m.known) × IsAtRest until m
+MayRest (Until until) m = (until ≡ rest_deadline m.deal m.me m.known) × IsAtRest until m
 
 -- the height that stands for rest up to that height, if any: the greatest that a ledger reaches, where no tick ends the rest
-abbrev pub height_of : Option ℕ → ℕ
-height_of None = 4294967295
-height_of (Some t) = t
+abbrev pub latest_height : Option ℕ → ℕ
+latest_height None = 4294967295
+latest_height (Some t) = t

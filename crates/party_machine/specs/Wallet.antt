@@ -5,5 +5,5 @@ use Rattle.swap_rules.specs.Due.{Wallet}
 use Rattle.party_wallet.specs.Keys.{own_key, onto_key}
 
 -- all that party v signs with the seed
-abbrev pub wallet_of : List ℕ → ℕ → Deal → Wallet
-wallet_of seed v d = record { first = own_key d.mode d v seed; onto = onto_key d.mode d v seed }
+abbrev pub seed_wallet : List ℕ → ℕ → Deal → Wallet
+seed_wallet seed v d = record { first = own_key d.mode d v seed; onto = onto_key d.mode d v seed }

@@ -6,7 +6,7 @@ use Rattle.swap_digraph.specs.declared.deal.Deal.{Deal}
 use Rattle.hashkey_path.specs.declared.hashkey.Hashkey.{Hashkey}
 use Rattle.ledger_core.specs.Book.{IsLegalBook}
 use Rattle.history_index.specs.Value.{IndexState}
-pub use Rattle.history_index.specs.Indexes.{entries_in, AreIndexes}
+pub use Rattle.history_index.specs.Indexes.{all_entries, AreIndexes}
 use Rattle.party_wallet.specs.Value.{signed_in}
 use Rattle.party_wallet.specs.Value.{WalletState}
 use Rattle.party_wallet.specs.Fits.{wrong_lock}
@@ -15,8 +15,8 @@ use Rattle.party_machine.specs.Rest.{MayRest}
 use Rattle.party_machine.specs.declared.machine.Machine.TheInside.{Inside}
 
 -- what its fields show
-abbrev pub machine_in : Inside → MachineState
-machine_in m = record { deal = m.deal; me = m.wallet.party; seed = m.wallet.seed; known = entries_in m.known.items; signed = m.wallet.signed }
+abbrev pub inside_machine : Inside → MachineState
+inside_machine m = record { deal = m.deal; me = m.wallet.party; seed = m.wallet.seed; known = all_entries m.known.items; signed = m.wallet.signed }
 
 -- The wallet has what the deal states of its party, and each hashkey in it is for its lock.
 pub record IsPartys (d : Deal) (w : WalletState) : Type 0 where
@@ -32,9 +32,9 @@ pub record IsReady (d : Deal) (w : WalletState) (known : List IndexState) : Type
   pub partys : IsPartys d w
   pub indexes : AreIndexes d known
   pub arcs : map (λ x. x.arc) known ≡ arcs d.graph
-  pub legal : IsLegalBook d (entries_in known)
+  pub legal : IsLegalBook d (all_entries known)
 
 -- The machine is ready, and where it rests, it may.
 pub record IsKept (m : Inside) : Type 0 where
   pub ready : IsReady m.deal m.wallet m.known.items
-  pub rests : MayRest m.rest (machine_in m)
+  pub rests : MayRest m.rest (inside_machine m)

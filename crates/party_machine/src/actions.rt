@@ -4,11 +4,11 @@ ghost use Rattle.std.specs.Prelude.{◌≡◌, ◌<◌, ◌++◌, ℕ, Option, o
 ghost use Rattle.hashkey_path.specs.declared.hashkey.Hashkey.{Hashkey};
 ghost use Rattle.swap_digraph.specs.Deal.{IsWellSized};
 ghost use Rattle.swap_rules.specs.Due.{due_publishes, due_claims, due_refunds, first};
-ghost use Rattle.party_machine.specs.Machine.{action_of, noted_for};
-ghost use Rattle.party_machine.specs.Within.{entries_in, AreIndexes};
+ghost use Rattle.party_machine.specs.Machine.{due_action, noted_for};
+ghost use Rattle.party_machine.specs.Within.{all_entries, AreIndexes};
 
 use due_calls::{due_claim, due_publish, due_refund};
-use escrow_core::terms_of;
+use escrow_core::stated_terms;
 use history_index::Index;
 use ledger_core::Call;
 use std::alloc::Global;
@@ -25,12 +25,12 @@ pub(crate) fn due_first(
     requires sized { IsWellSized deal.now }
     requires me { me < deal.now.graph.n }
     requires known { AreIndexes deal.now known.now }
-    ensures first { IfOk result (λ o. option_map action_of o ≡ first (due_publishes deal.now me (entries_in known.now))) }
+    ensures first { IfOk result (λ o. option_map due_action o ≡ first (due_publishes deal.now me (all_entries known.now))) }
     ensures no_key { IfOk result (λ o. (signed : ℕ → Option Hashkey) → noted_for signed o ≡ signed) }
 {
     match due_publish(deal, me, known) {
         Some(arc) => {
-            let terms = Shared::new(alloc, terms_of(deal, arc))?;
+            let terms = Shared::new(alloc, stated_terms(deal, arc))?;
             Ok(Some((arc, Call::Publish(terms))))
         }
         None => Ok(None),
@@ -42,7 +42,7 @@ pub(crate) fn due_last(deal: &Deal, me: PartyId, known: &[Index]) -> Option<(Arc
     requires sized { IsWellSized deal.now }
     requires me { me < deal.now.graph.n }
     requires known { AreIndexes deal.now known.now }
-    ensures first { option_map action_of result ≡ first (due_claims deal.now me (entries_in known.now) ++ due_refunds deal.now me (entries_in known.now)) }
+    ensures first { option_map due_action result ≡ first (due_claims deal.now me (all_entries known.now) ++ due_refunds deal.now me (all_entries known.now)) }
     ensures no_key { (signed : ℕ → Option Hashkey) → noted_for signed result ≡ signed }
 {
     match due_claim(deal, me, known) {

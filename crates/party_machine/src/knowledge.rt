@@ -11,7 +11,7 @@ use swap_base::NoMemory;
 use swap_digraph::Deal;
 
 /// One index per arc, without entries.
-pub(crate) fn indexes_of(alloc: Global, deal: &Deal) -> Result<Vec<Index>, NoMemory>
+pub(crate) fn build_indexes(alloc: Global, deal: &Deal) -> Result<Vec<Index>, NoMemory>
     requires { IsWellSized deal.now }
     ensures { IfOk result (λ v. v.items ≡ map (new_index deal.now) (arcs deal.now.graph)) }
 {

@@ -7,16 +7,16 @@ ghost use Rattle.swap_digraph.specs.Deal.{IsWellSized};
 ghost use Rattle.hashkey_path.specs.declared.hashkey.Hashkey.{Hashkey};
 ghost use Rattle.ledger_core.specs.Book.{history};
 ghost use Rattle.ledger_core.specs.History.{IsLegal};
-ghost use Rattle.ledger_core.specs.Runs.{ticks_of, IsRightRun};
+ghost use Rattle.ledger_core.specs.Runs.{run_ticks, IsRightRun};
 ghost use Rattle.history_index.specs.Value.{new_index, IsSameArc};
 ghost use Rattle.swap_rules.specs.Accepted.{IsAccepted};
 ghost use Rattle.swap_rules.specs.Machine.{IsWallet};
-ghost use Rattle.swap_rules.specs.Rest.{rest_until};
+ghost use Rattle.swap_rules.specs.Rest.{rest_deadline};
 ghost use Rattle.party_wallet.specs.Value.{signed_in};
 ghost use Rattle.party_wallet.specs.Keys.{new_wallet};
 ghost use Rattle.party_wallet.specs.Fits.{wrong_lock};
-ghost use Rattle.party_machine.specs.Wallet.{wallet_of};
-ghost use Rattle.party_machine.specs.Rest.{height_of, IsAtRest};
+ghost use Rattle.party_machine.specs.Wallet.{seed_wallet};
+ghost use Rattle.party_machine.specs.Rest.{latest_height, IsAtRest};
 ghost use Rattle.wallet_journal.specs.Device.{LeavesOnly, IsUntouched};
 ghost use Rattle.wallet_journal.specs.Journal.{KeepsRecorded};
 ghost use Rattle.wallet_journal.specs.Own.{IsOwn};
@@ -24,16 +24,16 @@ ghost use Rattle.wallet_journal.specs.Recording.{IsRefused, IsWritten};
 ghost use Rattle.wallet_journal.specs.Layout.{recorded};
 ghost use Rattle.wallet_journal.specs.Stopped.{bytes_left, kept_key, IsOfWrites};
 ghost use Rattle.wallet_journal.specs.declared.fault.RecordFault.TheVariants.{DiskFault as Stopped, NoMemory as Wanting};
-ghost use Rattle.party_machine.specs.Machine.{machine_for, new_machine, resumed_for, resumed_machine, learnt, action_of, next_due, noted_for, IsOfSame};
+ghost use Rattle.party_machine.specs.Machine.{fresh_machine, new_machine, resumed_for, resumed_machine, learnt, due_action, next_due, noted_for, IsOfSame};
 ghost use Rattle.party_machine.specs.Recording.{new_key, signs_next, IsRecorded, IsStoppedNext, IsWholeKey, MayHave};
 
 use crate::actions::{due_first, due_last};
-use crate::knowledge::indexes_of;
+use crate::knowledge::build_indexes;
 use crate::misfit::{MachineFault, Misfit};
 use crate::recording::key_to_record;
 use crate::rest::{Rest, are_ticks};
-use crate::signing::hashkey_for;
-use due_calls::{due_unlock, rest_until};
+use crate::signing::chosen_hashkey;
+use due_calls::{due_unlock, rest_deadline};
 use hashkey_path::Hashkey as SignedKey;
 use history_index::{Index, Steps};
 use ledger_core::{Call, EntryList, Facts, Run};
@@ -59,9 +59,9 @@ impl Model for Machine {
 
     ghost Value = { MachineState };
 
-    ghost use Rattle.party_machine.specs.Within.{machine_in, IsKept};
+    ghost use Rattle.party_machine.specs.Within.{inside_machine, IsKept};
 
-    ghost view = { machine_in };
+    ghost view = { inside_machine };
 
     ghost invariant = { IsKept };
 }
@@ -80,9 +80,9 @@ impl Machine {
         requires wallet { wallet ≡ new_wallet wallet.seed me deal.now }
         requires fits { wrong_lock deal.now me wallet.seed ≡ None }
         ensures new { IfOk result (λ m. m ≡ new_machine deal.now me wallet.seed) }
-        ensures good { OnOk result (IsAccepted deal.now → IsWallet deal.now me (wallet_of wallet.seed me deal.now)) }
+        ensures good { OnOk result (IsAccepted deal.now → IsWallet deal.now me (seed_wallet wallet.seed me deal.now)) }
     {
-        let known = indexes_of(alloc, deal)?;
+        let known = build_indexes(alloc, deal)?;
         Ok(Machine {
             deal: copy_deal(deal)?,
             wallet,
@@ -102,14 +102,14 @@ impl Machine {
     ) -> Result<Machine, MachineFault>
         requires sized { IsWellSized deal.now }
         requires party { me < deal.now.graph.n }
-        ensures exact { Gives (λ m. m) result (machine_for deal.now me wallet) }
+        ensures exact { Gives (λ m. m) result (fresh_machine deal.now me wallet) }
         ensures new { IfOk result (λ m. m ≡ new_machine deal.now me wallet.seed) }
-        ensures good { IfOk result (λ m. IsAccepted deal.now → IsWallet deal.now me (wallet_of wallet.seed me deal.now)) }
+        ensures good { IfOk result (λ m. IsAccepted deal.now → IsWallet deal.now me (seed_wallet wallet.seed me deal.now)) }
     {
-        match wallet.wrong_for(deal, me) {
+        match wallet.mismatched_lock(deal, me) {
             Some(lock) => Err(Fault::Refused(Misfit::WrongWallet(lock))),
             None => {
-                let fresh = wallet.made_for(alloc, deal, me)?;
+                let fresh = wallet.renewed_wallet(alloc, deal, me)?;
                 Ok(Machine::fitting(alloc, deal, me, fresh)?)
             }
         }
@@ -170,7 +170,7 @@ impl Machine {
         ensures err { OnErr result (self.new ≡ self.old) }
     {
         let alloc = *self.known.allocator();
-        let known = indexes_of(alloc, &self.deal)?;
+        let known = build_indexes(alloc, &self.deal)?;
         let wallet = self.wallet.resumed(alloc, journal.keys().as_slice())?;
         self.known = known;
         self.wallet = wallet;
@@ -204,8 +204,8 @@ impl Machine {
     pub fn learn_ticks<L: Ledger>(&mut self, arc: ArcId, run: Run, steps: &mut Steps<L>)
         requires arc { arc < length self.old.deal.graph.arcs }
         requires right { IsRightRun run }
-        requires legal { IsLegal self.old.deal arc (history self.old.known arc ++ ticks_of run) }
-        ensures learnt { self.new ≡ learnt self.old arc (ticks_of run) }
+        requires legal { IsLegal self.old.deal arc (history self.old.known arc ++ run_ticks run) }
+        ensures learnt { self.new ≡ learnt self.old arc (run_ticks run) }
         ensures steps { steps.new ≡ steps.old + run.count }
     {
         let index = &mut self.known[arc as usize];
@@ -217,10 +217,10 @@ impl Machine {
     /// The first call that is due, with its arc. It signs a hashkey only for the call that it answers, and keeps it.
     /// Once nothing is due it rests: it looks again only after it has learnt a call, or a tick above an expiry that it waits for.
     pub fn next(&mut self) -> Result<Option<(ArcId, Call)>, NoMemory>
-        ensures due { IfOk result (λ o. option_map action_of o ≡ next_due self.old) }
+        ensures due { IfOk result (λ o. option_map due_action o ≡ next_due self.old) }
         ensures signed { IfOk result (λ o. signed_in self.new.signed ≡ noted_for (signed_in self.old.signed) o) }
         ensures once { (i : ℕ) (k : Hashkey) → signed_in self.old.signed i ≡ Some k → signed_in self.new.signed i ≡ Some k }
-        ensures whole { IfOk result (λ o. (k : Hashkey) → new_key self.old.signed (option_map action_of o) ≡ Some k → IsWholeKey self.old.deal k) }
+        ensures whole { IfOk result (λ o. (k : Hashkey) → new_key self.old.signed (option_map due_action o) ≡ Some k → IsWholeKey self.old.deal k) }
         ensures same { IsOfSame self.old self.new }
         ensures err { OnErr result (self.new ≡ self.old) }
     {
@@ -236,13 +236,13 @@ impl Machine {
         }
         match due_unlock(&self.deal, me, &self.known, self.wallet.signed()) {
             Some(due) => {
-                let key = hashkey_for(alloc, &mut self.wallet, &self.deal, &self.known, due)?;
+                let key = chosen_hashkey(alloc, &mut self.wallet, &self.deal, &self.known, due)?;
                 Ok(Some((due.arc, Call::Unlock(key))))
             }
             None => {
                 let last = due_last(&self.deal, me, &self.known);
                 if last.is_none() {
-                    self.rest = Rest::Until(rest_until(&self.deal, me, &self.known));
+                    self.rest = Rest::Until(rest_deadline(&self.deal, me, &self.known));
                 }
                 Ok(last)
             }
@@ -259,7 +259,7 @@ impl Machine {
         requires opened { (journal.old.id ≡ self.old.deal.id) × (journal.old.me ≡ self.old.me) }
         requires sound { journal.old.sound ≡ true }
         requires recorded { journal.old.signed ≡ self.old.signed }
-        ensures due { IfOk result (λ o. option_map action_of o ≡ next_due self.old) }
+        ensures due { IfOk result (λ o. option_map due_action o ≡ next_due self.old) }
         ensures signed { IfOk result (λ o. signed_in self.new.signed ≡ noted_for (signed_in self.old.signed) o) }
         ensures once { (i : ℕ) (k : Hashkey) → signed_in self.old.signed i ≡ Some k → signed_in self.new.signed i ≡ Some k }
         ensures same { IsOfSame self.old self.new }
@@ -313,9 +313,9 @@ impl Machine {
 
     /// The height up to which no tick makes anything due, where nothing is due and the party rests: the
     /// least expiry that it waits for, or the greatest height, where it waits for none.
-    pub fn rests_until(&self) -> Option<u64>
+    pub fn idle_deadline(&self) -> Option<u64>
         ensures at_rest { IfSome result (λ t. IsAtRest (Some t) self.now) }
-        ensures height { IfSome result (λ t. t ≡ height_of (rest_until self.now.deal self.now.me self.now.known)) }
+        ensures height { IfSome result (λ t. t ≡ latest_height (rest_deadline self.now.deal self.now.me self.now.known)) }
     {
         match self.rest {
             Rest::Awake => None,
@@ -334,7 +334,7 @@ impl Machine {
     pub fn deal(&self) -> &Deal
         ensures value { result.now ≡ self.now.deal }
         ensures sized { IsWellSized result.now }
-        ensures wallet { IsAccepted self.now.deal → IsWallet self.now.deal self.now.me (wallet_of self.now.seed self.now.me self.now.deal) }
+        ensures wallet { IsAccepted self.now.deal → IsWallet self.now.deal self.now.me (seed_wallet self.now.seed self.now.me self.now.deal) }
     {
         &self.deal
     }

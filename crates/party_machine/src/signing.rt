@@ -4,12 +4,12 @@ ghost use Rattle.std.specs.Prelude.{◌≡◌, ◌<◌, None, length, IfOk, OnEr
 ghost use Rattle.party_wallet.specs.Value.{signed_in};
 ghost use Rattle.due_calls.specs.Unlocks.{IsSeenOn};
 ghost use Rattle.party_wallet.specs.Keys.{with_signed};
-ghost use Rattle.party_machine.specs.Within.{entries_in, IsReady};
+ghost use Rattle.party_machine.specs.Within.{all_entries, IsReady};
 ghost use Rattle.party_machine.specs.Unlocking.{base_key, due_hashkey, CanPutOnto};
 ghost use Rattle.std.specs.Prelude.{Some};
 ghost use Rattle.ledger_core.specs.Facts.{opened_key};
 ghost use Rattle.swap_rules.specs.Due.{extended};
-ghost use Rattle.party_machine.specs.Wallet.{wallet_of};
+ghost use Rattle.party_machine.specs.Wallet.{seed_wallet};
 
 use crate::reading::opened_key;
 use due_calls::{Base, UnlockDue};
@@ -21,7 +21,7 @@ use swap_base::{LockId, NoMemory, Shared};
 use swap_digraph::Deal;
 
 /// Puts the party's signature onto the hashkey that opened the lock on that arc.
-fn sign_onto(
+fn sign_extension(
     alloc: Global,
     wallet: &mut Wallet,
     deal: &Deal,
@@ -34,12 +34,12 @@ fn sign_onto(
     requires unsigned { signed_in wallet.old.signed lock ≡ None }
     requires known { lock < length index.now.terms.locks }
     requires onto { CanPutOnto deal.now lock (opened_key index.now.entries lock) }
-    ensures value { IfOk result (λ k. extended (wallet_of wallet.old.seed wallet.old.party deal.now) (opened_key index.now.entries lock) ≡ Some k) }
+    ensures value { IfOk result (λ k. extended (seed_wallet wallet.old.seed wallet.old.party deal.now) (opened_key index.now.entries lock) ≡ Some k) }
     ensures kept { IfOk result (λ k. wallet.new ≡ with_signed wallet.old lock k) }
     ensures err { OnErr result (wallet.new ≡ wallet.old) }
 {
     match opened_key(index, lock) {
-        Some(inner) => wallet.sign_onto(alloc, deal, inner),
+        Some(inner) => wallet.sign_extension(alloc, deal, inner),
         None => unreachable!(),
     }
 }
@@ -56,22 +56,22 @@ fn sign_new(
 ) -> Result<Shared<Hashkey>, NoMemory>
     requires ready { IsReady deal.now wallet.old known.now }
     requires lock { due.lock < length deal.now.leaders }
-    requires base { IsSeenOn deal.now wallet.old.party (entries_in known.now) due.lock due.base }
-    requires from { IsSome (base_key deal.now wallet.old (entries_in known.now) due) }
+    requires base { IsSeenOn deal.now wallet.old.party (all_entries known.now) due.lock due.base }
+    requires from { IsSome (base_key deal.now wallet.old (all_entries known.now) due) }
     requires unsigned { signed_in wallet.old.signed due.lock ≡ None }
-    ensures value { IfOk result (λ k. base_key deal.now wallet.old (entries_in known.now) due ≡ Some k) }
+    ensures value { IfOk result (λ k. base_key deal.now wallet.old (all_entries known.now) due ≡ Some k) }
     ensures kept { IfOk result (λ k. wallet.new ≡ with_signed wallet.old due.lock k) }
     ensures err { OnErr result (wallet.new ≡ wallet.old) }
 {
     match due.base {
         Base::Own => wallet.sign_own(alloc, deal, due.lock),
-        Base::Onto(arc) => sign_onto(alloc, wallet, deal, &known[arc as usize], due.lock),
+        Base::Onto(arc) => sign_extension(alloc, wallet, deal, &known[arc as usize], due.lock),
         Base::Signed => unreachable!(),
     }
 }
 
 /// A copy of the hashkey of an unlock that is due, which is signed where none was for its lock. Want of memory leaves everything as it was.
-pub(crate) fn hashkey_for(
+pub(crate) fn chosen_hashkey(
     alloc: Global,
     wallet: &mut Wallet,
     deal: &Deal,
@@ -80,9 +80,9 @@ pub(crate) fn hashkey_for(
 ) -> Result<Shared<Hashkey>, NoMemory>
     requires ready { IsReady deal.now wallet.old known.now }
     requires lock { due.lock < length deal.now.leaders }
-    requires base { IsSeenOn deal.now wallet.old.party (entries_in known.now) due.lock due.base }
-    requires from { IsSome (base_key deal.now wallet.old (entries_in known.now) due) }
-    ensures value { IfOk result (λ k. due_hashkey deal.now wallet.old (entries_in known.now) due ≡ Some k) }
+    requires base { IsSeenOn deal.now wallet.old.party (all_entries known.now) due.lock due.base }
+    requires from { IsSome (base_key deal.now wallet.old (all_entries known.now) due) }
+    ensures value { IfOk result (λ k. due_hashkey deal.now wallet.old (all_entries known.now) due ≡ Some k) }
     ensures kept { IfOk result (λ k. wallet.new ≡ with_signed wallet.old due.lock k) }
     ensures err { OnErr result (wallet.new ≡ wallet.old) }
 {

@@ -10,7 +10,7 @@ use Rattle.refusals.specs.declared.reason.Reason.TheVariants.{CutShort}
 use Rattle.party_answer.specs.declared.reason.AnswerReason.{AnswerReason}
 use Rattle.party_answer.specs.Asked.{nameless}
 use Rattle.party_answer.specs.Promised.{IsAnswer}
-use Rattle.party_main.specs.Input.{Cut, answer_parts, answered, cut, seed_of}
+use Rattle.party_main.specs.Input.{Cut, answer_parts, answered, cut, make_seed}
 use Rattle.party_main.specs.Says.{IsAnswerOf, IsPromised}
 
 not_true : (t : Bool) → ¬ (t ≡ true) → t ≡ false
@@ -73,8 +73,8 @@ module _ (name input line rest : List ℕ) (end : ℕ) (before : NoneBefore (Pas
   pub promised_cut : IfOk r (λ t. IsAnswerOf name parts t) → IfOk r (λ t. IsPromised name input t)
   promised_cut p = on_ok r (λ t. IsAnswerOf name parts t) (λ t. IsPromised name input t) (λ t k. record { parts = parts; cut = is_cut; answer = k }) p
 
-pub answer_of : (name line rest seed : List ℕ) (r : Result (List ℕ) (Fault AnswerReason)) → seed_of line ≡ Ok seed
+pub computed_answer : (name line rest seed : List ℕ) (r : Result (List ℕ) (Fault AnswerReason)) → make_seed line ≡ Ok seed
     → IfOk r (λ t. IsAnswer 2 name seed rest t) → IfOk r (λ t. IsAnswerOf name (record { line = line; rest = rest }) t)
-answer_of name line rest seed r told p =
+computed_answer name line rest seed r told p =
     on_ok r (λ t. IsAnswer 2 name seed rest t) (λ t. IsAnswerOf name (record { line = line; rest = rest }) t)
     (λ t k. record { seed = seed; told = told; answer = k }) p

@@ -4,7 +4,7 @@ use Rattle.swap_base.specs.Fault.{◌>>=◌}
 use Rattle.refusals.specs.declared.reason.Reason.TheVariants.{BadLine, CutShort}
 use Rattle.transcript_lines.specs.declared.said.Misspelling.{Misspelling}
 use Rattle.transcript_lines.specs.Between.{parts_at}
-use Rattle.transcript_lines.specs.Reading.{misspelt, digest_of, field_of, is_word, nothing_more}
+use Rattle.transcript_lines.specs.Reading.{misspelt, to_digest, field_of, is_word, nothing_more}
 use Rattle.party_answer.specs.declared.reason.AnswerReason.{AnswerReason}
 use Rattle.party_answer.specs.Asked.{nameless}
 use Rattle.party_answer.specs.Text.{answer_to}
@@ -17,7 +17,7 @@ seed_word w = if is_word w (codes "seed") then Ok tt else misspelt
 unfoldable pub seed_said : List (List ℕ) → Result (List ℕ) Misspelling
 seed_said ws = do
   word ← field_of seed_word ws
-  seed ← field_of digest_of word.1
+  seed ← field_of to_digest word.1
   u ← nothing_more seed.1
   Ok seed.0
 
@@ -26,8 +26,8 @@ by_spelling (Ok seed) = Ok seed
 by_spelling (Err e) = Err (nameless (BadLine 1))
 
 -- the seed that the first line tells
-unfoldable pub seed_of : List ℕ → Result (List ℕ) AnswerReason
-seed_of line = by_spelling (seed_said (parts_at 32 line))
+unfoldable pub make_seed : List ℕ → Result (List ℕ) AnswerReason
+make_seed line = by_spelling (seed_said (parts_at 32 line))
 
 -- ---- the whole
 
@@ -44,7 +44,7 @@ cut (x ∷ xs) = if x == 10 then Ok (record { line = []; rest = xs }) else cut x
 -- what is answered to a text behind the line that tells the seed
 unfoldable pub answer_parts : List ℕ → Cut → Result (List ℕ) AnswerReason
 answer_parts name c = do
-  seed ← seed_of c.line
+  seed ← make_seed c.line
   answer_to 2 name seed c.rest
 
 -- what is answered to an input for the party of that name, or the first reason against it

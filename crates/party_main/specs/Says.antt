@@ -10,12 +10,12 @@ use Rattle.party_answer.specs.declared.reason.AnswerReason.{AnswerReason}
 use Rattle.party_answer.specs.Promised.{IsAnswer}
 use Rattle.party_main.specs.declared.top.PartyStatus.{PartyStatus}
 use Rattle.party_main.specs.declared.top.PartyStatus.TheVariants.{Done, WrongWords, Refused, ReadFault, WriteFault, NoMemory, TooLong}
-use Rattle.party_main.specs.Input.{Cut, answered, cut, seed_of}
+use Rattle.party_main.specs.Input.{Cut, answered, cut, make_seed}
 
 -- A text is the answer to the bytes behind a line that tells the seed.
 pub record IsAnswerOf (name : List ℕ) (parts : Cut) (text : List ℕ) : Type 0 where
   pub seed : List ℕ
-  pub told : seed_of parts.line ≡ Ok seed
+  pub told : make_seed parts.line ≡ Ok seed
   pub answer : IsAnswer 2 name seed parts.rest text
 
 -- A text is the answer to an input: to what stands behind its first line, with the seed that this line tells.

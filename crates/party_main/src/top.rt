@@ -7,7 +7,7 @@ ghost use Rattle.transcript_lines.specs.Between.{parts_at};
 ghost use Rattle.transcript_lines.specs.Reading.{field_of};
 ghost use Rattle.party_answer.specs.Asked.{nameless};
 ghost use Rattle.command_input.specs.Streams.{streams};
-ghost use Rattle.party_main.specs.Input.{answer_parts, answered, seed_of, seed_said, seed_word};
+ghost use Rattle.party_main.specs.Input.{answer_parts, answered, make_seed, seed_said, seed_word};
 ghost use Rattle.party_main.specs.Says.{of_fault, IsAnswerOf, IsPromised, Says, Writes};
 
 use command_input::INPUT_LIMIT;
@@ -78,18 +78,18 @@ fn seed_said(fields: &mut Parts<'_>) -> Result<Digest, WordFault>
     Ok(seed)
 }
 
-fn seed_in(line: &[u8]) -> Result<Digest, WordFault>
+fn read_seed(line: &[u8]) -> Result<Digest, WordFault>
     ensures { Gives (λ d. d) result (seed_said (parts_at 32 line.now)) }
 {
     seed_said(&mut Parts::new(b' ', line))
 }
 
 /// The seed that the first line tells.
-#[tactic(auto, unfolding(crate::specs::Input::seed_of))]
-fn seed_of(alloc: Global, line: &[u8]) -> Result<Digest, AnswerFault>
-    ensures { Gives (λ d. d) result (seed_of line.now) }
+#[tactic(auto, unfolding(crate::specs::Input::make_seed))]
+fn make_seed(alloc: Global, line: &[u8]) -> Result<Digest, AnswerFault>
+    ensures { Gives (λ d. d) result (make_seed line.now) }
 {
-    match seed_in(line) {
+    match read_seed(line) {
         Ok(seed) => Ok(seed),
         Err(Fault::Refused(_)) => Err(refused(alloc, Reason::BadLine(1))),
         Err(Fault::NoMemory) => Err(Fault::NoMemory),
@@ -107,7 +107,7 @@ fn answer_parts(
     ensures exact { Gives (λ t. t) result (answer_parts name.now (record { line = line.now; rest = rest.now })) }
     ensures promised { IfOk result (λ t. IsAnswerOf name.now (record { line = line.now; rest = rest.now }) t) }
 {
-    let seed = seed_of(alloc, line)?;
+    let seed = make_seed(alloc, line)?;
     answer(alloc, 2, name, &seed, rest)
 }
 

@@ -13,7 +13,7 @@ use Rattle.transcript_lines.specs.declared.said.Misspelling.{Misspelling}
 use Rattle.transcript_lines.specs.Between.{parts_at, longer_first}
 use Rattle.transcript_book.proofs.Falls.{next_found, next_none}
 use Rattle.party_notes.specs.declared.note.Note.{Note}
-use Rattle.party_notes.specs.Notes.{Noted, note_of, noted_by, notes_in, next_number, numbered, with_first}
+use Rattle.party_notes.specs.Notes.{Noted, parse_note, noted_by, notes_in, next_number, numbered, with_first}
 
 -- What is read, or why not.
 
@@ -61,7 +61,7 @@ read_first first text = record { within = omega arith; reads = sym (behind_none 
 
 -- a line, and then those after it
 line_first : (n : ℕ) (line : List ℕ) (ps : List (List ℕ)) → 0 < length ps
-    → notes_in n (line ∷ ps) ≡ noted_by n (line ∷ ps) (note_of line) (notes_in (next_number n) ps)
+    → notes_in n (line ∷ ps) ≡ noted_by n (line ∷ ps) (parse_note line) (notes_in (next_number n) ps)
 line_first n line [] some = absurd (omega arith)
 line_first n line (next ∷ ps) some = refl
 
@@ -80,14 +80,14 @@ module _ (text : List ℕ) (at end m : ℕ) (rest : List ℕ) (is : rest ≡ dro
   line_is = ap (λ k. take k (drop at text)) same ∙ ap (take end) (sym is)
 
   noted_at : (n : ℕ) → notes_in n (parts_at 10 (drop at text))
-      ≡ noted_by n (parts_at 10 (drop at text)) (note_of (take m (drop at text))) (notes_in (next_number n) (parts_at 10 (drop (at + (end + 1)) text)))
+      ≡ noted_by n (parts_at 10 (drop at text)) (parse_note (take m (drop at text))) (notes_in (next_number n) (parts_at 10 (drop (at + (end + 1)) text)))
   noted_at n =
       ap (notes_in n) parts
       ∙ (line_first n (take end rest) (parts_at 10 (drop (at + (end + 1)) text)) (parts_some (drop (at + (end + 1)) text))
       ∙ ap₂ (λ (ps : List (List ℕ)) (line : List ℕ).
-      noted_by n ps (note_of line) (notes_in (next_number n) (parts_at 10 (drop (at + (end + 1)) text)))) (sym parts) (sym line_is))
+      noted_by n ps (parse_note line) (notes_in (next_number n) (parts_at 10 (drop (at + (end + 1)) text)))) (sym parts) (sym line_is))
 
-  by_note : (n : ℕ) (o : Result (Option Note) Misspelling) → note_of (take m (drop at text)) ≡ o
+  by_note : (n : ℕ) (o : Result (Option Note) Misspelling) → parse_note (take m (drop at text)) ≡ o
       → notes_in n (parts_at 10 (drop at text))
       ≡ noted_by n (parts_at 10 (drop at text)) o (notes_in (next_number n) (parts_at 10 (drop (at + (end + 1)) text)))
   by_note n o e =
@@ -95,35 +95,35 @@ module _ (text : List ℕ) (at end m : ℕ) (rest : List ℕ) (is : rest ≡ dro
       noted_by n (parts_at 10 (drop at text)) z (notes_in (next_number n) (parts_at 10 (drop (at + (end + 1)) text)))) e
 
   -- it is a note
-  pub read_on : (first n : ℕ) (xs : List Note) (x : Note) → IsReadTo first text at n xs → numbered n (note_of (take m (drop at text))) ≡ Ok (Some x)
+  pub continue_reading : (first n : ℕ) (xs : List Note) (x : Note) → IsReadTo first text at n xs → numbered n (parse_note (take m (drop at text))) ≡ Ok (Some x)
       → IsReadTo first text (at + (end + 1)) (next_number n) (xs ++ x ∷ [])
-  read_on first n xs x k e =
+  continue_reading first n xs x k e =
       let high = before.high in record {
         within = omega (arith, ap (length {A = ℕ}) is, length-drop at text);
-        reads = k.reads ∙ (ap (behind xs) (by_note n (Ok (Some x)) (noted_as n (note_of (take m (drop at text))) (Some x) e))
+        reads = k.reads ∙ (ap (behind xs) (by_note n (Ok (Some x)) (noted_as n (parse_note (take m (drop at text))) (Some x) e))
             ∙ behind_one xs x (notes_in (next_number n) (parts_at 10 (drop (at + (end + 1)) text))));
       }
 
   -- it is none
-  pub read_to : (first n : ℕ) (xs : List Note) → IsReadTo first text at n xs → numbered n (note_of (take m (drop at text))) ≡ Ok None
+  pub read_to : (first n : ℕ) (xs : List Note) → IsReadTo first text at n xs → numbered n (parse_note (take m (drop at text))) ≡ Ok None
       → notes_in first (parts_at 10 text) ≡ Ok (record { notes = xs; rest = parts_at 10 (drop at text); next = n })
   read_to first n xs k e =
-      k.reads ∙ (ap (behind xs) (by_note n (Ok None) (noted_as n (note_of (take m (drop at text))) None e))
+      k.reads ∙ (ap (behind xs) (by_note n (Ok None) (noted_as n (parse_note (take m (drop at text))) None e))
       ∙ ap (λ (ns : List Note). noted ns (parts_at 10 (drop at text)) n) (append-nil xs))
 
   -- it is a bad one
-  pub read_bad : (first n : ℕ) (xs : List Note) (reason : Reason) → IsReadTo first text at n xs → numbered n (note_of (take m (drop at text))) ≡ Err reason
+  pub read_bad : (first n : ℕ) (xs : List Note) (reason : Reason) → IsReadTo first text at n xs → numbered n (parse_note (take m (drop at text))) ≡ Err reason
       → notes_in first (parts_at 10 text) ≡ Err reason
-  read_bad first n xs reason k e = go (note_of (take m (drop at text))) refl e
+  read_bad first n xs reason k e = go (parse_note (take m (drop at text))) refl e
     where
-      go : (o : Result (Option Note) Misspelling) → note_of (take m (drop at text)) ≡ o → numbered n o ≡ Err reason
+      go : (o : Result (Option Note) Misspelling) → parse_note (take m (drop at text)) ≡ o → numbered n o ≡ Err reason
           → notes_in first (parts_at 10 text) ≡ Err reason
       go (Ok o) q h = absurd (cc h)
       go (Err w) q h = let same : BadLine n ≡ reason = cc h in k.reads ∙ (ap (behind xs) (by_note n (Err w) q) ∙ ap refused same)
 
   -- it is a bad one, or memory runs out
   pub read_fault : (first n : ℕ) (xs : List Note) (fault : Fault Reason) → IsReadTo first text at n xs
-      → Fails fault (numbered n (note_of (take m (drop at text)))) → Fails fault (notes_in first (parts_at 10 text))
+      → Fails fault (numbered n (parse_note (take m (drop at text)))) → Fails fault (notes_in first (parts_at 10 text))
   read_fault first n xs NoMemory k g = tt
   read_fault first n xs (Refused reason) k g = read_bad first n xs reason k g
 

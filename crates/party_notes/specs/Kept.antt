@@ -2,13 +2,13 @@
 use Rattle.std.specs.Prelude.{ℕ, Bool, true, false, ◌&&◌, nat_lt, List, [], ◌∷◌, ◌++◌, length, replicate, slice_set, Option, Some, None, is_none}
 use Rattle.std.specs.Prelude.{Result, Ok, Err, if◌then◌else◌}
 use Rattle.swap_base.specs.Fault.{◌>>=◌}
-use Rattle.swap_digraph.specs.Graph.{entering, leaving, is_among}
+use Rattle.swap_digraph.specs.Graph.{entering, leaving, is_listed}
 use Rattle.swap_digraph.specs.declared.deal.Deal.{Deal}
-use Rattle.swap_digraph.specs.Deal.{hashlock_of}
+use Rattle.swap_digraph.specs.Deal.{lock_hashlock}
 use Rattle.hashkey_path.specs.declared.hashkey.Hashkey.{Hashkey}
 use Rattle.hashkey_path.specs.declared.hashkey.HashkeyAnswer.{HashkeyAnswer}
 use Rattle.hashkey_path.specs.declared.hashkey.HashkeyAnswer.TheVariants.{Valid}
-use Rattle.hashkey_path.specs.Hashkey.{answer_of}
+use Rattle.hashkey_path.specs.Hashkey.{computed_answer}
 use Rattle.refusals.specs.declared.reason.Reason.{Reason}
 use Rattle.refusals.specs.declared.reason.Reason.TheVariants.{BadLine}
 use Rattle.party_wallet.specs.Value.{signed_in}
@@ -31,13 +31,13 @@ is_valid_answer Valid = true
 is_valid_answer _ = false
 
 -- whether the hashkey opens its lock on arc a
-abbrev pub opens_on : Deal → ℕ → Hashkey → Bool
-opens_on d a key = is_valid_answer (answer_of d a (hashlock_of d key.lock) key)
+abbrev pub opens_arc : Deal → ℕ → Hashkey → Bool
+opens_arc d a key = is_valid_answer (computed_answer d a (lock_hashlock d key.lock) key)
 
 -- whether the hashkey opens its lock on the first of these arcs; that of a line that was torn doesn't
 abbrev pub opens_first : Deal → List ℕ → Hashkey → Bool
 opens_first d [] key = false
-opens_first d (a ∷ arcs) key = opens_on d a key
+opens_first d (a ∷ arcs) key = opens_arc d a key
 
 -- whether v may have kept the hashkey: it is for a lock of the deal for which none was kept, and opens it on the arcs that enter v
 abbrev pub may_be_kept : Deal → ℕ → List (Option Hashkey) → Hashkey → Bool
@@ -47,7 +47,7 @@ may_be_kept d v keys key = nat_lt key.lock (length d.leaders) && is_none (signed
 abbrev pub with_note : Deal → ℕ → ℕ → KeptState → Note → Result KeptState Reason
 with_note d v n k (Keep key) =
     if may_be_kept d v k.keys key then Ok (record { keys = slice_set k.keys key.lock (Some key); sent = k.sent }) else Err (BadLine n)
-with_note d v n k (Sent a) = if is_among a (leaving d.graph v) then Ok (record { keys = k.keys; sent = k.sent ++ a ∷ [] }) else Err (BadLine n)
+with_note d v n k (Sent a) = if is_listed a (leaving d.graph v) then Ok (record { keys = k.keys; sent = k.sent ++ a ∷ [] }) else Err (BadLine n)
 
 -- with these notes, the first of which is line n
 abbrev pub with_notes : Deal → ℕ → ℕ → KeptState → List Note → Result KeptState Reason
@@ -55,5 +55,5 @@ with_notes d v n k [] = Ok k
 with_notes d v n k (x ∷ xs) = with_note d v n k x >>= λ next. with_notes d v (next_number n) next xs
 
 -- what the notes come to; the first note is line n
-unfoldable pub kept_of : Deal → ℕ → ℕ → List Note → Result KeptState Reason
-kept_of d v n notes = with_notes d v n (nothing_kept d) notes
+unfoldable pub kept_state : Deal → ℕ → ℕ → List Note → Result KeptState Reason
+kept_state d v n notes = with_notes d v n (nothing_kept d) notes

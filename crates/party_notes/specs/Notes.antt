@@ -7,41 +7,41 @@ use Rattle.refusals.specs.declared.reason.Reason.{Reason}
 use Rattle.refusals.specs.declared.reason.Reason.TheVariants.{BadLine}
 use Rattle.transcript_lines.specs.declared.said.Misspelling.{Misspelling}
 use Rattle.transcript_lines.specs.Between.{parts_at}
-use Rattle.transcript_lines.specs.Reading.{misspelt, number_below, field_of, first_field, is_word, key_of, nothing_more}
+use Rattle.transcript_lines.specs.Reading.{misspelt, bounded_number, field_of, first_field, is_word, key_of, nothing_more}
 use Rattle.party_notes.specs.declared.note.Note.{Note}
 use Rattle.party_notes.specs.declared.note.Note.TheVariants.{Keep, Sent}
 
 -- the note of a hashkey that was kept
-abbrev pub keep_of : Call → Result (Option Note) Misspelling
-keep_of (Unlock key) = Ok (Some (Keep key))
-keep_of _ = misspelt
+abbrev pub kept_note : Call → Result (Option Note) Misspelling
+kept_note (Unlock key) = Ok (Some (Keep key))
+kept_note _ = misspelt
 
 -- the lock, the secret, the path and the signatures of a hashkey that was kept, in the words of a transcript's unlock
 unfoldable pub keep_said : List (List ℕ) → Result (Option Note) Misspelling
 keep_said ws = do
   call ← key_of ws
   u ← nothing_more call.1
-  keep_of call.0
+  kept_note call.0
 
 -- the arc on which a publish was sent
 unfoldable pub sent_said : List (List ℕ) → Result (Option Note) Misspelling
 sent_said ws = do
-  arc ← field_of (number_below 256) ws
+  arc ← field_of (bounded_number 256) ws
   u ← nothing_more arc.1
   Ok (Some (Sent arc.0))
 
-abbrev pub said_by : List ℕ → List (List ℕ) → Result (Option Note) Misspelling
-said_by w ws = if is_word w (codes "keep") then keep_said ws else if is_word w (codes "sent") then sent_said ws else Ok None
+abbrev pub parse_said : List ℕ → List (List ℕ) → Result (Option Note) Misspelling
+parse_said w ws = if is_word w (codes "keep") then keep_said ws else if is_word w (codes "sent") then sent_said ws else Ok None
 
 -- what the fields of a line note, none where it begins with neither word
 unfoldable pub words_noted : List (List ℕ) → Result (Option Note) Misspelling
 words_noted ws = do
   first ← first_field ws
-  said_by first.0 first.1
+  parse_said first.0 first.1
 
 -- what a line notes
-unfoldable pub note_of : List ℕ → Result (Option Note) Misspelling
-note_of line = words_noted (parts_at 32 line)
+unfoldable pub parse_note : List ℕ → Result (Option Note) Misspelling
+parse_note line = words_noted (parts_at 32 line)
 
 -- The notes of a text, the parts after them, and the number of the first of these among all lines.
 pub record Noted : Type 0 where
@@ -66,7 +66,7 @@ noted_by n parts (Ok (Some x)) further = further >>= λ r. Ok (with_first x r)
 abbrev pub notes_in : ℕ → List (List ℕ) → Result Noted Reason
 notes_in n [] = Ok (record { notes = []; rest = []; next = n })
 notes_in n (part ∷ []) = Ok (record { notes = []; rest = part ∷ []; next = n })
-notes_in n (line ∷ next ∷ parts) = noted_by n (line ∷ next ∷ parts) (note_of line) (notes_in (next_number n) (next ∷ parts))
+notes_in n (line ∷ next ∷ parts) = noted_by n (line ∷ next ∷ parts) (parse_note line) (notes_in (next_number n) (next ∷ parts))
 
 -- what the line of number n notes, or that it is a bad one
 abbrev pub numbered : ℕ → Result (Option Note) Misspelling → Result (Option Note) Reason

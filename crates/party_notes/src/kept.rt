@@ -3,9 +3,9 @@
 ghost use Rattle.std.specs.Prelude.{◌≡◌, ◌<◌, true, IfOk, length, replicate, None};
 ghost use Rattle.swap_base.specs.Fault.{Gives};
 ghost use Rattle.swap_digraph.specs.Deal.{IsWellSized};
-ghost use Rattle.swap_digraph.specs.Graph.{entering, is_among, leaving};
+ghost use Rattle.swap_digraph.specs.Graph.{entering, is_listed, leaving};
 ghost use Rattle.refusals.specs.declared.reason.Reason.TheVariants.{BadLine};
-ghost use Rattle.party_notes.specs.Kept.{kept_of, may_be_kept, opens_first, opens_on, with_note, with_notes};
+ghost use Rattle.party_notes.specs.Kept.{kept_state, may_be_kept, opens_first, opens_arc, with_note, with_notes};
 
 use crate::note::Note;
 use hashkey_path::{Hashkey, HashkeyAnswer, check};
@@ -25,11 +25,11 @@ pub struct Kept {
 }
 
 /// Whether the hashkey opens its lock on the arc.
-fn opens_on(deal: &Deal, arc: ArcId, key: &Hashkey) -> bool
+fn opens_arc(deal: &Deal, arc: ArcId, key: &Hashkey) -> bool
     requires sized { IsWellSized deal.now }
     requires arc { arc < length deal.now.graph.arcs }
     requires lock { key.now.lock < length deal.now.leaders }
-    ensures { result ≡ opens_on deal.now arc key.now }
+    ensures { result ≡ opens_arc deal.now arc key.now }
 {
     let hashlock = deal.hashlocks.as_slice()[key.lock as usize];
     check(deal, arc, &hashlock, key, 0) == HashkeyAnswer::Valid
@@ -44,7 +44,7 @@ fn opens_first(deal: &Deal, me: PartyId, key: &Hashkey) -> bool
 {
     match deal.graph.entering(me) {
         [] => false,
-        [arc, ..] => opens_on(deal, *arc, key),
+        [arc, ..] => opens_arc(deal, *arc, key),
     }
 }
 
@@ -64,7 +64,7 @@ fn may_be_kept(deal: &Deal, me: PartyId, keys: &[Option<Shared<Hashkey>>], key: 
 /// Whether the arc leaves the party.
 fn leaves(deal: &Deal, me: PartyId, arc: ArcId) -> bool
     requires { me < deal.now.graph.n }
-    ensures { result ≡ is_among arc (leaving deal.now.graph me) }
+    ensures { result ≡ is_listed arc (leaving deal.now.graph me) }
 {
     deal.graph.leaving(me).iter().any(|other| *other == arc)
 }
@@ -148,8 +148,8 @@ fn add_notes(
 /// number. A line is faulty if it notes a publish on an arc that doesn't leave the party, or a
 /// hashkey that the party can't have kept. Such a hashkey is for no lock of the deal, is a second
 /// one for a lock, or opens nothing, as that of a torn line.
-#[tactic(auto, unfolding(crate::specs::Kept::kept_of))]
-pub fn kept_of(
+#[tactic(auto, unfolding(crate::specs::Kept::kept_state))]
+pub fn kept_state(
     alloc: Global,
     deal: &Deal,
     me: PartyId,
@@ -158,7 +158,7 @@ pub fn kept_of(
 ) -> Result<Kept, OfferFault>
     requires sized { IsWellSized deal.now }
     requires me { me < deal.now.graph.n }
-    ensures exact { Gives (λ k. record { keys = k.signed.keys; sent = k.sent }) result (kept_of deal.now me first notes.now) }
+    ensures exact { Gives (λ k. record { keys = k.signed.keys; sent = k.sent }) result (kept_state deal.now me first notes.now) }
     ensures places { IfOk result (λ k. length k.signed.keys ≡ length deal.now.leaders) }
 {
     let mut keys = none_kept(alloc, deal.leaders.len() as u8)?;

@@ -7,6 +7,6 @@ mod kept;
 mod note;
 mod notes;
 
-pub use kept::{Kept, kept_of};
+pub use kept::{Kept, kept_state};
 pub use note::Note;
 pub use notes::{Notes, read_notes};

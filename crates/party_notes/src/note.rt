@@ -1,9 +1,9 @@
 //! A line that a wallet wrote down.
 
 ghost use Rattle.swap_base.specs.Fault.{Gives};
-ghost use Rattle.transcript_lines.specs.Reading.{field_of, number_below};
+ghost use Rattle.transcript_lines.specs.Reading.{field_of, bounded_number};
 ghost use Rattle.transcript_book.specs.Taking.{Takes};
-ghost use Rattle.party_notes.specs.Notes.{keep_of, keep_said, note_of, said_by, sent_said, words_noted};
+ghost use Rattle.party_notes.specs.Notes.{kept_note, keep_said, parse_note, parse_said, sent_said, words_noted};
 
 use hashkey_path::Hashkey;
 use ledger_core::Call;
@@ -20,8 +20,8 @@ pub enum Note {
     Sent(ArcId),
 }
 
-fn keep_of(call: Call) -> Result<Option<Note>, WordFault>
-    ensures { Gives (λ o. o) result (keep_of call) }
+fn kept_note(call: Call) -> Result<Option<Note>, WordFault>
+    ensures { Gives (λ o. o) result (kept_note call) }
 {
     match call {
         Call::Unlock(key) => Ok(Some(Note::Keep(key))),
@@ -35,11 +35,11 @@ fn keep_said(alloc: Global, fields: &mut Parts<'_>) -> Result<Option<Note>, Word
 {
     let call = key_of(alloc, fields)?;
     nothing_more(fields)?;
-    keep_of(call)
+    kept_note(call)
 }
 
-fn arc_of(word: &[u8]) -> Result<ArcId, WordFault>
-    ensures { Gives (λ a. a) result (number_below 256 word.now) }
+fn parse_arc(word: &[u8]) -> Result<ArcId, WordFault>
+    ensures { Gives (λ a. a) result (bounded_number 256 word.now) }
 {
     let arc = number_of(word)?;
     if arc < 256 {
@@ -51,9 +51,9 @@ fn arc_of(word: &[u8]) -> Result<ArcId, WordFault>
 
 #[tactic(auto, unfolding(transcript_lines::specs::Reading::field_of))]
 fn arc_field(fields: &mut Parts<'_>) -> Result<ArcId, WordFault>
-    ensures { Takes (λ a. a) result fields.new (field_of (number_below 256) fields.old) }
+    ensures { Takes (λ a. a) result fields.new (field_of (bounded_number 256) fields.old) }
 {
-    arc_of(word(fields)?)
+    parse_arc(word(fields)?)
 }
 
 #[tactic(auto, unfolding(crate::specs::Notes::sent_said))]
@@ -65,8 +65,12 @@ fn sent_said(fields: &mut Parts<'_>) -> Result<Option<Note>, WordFault>
     Ok(Some(Note::Sent(arc)))
 }
 
-fn said_by(alloc: Global, first: &[u8], fields: &mut Parts<'_>) -> Result<Option<Note>, WordFault>
-    ensures { Gives (λ o. o) result (said_by first.now fields.old) }
+fn parse_said(
+    alloc: Global,
+    first: &[u8],
+    fields: &mut Parts<'_>,
+) -> Result<Option<Note>, WordFault>
+    ensures { Gives (λ o. o) result (parse_said first.now fields.old) }
 {
     if first == b"keep".as_slice() {
         keep_said(alloc, fields)
@@ -82,13 +86,13 @@ fn words_noted(alloc: Global, fields: &mut Parts<'_>) -> Result<Option<Note>, Wo
     ensures { Gives (λ o. o) result (words_noted fields.old) }
 {
     let first = word(fields)?;
-    said_by(alloc, first, fields)
+    parse_said(alloc, first, fields)
 }
 
 /// What a line notes, none where it begins with neither word.
-#[tactic(auto, unfolding(crate::specs::Notes::note_of))]
+#[tactic(auto, unfolding(crate::specs::Notes::parse_note))]
 pub(crate) fn read_note(alloc: Global, line: &[u8]) -> Result<Option<Note>, WordFault>
-    ensures { Gives (λ o. o) result (note_of line.now) }
+    ensures { Gives (λ o. o) result (parse_note line.now) }
 {
     words_noted(alloc, &mut Parts::new(b' ', line))
 }

@@ -3,7 +3,7 @@
 ghost use Rattle.std.specs.Prelude.{◌≡◌, ◌≤◌, IfOk, drop, length};
 ghost use Rattle.swap_base.specs.Fault.{Gives};
 ghost use Rattle.transcript_lines.specs.Between.{parts_at};
-ghost use Rattle.party_notes.specs.Notes.{note_of, notes_in, numbered};
+ghost use Rattle.party_notes.specs.Notes.{parse_note, notes_in, numbered};
 
 use crate::note::{Note, read_note};
 use memchr::memchr;
@@ -23,7 +23,7 @@ pub struct Notes {
 
 /// What the line of that number notes.
 fn numbered_note(alloc: Global, number: u32, line: &[u8]) -> Result<Option<Note>, OfferFault>
-    ensures { Gives (λ o. o) result (numbered number (note_of line.now)) }
+    ensures { Gives (λ o. o) result (numbered number (parse_note line.now)) }
 {
     match read_note(alloc, line) {
         Ok(note) => Ok(note),

@@ -10,26 +10,26 @@ use Rattle.ledger_core.specs.Ledger.{after_call}
 use Rattle.ledger_core.specs.Book.{history}
 use Rattle.ledger_shared.specs.Value.{PassState, SharedState}
 use Rattle.party_wallet.specs.Value.{signed_in}
-use Rattle.party_machine.specs.Machine.{MachineState, action_of, next_due, noted_for, IsOfSame}
+use Rattle.party_machine.specs.Machine.{MachineState, due_action, next_due, noted_for, IsOfSame}
 use Rattle.swap_rules.specs.Due.{Action}
 use Rattle.swap_rules.specs.Machine.{noted}
 use Rattle.swap_run.specs.Fair.{most_acts}
 use Rattle.swap_run.proofs.Slots.{left, left_most}
 use Rattle.swap_world.specs.Acting.{IsMakable, IsSameOwner}
 use Rattle.party_threads.specs.Able.{watcher, machine_with, IsAble}
-use Rattle.party_threads.specs.Later.{pass_in, WentOn, HaveGoneOn}
-use Rattle.party_threads.specs.Tracks.{Tracks, HaveSeenAll, HasItsPasses, IsSameElsewhere, IsPlaceOf, HasMade, MadeIf}
+use Rattle.party_threads.specs.Later.{pass_in, Advanced, HaveAdvanced}
+use Rattle.party_threads.specs.Tracks.{Tracks, HaveSeenAll, HasItsPasses, IsSameElsewhere, IsWatcherPlace, HasMade, MadeIf}
 use Rattle.party_threads.proofs.Machines.{makable, made_of, able_made, owner_more, left_made, none_left}
-use Rattle.party_threads.proofs.Passes.{none_went, all_more, any_default, place_of, tracks_on, seen_again, elsewhere_on}
+use Rattle.party_threads.proofs.Passes.{none_went, all_more, any_default, find_place, tracks_on, seen_again, elsewhere_on}
 
 -- passes that went on are at the same places
-pub stay : (d : Deal) (v : ℕ) (ps qs : List (Option PassState)) → HaveGoneOn ps qs → length qs ≡ length ps → HasItsPasses d v ps → HasItsPasses d v qs
+pub stay : (d : Deal) (v : ℕ) (ps qs : List (Option PassState)) → HaveAdvanced ps qs → length qs ≡ length ps → HasItsPasses d v ps → HasItsPasses d v qs
 stay d v ps qs gone same h = record {
   near = λ a lt t. there a (pass_in ps a) (gone a) (h.near a (subst (λ z. a < z) same lt) t);
-  far = λ a lt t. subst (λ o. WentOn o (pass_in qs a)) (h.far a (subst (λ z. a < z) same lt) t) (gone a);
+  far = λ a lt t. subst (λ o. Advanced o (pass_in qs a)) (h.far a (subst (λ z. a < z) same lt) t) (gone a);
 }
   where
-    there : (a : ℕ) (o : Option PassState) → WentOn o (pass_in qs a) → (p : PassState) × (o ≡ Some p) → (p : PassState) × (pass_in qs a ≡ Some p)
+    there : (a : ℕ) (o : Option PassState) → Advanced o (pass_in qs a) → (p : PassState) × (o ≡ Some p) → (p : PassState) × (pass_in qs a ≡ Some p)
     there a None w h0 = absurd (none-some h0.0 h0.1)
     there a (Some p) w h0 = (w.0, w.1)
 
@@ -39,7 +39,7 @@ pub record IsActing (ledgers : List SharedState) (m : MachineState) (ps : List (
   pub able : IsAble n
   pub tracks : Tracks ledgers (watcher n) qs
   pub passes : HasItsPasses n.deal n.me qs
-  pub gone_on : HaveGoneOn ps qs
+  pub gone_on : HaveAdvanced ps qs
   pub seen : HaveSeenAll ps → HaveSeenAll qs
   pub owner : IsSameOwner m n
   pub elsewhere : IsSameElsewhere ps m.known n.known
@@ -76,9 +76,9 @@ abbrev an_action : ℕ → Call → Action
 an_action a c = record { arc = a; call = c }
 
 -- what is answered is what is due
-pub due_is : (m : MachineState) (o : Option (ℕ × Call)) (a : ℕ) (c : Call) → o ≡ Some (a, c) → option_map action_of o ≡ next_due m
+pub due_is : (m : MachineState) (o : Option (ℕ × Call)) (a : ℕ) (c : Call) → o ≡ Some (a, c) → option_map due_action o ≡ next_due m
     → next_due m ≡ Some (an_action a c)
-due_is m o a c e f = sym f ∙ ap (option_map action_of) e
+due_is m o a c e f = sym f ∙ ap (option_map due_action) e
 
 -- and what is signed for it is noted
 pub noted_is : (signed : ℕ → Option Hashkey) (m1 : MachineState) (o : Option (ℕ × Call)) (a : ℕ) (c : Call) → o ≡ Some (a, c)
@@ -142,7 +142,7 @@ makable_after m m1 a c able due same =
 
 -- A machine has answered the call that is due, and nothing is done yet.
 module _ (ledgers : List SharedState) (m m1 : MachineState) (o : Option (ℕ × Call)) (a : ℕ) (c : Call) (ps : List (Option PassState)) (able : IsAble m)
-    (tracks : Tracks ledgers (watcher m) ps) (is : o ≡ Some (a, c)) (first : option_map action_of o ≡ next_due m) where
+    (tracks : Tracks ledgers (watcher m) ps) (is : o ≡ Some (a, c)) (first : option_map due_action o ≡ next_due m) where
   due : next_due m ≡ Some (an_action a c)
   due = due_is m o a c is first
 
@@ -161,10 +161,10 @@ module _ (ledgers : List SharedState) (m m1 : MachineState) (o : Option (ℕ × 
       none-some p.0 (sym none ∙ (any_default ps a r None place_below ∙ p.1))
 
   pub place_is : IsOfSame m m1 → (r : Option PassState) (s : SharedState) → s ≡ slice_index_or ledgers a s
-      → IsPlaceOf (watcher m1) s.lock a (slice_index_or ps a r)
+      → IsWatcherPlace (watcher m1) s.lock a (slice_index_or ps a r)
   place_is same r s at =
-      subst (λ x. IsPlaceOf (watcher x) s.lock a (slice_index_or ps a r)) (sym (same_machine m m1 same))
-      (subst (IsPlaceOf (watcher m) s.lock a) (any_default ps a None r place_below) (place_of ledgers (watcher m) ps a s tracks place_below at))
+      subst (λ x. IsWatcherPlace (watcher x) s.lock a (slice_index_or ps a r)) (sym (same_machine m m1 same))
+      (subst (IsWatcherPlace (watcher m) s.lock a) (any_default ps a None r place_below) (find_place ledgers (watcher m) ps a s tracks place_below at))
 
   pub can_make : IsOfSame m m1 → IsMakable m1.deal m1.me (an_action a c)
   can_make same = makable_after m m1 a c able due same
@@ -176,7 +176,7 @@ module _ (ledgers : List SharedState) (m m1 : MachineState) (o : Option (ℕ × 
       (subst (λ x. MadeIf (watcher m1) (machine_with m1 a) a c x n q) (any_default ps a r None place_below) made)
 
 pub acts_on : (ledgers : List SharedState) (m n o : MachineState) (ps qs rs : List (Option PassState)) (k : ℕ) → IsActing ledgers m ps k n qs
-    → HaveGoneOn qs rs → IsAble o → Tracks ledgers (watcher o) rs → (HaveSeenAll qs → HaveSeenAll rs) → IsSameOwner n o
+    → HaveAdvanced qs rs → IsAble o → Tracks ledgers (watcher o) rs → (HaveSeenAll qs → HaveSeenAll rs) → IsSameOwner n o
     → IsSameElsewhere qs n.known o.known → left n.deal n.me o.known + 1 ≤ left n.deal n.me n.known → IsActing ledgers m ps (k + 1) o rs
 acts_on ledgers m n o ps qs rs k h gone able tracks seen owner elsewhere fewer = record {
   able = able;
@@ -187,7 +187,7 @@ acts_on ledgers m n o ps qs rs k h gone able tracks seen owner elsewhere fewer =
   gone_on = all_more ps qs rs h.gone_on gone;
   seen = λ all. seen (h.seen all);
   owner = owner_more m n o h.owner owner;
-  elsewhere = λ a none. elsewhere a (subst (λ x. WentOn x (pass_in qs a)) none (h.gone_on a)) ∙ h.elsewhere a none;
+  elsewhere = λ a none. elsewhere a (subst (λ x. Advanced x (pass_in qs a)) none (h.gone_on a)) ∙ h.elsewhere a none;
   few =
       let same : left o.deal o.me o.known ≡ left n.deal n.me o.known = λ i. left (owner.deal i) (owner.me i) o.known in
       let few = h.few in

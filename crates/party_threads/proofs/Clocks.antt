@@ -19,32 +19,32 @@ use Rattle.ledger_core.specs.declared.entry.Sender.{Sender}
 use Rattle.ledger_core.specs.declared.entry.Sender.TheVariants.{Party, Clock}
 use Rattle.ledger_core.specs.declared.entry.What.{What}
 use Rattle.ledger_core.specs.declared.entry.What.TheVariants.{Call as Made, Tick}
-use Rattle.ledger_core.specs.History.{height, ticks_in, is_tick, is_clock_full, reply_to_tick, IsLegal, IsLegalEntry, IsLegalMoment}
+use Rattle.ledger_core.specs.History.{height, entry_ticks, is_tick, is_clock_full, reply_to_tick, IsLegal, IsLegalEntry, IsLegalMoment}
 use Rattle.ledger_core.specs.Ledger.{tick_entry}
 use Rattle.ledger_shared.specs.Value.{ClockState, SharedState, ticks_in_order, clock_mine, added_by_tick, HasTicked}
 use Rattle.party_threads.specs.Later.{IsClockLater, clock_in}
-use Rattle.party_threads.specs.Ticks.{HaveRoom, HasTickedOnce, ClockWentOn, HaveClocksGoneOn, Ticked, HaveTicked}
+use Rattle.party_threads.specs.Ticks.{HaveRoom, HasTickedOnce, ClockAdvanced, HaveClocksAdvanced, Ticked, HaveTicked}
 
 -- The height of a legal history is that of its ticks.
 
 not_raising : (s : Sender) (w : What) (d : Deal) (a : ℕ) (past : List Entry) (at : ℕ) (r : Reply) → IsLegalEntry d a past s w at r → is_tick s ≡ false
-    → ticks_in w ≡ 0
+    → entry_ticks w ≡ 0
 not_raising (Party p) (Made c) d a past at r l e = refl
 not_raising (Party p) (Tick k) d a past at r l e = absurd l
 not_raising Clock w d a past at r l e = absurd (true≢false e)
 
-height_split : (h : List Entry) → ((e : Entry) → IsIn e h → is_tick e.sender ≡ false → ticks_in e.what ≡ 0) → height h ≡ height (ticks_in_order h)
+height_split : (h : List Entry) → ((e : Entry) → IsIn e h → is_tick e.sender ≡ false → entry_ticks e.what ≡ 0) → height h ≡ height (ticks_in_order h)
 height_split [] f = refl
 height_split (e ∷ es) f = go (height_split es (λ x i. f x (inr i))) (is_tick e.sender) refl
   where
     go : height es ≡ height (ticks_in_order es) → (b : Bool) → is_tick e.sender ≡ b
         → height (e ∷ es) ≡ height (if is_tick e.sender then e ∷ ticks_in_order es else ticks_in_order es)
     go rest true is =
-        sum_by-cons (λ (x : Entry). ticks_in x.what) e es ∙ (ap (λ n. ticks_in e.what + n) rest
-        ∙ (sym (sum_by-cons (λ (x : Entry). ticks_in x.what) e (ticks_in_order es))
+        sum_by-cons (λ (x : Entry). entry_ticks x.what) e es ∙ (ap (λ n. entry_ticks e.what + n) rest
+        ∙ (sym (sum_by-cons (λ (x : Entry). entry_ticks x.what) e (ticks_in_order es))
         ∙ sym (ap (λ b. height (if b then e ∷ ticks_in_order es else ticks_in_order es)) is)))
     go rest false is =
-        sum_by-cons (λ (x : Entry). ticks_in x.what) e es ∙ (ap (λ n. n + height es) (f e (inl refl) is)
+        sum_by-cons (λ (x : Entry). entry_ticks x.what) e es ∙ (ap (λ n. n + height es) (f e (inl refl) is)
         ∙ (zero-add (height es) ∙ rest ∙ sym (ap (λ b. height (if b then e ∷ ticks_in_order es else ticks_in_order es)) is)))
 
 pub height_of_ticks : (d : Deal) (a : ℕ) (h : List Entry) → IsLegal d a h → height h ≡ height (ticks_in_order h)
@@ -108,14 +108,14 @@ module _ (d : Deal) (a k : ℕ) (p q : ClockState) (r : Reply) (room : HaveRoom 
 clock_self : (p : ClockState) → IsClockLater p p
 clock_self p = ([], λ i. record { lock = p.lock; deal = p.deal; arc = p.arc; shared = p.shared; seen = sym (append-nil p.seen) i })
 
-went_self : (p : Option ClockState) → ClockWentOn p p
+went_self : (p : Option ClockState) → ClockAdvanced p p
 went_self None = refl
 went_self (Some p) = (p, refl, clock_self p)
 
 -- So far the first k ledgers have ticked.
 pub record IsTicking (ticks : ℕ) (ledgers : List SharedState) (ps : List (Option ClockState)) (k : ℕ) (qs : List (Option ClockState)) : Type 0 where
   pub places : length qs ≡ length ps
-  pub gone_on : HaveClocksGoneOn ps qs
+  pub gone_on : HaveClocksAdvanced ps qs
   pub ticked : (a : ℕ) → a < k → Ticked ticks (clock_in ps a) (clock_in qs a)
   pub left : (a : ℕ) → k ≤ a → clock_in qs a ≡ clock_in ps a
 
@@ -138,20 +138,20 @@ module _ (ticks : ℕ) (ledgers : List SharedState) (ps : List (Option ClockStat
   at_it : clock_in (set qs k q) k ≡ q
   at_it = clock_same qs k q below
 
-  went_on : ClockWentOn (clock_in ps k) q → (a : ℕ) → (a ≡ k) ⊎ (a ≢ k) → ClockWentOn (clock_in ps a) (clock_in (set qs k q) a)
-  went_on w a (inl e) = subst (λ b. ClockWentOn (clock_in ps b) (clock_in (set qs k q) b)) (sym e) (subst (ClockWentOn (clock_in ps k)) (sym at_it) w)
-  went_on w a (inr n) = subst (ClockWentOn (clock_in ps a)) (sym (clock_other qs k a q n)) (i.gone_on a)
+  went_on : ClockAdvanced (clock_in ps k) q → (a : ℕ) → (a ≡ k) ⊎ (a ≢ k) → ClockAdvanced (clock_in ps a) (clock_in (set qs k q) a)
+  went_on w a (inl e) = subst (λ b. ClockAdvanced (clock_in ps b) (clock_in (set qs k q) b)) (sym e) (subst (ClockAdvanced (clock_in ps k)) (sym at_it) w)
+  went_on w a (inr n) = subst (ClockAdvanced (clock_in ps a)) (sym (clock_other qs k a q n)) (i.gone_on a)
 
   -- one pass has gone on
-  pub one_went : ClockWentOn (clock_in qs k) q → HaveClocksGoneOn ps (set qs k q)
-  one_went w a = went_on (subst (λ o. ClockWentOn o q) (i.left k (omega arith)) w) a (same_or_not a k)
+  pub one_went : ClockAdvanced (clock_in qs k) q → HaveClocksAdvanced ps (set qs k q)
+  one_went w a = went_on (subst (λ o. ClockAdvanced o q) (i.left k (omega arith)) w) a (same_or_not a k)
 
   now_ticked : Ticked ticks (clock_in ps k) q → (a : ℕ) → a < k + 1 → (a ≡ k) ⊎ (a ≢ k) → Ticked ticks (clock_in ps a) (clock_in (set qs k q) a)
   now_ticked t a lt (inl e) = subst (λ b. Ticked ticks (clock_in ps b) (clock_in (set qs k q) b)) (sym e) (subst (Ticked ticks (clock_in ps k)) (sym at_it) t)
   now_ticked t a lt (inr n) = subst (Ticked ticks (clock_in ps a)) (sym (clock_other qs k a q n)) (i.ticked a (omega (arith, lt, n)))
 
   -- one ledger has ticked
-  pub ticking_on : ClockWentOn (clock_in qs k) q → Ticked ticks (clock_in qs k) q → IsTicking ticks ledgers ps (k + 1) (set qs k q)
+  pub ticking_on : ClockAdvanced (clock_in qs k) q → Ticked ticks (clock_in qs k) q → IsTicking ticks ledgers ps (k + 1) (set qs k q)
   ticking_on w t = record {
     places = length-set qs k q ∙ i.places;
     gone_on = one_went w;

@@ -6,15 +6,15 @@ use Rattle.std.proofs.lemmas.List.Elements.{filter-append}
 use Rattle.std.proofs.lemmas.Option.{none-some}
 use mathlib.Core.List.{IsPrefix}
 use Rattle.ledger_core.specs.declared.entry.Entry.{Entry}
-use Rattle.ledger_core.specs.History.{sent_by, IsLegal}
+use Rattle.ledger_core.specs.History.{is_sender, IsLegal}
 use Rattle.ledger_core.specs.Book.{history}
-use Rattle.ledger_shared.specs.Value.{PassState, SharedState, made_by}
+use Rattle.ledger_shared.specs.Value.{PassState, SharedState, party_made}
 use Rattle.swap_rules.proofs.Prefixes.{same_or_not}
 use Rattle.swap_rules.proofs.Conducting.{history_same, history_other}
-use Rattle.party_threads.specs.Later.{pass_in, WentOn, HaveGoneOn}
+use Rattle.party_threads.specs.Later.{pass_in, Advanced, HaveAdvanced}
 use Rattle.party_threads.specs.Tracks.{Watcher, knowing, Tracks, HaveSeenAll, IsSameElsewhere, HasLooked, LookedIf}
 use Rattle.party_threads.specs.Played.{IsFresh, HaveFresh}
-use Rattle.party_threads.proofs.Passes.{one_went, none_went, tracks_on, HaveSeenBelow, seen_on, elsewhere_on}
+use Rattle.party_threads.proofs.Passes.{one_went, none_went, tracks_on, HaveSeenBelow, first_seen_arc, elsewhere_on}
 
 pub record IsLooking (ledgers : List SharedState) (w : Watcher) (ps : List (Option PassState)) (k : ℕ) (x : Watcher) (qs : List (Option PassState))
     : Type 0 where
@@ -22,7 +22,7 @@ pub record IsLooking (ledgers : List SharedState) (w : Watcher) (ps : List (Opti
   pub me : x.me ≡ w.me
   pub arcs : length x.known ≡ length x.deal.graph.arcs
   pub tracks : Tracks ledgers x qs
-  pub gone_on : HaveGoneOn ps qs
+  pub gone_on : HaveAdvanced ps qs
   pub seen : HaveSeenBelow k qs
   pub fresh : HaveFresh w.me w.known x.known
   pub legal : (a : ℕ) → IsLegal w.deal a (history w.known a) → IsLegal w.deal a (history x.known a)
@@ -43,11 +43,11 @@ looks_begin ledgers w ps k e arcs tracks = record {
 }
 
 -- More entries of others are fresh.
-fresh_more : (v : ℕ) (k h g : List Entry) (more : List Entry) → IsFresh v k h → g ≡ h ++ more → made_by v more ≡ [] → IsFresh v k g
+fresh_more : (v : ℕ) (k h g : List Entry) (more : List Entry) → IsFresh v k h → g ≡ h ++ more → party_made v more ≡ [] → IsFresh v k g
 fresh_more v k h g more f is none = (
   f.0 ++ more,
   is ∙ (ap (λ x. x ++ more) f.1 ∙ append_assoc k f.0 more),
-  filter-append (λ (e : Entry). sent_by v e.sender) f.0 more ∙ (ap (λ x. x ++ made_by v more) f.2 ∙ none),
+  filter-append (λ (e : Entry). is_sender v e.sender) f.0 more ∙ (ap (λ x. x ++ party_made v more) f.2 ∙ none),
 )
 
 -- putting nothing where there is nothing changes nothing
@@ -69,7 +69,7 @@ module _ (ledgers : List SharedState) (w : Watcher) (ps : List (Option PassState
     fresh_now a (inl same) =
         subst (λ z. IsFresh w.me (history w.known z) (history (set x.known k now) z)) (sym same)
         (fresh_more w.me (history w.known k) (history x.known k) _ l.fresh (h.fresh k) (history_same x.known k now known)
-        (subst (λ v. made_by v l.fresh ≡ []) h.me l.foreign))
+        (subst (λ v. party_made v l.fresh ≡ []) h.me l.foreign))
     fresh_now a (inr apart) =
         subst (IsFresh w.me (history w.known a)) (sym (history_other x.known k a now apart)) (h.fresh a)
 
@@ -85,8 +85,8 @@ module _ (ledgers : List SharedState) (w : Watcher) (ps : List (Option PassState
       me = h.me;
       arcs = length-set x.known k now ∙ h.arcs;
       tracks = tracks_on ledgers x qs k p q now h.tracks below known here (l.fresh, l.pass) l.seen;
-      gone_on = one_went ps qs k (Some q) below h.gone_on (subst (λ o. WentOn o (Some q)) (sym here) (q, refl, (l.fresh, l.pass)));
-      seen = seen_on k qs q below h.seen l.whole;
+      gone_on = one_went ps qs k (Some q) below h.gone_on (subst (λ o. Advanced o (Some q)) (sym here) (q, refl, (l.fresh, l.pass)));
+      seen = first_seen_arc k qs q below h.seen l.whole;
       fresh = λ a. fresh_now a (same_or_not a k);
       legal = λ a before. legal_now a (same_or_not a k) before;
       elsewhere = elsewhere_on ps qs w.known x.known k p now h.gone_on here h.elsewhere;

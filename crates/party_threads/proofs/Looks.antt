@@ -9,17 +9,13 @@ use Rattle.escrow_core.specs.declared.reply.Reply.{Reply}
 use Rattle.escrow_core.specs.declared.reply.Reply.TheVariants.{SenderFull}
 use Rattle.ledger_core.specs.declared.entry.Call.{Call}
 use Rattle.ledger_core.specs.declared.entry.Entry.{Entry}
-use Rattle.ledger_core.specs.History.{height, reply_to, IsLegal, IsLegalMoment}
+use Rattle.ledger_core.specs.History.{height, history_reply, IsLegal, IsLegalMoment}
 use Rattle.ledger_core.specs.Ledger.{after_call, call_entry, is_sender_full}
 use Rattle.ledger_core.specs.Book.{history}
-use Rattle.ledger_shared.specs.Value.{PassState, made_by, with_seen, added_by_call, HasCalled}
+use Rattle.ledger_shared.specs.Value.{PassState, party_made, with_seen, added_by_call, HasCalled}
 use Rattle.party_threads.specs.Tracks.{Watcher, IsPassOf, HasLooked, HasMade, LookedIf}
 
 -- Where memory was enough.
-
-pub on_ok : {A E : Type 0} {P Q : Type 0} (r : Result A E) → (P → Q) → OnOk r P → OnOk r Q
-on_ok (Ok x) f h = f h
-on_ok (Err e) f h = tt
 
 pub on_both : {A E : Type 0} {P Q R : Type 0} (r : Result A E) → (P → Q → R) → OnOk r P → OnOk r Q → OnOk r R
 on_both (Ok x) f g h = f g h
@@ -35,15 +31,15 @@ legal_of w lock a p q fresh k is legal =
     (subst (λ x. IsLegal w.deal x (p.seen ++ fresh)) k.arc
     (subst (λ d. IsLegal d p.arc (p.seen ++ fresh)) k.deal (subst (λ h. IsLegal p.deal p.arc h) (ap (λ (s : PassState). s.seen) is) legal)))
 
-pub foreign_of : (w : Watcher) (lock : TableId) (a : ℕ) (p : PassState) (fresh : List Entry) → IsPassOf w lock a p → made_by p.party fresh ≡ []
-    → made_by w.me fresh ≡ []
-foreign_of w lock a p fresh k none = subst (λ v. made_by v fresh ≡ []) k.party none
+pub foreign_of : (w : Watcher) (lock : TableId) (a : ℕ) (p : PassState) (fresh : List Entry) → IsPassOf w lock a p → party_made p.party fresh ≡ []
+    → party_made w.me fresh ≡ []
+foreign_of w lock a p fresh k none = subst (λ v. party_made v fresh ≡ []) k.party none
 
 pub whole_of : (p q : PassState) (fresh : List Entry) → q ≡ with_seen p fresh → IsPrefix p.shared q.seen → IsPrefix q.shared q.seen
 whole_of p q fresh is whole = subst (λ s. IsPrefix s q.seen) (sym (ap (λ (s : PassState). s.shared) is)) whole
 
 pub has_looked : {S : Type 0} (w : Watcher) (after : List Entry → S) (lock : TableId) (a : ℕ) (p : PassState) (n : S) (q : PassState) (fresh : List Entry)
-    → IsPassOf w lock a p → q ≡ with_seen p fresh → made_by p.party fresh ≡ [] → IsLegal p.deal p.arc q.seen → IsPrefix p.shared q.seen
+    → IsPassOf w lock a p → q ≡ with_seen p fresh → party_made p.party fresh ≡ [] → IsLegal p.deal p.arc q.seen → IsPrefix p.shared q.seen
     → n ≡ after (history w.known a ++ fresh) → HasLooked w after a p n q
 has_looked {S} w after lock a p n q fresh k is none legal whole knows = record {
   fresh = fresh;
@@ -81,9 +77,9 @@ added_with h v t c SenderFull = append-nil h
 added_with h v t c _ = refl
 
 added_is : (d : Deal) (a v : ℕ) (c : Call) (h : List Entry)
-    → h ++ added_by_call (reply_to d a h v c) (call_entry v (height h) c (reply_to d a h v c)) ≡ after_call d a v c h
+    → h ++ added_by_call (history_reply d a h v c) (call_entry v (height h) c (history_reply d a h v c)) ≡ after_call d a v c h
 unfolding after_call
-added_is d a v c h = added_with h v (height h) c (reply_to d a h v c)
+added_is d a v c h = added_with h v (height h) c (history_reply d a h v c)
 
 -- what a call adds to what was seen, with the reply that the ledger gives there
 called_is : (p : PassState) (c : Call) (r : Reply) (fresh : List Entry) (k : HasCalled p c r fresh)

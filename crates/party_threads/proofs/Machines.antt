@@ -5,15 +5,15 @@ use Rattle.std.proofs.lemmas.List.{length-set, set-set}
 use Rattle.swap_base.specs.Lists.{IsIn}
 use Rattle.hashkey_path.specs.declared.hashkey.Hashkey.{Hashkey}
 use Rattle.ledger_core.specs.declared.entry.Entry.{Entry}
-use Rattle.ledger_core.specs.History.{sent_by, is_full, IsLegal}
+use Rattle.ledger_core.specs.History.{is_sender, is_full, IsLegal}
 use Rattle.ledger_core.specs.Ledger.{after_call}
 use Rattle.ledger_core.specs.Book.{history}
-use Rattle.ledger_shared.specs.Value.{PassState, made_by}
+use Rattle.ledger_shared.specs.Value.{PassState, party_made}
 use Rattle.party_wallet.specs.Value.{signed_in}
-use Rattle.party_machine.specs.Wallet.{wallet_of}
+use Rattle.party_machine.specs.Wallet.{seed_wallet}
 use Rattle.party_machine.specs.Machine.{MachineState, next_due}
 use Rattle.swap_rules.specs.Due.{Action, first}
-use Rattle.swap_rules.specs.Machine.{IsSound, noted, entry_of, test_of}
+use Rattle.swap_rules.specs.Machine.{IsSound, noted, entry_of, rule_test}
 use Rattle.swap_rules.proofs.Machines.{learn_sound, call_sound}
 use Rattle.swap_rules.proofs.Due.{IsDue, is_due, due_is_valid}
 use Rattle.swap_rules.proofs.Conducting.{knows_all, history_same}
@@ -38,7 +38,7 @@ able_looked m n a p q below k l = subst IsAble (sym l.knows) (record {
   signs = k.signs;
   sound =
       learn_sound m.deal m.known (signed_in m.signed) m.me a l.fresh (subst (λ z. a < z) (sym k.arcs) below)
-      (none_passes (λ (e : Entry). sent_by m.me e.sender) l.fresh l.foreign) l.legal k.sound;
+      (none_passes (λ (e : Entry). is_sender m.me e.sender) l.fresh l.foreign) l.legal k.sound;
 })
 
 pub able_after : (m n : MachineState) (a : ℕ) (o q : Option PassState) → a < length m.deal.graph.arcs → IsAble m
@@ -63,9 +63,9 @@ first_in [] x e = absurd (cc e)
 first_in (y ∷ ys) x e = inl (cc)
 
 due_of : (m : MachineState) (x : Action) → IsAble m → next_due m ≡ Some x
-    → IsDue m.deal m.me (wallet_of m.seed m.me m.deal) (signed_in m.signed) m.known m.known x.arc x.call
+    → IsDue m.deal m.me (seed_wallet m.seed m.me m.deal) (signed_in m.signed) m.known m.known x.arc x.call
 due_of m x k e =
-    is_due m.deal m.me (wallet_of m.seed m.me m.deal) (signed_in m.signed) m.known m.known k.sound.legal k.sound.rules
+    is_due m.deal m.me (seed_wallet m.seed m.me m.deal) (signed_in m.signed) m.known m.known k.sound.legal k.sound.rules
     (λ a. knows_all m.me (history m.known a)) k.wallet k.accepted x (first_in _ x e)
 
 pub makable : (m : MachineState) (x : Action) → IsAble m → next_due m ≡ Some x → IsMakable m.deal m.me x
@@ -85,14 +85,14 @@ made_of m signed x others =
     }
 
 pub able_made : (m : MachineState) (signed : List (Option Hashkey)) (x : Action) (others : List Entry) → IsAble m → next_due m ≡ Some x
-    → length signed ≡ length m.signed → signed_in signed ≡ noted (signed_in m.signed) x.call → made_by m.me others ≡ []
+    → length signed ≡ length m.signed → signed_in signed ≡ noted (signed_in m.signed) x.call → party_made m.me others ≡ []
     → IsLegal m.deal x.arc (history m.known x.arc ++ others) → IsAble (made_of m signed x others)
 able_made m signed x others k e many is none legal =
     let h = history m.known x.arc ++ others in
     let below : x.arc < length m.known = subst (λ z. x.arc < z) (sym k.arcs) (due_of m x k e).below in
     let sound =
-    call_sound m.deal m.me (wallet_of m.seed m.me m.deal) m.known (signed_in m.signed) x others k.wallet k.accepted (first_in _ x e) below
-    (none_passes (λ (y : Entry). sent_by m.me y.sender) others none) legal k.sound in
+    call_sound m.deal m.me (seed_wallet m.seed m.me m.deal) m.known (signed_in m.signed) x others k.wallet k.accepted (first_in _ x e) below
+    (none_passes (λ (y : Entry). is_sender m.me y.sender) others none) legal k.sound in
     record {
       accepted = k.accepted;
       wallet = k.wallet;
@@ -107,19 +107,19 @@ able_made m signed x others k e many is none legal =
 -- What it may still call.
 
 -- the ledger of a due call has room for it
-room_made : (m : MachineState) (x : Action) (others : List Entry) → IsAble m → next_due m ≡ Some x → made_by m.me others ≡ []
+room_made : (m : MachineState) (x : Action) (others : List Entry) → IsAble m → next_due m ≡ Some x → party_made m.me others ≡ []
     → IsLegal m.deal x.arc (history m.known x.arc ++ others) → is_full (history m.known x.arc ++ others) m.me ≡ false
 room_made m x others k e none legal =
     let below : x.arc < length m.known = subst (λ z. x.arc < z) (sym k.arcs) (due_of m x k e).below in
     let s =
-    learn_sound m.deal m.known (signed_in m.signed) m.me x.arc others below (none_passes (λ (y : Entry). sent_by m.me y.sender) others none) legal
+    learn_sound m.deal m.known (signed_in m.signed) m.me x.arc others below (none_passes (λ (y : Entry). is_sender m.me y.sender) others none) legal
     k.sound in
     subst (λ h. is_full h m.me ≡ false) (history_same m.known x.arc (history m.known x.arc ++ others) below)
     (rules_leave_room m.deal (set m.known x.arc (history m.known x.arc ++ others)) (signed_in m.signed) m.me x.arc k.accepted s.legal s.rules)
 
 -- a due call leaves one less
 pub left_made : (m : MachineState) (signed : List (Option Hashkey)) (x : Action) (others : List Entry) → IsAble m → next_due m ≡ Some x
-    → made_by m.me others ≡ [] → IsLegal m.deal x.arc (history m.known x.arc ++ others)
+    → party_made m.me others ≡ [] → IsLegal m.deal x.arc (history m.known x.arc ++ others)
     → left m.deal m.me (made_of m signed x others).known + 1 ≤ left m.deal m.me m.known
 left_made m signed x others k e none legal =
     let is = due_of m x k e in
@@ -129,7 +129,7 @@ left_made m signed x others k e none legal =
     history_same m.known x.arc (after_call m.deal x.arc m.me x.call h) below
     ∙ call_pushes m.deal x.arc h m.me x.call (room_made m x others k e none legal) in
     left_less m.deal m.me m.known (after_call m.deal x.arc m.me x.call h) h x.arc (entry_of m.deal x.arc h m.me x.call) is.slot there (others, refl)
-    is.slot_in is.below is.fresh (ap (test_of is.slot) (ap (λ z. cond z (Some x.call) None) (eq-eqb m.me m.me refl)) ∙ is.passes)
+    is.slot_in is.below is.fresh (ap (rule_test is.slot) (ap (λ z. cond z (Some x.call) None) (eq-eqb m.me m.me refl)) ∙ is.passes)
 
 -- who may make no further call has nothing due
 pub none_left : (m : MachineState) → IsAble m → left m.deal m.me m.known ≡ 0 → next_due m ≡ None
@@ -144,7 +144,7 @@ none_left m k none = go (next_due m) refl
         let entry : Entry = entry_of m.deal x.arc h m.me x.call in
         let less =
         left_less m.deal m.me m.known (h ++ entry ∷ []) h x.arc entry is.slot (history_same m.known x.arc (h ++ entry ∷ []) below) (begins_refl h)
-        is.slot_in is.below is.fresh (ap (test_of is.slot) (ap (λ z. cond z (Some x.call) None) (eq-eqb m.me m.me refl)) ∙ is.passes) in
+        is.slot_in is.below is.fresh (ap (rule_test is.slot) (ap (λ z. cond z (Some x.call) None) (eq-eqb m.me m.me refl)) ∙ is.passes) in
         absurd (over (left m.deal m.me (set m.known x.arc (h ++ entry ∷ []))) (left m.deal m.me m.known) less none)
       where
         over : (less all : ℕ) → less + 1 ≤ all → all ≡ 0 → ⊥

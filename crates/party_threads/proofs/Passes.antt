@@ -10,8 +10,8 @@ use Rattle.ledger_core.specs.Book.{Histories, history}
 use Rattle.ledger_shared.specs.Value.{PassState, SharedState, with_seen}
 use Rattle.swap_rules.proofs.Prefixes.{same_or_not}
 use Rattle.swap_rules.proofs.Conducting.{history_same, history_other}
-use Rattle.party_threads.specs.Later.{IsLater, pass_in, WentOn, HaveGoneOn}
-use Rattle.party_threads.specs.Tracks.{Watcher, knowing, IsPassOf, Tracks, HaveSeenAll, IsSameElsewhere, IsPlaceOf}
+use Rattle.party_threads.specs.Later.{IsLater, pass_in, Advanced, HaveAdvanced}
+use Rattle.party_threads.specs.Tracks.{Watcher, knowing, IsPassOf, Tracks, HaveSeenAll, IsSameElsewhere, IsWatcherPlace}
 
 -- Later.
 
@@ -25,18 +25,18 @@ later_more p q r a b = (
       ∙ (λ i. record { lock = p.lock; deal = p.deal; arc = p.arc; party = p.party; shared = p.shared; seen = append_assoc p.seen a.0 b.0 i })),
 )
 
-pub went_self : (p : Option PassState) → WentOn p p
+pub went_self : (p : Option PassState) → Advanced p p
 went_self None = refl
 went_self (Some p) = (p, refl, later_self p p refl)
 
-pub went_more : (p q r : Option PassState) → WentOn p q → WentOn q r → WentOn p r
-went_more None q r a b = subst (λ x. WentOn x r) a b
-went_more (Some p) q r a b = let c = subst (λ x. WentOn x r) a.1 b in (c.0, c.1, later_more p a.0 c.0 a.2 c.2)
+pub went_more : (p q r : Option PassState) → Advanced p q → Advanced q r → Advanced p r
+went_more None q r a b = subst (λ x. Advanced x r) a b
+went_more (Some p) q r a b = let c = subst (λ x. Advanced x r) a.1 b in (c.0, c.1, later_more p a.0 c.0 a.2 c.2)
 
-pub none_went : (ps : List (Option PassState)) → HaveGoneOn ps ps
+pub none_went : (ps : List (Option PassState)) → HaveAdvanced ps ps
 none_went ps a = went_self (pass_in ps a)
 
-pub all_more : (ps qs rs : List (Option PassState)) → HaveGoneOn ps qs → HaveGoneOn qs rs → HaveGoneOn ps rs
+pub all_more : (ps qs rs : List (Option PassState)) → HaveAdvanced ps qs → HaveAdvanced qs rs → HaveAdvanced ps rs
 all_more ps qs rs a b c = went_more (pass_in ps c) (pass_in qs c) (pass_in rs c) (a c) (b c)
 
 -- By place.
@@ -58,25 +58,25 @@ pub put_is : (ps : List (Option PassState)) (a b : ℕ) (q r : PassState) → a 
 put_is ps a b q r l same e = same_Some _ _ (sym (pass_same ps a (Some q) l) ∙ subst (λ z. pass_in (set ps a (Some q)) z ≡ Some r) same e)
 
 -- one more has gone on
-pub one_went : (ps qs : List (Option PassState)) (a : ℕ) (q : Option PassState) → a < length qs → HaveGoneOn ps qs → WentOn (pass_in qs a) q
-    → HaveGoneOn ps (set qs a q)
+pub one_went : (ps qs : List (Option PassState)) (a : ℕ) (q : Option PassState) → a < length qs → HaveAdvanced ps qs → Advanced (pass_in qs a) q
+    → HaveAdvanced ps (set qs a q)
 one_went ps qs a q below all here b = go (same_or_not b a)
   where
-    go : (b ≡ a) ⊎ (b ≢ a) → WentOn (pass_in ps b) (pass_in (set qs a q) b)
+    go : (b ≡ a) ⊎ (b ≢ a) → Advanced (pass_in ps b) (pass_in (set qs a q) b)
     go (inl e) =
-        subst (λ z. WentOn (pass_in ps z) (pass_in (set qs a q) z)) (sym e)
-        (subst (WentOn (pass_in ps a)) (sym (pass_same qs a q below)) (went_more (pass_in ps a) (pass_in qs a) q (all a) here))
-    go (inr n) = subst (WentOn (pass_in ps b)) (sym (pass_other qs a b q n)) (all b)
+        subst (λ z. Advanced (pass_in ps z) (pass_in (set qs a q) z)) (sym e)
+        (subst (Advanced (pass_in ps a)) (sym (pass_same qs a q below)) (went_more (pass_in ps a) (pass_in qs a) q (all a) here))
+    go (inr n) = subst (Advanced (pass_in ps b)) (sym (pass_other qs a b q n)) (all b)
 
 -- What a party's passes have seen.
 
-pass_place : (w : Watcher) (lock : TableId) (a : ℕ) (p : Option PassState) → ((r : PassState) → p ≡ Some r → IsPassOf w lock a r) → IsPlaceOf w lock a p
+pass_place : (w : Watcher) (lock : TableId) (a : ℕ) (p : Option PassState) → ((r : PassState) → p ≡ Some r → IsPassOf w lock a r) → IsWatcherPlace w lock a p
 pass_place w lock a None h = tt
 pass_place w lock a (Some r) h = h r refl
 
-pub place_of : (ledgers : List SharedState) (w : Watcher) (ps : List (Option PassState)) (a : ℕ) (s : SharedState) → Tracks ledgers w ps → a < length ps
-    → s ≡ slice_index_or ledgers a s → IsPlaceOf w s.lock a (pass_in ps a)
-place_of ledgers w ps a s t l is = pass_place w s.lock a (pass_in ps a) (λ r e. t.each a s r l is e)
+pub find_place : (ledgers : List SharedState) (w : Watcher) (ps : List (Option PassState)) (a : ℕ) (s : SharedState) → Tracks ledgers w ps → a < length ps
+    → s ≡ slice_index_or ledgers a s → IsWatcherPlace w s.lock a (pass_in ps a)
+find_place ledgers w ps a s t l is = pass_place w s.lock a (pass_in ps a) (λ r e. t.each a s r l is e)
 
 shared_at : (ledgers : List SharedState) (a : ℕ) → a < length ledgers → (s : SharedState) × (s ≡ slice_index_or ledgers a s)
 shared_at [] a lt = absurd (omega (arith, lt))
@@ -125,30 +125,30 @@ module _ (ledgers : List SharedState) (w : Watcher) (ps : List (Option PassState
 abbrev pub HaveSeenBelow : ℕ → List (Option PassState) → Type 0
 HaveSeenBelow k ps = (a : ℕ) (p : PassState) → a < k → pass_in ps a ≡ Some p → IsPrefix p.shared p.seen
 
-seen_at : (k : ℕ) (ps : List (Option PassState)) (a b : ℕ) (q r : PassState) → a < length ps → IsPrefix q.shared q.seen
+seen_count : (k : ℕ) (ps : List (Option PassState)) (a b : ℕ) (q r : PassState) → a < length ps → IsPrefix q.shared q.seen
     → ((b ≢ a) → HaveSeenBelow k ps × (b < k)) → pass_in (set ps a (Some q)) b ≡ Some r → (b ≡ a) ⊎ (b ≢ a) → IsPrefix r.shared r.seen
-seen_at k ps a b q r below whole f e (inl same) = subst (λ (x : PassState). IsPrefix x.shared x.seen) (put_is ps a b q r below same e) whole
-seen_at k ps a b q r below whole f e (inr apart) = (f apart).0 b r (f apart).1 (sym (pass_other ps a b (Some q) apart) ∙ e)
+seen_count k ps a b q r below whole f e (inl same) = subst (λ (x : PassState). IsPrefix x.shared x.seen) (put_is ps a b q r below same e) whole
+seen_count k ps a b q r below whole f e (inr apart) = (f apart).0 b r (f apart).1 (sym (pass_other ps a b (Some q) apart) ∙ e)
 
 -- one more of them
-pub seen_on : (k : ℕ) (ps : List (Option PassState)) (q : PassState) → k < length ps → HaveSeenBelow k ps → IsPrefix q.shared q.seen
+pub first_seen_arc : (k : ℕ) (ps : List (Option PassState)) (q : PassState) → k < length ps → HaveSeenBelow k ps → IsPrefix q.shared q.seen
     → HaveSeenBelow (k + 1) (set ps k (Some q))
-seen_on k ps q below all whole b r lt e = seen_at k ps k b q r below whole (λ apart. (all, omega (arith, lt, apart))) e (same_or_not b k)
+first_seen_arc k ps q below all whole b r lt e = seen_count k ps k b q r below whole (λ apart. (all, omega (arith, lt, apart))) e (same_or_not b k)
 
 -- one of them again
 pub seen_again : (ps : List (Option PassState)) (a : ℕ) (q : PassState) → a < length ps → HaveSeenAll ps → IsPrefix q.shared q.seen
     → HaveSeenAll (set ps a (Some q))
 seen_again ps a q below all whole b r lt e =
     let lt1 : b < length ps = subst (λ z. b < z) (length-set ps a (Some q)) lt in
-    seen_at (length ps) ps a b q r below whole (λ apart. (all, lt1)) e (same_or_not b a)
+    seen_count (length ps) ps a b q r below whole (λ apart. (all, lt1)) e (same_or_not b a)
 
 -- what is known of the arc of a pass changes nothing elsewhere
-pub elsewhere_on : (ps qs : List (Option PassState)) (old new : Histories) (a : ℕ) (p : PassState) (h : List Entry) → HaveGoneOn ps qs → pass_in qs a ≡ Some p
+pub elsewhere_on : (ps qs : List (Option PassState)) (old new : Histories) (a : ℕ) (p : PassState) (h : List Entry) → HaveAdvanced ps qs → pass_in qs a ≡ Some p
     → IsSameElsewhere ps old new → IsSameElsewhere ps old (set new a h)
 elsewhere_on ps qs old new a p h gone here all b none = go (same_or_not b a)
   where
     still : pass_in qs b ≡ None
-    still = subst (λ x. WentOn x (pass_in qs b)) none (gone b)
+    still = subst (λ x. Advanced x (pass_in qs b)) none (gone b)
 
     go : (b ≡ a) ⊎ (b ≢ a) → history (set new a h) b ≡ history old b
     go (inl same) = absurd (none-some _ (sym (subst (λ z. pass_in qs z ≡ None) same still) ∙ here))

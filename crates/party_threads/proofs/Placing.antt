@@ -10,15 +10,15 @@ use Rattle.atomic_table.specs.Seated.{TableId}
 use Rattle.swap_digraph.specs.declared.deal.Deal.{Deal}
 use Rattle.swap_digraph.specs.Deal.{party, counterparty, touches, IsWellSized}
 use Rattle.ledger_core.specs.declared.entry.Entry.{Entry}
-use Rattle.ledger_core.specs.History.{sent_by, IsLegal}
+use Rattle.ledger_core.specs.History.{is_sender, IsLegal}
 use Rattle.ledger_core.specs.Value.{LedgerState}
-use Rattle.ledger_shared.specs.Value.{PassState, ClockState, SharedState, made_by, pass_at, clock_at, Closes, ClosesClock}
+use Rattle.ledger_shared.specs.Value.{PassState, ClockState, SharedState, party_made, pass_at, table_clock, Closes, ClosesClock}
 use Rattle.swap_rules.specs.Machine.{Knows}
 use Rattle.swap_world.specs.Inside.{IsLedgerOf}
 use Rattle.party_threads.specs.declared.turn.Actor.{Actor}
 use Rattle.party_threads.specs.declared.turn.Turn.{Turn}
 use Rattle.party_threads.specs.Later.{pass_in, clock_in}
-use Rattle.party_threads.specs.Turns.{actor_of, passes_of, clocks_of, actor_at, held_at, clock_held_at, ledger_at, started, IsBehind, AreBehind, AreHome}
+use Rattle.party_threads.specs.Turns.{new_actor, passes_of, clocks_of, actor_at, held_at, clock_held_at, arc_ledger, started, IsBehind, AreBehind, AreHome}
 use Rattle.party_threads.specs.Turns.{AreFreeAt, AreFree, dealt_to, dealt_in, clock_dealt_in, AreDealt, IsAt, IsSet, AreSet, IsClosed, IsShut, IsSameShape}
 use Rattle.party_threads.specs.Turns.{IsPut, IsClockPut, IsSameBut}
 use Rattle.party_threads.proofs.Sharing.{home_at, dealt_near, dealt_far}
@@ -69,20 +69,20 @@ drop_own (x ∷ k) rest = drop_own k rest
 pub take_known : (v n : ℕ) (k h : List Entry) → Knows v k h → n ≡ length k → take n h ≡ k
 take_known v n k h knows is = ap (λ m. take m h) is ∙ (ap (take (length k)) knows.whole ∙ take_own k knows.rest)
 
-pub drop_known : (v n : ℕ) (k h : List Entry) → Knows v k h → n ≡ length k → (n ≤ length h) × (made_by v (drop n h) ≡ [])
+pub drop_known : (v n : ℕ) (k h : List Entry) → Knows v k h → n ≡ length k → (n ≤ length h) × (party_made v (drop n h) ≡ [])
 drop_known v n k h knows is =
     let whole : length h ≡ length k + length knows.rest = ap length knows.whole ∙ length-append k knows.rest in (
       omega (arith, whole, is),
-      ap (made_by v) (ap (λ m. drop m h) is ∙ (ap (drop (length k)) knows.whole ∙ drop_own k knows.rest))
-          ∙ none_pass (λ (e : Entry). sent_by v e.sender) knows.rest knows.others,
+      ap (party_made v) (ap (λ m. drop m h) is ∙ (ap (drop (length k)) knows.whole ∙ drop_own k knows.rest))
+          ∙ none_pass (λ (e : Entry). is_sender v e.sender) knows.rest knows.others,
     )
 
 -- One end of an arc, as its ledger is shared: what its pass has seen is what it knows.
 module _ (d : Deal) (a : ℕ) (l : LedgerState) (home : IsLedgerOf d a l) (side : Deal → ℕ → ℕ) (x : Actor) (n w : ℕ) where
   pub share_at : IsBehind x (side d a) a l.history → w ≡ length l.history → ((h : List Entry) → length h ≡ w → n ≡ length (started x a h))
-      → (n ≤ length l.history) × (made_by (side l.deal l.arc) (drop n l.history) ≡ [])
+      → (n ≤ length l.history) × (party_made (side l.deal l.arc) (drop n l.history) ≡ [])
   share_at behind whole seen =
-      subst (λ u. (n ≤ length l.history) × (made_by u (drop n l.history) ≡ [])) (λ i. side (sym home.deal i) (sym home.arc i))
+      subst (λ u. (n ≤ length l.history) × (party_made u (drop n l.history) ≡ [])) (λ i. side (sym home.deal i) (sym home.arc i))
       (drop_known (side d a) n (started x a l.history) l.history behind (seen l.history (sym whole)))
 
   pub pass_as : (lock : TableId) → IsBehind x (side d a) a l.history → w ≡ length l.history → ((h : List Entry) → length h ≡ w → n ≡ length (started x a h))
@@ -117,7 +117,7 @@ module _ (ts us : List Turn) (v : ℕ) (t u : Turn) (below : v < length ts) (the
   is_put a p actor clocks passes lt = record {
     shape = record {
       number = number;
-      actors = kept actor_of actor;
+      actors = kept new_actor actor;
       places = kept (λ o. length (passes_of o)) (ap length passes ∙ length-set t.passes.items a p);
       clock_places = kept (λ o. length (clocks_of o)) (ap length clocks);
     };
@@ -132,7 +132,7 @@ module _ (ts us : List Turn) (v : ℕ) (t u : Turn) (below : v < length ts) (the
   is_clock_put a p actor passes clocks lt = record {
     shape = record {
       number = number;
-      actors = kept actor_of actor;
+      actors = kept new_actor actor;
       places = kept (λ o. length (passes_of o)) (ap length passes);
       clock_places = kept (λ o. length (clocks_of o)) (ap length clocks ∙ length-set t.clocks.items a p);
     };
@@ -324,7 +324,7 @@ pub record IsDealing (d : Deal) (ls0 : List (Option LedgerState)) (ts0 : List Tu
   pub many : length shared ≡ k
   pub within : k ≤ length d.graph.arcs
   pub number : length ls ≡ length ls0
-  pub left : (a : ℕ) → k ≤ a → ledger_at ls a ≡ ledger_at ls0 a
+  pub left : (a : ℕ) → k ≤ a → arc_ledger ls a ≡ arc_ledger ls0 a
 
 pub deal_begins : (d : Deal) (ls : List (Option LedgerState)) (ts : List Turn) (k : ℕ) (shared : List SharedState) → k ≡ 0 → shared ≡ [] → AreFree d ts
     → IsDealing d ls ts k ls ts shared
@@ -351,30 +351,30 @@ module _ (d : Deal) (ls0 : List (Option LedgerState)) (ts0 : List Turn) (k : ℕ
   nothing_at : slice_get locks k ≡ None
   nothing_at = subst (λ j. slice_get locks j ≡ None) count (get_past locks)
 
-  pub there_still : AreHome d ls0 → (l : LedgerState) × (ledger_at ls k ≡ Some l)
+  pub there_still : AreHome d ls0 → (l : LedgerState) × (arc_ledger ls k ≡ Some l)
   there_still home = let l = home_at d ls0 k home below in (l.0, i.left k (omega arith) ∙ l.1)
 
-  pub is_home : AreHome d ls0 → (l : LedgerState) → ledger_at ls k ≡ Some l → IsLedgerOf d k l
+  pub is_home : AreHome d ls0 → (l : LedgerState) → arc_ledger ls k ≡ Some l → IsLedgerOf d k l
   is_home home l at =
       let h = home_at d ls0 k home below in
       subst (IsLedgerOf d k) (same_Some _ _ (sym h.1 ∙ (sym (i.left k (omega arith)) ∙ at))) h.2
 
-  pub was_home : (l : LedgerState) → ledger_at ls k ≡ Some l → ledger_at ls0 k ≡ Some l
+  pub was_home : (l : LedgerState) → arc_ledger ls k ≡ Some l → arc_ledger ls0 k ≡ Some l
   was_home l at = sym (i.left k (omega arith)) ∙ at
 
-  pub behind_still : AreBehind d ts0 ls0 → (l : LedgerState) → ledger_at ls k ≡ Some l → (v : ℕ) → v < d.graph.n → IsBehind (actor_at ts v) v k l.history
+  pub behind_still : AreBehind d ts0 ls0 → (l : LedgerState) → arc_ledger ls k ≡ Some l → (v : ℕ) → v < d.graph.n → IsBehind (actor_at ts v) v k l.history
   behind_still behind l at v lv = subst (λ x. IsBehind x v k l.history) (sym (i.shape.actors v)) (behind v k l lv below (was_home l at))
 
   pub free_still : AreFreeAt d ts k
   free_still = record {
-    passes = λ v lv. i.dealt.passes v k lv below ∙ ap (λ o. dealt_in (actor_at ts v) v o (ledger_at ls0 k)) nothing_at;
-    clock = i.dealt.clocks k below ∙ ap (λ o. clock_dealt_in o (ledger_at ls0 k)) nothing_at;
+    passes = λ v lv. i.dealt.passes v k lv below ∙ ap (λ o. dealt_in (actor_at ts v) v o (arc_ledger ls0 k)) nothing_at;
+    clock = i.dealt.clocks k below ∙ ap (λ o. clock_dealt_in o (arc_ledger ls0 k)) nothing_at;
   }
 
-  module _ (ls' : List (Option LedgerState)) (ts' : List Turn) (shared' : List SharedState) (l : LedgerState) (s : SharedState) (at : ledger_at ls k ≡ Some l)
-      (many : length ls' ≡ length ls) (left : (a : ℕ) → a ≢ k → ledger_at ls' a ≡ ledger_at ls a)
+  module _ (ls' : List (Option LedgerState)) (ts' : List Turn) (shared' : List SharedState) (l : LedgerState) (s : SharedState) (at : arc_ledger ls k ≡ Some l)
+      (many : length ls' ≡ length ls) (left : (a : ℕ) → a ≢ k → arc_ledger ls' a ≡ arc_ledger ls a)
       (dealt : (v : ℕ) → v < d.graph.n → held_at ts' v k ≡ dealt_to (actor_at ts v) v s.lock l)
-      (clock : clock_held_at ts' d.graph.n k ≡ Some (clock_at s.lock l)) (others : IsSameBut k ts ts') (is : shared' ≡ shared ++ s ∷ []) where
+      (clock : clock_held_at ts' d.graph.n k ≡ Some (table_clock s.lock l)) (others : IsSameBut k ts ts') (is : shared' ≡ shared ++ s ∷ []) where
     locks_now : map (λ (x : SharedState). x.lock) shared' ≡ locks ++ s.lock ∷ []
     locks_now = ap (map (λ (x : SharedState). x.lock)) is ∙ map_append (λ (x : SharedState). x.lock) shared (s ∷ [])
 
@@ -385,30 +385,30 @@ module _ (d : Deal) (ls0 : List (Option LedgerState)) (ts0 : List Turn) (k : ℕ
     lock_before a n = get_other locks s.lock a (λ e. n (e ∙ count))
 
     abbrev Here : ℕ → ℕ → Type 0
-    Here v a = held_at ts' v a ≡ dealt_in (actor_at ts' v) v (slice_get (locks ++ s.lock ∷ []) a) (ledger_at ls0 a)
+    Here v a = held_at ts' v a ≡ dealt_in (actor_at ts' v) v (slice_get (locks ++ s.lock ∷ []) a) (arc_ledger ls0 a)
 
     here_now : (v : ℕ) → v < d.graph.n → Here v k
     here_now v lv =
-        dealt v lv ∙ sym (ap (λ o. dealt_in (actor_at ts' v) v o (ledger_at ls0 k)) lock_last
+        dealt v lv ∙ sym (ap (λ o. dealt_in (actor_at ts' v) v o (arc_ledger ls0 k)) lock_last
         ∙ (ap (dealt_in (actor_at ts' v) v (Some s.lock)) (was_home l at) ∙ ap (λ x. dealt_to x v s.lock l) (others.shape.actors v)))
 
     there_now : (v a : ℕ) → v < d.graph.n → a < length d.graph.arcs → a ≢ k → Here v a
     there_now v a lv lt n =
-        others.held v a n ∙ (i.dealt.passes v a lv lt ∙ (ap (λ o. dealt_in (actor_at ts v) v o (ledger_at ls0 a)) (sym (lock_before a n))
-        ∙ ap (λ x. dealt_in x v (slice_get (locks ++ s.lock ∷ []) a) (ledger_at ls0 a)) (sym (others.shape.actors v))))
+        others.held v a n ∙ (i.dealt.passes v a lv lt ∙ (ap (λ o. dealt_in (actor_at ts v) v o (arc_ledger ls0 a)) (sym (lock_before a n))
+        ∙ ap (λ x. dealt_in x v (slice_get (locks ++ s.lock ∷ []) a) (arc_ledger ls0 a)) (sym (others.shape.actors v))))
 
     at_now : (v a : ℕ) → v < d.graph.n → a < length d.graph.arcs → (a ≡ k) ⊎ (a ≢ k) → Here v a
     at_now v a lv lt (inl e) = subst (Here v) (sym e) (here_now v lv)
     at_now v a lv lt (inr n) = there_now v a lv lt n
 
     abbrev Clocked : ℕ → Type 0
-    Clocked a = clock_held_at ts' d.graph.n a ≡ clock_dealt_in (slice_get (locks ++ s.lock ∷ []) a) (ledger_at ls0 a)
+    Clocked a = clock_held_at ts' d.graph.n a ≡ clock_dealt_in (slice_get (locks ++ s.lock ∷ []) a) (arc_ledger ls0 a)
 
     clock_now : (a : ℕ) → a < length d.graph.arcs → (a ≡ k) ⊎ (a ≢ k) → Clocked a
     clock_now a lt (inl e) =
-        subst Clocked (sym e) (clock ∙ sym (ap (λ o. clock_dealt_in o (ledger_at ls0 k)) lock_last ∙ ap (clock_dealt_in (Some s.lock)) (was_home l at)))
+        subst Clocked (sym e) (clock ∙ sym (ap (λ o. clock_dealt_in o (arc_ledger ls0 k)) lock_last ∙ ap (clock_dealt_in (Some s.lock)) (was_home l at)))
     clock_now a lt (inr n) =
-        others.clocks d.graph.n a n ∙ (i.dealt.clocks a lt ∙ ap (λ o. clock_dealt_in o (ledger_at ls0 a)) (sym (lock_before a n)))
+        others.clocks d.graph.n a n ∙ (i.dealt.clocks a lt ∙ ap (λ o. clock_dealt_in o (arc_ledger ls0 a)) (sym (lock_before a n)))
 
     pub deal_goes_on : IsDealing d ls0 ts0 (k + 1) ls' ts' shared'
     deal_goes_on = record {
@@ -430,7 +430,7 @@ pub record IsClosing (d : Deal) (ts0 : List Turn) (all rest : List SharedState) 
   pub gone : List SharedState
   pub whole : rest ++ gone ≡ all
   pub number : length ls ≡ length d.graph.arcs
-  pub shut : (a : ℕ) → length rest ≤ a → a < length d.graph.arcs → IsShut d ts0 a (ledger_at ls a)
+  pub shut : (a : ℕ) → length rest ≤ a → a < length d.graph.arcs → IsShut d ts0 a (arc_ledger ls a)
   pub free : (a : ℕ) → length rest ≤ a → a < length d.graph.arcs → AreFreeAt d ts a
   pub left : (v a : ℕ) → a < length rest → held_at ts v a ≡ held_at ts0 v a
   pub clocks : (v a : ℕ) → a < length rest → clock_held_at ts v a ≡ clock_held_at ts0 v a
@@ -477,8 +477,8 @@ module _ (d : Deal) (ts0 : List Turn) (all rest rest' : List SharedState) (ls : 
 
   module _ (ls' : List (Option LedgerState)) (ts' : List Turn) (l : LedgerState) (closed : IsClosed d ts (length rest') l)
       (free : AreFreeAt d ts' (length rest'))
-      (others : IsSameBut (length rest') ts ts') (at : ledger_at ls' (length rest') ≡ Some l) (number : length ls' ≡ length ls)
-      (left : (a : ℕ) → a ≢ length rest' → ledger_at ls' a ≡ ledger_at ls a) where
+      (others : IsSameBut (length rest') ts ts') (at : arc_ledger ls' (length rest') ≡ Some l) (number : length ls' ≡ length ls)
+      (left : (a : ℕ) → a ≢ length rest' → arc_ledger ls' a ≡ arc_ledger ls a) where
     shut_here : IsClosed d ts0 (length rest') l
     shut_here =
         let lt : length rest' < length rest = let n = longer in omega (arith, n) in
@@ -488,8 +488,8 @@ module _ (d : Deal) (ts0 : List Turn) (all rest rest' : List SharedState) (ls : 
           clock = λ p e. closed.clock p (i.clocks d.graph.n (length rest') lt ∙ e);
         }
 
-    shut_now : (a : ℕ) → length rest' ≤ a → a < length d.graph.arcs → (a ≡ length rest') ⊎ (a ≢ length rest') → IsShut d ts0 a (ledger_at ls' a)
-    shut_now a le lt (inl e) = subst (λ b. IsShut d ts0 b (ledger_at ls' b)) (sym e) (subst (IsShut d ts0 (length rest')) (sym at) shut_here)
+    shut_now : (a : ℕ) → length rest' ≤ a → a < length d.graph.arcs → (a ≡ length rest') ⊎ (a ≢ length rest') → IsShut d ts0 a (arc_ledger ls' a)
+    shut_now a le lt (inl e) = subst (λ b. IsShut d ts0 b (arc_ledger ls' b)) (sym e) (subst (IsShut d ts0 (length rest')) (sym at) shut_here)
     shut_now a le lt (inr n) = subst (IsShut d ts0 a) (sym (left a n)) (i.shut a (let m = longer in omega (arith, m, le, n)) lt)
 
     free_now : (a : ℕ) → length rest' ≤ a → a < length d.graph.arcs → (a ≡ length rest') ⊎ (a ≢ length rest') → AreFreeAt d ts' a

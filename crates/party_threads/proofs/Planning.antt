@@ -25,17 +25,17 @@ use Rattle.swap_rules.proofs.Prefixes.{same_or_not}
 use Rattle.swap_rules.proofs.Conducting.{Next, next_call, next_legal, next_begins, history_same, history_other}
 use Rattle.swap_run.specs.Run.{Plan, plan_up_to}
 use Rattle.swap_world.specs.Gone.{MayGive}
-use Rattle.party_threads.specs.Later.{pass_in, WentOn, HaveGoneOn}
-use Rattle.party_threads.specs.Tracks.{Watcher, Tracks, HaveSeenAll, HasItsPasses, IsPlaceOf, HasMade, MadeIf, LookedIf}
-use Rattle.party_threads.specs.Played.{planner_of, calls_by, answer_on, HaveFresh, HaveGrown, IsAnswered, HasMadeCall, HasPlayed}
-use Rattle.party_threads.proofs.Passes.{any_default, place_of, tracks_on, seen_of}
+use Rattle.party_threads.specs.Later.{pass_in, Advanced, HaveAdvanced}
+use Rattle.party_threads.specs.Tracks.{Watcher, Tracks, HaveSeenAll, HasItsPasses, IsWatcherPlace, HasMade, MadeIf, LookedIf}
+use Rattle.party_threads.specs.Played.{party_planner, calls_by, answer_on, HaveFresh, HaveGrown, IsAnswered, HasMadeCall, HasPlayed}
+use Rattle.party_threads.proofs.Passes.{any_default, find_place, tracks_on, seen_of}
 use Rattle.party_threads.proofs.Looking.{IsLooking}
 use Rattle.party_threads.proofs.Calls.{others_add_none, few, none_more, one_more}
 
 -- After its looks.
 
 pub view_after : (d : Deal) (v : ℕ) (ledgers : List SharedState) (n m : Plan) (ps qs : List (Option PassState)) (k : ℕ) → IsView d v n.known
-    → HasItsPasses d v ps → length ps ≡ length d.graph.arcs → IsLooking ledgers (planner_of d v n) ps k (planner_of d v m) qs → IsView d v m.known
+    → HasItsPasses d v ps → length ps ≡ length d.graph.arcs → IsLooking ledgers (party_planner d v n) ps k (party_planner d v m) qs → IsView d v m.known
 view_after d v ledgers n m ps qs k view passes places h = record {
   sized = view.sized;
   party = view.party;
@@ -47,7 +47,7 @@ view_after d v ledgers n m ps qs k view passes places h = record {
 }
 
 -- a look leaves the moves and the turns
-pub rest_after : (d : Deal) (v : ℕ) (n m : Plan) (a : ℕ) (o q : Option PassState) → LookedIf (planner_of d v n) (plan_up_to n a) a n o m q
+pub rest_after : (d : Deal) (v : ℕ) (n m : Plan) (a : ℕ) (o q : Option PassState) → LookedIf (party_planner d v n) (plan_up_to n a) a n o m q
     → (m.moves ≡ n.moves) × (m.turns ≡ n.turns)
 rest_after d v n m a None q l = (ap (λ (x : Plan). x.moves) l.0, ap (λ (x : Plan). x.turns) l.0)
 rest_after d v n m a (Some p) q l = (ap (λ (x : Plan). x.moves) l.2.knows, ap (λ (x : Plan). x.turns) l.2.knows)
@@ -85,7 +85,7 @@ grows_self k a = ([], sym (append-nil (history k a)))
 
 -- What a call of an answer leaves.
 pub record HasDone (ledgers : List SharedState) (d : Deal) (v : ℕ) (answer : Option (ℕ × Call)) (n m : Plan) (qs : List (Option PassState)) : Type 0 where
-  pub tracks : Tracks ledgers (planner_of d v m) qs
+  pub tracks : Tracks ledgers (party_planner d v m) qs
   pub view : IsView d v m.known
   pub grown : HaveGrown n.known m.known
   pub called : HasMadeCall d v answer n.known m.known
@@ -93,8 +93,8 @@ pub record HasDone (ledgers : List SharedState) (d : Deal) (v : ℕ) (answer : O
   pub turns : m.turns ≡ n.turns
 
 module _ (ledgers : List SharedState) (d : Deal) (v : ℕ) (n m : Plan) (ps : List (Option PassState)) (a : ℕ) (c : Call) (p q : PassState)
-    (view : IsView d v n.known) (tracks : Tracks ledgers (planner_of d v n) ps) (is : IsAnswerOf d v (a, c)) (here : pass_in ps a ≡ Some p)
-    (made : HasMade (planner_of d v n) (plan_up_to n a) a c p m q) where
+    (view : IsView d v n.known) (tracks : Tracks ledgers (party_planner d v n) ps) (is : IsAnswerOf d v (a, c)) (here : pass_in ps a ≡ Some p)
+    (made : HasMade (party_planner d v n) (plan_up_to n a) a c p m q) where
   below : a < length n.known
   below = subst (λ z. a < z) (sym view.legal.one_each) is.arc
 
@@ -151,7 +151,7 @@ module _ (ledgers : List SharedState) (d : Deal) (v : ℕ) (n m : Plan) (ps : Li
 
   done_is : HasDone ledgers d v (Some (a, c)) n (plan_up_to n a h) (set ps a (Some q))
   done_is = record {
-    tracks = tracks_on ledgers (planner_of d v n) ps a p q h tracks place below here made.pass made.seen;
+    tracks = tracks_on ledgers (party_planner d v n) ps a p q h tracks place below here made.pass made.seen;
     view = record { sized = view.sized; party = view.party; legal = legal; far = far };
     grown = λ b. grown_at b (same_or_not b a);
     called = λ b lt. called_at b lt (same_or_not b a);
@@ -164,18 +164,20 @@ module _ (ledgers : List SharedState) (d : Deal) (v : ℕ) (n m : Plan) (ps : Li
 
 -- the same through the pass at a place
 pub done_at : (ledgers : List SharedState) (d : Deal) (v : ℕ) (n m : Plan) (ps : List (Option PassState)) (a : ℕ) (c : Call) (q : Option PassState)
-    → IsView d v n.known → Tracks ledgers (planner_of d v n) ps → IsAnswerOf d v (a, c) → MadeIf (planner_of d v n) (plan_up_to n a) a c (pass_in ps a) m q
+    → IsView d v n.known → Tracks ledgers (party_planner d v n) ps → IsAnswerOf d v (a, c)
+    → MadeIf (party_planner d v n) (plan_up_to n a) a c (pass_in ps a) m q
     → HasDone ledgers d v (Some (a, c)) n m (set ps a q)
 done_at ledgers d v n m ps a c q view tracks is made = go (pass_in ps a) refl made
   where
-    go : (o : Option PassState) → pass_in ps a ≡ o → MadeIf (planner_of d v n) (plan_up_to n a) a c o m q → HasDone ledgers d v (Some (a, c)) n m (set ps a q)
+    go : (o : Option PassState) → pass_in ps a ≡ o → MadeIf (party_planner d v n) (plan_up_to n a) a c o m q
+        → HasDone ledgers d v (Some (a, c)) n m (set ps a q)
     go None here l = absurd l
     go (Some p) here l =
         subst (λ z. HasDone ledgers d v (Some (a, c)) n m (set ps a z)) (sym l.1) (has_done ledgers d v n m ps a c p l.0 view tracks is here l.2)
 
 -- A call of an answer is about to be made.
 module _ (ledgers : List SharedState) (d : Deal) (v : ℕ) (n : Plan) (ps : List (Option PassState)) (o : Option (ℕ × Call)) (a : ℕ) (c : Call)
-    (may : MayAnswer d v o) (view : IsView d v n.known) (tracks : Tracks ledgers (planner_of d v n) ps) (is : o ≡ Some (a, c)) where
+    (may : MayAnswer d v o) (view : IsView d v n.known) (tracks : Tracks ledgers (party_planner d v n) ps) (is : o ≡ Some (a, c)) where
   can : IsAnswerOf d v (a, c)
   can = may (a, c) is
 
@@ -196,16 +198,18 @@ module _ (ledgers : List SharedState) (d : Deal) (v : ℕ) (n : Plan) (ps : List
       let p = passes.near a place_below can.near in
       none-some p.0 (sym none ∙ (any_default ps a r None place_below ∙ p.1))
 
-  pub place_is : (r : Option PassState) (s : SharedState) → s ≡ slice_index_or ledgers a s → IsPlaceOf (planner_of d v n) s.lock a (slice_index_or ps a r)
+  pub place_is : (r : Option PassState) (s : SharedState) → s ≡ slice_index_or ledgers a s
+      → IsWatcherPlace (party_planner d v n) s.lock a (slice_index_or ps a r)
   place_is r s at =
-      subst (IsPlaceOf (planner_of d v n) s.lock a) (any_default ps a None r place_below) (place_of ledgers (planner_of d v n) ps a s tracks place_below at)
+      subst (IsWatcherPlace (party_planner d v n) s.lock a) (any_default ps a None r place_below) (find_place ledgers
+      (party_planner d v n) ps a s tracks place_below at)
 
-  pub has_done_so : (r : Option PassState) (m : Plan) (q : Option PassState) → MadeIf (planner_of d v n) (plan_up_to n a) a c (slice_index_or ps a r) m q
+  pub has_done_so : (r : Option PassState) (m : Plan) (q : Option PassState) → MadeIf (party_planner d v n) (plan_up_to n a) a c (slice_index_or ps a r) m q
       → HasDone ledgers d v o n m (set ps a q)
   has_done_so r m q made =
       subst (λ z. HasDone ledgers d v z n m (set ps a q)) (sym is)
       (done_at ledgers d v n m ps a c q view tracks can
-      (subst (λ x. MadeIf (planner_of d v n) (plan_up_to n a) a c x m q) (any_default ps a r None place_below) made))
+      (subst (λ x. MadeIf (party_planner d v n) (plan_up_to n a) a c x m q) (any_default ps a r None place_below) made))
 
 -- The turn.
 
@@ -216,10 +220,10 @@ fresh_own : (v : ℕ) (old new : Histories) → HaveFresh v old new → (a : ℕ
 fresh_own v old new f a = ap (calls_by v) (f a).1 ∙ others_add_none v (history old a) (f a).0 (f a).2
 
 -- all that was shared with a pass is known once it has seen it
-whole_known : (ledgers : List SharedState) (w : Watcher) (ps qs : List (Option PassState)) → Tracks ledgers w qs → HaveGoneOn ps qs → HaveSeenAll qs
+whole_known : (ledgers : List SharedState) (w : Watcher) (ps qs : List (Option PassState)) → Tracks ledgers w qs → HaveAdvanced ps qs → HaveSeenAll qs
     → length qs ≡ length ps → (a : ℕ) (p : PassState) → a < length ps → pass_in ps a ≡ Some p → IsPrefix p.shared (history w.known a)
 whole_known ledgers w ps qs tracks gone all places a p lt e =
-    let went : WentOn (Some p) (pass_in qs a) = subst (λ o. WentOn o (pass_in qs a)) e (gone a) in
+    let went : Advanced (Some p) (pass_in qs a) = subst (λ o. Advanced o (pass_in qs a)) e (gone a) in
     let lt1 : a < length qs = subst (λ z. a < z) (sym places) lt in
     subst (λ s. IsPrefix s (history w.known a)) (ap (λ (r : PassState). r.shared) went.2.1)
     (subst (IsPrefix went.0.shared) (seen_of ledgers w qs a went.0 tracks lt1 went.1) (all a went.0 lt1 went.1))
@@ -234,7 +238,8 @@ answered_as gives d seeds v view answer n0 n1 n2 n3 Manual m t u h = tt
 
 pub has_played : (gives : MayGive) (ledgers : List SharedState) (d : Deal) (seeds : Seeds) (role : Role) (v : ℕ) (answer : Option (ℕ × Call))
     (n0 n1 n2 n3 : Plan)
-    (ps qs : List (Option PassState)) → Tracks ledgers (planner_of d v n1) qs → HaveGoneOn ps qs → HaveSeenAll qs → length qs ≡ length ps → IsView d v n1.known
+    (ps qs : List (Option PassState)) → Tracks ledgers (party_planner d v n1) qs → HaveAdvanced ps qs → HaveSeenAll qs → length qs ≡ length ps
+    → IsView d v n1.known
     → HaveFresh v n0.known n1.known → n1.moves ≡ n0.moves → n1.turns ≡ n0.turns → IsAnswered gives d seeds v n1.known answer n1 n2 role
     → MayAnswer d v answer → n2.turns ≡ n1.turns + 1 → n2.known ≡ n1.known → HaveGrown n2.known n3.known → HasMadeCall d v answer n2.known n3.known
     → n3.moves ≡ n2.moves → n3.turns ≡ n2.turns → HasPlayed gives d seeds role v ps n0 n3
@@ -245,7 +250,7 @@ has_played gives ledgers d seeds role v answer n0 n1 n2 n3 ps qs tracks gone all
       view = n1.known;
       answer = answer;
       shown = view;
-      whole = whole_known ledgers (planner_of d v n1) ps qs tracks gone all places;
+      whole = whole_known ledgers (party_planner d v n1) ps qs tracks gone all places;
       grows = fresh_grows v n0.known n1.known fresh;
       begins = subst (λ k. HaveGrown k n3.known) same grown;
       own = own;

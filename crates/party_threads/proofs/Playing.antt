@@ -4,10 +4,10 @@ use Rattle.ledger_shared.specs.Value.{PassState, ClockState, SharedState}
 use Rattle.party_machine.specs.Machine.{MachineState, next_due}
 use Rattle.party_threads.specs.Tracks.{Tracks, HaveSeenAll, IsSameElsewhere}
 use Rattle.party_threads.specs.Able.{watcher, IsAble}
-use Rattle.party_threads.specs.Played.{planner_of, HasPlayed}
+use Rattle.party_threads.specs.Played.{party_planner, HasPlayed}
 use Rattle.swap_run.specs.Shown.{IsShown}
 use Rattle.swap_run.specs.Run.{Plan}
-use Rattle.swap_job.specs.Roles.{role_in}
+use Rattle.swap_job.specs.Roles.{job_role}
 use Rattle.swap_job.specs.declared.job.Job.{Job}
 use Rattle.swap_world.specs.Gone.{MayGive}
 use Rattle.party_threads.specs.declared.turn.Actor.{Actor}
@@ -26,11 +26,11 @@ acted_of ledgers m ps n qs able tracks seen rests elsewhere = record {
 }
 
 pub planned_of : (gives : MayGive) (job : Job) (ledgers : List SharedState) (v : ℕ) (n : Plan) (ps : List (Option PassState)) (m : Plan)
-    (qs : List (Option PassState)) → IsShown job.deal job.seeds v m → Tracks ledgers (planner_of job.deal v m) qs
-    → HasPlayed gives job.deal job.seeds (role_in job v) v ps n m → HasPlanned gives job v n ps m qs
+    (qs : List (Option PassState)) → IsShown job.deal job.seeds v m → Tracks ledgers (party_planner job.deal v m) qs
+    → HasPlayed gives job.deal job.seeds (job_role job v) v ps n m → HasPlanned gives job v n ps m qs
 planned_of gives job ledgers v n ps m qs shown tracks played = record {
   shown = shown;
-  seen = λ a p lt e. seen_of ledgers (planner_of job.deal v m) qs a p tracks lt e;
+  seen = λ a p lt e. seen_of ledgers (party_planner job.deal v m) qs a p tracks lt e;
   played = played;
 }
 
@@ -54,11 +54,11 @@ module _ {A E : Type 0} (gives : MayGive) (r : Result A E) (job : Job) (ticks : 
       go (Ok u) a t z f = conforming_did m n is (acted_of ledgers m ps n qs a t z f elsewhere)
       go (Err e) a t z f = tt
 
-  pub planned_on : (n m : Plan) → x ≡ Planned n → OnOk r (IsShown job.deal job.seeds v m) → OnOk r (Tracks ledgers (planner_of job.deal v m) qs)
-      → OnOk r (HasPlayed gives job.deal job.seeds (role_in job v) v ps n m) → OnOk r (Did gives job ticks v ps qs' cs ds x (Planned m))
+  pub planned_on : (n m : Plan) → x ≡ Planned n → OnOk r (IsShown job.deal job.seeds v m) → OnOk r (Tracks ledgers (party_planner job.deal v m) qs)
+      → OnOk r (HasPlayed gives job.deal job.seeds (job_role job v) v ps n m) → OnOk r (Did gives job ticks v ps qs' cs ds x (Planned m))
   planned_on n m is shown tracks played = go r shown tracks played
     where
-      go : (o : Result A E) → OnOk o (IsShown job.deal job.seeds v m) → OnOk o (Tracks ledgers (planner_of job.deal v m) qs)
-          → OnOk o (HasPlayed gives job.deal job.seeds (role_in job v) v ps n m) → OnOk o (Did gives job ticks v ps qs' cs ds x (Planned m))
+      go : (o : Result A E) → OnOk o (IsShown job.deal job.seeds v m) → OnOk o (Tracks ledgers (party_planner job.deal v m) qs)
+          → OnOk o (HasPlayed gives job.deal job.seeds (job_role job v) v ps n m) → OnOk o (Did gives job ticks v ps qs' cs ds x (Planned m))
       go (Ok u) a t z = planned_did n m is (planned_of gives job ledgers v n ps m qs a t z)
       go (Err e) a t z = tt

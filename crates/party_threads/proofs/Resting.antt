@@ -9,7 +9,7 @@ use Rattle.swap_base.proofs.Lists.{first_at, first_of-in, from_range, from_whole
 use Rattle.swap_digraph.specs.declared.deal.Mode.{Mode}
 use Rattle.swap_digraph.specs.declared.deal.Mode.TheVariants.{Timelocks, Hashkeys}
 use Rattle.swap_digraph.specs.declared.deal.Deal.{Deal}
-use Rattle.swap_digraph.specs.Graph.{leaving, entering, is_among}
+use Rattle.swap_digraph.specs.Graph.{leaving, entering, is_listed}
 use Rattle.swap_digraph.specs.Deal.{locks, leads}
 use Rattle.hashkey_path.specs.declared.hashkey.Hashkey.{Hashkey}
 use Rattle.ledger_core.specs.declared.entry.Call.{Call}
@@ -18,9 +18,9 @@ use Rattle.ledger_core.specs.History.{accepted, Opening, opened, is_open, IsLega
 use Rattle.ledger_core.specs.Book.{Histories, history}
 use Rattle.ledger_core.proofs.History.{done_at, opened_done, of_unlock, clear_at, opened-now, is_some-of, lock-below}
 use Rattle.swap_rules.specs.Accepted.{IsAccepted, IsTimed}
-use Rattle.swap_rules.specs.Party.{call_by, key_in, first_key, key_without}
+use Rattle.swap_rules.specs.Party.{pick_call, fetch_key, first_key, key_without}
 use Rattle.swap_rules.specs.Conduct.{has_seen, has_origin, carries, extends_without, is_alone}
-use Rattle.swap_rules.specs.Due.{Wallet, seen_key, extended, due_key, presented, may_unlock, due_unlock_on, due_publishes, due_unlocks, due_claims}
+use Rattle.swap_rules.specs.Due.{Wallet, seen_key, extended, due_key, presented, may_unlock, due_arc_unlock, due_publishes, due_unlocks, due_claims}
 use Rattle.swap_rules.specs.Due.{due_refunds, due}
 use Rattle.swap_rules.specs.Machine.{IsSound}
 use Rattle.swap_rules.proofs.Words.{append_empty, leaves, key_parts}
@@ -64,16 +64,16 @@ module _ (d : Deal) (v : ℕ) (w : Wallet) (k : Histories) where
   -- where nothing is due by some hashkeys, nothing is by others that give none where those give none
   none_either : (s t : ℕ → Option Hashkey) → ((i : ℕ) → i < length d.leaders → due_key d v w (s i) k i ≡ None → due_key d v w (t i) k i ≡ None)
       → due d v w s k ≡ [] → due d v w t k ≡ []
-  unfolding due due_unlock_on
+  unfolding due due_arc_unlock
   none_either s t h e =
       let e1 = append_empty (due_publishes d v k ++ due_unlocks d v w s k ++ due_claims d v k) (due_refunds d v k) e in
       let e2 = append_empty (due_publishes d v k ++ due_unlocks d v w s k) (due_claims d v k) e1.0 in
       let e3 = append_empty (due_publishes d v k) (due_unlocks d v w s k) e2.0 in
       let n = nothing_due d v w s k e in
       let unlocks : due_unlocks d v w t k ≡ [] =
-      none_of_each (λ i. flat_map (due_unlock_on d v w (t i) k i) (entering d.graph v)) (locks d) (λ i j.
+      none_of_each (λ i. flat_map (due_arc_unlock d v w (t i) k i) (entering d.graph v)) (locks d) (λ i j.
       let below : i < length d.leaders = from_range i (length d.leaders) j in
-      none_of_each (due_unlock_on d v w (t i) k i) (entering d.graph v) (λ a l.
+      none_of_each (due_arc_unlock d v w (t i) k i) (entering d.graph v) (λ a l.
       not_presented (may_unlock d v k i a) a (due_key d v w (t i) k i) (λ may. h i below (n.unlock i a below l may)))) in
       λ z. e3.0 z ++ unlocks z ++ e2.1 z ++ e1.1 z
 
@@ -85,14 +85,14 @@ module _ (d : Deal) (v : ℕ) (w : Wallet) (k : Histories) where
     called_is_signed : (i : ℕ) (key : Hashkey) → first_key k v i ≡ Some key → signed i ≡ Some key
     unfolding first_key
     called_is_signed i key e =
-        let f = first_at (λ e. key_in i (call_by v e)) (flat_map (λ h. h) k) key e in
-        let parts = key_parts i (call_by v f.now) key f.gives in
+        let f = first_at (λ e. fetch_key i (pick_call v e)) (flat_map (λ h. h) k) key e in
+        let parts = key_parts i (pick_call v f.now) key f.gives in
         let y = from_whole k f.now (subst (IsIn f.now) (sym f.stands.1) (in_from_moment f.past f.now f.stands.0)) in
         let m = moment_from_in (history k y.0) f.now y.2 in
         subst (λ j. signed j ≡ Some key) parts.1 (sound.rules.own y.0 m.0 f.now (Unlock key) m.1 parts.0).2
 
     -- a known opening by a path without v is one that v may extend
-    by_opening : (a i : ℕ) (o : Opening) → IsIn a (leaving d.graph v) → opened (history k a) i ≡ Some o → is_among v o.key.path ≡ false
+    by_opening : (a i : ℕ) (o : Opening) → IsIn a (leaving d.graph v) → opened (history k a) i ≡ Some o → is_listed v o.key.path ≡ false
         → is_some (seen_key d v k i) ≡ true
     unfolding seen_key
     by_opening a i o l e without =
@@ -113,7 +113,7 @@ module _ (d : Deal) (v : ℕ) (w : Wallet) (k : Histories) where
         subst (λ j. is_open (history k y.0) j ≡ true) lock_is (opened-now (history k y.0) m.0 z.0 p.0 m.1 p.1) in
         let o = is_some-of (opened (history k y.0) i) s in
         let one = opened_key d y.0 (history k y.0) i z.0.height p.0 o.0 legal done lock_is o.1 in
-        by_opening y.0 i o.0 y.1 o.1 (ap (λ z. is_among v z.path) one.0 ∙ p.2)
+        by_opening y.0 i o.0 y.1 o.1 (ap (λ z. is_listed v z.path) one.0 ∙ p.2)
 
     seen_by_timelocks : (i : ℕ) (key : Hashkey) → d.mode ≡ Timelocks → i < length d.leaders → has_seen d k v (carries key.secret) ≡ true
         → is_some (seen_key d v k i) ≡ true
@@ -132,7 +132,7 @@ module _ (d : Deal) (v : ℕ) (w : Wallet) (k : Histories) where
         let o = is_some-of (opened (history k y.0) i) s in
         let u = opened_done d y.0 (history k y.0) i o.0 legal o.1 in
         let of_u = of_unlock d y.0 u.0.past u.0.act.by o.0.key u.0.clear in
-        by_opening y.0 i o.0 y.1 o.1 (ap (is_among v) (no_path d y.0 o.0.key mode of_u.path))
+        by_opening y.0 i o.0 y.1 o.1 (ap (is_listed v) (no_path d y.0 o.0.key mode of_u.path))
 
     -- what v signed for a lock that it doesn't lead extends what it has seen
     seen_of_signed : (i : ℕ) (key : Hashkey) → signed i ≡ Some key → leads d v i ≡ false → is_some (seen_key d v k i) ≡ true

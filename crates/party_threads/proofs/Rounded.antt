@@ -13,31 +13,31 @@ use Rattle.swap_digraph.specs.declared.deal.Deal.{Deal}
 use Rattle.swap_digraph.specs.Deal.{touches}
 use Rattle.escrow_core.specs.declared.reply.Reply.TheVariants.{Accepted}
 use Rattle.ledger_core.specs.declared.entry.Entry.{Entry}
-use Rattle.ledger_core.specs.History.{height, sent_by, IsLegal}
+use Rattle.ledger_core.specs.History.{height, is_sender, IsLegal}
 use Rattle.ledger_core.specs.Ledger.{tick_entry}
 use Rattle.ledger_core.specs.Value.{LedgerState}
 use Rattle.ledger_core.specs.Book.{Histories, history, IsLegalBook}
-use Rattle.ledger_shared.specs.Value.{PassState, made_by, ticks_in_order, clock_at}
-use Rattle.swap_job.specs.Roles.{role_in}
+use Rattle.ledger_shared.specs.Value.{PassState, party_made, ticks_in_order, table_clock}
+use Rattle.swap_job.specs.Roles.{job_role}
 use Rattle.swap_job.specs.declared.job.Job.{Job}
 use Rattle.deviators.proofs.Answering.{leaves, enters}
 use Rattle.party_wallet.specs.Value.{signed_in}
 use Rattle.party_machine.specs.Machine.{MachineState}
-use Rattle.party_machine.specs.Wallet.{wallet_of}
+use Rattle.party_machine.specs.Wallet.{seed_wallet}
 use Rattle.swap_rules.specs.Due.{due, first}
 use Rattle.swap_rules.specs.Machine.{Begins, Knows, IsSound}
 use Rattle.swap_rules.specs.Rounds.{IsNear}
 use Rattle.swap_rules.proofs.Conducting.{knows_all}
 use Rattle.swap_rules.proofs.Prefixes.{begins_refl, begins_more}
 use Rattle.swap_rules.proofs.Growth.{Grows}
-use Rattle.swap_run.specs.Run.{Notes, Plan, State, conforms, is_planned, notes_of, plan_of, next_of}
+use Rattle.swap_run.specs.Run.{Notes, Plan, State, conforms, is_planned, state_notes, party_plan, next_action}
 use Rattle.swap_job.specs.declared.job.Role.{Role}
 use Rattle.party_threads.specs.Played.{calls_by, answer_on, IsAnswered}
 use Rattle.party_threads.specs.Views.{HasPlayed}
 use Rattle.swap_run.specs.Laws.{AreGoodNotes, IsGoodPlan, IsGood}
 use Rattle.swap_run.proofs.Good.{good_notes}
 use Rattle.swap_run.proofs.Plans.{plan_grown}
-use Rattle.swap_world.specs.Cast.{cast_of}
+use Rattle.swap_world.specs.Cast.{job_cast}
 use Rattle.swap_world.specs.Inside.{IsLedgerOf}
 use Rattle.swap_world.specs.Gone.{MayGive}
 use Rattle.swap_world.specs.Acting.{IsSameOwner}
@@ -48,9 +48,9 @@ use Rattle.party_threads.specs.Later.{pass_in}
 use Rattle.party_threads.specs.Ticks.{HaveTicked, Ticked}
 use Rattle.party_threads.specs.Took.{IsSameActor, Did, HasActed, HasPlanned}
 use Rattle.party_threads.specs.Race.{IsRound}
-use Rattle.party_threads.specs.Turns.{passes_of, clocks_of, actor_at, held_at, clock_held_at, ledger_at, started, IsHome, AreHome, HavePlaces, AreFreeAt}
+use Rattle.party_threads.specs.Turns.{passes_of, clocks_of, actor_at, held_at, clock_held_at, arc_ledger, started, IsHome, AreHome, HavePlaces, AreFreeAt}
 use Rattle.party_threads.specs.Turns.{AreDealt, IsClosed, IsShut, IsSameShape}
-use Rattle.party_threads.specs.Standing.{history_in, notes_in, notes_at, plan_in, plan_at, state_of, IsActorOf, IsActorIn, KnowsOwn, Stands}
+use Rattle.party_threads.specs.Standing.{history_in, notes_in, notes_at, plan_in, plan_at, inside_state, IsActorOf, IsActorIn, KnowsOwn, Stands}
 use Rattle.party_threads.proofs.Turning.{none_pass, HasTaken, HasDone, places_kept, places_taken}
 use Rattle.party_threads.proofs.Sharing.{home_at, lock_at, held_near, held_far, clock_is, went_from}
 use Rattle.party_threads.proofs.Seating.{notes_are, plans_are, history_is, wallet_is}
@@ -61,20 +61,21 @@ closed_of d ts a None k = absurd k
 closed_of d ts a (Some l) k = (l, refl, k)
 
 -- a conforming party acts by its machine
-machine_of : (d : Deal) (seed : Option (List ℕ)) (role : Role) (v : ℕ) (x : Actor) (b : Bool) → b ≡ true → IsActorOf d b seed role v x
+make_machine : (d : Deal) (seed : Option (List ℕ)) (role : Role) (v : ℕ) (x : Actor) (b : Bool) → b ≡ true → IsActorOf d b seed role v x
     → (m : MachineState) × (x ≡ Conforming m)
-machine_of d seed role v (Conforming m) b e k = (m, refl)
-machine_of d seed role v (Planned n) b e k = absurd (false≢true (sym k.0 ∙ e))
-machine_of d seed role v Manual b e k = absurd (false≢true (sym k.0 ∙ e))
-machine_of d seed role v Clock b e k = absurd k
+make_machine d seed role v (Conforming m) b e k = (m, refl)
+make_machine d seed role v (Planned n) b e k = absurd (false≢true (sym k.0 ∙ e))
+make_machine d seed role v Manual b e k = absurd (false≢true (sym k.0 ∙ e))
+make_machine d seed role v Clock b e k = absurd k
 
 -- a party that follows a script or a strategy acts by its plan
-planner_of : (d : Deal) (seed : Option (List ℕ)) (role : Role) (v : ℕ) (x : Actor) (b : Bool) → b ≡ false → is_planned role ≡ true → IsActorOf d b seed role v x
+party_planner : (d : Deal) (seed : Option (List ℕ)) (role : Role) (v : ℕ) (x : Actor) (b : Bool) → b ≡ false → is_planned role ≡ true
+    → IsActorOf d b seed role v x
     → (n : Plan) × (x ≡ Planned n)
-planner_of d seed role v (Conforming m) b e p k = absurd (false≢true (sym e ∙ k.0))
-planner_of d seed role v (Planned n) b e p k = (n, refl)
-planner_of d seed role v Manual b e p k = absurd (false≢true (sym k.1 ∙ p))
-planner_of d seed role v Clock b e p k = absurd k
+party_planner d seed role v (Conforming m) b e p k = absurd (false≢true (sym e ∙ k.0))
+party_planner d seed role v (Planned n) b e p k = (n, refl)
+party_planner d seed role v Manual b e p k = absurd (false≢true (sym k.1 ∙ p))
+party_planner d seed role v Clock b e p k = absurd k
 
 -- and the others don't act
 manual_of : (d : Deal) (seed : Option (List ℕ)) (role : Role) (v : ℕ) (x : Actor) (b : Bool) → b ≡ false → is_planned role ≡ false → IsActorOf d b seed role v x
@@ -107,17 +108,17 @@ module _ (gives : MayGive) (job : Job) (ticks : ℕ) (ls ls' : List (Option Ledg
     (s : Stands job ls ts)
     (dealt : AreDealt job.deal ts1 locks ls) (many : length locks ≡ length job.deal.graph.arcs) (shape : IsSameShape ts ts1) (number : length ts2 ≡ length ts1)
     (taken : (v : ℕ) → v < length ts1 → HasTaken (slice_get ts1 v) (slice_get ts2 v)) (wide : length ls' ≡ length job.deal.graph.arcs)
-    (closed : (a : ℕ) → a < length job.deal.graph.arcs → IsShut job.deal ts2 a (ledger_at ls' a))
+    (closed : (a : ℕ) → a < length job.deal.graph.arcs → IsShut job.deal ts2 a (arc_ledger ls' a))
     (free : (a : ℕ) → a < length job.deal.graph.arcs → AreFreeAt job.deal ts3 a) (after : IsSameShape ts2 ts3)
     (done : (v : ℕ) → v < length ts1 → HasDone gives job ticks v (slice_get ts1 v) (slice_get ts2 v)) where
   abbrev d : Deal
   d = job.deal
 
   abbrev old : State
-  old = state_of job ls ts
+  old = inside_state job ls ts
 
   abbrev new : State
-  new = state_of job ls' ts3
+  new = inside_state job ls' ts3
 
   places : HavePlaces d ts1
   places = places_kept d ts ts1 shape s.places
@@ -133,13 +134,13 @@ module _ (gives : MayGive) (job : Job) (ticks : ℕ) (ls ls' : List (Option Ledg
   new_home : AreHome d ls'
   new_home = record {
     one_each = wide;
-    each = λ a lt. let k = closed_of d ts2 a (ledger_at ls' a) (closed a lt) in subst (IsHome d a) (sym k.1) k.2.home;
+    each = λ a lt. let k = closed_of d ts2 a (arc_ledger ls' a) (closed a lt) in subst (IsHome d a) (sym k.1) k.2.home;
   }
 
-  was : (a : ℕ) (l : LedgerState) → a < length d.graph.arcs → ledger_at ls a ≡ Some l → history old.book a ≡ l.history
+  was : (a : ℕ) (l : LedgerState) → a < length d.graph.arcs → arc_ledger ls a ≡ Some l → history old.book a ≡ l.history
   was a l lt e = history_is ls a l e (subst (λ n. a < n) (sym s.home.one_each) lt)
 
-  is_now : (a : ℕ) (l : LedgerState) → a < length d.graph.arcs → ledger_at ls' a ≡ Some l → history new.book a ≡ l.history
+  is_now : (a : ℕ) (l : LedgerState) → a < length d.graph.arcs → arc_ledger ls' a ≡ Some l → history new.book a ≡ l.history
   is_now a l lt e = history_is ls' a l e (subst (λ n. a < n) (sym wide) lt)
 
   one_each_now : length new.book ≡ length d.graph.arcs
@@ -162,21 +163,21 @@ module _ (gives : MayGive) (job : Job) (ticks : ℕ) (ls ls' : List (Option Ledg
       (clocks_of (slice_get ts1 d.graph.n))
       (clocks_of (slice_get ts2 d.graph.n)) x (actor_at ts2 d.graph.n)) clock_now (done d.graph.n clock_below)
 
-  ticked_at : (a : ℕ) (l l' : LedgerState) → a < length d.graph.arcs → ledger_at ls a ≡ Some l → IsLedgerOf d a l → ledger_at ls' a ≡ Some l'
+  ticked_at : (a : ℕ) (l l' : LedgerState) → a < length d.graph.arcs → arc_ledger ls a ≡ Some l → IsLedgerOf d a l → arc_ledger ls' a ≡ Some l'
       → IsClosed d ts2 a l'
       → (ticks_in_order l'.history ≡ ticks_in_order l.history ++ tick_entry ticks (height l.history + ticks) Accepted ∷ []) × Begins l.history l'.history
   ticked_at a l l' lt at home at' k =
       let lock = lock_at d ts1 locks ls s.home dealt many a lt in
       let p = clock_is d ts1 locks ls s.home dealt many a lock.0 l lt lock.1 at in
       let t = subst (λ o. Ticked ticks o (clock_held_at ts2 d.graph.n a)) p (clock_did a) in
-      clock_side d a ticks (clock_at lock.0 l) t.0 l.history l' home.legal refl t.2 (k.clock t.0 t.1)
+      clock_side d a ticks (table_clock lock.0 l) t.0 l.history l' home.legal refl t.2 (k.clock t.0 t.1)
 
   both : (a : ℕ) → a < length d.graph.arcs
       → (ticks_in_order (history new.book a) ≡ ticks_in_order (history old.book a) ++ tick_entry ticks (height (history old.book a) + ticks) Accepted ∷ [])
       × Begins (history old.book a) (history new.book a)
   both a lt =
       let l = home_at d ls a s.home lt in
-      let k = closed_of d ts2 a (ledger_at ls' a) (closed a lt) in
+      let k = closed_of d ts2 a (arc_ledger ls' a) (closed a lt) in
       let r = ticked_at a l.0 k.0 lt l.1 l.2 k.1 k.2 in
       subst (λ (w : List Entry × List Entry). (ticks_in_order w.1 ≡ ticks_in_order w.0 ++ tick_entry ticks (height w.0 + ticks) Accepted ∷ []) × Begins w.0 w.1)
       (λ i. (sym (was a l.0 lt l.1) i, sym (is_now a k.0 lt k.1) i)) r
@@ -193,7 +194,7 @@ module _ (gives : MayGive) (job : Job) (ticks : ℕ) (ls ls' : List (Option Ledg
     one_each = one_each_now;
     legal = λ a l.
         let lt : a < length d.graph.arcs = subst (λ n. a < n) one_each_now l in
-        let k = closed_of d ts2 a (ledger_at ls' a) (closed a lt) in
+        let k = closed_of d ts2 a (arc_ledger ls' a) (closed a lt) in
         subst (IsLegal d a) (sym (is_now a k.0 lt k.1)) k.2.home.legal;
   }
 
@@ -210,15 +211,15 @@ module _ (gives : MayGive) (job : Job) (ticks : ℕ) (ls ls' : List (Option Ledg
     knew : (a : ℕ) → Knows v (history m.known a) (history old.book a)
     far : (a : ℕ) → a < length d.graph.arcs → touches d v a ≡ false → history m.known a ≡ []
 
-  went : (v : ℕ) → v < d.graph.n → conforms (cast_of job) v ≡ true → (m : MachineState) × (n : MachineState) × WentFrom v m n
+  went : (v : ℕ) → v < d.graph.n → conforms (job_cast job) v ≡ true → (m : MachineState) × (n : MachineState) × WentFrom v m n
   went v lv cv =
       let first = s.actors v lv in
-      let m = machine_of d (slice_index_or job.seeds v None) (role_in job v) v (actor_at ts v) (slice_index_or job.conforming v false) cv first in
+      let m = make_machine d (slice_index_or job.seeds v None) (job_role job v) v (actor_at ts v) (slice_index_or job.conforming v false) cv first in
       let is : IsActorIn job v (Conforming m.0) = subst (IsActorIn job v) m.1 first in
       let before : actor_at ts1 v ≡ Conforming m.0 = shape.actors v ∙ m.1 in
       let n = same_machine m.0 (actor_at ts2 v) (subst (λ x. IsSameActor x (actor_at ts2 v)) before (taken v (below_all v lv)).actor) in
-      let g : AreGoodNotes (cast_of job) old v = s.good.notes v lv cv in
-      let note : notes_of old v ≡ record { known = m.0.known; signed = m.0.signed } = notes_are job ls ts v lv ∙ ap (notes_in d) m.1 in (
+      let g : AreGoodNotes (job_cast job) old v = s.good.notes v lv cv in
+      let note : state_notes old v ≡ record { known = m.0.known; signed = m.0.signed } = notes_are job ls ts v lv ∙ ap (notes_in d) m.1 in (
         m.0,
         n.0,
         record {
@@ -237,14 +238,14 @@ module _ (gives : MayGive) (job : Job) (ticks : ℕ) (ls ls' : List (Option Ledg
       )
 
   module _ (v : ℕ) (lv : v < d.graph.n) (m n : MachineState) (w : WentFrom v m n) where
-    note_now : notes_of new v ≡ record { known = n.known; signed = n.signed }
+    note_now : state_notes new v ≡ record { known = n.known; signed = n.signed }
     note_now = notes_are job ls' ts3 v lv ∙ ap (notes_in d) w.now
 
     known_now : length n.known ≡ length d.graph.arcs
     known_now = w.acted.able.arcs ∙ ap (λ x. length x.graph.arcs) w.deal
 
     -- next to v
-    at_near : (a : ℕ) (l l' : LedgerState) → a < length d.graph.arcs → ledger_at ls a ≡ Some l → IsLedgerOf d a l → IsClosed d ts2 a l' → touches d v a ≡ true
+    at_near : (a : ℕ) (l l' : LedgerState) → a < length d.graph.arcs → arc_ledger ls a ≡ Some l → IsLedgerOf d a l → IsClosed d ts2 a l' → touches d v a ≡ true
         → Knows v (history n.known a) l'.history × Begins l.history (history n.known a)
     at_near a l l' lt at home k near =
         let lock = lock_at d ts1 locks ls s.home dealt many a lt in
@@ -261,7 +262,7 @@ module _ (gives : MayGive) (job : Job) (ticks : ℕ) (ls ls' : List (Option Ledg
         )
 
     -- elsewhere
-    at_far : (a : ℕ) (l l' : LedgerState) → a < length d.graph.arcs → ledger_at ls a ≡ Some l → ledger_at ls' a ≡ Some l' → IsClosed d ts2 a l'
+    at_far : (a : ℕ) (l l' : LedgerState) → a < length d.graph.arcs → arc_ledger ls a ≡ Some l → arc_ledger ls' a ≡ Some l' → IsClosed d ts2 a l'
         → touches d v a ≡ false
         → Knows v (history n.known a) l'.history
     at_far a l l' lt at at' k far =
@@ -275,7 +276,7 @@ module _ (gives : MayGive) (job : Job) (ticks : ℕ) (ls ls' : List (Option Ledg
     knows_now : (a : ℕ) → Knows v (history n.known a) (history new.book a)
     knows_now a = go (below_or a (length d.graph.arcs))
       where
-        there : (lt : a < length d.graph.arcs) (l l' : LedgerState) → ledger_at ls a ≡ Some l → IsLedgerOf d a l → ledger_at ls' a ≡ Some l'
+        there : (lt : a < length d.graph.arcs) (l l' : LedgerState) → arc_ledger ls a ≡ Some l → IsLedgerOf d a l → arc_ledger ls' a ≡ Some l'
             → IsClosed d ts2 a l'
             → (touches d v a ≡ true) ⊎ (touches d v a ≡ false) → Knows v (history n.known a) (history new.book a)
         there lt l l' at home at' k (inl near) =
@@ -285,15 +286,15 @@ module _ (gives : MayGive) (job : Job) (ticks : ℕ) (ls ls' : List (Option Ledg
         go : (a < length d.graph.arcs) ⊎ (length d.graph.arcs ≤ a) → Knows v (history n.known a) (history new.book a)
         go (inl lt) =
             let l = home_at d ls a s.home lt in
-            let k = closed_of d ts2 a (ledger_at ls' a) (closed a lt) in
+            let k = closed_of d ts2 a (arc_ledger ls' a) (closed a lt) in
             there lt l.0 k.0 l.1 l.2 k.1 k.2 (bool_or (touches d v a))
         go (inr ge) =
             let known : history n.known a ≡ [] = get_or-eq_default n.known [] (subst (λ z. z ≤ a) (sym known_now) ge) in
             subst (λ (x : List Entry × List Entry). Knows v x.0 x.1) (λ i. (sym known i, sym (none_now a ge) i)) (knows_all v [])
 
-    good_now : AreGoodNotes (cast_of job) new v
+    good_now : AreGoodNotes (job_cast job) new v
     good_now =
-        good_notes (cast_of job) new v (record { known = n.known; signed = n.signed }) note_now (record {
+        good_notes (job_cast job) new v (record { known = n.known; signed = n.signed }) note_now (record {
           one_each = known_now;
           places = w.acted.able.signs ∙ ap (λ x. length x.leaders) w.deal;
           knows = knows_now;
@@ -303,17 +304,17 @@ module _ (gives : MayGive) (job : Job) (ticks : ℕ) (ls ls' : List (Option Ledg
               (subst (λ x. IsSound x n.known (signed_in n.signed) n.me) w.deal w.acted.able.sound);
         })
 
-    rests_now : next_of (cast_of job) new v ≡ None
+    rests_now : next_action (job_cast job) new v ≡ None
     rests_now =
-        ap (λ (x : Notes). first (due d v ((cast_of job).wallet v) (signed_in x.signed) x.known)) note_now
+        ap (λ (x : Notes). first (due d v ((job_cast job).wallet v) (signed_in x.signed) x.known)) note_now
         ∙ (ap (λ k. first (due d v k (signed_in n.signed) n.known)) (wallet_is job v n w.seed)
-        ∙ (λ i. first (due (sym w.deal i) (sym w.me i) (wallet_of n.seed (sym w.me i) (sym w.deal i)) (signed_in n.signed) n.known)) ∙ w.acted.rests)
+        ∙ (λ i. first (due (sym w.deal i) (sym w.me i) (seed_wallet n.seed (sym w.me i) (sym w.deal i)) (signed_in n.signed) n.known)) ∙ w.acted.rests)
 
-    seen_now : (a : ℕ) → IsNear d v a → Begins (history old.book a) (history (notes_of new v).known a)
+    seen_now : (a : ℕ) → IsNear d v a → Begins (history old.book a) (history (state_notes new v).known a)
     seen_now a near =
         let t = near_touches d v a near in
         let l = home_at d ls a s.home t.0 in
-        let k = closed_of d ts2 a (ledger_at ls' a) (closed a t.0) in
+        let k = closed_of d ts2 a (arc_ledger ls' a) (closed a t.0) in
         subst (λ (x : List Entry × Notes). Begins x.0 (history x.1.known a)) (λ i. (sym (was a l.0 t.0 l.1) i, sym note_now i))
         (at_near a l.0 k.0 t.0 l.1 l.2 k.2 t.1).1
 
@@ -322,8 +323,8 @@ module _ (gives : MayGive) (job : Job) (ticks : ℕ) (ls ls' : List (Option Ledg
   record PlannedFrom (v : ℕ) (n m : Plan) : Type 0 where
     before : actor_at ts1 v ≡ Planned n
     now : actor_at ts3 v ≡ Planned m
-    was : plan_of old v ≡ n
-    is : plan_of new v ≡ m
+    was : party_plan old v ≡ n
+    is : party_plan new v ≡ m
     acted : HasPlanned gives job v n (passes_of (slice_get ts1 v)) m (passes_of (slice_get ts2 v))
     knew : (a : ℕ) → Knows v (history n.known a) (history old.book a)
 
@@ -349,7 +350,8 @@ module _ (gives : MayGive) (job : Job) (ticks : ℕ) (ls ls' : List (Option Ledg
     view = w.acted.played.view
 
     -- next to v
-    plan_near : (a : ℕ) (l l' : LedgerState) → a < length d.graph.arcs → ledger_at ls a ≡ Some l → IsLedgerOf d a l → IsClosed d ts2 a l' → touches d v a ≡ true
+    plan_near : (a : ℕ) (l l' : LedgerState) → a < length d.graph.arcs → arc_ledger ls a ≡ Some l → IsLedgerOf d a l → IsClosed d ts2 a l'
+        → touches d v a ≡ true
         → Knows v (history m.known a) l'.history × Begins l.history (history view a)
     plan_near a l l' lt at home k near =
         let lock = lock_at d ts1 locks ls s.home dealt many a lt in
@@ -371,13 +373,13 @@ module _ (gives : MayGive) (job : Job) (ticks : ℕ) (ls ls' : List (Option Ledg
     plan_arcs = w.acted.shown.view.legal.one_each
 
     -- nothing is known of an arc on which v makes no call
-    knows_none : (a : ℕ) (h : List Entry) → history m.known a ≡ [] → ((e : Entry) → IsIn e h → sent_by v e.sender ≡ false) → Knows v (history m.known a) h
+    knows_none : (a : ℕ) (h : List Entry) → history m.known a ≡ [] → ((e : Entry) → IsIn e h → is_sender v e.sender ≡ false) → Knows v (history m.known a) h
     knows_none a h none others = record { rest = h; whole = sym (ap (λ k. k ++ h) none); others = others }
 
     plan_knows : (a : ℕ) → Knows v (history m.known a) (history new.book a)
     plan_knows a = go (below_or a (length d.graph.arcs))
       where
-        there : (lt : a < length d.graph.arcs) (l l' : LedgerState) → ledger_at ls a ≡ Some l → IsLedgerOf d a l → ledger_at ls' a ≡ Some l'
+        there : (lt : a < length d.graph.arcs) (l l' : LedgerState) → arc_ledger ls a ≡ Some l → IsLedgerOf d a l → arc_ledger ls' a ≡ Some l'
             → IsClosed d ts2 a l'
             → (touches d v a ≡ true) ⊎ (touches d v a ≡ false) → Knows v (history m.known a) (history new.book a)
         there lt l l' at home at' k (inl near) =
@@ -389,7 +391,7 @@ module _ (gives : MayGive) (job : Job) (ticks : ℕ) (ls ls' : List (Option Ledg
         go : (a < length d.graph.arcs) ⊎ (length d.graph.arcs ≤ a) → Knows v (history m.known a) (history new.book a)
         go (inl lt) =
             let l = home_at d ls a s.home lt in
-            let k = closed_of d ts2 a (ledger_at ls' a) (closed a lt) in
+            let k = closed_of d ts2 a (arc_ledger ls' a) (closed a lt) in
             there lt l.0 k.0 l.1 l.2 k.1 k.2 (bool_or (touches d v a))
         go (inr ge) =
             let none : history m.known a ≡ [] = get_or-eq_default m.known [] (subst (λ z. z ≤ a) (sym plan_arcs) ge) in
@@ -407,14 +409,14 @@ module _ (gives : MayGive) (job : Job) (ticks : ℕ) (ls ls' : List (Option Ledg
     plan_own : (a : ℕ) → calls_by v (history n.known a) ≡ calls_by v (history old.book a)
     plan_own a = sym (calls_known v (history n.known a) (history old.book a) (w.knew a))
 
-    plan_played : HasPlayed gives (cast_of job) old new v
+    plan_played : HasPlayed gives (job_cast job) old new v
     plan_played = record {
       view = view;
       answer = w.acted.played.answer;
       shown = w.acted.played.shown;
       seen = λ a lt near.
           let l = home_at d ls a s.home lt in
-          let k = closed_of d ts2 a (ledger_at ls' a) (closed a lt) in
+          let k = closed_of d ts2 a (arc_ledger ls' a) (closed a lt) in
           subst (λ h. Begins h (history view a)) (sym (was a l.0 lt l.1)) (plan_near a l.0 k.0 lt l.1 l.2 k.2 near).1;
       begins = λ a.
           begins_more (history view a) (history m.known a) (history new.book a) (w.acted.played.begins a)
@@ -424,7 +426,7 @@ module _ (gives : MayGive) (job : Job) (ticks : ℕ) (ls ls' : List (Option Ledg
           calls_known v (history m.known a) (history new.book a) (plan_knows a) ∙ (w.acted.played.called a lt
           ∙ ap (λ cs. take 32 (cs ++ answer_on a w.acted.played.answer)) (plan_own a));
       answered =
-          subst (λ (x : Plan × Plan). IsAnswered gives d job.seeds v view w.acted.played.answer x.0 x.1 (role_in job v)) (λ i. (sym w.was i, sym w.is i))
+          subst (λ (x : Plan × Plan). IsAnswered gives d job.seeds v view w.acted.played.answer x.0 x.1 (job_role job v)) (λ i. (sym w.was i, sym w.is i))
           w.acted.played.answered;
       may = w.acted.played.may;
       turns = ap (λ (x : Plan). x.turns) w.is ∙ (w.acted.played.turns ∙ ap (λ (x : Plan). x.turns + 1) (sym w.was));
@@ -432,9 +434,9 @@ module _ (gives : MayGive) (job : Job) (ticks : ℕ) (ls ls' : List (Option Ledg
 
   -- The others.
 
-  abbrev manual_at : (v : ℕ) → v < d.graph.n → conforms (cast_of job) v ≡ false → is_planned (role_in job v) ≡ false → actor_at ts v ≡ Manual
+  abbrev manual_at : (v : ℕ) → v < d.graph.n → conforms (job_cast job) v ≡ false → is_planned (job_role job v) ≡ false → actor_at ts v ≡ Manual
   manual_at v lv cv p =
-      manual_of d (slice_index_or job.seeds v None) (role_in job v) v (actor_at ts v) (slice_index_or job.conforming v false) cv p (s.actors v lv)
+      manual_of d (slice_index_or job.seeds v None) (job_role job v) v (actor_at ts v) (slice_index_or job.conforming v false) cv p (s.actors v lv)
 
   module _ (v : ℕ) (lv : v < d.graph.n) (first : actor_at ts v ≡ Manual) where
     idle : passes_of (slice_get ts2 v) ≡ passes_of (slice_get ts1 v)
@@ -446,27 +448,28 @@ module _ (gives : MayGive) (job : Job) (ticks : ℕ) (ls ls' : List (Option Ledg
     started_whole : (x : Actor) (a : ℕ) (h : List Entry) → x ≡ Manual → started x a h ≡ h
     started_whole x a h e = ap (λ y. started y a h) e
 
-    made_none : (a : ℕ) (h : List Entry) → IsLegal d a h → touches d v a ≡ false → made_by v h ≡ []
-    made_none a h legal far = none_pass (λ (e : Entry). sent_by v e.sender) h (far_from d a v h legal far)
+    made_none : (a : ℕ) (h : List Entry) → IsLegal d a h → touches d v a ≡ false → party_made v h ≡ []
+    made_none a h legal far = none_pass (λ (e : Entry). is_sender v e.sender) h (far_from d a v h legal far)
 
-    unmade_at : (a : ℕ) (l l' : LedgerState) → a < length d.graph.arcs → ledger_at ls a ≡ Some l → IsLedgerOf d a l → IsClosed d ts2 a l'
-        → (touches d v a ≡ true) ⊎ (touches d v a ≡ false) → made_by v l'.history ≡ made_by v l.history
+    unmade_at : (a : ℕ) (l l' : LedgerState) → a < length d.graph.arcs → arc_ledger ls a ≡ Some l → IsLedgerOf d a l → IsClosed d ts2 a l'
+        → (touches d v a ≡ true) ⊎ (touches d v a ≡ false) → party_made v l'.history ≡ party_made v l.history
     unmade_at a l l' lt at home k (inl near) =
         let lock = lock_at d ts1 locks ls s.home dealt many a lt in
         let p = held_near d ts1 locks ls s.home dealt many v a lock.0 l lv lt lock.1 at home near in
         let p2 = ap (λ ps. pass_in ps a) idle ∙ p in
-        (k.passes v _ lv p2).mine ∙ ap (made_by v) (started_whole (actor_at ts1 v) l.arc l.history (shape.actors v ∙ first))
+        (k.passes v _ lv p2).mine ∙ ap (party_made v) (started_whole (actor_at ts1 v) l.arc l.history (shape.actors v ∙ first))
     unmade_at a l l' lt at home k (inr far) = made_none a l'.history k.home.legal far ∙ sym (made_none a l.history home.legal far)
 
-    unmade : (a : ℕ) → made_by v (history new.book a) ≡ made_by v (history old.book a)
+    unmade : (a : ℕ) → party_made v (history new.book a) ≡ party_made v (history old.book a)
     unmade a = go (below_or a (length d.graph.arcs))
       where
-        go : (a < length d.graph.arcs) ⊎ (length d.graph.arcs ≤ a) → made_by v (history new.book a) ≡ made_by v (history old.book a)
+        go : (a < length d.graph.arcs) ⊎ (length d.graph.arcs ≤ a) → party_made v (history new.book a) ≡ party_made v (history old.book a)
         go (inl lt) =
             let l = home_at d ls a s.home lt in
-            let k = closed_of d ts2 a (ledger_at ls' a) (closed a lt) in
-            ap (made_by v) (is_now a k.0 lt k.1) ∙ (unmade_at a l.0 k.0 lt l.1 l.2 k.2 (bool_or (touches d v a)) ∙ ap (made_by v) (sym (was a l.0 lt l.1)))
-        go (inr ge) = ap (made_by v) (none_now a ge ∙ sym (none_before a ge))
+            let k = closed_of d ts2 a (arc_ledger ls' a) (closed a lt) in
+            ap (party_made v) (is_now a k.0 lt k.1) ∙ (unmade_at a l.0 k.0 lt l.1 l.2 k.2 (bool_or (touches d v a))
+            ∙ ap (party_made v) (sym (was a l.0 lt l.1)))
+        go (inr ge) = ap (party_made v) (none_now a ge ∙ sym (none_before a ge))
 
     stays : actor_at ts3 v ≡ Manual
     stays = after.actors v ∙ subst (λ x. IsSameActor x (actor_at ts2 v)) (shape.actors v ∙ first) (taken v (below_all v lv)).actor
@@ -474,15 +477,15 @@ module _ (gives : MayGive) (job : Job) (ticks : ℕ) (ls ls' : List (Option Ledg
   -- The round.
 
   -- who plans nothing plans nothing later
-  plan_kept : (v : ℕ) → v < d.graph.n → plan_in d (actor_at ts v) ≡ plan_in d (actor_at ts3 v) → IsGoodPlan d job.seeds v new.book (plan_of new v)
+  plan_kept : (v : ℕ) → v < d.graph.n → plan_in d (actor_at ts v) ≡ plan_in d (actor_at ts3 v) → IsGoodPlan d job.seeds v new.book (party_plan new v)
   plan_kept v lv same =
       subst (IsGoodPlan d job.seeds v new.book) (plans_are job ls ts v lv ∙ (same ∙ sym (plans_are job ls' ts3 v lv)))
-      (plan_grown d job.seeds v old.book new.book (plan_of old v) grows (s.good.plans v lv))
+      (plan_grown d job.seeds v old.book new.book (party_plan old v) grows (s.good.plans v lv))
 
   -- What each party is after the round.
   record Stays (v : ℕ) : Type 0 where
     actor : IsActorIn job v (actor_at ts3 v)
-    plan : IsGoodPlan d job.seeds v new.book (plan_of new v)
+    plan : IsGoodPlan d job.seeds v new.book (party_plan new v)
     own : KnowsOwn v (actor_at ts3 v) new.book
 
   stays_in : (v : ℕ) → v < d.graph.n → Stays v
@@ -512,7 +515,7 @@ module _ (gives : MayGive) (job : Job) (ticks : ℕ) (ls ls' : List (Option Ledg
           }
       go Clock e k = absurd k
 
-  pub good : IsGood (cast_of job) new
+  pub good : IsGood (job_cast job) new
   good = record {
     legal = legal_now;
     one_each = length-map-range_with_len (notes_at d ts3) 0 d.graph.n;
@@ -521,14 +524,14 @@ module _ (gives : MayGive) (job : Job) (ticks : ℕ) (ls ls' : List (Option Ledg
     plans = λ v lv. (stays_in v lv).plan;
   }
 
-  played_now : (v : ℕ) → v < d.graph.n → conforms (cast_of job) v ≡ false → is_planned (role_in job v) ≡ true → HasPlayed gives (cast_of job) old new v
+  played_now : (v : ℕ) → v < d.graph.n → conforms (job_cast job) v ≡ false → is_planned (job_role job v) ≡ true → HasPlayed gives (job_cast job) old new v
   played_now v lv cv p =
       let n =
-      planner_of d (slice_index_or job.seeds v None) (role_in job v) v (actor_at ts v) (slice_index_or job.conforming v false) cv p (s.actors v lv) in
+      party_planner d (slice_index_or job.seeds v None) (job_role job v) v (actor_at ts v) (slice_index_or job.conforming v false) cv p (s.actors v lv) in
       let w = planned v n.0 lv n.1 in
       plan_played v lv n.0 w.0 w.1
 
-  pub round : IsRound gives (cast_of job) ticks old new
+  pub round : IsRound gives (job_cast job) ticks old new
   round = record {
     good = good;
     grows = grows;

@@ -13,10 +13,10 @@ use Rattle.ledger_core.specs.declared.entry.Sender.{Sender}
 use Rattle.ledger_core.specs.declared.entry.Sender.TheVariants.{Party, Clock}
 use Rattle.ledger_core.specs.declared.entry.What.{What}
 use Rattle.ledger_core.specs.declared.entry.What.TheVariants.{Call as Made, Tick}
-use Rattle.ledger_core.specs.History.{height, sent_by, IsLegal, IsLegalEntry, IsLegalMoment}
+use Rattle.ledger_core.specs.History.{height, is_sender, IsLegal, IsLegalEntry, IsLegalMoment}
 use Rattle.ledger_core.specs.Ledger.{tick_entry}
 use Rattle.ledger_core.specs.Value.{LedgerState}
-use Rattle.ledger_shared.specs.Value.{PassState, ClockState, made_by, ticks_in_order, clock_mine, Closes, ClosesClock}
+use Rattle.ledger_shared.specs.Value.{PassState, ClockState, party_made, ticks_in_order, clock_mine, Closes, ClosesClock}
 use Rattle.swap_rules.specs.Machine.{Begins, Knows}
 use Rattle.party_threads.specs.Ticks.{HasTickedOnce}
 use Rattle.party_threads.specs.Played.{calls_by}
@@ -29,9 +29,9 @@ append_self [] ys e = e
 append_self (x ∷ xs) ys e = append_self xs ys (cc)
 
 -- a prefix that holds all calls of v
-pub knows_of : (v : ℕ) (k h : List Entry) → IsPrefix k h → made_by v h ≡ made_by v k → Knows v k h
+pub knows_of : (v : ℕ) (k h : List Entry) → IsPrefix k h → party_made v h ≡ party_made v k → Knows v k h
 knows_of v k h pre own =
-    let test = λ (e : Entry). sent_by v e.sender in
+    let test = λ (e : Entry). is_sender v e.sender in
     let none : filter test pre.0 ≡ [] = append_self (filter test k) (filter test pre.0) (sym (filter-append test k pre.0) ∙ (ap (filter test) pre.1 ∙ own)) in
     record { rest = pre.0; whole = sym pre.1; others = none_passes test pre.0 none }
 
@@ -42,13 +42,13 @@ begins_of k h pre = (pre.0, sym pre.1)
 pub calls_known : (v : ℕ) (k h : List Entry) → Knows v k h → calls_by v h ≡ calls_by v k
 calls_known v k h knows =
     ap (calls_by v) knows.whole
-    ∙ others_add_none v k knows.rest (none_pass (λ (e : Entry). sent_by v e.sender) knows.rest knows.others)
+    ∙ others_add_none v k knows.rest (none_pass (λ (e : Entry). is_sender v e.sender) knows.rest knows.others)
 
 -- One side of a ledger: what its machine knows in the end.
 pub side_knows : (v : ℕ) (q : PassState) (l : LedgerState) (known : List Entry) → q.party ≡ v → q.seen ≡ known → Closes l q → Knows v known l.history
 side_knows v q l known is seen k =
     subst (λ h. Knows v h l.history) seen
-    (knows_of v q.seen l.history k.seen (subst (λ w. made_by w l.history ≡ made_by w q.seen) is k.mine))
+    (knows_of v q.seen l.history k.seen (subst (λ w. party_made w l.history ≡ party_made w q.seen) is k.mine))
 
 -- The clock's side.
 pub clock_side : (d : Deal) (a ticks : ℕ) (p q : ClockState) (h : List Entry) (l : LedgerState) → IsLegal d a h → p.seen ≡ h → HasTickedOnce ticks p q
@@ -65,7 +65,7 @@ clock_side d a ticks p q h l legal start t k =
 -- Arcs of others.
 
 not_sender : (d : Deal) (a v : ℕ) (past : List Entry) (s : Sender) (w : What) (at : ℕ) (r : _) → IsLegalEntry d a past s w at r → touches d v a ≡ false
-    → sent_by v s ≡ false
+    → is_sender v s ≡ false
 not_sender d a v past (Party p) (Made c) at r l far = go (p == v) refl
   where
     go : (b : Bool) → (p == v) ≡ b → b ≡ false
@@ -75,7 +75,7 @@ not_sender d a v past (Party p) (Tick k) at r l far = absurd l
 not_sender d a v past Clock w at r l far = refl
 
 -- a party that an arc doesn't touch makes no call there
-pub far_from : (d : Deal) (a v : ℕ) (h : List Entry) → IsLegal d a h → touches d v a ≡ false → (e : Entry) → IsIn e h → sent_by v e.sender ≡ false
+pub far_from : (d : Deal) (a v : ℕ) (h : List Entry) → IsLegal d a h → touches d v a ≡ false → (e : Entry) → IsIn e h → is_sender v e.sender ≡ false
 far_from d a v h legal far e i =
     let m = moment_from_in h e i in
     not_sender d a v m.0 e.sender e.what e.height e.reply (at_moment (IsLegalMoment d a) h m.0 e legal m.1) far

@@ -14,9 +14,9 @@ use Rattle.swap_run.specs.Laws.{IsReadyCast}
 use Rattle.swap_run.specs.Fair.{the_horizon}
 use Rattle.swap_run.proofs.Ticks.{horizon_low}
 use Rattle.swap_world.specs.Gone.{MayGive}
-use Rattle.party_threads.specs.Race.{rounds_for, IsRound, IsRaced, ticks_of_rounds}
+use Rattle.party_threads.specs.Race.{needed_rounds, IsRound, IsRaced, ticks_of_rounds}
 use Rattle.party_threads.specs.Standing.{AllHaveRoom}
-use Rattle.party_threads.proofs.Racing.{ticked_after, level_after}
+use Rattle.party_threads.proofs.Racing.{ticked_after, following_level}
 
 pub no_rounds : (gives : MayGive) (c : Cast) (ticks rounds : ℕ) (s : State) → rounds ≡ 0 → s ≡ start c → IsRaced gives c ticks rounds s
 no_rounds gives c ticks rounds s none e = record { states = λ r. s; first = e; last = refl; each = λ r lt. absurd (omega (arith, lt, none)) }
@@ -59,7 +59,7 @@ length_of_rounds ticks (suc r) =
     omega (arith, n, m)
 
 -- rounds that don't pass the horizon yet end below it
-few_rounds : (d : Deal) (ticks r : ℕ) → 1 ≤ ticks → r < rounds_for d ticks → (r ≤ r * ticks) × (r * ticks ≤ the_horizon d)
+few_rounds : (d : Deal) (ticks r : ℕ) → 1 ≤ ticks → r < needed_rounds d ticks → (r ≤ r * ticks) × (r * ticks ≤ the_horizon d)
 few_rounds d ticks r some lt =
     let low : r ≤ the_horizon d / ticks = omega (arith, lt) in
     let whole : the_horizon d / ticks * ticks ≤ the_horizon d = div-mul-le_self (the_horizon d) ticks in
@@ -68,7 +68,7 @@ few_rounds d ticks r some lt =
     (omega (arith, own), omega (arith, more, whole))
 
 -- before each round the ledgers have room for its tick
-pub room_left : (gives : MayGive) (c : Cast) (ticks r : ℕ) (s : State) → IsReadyCast c → 1 ≤ ticks → ticks ≤ 1000 → r < rounds_for c.deal ticks
+pub room_left : (gives : MayGive) (c : Cast) (ticks r : ℕ) (s : State) → IsReadyCast c → 1 ≤ ticks → ticks ≤ 1000 → r < needed_rounds c.deal ticks
     → IsRaced gives c ticks r s
     → AllHaveRoom ticks c.deal s.book
 room_left gives c ticks r s ready some below lt raced a la =
@@ -76,7 +76,7 @@ room_left gives c ticks r s ready some below lt raced a la =
     let least : r ≤ r * ticks = few.0 in
     let most : r * ticks ≤ the_horizon c.deal = few.1 in
     let low : the_horizon c.deal ≤ 14000 = horizon_low c.deal ready.accepted in
-    let level : height (history s.book a) ≡ r * ticks = level_after gives c ticks r s ready some raced a (in_range a (length c.deal.graph.arcs) la) in
+    let level : height (history s.book a) ≡ r * ticks = following_level gives c ticks r s ready some raced a (in_range a (length c.deal.graph.arcs) la) in
     let count : length (ticks_in_order (history s.book a)) ≡ r =
     ap length (ticked_after gives c ticks r s ready some raced a (in_range a (length c.deal.graph.arcs) la)) ∙ length_of_rounds ticks r in
     record { few = omega (arith, count, least, most, low); low = omega (arith, level, most, low, below) }

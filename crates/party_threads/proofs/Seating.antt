@@ -16,19 +16,19 @@ use Rattle.ledger_core.specs.History.{height}
 use Rattle.ledger_core.specs.Value.{LedgerState}
 use Rattle.ledger_core.specs.Book.{history}
 use Rattle.ledger_core.proofs.Bounds.{countable}
-use Rattle.ledger_shared.specs.Value.{PassState, ClockState, SharedState, pass_at, clock_at, ticks_in_order}
+use Rattle.ledger_shared.specs.Value.{PassState, ClockState, SharedState, pass_at, table_clock, ticks_in_order}
 use Rattle.swap_job.specs.declared.job.Job.{Job}
 use Rattle.party_wallet.specs.Value.{signed_in}
 use Rattle.party_machine.specs.Machine.{MachineState}
-use Rattle.party_machine.specs.Wallet.{wallet_of}
+use Rattle.party_machine.specs.Wallet.{seed_wallet}
 use Rattle.swap_rules.specs.Machine.{IsWallet, IsSound, Knows}
 use Rattle.swap_rules.proofs.Conducting.{knows_all}
-use Rattle.swap_run.specs.Run.{Notes, Plan, notes_of, plan_of}
+use Rattle.swap_run.specs.Run.{Notes, Plan, state_notes, party_plan}
 use Rattle.swap_run.specs.Laws.{AreGoodNotes, IsGoodPlan}
 use Rattle.swap_run.proofs.Plans.{plan_view}
 use Rattle.swap_rules.proofs.Accepted.{accepted_is_well_sized}
 use Rattle.swap_run.specs.Shown.{IsShown}
-use Rattle.swap_world.specs.Cast.{cast_of, wallet_with}
+use Rattle.swap_world.specs.Cast.{job_cast, wallet_with}
 use Rattle.swap_world.specs.Inside.{IsLedgerOf}
 use Rattle.swap_world.specs.Actors.{AreHeld}
 use Rattle.party_threads.specs.declared.turn.Actor.{Actor}
@@ -37,11 +37,12 @@ use Rattle.party_threads.specs.declared.turn.Turn.{Turn}
 use Rattle.party_threads.specs.Tracks.{Watcher, IsPassOf}
 use Rattle.party_threads.specs.Able.{watcher, IsAble}
 use Rattle.party_threads.specs.Ticks.{HaveRoom, AreClocksOf}
-use Rattle.party_threads.specs.Played.{planner_of}
+use Rattle.party_threads.specs.Played.{party_planner}
 use Rattle.party_threads.specs.Took.{IsMachineSeated, IsPlannerSeated, IsActorSeated, IsSeated}
-use Rattle.party_threads.specs.Turns.{actor_of, passes_of, clocks_of, actor_at, held_at, ledger_at, started, HasArc, IsBehind, AreBehind, HavePlaces}
+use Rattle.party_threads.specs.Turns.{new_actor, passes_of, clocks_of, actor_at, held_at, arc_ledger, started, HasArc, IsBehind, AreBehind, HavePlaces}
 use Rattle.party_threads.specs.Turns.{AreDealt, IsSameShape}
-use Rattle.party_threads.specs.Standing.{history_in, book_in, notes_in, notes_at, plan_in, plan_at, state_of, IsActorIn, KnowsOwn, Stands, HasRoom, AllHaveRoom}
+use Rattle.party_threads.specs.Standing.{history_in, swap_book, notes_in, notes_at, plan_in, plan_at, inside_state, IsActorIn, KnowsOwn, Stands}
+use Rattle.party_threads.specs.Standing.{HasRoom, AllHaveRoom}
 use Rattle.party_threads.proofs.Clocks.{height_of_ticks}
 use Rattle.party_threads.proofs.Sharing.{home_at, lock_at, held_near, held_far, clock_is}
 
@@ -55,21 +56,21 @@ pub is_named : (d : Deal) (v : ℕ) (m : MachineState) → m.deal ≡ d → m.me
 is_named d v m ed ev = λ i. record { deal = sym ed i; me = sym ev i; seed = m.seed; known = m.known; signed = m.signed }
 
 -- the wallet of the cast is the machine's
-pub wallet_is : (job : Job) (v : ℕ) (m : MachineState) → slice_index_or job.seeds v None ≡ Some m.seed → (cast_of job).wallet v ≡ wallet_of m.seed v job.deal
+pub wallet_is : (job : Job) (v : ℕ) (m : MachineState) → slice_index_or job.seeds v None ≡ Some m.seed → (job_cast job).wallet v ≡ seed_wallet m.seed v job.deal
 wallet_is job v m e = ap (λ o. wallet_with o v job.deal) e
 
 -- the notes of the state are the machine's
 pub notes_are : (job : Job) (ls : List (Option LedgerState)) (ts : List Turn) (v : ℕ) → v < job.deal.graph.n
-    → notes_of (state_of job ls ts) v ≡ notes_in job.deal (actor_at ts v)
+    → state_notes (inside_state job ls ts) v ≡ notes_in job.deal (actor_at ts v)
 notes_are job ls ts v l = get_or-map-range_with_len (notes_at job.deal ts) 0 job.deal.graph.n v v _ l (zero-add v)
 
 -- the plan of the state is the actor's
 pub plans_are : (job : Job) (ls : List (Option LedgerState)) (ts : List Turn) (v : ℕ) → v < job.deal.graph.n
-    → plan_of (state_of job ls ts) v ≡ plan_in job.deal (actor_at ts v)
+    → party_plan (inside_state job ls ts) v ≡ plan_in job.deal (actor_at ts v)
 plans_are job ls ts v l = get_or-map-range_with_len (plan_at job.deal ts) 0 job.deal.graph.n v v _ l (zero-add v)
 
 -- the history of the state is the ledger's
-pub history_is : (ls : List (Option LedgerState)) (a : ℕ) (l : LedgerState) → ledger_at ls a ≡ Some l → a < length ls → history (book_in ls) a ≡ l.history
+pub history_is : (ls : List (Option LedgerState)) (a : ℕ) (l : LedgerState) → arc_ledger ls a ≡ Some l → a < length ls → history (swap_book ls) a ≡ l.history
 history_is ls a l e lt = get_or-map history_in ls a None [] lt ∙ ap history_in e
 
 few_parties : (v : Version) → most_parties v ≤ 32
@@ -84,8 +85,8 @@ module _ (job : Job) (ls : List (Option LedgerState)) (ts : List Turn) (s : Stan
   pub able_at : (v : ℕ) (m : MachineState) → v < d.graph.n → actor_at ts v ≡ Conforming m → IsAble m
   able_at v m lv e =
       let is : IsActorIn job v (Conforming m) = subst (IsActorIn job v) e (s.actors v lv) in
-      let n : AreGoodNotes (cast_of job) (state_of job ls ts) v = s.good.notes v lv is.0 in
-      let note : notes_of (state_of job ls ts) v ≡ record { known = m.known; signed = m.signed } = notes_are job ls ts v lv ∙ ap (notes_in d) e in
+      let n : AreGoodNotes (job_cast job) (inside_state job ls ts) v = s.good.notes v lv is.0 in
+      let note : state_notes (inside_state job ls ts) v ≡ record { known = m.known; signed = m.signed } = notes_are job ls ts v lv ∙ ap (notes_in d) e in
       subst IsAble (is_named d v m is.1 is.2) (record {
         accepted = s.cast.accepted;
         wallet = subst (IsWallet d v) (wallet_is job v m is.3) (s.cast.wallets v lv is.0);
@@ -96,13 +97,13 @@ module _ (job : Job) (ls : List (Option LedgerState)) (ts : List Turn) (s : Stan
       })
 
   -- what stands of a plan
-  pub plan_good : (v : ℕ) (n : Plan) → v < d.graph.n → actor_at ts v ≡ Planned n → IsGoodPlan d job.seeds v (book_in ls) n
-  plan_good v n lv e = subst (IsGoodPlan d job.seeds v (book_in ls)) (plans_are job ls ts v lv ∙ ap (plan_in d) e) (s.good.plans v lv)
+  pub plan_good : (v : ℕ) (n : Plan) → v < d.graph.n → actor_at ts v ≡ Planned n → IsGoodPlan d job.seeds v (swap_book ls) n
+  plan_good v n lv e = subst (IsGoodPlan d job.seeds v (swap_book ls)) (plans_are job ls ts v lv ∙ ap (plan_in d) e) (s.good.plans v lv)
 
   pub plan_shown : (v : ℕ) (n : Plan) → v < d.graph.n → actor_at ts v ≡ Planned n → IsShown d job.seeds v n
   plan_shown v n lv e =
       let g = plan_good v n lv e in
-      record { view = plan_view d job.seeds v (book_in ls) n (accepted_is_well_sized d s.cast.accepted) lv s.good.legal g; moves = g.moves }
+      record { view = plan_view d job.seeds v (swap_book ls) n (accepted_is_well_sized d s.cast.accepted) lv s.good.legal g; moves = g.moves }
 
   -- how many turns there are
   pub few_turns : (us : List Turn) → IsSameShape ts us → length us ≤ 256
@@ -128,14 +129,14 @@ module _ (job : Job) (ls : List (Option LedgerState)) (ts : List Turn) (s : Stan
   pub behind : AreBehind d ts ls
   behind v a l lv lt at = go (actor_at ts v) refl (s.actors v lv)
     where
-      now : history (book_in ls) a ≡ l.history
+      now : history (swap_book ls) a ≡ l.history
       now = history_is ls a l at (subst (λ n. a < n) (sym s.home.one_each) lt)
 
       go : (x : Actor) → actor_at ts v ≡ x → IsActorIn job v x → IsBehind x v a l.history
       go (Conforming m) e k =
-          let note : notes_of (state_of job ls ts) v ≡ record { known = m.known; signed = m.signed } = notes_are job ls ts v lv ∙ ap (notes_in d) e in
+          let note : state_notes (inside_state job ls ts) v ≡ record { known = m.known; signed = m.signed } = notes_are job ls ts v lv ∙ ap (notes_in d) e in
           subst (λ (w : Notes × List Entry). Knows v (history w.0.known a) w.1) (λ i. (note i, now i)) ((s.good.notes v lv k.0).knows a)
-      go (Planned n) e k = subst (λ h. Knows v (history n.known a) h) now (subst (λ x. KnowsOwn v x (book_in ls)) e (s.own v lv) a)
+      go (Planned n) e k = subst (λ h. Knows v (history n.known a) h) now (subst (λ x. KnowsOwn v x (swap_book ls)) e (s.own v lv) a)
       go Manual e k = knows_all v l.history
       go Clock e k = knows_all v l.history
 
@@ -177,7 +178,7 @@ module _ (job : Job) (ls : List (Option LedgerState)) (first ts : List Turn) (sh
       let l = home_at e ls a s.home lt in
       go l.0 l.1 l.2 (bool_or (touches e v a))
     where
-      go : (l : LedgerState) → ledger_at ls a ≡ Some l → IsLedgerOf e a l → (touches e v a ≡ true) ⊎ (touches e v a ≡ false)
+      go : (l : LedgerState) → arc_ledger ls a ≡ Some l → IsLedgerOf e a l → (touches e v a ≡ true) ⊎ (touches e v a ≡ false)
           → (l : LedgerState) × IsLedgerOf e a l × (pass_at x.lock l v (started (actor_at ts v) l.arc l.history) ≡ p)
       go l at k (inl near) = (
         l,
@@ -245,7 +246,7 @@ module _ (job : Job) (ls : List (Option LedgerState)) (first ts : List Turn) (sh
             places = wide;
             shared = many;
             each = λ a x p lt ix at.
-                pass_is (planner_of e v n) v a x p lv refl refl (λ b h. ap (λ y. started y b h) is) (subst (λ k. a < k) wide lt) ix at;
+                pass_is (party_planner e v n) v a x p lv refl refl (λ b h. ap (λ y. started y b h) is) (subst (λ k. a < k) wide lt) ix at;
           };
           passes = record {
             near = λ a lt near. near_is v a lv (subst (λ k. a < k) wide lt) near;
@@ -253,12 +254,12 @@ module _ (job : Job) (ls : List (Option LedgerState)) (first ts : List Turn) (sh
           };
         }
 
-    module _ (ticks : ℕ) (room : AllHaveRoom ticks job.deal (book_in ls)) where
-      clock_room : (a : ℕ) (lock : TableId) (l : LedgerState) (p : ClockState) → a < length e.graph.arcs → ledger_at ls a ≡ Some l → IsLedgerOf e a l
-          → clock_at lock l ≡ p
+    module _ (ticks : ℕ) (room : AllHaveRoom ticks job.deal (swap_book ls)) where
+      clock_room : (a : ℕ) (lock : TableId) (l : LedgerState) (p : ClockState) → a < length e.graph.arcs → arc_ledger ls a ≡ Some l → IsLedgerOf e a l
+          → table_clock lock l ≡ p
           → HaveRoom ticks p
       clock_room a lock l p lt at k is =
-          let h : history (book_in ls) a ≡ l.history = history_is ls a l at (subst (λ n. a < n) (sym s.home.one_each) lt) in
+          let h : history (swap_book ls) a ≡ l.history = history_is ls a l at (subst (λ n. a < n) (sym s.home.one_each) lt) in
           let r : HasRoom ticks l.history = subst (HasRoom ticks) h (room a lt) in
           let level : height l.history ≡ height (ticks_in_order l.history) = height_of_ticks e a l.history k.legal in
           subst (HaveRoom ticks) is (record { few = r.few; low = subst (λ n. n + ticks ≤ 1000000) level r.low })
@@ -316,4 +317,4 @@ module _ (job : Job) (ls : List (Option LedgerState)) (first ts : List Turn) (sh
       pub seated : (i : ℕ) (t : Turn) → i < length ts → IsSeated holds job shared ticks i (get_or ts i t)
       seated i t lt =
           let there : slice_get ts i ≡ Some (get_or ts i t) = slice_get-get_or ts i t lt in
-          subst (λ o. IsActorSeated holds job shared ticks i (passes_of o) (clocks_of o) (actor_of o)) there (seated_actor i (actor_at ts i) lt refl)
+          subst (λ o. IsActorSeated holds job shared ticks i (passes_of o) (clocks_of o) (new_actor o)) there (seated_actor i (actor_at ts i) lt refl)

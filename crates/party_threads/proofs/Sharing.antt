@@ -6,25 +6,25 @@ use Rattle.swap_digraph.specs.declared.deal.Deal.{Deal}
 use Rattle.swap_digraph.specs.Deal.{touches}
 use Rattle.ledger_core.specs.declared.entry.Entry.{Entry}
 use Rattle.ledger_core.specs.Value.{LedgerState}
-use Rattle.ledger_shared.specs.Value.{PassState, ClockState, pass_at, clock_at}
+use Rattle.ledger_shared.specs.Value.{PassState, ClockState, pass_at, table_clock}
 use Rattle.swap_world.specs.Inside.{IsLedgerOf}
 use Rattle.party_threads.specs.declared.turn.Actor.{Actor}
 use Rattle.party_threads.specs.declared.turn.Turn.{Turn}
-use Rattle.party_threads.specs.Later.{IsLater, IsClockLater, WentOn}
-use Rattle.party_threads.specs.Ticks.{ClockWentOn}
-use Rattle.party_threads.specs.Turns.{actor_at, held_at, clock_held_at, ledger_at, started, IsHome, AreHome, HavePlaces, dealt_to, dealt_in, clock_dealt_in}
+use Rattle.party_threads.specs.Later.{IsLater, IsClockLater, Advanced}
+use Rattle.party_threads.specs.Ticks.{ClockAdvanced}
+use Rattle.party_threads.specs.Turns.{actor_at, held_at, clock_held_at, arc_ledger, started, IsHome, AreHome, HavePlaces, dealt_to, dealt_in, clock_dealt_in}
 use Rattle.party_threads.specs.Turns.{AreDealt, IsAt, AreSet}
 use Rattle.party_threads.proofs.Turning.{get_there, HasTaken}
 
 -- The ledger of an arc.
 
-pub ledger_of : (d : Deal) (a : ℕ) (o : Option LedgerState) → IsHome d a o → (l : LedgerState) × (o ≡ Some l) × IsLedgerOf d a l
-ledger_of d a None h = absurd h
-ledger_of d a (Some l) h = (l, refl, h)
+pub make_ledger : (d : Deal) (a : ℕ) (o : Option LedgerState) → IsHome d a o → (l : LedgerState) × (o ≡ Some l) × IsLedgerOf d a l
+make_ledger d a None h = absurd h
+make_ledger d a (Some l) h = (l, refl, h)
 
 pub home_at : (d : Deal) (ls : List (Option LedgerState)) (a : ℕ) → AreHome d ls → a < length d.graph.arcs
-    → (l : LedgerState) × (ledger_at ls a ≡ Some l) × IsLedgerOf d a l
-home_at d ls a h lt = ledger_of d a (ledger_at ls a) (h.each a lt)
+    → (l : LedgerState) × (arc_ledger ls a ≡ Some l) × IsLedgerOf d a l
+home_at d ls a h lt = make_ledger d a (arc_ledger ls a) (h.each a lt)
 
 -- What is dealt at arc a.
 
@@ -45,17 +45,19 @@ module _ (d : Deal) (ts : List Turn) (locks : List TableId) (ls : List (Option L
   lock_at a lt = get_there locks a (subst (λ n. a < n) (sym many) lt)
 
   -- the pass of v at arc a, which is that of the ledger
-  pub held_is : (v a : ℕ) (lock : TableId) (l : LedgerState) → v < d.graph.n → a < length d.graph.arcs → slice_get locks a ≡ Some lock → ledger_at ls a ≡ Some l
+  pub held_is : (v a : ℕ) (lock : TableId) (l : LedgerState) → v < d.graph.n → a < length d.graph.arcs → slice_get locks a ≡ Some lock
+      → arc_ledger ls a ≡ Some l
       → held_at ts v a ≡ dealt_to (actor_at ts v) v lock l
   held_is v a lock l lv lt at_lock at_ledger =
-      dealt.passes v a lv lt ∙ (ap (λ o. dealt_in (actor_at ts v) v o (ledger_at ls a)) at_lock ∙ ap (λ o. dealt_in (actor_at ts v) v (Some lock) o) at_ledger)
+      dealt.passes v a lv lt ∙ (ap (λ o. dealt_in (actor_at ts v) v o (arc_ledger ls a)) at_lock ∙ ap (λ o. dealt_in (actor_at ts v) v (Some lock) o) at_ledger)
 
-  pub clock_is : (a : ℕ) (lock : TableId) (l : LedgerState) → a < length d.graph.arcs → slice_get locks a ≡ Some lock → ledger_at ls a ≡ Some l
-      → clock_held_at ts d.graph.n a ≡ Some (clock_at lock l)
-  clock_is a lock l lt at_lock at_ledger = dealt.clocks a lt ∙ (ap (λ o. clock_dealt_in o (ledger_at ls a)) at_lock ∙ ap (clock_dealt_in (Some lock)) at_ledger)
+  pub clock_is : (a : ℕ) (lock : TableId) (l : LedgerState) → a < length d.graph.arcs → slice_get locks a ≡ Some lock → arc_ledger ls a ≡ Some l
+      → clock_held_at ts d.graph.n a ≡ Some (table_clock lock l)
+  clock_is a lock l lt at_lock at_ledger = dealt.clocks a lt ∙ (ap (λ o. clock_dealt_in o (arc_ledger ls a)) at_lock
+      ∙ ap (clock_dealt_in (Some lock)) at_ledger)
 
   pub held_near : (v a : ℕ) (lock : TableId) (l : LedgerState) → v < d.graph.n → a < length d.graph.arcs → slice_get locks a ≡ Some lock
-      → ledger_at ls a ≡ Some l
+      → arc_ledger ls a ≡ Some l
       → IsLedgerOf d a l → touches d v a ≡ true → held_at ts v a ≡ Some (pass_at lock l v (started (actor_at ts v) l.arc l.history))
   held_near v a lock l lv lt at_lock at_ledger k near = held_is v a lock l lv lt at_lock at_ledger ∙ dealt_near d (actor_at ts v) v a lock l k near
 
@@ -74,14 +76,14 @@ module _ (d : Deal) (ts : List Turn) (locks : List TableId) (ls : List (Option L
     clock_below = let n = places.actors in omega (arith, n)
 
     pub went_from : (v a : ℕ) (p : PassState) → v < d.graph.n → held_at ts v a ≡ Some p → (q : PassState) × (held_at us v a ≡ Some q) × IsLater p q
-    went_from v a p lv e = subst (λ o. WentOn o (held_at us v a)) e ((taken v (below_all v lv)).passes a)
+    went_from v a p lv e = subst (λ o. Advanced o (held_at us v a)) e ((taken v (below_all v lv)).passes a)
 
     pub went_none : (v a : ℕ) → v < d.graph.n → held_at ts v a ≡ None → held_at us v a ≡ None
-    went_none v a lv e = subst (λ o. WentOn o (held_at us v a)) e ((taken v (below_all v lv)).passes a)
+    went_none v a lv e = subst (λ o. Advanced o (held_at us v a)) e ((taken v (below_all v lv)).passes a)
 
     pub clock_went : (a : ℕ) (p : ClockState) → clock_held_at ts d.graph.n a ≡ Some p
         → (q : ClockState) × (clock_held_at us d.graph.n a ≡ Some q) × IsClockLater p q
-    clock_went a p e = subst (λ o. ClockWentOn o (clock_held_at us d.graph.n a)) e ((taken d.graph.n clock_below).clocks a)
+    clock_went a p e = subst (λ o. ClockAdvanced o (clock_held_at us d.graph.n a)) e ((taken d.graph.n clock_below).clocks a)
 
     later_at : (a v : ℕ) (lock : TableId) (l : LedgerState) (h : List Entry) (q : PassState) → IsLedgerOf d a l → IsLater (pass_at lock l v h) q
         → IsAt d a lock v q

@@ -7,7 +7,7 @@ use Rattle.std.proofs.lemmas.List.FromFn.{get_or-map-range_with_len, length-map-
 use Rattle.swap_digraph.specs.declared.deal.Deal.{Deal}
 use Rattle.ledger_core.specs.Value.{LedgerState}
 use Rattle.ledger_core.specs.Book.{Histories, history}
-use Rattle.swap_job.specs.Roles.{role_in}
+use Rattle.swap_job.specs.Roles.{job_role}
 use Rattle.swap_job.specs.declared.job.Job.{Job}
 use Rattle.swap_job.specs.declared.job.Role.TheVariants as kinds
 use Rattle.swap_rules.specs.Accepted.{IsAccepted}
@@ -17,9 +17,9 @@ use Rattle.swap_run.specs.Run.{Notes, Plan, State, no_notes, no_histories, first
 use Rattle.swap_run.specs.Laws.{IsReadyCast, IsGood}
 use Rattle.swap_run.proofs.Good.{start_is_good, replicated}
 use Rattle.swap_world.specs.Acting.{histories}
-use Rattle.swap_world.specs.Cast.{cast_of}
+use Rattle.swap_world.specs.Cast.{job_cast}
 use Rattle.swap_world.specs.Inside.{new_ledger, new_ledgers}
-use Rattle.swap_world.specs.Actors.{acts_for, AllFit, ConformingHaveSeeds, HaveRoles}
+use Rattle.swap_world.specs.Actors.{job_actor, AllFit, ConformingHaveSeeds, HaveRoles}
 use Rattle.swap_world.specs.declared.actor.Actor.{Actor as Party}
 use Rattle.swap_world.specs.declared.actor.Actor.TheVariants as parties
 use Rattle.swap_world.proofs.Ledgers.{none_yet}
@@ -27,14 +27,14 @@ use Rattle.swap_world.proofs.Team.{IsOwn, is_own, is_ready, role_each}
 use Rattle.party_threads.specs.declared.turn.Actor.{Actor}
 use Rattle.party_threads.specs.declared.turn.Actor.TheVariants.{Clock}
 use Rattle.party_threads.specs.declared.turn.Turn.{Turn}
-use Rattle.party_threads.specs.Turns.{actor_of, passes_of, clocks_of, actor_at, ledger_at, IsHome}
-use Rattle.party_threads.specs.Standing.{book_in, notes_in, notes_at, plan_in, plan_at, state_of, IsActorIn, KnowsOwn, Stands}
-use Rattle.party_threads.specs.FirstTurns.{racer_of, IsNewTurn, AreNew}
+use Rattle.party_threads.specs.Turns.{new_actor, passes_of, clocks_of, actor_at, arc_ledger, IsHome}
+use Rattle.party_threads.specs.Standing.{swap_book, notes_in, notes_at, plan_in, plan_at, inside_state, IsActorIn, KnowsOwn, Stands}
+use Rattle.party_threads.specs.FirstTurns.{racing_actor, IsNewTurn, AreNew}
 use Rattle.swap_digraph.proofs.Ranges.{map_more}
 use Rattle.party_threads.proofs.Turning.{get_there}
 use Rattle.party_threads.proofs.Placing.{map_append}
 
-some_histories : (ls : List LedgerState) → book_in (map (λ l. Some l) ls) ≡ histories ls
+some_histories : (ls : List LedgerState) → swap_book (map (λ l. Some l) ls) ≡ histories ls
 some_histories [] = refl
 some_histories (l ∷ ls) = ap (λ hs. l.history ∷ hs) (some_histories ls)
 
@@ -52,10 +52,10 @@ one_ledger_more d k ls ls' l so_far is more =
 pub record Acts (job : Job) (v : ℕ) (x : Actor) : Type 0 where
   pub is : IsActorIn job v x
   pub notes : notes_in job.deal x ≡ no_notes job.deal
-  pub plan : plan_in job.deal x ≡ first_plan job.deal (role_in job v)
+  pub plan : plan_in job.deal x ≡ first_plan job.deal (job_role job v)
   pub own : KnowsOwn v x (no_histories job.deal)
 
-acts_as : (job : Job) (v : ℕ) (x : Party) → IsOwn job v x → Acts job v (racer_of x)
+acts_as : (job : Job) (v : ℕ) (x : Party) → IsOwn job v x → Acts job v (racing_actor x)
 acts_as job v (parties.Conforming m) k = record { is = k.is; notes = k.notes; plan = k.plan; own = tt }
 acts_as job v parties.Manual k = record { is = k.is; notes = k.notes; plan = k.plan; own = tt }
 acts_as job v (parties.Planned n) k = record {
@@ -74,19 +74,19 @@ module _ (job : Job) (ts : List Turn) (accepted : IsAccepted job.deal) (seeds : 
   abbrev ls : List (Option LedgerState)
   ls = map (λ l. Some l) (new_ledgers d)
 
-  acts_at : (v : ℕ) → v < d.graph.n → Acts job v (racer_of (acts_for job v))
-  acts_at v lv = acts_as job v (acts_for job v) (is_own job v seeds roles fit lv)
+  acts_at : (v : ℕ) → v < d.graph.n → Acts job v (racing_actor (job_actor job v))
+  acts_at v lv = acts_as job v (job_actor job v) (is_own job v seeds roles fit lv)
 
-  turn_at : (v : ℕ) → v < d.graph.n → (t : Turn) × (slice_get ts v ≡ Some t) × IsNewTurn d (racer_of (acts_for job v)) t
+  turn_at : (v : ℕ) → v < d.graph.n → (t : Turn) × (slice_get ts v ≡ Some t) × IsNewTurn d (racing_actor (job_actor job v)) t
   turn_at v lv = let n = new.number in let t = get_there ts v (omega (arith, n, lv)) in (t.0, t.1, new.each v t.0 lv t.1)
 
   clock_turn : (t : Turn) × (slice_get ts d.graph.n ≡ Some t) × IsNewTurn d Clock t
   clock_turn = let n = new.number in let t = get_there ts d.graph.n (omega (arith, n)) in (t.0, t.1, new.clock t.0 t.1)
 
-  actor_is : (v : ℕ) → v < d.graph.n → actor_at ts v ≡ racer_of (acts_for job v)
-  actor_is v lv = let t = turn_at v lv in ap actor_of t.1 ∙ t.2.actor
+  actor_is : (v : ℕ) → v < d.graph.n → actor_at ts v ≡ racing_actor (job_actor job v)
+  actor_is v lv = let t = turn_at v lv in ap new_actor t.1 ∙ t.2.actor
 
-  pub cast : IsReadyCast (cast_of job)
+  pub cast : IsReadyCast (job_cast job)
   cast = is_ready job accepted seeds roles fit
 
   all_notes : map (notes_at d ts) (range_with_len 0 d.graph.n) ≡ replicate d.graph.n (no_notes d)
@@ -115,13 +115,13 @@ module _ (job : Job) (ts : List Turn) (accepted : IsAccepted job.deal) (seeds : 
   abbrev with_parts : Histories → List Notes → List Plan → State
   with_parts b ns ps = record { book = b; notes = ns; plans = ps; asked = [] }
 
-  first_book : book_in ls ≡ no_histories d
+  first_book : swap_book ls ≡ no_histories d
   first_book = some_histories (new_ledgers d) ∙ none_yet d
 
-  pub first_state : state_of job ls ts ≡ start (cast_of job)
+  pub first_state : inside_state job ls ts ≡ start (job_cast job)
   first_state = λ i. with_parts (first_book i) (all_notes i) (all_plans i)
 
-  ledger_is : (a : ℕ) → a < length d.graph.arcs → ledger_at ls a ≡ Some (new_ledger d a)
+  ledger_is : (a : ℕ) → a < length d.graph.arcs → arc_ledger ls a ≡ Some (new_ledger d a)
   ledger_is a lt =
       get_or-map (λ (l : LedgerState). Some l) (new_ledgers d) a (new_ledger d a) None
       (subst (λ n. a < n) (sym (length-map-range_with_len (new_ledger d) 0 (length d.graph.arcs))) lt)
@@ -146,7 +146,7 @@ module _ (job : Job) (ts : List Turn) (accepted : IsAccepted job.deal) (seeds : 
           (ap (λ ps. slice_index_or ps a None) t.2.clocks ∙ replicated (length d.graph.arcs) a None);
     };
     actors = λ v lv. subst (IsActorIn job v) (sym (actor_is v lv)) (acts_at v lv).is;
-    clock = let t = clock_turn in ap actor_of t.1 ∙ t.2.actor;
-    good = subst (IsGood (cast_of job)) (sym first_state) (start_is_good (cast_of job) cast);
+    clock = let t = clock_turn in ap new_actor t.1 ∙ t.2.actor;
+    good = subst (IsGood (job_cast job)) (sym first_state) (start_is_good (job_cast job) cast);
     own = λ v lv. subst (λ (w : Actor × Histories). KnowsOwn v w.0 w.1) (λ i. (sym (actor_is v lv) i, sym first_book i)) (acts_at v lv).own;
   }

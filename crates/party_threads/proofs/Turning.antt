@@ -7,10 +7,10 @@ use Rattle.swap_digraph.specs.declared.deal.Deal.{Deal}
 use Rattle.swap_job.specs.declared.job.Job.{Job}
 use Rattle.swap_world.specs.Gone.{MayGive}
 use Rattle.party_threads.specs.declared.turn.Turn.{Turn}
-use Rattle.party_threads.specs.Later.{HaveGoneOn}
-use Rattle.party_threads.specs.Ticks.{HaveClocksGoneOn}
+use Rattle.party_threads.specs.Later.{HaveAdvanced}
+use Rattle.party_threads.specs.Ticks.{HaveClocksAdvanced}
 use Rattle.party_threads.specs.Took.{IsSameActor, Did, Took}
-use Rattle.party_threads.specs.Turns.{actor_of, passes_of, clocks_of, HavePlaces, IsSameShape}
+use Rattle.party_threads.specs.Turns.{new_actor, passes_of, clocks_of, HavePlaces, IsSameShape}
 
 pub get_there : {A : Type 0} (xs : List A) (k : ℕ) → k < length xs → (x : A) × (slice_get xs k ≡ Some x)
 get_there [] k lt = absurd (omega arith)
@@ -25,14 +25,14 @@ none_pass {A} p (x ∷ xs) f =
 
 -- What the turn of an actor took and did, whether memory was enough or not.
 pub record HasTaken (o p : Option Turn) : Type 0 where
-  pub actor : IsSameActor (actor_of o) (actor_of p)
-  pub passes : HaveGoneOn (passes_of o) (passes_of p)
+  pub actor : IsSameActor (new_actor o) (new_actor p)
+  pub passes : HaveAdvanced (passes_of o) (passes_of p)
   pub places : length (passes_of p) ≡ length (passes_of o)
-  pub clocks : HaveClocksGoneOn (clocks_of o) (clocks_of p)
+  pub clocks : HaveClocksAdvanced (clocks_of o) (clocks_of p)
   pub clock_places : length (clocks_of p) ≡ length (clocks_of o)
 
 abbrev pub HasDone : MayGive → Job → ℕ → ℕ → Option Turn → Option Turn → Type 0
-HasDone gives job ticks v o p = Did gives job ticks v (passes_of o) (passes_of p) (clocks_of o) (clocks_of p) (actor_of o) (actor_of p)
+HasDone gives job ticks v o p = Did gives job ticks v (passes_of o) (passes_of p) (clocks_of o) (clocks_of p) (new_actor o) (new_actor p)
 
 module _ (gives : MayGive) (job : Job) (ticks : ℕ) (ts us : List Turn) (same : length us ≡ length ts)
     (took : (i : ℕ) (t : Turn) → i < length ts → Took gives job ticks i (get_or ts i t) (get_or us i t)) where
@@ -44,13 +44,13 @@ module _ (gives : MayGive) (job : Job) (ticks : ℕ) (ts us : List Turn) (same :
       let b : slice_get us v ≡ Some (get_or us v t) = slice_get-get_or us v t (subst (λ n. v < n) (sym same) lt) in
       subst (λ (w : Option Turn × Option Turn). P w.0 w.1) (λ i. (sym a i, sym b i)) at
 
-  taken_of : (v : ℕ) (t u : Turn) → Took gives job ticks v t u → HasTaken (Some t) (Some u)
-  taken_of v t u k = record { actor = k.actor; passes = k.passes; places = k.places; clocks = k.clocks; clock_places = k.clock_places }
+  taken_text : (v : ℕ) (t u : Turn) → Took gives job ticks v t u → HasTaken (Some t) (Some u)
+  taken_text v t u k = record { actor = k.actor; passes = k.passes; places = k.places; clocks = k.clocks; clock_places = k.clock_places }
 
   pub taken_at : (v : ℕ) → v < length ts → HasTaken (slice_get ts v) (slice_get us v)
   taken_at v lt =
       let t = get_there ts v lt in
-      of_two HasTaken v t.0 lt (taken_of v (get_or ts v t.0) (get_or us v t.0) (took v t.0 lt))
+      of_two HasTaken v t.0 lt (taken_text v (get_or ts v t.0) (get_or us v t.0) (took v t.0 lt))
 
   pub done_at : ((i : ℕ) (t : Turn) → i < length us → (get_or us i t).failed ≡ false) → (v : ℕ) → v < length ts
       → HasDone gives job ticks v (slice_get ts v) (slice_get us v)

@@ -13,15 +13,15 @@ use Rattle.swap_job.specs.declared.job.Role.TheVariants.{Conforming, Manual, Scr
 use Rattle.deviators.specs.Script.{next_call, moves_left}
 use Rattle.deviators.specs.View.{IsView, MayAnswer}
 use Rattle.swap_job.specs.Fitting.{is_near}
-use Rattle.swap_job.specs.Roles.{script_of}
+use Rattle.swap_job.specs.Roles.{role_script}
 use Rattle.swap_rules.specs.Machine.{Begins}
 use Rattle.swap_rules.proofs.Prefixes.{begins_refl, begins_more, begins_height}
-use Rattle.swap_run.specs.Run.{Cast, State, Plan, plan_of, role_of, first_plan, start}
+use Rattle.swap_run.specs.Run.{Cast, State, Plan, party_plan, party_role, first_plan, start}
 use Rattle.swap_run.specs.Laws.{IsReadyCast, IsGood}
 use Rattle.swap_run.proofs.Good.{empty_at}
 use Rattle.swap_world.specs.Gone.{MayGive}
 use Rattle.party_threads.specs.Played.{IsAnswered, calls_by, answer_on}
-use Rattle.party_threads.specs.Views.{answers_on, made_on, moves_at, AreAnswered, PlaysByViews, HasPlayed}
+use Rattle.party_threads.specs.Views.{answers_on, made_calls, moves_at, AreAnswered, PlaysByViews, HasPlayed}
 
 -- cutting twice at one place is cutting once
 take_more : {A : Type 0} (n : ℕ) (xs ys : List A) → take n (take n xs ++ ys) ≡ take n (xs ++ ys)
@@ -57,9 +57,9 @@ module _ (gives : MayGive) (c : Cast) (ticks rounds : ℕ) (states : ℕ → Sta
     own : (a : ℕ) → a < length c.deal.graph.arcs → calls_by v (history view a) ≡ calls_by v (history (states r).book a)
     called : (a : ℕ) → a < length c.deal.graph.arcs
         → calls_by v (history (states (suc r)).book a) ≡ take 32 (calls_by v (history (states r).book a) ++ answer_on a answer)
-    answered : IsAnswered gives c.deal c.seeds v view answer (plan_of (states r) v) (plan_of (states (suc r)) v) (role_of c v)
+    answered : IsAnswered gives c.deal c.seeds v view answer (party_plan (states r) v) (party_plan (states (suc r)) v) (party_role c v)
     may : MayAnswer c.deal v answer
-    turns : (plan_of (states (suc r)) v).turns ≡ (plan_of (states r) v).turns + 1
+    turns : (party_plan (states (suc r)) v).turns ≡ (party_plan (states r) v).turns + 1
 
   played_next : (r : ℕ) (l : r < rounds) (t : ℕ) → r + 1 ≡ t
       → (k : HasPlayed gives c (states r) (states t) v) × (k.view ≡ (played r l).view) × (k.answer ≡ (played r l).answer)
@@ -97,47 +97,47 @@ module _ (gives : MayGive) (c : Cast) (ticks rounds : ℕ) (states : ℕ → Sta
       let e : r + m ≡ rounds = omega (arith, l) in
       subst (λ n. Begins (history (states r).book a) (history (states n).book a)) e (grown r m a (omega (arith, e)))
 
-  called_so_far : (r a : ℕ) → r ≤ rounds → a < length c.deal.graph.arcs → calls_by v (history (states r).book a) ≡ made_on a answers r
+  called_so_far : (r a : ℕ) → r ≤ rounds → a < length c.deal.graph.arcs → calls_by v (history (states r).book a) ≡ made_calls a answers r
   called_so_far zero a l la = ap (λ (s : State). calls_by v (history s.book a)) first ∙ ap (calls_by v) (empty_at c.deal a)
   called_so_far (suc r) a l la =
       (is_turn r (omega (arith, l))).called a la
       ∙ (ap (λ cs. take 32 (cs ++ answer_on a (answers r))) (called_so_far r a (omega (arith, l)) la)
       ∙ take_more 32 (answers_on a answers r) (answer_on a (answers r)))
 
-  turns_so_far : (r : ℕ) → r ≤ rounds → (plan_of (states 0) v).turns ≡ 0 → (plan_of (states r) v).turns ≡ r
+  turns_so_far : (r : ℕ) → r ≤ rounds → (party_plan (states 0) v).turns ≡ 0 → (party_plan (states r) v).turns ≡ r
   turns_so_far zero l z = z
   turns_so_far (suc r) l z =
       let n = turns_so_far r (omega (arith, l)) z in
       (is_turn r (omega (arith, l))).turns ∙ (ap (λ k. k + 1) n ∙ next r)
 
-  moves_so_far : (r : ℕ) (moves : List Move) → r ≤ rounds → role_of c v ≡ Script moves → (plan_of (states 0) v).moves ≡ moves
-      → (plan_of (states r) v).moves ≡ moves_at views moves r
+  moves_so_far : (r : ℕ) (moves : List Move) → r ≤ rounds → party_role c v ≡ Script moves → (party_plan (states 0) v).moves ≡ moves
+      → (party_plan (states r) v).moves ≡ moves_at views moves r
   moves_so_far zero moves l e z = z
   moves_so_far (suc r) moves l e z =
       let t = is_turn r (omega (arith, l)) in
-      let k = subst (IsAnswered gives c.deal c.seeds v (views r) (answers r) (plan_of (states r) v) (plan_of (states (suc r)) v)) e t.answered in
+      let k = subst (IsAnswered gives c.deal c.seeds v (views r) (answers r) (party_plan (states r) v) (party_plan (states (suc r)) v)) e t.answered in
       k.1 ∙ ap (moves_left (views r)) (moves_so_far r moves (omega (arith, l)) e z)
 
-  plan_first : plan_of (states 0) v ≡ first_plan c.deal (role_of c v)
+  plan_first : party_plan (states 0) v ≡ first_plan c.deal (party_role c v)
   plan_first =
-      ap (λ (s : State). plan_of s v) first
+      ap (λ (s : State). party_plan s v) first
       ∙ get_or-map (first_plan c.deal) c.roles v Manual (record { known = []; moves = []; turns = 0 }) (subst (λ n. v < n) (sym ready.roles) lv)
 
-  first_of_role : (plan_of (states 0) v).moves ≡ script_of (role_of c v)
+  first_of_role : (party_plan (states 0) v).moves ≡ role_script (party_role c v)
   first_of_role = ap (λ (n : Plan). n.moves) plan_first
 
-  no_turns : (plan_of (states 0) v).turns ≡ 0
+  no_turns : (party_plan (states 0) v).turns ≡ 0
   no_turns = ap (λ (n : Plan). n.turns) plan_first
 
-  answered_by : (role : Role) → role_of c v ≡ role → AreAnswered gives c rounds v views answers role
+  answered_by : (role : Role) → party_role c v ≡ role → AreAnswered gives c rounds v views answers role
   answered_by (Script moves) e = λ r lt.
       let t = is_turn r lt in
-      let k = subst (IsAnswered gives c.deal c.seeds v (views r) (answers r) (plan_of (states r) v) (plan_of (states (suc r)) v)) e t.answered in
-      k.0 ∙ ap (next_call c.deal c.seeds (views r)) (moves_so_far r moves (omega (arith, lt)) e (first_of_role ∙ ap script_of e))
+      let k = subst (IsAnswered gives c.deal c.seeds v (views r) (answers r) (party_plan (states r) v) (party_plan (states (suc r)) v)) e t.answered in
+      k.0 ∙ ap (next_call c.deal c.seeds (views r)) (moves_so_far r moves (omega (arith, lt)) e (first_of_role ∙ ap role_script e))
   answered_by (Strategy name) e = λ r lt.
       let t = is_turn r lt in
       subst (λ n. gives name c.deal v n (views r) (answers r)) (turns_so_far r (omega (arith, lt)) no_turns)
-      (subst (IsAnswered gives c.deal c.seeds v (views r) (answers r) (plan_of (states r) v) (plan_of (states (suc r)) v)) e t.answered)
+      (subst (IsAnswered gives c.deal c.seeds v (views r) (answers r) (party_plan (states r) v) (party_plan (states (suc r)) v)) e t.answered)
   answered_by Conforming e = tt
   answered_by Manual e = tt
 
@@ -180,5 +180,5 @@ module _ (gives : MayGive) (c : Cast) (ticks rounds : ℕ) (states : ℕ → Sta
       may = λ r l. (is_turn r l).may;
       calls = λ a la. called_so_far rounds a (omega arith) la;
     };
-    answered = answered_by (role_of c v) refl;
+    answered = answered_by (party_role c v) refl;
   }

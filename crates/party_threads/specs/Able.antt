@@ -4,7 +4,7 @@ use Rattle.swap_digraph.specs.Deal.{party}
 use Rattle.ledger_core.specs.declared.entry.Entry.{Entry}
 use Rattle.party_wallet.specs.Value.{signed_in}
 use Rattle.party_machine.specs.Machine.{MachineState}
-use Rattle.party_machine.specs.Wallet.{wallet_of}
+use Rattle.party_machine.specs.Wallet.{seed_wallet}
 use Rattle.swap_rules.specs.Accepted.{IsAccepted}
 use Rattle.swap_rules.specs.Machine.{IsWallet, IsSound}
 use Rattle.party_threads.specs.Tracks.{Watcher}
@@ -20,7 +20,7 @@ machine_with m a h = record { deal = m.deal; me = m.me; seed = m.seed; known = s
 -- The machine can act: its deal is accepted, its wallet is good, and its calls so far kept its rules.
 pub record IsAble (m : MachineState) : Type 0 where
   pub accepted : IsAccepted m.deal
-  pub wallet : IsWallet m.deal m.me (wallet_of m.seed m.me m.deal)
+  pub wallet : IsWallet m.deal m.me (seed_wallet m.seed m.me m.deal)
   pub party : m.me < m.deal.graph.n
   pub arcs : length m.known ≡ length m.deal.graph.arcs
   pub signs : length m.signed ≡ length m.deal.leaders

@@ -2,7 +2,7 @@
 use Rattle.std.specs.Prelude.{◌≡◌, ℕ, ◌<◌, ◌+◌, List, [], ◌∷◌, ◌++◌, length, replicate, slice_get, Some, None}
 use Rattle.swap_digraph.specs.declared.deal.Deal.{Deal}
 use Rattle.swap_job.specs.declared.job.Job.{Job}
-use Rattle.swap_world.specs.Actors.{acts_for}
+use Rattle.swap_world.specs.Actors.{job_actor}
 use Rattle.swap_world.specs.declared.actor.Actor.{Actor as Party}
 use Rattle.swap_world.specs.declared.actor.Actor.TheVariants as parties
 use Rattle.party_threads.specs.declared.turn.Actor.{Actor}
@@ -10,10 +10,10 @@ use Rattle.party_threads.specs.declared.turn.Actor.TheVariants.{Conforming, Plan
 use Rattle.party_threads.specs.declared.turn.Turn.{Turn}
 
 -- what acts for a party, among what has turns
-abbrev pub racer_of : Party → Actor
-racer_of (parties.Conforming m) = Conforming m
-racer_of (parties.Planned n) = Planned n
-racer_of parties.Manual = Manual
+abbrev pub racing_actor : Party → Actor
+racing_actor (parties.Conforming m) = Conforming m
+racing_actor (parties.Planned n) = Planned n
+racing_actor parties.Manual = Manual
 
 -- The turn of an actor that has no pass yet.
 pub record IsNewTurn (d : Deal) (x : Actor) (t : Turn) : Type 0 where
@@ -30,5 +30,5 @@ pub record HasNewTurn (d : Deal) (x : Actor) (old new : List Turn) : Type 0 wher
 -- The turns of a job's parties and of the clock, before any round.
 pub record AreNew (job : Job) (ts : List Turn) : Type 0 where
   pub number : length ts ≡ job.deal.graph.n + 1
-  pub each : (p : ℕ) (t : Turn) → p < job.deal.graph.n → slice_get ts p ≡ Some t → IsNewTurn job.deal (racer_of (acts_for job p)) t
+  pub each : (p : ℕ) (t : Turn) → p < job.deal.graph.n → slice_get ts p ≡ Some t → IsNewTurn job.deal (racing_actor (job_actor job p)) t
   pub clock : (t : Turn) → slice_get ts job.deal.graph.n ≡ Some t → IsNewTurn job.deal Clock t

@@ -18,9 +18,9 @@ abbrev pub clock_in : List (Option ClockState) → ℕ → Option ClockState
 clock_in ps a = slice_index_or ps a None
 
 -- the pass has gone on, or there is none
-abbrev pub WentOn : Option PassState → Option PassState → Type 0
-WentOn None q = q ≡ None
-WentOn (Some p) q = (r : PassState) × (q ≡ Some r) × IsLater p r
+abbrev pub Advanced : Option PassState → Option PassState → Type 0
+Advanced None q = q ≡ None
+Advanced (Some p) q = (r : PassState) × (q ≡ Some r) × IsLater p r
 
-abbrev pub HaveGoneOn : List (Option PassState) → List (Option PassState) → Type 0
-HaveGoneOn ps qs = (a : ℕ) → WentOn (pass_in ps a) (pass_in qs a)
+abbrev pub HaveAdvanced : List (Option PassState) → List (Option PassState) → Type 0
+HaveAdvanced ps qs = (a : ℕ) → Advanced (pass_in ps a) (pass_in qs a)

@@ -5,13 +5,13 @@ use Rattle.swap_digraph.specs.declared.deal.Deal.{Deal}
 use Rattle.ledger_core.specs.declared.entry.Call.{Call}
 use Rattle.ledger_core.specs.declared.entry.Entry.{Entry}
 use Rattle.ledger_core.specs.Book.{Histories, history}
-use Rattle.ledger_shared.specs.Value.{PassState, made_by}
+use Rattle.ledger_shared.specs.Value.{PassState, party_made}
 use Rattle.swap_job.specs.declared.job.Role.{Role}
 use Rattle.swap_job.specs.declared.job.Role.TheVariants.{Conforming, Manual, Script, Strategy}
 use Rattle.swap_job.specs.Crafted.{Seeds}
 use Rattle.deviators.specs.Script.{next_call, moves_left}
 use Rattle.deviators.specs.View.{IsView, MayAnswer}
-use Rattle.swap_rules.specs.Party.{call_by}
+use Rattle.swap_rules.specs.Party.{pick_call}
 use Rattle.swap_rules.specs.Machine.{Begins}
 use Rattle.swap_run.specs.Run.{Plan}
 use Rattle.swap_world.specs.Gone.{MayGive}
@@ -19,14 +19,14 @@ use Rattle.party_threads.specs.Later.{pass_in}
 use Rattle.party_threads.specs.Tracks.{Watcher}
 
 -- party v of the deal, with what it knows by its plan
-abbrev pub planner_of : Deal → ℕ → Plan → Watcher
-planner_of d v n = record { deal = d; me = v; known = n.known }
+abbrev pub party_planner : Deal → ℕ → Plan → Watcher
+party_planner d v n = record { deal = d; me = v; known = n.known }
 
 -- What a party has come to know.
 
 -- the history h is k with fresh entries of others than v
 abbrev pub IsFresh : ℕ → List Entry → List Entry → Type 0
-IsFresh v k h = (fresh : List Entry) × (h ≡ k ++ fresh) × (made_by v fresh ≡ [])
+IsFresh v k h = (fresh : List Entry) × (h ≡ k ++ fresh) × (party_made v fresh ≡ [])
 
 abbrev pub HaveFresh : ℕ → Histories → Histories → Type 0
 HaveFresh v old new = (a : ℕ) → IsFresh v (history old a) (history new a)
@@ -44,7 +44,7 @@ with_call (Some c) cs = c ∷ cs
 -- the calls of v, oldest first
 abbrev pub calls_by : ℕ → List Entry → List Call
 calls_by v [] = []
-calls_by v (e ∷ es) = with_call (call_by v e) (calls_by v es)
+calls_by v (e ∷ es) = with_call (pick_call v e) (calls_by v es)
 
 -- the call of an answer, where it stands on arc a
 abbrev pub answer_on : ℕ → Option (ℕ × Call) → List Call

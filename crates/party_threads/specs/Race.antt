@@ -10,7 +10,7 @@ use Rattle.ledger_core.specs.declared.entry.Entry.{Entry}
 use Rattle.ledger_core.specs.History.{height}
 use Rattle.ledger_core.specs.Ledger.{tick_entry}
 use Rattle.ledger_core.specs.Book.{Histories, history, IsLegalBook}
-use Rattle.ledger_shared.specs.Value.{made_by, ticks_in_order}
+use Rattle.ledger_shared.specs.Value.{party_made, ticks_in_order}
 use Rattle.swap_rules.specs.Accepted.{IsAccepted}
 use Rattle.swap_rules.specs.Outcome.{IsEnded}
 use Rattle.swap_rules.specs.Party.{first_key}
@@ -18,11 +18,11 @@ use Rattle.swap_rules.specs.Due.{Wallet, due}
 use Rattle.swap_rules.specs.declared.finding.Rule.{Rule}
 use Rattle.swap_rules.specs.Conduct.{IsConducted}
 use Rattle.swap_rules.specs.Late.{ref_of}
-use Rattle.swap_rules.specs.Findings.{rules_of}
+use Rattle.swap_rules.specs.Findings.{deal_rules}
 use Rattle.swap_rules.specs.Machine.{Begins, IsSound}
 use Rattle.swap_rules.specs.Laws.{IsOnTime, IsDealt}
 use Rattle.swap_rules.specs.Rounds.{IsNear, IsDoneBy, AreRaceBooks}
-use Rattle.swap_run.specs.Run.{Cast, State, conforms, role_of, is_planned, notes_of, next_of, start}
+use Rattle.swap_run.specs.Run.{Cast, State, conforms, party_role, is_planned, state_notes, next_action, start}
 use Rattle.swap_run.specs.Laws.{IsReadyCast, IsGood}
 use Rattle.swap_run.specs.Fair.{the_horizon}
 use Rattle.typed_books.specs.Books.{IsTypedBook}
@@ -30,8 +30,8 @@ use Rattle.swap_world.specs.Gone.{MayGive}
 use Rattle.party_threads.specs.Views.{HasPlayed, PlaysByViews}
 
 -- the fewest rounds of so many ticks that pass the horizon
-abbrev pub rounds_for : Deal → ℕ → ℕ
-rounds_for d ticks = the_horizon d / ticks + 1
+abbrev pub needed_rounds : Deal → ℕ → ℕ
+needed_rounds d ticks = the_horizon d / ticks + 1
 
 -- What a round makes of the book and of what each conforming party has noted, whatever the order of the threads: every conforming party ends its turn with
 -- nothing due, past all that stood as the round began; a party that follows a script or a strategy makes at most the one call that answers its view; nobody
@@ -41,11 +41,11 @@ pub record IsRound (gives : MayGive) (c : Cast) (ticks : ℕ) (s t : State) : Ty
   pub grows : (a : ℕ) → Begins (history s.book a) (history t.book a)
   pub ticked : (a : ℕ) → IsIn a (arcs c.deal.graph)
       → ticks_in_order (history t.book a) ≡ ticks_in_order (history s.book a) ++ tick_entry ticks (height (history s.book a) + ticks) Accepted ∷ []
-  pub seen : (v a : ℕ) → v < c.deal.graph.n → conforms c v ≡ true → IsNear c.deal v a → Begins (history s.book a) (history (notes_of t v).known a)
-  pub rests : (v : ℕ) → v < c.deal.graph.n → conforms c v ≡ true → next_of c t v ≡ None
-  pub others : (v a : ℕ) → v < c.deal.graph.n → conforms c v ≡ false → is_planned (role_of c v) ≡ false
-      → made_by v (history t.book a) ≡ made_by v (history s.book a)
-  pub played : (v : ℕ) → v < c.deal.graph.n → conforms c v ≡ false → is_planned (role_of c v) ≡ true → HasPlayed gives c s t v
+  pub seen : (v a : ℕ) → v < c.deal.graph.n → conforms c v ≡ true → IsNear c.deal v a → Begins (history s.book a) (history (state_notes t v).known a)
+  pub rests : (v : ℕ) → v < c.deal.graph.n → conforms c v ≡ true → next_action c t v ≡ None
+  pub others : (v a : ℕ) → v < c.deal.graph.n → conforms c v ≡ false → is_planned (party_role c v) ≡ false
+      → party_made v (history t.book a) ≡ party_made v (history s.book a)
+  pub played : (v : ℕ) → v < c.deal.graph.n → conforms c v ≡ false → is_planned (party_role c v) ≡ true → HasPlayed gives c s t v
 
 -- The state after so many rounds from the start, with those between.
 pub record IsRaced (gives : MayGive) (c : Cast) (ticks rounds : ℕ) (t : State) : Type 0 where
@@ -55,17 +55,17 @@ pub record IsRaced (gives : MayGive) (c : Cast) (ticks rounds : ℕ) (t : State)
   pub each : (r : ℕ) → r < rounds → IsRound gives c ticks (states r) (states (r + 1))
 
 -- the books at the ends of so many rounds, oldest first, and before them that of the start
-abbrev pub books_of : (ℕ → State) → ℕ → List Histories
-books_of states rounds = map (λ r. (states r).book) (range_with_len 0 (rounds + 1))
+abbrev pub round_books : (ℕ → State) → ℕ → List Histories
+round_books states rounds = map (λ r. (states r).book) (range_with_len 0 (rounds + 1))
 
 -- The book came of rounds from the start, the fewest that pass the horizon. The books at their ends are, for each conforming party, such a list as the law
 -- speaks of by which races are in time.
 pub record IsOfRounds (gives : MayGive) (c : Cast) (ticks : ℕ) (b : Histories) : Type 0 where
   pub end : State
-  pub raced : IsRaced gives c ticks (rounds_for c.deal ticks) end
+  pub raced : IsRaced gives c ticks (needed_rounds c.deal ticks) end
   pub book : b ≡ end.book
   pub listed : (v : ℕ) → v < c.deal.graph.n → conforms c v ≡ true
-      → AreRaceBooks c.deal v (c.wallet v) ticks (rounds_for c.deal ticks) (books_of raced.states (rounds_for c.deal ticks))
+      → AreRaceBooks c.deal v (c.wallet v) ticks (needed_rounds c.deal ticks) (round_books raced.states (needed_rounds c.deal ticks))
 
 -- the ticks of so many rounds
 abbrev pub ticks_of_rounds : ℕ → ℕ → List Entry
@@ -80,14 +80,15 @@ pub record IsRaceBook (gives : MayGive) (c : Cast) (ticks : ℕ) (b : Histories)
   pub legal : IsLegalBook c.deal b
   -- each call holds digests of 32 bytes and signatures of 67 digests, whoever made it
   pub typed : IsTypedBook b
-  pub ticked : (a : ℕ) → IsIn a (arcs c.deal.graph) → ticks_in_order (history b a) ≡ ticks_of_rounds ticks (rounds_for c.deal ticks)
+  pub ticked : (a : ℕ) → IsIn a (arcs c.deal.graph) → ticks_in_order (history b a) ≡ ticks_of_rounds ticks (needed_rounds c.deal ticks)
   pub ended : IsEnded c.deal b
   pub conducted : (v : ℕ) → v < c.deal.graph.n → conforms c v ≡ true → IsConducted c.deal b v
   -- a party that follows a script or a strategy makes just the calls that answer its round views, and nobody else makes a call
-  pub played : (v : ℕ) → v < c.deal.graph.n → conforms c v ≡ false → is_planned (role_of c v) ≡ true → PlaysByViews gives c ticks (rounds_for c.deal ticks) b v
-  pub others : (v a : ℕ) → v < c.deal.graph.n → conforms c v ≡ false → is_planned (role_of c v) ≡ false → made_by v (history b a) ≡ []
+  pub played : (v : ℕ) → v < c.deal.graph.n → conforms c v ≡ false → is_planned (party_role c v) ≡ true
+      → PlaysByViews gives c ticks (needed_rounds c.deal ticks) b v
+  pub others : (v a : ℕ) → v < c.deal.graph.n → conforms c v ≡ false → is_planned (party_role c v) ≡ false → party_made v (history b a) ≡ []
   -- what is enabled for a conforming party is done within two rounds' ticks, or its ledger isn't past that
-  pub in_time : (v : ℕ) (rule : Rule) (a ref : ℕ) → v < c.deal.graph.n → conforms c v ≡ true → IsIn rule (rules_of c.deal) → IsIn a (arcs c.deal.graph)
+  pub in_time : (v : ℕ) (rule : Rule) (a ref : ℕ) → v < c.deal.graph.n → conforms c v ≡ true → IsIn rule (deal_rules c.deal) → IsIn a (arcs c.deal.graph)
       → ref_of c.deal b v rule a ≡ Some ref → IsDoneBy c.deal b v rule a (ref + 2 * ticks)
   -- so that nobody conforming is late where two ticks fit in delta
   pub on_time : 2 * ticks ≤ c.deal.delta → (v : ℕ) → v < c.deal.graph.n → conforms c v ≡ true → IsOnTime c.deal b v
@@ -97,7 +98,7 @@ pub record IsRaceBook (gives : MayGive) (c : Cast) (ticks : ℕ) (b : Histories)
 -- rounds that pass the horizon keep all that a race promises of a book of the program's own types
 abbrev pub RacesAreKept : Type 1
 RacesAreKept =
-    (gives : MayGive) (c : Cast) (ticks : ℕ) (t : State) → IsReadyCast c → 1 ≤ ticks → IsRaced gives c ticks (rounds_for c.deal ticks) t
+    (gives : MayGive) (c : Cast) (ticks : ℕ) (t : State) → IsReadyCast c → 1 ≤ ticks → IsRaced gives c ticks (needed_rounds c.deal ticks) t
     → IsTypedBook t.book → IsRaceBook gives c ticks t.book
 
 -- If the calls of v in what it knows keep its rules, nothing is due by the hashkeys that it signed

@@ -7,14 +7,14 @@ use Rattle.ledger_core.specs.History.{height}
 use Rattle.ledger_core.specs.Value.{LedgerState}
 use Rattle.ledger_core.specs.Book.{Histories, history}
 use Rattle.ledger_shared.specs.Value.{ticks_in_order}
-use Rattle.swap_job.specs.Roles.{role_in}
+use Rattle.swap_job.specs.Roles.{job_role}
 use Rattle.swap_job.specs.declared.job.Job.{Job}
 use Rattle.swap_job.specs.declared.job.Role.{Role}
 use Rattle.swap_job.specs.declared.job.Role.TheVariants as kinds
 use Rattle.swap_run.specs.Run.{Notes, Plan, State, no_notes, first_plan, is_planned}
 use Rattle.swap_rules.specs.Machine.{Knows}
 use Rattle.swap_run.specs.Laws.{IsReadyCast, IsGood}
-use Rattle.swap_world.specs.Cast.{cast_of}
+use Rattle.swap_world.specs.Cast.{job_cast}
 use Rattle.party_threads.specs.declared.turn.Actor.{Actor}
 use Rattle.party_threads.specs.declared.turn.Actor.TheVariants.{Conforming, Planned, Manual, Clock}
 use Rattle.party_threads.specs.declared.turn.Turn.{Turn}
@@ -24,8 +24,8 @@ abbrev pub history_in : Option LedgerState → List Entry
 history_in (Some l) = l.history
 history_in None = []
 
-abbrev pub book_in : List (Option LedgerState) → Histories
-book_in ls = map history_in ls
+abbrev pub swap_book : List (Option LedgerState) → Histories
+swap_book ls = map history_in ls
 
 -- what the party has noted, where it conforms
 abbrev pub notes_in : Deal → Actor → Notes
@@ -43,9 +43,9 @@ plan_in d _ = first_plan d kinds.Manual
 abbrev pub plan_at : Deal → List Turn → ℕ → Plan
 plan_at d ts v = plan_in d (actor_at ts v)
 
-abbrev pub state_of : Job → List (Option LedgerState) → List Turn → State
-state_of job ls ts = record {
-  book = book_in ls;
+abbrev pub inside_state : Job → List (Option LedgerState) → List Turn → State
+inside_state job ls ts = record {
+  book = swap_book ls;
   notes = map (notes_at job.deal ts) (range_with_len 0 job.deal.graph.n);
   plans = map (plan_at job.deal ts) (range_with_len 0 job.deal.graph.n);
   asked = [];
@@ -61,7 +61,7 @@ IsActorOf d conforms seed role v Clock = ⊥
 
 -- The actor of party v of the job.
 abbrev pub IsActorIn : Job → ℕ → Actor → Type 0
-IsActorIn job v x = IsActorOf job.deal (slice_index_or job.conforming v false) (slice_index_or job.seeds v None) (role_in job v) v x
+IsActorIn job v x = IsActorOf job.deal (slice_index_or job.conforming v false) (slice_index_or job.seeds v None) (job_role job v) v x
 
 -- what the actor v plans by holds all its calls
 abbrev pub KnowsOwn : ℕ → Actor → Histories → Type 0
@@ -70,14 +70,14 @@ KnowsOwn v _ b = Unit {0}
 
 -- Every ledger is at home, and nobody has a pass; what the parties know and did so far is good.
 pub record Stands (job : Job) (ls : List (Option LedgerState)) (ts : List Turn) : Type 0 where
-  pub cast : IsReadyCast (cast_of job)
+  pub cast : IsReadyCast (job_cast job)
   pub home : AreHome job.deal ls
   pub places : HavePlaces job.deal ts
   pub free : AreFree job.deal ts
   pub actors : (v : ℕ) → v < job.deal.graph.n → IsActorIn job v (actor_at ts v)
   pub clock : actor_at ts job.deal.graph.n ≡ Clock
-  pub good : IsGood (cast_of job) (state_of job ls ts)
-  pub own : (v : ℕ) → v < job.deal.graph.n → KnowsOwn v (actor_at ts v) (book_in ls)
+  pub good : IsGood (job_cast job) (inside_state job ls ts)
+  pub own : (v : ℕ) → v < job.deal.graph.n → KnowsOwn v (actor_at ts v) (swap_book ls)
 
 -- The history of arc a takes a further tick.
 pub record HasRoom (ticks : ℕ) (h : List Entry) : Type 0 where

@@ -25,12 +25,12 @@ pub record AreClocksOf (ticks : ℕ) (ledgers : List SharedState) (ps : List (Op
   pub room : (a : ℕ) (p : ClockState) → a < length ps → clock_in ps a ≡ Some p → HaveRoom ticks p
 
 -- the pass has gone on, or there is none
-abbrev pub ClockWentOn : Option ClockState → Option ClockState → Type 0
-ClockWentOn None q = q ≡ None
-ClockWentOn (Some p) q = (r : ClockState) × (q ≡ Some r) × IsClockLater p r
+abbrev pub ClockAdvanced : Option ClockState → Option ClockState → Type 0
+ClockAdvanced None q = q ≡ None
+ClockAdvanced (Some p) q = (r : ClockState) × (q ≡ Some r) × IsClockLater p r
 
-abbrev pub HaveClocksGoneOn : List (Option ClockState) → List (Option ClockState) → Type 0
-HaveClocksGoneOn ps qs = (a : ℕ) → ClockWentOn (clock_in ps a) (clock_in qs a)
+abbrev pub HaveClocksAdvanced : List (Option ClockState) → List (Option ClockState) → Type 0
+HaveClocksAdvanced ps qs = (a : ℕ) → ClockAdvanced (clock_in ps a) (clock_in qs a)
 
 -- the ledger of the pass has ticked once, or there is none
 abbrev pub Ticked : ℕ → Option ClockState → Option ClockState → Type 0

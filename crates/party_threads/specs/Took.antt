@@ -1,7 +1,7 @@
 -- What a turn asks for, and what it does.
 use Rattle.std.specs.Prelude.{◌≡◌, ℕ, ◌<◌, Bool, true, false, List, length, Option, Some, None}
 use Rattle.ledger_core.specs.Book.{history}
-use Rattle.swap_job.specs.Roles.{IsHeld, role_in}
+use Rattle.swap_job.specs.Roles.{IsHeld, job_role}
 use Rattle.swap_job.specs.declared.job.Job.{Job}
 use Rattle.ledger_shared.specs.Value.{PassState, ClockState, SharedState}
 use Rattle.party_machine.specs.Machine.{MachineState, next_due}
@@ -12,11 +12,11 @@ use Rattle.swap_world.specs.Acting.{IsSameOwner}
 use Rattle.party_threads.specs.declared.turn.Actor.{Actor}
 use Rattle.party_threads.specs.declared.turn.Actor.TheVariants.{Conforming, Planned, Manual, Clock}
 use Rattle.party_threads.specs.declared.turn.Turn.{Turn}
-use Rattle.party_threads.specs.Later.{pass_in, HaveGoneOn}
+use Rattle.party_threads.specs.Later.{pass_in, HaveAdvanced}
 use Rattle.party_threads.specs.Tracks.{Tracks, HasItsPasses, HaveSeenAll, IsSameElsewhere}
 use Rattle.party_threads.specs.Able.{watcher, IsAble}
-use Rattle.party_threads.specs.Ticks.{AreClocksOf, HaveClocksGoneOn, HaveTicked}
-use Rattle.party_threads.specs.Played.{planner_of, HasPlayed}
+use Rattle.party_threads.specs.Ticks.{AreClocksOf, HaveClocksAdvanced, HaveTicked}
+use Rattle.party_threads.specs.Played.{party_planner, HasPlayed}
 
 -- A machine can act, and knows what its passes have seen.
 pub record IsMachineSeated (ledgers : List SharedState) (m : MachineState) (ps : List (Option PassState)) : Type 0 where
@@ -28,9 +28,9 @@ pub record IsMachineSeated (ledgers : List SharedState) (m : MachineState) (ps :
 pub record IsPlannerSeated (holds : List ℕ → Bool) (job : Job) (ledgers : List SharedState) (v : ℕ) (n : Plan) (ps : List (Option PassState)) : Type 0 where
   pub place : v < length job.roles
   pub shown : IsShown job.deal job.seeds v n
-  pub planned : is_planned (role_in job v) ≡ true
-  pub held : IsHeld holds (role_in job v)
-  pub tracks : Tracks ledgers (planner_of job.deal v n) ps
+  pub planned : is_planned (job_role job v) ≡ true
+  pub held : IsHeld holds (job_role job v)
+  pub tracks : Tracks ledgers (party_planner job.deal v n) ps
   pub passes : HasItsPasses job.deal v ps
 
 -- the actor has its passes
@@ -70,7 +70,7 @@ pub record HasActed (m : MachineState) (old : List (Option PassState)) (n : Mach
 pub record HasPlanned (gives : MayGive) (job : Job) (v : ℕ) (n : Plan) (old : List (Option PassState)) (m : Plan) (new : List (Option PassState)) : Type 0 where
   pub shown : IsShown job.deal job.seeds v m
   pub seen : (a : ℕ) (p : PassState) → a < length new → pass_in new a ≡ Some p → p.seen ≡ history m.known a
-  pub played : HasPlayed gives job.deal job.seeds (role_in job v) v old n m
+  pub played : HasPlayed gives job.deal job.seeds (job_role job v) v old n m
 
 -- what an actor did in its turn, by its passes before and after it
 abbrev pub Did : MayGive → Job → ℕ → ℕ → (ps qs : List (Option PassState)) → (cs ds : List (Option ClockState)) → Actor → Actor → Type 0
@@ -91,8 +91,8 @@ DidIn gives job ticks v old new = Did gives job ticks v old.passes.items new.pas
 -- A turn leaves its actor and its passes, which have gone on; where memory was enough, it did what it had to.
 pub record Took (gives : MayGive) (job : Job) (ticks v : ℕ) (old new : Turn) : Type 0 where
   pub actor : IsSameActor old.actor new.actor
-  pub passes : HaveGoneOn old.passes.items new.passes.items
+  pub passes : HaveAdvanced old.passes.items new.passes.items
   pub places : length new.passes.items ≡ length old.passes.items
-  pub clocks : HaveClocksGoneOn old.clocks.items new.clocks.items
+  pub clocks : HaveClocksAdvanced old.clocks.items new.clocks.items
   pub clock_places : length new.clocks.items ≡ length old.clocks.items
   pub did : new.failed ≡ false → DidIn gives job ticks v old new

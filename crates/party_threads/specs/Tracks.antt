@@ -9,7 +9,7 @@ use Rattle.ledger_core.specs.declared.entry.Entry.{Entry}
 use Rattle.ledger_core.specs.History.{IsLegal}
 use Rattle.ledger_core.specs.Ledger.{after_call}
 use Rattle.ledger_core.specs.Book.{Histories, history}
-use Rattle.ledger_shared.specs.Value.{PassState, SharedState, made_by, with_seen}
+use Rattle.ledger_shared.specs.Value.{PassState, SharedState, party_made, with_seen}
 use Rattle.party_threads.specs.Later.{IsLater, pass_in}
 
 -- A party of a deal, with what it knows of each ledger.
@@ -55,14 +55,14 @@ pub record HasLooked {S : Type 0} (w : Watcher) (after : List Entry → S) (a : 
   pub knows : n ≡ after (history w.known a ++ fresh)
   pub pass : q ≡ with_seen p fresh
   pub seen : q.seen ≡ history w.known a ++ fresh
-  pub foreign : made_by w.me fresh ≡ []
+  pub foreign : party_made w.me fresh ≡ []
   pub legal : IsLegal w.deal a (history w.known a ++ fresh)
   pub whole : IsPrefix q.shared q.seen
 
 -- The call stands at the end of what the party then knows, after entries of others.
 pub record HasMade {S : Type 0} (w : Watcher) (after : List Entry → S) (a : ℕ) (call : Call) (p : PassState) (n : S) (q : PassState) : Type 0 where
   pub others : List Entry
-  pub foreign : made_by w.me others ≡ []
+  pub foreign : party_made w.me others ≡ []
   pub legal : IsLegal w.deal a (history w.known a ++ others)
   pub knows : n ≡ after (after_call w.deal a w.me call (history w.known a ++ others))
   pub seen : q.seen ≡ after_call w.deal a w.me call (history w.known a ++ others)
@@ -71,9 +71,9 @@ pub record HasMade {S : Type 0} (w : Watcher) (after : List Entry → S) (a : �
 
 -- Where there may be no pass.
 
-abbrev pub IsPlaceOf : Watcher → TableId → ℕ → Option PassState → Type 0
-IsPlaceOf w lock a None = Unit {0}
-IsPlaceOf w lock a (Some p) = IsPassOf w lock a p
+abbrev pub IsWatcherPlace : Watcher → TableId → ℕ → Option PassState → Type 0
+IsWatcherPlace w lock a None = Unit {0}
+IsWatcherPlace w lock a (Some p) = IsPassOf w lock a p
 
 -- the same as HasLooked through the pass at a place, where nothing is looked at without one
 abbrev pub LookedIf : {S : Type 0} → Watcher → (List Entry → S) → ℕ → S → Option PassState → S → Option PassState → Type 0

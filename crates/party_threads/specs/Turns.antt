@@ -6,7 +6,7 @@ use Rattle.swap_digraph.specs.Deal.{touches}
 use Rattle.ledger_core.specs.declared.entry.Entry.{Entry}
 use Rattle.ledger_core.specs.Value.{LedgerState}
 use Rattle.ledger_core.specs.Book.{history}
-use Rattle.ledger_shared.specs.Value.{PassState, ClockState, pass_at, clock_at, Closes, ClosesClock}
+use Rattle.ledger_shared.specs.Value.{PassState, ClockState, pass_at, table_clock, Closes, ClosesClock}
 use Rattle.swap_rules.specs.Machine.{Knows}
 use Rattle.swap_world.specs.Inside.{IsLedgerOf}
 use Rattle.party_threads.specs.declared.turn.Actor.{Actor}
@@ -15,9 +15,9 @@ use Rattle.party_threads.specs.declared.turn.Turn.{Turn}
 use Rattle.party_threads.specs.Later.{pass_in, clock_in}
 
 -- the actor with the number v; the clock's is the number of parties
-abbrev pub actor_of : Option Turn → Actor
-actor_of (Some t) = t.actor
-actor_of None = Clock
+abbrev pub new_actor : Option Turn → Actor
+new_actor (Some t) = t.actor
+new_actor None = Clock
 
 abbrev pub passes_of : Option Turn → List (Option PassState)
 passes_of (Some t) = t.passes.items
@@ -28,7 +28,7 @@ clocks_of (Some t) = t.clocks.items
 clocks_of None = []
 
 abbrev pub actor_at : List Turn → ℕ → Actor
-actor_at ts v = actor_of (slice_get ts v)
+actor_at ts v = new_actor (slice_get ts v)
 
 -- the pass of v at arc a, if any
 abbrev pub held_at : List Turn → ℕ → ℕ → Option PassState
@@ -38,8 +38,8 @@ abbrev pub clock_held_at : List Turn → ℕ → ℕ → Option ClockState
 clock_held_at ts v a = clock_in (clocks_of (slice_get ts v)) a
 
 -- the ledger of arc a, where it is at home
-abbrev pub ledger_at : List (Option LedgerState) → ℕ → Option LedgerState
-ledger_at ls a = slice_index_or ls a None
+abbrev pub arc_ledger : List (Option LedgerState) → ℕ → Option LedgerState
+arc_ledger ls a = slice_index_or ls a None
 
 -- what the pass of an actor has seen as it is dealt: what its party knows, or all
 abbrev pub started : Actor → ℕ → List Entry → List Entry
@@ -61,7 +61,7 @@ IsBehind x v a h = Knows v (started x a h) h
 
 -- each actor is behind the histories of its arcs
 abbrev pub AreBehind : Deal → List Turn → List (Option LedgerState) → Type 0
-AreBehind d ts ls = (v a : ℕ) (l : LedgerState) → v < d.graph.n → a < length d.graph.arcs → ledger_at ls a ≡ Some l → IsBehind (actor_at ts v) v a l.history
+AreBehind d ts ls = (v a : ℕ) (l : LedgerState) → v < d.graph.n → a < length d.graph.arcs → arc_ledger ls a ≡ Some l → IsBehind (actor_at ts v) v a l.history
 
 -- every ledger is at home
 abbrev pub IsHome : Deal → ℕ → Option LedgerState → Type 0
@@ -70,7 +70,7 @@ IsHome d a (Some l) = IsLedgerOf d a l
 
 pub record AreHome (d : Deal) (ls : List (Option LedgerState)) : Type 0 where
   pub one_each : length ls ≡ length d.graph.arcs
-  pub each : (a : ℕ) → a < length d.graph.arcs → IsHome d a (ledger_at ls a)
+  pub each : (a : ℕ) → a < length d.graph.arcs → IsHome d a (arc_ledger ls a)
 
 -- Each party has a place for a pass at each ledger, and so has the clock.
 pub record HavePlaces (d : Deal) (ts : List Turn) : Type 0 where
@@ -96,13 +96,13 @@ dealt_in x v (Some lock) (Some l) = dealt_to x v lock l
 dealt_in x v _ _ = None
 
 abbrev pub clock_dealt_in : Option TableId → Option LedgerState → Option ClockState
-clock_dealt_in (Some lock) (Some l) = Some (clock_at lock l)
+clock_dealt_in (Some lock) (Some l) = Some (table_clock lock l)
 clock_dealt_in _ _ = None
 
 -- The passes of the ledgers with these locks are dealt, and no others.
 pub record AreDealt (d : Deal) (ts : List Turn) (locks : List TableId) (ls : List (Option LedgerState)) : Type 0 where
-  pub passes : (v a : ℕ) → v < d.graph.n → a < length d.graph.arcs → held_at ts v a ≡ dealt_in (actor_at ts v) v (slice_get locks a) (ledger_at ls a)
-  pub clocks : (a : ℕ) → a < length d.graph.arcs → clock_held_at ts d.graph.n a ≡ clock_dealt_in (slice_get locks a) (ledger_at ls a)
+  pub passes : (v a : ℕ) → v < d.graph.n → a < length d.graph.arcs → held_at ts v a ≡ dealt_in (actor_at ts v) v (slice_get locks a) (arc_ledger ls a)
+  pub clocks : (a : ℕ) → a < length d.graph.arcs → clock_held_at ts d.graph.n a ≡ clock_dealt_in (slice_get locks a) (arc_ledger ls a)
 
 -- The pass is that of party v at the ledger of arc a with that lock.
 pub record IsAt (d : Deal) (a : ℕ) (lock : TableId) (v : ℕ) (p : PassState) : Type 0 where

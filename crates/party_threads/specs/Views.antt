@@ -11,7 +11,7 @@ use Rattle.deviators.specs.Script.{next_call, moves_left}
 use Rattle.deviators.specs.View.{IsView, MayAnswer}
 use Rattle.swap_job.specs.Fitting.{is_near}
 use Rattle.swap_rules.specs.Machine.{Begins}
-use Rattle.swap_run.specs.Run.{Cast, State, plan_of, role_of}
+use Rattle.swap_run.specs.Run.{Cast, State, party_plan, party_role}
 use Rattle.swap_world.specs.Gone.{MayGive}
 use Rattle.party_threads.specs.Played.{calls_by, answer_on, IsAnswered}
 
@@ -21,8 +21,8 @@ answers_on a answers zero = []
 answers_on a answers (suc r) = answers_on a answers r ++ answer_on a (answers r)
 
 -- the calls that are made of them: a ledger takes 32 of one party
-abbrev pub made_on : ℕ → (ℕ → Option (ℕ × Call)) → ℕ → List Call
-made_on a answers r = take 32 (answers_on a answers r)
+abbrev pub made_calls : ℕ → (ℕ → Option (ℕ × Call)) → ℕ → List Call
+made_calls a answers r = take 32 (answers_on a answers r)
 
 -- the moves that are left of a script after the first r views
 abbrev pub moves_at : (ℕ → Histories) → List Move → ℕ → List Move
@@ -39,9 +39,9 @@ pub record AreRoundViews (d : Deal) (ticks rounds : ℕ) (b : Histories) (v : �
   pub begins : (r a : ℕ) → r < rounds → Begins (history (views r) a) (history b a)
   pub high : (r a : ℕ) → r < rounds → a < length d.graph.arcs → is_near d v a ≡ true → r * ticks ≤ height (history (views r) a)
   pub grows : (r a : ℕ) → r + 1 < rounds → Begins (history (views r) a) (history (views (r + 1)) a)
-  pub own : (r a : ℕ) → r < rounds → a < length d.graph.arcs → calls_by v (history (views r) a) ≡ made_on a answers r
+  pub own : (r a : ℕ) → r < rounds → a < length d.graph.arcs → calls_by v (history (views r) a) ≡ made_calls a answers r
   pub may : (r : ℕ) → r < rounds → MayAnswer d v (answers r)
-  pub calls : (a : ℕ) → a < length d.graph.arcs → calls_by v (history b a) ≡ made_on a answers rounds
+  pub calls : (a : ℕ) → a < length d.graph.arcs → calls_by v (history b a) ≡ made_calls a answers rounds
 
 -- each view is answered once: by the script from its first move, or by the strategy
 abbrev pub AreAnswered : MayGive → Cast → ℕ → ℕ → (ℕ → Histories) → (ℕ → Option (ℕ × Call)) → Role → Type 0
@@ -55,7 +55,7 @@ pub record PlaysByViews (gives : MayGive) (c : Cast) (ticks rounds : ℕ) (b : H
   pub views : ℕ → Histories
   pub answers : ℕ → Option (ℕ × Call)
   pub are : AreRoundViews c.deal ticks rounds b v views answers
-  pub answered : AreAnswered gives c rounds v views answers (role_of c v)
+  pub answered : AreAnswered gives c rounds v views answers (party_role c v)
 
 -- One round.
 
@@ -69,6 +69,6 @@ pub record HasPlayed (gives : MayGive) (c : Cast) (s t : State) (v : ℕ) : Type
   pub begins : (a : ℕ) → Begins (history view a) (history t.book a)
   pub own : (a : ℕ) → a < length c.deal.graph.arcs → calls_by v (history view a) ≡ calls_by v (history s.book a)
   pub called : (a : ℕ) → a < length c.deal.graph.arcs → calls_by v (history t.book a) ≡ take 32 (calls_by v (history s.book a) ++ answer_on a answer)
-  pub answered : IsAnswered gives c.deal c.seeds v view answer (plan_of s v) (plan_of t v) (role_of c v)
+  pub answered : IsAnswered gives c.deal c.seeds v view answer (party_plan s v) (party_plan t v) (party_role c v)
   pub may : MayAnswer c.deal v answer
-  pub turns : (plan_of t v).turns ≡ (plan_of s v).turns + 1
+  pub turns : (party_plan t v).turns ≡ (party_plan s v).turns + 1

@@ -2,7 +2,7 @@
 
 ghost use Rattle.std.specs.Prelude.{◌≡◌, ◌<◌, ◌≤◌, OnOk};
 ghost use Rattle.party_threads.specs.Later.{IsClockLater};
-ghost use Rattle.party_threads.specs.Ticks.{HaveRoom, HasTickedOnce, HaveTicked, HaveClocksGoneOn, AreClocksOf};
+ghost use Rattle.party_threads.specs.Ticks.{HaveRoom, HasTickedOnce, HaveTicked, HaveClocksAdvanced, AreClocksOf};
 
 use ledger_shared::{ClockPass, SharedLedger};
 use std::sync::Wait;
@@ -36,7 +36,7 @@ pub fn take_clock_turn<R: Wait>(
     requires some { 1 ≤ ticks }
     requires below { ticks ≤ 1000 }
     requires passes { AreClocksOf ticks ledgers.now passes.old }
-    ensures gone_on { HaveClocksGoneOn passes.old passes.new }
+    ensures gone_on { HaveClocksAdvanced passes.old passes.new }
     ensures ticked { OnOk result (HaveTicked ticks passes.old passes.new) }
 {
     'arcs: for arc in 0..passes.len() {

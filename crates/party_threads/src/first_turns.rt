@@ -2,9 +2,9 @@
 
 ghost use Rattle.std.specs.Prelude.{◌≡◌, None, length, replicate, IfOk, OnOk};
 ghost use Rattle.swap_digraph.specs.Deal.{IsWellSized};
-ghost use Rattle.party_wallet.specs.Wallets.{wallets_of};
+ghost use Rattle.party_wallet.specs.Wallets.{new_wallets};
 ghost use Rattle.swap_world.specs.Actors.{AllFit};
-ghost use Rattle.party_threads.specs.FirstTurns.{racer_of, IsNewTurn, HasNewTurn, AreNew};
+ghost use Rattle.party_threads.specs.FirstTurns.{racing_actor, IsNewTurn, HasNewTurn, AreNew};
 
 use crate::turn::{Actor, Turn};
 use ledger_shared::{ClockPass, Pass};
@@ -13,7 +13,7 @@ use std::alloc::Global;
 use swap_base::NoMemory;
 use swap_digraph::Deal;
 use swap_job::Job;
-use swap_world::{Actor as Party, actors_of};
+use swap_world::{Actor as Party, new_actors};
 
 fn no_passes(alloc: Global, deal: &Deal) -> Result<Vec<Option<Pass>>, NoMemory>
     ensures { IfOk result (λ v. v.items ≡ replicate (length deal.now.graph.arcs) None) }
@@ -57,7 +57,7 @@ fn add_turn(alloc: Global, deal: &Deal, turns: &mut Vec<Turn>, actor: Actor) -> 
 
 /// What acts for a party, among what has turns.
 fn racing(party: Party) -> Actor
-    ensures { result ≡ racer_of party }
+    ensures { result ≡ racing_actor party }
 {
     match party {
         Party::Conforming(machine) => Actor::Conforming(machine),
@@ -67,18 +67,18 @@ fn racing(party: Party) -> Actor
 }
 
 /// The turns of the parties and of the clock, where every wallet is right.
-pub(crate) fn turns_of(
+pub(crate) fn new_turns(
     alloc: Global,
     job: &Job,
     wallets: Vec<Option<Wallet>>,
 ) -> Result<Vec<Turn>, NoMemory>
     requires sized { IsWellSized job.now.deal }
     requires roles { length job.now.roles ≡ job.now.deal.graph.n }
-    requires wallets { wallets.items ≡ wallets_of job.now.deal job.now.conforming job.now.seeds }
+    requires wallets { wallets.items ≡ new_wallets job.now.deal job.now.conforming job.now.seeds }
     requires fit { AllFit job.now }
     ensures { IfOk result (λ v. AreNew job.now v.items) }
 {
-    let parties = actors_of(alloc, job, wallets)?;
+    let parties = new_actors(alloc, job, wallets)?;
     let mut turns = Vec::new(alloc);
     'parties: for party in parties {
         add_turn(alloc, &job.deal, &mut turns, racing(party))?;

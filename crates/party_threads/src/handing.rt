@@ -3,13 +3,13 @@
 ghost use Rattle.std.specs.Prelude.{◌≡◌, ◌≢◌, ◌<◌, ℕ, Some, None, IfOk, length, map};
 ghost use Rattle.swap_digraph.specs.Deal.{IsWellSized};
 ghost use Rattle.ledger_core.specs.Value.{LedgerState};
-ghost use Rattle.ledger_shared.specs.Value.{clock_at};
+ghost use Rattle.ledger_shared.specs.Value.{table_clock};
 ghost use Rattle.swap_world.specs.Inside.{IsLedgerOf};
-ghost use Rattle.party_threads.specs.Turns.{actor_at, held_at, clock_held_at, ledger_at, HasArc, IsBehind, AreBehind, AreHome};
+ghost use Rattle.party_threads.specs.Turns.{actor_at, held_at, clock_held_at, arc_ledger, HasArc, IsBehind, AreBehind, AreHome};
 ghost use Rattle.party_threads.specs.Turns.{HavePlaces, AreFreeAt, AreFree, dealt_to, AreDealt, IsSet, AreSet, IsClosed, IsShut, IsSameShape, IsSameBut};
 
 use crate::home::Home;
-use crate::turn::{Turn, put, put_clock, seen_at, take, take_clock};
+use crate::turn::{Turn, put, put_clock, seen_count, take, take_clock};
 use ledger_core::Ledger;
 use ledger_shared::{SharedLedger, share};
 use std::alloc::Global;
@@ -34,14 +34,14 @@ fn hand_out_one<R: Wait>(
     requires behind { (v : ℕ) → v < deal.now.graph.n → IsBehind (actor_at turns.old v) v arc ledger.value.history }
     requires free { AreFreeAt deal.now turns.old arc }
     ensures dealt { IfOk result (λ s. (v : ℕ) → v < deal.now.graph.n → held_at turns.new v arc ≡ dealt_to (actor_at turns.old v) v s.lock ledger.value) }
-    ensures clock { IfOk result (λ s. clock_held_at turns.new deal.now.graph.n arc ≡ Some (clock_at s.lock ledger.value)) }
+    ensures clock { IfOk result (λ s. clock_held_at turns.new deal.now.graph.n arc ≡ Some (table_clock s.lock ledger.value)) }
     ensures others { IsSameBut arc turns.old turns.new }
 {
     let whole = ledger.len();
     let ends = deal.graph.arcs()[arc as usize];
     let clock = deal.graph.n();
-    let from = seen_at(turns, ends.from, arc, whole);
-    let to = seen_at(turns, ends.to, arc, whole);
+    let from = seen_count(turns, ends.from, arc, whole);
+    let to = seen_count(turns, ends.to, arc, whole);
     match share(rt, alloc, ledger, from, to) {
         Ok((shared, first, second, ticker)) => {
             put(turns, ends.from, arc, first);
@@ -55,10 +55,10 @@ fn hand_out_one<R: Wait>(
 
 /// Takes the ledger from its place.
 fn leave(ledgers: &mut [Option<Home>], arc: ArcId) -> Box<Ledger>
-    requires { (l : LedgerState) × (ledger_at ledgers.old arc ≡ Some l) }
-    ensures ledger { ledger_at ledgers.old arc ≡ Some result.value }
+    requires { (l : LedgerState) × (arc_ledger ledgers.old arc ≡ Some l) }
+    ensures ledger { arc_ledger ledgers.old arc ≡ Some result.value }
     ensures number { length ledgers.new ≡ length ledgers.old }
-    ensures others { (a : ℕ) → a ≢ arc → ledger_at ledgers.new a ≡ ledger_at ledgers.old a }
+    ensures others { (a : ℕ) → a ≢ arc → arc_ledger ledgers.new a ≡ arc_ledger ledgers.old a }
 {
     match ledgers[arc as usize].take() {
         Some(home) => home.into_box(),
@@ -69,9 +69,9 @@ fn leave(ledgers: &mut [Option<Home>], arc: ArcId) -> Box<Ledger>
 /// Puts the ledger back to its place.
 fn come_home(ledgers: &mut [Option<Home>], arc: ArcId, ledger: Box<Ledger>)
     requires { arc < length ledgers.old }
-    ensures ledger { ledger_at ledgers.new arc ≡ Some ledger.value }
+    ensures ledger { arc_ledger ledgers.new arc ≡ Some ledger.value }
     ensures number { length ledgers.new ≡ length ledgers.old }
-    ensures others { (a : ℕ) → a ≢ arc → ledger_at ledgers.new a ≡ ledger_at ledgers.old a }
+    ensures others { (a : ℕ) → a ≢ arc → arc_ledger ledgers.new a ≡ arc_ledger ledgers.old a }
 {
     ledgers[arc as usize] = Some(Home::of(ledger));
 }
@@ -133,7 +133,7 @@ pub(crate) fn close(
     requires one_each { length shared.items ≡ length deal.now.graph.arcs }
     requires number { length ledgers.old ≡ length deal.now.graph.arcs }
     requires set { AreSet deal.now turns.old (map (λ x. x.lock) shared.items) }
-    ensures closed { (a : ℕ) → a < length deal.now.graph.arcs → IsShut deal.now turns.old a (ledger_at ledgers.new a) }
+    ensures closed { (a : ℕ) → a < length deal.now.graph.arcs → IsShut deal.now turns.old a (arc_ledger ledgers.new a) }
     ensures number { length ledgers.new ≡ length ledgers.old }
     ensures free { (a : ℕ) → a < length deal.now.graph.arcs → AreFreeAt deal.now turns.new a }
     ensures shape { IsSameShape turns.old turns.new }

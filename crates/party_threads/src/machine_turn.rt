@@ -1,16 +1,14 @@
 //! A conforming party's turn: it looks at each of its ledgers, and then acts until nothing is due.
 
 ghost use Rattle.std.specs.Prelude.{◌≡◌, ◌≢◌, ◌+◌, ◌<◌, ◌≤◌, ◌++◌, None, true, false, OnOk, OnErr, IfOk, length};
-ghost use Rattle.swap_digraph.specs.Deal.{IsWellSized};
 ghost use Rattle.ledger_core.specs.Book.{history};
 ghost use Rattle.ledger_core.specs.History.{IsLegal};
 ghost use Rattle.party_machine.specs.Machine.{learnt, next_due};
-ghost use Rattle.swap_run.specs.Fair.{most_acts};
 ghost use Rattle.swap_run.proofs.Slots.{left};
 ghost use Rattle.swap_world.specs.Acting.{IsMakable, IsSameOwner};
 ghost use Rattle.party_threads.specs.Able.{watcher, machine_with, IsAble};
-ghost use Rattle.party_threads.specs.Later.{IsLater, WentOn, HaveGoneOn};
-ghost use Rattle.party_threads.specs.Tracks.{IsPassOf, Tracks, HaveSeenAll, HasItsPasses, HasLooked, HasMade, IsSameElsewhere, IsPlaceOf, LookedIf, MadeIf};
+ghost use Rattle.party_threads.specs.Later.{IsLater, Advanced, HaveAdvanced};
+ghost use Rattle.party_threads.specs.Tracks.{IsPassOf, Tracks, HaveSeenAll, HasItsPasses, HasLooked, HasMade, IsSameElsewhere, IsWatcherPlace, LookedIf, MadeIf};
 
 use history_index::Steps;
 use ledger_core::{Call, EntryList};
@@ -20,7 +18,7 @@ use std::marker::Brand;
 use std::sync::Wait;
 use std::sync::ledger::{Blank, Ledger as Counted};
 use swap_base::{ArcId, NoMemory};
-use swap_digraph::Deal;
+use swap_world::most_acts;
 
 fn learn_counted<L: Counted>(
     machine: &mut Machine,
@@ -77,8 +75,8 @@ fn look_if<R: Wait>(
     place: &mut Option<Pass>,
 ) -> Result<(), NoMemory>
     requires arc { arc < length machine.old.deal.graph.arcs }
-    requires pass { IsPlaceOf (watcher machine.old) ledger.now.lock arc place.old }
-    ensures later { WentOn place.old place.new }
+    requires pass { IsWatcherPlace (watcher machine.old) ledger.now.lock arc place.old }
+    ensures later { Advanced place.old place.new }
     ensures looked { OnOk result (LookedIf (watcher machine.old) (machine_with machine.old arc) arc machine.old place.old machine.new place.new) }
     ensures err { OnErr result (machine.new ≡ machine.old) }
 {
@@ -113,7 +111,7 @@ fn call<R: Wait>(
 }
 
 /// The same through the pass at a place that has one.
-fn call_at<R: Wait>(
+fn submit_call<R: Wait>(
     rt: &R,
     ledger: &SharedLedger,
     arc: ArcId,
@@ -123,9 +121,9 @@ fn call_at<R: Wait>(
 ) -> Result<(), NoMemory>
     requires makable { IsMakable machine.old.deal machine.old.me (record { arc = arc; call = due }) }
     requires known { length machine.old.known ≡ length machine.old.deal.graph.arcs }
-    requires pass { IsPlaceOf (watcher machine.old) ledger.now.lock arc place.old }
+    requires pass { IsWatcherPlace (watcher machine.old) ledger.now.lock arc place.old }
     requires there { place.old ≢ None }
-    ensures later { WentOn place.old place.new }
+    ensures later { Advanced place.old place.new }
     ensures made { OnOk result (MadeIf (watcher machine.old) (machine_with machine.old arc) arc due place.old machine.new place.new) }
     ensures err { OnErr result (machine.new ≡ machine.old) }
 {
@@ -144,7 +142,7 @@ fn look_round<R: Wait>(
 ) -> Result<(), NoMemory>
     requires able { IsAble machine.old }
     requires tracks { Tracks ledgers.now (watcher machine.old) passes.old }
-    ensures gone_on { HaveGoneOn passes.old passes.new }
+    ensures gone_on { HaveAdvanced passes.old passes.new }
     ensures able { OnOk result (IsAble machine.new) }
     ensures tracks { OnOk result (Tracks ledgers.now (watcher machine.new) passes.new) }
     ensures seen { OnOk result (HaveSeenAll passes.new) }
@@ -167,7 +165,7 @@ fn act<R: Wait>(
     requires able { IsAble machine.old }
     requires tracks { Tracks ledgers.now (watcher machine.old) passes.old }
     requires passes { HasItsPasses machine.old.deal machine.old.me passes.old }
-    ensures gone_on { HaveGoneOn passes.old passes.new }
+    ensures gone_on { HaveAdvanced passes.old passes.new }
     ensures able { OnOk result (IsAble machine.new) }
     ensures tracks { OnOk result (Tracks ledgers.now (watcher machine.new) passes.new) }
     ensures seen { OnOk result (HaveSeenAll passes.old → HaveSeenAll passes.new) }
@@ -183,18 +181,10 @@ fn act<R: Wait>(
         None => Ok(false),
         Some((arc, due)) => {
             let place = arc as usize;
-            call_at(rt, &ledgers[place], arc, machine, &mut passes[place], due)?;
+            submit_call(rt, &ledgers[place], arc, machine, &mut passes[place], due)?;
             Ok(true)
         }
     }
-}
-
-/// The most calls of a party that conforms.
-fn most_acts(deal: &Deal) -> u32
-    requires { IsWellSized deal.now }
-    ensures { result ≡ most_acts deal.now }
-{
-    (deal.leaders.len() as u32 + 3) * deal.graph.arcs().len() as u32
 }
 
 /// Acts until nothing is due; one act for each call that the party may make is enough.
@@ -207,7 +197,7 @@ fn act_to_rest<R: Wait>(
     requires able { IsAble machine.old }
     requires tracks { Tracks ledgers.now (watcher machine.old) passes.old }
     requires passes { HasItsPasses machine.old.deal machine.old.me passes.old }
-    ensures gone_on { HaveGoneOn passes.old passes.new }
+    ensures gone_on { HaveAdvanced passes.old passes.new }
     ensures able { OnOk result (IsAble machine.new) }
     ensures tracks { OnOk result (Tracks ledgers.now (watcher machine.new) passes.new) }
     ensures seen { OnOk result (HaveSeenAll passes.old → HaveSeenAll passes.new) }
@@ -233,7 +223,7 @@ pub fn take_machine_turn<R: Wait>(
     requires able { IsAble machine.old }
     requires tracks { Tracks ledgers.now (watcher machine.old) passes.old }
     requires passes { HasItsPasses machine.old.deal machine.old.me passes.old }
-    ensures gone_on { HaveGoneOn passes.old passes.new }
+    ensures gone_on { HaveAdvanced passes.old passes.new }
     ensures able { OnOk result (IsAble machine.new) }
     ensures tracks { OnOk result (Tracks ledgers.now (watcher machine.new) passes.new) }
     ensures seen { OnOk result (HaveSeenAll passes.new) }

@@ -3,13 +3,13 @@
 ghost use Rattle.std.specs.Prelude.{◌≡◌, ◌≢◌, ◌<◌, ◌+◌, true, None, OnOk, OnErr, IfOk, IsTrue, All, length};
 ghost use Rattle.ledger_core.specs.History.{fit};
 ghost use Rattle.swap_job.specs.Fitting.{IsMoveOf};
-ghost use Rattle.swap_job.specs.Roles.{IsHeld, role_in};
+ghost use Rattle.swap_job.specs.Roles.{IsHeld, job_role};
 ghost use Rattle.deviators.specs.View.{IsView, MayAnswer};
 ghost use Rattle.swap_run.specs.Shown.{IsShown};
 ghost use Rattle.swap_run.specs.Run.{is_planned, plan_up_to};
-ghost use Rattle.party_threads.specs.Later.{IsLater, WentOn, HaveGoneOn};
-ghost use Rattle.party_threads.specs.Tracks.{IsPassOf, Tracks, HaveSeenAll, HasItsPasses, HasLooked, HasMade, IsPlaceOf, LookedIf, MadeIf};
-ghost use Rattle.party_threads.specs.Played.{planner_of, HaveFresh, HaveGrown, IsAnswered, HasMadeCall, HasPlayed};
+ghost use Rattle.party_threads.specs.Later.{IsLater, Advanced, HaveAdvanced};
+ghost use Rattle.party_threads.specs.Tracks.{IsPassOf, Tracks, HaveSeenAll, HasItsPasses, HasLooked, HasMade, IsWatcherPlace, LookedIf, MadeIf};
+ghost use Rattle.party_threads.specs.Played.{party_planner, HaveFresh, HaveGrown, IsAnswered, HasMadeCall, HasPlayed};
 
 use deviators::Strategies;
 use ledger_core::Call;
@@ -31,9 +31,9 @@ fn look<R: Wait>(
     pass: &mut Pass,
 ) -> Result<(), NoMemory>
     requires arc { arc < length planner.old.known }
-    requires pass { IsPassOf (planner_of deal.now me planner.old) ledger.now.lock arc pass.old }
+    requires pass { IsPassOf (party_planner deal.now me planner.old) ledger.now.lock arc pass.old }
     ensures later { IsLater pass.old pass.new }
-    ensures looked { OnOk result (HasLooked (planner_of deal.now me planner.old) (plan_up_to planner.old arc) arc pass.old planner.new pass.new) }
+    ensures looked { OnOk result (HasLooked (party_planner deal.now me planner.old) (plan_up_to planner.old arc) arc pass.old planner.new pass.new) }
     ensures err { OnErr result (planner.new ≡ planner.old) }
 {
     let fresh = ledger.look(rt, pass)?;
@@ -51,9 +51,9 @@ fn look_if<R: Wait>(
     place: &mut Option<Pass>,
 ) -> Result<(), NoMemory>
     requires arc { arc < length planner.old.known }
-    requires pass { IsPlaceOf (planner_of deal.now me planner.old) ledger.now.lock arc place.old }
-    ensures later { WentOn place.old place.new }
-    ensures looked { OnOk result (LookedIf (planner_of deal.now me planner.old) (plan_up_to planner.old arc) arc planner.old place.old planner.new place.new) }
+    requires pass { IsWatcherPlace (party_planner deal.now me planner.old) ledger.now.lock arc place.old }
+    ensures later { Advanced place.old place.new }
+    ensures looked { OnOk result (LookedIf (party_planner deal.now me planner.old) (plan_up_to planner.old arc) arc planner.old place.old planner.new place.new) }
     ensures err { OnErr result (planner.new ≡ planner.old) }
 {
     match place {
@@ -72,10 +72,10 @@ fn look_round<R: Wait>(
     passes: &mut [Option<Pass>],
 ) -> Result<(), NoMemory>
     requires view { IsView deal.now me planner.old.known }
-    requires tracks { Tracks ledgers.now (planner_of deal.now me planner.old) passes.old }
+    requires tracks { Tracks ledgers.now (party_planner deal.now me planner.old) passes.old }
     requires passes { HasItsPasses deal.now me passes.old }
-    ensures gone_on { HaveGoneOn passes.old passes.new }
-    ensures tracks { OnOk result (Tracks ledgers.now (planner_of deal.now me planner.new) passes.new) }
+    ensures gone_on { HaveAdvanced passes.old passes.new }
+    ensures tracks { OnOk result (Tracks ledgers.now (party_planner deal.now me planner.new) passes.new) }
     ensures view { OnOk result (IsView deal.now me planner.new.known) }
     ensures whole { OnOk result (HaveSeenAll passes.new) }
     ensures fresh { OnOk result (HaveFresh me planner.old.known planner.new.known) }
@@ -104,11 +104,11 @@ fn answer<A: Strategies>(
     planner: &mut Planner,
 ) -> Result<Option<(ArcId, Call)>, NoMemory>
     requires role { me < length job.now.roles }
-    requires planned { is_planned (role_in job.now me) ≡ true }
-    requires held { IsHeld (A.holds staff.now) (role_in job.now me) }
+    requires planned { is_planned (job_role job.now me) ≡ true }
+    requires held { IsHeld (A.holds staff.now) (job_role job.now me) }
     requires shown { IsShown job.now.deal job.now.seeds me planner.old }
     ensures answered { IfOk result (λ o. IsAnswered (A.gives staff.now) job.now.deal job.now.seeds me planner.old.known o planner.old planner.new
-        (role_in job.now me)) }
+        (job_role job.now me)) }
     ensures fits { IfOk result (MayAnswer job.now.deal me) }
     ensures moves { OnOk result (All (IsMoveOf job.now.deal job.now.seeds me) planner.new.moves) }
     ensures turns { OnOk result (planner.new.turns ≡ planner.old.turns + 1) }
@@ -134,9 +134,9 @@ fn call<R: Wait>(
 ) -> Result<(), NoMemory>
     requires arc { arc < length planner.old.known }
     requires fits { IsTrue (fit deal.now arc made) }
-    requires pass { IsPassOf (planner_of deal.now me planner.old) ledger.now.lock arc pass.old }
+    requires pass { IsPassOf (party_planner deal.now me planner.old) ledger.now.lock arc pass.old }
     ensures later { IsLater pass.old pass.new }
-    ensures made { OnOk result (HasMade (planner_of deal.now me planner.old) (plan_up_to planner.old arc) arc made pass.old planner.new pass.new) }
+    ensures made { OnOk result (HasMade (party_planner deal.now me planner.old) (plan_up_to planner.old arc) arc made pass.old planner.new pass.new) }
     ensures err { OnErr result (planner.new ≡ planner.old) }
 {
     match ledger.call(rt, pass, made) {
@@ -146,7 +146,7 @@ fn call<R: Wait>(
 }
 
 /// The same through the pass at a place that has one.
-fn call_at<R: Wait>(
+fn submit_call<R: Wait>(
     rt: &R,
     ledger: &SharedLedger,
     deal: &Deal,
@@ -158,10 +158,10 @@ fn call_at<R: Wait>(
 ) -> Result<(), NoMemory>
     requires arc { arc < length planner.old.known }
     requires fits { IsTrue (fit deal.now arc made) }
-    requires pass { IsPlaceOf (planner_of deal.now me planner.old) ledger.now.lock arc place.old }
+    requires pass { IsWatcherPlace (party_planner deal.now me planner.old) ledger.now.lock arc place.old }
     requires there { place.old ≢ None }
-    ensures later { WentOn place.old place.new }
-    ensures made { OnOk result (MadeIf (planner_of deal.now me planner.old) (plan_up_to planner.old arc) arc made place.old planner.new place.new) }
+    ensures later { Advanced place.old place.new }
+    ensures made { OnOk result (MadeIf (party_planner deal.now me planner.old) (plan_up_to planner.old arc) arc made place.old planner.new place.new) }
     ensures err { OnErr result (planner.new ≡ planner.old) }
 {
     match place {
@@ -182,10 +182,10 @@ fn make<R: Wait>(
 ) -> Result<(), NoMemory>
     requires may { MayAnswer deal.now me answer }
     requires view { IsView deal.now me planner.old.known }
-    requires tracks { Tracks ledgers.now (planner_of deal.now me planner.old) passes.old }
+    requires tracks { Tracks ledgers.now (party_planner deal.now me planner.old) passes.old }
     requires passes { HasItsPasses deal.now me passes.old }
-    ensures gone_on { HaveGoneOn passes.old passes.new }
-    ensures tracks { OnOk result (Tracks ledgers.now (planner_of deal.now me planner.new) passes.new) }
+    ensures gone_on { HaveAdvanced passes.old passes.new }
+    ensures tracks { OnOk result (Tracks ledgers.now (party_planner deal.now me planner.new) passes.new) }
     ensures view { OnOk result (IsView deal.now me planner.new.known) }
     ensures grown { OnOk result (HaveGrown planner.old.known planner.new.known) }
     ensures called { OnOk result (HasMadeCall deal.now me answer planner.old.known planner.new.known) }
@@ -196,7 +196,7 @@ fn make<R: Wait>(
         None => Ok(()),
         Some((arc, made)) => {
             let place = arc as usize;
-            call_at(
+            submit_call(
                 rt,
                 &ledgers[place],
                 deal,
@@ -221,15 +221,15 @@ pub fn take_planner_turn<R: Wait, A: Strategies>(
     passes: &mut [Option<Pass>],
 ) -> Result<(), NoMemory>
     requires role { me < length job.now.roles }
-    requires planned { is_planned (role_in job.now me) ≡ true }
-    requires held { IsHeld (A.holds staff.now) (role_in job.now me) }
+    requires planned { is_planned (job_role job.now me) ≡ true }
+    requires held { IsHeld (A.holds staff.now) (job_role job.now me) }
     requires shown { IsShown job.now.deal job.now.seeds me planner.old }
-    requires tracks { Tracks ledgers.now (planner_of job.now.deal me planner.old) passes.old }
+    requires tracks { Tracks ledgers.now (party_planner job.now.deal me planner.old) passes.old }
     requires passes { HasItsPasses job.now.deal me passes.old }
-    ensures gone_on { HaveGoneOn passes.old passes.new }
-    ensures tracks { OnOk result (Tracks ledgers.now (planner_of job.now.deal me planner.new) passes.new) }
+    ensures gone_on { HaveAdvanced passes.old passes.new }
+    ensures tracks { OnOk result (Tracks ledgers.now (party_planner job.now.deal me planner.new) passes.new) }
     ensures shown { OnOk result (IsShown job.now.deal job.now.seeds me planner.new) }
-    ensures played { OnOk result (HasPlayed (A.gives staff.now) job.now.deal job.now.seeds (role_in job.now me) me passes.old planner.old planner.new) }
+    ensures played { OnOk result (HasPlayed (A.gives staff.now) job.now.deal job.now.seeds (job_role job.now me) me passes.old planner.old planner.new) }
 {
     look_round(rt, ledgers, &job.deal, me, planner, passes)?;
     let call = answer(staff, job, me, planner)?;

@@ -2,12 +2,12 @@
 
 ghost use Rattle.std.specs.Prelude.{◌≡◌, ◌<◌, ◌≤◌, ℕ, OnOk, length, slice_index_or, All, false, true};
 ghost use Rattle.swap_world.specs.Actors.{AreHeld};
-ghost use Rattle.swap_world.specs.Cast.{cast_of};
-ghost use Rattle.party_threads.specs.Later.{HaveGoneOn};
-ghost use Rattle.party_threads.specs.Ticks.{HaveClocksGoneOn};
+ghost use Rattle.swap_world.specs.Cast.{job_cast};
+ghost use Rattle.party_threads.specs.Later.{HaveAdvanced};
+ghost use Rattle.party_threads.specs.Ticks.{HaveClocksAdvanced};
 ghost use Rattle.party_threads.specs.Took.{IsSeated, IsSameActor, DidIn, Took};
 ghost use Rattle.party_threads.specs.Race.{IsRound};
-ghost use Rattle.party_threads.specs.Standing.{Stands, AllHaveRoom, book_in, state_of};
+ghost use Rattle.party_threads.specs.Standing.{Stands, AllHaveRoom, swap_book, inside_state};
 
 use crate::clock::take_clock_turn;
 use crate::gate::Gate;
@@ -39,8 +39,8 @@ fn play<R: Wait, A: Strategies>(
     requires below { ticks ≤ 1000 }
     requires seated { IsSeated (A.holds staff.now) job.now ledgers.now ticks v turn.old }
     ensures actor { IsSameActor turn.old.actor turn.new.actor }
-    ensures passes { HaveGoneOn turn.old.passes.items turn.new.passes.items }
-    ensures clocks { HaveClocksGoneOn turn.old.clocks.items turn.new.clocks.items }
+    ensures passes { HaveAdvanced turn.old.passes.items turn.new.passes.items }
+    ensures clocks { HaveClocksAdvanced turn.old.clocks.items turn.new.clocks.items }
     ensures places { length turn.new.passes.items ≡ length turn.old.passes.items }
     ensures clock_places { length turn.new.clocks.items ≡ length turn.old.clocks.items }
     ensures did { OnOk result (DidIn (A.gives staff.now) job.now ticks v turn.old turn.new) }
@@ -135,10 +135,10 @@ pub(crate) fn round<R: Threads + Wait + Sync, A: Strategies + Sync, G: Gate>(
     requires below { ticks ≤ 1000 }
     requires stands { Stands job.now ledgers.old turns.old }
     requires held { AreHeld (A.holds staff.now) job.now.roles }
-    requires room { AllHaveRoom ticks job.now.deal (book_in ledgers.old) }
+    requires room { AllHaveRoom ticks job.now.deal (swap_book ledgers.old) }
     ensures stands { OnOk result (Stands job.now ledgers.new turns.new) }
-    ensures round { OnOk result (IsRound (A.gives staff.now) (cast_of job.now) ticks (state_of job.now ledgers.old turns.old)
-        (state_of job.now ledgers.new turns.new)) }
+    ensures round { OnOk result (IsRound (A.gives staff.now) (job_cast job.now) ticks (inside_state job.now ledgers.old turns.old)
+        (inside_state job.now ledgers.new turns.new)) }
 {
     let shared = hand_out(rt, alloc, &job.deal, ledgers, turns)?;
     take_turns(

@@ -3,15 +3,15 @@
 ghost use Rattle.std.specs.Prelude.{◌≡◌, ◌<◌, ◌≤◌, IfOk, IfErr, OnOk, map, Some};
 ghost use Rattle.swap_digraph.specs.Deal.{IsWellSized};
 ghost use Rattle.swap_rules.specs.Accepted.{IsAccepted};
-ghost use Rattle.party_wallet.specs.Wallets.{wallets_of};
+ghost use Rattle.party_wallet.specs.Wallets.{new_wallets};
 ghost use Rattle.swap_run.specs.Run.{start};
-ghost use Rattle.swap_world.specs.Cast.{cast_of};
+ghost use Rattle.swap_world.specs.Cast.{job_cast};
 ghost use Rattle.swap_world.specs.Inside.{new_ledgers};
 ghost use Rattle.swap_world.specs.Actors.{AllFit, AreHeld, ConformingHaveSeeds, HaveRoles, IsFirstOf};
-ghost use Rattle.party_threads.specs.Race.{rounds_for, IsRaced, IsRaceBook};
-ghost use Rattle.party_threads.specs.Standing.{Stands, book_in, history_in, state_of};
+ghost use Rattle.party_threads.specs.Race.{needed_rounds, IsRaced, IsRaceBook};
+ghost use Rattle.party_threads.specs.Standing.{Stands, swap_book, history_in, inside_state};
 
-use crate::first_turns::turns_of;
+use crate::first_turns::new_turns;
 use crate::gate::Gate;
 use crate::home::Home;
 use crate::round::round;
@@ -36,7 +36,7 @@ const MANY_CALLS: usize = 8;
 const MOST_ACTORS: usize = 256;
 
 /// A ledger for each arc, each at its place.
-fn ledgers_of(alloc: Global, deal: &Deal) -> Result<Vec<Option<Home>>, NoMemory>
+fn make_ledgers(alloc: Global, deal: &Deal) -> Result<Vec<Option<Home>>, NoMemory>
     requires { IsWellSized deal.now }
     ensures { IfOk result (λ v. v.items ≡ map (λ l. Some l) (new_ledgers deal.now)) }
 {
@@ -49,7 +49,7 @@ fn ledgers_of(alloc: Global, deal: &Deal) -> Result<Vec<Option<Home>>, NoMemory>
     Ok(ledgers)
 }
 
-fn history_of(ledger: Option<Home>, alloc: Global) -> EntryList
+fn released_history(ledger: Option<Home>, alloc: Global) -> EntryList
     ensures { result ≡ history_in ledger }
 {
     match ledger {
@@ -59,12 +59,12 @@ fn history_of(ledger: Option<Home>, alloc: Global) -> EntryList
 }
 
 /// The book of the ledgers.
-fn book_of(alloc: Global, ledgers: Vec<Option<Home>>) -> Result<Book, NoMemory>
-    ensures { IfOk result (λ b. b.histories ≡ book_in ledgers.items) }
+fn collected_book(alloc: Global, ledgers: Vec<Option<Home>>) -> Result<Book, NoMemory>
+    ensures { IfOk result (λ b. b.histories ≡ swap_book ledgers.items) }
 {
     let mut histories = Vec::new(alloc);
     'ledgers: for ledger in ledgers {
-        histories.push(history_of(ledger, alloc))?;
+        histories.push(released_history(ledger, alloc))?;
     }
     Ok(Book {
         histories: Listed::new(histories),
@@ -72,16 +72,16 @@ fn book_of(alloc: Global, ledgers: Vec<Option<Home>>) -> Result<Book, NoMemory>
 }
 
 /// The fewest rounds of so many ticks that pass the horizon.
-fn rounds_for(deal: &Deal, ticks: u32) -> u32
+fn needed_rounds(deal: &Deal, ticks: u32) -> u32
     requires sized { IsWellSized deal.now }
     requires some { 1 ≤ ticks }
-    ensures { result ≡ rounds_for deal.now ticks }
+    ensures { result ≡ needed_rounds deal.now ticks }
 {
     (horizon(deal.start, deal.delta, deal.bound) / ticks as u64 + 1) as u32
 }
 
 /// How many entries the ledgers have.
-fn entries_in(ledgers: &[Option<Home>]) -> usize {
+fn all_entries(ledgers: &[Option<Home>]) -> usize {
     let mut all = 0usize;
     for ledger in ledgers {
         if let Some(ledger) = ledger {
@@ -95,7 +95,7 @@ fn entries_in(ledgers: &[Option<Home>]) -> usize {
 /// one thread plays the round: most actors only look, and to start a thread takes far longer than
 /// to look. After a few calls there is one thread more than calls. After many calls each actor has
 /// a thread of its own, so that long turns share the cores.
-fn threads_after(calls: usize) -> usize
+fn thread_count(calls: usize) -> usize
     ensures { 0 < result }
 {
     if calls < MANY_CALLS {
@@ -120,18 +120,18 @@ fn run_rounds<R: Threads + Wait + Sync, A: Strategies + Sync, G: Gate>(
     requires below { ticks ≤ 1000 }
     requires stands { Stands job.now ledgers.old turns.old }
     requires held { AreHeld (A.holds staff.now) job.now.roles }
-    requires first { state_of job.now ledgers.old turns.old ≡ start (cast_of job.now) }
-    ensures raced { OnOk result (IsRaced (A.gives staff.now) (cast_of job.now) ticks (rounds_for job.now.deal ticks) (state_of job.now ledgers.new turns.new)) }
+    requires first { inside_state job.now ledgers.old turns.old ≡ start (job_cast job.now) }
+    ensures raced { OnOk result (IsRaced (A.gives staff.now) (job_cast job.now) ticks (needed_rounds job.now.deal ticks) (inside_state job.now ledgers.new turns.new)) }
 {
     // In the first round everybody may have something to do.
     let mut calls = usize::MAX;
-    'rounds: for number in 0..rounds_for(&job.deal, ticks) {
-        let threads = threads_after(calls);
-        let before = entries_in(ledgers).saturating_add(ledgers.len());
+    'rounds: for number in 0..needed_rounds(&job.deal, ticks) {
+        let threads = thread_count(calls);
+        let before = all_entries(ledgers).saturating_add(ledgers.len());
         round(
             rt, alloc, job, staff, gate, number, ticks, threads, ledgers, turns,
         )?;
-        calls = entries_in(ledgers).saturating_sub(before);
+        calls = all_entries(ledgers).saturating_sub(before);
     }
     Ok(())
 }
@@ -152,14 +152,14 @@ pub fn race_fitting<R: Threads + Wait + Sync, A: Strategies + Sync, G: Gate>(
     requires seeds { ConformingHaveSeeds job.now }
     requires roles { HaveRoles job.now }
     requires held { AreHeld (A.holds staff.now) job.now.roles }
-    requires wallets { wallets.items ≡ wallets_of job.now.deal job.now.conforming job.now.seeds }
+    requires wallets { wallets.items ≡ new_wallets job.now.deal job.now.conforming job.now.seeds }
     requires fit { AllFit job.now }
     requires some { 1 ≤ ticks }
     requires below { ticks ≤ 1000 }
-    ensures { IfOk result (λ b. IsRaceBook (A.gives staff.now) (cast_of job.now) ticks b.histories) }
+    ensures { IfOk result (λ b. IsRaceBook (A.gives staff.now) (job_cast job.now) ticks b.histories) }
 {
-    let mut turns = turns_of(alloc, job, wallets)?;
-    let mut ledgers = ledgers_of(alloc, &job.deal)?;
+    let mut turns = new_turns(alloc, job, wallets)?;
+    let mut ledgers = make_ledgers(alloc, &job.deal)?;
     run_rounds(
         rt,
         alloc,
@@ -170,7 +170,7 @@ pub fn race_fitting<R: Threads + Wait + Sync, A: Strategies + Sync, G: Gate>(
         ledgers.as_mut_slice(),
         turns.as_mut_slice(),
     )?;
-    let book = book_of(alloc, ledgers)?;
+    let book = collected_book(alloc, ledgers)?;
     read_book(&book);
     Ok(book)
 }
@@ -190,10 +190,10 @@ pub fn race<R: Threads + Wait + Sync, A: Strategies + Sync, G: Gate>(
     requires seeds { ConformingHaveSeeds job.now }
     requires roles { HaveRoles job.now }
     requires held { AreHeld (A.holds staff.now) job.now.roles }
-    requires wallets { wallets.items ≡ wallets_of job.now.deal job.now.conforming job.now.seeds }
+    requires wallets { wallets.items ≡ new_wallets job.now.deal job.now.conforming job.now.seeds }
     requires some { 1 ≤ ticks }
     requires below { ticks ≤ 1000 }
-    ensures book { IfOk result (λ b. IsRaceBook (A.gives staff.now) (cast_of job.now) ticks b.histories) }
+    ensures book { IfOk result (λ b. IsRaceBook (A.gives staff.now) (job_cast job.now) ticks b.histories) }
     ensures fit { OnOk result (AllFit job.now) }
     ensures wrong { IfErr result (IsFirstOf job.now) }
 {

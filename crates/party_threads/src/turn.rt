@@ -33,7 +33,7 @@ pub(crate) struct Turn {
 }
 
 /// How much of the history of an arc, which has so many entries, an actor's pass has seen as it is dealt.
-pub(crate) fn seen_at(turns: &[Turn], v: PartyId, arc: ArcId, whole: u32) -> u32
+pub(crate) fn seen_count(turns: &[Turn], v: PartyId, arc: ArcId, whole: u32) -> u32
     requires actor { v < length turns.now }
     requires arc { HasArc (actor_at turns.now v) arc }
     ensures { (h : List Entry) → length h ≡ whole → result ≡ length (started (actor_at turns.now v) arc h) }

@@ -7,11 +7,11 @@ use Rattle.swap_digraph.specs.declared.deal.Deal.{Deal}
 use Rattle.swap_digraph.specs.declared.deal.Mode.{Mode}
 use Rattle.swap_digraph.specs.declared.deal.Mode.TheVariants.{Timelocks, Hashkeys}
 use Rattle.swap_digraph.specs.Deal.{locks}
-use Rattle.hash_signature.specs.Signature.{public_key_of}
+use Rattle.hash_signature.specs.Signature.{derive_public_key}
 use Rattle.hashkey_path.specs.Hashkey.{key_of}
 use Rattle.party_wallet.specs.Value.{WalletState, signed_in}
-use Rattle.party_wallet.specs.Keys.{public_for}
-use Rattle.party_wallet.specs.Fits.{has_key, opens_own, fits_lock, wrong_lock, has_ready, public_in, is_stated, fits_in, wrong_in}
+use Rattle.party_wallet.specs.Keys.{party_public}
+use Rattle.party_wallet.specs.Fits.{has_key, opens_own, fits_lock, wrong_lock, has_ready, find_public_key, is_stated, fits_deal, find_wrong_lock}
 use Rattle.party_wallet.proofs.Least.{by_test}
 
 -- where what passes the second test passes the first, and none passes that, none passes the second
@@ -27,22 +27,22 @@ of_party w v i is =
     eqb-true w.party v (and_parts (nat_eq w.party v) (nat_lt i (length w.signed)) two.0).0
 
 its_key : (m : Mode) (d : Deal) (seed : List ℕ) (p v i : ℕ) (opens : Bool) → p ≡ v
-    → not (is_stated Hashkeys d v i (public_for m seed p i) && opens) ≡ false → not (has_key Hashkeys d v seed i && opens) ≡ false
+    → not (is_stated Hashkeys d v i (party_public m seed p i) && opens) ≡ false → not (has_key Hashkeys d v seed i && opens) ≡ false
 its_key Timelocks d seed p v i opens same e = absurd (cc e)
-its_key Hashkeys d seed p v i opens same e = subst (λ (x : ℕ). not (bytes_eq (public_key_of seed x i) (key_of d v i) && opens) ≡ false) same e
+its_key Hashkeys d seed p v i opens same e = subst (λ (x : ℕ). not (bytes_eq (derive_public_key seed x i) (key_of d v i) && opens) ≡ false) same e
 
 by_ready : (d : Deal) (v i : ℕ) (w : WalletState) (opens b : Bool) → has_ready w v i ≡ b
-    → not (is_stated Hashkeys d v i (if b then public_for w.mode w.seed w.party i else None) && opens) ≡ false
+    → not (is_stated Hashkeys d v i (if b then party_public w.mode w.seed w.party i else None) && opens) ≡ false
     → not (has_key Hashkeys d v w.seed i && opens) ≡ false
 by_ready d v i w opens false ready e = absurd (cc e)
 by_ready d v i w opens true ready e = its_key w.mode d w.seed w.party v i opens (of_party w v i ready) e
 
-by_mode : (m : Mode) (d : Deal) (v i : ℕ) (w : WalletState) (opens : Bool) → not (is_stated m d v i (public_in w v i) && opens) ≡ false
+by_mode : (m : Mode) (d : Deal) (v i : ℕ) (w : WalletState) (opens : Bool) → not (is_stated m d v i (find_public_key w v i) && opens) ≡ false
     → not (has_key m d v w.seed i && opens) ≡ false
 by_mode Timelocks d v i w opens e = e
 by_mode Hashkeys d v i w opens e = by_ready d v i w opens (has_ready w v i) refl e
 
-pub none_wrong : (d : Deal) (v : ℕ) (w : WalletState) → wrong_in d v w ≡ None → wrong_lock d v w.seed ≡ None
+pub none_wrong : (d : Deal) (v : ℕ) (w : WalletState) → find_wrong_lock d v w ≡ None → wrong_lock d v w.seed ≡ None
 none_wrong d v w none =
-    none_of (λ i. not (fits_in d v w i)) (λ i. not (fits_lock d v w.seed i)) (locks d)
+    none_of (λ i. not (fits_deal d v w i)) (λ i. not (fits_lock d v w.seed i)) (locks d)
     (λ i e. by_mode d.mode d v i w (opens_own d v w.seed i) e) none

@@ -5,20 +5,20 @@ use Rattle.std.specs.List.{find}
 use Rattle.swap_digraph.specs.declared.deal.Deal.{Deal}
 use Rattle.swap_digraph.specs.declared.deal.Mode.{Mode}
 use Rattle.swap_digraph.specs.declared.deal.Mode.TheVariants.{Timelocks, Hashkeys}
-use Rattle.swap_digraph.specs.Deal.{locks, leads, hashlock_of}
-use Rattle.hash_signature.specs.Signature.{hash_of, secret_of, public_key_of}
+use Rattle.swap_digraph.specs.Deal.{locks, leads, lock_hashlock}
+use Rattle.hash_signature.specs.Signature.{hashed_value, derive_secret, derive_public_key}
 use Rattle.hashkey_path.specs.Hashkey.{key_of}
 use Rattle.party_wallet.specs.Value.{WalletState, signed_in}
-use Rattle.party_wallet.specs.Keys.{public_for}
+use Rattle.party_wallet.specs.Keys.{party_public}
 
 -- with hashkeys, the seed's public key of v for lock i is the deal's
 abbrev pub has_key : Mode → Deal → ℕ → List ℕ → ℕ → Bool
 has_key Timelocks d v seed i = true
-has_key Hashkeys d v seed i = bytes_eq (public_key_of seed v i) (key_of d v i)
+has_key Hashkeys d v seed i = bytes_eq (derive_public_key seed v i) (key_of d v i)
 
 -- where v leads lock i, the seed's secret opens it
 abbrev pub opens_own : Deal → ℕ → List ℕ → ℕ → Bool
-opens_own d v seed i = not (leads d v i) || bytes_eq (hash_of (secret_of seed)) (hashlock_of d i)
+opens_own d v seed i = not (leads d v i) || bytes_eq (hashed_value (derive_secret seed)) (lock_hashlock d i)
 
 -- the seed has what the deal states of v for lock i
 abbrev pub fits_lock : Deal → ℕ → List ℕ → ℕ → Bool
@@ -33,8 +33,8 @@ abbrev pub has_ready : WalletState → ℕ → ℕ → Bool
 has_ready w v i = nat_eq w.party v && nat_lt i (length w.signed) && not (is_some (signed_in w.signed i))
 
 -- the public key of party v for lock i, where the wallet can sign with its key
-abbrev pub public_in : WalletState → ℕ → ℕ → Option (List ℕ)
-public_in w v i = if has_ready w v i then public_for w.mode w.seed w.party i else None
+abbrev pub find_public_key : WalletState → ℕ → ℕ → Option (List ℕ)
+find_public_key w v i = if has_ready w v i then party_public w.mode w.seed w.party i else None
 
 -- with hashkeys, that public key is the one that the deal states of v for lock i
 abbrev pub is_stated : Mode → Deal → ℕ → ℕ → Option (List ℕ) → Bool
@@ -43,9 +43,9 @@ is_stated Hashkeys d v i None = false
 is_stated Hashkeys d v i (Some public) = bytes_eq public (key_of d v i)
 
 -- the wallet has what the deal states of v for lock i
-abbrev pub fits_in : Deal → ℕ → WalletState → ℕ → Bool
-fits_in d v w i = is_stated d.mode d v i (public_in w v i) && opens_own d v w.seed i
+abbrev pub fits_deal : Deal → ℕ → WalletState → ℕ → Bool
+fits_deal d v w i = is_stated d.mode d v i (find_public_key w v i) && opens_own d v w.seed i
 
 -- the least lock for which the wallet lacks what the deal states of v
-abbrev pub wrong_in : Deal → ℕ → WalletState → Option ℕ
-wrong_in d v w = find (λ i. not (fits_in d v w i)) (locks d)
+abbrev pub find_wrong_lock : Deal → ℕ → WalletState → Option ℕ
+find_wrong_lock d v w = find (λ i. not (fits_deal d v w i)) (locks d)

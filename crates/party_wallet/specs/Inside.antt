@@ -4,7 +4,7 @@ use Rattle.swap_digraph.specs.declared.deal.Mode.{Mode}
 use Rattle.hash_signature.specs.Key.{KeyParts}
 use Rattle.hashkey_path.specs.declared.hashkey.Hashkey.{Hashkey}
 use Rattle.party_wallet.specs.Value.{WalletState}
-use Rattle.party_wallet.specs.Keys.{public_for, unspent}
+use Rattle.party_wallet.specs.Keys.{party_public, unspent}
 use Rattle.party_wallet.specs.declared.wallet.Wallet.TheInside.{Inside}
 
 -- what its fields show
@@ -21,7 +21,7 @@ pub record AreSpentOnce (m : Mode) (seed : List ℕ) (v : ℕ) (keys : List (Opt
 -- The public key of each lock.
 pub record ArePublic (m : Mode) (seed : List ℕ) (v locks : ℕ) (publics : List (Option (List ℕ))) : Type 0 where
   pub one_each : length publics ≡ locks
-  pub public_at : (i : ℕ) → i < locks → slice_index_or publics i None ≡ public_for m seed v i
+  pub public_at : (i : ℕ) → i < locks → slice_index_or publics i None ≡ party_public m seed v i
 
 pub record IsKept (w : Inside) : Type 0 where
   pub keys : AreSpentOnce w.mode w.seed w.party w.keys.items w.signed.keys

@@ -4,7 +4,7 @@ use Rattle.swap_digraph.specs.declared.deal.Deal.{Deal}
 use Rattle.swap_digraph.specs.declared.deal.Mode.{Mode}
 use Rattle.swap_digraph.specs.declared.deal.Mode.TheVariants.{Timelocks, Hashkeys}
 use Rattle.hash_signature.specs.Key.{KeyParts}
-use Rattle.hash_signature.specs.Signature.{public_key_of, secret_of}
+use Rattle.hash_signature.specs.Signature.{derive_public_key, derive_secret}
 use Rattle.hashkey_path.specs.declared.hashkey.Hashkey.{Hashkey}
 use Rattle.hashkey_path.specs.Signed.{leaders_key, extended_key}
 use Rattle.party_wallet.specs.Value.{WalletState}
@@ -15,8 +15,8 @@ bare_key lock secret = record { lock = lock; secret = secret; path = []; sigs = 
 
 -- the party's own hashkey for lock i
 abbrev pub own_key : Mode → Deal → ℕ → List ℕ → ℕ → Hashkey
-own_key Timelocks d v seed i = bare_key i (secret_of seed)
-own_key Hashkeys d v seed i = leaders_key d i (secret_of seed) v seed
+own_key Timelocks d v seed i = bare_key i (derive_secret seed)
+own_key Hashkeys d v seed i = leaders_key d i (derive_secret seed) v seed
 
 -- the party's hashkey that goes on from the inner one
 abbrev pub onto_key : Mode → Deal → ℕ → List ℕ → Hashkey → Hashkey
@@ -29,9 +29,9 @@ unspent Timelocks seed v i = None
 unspent Hashkeys seed v i = Some (record { seed = seed; party = v; lock = i })
 
 -- the public key for lock i
-abbrev pub public_for : Mode → List ℕ → ℕ → ℕ → Option (List ℕ)
-public_for Timelocks seed v i = None
-public_for Hashkeys seed v i = Some (public_key_of seed v i)
+abbrev pub party_public : Mode → List ℕ → ℕ → ℕ → Option (List ℕ)
+party_public Timelocks seed v i = None
+party_public Hashkeys seed v i = Some (derive_public_key seed v i)
 
 -- the wallet of v for so many locks, with nothing signed
 abbrev pub empty_wallet : Mode → List ℕ → ℕ → ℕ → WalletState

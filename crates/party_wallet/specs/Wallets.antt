@@ -6,9 +6,9 @@ use Rattle.party_wallet.specs.Value.{WalletState}
 use Rattle.party_wallet.specs.Keys.{new_wallet}
 
 -- the wallet of party p, where it conforms and has a seed
-abbrev pub wallet_for : Deal → List Bool → List (Option (List ℕ)) → ℕ → Option WalletState
-wallet_for d conforming seeds p = if slice_index_or conforming p false then option_map (λ seed. new_wallet seed p d) (slice_index_or seeds p None) else None
+abbrev pub job_wallet : Deal → List Bool → List (Option (List ℕ)) → ℕ → Option WalletState
+job_wallet d conforming seeds p = if slice_index_or conforming p false then option_map (λ seed. new_wallet seed p d) (slice_index_or seeds p None) else None
 
 -- the wallet of each party that conforms and has a seed
-abbrev pub wallets_of : Deal → List Bool → List (Option (List ℕ)) → List (Option WalletState)
-wallets_of d conforming seeds = map (wallet_for d conforming seeds) (range_with_len 0 d.graph.n)
+abbrev pub new_wallets : Deal → List Bool → List (Option (List ℕ)) → List (Option WalletState)
+new_wallets d conforming seeds = map (job_wallet d conforming seeds) (range_with_len 0 d.graph.n)

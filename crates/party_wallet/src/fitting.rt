@@ -2,10 +2,10 @@
 
 ghost use Rattle.std.specs.Prelude.{◌≡◌, ◌<◌, ◌&&◌, length};
 ghost use Rattle.swap_digraph.specs.Deal.{IsWellSized};
-ghost use Rattle.party_wallet.specs.Keys.{public_for};
+ghost use Rattle.party_wallet.specs.Keys.{party_public};
 ghost use Rattle.party_wallet.specs.Fits.{has_key, is_stated, opens_own, fits_lock};
 
-use hash_signature::{hash_of, secret_of};
+use hash_signature::{derive_secret, hashed_value};
 use swap_base::{Digest, LockId, PartyId};
 use swap_digraph::{Deal, Mode};
 
@@ -21,7 +21,7 @@ fn is_stated(
     requires mode { deal.now.mode ≡ Mode.Hashkeys }
     requires party { party < deal.now.graph.n }
     requires lock { lock < length deal.now.leaders }
-    requires public { public.now ≡ public_for Mode.Hashkeys seed.now party lock }
+    requires public { public.now ≡ party_public Mode.Hashkeys seed.now party lock }
     ensures { result ≡ has_key Mode.Hashkeys deal.now party seed.now lock }
 {
     match public {
@@ -40,7 +40,7 @@ fn has_key(
     requires sized { IsWellSized deal.now }
     requires party { party < deal.now.graph.n }
     requires lock { lock < length deal.now.leaders }
-    requires public { public.now ≡ public_for deal.now.mode seed.now party lock }
+    requires public { public.now ≡ party_public deal.now.mode seed.now party lock }
     ensures { result ≡ has_key deal.now.mode deal.now party seed.now lock }
 {
     match deal.mode {
@@ -55,7 +55,7 @@ fn opens_own(deal: &Deal, party: PartyId, seed: &Digest, lock: LockId) -> bool
     ensures { result ≡ opens_own deal.now party seed.now lock }
 {
     deal.leaders.as_slice()[lock as usize] != party
-        || hash_of(&secret_of(seed)) == deal.hashlocks.as_slice()[lock as usize]
+        || hashed_value(&derive_secret(seed)) == deal.hashlocks.as_slice()[lock as usize]
 }
 
 /// Whether the wallet has what the deal states of its party for the lock.
@@ -69,7 +69,7 @@ pub(crate) fn fits_lock(
     requires sized { IsWellSized deal.now }
     requires party { party < deal.now.graph.n }
     requires lock { lock < length deal.now.leaders }
-    requires public { public.now ≡ public_for deal.now.mode seed.now party lock }
+    requires public { public.now ≡ party_public deal.now.mode seed.now party lock }
     ensures { result ≡ fits_lock deal.now party seed.now lock }
 {
     has_key(deal, party, seed, lock, public) && opens_own(deal, party, seed, lock)

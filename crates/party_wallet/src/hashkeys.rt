@@ -4,7 +4,7 @@ ghost use Rattle.std.specs.Prelude.{◌≡◌, ◌<◌, ℕ, List, None, length,
 ghost use Rattle.swap_digraph.specs.Deal.{path_limit};
 ghost use Rattle.party_wallet.specs.Keys.{bare_key, own_key, onto_key, unspent};
 
-use hash_signature::{OneTimeKey, secret_of};
+use hash_signature::{OneTimeKey, derive_secret};
 use hashkey_path::{Hashkey, extend, first};
 use std::alloc::Global;
 use swap_base::{Digest, Listed, LockId, NoMemory, PartyId};
@@ -36,7 +36,7 @@ fn own_signed(
     ensures back { OnErr result (slot.new ≡ slot.old) }
 {
     let key = slot.take().unwrap();
-    match first(alloc, deal, lock, &secret_of(seed), party, key) {
+    match first(alloc, deal, lock, &derive_secret(seed), party, key) {
         Ok(hashkey) => Ok(hashkey),
         Err(back) => {
             *slot = Some(back.key);
@@ -87,7 +87,7 @@ pub(crate) fn own_hashkey(
     ensures back { OnErr result (slot.new ≡ slot.old) }
 {
     match deal.mode {
-        Mode::Timelocks => Ok(bare(alloc, lock, &secret_of(seed))),
+        Mode::Timelocks => Ok(bare(alloc, lock, &derive_secret(seed))),
         Mode::Hashkeys => own_signed(alloc, deal, party, seed, lock, slot),
     }
 }

@@ -5,7 +5,7 @@ ghost use Rattle.swap_digraph.specs.Deal.{path_limit};
 ghost use Rattle.party_wallet.specs.Keys.{bare_key, own_key, onto_key, unspent};
 
 use crate::hashkeys::bare;
-use hash_signature::{OneTimeKey, secret_of};
+use hash_signature::{OneTimeKey, derive_secret};
 use hashkey_path::{Hashkey, extend_held, first_held};
 use std::alloc::Global;
 use swap_base::{Digest, LockId, NoMemory, PartyId, Shared, TryCopy};
@@ -41,7 +41,7 @@ fn own_signed(
     ensures back { OnErr result (slot.new ≡ slot.old) }
 {
     let key = slot.take().unwrap();
-    match first_held(alloc, deal, lock, &secret_of(seed), party, key) {
+    match first_held(alloc, deal, lock, &derive_secret(seed), party, key) {
         Ok(held) => Ok(held),
         Err(back) => {
             *slot = Some(back.key);
@@ -94,7 +94,7 @@ pub(crate) fn own_held(
     ensures back { OnErr result (slot.new ≡ slot.old) }
 {
     match deal.mode {
-        Mode::Timelocks => bare_held(alloc, lock, &secret_of(seed)),
+        Mode::Timelocks => bare_held(alloc, lock, &derive_secret(seed)),
         Mode::Hashkeys => own_signed(alloc, deal, party, seed, lock, slot),
     }
 }

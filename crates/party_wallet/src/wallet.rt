@@ -5,8 +5,8 @@ ghost use Rattle.std.specs.List.{range_with_len};
 ghost use Rattle.swap_digraph.specs.Deal.{IsWellSized};
 ghost use Rattle.swap_digraph.specs.Deal.{path_limit};
 ghost use Rattle.party_wallet.specs.Value.{signed_in};
-ghost use Rattle.party_wallet.specs.Fits.{fits_in, has_ready, public_in, wrong_in, wrong_lock};
-ghost use Rattle.party_wallet.specs.Keys.{empty_wallet, new_wallet, public_for, unspent, own_key, onto_key, with_recorded, with_signed};
+ghost use Rattle.party_wallet.specs.Fits.{fits_deal, has_ready, find_public_key, find_wrong_lock, wrong_lock};
+ghost use Rattle.party_wallet.specs.Keys.{empty_wallet, new_wallet, party_public, unspent, own_key, onto_key, with_recorded, with_signed};
 
 use crate::fitting::{fits_lock, fits_stated};
 use crate::held::{onto_held, own_held};
@@ -52,7 +52,7 @@ impl Model for Wallet {
     ghost invariant = { IsKept };
 }
 
-fn keys_of(
+fn derived_keys(
     alloc: Global,
     mode: Mode,
     seed: &Digest,
@@ -60,7 +60,7 @@ fn keys_of(
     locks: u8,
 ) -> Result<Keys, NoMemory>
     ensures keys { IfOk result (λ k. k.keys.items ≡ map (unspent mode seed.now party) (range_with_len 0 locks)) }
-    ensures publics { IfOk result (λ k. k.publics.items ≡ map (public_for mode seed.now party) (range_with_len 0 locks)) }
+    ensures publics { IfOk result (λ k. k.publics.items ≡ map (party_public mode seed.now party) (range_with_len 0 locks)) }
 {
     let mut keys = Vec::new(alloc);
     let mut publics = Vec::new(alloc);
@@ -106,7 +106,7 @@ impl Wallet {
         requires { locks ≤ 8 }
         ensures { IfOk result (λ w. w ≡ empty_wallet mode seed.now me locks) }
     {
-        let Keys { keys, publics } = keys_of(alloc, mode, seed, me, locks)?;
+        let Keys { keys, publics } = derived_keys(alloc, mode, seed, me, locks)?;
         Ok(Wallet {
             mode,
             seed: *seed,
@@ -193,8 +193,8 @@ impl Wallet {
     }
 
     /// The public key of the party for the lock, where it has the key unspent.
-    fn public_in(&self, party: PartyId, lock: LockId) -> Option<Digest>
-        ensures { result ≡ public_in self.now party lock }
+    fn find_public_key(&self, party: PartyId, lock: LockId) -> Option<Digest>
+        ensures { result ≡ find_public_key self.now party lock }
     {
         if self.has_ready(party, lock) {
             self.public_key(lock)
@@ -203,27 +203,27 @@ impl Wallet {
         }
     }
 
-    fn fits_in(&self, deal: &Deal, party: PartyId, lock: LockId) -> bool
+    fn fits_deal(&self, deal: &Deal, party: PartyId, lock: LockId) -> bool
         requires sized { IsWellSized deal.now }
         requires party { party < deal.now.graph.n }
         requires lock { lock < length deal.now.leaders }
-        ensures { result ≡ fits_in deal.now party self.now lock }
+        ensures { result ≡ fits_deal deal.now party self.now lock }
     {
-        let public = self.public_in(party, lock);
+        let public = self.find_public_key(party, lock);
         fits_stated(deal, party, &self.seed, lock, &public)
     }
 
     /// The least lock for which the wallet lacks what the deal states of the party. The wallet may
     /// be of any party and deal, and may have signed anything.
-    pub fn wrong_for(&self, deal: &Deal, party: PartyId) -> Option<LockId>
+    pub fn mismatched_lock(&self, deal: &Deal, party: PartyId) -> Option<LockId>
         requires sized { IsWellSized deal.now }
         requires party { party < deal.now.graph.n }
-        ensures wrong { result ≡ wrong_in deal.now party self.now }
+        ensures wrong { result ≡ find_wrong_lock deal.now party self.now }
         ensures fits { result ≡ None → wrong_lock deal.now party self.now.seed ≡ None }
     {
         let count = deal.leaders.len() as u8;
         'locks: for lock in 0..count {
-            if !self.fits_in(deal, party, lock) {
+            if !self.fits_deal(deal, party, lock) {
                 return Some(lock);
             }
         }
@@ -231,7 +231,12 @@ impl Wallet {
     }
 
     /// A new wallet of the party for the deal, with the same seed.
-    pub fn made_for(&self, alloc: Global, deal: &Deal, party: PartyId) -> Result<Wallet, NoMemory>
+    pub fn renewed_wallet(
+        &self,
+        alloc: Global,
+        deal: &Deal,
+        party: PartyId,
+    ) -> Result<Wallet, NoMemory>
         requires { IsWellSized deal.now }
         ensures { IfOk result (λ w. w ≡ new_wallet self.now.seed party deal.now) }
     {
@@ -241,7 +246,7 @@ impl Wallet {
     /// The public key for a lock; timelocks ask for none.
     pub fn public_key(&self, lock: LockId) -> Option<Digest>
         requires { lock < length self.now.signed }
-        ensures { result ≡ public_for self.now.mode self.now.seed self.now.party lock }
+        ensures { result ≡ party_public self.now.mode self.now.seed self.now.party lock }
     {
         self.publics[lock as usize]
     }
@@ -303,7 +308,7 @@ impl Wallet {
 
     /// Makes the party's hashkey that goes on from another, keeps it, and answers a copy. Want of memory leaves everything as it was: the key has
     /// signed nothing.
-    pub fn sign_onto(
+    pub fn sign_extension(
         &mut self,
         alloc: Global,
         deal: &Deal,

@@ -1,7 +1,7 @@
 //! The key for one lock.
 
 ghost use Rattle.std.specs.Prelude.{◌≡◌, IfOk};
-ghost use Rattle.party_wallet.specs.Keys.{public_for, unspent};
+ghost use Rattle.party_wallet.specs.Keys.{party_public, unspent};
 
 use hash_signature::{OneTimeKey, key_of, keygen};
 use std::alloc::Global;
@@ -17,7 +17,7 @@ pub(crate) fn unspent(
     lock: LockId,
 ) -> Result<(Option<OneTimeKey>, Option<Digest>), NoMemory>
     ensures key { IfOk result (λ p. p.0 ≡ unspent mode seed.now party lock) }
-    ensures public { IfOk result (λ p. p.1 ≡ public_for mode seed.now party lock) }
+    ensures public { IfOk result (λ p. p.1 ≡ party_public mode seed.now party lock) }
 {
     match mode {
         Mode::Timelocks => Ok((None, None)),

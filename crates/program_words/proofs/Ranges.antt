@@ -1,8 +1,8 @@
 -- The numbers of a task lie in their ranges.
 use Rattle.std.proofs.Common.{◌≡◌, ◌≤◌, ℕ, Bool, true, false, nat_le, List, [], ◌∷◌, Option, Some, None, option_and_then, refl, subst}
 use Rattle.std.proofs.Common.{arith, leb-true}
-use Rattle.program_words.specs.Tables.{choices, range_of, verb_of}
-use Rattle.program_words.specs.Words.{are_options, are_well_formed, asked, asked_by, is_given, is_short_numeral, number_of, task_of, text_of, ticks_of}
+use Rattle.program_words.specs.Tables.{choices, choice_range, parse_verb}
+use Rattle.program_words.specs.Words.{are_options, are_well_formed, asked, asked_by, is_given, is_short_numeral, number_of, task_text, to_text, run_ticks}
 use Rattle.program_words.specs.Words.{AreNumbersWithin}
 use Rattle.program_words.specs.declared.choice.Choice.{Choice}
 use Rattle.program_words.specs.declared.choice.Choice.TheVariants.{Ticks, Seed, Parties, Events}
@@ -12,18 +12,18 @@ use Rattle.program_words.specs.declared.verb.Verb.TheVariants.{Check, Run, Race,
 use Rattle.program_words.proofs.Names.{both}
 use Rattle.program_words.proofs.Texts.{has_number}
 
-number_within : (c : Choice) (ends : ℕ × ℕ) (row : List Choice) (words : List (List ℕ)) → range_of c ≡ Some ends → are_options row None words ≡ true
+ranged_number : (c : Choice) (ends : ℕ × ℕ) (row : List Choice) (words : List (List ℕ)) → choice_range c ≡ Some ends → are_options row None words ≡ true
     → is_given c words ≡ true → (ends.0 ≤ number_of c words) × (number_of c words ≤ ends.1)
-number_within c ends row words range ok given =
-    let number = both (is_short_numeral (text_of c words)) _ (has_number row c ends None words range ok given) in
+ranged_number c ends row words range ok given =
+    let number = both (is_short_numeral (to_text c words)) _ (has_number row c ends None words range ok given) in
     let ends_are = both (nat_le ends.0 (number_of c words)) _ number.1 in
     (leb-true ends.0 (number_of c words) ends_are.0, leb-true (number_of c words) ends.1 ends_are.1)
 
-ticks_within : (row : List Choice) (words : List (List ℕ)) → are_options row None words ≡ true → (1 ≤ ticks_of words) × (ticks_of words ≤ 1000)
+ticks_within : (row : List Choice) (words : List (List ℕ)) → are_options row None words ≡ true → (1 ≤ run_ticks words) × (run_ticks words ≤ 1000)
 ticks_within row words ok = go (is_given Ticks words) refl
   where
-    go : (g : Bool) → is_given Ticks words ≡ g → (1 ≤ ticks_of words) × (ticks_of words ≤ 1000)
-    go true given = rw given (number_within Ticks (1, 1000) row words refl ok given)
+    go : (g : Bool) → is_given Ticks words ≡ g → (1 ≤ run_ticks words) × (run_ticks words ≤ 1000)
+    go true given = rw given (ranged_number Ticks (1, 1000) row words refl ok given)
     go false given = rw given (omega arith, omega arith)
 
 pub asked_within : (verb : Verb) (words : List (List ℕ)) → are_well_formed verb words ≡ true → AreNumbersWithin (asked verb words)
@@ -39,8 +39,8 @@ asked_within Gen words whole =
     let seed_on = both (is_given Seed words) _ (both _ _ whole).1 in
     let parties_on = both (is_given Parties words) _ seed_on.1 in
     let events_on = both (is_given Events words) _ parties_on.1 in
-    let parties = number_within Parties (2, 24) (choices Gen) words refl ok parties_on.0 in
-    let events = number_within Events (0, 200000) (choices Gen) words refl ok events_on.0 in
+    let parties = ranged_number Parties (2, 24) (choices Gen) words refl ok parties_on.0 in
+    let events = ranged_number Events (0, 200000) (choices Gen) words refl ok events_on.0 in
     (parties.0, parties.1, events.1)
 
 by_verb : (words : List (List ℕ)) (verb : Option Verb) (task : Task) → option_and_then (asked_by words) verb ≡ Some task → AreNumbersWithin task
@@ -56,6 +56,6 @@ by_verb words (Some verb) task is = go (are_well_formed verb words) refl
         let none : ◌≡◌ {A = Option Task} None (Some task) = rw wrong at is in
         absurd (cc none)
 
-pub task_within : (words : List (List ℕ)) (task : Task) → task_of words ≡ Some task → AreNumbersWithin task
+pub task_within : (words : List (List ℕ)) (task : Task) → task_text words ≡ Some task → AreNumbersWithin task
 task_within [] task is = absurd (cc is)
-task_within (word ∷ words) task is = by_verb words (verb_of word) task is
+task_within (word ∷ words) task is = by_verb words (parse_verb word) task is

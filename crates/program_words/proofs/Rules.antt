@@ -7,7 +7,7 @@ use Rattle.clap.specs.Simple.{new_rule, new_shape, Shape}
 use Rattle.clap.specs.declared.builder.action.ArgAction.TheVariants.{Set, SetTrue}
 use Rattle.clap.specs.declared.builder.value_parser.ValueParser.TheVariants as vp
 use Rattle.clap.proofs.WalkLemmas.{find-map}
-use Rattle.program_words.specs.Tables.{name_of, range_of, word_of}
+use Rattle.program_words.specs.Tables.{party_label, choice_range, choice_word}
 use Rattle.program_words.specs.Words.{names}
 use Rattle.program_words.specs.declared.choice.Choice.{Choice}
 use Rattle.program_words.proofs.Names.{IsLong}
@@ -36,7 +36,7 @@ rule_with None id = flag_rule id
 rule_with (Some range) id = number_rule id
 
 abbrev pub rule : Choice → Rule
-rule c = rule_with (range_of c) (name_of c)
+rule c = rule_with (choice_range c) (party_label c)
 
 -- a command with these rules, built
 abbrev pub shape : Text → List Rule → Shape
@@ -62,19 +62,20 @@ long_test nm (Some range) id = or_false (bytes_eq id nm)
 
 -- the rule of a name is that of the option that the word names
 same_find : (row : List Choice) (word : Text) (c : Choice) → IsLong word c
-    → find (names word) row ≡ find (λ x. bytes_eq (name_of x) (name_of c)) row
-same_find row word c h = subst (λ (f : Text). find (λ x. bytes_eq (word_of x) f) row ≡ find (λ x. bytes_eq (name_of x) (name_of c)) row) (sym h.front) refl
+    → find (names word) row ≡ find (λ x. bytes_eq (party_label x) (party_label c)) row
+same_find row word c h = subst (λ (f : Text). find (λ x. bytes_eq (choice_word x) f) row
+    ≡ find (λ x. bytes_eq (party_label x) (party_label c)) row) (sym h.front) refl
 
 pub by_long : (row : List Choice) (word : Text) (c : Choice) → IsLong word c → find (names word) row ≡ Some c
-    → arg_by_long (map rule row) (name_of c) ≡ Some (rule c)
+    → arg_by_long (map rule row) (party_label c) ≡ Some (rule c)
 by_long row word c h found =
-    sym (find-map (λ a. not (is_some a.index) && has_long a (name_of c)) rule row)
-    ∙ ap (λ (p : Choice → Bool). option_map rule (find p row)) (λ j x. long_test (name_of c) (range_of x) (name_of x) j)
+    sym (find-map (λ a. not (is_some a.index) && has_long a (party_label c)) rule row)
+    ∙ ap (λ (p : Choice → Bool). option_map rule (find p row)) (λ j x. long_test (party_label c) (choice_range x) (party_label x) j)
     ∙ ap (option_map rule) (sym (same_find row word c h) ∙ found)
 
 pub by_id : (row : List Choice) (word : Text) (c : Choice) → IsLong word c → find (names word) row ≡ Some c
-    → arg_by_id (map rule row) (name_of c) ≡ Some (rule c)
+    → arg_by_id (map rule row) (party_label c) ≡ Some (rule c)
 by_id row word c h found =
-    sym (find-map (λ a. bytes_eq a.id (name_of c)) rule row)
-    ∙ ap (λ (p : Choice → Bool). option_map rule (find p row)) (λ j x. id_test (name_of c) (range_of x) (name_of x) j)
+    sym (find-map (λ a. bytes_eq a.id (party_label c)) rule row)
+    ∙ ap (λ (p : Choice → Bool). option_map rule (find p row)) (λ j x. id_test (party_label c) (choice_range x) (party_label x) j)
     ∙ ap (option_map rule) (sym (same_find row word c h) ∙ found)

@@ -6,8 +6,8 @@ use Rattle.clap.specs.Simple.{App, Shape, new_rule, new_shape}
 use Rattle.clap.specs.Matches.{found_of, one_text}
 use Rattle.clap.specs.declared.builder.action.ArgAction.TheVariants.{SetTrue}
 use Rattle.clap.specs.declared.parser.matches.ArgMatches.{ArgMatches}
-use Rattle.program_words.specs.Tables.{choices, name_of, range_of}
-use Rattle.program_words.specs.Words.{is_given, is_number, text_of}
+use Rattle.program_words.specs.Tables.{choices, party_label, choice_range}
+use Rattle.program_words.specs.Words.{is_given, is_number, to_text}
 use Rattle.program_words.specs.declared.choice.Choice.{Choice}
 use Rattle.program_words.specs.declared.verb.Verb.{Verb}
 use Rattle.program_words.specs.declared.verb.Verb.TheVariants.{Check, Run, Race, Audit, Make, Gen, Clear, Many}
@@ -33,8 +33,8 @@ abbrev pub rule_with : Option (ℕ × ℕ) → Text → Rule
 rule_with None name = flag_rule name
 rule_with (Some range) name = number_rule name
 
-abbrev pub rule_for : Choice → Rule
-rule_for choice = rule_with (range_of choice) (name_of choice)
+abbrev pub choice_rule : Choice → Rule
+choice_rule choice = rule_with (choice_range choice) (party_label choice)
 
 -- a command with no options yet, and none for help
 abbrev pub bare_shape : Text → Shape
@@ -44,8 +44,8 @@ abbrev pub bare_app : Text → App
 bare_app name = record { top = bare_shape name; subs = [] }
 
 -- the command of a first word
-abbrev pub app_for : Verb → App
-app_for verb = record { top = record (bare_shape (first_word verb)) { rules = map rule_for (choices verb) }; subs = [] }
+abbrev pub verb_app : Verb → App
+verb_app verb = record { top = record (bare_shape (first_word verb)) { rules = map choice_rule (choices verb) }; subs = [] }
 
 -- what is read of an option, by whether it is given and its text: `true` or `false` of a flag, and a number's text where it is given
 abbrev pub read_with : Option (ℕ × ℕ) → Bool → Text → Option Text
@@ -53,11 +53,11 @@ read_with None given text = Some (if given then codes "true" else codes "false")
 read_with (Some range) given text = if given then Some text else None
 
 abbrev pub reading : Choice → List Text → Option Text
-reading choice words = read_with (range_of choice) (is_given choice words) (text_of choice words)
+reading choice words = read_with (choice_range choice) (is_given choice words) (to_text choice words)
 
 abbrev pub AreRead : List Choice → List Text → ArgMatches → Type 0
 AreRead [] words m = ⊤
-AreRead (choice ∷ row) words m = (one_text (found_of m) (name_of choice) ≡ reading choice words) × AreRead row words m
+AreRead (choice ∷ row) words m = (one_text (found_of m) (party_label choice) ≡ reading choice words) × AreRead row words m
 
 -- what a reader of numbers below a bound promises of a text
 abbrev pub Numbers : ℕ → Option (List ℕ) → Option ℕ → Type 0

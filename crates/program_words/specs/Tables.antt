@@ -7,8 +7,8 @@ use Rattle.program_words.specs.declared.verb.Verb.{Verb}
 use Rattle.program_words.specs.declared.verb.Verb.TheVariants.{Check, Run, Race, Audit, Make, Gen, Clear, Many}
 
 -- the first words
-abbrev pub verb_of : List ℕ → Option Verb
-verb_of word = if bytes_eq word (codes "check") then Some Check
+abbrev pub parse_verb : List ℕ → Option Verb
+parse_verb word = if bytes_eq word (codes "check") then Some Check
     else if bytes_eq word (codes "run") then Some Run
     else if bytes_eq word (codes "race") then Some Race
     else if bytes_eq word (codes "audit") then Some Audit
@@ -41,23 +41,23 @@ needed Clear = []
 needed Many = []
 
 -- the options' names
-abbrev pub name_of : Choice → List ℕ
-name_of Ticks = codes "ticks"
-name_of Transcript = codes "transcript"
-name_of Seed = codes "seed"
-name_of Parties = codes "parties"
-name_of Events = codes "events"
-name_of Summary = codes "summary"
+abbrev pub party_label : Choice → List ℕ
+party_label Ticks = codes "ticks"
+party_label Transcript = codes "transcript"
+party_label Seed = codes "seed"
+party_label Parties = codes "parties"
+party_label Events = codes "events"
+party_label Summary = codes "summary"
 
 -- the least and the greatest number that an option takes, where it takes one
-abbrev pub range_of : Choice → Option (ℕ × ℕ)
-range_of Ticks = Some (1, 1000)
-range_of Transcript = None
-range_of Seed = Some (0, 4294967295)
-range_of Parties = Some (2, 24)
-range_of Events = Some (0, 200000)
-range_of Summary = None
+abbrev pub choice_range : Choice → Option (ℕ × ℕ)
+choice_range Ticks = Some (1, 1000)
+choice_range Transcript = None
+choice_range Seed = Some (0, 4294967295)
+choice_range Parties = Some (2, 24)
+choice_range Events = Some (0, 200000)
+choice_range Summary = None
 
 -- the word that names an option
-abbrev pub word_of : Choice → List ℕ
-word_of choice = codes "--" ++ name_of choice
+abbrev pub choice_word : Choice → List ℕ
+choice_word choice = codes "--" ++ party_label choice

@@ -5,7 +5,7 @@ use Rattle.std.specs.List.{list_all, list_any, before_first, after_first}
 use Rattle.std.specs.Str.{bytes_eq}
 use Rattle.std.specs.Str.Parse.{digits_value}
 use Rattle.std.specs.Char.{is_ascii_digit}
-use Rattle.program_words.specs.Tables.{choices, needed, range_of, verb_of, word_of}
+use Rattle.program_words.specs.Tables.{choices, needed, choice_range, parse_verb, choice_word}
 use Rattle.program_words.specs.declared.choice.Choice.{Choice}
 use Rattle.program_words.specs.declared.choice.Choice.TheVariants.{Ticks, Transcript, Seed, Parties, Events, Summary}
 use Rattle.program_words.specs.declared.well_formed.Verdict.{Verdict}
@@ -30,7 +30,7 @@ behind word = if list_any is_equals word then Some (after_first is_equals word) 
 
 -- the word is the option's, alone or with something behind `=`
 abbrev pub names : List ℕ → Choice → Bool
-names word choice = bytes_eq (word_of choice) (front word)
+names word choice = bytes_eq (choice_word choice) (front word)
 
 -- the text has 1 to 10 decimal digits and nothing else
 abbrev pub is_short_numeral : List ℕ → Bool
@@ -56,12 +56,12 @@ fits (Some range) word = is_number range word
 abbrev pub named_step : Option Choice → List ℕ → List (List ℕ) → Verdict
 named_step None word later = Wrong
 named_step (Some choice) word later =
-    if list_any (λ other. names other choice) later then Wrong else option_step choice (range_of choice) (behind word)
+    if list_any (λ other. names other choice) later then Wrong else option_step choice (choice_range choice) (behind word)
 
 -- a word, where an option waits for its number or none does; `later` are the words that follow
 abbrev pub step : List Choice → Option Choice → List ℕ → List (List ℕ) → Verdict
 step row None word later = named_step (find (names word) row) word later
-step row (Some choice) word later = if fits (range_of choice) word then Done else Wrong
+step row (Some choice) word later = if fits (choice_range choice) word then Done else Wrong
 
 abbrev pub after : Verdict → (Option Choice → Bool) → Bool
 after Wrong next = false
@@ -88,20 +88,20 @@ first_of [] = []
 first_of (word ∷ words) = word
 
 -- the text that an option is given: what stands behind `=`, or the next word
-abbrev pub text_of : Choice → List (List ℕ) → List ℕ
-text_of choice [] = []
-text_of choice (word ∷ words) = if names word choice then unwrap_or (behind word) (first_of words) else text_of choice words
+abbrev pub to_text : Choice → List (List ℕ) → List ℕ
+to_text choice [] = []
+to_text choice (word ∷ words) = if names word choice then unwrap_or (behind word) (first_of words) else to_text choice words
 
 abbrev pub number_of : Choice → List (List ℕ) → ℕ
-number_of choice words = digits_value 10 (text_of choice words)
+number_of choice words = digits_value 10 (to_text choice words)
 
-abbrev pub ticks_of : List (List ℕ) → ℕ
-ticks_of words = if is_given Ticks words then number_of Ticks words else 1
+abbrev pub run_ticks : List (List ℕ) → ℕ
+run_ticks words = if is_given Ticks words then number_of Ticks words else 1
 
 abbrev pub asked : Verb → List (List ℕ) → Task
 asked Check words = task.Input order.Check
 asked Run words = task.Input (order.Run (is_given Transcript words))
-asked Race words = task.Race (ticks_of words) (is_given Transcript words)
+asked Race words = task.Race (run_ticks words) (is_given Transcript words)
 asked Audit words = task.Input order.Audit
 asked Make words = task.Input order.Make
 asked Gen words = task.Number (record {
@@ -117,9 +117,9 @@ abbrev pub asked_by : List (List ℕ) → Verb → Option Task
 asked_by words verb = if are_well_formed verb words then Some (asked verb words) else None
 
 -- the task that the words ask for: no other words are well formed
-abbrev pub task_of : List (List ℕ) → Option Task
-task_of [] = None
-task_of (word ∷ words) = option_and_then (asked_by words) (verb_of word)
+abbrev pub task_text : List (List ℕ) → Option Task
+task_text [] = None
+task_text (word ∷ words) = option_and_then (asked_by words) (parse_verb word)
 
 -- the numbers of a task lie in their ranges
 abbrev pub AreNumbersWithin : Task → Type 0

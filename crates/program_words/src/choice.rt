@@ -1,7 +1,7 @@
 //! The options of the commands.
 
 ghost use Rattle.std.specs.Prelude.{◌≡◌};
-ghost use Rattle.program_words.specs.Tables.{range_of, word_of};
+ghost use Rattle.program_words.specs.Tables.{choice_range, choice_word};
 
 /// An option that a command may have.
 #[derive(Clone, Copy, Debug, PartialEq, Eq)]
@@ -17,7 +17,7 @@ pub(crate) enum Choice {
 impl Choice {
     /// The word that names the option.
     pub(crate) fn word(self) -> &'static str
-        ensures { result.now ≡ word_of self }
+        ensures { result.now ≡ choice_word self }
     {
         match self {
             Choice::Ticks => "--ticks",
@@ -31,7 +31,7 @@ impl Choice {
 
     /// The least and the greatest number that the option takes, where it takes one.
     pub(crate) fn range(self) -> Option<(u32, u32)>
-        ensures { result ≡ range_of self }
+        ensures { result ≡ choice_range self }
     {
         match self {
             Choice::Ticks => Some((1, 1000)),

@@ -5,13 +5,13 @@ ghost use Rattle.clap.specs.Matches.{found_of, one_text};
 ghost use Rattle.clap.specs.Simple.{app_of};
 ghost use Rattle.clap.specs.Values.{kind_of};
 ghost use Rattle.clap.specs.Walk.{rule_of};
-ghost use Rattle.program_words.specs.Parsed.{AreRead, Numbers, app_for, bare_app, flag_rule, number_rule};
+ghost use Rattle.program_words.specs.Parsed.{AreRead, Numbers, verb_app, bare_app, flag_rule, number_rule};
 ghost use Rattle.program_words.specs.Tables.{choices};
-ghost use Rattle.program_words.specs.Words.{are_well_formed, asked, task_of, AreNumbersWithin};
+ghost use Rattle.program_words.specs.Words.{are_well_formed, asked, task_text, AreNumbersWithin};
 ghost use Rattle.program_words.specs.declared.task.Task.{Task};
 
 use crate::task::{Order, Request, Task};
-use crate::verb::{Verb, verb_of};
+use crate::verb::{Verb, parse_verb};
 use crate::well_formed::are_well_formed;
 use clap::error::ErrorKind;
 use clap::{Arg, ArgAction, ArgMatches, Error};
@@ -42,13 +42,13 @@ fn number<'a>(alloc: Global, name: &'a str) -> Arg<'a>
 }
 
 fn run_command<'a>(alloc: Global) -> Result<clap::Command<'a>, AllocError>
-    ensures { IfOk result (λ command. app_of command ≡ app_for Verb.Run) }
+    ensures { IfOk result (λ command. app_of command ≡ verb_app Verb.Run) }
 {
     bare(alloc, "run").arg(flag(alloc, "transcript"))
 }
 
 fn race_command<'a>(alloc: Global) -> Result<clap::Command<'a>, AllocError>
-    ensures { IfOk result (λ command. app_of command ≡ app_for Verb.Race) }
+    ensures { IfOk result (λ command. app_of command ≡ verb_app Verb.Race) }
 {
     bare(alloc, "race")
         .arg(number(alloc, "ticks"))?
@@ -56,7 +56,7 @@ fn race_command<'a>(alloc: Global) -> Result<clap::Command<'a>, AllocError>
 }
 
 fn gen_command<'a>(alloc: Global) -> Result<clap::Command<'a>, AllocError>
-    ensures { IfOk result (λ command. app_of command ≡ app_for Verb.Gen) }
+    ensures { IfOk result (λ command. app_of command ≡ verb_app Verb.Gen) }
 {
     bare(alloc, "gen")
         .arg(number(alloc, "seed"))?
@@ -66,8 +66,8 @@ fn gen_command<'a>(alloc: Global) -> Result<clap::Command<'a>, AllocError>
 }
 
 /// The command line of a first word.
-fn command_for<'a>(alloc: Global, verb: Verb) -> Result<clap::Command<'a>, AllocError>
-    ensures { IfOk result (λ command. app_of command ≡ app_for verb) }
+fn verb_command<'a>(alloc: Global, verb: Verb) -> Result<clap::Command<'a>, AllocError>
+    ensures { IfOk result (λ command. app_of command ≡ verb_app verb) }
 {
     match verb {
         Verb::Check => Ok(bare(alloc, "check")),
@@ -88,7 +88,7 @@ fn matches_of<'a>(alloc: Global, verb: Verb, words: &'a [String]) -> Result<ArgM
     ensures read { IfOk result (AreRead (choices verb) (map string_bytes (drop 1 words.now))) }
     ensures memory { IfErr result (λ error. kind_of error ≡ ErrorKind.OutOfMemory) }
 {
-    let command = command_for(alloc, verb)?;
+    let command = verb_command(alloc, verb)?;
     match command.try_get_matches_from(words) {
         Ok(matches) => Ok(matches),
         Err(error) => Err(error),
@@ -104,14 +104,14 @@ fn number_in(matches: &ArgMatches<'_>, name: &str) -> Option<u32>
 }
 
 /// The same of an option whose numbers are small.
-fn small_number_in(matches: &ArgMatches<'_>, name: &str) -> Option<u8>
+fn read_small_number(matches: &ArgMatches<'_>, name: &str) -> Option<u8>
     ensures none { one_text (found_of matches.now) name.now ≡ None → result ≡ None }
     ensures number { Numbers (2 ^ 8) (one_text (found_of matches.now) name.now) result }
 {
     matches.get_one(name)
 }
 
-fn run_in(matches: &ArgMatches<'_>) -> Task
+fn run_task(matches: &ArgMatches<'_>) -> Task
     ensures { (words : List (List ℕ)) → are_well_formed Verb.Run words ≡ true → AreRead (choices Verb.Run) words matches.now → result ≡ asked Verb.Run words }
 {
     Task::Input(Order::Run {
@@ -119,7 +119,7 @@ fn run_in(matches: &ArgMatches<'_>) -> Task
     })
 }
 
-fn race_in(matches: &ArgMatches<'_>) -> Task
+fn race_task(matches: &ArgMatches<'_>) -> Task
     ensures { (words : List (List ℕ)) → are_well_formed Verb.Race words ≡ true → AreRead (choices Verb.Race) words matches.now
         → result ≡ asked Verb.Race words }
 {
@@ -129,28 +129,28 @@ fn race_in(matches: &ArgMatches<'_>) -> Task
     }
 }
 
-fn gen_in(matches: &ArgMatches<'_>) -> Task
+fn gen_task(matches: &ArgMatches<'_>) -> Task
     ensures { (words : List (List ℕ)) → are_well_formed Verb.Gen words ≡ true → AreRead (choices Verb.Gen) words matches.now → result ≡ asked Verb.Gen words }
 {
     Task::Number(Request {
         seed: number_in(matches, "seed").unwrap_or(0),
-        parties: small_number_in(matches, "parties").unwrap_or(0),
+        parties: read_small_number(matches, "parties").unwrap_or(0),
         events: number_in(matches, "events").unwrap_or(0),
         summary: matches.get_flag("summary"),
     })
 }
 
 /// The task, with the values of its options.
-fn task_in(verb: Verb, matches: &ArgMatches<'_>) -> Task
+fn parse_task(verb: Verb, matches: &ArgMatches<'_>) -> Task
     ensures { (words : List (List ℕ)) → are_well_formed verb words ≡ true → AreRead (choices verb) words matches.now → result ≡ asked verb words }
 {
     match verb {
         Verb::Check => Task::Input(Order::Check),
-        Verb::Run => run_in(matches),
-        Verb::Race => race_in(matches),
+        Verb::Run => run_task(matches),
+        Verb::Race => race_task(matches),
         Verb::Audit => Task::Input(Order::Audit),
         Verb::Make => Task::Input(Order::Make),
-        Verb::Gen => gen_in(matches),
+        Verb::Gen => gen_task(matches),
         Verb::Clear => Task::Input(Order::Clear),
         Verb::Many => Task::Input(Order::Many),
     }
@@ -164,7 +164,7 @@ fn read_whole(alloc: Global, verb: Verb, words: &[String]) -> Result<Task, NoMem
     ensures within { IfOk result AreNumbersWithin }
 {
     match matches_of(alloc, verb, words) {
-        Ok(matches) => Ok(task_in(verb, &matches)),
+        Ok(matches) => Ok(parse_task(verb, &matches)),
         Err(_) => Err(NoMemory),
     }
 }
@@ -172,15 +172,15 @@ fn read_whole(alloc: Global, verb: Verb, words: &[String]) -> Result<Task, NoMem
 /// Reads the task that the words after the program's name ask for: `None` where they aren't well formed.
 #[tactic(auto, using(crate::proofs::Whole::no_task, crate::proofs::Whole::wrong_first, crate::proofs::Whole::wrong_rest, crate::proofs::Whole::whole_words))]
 pub fn read_task(alloc: Global, words: &[String]) -> Result<Option<Task>, NoMemory>
-    ensures exact { IfOk result (λ task. task ≡ task_of (map string_bytes words.now)) }
+    ensures exact { IfOk result (λ task. task ≡ task_text (map string_bytes words.now)) }
     // Words that aren't well formed are found without memory.
-    ensures wrong { task_of (map string_bytes words.now) ≡ None → result ≡ Ok None }
+    ensures wrong { task_text (map string_bytes words.now) ≡ None → result ≡ Ok None }
     ensures within { (task : Task) → result ≡ Ok (Some task) → AreNumbersWithin task }
 {
     let [first, rest @ ..] = words else {
         return Ok(None);
     };
-    let Some(verb) = verb_of(first.as_str()) else {
+    let Some(verb) = parse_verb(first.as_str()) else {
         return Ok(None);
     };
     if !are_well_formed(verb, rest) {

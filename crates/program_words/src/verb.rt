@@ -1,7 +1,7 @@
 //! The first words of the commands.
 
 ghost use Rattle.std.specs.Prelude.{◌≡◌};
-ghost use Rattle.program_words.specs.Tables.{choices, needed, verb_of};
+ghost use Rattle.program_words.specs.Tables.{choices, needed, parse_verb};
 
 use crate::choice::Choice;
 
@@ -19,8 +19,8 @@ pub(crate) enum Verb {
 }
 
 /// The command that the first word asks for.
-pub(crate) fn verb_of(word: &str) -> Option<Verb>
-    ensures { result ≡ verb_of word.now }
+pub(crate) fn parse_verb(word: &str) -> Option<Verb>
+    ensures { result ≡ parse_verb word.now }
 {
     match word {
         "check" => Some(Verb::Check),

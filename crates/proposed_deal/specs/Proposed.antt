@@ -5,7 +5,7 @@ use Rattle.swap_digraph.specs.Graph.{HasEnds, IsStronglyConnected, IsFeedback, I
 use Rattle.swap_digraph.specs.declared.deal.Deal.{Deal}
 use Rattle.swap_digraph.specs.declared.deal.Mode.{Mode}
 use Rattle.swap_digraph.specs.declared.deal.Mode.TheVariants.{Timelocks, Hashkeys}
-use Rattle.swap_digraph.specs.Deal.{leader_of, amount, most_parties, most_arcs}
+use Rattle.swap_digraph.specs.Deal.{lock_leader, amount, most_parties, most_arcs}
 use Rattle.swap_rules.specs.Accepted.{IsOfVersion}
 use Rattle.swap_job.specs.declared.job.Job.{Job}
 
@@ -22,8 +22,8 @@ pub record IsProposed (d : Deal) : Type 0 where
   pub of_version : IsOfVersion d.version d
   pub strong : IsStronglyConnected d.graph
   pub leaders : (1 ≤ length d.leaders) × (length d.leaders ≤ 8)
-  pub leader : (i : ℕ) → i < length d.leaders → leader_of d i < d.graph.n
-  pub apart : (i j : ℕ) → i < length d.leaders → j < length d.leaders → leader_of d i ≡ leader_of d j → i ≡ j
+  pub leader : (i : ℕ) → i < length d.leaders → lock_leader d i < d.graph.n
+  pub apart : (i j : ℕ) → i < length d.leaders → j < length d.leaders → lock_leader d i ≡ lock_leader d j → i ≡ j
   pub led : IsLedFor d.mode d
   pub feedback : IsFeedback d.graph d.leaders
   -- the most vertices on a path of followers alone

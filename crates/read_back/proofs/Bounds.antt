@@ -3,7 +3,7 @@ use Rattle.std.proofs.Common.{◌≡◌, ◌<◌, ◌≤◌, ℕ, zero, suc, tru
 use Rattle.swap_base.proofs.Lists.{and_both}
 use Rattle.time_bounds.specs.Times.{need}
 use Rattle.swap_digraph.specs.Value.{Graph}
-use Rattle.swap_digraph.specs.Graph.{is_among, IsHeight}
+use Rattle.swap_digraph.specs.Graph.{is_listed, IsHeight}
 use Rattle.swap_digraph.proofs.Parts.{not_leader}
 
 a_follower : (leader : ℕ) → (v : ℕ) × (v < 2) × (v ≡ leader → ⊥)
@@ -22,7 +22,7 @@ tall_enough g l h parties tall =
     let v = a_follower l in
     let low : v.0 < 2 = v.1 in
     let within : v.0 < g.n = omega (arith, low, parties) in
-    tall.most (v.0 ∷ []) (lt-ltb v.0 g.n within) (and_both (not (is_among v.0 (l ∷ []))) true (not_leader l v.0 v.2) refl)
+    tall.most (v.0 ∷ []) (lt-ltb v.0 g.n within) (and_both (not (is_listed v.0 (l ∷ []))) true (not_leader l v.0 v.2) refl)
 
 pub enough_is_some : (g : Graph) (ls : List ℕ) (h b : ℕ) → 2 ≤ g.n → 1 ≤ length ls → IsHeight g ls h → need g.n (length ls) h ≤ b → 1 ≤ b
 enough_is_some g [] h b parties some tall le = absurd (omega arith)

@@ -8,34 +8,30 @@ use Rattle.swap_base.specs.Fault.{steps}
 use Rattle.swap_base.specs.Lists.{IsIn}
 use Rattle.refusals.specs.declared.reason.Reason.{Reason}
 use Rattle.refusals.specs.declared.reason.Reason.TheVariants.{BadName, Duplicate, StartTooSoon}
-use Rattle.offer_fields.specs.Fields.{object_of}
+use Rattle.offer_fields.specs.Fields.{parse_data}
 use Rattle.offer_fields.specs.Lists.{each_of}
 use Rattle.offer_header.specs.Names.{is_name, name_added, AreNames}
 use Rattle.offer_header.proofs.Walked.{steps_keep}
 use Rattle.swap_clear.specs.declared.answer.Group.{Group}
 use Rattle.swap_clear.specs.declared.answer.Clearing.{Clearing}
 use Rattle.swap_clear.specs.declared.fault.ClearReason.{ClearReason}
-use Rattle.swap_clear.specs.Clearing.{clearing_of}
+use Rattle.swap_clear.specs.Clearing.{cleared_groups}
 use Rattle.swap_clear.proofs.Told as told
-use Rattle.clear_line.specs.Cleared.{by_clearing, cleared_of, clearing_for, started, without_self_arcs}
+use Rattle.clear_line.specs.Cleared.{by_clearing, parse_cleared, make_clearing, started, without_self_arcs}
 use Rattle.clear_line.specs.Fields.{raw_wishes}
-use Rattle.clear_line.specs.Limits.{proposals_of, times_of, wishes_by, wishes_of, AreWishesWithin}
-use Rattle.clear_line.specs.Names.{wished_name_step, numbered_arc, numbered_wishes, AreEndsBelow}
+use Rattle.clear_line.specs.Limits.{proposals_of, parse_times, parse_wishes, parse_wish_text, AreWishesWithin}
+use Rattle.clear_line.specs.Names.{wished_name_step, numbered_arc, numbered_wishes, AreBoundedEnds}
 use Rattle.clear_line.specs.declared.cleared.Cleared.{Cleared}
 use Rattle.clear_line.specs.declared.fields.RawWishes.{RawWishes}
 use Rattle.clear_line.specs.declared.limits.Wishes.{Wishes}
 use Rattle.clear_line.specs.declared.names.Numbered.{Numbered}
-use Rattle.clear_line.proofs.Named.{arcs_of, names_of}
-use Rattle.clear_line.proofs.Within.{is_within}
+use Rattle.clear_line.proofs.Named.{listed_arcs, names_of}
+use Rattle.clear_line.proofs.Within.{set_contains_ends}
 use Rattle.read_back.proofs.Onward.{landed, ok_is, onward}
 use Rattle.read_back.proofs.Shape.{IsClear, IsGood}
+use Rattle.read_back.proofs.Showable.{two_tests}
 
 -- ---- names
-
-two_tests : {X : Type 0} (a b : Bool) (x y : Reason) (z t : X) → cond a (cond b (Err x) (Ok z)) (Err y) ≡ Ok t → (a ≡ true) × (z ≡ t)
-two_tests true true x y z t h = absurd (cc h)
-two_tests true false x y z t h = (refl, ok_is z t h)
-two_tests false b x y z t h = absurd (cc h)
 
 good_step : (line : ℕ) (seen : List (List ℕ)) (name : List ℕ) (t : List (List ℕ)) → All IsGood seen → wished_name_step line seen name ≡ Ok t → All IsGood t
 unfolding name_added
@@ -49,7 +45,7 @@ good_names line parties names e = steps_keep (All IsGood) (wished_name_step line
 -- What is known of names and of the numbers that stand for them.
 record AreKnown (n : Numbered) : Type 0 where
   names : AreNames n.names
-  ends : AreEndsBelow n
+  ends : AreBoundedEnds n
   good : All IsGood n.names
 
 numbered_are : (line : ℕ) (raw : RawWishes) (n : Numbered) → numbered_wishes line raw ≡ Ok n → AreKnown n
@@ -58,7 +54,7 @@ numbered_are line raw =
     onward (steps (wished_name_step line) [] raw.parties) _ AreKnown (λ names e.
     onward (each_of (numbered_arc line names) raw.arcs) _ AreKnown (λ arcs a.
     landed (record { names = names; arcs = arcs }) AreKnown
-    (record { names = names_of line raw.parties names e; ends = arcs_of line names raw.arcs arcs a; good = good_names line raw.parties names e })))
+    (record { names = names_of line raw.parties names e; ends = listed_arcs line names raw.arcs arcs a; good = good_names line raw.parties names e })))
 
 -- ---- wishes
 
@@ -67,19 +63,19 @@ record AreFine (w : Wishes) : Type 0 where
   within : AreWishesWithin w
   good : All IsGood w.names
 
-wishes_are : (line : ℕ) (raw : RawWishes) (w : Wishes) → wishes_by line raw ≡ Ok w → AreFine w
-unfolding wishes_by
+wishes_are : (line : ℕ) (raw : RawWishes) (w : Wishes) → parse_wishes line raw ≡ Ok w → AreFine w
+unfolding parse_wishes
 wishes_are line raw =
     onward (numbered_wishes line raw) _ AreFine (λ n m.
-    onward (times_of line raw) _ AreFine (λ t s.
+    onward (parse_times line raw) _ AreFine (λ t s.
     onward (proposals_of line n) _ AreFine (λ arcs p.
     landed (record { start = t.0; delta = t.1; names = n.names; arcs = arcs }) AreFine
-    (let k = numbered_are line raw n m in record { within = is_within line raw n t arcs k.names k.ends s p; good = k.good }))))
+    (let k = numbered_are line raw n m in record { within = set_contains_ends line raw n t arcs k.names k.ends s p; good = k.good }))))
 
-read_are : (line : ℕ) (text : List ℕ) (w : Wishes) → wishes_of line text ≡ Ok w → AreFine w
-unfolding wishes_of
+read_are : (line : ℕ) (text : List ℕ) (w : Wishes) → parse_wish_text line text ≡ Ok w → AreFine w
+unfolding parse_wish_text
 read_are line text =
-    onward (object_of line text) _ AreFine (λ d o.
+    onward (parse_data line text) _ AreFine (λ d o.
     onward (raw_wishes line d) _ AreFine (λ raw r. wishes_are line raw))
 
 -- ---- groups
@@ -96,14 +92,14 @@ late_enough : (start delta : ℕ) (u : Unit {0}) → started start delta ≡ Ok 
 unfolding started
 late_enough start delta u h = by_start (nat_lt start delta) start delta (StartTooSoon start delta) u refl h
 
-clearing_is : (w : Wishes) (c : Clearing) → clearing_for w ≡ Ok c → (w.delta ≤ w.start) × (clearing_of (length w.names) w.arcs ≡ Ok c)
-unfolding clearing_for
+clearing_is : (w : Wishes) (c : Clearing) → make_clearing w ≡ Ok c → (w.delta ≤ w.start) × (cleared_groups (length w.names) w.arcs ≡ Ok c)
+unfolding make_clearing
 clearing_is w =
-    let P = λ (c : Clearing). (w.delta ≤ w.start) × (clearing_of (length w.names) w.arcs ≡ Ok c) in
+    let P = λ (c : Clearing). (w.delta ≤ w.start) × (cleared_groups (length w.names) w.arcs ≡ Ok c) in
     onward (without_self_arcs w.arcs) _ P (λ u s.
-    onward (started w.start w.delta) _ P (λ v t c e. (late_enough w.start w.delta v t, ok_cleared (clearing_of (length w.names) w.arcs) c e)))
+    onward (started w.start w.delta) _ P (λ v t c e. (late_enough w.start w.delta v t, ok_cleared (cleared_groups (length w.names) w.arcs) c e)))
 
-group_is : (w : Wishes) (c : Clearing) → AreFine w → clearing_for w ≡ Ok c → (group : Group) → IsIn group c.groups → IsClear w group
+group_is : (w : Wishes) (c : Clearing) → AreFine w → make_clearing w ≡ Ok c → (group : Group) → IsIn group c.groups → IsClear w group
 group_is w c fine e group i =
     let n : ℕ = length w.names in
     let k = clearing_is w c e in record {
@@ -118,9 +114,9 @@ group_is w c fine e group i =
 abbrev AreClear : Cleared → Type 0
 AreClear c = (group : Group) → IsIn group c.clearing.groups → IsClear c.wishes group
 
-pub groups_are_clear : (line : ℕ) (text : List ℕ) (c : Cleared) → cleared_of line text ≡ Ok c → AreClear c
-unfolding cleared_of
+pub groups_are_clear : (line : ℕ) (text : List ℕ) (c : Cleared) → parse_cleared line text ≡ Ok c → AreClear c
+unfolding parse_cleared
 groups_are_clear line text =
-    onward (wishes_of line text) _ AreClear (λ w r.
-    onward (clearing_for w) _ AreClear (λ c e.
+    onward (parse_wish_text line text) _ AreClear (λ w r.
+    onward (make_clearing w) _ AreClear (λ c e.
     landed (record { wishes = w; clearing = c }) AreClear (group_is w c (read_are line text w r) e)))

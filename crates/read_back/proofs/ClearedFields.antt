@@ -5,14 +5,15 @@ use Rattle.swap_digraph.specs.declared.deal.Mode.TheVariants.{Hashkeys}
 use Rattle.swap_digraph.specs.declared.deal.Version.TheVariants.{Two}
 use Rattle.swap_job.specs.declared.job.Purpose.TheVariants.{Make}
 use Rattle.swap_job.specs.declared.job.Finish.TheVariants.{Stop}
-use Rattle.offer_fields.specs.Fields.{array_at, list_at, needed, number_at, object_at, only, optional_text_at, text_at}
+use Rattle.offer_fields.specs.Fields.{read_array_field, list_at, needed, number_at, object_at, only, optional_text_at, text_at}
 use Rattle.offer_header.specs.declared.raw.Reading.{Reading}
 use Rattle.offer_header.specs.declared.raw.RawActor.TheVariants.{Conforming}
 use Rattle.offer_header.specs.declared.raw.RawParty.{RawParty}
 use Rattle.offer_header.specs.declared.raw.RawArc.{RawArc}
 use Rattle.offer_header.specs.declared.raw.RawLeader.{RawLeader}
 use Rattle.offer_header.specs.declared.raw.RawHeader.{RawHeader}
-use Rattle.offer_header.specs.Raw.{actor_at, raw_arc_of, finish_at, header_fields, raw_leader_of, mode_at, party_of, raw_of, stated_finish_at, stated_mode_at}
+use Rattle.offer_header.specs.Raw.{actor_at, raw_arc_of, finish_at, header_fields, raw_leader_of, mode_at, parse_party, raw_of, stated_finish_at}
+use Rattle.offer_header.specs.Raw.{stated_mode_at}
 use Rattle.offer_header.specs.Raw.{version_at}
 use Rattle.swap_clear.specs.declared.answer.Group.{Group}
 use Rattle.clear_line.specs.declared.limits.Wishes.{Wishes}
@@ -28,8 +29,8 @@ reading = record { purpose = Make; mode = Hashkeys }
 abbrev pub raw_party : Wishes → ℕ × List ℕ → RawParty
 raw_party w p = record { name = wished_name w p.0; actor = Conforming; seed = Some p.1 }
 
-party_back : (line : ℕ) (w : Wishes) (p : ℕ × List ℕ) → party_of reading line (seeded_party w.names p) ≡ Ok (raw_party w p)
-unfolding party_of object_at text_at needed actor_at optional_text_at only
+party_back : (line : ℕ) (w : Wishes) (p : ℕ × List ℕ) → parse_party reading line (seeded_party w.names p) ≡ Ok (raw_party w p)
+unfolding parse_party object_at text_at needed actor_at optional_text_at only
 party_back line w p = refl
 
 abbrev pub raw_arc : Wishes → ℕ → RawArc
@@ -88,16 +89,16 @@ module _ (line : ℕ) (w : Wishes) (group : Group) (texts : List (List ℕ)) whe
   unfolding number_at needed
   bound_is = refl
 
-  parties_are : list_at line (codes "parties") (party_of reading line) (seeded_data w group texts) ≡ Ok (map (raw_party w) (zip group.parties texts))
-  unfolding list_at array_at needed
-  parties_are = items_back (party_of reading line) (seeded_party w.names) (raw_party w) (zip group.parties texts) (λ p i. party_back line w p)
+  parties_are : list_at line (codes "parties") (parse_party reading line) (seeded_data w group texts) ≡ Ok (map (raw_party w) (zip group.parties texts))
+  unfolding list_at read_array_field needed
+  parties_are = items_back (parse_party reading line) (seeded_party w.names) (raw_party w) (zip group.parties texts) (λ p i. party_back line w p)
 
   arcs_are : list_at line (codes "arcs") (raw_arc_of reading line) (seeded_data w group texts) ≡ Ok (map (raw_arc w) group.arcs)
-  unfolding list_at array_at needed
+  unfolding list_at read_array_field needed
   arcs_are = items_back (raw_arc_of reading line) (λ a. proposal_data w.names (proposal w.arcs a)) (raw_arc w) group.arcs (λ a i. arc_back line w a)
 
   leaders_are : list_at line (codes "leaders") (raw_leader_of reading line) (seeded_data w group texts) ≡ Ok (map (raw_leader w) group.leaders)
-  unfolding list_at array_at needed
+  unfolding list_at read_array_field needed
   leaders_are = items_back (raw_leader_of reading line) (named_data (codes "party") w.names) (raw_leader w) group.leaders (λ l i. leader_back line w l)
 
   finish_is : finish_at line Make (seeded_data w group texts) ≡ Ok Stop

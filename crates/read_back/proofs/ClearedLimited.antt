@@ -7,38 +7,38 @@ use Rattle.hex.specs.Hex.{decode_sized}
 use Rattle.hex.specs.declared.error.FromHexError.{FromHexError}
 use Rattle.swap_base.specs.Lists.{IsIn}
 use Rattle.swap_base.proofs.Lists.{and_both}
-use Rattle.swap_digraph.specs.Graph.{is_among}
-use Rattle.swap_digraph.proofs.Paths.{in-is_among}
+use Rattle.swap_digraph.specs.Graph.{is_listed}
+use Rattle.swap_digraph.proofs.Paths.{in-is_listed}
 use Rattle.swap_digraph.specs.declared.deal.Version.TheVariants.{Two}
 use Rattle.swap_job.specs.declared.job.Purpose.TheVariants.{Make}
 use Rattle.swap_job.specs.declared.job.Role.TheVariants.{Conforming}
 use Rattle.offer_fields.specs.Lists.{each_of}
-use Rattle.offer_fields.specs.Limits.{digest_of, number_within, within}
+use Rattle.offer_fields.specs.Limits.{to_digest, ranged_number, within}
 use Rattle.offer_moves.specs.declared.moves.Sizes.{Sizes}
 use Rattle.offer_header.specs.declared.limits.Acting.{Acting}
 use Rattle.offer_header.specs.declared.limits.ArcTerms.{ArcTerms}
 use Rattle.offer_header.specs.declared.header.Header.{Header}
-use Rattle.offer_header.specs.Limits.{acting_of, all_terms_of, hashlocks_of, header_with, limited_of, no_digests, parties_of, checked_seed, sizes_in, terms_of}
+use Rattle.offer_header.specs.Limits.{parse_acting, parse_all_terms, hashlocks_of, assemble_header, limited_of, no_digests, count_parties}
+use Rattle.offer_header.specs.Limits.{checked_seed, header_sizes, stated_terms}
 use Rattle.swap_clear.specs.declared.answer.Group.{Group}
 use Rattle.swap_clear.specs.Led.{own, own_leaders}
 use Rattle.clear_line.specs.declared.limits.Wishes.{Wishes}
 use Rattle.clear_line.specs.ClearedText.{proposal}
-use Rattle.read_back.specs.ClearedJobs.{wished_graph, AreDigitsOf}
+use Rattle.read_back.specs.ClearedJobs.{wished_graph, AreDigitTexts}
 use Rattle.read_back.proofs.Steps.{each_back, step}
 use Rattle.read_back.proofs.ClearedFields.{raw_arc, raw_header, raw_leader, raw_party}
 use Rattle.read_back.proofs.Lists.{pairs_long}
 use Rattle.read_back.proofs.ClearedNamed.{numbered_at}
 use Rattle.read_back.proofs.Shape.{IsClear}
 use Rattle.read_back.proofs.Bounds.{enough_is_some}
+use Rattle.read_back.proofs.HeaderLimited.{within_back, number_back}
 
 -- ---- ranges
 
-within_back : (line : ℕ) (field : List ℕ) (low high n : ℕ) → low ≤ n → n ≤ high → within line field low high n ≡ Ok tt
 unfolding within
 within_back line field low high n l h = rw (and_both (nat_le low n) (nat_le n high) (le-leb low n l) (le-leb n high h)) refl
 
-number_back : (line : ℕ) (field : List ℕ) (low high n : ℕ) → low ≤ n → n ≤ high → number_within line field low high n ≡ Ok n
-unfolding number_within
+unfolding ranged_number
 number_back line field low high n l h = step _ tt _ (within_back line field low high n l h)
 
 -- ---- seeds
@@ -51,12 +51,12 @@ pub heads : (r : Result (List ℕ) FromHexError) (s : List ℕ) (rs ss : List (R
 heads r s rs ss e = (cc e, cc e)
 
 seed_back : (w : Wishes) (sizes : Sizes) (names : List (List ℕ)) (line p : ℕ) (text seed : List ℕ) → decode_sized text 32 ≡ Ok seed
-    → acting_of sizes names line (raw_party w (p, text)) ≡ Ok (acting_with seed)
-unfolding acting_of checked_seed digest_of
+    → parse_acting sizes names line (raw_party w (p, text)) ≡ Ok (acting_with seed)
+unfolding parse_acting checked_seed to_digest
 seed_back w sizes names line p text seed e = rw e refl
 
 seeds_back : (w : Wishes) (sizes : Sizes) (names : List (List ℕ)) (line : ℕ) (ps : List ℕ) (texts seeds : List (List ℕ)) → length texts ≡ length ps
-    → AreDigitsOf texts seeds → each_of (acting_of sizes names line) (map (raw_party w) (zip ps texts)) ≡ Ok (map acting_with seeds)
+    → AreDigitTexts texts seeds → each_of (parse_acting sizes names line) (map (raw_party w) (zip ps texts)) ≡ Ok (map acting_with seeds)
 unfolding each_of
 seeds_back w sizes names line [] [] [] e d = refl
 seeds_back w sizes names line [] [] (s ∷ seeds) e d = absurd (cc d)
@@ -75,22 +75,22 @@ terms_at w a = record { amount = (proposal w.arcs a).amount; timelock = 0 }
 
 abbrev pub header_at : Wishes → Group → (texts seeds : List (List ℕ)) → Header
 header_at w group texts seeds =
-    header_with Make (raw_header w group texts) (numbered_at w group) w.start w.delta group.bound (map acting_with seeds) (map (terms_at w) group.arcs)
+    assemble_header Make (raw_header w group texts) (numbered_at w group) w.start w.delta group.bound (map acting_with seeds) (map (terms_at w) group.arcs)
     (no_digests (map (raw_leader w) group.leaders))
     (map (λ p. no_digests (map (raw_leader w) group.leaders)) (map (raw_party w) (zip group.parties texts)))
 
 pub amount_low : (w : Wishes) (group : Group) → IsClear w group → (a : ℕ) → IsIn a group.arcs
     → (1 ≤ (proposal w.arcs a).amount) × ((proposal w.arcs a).amount ≤ 10 ^ 12)
 amount_low w group k a i =
-    let lt : a < length (wished_graph w).arcs = k.one.arc a (in-is_among a group.arcs i) in
+    let lt : a < length (wished_graph w).arcs = k.one.arc a (in-is_listed a group.arcs i) in
     let size : length (wished_graph w).arcs ≡ length w.arcs = length-map w.arcs _ in
     k.within.amounts a (omega (arith, lt, size))
 
 module _ (w : Wishes) (group : Group) (k : IsClear w group) (line : ℕ) (texts seeds : List (List ℕ)) (each : length texts ≡ length group.parties)
-    (digits : AreDigitsOf texts seeds) where
+    (digits : AreDigitTexts texts seeds) where
   parties_act : (sizes : Sizes) (names : List (List ℕ))
-      → parties_of Two sizes names line (map (raw_party w) (zip group.parties texts)) ≡ Ok (map acting_with seeds)
-  unfolding parties_of
+      → count_parties Two sizes names line (map (raw_party w) (zip group.parties texts)) ≡ Ok (map acting_with seeds)
+  unfolding count_parties
   parties_act sizes names =
       let low : 2 ≤ length group.parties = k.ready.parties.0 in
       let high : length group.parties ≤ 32 = k.ready.parties.1 in
@@ -100,15 +100,15 @@ module _ (w : Wishes) (group : Group) (k : IsClear w group) (line : ℕ) (texts 
       (omega (arith, low, size)) (omega (arith, high, size)))
       ∙ seeds_back w sizes names line group.parties texts seeds each digits
 
-  term_back : (a : ℕ) → IsIn a group.arcs → terms_of line (raw_arc w a) ≡ Ok (terms_at w a)
-  unfolding terms_of
+  term_back : (a : ℕ) → IsIn a group.arcs → stated_terms line (raw_arc w a) ≡ Ok (terms_at w a)
+  unfolding stated_terms
   term_back a i =
       let low = amount_low w group k a i in
       step _ tt _ (within_back line (codes "amount") 1 (10 ^ 12) (proposal w.arcs a).amount low.0 low.1)
       ∙ step _ 0 _ (number_back line (codes "timelock") 0 1000000 0 (omega arith) (omega arith))
 
-  terms_back : all_terms_of Two line (map (raw_arc w) group.arcs) ≡ Ok (map (terms_at w) group.arcs)
-  unfolding all_terms_of
+  terms_back : parse_all_terms Two line (map (raw_arc w) group.arcs) ≡ Ok (map (terms_at w) group.arcs)
+  unfolding parse_all_terms
   terms_back =
       let own_size : length (own (wished_graph w) group).arcs ≡ length group.arcs = length-map group.arcs _ in
       let low : 2 ≤ length (own (wished_graph w) group).arcs = k.ready.arcs.0 in
@@ -116,7 +116,7 @@ module _ (w : Wishes) (group : Group) (k : IsClear w group) (line : ℕ) (texts 
       let size : length (map (raw_arc w) group.arcs) ≡ length group.arcs = length-map group.arcs (raw_arc w) in
       step _ tt _ (within_back line (codes "arcs") 2 128 (length (map (raw_arc w) group.arcs))
       (omega (arith, low, size, own_size)) (omega (arith, high, size, own_size)))
-      ∙ each_back (terms_of line) (raw_arc w) (terms_at w) group.arcs term_back
+      ∙ each_back (stated_terms line) (raw_arc w) (terms_at w) group.arcs term_back
 
   locks_back : hashlocks_of true line (map (raw_leader w) group.leaders) ≡ Ok (no_digests (map (raw_leader w) group.leaders))
   unfolding hashlocks_of
@@ -136,6 +136,6 @@ module _ (w : Wishes) (group : Group) (k : IsClear w group) (line : ℕ) (texts 
       step _ w.start _ (number_back line (codes "start") 1 1000 w.start k.within.start.0 k.within.start.1)
       ∙ step _ w.delta _ (number_back line (codes "delta") 1 100 w.delta k.within.delta.0 k.within.delta.1)
       ∙ step _ group.bound _ (number_back line (codes "bound") 1 64 group.bound low k.ready.bound.1)
-      ∙ step _ (map acting_with seeds) _ (parties_act (sizes_in (raw_header w group texts)) (numbered_at w group).names)
+      ∙ step _ (map acting_with seeds) _ (parties_act (header_sizes (raw_header w group texts)) (numbered_at w group).names)
       ∙ step _ (map (terms_at w) group.arcs) _ terms_back
       ∙ step _ (no_digests (map (raw_leader w) group.leaders)) _ locks_back

@@ -8,8 +8,8 @@ use Rattle.std.proofs.lemmas.List.{map-append}
 use Rattle.swap_base.specs.Fault.{steps}
 use Rattle.swap_base.specs.Lists.{IsIn}
 use Rattle.swap_base.proofs.Lists.{in_append, in_map, in_from_moment}
-use Rattle.swap_digraph.specs.Graph.{is_among}
-use Rattle.swap_digraph.proofs.Paths.{in-is_among, is_among-true}
+use Rattle.swap_digraph.specs.Graph.{is_listed}
+use Rattle.swap_digraph.proofs.Paths.{in-is_listed, is_listed-true}
 use Rattle.offer_fields.specs.Lists.{each_of}
 use Rattle.offer_header.specs.Names.{named_ends, is_name, leader_step, name_added, name_step, names_stated, numbered_of}
 use Rattle.offer_header.specs.declared.names.Ends.{Ends}
@@ -23,17 +23,13 @@ use Rattle.read_back.specs.ClearedJobs.{wished_name}
 use Rattle.read_back.proofs.Steps.{each_back, step}
 use Rattle.read_back.proofs.ClearedFields.{raw_arc, raw_header, raw_leader, raw_party}
 use Rattle.read_back.proofs.Lists.{first_in, firsts, is_less, none_passes, puts_each, twice}
-use Rattle.read_back.proofs.Shape.{is_party, from_in, to_in, number_back, place_apart, same_name, IsClear}
+use Rattle.read_back.proofs.Shape.{is_party, from_in, to_in, number_back, place_apart, same_name, IsClear, not_true}
 
 abbrev pub ends_at : Wishes → Group → ℕ → Ends
 ends_at w group a = record { from = place group.parties (proposal w.arcs a).from; to = place group.parties (proposal w.arcs a).to }
 
 abbrev pub numbered_at : Wishes → Group → Numbered
 numbered_at w group = record { names = map (wished_name w) group.parties; arcs = map (ends_at w group) group.arcs; leaders = own_leaders group }
-
-not_true : (t : Bool) → (t ≡ true → ⊥) → t ≡ false
-not_true true h = absurd (h refl)
-not_true false h = refl
 
 abbrev pair_name : Wishes → ℕ × List ℕ → List ℕ
 pair_name w p = wished_name w p.0
@@ -90,17 +86,17 @@ module _ (w : Wishes) (group : Group) (k : IsClear w group) (line : ℕ) (texts 
       let from = from_in w group k line a i in
       let to = to_in w group k line a i in
       step _ (place group.parties (proposal w.arcs a).from) _
-      (number_back w group k line (proposal w.arcs a).from (is_party w group k line _ (is_among-true _ group.parties from)) from)
+      (number_back w group k line (proposal w.arcs a).from (is_party w group k line _ (is_listed-true _ group.parties from)) from)
       ∙ step _ (place group.parties (proposal w.arcs a).to) _
-      (number_back w group k line (proposal w.arcs a).to (is_party w group k line _ (is_among-true _ group.parties to)) to)
+      (number_back w group k line (proposal w.arcs a).to (is_party w group k line _ (is_listed-true _ group.parties to)) to)
 
   all_arcs : each_of (named_ends line (map (wished_name w) group.parties)) (map (raw_arc w) group.arcs) ≡ Ok (map (ends_at w group) group.arcs)
   all_arcs = each_back (named_ends line (map (wished_name w) group.parties)) (raw_arc w) (ends_at w group) group.arcs arc_on
 
   -- ---- leaders
 
-  leads_in : (l : ℕ) → IsIn l group.leaders → is_among l group.parties ≡ true
-  leads_in l i = k.led.among l (in-is_among l group.leaders i)
+  leads_in : (l : ℕ) → IsIn l group.leaders → is_listed l group.parties ≡ true
+  leads_in l i = k.led.among l (in-is_listed l group.leaders i)
 
   leader_in : (past : List ℕ) (x : ℕ) (rest : List ℕ) → group.leaders ≡ past ++ x ∷ rest → IsIn x group.leaders
   leader_in past x rest e = subst (λ (l : List ℕ). IsIn x l) (sym e) (in_from_moment past x rest)
@@ -122,7 +118,7 @@ module _ (w : Wishes) (group : Group) (k : IsClear w group) (line : ℕ) (texts 
       let less : y < x = is_less group.leaders past x rest k.led.ascending e y i in
       omega (arith, same, less))) in
       step _ (place group.parties x) _
-      (number_back w group k line x (is_party w group k line x (is_among-true x group.parties leads)) leads)
+      (number_back w group k line x (is_party w group k line x (is_listed-true x group.parties leads)) leads)
       ∙ rw fresh refl
 
   all_leaders : steps (leader_step line (map (wished_name w) group.parties)) [] (map (raw_leader w) group.leaders) ≡ Ok (own_leaders group)

@@ -1,23 +1,17 @@
 -- The line of a group's job with seeds holds no line feed, and is one of an input's lines.
-use Rattle.std.proofs.Common.{◌≡◌, inl, inr, ◌==◌, ℕ, Bool, true, false, not, List, [], ◌∷◌, ◌++◌, map, refl, ap, ◌∙◌, arith}
+use Rattle.std.proofs.Common.{◌≡◌, ◌==◌, ℕ, not, List, [], ◌∷◌, ◌++◌, refl, ap, ◌∙◌, arith}
 use Rattle.std.specs.Prelude.{codes, zip}
 use Rattle.std.specs.List.{list_all}
-use Rattle.serde_json.specs.Data.{Data}
-use Rattle.serde_json.specs.View.{items_of}
-use Rattle.swap_base.specs.Lists.{IsIn}
 use Rattle.swap_base.proofs.Lists.{and_parts}
-use Rattle.command_input.specs.Lines.{filled_lines, lines_of, with_first}
+use Rattle.command_input.specs.Lines.{filled_lines, collect_lines, with_first}
 use Rattle.swap_clear.specs.declared.answer.Group.{Group}
 use Rattle.clear_line.specs.declared.limits.Wishes.{Wishes}
 use Rattle.clear_line.specs.ClearedText.{proposal_data, named_data, proposal}
 use Rattle.read_back.specs.ClearedJobs.{seeded_data, seeded_line, seeded_party}
-use Rattle.read_back.proofs.HeaderOneLine.{one_value, ArePlain, IsOneLine, IsPlain}
+use Rattle.read_back.proofs.HeaderOneLine.{one_value, IsOneLine, IsPlain, items_plain}
 use Rattle.read_back.proofs.ClearedLimited.{amount_low}
 use Rattle.read_back.proofs.Shape.{IsClear}
-
-items_plain : {A : Type 0} (f : A → Data) (xs : List A) → ((x : A) → IsIn x xs → IsPlain (f x)) → ArePlain (items_of (map f xs))
-items_plain f [] h = tt
-items_plain f (x ∷ xs) h = (h x (inl refl), items_plain f xs (λ y i. h y (inr i)))
+use Rattle.read_back.proofs.Lines.{not_is}
 
 job_plain : (w : Wishes) (group : Group) → IsClear w group → (texts : List (List ℕ)) → IsPlain (seeded_data w group texts)
 job_plain w group k texts =
@@ -36,13 +30,9 @@ is_one_line w group k texts = one_value (seeded_data w group texts) (job_plain w
 
 -- ---- lines
 
-not_is : (b : Bool) → not b ≡ true → b ≡ false
-not_is true e = absurd (cc e)
-not_is false e = refl
-
 -- a line with its line feed is one line
-one_of : (l : List ℕ) → IsOneLine l → lines_of (l ++ codes "\n") ≡ l ∷ []
-unfolding lines_of
+one_of : (l : List ℕ) → IsOneLine l → collect_lines (l ++ codes "\n") ≡ l ∷ []
+unfolding collect_lines
 one_of [] h = refl
 one_of (b ∷ l) h =
     let p = and_parts (not (b == 10)) (list_all (λ x. not (x == 10)) l) h in
@@ -54,5 +44,5 @@ unfolding filled_lines seeded_line
 is_filled w group texts = refl
 
 pub as_given : (w : Wishes) (group : Group) (texts : List (List ℕ)) → IsOneLine (seeded_line w group texts)
-    → filled_lines 1 (lines_of (seeded_line w group texts ++ codes "\n")) ≡ (1, seeded_line w group texts) ∷ []
+    → filled_lines 1 (collect_lines (seeded_line w group texts ++ codes "\n")) ≡ (1, seeded_line w group texts) ∷ []
 as_given w group texts one = ap (filled_lines 1) (one_of (seeded_line w group texts) one) ∙ is_filled w group texts

@@ -10,7 +10,6 @@ use Rattle.std.proofs.lemmas.Str.Ascii.{IsAscii-cons, IsAscii-nil}
 use Rattle.hex.specs.Hex.{decode_pairs, decode_sized, is_hex_digit}
 use Rattle.hex.proofs.HexLemmas.{decode_pairs-ok, decode_sized-ok}
 use Rattle.hex.proofs.Pairs.{decode_sized-pairs}
-use Rattle.json.proofs.Printed.Utf8.{are_ascii, IsUtf8-are_ascii}
 use Rattle.serde_json.specs.Data.{Data, string, no_members, member}
 use Rattle.serde_json.specs.Read.{read}
 use Rattle.swap_base.specs.Lists.{IsIn}
@@ -20,11 +19,12 @@ use Rattle.swap_clear.specs.declared.proposed.Proposed.{Proposed}
 use Rattle.clear_line.specs.declared.limits.Wishes.{Wishes}
 use Rattle.clear_line.specs.ClearedText.{proposal_data, named_data, proposal}
 use Rattle.clear_line.proofs.Texts.{are_texts, text_at}
-use Rattle.read_back.specs.ClearedJobs.{job_data, seeded_data, seeded_line, seeded_party, AreDigitsOf}
+use Rattle.read_back.specs.ClearedJobs.{job_data, seeded_data, seeded_line, seeded_party, AreDigitTexts}
 use Rattle.read_back.proofs.Texts.{list_is, number_is, object_is, reads_back, string_is, IsRead}
 use Rattle.read_back.proofs.Lists.{second_in}
 use Rattle.read_back.proofs.ClearedLimited.{amount_low, heads}
 use Rattle.read_back.proofs.Shape.{IsClear}
+use Rattle.read_back.proofs.HeaderShown.{field}
 
 -- ---- hexadecimal digits are text
 
@@ -42,15 +42,11 @@ digits_text t seed e =
     let pairs : decode_pairs 0 t ≡ Ok seed = sym (decode_sized-pairs t 32 (omega (arith, long)) (omega (arith, long))) ∙ e in
     IsUtf8-from_ascii t (ascii_digits t (decode_pairs-ok 0 t seed pairs).0)
 
-texts_are : (texts seeds : List (List ℕ)) → AreDigitsOf texts seeds → (t : List ℕ) → IsIn t texts → IsUtf8 t
+texts_are : (texts seeds : List (List ℕ)) → AreDigitTexts texts seeds → (t : List ℕ) → IsIn t texts → IsUtf8 t
 texts_are [] seeds d t i = absurd i
 texts_are (x ∷ texts) [] d t i = absurd (cc d)
 texts_are (x ∷ texts) (s ∷ seeds) d t (inl e) = subst IsUtf8 (sym e) (digits_text x s (heads (decode_sized x 32) s _ _ d).0)
 texts_are (x ∷ texts) (s ∷ seeds) d t (inr i) = texts_are texts seeds (heads (decode_sized x 32) s _ _ d).1 t i
-
--- the name of a field
-field : (s : List ℕ) → are_ascii s ≡ true → IsUtf8 s
-field s h = IsUtf8-are_ascii s h
 
 -- ---- parties, arcs and leaders
 
@@ -83,7 +79,7 @@ module _ (names : List (List ℕ)) (texts : AreTexts names) where
 
 -- ---- the job
 
-module _ (w : Wishes) (group : Group) (k : IsClear w group) (texts seeds : List (List ℕ)) (digits : AreDigitsOf texts seeds) where
+module _ (w : Wishes) (group : Group) (k : IsClear w group) (texts seeds : List (List ℕ)) (digits : AreDigitTexts texts seeds) where
   names_are : AreTexts w.names
   names_are = are_texts w.names k.within.names
 

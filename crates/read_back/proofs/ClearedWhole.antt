@@ -5,12 +5,12 @@ use Rattle.serde_json.specs.Read.{read}
 use Rattle.swap_base.specs.Fault.{steps}
 use Rattle.swap_job.specs.declared.job.Purpose.TheVariants.{Make}
 use Rattle.refusals.specs.declared.reason.Reason.TheVariants.{NotJson}
-use Rattle.offer_fields.specs.Fields.{object_of, object_or}
-use Rattle.offer_header.specs.Header.{header_of}
-use Rattle.swap_offer.specs.Job.{job_header_of, job_of, job_of_lines}
+use Rattle.offer_fields.specs.Fields.{parse_data, object_or}
+use Rattle.offer_header.specs.Header.{parse_whole_header}
+use Rattle.swap_offer.specs.Job.{job_header_of, parse_job, job_of_lines}
 use Rattle.swap_clear.specs.declared.answer.Group.{Group}
 use Rattle.clear_line.specs.declared.limits.Wishes.{Wishes}
-use Rattle.read_back.specs.ClearedJobs.{cleared_job, seeded_data, seeded_line, AreDigitsOf, IsSeeded}
+use Rattle.read_back.specs.ClearedJobs.{cleared_job, seeded_data, seeded_line, AreDigitTexts, IsSeeded}
 use Rattle.read_back.specs.ClearedJobs.{ClearedGroupsAreMade, ClearedGroupsArePlainJobs, ClearedGroupsArePlainOffers, OnlySeedsAreAdded}
 use Rattle.read_back.specs.ClearedJobs.{SeededLineIsOneLine, SeededLineReads, SeededTextIsPlainJob}
 use Rattle.read_back.proofs.Steps.{step}
@@ -29,17 +29,17 @@ pub only_seeds_are_added : OnlySeedsAreAdded
 only_seeds_are_added w group = refl
 
 object_back : (line : ℕ) (text : List ℕ) (w : Wishes) (group : Group) (texts : List (List ℕ)) → is_utf8 text ≡ true
-    → read text ≡ Some (seeded_data w group texts) → object_of line text ≡ Ok (seeded_data w group texts)
-unfolding object_of
+    → read text ≡ Some (seeded_data w group texts) → parse_data line text ≡ Ok (seeded_data w group texts)
+unfolding parse_data
 object_back line text w group texts utf8 reads =
     ap (λ (b : Bool). cond b (object_or line (read text)) (Err (NotJson line))) utf8
     ∙ ap (object_or line) reads
 
 module _ (w : Wishes) (group : Group) (k : IsClear w group) (texts seeds : List (List ℕ)) (each : length texts ≡ length group.parties)
-    (digits : AreDigitsOf texts seeds) where
+    (digits : AreDigitTexts texts seeds) where
   header_back : (has : List ℕ → Bool) (line : ℕ) (text : List ℕ) → is_utf8 text ≡ true → read text ≡ Some (seeded_data w group texts)
-      → header_of has Make line text ≡ Ok (header_at w group texts seeds)
-  unfolding header_of
+      → parse_whole_header has Make line text ≡ Ok (header_at w group texts seeds)
+  unfolding parse_whole_header
   header_back has line text utf8 reads =
       step _ (seeded_data w group texts) _ (object_back line text w group texts utf8 reads)
       ∙ step _ (raw_header w group texts) _ (raw_back line w group texts)
@@ -77,7 +77,7 @@ unfolding steps
 line_read c group texts seeds s has = step _ (cleared_job c.wishes group seeds) _ (cleared_groups_are_plain_jobs c group texts seeds s has 1)
 
 pub cleared_groups_are_plain_offers : ClearedGroupsArePlainOffers
-unfolding job_of
+unfolding parse_job
 cleared_groups_are_plain_offers c group texts seeds s has =
     ap (job_of_lines has Make) (as_given c.wishes group texts (seeded_line_is_one_line c group texts seeds s)) ∙ line_read c group texts seeds s has
 

@@ -1,10 +1,9 @@
 -- The deal of a group's header is the group's, and the job is whole.
-use Rattle.std.proofs.Common.{◌≡◌, inl, inr, ◌+◌, ◌<◌, ℕ, Bool, true, false, List, [], ◌∷◌, length, map, get_or, Option, Some, None, Ok, refl, sym, ap, ◌∙◌}
+use Rattle.std.proofs.Common.{◌≡◌, ◌+◌, ◌<◌, ℕ, Bool, true, false, List, [], ◌∷◌, length, map, get_or, Option, Some, None, Ok, refl, sym, ap, ◌∙◌}
 use Rattle.std.proofs.Common.{subst, arith}
 use Rattle.std.specs.Prelude.{replicate, zip}
 use Rattle.std.specs.List.{range_with_len}
 use Rattle.std.proofs.lemmas.List.{get_or-map, length-map}
-use Rattle.swap_base.specs.Lists.{first_of, IsIn}
 use Rattle.swap_base.proofs.Lists.{from_range}
 use Rattle.swap_digraph.specs.declared.arc_ends.ArcEnds.{ArcEnds}
 use Rattle.swap_digraph.specs.declared.deal.Deal.{Deal}
@@ -27,10 +26,10 @@ use Rattle.offer_header.specs.declared.header.Header.{Header}
 use Rattle.offer_header.specs.declared.limits.Acting.{Acting}
 use Rattle.offer_header.specs.declared.limits.ArcTerms.{ArcTerms}
 use Rattle.offer_header.specs.declared.raw.RawArc.{RawArc}
-use Rattle.offer_header.proofs.Limited.{is_within}
+use Rattle.offer_header.proofs.Limited.{set_contains_ends}
 use Rattle.offer_header.proofs.Numbered.{is_numbered}
-use Rattle.swap_offer.specs.Checks.{admitted, deal_with, digraph_in, job_with, unless_wrong, unnamed}
-use Rattle.swap_offer.specs.Job.{accepted_of, provided}
+use Rattle.swap_offer.specs.Checks.{admitted, header_deal, header_digraph, assemble_job, unless_wrong, unnamed}
+use Rattle.swap_offer.specs.Job.{accepted_entries, provided}
 use Rattle.swap_offer.specs.Wallets.{no_seed, party_seed, seeded, walleted}
 use Rattle.swap_offer.proofs.Admitted.{admitted_is_accepted}
 use Rattle.swap_clear.specs.declared.answer.Group.{Group}
@@ -38,13 +37,14 @@ use Rattle.swap_clear.specs.Groups.{own_ends}
 use Rattle.swap_clear.specs.Led.{own_leaders}
 use Rattle.swap_clear.specs.Ready.{own_amounts}
 use Rattle.clear_line.specs.declared.limits.Wishes.{Wishes}
-use Rattle.read_back.specs.ClearedJobs.{deal_but_id, group_deal, wished_name, cleared_job, wished_graph, AreDigitsOf, unmade_digests}
+use Rattle.read_back.specs.ClearedJobs.{deal_but_id, group_deal, wished_name, cleared_job, wished_graph, AreDigitTexts, unmade_digests}
 use Rattle.read_back.proofs.Steps.{step}
 use Rattle.read_back.proofs.ClearedFields.{raw_arc, raw_header, raw_leader, raw_party}
 use Rattle.read_back.proofs.Lists.{as_many, pairs_long, same_map, twice}
 use Rattle.read_back.proofs.ClearedLimited.{acting_with, header_at, limited_back, terms_at}
 use Rattle.read_back.proofs.ClearedNamed.{ends_at, numbered_at, numbered_back}
 use Rattle.read_back.proofs.Shape.{ends_are, IsClear}
+use Rattle.read_back.proofs.Plain.{none_given}
 
 -- ---- seeds and scripts
 
@@ -55,11 +55,7 @@ unfolding roles_placed
 roles_stand arcs conforming line p [] = refl
 roles_stand arcs conforming line p (s ∷ seeds) = roles_stand arcs conforming line (p + 1) seeds
 
-none_given : {A B : Type 0} (f : A → Option B) (xs : List A) → ((x : A) → IsIn x xs → f x ≡ None) → first_of f xs ≡ None
-none_given f [] h = refl
-none_given f (x ∷ xs) h = rw (h x (inl refl)) (none_given f xs (λ y i. h y (inr i)))
-
-digits_long : (texts seeds : List (List ℕ)) → AreDigitsOf texts seeds → length seeds ≡ length texts
+digits_long : (texts seeds : List (List ℕ)) → AreDigitTexts texts seeds → length seeds ≡ length texts
 digits_long texts seeds d = sym (length-map seeds _) ∙ sym (ap length d) ∙ length-map texts _
 
 -- ---- the deal
@@ -113,7 +109,7 @@ same_job w group d d' rs rs' cs cs' ss ss' e r c s =
     ∙ ap (λ (x : List (Option (List ℕ))). job_by w group d' rs' cs' x) s
 
 module _ (w : Wishes) (group : Group) (k : IsClear w group) (line : ℕ) (texts seeds : List (List ℕ)) (each : length texts ≡ length group.parties)
-    (digits : AreDigitsOf texts seeds) where
+    (digits : AreDigitTexts texts seeds) where
   abbrev header : Header
   header = header_at w group texts seeds
 
@@ -136,7 +132,7 @@ module _ (w : Wishes) (group : Group) (k : IsClear w group) (line : ℕ) (texts 
       ∙ as_many (no_digests (map (raw_leader w) group.leaders)) (zip group.parties texts) group.parties (pairs_long group.parties texts each)
       ∙ ap (λ (l : List (List ℕ)). map (λ p. l) group.parties) locks_are
 
-  unnamed_is : (id : List ℕ) → unnamed header (digraph_in header) id ≡ deal_but_id w group id
+  unnamed_is : (id : List ℕ) → unnamed header (header_digraph header) id ≡ deal_but_id w group id
   unnamed_is id =
       same_deal w group _ (length group.parties) _ (map (λ a. own_ends group.parties (ends (wished_graph w) a)) group.arcs) _ (own_amounts w.arcs group)
       _ (unmade_digests group) _ (map (λ p. unmade_digests group) group.parties) _ (map (λ a. 0) group.arcs) id
@@ -144,9 +140,9 @@ module _ (w : Wishes) (group : Group) (k : IsClear w group) (line : ℕ) (texts 
       (twice (λ (t : ArcTerms). t.amount) (terms_at w) group.arcs) locks_are keys_are
       (twice (λ (t : ArcTerms). t.timelock) (terms_at w) group.arcs)
 
-  pub deal_is : deal_with header (digraph_in header) ≡ group_deal w group
+  pub deal_is : header_deal header (header_digraph header) ≡ group_deal w group
   deal_is =
-      unnamed_is (deal_id (unnamed header (digraph_in header) (replicate 32 0)))
+      unnamed_is (deal_id (unnamed header (header_digraph header) (replicate 32 0)))
       ∙ ap (λ (d : Deal). deal_but_id w group (deal_id d)) (unnamed_is (replicate 32 0))
 
   pub is_proposed : IsProposed (group_deal w group)
@@ -177,11 +173,11 @@ module _ (w : Wishes) (group : Group) (k : IsClear w group) (line : ℕ) (texts 
 
   within : IsHeaderWithin header
   within =
-      is_within line Make (raw_header w group texts) (numbered_at w group) header
+      set_contains_ends line Make (raw_header w group texts) (numbered_at w group) header
       (is_numbered (λ name. false) line (raw_header w group texts) (numbered_at w group) (numbered_back w group k line texts each (λ name. false))) refl
       untimed (limited_back w group k line texts seeds each digits)
 
-  is_admitted : admitted header ≡ Ok (digraph_in header)
+  is_admitted : admitted header ≡ Ok (header_digraph header)
   is_admitted = (admitted_is_accepted header within).1 (subst IsProposed (sym deal_is) is_proposed)
 
   -- ---- the job
@@ -192,7 +188,7 @@ module _ (w : Wishes) (group : Group) (k : IsClear w group) (line : ℕ) (texts 
   conforming_are : map (λ (a : Acting). is_conforming a.role) (map acting_with seeds) ≡ map (λ p. true) group.parties
   conforming_are = twice (λ (a : Acting). is_conforming a.role) acting_with seeds ∙ as_many true seeds group.parties seeds_long
 
-  job_is : job_with header (digraph_in header) ≡ cleared_job w group seeds
+  job_is : assemble_job header (header_digraph header) ≡ cleared_job w group seeds
   job_is =
       same_job w group _ (group_deal w group) _ (map (λ p. Conforming) group.parties) _ (map (λ p. true) group.parties) _ (map (λ s. Some s) seeds)
       deal_is roles_are conforming_are (twice (λ (a : Acting). a.seed) acting_with seeds)
@@ -209,10 +205,10 @@ module _ (w : Wishes) (group : Group) (k : IsClear w group) (line : ℕ) (texts 
       step _ tt _ (ap unless_wrong (none_given (no_seed (cleared_job w group seeds)) (range_with_len 0 (length group.parties))
       (λ p i. has_seed p (from_range p (length group.parties) i))))
 
-  pub accepted_back : accepted_of header ≡ Ok (cleared_job w group seeds)
-  unfolding accepted_of
+  pub accepted_back : accepted_entries header ≡ Ok (cleared_job w group seeds)
+  unfolding accepted_entries
   accepted_back =
-      step _ (digraph_in header) _ is_admitted
+      step _ (header_digraph header) _ is_admitted
       ∙ step _ tt _ (subst (λ (x : Job). provided x ≡ Ok tt) (sym job_is) nothing_lacks)
       ∙ ap (λ (j : Job). Ok j) job_is
 

@@ -7,22 +7,22 @@ use Rattle.std.proofs.lemmas.Bool.{leb-true, ne_eqb}
 use Rattle.swap_base.specs.Text.{joined, lines}
 use Rattle.swap_base.proofs.Lists.{and_both, and_parts}
 use Rattle.swap_digraph.specs.Value.{Graph}
-use Rattle.swap_job.specs.Step.{CanLook, CanTick, IsEventOf}
+use Rattle.swap_job.specs.Step.{CanLook, CanTick, IsJobEvent}
 use Rattle.swap_job.specs.declared.event.Event.{Event}
 use Rattle.swap_job.specs.declared.event.Event.TheVariants.{Tick, Look, Act, Call, Crash}
 use Rattle.swap_job.specs.declared.job.Job.{Job}
 use Rattle.refusals.specs.declared.reason.Reason.TheVariants.{NotAdjacent, OverLimit}
 use Rattle.offer_fields.specs.Names.{party_of_name}
-use Rattle.offer_moves.specs.Moves.{arc_of, sizes_of}
+use Rattle.offer_moves.specs.Moves.{parse_arc, deal_sizes}
 use Rattle.offer_moves.specs.Placed.{adjacent}
-use Rattle.offer_events.specs.Event.{asked, event_of, event_of_act, event_of_look, event_of_tick, outside_race}
+use Rattle.offer_events.specs.Event.{asked, parse_event, event_of_act, event_of_look, event_of_tick, outside_race}
 use Rattle.offer_events.specs.Plain.{is_plain_byte}
 use Rattle.offer_events.specs.declared.raw.RawEvent.TheVariants as raws
 use Rattle.offer_events.proofs.PlainText.{act_alone, arc_then_look, asked_by, by_then_tick}
 use Rattle.swap_gen.specs.Events.{event_from, events_from}
-use Rattle.swap_gen.specs.Line.{event_line, name_at}
+use Rattle.swap_gen.specs.Line.{event_line, party_name}
 use Rattle.swap_gen.specs.Word.{word}
-use Rattle.swap_offer.specs.Job.{events_of, limited_event}
+use Rattle.swap_offer.specs.Job.{parse_events, limited_event}
 use Rattle.command_input.specs.Lines.{is_blank}
 use Rattle.transcript_lines.proofs.Numbers.{high_number}
 use Rattle.read_back.proofs.HeaderLimited.{number_back}
@@ -42,8 +42,8 @@ IsDrawn _ = Unit {0}
 -- its line, without the line feed
 abbrev pub event_text : List (List ℕ) → Event → List ℕ
 event_text names (Tick a k) = joined (codes "{\"by\":" ∷ decimal k ∷ codes ",\"tick\":" ∷ decimal a ∷ codes "}" ∷ [])
-event_text names (Look p a) = joined (codes "{\"arc\":" ∷ decimal a ∷ codes ",\"look\":\"" ∷ name_at names p ∷ codes "\"}" ∷ [])
-event_text names (Act p) = joined (codes "{\"act\":\"" ∷ name_at names p ∷ codes "\"}" ∷ [])
+event_text names (Look p a) = joined (codes "{\"arc\":" ∷ decimal a ∷ codes ",\"look\":\"" ∷ party_name names p ∷ codes "\"}" ∷ [])
+event_text names (Act p) = joined (codes "{\"act\":\"" ∷ party_name names p ∷ codes "\"}" ∷ [])
 event_text names (Call p mv) = []
 event_text names (Crash p k image) = []
 
@@ -55,9 +55,9 @@ with_feed names (Tick a k) d =
     ∙ sym (append_assoc (decimal k) (codes ",\"tick\":" ++ (decimal a ++ codes "}")) (codes "\n")))
 with_feed names (Look p a) d =
     ap (λ (l : List ℕ). codes "{\"arc\":" ++ l)
-    (ap (λ (l : List ℕ). decimal a ++ (codes ",\"look\":\"" ++ l)) (sym (append_assoc (name_at names p) (codes "\"}") (codes "\n")))
-    ∙ sym (append_assoc (decimal a) (codes ",\"look\":\"" ++ (name_at names p ++ codes "\"}")) (codes "\n")))
-with_feed names (Act p) d = ap (λ (l : List ℕ). codes "{\"act\":\"" ++ l) (sym (append_assoc (name_at names p) (codes "\"}") (codes "\n")))
+    (ap (λ (l : List ℕ). decimal a ++ (codes ",\"look\":\"" ++ l)) (sym (append_assoc (party_name names p) (codes "\"}") (codes "\n")))
+    ∙ sym (append_assoc (decimal a) (codes ",\"look\":\"" ++ (party_name names p ++ codes "\"}")) (codes "\n")))
+with_feed names (Act p) d = ap (λ (l : List ℕ). codes "{\"act\":\"" ++ l) (sym (append_assoc (party_name names p) (codes "\"}") (codes "\n")))
 with_feed names (Call p mv) d = absurd d
 with_feed names (Crash p k image) d = absurd d
 
@@ -87,8 +87,8 @@ number_line n lt = high_line (decimal n) (high_number n lt)
 -- numbers of an event that have at most 64 bits, and names that need no escape
 abbrev pub IsPlainEvent : List (List ℕ) → Event → Type 0
 IsPlainEvent names (Tick a k) = (a < 2 ^ 64) × (k < 2 ^ 64)
-IsPlainEvent names (Look p a) = (a < 2 ^ 64) × (list_all is_plain_byte (name_at names p) ≡ true)
-IsPlainEvent names (Act p) = list_all is_plain_byte (name_at names p) ≡ true
+IsPlainEvent names (Look p a) = (a < 2 ^ 64) × (list_all is_plain_byte (party_name names p) ≡ true)
+IsPlainEvent names (Act p) = list_all is_plain_byte (party_name names p) ≡ true
 IsPlainEvent names (Call p mv) = ⊥
 IsPlainEvent names (Crash p k image) = ⊥
 
@@ -97,9 +97,9 @@ event_is_line names (Tick a k) h =
     both_lines (decimal k) (codes ",\"tick\":" ++ (decimal a ++ codes "}")) (number_line k h.1)
     (both_lines (decimal a) (codes "}") (number_line a h.0) refl)
 event_is_line names (Look p a) h =
-    both_lines (decimal a) (codes ",\"look\":\"" ++ (name_at names p ++ codes "\"}")) (number_line a h.0)
-    (both_lines (name_at names p) (codes "\"}") (plain_line (name_at names p) h.1) refl)
-event_is_line names (Act p) h = both_lines (name_at names p) (codes "\"}") (plain_line (name_at names p) h) refl
+    both_lines (decimal a) (codes ",\"look\":\"" ++ (party_name names p ++ codes "\"}")) (number_line a h.0)
+    (both_lines (party_name names p) (codes "\"}") (plain_line (party_name names p) h.1) refl)
+event_is_line names (Act p) h = both_lines (party_name names p) (codes "\"}") (plain_line (party_name names p) h) refl
 event_is_line names (Call p mv) h = absurd h
 event_is_line names (Crash p k image) h = absurd h
 
@@ -115,10 +115,10 @@ event_is_filled names (Crash p k image) d = absurd d
 -- each may come, and is drawn
 abbrev pub AreDrawn : Job → List Event → Type 0
 AreDrawn job [] = Unit {0}
-AreDrawn job (e ∷ es) = IsEventOf job e × IsDrawn e × AreDrawn job es
+AreDrawn job (e ∷ es) = IsJobEvent job e × IsDrawn e × AreDrawn job es
 
 -- so are those that a number gives
-pub drawn_from : (job : Job) (seed : ℕ) (g : Graph) → ((at : ℕ) → IsEventOf job (event_from seed g at).0) → (at count : ℕ)
+pub drawn_from : (job : Job) (seed : ℕ) (g : Graph) → ((at : ℕ) → IsJobEvent job (event_from seed g at).0) → (at count : ℕ)
     → AreDrawn job (events_from seed g at count)
 drawn_from job seed g can at zero = tt
 drawn_from job seed g can at (suc count) = (can at, is_drawn seed g at, drawn_from job seed g can (event_from seed g at).1 count)
@@ -126,20 +126,20 @@ drawn_from job seed g can at (suc count) = (can at, is_drawn seed g at, drawn_fr
 -- What is known of a job whose events are drawn.
 pub record HasPlainNames (job : Job) : Type 0 where
   pub arcs : length job.deal.graph.arcs ≤ 128
-  pub number : (line p : ℕ) → p < job.deal.graph.n → party_of_name line job.names (name_at job.names p) ≡ Ok p
-  pub plain : (p : ℕ) → p < job.deal.graph.n → list_all is_plain_byte (name_at job.names p) ≡ true
+  pub number : (line p : ℕ) → p < job.deal.graph.n → party_of_name line job.names (party_name job.names p) ≡ Ok p
+  pub plain : (p : ℕ) → p < job.deal.graph.n → list_all is_plain_byte (party_name job.names p) ≡ true
   pub outside : (line : ℕ) → outside_race line job.purpose ≡ Ok tt
 
 module _ (job : Job) (k : HasPlainNames job) where
-  plain_event : (e : Event) → IsEventOf job e → IsDrawn e → IsPlainEvent job.names e
+  plain_event : (e : Event) → IsJobEvent job e → IsDrawn e → IsPlainEvent job.names e
   plain_event (Tick a n) can d = let arcs = k.arcs in let arc = can.arc in let few = can.few in (omega (arith, arcs, arc), omega (arith, few))
   plain_event (Look p a) can d = let arcs = k.arcs in let arc = can.arc in (omega (arith, arcs, arc), k.plain p can.known)
   plain_event (Act p) can d = k.plain p can
   plain_event (Call p mv) can d = absurd d
   plain_event (Crash p k image) can d = absurd d
 
-  arc_back : (line : ℕ) (field : List ℕ) (a : ℕ) → a < length job.deal.graph.arcs → arc_of (sizes_of job.deal) line field a ≡ Ok a
-  unfolding arc_of
+  arc_back : (line : ℕ) (field : List ℕ) (a : ℕ) → a < length job.deal.graph.arcs → parse_arc (deal_sizes job.deal) line field a ≡ Ok a
+  unfolding parse_arc
   arc_back line field a lt = below_back line field (length job.deal.graph.arcs) a lt k.arcs
 
   tick_back : (line a n : ℕ) → CanTick job.deal a n → event_of_tick job.deal line a (Some n) ≡ Ok (Tick a n)
@@ -151,18 +151,18 @@ module _ (job : Job) (k : HasPlainNames job) where
   unfolding adjacent
   near_back line p a can = ap (λ (b : Bool). cond b (Ok tt) (Err (NotAdjacent line))) can.adjacent
 
-  look_back : (line p a : ℕ) → CanLook job.deal p a → event_of_look job line (name_at job.names p) a ≡ Ok (Look p a)
+  look_back : (line p a : ℕ) → CanLook job.deal p a → event_of_look job line (party_name job.names p) a ≡ Ok (Look p a)
   unfolding event_of_look
   look_back line p a can =
       step _ p _ (k.number line p can.known)
       ∙ step _ a _ (arc_back line (codes "arc") a can.arc)
       ∙ step _ tt _ (near_back line p a can)
 
-  act_back : (line p : ℕ) → p < job.deal.graph.n → event_of_act job line (name_at job.names p) ≡ Ok (Act p)
+  act_back : (line p : ℕ) → p < job.deal.graph.n → event_of_act job line (party_name job.names p) ≡ Ok (Act p)
   unfolding event_of_act
   act_back line p lt = step _ p _ (k.number line p lt)
 
-  event_back : (line : ℕ) (e : Event) → IsEventOf job e → IsDrawn e → event_of job line (event_text job.names e) ≡ Ok e
+  event_back : (line : ℕ) (e : Event) → IsJobEvent job e → IsDrawn e → parse_event job line (event_text job.names e) ≡ Ok e
   unfolding asked
   event_back line (Tick a n) can d =
       let h = plain_event (Tick a n) can d in
@@ -172,12 +172,12 @@ module _ (job : Job) (k : HasPlainNames job) where
       ∙ step _ tt _ (k.outside line)
   event_back line (Look p a) can d =
       let h = plain_event (Look p a) can d in
-      asked_by job line (event_text job.names (Look p a)) (raws.Look (name_at job.names p) a) (arc_then_look line a (name_at job.names p)
-      (event_text job.names (Look p a)) (codes ",\"look\":\"" ++ (name_at job.names p ++ codes "\"}")) (codes "}") h.0 h.1 refl refl refl)
+      asked_by job line (event_text job.names (Look p a)) (raws.Look (party_name job.names p) a) (arc_then_look line a (party_name job.names p)
+      (event_text job.names (Look p a)) (codes ",\"look\":\"" ++ (party_name job.names p ++ codes "\"}")) (codes "}") h.0 h.1 refl refl refl)
       ∙ step _ (Look p a) _ (look_back line p a can)
       ∙ step _ tt _ (k.outside line)
   event_back line (Act p) can d =
-      asked_by job line (event_text job.names (Act p)) (raws.Act (name_at job.names p)) (act_alone line (name_at job.names p)
+      asked_by job line (event_text job.names (Act p)) (raws.Act (party_name job.names p)) (act_alone line (party_name job.names p)
       (event_text job.names (Act p)) (codes "}") (k.plain p can) refl refl)
       ∙ step _ (Act p) _ (act_back line p can)
       ∙ step _ tt _ (k.outside line)
@@ -186,16 +186,16 @@ module _ (job : Job) (k : HasPlainNames job) where
 
   -- ---- all of them
 
-  next_back : (count line : ℕ) (e : Event) → count < 200000 → IsEventOf job e → IsDrawn e → limited_event job count line (event_text job.names e) ≡ Ok e
+  next_back : (count line : ℕ) (e : Event) → count < 200000 → IsJobEvent job e → IsDrawn e → limited_event job count line (event_text job.names e) ≡ Ok e
   unfolding limited_event
   next_back count line e lt can d =
-      ap (λ (b : Bool). cond b (Err (OverLimit line (codes "events") 200001)) (event_of job line (event_text job.names e)))
+      ap (λ (b : Bool). cond b (Err (OverLimit line (codes "events") 200001)) (parse_event job line (event_text job.names e)))
       (ne_eqb count 200000 (λ same. omega (arith, lt, same)))
       ∙ event_back line e can d
 
   pub events_back : (count line : ℕ) (es : List Event) → count + length es ≤ 200000 → AreDrawn job es
-      → events_of job count (numbered_from line (map (event_text job.names) es)) ≡ Ok es
-  unfolding events_of
+      → parse_events job count (numbered_from line (map (event_text job.names) es)) ≡ Ok es
+  unfolding parse_events
   events_back count line [] few h = refl
   events_back count line (e ∷ es) few h =
       step _ e _ (next_back count line e (omega arith) h.0 h.1)

@@ -12,7 +12,7 @@ use Rattle.std.proofs.lemmas.List.FromFn.{get_or-map-range_with_len, length-map-
 use Rattle.swap_base.proofs.Lists.{and_parts}
 use Rattle.swap_digraph.specs.Value.{Graph}
 use Rattle.swap_digraph.specs.declared.arc_ends.ArcEnds.{ArcEnds}
-use Rattle.swap_job.specs.Step.{IsEventOf}
+use Rattle.swap_job.specs.Step.{IsJobEvent}
 use Rattle.swap_job.specs.Roles.{is_conforming}
 use Rattle.swap_job.specs.declared.job.Job.{Job}
 use Rattle.swap_job.specs.declared.job.Purpose.{Purpose}
@@ -23,11 +23,11 @@ use Rattle.offer_events.specs.Plain.{is_plain_byte}
 use Rattle.offer_header.specs.Names.{is_name}
 use Rattle.offer_header.specs.Scripts.{roles_placed}
 use Rattle.offer_text.specs.HeaderLine.{header_line}
-use Rattle.swap_gen.specs.Drawn.{drawn_graph, generated, name_of, plain_deal, plain_job, drawn_seed}
+use Rattle.swap_gen.specs.Drawn.{drawn_graph, generated, party_label, plain_deal, plain_job, drawn_seed}
 use Rattle.swap_gen.specs.Events.{event_from, events_from, first_place, generated_events}
 use Rattle.swap_gen.specs.Made.{made_deal}
 use Rattle.swap_gen.proofs.Generated.{generated_steps, plain_has_seeds, plain_job_is_proposed}
-use Rattle.swap_offer.specs.Job.{events_of, job_of}
+use Rattle.swap_offer.specs.Job.{parse_events, parse_job}
 use Rattle.made_jobs.specs.Generating.{generated_text}
 use Rattle.made_jobs.specs.Making.{written_line}
 use Rattle.read_back.proofs.HeaderNamed as named
@@ -42,11 +42,11 @@ use Rattle.read_back.proofs.Told.{few_arcs, sizes_at, IsTold, IsToldRole, MayBeD
 
 abbrev all_good : ℕ → Bool
 all_good zero = true
-all_good (suc n) = is_name (name_of n) && all_good n
+all_good (suc n) = is_name (party_label n) && all_good n
 
 abbrev all_plain : ℕ → Bool
 all_plain zero = true
-all_plain (suc n) = list_all is_plain_byte (name_of n) && all_plain n
+all_plain (suc n) = list_all is_plain_byte (party_label n) && all_plain n
 
 below : (P : ℕ → Bool) (p n : ℕ) → (p < suc n → p ≡ n → P p ≡ true) → (p < n → P p ≡ true) → p < suc n → P p ≡ true
 below P p n here before lt = by (p == n) refl
@@ -55,17 +55,17 @@ below P p n here before lt = by (p == n) refl
     by true e = here lt (eqb-true p n e)
     by false e = before (let other = eqb-false p n e in omega (arith, lt, other))
 
-good_at : (n p : ℕ) → all_good n ≡ true → p < n → is_name (name_of p) ≡ true
+good_at : (n p : ℕ) → all_good n ≡ true → p < n → is_name (party_label p) ≡ true
 good_at zero p e lt = absurd (omega arith)
 good_at (suc n) p e lt =
-    let q = and_parts (is_name (name_of n)) (all_good n) e in
-    below (λ i. is_name (name_of i)) p n (λ l same. ap (λ (i : ℕ). is_name (name_of i)) same ∙ q.0) (good_at n p q.1) lt
+    let q = and_parts (is_name (party_label n)) (all_good n) e in
+    below (λ i. is_name (party_label i)) p n (λ l same. ap (λ (i : ℕ). is_name (party_label i)) same ∙ q.0) (good_at n p q.1) lt
 
-plain_at : (n p : ℕ) → all_plain n ≡ true → p < n → list_all is_plain_byte (name_of p) ≡ true
+plain_at : (n p : ℕ) → all_plain n ≡ true → p < n → list_all is_plain_byte (party_label p) ≡ true
 plain_at zero p e lt = absurd (omega arith)
 plain_at (suc n) p e lt =
-    let q = and_parts (list_all is_plain_byte (name_of n)) (all_plain n) e in
-    below (λ i. list_all is_plain_byte (name_of i)) p n (λ l same. ap (λ (i : ℕ). list_all is_plain_byte (name_of i)) same ∙ q.0) (plain_at n p q.1) lt
+    let q = and_parts (list_all is_plain_byte (party_label n)) (all_plain n) e in
+    below (λ i. list_all is_plain_byte (party_label i)) p n (λ l same. ap (λ (i : ℕ). list_all is_plain_byte (party_label i)) same ∙ q.0) (plain_at n p q.1) lt
 
 are_good : all_good 24 ≡ true
 unfolding is_name digits
@@ -75,7 +75,7 @@ are_plain : all_plain 24 ≡ true
 unfolding digits
 are_plain = refl
 
-same_number : (p q : ℕ) → p < 24 → q < 24 → name_of p ≡ name_of q → p ≡ q
+same_number : (p q : ℕ) → p < 24 → q < 24 → party_label p ≡ party_label q → p ≡ q
 same_number p q lp lq e = decimal_injective p q (omega (arith, lp)) (omega (arith, lq)) (append_cancel_left (codes "p") (decimal p) (decimal q) e)
 
 -- ---- events
@@ -101,27 +101,27 @@ none_placed arcs conforming line p (suc n) = none_placed arcs conforming line (p
 
 module _ (has : List ℕ → Bool) (seed n : ℕ) (many : 2 ≤ n) (few : n ≤ 24) where
   -- the name of party p
-  named_so : (p : ℕ) → p < n → slice_index_or (plain_job seed n).names p [] ≡ name_of p
+  named_so : (p : ℕ) → p < n → slice_index_or (plain_job seed n).names p [] ≡ party_label p
   unfolding plain_job
-  named_so p lt = get_or-map-range_with_len name_of 0 n p p [] lt (omega arith)
+  named_so p lt = get_or-map-range_with_len party_label 0 n p p [] lt (omega arith)
 
   names_long : length (plain_job seed n).names ≡ n
   unfolding plain_job
-  names_long = length-map-range_with_len name_of 0 n
+  names_long = length-map-range_with_len party_label 0 n
 
   names_good : All (λ x. is_name x ≡ true) (plain_job seed n).names
   unfolding plain_job
   names_good i d lt =
-      let size = length-map-range_with_len name_of 0 n in
+      let size = length-map-range_with_len party_label 0 n in
       let low : i < n = omega (arith, size, lt) in
-      subst (λ (l : List ℕ). is_name l ≡ true) (sym (get_or-map-range_with_len name_of 0 n i i d low (omega arith)))
+      subst (λ (l : List ℕ). is_name l ≡ true) (sym (get_or-map-range_with_len party_label 0 n i i d low (omega arith)))
       (good_at 24 i are_good (omega (arith, low, few)))
 
   pub generated_is_plain : IsPlainJob has (plain_job seed n)
   unfolding plain_job plain_deal
   generated_is_plain = record {
     proposed = plain_job_is_proposed seed n many few;
-    parties = length-map-range_with_len name_of 0 n;
+    parties = length-map-range_with_len party_label 0 n;
     names = names_good;
     apart = λ p q lp lq e.
         let size = names_long in
@@ -161,7 +161,7 @@ module _ (has : List ℕ → Bool) (seed n : ℕ) (many : 2 ≤ n) (few : n ≤ 
       outside = outside;
     }
 
-    steps_of : (at : ℕ) → IsEventOf job (event_from seed (drawn_graph seed n) at).0
+    steps_of : (at : ℕ) → IsJobEvent job (event_from seed (drawn_graph seed n) at).0
     steps_of at = generated_steps seed n at many
 
     are_drawn : (events : ℕ) → AreDrawn job (generated_events seed n events)
@@ -182,16 +182,16 @@ module _ (has : List ℕ → Bool) (seed n : ℕ) (many : 2 ≤ n) (few : n ≤ 
       ap (λ (l : List ℕ). (header_line (generated seed n) ++ codes "\n") ++ l)
       (lines_are_text (told_job Check (plain_job seed n)) checked 0 (generated_events seed n events) (are_drawn Check refl events))
 
-  read_as : (purpose : Purpose) → reads_jobs purpose ≡ true → (events : ℕ) → job_of has purpose (generated_text seed n events)
+  read_as : (purpose : Purpose) → reads_jobs purpose ≡ true → (events : ℕ) → parse_job has purpose (generated_text seed n events)
       ≡ with_job (told_job purpose (plain_job seed n))
-      (events_of (told_job purpose (plain_job seed n)) 0 (numbered_from 2 (map (event_text names) (generated_events seed n events))))
+      (parse_events (told_job purpose (plain_job seed n)) 0 (numbered_from 2 (map (event_text names) (generated_events seed n events))))
   read_as purpose reads events =
-      ap (job_of has purpose) (text_is events)
+      ap (parse_job has purpose) (text_is events)
       ∙ text_back has (plain_job seed n) generated_is_plain purpose reads (map (event_text names) (generated_events seed n events))
       (event_lines (told_job Check (plain_job seed n)) checked (generated_events seed n events) (are_drawn Check refl events))
 
   with_events : (purpose : Purpose) → reads_jobs purpose ≡ true → ((line : ℕ) → outside_race line purpose ≡ Ok tt) → (events : ℕ) → events ≤ 200000
-      → job_of has purpose (generated_text seed n events) ≡ Ok (told_job purpose (plain_job seed n), generated_events seed n events)
+      → parse_job has purpose (generated_text seed n events) ≡ Ok (told_job purpose (plain_job seed n), generated_events seed n events)
   with_events purpose reads outside events few_events =
       let size = events_long seed n events in
       read_as purpose reads events
@@ -199,16 +199,16 @@ module _ (has : List ℕ → Bool) (seed n : ℕ) (many : 2 ≤ n) (few : n ≤ 
       (events_back (told_job purpose (plain_job seed n)) (has_plain_names purpose reads outside) 0 2 (generated_events seed n events)
       (omega (arith, size, few_events)) (are_drawn purpose reads events))
 
-  without_events : job_of has Race (generated_text seed n 0) ≡ Ok (told_job Race (plain_job seed n), generated_events seed n 0)
-  unfolding generated_events events_of
+  without_events : parse_job has Race (generated_text seed n 0) ≡ Ok (told_job Race (plain_job seed n), generated_events seed n 0)
+  unfolding generated_events parse_events
   without_events = read_as Race refl 0
 
   pub generated_back : (purpose : Purpose) → reads_jobs purpose ≡ true → (events : ℕ) → events ≤ 200000 → HasEventsFor purpose events
-      → job_of has purpose (generated_text seed n events) ≡ Ok (told_job purpose (plain_job seed n), generated_events seed n events)
+      → parse_job has purpose (generated_text seed n events) ≡ Ok (told_job purpose (plain_job seed n), generated_events seed n events)
   generated_back Check reads events few_events h = with_events Check refl (λ line. refl) events few_events
   generated_back Run reads events few_events h = with_events Run refl (λ line. refl) events few_events
   generated_back Race reads events few_events h =
-      subst (λ (m : ℕ). job_of has Race (generated_text seed n m) ≡ Ok (told_job Race (plain_job seed n), generated_events seed n m)) (sym h) without_events
+      subst (λ (m : ℕ). parse_job has Race (generated_text seed n m) ≡ Ok (told_job Race (plain_job seed n), generated_events seed n m)) (sym h) without_events
   generated_back Make reads events few_events h = absurd (cc reads)
   generated_back Audit reads events few_events h = absurd (cc reads)
 

@@ -10,11 +10,11 @@ use Rattle.swap_digraph.specs.declared.deal.Mode.{Mode}
 use Rattle.swap_digraph.specs.declared.deal.Mode.TheVariants.{Timelocks, Hashkeys}
 use Rattle.swap_digraph.specs.declared.deal.Version.{Version}
 use Rattle.swap_digraph.specs.declared.deal.Version.TheVariants.{One, Two}
-use Rattle.swap_digraph.specs.Deal.{amount, leader_of, locks}
+use Rattle.swap_digraph.specs.Deal.{amount, lock_leader, locks}
 use Rattle.swap_job.specs.declared.job.Job.{Job}
 use Rattle.swap_job.specs.declared.job.Purpose.TheVariants.{Audit}
 use Rattle.swap_job.specs.declared.job.Finish.TheVariants.{Stop}
-use Rattle.offer_fields.specs.Fields.{array_at, list_at, member_text_of, needed, number_at, object_at, only, text_at}
+use Rattle.offer_fields.specs.Fields.{read_array_field, list_at, member_text_of, needed, number_at, object_at, only, text_at}
 use Rattle.offer_header.specs.declared.raw.Reading.{Reading}
 use Rattle.offer_header.specs.declared.raw.RawActor.{RawActor}
 use Rattle.offer_header.specs.declared.raw.RawActor.TheVariants.{Conforming, Manual}
@@ -23,10 +23,11 @@ use Rattle.offer_header.specs.declared.raw.RawArc.{RawArc}
 use Rattle.offer_header.specs.declared.raw.RawLeader.{RawLeader}
 use Rattle.offer_header.specs.declared.raw.RawRow.{RawRow}
 use Rattle.offer_header.specs.declared.raw.RawHeader.{RawHeader}
-use Rattle.offer_header.specs.Raw.{actor_at, raw_arc_of, header_fields, keys_at, raw_leader_of, mode_at, mode_for, party_of, raw_of, row_of, states_keys}
-use Rattle.offer_header.specs.Raw.{stated_mode_at, version_at, version_of, IsModeOf}
+use Rattle.offer_header.specs.Raw.{actor_at, raw_arc_of, header_fields, keys_at, raw_leader_of, mode_at, checked_mode, parse_party, raw_of, parse_row}
+use Rattle.offer_header.specs.Raw.{states_keys}
+use Rattle.offer_header.specs.Raw.{stated_mode_at, version_at, parse_version, IsVersionMode}
 use Rattle.offer_text.specs.Words.{digest_data, list_data, number_data}
-use Rattle.offer_text.specs.HeaderLine.{arc_data, fields_by_mode, leader_at, number_of, shown_header, shown_party, word_of_conforming}
+use Rattle.offer_text.specs.HeaderLine.{arc_data, fields_by_mode, leader_value, number_of, shown_header, shown_party, word_of_conforming}
 use Rattle.read_back.proofs.Steps.{items_back, step}
 
 abbrev pub reading : Mode → Reading
@@ -42,13 +43,13 @@ abbrev pub raw_party : Job → ℕ → RawParty
 raw_party job p = record { name = slice_index_or job.names p []; actor = actor_for (slice_index_or job.conforming p false); seed = None }
 
 party_by : (mode : Mode) (line : ℕ) (name : List ℕ) (c : Bool)
-    → party_of (reading mode) line (object (member (codes "actor") (string (word_of_conforming c)) (member (codes "name") (string name) no_members)))
+    → parse_party (reading mode) line (object (member (codes "actor") (string (word_of_conforming c)) (member (codes "name") (string name) no_members)))
     ≡ Ok (record { name = name; actor = actor_for c; seed = None })
-unfolding party_of object_at text_at needed actor_at member_text_of only
+unfolding parse_party object_at text_at needed actor_at member_text_of only
 party_by mode line name true = refl
 party_by mode line name false = refl
 
-party_back : (mode : Mode) (line : ℕ) (job : Job) (p : ℕ) → party_of (reading mode) line (shown_party job p) ≡ Ok (raw_party job p)
+party_back : (mode : Mode) (line : ℕ) (job : Job) (p : ℕ) → parse_party (reading mode) line (shown_party job p) ≡ Ok (raw_party job p)
 party_back mode line job p = party_by mode line (slice_index_or job.names p []) (slice_index_or job.conforming p false)
 
 -- ---- arcs
@@ -83,11 +84,11 @@ arc_back mode line job a = arc_by mode line job.names (ends job.deal.graph a) (a
 
 abbrev pub raw_leader : Job → ℕ → RawLeader
 raw_leader job i = record {
-  party = slice_index_or job.names (leader_of job.deal i) [];
+  party = slice_index_or job.names (lock_leader job.deal i) [];
   hashlock = encode_lower (slice_index_or job.deal.hashlocks i []);
 }
 
-pub leader_back : (mode : Mode) (line : ℕ) (job : Job) (i : ℕ) → raw_leader_of (reading mode) line (leader_at job.names job.deal i) ≡ Ok (raw_leader job i)
+pub leader_back : (mode : Mode) (line : ℕ) (job : Job) (i : ℕ) → raw_leader_of (reading mode) line (leader_value job.names job.deal i) ≡ Ok (raw_leader job i)
 unfolding raw_leader_of object_at text_at needed only
 leader_back mode line job i = refl
 
@@ -98,8 +99,8 @@ text_back line key = refl
 abbrev pub raw_row : List (List ℕ) → RawRow
 raw_row keys = record { texts = map encode_lower keys }
 
-pub row_back : (line : ℕ) (keys : List (List ℕ)) → row_of line (list_data digest_data keys) ≡ Ok (raw_row keys)
-unfolding row_of
+pub row_back : (line : ℕ) (keys : List (List ℕ)) → parse_row line (list_data digest_data keys) ≡ Ok (raw_row keys)
+unfolding parse_row
 row_back line keys =
     step _ (map encode_lower keys) _ (items_back (member_text_of line (codes "keys")) digest_data encode_lower keys (λ key i. text_back line key))
 
@@ -138,7 +139,7 @@ as_shown job = refl
 
 -- each field of it
 
-pub version_known : (line : ℕ) (v : Version) → version_of line (number_of v) ≡ Ok v
+pub version_known : (line : ℕ) (v : Version) → parse_version line (number_of v) ≡ Ok v
 version_known line One = refl
 version_known line Two = refl
 
@@ -147,7 +148,7 @@ unfolding version_at number_at needed
 version_is Timelocks line job = version_known line job.deal.version
 version_is Hashkeys line job = version_known line job.deal.version
 
-pub mode_fits : (line : ℕ) (v : Version) (mode : Mode) → IsModeOf v mode → mode_for line v mode ≡ Ok mode
+pub mode_fits : (line : ℕ) (v : Version) (mode : Mode) → IsVersionMode v mode → checked_mode line v mode ≡ Ok mode
 mode_fits line One mode k = refl
 mode_fits line Two Timelocks k = absurd (cc k)
 mode_fits line Two Hashkeys k = refl
@@ -157,7 +158,7 @@ unfolding stated_mode_at text_at needed
 stated_mode_is Timelocks line job = refl
 stated_mode_is Hashkeys line job = refl
 
-mode_is : (mode : Mode) (line : ℕ) (job : Job) → IsModeOf job.deal.version mode → mode_at line job.deal.version (shown_in mode job) ≡ Ok mode
+mode_is : (mode : Mode) (line : ℕ) (job : Job) → IsVersionMode job.deal.version mode → mode_at line job.deal.version (shown_in mode job) ≡ Ok mode
 unfolding mode_at
 mode_is mode line job k = step _ mode _ (stated_mode_is mode line job) ∙ mode_fits line job.deal.version mode k
 
@@ -177,18 +178,18 @@ bound_is Timelocks line job = refl
 bound_is Hashkeys line job = refl
 
 parties_are : (mode : Mode) (line : ℕ) (job : Job)
-    → list_at line (codes "parties") (party_of (reading mode) line) (shown_in mode job) ≡ Ok (map (raw_party job) (range_with_len 0 job.deal.graph.n))
-unfolding list_at array_at needed
+    → list_at line (codes "parties") (parse_party (reading mode) line) (shown_in mode job) ≡ Ok (map (raw_party job) (range_with_len 0 job.deal.graph.n))
+unfolding list_at read_array_field needed
 parties_are Timelocks line job =
-    items_back (party_of (reading Timelocks) line) (shown_party job) (raw_party job) (range_with_len 0 job.deal.graph.n)
+    items_back (parse_party (reading Timelocks) line) (shown_party job) (raw_party job) (range_with_len 0 job.deal.graph.n)
     (λ p i. party_back Timelocks line job p)
 parties_are Hashkeys line job =
-    items_back (party_of (reading Hashkeys) line) (shown_party job) (raw_party job) (range_with_len 0 job.deal.graph.n)
+    items_back (parse_party (reading Hashkeys) line) (shown_party job) (raw_party job) (range_with_len 0 job.deal.graph.n)
     (λ p i. party_back Hashkeys line job p)
 
 arcs_are : (mode : Mode) (line : ℕ) (job : Job)
     → list_at line (codes "arcs") (raw_arc_of (reading mode) line) (shown_in mode job) ≡ Ok (map (raw_arc mode job) (arcs job.deal.graph))
-unfolding list_at array_at needed
+unfolding list_at read_array_field needed
 arcs_are Timelocks line job =
     items_back (raw_arc_of (reading Timelocks) line) (arc_shown Timelocks job) (raw_arc Timelocks job) (arcs job.deal.graph)
     (λ a i. arc_back Timelocks line job a)
@@ -198,27 +199,27 @@ arcs_are Hashkeys line job =
 
 leaders_are : (mode : Mode) (line : ℕ) (job : Job)
     → list_at line (codes "leaders") (raw_leader_of (reading mode) line) (shown_in mode job) ≡ Ok (map (raw_leader job) (locks job.deal))
-unfolding list_at array_at needed
+unfolding list_at read_array_field needed
 leaders_are Timelocks line job =
-    items_back (raw_leader_of (reading Timelocks) line) (leader_at job.names job.deal) (raw_leader job) (locks job.deal)
+    items_back (raw_leader_of (reading Timelocks) line) (leader_value job.names job.deal) (raw_leader job) (locks job.deal)
     (λ k i. leader_back Timelocks line job k)
 leaders_are Hashkeys line job =
-    items_back (raw_leader_of (reading Hashkeys) line) (leader_at job.names job.deal) (raw_leader job) (locks job.deal)
+    items_back (raw_leader_of (reading Hashkeys) line) (leader_value job.names job.deal) (raw_leader job) (locks job.deal)
     (λ k i. leader_back Hashkeys line job k)
 
 keys_are : (mode : Mode) (line : ℕ) (job : Job) → keys_at line (states_keys Audit mode) (shown_in mode job) ≡ Ok (raw_keys mode job)
-unfolding list_at array_at needed
+unfolding list_at read_array_field needed
 keys_are Timelocks line job = refl
-keys_are Hashkeys line job = items_back (row_of line) (list_data digest_data) raw_row job.deal.keys (λ keys i. row_back line keys)
+keys_are Hashkeys line job = items_back (parse_row line) (list_data digest_data) raw_row job.deal.keys (λ keys i. row_back line keys)
 
 no_others : (mode : Mode) (line : ℕ) (job : Job) → only line (header_fields Audit (states_keys Audit mode)) (shown_in mode job) ≡ Ok tt
 unfolding only
 no_others Timelocks line job = refl
 no_others Hashkeys line job = refl
 
-raw_in : (mode : Mode) (line : ℕ) (job : Job) → IsModeOf job.deal.version mode → raw_of Audit line (shown_in mode job) ≡ Ok (raw_header mode job)
+parse_raw : (mode : Mode) (line : ℕ) (job : Job) → IsVersionMode job.deal.version mode → raw_of Audit line (shown_in mode job) ≡ Ok (raw_header mode job)
 unfolding raw_of
-raw_in mode line job k =
+parse_raw mode line job k =
     step _ job.deal.version _ (version_is mode line job)
     ∙ step _ mode _ (mode_is mode line job k)
     ∙ step _ job.deal.start _ (start_is mode line job)
@@ -230,5 +231,5 @@ raw_in mode line job k =
     ∙ step _ (raw_keys mode job) _ (keys_are mode line job)
     ∙ step _ tt _ (no_others mode line job)
 
-pub raw_back : (line : ℕ) (job : Job) → IsModeOf job.deal.version job.deal.mode → raw_of Audit line (shown_header job) ≡ Ok (raw_header job.deal.mode job)
-raw_back line job k = ap (raw_of Audit line) (as_shown job) ∙ raw_in job.deal.mode line job k
+pub raw_back : (line : ℕ) (job : Job) → IsVersionMode job.deal.version job.deal.mode → raw_of Audit line (shown_header job) ≡ Ok (raw_header job.deal.mode job)
+raw_back line job k = ap (raw_of Audit line) (as_shown job) ∙ parse_raw job.deal.mode line job k

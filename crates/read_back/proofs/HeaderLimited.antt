@@ -22,20 +22,21 @@ use Rattle.swap_job.specs.declared.job.Finish.TheVariants.{Stop}
 use Rattle.swap_job.specs.declared.job.Role.{Role}
 use Rattle.swap_rules.specs.Accepted.{IsAccepted, IsTimed}
 use Rattle.offer_fields.specs.Lists.{each_of}
-use Rattle.offer_fields.specs.Limits.{decoded, digest_of, number_within, within}
+use Rattle.offer_fields.specs.Limits.{decoded, to_digest, ranged_number, within}
 use Rattle.offer_moves.specs.declared.moves.Sizes.{Sizes}
 use Rattle.offer_header.specs.declared.limits.Acting.{Acting}
 use Rattle.offer_header.specs.declared.limits.ArcTerms.{ArcTerms}
 use Rattle.offer_header.specs.declared.header.Header.{Header}
 use Rattle.offer_header.specs.Header.{simple_role}
-use Rattle.offer_header.specs.Limits.{acting_of, all_terms_of, arc_ends, hashlock_of, hashlocks_of, key_digest, keys_of, limited_of, parties_of}
-use Rattle.offer_header.specs.Limits.{party_keys_of, checked_role, checked_seed, sizes_in, stated_keys_of, terms_of}
+use Rattle.offer_header.specs.Limits.{parse_acting, parse_all_terms, arc_ends, lock_hashlock, hashlocks_of, key_digest, derived_keys, limited_of, count_parties}
+use Rattle.offer_header.specs.Limits.{party_keys_of, checked_role, checked_seed, header_sizes, stated_keys_of, stated_terms}
 use Rattle.typed_books.specs.Typed.{IsDigest}
 use Rattle.read_back.specs.Headers.{IsShowable}
 use Rattle.read_back.proofs.Steps.{by_places, each_back, step}
 use Rattle.read_back.proofs.HeaderFields.{actor_for, raw_arc, raw_header, raw_leader, raw_party, raw_row, stated}
 use Rattle.read_back.proofs.HeaderNamed.{ends_at, numbered_at}
 use Rattle.read_back.proofs.Bounds.{enough_is_some}
+use Rattle.read_back.proofs.Lists.{twice, same_map}
 
 -- ---- ranges, digests and lists
 
@@ -43,12 +44,12 @@ pub within_back : (line : ℕ) (field : List ℕ) (low high n : ℕ) → low ≤
 unfolding within
 within_back line field low high n l h = rw (and_both (nat_le low n) (nat_le n high) (le-leb low n l) (le-leb n high h)) refl
 
-pub number_back : (line : ℕ) (field : List ℕ) (low high n : ℕ) → low ≤ n → n ≤ high → number_within line field low high n ≡ Ok n
-unfolding number_within
+pub number_back : (line : ℕ) (field : List ℕ) (low high n : ℕ) → low ≤ n → n ≤ high → ranged_number line field low high n ≡ Ok n
+unfolding ranged_number
 number_back line field low high n l h = step _ tt _ (within_back line field low high n l h)
 
-pub digest_back : (line : ℕ) (field x : List ℕ) → IsDigest x → digest_of line field (encode_lower x) ≡ Ok x
-unfolding digest_of
+pub digest_back : (line : ℕ) (field x : List ℕ) → IsDigest x → to_digest line field (encode_lower x) ≡ Ok x
+unfolding to_digest
 digest_back line field x k = ap (decoded line field) (decode_sized-encode_lower x 32 k.size k.bytes)
 
 pub all_in : {A : Type 0} (P : A → Type 0) (xs : List A) (x : A) → All P xs → IsIn x xs → P x
@@ -60,10 +61,6 @@ pub map_self : {A : Type 0} (xs : List A) → map (λ x. x) xs ≡ xs
 map_self [] = refl
 map_self {A = A} (x ∷ xs) = ap (λ (ys : List A). x ∷ ys) (map_self xs)
 
-pub twice : {A B C : Type 0} (f : B → C) (g : A → B) (xs : List A) → map f (map g xs) ≡ map (λ x. f (g x)) xs
-twice f g [] = refl
-twice {C = C} f g (x ∷ xs) = ap (λ (ys : List C). f (g x) ∷ ys) (twice f g xs)
-
 -- a list of the places of another
 pub places : {A B : Type 0} (f : A → B) (xs : List A) (d : A) (n : ℕ) → length xs ≡ n → map (λ i. f (slice_index_or xs i d)) (range_with_len 0 n) ≡ map f xs
 places f xs d n e =
@@ -73,10 +70,6 @@ places f xs d n e =
 -- a list by its places
 pub placed : {A : Type 0} (xs : List A) (d : A) (n : ℕ) → length xs ≡ n → map (λ i. slice_index_or xs i d) (range_with_len 0 n) ≡ xs
 placed xs d n e = places (λ x. x) xs d n e ∙ map_self xs
-
-pub same_map : {A B : Type 0} (f g : A → B) (xs : List A) → ((x : A) → IsIn x xs → f x ≡ g x) → map f xs ≡ map g xs
-same_map f g [] h = refl
-same_map {B = B} f g (x ∷ xs) h = ap₂ (λ (y : B) (ys : List B). y ∷ ys) (h x (inl refl)) (same_map f g xs (λ y i. h y (inr i)))
 
 -- ---- parties
 
@@ -108,8 +101,8 @@ some_bound d a = enough_is_some d.graph d.leaders a.height d.bound a.parties.0 a
 
 -- ---- the header
 
-abbrev pub header_by : Job → List Role → List Bool → List (Option (List ℕ)) → List ArcEnds → List ℕ → List ℕ → Header
-header_by job roles conforming seeds ends amounts timelocks = record {
+abbrev pub resolve_header : Job → List Role → List Bool → List (Option (List ℕ)) → List ArcEnds → List ℕ → List ℕ → Header
+resolve_header job roles conforming seeds ends amounts timelocks = record {
   purpose = Audit;
   version = job.deal.version;
   mode = job.deal.mode;
@@ -130,18 +123,18 @@ header_by job roles conforming seeds ends amounts timelocks = record {
 }
 
 pub same_header : (job : Job) (rs rs' : List Role) (cs cs' : List Bool) (ss ss' : List (Option (List ℕ))) (es es' : List ArcEnds) (ms ms' ts ts' : List ℕ)
-    → rs ≡ rs' → cs ≡ cs' → ss ≡ ss' → es ≡ es' → ms ≡ ms' → ts ≡ ts' → header_by job rs cs ss es ms ts ≡ header_by job rs' cs' ss' es' ms' ts'
+    → rs ≡ rs' → cs ≡ cs' → ss ≡ ss' → es ≡ es' → ms ≡ ms' → ts ≡ ts' → resolve_header job rs cs ss es ms ts ≡ resolve_header job rs' cs' ss' es' ms' ts'
 same_header job rs rs' cs cs' ss ss' es es' ms ms' ts ts' r c s e m t =
-    ap (λ (x : List Role). header_by job x cs ss es ms ts) r
-    ∙ ap (λ (x : List Bool). header_by job rs' x ss es ms ts) c
-    ∙ ap (λ (x : List (Option (List ℕ))). header_by job rs' cs' x es ms ts) s
-    ∙ ap (λ (x : List ArcEnds). header_by job rs' cs' ss' x ms ts) e
-    ∙ ap (λ (x : List ℕ). header_by job rs' cs' ss' es' x ts) m
-    ∙ ap (λ (x : List ℕ). header_by job rs' cs' ss' es' ms' x) t
+    ap (λ (x : List Role). resolve_header job x cs ss es ms ts) r
+    ∙ ap (λ (x : List Bool). resolve_header job rs' x ss es ms ts) c
+    ∙ ap (λ (x : List (Option (List ℕ))). resolve_header job rs' cs' x es ms ts) s
+    ∙ ap (λ (x : List ArcEnds). resolve_header job rs' cs' ss' x ms ts) e
+    ∙ ap (λ (x : List ℕ). resolve_header job rs' cs' ss' es' x ts) m
+    ∙ ap (λ (x : List ℕ). resolve_header job rs' cs' ss' es' ms' x) t
 
 abbrev pub header_at : Job → Header
 header_at job =
-    header_by job (map simple_role job.conforming) job.conforming (map (λ c. None) job.conforming) job.deal.graph.arcs job.deal.amounts job.deal.timelocks
+    resolve_header job (map simple_role job.conforming) job.conforming (map (λ c. None) job.conforming) job.deal.graph.arcs job.deal.amounts job.deal.timelocks
 
 abbrev pub terms_at : Mode → Job → ℕ → ArcTerms
 terms_at mode job a = record { amount = amount job.deal a; timelock = stated mode (slice_index job.deal.timelocks a) }
@@ -150,14 +143,14 @@ module _ (job : Job) (k : IsShowable job) (line : ℕ) where
   -- ---- parties
 
   party_acts : (sizes : Sizes) (names : List (List ℕ)) (p : ℕ)
-      → acting_of sizes names line (raw_party job p) ≡ Ok (acting_for (slice_index_or job.conforming p false))
-  unfolding acting_of checked_seed
+      → parse_acting sizes names line (raw_party job p) ≡ Ok (acting_for (slice_index_or job.conforming p false))
+  unfolding parse_acting checked_seed
   party_acts sizes names p =
       step _ (simple_role (slice_index_or job.conforming p false)) _ (role_back sizes names line (slice_index_or job.conforming p false))
 
   parties_act : (sizes : Sizes) (names : List (List ℕ))
-      → parties_of job.deal.version sizes names line (map (raw_party job) (range_with_len 0 job.deal.graph.n)) ≡ Ok (map acting_for job.conforming)
-  unfolding parties_of
+      → count_parties job.deal.version sizes names line (map (raw_party job) (range_with_len 0 job.deal.graph.n)) ≡ Ok (map acting_for job.conforming)
+  unfolding count_parties
   parties_act sizes names =
       let low : 2 ≤ job.deal.graph.n = k.accepted.parties.0 in
       let high : job.deal.graph.n ≤ most_parties job.deal.version = k.accepted.parties.1 in
@@ -165,7 +158,7 @@ module _ (job : Job) (k : IsShowable job) (line : ℕ) where
       = length-map-range_with_len (raw_party job) 0 job.deal.graph.n in
       step _ tt _ (within_back line (codes "parties") 2 (most_parties job.deal.version) (length (map (raw_party job) (range_with_len 0 job.deal.graph.n)))
       (omega (arith, low, size)) (omega (arith, high, size)))
-      ∙ each_back (acting_of sizes names line) (raw_party job) (λ p. acting_for (slice_index_or job.conforming p false)) (range_with_len 0 job.deal.graph.n)
+      ∙ each_back (parse_acting sizes names line) (raw_party job) (λ p. acting_for (slice_index_or job.conforming p false)) (range_with_len 0 job.deal.graph.n)
       (λ p i. party_acts sizes names p)
       ∙ ap (λ (l : List Acting). Ok l) (places acting_for job.conforming false job.deal.graph.n k.conforming)
 
@@ -175,16 +168,16 @@ module _ (job : Job) (k : IsShowable job) (line : ℕ) where
   stated_low Timelocks a lt = k.sized.timelock a lt
   stated_low Hashkeys a lt = omega arith
 
-  term_back : (mode : Mode) (a : ℕ) → a < length job.deal.graph.arcs → terms_of line (raw_arc mode job a) ≡ Ok (terms_at mode job a)
-  unfolding terms_of
+  term_back : (mode : Mode) (a : ℕ) → a < length job.deal.graph.arcs → stated_terms line (raw_arc mode job a) ≡ Ok (terms_at mode job a)
+  unfolding stated_terms
   term_back mode a lt =
       step _ tt _ (within_back line (codes "amount") 1 (10 ^ 12) (amount job.deal a) (k.accepted.amounts a lt).0 (k.accepted.amounts a lt).1)
       ∙ step _ (stated mode (slice_index job.deal.timelocks a)) _
       (number_back line (codes "timelock") 0 1000000 (stated mode (slice_index job.deal.timelocks a)) (omega arith) (stated_low mode a lt))
 
   pub terms_back : (mode : Mode)
-      → all_terms_of job.deal.version line (map (raw_arc mode job) (arcs job.deal.graph)) ≡ Ok (map (terms_at mode job) (arcs job.deal.graph))
-  unfolding all_terms_of
+      → parse_all_terms job.deal.version line (map (raw_arc mode job) (arcs job.deal.graph)) ≡ Ok (map (terms_at mode job) (arcs job.deal.graph))
+  unfolding parse_all_terms
   terms_back mode =
       let low : 2 ≤ length job.deal.graph.arcs = k.accepted.arcs.0 in
       let high : length job.deal.graph.arcs ≤ most_arcs job.deal.version = k.accepted.arcs.1 in
@@ -192,7 +185,7 @@ module _ (job : Job) (k : IsShowable job) (line : ℕ) where
       = length-map-range_with_len (raw_arc mode job) 0 (length job.deal.graph.arcs) in
       step _ tt _ (within_back line (codes "arcs") 2 (most_arcs job.deal.version) (length (map (raw_arc mode job) (arcs job.deal.graph)))
       (omega (arith, low, size)) (omega (arith, high, size)))
-      ∙ each_back (terms_of line) (raw_arc mode job) (terms_at mode job) (arcs job.deal.graph)
+      ∙ each_back (stated_terms line) (raw_arc mode job) (terms_at mode job) (arcs job.deal.graph)
       (λ a i. term_back mode a (from_range a (length job.deal.graph.arcs) i))
 
   pub ends_are : map arc_ends (map (ends_at job) (arcs job.deal.graph)) ≡ job.deal.graph.arcs
@@ -220,8 +213,8 @@ module _ (job : Job) (k : IsShowable job) (line : ℕ) where
 
   -- ---- hashlocks and keys
 
-  hashlock_back : (i : ℕ) → i < length job.deal.leaders → hashlock_of line (raw_leader job i) ≡ Ok (slice_index_or job.deal.hashlocks i [])
-  unfolding hashlock_of
+  hashlock_back : (i : ℕ) → i < length job.deal.leaders → lock_hashlock line (raw_leader job i) ≡ Ok (slice_index_or job.deal.hashlocks i [])
+  unfolding lock_hashlock
   hashlock_back i lt =
       let count : length job.deal.hashlocks ≡ length job.deal.leaders = k.accepted.hashlocks in
       digest_back line (codes "hashlock") (slice_index_or job.deal.hashlocks i []) (k.hashlocks i [] (omega (arith, count, lt)))
@@ -235,7 +228,7 @@ module _ (job : Job) (k : IsShowable job) (line : ℕ) where
       = length-map-range_with_len (raw_leader job) 0 (length job.deal.leaders) in
       step _ tt _ (within_back line (codes "leaders") 1 8 (length (map (raw_leader job) (locks job.deal))) (omega (arith, low, size))
       (omega (arith, high, size)))
-      ∙ each_back (hashlock_of line) (raw_leader job) (λ i. slice_index_or job.deal.hashlocks i []) (locks job.deal)
+      ∙ each_back (lock_hashlock line) (raw_leader job) (λ i. slice_index_or job.deal.hashlocks i []) (locks job.deal)
       (λ i is. hashlock_back i (from_range i (length job.deal.leaders) is))
       ∙ ap (λ (l : List (List ℕ)). Ok l) (placed job.deal.hashlocks [] (length job.deal.leaders) k.accepted.hashlocks)
 
@@ -283,13 +276,13 @@ module _ (job : Job) (k : IsShowable job) (line : ℕ) where
         all_in (All IsDigest) job.deal.keys x k.keys i,
       ))
 
-  keys_back : (mode : Mode) → HasKeys mode job.deal → keys_of mode false line (raw_header mode job) ≡ Ok job.deal.keys
+  keys_back : (mode : Mode) → HasKeys mode job.deal → derived_keys mode false line (raw_header mode job) ≡ Ok job.deal.keys
   keys_back Timelocks has = ap (λ (l : List (List (List ℕ))). Ok l) (sym has)
   keys_back Hashkeys has = stated_back has
 
   -- ---- the header
 
-  is_header : (mode : Mode) → IsTimed mode job.deal → header_by job (map (λ (a : Acting). a.role) (map acting_for job.conforming))
+  is_header : (mode : Mode) → IsTimed mode job.deal → resolve_header job (map (λ (a : Acting). a.role) (map acting_for job.conforming))
       (map (λ (a : Acting). is_conforming a.role) (map acting_for job.conforming)) (map (λ (a : Acting). a.seed) (map acting_for job.conforming))
       (map arc_ends (map (ends_at job) (arcs job.deal.graph))) (map (λ (t : ArcTerms). t.amount) (map (terms_at mode job) (arcs job.deal.graph)))
       (map (λ (t : ArcTerms). t.timelock) (map (terms_at mode job) (arcs job.deal.graph))) ≡ header_at job
@@ -307,7 +300,7 @@ module _ (job : Job) (k : IsShowable job) (line : ℕ) where
       step _ job.deal.start _ (number_back line (codes "start") 1 1000 job.deal.start (omega (arith, delta, start)) k.accepted.start.1)
       ∙ step _ job.deal.delta _ (number_back line (codes "delta") 1 100 job.deal.delta delta k.accepted.delta.1)
       ∙ step _ job.deal.bound _ (number_back line (codes "bound") 1 64 job.deal.bound (some_bound job.deal k.accepted) k.accepted.bound.1)
-      ∙ step _ (map acting_for job.conforming) _ (parties_act (sizes_in (raw_header job.deal.mode job)) job.names)
+      ∙ step _ (map acting_for job.conforming) _ (parties_act (header_sizes (raw_header job.deal.mode job)) job.names)
       ∙ step _ (map (terms_at mode job) (arcs job.deal.graph)) _ (terms_back mode)
       ∙ step _ job.deal.hashlocks _ hashlocks_back
       ∙ step _ job.deal.keys _ (keys_back mode k.accepted.keys)

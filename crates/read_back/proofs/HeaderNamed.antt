@@ -11,7 +11,7 @@ use Rattle.swap_base.proofs.Lists.{from_range}
 use Rattle.hashkey_path.proofs.Validity.{bytes_eq-true, bytes_eq_self}
 use Rattle.swap_digraph.specs.Graph.{arcs, ends}
 use Rattle.swap_digraph.specs.declared.deal.Mode.{Mode}
-use Rattle.swap_digraph.specs.Deal.{leader_of}
+use Rattle.swap_digraph.specs.Deal.{lock_leader}
 use Rattle.swap_job.specs.declared.job.Job.{Job}
 use Rattle.offer_fields.specs.Names.{found, party_of_name}
 use Rattle.offer_fields.specs.Lists.{each_of}
@@ -21,10 +21,7 @@ use Rattle.offer_header.specs.declared.names.Numbered.{Numbered}
 use Rattle.read_back.specs.Headers.{IsShowable}
 use Rattle.read_back.proofs.Steps.{each_back, step}
 use Rattle.read_back.proofs.HeaderFields.{actor_for, raw_arc, raw_header, raw_leader, raw_party}
-
-not_true : (t : Bool) → (t ≡ true → ⊥) → t ≡ false
-not_true true h = absurd (h refl)
-not_true false h = refl
+use Rattle.read_back.proofs.Shape.{not_true}
 
 any_false : {A : Type 0} (f : A → Bool) (xs : List A) (d : A) → ((j : ℕ) → j < length xs → f (get_or xs j d) ≡ false) → list_any f xs ≡ false
 any_false f [] d h = refl
@@ -116,12 +113,12 @@ module _ (job : Job) (k : IsShowable job) (line : ℕ) where
       ∙ step _ (ends job.deal.graph a).to _ (number_back (ends job.deal.graph a).to (omega (arith, count, to)))
 
   -- a leader that isn't among those before it
-  other_leader : (i j : ℕ) → i < length job.deal.leaders → j < i → nat_eq (get_or (take i job.deal.leaders) j 0) (leader_of job.deal i) ≡ false
+  other_leader : (i j : ℕ) → i < length job.deal.leaders → j < i → nat_eq (get_or (take i job.deal.leaders) j 0) (lock_leader job.deal i) ≡ false
   other_leader i j lt less =
-      not_true (nat_eq (get_or (take i job.deal.leaders) j 0) (leader_of job.deal i))
+      not_true (nat_eq (get_or (take i job.deal.leaders) j 0) (lock_leader job.deal i))
       (λ t.
-      let equal : get_or job.deal.leaders j 0 ≡ leader_of job.deal i = sym (get_or-take i job.deal.leaders j 0 less)
-      ∙ eqb-true (get_or (take i job.deal.leaders) j 0) (leader_of job.deal i) t in
+      let equal : get_or job.deal.leaders j 0 ≡ lock_leader job.deal i = sym (get_or-take i job.deal.leaders j 0 less)
+      ∙ eqb-true (get_or (take i job.deal.leaders) j 0) (lock_leader job.deal i) t in
       let same : i ≡ j = k.accepted.apart i j lt (omega (arith, less, lt)) (sym equal) in
       omega (arith, same, less))
 
@@ -130,11 +127,11 @@ module _ (job : Job) (k : IsShowable job) (line : ℕ) where
   unfolding leader_step
   leader_on i lt =
       let count : length job.names ≡ job.deal.graph.n = k.parties in
-      let below : leader_of job.deal i < job.deal.graph.n = k.accepted.leader i lt in
+      let below : lock_leader job.deal i < job.deal.graph.n = k.accepted.leader i lt in
       let size = length-take i job.deal.leaders in
-      let fresh : list_any (λ n. nat_eq n (leader_of job.deal i)) (take i job.deal.leaders) ≡ false =
-      any_false (λ n. nat_eq n (leader_of job.deal i)) (take i job.deal.leaders) 0 (λ j less. other_leader i j lt (omega (arith, less, size))) in
-      step _ (leader_of job.deal i) _ (number_back (leader_of job.deal i) (omega (arith, count, below)))
+      let fresh : list_any (λ n. nat_eq n (lock_leader job.deal i)) (take i job.deal.leaders) ≡ false =
+      any_false (λ n. nat_eq n (lock_leader job.deal i)) (take i job.deal.leaders) 0 (λ j less. other_leader i j lt (omega (arith, less, size))) in
+      step _ (lock_leader job.deal i) _ (number_back (lock_leader job.deal i) (omega (arith, count, below)))
       ∙ rw fresh (ap (λ (l : List ℕ). Ok l) (sym (take_more job.deal.leaders i 0 lt)))
 
   leaders_on : (m i : ℕ) → i + m ≡ length job.deal.leaders

@@ -21,7 +21,8 @@ use Rattle.swap_digraph.specs.declared.deal.Version.TheVariants.{One, Two}
 use Rattle.swap_digraph.specs.Deal.{amount, locks, IsWellSized}
 use Rattle.swap_job.specs.declared.job.Job.{Job}
 use Rattle.offer_text.specs.Words.{digest_data, list_data}
-use Rattle.offer_text.specs.HeaderLine.{arc_at, arc_data, arcs_data, fields_by_mode, header_line, keys_data, leader_at, leaders_data, made_header, number_of}
+use Rattle.offer_text.specs.HeaderLine.{arc_json, arc_data, arcs_data, fields_by_mode, header_line, keys_data, leader_value, leaders_data, made_header}
+use Rattle.offer_text.specs.HeaderLine.{number_of}
 use Rattle.offer_text.specs.HeaderLine.{parties_data, shown_header, shown_party}
 use Rattle.transcript_lines.proofs.Numbers.{high_number}
 use Rattle.transcript_lines.proofs.Parts.{IsHigh}
@@ -161,14 +162,14 @@ arc_plain Hashkeys names arc units timelock u t = (u, (tt, (tt, tt)))
 module _ (job : Job) (k : IsWellSized job.deal) where
   pub arcs_plain : IsPlain (arcs_data job.names job.deal)
   arcs_plain =
-      items_plain (arc_at job.names job.deal) (arcs job.deal.graph) (λ a i.
+      items_plain (arc_json job.names job.deal) (arcs job.deal.graph) (λ a i.
       let lt = from_range a (length job.deal.graph.arcs) i in
       let units : amount job.deal a ≤ 10 ^ 12 = k.amount a lt in
       let timelock : slice_index job.deal.timelocks a ≤ 1000000 = k.timelock a lt in
       arc_plain job.deal.mode job.names (ends job.deal.graph a) (amount job.deal a) (slice_index job.deal.timelocks a) (omega arith) (omega arith))
 
   pub leaders_plain : IsPlain (leaders_data job.names job.deal)
-  leaders_plain = items_plain (leader_at job.names job.deal) (locks job.deal) (λ i is. (tt, (tt, tt)))
+  leaders_plain = items_plain (leader_value job.names job.deal) (locks job.deal) (λ i is. (tt, (tt, tt)))
 
   pub keys_plain : IsPlain (keys_data job.deal.keys)
   keys_plain = items_plain (list_data digest_data) job.deal.keys (λ row i. items_plain digest_data row (λ x j. tt))

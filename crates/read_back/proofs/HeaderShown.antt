@@ -20,12 +20,12 @@ use Rattle.swap_digraph.specs.declared.arc_ends.ArcEnds.{ArcEnds}
 use Rattle.swap_digraph.specs.declared.deal.Deal.{Deal}
 use Rattle.swap_digraph.specs.declared.deal.Mode.{Mode}
 use Rattle.swap_digraph.specs.declared.deal.Mode.TheVariants.{Timelocks, Hashkeys}
-use Rattle.swap_digraph.specs.Deal.{amount, leader_of, locks}
+use Rattle.swap_digraph.specs.Deal.{amount, lock_leader, locks}
 use Rattle.swap_job.specs.declared.job.Job.{Job}
 use Rattle.offer_header.specs.Names.{is_name, is_name_byte}
 use Rattle.offer_text.specs.Words.{digest_data, list_data, name_data, number_data}
-use Rattle.offer_text.specs.HeaderLine.{arc_at, arc_data, arcs_data, fields_by_mode, first_fields, header_data, header_line, keys_data, last_fields}
-use Rattle.offer_text.specs.HeaderLine.{leader_at, leaders_data, made_header, number_of, parties_data, shown_header, shown_party, word_of_conforming}
+use Rattle.offer_text.specs.HeaderLine.{arc_json, arc_data, arcs_data, fields_by_mode, first_fields, header_data, header_line, keys_data, last_fields}
+use Rattle.offer_text.specs.HeaderLine.{leader_value, leaders_data, made_header, number_of, parties_data, shown_header, shown_party, word_of_conforming}
 use Rattle.read_back.specs.Headers.{IsShowable, HeaderReads}
 use Rattle.read_back.proofs.HeaderOneLine.{low_version}
 use Rattle.read_back.proofs.Texts.{IsRead, AreRead, list_is, number_is, object_is, reads_back, string_is}
@@ -132,12 +132,12 @@ module _ (names : List (List ℕ)) (d : Deal) (parties : Data) (arcs_are : IsRea
     (field (codes "bound") refl, number_is 2 d.bound bound, (field (codes "delta") refl, number_is 2 d.delta delta, h)),
   )
 
-  header_by : (m : Mode) → IsRead 3 (object (first_fields names d (fields_by_mode m names parties d)))
-  header_by Timelocks =
+  resolve_header : (m : Mode) → IsRead 3 (object (first_fields names d (fields_by_mode m names parties d)))
+  resolve_header Timelocks =
       object_is 2 (first_fields names d (fields_by_mode Timelocks names parties d))
       (first_are (fields_by_mode Timelocks names parties d) (last_are (leaders_data names d) parties (codes "timelocks") d leaders_are
       (field (codes "timelocks") refl) parties_are start)) refl refl
-  header_by Hashkeys =
+  resolve_header Hashkeys =
       object_is 2 (first_fields names d (fields_by_mode Hashkeys names parties d))
       (first_are (fields_by_mode Hashkeys names parties d) (
         field (codes "keys") refl,
@@ -150,20 +150,20 @@ module _ (job : Job) (k : IsShowable job) where
   named : (p : ℕ) → IsUtf8 (slice_index_or job.names p [])
   named p = names_are_text job.names k.names p
 
-  pub arc_at_is : (a : ℕ) → IsIn a (arcs job.deal.graph) → IsRead 1 (arc_at job.names job.deal a)
+  pub arc_at_is : (a : ℕ) → IsIn a (arcs job.deal.graph) → IsRead 1 (arc_json job.names job.deal a)
   arc_at_is a i =
       let lt = from_range a (length job.deal.graph.arcs) i in
       let amount_is = (k.accepted.amounts a lt).1 in
       let timelock_is = k.sized.timelock a lt in
       arc_is job.deal.mode job.names (ends job.deal.graph a) (amount job.deal a) (slice_index job.deal.timelocks a) named (omega arith) (omega arith)
 
-  pub leader_is : (i : ℕ) → IsRead 1 (leader_at job.names job.deal i)
+  pub leader_is : (i : ℕ) → IsRead 1 (leader_value job.names job.deal i)
   leader_is i =
       object_is 0 (member (codes "hashlock") (digest_data (slice_index_or job.deal.hashlocks i [])) (member (codes "party")
-      (name_data job.names (leader_of job.deal i)) no_members)) (
+      (name_data job.names (lock_leader job.deal i)) no_members)) (
         field (codes "hashlock") refl,
         digest_is 0 (slice_index_or job.deal.hashlocks i []),
-        (field (codes "party") refl, string_is 0 (slice_index_or job.names (leader_of job.deal i) []) (named (leader_of job.deal i)), tt),
+        (field (codes "party") refl, string_is 0 (slice_index_or job.names (lock_leader job.deal i) []) (named (lock_leader job.deal i)), tt),
       ) refl refl
 
   party_is : (p : ℕ) → IsRead 1 (shown_party job p)
@@ -181,9 +181,9 @@ module _ (job : Job) (k : IsShowable job) where
       let bound = k.accepted.bound.1 in
       let delta = k.accepted.delta.1 in
       let start = k.accepted.start.1 in
-      header_by job.names d (parties_data shown_party job)
-      (list_is 1 (arc_at job.names d) (arcs d.graph) arc_at_is)
-      (list_is 1 (leader_at job.names d) (locks d) (λ i is. leader_is i))
+      resolve_header job.names d (parties_data shown_party job)
+      (list_is 1 (arc_json job.names d) (arcs d.graph) arc_at_is)
+      (list_is 1 (leader_value job.names d) (locks d) (λ i is. leader_is i))
       (list_is 1 (shown_party job) (range_with_len 0 d.graph.n) (λ p is. party_is p))
       (list_is 1 (list_data digest_data) d.keys (λ row is. list_is 0 digest_data row (λ x in_row. digest_is 0 x)))
       (omega arith) (omega arith) (omega arith) d.mode

@@ -21,17 +21,17 @@ use Rattle.swap_job.specs.declared.job.Role.{Role}
 use Rattle.swap_job.specs.declared.job.Role.TheVariants.{Conforming, Manual, Script, Strategy}
 use Rattle.offer_text.specs.Moves.{move_data}
 use Rattle.offer_text.specs.Words.{digest_data, list_data, with_optional}
-use Rattle.offer_text.specs.HeaderLine.{actor_data, arc_at, fields_by_mode, finish_word, first_fields, keys_data, last_fields, leader_at, leaders_data}
+use Rattle.offer_text.specs.HeaderLine.{actor_data, arc_json, fields_by_mode, finish_word, first_fields, keys_data, last_fields, leader_value, leaders_data}
 use Rattle.offer_text.specs.HeaderLine.{made_header, made_party, number_of, parties_data}
 use Rattle.read_back.proofs.HeaderLimited.{all_in}
 use Rattle.read_back.proofs.HeaderOneLine.{arcs_plain, items_plain, keys_plain, leaders_plain, low_version, one_value, HavePlain, IsOneLine, IsPlain}
 use Rattle.read_back.proofs.HeaderShown.{arc_at_is, digest_is, field, leader_is, names_are_text}
 use Rattle.read_back.proofs.Texts.{list_is, number_is, object_is, reads_back, string_is, AreRead, IsRead}
-use Rattle.read_back.proofs.MadeFields.{role_at, seed_in}
+use Rattle.read_back.proofs.MadeFields.{role_at, read_seed}
 use Rattle.read_back.proofs.MadeLimited.{role_is}
 use Rattle.read_back.proofs.MoveLimits.{IsLimited, IsSmall}
 use Rattle.read_back.proofs.MoveTexts.{move_plain, move_read}
-use Rattle.read_back.proofs.RawMoves.{name_of}
+use Rattle.read_back.proofs.RawMoves.{party_label}
 use Rattle.read_back.proofs.Told.{sizes_are_small, sizes_at, IsTold, IsToldRole}
 use Rattle.offer_moves.specs.declared.moves.Sizes.{Sizes}
 
@@ -41,7 +41,7 @@ deeper k m d le h = record { of = h.of; numbers = h.numbers; text = h.text; low 
 
 -- ---- parties
 
-module _ (has : List ℕ → Bool) (s : Sizes) (small : IsSmall s) (n : ℕ) (names : List (List ℕ)) (named : (p : ℕ) → IsUtf8 (name_of names p)) where
+module _ (has : List ℕ → Bool) (s : Sizes) (small : IsSmall s) (n : ℕ) (names : List (List ℕ)) (named : (p : ℕ) → IsUtf8 (party_label names p)) where
   actor_read : (role : Role) → IsToldRole has s n role → IsRead 4 (actor_data names role)
   actor_read Conforming k = string_is 4 (codes "conforming") (field (codes "conforming") refl)
   actor_read Manual k = string_is 4 (codes "manual") (field (codes "manual") refl)
@@ -112,22 +112,22 @@ module _ (has : List ℕ → Bool) (job : Job) (k : IsTold has job) where
   small : IsSmall (sizes_at job)
   small = sizes_are_small has job k
 
-  named : (p : ℕ) → IsUtf8 (name_of job.names p)
+  named : (p : ℕ) → IsUtf8 (party_label job.names p)
   named p = names_are_text job.names k.shown.names p
 
   party_read : (p : ℕ) → p < job.deal.graph.n → IsRead 5 (made_party job p)
   party_read p lt =
-      party_by (actor_data job.names (role_at job p)) (slice_index_or job.names p []) (seed_in job p)
+      party_by (actor_data job.names (role_at job p)) (slice_index_or job.names p []) (read_seed job p)
       (actor_read has (sizes_at job) small (length job.names) job.names named (role_at job p) (role_is has job k 0 p lt)) (named p)
 
   parties_read : IsRead 6 (parties_data made_party job)
   parties_read = list_is 5 (made_party job) (range_with_len 0 job.deal.graph.n) (λ p i. party_read p (from_range p job.deal.graph.n i))
 
-  arcs_read : IsRead 6 (list_data (arc_at job.names job.deal) (arcs job.deal.graph))
-  arcs_read = deeper 2 6 _ (omega arith) (list_is 1 (arc_at job.names job.deal) (arcs job.deal.graph) (arc_at_is job k.shown))
+  arcs_read : IsRead 6 (list_data (arc_json job.names job.deal) (arcs job.deal.graph))
+  arcs_read = deeper 2 6 _ (omega arith) (list_is 1 (arc_json job.names job.deal) (arcs job.deal.graph) (arc_at_is job k.shown))
 
   leaders_read : IsRead 6 (leaders_data job.names job.deal)
-  leaders_read = deeper 2 6 _ (omega arith) (list_is 1 (leader_at job.names job.deal) (locks job.deal) (λ i is. leader_is job k.shown i))
+  leaders_read = deeper 2 6 _ (omega arith) (list_is 1 (leader_value job.names job.deal) (locks job.deal) (λ i is. leader_is job k.shown i))
 
   keys_read : IsRead 6 (keys_data job.deal.keys)
   keys_read =
@@ -183,7 +183,7 @@ module _ (has : List ℕ → Bool) (job : Job) (k : IsTold has job) where
   parties_plain : IsPlain (parties_data made_party job)
   parties_plain =
       items_plain (made_party job) (range_with_len 0 job.deal.graph.n) (λ p i.
-      party_plain (actor_data job.names (role_at job p)) (slice_index_or job.names p []) (seed_in job p)
+      party_plain (actor_data job.names (role_at job p)) (slice_index_or job.names p []) (read_seed job p)
       (actor_plain has (sizes_at job) small (length job.names) job.names (role_at job p) (role_is has job k 0 p (from_range p job.deal.graph.n i))))
 
   fields_plain : (m : Mode) → HavePlain (fields_by_mode m job.names (parties_data made_party job) job.deal)

@@ -20,16 +20,16 @@ use Rattle.swap_job.specs.declared.job.Purpose.TheVariants.{Audit}
 use Rattle.swap_job.specs.declared.job.Finish.TheVariants.{Stop}
 use Rattle.swap_rules.specs.Accepted.{IsAccepted, IsOfVersion}
 use Rattle.refusals.specs.declared.reason.Reason.TheVariants.{NotJson}
-use Rattle.offer_fields.specs.Fields.{object_of, object_or}
-use Rattle.offer_header.specs.Header.{header_of, simple_role, IsHeaderWithin}
-use Rattle.offer_header.specs.Raw.{IsModeOf, IsUntimed}
+use Rattle.offer_fields.specs.Fields.{parse_data, object_or}
+use Rattle.offer_header.specs.Header.{parse_whole_header, simple_role, IsHeaderWithin}
+use Rattle.offer_header.specs.Raw.{IsVersionMode, IsUntimed}
 use Rattle.offer_header.specs.Scripts.{roles_placed, scripts_placed}
 use Rattle.offer_header.specs.declared.raw.RawArc.{RawArc}
-use Rattle.offer_header.proofs.Limited.{is_within}
+use Rattle.offer_header.proofs.Limited.{set_contains_ends}
 use Rattle.offer_header.proofs.Numbered.{is_numbered}
 use Rattle.offer_text.specs.HeaderLine.{shown_header}
-use Rattle.swap_offer.specs.Checks.{admitted, deal_with, digraph_in, job_with, unless_wrong, unnamed}
-use Rattle.swap_offer.specs.Job.{accepted_of, job_header_of, provided}
+use Rattle.swap_offer.specs.Checks.{admitted, header_deal, header_digraph, assemble_job, unless_wrong, unnamed}
+use Rattle.swap_offer.specs.Job.{accepted_entries, job_header_of, provided}
 use Rattle.swap_offer.specs.Wallets.{no_seed, seeded, walleted}
 use Rattle.swap_offer.proofs.Admitted.{admitted_is_accepted}
 use Rattle.read_back.specs.Headers.{IsShowable, HeaderIsReadBack, audited_job}
@@ -38,8 +38,8 @@ use Rattle.read_back.proofs.HeaderFields.{raw_arc, raw_back, raw_header, stated}
 use Rattle.read_back.proofs.HeaderNamed.{numbered_at, numbered_back}
 use Rattle.read_back.proofs.HeaderLimited.{header_at, limited_back}
 
-object_back : (line : ℕ) (text : List ℕ) (job : Job) → is_utf8 text ≡ true → read text ≡ Some (shown_header job) → object_of line text ≡ Ok (shown_header job)
-unfolding object_of
+object_back : (line : ℕ) (text : List ℕ) (job : Job) → is_utf8 text ≡ true → read text ≡ Some (shown_header job) → parse_data line text ≡ Ok (shown_header job)
+unfolding parse_data
 object_back line text job utf8 reads =
     ap (λ (b : Bool). cond b (object_or line (read text)) (Err (NotJson line))) utf8
     ∙ ap (object_or line) reads
@@ -49,7 +49,7 @@ none_given f [] h = refl
 none_given f (x ∷ xs) h = rw (h x) (none_given f xs h)
 
 -- in version 2 the mode is hashkeys
-pub mode_of_version : (v : Version) (d : Deal) → IsOfVersion v d → IsModeOf v d.mode
+pub mode_of_version : (v : Version) (d : Deal) → IsOfVersion v d → IsVersionMode v d.mode
 mode_of_version One d k = tt
 mode_of_version Two d k = k
 
@@ -62,7 +62,7 @@ simple_placed ends conforming line p (true ∷ cs) = simple_placed ends conformi
 simple_placed ends conforming line p (false ∷ cs) = simple_placed ends conforming line (p + 1) cs
 
 module _ (job : Job) (k : IsShowable job) (line : ℕ) where
-  is_mode : IsModeOf job.deal.version job.deal.mode
+  is_mode : IsVersionMode job.deal.version job.deal.mode
   is_mode = mode_of_version job.deal.version job.deal k.accepted.of_version
 
   all_placed : scripts_placed line (header_at job) ≡ Ok tt
@@ -70,8 +70,8 @@ module _ (job : Job) (k : IsShowable job) (line : ℕ) where
   all_placed = simple_placed job.deal.graph.arcs job.conforming line 0 job.conforming
 
   header_back : (has : List ℕ → Bool) (text : List ℕ) → is_utf8 text ≡ true → read text ≡ Some (shown_header job)
-      → header_of has Audit line text ≡ Ok (header_at job)
-  unfolding header_of
+      → parse_whole_header has Audit line text ≡ Ok (header_at job)
+  unfolding parse_whole_header
   header_back has text utf8 reads =
       step _ (shown_header job) _ (object_back line text job utf8 reads)
       ∙ step _ (raw_header job.deal.mode job) _ (raw_back line job is_mode)
@@ -87,7 +87,7 @@ module _ (job : Job) (k : IsShowable job) (line : ℕ) where
 
   within : IsHeaderWithin (header_at job)
   within =
-      is_within line Audit (raw_header job.deal.mode job) (numbered_at job) (header_at job)
+      set_contains_ends line Audit (raw_header job.deal.mode job) (numbered_at job) (header_at job)
       (is_numbered (λ name. false) line (raw_header job.deal.mode job) (numbered_at job) (numbered_back job k line (λ name. false) job.deal.mode)) is_mode
       (untimed job.deal.mode) (limited_back job k line)
 
@@ -112,16 +112,16 @@ module _ (job : Job) (k : IsShowable job) (line : ℕ) where
   pub is_remade : remade (length job.names) ≡ job.deal
   is_remade = ap remade k.parties
 
-  id_is : deal_id (unnamed (header_at job) (digraph_in (header_at job)) (replicate 32 0)) ≡ job.deal.id
+  id_is : deal_id (unnamed (header_at job) (header_digraph (header_at job)) (replicate 32 0)) ≡ job.deal.id
   id_is = any_id (remade (length job.names)) (replicate 32 0) ∙ ap deal_id is_remade ∙ sym k.accepted.id
 
-  deal_is : deal_with (header_at job) (digraph_in (header_at job)) ≡ job.deal
-  deal_is = ap (unnamed (header_at job) (digraph_in (header_at job))) id_is ∙ is_remade
+  deal_is : header_deal (header_at job) (header_digraph (header_at job)) ≡ job.deal
+  deal_is = ap (unnamed (header_at job) (header_digraph (header_at job))) id_is ∙ is_remade
 
-  is_admitted : admitted (header_at job) ≡ Ok (digraph_in (header_at job))
+  is_admitted : admitted (header_at job) ≡ Ok (header_digraph (header_at job))
   is_admitted = (admitted_is_accepted (header_at job) within).1 (subst IsAccepted (sym deal_is) k.accepted)
 
-  job_is : job_with (header_at job) (digraph_in (header_at job)) ≡ audited_job job
+  job_is : assemble_job (header_at job) (header_digraph (header_at job)) ≡ audited_job job
   job_is = ap (λ (d : Deal). let j : Job = record {
     purpose = Audit;
     deal = d;
@@ -136,13 +136,13 @@ module _ (job : Job) (k : IsShowable job) (line : ℕ) where
   unfolding provided seeded walleted
   nothing_lacks = step _ tt _ (ap unless_wrong (none_given (no_seed (audited_job job)) (range_with_len 0 job.deal.graph.n) (λ p. refl)))
 
-  is_provided : provided (job_with (header_at job) (digraph_in (header_at job))) ≡ Ok tt
+  is_provided : provided (assemble_job (header_at job) (header_digraph (header_at job))) ≡ Ok tt
   is_provided = subst (λ (x : Job). provided x ≡ Ok tt) (sym job_is) nothing_lacks
 
-  accepted_back : accepted_of (header_at job) ≡ Ok (audited_job job)
-  unfolding accepted_of
+  accepted_back : accepted_entries (header_at job) ≡ Ok (audited_job job)
+  unfolding accepted_entries
   accepted_back =
-      step _ (digraph_in (header_at job)) _ is_admitted
+      step _ (header_digraph (header_at job)) _ is_admitted
       ∙ step _ tt _ is_provided
       ∙ ap (λ (j : Job). Ok j) job_is
 

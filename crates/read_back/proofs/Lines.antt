@@ -4,35 +4,35 @@ use Rattle.std.specs.Prelude.{codes}
 use Rattle.std.specs.List.{list_all, AllByRecursion}
 use Rattle.std.proofs.lemmas.List.Elements.{All-head, All-tail}
 use Rattle.swap_base.proofs.Lists.{and_both, and_parts}
-use Rattle.command_input.specs.Lines.{filled_lines, is_blank, lines_of, with_first}
+use Rattle.command_input.specs.Lines.{filled_lines, is_blank, collect_lines, with_first}
 use Rattle.made_jobs.specs.Making.{with_line}
 use Rattle.transcript_lines.specs.Between.{ended}
 use Rattle.read_back.specs.Made.{numbered_from, IsOneLine, TextHasOneStory, TextIsItsLines}
 
-not_is : (b : Bool) → not b ≡ true → b ≡ false
+pub not_is : (b : Bool) → not b ≡ true → b ≡ false
 not_is true e = absurd (cc e)
 not_is false e = refl
 
 -- a line comes first
-line_first : (l rest : List ℕ) → IsOneLine l → lines_of ((l ++ codes "\n") ++ rest) ≡ l ∷ lines_of rest
-unfolding lines_of
+line_first : (l rest : List ℕ) → IsOneLine l → collect_lines ((l ++ codes "\n") ++ rest) ≡ l ∷ collect_lines rest
+unfolding collect_lines
 line_first [] rest h = refl
 line_first (b ∷ l) rest h =
     let p = and_parts (not (b == 10)) (list_all (λ x. not (x == 10)) l) h in
     rw (not_is (b == 10) p.0) (ap (with_first b) (line_first l rest p.1))
 
 pub text_is_its_lines : TextIsItsLines
-unfolding lines_of
+unfolding collect_lines
 text_is_its_lines [] h = refl
 text_is_its_lines (l ∷ ls) h =
     line_first l (ended ls) (All-head IsOneLine l ls h) ∙ ap (λ (m : List (List ℕ)). l ∷ m) (text_is_its_lines ls (All-tail IsOneLine l ls h))
 
 pub text_has_one_story : TextHasOneStory
-text_has_one_story ls ms h k e = sym (text_is_its_lines ls h) ∙ ap lines_of e ∙ text_is_its_lines ms k
+text_has_one_story ls ms h k e = sym (text_is_its_lines ls h) ∙ ap collect_lines e ∙ text_is_its_lines ms k
 
 -- the same, where each line is told in turn
-pub ended_lines : (ls : List (List ℕ)) → AllByRecursion IsOneLine ls → lines_of (ended ls) ≡ ls
-unfolding lines_of
+pub ended_lines : (ls : List (List ℕ)) → AllByRecursion IsOneLine ls → collect_lines (ended ls) ≡ ls
+unfolding collect_lines
 ended_lines [] h = refl
 ended_lines (l ∷ ls) h = line_first l (ended ls) h.0 ∙ ap (λ (m : List (List ℕ)). l ∷ m) (ended_lines ls h.1)
 
@@ -43,8 +43,8 @@ abbrev pub AreLines : List (List ℕ) → Type 0
 AreLines [] = Unit {0}
 AreLines (l ∷ ls) = IsOneLine l × (is_blank l ≡ false) × AreLines ls
 
-pub lines_back : (ls : List (List ℕ)) → AreLines ls → lines_of (ended ls) ≡ ls
-unfolding lines_of
+pub lines_back : (ls : List (List ℕ)) → AreLines ls → collect_lines (ended ls) ≡ ls
+unfolding collect_lines
 lines_back [] h = refl
 lines_back (l ∷ ls) h = line_first l (ended ls) h.0 ∙ ap (λ (m : List (List ℕ)). l ∷ m) (lines_back ls h.2)
 
@@ -67,10 +67,10 @@ by_feed : (b : ℕ) (t : Bool) (ls : List (List ℕ)) → (b == 10) ≡ t → Ar
 by_feed b true ls e h = (refl, h)
 by_feed b false ls e h = one_longer b ls e h
 
-are_one_lines : (bs : List ℕ) → AreOneLines (lines_of bs)
-unfolding lines_of
+are_one_lines : (bs : List ℕ) → AreOneLines (collect_lines bs)
+unfolding collect_lines
 are_one_lines [] = tt
-are_one_lines (b ∷ bs) = by_feed b (b == 10) (lines_of bs) refl (are_one_lines bs)
+are_one_lines (b ∷ bs) = by_feed b (b == 10) (collect_lines bs) refl (are_one_lines bs)
 
 by_blank : (n : ℕ) (l : List ℕ) (t : Bool) (ls : List (ℕ × List ℕ)) → is_blank l ≡ t → IsOneLine l → AreLines (map (λ x. x.1) ls)
     → AreLines (map (λ x. x.1) (cond t ls ((n, l) ∷ ls)))
@@ -83,8 +83,8 @@ are_filled n [] h = tt
 are_filled n (l ∷ ls) h = by_blank n l (is_blank l) (filled_lines (n + 1) ls) refl h.0 (are_filled (n + 1) ls h.1)
 
 -- those of an input that aren't blank
-pub input_lines : (bs : List ℕ) → AreLines (map (λ x. x.1) (filled_lines 1 (lines_of bs)))
-input_lines bs = are_filled 1 (lines_of bs) (are_one_lines bs)
+pub input_lines : (bs : List ℕ) → AreLines (map (λ x. x.1) (filled_lines 1 (collect_lines bs)))
+input_lines bs = are_filled 1 (collect_lines bs) (are_one_lines bs)
 
 -- ---- what is written line by line
 

@@ -17,19 +17,19 @@ use Rattle.swap_job.specs.declared.job.Finish.TheVariants.{Stop, Fair}
 use Rattle.swap_job.specs.declared.job.Role.{Role}
 use Rattle.swap_job.specs.declared.job.Role.TheVariants as kinds
 use Rattle.swap_job.specs.declared.moves.Move.{Move}
-use Rattle.offer_fields.specs.Fields.{array_at, list_at, member_text_of, needed, number_at, object_at, only, optional_text_at, text_at}
+use Rattle.offer_fields.specs.Fields.{read_array_field, list_at, member_text_of, needed, number_at, object_at, only, optional_text_at, text_at}
 use Rattle.offer_moves.specs.Reading.{scripted_at}
 use Rattle.offer_header.specs.declared.raw.Reading.{Reading}
 use Rattle.offer_header.specs.declared.raw.RawActor.{RawActor}
 use Rattle.offer_header.specs.declared.raw.RawActor.TheVariants.{Conforming, Manual, Script, Strategy}
 use Rattle.offer_header.specs.declared.raw.RawParty.{RawParty}
 use Rattle.offer_header.specs.declared.raw.RawHeader.{RawHeader}
-use Rattle.offer_header.specs.Raw.{actor_at, raw_arc_of, finish_at, finish_of_word, header_fields, keys_at, raw_leader_of, mode_at, party_fields, party_of}
+use Rattle.offer_header.specs.Raw.{actor_at, raw_arc_of, finish_at, finish_of_word, header_fields, keys_at, raw_leader_of, mode_at, party_fields, parse_party}
 use Rattle.offer_header.specs.Raw.{raw_of}
-use Rattle.offer_header.specs.Raw.{row_of, script_at, seed_at, stated_finish_at, stated_mode_at, states_keys, strategy_at, version_at, IsModeOf}
+use Rattle.offer_header.specs.Raw.{parse_row, script_at, seed_at, stated_finish_at, stated_mode_at, states_keys, strategy_at, version_at, IsVersionMode}
 use Rattle.offer_text.specs.Moves.{move_data}
 use Rattle.offer_text.specs.Words.{digest_data, list_data, number_data, with_optional}
-use Rattle.offer_text.specs.HeaderLine.{actor_data, fields_by_mode, finish_word, leader_at, made_header, made_party}
+use Rattle.offer_text.specs.HeaderLine.{actor_data, fields_by_mode, finish_word, leader_value, made_header, made_party}
 use Rattle.read_back.proofs.Steps.{items_back, step}
 use Rattle.read_back.proofs.HeaderFields.{arc_back, arc_shown, leader_back, mode_fits, raw_arc, raw_keys, raw_leader, raw_row, reading, row_back, version_known}
 use Rattle.read_back.specs.Made.{reads_jobs}
@@ -50,14 +50,14 @@ raw_actor names (kinds.Strategy name) = Strategy (utf8_lossy name)
 abbrev pub role_at : Job → ℕ → Role
 role_at job p = slice_index_or job.roles p kinds.Manual
 
-abbrev pub seed_in : Job → ℕ → Option (List ℕ)
-seed_in job p = slice_index_or job.seeds p None
+abbrev pub read_seed : Job → ℕ → Option (List ℕ)
+read_seed job p = slice_index_or job.seeds p None
 
 abbrev pub told_party : Job → ℕ → RawParty
 told_party job p = record {
   name = slice_index_or job.names p [];
   actor = raw_actor job.names (role_at job p);
-  seed = option_map encode_lower (seed_in job p);
+  seed = option_map encode_lower (read_seed job p);
 }
 
 abbrev script_data : List (List ℕ) → List Move → Data
@@ -65,7 +65,7 @@ script_data names moves = object (member (codes "script") (list_data (move_data 
 
 moves_are : (line : ℕ) (names : List (List ℕ)) (moves : List Move)
     → list_at line (codes "script") (scripted_at line) (script_data names moves) ≡ Ok (map (raw_move names) moves)
-unfolding list_at array_at needed
+unfolding list_at read_array_field needed
 moves_are line names moves = items_back (scripted_at line) (move_data names) (raw_move names) moves (λ mv i. move_back line names mv)
 
 script_only : (line : ℕ) (names : List (List ℕ)) (moves : List Move) → only line (codes "script" ∷ []) (script_data names moves) ≡ Ok tt
@@ -112,12 +112,12 @@ party_object : (line : ℕ) (actor : Data) (name : List ℕ) (seed : Option (Lis
 unfolding object_at
 party_object line actor name seed = refl
 
-party_back : (mode : Mode) (line : ℕ) (job : Job) (p : ℕ) → party_of (checking mode) line (made_party job p) ≡ Ok (told_party job p)
-unfolding party_of
+party_back : (mode : Mode) (line : ℕ) (job : Job) (p : ℕ) → parse_party (checking mode) line (made_party job p) ≡ Ok (told_party job p)
+unfolding parse_party
 party_back mode line job p =
     let name : List ℕ = slice_index_or job.names p [] in
     let role : Role = role_at job p in
-    let seed : Option (List ℕ) = seed_in job p in
+    let seed : Option (List ℕ) = read_seed job p in
     let actor : Data = actor_data job.names role in
     step _ tt _ (party_object line actor name seed)
     ∙ step _ name _ (name_is line actor name seed)
@@ -175,7 +175,7 @@ unfolding stated_mode_at text_at needed
 stated_mode_is Timelocks line job = refl
 stated_mode_is Hashkeys line job = refl
 
-mode_is : (mode : Mode) (line : ℕ) (job : Job) → IsModeOf job.deal.version mode → mode_at line job.deal.version (made_in mode job) ≡ Ok mode
+mode_is : (mode : Mode) (line : ℕ) (job : Job) → IsVersionMode job.deal.version mode → mode_at line job.deal.version (made_in mode job) ≡ Ok mode
 unfolding mode_at
 mode_is mode line job k = step _ mode _ (stated_mode_is mode line job) ∙ mode_fits line job.deal.version mode k
 
@@ -193,36 +193,36 @@ unfolding number_at needed
 bound_is mode line job = refl
 
 parties_are : (mode : Mode) (line : ℕ) (job : Job)
-    → list_at line (codes "parties") (party_of (checking mode) line) (made_in mode job) ≡ Ok (map (told_party job) (range_with_len 0 job.deal.graph.n))
-unfolding list_at array_at needed
+    → list_at line (codes "parties") (parse_party (checking mode) line) (made_in mode job) ≡ Ok (map (told_party job) (range_with_len 0 job.deal.graph.n))
+unfolding list_at read_array_field needed
 parties_are Timelocks line job =
-    items_back (party_of (checking Timelocks) line) (made_party job) (told_party job) (range_with_len 0 job.deal.graph.n)
+    items_back (parse_party (checking Timelocks) line) (made_party job) (told_party job) (range_with_len 0 job.deal.graph.n)
     (λ p i. party_back Timelocks line job p)
 parties_are Hashkeys line job =
-    items_back (party_of (checking Hashkeys) line) (made_party job) (told_party job) (range_with_len 0 job.deal.graph.n)
+    items_back (parse_party (checking Hashkeys) line) (made_party job) (told_party job) (range_with_len 0 job.deal.graph.n)
     (λ p i. party_back Hashkeys line job p)
 
 arcs_are : (mode : Mode) (line : ℕ) (job : Job)
     → list_at line (codes "arcs") (raw_arc_of (checking mode) line) (made_in mode job) ≡ Ok (map (raw_arc mode job) (arcs job.deal.graph))
-unfolding list_at array_at needed
+unfolding list_at read_array_field needed
 arcs_are mode line job =
     items_back (raw_arc_of (checking mode) line) (arc_shown mode job) (raw_arc mode job) (arcs job.deal.graph)
     (λ a i. arc_same mode line (arc_shown mode job a) ∙ arc_back mode line job a)
 
 leaders_are : (mode : Mode) (line : ℕ) (job : Job)
     → list_at line (codes "leaders") (raw_leader_of (checking mode) line) (made_in mode job) ≡ Ok (map (raw_leader job) (locks job.deal))
-unfolding list_at array_at needed
+unfolding list_at read_array_field needed
 leaders_are Timelocks line job =
-    items_back (raw_leader_of (checking Timelocks) line) (leader_at job.names job.deal) (raw_leader job) (locks job.deal)
-    (λ i is. leader_same Timelocks line (leader_at job.names job.deal i) ∙ leader_back Timelocks line job i)
+    items_back (raw_leader_of (checking Timelocks) line) (leader_value job.names job.deal) (raw_leader job) (locks job.deal)
+    (λ i is. leader_same Timelocks line (leader_value job.names job.deal i) ∙ leader_back Timelocks line job i)
 leaders_are Hashkeys line job =
-    items_back (raw_leader_of (checking Hashkeys) line) (leader_at job.names job.deal) (raw_leader job) (locks job.deal)
-    (λ i is. leader_same Hashkeys line (leader_at job.names job.deal i) ∙ leader_back Hashkeys line job i)
+    items_back (raw_leader_of (checking Hashkeys) line) (leader_value job.names job.deal) (raw_leader job) (locks job.deal)
+    (λ i is. leader_same Hashkeys line (leader_value job.names job.deal i) ∙ leader_back Hashkeys line job i)
 
 keys_are : (mode : Mode) (line : ℕ) (job : Job) → keys_at line (states_keys Check mode) (made_in mode job) ≡ Ok (raw_keys mode job)
-unfolding list_at array_at needed
+unfolding list_at read_array_field needed
 keys_are Timelocks line job = refl
-keys_are Hashkeys line job = items_back (row_of line) (list_data digest_data) raw_row job.deal.keys (λ keys i. row_back line keys)
+keys_are Hashkeys line job = items_back (parse_row line) (list_data digest_data) raw_row job.deal.keys (λ keys i. row_back line keys)
 
 finish_known : (line : ℕ) (finish : Finish) → finish_of_word line (finish_word finish) ≡ Ok finish
 finish_known line Stop = refl
@@ -237,9 +237,9 @@ unfolding only
 no_others Timelocks line job = refl
 no_others Hashkeys line job = refl
 
-raw_in : (mode : Mode) (line : ℕ) (job : Job) → IsModeOf job.deal.version mode → raw_of Check line (made_in mode job) ≡ Ok (told_header mode job)
+parse_raw : (mode : Mode) (line : ℕ) (job : Job) → IsVersionMode job.deal.version mode → raw_of Check line (made_in mode job) ≡ Ok (told_header mode job)
 unfolding raw_of
-raw_in mode line job k =
+parse_raw mode line job k =
     step _ job.deal.version _ (version_is mode line job)
     ∙ step _ mode _ (mode_is mode line job k)
     ∙ step _ job.deal.start _ (start_is mode line job)
@@ -254,14 +254,14 @@ raw_in mode line job k =
 
 -- a check, a run and a race read the same fields
 same_fields : (purpose : Purpose) (line : ℕ) (d : Data) → reads_jobs purpose ≡ true → raw_of purpose line d ≡ raw_of Check line d
-unfolding raw_of party_of raw_arc_of raw_leader_of actor_at
+unfolding raw_of parse_party raw_arc_of raw_leader_of actor_at
 same_fields Check line d e = refl
 same_fields Run line d e = refl
 same_fields Race line d e = refl
 same_fields Make line d e = absurd (cc e)
 same_fields Audit line d e = absurd (cc e)
 
-pub raw_back : (purpose : Purpose) (line : ℕ) (job : Job) → reads_jobs purpose ≡ true → IsModeOf job.deal.version job.deal.mode
+pub raw_back : (purpose : Purpose) (line : ℕ) (job : Job) → reads_jobs purpose ≡ true → IsVersionMode job.deal.version job.deal.mode
     → raw_of purpose line (made_header job) ≡ Ok (told_header job.deal.mode job)
 raw_back purpose line job e k =
-    same_fields purpose line (made_header job) e ∙ ap (raw_of Check line) (as_made job) ∙ raw_in job.deal.mode line job k
+    same_fields purpose line (made_header job) e ∙ ap (raw_of Check line) (as_made job) ∙ parse_raw job.deal.mode line job k

@@ -10,7 +10,7 @@ use Rattle.std.proofs.lemmas.Str.{utf8_lossy-IsUtf8}
 use Rattle.hex.specs.Hex.{encode_lower}
 use Rattle.swap_base.proofs.Lists.{from_range}
 use Rattle.swap_digraph.specs.Graph.{arcs}
-use Rattle.swap_digraph.specs.Deal.{locks, most_parties, path_limit_of, HasKeys}
+use Rattle.swap_digraph.specs.Deal.{locks, most_parties, version_path_limit, HasKeys}
 use Rattle.swap_digraph.specs.declared.deal.Mode.{Mode}
 use Rattle.swap_digraph.specs.declared.deal.Mode.TheVariants.{Timelocks, Hashkeys}
 use Rattle.swap_job.specs.Roles.{is_conforming}
@@ -23,46 +23,47 @@ use Rattle.swap_job.specs.declared.moves.Move.{Move}
 use Rattle.swap_rules.specs.Accepted.{IsTimed}
 use Rattle.offer_fields.specs.Lists.{each_of}
 use Rattle.offer_fields.specs.Names.{party_of_name}
-use Rattle.offer_moves.specs.Moves.{move_of}
+use Rattle.offer_moves.specs.Moves.{parse_move}
 use Rattle.offer_moves.specs.declared.moves.Sizes.{Sizes}
 use Rattle.offer_header.specs.Raw.{is_plain}
-use Rattle.offer_header.specs.Limits.{acting_of, arc_ends, hashlocks_of, keys_of, limited_of, parties_of, party_keys_of, checked_role}
-use Rattle.offer_header.specs.Limits.{script_role, checked_seed, seed_or_none, sizes_in, stated_keys_of}
+use Rattle.offer_header.specs.Limits.{parse_acting, arc_ends, hashlocks_of, derived_keys, limited_of, count_parties, party_keys_of, checked_role}
+use Rattle.offer_header.specs.Limits.{script_role, checked_seed, seed_or_none, header_sizes, stated_keys_of}
 use Rattle.offer_header.specs.declared.limits.Acting.{Acting}
 use Rattle.offer_header.specs.declared.limits.ArcTerms.{ArcTerms}
 use Rattle.offer_header.specs.declared.header.Header.{Header}
 use Rattle.offer_header.specs.declared.raw.RawHeader.{RawHeader}
 use Rattle.typed_books.specs.Typed.{IsDigest}
 use Rattle.read_back.proofs.HeaderFields.{raw_arc, raw_leader, raw_row}
-use Rattle.read_back.proofs.HeaderLimited.{all_in, amounts_are, digest_back, ends_are, hashlocks_back, header_by, in_place, map_self, number_back, places}
-use Rattle.read_back.proofs.HeaderLimited.{rows_back, same_header, some_bound, terms_at, terms_back, timelocks_are, twice, within_back}
+use Rattle.read_back.proofs.HeaderLimited.{all_in, amounts_are, digest_back, ends_are, hashlocks_back, resolve_header, in_place, map_self, number_back, places}
+use Rattle.read_back.proofs.HeaderLimited.{rows_back, same_header, some_bound, terms_at, terms_back, timelocks_are, within_back}
 use Rattle.read_back.proofs.HeaderNamed as named
 use Rattle.read_back.proofs.HeaderNamed.{ends_at, numbered_at}
 use Rattle.read_back.proofs.Steps.{each_back, step}
 use Rattle.read_back.specs.Made.{reads_jobs}
-use Rattle.read_back.proofs.MadeFields.{raw_actor, role_at, seed_in, told_header, told_party}
+use Rattle.read_back.proofs.MadeFields.{raw_actor, role_at, read_seed, told_header, told_party}
 use Rattle.read_back.proofs.MoveLimits.{limited_move_back, IsLimited, IsSmall}
-use Rattle.read_back.proofs.RawMoves.{name_of, raw_move}
+use Rattle.read_back.proofs.RawMoves.{party_label, raw_move}
 use Rattle.read_back.proofs.Told.{sizes_are_small, sizes_at, IsTold, IsToldRole, MayBeDigest}
+use Rattle.read_back.proofs.Lists.{twice}
 
 -- ---- how a party acts, and its seed
 
 abbrev acting_at : Job → ℕ → Acting
-acting_at job p = record { role = role_at job p; seed = seed_in job p }
+acting_at job p = record { role = role_at job p; seed = read_seed job p }
 
 seed_back : (line : ℕ) (o : Option (List ℕ)) → MayBeDigest o → seed_or_none line (option_map encode_lower o) ≡ Ok o
 seed_back line None k = refl
 seed_back line (Some seed) k = step _ seed _ (digest_back line (codes "seed") seed k)
 
 module _ (has : List ℕ → Bool) (s : Sizes) (small : IsSmall s) (names : List (List ℕ)) (line : ℕ)
-    (number : (p : ℕ) → p < length names → party_of_name line names (name_of names p) ≡ Ok p) where
+    (number : (p : ℕ) → p < length names → party_of_name line names (party_label names p) ≡ Ok p) where
   script_back : (moves : List Move) → length moves ≤ 1000 → All (IsLimited s (length names)) moves
       → script_role s names line (map (raw_move names) moves) ≡ Ok (kinds.Script moves)
   unfolding script_role
   script_back moves few all =
       let size : length (map (raw_move names) moves) ≡ length moves = length-map moves (raw_move names) in
       step _ tt _ (within_back line (codes "script") 0 1000 (length (map (raw_move names) moves)) (omega arith) (omega (arith, size, few)))
-      ∙ step _ moves _ (each_back (move_of s names line) (raw_move names) (λ mv. mv) moves
+      ∙ step _ moves _ (each_back (parse_move s names line) (raw_move names) (λ mv. mv) moves
       (λ mv i. limited_move_back s small names line number mv (all_in (IsLimited s (length names)) moves mv all i))
       ∙ ap (λ (l : List Move). Ok l) (map_self moves))
 
@@ -80,7 +81,7 @@ with_finish job h = record h { purpose = job.purpose; finish = job.finish }
 
 abbrev pub header_at : Job → Header
 header_at job =
-    with_finish job (header_by job job.roles job.conforming job.seeds job.deal.graph.arcs job.deal.amounts job.deal.timelocks)
+    with_finish job (resolve_header job job.roles job.conforming job.seeds job.deal.graph.arcs job.deal.amounts job.deal.timelocks)
 
 pub not_plain : (p : Purpose) → reads_jobs p ≡ true → is_plain p ≡ false
 not_plain Check e = refl
@@ -100,35 +101,35 @@ module _ (has : List ℕ → Bool) (job : Job) (k : IsTold has job) (line : ℕ)
       let roles : length job.roles ≡ job.deal.graph.n = k.roles in
       All-get_or (IsToldRole has (sizes_at job) (length job.names)) job.roles p kinds.Manual (omega (arith, roles, lt)) k.said
 
-  seed_is : (p : ℕ) → p < job.deal.graph.n → MayBeDigest (seed_in job p)
+  seed_is : (p : ℕ) → p < job.deal.graph.n → MayBeDigest (read_seed job p)
   seed_is p lt =
       let seeds : length job.seeds ≡ job.deal.graph.n = k.seeds in
       All-get_or MayBeDigest job.seeds p None (omega (arith, seeds, lt)) k.digests
 
-  party_acts : (p : ℕ) → p < job.deal.graph.n → acting_of (sizes_at job) job.names line (told_party job p) ≡ Ok (acting_at job p)
-  unfolding acting_of checked_seed
+  party_acts : (p : ℕ) → p < job.deal.graph.n → parse_acting (sizes_at job) job.names line (told_party job p) ≡ Ok (acting_at job p)
+  unfolding parse_acting checked_seed
   party_acts p lt =
       step _ (role_at job p) _ (role_back has (sizes_at job) (sizes_are_small has job k) job.names line (named.number_back job k.shown line)
       (role_at job p) (role_is p lt))
-      ∙ step _ (seed_in job p) _ (seed_back line (seed_in job p) (seed_is p lt))
+      ∙ step _ (read_seed job p) _ (seed_back line (read_seed job p) (seed_is p lt))
 
-  sizes_are : (mode : Mode) → sizes_in (told_header mode job) ≡ sizes_at job
+  sizes_are : (mode : Mode) → header_sizes (told_header mode job) ≡ sizes_at job
   sizes_are mode =
-      ap₂ (λ (a l : ℕ). let s : Sizes = record { arcs = a; locks = l; path = path_limit_of job.deal.version } in s)
+      ap₂ (λ (a l : ℕ). let s : Sizes = record { arcs = a; locks = l; path = version_path_limit job.deal.version } in s)
       (length-map-range_with_len (raw_arc mode job) 0 (length job.deal.graph.arcs))
       (length-map-range_with_len (raw_leader job) 0 (length job.deal.leaders))
 
-  parties_act : (mode : Mode) → parties_of job.deal.version (sizes_in (told_header mode job)) job.names line (map (told_party job) parties)
+  parties_act : (mode : Mode) → count_parties job.deal.version (header_sizes (told_header mode job)) job.names line (map (told_party job) parties)
       ≡ Ok (map (acting_at job) parties)
-  unfolding parties_of
+  unfolding count_parties
   parties_act mode =
       let low : 2 ≤ job.deal.graph.n = k.shown.accepted.parties.0 in
       let high : job.deal.graph.n ≤ most_parties job.deal.version = k.shown.accepted.parties.1 in
       let size : length (map (told_party job) parties) ≡ job.deal.graph.n = length-map-range_with_len (told_party job) 0 job.deal.graph.n in
       step _ tt _ (within_back line (codes "parties") 2 (most_parties job.deal.version) (length (map (told_party job) parties)) (omega (arith, low, size))
       (omega (arith, high, size)))
-      ∙ ap (λ (s : Sizes). each_of (acting_of s job.names line) (map (told_party job) parties)) (sizes_are mode)
-      ∙ each_back (acting_of (sizes_at job) job.names line) (told_party job) (acting_at job) parties
+      ∙ ap (λ (s : Sizes). each_of (parse_acting s job.names line) (map (told_party job) parties)) (sizes_are mode)
+      ∙ each_back (parse_acting (sizes_at job) job.names line) (told_party job) (acting_at job) parties
       (λ p i. party_acts p (from_range p job.deal.graph.n i))
 
   roles_are : map (λ (a : Acting). a.role) (map (acting_at job) parties) ≡ job.roles
@@ -164,13 +165,13 @@ module _ (has : List ℕ → Bool) (job : Job) (k : IsTold has job) (line : ℕ)
         all_in (All IsDigest) job.deal.keys x k.shown.keys i,
       ))
 
-  keys_back : (mode : Mode) → HasKeys mode job.deal → keys_of mode false line (told_header mode job) ≡ Ok job.deal.keys
+  keys_back : (mode : Mode) → HasKeys mode job.deal → derived_keys mode false line (told_header mode job) ≡ Ok job.deal.keys
   keys_back Timelocks has_keys = ap (λ (l : List (List (List ℕ))). Ok l) (sym has_keys)
   keys_back Hashkeys has_keys = stated_back has_keys
 
   -- ---- the header
 
-  is_header : (mode : Mode) → IsTimed mode job.deal → with_finish job (header_by job (map (λ (a : Acting). a.role) (map (acting_at job) parties))
+  is_header : (mode : Mode) → IsTimed mode job.deal → with_finish job (resolve_header job (map (λ (a : Acting). a.role) (map (acting_at job) parties))
       (map (λ (a : Acting). is_conforming a.role) (map (acting_at job) parties)) (map (λ (a : Acting). a.seed) (map (acting_at job) parties))
       (map arc_ends (map (ends_at job) (arcs job.deal.graph))) (map (λ (t : ArcTerms). t.amount) (map (terms_at mode job) (arcs job.deal.graph)))
       (map (λ (t : ArcTerms). t.timelock) (map (terms_at mode job) (arcs job.deal.graph)))) ≡ header_at job
@@ -195,5 +196,5 @@ module _ (has : List ℕ → Bool) (job : Job) (k : IsTold has job) (line : ℕ)
       ∙ step _ (map (acting_at job) parties) _ (parties_act mode)
       ∙ step _ (map (terms_at mode job) (arcs job.deal.graph)) _ (terms_back job k.shown line mode)
       ∙ step _ job.deal.hashlocks _ (ap (λ (b : Bool). hashlocks_of b line raw.leaders) stated_as ∙ hashlocks_back job k.shown line)
-      ∙ step _ job.deal.keys _ (ap (λ (b : Bool). keys_of mode b line raw) stated_as ∙ keys_back mode k.shown.accepted.keys)
+      ∙ step _ job.deal.keys _ (ap (λ (b : Bool). derived_keys mode b line raw) stated_as ∙ keys_back mode k.shown.accepted.keys)
       ∙ ap (λ (h : Header). Ok h) (is_header mode k.shown.accepted.timed)

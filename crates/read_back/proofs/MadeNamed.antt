@@ -27,7 +27,7 @@ use Rattle.read_back.proofs.HeaderNamed.{all_arcs, all_leaders, ends_at, is_fres
 use Rattle.read_back.proofs.Steps.{step}
 use Rattle.read_back.proofs.MadeFields.{raw_actor, role_at, told_header, told_party}
 use Rattle.read_back.proofs.MoveLimits.{IsLimited}
-use Rattle.read_back.proofs.RawMoves.{name_of, raw_move}
+use Rattle.read_back.proofs.RawMoves.{party_label, raw_move}
 use Rattle.read_back.proofs.Told.{sizes_at, IsTold, IsToldRole}
 
 -- each step passes, so all do
@@ -39,16 +39,16 @@ all_pass f g (x ∷ xs) h =
     step (f (g x)) tt (λ u. steps (λ u x. f x) u (map g xs)) (h x (inl refl)) ∙ all_pass f g xs (λ y i. h y (inr i))
 
 -- a name among names is known
-is_known : (line : ℕ) (names : List (List ℕ)) (p : ℕ) → p < length names → known line names (name_of names p) ≡ Ok tt
+is_known : (line : ℕ) (names : List (List ℕ)) (p : ℕ) → p < length names → known line names (party_label names p) ≡ Ok tt
 unfolding known
 is_known line names p lt =
-    let there : list_any (bytes_eq (name_of names p)) names ≡ true =
-    list_any_at (bytes_eq (name_of names p)) names p [] lt (bytes_eq_self (name_of names p)) in
+    let there : list_any (bytes_eq (party_label names p)) names ≡ true =
+    list_any_at (bytes_eq (party_label names p)) names p [] lt (bytes_eq_self (party_label names p)) in
     rw there refl
 
-are_known : (line : ℕ) (names : List (List ℕ)) (ps : List ℕ) → All (λ p. p < length names) ps → all_known line names (map (name_of names) ps) ≡ Ok tt
+are_known : (line : ℕ) (names : List (List ℕ)) (ps : List ℕ) → All (λ p. p < length names) ps → all_known line names (map (party_label names) ps) ≡ Ok tt
 unfolding all_known
-are_known line names ps all = all_pass (known line names) (name_of names) ps (λ p i. is_known line names p (all_in (λ q. q < length names) ps p all i))
+are_known line names ps all = all_pass (known line names) (party_label names) ps (λ p i. is_known line names p (all_in (λ q. q < length names) ps p all i))
 
 move_is_known : (line : ℕ) (names : List (List ℕ)) (s : Sizes) (mv : Move) → IsLimited s (length names) mv
     → move_known line names (raw_move names mv) ≡ Ok tt

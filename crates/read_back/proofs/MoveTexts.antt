@@ -14,7 +14,7 @@ use Rattle.read_back.proofs.HeaderShown.{digest_is, field}
 use Rattle.read_back.proofs.Texts.{list_is, number_is, object_is, string_is, IsRead}
 use Rattle.read_back.proofs.Members.{fields_are, one_read, MayBeRead}
 use Rattle.read_back.proofs.MoveLimits.{AreTerms, IsCraft, IsKey, IsLimited, IsMost, IsSmall}
-use Rattle.read_back.proofs.RawMoves.{name_of, publish_is, publish_members}
+use Rattle.read_back.proofs.RawMoves.{party_label, publish_is, publish_members}
 
 -- ---- values that may be absent
 
@@ -34,9 +34,9 @@ lock_low s small i lt = let few = small.locks in omega (arith, lt, few)
 
 -- ---- read back
 
-module _ (s : Sizes) (small : IsSmall s) (n : ℕ) (names : List (List ℕ)) (named : (p : ℕ) → IsUtf8 (name_of names p)) where
+module _ (s : Sizes) (small : IsSmall s) (n : ℕ) (names : List (List ℕ)) (named : (p : ℕ) → IsUtf8 (party_label names p)) where
   names_are : (ps : List ℕ) → IsRead 1 (list_data (name_data names) ps)
-  names_are ps = list_is 0 (name_data names) ps (λ p i. string_is 0 (name_of names p) (named p))
+  names_are ps = list_is 0 (name_data names) ps (λ p i. string_is 0 (party_label names p) (named p))
 
   publish_read : (arc : ℕ) (start delta bound timelock amount : Option ℕ) (locks : Option (List (List ℕ)))
       → AreTerms s arc start delta bound timelock amount locks → IsRead 2 (move_data names (Publish arc start delta bound timelock amount locks))
@@ -46,7 +46,7 @@ module _ (s : Sizes) (small : IsSmall s) (n : ℕ) (names : List (List ℕ)) (na
       (one_read 1 (codes "amount") (option_map number_data amount) _ (field (codes "amount") refl)
       (most_read 1 1000000000000 amount (omega arith) k.amount_in) (
         field (codes "arc") refl,
-        number_is 1 arc (arc_low s small arc k.arc_in),
+        number_is 1 arc (arc_low s small arc k.read_clear_arc),
         one_read 1 (codes "bound") (option_map number_data bound) _ (field (codes "bound") refl) (most_read 1 1000000 bound (omega arith) k.bound_in)
             (one_read 1 (codes "delta") (option_map number_data delta) _ (field (codes "delta") refl) (most_read 1 1000000 delta (omega arith) k.delta_in) (
               field (codes "do") refl,
@@ -54,7 +54,7 @@ module _ (s : Sizes) (small : IsSmall s) (n : ℕ) (names : List (List ℕ)) (na
               one_read 1 (codes "locks") (option_map (list_data digest_data) locks) _ (field (codes "locks") refl) (locks_read 0 s.locks locks)
                   (one_read 1 (codes "start") (option_map number_data start) _ (field (codes "start") refl) (most_read 1 1000000 start (omega arith) k.start_in)
                   (one_read 1 (codes "timelock") (option_map number_data timelock) no_members (field (codes "timelock") refl)
-                  (most_read 1 1000000 timelock (omega arith) k.timelock_in) tt)),
+                  (most_read 1 1000000 timelock (omega arith) k.read_timelock) tt)),
             )),
       ))
       refl)
@@ -65,7 +65,7 @@ module _ (s : Sizes) (small : IsSmall s) (n : ℕ) (names : List (List ℕ)) (na
       object_is 1 (member (codes "arc") (number_data arc) (member (codes "do") (string (codes "craft")) (member (codes "lock") (number_data lock)
       (member (codes "via") (list_data (name_data names) via) no_members)))) (
         field (codes "arc") refl,
-        number_is 1 arc (arc_low s small arc k.arc_in),
+        number_is 1 arc (arc_low s small arc k.read_clear_arc),
         (
           field (codes "do") refl,
           string_is 1 (codes "craft") (field (codes "craft") refl),
@@ -76,7 +76,7 @@ module _ (s : Sizes) (small : IsSmall s) (n : ℕ) (names : List (List ℕ)) (na
       object_is 1 (member (codes "arc") (number_data arc) (member (codes "do") (string (codes "craft")) (member (codes "lock") (number_data lock)
       (member (codes "onto") (number_data onto) (member (codes "via") (list_data (name_data names) via) no_members))))) (
         field (codes "arc") refl,
-        number_is 1 arc (arc_low s small arc k.arc_in),
+        number_is 1 arc (arc_low s small arc k.read_clear_arc),
         (
           field (codes "do") refl,
           string_is 1 (codes "craft") (field (codes "craft") refl),
@@ -144,7 +144,7 @@ module _ (s : Sizes) (small : IsSmall s) (n : ℕ) (names : List (List ℕ)) (na
         (
           field (codes "do") refl,
           string_is 1 (codes "transfer") (field (codes "transfer") refl),
-          (field (codes "to") refl, string_is 1 (name_of names to) (named to), (field (codes "units") refl, number_is 1 units (omega (arith, u)), tt)),
+          (field (codes "to") refl, string_is 1 (party_label names to) (named to), (field (codes "units") refl, number_is 1 units (omega (arith, u)), tt)),
         ),
       ) refl refl
 
@@ -201,13 +201,13 @@ module _ (s : Sizes) (small : IsSmall s) (n : ℕ) (names : List (List ℕ)) whe
   unfolding move_data
   move_plain (Publish arc start delta bound timelock amount locks) k =
       may_plain (codes "amount") 1000000000000 amount _ (omega arith) k.amount_in (
-        arc_low s small arc k.arc_in,
+        arc_low s small arc k.read_clear_arc,
         may_plain (codes "bound") 1000000 bound _ (omega arith) k.bound_in
-            (may_plain (codes "delta") 1000000 delta _ (omega arith) k.delta_in (tt, last_plain start timelock locks k.start_in k.timelock_in)),
+            (may_plain (codes "delta") 1000000 delta _ (omega arith) k.delta_in (tt, last_plain start timelock locks k.start_in k.read_timelock)),
       )
-  move_plain (Craft arc lock via None) k = (arc_low s small arc k.arc_in, (tt, (lock_low s small lock k.lock_in, (names_plain via, tt))))
+  move_plain (Craft arc lock via None) k = (arc_low s small arc k.read_clear_arc, (tt, (lock_low s small lock k.lock_in, (names_plain via, tt))))
   move_plain (Craft arc lock via (Some onto)) k =
-      (arc_low s small arc k.arc_in, (tt, (lock_low s small lock k.lock_in, (arc_low s small onto k.onto_in, (names_plain via, tt)))))
+      (arc_low s small arc k.read_clear_arc, (tt, (lock_low s small lock k.lock_in, (arc_low s small onto k.onto_in, (names_plain via, tt)))))
   move_plain (Replay arc lock onto) k = (arc_low s small arc k.0, (tt, (lock_low s small lock k.1, (arc_low s small onto k.2, tt))))
   move_plain (Raw arc key) k =
       (arc_low s small arc k.0, (tt, (lock_low s small key.lock k.1.lock, (names_plain key.path, (tt, (items_plain signature_data key.sigs (λ x i. tt), tt))))))

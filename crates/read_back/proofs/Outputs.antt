@@ -10,8 +10,8 @@ use Rattle.swap_job.specs.declared.job.Purpose.{Purpose}
 use Rattle.swap_job.specs.declared.job.Purpose.TheVariants.{Make, Run}
 use Rattle.offer_fields.proofs.Chains.{went}
 use Rattle.offer_text.specs.HeaderLine.{header_line, made_header}
-use Rattle.swap_offer.specs.Job.{counted, events_for, events_of, events_unless, job_header_of, job_of, job_of_lines}
-use Rattle.command_input.specs.Lines.{filled_lines, is_blank, lines_of}
+use Rattle.swap_offer.specs.Job.{counted, parse_job_events, parse_events, events_unless, job_header_of, parse_job, job_of_lines}
+use Rattle.command_input.specs.Lines.{filled_lines, is_blank, collect_lines}
 use Rattle.swap_gen.specs.Made.{made}
 use Rattle.made_jobs.specs.Making.{made_of, made_output, made_text, written_line}
 use Rattle.read_back.proofs.Onward.{ok_is}
@@ -55,15 +55,15 @@ module _ (has : List ℕ → Bool) (plain : Job) (k : IsPlainJob has plain) wher
 
   -- the lines of a text of the header line and others are these, and none of them is blank
   pub text_lines : (ls : List (List ℕ)) → AreLines ls
-      → filled_lines 1 (lines_of (ended (header_line (made plain) ∷ ls))) ≡ (1, header_line (made plain)) ∷ numbered_from 2 ls
+      → filled_lines 1 (collect_lines (ended (header_line (made plain) ∷ ls))) ≡ (1, header_line (made plain)) ∷ numbered_from 2 ls
   text_lines ls h =
       ap (filled_lines 1) (lines_back (header_line (made plain) ∷ ls) (plain_header_is_one, not_blank, h))
       ∙ all_filled 1 (header_line (made plain) ∷ ls) (plain_header_is_one, not_blank, h)
 
   pub text_back : (purpose : Purpose) → reads_jobs purpose ≡ true → (ls : List (List ℕ)) → AreLines ls
-      → job_of has purpose (ended (header_line (made plain) ∷ ls))
-      ≡ with_job (told_job purpose plain) (events_of (told_job purpose plain) 0 (numbered_from 2 ls))
-  unfolding job_of
+      → parse_job has purpose (ended (header_line (made plain) ∷ ls))
+      ≡ with_job (told_job purpose plain) (parse_events (told_job purpose plain) 0 (numbered_from 2 ls))
+  unfolding parse_job
   text_back purpose reads ls h =
       ap (job_of_lines has purpose) (text_lines ls h)
       ∙ step _ (told_job purpose plain) _ (plain_header_back purpose reads 1)
@@ -106,12 +106,12 @@ by_parts has l ls plain events j output good none same read written =
       written = ap (λ (x : Job × List Event). made_text x.0 ls) joint ∙ written;
     }
 
-made_by : (has : List ℕ → Bool) → HasTexts has → (lines : List (ℕ × List ℕ)) (output : List ℕ) → made_of has lines ≡ Ok output → IsMadeOf has lines output
-made_by has t [] output e = absurd (cc e)
-made_by has t (l ∷ ls) output e =
+party_made : (has : List ℕ → Bool) → HasTexts has → (lines : List (ℕ × List ℕ)) (output : List ℕ) → made_of has lines ≡ Ok output → IsMadeOf has lines output
+party_made has t [] output e = absurd (cc e)
+party_made has t (l ∷ ls) output e =
     let whole = went (job_of_lines has Make (l ∷ ls)) _ output e in
     let header = went (job_header_of has Make l.0 l.1) _ whole.0 whole.1 in
-    let events = went (events_for Make header.0 ls) _ whole.0 header.2 in
+    let events = went (parse_job_events Make header.0 ls) _ whole.0 header.2 in
     let count = went (steps counted 0 ls) _ events.0 events.1 in
     by_parts has l ls header.0 events.0 whole.0 output (read_is_plain has t l.0 l.1 header.0 header.1) (ok_is [] events.0 count.2)
     (ok_is (header.0, events.0) whole.0 events.2) whole.1 (ok_is (made_text whole.0.0 ls) output whole.2)
@@ -121,15 +121,15 @@ tail_lines [] h = tt
 tail_lines (l ∷ ls) h = h.2
 
 pub made_output_is_read_back : MadeOutputIsReadBack
-unfolding made_output job_of
+unfolding made_output parse_job
 made_output_is_read_back has input output t e purpose reads =
-    let lines = filled_lines 1 (lines_of input) in
-    let m = made_by has t lines output e in
+    let lines = filled_lines 1 (collect_lines input) in
+    let m = party_made has t lines output e in
     let text : made_text m.plain (drop 1 lines) ≡ ended (header_line (made m.plain) ∷ further_lines input) =
     made_is_text has m.plain m.good (drop 1 lines) in
     record {
       plain = m.plain;
       is_plain = m.read;
-      is_made = ap (job_of has purpose) (sym m.written ∙ text)
+      is_made = ap (parse_job has purpose) (sym m.written ∙ text)
           ∙ text_back has m.plain m.good purpose reads (further_lines input) (tail_lines lines (input_lines input));
     }

@@ -3,7 +3,7 @@ use Rattle.std.proofs.Common.{◌≡◌, ◌==◌, ◌||◌, ◌+◌, ℕ, Bool,
 use Rattle.std.specs.Prelude.{slice_index_or}
 use Rattle.std.specs.List.{list_any}
 use Rattle.swap_base.specs.Fault.{steps}
-use Rattle.swap_digraph.specs.Graph.{ends_in}
+use Rattle.swap_digraph.specs.Graph.{resolve_all_ends}
 use Rattle.swap_digraph.specs.declared.arc_ends.ArcEnds.{ArcEnds}
 use Rattle.swap_job.specs.Resolved.{move_arc}
 use Rattle.swap_job.specs.declared.job.Role.{Role}
@@ -20,7 +20,7 @@ use Rattle.read_back.proofs.Steps.{step}
 adjacent_anywhere : (arcs : List ArcEnds) (line other p a : ℕ) (u : Unit {0}) → adjacent arcs line p a ≡ Ok u → adjacent arcs other p a ≡ Ok tt
 unfolding adjacent
 adjacent_anywhere arcs line other p a u e =
-    let near = (passed ((p == (ends_in arcs a).from) || (p == (ends_in arcs a).to)) tt u (NotAdjacent line) e).0 in
+    let near = (passed ((p == (resolve_all_ends arcs a).from) || (p == (resolve_all_ends arcs a).to)) tt u (NotAdjacent line) e).0 in
     ap (λ (b : Bool). cond b (Ok tt) (Err (NotAdjacent other))) near
 
 others_anywhere : (line other : ℕ) (b : Bool) (u : Unit {0}) → deviating line b ≡ Ok u → deviating other b ≡ Ok tt

@@ -13,7 +13,7 @@ use Rattle.swap_digraph.specs.Deal.{locks}
 use Rattle.swap_digraph.specs.declared.deal.Deal.{Deal}
 use Rattle.swap_digraph.specs.declared.deal.Mode.{Mode}
 use Rattle.swap_digraph.specs.declared.deal.Mode.TheVariants.{Timelocks, Hashkeys}
-use Rattle.hash_signature.specs.Signature.{public_key_of}
+use Rattle.hash_signature.specs.Signature.{derive_public_key}
 use Rattle.party_wallet.specs.Fits.{wrong_lock}
 use Rattle.party_machine.proofs.Digests.{digest_below}
 use Rattle.swap_job.specs.Roles.{is_conforming}
@@ -27,7 +27,7 @@ use Rattle.proposed_deal.specs.Proposed.{HaveSeeds, IsProposed}
 use Rattle.offer_header.specs.Names.{is_name}
 use Rattle.offer_header.specs.Scripts.{roles_placed}
 use Rattle.offer_text.specs.HeaderLine.{is_make}
-use Rattle.swap_gen.specs.Made.{all_keys, hashlock_from, keys_from, made_deal, seed_in}
+use Rattle.swap_gen.specs.Made.{all_keys, hashlock_from, seed_keys, made_deal, read_seed}
 use Rattle.swap_gen.specs.Owned.{OwnsKeys}
 use Rattle.swap_gen.proofs.Accepting.{made_is_accepted}
 use Rattle.swap_gen.proofs.Owning.{made_is_owned}
@@ -59,20 +59,20 @@ pub record IsPlainJob (has : List ℕ → Bool) (job : Job) : Type 0 where
 pub hash_is : (m : List ℕ) → IsDigest (sha256 m)
 hash_is m = record { size = length-sha256 m; bytes = digest_below m }
 
-key_is : (seed : List ℕ) (party lock : ℕ) → IsDigest (public_key_of seed party lock)
-unfolding public_key_of
+key_is : (seed : List ℕ) (party lock : ℕ) → IsDigest (derive_public_key seed party lock)
+unfolding derive_public_key
 key_is seed party lock = hash_is _
 
-row_is : (seeds : List (Option (List ℕ))) (d : Deal) (p : ℕ) → All IsDigest (keys_from seeds d p)
-row_is seeds d p = All-map IsDigest (public_key_of (seed_in seeds p) p) (locks d) (λ i e lt. key_is (seed_in seeds p) p _)
+row_is : (seeds : List (Option (List ℕ))) (d : Deal) (p : ℕ) → All IsDigest (seed_keys seeds d p)
+row_is seeds d p = All-map IsDigest (derive_public_key (read_seed seeds p) p) (locks d) (λ i e lt. key_is (read_seed seeds p) p _)
 
 keys_are : (m : Mode) (seeds : List (Option (List ℕ))) (d : Deal) → All (All IsDigest) (all_keys m seeds d)
 keys_are Timelocks seeds d = All-nil (All IsDigest)
-keys_are Hashkeys seeds d = All-map (All IsDigest) (keys_from seeds d) (range_with_len 0 d.graph.n) (λ p e lt. row_is seeds d _)
+keys_are Hashkeys seeds d = All-map (All IsDigest) (seed_keys seeds d) (range_with_len 0 d.graph.n) (λ p e lt. row_is seeds d _)
 
 -- ---- seeds are there, and fit
 
-none_given : {A B : Type 0} (f : A → Option B) (xs : List A) → ((x : A) → IsIn x xs → f x ≡ None) → first_of f xs ≡ None
+pub none_given : {A B : Type 0} (f : A → Option B) (xs : List A) → ((x : A) → IsIn x xs → f x ≡ None) → first_of f xs ≡ None
 none_given f [] h = refl
 none_given f (x ∷ xs) h = rw (h x (inl refl)) (none_given f xs (λ y i. h y (inr i)))
 

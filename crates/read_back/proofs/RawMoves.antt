@@ -12,10 +12,11 @@ use Rattle.hash_signature.specs.declared.sig.Sig.{Sig}
 use Rattle.hashkey_path.specs.declared.hashkey.Hashkey.{Hashkey}
 use Rattle.swap_job.specs.declared.moves.Move.{Move}
 use Rattle.swap_job.specs.declared.moves.Move.TheVariants.{Publish, Craft, Replay, Raw, Claim, Refund, Transfer, Wait}
-use Rattle.offer_fields.specs.Fields.{array_at, each, kind, list_at, member_text_of, needed, no_unknown, number_at, object_at, only, present}
+use Rattle.offer_fields.specs.Fields.{read_array_field, each, kind, list_at, member_text_of, needed, no_unknown, number_at, object_at, only, present}
 use Rattle.offer_fields.specs.Fields.{optional_number, optional_number_at, text_at}
 use Rattle.offer_moves.specs.Reading.{claim_at, craft_at, craft_fields, crafting_at, key_at, kind_at, kind_of, move_at, optional_texts, optional_texts_at}
-use Rattle.offer_moves.specs.Reading.{publish_at, publish_fields, raw_at, raw_fields, refund_at, replay_at, rest_at, scripted_at, terms_at, texts_at, texts_of}
+use Rattle.offer_moves.specs.Reading.{publish_at, publish_fields, raw_at, raw_fields, refund_at, replay_at, rest_at, scripted_at, terms_at, texts_at}
+use Rattle.offer_moves.specs.Reading.{list_texts}
 use Rattle.offer_moves.specs.Reading.{transfer_at, wait_at}
 use Rattle.offer_moves.specs.declared.raw.MoveKind.{MoveKind}
 use Rattle.offer_moves.specs.declared.raw.MoveKind.TheVariants as kinds
@@ -30,8 +31,8 @@ use Rattle.read_back.proofs.Steps.{items_back, step}
 use Rattle.read_back.proofs.Members.{all_found, all_known, also, with_fields}
 
 -- the name of party p
-abbrev pub name_of : List (List ℕ) → ℕ → List ℕ
-name_of names p = slice_index_or names p []
+abbrev pub party_label : List (List ℕ) → ℕ → List ℕ
+party_label names p = slice_index_or names p []
 
 -- the digits of a signature
 abbrev pub digits_of : Sig → List ℕ
@@ -41,12 +42,12 @@ abbrev pub raw_key : List (List ℕ) → Hashkey → RawKey
 raw_key names key = record {
   lock = key.lock;
   secret = encode_lower key.secret;
-  path = map (name_of names) key.path;
+  path = map (party_label names) key.path;
   sigs = map digits_of key.sigs;
 }
 
 abbrev pub raw_craft : List (List ℕ) → ℕ → List ℕ → Option ℕ → RawCraft
-raw_craft names lock via onto = record { lock = lock; via = map (name_of names) via; onto = onto }
+raw_craft names lock via onto = record { lock = lock; via = map (party_label names) via; onto = onto }
 
 abbrev pub raw_terms : (start delta bound timelock amount : Option ℕ) → Option (List (List ℕ)) → RawTerms
 raw_terms start delta bound timelock amount locks = record {
@@ -66,7 +67,7 @@ raw_move names (Replay arc lock onto) = raws.Replay arc lock onto
 raw_move names (Raw arc key) = raws.Raw arc (raw_key names key)
 raw_move names (Claim arc) = raws.Claim arc
 raw_move names (Refund arc) = raws.Refund arc
-raw_move names (Transfer arc to units) = raws.Transfer arc (name_of names to) units
+raw_move names (Transfer arc to units) = raws.Transfer arc (party_label names to) units
 raw_move names (Wait arc height) = raws.Wait arc height
 
 -- ---- a move by its parts
@@ -98,9 +99,9 @@ unfolding move_data object_at kind_at text_at needed number_at refund_at only
 refund_back line names arc = scripted line _ kinds.Refund arc (raws.Refund arc) refl refl refl refl
 
 transfer_back : (line : ℕ) (names : List (List ℕ)) (arc to units : ℕ)
-    → scripted_at line (move_data names (Transfer arc to units)) ≡ Ok (raws.Transfer arc (name_of names to) units)
+    → scripted_at line (move_data names (Transfer arc to units)) ≡ Ok (raws.Transfer arc (party_label names to) units)
 unfolding move_data object_at kind_at text_at needed number_at transfer_at only
-transfer_back line names arc to units = scripted line _ kinds.Transfer arc (raws.Transfer arc (name_of names to) units) refl refl refl refl
+transfer_back line names arc to units = scripted line _ kinds.Transfer arc (raws.Transfer arc (party_label names to) units) refl refl refl refl
 
 wait_back : (line : ℕ) (names : List (List ℕ)) (arc height : ℕ) → scripted_at line (move_data names (Wait arc height)) ≡ Ok (raws.Wait arc height)
 unfolding move_data object_at kind_at text_at needed number_at wait_at only
@@ -112,10 +113,10 @@ abbrev craft_data : List (List ℕ) → ℕ → ℕ → List ℕ → Option ℕ 
 craft_data names arc lock via onto = move_data names (Craft arc lock via onto)
 
 via_is : (line : ℕ) (names : List (List ℕ)) (arc lock : ℕ) (via : List ℕ) (onto : Option ℕ)
-    → texts_at line (codes "via") (craft_data names arc lock via onto) ≡ Ok (map (name_of names) via)
-unfolding move_data texts_at list_at array_at needed
-via_is line names arc lock via None = texts_back line (codes "via") (name_of names) via
-via_is line names arc lock via (Some n) = texts_back line (codes "via") (name_of names) via
+    → texts_at line (codes "via") (craft_data names arc lock via onto) ≡ Ok (map (party_label names) via)
+unfolding move_data texts_at list_at read_array_field needed
+via_is line names arc lock via None = texts_back line (codes "via") (party_label names) via
+via_is line names arc lock via (Some n) = texts_back line (codes "via") (party_label names) via
 
 craft_lock_is : (line : ℕ) (names : List (List ℕ)) (arc lock : ℕ) (via : List ℕ) (onto : Option ℕ)
     → number_at line (codes "lock") (craft_data names arc lock via onto) ≡ Ok lock
@@ -140,7 +141,7 @@ crafting_back : (line : ℕ) (names : List (List ℕ)) (arc lock : ℕ) (via : L
 unfolding crafting_at
 crafting_back line names arc lock via onto =
     step _ lock _ (craft_lock_is line names arc lock via onto)
-    ∙ step _ (map (name_of names) via) _ (via_is line names arc lock via onto)
+    ∙ step _ (map (party_label names) via) _ (via_is line names arc lock via onto)
     ∙ step _ onto _ (craft_onto_is line names arc lock via onto)
 
 craft_rest : (line : ℕ) (names : List (List ℕ)) (arc lock : ℕ) (via : List ℕ) (onto : Option ℕ)
@@ -163,13 +164,13 @@ abbrev raw_data : List (List ℕ) → ℕ → Hashkey → Data
 raw_data names arc key = move_data names (Raw arc key)
 
 path_is : (line : ℕ) (names : List (List ℕ)) (arc : ℕ) (key : Hashkey)
-    → texts_at line (codes "path") (raw_data names arc key) ≡ Ok (map (name_of names) key.path)
-unfolding move_data texts_at list_at array_at needed
-path_is line names arc key = texts_back line (codes "path") (name_of names) key.path
+    → texts_at line (codes "path") (raw_data names arc key) ≡ Ok (map (party_label names) key.path)
+unfolding move_data texts_at list_at read_array_field needed
+path_is line names arc key = texts_back line (codes "path") (party_label names) key.path
 
 sigs_are : (line : ℕ) (names : List (List ℕ)) (arc : ℕ) (key : Hashkey)
     → texts_at line (codes "sigs") (raw_data names arc key) ≡ Ok (map digits_of key.sigs)
-unfolding move_data texts_at list_at array_at needed
+unfolding move_data texts_at list_at read_array_field needed
 sigs_are line names arc key = texts_back line (codes "sigs") digits_of key.sigs
 
 key_lock_is : (line : ℕ) (names : List (List ℕ)) (arc : ℕ) (key : Hashkey) → number_at line (codes "lock") (raw_data names arc key) ≡ Ok key.lock
@@ -186,7 +187,7 @@ unfolding key_at
 key_back line names arc key =
     step _ key.lock _ (key_lock_is line names arc key)
     ∙ step _ (encode_lower key.secret) _ (secret_is line names arc key)
-    ∙ step _ (map (name_of names) key.path) _ (path_is line names arc key)
+    ∙ step _ (map (party_label names) key.path) _ (path_is line names arc key)
     ∙ step _ (map digits_of key.sigs) _ (sigs_are line names arc key)
 
 raw_only : (line : ℕ) (names : List (List ℕ)) (arc : ℕ) (key : Hashkey) → only line raw_fields (raw_data names arc key) ≡ Ok tt
@@ -222,7 +223,7 @@ number_there line field (Some n) = refl
 
 locks_there : (line : ℕ) (field : List ℕ) (o : Option (List (List ℕ)))
     → optional_texts line field (or_else (option_map (list_data digest_data) o) None) ≡ Ok (option_map (map encode_lower) o)
-unfolding texts_of
+unfolding list_texts
 locks_there line field None = refl
 locks_there line field (Some ds) = step _ (map encode_lower ds) _ (texts_back line field encode_lower ds)
 

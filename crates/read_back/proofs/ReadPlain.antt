@@ -5,7 +5,7 @@ use Rattle.std.specs.Prelude.{All}
 use Rattle.std.proofs.lemmas.List.{length-map}
 use Rattle.std.proofs.lemmas.List.Elements.{All-map}
 use Rattle.swap_digraph.specs.Value.{Graph}
-use Rattle.swap_digraph.specs.Deal.{most_parties, path_limit_of}
+use Rattle.swap_digraph.specs.Deal.{most_parties, version_path_limit}
 use Rattle.swap_digraph.specs.declared.deal.Version.{Version}
 use Rattle.swap_job.specs.Roles.{IsHeld}
 use Rattle.swap_job.specs.declared.job.Job.{Job}
@@ -13,14 +13,15 @@ use Rattle.swap_job.specs.declared.job.Purpose.{Purpose}
 use Rattle.swap_job.specs.declared.job.Purpose.TheVariants.{Make}
 use Rattle.swap_job.specs.declared.job.Role.{Role}
 use Rattle.swap_job.specs.declared.job.Role.TheVariants as kinds
-use Rattle.offer_fields.specs.Fields.{object_of}
+use Rattle.offer_fields.specs.Fields.{parse_data}
 use Rattle.offer_fields.specs.Limits.{within}
 use Rattle.offer_fields.specs.Lists.{each_of}
 use Rattle.offer_fields.proofs.Chains.{each_all, each_length, went}
-use Rattle.offer_moves.specs.Moves.{move_of}
+use Rattle.offer_moves.specs.Moves.{parse_move}
 use Rattle.offer_moves.specs.declared.moves.Sizes.{Sizes}
-use Rattle.offer_header.specs.Header.{header_of, IsHeaderWithin}
-use Rattle.offer_header.specs.Limits.{acting_of, arc_ends, limited_of, parties_of, checked_role, script_role, checked_seed, seed_or_none, sizes_in, HoldsEach}
+use Rattle.offer_header.specs.Header.{parse_whole_header, IsHeaderWithin}
+use Rattle.offer_header.specs.Limits.{parse_acting, arc_ends, limited_of, count_parties, checked_role, script_role, checked_seed, seed_or_none}
+use Rattle.offer_header.specs.Limits.{header_sizes, HoldsEach}
 use Rattle.offer_header.specs.Names.{numbered_of, IsNumbered}
 use Rattle.offer_header.specs.Raw.{raw_of}
 use Rattle.offer_header.specs.Scripts.{roles_placed, scripts_placed}
@@ -32,20 +33,20 @@ use Rattle.offer_header.specs.declared.raw.RawActor.TheVariants.{Conforming, Man
 use Rattle.offer_header.specs.declared.raw.RawHeader.{RawHeader}
 use Rattle.offer_header.specs.declared.raw.RawParty.{RawParty}
 use Rattle.offer_header.proofs.Held.{are_held}
-use Rattle.offer_header.proofs.Limited.{is_within, opened, Opened}
+use Rattle.offer_header.proofs.Limited.{set_contains_ends, opened, Opened}
 use Rattle.offer_header.proofs.Numbered.{is_numbered}
-use Rattle.offer_fields.specs.Limits.{digest_of}
+use Rattle.offer_fields.specs.Limits.{to_digest}
 use Rattle.offer_fields.proofs.Ranges.{within_ok}
 use Rattle.proposed_deal.specs.Proposed.{IsProposed}
-use Rattle.swap_offer.specs.Checks.{admitted, deal_with, digraph_in, job_with, IsAcceptedFor}
-use Rattle.swap_offer.specs.Job.{accepted_of, job_header_of, provided}
+use Rattle.swap_offer.specs.Checks.{admitted, header_deal, header_digraph, assemble_job, IsAcceptedFor}
+use Rattle.swap_offer.specs.Job.{accepted_entries, job_header_of, provided}
 use Rattle.swap_offer.specs.Wallets.{seeded, walleted, HaveSeedsFor}
 use Rattle.swap_offer.proofs.Admitted.{admitted_is_accepted}
 use Rattle.swap_offer.proofs.Seeds.{seeds_on}
 use Rattle.read_back.proofs.Onward.{landed, onward}
 use Rattle.read_back.proofs.Showable.{admitted_graph, digest_is, good_names, raw_fits, IsFit, IsGood}
 use Rattle.read_back.specs.Made.{HasTexts}
-use Rattle.read_back.proofs.MoveLimits.{move_in, IsLimited, IsSmall}
+use Rattle.read_back.proofs.MoveLimits.{read_move, IsLimited, IsSmall}
 use Rattle.read_back.proofs.Placed.{placed_anywhere}
 use Rattle.read_back.proofs.Plain.{IsPlainJob}
 use Rattle.read_back.proofs.Told.{few_arcs, IsToldRole, MayBeDigest}
@@ -63,7 +64,7 @@ IsActingIn s n a = IsScriptIn s n a.role × MayBeDigest a.seed
 seed_is : (line : ℕ) (o seed : Option (List ℕ)) → seed_or_none line o ≡ Ok seed → MayBeDigest seed
 seed_is line None = landed None MayBeDigest tt
 seed_is line (Some text) =
-    onward (digest_of line (codes "seed") text) _ MayBeDigest (λ seed e. landed (Some seed) MayBeDigest (digest_is line (codes "seed") text seed e))
+    onward (to_digest line (codes "seed") text) _ MayBeDigest (λ seed e. landed (Some seed) MayBeDigest (digest_is line (codes "seed") text seed e))
 
 module _ (s : Sizes) (small : IsSmall s) (names : List (List ℕ)) (line : ℕ) where
   role_is : (actor : RawActor) (role : Role) → checked_role s names line actor ≡ Ok role → IsScriptIn s (length names) role
@@ -72,34 +73,34 @@ module _ (s : Sizes) (small : IsSmall s) (names : List (List ℕ)) (line : ℕ) 
   role_is Manual = landed kinds.Manual (IsScriptIn s (length names)) tt
   role_is (Script raws) =
       onward (within line (codes "script") 0 1000 (length raws)) _ (IsScriptIn s (length names)) (λ u w.
-      onward (each_of (move_of s names line) raws) _ (IsScriptIn s (length names)) (λ moves e.
-      let size : length moves ≡ length raws = each_length (move_of s names line) raws moves e in
+      onward (each_of (parse_move s names line) raws) _ (IsScriptIn s (length names)) (λ moves e.
+      let size : length moves ≡ length raws = each_length (parse_move s names line) raws moves e in
       let few = (within_ok line (codes "script") 0 1000 (length raws) u w).1 in
       landed (kinds.Script moves) (IsScriptIn s (length names)) (
         omega (arith, size, few),
-        each_all (IsLimited s (length names)) (move_of s names line) (move_in s small names line) raws moves e,
+        each_all (IsLimited s (length names)) (parse_move s names line) (read_move s small names line) raws moves e,
       )))
   role_is (Strategy name) = landed (kinds.Strategy name) (IsScriptIn s (length names)) tt
 
-  acting_is : (p : RawParty) (a : Acting) → acting_of s names line p ≡ Ok a → IsActingIn s (length names) a
-  unfolding acting_of checked_seed
+  acting_is : (p : RawParty) (a : Acting) → parse_acting s names line p ≡ Ok a → IsActingIn s (length names) a
+  unfolding parse_acting checked_seed
   acting_is p =
       onward (checked_role s names line p.actor) _ (IsActingIn s (length names)) (λ role r.
       onward (seed_or_none line p.seed) _ (IsActingIn s (length names)) (λ seed e.
       landed (record { role = role; seed = seed }) (IsActingIn s (length names)) (role_is p.actor role r, seed_is line p.seed seed e)))
 
-  all_acting : (v : Version) (ps : List RawParty) (acting : List Acting) → parties_of v s names line ps ≡ Ok acting
+  all_acting : (v : Version) (ps : List RawParty) (acting : List Acting) → count_parties v s names line ps ≡ Ok acting
       → All (IsActingIn s (length names)) acting
-  unfolding parties_of
+  unfolding count_parties
   all_acting v ps =
       onward (within line (codes "parties") 2 (most_parties v) (length ps)) _ (All (IsActingIn s (length names))) (λ u w acting e.
-      each_all (IsActingIn s (length names)) (acting_of s names line) acting_is ps acting e)
+      each_all (IsActingIn s (length names)) (parse_acting s names line) acting_is ps acting e)
 
 -- ---- the header
 
 -- what the moves of a header's scripts may name
 abbrev sizes_of_header : Header → Sizes
-sizes_of_header h = record { arcs = length h.arcs; locks = length h.leaders; path = path_limit_of h.version }
+sizes_of_header h = record { arcs = length h.arcs; locks = length h.leaders; path = version_path_limit h.version }
 
 -- What is known of a header that is read for making.
 record IsReadToMake (has : List ℕ → Bool) (h : Header) : Type 0 where
@@ -111,9 +112,9 @@ record IsReadToMake (has : List ℕ → Bool) (h : Header) : Type 0 where
   held : HoldsEach has h.roles
   placed : (line : ℕ) → roles_placed h.arcs h.conforming line 0 h.roles ≡ Ok tt
 
-sizes_are : (line : ℕ) (raw : RawHeader) (n : Numbered) (h : Header) → IsNumbered raw n → Opened line Make raw n h → sizes_in raw ≡ sizes_of_header h
+sizes_are : (line : ℕ) (raw : RawHeader) (n : Numbered) (h : Header) → IsNumbered raw n → Opened line Make raw n h → header_sizes raw ≡ sizes_of_header h
 sizes_are line raw n h k o =
-    ap₂ (λ (a l : ℕ). let s : Sizes = record { arcs = a; locks = l; path = path_limit_of raw.version } in s)
+    ap₂ (λ (a l : ℕ). let s : Sizes = record { arcs = a; locks = l; path = version_path_limit raw.version } in s)
     (sym k.arcs ∙ sym (length-map n.arcs arc_ends)) (sym k.leaders)
     ∙ ap (λ (x : Header). sizes_of_header x) o.same
 
@@ -123,10 +124,10 @@ unfolding scripts_placed
 limited_is has line raw n h u fit m l s =
     let numbered = is_numbered has line raw n m in
     let o = opened line Make raw n h l in
-    let within = is_within line Make raw n h numbered fit.0 fit.1 l in
-    let sizes : sizes_in raw ≡ sizes_of_header h = sizes_are line raw n h numbered o in
+    let within = set_contains_ends line Make raw n h numbered fit.0 fit.1 l in
+    let sizes : header_sizes raw ≡ sizes_of_header h = sizes_are line raw n h numbered o in
     let small : IsSmall (sizes_of_header h) = record { arcs = few_arcs h.version (length h.arcs) within.arcs.1; locks = within.leaders.1 } in
-    let acting = all_acting (sizes_in raw) (subst IsSmall (sym sizes) small) n.names line raw.version raw.parties o.acting o.acting_are in
+    let acting = all_acting (header_sizes raw) (subst IsSmall (sym sizes) small) n.names line raw.version raw.parties o.acting o.acting_are in
     let names : n.names ≡ h.names = ap (λ (x : Header). x.names) o.same in
     record {
       purpose = ap (λ (x : Header). x.purpose) (sym o.same);
@@ -135,16 +136,16 @@ limited_is has line raw n h u fit m l s =
       digests = subst (All MayBeDigest) (ap (λ (x : Header). x.seeds) o.same)
           (All-map MayBeDigest (λ (a : Acting). a.seed) o.acting (λ i e lt. (acting i e lt).1));
       scripts = subst (λ (z : Sizes). All (IsScriptIn z (length h.names)) h.roles) sizes
-          (subst (λ (x : Header). All (IsScriptIn (sizes_in raw) (length x.names)) x.roles) o.same
-          (All-map (IsScriptIn (sizes_in raw) (length n.names)) (λ (a : Acting). a.role) o.acting (λ i e lt. (acting i e lt).0)));
+          (subst (λ (x : Header). All (IsScriptIn (header_sizes raw) (length x.names)) x.roles) o.same
+          (All-map (IsScriptIn (header_sizes raw) (length n.names)) (λ (a : Acting). a.role) o.acting (λ i e lt. (acting i e lt).0)));
       held = are_held has line Make raw n h m l;
       placed = placed_anywhere h.arcs h.conforming line 0 h.roles u s;
     }
 
-header_is : (has : List ℕ → Bool) (line : ℕ) (text : List ℕ) (h : Header) → header_of has Make line text ≡ Ok h → IsReadToMake has h
-unfolding header_of
+header_is : (has : List ℕ → Bool) (line : ℕ) (text : List ℕ) (h : Header) → parse_whole_header has Make line text ≡ Ok h → IsReadToMake has h
+unfolding parse_whole_header
 header_is has line text =
-    onward (object_of line text) _ (IsReadToMake has) (λ d o.
+    onward (parse_data line text) _ (IsReadToMake has) (λ d o.
     onward (raw_of Make line d) _ (IsReadToMake has) (λ raw r.
     onward (numbered_of has line raw) _ (IsReadToMake has) (λ n m.
     onward (limited_of Make line raw n) _ (IsReadToMake has) (λ h l.
@@ -159,13 +160,13 @@ role_said has s n texts kinds.Manual k h = tt
 role_said has s n texts (kinds.Script moves) k h = k
 role_said has s n texts (kinds.Strategy name) k h = (h, texts name h)
 
-module _ (has : List ℕ → Bool) (texts : HasTexts has) (h : Header) (k : IsReadToMake has h) (made : admitted h ≡ Ok (digraph_in h)) where
+module _ (has : List ℕ → Bool) (texts : HasTexts has) (h : Header) (k : IsReadToMake has h) (made : admitted h ≡ Ok (header_digraph h)) where
   abbrev job : Job
-  job = job_with h (digraph_in h)
+  job = assemble_job h (header_digraph h)
 
-  is_proposed : IsProposed (deal_with h (digraph_in h))
+  is_proposed : IsProposed (header_deal h (header_digraph h))
   is_proposed =
-      subst (λ (p : Purpose). IsAcceptedFor p (deal_with h (digraph_in h))) k.purpose ((admitted_is_accepted h k.within).0 made)
+      subst (λ (p : Purpose). IsAcceptedFor p (header_deal h (header_digraph h))) k.purpose ((admitted_is_accepted h k.within).0 made)
 
   all_said : All (IsToldRole has (sizes_of_header h) (length h.names)) h.roles
   all_said i d lt = role_said has (sizes_of_header h) (length h.names) texts _ (k.scripts i d lt) (k.held i d lt)
@@ -190,21 +191,21 @@ module _ (has : List ℕ → Bool) (texts : HasTexts has) (h : Header) (k : IsRe
   is_plain_job u p = let first = went (seeded job) (λ v. walleted job) u p in plain_with first.0 first.1
 
 plain_by : (has : List ℕ → Bool) → HasTexts has → (h : Header) → IsReadToMake has h → (g : Graph) → admitted h ≡ Ok g → (u : Unit {0})
-    → provided (job_with h g) ≡ Ok u → IsPlainJob has (job_with h g)
+    → provided (assemble_job h g) ≡ Ok u → IsPlainJob has (assemble_job h g)
 plain_by has texts h k g a u p =
-    let same : digraph_in h ≡ g = admitted_graph h g a in
-    subst (λ (x : Graph). IsPlainJob has (job_with h x)) same
+    let same : header_digraph h ≡ g = admitted_graph h g a in
+    subst (λ (x : Graph). IsPlainJob has (assemble_job h x)) same
     (is_plain_job has texts h k (subst (λ (x : Graph). admitted h ≡ Ok x) (sym same) a) u
-    (subst (λ (x : Graph). provided (job_with h x) ≡ Ok u) (sym same) p))
+    (subst (λ (x : Graph). provided (assemble_job h x) ≡ Ok u) (sym same) p))
 
-accepted_is : (has : List ℕ → Bool) → HasTexts has → (h : Header) → IsReadToMake has h → (job : Job) → accepted_of h ≡ Ok job → IsPlainJob has job
-unfolding accepted_of
+accepted_is : (has : List ℕ → Bool) → HasTexts has → (h : Header) → IsReadToMake has h → (job : Job) → accepted_entries h ≡ Ok job → IsPlainJob has job
+unfolding accepted_entries
 accepted_is has texts h k =
     onward (admitted h) _ (IsPlainJob has) (λ g a.
-    onward (provided (job_with h g)) _ (IsPlainJob has) (λ u p. landed (job_with h g) (IsPlainJob has) (plain_by has texts h k g a u p)))
+    onward (provided (assemble_job h g)) _ (IsPlainJob has) (λ u p. landed (assemble_job h g) (IsPlainJob has) (plain_by has texts h k g a u p)))
 
 pub read_is_plain : (has : List ℕ → Bool) → HasTexts has → (line : ℕ) (text : List ℕ) (job : Job) → job_header_of has Make line text ≡ Ok job
     → IsPlainJob has job
 unfolding job_header_of
 read_is_plain has texts line text =
-    onward (header_of has Make line text) _ (IsPlainJob has) (λ h e. accepted_is has texts h (header_is has line text h e))
+    onward (parse_whole_header has Make line text) _ (IsPlainJob has) (λ h e. accepted_is has texts h (header_is has line text h e))

@@ -7,7 +7,7 @@ use Rattle.swap_run.specs.Asked.{is_strategy, with_answers, Answers}
 use Rattle.swap_run.specs.Fair.{finish}
 use Rattle.swap_run.specs.Run.{run, start, Cast, State}
 use Rattle.swap_run.proofs.Asked.{finishes_without_strategies, runs_without_strategies}
-use Rattle.swap_world.specs.Cast.{cast_of}
+use Rattle.swap_world.specs.Cast.{job_cast}
 use Rattle.swap_gen.specs.Drawn.{plain_job}
 use Rattle.swap_gen.specs.Events.{generated_events}
 use Rattle.made_jobs.specs.Generating.{generated_book}
@@ -19,7 +19,7 @@ none_asks (suc n) = none_asks n
 
 module _ (answers : Answers) (seed parties events : ℕ) where
   abbrev cast : Cast
-  cast = cast_of (told_job Run (plain_job seed parties))
+  cast = job_cast (told_job Run (plain_job seed parties))
 
   nobody_asks : list_any is_strategy cast.roles ≡ false
   unfolding plain_job

@@ -8,14 +8,14 @@ use Rattle.std.proofs.lemmas.Iterator.Adapters.{position_from-zero}
 use Rattle.swap_base.specs.Lists.{IsIn}
 use Rattle.hashkey_path.proofs.Validity.{bytes_eq-true, bytes_eq_self}
 use Rattle.swap_digraph.specs.declared.arc_ends.ArcEnds.{ArcEnds}
-use Rattle.swap_digraph.specs.Graph.{ends_in, is_among}
-use Rattle.swap_digraph.proofs.Paths.{in-is_among}
+use Rattle.swap_digraph.specs.Graph.{resolve_all_ends, is_listed}
+use Rattle.swap_digraph.proofs.Paths.{in-is_listed}
 use Rattle.offer_fields.specs.Names.{found, party_of_name}
 use Rattle.offer_header.specs.Names.{is_name}
 use Rattle.swap_clear.specs.declared.answer.Group.{Group}
 use Rattle.swap_clear.specs.declared.proposed.Proposed.{Proposed}
 use Rattle.swap_clear.specs.Groups.{place}
-use Rattle.swap_clear.specs.Proposals.{ends_of}
+use Rattle.swap_clear.specs.Proposals.{resolve_arc_ends}
 use Rattle.swap_clear.specs.Led.{own, own_leaders, IsLed}
 use Rattle.swap_clear.specs.Ready.{own_amounts, IsReady}
 use Rattle.swap_clear.specs.Together.{IsGroup}
@@ -37,12 +37,13 @@ pub record IsClear (w : Wishes) (group : Group) : Type 0 where
   pub led : IsLed (wished_graph w) group
   pub ready : IsReady (own (wished_graph w) group) (own_leaders group) w.start w.delta group.bound (own_amounts w.arcs group)
 
-not_true : (t : Bool) → (t ≡ true → ⊥) → t ≡ false
+pub not_true : (t : Bool) → (t ≡ true → ⊥) → t ≡ false
 not_true true h = absurd (h refl)
 not_true false h = refl
 
 -- the ends of an arc of the digraph are those of the proposal; past the last stand no ends
-pub ends_are : (arcs : List Proposed) (a : ℕ) → ends_in (map ends_of arcs) a ≡ ends_of (get_or arcs a (record { from = 0; to = 0; amount = 0 }))
+pub ends_are : (arcs : List Proposed) (a : ℕ)
+    → resolve_all_ends (map resolve_arc_ends arcs) a ≡ resolve_arc_ends (get_or arcs a (record { from = 0; to = 0; amount = 0 }))
 ends_are [] a = refl
 ends_are (p ∷ arcs) zero = refl
 ends_are (p ∷ arcs) (suc a) = ends_are arcs a
@@ -51,17 +52,17 @@ module _ (w : Wishes) (group : Group) (k : IsClear w group) (line : ℕ) where
   -- ---- parties
 
   pub is_party : (p : ℕ) → IsIn p group.parties → p < length w.names
-  is_party p i = k.one.parties p (in-is_among p group.parties i)
+  is_party p i = k.one.parties p (in-is_listed p group.parties i)
 
-  pub from_in : (a : ℕ) → IsIn a group.arcs → is_among (proposal w.arcs a).from group.parties ≡ true
+  pub from_in : (a : ℕ) → IsIn a group.arcs → is_listed (proposal w.arcs a).from group.parties ≡ true
   from_in a i =
-      let among = in-is_among a group.arcs i in
-      subst (λ (e : ArcEnds). is_among e.from group.parties ≡ true) (ends_are w.arcs a) ((k.one.arcs a (k.one.arc a among)).0 among).0
+      let among = in-is_listed a group.arcs i in
+      subst (λ (e : ArcEnds). is_listed e.from group.parties ≡ true) (ends_are w.arcs a) ((k.one.arcs a (k.one.arc a among)).0 among).0
 
-  pub to_in : (a : ℕ) → IsIn a group.arcs → is_among (proposal w.arcs a).to group.parties ≡ true
+  pub to_in : (a : ℕ) → IsIn a group.arcs → is_listed (proposal w.arcs a).to group.parties ≡ true
   to_in a i =
-      let among = in-is_among a group.arcs i in
-      subst (λ (e : ArcEnds). is_among e.to group.parties ≡ true) (ends_are w.arcs a) ((k.one.arcs a (k.one.arc a among)).0 among).1
+      let among = in-is_listed a group.arcs i in
+      subst (λ (e : ArcEnds). is_listed e.to group.parties ≡ true) (ends_are w.arcs a) ((k.one.arcs a (k.one.arc a among)).0 among).1
 
   -- ---- names
 
@@ -78,7 +79,7 @@ module _ (w : Wishes) (group : Group) (k : IsClear w group) (line : ℕ) where
   same_name p q lp lq = by_test p q lp lq (q == p) refl
 
   -- a name stands for the place of its party in the group
-  pub number_back : (p : ℕ) → p < length w.names → is_among p group.parties ≡ true
+  pub number_back : (p : ℕ) → p < length w.names → is_listed p group.parties ≡ true
       → party_of_name line (map (wished_name w) group.parties) (wished_name w p) ≡ Ok (place group.parties p)
   unfolding party_of_name
   number_back p lt among =
@@ -88,6 +89,6 @@ module _ (w : Wishes) (group : Group) (k : IsClear w group) (line : ℕ) where
       ∙ position_is (λ q. q == p) group.parties among)
 
   -- parties at one place are the same
-  pub place_apart : (u v : ℕ) → is_among u group.parties ≡ true → is_among v group.parties ≡ true → place group.parties u ≡ place group.parties v → u ≡ v
+  pub place_apart : (u v : ℕ) → is_listed u group.parties ≡ true → is_listed v group.parties ≡ true → place group.parties u ≡ place group.parties v → u ≡ v
   place_apart u v iu iv e =
       sym (stands group.parties u iu).is ∙ ap (λ (n : ℕ). get_or group.parties n 0) e ∙ (stands group.parties v iv).is

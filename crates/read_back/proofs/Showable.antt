@@ -12,7 +12,7 @@ use Rattle.hex.proofs.Pairs.{decode_sized-pairs}
 use Rattle.serde_json.specs.Data.{Data}
 use Rattle.swap_base.specs.Fault.{steps}
 use Rattle.swap_digraph.specs.Value.{Graph}
-use Rattle.swap_digraph.specs.Arcs.{digraph_of, first_fault, graph_or}
+use Rattle.swap_digraph.specs.Arcs.{build_digraph, first_fault, graph_or}
 use Rattle.swap_digraph.specs.declared.fault.ArcFault.{ArcFault}
 use Rattle.swap_digraph.specs.declared.deal.Mode.{Mode}
 use Rattle.swap_digraph.specs.declared.deal.Mode.TheVariants.{Timelocks, Hashkeys}
@@ -22,15 +22,16 @@ use Rattle.swap_job.specs.declared.job.Purpose.TheVariants.{Check, Run, Race, Ma
 use Rattle.refusals.specs.declared.reason.Reason.{Reason}
 use Rattle.refusals.specs.declared.reason.Reason.TheVariants.{BadName, Duplicate}
 use Rattle.swap_rules.specs.Accepted.{IsAccepted}
-use Rattle.offer_fields.specs.Fields.{list_at, number_at, object_of, only}
-use Rattle.offer_fields.specs.Limits.{decoded, digest_of, within}
+use Rattle.offer_fields.specs.Fields.{list_at, number_at, parse_data, only}
+use Rattle.offer_fields.specs.Limits.{decoded, to_digest, within}
 use Rattle.offer_fields.specs.Lists.{each_of}
 use Rattle.offer_fields.proofs.Chains.{each_all}
-use Rattle.offer_header.specs.Raw.{raw_arc_of, finish_at, header_fields, is_plain, keys_at, raw_leader_of, mode_at, party_of, raw_of, states_keys, version_at}
-use Rattle.offer_header.specs.Raw.{IsModeOf, IsUntimed}
+use Rattle.offer_header.specs.Raw.{raw_arc_of, finish_at, header_fields, is_plain, keys_at, raw_leader_of, mode_at, parse_party, raw_of, states_keys}
+use Rattle.offer_header.specs.Raw.{version_at}
+use Rattle.offer_header.specs.Raw.{IsVersionMode, IsUntimed}
 use Rattle.offer_header.specs.Names.{actor_known, named_ends, is_name, leader_step, name_added, name_step, names_stated, numbered_of}
-use Rattle.offer_header.specs.Limits.{hashlock_of, hashlocks_of, key_digest, keys_of, limited_of, party_keys_of, stated_keys_of}
-use Rattle.offer_header.specs.Header.{header_of, IsHeaderWithin}
+use Rattle.offer_header.specs.Limits.{lock_hashlock, hashlocks_of, key_digest, derived_keys, limited_of, party_keys_of, stated_keys_of}
+use Rattle.offer_header.specs.Header.{parse_whole_header, IsHeaderWithin}
 use Rattle.offer_header.specs.Scripts.{scripts_placed}
 use Rattle.offer_header.specs.declared.raw.RawHeader.{RawHeader}
 use Rattle.offer_header.specs.declared.raw.RawLeader.{RawLeader}
@@ -39,13 +40,13 @@ use Rattle.offer_header.specs.declared.raw.RawRow.{RawRow}
 use Rattle.offer_header.specs.declared.names.Numbered.{Numbered}
 use Rattle.offer_header.specs.declared.header.Header.{Header}
 use Rattle.offer_header.proofs.Allowed.{is_mode_of}
-use Rattle.offer_header.proofs.Limited.{is_within, opened}
+use Rattle.offer_header.proofs.Limited.{set_contains_ends, opened}
 use Rattle.offer_header.proofs.Numbered.{is_numbered}
 use Rattle.offer_header.proofs.Untimed.{arcs_untimed}
 use Rattle.offer_header.proofs.Walked.{steps_keep}
 use Rattle.offer_text.specs.HeaderLine.{is_make}
-use Rattle.swap_offer.specs.Checks.{admitted, by_arcs, checked, deal_with, digraph_in, graph_of, job_with, IsAcceptedUnless}
-use Rattle.swap_offer.specs.Job.{accepted_of, job_header_of, provided}
+use Rattle.swap_offer.specs.Checks.{admitted, by_arcs, checked, header_deal, header_digraph, build_graph, assemble_job, IsAcceptedUnless}
+use Rattle.swap_offer.specs.Job.{accepted_entries, job_header_of, provided}
 use Rattle.swap_offer.proofs.Admitted.{admitted_is_accepted}
 use Rattle.swap_offer.proofs.Size.{is_whole}
 use Rattle.typed_books.specs.Typed.{IsDigest}
@@ -70,19 +71,19 @@ sized_bytes n w xs e =
 pub decoded_bytes : (line : ℕ) (field : List ℕ) (n : ℕ) (w xs : List ℕ) → decoded line field (decode_sized w n) ≡ Ok xs → (length xs ≡ n) × IsBytes xs
 decoded_bytes line field n w xs e = sized_bytes n w xs (decoded_ok line field (decode_sized w n) xs e)
 
-pub digest_is : (line : ℕ) (field w xs : List ℕ) → digest_of line field w ≡ Ok xs → IsDigest xs
-unfolding digest_of
+pub digest_is : (line : ℕ) (field w xs : List ℕ) → to_digest line field w ≡ Ok xs → IsDigest xs
+unfolding to_digest
 digest_is line field w xs e = let k = decoded_bytes line field 32 w xs e in record { size = k.0; bytes = k.1 }
 
-hashlock_is : (line : ℕ) (l : RawLeader) (xs : List ℕ) → hashlock_of line l ≡ Ok xs → IsDigest xs
-unfolding hashlock_of
+hashlock_is : (line : ℕ) (l : RawLeader) (xs : List ℕ) → lock_hashlock line l ≡ Ok xs → IsDigest xs
+unfolding lock_hashlock
 hashlock_is line l xs e = digest_is line (codes "hashlock") l.hashlock xs e
 
 hashlocks_are : (line : ℕ) (leaders : List RawLeader) (hashlocks : List (List ℕ)) → hashlocks_of false line leaders ≡ Ok hashlocks → All IsDigest hashlocks
 unfolding hashlocks_of
 hashlocks_are line leaders =
     onward (within line (codes "leaders") 1 8 (length leaders)) _ (All IsDigest)
-    (λ u w hashlocks e. each_all IsDigest (hashlock_of line) (hashlock_is line) leaders hashlocks e)
+    (λ u w hashlocks e. each_all IsDigest (lock_hashlock line) (hashlock_is line) leaders hashlocks e)
 
 key_is : (line : ℕ) (w xs : List ℕ) → key_digest line w ≡ Ok xs → IsDigest xs
 unfolding key_digest
@@ -103,7 +104,7 @@ rows_are line h =
 no_rows : (keys : List (List (List ℕ))) → [] ≡ keys → All (All IsDigest) keys
 no_rows keys e = subst (All (All IsDigest)) e (All-nil (All IsDigest))
 
-keys_are : (mode : Mode) (line : ℕ) (h : RawHeader) (keys : List (List (List ℕ))) → keys_of mode false line h ≡ Ok keys → All (All IsDigest) keys
+keys_are : (mode : Mode) (line : ℕ) (h : RawHeader) (keys : List (List (List ℕ))) → derived_keys mode false line h ≡ Ok keys → All (All IsDigest) keys
 keys_are Timelocks line h keys e = no_rows keys (ok_is [] keys e)
 keys_are Hashkeys line h keys e = rows_are line h keys e
 
@@ -112,7 +113,7 @@ keys_are Hashkeys line h keys e = rows_are line h keys e
 abbrev pub IsGood : List ℕ → Type 0
 IsGood name = is_name name ≡ true
 
-two_tests : {X : Type 0} (a b : Bool) (x y : Reason) (z t : X) → cond a (cond b (Err x) (Ok z)) (Err y) ≡ Ok t → (a ≡ true) × (z ≡ t)
+pub two_tests : {X : Type 0} (a b : Bool) (x y : Reason) (z t : X) → cond a (cond b (Err x) (Ok z)) (Err y) ≡ Ok t → (a ≡ true) × (z ≡ t)
 two_tests true true x y z t h = absurd (cc h)
 two_tests true false x y z t h = (refl, ok_is z t h)
 two_tests false b x y z t h = absurd (cc h)
@@ -148,7 +149,7 @@ good_names has line raw =
 -- ---- the fields of a header
 
 abbrev pub IsFit : RawHeader → Type 0
-IsFit raw = IsModeOf raw.version raw.mode × IsUntimed raw
+IsFit raw = IsVersionMode raw.version raw.mode × IsUntimed raw
 
 pub raw_fits : (purpose : Purpose) (line : ℕ) (d : Data) (raw : RawHeader) → raw_of purpose line d ≡ Ok raw → IsFit raw
 unfolding raw_of
@@ -158,7 +159,7 @@ raw_fits purpose line d =
     onward (number_at line (codes "start") d) _ IsFit (λ start s.
     onward (number_at line (codes "delta") d) _ IsFit (λ delta t.
     onward (number_at line (codes "bound") d) _ IsFit (λ bound b.
-    onward (list_at line (codes "parties") (party_of (record { purpose = purpose; mode = mode }) line) d) _ IsFit (λ parties p.
+    onward (list_at line (codes "parties") (parse_party (record { purpose = purpose; mode = mode }) line) d) _ IsFit (λ parties p.
     onward (list_at line (codes "arcs") (raw_arc_of (record { purpose = purpose; mode = mode }) line) d) _ IsFit (λ arcs a.
     onward (list_at line (codes "leaders") (raw_leader_of (record { purpose = purpose; mode = mode }) line) d) _ IsFit (λ leaders l.
     onward (keys_at line (states_keys purpose mode) d) _ IsFit (λ keys k.
@@ -186,7 +187,7 @@ limited_is purpose line raw n h stated fit good within e =
     let o = opened line purpose raw n h e in
     let hashlocks : hashlocks_of false line raw.leaders ≡ Ok o.hashlocks =
     subst (λ (b : Bool). hashlocks_of b line raw.leaders ≡ Ok o.hashlocks) stated o.hashlocks_are in
-    let keys : keys_of raw.mode false line raw ≡ Ok o.keys = subst (λ (b : Bool). keys_of raw.mode b line raw ≡ Ok o.keys) stated o.keys_are in
+    let keys : derived_keys raw.mode false line raw ≡ Ok o.keys = subst (λ (b : Bool). derived_keys raw.mode b line raw ≡ Ok o.keys) stated o.keys_are in
     record {
       purpose_is = sym (ap (λ (x : Header). x.purpose) o.same);
       within = within h e;
@@ -196,10 +197,10 @@ limited_is purpose line raw n h stated fit good within e =
     }
 
 header_is : (has : List ℕ → Bool) (purpose : Purpose) (line : ℕ) (text : List ℕ) (h : Header) → is_plain purpose ≡ false
-    → header_of has purpose line text ≡ Ok h → IsStatedBy purpose h
-unfolding header_of
+    → parse_whole_header has purpose line text ≡ Ok h → IsStatedBy purpose h
+unfolding parse_whole_header
 header_is has purpose line text h stated =
-    onward (object_of line text) _ (IsStatedBy purpose) (λ d o.
+    onward (parse_data line text) _ (IsStatedBy purpose) (λ d o.
     onward (raw_of purpose line d) _ (IsStatedBy purpose) (λ raw r.
     onward (numbered_of has line raw) _ (IsStatedBy purpose) (λ n m.
     onward (limited_of purpose line raw n) _ (IsStatedBy purpose) (λ x l.
@@ -207,7 +208,7 @@ header_is has purpose line text h stated =
     landed x (IsStatedBy purpose)
     (let fit = raw_fits purpose line d raw r in
     limited_is purpose line raw n x stated fit (good_names has line raw n m)
-    (λ y e. is_within line purpose raw n y (is_numbered has line raw n m) fit.0 fit.1 e) l)))))) h
+    (λ y e. set_contains_ends line purpose raw n y (is_numbered has line raw n m) fit.0 fit.1 e) l)))))) h
 
 -- ---- the job
 
@@ -218,27 +219,27 @@ not_made Run e = refl
 not_made Race e = refl
 not_made Audit e = refl
 
-graph_is : (h : Header) (g : Graph) → graph_of h ≡ Ok g → digraph_in h ≡ g
-unfolding graph_of digraph_of
+graph_is : (h : Header) (g : Graph) → build_graph h ≡ Ok g → header_digraph h ≡ g
+unfolding build_graph build_digraph
 graph_is h g e = go (first_fault (length h.names) h.version h.arcs) e
   where
-    go : (o : Option ArcFault) → by_arcs (graph_or (length h.names) h.arcs o) ≡ Ok g → digraph_in h ≡ g
-    go None k = ok_is (digraph_in h) g k
+    go : (o : Option ArcFault) → by_arcs (graph_or (length h.names) h.arcs o) ≡ Ok g → header_digraph h ≡ g
+    go None k = ok_is (header_digraph h) g k
     go (Some f) k = absurd (cc k)
 
-pub admitted_graph : (h : Header) (g : Graph) → admitted h ≡ Ok g → digraph_in h ≡ g
+pub admitted_graph : (h : Header) (g : Graph) → admitted h ≡ Ok g → header_digraph h ≡ g
 unfolding admitted
 admitted_graph h =
-    onward (graph_of h) _ (λ (g : Graph). digraph_in h ≡ g) (λ x m.
-    onward (checked h x) _ (λ (g : Graph). digraph_in h ≡ g) (λ u c. landed x (λ (g : Graph). digraph_in h ≡ g) (graph_is h x m)))
+    onward (build_graph h) _ (λ (g : Graph). header_digraph h ≡ g) (λ x m.
+    onward (checked h x) _ (λ (g : Graph). header_digraph h ≡ g) (λ u c. landed x (λ (g : Graph). header_digraph h ≡ g) (graph_is h x m)))
 
-showable : (purpose : Purpose) (h : Header) → is_plain purpose ≡ false → IsStatedBy purpose h → admitted h ≡ Ok (digraph_in h)
-    → IsShowable (job_with h (digraph_in h))
+showable : (purpose : Purpose) (h : Header) → is_plain purpose ≡ false → IsStatedBy purpose h → admitted h ≡ Ok (header_digraph h)
+    → IsShowable (assemble_job h (header_digraph h))
 showable purpose h stated k e =
     let plain : is_plain h.purpose ≡ false = subst (λ (p : Purpose). is_plain p ≡ false) (sym k.purpose_is) stated in
-    let accepted : IsAccepted (deal_with h (digraph_in h)) =
-    subst (λ (b : Bool). IsAcceptedUnless b (deal_with h (digraph_in h))) plain ((admitted_is_accepted h k.within).0 e) in
-    let whole = is_whole h (digraph_in h) k.within accepted.ends refl refl in
+    let accepted : IsAccepted (header_deal h (header_digraph h)) =
+    subst (λ (b : Bool). IsAcceptedUnless b (header_deal h (header_digraph h))) plain ((admitted_is_accepted h k.within).0 e) in
+    let whole = is_whole h (header_digraph h) k.within accepted.ends refl refl in
     record {
       stated = not_made h.purpose plain;
       sized = whole.sized;
@@ -252,20 +253,20 @@ showable purpose h stated k e =
     }
 
 showable_with : (purpose : Purpose) (h : Header) (g : Graph) → is_plain purpose ≡ false → IsStatedBy purpose h → admitted h ≡ Ok g
-    → IsShowable (job_with h g)
+    → IsShowable (assemble_job h g)
 showable_with purpose h g stated k e =
-    let same : digraph_in h ≡ g = admitted_graph h g e in
-    subst (λ (x : Graph). IsShowable (job_with h x)) same
+    let same : header_digraph h ≡ g = admitted_graph h g e in
+    subst (λ (x : Graph). IsShowable (assemble_job h x)) same
     (showable purpose h stated k (subst (λ (x : Graph). admitted h ≡ Ok x) (sym same) e))
 
-accepted_is : (purpose : Purpose) (h : Header) (job : Job) → is_plain purpose ≡ false → IsStatedBy purpose h → accepted_of h ≡ Ok job → IsShowable job
-unfolding accepted_of
+accepted_is : (purpose : Purpose) (h : Header) (job : Job) → is_plain purpose ≡ false → IsStatedBy purpose h → accepted_entries h ≡ Ok job → IsShowable job
+unfolding accepted_entries
 accepted_is purpose h job stated k =
     onward (admitted h) _ IsShowable (λ g a.
-    onward (provided (job_with h g)) _ IsShowable (λ u p. landed (job_with h g) IsShowable (showable_with purpose h g stated k a))) job
+    onward (provided (assemble_job h g)) _ IsShowable (λ u p. landed (assemble_job h g) IsShowable (showable_with purpose h g stated k a))) job
 
 pub read_is_showable : ReadIsShowable
 unfolding job_header_of
 read_is_showable has purpose line text job stated =
-    onward (header_of has purpose line text) _ IsShowable (λ h e j a.
+    onward (parse_whole_header has purpose line text) _ IsShowable (λ h e j a.
     accepted_is purpose h j stated (header_is has purpose line text h stated e) a) job

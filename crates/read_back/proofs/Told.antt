@@ -2,7 +2,7 @@
 use Rattle.std.proofs.Common.{◌≡◌, ◌≤◌, ℕ, Bool, true, List, length, map, Option, Some, None, Ok, arith}
 use Rattle.std.specs.Prelude.{All}
 use Rattle.std.specs.Str.{IsUtf8}
-use Rattle.swap_digraph.specs.Deal.{most_arcs, path_limit_of}
+use Rattle.swap_digraph.specs.Deal.{most_arcs, version_path_limit}
 use Rattle.swap_digraph.specs.declared.deal.Version.{Version}
 use Rattle.swap_digraph.specs.declared.deal.Version.TheVariants.{One, Two}
 use Rattle.swap_job.specs.Roles.{is_conforming}
@@ -19,7 +19,7 @@ use Rattle.read_back.proofs.MoveLimits.{IsLimited, IsSmall}
 
 -- what the moves of a job's scripts may name
 abbrev pub sizes_at : Job → Sizes
-sizes_at job = record { arcs = length job.deal.graph.arcs; locks = length job.deal.leaders; path = path_limit_of job.deal.version }
+sizes_at job = record { arcs = length job.deal.graph.arcs; locks = length job.deal.leaders; path = version_path_limit job.deal.version }
 
 -- a role with moves within their limits, or with an existing strategy that has a text for its name
 abbrev pub IsToldRole : (List ℕ → Bool) → Sizes → ℕ → Role → Type 0

@@ -19,14 +19,14 @@ use Rattle.swap_job.specs.declared.job.Finish.TheVariants.{Stop}
 use Rattle.swap_job.specs.declared.job.Role.TheVariants.{Conforming}
 use Rattle.offer_text.specs.Words.{list_data, name_data, number_data}
 use Rattle.offer_header.specs.Limits.{no_digest}
-use Rattle.swap_offer.specs.Job.{job_header_of, job_of}
+use Rattle.swap_offer.specs.Job.{job_header_of, parse_job}
 use Rattle.swap_gen.specs.Made.{made}
 use Rattle.made_jobs.specs.Making.{made_output, written_line}
 use Rattle.swap_clear.specs.declared.answer.Group.{Group}
 use Rattle.swap_clear.specs.Proposals.{proposed_graph}
 use Rattle.swap_clear.specs.Led.{own, own_leaders}
 use Rattle.swap_clear.specs.Ready.{own_amounts}
-use Rattle.clear_line.specs.Cleared.{cleared_of}
+use Rattle.clear_line.specs.Cleared.{parse_cleared}
 use Rattle.clear_line.specs.declared.cleared.Cleared.{Cleared}
 use Rattle.clear_line.specs.declared.limits.Wishes.{Wishes}
 use Rattle.clear_line.specs.ClearedText.{group_fields, group_data, named_data}
@@ -55,17 +55,17 @@ unfoldable pub seeded_line : Wishes → Group → List (List ℕ) → List ℕ
 seeded_line w group texts = compact_text (seeded_data w group texts)
 
 -- Each text is 64 hexadecimal digits, those of the seed at its place.
-abbrev pub AreDigitsOf : List (List ℕ) → List (List ℕ) → Type 0
-AreDigitsOf texts seeds = map (λ t. decode_sized t 32) texts ≡ map (λ s. let r : Result (List ℕ) FromHexError = Ok s in r) seeds
+abbrev pub AreDigitTexts : List (List ℕ) → List (List ℕ) → Type 0
+AreDigitTexts texts seeds = map (λ t. decode_sized t 32) texts ≡ map (λ s. let r : Result (List ℕ) FromHexError = Ok s in r) seeds
 
 -- A group that is cleared of a line of wishes, with the text of a seed for each party.
 pub record IsSeeded (c : Cleared) (group : Group) (texts seeds : List (List ℕ)) : Type 0 where
   pub line : ℕ
   pub text : List ℕ
-  pub is_cleared : cleared_of line text ≡ Ok c
+  pub is_cleared : parse_cleared line text ≡ Ok c
   pub is_one : IsIn group c.clearing.groups
   pub one_each : length texts ≡ length group.parties
-  pub digits : AreDigitsOf texts seeds
+  pub digits : AreDigitTexts texts seeds
 
 -- ---- the job that the group proposes
 
@@ -149,7 +149,7 @@ ClearedGroupsArePlainJobs =
 abbrev pub ClearedGroupsArePlainOffers : Type 0
 ClearedGroupsArePlainOffers =
     (c : Cleared) (group : Group) (texts seeds : List (List ℕ)) → IsSeeded c group texts seeds → (has : List ℕ → Bool)
-    → job_of has Make (seeded_line c.wishes group texts ++ codes "\n") ≡ Ok (cleared_job c.wishes group seeds, [])
+    → parse_job has Make (seeded_line c.wishes group texts ++ codes "\n") ≡ Ok (cleared_job c.wishes group seeds, [])
 
 -- What `make` writes of that input is the line of the job that is made of the group's plain one.
 abbrev pub ClearedGroupsAreMade : Type 0

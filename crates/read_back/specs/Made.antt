@@ -15,9 +15,9 @@ use Rattle.offer_text.specs.HeaderLine.{header_line, made_header}
 use Rattle.swap_run.specs.Asked.{with_answers, Answers}
 use Rattle.swap_run.specs.Fair.{finish}
 use Rattle.swap_run.specs.Run.{run, Cast}
-use Rattle.swap_world.specs.Cast.{cast_of}
-use Rattle.command_input.specs.Lines.{filled_lines, lines_of}
-use Rattle.swap_offer.specs.Job.{events_of, job_header_of, job_of}
+use Rattle.swap_world.specs.Cast.{job_cast}
+use Rattle.command_input.specs.Lines.{filled_lines, collect_lines}
+use Rattle.swap_offer.specs.Job.{parse_events, job_header_of, parse_job}
 use Rattle.swap_gen.specs.Drawn.{plain_job}
 use Rattle.swap_gen.specs.Events.{generated_events}
 use Rattle.swap_gen.specs.Made.{made}
@@ -62,7 +62,7 @@ numbered_from n (l ∷ ls) = (n, l) ∷ numbered_from (n + 1) ls
 
 -- the lines of an input after its header, without those that are blank
 abbrev pub further_lines : List ℕ → List (List ℕ)
-further_lines input = map (λ l. l.1) (drop 1 (filled_lines 1 (lines_of input)))
+further_lines input = map (λ l. l.1) (drop 1 (filled_lines 1 (collect_lines input)))
 
 -- ---- the laws
 
@@ -72,14 +72,15 @@ TextHasOneStory = (ls ms : List (List ℕ)) → All IsOneLine ls → All IsOneLi
 
 -- They are the lines of that text.
 abbrev pub TextIsItsLines : Type 0
-TextIsItsLines = (ls : List (List ℕ)) → All IsOneLine ls → lines_of (ended ls) ≡ ls
+TextIsItsLines = (ls : List (List ℕ)) → All IsOneLine ls → collect_lines (ended ls) ≡ ls
 
 -- Two whole transcripts with the same text, byte for byte, tell of one job and one book. Neither
 -- header line holds a line feed.
 abbrev pub WholeTextHasOneStory : Type 0
 WholeTextHasOneStory =
-    (header_of : List ℕ → Option Job) (ls ms : List (List ℕ)) (job other : Job) (b c : Histories) (w : IsWholeTranscript header_of ls job b)
-    (v : IsWholeTranscript header_of ms other c) → IsWellSized job.deal → IsWellSized other.deal → IsOneLine w.header → IsOneLine v.header → ended ls ≡ ended ms
+    (parse_whole_header : List ℕ → Option Job) (ls ms : List (List ℕ)) (job other : Job) (b c : Histories) (w : IsWholeTranscript parse_whole_header ls job b)
+    (v : IsWholeTranscript parse_whole_header ms other c) → IsWellSized job.deal → IsWellSized other.deal → IsOneLine w.header → IsOneLine v.header
+    → ended ls ≡ ended ms
     → (job ≡ other) × (b ≡ c)
 
 -- The header line of a job that is made of a plain one is text, and is read as the header that is written.
@@ -115,8 +116,9 @@ with_job job read = read >>= λ events. Ok (job, events)
 -- of the further lines as they stood, or with the first reason against one of these.
 pub record IsReadBack (has : List ℕ → Bool) (purpose : Purpose) (input output : List ℕ) : Type 0 where
   pub plain : Job
-  pub is_plain : job_of has Make input ≡ Ok (plain, [])
-  pub is_made : job_of has purpose output ≡ with_job (told_job purpose plain) (events_of (told_job purpose plain) 0 (numbered_from 2 (further_lines input)))
+  pub is_plain : parse_job has Make input ≡ Ok (plain, [])
+  pub is_made : parse_job has purpose output
+      ≡ with_job (told_job purpose plain) (parse_events (told_job purpose plain) 0 (numbered_from 2 (further_lines input)))
 
 -- What `make` writes is read as the job that it made.
 abbrev pub MadeOutputIsReadBack : Type 0
@@ -134,12 +136,12 @@ abbrev pub GeneratedTextIsReadBack : Type 0
 GeneratedTextIsReadBack =
     (has : List ℕ → Bool) (seed parties events : ℕ) → 2 ≤ parties → parties ≤ 24 → events ≤ 200000 → (purpose : Purpose) → reads_jobs purpose ≡ true
     → HasEventsFor purpose events
-    → job_of has purpose (generated_text seed parties events) ≡ Ok (told_job purpose (plain_job seed parties), generated_events seed parties events)
+    → parse_job has purpose (generated_text seed parties events) ≡ Ok (told_job purpose (plain_job seed parties), generated_events seed parties events)
 
 -- Its run, with the fair finish that the job asks for, is the one of which the number's summary
 -- tells. No strategy is asked.
 abbrev pub GeneratedRunIsSummed : Type 0
 GeneratedRunIsSummed =
     (answers : Answers) (seed parties events : ℕ)
-    → let cast : Cast = with_answers (cast_of (told_job Run (plain_job seed parties))) answers in
+    → let cast : Cast = with_answers (job_cast (told_job Run (plain_job seed parties))) answers in
     (finish cast (run cast (generated_events seed parties events))).book ≡ generated_book seed parties events

@@ -1,7 +1,7 @@
 -- The line that tells why an input was refused. Every number is in decimal.
 use Rattle.std.specs.Prelude.{ℕ, List, [], ◌∷◌, codes, decimal}
 use Rattle.swap_base.specs.Text.{joined, lines}
-use Rattle.refusals.specs.Words.{name_at, reply_text}
+use Rattle.refusals.specs.Words.{party_name, reply_text}
 use Rattle.refusals.specs.declared.reason.Reason.{Reason}
 use Rattle.refusals.specs.declared.reason.Reason.TheVariants.{NotJson, Missing, WrongKind, UnknownField, BadName, Duplicate, Unknown, OverLimit, WrongHex}
 use Rattle.refusals.specs.declared.reason.Reason.TheVariants.{NotAdjacent, ConformingCall, EventInRace, SelfArc, Parallel, NotStrong, ManyLeaders}
@@ -23,7 +23,7 @@ lined word line text = joined (numbered word line ∷ codes " " ∷ escaped text
 
 -- the name of party p; no text where the number is nobody's
 abbrev pub named : List (List ℕ) → ℕ → List ℕ
-named names p = escaped (name_at names p)
+named names p = escaped (party_name names p)
 
 -- a further name of a list
 abbrev pub comma_named : List (List ℕ) → ℕ → ℕ → List ℕ

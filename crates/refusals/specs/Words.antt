@@ -7,8 +7,8 @@ use Rattle.escrow_core.specs.declared.reply.Reply.TheVariants.{WrongSignature, T
 use Rattle.escrow_core.specs.declared.reply.Reply.TheVariants.{NoFunds, SenderFull, ClockFull}
 
 -- the name of party p; no text where the number is nobody's
-abbrev pub name_at : List (List ℕ) → ℕ → List ℕ
-name_at names p = slice_index_or names p []
+abbrev pub party_name : List (List ℕ) → ℕ → List ℕ
+party_name names p = slice_index_or names p []
 
 -- a ledger's answer to a call
 unfoldable pub reply_text : Reply → List ℕ

@@ -16,4 +16,4 @@ pub use makers::{
 };
 pub use reason::{OfferFault, Reason};
 pub use refusal::{HeaderFault, Refusal, nameless, with_names};
-pub use words::{name_at, put_reply};
+pub use words::{party_name, put_reply};

@@ -7,7 +7,7 @@ ghost use Rattle.refusals.specs.Line.{numbered, numbered_twice, lined, comma_nam
 
 use crate::escaped::put_escaped;
 use crate::reason::Reason;
-use crate::words::{name_at, put_words};
+use crate::words::{party_name, put_words};
 use escrow_core::Reply;
 use std::alloc::Global;
 use swap_base::{ArcId, ByteText, LockId, NoMemory, PartyId, Piece, put};
@@ -16,7 +16,7 @@ fn put_comma_name(out: &mut Vec<u8>, names: &[ByteText], p: PartyId) -> Result<(
     ensures { OnOk result (out.new.items ≡ out.old.items ++ comma_named names.now 0 p) }
 {
     put(out, &[Piece::Text(",")])?;
-    put_escaped(out, name_at(names, p))
+    put_escaped(out, party_name(names, p))
 }
 
 /// The further names of a list, each after a comma.
@@ -37,7 +37,7 @@ fn put_joined(out: &mut Vec<u8>, names: &[ByteText], parties: &[PartyId]) -> Res
     match parties {
         [] => Ok(()),
         [first, further @ ..] => {
-            put_escaped(out, name_at(names, *first))?;
+            put_escaped(out, party_name(names, *first))?;
             put_further(out, names, further)
         }
     }
@@ -99,7 +99,7 @@ fn put_party(
     ensures { OnOk result (out.new.items ≡ out.old.items ++ of_party word.now names.now party) }
 {
     put(out, &[Piece::Text(word), Piece::Text(" ")])?;
-    put_escaped(out, name_at(names, party))
+    put_escaped(out, party_name(names, party))
 }
 
 #[tactic(auto, unfolding(crate::specs::Line::of_parties))]

@@ -1,14 +1,14 @@
 //! The words that reports and refusals share.
 
 ghost use Rattle.std.specs.Prelude.{◌≡◌, ◌++◌, OnOk, OnErr};
-ghost use Rattle.refusals.specs.Words.{name_at, reply_text};
+ghost use Rattle.refusals.specs.Words.{party_name, reply_text};
 
 use escrow_core::Reply;
 use swap_base::{ByteText, NoMemory, PartyId, Piece, put};
 
 /// The name of a party; no text where the number is nobody's.
-pub fn name_at(names: &[ByteText], p: PartyId) -> &[u8]
-    ensures { result.now ≡ name_at names.now p }
+pub fn party_name(names: &[ByteText], p: PartyId) -> &[u8]
+    ensures { result.now ≡ party_name names.now p }
 {
     match names.get(p as usize) {
         Some(name) => name.as_slice(),

@@ -4,7 +4,7 @@ use Rattle.swap_base.specs.Text.{lines}
 use Rattle.swap_digraph.specs.declared.deal.Deal.{Deal}
 use Rattle.swap_digraph.specs.Deal.{amount}
 use Rattle.swap_digraph.specs.Graph.{ends}
-use Rattle.escrow_core.specs.Terms.{terms_of}
+use Rattle.escrow_core.specs.Terms.{stated_terms}
 use Rattle.ledger_core.specs.declared.entry.Entry.{Entry}
 use Rattle.ledger_core.specs.History.{accounts, height}
 use Rattle.ledger_core.specs.Book.{Histories}
@@ -13,7 +13,7 @@ use Rattle.outcome_rules.specs.declared.report.Report.{Report}
 use Rattle.report_text.specs.Report.{count_line, entry_line, finding_line, head_lines, ledger_end, ledger_head, ledger_lines, party_line, report}
 
 pub of_ledger : (names : List (List ℕ)) (d : Deal) (a : ℕ) (h : List Entry)
-    → ledger_head names a (ends d.graph a) (amount d a) ++ (lines (entry_line names (terms_of d a)) 0 h ++
+    → ledger_head names a (ends d.graph a) (amount d a) ++ (lines (entry_line names (stated_terms d a)) 0 h ++
     (ledger_end names (ends d.graph a) (height h) (accounts d a h) ++ []))
     ≡ ledger_lines names d a h
 unfolding ledger_lines

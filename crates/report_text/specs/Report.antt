@@ -6,7 +6,7 @@ use Rattle.swap_digraph.specs.declared.arc_ends.ArcEnds.{ArcEnds}
 use Rattle.swap_digraph.specs.declared.deal.Deal.{Deal}
 use Rattle.swap_digraph.specs.Deal.{party, counterparty, amount}
 use Rattle.escrow_core.specs.declared.terms.Terms.{Terms}
-use Rattle.escrow_core.specs.Terms.{terms_of}
+use Rattle.escrow_core.specs.Terms.{stated_terms}
 use Rattle.ledger_core.specs.declared.entry.Entry.{Entry}
 use Rattle.ledger_core.specs.declared.entry.What.{What}
 use Rattle.ledger_core.specs.declared.entry.What.TheVariants.{Call as Made, Tick}
@@ -18,7 +18,7 @@ use Rattle.swap_rules.specs.declared.outcome.Outcome.{Outcome}
 use Rattle.swap_rules.specs.declared.finding.Finding.{Finding}
 use Rattle.swap_rules.specs.declared.finding.Finding.TheVariants.{Broke, Late, Forged, Unfinished}
 use Rattle.outcome_rules.specs.declared.report.Report.{Report}
-use Rattle.refusals.specs.Words.{name_at, reply_text}
+use Rattle.refusals.specs.Words.{party_name, reply_text}
 use Rattle.report_text.specs.Words.{mode_text, call_text, sender_text, outcome_text, rule_text}
 
 -- the line of an entry; a tick has none
@@ -31,16 +31,16 @@ abbrev pub entry_line : List (List ℕ) → Terms → ℕ → Entry → List ℕ
 entry_line names t number e = what_line names t e e.what
 
 unfoldable pub ledger_head : List (List ℕ) → ℕ → ArcEnds → ℕ → List ℕ
-ledger_head names a arc units = joined (codes "ledger " ∷ decimal a ∷ codes " " ∷ name_at names arc.from ∷ codes " -> " ∷ name_at names arc.to ∷ codes
+ledger_head names a arc units = joined (codes "ledger " ∷ decimal a ∷ codes " " ∷ party_name names arc.from ∷ codes " -> " ∷ party_name names arc.to ∷ codes
     " amount " ∷ decimal units ∷ codes "\n" ∷ [])
 
 unfoldable pub ledger_end : List (List ℕ) → ArcEnds → ℕ → Accounts → List ℕ
-ledger_end names arc at now = joined (codes "end height " ∷ decimal at ∷ codes " " ∷ name_at names arc.from ∷ codes " " ∷ decimal now.party ∷ codes " " ∷
-    name_at names arc.to ∷ codes " " ∷ decimal now.counterparty ∷ codes " held " ∷ decimal now.held ∷ codes "\n" ∷ [])
+ledger_end names arc at now = joined (codes "end height " ∷ decimal at ∷ codes " " ∷ party_name names arc.from ∷ codes " " ∷ decimal now.party ∷ codes " " ∷
+    party_name names arc.to ∷ codes " " ∷ decimal now.counterparty ∷ codes " held " ∷ decimal now.held ∷ codes "\n" ∷ [])
 
 -- the lines of the ledger of arc a
 unfoldable pub ledger_lines : List (List ℕ) → Deal → ℕ → List Entry → List ℕ
-ledger_lines names d a h = joined (ledger_head names a (ends d.graph a) (amount d a) ∷ lines (entry_line names (terms_of d a)) 0 h ∷ ledger_end names
+ledger_lines names d a h = joined (ledger_head names a (ends d.graph a) (amount d a) ∷ lines (entry_line names (stated_terms d a)) 0 h ∷ ledger_end names
     (ends d.graph a) (height h) (accounts d a h) ∷ [])
 
 unfoldable pub head_lines : Deal → List ℕ
@@ -54,14 +54,14 @@ unfoldable pub ended_text : Bool → Outcome → List ℕ
 ended_text ended outcome = if ended then outcome_text outcome else codes "open"
 
 unfoldable pub party_line : List (List ℕ) → List Bool → Bool → ℕ → Outcome → List ℕ
-party_line names conforming ended p outcome = joined (codes "party " ∷ name_at names p ∷ codes " " ∷ role_text
+party_line names conforming ended p outcome = joined (codes "party " ∷ party_name names p ∷ codes " " ∷ role_text
     (slice_index_or conforming p false) ∷ codes ": " ∷ ended_text ended outcome ∷ codes "\n" ∷ [])
 
 unfoldable pub finding_line : List (List ℕ) → Finding → List ℕ
-finding_line names (Broke v a e) = joined (codes "broke " ∷ name_at names v ∷ codes " on " ∷ decimal a ∷ codes " entry " ∷ decimal e ∷ codes "\n" ∷ [])
-finding_line names (Late v rule a due) = joined (codes "late " ∷ name_at names v ∷ codes " " ∷ rule_text rule ∷ codes " on " ∷ decimal a ∷ codes " due " ∷
+finding_line names (Broke v a e) = joined (codes "broke " ∷ party_name names v ∷ codes " on " ∷ decimal a ∷ codes " entry " ∷ decimal e ∷ codes "\n" ∷ [])
+finding_line names (Late v rule a due) = joined (codes "late " ∷ party_name names v ∷ codes " " ∷ rule_text rule ∷ codes " on " ∷ decimal a ∷ codes " due " ∷
     decimal due ∷ codes "\n" ∷ [])
-finding_line names (Forged v a e) = joined (codes "forged " ∷ name_at names v ∷ codes " on " ∷ decimal a ∷ codes " entry " ∷ decimal e ∷ codes "\n" ∷ [])
+finding_line names (Forged v a e) = joined (codes "forged " ∷ party_name names v ∷ codes " on " ∷ decimal a ∷ codes " entry " ∷ decimal e ∷ codes "\n" ∷ [])
 finding_line names (Unfinished a at) = joined (codes "unfinished " ∷ decimal a ∷ codes " height " ∷ decimal at ∷ codes "\n" ∷ [])
 
 unfoldable pub count_line : ℕ → List ℕ

@@ -9,7 +9,7 @@ use Rattle.ledger_core.specs.declared.entry.Call.{Call}
 use Rattle.ledger_core.specs.declared.entry.Call.TheVariants.{Publish, Unlock, Claim, Refund, Transfer}
 use Rattle.ledger_core.specs.declared.entry.Sender.{Sender}
 use Rattle.ledger_core.specs.declared.entry.Sender.TheVariants.{Party, Clock}
-use Rattle.refusals.specs.Words.{name_at}
+use Rattle.refusals.specs.Words.{party_name}
 use Rattle.swap_rules.specs.declared.outcome.Outcome.{Outcome}
 use Rattle.swap_rules.specs.declared.outcome.Outcome.TheVariants.{NoDeal, FreeRide, Underwater, Deal as WholeDeal, Discount}
 use Rattle.swap_rules.specs.declared.finding.Rule.{Rule}
@@ -21,12 +21,12 @@ mode_text Hashkeys = codes "hashkeys"
 
 -- a further name of a path
 abbrev pub comma_name : List (List ℕ) → ℕ → ℕ → List ℕ
-comma_name names place p = joined (codes "," ∷ name_at names p ∷ [])
+comma_name names place p = joined (codes "," ∷ party_name names p ∷ [])
 
 -- the names of a path, joined by commas
 unfoldable pub path_text : List (List ℕ) → List ℕ → List ℕ
 path_text names [] = []
-path_text names (p ∷ ps) = joined (name_at names p ∷ lines (comma_name names) 0 ps ∷ [])
+path_text names (p ∷ ps) = joined (party_name names p ∷ lines (comma_name names) 0 ps ∷ [])
 
 unfoldable pub unlock_text : List (List ℕ) → ℕ → List ℕ → List ℕ
 unlock_text names i [] = joined (codes "unlock " ∷ decimal i ∷ [])
@@ -41,10 +41,10 @@ call_text names t (Publish given) = publish_text (same_terms given t)
 call_text names t (Unlock key) = unlock_text names key.lock key.path
 call_text names t Claim = codes "claim"
 call_text names t Refund = codes "refund"
-call_text names t (Transfer to units) = joined (codes "transfer " ∷ decimal units ∷ codes " to " ∷ name_at names to ∷ [])
+call_text names t (Transfer to units) = joined (codes "transfer " ∷ decimal units ∷ codes " to " ∷ party_name names to ∷ [])
 
 abbrev pub sender_text : List (List ℕ) → Sender → List ℕ
-sender_text names (Party p) = name_at names p
+sender_text names (Party p) = party_name names p
 sender_text names Clock = []
 
 unfoldable pub outcome_text : Outcome → List ℕ

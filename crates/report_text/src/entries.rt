@@ -4,22 +4,22 @@ ghost use Rattle.std.specs.Prelude.{◌≡◌, ◌<◌, ◌++◌, ◌∷◌, ℕ
 ghost use Rattle.swap_base.specs.Text.{lines};
 ghost use Rattle.swap_io.specs.Handed.{Hands};
 ghost use Rattle.swap_digraph.specs.Deal.{IsWellSized};
-ghost use Rattle.escrow_core.specs.Terms.{terms_of};
+ghost use Rattle.escrow_core.specs.Terms.{stated_terms};
 ghost use Rattle.report_text.specs.Words.{comma_name, path_text, unlock_text, call_text, publish_text, sender_text as sender_of};
 ghost use Rattle.report_text.specs.Report.{what_line, entry_line};
 ghost use Rattle.report_text.specs.Items.{item_line};
 
-use escrow_core::{Terms, terms_of};
+use escrow_core::{Terms, stated_terms};
 use ledger_core::{Call, Entry, EntryList, Item, Sender, What};
-use refusals::{name_at, put_reply};
+use refusals::{party_name, put_reply};
 use swap_base::{ArcId, ByteText, LockId, NoMemory, PartyId, Piece, put};
 use swap_digraph::Deal;
-use swap_io::{Sink, TextFault, pass_on};
+use swap_io::{Sink, TextFault, flush_waiting};
 
 fn put_comma_name(out: &mut Vec<u8>, names: &[ByteText], p: PartyId) -> Result<(), NoMemory>
     ensures { OnOk result (out.new.items ≡ out.old.items ++ comma_name names.now 0 p) }
 {
-    put(out, &[Piece::Text(","), Piece::Bytes(name_at(names, p))])
+    put(out, &[Piece::Text(","), Piece::Bytes(party_name(names, p))])
 }
 
 /// The further names of a path, each after a comma.
@@ -41,7 +41,7 @@ fn put_path(
 ) -> Result<(), NoMemory>
     ensures { OnOk result (out.new.items ≡ out.old.items ++ path_text names.now (first ∷ further.now)) }
 {
-    put(out, &[Piece::Bytes(name_at(names, first))])?;
+    put(out, &[Piece::Bytes(party_name(names, first))])?;
     put_further(out, names, further)?;
     Ok(())
 }
@@ -102,7 +102,7 @@ fn put_call(
                 Piece::Text("transfer "),
                 Piece::Number(*units),
                 Piece::Text(" to "),
-                Piece::Bytes(name_at(names, *to)),
+                Piece::Bytes(party_name(names, *to)),
             ],
         ),
     }
@@ -112,7 +112,7 @@ fn sender_text(names: &[ByteText], sender: Sender) -> &[u8]
     ensures { result.now ≡ sender_of names.now sender }
 {
     match sender {
-        Sender::Party(p) => name_at(names, p),
+        Sender::Party(p) => party_name(names, p),
         Sender::Clock => &[],
     }
 }
@@ -171,7 +171,7 @@ fn write_items<K: Sink>(
 {
     for item in items {
         put_item(out, names, correct, item)?;
-        pass_on(sink, out)?;
+        flush_waiting(sink, out)?;
     }
     Ok(())
 }
@@ -188,9 +188,9 @@ pub(crate) fn write_entries<K: Sink>(
     requires sized { IsWellSized deal.now }
     requires arc { number < length deal.now.graph.arcs }
     ensures { Hands (K.taken sink.old) (K.taken sink.new) (K.faults sink.old) (K.faults sink.new) out.old.items out.new.items
-        (lines (entry_line names.now (terms_of deal.now number)) 0 entries.now) result }
+        (lines (entry_line names.now (stated_terms deal.now number)) 0 entries.now) result }
 {
-    let correct = terms_of(deal, number);
+    let correct = stated_terms(deal, number);
     let (items, _) = entries.parts();
     write_items(sink, out, names, &correct, items)
 }

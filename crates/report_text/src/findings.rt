@@ -4,11 +4,11 @@ ghost use Rattle.std.specs.Prelude.{◌≡◌, ◌<◌, ◌≤◌, ◌++◌, OnO
 ghost use Rattle.swap_base.specs.Text.{lines};
 ghost use Rattle.swap_io.specs.Handed.{Hands};
 ghost use Rattle.report_text.specs.Words.{outcome_text as outcome_of, rule_text};
-ghost use Rattle.report_text.specs.Report.{role_text as role_of, ended_text as ended_of, party_line, finding_line, count_line};
+ghost use Rattle.report_text.specs.Report.{role_text as party_role, ended_text as ended_of, party_line, finding_line, count_line};
 
-use refusals::name_at;
+use refusals::party_name;
 use swap_base::{ByteText, NoMemory, PartyId, Piece, put};
-use swap_io::{Sink, TextFault, pass_on};
+use swap_io::{Sink, TextFault, flush_waiting};
 use swap_rules::{Finding, Outcome, Rule};
 
 #[tactic(auto, unfolding(crate::specs::Words::outcome_text))]
@@ -37,7 +37,7 @@ fn ended_text(has_ended: bool, outcome: Outcome) -> &'static str
 
 #[tactic(auto, unfolding(crate::specs::Report::role_text))]
 fn role_text(conforms: bool) -> &'static str
-    ensures { result.now ≡ role_of conforms }
+    ensures { result.now ≡ party_role conforms }
 {
     if conforms { "conforming" } else { "deviator" }
 }
@@ -67,7 +67,7 @@ fn put_party(
         out,
         &[
             Piece::Text("party "),
-            Piece::Bytes(name_at(names, number as u8)),
+            Piece::Bytes(party_name(names, number as u8)),
             Piece::Text(" "),
             Piece::Text(role_text(conforms(conforming, number))),
             Piece::Text(": "),
@@ -121,7 +121,7 @@ fn put_late(
         out,
         &[
             Piece::Text("late "),
-            Piece::Bytes(name_at(names, late)),
+            Piece::Bytes(party_name(names, late)),
             Piece::Text(" "),
         ],
     )?;
@@ -147,7 +147,7 @@ fn put_finding(out: &mut Vec<u8>, names: &[ByteText], finding: Finding) -> Resul
             out,
             &[
                 Piece::Text("broke "),
-                Piece::Bytes(name_at(names, v)),
+                Piece::Bytes(party_name(names, v)),
                 Piece::Text(" on "),
                 Piece::Number(a as u64),
                 Piece::Text(" entry "),
@@ -160,7 +160,7 @@ fn put_finding(out: &mut Vec<u8>, names: &[ByteText], finding: Finding) -> Resul
             out,
             &[
                 Piece::Text("forged "),
-                Piece::Bytes(name_at(names, v)),
+                Piece::Bytes(party_name(names, v)),
                 Piece::Text(" on "),
                 Piece::Number(a as u64),
                 Piece::Text(" entry "),
@@ -193,7 +193,7 @@ pub(crate) fn write_findings<K: Sink>(
 {
     for finding in findings {
         put_finding(out, names, *finding)?;
-        pass_on(sink, out)?;
+        flush_waiting(sink, out)?;
     }
     Ok(())
 }

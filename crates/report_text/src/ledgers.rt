@@ -10,11 +10,11 @@ ghost use Rattle.ledger_core.specs.Book.{IsLegalBook};
 ghost use Rattle.report_text.specs.Report.{ledger_head, ledger_end, ledger_lines};
 
 use crate::entries::write_entries;
-use ledger_core::{Accounts, Book, EntryList, accounts_of};
-use refusals::name_at;
+use ledger_core::{Accounts, Book, EntryList, history_accounts};
+use refusals::party_name;
 use swap_base::{ArcId, ByteText, NoMemory, Piece, put};
 use swap_digraph::{ArcEnds, Deal};
-use swap_io::{Sink, TextFault, pass_on};
+use swap_io::{Sink, TextFault, flush_waiting};
 
 #[tactic(auto, unfolding(crate::specs::Report::ledger_head))]
 fn put_head(
@@ -34,9 +34,9 @@ fn put_head(
             Piece::Text("ledger "),
             Piece::Number(number as u64),
             Piece::Text(" "),
-            Piece::Bytes(name_at(names, arc.from)),
+            Piece::Bytes(party_name(names, arc.from)),
             Piece::Text(" -> "),
-            Piece::Bytes(name_at(names, arc.to)),
+            Piece::Bytes(party_name(names, arc.to)),
             Piece::Text(" amount "),
             Piece::Number(deal.amounts.as_slice()[number as usize]),
             Piece::Text("\n"),
@@ -60,11 +60,11 @@ fn put_end(
             Piece::Text("end height "),
             Piece::Number(height as u64),
             Piece::Text(" "),
-            Piece::Bytes(name_at(names, arc.from)),
+            Piece::Bytes(party_name(names, arc.from)),
             Piece::Text(" "),
             Piece::Number(accounts.party),
             Piece::Text(" "),
-            Piece::Bytes(name_at(names, arc.to)),
+            Piece::Bytes(party_name(names, arc.to)),
             Piece::Text(" "),
             Piece::Number(accounts.counterparty),
             Piece::Text(" held "),
@@ -93,7 +93,7 @@ fn put_last(
         names,
         deal.graph.arcs()[number as usize],
         entries.height(),
-        accounts_of(deal, number, entries),
+        history_accounts(deal, number, entries),
     )
 }
 
@@ -115,7 +115,7 @@ fn write_ledger<K: Sink>(
     put_head(out, names, deal, number)?;
     write_entries(sink, out, names, deal, number, entries)?;
     put_last(out, names, deal, number, entries)?;
-    pass_on(sink, out)
+    flush_waiting(sink, out)
 }
 
 /// The lines of each ledger of the book, handed on.

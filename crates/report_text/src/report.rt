@@ -7,8 +7,8 @@ ghost use Rattle.swap_io.specs.Causes.{AppendsProperPrefix, Rose};
 ghost use Rattle.swap_io.specs.Handed.{AppendsPrefix, Hands};
 ghost use Rattle.swap_digraph.specs.Deal.{IsWellSized};
 ghost use Rattle.ledger_core.specs.Book.{IsLegalBook};
-ghost use Rattle.report_text.specs.Words.{mode_text as mode_of};
-ghost use Rattle.report_text.specs.Report.{head_lines, ledger_lines, party_line, finding_line, count_line, report as text_of};
+ghost use Rattle.report_text.specs.Words.{mode_text as parse_mode};
+ghost use Rattle.report_text.specs.Report.{head_lines, ledger_lines, party_line, finding_line, count_line, report as to_text};
 
 use crate::findings::{put_count, put_parties, write_findings};
 use crate::ledgers::write_ledgers;
@@ -22,7 +22,7 @@ use swap_job::Job;
 
 #[tactic(auto, unfolding(crate::specs::Words::mode_text))]
 fn mode_text(mode: Mode) -> &'static str
-    ensures { result.now ≡ mode_of mode }
+    ensures { result.now ≡ parse_mode mode }
 {
     match mode {
         Mode::Timelocks => "timelocks",
@@ -112,7 +112,7 @@ fn write_lines<K: Sink>(
     requires legal { IsLegalBook job.now.deal book.now.histories }
     requires parties { length report.now.outcomes ≤ 256 }
     ensures { Hands (K.taken sink.old) (K.taken sink.new) (K.faults sink.old) (K.faults sink.new) out.old.items out.new.items
-        (text_of job.now book.now.histories report.now) result }
+        (to_text job.now book.now.histories report.now) result }
 {
     put_head(out, &job.deal)?;
     write_book(sink, out, job, book)?;
@@ -134,11 +134,11 @@ pub fn write_report<K: Sink>(
     requires sized { IsWellSized job.now.deal }
     requires legal { IsLegalBook job.now.deal book.now.histories }
     requires parties { length report.now.outcomes ≤ 256 }
-    ensures all { OnOk result (Appends (K.taken sink.old) (K.taken sink.new) (text_of job.now book.now.histories report.now)) }
+    ensures all { OnOk result (Appends (K.taken sink.old) (K.taken sink.new) (to_text job.now book.now.histories report.now)) }
     ensures write_fault { IsErrOf result TextFault.WriteFault
-        → AppendsProperPrefix (K.taken sink.old) (K.taken sink.new) (text_of job.now book.now.histories report.now) }
+        → AppendsProperPrefix (K.taken sink.old) (K.taken sink.new) (to_text job.now book.now.histories report.now) }
     ensures no_memory { IsErrOf result TextFault.NoMemory
-        → AppendsPrefix (K.taken sink.old) (K.taken sink.new) (text_of job.now book.now.histories report.now) }
+        → AppendsPrefix (K.taken sink.old) (K.taken sink.new) (to_text job.now book.now.histories report.now) }
     ensures later { K.faults sink.old ≤ K.faults sink.new }
     ensures failed { IsErrOf result TextFault.WriteFault → Rose (K.faults sink.old) (K.faults sink.new) }
 {
@@ -157,7 +157,7 @@ pub fn report_text(
     requires sized { IsWellSized job.now.deal }
     requires legal { IsLegalBook job.now.deal book.now.histories }
     requires parties { length report.now.outcomes ≤ 256 }
-    ensures { IfOk result (λ t. t ≡ text_of job.now book.now.histories report.now) }
+    ensures { IfOk result (λ t. t ≡ to_text job.now book.now.histories report.now) }
 {
     let mut text = TextSink::new(alloc);
     match write_report(alloc, &mut text, job, book, report) {

@@ -11,13 +11,13 @@ use Rattle.ledger_core.specs.declared.entry.Sender.TheVariants.{Party, Clock}
 use Rattle.ledger_core.specs.declared.entry.What.{What}
 use Rattle.ledger_core.specs.declared.entry.What.TheVariants.{Call as Made, Tick}
 use Rattle.ledger_core.specs.declared.entry.Entry.{Entry}
-use Rattle.ledger_core.specs.History.{sent_by, IsLegalEntry, IsLegalMoment, call_in}
+use Rattle.ledger_core.specs.History.{is_sender, IsLegalEntry, IsLegalMoment, read_raw_call}
 use Rattle.ledger_core.specs.Book.{Histories, history, IsLegalBook}
 use Rattle.swap_digraph.specs.Deal.{touches}
-use Rattle.sent_keys.specs.Sent.{unlock_in, unlocks_in, unlocks_of}
+use Rattle.sent_keys.specs.Sent.{unlock_key, lock_unlocks, party_unlocks}
 
 pub unsent : (d : Deal) (a v : ℕ) (past : List Entry) (s : Sender) (w : What) (at : ℕ) (r : Reply) → IsLegalEntry d a past s w at r
-    → touches d v a ≡ false → cond (sent_by v s) (call_in w) None ≡ None
+    → touches d v a ≡ false → cond (is_sender v s) (read_raw_call w) None ≡ None
 unsent d a v past Clock w at r l t = refl
 unsent d a v past (Party p) (Tick k) at r l t = absurd l
 unsent d a v past (Party p) (Made c) at r l t = by_sender (p == v) refl
@@ -27,12 +27,13 @@ unsent d a v past (Party p) (Made c) at r l t = by_sender (p == v) refl
     by_sender true e = absurd (false≢true (sym t ∙ (ap (λ z. touches d z a) (sym (eqb-true p v e)) ∙ l.of_the_two)))
 
 none_after : (d : Deal) (a v : ℕ) (past h : List Entry) → AllByRecursion (IsLegalMoment d a) (moments_after past h) → touches d v a ≡ false
-    → unlocks_in h v ≡ []
+    → lock_unlocks h v ≡ []
 none_after d a v past [] l t = refl
 none_after d a v past (e ∷ h) l t =
-    ap (λ o. cons_option (unlock_in o) (unlocks_in h v)) (unsent d a v past e.sender e.what e.height e.reply l.0 t) ∙ none_after d a v (past ++ e ∷ []) h l.1 t
+    ap (λ o. cons_option (unlock_key o) (lock_unlocks h v)) (unsent d a v past e.sender e.what e.height e.reply l.0 t)
+    ∙ none_after d a v (past ++ e ∷ []) h l.1 t
 
-pub no_unlocks : (d : Deal) (b : Histories) (a v : ℕ) → IsLegalBook d b → a < length d.graph.arcs → touches d v a ≡ false → unlocks_in (history b a) v ≡ []
+pub no_unlocks : (d : Deal) (b : Histories) (a v : ℕ) → IsLegalBook d b → a < length d.graph.arcs → touches d v a ≡ false → lock_unlocks (history b a) v ≡ []
 no_unlocks d b a v l arc t = let n = l.one_each in none_after d a v [] (history b a) (l.legal a (omega arith)) t
 
 -- The arcs by number, in place of the histories.
@@ -49,5 +50,5 @@ by_number f [] = refl
 by_number f (h ∷ b) = ap (λ l. f h ++ l) (shifted f h b 0 (length b) ∙ by_number f b)
 
 pub all_unlocks : (d : Deal) (b : Histories) (v : ℕ) → IsLegalBook d b
-    → flat_map (λ a. unlocks_in (history b a) v) (range_with_len 0 (length d.graph.arcs)) ≡ unlocks_of b v
-all_unlocks d b v l = ap (λ n. flat_map (λ a. unlocks_in (history b a) v) (range_with_len 0 n)) (sym l.one_each) ∙ by_number (λ h. unlocks_in h v) b
+    → flat_map (λ a. lock_unlocks (history b a) v) (range_with_len 0 (length d.graph.arcs)) ≡ party_unlocks b v
+all_unlocks d b v l = ap (λ n. flat_map (λ a. lock_unlocks (history b a) v) (range_with_len 0 n)) (sym l.one_each) ∙ by_number (λ h. lock_unlocks h v) b

@@ -12,13 +12,13 @@ use Rattle.ledger_core.specs.declared.entry.Call.{Call}
 use Rattle.ledger_core.specs.declared.entry.Call.TheVariants.{Publish, Unlock, Claim, Refund, Transfer}
 use Rattle.ledger_core.specs.declared.entry.What.TheVariants.{Tick}
 use Rattle.ledger_core.specs.declared.entry.Entry.{Entry}
-use Rattle.ledger_core.specs.History.{sent_by, call_in}
+use Rattle.ledger_core.specs.History.{is_sender, read_raw_call}
 use Rattle.ledger_core.specs.Book.{Histories}
-use Rattle.swap_rules.specs.Party.{call_by, key_in, first_key}
+use Rattle.swap_rules.specs.Party.{pick_call, fetch_key, first_key}
 use Rattle.history_index.specs.declared.made.Made.{Made}
 use Rattle.history_index.specs.Made.{made_in}
 use Rattle.history_index.proofs.Calls.{filter_map_made}
-use Rattle.sent_keys.specs.Sent.{unlock_in, unlocks_in, unlocks_made, unlocks_of, shown}
+use Rattle.sent_keys.specs.Sent.{unlock_key, lock_unlocks, unlocks_made, party_unlocks, shown}
 
 abbrev pub if_lock : ℕ → Hashkey → Option Hashkey
 if_lock i key = cond (key.lock == i) (Some key) None
@@ -29,14 +29,14 @@ for_lock i r = if_lock i r.now
 -- The walk that collects them.
 
 pub sent_more : (old now new : List (Bor Hashkey)) (ms : List Made) (v i : ℕ) (x : Made) → i < length ms → x ≡ get_or ms i x
-    → shown now ≡ shown old ++ unlocks_made (take i ms) v → shown new ≡ shown now ++ cons_option (unlock_in (call_by v x.entry)) []
+    → shown now ≡ shown old ++ unlocks_made (take i ms) v → shown new ≡ shown now ++ cons_option (unlock_key (pick_call v x.entry)) []
     → shown new ≡ shown old ++ unlocks_made (take (i + 1) ms) v
 sent_more old now new ms v i x l is e k =
-    let one : unlocks_made (take (i + 1) ms) v ≡ unlocks_made (take i ms) v ++ cons_option (unlock_in (call_by v x.entry)) [] =
+    let one : unlocks_made (take (i + 1) ms) v ≡ unlocks_made (take i ms) v ++ cons_option (unlock_key (pick_call v x.entry)) [] =
     ap (λ z. unlocks_made z v) (take_more ms i x l ∙ ap (λ z. take i ms ++ z ∷ []) (sym is))
-    ∙ filter_map-append (λ (m : Made). unlock_in (call_by v m.entry)) (take i ms) (x ∷ []) in
-    k ∙ (ap (λ z. z ++ cons_option (unlock_in (call_by v x.entry)) []) e
-    ∙ (append_assoc (shown old) (unlocks_made (take i ms) v) (cons_option (unlock_in (call_by v x.entry)) []) ∙ ap (λ z. shown old ++ z) (sym one)))
+    ∙ filter_map-append (λ (m : Made). unlock_key (pick_call v m.entry)) (take i ms) (x ∷ []) in
+    k ∙ (ap (λ z. z ++ cons_option (unlock_key (pick_call v x.entry)) []) e
+    ∙ (append_assoc (shown old) (unlocks_made (take i ms) v) (cons_option (unlock_key (pick_call v x.entry)) []) ∙ ap (λ z. shown old ++ z) (sym one)))
 
 pub sent_one : (now new : List (Bor Hashkey)) (r : Bor Hashkey) (o : Option Hashkey) → new ≡ now ++ r ∷ [] → Some r.now ≡ o
     → shown new ≡ shown now ++ cons_option o []
@@ -47,15 +47,15 @@ sent_none now new o e k = ap shown e ∙ (sym (append-nil (shown now)) ∙ ap (�
 
 -- The calls alone hold the unlocks.
 
-pub sent_of_tick : (v : ℕ) (e : Entry) (k : ℕ) → e.what ≡ Tick k → call_by v e ≡ None
-sent_of_tick v e k is = ap (λ w. cond (sent_by v e.sender) (call_in w) None) is ∙ none_either (sent_by v e.sender)
+pub sent_of_tick : (v : ℕ) (e : Entry) (k : ℕ) → e.what ≡ Tick k → pick_call v e ≡ None
+sent_of_tick v e k is = ap (λ w. cond (is_sender v e.sender) (read_raw_call w) None) is ∙ none_either (is_sender v e.sender)
   where
     none_either : (b : Bool) → ◌≡◌ {A = Option Call} (cond b None None) None
     none_either true = refl
     none_either false = refl
 
-pub made_unlocks : (v : ℕ) (h : List Entry) → unlocks_made (made_in h) v ≡ unlocks_in h v
-made_unlocks v h = sym (filter_map_made (λ e. unlock_in (call_by v e)) h (λ e k is. ap unlock_in (sent_of_tick v e k is)))
+pub made_unlocks : (v : ℕ) (h : List Entry) → unlocks_made (made_in h) v ≡ lock_unlocks h v
+made_unlocks v h = sym (filter_map_made (λ e. unlock_key (pick_call v e)) h (λ e k is. ap unlock_key (sent_of_tick v e k is)))
 
 -- The first for a lock.
 
@@ -64,7 +64,7 @@ first_refs f [] = refl
 first_refs f (r ∷ rs) = ap (or_else (f r.now)) (first_refs f rs)
 
 first_head : (i : ℕ) (o : Option Call) (r : Option Hashkey) (ks : List Hashkey) → r ≡ first_of (if_lock i) ks
-    → or_else (key_in i o) r ≡ first_of (if_lock i) (cons_option (unlock_in o) ks)
+    → or_else (fetch_key i o) r ≡ first_of (if_lock i) (cons_option (unlock_key o) ks)
 first_head i None r ks e = e
 first_head i (Some (Publish t)) r ks e = e
 first_head i (Some (Unlock key)) r ks e = ap (or_else (if_lock i key)) e
@@ -72,19 +72,19 @@ first_head i (Some Claim) r ks e = e
 first_head i (Some Refund) r ks e = e
 first_head i (Some (Transfer to units)) r ks e = e
 
-first_unlock : (i v : ℕ) (h : List Entry) → first_of (λ e. key_in i (call_by v e)) h ≡ first_of (if_lock i) (unlocks_in h v)
+first_unlock : (i v : ℕ) (h : List Entry) → first_of (λ e. fetch_key i (pick_call v e)) h ≡ first_of (if_lock i) (lock_unlocks h v)
 first_unlock i v [] = refl
-first_unlock i v (e ∷ h) = first_head i (call_by v e) (first_of (λ e. key_in i (call_by v e)) h) (unlocks_in h v) (first_unlock i v h)
+first_unlock i v (e ∷ h) = first_head i (pick_call v e) (first_of (λ e. fetch_key i (pick_call v e)) h) (lock_unlocks h v) (first_unlock i v h)
 
-first_in_book : (i v : ℕ) (b : Histories) → first_of (λ e. key_in i (call_by v e)) (flat_map (λ h. h) b) ≡ first_of (if_lock i) (unlocks_of b v)
+first_in_book : (i v : ℕ) (b : Histories) → first_of (λ e. fetch_key i (pick_call v e)) (flat_map (λ h. h) b) ≡ first_of (if_lock i) (party_unlocks b v)
 first_in_book i v [] = refl
 first_in_book i v (h ∷ b) =
-    first_of-append (λ e. key_in i (call_by v e)) h (flat_map (λ h. h) b)
-    ∙ (ap (λ o. or_else o (first_of (λ e. key_in i (call_by v e)) (flat_map (λ h. h) b))) (first_unlock i v h)
-    ∙ (ap (or_else (first_of (if_lock i) (unlocks_in h v))) (first_in_book i v b) ∙ sym (first_of-append (if_lock i) (unlocks_in h v) (unlocks_of b v))))
+    first_of-append (λ e. fetch_key i (pick_call v e)) h (flat_map (λ h. h) b)
+    ∙ (ap (λ o. or_else o (first_of (λ e. fetch_key i (pick_call v e)) (flat_map (λ h. h) b))) (first_unlock i v h)
+    ∙ (ap (or_else (first_of (if_lock i) (lock_unlocks h v))) (first_in_book i v b) ∙ sym (first_of-append (if_lock i) (lock_unlocks h v) (party_unlocks b v))))
 
 -- the first hashkey for a lock is found among those that were sent
-pub first_sent : (i v : ℕ) (b : Histories) (rs : List (Bor Hashkey)) → shown rs ≡ unlocks_of b v → first_of (for_lock i) rs ≡ first_key b v i
+pub first_sent : (i v : ℕ) (b : Histories) (rs : List (Bor Hashkey)) → shown rs ≡ party_unlocks b v → first_of (for_lock i) rs ≡ first_key b v i
 unfolding first_key
 first_sent i v b rs e = first_refs (if_lock i) rs ∙ (ap (first_of (if_lock i)) e ∙ sym (first_in_book i v b))
 
@@ -112,7 +112,7 @@ pub record OfUnlocks (test : Option Call → Bool) (p : Hashkey → Bool) : Type
   pub transfer : (to units : ℕ) → test (Some (Transfer to units)) ≡ false
 
 module _ (test : Option Call → Bool) (p : Hashkey → Bool) (u : OfUnlocks test p) where
-  any_head : (o : Option Call) (r : Bool) (ks : List Hashkey) → r ≡ list_any p ks → (test o || r) ≡ list_any p (cons_option (unlock_in o) ks)
+  any_head : (o : Option Call) (r : Bool) (ks : List Hashkey) → r ≡ list_any p ks → (test o || r) ≡ list_any p (cons_option (unlock_key o) ks)
   any_head None r ks e = ap (λ b. b || r) u.none ∙ e
   any_head (Some (Publish t)) r ks e = ap (λ b. b || r) (u.publish t) ∙ e
   any_head (Some (Unlock key)) r ks e = ap (λ b. b || r) (u.unlock key) ∙ ap (λ b. p key || b) e
@@ -120,18 +120,18 @@ module _ (test : Option Call → Bool) (p : Hashkey → Bool) (u : OfUnlocks tes
   any_head (Some Refund) r ks e = ap (λ b. b || r) u.refund ∙ e
   any_head (Some (Transfer to units)) r ks e = ap (λ b. b || r) (u.transfer to units) ∙ e
 
-  any_unlock : (v : ℕ) (h : List Entry) → list_any (λ e. test (call_by v e)) h ≡ list_any p (unlocks_in h v)
+  any_unlock : (v : ℕ) (h : List Entry) → list_any (λ e. test (pick_call v e)) h ≡ list_any p (lock_unlocks h v)
   any_unlock v [] = refl
-  any_unlock v (e ∷ h) = any_head (call_by v e) (list_any (λ e. test (call_by v e)) h) (unlocks_in h v) (any_unlock v h)
+  any_unlock v (e ∷ h) = any_head (pick_call v e) (list_any (λ e. test (pick_call v e)) h) (lock_unlocks h v) (any_unlock v h)
 
-  any_in_book : (v : ℕ) (b : Histories) → list_any (λ e. test (call_by v e)) (flat_map (λ h. h) b) ≡ list_any p (unlocks_of b v)
+  any_in_book : (v : ℕ) (b : Histories) → list_any (λ e. test (pick_call v e)) (flat_map (λ h. h) b) ≡ list_any p (party_unlocks b v)
   any_in_book v [] = refl
   any_in_book v (h ∷ b) =
-      any_append (λ e. test (call_by v e)) h (flat_map (λ h. h) b)
-      ∙ (ap (λ x. x || list_any (λ e. test (call_by v e)) (flat_map (λ h. h) b)) (any_unlock v h)
-      ∙ (ap (λ x. list_any p (unlocks_in h v) || x) (any_in_book v b) ∙ sym (any_append p (unlocks_in h v) (unlocks_of b v))))
+      any_append (λ e. test (pick_call v e)) h (flat_map (λ h. h) b)
+      ∙ (ap (λ x. x || list_any (λ e. test (pick_call v e)) (flat_map (λ h. h) b)) (any_unlock v h)
+      ∙ (ap (λ x. list_any p (lock_unlocks h v) || x) (any_in_book v b) ∙ sym (any_append p (lock_unlocks h v) (party_unlocks b v))))
 
   -- whether some call passes is told by the hashkeys that were sent
-  pub any_sent : (v : ℕ) (b : Histories) (rs : List (Bor Hashkey)) → shown rs ≡ unlocks_of b v
-      → list_any (λ e. test (call_by v e)) (flat_map (λ h. h) b) ≡ list_any (λ r. p r.now) rs
+  pub any_sent : (v : ℕ) (b : Histories) (rs : List (Bor Hashkey)) → shown rs ≡ party_unlocks b v
+      → list_any (λ e. test (pick_call v e)) (flat_map (λ h. h) b) ≡ list_any (λ r. p r.now) rs
   any_sent v b rs e = any_in_book v b ∙ (ap (list_any p) (sym e) ∙ sym (any_refs p rs))

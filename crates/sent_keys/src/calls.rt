@@ -2,7 +2,7 @@
 
 ghost use Rattle.std.specs.Prelude.{◌≡◌, option_copied};
 ghost use Rattle.ledger_core.specs.History.{accepted};
-ghost use Rattle.swap_rules.specs.Party.{call_by};
+ghost use Rattle.swap_rules.specs.Party.{pick_call};
 
 use escrow_core::Reply;
 use ledger_core::{Call, Entry, Sender, What};
@@ -19,8 +19,8 @@ pub fn accepted<'a>(e: &'a Entry) -> Option<&'a Call>
 }
 
 /// The call of the party that an entry is, whatever its reply.
-pub fn call_by<'a>(party: PartyId, e: &'a Entry) -> Option<&'a Call>
-    ensures { option_copied result ≡ call_by party e.now }
+pub fn pick_call<'a>(party: PartyId, e: &'a Entry) -> Option<&'a Call>
+    ensures { option_copied result ≡ pick_call party e.now }
 {
     match (e.sender, &e.what) {
         (Sender::Party(sender), What::Call(call)) => {

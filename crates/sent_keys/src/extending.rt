@@ -7,7 +7,7 @@ use crate::keys::has_parts;
 use hashkey_path::Hashkey;
 use ledger_core::Call;
 use swap_base::PartyId;
-use swap_digraph::is_among;
+use swap_digraph::is_listed;
 
 /// Whether the call is an unlock with a hashkey that this one extends by the party.
 pub fn extends(party: PartyId, key: &Hashkey, call: Option<&Call>) -> bool
@@ -30,7 +30,7 @@ pub fn extends_without(party: PartyId, key: &Hashkey, call: Option<&Call>) -> bo
 {
     match call {
         Some(Call::Unlock(inner)) => {
-            !is_among(party, inner.path.as_slice()) && extends(party, key, call)
+            !is_listed(party, inner.path.as_slice()) && extends(party, key, call)
         }
         _ => false,
     }

@@ -6,10 +6,10 @@ ghost use Rattle.ledger_core.specs.Book.{history, IsLegalBook};
 ghost use Rattle.swap_digraph.specs.Deal.{IsWellSized};
 ghost use Rattle.swap_rules.specs.Party.{first_key};
 ghost use Rattle.swap_rules.specs.Conduct.{is_first_key};
-ghost use Rattle.history_index.specs.Indexes.{entries_in, AreIndexes};
-ghost use Rattle.sent_keys.specs.Sent.{shown, unlock_in, unlocks_made, unlocks_in, unlocks_of};
+ghost use Rattle.history_index.specs.Indexes.{all_entries, AreIndexes};
+ghost use Rattle.sent_keys.specs.Sent.{shown, unlock_key, unlocks_made, lock_unlocks, party_unlocks};
 
-use crate::calls::call_by;
+use crate::calls::pick_call;
 use hash_signature::{Sig, same_sigs};
 use hashkey_path::Hashkey;
 use history_index::{Index, Made};
@@ -58,8 +58,8 @@ pub fn is_first_key(first: Option<&Hashkey>, key: &Hashkey) -> bool
 }
 
 /// The hashkey that a call carries.
-fn unlock_in<'a>(call: Option<&'a Call>) -> Option<&'a Hashkey>
-    ensures { option_copied result ≡ unlock_in (option_copied call.entry) }
+fn unlock_key<'a>(call: Option<&'a Call>) -> Option<&'a Hashkey>
+    ensures { option_copied result ≡ unlock_key (option_copied call.entry) }
 {
     match call {
         Some(Call::Unlock(key)) => Some(key),
@@ -76,7 +76,7 @@ fn put_unlocks<'a>(
     ensures { OnOk result (shown keys.new.items ≡ shown keys.old.items ++ unlocks_made calls.now party) }
 {
     for made in calls {
-        match unlock_in(call_by(party, &made.entry)) {
+        match unlock_key(pick_call(party, &made.entry)) {
             Some(key) => keys.push(key)?,
             None => {}
         }
@@ -86,12 +86,12 @@ fn put_unlocks<'a>(
 
 /// Adds the hashkeys of the party's unlock calls on an arc.
 #[tactic(auto, using(crate::proofs::Unlocks::made_unlocks))]
-fn put_unlocks_on<'a>(
+fn put_arc_unlocks<'a>(
     keys: &mut Vec<&'a Hashkey>,
     index: &'a Index,
     party: PartyId,
 ) -> Result<(), NoMemory>
-    ensures { OnOk result (shown keys.new.items ≡ shown keys.old.items ++ unlocks_in index.now.entries party) }
+    ensures { OnOk result (shown keys.new.items ≡ shown keys.old.items ++ lock_unlocks index.now.entries party) }
 {
     put_unlocks(keys, index.made(), party)
 }
@@ -105,12 +105,12 @@ fn put_own_unlocks<'a>(
     arc: ArcId,
 ) -> Result<(), NoMemory>
     requires known { AreIndexes deal.now known.now }
-    requires legal { IsLegalBook deal.now (entries_in known.now) }
+    requires legal { IsLegalBook deal.now (all_entries known.now) }
     requires arc { arc < length deal.now.graph.arcs }
-    ensures { OnOk result (shown keys.new.items ≡ shown keys.old.items ++ unlocks_in (history (entries_in known.now) arc) party) }
+    ensures { OnOk result (shown keys.new.items ≡ shown keys.old.items ++ lock_unlocks (history (all_entries known.now) arc) party) }
 {
     if is_adjacent(deal, arc, party) {
-        put_unlocks_on(keys, &known[arc as usize], party)?;
+        put_arc_unlocks(keys, &known[arc as usize], party)?;
     }
     Ok(())
 }
@@ -124,8 +124,8 @@ pub fn unlocks_on_own_arcs<'a>(
 ) -> Result<Vec<&'a Hashkey>, NoMemory>
     requires sized { IsWellSized deal.now }
     requires known { AreIndexes deal.now known.now }
-    requires legal { IsLegalBook deal.now (entries_in known.now) }
-    ensures { IfOk result (λ v. shown v.items ≡ unlocks_of (entries_in known.now) party) }
+    requires legal { IsLegalBook deal.now (all_entries known.now) }
+    ensures { IfOk result (λ v. shown v.items ≡ party_unlocks (all_entries known.now) party) }
 {
     let mut keys = Vec::new(alloc);
     for arc in 0..deal.graph.arcs().len() as u8 {
@@ -142,8 +142,8 @@ pub fn first_key<'a>(
     keys: &[&'a Hashkey],
     lock: LockId,
 ) -> Option<&'a Hashkey>
-    requires keys { shown keys.now ≡ unlocks_of (entries_in known.now) party }
-    ensures { option_copied result ≡ first_key (entries_in known.now) party lock }
+    requires keys { shown keys.now ≡ party_unlocks (all_entries known.now) party }
+    ensures { option_copied result ≡ first_key (all_entries known.now) party lock }
 {
     for key in keys {
         if key.lock == lock {

@@ -7,6 +7,6 @@ mod calls;
 mod extending;
 mod keys;
 
-pub use calls::{accepted, call_by};
+pub use calls::{accepted, pick_call};
 pub use extending::{extends, extends_without};
 pub use keys::{first_key, has_parts, is_first_key, same_key, unlocks_on_own_arcs};

@@ -1,7 +1,7 @@
 //! The program: `swap run < offer`.
 #![tactic(auto)]
 
-use command_input::words_of;
+use command_input::collect_words;
 use party_threads::Gate;
 use std::alloc::Global;
 use std::process::ExitCode;
@@ -26,7 +26,7 @@ fn may_race(words: &[String]) -> bool {
 }
 
 fn main(rt: HostRuntime) -> ExitCode {
-    let status = match words_of(rt.alloc(), env::args(&rt)) {
+    let status = match collect_words(rt.alloc(), env::args(&rt)) {
         Ok(Some(words)) => {
             let mut source = ReaderSource::new(rt.reader());
             let mut sink = WriterSink::new(io::writer(&rt));

@@ -20,11 +20,11 @@ use Rattle.ledger_core.specs.declared.entry.Sender.TheVariants.{Party, Clock}
 use Rattle.ledger_core.specs.declared.entry.What.{What}
 use Rattle.ledger_core.specs.declared.entry.What.TheVariants.{Call as Made, Tick}
 use Rattle.ledger_core.specs.declared.entry.Entry.{Entry}
-use Rattle.ledger_core.specs.History.{ticks_in, accepted, accepted_call, height, Publication, publication, published, opening, opened}
-use Rattle.ledger_core.specs.History.{settling, settled, is_open, triggered, terms_in, accounts, moved, balance, held, is_full, is_clock_full, rows}
-use Rattle.ledger_core.specs.History.{reply_to, reply_to_tick, IsLegal, IsLegalEntry, IsLegalMoment}
+use Rattle.ledger_core.specs.History.{entry_ticks, accepted, accepted_call, height, Publication, publication, published, opening, opened}
+use Rattle.ledger_core.specs.History.{settling, settled, is_open, triggered, parse_terms, accounts, moved, balance, held, is_full, is_clock_full, rows}
+use Rattle.ledger_core.specs.History.{history_reply, reply_to_tick, IsLegal, IsLegalEntry, IsLegalMoment}
 use Rattle.ledger_core.specs.Book.{Histories, history, IsLegalBook}
-use Rattle.ledger_core.proofs.Bounds.{calls_of, ticks_of, calls-push, ticks-push, height-push, room_of, tick_room}
+use Rattle.ledger_core.proofs.Bounds.{total_calls, run_ticks, calls-push, ticks-push, height-push, room_of, tick_room}
 use Rattle.ledger_core.proofs.Units.{accounts-push}
 use Rattle.swap_base.proofs.Lists.{first_of-append}
 use Rattle.swap_base.specs.Lists.{or_else}
@@ -32,8 +32,8 @@ use Rattle.swap_digraph.specs.Graph.{entering, leaving}
 use Rattle.swap_rules.specs.declared.outcome.Outcome.{Outcome}
 use Rattle.swap_rules.specs.declared.outcome.Outcome.TheVariants.{NoDeal, FreeRide, Underwater, Deal as WholeDeal, Discount}
 use Rattle.swap_rules.specs.Outcome.{outcome, is_got, is_claim, got, lost}
-use Rattle.swap_rules.specs.Party.{is_correct_in, is_triggered}
-use Rattle.swap_auditor.specs.Accepted.{is_accepted, accepted_in, accepted_only, HoldTheSame}
+use Rattle.swap_rules.specs.Party.{is_arc_correct, is_triggered}
+use Rattle.swap_auditor.specs.Accepted.{is_accepted, accepted_calls, accepted_only, HoldTheSame}
 
 -- What stands in one list of entries stands in the other, which has no more of them.
 record IsSame (d : Deal) (a : ℕ) (h k : List Entry) : Type 0 where
@@ -42,8 +42,8 @@ record IsSame (d : Deal) (a : ℕ) (h k : List Entry) : Type 0 where
   published : published k ≡ published h
   opened : (i : ℕ) → opened k i ≡ opened h i
   settled : settled k ≡ settled h
-  calls : (p : ℕ) → calls_of p k ≤ calls_of p h
-  ticks : ticks_of k ≤ ticks_of h
+  calls : (p : ℕ) → total_calls p k ≤ total_calls p h
+  ticks : run_ticks k ≤ run_ticks h
 
 -- The rows of the table, after that of a full sender, by what stands in the history.
 
@@ -53,15 +53,15 @@ balance_in d a b p = cond (p == party d a) b.party b.counterparty
 abbrev further_rows : Deal → ℕ → Accounts → Option Publication → (ℕ → Bool) → Option Settlement → (at p : ℕ) → Call → List (Bool × Reply)
 further_rows d a b o is_open s at p (Publish terms) =
     (not (p == party d a), NotParty) ∷ (is_some o, AlreadyPublished) ∷ (nat_lt (balance_in d a b p) terms.amount, NoFunds (balance_in d a b p)) ∷ []
-further_rows d a b o is_open s at p (Unlock key) = (is_none o, NoContract) ∷ unlock_rows d a (terms_in o) is_open (is_some s) at p key
+further_rows d a b o is_open s at p (Unlock key) = (is_none o, NoContract) ∷ unlock_rows d a (parse_terms o) is_open (is_some s) at p key
 further_rows d a b o is_open s at p Claim = (is_none o, NoContract) ∷ claim_rows d a is_open (is_some s) p
-further_rows d a b o is_open s at p Refund = (is_none o, NoContract) ∷ refund_rows d a (terms_in o) is_open (is_some s) at p
+further_rows d a b o is_open s at p Refund = (is_none o, NoContract) ∷ refund_rows d a (parse_terms o) is_open (is_some s) at p
 further_rows d a b o is_open s at p (Transfer to units) = (nat_lt (balance_in d a b p) units, NoFunds (balance_in d a b p)) ∷ []
 
 abbrev further : Deal → ℕ → List Entry → ℕ → Call → List (Bool × Reply)
 further d a h p c = further_rows d a (accounts d a h) (published h) (is_open h) (settled h) (height h) p c
 
-reply_is : (d : Deal) (a : ℕ) (h : List Entry) (p : ℕ) (c : Call) → reply_to d a h p c ≡ cond (is_full h p) SenderFull (first_row (further d a h p c))
+reply_is : (d : Deal) (a : ℕ) (h : List Entry) (p : ℕ) (c : Call) → history_reply d a h p c ≡ cond (is_full h p) SenderFull (first_row (further d a h p c))
 unfolding rows
 reply_is d a h p (Publish terms) = refl
 reply_is d a h p (Unlock key) = refl
@@ -79,12 +79,13 @@ same_rows d a h k p c s =
     ∙ ap (λ (x : ℕ). further_rows d a (accounts d a h) (published h) (is_open h) (settled h) x p c) s.height
 
 -- an accepted call is accepted without the refused ones before it
-still_accepted : (d : Deal) (a : ℕ) (h k : List Entry) (p : ℕ) (c : Call) → IsSame d a h k → Accepted ≡ reply_to d a h p c → Accepted ≡ reply_to d a k p c
+still_accepted : (d : Deal) (a : ℕ) (h k : List Entry) (p : ℕ) (c : Call) → IsSame d a h k → Accepted ≡ history_reply d a h p c
+    → Accepted ≡ history_reply d a k p c
 still_accepted d a h k p c s e =
-    let room : calls_of p h < 32 = room_of d a h p c Accepted e (λ x. cc x) in
+    let room : total_calls p h < 32 = room_of d a h p c Accepted e (λ x. cc x) in
     let few = s.calls p in
-    let free : is_full h p ≡ false = lt-leb 32 (calls_of p h) room in
-    let free_too : is_full k p ≡ false = lt-leb 32 (calls_of p k) (omega arith) in
+    let free : is_full h p ≡ false = lt-leb 32 (total_calls p h) room in
+    let free_too : is_full k p ≡ false = lt-leb 32 (total_calls p k) (omega arith) in
     e ∙ reply_is d a h p c ∙ ap (λ b. cond b SenderFull (first_row (further d a h p c))) free ∙ ap first_row (sym (same_rows d a h k p c s))
     ∙ sym (reply_is d a k p c ∙ ap (λ b. cond b SenderFull (first_row (further d a k p c))) free_too)
 
@@ -94,7 +95,7 @@ still_ticks d a h k n s e =
     let few = s.ticks in
     let before = room.ticks in
     let below = room.height in
-    let first : nat_le 20000 (ticks_of k) ≡ false = lt-leb 20000 (ticks_of k) (omega arith) in
+    let first : nat_le 20000 (run_ticks k) ≡ false = lt-leb 20000 (run_ticks k) (omega arith) in
     let second : nat_lt 1000000 (height k + n) ≡ false = le-ltb 1000000 (height k + n) (rw s.height below) in
     rw (first, second) refl
 
@@ -106,7 +107,7 @@ or_else-none (Some x) = refl
 
 same_more : (d : Deal) (a : ℕ) (h k : List Entry) (e : Entry) → IsSame d a h k → IsSame d a (h ++ e ∷ []) (k ++ e ∷ [])
 same_more d a h k e s = record {
-  height = height-push k e ∙ ap (λ n. n + ticks_in e.what) s.height ∙ sym (height-push h e);
+  height = height-push k e ∙ ap (λ n. n + entry_ticks e.what) s.height ∙ sym (height-push h e);
   accounts = accounts-push d a k e ∙ ap (λ b. moved d a b e.sender (accepted e)) s.accounts ∙ sym (accounts-push d a h e);
   published =
       first_of-append (λ x. publication x.height (accepted x)) k (e ∷ [])
@@ -123,7 +124,7 @@ same_more d a h k e s = record {
   ticks = let few = s.ticks in omega (arith, ticks-push k e, ticks-push h e);
 }
 
-same_without : (d : Deal) (a : ℕ) (h k : List Entry) (e : Entry) → accepted e ≡ None → ticks_in e.what ≡ 0 → IsSame d a h k → IsSame d a (h ++ e ∷ []) k
+same_without : (d : Deal) (a : ℕ) (h k : List Entry) (e : Entry) → accepted e ≡ None → entry_ticks e.what ≡ 0 → IsSame d a h k → IsSame d a (h ++ e ∷ []) k
 same_without d a h k e none still s = record {
   height = s.height ∙ sym (height-push h e ∙ ap (λ n. height h + n) still ∙ (let z : ◌≡◌ {A = ℕ} (height h + 0) (height h) = omega arith in z));
   accounts = s.accounts ∙ sym (accounts-push d a h e ∙ ap (moved d a (accounts d a h) e.sender) none);
@@ -155,7 +156,7 @@ tick_accepts false r e n = e
 
 -- a refused entry of a legal history is no tick
 refused_still : (d : Deal) (a : ℕ) (h : List Entry) (s : Sender) (w : What) (at : ℕ) (r : Reply) → IsLegalEntry d a h s w at r → is_accepted r ≡ false
-    → ticks_in w ≡ 0
+    → entry_ticks w ≡ 0
 refused_still d a h (Party p) (Made c) at r l e = refl
 refused_still d a h Clock (Tick k) at r l e = absurd (cc (sym e ∙ ap is_accepted (tick_accepts (is_clock_full h k) r l.reply l.room)))
 refused_still d a h (Party p) (Tick k) at r l e = absurd l
@@ -183,31 +184,31 @@ still_legal d a h k Clock (Made c) at r same is l = absurd l
 -- Whole histories.
 
 abbrev Stays : Deal → ℕ → List Entry → Type 0
-Stays d a h = IsLegal d a h → IsLegal d a (accepted_in h) × IsSame d a h (accepted_in h)
+Stays d a h = IsLegal d a h → IsLegal d a (accepted_calls h) × IsSame d a h (accepted_calls h)
 
-only_more : (h : List Entry) (e : Entry) → is_accepted e.reply ≡ true → accepted_in (h ++ e ∷ []) ≡ accepted_in h ++ e ∷ []
-only_more h e k = filter-append (λ x. is_accepted x.reply) h (e ∷ []) ∙ ap (λ b. accepted_in h ++ cond b (e ∷ []) []) k
+only_more : (h : List Entry) (e : Entry) → is_accepted e.reply ≡ true → accepted_calls (h ++ e ∷ []) ≡ accepted_calls h ++ e ∷ []
+only_more h e k = filter-append (λ x. is_accepted x.reply) h (e ∷ []) ∙ ap (λ b. accepted_calls h ++ cond b (e ∷ []) []) k
 
 append-nil : (xs : List Entry) → xs ++ [] ≡ xs
 append-nil [] = refl
 append-nil (x ∷ xs) = ap (λ (l : List Entry). x ∷ l) (append-nil xs)
 
-only_without : (h : List Entry) (e : Entry) → is_accepted e.reply ≡ false → accepted_in (h ++ e ∷ []) ≡ accepted_in h
-only_without h e k = filter-append (λ x. is_accepted x.reply) h (e ∷ []) ∙ ap (λ b. accepted_in h ++ cond b (e ∷ []) []) k ∙ append-nil (accepted_in h)
+only_without : (h : List Entry) (e : Entry) → is_accepted e.reply ≡ false → accepted_calls (h ++ e ∷ []) ≡ accepted_calls h
+only_without h e k = filter-append (λ x. is_accepted x.reply) h (e ∷ []) ∙ ap (λ b. accepted_calls h ++ cond b (e ∷ []) []) k ∙ append-nil (accepted_calls h)
 
 stays_after : (d : Deal) (a : ℕ) (h : List Entry) (e : Entry) (b : Bool) → is_accepted e.reply ≡ b → IsLegalEntry d a h e.sender e.what e.height e.reply
-    → IsLegal d a (accepted_in h) × IsSame d a h (accepted_in h)
-    → IsLegal d a (accepted_in (h ++ e ∷ [])) × IsSame d a (h ++ e ∷ []) (accepted_in (h ++ e ∷ []))
+    → IsLegal d a (accepted_calls h) × IsSame d a h (accepted_calls h)
+    → IsLegal d a (accepted_calls (h ++ e ∷ [])) × IsSame d a (h ++ e ∷ []) (accepted_calls (h ++ e ∷ []))
 stays_after d a h e true k l s =
     rw (only_more h e k) (
-      all_moments_push (IsLegalMoment d a) (accepted_in h) e s.0
-          (still_legal d a h (accepted_in h) e.sender e.what e.height e.reply s.1 (accepted_is e.reply k) l),
-      same_more d a h (accepted_in h) e s.1,
+      all_moments_push (IsLegalMoment d a) (accepted_calls h) e s.0
+          (still_legal d a h (accepted_calls h) e.sender e.what e.height e.reply s.1 (accepted_is e.reply k) l),
+      same_more d a h (accepted_calls h) e s.1,
     )
 stays_after d a h e false k l s =
     rw (only_without h e k) (
       s.0,
-      same_without d a h (accepted_in h) e (refused_none e.what e.reply k)
+      same_without d a h (accepted_calls h) e (refused_none e.what e.reply k)
           (refused_still d a h e.sender e.what e.height e.reply l k) s.1,
     )
 
@@ -231,8 +232,8 @@ stays d a h =
 
 -- Books.
 
-history_is : (b : Histories) (a : ℕ) → history (accepted_only b) a ≡ accepted_in (history b a)
-history_is b a = get_or-map_at accepted_in b a []
+history_is : (b : Histories) (a : ℕ) → history (accepted_only b) a ≡ accepted_calls (history b a)
+history_is b a = get_or-map_at accepted_calls b a []
 
 past_end : (b : Histories) (a : ℕ) → length b ≤ a → history b a ≡ []
 past_end b a le = get_or_past b a [] le
@@ -246,7 +247,7 @@ legal_at d b a l = by (nat_lt a (length b)) refl
 
 pub is_legal_still : (d : Deal) (b : Histories) → IsLegalBook d b → IsLegalBook d (accepted_only b)
 is_legal_still d b l = record {
-  one_each = length-map b accepted_in ∙ l.one_each;
+  one_each = length-map b accepted_calls ∙ l.one_each;
   legal = λ a lt. rw (history_is b a) (stays d a (history b a) (legal_at d b a l)).0;
 }
 
@@ -270,23 +271,23 @@ same_outcome d b c v lost_same got_same =
     ∙ sym (outcome_is d b v)
 
 module _ (d : Deal) (b : Histories) (l : IsLegalBook d b) where
-  same_at : (a : ℕ) → IsSame d a (history b a) (accepted_in (history b a))
-  same_at a = (stays d a (history b a) (legal_at d b a l)).1
+  find_same_key : (a : ℕ) → IsSame d a (history b a) (accepted_calls (history b a))
+  find_same_key a = (stays d a (history b a) (legal_at d b a l)).1
 
   same_trigger : (a : ℕ) → is_triggered d (accepted_only b) a ≡ is_triggered d b a
   same_trigger a =
-      let same_open : is_open (accepted_in (history b a)) ≡ is_open (history b a) = λ j i. ap (λ o. is_some o) ((same_at a).opened i) j in
+      let same_open : is_open (accepted_calls (history b a)) ≡ is_open (history b a) = λ j i. ap (λ o. is_some o) ((find_same_key a).opened i) j in
       ap (triggered d) (history_is b a) ∙ ap (are_open d) same_open
 
   same_got : (a : ℕ) → is_got d (accepted_only b) a ≡ is_got d b a
   same_got a =
-      ap (λ h. is_correct_in d a (published h) && is_claim (settled h)) (history_is b a)
-      ∙ ap₂ (λ o s. is_correct_in d a o && is_claim s) (same_at a).published (same_at a).settled
+      ap (λ h. is_arc_correct d a (published h) && is_claim (settled h)) (history_is b a)
+      ∙ ap₂ (λ o s. is_arc_correct d a o && is_claim s) (find_same_key a).published (find_same_key a).settled
 
   pub holds_the_same : HoldTheSame d b (accepted_only b)
   holds_the_same = record {
-    heights = λ a. ap height (history_is b a) ∙ (same_at a).height;
-    balances = λ a p. ap (λ h. balance d a h p) (history_is b a) ∙ ap (λ (x : Accounts). balance_in d a x p) (same_at a).accounts;
-    held = λ a. ap held (history_is b a) ∙ ap₂ (λ s o. cond (is_some s) 0 (terms_in o).amount) (same_at a).settled (same_at a).published;
+    heights = λ a. ap height (history_is b a) ∙ (find_same_key a).height;
+    balances = λ a p. ap (λ h. balance d a h p) (history_is b a) ∙ ap (λ (x : Accounts). balance_in d a x p) (find_same_key a).accounts;
+    held = λ a. ap held (history_is b a) ∙ ap₂ (λ s o. cond (is_some s) 0 (parse_terms o).amount) (find_same_key a).settled (find_same_key a).published;
     outcomes = λ v. same_outcome d b (accepted_only b) v same_trigger same_got;
   }

@@ -24,7 +24,7 @@ use Rattle.ledger_core.proofs.Units.{units}
 use Rattle.swap_auditor.specs.declared.replay.BadReply.{BadReply}
 use Rattle.swap_auditor.specs.Replies.{same_reply}
 use Rattle.ledger_core.specs.WellFormed.{written_height, IsFormedCall, IsFormedTick, IsFormedWhat, IsFormedEntry, IsFormed, IsWellFormed, GoesOn}
-use Rattle.swap_auditor.specs.Audit.{replayed, with_entry, replay, replay_from, UnitsAddUp}
+use Rattle.swap_auditor.specs.Audit.{replayed, with_entry, replay, replay_histories, AreUnitsConserved}
 
 -- Entries.
 
@@ -126,7 +126,7 @@ pub past_all : (past xs : List Entry) (i : ℕ) → length xs ≤ i → past ≡
 past_all past xs i le p = p ∙ take_all i xs le
 
 -- at every prefix of a legal book's histories the units add up
-pub units_add_up : (d : Deal) (b : Histories) → IsLegalBook d b → UnitsAddUp d b
+pub units_add_up : (d : Deal) (b : Histories) → IsLegalBook d b → AreUnitsConserved d b
 units_add_up d b l a h rest lt e =
     (units d a h (all_moments_front (IsLegalMoment d a) h rest (subst (IsLegal d a) e (l.legal a (omega (arith, l.one_each)))))).total
 
@@ -135,10 +135,10 @@ units_add_up d b l a h rest lt e =
 module _ (d : Deal) (b : Histories) where
   -- what is left of the histories
   abbrev pub left : ℕ → Result (Unit {0}) BadReply
-  left i = replay_from d i (drop i b)
+  left i = replay_histories d i (drop i b)
 
   step : (i : ℕ) (h : List Entry) → i < length b → h ≡ get_or b i h → left i ≡ replay d i h >>= λ _. left (i + 1)
-  step i h lt is = let e : drop i b ≡ h ∷ drop (i + 1) b = rw (add-one, drop-cons b i h, ← is) refl in ap (replay_from d i) e
+  step i h lt is = let e : drop i b ≡ h ∷ drop (i + 1) b = rw (add-one, drop-cons b i h, ← is) refl in ap (replay_histories d i) e
 
   pub book_on : (i : ℕ) (h t : List Entry) (total : Result (Unit {0}) BadReply) → i < length b → h ≡ get_or b i h → replay d i h ≡ Ok t → left i ≡ total
       → left (i + 1) ≡ total
@@ -150,7 +150,7 @@ module _ (d : Deal) (b : Histories) where
   book_fails (Refused r) i h total lt is f so_far = sym so_far ∙ step i h lt is ∙ ap (λ (x : Result (List Entry) BadReply). x >>= λ _. left (i + 1)) f
 
   pub book_done : (i : ℕ) (total : Result (Unit {0}) BadReply) → length b ≤ i → left i ≡ total → total ≡ Ok tt
-  book_done i total le so_far = sym so_far ∙ ap (replay_from d i) (nil_from_length (drop i b) (omega (arith, length-drop i b)))
+  book_done i total le so_far = sym so_far ∙ ap (replay_histories d i) (nil_from_length (drop i b) (omega (arith, length-drop i b)))
 
   -- the histories before arc i are legal
   abbrev pub AreLegalBefore : ℕ → Type 0

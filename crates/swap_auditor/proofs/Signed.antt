@@ -11,12 +11,12 @@ use Rattle.hashkey_path.proofs.Known.{valid_is_known}
 use Rattle.escrow_core.specs.declared.reply.Reply.{Reply}
 use Rattle.escrow_core.specs.declared.reply.Reply.TheVariants.{Accepted, Settled, NotCounterparty, AlreadyUnlocked, WrongSecret, WrongPath}
 use Rattle.escrow_core.specs.declared.reply.Reply.TheVariants.{WrongSignature, TooLate, NoContract, SenderFull}
-use Rattle.escrow_core.specs.Terms.{hashlock_in, last_in}
+use Rattle.escrow_core.specs.Terms.{read_hashlock, last_unlock}
 use Rattle.ledger_core.specs.declared.entry.Call.{Call}
 use Rattle.ledger_core.specs.declared.entry.Call.TheVariants.{Publish, Unlock, Claim, Refund, Transfer}
 use Rattle.ledger_core.specs.declared.entry.Entry.{Entry}
-use Rattle.ledger_core.specs.History.{height, published, settled, the_terms, is_open, is_full, reply_to, rows}
-use Rattle.ledger_core.specs.Known.{is_known_in}
+use Rattle.ledger_core.specs.History.{height, published, settled, the_terms, is_open, is_full, history_reply, rows}
+use Rattle.ledger_core.specs.Known.{is_known_call}
 use Rattle.swap_auditor.specs.Replies.{is_after_check}
 use Rattle.swap_auditor.specs.Found.{IsSigned, IsTold, SharesLast}
 
@@ -30,7 +30,7 @@ pub found_is_signed : (d : Deal) (keys read : List Hashkey) (i : ℕ) (x y : Has
     → x ≡ get_or read i x → y ≡ x → IsSigned d y
 found_is_signed d keys read i x y r all lt is same = subst (IsSigned d) (sym (same ∙ is)) (subst (All (IsSigned d)) (sym r) all i x lt)
 
-pub known_call : (n : ℕ) (d : Deal) (key : Hashkey) → is_last_signed n d key ≡ true → is_known_in n d (Unlock key) ≡ true
+pub known_call : (n : ℕ) (d : Deal) (key : Hashkey) → is_last_signed n d key ≡ true → is_known_call n d (Unlock key) ≡ true
 known_call zero d key e = refl
 known_call (suc n) d key e = e
 
@@ -51,21 +51,21 @@ passed false false false false false false true signature late last e = absurd (
 passed false false false false false false false true late last e = absurd (cc e)
 passed false false false false false false false false late last e = (refl, refl, refl)
 
-valid_of : (secret path signature : Bool) → secret ≡ false → path ≡ false → signature ≡ false → (not secret && not path && not signature) ≡ true
-valid_of secret path signature a b c = rw (a, b, c) refl
+validity_flags : (secret path signature : Bool) → secret ≡ false → path ≡ false → signature ≡ false → (not secret && not path && not signature) ≡ true
+validity_flags secret path signature a b c = rw (a, b, c) refl
 
-signed_by : (d : Deal) (a : ℕ) (past : List Entry) (p : ℕ) (key : Hashkey) → is_after_check (reply_to d a past p (Unlock key)) ≡ true → IsSigned d key
+signed_by : (d : Deal) (a : ℕ) (past : List Entry) (p : ℕ) (key : Hashkey) → is_after_check (history_reply d a past p (Unlock key)) ≡ true → IsSigned d key
 unfolding rows
 signed_by d a past p key e n =
-    let hashlock = hashlock_in (the_terms past) key.lock in
+    let hashlock = read_hashlock (the_terms past) key.lock in
     let parts = passed (is_full past p) (is_none (published past)) (is_some (settled past)) (not (p == counterparty d a)) (is_open past key.lock)
     (is_wrong_secret hashlock key) (is_wrong_path d a d.mode key) (is_wrong_signature d d.mode key)
-    (nat_lt (last_in d.mode (the_terms past) key) (height past)) (last_in d.mode (the_terms past) key) e in
-    valid_is_known n d a hashlock key (valid_of (is_wrong_secret hashlock key) (is_wrong_path d a d.mode key) (is_wrong_signature d d.mode key) parts.0
+    (nat_lt (last_unlock d.mode (the_terms past) key) (height past)) (last_unlock d.mode (the_terms past) key) e in
+    valid_is_known n d a hashlock key (validity_flags (is_wrong_secret hashlock key) (is_wrong_path d a d.mode key) (is_wrong_signature d d.mode key) parts.0
     parts.1 parts.2)
 
 -- the reply of the table tells of the signatures of the hashkey that the call presents
-pub told : (d : Deal) (a : ℕ) (past : List Entry) (p : ℕ) (c : Call) (r : Reply) → r ≡ reply_to d a past p c → IsTold d c r
+pub told : (d : Deal) (a : ℕ) (past : List Entry) (p : ℕ) (c : Call) (r : Reply) → r ≡ history_reply d a past p c → IsTold d c r
 told d a past p (Unlock key) r is = λ after. signed_by d a past p key (ap is_after_check (sym is) ∙ after)
 told d a past p (Publish t) r is = tt
 told d a past p Claim r is = tt

@@ -14,12 +14,12 @@ is_accepted Accepted = true
 is_accepted _ = false
 
 -- the entries that were accepted: every tick, and the calls that weren't refused
-abbrev pub accepted_in : List Entry → List Entry
-accepted_in h = filter (λ e. is_accepted e.reply) h
+abbrev pub accepted_calls : List Entry → List Entry
+accepted_calls h = filter (λ e. is_accepted e.reply) h
 
 -- the book with every refused entry left out
 abbrev pub accepted_only : Histories → Histories
-accepted_only b = map accepted_in b
+accepted_only b = map accepted_calls b
 
 -- The heights, balances, held amounts and outcomes of one book are those of another.
 pub record HoldTheSame (d : Deal) (b other : Histories) : Type 0 where

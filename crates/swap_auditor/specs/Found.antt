@@ -27,8 +27,8 @@ IsTold d _ reply = Unit {0}
 
 -- What the object shows: the deal; and what holds of it.
 
-abbrev pub deal_of : Inside → Deal
-deal_of f = f.deal
+abbrev pub inside_deal : Inside → Deal
+inside_deal f = f.deal
 
 abbrev pub AreSigned : Inside → Type 0
 AreSigned f = All (IsSigned f.deal) f.keys.items

@@ -2,7 +2,7 @@
 
 ghost use Rattle.std.specs.Prelude.{◌≡◌, ◌++◌, ◌∷◌, [], IfOk, OnOk};
 ghost use Rattle.ledger_core.specs.Book.{IsLegalBook};
-ghost use Rattle.swap_auditor.specs.Accepted.{accepted_in, accepted_only, is_accepted as is_accepted_reply, HoldTheSame};
+ghost use Rattle.swap_auditor.specs.Accepted.{accepted_calls, accepted_only, is_accepted as is_accepted_reply, HoldTheSame};
 
 use escrow_core::Reply;
 use ledger_core::{Book, Entry, EntryList};
@@ -18,7 +18,7 @@ fn is_accepted(entry: &Entry) -> bool
 
 /// Adds an entry, where it was accepted.
 fn push_accepted(list: &mut EntryList, entry: &Entry) -> Result<(), NoMemory>
-    ensures { OnOk result (list.new ≡ list.old ++ accepted_in (entry.now ∷ [])) }
+    ensures { OnOk result (list.new ≡ list.old ++ accepted_calls (entry.now ∷ [])) }
 {
     if is_accepted(entry) {
         list.push(entry.copy()?)?;
@@ -27,8 +27,8 @@ fn push_accepted(list: &mut EntryList, entry: &Entry) -> Result<(), NoMemory>
 }
 
 /// The entries that were accepted.
-fn accepted_of(alloc: Global, list: &EntryList) -> Result<EntryList, NoMemory>
-    ensures { IfOk result (λ l. l ≡ accepted_in list.now) }
+fn accepted_entries(alloc: Global, list: &EntryList) -> Result<EntryList, NoMemory>
+    ensures { IfOk result (λ l. l ≡ accepted_calls list.now) }
 {
     let entries = list.to_vec(alloc)?;
     let mut accepted = EntryList::empty(alloc);
@@ -47,7 +47,7 @@ pub fn accepted_only(alloc: Global, deal: &Deal, book: &Book) -> Result<Book, No
 {
     let mut histories = Vec::new(alloc);
     for list in book.histories.as_slice() {
-        histories.push(accepted_of(alloc, list)?)?;
+        histories.push(accepted_entries(alloc, list)?)?;
     }
     Ok(Book {
         histories: Listed::new(histories),

@@ -8,13 +8,13 @@ ghost use Rattle.swap_rules.specs.Accepted.{IsAccepted};
 ghost use Rattle.swap_rules.specs.Laws.{FindsNothing, IsTransferred};
 ghost use Rattle.outcome_rules.specs.Promises.{AllAreConforming, AllAreWhole, AllHaveRefunds, NoneIsUnderwater, shown_outcome};
 ghost use Rattle.outcome_rules.specs.Report.{conforms_in};
-ghost use Rattle.swap_auditor.specs.Audit.{audited, replay_from, UnitsAddUp};
+ghost use Rattle.swap_auditor.specs.Audit.{audited, replay_histories, AreUnitsConserved};
 ghost use Rattle.ledger_core.specs.WellFormed.{IsWellFormed};
 
 use crate::found::Found;
 use crate::replay::{AuditFault, replay};
 use ledger_core::{Book, EntryList, share_deal};
-use outcome_rules::{Report, report_of};
+use outcome_rules::{Report, build_report};
 use std::alloc::Global;
 use swap_base::{ArcId, Listed, Shared};
 use swap_digraph::Deal;
@@ -23,7 +23,7 @@ use swap_digraph::Deal;
 fn replay_all(alloc: Global, deal: &Shared<Deal>, book: &Book) -> Result<(), AuditFault>
     requires sized { IsWellSized deal.now }
     requires formed { IsWellFormed deal.now book.now.histories }
-    ensures exact { Gives (λ u. u) result (replay_from deal.now 0 book.now.histories) }
+    ensures exact { Gives (λ u. u) result (replay_histories deal.now 0 book.now.histories) }
     ensures legal { OnOk result (IsLegalBook deal.now book.now.histories) }
 {
     let mut found = Found::new(alloc, deal)?;
@@ -37,7 +37,7 @@ fn replay_all(alloc: Global, deal: &Shared<Deal>, book: &Book) -> Result<(), Aud
 pub fn replay_book(alloc: Global, deal: &Deal, book: &Book) -> Result<(), AuditFault>
     requires sized { IsWellSized deal.now }
     requires formed { IsWellFormed deal.now book.now.histories }
-    ensures exact { Gives (λ u. u) result (replay_from deal.now 0 book.now.histories) }
+    ensures exact { Gives (λ u. u) result (replay_histories deal.now 0 book.now.histories) }
     ensures legal { OnOk result (IsLegalBook deal.now book.now.histories) }
 {
     let held = share_deal(alloc, deal)?;
@@ -57,7 +57,7 @@ pub fn audit_book(
     requires formed { IsWellFormed deal.now book.now.histories }
     ensures exact { Gives (λ r. r) result (audited deal.now conforming.now book.now.histories) }
     ensures legal { OnOk result (IsLegalBook deal.now book.now.histories) }
-    ensures units { OnOk result (UnitsAddUp deal.now book.now.histories) }
+    ensures units { OnOk result (AreUnitsConserved deal.now book.now.histories) }
     ensures safe { IfOk result (λ r. NoneIsUnderwater deal.now conforming.now (shown_outcome r) r.findings) }
     ensures refunds { IfOk result (λ r. AllHaveRefunds deal.now conforming.now book.now.histories r.findings) }
     ensures transfer { IfOk result (λ r. (k : IsAccepted deal.now) → AllAreConforming deal.now conforming.now → r.findings ≡ []
@@ -66,6 +66,6 @@ pub fn audit_book(
     ensures nothing_found { IfOk result (λ r. r.findings ≡ [] → FindsNothing deal.now (conforms_in conforming.now) book.now.histories) }
 {
     replay_book(alloc, deal, book)?;
-    let report = report_of(alloc, deal, conforming, book)?;
+    let report = build_report(alloc, deal, conforming, book)?;
     Ok(report)
 }

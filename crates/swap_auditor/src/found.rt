@@ -3,7 +3,7 @@
 ghost use Rattle.std.specs.Prelude.{◌≡◌, ◌≤◌, IsTrue, IfOk, length, true};
 ghost use Rattle.swap_digraph.specs.Deal.{IsWellSized};
 ghost use Rattle.hashkey_path.specs.Known.{is_last_signed};
-ghost use Rattle.ledger_core.specs.Known.{is_known_in};
+ghost use Rattle.ledger_core.specs.Known.{is_known_call};
 ghost use Rattle.swap_auditor.specs.Found.{IsSigned, IsTold, SharesLast};
 
 use crate::same_reply::is_after_check;
@@ -28,9 +28,9 @@ impl Model for Found {
 
     ghost Value = { Deal };
 
-    ghost use Rattle.swap_auditor.specs.Found.{deal_of, AreSigned};
+    ghost use Rattle.swap_auditor.specs.Found.{inside_deal, AreSigned};
 
-    ghost view = { deal_of };
+    ghost view = { inside_deal };
 
     ghost invariant = { AreSigned };
 }
@@ -94,7 +94,7 @@ impl Found {
     }
 
     /// How many of the hashkey's last signatures were found valid.
-    fn known_of(&self, key: &Hashkey) -> usize
+    fn known_key(&self, key: &Hashkey) -> usize
         ensures { IsTrue (is_last_signed result self.now key.now) }
     {
         let mut most = 0;
@@ -109,10 +109,10 @@ impl Found {
 
     /// How many of the last signatures of the hashkey that the call presents, if it does, were found valid.
     pub(crate) fn known_in(&self, call: &Call) -> usize
-        ensures { IsTrue (is_known_in result self.now call.now) }
+        ensures { IsTrue (is_known_call result self.now call.now) }
     {
         match call {
-            Call::Unlock(key) => self.known_of(key),
+            Call::Unlock(key) => self.known_key(key),
             _ => 0,
         }
     }

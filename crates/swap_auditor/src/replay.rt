@@ -3,7 +3,7 @@
 ghost use Rattle.std.specs.Prelude.{◌≡◌, ◌≢◌, ◌==◌, ◌||◌, ◌<◌, ◌≤◌, ◌+◌, ◌++◌, ◌∷◌, [], IsTrue, IfOk, OnOk, length};
 ghost use Rattle.swap_base.specs.Fault.{Gives};
 ghost use Rattle.swap_digraph.specs.Deal.{IsWellSized, party, counterparty};
-ghost use Rattle.ledger_core.specs.History.{height, fit, reply_to, reply_to_tick, IsLegal};
+ghost use Rattle.ledger_core.specs.History.{height, fit, history_reply, reply_to_tick, IsLegal};
 ghost use Rattle.ledger_core.specs.Ledger.{call_entry, tick_entry};
 ghost use Rattle.swap_auditor.specs.Audit.{replay, replayed, with_entry};
 ghost use Rattle.ledger_core.specs.WellFormed.{IsFormed, IsFormedEntry};
@@ -39,7 +39,7 @@ fn call_again(
     requires of_the_two { IsTrue ((sender == party ledger.old.deal ledger.old.arc) || (sender == counterparty ledger.old.deal ledger.old.arc)) }
     requires fits { IsTrue (fit ledger.old.deal ledger.old.arc call.now) }
     requires legal { IsLegal ledger.old.deal ledger.old.arc ledger.old.history }
-    ensures reply { IfOk result (λ r. r ≡ reply_to ledger.old.deal ledger.old.arc ledger.old.history sender call.now) }
+    ensures reply { IfOk result (λ r. r ≡ history_reply ledger.old.deal ledger.old.arc ledger.old.history sender call.now) }
     ensures history { IfOk result (λ r. r ≢ Reply.SenderFull
         → ledger.new.history ≡ ledger.old.history ++ call_entry sender (height ledger.old.history) call.now r ∷ []) }
     ensures deal { ledger.new.deal ≡ ledger.old.deal }

@@ -20,4 +20,4 @@ pub use listed::Listed;
 pub use past::Past;
 pub use pieces::{Piece, put};
 pub use shared::Shared;
-pub use text::{ByteText, place_of};
+pub use text::{ByteText, find_place};

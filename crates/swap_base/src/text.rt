@@ -74,7 +74,7 @@ impl Eq for ByteText {
 }
 
 /// The place of a name among names.
-pub fn place_of(names: &[ByteText], name: &[u8]) -> Option<usize>
+pub fn find_place(names: &[ByteText], name: &[u8]) -> Option<usize>
     ensures { result ≡ position (bytes_eq name.now) names.now }
 {
     names.iter().position(|known| name == known.as_slice())

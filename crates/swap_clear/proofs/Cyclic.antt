@@ -4,13 +4,13 @@ use Rattle.std.specs.List.Sorted.{IsStrictlyIncreasing}
 use Rattle.swap_base.specs.Lists.{IsIn}
 use Rattle.swap_base.proofs.Lists.{from_filter, from_range}
 use Rattle.swap_digraph.specs.Value.{Graph}
-use Rattle.swap_digraph.specs.Graph.{arcs, ends, is_among, HasEnds}
+use Rattle.swap_digraph.specs.Graph.{arcs, ends, is_listed, HasEnds}
 use Rattle.digraph_check.specs.Reach.{reaches}
 use Rattle.digraph_check.proofs.ListTests.{among_where, where_among, where_ascends}
 use Rattle.digraph_check.proofs.Paths.{reaches_path, path_reaches, walk_reaches}
-use Rattle.digraph_check.proofs.Walks.{snoc, two_walks, arc_at}
+use Rattle.digraph_check.proofs.Walks.{snoc, two_walks, arc_json}
 use Rattle.swap_clear.specs.declared.answer.LeftOut.{LeftOut}
-use Rattle.swap_clear.specs.Groups.{is_cyclic, left_out, all_left_out, reached_from}
+use Rattle.swap_clear.specs.Groups.{is_cyclic, left_out, all_left_out, reachable_parties}
 use Rattle.swap_clear.specs.Cyclic.{Reaches, IsCyclic, IsLeftOut, TellsLeftOut}
 
 pub true_false : (b : Bool) → b ≡ true → b ≡ false → ⊥
@@ -41,7 +41,7 @@ on_to g u v w lt e f = let r = two_walks g g.n g.n u v w e f in walk_reaches g r
 pub arc_on : (g : Graph) (u b : ℕ) → HasEnds g → u < g.n → b < length g.arcs → reaches g u (ends g b).from ≡ true → reaches g u (ends g b).to ≡ true
 unfolding reaches
 arc_on g u b has lt lb e =
-    walk_reaches g (suc g.n) u (ends g b).to lt (snoc g g.n u (ends g b).from (ends g b).to (has.to b lb) (arc_at g.arcs b lb) e)
+    walk_reaches g (suc g.n) u (ends g b).to lt (snoc g g.n u (ends g b).from (ends g b).to (has.to b lb) (arc_json g.arcs b lb) e)
 
 -- Lists made for each.
 
@@ -75,7 +75,7 @@ module _ (g : Graph) (has : HasEnds g) where
             among_where (λ w. reaches g (ends g a).to w) g.n (ends g b).to (has.to b lb)
             (arc_on g (ends g a).to b has to lb (where_among (λ w. reaches g (ends g a).to w) g.n (ends g b).from i).1);
         lacks =
-            never (is_among (ends g a).from (reached_from g (ends g a).to))
+            never (is_listed (ends g a).from (reachable_parties g (ends g a).to))
             (λ i. not_it (is_cyclic g a) e (where_among (λ w. reaches g (ends g a).to w) g.n (ends g a).from i).1);
       }
 
@@ -90,7 +90,7 @@ module _ (g : Graph) (has : HasEnds g) where
         let f = from_filter (λ a. not (is_cyclic g a)) m.0 (arcs g) m.1 in
         subst (λ (x : LeftOut). IsLeftOut g x) (sym m.2) (is_left_out m.0 (from_range m.0 (length g.arcs) f.0) f.1);
     all = λ a lt none.
-        subst (λ (xs : List ℕ). is_among a xs ≡ true) (sym arcs_back)
+        subst (λ (xs : List ℕ). is_listed a xs ≡ true) (sym arcs_back)
         (among_where (λ b. not (is_cyclic g b)) (length g.arcs) a lt
         (ap not (never (is_cyclic g a) (λ e. none (path_there g (ends g a).to (ends g a).from (has.to a lt) e)))));
   }

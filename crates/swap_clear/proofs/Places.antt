@@ -9,14 +9,14 @@ use Rattle.swap_base.specs.Lists.{IsIn}
 use Rattle.swap_base.proofs.Lists.{and_parts, and_both, in_place, in_map}
 use Rattle.swap_digraph.specs.declared.arc_ends.ArcEnds.{ArcEnds}
 use Rattle.swap_digraph.specs.Value.{Graph}
-use Rattle.swap_digraph.specs.Graph.{ends, has_arc, is_among, HasEnds, IsStronglyConnected}
-use Rattle.swap_digraph.proofs.Paths.{is_among-true, in-is_among}
+use Rattle.swap_digraph.specs.Graph.{ends, has_arc, is_listed, HasEnds, IsStronglyConnected}
+use Rattle.swap_digraph.proofs.Paths.{is_listed-true, in-is_listed}
 use Rattle.digraph_check.specs.Reach.{reaches_in, reaches}
 use Rattle.digraph_check.proofs.Walks.{Along, goes_on, is_there, at_once, along, arc_number}
 use Rattle.digraph_check.proofs.ListTests.{among_where, where_among, where_ascends}
 use Rattle.digraph_check.proofs.Paths.{reaches_path, walk_reaches}
 use Rattle.leader_check.proofs.Followers.{arc_from}
-use Rattle.swap_clear.specs.Groups.{group_with, place, party_at, own_ends}
+use Rattle.swap_clear.specs.Groups.{strong_component, place, find_party, own_ends}
 use Rattle.swap_clear.proofs.Cyclic.{on_to}
 use Rattle.swap_clear.proofs.Together.{is_with, is_inside, with_turn, with_on, in_group, from_group}
 use Rattle.swap_clear.proofs.Gathered.{arcs_with, own_with}
@@ -59,7 +59,7 @@ range_up n = subst (λ (xs : List ℕ). IsStrictlyIncreasing xs) (all_kept (rang
 
 pub record Stands (set : List ℕ) (w : ℕ) : Type 0 where
   pub below : place set w < length set
-  pub is : party_at set (place set w) ≡ w
+  pub is : find_party set (place set w) ≡ w
 
 found : (set : List ℕ) (w : ℕ) (o : Option ℕ) → position (λ x. x == w) set ≡ o → (o ≡ None → ⊥) → Stands set w
 found set w None e n = absurd (n refl)
@@ -83,73 +83,75 @@ short (x ∷ set) w (inr i) = go (x == w) refl (short set w i)
     go true s r = rw s (omega arith)
     go false s r = rw s (omega (arith, r))
 
-pub stands : (set : List ℕ) (w : ℕ) → is_among w set ≡ true → Stands set w
-stands set w i = found set w (position (λ x. x == w) set) refl (λ none. not_none (short set w (is_among-true w set i)) none)
+pub stands : (set : List ℕ) (w : ℕ) → is_listed w set ≡ true → Stands set w
+stands set w i = found set w (position (λ x. x == w) set) refl (λ none. not_none (short set w (is_listed-true w set i)) none)
   where
     not_none : position_or_len (λ x. x == w) set < length set → position (λ x. x == w) set ≡ None → ⊥
     not_none lt e = cc (e, lt-ltb (position_or_len (λ x. x == w) set) (length set) lt)
 
-pub place_back : (set : List ℕ) → IsStrictlyIncreasing set → (k : ℕ) → k < length set → place set (party_at set k) ≡ k
+pub place_back : (set : List ℕ) → IsStrictlyIncreasing set → (k : ℕ) → k < length set → place set (find_party set k) ≡ k
 place_back set up k lt =
-    let s = stands set (party_at set k) (in-is_among (party_at set k) set (in_place set k 0 lt)) in
-    apart set up (place set (party_at set k)) k s.below lt s.is
+    let s = stands set (find_party set k) (in-is_listed (find_party set k) set (in_place set k 0 lt)) in
+    apart set up (place set (find_party set k)) k s.below lt s.is
 
 -- The own digraph of a group.
 
 module _ (g : Graph) (has : HasEnds g) (v : ℕ) (party : v < g.n) where
   pub inside : (k : ℕ) → k < length (arcs_with g v) → let a = get_or (arcs_with g v) k 0 in
-      (a < length g.arcs) × (is_among (ends g a).from (group_with g v) ≡ true) × (is_among (ends g a).to (group_with g v) ≡ true)
+      (a < length g.arcs) × (is_listed (ends g a).from (strong_component g v) ≡ true) × (is_listed (ends g a).to (strong_component g v) ≡ true)
   inside k lt =
-      let i = in-is_among (get_or (arcs_with g v) k 0) (arcs_with g v) (in_place (arcs_with g v) k 0 lt) in
-      let m = where_among (is_inside g (group_with g v)) (length g.arcs) (get_or (arcs_with g v) k 0) i in
+      let i = in-is_listed (get_or (arcs_with g v) k 0) (arcs_with g v) (in_place (arcs_with g v) k 0 lt) in
+      let m = where_among (is_inside g (strong_component g v)) (length g.arcs) (get_or (arcs_with g v) k 0) i in
       let p = and_parts _ _ m.1 in
       (m.0, p.0, p.1)
 
-  pub own_at : (k : ℕ) → k < length (arcs_with g v) → ends (own_with g v) k ≡ own_ends (group_with g v) (ends g (get_or (arcs_with g v) k 0))
-  own_at k lt = get_or-map (λ a. own_ends (group_with g v) (ends g a)) (arcs_with g v) k 0 (record { from = 0; to = 0 }) lt
+  pub own_at : (k : ℕ) → k < length (arcs_with g v) → ends (own_with g v) k ≡ own_ends (strong_component g v) (ends g (get_or (arcs_with g v) k 0))
+  own_at k lt = get_or-map (λ a. own_ends (strong_component g v) (ends g a)) (arcs_with g v) k 0 (record { from = 0; to = 0 }) lt
 
   pub arcs_length : length (own_with g v).arcs ≡ length (arcs_with g v)
-  arcs_length = length-map (arcs_with g v) (λ a. own_ends (group_with g v) (ends g a))
+  arcs_length = length-map (arcs_with g v) (λ a. own_ends (strong_component g v) (ends g a))
 
   pub own_has_ends : HasEnds (own_with g v)
   own_has_ends = record {
     from = λ k l.
         let lt = within k l in let p = inside k lt in
-        subst (λ (e : ArcEnds). e.from < length (group_with g v)) (sym (own_at k lt)) (stands (group_with g v) _ p.1).below;
+        subst (λ (e : ArcEnds). e.from < length (strong_component g v)) (sym (own_at k lt)) (stands (strong_component g v) _ p.1).below;
     to = λ k l.
         let lt = within k l in let p = inside k lt in
-        subst (λ (e : ArcEnds). e.to < length (group_with g v)) (sym (own_at k lt)) (stands (group_with g v) _ p.2).below;
+        subst (λ (e : ArcEnds). e.to < length (strong_component g v)) (sym (own_at k lt)) (stands (strong_component g v) _ p.2).below;
     apart = λ k l.
         let lt = within k l in let p = inside k lt in
         subst (λ (e : ArcEnds). e.from ≢ e.to) (sym (own_at k lt)) (λ same.
         has.apart (get_or (arcs_with g v) k 0) p.0
-        (sym (stands (group_with g v) _ p.1).is ∙ ap (party_at (group_with g v)) same ∙ (stands (group_with g v) _ p.2).is));
+        (sym (stands (strong_component g v) _ p.1).is ∙ ap (find_party (strong_component g v)) same ∙ (stands (strong_component g v) _ p.2).is));
   }
     where
       within : (k : ℕ) → k < length (own_with g v).arcs → k < length (arcs_with g v)
       within k l = let e = arcs_length in omega (arith, e)
 
-  own_arc : (u w : ℕ) → is_among u (group_with g v) ≡ true → is_among w (group_with g v) ≡ true → has_arc g u w ≡ true
-      → has_arc (own_with g v) (place (group_with g v) u) (place (group_with g v) w) ≡ true
+  own_arc : (u w : ℕ) → is_listed u (strong_component g v) ≡ true → is_listed w (strong_component g v) ≡ true → has_arc g u w ≡ true
+      → has_arc (own_with g v) (place (strong_component g v) u) (place (strong_component g v) w) ≡ true
   own_arc u w iu iw e =
       let a = arc_number g.arcs u w e in
-      let here = is_among-true a.number (arcs_with g v) (among_where (is_inside g (group_with g v)) (length g.arcs) a.number a.stands
-      (and_both (is_among (ends g a.number).from (group_with g v)) (is_among (ends g a.number).to (group_with g v))
-      (subst (λ (x : ℕ). is_among x (group_with g v) ≡ true) (sym a.from) iu) (subst (λ (x : ℕ). is_among x (group_with g v) ≡ true) (sym a.to) iw))) in
-      arc_from (own_with g v) (own_ends (group_with g v) (ends g a.number)) (place (group_with g v) u) (place (group_with g v) w)
-      (in_map (λ b. own_ends (group_with g v) (ends g b)) (arcs_with g v) a.number here) (ap (place (group_with g v)) a.from) (ap (place (group_with g v)) a.to)
+      let here = is_listed-true a.number (arcs_with g v) (among_where (is_inside g (strong_component g v)) (length g.arcs) a.number a.stands
+      (and_both (is_listed (ends g a.number).from (strong_component g v)) (is_listed (ends g a.number).to (strong_component g v))
+      (subst (λ (x : ℕ). is_listed x (strong_component g v) ≡ true) (sym a.from) iu) (subst (λ (x : ℕ). is_listed x (strong_component g v)
+      ≡ true) (sym a.to) iw))) in
+      arc_from (own_with g v) (own_ends (strong_component g v) (ends g a.number)) (place (strong_component g v) u) (place (strong_component g v) w)
+      (in_map (λ b. own_ends (strong_component g v) (ends g b)) (arcs_with g v) a.number here) (ap (place (strong_component g v)) a.from) (ap (place
+      (strong_component g v)) a.to)
 
   -- a walk between parties of the group stays in it
-  own_walk : (k u w : ℕ) → is_among u (group_with g v) ≡ true → is_among w (group_with g v) ≡ true → reaches_in g k u w ≡ true
-      → reaches_in (own_with g v) k (place (group_with g v) u) (place (group_with g v) w) ≡ true
-  own_walk zero u w iu iw r = is_there (own_with g v) 0 _ _ (ap (place (group_with g v)) (at_once g u w r))
+  own_walk : (k u w : ℕ) → is_listed u (strong_component g v) ≡ true → is_listed w (strong_component g v) ≡ true → reaches_in g k u w ≡ true
+      → reaches_in (own_with g v) k (place (strong_component g v) u) (place (strong_component g v) w) ≡ true
+  own_walk zero u w iu iw r = is_there (own_with g v) 0 _ _ (ap (place (strong_component g v)) (at_once g u w r))
   own_walk (suc k) u w iu iw r = go (goes_on g k u w r) (λ x. own_walk k x w)
     where
       go : (u ≡ w) ⊎ Along g k u w
-          → ((x : ℕ) → is_among x (group_with g v) ≡ true → is_among w (group_with g v) ≡ true → reaches_in g k x w ≡ true
-          → reaches_in (own_with g v) k (place (group_with g v) x) (place (group_with g v) w) ≡ true)
-          → reaches_in (own_with g v) (suc k) (place (group_with g v) u) (place (group_with g v) w) ≡ true
-      go (inl e) rest = is_there (own_with g v) (suc k) _ _ (ap (place (group_with g v)) e)
+          → ((x : ℕ) → is_listed x (strong_component g v) ≡ true → is_listed w (strong_component g v) ≡ true → reaches_in g k x w ≡ true
+          → reaches_in (own_with g v) k (place (strong_component g v) x) (place (strong_component g v) w) ≡ true)
+          → reaches_in (own_with g v) (suc k) (place (strong_component g v) u) (place (strong_component g v) w) ≡ true
+      go (inl e) rest = is_there (own_with g v) (suc k) _ _ (ap (place (strong_component g v)) e)
       go (inr a) rest =
           let mu = from_group g v u iu in
           let mw = from_group g v w iw in
@@ -158,28 +160,28 @@ module _ (g : Graph) (has : HasEnds g) (v : ℕ) (party : v < g.n) where
           (walk_reaches g 1 u a.next mu.0 (along g 0 u a.next a.next a.party a.arc (is_there g 0 a.next a.next refl))) in
           let back = on_to g a.next w v a.party (walk_reaches g k a.next w a.party a.rest) (and_parts _ _ mw.1).1 in
           let ix = in_group g v a.next a.party (and_both _ _ there back) in
-          let s = stands (group_with g v) a.next ix in
-          along (own_with g v) k (place (group_with g v) u) (place (group_with g v) a.next) (place (group_with g v) w) s.below
+          let s = stands (strong_component g v) a.next ix in
+          along (own_with g v) k (place (strong_component g v) u) (place (strong_component g v) a.next) (place (strong_component g v) w) s.below
           (own_arc u a.next iu ix a.arc) (rest a.next ix iw a.rest)
 
-  reach_inside : (u w : ℕ) → is_among u (group_with g v) ≡ true → is_among w (group_with g v) ≡ true → reaches g u w ≡ true
+  reach_inside : (u w : ℕ) → is_listed u (strong_component g v) ≡ true → is_listed w (strong_component g v) ≡ true → reaches g u w ≡ true
   reach_inside u w iu iw =
       let mu = from_group g v u iu in
       let mw = from_group g v w iw in
       (and_parts _ _ (with_on g u v w mu.0 mw.0 (with_turn g v u mu.1) mw.1)).0
 
-  pub own_reaches : (i j : ℕ) → i < length (group_with g v) → j < length (group_with g v) → reaches (own_with g v) i j ≡ true
+  pub own_reaches : (i j : ℕ) → i < length (strong_component g v) → j < length (strong_component g v) → reaches (own_with g v) i j ≡ true
   unfolding reaches
   own_reaches i j li lj =
       let up = where_ascends (is_with g v) g.n in
-      let iu = in-is_among (party_at (group_with g v) i) (group_with g v) (in_place (group_with g v) i 0 li) in
-      let iw = in-is_among (party_at (group_with g v) j) (group_with g v) (in_place (group_with g v) j 0 lj) in
-      let walk = own_walk g.n (party_at (group_with g v) i) (party_at (group_with g v) j) iu iw (reach_inside _ _ iu iw) in
-      let pi = place_back (group_with g v) up i li in
-      let pj = place_back (group_with g v) up j lj in
+      let iu = in-is_listed (find_party (strong_component g v) i) (strong_component g v) (in_place (strong_component g v) i 0 li) in
+      let iw = in-is_listed (find_party (strong_component g v) j) (strong_component g v) (in_place (strong_component g v) j 0 lj) in
+      let walk = own_walk g.n (find_party (strong_component g v) i) (find_party (strong_component g v) j) iu iw (reach_inside _ _ iu iw) in
+      let pi = place_back (strong_component g v) up i li in
+      let pj = place_back (strong_component g v) up j lj in
       walk_reaches (own_with g v) g.n i j li
       (subst (λ (y : ℕ). reaches_in (own_with g v) g.n i y ≡ true) pj
-      (subst (λ (x : ℕ). reaches_in (own_with g v) g.n x (place (group_with g v) (party_at (group_with g v) j)) ≡ true) pi walk))
+      (subst (λ (x : ℕ). reaches_in (own_with g v) g.n x (place (strong_component g v) (find_party (strong_component g v) j)) ≡ true) pi walk))
 
   pub own_strong : IsStronglyConnected (own_with g v)
   own_strong i j li lj differ = let r = reaches_path (own_with g v) i j li (own_reaches i j li lj) in (r.vertices, r.between)

@@ -17,10 +17,10 @@ use Rattle.swap_clear.specs.declared.answer.Group.{Group}
 use Rattle.swap_clear.specs.declared.answer.Clearing.{Clearing}
 use Rattle.swap_clear.specs.declared.fault.ClearReason.{ClearReason}
 use Rattle.swap_clear.specs.declared.fault.ClearReason.TheVariants.{OutOfRange, SelfArc, TooManyLeaders}
-use Rattle.swap_clear.specs.Proposals.{ends_of, proposed_graph, fault_of, first_proposal_fault, graph_unless, graph_of}
+use Rattle.swap_clear.specs.Proposals.{resolve_arc_ends, proposed_graph, to_offer_fault, first_proposal_fault, graph_unless, build_graph}
 use Rattle.swap_clear.specs.Groups.{all_left_out}
-use Rattle.swap_clear.specs.Leaders.{leaders_of}
-use Rattle.swap_clear.specs.Clearing.{add_group, groups_of, clearing_of}
+use Rattle.swap_clear.specs.Leaders.{choose_leaders}
+use Rattle.swap_clear.specs.Clearing.{add_group, cleared_components, cleared_groups}
 use Rattle.swap_clear.specs.Refused.{IsSound, IsFault}
 use Rattle.swap_clear.proofs.Cleared.{sound}
 use Rattle.swap_clear.proofs.Gathered.{own_with, is_head, many, add_none, add_one, add_many, the_group}
@@ -32,7 +32,7 @@ at_place arcs i = get_or arcs i (record { from = 0; to = 0; amount = 0 })
 abbrev IsFine : ℕ → Proposed → Type 0
 IsFine n p = (p.from < n) × (p.to < n) × (p.from ≢ p.to)
 
-fine_of : (n k : ℕ) (p : Proposed) → fault_of n k p ≡ None → IsFine n p
+fine_of : (n k : ℕ) (p : Proposed) → to_offer_fault n k p ≡ None → IsFine n p
 fine_of n k p e = go (nat_lt p.from n) (nat_lt p.to n) (p.from == p.to) refl refl refl e
   where
     go : (f t s : Bool) → nat_lt p.from n ≡ f → nat_lt p.to n ≡ t → (p.from == p.to) ≡ s
@@ -47,7 +47,7 @@ record Faulty (n k : ℕ) (arcs : List Proposed) (reason : ClearReason) : Type 0
   pub place : ℕ
   pub stands : place < length arcs
   pub before : (a : ℕ) → a < place → IsFine n (at_place arcs a)
-  pub is : fault_of n (k + place) (at_place arcs place) ≡ Some reason
+  pub is : to_offer_fault n (k + place) (at_place arcs place) ≡ Some reason
 
 faulty_on : (n k : ℕ) (p : Proposed) (arcs : List Proposed) (reason : ClearReason) → IsFine n p → Faulty n (k + 1) arcs reason → Faulty n k (p ∷ arcs) reason
 faulty_on n k p arcs reason fine rest =
@@ -57,7 +57,7 @@ faulty_on n k p arcs reason fine rest =
       place = suc rest.place;
       stands = omega (arith, l);
       before = by_place;
-      is = ap (λ (j : ℕ). fault_of n j (at_place arcs rest.place)) (sym sum) ∙ rest.is;
+      is = ap (λ (j : ℕ). to_offer_fault n j (at_place arcs rest.place)) (sym sum) ∙ rest.is;
     }
   where
     by_place : (a : ℕ) → a < suc rest.place → IsFine n (at_place (p ∷ arcs) a)
@@ -67,9 +67,9 @@ faulty_on n k p arcs reason fine rest =
 faulty : (n k : ℕ) (arcs : List Proposed) (reason : ClearReason) → first_proposal_fault n k arcs ≡ Some reason → Faulty n k arcs reason
 unfolding first_proposal_fault
 faulty n k [] reason e = absurd (cc e)
-faulty n k (p ∷ arcs) reason e = go (fault_of n k p) refl e (faulty n (k + 1) arcs reason)
+faulty n k (p ∷ arcs) reason e = go (to_offer_fault n k p) refl e (faulty n (k + 1) arcs reason)
   where
-    go : (o : Option ClearReason) → fault_of n k p ≡ o → or_else o (first_proposal_fault n (k + 1) arcs) ≡ Some reason
+    go : (o : Option ClearReason) → to_offer_fault n k p ≡ o → or_else o (first_proposal_fault n (k + 1) arcs) ≡ Some reason
         → (first_proposal_fault n (k + 1) arcs ≡ Some reason → Faulty n (k + 1) arcs reason) → Faulty n k (p ∷ arcs) reason
     go None f h rest = faulty_on n k p arcs reason (fine_of n k p f) (rest h)
     go (Some x) f h rest =
@@ -78,12 +78,13 @@ faulty n k (p ∷ arcs) reason e = go (fault_of n k p) refl e (faulty n (k + 1) 
           place = 0;
           stands = omega arith;
           before = λ a lt. absurd (omega (arith, lt));
-          is = ap (λ (j : ℕ). fault_of n j p) zeroth ∙ f ∙ h;
+          is = ap (λ (j : ℕ). to_offer_fault n j p) zeroth ∙ f ∙ h;
         }
 
-fault_at : (n k : ℕ) (g : Graph) (reason : ClearReason) (p : Proposed) → g.n ≡ n → ends g k ≡ ends_of p → k < length g.arcs → ((a : ℕ) → a < k → IsSound g a)
-    → fault_of n k p ≡ Some reason → IsFault g reason
-fault_at n k g reason p size same lt before e = go (nat_lt p.from n) (nat_lt p.to n) (p.from == p.to) refl refl refl e
+arc_fault : (n k : ℕ) (g : Graph) (reason : ClearReason) (p : Proposed) → g.n ≡ n → ends g k ≡ resolve_arc_ends p → k < length g.arcs → ((a : ℕ) → a < k
+    → IsSound g a)
+    → to_offer_fault n k p ≡ Some reason → IsFault g reason
+arc_fault n k g reason p size same lt before e = go (nat_lt p.from n) (nat_lt p.to n) (p.from == p.to) refl refl refl e
   where
     from : (ends g k).from ≡ p.from
     from = ap (λ (x : ArcEnds). x.from) same
@@ -110,12 +111,12 @@ fault_at n k g reason p size same lt before e = go (nat_lt p.from n) (nat_lt p.t
         let is : OutOfRange k ≡ reason = cc h in
         subst (IsFault g) is (lt, inl (high (ends g k).from p.from n from (ltb-false p.from n a) refl), before)
 
-pub graph_refused : (n : ℕ) (arcs : List Proposed) (reason : ClearReason) → graph_of n arcs ≡ Err reason → IsFault (proposed_graph n arcs) reason
-unfolding graph_of
+pub graph_refused : (n : ℕ) (arcs : List Proposed) (reason : ClearReason) → build_graph n arcs ≡ Err reason → IsFault (proposed_graph n arcs) reason
+unfolding build_graph
 graph_refused n arcs reason e = go (first_proposal_fault n 0 arcs) refl e
   where
-    at_ends : (i : ℕ) → i < length arcs → ends (proposed_graph n arcs) i ≡ ends_of (at_place arcs i)
-    at_ends i lt = get_or-map ends_of arcs i (record { from = 0; to = 0; amount = 0 }) (record { from = 0; to = 0 }) lt
+    at_ends : (i : ℕ) → i < length arcs → ends (proposed_graph n arcs) i ≡ resolve_arc_ends (at_place arcs i)
+    at_ends i lt = get_or-map resolve_arc_ends arcs i (record { from = 0; to = 0; amount = 0 }) (record { from = 0; to = 0 }) lt
 
     sound_at : (i : ℕ) → i < length arcs → IsFine n (at_place arcs i) → IsSound (proposed_graph n arcs) i
     sound_at i lt fine = subst (λ (x : ArcEnds). (x.from < n) × (x.to < n) × (x.from ≢ x.to)) (sym (at_ends i lt)) fine
@@ -127,10 +128,10 @@ graph_refused n arcs reason e = go (first_proposal_fault n 0 arcs) refl e
         let same : x ≡ reason = cc h in
         let k = faulty n 0 arcs reason (f ∙ ap (λ (y : ClearReason). Some y) same) in
         let l = k.stands in
-        let long : length (map ends_of arcs) ≡ length arcs = length-map arcs ends_of in
+        let long : length (map resolve_arc_ends arcs) ≡ length arcs = length-map arcs resolve_arc_ends in
         let zeroth : 0 + k.place ≡ k.place = omega arith in
-        fault_at n k.place (proposed_graph n arcs) reason (at_place arcs k.place) refl (at_ends k.place l) (omega (arith, l, long))
-        (λ a lt. sound_at a (omega (arith, lt, l)) (k.before a lt)) (ap (λ (j : ℕ). fault_of n j (at_place arcs k.place)) (sym zeroth) ∙ k.is)
+        arc_fault n k.place (proposed_graph n arcs) reason (at_place arcs k.place) refl (at_ends k.place l) (omega (arith, l, long))
+        (λ a lt. sound_at a (omega (arith, lt, l)) (k.before a lt)) (ap (λ (j : ℕ). to_offer_fault n j (at_place arcs k.place)) (sym zeroth) ∙ k.is)
 
 -- The groups are refused for too many leaders alone, at the first group that has them.
 
@@ -140,9 +141,9 @@ record ManyAt (g : Graph) (a m k group count : ℕ) : Type 0 where
   pub to : head < a + m
   pub least : is_head g head ≡ true
   pub number : group ≡ k + length (filter (is_head g) (range_with_len a (head - a)))
-  pub leaders : count ≡ length (leaders_of (own_with g head))
+  pub leaders : count ≡ length (choose_leaders (own_with g head))
   pub many : 8 < count
-  pub before : (v : ℕ) → a ≤ v → v < head → is_head g v ≡ true → length (leaders_of (own_with g v)) ≤ 8
+  pub before : (v : ℕ) → a ≤ v → v < head → is_head g v ≡ true → length (choose_leaders (own_with g v)) ≤ 8
 
 abbrev IsMany : Graph → ℕ → ℕ → ℕ → ClearReason → Type 0
 IsMany g a m k (OutOfRange j) = ⊥
@@ -152,7 +153,7 @@ IsMany g a m k (TooManyLeaders group count) = ManyAt g a m k group count
 at_or_after : (a v : ℕ) → a ≤ v → (v ≡ a) ⊎ (a + 1 ≤ v)
 at_or_after a v le = grind arith
 
-extend_at : (g : Graph) (a m k j group count : ℕ) (head : Bool) → is_head g a ≡ head → (head ≡ true → length (leaders_of (own_with g a)) ≤ 8)
+extend_at : (g : Graph) (a m k j group count : ℕ) (head : Bool) → is_head g a ≡ head → (head ≡ true → length (choose_leaders (own_with g a)) ≤ 8)
     → j ≡ k + cond {A = ℕ} head 1 0 → ManyAt g (a + 1) m j group count → ManyAt g a (suc m) k group count
 extend_at g a m k j group count head is few sum rest =
     let low = rest.from in
@@ -180,11 +181,11 @@ extend_at g a m k j group count head is few sum rest =
     longer true xs = omega arith
     longer false xs = omega arith
 
-    here : (v : ℕ) → v ≡ a → is_head g v ≡ true → length (leaders_of (own_with g v)) ≤ 8
+    here : (v : ℕ) → v ≡ a → is_head g v ≡ true → length (choose_leaders (own_with g v)) ≤ 8
     here v s h =
-        subst (λ (x : ℕ). length (leaders_of (own_with g x)) ≤ 8) (sym s) (few (sym is ∙ ap (is_head g) (sym s) ∙ h))
+        subst (λ (x : ℕ). length (choose_leaders (own_with g x)) ≤ 8) (sym s) (few (sym is ∙ ap (is_head g) (sym s) ∙ h))
 
-extend : (g : Graph) (a m k j : ℕ) (head : Bool) (reason : ClearReason) → is_head g a ≡ head → (head ≡ true → length (leaders_of (own_with g a)) ≤ 8)
+extend : (g : Graph) (a m k j : ℕ) (head : Bool) (reason : ClearReason) → is_head g a ≡ head → (head ≡ true → length (choose_leaders (own_with g a)) ≤ 8)
     → j ≡ k + cond {A = ℕ} head 1 0 → IsMany g (a + 1) m j reason → IsMany g a (suc m) k reason
 extend g a m k j head (OutOfRange i) is few sum rest = rest
 extend g a m k j head (SelfArc i) is few sum rest = rest
@@ -209,11 +210,11 @@ steps_refused g (suc m) a before reason e =
     by_tests true false h l rest more =
         let size = length-append before (the_group g a ∷ []) in
         extend g a m (length before) (length (before ++ the_group g a ∷ [])) true reason h
-        (λ t. ltb-false 8 (length (leaders_of (own_with g a))) l) (omega (arith, size))
+        (λ t. ltb-false 8 (length (choose_leaders (own_with g a))) l) (omega (arith, size))
         (more (onward (Ok (before ++ the_group g a ∷ [])) (add_one g before a h l)))
     by_tests true true h l rest more =
-        let k = onward (Err (TooManyLeaders (length before) (length (leaders_of (own_with g a))))) (add_many g before a h l) in
-        let is : TooManyLeaders (length before) (length (leaders_of (own_with g a))) ≡ reason = cc k in
+        let k = onward (Err (TooManyLeaders (length before) (length (choose_leaders (own_with g a))))) (add_many g before a h l) in
+        let is : TooManyLeaders (length before) (length (choose_leaders (own_with g a))) ≡ reason = cc k in
         let none = ap (λ (xs : List ℕ). length (filter (is_head g) xs)) (range-none a a (omega arith)) in
         subst (IsMany g a (suc m) (length before)) is (record {
           head = a;
@@ -222,7 +223,7 @@ steps_refused g (suc m) a before reason e =
           least = h;
           number = omega (arith, none);
           leaders = refl;
-          many = ltb-true 8 (length (leaders_of (own_with g a))) l;
+          many = ltb-true 8 (length (choose_leaders (own_with g a))) l;
           before = λ v le lt t. absurd (omega (arith, le, lt));
         })
 
@@ -247,26 +248,27 @@ many_fault g (TooManyLeaders group count) has m = (
   λ a lt. (has.from a lt, has.to a lt, has.apart a lt),
 )
 
-pub groups_refused : (g : Graph) (reason : ClearReason) → HasEnds g → groups_of g ≡ Err reason → IsFault g reason
-unfolding groups_of
+pub groups_refused : (g : Graph) (reason : ClearReason) → HasEnds g → cleared_components g ≡ Err reason → IsFault g reason
+unfolding cleared_components
 groups_refused g reason has e = many_fault g reason has (steps_refused g g.n 0 [] reason e)
 
-pub clearing_refused : (n : ℕ) (arcs : List Proposed) (reason : ClearReason) → clearing_of n arcs ≡ Err reason → IsFault (proposed_graph n arcs) reason
-unfolding clearing_of
-clearing_refused n arcs reason e = by_graph (graph_of n arcs) refl e
+pub clearing_refused : (n : ℕ) (arcs : List Proposed) (reason : ClearReason) → cleared_groups n arcs ≡ Err reason → IsFault (proposed_graph n arcs) reason
+unfolding cleared_groups
+clearing_refused n arcs reason e = by_graph (build_graph n arcs) refl e
   where
-    by_groups : (g : Graph) → g ≡ proposed_graph n arcs → HasEnds (proposed_graph n arcs) → (r : Result (List Group) ClearReason) → groups_of g ≡ r
+    by_groups : (g : Graph) → g ≡ proposed_graph n arcs → HasEnds (proposed_graph n arcs) → (r : Result (List Group) ClearReason) → cleared_components g ≡ r
         → ◌≡◌ {A = Result Clearing ClearReason} (r >>= λ groups. Ok (record { left_out = all_left_out g; groups = groups })) (Err reason)
         → IsFault (proposed_graph n arcs) reason
     by_groups g is has (Ok groups) made h = absurd (cc h)
     by_groups g is has (Err other) made h =
         let same : other ≡ reason = cc h in
-        groups_refused (proposed_graph n arcs) reason has (ap groups_of (sym is) ∙ made ∙ ap (λ (x : ClearReason). Err x) same)
+        groups_refused (proposed_graph n arcs) reason has (ap cleared_components (sym is) ∙ made ∙ ap (λ (x : ClearReason). Err x) same)
 
-    by_graph : (r : Result Graph ClearReason) → graph_of n arcs ≡ r
-        → ◌≡◌ {A = Result Clearing ClearReason} (r >>= λ g. groups_of g >>= λ groups. Ok (record { left_out = all_left_out g; groups = groups })) (Err reason)
+    by_graph : (r : Result Graph ClearReason) → build_graph n arcs ≡ r
+        → ◌≡◌ {A = Result Clearing ClearReason} (r >>= λ g. cleared_components g >>= λ groups. Ok (record { left_out = all_left_out g; groups = groups }))
+        (Err reason)
         → IsFault (proposed_graph n arcs) reason
-    by_graph (Ok g) made h = let s = sound n arcs g made in by_groups g s.0 s.1 (groups_of g) refl h
+    by_graph (Ok g) made h = let s = sound n arcs g made in by_groups g s.0 s.1 (cleared_components g) refl h
     by_graph (Err other) made h =
         let same : other ≡ reason = cc h in
         graph_refused n arcs reason (made ∙ ap (λ (x : ClearReason). Err x) same)

@@ -9,11 +9,11 @@ use Rattle.swap_base.proofs.Lists.{and_parts, from_filter, in_filter, from_range
 use Rattle.swap_base.proofs.Lists.{list_all-from}
 use Rattle.swap_base.proofs.Lists.{none_of, not-mono, length-range}
 use Rattle.swap_digraph.specs.Value.{Graph}
-use Rattle.swap_digraph.specs.Graph.{parties, arcs, ends, has_arc, is_among, are_followers, HasEnds, IsFeedback}
-use Rattle.swap_digraph.proofs.Paths.{is_among-true, in-is_among, path_below}
-use Rattle.leader_check.specs.Cycles.{follower_cycle, cycle_from}
+use Rattle.swap_digraph.specs.Graph.{parties, arcs, ends, has_arc, is_listed, are_followers, HasEnds, IsFeedback}
+use Rattle.swap_digraph.proofs.Paths.{is_listed-true, in-is_listed, path_below}
+use Rattle.leader_check.specs.Cycles.{follower_cycle, traced_cycle}
 use Rattle.leader_check.proofs.Walks.{none_feedback, feedback_none, none_meets}
-use Rattle.swap_clear.specs.Leaders.{touching, touched_by, order, without, breaks, tried, remaining}
+use Rattle.swap_clear.specs.Leaders.{touching, touched_arcs, order, without, breaks, tried, remaining}
 use Rattle.swap_clear.specs.Led.{IsBefore, IsInOrder, IsOrder, Remain}
 use Rattle.swap_clear.proofs.Cyclic.{true_false, not_it, never}
 
@@ -75,12 +75,12 @@ module _ (g : Graph) where
     order_append xs ys a.1 b (λ y z i j. h y z (inr i) j),
   )
 
-  in_order_of : (k m : ℕ) → IsInOrder g (flat_map (touched_by g) (range_with_len k m))
+  in_order_of : (k m : ℕ) → IsInOrder g (flat_map (touched_arcs g) (range_with_len k m))
   in_order_of k zero = tt
   in_order_of k (suc m) =
-      order_append (touched_by g k) (flat_map (touched_by g) (range_with_len (k + 1) m)) (touched_rises k 0 g.n) (in_order_of (k + 1) m) (λ x y i j.
+      order_append (touched_arcs g k) (flat_map (touched_arcs g) (range_with_len (k + 1) m)) (touched_rises k 0 g.n) (in_order_of (k + 1) m) (λ x y i j.
       let f = from_filter (λ w. touching g w == k) x (parties g) i in
-      let n = from_flat (touched_by g) (range_with_len (k + 1) m) y j in
+      let n = from_flat (touched_arcs g) (range_with_len (k + 1) m) y j in
       let r = from_range_from (k + 1) n.0 m n.1 in
       let h = from_filter (λ w. touching g w == n.0) y (parties g) n.2 in
       let mine = eqb-true (touching g x) k f.1 in
@@ -100,11 +100,11 @@ module _ (g : Graph) where
   is_order has = record {
     parties = λ v. (
       λ i.
-          let m = from_flat (touched_by g) (range_with_len 0 (length g.arcs + 1)) v (is_among-true v (order g) i) in
+          let m = from_flat (touched_arcs g) (range_with_len 0 (length g.arcs + 1)) v (is_listed-true v (order g) i) in
           from_range v g.n (from_filter (λ w. touching g w == m.0) v (parties g) m.2).0,
       λ lt.
           let few = touching_few has v in
-          in-is_among v (order g) (in_flat_map (touched_by g) (range_with_len 0 (length g.arcs + 1)) (touching g v) v
+          in-is_listed v (order g) (in_flat_map (touched_arcs g) (range_with_len 0 (length g.arcs + 1)) (touching g v) v
           (in_range (touching g v) (length g.arcs + 1) (omega (arith, few)))
           (in_filter (λ w. touching g w == touching g v) v (parties g) (in_range v g.n lt) (eq-eqb (touching g v) (touching g v) refl))),
     );
@@ -121,14 +121,14 @@ module _ (g : Graph) where
 
   pub more_lead : (xs ys : List ℕ) → ((x : ℕ) → IsIn x xs → IsIn x ys) → IsFeedback g xs → IsFeedback g ys
   more_lead xs ys within f u v p b o =
-      f u v p b (list_all-from (λ x. not (is_among x xs)) p (λ x i.
-      not-mono (is_among x xs) (is_among x ys) (λ e. in-is_among x ys (within x (is_among-true x xs e))) (list_all-in (λ y. not (is_among y ys)) p x o i)))
+      f u v p b (list_all-from (λ x. not (is_listed x xs)) p (λ x i.
+      not-mono (is_listed x xs) (is_listed x ys) (λ e. in-is_listed x ys (within x (is_listed-true x xs e))) (list_all-in (λ y. not (is_listed y ys)) p x o i)))
 
   pub all_lead : IsFeedback g (parties g)
   all_lead u v [] b o = absurd (cc b.0)
   all_lead u v (x ∷ p) b o =
-      let k = and_parts (not (is_among x (parties g))) (are_followers (parties g) p) o in
-      absurd (not_it (is_among x (parties g)) k.0 (in-is_among x (parties g) (in_range x g.n (path_below g (x ∷ p) x b.0 (inl refl)))))
+      let k = and_parts (not (is_listed x (parties g))) (are_followers (parties g) p) o in
+      absurd (not_it (is_listed x (parties g)) k.0 (in-is_listed x (parties g) (in_range x g.n (path_below g (x ∷ p) x b.0 (inl refl)))))
 
   -- What remains.
 
@@ -189,9 +189,9 @@ module _ (g : Graph) where
   needed (x ∷ order) ls v (inr i) r f = needed order (tried g ls x) v i r f
   needed (x ∷ order) ls v (inl s) r f = go (breaks g (without x ls)) refl (remaining_in order (tried g ls x))
     where
-      rest_in : ((y : ℕ) → IsIn y (remaining g (tried g ls x) order) → IsIn y ls) → (y : ℕ)
+      read_rest : ((y : ℕ) → IsIn y (remaining g (tried g ls x) order) → IsIn y ls) → (y : ℕ)
           → IsIn y (without v (remaining g (tried g ls x) order)) → IsIn y (without x ls)
-      rest_in within y j =
+      read_rest within y j =
           let k = from_filter (λ w. not (w == v)) y (remaining g (tried g ls x) order) j in
           subst (λ (z : ℕ). IsIn y (without z ls)) s (in_filter (λ w. not (w == v)) y ls (within y k.0) k.1)
 
@@ -201,22 +201,22 @@ module _ (g : Graph) where
           gone x ls (subst (λ (z : ℕ). IsIn z (without x ls)) s (subst (λ (b : Bool). IsIn v (cond b (without x ls) ls)) e (within v r)))
       go false e within =
           true_false (breaks g (without x ls)) (feedback_breaks (without x ls) (more_lead (without v (remaining g (tried g ls x) order)) (without x ls)
-          (rest_in (λ y j. subst (λ (b : Bool). IsIn y (cond b (without x ls) ls)) e (within y j))) f)) e
+          (read_rest (λ y j. subst (λ (b : Bool). IsIn y (cond b (without x ls) ls)) e (within y j))) f)) e
 
   -- A leader that is needed has a cycle.
 
   fewer : (v : ℕ) (ls p : List ℕ) → are_followers (without v ls) p ≡ true → (IsIn v p → ⊥) → are_followers ls p ≡ true
   fewer v ls p o out =
-      list_all-from (λ x. not (is_among x ls)) p (λ x i.
-      ap not (never (is_among x ls) (λ e.
-      not_it (is_among x (without v ls)) (list_all-in (λ y. not (is_among y (without v ls))) p x o i)
-      (in-is_among x (without v ls) (in_filter (λ w. not (w == v)) x ls (is_among-true x ls e)
+      list_all-from (λ x. not (is_listed x ls)) p (λ x i.
+      ap not (never (is_listed x ls) (λ e.
+      not_it (is_listed x (without v ls)) (list_all-in (λ y. not (is_listed y (without v ls))) p x o i)
+      (in-is_listed x (without v ls) (in_filter (λ w. not (w == v)) x ls (is_listed-true x ls e)
       (ap not (never (x == v) (λ s. out (subst (λ (z : ℕ). IsIn z p) (eqb-true x v s) i)))))))))
 
-  pub has_cycle : (v : ℕ) (ls : List ℕ) → IsFeedback g ls → (IsFeedback g (without v ls) → ⊥) → (c : List ℕ) × (cycle_from g (without v ls) v ≡ Some c)
-  has_cycle v ls f need = go (cycle_from g (without v ls) v) refl
+  pub has_cycle : (v : ℕ) (ls : List ℕ) → IsFeedback g ls → (IsFeedback g (without v ls) → ⊥) → (c : List ℕ) × (traced_cycle g (without v ls) v ≡ Some c)
+  has_cycle v ls f need = go (traced_cycle g (without v ls) v) refl
     where
-      go : (o : Option (List ℕ)) → cycle_from g (without v ls) v ≡ o → (c : List ℕ) × (cycle_from g (without v ls) v ≡ Some c)
+      go : (o : Option (List ℕ)) → traced_cycle g (without v ls) v ≡ o → (c : List ℕ) × (traced_cycle g (without v ls) v ≡ Some c)
       go (Some c) e = (c, e)
       go None e =
           absurd (need (λ u w p b o. never (has_arc g w u) (λ a.

@@ -7,8 +7,8 @@ use Rattle.swap_digraph.specs.Value.{Graph}
 use Rattle.swap_digraph.specs.Graph.{parties, has_arc, HasEnds}
 use Rattle.digraph_check.specs.Reach.{reaches_in, reaches}
 use Rattle.digraph_check.proofs.ListTests.{same_test, passing}
-use Rattle.leader_check.specs.Cycles.{has_bit, leads_into}
-use Rattle.leader_check.proofs.Followers.{arc_of, arc_from}
+use Rattle.leader_check.specs.Cycles.{has_bit, enters_led}
+use Rattle.leader_check.proofs.Followers.{parse_arc, arc_from}
 use Rattle.swap_clear.specs.Rows.{TellsWithin, TellsReach}
 use Rattle.std.proofs.Common.{get_or}
 use Rattle.swap_digraph.specs.declared.arc_ends.ArcEnds.{ArcEnds}
@@ -24,8 +24,8 @@ arc_below n [] x h i = absurd i
 arc_below n (y ∷ xs) x h (inl e) = let l : y.to < n = h 0 (omega arith) in subst (λ (z : ArcEnds). z.to < n) (sym e) l
 arc_below n (y ∷ xs) x h (inr i) = arc_below n xs x (λ a lt. h (suc a) (omega arith)) i
 
-leads_over : (g : Graph) (f : ℕ → Bool) (u : ℕ) → HasEnds g → leads_into g f u ≡ list_any (λ w. has_arc g u w && f w) (parties g)
-unfolding leads_into
+leads_over : (g : Graph) (f : ℕ → Bool) (u : ℕ) → HasEnds g → enters_led g f u ≡ list_any (λ w. has_arc g u w && f w) (parties g)
+unfolding enters_led
 leads_over g f u ends =
     same_test (list_any (λ a. (a.from == u) && f a.to) g.arcs) (list_any (λ w. has_arc g u w && f w) (parties g)) there back
   where
@@ -42,12 +42,12 @@ leads_over g f u ends =
     back e =
         let p = passing (λ w. has_arc g u w && f w) (parties g) e in
         let k = and_parts (has_arc g u p.one) (f p.one) p.passes in
-        let a = arc_of g u p.one k.0 in
+        let a = parse_arc g u p.one k.0 in
         list_any-in (λ b. (b.from == u) && f b.to) g.arcs a.arc
         (and_both (a.arc.from == u) (f a.arc.to) (eq-eqb a.arc.from u a.from) (ap f a.to ∙ k.1)) a.among
 
-same_over : (g : Graph) (f h : ℕ → Bool) (u : ℕ) → HasEnds g → ((w : ℕ) → w < g.n → f w ≡ h w) → leads_into g f u ≡ leads_into g h u
-unfolding leads_into
+same_over : (g : Graph) (f h : ℕ → Bool) (u : ℕ) → HasEnds g → ((w : ℕ) → w < g.n → f w ≡ h w) → enters_led g f u ≡ enters_led g h u
+unfolding enters_led
 same_over g f h u ends e = go g.arcs (λ x i. e x.to (arc_below g.n g.arcs x ends.to i))
   where
     go : (xs : List ArcEnds) → ((x : ArcEnds) → IsIn x xs → f x.to ≡ h x.to)
@@ -58,7 +58,7 @@ same_over g f h u ends e = go g.arcs (λ x i. e x.to (arc_below g.n g.arcs x end
         ∙ ap (λ (b : Bool). ((x.from == u) && h x.to) || b) (go xs (λ y i. s y (inr i)))
 
 pub rows_next : (g : Graph) (k : ℕ) (row next : List ℕ) → HasEnds g → TellsWithin g k row → length next ≡ g.n
-    → ((v u : ℕ) → u < g.n → has_bit next v u ≡ ((u == v) || leads_into g (has_bit row v) u)) → TellsWithin g (k + 1) next
+    → ((v u : ℕ) → u < g.n → has_bit next v u ≡ ((u == v) || enters_led g (has_bit row v) u)) → TellsWithin g (k + 1) next
 unfolding reaches_in
 rows_next g k row next ends tell size leads =
     let s : k + 1 ≡ suc k = omega arith in

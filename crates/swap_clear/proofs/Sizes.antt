@@ -10,52 +10,52 @@ use Rattle.swap_base.proofs.Lists.{from_filter, from_range, length-range, range-
 use Rattle.std.specs.List.{range_with_len}
 use Rattle.swap_digraph.specs.Value.{Graph}
 use Rattle.swap_digraph.specs.Graph.{parties, arcs, first_is, HasEnds}
-use Rattle.swap_digraph.proofs.Paths.{is_among-true, path_below}
-use Rattle.leader_check.specs.Cycles.{cycle_from}
+use Rattle.swap_digraph.proofs.Paths.{is_listed-true, path_below}
+use Rattle.leader_check.specs.Cycles.{traced_cycle}
 use Rattle.leader_check.proofs.Walks.{through}
 use Rattle.swap_clear.specs.declared.answer.Group.{Group}
 use Rattle.swap_clear.specs.declared.fault.ClearReason.{ClearReason}
-use Rattle.swap_clear.specs.Groups.{group_with, arcs_within, own_graph}
-use Rattle.swap_clear.specs.Leaders.{order, without, leaders_of, cycle_for}
-use Rattle.swap_clear.specs.Clearing.{group_of, some_group, next_group, with_group, add_group}
+use Rattle.swap_clear.specs.Groups.{strong_component, inner_arcs, own_graph}
+use Rattle.swap_clear.specs.Leaders.{order, without, choose_leaders, party_cycle}
+use Rattle.swap_clear.specs.Clearing.{make_group, some_group, next_group, with_group, add_group}
 use Rattle.swap_clear.proofs.Gathered.{arcs_with, own_with}
 use Rattle.swap_clear.proofs.Together.{is_with, is_inside, in_group, with_itself}
 use Rattle.swap_clear.proofs.Places.{own_has_ends, own_reaches, arcs_length}
 use Rattle.swap_clear.proofs.Remaining.{filter_short, remaining_short}
 use Rattle.swap_clear.proofs.Leading.{some_lead}
 
-pub set_few : (g : Graph) (v : ℕ) (set : List ℕ) → set ≡ group_with g v → length set ≤ g.n
+pub set_few : (g : Graph) (v : ℕ) (set : List ℕ) → set ≡ strong_component g v → length set ≤ g.n
 set_few g v set e = let f = filter_short (is_with g v) (parties g) in let l = length-range 0 g.n in let s = ap length e in omega (arith, f, l, s)
 
-pub arcs_few : (g : Graph) (set numbers : List ℕ) → numbers ≡ arcs_within g set → length numbers ≤ length g.arcs
+pub arcs_few : (g : Graph) (set numbers : List ℕ) → numbers ≡ inner_arcs g set → length numbers ≤ length g.arcs
 arcs_few g set numbers e =
     let f = filter_short (is_inside g set) (arcs g) in let l = length-range 0 (length g.arcs) in let s = ap length e in omega (arith, f, l, s)
 
-pub arcs_in : (g : Graph) (set numbers : List ℕ) → numbers ≡ arcs_within g set → (a : ℕ) → IsIn a numbers → a < length g.arcs
-arcs_in g set numbers e a i = from_range a (length g.arcs) (from_filter (is_inside g set) a (arcs g) (subst (λ (xs : List ℕ). IsIn a xs) e i)).0
+pub parse_arcs : (g : Graph) (set numbers : List ℕ) → numbers ≡ inner_arcs g set → (a : ℕ) → IsIn a numbers → a < length g.arcs
+parse_arcs g set numbers e a i = from_range a (length g.arcs) (from_filter (is_inside g set) a (arcs g) (subst (λ (xs : List ℕ). IsIn a xs) e i)).0
 
-pub set_some : (g : Graph) (v : ℕ) (set : List ℕ) → set ≡ group_with g v → v < g.n → 1 ≤ length set
-set_some g v set e lt = go set (subst (λ (xs : List ℕ). IsIn v xs) (sym e) (is_among-true v (group_with g v) (in_group g v v lt (with_itself g v))))
+pub set_some : (g : Graph) (v : ℕ) (set : List ℕ) → set ≡ strong_component g v → v < g.n → 1 ≤ length set
+set_some g v set e lt = go set (subst (λ (xs : List ℕ). IsIn v xs) (sym e) (is_listed-true v (strong_component g v) (in_group g v v lt (with_itself g v))))
   where
     go : (xs : List ℕ) → IsIn v xs → 1 ≤ length xs
     go [] i = absurd i
     go (x ∷ xs) i = omega arith
 
-pub own_ends_hold : (g : Graph) → HasEnds g → (v : ℕ) → v < g.n → (set numbers : List ℕ) → set ≡ group_with g v → numbers ≡ arcs_within g set
+pub own_ends_hold : (g : Graph) → HasEnds g → (v : ℕ) → v < g.n → (set numbers : List ℕ) → set ≡ strong_component g v → numbers ≡ inner_arcs g set
     → HasEnds (own_graph g set numbers)
 own_ends_hold g has v lt set numbers e f =
     subst (λ (xs : List ℕ). HasEnds (own_graph g set xs)) (sym f)
-    (subst (λ (s : List ℕ). HasEnds (own_graph g s (arcs_within g s))) (sym e) (own_has_ends g has v lt))
+    (subst (λ (s : List ℕ). HasEnds (own_graph g s (inner_arcs g s))) (sym e) (own_has_ends g has v lt))
 
-pub own_led : (g : Graph) → HasEnds g → (v : ℕ) → v < g.n → (set numbers : List ℕ) → set ≡ group_with g v → numbers ≡ arcs_within g set
-    → (length numbers == 0) ≡ false → 1 ≤ length (leaders_of (own_graph g set numbers))
+pub own_led : (g : Graph) → HasEnds g → (v : ℕ) → v < g.n → (set numbers : List ℕ) → set ≡ strong_component g v → numbers ≡ inner_arcs g set
+    → (length numbers == 0) ≡ false → 1 ≤ length (choose_leaders (own_graph g set numbers))
 own_led g has v lt set numbers e f some =
-    subst (λ (xs : List ℕ). 1 ≤ length (leaders_of (own_graph g set xs))) (sym f)
-    (subst (λ (s : List ℕ). 1 ≤ length (leaders_of (own_graph g s (arcs_within g s)))) (sym e)
+    subst (λ (xs : List ℕ). 1 ≤ length (choose_leaders (own_graph g set xs))) (sym f)
+    (subst (λ (s : List ℕ). 1 ≤ length (choose_leaders (own_graph g s (inner_arcs g s)))) (sym e)
     (some_lead (own_with g v) (own_has_ends g has v lt) (own_reaches g has v lt) arcs_there))
   where
     same : numbers ≡ arcs_with g v
-    same = f ∙ ap (arcs_within g) e
+    same = f ∙ ap (inner_arcs g) e
 
     not_zero : (n : ℕ) → (n == 0) ≡ false → length (own_with g v).arcs ≡ n → 0 < length (own_with g v).arcs
     not_zero zero h s = cc h
@@ -64,14 +64,14 @@ own_led g has v lt set numbers e f some =
     arcs_there : 0 < length (own_with g v).arcs
     arcs_there = let l = arcs_length g has v lt in not_zero (length numbers) some (l ∙ sym (ap length same))
 
-pub leaders_few : (g : Graph) → length (leaders_of g) ≤ g.n
-unfolding leaders_of
+pub leaders_few : (g : Graph) → length (choose_leaders g) ≤ g.n
+unfolding choose_leaders
 leaders_few g = let r = remaining_short g (order g) (parties g) in let l = length-range 0 g.n in omega (arith, r, l)
 
-pub cycle_in : (g : Graph) (ls : List ℕ) (v x : ℕ) → IsIn x (cycle_for g ls v) → x < g.n
-cycle_in g ls v x i = go (cycle_from g (without v ls) v) refl i
+pub cycle_in : (g : Graph) (ls : List ℕ) (v x : ℕ) → IsIn x (party_cycle g ls v) → x < g.n
+cycle_in g ls v x i = go (traced_cycle g (without v ls) v) refl i
   where
-    go : (o : Option (List ℕ)) → cycle_from g (without v ls) v ≡ o → IsIn x (unwrap_or o []) → x < g.n
+    go : (o : Option (List ℕ)) → traced_cycle g (without v ls) v ≡ o → IsIn x (unwrap_or o []) → x < g.n
     go None e j = absurd j
     go (Some c) e j = path_below g c x (through g (without v ls) v c e).path.0 j
 
@@ -81,34 +81,34 @@ begins v (x ∷ xs) = let e = ne_eqb (length (x ∷ xs)) 0 (λ h. absurd (omega 
 
 -- The next group.
 
-next_of : (g : Graph) (k v : ℕ) (set numbers : List ℕ) → set ≡ group_with g v → numbers ≡ arcs_within g set → first_is v set ≡ true
-    → (length numbers == 0) ≡ false → next_group g k v ≡ some_group (group_of k set numbers (own_graph g set numbers))
+next_action : (g : Graph) (k v : ℕ) (set numbers : List ℕ) → set ≡ strong_component g v → numbers ≡ inner_arcs g set → first_is v set ≡ true
+    → (length numbers == 0) ≡ false → next_group g k v ≡ some_group (make_group k set numbers (own_graph g set numbers))
 unfolding next_group
-next_of g k v set numbers e f first some = rw (← e, ← f, first, some) refl
+next_action g k v set numbers e f first some = rw (← e, ← f, first, some) refl
 
-pub next_none : (g : Graph) (k v : ℕ) (set : List ℕ) → set ≡ group_with g v → first_is v set ≡ false → next_group g k v ≡ Ok None
+pub next_none : (g : Graph) (k v : ℕ) (set : List ℕ) → set ≡ strong_component g v → first_is v set ≡ false → next_group g k v ≡ Ok None
 unfolding next_group
 next_none g k v set e first = rw (← e, first) refl
 
-pub next_empty : (g : Graph) (k v : ℕ) (set numbers : List ℕ) → set ≡ group_with g v → numbers ≡ arcs_within g set → first_is v set ≡ true
+pub next_empty : (g : Graph) (k v : ℕ) (set numbers : List ℕ) → set ≡ strong_component g v → numbers ≡ inner_arcs g set → first_is v set ≡ true
     → (length numbers == 0) ≡ true → next_group g k v ≡ Ok None
 unfolding next_group
 next_empty g k v set numbers e f first none = rw (← e, ← f, first, none) refl
 
-pub next_some : (g : Graph) (k v : ℕ) (set numbers : List ℕ) (own : Graph) (group : Group) → set ≡ group_with g v → numbers ≡ arcs_within g set
-    → own ≡ own_graph g set numbers → first_is v set ≡ true → (length numbers == 0) ≡ false → group_of k set numbers own ≡ Ok group
+pub next_some : (g : Graph) (k v : ℕ) (set numbers : List ℕ) (own : Graph) (group : Group) → set ≡ strong_component g v → numbers ≡ inner_arcs g set
+    → own ≡ own_graph g set numbers → first_is v set ≡ true → (length numbers == 0) ≡ false → make_group k set numbers own ≡ Ok group
     → next_group g k v ≡ Ok (Some group)
 next_some g k v set numbers own group e f o first some made =
-    next_of g k v set numbers e f first some
-    ∙ ap (λ (r : Result Group ClearReason). some_group r) (ap (group_of k set numbers) (sym o) ∙ made)
+    next_action g k v set numbers e f first some
+    ∙ ap (λ (r : Result Group ClearReason). some_group r) (ap (make_group k set numbers) (sym o) ∙ made)
 
-pub next_fails : (fault : Fault ClearReason) (g : Graph) (k v : ℕ) (set numbers : List ℕ) (own : Graph) → set ≡ group_with g v
-    → numbers ≡ arcs_within g set → own ≡ own_graph g set numbers → first_is v set ≡ true → (length numbers == 0) ≡ false
-    → Fails fault (group_of k set numbers own) → Fails fault (next_group g k v)
+pub next_fails : (fault : Fault ClearReason) (g : Graph) (k v : ℕ) (set numbers : List ℕ) (own : Graph) → set ≡ strong_component g v
+    → numbers ≡ inner_arcs g set → own ≡ own_graph g set numbers → first_is v set ≡ true → (length numbers == 0) ≡ false
+    → Fails fault (make_group k set numbers own) → Fails fault (next_group g k v)
 next_fails NoMemory g k v set numbers own e f o first some made = tt
 next_fails (Refused reason) g k v set numbers own e f o first some made =
-    next_of g k v set numbers e f first some
-    ∙ ap (λ (r : Result Group ClearReason). some_group r) (ap (group_of k set numbers) (sym o) ∙ made)
+    next_action g k v set numbers e f first some
+    ∙ ap (λ (r : Result Group ClearReason). some_group r) (ap (make_group k set numbers) (sym o) ∙ made)
 
 -- The groups.
 

@@ -5,13 +5,13 @@ use Rattle.std.specs.List.Sorted.{IsStrictlyIncreasing}
 use Rattle.swap_base.specs.Lists.{IsIn}
 use Rattle.swap_base.proofs.Lists.{and_parts, and_both, from_filter, in_filter, from_range, in_range, in_map}
 use Rattle.swap_digraph.specs.Value.{Graph}
-use Rattle.swap_digraph.specs.Graph.{parties, ends, is_among, first_is, HasEnds}
-use Rattle.swap_digraph.proofs.Paths.{is_among-true, in-is_among}
+use Rattle.swap_digraph.specs.Graph.{parties, ends, is_listed, first_is, HasEnds}
+use Rattle.swap_digraph.proofs.Paths.{is_listed-true, in-is_listed}
 use Rattle.digraph_check.specs.Reach.{reaches}
 use Rattle.digraph_check.proofs.ListTests.{among_where, where_among, where_ascends, filter-same, same_test}
 use Rattle.digraph_check.proofs.ClosedSets.{reaches_itself}
 use Rattle.swap_clear.specs.declared.answer.Group.{Group}
-use Rattle.swap_clear.specs.Groups.{group_with}
+use Rattle.swap_clear.specs.Groups.{strong_component}
 use Rattle.swap_clear.specs.Together.{AreTogether, IsGroup, AreGroups}
 use Rattle.swap_clear.proofs.Cyclic.{path_there, there_path, on_to, from_map, map_back}
 use Rattle.swap_clear.proofs.Gathered.{arcs_with, the_group, is_head, Gathered}
@@ -21,7 +21,7 @@ abbrev pub is_with : Graph → ℕ → ℕ → Bool
 is_with g v w = reaches g v w && reaches g w v
 
 abbrev pub is_inside : Graph → List ℕ → ℕ → Bool
-is_inside g set a = is_among (ends g a).from set && is_among (ends g a).to set
+is_inside g set a = is_listed (ends g a).from set && is_listed (ends g a).to set
 
 module _ (g : Graph) where
   pub with_itself : (v : ℕ) → is_with g v v ≡ true
@@ -43,22 +43,22 @@ module _ (g : Graph) where
   of_together u w (inl e) = subst (λ (x : ℕ). is_with g u x ≡ true) e (with_itself u)
   of_together u w (inr p) = and_both (reaches g u w) (reaches g w u) (there_path g u w p.0) (there_path g w u p.1)
 
-  pub in_group : (v w : ℕ) → w < g.n → is_with g v w ≡ true → is_among w (group_with g v) ≡ true
+  pub in_group : (v w : ℕ) → w < g.n → is_with g v w ≡ true → is_listed w (strong_component g v) ≡ true
   in_group v w lt e = among_where (is_with g v) g.n w lt e
 
-  pub from_group : (v w : ℕ) → is_among w (group_with g v) ≡ true → (w < g.n) × (is_with g v w ≡ true)
+  pub from_group : (v w : ℕ) → is_listed w (strong_component g v) ≡ true → (w < g.n) × (is_with g v w ≡ true)
   from_group v w i = where_among (is_with g v) g.n w i
 
   -- the group is that of any of its parties
-  pub same_group : (u v : ℕ) → u < g.n → v < g.n → is_with g u v ≡ true → group_with g u ≡ group_with g v
+  pub same_group : (u v : ℕ) → u < g.n → v < g.n → is_with g u v ≡ true → strong_component g u ≡ strong_component g v
   same_group u v lu lv e =
       filter-same (is_with g u) (is_with g v) (parties g) (λ x i.
       let lx = from_range x g.n i in
       same_test (is_with g u x) (is_with g v x) (λ h. with_on v u x lv lx (with_turn u v e) h) (λ h. with_on u v x lu lx e h))
 
-  pub head_parts : (v : ℕ) → is_head g v ≡ true → (first_is v (group_with g v) ≡ true) × (length (arcs_with g v) ≢ 0)
+  pub head_parts : (v : ℕ) → is_head g v ≡ true → (first_is v (strong_component g v) ≡ true) × (length (arcs_with g v) ≢ 0)
   head_parts v h =
-      let k = and_parts (first_is v (group_with g v)) (not (length (arcs_with g v) == 0)) h in
+      let k = and_parts (first_is v (strong_component g v)) (not (length (arcs_with g v) == 0)) h in
       (k.0, λ e. by_test (length (arcs_with g v) == 0) k.1 (eq-eqb (length (arcs_with g v)) 0 e))
     where
       by_test : (b : Bool) → not b ≡ true → b ≡ true → ⊥
@@ -77,14 +77,14 @@ module _ (g : Graph) where
           λ j. let m = from_group v w j in together_of u w k.0 lw (with_on u v w k.0 lw (with_turn v u k.1) m.1),
           λ t. in_group v w lw (with_on v u w lt lw k.1 (of_together u w t)),
         );
-    arcs_ascend = where_ascends (is_inside g (group_with g v)) (length g.arcs);
+    arcs_ascend = where_ascends (is_inside g (strong_component g v)) (length g.arcs);
     arcs = λ a la. (
-      λ i. and_parts (is_among (ends g a).from (group_with g v)) (is_among (ends g a).to (group_with g v))
-          (where_among (is_inside g (group_with g v)) (length g.arcs) a i).1,
-      λ p. among_where (is_inside g (group_with g v)) (length g.arcs) a la
-          (and_both (is_among (ends g a).from (group_with g v)) (is_among (ends g a).to (group_with g v)) p.0 p.1),
+      λ i. and_parts (is_listed (ends g a).from (strong_component g v)) (is_listed (ends g a).to (strong_component g v))
+          (where_among (is_inside g (strong_component g v)) (length g.arcs) a i).1,
+      λ p. among_where (is_inside g (strong_component g v)) (length g.arcs) a la
+          (and_both (is_listed (ends g a).from (strong_component g v)) (is_listed (ends g a).to (strong_component g v)) p.0 p.1),
     );
-    arc = λ a i. (where_among (is_inside g (group_with g v)) (length g.arcs) a i).0;
+    arc = λ a i. (where_among (is_inside g (strong_component g v)) (length g.arcs) a i).0;
     some_arcs = some_of (arcs_with g v) (head_parts v h).1;
   }
 
@@ -110,7 +110,7 @@ module _ (g : Graph) where
     pub head : ℕ
     pub party : head < g.n
     pub is_one : is_head g head ≡ true
-    pub holds : is_among a (arcs_with g head) ≡ true
+    pub holds : is_listed a (arcs_with g head) ≡ true
 
   headed : HasEnds g → (a : ℕ) → a < length g.arcs → AreTogether g (ends g a).from (ends g a).to → Headed a
   headed has a la t =
@@ -118,20 +118,20 @@ module _ (g : Graph) where
       let lu = has.from a la in
       let lw = has.to a la in
       let mine = in_group u u lu (with_itself u) in
-      let first = get_or (group_with g u) 0 0 in
-      let stands = in-is_among first (group_with g u) (get_in (group_with g u) u (is_among-true u (group_with g u) mine)) in
+      let first = get_or (strong_component g u) 0 0 in
+      let stands = in-is_listed first (strong_component g u) (get_in (strong_component g u) u (is_listed-true u (strong_component g u) mine)) in
       let k = from_group u first stands in
-      let same : group_with g u ≡ group_with g first = same_group u first lu k.0 k.1 in
+      let same : strong_component g u ≡ strong_component g first = same_group u first lu k.0 k.1 in
       let other = in_group u (ends g a).to lw (of_together u (ends g a).to t) in
-      let inside : is_among a (arcs_with g first) ≡ true = among_where (is_inside g (group_with g first)) (length g.arcs) a la
-      (and_both (is_among u (group_with g first)) (is_among (ends g a).to (group_with g first))
-      (subst (λ (xs : List ℕ). is_among u xs ≡ true) same mine) (subst (λ (xs : List ℕ). is_among (ends g a).to xs ≡ true) same other)) in
+      let inside : is_listed a (arcs_with g first) ≡ true = among_where (is_inside g (strong_component g first)) (length g.arcs) a la
+      (and_both (is_listed u (strong_component g first)) (is_listed (ends g a).to (strong_component g first))
+      (subst (λ (xs : List ℕ). is_listed u xs ≡ true) same mine) (subst (λ (xs : List ℕ). is_listed (ends g a).to xs ≡ true) same other)) in
       record {
         head = first;
         party = k.0;
-        is_one = and_both (first_is first (group_with g first)) (not (length (arcs_with g first) == 0))
-            (subst (λ (xs : List ℕ). first_is first xs ≡ true) same (get_first (group_with g u) u (is_among-true u (group_with g u) mine)))
-            (ap not (some_length (arcs_with g first) a (is_among-true a (arcs_with g first) inside)));
+        is_one = and_both (first_is first (strong_component g first)) (not (length (arcs_with g first) == 0))
+            (subst (λ (xs : List ℕ). first_is first xs ≡ true) same (get_first (strong_component g u) u (is_listed-true u (strong_component g u) mine)))
+            (ap not (some_length (arcs_with g first) a (is_listed-true a (arcs_with g first) inside)));
         holds = inside;
       }
 
@@ -165,4 +165,4 @@ module _ (g : Graph) where
       firsts : map (λ (x : Group). get_or x.parties 0 0) (map (the_group g) (filter (is_head g) (parties g))) ≡ filter (is_head g) (parties g)
       firsts =
           map_back (the_group g) (λ (x : Group). get_or x.parties 0 0) (filter (is_head g) (parties g)) (λ x i.
-          first_get x (group_with g x) (head_parts x (from_filter (is_head g) x (parties g) i).1).0)
+          first_get x (strong_component g x) (head_parts x (from_filter (is_head g) x (parties g) i).1).0)

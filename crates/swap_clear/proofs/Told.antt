@@ -15,8 +15,8 @@ use Rattle.swap_clear.specs.declared.answer.LeftOut.{LeftOut}
 use Rattle.swap_clear.specs.declared.answer.Group.{Group}
 use Rattle.swap_clear.specs.declared.answer.Clearing.{Clearing}
 use Rattle.swap_clear.specs.Proposals.{proposed_graph}
-use Rattle.swap_clear.specs.Leaders.{leaders_of}
-use Rattle.swap_clear.specs.Clearing.{clearing_of}
+use Rattle.swap_clear.specs.Leaders.{choose_leaders}
+use Rattle.swap_clear.specs.Clearing.{cleared_groups}
 use Rattle.swap_clear.specs.Cyclic.{TellsLeftOut}
 use Rattle.swap_clear.specs.Together.{AreGroups}
 use Rattle.swap_clear.specs.Led.{own, IsLed, HasCycles, NoFewerLead, IsBound}
@@ -30,18 +30,18 @@ use Rattle.swap_clear.proofs.Deals.{makes_a_deal}
 use Rattle.swap_clear.proofs.Cleared.{cleared}
 
 -- what holds of each clearing that the definition gives holds of the answer
-pub if_cleared : (n : ℕ) (arcs : List Proposed) (P : Clearing → Type 0) (r : Result Clearing (Fault ClearReason)) → Gives (λ c. c) r (clearing_of n arcs)
-    → ((c : Clearing) → clearing_of n arcs ≡ Ok c → P c) → IfOk r P
+pub if_cleared : (n : ℕ) (arcs : List Proposed) (P : Clearing → Type 0) (r : Result Clearing (Fault ClearReason)) → Gives (λ c. c) r (cleared_groups n arcs)
+    → ((c : Clearing) → cleared_groups n arcs ≡ Ok c → P c) → IfOk r P
 if_cleared n arcs P (Ok c) gives law = law c gives
 if_cleared n arcs P (Err e) gives law = tt
 
-pub if_refused : (n : ℕ) (arcs : List Proposed) (r : Result Clearing (Fault ClearReason)) → Gives (λ c. c) r (clearing_of n arcs)
+pub if_refused : (n : ℕ) (arcs : List Proposed) (r : Result Clearing (Fault ClearReason)) → Gives (λ c. c) r (cleared_groups n arcs)
     → IfErr r (λ e. IfRefused e (IsFault (proposed_graph n arcs)))
 if_refused n arcs (Ok c) gives = tt
 if_refused n arcs (Err NoMemory) gives = tt
 if_refused n arcs (Err (Refused reason)) gives = clearing_refused n arcs reason gives
 
-module _ (n : ℕ) (arcs : List Proposed) (c : Clearing) (e : clearing_of n arcs ≡ Ok c) where
+module _ (n : ℕ) (arcs : List Proposed) (c : Clearing) (e : cleared_groups n arcs ≡ Ok c) where
   pub left_out : TellsLeftOut (proposed_graph n arcs) c.left_out
   left_out =
       let k = cleared n arcs c e in
@@ -55,7 +55,7 @@ module _ (n : ℕ) (arcs : List Proposed) (c : Clearing) (e : clearing_of n arcs
     pub head : ℕ
     pub party : head < n
     pub is_one : is_head (proposed_graph n arcs) head ≡ true
-    pub few : length (leaders_of (own_with (proposed_graph n arcs) head)) ≤ 8
+    pub few : length (choose_leaders (own_with (proposed_graph n arcs) head)) ≤ 8
     pub is : group ≡ the_group (proposed_graph n arcs) head
 
   known : (group : Group) → IsIn group c.groups → Known group

@@ -3,7 +3,7 @@ use Rattle.std.specs.Prelude.{◌≡◌, ◌⊎◌, ◌↔◌, ℕ, ◌<◌, ◌
 use Rattle.std.specs.List.Sorted.{IsStrictlyIncreasing}
 use Rattle.swap_base.specs.Lists.{IsIn}
 use Rattle.swap_digraph.specs.Value.{Graph}
-use Rattle.swap_digraph.specs.Graph.{parties, is_among, IsFeedback, IsHeight}
+use Rattle.swap_digraph.specs.Graph.{parties, is_listed, IsFeedback, IsHeight}
 use Rattle.time_bounds.specs.Times.{need}
 use Rattle.leader_check.specs.Cycles.{IsCycleThrough}
 use Rattle.swap_clear.specs.declared.answer.Group.{Group}
@@ -29,7 +29,7 @@ IsInOrder g (u ∷ order) = ((v : ℕ) → IsIn v order → IsBefore g u v) × I
 
 -- The list has every party, in the order of trying.
 pub record IsOrder (g : Graph) (order : List ℕ) : Type 0 where
-  pub parties : (v : ℕ) → (IsTrue (is_among v order) ↔ (v < g.n))
+  pub parties : (v : ℕ) → (IsTrue (is_listed v order) ↔ (v < g.n))
   pub in_order : IsInOrder g order
 
 -- What remains of the leaders when those of the list are dropped, one after the other, wherever the rest is still a feedback vertex set.
@@ -42,7 +42,7 @@ Remain g leaders (v ∷ order) rest =
 -- The leaders are what remains of all parties, tried in order.
 pub record IsLed (g : Graph) (group : Group) : Type 0 where
   pub ascending : IsStrictlyIncreasing group.leaders
-  pub among : (v : ℕ) → IsTrue (is_among v group.leaders) → IsTrue (is_among v group.parties)
+  pub among : (v : ℕ) → IsTrue (is_listed v group.leaders) → IsTrue (is_listed v group.parties)
   pub order : List ℕ
   pub is_order : IsOrder (own g group) order
   pub remain : Remain (own g group) (parties (own g group)) order (own_leaders group)
@@ -52,7 +52,7 @@ pub record IsLed (g : Graph) (group : Group) : Type 0 where
 -- For each leader there is a cycle: a shortest one that begins with it and holds no other leader.
 pub record HasCycles (g : Graph) (group : Group) : Type 0 where
   pub one_each : length group.cycles ≡ length group.leaders
-  pub parties : (list : List ℕ) (v : ℕ) → IsIn list group.cycles → IsTrue (is_among v list) → IsTrue (is_among v group.parties)
+  pub parties : (list : List ℕ) (v : ℕ) → IsIn list group.cycles → IsTrue (is_listed v list) → IsTrue (is_listed v group.parties)
   pub cycle : (i : ℕ) → i < length group.leaders
       → IsCycleThrough (own g group) (without (slice_index (own_leaders group) i) (own_leaders group)) (slice_index (own_leaders group) i)
       (map (place group.parties) (slice_index_or group.cycles i []))
@@ -60,8 +60,8 @@ pub record HasCycles (g : Graph) (group : Group) : Type 0 where
 -- No proper part of the leaders is a feedback vertex set.
 abbrev pub NoFewerLead : Graph → Group → Type 0
 NoFewerLead g group =
-    (part : List ℕ) → ((v : ℕ) → IsTrue (is_among v part) → IsTrue (is_among v (own_leaders group))) → IsFeedback (own g group) part
-    → (v : ℕ) → IsTrue (is_among v (own_leaders group)) → IsTrue (is_among v part)
+    (part : List ℕ) → ((v : ℕ) → IsTrue (is_listed v part) → IsTrue (is_listed v (own_leaders group))) → IsFeedback (own g group) part
+    → (v : ℕ) → IsTrue (is_listed v (own_leaders group)) → IsTrue (is_listed v part)
 
 -- The bound is what the parties, the leaders and the paths of followers ask.
 pub record IsBound (g : Graph) (group : Group) : Type 0 where

@@ -7,16 +7,16 @@ use Rattle.swap_clear.specs.declared.proposed.Proposed.{Proposed}
 use Rattle.swap_clear.specs.declared.fault.ClearReason.{ClearReason}
 use Rattle.swap_clear.specs.declared.fault.ClearReason.TheVariants.{OutOfRange, SelfArc}
 
-abbrev pub ends_of : Proposed → ArcEnds
-ends_of p = record { from = p.from; to = p.to }
+abbrev pub resolve_arc_ends : Proposed → ArcEnds
+resolve_arc_ends p = record { from = p.from; to = p.to }
 
 -- the digraph of n parties whose arcs are the proposals
 abbrev pub proposed_graph : ℕ → List Proposed → Graph
-proposed_graph n arcs = record { n = n; arcs = map ends_of arcs }
+proposed_graph n arcs = record { n = n; arcs = map resolve_arc_ends arcs }
 
 -- the first fault of proposal k
-abbrev pub fault_of : ℕ → ℕ → Proposed → Option ClearReason
-fault_of n k p =
+abbrev pub to_offer_fault : ℕ → ℕ → Proposed → Option ClearReason
+to_offer_fault n k p =
     if not (nat_lt p.from n && nat_lt p.to n) then Some (OutOfRange k)
     else if p.from == p.to then Some (SelfArc k)
     else None
@@ -24,11 +24,11 @@ fault_of n k p =
 -- the first fault of the least proposal that has one, by number from k on
 unfoldable pub first_proposal_fault : ℕ → ℕ → List Proposed → Option ClearReason
 first_proposal_fault n k [] = None
-first_proposal_fault n k (p ∷ arcs) = or_else (fault_of n k p) (first_proposal_fault n (k + 1) arcs)
+first_proposal_fault n k (p ∷ arcs) = or_else (to_offer_fault n k p) (first_proposal_fault n (k + 1) arcs)
 
 abbrev pub graph_unless : Graph → Option ClearReason → Result Graph ClearReason
 graph_unless g None = Ok g
 graph_unless g (Some reason) = Err reason
 
-unfoldable pub graph_of : ℕ → List Proposed → Result Graph ClearReason
-graph_of n arcs = graph_unless (proposed_graph n arcs) (first_proposal_fault n 0 arcs)
+unfoldable pub build_graph : ℕ → List Proposed → Result Graph ClearReason
+build_graph n arcs = graph_unless (proposed_graph n arcs) (first_proposal_fault n 0 arcs)

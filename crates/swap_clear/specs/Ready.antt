@@ -27,12 +27,12 @@ pub record IsReady (g : Graph) (led : List ℕ) (from ticks most : ℕ) (units :
   pub amounts : (a : ℕ) → a < length g.arcs → (1 ≤ slice_index units a) × (slice_index units a ≤ 10 ^ 12)
 
 -- the units of that proposal
-abbrev pub amount_of : List Proposed → ℕ → ℕ
-amount_of arcs a = (slice_index_or arcs a (record { from = 0; to = 0; amount = 0 })).amount
+abbrev pub proposed_amount : List Proposed → ℕ → ℕ
+proposed_amount arcs a = (slice_index_or arcs a (record { from = 0; to = 0; amount = 0 })).amount
 
 -- the amounts of the group's arcs
 abbrev pub own_amounts : List Proposed → Group → List ℕ
-own_amounts arcs group = map (amount_of arcs) group.arcs
+own_amounts arcs group = map (proposed_amount arcs) group.arcs
 
 -- With any start and delta that an accepted deal may have, the group makes such a deal.
 abbrev pub MakesADeal : Graph → List Proposed → Group → Type 0
@@ -42,4 +42,4 @@ MakesADeal g arcs group =
 
 -- Each amount is 1 to 10^12.
 abbrev pub AreAmounts : List Proposed → Type 0
-AreAmounts arcs = (a : ℕ) → a < length arcs → (1 ≤ amount_of arcs a) × (amount_of arcs a ≤ 10 ^ 12)
+AreAmounts arcs = (a : ℕ) → a < length arcs → (1 ≤ proposed_amount arcs a) × (proposed_amount arcs a ≤ 10 ^ 12)

@@ -5,8 +5,8 @@ use Rattle.swap_base.specs.declared.fault.Fault.{Fault}
 use Rattle.swap_base.specs.declared.fault.Fault.TheVariants.{Refused, NoMemory}
 use Rattle.swap_digraph.specs.Value.{Graph}
 use Rattle.swap_digraph.specs.Graph.{ends, first_is}
-use Rattle.swap_clear.specs.Groups.{group_with, arcs_within, own_graph}
-use Rattle.swap_clear.specs.Leaders.{leaders_of}
+use Rattle.swap_clear.specs.Groups.{strong_component, inner_arcs, own_graph}
+use Rattle.swap_clear.specs.Leaders.{choose_leaders}
 use Rattle.swap_clear.specs.declared.fault.ClearReason.{ClearReason}
 use Rattle.swap_clear.specs.declared.fault.ClearReason.TheVariants.{OutOfRange, SelfArc, TooManyLeaders}
 
@@ -16,11 +16,11 @@ IsSound g a = ((ends g a).from < g.n) × ((ends g a).to < g.n) × ((ends g a).fr
 
 -- the own digraph of the group of v
 abbrev pub own_of : Graph → ℕ → Graph
-own_of g v = own_graph g (group_with g v) (arcs_within g (group_with g v))
+own_of g v = own_graph g (strong_component g v) (inner_arcs g (strong_component g v))
 
 -- whether v is the least party of a group that has arcs
 abbrev pub is_least : Graph → ℕ → Bool
-is_least g v = first_is v (group_with g v) && not (length (arcs_within g (group_with g v)) == 0)
+is_least g v = first_is v (strong_component g v) && not (length (inner_arcs g (strong_component g v)) == 0)
 
 -- The group with that number, by its least party, has so many leaders, more than 8; each group before it has at most 8.
 pub record IsTooMany (g : Graph) (group count : ℕ) : Type 0 where
@@ -28,9 +28,9 @@ pub record IsTooMany (g : Graph) (group count : ℕ) : Type 0 where
   pub party : head < g.n
   pub least : IsTrue (is_least g head)
   pub number : group ≡ length (filter (is_least g) (range_with_len 0 head))
-  pub leaders : count ≡ length (leaders_of (own_of g head))
+  pub leaders : count ≡ length (choose_leaders (own_of g head))
   pub many : 8 < count
-  pub before : (v : ℕ) → v < head → IsTrue (is_least g v) → length (leaders_of (own_of g v)) ≤ 8
+  pub before : (v : ℕ) → v < head → IsTrue (is_least g v) → length (choose_leaders (own_of g v)) ≤ 8
 
 -- The arc has that fault: an end that is no party, or else one party at both ends. Too many leaders are of a digraph whose arcs are sound.
 abbrev pub IsFault : Graph → ClearReason → Type 0

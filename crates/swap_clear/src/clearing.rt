@@ -5,7 +5,7 @@ ghost use Rattle.swap_base.specs.Fault.{Gives};
 ghost use Rattle.swap_base.specs.Lists.{IsIn};
 ghost use Rattle.swap_digraph.specs.Graph.{IsStronglyConnected};
 ghost use Rattle.swap_clear.specs.Proposals.{proposed_graph};
-ghost use Rattle.swap_clear.specs.Clearing.{clearing_of};
+ghost use Rattle.swap_clear.specs.Clearing.{cleared_groups};
 ghost use Rattle.swap_clear.specs.Cyclic.{TellsLeftOut};
 ghost use Rattle.swap_clear.specs.Together.{AreGroups};
 ghost use Rattle.swap_clear.specs.Led.{own, IsLed, HasCycles, NoFewerLead, IsBound};
@@ -16,19 +16,19 @@ use crate::answer::Clearing;
 use crate::fault::ClearFault;
 use crate::groups::groups;
 use crate::left_out::left_out;
-use crate::proposals::graph_of;
+use crate::proposals::build_graph;
 use crate::proposed::Proposed;
 use crate::reach::reach_rows;
 use std::alloc::Global;
 
 /// What is left out and the groups, or the first reason against the proposals.
-#[tactic(auto, unfolding(crate::specs::Clearing::clearing_of))]
+#[tactic(auto, unfolding(crate::specs::Clearing::cleared_groups))]
 fn cleared(alloc: Global, n: u8, arcs: &[Proposed]) -> Result<Clearing, ClearFault>
     requires parties { n ≤ 32 }
     requires arcs { length arcs.now ≤ 128 }
-    ensures { Gives (λ c. c) result (clearing_of n arcs.now) }
+    ensures { Gives (λ c. c) result (cleared_groups n arcs.now) }
 {
-    let graph = graph_of(alloc, n, arcs)?;
+    let graph = build_graph(alloc, n, arcs)?;
     let rows = reach_rows(alloc, &graph)?;
     let left_out = left_out(alloc, &graph, &rows)?;
     let groups = groups(alloc, &graph, &rows)?;
@@ -43,7 +43,7 @@ pub fn clear(alloc: Global, n: u8, arcs: &[Proposed]) -> Result<Clearing, ClearF
     requires parties { (2 ≤ n) × (n ≤ 32) }
     requires arcs { (1 ≤ length arcs.now) × (length arcs.now ≤ 128) }
     requires amounts { AreAmounts arcs.now }
-    ensures exact { Gives (λ c. c) result (clearing_of n arcs.now) }
+    ensures exact { Gives (λ c. c) result (cleared_groups n arcs.now) }
     ensures left_out { IfOk result (λ c. TellsLeftOut (proposed_graph n arcs.now) c.left_out) }
     ensures groups { IfOk result (λ c. AreGroups (proposed_graph n arcs.now) c.groups) }
     ensures strong { IfOk result (λ c. (group : _) → IsIn group c.groups → IsStronglyConnected (own (proposed_graph n arcs.now) group)) }

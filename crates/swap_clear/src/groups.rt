@@ -4,15 +4,15 @@ ghost use Rattle.std.specs.Prelude.{◌≡◌, ◌<◌, ◌≤◌, ℕ, length, 
 ghost use Rattle.swap_base.specs.Lists.{IsIn};
 ghost use Rattle.swap_base.specs.Fault.{Gives};
 ghost use Rattle.swap_digraph.specs.Graph.{HasEnds, first_is};
-ghost use Rattle.swap_clear.specs.Groups.{party_at};
-ghost use Rattle.swap_clear.specs.Leaders.{cycle_for, leaders_of};
-ghost use Rattle.swap_clear.specs.Clearing.{group_led_by, group_of, next_group, groups_of};
+ghost use Rattle.swap_clear.specs.Groups.{find_party};
+ghost use Rattle.swap_clear.specs.Leaders.{party_cycle, choose_leaders};
+ghost use Rattle.swap_clear.specs.Clearing.{led_group, make_group, next_group, cleared_components};
 ghost use Rattle.swap_clear.specs.Rows.{TellsReach};
 
 use crate::answer::Group;
 use crate::fault::{ClearFault, ClearReason};
-use crate::leaders::{cycle_for, leaders_of};
-use crate::own::{arcs_within, group_with, named, own_graph};
+use crate::leaders::{choose_leaders, party_cycle};
+use crate::own::{inner_arcs, named, own_graph, strong_component};
 use leader_check::height;
 use std::alloc::Global;
 use swap_base::{Fault, Listed, NoMemory, PartyId};
@@ -20,7 +20,7 @@ use swap_digraph::{Digraph, PathList};
 use time_bounds::need;
 
 /// For each leader its cycle, with the parties of the set.
-fn cycles_for(
+fn group_cycles(
     alloc: Global,
     set: &[PartyId],
     own: &Digraph,
@@ -30,18 +30,18 @@ fn cycles_for(
     requires set { length set.now ≡ own.now.n }
     requires ends { HasEnds own.now }
     requires leaders { (v : ℕ) → IsIn v leaders.now → v < own.now.n }
-    ensures { IfOk result (λ l. l ≡ map (λ v. map (party_at set.now) (cycle_for own.now leaders.now v)) leaders.now) }
+    ensures { IfOk result (λ l. l ≡ map (λ v. map (find_party set.now) (party_cycle own.now leaders.now v)) leaders.now) }
 {
     let mut cycles = Vec::new(alloc);
     for v in leaders {
-        let cycle = cycle_for(alloc, own, leaders, *v)?;
+        let cycle = party_cycle(alloc, own, leaders, *v)?;
         cycles.push(named(alloc, set, cycle.as_slice())?)?;
     }
     Ok(Listed::new(cycles))
 }
 
 /// The group of a set and its arcs, with those leaders of its own digraph.
-fn group_led_by(
+fn led_group(
     alloc: Global,
     set: PathList,
     numbers: Listed<u32>,
@@ -53,9 +53,9 @@ fn group_led_by(
     requires ends { HasEnds own.now }
     requires some { (1 ≤ length leaders.now) × (length leaders.now ≤ 8) }
     requires leaders { (v : ℕ) → IsIn v leaders.now → v < own.now.n }
-    ensures { IfOk result (λ group. group ≡ group_led_by set numbers own.now leaders.now) }
+    ensures { IfOk result (λ group. group ≡ led_group set numbers own.now leaders.now) }
 {
-    let cycles = cycles_for(alloc, set.as_slice(), own, leaders)?;
+    let cycles = group_cycles(alloc, set.as_slice(), own, leaders)?;
     let bound = need(own.n(), leaders.len() as u8, height(alloc, own, leaders)?);
     Ok(Group {
         leaders: named(alloc, set.as_slice(), leaders)?,
@@ -67,8 +67,8 @@ fn group_led_by(
 }
 
 /// The group of a set and its arcs, unless it has more than 8 leaders.
-#[tactic(auto, unfolding(crate::specs::Clearing::group_of))]
-fn group_of(
+#[tactic(auto, unfolding(crate::specs::Clearing::make_group))]
+fn make_group(
     alloc: Global,
     number: u32,
     set: PathList,
@@ -78,14 +78,14 @@ fn group_of(
     requires parties { (1 ≤ own.now.n) × (own.now.n ≤ 32) }
     requires set { length set ≡ own.now.n }
     requires ends { HasEnds own.now }
-    requires some { 1 ≤ length (leaders_of own.now) }
-    ensures { Gives (λ group. group) result (group_of number set numbers own.now) }
+    requires some { 1 ≤ length (choose_leaders own.now) }
+    ensures { Gives (λ group. group) result (make_group number set numbers own.now) }
 {
-    let leaders = leaders_of(alloc, own)?;
+    let leaders = choose_leaders(alloc, own)?;
     if leaders.len() > 8 {
         return Err(Fault::Refused(ClearReason::TooManyLeaders(number, leaders.len() as u32)));
     }
-    Ok(group_led_by(alloc, set, numbers, own, &leaders)?)
+    Ok(led_group(alloc, set, numbers, own, &leaders)?)
 }
 
 /// Whether v is the first of the set.
@@ -110,16 +110,16 @@ fn next_group(
     requires v { v < graph.now.n }
     ensures { Gives (λ next. next) result (next_group graph.now number v) }
 {
-    let set = group_with(alloc, graph, rows, v)?;
+    let set = strong_component(alloc, graph, rows, v)?;
     if !begins_with(set.as_slice(), v) {
         return Ok(None);
     }
-    let numbers = arcs_within(alloc, graph, set.as_slice())?;
+    let numbers = inner_arcs(alloc, graph, set.as_slice())?;
     if numbers.is_empty() {
         return Ok(None);
     }
     let own = own_graph(alloc, graph, set.as_slice(), numbers.as_slice())?;
-    match group_of(alloc, number, set, numbers, &own) {
+    match make_group(alloc, number, set, numbers, &own) {
         Ok(group) => Ok(Some(group)),
         Err(fault) => Err(fault),
     }
@@ -131,7 +131,7 @@ pub fn groups(alloc: Global, graph: &Digraph, rows: &[u32]) -> Result<Listed<Gro
     requires few { length graph.now.arcs ≤ 128 }
     requires ends { HasEnds graph.now }
     requires rows { TellsReach graph.now rows.now }
-    ensures { Gives (λ groups. groups) result (groups_of graph.now) }
+    ensures { Gives (λ groups. groups) result (cleared_components graph.now) }
 {
     let mut groups = Vec::new(alloc);
     for v in 0..graph.n() {

@@ -4,7 +4,7 @@ ghost use Rattle.std.specs.Prelude.{◌≡◌, ◌≤◌, length, Ok, Err};
 ghost use Rattle.swap_base.specs.Lists.{IsIn};
 ghost use Rattle.swap_digraph.specs.Graph.{IsStronglyConnected};
 ghost use Rattle.swap_clear.specs.Proposals.{proposed_graph};
-ghost use Rattle.swap_clear.specs.Clearing.{clearing_of};
+ghost use Rattle.swap_clear.specs.Clearing.{cleared_groups};
 ghost use Rattle.swap_clear.specs.Cyclic.{TellsLeftOut};
 ghost use Rattle.swap_clear.specs.Together.{AreGroups};
 ghost use Rattle.swap_clear.specs.Led.{own, IsLed, HasCycles, NoFewerLead, IsBound};
@@ -15,15 +15,15 @@ use crate::proposed::Proposed;
 
 /// Does nothing. Its contract is the law of clearing: what holds of every clearing that the definition gives.
 pub fn clearings_tell(n: u8, arcs: &[Proposed])
-    ensures left_out { (c : _) → clearing_of n arcs.now ≡ Ok c → TellsLeftOut (proposed_graph n arcs.now) c.left_out }
-    ensures groups { (c : _) → clearing_of n arcs.now ≡ Ok c → AreGroups (proposed_graph n arcs.now) c.groups }
-    ensures strong { (c : _) → clearing_of n arcs.now ≡ Ok c → (group : _) → IsIn group c.groups
+    ensures left_out { (c : _) → cleared_groups n arcs.now ≡ Ok c → TellsLeftOut (proposed_graph n arcs.now) c.left_out }
+    ensures groups { (c : _) → cleared_groups n arcs.now ≡ Ok c → AreGroups (proposed_graph n arcs.now) c.groups }
+    ensures strong { (c : _) → cleared_groups n arcs.now ≡ Ok c → (group : _) → IsIn group c.groups
         → IsStronglyConnected (own (proposed_graph n arcs.now) group) }
-    ensures leaders { (c : _) → clearing_of n arcs.now ≡ Ok c → (group : _) → IsIn group c.groups → IsLed (proposed_graph n arcs.now) group }
-    ensures cycles { (c : _) → clearing_of n arcs.now ≡ Ok c → (group : _) → IsIn group c.groups → HasCycles (proposed_graph n arcs.now) group }
-    ensures no_fewer { (c : _) → clearing_of n arcs.now ≡ Ok c → (group : _) → IsIn group c.groups → NoFewerLead (proposed_graph n arcs.now) group }
-    ensures bound { (c : _) → clearing_of n arcs.now ≡ Ok c → (group : _) → IsIn group c.groups → IsBound (proposed_graph n arcs.now) group }
+    ensures leaders { (c : _) → cleared_groups n arcs.now ≡ Ok c → (group : _) → IsIn group c.groups → IsLed (proposed_graph n arcs.now) group }
+    ensures cycles { (c : _) → cleared_groups n arcs.now ≡ Ok c → (group : _) → IsIn group c.groups → HasCycles (proposed_graph n arcs.now) group }
+    ensures no_fewer { (c : _) → cleared_groups n arcs.now ≡ Ok c → (group : _) → IsIn group c.groups → NoFewerLead (proposed_graph n arcs.now) group }
+    ensures bound { (c : _) → cleared_groups n arcs.now ≡ Ok c → (group : _) → IsIn group c.groups → IsBound (proposed_graph n arcs.now) group }
     ensures ready { n ≤ 32 → length arcs.now ≤ 128 → AreAmounts arcs.now
-        → (c : _) → clearing_of n arcs.now ≡ Ok c → (group : _) → IsIn group c.groups → MakesADeal (proposed_graph n arcs.now) arcs.now group }
-    ensures refused { (reason : _) → clearing_of n arcs.now ≡ Err reason → IsFault (proposed_graph n arcs.now) reason }
+        → (c : _) → cleared_groups n arcs.now ≡ Ok c → (group : _) → IsIn group c.groups → MakesADeal (proposed_graph n arcs.now) arcs.now group }
+    ensures refused { (reason : _) → cleared_groups n arcs.now ≡ Err reason → IsFault (proposed_graph n arcs.now) reason }
 {}

@@ -2,7 +2,7 @@
 
 ghost use Rattle.std.specs.Prelude.{◌≡◌, ◌<◌, ◌≤◌, length, IfOk};
 ghost use Rattle.swap_digraph.specs.Graph.{HasEnds};
-ghost use Rattle.swap_clear.specs.Groups.{reached_from, all_left_out};
+ghost use Rattle.swap_clear.specs.Groups.{reachable_parties, all_left_out};
 ghost use Rattle.swap_clear.specs.Rows.{TellsReach};
 
 use crate::answer::LeftOut;
@@ -12,7 +12,7 @@ use swap_base::{Listed, NoMemory, PartyId};
 use swap_digraph::{Digraph, PathList};
 
 /// The parties that v reaches, ascending.
-fn reached_from(
+fn reachable_parties(
     alloc: Global,
     graph: &Digraph,
     rows: &[u32],
@@ -21,7 +21,7 @@ fn reached_from(
     requires parties { graph.now.n ≤ 32 }
     requires rows { TellsReach graph.now rows.now }
     requires v { v < graph.now.n }
-    ensures { IfOk result (λ l. l ≡ reached_from graph.now v) }
+    ensures { IfOk result (λ l. l ≡ reachable_parties graph.now v) }
 {
     let mut parties = Vec::new(alloc);
     for w in 0..graph.n() {
@@ -43,7 +43,7 @@ pub fn left_out(alloc: Global, graph: &Digraph, rows: &[u32]) -> Result<Listed<L
     let mut list = Vec::new(alloc);
     for (number, arc) in graph.arcs().iter().enumerate() {
         if !reaches(rows, arc.to, arc.from) {
-            let closed = reached_from(alloc, graph, rows, arc.to)?;
+            let closed = reachable_parties(alloc, graph, rows, arc.to)?;
             list.push(LeftOut {
                 arc: number as u32,
                 closed,

@@ -2,9 +2,9 @@
 
 ghost use Rattle.std.specs.Prelude.{◌≡◌, ◌==◌, ◌&&◌, ◌<◌, ◌≤◌, ℕ, length, map, position, IfOk};
 ghost use Rattle.swap_base.specs.Lists.{IsIn};
-ghost use Rattle.swap_digraph.specs.Graph.{HasEnds, ends, is_among};
+ghost use Rattle.swap_digraph.specs.Graph.{HasEnds, ends, is_listed};
 ghost use Rattle.leader_check.specs.Cycles.{has_bit};
-ghost use Rattle.swap_clear.specs.Groups.{group_with, arcs_within, place, party_at, own_ends, own_graph};
+ghost use Rattle.swap_clear.specs.Groups.{strong_component, inner_arcs, place, find_party, own_ends, own_graph};
 ghost use Rattle.swap_clear.specs.Rows.{TellsReach};
 
 use crate::reach::reaches;
@@ -22,7 +22,7 @@ fn are_together(rows: &[u32], v: PartyId, w: PartyId) -> bool
 }
 
 /// The parties that v reaches and that reach v, ascending.
-pub fn group_with(
+pub fn strong_component(
     alloc: Global,
     graph: &Digraph,
     rows: &[u32],
@@ -31,7 +31,7 @@ pub fn group_with(
     requires parties { graph.now.n ≤ 32 }
     requires rows { TellsReach graph.now rows.now }
     requires v { v < graph.now.n }
-    ensures { IfOk result (λ l. l ≡ group_with graph.now v) }
+    ensures { IfOk result (λ l. l ≡ strong_component graph.now v) }
 {
     let mut parties = Vec::new(alloc);
     for w in 0..graph.n() {
@@ -43,20 +43,20 @@ pub fn group_with(
 }
 
 /// Whether both ends are in the set.
-fn is_within(set: &[PartyId], ends: ArcEnds) -> bool
-    ensures { result ≡ (is_among ends.from set.now && is_among ends.to set.now) }
+fn set_contains_ends(set: &[PartyId], ends: ArcEnds) -> bool
+    ensures { result ≡ (is_listed ends.from set.now && is_listed ends.to set.now) }
 {
     set.contains(&ends.from) && set.contains(&ends.to)
 }
 
 /// The arcs with both ends in the set, ascending.
-pub fn arcs_within(alloc: Global, graph: &Digraph, set: &[PartyId]) -> Result<Listed<u32>, NoMemory>
+pub fn inner_arcs(alloc: Global, graph: &Digraph, set: &[PartyId]) -> Result<Listed<u32>, NoMemory>
     requires few { length graph.now.arcs ≤ 128 }
-    ensures { IfOk result (λ l. l ≡ arcs_within graph.now set.now) }
+    ensures { IfOk result (λ l. l ≡ inner_arcs graph.now set.now) }
 {
     let mut numbers = Vec::new(alloc);
     for (number, arc) in graph.arcs().iter().enumerate() {
-        if is_within(set, *arc) {
+        if set_contains_ends(set, *arc) {
             numbers.push(number as u32)?;
         }
     }
@@ -64,7 +64,7 @@ pub fn arcs_within(alloc: Global, graph: &Digraph, set: &[PartyId]) -> Result<Li
 }
 
 /// The first place of v in the set.
-fn place_of(set: &[PartyId], v: PartyId) -> Option<usize>
+fn find_place(set: &[PartyId], v: PartyId) -> Option<usize>
     ensures { result ≡ position (λ w. w == v) set.now }
 {
     set.iter().position(|w| *w == v)
@@ -75,7 +75,7 @@ fn place(set: &[PartyId], v: PartyId) -> u8
     requires { length set.now ≤ 32 }
     ensures { result ≡ place set.now v }
 {
-    match place_of(set, v) {
+    match find_place(set, v) {
         Some(k) => k as u8,
         None => 0,
     }
@@ -133,7 +133,7 @@ pub fn own_graph(
 /// The parties at those places of the set.
 pub fn named(alloc: Global, set: &[PartyId], places: &[u8]) -> Result<PathList, NoMemory>
     requires { (k : ℕ) → IsIn k places.now → k < length set.now }
-    ensures { IfOk result (λ l. l ≡ map (party_at set.now) places.now) }
+    ensures { IfOk result (λ l. l ≡ map (find_party set.now) places.now) }
 {
     let mut parties = Vec::new(alloc);
     for k in places {

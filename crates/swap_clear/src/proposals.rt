@@ -3,7 +3,7 @@
 ghost use Rattle.std.specs.Prelude.{◌≡◌, ◌≤◌, length, map, IfOk};
 ghost use Rattle.swap_base.specs.Fault.{Gives};
 ghost use Rattle.swap_digraph.specs.Graph.{HasEnds};
-ghost use Rattle.swap_clear.specs.Proposals.{ends_of, proposed_graph, graph_of};
+ghost use Rattle.swap_clear.specs.Proposals.{resolve_arc_ends, proposed_graph, build_graph};
 
 use crate::fault::{ClearFault, ClearReason};
 use crate::proposed::Proposed;
@@ -13,7 +13,7 @@ use swap_digraph::{ArcEnds, ArcFault, Digraph, Version};
 
 /// The ends of the proposals, in order.
 fn all_ends(alloc: Global, arcs: &[Proposed]) -> Result<Vec<ArcEnds>, NoMemory>
-    ensures { IfOk result (λ l. l.items ≡ map ends_of arcs.now) }
+    ensures { IfOk result (λ l. l.items ≡ map resolve_arc_ends arcs.now) }
 {
     let mut ends = Vec::new(alloc);
     for arc in arcs {
@@ -26,9 +26,9 @@ fn all_ends(alloc: Global, arcs: &[Proposed]) -> Result<Vec<ArcEnds>, NoMemory>
 }
 
 /// The digraph of the proposals, or the first fault of the least that has one.
-pub fn graph_of(alloc: Global, n: u8, arcs: &[Proposed]) -> Result<Digraph, ClearFault>
+pub fn build_graph(alloc: Global, n: u8, arcs: &[Proposed]) -> Result<Digraph, ClearFault>
     requires few { length arcs.now ≤ 128 }
-    ensures exact { Gives (λ g. g) result (graph_of n arcs.now) }
+    ensures exact { Gives (λ g. g) result (build_graph n arcs.now) }
     ensures graph { IfOk result (λ g. (g ≡ proposed_graph n arcs.now) × HasEnds g) }
 {
     let ends = all_ends(alloc, arcs)?;

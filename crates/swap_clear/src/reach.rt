@@ -4,7 +4,7 @@ ghost use Rattle.std.specs.Prelude.{◌≡◌, ◌==◌, ◌||◌, ◌<◌, ◌�
 ghost use Rattle.std.specs.Int.{bit_at};
 ghost use Rattle.swap_digraph.specs.Graph.{HasEnds};
 ghost use Rattle.digraph_check.specs.Reach.{reaches};
-ghost use Rattle.leader_check.specs.Cycles.{has_bit, leads_into};
+ghost use Rattle.leader_check.specs.Cycles.{has_bit, enters_led};
 ghost use Rattle.swap_clear.specs.Rows.{TellsReach};
 
 use leader_check::leads_each;
@@ -22,7 +22,7 @@ pub fn reaches(rows: &[u32], u: PartyId, v: PartyId) -> bool
 }
 
 /// The bit of v.
-fn bit_of(v: PartyId) -> u32
+fn party_bit(v: PartyId) -> u32
     requires { v < 32 }
     ensures { (w : ℕ) → (bit_at result w == 1) ≡ (v == w) }
 {
@@ -30,11 +30,11 @@ fn bit_of(v: PartyId) -> u32
 }
 
 /// The bits, and that of v.
-fn with_bit_of(v: PartyId, bits: u32) -> u32
+fn with_party_bit(v: PartyId, bits: u32) -> u32
     requires { v < 32 }
     ensures { (w : ℕ) → (bit_at result w == 1) ≡ ((v == w) || (bit_at bits w == 1)) }
 {
-    bit_of(v) | bits
+    party_bit(v) | bits
 }
 
 /// For each party its own bit.
@@ -45,7 +45,7 @@ fn first_reach(alloc: Global, n: u8) -> Result<Vec<u32>, NoMemory>
 {
     let mut row = Vec::new(alloc);
     for v in 0..n {
-        row.push(bit_of(v))?;
+        row.push(party_bit(v))?;
     }
     Ok(row)
 }
@@ -57,12 +57,12 @@ fn next_reach(alloc: Global, graph: &Digraph, row: &[u32]) -> Result<Vec<u32>, N
     requires row { length row.now ≡ graph.now.n }
     ensures parties { IfOk result (λ l. length l.items ≡ graph.now.n) }
     ensures leads { IfOk result (λ l. (v u : ℕ) → u < graph.now.n
-        → has_bit l.items v u ≡ ((u == v) || leads_into graph.now (has_bit row.now v) u)) }
+        → has_bit l.items v u ≡ ((u == v) || enters_led graph.now (has_bit row.now v) u)) }
 {
     let leads = leads_each(alloc, graph, row)?;
     let mut next = Vec::new(alloc);
     for u in 0..graph.n() {
-        next.push(with_bit_of(u, leads[u as usize]))?;
+        next.push(with_party_bit(u, leads[u as usize]))?;
     }
     Ok(next)
 }

@@ -4,7 +4,7 @@ use Rattle.swap_io.specs.Causes.{AppendsProperPrefix}
 use Rattle.swap_io.specs.Handed.{AppendsPrefix}
 use Rattle.refusals.specs.declared.refusal.Refusal.{Refusal}
 use Rattle.refusals.specs.Refusal.{refusal}
-use Rattle.audit_command.specs.Output.{audit_of}
+use Rattle.audit_command.specs.Output.{audit_output}
 use Rattle.audit_command.specs.Says.{AuditSays, HasAnswer, HasAuditOutput}
 use Rattle.command_input.specs.declared.status.Status.{Status}
 use Rattle.command_input.specs.declared.status.Status.TheVariants.{Done, Named, WrongWords, Refused, ReadFault, WriteFault, NoMemory, TooLong}
@@ -17,11 +17,11 @@ use Rattle.swap_commands.specs.Words.{Audit}
 use Rattle.swap_commands.specs.Strategies.{strategies}
 
 module _ (has : List ℕ → Bool) (gives : MayGive) where
-  gives_by : (input : List ℕ) (output : Result Written Refusal) → audit_of input ≡ output → output_by has no_chance Audit input ≡ by_reason output
+  gives_by : (input : List ℕ) (output : Result Written Refusal) → audit_output input ≡ output → output_by has no_chance Audit input ≡ by_reason output
   unfolding output_by
   gives_by input output e = ap by_reason e
 
-  named_by : (input : List ℕ) (refusal : Refusal) → audit_of input ≡ Err refusal → refusal.names ≡ names_of has Audit input
+  named_by : (input : List ℕ) (refusal : Refusal) → audit_output input ≡ Err refusal → refusal.names ≡ names_of has Audit input
   unfolding names_of
   named_by input refusal e = sym (ap names_told e)
 

@@ -6,33 +6,33 @@ use Rattle.swap_base.specs.declared.fault.Fault.TheVariants as offer
 use Rattle.refusals.specs.declared.reason.Reason.{Reason}
 use Rattle.refusals.specs.declared.reason.Reason.TheVariants.{BadLine, NotJson}
 use Rattle.refusals.specs.declared.refusal.Refusal.{Refusal}
-use Rattle.command_input.specs.Lines.{lines_of, filled_lines}
+use Rattle.command_input.specs.Lines.{collect_lines, filled_lines}
 use Rattle.swap_world.specs.Gone.{MayGive}
 use Rattle.clear_line.specs.ClearedText.{cleared_line, IsClearedLine}
 use Rattle.swap_commands.specs.Cleared.{IsCleared, IsFurther}
 use Rattle.command_input.specs.Faults.{named_fault, of_offer}
 use Rattle.command_input.specs.Input.{At, Desk, Ends, GivesLine, IsLast, IsLine, Stops, Tells, ahead, desk, fresh}
-use Rattle.swap_commands.specs.Output.{alone, clear_output, names_of, no_chance, output_by, plain_text, wishes_of}
+use Rattle.swap_commands.specs.Output.{alone, clear_output, names_of, no_chance, output_by, plain_text, parse_wish_text}
 use Rattle.swap_commands.specs.Says.{IsAgainst, Says}
 use Rattle.command_input.specs.declared.fault.InputFault.{InputFault}
 use Rattle.command_input.specs.declared.fault.InputFault.TheVariants.{Refused}
 use Rattle.swap_commands.specs.Words.{Clear}
 use Rattle.command_input.specs.declared.status.Status.{Status}
 use Rattle.command_input.proofs.Ahead.{stands_on}
-use Rattle.swap_commands.proofs.Reading.{is_within}
+use Rattle.swap_commands.proofs.Reading.{set_contains_ends}
 use Rattle.swap_commands.proofs.Saying.{says_written}
 use Rattle.swap_commands.specs.Strategies.{strategies}
-use Rattle.command_input.proofs.Streams.{can_come, last_of, line_of, no_memory_after, stops_same}
+use Rattle.command_input.proofs.Streams.{can_come, last_run, line_of, no_memory_after, stops_same}
 use Rattle.command_input.specs.Written.{Writes}
 use Rattle.command_input.specs.Streams.{streams}
 
 -- ---- what is written, by the lines of an input
 
-by_lines : (bytes : List ℕ) (ls : List (ℕ × List ℕ)) → filled_lines 1 (lines_of bytes) ≡ ls → clear_output bytes ≡ wishes_of ls
+by_lines : (bytes : List ℕ) (ls : List (ℕ × List ℕ)) → filled_lines 1 (collect_lines bytes) ≡ ls → clear_output bytes ≡ parse_wish_text ls
 unfolding clear_output
-by_lines bytes ls e = ap wishes_of e
+by_lines bytes ls e = ap parse_wish_text e
 
-line_fails : (n : ℕ) (t : List ℕ) (ls : List (ℕ × List ℕ)) (reason : Reason) → cleared_line n t ≡ Err reason → wishes_of ((n, t) ∷ ls) ≡ Err reason
+line_fails : (n : ℕ) (t : List ℕ) (ls : List (ℕ × List ℕ)) (reason : Reason) → cleared_line n t ≡ Err reason → parse_wish_text ((n, t) ∷ ls) ≡ Err reason
 line_fails n t ls reason h = rw h refl
 
 line_clears : (n : ℕ) (t text : List ℕ) → IsClearedLine n t text → cleared_line n t ≡ Ok text
@@ -40,15 +40,15 @@ unfolding cleared_line
 line_clears n t text c = rw (c.is_read, c.shown) refl
 
 further_fails : (n : ℕ) (t text : List ℕ) (ls : List (ℕ × List ℕ)) (reason : Reason) → cleared_line n t ≡ Ok text → alone ls ≡ Err reason
-    → wishes_of ((n, t) ∷ ls) ≡ Err reason
+    → parse_wish_text ((n, t) ∷ ls) ≡ Err reason
 further_fails n t text ls reason h e = rw (h, e) refl
 
-line_ends : (n : ℕ) (t text : List ℕ) → cleared_line n t ≡ Ok text → wishes_of ((n, t) ∷ []) ≡ Ok (plain_text text)
+line_ends : (n : ℕ) (t text : List ℕ) → cleared_line n t ≡ Ok text → parse_wish_text ((n, t) ∷ []) ≡ Ok (plain_text text)
 line_ends n t text h = rw h refl
 
 module _ (has : List ℕ → Bool) where
-  against : (bytes : List ℕ) (ls : List (ℕ × List ℕ)) (reason : Reason) (names : List (List ℕ)) → filled_lines 1 (lines_of bytes) ≡ ls
-      → wishes_of ls ≡ Err reason → names ≡ [] → IsAgainst has Clear bytes (record { reason = reason; names = names })
+  against : (bytes : List ℕ) (ls : List (ℕ × List ℕ)) (reason : Reason) (names : List (List ℕ)) → filled_lines 1 (collect_lines bytes) ≡ ls
+      → parse_wish_text ls ≡ Err reason → names ≡ [] → IsAgainst has Clear bytes (record { reason = reason; names = names })
   unfolding output_by names_of
   against bytes ls reason names e h none = (by_lines bytes ls e ∙ h, none)
 
@@ -64,14 +64,14 @@ module _ (has : List ℕ → Bool) where
       → Stops (IsAgainst has Clear) (desk left n fresh) now fault
   empty_stops more left n s now fault first none given is =
       let old : Desk = desk left n fresh in
-      let p : IsLast old now = last_of more old now none (subst (λ (x : At). GivesLine more (desk left n x) now) first given) in
+      let p : IsLast old now = last_run more old now none (subst (λ (x : At). GivesLine more (desk left n x) now) first given) in
       let t : Tells (λ bytes. IsAgainst has Clear bytes (record { reason = NotJson 1; names = [] })) old now = record {
         bytes = p.bytes;
         stands = p.stands;
         can = λ rest can. can_come fresh (p.bytes ++ rest) refl;
         told = λ rest can.
-            let e : filled_lines 1 (lines_of (p.bytes ++ rest)) ≡ [] = ap (λ (xs : List ℕ). filled_lines 1 (lines_of (p.bytes ++ xs))) (can p.met)
-            ∙ ap (λ (xs : List ℕ). filled_lines 1 (lines_of xs)) (append-nil p.bytes) ∙ p.none in
+            let e : filled_lines 1 (collect_lines (p.bytes ++ rest)) ≡ [] = ap (λ (xs : List ℕ). filled_lines 1 (collect_lines (p.bytes ++ xs))) (can p.met)
+            ∙ ap (λ (xs : List ℕ). filled_lines 1 (collect_lines xs)) (append-nil p.bytes) ∙ p.none in
             against (p.bytes ++ rest) [] (NotJson 1) [] e refl refl;
       } in
       subst (λ (f : InputFault Refusal). Stops (IsAgainst has Clear) old now f) (sym is) t
@@ -121,7 +121,7 @@ module _ (has : List ℕ → Bool) where
         input = e.bytes;
         taken = e.stands.took.consumed;
         ended = e.ended;
-        within = is_within has (λ bytes. IsCleared bytes text) left left' n m now e;
+        within = set_contains_ends has (λ bytes. IsCleared bytes text) left left' n m now e;
         gives = gives_text e.bytes text e.told;
       })
       (record { text = text; shown = refl; cleared = e.told })

@@ -8,7 +8,7 @@ use Rattle.swap_rules.specs.Outcome.{IsEnded}
 use Rattle.swap_run.specs.Asked.{Answers, with_answers}
 use Rattle.swap_run.specs.Run.{Cast, State}
 use Rattle.swap_run.specs.Laws.{IsKept}
-use Rattle.swap_world.specs.Cast.{cast_of}
+use Rattle.swap_world.specs.Cast.{job_cast}
 use Rattle.swap_many.specs.declared.many_event.ManyEvent.{ManyEvent}
 use Rattle.swap_many.specs.declared.place.Place.{Place}
 use Rattle.swap_many.specs.Chains.{Setup, book}
@@ -23,7 +23,7 @@ use Rattle.many_lines.specs.Places.{job_at}
 use Rattle.many_lines.specs.Setup.{setup_by}
 use Rattle.many_lines.specs.Whole.{AreSwaps}
 use Rattle.many_lines.specs.declared.many_job.ManyJob.{ManyJob}
-use Rattle.many_text.specs.ManyText.{book_in}
+use Rattle.many_text.specs.ManyText.{swap_book}
 use Rattle.swap_commands.specs.Many.{ended_by, many_state, run_to}
 use Rattle.swap_commands.specs.Promised.{AreManyPromised}
 use Rattle.swap_commands.proofs.Promises.{is_promised}
@@ -48,7 +48,7 @@ module _ (m : Setup) (events : List ManyEvent) (ready : IsReady m) (can : All (C
   all_ended Fair e = (many_finishes_end m events ready can).ended
 
 -- the book that is kept is that of the histories
-book_is : (m : Setup) (r : Run) (z : Kept) (s : ℕ) → Follows m r z → s < m.swaps → book m r.chains s ≡ book_in z s
+book_is : (m : Setup) (r : Run) (z : Kept) (s : ℕ) → Follows m r z → s < m.swaps → book m r.chains s ≡ swap_book z s
 book_is m r z s follows l = sym (ap (λ (t : State). t.book) (follows.swaps s l))
 
 without_answers : (c : Cast) (g : Answers) (b : Histories) → IsKept (with_answers c g) b → IsKept c b
@@ -66,13 +66,13 @@ module _ (many : ManyJob) (g : ℕ → Answers) (places : List (List Place)) (ev
         follows = h.follows;
         swaps = λ s l.
             let job = job_at many.jobs s in
-            is_promised (λ name. false) job (book_in z s) (swaps.swaps s l).accepted
-            (subst (λ (b : Histories). IsKept (cast_of job) b) (book_is m r z s h.follows l)
-            (without_answers (cast_of job) (g s) (book m r.chains s) (h.kept s l)));
+            is_promised (λ name. false) job (swap_book z s) (swaps.swaps s l).accepted
+            (subst (λ (b : Histories). IsKept (job_cast job) b) (book_is m r z s h.follows l)
+            (without_answers (job_cast job) (g s) (book m r.chains s) (h.kept s l)));
         units = h.units;
       }
 
-  pub are_ended : finish ≡ Fair → (s : ℕ) → s < length many.jobs → IsEnded (job_at many.jobs s).deal (book_in (many_state g many places finish events) s)
+  pub are_ended : finish ≡ Fair → (s : ℕ) → s < length many.jobs → IsEnded (job_at many.jobs s).deal (swap_book (many_state g many places finish events) s)
   are_ended fair s l =
       let m : Setup = setup_by g many places in
       subst (λ (b : Histories). IsEnded (job_at many.jobs s).deal b)

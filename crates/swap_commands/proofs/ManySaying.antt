@@ -7,13 +7,13 @@ use Rattle.swap_job.specs.declared.job.Finish.{Finish}
 use Rattle.refusals.specs.declared.reason.Reason.{Reason}
 use Rattle.refusals.specs.declared.refusal.Refusal.{Refusal}
 use Rattle.command_input.specs.Written.{Writes, Written}
-use Rattle.command_input.specs.Lines.{lines_of, filled_lines}
+use Rattle.command_input.specs.Lines.{collect_lines, filled_lines}
 use Rattle.swap_run.specs.Asked.{Answers}
 use Rattle.swap_world.specs.Gone.{MayGive, HasAsked}
-use Rattle.swap_world.specs.Value.{WorldState, answers_of, new_world}
+use Rattle.swap_world.specs.Value.{WorldState, world_answers, new_world}
 use Rattle.swap_many.specs.Chains.{Setup}
 use Rattle.swap_many.specs.Kept.{Kept, kept_step}
-use Rattle.swap_many.specs.Value.{AreSame, HasManyGone, ManyState, kept_of, world_at}
+use Rattle.swap_many.specs.Value.{AreSame, HasManyGone, ManyState, kept_state, nth_world}
 use Rattle.swap_many.specs.declared.many_event.ManyEvent.{ManyEvent}
 use Rattle.swap_many.specs.declared.place.Place.{Place}
 use Rattle.swap_many.proofs.Gone.{gone_then}
@@ -34,7 +34,7 @@ use Rattle.swap_commands.specs.Words.{Many}
 use Rattle.swap_commands.proofs.ManyPromises.{are_ended, are_promised}
 use Rattle.swap_commands.proofs.ManyTold.{fails_with}
 use Rattle.swap_commands.proofs.ManyWorlds.{all_can, kept_before, new_are_of, new_at}
-use Rattle.swap_commands.proofs.Reading.{is_within}
+use Rattle.swap_commands.proofs.Reading.{set_contains_ends}
 use Rattle.swap_commands.proofs.Replays.{are_given}
 use Rattle.swap_commands.proofs.Saying.{says_written}
 use Rattle.swap_commands.specs.Strategies.{strategies}
@@ -94,7 +94,7 @@ module _ (has : List ℕ → Bool) where
       go (Err r) e = e
 
   pub gives_many : (g : ℕ → Answers) (bytes : List ℕ) (h : Headed) (events : List ManyEvent) (places : List (List Place))
-      → headed has (filled_lines 1 (lines_of bytes)) ≡ Ok h → events_told h.many 0 h.lines ≡ Ok events → opened_places h.many ≡ Ok places
+      → headed has (filled_lines 1 (collect_lines bytes)) ≡ Ok h → events_told h.many 0 h.lines ≡ Ok events → opened_places h.many ≡ Ok places
       → many_output has g bytes ≡ Ok (many_written h.many (many_state g h.many places h.finish events))
   gives_many g bytes h events places e f k =
       by_heading g bytes (Ok h) e
@@ -147,7 +147,7 @@ module _ (has : List ℕ → Bool) where
             lines = ahead mid.at e.bytes;
             events = k.replayed.events;
             new = k.new;
-            is_headed = subst (λ (f : Finish). headed has (filled_lines 1 (lines_of (p.bytes ++ e.bytes)))
+            is_headed = subst (λ (f : Finish). headed has (filled_lines 1 (collect_lines (p.bytes ++ e.bytes)))
                 ≡ Ok (record { many = h.many; finish = f; lines = ahead mid.at e.bytes })) (sym is) (p.first e.bytes e.can);
             are_told = e.told;
             begun = k.begun;
@@ -169,7 +169,7 @@ module _ (has : List ℕ → Bool) where
       (gone : HasManyGone gives (ended_by finish) w last) where
     -- the answers are those that were given
     abbrev g : ℕ → Answers
-    g = λ s. answers_of (world_at last s)
+    g = λ s. world_answers (nth_world last s)
 
     whole_way : HasManyGone gives (λ m z. ended_by finish m (fold (kept_step m) z k.events)) (new_worlds many k.begun.places) last
     whole_way =
@@ -179,7 +179,7 @@ module _ (has : List ℕ → Bool) where
     pub last_same : AreSame gives (new_worlds many k.begun.places) last
     last_same = whole_way.same
 
-    state_is : kept_of last ≡ many_state g many k.begun.places finish k.events
+    state_is : kept_state last ≡ many_state g many k.begun.places finish k.events
     state_is =
         whole_way.kept g (λ s l i lt. refl)
         ∙ ap₂ (λ (m : Setup) (z : Kept). ended_by finish m (fold (kept_step m) z k.events)) (new_are_of many k.begun.places g)
@@ -188,12 +188,12 @@ module _ (has : List ℕ → Bool) where
     all_given : (s : ℕ) → AreGiven gives (job_at many.jobs s).deal (g s) ((many_state g many k.begun.places finish k.events).swaps s).asked
     all_given s =
         let job = job_at many.jobs s in
-        let all : HasAsked gives (new_world job) (world_at last s) =
-        subst (λ (v : WorldState). HasAsked gives v (world_at last s)) (new_at many.jobs s) (whole_way.same.asked s) in
+        let all : HasAsked gives (new_world job) (nth_world last s) =
+        subst (λ (v : WorldState). HasAsked gives v (nth_world last s)) (new_at many.jobs s) (whole_way.same.asked s) in
         subst (λ (z : Kept). AreGiven gives job.deal (g s) (z.swaps s).asked) state_is
-        (are_given gives job.deal all.more (world_at last s).state.asked (world_at last s).answers all.questions all.answers all.may)
+        (are_given gives job.deal all.more (nth_world last s).state.asked (nth_world last s).answers all.questions all.answers all.may)
 
-    pub is_many_run : AreSwaps many → IsManyRun has gives g bytes (many_written many (kept_of last))
+    pub is_many_run : AreSwaps many → IsManyRun has gives g bytes (many_written many (kept_state last))
     is_many_run swaps =
         let places = k.begun.places in
         let can = all_can many g places k.events k.can in
@@ -210,7 +210,7 @@ module _ (has : List ℕ → Bool) where
           ended = are_ended many g places k.events swaps (k.begun.ready g) can finish;
         }
 
-    pub many_made : output_by has (by_many g) Many bytes ≡ Ok (many_written many (kept_of last))
+    pub many_made : output_by has (by_many g) Many bytes ≡ Ok (many_written many (kept_state last))
     unfolding output_by
     many_made =
         ap by_reason
@@ -220,15 +220,15 @@ module _ (has : List ℕ → Bool) where
   pub says_many : (gives : MayGive) (left left' : Option (List ℕ)) (n m : ℕ) (taken taken' : Option (List ℕ)) (p q : ℕ) (now : At) (many : ManyJob)
       (finish : Finish) (w last : ManyState) (status : Status)
       (e : Ends (λ bytes. IsManyPlayed has gives bytes many finish w) (desk left n fresh) (desk left' m now))
-      → AreSwaps many → HasManyGone gives (ended_by finish) w last → Writes taken taken' p q (many_written many (kept_of last)) status
+      → AreSwaps many → HasManyGone gives (ended_by finish) w last → Writes taken taken' p q (many_written many (kept_state last)) status
       → Says (strategies has gives) Many (streams left n taken p) (streams left' m taken' q) status
   says_many gives left left' n m taken taken' p q now many finish w last status e swaps gone wrote =
-      says_written has gives (by_many (λ s. answers_of (world_at last s))) Many left left' n m taken taken' p q (many_written many (kept_of last))
+      says_written has gives (by_many (λ s. world_answers (nth_world last s))) Many left left' n m taken taken' p q (many_written many (kept_state last))
       (record {
         input = e.bytes;
         taken = e.stands.took.consumed;
         ended = e.ended;
-        within = is_within has (λ bytes. IsManyPlayed has gives bytes many finish w) left left' n m now e;
+        within = set_contains_ends has (λ bytes. IsManyPlayed has gives bytes many finish w) left left' n m now e;
         gives = many_made gives e.bytes many finish w last e.told gone;
       })
       (is_many_run gives e.bytes many finish w last e.told gone swaps) status wrote

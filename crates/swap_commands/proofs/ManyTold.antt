@@ -13,7 +13,7 @@ use Rattle.refusals.specs.declared.refusal.Refusal.{Refusal}
 use Rattle.refusals.specs.Refusal.{refusal}
 use Rattle.swap_world.specs.Gone.{MayGive}
 use Rattle.swap_many.specs.Kept.{kept_step}
-use Rattle.swap_many.specs.Value.{ManyState, kept_of, setup_for}
+use Rattle.swap_many.specs.Value.{ManyState, kept_state, made_setup}
 use Rattle.swap_many.specs.declared.many_event.ManyEvent.{ManyEvent}
 use Rattle.swap_many.proofs.Gone.{begun, gone_as, gone_then}
 use Rattle.many_lines.specs.Event.{next_told}
@@ -179,7 +179,7 @@ replayed_more : (gives : MayGive) (events : List ManyEvent) (event : ManyEvent) 
     → HasReplayed gives (event ∷ []) mid new → HasReplayed gives (events ++ event ∷ []) old new
 replayed_more gives events event old mid new a b =
     gone_as gives (λ m z. fold (kept_step m) (fold (kept_step m) z events) (event ∷ [])) (λ m z. fold (kept_step m) z (events ++ event ∷ [])) old new
-    (λ g. sym (fold-append (kept_step (setup_for old g)) (kept_of old) events (event ∷ [])))
+    (λ g. sym (fold-append (kept_step (made_setup old g)) (kept_state old) events (event ∷ [])))
     (gone_then gives (λ m z. fold (kept_step m) z events) (λ m z. fold (kept_step m) z (event ∷ [])) old mid new a b)
 
 pub one_more : (gives : MayGive) (many : ManyJob) (old mid new : ManyState) (first s t : Desk) (count line : ℕ) (text : List ℕ)

@@ -13,14 +13,14 @@ use Rattle.refusals.specs.declared.refusal.Refusal.{Refusal}
 use Rattle.swap_job.specs.declared.job.Job.{Job}
 use Rattle.swap_job.specs.declared.job.Purpose.TheVariants.{Run}
 use Rattle.party_wallet.specs.Value.{WalletState}
-use Rattle.swap_offer.specs.Wallets.{wallets_for}
+use Rattle.swap_offer.specs.Wallets.{prepared_wallets}
 use Rattle.swap_run.specs.Asked.{Answers, with_answers}
 use Rattle.swap_run.specs.Run.{Cast}
 use Rattle.swap_run.specs.Laws.{IsReadyCast}
-use Rattle.swap_world.specs.Cast.{cast_of}
+use Rattle.swap_world.specs.Cast.{job_cast}
 use Rattle.swap_world.specs.Gone.{MayGive}
 use Rattle.swap_world.specs.Actors.{AreHeld}
-use Rattle.swap_world.specs.Value.{WorldState, cast_at, new_world}
+use Rattle.swap_world.specs.Value.{WorldState, world_cast, new_world}
 use Rattle.swap_world.proofs.Team.{is_ready}
 use Rattle.swap_many.specs.declared.many_event.ManyEvent.{ManyEvent}
 use Rattle.swap_many.specs.declared.overdrawn.Overdrawn.{Overdrawn}
@@ -31,14 +31,14 @@ use Rattle.swap_many.specs.Laws.{CanCome, IsReady}
 use Rattle.swap_many.specs.Opened.{lack_of, lack_on, overdrawn}
 use Rattle.swap_many.specs.Opening.{AreOpenable, opened, setup_of_worlds}
 use Rattle.swap_many.specs.Ticking.{nth}
-use Rattle.swap_many.specs.Value.{AreAllHeld, AreSame, ManyState, kept_of, setup_of, world_at}
+use Rattle.swap_many.specs.Value.{AreAllHeld, AreSame, ManyState, kept_state, world_setup, nth_world}
 use Rattle.swap_many.proofs.Accounts.{any_default}
 use Rattle.swap_many.proofs.Begun.{map_next, was_opened, was_refused}
 use Rattle.swap_many.proofs.Opened.{no_lack_is_covered}
 use Rattle.swap_many.proofs.Starting.{kept_is}
 use Rattle.swap_many.proofs.Values.{same_setup}
 use Rattle.many_lines.specs.Heading.{unread}
-use Rattle.many_lines.specs.Places.{job_at, no_job, places_of}
+use Rattle.many_lines.specs.Places.{job_at, no_job, find_places}
 use Rattle.many_lines.specs.Setup.{MayCome, setup_by}
 use Rattle.many_lines.specs.Whole.{AreChains, ArePlaced, AreSwaps, HoldsEverySwap, IsSwap}
 use Rattle.many_lines.specs.declared.many_job.ManyJob.{ManyJob}
@@ -60,7 +60,7 @@ new_at (job ∷ jobs) (suc s) = new_at jobs s
 pub new_are_of : (many : ManyJob) (places : List (List Place)) → AreWorldsOf many (new_worlds many places)
 new_are_of many places g = λ j. record {
   swaps = length-map many.jobs new_world j;
-  cast = λ s. with_answers (cast_at (new_at many.jobs s j)) (g s);
+  cast = λ s. with_answers (world_cast (new_at many.jobs s j)) (g s);
   places = places;
   chains = many.units;
 }
@@ -70,7 +70,7 @@ still_of gives many old new k of g =
     same_setup gives old new g k ∙ (of g ∙ sym (ap (λ (ps : List (List Place)). setup_by g many ps) k.places))
 
 -- what may come of the swaps can come in their worlds
-pub can_of : (many : ManyJob) (w : ManyState) (e : ManyEvent) → AreWorldsOf many w → MayCome many e → CanCome (setup_of w) e
+pub can_of : (many : ManyJob) (w : ManyState) (e : ManyEvent) → AreWorldsOf many w → MayCome many e → CanCome (world_setup w) e
 can_of many w e of may = subst (λ (m : Setup). CanCome m e) (sym (of (λ s k. None))) (may (λ s k. None) w.places)
 
 pub all_can : (many : ManyJob) (g : ℕ → Answers) (places : List (List Place)) (events : List ManyEvent) → All (MayCome many) events
@@ -85,7 +85,7 @@ all_held has many places holds s l =
 
 -- All is ready.
 
-pub cast_is_ready : (n : ℕ) (job : Job) (chains : List ℕ) → IsSwap n job chains → IsReadyCast (cast_of job)
+pub cast_is_ready : (n : ℕ) (job : Job) (chains : List ℕ) → IsSwap n job chains → IsReadyCast (job_cast job)
 cast_is_ready n job chains swap =
     is_ready job swap.accepted (have_seeds job swap.whole swap.wallets) (have_roles job swap.whole swap.scripts) (wallets_fit job swap.wallets)
 
@@ -96,7 +96,7 @@ ready_with c g k = record { accepted = k.accepted; one_each = k.one_each; roles 
 pub all_is_ready : (many : ManyJob) (places : List (List Place)) → AreSwaps many → ArePlaced many places
     → overdrawn (setup_by (λ s k. None) many places) ≡ None → (g : ℕ → Answers) → IsReady (setup_by g many places)
 all_is_ready many places swaps placed none g = record {
-  casts = λ s l. ready_with (cast_of (job_at many.jobs s)) (g s)
+  casts = λ s l. ready_with (job_cast (job_at many.jobs s)) (g s)
       (cast_is_ready (length many.names) (job_at many.jobs s) (slice_index_or many.chains s []) (swaps.swaps s l));
   chain = λ s a l k. (placed.known s a l k).chain;
   from = λ s a l k. (placed.known s a l k).from;
@@ -109,9 +109,9 @@ all_is_ready many places swaps placed none g = record {
 
 -- what is kept before any event
 pub kept_before : (many : ManyJob) (places : List (List Place)) (g : ℕ → Answers) → AreOpenable many.units (map new_world many.jobs) places
-    → kept_of (new_worlds many places) ≡ kept_start (setup_by g many places)
-kept_before many places g open_by =
-    kept_is many.units (map new_world many.jobs) places open_by g ∙ ap (λ (m : Setup). kept_start m) (new_are_of many places g)
+    → kept_state (new_worlds many places) ≡ kept_start (setup_by g many places)
+kept_before many places g opening_deadline =
+    kept_is many.units (map new_world many.jobs) places opening_deadline g ∙ ap (λ (m : Setup). kept_start m) (new_are_of many places g)
 
 -- How chains are opened.
 
@@ -120,7 +120,7 @@ lacks_as : (many : ManyJob) (places : List (List Place))
     → overdrawn (setup_of_worlds (map new_world many.jobs) places many.units) ≡ overdrawn (setup_by (λ s k. None) many places)
 lacks_as many places = ap overdrawn (new_are_of many places (λ s k. None))
 
-opened_by : (many : ManyJob) (places : List (List Place)) (lack : Option Overdrawn) → places_of many ≡ Ok places
+opened_by : (many : ManyJob) (places : List (List Place)) (lack : Option Overdrawn) → find_places many ≡ Ok places
     → overdrawn (setup_by (λ s k. None) many places) ≡ lack → opened_places many ≡ unless_lacking many lack places
 unfolding opened_places
 opened_by many places lack e none =
@@ -128,27 +128,27 @@ opened_by many places lack e none =
     ∙ ap (λ (o : Option Overdrawn). unless_lacking many o places) none
 
 -- no account has a place there
-pub places_fail : (many : ManyJob) (refusal : Refusal) → places_of many ≡ Err refusal → opened_places many ≡ Err refusal
+pub places_fail : (many : ManyJob) (refusal : Refusal) → find_places many ≡ Err refusal → opened_places many ≡ Err refusal
 unfolding opened_places
 places_fail many refusal e =
     ap (λ (r : Result (List (List Place)) Refusal). r >>= λ ps. unless_lacking many (overdrawn (setup_by (λ s k. None) many ps)) ps) e
 
-pub are_opened : (many : ManyJob) (places : List (List Place)) (w : ManyState) → AreSwaps many → ArePlaced many places → places_of many ≡ Ok places
+pub are_opened : (many : ManyJob) (places : List (List Place)) (w : ManyState) → AreSwaps many → ArePlaced many places → find_places many ≡ Ok places
     → AreOpenable many.units (map new_world many.jobs) places
     → opened many.units (map new_world many.jobs) places ≡ Ok w → IsOpened many w
-are_opened many places w swaps placed e open_by made =
+are_opened many places w swaps placed e opening_deadline made =
     let k = was_opened (overdrawn (setup_of_worlds (map new_world many.jobs) places many.units)) (new_worlds many places) w made in
     let none : overdrawn (setup_by (λ s k. None) many places) ≡ None = sym (lacks_as many places) ∙ k.0 in
     record {
       places = places;
       are_placed = opened_by many places None e none;
-      openable = open_by;
+      openable = opening_deadline;
       new = k.1;
       ready = all_is_ready many places swaps placed none;
     }
 
 -- an account lacks units
-pub is_lacking : (many : ManyJob) (places : List (List Place)) (lack : Overdrawn) → places_of many ≡ Ok places
+pub is_lacking : (many : ManyJob) (places : List (List Place)) (lack : Overdrawn) → find_places many ≡ Ok places
     → opened many.units (map new_world many.jobs) places ≡ Err lack → opened_places many ≡ unless_lacking many (Some lack) places
 is_lacking many places lack e made =
     opened_by many places (Some lack) e (sym (lacks_as many places)
@@ -197,8 +197,8 @@ known_lack many places lack made =
 
 -- those of the next swap, where so many came before
 pub next_own : (jobs : List Job) (k : ℕ) (own : List (Option WalletState)) (rest : List (List (Option WalletState)))
-    → own ∷ rest ≡ map (wallets_for Run) (drop k jobs)
-    → (k < length jobs) × (own ≡ wallets_for Run (job_at jobs k)) × (rest ≡ map (wallets_for Run) (drop (k + 1) jobs))
+    → own ∷ rest ≡ map (prepared_wallets Run) (drop k jobs)
+    → (k < length jobs) × (own ≡ prepared_wallets Run (job_at jobs k)) × (rest ≡ map (prepared_wallets Run) (drop (k + 1) jobs))
 next_own [] zero own rest e = absurd (cc e)
 next_own [] (suc k) own rest e = absurd (cc e)
 next_own (job ∷ jobs) zero own rest e = (omega arith, cc e, cc e)
@@ -207,17 +207,17 @@ next_own (job ∷ jobs) (suc k) own rest e =
     let one : suc k + 1 ≡ suc (k + 1) = omega arith in (
       omega (arith, r.0),
       r.1,
-      r.2 ∙ sym (ap (λ n. map (wallets_for Run) (drop n (job ∷ jobs))) one),
+      r.2 ∙ sym (ap (λ n. map (prepared_wallets Run) (drop n (job ∷ jobs))) one),
     )
 
 -- no wallets are left, so all worlds were made
-all_taken : (jobs : List Job) (k : ℕ) → [] ≡ map (wallets_for Run) (drop k jobs) → take k jobs ≡ jobs
+all_taken : (jobs : List Job) (k : ℕ) → [] ≡ map (prepared_wallets Run) (drop k jobs) → take k jobs ≡ jobs
 all_taken [] zero e = refl
 all_taken [] (suc k) e = refl
 all_taken (job ∷ jobs) zero e = absurd (cc e)
 all_taken (job ∷ jobs) (suc k) e = ap (λ (xs : List Job). job ∷ xs) (all_taken jobs k e)
 
-pub all_made : (jobs : List Job) (k : ℕ) (worlds : List WorldState) → [] ≡ map (wallets_for Run) (drop k jobs) → worlds ≡ map new_world (take k jobs)
+pub all_made : (jobs : List Job) (k : ℕ) (worlds : List WorldState) → [] ≡ map (prepared_wallets Run) (drop k jobs) → worlds ≡ map new_world (take k jobs)
     → worlds ≡ map new_world jobs
 all_made jobs k worlds e so_far = so_far ∙ ap (map new_world) (all_taken jobs k e)
 
@@ -238,7 +238,7 @@ module _ (gives : MayGive) (many : ManyJob) (places : List (List Place)) (swaps 
     one_each = sym (length-map many.jobs new_world) ∙ sym k.swaps;
     swaps = λ s job l is.
         let same : job ≡ job_at many.jobs s = is ∙ any_default many.jobs s job no_job l in
-        let cast : cast_at (world_at w s) ≡ cast_of (job_at many.jobs s) = k.casts s ∙ ap cast_at (new_at many.jobs s) in
+        let cast : world_cast (nth_world w s) ≡ job_cast (job_at many.jobs s) = k.casts s ∙ ap world_cast (new_at many.jobs s) in
         record {
           deal = ap (λ (c : Cast). c.deal) cast ∙ ap (λ (j : Job). j.deal) (sym same);
           conforming = subst (λ (j : Job). length j.conforming ≡ j.deal.graph.n) (sym same) (swaps.swaps s l).whole.conforming;
@@ -267,11 +267,11 @@ pub record IsNext (many : ManyJob) (k : ℕ) (job : Job) (own : List (Option Wal
   pub low : k < length many.jobs
   pub is : job ≡ job_at many.jobs k
   pub swap : IsSwap (length many.names) job (slice_index_or many.chains k [])
-  pub made : own ≡ wallets_for Run job
-  pub others : rest ≡ map (wallets_for Run) (drop (k + 1) many.jobs)
+  pub made : own ≡ prepared_wallets Run job
+  pub others : rest ≡ map (prepared_wallets Run) (drop (k + 1) many.jobs)
 
 pub next_swap : (many : ManyJob) → AreSwaps many → (worlds : List WorldState) (jobs : List Job) (n : ℕ) (job : Job) (own : List (Option WalletState))
-    (rest : List (List (Option WalletState))) → own ∷ rest ≡ map (wallets_for Run) (drop (length worlds) many.jobs) → jobs ≡ many.jobs
+    (rest : List (List (Option WalletState))) → own ∷ rest ≡ map (prepared_wallets Run) (drop (length worlds) many.jobs) → jobs ≡ many.jobs
     → n ≡ length worlds → job ≡ slice_index_or jobs n job → IsNext many (length worlds) job own rest
 next_swap many swaps worlds jobs n job own rest e same here is =
     let k = length worlds in
@@ -282,7 +282,7 @@ next_swap many swaps worlds jobs n job own rest e same here is =
       low = r.0;
       is = found;
       swap = subst (λ (j : Job). IsSwap (length many.names) j (slice_index_or many.chains k [])) (sym found) (swaps.swaps k r.0);
-      made = r.1 ∙ ap (wallets_for Run) (sym found);
+      made = r.1 ∙ ap (prepared_wallets Run) (sym found);
       others = r.2;
     }
 
@@ -297,12 +297,12 @@ one_made jobs old new w job low is made more so_far =
     ∙ ap (λ n. map new_world (take n jobs)) (sym (longer old new w more))
 
 pub others_left : (jobs : List Job) (old new : List WorldState) (w : WorldState) (rest : List (List (Option WalletState))) → new ≡ old ++ w ∷ []
-    → rest ≡ map (wallets_for Run) (drop (length old + 1) jobs) → rest ≡ map (wallets_for Run) (drop (length new) jobs)
-others_left jobs old new w rest more e = e ∙ ap (λ n. map (wallets_for Run) (drop n jobs)) (sym (longer old new w more))
+    → rest ≡ map (prepared_wallets Run) (drop (length old + 1) jobs) → rest ≡ map (prepared_wallets Run) (drop (length new) jobs)
+others_left jobs old new w rest more e = e ∙ ap (λ n. map (prepared_wallets Run) (drop n jobs)) (sym (longer old new w more))
 
 -- Refusals of places and of accounts.
 
-pub fails_placed : (many : ManyJob) (fault : Fault Refusal) → Fails fault (places_of many) → Fails fault (opened_places many)
+pub fails_placed : (many : ManyJob) (fault : Fault Refusal) → Fails fault (find_places many) → Fails fault (opened_places many)
 fails_placed many offer.NoMemory e = tt
 fails_placed many (offer.Refused r) e = places_fail many r e
 

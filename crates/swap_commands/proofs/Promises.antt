@@ -17,19 +17,19 @@ use Rattle.swap_rules.proofs.Units as units
 use Rattle.swap_run.specs.Run.{State, start, step}
 use Rattle.swap_run.specs.Laws.{IsKept}
 use Rattle.swap_run.specs.Asked.{Answers}
-use Rattle.swap_world.specs.Cast.{cast_of}
+use Rattle.swap_world.specs.Cast.{job_cast}
 use Rattle.swap_world.specs.Gone.{MayGive}
-use Rattle.outcome_rules.specs.Report.{conforms_in, outcomes_of, report_of}
+use Rattle.outcome_rules.specs.Report.{conforms_in, deal_outcomes, build_report}
 use Rattle.outcome_rules.specs.Promises.{AllAreConforming}
 use Rattle.outcome_rules.proofs.Promises as laws
 use Rattle.refusals.specs.declared.reason.Reason.{Reason}
-use Rattle.swap_offer.specs.Job.{counted, events_for, events_of, job_header_of, job_of_lines}
+use Rattle.swap_offer.specs.Job.{counted, parse_job_events, parse_events, job_header_of, job_of_lines}
 use Rattle.swap_gen.specs.Made.{made}
 use Rattle.made_jobs.specs.Making.{copied, line_step, with_line, written_line, IsMade}
 use Rattle.made_jobs.proofs.Copying.{lines_put}
 use Rattle.offer_fields.proofs.Chains.{went}
 use Rattle.command_input.specs.Written.{Written}
-use Rattle.swap_commands.specs.Output.{AreGiven, cast_by, state_of, book_of, finished, report_for, reported, told}
+use Rattle.swap_commands.specs.Output.{AreGiven, command_cast, inside_state, collected_book, finished, story_report, reported, told}
 use Rattle.swap_commands.specs.Promised.{IsPromised, IsRace, IsRun, IsCheck, IsMaking}
 use Rattle.party_threads.specs.Race.{IsRaceBook}
 use Rattle.swap_commands.specs.Replay.{passed_over, replayed}
@@ -38,8 +38,8 @@ use Rattle.swap_commands.proofs.Raced.{no_events, none_is_late}
 module _ (has : List ℕ → Bool) where
   -- The laws of a legal book, of the report that is shown of it.
 
-  pub is_promised : (job : Job) (b : Histories) → IsAccepted job.deal → IsKept (cast_of job) b → IsPromised job b (report_for job b)
-  unfolding report_of
+  pub is_promised : (job : Job) (b : Histories) → IsAccepted job.deal → IsKept (job_cast job) b → IsPromised job b (story_report job b)
+  unfolding build_report
   is_promised job b k kept =
       let found : List Finding = findings job.deal (conforms_in job.conforming) b in
       record {
@@ -47,11 +47,11 @@ module _ (has : List ℕ → Bool) where
         kept = kept;
         units = λ a h rest few e. let same = kept.legal.one_each in units.units_are_kept job.deal a h rest
             (subst (λ (xs : List Entry). IsLegal job.deal a xs) e (kept.legal.legal a (omega (arith, few, same))));
-        safe = laws.none_is_shown_underwater job.deal b (outcomes_of job.deal b) refl job.conforming found
+        safe = laws.none_is_shown_underwater job.deal b (deal_outcomes job.deal b) refl job.conforming found
             (laws.none_is_underwater job.deal job.conforming b found kept.legal refl k);
         refunds = laws.all_have_refunds job.deal job.conforming b found kept.legal refl k;
         transfer = laws.is_transferred job.deal job.conforming b found kept.legal refl k;
-        whole = λ all none. laws.all_are_whole job.deal b (outcomes_of job.deal b) refl k
+        whole = λ all none. laws.all_are_whole job.deal b (deal_outcomes job.deal b) refl k
             (laws.is_transferred job.deal job.conforming b found kept.legal refl k all none);
         nothing = laws.finds_nothing job.deal job.conforming b found kept.legal refl;
       }
@@ -68,65 +68,65 @@ module _ (has : List ℕ → Bool) where
   -- The events that a replay stepped through.
   record Replayed {A : Type 0} (f : A → Event → A) (job : Job) (x y : A) (ls : List (ℕ × List ℕ)) : Type 0 where
     events : List Event
-    read : events_of job 0 ls ≡ Ok events
+    read : parse_events job 0 ls ≡ Ok events
     leads : y ≡ fold f x events
 
   replayed_by : {A : Type 0} (f : A → Event → A) (job : Job) (x y : A) (ls : List (ℕ × List ℕ)) → replayed f job 0 x ls ≡ Ok y → Replayed f job x y ls
   unfolding replayed
   replayed_by f job x y ls e =
-      let w = went (events_of job 0 ls) (λ events. Ok (fold f x events)) y e in
+      let w = went (parse_events job 0 ls) (λ events. Ok (fold f x events)) y e in
       record { events = w.0; read = w.1; leads = cc (w.2) }
 
   -- A run.
 
   -- what was read, the book that is shown, and what the world promised of it
-  run_of : (gives : MayGive) (a : Answers) (transcript : Bool) (job : Job) (events : List Event) (read : Result (Job × List Event) Reason) (b : Histories)
-      (output : Written) → read ≡ Ok (job, events) → AreGiven gives job.deal a (state_of a job events).asked → b ≡ book_of a job events
-      → output ≡ reported transcript job b → IsAccepted job.deal → IsKept (cast_of job) b
+  world_run : (gives : MayGive) (a : Answers) (transcript : Bool) (job : Job) (events : List Event) (read : Result (Job × List Event) Reason) (b : Histories)
+      (output : Written) → read ≡ Ok (job, events) → AreGiven gives job.deal a (inside_state a job events).asked → b ≡ collected_book a job events
+      → output ≡ reported transcript job b → IsAccepted job.deal → IsKept (job_cast job) b
       → (job.finish ≡ Fair → IsEnded job.deal b) → (job.finish ≡ Fair → events ≡ [] → AllAreConforming job.deal job.conforming
       → IsDealt job.deal (conforms_in job.conforming) b) → IsRun gives a transcript read output
-  unfolding report_of
-  run_of gives a transcript job events read b output r given same shown k kept ended dealt = record {
+  unfolding build_report
+  world_run gives a transcript job events read b output r given same shown k kept ended dealt = record {
     job = job;
     events = events;
     is_read = r;
     given = given;
     shown = shown ∙ ap (λ (b : Histories). reported transcript job b) same;
-    promised = is_promised job (book_of a job events) k (subst (λ (b : Histories). IsKept (cast_of job) b) same kept);
+    promised = is_promised job (collected_book a job events) k (subst (λ (b : Histories). IsKept (job_cast job) b) same kept);
     ended = λ fair. subst (λ (b : Histories). IsEnded job.deal b) same (ended fair);
     fair = λ fair none all. subst (λ (b : Histories). findings job.deal (conforms_in job.conforming) b ≡ []) same (dealt fair none all).nothing;
   }
 
   pub is_run : (gives : MayGive) (a : Answers) (transcript : Bool) (line : ℕ) (text : List ℕ) (ls : List (ℕ × List ℕ)) (job : Job) (s : State)
       (b : Histories) (output : Written)
-      → job_header_of has purposes.Run line text ≡ Ok job → replayed (step (cast_by a job)) job 0 (start (cast_of job)) ls ≡ Ok s
-      → AreGiven gives job.deal a (finished job.finish (cast_by a job) s).asked → b ≡ (finished job.finish (cast_by a job) s).book
-      → output ≡ reported transcript job b → IsAccepted job.deal → IsKept (cast_of job) b
+      → job_header_of has purposes.Run line text ≡ Ok job → replayed (step (command_cast a job)) job 0 (start (job_cast job)) ls ≡ Ok s
+      → AreGiven gives job.deal a (finished job.finish (command_cast a job) s).asked → b ≡ (finished job.finish (command_cast a job) s).book
+      → output ≡ reported transcript job b → IsAccepted job.deal → IsKept (job_cast job) b
       → (job.finish ≡ Fair → IsEnded job.deal b)
-      → (job.finish ≡ Fair → s ≡ start (cast_of job) → AllAreConforming job.deal job.conforming → IsDealt job.deal (conforms_in job.conforming) b)
+      → (job.finish ≡ Fair → s ≡ start (job_cast job) → AllAreConforming job.deal job.conforming → IsDealt job.deal (conforms_in job.conforming) b)
       → IsRun gives a transcript (job_of_lines has purposes.Run ((line, text) ∷ ls)) output
   is_run gives a transcript line text ls job s b output h r given same shown k kept ended dealt =
-      let p = replayed_by (step (cast_by a job)) job (start (cast_of job)) s ls r in
-      run_of gives a transcript job p.events (job_of_lines has purposes.Run ((line, text) ∷ ls)) b output
-      (read_of (job_header_of has purposes.Run line text) (λ j. events_of j 0 ls) job p.events h p.read)
-      (subst (λ (s : State). AreGiven gives job.deal a (finished job.finish (cast_by a job) s).asked) p.leads given)
-      (same ∙ ap (λ (s : State). (finished job.finish (cast_by a job) s).book) p.leads) shown k kept ended
-      (λ fair none. dealt fair (p.leads ∙ ap (λ (es : List Event). fold (step (cast_by a job)) (start (cast_of job)) es) none))
+      let p = replayed_by (step (command_cast a job)) job (start (job_cast job)) s ls r in
+      world_run gives a transcript job p.events (job_of_lines has purposes.Run ((line, text) ∷ ls)) b output
+      (read_of (job_header_of has purposes.Run line text) (λ j. parse_events j 0 ls) job p.events h p.read)
+      (subst (λ (s : State). AreGiven gives job.deal a (finished job.finish (command_cast a job) s).asked) p.leads given)
+      (same ∙ ap (λ (s : State). (finished job.finish (command_cast a job) s).book) p.leads) shown k kept ended
+      (λ fair none. dealt fair (p.leads ∙ ap (λ (es : List Event). fold (step (command_cast a job)) (start (job_cast job)) es) none))
 
   -- A race.
 
   pub is_race : (gives : MayGive) (b : Histories) (ticks : ℕ) (transcript : Bool) (line : ℕ) (text : List ℕ) (ls : List (ℕ × List ℕ)) (job : Job)
       (output : Written) → job_header_of has purposes.Race line text ≡ Ok job → replayed passed_over job 0 tt ls ≡ Ok tt
-      → output ≡ reported transcript job b → job.purpose ≡ purposes.Race → IsAccepted job.deal → IsRaceBook gives (cast_of job) ticks b
+      → output ≡ reported transcript job b → job.purpose ≡ purposes.Race → IsAccepted job.deal → IsRaceBook gives (job_cast job) ticks b
       → IsRace gives b ticks transcript (job_of_lines has purposes.Race ((line, text) ∷ ls)) output
-  unfolding report_of
+  unfolding build_report
   is_race gives b ticks transcript line text ls job output h r shown purpose k raced =
       let p = replayed_by passed_over job tt tt ls r in
       record {
         job = job;
         is_read =
-            read_of (job_header_of has purposes.Race line text) (λ j. events_of j 0 ls) job [] h
-            (subst (λ (es : List Event). events_of job 0 ls ≡ Ok es) (no_events job purpose ls p.events p.read) p.read);
+            read_of (job_header_of has purposes.Race line text) (λ j. parse_events j 0 ls) job [] h
+            (subst (λ (es : List Event). parse_events job 0 ls ≡ Ok es) (no_events job purpose ls p.events p.read) p.read);
         raced = raced;
         shown = shown;
         promised = is_promised job b k (record { legal = raced.legal; conducted = raced.conducted });
@@ -144,26 +144,26 @@ module _ (has : List ℕ → Bool) where
       record {
         job = job;
         events = p.events;
-        is_read = read_of (job_header_of has purposes.Check line text) (λ j. events_of j 0 ls) job p.events h p.read;
+        is_read = read_of (job_header_of has purposes.Check line text) (λ j. parse_events j 0 ls) job p.events h p.read;
         shown = shown;
         accepted = k;
       }
 
   -- A job that is made.
 
-  counts_of : (r : Result ℕ Reason) (text : List ℕ) (ls : List (ℕ × List ℕ)) (s : ℕ × List ℕ)
+  read_counts : (r : Result ℕ Reason) (text : List ℕ) (ls : List (ℕ × List ℕ)) (s : ℕ × List ℕ)
       → (r >>= λ n. let x : Result (ℕ × List ℕ) Reason = Ok (n, fold with_line text ls) in x) ≡ Ok s → r ≡ Ok s.0
-  counts_of (Ok n) text ls s e =
+  read_counts (Ok n) text ls s e =
       let same : (n, fold with_line text ls) ≡ s = cc e in
       ap (λ (p : ℕ × List ℕ). let x : Result ℕ Reason = Ok p.0 in x) same
-  counts_of (Err reason) text ls s e = absurd (cc e)
+  read_counts (Err reason) text ls s e = absurd (cc e)
 
   -- no event is read of lines that are copied
-  none_read : (job : Job) (ls : List (ℕ × List ℕ)) (text new : List ℕ) → copied 0 text ls ≡ Ok new → events_for purposes.Make job ls ≡ Ok []
+  none_read : (job : Job) (ls : List (ℕ × List ℕ)) (text new : List ℕ) → copied 0 text ls ≡ Ok new → parse_job_events purposes.Make job ls ≡ Ok []
   unfolding copied
   none_read job ls text new c =
       let w = went (steps line_step (0, text) ls) (λ s. Ok s.1) new c in
-      let counts : steps counted 0 ls ≡ Ok w.0.0 = counts_of (steps counted 0 ls) text ls w.0 (sym (lines_put 0 text ls) ∙ w.1) in
+      let counts : steps counted 0 ls ≡ Ok w.0.0 = read_counts (steps counted 0 ls) text ls w.0 (sym (lines_put 0 text ls) ∙ w.1) in
       rw counts refl
 
   pub is_making : (line : ℕ) (header : List ℕ) (ls : List (ℕ × List ℕ)) (job : Job) (text : List ℕ) (output : Written)
@@ -172,7 +172,7 @@ module _ (has : List ℕ → Bool) where
   is_making line header ls job text output h c k = record {
     job = job;
     is_read =
-        read_of (job_header_of has purposes.Make line header) (λ j. events_for purposes.Make j ls) job [] h
+        read_of (job_header_of has purposes.Make line header) (λ j. parse_job_events purposes.Make j ls) job [] h
         (none_read job ls (written_line (made job)) text c);
     made = k;
   }

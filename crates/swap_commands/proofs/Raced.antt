@@ -21,18 +21,19 @@ use Rattle.refusals.specs.declared.reason.Reason.TheVariants.{OverLimit}
 use Rattle.swap_rules.specs.declared.finding.Finding.{Finding}
 use Rattle.swap_rules.specs.declared.finding.Finding.TheVariants.{Broke, Late, Forged, Unfinished}
 use Rattle.swap_rules.specs.declared.finding.Rule.{Rule}
-use Rattle.swap_rules.specs.Conduct.{keeps_at}
+use Rattle.swap_rules.specs.Conduct.{keeps_entry}
 use Rattle.swap_rules.specs.Late.{is_late, ref_of}
 use Rattle.swap_rules.specs.Forged.{is_forged}
-use Rattle.swap_rules.specs.Findings.{broken, failing, findings, findings_of, forgeries, late_on, lates, or_zero, rules_of, unfinished}
+use Rattle.swap_rules.specs.Findings.{broken, failing, findings, party_findings, forgeries, late_on, lates, or_zero, deal_rules, unfinished}
 use Rattle.swap_rules.specs.Laws.{IsOnTime}
 use Rattle.swap_world.specs.Actors.{ConformingHaveSeeds}
 use Rattle.offer_fields.proofs.Chains.{went}
-use Rattle.offer_fields.specs.Fields.{object_of}
-use Rattle.offer_events.specs.Event.{asked, checked, conforming_crash, event_of, outside_race}
+use Rattle.offer_fields.specs.Fields.{parse_data}
+use Rattle.offer_events.specs.Event.{asked, checked, conforming_crash, parse_event, outside_race}
 use Rattle.offer_events.specs.Reading.{event_at}
-use Rattle.swap_offer.specs.Job.{events_of, limited_event, IsWholeJob}
+use Rattle.swap_offer.specs.Job.{parse_events, limited_event, IsWholeJob}
 use Rattle.swap_offer.specs.Wallets.{HaveWallets}
+use Rattle.swap_rules.proofs.Prefixes.{from_flat_map}
 
 -- A race's job has no event.
 
@@ -44,10 +45,10 @@ not_outside line purposes.Check rest e is ok = cc is
 not_outside line purposes.Make rest e is ok = cc is
 not_outside line purposes.Audit rest e is ok = cc is
 
-no_event : (job : Job) (line : ℕ) (text : List ℕ) (e : Event) → job.purpose ≡ purposes.Race → event_of job line text ≡ Ok e → ⊥
-unfolding event_of asked
+no_event : (job : Job) (line : ℕ) (text : List ℕ) (e : Event) → job.purpose ≡ purposes.Race → parse_event job line text ≡ Ok e → ⊥
+unfolding parse_event asked
 no_event job line text e is ok =
-    let d = went (object_of line text) (λ d. event_at line d >>= λ raw. asked job line raw) e ok in
+    let d = went (parse_data line text) (λ d. event_at line d >>= λ raw. asked job line raw) e ok in
     let raw = went (event_at line d.0) (λ raw. asked job line raw) e d.2 in
     let event = went (checked job line raw.0)
     (λ event. outside_race line job.purpose >>= λ u. conforming_crash job.conforming line event >>= λ w. Ok event) e raw.2 in
@@ -57,23 +58,18 @@ no_next : (job : Job) (count line : ℕ) (text : List ℕ) (e : Event) → job.p
 unfolding limited_event
 no_next job count line text e is ok = by (count == 200000) ok
   where
-    by : (b : Bool) → (if b then Err (OverLimit line (codes "events") 200001) else event_of job line text) ≡ Ok e → ⊥
+    by : (b : Bool) → (if b then Err (OverLimit line (codes "events") 200001) else parse_event job line text) ≡ Ok e → ⊥
     by true ok = cc ok
     by false ok = no_event job line text e is ok
 
-pub no_events : (job : Job) → job.purpose ≡ purposes.Race → (ls : List (ℕ × List ℕ)) (es : List Event) → events_of job 0 ls ≡ Ok es → es ≡ []
-unfolding events_of
+pub no_events : (job : Job) → job.purpose ≡ purposes.Race → (ls : List (ℕ × List ℕ)) (es : List Event) → parse_events job 0 ls ≡ Ok es → es ≡ []
+unfolding parse_events
 no_events job is [] es ok = sym (cc ok)
 no_events job is (l ∷ ls) es ok =
-    let e = went (limited_event job 0 l.0 l.1) (λ e. events_of job 1 ls >>= λ rest. Ok (e ∷ rest)) es ok in
+    let e = went (limited_event job 0 l.0 l.1) (λ e. parse_events job 1 ls >>= λ rest. Ok (e ∷ rest)) es ok in
     absurd (no_next job 0 l.0 l.1 e.0 is e.1)
 
 -- Nobody is named late where each conforming party is on time.
-
-from_flat_map : {A B : Type 0} (f : A → List B) (xs : List A) (y : B) → IsIn y (flat_map f xs) → (x : A) × IsIn x xs × IsIn y (f x)
-from_flat_map f [] y i = absurd i
-from_flat_map f (x ∷ xs) y i =
-    elim (from_append (f x) (flat_map f xs) y i) [ inl j ↦ (x, inl refl, j) | inr j ↦ (let r = from_flat_map f xs y j in (r.0, inr r.1, r.2)) ]
 
 not_failing : {A : Type 0} (say : A → Finding) (test : A → Bool) (f : Finding) → ((x : A) → ¬ (f ≡ say x)) → (xs : List A)
     → ¬ IsIn f (filter_map (λ m. if test m then None else Some (say m)) xs)
@@ -92,8 +88,8 @@ module _ (d : Deal) (b : Histories) (v : ℕ) (rule : Rule) (a due : ℕ) where
 
   not_broken : (w : ℕ) → ¬ IsIn named (broken d b w)
   not_broken w i =
-      let at = from_flat_map (λ x. failing (Broke w x) (keeps_at d b w x) (history b x)) (arcs d.graph) named i in
-      not_failing (λ m. Broke w at.0 (length m.past)) (keeps_at d b w at.0) named (λ m e. cc e) (moments (history b at.0)) at.2
+      let at = from_flat_map (λ x. failing (Broke w x) (keeps_entry d b w x) (history b x)) (arcs d.graph) named i in
+      not_failing (λ m. Broke w at.0 (length m.past)) (keeps_entry d b w at.0) named (λ m e. cc e) (moments (history b at.0)) at.2
 
   not_forged : (w : ℕ) → ¬ IsIn named (forgeries d b w)
   not_forged w i =
@@ -106,11 +102,11 @@ module _ (d : Deal) (b : Histories) (v : ℕ) (rule : Rule) (a due : ℕ) where
 
   not_late : (w : ℕ) → IsOnTime d b w → ¬ IsIn named (lates d b w)
   not_late w on i =
-      let r = from_flat_map (λ x. flat_map (late_on d b w x) (arcs d.graph)) (rules_of d) named i in
+      let r = from_flat_map (λ x. flat_map (late_on d b w x) (arcs d.graph)) (deal_rules d) named i in
       let at = from_flat_map (late_on d b w r.0) (arcs d.graph) named r.2 in
       none_if (is_late d b w r.0 at.0) (Late w r.0 at.0 (or_zero (ref_of d b w r.0 at.0) + d.delta)) (on r.0 at.0 r.1 at.1) at.2
 
-  not_of_party : (w : ℕ) → IsOnTime d b w → ¬ IsIn named (findings_of d b w)
+  not_of_party : (w : ℕ) → IsOnTime d b w → ¬ IsIn named (party_findings d b w)
   not_of_party w on i = elim (from_append (broken d b w ++ lates d b w) (forgeries d b w) named i) [
     | inl j ↦ elim (from_append (broken d b w) (lates d b w) named j) [ inl k ↦ not_broken w k | inr k ↦ not_late w on k ]
     | inr j ↦ not_forged w j
@@ -131,13 +127,13 @@ module _ (d : Deal) (b : Histories) (v : ℕ) (rule : Rule) (a due : ℕ) where
 pub none_is_late : (d : Deal) (conforming : ℕ → Bool) (b : Histories) → ((w : ℕ) → w < d.graph.n → conforming w ≡ true → IsOnTime d b w)
     → (v : ℕ) (rule : Rule) (a due : ℕ) → ¬ IsIn (Late v rule a due) (findings d conforming b)
 none_is_late d conforming b on v rule a due i =
-    elim (from_append (flat_map (λ w. if conforming w then findings_of d b w else []) (range_with_len 0 d.graph.n)) (unfinished d b) (Late v rule a due) i) [
-      | inl j ↦ (let at = from_flat_map (λ w. if conforming w then findings_of d b w else []) (range_with_len 0 d.graph.n) (Late v rule a due) j in
+    elim (from_append (flat_map (λ w. if conforming w then party_findings d b w else []) (range_with_len 0 d.graph.n)) (unfinished d b) (Late v rule a due) i) [
+      | inl j ↦ (let at = from_flat_map (λ w. if conforming w then party_findings d b w else []) (range_with_len 0 d.graph.n) (Late v rule a due) j in
           by at.0 (from_range at.0 d.graph.n at.1) (conforming at.0) refl at.2)
       | inr j ↦ not_unfinished d b v rule a due j
     ]
   where
-    by : (w : ℕ) → w < d.graph.n → (x : Bool) → conforming w ≡ x → ¬ IsIn (Late v rule a due) (if x then findings_of d b w else [])
+    by : (w : ℕ) → w < d.graph.n → (x : Bool) → conforming w ≡ x → ¬ IsIn (Late v rule a due) (if x then party_findings d b w else [])
     by w lt true c i = not_of_party d b v rule a due w (on w lt c) i
     by w lt false c i = i
 

@@ -13,11 +13,11 @@ use Rattle.refusals.specs.declared.reason.Reason.TheVariants.{NotJson}
 use Rattle.refusals.specs.declared.refusal.Refusal.{Refusal}
 use Rattle.refusals.specs.Refusal.{named}
 use Rattle.refusals.proofs.Named.{named_err}
-use Rattle.command_input.specs.Lines.{lines_of, filled_lines}
-use Rattle.swap_offer.specs.Job.{job_header_of, job_of, names_at, names_in, job_of_lines}
+use Rattle.command_input.specs.Lines.{collect_lines, filled_lines}
+use Rattle.swap_offer.specs.Job.{job_header_of, parse_job, names_at, names_in, job_of_lines}
 use Rattle.swap_run.specs.Run.{State, start, step}
 use Rattle.swap_run.specs.Asked.{Answers}
-use Rattle.swap_world.specs.Cast.{cast_of}
+use Rattle.swap_world.specs.Cast.{job_cast}
 use Rattle.swap_world.specs.Gone.{MayGive}
 use Rattle.command_input.specs.declared.fault.InputFault.{InputFault}
 use Rattle.command_input.specs.declared.fault.InputFault.TheVariants.{Refused}
@@ -26,7 +26,8 @@ use Rattle.command_input.specs.Faults.{named_fault, of_offer}
 use Rattle.command_input.specs.Input.{At, Desk, Ends, GivesLine, IsLast, IsLine, Stops, Tells, ahead, desk, fresh, limit}
 use Rattle.swap_gen.specs.Made.{made}
 use Rattle.made_jobs.specs.Making.{copied, written_line}
-use Rattle.swap_commands.specs.Output.{Chance, by_answers, by_book, cast_by, finished, names_of, no_chance, output_by, purpose_of, reported, told, plain_text}
+use Rattle.swap_commands.specs.Output.{Chance, by_answers, by_book, command_cast, finished, names_of, no_chance, output_by, command_purpose, reported}
+use Rattle.swap_commands.specs.Output.{told, plain_text}
 use Rattle.swap_commands.specs.Promised.{IsCheck, IsRace, IsRun, IsMaking}
 use Rattle.swap_commands.specs.Replay.{IsChecked, IsEntered, IsPlayed, IsRead, of_check, of_header, of_lines}
 use Rattle.swap_commands.specs.Replay.{of_race, of_run, passed_over, replayed, IsCopied, of_make}
@@ -34,19 +35,19 @@ use Rattle.swap_commands.specs.Says.{IsAgainst}
 use Rattle.command_input.specs.Written.{Written}
 use Rattle.swap_commands.proofs.Replays.{of_input, replay_fails}
 use Rattle.command_input.proofs.Ahead.{stands_on}
-use Rattle.command_input.proofs.Streams.{can_come, last_of, line_of, no_memory_after, stops_on}
+use Rattle.command_input.proofs.Streams.{can_come, last_run, line_of, no_memory_after, stops_on}
 
 module _ (has : List ℕ → Bool) where
   -- The lines of an input, and what is written for them.
 
-  by_lines : (a : Chance) (command : JobCommand) (bytes : List ℕ) (ls : List (ℕ × List ℕ)) → filled_lines 1 (lines_of bytes) ≡ ls
+  by_lines : (a : Chance) (command : JobCommand) (bytes : List ℕ) (ls : List (ℕ × List ℕ)) → filled_lines 1 (collect_lines bytes) ≡ ls
       → output_by has a (OfJob command) bytes ≡ of_lines has a command ls
   by_lines a command bytes ls e = sym (of_input has a command bytes) ∙ ap (of_lines has a command) e
 
-  names_by : (command : JobCommand) (bytes : List ℕ) (ls : List (ℕ × List ℕ)) → filled_lines 1 (lines_of bytes) ≡ ls
-      → names_of has (OfJob command) bytes ≡ names_in has (purpose_of command) ls
+  names_by : (command : JobCommand) (bytes : List ℕ) (ls : List (ℕ × List ℕ)) → filled_lines 1 (collect_lines bytes) ≡ ls
+      → names_of has (OfJob command) bytes ≡ names_in has (command_purpose command) ls
   unfolding names_of
-  names_by command bytes ls e = ap (names_in has (purpose_of command)) e
+  names_by command bytes ls e = ap (names_in has (command_purpose command)) e
 
   run_fails : (transcript : Bool) (n : ℕ) (t : List ℕ) (ls : List (ℕ × List ℕ)) (reason : Reason) → job_header_of has purposes.Run n t ≡ Err reason
       → of_run has no_chance.answers transcript n t ls ≡ Err reason
@@ -69,7 +70,7 @@ module _ (has : List ℕ → Bool) where
   make_fails n t ls reason h = rw h refl
 
   header_fails : (command : JobCommand) (n : ℕ) (t : List ℕ) (ls : List (ℕ × List ℕ)) (reason : Reason)
-      → job_header_of has (purpose_of command) n t ≡ Err reason
+      → job_header_of has (command_purpose command) n t ≡ Err reason
       → of_header has no_chance command n t ls ≡ Err reason
   header_fails (Run transcript) n t ls reason h = run_fails transcript n t ls reason h
   header_fails (Race ticks transcript) n t ls reason h = race_fails transcript n t ls reason h
@@ -78,8 +79,8 @@ module _ (has : List ℕ → Bool) where
 
   run_by : (a : Answers) (transcript : Bool) (n : ℕ) (t : List ℕ) (ls : List (ℕ × List ℕ)) (job : Job) (r : Result State Reason)
       → job_header_of has purposes.Run n t ≡ Ok job
-      → replayed (step (cast_by a job)) job 0 (start (cast_of job)) ls ≡ r
-      → of_run has a transcript n t ls ≡ r >>= λ s. Ok (reported transcript job (finished job.finish (cast_by a job) s).book)
+      → replayed (step (command_cast a job)) job 0 (start (job_cast job)) ls ≡ r
+      → of_run has a transcript n t ls ≡ r >>= λ s. Ok (reported transcript job (finished job.finish (command_cast a job) s).book)
   unfolding of_run
   run_by a transcript n t ls job r h e = rw (h, e) refl
 
@@ -100,7 +101,7 @@ module _ (has : List ℕ → Bool) where
   make_by n t ls job r h e = rw (h, e) refl
 
   pub gives_run : (a : Answers) (transcript : Bool) (bytes : List ℕ) (job : Job) (s : State) → IsPlayed has a bytes job s
-      → output_by has (by_answers a) (OfJob (Run transcript)) bytes ≡ Ok (reported transcript job (finished job.finish (cast_by a job) s).book)
+      → output_by has (by_answers a) (OfJob (Run transcript)) bytes ≡ Ok (reported transcript job (finished job.finish (command_cast a job) s).book)
   gives_run a transcript bytes job s p =
       by_lines (by_answers a) (Run transcript) bytes ((p.line, p.text) ∷ p.others) p.lines
       ∙ run_by a transcript p.line p.text p.others job (Ok s) p.header p.leads
@@ -121,33 +122,33 @@ module _ (has : List ℕ → Bool) where
 
   -- what is promised of lines is promised of their bytes
   pub run_of_bytes : (gives : MayGive) (a : Answers) (transcript : Bool) (bytes : List ℕ) (ls : List (ℕ × List ℕ)) (output : Written)
-      → filled_lines 1 (lines_of bytes) ≡ ls
-      → IsRun gives a transcript (job_of_lines has purposes.Run ls) output → IsRun gives a transcript (job_of has purposes.Run bytes) output
-  unfolding job_of
+      → filled_lines 1 (collect_lines bytes) ≡ ls
+      → IsRun gives a transcript (job_of_lines has purposes.Run ls) output → IsRun gives a transcript (parse_job has purposes.Run bytes) output
+  unfolding parse_job
   run_of_bytes gives a transcript bytes ls output e p =
       subst (λ (xs : List (ℕ × List ℕ)). IsRun gives a transcript (job_of_lines has purposes.Run xs) output) (sym e) p
 
   pub race_of_bytes : (gives : MayGive) (b : Histories) (ticks : ℕ) (transcript : Bool) (bytes : List ℕ) (ls : List (ℕ × List ℕ)) (output : Written)
-      → filled_lines 1 (lines_of bytes) ≡ ls → IsRace gives b ticks transcript (job_of_lines has purposes.Race ls) output
-      → IsRace gives b ticks transcript (job_of has purposes.Race bytes) output
-  unfolding job_of
+      → filled_lines 1 (collect_lines bytes) ≡ ls → IsRace gives b ticks transcript (job_of_lines has purposes.Race ls) output
+      → IsRace gives b ticks transcript (parse_job has purposes.Race bytes) output
+  unfolding parse_job
   race_of_bytes gives b ticks transcript bytes ls output e p =
       subst (λ (xs : List (ℕ × List ℕ)). IsRace gives b ticks transcript (job_of_lines has purposes.Race xs) output) (sym e) p
 
-  pub check_of_bytes : (bytes : List ℕ) (ls : List (ℕ × List ℕ)) (output : Written) → filled_lines 1 (lines_of bytes) ≡ ls
-      → IsCheck (job_of_lines has purposes.Check ls) output → IsCheck (job_of has purposes.Check bytes) output
-  unfolding job_of
+  pub check_of_bytes : (bytes : List ℕ) (ls : List (ℕ × List ℕ)) (output : Written) → filled_lines 1 (collect_lines bytes) ≡ ls
+      → IsCheck (job_of_lines has purposes.Check ls) output → IsCheck (parse_job has purposes.Check bytes) output
+  unfolding parse_job
   check_of_bytes bytes ls output e p = subst (λ (xs : List (ℕ × List ℕ)). IsCheck (job_of_lines has purposes.Check xs) output) (sym e) p
 
-  pub making_of_bytes : (bytes : List ℕ) (ls : List (ℕ × List ℕ)) (output : Written) → filled_lines 1 (lines_of bytes) ≡ ls
-      → IsMaking (job_of_lines has purposes.Make ls) output → IsMaking (job_of has purposes.Make bytes) output
-  unfolding job_of
+  pub making_of_bytes : (bytes : List ℕ) (ls : List (ℕ × List ℕ)) (output : Written) → filled_lines 1 (collect_lines bytes) ≡ ls
+      → IsMaking (job_of_lines has purposes.Make ls) output → IsMaking (parse_job has purposes.Make bytes) output
+  unfolding parse_job
   making_of_bytes bytes ls output e p = subst (λ (xs : List (ℕ × List ℕ)). IsMaking (job_of_lines has purposes.Make xs) output) (sym e) p
 
   -- the whole input was read, and it is no longer than it may be
-  pub is_within : (P : List ℕ → Type 0) (left left' : Option (List ℕ)) (n m : ℕ) (now : At) (e : Ends P (desk left n fresh) (desk left' m now))
+  pub set_contains_ends : (P : List ℕ → Type 0) (left left' : Option (List ℕ)) (n m : ℕ) (now : At) (e : Ends P (desk left n fresh) (desk left' m now))
       → length e.bytes ≤ limit
-  is_within P left left' n m now e = omega (arith, e.stands.took.counted, e.stands.fits.within)
+  set_contains_ends P left left' n m now e = omega (arith, e.stands.took.counted, e.stands.fits.within)
 
   -- What is said against an input.
 
@@ -157,27 +158,28 @@ module _ (has : List ℕ → Bool) where
       → Stops (IsAgainst has (OfJob command)) (desk left n fresh) now fault
   empty_stops command more left n s now fault first none gives is =
       let old : Desk = desk left n fresh in
-      let p : IsLast old now = last_of more old now none (subst (λ (x : At). GivesLine more (desk left n x) now) first gives) in
+      let p : IsLast old now = last_run more old now none (subst (λ (x : At). GivesLine more (desk left n x) now) first gives) in
       let t : Tells (λ bytes. IsAgainst has (OfJob command) bytes (record { reason = NotJson 1; names = [] })) old now = record {
         bytes = p.bytes;
         stands = p.stands;
         can = λ rest can. can_come fresh (p.bytes ++ rest) refl;
         told = λ rest can.
-            let e : filled_lines 1 (lines_of (p.bytes ++ rest)) ≡ [] = ap (λ (xs : List ℕ). filled_lines 1 (lines_of (p.bytes ++ xs))) (can p.met)
-            ∙ ap (λ (xs : List ℕ). filled_lines 1 (lines_of xs)) (append-nil p.bytes) ∙ p.none in
+            let e : filled_lines 1 (collect_lines (p.bytes ++ rest)) ≡ [] = ap (λ (xs : List ℕ). filled_lines 1 (collect_lines (p.bytes ++ xs))) (can p.met)
+            ∙ ap (λ (xs : List ℕ). filled_lines 1 (collect_lines xs)) (append-nil p.bytes) ∙ p.none in
             (by_lines no_chance command (p.bytes ++ rest) [] e, sym (names_by command (p.bytes ++ rest) [] e));
       } in
       subst (λ (f : InputFault Refusal). Stops (IsAgainst has (OfJob command)) old now f) (sym is) t
 
   -- its header is refused
   against_header : (command : JobCommand) (left : Option (List ℕ)) (n : ℕ) (now : Desk) (fault : Fault Refusal) → IsLine (desk left n fresh) now
-      → Fails fault (named (names_at has (purpose_of command) now.at.number now.at.text) (job_header_of has (purpose_of command) now.at.number now.at.text))
+      → Fails fault (named (names_at has (command_purpose command) now.at.number now.at.text) (job_header_of has
+      (command_purpose command) now.at.number now.at.text))
       → Stops (IsAgainst has (OfJob command)) (desk left n fresh) now (of_offer fault)
   against_header command left n now offer.NoMemory p fails = no_memory_after (desk left n fresh) now p.bytes p.stands
   against_header command left n now (offer.Refused r) p fails =
       let line = now.at.number in
       let text = now.at.text in
-      let h = named_err (names_at has (purpose_of command) line text) (job_header_of has (purpose_of command) line text) r fails in
+      let h = named_err (names_at has (command_purpose command) line text) (job_header_of has (command_purpose command) line text) r fails in
       record {
         bytes = p.bytes;
         stands = p.stands;
@@ -191,25 +193,25 @@ module _ (has : List ℕ → Bool) where
       }
 
   pub header_stops : (command : JobCommand) (more : Bool) (left : Option (List ℕ)) (n : ℕ) (s : At) (now : Desk) (fault : Fault Refusal) (purpose : Purpose)
-      (line : ℕ) (text : List ℕ) → s ≡ fresh → more ≡ true → GivesLine more (desk left n s) now → purpose ≡ purpose_of command
+      (line : ℕ) (text : List ℕ) → s ≡ fresh → more ≡ true → GivesLine more (desk left n s) now → purpose ≡ command_purpose command
       → line ≡ now.at.number → text ≡ now.at.text → Fails fault (named (names_at has purpose line text) (job_header_of has purpose line text))
       → Stops (IsAgainst has (OfJob command)) (desk left n fresh) now (of_offer fault)
   header_stops command more left n s now fault purpose line text first some gives asked number same fails =
       let p : IsLine (desk left n fresh) now =
       line_of more (desk left n fresh) now some (subst (λ (x : At). GivesLine more (desk left n x) now) first gives) in
-      let f : Fails fault (named (names_at has (purpose_of command) line text) (job_header_of has (purpose_of command) line text)) =
+      let f : Fails fault (named (names_at has (command_purpose command) line text) (job_header_of has (command_purpose command) line text)) =
       subst (λ (q : Purpose). Fails fault (named (names_at has q line text) (job_header_of has q line text))) asked fails in
-      let g : Fails fault (named (names_at has (purpose_of command) now.at.number text) (job_header_of has (purpose_of command) now.at.number text)) =
-      subst (λ (k : ℕ). Fails fault (named (names_at has (purpose_of command) k text) (job_header_of has (purpose_of command) k text))) number f in
+      let g : Fails fault (named (names_at has (command_purpose command) now.at.number text) (job_header_of has (command_purpose command) now.at.number text)) =
+      subst (λ (k : ℕ). Fails fault (named (names_at has (command_purpose command) k text) (job_header_of has (command_purpose command) k text))) number f in
       against_header command left n now fault p
-      (subst (λ (t : List ℕ). Fails fault (named (names_at has (purpose_of command) now.at.number t)
-      (job_header_of has (purpose_of command) now.at.number t))) same g)
+      (subst (λ (t : List ℕ). Fails fault (named (names_at has (command_purpose command) now.at.number t)
+      (job_header_of has (command_purpose command) now.at.number t))) same g)
 
   -- A further line of it is refused, after its header was read.
   pub against_event : {A : Type 0} (walk : List (ℕ × List ℕ) → Result A Reason) (command : JobCommand) (left : Option (List ℕ)) (n : ℕ) (mid now : Desk)
       (names : List (List ℕ))
       → ((ls : List (ℕ × List ℕ)) (reason : Reason) → walk ls ≡ Err reason → of_header has no_chance command mid.at.number mid.at.text ls ≡ Err reason)
-      → names ≡ names_at has (purpose_of command) mid.at.number mid.at.text → IsLine (desk left n fresh) mid → (fault : InputFault Reason)
+      → names ≡ names_at has (command_purpose command) mid.at.number mid.at.text → IsLine (desk left n fresh) mid → (fault : InputFault Reason)
       → Stops (λ bytes reason. walk (ahead mid.at bytes) ≡ Err reason) mid now fault
       → Stops (IsAgainst has (OfJob command)) (desk left n fresh) now (named_fault names fault)
   against_event walk command left n mid now names says called p fault s =
@@ -227,7 +229,8 @@ module _ (has : List ℕ → Bool) where
   pub run_says : (transcript : Bool) (n : ℕ) (t : List ℕ) (job : Job) → job_header_of has purposes.Run n t ≡ Ok job → (ls : List (ℕ × List ℕ)) (reason : Reason)
       → replayed passed_over job 0 tt ls ≡ Err reason → of_header has no_chance (Run transcript) n t ls ≡ Err reason
   run_says transcript n t job h ls reason e =
-      run_by no_chance.answers transcript n t ls job (Err reason) h (replay_fails (step (cast_by no_chance.answers job)) (start (cast_of job)) job ls reason e)
+      run_by no_chance.answers transcript n t ls job (Err reason) h (replay_fails (step (command_cast no_chance.answers job)) (start
+      (job_cast job)) job ls reason e)
 
   pub race_says : (ticks : ℕ) (transcript : Bool) (n : ℕ) (t : List ℕ) (job : Job) → job_header_of has purposes.Race n t ≡ Ok job
       → (ls : List (ℕ × List ℕ)) (reason : Reason) → replayed passed_over job 0 tt ls ≡ Err reason

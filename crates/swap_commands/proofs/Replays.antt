@@ -13,12 +13,12 @@ use Rattle.swap_job.specs.declared.job.Job.{Job}
 use Rattle.swap_job.specs.declared.event.Event.{Event}
 use Rattle.swap_job.specs.declared.job.Role.{Role}
 use Rattle.refusals.specs.declared.reason.Reason.{Reason}
-use Rattle.command_input.specs.Lines.{lines_of, filled_lines}
-use Rattle.swap_offer.specs.Job.{events_of, limited_event, job_of, job_header_of, job_of_lines}
+use Rattle.command_input.specs.Lines.{collect_lines, filled_lines}
+use Rattle.swap_offer.specs.Job.{parse_events, limited_event, parse_job, job_header_of, job_of_lines}
 use Rattle.swap_digraph.specs.declared.deal.Deal.{Deal}
 use Rattle.swap_run.specs.Asked.{Answers, with_answers}
 use Rattle.swap_run.specs.Run.{Cast, Question, State, step, start}
-use Rattle.swap_world.specs.Cast.{cast_of, cast_with}
+use Rattle.swap_world.specs.Cast.{job_cast, made_cast}
 use Rattle.swap_offer.specs.Wallets.{HaveWallets}
 use Rattle.swap_world.specs.Actors.{AllFit, AreHeld}
 use Rattle.offer_header.specs.Limits.{HoldsEach}
@@ -27,14 +27,15 @@ use Rattle.swap_job.specs.declared.job.Finish.TheVariants.{Stop}
 use Rattle.swap_world.proofs.Gone.{continues_less, more_asked, stays}
 use Rattle.swap_world.proofs.Team.{all_fit}
 use Rattle.swap_world.specs.Gone.{Answered, MayGive, HasAsked, HasGone, MayBeGiven}
-use Rattle.swap_world.specs.Value.{WorldState, answers_of, cast_at, cast_for, Continues, new_world}
+use Rattle.swap_world.specs.Value.{WorldState, world_answers, world_cast, answering_cast, Continues, new_world}
 use Rattle.swap_commands.specs.Words.{OfJob, JobCommand, Check, Run, Race, Make}
 use Rattle.swap_job.specs.declared.job.Purpose.TheVariants as purposes
 use Rattle.swap_gen.specs.Made.{made}
 use Rattle.made_jobs.specs.Making.{copied, made_text, written_line}
 use Rattle.made_jobs.specs.Generating.{IsOf}
 use Rattle.made_jobs.proofs.Copying.{made_is}
-use Rattle.swap_commands.specs.Output.{AreGiven, Chance, cast_by, purpose_of, finished, book_of, reported, told, output_by, output_for, plain_text}
+use Rattle.swap_commands.specs.Output.{AreGiven, Chance, command_cast, command_purpose, finished, collected_book, reported, told, output_by}
+use Rattle.swap_commands.specs.Output.{job_output, plain_text}
 use Rattle.swap_commands.specs.Replay.{replayed, next_by, passed_over, IsConcluded, of_run, of_race, of_check, of_lines, of_make}
 
 regroup : {A : Type 0} (f : A → Event → A) (x : A) (next : Result Event Reason) (rest : Result (List Event) Reason) →
@@ -45,11 +46,11 @@ regroup f x (Err r) rest = refl
 
 pub step_of : {A : Type 0} (f : A → Event → A) (job : Job) (n : ℕ) (x : A) (line : ℕ) (text : List ℕ) (rest : List (ℕ × List ℕ))
     → replayed f job n x ((line, text) ∷ rest) ≡ next_by f job n x line text >>= λ y. replayed f job (n + 1) y rest
-unfolding replayed next_by events_of
-step_of f job n x line text rest = regroup f x (limited_event job n line text) (events_of job (n + 1) rest)
+unfolding replayed next_by parse_events
+step_of f job n x line text rest = regroup f x (limited_event job n line text) (parse_events job (n + 1) rest)
 
 pub none_left : {A : Type 0} (f : A → Event → A) (job : Job) (n : ℕ) (x : A) → replayed f job n x [] ≡ Ok x
-unfolding replayed events_of
+unfolding replayed parse_events
 none_left f job n x = refl
 
 -- The lines of an input.
@@ -77,7 +78,7 @@ written_make (Ok j) ls = refl
 written_make (Err r) ls = refl
 
 of_some_make : (has : List ℕ → Bool) (a : Chance) (l : ℕ × List ℕ) (ls : List (ℕ × List ℕ))
-    → of_make has l.0 l.1 ls ≡ output_for a Make (l ∷ ls) (job_of_lines has purposes.Make (l ∷ ls))
+    → of_make has l.0 l.1 ls ≡ job_output a Make (l ∷ ls) (job_of_lines has purposes.Make (l ∷ ls))
 unfolding of_make
 of_some_make has a l ls =
     regroup_make (job_header_of has purposes.Make l.0 l.1) (λ job. copied 0 (written_line (made job)) ls)
@@ -85,39 +86,40 @@ of_some_make has a l ls =
     ∙ written_make (job_of_lines has purposes.Make (l ∷ ls)) ls
 
 of_some : (has : List ℕ → Bool) (a : Chance) (command : JobCommand) (ls : List (ℕ × List ℕ))
-    → of_lines has a command ls ≡ output_for a command ls (job_of_lines has (purpose_of command) ls)
+    → of_lines has a command ls ≡ job_output a command ls (job_of_lines has (command_purpose command) ls)
 unfolding of_run of_race of_check replayed
 of_some has a command [] = by command
   where
-    by : (command : JobCommand) → of_lines has a command [] ≡ output_for a command [] (job_of_lines has (purpose_of command) [])
+    by : (command : JobCommand) → of_lines has a command [] ≡ job_output a command [] (job_of_lines has (command_purpose command) [])
     by (Run transcript) = refl
     by (Race ticks transcript) = refl
     by Check = refl
     by Make = refl
 of_some has a (Run transcript) (l ∷ ls) =
-    together (job_header_of has purposes.Run l.0 l.1) (λ job. events_of job 0 ls) (λ job. step (cast_by a.answers job)) (λ job. start (cast_of job))
-    (λ job s. reported transcript job (finished job.finish (cast_by a.answers job) s).book) (λ j. reported transcript j.0 (book_of a.answers j.0 j.1))
+    together (job_header_of has purposes.Run l.0 l.1) (λ job. parse_events job 0 ls) (λ job. step (command_cast a.answers job)) (λ job. start (job_cast job))
+    (λ job s. reported transcript job (finished job.finish (command_cast a.answers job) s).book) (λ j. reported transcript j.0
+    (collected_book a.answers j.0 j.1))
     (λ job es. refl)
 of_some has a (Race ticks transcript) (l ∷ ls) =
-    together (job_header_of has purposes.Race l.0 l.1) (λ job. events_of job 0 ls) (λ job. passed_over) (λ job. tt)
+    together (job_header_of has purposes.Race l.0 l.1) (λ job. parse_events job 0 ls) (λ job. passed_over) (λ job. tt)
     (λ job u. reported transcript job a.book) (λ j. reported transcript j.0 a.book) (λ job es. refl)
-of_some has a Check (l ∷ ls) = together (job_header_of has (purpose_of Check) l.0 l.1) (λ job. events_of job 0 ls) (λ job. passed_over) (λ job. tt)
+of_some has a Check (l ∷ ls) = together (job_header_of has (command_purpose Check) l.0 l.1) (λ job. parse_events job 0 ls) (λ job. passed_over) (λ job. tt)
     (λ job u. told job) (λ j. told j.0) (λ job es. refl)
 of_some has a Make (l ∷ ls) = of_some_make has a l ls
 
 pub of_input : (has : List ℕ → Bool) (a : Chance) (command : JobCommand) (input : List ℕ)
-    → of_lines has a command (filled_lines 1 (lines_of input)) ≡ output_by has a (OfJob command) input
-unfolding output_by job_of
-of_input has a (Run transcript) input = of_some has a (Run transcript) (filled_lines 1 (lines_of input))
-of_input has a (Race ticks transcript) input = of_some has a (Race ticks transcript) (filled_lines 1 (lines_of input))
-of_input has a Check input = of_some has a Check (filled_lines 1 (lines_of input))
-of_input has a Make input = of_some has a Make (filled_lines 1 (lines_of input))
+    → of_lines has a command (filled_lines 1 (collect_lines input)) ≡ output_by has a (OfJob command) input
+unfolding output_by parse_job
+of_input has a (Run transcript) input = of_some has a (Run transcript) (filled_lines 1 (collect_lines input))
+of_input has a (Race ticks transcript) input = of_some has a (Race ticks transcript) (filled_lines 1 (collect_lines input))
+of_input has a Check input = of_some has a Check (filled_lines 1 (collect_lines input))
+of_input has a Make input = of_some has a Make (filled_lines 1 (collect_lines input))
 
 -- Worlds.
 
-pub same_cast : (job : Job) (w : WorldState) → IsOf job w → cast_at w ≡ cast_of job
-same_cast job w k = ap₂ (λ (d : Deal) (rs : List Role). cast_with d w.conforming w.seeds rs) k.deal k.roles
-    ∙ ap₂ (λ (c : List Bool) (s : List (Option (List ℕ))). cast_with job.deal c s job.roles) k.conforming k.seeds
+pub same_cast : (job : Job) (w : WorldState) → IsOf job w → world_cast w ≡ job_cast job
+same_cast job w k = ap₂ (λ (d : Deal) (rs : List Role). made_cast d w.conforming w.seeds rs) k.deal k.roles
+    ∙ ap₂ (λ (c : List Bool) (s : List (Option (List ℕ))). made_cast job.deal c s job.roles) k.conforming k.seeds
 
 -- a staff that holds each strategy that the job names
 pub held : (has : List ℕ → Bool) (roles : List Role) → HoldsEach has roles → AreHeld has roles
@@ -127,7 +129,7 @@ held has roles all = λ p lt. all p kinds.Manual lt
 pub replay_fails : {A : Type 0} (f : A → Event → A) (x : A) (job : Job) (ls : List (ℕ × List ℕ)) (reason : Reason)
     → replayed passed_over job 0 tt ls ≡ Err reason → replayed f job 0 x ls ≡ Err reason
 unfolding replayed
-replay_fails {A = A} f x job ls reason e = by (events_of job 0 ls) e
+replay_fails {A = A} f x job ls reason e = by (parse_events job 0 ls) e
   where
     by : (r : Result (List Event) Reason) → (r >>= λ es. let y : Result (Unit {0}) Reason = Ok (fold passed_over tt es) in y) ≡ Err reason
         → (r >>= λ es. let y : Result A Reason = Ok (fold f x es) in y) ≡ Err reason
@@ -179,23 +181,23 @@ module _ (gives : MayGive) (job : Job) (w new : WorldState) (k : IsOf job w) whe
   pub goes_on_still : (f : Cast → State → State) → HasGone gives f w new → w.stopped ≡ false → new.stopped ≡ false
   goes_on_still f e on = ap (λ (x : WorldState). x.stopped) e.same ∙ on
 
-  for_job : (a : Answers) → cast_for w a ≡ cast_by a job
+  for_job : (a : Answers) → answering_cast w a ≡ command_cast a job
   for_job a = ap (λ (c : Cast). with_answers c a) (same_cast job w k)
 
   -- after the event of a line
   pub stepped : (e : Event) (count line : ℕ) (text : List ℕ) → limited_event job count line text ≡ Ok e → HasGone gives (λ c s. step c s e) w new
-      → (a : Answers) → Continues new a → next_by (step (cast_by a job)) job count w.state line text ≡ Ok new.state
+      → (a : Answers) → Continues new a → next_by (step (command_cast a job)) job count w.state line text ≡ Ok new.state
   unfolding next_by
   stepped e count line text n h a x =
-      ap (λ (r : Result Event Reason). r >>= λ f. Ok (step (cast_by a job) w.state f)) n
+      ap (λ (r : Result Event Reason). r >>= λ f. Ok (step (command_cast a job) w.state f)) n
       ∙ ap (λ (s : State). Ok s) (ap (λ (c : Cast). step c w.state e) (sym (for_job a)) ∙ sym (h.state a x))
 
   -- after the job's finish
   pub concluded : (b : Histories) → b ≡ new.state.book → HasAsked gives (new_world job) w → HasGone gives (finished job.finish) w new
       → IsConcluded gives job w b
   concluded b is asked h =
-      let a = answers_of new in
-      let state : new.state ≡ finished job.finish (cast_by a job) w.state =
+      let a = world_answers new in
+      let state : new.state ≡ finished job.finish (command_cast a job) w.state =
       h.state a (λ i l. refl) ∙ ap (λ (c : Cast). finished job.finish c w.state) (for_job a) in
       let all = more_asked gives (new_world job) w new asked k.deal h.asked in
       record {
@@ -213,8 +215,8 @@ module _ (gives : MayGive) (job : Job) (w new : WorldState) (k : IsOf job w) whe
   concluded_book (Err e) is asked h = tt
 
 pub kept_book : {E : Type 0} (job : Job) (w : WorldState) → IsOf job w → (r : Result Book E) → IfOk r (λ b. b.histories ≡ w.state.book)
-    → IsKept (cast_at w) w.state.book → IfOk r (λ b. IsKept (cast_of job) b.histories)
-kept_book job w k (Ok b) is kept = subst (λ (c : Cast). IsKept c b.histories) (same_cast job w k) (subst (IsKept (cast_at w)) (sym is) kept)
+    → IsKept (world_cast w) w.state.book → IfOk r (λ b. IsKept (job_cast job) b.histories)
+kept_book job w k (Ok b) is kept = subst (λ (c : Cast). IsKept c b.histories) (same_cast job w k) (subst (IsKept (world_cast w)) (sym is) kept)
 kept_book job w k (Err e) is kept = tt
 
 -- where the conforming parties have their wallets, each is right

@@ -15,7 +15,7 @@ use Rattle.swap_rules.specs.Laws.{IsDealt}
 use Rattle.swap_run.specs.Run.{State, start}
 use Rattle.swap_run.specs.Laws.{IsKept}
 use Rattle.swap_run.specs.Asked.{Answers}
-use Rattle.swap_world.specs.Cast.{cast_of}
+use Rattle.swap_world.specs.Cast.{job_cast}
 use Rattle.swap_world.specs.Gone.{MayGive}
 use Rattle.swap_world.specs.Value.{Continues, WorldState}
 use Rattle.outcome_rules.specs.Report.{conforms_in}
@@ -28,7 +28,7 @@ use Rattle.command_input.specs.Input.{At, Drains, Ends, HasStopped, IsPart, IsTo
 use Rattle.command_input.specs.declared.fault.InputFault.{InputFault}
 use Rattle.command_input.specs.declared.fault.InputFault.TheVariants as fault
 use Rattle.command_input.proofs.Streams.{calm_unread, has_stopped}
-use Rattle.swap_commands.specs.Output.{AreGiven, Chance, by_answers, by_book, cast_by, finished, no_chance, output_by, reported, told, plain_text}
+use Rattle.swap_commands.specs.Output.{AreGiven, Chance, by_answers, by_book, command_cast, finished, no_chance, output_by, reported, told, plain_text}
 use Rattle.swap_commands.specs.Promised.{AsPromised}
 use Rattle.swap_commands.specs.Says.{HasRead, IsAgainst, Says}
 use Rattle.command_input.specs.Written.{Writes, Written}
@@ -37,7 +37,7 @@ use Rattle.command_input.specs.declared.status.Status.{Status}
 use Rattle.command_input.specs.declared.status.Status.TheVariants.{Done, Named, WrongWords, Refused, ReadFault, WriteFault, NoMemory, TooLong}
 use Rattle.command_input.specs.Streams.{streams}
 use Rattle.swap_commands.proofs.Promises.{is_check, is_race, is_run, is_making}
-use Rattle.swap_commands.proofs.Reading.{check_of_bytes, gives_check, gives_race, gives_run, is_within, race_of_bytes, run_of_bytes}
+use Rattle.swap_commands.proofs.Reading.{check_of_bytes, gives_check, gives_race, gives_run, set_contains_ends, race_of_bytes, run_of_bytes}
 use Rattle.swap_commands.proofs.Reading.{gives_make, making_of_bytes}
 use Rattle.swap_commands.specs.Strategies.{strategies}
 
@@ -82,7 +82,7 @@ module _ (has : List ℕ → Bool) where
         input = u.bytes;
         taken = u.stands.took.consumed;
         ended = u.ended;
-        within = is_within has (λ bytes. IsAgainst has command bytes r) left left' n m now u;
+        within = set_contains_ends has (λ bytes. IsAgainst has command bytes r) left left' n m now u;
         gives = u.told.0;
       };
       named = u.told.1;
@@ -111,16 +111,16 @@ module _ (has : List ℕ → Bool) where
 
   pub all_consumed : (P : List ℕ → Type 0) (left left' : Option (List ℕ)) (n m : ℕ) (now : At) → Ends P (desk left n fresh) (desk left' m now)
       → ConsumesAtMost left left' limit
-  all_consumed P left left' n m now e = (e.bytes, is_within has P left left' n m now e, e.stands.took.consumed)
+  all_consumed P left left' n m now e = (e.bytes, set_contains_ends has P left left' n m now e, e.stands.took.consumed)
 
   -- What a command says whose input was read whole.
 
   module _ (gives : MayGive) (transcript : Bool) (left left' : Option (List ℕ)) (n m : ℕ) (taken taken' : Option (List ℕ)) (p q : ℕ) where
     says_played : (a : Answers) (now : At) (job : Job) (s : State) (b : Histories) (status : Status)
         (e : Ends (λ bytes. IsPlayed has a bytes job s) (desk left n fresh) (desk left' m now))
-        → AreGiven gives job.deal a (finished job.finish (cast_by a job) s).asked
-        → b ≡ (finished job.finish (cast_by a job) s).book → IsAccepted job.deal → IsKept (cast_of job) b → (job.finish ≡ Fair → IsEnded job.deal b)
-        → (job.finish ≡ Fair → s ≡ start (cast_of job) → AllAreConforming job.deal job.conforming → IsDealt job.deal (conforms_in job.conforming) b)
+        → AreGiven gives job.deal a (finished job.finish (command_cast a job) s).asked
+        → b ≡ (finished job.finish (command_cast a job) s).book → IsAccepted job.deal → IsKept (job_cast job) b → (job.finish ≡ Fair → IsEnded job.deal b)
+        → (job.finish ≡ Fair → s ≡ start (job_cast job) → AllAreConforming job.deal job.conforming → IsDealt job.deal (conforms_in job.conforming) b)
         → Writes taken taken' p q (reported transcript job b) status
         → Says (strategies has gives) (OfJob (Run transcript)) (streams left n taken p) (streams left' m taken' q) status
     says_played a now job s b status e given same k kept ended dealt w =
@@ -132,7 +132,7 @@ module _ (has : List ℕ → Bool) where
           input = e.bytes;
           taken = e.stands.took.consumed;
           ended = e.ended;
-          within = is_within has (λ bytes. IsPlayed has a bytes job s) left left' n m now e;
+          within = set_contains_ends has (λ bytes. IsPlayed has a bytes job s) left left' n m now e;
           gives = made;
         })
         (run_of_bytes has gives a transcript e.bytes ((e.told.line, e.told.text) ∷ e.told.others) out e.told.lines
@@ -143,8 +143,8 @@ module _ (has : List ℕ → Bool) where
     pub says_run : (now : At) (job : Job) (world : WorldState) (b : Histories) (status : Status)
         → ((a : Answers) → Continues world a → Ends (λ bytes. IsPlayed has a bytes job world.state) (desk left n fresh) (desk left' m now))
         → IsConcluded gives job world b
-        → IsAccepted job.deal → IsKept (cast_of job) b → (job.finish ≡ Fair → IsEnded job.deal b)
-        → (job.finish ≡ Fair → world.state ≡ start (cast_of job) → AllAreConforming job.deal job.conforming
+        → IsAccepted job.deal → IsKept (job_cast job) b → (job.finish ≡ Fair → IsEnded job.deal b)
+        → (job.finish ≡ Fair → world.state ≡ start (job_cast job) → AllAreConforming job.deal job.conforming
         → IsDealt job.deal (conforms_in job.conforming) b)
         → Writes taken taken' p q (reported transcript job b) status
         → Says (strategies has gives) (OfJob (Run transcript)) (streams left n taken p) (streams left' m taken' q) status
@@ -153,7 +153,7 @@ module _ (has : List ℕ → Bool) where
 
   pub says_race : (gives : MayGive) (ticks : ℕ) (transcript : Bool) (left left' : Option (List ℕ)) (n m : ℕ) (taken taken' : Option (List ℕ)) (p q : ℕ)
       (job : Job) (b : Histories) (status : Status) → HasEntered has left left' job → IsAccepted job.deal → job.purpose ≡ purposes.Race
-      → IsRaceBook gives (cast_of job) ticks b → Writes taken taken' p q (reported transcript job b) status
+      → IsRaceBook gives (job_cast job) ticks b → Writes taken taken' p q (reported transcript job b) status
       → Says (strategies has gives) (OfJob (Race ticks transcript)) (streams left n taken p) (streams left' m taken' q) status
   says_race gives ticks transcript left left' n m taken taken' p q job b status e k purpose raced w =
       let out : Written = reported transcript job b in
@@ -178,7 +178,7 @@ module _ (has : List ℕ → Bool) where
     input = e.bytes;
     taken = e.stands.took.consumed;
     ended = e.ended;
-    within = is_within has (λ bytes. IsEntered has bytes job) left left' n m now e;
+    within = set_contains_ends has (λ bytes. IsEntered has bytes job) left left' n m now e;
     entered = e.told;
   }
 
@@ -193,7 +193,7 @@ module _ (has : List ℕ → Bool) where
         input = e.bytes;
         taken = e.stands.took.consumed;
         ended = e.ended;
-        within = is_within has (λ bytes. IsChecked has bytes job) left left' n m now e;
+        within = set_contains_ends has (λ bytes. IsChecked has bytes job) left left' n m now e;
         gives =
             gives_check has e.bytes job e.told;
       })
@@ -212,7 +212,7 @@ module _ (has : List ℕ → Bool) where
         input = e.bytes;
         taken = e.stands.took.consumed;
         ended = e.ended;
-        within = is_within has (λ bytes. IsCopied has bytes job text) left left' n m now e;
+        within = set_contains_ends has (λ bytes. IsCopied has bytes job text) left left' n m now e;
         gives = gives_make has e.bytes job text e.told;
       })
       (making_of_bytes has e.bytes ((e.told.line, e.told.text) ∷ e.told.others) (plain_text text) e.told.lines

@@ -1,7 +1,7 @@
 -- An input of wishes: one line, and no further one that isn't blank.
 use Rattle.std.specs.Prelude.{◌≡◌, ℕ, List, [], ◌∷◌, Err}
 use Rattle.refusals.specs.declared.refusal.Refusal.{Refusal}
-use Rattle.command_input.specs.Lines.{lines_of, filled_lines}
+use Rattle.command_input.specs.Lines.{collect_lines, filled_lines}
 use Rattle.command_input.specs.Written.{Written}
 use Rattle.clear_line.specs.ClearedText.{IsClearedLine}
 use Rattle.command_input.specs.Input.{At, ahead}
@@ -11,7 +11,7 @@ use Rattle.swap_commands.specs.Output.{alone, plain_text}
 pub record IsCleared (bytes text : List ℕ) : Type 0 where
   pub line : ℕ
   pub wishes : List ℕ
-  pub lines : filled_lines 1 (lines_of bytes) ≡ (line, wishes) ∷ []
+  pub lines : filled_lines 1 (collect_lines bytes) ≡ (line, wishes) ∷ []
   pub cleared : IsClearedLine line wishes text
 
 -- what is said against further lines

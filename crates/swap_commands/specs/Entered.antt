@@ -4,7 +4,7 @@ use Rattle.std.specs.Io.KnownBytes.{Consumes, IsAtEnd}
 use Rattle.swap_job.specs.declared.job.Job.{Job}
 use Rattle.swap_job.specs.declared.job.Purpose.TheVariants as purposes
 use Rattle.party_wallet.specs.Value.{WalletState}
-use Rattle.party_wallet.specs.Wallets.{wallets_of}
+use Rattle.party_wallet.specs.Wallets.{new_wallets}
 use Rattle.swap_rules.specs.Accepted.{IsAccepted}
 use Rattle.offer_header.specs.Names.{AreNames}
 use Rattle.swap_offer.specs.Job.{IsWholeJob}
@@ -26,7 +26,7 @@ pub record CanRace (has : List ℕ → Bool) (job : Job) (wallets : List (Option
   pub held : AreHeld has job.roles
   pub scripts : HaveScripts job
   pub fit : HaveWallets job
-  pub made : wallets ≡ wallets_of job.deal job.conforming job.seeds
+  pub made : wallets ≡ new_wallets job.deal job.conforming job.seeds
 
 -- The whole input was read, and it is the job of a race.
 pub record HasEntered (has : List ℕ → Bool) (left left' : Option (List ℕ)) (job : Job) : Type 0 where

@@ -8,9 +8,9 @@ use Rattle.swap_rules.specs.Outcome.{IsEnded}
 use Rattle.swap_gen.specs.Drawn.{generated}
 use Rattle.made_jobs.specs.Generating.{generated_book, generated_summary, generated_text, is_found}
 use Rattle.command_input.specs.Written.{Writes, Written}
-use Rattle.swap_commands.specs.Output.{plain_text, report_for}
+use Rattle.swap_commands.specs.Output.{plain_text, story_report}
 use Rattle.swap_commands.specs.Promised.{IsPromised}
-use Rattle.swap_commands.specs.Words.{request_of}
+use Rattle.swap_commands.specs.Words.{words_request}
 use Rattle.program_words.specs.declared.task.Request.{Request}
 use Rattle.command_input.specs.declared.status.Status.{Status}
 use Rattle.command_input.specs.declared.status.Status.TheVariants.{NoMemory}
@@ -34,7 +34,7 @@ generated_output r = if r.summary then summary_output r else text_output r
 -- book keeps what every run promises, and every ledger in it has ended.
 pub record IsSummary (job : Job) (b : Histories) (r : Request) (output : Written) : Type 0 where
   pub shown : output ≡ summary_output r
-  pub promised : IsPromised job b (report_for job b)
+  pub promised : IsPromised job b (story_report job b)
   pub ended : IsEnded job.deal b
 
 -- what is promised of a request's output, where that is a summary
@@ -51,7 +51,7 @@ pub record IsMadeFor (taken taken' : Option (List ℕ)) (p q : ℕ) (r : Request
 -- The words ask for the job of a number, which is accepted; nothing was read, what a summary promises holds, and P tells what was written.
 pub record Generates (P : Written → Type 0) (words : List (List ℕ)) (left left' : Option (List ℕ)) : Type 0 where
   pub request : Request
-  pub asks : request_of words ≡ Some request
+  pub asks : words_request words ≡ Some request
   pub unread : left' ≡ left
   pub accepted : IsAccepted (generated request.seed request.parties).deal
   pub promised : AsRequested request (generated_output request)

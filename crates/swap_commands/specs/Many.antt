@@ -6,7 +6,7 @@ use Rattle.swap_job.specs.declared.job.Finish.TheVariants.{Stop, Fair}
 use Rattle.refusals.specs.declared.reason.Reason.TheVariants.{Overdrawn as LacksUnits}
 use Rattle.refusals.specs.declared.refusal.Refusal.{Refusal}
 use Rattle.refusals.specs.Refusal.{refusal}
-use Rattle.command_input.specs.Lines.{lines_of, filled_lines}
+use Rattle.command_input.specs.Lines.{collect_lines, filled_lines}
 use Rattle.swap_run.specs.Asked.{Answers}
 use Rattle.swap_many.specs.Chains.{Setup}
 use Rattle.swap_many.specs.Many.{Run, many_run, many_finish}
@@ -16,7 +16,7 @@ use Rattle.swap_many.specs.declared.many_event.ManyEvent.{ManyEvent}
 use Rattle.swap_many.specs.declared.overdrawn.Overdrawn.{Overdrawn}
 use Rattle.swap_many.specs.declared.place.Place.{Place}
 use Rattle.many_lines.specs.Heading.{HeadingState, finish_at, finish_told, line_taken, unread}
-use Rattle.many_lines.specs.Places.{places_of}
+use Rattle.many_lines.specs.Places.{find_places}
 use Rattle.many_lines.specs.Event.{next_told}
 use Rattle.many_lines.specs.Setup.{setup_by}
 use Rattle.many_lines.specs.declared.many_job.ManyJob.{ManyJob}
@@ -62,7 +62,7 @@ unless_lacking many (Some l) places = Err (overdrawn_by many l)
 -- the places of the arcs if each account has the units that are set aside from it, or else the
 -- refusal that names accounts
 unfoldable pub opened_places : ManyJob → Result (List (List Place)) Refusal
-opened_places many = places_of many >>= λ places. unless_lacking many (overdrawn (setup_by (λ s k. None) many places)) places
+opened_places many = find_places many >>= λ places. unless_lacking many (overdrawn (setup_by (λ s k. None) many places)) places
 
 -- what a finish makes of what is kept: nothing more is done, or the fair finish is
 abbrev pub ended_by : Finish → Setup → Kept → Kept
@@ -89,4 +89,4 @@ many_of_lines has g ls =
 
 -- what is written of an input, where the strategies of swap s answer g s
 unfoldable pub many_output : (List ℕ → Bool) → (ℕ → Answers) → List ℕ → Result Written Refusal
-many_output has g input = many_of_lines has g (filled_lines 1 (lines_of input))
+many_output has g input = many_of_lines has g (filled_lines 1 (collect_lines input))

@@ -6,14 +6,14 @@ use Rattle.swap_base.specs.declared.fault.Fault.{Fault}
 use Rattle.swap_base.specs.declared.fault.Fault.TheVariants.{Refused, NoMemory}
 use Rattle.swap_job.specs.declared.job.Finish.{Finish}
 use Rattle.refusals.specs.declared.refusal.Refusal.{Refusal}
-use Rattle.command_input.specs.Lines.{lines_of, filled_lines}
+use Rattle.command_input.specs.Lines.{collect_lines, filled_lines}
 use Rattle.swap_run.specs.Asked.{Answers}
 use Rattle.swap_world.specs.Gone.{MayGive}
 use Rattle.swap_world.specs.Value.{new_world}
 use Rattle.swap_many.specs.Kept.{kept_step}
 use Rattle.swap_many.specs.Laws.{IsReady}
 use Rattle.swap_many.specs.Opening.{AreOpenable, new_many}
-use Rattle.swap_many.specs.Value.{HasManyGone, ManyState, setup_for}
+use Rattle.swap_many.specs.Value.{HasManyGone, ManyState, made_setup}
 use Rattle.swap_many.specs.declared.many_event.ManyEvent.{ManyEvent}
 use Rattle.swap_many.specs.declared.overdrawn.Overdrawn.{Overdrawn}
 use Rattle.swap_many.specs.declared.place.Place.{Place}
@@ -54,7 +54,7 @@ pub record IsOpened (many : ManyJob) (w : ManyState) : Type 0 where
 
 -- the worlds are those of the swaps
 abbrev pub AreWorldsOf : ManyJob → ManyState → Type 0
-AreWorldsOf many w = (g : ℕ → Answers) → setup_for w g ≡ setup_by g many w.places
+AreWorldsOf many w = (g : ℕ → Answers) → made_setup w g ≡ setup_by g many w.places
 
 -- The line told an event, by which the worlds have stepped.
 pub record HasStepped (gives : MayGive) (many : ManyJob) (count line : ℕ) (text : List ℕ) (old new : ManyState) : Type 0 where
@@ -93,7 +93,7 @@ pub record IsManyPlayed (has : List ℕ → Bool) (gives : MayGive) (bytes : Lis
   pub lines : List (ℕ × List ℕ)
   pub events : List ManyEvent
   pub new : ManyState
-  pub is_headed : headed has (filled_lines 1 (lines_of bytes)) ≡ Ok (record { many = many; finish = finish; lines = lines })
+  pub is_headed : headed has (filled_lines 1 (collect_lines bytes)) ≡ Ok (record { many = many; finish = finish; lines = lines })
   pub are_told : events_told many 0 lines ≡ Ok events
   pub begun : IsOpened many new
   pub gone : HasReplayed gives events new w

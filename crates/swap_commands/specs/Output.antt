@@ -9,25 +9,25 @@ use Rattle.swap_job.specs.declared.event.Event.{Event}
 use Rattle.swap_job.specs.declared.job.Job.{Job}
 use Rattle.swap_job.specs.declared.job.Purpose.TheVariants as purposes
 use Rattle.outcome_rules.specs.declared.report.Report.{Report}
-use Rattle.outcome_rules.specs.Report.{report_of}
+use Rattle.outcome_rules.specs.Report.{build_report}
 use Rattle.report_text.specs.Report.{report}
 use Rattle.transcript_lines.specs.Lines.{transcript as transcript_text}
-use Rattle.audit_command.specs.Output.{audit_of}
+use Rattle.audit_command.specs.Output.{audit_output}
 use Rattle.refusals.specs.declared.reason.Reason.{Reason}
 use Rattle.refusals.specs.declared.reason.Reason.TheVariants.{BadLine, NotJson}
 use Rattle.clear_line.specs.ClearedText.{cleared_line}
 use Rattle.refusals.specs.declared.refusal.Refusal.{Refusal}
 use Rattle.swap_job.specs.declared.job.Purpose.{Purpose}
-use Rattle.swap_offer.specs.Checks.{need_of}
-use Rattle.command_input.specs.Lines.{lines_of, filled_lines}
-use Rattle.swap_offer.specs.Job.{job_of, names_of_offer}
+use Rattle.swap_offer.specs.Checks.{deal_need}
+use Rattle.command_input.specs.Lines.{collect_lines, filled_lines}
+use Rattle.swap_offer.specs.Job.{parse_job, names_of_offer}
 use Rattle.made_jobs.specs.Making.{made_text}
 use Rattle.swap_job.specs.declared.job.Finish.{Finish}
 use Rattle.swap_job.specs.declared.job.Finish.TheVariants.{Stop, Fair}
 use Rattle.swap_run.specs.Asked.{Answers, with_answers}
 use Rattle.swap_run.specs.Run.{Cast, Question, State, run}
 use Rattle.swap_run.specs.Fair.{finish}
-use Rattle.swap_world.specs.Cast.{cast_of}
+use Rattle.swap_world.specs.Cast.{job_cast}
 use Rattle.swap_world.specs.Gone.{MayGive}
 use Rattle.command_input.specs.Written.{Written}
 use Rattle.swap_commands.specs.Words.{Command, OfJob, Audit, Clear, Many, JobCommand, Check, Run, Race, Make}
@@ -35,8 +35,8 @@ use Rattle.swap_commands.specs.Many.{many_output}
 
 -- the text of a checked offer
 unfoldable pub check_text : Deal → List ℕ
-check_text d = joined (codes "swap accepted\nneed " ∷ decimal (need_of d) ∷ codes "\nopen by " ∷ decimal
-    (times.open_by d.start d.delta d.bound) ∷ codes "\nexpiry " ∷ decimal (times.last_expiry d.start d.delta d.bound) ∷ codes "\nhorizon " ∷ decimal
+check_text d = joined (codes "swap accepted\nneed " ∷ decimal (deal_need d) ∷ codes "\nopen by " ∷ decimal
+    (times.opening_deadline d.start d.delta d.bound) ∷ codes "\nexpiry " ∷ decimal (times.last_expiry d.start d.delta d.bound) ∷ codes "\nhorizon " ∷ decimal
     (times.horizon d.start d.delta d.bound) ∷ codes "\n" ∷ [])
 
 -- the text of a run or a race: the report r of its book, or where it is asked for the transcript
@@ -49,12 +49,12 @@ abbrev pub with_report : Bool → Job → Histories → Report → Written
 with_report transcript job b r = record { text = run_text transcript job b r; found = not (length r.findings == 0) }
 
 -- the report of a job's book
-abbrev pub report_for : Job → Histories → Report
-report_for job b = report_of job.deal job.conforming b
+abbrev pub story_report : Job → Histories → Report
+story_report job b = build_report job.deal job.conforming b
 
 -- what is written of a job's book
 unfoldable pub reported : Bool → Job → Histories → Written
-reported transcript job b = with_report transcript job b (report_for job b)
+reported transcript job b = with_report transcript job b (story_report job b)
 
 -- what a finish makes of a state: nothing more is done, or the fair finish is
 abbrev pub finished : Finish → Cast → State → State
@@ -62,16 +62,16 @@ finished Stop c s = s
 finished Fair c s = finish c s
 
 -- who takes part in a job's run, where strategies answer a
-abbrev pub cast_by : Answers → Job → Cast
-cast_by a job = with_answers (cast_of job) a
+abbrev pub command_cast : Answers → Job → Cast
+command_cast a job = with_answers (job_cast job) a
 
 -- the state to which a job's run leads: after its events, and then after its finish
-abbrev pub state_of : Answers → Job → List Event → State
-state_of a job events = finished job.finish (cast_by a job) (run (cast_by a job) events)
+abbrev pub inside_state : Answers → Job → List Event → State
+inside_state a job events = finished job.finish (command_cast a job) (run (command_cast a job) events)
 
 -- its histories
-abbrev pub book_of : Answers → Job → List Event → Histories
-book_of a job events = (state_of a job events).book
+abbrev pub collected_book : Answers → Job → List Event → Histories
+collected_book a job events = (inside_state a job events).book
 
 -- each answer to these questions is one that its strategy may give
 abbrev pub AreGiven : MayGive → Deal → Answers → List Question → Type 0
@@ -86,11 +86,11 @@ abbrev pub plain_text : List ℕ → Written
 plain_text text = record { text = text; found = false }
 
 -- what a job is read for
-abbrev pub purpose_of : JobCommand → Purpose
-purpose_of (Run transcript) = purposes.Run
-purpose_of (Race ticks transcript) = purposes.Race
-purpose_of Check = purposes.Check
-purpose_of Make = purposes.Make
+abbrev pub command_purpose : JobCommand → Purpose
+command_purpose (Run transcript) = purposes.Run
+command_purpose (Race ticks transcript) = purposes.Race
+command_purpose Check = purposes.Check
+command_purpose Make = purposes.Make
 
 -- What an input doesn't decide: the answers of strategies in a run, the book of a race, and the
 -- answers of the strategies of several swaps.
@@ -112,11 +112,11 @@ abbrev pub by_many : (ℕ → Answers) → Chance
 by_many g = record { answers = λ k. None; book = []; many = g }
 
 -- what a command writes for a job and its events, which are those of these lines
-abbrev pub output_for : Chance → JobCommand → List (ℕ × List ℕ) → Result (Job × List Event) Reason → Result Written Reason
-output_for chance (Run transcript) lines read = read >>= λ j. Ok (reported transcript j.0 (book_of chance.answers j.0 j.1))
-output_for chance (Race ticks transcript) lines read = read >>= λ j. Ok (reported transcript j.0 chance.book)
-output_for chance Check lines read = read >>= λ j. Ok (told j.0)
-output_for chance Make lines read = read >>= λ j. Ok (plain_text (made_text j.0 (drop 1 lines)))
+abbrev pub job_output : Chance → JobCommand → List (ℕ × List ℕ) → Result (Job × List Event) Reason → Result Written Reason
+job_output chance (Run transcript) lines read = read >>= λ j. Ok (reported transcript j.0 (collected_book chance.answers j.0 j.1))
+job_output chance (Race ticks transcript) lines read = read >>= λ j. Ok (reported transcript j.0 chance.book)
+job_output chance Check lines read = read >>= λ j. Ok (told j.0)
+job_output chance Make lines read = read >>= λ j. Ok (plain_text (made_text j.0 (drop 1 lines)))
 
 -- no further line
 abbrev pub alone : List (ℕ × List ℕ) → Result (Unit {0}) Reason
@@ -124,12 +124,12 @@ alone [] = Ok tt
 alone (l ∷ ls) = Err (BadLine l.0)
 
 -- what is written of wishes, by the lines of their input, or the first reason why they are refused: the line's own first, and then a further line
-abbrev pub wishes_of : List (ℕ × List ℕ) → Result Written Reason
-wishes_of [] = Err (NotJson 1)
-wishes_of (l ∷ ls) = cleared_line l.0 l.1 >>= λ text. alone ls >>= λ u. Ok (plain_text text)
+abbrev pub parse_wish_text : List (ℕ × List ℕ) → Result Written Reason
+parse_wish_text [] = Err (NotJson 1)
+parse_wish_text (l ∷ ls) = cleared_line l.0 l.1 >>= λ text. alone ls >>= λ u. Ok (plain_text text)
 
 unfoldable pub clear_output : List ℕ → Result Written Reason
-clear_output input = wishes_of (filled_lines 1 (lines_of input))
+clear_output input = parse_wish_text (filled_lines 1 (collect_lines input))
 
 -- the reason of a refusal
 abbrev pub by_reason : Result Written Refusal → Result Written Reason
@@ -144,8 +144,8 @@ names_told (Err refusal) = refusal.names
 -- what a command writes for an input, or the first reason why the input is refused; `has` tells
 -- which strategies exist, and `chance` has what the input doesn't decide
 unfoldable pub output_by : (List ℕ → Bool) → Chance → Command → List ℕ → Result Written Reason
-output_by has chance (OfJob command) input = output_for chance command (filled_lines 1 (lines_of input)) (job_of has (purpose_of command) input)
-output_by has chance Audit input = by_reason (audit_of input)
+output_by has chance (OfJob command) input = job_output chance command (filled_lines 1 (collect_lines input)) (parse_job has (command_purpose command) input)
+output_by has chance Audit input = by_reason (audit_output input)
 output_by has chance Clear input = clear_output input
 output_by has chance Many input = by_reason (many_output has chance.many input)
 
@@ -156,14 +156,14 @@ no_chance = by_answers (λ k. None)
 -- what a command writes if strategies never call and a race has no ledger. A reason to refuse is
 -- the same whatever chance decides. So is a text for which no strategy is asked and nothing is
 -- raced.
-abbrev pub output_of : (List ℕ → Bool) → Command → List ℕ → Result Written Reason
-output_of has command input = output_by has no_chance command input
+abbrev pub command_output : (List ℕ → Bool) → Command → List ℕ → Result Written Reason
+command_output has command input = output_by has no_chance command input
 
 -- the names of parties that the reason may mention. For a job they are those of the header, and
 -- none if the header isn't within its limits. For an audit and for several swaps they come with the
 -- refusal. For wishes there are none, since no reason there mentions a party by its number.
 unfoldable pub names_of : (List ℕ → Bool) → Command → List ℕ → List (List ℕ)
-names_of has (OfJob command) input = names_of_offer has (purpose_of command) input
-names_of has Audit input = names_told (audit_of input)
+names_of has (OfJob command) input = names_of_offer has (command_purpose command) input
+names_of has Audit input = names_told (audit_output input)
 names_of has Clear input = []
 names_of has Many input = names_told (many_output has (λ s k. None) input)

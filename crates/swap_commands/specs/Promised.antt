@@ -12,17 +12,17 @@ use Rattle.swap_rules.specs.Outcome.{IsEnded}
 use Rattle.swap_rules.specs.Laws.{FindsNothing, IsTransferred}
 use Rattle.swap_run.specs.Laws.{IsKept}
 use Rattle.swap_run.specs.Asked.{Answers}
-use Rattle.swap_world.specs.Cast.{cast_of}
+use Rattle.swap_world.specs.Cast.{job_cast}
 use Rattle.swap_world.specs.Gone.{MayGive}
 use Rattle.outcome_rules.specs.declared.report.Report.{Report}
 use Rattle.outcome_rules.specs.Report.{conforms_in}
 use Rattle.outcome_rules.specs.Promises.{AllAreConforming, AllAreWhole, AllHaveRefunds, NoneIsUnderwater, shown_outcome}
-use Rattle.swap_auditor.specs.Audit.{UnitsAddUp}
+use Rattle.swap_auditor.specs.Audit.{AreUnitsConserved}
 use Rattle.command_input.specs.Written.{Written}
 use Rattle.audit_command.specs.Promised.{IsAudit}
 use Rattle.refusals.specs.declared.reason.Reason.{Reason}
-use Rattle.swap_offer.specs.Job.{job_of}
-use Rattle.command_input.specs.Lines.{lines_of, filled_lines}
+use Rattle.swap_offer.specs.Job.{parse_job}
+use Rattle.command_input.specs.Lines.{collect_lines, filled_lines}
 use Rattle.swap_many.specs.Chains.{Setup}
 use Rattle.swap_many.specs.Many.{Run as ManyRun}
 use Rattle.swap_many.specs.Kept.{Kept}
@@ -33,11 +33,11 @@ use Rattle.swap_many.specs.declared.place.Place.{Place}
 use Rattle.many_lines.specs.Places.{job_at}
 use Rattle.many_lines.specs.Setup.{setup_by}
 use Rattle.many_lines.specs.declared.many_job.ManyJob.{ManyJob}
-use Rattle.many_text.specs.ManyText.{book_in, report_in}
+use Rattle.many_text.specs.ManyText.{swap_book, report_in}
 use Rattle.party_threads.specs.Race.{IsRaceBook}
 use Rattle.swap_commands.specs.Cleared.{IsClearing}
 use Rattle.swap_commands.specs.Many.{Headed, events_told, headed, many_state, many_written, opened_places, run_to}
-use Rattle.swap_commands.specs.Output.{AreGiven, Chance, book_of, state_of, purpose_of, report_for, reported, told}
+use Rattle.swap_commands.specs.Output.{AreGiven, Chance, collected_book, inside_state, command_purpose, story_report, reported, told}
 use Rattle.made_jobs.specs.Making.{IsMade}
 use Rattle.swap_commands.specs.Words.{Command, OfJob, Audit, Clear, Many, JobCommand, Check, Run, Race, Make}
 
@@ -45,8 +45,8 @@ use Rattle.swap_commands.specs.Words.{Command, OfJob, Audit, Clear, Many, JobCom
 pub record IsPromised (job : Job) (b : Histories) (r : Report) : Type 0 where
   pub accepted : IsAccepted job.deal
   -- whatever the others do, the book is legal and every conforming party is conducted
-  pub kept : IsKept (cast_of job) b
-  pub units : UnitsAddUp job.deal b
+  pub kept : IsKept (job_cast job) b
+  pub units : AreUnitsConserved job.deal b
   -- a conforming party that no finding endangers doesn't end underwater, and one that none strands has its refunds
   pub safe : NoneIsUnderwater job.deal job.conforming (shown_outcome r) r.findings
   pub refunds : AllHaveRefunds job.deal job.conforming b r.findings
@@ -62,26 +62,26 @@ pub record IsRun (gives : MayGive) (a : Answers) (transcript : Bool) (read : Res
   pub events : List Event
   pub is_read : read ≡ Ok (job, events)
   -- each answer is one that its strategy may give to what it was asked
-  pub given : AreGiven gives job.deal a (state_of a job events).asked
-  pub shown : output ≡ reported transcript job (book_of a job events)
-  pub promised : IsPromised job (book_of a job events) (report_for job (book_of a job events))
+  pub given : AreGiven gives job.deal a (inside_state a job events).asked
+  pub shown : output ≡ reported transcript job (collected_book a job events)
+  pub promised : IsPromised job (collected_book a job events) (story_report job (collected_book a job events))
   -- a fair finish ends every ledger
-  pub ended : job.finish ≡ Fair → IsEnded job.deal (book_of a job events)
+  pub ended : job.finish ≡ Fair → IsEnded job.deal (collected_book a job events)
   -- and where all conform and no event came before it, nothing is found
-  pub fair : job.finish ≡ Fair → events ≡ [] → AllAreConforming job.deal job.conforming → (report_for job (book_of a job events)).findings ≡ []
+  pub fair : job.finish ≡ Fair → events ≡ [] → AllAreConforming job.deal job.conforming → (story_report job (collected_book a job events)).findings ≡ []
 
 -- A race that wrote its output, the report or the transcript: its job, as it was read without an event, the book that it came to, and what it promises.
 pub record IsRace (gives : MayGive) (b : Histories) (ticks : ℕ) (transcript : Bool) (read : Result (Job × List Event) Reason) (output : Written) : Type 0 where
   pub job : Job
   pub is_read : read ≡ Ok (job, [])
   -- the book is what a race with `ticks` ticks a round makes, whatever the order of its threads
-  pub raced : IsRaceBook gives (cast_of job) ticks b
+  pub raced : IsRaceBook gives (job_cast job) ticks b
   pub shown : output ≡ reported transcript job b
-  pub promised : IsPromised job b (report_for job b)
+  pub promised : IsPromised job b (story_report job b)
   -- nobody is named late where two rounds' ticks fit in delta
-  pub on_time : 2 * ticks ≤ job.deal.delta → (v : ℕ) (rule : Rule) (a due : ℕ) → ¬ IsIn (Late v rule a due) (report_for job b).findings
+  pub on_time : 2 * ticks ≤ job.deal.delta → (v : ℕ) (rule : Rule) (a due : ℕ) → ¬ IsIn (Late v rule a due) (story_report job b).findings
   -- and where all conform besides, nothing is found
-  pub dealt : 2 * ticks ≤ job.deal.delta → AllAreConforming job.deal job.conforming → (report_for job b).findings ≡ []
+  pub dealt : 2 * ticks ≤ job.deal.delta → AllAreConforming job.deal job.conforming → (story_report job b).findings ≡ []
 
 -- A check that wrote its output: its job and its events, as they were read, and the deal is accepted.
 pub record IsCheck (read : Result (Job × List Event) Reason) (output : Written) : Type 0 where
@@ -102,7 +102,7 @@ pub record AreManyPromised (many : ManyJob) (m : Setup) (r : ManyRun) (z : Kept)
   -- the books, the heights, the free accounts and the swept slots are those of the histories
   pub follows : Follows m r z
   -- each swap promises what a run of it alone does
-  pub swaps : (s : ℕ) → s < length many.jobs → IsPromised (job_at many.jobs s) (book_in z s) (report_in z s (job_at many.jobs s))
+  pub swaps : (s : ℕ) → s < length many.jobs → IsPromised (job_at many.jobs s) (swap_book z s) (report_in z s (job_at many.jobs s))
   -- on each chain all units are in one place
   pub units : UnitsArePlacedIn m r
 
@@ -112,7 +112,7 @@ pub record IsManyRun (has : List ℕ → Bool) (gives : MayGive) (g : ℕ → An
   pub head : Headed
   pub events : List ManyEvent
   pub places : List (List Place)
-  pub is_headed : headed has (filled_lines 1 (lines_of input)) ≡ Ok head
+  pub is_headed : headed has (filled_lines 1 (collect_lines input)) ≡ Ok head
   pub are_told : events_told head.many 0 head.lines ≡ Ok events
   pub are_placed : opened_places head.many ≡ Ok places
   -- each answer is one that its strategy may give to what it was asked
@@ -122,7 +122,7 @@ pub record IsManyRun (has : List ℕ → Bool) (gives : MayGive) (g : ℕ → An
       (many_state g head.many places head.finish events)
   -- a fair finish ends every ledger of every swap
   pub ended : head.finish ≡ Fair → (s : ℕ) → s < length head.many.jobs
-      → IsEnded (job_at head.many.jobs s).deal (book_in (many_state g head.many places head.finish events) s)
+      → IsEnded (job_at head.many.jobs s).deal (swap_book (many_state g head.many places head.finish events) s)
 
 -- what the output of a command promises, by what was read of a job
 abbrev pub AsRead : MayGive → Chance → JobCommand → Result (Job × List Event) Reason → Written → Type 0
@@ -133,7 +133,7 @@ AsRead gives chance Make read output = IsMaking read output
 
 -- what the output of a command promises for an input, where chance decided so
 abbrev pub AsPromised : (List ℕ → Bool) → MayGive → Chance → Command → List ℕ → Written → Type 0
-AsPromised has gives chance (OfJob command) input output = AsRead gives chance command (job_of has (purpose_of command) input) output
+AsPromised has gives chance (OfJob command) input output = AsRead gives chance command (parse_job has (command_purpose command) input) output
 AsPromised has gives chance Audit input output = IsAudit input output
 AsPromised has gives chance Clear input output = IsClearing input output
 AsPromised has gives chance Many input output = IsManyRun has gives chance.many input output

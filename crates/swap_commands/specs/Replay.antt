@@ -7,23 +7,23 @@ use Rattle.swap_job.specs.declared.job.Purpose.{Purpose}
 use Rattle.swap_job.specs.declared.job.Purpose.TheVariants as purposes
 use Rattle.refusals.specs.declared.reason.Reason.{Reason}
 use Rattle.refusals.specs.declared.reason.Reason.TheVariants.{NotJson}
-use Rattle.swap_offer.specs.Job.{events_of, limited_event, job_header_of}
-use Rattle.command_input.specs.Lines.{lines_of, filled_lines}
+use Rattle.swap_offer.specs.Job.{parse_events, limited_event, job_header_of}
+use Rattle.command_input.specs.Lines.{collect_lines, filled_lines}
 use Rattle.swap_run.specs.Asked.{Answers}
 use Rattle.swap_run.specs.Run.{State, step, start}
 use Rattle.ledger_core.specs.Book.{Histories}
 use Rattle.swap_world.specs.Gone.{MayGive}
-use Rattle.swap_world.specs.Cast.{cast_of}
+use Rattle.swap_world.specs.Cast.{job_cast}
 use Rattle.swap_world.specs.Value.{Continues, WorldState}
 use Rattle.swap_gen.specs.Made.{made}
 use Rattle.made_jobs.specs.Making.{copied, written_line}
-use Rattle.swap_commands.specs.Output.{AreGiven, Chance, cast_by, finished, plain_text, reported, told}
+use Rattle.swap_commands.specs.Output.{AreGiven, Chance, command_cast, finished, plain_text, reported, told}
 use Rattle.command_input.specs.Written.{Written}
 use Rattle.swap_commands.specs.Words.{JobCommand, Check, Run, Race, Make}
 
 -- what f makes of x along the events of lines; `n` events came before
 unfoldable pub replayed : {A : Type 0} → (A → Event → A) → Job → ℕ → A → List (ℕ × List ℕ) → Result A Reason
-replayed f job count x lines = events_of job count lines >>= λ events. Ok (fold f x events)
+replayed f job count x lines = parse_events job count lines >>= λ events. Ok (fold f x events)
 
 -- what f makes of x by the event of a line
 unfoldable pub next_by : {A : Type 0} → (A → Event → A) → Job → ℕ → A → ℕ → List ℕ → Result A Reason
@@ -33,8 +33,8 @@ next_by f job count x line text = limited_event job count line text >>= λ e. Ok
 pub record IsConcluded (gives : MayGive) (job : Job) (w : WorldState) (b : Histories) : Type 0 where
   pub answers : Answers
   pub continues : Continues w answers
-  pub given : AreGiven gives job.deal answers (finished job.finish (cast_by answers job) w.state).asked
-  pub book : b ≡ (finished job.finish (cast_by answers job) w.state).book
+  pub given : AreGiven gives job.deal answers (finished job.finish (command_cast answers job) w.state).asked
+  pub book : b ≡ (finished job.finish (command_cast answers job) w.state).book
 
 -- an event is read and passed over
 abbrev pub passed_over : Unit {0} → Event → Unit {0}
@@ -46,13 +46,13 @@ pub record IsRead {A : Type 0} (has : List ℕ → Bool) (purpose : Purpose) (wa
   pub line : ℕ
   pub text : List ℕ
   pub others : List (ℕ × List ℕ)
-  pub lines : filled_lines 1 (lines_of bytes) ≡ (line, text) ∷ others
+  pub lines : filled_lines 1 (collect_lines bytes) ≡ (line, text) ∷ others
   pub header : job_header_of has purpose line text ≡ Ok job
   pub leads : walk job others ≡ Ok y
 
 -- the bytes are a job, and its events lead to the state, where strategies answer a
 abbrev pub IsPlayed : (List ℕ → Bool) → Answers → List ℕ → Job → State → Type 0
-IsPlayed has a bytes job s = IsRead has purposes.Run (λ job. replayed (step (cast_by a job)) job 0 (start (cast_of job))) bytes job s
+IsPlayed has a bytes job s = IsRead has purposes.Run (λ job. replayed (step (command_cast a job)) job 0 (start (job_cast job))) bytes job s
 
 -- the bytes are a job with its events
 abbrev pub IsChecked : (List ℕ → Bool) → List ℕ → Job → Type 0
@@ -70,8 +70,8 @@ IsCopied has bytes job text = IsRead has purposes.Make (λ job. copied 0 (writte
 unfoldable pub of_run : (List ℕ → Bool) → Answers → Bool → ℕ → List ℕ → List (ℕ × List ℕ) → Result Written Reason
 of_run has a transcript line text ls = do
   job ← job_header_of has purposes.Run line text
-  s ← replayed (step (cast_by a job)) job 0 (start (cast_of job)) ls
-  Ok (reported transcript job (finished job.finish (cast_by a job) s).book)
+  s ← replayed (step (command_cast a job)) job 0 (start (job_cast job)) ls
+  Ok (reported transcript job (finished job.finish (command_cast a job) s).book)
 
 -- what a race writes that comes to the book b
 unfoldable pub of_race : (List ℕ → Bool) → Histories → Bool → ℕ → List ℕ → List (ℕ × List ℕ) → Result Written Reason

@@ -1,4 +1,4 @@
--- What a command's status says, where output_of and names_of tell what the command writes for an input.
+-- What a command's status says, where command_output and names_of tell what the command writes for an input.
 use Rattle.std.specs.Prelude.{◌≡◌, ◌≤◌, ◌+◌, ◌⊎◌, ℕ, Bool, true, false, List, length, Option, Result, Ok, Err}
 use Rattle.std.specs.Io.KnownBytes.{Consumes, IsAtEnd, Keeps}
 use Rattle.swap_io.specs.Causes.{ConsumesAtMost, ConsumesSome, AppendsProperPrefix}
@@ -8,7 +8,7 @@ use Rattle.refusals.specs.declared.refusal.Refusal.{Refusal}
 use Rattle.command_input.specs.Written.{IsWrittenWhole, Written}
 use Rattle.command_input.specs.Input.{limit}
 use Rattle.swap_world.specs.Gone.{MayGive}
-use Rattle.swap_commands.specs.Output.{Chance, output_by, output_of, no_chance, names_of}
+use Rattle.swap_commands.specs.Output.{Chance, output_by, command_output, no_chance, names_of}
 use Rattle.swap_commands.specs.Promised.{AsPromised}
 use Rattle.swap_commands.specs.Words.{Command}
 use Rattle.swap_commands.specs.Strategies.{Strategies}
@@ -40,7 +40,7 @@ pub record HasReason (has : List ℕ → Bool) (command : Command) (left left' :
 
 -- a reason against an input, with the names in its header
 abbrev pub IsAgainst : (List ℕ → Bool) → Command → List ℕ → Refusal → Type 0
-IsAgainst has command input refusal = (output_of has command input ≡ Err refusal.reason) × (refusal.names ≡ names_of has command input)
+IsAgainst has command input refusal = (command_output has command input ≡ Err refusal.reason) × (refusal.names ≡ names_of has command input)
 
 -- what a status says, by the source and the sink before and after
 abbrev pub Says : Strategies → Command → Streams → Streams → Status → Type 0

@@ -1,6 +1,6 @@
 -- The commands that read an input, and what the words ask for.
 use Rattle.std.specs.Prelude.{◌≡◌, ℕ, Bool, true, false, List, Option, Some, None, option_and_then}
-use Rattle.program_words.specs.Words.{task_of}
+use Rattle.program_words.specs.Words.{task_text}
 use Rattle.program_words.specs.declared.task.Order.{Order}
 use Rattle.program_words.specs.declared.task.Order.TheVariants as orders
 use Rattle.program_words.specs.declared.task.Request.{Request}
@@ -31,24 +31,24 @@ ordered orders.Clear = Clear
 ordered orders.Many = Many
 
 -- the command of a task, where it reads an input
-abbrev pub command_in : Task → Option Command
-command_in (tasks.Input order) = Some (ordered order)
-command_in (tasks.Race ticks transcript) = Some (OfJob (Race ticks transcript))
-command_in (tasks.Number request) = None
+abbrev pub task_command : Task → Option Command
+task_command (tasks.Input order) = Some (ordered order)
+task_command (tasks.Race ticks transcript) = Some (OfJob (Race ticks transcript))
+task_command (tasks.Number request) = None
 
 -- the number's job that a task asks for
-abbrev pub request_in : Task → Option Request
-request_in (tasks.Input order) = None
-request_in (tasks.Race ticks transcript) = None
-request_in (tasks.Number request) = Some request
+abbrev pub task_request : Task → Option Request
+task_request (tasks.Input order) = None
+task_request (tasks.Race ticks transcript) = None
+task_request (tasks.Number request) = Some request
 
 -- the command that the words ask for, where it reads an input
-abbrev pub command_of : List (List ℕ) → Option Command
-command_of words = option_and_then command_in (task_of words)
+abbrev pub words_command : List (List ℕ) → Option Command
+words_command words = option_and_then task_command (task_text words)
 
 -- the job of a number that the words ask for
-abbrev pub request_of : List (List ℕ) → Option Request
-request_of words = option_and_then request_in (task_of words)
+abbrev pub words_request : List (List ℕ) → Option Request
+words_request words = option_and_then task_request (task_text words)
 
 -- whether the command is a race
 abbrev pub is_race : Command → Bool
@@ -59,4 +59,4 @@ is_race _ = false
 pub record AsksRace (words : List (List ℕ)) : Type 0 where
   pub ticks : ℕ
   pub transcript : Bool
-  pub asks : command_of words ≡ Some (OfJob (Race ticks transcript))
+  pub asks : words_command words ≡ Some (OfJob (Race ticks transcript))

@@ -3,7 +3,7 @@
 ghost use Rattle.std.specs.Prelude.{◌≡◌, IfOk, IfErr};
 ghost use Rattle.swap_digraph.specs.Deal.{IsWellSized};
 ghost use Rattle.swap_rules.specs.Accepted.{IsAccepted};
-ghost use Rattle.swap_offer.specs.Checks.{need_of};
+ghost use Rattle.swap_offer.specs.Checks.{deal_need};
 ghost use Rattle.command_input.specs.Input.{Ends, Stops, desk, fresh};
 ghost use Rattle.command_input.specs.Written.{Writes};
 ghost use Rattle.command_input.specs.Streams.{streams};
@@ -14,7 +14,7 @@ ghost use Rattle.swap_commands.specs.Words.{Check, OfJob};
 ghost use Rattle.swap_commands.specs.Strategies.{strategies};
 
 use crate::header::first_line;
-use crate::replay::pass_over;
+use crate::replay::skip_events;
 use command_input::{Input, InputFault, Status, unread};
 use deviators::Strategies;
 use refusals::Refusal;
@@ -24,13 +24,13 @@ use swap_digraph::Deal;
 use swap_io::{Sink, Source, write_all};
 use swap_job::{Job, Purpose};
 use swap_offer::Prepared;
-use time_bounds::{horizon, last_expiry, open_by};
+use time_bounds::{horizon, last_expiry, opening_deadline};
 
 /// What a check writes for an accepted deal.
 #[tactic(auto, unfolding(crate::specs::Output::check_text))]
 fn check_text(alloc: Global, deal: &Deal, need: u32) -> Result<ByteText, NoMemory>
     requires sized { IsWellSized deal.now }
-    requires need { need ≡ need_of deal.now }
+    requires need { need ≡ deal_need deal.now }
     ensures { IfOk result (λ t. t ≡ check_text deal.now) }
 {
     let mut out = Vec::new(alloc);
@@ -40,7 +40,7 @@ fn check_text(alloc: Global, deal: &Deal, need: u32) -> Result<ByteText, NoMemor
             Piece::Text("swap accepted\nneed "),
             Piece::Number(need as u64),
             Piece::Text("\nopen by "),
-            Piece::Number(open_by(deal.start, deal.delta, deal.bound)),
+            Piece::Number(opening_deadline(deal.start, deal.delta, deal.bound)),
             Piece::Text("\nexpiry "),
             Piece::Number(last_expiry(deal.start, deal.delta, deal.bound)),
             Piece::Text("\nhorizon "),
@@ -63,13 +63,13 @@ fn examine<S: Source, A: Strategies>(
         (desk (S.left source.new) (S.faults source.new) input.new)) }
     ensures accepted { IfOk result (λ j. IsAccepted j.0.deal) }
     ensures sized { IfOk result (λ j. IsWellSized j.0.deal) }
-    ensures need { IfOk result (λ j. j.1 ≡ need_of j.0.deal) }
+    ensures need { IfOk result (λ j. j.1 ≡ deal_need j.0.deal) }
     ensures stops { IfErr result (λ e. Stops (IsAgainst (A.holds staff.now) (OfJob Check))
         (desk (S.left source.old) (S.faults source.old) fresh)
         (desk (S.left source.new) (S.faults source.new) input.new) e) }
 {
     let Prepared { job, need, .. } = first_line(alloc, staff, Purpose::Check, input, source)?;
-    match pass_over(alloc, &job, input, source) {
+    match skip_events(alloc, &job, input, source) {
         Ok(()) => Ok((job, need)),
         Err(fault) => Err(fault.with_names(job.names)),
     }
@@ -78,7 +78,7 @@ fn examine<S: Source, A: Strategies>(
 /// Writes the text of a checked offer.
 fn tell<K: Sink>(alloc: Global, sink: &mut K, job: &Job, need: u32) -> Status
     requires sized { IsWellSized job.now.deal }
-    requires need { need ≡ need_of job.now.deal }
+    requires need { need ≡ deal_need job.now.deal }
     ensures { Writes (K.taken sink.old) (K.taken sink.new) (K.faults sink.old) (K.faults sink.new) (told job.now) result }
 {
     let Ok(text) = check_text(alloc, &job.deal, need) else {

@@ -4,7 +4,7 @@ ghost use Rattle.std.specs.Prelude.{◌≡◌, false, OnOk};
 ghost use Rattle.swap_rules.specs.Outcome.{IsEnded};
 ghost use Rattle.swap_rules.specs.Laws.{IsDealt};
 ghost use Rattle.swap_run.specs.Run.{start};
-ghost use Rattle.swap_world.specs.Cast.{cast_of};
+ghost use Rattle.swap_world.specs.Cast.{job_cast};
 ghost use Rattle.swap_world.specs.Gone.{HasGone};
 ghost use Rattle.swap_world.specs.Actors.{AreHeld};
 ghost use Rattle.outcome_rules.specs.Report.{conforms_in};
@@ -24,7 +24,7 @@ pub(crate) fn finish<A: Strategies>(world: &mut World, staff: &A, job: &Job) -> 
     requires goes_on { world.old.stopped ≡ false }
     ensures gone { OnOk result (HasGone (A.gives staff.now) (finished job.now.finish) world.old world.new) }
     ensures ended { OnOk result (job.now.finish ≡ Finish.Fair → IsEnded job.now.deal world.new.state.book) }
-    ensures dealt { OnOk result (job.now.finish ≡ Finish.Fair → world.old.state ≡ start (cast_of job.now) → AllAreConforming job.now.deal job.now.conforming
+    ensures dealt { OnOk result (job.now.finish ≡ Finish.Fair → world.old.state ≡ start (job_cast job.now) → AllAreConforming job.now.deal job.now.conforming
         → IsDealt job.now.deal (conforms_in job.now.conforming) world.new.state.book) }
 {
     match job.finish {

@@ -3,11 +3,11 @@
 ghost use Rattle.std.specs.Prelude.{◌≡◌, Ok, IfOk, IfErr, OnOk};
 ghost use Rattle.offer_header.specs.Limits.{HoldsEach};
 ghost use Rattle.offer_header.specs.Names.{AreNames, has_strategy};
-ghost use Rattle.swap_offer.specs.Checks.{need_of, IsAcceptedFor};
+ghost use Rattle.swap_offer.specs.Checks.{deal_need, IsAcceptedFor};
 ghost use Rattle.swap_offer.specs.Job.{IsWholeJob, job_header_of, names_at};
-ghost use Rattle.swap_offer.specs.Wallets.{HaveScriptsFor, HaveSeedsFor, HaveWalletsFor, wallets_for};
+ghost use Rattle.swap_offer.specs.Wallets.{HaveScriptsFor, HaveSeedsFor, HaveWalletsFor, prepared_wallets};
 ghost use Rattle.command_input.specs.Input.{IsLine, Stops, desk, fresh};
-ghost use Rattle.swap_commands.specs.Output.{purpose_of};
+ghost use Rattle.swap_commands.specs.Output.{command_purpose};
 ghost use Rattle.swap_commands.specs.Says.{IsAgainst};
 ghost use Rattle.swap_commands.specs.Words.{JobCommand, OfJob};
 
@@ -21,7 +21,7 @@ use swap_job::Purpose;
 use swap_offer::{Prepared, read_header};
 
 /// The job of an input's header, where these are the names of the strategies.
-fn first_among<S: Source>(
+fn prepare_first<S: Source>(
     alloc: Global,
     strategies: &[ByteText],
     purpose: Purpose,
@@ -43,10 +43,10 @@ fn first_among<S: Source>(
     ensures wallets { IfOk result (λ p. HaveWalletsFor purpose p.job) }
     ensures strategies { IfOk result (λ p. HoldsEach (has_strategy strategies.now) p.job.roles) }
     ensures scripts { IfOk result (λ p. HaveScriptsFor purpose p.job) }
-    ensures made { IfOk result (λ p. p.wallets.items ≡ wallets_for purpose p.job) }
-    ensures need { IfOk result (λ p. p.need ≡ need_of p.job.deal) }
+    ensures made { IfOk result (λ p. p.wallets.items ≡ prepared_wallets purpose p.job) }
+    ensures need { IfOk result (λ p. p.need ≡ deal_need p.job.deal) }
     // Whatever command of that purpose.
-    ensures stops { (command : JobCommand) → purpose ≡ purpose_of command
+    ensures stops { (command : JobCommand) → purpose ≡ command_purpose command
         → IfErr result (λ e. Stops (IsAgainst (has_strategy strategies.now) (OfJob command)) (desk (S.left source.old) (S.faults source.old) fresh)
         (desk (S.left source.new) (S.faults source.new) input.new) e) }
 {
@@ -81,13 +81,13 @@ pub(crate) fn first_line<S: Source, A: Strategies>(
     ensures wallets { IfOk result (λ p. HaveWalletsFor purpose p.job) }
     ensures strategies { IfOk result (λ p. HoldsEach (A.holds staff.now) p.job.roles) }
     ensures scripts { IfOk result (λ p. HaveScriptsFor purpose p.job) }
-    ensures made { IfOk result (λ p. p.wallets.items ≡ wallets_for purpose p.job) }
-    ensures need { IfOk result (λ p. p.need ≡ need_of p.job.deal) }
+    ensures made { IfOk result (λ p. p.wallets.items ≡ prepared_wallets purpose p.job) }
+    ensures need { IfOk result (λ p. p.need ≡ deal_need p.job.deal) }
     // Whatever command of that purpose.
-    ensures stops { (command : JobCommand) → purpose ≡ purpose_of command
+    ensures stops { (command : JobCommand) → purpose ≡ command_purpose command
         → IfErr result (λ e. Stops (IsAgainst (A.holds staff.now) (OfJob command)) (desk (S.left source.old) (S.faults source.old) fresh)
         (desk (S.left source.new) (S.faults source.new) input.new) e) }
 {
     let strategies = staff.names()?;
-    first_among(alloc, strategies.as_slice(), purpose, input, source)
+    prepare_first(alloc, strategies.as_slice(), purpose, input, source)
 }

@@ -3,9 +3,9 @@
 ghost use Rattle.std.specs.Prelude.{◌≡◌, ◌<◌, IfOk, IfErr, OnOk, Err, length, map, slice_index_or, is_some, [], true};
 ghost use Rattle.swap_base.specs.Fault.{Fails};
 ghost use Rattle.offer_header.specs.Names.{has_strategy};
-ghost use Rattle.swap_offer.specs.Wallets.{wallets_for};
+ghost use Rattle.swap_offer.specs.Wallets.{prepared_wallets};
 ghost use Rattle.swap_world.specs.Value.{new_world};
-ghost use Rattle.swap_many.specs.Value.{AreAllHeld, HasManyGone, kept_of};
+ghost use Rattle.swap_many.specs.Value.{AreAllHeld, HasManyGone, kept_state};
 ghost use Rattle.many_lines.specs.Heading.{finish_told};
 ghost use Rattle.many_lines.specs.Event.{next_told};
 ghost use Rattle.many_lines.specs.Whole.{AreChains, AreSwaps, HoldsEverySwap};
@@ -23,7 +23,7 @@ ghost use Rattle.swap_commands.specs.Strategies.{strategies};
 use crate::replay::new_world;
 use command_input::{Input, InputFault, Status, unread};
 use deviators::Strategies;
-use many_lines::{Heading, ManyJob, next_many, places_of};
+use many_lines::{Heading, ManyJob, find_places, next_many};
 use many_text::write_many;
 use party_wallet::Wallet;
 use refusals::{HeaderFault, Reason, Refusal, nameless};
@@ -50,7 +50,7 @@ fn cut_short(alloc: Global) -> InputFault<Refusal>
 }
 
 /// The lines before the events, where these are the names of the strategies.
-fn heading_among<S: Source>(
+fn read_checked_heading<S: Source>(
     alloc: Global,
     strategies: &[ByteText],
     input: &mut Input,
@@ -92,7 +92,7 @@ fn read_heading<S: Source, A: Strategies>(
         (desk (S.left source.new) (S.faults source.new) input.new) e) }
 {
     let strategies = staff.names()?;
-    heading_among(alloc, strategies.as_slice(), input, source)
+    read_checked_heading(alloc, strategies.as_slice(), input, source)
 }
 
 /// A copy of the name of an account.
@@ -126,7 +126,7 @@ fn new_worlds(
     wallets: Vec<Vec<Option<Wallet>>>,
 ) -> Result<Vec<World>, NoMemory>
     requires swaps { AreSwaps many.now }
-    requires made { map (λ v. v.items) wallets.items ≡ map (wallets_for Purpose.Run) many.now.jobs }
+    requires made { map (λ v. v.items) wallets.items ≡ map (prepared_wallets Purpose.Run) many.now.jobs }
     ensures { IfOk result (λ v. v.items ≡ map new_world many.now.jobs) }
 {
     let jobs = many.jobs.as_slice();
@@ -146,11 +146,11 @@ fn open(
 ) -> Result<ManyWorld, HeaderFault>
     requires chains { AreChains many.now }
     requires swaps { AreSwaps many.now }
-    requires made { map (λ v. v.items) wallets.items ≡ map (wallets_for Purpose.Run) many.now.jobs }
+    requires made { map (λ v. v.items) wallets.items ≡ map (prepared_wallets Purpose.Run) many.now.jobs }
     ensures opened { IfOk result (IsOpened many.now) }
     ensures refused { IfErr result (λ e. Fails e (opened_places many.now)) }
 {
-    let places = places_of(alloc, many)?;
+    let places = find_places(alloc, many)?;
     let worlds = new_worlds(alloc, many, wallets)?;
     match ManyWorld::new(alloc, many.units.as_slice(), worlds, places) {
         Ok(world) => Ok(world),
@@ -218,7 +218,7 @@ fn replay<S: Source, A: Strategies>(
 }
 
 /// Reads the events of the lines ahead.
-fn pass_over<S: Source>(
+fn skip_events<S: Source>(
     alloc: Global,
     many: &ManyJob,
     input: &mut Input,
@@ -257,7 +257,7 @@ fn refuse<S: Source>(
     ensures stops { Stops (λ bytes r. opened_after many.now (ahead input.old bytes) ≡ Err r) (desk (S.left source.old) (S.faults source.old) input.old)
         (desk (S.left source.new) (S.faults source.new) input.new) result }
 {
-    match pass_over(alloc, many, input, source) {
+    match skip_events(alloc, many, input, source) {
         Ok(()) => InputFault::Refused(refusal),
         Err(fault) => fault,
     }
@@ -274,7 +274,7 @@ fn run_events<S: Source, A: Strategies>(
 ) -> Result<ManyWorld, InputFault<Refusal>>
     requires chains { AreChains many.now }
     requires swaps { AreSwaps many.now }
-    requires made { map (λ v. v.items) wallets.items ≡ map (wallets_for Purpose.Run) many.now.jobs }
+    requires made { map (λ v. v.items) wallets.items ≡ map (prepared_wallets Purpose.Run) many.now.jobs }
     requires held { HoldsEverySwap (A.holds staff.now) many.now }
     requires fits { Fits (S.left source.old) input.old }
     ensures run { IfOk result (λ w. AreRun (A.gives staff.now) many.now w (desk (S.left source.old) (S.faults source.old) input.old)
@@ -346,7 +346,7 @@ fn conclude<A: Strategies>(
 fn tell<K: Sink>(alloc: Global, sink: &mut K, many: &ManyJob, world: &ManyWorld) -> Status
     requires shown { AreShown world.now many.now.jobs }
     requires chains { AreChainsShown world.now many.now.names }
-    ensures { Writes (K.taken sink.old) (K.taken sink.new) (K.faults sink.old) (K.faults sink.new) (many_written many.now (kept_of world.now)) result }
+    ensures { Writes (K.taken sink.old) (K.taken sink.new) (K.faults sink.old) (K.faults sink.new) (many_written many.now (kept_state world.now)) result }
 {
     match write_many(
         alloc,

@@ -2,7 +2,7 @@
 
 ghost use Rattle.std.specs.Prelude.{◌≡◌, ◌≤◌, ℕ, Bool, List, Option, IfOk, IfErr, IsErrOf};
 ghost use Rattle.swap_rules.specs.Accepted.{IsAccepted};
-ghost use Rattle.party_wallet.specs.Wallets.{wallets_of};
+ghost use Rattle.party_wallet.specs.Wallets.{new_wallets};
 ghost use Rattle.offer_header.specs.Names.{AreNames};
 ghost use Rattle.swap_offer.specs.Job.{IsWholeJob};
 ghost use Rattle.swap_offer.specs.Wallets.{HaveScripts, HaveWallets};
@@ -16,7 +16,7 @@ ghost use Rattle.swap_commands.specs.Words.{OfJob, Race};
 ghost use Rattle.swap_commands.specs.Strategies.{strategies};
 
 use crate::header::first_line;
-use crate::replay::pass_over;
+use crate::replay::skip_events;
 use crate::run::tell;
 use command_input::{Input, InputFault, Status};
 use deviators::Strategies;
@@ -48,14 +48,14 @@ fn read_job<S: Source, A: Strategies>(
     ensures accepted { IfOk result (λ e. IsAccepted e.0.deal) }
     ensures scripts { IfOk result (λ e. HaveScripts e.0) }
     ensures fit { IfOk result (λ e. HaveWallets e.0) }
-    ensures made { IfOk result (λ e. e.1.items ≡ wallets_of e.0.deal e.0.conforming e.0.seeds) }
+    ensures made { IfOk result (λ e. e.1.items ≡ new_wallets e.0.deal e.0.conforming e.0.seeds) }
     // The reason depends neither on the race's ticks nor on the text that is asked for.
     ensures stops { (ticks : ℕ) (transcript : Bool) → IfErr result (λ e.
         Stops (IsAgainst (A.holds staff.now) (OfJob (Race ticks transcript))) (desk (S.left source.old) (S.faults source.old) fresh)
         (desk (S.left source.new) (S.faults source.new) input.new) e) }
 {
     let Prepared { job, wallets, .. } = first_line(alloc, staff, Purpose::Race, input, source)?;
-    match pass_over(alloc, &job, input, source) {
+    match skip_events(alloc, &job, input, source) {
         Ok(()) => Ok((job, wallets)),
         Err(fault) => Err(fault.with_names(job.names)),
     }

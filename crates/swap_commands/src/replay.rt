@@ -4,18 +4,18 @@ ghost use Rattle.std.specs.Prelude.{◌≡◌, true, false, Ok, Err, IfOk, IfErr
 ghost use Rattle.swap_base.specs.Fault.{Gives};
 ghost use Rattle.swap_rules.specs.Accepted.{IsAccepted};
 ghost use Rattle.swap_run.specs.Run.{start, step};
-ghost use Rattle.party_wallet.specs.Wallets.{wallets_of};
+ghost use Rattle.party_wallet.specs.Wallets.{new_wallets};
 ghost use Rattle.offer_events.specs.Event.{needs_seeds};
 ghost use Rattle.swap_offer.specs.Job.{IsWholeJob};
 ghost use Rattle.swap_offer.specs.Wallets.{HaveScripts, HaveWallets};
 ghost use Rattle.swap_run.specs.Asked.{Answers};
-ghost use Rattle.swap_world.specs.Cast.{cast_of};
+ghost use Rattle.swap_world.specs.Cast.{job_cast};
 ghost use Rattle.swap_world.specs.Gone.{HasAsked};
 ghost use Rattle.swap_world.specs.Actors.{AreHeld};
 ghost use Rattle.swap_world.specs.Value.{Continues, new_world};
 ghost use Rattle.command_input.specs.Input.{Ends, Fits, Stops, ahead, desk};
 ghost use Rattle.made_jobs.specs.Generating.{IsOf};
-ghost use Rattle.swap_commands.specs.Output.{cast_by};
+ghost use Rattle.swap_commands.specs.Output.{command_cast};
 ghost use Rattle.swap_commands.specs.Replay.{replayed, next_by, passed_over};
 
 use command_input::{Input, InputFault};
@@ -47,7 +47,7 @@ fn step_line<A: Strategies>(
     requires held { AreHeld (A.holds staff.now) job.now.roles }
     ensures passed { Gives (λ u. u) result (next_by passed_over job.now count tt line text.now) }
     ensures stepped { OnOk result ((a : Answers) → Continues world.new a
-        → next_by (step (cast_by a job.now)) job.now count world.old.state line text.now ≡ Ok world.new.state) }
+        → next_by (step (command_cast a job.now)) job.now count world.old.state line text.now ≡ Ok world.new.state) }
     ensures continued { OnOk result ((a : Answers) → Continues world.new a → Continues world.old a) }
     ensures asked { OnOk result (HasAsked (A.gives staff.now) world.old world.new) }
     ensures of { OnOk result (IsOf job.now world.new) }
@@ -68,7 +68,7 @@ pub(crate) fn new_world(
     requires accepted { IsAccepted job.now.deal }
     requires wallets { HaveWallets job.now }
     requires scripts { HaveScripts job.now }
-    requires made { wallets.items ≡ wallets_of job.now.deal job.now.conforming job.now.seeds }
+    requires made { wallets.items ≡ new_wallets job.now.deal job.now.conforming job.now.seeds }
     ensures new { IfOk result (λ w. w ≡ new_world job.now) }
 {
     World::fitting(alloc, job, wallets)
@@ -88,12 +88,12 @@ pub(crate) fn replay<S: Source, A: Strategies>(
     requires accepted { IsAccepted job.now.deal }
     requires wallets { HaveWallets job.now }
     requires scripts { HaveScripts job.now }
-    requires made { wallets.items ≡ wallets_of job.now.deal job.now.conforming job.now.seeds }
+    requires made { wallets.items ≡ new_wallets job.now.deal job.now.conforming job.now.seeds }
     requires held { AreHeld (A.holds staff.now) job.now.roles }
     requires fits { Fits (S.left source.old) input.old }
     // Whatever strategies may answer after the last event.
     ensures exact { IfOk result (λ w. (a : Answers) → Continues w a
-        → Ends (λ bytes. replayed (step (cast_by a job.now)) job.now 0 (start (cast_of job.now)) (ahead input.old bytes) ≡ Ok w.state)
+        → Ends (λ bytes. replayed (step (command_cast a job.now)) job.now 0 (start (job_cast job.now)) (ahead input.old bytes) ≡ Ok w.state)
         (desk (S.left source.old) (S.faults source.old) input.old)
         (desk (S.left source.new) (S.faults source.new) input.new)) }
     ensures asked { IfOk result (λ w. HasAsked (A.gives staff.now) (new_world job.now) w) }
@@ -131,7 +131,7 @@ fn pass_line(alloc: Global, job: &Job, count: u32, line: u32, text: &[u8]) -> Re
 }
 
 /// Reads the events of the lines ahead.
-pub(crate) fn pass_over<S: Source>(
+pub(crate) fn skip_events<S: Source>(
     alloc: Global,
     job: &Job,
     input: &mut Input,

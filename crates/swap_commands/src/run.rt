@@ -15,7 +15,7 @@ ghost use Rattle.outcome_rules.specs.Promises.{AllAreConforming};
 ghost use Rattle.swap_run.specs.Run.{start};
 ghost use Rattle.swap_run.specs.Laws.{IsKept};
 ghost use Rattle.swap_run.specs.Asked.{Answers};
-ghost use Rattle.swap_world.specs.Cast.{cast_of};
+ghost use Rattle.swap_world.specs.Cast.{job_cast};
 ghost use Rattle.swap_world.specs.Gone.{HasAsked};
 ghost use Rattle.swap_world.specs.Actors.{AreHeld};
 ghost use Rattle.swap_world.specs.Value.{Continues, new_world};
@@ -24,7 +24,7 @@ ghost use Rattle.command_input.specs.Input.{Ends, Stops, desk, fresh};
 ghost use Rattle.command_input.specs.Written.{Writes};
 ghost use Rattle.command_input.specs.Streams.{streams};
 ghost use Rattle.made_jobs.specs.Generating.{IsOf};
-ghost use Rattle.swap_commands.specs.Output.{report_for, reported, run_text};
+ghost use Rattle.swap_commands.specs.Output.{story_report, reported, run_text};
 ghost use Rattle.swap_commands.specs.Replay.{IsConcluded, IsPlayed};
 ghost use Rattle.swap_commands.specs.Says.{IsAgainst, Says};
 ghost use Rattle.swap_commands.specs.Words.{OfJob, Run};
@@ -36,7 +36,7 @@ use crate::replay::replay;
 use command_input::{Input, InputFault, Status, unread};
 use deviators::Strategies;
 use ledger_core::Book;
-use outcome_rules::{Report, report_of};
+use outcome_rules::{Report, build_report};
 use refusals::Refusal;
 use report_text::write_report;
 use std::alloc::Global;
@@ -91,9 +91,9 @@ fn conclude<A: Strategies>(
     requires of { IsOf job.now world }
     requires goes_on { world.stopped ≡ false }
     ensures book { IfOk result (λ b. IsConcluded (A.gives staff.now) job.now world b.histories) }
-    ensures kept { IfOk result (λ b. IsKept (cast_of job.now) b.histories) }
+    ensures kept { IfOk result (λ b. IsKept (job_cast job.now) b.histories) }
     ensures ended { IfOk result (λ b. job.now.finish ≡ Finish.Fair → IsEnded job.now.deal b.histories) }
-    ensures dealt { IfOk result (λ b. job.now.finish ≡ Finish.Fair → world.state ≡ start (cast_of job.now) → AllAreConforming job.now.deal job.now.conforming
+    ensures dealt { IfOk result (λ b. job.now.finish ≡ Finish.Fair → world.state ≡ start (job_cast job.now) → AllAreConforming job.now.deal job.now.conforming
         → IsDealt job.now.deal (conforms_in job.now.conforming) b.histories) }
 {
     finish(&mut world, staff, job)?;
@@ -113,7 +113,7 @@ fn write_text<K: Sink>(
     requires names { AreNames job.now.names }
     requires shown { is_make job.now.purpose ≡ false }
     requires legal { IsLegalBook job.now.deal book.now.histories }
-    requires report { report.now ≡ report_for job.now book.now.histories }
+    requires report { report.now ≡ story_report job.now book.now.histories }
     ensures all { OnOk result (Appends (K.taken sink.old) (K.taken sink.new) (run_text transcript job.now book.now.histories report.now)) }
     ensures write_fault { IsErrOf result TextFault.WriteFault
         → AppendsProperPrefix (K.taken sink.old) (K.taken sink.new) (run_text transcript job.now book.now.histories report.now) }
@@ -142,7 +142,7 @@ pub(crate) fn tell<K: Sink>(
     requires legal { IsLegalBook job.now.deal book.now.histories }
     ensures { Writes (K.taken sink.old) (K.taken sink.new) (K.faults sink.old) (K.faults sink.new) (reported transcript job.now book.now.histories) result }
 {
-    let Ok(report) = report_of(alloc, &job.deal, &job.conforming, book) else {
+    let Ok(report) = build_report(alloc, &job.deal, &job.conforming, book) else {
         return Status::NoMemory;
     };
     match write_text(alloc, transcript, sink, job, book, &report) {

@@ -7,24 +7,24 @@ use Rattle.std.proofs.lemmas.Bool.{false≢true}
 use Rattle.std.specs.List.{position_from}
 use Rattle.std.proofs.lemmas.Iterator.Adapters.{position_from-zero}
 use Rattle.swap_base.proofs.Lists.{none_both}
-use Rattle.swap_digraph.specs.Graph.{ends_in, HasDistinctEnds}
-use Rattle.swap_digraph.specs.Arcs.{fault_at, first_fault, first_fault_after, parallel, same_ends}
+use Rattle.swap_digraph.specs.Graph.{resolve_all_ends, HasDistinctEnds}
+use Rattle.swap_digraph.specs.Arcs.{arc_fault, first_fault, next_arc_fault, parallel, same_ends}
 use Rattle.swap_digraph.specs.declared.arc_ends.ArcEnds.{ArcEnds}
 use Rattle.swap_digraph.specs.declared.fault.ArcFault.TheVariants.{OutOfRange, SelfArc}
 use Rattle.swap_digraph.specs.declared.deal.Version.{Version}
 use Rattle.swap_digraph.specs.declared.deal.Version.TheVariants.{One}
 
-none_after : (n : ℕ) (before xs : List ArcEnds) (i : ℕ) (d : ArcEnds) → first_fault_after n One before xs ≡ None → i < length xs
-    → (k : ℕ) × (fault_at n One (before ++ take i xs) k (get_or xs i d) ≡ None)
+none_after : (n : ℕ) (before xs : List ArcEnds) (i : ℕ) (d : ArcEnds) → next_arc_fault n One before xs ≡ None → i < length xs
+    → (k : ℕ) × (arc_fault n One (before ++ take i xs) k (get_or xs i d) ≡ None)
 none_after n before [] i d e lt = absurd (omega arith)
 none_after n before (x ∷ xs) zero d e lt =
-    (length before, subst (λ ys. fault_at n One ys (length before) x ≡ None) (sym (append-nil before)) (none_both _ _ e).0)
+    (length before, subst (λ ys. arc_fault n One ys (length before) x ≡ None) (sym (append-nil before)) (none_both _ _ e).0)
 none_after n before (x ∷ xs) (suc i) d e lt =
     let r = none_after n (before ++ x ∷ []) xs i d (none_both _ _ e).1 (omega arith) in
-    (r.0, subst (λ ys. fault_at n One ys r.0 (get_or xs i d) ≡ None) (append_assoc before (x ∷ []) (take i xs)) r.1)
+    (r.0, subst (λ ys. arc_fault n One ys r.0 (get_or xs i d) ≡ None) (append_assoc before (x ∷ []) (take i xs)) r.1)
 
-no_parallel : (n k : ℕ) (before : List ArcEnds) (a : ArcEnds) → fault_at n One before k a ≡ None → position (same_ends a) before ≡ None
-unfolding fault_at
+no_parallel : (n k : ℕ) (before : List ArcEnds) (a : ArcEnds) → arc_fault n One before k a ≡ None → position (same_ends a) before ≡ None
+unfolding arc_fault
 no_parallel n k before a e = go (nat_lt a.from n && nat_lt a.to n) (a.from == a.to) (position (same_ends a) before) e
   where
     go : (w s : Bool) (o : Option ℕ) → cond (not w) (Some (OutOfRange k)) (cond s (Some (SelfArc k)) (parallel One k o)) ≡ None → o ≡ None
@@ -47,20 +47,20 @@ not_there f from (x ∷ xs) j d e lt = go (f x) refl j e lt (λ i. not_there f (
 same_itself : (a : ArcEnds) → same_ends a a ≡ true
 same_itself a = rw (eq-eqb a.from a.from refl, eq-eqb a.to a.to refl) refl
 
-earlier : (n : ℕ) (xs : List ArcEnds) (i j : ℕ) → first_fault n One xs ≡ None → i < length xs → j < i → ends_in xs j ≡ ends_in xs i → ⊥
+earlier : (n : ℕ) (xs : List ArcEnds) (i j : ℕ) → first_fault n One xs ≡ None → i < length xs → j < i → resolve_all_ends xs j ≡ resolve_all_ends xs i → ⊥
 unfolding first_fault
 earlier n xs i j e lt less same =
     let r = none_after n [] xs i (record { from = 0; to = 0 }) e lt in
-    let p = no_parallel n r.0 (take i xs) (ends_in xs i) r.1 in
+    let p = no_parallel n r.0 (take i xs) (resolve_all_ends xs i) r.1 in
     let m : j < length (take i xs) = omega (arith, length-take i xs) in
     let f =
-    not_there (same_ends (ends_in xs i)) 0 (take i xs) j (record {
+    not_there (same_ends (resolve_all_ends xs i)) 0 (take i xs) j (record {
       from = 0;
       to =
           0;
-    }) (sym (position_from-zero (same_ends (ends_in xs i)) (take i xs)) ∙ p) m in
-    let q : ends_in (take i xs) j ≡ ends_in xs i = get_or-take i xs j (record { from = 0; to = 0 }) less ∙ same in
-    absurd (false≢true (sym f ∙ ap (same_ends (ends_in xs i)) q ∙ same_itself (ends_in xs i)))
+    }) (sym (position_from-zero (same_ends (resolve_all_ends xs i)) (take i xs)) ∙ p) m in
+    let q : resolve_all_ends (take i xs) j ≡ resolve_all_ends xs i = get_or-take i xs j (record { from = 0; to = 0 }) less ∙ same in
+    absurd (false≢true (sym f ∙ ap (same_ends (resolve_all_ends xs i)) q ∙ same_itself (resolve_all_ends xs i)))
 
 -- version 1 has no two arcs with the same ends
 pub distinct : (n : ℕ) (xs : List ArcEnds) → first_fault n One xs ≡ None → HasDistinctEnds (record { n = n; arcs = xs })

@@ -10,26 +10,26 @@ use Rattle.swap_digraph.specs.declared.fault.ArcFault.{ArcFault}
 use Rattle.swap_digraph.specs.declared.fault.ArcFault.TheVariants.{OutOfRange, SelfArc}
 use Rattle.std.proofs.lemmas.Bool.{eqb-false}
 use Rattle.swap_digraph.specs.declared.deal.Version.{Version}
-use Rattle.swap_digraph.specs.Arcs.{fault_at, first_fault_after, first_fault, parallel, same_ends}
+use Rattle.swap_digraph.specs.Arcs.{arc_fault, next_arc_fault, first_fault, parallel, same_ends}
 use Rattle.swap_digraph.specs.Graph.{HasEnds}
 
 -- the first fault from arc i on
 abbrev pub fault_from : ℕ → Version → List ArcEnds → ℕ → Option ArcFault
-fault_from n v arcs i = first_fault_after n v (take i arcs) (drop i arcs)
+fault_from n v arcs i = next_arc_fault n v (take i arcs) (drop i arcs)
 
 step : (n : ℕ) (v : Version) (arcs before : List ArcEnds) (i : ℕ) (d : ArcEnds) → i < length arcs → before ≡ take i arcs
-    → fault_from n v arcs i ≡ or_else (fault_at n v before (length before) (get_or arcs i d)) (fault_from n v arcs (i + 1))
+    → fault_from n v arcs i ≡ or_else (arc_fault n v before (length before) (get_or arcs i d)) (fault_from n v arcs (i + 1))
 step n v arcs before i d lt e =
     let c : drop i arcs ≡ get_or arcs i d ∷ drop (i + 1) arcs = rw (add-one, drop-cons arcs i d) refl in
     let m : take (i + 1) arcs ≡ take i arcs ++ get_or arcs i d ∷ [] = take_more arcs i d lt in
-    ap (λ (xs : List ArcEnds). first_fault_after n v (take i arcs) xs) c
-    ∙ ap (λ (xs : List ArcEnds). or_else (fault_at n v xs (length xs) (get_or arcs i d))
-    (first_fault_after n v (take i arcs ++ get_or arcs i d ∷ []) (drop (i + 1) arcs))) (sym e)
-    ∙ ap (λ (xs : List ArcEnds). or_else (fault_at n v before (length before) (get_or arcs i d)) (first_fault_after n v xs (drop (i + 1) arcs))) (sym m)
+    ap (λ (xs : List ArcEnds). next_arc_fault n v (take i arcs) xs) c
+    ∙ ap (λ (xs : List ArcEnds). or_else (arc_fault n v xs (length xs) (get_or arcs i d))
+    (next_arc_fault n v (take i arcs ++ get_or arcs i d ∷ []) (drop (i + 1) arcs))) (sym e)
+    ∙ ap (λ (xs : List ArcEnds). or_else (arc_fault n v before (length before) (get_or arcs i d)) (next_arc_fault n v xs (drop (i + 1) arcs))) (sym m)
 
 -- this arc has none
 pub goes_on : (n : ℕ) (v : Version) (arcs before : List ArcEnds) (i : ℕ) (d : ArcEnds) (r total : Option ArcFault) → i < length arcs
-    → before ≡ take i arcs → r ≡ fault_at n v before (length before) (get_or arcs i d) → is_some r ≡ false
+    → before ≡ take i arcs → r ≡ arc_fault n v before (length before) (get_or arcs i d) → is_some r ≡ false
     → fault_from n v arcs i ≡ total → fault_from n v arcs (i + 1) ≡ total
 goes_on n v arcs before i d r total lt e h none so_far =
     sym (step n v arcs before i d lt e ∙ ap (λ (o : Option ArcFault). or_else o (fault_from n v arcs (i + 1))) (sym h)
@@ -37,7 +37,7 @@ goes_on n v arcs before i d r total lt e h none so_far =
 
 -- this arc has the first
 pub is_found : (n : ℕ) (v : Version) (arcs before : List ArcEnds) (i : ℕ) (d : ArcEnds) (r total : Option ArcFault) → i < length arcs
-    → before ≡ take i arcs → r ≡ fault_at n v before (length before) (get_or arcs i d) → is_some r ≡ true
+    → before ≡ take i arcs → r ≡ arc_fault n v before (length before) (get_or arcs i d) → is_some r ≡ true
     → fault_from n v arcs i ≡ total → r ≡ total
 is_found n v arcs before i d r total lt e h some so_far =
     sym (step n v arcs before i d lt e ∙ ap (λ (o : Option ArcFault). or_else o (fault_from n v arcs (i + 1))) (sym h)
@@ -46,7 +46,7 @@ is_found n v arcs before i d r total lt e h some so_far =
 pub is_none : (n : ℕ) (v : Version) (arcs : List ArcEnds) (i : ℕ) (total : Option ArcFault) → length arcs ≤ i → fault_from n v arcs i ≡ total → None ≡ total
 is_none n v arcs i total le so_far =
     let e : drop i arcs ≡ [] = nil_from_length (drop i arcs) (omega (arith, length-drop i arcs)) in
-    sym (ap (λ (xs : List ArcEnds). first_fault_after n v (take i arcs) xs) e) ∙ so_far
+    sym (ap (λ (xs : List ArcEnds). next_arc_fault n v (take i arcs) xs) e) ∙ so_far
 
 -- an arc without a fault leads from one party to another
 pub record IsSound (n : ℕ) (a : ArcEnds) : Type 0 where
@@ -62,11 +62,11 @@ by_tests n k a true false rest w s e =
 by_tests n k a true true rest w s e = cc e
 by_tests n k a false same rest w s e = cc e
 
-sound_at : (n : ℕ) (v : Version) (before : List ArcEnds) (k : ℕ) (a : ArcEnds) → fault_at n v before k a ≡ None → IsSound n a
-unfolding fault_at
+sound_at : (n : ℕ) (v : Version) (before : List ArcEnds) (k : ℕ) (a : ArcEnds) → arc_fault n v before k a ≡ None → IsSound n a
+unfolding arc_fault
 sound_at n v before k a e = by_tests n k a (nat_lt a.from n && nat_lt a.to n) (a.from == a.to) (parallel v k (position (same_ends a) before)) refl refl e
 
-sound_after : (n : ℕ) (v : Version) (before arcs : List ArcEnds) (i : ℕ) (d : ArcEnds) → first_fault_after n v before arcs ≡ None → i < length arcs
+sound_after : (n : ℕ) (v : Version) (before arcs : List ArcEnds) (i : ℕ) (d : ArcEnds) → next_arc_fault n v before arcs ≡ None → i < length arcs
     → IsSound n (get_or arcs i d)
 sound_after n v before [] i d e lt = absurd (omega arith)
 sound_after n v before (a ∷ arcs) zero d e lt = sound_at n v before (length before) a (none_both _ _ e).0

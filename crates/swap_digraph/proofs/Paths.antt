@@ -5,18 +5,18 @@ use Rattle.std.specs.List.{range_with_len}
 use Rattle.swap_base.specs.Lists.{IsIn}
 use Rattle.swap_base.proofs.Lists.{and_parts, and_both, list_any-in, from_filter, in_range, from_append, length-range}
 use Rattle.swap_digraph.specs.Value.{Graph}
-use Rattle.swap_digraph.specs.Graph.{is_path, is_among, has_arc, first_is, last_is, are_followers, IsPathBetween}
+use Rattle.swap_digraph.specs.Graph.{is_path, is_listed, has_arc, first_is, last_is, are_followers, IsConnectingPath}
 
-is_among-head : (v w : ℕ) (vs : List ℕ) (b : Bool) → (w == v) ≡ b → (b || is_among v vs) ≡ true → (is_among v vs ≡ true → IsIn v vs) → IsIn v (w ∷ vs)
-is_among-head v w vs true h k rest = inl (sym (eqb-true w v h))
-is_among-head v w vs false h k rest = inr (rest k)
+is_listed-head : (v w : ℕ) (vs : List ℕ) (b : Bool) → (w == v) ≡ b → (b || is_listed v vs) ≡ true → (is_listed v vs ≡ true → IsIn v vs) → IsIn v (w ∷ vs)
+is_listed-head v w vs true h k rest = inl (sym (eqb-true w v h))
+is_listed-head v w vs false h k rest = inr (rest k)
 
-pub is_among-true : (v : ℕ) (vs : List ℕ) → is_among v vs ≡ true → IsIn v vs
-is_among-true v [] e = absurd (cc e)
-is_among-true v (w ∷ vs) e = is_among-head v w vs (w == v) refl e (is_among-true v vs)
+pub is_listed-true : (v : ℕ) (vs : List ℕ) → is_listed v vs ≡ true → IsIn v vs
+is_listed-true v [] e = absurd (cc e)
+is_listed-true v (w ∷ vs) e = is_listed-head v w vs (w == v) refl e (is_listed-true v vs)
 
-pub in-is_among : (v : ℕ) (vs : List ℕ) → IsIn v vs → is_among v vs ≡ true
-in-is_among v vs i = list_any-in (λ w. w == v) vs v (eq-eqb v v refl) i
+pub in-is_listed : (v : ℕ) (vs : List ℕ) → IsIn v vs → is_listed v vs ≡ true
+in-is_listed v vs i = list_any-in (λ w. w == v) vs v (eq-eqb v v refl) i
 
 abbrev pub AreDistinct : List ℕ → Type 0
 AreDistinct [] = Unit {0}
@@ -30,28 +30,28 @@ pub record Step (g : Graph) (u v : ℕ) (p : List ℕ) : Type 0 where
 
 pub path_step : (g : Graph) (u v : ℕ) (p : List ℕ) → is_path g (u ∷ v ∷ p) ≡ true → Step g u v p
 path_step g u v p e =
-    let k1 = and_parts (nat_lt u g.n && not (is_among u (v ∷ p)) && has_arc g u v) (is_path g (v ∷ p)) e in
-    let k2 = and_parts (nat_lt u g.n && not (is_among u (v ∷ p))) (has_arc g u v) k1.0 in
-    let k3 = and_parts (nat_lt u g.n) (not (is_among u (v ∷ p))) k2.0 in
-    record { below = ltb-true u g.n k3.0; fresh = λ i. no_not (is_among u (v ∷ p)) k3.1 (in-is_among u (v ∷ p) i); arc = k2.1; rest = k1.1 }
+    let k1 = and_parts (nat_lt u g.n && not (is_listed u (v ∷ p)) && has_arc g u v) (is_path g (v ∷ p)) e in
+    let k2 = and_parts (nat_lt u g.n && not (is_listed u (v ∷ p))) (has_arc g u v) k1.0 in
+    let k3 = and_parts (nat_lt u g.n) (not (is_listed u (v ∷ p))) k2.0 in
+    record { below = ltb-true u g.n k3.0; fresh = λ i. no_not (is_listed u (v ∷ p)) k3.1 (in-is_listed u (v ∷ p) i); arc = k2.1; rest = k1.1 }
   where
     no_not : (b : Bool) → not b ≡ true → b ≡ true → ⊥
     no_not true h k = cc h
     no_not false h k = cc k
 
-pub not_among : (u : ℕ) (p : List ℕ) → (IsIn u p → ⊥) → not (is_among u p) ≡ true
-not_among u p h = go (is_among u p) refl
+pub not_among : (u : ℕ) (p : List ℕ) → (IsIn u p → ⊥) → not (is_listed u p) ≡ true
+not_among u p h = go (is_listed u p) refl
   where
-    go : (b : Bool) → is_among u p ≡ b → not b ≡ true
-    go true e = absurd (h (is_among-true u p e))
+    go : (b : Bool) → is_listed u p ≡ b → not b ≡ true
+    go true e = absurd (h (is_listed-true u p e))
     go false e = refl
 
 pub path_more : (g : Graph) (u v : ℕ) (p : List ℕ) → u < g.n → (IsIn u (v ∷ p) → ⊥) → has_arc g u v ≡ true → is_path g (v ∷ p) ≡ true
     → is_path g (u ∷ v ∷ p) ≡ true
 path_more g u v p b f a r =
-    and_both (nat_lt u g.n && not (is_among u (v ∷ p)) && has_arc g u v) (is_path g (v ∷ p))
-    (and_both (nat_lt u g.n && not (is_among u (v ∷ p))) (has_arc g u v)
-    (and_both (nat_lt u g.n) (not (is_among u (v ∷ p))) (lt-ltb u g.n b) (not_among u (v ∷ p) f)) a) r
+    and_both (nat_lt u g.n && not (is_listed u (v ∷ p)) && has_arc g u v) (is_path g (v ∷ p))
+    (and_both (nat_lt u g.n && not (is_listed u (v ∷ p))) (has_arc g u v)
+    (and_both (nat_lt u g.n) (not (is_listed u (v ∷ p))) (lt-ltb u g.n b) (not_among u (v ∷ p) f)) a) r
 
 pub path_distinct : (g : Graph) (p : List ℕ) → is_path g p ≡ true → AreDistinct p
 path_distinct g [] e = tt
@@ -65,10 +65,10 @@ path_below g (u ∷ []) x e (inr i) = absurd i
 path_below g (u ∷ v ∷ p) x e (inl q) = rw q (path_step g u v p e).below
 path_below g (u ∷ v ∷ p) x e (inr i) = path_below g (v ∷ p) x (path_step g u v p e).rest i
 
-pub last_in : (l : ℕ) (p : List ℕ) → last_is l p ≡ true → IsIn l p
-last_in l [] e = absurd (cc e)
-last_in l (u ∷ []) e = inl (sym (eqb-true u l e))
-last_in l (u ∷ w ∷ p) e = inr (last_in l (w ∷ p) e)
+pub last_unlock : (l : ℕ) (p : List ℕ) → last_is l p ≡ true → IsIn l p
+last_unlock l [] e = absurd (cc e)
+last_unlock l (u ∷ []) e = inl (sym (eqb-true u l e))
+last_unlock l (u ∷ w ∷ p) e = inr (last_unlock l (w ∷ p) e)
 
 -- the only path from a vertex to itself is that vertex alone
 pub alone : (g : Graph) (v : ℕ) (p : List ℕ) → is_path g p ≡ true → first_is v p ≡ true → last_is v p ≡ true → length p ≡ 1
@@ -76,7 +76,7 @@ alone g v [] e f l = absurd (cc e)
 alone g v (u ∷ []) e f l = refl
 alone g v (u ∷ w ∷ p) e f l =
     let s = path_step g u w p e in
-    absurd (s.fresh (subst (λ x. IsIn x (w ∷ p)) (sym (eqb-true u v f)) (last_in v (w ∷ p) l)))
+    absurd (s.fresh (subst (λ x. IsIn x (w ∷ p)) (sym (eqb-true u v f)) (last_unlock v (w ∷ p) l)))
 
 pub some_length : (g : Graph) (p : List ℕ) → is_path g p ≡ true → 0 < length p
 some_length g [] e = absurd (cc e)
@@ -136,7 +136,7 @@ path_snoc g (w ∷ y ∷ p) x u e last a b f =
 
 pub record Suffix (g : Graph) (ls : List ℕ) (u x : ℕ) : Type 0 where
   pub part : List ℕ
-  pub between : IsPathBetween g u x part
+  pub between : IsConnectingPath g u x part
   pub followers : are_followers ls part ≡ true
 
 pub suffix_from : (g : Graph) (ls p : List ℕ) (u x : ℕ) → is_path g p ≡ true → last_is x p ≡ true → are_followers ls p ≡ true → IsIn u p → Suffix g ls u x
@@ -144,10 +144,10 @@ suffix_from g ls [] u x e last o i = absurd i
 suffix_from g ls (w ∷ p) u x e last o (inl q) = record { part = w ∷ p; between = (e, eq-eqb w u (sym q), last); followers = o }
 suffix_from g ls (w ∷ []) u x e last o (inr i) = absurd i
 suffix_from g ls (w ∷ y ∷ p) u x e last o (inr i) =
-    suffix_from g ls (y ∷ p) u x (path_step g w y p e).rest last (and_parts (not (is_among w ls)) (are_followers ls (y ∷ p)) o).1 i
+    suffix_from g ls (y ∷ p) u x (path_step g w y p e).rest last (and_parts (not (is_listed w ls)) (are_followers ls (y ∷ p)) o).1 i
 
-pub followers-append : (ls p : List ℕ) (u : ℕ) → are_followers ls p ≡ true → is_among u ls ≡ false → are_followers ls (p ++ u ∷ []) ≡ true
-followers-append ls [] u o f = and_both (not (is_among u ls)) true (ap not f) refl
+pub followers-append : (ls p : List ℕ) (u : ℕ) → are_followers ls p ≡ true → is_listed u ls ≡ false → are_followers ls (p ++ u ∷ []) ≡ true
+followers-append ls [] u o f = and_both (not (is_listed u ls)) true (ap not f) refl
 followers-append ls (w ∷ p) u o f =
-    let k = and_parts (not (is_among w ls)) (are_followers ls p) o in
-    and_both (not (is_among w ls)) (are_followers ls (p ++ u ∷ [])) k.0 (followers-append ls p u k.1 f)
+    let k = and_parts (not (is_listed w ls)) (are_followers ls p) o in
+    and_both (not (is_listed w ls)) (are_followers ls (p ++ u ∷ [])) k.0 (followers-append ls p u k.1 f)

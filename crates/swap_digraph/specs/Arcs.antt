@@ -19,23 +19,23 @@ parallel One k None = None
 parallel Two k j = None
 
 -- the first fault of arc k, where those before it come first in the list
-unfoldable pub fault_at : ℕ → Version → List ArcEnds → ℕ → ArcEnds → Option ArcFault
-fault_at n version before k a =
+unfoldable pub arc_fault : ℕ → Version → List ArcEnds → ℕ → ArcEnds → Option ArcFault
+arc_fault n version before k a =
     if not (nat_lt a.from n && nat_lt a.to n) then Some (OutOfRange k)
     else if a.from == a.to then Some (SelfArc k)
     else parallel version k (position (same_ends a) before)
 
 -- the first fault of the least arc that has one, among those that come after others
-abbrev pub first_fault_after : ℕ → Version → List ArcEnds → List ArcEnds → Option ArcFault
-first_fault_after n version before [] = None
-first_fault_after n version before (a ∷ arcs) = or_else (fault_at n version before (length before) a) (first_fault_after n version (before ++ a ∷ []) arcs)
+abbrev pub next_arc_fault : ℕ → Version → List ArcEnds → List ArcEnds → Option ArcFault
+next_arc_fault n version before [] = None
+next_arc_fault n version before (a ∷ arcs) = or_else (arc_fault n version before (length before) a) (next_arc_fault n version (before ++ a ∷ []) arcs)
 
 unfoldable pub first_fault : ℕ → Version → List ArcEnds → Option ArcFault
-first_fault n version arcs = first_fault_after n version [] arcs
+first_fault n version arcs = next_arc_fault n version [] arcs
 
 abbrev pub graph_or : ℕ → List ArcEnds → Option ArcFault → Result Graph ArcFault
 graph_or n arcs None = Ok (record { n = n; arcs = arcs })
 graph_or n arcs (Some fault) = Err fault
 
-unfoldable pub digraph_of : ℕ → Version → List ArcEnds → Result Graph ArcFault
-digraph_of n version arcs = graph_or n arcs (first_fault n version arcs)
+unfoldable pub build_digraph : ℕ → Version → List ArcEnds → Result Graph ArcFault
+build_digraph n version arcs = graph_or n arcs (first_fault n version arcs)

@@ -33,20 +33,20 @@ abbrev pub leads : Deal → ℕ → ℕ → Bool
 leads d v i = slice_index_or d.leaders i d.graph.n == v
 
 -- the leader of lock i
-abbrev pub leader_of : Deal → ℕ → ℕ
-leader_of d i = slice_index d.leaders i
+abbrev pub lock_leader : Deal → ℕ → ℕ
+lock_leader d i = slice_index d.leaders i
 
 -- the hashlock of lock i
-abbrev pub hashlock_of : Deal → ℕ → List ℕ
-hashlock_of d i = slice_index_or d.hashlocks i []
+abbrev pub lock_hashlock : Deal → ℕ → List ℕ
+lock_hashlock d i = slice_index_or d.hashlocks i []
 
-abbrev pub path_limit_of : Version → ℕ
-path_limit_of One = 24
-path_limit_of Two = 32
+abbrev pub version_path_limit : Version → ℕ
+version_path_limit One = 24
+version_path_limit Two = 32
 
 -- the most vertices of a hashkey's path
 abbrev pub path_limit : Deal → ℕ
-path_limit d = path_limit_of d.version
+path_limit d = version_path_limit d.version
 
 -- the most parties
 abbrev pub most_parties : Version → ℕ
@@ -69,7 +69,7 @@ pub record IsWellSized (d : Deal) : Type 0 where
   pub parties : (2 ≤ d.graph.n) × (d.graph.n ≤ most_parties d.version)
   pub arcs : (2 ≤ length d.graph.arcs) × (length d.graph.arcs ≤ most_arcs d.version)
   pub leaders : (1 ≤ length d.leaders) × (length d.leaders ≤ 8)
-  pub leader : (i : ℕ) → i < length d.leaders → leader_of d i < d.graph.n
+  pub leader : (i : ℕ) → i < length d.leaders → lock_leader d i < d.graph.n
   pub start : d.start ≤ 1000
   pub delta : d.delta ≤ 100
   pub bound : d.bound ≤ 64

@@ -5,11 +5,11 @@ use Rattle.swap_digraph.specs.Value.{Graph}
 use Rattle.swap_digraph.specs.Graph.{entering, leaving}
 use Rattle.swap_digraph.specs.declared.digraph.Digraph.TheInside.{Inside}
 
-abbrev pub graph_in : Inside → Graph
-graph_in d = record { n = d.n; arcs = d.arcs }
+abbrev pub header_graph : Inside → Graph
+header_graph d = record { n = d.n; arcs = d.arcs }
 
 -- The lists of entering and leaving arcs agree with the arcs.
 pub record Agrees (d : Inside) : Type 0 where
   pub few : length d.arcs ≤ 128
-  pub entering : d.entering ≡ map (entering (graph_in d)) (range_with_len 0 d.n)
-  pub leaving : d.leaving ≡ map (leaving (graph_in d)) (range_with_len 0 d.n)
+  pub entering : d.entering ≡ map (entering (header_graph d)) (range_with_len 0 d.n)
+  pub leaving : d.leaving ≡ map (leaving (header_graph d)) (range_with_len 0 d.n)

@@ -4,8 +4,8 @@ ghost use Rattle.std.specs.Prelude.{◌≡◌, ◌==◌, ◌<◌, ◌≤◌, Opt
 ghost use Rattle.std.specs.List.{range_with_len};
 ghost use Rattle.swap_base.specs.Fault.{Gives};
 ghost use Rattle.swap_digraph.specs.Value.{Graph};
-ghost use Rattle.swap_digraph.specs.Graph.{entering, entering_among, leaving, leaving_among, HasDistinctEnds, HasEnds};
-ghost use Rattle.swap_digraph.specs.Arcs.{digraph_of, fault_at, first_fault, same_ends};
+ghost use Rattle.swap_digraph.specs.Graph.{entering, entering_numbers, leaving, leaving_numbers, HasDistinctEnds, HasEnds};
+ghost use Rattle.swap_digraph.specs.Arcs.{build_digraph, arc_fault, first_fault, same_ends};
 
 use crate::arc_ends::ArcEnds;
 use crate::deal::Version;
@@ -28,17 +28,17 @@ impl Model for Digraph {
 
     ghost Value = { Graph };
 
-    ghost use Rattle.swap_digraph.specs.Inside.{graph_in, Agrees};
+    ghost use Rattle.swap_digraph.specs.Inside.{header_graph, Agrees};
 
-    ghost view = { graph_in };
+    ghost view = { header_graph };
 
     ghost invariant = { Agrees };
 }
 
 /// The arcs that enter p.
-fn entering_of(alloc: Global, arcs: &[ArcEnds], p: PartyId) -> Result<Listed<ArcId>, NoMemory>
+fn entering_arcs(alloc: Global, arcs: &[ArcEnds], p: PartyId) -> Result<Listed<ArcId>, NoMemory>
     requires { length arcs.now ≤ 128 }
-    ensures { IfOk result (λ l. l ≡ entering_among arcs.now p) }
+    ensures { IfOk result (λ l. l ≡ entering_numbers arcs.now p) }
 {
     let mut numbers = Vec::new(alloc);
     for (number, arc) in arcs.iter().enumerate() {
@@ -50,9 +50,9 @@ fn entering_of(alloc: Global, arcs: &[ArcEnds], p: PartyId) -> Result<Listed<Arc
 }
 
 /// The arcs that leave p.
-fn leaving_of(alloc: Global, arcs: &[ArcEnds], p: PartyId) -> Result<Listed<ArcId>, NoMemory>
+fn leaving_arcs(alloc: Global, arcs: &[ArcEnds], p: PartyId) -> Result<Listed<ArcId>, NoMemory>
     requires { length arcs.now ≤ 128 }
-    ensures { IfOk result (λ l. l ≡ leaving_among arcs.now p) }
+    ensures { IfOk result (λ l. l ≡ leaving_numbers arcs.now p) }
 {
     let mut numbers = Vec::new(alloc);
     for (number, arc) in arcs.iter().enumerate() {
@@ -65,28 +65,28 @@ fn leaving_of(alloc: Global, arcs: &[ArcEnds], p: PartyId) -> Result<Listed<ArcI
 
 fn all_entering(alloc: Global, n: u8, arcs: &[ArcEnds]) -> Result<Listed<Listed<ArcId>>, NoMemory>
     requires { length arcs.now ≤ 128 }
-    ensures { IfOk result (λ l. l ≡ map (entering_among arcs.now) (range_with_len 0 n)) }
+    ensures { IfOk result (λ l. l ≡ map (entering_numbers arcs.now) (range_with_len 0 n)) }
 {
     let mut lists = Vec::new(alloc);
     for p in 0..n {
-        lists.push(entering_of(alloc, arcs, p)?)?;
+        lists.push(entering_arcs(alloc, arcs, p)?)?;
     }
     Ok(Listed::new(lists))
 }
 
 fn all_leaving(alloc: Global, n: u8, arcs: &[ArcEnds]) -> Result<Listed<Listed<ArcId>>, NoMemory>
     requires { length arcs.now ≤ 128 }
-    ensures { IfOk result (λ l. l ≡ map (leaving_among arcs.now) (range_with_len 0 n)) }
+    ensures { IfOk result (λ l. l ≡ map (leaving_numbers arcs.now) (range_with_len 0 n)) }
 {
     let mut lists = Vec::new(alloc);
     for p in 0..n {
-        lists.push(leaving_of(alloc, arcs, p)?)?;
+        lists.push(leaving_arcs(alloc, arcs, p)?)?;
     }
     Ok(Listed::new(lists))
 }
 
 /// The least of the arcs with those ends.
-fn first_with(arcs: &[ArcEnds], ends: ArcEnds) -> Option<usize>
+fn find_first_arc(arcs: &[ArcEnds], ends: ArcEnds) -> Option<usize>
     ensures { result ≡ position (same_ends ends) arcs.now }
 {
     arcs.iter()
@@ -94,10 +94,10 @@ fn first_with(arcs: &[ArcEnds], ends: ArcEnds) -> Option<usize>
 }
 
 /// The first fault of the arc at that place.
-#[tactic(auto, unfolding(crate::specs::Arcs::fault_at))]
-fn fault_at(n: u8, version: Version, before: &[ArcEnds], arc: ArcEnds) -> Option<ArcFault>
+#[tactic(auto, unfolding(crate::specs::Arcs::arc_fault))]
+fn arc_fault(n: u8, version: Version, before: &[ArcEnds], arc: ArcEnds) -> Option<ArcFault>
     requires { length before.now < 128 }
-    ensures { result ≡ fault_at n version before.now (length before.now) arc }
+    ensures { result ≡ arc_fault n version before.now (length before.now) arc }
 {
     let number = before.len() as u8;
     if arc.from >= n || arc.to >= n {
@@ -106,7 +106,7 @@ fn fault_at(n: u8, version: Version, before: &[ArcEnds], arc: ArcEnds) -> Option
     if arc.from == arc.to {
         return Some(ArcFault::SelfArc(number));
     }
-    match (version, first_with(before, arc)) {
+    match (version, find_first_arc(before, arc)) {
         (Version::One, Some(first)) => Some(ArcFault::Parallel(first as u8, number)),
         _ => None,
     }
@@ -117,7 +117,7 @@ fn first_fault(n: u8, version: Version, arcs: &[ArcEnds]) -> Option<ArcFault>
     ensures { result ≡ first_fault n version arcs.now }
 {
     for number in 0..arcs.len() {
-        let fault = fault_at(n, version, &arcs[..number], arcs[number]);
+        let fault = arc_fault(n, version, &arcs[..number], arcs[number]);
         if fault.is_some() {
             return fault;
         }
@@ -128,7 +128,7 @@ fn first_fault(n: u8, version: Version, arcs: &[ArcEnds]) -> Option<ArcFault>
 impl Digraph {
     /// The digraph of n parties with these arcs, or the first fault of the least arc that has one. In version 1 no two arcs have the same ends;
     /// in version 2 they may.
-    #[tactic(auto, unfolding(crate::specs::Arcs::digraph_of))]
+    #[tactic(auto, unfolding(crate::specs::Arcs::build_digraph))]
     pub fn new(
         alloc: Global,
         n: u8,
@@ -136,7 +136,7 @@ impl Digraph {
         version: Version,
     ) -> Result<Digraph, DigraphFault>
         requires { length arcs.items ≤ 128 }
-        ensures exact { Gives (λ g. g) result (digraph_of n version arcs.items) }
+        ensures exact { Gives (λ g. g) result (build_digraph n version arcs.items) }
         ensures parts { IfOk result (λ g. (g.n ≡ n) × (g.arcs ≡ arcs.items)) }
         ensures ends { IfOk result (λ g. HasEnds g) }
         ensures distinct { version ≡ Version.One → IfOk result (λ g. HasDistinctEnds g) }

@@ -13,7 +13,7 @@ pub use arc_ends::ArcEnds;
 pub use deal::{Deal, Mode, Version, copy_deal, path_limit};
 pub use digraph::Digraph;
 pub use fault::{ArcFault, DigraphFault};
-pub use path::is_among;
+pub use path::is_listed;
 pub use swap_base::{ArcId, ByteText, Digest, Listed, LockId, NoMemory, PartyId, TryCopy};
 
 /// Parties, in the order of a path, or ascending as a set.

@@ -6,7 +6,7 @@ use Rattle.std.proofs.lemmas.List.{length-map, length-replicate, get_or-replicat
 use Rattle.std.proofs.lemmas.List.FromFn.{length-range_with_len, length-map-range_with_len, get_or-map-range_with_len}
 use Rattle.time_bounds.specs.Times as times
 use Rattle.swap_digraph.specs.Graph.{ends, arcs, IsDist, IsFeedback, IsHeight}
-use Rattle.swap_digraph.specs.Deal.{counterparty, leader_of, locks, HasKeys, IsWellSized}
+use Rattle.swap_digraph.specs.Deal.{counterparty, lock_leader, locks, HasKeys, IsWellSized}
 use Rattle.swap_digraph.specs.declared.deal.Deal.{Deal}
 use Rattle.swap_digraph.specs.declared.deal.Mode.{Mode}
 use Rattle.swap_digraph.specs.declared.deal.Mode.TheVariants.{Timelocks, Hashkeys}
@@ -17,7 +17,7 @@ use Rattle.leader_check.proofs.Far.{dist_is, dist_bounded, dist_by_rounds}
 use Rattle.hashkey_path.proofs.Feeding.{any_id}
 use Rattle.swap_rules.specs.Accepted.{IsAccepted, IsOfVersion, IsTimed}
 use Rattle.proposed_deal.specs.Proposed.{IsLedFor, IsProposed}
-use Rattle.swap_gen.specs.Made.{hashlock_from, keys_from, all_keys, timelock_for, all_timelocks, filled, made_deal}
+use Rattle.swap_gen.specs.Made.{hashlock_from, seed_keys, all_keys, arc_timelock, all_timelocks, filled, made_deal}
 
 -- The one leader of a deal with timelocks.
 
@@ -31,22 +31,23 @@ led_by_one Timelocks d e h = h
 led_by_one Hashkeys d e h = absurd (cc e)
 
 module _ (d : Deal) (k : IsProposed d) (one : length d.leaders ≡ 1) where
-  pub alone : d.leaders ≡ leader_of d 0 ∷ []
+  pub alone : d.leaders ≡ lock_leader d 0 ∷ []
   alone = one_of d.leaders one
 
-  pub leader_below : leader_of d 0 < d.graph.n
+  pub leader_below : lock_leader d 0 < d.graph.n
   leader_below = k.leader 0 (omega (arith, one))
 
-  pub feedback_alone : IsFeedback d.graph (leader_of d 0 ∷ [])
+  pub feedback_alone : IsFeedback d.graph (lock_leader d 0 ∷ [])
   feedback_alone = subst (IsFeedback d.graph) alone k.feedback
 
-  pub height_alone : IsHeight d.graph (leader_of d 0 ∷ []) k.height
+  pub height_alone : IsHeight d.graph (lock_leader d 0 ∷ []) k.height
   height_alone = subst (λ ls. IsHeight d.graph ls k.height) alone k.is_height
 
-  pub dist_at : (v : ℕ) → v < d.graph.n → IsDist d.graph (leader_of d 0) v (dist_of d.graph (leader_of d 0) v)
+  pub dist_at : (v : ℕ) → v < d.graph.n → IsDist d.graph (lock_leader d 0) v (dist_of d.graph (lock_leader d 0) v)
   dist_at v lt =
-      let far = dist_is d.graph (leader_of d 0) k.ends k.strong leader_below feedback_alone k.height k.height v height_alone (omega arith) lt in
-      subst (IsDist d.graph (leader_of d 0) v) (dist_by_rounds d.graph (leader_of d 0) k.ends k.strong leader_below feedback_alone k.height v height_alone lt)
+      let far = dist_is d.graph (lock_leader d 0) k.ends k.strong leader_below feedback_alone k.height k.height v height_alone (omega arith) lt in
+      subst (IsDist d.graph (lock_leader d 0) v) (dist_by_rounds d.graph
+      (lock_leader d 0) k.ends k.strong leader_below feedback_alone k.height v height_alone lt)
       far
 
 -- What is filled in has the sizes that it should have.
@@ -54,24 +55,24 @@ module _ (d : Deal) (k : IsProposed d) (one : length d.leaders ≡ 1) where
 keys_sized : (m : Mode) (seeds : List (Option (List ℕ))) (d e : Deal) → e.graph ≡ d.graph → e.leaders ≡ d.leaders → e.keys ≡ all_keys m seeds d → HasKeys m e
 keys_sized Timelocks seeds d e g l s = s
 keys_sized Hashkeys seeds d e g l s = (
-  ap length s ∙ length-map-range_with_len (keys_from seeds d) 0 d.graph.n ∙ ap (λ h. h.n) (sym g),
+  ap length s ∙ length-map-range_with_len (seed_keys seeds d) 0 d.graph.n ∙ ap (λ h. h.n) (sym g),
   λ p lt. ap (λ (ks : List (List (List ℕ))). length (slice_index_or ks p [])) s
-      ∙ ap length (get_or-map-range_with_len (keys_from seeds d) 0 d.graph.n p p [] (subst (λ h. p < h.n) g lt) (omega arith))
+      ∙ ap length (get_or-map-range_with_len (seed_keys seeds d) 0 d.graph.n p p [] (subst (λ h. p < h.n) g lt) (omega arith))
       ∙ length-map (locks d) _ ∙ length-range_with_len 0 (length d.leaders) ∙ ap length (sym l),
 )
 
 timelocks_sized : (m : Mode) (d : Deal) → length (all_timelocks m d) ≡ length d.graph.arcs
-timelocks_sized Timelocks d = length-map-range_with_len (timelock_for d) 0 (length d.graph.arcs)
+timelocks_sized Timelocks d = length-map-range_with_len (arc_timelock d) 0 (length d.graph.arcs)
 timelocks_sized Hashkeys d = length-replicate (length d.graph.arcs) 0
 
-pub timelock_at : (d : Deal) (a : ℕ) → a < length d.graph.arcs → slice_index (all_timelocks Timelocks d) a ≡ timelock_for d a
-timelock_at d a lt = get_or-map-range_with_len (timelock_for d) 0 (length d.graph.arcs) a a 0 lt (omega arith)
+pub timelock_at : (d : Deal) (a : ℕ) → a < length d.graph.arcs → slice_index (all_timelocks Timelocks d) a ≡ arc_timelock d a
+timelock_at d a lt = get_or-map-range_with_len (arc_timelock d) 0 (length d.graph.arcs) a a 0 lt (omega arith)
 
 -- a distance is at most the bound
-pub dist_low : (d : Deal) (k : IsProposed d) → length d.leaders ≡ 1 → (v : ℕ) → v < d.graph.n → dist_of d.graph (leader_of d 0) v ≤ 64
+pub dist_low : (d : Deal) (k : IsProposed d) → length d.leaders ≡ 1 → (v : ℕ) → v < d.graph.n → dist_of d.graph (lock_leader d 0) v ≤ 64
 dist_low d k one v lt =
-    let b = dist_bounded d.graph (leader_of d 0) k.ends k.strong (leader_below d k one) (feedback_alone d k one) k.height v
-    (dist_of d.graph (leader_of d 0) v) (height_alone d k one) (dist_at d k one v lt) in
+    let b = dist_bounded d.graph (lock_leader d 0) k.ends k.strong (leader_below d k one) (feedback_alone d k one) k.height v
+    (dist_of d.graph (lock_leader d 0) v) (height_alone d k one) (dist_at d k one v lt) in
     let m : times.need d.graph.n 1 k.height ≤ d.bound = subst (λ n. times.need d.graph.n n k.height ≤ d.bound) one k.bound.0 in
     let most = k.bound.1 in
     omega (arith, b, m, most)
@@ -83,7 +84,7 @@ timelocks_low Timelocks d k one a lt =
     let b = k.bound.1 in
     let s = k.start.1 in
     let t = k.delta.1 in
-    let n : d.bound + 1 + dist_of d.graph (leader_of d 0) (counterparty d a) ≤ 129 = omega (arith, far, b) in
+    let n : d.bound + 1 + dist_of d.graph (lock_leader d 0) (counterparty d a) ≤ 129 = omega (arith, far, b) in
     let m = mul-le-mul_right d.delta n in
     omega (arith, e, m, s, t)
 timelocks_low Hashkeys d k one a lt = let e = get_or-replicate {A = ℕ} (length d.graph.arcs) a 0 0 lt in omega (arith, e)
@@ -133,7 +134,7 @@ unfolding made_deal
 timed_by Timelocks seeds d e k one s t = rw s (
   one,
   λ a lt. record {
-    dist = dist_of d.graph (leader_of d 0) (counterparty d a);
+    dist = dist_of d.graph (lock_leader d 0) (counterparty d a);
     is_dist = dist_at d k one (counterparty d a) (k.ends.to a lt);
     timelock = ap (λ (ts : List ℕ). slice_index ts a) (ap (λ x. x.timelocks) (sym s) ∙ t) ∙ timelock_at d a lt;
   },

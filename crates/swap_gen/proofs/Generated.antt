@@ -4,7 +4,7 @@ use Rattle.std.proofs.Common.{arith}
 use Rattle.std.specs.List.{range_with_len}
 use Rattle.std.proofs.lemmas.List.FromFn.{get_or-map-range_with_len}
 use Rattle.swap_digraph.specs.Value.{Graph}
-use Rattle.swap_job.specs.Step.{IsEventOf}
+use Rattle.swap_job.specs.Step.{IsJobEvent}
 use Rattle.swap_rules.specs.Accepted.{IsAccepted}
 use Rattle.proposed_deal.specs.Proposed.{HaveSeeds, IsProposed}
 use Rattle.swap_gen.specs.Made.{made_deal}
@@ -40,7 +40,7 @@ plain_has_seeds seed n p lt = some_seed seed n p (subst (λ (g : Graph). p < g.n
 pub generated_is_owned : (seed n : ℕ) → (p : ℕ) → p < (generated seed n).deal.graph.n → OwnsKeys (generated seed n) p
 generated_is_owned seed n p lt = made_is_owned (plain_job seed n) (plain_has_seeds seed n) p lt
 
-pub generated_steps : (seed n k : ℕ) → 2 ≤ n → IsEventOf (generated seed n) (event_from seed (drawn_graph seed n) k).0
+pub generated_steps : (seed n k : ℕ) → 2 ≤ n → IsJobEvent (generated seed n) (event_from seed (drawn_graph seed n) k).0
 generated_steps seed n k many =
     let job = generated seed n in event_steps job.deal job.conforming job.seeds seed n many (generated_graph seed n) k
 

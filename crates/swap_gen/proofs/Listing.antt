@@ -3,7 +3,7 @@ use Rattle.std.proofs.Common.{◌≡◌, ℕ, suc, ◌+◌, ◌-◌, ◌<◌, �
 use Rattle.std.proofs.lemmas.List.Elements.{All-push}
 use Rattle.swap_digraph.specs.Value.{Graph}
 use Rattle.swap_job.specs.declared.event.Event.{Event}
-use Rattle.swap_job.specs.Step.{IsEventOf}
+use Rattle.swap_job.specs.Step.{IsJobEvent}
 use Rattle.swap_gen.specs.Drawn.{drawn_graph, generated}
 use Rattle.swap_gen.specs.Events.{event_from, events_from, first_place, generated_events, GeneratorState}
 
@@ -32,7 +32,7 @@ is_done seed g k e count xs whole le so_far =
 abbrev pub AreListed : (seed n count e : ℕ) → GeneratorState → List Event → Type 0
 AreListed seed n count e g xs =
     (g.seed ≡ seed) × (g.parties ≡ n) × (xs ++ events_from seed (drawn_graph seed n) g.place (count - e) ≡ generated_events seed n count)
-    × All (IsEventOf (generated seed n)) xs
+    × All (IsJobEvent (generated seed n)) xs
 
 All-none : (P : Event → Type 0) → All P []
 All-none P = λ k d lt. absurd (omega arith)
@@ -44,14 +44,14 @@ first_listed seed n count g xs is none = (
   ap (λ (s : GeneratorState). s.parties) is,
   ap (λ (ys : List Event). ys ++ events_from seed (drawn_graph seed n) g.place (count - 0)) none
       ∙ ap (λ (s : GeneratorState). events_from seed (drawn_graph seed n) s.place (count - 0)) is ∙ begins seed n count,
-  subst (All (IsEventOf (generated seed n))) (sym none)
-      (All-none (IsEventOf (generated seed n))),
+  subst (All (IsJobEvent (generated seed n))) (sym none)
+      (All-none (IsJobEvent (generated seed n))),
 )
 
 pub more_listed : (seed n count e : ℕ) (g next : GeneratorState) (old new : List Event) (event : Event) → e < count → AreListed seed n count e g old
     → event ≡ (event_from g.seed (drawn_graph g.seed g.parties) g.place).0
     → next ≡ record g { place = (event_from g.seed (drawn_graph g.seed g.parties) g.place).1 }
-    → IsEventOf (generated g.seed g.parties) event → new ≡ old ++ event ∷ []
+    → IsJobEvent (generated g.seed g.parties) event → new ≡ old ++ event ∷ []
     → AreListed seed n count (e + 1) next new
 more_listed seed n count e g next old new event lt h is on fits more = (
   ap (λ (s : GeneratorState). s.seed) on ∙ h.0,
@@ -61,8 +61,8 @@ more_listed seed n count e g next old new event lt h is on fits more = (
       (ap (λ (s : GeneratorState). s.place) on ∙ ap (λ s. (event_from s (drawn_graph s g.parties) g.place).1) h.0
       ∙ ap (λ m. (event_from seed (drawn_graph seed m) g.place).1) h.1)
       more h.2,
-  subst (All (IsEventOf (generated seed n))) (sym more)
-      (All-push (IsEventOf (generated seed n)) old event h.3
-      (subst (λ m. IsEventOf (generated seed m) event) h.1
-      (subst (λ s. IsEventOf (generated s g.parties) event) h.0 fits))),
+  subst (All (IsJobEvent (generated seed n))) (sym more)
+      (All-push (IsJobEvent (generated seed n)) old event h.3
+      (subst (λ m. IsJobEvent (generated seed m) event) h.1
+      (subst (λ s. IsJobEvent (generated s g.parties) event) h.0 fits))),
 )

@@ -10,7 +10,7 @@ use Rattle.swap_digraph.proofs.Ranges.{place_below, place_is}
 use Rattle.swap_job.specs.declared.event.Event.{Event}
 use Rattle.swap_job.specs.declared.event.Event.TheVariants.{Tick, Look, Act}
 use Rattle.swap_job.specs.declared.job.Job.{Job}
-use Rattle.swap_job.specs.Step.{IsEventOf}
+use Rattle.swap_job.specs.Step.{IsJobEvent}
 use Rattle.std.proofs.lemmas.List.FromFn.{length-range_with_len}
 use Rattle.swap_gen.specs.Word.{word, next, DrawState}
 use Rattle.swap_gen.specs.Drawn.{drawn_arcs, drawn_graph, generated}
@@ -23,8 +23,8 @@ use Rattle.swap_gen.proofs.Generated.{generated_graph, generated_steps}
 
 -- What comes, by the first word.
 
-abbrev tick_of : (seed : ℕ) → Graph → (k : ℕ) → Event × ℕ
-tick_of seed g k = (Tick (word seed (next k) % length g.arcs) 1, next (next k))
+abbrev entry_tick : (seed : ℕ) → Graph → (k : ℕ) → Event × ℕ
+entry_tick seed g k = (Tick (word seed (next k) % length g.arcs) 1, next (next k))
 
 abbrev look_of : (seed : ℕ) → Graph → (k : ℕ) → Event × ℕ
 look_of seed g k = (Look (word seed (next k) % g.n) (picked (touching g (word seed (next k) % g.n)) (word seed (next (next k)))), next (next (next k)))
@@ -33,9 +33,9 @@ abbrev act_of : (seed : ℕ) → Graph → (k : ℕ) → Event × ℕ
 act_of seed g k = (Act (word seed (next k) % g.n), next (next k))
 
 abbrev by_kind : (seed : ℕ) → Graph → (k : ℕ) → Bool → Bool → Event × ℕ
-by_kind seed g k tick look = cond {A = Event × ℕ} tick (tick_of seed g k) (cond {A = Event × ℕ} look (look_of seed g k) (act_of seed g k))
+by_kind seed g k tick look = cond {A = Event × ℕ} tick (entry_tick seed g k) (cond {A = Event × ℕ} look (look_of seed g k) (act_of seed g k))
 
-tick_comes : (seed : ℕ) (g : Graph) (k : ℕ) → word seed k % 8 ≡ 0 → event_from seed g k ≡ tick_of seed g k
+tick_comes : (seed : ℕ) (g : Graph) (k : ℕ) → word seed k % 8 ≡ 0 → event_from seed g k ≡ entry_tick seed g k
 unfolding event_from
 tick_comes seed g k e = ap (λ b. by_kind seed g k b (nat_le (word seed k % 8) 4)) (eq-eqb (word seed k % 8) 0 e)
 
@@ -123,7 +123,7 @@ module _ (i : Inside) (h : Holds i) where
         ∙ sym (ap (λ (r : Event × ℕ). r.0) (look_comes i.draws.seed i.job.deal.graph i.draws.place (λ z. some (kind ∙ z)) (subst (λ k. k ≤ 4) kind few)))
         ∙ wanted_is
 
-    pub steps : (e : Event) → e ≡ wanted → IsEventOf (generated s.seed s.parties) e
+    pub steps : (e : Event) → e ≡ wanted → IsJobEvent (generated s.seed s.parties) e
     steps e is =
-        subst (IsEventOf (generated s.seed s.parties)) (sym is)
+        subst (IsJobEvent (generated s.seed s.parties)) (sym is)
         (generated_steps s.seed s.parties s.place (subst (λ (t : GeneratorState). 2 ≤ t.parties) view h.parties.0))

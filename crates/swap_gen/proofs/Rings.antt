@@ -11,7 +11,7 @@ use Rattle.swap_digraph.specs.Arcs.{same_ends}
 use Rattle.swap_digraph.specs.declared.arc_ends.ArcEnds.{ArcEnds}
 use Rattle.digraph_check.proofs.ListTests.{passing, or_split}
 use Rattle.swap_gen.specs.Word.{word}
-use Rattle.swap_gen.specs.Drawn.{leader_count, ring_arc, ring, drawn_ends, is_added, with_arc, arcs_after, drawn_arcs}
+use Rattle.swap_gen.specs.Drawn.{leader_count, ring_arc, ring, drawn_ends, is_added, with_arc, drawn_arcs_so_far, drawn_arcs}
 use Rattle.swap_gen.proofs.Places.{from_map}
 use Rattle.swap_gen.proofs.Sound.{IsRising, AreSound, sound_none, sound_more}
 
@@ -110,10 +110,10 @@ sound_with leaders n xs a h from to = go (is_added leaders xs a) refl
         let two = and_parts (not (a.from == a.to)) (not (list_any (same_ends a) xs)) both.0 in
         sound_more leaders n xs a h (rising_of leaders n a from to two.0 both.1) (not-true (list_any (same_ends a) xs) two.1)
 
-after_sound : (seed n k : ℕ) → 2 ≤ n → AreSound (leader_count seed n) n (arcs_after seed n k)
+after_sound : (seed n k : ℕ) → 2 ≤ n → AreSound (leader_count seed n) n (drawn_arcs_so_far seed n k)
 after_sound seed n zero many = rings (leader_count seed n) n n (leaders_are_low seed n many).some many (omega arith)
 after_sound seed n (suc k) many =
-    sound_with (leader_count seed n) n (arcs_after seed n k) (drawn_ends seed n k) (after_sound seed n k many) (mod-lt _ (omega arith))
+    sound_with (leader_count seed n) n (drawn_arcs_so_far seed n k) (drawn_ends seed n k) (after_sound seed n k many) (mod-lt _ (omega arith))
     (mod-lt _ (omega arith))
 
 -- The ring's arcs stay, and each draw adds one at most.
@@ -134,13 +134,13 @@ ring_with leaders n most xs a h = go (is_added leaders xs a)
         let f = h.few in
         record { ring = λ i lt. in_append xs (a ∷ []) (ring_arc n i) (inl (h.ring i lt)); many = omega (arith, e); few = omega (arith, e) }
 
-after_ring : (seed n k : ℕ) → HasRing n (n + k) (arcs_after seed n k)
+after_ring : (seed n k : ℕ) → HasRing n (n + k) (drawn_arcs_so_far seed n k)
 after_ring seed n zero =
     let e : length (ring n) ≡ n = length-map-range_with_len (ring_arc n) 0 n in
     record { ring = λ i lt. in_map (ring_arc n) (range_with_len 0 n) i (in_range i n lt); many = omega (arith, e); few = omega (arith, e) }
 after_ring seed n (suc k) =
     let e : suc (n + k) ≡ n + suc k = omega arith in
-    subst (λ m. HasRing n m (arcs_after seed n (suc k))) e (ring_with (leader_count seed n) n (n + k) (arcs_after seed n k) (drawn_ends seed n k)
+    subst (λ m. HasRing n m (drawn_arcs_so_far seed n (suc k))) e (ring_with (leader_count seed n) n (n + k) (drawn_arcs_so_far seed n k) (drawn_ends seed n k)
     (after_ring seed n k))
 
 pub arcs_are_sound : (seed n : ℕ) → 2 ≤ n → AreSound (leader_count seed n) n (drawn_arcs seed n)

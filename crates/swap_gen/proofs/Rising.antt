@@ -7,13 +7,13 @@ use Rattle.std.proofs.lemmas.Bool.{false≢true, cases_lt, not-true}
 use Rattle.swap_base.specs.Lists.{IsIn}
 use Rattle.swap_base.proofs.Lists.{and_parts, list_all-from, in_range, from_range}
 use Rattle.swap_digraph.specs.Value.{Graph}
-use Rattle.swap_digraph.specs.Graph.{parties, is_path, is_among, has_arc, last_is, are_followers, IsFeedback, IsStronglyConnected}
+use Rattle.swap_digraph.specs.Graph.{parties, is_path, is_listed, has_arc, last_is, are_followers, IsFeedback, IsStronglyConnected}
 use Rattle.digraph_check.specs.Reach.{reaches_in, reaches}
 use Rattle.digraph_check.proofs.Walks.{stays, along, snoc}
 use Rattle.digraph_check.proofs.Paths.{walk_reaches}
 use Rattle.digraph_check.proofs.ClosedSets.{closed_set-none, connected_of_none}
-use Rattle.leader_check.proofs.Followers.{arc_of, arc_from}
-use Rattle.swap_digraph.proofs.Paths.{path_step, in-is_among}
+use Rattle.leader_check.proofs.Followers.{parse_arc, arc_from}
+use Rattle.swap_digraph.proofs.Paths.{path_step, in-is_listed}
 use Rattle.swap_gen.specs.Drawn.{ring_arc}
 use Rattle.swap_gen.proofs.Sound.{AreSound}
 
@@ -48,19 +48,19 @@ module _ (g : Graph) (some : 0 < g.n) (ring : (i : ℕ) → i < g.n → IsIn (ri
 
 -- Followers.
 
-module _ (g : Graph) (leaders : List ℕ) (rises : (u v : ℕ) → has_arc g u v ≡ true → not (is_among u leaders) ≡ true → not (is_among v leaders) ≡ true
+module _ (g : Graph) (leaders : List ℕ) (rises : (u v : ℕ) → has_arc g u v ≡ true → not (is_listed u leaders) ≡ true → not (is_listed v leaders) ≡ true
     → u < v) where
   -- the first of a path of followers has the lowest number, and the last follows too
   first_is_low : (p : List ℕ) (u v : ℕ) → is_path g (u ∷ p) ≡ true → are_followers leaders (u ∷ p) ≡ true → last_is v (u ∷ p) ≡ true
-      → (u ≤ v) × (not (is_among v leaders) ≡ true)
+      → (u ≤ v) × (not (is_listed v leaders) ≡ true)
   first_is_low [] u v path follow last =
       let e : u ≡ v = eqb-true u v last in
-      let f = and_parts (not (is_among u leaders)) true follow in
-      (omega arith, subst (λ w. not (is_among w leaders) ≡ true) e f.0)
+      let f = and_parts (not (is_listed u leaders)) true follow in
+      (omega arith, subst (λ w. not (is_listed w leaders) ≡ true) e f.0)
   first_is_low (w ∷ p) u v path follow last =
       let s = path_step g u w p path in
-      let f = and_parts (not (is_among u leaders)) (are_followers leaders (w ∷ p)) follow in
-      let h = and_parts (not (is_among w leaders)) (are_followers leaders p) f.1 in
+      let f = and_parts (not (is_listed u leaders)) (are_followers leaders (w ∷ p)) follow in
+      let h = and_parts (not (is_listed w leaders)) (are_followers leaders p) f.1 in
       let up = rises u w s.arc f.0 h.0 in
       let r = first_is_low p w v s.rest f.1 last in
       let le = r.0 in
@@ -70,26 +70,26 @@ module _ (g : Graph) (leaders : List ℕ) (rises : (u v : ℕ) → has_arc g u v
   rising_is_feedback u v [] between follow = absurd (cc (between.0))
   rising_is_feedback u v (x ∷ p) between follow =
       let e : x ≡ u = eqb-true x u between.1 in
-      let f = and_parts (not (is_among x leaders)) (are_followers leaders p) follow in
+      let f = and_parts (not (is_listed x leaders)) (are_followers leaders p) follow in
       let r = first_is_low p x v between.0 follow between.2 in
       go e f.0 r.0 r.1 (has_arc g v u) refl
     where
-      go : x ≡ u → not (is_among x leaders) ≡ true → x ≤ v → not (is_among v leaders) ≡ true → (b : Bool) → has_arc g v u ≡ b → b ≡ false
+      go : x ≡ u → not (is_listed x leaders) ≡ true → x ≤ v → not (is_listed v leaders) ≡ true → (b : Bool) → has_arc g v u ≡ b → b ≡ false
       go e f le h false a = refl
-      go e f le h true a = let up = rises v u a h (subst (λ w. not (is_among w leaders) ≡ true) e f) in absurd (omega arith)
+      go e f le h true a = let up = rises v u a h (subst (λ w. not (is_listed w leaders) ≡ true) e f) in absurd (omega arith)
 
 -- the parties from the count on follow
-pub follower_above : (count u : ℕ) → not (is_among u (range_with_len 0 count)) ≡ true → count ≤ u
+pub follower_above : (count u : ℕ) → not (is_listed u (range_with_len 0 count)) ≡ true → count ≤ u
 follower_above count u h = go (cases_lt u count)
   where
     go : (u < count) ⊎ (count ≤ u) → count ≤ u
-    go (inl lt) = absurd (false≢true (sym (not-true (is_among u (range_with_len 0 count)) h) ∙ in-is_among u (range_with_len 0 count) (in_range u count lt)))
+    go (inl lt) = absurd (false≢true (sym (not-true (is_listed u (range_with_len 0 count)) h) ∙ in-is_listed u (range_with_len 0 count) (in_range u count lt)))
     go (inr le) = le
 
 pub sound_rises : (g : Graph) (leaders : ℕ) → AreSound leaders g.n g.arcs → (u v : ℕ) → has_arc g u v ≡ true
-    → not (is_among u (range_with_len 0 leaders)) ≡ true → not (is_among v (range_with_len 0 leaders)) ≡ true → u < v
+    → not (is_listed u (range_with_len 0 leaders)) ≡ true → not (is_listed v (range_with_len 0 leaders)) ≡ true → u < v
 sound_rises g leaders h u v arc f t =
-    let a = arc_of g u v arc in
+    let a = parse_arc g u v arc in
     let from = a.from in
     let to = a.to in
     let fu = follower_above leaders u f in

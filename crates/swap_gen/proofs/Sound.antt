@@ -8,7 +8,7 @@ use Rattle.std.proofs.lemmas.List.{get_or_append_left, get_or-append_right}
 use Rattle.std.proofs.lemmas.List.Quantifiers.{position-Some}
 use Rattle.swap_base.specs.Lists.{IsIn}
 use Rattle.swap_base.proofs.Lists.{list_any-in, from_append, in_place, none_both}
-use Rattle.swap_digraph.specs.Arcs.{fault_at, first_fault, first_fault_after, same_ends}
+use Rattle.swap_digraph.specs.Arcs.{arc_fault, first_fault, next_arc_fault, same_ends}
 use Rattle.swap_digraph.specs.declared.arc_ends.ArcEnds.{ArcEnds}
 use Rattle.swap_digraph.specs.declared.deal.Version.TheVariants.{One}
 use Rattle.swap_gen.proofs.Places.{no_arc}
@@ -73,20 +73,20 @@ no_position xs a fresh = go (position (same_ends a) xs) refl
         absurd (false≢true (sym fresh ∙ list_any-in (same_ends a) xs (get_or xs i no_arc) r.1 (in_place xs i no_arc r.0)))
 
 no_fault_at : (n : ℕ) (xs : List ArcEnds) (k : ℕ) (a : ArcEnds) → a.from < n → a.to < n → a.from ≢ a.to → list_any (same_ends a) xs ≡ false
-    → fault_at n One xs k a ≡ None
-unfolding fault_at
+    → arc_fault n One xs k a ≡ None
+unfolding arc_fault
 no_fault_at n xs k a from to apart fresh = rw (lt-ltb a.from n from, lt-ltb a.to n to, ne_eqb a.from a.to apart, no_position xs a fresh) refl
 
-fault_last : (n : ℕ) (before xs : List ArcEnds) (a : ArcEnds) → first_fault_after n One before xs ≡ None
-    → fault_at n One (before ++ xs) (length (before ++ xs)) a ≡ None → first_fault_after n One before (xs ++ a ∷ []) ≡ None
-fault_last n before [] a h k = rw (subst (λ (ys : List ArcEnds). fault_at n One ys (length ys) a ≡ None) (append-nil before) k) refl
+fault_last : (n : ℕ) (before xs : List ArcEnds) (a : ArcEnds) → next_arc_fault n One before xs ≡ None
+    → arc_fault n One (before ++ xs) (length (before ++ xs)) a ≡ None → next_arc_fault n One before (xs ++ a ∷ []) ≡ None
+fault_last n before [] a h k = rw (subst (λ (ys : List ArcEnds). arc_fault n One ys (length ys) a ≡ None) (append-nil before) k) refl
 fault_last n before (x ∷ xs) a h k =
-    let t = none_both (fault_at n One before (length before) x) (first_fault_after n One (before ++ x ∷ []) xs) h in
-    let m : fault_at n One ((before ++ x ∷ []) ++ xs) (length ((before ++ x ∷ []) ++ xs)) a ≡ None =
-    subst (λ (ys : List ArcEnds). fault_at n One ys (length ys) a ≡ None) (sym (append_assoc before (x ∷ []) xs)) k in
+    let t = none_both (arc_fault n One before (length before) x) (next_arc_fault n One (before ++ x ∷ []) xs) h in
+    let m : arc_fault n One ((before ++ x ∷ []) ++ xs) (length ((before ++ x ∷ []) ++ xs)) a ≡ None =
+    subst (λ (ys : List ArcEnds). arc_fault n One ys (length ys) a ≡ None) (sym (append_assoc before (x ∷ []) xs)) k in
     rw t.0 (fault_last n (before ++ x ∷ []) xs a t.1 m)
 
-faultless_more : (n : ℕ) (xs : List ArcEnds) (a : ArcEnds) → first_fault n One xs ≡ None → fault_at n One xs (length xs) a ≡ None
+faultless_more : (n : ℕ) (xs : List ArcEnds) (a : ArcEnds) → first_fault n One xs ≡ None → arc_fault n One xs (length xs) a ≡ None
     → first_fault n One (xs ++ a ∷ []) ≡ None
 unfolding first_fault
 faultless_more n xs a h k = fault_last n [] xs a h k

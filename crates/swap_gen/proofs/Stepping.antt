@@ -21,10 +21,10 @@ use Rattle.swap_gen.proofs.Rings.{arcs_have_ring}
 
 -- An element's place.
 
-pub place_of : {A : Type 0} (xs : List A) (x d : A) → IsIn x xs → (i : ℕ) × (i < length xs) × (get_or xs i d ≡ x)
-place_of [] x d i = absurd i
-place_of (y ∷ xs) x d (inl e) = (0, omega arith, sym e)
-place_of (y ∷ xs) x d (inr i) = let r = place_of xs x d i in (suc r.0, omega arith, r.2)
+pub find_place : {A : Type 0} (xs : List A) (x d : A) → IsIn x xs → (i : ℕ) × (i < length xs) × (get_or xs i d ≡ x)
+find_place [] x d i = absurd i
+find_place (y ∷ xs) x d (inl e) = (0, omega arith, sym e)
+find_place (y ∷ xs) x d (inr i) = let r = find_place xs x d i in (suc r.0, omega arith, r.2)
 
 some_in : {A : Type 0} (xs : List A) (x : A) → IsIn x xs → 0 < length xs
 some_in [] x i = absurd i
@@ -35,7 +35,7 @@ some_in (y ∷ xs) x i = omega arith
 pub touching_some : (seed n p : ℕ) → p < n → 0 < length (touching (drawn_graph seed n) p)
 touching_some seed n p lt =
     let g : Graph = drawn_graph seed n in
-    let r = place_of (drawn_arcs seed n) (ring_arc n p) no_arc ((arcs_have_ring seed n).ring p lt) in
+    let r = find_place (drawn_arcs seed n) (ring_arc n p) no_arc ((arcs_have_ring seed n).ring p lt) in
     let from : p ≡ (ends g r.0).from = sym (ap (λ (a : ArcEnds). a.from) r.2) in
     let passes : ((p == (ends g r.0).from) || (p == (ends g r.0).to)) ≡ true =
     or-left (p == (ends g r.0).from) (p == (ends g r.0).to) (eq-eqb p (ends g r.0).from from) in

@@ -20,8 +20,8 @@ faultless_arcs seed n xs many e = ap (first_fault n One) e ∙ (arcs_are_sound s
 abbrev pub graph_with : ℕ → List ArcEnds → Graph
 graph_with n xs = record { n = n; arcs = xs }
 
-abbrev pub deal_of : ℕ → Graph → List ℕ → List ℕ → List (List ℕ) → List (List (List ℕ)) → List ℕ → Deal
-deal_of n g leaders amounts hashlocks keys timelocks = record {
+abbrev pub inside_deal : ℕ → Graph → List ℕ → List ℕ → List (List ℕ) → List (List (List ℕ)) → List ℕ → Deal
+inside_deal n g leaders amounts hashlocks keys timelocks = record {
   version = One;
   graph = g;
   leaders = leaders;
@@ -39,15 +39,15 @@ deal_of n g leaders amounts hashlocks keys timelocks = record {
 pub deal_is : (seed n : ℕ) (g : Graph) (leaders amounts : List ℕ) (hashlocks : List (List ℕ)) (keys : List (List (List ℕ))) (timelocks : List ℕ)
     → g ≡ drawn_graph seed n → leaders ≡ range_with_len 0 (leader_count seed n)
     → amounts ≡ map (drawn_amount seed n) (range_with_len 0 (length (drawn_arcs seed n)))
-    → hashlocks ≡ [] → keys ≡ [] → timelocks ≡ [] → deal_of n g leaders amounts hashlocks keys timelocks ≡ plain_deal seed n
+    → hashlocks ≡ [] → keys ≡ [] → timelocks ≡ [] → inside_deal n g leaders amounts hashlocks keys timelocks ≡ plain_deal seed n
 unfolding plain_deal
 deal_is seed n g ls am hs ks ts eg el ea eh ek et =
-    ap (λ x. deal_of n x ls am hs ks ts) eg
-    ∙ ap (λ x. deal_of n (drawn_graph seed n) x am hs ks ts) el
-    ∙ ap (λ x. deal_of n (drawn_graph seed n) (range_with_len 0 (leader_count seed n)) x hs ks ts) ea
-    ∙ ap (λ x. deal_of n (drawn_graph seed n) (range_with_len 0 (leader_count seed n))
+    ap (λ x. inside_deal n x ls am hs ks ts) eg
+    ∙ ap (λ x. inside_deal n (drawn_graph seed n) x am hs ks ts) el
+    ∙ ap (λ x. inside_deal n (drawn_graph seed n) (range_with_len 0 (leader_count seed n)) x hs ks ts) ea
+    ∙ ap (λ x. inside_deal n (drawn_graph seed n) (range_with_len 0 (leader_count seed n))
     (map (drawn_amount seed n) (range_with_len 0 (length (drawn_arcs seed n)))) x ks ts) eh
-    ∙ ap (λ x. deal_of n (drawn_graph seed n) (range_with_len 0 (leader_count seed n))
+    ∙ ap (λ x. inside_deal n (drawn_graph seed n) (range_with_len 0 (leader_count seed n))
     (map (drawn_amount seed n) (range_with_len 0 (length (drawn_arcs seed n)))) [] x ts) ek
-    ∙ ap (λ x. deal_of n (drawn_graph seed n) (range_with_len 0 (leader_count seed n))
+    ∙ ap (λ x. inside_deal n (drawn_graph seed n) (range_with_len 0 (leader_count seed n))
     (map (drawn_amount seed n) (range_with_len 0 (length (drawn_arcs seed n)))) [] [] x) et

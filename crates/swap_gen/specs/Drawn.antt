@@ -41,13 +41,13 @@ unfoldable pub with_arc : ℕ → List ArcEnds → ArcEnds → List ArcEnds
 with_arc leaders arcs a = if is_added leaders arcs a then arcs ++ a ∷ [] else arcs
 
 -- the ring's arcs, and those of the first k ends that are drawn
-abbrev pub arcs_after : (seed n k : ℕ) → List ArcEnds
-arcs_after seed n zero = ring n
-arcs_after seed n (suc k) = with_arc (leader_count seed n) (arcs_after seed n k) (drawn_ends seed n k)
+abbrev pub drawn_arcs_so_far : (seed n k : ℕ) → List ArcEnds
+drawn_arcs_so_far seed n zero = ring n
+drawn_arcs_so_far seed n (suc k) = with_arc (leader_count seed n) (drawn_arcs_so_far seed n k) (drawn_ends seed n k)
 
 -- all arcs: n ends are drawn
 unfoldable pub drawn_arcs : (seed n : ℕ) → List ArcEnds
-drawn_arcs seed n = arcs_after seed n n
+drawn_arcs seed n = drawn_arcs_so_far seed n n
 
 abbrev pub drawn_graph : (seed n : ℕ) → Graph
 drawn_graph seed n = record { n = n; arcs = drawn_arcs seed n }
@@ -74,8 +74,8 @@ plain_deal seed n = record {
 }
 
 -- the name of party i: p and its number
-abbrev pub name_of : ℕ → List ℕ
-name_of i = codes "p" ++ decimal i
+abbrev pub party_label : ℕ → List ℕ
+party_label i = codes "p" ++ decimal i
 
 -- the seed of party i
 abbrev pub drawn_seed : (seed i : ℕ) → List ℕ
@@ -86,7 +86,7 @@ unfoldable pub plain_job : (seed n : ℕ) → Job
 plain_job seed n = record {
   purpose = Make;
   deal = plain_deal seed n;
-  names = map name_of (range_with_len 0 n);
+  names = map party_label (range_with_len 0 n);
   roles = replicate n Conforming;
   conforming = replicate n true;
   seeds = map (λ i. Some (drawn_seed seed i)) (range_with_len 0 n);

@@ -3,40 +3,40 @@ use Rattle.std.specs.Prelude.{ℕ, List, [], map, length, replicate, Option, Non
 use Rattle.std.specs.List.{range_with_len}
 use Rattle.time_bounds.specs.Times as times
 use Rattle.swap_digraph.specs.Graph.{arcs}
-use Rattle.swap_digraph.specs.Deal.{counterparty, leader_of, locks}
+use Rattle.swap_digraph.specs.Deal.{counterparty, lock_leader, locks}
 use Rattle.swap_digraph.specs.declared.deal.Deal.{Deal}
 use Rattle.swap_digraph.specs.declared.deal.Mode.{Mode}
 use Rattle.swap_digraph.specs.declared.deal.Mode.TheVariants.{Timelocks, Hashkeys}
 use Rattle.leader_check.specs.Distance.{dist_of}
-use Rattle.hash_signature.specs.Signature.{hash_of, secret_of, public_key_of}
+use Rattle.hash_signature.specs.Signature.{hashed_value, derive_secret, derive_public_key}
 use Rattle.hashkey_path.specs.Digest.{deal_id}
 use Rattle.swap_job.specs.declared.job.Job.{Job}
 use Rattle.swap_job.specs.declared.job.Purpose.TheVariants.{Make}
 
 -- the seed of party p, and zeros where it has none
-abbrev pub seed_in : List (Option (List ℕ)) → ℕ → List ℕ
-seed_in seeds p = unwrap_or (slice_index_or seeds p None) (replicate 32 0)
+abbrev pub read_seed : List (Option (List ℕ)) → ℕ → List ℕ
+read_seed seeds p = unwrap_or (slice_index_or seeds p None) (replicate 32 0)
 
 -- the hashlock that a leader's seed gives
 abbrev pub hashlock_from : List (Option (List ℕ)) → ℕ → List ℕ
-hashlock_from seeds leader = hash_of (secret_of (seed_in seeds leader))
+hashlock_from seeds leader = hashed_value (derive_secret (read_seed seeds leader))
 
 -- the public keys of party p, one for each lock
-abbrev pub keys_from : List (Option (List ℕ)) → Deal → ℕ → List (List ℕ)
-keys_from seeds d p = map (public_key_of (seed_in seeds p) p) (locks d)
+abbrev pub seed_keys : List (Option (List ℕ)) → Deal → ℕ → List (List ℕ)
+seed_keys seeds d p = map (derive_public_key (read_seed seeds p) p) (locks d)
 
 -- the public keys of each party; none with timelocks
 abbrev pub all_keys : Mode → List (Option (List ℕ)) → Deal → List (List (List ℕ))
 all_keys Timelocks seeds d = []
-all_keys Hashkeys seeds d = map (keys_from seeds d) (range_with_len 0 d.graph.n)
+all_keys Hashkeys seeds d = map (seed_keys seeds d) (range_with_len 0 d.graph.n)
 
 -- the timelock of arc a, by the distance of its counterparty from the one leader
-abbrev pub timelock_for : Deal → ℕ → ℕ
-timelock_for d a = times.timelock d.start d.delta d.bound (dist_of d.graph (leader_of d 0) (counterparty d a))
+abbrev pub arc_timelock : Deal → ℕ → ℕ
+arc_timelock d a = times.timelock d.start d.delta d.bound (dist_of d.graph (lock_leader d 0) (counterparty d a))
 
 -- the timelock of each arc; 0 with hashkeys
 abbrev pub all_timelocks : Mode → Deal → List ℕ
-all_timelocks Timelocks d = map (timelock_for d) (arcs d.graph)
+all_timelocks Timelocks d = map (arc_timelock d) (arcs d.graph)
 all_timelocks Hashkeys d = replicate (length d.graph.arcs) 0
 
 -- the deal but for its id

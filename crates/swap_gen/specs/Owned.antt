@@ -2,7 +2,7 @@
 use Rattle.std.specs.Prelude.{◌≡◌, ℕ, List, Option, Some, None, slice_index_or}
 use Rattle.party_wallet.specs.Fits.{wrong_lock}
 use Rattle.party_wallet.specs.Value.{WalletState}
-use Rattle.party_wallet.specs.Wallets.{wallets_of}
+use Rattle.party_wallet.specs.Wallets.{new_wallets}
 use Rattle.swap_job.specs.declared.job.Job.{Job}
 
 -- Party p has a seed, which gives it what the deal states of it for each lock.
@@ -12,5 +12,5 @@ pub record OwnsKeys (job : Job) (p : ℕ) : Type 0 where
   pub fits : wrong_lock job.deal p seed ≡ None
 
 -- the wallet of each party that conforms and has a seed, with nothing signed
-abbrev pub wallets_in : Job → List (Option WalletState)
-wallets_in job = wallets_of job.deal job.conforming job.seeds
+abbrev pub inside_wallets : Job → List (Option WalletState)
+inside_wallets job = new_wallets job.deal job.conforming job.seeds

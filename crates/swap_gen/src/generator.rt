@@ -3,12 +3,12 @@
 ghost use Rattle.std.specs.Prelude.{◌≡◌, ◌≤◌, ◌<◌, ◌==◌, ◌||◌, ℕ, IfOk, All, length, map};
 ghost use Rattle.std.specs.List.{range_with_len};
 ghost use Rattle.swap_digraph.specs.Graph.{arcs};
-ghost use Rattle.swap_job.specs.Step.{IsEventOf};
+ghost use Rattle.swap_job.specs.Step.{IsJobEvent};
 ghost use Rattle.swap_rules.specs.Accepted.{IsAccepted};
 ghost use Rattle.swap_gen.specs.Drawn.{drawn_graph, generated};
 ghost use Rattle.swap_gen.specs.Events.{event_from, first_place, generated_events, picked, touching};
 ghost use Rattle.swap_gen.specs.Word.{next, word};
-ghost use Rattle.swap_gen.specs.Owned.{wallets_in, OwnsKeys};
+ghost use Rattle.swap_gen.specs.Owned.{inside_wallets, OwnsKeys};
 
 use crate::draws::Draws;
 use crate::wallets::{MadeJob, made_job};
@@ -100,7 +100,7 @@ impl Generator {
         requires low { 2 ≤ parties }
         requires high { parties ≤ 24 }
         ensures generator { IfOk result (λ r. r.0 ≡ record { seed = seed; parties = parties; place = first_place seed parties }) }
-        ensures wallets { IfOk result (λ r. r.1.items ≡ wallets_in (generated seed parties)) }
+        ensures wallets { IfOk result (λ r. r.1.items ≡ inside_wallets (generated seed parties)) }
     {
         let mut draws = Draws::new(seed);
         let MadeJob { job, wallets } = made_job(alloc, &mut draws, seed, parties)?;
@@ -138,7 +138,7 @@ impl Generator {
     pub fn next_event(&mut self) -> Event
         ensures event { result ≡ (event_from self.old.seed (drawn_graph self.old.seed self.old.parties) self.old.place).0 }
         ensures drawn { self.new ≡ record self.old { place = (event_from self.old.seed (drawn_graph self.old.seed self.old.parties) self.old.place).1 } }
-        ensures fits { IsEventOf (generated self.old.seed self.old.parties) result }
+        ensures fits { IsJobEvent (generated self.old.seed self.old.parties) result }
     {
         let kind = self.draws.draw() % 8;
         let graph = &self.job.deal.graph;
@@ -168,7 +168,7 @@ pub fn generate(
     ensures events { IfOk result (λ r. r.1.items ≡ generated_events seed parties events) }
     ensures accepted { IfOk result (λ r. IsAccepted r.0.deal) }
     ensures owned { IfOk result (λ r. (p : ℕ) → p < r.0.deal.graph.n → OwnsKeys r.0 p) }
-    ensures fit { IfOk result (λ r. All (IsEventOf r.0) r.1.items) }
+    ensures fit { IfOk result (λ r. All (IsJobEvent r.0) r.1.items) }
 {
     let mut generator = Generator::new(alloc, seed, parties)?;
     let mut list = Vec::new(alloc);

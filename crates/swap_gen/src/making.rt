@@ -1,16 +1,16 @@
 //! A deal with all that its parties' seeds give.
 
 ghost use Rattle.std.specs.Prelude.{◌≡◌, ◌≤◌, ◌<◌, ℕ, IfOk, OnOk, length, map, slice_index};
-ghost use Rattle.swap_digraph.specs.Deal.{leader_of};
+ghost use Rattle.swap_digraph.specs.Deal.{lock_leader};
 ghost use Rattle.swap_digraph.specs.Graph.{arcs};
 ghost use Rattle.swap_digraph.specs.declared.deal.Mode.TheVariants.{Timelocks};
 ghost use Rattle.leader_check.specs.Distance.{dist_of};
 ghost use Rattle.swap_rules.specs.Accepted.{IsAccepted};
-ghost use Rattle.swap_gen.specs.Made.{all_keys, all_timelocks, made, made_deal, timelock_for};
+ghost use Rattle.swap_gen.specs.Made.{all_keys, all_timelocks, made, made_deal, arc_timelock};
 ghost use Rattle.proposed_deal.specs.Proposed.{HaveSeeds, IsProposed};
 ghost use Rattle.swap_gen.specs.Owned.{OwnsKeys};
 
-use crate::seeds::{all_keys, hashlocks_from};
+use crate::seeds::{all_keys, seed_hashlocks};
 use hashkey_path::deal_digest;
 use leader_check::{LeaderAnswer, dist, levels};
 use std::alloc::Global;
@@ -20,12 +20,12 @@ use swap_job::{Job, Purpose};
 use time_bounds::timelock;
 
 /// How far each party stands from the one leader.
-fn dists_of(alloc: Global, deal: &Deal) -> Result<Listed<u32>, NoMemory>
+fn deal_distances(alloc: Global, deal: &Deal) -> Result<Listed<u32>, NoMemory>
     requires proposed { IsProposed deal.now }
     requires mode { deal.now.mode ≡ Timelocks }
     ensures parties { IfOk result (λ l. length l ≡ deal.now.graph.n) }
     ensures dist { IfOk result (λ l. (v : ℕ) → v < deal.now.graph.n
-        → slice_index l v ≡ dist_of deal.now.graph (leader_of deal.now 0) v) }
+        → slice_index l v ≡ dist_of deal.now.graph (lock_leader deal.now 0) v) }
     ensures low { IfOk result (λ l. (v : ℕ) → v < deal.now.graph.n → slice_index l v ≤ 64) }
 {
     let leader = deal.leaders.as_slice()[0];
@@ -36,12 +36,12 @@ fn dists_of(alloc: Global, deal: &Deal) -> Result<Listed<u32>, NoMemory>
 }
 
 /// The timelock of each arc, by how far its counterparty stands from the one leader.
-fn timelocks_by(alloc: Global, deal: &Deal, dists: &[u32]) -> Result<Listed<u32>, NoMemory>
+fn derive_timelocks(alloc: Global, deal: &Deal, dists: &[u32]) -> Result<Listed<u32>, NoMemory>
     requires proposed { IsProposed deal.now }
     requires parties { length dists.now ≡ deal.now.graph.n }
-    requires dist { (v : ℕ) → v < deal.now.graph.n → slice_index dists.now v ≡ dist_of deal.now.graph (leader_of deal.now 0) v }
+    requires dist { (v : ℕ) → v < deal.now.graph.n → slice_index dists.now v ≡ dist_of deal.now.graph (lock_leader deal.now 0) v }
     requires low { (v : ℕ) → v < deal.now.graph.n → slice_index dists.now v ≤ 64 }
-    ensures { IfOk result (λ l. l ≡ map (timelock_for deal.now) (arcs deal.now.graph)) }
+    ensures { IfOk result (λ l. l ≡ map (arc_timelock deal.now) (arcs deal.now.graph)) }
 {
     let mut timelocks = Vec::new(alloc);
     for arc in deal.graph.arcs() {
@@ -58,8 +58,8 @@ pub fn all_timelocks(alloc: Global, deal: &Deal) -> Result<Listed<u32>, NoMemory
 {
     match deal.mode {
         Mode::Timelocks => {
-            let dists = dists_of(alloc, deal)?;
-            timelocks_by(alloc, deal, dists.as_slice())
+            let dists = deal_distances(alloc, deal)?;
+            derive_timelocks(alloc, deal, dists.as_slice())
         }
         Mode::Hashkeys => Ok(Listed::new(vec![in alloc; 0; deal.graph.arcs().len()]?)),
     }
@@ -77,7 +77,7 @@ pub(crate) fn fill(
     requires keys { keys ≡ all_keys deal.old.mode seeds.now deal.old }
     ensures { OnOk result (deal.new ≡ made_deal seeds.now deal.old) }
 {
-    deal.hashlocks = hashlocks_from(alloc, seeds, deal.leaders.as_slice())?;
+    deal.hashlocks = seed_hashlocks(alloc, seeds, deal.leaders.as_slice())?;
     deal.keys = keys;
     deal.timelocks = all_timelocks(alloc, deal)?;
     deal.id = deal_digest(deal);

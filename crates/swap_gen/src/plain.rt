@@ -4,7 +4,7 @@ ghost use Rattle.std.specs.Prelude.{◌≡◌, ◌≤◌, ◌<◌, IfOk, OnOk, S
 ghost use Rattle.std.specs.List.{range_with_len};
 ghost use Rattle.swap_digraph.specs.Arcs.{first_fault};
 ghost use Rattle.swap_job.specs.declared.job.Role.TheVariants.{Conforming};
-ghost use Rattle.swap_gen.specs.Drawn.{drawn_arcs, name_of, plain_deal, plain_job, drawn_seed};
+ghost use Rattle.swap_gen.specs.Drawn.{drawn_arcs, party_label, plain_deal, plain_job, drawn_seed};
 ghost use Rattle.swap_gen.specs.Events.{first_place};
 
 use crate::arcs::{drawn_amounts, drawn_arcs, leader_count};
@@ -15,8 +15,8 @@ use swap_base::{ByteText, Digest, Listed, NoMemory, PartyId, Piece, put};
 use swap_digraph::{ArcEnds, Deal, Digraph, Mode, Version};
 use swap_job::{Finish, Job, Purpose, Role};
 
-fn name_of(alloc: Global, p: PartyId) -> Result<ByteText, NoMemory>
-    ensures { IfOk result (λ t. t ≡ name_of p) }
+fn party_label(alloc: Global, p: PartyId) -> Result<ByteText, NoMemory>
+    ensures { IfOk result (λ t. t ≡ party_label p) }
 {
     let mut name = Vec::new(alloc);
     put(&mut name, &[Piece::Text("p"), Piece::Number(p as u64)])?;
@@ -24,16 +24,16 @@ fn name_of(alloc: Global, p: PartyId) -> Result<ByteText, NoMemory>
 }
 
 fn names(alloc: Global, parties: u8) -> Result<Listed<ByteText>, NoMemory>
-    ensures { IfOk result (λ l. l ≡ map name_of (range_with_len 0 parties)) }
+    ensures { IfOk result (λ l. l ≡ map party_label (range_with_len 0 parties)) }
 {
     let mut names = Vec::new(alloc);
     for p in 0..parties {
-        names.push(name_of(alloc, p)?)?;
+        names.push(party_label(alloc, p)?)?;
     }
     Ok(Listed::new(names))
 }
 
-fn seed_of(seed: u32, p: PartyId) -> Digest
+fn make_seed(seed: u32, p: PartyId) -> Digest
     ensures { result ≡ drawn_seed seed p }
 {
     let mut hasher = Sha256::new();
@@ -48,7 +48,7 @@ fn seeds(alloc: Global, seed: u32, parties: u8) -> Result<Listed<Option<Digest>>
 {
     let mut seeds = Vec::new(alloc);
     for p in 0..parties {
-        seeds.push(Some(seed_of(seed, p)))?;
+        seeds.push(Some(make_seed(seed, p)))?;
     }
     Ok(Listed::new(seeds))
 }
@@ -71,7 +71,7 @@ fn lowest(alloc: Global, count: u8) -> Result<Listed<PartyId>, NoMemory>
 }
 
 /// The digraph of arcs that are no fault.
-fn graph_of(alloc: Global, parties: u8, arcs: Vec<ArcEnds>) -> Result<Digraph, NoMemory>
+fn build_graph(alloc: Global, parties: u8, arcs: Vec<ArcEnds>) -> Result<Digraph, NoMemory>
     requires few { length arcs.items ≤ 128 }
     requires sound { first_fault parties Version.One arcs.items ≡ None }
     ensures { IfOk result (λ g. g ≡ record { n = parties; arcs = arcs.items }) }
@@ -94,7 +94,7 @@ fn plain_deal(alloc: Global, draws: &mut Draws, parties: u8) -> Result<Deal, NoM
     let amounts = drawn_amounts(alloc, draws, parties, arcs.len())?;
     Ok(Deal {
         version: Version::One,
-        graph: graph_of(alloc, parties, arcs)?,
+        graph: build_graph(alloc, parties, arcs)?,
         leaders: lowest(alloc, leaders)?,
         start: 20,
         delta: 20,

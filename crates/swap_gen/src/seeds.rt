@@ -2,17 +2,17 @@
 
 ghost use Rattle.std.specs.Prelude.{◌≡◌, ◌≤◌, IfOk, length, map};
 ghost use Rattle.std.specs.List.{range_with_len};
-ghost use Rattle.hash_signature.specs.Signature.{public_key_of};
-ghost use Rattle.swap_gen.specs.Made.{all_keys, hashlock_from, keys_from, seed_in};
+ghost use Rattle.hash_signature.specs.Signature.{derive_public_key};
+ghost use Rattle.swap_gen.specs.Made.{all_keys, hashlock_from, seed_keys, read_seed};
 
-use hash_signature::{hash_of, keygen, secret_of};
+use hash_signature::{derive_secret, hashed_value, keygen};
 use std::alloc::Global;
 use swap_base::{Digest, Listed, NoMemory, PartyId};
 use swap_digraph::{Deal, Mode};
 
 /// The seed of a party, and zeros where it has none.
-pub(crate) fn seed_in(seeds: &[Option<Digest>], p: PartyId) -> Digest
-    ensures { result ≡ seed_in seeds.now p }
+pub(crate) fn read_seed(seeds: &[Option<Digest>], p: PartyId) -> Digest
+    ensures { result ≡ read_seed seeds.now p }
 {
     match seeds.get(p as usize) {
         Some(Some(seed)) => *seed,
@@ -21,7 +21,7 @@ pub(crate) fn seed_in(seeds: &[Option<Digest>], p: PartyId) -> Digest
 }
 
 /// The hashlock of each leader.
-pub(crate) fn hashlocks_from(
+pub(crate) fn seed_hashlocks(
     alloc: Global,
     seeds: &[Option<Digest>],
     leaders: &[PartyId],
@@ -30,21 +30,21 @@ pub(crate) fn hashlocks_from(
 {
     let mut hashlocks = Vec::new(alloc);
     for leader in leaders {
-        hashlocks.push(hash_of(&secret_of(&seed_in(seeds, *leader))))?;
+        hashlocks.push(hashed_value(&derive_secret(&read_seed(seeds, *leader))))?;
     }
     Ok(Listed::new(hashlocks))
 }
 
 /// The public keys of a party, one for each lock.
-fn keys_from(
+fn seed_keys(
     alloc: Global,
     seeds: &[Option<Digest>],
     locks: u8,
     p: PartyId,
 ) -> Result<Listed<Digest>, NoMemory>
-    ensures { IfOk result (λ l. l ≡ map (public_key_of (seed_in seeds.now p) p) (range_with_len 0 locks)) }
+    ensures { IfOk result (λ l. l ≡ map (derive_public_key (read_seed seeds.now p) p) (range_with_len 0 locks)) }
 {
-    let seed = seed_in(seeds, p);
+    let seed = read_seed(seeds, p);
     let mut keys = Vec::new(alloc);
     'locks: for lock in 0..locks {
         let (_, public) = keygen(alloc, &seed, p, lock)?;
@@ -54,18 +54,18 @@ fn keys_from(
 }
 
 /// The public keys of each party.
-fn rows_from(
+fn seed_rows(
     alloc: Global,
     seeds: &[Option<Digest>],
     deal: &Deal,
 ) -> Result<Listed<Listed<Digest>>, NoMemory>
     requires { length deal.now.leaders ≤ 8 }
-    ensures { IfOk result (λ l. l ≡ map (keys_from seeds.now deal.now) (range_with_len 0 deal.now.graph.n)) }
+    ensures { IfOk result (λ l. l ≡ map (seed_keys seeds.now deal.now) (range_with_len 0 deal.now.graph.n)) }
 {
     let locks = deal.leaders.len() as u8;
     let mut rows = Vec::new(alloc);
     'parties: for p in 0..deal.graph.n() {
-        rows.push(keys_from(alloc, seeds, locks, p)?)?;
+        rows.push(seed_keys(alloc, seeds, locks, p)?)?;
     }
     Ok(Listed::new(rows))
 }
@@ -81,6 +81,6 @@ pub(crate) fn all_keys(
 {
     match deal.mode {
         Mode::Timelocks => Ok(Listed::empty(alloc)),
-        Mode::Hashkeys => rows_from(alloc, seeds, deal),
+        Mode::Hashkeys => seed_rows(alloc, seeds, deal),
     }
 }

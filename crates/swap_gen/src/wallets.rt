@@ -3,17 +3,17 @@
 ghost use Rattle.std.specs.Prelude.{◌≡◌, ◌≤◌, ◌<◌, ◌++◌, ◌∷◌, IfOk, OnOk, [], Some, length, map};
 ghost use Rattle.std.specs.List.{range_with_len};
 ghost use Rattle.swap_digraph.specs.declared.deal.Mode.TheVariants.{Hashkeys};
-ghost use Rattle.hash_signature.specs.Signature.{public_key_of};
+ghost use Rattle.hash_signature.specs.Signature.{derive_public_key};
 ghost use Rattle.party_wallet.specs.Keys.{empty_wallet, new_wallet};
-ghost use Rattle.swap_gen.specs.Made.{all_keys, keys_from, seed_in};
-ghost use Rattle.swap_gen.specs.Owned.{wallets_in};
+ghost use Rattle.swap_gen.specs.Made.{all_keys, seed_keys, read_seed};
+ghost use Rattle.swap_gen.specs.Owned.{inside_wallets};
 ghost use Rattle.swap_gen.specs.Drawn.{generated};
 ghost use Rattle.swap_gen.specs.Events.{first_place};
 
 use crate::draws::Draws;
 use crate::making::fill;
 use crate::plain::plain_job;
-use crate::seeds::seed_in;
+use crate::seeds::read_seed;
 use party_wallet::Wallet;
 use std::alloc::Global;
 use swap_base::{Digest, Listed, LockId, NoMemory, PartyId};
@@ -34,10 +34,10 @@ pub(crate) struct MadeJob {
 }
 
 /// The public key for a lock of a wallet with which nothing is signed.
-fn key_in(wallet: &Wallet, locks: u8, lock: LockId) -> Digest
+fn fetch_key(wallet: &Wallet, locks: u8, lock: LockId) -> Digest
     requires new { wallet.now ≡ empty_wallet Hashkeys wallet.now.seed wallet.now.party locks }
     requires lock { lock < locks }
-    ensures { result ≡ public_key_of wallet.now.seed wallet.now.party lock }
+    ensures { result ≡ derive_public_key wallet.now.seed wallet.now.party lock }
 {
     match wallet.public_key(lock) {
         Some(key) => key,
@@ -46,13 +46,13 @@ fn key_in(wallet: &Wallet, locks: u8, lock: LockId) -> Digest
 }
 
 /// The public keys of such a wallet, one for each lock.
-fn keys_in(alloc: Global, wallet: &Wallet, locks: u8) -> Result<Listed<Digest>, NoMemory>
+fn read_keys(alloc: Global, wallet: &Wallet, locks: u8) -> Result<Listed<Digest>, NoMemory>
     requires { wallet.now ≡ empty_wallet Hashkeys wallet.now.seed wallet.now.party locks }
-    ensures { IfOk result (λ l. l ≡ map (public_key_of wallet.now.seed wallet.now.party) (range_with_len 0 locks)) }
+    ensures { IfOk result (λ l. l ≡ map (derive_public_key wallet.now.seed wallet.now.party) (range_with_len 0 locks)) }
 {
     let mut keys = Vec::new(alloc);
     'locks: for lock in 0..locks {
-        keys.push(key_in(wallet, locks, lock))?;
+        keys.push(fetch_key(wallet, locks, lock))?;
     }
     Ok(Listed::new(keys))
 }
@@ -61,23 +61,23 @@ fn keys_in(alloc: Global, wallet: &Wallet, locks: u8) -> Result<Listed<Digest>, 
 fn add(alloc: Global, made: &mut KeyedWallets, job: &Job, p: PartyId) -> Result<(), NoMemory>
     requires mode { job.now.deal.mode ≡ Hashkeys }
     requires few { length job.now.deal.leaders ≤ 8 }
-    ensures wallets { OnOk result (made.new.wallets.items ≡ made.old.wallets.items ++ Some (new_wallet (seed_in job.now.seeds p) p job.now.deal) ∷ []) }
-    ensures keys { OnOk result (made.new.keys.items ≡ made.old.keys.items ++ keys_from job.now.seeds job.now.deal p ∷ []) }
+    ensures wallets { OnOk result (made.new.wallets.items ≡ made.old.wallets.items ++ Some (new_wallet (read_seed job.now.seeds p) p job.now.deal) ∷ []) }
+    ensures keys { OnOk result (made.new.keys.items ≡ made.old.keys.items ++ seed_keys job.now.seeds job.now.deal p ∷ []) }
 {
-    let seed = seed_in(job.seeds.as_slice(), p);
+    let seed = read_seed(job.seeds.as_slice(), p);
     let locks = job.deal.leaders.len() as u8;
     let wallet = Wallet::new(alloc, job.deal.mode, &seed, p, locks)?;
-    made.keys.push(keys_in(alloc, &wallet, locks)?)?;
+    made.keys.push(read_keys(alloc, &wallet, locks)?)?;
     made.wallets.push(Some(wallet))?;
     Ok(())
 }
 
 /// The wallets of a job's parties, and their public keys.
-fn wallets_for(alloc: Global, job: &Job) -> Result<KeyedWallets, NoMemory>
+fn prepared_wallets(alloc: Global, job: &Job) -> Result<KeyedWallets, NoMemory>
     requires mode { job.now.deal.mode ≡ Hashkeys }
     requires few { length job.now.deal.leaders ≤ 8 }
     ensures wallets { IfOk result (λ m. m.wallets.items
-        ≡ map (λ p. Some (new_wallet (seed_in job.now.seeds p) p job.now.deal)) (range_with_len 0 job.now.deal.graph.n)) }
+        ≡ map (λ p. Some (new_wallet (read_seed job.now.seeds p) p job.now.deal)) (range_with_len 0 job.now.deal.graph.n)) }
     ensures keys { IfOk result (λ m. m.keys.items ≡ all_keys Hashkeys job.now.seeds job.now.deal) }
 {
     let mut made = KeyedWallets {
@@ -102,11 +102,11 @@ pub(crate) fn made_job(
     requires seed { draws.old.seed ≡ seed }
     requires place { draws.old.place ≡ 0 }
     ensures job { IfOk result (λ m. m.job ≡ generated seed parties) }
-    ensures wallets { IfOk result (λ m. m.wallets.items ≡ wallets_in (generated seed parties)) }
+    ensures wallets { IfOk result (λ m. m.wallets.items ≡ inside_wallets (generated seed parties)) }
     ensures draws { OnOk result (draws.new ≡ record draws.old { place = first_place seed parties }) }
 {
     let mut job = plain_job(alloc, draws, seed, parties)?;
-    let KeyedWallets { wallets, keys } = wallets_for(alloc, &job)?;
+    let KeyedWallets { wallets, keys } = prepared_wallets(alloc, &job)?;
     fill(
         alloc,
         &mut job.deal,

@@ -5,6 +5,6 @@ use Rattle.swap_io.specs.declared.fault.DrainFault.{DrainFault}
 use Rattle.swap_io.specs.declared.fault.DrainFault.TheVariants.{ReadFault, TooLong}
 
 -- the fault of a line, by that of a drain
-abbrev pub fault_of : DrainFault → LineFault
-fault_of ReadFault = line.ReadFault
-fault_of TooLong = line.TooLong
+abbrev pub to_offer_fault : DrainFault → LineFault
+to_offer_fault ReadFault = line.ReadFault
+to_offer_fault TooLong = line.TooLong

@@ -3,7 +3,7 @@
 //! A call fails only where the count rose: read `Rose` and `HasCause` in `specs/Causes.antt` first.
 //! `read_all` and `write_all` say what was read or written at each of their answers. `Lines` gives one line after another and keeps little: read
 //! `specs/Lines.antt`.
-//! `pass_on` and `flush` hand a text to a sink piece by piece: read `specs/Handed.antt`.
+//! `flush_waiting` and `flush` hand a text to a sink piece by piece: read `specs/Handed.antt`.
 //! `ReaderSource` and `WriterSink` adapt std's reader and writer, and tell nothing of content. `VecSource` and `VecSink` lie in memory and fail where
 //! they are told to; `TextSink` grows.
 #![tactic(auto)]
@@ -26,4 +26,4 @@ pub use memory::{VecSink, VecSource};
 pub use sink::{Sink, write_all};
 pub use source::{Source, read_all};
 pub use text_sink::TextSink;
-pub use waiting::{flush, pass_on};
+pub use waiting::{flush, flush_waiting};

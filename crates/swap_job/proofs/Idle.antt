@@ -10,21 +10,21 @@ use Rattle.ledger_core.specs.declared.entry.Call.{Call}
 use Rattle.ledger_core.specs.declared.entry.Call.TheVariants.{Unlock}
 use Rattle.ledger_core.specs.Facts.{opened_key}
 use Rattle.ledger_core.specs.Book.{Histories, history}
-use Rattle.swap_job.specs.Crafted.{Seeds, put_before, crafted, crafted_onto}
+use Rattle.swap_job.specs.Crafted.{Seeds, prepend_party, crafted, crafted_onto}
 use Rattle.swap_job.specs.Fitting.{IsFitting}
 use Rattle.swap_job.specs.Resolved.{resolved, is_out_of_reach, is_idle}
 use Rattle.swap_job.specs.declared.moves.Move.{Move}
 use Rattle.swap_job.specs.declared.moves.Move.TheVariants.{Publish, Craft, Replay, Raw, Claim, Refund, Transfer, Wait}
 
 -- a hashkey stays one, whoever is put before it
-goes_on : (d : Deal) (seeds : Seeds) (i : ℕ) (key : Hashkey) (vs : List ℕ) → is_some (fold (λ o v. Some (put_before d seeds i o v)) (Some key) vs) ≡ true
+goes_on : (d : Deal) (seeds : Seeds) (i : ℕ) (key : Hashkey) (vs : List ℕ) → is_some (fold (λ o v. Some (prepend_party d seeds i o v)) (Some key) vs) ≡ true
 goes_on d seeds i key [] = refl
-goes_on d seeds i key (v ∷ vs) = goes_on d seeds i (put_before d seeds i (Some key) v) vs
+goes_on d seeds i key (v ∷ vs) = goes_on d seeds i (prepend_party d seeds i (Some key) v) vs
 
 -- some parties make a hashkey
-makes_one : (d : Deal) (seeds : Seeds) (i : ℕ) (vs : List ℕ) → 1 ≤ length vs → is_some (fold (λ o v. Some (put_before d seeds i o v)) None vs) ≡ true
+makes_one : (d : Deal) (seeds : Seeds) (i : ℕ) (vs : List ℕ) → 1 ≤ length vs → is_some (fold (λ o v. Some (prepend_party d seeds i o v)) None vs) ≡ true
 makes_one d seeds i [] l = absurd (omega arith)
-makes_one d seeds i (v ∷ vs) l = goes_on d seeds i (put_before d seeds i None v) vs
+makes_one d seeds i (v ∷ vs) l = goes_on d seeds i (prepend_party d seeds i None v) vs
 
 -- an unlock comes where the hashkey does
 unlocks : (a : ℕ) (o : Option Hashkey) → is_some {T = ℕ × Call} (option_map (λ (c : Call). (a, c)) (option_map Unlock o)) ≡ is_some o

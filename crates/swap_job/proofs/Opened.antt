@@ -7,7 +7,7 @@ use Rattle.ledger_core.specs.declared.entry.Entry.{Entry}
 use Rattle.ledger_core.specs.declared.runs.Run.{Run}
 use Rattle.ledger_core.specs.declared.runs.Item.{Item}
 use Rattle.ledger_core.specs.declared.runs.Item.TheVariants.{One, Ticks}
-use Rattle.ledger_core.specs.Runs.{ticks_above, ticks_of, entries_of, expand}
+use Rattle.ledger_core.specs.Runs.{ticks_above, run_ticks, ledger_entries, expand}
 use Rattle.ledger_core.specs.Ledger.{tick_entry}
 use Rattle.ledger_core.specs.History.{Opening, opening, opened, accepted}
 use Rattle.swap_job.specs.Parts.{opening_in}
@@ -24,11 +24,11 @@ no_opening i at k (suc n) =
     ∙ ap (λ o. or_else o None) (no_opening i at k n)
 
 by_item : (i : ℕ) (x : Item) (xs : List Entry)
-    → first_of (λ e. opening i e.height (accepted e)) (entries_of x ++ xs)
+    → first_of (λ e. opening i e.height (accepted e)) (ledger_entries x ++ xs)
     ≡ or_else (opening_in i x) (first_of (λ e. opening i e.height (accepted e)) xs)
 by_item i (One e) xs = refl
 by_item i (Ticks r) xs =
-    first_of-append (λ e. opening i e.height (accepted e)) (ticks_of r) xs
+    first_of-append (λ e. opening i e.height (accepted e)) (run_ticks r) xs
     ∙ ap (λ o. or_else o (first_of (λ e. opening i e.height (accepted e)) xs)) (no_opening i r.above r.by r.count)
 
 by_items : (i : ℕ) (items : List Item) (xs : List Entry)
@@ -36,7 +36,7 @@ by_items : (i : ℕ) (items : List Item) (xs : List Entry)
     ≡ or_else (first_of (opening_in i) items) (first_of (λ e. opening i e.height (accepted e)) xs)
 by_items i [] xs = refl
 by_items i (x ∷ items) xs =
-    ap (first_of (λ e. opening i e.height (accepted e))) (append_assoc (entries_of x) (expand items) xs)
+    ap (first_of (λ e. opening i e.height (accepted e))) (append_assoc (ledger_entries x) (expand items) xs)
     ∙ (by_item i x (expand items ++ xs)
     ∙ (ap (or_else (opening_in i x)) (by_items i items xs)
     ∙ sym (or_else_assoc (opening_in i x) (first_of (opening_in i) items) (first_of (λ e. opening i e.height (accepted e)) xs))))
@@ -46,8 +46,9 @@ by_items i (x ∷ items) xs =
     or_else_assoc (Some y) r s = refl
 
 -- the opening among the items is that of the list
-pub opened_among : (i : ℕ) (list : List Entry) (items : List Item) (r : Run) → list ≡ expand items ++ ticks_of r → first_of (opening_in i) items ≡ opened list i
+pub opened_among : (i : ℕ) (list : List Entry) (items : List Item) (r : Run) → list ≡ expand items ++ run_ticks r
+    → first_of (opening_in i) items ≡ opened list i
 opened_among i list items r e =
     sym (ap (λ xs. opened xs i) e
-    ∙ (by_items i items (ticks_of r) ∙ (ap (or_else (first_of (opening_in i) items)) (no_opening i r.above r.by r.count)
+    ∙ (by_items i items (run_ticks r) ∙ (ap (or_else (first_of (opening_in i) items)) (no_opening i r.above r.by r.count)
     ∙ or_none (first_of (opening_in i) items))))

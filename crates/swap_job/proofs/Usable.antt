@@ -23,10 +23,10 @@ use Rattle.ledger_core.specs.Facts.{opened_key}
 use Rattle.ledger_core.specs.Book.{Histories, history, IsLegalBook}
 use Rattle.ledger_core.proofs.History.{opened_done, of_unlock}
 use Rattle.party_wallet.specs.Keys.{own_key, onto_key}
-use Rattle.swap_job.specs.Crafted.{Seeds, seed_of, put_before, crafted, crafted_onto}
+use Rattle.swap_job.specs.Crafted.{Seeds, make_seed, prepend_party, crafted, crafted_onto}
 use Rattle.swap_job.specs.Fitting.{is_plain, fits_if, CanCraft, NamesFitting, IsFitting}
 use Rattle.swap_job.specs.Parts.{HasRoom, IsUsable}
-use Rattle.swap_job.specs.Resolved.{move_arc, opening_named, key_opened, plain_call, call_with, call_of_move, resolved}
+use Rattle.swap_job.specs.Resolved.{move_arc, opening_named, key_opened, plain_call, build_call, call_of_move, resolved}
 use Rattle.swap_job.specs.declared.moves.Move.{Move}
 use Rattle.swap_job.specs.declared.moves.Move.TheVariants.{Publish, Craft, Replay, Raw, Claim, Refund, Transfer, Wait}
 use Rattle.swap_job.proofs.Crafting.{put_room}
@@ -77,23 +77,23 @@ onto_range Timelocks d v seed key l p k = (l, refl)
 onto_range Hashkeys d v seed key l p k = (l, and_both (nat_lt v d.graph.n) (list_all (λ v. nat_lt v d.graph.n) key.path) k p)
 
 put_range : (d : Deal) (seeds : Seeds) (i : ℕ) (made : Option Hashkey) (v : ℕ) → i < length d.leaders → nat_lt v d.graph.n ≡ true → InRange d made
-    → InRange d (Some (put_before d seeds i made v))
+    → InRange d (Some (prepend_party d seeds i made v))
 put_range d seeds i None v l k r =
     λ x q. subst (λ y. (nat_lt y.lock (length d.leaders) ≡ true)
-    × (list_all (λ v. nat_lt v d.graph.n) y.path ≡ true)) (same_Some _ x q) (own_range d.mode d v (seed_of seeds v) i l k)
+    × (list_all (λ v. nat_lt v d.graph.n) y.path ≡ true)) (same_Some _ x q) (own_range d.mode d v (make_seed seeds v) i l k)
 put_range d seeds i (Some key) v l k r =
     let h = r key refl in
     λ x q. subst (λ y. (nat_lt y.lock (length d.leaders) ≡ true)
-    × (list_all (λ v. nat_lt v d.graph.n) y.path ≡ true)) (same_Some _ x q) (onto_range d.mode d v (seed_of seeds v) key h.0 h.1 k)
+    × (list_all (λ v. nat_lt v d.graph.n) y.path ≡ true)) (same_Some _ x q) (onto_range d.mode d v (make_seed seeds v) key h.0 h.1 k)
 
 -- parties in a row, each of which puts itself before what is made so far
 all_put : (d : Deal) (seeds : Seeds) (i : ℕ) (made : Option Hashkey) (vs : List ℕ) → i < length d.leaders → list_all (λ v. nat_lt v d.graph.n) vs ≡ true
     → InRange d made → HasRoom d (length vs) made
-    → InRange d (fold (λ o v. Some (put_before d seeds i o v)) made vs) × HasRoom d 0 (fold (λ o v. Some (put_before d seeds i o v)) made vs)
+    → InRange d (fold (λ o v. Some (prepend_party d seeds i o v)) made vs) × HasRoom d 0 (fold (λ o v. Some (prepend_party d seeds i o v)) made vs)
 all_put d seeds i made [] l k r room = (r, room)
 all_put d seeds i made (v ∷ vs) l k r room =
     let h = and_parts (nat_lt v d.graph.n) (list_all (λ v. nat_lt v d.graph.n) vs) k in
-    all_put d seeds i (Some (put_before d seeds i made v)) vs l h.1 (put_range d seeds i made v l h.0 r) (put_room d seeds i made v (length vs) room)
+    all_put d seeds i (Some (prepend_party d seeds i made v)) vs l h.1 (put_range d seeds i made v l h.0 r) (put_room d seeds i made v (length vs) room)
 
 fits_of : (d : Deal) (o : Option Hashkey) → InRange d o → HasRoom d 0 o → ForSome (option_map Unlock o) (λ c. IsTrue (fit d 0 c))
 fits_of d None r room = λ c q. absurd (cc q)
@@ -153,7 +153,7 @@ any_arc d a (Some key) h = λ c q. subst (λ x. IsTrue (fit d a x)) (same_Some (
 
 -- the call of a fitting move fits
 pub call_fits : (d : Deal) (seeds : Seeds) (o : Option Hashkey) (mv : Move) → IsFitting d seeds mv → ForSome o (IsUsable d)
-    → ForSome (call_with d seeds o mv) (λ c. IsTrue (fit d (move_arc mv) c))
+    → ForSome (build_call d seeds o mv) (λ c. IsTrue (fit d (move_arc mv) c))
 call_fits d seeds o (Craft a lock via None) f u =
     any_arc d a (crafted d seeds lock None via) (crafted_fits d seeds lock None via f.names.0 f.names.1 (λ x q. absurd (cc q)) f.names.1.few)
 call_fits d seeds o (Craft a lock via (Some b)) f u = any_arc d a (crafted_onto d seeds lock o via) (onto_fits d seeds lock o via f.names.0 f.names.1 u)

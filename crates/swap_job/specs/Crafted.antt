@@ -10,17 +10,17 @@ abbrev pub Seeds : Type 0
 Seeds = List (Option (List ℕ))
 
 -- the seed of party v
-abbrev pub seed_of : Seeds → ℕ → List ℕ
-seed_of seeds v = unwrap_or (slice_index_or seeds v None) []
+abbrev pub make_seed : Seeds → ℕ → List ℕ
+make_seed seeds v = unwrap_or (slice_index_or seeds v None) []
 
 -- what v makes of a hashkey for lock i: the same with v put before its path; its own hashkey, where there is none
-abbrev pub put_before : Deal → Seeds → ℕ → Option Hashkey → ℕ → Hashkey
-put_before d seeds i None v = own_key d.mode d v (seed_of seeds v) i
-put_before d seeds i (Some key) v = onto_key d.mode d v (seed_of seeds v) key
+abbrev pub prepend_party : Deal → Seeds → ℕ → Option Hashkey → ℕ → Hashkey
+prepend_party d seeds i None v = own_key d.mode d v (make_seed seeds v) i
+prepend_party d seeds i (Some key) v = onto_key d.mode d v (make_seed seeds v) key
 
 -- what the parties make of it, from the last to the first
 abbrev pub crafted : Deal → Seeds → ℕ → Option Hashkey → List ℕ → Option Hashkey
-crafted d seeds i start via = fold (λ made v. Some (put_before d seeds i made v)) start (reverse via)
+crafted d seeds i start via = fold (λ made v. Some (prepend_party d seeds i made v)) start (reverse via)
 
 -- what they make of a hashkey that opened the lock: nothing, where there is none or the path would be too long
 abbrev pub crafted_onto : Deal → Seeds → ℕ → Option Hashkey → List ℕ → Option Hashkey

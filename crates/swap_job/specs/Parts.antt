@@ -4,7 +4,7 @@ use Rattle.swap_digraph.specs.declared.deal.Deal.{Deal}
 use Rattle.swap_digraph.specs.Deal.{path_limit}
 use Rattle.hashkey_path.specs.declared.hashkey.Hashkey.{Hashkey}
 use Rattle.escrow_core.specs.declared.terms.Terms.{Terms}
-use Rattle.escrow_core.specs.Terms.{terms_of}
+use Rattle.escrow_core.specs.Terms.{stated_terms}
 use Rattle.ledger_core.specs.declared.entry.Call.TheVariants.{Unlock}
 use Rattle.ledger_core.specs.History.{Opening, opening, accepted, fit}
 use Rattle.ledger_core.specs.declared.runs.Item.{Item}
@@ -14,9 +14,9 @@ use Rattle.swap_job.specs.declared.moves.Move.{Move}
 use Rattle.swap_job.specs.declared.moves.Move.TheVariants.{Publish}
 
 -- the terms that a publish states
-abbrev pub publish_of : Deal → Move → Option Terms
-publish_of d (Publish a start delta bound timelock amount locks) = Some (terms_with (terms_of d a) start delta bound timelock amount locks)
-publish_of d _ = None
+abbrev pub make_publish : Deal → Move → Option Terms
+make_publish d (Publish a start delta bound timelock amount locks) = Some (terms_with (stated_terms d a) start delta bound timelock amount locks)
+make_publish d _ = None
 
 -- n parties can be put before the hashkey; where there is none, the last of them makes its own
 abbrev pub HasRoom : Deal → ℕ → Option Hashkey → Type 0

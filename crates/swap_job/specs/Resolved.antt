@@ -4,7 +4,7 @@ use Rattle.swap_digraph.specs.declared.deal.Deal.{Deal}
 use Rattle.swap_digraph.specs.Deal.{path_limit}
 use Rattle.hashkey_path.specs.declared.hashkey.Hashkey.{Hashkey}
 use Rattle.escrow_core.specs.declared.terms.Terms.{Terms}
-use Rattle.escrow_core.specs.Terms.{terms_of}
+use Rattle.escrow_core.specs.Terms.{stated_terms}
 use Rattle.ledger_core.specs.declared.entry.Call.{Call}
 use Rattle.ledger_core.specs.declared.entry.Call.TheVariants as calls
 use Rattle.ledger_core.specs.Facts.{opened_key}
@@ -37,7 +37,7 @@ terms_with t start delta bound timelock amount locks = record {
 
 -- the call of a move that stands for one by itself
 abbrev pub plain_call : Deal → Move → Option Call
-plain_call d (Publish a start delta bound timelock amount locks) = Some (calls.Publish (terms_with (terms_of d a) start delta bound timelock amount locks))
+plain_call d (Publish a start delta bound timelock amount locks) = Some (calls.Publish (terms_with (stated_terms d a) start delta bound timelock amount locks))
 plain_call d (Raw a key) = Some (calls.Unlock key)
 plain_call d (Claim a) = Some calls.Claim
 plain_call d (Refund a) = Some calls.Refund
@@ -56,15 +56,15 @@ key_opened k None = None
 key_opened k (Some x) = opened_key (history k x.0) x.1
 
 -- the call of a move, where key is the hashkey of the opening that it names
-abbrev pub call_with : Deal → Seeds → Option Hashkey → Move → Option Call
-call_with d seeds key (Craft a lock via None) = option_map calls.Unlock (crafted d seeds lock None via)
-call_with d seeds key (Craft a lock via (Some onto)) = option_map calls.Unlock (crafted_onto d seeds lock key via)
-call_with d seeds key (Replay a lock onto) = option_map calls.Unlock key
-call_with d seeds key mv = plain_call d mv
+abbrev pub build_call : Deal → Seeds → Option Hashkey → Move → Option Call
+build_call d seeds key (Craft a lock via None) = option_map calls.Unlock (crafted d seeds lock None via)
+build_call d seeds key (Craft a lock via (Some onto)) = option_map calls.Unlock (crafted_onto d seeds lock key via)
+build_call d seeds key (Replay a lock onto) = option_map calls.Unlock key
+build_call d seeds key mv = plain_call d mv
 
 -- the call of a move, over what is known
 abbrev pub call_of_move : Deal → Seeds → Histories → Move → Option Call
-call_of_move d seeds k mv = call_with d seeds (key_opened k (opening_named mv)) mv
+call_of_move d seeds k mv = build_call d seeds (key_opened k (opening_named mv)) mv
 
 -- the same with its arc
 abbrev pub resolved : Deal → Seeds → Histories → Move → Option (ℕ × Call)

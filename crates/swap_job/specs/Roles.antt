@@ -11,8 +11,8 @@ IsHeld holds (Strategy name) = holds name ≡ true
 IsHeld holds _ = Unit {0}
 
 -- the role of party p
-abbrev pub role_in : Job → ℕ → Role
-role_in job p = slice_index_or job.roles p Manual
+abbrev pub job_role : Job → ℕ → Role
+job_role job p = slice_index_or job.roles p Manual
 
 -- the role of a party that conforms
 abbrev pub is_conforming : Role → Bool
@@ -20,6 +20,6 @@ is_conforming Conforming = true
 is_conforming _ = false
 
 -- the moves of a role's script
-abbrev pub script_of : Role → List Move
-script_of (Script moves) = moves
-script_of _ = []
+abbrev pub role_script : Role → List Move
+role_script (Script moves) = moves
+role_script _ = []

@@ -44,5 +44,5 @@ CanStep d conforming seeds (Call p mv) = CanCall d conforming seeds p mv
 CanStep d conforming seeds (Crash p k image) = CanCrash d conforming p k
 
 -- the event may come in the job, whatever came before
-abbrev pub IsEventOf : Job → Event → Type 0
-IsEventOf job event = CanStep job.deal job.conforming job.seeds event
+abbrev pub IsJobEvent : Job → Event → Type 0
+IsJobEvent job event = CanStep job.deal job.conforming job.seeds event

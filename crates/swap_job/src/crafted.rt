@@ -2,7 +2,7 @@
 
 ghost use Rattle.std.specs.Prelude.{◌≡◌, ◌<◌, IfOk, Some, None, true, is_some, length, slice_index_or};
 ghost use Rattle.std.specs.Option.{ForSome};
-ghost use Rattle.swap_job.specs.Crafted.{put_before, crafted, crafted_onto};
+ghost use Rattle.swap_job.specs.Crafted.{prepend_party, crafted, crafted_onto};
 ghost use Rattle.swap_job.specs.Fitting.{CanCraft};
 ghost use Rattle.swap_job.specs.Parts.{HasRoom, IsUsable};
 
@@ -13,7 +13,7 @@ use swap_base::{Digest, LockId, NoMemory, PartyId};
 use swap_digraph::{Deal, path_limit};
 
 /// What a party makes of a hashkey: the same with the party put before its path; its own hashkey, where there is none.
-fn put_before(
+fn prepend_party(
     alloc: Global,
     deal: &Deal,
     seeds: &[Option<Digest>],
@@ -24,7 +24,7 @@ fn put_before(
     requires party { party < deal.now.graph.n }
     requires seeded { is_some (slice_index_or seeds.now party None) ≡ true }
     requires room { HasRoom deal.now 1 made }
-    ensures { IfOk result (λ k. k ≡ put_before deal.now seeds.now lock made party) }
+    ensures { IfOk result (λ k. k ≡ prepend_party deal.now seeds.now lock made party) }
 {
     match &seeds[party as usize] {
         None => unreachable!(),
@@ -52,13 +52,13 @@ pub(crate) fn craft(
     let mut left = via.len();
     while left > 0 {
         left -= 1;
-        made = Some(put_before(alloc, deal, seeds, lock, made, via[left])?);
+        made = Some(prepend_party(alloc, deal, seeds, lock, made, via[left])?);
     }
     Ok(made)
 }
 
 /// What the parties make of a hashkey that opened the lock: nothing, where there is none or the path would be too long.
-pub(crate) fn craft_onto(
+pub(crate) fn extend_craft(
     alloc: Global,
     deal: &Deal,
     seeds: &[Option<Digest>],

@@ -13,5 +13,5 @@ mod resolved;
 pub use event::Event;
 pub use job::{Finish, Job, Purpose, Role};
 pub use moves::{Move, MoveList, arc_of_move};
-pub use openings::{opened_key, opened_key_in};
-pub use resolved::{opening_named, resolve, resolve_with};
+pub use openings::{find_opened_key, opened_key};
+pub use resolved::{opening_named, resolve, resolve_keyed_move};

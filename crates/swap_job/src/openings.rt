@@ -32,7 +32,7 @@ fn key_of_item(item: &Item, lock: LockId) -> Option<&Hashkey>
     }
 }
 
-fn key_among(items: &[Item], lock: LockId) -> Option<&Hashkey>
+fn find_key(items: &[Item], lock: LockId) -> Option<&Hashkey>
     ensures { option_copied result ≡ option_map (λ o. o.key) (first_of (opening_in lock) items.now) }
 {
     for item in items {
@@ -49,13 +49,13 @@ pub fn opened_key(list: &EntryList, lock: LockId) -> Option<&Hashkey>
     ensures { option_copied result ≡ opened_key list.now lock }
 {
     let (items, _) = list.parts();
-    key_among(items, lock)
+    find_key(items, lock)
 }
 
 /// The same in a ledger's history.
-pub fn opened_key_in(history: &LedgerHistory, lock: LockId) -> Option<&Hashkey>
+pub fn find_opened_key(history: &LedgerHistory, lock: LockId) -> Option<&Hashkey>
     ensures { option_copied result ≡ opened_key history.now.list lock }
 {
     let (items, _) = history.parts();
-    key_among(items, lock)
+    find_key(items, lock)
 }

@@ -6,23 +6,23 @@ ghost use Rattle.swap_digraph.specs.Deal.{IsWellSized};
 ghost use Rattle.ledger_core.specs.History.{fit};
 ghost use Rattle.ledger_core.specs.Book.{IsLegalBook};
 ghost use Rattle.swap_job.specs.Fitting.{IsFitting};
-ghost use Rattle.swap_job.specs.Parts.{IsUsable, publish_of};
-ghost use Rattle.swap_job.specs.Resolved.{move_arc, opening_named, key_opened, call_with, plain_call, resolved, is_idle};
+ghost use Rattle.swap_job.specs.Parts.{IsUsable, make_publish};
+ghost use Rattle.swap_job.specs.Resolved.{move_arc, opening_named, key_opened, build_call, plain_call, resolved, is_idle};
 
-use crate::crafted::{craft, craft_onto};
+use crate::crafted::{craft, extend_craft};
 use crate::moves::{Move, arc_of_move};
 use crate::openings::opened_key;
-use escrow_core::{Terms, terms_of};
+use escrow_core::{Terms, stated_terms};
 use hashkey_path::Hashkey;
 use ledger_core::{Book, Call};
 use std::alloc::Global;
 use swap_base::{ArcId, Digest, LockId, NoMemory, Shared, TryCopy};
 use swap_digraph::Deal;
 
-fn publish_of(deal: &Deal, mv: &Move) -> Option<Terms>
+fn make_publish(deal: &Deal, mv: &Move) -> Option<Terms>
     requires sized { IsWellSized deal.now }
     requires arc { move_arc mv.now < length deal.now.graph.arcs }
-    ensures { result ≡ publish_of deal.now mv.now }
+    ensures { result ≡ make_publish deal.now mv.now }
 {
     match mv {
         Move::Publish {
@@ -34,7 +34,7 @@ fn publish_of(deal: &Deal, mv: &Move) -> Option<Terms>
             amount,
             locks,
         } => {
-            let correct = terms_of(deal, *arc);
+            let correct = stated_terms(deal, *arc);
             Some(Terms {
                 locks: locks.unwrap_or(correct.locks),
                 start: start.unwrap_or(correct.start),
@@ -55,7 +55,7 @@ fn plain_call(alloc: Global, deal: &Deal, mv: &Move) -> Result<Option<Call>, NoM
     ensures { IfOk result (λ c. c ≡ plain_call deal.now mv.now) }
 {
     match mv {
-        Move::Publish { .. } => match publish_of(deal, mv) {
+        Move::Publish { .. } => match make_publish(deal, mv) {
             Some(terms) => Ok(Some(Call::Publish(Shared::new(alloc, terms)?))),
             None => Ok(None),
         },
@@ -68,7 +68,7 @@ fn plain_call(alloc: Global, deal: &Deal, mv: &Move) -> Result<Option<Call>, NoM
 }
 
 /// An unlock with the hashkey, where there is one.
-fn unlock_with(alloc: Global, key: Option<Hashkey>) -> Result<Option<Call>, NoMemory>
+fn make_unlock(alloc: Global, key: Option<Hashkey>) -> Result<Option<Call>, NoMemory>
     ensures { IfOk result (λ c. c ≡ option_map Call.Unlock key) }
 {
     match key {
@@ -112,7 +112,7 @@ fn key_named<'k>(known: &'k Book, mv: &Move) -> Option<&'k Hashkey>
 }
 
 /// The call of a move, where `key` is the hashkey of the opening that it names.
-fn call_with(
+fn build_call(
     alloc: Global,
     deal: &Deal,
     seeds: &[Option<Digest>],
@@ -122,7 +122,7 @@ fn call_with(
     requires sized { IsWellSized deal.now }
     requires fits { IsFitting deal.now seeds.now mv.now }
     requires key { ForSome (option_copied key) (IsUsable deal.now) }
-    ensures { IfOk result (λ c. c ≡ call_with deal.now seeds.now (option_copied key.entry) mv.now) }
+    ensures { IfOk result (λ c. c ≡ build_call deal.now seeds.now (option_copied key.entry) mv.now) }
 {
     match mv {
         Move::Craft {
@@ -132,22 +132,22 @@ fn call_with(
             ..
         } => match onto {
             Some(_) => {
-                let made = craft_onto(alloc, deal, seeds, *lock, copy_of(key)?, via.as_slice())?;
-                unlock_with(alloc, made)
+                let made = extend_craft(alloc, deal, seeds, *lock, copy_of(key)?, via.as_slice())?;
+                make_unlock(alloc, made)
             }
-            None => unlock_with(
+            None => make_unlock(
                 alloc,
                 craft(alloc, deal, seeds, *lock, None, via.as_slice())?,
             ),
         },
-        Move::Replay { .. } => unlock_with(alloc, copy_of(key)?),
+        Move::Replay { .. } => make_unlock(alloc, copy_of(key)?),
         _ => plain_call(alloc, deal, mv),
     }
 }
 
 /// The call of a move with its arc, where `key` is the hashkey of the opening that it names. Nothing comes for a wait, where the
 /// opening isn't there, or where a crafted path would be too long.
-pub fn resolve_with(
+pub fn resolve_keyed_move(
     alloc: Global,
     deal: &Deal,
     seeds: &[Option<Digest>],
@@ -157,10 +157,10 @@ pub fn resolve_with(
     requires sized { IsWellSized deal.now }
     requires fits { IsFitting deal.now seeds.now mv.now }
     requires key { ForSome (option_copied key) (IsUsable deal.now) }
-    ensures exact { IfOk result (λ o. o ≡ option_map (λ c. (move_arc mv.now, c)) (call_with deal.now seeds.now (option_copied key.entry) mv.now)) }
+    ensures exact { IfOk result (λ o. o ≡ option_map (λ c. (move_arc mv.now, c)) (build_call deal.now seeds.now (option_copied key.entry) mv.now)) }
     ensures fits { IfOk result (λ o. ForSome o (λ x. IsTrue (fit deal.now x.0 x.1))) }
 {
-    match call_with(alloc, deal, seeds, mv, key)? {
+    match build_call(alloc, deal, seeds, mv, key)? {
         Some(call) => Ok(Some((arc_of_move(mv), call))),
         None => Ok(None),
     }
@@ -182,5 +182,5 @@ pub fn resolve(
     ensures none { IfOk result (λ o. is_some o ≡ not (is_idle deal.now known.now.histories mv.now)) }
     ensures fits { IfOk result (λ o. ForSome o (λ x. IsTrue (fit deal.now x.0 x.1))) }
 {
-    resolve_with(alloc, deal, seeds, mv, key_named(known, mv))
+    resolve_keyed_move(alloc, deal, seeds, mv, key_named(known, mv))
 }

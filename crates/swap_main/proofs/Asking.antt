@@ -5,12 +5,12 @@ use Rattle.swap_io.specs.Causes.{AppendsProperPrefix}
 use Rattle.swap_io.specs.Handed.{AppendsPrefix}
 use Rattle.refusals.specs.declared.reason.Reason.{Reason}
 use Rattle.swap_gen.proofs.Generated.{generated_is_accepted}
-use Rattle.program_words.specs.Words.{task_of}
+use Rattle.program_words.specs.Words.{task_text}
 use Rattle.program_words.specs.declared.task.Order.{Order}
 use Rattle.program_words.specs.declared.task.Order.TheVariants as orders
 use Rattle.swap_commands.specs.Generated.{generated_output, AsRequested, Generates, IsMadeFor}
-use Rattle.swap_main.specs.Top.{status_of}
-use Rattle.swap_commands.specs.Words.{AsksRace, Command, OfJob, Race as OfRace, command_in, command_of, ordered, request_in, request_of}
+use Rattle.swap_main.specs.Top.{command_status}
+use Rattle.swap_commands.specs.Words.{AsksRace, Command, OfJob, Race as OfRace, task_command, words_command, ordered, task_request, words_request}
 use Rattle.command_input.specs.Written.{IsWrittenWhole, Writes, Written}
 use Rattle.program_words.specs.declared.task.Request.{Request}
 use Rattle.program_words.specs.declared.task.Task.{Task}
@@ -21,25 +21,25 @@ use Rattle.command_input.specs.Streams.{HasWriteFault, Streams}
 
 -- The words' task.
 
-pub command_is : (words : List (List ℕ)) (task : Task) (command : Command) → task_of words ≡ Some task → command_in task ≡ Some command
-    → command_of words ≡ Some command
-command_is words task command e is = ap (λ (o : Option Task). option_and_then command_in o) e ∙ is
+pub command_is : (words : List (List ℕ)) (task : Task) (command : Command) → task_text words ≡ Some task → task_command task ≡ Some command
+    → words_command words ≡ Some command
+command_is words task command e is = ap (λ (o : Option Task). option_and_then task_command o) e ∙ is
 
-pub request_is : (words : List (List ℕ)) (request : Request) → task_of words ≡ Some (Number request) → request_of words ≡ Some request
-request_is words request e = ap (λ (o : Option Task). option_and_then request_in o) e
+pub request_is : (words : List (List ℕ)) (request : Request) → task_text words ≡ Some (Number request) → words_request words ≡ Some request
+request_is words request e = ap (λ (o : Option Task). option_and_then task_request o) e
 
 -- words that ask for a job of a number are no command that reads an input
-pub no_command : (words : List (List ℕ)) (request : Request) → request_of words ≡ Some request → command_of words ≡ None
-no_command words request e = go (task_of words) e
+pub no_command : (words : List (List ℕ)) (request : Request) → words_request words ≡ Some request → words_command words ≡ None
+no_command words request e = go (task_text words) e
   where
-    go : (o : Option Task) → option_and_then request_in o ≡ Some request → option_and_then command_in o ≡ None
+    go : (o : Option Task) → option_and_then task_request o ≡ Some request → option_and_then task_command o ≡ None
     go None e = absurd (cc e)
     go (Some (Input order)) e = absurd (cc e)
     go (Some (Race ticks transcript)) e = absurd (cc e)
     go (Some (Number other)) e = refl
 
 -- a race is asked for where the words' task is one
-pub is_a_race : (words : List (List ℕ)) (ticks : ℕ) (transcript : Bool) → task_of words ≡ Some (Race ticks transcript) → AsksRace words
+pub is_a_race : (words : List (List ℕ)) (ticks : ℕ) (transcript : Bool) → task_text words ≡ Some (Race ticks transcript) → AsksRace words
 is_a_race words ticks transcript e = record {
   ticks = ticks;
   transcript = transcript;
@@ -55,17 +55,17 @@ no_race_ordered orders.Clear ticks transcript e = cc e
 no_race_ordered orders.Many ticks transcript e = cc e
 
 -- and no other is
-pub order_is_no_race : (words : List (List ℕ)) (order : Order) → task_of words ≡ Some (Input order) → ¬ AsksRace words
+pub order_is_no_race : (words : List (List ℕ)) (order : Order) → task_text words ≡ Some (Input order) → ¬ AsksRace words
 order_is_no_race words order e race =
     let same : ordered order ≡ OfJob (OfRace race.ticks race.transcript) = cc (sym (command_is words (Input order) (ordered order) e refl) ∙ race.asks) in
     no_race_ordered order race.ticks race.transcript same
 
-pub number_is_no_race : (words : List (List ℕ)) (request : Request) → task_of words ≡ Some (Number request) → ¬ AsksRace words
+pub number_is_no_race : (words : List (List ℕ)) (request : Request) → task_text words ≡ Some (Number request) → ¬ AsksRace words
 number_is_no_race words request e race = cc (sym (no_command words request (request_is words request e)) ∙ race.asks)
 
 -- What a status says.
 
-module _ (words : List (List ℕ)) (before after : Streams) (request : Request) (asks : request_of words ≡ Some request)
+module _ (words : List (List ℕ)) (before after : Streams) (request : Request) (asks : words_request words ≡ Some request)
     (unread : after.left ≡ before.left) (few : 2 ≤ request.parties) (many : request.parties ≤ 24) where
   abbrev Said : Status → Type 0
   Said s = IsMadeFor before.taken after.taken before.write_faults after.write_faults request s
@@ -76,8 +76,8 @@ module _ (words : List (List ℕ)) (before after : Streams) (request : Request) 
   writes_at : (s t : Status) → Said s → s ≡ t → WrittenSo t
   writes_at s t h e = subst WrittenSo e h.writes
 
-  made_by : (P : Written → Type 0) → AsRequested request (generated_output request) → P (generated_output request) → Generates P words before.left after.left
-  made_by P promised w = record {
+  party_made : (P : Written → Type 0) → AsRequested request (generated_output request) → P (generated_output request) → Generates P words before.left after.left
+  party_made P promised w = record {
     request = request;
     asks = asks;
     unread = unread;
@@ -87,10 +87,10 @@ module _ (words : List (List ℕ)) (before after : Streams) (request : Request) 
   }
 
   pub done : (s : Status) → Said s → s ≡ Done → Generates (IsWrittenWhole before.taken after.taken false) words before.left after.left
-  done s h e = made_by (IsWrittenWhole before.taken after.taken false) (h.promised (λ none. cc (sym e ∙ none))) (writes_at s Done h e)
+  done s h e = party_made (IsWrittenWhole before.taken after.taken false) (h.promised (λ none. cc (sym e ∙ none))) (writes_at s Done h e)
 
   pub named : (s : Status) → Said s → s ≡ Named → Generates (IsWrittenWhole before.taken after.taken true) words before.left after.left
-  named s h e = made_by (IsWrittenWhole before.taken after.taken true) (h.promised (λ none. cc (sym e ∙ none))) (writes_at s Named h e)
+  named s h e = party_made (IsWrittenWhole before.taken after.taken true) (h.promised (λ none. cc (sym e ∙ none))) (writes_at s Named h e)
 
   pub write_fault : (s : Status) → Said s → s ≡ WriteFault → HasWriteFault before after
   write_fault s h e = let w = writes_at s WriteFault h e in w.0
@@ -98,7 +98,7 @@ module _ (words : List (List ℕ)) (before after : Streams) (request : Request) 
   pub cut : (s : Status) → Said s → s ≡ WriteFault → Generates (λ output. AppendsProperPrefix before.taken after.taken output.text) words before.left after.left
   cut s h e =
       let w = writes_at s WriteFault h e in
-      made_by (λ output. AppendsProperPrefix before.taken after.taken output.text) (h.promised (λ none. cc (sym e ∙ none))) w.1
+      party_made (λ output. AppendsProperPrefix before.taken after.taken output.text) (h.promised (λ none. cc (sym e ∙ none))) w.1
 
   -- a summary that wasn't made before.left nothing
   pub short : (s : Status) → Said s → s ≡ NoMemory
@@ -109,7 +109,7 @@ module _ (words : List (List ℕ)) (before after : Streams) (request : Request) 
           → Keeps before.taken after.taken ⊎ Generates (λ output. AppendsPrefix before.taken after.taken output.text) words before.left after.left
       by true asked = inl (h.silent e asked)
       by false asked =
-          inr (made_by (λ output. AppendsPrefix before.taken after.taken output.text) (λ again. absurd (cc (sym asked ∙ again))) (writes_at s NoMemory h e))
+          inr (party_made (λ output. AppendsPrefix before.taken after.taken output.text) (λ again. absurd (cc (sym asked ∙ again))) (writes_at s NoMemory h e))
 
   pub not_wrong_words : (s : Status) → Said s → ¬ (s ≡ WrongWords)
   not_wrong_words s h e = writes_at s WrongWords h e
@@ -133,14 +133,14 @@ module _ (words : List (List ℕ)) (before after : Streams) (request : Request) 
   silent NoMemory h d c w f = absurd (f refl)
   silent TooLong h d c w f = absurd h.writes
 
-  pub is_no_command : (command : Command) → ¬ (command_of words ≡ Some command)
+  pub is_no_command : (command : Command) → ¬ (words_command words ≡ Some command)
   is_no_command command e = absurd (cc (sym (no_command words request asks) ∙ e))
 
-  same_request : (other : Request) → request_of words ≡ Some other → request ≡ other
+  same_request : (other : Request) → words_request words ≡ Some other → request ≡ other
   same_request other e = cc (sym asks ∙ e)
 
-  pub good : (s : Status) → Said s → (other : Request) → request_of words ≡ Some other → ¬ HasWriteFault before after
-      → (s ≡ status_of (generated_output other).found) ⊎ (s ≡ NoMemory)
+  pub good : (s : Status) → Said s → (other : Request) → words_request words ≡ Some other → ¬ HasWriteFault before after
+      → (s ≡ command_status (generated_output other).found) ⊎ (s ≡ NoMemory)
   good Done h other is still =
       let found : (generated_output other).found ≡ false = ap (λ (r : Request). (generated_output r).found) (sym (same_request other is)) ∙ h.writes.1 in
       inl (rw found refl)

@@ -1,8 +1,8 @@
 -- Where what is written is determined.
-use Rattle.std.proofs.Common.{◌≡◌, ◌≤◌, ◌+◌, ℕ, Bool, true, false, cond, List, [], ◌∷◌, length, get_or, Result, Ok, Option, None, Some, refl}
-use Rattle.std.proofs.Common.{sym, ap, ◌∙◌, subst, arith, length-append}
+use Rattle.std.proofs.Common.{◌≡◌, ℕ, Bool, true, false, cond, List, [], ◌∷◌, length, get_or, Result, Ok, Option, refl}
+use Rattle.std.proofs.Common.{sym, ap, ◌∙◌, subst, arith}
 use Rattle.std.specs.List.{list_any}
-use Rattle.std.proofs.lemmas.List.{append-nil, get_or_append_left}
+use Rattle.std.proofs.lemmas.List.{get_or_append_left}
 use Rattle.swap_digraph.specs.declared.deal.Deal.{Deal}
 use Rattle.ledger_core.specs.declared.entry.Call.{Call}
 use Rattle.ledger_core.specs.Book.{Histories}
@@ -17,53 +17,53 @@ use Rattle.swap_job.specs.declared.job.Purpose.TheVariants as purposes
 use Rattle.swap_job.specs.declared.job.Role.{Role}
 use Rattle.swap_job.specs.declared.job.Role.TheVariants.{Conforming, Manual, Script, Strategy}
 use Rattle.refusals.specs.declared.reason.Reason.{Reason}
-use Rattle.swap_rules.specs.Due.{Action}
 use Rattle.swap_rules.specs.Machine.{Begins}
 use Rattle.swap_rules.proofs.Prefixes.{begins_more, begins_refl}
 use Rattle.swap_run.specs.Asked.{Answers, Rule, is_strategy, IsByRule}
-use Rattle.swap_run.specs.Run.{Cast, Question, State, conforms, role_of, plan_of, look, make, next_of, act, watch, take_call, after_turn, question}
-use Rattle.swap_run.specs.Run.{after_question, answer_for, act_as, step, run_from, run, start}
-use Rattle.swap_run.proofs.Asked.{runs_without_strategies, finishes_without_strategies, rules_decide_runs, rules_decide_finishes}
+use Rattle.swap_run.specs.Run.{Cast, Question, State, conforms, party_role, party_plan, look, make, next_action, act, watch, after_turn, question}
+use Rattle.swap_run.specs.Run.{after_question, answer_for, act_as, step, continued_run, run, start}
+use Rattle.swap_run.proofs.Asked.{runs_without_strategies, finishes_without_strategies, rules_decide_runs, rules_decide_finishes, take_asked, make_asked, begins_length}
 use Rattle.swap_run.proofs.Reached.{finish_events}
-use Rattle.swap_world.specs.Cast.{cast_of}
-use Rattle.swap_offer.specs.Job.{job_of}
-use Rattle.command_input.specs.Lines.{lines_of, filled_lines}
+use Rattle.swap_world.specs.Cast.{job_cast}
+use Rattle.swap_offer.specs.Job.{parse_job}
+use Rattle.command_input.specs.Lines.{collect_lines, filled_lines}
 use Rattle.command_input.specs.Written.{Written}
 use Rattle.swap_main.specs.Laws.{SameWithoutStrategies, RulesDecide}
 use Rattle.swap_main.specs.Known.{by_rule}
 use Rattle.swap_main.proofs.ManyTexts.{one_text}
-use Rattle.swap_commands.specs.Output.{AreGiven, Chance, cast_by, finished, output_by, output_for, reported, state_of}
+use Rattle.swap_commands.specs.Output.{AreGiven, Chance, command_cast, finished, output_by, job_output, reported, inside_state}
 use Rattle.swap_commands.specs.Words.{OfJob, Audit, Clear, Many, Check, Run, Race, Make}
+use Rattle.swap_main.proofs.ManyDecided.{as_before}
 
 -- What is written depends on the state alone.
 
 written_for : (a b : Chance) (transcript : Bool) (job : Job) (events : List Event) (read : Result (Job × List Event) Reason) (ls : List (ℕ × List ℕ))
-    → read ≡ Ok (job, events) → state_of a.answers job events ≡ state_of b.answers job events
-    → output_for a (Run transcript) ls read ≡ output_for b (Run transcript) ls read
+    → read ≡ Ok (job, events) → inside_state a.answers job events ≡ inside_state b.answers job events
+    → job_output a (Run transcript) ls read ≡ job_output b (Run transcript) ls read
 written_for a b transcript job events read ls is same =
-    ap (λ (r : Result (Job × List Event) Reason). output_for a (Run transcript) ls r) is
+    ap (λ (r : Result (Job × List Event) Reason). job_output a (Run transcript) ls r) is
     ∙ (ap (λ (s : State). let r : Result Written Reason = Ok (reported transcript job s.book) in r) same
-    ∙ sym (ap (λ (r : Result (Job × List Event) Reason). output_for b (Run transcript) ls r) is))
+    ∙ sym (ap (λ (r : Result (Job × List Event) Reason). job_output b (Run transcript) ls r) is))
 
 written_same : (has : List ℕ → Bool) (a b : Chance) (transcript : Bool) (input : List ℕ) (job : Job) (events : List Event)
-    → job_of has purposes.Run input ≡ Ok (job, events) → state_of a.answers job events ≡ state_of b.answers job events
+    → parse_job has purposes.Run input ≡ Ok (job, events) → inside_state a.answers job events ≡ inside_state b.answers job events
     → output_by has a (OfJob (Run transcript)) input ≡ output_by has b (OfJob (Run transcript)) input
 unfolding output_by
 written_same has a b transcript input job events is same =
-    written_for a b transcript job events (job_of has purposes.Run input) (filled_lines 1 (lines_of input)) is same
+    written_for a b transcript job events (parse_job has purposes.Run input) (filled_lines 1 (collect_lines input)) is same
 
 -- Where nobody follows a strategy.
 
 plain_finish : (fin : Finish) (job : Job) (a : Answers) (s : State) → list_any is_strategy job.roles ≡ false
-    → finished fin (cast_by a job) s ≡ finished fin (cast_of job) s
+    → finished fin (command_cast a job) s ≡ finished fin (job_cast job) s
 plain_finish Stop job a s none = refl
-plain_finish Fair job a s none = finishes_without_strategies (cast_of job) a s none
+plain_finish Fair job a s none = finishes_without_strategies (job_cast job) a s none
 
 plain_state : (job : Job) (a : Answers) (events : List Event) → list_any is_strategy job.roles ≡ false
-    → state_of a job events ≡ finished job.finish (cast_of job) (run (cast_of job) events)
+    → inside_state a job events ≡ finished job.finish (job_cast job) (run (job_cast job) events)
 plain_state job a events none =
-    ap (λ (s : State). finished job.finish (cast_by a job) s) (runs_without_strategies (cast_of job) a (start (cast_of job)) events none)
-    ∙ plain_finish job.finish job a (run (cast_of job) events) none
+    ap (λ (s : State). finished job.finish (command_cast a job) s) (runs_without_strategies (job_cast job) a (start (job_cast job)) events none)
+    ∙ plain_finish job.finish job a (run (job_cast job) events) none
 
 pub same_without_strategies : SameWithoutStrategies
 same_without_strategies has a b transcript input job events is none =
@@ -71,23 +71,12 @@ same_without_strategies has a b transcript input job events is none =
 
 -- What is asked stays in its place.
 
-as_before : (s t : State) → t.asked ≡ s.asked → Begins s.asked t.asked
-as_before s t e = ([], e ∙ sym (append-nil s.asked))
-
-take_asked : (c : Cast) (s : State) (v : ℕ) (o : Option (ℕ × Call)) → (take_call c s v o).asked ≡ s.asked
-take_asked c s v None = refl
-take_asked c s v (Some x) = refl
-
-make_asked : (c : Cast) (s : State) (v : ℕ) (o : Option Action) → (make c.deal s v o).asked ≡ s.asked
-make_asked c s v None = refl
-make_asked c s v (Some x) = refl
-
 act_begins : (c : Cast) (s : State) (v : ℕ) (role : Role) → Begins s.asked (act_as c s v role).asked
 act_begins c s v Conforming = begins_refl s.asked
 act_begins c s v Manual = begins_refl s.asked
 act_begins c s v (Script moves) =
-    as_before s (act_as c s v (Script moves)) (take_asked c (after_turn s v (moves_left (plan_of s v).known (plan_of s v).moves)) v
-    (next_call c.deal c.seeds (plan_of s v).known (plan_of s v).moves))
+    as_before s (act_as c s v (Script moves)) (take_asked c (after_turn s v (moves_left (party_plan s v).known (party_plan s v).moves)) v
+    (next_call c.deal c.seeds (party_plan s v).known (party_plan s v).moves))
 act_begins c s v (Strategy name) =
     (question s v name ∷ [], take_asked c (after_question s v name) v (answer_for c.deal v (c.answers (length s.asked))))
 
@@ -99,25 +88,22 @@ step_begins : (c : Cast) (s : State) (e : Event) → Begins s.asked (step c s e)
 step_begins c s (Tick a k) = begins_refl s.asked
 step_begins c s (Look v a) = either_begins (conforms c v) s (look s v a) (watch c s v a) (begins_refl s.asked) (begins_refl s.asked)
 step_begins c s (Act v) =
-    either_begins (conforms c v) s (act c s v) (act_as c s v (role_of c v)) (as_before s (act c s v) (make_asked c s v (next_of c s v)))
-    (act_begins c s v (role_of c v))
+    either_begins (conforms c v) s (act c s v) (act_as c s v (party_role c v)) (as_before s (act c s v) (make_asked c s v (next_action c s v)))
+    (act_begins c s v (party_role c v))
 step_begins c s (Made v mv) =
     as_before s (step c s (Made v mv)) (take_asked c s v (resolved c.deal c.seeds s.book mv))
 step_begins c s (Crash v k image) = begins_refl s.asked
 
-run_begins : (c : Cast) (s : State) (events : List Event) → Begins s.asked (run_from c s events).asked
+run_begins : (c : Cast) (s : State) (events : List Event) → Begins s.asked (continued_run c s events).asked
 run_begins c s [] = begins_refl s.asked
 run_begins c s (e ∷ events) =
-    begins_more s.asked (step c s e).asked (run_from c (step c s e) events).asked (step_begins c s e) (run_begins c (step c s e) events)
+    begins_more s.asked (step c s e).asked (continued_run c (step c s e) events).asked (step_begins c s e) (run_begins c (step c s e) events)
 
 finished_begins : (fin : Finish) (c : Cast) (s : State) → Begins s.asked (finished fin c s).asked
 finished_begins Stop c s = begins_refl s.asked
 finished_begins Fair c s =
     let r = finish_events c s in
     subst (λ (t : State). Begins s.asked t.asked) (sym r.state) (run_begins c s r.events)
-
-begins_length : {A : Type 0} (xs ys : List A) → Begins xs ys → length xs ≤ length ys
-begins_length xs ys b = let e : length ys ≡ length xs + length b.0 = ap length b.1 ∙ length-append xs b.0 in omega arith
 
 early : (rule : Rule) (c : Cast) (s t u : State) → Begins t.asked u.asked → IsByRule rule c s u → IsByRule rule c s t
 early rule c s t u b by = λ i q lo hi is.
@@ -131,52 +117,54 @@ late rule c s t u b by = λ i q lo hi is. let l = begins_length s.asked t.asked 
 
 -- all that a run asks is answered by the rule
 abbrev IsRunByRule : Rule → Answers → Job → List Event → Type 0
-IsRunByRule rule a job events = IsByRule rule (cast_by a job) (start (cast_of job)) (state_of a job events)
+IsRunByRule rule a job events = IsByRule rule (command_cast a job) (start (job_cast job)) (inside_state a job events)
 
 module _ (rule : Rule) (job : Job) (a b : Answers) (events : List Event) where
   abbrev mid : Answers → State
-  mid x = run (cast_by x job) events
+  mid x = run (command_cast x job) events
 
   mids : IsRunByRule rule a job events → IsRunByRule rule b job events → mid b ≡ mid a
   mids k l =
-      rules_decide_runs rule (cast_by a job) b (start (cast_of job)) events
-      (early rule (cast_by a job) (start (cast_of job)) (mid a) (state_of a job events) (finished_begins job.finish (cast_by a job) (mid a)) k)
-      (early rule (cast_by b job) (start (cast_of job)) (mid b) (state_of b job events) (finished_begins job.finish (cast_by b job) (mid b)) l)
+      rules_decide_runs rule (command_cast a job) b (start (job_cast job)) events
+      (early rule (command_cast a job) (start (job_cast job)) (mid a) (inside_state a job events) (finished_begins job.finish (command_cast a job) (mid a)) k)
+      (early rule (command_cast b job) (start (job_cast job)) (mid b) (inside_state b job events) (finished_begins job.finish (command_cast b job) (mid b)) l)
 
-  ends : (fin : Finish) (s : State) → IsByRule rule (cast_by a job) s (finished fin (cast_by a job) s)
-      → IsByRule rule (cast_by b job) s (finished fin (cast_by b job) s) → finished fin (cast_by b job) s ≡ finished fin (cast_by a job) s
+  ends : (fin : Finish) (s : State) → IsByRule rule (command_cast a job) s (finished fin (command_cast a job) s)
+      → IsByRule rule (command_cast b job) s (finished fin (command_cast b job) s) → finished fin (command_cast b job) s ≡ finished fin (command_cast a job) s
   ends Stop s k l = refl
-  ends Fair s k l = rules_decide_finishes rule (cast_by a job) b s k l
+  ends Fair s k l = rules_decide_finishes rule (command_cast a job) b s k l
 
-  same_state : IsRunByRule rule a job events → IsRunByRule rule b job events → state_of a job events ≡ state_of b job events
+  same_state : IsRunByRule rule a job events → IsRunByRule rule b job events → inside_state a job events ≡ inside_state b job events
   same_state k l =
       let e : mid b ≡ mid a = mids k l in
-      let after : IsByRule rule (cast_by b job) (mid b) (finished job.finish (cast_by b job) (mid b)) =
-      late rule (cast_by b job) (start (cast_of job)) (mid b) (state_of b job events) (run_begins (cast_by b job) (start (cast_of job)) events) l in
-      sym (ap (λ (s : State). finished job.finish (cast_by b job) s) e ∙ ends job.finish (mid a)
-      (late rule (cast_by a job) (start (cast_of job)) (mid a) (state_of a job events) (run_begins (cast_by a job) (start (cast_of job)) events) k)
-      (subst (λ (s : State). IsByRule rule (cast_by b job) s (finished job.finish (cast_by b job) s)) e after))
+      let after : IsByRule rule (command_cast b job) (mid b) (finished job.finish (command_cast b job) (mid b)) =
+      late rule (command_cast b job) (start (job_cast job)) (mid b) (inside_state b job events) (run_begins (command_cast b job) (start
+      (job_cast job)) events) l in
+      sym (ap (λ (s : State). finished job.finish (command_cast b job) s) e ∙ ends job.finish (mid a)
+      (late rule (command_cast a job) (start (job_cast job)) (mid a) (inside_state a job events) (run_begins (command_cast a job) (start
+      (job_cast job)) events) k)
+      (subst (λ (s : State). IsByRule rule (command_cast b job) s (finished job.finish (command_cast b job) s)) e after))
 
 -- a rule of names, as one of what is asked
 abbrev of_question : (List ℕ → Deal → ℕ → ℕ → Histories → Option (ℕ × Call)) → Rule
 of_question rule d q = rule q.strategy d q.party q.turn q.known
 
-is_by : (rule : List ℕ → Deal → ℕ → ℕ → Histories → Option (ℕ × Call)) (a : Answers) (job : Job) (events : List Event)
-    → AreGiven (by_rule rule) job.deal a (state_of a job events).asked → IsRunByRule (of_question rule) a job events
-is_by rule a job events given = λ i q lo hi is. given i q hi is
+signature_matches : (rule : List ℕ → Deal → ℕ → ℕ → Histories → Option (ℕ × Call)) (a : Answers) (job : Job) (events : List Event)
+    → AreGiven (by_rule rule) job.deal a (inside_state a job events).asked → IsRunByRule (of_question rule) a job events
+signature_matches rule a job events given = λ i q lo hi is. given i q hi is
 
 one_run : (rule : List ℕ → Deal → ℕ → ℕ → Histories → Option (ℕ × Call)) (has : List ℕ → Bool) (a b : Chance) (transcript : Bool) (input : List ℕ)
-    (job other : Job) (events others : List Event) → job_of has purposes.Run input ≡ Ok (job, events) → job_of has purposes.Run input ≡ Ok (other, others)
-    → AreGiven (by_rule rule) job.deal a.answers (state_of a.answers job events).asked
-    → AreGiven (by_rule rule) other.deal b.answers (state_of b.answers other others).asked
+    (job other : Job) (events others : List Event) → parse_job has purposes.Run input ≡ Ok (job, events) → parse_job has purposes.Run input ≡ Ok (other, others)
+    → AreGiven (by_rule rule) job.deal a.answers (inside_state a.answers job events).asked
+    → AreGiven (by_rule rule) other.deal b.answers (inside_state b.answers other others).asked
     → output_by has a (OfJob (Run transcript)) input ≡ output_by has b (OfJob (Run transcript)) input
 one_run rule has a b transcript input job other events others is is' given given' =
     let read : ◌≡◌ {A = Result (Job × List Event) Reason} (Ok (other, others)) (Ok (job, events)) = sym is' ∙ is in
     let same : ◌≡◌ {A = Job × List Event} (other, others) (job, events) = cc read in
     written_same has a b transcript input job events is
-    (same_state (of_question rule) job a.answers b.answers events (is_by rule a.answers job events given)
-    (is_by rule b.answers job events
-    (subst (λ (j : Job × List Event). AreGiven (by_rule rule) j.0.deal b.answers (state_of b.answers j.0 j.1).asked) same given')))
+    (same_state (of_question rule) job a.answers b.answers events (signature_matches rule a.answers job events given)
+    (signature_matches rule b.answers job events
+    (subst (λ (j : Job × List Event). AreGiven (by_rule rule) j.0.deal b.answers (inside_state b.answers j.0 j.1).asked) same given')))
 
 as_one : (one other : Written) → ◌≡◌ {A = Result Written Reason} (Ok one) (Ok other) → one ≡ other
 as_one one other e = cc e

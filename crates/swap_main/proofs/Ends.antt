@@ -5,9 +5,9 @@ use Rattle.std.specs.Io.KnownBytes.{Keeps}
 use Rattle.swap_io.specs.Causes.{ConsumesAtMost, ConsumesSome}
 use Rattle.refusals.specs.declared.reason.Reason.{Reason}
 use Rattle.command_input.specs.Input.{limit}
-use Rattle.swap_commands.specs.Words.{command_of, Command}
+use Rattle.swap_commands.specs.Words.{words_command, Command}
 use Rattle.command_input.specs.Written.{Written}
-use Rattle.swap_commands.specs.Output.{Chance, no_chance, output_by, output_of, names_of}
+use Rattle.swap_commands.specs.Output.{Chance, no_chance, output_by, command_output, names_of}
 use Rattle.swap_commands.specs.Says.{HasRead, Says}
 use Rattle.swap_main.specs.Top.{AsksFairRace, AsksFairRun, Read, IsDone, IsCut, IsRefused, IsShort, IsStatusOf}
 use Rattle.command_input.specs.declared.status.Status.{Status}
@@ -28,7 +28,7 @@ module _ (has : List ℕ → Bool) where
       absurd (omega (arith, short, some.1, ap length e, ap length some.2, length-append some.0 ys))
 
   module _ (gives : MayGive) (words : List (List ℕ)) (before after : Streams)
-      (command : Command) (asked : command_of words ≡ Some command) where
+      (command : Command) (asked : words_command words ≡ Some command) where
     abbrev Said : Status → Type 0
     Said s = Says (strategies has gives) command before after s
 
@@ -127,7 +127,7 @@ module _ (has : List ℕ → Bool) where
         → r.input ≡ input
     same_input a output r input told = all_read has before.left after.left input r.input told r.taken r.ended
 
-    same_command : (other : Command) → command_of words ≡ Some other → command ≡ other
+    same_command : (other : Command) → words_command words ≡ Some other → command ≡ other
     same_command other e = cc (sym asked ∙ e)
 
     -- what was read was no more than may be
@@ -136,7 +136,7 @@ module _ (has : List ℕ → Bool) where
         → limit < length input → ⊥
     not_long a output r input told over = absurd (omega (arith, over, r.within, ap length (same_input a output r input told)))
 
-    pub long : (s : Status) → Said s → (other : Command) (input : List ℕ) → command_of words ≡ Some other → before.left ≡ Some input → limit < length input
+    pub long : (s : Status) → Said s → (other : Command) (input : List ℕ) → words_command words ≡ Some other → before.left ≡ Some input → limit < length input
         → ¬ HasReadFault before after → (s ≡ TooLong) ⊎ (s ≡ NoMemory)
     long Done h other input is told over calm = absurd (not_long h.chance (Ok h.output) h.read input told over)
     long Named h other input is told over calm = absurd (not_long h.chance (Ok h.output) h.read input told over)
@@ -149,21 +149,21 @@ module _ (has : List ℕ → Bool) where
 
     -- what the command gives for the input that the source tells
     given : (a : Chance) (output : Result Written Reason) (r : HasRead has a command before.left after.left output) (other : Command) (input : List ℕ)
-        → command_of words ≡ Some other → before.left ≡ Some input → output_by has a other input ≡ output
+        → words_command words ≡ Some other → before.left ≡ Some input → output_by has a other input ≡ output
     given a output r other input is told =
         ap (λ (c : Command). output_by has a c input) (sym (same_command other is))
         ∙ ap (output_by has a command) (sym (same_input a output r input told)) ∙ r.gives
 
     -- a promise of what was read is one of what the source tells
     kept : (a : Chance) (output : Written) (r : HasRead has a command before.left after.left (Ok output)) (other : Command) (input : List ℕ)
-        → command_of words ≡ Some other
+        → words_command words ≡ Some other
         → before.left ≡ Some input → AsPromised has gives a command r.input output → AsPromised has gives a other input output
     kept a output r other input is told k =
         subst (λ (c : Command). AsPromised has gives a c input output) (same_command other is)
         (subst (λ (xs : List ℕ). AsPromised has gives a command xs output) (same_input a (Ok output) r input told) k)
 
-    pub bad : (s : Status) → Said s → (other : Command) (input : List ℕ) (reason : Reason) → command_of words ≡ Some other → before.left ≡ Some input
-        → length input ≤ limit → output_of has other input ≡ Err reason → ¬ HasReadFault before after
+    pub bad : (s : Status) → Said s → (other : Command) (input : List ℕ) (reason : Reason) → words_command words ≡ Some other → before.left ≡ Some input
+        → length input ≤ limit → command_output has other input ≡ Err reason → ¬ HasReadFault before after
         → (s ≡ Refused reason (names_of has other input)) ⊎ (s ≡ NoMemory)
     bad Done h other input reason is told within against calm =
         absurd (cc (sym (given h.chance (Ok h.output) h.read other input is told) ∙ fails_by has h.chance other input reason against))
@@ -181,8 +181,8 @@ module _ (has : List ℕ → Bool) where
     bad NoMemory h other input reason is told within against calm = inr refl
     bad TooLong h other input reason is told within against calm = absurd (past_all before.left after.left input (limit + 1) told (omega (arith, within)) h.0)
 
-    pub good : (s : Status) → Said s → (other : Command) (input : List ℕ) (output : Written) → command_of words ≡ Some other → before.left ≡ Some input
-        → length input ≤ limit → output_of has other input ≡ Ok output → ¬ HasReadFault before after → ¬ HasWriteFault before after
+    pub good : (s : Status) → Said s → (other : Command) (input : List ℕ) (output : Written) → words_command words ≡ Some other → before.left ≡ Some input
+        → length input ≤ limit → command_output has other input ≡ Ok output → ¬ HasReadFault before after → ¬ HasWriteFault before after
         → IsStatusOf has gives other input s ⊎ (s ≡ NoMemory)
     good Done h other input output is told within made calm still = inl (record {
       chance = h.chance;

@@ -18,28 +18,27 @@ use Rattle.swap_rules.specs.Due.{Action}
 use Rattle.swap_rules.specs.Machine.{Begins}
 use Rattle.swap_rules.proofs.Prefixes.{begins_more, begins_refl}
 use Rattle.swap_run.specs.Asked.{Answers, Rule, with_answers}
-use Rattle.swap_run.specs.Run.{Cast, Question, State, act, act_as, after_question, after_turn, answer_for, conforms, look, make, next_of, plan_of}
-use Rattle.swap_run.specs.Run.{question, role_of, step, take_call, watch}
+use Rattle.swap_run.specs.Run.{Cast, Question, State, act, act_as, after_question, after_turn, answer_for, conforms, look, make, next_action, party_plan}
+use Rattle.swap_run.specs.Run.{question, party_role, step, take_call, watch}
 use Rattle.swap_run.specs.Fair.{repeat, adjacent_arcs, most_acts}
-use Rattle.swap_run.specs.Called.{Called, by, by_due, called_as, is_barred, noted_to, planned_to, step_on, turned_as}
+use Rattle.swap_run.specs.Called.{Called, by, by_due, called_as, is_barred, noted_to, planned_to, apply_step, turned_as}
 use Rattle.swap_many.specs.declared.many_event.ManyEvent.{ManyEvent}
 use Rattle.swap_many.specs.declared.many_event.ManyEvent.TheVariants.{Tick, In, Pay, Sweep}
-use Rattle.swap_many.specs.Chains.{Setup, Slot, chain_of, put, is_done, has_no_tick, paid, slots}
+use Rattle.swap_many.specs.Chains.{Setup, Slot, arc_chain, put, is_done, has_no_tick, paid, slots}
 use Rattle.swap_many.specs.Many.{last_horizon}
-use Rattle.swap_many.specs.Kept.{Kept, answer_payment, answer_sweep, kept_done, kept_start, kept_step, kept_sweep, later, tick_on, ticked}
+use Rattle.swap_many.specs.Kept.{Kept, answer_payment, answer_sweep, kept_done, kept_start, kept_step, kept_sweep, later, tick_ledgers, ticked}
 use Rattle.swap_many.specs.Fair.{have_ended, kept_act, kept_acts, kept_looks, kept_round, kept_round_or_rest, kept_rounds, kept_sweeps, kept_ticks, kept_turn}
-use Rattle.swap_many.specs.Fair.{kept_turns, tick_of}
+use Rattle.swap_many.specs.Fair.{kept_turns, entry_tick}
 use Rattle.swap_many.proofs.Projections.{put_each, put_same}
 use Rattle.swap_commands.specs.Many.{ended_by}
+use Rattle.swap_run.proofs.Asked.{begins_length}
+use Rattle.swap_world.proofs.Gone.{either_asked}
 
 -- What is asked between two states of a swap is answered by the rule.
 abbrev AnswersBetween : (Question → Option (ℕ × Call)) → Answers → State → State → Type 0
 AnswersBetween rule g s t = (i : ℕ) (q : Question) → length s.asked ≤ i → i < length t.asked → q ≡ get_or t.asked i q → g i ≡ rule q
 
-begins_length : {A : Type 0} (xs ys : List A) → Begins xs ys → length xs ≤ length ys
-begins_length xs ys b = let e : length ys ≡ length xs + length b.0 = ap length b.1 ∙ length-append xs b.0 in omega arith
-
-as_before : (s t : State) → t.asked ≡ s.asked → Begins s.asked t.asked
+pub as_before : (s t : State) → t.asked ≡ s.asked → Begins s.asked t.asked
 as_before s t e = ([], e ∙ sym (append-nil s.asked))
 
 -- A swap's event, where it is answered by g and where by h: both ask the same, and come to the same where a rule gives both answers.
@@ -60,10 +59,6 @@ abbrev landed : (ℕ → Bool) → Cast → State → ℕ → Option (ℕ × Cal
 landed swept c s v o None = take_call c s v o
 landed swept c s v o (Some x) =
     cond (is_barred (swept x.arc) (history s.book x.arc) x.call) (planned_to c s x (history s.book x.arc)) (take_call c s v o)
-
-either_asked : (b : Bool) (s t u : State) → t.asked ≡ s.asked → u.asked ≡ s.asked → (cond b t u).asked ≡ s.asked
-either_asked true s t u x y = x
-either_asked false s t u x y = y
 
 taken_asked : (swept : ℕ → Bool) (c : Cast) (s : State) (v : ℕ) (o : Option (ℕ × Call)) → (landed swept c s v o (by v o)).asked ≡ s.asked
 taken_asked swept c s v None = refl
@@ -127,18 +122,18 @@ module _ (rule : Question → Option (ℕ × Call)) (swept : ℕ → Bool) (c : 
 
   -- what an act of v does, by whether it conforms and by its role
   abbrev acted : Cast → State → ℕ → Bool → Role → State
-  acted d s v true role = made swept d s v (next_of d s v) (by_due v (next_of d s v))
+  acted d s v true role = made swept d s v (next_action d s v) (by_due v (next_action d s v))
   acted d s v false Conforming = s
   acted d s v false Manual = s
   acted d s v false (Script moves) =
-      let o = next_call d.deal d.seeds (plan_of s v).known (plan_of s v).moves in
-      landed swept d (after_turn s v (moves_left (plan_of s v).known (plan_of s v).moves)) v o (by v o)
+      let o = next_call d.deal d.seeds (party_plan s v).known (party_plan s v).moves in
+      landed swept d (after_turn s v (moves_left (party_plan s v).known (party_plan s v).moves)) v o (by v o)
   acted d s v false (Strategy name) =
       let o = answer_for d.deal v (d.answers (length s.asked)) in landed swept d (after_question s v name) v o (by v o)
 
   -- the same as it is taken apart
   abbrev called_by : Cast → State → ℕ → Bool → Role → Option Called
-  called_by d s v n role = cond n (by_due v (next_of d s v)) (called_as d s v role)
+  called_by d s v n role = cond n (by_due v (next_action d s v)) (called_as d s v role)
 
   abbrev before_by : Cast → State → ℕ → Bool → Role → State
   before_by d s v n role = cond n s (turned_as d s v role)
@@ -151,7 +146,7 @@ module _ (rule : Question → Option (ℕ × Call)) (swept : ℕ → Bool) (c : 
       (cond n (act d s v) (act_as d s v role))
 
   act_is : (d : Cast) (s : State) (v : ℕ)
-      → step_on swept d s (events.Act v) ≡ act_by d s v (conforms d v) (role_of d v) (called_by d s v (conforms d v) (role_of d v))
+      → apply_step swept d s (events.Act v) ≡ act_by d s v (conforms d v) (party_role d v) (called_by d s v (conforms d v) (party_role d v))
   act_is d s v = refl
 
   acted_is : (d : Cast) (s : State) (v : ℕ) (n : Bool) (role : Role) → act_by d s v n role (called_by d s v n role) ≡ acted d s v n role
@@ -162,26 +157,27 @@ module _ (rule : Question → Option (ℕ × Call)) (swept : ℕ → Bool) (c : 
   acted_is d s v false (Strategy name) = refl
 
   act_one : (s : State) (v : ℕ) (n : Bool) (role : Role) → AreOne rule g h s (acted cast_g s v n role) (acted cast_h s v n role)
-  act_one s v true role = quiet rule g h s (acted cast_g s v true role) (acted cast_h s v true role) (made_asked swept cast_g s v (next_of cast_g s v)) refl
+  act_one s v true role = quiet rule g h s (acted cast_g s v true role) (acted cast_h s v true role) (made_asked swept cast_g s v (next_action cast_g s v)) refl
   act_one s v false Conforming = quiet rule g h s s s refl refl
   act_one s v false Manual = quiet rule g h s s s refl refl
   act_one s v false (Script moves) =
-      taken s (after_turn s v (moves_left (plan_of s v).known (plan_of s v).moves)) v (next_call c.deal c.seeds (plan_of s v).known (plan_of s v).moves) refl
+      taken s (after_turn s v (moves_left (party_plan s v).known (party_plan s v).moves)) v (next_call c.deal c.seeds (party_plan s v).known
+      (party_plan s v).moves) refl
   act_one s v false (Strategy name) = answered s v name
 
-  step_one : (e : Event) (s : State) → AreOne rule g h s (step_on swept cast_g s e) (step_on swept cast_h s e)
-  step_one (events.Tick x k) s = quiet rule g h s (step_on swept cast_g s (events.Tick x k)) (step_on swept cast_h s (events.Tick x k)) refl refl
+  step_one : (e : Event) (s : State) → AreOne rule g h s (apply_step swept cast_g s e) (apply_step swept cast_h s e)
+  step_one (events.Tick x k) s = quiet rule g h s (apply_step swept cast_g s (events.Tick x k)) (apply_step swept cast_h s (events.Tick x k)) refl refl
   step_one (events.Look v x) s =
-      quiet rule g h s (step_on swept cast_g s (events.Look v x)) (step_on swept cast_h s (events.Look v x))
+      quiet rule g h s (apply_step swept cast_g s (events.Look v x)) (apply_step swept cast_h s (events.Look v x))
       (either_asked (conforms c v) s (look s v x) (watch cast_g s v x) refl refl) refl
   step_one (events.Act v) s =
-      subst (λ (t : State). AreOne rule g h s t (step_on swept cast_h s (events.Act v)))
-      (sym (act_is cast_g s v ∙ acted_is cast_g s v (conforms c v) (role_of c v)))
-      (subst (λ (u : State). AreOne rule g h s (acted cast_g s v (conforms c v) (role_of c v)) u)
-      (sym (act_is cast_h s v ∙ acted_is cast_h s v (conforms c v) (role_of c v))) (act_one s v (conforms c v) (role_of c v)))
+      subst (λ (t : State). AreOne rule g h s t (apply_step swept cast_h s (events.Act v)))
+      (sym (act_is cast_g s v ∙ acted_is cast_g s v (conforms c v) (party_role c v)))
+      (subst (λ (u : State). AreOne rule g h s (acted cast_g s v (conforms c v) (party_role c v)) u)
+      (sym (act_is cast_h s v ∙ acted_is cast_h s v (conforms c v) (party_role c v))) (act_one s v (conforms c v) (party_role c v)))
   step_one (events.Call v mv) s = taken s s v (resolved c.deal c.seeds s.book mv) refl
   step_one (events.Crash v k image) s =
-      quiet rule g h s (step_on swept cast_g s (events.Crash v k image)) (step_on swept cast_h s (events.Crash v k image)) refl refl
+      quiet rule g h s (apply_step swept cast_g s (events.Crash v k image)) (apply_step swept cast_h s (events.Crash v k image)) refl refl
 
 -- The same of all that is kept.
 
@@ -255,11 +251,11 @@ module _ (rule : Rule) (m : Setup) (g h : ℕ → Answers) where
   -- Events.
 
   -- the ledgers of a chain tick, and nobody is asked
-  ticked_asked : (i k s : ℕ) (t : State) (xs : List ℕ) → (fold (tick_on a i k s) t xs).asked ≡ t.asked
+  ticked_asked : (i k s : ℕ) (t : State) (xs : List ℕ) → (fold (tick_ledgers a i k s) t xs).asked ≡ t.asked
   ticked_asked i k s t [] = refl
   ticked_asked i k s t (x ∷ xs) =
-      ticked_asked i k s (tick_on a i k s t x) xs
-      ∙ either_asked (chain_of m s x == i) t (step (a.cast s) t (events.Tick x k)) t refl refl
+      ticked_asked i k s (tick_ledgers a i k s t x) xs
+      ∙ either_asked (arc_chain m s x == i) t (step (a.cast s) t (events.Tick x k)) t refl refl
 
   tick_orderly : (fair : Bool) (i k : ℕ) (z : Kept) → Orderly z (kept_done fair a z (Tick i k)) (kept_done fair b z (Tick i k))
   tick_orderly fair i k z =
@@ -271,8 +267,8 @@ module _ (rule : Rule) (m : Setup) (g h : ℕ → Answers) where
 
   event_orderly : (fair : Bool) (s : ℕ) (e : Event) (z : Kept) → Orderly z (kept_done fair a z (In s e)) (kept_done fair b z (In s e))
   event_orderly fair s e z =
-      let t : State = step_on (z.swept s) (a.cast s) (z.swaps s) e in
-      let u : State = step_on (z.swept s) (b.cast s) (z.swaps s) e in
+      let t : State = apply_step (z.swept s) (a.cast s) (z.swaps s) e in
+      let u : State = apply_step (z.swept s) (b.cast s) (z.swaps s) e in
       let one : AreOne (rule (m.cast s).deal) (g s) (h s) (z.swaps s) t u =
       step_one (rule (m.cast s).deal) (z.swept s) (m.cast s) (g s) (h s) e (z.swaps s) in
       record {
@@ -330,7 +326,7 @@ module _ (rule : Rule) (m : Setup) (g h : ℕ → Answers) where
   round_orderly z =
       and_then z (fold (kept_turns a) z (range_with_len 0 m.swaps)) (fold (kept_turns b) z (range_with_len 0 m.swaps)) (kept_ticks a) (kept_ticks b)
       (along (kept_turns a) (kept_turns b) (range_with_len 0 m.swaps) turns_orderly z)
-      (along (tick_of a) (tick_of b) (range_with_len 0 (length m.chains)) (λ z i. done_orderly false (Tick i 1) z))
+      (along (entry_tick a) (entry_tick b) (range_with_len 0 (length m.chains)) (λ z i. done_orderly false (Tick i 1) z))
 
   rounds_orderly : (z : Kept) → Orderly z (kept_rounds a z) (kept_rounds b z)
   rounds_orderly =

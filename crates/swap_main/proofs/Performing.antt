@@ -5,7 +5,7 @@ use Rattle.std.proofs.KnownBytes.{Keeps-refl}
 use Rattle.swap_io.specs.Causes.{ConsumesAtMost}
 use Rattle.swap_io.specs.Handed.{AppendsPrefix}
 use Rattle.swap_world.specs.Gone.{MayGive}
-use Rattle.program_words.specs.Words.{task_of}
+use Rattle.program_words.specs.Words.{task_text}
 use Rattle.program_words.specs.declared.task.Request.{Request}
 use Rattle.program_words.specs.declared.task.Task.{Task}
 use Rattle.program_words.specs.declared.task.Task.TheVariants.{Input, Race, Number}
@@ -18,7 +18,7 @@ use Rattle.command_input.specs.Written.{Writes}
 use Rattle.swap_commands.specs.Generated.{generated_output, Generates, IsMadeFor}
 use Rattle.swap_commands.specs.Says.{Says}
 use Rattle.swap_commands.specs.Strategies.{Strategies, strategies}
-use Rattle.swap_commands.specs.Words.{Command, OfJob, Race as OfRace, command_in, command_of, ordered, request_in, request_of}
+use Rattle.swap_commands.specs.Words.{Command, OfJob, Race as OfRace, task_command, words_command, ordered, task_request, words_request}
 use Rattle.swap_main.specs.Answer.{IsAnswer}
 use Rattle.swap_main.specs.Top.{IsShort}
 use Rattle.swap_commands.proofs.Saying.{none_consumed}
@@ -33,9 +33,9 @@ Performs who (Race ticks transcript) before after s = Says who (OfJob (OfRace ti
 Performs who (Number request) before after s = (after.left ≡ before.left) × IsMadeFor before.taken after.taken before.write_faults after.write_faults request s
 
 -- a task that reads an input asks for no job of a number
-pub number_is : (words : List (List ℕ)) (task : Task) (request : Request) → task_of words ≡ Some task → request_of words ≡ Some request
-    → request_in task ≡ Some request
-number_is words task request asked is = sym (ap (λ (o : Option Task). option_and_then request_in o) asked) ∙ is
+pub number_is : (words : List (List ℕ)) (task : Task) (request : Request) → task_text words ≡ Some task → words_request words ≡ Some request
+    → task_request task ≡ Some request
+number_is words task request asked is = sym (ap (λ (o : Option Task). option_and_then task_request o) asked) ∙ is
 
 module _ (who : Strategies) (words : List (List ℕ)) (before after : Streams) where
   short_input : Keeps before.taken after.taken ⊎ IsShort who words before after
@@ -50,8 +50,8 @@ module _ (who : Strategies) (words : List (List ℕ)) (before after : Streams) w
   short_number (inl k) = inl k
   short_number (inr g) = inr (inr g)
 
-  module _ (command : Command) (asked : command_of words ≡ Some command) where
-    no_number : (request : Request) → ¬ (request_of words ≡ Some request)
+  module _ (command : Command) (asked : words_command words ≡ Some command) where
+    no_number : (request : Request) → ¬ (words_request words ≡ Some request)
     no_number request is = cc (sym asked ∙ no_command words request is)
 
     -- what is promised of a command that reads an input
@@ -77,9 +77,9 @@ module _ (who : Strategies) (words : List (List ℕ)) (before after : Streams) w
       generated = λ request is still. absurd (no_number request is);
     }
 
-  module _ (request : Request) (asked : request_of words ≡ Some request) (unread : after.left ≡ before.left) (few : 2 ≤ request.parties)
+  module _ (request : Request) (asked : words_request words ≡ Some request) (unread : after.left ≡ before.left) (few : 2 ≤ request.parties)
       (many : request.parties ≤ 24) where
-    no_input : (command : Command) → ¬ (command_of words ≡ Some command)
+    no_input : (command : Command) → ¬ (words_command words ≡ Some command)
     no_input command is = cc (sym (no_command words request asked) ∙ is)
 
     -- what is promised of a job of a number
@@ -106,7 +106,7 @@ module _ (who : Strategies) (words : List (List ℕ)) (before after : Streams) w
     }
 
   -- all of it, by a task
-  pub answer : (task : Task) → task_of words ≡ Some task → (s : Status) → Performs who task before after s
+  pub answer : (task : Task) → task_text words ≡ Some task → (s : Status) → Performs who task before after s
       → IsAnswer who words before after s
   answer (Input order) asked s h = by_command (ordered order) (command_is words (Input order) (ordered order) asked refl) s h
   answer (Race ticks transcript) asked s h =
@@ -124,8 +124,8 @@ said_is_right has gives command left left' n m taken taken' p q s h e =
 pub made_is_right : (taken taken' : Option (List ℕ)) (p q : ℕ) (request : Request) (s : Status) → IsMadeFor taken taken' p q request s → ¬ (s ≡ WrongWords)
 made_is_right taken taken' p q request s h e = subst (λ (t : Status). Writes taken taken' p q (generated_output request) t) e h.writes
 
-pub never_wrong : (words : List (List ℕ)) (task : Task) → task_of words ≡ Some task → (s : Status) → ¬ (s ≡ WrongWords)
-    → (s ≡ WrongWords) ↔ (task_of words ≡ None)
+pub never_wrong : (words : List (List ℕ)) (task : Task) → task_text words ≡ Some task → (s : Status) → ¬ (s ≡ WrongWords)
+    → (s ≡ WrongWords) ↔ (task_text words ≡ None)
 never_wrong words task asked s right = (λ e. absurd (right e), λ none. absurd (cc (sym asked ∙ none)))
 
 -- Where nothing was read and nothing was written.
@@ -152,13 +152,13 @@ module _ (who : Strategies) (words : List (List ℕ)) (now : Streams) where
     generated = λ request is still. inr refl;
   }
 
-  no_command_of : task_of words ≡ None → command_of words ≡ None
-  no_command_of none = ap (λ (o : Option Task). option_and_then command_in o) none
+  no_command_of : task_text words ≡ None → words_command words ≡ None
+  no_command_of none = ap (λ (o : Option Task). option_and_then task_command o) none
 
-  no_request_of : task_of words ≡ None → request_of words ≡ None
-  no_request_of none = ap (λ (o : Option Task). option_and_then request_in o) none
+  no_request_of : task_text words ≡ None → words_request words ≡ None
+  no_request_of none = ap (λ (o : Option Task). option_and_then task_request o) none
 
-  pub with_wrong_words : task_of words ≡ None → IsAnswer who words now now WrongWords
+  pub with_wrong_words : task_text words ≡ None → IsAnswer who words now now WrongWords
   with_wrong_words none = record {
     done = λ e. absurd (cc e);
     named = λ e. absurd (cc e);

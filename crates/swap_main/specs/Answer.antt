@@ -5,16 +5,16 @@ use Rattle.swap_io.specs.Causes.{AppendsProperPrefix, ConsumesAtMost, ConsumesSo
 use Rattle.swap_io.specs.Handed.{AppendsPrefix}
 use Rattle.refusals.specs.declared.reason.Reason.{Reason}
 use Rattle.command_input.specs.Written.{IsWrittenWhole, Written}
-use Rattle.swap_commands.specs.Words.{Command, command_of, request_of}
+use Rattle.swap_commands.specs.Words.{Command, words_command, words_request}
 use Rattle.program_words.specs.declared.task.Request.{Request}
 use Rattle.command_input.specs.declared.status.Status.{Status}
 use Rattle.command_input.specs.declared.status.Status.TheVariants.{Done, Named, Refused, ReadFault, WriteFault, NoMemory, TooLong}
-use Rattle.swap_commands.specs.Output.{output_of, names_of}
+use Rattle.swap_commands.specs.Output.{command_output, names_of}
 use Rattle.swap_commands.specs.Generated.{generated_output, Generates}
 use Rattle.swap_commands.specs.Strategies.{Strategies}
 use Rattle.command_input.specs.Input.{limit}
 use Rattle.command_input.specs.Streams.{HasReadFault, HasWriteFault, Streams}
-use Rattle.swap_main.specs.Top.{AsksFairRace, AsksFairRun, IsDone, IsCut, IsRefused, IsShort, IsStatusOf, status_of}
+use Rattle.swap_main.specs.Top.{AsksFairRace, AsksFairRun, IsDone, IsCut, IsRefused, IsShort, IsStatusOf, command_status}
 
 -- What the program's answer promises, by its words, and by its input and its output before and after.
 pub record IsAnswer (who : Strategies) (words : List (List ℕ)) (before after : Streams) (s : Status) : Type 0 where
@@ -35,18 +35,19 @@ pub record IsAnswer (who : Strategies) (words : List (List ℕ)) (before after :
   -- With any other status nothing is written.
   pub silent : ¬ (s ≡ Done) → ¬ (s ≡ Named) → ¬ (s ≡ WriteFault) → ¬ (s ≡ NoMemory) → Keeps before.taken after.taken
   -- What is answered where the source tells its bytes and no call fails.
-  pub long : (command : Command) (input : List ℕ) → command_of words ≡ Some command → before.left ≡ Some input → limit < length input
+  pub long : (command : Command) (input : List ℕ) → words_command words ≡ Some command → before.left ≡ Some input → limit < length input
       → ¬ HasReadFault before after
       → (s ≡ TooLong) ⊎ (s ≡ NoMemory)
-  pub bad : (command : Command) (input : List ℕ) (reason : Reason) → command_of words ≡ Some command → before.left ≡ Some input → length input ≤ limit
-      → output_of who.holds command input ≡ Err reason → ¬ HasReadFault before after → (s ≡ Refused reason (names_of who.holds command input)) ⊎ (s ≡ NoMemory)
-  pub good : (command : Command) (input : List ℕ) (output : Written) → command_of words ≡ Some command → before.left ≡ Some input → length input ≤ limit
-      → output_of who.holds command input ≡ Ok output → ¬ HasReadFault before after → ¬ HasWriteFault before after
+  pub bad : (command : Command) (input : List ℕ) (reason : Reason) → words_command words ≡ Some command → before.left ≡ Some input → length input ≤ limit
+      → command_output who.holds command input ≡ Err reason → ¬ HasReadFault before after
+      → (s ≡ Refused reason (names_of who.holds command input)) ⊎ (s ≡ NoMemory)
+  pub good : (command : Command) (input : List ℕ) (output : Written) → words_command words ≡ Some command → before.left ≡ Some input → length input ≤ limit
+      → command_output who.holds command input ≡ Ok output → ¬ HasReadFault before after → ¬ HasWriteFault before after
       → IsStatusOf who.holds who.gives command input s ⊎ (s ≡ NoMemory)
   pub fair_run : AsksFairRun who.holds words before.left → ¬ HasReadFault before after → ¬ HasWriteFault before after → (s ≡ Done) ⊎ (s ≡ NoMemory)
   pub fair_race : AsksFairRace who.holds words before.left → ¬ HasReadFault before after → ¬ HasWriteFault before after → (s ≡ Done) ⊎ (s ≡ NoMemory)
   -- The job of a number is made without reading, and no status speaks of an input then.
-  pub no_read_fault : (request : Request) → request_of words ≡ Some request → ¬ (s ≡ ReadFault)
-  pub not_too_long : (request : Request) → request_of words ≡ Some request → ¬ (s ≡ TooLong)
-  pub generated : (request : Request) → request_of words ≡ Some request → ¬ HasWriteFault before after
-      → (s ≡ status_of (generated_output request).found) ⊎ (s ≡ NoMemory)
+  pub no_read_fault : (request : Request) → words_request words ≡ Some request → ¬ (s ≡ ReadFault)
+  pub not_too_long : (request : Request) → words_request words ≡ Some request → ¬ (s ≡ TooLong)
+  pub generated : (request : Request) → words_request words ≡ Some request → ¬ HasWriteFault before after
+      → (s ≡ command_status (generated_output request).found) ⊎ (s ≡ NoMemory)

@@ -8,7 +8,7 @@ use Rattle.swap_job.specs.declared.event.Event.{Event}
 use Rattle.swap_job.specs.declared.job.Job.{Job}
 use Rattle.swap_job.specs.declared.job.Purpose.TheVariants as purposes
 use Rattle.swap_run.specs.Asked.{is_strategy}
-use Rattle.swap_offer.specs.Job.{job_of}
+use Rattle.swap_offer.specs.Job.{parse_job}
 use Rattle.command_input.specs.Written.{Written}
 use Rattle.swap_commands.specs.Output.{Chance, output_by}
 use Rattle.swap_commands.specs.Words.{is_race, Command, OfJob, Run}
@@ -19,7 +19,7 @@ use Rattle.swap_main.specs.Known.{by_rule}
 abbrev pub SameWithoutStrategies : Type 0
 SameWithoutStrategies =
     (has : List ℕ → Bool) (a b : Chance) (transcript : Bool) (input : List ℕ) (job : Job) (events : List Event)
-    → job_of has purposes.Run input ≡ Ok (job, events) → list_any is_strategy job.roles ≡ false
+    → parse_job has purposes.Run input ≡ Ok (job, events) → list_any is_strategy job.roles ≡ false
     → output_by has a (OfJob (Run transcript)) input ≡ output_by has b (OfJob (Run transcript)) input
 
 -- and where a rule gives each answer, the rule decides what is written of all but a race: of two outputs for an input that are promised so, both are one

@@ -8,9 +8,9 @@ use Rattle.swap_job.specs.declared.job.Job.{Job}
 use Rattle.swap_job.specs.declared.job.Purpose.TheVariants as purposes
 use Rattle.swap_job.specs.declared.job.Finish.TheVariants.{Fair}
 use Rattle.outcome_rules.specs.Promises.{AllAreConforming}
-use Rattle.swap_offer.specs.Job.{job_of}
+use Rattle.swap_offer.specs.Job.{parse_job}
 use Rattle.command_input.specs.Written.{Written}
-use Rattle.swap_commands.specs.Words.{command_of, Command, OfJob, Run, Race}
+use Rattle.swap_commands.specs.Words.{words_command, Command, OfJob, Run, Race}
 use Rattle.command_input.specs.Input.{limit}
 use Rattle.swap_world.specs.Gone.{MayGive}
 use Rattle.swap_commands.specs.Output.{Chance, output_by, no_chance, names_of}
@@ -23,7 +23,7 @@ use Rattle.command_input.specs.Streams.{Streams}
 -- The words are a command, the whole input was read, and this is the command's output for it, where chance decides so.
 pub record Read (has : List ℕ → Bool) (chance : Chance) (words : List (List ℕ)) (left left' : Option (List ℕ)) (output : Result Written Reason) : Type 0 where
   pub command : Command
-  pub asked : command_of words ≡ Some command
+  pub asked : words_command words ≡ Some command
   pub input : List ℕ
   pub taken : Consumes left left' input
   pub ended : IsAtEnd left'
@@ -64,12 +64,12 @@ pub record IsRefused (has : List ℕ → Bool) (words : List (List ℕ)) (left l
 -- The words ask for a run, and the input is an offer of parties that all conform, with a fair finish and no event before it.
 pub record AsksFairRun (has : List ℕ → Bool) (words : List (List ℕ)) (left : Option (List ℕ)) : Type 0 where
   pub transcript : Bool
-  pub asked : command_of words ≡ Some (OfJob (Run transcript))
+  pub asked : words_command words ≡ Some (OfJob (Run transcript))
   pub input : List ℕ
   pub told : left ≡ Some input
   pub within : length input ≤ limit
   pub job : Job
-  pub read : job_of has purposes.Run input ≡ Ok (job, [])
+  pub read : parse_job has purposes.Run input ≡ Ok (job, [])
   pub finish : job.finish ≡ Fair
   pub conforming : AllAreConforming job.deal job.conforming
 
@@ -78,18 +78,18 @@ pub record AsksFairRun (has : List ℕ → Bool) (words : List (List ℕ)) (left
 pub record AsksFairRace (has : List ℕ → Bool) (words : List (List ℕ)) (left : Option (List ℕ)) : Type 0 where
   pub ticks : ℕ
   pub transcript : Bool
-  pub asked : command_of words ≡ Some (OfJob (Race ticks transcript))
+  pub asked : words_command words ≡ Some (OfJob (Race ticks transcript))
   pub input : List ℕ
   pub told : left ≡ Some input
   pub within : length input ≤ limit
   pub job : Job
-  pub read : job_of has purposes.Race input ≡ Ok (job, [])
+  pub read : parse_job has purposes.Race input ≡ Ok (job, [])
   pub fits : 2 * ticks ≤ job.deal.delta
   pub conforming : AllAreConforming job.deal job.conforming
 
 -- the status of a run that isn't stopped, by whether something was found
-abbrev pub status_of : Bool → Status
-status_of found = if found then Named else Done
+abbrev pub command_status : Bool → Status
+command_status found = if found then Named else Done
 
 -- The status is that of the input's output by what chance decided, which is promised.
 pub record IsStatusOf (has : List ℕ → Bool) (gives : MayGive) (command : Command) (input : List ℕ) (s : Status) : Type 0 where
@@ -97,4 +97,4 @@ pub record IsStatusOf (has : List ℕ → Bool) (gives : MayGive) (command : Com
   pub output : Written
   pub made : output_by has chance command input ≡ Ok output
   pub promised : AsPromised has gives chance command input output
-  pub status : s ≡ status_of output.found
+  pub status : s ≡ command_status output.found

@@ -1,12 +1,12 @@
 //! The whole program over a source and a sink.
 
 ghost use Rattle.std.specs.Prelude.{◌≡◌, ◌≤◌, ◌⊎◌, ◌↔◌, None, Some, map, string_bytes};
-ghost use Rattle.program_words.specs.Words.{task_of};
+ghost use Rattle.program_words.specs.Words.{task_text};
 ghost use Rattle.program_words.specs.declared.task.Request.{Request};
 ghost use Rattle.command_input.specs.Streams.{streams};
 ghost use Rattle.swap_main.specs.Answer.{IsAnswer};
 ghost use Rattle.swap_commands.specs.Says.{Says};
-ghost use Rattle.swap_commands.specs.Words.{AsksRace, OfJob, Race, request_of};
+ghost use Rattle.swap_commands.specs.Words.{AsksRace, OfJob, Race, words_request};
 ghost use Rattle.swap_commands.specs.Strategies.{strategies};
 
 use command_input::{Status, unread};
@@ -56,9 +56,9 @@ pub fn swap_plain<S: Source, K: Sink, A: Strategies>(
 ) -> Status
     // Wrong words are those that aren't well formed.
     ensures words { ¬ AsksRace (map string_bytes words.now.items)
-        → ((result ≡ Status.WrongWords) ↔ (task_of (map string_bytes words.now.items) ≡ None)) }
+        → ((result ≡ Status.WrongWords) ↔ (task_text (map string_bytes words.now.items) ≡ None)) }
     ensures unread { result ≡ Status.WrongWords → source.new ≡ source.old }
-    ensures unread_by_number { (request : Request) → request_of (map string_bytes words.now.items) ≡ Some request → source.new ≡ source.old }
+    ensures unread_by_number { (request : Request) → words_request (map string_bytes words.now.items) ≡ Some request → source.new ≡ source.old }
     ensures answer { ¬ AsksRace (map string_bytes words.now.items) → IsAnswer (strategies (A.holds staff.now) (A.gives staff.now))
         (map string_bytes words.now.items) (streams (S.left source.old) (S.faults source.old) (K.taken sink.old) (K.faults sink.old))
         (streams (S.left source.new) (S.faults source.new) (K.taken sink.new) (K.faults sink.new)) result }
@@ -94,9 +94,9 @@ pub fn swap_top<R: Threads + Wait + Sync, S: Source, K: Sink, G: Gate, A: Strate
     staff: &A,
 ) -> Status
     // Wrong words are those that aren't well formed.
-    ensures words { (result ≡ Status.WrongWords) ↔ (task_of (map string_bytes words.now.items) ≡ None) }
+    ensures words { (result ≡ Status.WrongWords) ↔ (task_text (map string_bytes words.now.items) ≡ None) }
     ensures unread { result ≡ Status.WrongWords → source.new ≡ source.old }
-    ensures unread_by_number { (request : Request) → request_of (map string_bytes words.now.items) ≡ Some request → source.new ≡ source.old }
+    ensures unread_by_number { (request : Request) → words_request (map string_bytes words.now.items) ≡ Some request → source.new ≡ source.old }
     ensures answer { IsAnswer (strategies (A.holds staff.now) (A.gives staff.now)) (map string_bytes words.now.items)
         (streams (S.left source.old) (S.faults source.old) (K.taken sink.old) (K.faults sink.old))
         (streams (S.left source.new) (S.faults source.new) (K.taken sink.new) (K.faults sink.new)) result }

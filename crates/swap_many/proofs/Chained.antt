@@ -3,19 +3,19 @@ use Rattle.std.proofs.Common.{◌≡◌, ℕ, ◌<◌, Bool, true, false, cond, 
 use Rattle.std.proofs.lemmas.List.{length-set}
 use Rattle.swap_world.specs.Gone.{MayGive}
 use Rattle.swap_many.specs.declared.many_event.ManyEvent.TheVariants.{Pay}
-use Rattle.swap_many.specs.Accounts.{ChainState, units_in}
+use Rattle.swap_many.specs.Accounts.{ChainState, parse_units}
 use Rattle.swap_many.specs.Chains.{put, paid, is_done, reply_to_payment, Units}
 use Rattle.swap_many.specs.Kept.{Kept, Time, kept_done}
 use Rattle.swap_many.specs.Laws.{CanPay}
-use Rattle.swap_many.specs.Value.{ManyState, chain_at, setup_of, kept_of, AreSame, HasManyGone}
+use Rattle.swap_many.specs.Value.{ManyState, nth_chain, world_setup, kept_state, AreSame, HasManyGone}
 use Rattle.swap_many.specs.Inside.{AreWhole}
 use Rattle.swap_many.proofs.Projections.{put_still}
 use Rattle.swap_many.proofs.Values.{can_for, with_chain, each_chain, chain_kept, whole_next, sound_step, all_same}
 
 -- What a payment does to a chain.
 pub record IsPaid (old new : ChainState) (from to units : ℕ) : Type 0 where
-  pub refused : is_done (reply_to_payment (units_in old.free from) units) ≡ false → new ≡ old
-  pub paid : IsTrue (is_done (reply_to_payment (units_in old.free from) units)) → units_in new.free ≡ paid (units_in old.free) from to units
+  pub refused : is_done (reply_to_payment (parse_units old.free from) units) ≡ false → new ≡ old
+  pub paid : IsTrue (is_done (reply_to_payment (parse_units old.free from) units)) → parse_units new.free ≡ paid (parse_units old.free) from to units
   pub clock : new.clock ≡ old.clock
   pub count : length new.free ≡ length old.free
 
@@ -24,29 +24,29 @@ module _ (gives : MayGive) (w : ManyState) (i : ℕ) (x : ChainState) (low : i <
   chain_same = let k = all_same gives w in record { swaps = k.swaps; casts = k.casts; asked = k.asked; places = k.places; openings = k.openings }
 
   module _ (from to units : ℕ) where
-    pub paid_gone : IsPaid (chain_at w i) x from to units → HasManyGone gives (λ m z. kept_done false m z (Pay i from to units)) w (with_chain w i x low)
+    pub paid_gone : IsPaid (nth_chain w i) x from to units → HasManyGone gives (λ m z. kept_done false m z (Pay i from to units)) w (with_chain w i x low)
     paid_gone k = record {
       same = chain_same;
       goes_on = refl;
       kept =
           λ g c. chain_kept w i x low
-          ∙ (ap (λ (c : ℕ → Time). let z : Kept = record (kept_of w) { clocks = c; free = put (kept_of w).free i (units_in x.free) } in z)
-          (put_still (kept_of w).clocks i x.clock k.clock)
-          ∙ go (is_done (reply_to_payment (units_in (chain_at w i).free from) units)) refl);
+          ∙ (ap (λ (c : ℕ → Time). let z : Kept = record (kept_state w) { clocks = c; free = put (kept_state w).free i (parse_units x.free) } in z)
+          (put_still (kept_state w).clocks i x.clock k.clock)
+          ∙ go (is_done (reply_to_payment (parse_units (nth_chain w i).free from) units)) refl);
     }
       where
-        go : (b : Bool) → is_done (reply_to_payment (units_in (chain_at w i).free from) units) ≡ b
-            → (let z : Kept = record (kept_of w) { free = put (kept_of w).free i (units_in x.free) } in z)
-            ≡ cond b (record (kept_of w) { free = put (kept_of w).free i (paid (units_in (chain_at w i).free) from to units) }) (kept_of w)
-        go true e = ap (λ (u : Units). let z : Kept = record (kept_of w) { free = put (kept_of w).free i u } in z) (k.paid e)
+        go : (b : Bool) → is_done (reply_to_payment (parse_units (nth_chain w i).free from) units) ≡ b
+            → (let z : Kept = record (kept_state w) { free = put (kept_state w).free i (parse_units x.free) } in z)
+            ≡ cond b (record (kept_state w) { free = put (kept_state w).free i (paid (parse_units (nth_chain w i).free) from to units) }) (kept_state w)
+        go true e = ap (λ (u : Units). let z : Kept = record (kept_state w) { free = put (kept_state w).free i u } in z) (k.paid e)
         go false e =
-            ap (λ (f : ℕ → Units). let z : Kept = record (kept_of w) { free = f } in z)
-            (put_still (kept_of w).free i (units_in x.free) (ap (λ (y : ChainState). units_in y.free) (k.refused e)))
+            ap (λ (f : ℕ → Units). let z : Kept = record (kept_state w) { free = f } in z)
+            (put_still (kept_state w).free i (parse_units x.free) (ap (λ (y : ChainState). parse_units y.free) (k.refused e)))
 
-    pub paid_whole : AreWhole w → w.stopped ≡ false → CanPay (setup_of w) i from to → IsPaid (chain_at w i) x from to units
+    pub paid_whole : AreWhole w → w.stopped ≡ false → CanPay (world_setup w) i from to → IsPaid (nth_chain w i) x from to units
         → AreWhole (with_chain w i x low)
     paid_whole whole on can k =
         whole_next gives w (with_chain w i x low) whole chain_same (length-set w.chains i x)
-        (each_chain w i x low (λ j y. length y.free ≡ length (chain_at w j).free) k.count (λ j. refl)) refl (λ s. refl) whole.on
+        (each_chain w i x low (λ j y. length y.free ≡ length (nth_chain w j).free) k.count (λ j. refl)) refl (λ s. refl) whole.on
         (λ q. sound_step gives w (with_chain w i x low) false (Pay i from to units) whole on (λ g. can_for w g (Pay i from to units) can) (paid_gone k))
         whole.kept

@@ -11,19 +11,19 @@ use Rattle.ledger_core.specs.Book.{history}
 use Rattle.escrow_core.specs.declared.reply.Reply.TheVariants.{Accepted}
 use Rattle.swap_run.specs.Run.{State}
 use Rattle.swap_run.specs.Fair.{the_horizon}
-use Rattle.swap_world.specs.Value.{answers_of}
+use Rattle.swap_world.specs.Value.{world_answers}
 use Rattle.swap_world.specs.Gone.{MayGive}
 use Rattle.swap_many.specs.declared.many_event.ManyEvent.TheVariants.{Sweep}
 use Rattle.swap_many.specs.declared.many_reply.ManyReply.{ManyReply}
 use Rattle.swap_many.specs.declared.many_reply.ManyReply.TheVariants.{Plain}
-use Rattle.swap_many.specs.Accounts.{ChainState, units_in}
+use Rattle.swap_many.specs.Accounts.{ChainState, parse_units}
 use Rattle.swap_many.specs.declared.place.Place.{Place}
-use Rattle.swap_many.specs.Chains.{place, chain_of, put, plus, returned, Units, is_done, projection, free, opening, in_accounts}
+use Rattle.swap_many.specs.Chains.{place, arc_chain, put, plus, returned, Units, is_done, projection, free, opening, in_accounts}
 use Rattle.swap_many.specs.Kept.{Time, kept_sweep, kept_done, answer_sweep}
 use Rattle.swap_many.specs.Many.{Run}
 use Rattle.swap_many.specs.Laws.{CanSweep}
 use Rattle.swap_many.specs.Sound.{Keeps}
-use Rattle.swap_many.specs.Value.{ManyState, world_at, chain_at, swept_at, setup_of, setup_for, kept_of, AreSame, HasManyGone}
+use Rattle.swap_many.specs.Value.{ManyState, nth_world, nth_chain, swept_at, world_setup, made_setup, kept_state, AreSame, HasManyGone}
 use Rattle.swap_many.specs.Inside.{AreWhole}
 use Rattle.swap_many.proofs.Projections.{put_still, put_each, shown_at}
 use Rattle.swap_many.proofs.Accounts.{set_is_put}
@@ -32,61 +32,62 @@ use Rattle.swap_many.proofs.Fits.{sweep_fits}
 use Rattle.swap_many.proofs.Values.{put_map, can_for, all_same, each_chain, chains_put, whole_next, sound_step, chain_low, from_low, to_low}
 
 -- a list is what it says of its places
-pub list_sum : (xs : List ℕ) → sum_by (units_in xs) (range_with_len 0 (length xs)) ≡ sum_by (λ u. u) xs
+pub list_sum : (xs : List ℕ) → sum_by (parse_units xs) (range_with_len 0 (length xs)) ≡ sum_by (λ u. u) xs
 list_sum xs =
-    sym (sum-map (units_in xs) (range_with_len 0 (length xs)))
-    ∙ (ap (λ ys. sum_by (λ u. u) ys) (ext_get_or 0 (map (units_in xs) (range_with_len 0 (length xs))) xs
-    (length-map-range_with_len (units_in xs) 0 (length xs)) (λ i l.
-    let low : i < length xs = subst (λ n. i < n) (length-map-range_with_len (units_in xs) 0 (length xs)) l in
+    sym (sum-map (parse_units xs) (range_with_len 0 (length xs)))
+    ∙ (ap (λ ys. sum_by (λ u. u) ys) (ext_get_or 0 (map (parse_units xs) (range_with_len 0 (length xs))) xs
+    (length-map-range_with_len (parse_units xs) 0 (length xs)) (λ i l.
+    let low : i < length xs = subst (λ n. i < n) (length-map-range_with_len (parse_units xs) 0 (length xs)) l in
     let z : 0 + i ≡ i = omega arith in
-    get_or-map-range_with_len (units_in xs) 0 (length xs) i i 0 low z)))
+    get_or-map-range_with_len (parse_units xs) 0 (length xs) i i 0 low z)))
 
 -- A slot whose units may go back: its place, its chain, and what it holds.
 pub record MayGoBack (w : ManyState) (s a : ℕ) (fair : Bool) (p : Place) (y : ChainState) (b : Accounts) : Type 0 where
   pub on : w.stopped ≡ false
-  pub can : CanSweep (setup_of w) s a
-  pub accepted : answer_sweep fair (setup_of w) (kept_of w) s a ≡ Plain Accepted
-  pub at : p ≡ place (setup_of w) s a
-  pub here : y ≡ chain_at w p.chain
-  pub is : b ≡ accounts (world_at w s).deal a (history (world_at w s).state.book a)
+  pub can : CanSweep (world_setup w) s a
+  pub accepted : answer_sweep fair (world_setup w) (kept_state w) s a ≡ Plain Accepted
+  pub at : p ≡ place (world_setup w) s a
+  pub here : y ≡ nth_chain w p.chain
+  pub is : b ≡ accounts (nth_world w s).deal a (history (nth_world w s).state.book a)
 
-module _ (w : ManyState) (s a : ℕ) (fair : Bool) (whole : AreWhole w) (on : w.stopped ≡ false) (can : CanSweep (setup_of w) s a)
-    (accepted : answer_sweep fair (setup_of w) (kept_of w) s a ≡ Plain Accepted) where
-  open_slot : (kept_of w).swept s a ≡ false
+module _ (w : ManyState) (s a : ℕ) (fair : Bool) (whole : AreWhole w) (on : w.stopped ≡ false) (can : CanSweep (world_setup w) s a)
+    (accepted : answer_sweep fair (world_setup w) (kept_state w) s a ≡ Plain Accepted) where
+  open_slot : (kept_state w).swept s a ≡ false
   open_slot =
-      let past = history (world_at w s).state.book a in
-      let k = done_rows (nat_lt ((kept_of w).clocks (chain_of (setup_of w) s a)).height (the_horizon (world_at w s).deal + 1)) ((kept_of w).swept s a)
-      (is_some (published past) && is_none (settled past)) (not fair && is_none (published past)) (the_horizon (world_at w s).deal + 1) (held past)
+      let past = history (nth_world w s).state.book a in
+      let k = done_rows (nat_lt ((kept_state w).clocks (arc_chain (world_setup w) s a)).height (the_horizon (nth_world w s).deal + 1))
+      ((kept_state w).swept s a)
+      (is_some (published past) && is_none (settled past)) (not fair && is_none (published past)) (the_horizon (nth_world w s).deal + 1) (held past)
       (ap is_done accepted) in
       k.1
 
   -- the two balances fit into the free accounts
-  pub they_fit : sum_by (λ u. u) (chain_at w (chain_of (setup_of w) s a)).free
-      + (accounts (world_at w s).deal a (history (world_at w s).state.book a)).party
-      + (accounts (world_at w s).deal a (history (world_at w s).state.book a)).counterparty ≤ 10 ^ 18
+  pub they_fit : sum_by (λ u. u) (nth_chain w (arc_chain (world_setup w) s a)).free
+      + (accounts (nth_world w s).deal a (history (nth_world w s).state.book a)).party
+      + (accounts (nth_world w s).deal a (history (nth_world w s).state.book a)).counterparty ≤ 10 ^ 18
   they_fit =
-      let was = whole.sound on (λ t. answers_of (world_at w t)) (λ t l k lt. refl) in
+      let was = whole.sound on (λ t. world_answers (nth_world w t)) (λ t l k lt. refl) in
       fits was.0 was.1
     where
-      fits : (r : Run) → Keeps (setup_for w (λ t. answers_of (world_at w t))) r (kept_of w)
-          → sum_by (λ u. u) (chain_at w (chain_of (setup_of w) s a)).free
-          + (accounts (world_at w s).deal a (history (world_at w s).state.book a)).party
-          + (accounts (world_at w s).deal a (history (world_at w s).state.book a)).counterparty ≤ 10 ^ 18
+      fits : (r : Run) → Keeps (made_setup w (λ t. world_answers (nth_world w t))) r (kept_state w)
+          → sum_by (λ u. u) (nth_chain w (arc_chain (world_setup w) s a)).free
+          + (accounts (nth_world w s).deal a (history (nth_world w s).state.book a)).party
+          + (accounts (nth_world w s).deal a (history (nth_world w s).state.book a)).counterparty ≤ 10 ^ 18
       fits r k =
-          let m = setup_for w (λ t. answers_of (world_at w t)) in
-          let j = chain_of m s a in
-          let few = sweep_fits m r (kept_of w) s a (whole.ready (λ t. answers_of (world_at w t))) (record { swap = can.swap; arc = can.arc }) k
+          let m = made_setup w (λ t. world_answers (nth_world w t)) in
+          let j = arc_chain m s a in
+          let few = sweep_fits m r (kept_state w) s a (whole.ready (λ t. world_answers (nth_world w t))) (record { swap = can.swap; arc = can.arc }) k
           (sym (k.follows.swept s a) ∙ open_slot) in
-          let past : projection s a (r.chains j) ≡ history (world_at w s).state.book a =
+          let past : projection s a (r.chains j) ≡ history (nth_world w s).state.book a =
           sym (ap (λ (y : State). history y.book a) (k.follows.swaps s can.swap) ∙ shown_at m r.chains s a can.arc) in
-          let sum : in_accounts m j (free m j (r.chains j)) ≡ sum_by (λ u. u) (chain_at w j).free =
+          let sum : in_accounts m j (free m j (r.chains j)) ≡ sum_by (λ u. u) (nth_chain w j).free =
           ap (in_accounts m j) (sym (k.follows.free j))
-          ∙ (ap (λ n. sum_by (units_in (chain_at w j).free) (range_with_len 0 n)) (sym (whole.accounts j)) ∙ list_sum (chain_at w j).free) in
+          ∙ (ap (λ n. sum_by (parse_units (nth_chain w j).free) (range_with_len 0 n)) (sym (whole.accounts j)) ∙ list_sum (nth_chain w j).free) in
           let all : in_accounts m j (opening m j) ≡ sum_by (λ u. u) (slice_index_or w.openings j []) = list_sum (slice_index_or w.openings j []) in
-          end (in_accounts m j (free m j (r.chains j))) (sum_by (λ u. u) (chain_at w j).free)
-          (accounts (world_at w s).deal a (projection s a (r.chains j))) (accounts (world_at w s).deal a (history (world_at w s).state.book a))
+          end (in_accounts m j (free m j (r.chains j))) (sum_by (λ u. u) (nth_chain w j).free)
+          (accounts (nth_world w s).deal a (projection s a (r.chains j))) (accounts (nth_world w s).deal a (history (nth_world w s).state.book a))
           (in_accounts m j (opening m j)) (sum_by (λ u. u) (slice_index_or w.openings j [])) sum
-          (ap (accounts (world_at w s).deal a) past) few all (whole.units j)
+          (ap (accounts (nth_world w s).deal a) past) few all (whole.units j)
         where
           end : (f x : ℕ) (p q : Accounts) (c y : ℕ) → f ≡ x → p ≡ q → f + p.party + p.counterparty ≤ c → c ≡ y → y ≤ 10 ^ 18
               → x + q.party + q.counterparty ≤ 10 ^ 18
@@ -96,13 +97,13 @@ module _ (w : ManyState) (s a : ℕ) (fair : Bool) (whole : AreWhole w) (on : w.
               last : (f x p q o t c y : ℕ) → f ≡ x → p ≡ q → o ≡ t → f + p + o ≤ c → c ≡ y → y ≤ 10 ^ 18 → x + q + t ≤ 10 ^ 18
               last f x p q o t c y e1 e2 e3 l e4 u = omega arith
 
-  module _ (gives : MayGive) (x : ChainState) (f : List Bool) (clock : x.clock ≡ (chain_at w (chain_of (setup_of w) s a)).clock)
-      (units : units_in x.free
-      ≡ returned (units_in (chain_at w (chain_of (setup_of w) s a)).free) (place (setup_of w) s a)
-      (accounts (world_at w s).deal a (history (world_at w s).state.book a)))
-      (count : length x.free ≡ length (chain_at w (chain_of (setup_of w) s a)).free) (flag : f ≡ slice_set (swept_at w s) a true) where
+  module _ (gives : MayGive) (x : ChainState) (f : List Bool) (clock : x.clock ≡ (nth_chain w (arc_chain (world_setup w) s a)).clock)
+      (units : parse_units x.free
+      ≡ returned (parse_units (nth_chain w (arc_chain (world_setup w) s a)).free) (place (world_setup w) s a)
+      (accounts (nth_world w s).deal a (history (nth_world w s).state.book a)))
+      (count : length x.free ≡ length (nth_chain w (arc_chain (world_setup w) s a)).free) (flag : f ≡ slice_set (swept_at w s) a true) where
     abbrev pub with_sweep : ManyState
-    with_sweep = record w { chains = slice_set w.chains (chain_of (setup_of w) s a) x; swept = slice_set w.swept s f }
+    with_sweep = record w { chains = slice_set w.chains (arc_chain (world_setup w) s a) x; swept = slice_set w.swept s f }
 
     low : s < length w.swept
     low = subst (λ n. s < n) (sym whole.swept) can.swap
@@ -114,42 +115,42 @@ module _ (w : ManyState) (s a : ℕ) (fair : Bool) (whole : AreWhole w) (on : w.
     sweep_same =
         let k = all_same gives w in record { swaps = k.swaps; casts = k.casts; asked = k.asked; places = k.places; openings = k.openings }
 
-    swept_now : (λ t c. slice_index_or (swept_at with_sweep t) c false) ≡ put (kept_of w).swept s (put ((kept_of w).swept s) a true)
+    swept_now : (λ t c. slice_index_or (swept_at with_sweep t) c false) ≡ put (kept_state w).swept s (put ((kept_state w).swept s) a true)
     swept_now =
         ap (λ (h : ℕ → List Bool). let k : ℕ → ℕ → Bool = λ t c. slice_index_or (h t) c false in k) flags_put
         ∙ (put_map (λ (xs : List Bool). let k : ℕ → Bool = λ c. slice_index_or xs c false in k) (swept_at w) s f
-        ∙ ap (λ (k : ℕ → Bool). put (kept_of w).swept s k)
+        ∙ ap (λ (k : ℕ → Bool). put (kept_state w).swept s k)
         (ap (λ (xs : List Bool). let k : ℕ → Bool = λ c. slice_index_or xs c false in k) flag
         ∙ set_is_put false (swept_at w s) a true (subst (λ n. a < n) (sym (whole.slots s can.swap)) can.arc)))
 
-    clocks_now : (λ j. (chain_at with_sweep j).clock) ≡ (kept_of w).clocks
+    clocks_now : (λ j. (nth_chain with_sweep j).clock) ≡ (kept_state w).clocks
     clocks_now =
-        ap (λ (f : ℕ → ChainState). let h : ℕ → Time = λ j. (f j).clock in h) (chains_put w (chain_of (setup_of w) s a) x (chain_low w s a whole can))
-        ∙ (put_map (λ (y : ChainState). y.clock) (chain_at w) (chain_of (setup_of w) s a) x
-        ∙ put_still (kept_of w).clocks (chain_of (setup_of w) s a) x.clock clock)
+        ap (λ (f : ℕ → ChainState). let h : ℕ → Time = λ j. (f j).clock in h) (chains_put w (arc_chain (world_setup w) s a) x (chain_low w s a whole can))
+        ∙ (put_map (λ (y : ChainState). y.clock) (nth_chain w) (arc_chain (world_setup w) s a) x
+        ∙ put_still (kept_state w).clocks (arc_chain (world_setup w) s a) x.clock clock)
 
-    free_now : (λ j. units_in (chain_at with_sweep j).free)
-        ≡ put (kept_of w).free (chain_of (setup_of w) s a)
-        (returned ((kept_of w).free (chain_of (setup_of w) s a)) (place (setup_of w) s a)
-        (accounts (world_at w s).deal a (history (world_at w s).state.book a)))
+    free_now : (λ j. parse_units (nth_chain with_sweep j).free)
+        ≡ put (kept_state w).free (arc_chain (world_setup w) s a)
+        (returned ((kept_state w).free (arc_chain (world_setup w) s a)) (place (world_setup w) s a)
+        (accounts (nth_world w s).deal a (history (nth_world w s).state.book a)))
     free_now =
-        ap (λ (f : ℕ → ChainState). let h : ℕ → Units = λ j. units_in (f j).free in h)
-        (chains_put w (chain_of (setup_of w) s a) x (chain_low w s a whole can))
-        ∙ (put_map (λ (y : ChainState). units_in y.free) (chain_at w) (chain_of (setup_of w) s a) x
-        ∙ ap (λ (u : Units). put (kept_of w).free (chain_of (setup_of w) s a) u) units)
+        ap (λ (f : ℕ → ChainState). let h : ℕ → Units = λ j. parse_units (f j).free in h)
+        (chains_put w (arc_chain (world_setup w) s a) x (chain_low w s a whole can))
+        ∙ (put_map (λ (y : ChainState). parse_units y.free) (nth_chain w) (arc_chain (world_setup w) s a) x
+        ∙ ap (λ (u : Units). put (kept_state w).free (arc_chain (world_setup w) s a) u) units)
 
     pub sweep_gone : HasManyGone gives (λ m z. kept_done fair m z (Sweep s a)) w with_sweep
     sweep_gone = record {
       same = sweep_same;
       goes_on = refl;
-      kept = λ g c. (λ j. record { swaps = (kept_of w).swaps; clocks = clocks_now j; free = free_now j; swept = swept_now j })
-          ∙ sym (ap (λ (r : ManyReply). cond (is_done r) (kept_sweep (setup_of w) (kept_of w) s a) (kept_of w)) accepted);
+      kept = λ g c. (λ j. record { swaps = (kept_state w).swaps; clocks = clocks_now j; free = free_now j; swept = swept_now j })
+          ∙ sym (ap (λ (r : ManyReply). cond (is_done r) (kept_sweep (world_setup w) (kept_state w) s a) (kept_state w)) accepted);
     }
 
     pub sweep_whole : AreWhole with_sweep
     sweep_whole =
-        whole_next gives w with_sweep whole sweep_same (length-set w.chains (chain_of (setup_of w) s a) x)
-        (each_chain w (chain_of (setup_of w) s a) x (chain_low w s a whole can) (λ j y. length y.free ≡ length (chain_at w j).free) count (λ j. refl))
+        whole_next gives w with_sweep whole sweep_same (length-set w.chains (arc_chain (world_setup w) s a) x)
+        (each_chain w (arc_chain (world_setup w) s a) x (chain_low w s a whole can) (λ j y. length y.free ≡ length (nth_chain w j).free) count (λ j. refl))
         (length-set w.swept s f) slots whole.on
         (λ q. sound_step gives w with_sweep fair (Sweep s a) whole on (λ g. can_for w g (Sweep s a) can) sweep_gone) whole.kept
       where
@@ -160,43 +161,43 @@ module _ (w : ManyState) (s a : ℕ) (fair : Bool) (whole : AreWhole w) (on : w.
             (ap (λ (xs : List Bool). length xs) flag ∙ length-set (swept_at w s) a true) (λ t. refl) t
 
   -- The same by what the code holds: where the arc stands, its chain before and the two balances.
-  module _ (p : Place) (y : ChainState) (b : Accounts) (at : p ≡ place (setup_of w) s a) (here : y ≡ chain_at w p.chain)
-      (is : b ≡ accounts (world_at w s).deal a (history (world_at w s).state.book a)) where
-    chain_is : y ≡ chain_at w (chain_of (setup_of w) s a)
-    chain_is = here ∙ ap (λ (p : Place). chain_at w p.chain) at
+  module _ (p : Place) (y : ChainState) (b : Accounts) (at : p ≡ place (world_setup w) s a) (here : y ≡ nth_chain w p.chain)
+      (is : b ≡ accounts (nth_world w s).deal a (history (nth_world w s).state.book a)) where
+    chain_is : y ≡ nth_chain w (arc_chain (world_setup w) s a)
+    chain_is = here ∙ ap (λ (p : Place). nth_chain w p.chain) at
 
     pub from_in : p.from < length y.free
     from_in =
         subst (λ (p : Place). p.from < length y.free) (sym at)
-        (subst (λ (y : ChainState). (place (setup_of w) s a).from < length y.free) (sym chain_is) (from_low w s a whole can))
+        (subst (λ (y : ChainState). (place (world_setup w) s a).from < length y.free) (sym chain_is) (from_low w s a whole can))
 
     pub to_in : p.to < length y.free
     to_in =
         subst (λ (p : Place). p.to < length y.free) (sym at)
-        (subst (λ (y : ChainState). (place (setup_of w) s a).to < length y.free) (sym chain_is) (to_low w s a whole can))
+        (subst (λ (y : ChainState). (place (world_setup w) s a).to < length y.free) (sym chain_is) (to_low w s a whole can))
 
     pub both_fit : sum_by (λ u. u) y.free + b.party + b.counterparty ≤ 10 ^ 18
     both_fit =
         subst (λ (y : ChainState). sum_by (λ u. u) y.free + b.party + b.counterparty ≤ 10 ^ 18) (sym chain_is)
-        (subst (λ (b : Accounts). sum_by (λ u. u) (chain_at w (chain_of (setup_of w) s a)).free + b.party + b.counterparty ≤ 10 ^ 18) (sym is) they_fit)
+        (subst (λ (b : Accounts). sum_by (λ u. u) (nth_chain w (arc_chain (world_setup w) s a)).free + b.party + b.counterparty ≤ 10 ^ 18) (sym is) they_fit)
 
-    module _ (gives : MayGive) (mid x : ChainState) (f old : List Bool) (one : units_in mid.free ≡ plus (units_in y.free) p.from b.party)
-        (two : units_in x.free ≡ plus (units_in mid.free) p.to b.counterparty) (clock_one : mid.clock ≡ y.clock) (clock_two : x.clock ≡ mid.clock)
+    module _ (gives : MayGive) (mid x : ChainState) (f old : List Bool) (one : parse_units mid.free ≡ plus (parse_units y.free) p.from b.party)
+        (two : parse_units x.free ≡ plus (parse_units mid.free) p.to b.counterparty) (clock_one : mid.clock ≡ y.clock) (clock_two : x.clock ≡ mid.clock)
         (count_one : length mid.free ≡ length y.free) (count_two : length x.free ≡ length mid.free) (was : old ≡ swept_at w s)
         (flag : f ≡ slice_set old a true) where
-      units_back : units_in x.free
-          ≡ returned (units_in (chain_at w (chain_of (setup_of w) s a)).free) (place (setup_of w) s a)
-          (accounts (world_at w s).deal a (history (world_at w s).state.book a))
+      units_back : parse_units x.free
+          ≡ returned (parse_units (nth_chain w (arc_chain (world_setup w) s a)).free) (place (world_setup w) s a)
+          (accounts (nth_world w s).deal a (history (nth_world w s).state.book a))
       units_back =
           two ∙ (ap (λ (u : Units). plus u p.to b.counterparty) one
-          ∙ (ap (λ (p : Place). returned (units_in y.free) p b) at
-          ∙ (ap (λ (y : ChainState). returned (units_in y.free) (place (setup_of w) s a) b) chain_is
-          ∙ ap (λ (b : Accounts). returned (units_in (chain_at w (chain_of (setup_of w) s a)).free) (place (setup_of w) s a) b) is)))
+          ∙ (ap (λ (p : Place). returned (parse_units y.free) p b) at
+          ∙ (ap (λ (y : ChainState). returned (parse_units y.free) (place (world_setup w) s a) b) chain_is
+          ∙ ap (λ (b : Accounts). returned (parse_units (nth_chain w (arc_chain (world_setup w) s a)).free) (place (world_setup w) s a) b) is)))
 
-      clock_back : x.clock ≡ (chain_at w (chain_of (setup_of w) s a)).clock
+      clock_back : x.clock ≡ (nth_chain w (arc_chain (world_setup w) s a)).clock
       clock_back = clock_two ∙ (clock_one ∙ ap (λ (y : ChainState). y.clock) chain_is)
 
-      count_back : length x.free ≡ length (chain_at w (chain_of (setup_of w) s a)).free
+      count_back : length x.free ≡ length (nth_chain w (arc_chain (world_setup w) s a)).free
       count_back = count_two ∙ (count_one ∙ ap (λ (y : ChainState). length y.free) chain_is)
 
       flag_back : f ≡ slice_set (swept_at w s) a true

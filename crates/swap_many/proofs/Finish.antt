@@ -19,8 +19,8 @@ use Rattle.swap_run.specs.Laws.{IsGood, IsKept}
 use Rattle.swap_run.proofs.Good.{good_is_kept}
 use Rattle.swap_run.proofs.Ticks.{horizon_low}
 use Rattle.swap_many.specs.declared.many_event.ManyEvent.TheVariants.{Tick, In, Sweep}
-use Rattle.swap_many.specs.Chains.{Setup, Slot, slots_of, slots, chain_of, put, chain_height, has_no_tick, book, is_done}
-use Rattle.swap_many.specs.Many.{Run, swap_in, done, last_horizon, looks_in, turn_in, turns_in, many_round, all_ended, round_or_rest, many_run, many_finish}
+use Rattle.swap_many.specs.Chains.{Setup, Slot, chain_slots, slots, arc_chain, put, chain_height, has_no_tick, book, is_done}
+use Rattle.swap_many.specs.Many.{Run, parse_swap, done, last_horizon, looks_in, turn_in, turns_in, many_round, all_ended, round_or_rest, many_run, many_finish}
 use Rattle.swap_many.specs.Kept.{Kept, Time, later, ticked, kept_tick, kept_sweep, kept_done, kept_run, kept_finish}
 use Rattle.swap_many.specs.Kept.{answer_sweep}
 use Rattle.swap_many.specs.Laws.{IsReady, ManyFinishesEnd}
@@ -121,7 +121,7 @@ module _ (m : Setup) (ready : IsReady m) where
 
   pub slot_known : (t : Slot) → IsIn t (slots m) → (t.swap < m.swaps) × (t.arc < length (m.cast t.swap).deal.graph.arcs)
   slot_known t i =
-      let k = from_flat_map (slots_of m) (range_with_len 0 m.swaps) t i in
+      let k = from_flat_map (chain_slots m) (range_with_len 0 m.swaps) t i in
       let j = from_map (λ (a : ℕ). let t : Slot = record { swap = k.0; arc = a } in t) (arcs (m.cast k.0).deal.graph) t k.2 in
       subst (λ (t : Slot). (t.swap < m.swaps) × (t.arc < length (m.cast t.swap).deal.graph.arcs)) (sym j.2)
       (from_range k.0 m.swaps k.1, from_range j.0 (length (m.cast k.0).deal.graph.arcs) j.1)
@@ -322,17 +322,17 @@ module _ (m : Setup) (ready : IsReady m) where
   pub swap_ended : (r : Run) (z : Kept) (s : ℕ) → s < m.swaps → Keeps m r z → ((i : ℕ) → i < length m.chains → last_horizon m < (z.clocks i).height)
       → IsEnded (m.cast s).deal (book m r.chains s)
   swap_ended r z s ls k above = λ a la.
-      let e : height (history (book m r.chains s) a) ≡ (z.clocks (chain_of m s a)).height =
-      ap height (shown_at m r.chains s a la) ∙ (height_is s a (r.chains (chain_of m s a)) ∙ sym (k.follows.heights (chain_of m s a))) in
-      let h = above (chain_of m s a) (ready.chain s a ls la) in
+      let e : height (history (book m r.chains s) a) ≡ (z.clocks (arc_chain m s a)).height =
+      ap height (shown_at m r.chains s a la) ∙ (height_is s a (r.chains (arc_chain m s a)) ∙ sym (k.follows.heights (arc_chain m s a))) in
+      let h = above (arc_chain m s a) (ready.chain s a ls la) in
       let g = greatest-in (λ s. the_horizon (m.cast s).deal) (range_with_len 0 m.swaps) s (in_range s m.swaps ls) in
-      end (the_horizon (m.cast s).deal) (last_horizon m) (z.clocks (chain_of m s a)).height (height (history (book m r.chains s) a)) g h e
+      end (the_horizon (m.cast s).deal) (last_horizon m) (z.clocks (arc_chain m s a)).height (height (history (book m r.chains s) a)) g h e
     where
       end : (a b c d : ℕ) → a ≤ b → b < c → d ≡ c → a < d
       end a b c d l h e = omega arith
 
 keeps_kept : (m : Setup) (r : Run) (z : Kept) (s : ℕ) → IsReady m → s < m.swaps → Keeps m r z → IsKept (m.cast s) (book m r.chains s)
-keeps_kept m r z s ready l k = good_is_kept (m.cast s) (swap_in m r s) (ready.casts s l) (subst (IsGood (m.cast s)) (k.follows.swaps s l) (k.good s l))
+keeps_kept m r z s ready l k = good_is_kept (m.cast s) (parse_swap m r s) (ready.casts s l) (subst (IsGood (m.cast s)) (k.follows.swaps s l) (k.good s l))
 
 pub many_finishes_end : ManyFinishesEnd
 many_finishes_end m events ready all =

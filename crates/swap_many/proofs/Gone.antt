@@ -2,7 +2,7 @@
 use Rattle.std.proofs.Common.{◌≡◌, ℕ, suc, zero, ◌+◌, ◌-◌, ◌<◌, ◌≤◌, Bool, true, List, [], ◌∷◌, length, get_or, take, drop, fold, refl, sym}
 use Rattle.std.proofs.Common.{ap, ap₂, ◌∙◌, subst, arith, add-one, drop-cons, Result, Ok, Err, OnOk, OnErr}
 use Rattle.std.specs.List.{range_with_len, All}
-use Rattle.std.proofs.lemmas.List.Elements.{All-head, All-tail, All-take, All-drop, All-from_get_or}
+use Rattle.std.proofs.lemmas.List.Elements.{All-head, All-tail, All-take, All-drop}
 use Rattle.std.proofs.lemmas.List.{take_all, take-append-drop}
 use Rattle.std.proofs.lemmas.List.FromFn.{length-range_with_len, get_or-range_with_len}
 use Rattle.std.proofs.lemmas.List.Sums.{fold-append, fold_more}
@@ -16,20 +16,14 @@ use Rattle.swap_many.specs.Chains.{Setup}
 use Rattle.swap_many.specs.Kept.{Kept}
 use Rattle.swap_many.specs.Laws.{IsReady}
 use Rattle.swap_many.specs.Way.{Leads}
-use Rattle.swap_many.specs.Value.{ManyState, AreReady, IsOn, IsPartyOf, world_at, setup_for, kept_of, HasManyGone, IsBetween, IsManyStopped}
+use Rattle.swap_many.specs.Value.{ManyState, AreReady, IsOn, IsPartyOf, nth_world, made_setup, kept_state, HasManyGone, IsBetween, IsManyStopped}
 use Rattle.swap_many.proofs.Values.{all_same, same_deal, held_same, same_then, same_setup, continue_less}
 use Rattle.swap_many.proofs.Way.{no_step, more_steps}
+use Rattle.swap_world.proofs.Ways.{range_all, repeat_split}
 
 -- steps lead from what is kept to where f leads, whatever is answered
 abbrev pub LeadOn : ManyState → (Setup → Kept → Kept) → Type 0
-LeadOn w f = (g : ℕ → Answers) (z : Kept) → Leads (setup_for w g) z (f (setup_for w g) z)
-
-range_all : (P : ℕ → Type 0) (m : ℕ) → ((i : ℕ) → i < m → P i) → All P (range_with_len 0 m)
-range_all P m h = All-from_get_or P (range_with_len 0 m) 0 (λ i lt.
-    let n = length-range_with_len 0 m in
-    let l : i < m = omega (arith, n, lt) in
-    let z : 0 + i ≡ i = omega arith in
-    subst P (sym (get_or-range_with_len 0 m i 0 l ∙ z)) (h i l))
+LeadOn w f = (g : ℕ → Answers) (z : Kept) → Leads (made_setup w g) z (f (made_setup w g) z)
 
 pub on_ok : {A E : Type 0} {P Q : Type 0} (r : Result A E) → (P → Q) → OnOk r P → OnOk r Q
 on_ok (Ok x) f p = f p
@@ -39,16 +33,12 @@ pub on_err : {A E : Type 0} {P Q : Type 0} (r : Result A E) → (P → Q) → On
 on_err (Ok x) f p = tt
 on_err (Err e) f p = f p
 
-pub if_err : {A E : Type 0} {P : Type 0} (r : Result A E) → P → OnErr r P
-if_err (Ok x) p = tt
-if_err (Err e) p = p
-
 module _ (gives : MayGive) where
   pub begun : (w : ManyState) → HasManyGone gives (λ m z. z) w w
   begun w = record { same = all_same gives w; goes_on = refl; kept = λ g c. refl }
 
   pub gone_as : (f h : Setup → Kept → Kept) (old new : ManyState)
-      → ((g : ℕ → Answers) → f (setup_for old g) (kept_of old) ≡ h (setup_for old g) (kept_of old)) → HasManyGone gives f old new
+      → ((g : ℕ → Answers) → f (made_setup old g) (kept_state old) ≡ h (made_setup old g) (kept_state old)) → HasManyGone gives f old new
       → HasManyGone gives h old new
   gone_as f h old new e k = record { same = k.same; goes_on = k.goes_on; kept = λ g c. k.kept g c ∙ e g }
 
@@ -70,7 +60,7 @@ module _ (gives : MayGive) where
   pub swap_gone : (f : Setup → Kept → Kept) (old new : ManyState) (s : ℕ) → HasManyGone gives f old new → s < length old.worlds → s < length new.worlds
   swap_gone f old new s k l = subst (λ n. s < n) (sym k.same.swaps) l
 
-  pub deal_gone : (f : Setup → Kept → Kept) (old new : ManyState) (s : ℕ) → HasManyGone gives f old new → (world_at new s).deal ≡ (world_at old s).deal
+  pub deal_gone : (f : Setup → Kept → Kept) (old new : ManyState) (s : ℕ) → HasManyGone gives f old new → (nth_world new s).deal ≡ (nth_world old s).deal
   deal_gone f old new s k = same_deal gives old new s k.same
 
   pub party_gone : (f : Setup → Kept → Kept) (old new : ManyState) (s p : ℕ) → HasManyGone gives f old new → IsPartyOf old s p → IsPartyOf new s p
@@ -82,12 +72,12 @@ module _ (gives : MayGive) where
   -- Such that stop.
 
   pub stopped_as : (f h : Setup → Kept → Kept) (old new : ManyState)
-      → ((g : ℕ → Answers) → f (setup_for old g) (kept_of old) ≡ h (setup_for old g) (kept_of old)) → IsManyStopped gives f old new
+      → ((g : ℕ → Answers) → f (made_setup old g) (kept_state old) ≡ h (made_setup old g) (kept_state old)) → IsManyStopped gives f old new
       → IsManyStopped gives h old new
   stopped_as f h old new e k = record {
     stopped = k.stopped;
     same = k.same;
-    way = λ g c. subst (λ t. IsBetween (setup_for old g) (kept_of old) t new) (e g) (k.way g c);
+    way = λ g c. subst (λ t. IsBetween (made_setup old g) (kept_state old) t new) (e g) (k.way g c);
   }
 
   -- on the way to a state from which steps lead on
@@ -97,11 +87,11 @@ module _ (gives : MayGive) where
     stopped = k.stopped;
     same = k.same;
     way = λ g c. let w = k.way g c in
-        let m = setup_for old g in
+        let m = made_setup old g in
         record {
           there = w.there;
           before = w.before;
-          after = more_steps m (ready g) w.there (f m (kept_of old)) (h m (f m (kept_of old))) w.after (leads g (f m (kept_of old)));
+          after = more_steps m (ready g) w.there (f m (kept_state old)) (h m (f m (kept_state old))) w.after (leads g (f m (kept_state old)));
           books = w.books;
           clocks = w.clocks;
           free = w.free;
@@ -114,13 +104,13 @@ module _ (gives : MayGive) where
   stopped_after f h old mid new ready leads a k = record {
     stopped = k.stopped;
     same = same_then gives old mid new a.same k.same;
-    way = λ g c. let m = setup_for old g in
-        let w : IsBetween m (f m (kept_of old)) (h m (f m (kept_of old))) new
+    way = λ g c. let m = made_setup old g in
+        let w : IsBetween m (f m (kept_state old)) (h m (f m (kept_state old))) new
         = subst (λ z. IsBetween m z (h m z) new) (a.kept g (continue_less gives mid new g k.same c))
-        (subst (λ m. IsBetween m (kept_of mid) (h m (kept_of mid)) new) (same_setup gives old mid g a.same) (k.way g c)) in
+        (subst (λ m. IsBetween m (kept_state mid) (h m (kept_state mid)) new) (same_setup gives old mid g a.same) (k.way g c)) in
         record {
           there = w.there;
-          before = more_steps m (ready g) (kept_of old) (f m (kept_of old)) w.there (leads g (kept_of old)) w.before;
+          before = more_steps m (ready g) (kept_state old) (f m (kept_state old)) w.there (leads g (kept_state old)) w.before;
           after = w.after;
           books = w.books;
           clocks = w.clocks;
@@ -134,9 +124,9 @@ module _ (gives : MayGive) where
     stopped = e;
     same = all_same gives w;
     way = λ g c. record {
-      there = kept_of w;
-      before = no_step (setup_for w g) (ready g) (kept_of w);
-      after = leads g (kept_of w);
+      there = kept_state w;
+      before = no_step (made_setup w g) (ready g) (kept_state w);
+      after = leads g (kept_state w);
       books = λ s l. refl;
       clocks = λ i. refl;
       free = λ i. refl;
@@ -150,14 +140,14 @@ module _ (gives : MayGive) where
     same = record {
       swaps = refl;
       casts = λ s. refl;
-      asked = λ s. nothing_asked gives (world_at w s) (world_at w s) refl refl;
+      asked = λ s. nothing_asked gives (nth_world w s) (nth_world w s) refl refl;
       places = refl;
       openings = refl;
     };
     way = λ g c. record {
-      there = kept_of w;
-      before = no_step (setup_for w g) (ready g) (kept_of w);
-      after = leads g (kept_of w);
+      there = kept_state w;
+      before = no_step (made_setup w g) (ready g) (kept_state w);
+      after = leads g (kept_state w);
       books = λ s l. refl;
       clocks = λ i. refl;
       free = λ i. refl;
@@ -179,9 +169,9 @@ AllLead w f xs = All (λ x. LeadOn w (λ m z. f m z x)) xs
 
 module _ {B : Type 0} (w : ManyState) (ready : AreReady w) (f : Setup → Kept → B → Kept) where
   pub leads_fold : (xs : List B) → AllLead w f xs → LeadOn w (λ m z. fold (f m) z xs)
-  leads_fold [] h g z = no_step (setup_for w g) (ready g) z
+  leads_fold [] h g z = no_step (made_setup w g) (ready g) z
   leads_fold (x ∷ xs) h g z =
-      let m = setup_for w g in
+      let m = made_setup w g in
       more_steps m (ready g) z (f m z x) (fold (f m) (f m z x) xs) (All-head (λ x. LeadOn w (λ m z. f m z x)) x xs h g z)
       (leads_fold xs (All-tail (λ x. LeadOn w (λ m z. f m z x)) x xs h) g (f m z x))
 
@@ -196,8 +186,8 @@ module _ (gives : MayGive) {B : Type 0} (f : Setup → Kept → B → Kept) (old
       → HasManyGone gives (λ m z. fold (f m) z (take (k + 1) xs)) old new
   list_on l is h =
       gone_as gives (λ m z. f m (fold (f m) z (take k xs)) x) (λ m z. fold (f m) z (take (k + 1) xs)) old new
-      (λ g. let m = setup_for old g in
-      ap (λ (y : B). f m (fold (f m) (kept_of old) (take k xs)) y) is ∙ sym (fold_more (f m) (kept_of old) xs k x l))
+      (λ g. let m = made_setup old g in
+      ap (λ (y : B). f m (fold (f m) (kept_state old) (take k xs)) y) is ∙ sym (fold_more (f m) (kept_state old) xs k x l))
       (gone_then gives (λ m z. fold (f m) z (take k xs)) (λ m z. f m z x) old mid new so_far h)
 
   pub list_stops : k < length xs → x ≡ get_or xs k x → AreReady old → AllLead old f xs → IsManyStopped gives (λ m z. f m z x) mid new
@@ -205,7 +195,7 @@ module _ (gives : MayGive) {B : Type 0} (f : Setup → Kept → B → Kept) (old
   list_stops l is ready leads h =
       let P : B → Type 0 = λ x. LeadOn old (λ m z. f m z x) in
       stopped_as gives (λ m z. fold (f m) (f m (fold (f m) z (take k xs)) x) (drop (k + 1) xs)) (λ m z. fold (f m) z xs) old new
-      (λ g. sym (split_at (f (setup_for old g)) (kept_of old) xs k x l is))
+      (λ g. sym (split_at (f (made_setup old g)) (kept_state old) xs k x l is))
       (stopped_then gives (λ m z. f m (fold (f m) z (take k xs)) x) (λ m z. fold (f m) z (drop (k + 1) xs)) old new ready
       (leads_fold old ready f (drop (k + 1) xs) (All-drop P (k + 1) xs leads))
       (stopped_after gives (λ m z. fold (f m) z (take k xs)) (λ m z. f m z x) old mid new ready
@@ -215,7 +205,7 @@ pub list_done : (gives : MayGive) {B : Type 0} (f : Setup → Kept → B → Kep
     → HasManyGone gives (λ m z. fold (f m) z (take k xs)) old mid → HasManyGone gives (λ m z. fold (f m) z xs) old mid
 list_done gives {B = B} f old mid xs k l so_far =
     gone_as gives (λ m z. fold (f m) z (take k xs)) (λ m z. fold (f m) z xs) old mid
-    (λ g. ap (λ (ys : List B). fold (f (setup_for old g)) (kept_of old) ys) (take_all k xs l)) so_far
+    (λ g. ap (λ (ys : List B). fold (f (made_setup old g)) (kept_state old) ys) (take_all k xs l)) so_far
 
 -- Over the first n numbers.
 module _ (gives : MayGive) (f : Setup → Kept → ℕ → Kept) (old mid new : ManyState) (n k : ℕ)
@@ -243,38 +233,34 @@ range_done gives f old mid n k l so_far =
 
 module _ (w : ManyState) (ready : AreReady w) (f : Setup → Kept → Kept) (leads : LeadOn w f) where
   pub leads_repeat : (n : ℕ) → LeadOn w (λ m z. repeat n (f m) z)
-  leads_repeat zero g z = no_step (setup_for w g) (ready g) z
+  leads_repeat zero g z = no_step (made_setup w g) (ready g) z
   leads_repeat (suc n) g z =
-      let m = setup_for w g in
+      let m = made_setup w g in
       more_steps m (ready g) z (repeat n (f m) z) (f m (repeat n (f m) z)) (leads_repeat n g z) (leads g (repeat n (f m) z))
-
-pub repeat_split : {A : Type 0} (j k : ℕ) (f : A → A) (x : A) → repeat (j + k) f x ≡ repeat j f (repeat k f x)
-repeat_split zero k f x = let z : 0 + k ≡ k = omega arith in ap (λ i. repeat i f x) z
-repeat_split (suc j) k f x = let z : suc j + k ≡ suc (j + k) = omega arith in ap (λ i. repeat i f x) z ∙ ap f (repeat_split j k f x)
 
 module _ (gives : MayGive) (f : Setup → Kept → Kept) (old mid new : ManyState) (n k : ℕ)
     (so_far : HasManyGone gives (λ m z. repeat k (f m) z) old mid) where
   pub repeat_on : HasManyGone gives f mid new → HasManyGone gives (λ m z. repeat (k + 1) (f m) z) old new
   repeat_on h =
       gone_as gives (λ m z. f m (repeat k (f m) z)) (λ m z. repeat (k + 1) (f m) z) old new
-      (λ g. sym (repeat_one k (f (setup_for old g)) (kept_of old))) (gone_then gives (λ m z. repeat k (f m) z) f old mid new so_far h)
+      (λ g. sym (repeat_one k (f (made_setup old g)) (kept_state old))) (gone_then gives (λ m z. repeat k (f m) z) f old mid new so_far h)
 
   pub repeat_stops : k < n → AreReady old → LeadOn old f → IsManyStopped gives f mid new → IsManyStopped gives (λ m z. repeat n (f m) z) old new
   repeat_stops l ready leads h =
       let e : n ≡ (n - suc k) + suc k = omega arith in
       stopped_as gives (λ m z. repeat (n - suc k) (f m) (f m (repeat k (f m) z))) (λ m z. repeat n (f m) z) old new
-      (λ g. sym (ap (λ j. repeat j (f (setup_for old g)) (kept_of old)) e ∙ repeat_split (n - suc k) (suc k) (f (setup_for old g)) (kept_of old)))
+      (λ g. sym (ap (λ j. repeat j (f (made_setup old g)) (kept_state old)) e ∙ repeat_split (n - suc k) (suc k) (f (made_setup old g)) (kept_state old)))
       (stopped_then gives (λ m z. f m (repeat k (f m) z)) (λ m z. repeat (n - suc k) (f m) z) old new ready (leads_repeat old ready f leads (n - suc k))
       (stopped_after gives (λ m z. repeat k (f m) z) f old mid new ready (leads_repeat old ready f leads k) so_far h))
 
   -- once f changes nothing
-  pub repeat_rests : k ≤ n → ((g : ℕ → Answers) → f (setup_for mid g) (kept_of mid) ≡ kept_of mid) → HasManyGone gives (λ m z. repeat n (f m) z) old mid
+  pub repeat_rests : k ≤ n → ((g : ℕ → Answers) → f (made_setup mid g) (kept_state mid) ≡ kept_state mid) → HasManyGone gives (λ m z. repeat n (f m) z) old mid
   repeat_rests l rests = record {
     same = so_far.same;
     goes_on = so_far.goes_on;
-    kept = λ g c. let m = setup_for old g in
-        let is : kept_of mid ≡ repeat k (f m) (kept_of old) = so_far.kept g c in
-        let rest : f m (kept_of mid) ≡ kept_of mid
-        = sym (ap (λ (x : Setup). f x (kept_of mid)) (same_setup gives old mid g so_far.same)) ∙ rests g in
-        is ∙ sym (rest_more k n (f m) (kept_of old) (sym (ap (f m) is) ∙ (rest ∙ is)) l);
+    kept = λ g c. let m = made_setup old g in
+        let is : kept_state mid ≡ repeat k (f m) (kept_state old) = so_far.kept g c in
+        let rest : f m (kept_state mid) ≡ kept_state mid
+        = sym (ap (λ (x : Setup). f x (kept_state mid)) (same_setup gives old mid g so_far.same)) ∙ rests g in
+        is ∙ sym (rest_more k n (f m) (kept_state old) (sym (ap (f m) is) ∙ (rest ∙ is)) l);
   }

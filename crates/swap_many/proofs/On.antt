@@ -6,7 +6,7 @@ use Rattle.swap_job.specs.declared.event.Event.TheVariants.{Look, Act}
 use Rattle.swap_rules.proofs.Prefixes.{same_or_not}
 use Rattle.swap_run.specs.Run.{State, conforms, step}
 use Rattle.swap_run.specs.Fair.{repeat, adjacent_arcs, looks, most_acts}
-use Rattle.swap_run.specs.Called.{step_on, turn_on}
+use Rattle.swap_run.specs.Called.{apply_step, turn_on}
 use Rattle.swap_many.specs.declared.many_event.ManyEvent.TheVariants.{In}
 use Rattle.swap_many.specs.Chains.{Setup, put}
 use Rattle.swap_many.specs.Many.{turn_in}
@@ -26,10 +26,10 @@ put_twice {A} f i x y = λ k j. at j (same_or_not j i) k
     at j (inr n) = put_other (put f i x) i y j n ∙ (put_other f i x j n ∙ sym (put_other f i y j n))
 
 module _ (m : Setup) (s : ℕ) (z : Kept) where
-  event_on : (x : State) (e : Event) → kept_done false m (set_swap s z x) (In s e) ≡ set_swap s z (step_on (z.swept s) (m.cast s) x e)
+  event_on : (x : State) (e : Event) → kept_done false m (set_swap s z x) (In s e) ≡ set_swap s z (apply_step (z.swept s) (m.cast s) x e)
   event_on x e =
-      ap (λ (f : ℕ → State). let t : Kept = record z { swaps = f } in t) (put_twice z.swaps s x (step_on (z.swept s) (m.cast s) (put z.swaps s x s) e)
-      ∙ ap (λ y. put z.swaps s (step_on (z.swept s) (m.cast s) y e)) (put_same z.swaps s x))
+      ap (λ (f : ℕ → State). let t : Kept = record z { swaps = f } in t) (put_twice z.swaps s x (apply_step (z.swept s) (m.cast s) (put z.swaps s x s) e)
+      ∙ ap (λ y. put z.swaps s (apply_step (z.swept s) (m.cast s) y e)) (put_same z.swaps s x))
 
   looks_on : (v : ℕ) (xs : List ℕ) (x : State) → fold (λ z a. kept_done false m z (In s (Look v a))) (set_swap s z x) xs
       ≡ set_swap s z (fold (λ x a. step (m.cast s) x (Look v a)) x xs)
@@ -38,11 +38,11 @@ module _ (m : Setup) (s : ℕ) (z : Kept) where
       ap (λ y. fold (λ z a. kept_done false m z (In s (Look v a))) y xs) (event_on x (Look v a)) ∙ looks_on v xs (step (m.cast s) x (Look v a))
 
   acts_on : (v n : ℕ) (x : State) → repeat n (λ z. kept_done false m z (In s (Act v))) (set_swap s z x)
-      ≡ set_swap s z (repeat n (λ x. step_on (z.swept s) (m.cast s) x (Act v)) x)
+      ≡ set_swap s z (repeat n (λ x. apply_step (z.swept s) (m.cast s) x (Act v)) x)
   acts_on v zero x = refl
   acts_on v (suc n) x =
       ap (λ y. kept_done false m y (In s (Act v))) (acts_on v n x)
-      ∙ event_on (repeat n (λ x. step_on (z.swept s) (m.cast s) x (Act v)) x) (Act v)
+      ∙ event_on (repeat n (λ x. apply_step (z.swept s) (m.cast s) x (Act v)) x) (Act v)
 
   turn_is_on : (v : ℕ) (x : State)
       → turn_in m (kept_done false m) (kept_done true m) (λ z i. (z.clocks i).height) s (set_swap s z x) v ≡ set_swap s z (turn_on (z.swept s) (m.cast s) x v)
@@ -57,8 +57,8 @@ module _ (m : Setup) (s : ℕ) (z : Kept) where
           → cond b (repeat (most_acts (m.cast s).deal) (λ z. kept_done false m z (In s (Act v)))
           (fold (λ z a. kept_done false m z (In s (Look v a))) (set_swap s z x) (adjacent_arcs (m.cast s).deal v)))
           (kept_done false m (fold (λ z a. kept_done false m z (In s (Look v a))) (set_swap s z x) (adjacent_arcs (m.cast s).deal v)) (In s (Act v)))
-          ≡ set_swap s z (cond b (repeat (most_acts (m.cast s).deal) (λ x. step_on (z.swept s) (m.cast s) x (Act v)) (looks (m.cast s) v x))
-          (step_on (z.swept s) (m.cast s) (looks (m.cast s) v x) (Act v)))
+          ≡ set_swap s z (cond b (repeat (most_acts (m.cast s).deal) (λ x. apply_step (z.swept s) (m.cast s) x (Act v)) (looks (m.cast s) v x))
+          (apply_step (z.swept s) (m.cast s) (looks (m.cast s) v x) (Act v)))
       go true =
           ap (repeat (most_acts (m.cast s).deal) (λ z. kept_done false m z (In s (Act v)))) seen
           ∙ acts_on v (most_acts (m.cast s).deal) (looks (m.cast s) v x)

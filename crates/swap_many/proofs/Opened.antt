@@ -8,24 +8,24 @@ use Rattle.swap_digraph.specs.Graph.{arcs}
 use Rattle.swap_digraph.specs.Deal.{amount}
 use Rattle.ledger_core.proofs.History.{not-true}
 use Rattle.swap_many.specs.declared.overdrawn.Overdrawn.{Overdrawn}
-use Rattle.swap_many.specs.Chains.{Setup, place, chain_of, pays_for, opening, set_aside}
+use Rattle.swap_many.specs.Chains.{Setup, place, arc_chain, pays_for, opening, set_aside}
 use Rattle.swap_many.specs.Opened.{lack_of, lack_on, overdrawn, ArePlaces, NoLackIsCovered}
 use Rattle.swap_many.proofs.Sums.{sum_zero}
 
 module _ (m : Setup) (places : ArePlaces m) where
   -- an account out of range pays for nothing
-  none_aside : (i x : ℕ) → ((s a : ℕ) → s < m.swaps → a < length (m.cast s).deal.graph.arcs → chain_of m s a ≡ i → x ≢ (place m s a).from)
+  none_aside : (i x : ℕ) → ((s a : ℕ) → s < m.swaps → a < length (m.cast s).deal.graph.arcs → arc_chain m s a ≡ i → x ≢ (place m s a).from)
       → set_aside m i x ≡ 0
   none_aside i x apart =
       sum_zero _ (range_with_len 0 m.swaps) (λ s j. sum_zero (pays_for m i x s) (arcs (m.cast s).deal.graph) (λ a k.
-      one s a (from_range s m.swaps j) (from_range a (length (m.cast s).deal.graph.arcs) k) (chain_of m s a == i) refl))
+      one s a (from_range s m.swaps j) (from_range a (length (m.cast s).deal.graph.arcs) k) (arc_chain m s a == i) refl))
     where
-      one : (s a : ℕ) → s < m.swaps → a < length (m.cast s).deal.graph.arcs → (b : Bool) → (chain_of m s a == i) ≡ b
+      one : (s a : ℕ) → s < m.swaps → a < length (m.cast s).deal.graph.arcs → (b : Bool) → (arc_chain m s a == i) ≡ b
           → ◌≡◌ {A = ℕ} (cond b (cond (x == (place m s a).from) (amount (m.cast s).deal a) 0) 0) 0
       one s a ls la false e = refl
       one s a ls la true e =
           ap (λ (b : Bool). cond {A = ℕ} b (amount (m.cast s).deal a) 0)
-          (not-true (x == (place m s a).from) (λ q. apart s a ls la (eqb-true (chain_of m s a) i e) (eqb-true x (place m s a).from q)))
+          (not-true (x == (place m s a).from) (λ q. apart s a ls la (eqb-true (arc_chain m s a) i e) (eqb-true x (place m s a).from q)))
 
   covered : overdrawn m ≡ None → (i x : ℕ) → set_aside m i x ≤ opening m i x
   covered none i x = go (below_or i (length m.chains)) (below_or x (length (slice_index_or m.chains i [])))
@@ -54,7 +54,7 @@ module _ (m : Setup) (places : ArePlaces m) where
           past : (x f n : ℕ) → x ≡ f → f < n → n ≤ x → ⊥
           past x f n e l g = absurd (omega arith)
       go (inr above) other =
-          low (set_aside m i x) (opening m i x) (none_aside i x (λ s a ls la e q. past (chain_of m s a) i (length m.chains) e (places.chain s a ls la) above))
+          low (set_aside m i x) (opening m i x) (none_aside i x (λ s a ls la e q. past (arc_chain m s a) i (length m.chains) e (places.chain s a ls la) above))
         where
           past : (c i n : ℕ) → c ≡ i → c < n → n ≤ i → ⊥
           past c i n e l g = absurd (omega arith)

@@ -12,8 +12,8 @@ use Rattle.ledger_core.specs.declared.entry.Call.{Call}
 use Rattle.ledger_core.specs.declared.entry.Call.TheVariants.{Publish, Unlock, Claim, Refund, Transfer}
 use Rattle.ledger_core.specs.declared.entry.Entry.{Entry}
 use Rattle.ledger_core.specs.declared.facts.Settlement.{Settlement}
-use Rattle.ledger_core.specs.History.{Publication, publication, published, settling, settled, accepted, held, terms_in, the_terms, is_open, height}
-use Rattle.ledger_core.specs.History.{balance, rows, is_full, reply_to}
+use Rattle.ledger_core.specs.History.{Publication, publication, published, settling, settled, accepted, held, parse_terms, the_terms, is_open, height}
+use Rattle.ledger_core.specs.History.{balance, rows, is_full, history_reply}
 use Rattle.ledger_core.specs.Ledger.{call_entry, tick_entry, is_sender_full, after_call}
 use Rattle.ledger_core.proofs.History.{is_some-of, not-true}
 use Rattle.swap_rules.specs.Machine.{Begins}
@@ -25,8 +25,8 @@ use Rattle.swap_run.specs.Called.{is_barred}
 use Rattle.swap_many.specs.Chains.{reply_to_sweep, entered}
 use Rattle.swap_many.specs.Sound.{Over, SweptIsOver}
 use Rattle.swap_many.proofs.Projections.{shown_more, swept_more}
-use Rattle.swap_many.proofs.Tick.{tick_of}
-use Rattle.swap_many.proofs.Landed.{call_of, call_shown, call_hidden, call_swept}
+use Rattle.swap_many.proofs.Tick.{entry_tick}
+use Rattle.swap_many.proofs.Landed.{parse_call, call_shown, call_hidden, call_swept}
 use Rattle.swap_many.proofs.Follow.{tick_swept, or-end, and-end}
 
 tail : {A : Type 0} → List A → List A
@@ -38,8 +38,8 @@ none_is None e = refl
 none_is (Some x) e = absurd (cc e)
 
 pub over_held : (h : List Entry) → Over h → held h ≡ 0
-over_held h (inl e) = ap (λ b. cond b 0 (terms_in (published h)).amount) e
-over_held h (inr e) = ap (λ o. cond (is_some (settled h)) 0 (terms_in o).amount) (none_is (published h) e) ∙ go (is_some (settled h))
+over_held h (inl e) = ap (λ b. cond b 0 (parse_terms (published h)).amount) e
+over_held h (inr e) = ap (λ o. cond (is_some (settled h)) 0 (parse_terms o).amount) (none_is (published h) e) ∙ go (is_some (settled h))
   where
     go : (b : Bool) → ◌≡◌ {A = ℕ} (cond b 0 0) 0
     go true = refl
@@ -57,11 +57,11 @@ over_tick h k t (inr e) =
 
 call_begins : (d : Deal) (a p : ℕ) (c : Call) (h : List Entry) → Begins h (after_call d a p c h)
 unfolding after_call
-call_begins d a p c h = go (is_sender_full (reply_to d a h p c))
+call_begins d a p c h = go (is_sender_full (history_reply d a h p c))
   where
-    go : (b : Bool) → Begins h (cond b h (h ++ call_entry p (height h) c (reply_to d a h p c) ∷ []))
+    go : (b : Bool) → Begins h (cond b h (h ++ call_entry p (height h) c (history_reply d a h p c) ∷ []))
     go true = ([], sym (append-nil h))
-    go false = (call_entry p (height h) c (reply_to d a h p c) ∷ [], refl)
+    go false = (call_entry p (height h) c (history_reply d a h p c) ∷ [], refl)
 
 reached : (h : List Entry) → Over h → is_none (published h) ≡ false → (is_some (settled h) ≡ true) × (is_some (published h) ≡ true)
 reached h (inl s) e = (s, some (published h) e)
@@ -84,12 +84,12 @@ other x y n = not-true (x == y) (λ e. n (eqb-true x y e))
 
 -- Chains.
 
-pub over_after_tick : (k : ℕ) (h : List ChainEntry) → SweptIsOver h → SweptIsOver (h ++ tick_of k h ∷ [])
+pub over_after_tick : (k : ℕ) (h : List ChainEntry) → SweptIsOver h → SweptIsOver (h ++ entry_tick k h ∷ [])
 over_after_tick k h o s a e =
-    subst Over (sym (shown_more s a h (tick_of k h))) (over_tick (projection s a h) k (chain_height h + k) (o s a (sym (tick_swept s a k h) ∙ e)))
+    subst Over (sym (shown_more s a h (entry_tick k h))) (over_tick (projection s a h) k (chain_height h + k) (o s a (sym (tick_swept s a k h) ∙ e)))
 
 pub over_after_call : (m : Setup) (s a p : ℕ) (c : Call) (h : List ChainEntry) → SweptIsOver h
-    → SweptIsOver (entered h (call_of s a p c h (reply_to_call m h s a p c)))
+    → SweptIsOver (entered h (parse_call s a p c h (reply_to_call m h s a p c)))
 over_after_call m s a p c h o t b e = go (same_or_not t s) (same_or_not b a)
   where
     was : is_swept t b h ≡ true
@@ -102,10 +102,10 @@ over_after_call m s a p c h o t b e = go (same_or_not t s) (same_or_not b a)
         inl (settled_more (projection s a h) (after_call (m.cast s).deal a p c (projection s a h)) (call_begins (m.cast s).deal a p c (projection s a h))
         (reached_settled (projection s a h) c (o s a w) (ap (λ z. is_barred z (projection s a h) c) (sym w) ∙ q)).0)
 
-    go : (t ≡ s) ⊎ (t ≢ s) → (b ≡ a) ⊎ (b ≢ a) → Over (projection t b (entered h (call_of s a p c h (reply_to_call m h s a p c))))
+    go : (t ≡ s) ⊎ (t ≢ s) → (b ≡ a) ⊎ (b ≢ a) → Over (projection t b (entered h (parse_call s a p c h (reply_to_call m h s a p c))))
     go (inl q) (inl r) =
-        subst (λ t. Over (projection t b (entered h (call_of s a p c h (reply_to_call m h s a p c))))) (sym q)
-        (subst (λ b. Over (projection s b (entered h (call_of s a p c h (reply_to_call m h s a p c))))) (sym r)
+        subst (λ t. Over (projection t b (entered h (parse_call s a p c h (reply_to_call m h s a p c))))) (sym q)
+        (subst (λ b. Over (projection s b (entered h (parse_call s a p c h (reply_to_call m h s a p c))))) (sym r)
         (subst Over (sym (call_shown m s a p c h))
         (own (ap₂ (λ t b. is_swept t b h) (sym q) (sym r) ∙ was) (is_barred (is_swept s a h) (projection s a h) c) refl)))
     go (inl q) (inr n) = subst Over (sym (call_hidden t b s a p c h (reply_to_call m h s a p c) (inr n))) (o t b was)
@@ -188,7 +188,7 @@ decided false true r t u more nr nt nu = nt
 decided false false r t u more nr nt nu = nu
 
 refused : (d : Deal) (a : ℕ) (h : List Entry) (p : ℕ) (c : Call) → is_barred true h c ≡ false → is_some (settled h) ≡ true
-    → is_some (published h) ≡ true → reply_to d a h p c ≢ replies.Accepted
+    → is_some (published h) ≡ true → history_reply d a h p c ≢ replies.Accepted
 unfolding rows tail
 refused d a h p (Publish t) b s q e =
     decided (is_full h p) (not (p == party d a)) replies.SenderFull replies.NotParty replies.AlreadyPublished
@@ -217,9 +217,9 @@ pub swept_refuses : (m : Setup) (s a p : ℕ) (c : Call) (h : List ChainEntry) �
 swept_refuses m s a p c h o w = go (is_barred (is_swept s a h) (projection s a h) c) refl
   where
     go : (x : Bool) → is_barred (is_swept s a h) (projection s a h) c ≡ x
-        → cond x Swept (Plain (reply_to (m.cast s).deal a (projection s a h) p c)) ≢ Plain replies.Accepted
+        → cond x Swept (Plain (history_reply (m.cast s).deal a (projection s a h) p c)) ≢ Plain replies.Accepted
     go true q = λ e. cc e
     go false q =
         let z : is_barred true (projection s a h) c ≡ false = ap (λ z. is_barred z (projection s a h) c) (sym w) ∙ q in
         let k = reached_settled (projection s a h) c (o s a w) z in
-        plain_not (reply_to (m.cast s).deal a (projection s a h) p c) (refused (m.cast s).deal a (projection s a h) p c z k.0 k.1)
+        plain_not (history_reply (m.cast s).deal a (projection s a h) p c) (refused (m.cast s).deal a (projection s a h) p c z k.0 k.1)

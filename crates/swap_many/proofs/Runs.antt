@@ -12,7 +12,7 @@ use Rattle.swap_rules.specs.Outcome.{IsEnded}
 use Rattle.swap_digraph.specs.declared.deal.Deal.{Deal}
 use Rattle.swap_run.specs.Asked.{Answers}
 use Rattle.swap_run.specs.Run.{State}
-use Rattle.swap_world.specs.Value.{answers_of}
+use Rattle.swap_world.specs.Value.{world_answers}
 use Rattle.swap_world.specs.Gone.{MayGive}
 use Rattle.swap_many.specs.declared.many_event.ManyEvent.{ManyEvent}
 use Rattle.swap_many.specs.declared.many_reply.ManyReply.{ManyReply}
@@ -22,7 +22,7 @@ use Rattle.swap_many.specs.Kept.{Kept, kept_done, kept_reply, kept_finish}
 use Rattle.swap_many.specs.Laws.{CanCome, Follows}
 use Rattle.swap_many.specs.Sound.{Keeps}
 use Rattle.swap_many.specs.Stages.{Stage, Came, Finished, run_stage, run_by, stages_in}
-use Rattle.swap_many.specs.Value.{ManyState, AreReady, world_at, setup_of, setup_for, kept_of, run_of, ContinueAll, AreSame, HasManyGone}
+use Rattle.swap_many.specs.Value.{ManyState, AreReady, nth_world, world_setup, made_setup, kept_state, world_run, ContinueAll, AreSame, HasManyGone}
 use Rattle.swap_many.specs.Value.{IsManyStopped, UnitsArePlacedIn}
 use Rattle.swap_many.specs.Inside.{AreWhole}
 use Rattle.swap_many.specs.Whole.{IsOfRun}
@@ -91,44 +91,45 @@ stretch_more f ps qs p es more none =
 
 -- f does to what is kept what the stage does to the run
 abbrev pub IsStage : (Setup → Kept → Kept) → Stage → ManyState → Type 0
-IsStage f x w = (g : ℕ → Answers) (r : Run) (z : Kept) → Keeps (setup_for w g) r z → Keeps (setup_for w g) (run_stage (setup_for w g) r x) (f (setup_for w g) z)
+IsStage f x w = (g : ℕ → Answers) (r : Run) (z : Kept) → Keeps (made_setup w g) r z
+    → Keeps (made_setup w g) (run_stage (made_setup w g) r x) (f (made_setup w g) z)
 
-pub step_is_stage : (w : ManyState) (e : ManyEvent) → AreReady w → CanCome (setup_of w) e → IsStage (λ m z. kept_done false m z e) (Came e) w
-step_is_stage w e ready can g r z k = keeps_step false (setup_for w g) r z e (ready g) (can_for w g e can) k
+pub step_is_stage : (w : ManyState) (e : ManyEvent) → AreReady w → CanCome (world_setup w) e → IsStage (λ m z. kept_done false m z e) (Came e) w
+step_is_stage w e ready can g r z k = keeps_step false (made_setup w g) r z e (ready g) (can_for w g e can) k
 
 pub finish_is_stage : (w : ManyState) → AreReady w → IsStage kept_finish Finished w
-finish_is_stage w ready g r z k = both_finish (setup_for w g) (ready g) r z k
+finish_is_stage w ready g r z k = both_finish (made_setup w g) (ready g) r z k
 
-pub step_leads : (w : ManyState) (e : ManyEvent) → AreReady w → CanCome (setup_of w) e → LeadOn w (λ m z. kept_done false m z e)
-step_leads w e ready can g z = one_step (setup_for w g) (ready g) z (record { fair = false; event = e }) (can_for w g e can)
+pub step_leads : (w : ManyState) (e : ManyEvent) → AreReady w → CanCome (world_setup w) e → LeadOn w (λ m z. kept_done false m z e)
+step_leads w e ready can g z = one_step (made_setup w g) (ready g) z (record { fair = false; event = e }) (can_for w g e can)
 
 pub finish_leads : (w : ManyState) → AreReady w → LeadOn w kept_finish
-finish_leads w ready g z = finish_steps (setup_for w g) (ready g) z
+finish_leads w ready g z = finish_steps (made_setup w g) (ready g) z
 
 module _ (gives : MayGive) (f : Setup → Kept → Kept) (x : Stage) (old new : ManyState) (stage : IsStage f x old) (runs : IsOfRun old)
     (more : new.stages ≡ old.stages ++ x ∷ []) (on : old.stopped ≡ false) where
   still_of_run : HasManyGone gives f old new → IsOfRun new
   still_of_run k goes g c =
-      let m = setup_for old g in
+      let m = made_setup old g in
       let was = runs on g (continue_less gives old new g k.same c) in
-      subst (λ (n : Setup). Keeps n (run_by n new.stages) (kept_of new)) (sym (same_setup gives old new g k.same))
-      (subst (λ (xs : List Stage). Keeps m (run_by m xs) (kept_of new)) (sym more)
-      (subst (λ (r : Run). Keeps m r (kept_of new)) (sym (run_more m old.stages x))
-      (subst (Keeps m (run_stage m (run_by m old.stages) x)) (sym (k.kept g c)) (stage g (run_by m old.stages) (kept_of old) was))))
+      subst (λ (n : Setup). Keeps n (run_by n new.stages) (kept_state new)) (sym (same_setup gives old new g k.same))
+      (subst (λ (xs : List Stage). Keeps m (run_by m xs) (kept_state new)) (sym more)
+      (subst (λ (r : Run). Keeps m r (kept_state new)) (sym (run_more m old.stages x))
+      (subst (Keeps m (run_stage m (run_by m old.stages) x)) (sym (k.kept g c)) (stage g (run_by m old.stages) (kept_state old) was))))
 
   pub of_run : {A E : Type 0} (r : Result A E) → OnOk r (HasManyGone gives f old new) → OnErr r (IsManyStopped gives f old new) → IsOfRun new
   of_run (Ok a) ok err = λ goes. still_of_run ok goes
   of_run (Err e) ok err = λ goes. absurd (false≢true (sym goes ∙ err.stopped))
 
   pub then_follows : {A E : Type 0} (r : Result A E) → OnOk r (HasManyGone gives f old new)
-      → OnOk r ((g : ℕ → Answers) → ContinueAll new g → Follows (setup_for new g) (run_of new g) (kept_of new))
+      → OnOk r ((g : ℕ → Answers) → ContinueAll new g → Follows (made_setup new g) (world_run new g) (kept_state new))
   then_follows (Err e) ok = tt
   then_follows (Ok a) ok = λ g c. (still_of_run ok (ok.goes_on ∙ on) g c).follows
 
   pub then_placed : {A E : Type 0} (r : Result A E) → OnOk r (HasManyGone gives f old new)
-      → OnOk r ((g : ℕ → Answers) → ContinueAll new g → UnitsArePlacedIn (setup_for new g) (run_of new g))
+      → OnOk r ((g : ℕ → Answers) → ContinueAll new g → UnitsArePlacedIn (made_setup new g) (world_run new g))
   then_placed (Err e) ok = tt
-  then_placed (Ok a) ok = λ g c i l. counted_is_placed (setup_for new g) (run_of new g) (kept_of new) i l (still_of_run ok (ok.goes_on ∙ on) g c)
+  then_placed (Ok a) ok = λ g c i l. counted_is_placed (made_setup new g) (world_run new g) (kept_state new) i l (still_of_run ok (ok.goes_on ∙ on) g c)
 
 -- What a stage made of the worlds, whose stages it was added to.
 pub record HasTaken {A E : Type 0} (gives : MayGive) (f : Setup → Kept → Kept) (x : Stage) (old new : ManyState) (r : Result A E) : Type 0 where
@@ -137,8 +138,8 @@ pub record HasTaken {A E : Type 0} (gives : MayGive) (f : Setup → Kept → Kep
   pub err : OnErr r (IsManyStopped gives f old new)
   pub more : new.stages ≡ old.stages ++ x ∷ []
   pub runs : IsOfRun new
-  pub follows : OnOk r ((g : ℕ → Answers) → ContinueAll new g → Follows (setup_for new g) (run_of new g) (kept_of new))
-  pub placed : OnOk r ((g : ℕ → Answers) → ContinueAll new g → UnitsArePlacedIn (setup_for new g) (run_of new g))
+  pub follows : OnOk r ((g : ℕ → Answers) → ContinueAll new g → Follows (made_setup new g) (world_run new g) (kept_state new))
+  pub placed : OnOk r ((g : ℕ → Answers) → ContinueAll new g → UnitsArePlacedIn (made_setup new g) (world_run new g))
 
 pub has_taken : {A E : Type 0} (gives : MayGive) (f : Setup → Kept → Kept) (x : Stage) (a b : ManyState) (xs ys : List Stage) (r : Result A E)
     → IsStage f x (record a { stages = xs }) → IsOfRun (record a { stages = xs }) → ys ≡ xs ++ x ∷ [] → a.stopped ≡ false
@@ -161,28 +162,28 @@ has_taken gives f x a b xs ys r stage runs more on ok err =
 
 -- The reply is that of the run.
 pub then_reply : {E : Type 0} (gives : MayGive) (f : Setup → Kept → Kept) (old new : ManyState) (e : ManyEvent) (r : Result (Option ManyReply) E)
-    → AreReady old → CanCome (setup_of old) e → IsOfRun old → old.stopped ≡ false → OnOk r (HasManyGone gives f old new)
-    → IfOk r (λ o. (g : ℕ → Answers) → ContinueAll new g → o ≡ kept_reply false (setup_for old g) (kept_of old) e)
-    → IfOk r (λ o. (g : ℕ → Answers) → ContinueAll new g → o ≡ many_reply (setup_for old g) (run_of old g) e)
+    → AreReady old → CanCome (world_setup old) e → IsOfRun old → old.stopped ≡ false → OnOk r (HasManyGone gives f old new)
+    → IfOk r (λ o. (g : ℕ → Answers) → ContinueAll new g → o ≡ kept_reply false (made_setup old g) (kept_state old) e)
+    → IfOk r (λ o. (g : ℕ → Answers) → ContinueAll new g → o ≡ many_reply (made_setup old g) (world_run old g) e)
 then_reply gives f old new e (Err x) ready can runs on ok reply = tt
 then_reply gives f old new e (Ok o) ready can runs on ok reply = λ g c.
     let k = runs on g (continue_less gives old new g ok.same c) in
-    reply g c ∙ replies_follow (setup_for old g) (run_of old g) (kept_of old) e (ready g) (can_for old g e can) k.follows k.good
+    reply g c ∙ replies_follow (made_setup old g) (world_run old g) (kept_state old) e (ready g) (can_for old g e can) k.follows k.good
 
 -- After a fair finish every swap's book has ended.
 pub then_ended : {A E : Type 0} (gives : MayGive) (old new : ManyState) (r : Result A E) → AreReady old → IsOfRun old → old.stopped ≡ false
     → OnOk r (HasManyGone gives kept_finish old new)
-    → OnOk r ((s : ℕ) → s < length new.worlds → IsEnded (world_at new s).deal (world_at new s).state.book)
+    → OnOk r ((s : ℕ) → s < length new.worlds → IsEnded (nth_world new s).deal (nth_world new s).state.book)
 then_ended gives old new (Err x) ready runs on ok = tt
 then_ended gives old new (Ok a) ready runs on ok = λ s l.
-    let g : ℕ → Answers = λ t. answers_of (world_at new t) in
+    let g : ℕ → Answers = λ t. world_answers (nth_world new t) in
     let c : ContinueAll new g = λ t l i lt. refl in
-    let m = setup_for old g in
+    let m = made_setup old g in
     let k = runs on g (continue_less gives old new g ok.same c) in
-    let done = both_finish m (ready g) (run_of old g) (kept_of old) k in
+    let done = both_finish m (ready g) (world_run old g) (kept_state old) k in
     let low = subst (λ n. s < n) ok.same.swaps l in
-    let ended = swap_ended m (ready g) (many_finish m (run_of old g)) (kept_finish m (kept_of old)) s low done
-    (finish_above m (ready g) (kept_of old) k.timed) in
+    let ended = swap_ended m (ready g) (many_finish m (world_run old g)) (kept_finish m (kept_state old)) s low done
+    (finish_above m (ready g) (kept_state old) k.timed) in
     let book = ap (λ (z : Kept). (z.swaps s).book) (ok.kept g c) ∙ ap (λ (t : State). t.book) (done.follows.swaps s low) in
-    subst (λ (d : Deal). IsEnded d (world_at new s).state.book) (sym (same_deal gives old new s ok.same))
-    (subst (IsEnded (world_at old s).deal) (sym book) ended)
+    subst (λ (d : Deal). IsEnded d (nth_world new s).state.book) (sym (same_deal gives old new s ok.same))
+    (subst (IsEnded (nth_world old s).deal) (sym book) ended)

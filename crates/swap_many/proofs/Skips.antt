@@ -16,18 +16,18 @@ use Rattle.ledger_core.proofs.History.{not-true}
 use Rattle.swap_rules.specs.Rest.{is_ticking}
 use Rattle.swap_rules.proofs.Prefixes.{same_or_not}
 use Rattle.swap_run.specs.Asked.{Answers}
-use Rattle.swap_run.specs.Run.{Cast, Notes, State, conforms, role_of, is_planned, notes_of, after_tick}
+use Rattle.swap_run.specs.Run.{Cast, Notes, State, conforms, party_role, is_planned, state_notes, after_tick}
 use Rattle.swap_run.specs.Called.{turns_on}
 use Rattle.swap_run.specs.Fair.{repeat}
 use Rattle.swap_run.specs.Quiet.{IsIdle}
 use Rattle.swap_run.proofs.Entries.{tick_full, tick_room}
 use Rattle.swap_world.specs.Quiet.{IsRaised, AreRaised, IsStill}
-use Rattle.swap_world.specs.Value.{cast_at}
-use Rattle.swap_many.specs.Chains.{Setup, chain_of, put, has_no_tick}
+use Rattle.swap_world.specs.Value.{world_cast}
+use Rattle.swap_many.specs.Chains.{Setup, arc_chain, put, has_no_tick}
 use Rattle.swap_many.specs.Many.{last_horizon}
 use Rattle.swap_many.specs.Kept.{Kept, Time, later, ticked}
-use Rattle.swap_many.specs.Fair.{tick_of, kept_turns, kept_ticks, kept_round, kept_round_or_rest, have_ended}
-use Rattle.swap_many.specs.Value.{ManyState, world_at, chain_at, setup_of, setup_for, kept_of}
+use Rattle.swap_many.specs.Fair.{entry_tick, kept_turns, kept_ticks, kept_round, kept_round_or_rest, have_ended}
+use Rattle.swap_many.specs.Value.{ManyState, nth_world, nth_chain, world_setup, made_setup, kept_state}
 use Rattle.swap_many.proofs.Projections.{put_same, put_other}
 use Rattle.swap_many.proofs.Tick.{book_tick, ticked_is, book_tick_length, ticks_inside}
 use Rattle.swap_many.proofs.On.{turns_are_on}
@@ -93,7 +93,7 @@ module _ (m : Setup) where
     swaps = λ s. record (z.swaps s) { book = chain_tick z.clocks i s (z.swaps s).book };
   }
 
-  tick_is : (z : Kept) (i : ℕ) → tick_of m z i ≡ after_tick_of z i
+  tick_is : (z : Kept) (i : ℕ) → entry_tick m z i ≡ after_tick_of z i
   tick_is z i = go (full z.clocks i)
     where
       go : (b : Bool)
@@ -110,9 +110,9 @@ module _ (m : Setup) where
         swept = z.swept;
       }
 
-  ticks_are : (is : List ℕ) (z : Kept) → fold (tick_of m) z is ≡ after_ticks z is
+  ticks_are : (is : List ℕ) (z : Kept) → fold (entry_tick m) z is ≡ after_ticks z is
   ticks_are [] z = refl
-  ticks_are (i ∷ is) z = ap (λ (t : Kept). fold (tick_of m) t is) (tick_is z i) ∙ ticks_are is (after_tick_of z i)
+  ticks_are (i ∷ is) z = ap (λ (t : Kept). fold (entry_tick m) t is) (tick_is z i) ∙ ticks_are is (after_tick_of z i)
 
   -- What the turns of each swap of a list do.
 
@@ -159,8 +159,8 @@ module _ (m : Setup) where
   -- nobody of swap s makes a call in its turn
   pub record IsResting (s : ℕ) (x : State) : Type 0 where
     pub noted : length x.notes ≡ (m.cast s).deal.graph.n
-    pub plain : (v : ℕ) → v < (m.cast s).deal.graph.n → conforms (m.cast s) v ≡ false → is_planned (role_of (m.cast s) v) ≡ false
-    pub idle : (v : ℕ) → v < (m.cast s).deal.graph.n → conforms (m.cast s) v ≡ true → IsIdle (m.cast s) x.book v (notes_of x v)
+    pub plain : (v : ℕ) → v < (m.cast s).deal.graph.n → conforms (m.cast s) v ≡ false → is_planned (party_role (m.cast s) v) ≡ false
+    pub idle : (v : ℕ) → v < (m.cast s).deal.graph.n → conforms (m.cast s) v ≡ true → IsIdle (m.cast s) x.book v (state_notes x v)
 
   module _ (z : Kept) where
     abbrev once : Kept
@@ -239,17 +239,17 @@ module _ (m : Setup) where
       -- the ledger of its arc, where that stands on the chain and where it doesn't
       tick_at : (i : ℕ) (b : Histories) → length b ≡ count
           → history (fold (book_tick m i 1 s) b (arcs (m.cast s).deal.graph)) a
-          ≡ cond (chain_of m s a == i) (after_tick 1 (history b a)) (history b a)
+          ≡ cond (arc_chain m s a == i) (after_tick 1 (history b a)) (history b a)
       tick_at i b e = ticks_inside m i 1 s count 0 b a (omega arith) (omega (arith, l)) (omega (arith, e))
 
-      tick_away : (ck : ℕ → Time) (i : ℕ) (b : Histories) → length b ≡ count → chain_of m s a ≢ i → history (chain_tick ck i s b) a ≡ history b a
+      tick_away : (ck : ℕ → Time) (i : ℕ) (b : Histories) → length b ≡ count → arc_chain m s a ≢ i → history (chain_tick ck i s b) a ≡ history b a
       tick_away ck i b e n = go (full ck i)
         where
           go : (y : Bool) → history (cond y b (fold (book_tick m i 1 s) b (arcs (m.cast s).deal.graph))) a ≡ history b a
           go true = refl
           go false =
               tick_at i b e
-              ∙ ap (λ y. cond y (after_tick 1 (history b a)) (history b a)) (not-true (chain_of m s a == i) (λ q. n (eqb-true (chain_of m s a) i q)))
+              ∙ ap (λ y. cond y (after_tick 1 (history b a)) (history b a)) (not-true (arc_chain m s a == i) (λ q. n (eqb-true (arc_chain m s a) i q)))
 
       tick_up : (ck : ℕ → Time) (i : ℕ) (b : Histories) → length b ≡ count → IsRaised 1 (history b a) (history (chain_tick ck i s b) a)
       tick_up ck i b e = go (full ck i)
@@ -260,17 +260,17 @@ module _ (m : Setup) where
 
           go : (y : Bool) → IsRaised 1 (history b a) (history (cond y b (fold (book_tick m i 1 s) b (arcs (m.cast s).deal.graph))) a)
           go true = no_raise 1 (history b a)
-          go false = subst (IsRaised 1 (history b a)) (sym (tick_at i b e)) (by (chain_of m s a == i))
+          go false = subst (IsRaised 1 (history b a)) (sym (tick_at i b e)) (by (arc_chain m s a == i))
 
-      off : (j k : ℕ) (ck : ℕ → Time) (b : Histories) → length b ≡ count → chain_of m s a < k
+      off : (j k : ℕ) (ck : ℕ → Time) (b : Histories) → length b ≡ count → arc_chain m s a < k
           → history (book_ticks ck s (range_with_len k j) b) a ≡ history b a
       off zero k ck b e low = refl
       off (suc j) k ck b e low =
           off j (k + 1) (clock_tick ck k) (chain_tick ck k s b) (tick_many ck k b ∙ e) (omega (arith, low))
-          ∙ tick_away ck k b e (λ q. let p : ◌≡◌ {A = ℕ} (chain_of m s a) k = q in absurd (omega (arith, low, p)))
+          ∙ tick_away ck k b e (λ q. let p : ◌≡◌ {A = ℕ} (arc_chain m s a) k = q in absurd (omega (arith, low, p)))
 
-      up_by : (k : ℕ) (ck : ℕ → Time) (b : Histories) (after : List Entry) → length b ≡ count → (chain_of m s a ≡ k) ⊎ (chain_of m s a ≢ k)
-          → (chain_of m s a ≡ k → after ≡ history (chain_tick ck k s b) a) → IsRaised 1 (history (chain_tick ck k s b) a) after
+      up_by : (k : ℕ) (ck : ℕ → Time) (b : Histories) (after : List Entry) → length b ≡ count → (arc_chain m s a ≡ k) ⊎ (arc_chain m s a ≢ k)
+          → (arc_chain m s a ≡ k → after ≡ history (chain_tick ck k s b) a) → IsRaised 1 (history (chain_tick ck k s b) a) after
           → IsRaised 1 (history b a) after
       up_by k ck b after e (inl q) rest more = subst (IsRaised 1 (history b a)) (sym (rest q)) (tick_up ck k b e)
       up_by k ck b after e (inr n) rest more = subst (λ (h : List Entry). IsRaised 1 h after) (tick_away ck k b e n) more
@@ -279,8 +279,8 @@ module _ (m : Setup) where
       up zero k ck b e = no_raise 1 (history b a)
       up (suc j) k ck b e =
           let longer : length (chain_tick ck k s b) ≡ count = tick_many ck k b ∙ e in
-          up_by k ck b (history (book_ticks (clock_tick ck k) s (range_with_len (k + 1) j) (chain_tick ck k s b)) a) e (same_or_not (chain_of m s a) k)
-          (λ q. off j (k + 1) (clock_tick ck k) (chain_tick ck k s b) longer (let p : ◌≡◌ {A = ℕ} (chain_of m s a) k = q in omega (arith, p)))
+          up_by k ck b (history (book_ticks (clock_tick ck k) s (range_with_len (k + 1) j) (chain_tick ck k s b)) a) e (same_or_not (arc_chain m s a) k)
+          (λ q. off j (k + 1) (clock_tick ck k) (chain_tick ck k s b) longer (let p : ◌≡◌ {A = ℕ} (arc_chain m s a) k = q in omega (arith, p)))
           (up j (k + 1) (clock_tick ck k) (chain_tick ck k s b) longer)
 
     module _ (z : Kept) (whole : length (z.swaps s).book ≡ count) where
@@ -371,17 +371,17 @@ still_less c n k s l r = record { noted = r.noted; plain = r.plain; idle = λ i 
 
 -- Many worlds in which nobody makes a call in n rounds, and a chain stays low.
 pub many_skip : (w : ManyState) (g : ℕ → Answers) (n : ℕ)
-    → ((s : ℕ) → s < length w.worlds → length (world_at w s).state.book ≡ length (world_at w s).deal.graph.arcs)
-    → have_ended (setup_of w) (kept_of w) ≡ false
-    → (0 < n → (q : ℕ) × (q < length w.openings) × ((chain_at w q).clock.height + n ≤ last_horizon (setup_of w)))
-    → (0 < n → (s : ℕ) → s < length w.worlds → IsStill (cast_at (world_at w s)) n (world_at w s).state)
-    → repeat (suc n) (kept_round_or_rest (setup_for w g)) (kept_of w) ≡ kept_round (setup_for w g) (repeat n (kept_ticks (setup_for w g)) (kept_of w))
-many_skip w g zero whole on low still = goes_on (setup_for w g) (kept_of w) on
+    → ((s : ℕ) → s < length w.worlds → length (nth_world w s).state.book ≡ length (nth_world w s).deal.graph.arcs)
+    → have_ended (world_setup w) (kept_state w) ≡ false
+    → (0 < n → (q : ℕ) × (q < length w.openings) × ((nth_chain w q).clock.height + n ≤ last_horizon (world_setup w)))
+    → (0 < n → (s : ℕ) → s < length w.worlds → IsStill (world_cast (nth_world w s)) n (nth_world w s).state)
+    → repeat (suc n) (kept_round_or_rest (made_setup w g)) (kept_state w) ≡ kept_round (made_setup w g) (repeat n (kept_ticks (made_setup w g)) (kept_state w))
+many_skip w g zero whole on low still = goes_on (made_setup w g) (kept_state w) on
 many_skip w g (suc k) whole on low still =
     let n = suc k in
     let more : 0 < n = omega arith in
-    let m = setup_for w g in
-    let z = kept_of w in
+    let m = made_setup w g in
+    let z = kept_state w in
     let a = low more in
     rounds_skip m n z (not_ended m n z a.0 a.1 a.2) (λ i l s ls.
     let r = still more s ls in
@@ -391,6 +391,6 @@ many_skip w g (suc k) whole on low still =
       plain = r.plain;
       idle = λ v lv cv.
           subst (IsIdle (m.cast s) ((repeat i (kept_ticks m) z).swaps s).book v)
-          (sym (ap (λ (ns : List Notes). notes_of (record (z.swaps s) { notes = ns }) v) same))
+          (sym (ap (λ (ns : List Notes). state_notes (record (z.swaps s) { notes = ns }) v) same))
           (r.idle i ((repeat i (kept_ticks m) z).swaps s).book l (books_rise m s z (whole s ls) i) v lv cv);
     })

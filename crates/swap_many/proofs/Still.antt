@@ -13,10 +13,10 @@ use Rattle.swap_job.specs.declared.job.Role.TheVariants.{Conforming, Manual, Scr
 use Rattle.party_wallet.specs.Value.{signed_in}
 use Rattle.swap_rules.specs.Due.{Action, due, first}
 use Rattle.swap_rules.proofs.Prefixes.{same_or_not}
-use Rattle.swap_run.specs.Run.{Cast, Notes, State, conforms, role_of, is_planned, plan_of, plan_up_to, notes_of, known_up_to, signed_after}
-use Rattle.swap_run.specs.Run.{look, watch, next_of, step}
+use Rattle.swap_run.specs.Run.{Cast, Notes, State, conforms, party_role, is_planned, party_plan, plan_up_to, state_notes, known_up_to, signed_after}
+use Rattle.swap_run.specs.Run.{look, watch, next_action, step}
 use Rattle.swap_run.specs.Fair.{repeat, adjacent_arcs, looks, most_acts}
-use Rattle.swap_run.specs.Called.{step_on, turn_on, turns_on}
+use Rattle.swap_run.specs.Called.{apply_step, turn_on, turns_on}
 use Rattle.swap_run.specs.Quiet.{over, looked, IsIdle}
 use Rattle.swap_run.proofs.Repeats.{fold_fixed, repeat_fixed}
 use Rattle.swap_world.specs.Acting.{landed}
@@ -54,13 +54,13 @@ noting s v n = record s { notes = set s.notes v n }
 abbrev nothing_noted : Notes
 nothing_noted = record { known = []; signed = [] }
 
-own_notes : (s : State) (v : ℕ) (n : Notes) → v < length s.notes → notes_of (noting s v n) v ≡ n
+own_notes : (s : State) (v : ℕ) (n : Notes) → v < length s.notes → state_notes (noting s v n) v ≡ n
 own_notes s v n l = get_or-set_same s.notes v n nothing_noted l
 
-others_notes : (s : State) (u v : ℕ) (n : Notes) → v ≢ u → notes_of (noting s u n) v ≡ notes_of s v
+others_notes : (s : State) (u v : ℕ) (n : Notes) → v ≢ u → state_notes (noting s u n) v ≡ state_notes s v
 others_notes s u v n apart = get_or-set_other s.notes u v n nothing_noted apart
 
-same_notes : (s : State) (v : ℕ) → noting s v (notes_of s v) ≡ s
+same_notes : (s : State) (v : ℕ) → noting s v (state_notes s v) ≡ s
 same_notes s v = ap (λ (ns : List Notes). let t : State = record s { notes = ns } in t) (set-get_or s.notes v nothing_noted)
 
 last_notes : (s : State) (v : ℕ) (m n : Notes) → noting (noting s v m) v n ≡ noting s v n
@@ -78,44 +78,45 @@ module _ (sw : ℕ → Bool) (c : Cast) where
   no_act s v (Script moves) e = absurd (cc e)
   no_act s v (Strategy name) e = absurd (cc e)
 
-  no_look : (s : State) (v : ℕ) → conforms c v ≡ false → is_planned (role_of c v) ≡ false → looks c v s ≡ s
+  no_look : (s : State) (v : ℕ) → conforms c v ≡ false → is_planned (party_role c v) ≡ false → looks c v s ≡ s
   unfolding looks
   no_look s v out none = fold_fixed (λ s a. step c s (Look v a)) s (adjacent_arcs c.deal v) (λ a.
       ap (λ b. cond b (look s v a) (watch c s v a)) out
-      ∙ ap (λ b. let t : State = record s { plans = cond b (set s.plans v (plan_up_to (plan_of s v) a (history s.book a))) s.plans } in t) none)
+      ∙ ap (λ b. let t : State = record s { plans = cond b (set s.plans v (plan_up_to (party_plan s v) a (history s.book a))) s.plans } in t) none)
 
-  no_turn : (s : State) (v : ℕ) → conforms c v ≡ false → is_planned (role_of c v) ≡ false → turn_on sw c s v ≡ s
+  no_turn : (s : State) (v : ℕ) → conforms c v ≡ false → is_planned (party_role c v) ≡ false → turn_on sw c s v ≡ s
   no_turn s v out none =
-      ap (λ b. cond b (repeat (most_acts c.deal) (λ s. step_on sw c s (Act v)) (looks c v s)) (step_on sw c (looks c v s) (Act v))) out
-      ∙ (ap (λ t. step_on sw c t (Act v)) (no_look s v out none)
-      ∙ (act_is sw c s v ∙ (ap (λ b. cond b (make_on sw c.deal s v (next_of c s v)) (act_on sw c s v (role_of c v))) out ∙ no_act s v (role_of c v) none)))
+      ap (λ b. cond b (repeat (most_acts c.deal) (λ s. apply_step sw c s (Act v)) (looks c v s)) (apply_step sw c (looks c v s) (Act v))) out
+      ∙ (ap (λ t. apply_step sw c t (Act v)) (no_look s v out none)
+      ∙ (act_is sw c s v ∙ (ap (λ b. cond b (make_on sw c.deal s v (next_action c s v)) (act_on sw c s v (party_role c v))) out
+      ∙ no_act s v (party_role c v) none)))
 
   -- A party that conforms.
   module _ (v : ℕ) (cv : conforms c v ≡ true) where
     abbrev acted : State → State
-    acted s = step_on sw c s (Act v)
+    acted s = apply_step sw c s (Act v)
 
     -- what it notes once it has looked around
     abbrev seen : State → Notes
-    seen s = looked c.deal s.book v (notes_of s v)
+    seen s = looked c.deal s.book v (state_notes s v)
 
-    seen_at : (js : List ℕ) (s : State) → v < length s.notes
-        → fold (λ s a. step c s (Look v a)) s js ≡ noting s v (record (notes_of s v) { known = over s.book js (notes_of s v).known })
-    seen_at [] s l = sym (same_notes s v)
-    seen_at (a ∷ js) s l =
-        let n = known_up_to (notes_of s v) a (history s.book a) in
+    seen_count : (js : List ℕ) (s : State) → v < length s.notes
+        → fold (λ s a. step c s (Look v a)) s js ≡ noting s v (record (state_notes s v) { known = over s.book js (state_notes s v).known })
+    seen_count [] s l = sym (same_notes s v)
+    seen_count (a ∷ js) s l =
+        let n = known_up_to (state_notes s v) a (history s.book a) in
         let lower : v < length (set s.notes v n) = rw (length-set s.notes v n) l in
         ap (λ (t : State). fold (λ s a. step c s (Look v a)) t js) (ap (λ (b : Bool). cond b (look s v a) (watch c s v a)) cv)
-        ∙ (seen_at js (noting s v n) lower
+        ∙ (seen_count js (noting s v n) lower
         ∙ (ap (λ (m : Notes). noting (noting s v n) v (record m { known = over s.book js m.known })) (own_notes s v n l)
         ∙ last_notes s v n (record n { known = over s.book js n.known })))
 
     looks_are : (s : State) → v < length s.notes → looks c v s ≡ noting s v (seen s)
     unfolding looks
-    looks_are s l = seen_at (adjacent_arcs c.deal v) s l
+    looks_are s l = seen_count (adjacent_arcs c.deal v) s l
 
-    acts_are : (s : State) → acted s ≡ make_on sw c.deal s v (next_of c s v)
-    acts_are s = act_is sw c s v ∙ ap (λ b. cond b (make_on sw c.deal s v (next_of c s v)) (act_on sw c s v (role_of c v))) cv
+    acts_are : (s : State) → acted s ≡ make_on sw c.deal s v (next_action c s v)
+    acts_are s = act_is sw c s v ∙ ap (λ b. cond b (make_on sw c.deal s v (next_action c s v)) (act_on sw c s v (party_role c v))) cv
 
     turn_is : (s : State) → turn_on sw c s v ≡ repeat (most_acts c.deal) acted (looks c v s)
     turn_is s = ap (λ (b : Bool). cond b (repeat (most_acts c.deal) acted (looks c v s)) (acted (looks c v s))) cv
@@ -130,14 +131,14 @@ module _ (sw : ℕ → Bool) (c : Cast) where
           ap (λ (m : Notes). let t : State = record s { book = set s.book x.arc h; notes = set (set s.notes u n) v (after m) } in t)
           (others_notes s u v n (λ e. apart (sym e)))
           ∙ ap (λ (ns : List Notes). let t : State = record s { book = set s.book x.arc h; notes = ns } in t)
-          (set_comm s.notes u v n (after (notes_of s v)) apart)
+          (set_comm s.notes u v n (after (state_notes s v)) apart)
 
       act_beside : (s : State) → acted (noting s u n) ≡ noting (acted s) u n
       act_beside s =
-          let call : next_of c (noting s u n) v ≡ next_of c s v
+          let call : next_action c (noting s u n) v ≡ next_action c s v
           = ap (λ (m : Notes). first (due c.deal v (c.wallet v) (signed_in m.signed) m.known)) (others_notes s u v n (λ e. apart (sym e))) in
           acts_are (noting s u n)
-          ∙ (ap (make_on sw c.deal (noting s u n) v) call ∙ (make_beside s (next_of c s v) ∙ ap (λ (t : State). noting t u n) (sym (acts_are s))))
+          ∙ (ap (make_on sw c.deal (noting s u n) v) call ∙ (make_beside s (next_action c s v) ∙ ap (λ (t : State). noting t u n) (sym (acts_are s))))
 
       acts_beside : (k : ℕ) (s : State) → repeat k acted (noting s u n) ≡ noting (repeat k acted s) u n
       acts_beside zero s = refl
@@ -165,7 +166,7 @@ module _ (sw : ℕ → Bool) (c : Cast) where
     acts_many : (k : ℕ) (s : State) → length (repeat k acted s).notes ≡ length s.notes
     acts_many zero s = refl
     acts_many (suc k) s =
-        ap (λ (t : State). length t.notes) (acts_are (repeat k acted s)) ∙ (make_many (repeat k acted s) (next_of c (repeat k acted s) v) ∙ acts_many k s)
+        ap (λ (t : State). length t.notes) (acts_are (repeat k acted s)) ∙ (make_many (repeat k acted s) (next_action c (repeat k acted s) v) ∙ acts_many k s)
 
     turn_many : (s : State) → v < length s.notes → length (turn_on sw c s v).notes ≡ length s.notes
     turn_many s l =
@@ -174,8 +175,8 @@ module _ (sw : ℕ → Bool) (c : Cast) where
 
   -- n is what party u notes in s, but for what stands at the arcs at which it looks
   record IsStale (s : State) (u : ℕ) (n : Notes) : Type 0 where
-    pub signed : n.signed ≡ (notes_of s u).signed
-    pub known : (b : Histories) → over b (adjacent_arcs c.deal u) n.known ≡ over b (adjacent_arcs c.deal u) (notes_of s u).known
+    pub signed : n.signed ≡ (state_notes s u).signed
+    pub known : (b : Histories) → over b (adjacent_arcs c.deal u) n.known ≡ over b (adjacent_arcs c.deal u) (state_notes s u).known
 
   -- its turn forgets that
   turn_forgets : (s : State) (u : ℕ) (n : Notes) → conforms c u ≡ true → u < length s.notes → IsStale s u n → turn_on sw c (noting s u n) u ≡ turn_on sw c s u
@@ -185,11 +186,11 @@ module _ (sw : ℕ → Bool) (c : Cast) where
       = looks_are u cu (noting s u n) lower
       ∙ (ap (λ (m : Notes). noting (noting s u n) u (looked c.deal s.book u m)) (own_notes s u n l)
       ∙ (last_notes s u n (looked c.deal s.book u n)
-      ∙ (ap (λ (m : Notes). noting s u m) (same_when (looked c.deal s.book u n) (looked c.deal s.book u (notes_of s u)) (stale.known s.book) stale.signed)
+      ∙ (ap (λ (m : Notes). noting s u m) (same_when (looked c.deal s.book u n) (looked c.deal s.book u (state_notes s u)) (stale.known s.book) stale.signed)
       ∙ sym (looks_are u cu s l)))) in
-      turn_is u cu (noting s u n) ∙ (ap (repeat (most_acts c.deal) (λ s. step_on sw c s (Act u))) same ∙ sym (turn_is u cu s))
+      turn_is u cu (noting s u n) ∙ (ap (repeat (most_acts c.deal) (λ s. apply_step sw c s (Act u))) same ∙ sym (turn_is u cu s))
 
-  module _ (plain : (v : ℕ) → v < c.deal.graph.n → conforms c v ≡ false → is_planned (role_of c v) ≡ false) where
+  module _ (plain : (v : ℕ) → v < c.deal.graph.n → conforms c v ≡ false → is_planned (party_role c v) ≡ false) where
     beside_by : (b : Bool) (s : State) (u v : ℕ) (n : Notes) → conforms c v ≡ b → v < c.deal.graph.n → u ≢ v → v < length s.notes
         → turn_on sw c (noting s u n) v ≡ noting (turn_on sw c s v) u n
     beside_by true s u v n cv lv apart l = turn_beside v cv u n apart s l
@@ -202,12 +203,12 @@ module _ (sw : ℕ → Bool) (c : Cast) where
     many_by false s v cv lv l = ap (λ (t : State). length t.notes) (no_turn s v cv (plain v lv cv))
 
     -- the turn of v leaves the notes of u
-    left : (s : State) (u v : ℕ) → v < c.deal.graph.n → u ≢ v → u < length s.notes → v < length s.notes → notes_of (turn_on sw c s v) u ≡ notes_of s u
+    left : (s : State) (u v : ℕ) → v < c.deal.graph.n → u ≢ v → u < length s.notes → v < length s.notes → state_notes (turn_on sw c s v) u ≡ state_notes s u
     left s u v lv apart lu l =
-        let n = notes_of s u in
+        let n = state_notes s u in
         let lower : u < length (turn_on sw c s v).notes = rw (many_by (conforms c v) s v refl lv l) lu in
-        ap (λ (t : State). notes_of (turn_on sw c t v) u) (sym (same_notes s u))
-        ∙ (ap (λ (t : State). notes_of t u) (beside_by (conforms c v) s u v n refl lv apart l) ∙ own_notes (turn_on sw c s v) u n lower)
+        ap (λ (t : State). state_notes (turn_on sw c t v) u) (sym (same_notes s u))
+        ∙ (ap (λ (t : State). state_notes t u) (beside_by (conforms c v) s u v n refl lv apart l) ∙ own_notes (turn_on sw c s v) u n lower)
 
     forgets_at : (x u : ℕ) (xs : List ℕ) (s : State) (n : Notes) → (x ≡ u) ⊎ (x ≢ u) → (u ≡ x) ⊎ IsIn u xs → conforms c u ≡ true
         → x < c.deal.graph.n → x < length s.notes → u < length s.notes → IsStale s u n
@@ -219,7 +220,7 @@ module _ (sw : ℕ → Bool) (c : Cast) where
     forgets_at x u xs s n (inr apart) (inl e) cu lx l lu stale rest = absurd (apart (sym e))
     forgets_at x u xs s n (inr apart) (inr i) cu lx l lu stale rest =
         let other : u ≢ x = λ e. apart (sym e) in
-        let same : notes_of (turn_on sw c s x) u ≡ notes_of s u = left s u x lx other lu l in
+        let same : state_notes (turn_on sw c s x) u ≡ state_notes s u = left s u x lx other lu l in
         ap (λ (t : State). fold (turn_on sw c) t xs) (beside_by (conforms c x) s u x n refl lx other l)
         ∙ rest i (record {
           signed = stale.signed ∙ ap (λ (m : Notes). m.signed) (sym same);
@@ -238,29 +239,29 @@ module _ (sw : ℕ → Bool) (c : Cast) where
 
     -- nothing is due for any conforming party once it has looked
     abbrev AllIdle : State → Type 0
-    AllIdle s = (v : ℕ) → v < c.deal.graph.n → conforms c v ≡ true → IsIdle c s.book v (notes_of s v)
+    AllIdle s = (v : ℕ) → v < c.deal.graph.n → conforms c v ≡ true → IsIdle c s.book v (state_notes s v)
 
-    quiet_turn : (s : State) (v : ℕ) (cv : conforms c v ≡ true) → v < length s.notes → IsIdle c s.book v (notes_of s v)
-        → turn_on sw c s v ≡ noting s v (looked c.deal s.book v (notes_of s v))
+    quiet_turn : (s : State) (v : ℕ) (cv : conforms c v ≡ true) → v < length s.notes → IsIdle c s.book v (state_notes s v)
+        → turn_on sw c s v ≡ noting s v (looked c.deal s.book v (state_notes s v))
     quiet_turn s v cv l idle =
-        let n = looked c.deal s.book v (notes_of s v) in
+        let n = looked c.deal s.book v (state_notes s v) in
         let t = noting s v n in
-        let none : next_of c t v ≡ None = ap (λ (m : Notes). first (due c.deal v (c.wallet v) (signed_in m.signed) m.known)) (own_notes s v n l) ∙ idle in
+        let none : next_action c t v ≡ None = ap (λ (m : Notes). first (due c.deal v (c.wallet v) (signed_in m.signed) m.known)) (own_notes s v n l) ∙ idle in
         turn_is v cv s
-        ∙ (ap (repeat (most_acts c.deal) (λ s. step_on sw c s (Act v))) (looks_are v cv s l)
-        ∙ repeat_fixed (most_acts c.deal) (λ s. step_on sw c s (Act v)) t (acts_are v cv t ∙ ap (make_on sw c.deal t v) none))
+        ∙ (ap (repeat (most_acts c.deal) (λ s. apply_step sw c s (Act v))) (looks_are v cv s l)
+        ∙ repeat_fixed (most_acts c.deal) (λ s. apply_step sw c s (Act v)) t (acts_are v cv t ∙ ap (make_on sw c.deal t v) none))
 
-    still_idle : (s : State) (u v : ℕ) → (v ≡ u) ⊎ (v ≢ u) → v < length s.notes → IsIdle c s.book v (notes_of s v)
-        → IsIdle c s.book v (notes_of (noting s u (looked c.deal s.book u (notes_of s u))) v)
-    still_idle s u v (inr apart) l idle = subst (IsIdle c s.book v) (sym (others_notes s u v (looked c.deal s.book u (notes_of s u)) apart)) idle
+    still_idle : (s : State) (u v : ℕ) → (v ≡ u) ⊎ (v ≢ u) → v < length s.notes → IsIdle c s.book v (state_notes s v)
+        → IsIdle c s.book v (state_notes (noting s u (looked c.deal s.book u (state_notes s u))) v)
+    still_idle s u v (inr apart) l idle = subst (IsIdle c s.book v) (sym (others_notes s u v (looked c.deal s.book u (state_notes s u)) apart)) idle
     still_idle s u v (inl e) l idle =
-        let n = looked c.deal s.book v (notes_of s v) in
+        let n = looked c.deal s.book v (state_notes s v) in
         let near = adjacent_arcs c.deal v in
-        let k = (notes_of s v).known in
+        let k = (state_notes s v).known in
         let now : IsIdle c s.book v n
-        = ap (λ (h : Histories). first (due c.deal v (c.wallet v) (signed_in (notes_of s v).signed) h)) (overwritten s.book s.book near near k (λ a i. i))
+        = ap (λ (h : Histories). first (due c.deal v (c.wallet v) (signed_in (state_notes s v).signed) h)) (overwritten s.book s.book near near k (λ a i. i))
         ∙ idle in
-        subst (λ z. IsIdle c s.book v (notes_of (noting s z (looked c.deal s.book z (notes_of s z))) v)) e
+        subst (λ z. IsIdle c s.book v (state_notes (noting s z (looked c.deal s.book z (state_notes s z))) v)) e
         (subst (IsIdle c s.book v) (sym (own_notes s v n l)) now)
 
     -- The histories may be changed between such turns and further ones.
@@ -277,13 +278,13 @@ module _ (sw : ℕ → Bool) (c : Cast) where
           ap (λ (t : State). turns_on sw c (booked (fold (turn_on sw c) t xs))) (no_turn s x cx (plain x lx cx)) ∙ rest s many idle
       again_by true x xs s cx lx many idle rest =
           let l : x < length s.notes = rw many lx in
-          let n = looked c.deal s.book x (notes_of s x) in
+          let n = looked c.deal s.book x (state_notes s x) in
           ap (λ (t : State). turns_on sw c (booked (fold (turn_on sw c) t xs))) (quiet_turn s x cx l (idle x lx cx))
           ∙ (rest (noting s x n) (length-set s.notes x n ∙ many) (λ v lv cv. still_idle s x v (same_or_not v x) (rw many lv) (idle v lv cv))
           ∙ forgets x (range_with_len 0 c.deal.graph.n) (booked s) n (in_range x c.deal.graph.n lx) cx lx many
           (λ y i. from_range y c.deal.graph.n i) (record {
             signed = refl;
-            known = λ b. overwritten b s.book (adjacent_arcs c.deal x) (adjacent_arcs c.deal x) (notes_of s x).known (λ a i. i);
+            known = λ b. overwritten b s.book (adjacent_arcs c.deal x) (adjacent_arcs c.deal x) (state_notes s x).known (λ a i. i);
           }))
 
       again : (xs : List ℕ) (s : State) → ((x : ℕ) → IsIn x xs → x < c.deal.graph.n) → length s.notes ≡ c.deal.graph.n → AllIdle s

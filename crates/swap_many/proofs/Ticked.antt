@@ -16,19 +16,19 @@ use Rattle.swap_job.specs.declared.event.Event.TheVariants as events
 use Rattle.swap_run.specs.Asked.{Answers}
 use Rattle.swap_run.specs.Run.{Cast, State, step}
 use Rattle.swap_run.specs.Laws.{IsKept}
-use Rattle.swap_world.specs.Value.{WorldState, cast_at, cast_for}
+use Rattle.swap_world.specs.Value.{WorldState, world_cast, answering_cast}
 use Rattle.swap_world.specs.Gone.{MayGive, HasAsked}
 use Rattle.swap_world.specs.On.{tick_at, ticked_on}
 use Rattle.swap_world.proofs.Gone.{nothing_asked}
 use Rattle.swap_world.proofs.Ways.{range_all}
 use Rattle.swap_many.specs.declared.many_event.ManyEvent.TheVariants.{Tick}
 use Rattle.swap_many.specs.declared.place.Place.{Place}
-use Rattle.swap_many.specs.Accounts.{ChainState, units_in}
+use Rattle.swap_many.specs.Accounts.{ChainState, parse_units}
 use Rattle.swap_many.specs.Chains.{Setup, put, has_no_tick, nowhere, Units, is_done, reply_to_tick_of}
-use Rattle.swap_many.specs.Kept.{Kept, Time, later, tick_on, ticked, kept_done}
+use Rattle.swap_many.specs.Kept.{Kept, Time, later, tick_ledgers, ticked, kept_done}
 use Rattle.swap_many.specs.Laws.{CanTickChain}
 use Rattle.swap_many.specs.Ticking.{nth, IsTicked, AreTicked, AreTickable, some_stopped}
-use Rattle.swap_many.specs.Value.{ManyState, no_world, world_at, chain_at, setup_of, setup_for, kept_of, AreSame, HasManyGone, IsManyStopped}
+use Rattle.swap_many.specs.Value.{ManyState, no_world, nth_world, nth_chain, world_setup, made_setup, kept_state, AreSame, HasManyGone, IsManyStopped}
 use Rattle.swap_many.specs.Inside.{stands, standing, AreWhole}
 use Rattle.swap_many.proofs.Projections.{put_still}
 use Rattle.swap_many.proofs.Each.{none_stopped}
@@ -37,11 +37,11 @@ use Rattle.swap_many.proofs.Turning.{fold_filter}
 use Rattle.swap_many.proofs.Way.{no_step, one_step}
 
 -- the ledgers that are told to tick are those on the chain
-pub ticked_is : (m : Setup) (s i k : ℕ) (w : WorldState) (g : Answers) (ps : List Place) (t : State) → cast_for w g ≡ m.cast s
-    → ps ≡ slice_index_or m.places s [] → length ps ≡ length w.deal.graph.arcs → ticked_on (stands i ps) k (cast_at w) t ≡ ticked m i k s t
+pub ticked_is : (m : Setup) (s i k : ℕ) (w : WorldState) (g : Answers) (ps : List Place) (t : State) → answering_cast w g ≡ m.cast s
+    → ps ≡ slice_index_or m.places s [] → length ps ≡ length w.deal.graph.arcs → ticked_on (stands i ps) k (world_cast w) t ≡ ticked m i k s t
 ticked_is m s i k w g ps t is here many =
-    fold_filter (λ a. (slice_index_or ps a nowhere).chain == i) (tick_at k (cast_at w)) t (range_with_len 0 (length ps))
-    ∙ (ap (λ n. fold (λ t a. cond ((slice_index_or ps a nowhere).chain == i) (step (cast_at w) t (events.Tick a k)) t) t (range_with_len 0 n)) many
+    fold_filter (λ a. (slice_index_or ps a nowhere).chain == i) (tick_at k (world_cast w)) t (range_with_len 0 (length ps))
+    ∙ (ap (λ n. fold (λ t a. cond ((slice_index_or ps a nowhere).chain == i) (step (world_cast w) t (events.Tick a k)) t) t (range_with_len 0 n)) many
     ∙ ap₂ (λ (c : Cast) (ps : List Place).
     fold (λ t a. cond ((slice_index_or ps a nowhere).chain == i) (step c t (events.Tick a k)) t) t (arcs c.deal.graph)) is here)
 
@@ -124,8 +124,8 @@ pub record HasTicked (gives : MayGive) (w : ManyState) (i k : ℕ) (x : ChainSta
   pub all_whole : AreWhole (record w { worlds = ws; chains = slice_set w.chains i x; stopped = b })
 
 module _ (gives : MayGive) (w : ManyState) (i k : ℕ) (x : ChainState) (ws : List WorldState) (b : Bool) (low : i < length w.chains) (whole : AreWhole w)
-    (room : has_no_tick (chain_at w i).clock.ticks (chain_at w i).clock.height k ≡ false)
-    (clock : x ≡ record (chain_at w i) { clock = later (chain_at w i).clock k })
+    (room : has_no_tick (nth_chain w i).clock.ticks (nth_chain w i).clock.height k ≡ false)
+    (clock : x ≡ record (nth_chain w i) { clock = later (nth_chain w i).clock k })
     (all : AreTicked (map (stands i) w.places) k (length w.worlds) w.worlds ws) where
   abbrev with_ticks : ManyState
   with_ticks = record w { worlds = ws; chains = slice_set w.chains i x; stopped = b }
@@ -134,90 +134,91 @@ module _ (gives : MayGive) (w : ManyState) (i k : ℕ) (x : ChainState) (ws : Li
   on_at s l = map_at (stands i) w.places s [] [] (subst (λ n. s < n) (sym whole.places) l)
 
   each : (P : ℕ → WorldState → Type 0)
-      → ((s : ℕ) → s < length w.worlds → IsTicked (stands i (slice_index_or w.places s [])) k (world_at w s) (nth ws s) → P s (nth ws s))
-      → ((s : ℕ) → length w.worlds ≤ s → P s (world_at w s)) → (s : ℕ) → P s (nth ws s)
+      → ((s : ℕ) → s < length w.worlds → IsTicked (stands i (slice_index_or w.places s [])) k (nth_world w s) (nth ws s) → P s (nth ws s))
+      → ((s : ℕ) → length w.worlds ≤ s → P s (nth_world w s)) → (s : ℕ) → P s (nth ws s)
   each P at other s = go (below_or s (length w.worlds))
     where
       go : (s < length w.worlds) ⊎ (length w.worlds ≤ s) → P s (nth ws s)
-      go (inl l) = at s l (subst (λ on. IsTicked on k (world_at w s) (nth ws s)) (on_at s l) (all.ticked s l l))
+      go (inl l) = at s l (subst (λ on. IsTicked on k (nth_world w s) (nth ws s)) (on_at s l) (all.ticked s l l))
       go (inr l) = subst (P s) (sym (all.others s l)) (other s l)
 
   pub ticks_same : AreSame gives w with_ticks
   ticks_same = record {
     swaps = all.one_each;
-    casts = each (λ s y. cast_at y ≡ cast_at (world_at w s)) (λ s l t. ap cast_at t.same) (λ s l. refl);
-    asked = each (λ s y. HasAsked gives (world_at w s) y)
-        (λ s l t. nothing_asked gives (world_at w s) (nth ws s)
+    casts = each (λ s y. world_cast y ≡ world_cast (nth_world w s)) (λ s l t. ap world_cast t.same) (λ s l. refl);
+    asked = each (λ s y. HasAsked gives (nth_world w s) y)
+        (λ s l t. nothing_asked gives (nth_world w s) (nth ws s)
         (ap (λ (y : State). y.asked) t.state
-        ∙ asked_ticked k (cast_at (world_at w s)) (world_at w s).state (stands i (slice_index_or w.places s [])))
+        ∙ asked_ticked k (world_cast (nth_world w s)) (nth_world w s).state (stands i (slice_index_or w.places s [])))
         (ap (λ (y : WorldState). y.answers) t.same))
-        (λ s l. nothing_asked gives (world_at w s) (world_at w s) refl refl);
+        (λ s l. nothing_asked gives (nth_world w s) (nth_world w s) refl refl);
     places = refl;
     openings = refl;
   }
 
-  rests : (g : ℕ → Answers) (s : ℕ) → length w.worlds ≤ s → (world_at w s).state ≡ ticked (setup_for w g) i k s (world_at w s).state
+  rests : (g : ℕ → Answers) (s : ℕ) → length w.worlds ≤ s → (nth_world w s).state ≡ ticked (made_setup w g) i k s (nth_world w s).state
   rests g s l =
-      sym (ap (λ (y : WorldState). fold (tick_on (setup_for w g) i k s) (world_at w s).state (arcs y.deal.graph)) (past_end w.worlds s no_world l))
+      sym (ap (λ (y : WorldState). fold (tick_ledgers (made_setup w g) i k s) (nth_world w s).state (arcs y.deal.graph)) (past_end w.worlds s no_world l))
 
-  pub ticks_kept : (g : ℕ → Answers) → kept_of with_ticks ≡ kept_done false (setup_for w g) (kept_of w) (Tick i k)
+  pub ticks_kept : (g : ℕ → Answers) → kept_state with_ticks ≡ kept_done false (made_setup w g) (kept_state w) (Tick i k)
   ticks_kept g =
       (λ j. record {
         swaps = λ s. swaps s j;
         clocks = clocks j;
         free = frees j;
-        swept = (kept_of w).swept;
+        swept = (kept_state w).swept;
       })
-      ∙ sym (ap (λ b. cond b (kept_of w) (record (kept_of w) {
-        clocks = put (kept_of w).clocks i (later (chain_at w i).clock k);
-        swaps = λ s. ticked (setup_for w g) i k s (world_at w s).state;
+      ∙ sym (ap (λ b. cond b (kept_state w) (record (kept_state w) {
+        clocks = put (kept_state w).clocks i (later (nth_chain w i).clock k);
+        swaps = λ s. ticked (made_setup w g) i k s (nth_world w s).state;
       })) room)
     where
-      swaps : (s : ℕ) → (nth ws s).state ≡ ticked (setup_for w g) i k s (world_at w s).state
-      swaps = each (λ s y. y.state ≡ ticked (setup_for w g) i k s (world_at w s).state)
-          (λ s l t. t.state ∙ ticked_is (setup_for w g) s i k (world_at w s) (g s) (slice_index_or w.places s []) (world_at w s).state refl refl
+      swaps : (s : ℕ) → (nth ws s).state ≡ ticked (made_setup w g) i k s (nth_world w s).state
+      swaps = each (λ s y. y.state ≡ ticked (made_setup w g) i k s (nth_world w s).state)
+          (λ s l t. t.state ∙ ticked_is (made_setup w g) s i k (nth_world w s) (g s) (slice_index_or w.places s []) (nth_world w s).state refl refl
           (whole.arcs s l))
           (rests g)
 
-      clocks : (λ j. (chain_at (with_chain w i x low) j).clock) ≡ put (kept_of w).clocks i (later (chain_at w i).clock k)
+      clocks : (λ j. (nth_chain (with_chain w i x low) j).clock) ≡ put (kept_state w).clocks i (later (nth_chain w i).clock k)
       clocks =
-          ap (λ (f : ℕ → ChainState). let h : ℕ → Time = λ j. (f j).clock in h) (chains_put w i x low) ∙ (put_map (λ (y : ChainState). y.clock) (chain_at w) i x
-          ∙ ap (λ (y : ChainState). put (kept_of w).clocks i y.clock) clock)
+          ap (λ (f : ℕ → ChainState). let h : ℕ → Time = λ j. (f j).clock in h) (chains_put w i x low)
+          ∙ (put_map (λ (y : ChainState). y.clock) (nth_chain w) i x
+          ∙ ap (λ (y : ChainState). put (kept_state w).clocks i y.clock) clock)
 
-      frees : (λ j. units_in (chain_at (with_chain w i x low) j).free) ≡ (kept_of w).free
+      frees : (λ j. parse_units (nth_chain (with_chain w i x low) j).free) ≡ (kept_state w).free
       frees =
-          ap (λ (f : ℕ → ChainState). let h : ℕ → Units = λ j. units_in (f j).free in h) (chains_put w i x low)
-          ∙ (put_map (λ (y : ChainState). units_in y.free) (chain_at w) i x
-          ∙ put_still (kept_of w).free i (units_in x.free) (ap (λ (y : ChainState). units_in y.free) clock))
+          ap (λ (f : ℕ → ChainState). let h : ℕ → Units = λ j. parse_units (f j).free in h) (chains_put w i x low)
+          ∙ (put_map (λ (y : ChainState). parse_units y.free) (nth_chain w) i x
+          ∙ put_still (kept_state w).free i (parse_units x.free) (ap (λ (y : ChainState). parse_units y.free) clock))
 
   ticks_gone : b ≡ w.stopped → HasManyGone gives (λ m z. kept_done false m z (Tick i k)) w with_ticks
   ticks_gone on = record { same = ticks_same; goes_on = on; kept = λ g c. ticks_kept g }
 
-  ticks_stop : b ≡ true → CanTickChain (setup_of w) i k → IsManyStopped gives (λ m z. kept_done false m z (Tick i k)) w with_ticks
+  ticks_stop : b ≡ true → CanTickChain (world_setup w) i k → IsManyStopped gives (λ m z. kept_done false m z (Tick i k)) w with_ticks
   ticks_stop on can = record {
     stopped = on;
     same = ticks_same;
-    way = λ g c. let m = setup_for w g in
+    way = λ g c. let m = made_setup w g in
         record {
-          there = kept_done false m (kept_of w) (Tick i k);
-          before = one_step m (whole.ready g) (kept_of w) (record { fair = false; event = Tick i k }) (can_for w g (Tick i k) can);
-          after = no_step m (whole.ready g) (kept_done false m (kept_of w) (Tick i k));
+          there = kept_done false m (kept_state w) (Tick i k);
+          before = one_step m (whole.ready g) (kept_state w) (record { fair = false; event = Tick i k }) (can_for w g (Tick i k) can);
+          after = no_step m (whole.ready g) (kept_done false m (kept_state w) (Tick i k));
           books = λ s l. ap (λ (z : Kept). (z.swaps s).book) (ticks_kept g);
           clocks = λ j. ap (λ (z : Kept). z.clocks j) (ticks_kept g);
           free = λ j. ap (λ (z : Kept). z.free j) (ticks_kept g);
         };
   }
 
-  ticks_whole : w.stopped ≡ false → b ≡ some_stopped ws → CanTickChain (setup_of w) i k → AreWhole with_ticks
+  ticks_whole : w.stopped ≡ false → b ≡ some_stopped ws → CanTickChain (world_setup w) i k → AreWhole with_ticks
   ticks_whole on is can =
       whole_next gives w with_ticks whole ticks_same (length-set w.chains i x)
-      (each_chain w i x low (λ j y. length y.free ≡ length (chain_at w j).free) (ap (λ (y : ChainState). length y.free) clock) (λ j. refl))
+      (each_chain w i x low (λ j y. length y.free ≡ length (nth_chain w j).free) (ap (λ (y : ChainState). length y.free) clock) (λ j. refl))
       refl (λ s. refl) (λ q s l. none_stopped (λ (y : WorldState). y.stopped) ws s no_world (sym is ∙ q) l)
       (λ q. sound_step gives w with_ticks false (Tick i k) whole on (λ g. can_for w g (Tick i k) can) (ticks_gone (q ∙ sym on)))
-      (each (λ s y. s < length ws → IsKept (cast_at y) y.state.book) (λ s l t k. t.kept) (λ s l k. absurd (past s l k)))
+      (each (λ s y. s < length ws → IsKept (world_cast y) y.state.book) (λ s l t k. t.kept) (λ s l k. absurd (past s l k)))
     where
       past : (s : ℕ) → length w.worlds ≤ s → s < length ws → ⊥
       past s l k = let e = all.one_each in absurd (omega (arith, l, k, e))
 
-  pub has_ticked : w.stopped ≡ false → b ≡ some_stopped ws → CanTickChain (setup_of w) i k → HasTicked gives w i k x ws b
+  pub has_ticked : w.stopped ≡ false → b ≡ some_stopped ws → CanTickChain (world_setup w) i k → HasTicked gives w i k x ws b
   has_ticked on is can = record { gone = λ q. ticks_gone (q ∙ sym on); stops = λ q. ticks_stop q can; all_whole = ticks_whole on is can }

@@ -17,23 +17,23 @@ use Rattle.swap_job.specs.Step.{CanLook}
 use Rattle.swap_job.specs.declared.event.Event.TheVariants.{Look, Act}
 use Rattle.swap_run.specs.Asked.{Answers}
 use Rattle.swap_run.specs.Fair.{repeat, adjacent_arcs, most_acts}
-use Rattle.swap_run.specs.Run.{Cast, State, conforms, role_of, next_of}
-use Rattle.swap_run.specs.Called.{called, by_due, called_as, turned_as, landed_on, step_on}
+use Rattle.swap_run.specs.Run.{Cast, State, conforms, party_role, next_action}
+use Rattle.swap_run.specs.Called.{called, by_due, called_as, turned_as, landed_on, apply_step}
 use Rattle.swap_run.proofs.Calls.{calls_split}
-use Rattle.swap_world.specs.Value.{cast_at, cast_for, answers_of}
+use Rattle.swap_world.specs.Value.{world_cast, answering_cast, world_answers}
 use Rattle.swap_world.specs.Gone.{MayGive}
 use Rattle.swap_world.proofs.Finishes.{can_look}
 use Rattle.swap_world.specs.On.{swept_in}
 use Rattle.swap_many.specs.declared.many_event.ManyEvent.TheVariants.{Tick, In, Sweep}
 use Rattle.swap_many.specs.declared.many_reply.ManyReply.{ManyReply}
-use Rattle.swap_many.specs.Chains.{Setup, Slot, slots, slots_of, put}
+use Rattle.swap_many.specs.Chains.{Setup, Slot, slots, chain_slots, put}
 use Rattle.swap_many.specs.Many.{last_horizon}
 use Rattle.swap_many.specs.Kept.{Kept, kept_done, kept_reply, answer_in}
 use Rattle.swap_many.specs.Laws.{CanHappen}
 use Rattle.swap_many.specs.Way.{Leads}
-use Rattle.swap_many.specs.Fair.{look_of, kept_looks, kept_act, kept_acts, kept_turn, kept_turns, tick_of, kept_ticks, kept_round}
+use Rattle.swap_many.specs.Fair.{look_of, kept_looks, kept_act, kept_acts, kept_turn, kept_turns, entry_tick, kept_ticks, kept_round}
 use Rattle.swap_many.specs.Fair.{kept_round_or_rest, kept_rounds, sweeps_of, kept_sweeps, have_ended}
-use Rattle.swap_many.specs.Value.{ManyState, IsPartyOf, AreReady, world_at, swept_at, setup_of, setup_for, kept_of, ContinueAll, HasManyGone}
+use Rattle.swap_many.specs.Value.{ManyState, IsPartyOf, AreReady, nth_world, swept_at, world_setup, made_setup, kept_state, ContinueAll, HasManyGone}
 use Rattle.swap_many.specs.Value.{IsManyStopped}
 use Rattle.swap_many.proofs.Projections.{put_still}
 use Rattle.swap_many.proofs.Values.{same_setup}
@@ -73,106 +73,108 @@ near_look : (d : Deal) (p : ℕ) (near : List ℕ) → p < d.graph.n → near �
 near_look d p near l e = All-same (CanLook d p) near (adjacent_arcs d p) e (can_look d p l)
 
 -- a look at an arc of the list of those that touch the party
-pub may_look : (w : ManyState) (s p k a : ℕ) (near : List ℕ) → IsPartyOf w s p → near ≡ adjacent_arcs (world_at w s).deal p → k < length near
-    → a ≡ get_or near k a → CanHappen (setup_of w) s (Look p a)
+pub may_look : (w : ManyState) (s p k a : ℕ) (near : List ℕ) → IsPartyOf w s p → near ≡ adjacent_arcs (nth_world w s).deal p → k < length near
+    → a ≡ get_or near k a → CanHappen (world_setup w) s (Look p a)
 may_look w s p k a near party e l is = record {
   swap = party.swap;
   no_tick = refl;
   can =
-      subst (CanLook (world_at w s).deal p) (sym is)
-      (All-get_or (CanLook (world_at w s).deal p) near k a l (near_look (world_at w s).deal p near party.party e));
+      subst (CanLook (nth_world w s).deal p) (sym is)
+      (All-get_or (CanLook (nth_world w s).deal p) near k a l (near_look (nth_world w s).deal p near party.party e));
 }
 
 -- Steps lead on.
 
 module _ (w : ManyState) (ready : AreReady w) where
-  pub look_leads : (s p : ℕ) (near : List ℕ) → IsPartyOf w s p → near ≡ adjacent_arcs (world_at w s).deal p → AllLead w (look_of s p) near
+  pub look_leads : (s p : ℕ) (near : List ℕ) → IsPartyOf w s p → near ≡ adjacent_arcs (nth_world w s).deal p → AllLead w (look_of s p) near
   look_leads s p near k e =
-      All-weaker (CanLook (world_at w s).deal p) (λ a. LeadOn w (λ m z. look_of s p m z a)) (λ a can g z.
-      one_step (setup_for w g) (ready g) z (record { fair = false; event = In s (Look p a) }) (record { swap = k.swap; no_tick = refl; can = can })) near
-      (near_look (world_at w s).deal p near k.party e)
+      All-weaker (CanLook (nth_world w s).deal p) (λ a. LeadOn w (λ m z. look_of s p m z a)) (λ a can g z.
+      one_step (made_setup w g) (ready g) z (record { fair = false; event = In s (Look p a) }) (record { swap = k.swap; no_tick = refl; can = can })) near
+      (near_look (nth_world w s).deal p near k.party e)
 
   pub act_leads : (s p : ℕ) → IsPartyOf w s p → LeadOn w (kept_act s p)
-  act_leads s p k g z = act_steps (setup_for w g) (ready g) s p z k.swap k.party
+  act_leads s p k g z = act_steps (made_setup w g) (ready g) s p z k.swap k.party
 
   pub acts_lead : (s p : ℕ) → IsPartyOf w s p → LeadOn w (kept_acts s p)
   acts_lead s p k g z =
-      repeat_steps (setup_for w g) (ready g) (most_acts (world_at w s).deal) (kept_act s p (setup_for w g)) z (λ z. act_leads s p k g z)
+      repeat_steps (made_setup w g) (ready g) (most_acts (nth_world w s).deal) (kept_act s p (made_setup w g)) z (λ z. act_leads s p k g z)
 
   pub looks_lead : (s p : ℕ) → IsPartyOf w s p → LeadOn w (kept_looks s p)
-  looks_lead s p k g z = looks_steps (setup_for w g) (ready g) s p z k.swap k.party
+  looks_lead s p k g z = looks_steps (made_setup w g) (ready g) s p z k.swap k.party
 
   pub turn_leads : (s p : ℕ) → IsPartyOf w s p → LeadOn w (λ m z. kept_turn s m z p)
-  turn_leads s p k g z = turn_steps (setup_for w g) (ready g) s p z k.swap k.party
+  turn_leads s p k g z = turn_steps (made_setup w g) (ready g) s p z k.swap k.party
 
   pub turns_lead : (s : ℕ) → s < length w.worlds → LeadOn w (λ m z. kept_turns m z s)
   turns_lead s l g z =
-      fold_steps (setup_for w g) (ready g) (kept_turn s (setup_for w g)) (range_with_len 0 (world_at w s).deal.graph.n) z
-      (λ z v j. turn_leads s v (record { swap = l; party = from_range v (world_at w s).deal.graph.n j }) g z)
+      fold_steps (made_setup w g) (ready g) (kept_turn s (made_setup w g)) (range_with_len 0 (nth_world w s).deal.graph.n) z
+      (λ z v j. turn_leads s v (record { swap = l; party = from_range v (nth_world w s).deal.graph.n j }) g z)
 
   pub all_turns_lead : LeadOn w (λ m z. fold (kept_turns m) z (range_with_len 0 m.swaps))
   all_turns_lead g z =
-      fold_steps (setup_for w g) (ready g) (kept_turns (setup_for w g)) (range_with_len 0 (length w.worlds)) z
+      fold_steps (made_setup w g) (ready g) (kept_turns (made_setup w g)) (range_with_len 0 (length w.worlds)) z
       (λ z s j. turns_lead s (from_range s (length w.worlds) j) g z)
 
-  pub tick_leads : (i : ℕ) → i < length w.openings → LeadOn w (λ m z. tick_of m z i)
+  pub tick_leads : (i : ℕ) → i < length w.openings → LeadOn w (λ m z. entry_tick m z i)
   tick_leads i l g z =
-      one_step (setup_for w g) (ready g) z (record { fair = false; event = Tick i 1 }) (record { chain = l; some = omega arith; few = omega arith })
+      one_step (made_setup w g) (ready g) z (record { fair = false; event = Tick i 1 }) (record { chain = l; some = omega arith; few = omega arith })
 
   pub ticks_lead : LeadOn w kept_ticks
   ticks_lead g z =
-      fold_steps (setup_for w g) (ready g) (tick_of (setup_for w g)) (range_with_len 0 (length w.openings)) z
+      fold_steps (made_setup w g) (ready g) (entry_tick (made_setup w g)) (range_with_len 0 (length w.openings)) z
       (λ z i j. tick_leads i (from_range i (length w.openings) j) g z)
 
   pub unless_leads : LeadOn w kept_round_or_rest
-  unless_leads g z = unless_steps (setup_for w g) (ready g) z
+  unless_leads g z = unless_steps (made_setup w g) (ready g) z
 
 none_of : {A B : Type 0} (f : A → B) (o : Option A) → None ≡ option_map f o → o ≡ None
 none_of f None e = refl
 none_of f (Some x) e = absurd (cc e)
 
-module _ (w : ManyState) (s p : ℕ) (c : conforms (cast_at (world_at w s)) p ≡ true) where
-  due_is : (g : Answers) → called (cast_for (world_at w s) g) (world_at w s).state (Act p) ≡ by_due p (next_of (cast_at (world_at w s)) (world_at w s).state p)
+module _ (w : ManyState) (s p : ℕ) (c : conforms (world_cast (nth_world w s)) p ≡ true) where
+  due_is : (g : Answers) → called (answering_cast (nth_world w s) g) (nth_world w s).state (Act p)
+      ≡ by_due p (next_action (world_cast (nth_world w s)) (nth_world w s).state p)
   due_is g =
-      ap (λ b. cond b (by_due p (next_of (cast_at (world_at w s)) (world_at w s).state p))
-      (called_as (cast_for (world_at w s) g) (world_at w s).state p (role_of (cast_at (world_at w s)) p))) c
+      ap (λ b. cond b (by_due p (next_action (world_cast (nth_world w s)) (nth_world w s).state p))
+      (called_as (answering_cast (nth_world w s) g) (nth_world w s).state p (party_role (world_cast (nth_world w s)) p))) c
 
   -- where it calls nothing its act changes nothing
-  pub idle : (h g : ℕ → Answers) → None ≡ kept_reply false (setup_for w h) (kept_of w) (In s (Act p)) → kept_act s p (setup_for w g) (kept_of w) ≡ kept_of w
+  pub idle : (h g : ℕ → Answers) → None ≡ kept_reply false (made_setup w h) (kept_state w) (In s (Act p))
+      → kept_act s p (made_setup w g) (kept_state w) ≡ kept_state w
   idle h g e =
-      let x = cast_for (world_at w s) (g s) in
-      let t = (world_at w s).state in
+      let x = answering_cast (nth_world w s) (g s) in
+      let t = (nth_world w s).state in
       let sw = swept_in (swept_at w s) in
       let none : called x t (Act p) ≡ None =
-      due_is (g s) ∙ (sym (due_is (h s)) ∙ none_of (answer_in (setup_for w h) (kept_of w) s) (called (cast_for (world_at w s) (h s)) t (Act p)) e) in
-      let rests : step_on sw x t (Act p) ≡ t =
+      due_is (g s) ∙ (sym (due_is (h s)) ∙ none_of (answer_in (made_setup w h) (kept_state w) s) (called (answering_cast (nth_world w s) (h s)) t (Act p)) e) in
+      let rests : apply_step sw x t (Act p) ≡ t =
       ap (landed_on sw x t (Act p)) none
-      ∙ ((calls_split x t (Act p) refl).alone none ∙ ap (λ b. cond b t (turned_as x t p (role_of x p))) c) in
-      ap (λ (y : State). let z : Kept = record (kept_of w) { swaps = put (kept_of w).swaps s y } in z) rests
-      ∙ ap (λ (f : ℕ → State). let z : Kept = record (kept_of w) { swaps = f } in z) (put_still (kept_of w).swaps s t refl)
+      ∙ ((calls_split x t (Act p) refl).alone none ∙ ap (λ b. cond b t (turned_as x t p (party_role x p))) c) in
+      ap (λ (y : State). let z : Kept = record (kept_state w) { swaps = put (kept_state w).swaps s y } in z) rests
+      ∙ ap (λ (f : ℕ → State). let z : Kept = record (kept_state w) { swaps = f } in z) (put_still (kept_state w).swaps s t refl)
 
 none_if : {A : Type 0} (o : Option A) → is_some o ≡ false → o ≡ None
 none_if None e = refl
 none_if (Some x) e = absurd (cc e)
 
 -- once an act made no call, more acts change nothing
-pub acts_done : (gives : MayGive) (old mid new : ManyState) (s p n k : ℕ) (o : Option ManyReply) → k < n → conforms (cast_at (world_at mid s)) p ≡ true
+pub acts_done : (gives : MayGive) (old mid new : ManyState) (s p n k : ℕ) (o : Option ManyReply) → k < n → conforms (world_cast (nth_world mid s)) p ≡ true
     → is_some o ≡ false
-    → ((g : ℕ → Answers) → ContinueAll new g → o ≡ kept_reply false (setup_for mid g) (kept_of mid) (In s (Act p)))
+    → ((g : ℕ → Answers) → ContinueAll new g → o ≡ kept_reply false (made_setup mid g) (kept_state mid) (In s (Act p)))
     → HasManyGone gives (λ m z. repeat k (kept_act s p m) z) old mid → HasManyGone gives (λ m z. kept_done false m z (In s (Act p))) mid new
     → HasManyGone gives (λ m z. repeat n (kept_act s p m) z) old new
 acts_done gives old mid new s p n k o l c none reply so_far act =
     repeat_rests gives (kept_act s p) old new new n (k + 1) (repeat_on gives (kept_act s p) old mid new n k so_far act) (omega (arith, l)) (λ g.
-    ap (λ z. kept_act s p (setup_for new g) z) same ∙ (ap (λ m. kept_act s p m (kept_of mid)) (same_setup gives mid new g act.same)
-    ∙ (idle mid s p c (λ t. answers_of (world_at new t)) g nothing ∙ sym same)))
+    ap (λ z. kept_act s p (made_setup new g) z) same ∙ (ap (λ m. kept_act s p m (kept_state mid)) (same_setup gives mid new g act.same)
+    ∙ (idle mid s p c (λ t. world_answers (nth_world new t)) g nothing ∙ sym same)))
   where
-    nothing : None ≡ kept_reply false (setup_for mid (λ t. answers_of (world_at new t))) (kept_of mid) (In s (Act p))
-    nothing = sym (none_if o none) ∙ reply (λ t. answers_of (world_at new t)) (λ t l i lt. refl)
+    nothing : None ≡ kept_reply false (made_setup mid (λ t. world_answers (nth_world new t))) (kept_state mid) (In s (Act p))
+    nothing = sym (none_if o none) ∙ reply (λ t. world_answers (nth_world new t)) (λ t l i lt. refl)
 
-    same : kept_of new ≡ kept_of mid
+    same : kept_state new ≡ kept_state mid
     same =
-        act.kept (λ t. answers_of (world_at new t)) (λ t l i lt. refl)
-        ∙ idle mid s p c (λ t. answers_of (world_at new t)) (λ t. answers_of (world_at new t)) nothing
+        act.kept (λ t. world_answers (nth_world new t)) (λ t l i lt. refl)
+        ∙ idle mid s p c (λ t. world_answers (nth_world new t)) (λ t. world_answers (nth_world new t)) nothing
 
 -- Turns.
 
@@ -182,9 +184,9 @@ rest_of s p m z = cond (conforms (m.cast s) p) (kept_acts s p m z) (kept_act s p
 
 module _ (gives : MayGive) (w mid new : ManyState) (s p : ℕ) (ready : AreReady w) (k : IsPartyOf w s p) where
   rest_leads : LeadOn w (rest_of s p)
-  rest_leads g z = go (conforms (cast_at (world_at w s)) p)
+  rest_leads g z = go (conforms (world_cast (nth_world w s)) p)
     where
-      go : (b : Bool) → Leads (setup_for w g) z (cond b (kept_acts s p (setup_for w g) z) (kept_act s p (setup_for w g) z))
+      go : (b : Bool) → Leads (made_setup w g) z (cond b (kept_acts s p (made_setup w g) z) (kept_act s p (made_setup w g) z))
       go true = acts_lead w ready s p k g z
       go false = act_leads w ready s p k g z
 
@@ -192,68 +194,69 @@ module _ (gives : MayGive) (w mid new : ManyState) (s p : ℕ) (ready : AreReady
   turn_cut h = stopped_then gives (kept_looks s p) (rest_of s p) w mid ready rest_leads h
 
   module _ (looked : HasManyGone gives (kept_looks s p) w mid) where
-    same_conforms : conforms (cast_at (world_at w s)) p ≡ conforms (cast_at (world_at mid s)) p
+    same_conforms : conforms (world_cast (nth_world w s)) p ≡ conforms (world_cast (nth_world mid s)) p
     same_conforms = ap (λ (c : Cast). conforms c p) (sym (looked.same.casts s))
 
-    rest_is : (b : Bool) → conforms (cast_at (world_at mid s)) p ≡ b → (g : ℕ → Answers)
-        → cond b (kept_acts s p (setup_for w g) (kept_looks s p (setup_for w g) (kept_of w)))
-        (kept_act s p (setup_for w g) (kept_looks s p (setup_for w g) (kept_of w)))
-        ≡ kept_turn s (setup_for w g) (kept_of w) p
+    rest_is : (b : Bool) → conforms (world_cast (nth_world mid s)) p ≡ b → (g : ℕ → Answers)
+        → cond b (kept_acts s p (made_setup w g) (kept_looks s p (made_setup w g) (kept_state w)))
+        (kept_act s p (made_setup w g) (kept_looks s p (made_setup w g) (kept_state w)))
+        ≡ kept_turn s (made_setup w g) (kept_state w) p
     rest_is b e g =
-        sym (ap (λ b. cond b (kept_acts s p (setup_for w g) (kept_looks s p (setup_for w g) (kept_of w)))
-        (kept_act s p (setup_for w g) (kept_looks s p (setup_for w g) (kept_of w)))) (same_conforms ∙ e))
+        sym (ap (λ b. cond b (kept_acts s p (made_setup w g) (kept_looks s p (made_setup w g) (kept_state w)))
+        (kept_act s p (made_setup w g) (kept_looks s p (made_setup w g) (kept_state w)))) (same_conforms ∙ e))
 
-    pub turn_acts : conforms (cast_at (world_at mid s)) p ≡ true → HasManyGone gives (kept_acts s p) mid new
+    pub turn_acts : conforms (world_cast (nth_world mid s)) p ≡ true → HasManyGone gives (kept_acts s p) mid new
         → HasManyGone gives (λ m z. kept_turn s m z p) w new
     turn_acts e h =
         gone_as gives (λ m z. kept_acts s p m (kept_looks s p m z)) (λ m z. kept_turn s m z p) w new (rest_is true e)
         (gone_then gives (kept_looks s p) (kept_acts s p) w mid new looked h)
 
-    pub turn_acts_stop : conforms (cast_at (world_at mid s)) p ≡ true → IsManyStopped gives (kept_acts s p) mid new
+    pub turn_acts_stop : conforms (world_cast (nth_world mid s)) p ≡ true → IsManyStopped gives (kept_acts s p) mid new
         → IsManyStopped gives (λ m z. kept_turn s m z p) w new
     turn_acts_stop e h =
         stopped_as gives (λ m z. kept_acts s p m (kept_looks s p m z)) (λ m z. kept_turn s m z p) w new (rest_is true e)
         (stopped_after gives (kept_looks s p) (kept_acts s p) w mid new ready (looks_lead w ready s p k) looked h)
 
-    pub turn_act : conforms (cast_at (world_at mid s)) p ≡ false → HasManyGone gives (λ m z. kept_done false m z (In s (Act p))) mid new
+    pub turn_act : conforms (world_cast (nth_world mid s)) p ≡ false → HasManyGone gives (λ m z. kept_done false m z (In s (Act p))) mid new
         → HasManyGone gives (λ m z. kept_turn s m z p) w new
     turn_act e h =
         gone_as gives (λ m z. kept_act s p m (kept_looks s p m z)) (λ m z. kept_turn s m z p) w new (rest_is false e)
         (gone_then gives (kept_looks s p) (kept_act s p) w mid new looked h)
 
-    pub turn_act_stop : conforms (cast_at (world_at mid s)) p ≡ false → IsManyStopped gives (λ m z. kept_done false m z (In s (Act p))) mid new
+    pub turn_act_stop : conforms (world_cast (nth_world mid s)) p ≡ false → IsManyStopped gives (λ m z. kept_done false m z (In s (Act p))) mid new
         → IsManyStopped gives (λ m z. kept_turn s m z p) w new
     turn_act_stop e h =
         stopped_as gives (λ m z. kept_act s p m (kept_looks s p m z)) (λ m z. kept_turn s m z p) w new (rest_is false e)
         (stopped_after gives (kept_looks s p) (kept_act s p) w mid new ready (looks_lead w ready s p k) looked h)
 
 pub rounds_lead : (w : ManyState) → AreReady w → LeadOn w kept_rounds
-rounds_lead w ready = leads_repeat w ready kept_round_or_rest (unless_leads w ready) (last_horizon (setup_of w) + 1)
+rounds_lead w ready = leads_repeat w ready kept_round_or_rest (unless_leads w ready) (last_horizon (world_setup w) + 1)
 
 -- Sweeps.
 
 pub sweeps_are : (m : Setup) (z : Kept) → fold (sweeps_of m) z (range_with_len 0 m.swaps) ≡ kept_sweeps m z
 sweeps_are m z =
-    sym (fold_flat (λ z t. kept_done true m z (Sweep t.swap t.arc)) (slots_of m) z (range_with_len 0 m.swaps)
-    ∙ same_fold (λ z s. fold (λ z t. kept_done true m z (Sweep t.swap t.arc)) z (slots_of m s)) (sweeps_of m) z (range_with_len 0 m.swaps)
+    sym (fold_flat (λ z t. kept_done true m z (Sweep t.swap t.arc)) (chain_slots m) z (range_with_len 0 m.swaps)
+    ∙ same_fold (λ z s. fold (λ z t. kept_done true m z (Sweep t.swap t.arc)) z (chain_slots m s)) (sweeps_of m) z (range_with_len 0 m.swaps)
     (λ z s. fold_map (λ z t. kept_done true m z (Sweep t.swap t.arc)) (λ a. (let t : Slot = record { swap = s; arc = a } in t)) z
     (arcs (m.cast s).deal.graph)))
 
 pub sweeps_lead : (w : ManyState) → AreReady w → LeadOn w kept_sweeps
 sweeps_lead w ready g z =
-    fold_steps (setup_for w g) (ready g) (λ z t. kept_done true (setup_for w g) z (Sweep t.swap t.arc)) (slots (setup_for w g)) z (λ z t i.
-    let l = slot_known (setup_for w g) (ready g) t i in
-    one_step (setup_for w g) (ready g) z (record { fair = true; event = Sweep t.swap t.arc }) (record { swap = l.0; arc = l.1 }))
+    fold_steps (made_setup w g) (ready g) (λ z t. kept_done true (made_setup w g) z (Sweep t.swap t.arc)) (slots (made_setup w g)) z (λ z t i.
+    let l = slot_known (made_setup w g) (ready g) t i in
+    one_step (made_setup w g) (ready g) z (record { fair = true; event = Sweep t.swap t.arc }) (record { swap = l.0; arc = l.1 }))
 
 -- Rounds.
 
 -- where every chain is above every horizon, a round is a rest, and else it is a round
-pub rests : (w : ManyState) (g : ℕ → Answers) → have_ended (setup_of w) (kept_of w) ≡ true → kept_round_or_rest (setup_for w g) (kept_of w) ≡ kept_of w
-rests w g e = ap (λ b. cond b (kept_of w) (kept_round (setup_for w g) (kept_of w))) e
+pub rests : (w : ManyState) (g : ℕ → Answers) → have_ended (world_setup w) (kept_state w) ≡ true
+    → kept_round_or_rest (made_setup w g) (kept_state w) ≡ kept_state w
+rests w g e = ap (λ b. cond b (kept_state w) (kept_round (made_setup w g) (kept_state w))) e
 
-pub is_round : (w : ManyState) (g : ℕ → Answers) → have_ended (setup_of w) (kept_of w) ≡ false
-    → kept_round (setup_for w g) (kept_of w) ≡ kept_round_or_rest (setup_for w g) (kept_of w)
-is_round w g e = sym (ap (λ b. cond b (kept_of w) (kept_round (setup_for w g) (kept_of w))) e)
+pub is_round : (w : ManyState) (g : ℕ → Answers) → have_ended (world_setup w) (kept_state w) ≡ false
+    → kept_round (made_setup w g) (kept_state w) ≡ kept_round_or_rest (made_setup w g) (kept_state w)
+is_round w g e = sym (ap (λ b. cond b (kept_state w) (kept_round (made_setup w g) (kept_state w))) e)
 
 -- The greatest horizon, swap by swap.
 

@@ -22,16 +22,16 @@ use Rattle.swap_many.specs.declared.many_event.ManyEvent.TheVariants.{Tick, In, 
 use Rattle.swap_many.specs.declared.many_reply.ManyReply.{ManyReply}
 use Rattle.swap_many.specs.declared.many_reply.ManyReply.TheVariants.{Plain}
 use Rattle.swap_run.specs.Called.{Called, called}
-use Rattle.swap_many.specs.Chains.{Setup, place, chain_of, put, Emptied, Paid, Ticked, ChainEntry, chain_height, chain_ticks, has_no_tick, projection, Chains}
+use Rattle.swap_many.specs.Chains.{Setup, place, arc_chain, put, Emptied, Paid, Ticked, ChainEntry, chain_height, chain_ticks, has_no_tick, projection, Chains}
 use Rattle.swap_many.specs.Chains.{total, pays_for, set_aside, opening, Units, plus, paid, returned, is_done, first_free, free, is_swept}
 use Rattle.swap_many.specs.Chains.{reply_to_call, reply_to_payment, reply_to_sweep, entered, in_accounts, unswept, in_slot, placed}
-use Rattle.swap_many.specs.Many.{Run, swap_in, post_call, posted, done, many_step, many_start, many_run}
+use Rattle.swap_many.specs.Many.{Run, parse_swap, post_call, posted, done, many_step, many_start, many_run}
 use Rattle.swap_many.specs.Kept.{Kept, kept_done, kept_step, kept_start, kept_run}
 use Rattle.swap_many.specs.Laws.{IsReady, CanPay, CanSweep, CanCome, Follows, AreGood, UnitsArePlaced, SweptAcceptNothing}
 use Rattle.swap_many.specs.Sound.{SweptIsOver, worth, Count, IsSound, Keeps}
 use Rattle.swap_many.proofs.Projections.{put_same, put_other, put_each, put_still, free_more, swept_more, shown_at, book_length}
-use Rattle.swap_many.proofs.Tick.{tick_of}
-use Rattle.swap_many.proofs.Landed.{call_of, call_free, call_swept}
+use Rattle.swap_many.proofs.Tick.{entry_tick}
+use Rattle.swap_many.proofs.Landed.{parse_call, call_free, call_swept}
 use Rattle.swap_many.proofs.Follow.{start_follows, step_follows, step_good, tick_swept, or-end, and-end}
 use Rattle.swap_many.proofs.Clocks.{step_timed}
 use Rattle.swap_many.proofs.Sums.{sum_same, sum_zero, sum_plus, sum_swap, sum_put, sum_one}
@@ -78,16 +78,16 @@ total_put m g s a v ls la =
 pub start_count : (m : Setup) (i : ℕ) → IsReady m → Count m i []
 start_count m i ready =
     join (in_accounts m i (first_free m i)) (in_accounts m i (set_aside m i)) (total m (worth m i [])) (in_accounts m i (opening m i))
-    (sym (sum_plus (first_free m i) (set_aside m i) accounts_of)
-    ∙ sum_same (λ x. first_free m i x + set_aside m i x) (opening m i) accounts_of (λ x j. back (opening m i x) (set_aside m i x) (ready.covered i x)))
-    (sum_swap (λ x s. sum_by (pays_for m i x s) (arcs (m.cast s).deal.graph)) accounts_of (range_with_len 0 m.swaps)
-    ∙ (sum_same (λ s. sum_by (λ x. sum_by (pays_for m i x s) (arcs (m.cast s).deal.graph)) accounts_of)
-    (λ s. sum_by (λ a. sum_by (λ x. pays_for m i x s a) accounts_of) (arcs (m.cast s).deal.graph)) (range_with_len 0 m.swaps)
-    (λ s j. sum_swap (λ x a. pays_for m i x s a) accounts_of (arcs (m.cast s).deal.graph))
-    ∙ total_same m (λ s a. sum_by (λ x. pays_for m i x s a) accounts_of) (worth m i []) (λ s a ls la. one s a ls la (same_or_not (chain_of m s a) i))))
+    (sym (sum_plus (first_free m i) (set_aside m i) history_accounts)
+    ∙ sum_same (λ x. first_free m i x + set_aside m i x) (opening m i) history_accounts (λ x j. back (opening m i x) (set_aside m i x) (ready.covered i x)))
+    (sum_swap (λ x s. sum_by (pays_for m i x s) (arcs (m.cast s).deal.graph)) history_accounts (range_with_len 0 m.swaps)
+    ∙ (sum_same (λ s. sum_by (λ x. sum_by (pays_for m i x s) (arcs (m.cast s).deal.graph)) history_accounts)
+    (λ s. sum_by (λ a. sum_by (λ x. pays_for m i x s a) history_accounts) (arcs (m.cast s).deal.graph)) (range_with_len 0 m.swaps)
+    (λ s j. sum_swap (λ x a. pays_for m i x s a) history_accounts (arcs (m.cast s).deal.graph))
+    ∙ total_same m (λ s a. sum_by (λ x. pays_for m i x s a) history_accounts) (worth m i []) (λ s a ls la. one s a ls la (same_or_not (arc_chain m s a) i))))
   where
-    accounts_of : List ℕ
-    accounts_of = range_with_len 0 (length (slice_index_or m.chains i []))
+    history_accounts : List ℕ
+    history_accounts = range_with_len 0 (length (slice_index_or m.chains i []))
 
     back : (o w : ℕ) → w ≤ o → (o - w) + w ≡ o
     back o w l = omega arith
@@ -95,18 +95,18 @@ start_count m i ready =
     join : (x y z w : ℕ) → x + y ≡ w → y ≡ z → x + z ≡ w
     join x y z w e f = omega arith
 
-    one : (s a : ℕ) → s < m.swaps → a < length (m.cast s).deal.graph.arcs → (chain_of m s a ≡ i) ⊎ (chain_of m s a ≢ i)
-        → sum_by (λ x. cond (chain_of m s a == i) (cond (x == (place m s a).from) (amount (m.cast s).deal a) 0) 0) accounts_of
-        ≡ cond (chain_of m s a == i) (amount (m.cast s).deal a) 0
+    one : (s a : ℕ) → s < m.swaps → a < length (m.cast s).deal.graph.arcs → (arc_chain m s a ≡ i) ⊎ (arc_chain m s a ≢ i)
+        → sum_by (λ x. cond (arc_chain m s a == i) (cond (x == (place m s a).from) (amount (m.cast s).deal a) 0) 0) history_accounts
+        ≡ cond (arc_chain m s a == i) (amount (m.cast s).deal a) 0
     one s a ls la (inl e) =
-        ap (λ b. sum_by (λ x. cond b (cond (x == (place m s a).from) (amount (m.cast s).deal a) 0) 0) accounts_of) (eq-eqb (chain_of m s a) i e)
+        ap (λ b. sum_by (λ x. cond b (cond (x == (place m s a).from) (amount (m.cast s).deal a) 0) 0) history_accounts) (eq-eqb (arc_chain m s a) i e)
         ∙ (sum_one (length (slice_index_or m.chains i [])) (place m s a).from (amount (m.cast s).deal a)
         (subst (λ j. (place m s a).from < length (slice_index_or m.chains j [])) e (ready.from s a ls la))
-        ∙ sym (ap (λ b. cond b (amount (m.cast s).deal a) 0) (eq-eqb (chain_of m s a) i e)))
+        ∙ sym (ap (λ b. cond b (amount (m.cast s).deal a) 0) (eq-eqb (arc_chain m s a) i e)))
     one s a ls la (inr n) =
-        let k : (chain_of m s a == i) ≡ false = not-true (chain_of m s a == i) (λ e. n (eqb-true (chain_of m s a) i e)) in
-        ap (λ b. sum_by (λ x. cond b (cond (x == (place m s a).from) (amount (m.cast s).deal a) 0) 0) accounts_of) k
-        ∙ (sum_zero (λ (x : ℕ). 0) accounts_of (λ x j. refl) ∙ sym (ap (λ b. cond b (amount (m.cast s).deal a) 0) k))
+        let k : (arc_chain m s a == i) ≡ false = not-true (arc_chain m s a == i) (λ e. n (eqb-true (arc_chain m s a) i e)) in
+        ap (λ b. sum_by (λ x. cond b (cond (x == (place m s a).from) (amount (m.cast s).deal a) 0) 0) history_accounts) k
+        ∙ (sum_zero (λ (x : ℕ). 0) history_accounts (λ x j. refl) ∙ sym (ap (λ b. cond b (amount (m.cast s).deal a) 0) k))
 
 -- Entries that neither free nor sweep anything.
 
@@ -114,7 +114,7 @@ count_same : (m : Setup) (i : ℕ) (h new : List ChainEntry) → free m i new �
     → Count m i new
 count_same m i h new f w c =
     ap₂ (λ x y. x + y) (ap (in_accounts m i) f)
-    (total_same m (worth m i new) (worth m i h) (λ s a ls la. ap (λ b. cond (chain_of m s a == i) (cond b 0 (amount (m.cast s).deal a)) 0) (w s a)))
+    (total_same m (worth m i new) (worth m i h) (λ s a ls la. ap (λ b. cond (arc_chain m s a == i) (cond b 0 (amount (m.cast s).deal a)) 0) (w s a)))
     ∙ c
 
 -- Payments.
@@ -159,7 +159,7 @@ pay_count m i from to units h can c = go (nat_lt (free m i h from) units) refl
         ∙ paid_sum (length (slice_index_or m.chains i [])) (free m i h) from to units can.from_known can.to_known
         (ltb-false (free m i h from) units e))
         (total_same m (worth m i (h ++ record { height = chain_height h; deed = Paid from to units; reply = Plain Accepted } ∷ [])) (worth m i h)
-        (λ s a ls la. ap (λ b. cond (chain_of m s a == i) (cond b 0 (amount (m.cast s).deal a)) 0) (swept (Plain Accepted) s a)))
+        (λ s a ls la. ap (λ b. cond (arc_chain m s a == i) (cond b 0 (amount (m.cast s).deal a)) 0) (swept (Plain Accepted) s a)))
         ∙ c
 
 -- Sweeps.
@@ -179,11 +179,11 @@ module _ (m : Setup) (fair : Bool) (s a : ℕ) (h : List ChainEntry) where
   swept_now b q t c = swept_more t c h sweep_entry ∙ ap (λ b. is_swept t c h || (b && ((t == s) && (c == a)))) q
 
   free_now : (b : Bool) → is_done sweep_reply ≡ b
-      → free m (chain_of m s a) (h ++ sweep_entry ∷ [])
-      ≡ cond b (returned (free m (chain_of m s a) h) (place m s a) (accounts (m.cast s).deal a (projection s a h))) (free m (chain_of m s a) h)
+      → free m (arc_chain m s a) (h ++ sweep_entry ∷ [])
+      ≡ cond b (returned (free m (arc_chain m s a) h) (place m s a) (accounts (m.cast s).deal a (projection s a h))) (free m (arc_chain m s a) h)
   free_now b q =
-      free_more m (chain_of m s a) h sweep_entry
-      ∙ ap (λ b. cond b (returned (free m (chain_of m s a) h) (place m s a) (accounts (m.cast s).deal a (projection s a h))) (free m (chain_of m s a) h)) q
+      free_more m (arc_chain m s a) h sweep_entry
+      ∙ ap (λ b. cond b (returned (free m (arc_chain m s a) h) (place m s a) (accounts (m.cast s).deal a (projection s a h))) (free m (arc_chain m s a) h)) q
 
   same_test : (t c : ℕ) → (t ≢ s) ⊎ (c ≢ a) → ((t == s) && (c == a)) ≡ false
   same_test t c (inl n) = ap (λ x. x && (c == a)) (not-true (t == s) (λ w. n (eqb-true t s w)))
@@ -191,8 +191,8 @@ module _ (m : Setup) (fair : Bool) (s a : ℕ) (h : List ChainEntry) where
 
   -- the slot counts for nothing more, and each other one for what it did
   worth_now : is_done sweep_reply ≡ true → (t c : ℕ)
-      → worth m (chain_of m s a) (h ++ sweep_entry ∷ []) t c
-      ≡ put (worth m (chain_of m s a) h) s (put (worth m (chain_of m s a) h s) a 0) t c
+      → worth m (arc_chain m s a) (h ++ sweep_entry ∷ []) t c
+      ≡ put (worth m (arc_chain m s a) h) s (put (worth m (arc_chain m s a) h s) a 0) t c
   worth_now q t c = go (same_or_not t s) (same_or_not c a)
     where
       none : (x y : Bool) (w : ℕ) → cond x (cond (y || true) 0 w) 0 ≡ 0
@@ -201,31 +201,32 @@ module _ (m : Setup) (fair : Bool) (s a : ℕ) (h : List ChainEntry) where
       none false y w = refl
 
       old : ((t == s) && (c == a)) ≡ false
-          → worth m (chain_of m s a) (h ++ sweep_entry ∷ []) t c ≡ worth m (chain_of m s a) h t c
+          → worth m (arc_chain m s a) (h ++ sweep_entry ∷ []) t c ≡ worth m (arc_chain m s a) h t c
       old k =
-          ap (λ b. cond (chain_of m t c == chain_of m s a) (cond b 0 (amount (m.cast t).deal c)) 0)
+          ap (λ b. cond (arc_chain m t c == arc_chain m s a) (cond b 0 (amount (m.cast t).deal c)) 0)
           (swept_now true q t c ∙ (ap (λ b. is_swept t c h || b) k ∙ or-end (is_swept t c h)))
 
       go : (t ≡ s) ⊎ (t ≢ s) → (c ≡ a) ⊎ (c ≢ a)
-          → worth m (chain_of m s a) (h ++ sweep_entry ∷ []) t c
-          ≡ put (worth m (chain_of m s a) h) s (put (worth m (chain_of m s a) h s) a 0) t c
+          → worth m (arc_chain m s a) (h ++ sweep_entry ∷ []) t c
+          ≡ put (worth m (arc_chain m s a) h) s (put (worth m (arc_chain m s a) h s) a 0) t c
       go (inl e) (inl k) =
-          ap (λ b. cond (chain_of m t c == chain_of m s a) (cond b 0 (amount (m.cast t).deal c)) 0)
+          ap (λ b. cond (arc_chain m t c == arc_chain m s a) (cond b 0 (amount (m.cast t).deal c)) 0)
           (swept_now true q t c ∙ ap (λ b. is_swept t c h || b) (ap₂ (λ x y. x && y) (eq-eqb t s e) (eq-eqb c a k)))
-          ∙ (none (chain_of m t c == chain_of m s a) (is_swept t c h) (amount (m.cast t).deal c)
-          ∙ sym (ap₂ (λ t c. put (worth m (chain_of m s a) h) s (put (worth m (chain_of m s a) h s) a 0) t c) e k
-          ∙ (ap (λ f. f a) (put_same (worth m (chain_of m s a) h) s (put (worth m (chain_of m s a) h s) a 0)) ∙ put_same (worth m (chain_of m s a) h s) a 0)))
+          ∙ (none (arc_chain m t c == arc_chain m s a) (is_swept t c h) (amount (m.cast t).deal c)
+          ∙ sym (ap₂ (λ t c. put (worth m (arc_chain m s a) h) s (put (worth m (arc_chain m s a) h s) a 0) t c) e k
+          ∙ (ap (λ f. f a) (put_same (worth m (arc_chain m s a) h) s (put (worth m (arc_chain m s a) h s) a 0))
+          ∙ put_same (worth m (arc_chain m s a) h s) a 0)))
       go (inl e) (inr n) =
           old (same_test t c (inr n))
-          ∙ sym (ap (λ t. put (worth m (chain_of m s a) h) s (put (worth m (chain_of m s a) h s) a 0) t c) e
-          ∙ (ap (λ f. f c) (put_same (worth m (chain_of m s a) h) s (put (worth m (chain_of m s a) h s) a 0))
-          ∙ (put_other (worth m (chain_of m s a) h s) a 0 c n ∙ ap (λ t. worth m (chain_of m s a) h t c) (sym e))))
+          ∙ sym (ap (λ t. put (worth m (arc_chain m s a) h) s (put (worth m (arc_chain m s a) h s) a 0) t c) e
+          ∙ (ap (λ f. f c) (put_same (worth m (arc_chain m s a) h) s (put (worth m (arc_chain m s a) h s) a 0))
+          ∙ (put_other (worth m (arc_chain m s a) h s) a 0 c n ∙ ap (λ t. worth m (arc_chain m s a) h t c) (sym e))))
       go (inr n) other =
           old (same_test t c (inl n))
-          ∙ sym (ap (λ f. f c) (put_other (worth m (chain_of m s a) h) s (put (worth m (chain_of m s a) h s) a 0) t n))
+          ∙ sym (ap (λ f. f c) (put_other (worth m (arc_chain m s a) h) s (put (worth m (arc_chain m s a) h s) a 0) t n))
 
-  sweep_count : IsReady m → CanSweep m s a → IsLegal (m.cast s).deal a (projection s a h) → Count m (chain_of m s a) h
-      → Count m (chain_of m s a) (h ++ sweep_entry ∷ [])
+  sweep_count : IsReady m → CanSweep m s a → IsLegal (m.cast s).deal a (projection s a h) → Count m (arc_chain m s a) h
+      → Count m (arc_chain m s a) (h ++ sweep_entry ∷ [])
   sweep_count ready can legal c = go (is_done sweep_reply) refl
     where
       rows : is_done sweep_reply ≡ true → (nat_lt (chain_height h) (the_horizon (m.cast s).deal + 1) ≡ false) × (is_swept s a h ≡ false) ×
@@ -238,9 +239,9 @@ module _ (m : Setup) (fair : Bool) (s a : ℕ) (h : List ChainEntry) where
       b : Accounts
       b = accounts (m.cast s).deal a (projection s a h)
 
-      was : is_done sweep_reply ≡ true → worth m (chain_of m s a) h s a ≡ amount (m.cast s).deal a
+      was : is_done sweep_reply ≡ true → worth m (arc_chain m s a) h s a ≡ amount (m.cast s).deal a
       was q =
-          ap₂ (λ x y. cond x (cond y 0 (amount (m.cast s).deal a)) 0) (eq-eqb (chain_of m s a) (chain_of m s a) refl) (rows q).1
+          ap₂ (λ x y. cond x (cond y 0 (amount (m.cast s).deal a)) 0) (eq-eqb (arc_chain m s a) (arc_chain m s a) refl) (rows q).1
 
       adds : AddsUp (m.cast s).deal a (projection s a h)
       adds = units_are_kept (m.cast s).deal a (projection s a h) [] (subst (IsLegal (m.cast s).deal a) (sym (append-nil (projection s a h))) legal)
@@ -248,22 +249,24 @@ module _ (m : Setup) (fair : Bool) (s a : ℕ) (h : List ChainEntry) where
       end : (f g p q x y t u o : ℕ) → g ≡ (f + p) + q → (p + q) + u ≡ o → u ≡ 0 → t + y ≡ x + 0 → y ≡ o → g + t ≡ f + x
       end f g p q x y t u o e1 e2 e3 e4 e5 = omega arith
 
-      go : (d : Bool) → is_done sweep_reply ≡ d → Count m (chain_of m s a) (h ++ sweep_entry ∷ [])
+      go : (d : Bool) → is_done sweep_reply ≡ d → Count m (arc_chain m s a) (h ++ sweep_entry ∷ [])
       go false q =
-          count_same m (chain_of m s a) h (h ++ sweep_entry ∷ []) (free_now false q) (λ t c. swept_now false q t c ∙ or-end (is_swept t c h)) c
+          count_same m (arc_chain m s a) h (h ++ sweep_entry ∷ []) (free_now false q) (λ t c. swept_now false q t c ∙ or-end (is_swept t c h)) c
       go true q =
-          end (in_accounts m (chain_of m s a) (free m (chain_of m s a) h)) (in_accounts m (chain_of m s a) (free m (chain_of m s a) (h ++ sweep_entry ∷ [])))
-          b.party b.counterparty (total m (worth m (chain_of m s a) h)) (worth m (chain_of m s a) h s a)
-          (total m (worth m (chain_of m s a) (h ++ sweep_entry ∷ []))) (held (projection s a h)) (amount (m.cast s).deal a)
-          (ap (in_accounts m (chain_of m s a)) (free_now true q)
-          ∙ (plus_sum (length (slice_index_or m.chains (chain_of m s a) [])) (plus (free m (chain_of m s a) h) (place m s a).from b.party) (place m s a).to
+          end (in_accounts m (arc_chain m s a) (free m (arc_chain m s a) h)) (in_accounts m (arc_chain m s a) (free m (arc_chain m s a) (h ++ sweep_entry
+          ∷ [])))
+          b.party b.counterparty (total m (worth m (arc_chain m s a) h)) (worth m (arc_chain m s a) h s a)
+          (total m (worth m (arc_chain m s a) (h ++ sweep_entry ∷ []))) (held (projection s a h)) (amount (m.cast s).deal a)
+          (ap (in_accounts m (arc_chain m s a)) (free_now true q)
+          ∙ (plus_sum (length (slice_index_or m.chains (arc_chain m s a) [])) (plus (free m (arc_chain m s a) h) (place m s a).from b.party) (place m s a).to
           b.counterparty (ready.to s a can.swap can.arc)
-          ∙ ap (λ n. n + b.counterparty) (plus_sum (length (slice_index_or m.chains (chain_of m s a) [])) (free m (chain_of m s a) h) (place m s a).from b.party
+          ∙ ap (λ n. n + b.counterparty) (plus_sum (length (slice_index_or m.chains (arc_chain m s a) [])) (free m (arc_chain m s a) h)
+          (place m s a).from b.party
           (ready.from s a can.swap can.arc))))
           adds (over_held (projection s a h) (over_swept (projection s a h) (rows q).2))
-          (ap (λ n. n + worth m (chain_of m s a) h s a) (total_same m (worth m (chain_of m s a) (h ++ sweep_entry ∷ []))
-          (put (worth m (chain_of m s a) h) s (put (worth m (chain_of m s a) h s) a 0)) (λ t c lt lc. worth_now q t c))
-          ∙ total_put m (worth m (chain_of m s a) h) s a 0 can.swap can.arc)
+          (ap (λ n. n + worth m (arc_chain m s a) h s a) (total_same m (worth m (arc_chain m s a) (h ++ sweep_entry ∷ []))
+          (put (worth m (arc_chain m s a) h) s (put (worth m (arc_chain m s a) h s) a 0)) (λ t c lt lc. worth_now q t c))
+          ∙ total_put m (worth m (arc_chain m s a) h) s a 0 can.swap can.arc)
           (was q)
           ∙ c
 
@@ -271,9 +274,9 @@ module _ (m : Setup) (fair : Bool) (s a : ℕ) (h : List ChainEntry) where
 
 -- the projections of a run are legal
 pub shown_legal : (m : Setup) (r : Run) (z : Kept) (s a : ℕ) → Follows m r z → AreGood m z → s < m.swaps → a < length (m.cast s).deal.graph.arcs
-    → IsLegal (m.cast s).deal a (projection s a (r.chains (chain_of m s a)))
+    → IsLegal (m.cast s).deal a (projection s a (r.chains (arc_chain m s a)))
 shown_legal m r z s a f g ls la =
-    let k : IsGood (m.cast s) (swap_in m r s) = subst (IsGood (m.cast s)) (f.swaps s ls) (g s ls) in
+    let k : IsGood (m.cast s) (parse_swap m r s) = subst (IsGood (m.cast s)) (f.swaps s ls) (g s ls) in
     subst (IsLegal (m.cast s).deal a) (shown_at m r.chains s a la) (k.legal.legal a (subst (λ n. a < n) (sym (book_length m r.chains s)) la))
 
 -- a chain gets a history that is as sound as its own was
@@ -296,33 +299,33 @@ step_sound fair m r z (Tick i k) ready can f g x = go (has_no_tick (chain_ticks 
         })))
     go true = subst (IsSound m) (sym (put_still r.chains i (r.chains i) refl)) x
     go false =
-        sound_next m r.chains i (r.chains i ++ tick_of k (r.chains i) ∷ []) x (over_after_tick k (r.chains i) (x.over i))
-        (λ l. count_same m i (r.chains i) (r.chains i ++ tick_of k (r.chains i) ∷ []) (free_more m i (r.chains i) (tick_of k (r.chains i)))
+        sound_next m r.chains i (r.chains i ++ entry_tick k (r.chains i) ∷ []) x (over_after_tick k (r.chains i) (x.over i))
+        (λ l. count_same m i (r.chains i) (r.chains i ++ entry_tick k (r.chains i) ∷ []) (free_more m i (r.chains i) (entry_tick k (r.chains i)))
         (λ s a. tick_swept s a k (r.chains i)) (x.count i l))
-step_sound fair m r z (In s e) ready can f g x = go (called (m.cast s) (swap_in m r s) e)
+step_sound fair m r z (In s e) ready can f g x = go (called (m.cast s) (parse_swap m r s) e)
   where
     go : (o : Option Called) → IsSound m (posted r.chains (option_map (post_call m r s) o))
     go None = x
     go (Some c) =
-        sound_next m r.chains (chain_of m s c.arc)
-        (entered (r.chains (chain_of m s c.arc)) (call_of s c.arc c.sender c.call (r.chains (chain_of m s c.arc)) reply)) x
-        (over_after_call m s c.arc c.sender c.call (r.chains (chain_of m s c.arc)) (x.over (chain_of m s c.arc)))
-        (λ l. count_same m (chain_of m s c.arc) (r.chains (chain_of m s c.arc))
-        (entered (r.chains (chain_of m s c.arc)) (call_of s c.arc c.sender c.call (r.chains (chain_of m s c.arc)) reply))
-        (call_free m (chain_of m s c.arc) s c.arc c.sender c.call (r.chains (chain_of m s c.arc)) reply)
-        (λ t a. call_swept t a s c.arc c.sender c.call (r.chains (chain_of m s c.arc)) reply) (x.count (chain_of m s c.arc) l))
+        sound_next m r.chains (arc_chain m s c.arc)
+        (entered (r.chains (arc_chain m s c.arc)) (parse_call s c.arc c.sender c.call (r.chains (arc_chain m s c.arc)) reply)) x
+        (over_after_call m s c.arc c.sender c.call (r.chains (arc_chain m s c.arc)) (x.over (arc_chain m s c.arc)))
+        (λ l. count_same m (arc_chain m s c.arc) (r.chains (arc_chain m s c.arc))
+        (entered (r.chains (arc_chain m s c.arc)) (parse_call s c.arc c.sender c.call (r.chains (arc_chain m s c.arc)) reply))
+        (call_free m (arc_chain m s c.arc) s c.arc c.sender c.call (r.chains (arc_chain m s c.arc)) reply)
+        (λ t a. call_swept t a s c.arc c.sender c.call (r.chains (arc_chain m s c.arc)) reply) (x.count (arc_chain m s c.arc) l))
       where
         reply : ManyReply
-        reply = reply_to_call m (r.chains (chain_of m s c.arc)) s c.arc c.sender c.call
+        reply = reply_to_call m (r.chains (arc_chain m s c.arc)) s c.arc c.sender c.call
 step_sound fair m r z (Pay i from to units) ready can f g x =
     sound_next m r.chains i
     (r.chains i ++ record { height = chain_height (r.chains i); deed = Paid from to units; reply = reply_to_payment (free m i (r.chains i) from) units } ∷ [])
     x (over_after_payment from to units (r.chains i) (reply_to_payment (free m i (r.chains i) from) units) (x.over i))
     (λ l. pay_count m i from to units (r.chains i) can (x.count i l))
 step_sound fair m r z (Sweep s a) ready can f g x =
-    sound_next m r.chains (chain_of m s a) (r.chains (chain_of m s a) ++ sweep_entry m fair s a (r.chains (chain_of m s a)) ∷ []) x
-    (over_after_sweep fair (the_horizon (m.cast s).deal) s a (r.chains (chain_of m s a)) (x.over (chain_of m s a)))
-    (λ l. sweep_count m fair s a (r.chains (chain_of m s a)) ready can (shown_legal m r z s a f g can.swap can.arc) (x.count (chain_of m s a) l))
+    sound_next m r.chains (arc_chain m s a) (r.chains (arc_chain m s a) ++ sweep_entry m fair s a (r.chains (arc_chain m s a)) ∷ []) x
+    (over_after_sweep fair (the_horizon (m.cast s).deal) s a (r.chains (arc_chain m s a)) (x.over (arc_chain m s a)))
+    (λ l. sweep_count m fair s a (r.chains (arc_chain m s a)) ready can (shown_legal m r z s a f g can.swap can.arc) (x.count (arc_chain m s a) l))
 
 pub start_sound : (m : Setup) → IsReady m → IsSound m (many_start m).chains
 start_sound m ready = record { over = λ i s a e. absurd (cc e); count = λ i l. start_count m i ready }
@@ -354,7 +357,7 @@ pub counted_is_placed : (m : Setup) (r : Run) (z : Kept) (i : ℕ) → i < lengt
     → placed m i (r.chains i) ≡ in_accounts m i (opening m i)
 counted_is_placed m r z i l k =
     ap (λ n. in_accounts m i (free m i (r.chains i)) + n)
-    (total_same m (in_slot m i (r.chains i)) (worth m i (r.chains i)) (λ s a ls la. one s a ls la (same_or_not (chain_of m s a) i))) ∙ k.sound.count i l
+    (total_same m (in_slot m i (r.chains i)) (worth m i (r.chains i)) (λ s a ls la. one s a ls la (same_or_not (arc_chain m s a) i))) ∙ k.sound.count i l
   where
     slot : (s a : ℕ) → IsLegal (m.cast s).deal a (projection s a (r.chains i)) → (b : Bool) → is_swept s a (r.chains i) ≡ b
         → unswept b (accounts (m.cast s).deal a (projection s a (r.chains i))) + held (projection s a (r.chains i)) ≡ cond b 0 (amount (m.cast s).deal a)
@@ -366,13 +369,13 @@ counted_is_placed m r z i l k =
         units_are_kept (m.cast s).deal a (projection s a (r.chains i)) []
         (subst (IsLegal (m.cast s).deal a) (sym (append-nil (projection s a (r.chains i)))) legal)
 
-    one : (s a : ℕ) → s < m.swaps → a < length (m.cast s).deal.graph.arcs → (chain_of m s a ≡ i) ⊎ (chain_of m s a ≢ i)
+    one : (s a : ℕ) → s < m.swaps → a < length (m.cast s).deal.graph.arcs → (arc_chain m s a ≡ i) ⊎ (arc_chain m s a ≢ i)
         → in_slot m i (r.chains i) s a ≡ worth m i (r.chains i) s a
     one s a ls la (inl e) =
-        ap (λ n. cond (chain_of m s a == i) n 0) (slot s a (subst (λ j. IsLegal (m.cast s).deal a (projection s a (r.chains j))) e
+        ap (λ n. cond (arc_chain m s a == i) n 0) (slot s a (subst (λ j. IsLegal (m.cast s).deal a (projection s a (r.chains j))) e
         (shown_legal m r z s a k.follows k.good ls la)) (is_swept s a (r.chains i)) refl)
     one s a ls la (inr n) =
-        let q : (chain_of m s a == i) ≡ false = not-true (chain_of m s a == i) (λ e. n (eqb-true (chain_of m s a) i e)) in
+        let q : (arc_chain m s a == i) ≡ false = not-true (arc_chain m s a == i) (λ e. n (eqb-true (arc_chain m s a) i e)) in
         ap (λ b. cond b (unswept (is_swept s a (r.chains i)) (accounts (m.cast s).deal a (projection s a (r.chains i)))
         + held (projection s a (r.chains i))) 0) q ∙ sym (ap (λ b. cond b (cond (is_swept s a (r.chains i)) 0 (amount (m.cast s).deal a)) 0) q)
 
@@ -381,4 +384,4 @@ units_are_placed m events i ready all l = counted_is_placed m (many_run m events
 
 pub swept_accept_nothing : SweptAcceptNothing
 swept_accept_nothing m events s a p c ready all ls la e =
-    swept_refuses m s a p c ((many_run m events).chains (chain_of m s a)) ((keeps_run m events ready all).sound.over (chain_of m s a)) e
+    swept_refuses m s a p c ((many_run m events).chains (arc_chain m s a)) ((keeps_run m events ready all).sound.over (arc_chain m s a)) e

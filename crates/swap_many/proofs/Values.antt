@@ -7,21 +7,21 @@ use Rattle.swap_rules.proofs.Prefixes.{same_or_not}
 use Rattle.swap_run.specs.Asked.{Answers, with_answers}
 use Rattle.swap_run.specs.Run.{Cast, State}
 use Rattle.swap_run.specs.Laws.{IsKept}
-use Rattle.swap_world.specs.Value.{WorldState, cast_at}
+use Rattle.swap_world.specs.Value.{WorldState, world_cast}
 use Rattle.swap_world.specs.Gone.{MayGive, HasAsked}
 use Rattle.swap_world.specs.Actors.{AreHeld}
 use Rattle.swap_world.proofs.Gone.{continues_less, nothing_asked, more_asked}
 use Rattle.swap_many.specs.declared.many_event.ManyEvent.{ManyEvent}
 use Rattle.swap_many.specs.declared.many_event.ManyEvent.TheVariants.{Tick, In, Pay, Sweep}
-use Rattle.swap_many.specs.Accounts.{ChainState, units_in}
-use Rattle.swap_many.specs.Chains.{Setup, put, Units, place, chain_of}
+use Rattle.swap_many.specs.Accounts.{ChainState, parse_units}
+use Rattle.swap_many.specs.Chains.{Setup, put, Units, place, arc_chain}
 use Rattle.ledger_core.specs.History.{IsLegal}
 use Rattle.ledger_core.specs.Book.{history}
 use Rattle.swap_many.specs.Many.{Run, done}
 use Rattle.swap_many.specs.Kept.{Kept, Time, kept_done}
 use Rattle.swap_many.specs.Laws.{IsReady, CanCome, CanSweep}
 use Rattle.swap_many.specs.Sound.{Keeps}
-use Rattle.swap_many.specs.Value.{ManyState, no_world, no_chain, world_at, chain_at, swept_at, setup_of, setup_for, kept_of, ContinueAll, AreAllHeld}
+use Rattle.swap_many.specs.Value.{ManyState, no_world, no_chain, nth_world, nth_chain, swept_at, world_setup, made_setup, kept_state, ContinueAll, AreAllHeld}
 use Rattle.swap_many.specs.Value.{AreSame, HasManyGone}
 use Rattle.swap_many.specs.Inside.{AreWhole}
 use Rattle.swap_many.proofs.Projections.{put_same, put_other, put_each}
@@ -48,24 +48,24 @@ module _ (gives : MayGive) where
   all_same w = record {
     swaps = refl;
     casts = λ s. refl;
-    asked = λ s. nothing_asked gives (world_at w s) (world_at w s) refl refl;
+    asked = λ s. nothing_asked gives (nth_world w s) (nth_world w s) refl refl;
     places = refl;
     openings = refl;
   }
 
-  pub same_deal : (old new : ManyState) (s : ℕ) → AreSame gives old new → (world_at new s).deal ≡ (world_at old s).deal
+  pub same_deal : (old new : ManyState) (s : ℕ) → AreSame gives old new → (nth_world new s).deal ≡ (nth_world old s).deal
   same_deal old new s k = ap (λ (c : Cast). c.deal) (k.casts s)
 
   pub same_then : (old mid new : ManyState) → AreSame gives old mid → AreSame gives mid new → AreSame gives old new
   same_then old mid new a b = record {
     swaps = b.swaps ∙ a.swaps;
     casts = λ s. b.casts s ∙ a.casts s;
-    asked = λ s. more_asked gives (world_at old s) (world_at mid s) (world_at new s) (a.asked s) (same_deal old mid s a) (b.asked s);
+    asked = λ s. more_asked gives (nth_world old s) (nth_world mid s) (nth_world new s) (a.asked s) (same_deal old mid s a) (b.asked s);
     places = b.places ∙ a.places;
     openings = b.openings ∙ a.openings;
   }
 
-  pub same_setup : (old new : ManyState) (g : ℕ → Answers) → AreSame gives old new → setup_for new g ≡ setup_for old g
+  pub same_setup : (old new : ManyState) (g : ℕ → Answers) → AreSame gives old new → made_setup new g ≡ made_setup old g
   same_setup old new g k = λ j. record {
     swaps = k.swaps j;
     cast = λ s. with_answers (k.casts s j) (g s);
@@ -73,13 +73,13 @@ module _ (gives : MayGive) where
     chains = k.openings j;
   }
 
-  pub same_setup_of : (old new : ManyState) → AreSame gives old new → setup_of new ≡ setup_of old
+  pub same_setup_of : (old new : ManyState) → AreSame gives old new → world_setup new ≡ world_setup old
   same_setup_of old new k = λ j. record { swaps = k.swaps j; cast = λ s. k.casts s j; places = k.places j; chains = k.openings j }
 
   -- what continues the answers of later worlds continues those of earlier ones
   pub continue_less : (old new : ManyState) (g : ℕ → Answers) → AreSame gives old new → ContinueAll new g → ContinueAll old g
   continue_less old new g k e s l =
-      continues_less gives (world_at old s) (world_at new s) (g s) (k.asked s) (e s (subst (λ n. s < n) (sym k.swaps) l))
+      continues_less gives (nth_world old s) (nth_world new s) (g s) (k.asked s) (e s (subst (λ n. s < n) (sym k.swaps) l))
 
   pub held_same : (old new : ManyState) (holds : List ℕ → Bool) → AreSame gives old new → AreAllHeld holds old → AreAllHeld holds new
   held_same old new holds k held s l =
@@ -88,11 +88,11 @@ module _ (gives : MayGive) where
   -- What stays whole.
 
   pub whole_next : (old new : ManyState) → AreWhole old → AreSame gives old new → length new.chains ≡ length old.chains
-      → ((i : ℕ) → length (chain_at new i).free ≡ length (chain_at old i).free) → length new.swept ≡ length old.swept
+      → ((i : ℕ) → length (nth_chain new i).free ≡ length (nth_chain old i).free) → length new.swept ≡ length old.swept
       → ((s : ℕ) → length (swept_at new s) ≡ length (swept_at old s))
-      → (new.stopped ≡ false → (s : ℕ) → s < length new.worlds → (world_at new s).stopped ≡ false)
-      → (new.stopped ≡ false → (g : ℕ → Answers) → ContinueAll new g → (r : Run) × Keeps (setup_for new g) r (kept_of new))
-      → ((s : ℕ) → s < length new.worlds → IsKept (cast_at (world_at new s)) (world_at new s).state.book) → AreWhole new
+      → (new.stopped ≡ false → (s : ℕ) → s < length new.worlds → (nth_world new s).stopped ≡ false)
+      → (new.stopped ≡ false → (g : ℕ → Answers) → ContinueAll new g → (r : Run) × Keeps (made_setup new g) r (kept_state new))
+      → ((s : ℕ) → s < length new.worlds → IsKept (world_cast (nth_world new s)) (nth_world new s).state.book) → AreWhole new
   whole_next old new w same chains accounts swept slots on sound kept = record {
     few = subst (λ n. n ≤ 8) (sym same.swaps) w.few;
     few_chains = subst (λ n. n ≤ 32) (sym chains) w.few_chains;
@@ -114,18 +114,18 @@ module _ (gives : MayGive) where
 
   -- where f is a step
   pub sound_step : (old new : ManyState) (fair : Bool) (e : ManyEvent) → AreWhole old → old.stopped ≡ false
-      → ((g : ℕ → Answers) → CanCome (setup_for old g) e) → HasManyGone gives (λ m z. kept_done fair m z e) old new
-      → (g : ℕ → Answers) → ContinueAll new g → (r : Run) × Keeps (setup_for new g) r (kept_of new)
+      → ((g : ℕ → Answers) → CanCome (made_setup old g) e) → HasManyGone gives (λ m z. kept_done fair m z e) old new
+      → (g : ℕ → Answers) → ContinueAll new g → (r : Run) × Keeps (made_setup new g) r (kept_state new)
   sound_step old new fair e w on can k g c =
       let was = w.sound on g (continue_less old new g k.same c) in
-      let m = setup_for old g in (
+      let m = made_setup old g in (
         done fair m was.0 e,
-        subst (λ (m : Setup). Keeps m (done fair (setup_for old g) was.0 e) (kept_of new)) (sym (same_setup old new g k.same))
-            (subst (Keeps m (done fair m was.0 e)) (sym (k.kept g c)) (keeps_step fair m was.0 (kept_of old) e (w.ready g) (can g) was.1)),
+        subst (λ (m : Setup). Keeps m (done fair (made_setup old g) was.0 e) (kept_state new)) (sym (same_setup old new g k.same))
+            (subst (Keeps m (done fair m was.0 e)) (sym (k.kept g c)) (keeps_step fair m was.0 (kept_state old) e (w.ready g) (can g) was.1)),
       )
 
 -- what may come doesn't hang on answers
-pub can_for : (w : ManyState) (g : ℕ → Answers) (e : ManyEvent) → CanCome (setup_of w) e → CanCome (setup_for w g) e
+pub can_for : (w : ManyState) (g : ℕ → Answers) (e : ManyEvent) → CanCome (world_setup w) e → CanCome (made_setup w g) e
 can_for w g (Tick i k) can = record { chain = can.chain; some = can.some; few = can.few }
 can_for w g (In s e) can = record { swap = can.swap; no_tick = can.no_tick; can = can.can }
 can_for w g (Pay i from to units) can = record { chain = can.chain; from_known = can.from_known; to_known = can.to_known }
@@ -137,30 +137,30 @@ module _ (w : ManyState) (s : ℕ) (x : WorldState) (b : Bool) (low : s < length
   abbrev pub with_world : ManyState
   with_world = record w { worlds = slice_set w.worlds s x; stopped = b }
 
-  pub worlds_put : (λ t. world_at (with_world) t) ≡ put (world_at w) s x
+  pub worlds_put : (λ t. nth_world (with_world) t) ≡ put (nth_world w) s x
   worlds_put = set_is_put no_world w.worlds s x low
 
   -- what holds of the new world and of each other one
-  pub each_world : (P : ℕ → WorldState → Type 0) → P s x → ((t : ℕ) → t ≢ s → P t (world_at w t)) → (t : ℕ) → P t (world_at with_world t)
+  pub each_world : (P : ℕ → WorldState → Type 0) → P s x → ((t : ℕ) → t ≢ s → P t (nth_world w t)) → (t : ℕ) → P t (nth_world with_world t)
   each_world P new old t = subst (P t) (sym (ap (λ (f : ℕ → WorldState). f t) worlds_put)) (go (same_or_not t s))
     where
-      go : (t ≡ s) ⊎ (t ≢ s) → P t (put (world_at w) s x t)
-      go (inl q) = subst (λ z. P z (put (world_at w) s x z)) (sym q) (subst (P s) (sym (put_same (world_at w) s x)) new)
-      go (inr n) = subst (P t) (sym (put_other (world_at w) s x t n)) (old t n)
+      go : (t ≡ s) ⊎ (t ≢ s) → P t (put (nth_world w) s x t)
+      go (inl q) = subst (λ z. P z (put (nth_world w) s x z)) (sym q) (subst (P s) (sym (put_same (nth_world w) s x)) new)
+      go (inr n) = subst (P t) (sym (put_other (nth_world w) s x t n)) (old t n)
 
-  pub world_same : (gives : MayGive) → cast_at x ≡ cast_at (world_at w s) → HasAsked gives (world_at w s) x → AreSame gives w with_world
+  pub world_same : (gives : MayGive) → world_cast x ≡ world_cast (nth_world w s) → HasAsked gives (nth_world w s) x → AreSame gives w with_world
   world_same gives c a = record {
     swaps = length-set w.worlds s x;
-    casts = each_world (λ t y. cast_at y ≡ cast_at (world_at w t)) c (λ t n. refl);
-    asked = each_world (λ t y. HasAsked gives (world_at w t) y) a (λ t n. nothing_asked gives (world_at w t) (world_at w t) refl refl);
+    casts = each_world (λ t y. world_cast y ≡ world_cast (nth_world w t)) c (λ t n. refl);
+    asked = each_world (λ t y. HasAsked gives (nth_world w t) y) a (λ t n. nothing_asked gives (nth_world w t) (nth_world w t) refl refl);
     places = refl;
     openings = refl;
   }
 
-  pub world_kept : kept_of with_world ≡ record (kept_of w) { swaps = put (kept_of w).swaps s x.state }
+  pub world_kept : kept_state with_world ≡ record (kept_state w) { swaps = put (kept_state w).swaps s x.state }
   world_kept =
-      ap (λ (f : ℕ → State). let z : Kept = record (kept_of w) { swaps = f } in z)
-      (ap (λ (f : ℕ → WorldState). let h : ℕ → State = λ t. (f t).state in h) worlds_put ∙ put_map (λ (y : WorldState). y.state) (world_at w) s x)
+      ap (λ (f : ℕ → State). let z : Kept = record (kept_state w) { swaps = f } in z)
+      (ap (λ (f : ℕ → WorldState). let h : ℕ → State = λ t. (f t).state in h) worlds_put ∙ put_map (λ (y : WorldState). y.state) (nth_world w) s x)
 
 -- A chain changes.
 
@@ -168,42 +168,42 @@ module _ (w : ManyState) (i : ℕ) (x : ChainState) (low : i < length w.chains) 
   abbrev pub with_chain : ManyState
   with_chain = record w { chains = slice_set w.chains i x }
 
-  pub chains_put : (λ j. chain_at with_chain j) ≡ put (chain_at w) i x
+  pub chains_put : (λ j. nth_chain with_chain j) ≡ put (nth_chain w) i x
   chains_put = set_is_put no_chain w.chains i x low
 
-  pub each_chain : (P : ℕ → ChainState → Type 0) → P i x → ((j : ℕ) → P j (chain_at w j)) → (j : ℕ) → P j (chain_at with_chain j)
-  each_chain P new old j = subst (P j) (sym (ap (λ (f : ℕ → ChainState). f j) chains_put)) (put_each P (chain_at w) i x new old j)
+  pub each_chain : (P : ℕ → ChainState → Type 0) → P i x → ((j : ℕ) → P j (nth_chain w j)) → (j : ℕ) → P j (nth_chain with_chain j)
+  each_chain P new old j = subst (P j) (sym (ap (λ (f : ℕ → ChainState). f j) chains_put)) (put_each P (nth_chain w) i x new old j)
 
-  pub chain_kept : kept_of with_chain ≡ record (kept_of w) {
-    clocks = put (kept_of w).clocks i x.clock;
-    free = put (kept_of w).free i (units_in x.free);
+  pub chain_kept : kept_state with_chain ≡ record (kept_state w) {
+    clocks = put (kept_state w).clocks i x.clock;
+    free = put (kept_state w).free i (parse_units x.free);
   }
   chain_kept =
-      ap₂ (λ (c : ℕ → Time) (f : ℕ → Units). let z : Kept = record (kept_of w) { clocks = c; free = f } in z)
-      (ap (λ (f : ℕ → ChainState). let h : ℕ → Time = λ j. (f j).clock in h) chains_put ∙ put_map (λ (y : ChainState). y.clock) (chain_at w) i x)
-      (ap (λ (f : ℕ → ChainState). let h : ℕ → Units = λ j. units_in (f j).free in h) chains_put ∙ put_map (λ (y : ChainState). units_in y.free)
-      (chain_at w) i x)
+      ap₂ (λ (c : ℕ → Time) (f : ℕ → Units). let z : Kept = record (kept_state w) { clocks = c; free = f } in z)
+      (ap (λ (f : ℕ → ChainState). let h : ℕ → Time = λ j. (f j).clock in h) chains_put ∙ put_map (λ (y : ChainState). y.clock) (nth_chain w) i x)
+      (ap (λ (f : ℕ → ChainState). let h : ℕ → Units = λ j. parse_units (f j).free in h) chains_put ∙ put_map (λ (y : ChainState). parse_units y.free)
+      (nth_chain w) i x)
 
 -- Where an arc stands.
 
-module _ (w : ManyState) (s a : ℕ) (whole : AreWhole w) (can : CanSweep (setup_of w) s a) where
-  pub chain_low : chain_of (setup_of w) s a < length w.chains
-  chain_low = subst (λ n. chain_of (setup_of w) s a < n) (sym whole.chains) ((whole.ready (λ t k. None)).chain s a can.swap can.arc)
+module _ (w : ManyState) (s a : ℕ) (whole : AreWhole w) (can : CanSweep (world_setup w) s a) where
+  pub chain_low : arc_chain (world_setup w) s a < length w.chains
+  chain_low = subst (λ n. arc_chain (world_setup w) s a < n) (sym whole.chains) ((whole.ready (λ t k. None)).chain s a can.swap can.arc)
 
-  pub from_low : (place (setup_of w) s a).from < length (chain_at w (chain_of (setup_of w) s a)).free
+  pub from_low : (place (world_setup w) s a).from < length (nth_chain w (arc_chain (world_setup w) s a)).free
   from_low =
-      subst (λ n. (place (setup_of w) s a).from < n) (sym (whole.accounts (chain_of (setup_of w) s a)))
+      subst (λ n. (place (world_setup w) s a).from < n) (sym (whole.accounts (arc_chain (world_setup w) s a)))
       ((whole.ready (λ t k. None)).from s a can.swap can.arc)
 
-  pub to_low : (place (setup_of w) s a).to < length (chain_at w (chain_of (setup_of w) s a)).free
+  pub to_low : (place (world_setup w) s a).to < length (nth_chain w (arc_chain (world_setup w) s a)).free
   to_low =
-      subst (λ n. (place (setup_of w) s a).to < n) (sym (whole.accounts (chain_of (setup_of w) s a)))
+      subst (λ n. (place (world_setup w) s a).to < n) (sym (whole.accounts (arc_chain (world_setup w) s a)))
       ((whole.ready (λ t k. None)).to s a can.swap can.arc)
 
   pub flag_low : a < length (swept_at w s)
   flag_low = subst (λ n. a < n) (sym (whole.slots s can.swap)) can.arc
 
-  pub legal_at : IsLegal (world_at w s).deal a (history (world_at w s).state.book a)
+  pub legal_at : IsLegal (nth_world w s).deal a (history (nth_world w s).state.book a)
   legal_at = let k = (whole.kept s can.swap).legal in k.legal a (subst (λ n. a < n) (sym k.one_each) can.arc)
 
 -- memory ran out, and nothing else changed

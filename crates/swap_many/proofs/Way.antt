@@ -16,7 +16,7 @@ use Rattle.swap_many.specs.Chains.{Setup, slots}
 use Rattle.swap_many.specs.Many.{last_horizon, looks_in, turn_in, turns_in, many_round, all_ended, round_or_rest}
 use Rattle.swap_many.specs.Kept.{Kept, kept_done, kept_finish}
 use Rattle.swap_many.specs.Laws.{IsReady, CanCome}
-use Rattle.swap_many.specs.Way.{Step, kept_by, Leads, ManyFinishesAreSteps}
+use Rattle.swap_many.specs.Way.{Step, collect_kept, Leads, ManyFinishesAreSteps}
 use Rattle.swap_many.proofs.Finish.{slot_known}
 
 module _ (m : Setup) (ready : IsReady m) where
@@ -33,7 +33,7 @@ module _ (m : Setup) (ready : IsReady m) where
   more_steps z t u x y = record {
     steps = x.steps ++ y.steps;
     can = All-append Can x.steps y.steps x.can y.can;
-    state = y.state ∙ (ap (λ w. fold (kept_by m) w y.steps) x.state ∙ sym (fold-append (kept_by m) z x.steps y.steps));
+    state = y.state ∙ (ap (λ w. fold (collect_kept m) w y.steps) x.state ∙ sym (fold-append (collect_kept m) z x.steps y.steps));
   }
 
   pub fold_steps : {B : Type 0} (f : Kept → B → Kept) (xs : List B) (z : Kept) → ((z : Kept) (x : B) → IsIn x xs → Leads m z (f z x)) → Leads m z (fold f z xs)

@@ -11,7 +11,7 @@ use Rattle.escrow_core.specs.declared.reply.Reply.TheVariants.{Accepted, NoFunds
 use Rattle.ledger_core.specs.declared.accounts.Accounts.{Accounts}
 use Rattle.ledger_core.specs.declared.entry.Call.{Call}
 use Rattle.ledger_core.specs.declared.entry.Entry.{Entry}
-use Rattle.ledger_core.specs.History.{published, settled, held, accounts, reply_to}
+use Rattle.ledger_core.specs.History.{published, settled, held, accounts, history_reply}
 use Rattle.ledger_core.specs.Ledger.{call_entry, tick_entry, is_sender_full}
 use Rattle.ledger_core.specs.Book.{Histories}
 use Rattle.swap_run.specs.Run.{Cast, is_clock_full_reply}
@@ -35,20 +35,20 @@ abbrev pub place : Setup → ℕ → ℕ → Place
 place m s a = slice_index_or (slice_index_or m.places s []) a nowhere
 
 -- the chain of arc a of swap s
-abbrev pub chain_of : Setup → ℕ → ℕ → ℕ
-chain_of m s a = (place m s a).chain
+abbrev pub arc_chain : Setup → ℕ → ℕ → ℕ
+arc_chain m s a = (place m s a).chain
 
 -- An arc of a swap.
 pub record Slot : Type 0 where
   pub swap : ℕ
   pub arc : ℕ
 
-abbrev pub slots_of : Setup → ℕ → List Slot
-slots_of m s = map (λ a. record { swap = s; arc = a }) (arcs (m.cast s).deal.graph)
+abbrev pub chain_slots : Setup → ℕ → List Slot
+chain_slots m s = map (λ a. record { swap = s; arc = a }) (arcs (m.cast s).deal.graph)
 
 -- every arc of every swap, in order
 abbrev pub slots : Setup → List Slot
-slots m = flat_map (slots_of m) (range_with_len 0 m.swaps)
+slots m = flat_map (chain_slots m) (range_with_len 0 m.swaps)
 
 -- what f says of x at the place i, and else what it said
 abbrev pub put : {A : Type 0} → (ℕ → A) → ℕ → A → ℕ → A
@@ -69,9 +69,9 @@ pub record ChainEntry : Type 0 where
   pub deed : Deed
   pub reply : ManyReply
 
-abbrev pub heights_in : Deed → ℕ
-heights_in (Ticked k) = k
-heights_in _ = 0
+abbrev pub parse_heights : Deed → ℕ
+parse_heights (Ticked k) = k
+parse_heights _ = 0
 
 abbrev pub is_ticked : Deed → Bool
 is_ticked (Ticked k) = true
@@ -79,7 +79,7 @@ is_ticked _ = false
 
 -- the height of a chain
 abbrev pub chain_height : List ChainEntry → ℕ
-chain_height h = sum_by (λ e. heights_in e.deed) h
+chain_height h = sum_by (λ e. parse_heights e.deed) h
 
 -- how often a chain has ticked
 abbrev pub chain_ticks : List ChainEntry → ℕ
@@ -99,22 +99,22 @@ abbrev pub entry_if_plain : ManyReply → (Reply → Entry) → List Entry
 entry_if_plain (Plain r) f = f r ∷ []
 entry_if_plain _ f = []
 
-abbrev pub entries_in : (s a at : ℕ) → Deed → ManyReply → List Entry
-entries_in s a at (Ticked k) r = tick_entry k at (plain_in r) ∷ []
-entries_in s a at (Called t b p c) r = if (s == t) && (a == b) then entry_if_plain r (call_entry p at c) else []
-entries_in s a at (Paid from to units) r = []
-entries_in s a at (Emptied t b) r = []
+abbrev pub all_entries : (s a at : ℕ) → Deed → ManyReply → List Entry
+all_entries s a at (Ticked k) r = tick_entry k at (plain_in r) ∷ []
+all_entries s a at (Called t b p c) r = if (s == t) && (a == b) then entry_if_plain r (call_entry p at c) else []
+all_entries s a at (Paid from to units) r = []
+all_entries s a at (Emptied t b) r = []
 
 -- the history of the slot of arc a of swap s
 abbrev pub projection : (s a : ℕ) → List ChainEntry → List Entry
-projection s a h = flat_map (λ e. entries_in s a e.height e.deed e.reply) h
+projection s a h = flat_map (λ e. all_entries s a e.height e.deed e.reply) h
 
 abbrev pub Chains : Type 0
 Chains = ℕ → List ChainEntry
 
 -- the book of swap s: the history of each of its slots
 abbrev pub book : Setup → Chains → ℕ → Histories
-book m h s = map (λ a. projection s a (h (chain_of m s a))) (arcs (m.cast s).deal.graph)
+book m h s = map (λ a. projection s a (h (arc_chain m s a))) (arcs (m.cast s).deal.graph)
 
 -- The accounts of a chain.
 
@@ -124,7 +124,7 @@ total m f = sum_by (λ s. sum_by (f s) (arcs (m.cast s).deal.graph)) (range_with
 
 -- what account x of chain i pays for arc a of swap s
 abbrev pub pays_for : Setup → (i x s a : ℕ) → ℕ
-pays_for m i x s a = if chain_of m s a == i then (if x == (place m s a).from then amount (m.cast s).deal a else 0) else 0
+pays_for m i x s a = if arc_chain m s a == i then (if x == (place m s a).from then amount (m.cast s).deal a else 0) else 0
 
 -- what is set aside from account x of chain i
 abbrev pub set_aside : Setup → ℕ → ℕ → ℕ
@@ -184,7 +184,7 @@ is_swept s a h = list_any (λ e. is_done e.reply && empties s a e.deed) h
 
 abbrev pub reply_to_call : Setup → List ChainEntry → (s a p : ℕ) → Call → ManyReply
 reply_to_call m h s a p c =
-    if is_barred (is_swept s a h) (projection s a h) c then Swept else Plain (reply_to (m.cast s).deal a (projection s a h) p c)
+    if is_barred (is_swept s a h) (projection s a h) c then Swept else Plain (history_reply (m.cast s).deal a (projection s a h) p c)
 
 abbrev pub reply_to_tick_of : (ticks height k : ℕ) → ManyReply
 reply_to_tick_of ticks height k = if has_no_tick ticks height k then Plain ClockFull else Plain Accepted
@@ -237,7 +237,7 @@ unswept swept b = if swept then 0 else b.party + b.counterparty
 -- the units of the slot of arc a of swap s, where it stands on chain i: its balances, unless it is swept, and what its contract holds
 abbrev pub in_slot : Setup → ℕ → List ChainEntry → (s a : ℕ) → ℕ
 in_slot m i h s a =
-    if chain_of m s a == i then unswept (is_swept s a h) (accounts (m.cast s).deal a (projection s a h)) + held (projection s a h) else 0
+    if arc_chain m s a == i then unswept (is_swept s a h) (accounts (m.cast s).deal a (projection s a h)) + held (projection s a h) else 0
 
 -- the free accounts, the slots' balances that aren't swept and the held amounts of chain i
 abbrev pub placed : Setup → ℕ → List ChainEntry → ℕ

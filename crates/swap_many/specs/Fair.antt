@@ -32,11 +32,11 @@ kept_turn s m z v = turn_in m (kept_done false m) (kept_done true m) high s z v
 abbrev pub kept_turns : Setup → Kept → ℕ → Kept
 kept_turns m z s = turns_in m (kept_done false m) (kept_done true m) high z s
 
-abbrev pub tick_of : Setup → Kept → ℕ → Kept
-tick_of m z i = kept_done false m z (Tick i 1)
+abbrev pub entry_tick : Setup → Kept → ℕ → Kept
+entry_tick m z i = kept_done false m z (Tick i 1)
 
 abbrev pub kept_ticks : Setup → Kept → Kept
-kept_ticks m z = fold (tick_of m) z (range_with_len 0 (length m.chains))
+kept_ticks m z = fold (entry_tick m) z (range_with_len 0 (length m.chains))
 
 abbrev pub kept_round : Setup → Kept → Kept
 kept_round m z = many_round m (kept_done false m) (kept_done true m) high z
@@ -51,11 +51,11 @@ abbrev pub kept_rounds : Setup → Kept → Kept
 kept_rounds m z = repeat (last_horizon m + 1) (kept_round_or_rest m) z
 
 -- a sweep of the slot of arc a of swap s
-abbrev pub sweep_of : ℕ → Setup → Kept → ℕ → Kept
-sweep_of s m z a = kept_done true m z (Sweep s a)
+abbrev pub parse_sweep_fields : ℕ → Setup → Kept → ℕ → Kept
+parse_sweep_fields s m z a = kept_done true m z (Sweep s a)
 
 abbrev pub sweeps_of : Setup → Kept → ℕ → Kept
-sweeps_of m z s = fold (sweep_of s m) z (arcs (m.cast s).deal.graph)
+sweeps_of m z s = fold (parse_sweep_fields s m) z (arcs (m.cast s).deal.graph)
 
 abbrev pub kept_sweeps : Setup → Kept → Kept
 kept_sweeps m z = fold (λ z t. kept_done true m z (Sweep t.swap t.arc)) z (slots m)

@@ -3,17 +3,17 @@ use Rattle.std.specs.Prelude.{◌≡◌, ℕ, ◌<◌, ◌≤◌, ◌^◌, ◌==
 use Rattle.std.specs.List.{range_with_len}
 use Rattle.swap_run.specs.Asked.{Answers}
 use Rattle.swap_run.specs.Laws.{IsKept}
-use Rattle.swap_world.specs.Value.{cast_at}
+use Rattle.swap_world.specs.Value.{world_cast}
 use Rattle.swap_many.specs.declared.place.Place.{Place}
 use Rattle.swap_many.specs.declared.worlds.Worlds.TheInside.{Inside}
 use Rattle.swap_many.specs.Chains.{nowhere}
 use Rattle.swap_many.specs.Many.{Run}
 use Rattle.swap_many.specs.Laws.{IsReady}
 use Rattle.swap_many.specs.Sound.{Keeps}
-use Rattle.swap_many.specs.Value.{ManyState, world_at, chain_at, swept_at, setup_for, kept_of, ContinueAll}
+use Rattle.swap_many.specs.Value.{ManyState, nth_world, nth_chain, swept_at, made_setup, kept_state, ContinueAll}
 
-abbrev pub worlds_in : Inside → ManyState
-worlds_in w = record {
+abbrev pub inside_worlds : Inside → ManyState
+inside_worlds w = record {
   worlds = w.worlds.items;
   places = w.places;
   openings = w.openings.items;
@@ -36,18 +36,18 @@ pub record AreWhole (w : ManyState) : Type 0 where
   pub few : length w.worlds ≤ 8
   pub few_chains : length w.chains ≤ 32
   pub places : length w.places ≡ length w.worlds
-  pub arcs : (s : ℕ) → s < length w.worlds → length (slice_index_or w.places s []) ≡ length (world_at w s).deal.graph.arcs
+  pub arcs : (s : ℕ) → s < length w.worlds → length (slice_index_or w.places s []) ≡ length (nth_world w s).deal.graph.arcs
   pub swept : length w.swept ≡ length w.worlds
-  pub slots : (s : ℕ) → s < length w.worlds → length (swept_at w s) ≡ length (world_at w s).deal.graph.arcs
+  pub slots : (s : ℕ) → s < length w.worlds → length (swept_at w s) ≡ length (nth_world w s).deal.graph.arcs
   pub chains : length w.chains ≡ length w.openings
-  pub accounts : (i : ℕ) → length (chain_at w i).free ≡ length (slice_index_or w.openings i [])
+  pub accounts : (i : ℕ) → length (nth_chain w i).free ≡ length (slice_index_or w.openings i [])
   pub units : (i : ℕ) → sum_by (λ u. u) (slice_index_or w.openings i []) ≤ 10 ^ 18
-  pub ready : (g : ℕ → Answers) → IsReady (setup_for w g)
-  pub on : w.stopped ≡ false → (s : ℕ) → s < length w.worlds → (world_at w s).stopped ≡ false
-  pub sound : w.stopped ≡ false → (g : ℕ → Answers) → ContinueAll w g → (r : Run) × Keeps (setup_for w g) r (kept_of w)
-  pub kept : (s : ℕ) → s < length w.worlds → IsKept (cast_at (world_at w s)) (world_at w s).state.book
+  pub ready : (g : ℕ → Answers) → IsReady (made_setup w g)
+  pub on : w.stopped ≡ false → (s : ℕ) → s < length w.worlds → (nth_world w s).stopped ≡ false
+  pub sound : w.stopped ≡ false → (g : ℕ → Answers) → ContinueAll w g → (r : Run) × Keeps (made_setup w g) r (kept_state w)
+  pub kept : (s : ℕ) → s < length w.worlds → IsKept (world_cast (nth_world w s)) (nth_world w s).state.book
 
 pub record Holds (w : Inside) : Type 0 where
-  pub whole : AreWhole (worlds_in w)
+  pub whole : AreWhole (inside_worlds w)
   -- the arcs that stand on each chain are looked up
   pub on : w.on ≡ standing (length w.openings.items) w.places

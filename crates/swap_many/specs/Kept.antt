@@ -2,7 +2,7 @@
 -- chain, and which slots are swept.
 use Rattle.std.specs.Prelude.{ℕ, ◌+◌, ◌==◌, Bool, true, false, List, fold, Option, Some, option_map, if◌then◌else◌}
 use Rattle.swap_digraph.specs.Graph.{arcs}
-use Rattle.ledger_core.specs.History.{reply_to, accounts}
+use Rattle.ledger_core.specs.History.{history_reply, accounts}
 use Rattle.ledger_core.specs.Book.{history}
 use Rattle.swap_job.specs.declared.event.Event.TheVariants as events
 use Rattle.swap_run.specs.Run.{State, start, step}
@@ -11,10 +11,10 @@ use Rattle.swap_many.specs.declared.many_event.ManyEvent.{ManyEvent}
 use Rattle.swap_many.specs.declared.many_event.ManyEvent.TheVariants.{Tick, In, Pay, Sweep}
 use Rattle.swap_many.specs.declared.many_reply.ManyReply.{ManyReply}
 use Rattle.swap_many.specs.declared.many_reply.ManyReply.TheVariants.{Plain, Swept}
-use Rattle.swap_run.specs.Called.{Called, called, is_barred, step_on}
-use Rattle.swap_many.specs.Chains.{Setup, chain_of, place, put, Units, first_free, paid, returned, has_no_tick, is_done, reply_to_tick_of}
+use Rattle.swap_run.specs.Called.{Called, called, is_barred, apply_step}
+use Rattle.swap_many.specs.Chains.{Setup, arc_chain, place, put, Units, first_free, paid, returned, has_no_tick, is_done, reply_to_tick_of}
 use Rattle.swap_many.specs.Chains.{reply_to_payment, reply_to_sweep}
-use Rattle.swap_many.specs.Many.{finish_in}
+use Rattle.swap_many.specs.Many.{parse_finish}
 
 -- A chain's clock: its height and how often it ticked.
 pub record Time : Type 0 where
@@ -30,12 +30,12 @@ pub record Kept : Type 0 where
 -- Ticks.
 
 -- the ledger of arc a ticks, where it stands on chain i
-abbrev pub tick_on : Setup → (i k s : ℕ) → State → ℕ → State
-tick_on m i k s z a = if chain_of m s a == i then step (m.cast s) z (events.Tick a k) else z
+abbrev pub tick_ledgers : Setup → (i k s : ℕ) → State → ℕ → State
+tick_ledgers m i k s z a = if arc_chain m s a == i then step (m.cast s) z (events.Tick a k) else z
 
 -- each ledger of swap s on chain i ticks, in order
 abbrev pub ticked : Setup → (i k s : ℕ) → State → State
-ticked m i k s z = fold (tick_on m i k s) z (arcs (m.cast s).deal.graph)
+ticked m i k s z = fold (tick_ledgers m i k s) z (arcs (m.cast s).deal.graph)
 
 abbrev pub later : Time → ℕ → Time
 later t k = record { height = t.height + k; ticks = t.ticks + 1 }
@@ -52,7 +52,7 @@ abbrev pub is_passed : Kept → ℕ → Called → Bool
 is_passed z s x = is_barred (z.swept s x.arc) (history (z.swaps s).book x.arc) x.call
 
 abbrev pub answer_in : Setup → Kept → ℕ → Called → ManyReply
-answer_in m z s x = if is_passed z s x then Swept else Plain (reply_to (m.cast s).deal x.arc (history (z.swaps s).book x.arc) x.sender x.call)
+answer_in m z s x = if is_passed z s x then Swept else Plain (history_reply (m.cast s).deal x.arc (history (z.swaps s).book x.arc) x.sender x.call)
 
 -- Ticks, payments and sweeps.
 
@@ -64,13 +64,13 @@ answer_payment z i from units = reply_to_payment (z.free i from) units
 
 abbrev pub answer_sweep : (fair : Bool) → Setup → Kept → (s a : ℕ) → ManyReply
 answer_sweep fair m z s a =
-    reply_to_sweep fair (the_horizon (m.cast s).deal) (z.clocks (chain_of m s a)).height (z.swept s a) (history (z.swaps s).book a)
+    reply_to_sweep fair (the_horizon (m.cast s).deal) (z.clocks (arc_chain m s a)).height (z.swept s a) (history (z.swaps s).book a)
 
 abbrev pub kept_sweep : Setup → Kept → (s a : ℕ) → Kept
 kept_sweep m z s a = record z {
   free =
-      put z.free (chain_of m s a)
-      (returned (z.free (chain_of m s a)) (place m s a) (accounts (m.cast s).deal a (history (z.swaps s).book a)));
+      put z.free (arc_chain m s a)
+      (returned (z.free (arc_chain m s a)) (place m s a) (accounts (m.cast s).deal a (history (z.swaps s).book a)));
   swept = put z.swept s (put (z.swept s) a true);
 }
 
@@ -78,7 +78,7 @@ kept_sweep m z s a = record z {
 
 abbrev pub kept_done : (fair : Bool) → Setup → Kept → ManyEvent → Kept
 kept_done fair m z (Tick i k) = kept_tick m z i k
-kept_done fair m z (In s e) = record z { swaps = put z.swaps s (step_on (z.swept s) (m.cast s) (z.swaps s) e) }
+kept_done fair m z (In s e) = record z { swaps = put z.swaps s (apply_step (z.swept s) (m.cast s) (z.swaps s) e) }
 kept_done fair m z (Pay i from to units) =
     if is_done (answer_payment z i from units) then record z { free = put z.free i (paid (z.free i) from to units) } else z
 kept_done fair m z (Sweep s a) = if is_done (answer_sweep fair m z s a) then kept_sweep m z s a else z
@@ -104,4 +104,4 @@ abbrev pub kept_run : Setup → List ManyEvent → Kept
 kept_run m events = fold (kept_step m) (kept_start m) events
 
 abbrev pub kept_finish : Setup → Kept → Kept
-kept_finish m z = finish_in m (kept_done false m) (kept_done true m) (λ z i. (z.clocks i).height) z
+kept_finish m z = parse_finish m (kept_done false m) (kept_done true m) (λ z i. (z.clocks i).height) z

@@ -9,7 +9,7 @@ use Rattle.swap_job.specs.Step.{CanStep}
 use Rattle.swap_rules.specs.declared.outcome.Outcome.TheVariants.{Underwater}
 use Rattle.swap_rules.specs.Findings.{findings}
 use Rattle.swap_rules.specs.Outcome.{outcome, IsEnded}
-use Rattle.swap_rules.specs.Laws.{is_against, is_in_name_of, HasRefunds, IsTransferred}
+use Rattle.swap_rules.specs.Laws.{is_against, names_party, HasRefunds, IsTransferred}
 use Rattle.swap_run.specs.Run.{conforms}
 use Rattle.swap_run.specs.Laws.{IsReadyCast, IsGood, IsKept}
 use Rattle.swap_many.specs.declared.many_event.ManyEvent.{ManyEvent}
@@ -17,18 +17,18 @@ use Rattle.swap_many.specs.declared.many_event.ManyEvent.TheVariants.{Tick, In, 
 use Rattle.swap_many.specs.declared.many_reply.ManyReply.TheVariants.{Plain}
 use Rattle.swap_run.specs.Called.{turns_on}
 use Rattle.swap_run.specs.CalledLaws.{is_no_tick}
-use Rattle.swap_many.specs.Chains.{Setup, place, chain_of, put, ChainEntry, projection, has_no_tick, chain_height, chain_ticks, book, free, opening}
+use Rattle.swap_many.specs.Chains.{Setup, place, arc_chain, put, ChainEntry, projection, has_no_tick, chain_height, chain_ticks, book, free, opening}
 use Rattle.swap_many.specs.Chains.{set_aside, is_swept, reply_to_call}
 use Rattle.swap_many.specs.Chains.{in_accounts, placed}
-use Rattle.swap_many.specs.Many.{Run, swap_in, done, many_reply, many_start, many_run, many_finish, turns_in}
+use Rattle.swap_many.specs.Many.{Run, parse_swap, done, many_reply, many_start, many_run, many_finish, turns_in}
 use Rattle.swap_many.specs.Kept.{Kept, kept_done, kept_reply, kept_start, kept_run, kept_finish}
 
 -- What runs is ready: who takes part, the places of the arcs, and what is set aside.
 pub record IsReady (m : Setup) : Type 0 where
   pub casts : (s : ℕ) → s < m.swaps → IsReadyCast (m.cast s)
-  pub chain : (s a : ℕ) → s < m.swaps → a < length (m.cast s).deal.graph.arcs → chain_of m s a < length m.chains
-  pub from : (s a : ℕ) → s < m.swaps → a < length (m.cast s).deal.graph.arcs → (place m s a).from < length (slice_index_or m.chains (chain_of m s a) [])
-  pub to : (s a : ℕ) → s < m.swaps → a < length (m.cast s).deal.graph.arcs → (place m s a).to < length (slice_index_or m.chains (chain_of m s a) [])
+  pub chain : (s a : ℕ) → s < m.swaps → a < length (m.cast s).deal.graph.arcs → arc_chain m s a < length m.chains
+  pub from : (s a : ℕ) → s < m.swaps → a < length (m.cast s).deal.graph.arcs → (place m s a).from < length (slice_index_or m.chains (arc_chain m s a) [])
+  pub to : (s a : ℕ) → s < m.swaps → a < length (m.cast s).deal.graph.arcs → (place m s a).to < length (slice_index_or m.chains (arc_chain m s a) [])
   pub covered : (i x : ℕ) → set_aside m i x ≤ opening m i x
 
 -- A chain may tick by k.
@@ -63,11 +63,11 @@ CanCome m (Sweep s a) = CanSweep m s a
 
 -- What is kept is what the chains' histories give.
 pub record Follows (m : Setup) (r : Run) (z : Kept) : Type 0 where
-  pub swaps : (s : ℕ) → s < m.swaps → z.swaps s ≡ swap_in m r s
+  pub swaps : (s : ℕ) → s < m.swaps → z.swaps s ≡ parse_swap m r s
   pub heights : (i : ℕ) → (z.clocks i).height ≡ chain_height (r.chains i)
   pub ticks : (i : ℕ) → (z.clocks i).ticks ≡ chain_ticks (r.chains i)
   pub free : (i : ℕ) → z.free i ≡ free m i (r.chains i)
-  pub swept : (s a : ℕ) → z.swept s a ≡ is_swept s a (r.chains (chain_of m s a))
+  pub swept : (s a : ℕ) → z.swept s a ≡ is_swept s a (r.chains (arc_chain m s a))
 
 -- every swap's state is good
 abbrev pub AreGood : Setup → Kept → Type 0
@@ -119,8 +119,8 @@ UnitsArePlaced =
 abbrev pub SweptAcceptNothing : Type 0
 SweptAcceptNothing =
     (m : Setup) (events : List ManyEvent) (s a p : ℕ) (c : Call) → IsReady m → All (CanCome m) events → s < m.swaps
-    → a < length (m.cast s).deal.graph.arcs → is_swept s a ((many_run m events).chains (chain_of m s a)) ≡ true
-    → reply_to_call m ((many_run m events).chains (chain_of m s a)) s a p c ≢ Plain Accepted
+    → a < length (m.cast s).deal.graph.arcs → is_swept s a ((many_run m events).chains (arc_chain m s a)) ≡ true
+    → reply_to_call m ((many_run m events).chains (arc_chain m s a)) s a p c ≢ Plain Accepted
 
 -- The fair finish.
 
@@ -149,11 +149,11 @@ TurnsAreOn =
 abbrev pub SweepsFit : Type 0
 SweepsFit =
     (m : Setup) (events : List ManyEvent) (s a : ℕ) → IsReady m → All (CanCome m) events → CanSweep m s a
-    → is_swept s a ((many_run m events).chains (chain_of m s a)) ≡ false
-    → in_accounts m (chain_of m s a) (free m (chain_of m s a) ((many_run m events).chains (chain_of m s a)))
-    + (accounts (m.cast s).deal a (projection s a ((many_run m events).chains (chain_of m s a)))).party
-    + (accounts (m.cast s).deal a (projection s a ((many_run m events).chains (chain_of m s a)))).counterparty
-    ≤ in_accounts m (chain_of m s a) (opening m (chain_of m s a))
+    → is_swept s a ((many_run m events).chains (arc_chain m s a)) ≡ false
+    → in_accounts m (arc_chain m s a) (free m (arc_chain m s a) ((many_run m events).chains (arc_chain m s a)))
+    + (accounts (m.cast s).deal a (projection s a ((many_run m events).chains (arc_chain m s a)))).party
+    + (accounts (m.cast s).deal a (projection s a ((many_run m events).chains (arc_chain m s a)))).counterparty
+    ≤ in_accounts m (arc_chain m s a) (opening m (arc_chain m s a))
 
 -- Each swap by the laws over books.
 
@@ -164,7 +164,7 @@ EverySwapIsSafe =
     (m : Setup) (events : List ManyEvent) (s v : ℕ) → IsReady m → All (CanCome m) events → s < m.swaps → v < (m.cast s).deal.graph.n
     → conforms (m.cast s) v ≡ true
     → list_any (is_against v) (findings (m.cast s).deal (conforms (m.cast s)) (book m (many_finish m (many_run m events)).chains s)) ≡ false
-    → (list_any (is_in_name_of (m.cast s).deal v)
+    → (list_any (names_party (m.cast s).deal v)
     (findings (m.cast s).deal (conforms (m.cast s)) (book m (many_finish m (many_run m events)).chains s)) ≡ false
     → outcome (m.cast s).deal (book m (many_finish m (many_run m events)).chains s) v ≢ Underwater)
     × HasRefunds (m.cast s).deal (book m (many_finish m (many_run m events)).chains s) v

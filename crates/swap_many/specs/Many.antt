@@ -10,7 +10,7 @@ use Rattle.swap_many.specs.declared.many_event.ManyEvent.{ManyEvent}
 use Rattle.swap_many.specs.declared.many_event.ManyEvent.TheVariants.{Tick, In, Pay, Sweep}
 use Rattle.swap_many.specs.declared.many_reply.ManyReply.{ManyReply}
 use Rattle.swap_run.specs.Called.{Called as Call, called, before_call, told}
-use Rattle.swap_many.specs.Chains.{Setup, slots, chain_of, put, Ticked, Called, Paid, Emptied, ChainEntry, chain_height, chain_ticks, projection}
+use Rattle.swap_many.specs.Chains.{Setup, slots, arc_chain, put, Ticked, Called, Paid, Emptied, ChainEntry, chain_height, chain_ticks, projection}
 use Rattle.swap_many.specs.Chains.{Chains, book, free, is_swept, reply_to_call, reply_to_tick_of, reply_to_payment, reply_to_sweep, entered}
 
 -- The histories of the chains so far; and of each swap what its parties know and plan, and what its strategies were asked.
@@ -19,8 +19,8 @@ pub record Run : Type 0 where
   pub minds : ℕ → State
 
 -- swap s, over the projections of the chains
-abbrev pub swap_in : Setup → Run → ℕ → State
-swap_in m r s = record (r.minds s) { book = book m r.chains s }
+abbrev pub parse_swap : Setup → Run → ℕ → State
+parse_swap m r s = record (r.minds s) { book = book m r.chains s }
 
 -- An entry that an event makes, and its chain.
 pub record Post : Type 0 where
@@ -30,12 +30,12 @@ pub record Post : Type 0 where
 -- the entry of a call of a party of swap s
 abbrev pub post_call : Setup → Run → ℕ → Call → Post
 post_call m r s x = record {
-  chain = chain_of m s x.arc;
+  chain = arc_chain m s x.arc;
   entry =
       record {
-        height = chain_height (r.chains (chain_of m s x.arc));
+        height = chain_height (r.chains (arc_chain m s x.arc));
         deed = Called s x.arc x.sender x.call;
-        reply = reply_to_call m (r.chains (chain_of m s x.arc)) s x.arc x.sender x.call;
+        reply = reply_to_call m (r.chains (arc_chain m s x.arc)) s x.arc x.sender x.call;
       };
 }
 
@@ -50,7 +50,7 @@ post fair m r (Tick i k) = Some (record {
         reply = reply_to_tick_of (chain_ticks (r.chains i)) (chain_height (r.chains i)) k;
       };
 })
-post fair m r (In s e) = option_map (post_call m r s) (called (m.cast s) (swap_in m r s) e)
+post fair m r (In s e) = option_map (post_call m r s) (called (m.cast s) (parse_swap m r s) e)
 post fair m r (Pay i from to units) = Some (record {
   chain = i;
   entry =
@@ -61,14 +61,14 @@ post fair m r (Pay i from to units) = Some (record {
       };
 })
 post fair m r (Sweep s a) = Some (record {
-  chain = chain_of m s a;
+  chain = arc_chain m s a;
   entry =
       record {
-        height = chain_height (r.chains (chain_of m s a));
+        height = chain_height (r.chains (arc_chain m s a));
         deed = Emptied s a;
         reply =
-            reply_to_sweep fair (the_horizon (m.cast s).deal) (chain_height (r.chains (chain_of m s a))) (is_swept s a (r.chains (chain_of m s a)))
-            (projection s a (r.chains (chain_of m s a)));
+            reply_to_sweep fair (the_horizon (m.cast s).deal) (chain_height (r.chains (arc_chain m s a))) (is_swept s a (r.chains (arc_chain m s a)))
+            (projection s a (r.chains (arc_chain m s a)));
       };
 })
 
@@ -80,11 +80,11 @@ posted h (Some x) = put h x.chain (entered (h x.chain) x.entry)
 -- the state of swap s after an event of its own; the event's call, if any, is made, and the chains
 -- are then h
 abbrev pub heard : Setup → Run → Chains → ℕ → Event → Option Call → State
-heard m r h s e None = before_call (m.cast s) (swap_in m r s) e
-heard m r h s e (Some x) = told (m.cast s) (swap_in m r s) e x (projection s x.arc (h (chain_of m s x.arc)))
+heard m r h s e None = before_call (m.cast s) (parse_swap m r s) e
+heard m r h s e (Some x) = told (m.cast s) (parse_swap m r s) e x (projection s x.arc (h (arc_chain m s x.arc)))
 
 abbrev pub minds_after : Setup → Run → Chains → ManyEvent → ℕ → State
-minds_after m r h (In s e) = put r.minds s (heard m r h s e (called (m.cast s) (swap_in m r s) e))
+minds_after m r h (In s e) = put r.minds s (heard m r h s e (called (m.cast s) (parse_swap m r s) e))
 minds_after m r h _ = r.minds
 
 -- what an event does; a sweep of a fair finish does also what the last row of its table refuses
@@ -141,8 +141,8 @@ module _ {S : Type 0} (m : Setup) (step : S → ManyEvent → S) (sweep : S → 
   round_or_rest z = if all_ended z then z else many_round z
 
   -- rounds until every chain is above every horizon, for which one more than the greatest are enough, and then a sweep of every slot
-  abbrev pub finish_in : S → S
-  finish_in z = fold (λ z t. sweep z (Sweep t.swap t.arc)) (repeat (last_horizon m + 1) round_or_rest z) (slots m)
+  abbrev pub parse_finish : S → S
+  parse_finish z = fold (λ z t. sweep z (Sweep t.swap t.arc)) (repeat (last_horizon m + 1) round_or_rest z) (slots m)
 
 abbrev pub many_finish : Setup → Run → Run
-many_finish m r = finish_in m (done false m) (done true m) (λ r i. chain_height (r.chains i)) r
+many_finish m r = parse_finish m (done false m) (done true m) (λ r i. chain_height (r.chains i)) r

@@ -3,7 +3,7 @@ use Rattle.std.specs.Prelude.{◌≡◌, ℕ, ◌<◌, ◌≤◌, nat_lt, [], le
 use Rattle.std.specs.List.{range_with_len}
 use Rattle.swap_base.specs.Lists.{first_of}
 use Rattle.swap_many.specs.declared.overdrawn.Overdrawn.{Overdrawn}
-use Rattle.swap_many.specs.Chains.{Setup, place, chain_of, opening, set_aside}
+use Rattle.swap_many.specs.Chains.{Setup, place, arc_chain, opening, set_aside}
 
 abbrev pub lack_of : Setup → (i x : ℕ) → Option Overdrawn
 lack_of m i x =
@@ -20,8 +20,8 @@ overdrawn m =
 
 -- Each arc's place is a chain and two of its accounts.
 pub record ArePlaces (m : Setup) : Type 0 where
-  pub chain : (s a : ℕ) → s < m.swaps → a < length (m.cast s).deal.graph.arcs → chain_of m s a < length m.chains
-  pub from : (s a : ℕ) → s < m.swaps → a < length (m.cast s).deal.graph.arcs → (place m s a).from < length (slice_index_or m.chains (chain_of m s a) [])
+  pub chain : (s a : ℕ) → s < m.swaps → a < length (m.cast s).deal.graph.arcs → arc_chain m s a < length m.chains
+  pub from : (s a : ℕ) → s < m.swaps → a < length (m.cast s).deal.graph.arcs → (place m s a).from < length (slice_index_or m.chains (arc_chain m s a) [])
 
 -- where no account lacks units, every one has what is set aside from it
 abbrev pub NoLackIsCovered : Type 0

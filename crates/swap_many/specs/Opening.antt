@@ -5,7 +5,7 @@ use Rattle.std.specs.List.{range_with_len}
 use Rattle.swap_digraph.specs.declared.deal.Deal.{Deal}
 use Rattle.swap_digraph.specs.Deal.{amount}
 use Rattle.swap_run.specs.Run.{start}
-use Rattle.swap_world.specs.Value.{WorldState, cast_at}
+use Rattle.swap_world.specs.Value.{WorldState, world_cast}
 use Rattle.swap_many.specs.declared.overdrawn.Overdrawn.{Overdrawn}
 use Rattle.swap_many.specs.declared.place.Place.{Place}
 use Rattle.swap_many.specs.Accounts.{ChainState}
@@ -16,7 +16,7 @@ use Rattle.swap_many.specs.Value.{ManyState}
 
 -- A world before any event.
 pub record IsNew (w : WorldState) : Type 0 where
-  pub state : w.state ≡ start (cast_at w)
+  pub state : w.state ≡ start (world_cast w)
   pub goes_on : w.stopped ≡ false
 
 -- A place is a chain and two of its accounts.
@@ -49,7 +49,7 @@ pays_in d ps i x a = pays_by d (slice_index_or ps a nowhere) i x a
 
 -- what runs, but for what strategies answer
 abbrev pub setup_of_worlds : List WorldState → List (List Place) → List (List ℕ) → Setup
-setup_of_worlds ws places chains = record { swaps = length ws; cast = λ s. cast_at (nth ws s); places = places; chains = chains }
+setup_of_worlds ws places chains = record { swaps = length ws; cast = λ s. world_cast (nth ws s); places = places; chains = chains }
 
 -- chain i after the units that its slots need were set aside from its accounts
 abbrev pub new_chain : Setup → ℕ → ChainState

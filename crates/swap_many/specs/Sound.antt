@@ -3,7 +3,7 @@ use Rattle.std.specs.Prelude.{◌≡◌, ◌⊎◌, ℕ, ◌+◌, ◌==◌, ◌<
 use Rattle.swap_digraph.specs.Deal.{amount}
 use Rattle.ledger_core.specs.declared.entry.Entry.{Entry}
 use Rattle.ledger_core.specs.History.{published, settled}
-use Rattle.swap_many.specs.Chains.{Setup, chain_of, opening, ChainEntry, projection, Chains, total, free, is_swept, in_accounts}
+use Rattle.swap_many.specs.Chains.{Setup, arc_chain, opening, ChainEntry, projection, Chains, total, free, is_swept, in_accounts}
 use Rattle.swap_many.specs.Many.{Run}
 use Rattle.swap_many.specs.Kept.{Kept}
 use Rattle.swap_many.specs.Laws.{Follows, AreGood}
@@ -18,7 +18,7 @@ SweptIsOver h = (s a : ℕ) → is_swept s a h ≡ true → Over (projection s a
 
 -- what a slot on chain i counts for: its amount, until it is swept
 abbrev pub worth : Setup → ℕ → List ChainEntry → ℕ → ℕ → ℕ
-worth m i h s a = if chain_of m s a == i then (if is_swept s a h then 0 else amount (m.cast s).deal a) else 0
+worth m i h s a = if arc_chain m s a == i then (if is_swept s a h then 0 else amount (m.cast s).deal a) else 0
 
 -- what is free and what the slots count for are the opening units
 abbrev pub Count : Setup → ℕ → List ChainEntry → Type 0

@@ -4,11 +4,11 @@ use Rattle.swap_digraph.specs.declared.deal.Deal.{Deal}
 use Rattle.swap_digraph.specs.declared.deal.Mode.TheVariants.{Timelocks}
 use Rattle.swap_digraph.specs.declared.deal.Version.TheVariants.{One}
 use Rattle.swap_run.specs.Asked.{Answers}
-use Rattle.swap_world.specs.Value.{WorldState, cast_at, cast_for, Continues}
+use Rattle.swap_world.specs.Value.{WorldState, world_cast, answering_cast, Continues}
 use Rattle.swap_world.specs.Gone.{MayGive, HasAsked}
 use Rattle.swap_world.specs.Actors.{AreHeld}
 use Rattle.swap_many.specs.declared.place.Place.{Place}
-use Rattle.swap_many.specs.Accounts.{ChainState, units_in}
+use Rattle.swap_many.specs.Accounts.{ChainState, parse_units}
 use Rattle.swap_many.specs.Chains.{Setup, in_accounts, opening, placed}
 use Rattle.swap_many.specs.Many.{Run}
 use Rattle.swap_many.specs.Kept.{Kept}
@@ -62,37 +62,37 @@ abbrev pub no_chain : ChainState
 no_chain = record { clock = record { height = 0; ticks = 0 }; free = [] }
 
 -- the world of swap s
-abbrev pub world_at : ManyState → ℕ → WorldState
-world_at w s = slice_index_or w.worlds s no_world
+abbrev pub nth_world : ManyState → ℕ → WorldState
+nth_world w s = slice_index_or w.worlds s no_world
 
 -- chain i
-abbrev pub chain_at : ManyState → ℕ → ChainState
-chain_at w i = slice_index_or w.chains i no_chain
+abbrev pub nth_chain : ManyState → ℕ → ChainState
+nth_chain w i = slice_index_or w.chains i no_chain
 
 -- the slots of swap s that are swept
 abbrev pub swept_at : ManyState → ℕ → List Bool
 swept_at w s = slice_index_or w.swept s []
 
 -- what runs, but for what strategies answer
-abbrev pub setup_of : ManyState → Setup
-setup_of w = record { swaps = length w.worlds; cast = λ s. cast_at (world_at w s); places = w.places; chains = w.openings }
+abbrev pub world_setup : ManyState → Setup
+world_setup w = record { swaps = length w.worlds; cast = λ s. world_cast (nth_world w s); places = w.places; chains = w.openings }
 
 -- what runs, where the strategies of swap s answer g s
-abbrev pub setup_for : ManyState → (ℕ → Answers) → Setup
-setup_for w g = record { swaps = length w.worlds; cast = λ s. cast_for (world_at w s) (g s); places = w.places; chains = w.openings }
+abbrev pub made_setup : ManyState → (ℕ → Answers) → Setup
+made_setup w g = record { swaps = length w.worlds; cast = λ s. answering_cast (nth_world w s) (g s); places = w.places; chains = w.openings }
 
 -- what is kept
-abbrev pub kept_of : ManyState → Kept
-kept_of w = record {
-  swaps = λ s. (world_at w s).state;
-  clocks = λ i. (chain_at w i).clock;
-  free = λ i. units_in (chain_at w i).free;
+abbrev pub kept_state : ManyState → Kept
+kept_state w = record {
+  swaps = λ s. (nth_world w s).state;
+  clocks = λ i. (nth_chain w i).clock;
+  free = λ i. parse_units (nth_chain w i).free;
   swept = λ s a. slice_index_or (swept_at w s) a false;
 }
 
 -- the run of all that was done so far, by the histories of the chains
-abbrev pub run_of : ManyState → (ℕ → Answers) → Run
-run_of w g = run_by (setup_for w g) w.stages
+abbrev pub world_run : ManyState → (ℕ → Answers) → Run
+world_run w g = run_by (made_setup w g) w.stages
 
 -- on each chain all units are in one place
 abbrev pub UnitsArePlacedIn : Setup → Run → Type 0
@@ -100,15 +100,15 @@ UnitsArePlacedIn m r = (i : ℕ) → i < length m.chains → placed m i (r.chain
 
 -- the answers of each swap's strategies begin with those so far
 abbrev pub ContinueAll : ManyState → (ℕ → Answers) → Type 0
-ContinueAll w g = (s : ℕ) → s < length w.worlds → Continues (world_at w s) (g s)
+ContinueAll w g = (s : ℕ) → s < length w.worlds → Continues (nth_world w s) (g s)
 
 -- each strategy that a party of a swap follows is held
 abbrev pub AreAllHeld : (List ℕ → Bool) → ManyState → Type 0
-AreAllHeld holds w = (s : ℕ) → s < length w.worlds → AreHeld holds (world_at w s).roles
+AreAllHeld holds w = (s : ℕ) → s < length w.worlds → AreHeld holds (nth_world w s).roles
 
 -- all is ready, whatever is answered
 abbrev pub AreReady : ManyState → Type 0
-AreReady w = (g : ℕ → Answers) → IsReady (setup_for w g)
+AreReady w = (g : ℕ → Answers) → IsReady (made_setup w g)
 
 -- A fair finish may go on: memory never ran out, all is ready, and each strategy is held.
 pub record IsOn (holds : List ℕ → Bool) (w : ManyState) : Type 0 where
@@ -119,13 +119,13 @@ pub record IsOn (holds : List ℕ → Bool) (w : ManyState) : Type 0 where
 -- The party is one of the swap.
 pub record IsPartyOf (w : ManyState) (s p : ℕ) : Type 0 where
   pub swap : s < length w.worlds
-  pub party : p < (world_at w s).deal.graph.n
+  pub party : p < (nth_world w s).deal.graph.n
 
 -- The same swaps, places and openings; each swap's strategies were asked some more.
 pub record AreSame (gives : MayGive) (old new : ManyState) : Type 0 where
   pub swaps : length new.worlds ≡ length old.worlds
-  pub casts : (s : ℕ) → cast_at (world_at new s) ≡ cast_at (world_at old s)
-  pub asked : (s : ℕ) → HasAsked gives (world_at old s) (world_at new s)
+  pub casts : (s : ℕ) → world_cast (nth_world new s) ≡ world_cast (nth_world old s)
+  pub asked : (s : ℕ) → HasAsked gives (nth_world old s) (nth_world new s)
   pub places : new.places ≡ old.places
   pub openings : new.openings ≡ old.openings
 
@@ -133,19 +133,19 @@ pub record AreSame (gives : MayGive) (old new : ManyState) : Type 0 where
 pub record HasManyGone (gives : MayGive) (f : Setup → Kept → Kept) (old new : ManyState) : Type 0 where
   pub same : AreSame gives old new
   pub goes_on : new.stopped ≡ old.stopped
-  pub kept : (g : ℕ → Answers) → ContinueAll new g → kept_of new ≡ f (setup_for old g) (kept_of old)
+  pub kept : (g : ℕ → Answers) → ContinueAll new g → kept_state new ≡ f (made_setup old g) (kept_state old)
 
 -- The books, the heights and the free accounts are those of a state between z and t, which steps lead to and from.
 pub record IsBetween (m : Setup) (z t : Kept) (w : ManyState) : Type 0 where
   pub there : Kept
   pub before : Leads m z there
   pub after : Leads m there t
-  pub books : (s : ℕ) → s < length w.worlds → (world_at w s).state.book ≡ (there.swaps s).book
-  pub clocks : (i : ℕ) → (chain_at w i).clock ≡ there.clocks i
-  pub free : (i : ℕ) → units_in (chain_at w i).free ≡ there.free i
+  pub books : (s : ℕ) → s < length w.worlds → (nth_world w s).state.book ≡ (there.swaps s).book
+  pub clocks : (i : ℕ) → (nth_chain w i).clock ≡ there.clocks i
+  pub free : (i : ℕ) → parse_units (nth_chain w i).free ≡ there.free i
 
 -- Memory ran out on the way to where f leads.
 pub record IsManyStopped (gives : MayGive) (f : Setup → Kept → Kept) (old new : ManyState) : Type 0 where
   pub stopped : new.stopped ≡ true
   pub same : AreSame gives old new
-  pub way : (g : ℕ → Answers) → ContinueAll new g → IsBetween (setup_for old g) (kept_of old) (f (setup_for old g) (kept_of old)) new
+  pub way : (g : ℕ → Answers) → ContinueAll new g → IsBetween (made_setup old g) (kept_state old) (f (made_setup old g) (kept_state old)) new

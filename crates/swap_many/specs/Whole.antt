@@ -4,16 +4,16 @@ use Rattle.swap_run.specs.Asked.{Answers}
 use Rattle.swap_many.specs.declared.many_world.ManyWorld.TheInside.{Inside}
 use Rattle.swap_many.specs.Sound.{Keeps}
 use Rattle.swap_many.specs.Stages.{stages_in}
-use Rattle.swap_many.specs.Value.{ManyState, setup_for, kept_of, run_of, ContinueAll}
+use Rattle.swap_many.specs.Value.{ManyState, made_setup, kept_state, world_run, ContinueAll}
 use Rattle.swap_many.specs.Inside.{AreWhole}
 
-abbrev pub many_in : Inside → ManyState
-many_in w = record w.worlds { stages = stages_in (map (λ p. p.items) w.stretches.items) w.events.items }
+abbrev pub inside_many_job : Inside → ManyState
+inside_many_job w = record w.worlds { stages = stages_in (map (λ p. p.items) w.stretches.items) w.events.items }
 
 -- what is kept is that of the run of all that was done
 abbrev pub IsOfRun : ManyState → Type 0
-IsOfRun w = w.stopped ≡ false → (g : ℕ → Answers) → ContinueAll w g → Keeps (setup_for w g) (run_of w g) (kept_of w)
+IsOfRun w = w.stopped ≡ false → (g : ℕ → Answers) → ContinueAll w g → Keeps (made_setup w g) (world_run w g) (kept_state w)
 
 pub record Holds (w : Inside) : Type 0 where
-  pub whole : AreWhole (many_in w)
-  pub runs : IsOfRun (many_in w)
+  pub whole : AreWhole (inside_many_job w)
+  pub runs : IsOfRun (inside_many_job w)

@@ -2,22 +2,21 @@
 
 ghost use Rattle.std.specs.Prelude.{◌≡◌, ◌<◌, ◌≤◌, ◌+◌, ℕ, IfOk, OnOk, OnErr, fold, length, true, false};
 ghost use Rattle.std.specs.List.{range_with_len};
-ghost use Rattle.swap_digraph.specs.Deal.{IsWellSized};
-ghost use Rattle.swap_run.specs.Fair.{adjacent_arcs, most_acts, repeat};
+ghost use Rattle.swap_run.specs.Fair.{adjacent_arcs, repeat};
 ghost use Rattle.swap_run.specs.Run.{conforms};
-ghost use Rattle.swap_world.specs.Value.{cast_at};
+ghost use Rattle.swap_world.specs.Value.{world_cast};
 ghost use Rattle.swap_many.specs.Fair.{kept_acts, kept_looks, kept_round, kept_round_or_rest, kept_rounds, kept_sweeps, kept_ticks, kept_turn, kept_turns};
 ghost use Rattle.swap_many.specs.Fair.{have_ended, sweeps_of};
 ghost use Rattle.swap_many.specs.Kept.{kept_finish};
 ghost use Rattle.swap_many.specs.Many.{last_horizon};
 ghost use Rattle.swap_many.specs.Near.{AreNear, near_in};
-ghost use Rattle.swap_many.specs.Value.{HasManyGone, IsManyStopped, IsOn, IsPartyOf, kept_of, setup_of, world_at};
+ghost use Rattle.swap_many.specs.Value.{HasManyGone, IsManyStopped, IsOn, IsPartyOf, kept_state, world_setup, nth_world};
 
 use crate::worlds::Worlds;
 use deviators::Strategies;
 use swap_base::{ArcId, Listed, NoMemory, PartyId};
-use swap_digraph::Deal;
 use swap_job::Event;
+use swap_world::most_acts;
 
 /// Lets a party of a swap look at each of these arcs, which are those that touch it.
 fn look_around<A: Strategies>(
@@ -28,7 +27,7 @@ fn look_around<A: Strategies>(
     near: &[ArcId],
 ) -> Result<(), NoMemory>
     requires party { IsPartyOf worlds.old swap p }
-    requires near { near.now ≡ adjacent_arcs (world_at worlds.old swap).deal p }
+    requires near { near.now ≡ adjacent_arcs (nth_world worlds.old swap).deal p }
     requires on { IsOn (A.holds staff.now) worlds.old }
     ensures ok { OnOk result (HasManyGone (A.gives staff.now) (kept_looks swap p) worlds.old worlds.new) }
     ensures err { OnErr result (IsManyStopped (A.gives staff.now) (kept_looks swap p) worlds.old worlds.new) }
@@ -39,14 +38,6 @@ fn look_around<A: Strategies>(
     Ok(())
 }
 
-/// The most calls of a party that conforms.
-fn most_acts(deal: &Deal) -> u32
-    requires { IsWellSized deal.now }
-    ensures { result ≡ most_acts deal.now }
-{
-    (deal.leaders.len() as u32 + 3) * deal.graph.arcs().len() as u32
-}
-
 /// Lets a conforming party act until nothing is due.
 fn act_to_rest<A: Strategies>(
     worlds: &mut Worlds,
@@ -55,7 +46,7 @@ fn act_to_rest<A: Strategies>(
     p: PartyId,
 ) -> Result<(), NoMemory>
     requires party { IsPartyOf worlds.old swap p }
-    requires conforms { conforms (cast_at (world_at worlds.old swap)) p ≡ true }
+    requires conforms { conforms (world_cast (nth_world worlds.old swap)) p ≡ true }
     requires on { IsOn (A.holds staff.now) worlds.old }
     ensures ok { OnOk result (HasManyGone (A.gives staff.now) (kept_acts swap p) worlds.old worlds.new) }
     ensures err { OnErr result (IsManyStopped (A.gives staff.now) (kept_acts swap p) worlds.old worlds.new) }
@@ -77,7 +68,7 @@ fn turn<A: Strategies>(
     near: &[ArcId],
 ) -> Result<(), NoMemory>
     requires party { IsPartyOf worlds.old swap p }
-    requires near { near.now ≡ adjacent_arcs (world_at worlds.old swap).deal p }
+    requires near { near.now ≡ adjacent_arcs (nth_world worlds.old swap).deal p }
     requires on { IsOn (A.holds staff.now) worlds.old }
     ensures ok { OnOk result (HasManyGone (A.gives staff.now) (λ m z. kept_turn swap m z p) worlds.old worlds.new) }
     ensures err { OnErr result (IsManyStopped (A.gives staff.now) (λ m z. kept_turn swap m z p) worlds.old worlds.new) }
@@ -98,7 +89,7 @@ fn turns<A: Strategies>(
     near: &[Listed<ArcId>],
 ) -> Result<(), NoMemory>
     requires swap { swap < length worlds.old.worlds }
-    requires near { near.now ≡ near_in (world_at worlds.old swap) }
+    requires near { near.now ≡ near_in (nth_world worlds.old swap) }
     requires on { IsOn (A.holds staff.now) worlds.old }
     ensures ok { OnOk result (HasManyGone (A.gives staff.now) (λ m z. kept_turns m z swap) worlds.old worlds.new) }
     ensures err { OnErr result (IsManyStopped (A.gives staff.now) (λ m z. kept_turns m z swap) worlds.old worlds.new) }
@@ -157,8 +148,8 @@ fn round<A: Strategies>(
 
 /// Whether each chain is above that height.
 fn have_ended(worlds: &Worlds, horizon: u64) -> bool
-    requires { horizon ≡ last_horizon (setup_of worlds.now) }
-    ensures { result ≡ have_ended (setup_of worlds.now) (kept_of worlds.now) }
+    requires { horizon ≡ last_horizon (world_setup worlds.now) }
+    ensures { result ≡ have_ended (world_setup worlds.now) (kept_state worlds.now) }
 {
     'each: for chain in 0..worlds.chains() {
         if worlds.height(chain) as u64 <= horizon {
@@ -190,8 +181,8 @@ fn advance<A: Strategies>(
     most: u64,
 ) -> Result<u64, NoMemory>
     requires near { AreNear near.now worlds.old.worlds }
-    requires horizon { horizon ≡ last_horizon (setup_of worlds.old) }
-    requires low { have_ended (setup_of worlds.old) (kept_of worlds.old) ≡ false }
+    requires horizon { horizon ≡ last_horizon (world_setup worlds.old) }
+    requires low { have_ended (world_setup worlds.old) (kept_state worlds.old) ≡ false }
     requires some { 1 ≤ most }
     requires on { IsOn (A.holds staff.now) worlds.old }
     ensures ok { IfOk result (λ n. HasManyGone (A.gives staff.now) (λ m z. repeat n (kept_round_or_rest m) z) worlds.old worlds.new) }

@@ -6,15 +6,15 @@ ghost use Rattle.swap_digraph.specs.Deal.{IsWellSized};
 ghost use Rattle.swap_rules.specs.Outcome.{IsEnded};
 ghost use Rattle.swap_run.specs.Asked.{Answers};
 ghost use Rattle.swap_run.specs.Laws.{IsKept};
-ghost use Rattle.swap_world.specs.Value.{cast_at};
-ghost use Rattle.swap_many.specs.Accounts.{units_in};
+ghost use Rattle.swap_world.specs.Value.{world_cast};
+ghost use Rattle.swap_many.specs.Accounts.{parse_units};
 ghost use Rattle.swap_many.specs.Kept.{kept_done, kept_finish};
 ghost use Rattle.swap_many.specs.Laws.{CanCome, Follows};
 ghost use Rattle.swap_many.specs.Many.{many_reply};
 ghost use Rattle.swap_many.specs.Opening.{AreOpenable, opened};
 ghost use Rattle.swap_many.specs.Stages.{Came, Finished};
-ghost use Rattle.swap_many.specs.Value.{AreAllHeld, ContinueAll, HasManyGone, IsManyStopped, UnitsArePlacedIn, chain_at, kept_of, run_of, setup_for, setup_of};
-ghost use Rattle.swap_many.specs.Value.{world_at};
+ghost use Rattle.swap_many.specs.Value.{AreAllHeld, ContinueAll, HasManyGone, IsManyStopped, UnitsArePlacedIn, nth_chain, kept_state, world_run, made_setup, world_setup};
+ghost use Rattle.swap_many.specs.Value.{nth_world};
 
 use crate::fair;
 use crate::many_event::ManyEvent;
@@ -44,9 +44,9 @@ impl Model for ManyWorld {
 
     ghost Value = { ManyState };
 
-    ghost use Rattle.swap_many.specs.Whole.{many_in, Holds};
+    ghost use Rattle.swap_many.specs.Whole.{inside_many_job, Holds};
 
-    ghost view = { many_in };
+    ghost view = { inside_many_job };
 
     ghost invariant = { Holds };
 }
@@ -83,21 +83,21 @@ impl ManyWorld {
         staff: &A,
         event: &ManyEvent,
     ) -> Result<Option<ManyReply>, NoMemory>
-        requires event { CanCome (setup_of self.old) event.now }
+        requires event { CanCome (world_setup self.old) event.now }
         requires held { AreAllHeld (A.holds staff.now) self.old }
         ensures ok { OnOk result (HasManyGone (A.gives staff.now) (λ m z. kept_done false m z event.now) self.old self.new) }
         ensures stages { OnOk result (self.new.stages ≡ self.old.stages ++ Came event.now ∷ []) }
         // The reply, and all that is kept, are those of the run by the chains' histories.
         ensures reply { IfOk result (λ r. (g : ℕ → Answers) → ContinueAll self.new g
-            → r ≡ many_reply (setup_for self.old g) (run_of self.old g) event.now) }
+            → r ≡ many_reply (made_setup self.old g) (world_run self.old g) event.now) }
         ensures history { OnOk result ((g : ℕ → Answers) → ContinueAll self.new g
-            → Follows (setup_for self.new g) (run_of self.new g) (kept_of self.new)) }
+            → Follows (made_setup self.new g) (world_run self.new g) (kept_state self.new)) }
         // On every chain all units are in one place.
-        ensures units { OnOk result ((g : ℕ → Answers) → ContinueAll self.new g → UnitsArePlacedIn (setup_for self.new g) (run_of self.new g)) }
+        ensures units { OnOk result ((g : ℕ → Answers) → ContinueAll self.new g → UnitsArePlacedIn (made_setup self.new g) (world_run self.new g)) }
         ensures err { OnErr result (IsManyStopped (A.gives staff.now) (λ m z. kept_done false m z event.now) self.old self.new) }
         ensures stopped { IsTrue self.old.stopped → IsErr result × (self.new ≡ self.old) }
         // Whatever the others do, and whether memory ran out or not, every swap's book is legal and its conforming parties have kept their conduct.
-        ensures kept { (s : ℕ) → s < length self.new.worlds → IsKept (cast_at (world_at self.new s)) (world_at self.new s).state.book }
+        ensures kept { (s : ℕ) → s < length self.new.worlds → IsKept (world_cast (nth_world self.new s)) (nth_world self.new s).state.book }
     {
         if self.worlds.is_stopped() {
             return Err(NoMemory);
@@ -116,12 +116,12 @@ impl ManyWorld {
         ensures ok { OnOk result (HasManyGone (A.gives staff.now) kept_finish self.old self.new) }
         ensures stages { OnOk result (self.new.stages ≡ self.old.stages ++ Finished ∷ []) }
         ensures history { OnOk result ((g : ℕ → Answers) → ContinueAll self.new g
-            → Follows (setup_for self.new g) (run_of self.new g) (kept_of self.new)) }
-        ensures units { OnOk result ((g : ℕ → Answers) → ContinueAll self.new g → UnitsArePlacedIn (setup_for self.new g) (run_of self.new g)) }
-        ensures ended { OnOk result ((s : ℕ) → s < length self.new.worlds → IsEnded (world_at self.new s).deal (world_at self.new s).state.book) }
+            → Follows (made_setup self.new g) (world_run self.new g) (kept_state self.new)) }
+        ensures units { OnOk result ((g : ℕ → Answers) → ContinueAll self.new g → UnitsArePlacedIn (made_setup self.new g) (world_run self.new g)) }
+        ensures ended { OnOk result ((s : ℕ) → s < length self.new.worlds → IsEnded (nth_world self.new s).deal (nth_world self.new s).state.book) }
         ensures err { OnErr result (IsManyStopped (A.gives staff.now) kept_finish self.old self.new) }
         ensures stopped { IsTrue self.old.stopped → IsErr result × (self.new ≡ self.old) }
-        ensures kept { (s : ℕ) → s < length self.new.worlds → IsKept (cast_at (world_at self.new s)) (world_at self.new s).state.book }
+        ensures kept { (s : ℕ) → s < length self.new.worlds → IsKept (world_cast (nth_world self.new s)) (nth_world self.new s).state.book }
     {
         if self.worlds.is_stopped() {
             return Err(NoMemory);
@@ -138,8 +138,8 @@ impl ManyWorld {
     /// The book of a swap so far, also where memory ran out on the way.
     pub fn copy_book(&self, alloc: Global, swap: u8) -> Result<Book, NoMemory>
         requires { swap < length self.now.worlds }
-        ensures value { IfOk result (λ b. b.histories ≡ (world_at self.now swap).state.book) }
-        ensures kept { IsKept (cast_at (world_at self.now swap)) (world_at self.now swap).state.book }
+        ensures value { IfOk result (λ b. b.histories ≡ (nth_world self.now swap).state.book) }
+        ensures kept { IsKept (world_cast (nth_world self.now swap)) (nth_world self.now swap).state.book }
     {
         self.worlds.copy_book(alloc, swap)
     }
@@ -148,7 +148,7 @@ impl ManyWorld {
     pub fn free(&self, chain: u8, account: u8) -> u64
         requires chain { chain < length self.now.openings }
         requires account { account < length (slice_index_or self.now.openings chain []) }
-        ensures { result ≡ units_in (chain_at self.now chain).free account }
+        ensures { result ≡ parse_units (nth_chain self.now chain).free account }
     {
         self.worlds.free(chain, account)
     }
@@ -156,7 +156,7 @@ impl ManyWorld {
     /// The height of a chain.
     pub fn height(&self, chain: u8) -> u32
         requires { chain < length self.now.openings }
-        ensures { result ≡ (chain_at self.now chain).clock.height }
+        ensures { result ≡ (nth_chain self.now chain).clock.height }
     {
         self.worlds.height(chain)
     }
@@ -178,7 +178,7 @@ impl ManyWorld {
     /// The deal of a swap.
     pub fn deal(&self, swap: u8) -> &Deal
         requires { swap < length self.now.worlds }
-        ensures value { result.now ≡ (world_at self.now swap).deal }
+        ensures value { result.now ≡ (nth_world self.now swap).deal }
         ensures sized { IsWellSized result.now }
     {
         self.worlds.deal(swap)

@@ -6,7 +6,7 @@ ghost use Rattle.swap_base.specs.Fault.{Gives};
 ghost use Rattle.swap_digraph.specs.Deal.{IsWellSized};
 ghost use Rattle.swap_digraph.specs.Graph.{arcs};
 ghost use Rattle.swap_run.specs.Laws.{IsReadyCast};
-ghost use Rattle.swap_world.specs.Value.{cast_at};
+ghost use Rattle.swap_world.specs.Value.{world_cast};
 ghost use Rattle.swap_many.specs.Chains.{set_aside};
 ghost use Rattle.swap_many.specs.Inside.{standing, stands};
 ghost use Rattle.swap_many.specs.Opened.{lack_on, overdrawn};
@@ -23,7 +23,7 @@ use swap_digraph::Deal;
 use swap_world::World;
 
 /// What an account of a chain pays for an arc.
-fn paid_for(deal: &Deal, place: Place, arc: ArcId, chain: u8, account: u8) -> u64
+fn paid_units(deal: &Deal, place: Place, arc: ArcId, chain: u8, account: u8) -> u64
     requires sized { IsWellSized deal.now }
     requires arc { arc < length deal.now.graph.arcs }
     ensures value { result ≡ pays_by deal.now place chain account arc }
@@ -36,7 +36,7 @@ fn paid_for(deal: &Deal, place: Place, arc: ArcId, chain: u8, account: u8) -> u6
 }
 
 /// What an account of a chain pays for the arcs of a swap.
-fn aside_in(world: &World, places: &[Place], chain: u8, account: u8) -> u64
+fn units_aside(world: &World, places: &[Place], chain: u8, account: u8) -> u64
     requires { length places.now ≡ length world.now.deal.graph.arcs }
     ensures value { result ≡ sum_by (pays_in world.now.deal places.now chain account) (arcs world.now.deal.graph) }
     ensures few { result ≤ 10 ^ 15 }
@@ -44,7 +44,7 @@ fn aside_in(world: &World, places: &[Place], chain: u8, account: u8) -> u64
     let deal = world.deal();
     let mut sum = 0;
     'arcs: for arc in 0..places.len() {
-        sum += paid_for(deal, places[arc], arc as ArcId, chain, account);
+        sum += paid_units(deal, places[arc], arc as ArcId, chain, account);
     }
     sum
 }
@@ -56,7 +56,7 @@ fn aside(worlds: &[World], places: &[Listed<Place>], chain: u8, account: u8) -> 
 {
     let mut sum = 0;
     'swaps: for s in 0..worlds.len() {
-        sum += aside_in(&worlds[s], places[s].as_slice(), chain, account);
+        sum += units_aside(&worlds[s], places[s].as_slice(), chain, account);
     }
     sum
 }
@@ -117,7 +117,7 @@ pub(crate) fn open_chains(
 /// The swept slots of each swap, none.
 pub(crate) fn none_swept(alloc: Global, worlds: &[World]) -> Result<Vec<Flags>, NoMemory>
     ensures value { IfOk result (λ v. v.items ≡ map none_swept worlds.now) }
-    ensures ready { IfOk result (λ v. (s : ℕ) → s < length worlds.now → IsReadyCast (cast_at (nth worlds.now s))) }
+    ensures ready { IfOk result (λ v. (s : ℕ) → s < length worlds.now → IsReadyCast (world_cast (nth worlds.now s))) }
 {
     let mut all = Vec::new(alloc);
     'swaps: for world in worlds {
@@ -181,7 +181,7 @@ pub(crate) fn standing(
 }
 
 /// The opening units, for clauses alone.
-pub(crate) fn told_of(chains: &[Listed<u64>]) -> Past<Listed<u64>>
+pub(crate) fn build_told(chains: &[Listed<u64>]) -> Past<Listed<u64>>
     ensures { result.items ≡ chains.now }
 {
     let mut told = Past::new();

@@ -2,7 +2,7 @@
 
 ghost use Rattle.std.specs.Prelude.{◌≡◌, ◌⊎◌, ◌<◌, ◌≤◌, ◌+◌, ℕ, false, length, slice_index_or};
 ghost use Rattle.swap_world.specs.Quiet.{IsStill};
-ghost use Rattle.swap_world.specs.Value.{cast_at};
+ghost use Rattle.swap_world.specs.Value.{world_cast};
 ghost use Rattle.swap_many.specs.Near.{AreNear};
 ghost use Rattle.swap_many.specs.Ticking.{nth};
 ghost use Rattle.swap_many.specs.Value.{no_chain};
@@ -12,7 +12,7 @@ use swap_base::{ArcId, Listed};
 use swap_world::World;
 
 /// Up to `most` rounds, each with one tick, for which the height stays at or below the horizon.
-fn rounds_up_to(height: u32, horizon: u64, most: u64) -> u64
+fn remaining_rounds(height: u32, horizon: u64, most: u64) -> u64
     ensures few { result ≤ most }
     ensures low { 0 < result → height + result ≤ horizon }
 {
@@ -33,13 +33,13 @@ fn more(a: u64, b: u64) -> u64
 }
 
 /// Up to `most` rounds for which some chain stays at or below the horizon.
-pub(crate) fn rounds_below(chains: &[Chain], horizon: u64, most: u64) -> u64
+pub(crate) fn horizon_rounds(chains: &[Chain], horizon: u64, most: u64) -> u64
     ensures few { result ≤ most }
     ensures low { 0 < result → (q : ℕ) × (q < length chains.now) × ((slice_index_or chains.now q no_chain).clock.height + result ≤ horizon) }
 {
     let mut rounds = 0;
     'chains: for i in 0..chains.len() {
-        rounds = more(rounds, rounds_up_to(chains[i].height(), horizon, most));
+        rounds = more(rounds, remaining_rounds(chains[i].height(), horizon, most));
     }
     rounds
 }
@@ -49,14 +49,14 @@ pub(crate) fn rounds_still(worlds: &[World], near: &[Listed<Listed<ArcId>>], mos
     requires near { AreNear near.now worlds.now }
     requires go_on { (s : ℕ) → s < length worlds.now → (nth worlds.now s).stopped ≡ false }
     ensures few { result ≤ most }
-    ensures still { 0 < result → (s : ℕ) → s < length worlds.now → IsStill (cast_at (nth worlds.now s)) result (nth worlds.now s).state }
+    ensures still { 0 < result → (s : ℕ) → s < length worlds.now → IsStill (world_cast (nth worlds.now s)) result (nth worlds.now s).state }
 {
     let mut rounds = most;
     'swaps: for s in 0..worlds.len() {
         if rounds == 0 {
             return 0;
         }
-        rounds = worlds[s].rests_for(near[s].as_slice(), rounds);
+        rounds = worlds[s].rest_rounds(near[s].as_slice(), rounds);
     }
     rounds
 }

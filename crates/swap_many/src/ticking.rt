@@ -14,7 +14,7 @@ pub(crate) fn tick_worlds(worlds: &mut Vec<World>, on: &[Listed<ArcId>], k: u32)
     ensures { AreTicked on.now k (length worlds.old.items) worlds.old.items worlds.new.items }
 {
     'swaps: for s in 0..worlds.len() {
-        worlds[s].tick_on(on[s].as_slice(), k);
+        worlds[s].tick_ledgers(on[s].as_slice(), k);
     }
 }
 

@@ -8,28 +8,28 @@ ghost use Rattle.swap_base.specs.Fault.{Gives};
 ghost use Rattle.swap_digraph.specs.Deal.{IsWellSized};
 ghost use Rattle.swap_run.specs.Fair.{the_horizon};
 ghost use Rattle.swap_run.specs.Run.{conforms};
-ghost use Rattle.swap_world.specs.Value.{cast_at};
-ghost use Rattle.swap_many.specs.Accounts.{units_in};
+ghost use Rattle.swap_world.specs.Value.{world_cast};
+ghost use Rattle.swap_many.specs.Accounts.{parse_units};
 ghost use Rattle.swap_many.specs.Fair.{SkipsTo, have_ended};
 ghost use Rattle.swap_many.specs.Inside.{AreWhole};
 ghost use Rattle.swap_many.specs.Many.{last_horizon};
-ghost use Rattle.swap_many.specs.Chains.{chain_of, place};
+ghost use Rattle.swap_many.specs.Chains.{arc_chain, place};
 ghost use Rattle.swap_many.specs.Kept.{answer_payment, answer_sweep, answer_tick, kept_done, kept_reply};
 ghost use Rattle.swap_many.specs.Laws.{CanCome, CanHappen, CanPay, CanSweep, CanTickChain};
 ghost use Rattle.swap_many.specs.Near.{AreNear};
 ghost use Rattle.swap_many.specs.Opening.{AreOpenable, opened};
 ghost use Rattle.swap_many.specs.Told.{told_result};
-ghost use Rattle.swap_many.specs.Value.{AreAllHeld, ContinueAll, HasManyGone, IsManyStopped, chain_at, kept_of, setup_for, setup_of, world_at};
+ghost use Rattle.swap_many.specs.Value.{AreAllHeld, ContinueAll, HasManyGone, IsManyStopped, nth_chain, kept_state, made_setup, world_setup, nth_world};
 
 use crate::chain::Chain;
 use crate::flags::Flags;
 use crate::many_event::ManyEvent;
 use crate::many_reply::ManyReply;
 use crate::near::arcs_by_swap;
-use crate::opening::{none_swept, open_chains, standing, told_of};
+use crate::opening::{build_told, none_swept, open_chains, standing};
 use crate::overdrawn::ManyFault;
 use crate::place::Place;
-use crate::quiet::{rounds_below, rounds_still};
+use crate::quiet::{horizon_rounds, rounds_still};
 use crate::ticking::{has_stopped, tick_worlds};
 use deviators::Strategies;
 use escrow_core::Reply;
@@ -61,15 +61,15 @@ impl Model for Worlds {
 
     ghost Value = { ManyState };
 
-    ghost use Rattle.swap_many.specs.Inside.{worlds_in, Holds};
+    ghost use Rattle.swap_many.specs.Inside.{inside_worlds, Holds};
 
-    ghost view = { worlds_in };
+    ghost view = { inside_worlds };
 
     ghost invariant = { Holds };
 }
 
 /// What a chain replies where a world is told that of a call.
-fn reply_of(told: Result<Told, NoMemory>) -> Result<Option<ManyReply>, NoMemory>
+fn make_reply(told: Result<Told, NoMemory>) -> Result<Option<ManyReply>, NoMemory>
     ensures { result ≡ told_result told }
 {
     match told {
@@ -118,7 +118,7 @@ impl Worlds {
         let swept = none_swept(alloc, &worlds)?;
         let on = standing(alloc, &worlds, places.as_slice(), chains.len() as u8)?;
         Ok(Worlds {
-            openings: told_of(chains),
+            openings: build_told(chains),
             chains: opened,
             swept,
             on,
@@ -135,18 +135,18 @@ impl Worlds {
         swap: u8,
         event: &Event,
     ) -> Result<Option<ManyReply>, NoMemory>
-        requires event { CanHappen (setup_of self.old) swap event.now }
+        requires event { CanHappen (world_setup self.old) swap event.now }
         requires held { AreAllHeld (A.holds staff.now) self.old }
         requires goes_on { self.old.stopped ≡ false }
         ensures ok { OnOk result (HasManyGone (A.gives staff.now) (λ m z. kept_done false m z (ManyEvent.In swap event.now)) self.old self.new) }
         ensures reply { IfOk result (λ r. (g : ℕ → Answers) → ContinueAll self.new g
-            → r ≡ kept_reply false (setup_for self.old g) (kept_of self.old) (ManyEvent.In swap event.now)) }
+            → r ≡ kept_reply false (made_setup self.old g) (kept_state self.old) (ManyEvent.In swap event.now)) }
         ensures err { OnErr result (IsManyStopped (A.gives staff.now) (λ m z. kept_done false m z (ManyEvent.In swap event.now)) self.old self.new) }
     {
         let place = swap as usize;
-        let told = self.worlds[place].step_on(staff, event, self.swept[place].as_slice());
+        let told = self.worlds[place].apply_step(staff, event, self.swept[place].as_slice());
         self.stopped = told.is_err();
-        reply_of(told)
+        make_reply(told)
     }
 
     /// Pays units from one free account of a chain to another.
@@ -158,10 +158,10 @@ impl Worlds {
         to: u8,
         units: u64,
     ) -> ManyReply
-        requires event { CanPay (setup_of self.old) chain from to }
+        requires event { CanPay (world_setup self.old) chain from to }
         requires goes_on { self.old.stopped ≡ false }
         ensures gone { HasManyGone (A.gives _staff.now) (λ m z. kept_done false m z (ManyEvent.Pay chain from to units)) self.old self.new }
-        ensures reply { result ≡ answer_payment (kept_of self.old) chain from units }
+        ensures reply { result ≡ answer_payment (kept_state self.old) chain from units }
     {
         self.chains[chain as usize].pay(from, to, units)
     }
@@ -172,10 +172,10 @@ impl Worlds {
         chain: u8,
         k: u32,
     ) -> Result<ManyReply, NoMemory>
-        requires event { CanTickChain (setup_of self.old) chain k }
+        requires event { CanTickChain (world_setup self.old) chain k }
         requires goes_on { self.old.stopped ≡ false }
         ensures ok { OnOk result (HasManyGone (A.gives _staff.now) (λ m z. kept_done false m z (ManyEvent.Tick chain k)) self.old self.new) }
-        ensures reply { IfOk result (λ r. r ≡ answer_tick (kept_of self.old) chain k) }
+        ensures reply { IfOk result (λ r. r ≡ answer_tick (kept_state self.old) chain k) }
         ensures err { OnErr result (IsManyStopped (A.gives _staff.now) (λ m z. kept_done false m z (ManyEvent.Tick chain k)) self.old self.new) }
     {
         let reply = self.chains[chain as usize].tick(k);
@@ -193,8 +193,8 @@ impl Worlds {
 
     /// Where an arc stands.
     fn place(&self, swap: u8, arc: ArcId) -> Place
-        requires { CanSweep (setup_of self.now) swap arc }
-        ensures { result ≡ place (setup_of self.now) swap arc }
+        requires { CanSweep (world_setup self.now) swap arc }
+        ensures { result ≡ place (world_setup self.now) swap arc }
     {
         self.places.as_slice()[swap as usize].as_slice()[arc as usize]
     }
@@ -202,7 +202,7 @@ impl Worlds {
     /// The height above which a swap has ended.
     fn horizon(&self, swap: u8) -> u64
         requires { swap < length self.now.worlds }
-        ensures value { result ≡ the_horizon (world_at self.now swap).deal }
+        ensures value { result ≡ the_horizon (nth_world self.now swap).deal }
         ensures few { result ≤ 14000 }
     {
         let deal = self.worlds[swap as usize].deal();
@@ -210,9 +210,9 @@ impl Worlds {
     }
 
     /// The height of the chain of an arc.
-    fn height_of(&self, swap: u8, arc: ArcId) -> u32
-        requires { CanSweep (setup_of self.now) swap arc }
-        ensures { result ≡ ((kept_of self.now).clocks (chain_of (setup_of self.now) swap arc)).height }
+    fn latest_height(&self, swap: u8, arc: ArcId) -> u32
+        requires { CanSweep (world_setup self.now) swap arc }
+        ensures { result ≡ ((kept_state self.now).clocks (arc_chain (world_setup self.now) swap arc)).height }
     {
         let place = self.place(swap, arc);
         self.chains[place.chain as usize].height()
@@ -220,45 +220,45 @@ impl Worlds {
 
     /// Whether the slot of an arc is swept.
     fn is_swept(&self, swap: u8, arc: ArcId) -> bool
-        requires { CanSweep (setup_of self.now) swap arc }
-        ensures { result ≡ (kept_of self.now).swept swap arc }
+        requires { CanSweep (world_setup self.now) swap arc }
+        ensures { result ≡ (kept_state self.now).swept swap arc }
     {
         self.swept[swap as usize].as_slice()[arc as usize]
     }
 
     /// Whether a publish was accepted on an arc that isn't settled.
     fn is_unsettled(&self, swap: u8, arc: ArcId) -> bool
-        requires { CanSweep (setup_of self.now) swap arc }
-        ensures { result ≡ (is_some (published (history ((kept_of self.now).swaps swap).book arc))
-            && is_none (settled (history ((kept_of self.now).swaps swap).book arc))) }
+        requires { CanSweep (world_setup self.now) swap arc }
+        ensures { result ≡ (is_some (published (history ((kept_state self.now).swaps swap).book arc))
+            && is_none (settled (history ((kept_state self.now).swaps swap).book arc))) }
     {
         self.worlds[swap as usize].is_unsettled(arc)
     }
 
     /// Whether a publish was accepted on an arc.
     fn is_published(&self, swap: u8, arc: ArcId) -> bool
-        requires { CanSweep (setup_of self.now) swap arc }
-        ensures { result ≡ is_some (published (history ((kept_of self.now).swaps swap).book arc)) }
+        requires { CanSweep (world_setup self.now) swap arc }
+        ensures { result ≡ is_some (published (history ((kept_state self.now).swaps swap).book arc)) }
     {
         self.worlds[swap as usize].is_published(arc)
     }
 
     /// The units of an arc.
     fn accounts(&self, swap: u8, arc: ArcId) -> Accounts
-        requires { CanSweep (setup_of self.now) swap arc }
-        ensures value { result ≡ accounts ((setup_of self.now).cast swap).deal arc (history ((kept_of self.now).swaps swap).book arc) }
-        ensures held { result.held ≡ held (history ((kept_of self.now).swaps swap).book arc) }
+        requires { CanSweep (world_setup self.now) swap arc }
+        ensures value { result ≡ accounts ((world_setup self.now).cast swap).deal arc (history ((kept_state self.now).swaps swap).book arc) }
+        ensures held { result.held ≡ held (history ((kept_state self.now).swaps swap).book arc) }
     {
         self.worlds[swap as usize].accounts(arc)
     }
 
     /// The reply to a sweep of a slot, by the first row that applies.
     fn reply_to_sweep(&self, swap: u8, arc: ArcId, fair: bool) -> ManyReply
-        requires { CanSweep (setup_of self.now) swap arc }
-        ensures { result ≡ answer_sweep fair (setup_of self.now) (kept_of self.now) swap arc }
+        requires { CanSweep (world_setup self.now) swap arc }
+        ensures { result ≡ answer_sweep fair (world_setup self.now) (kept_state self.now) swap arc }
     {
         let horizon = self.horizon(swap);
-        if self.height_of(swap, arc) as u64 <= horizon {
+        if self.latest_height(swap, arc) as u64 <= horizon {
             return ManyReply::NotEnded(horizon + 1);
         }
         if self.is_swept(swap, arc) {
@@ -275,9 +275,9 @@ impl Worlds {
 
     /// Gives a slot's two balances back to the free accounts of its parties.
     fn put_back<A: Strategies>(&mut self, _staff: &A, swap: u8, arc: ArcId, fair: bool)
-        requires event { CanSweep (setup_of self.old) swap arc }
+        requires event { CanSweep (world_setup self.old) swap arc }
         requires goes_on { self.old.stopped ≡ false }
-        requires accepted { answer_sweep fair (setup_of self.old) (kept_of self.old) swap arc ≡ ManyReply.Plain Reply.Accepted }
+        requires accepted { answer_sweep fair (world_setup self.old) (kept_state self.old) swap arc ≡ ManyReply.Plain Reply.Accepted }
         ensures { HasManyGone (A.gives _staff.now) (λ m z. kept_done fair m z (ManyEvent.Sweep swap arc)) self.old self.new }
     {
         let place = self.place(swap, arc);
@@ -296,10 +296,10 @@ impl Worlds {
         arc: ArcId,
         fair: bool,
     ) -> ManyReply
-        requires event { CanSweep (setup_of self.old) swap arc }
+        requires event { CanSweep (world_setup self.old) swap arc }
         requires goes_on { self.old.stopped ≡ false }
         ensures gone { HasManyGone (A.gives staff.now) (λ m z. kept_done fair m z (ManyEvent.Sweep swap arc)) self.old self.new }
-        ensures reply { result ≡ answer_sweep fair (setup_of self.old) (kept_of self.old) swap arc }
+        ensures reply { result ≡ answer_sweep fair (world_setup self.old) (kept_state self.old) swap arc }
     {
         let reply = self.reply_to_sweep(swap, arc, fair);
         if reply.is_accepted() {
@@ -313,12 +313,12 @@ impl Worlds {
         staff: &A,
         event: &ManyEvent,
     ) -> Result<Option<ManyReply>, NoMemory>
-        requires event { CanCome (setup_of self.old) event.now }
+        requires event { CanCome (world_setup self.old) event.now }
         requires held { AreAllHeld (A.holds staff.now) self.old }
         requires goes_on { self.old.stopped ≡ false }
         ensures ok { OnOk result (HasManyGone (A.gives staff.now) (λ m z. kept_done false m z event.now) self.old self.new) }
         ensures reply { IfOk result (λ r. (g : ℕ → Answers) → ContinueAll self.new g
-            → r ≡ kept_reply false (setup_for self.old g) (kept_of self.old) event.now) }
+            → r ≡ kept_reply false (made_setup self.old g) (kept_state self.old) event.now) }
         ensures err { OnErr result (IsManyStopped (A.gives staff.now) (λ m z. kept_done false m z event.now) self.old self.new) }
     {
         match event {
@@ -363,7 +363,7 @@ impl Worlds {
     /// The deal of a swap.
     pub(crate) fn deal(&self, swap: u8) -> &Deal
         requires { swap < length self.now.worlds }
-        ensures value { result.now ≡ (world_at self.now swap).deal }
+        ensures value { result.now ≡ (nth_world self.now swap).deal }
         ensures sized { IsWellSized result.now }
     {
         self.worlds[swap as usize].deal()
@@ -372,8 +372,8 @@ impl Worlds {
     /// Whether a party of a swap conforms.
     pub(crate) fn conforms(&self, swap: u8, p: PartyId) -> bool
         requires swap { swap < length self.now.worlds }
-        requires party { p < (world_at self.now swap).deal.graph.n }
-        ensures { result ≡ conforms (cast_at (world_at self.now swap)) p }
+        requires party { p < (nth_world self.now swap).deal.graph.n }
+        ensures { result ≡ conforms (world_cast (nth_world self.now swap)) p }
     {
         self.worlds[swap as usize].conforms(p)
     }
@@ -381,7 +381,7 @@ impl Worlds {
     /// The height of a chain.
     pub(crate) fn height(&self, chain: u8) -> u32
         requires { chain < length self.now.chains }
-        ensures { result ≡ (chain_at self.now chain).clock.height }
+        ensures { result ≡ (nth_chain self.now chain).clock.height }
     {
         self.chains[chain as usize].height()
     }
@@ -389,8 +389,8 @@ impl Worlds {
     /// The free units of an account of a chain.
     pub(crate) fn free(&self, chain: u8, account: u8) -> u64
         requires chain { chain < length self.now.chains }
-        requires account { account < length (chain_at self.now chain).free }
-        ensures { result ≡ units_in (chain_at self.now chain).free account }
+        requires account { account < length (nth_chain self.now chain).free }
+        ensures { result ≡ parse_units (nth_chain self.now chain).free account }
     {
         self.chains[chain as usize].free(account)
     }
@@ -398,7 +398,7 @@ impl Worlds {
     /// The book of a swap.
     pub(crate) fn copy_book(&self, alloc: Global, swap: u8) -> Result<Book, NoMemory>
         requires { swap < length self.now.worlds }
-        ensures { IfOk result (λ b. b.histories ≡ (world_at self.now swap).state.book) }
+        ensures { IfOk result (λ b. b.histories ≡ (nth_world self.now swap).state.book) }
     {
         self.worlds[swap as usize].copy_book(alloc)
     }
@@ -420,12 +420,12 @@ impl Worlds {
     ) -> u64
         requires near { AreNear near.now self.now.worlds }
         requires goes_on { self.now.stopped ≡ false }
-        requires horizon { horizon ≡ last_horizon (setup_of self.now) }
-        requires low { have_ended (setup_of self.now) (kept_of self.now) ≡ false }
+        requires horizon { horizon ≡ last_horizon (world_setup self.now) }
+        requires low { have_ended (world_setup self.now) (kept_state self.now) ≡ false }
         ensures few { result ≤ most }
-        ensures skips { (g : ℕ → Answers) → SkipsTo (setup_for self.now g) result (kept_of self.now) }
+        ensures skips { (g : ℕ → Answers) → SkipsTo (made_setup self.now g) result (kept_state self.now) }
     {
-        let low = rounds_below(&self.chains, horizon, most);
+        let low = horizon_rounds(&self.chains, horizon, most);
         rounds_still(&self.worlds, near, low)
     }
 
@@ -438,7 +438,7 @@ impl Worlds {
 
     /// The greatest horizon of a swap.
     pub(crate) fn last_horizon(&self) -> u64
-        ensures value { result ≡ last_horizon (setup_of self.now) }
+        ensures value { result ≡ last_horizon (world_setup self.now) }
         ensures few { result ≤ 14000 }
     {
         let mut last = 0;

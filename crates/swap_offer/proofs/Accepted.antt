@@ -5,8 +5,8 @@ use Rattle.swap_base.specs.Lists.{or_else, first_of, IsIn}
 use Rattle.swap_base.proofs.Lists.{in_range}
 use Rattle.time_bounds.specs.Times.{timelock}
 use Rattle.swap_digraph.specs.Value.{Graph}
-use Rattle.swap_digraph.specs.Graph.{ends, ends_in, arcs, HasEnds, HasDistinctEnds, IsStronglyConnected, IsFeedback, IsHeight, IsDist}
-use Rattle.swap_digraph.specs.Arcs.{first_fault, graph_or, digraph_of}
+use Rattle.swap_digraph.specs.Graph.{ends, resolve_all_ends, arcs, HasEnds, HasDistinctEnds, IsStronglyConnected, IsFeedback, IsHeight, IsDist}
+use Rattle.swap_digraph.specs.Arcs.{first_fault, graph_or, build_digraph}
 use Rattle.swap_digraph.specs.declared.arc_ends.ArcEnds.{ArcEnds}
 use Rattle.swap_digraph.specs.declared.fault.ArcFault.{ArcFault}
 use Rattle.swap_digraph.specs.declared.deal.Mode.{Mode}
@@ -18,7 +18,7 @@ use Rattle.hashkey_path.proofs.Feeding.{any_id}
 use Rattle.digraph_check.specs.Reach.{closed_set}
 use Rattle.digraph_check.proofs.ClosedSets.{connected_of_none}
 use Rattle.leader_check.specs.Cycles.{follower_cycle}
-use Rattle.leader_check.specs.Levels.{height_of}
+use Rattle.leader_check.specs.Levels.{latest_height}
 use Rattle.leader_check.proofs.Walks as walks
 use Rattle.leader_check.proofs.Heights as heights
 use Rattle.leader_check.specs.Distance.{dist_of}
@@ -29,11 +29,11 @@ use Rattle.proposed_deal.proofs.Proposals as proposals
 use Rattle.refusals.specs.declared.reason.Reason.{Reason}
 use Rattle.refusals.specs.declared.reason.Reason.TheVariants.{BoundTooSmall, StartTooSoon, ManyLeaders, WrongTimelock}
 use Rattle.offer_fields.proofs.Chains.{went}
-use Rattle.offer_header.specs.Raw.{is_plain, IsModeOf}
+use Rattle.offer_header.specs.Raw.{is_plain, IsVersionMode}
 use Rattle.offer_header.specs.declared.header.Header.{Header}
 use Rattle.offer_header.specs.Header.{IsHeaderWithin}
-use Rattle.swap_offer.specs.Checks.{graph_of, by_arcs, least_bound, connected, unless_closed, one_leader, led, unless_cycle, bounded, started, timed}
-use Rattle.swap_offer.specs.Checks.{unless_wrong, wrong_timelock, timed_unless, checked, unnamed, deal_with, IsAcceptedFor, IsAcceptedUnless}
+use Rattle.swap_offer.specs.Checks.{build_graph, by_arcs, least_bound, connected, unless_closed, one_leader, led, unless_cycle, bounded, started, timed}
+use Rattle.swap_offer.specs.Checks.{unless_wrong, wrong_timelock, timed_unless, checked, unnamed, header_deal, IsAcceptedFor, IsAcceptedUnless}
 use Rattle.swap_offer.proofs.Size.{is_sized}
 
 is_connected : (g : Graph) (u : Unit {0}) → connected g ≡ Ok u → IsStronglyConnected g
@@ -127,15 +127,15 @@ is_timed Timelocks h g id u v m k n a has strong feedback one t =
     let e : h.leaders ≡ get_or h.leaders 0 0 ∷ [] = one_of h.leaders k.leaders.0 (has_one h.leaders u one) in
     let f : IsFeedback g (get_or h.leaders 0 0 ∷ []) = subst (IsFeedback g) e feedback in
     let few = k.leaders.0 in
-    timed_by h g id (get_or h.leaders 0 0) (height_of g (get_or h.leaders 0 0 ∷ [])) v e has strong (rw n (k.leader.below 0 (omega (arith, few)))) f
+    timed_by h g id (get_or h.leaders 0 0) (latest_height g (get_or h.leaders 0 0 ∷ [])) v e has strong (rw n (k.leader.below 0 (omega (arith, few)))) f
     (heights.greatest_level_is_height g (get_or h.leaders 0 0 ∷ []) f)
     (subst (λ (ls : List ℕ). timed h g Timelocks ls ≡ Ok v) e t)
 is_timed Hashkeys h g id u v m k n a has strong feedback one t = λ b lt. k.untimed (sym m) b (subst (λ (xs : List ArcEnds). b < length xs) a lt)
 
 -- In version 1 no two arcs have the same ends.
 
-pub no_fault : (h : Header) (g : Graph) → graph_of h ≡ Ok g → first_fault (length h.names) h.version h.arcs ≡ None
-unfolding graph_of digraph_of
+pub no_fault : (h : Header) (g : Graph) → build_graph h ≡ Ok g → first_fault (length h.names) h.version h.arcs ≡ None
+unfolding build_graph build_digraph
 no_fault h g e = go (first_fault (length h.names) h.version h.arcs) refl e
   where
     go : (o : Option ArcFault) → first_fault (length h.names) h.version h.arcs ≡ o → by_arcs (graph_or (length h.names) h.arcs o) ≡ Ok g
@@ -146,10 +146,10 @@ no_fault h g e = go (first_fault (length h.names) h.version h.arcs) refl e
 all_apart : (g : Graph) (n : ℕ) (xs : List ArcEnds) → g.arcs ≡ xs → first_fault n One xs ≡ None → HasDistinctEnds g
 all_apart g n xs same e a b la lb s =
     distinct n xs e a b (subst (λ (ys : List ArcEnds). a < length ys) same la) (subst (λ (ys : List ArcEnds). b < length ys) same lb)
-    (subst (λ (ys : List ArcEnds). ends_in ys a ≡ ends_in ys b) same s)
+    (subst (λ (ys : List ArcEnds). resolve_all_ends ys a ≡ resolve_all_ends ys b) same s)
 
-of_version : (v : Version) (h : Header) (g : Graph) → IsModeOf v h.mode → g.arcs ≡ h.arcs → first_fault (length h.names) v h.arcs ≡ None
-    → IsOfVersion v (deal_with h g)
+of_version : (v : Version) (h : Header) (g : Graph) → IsVersionMode v h.mode → g.arcs ≡ h.arcs → first_fault (length h.names) v h.arcs ≡ None
+    → IsOfVersion v (header_deal h g)
 of_version One h g mode arcs f = all_apart g (length h.names) h.arcs arcs f
 of_version Two h g mode arcs f = mode
 
@@ -183,10 +183,10 @@ passed h g u e =
       timed = (u, s.2);
     }
 
-proposed : (h : Header) (g : Graph) → IsHeaderWithin h → HasEnds g → g.n ≡ length h.names → g.arcs ≡ h.arcs → graph_of h ≡ Ok g → Passed h g
-    → IsProposed (deal_with h g)
+proposed : (h : Header) (g : Graph) → IsHeaderWithin h → HasEnds g → g.n ≡ length h.names → g.arcs ≡ h.arcs → build_graph h ≡ Ok g → Passed h g
+    → IsProposed (header_deal h g)
 proposed h g k has n arcs made p =
-    let sized = is_sized h g (deal_with h g).id k has n arcs in
+    let sized = is_sized h g (header_deal h g).id k has n arcs in
     let f = no_fault h g made in
     record {
       parties = sized.parties;
@@ -197,9 +197,9 @@ proposed h g k has n arcs made p =
       leaders = k.leaders;
       leader = sized.leader;
       apart = k.leader.apart;
-      led = led_by h.mode h g (deal_with h g).id p.one.0 k p.one.1;
+      led = led_by h.mode h g (header_deal h g).id p.one.0 k p.one.1;
       feedback = p.feedback;
-      height = height_of g h.leaders;
+      height = latest_height g h.leaders;
       is_height = heights.greatest_level_is_height g h.leaders p.feedback;
       delta = k.delta;
       start = (p.start, k.start.1);
@@ -208,19 +208,19 @@ proposed h g k has n arcs made p =
       amounts = λ a lt. k.amount a (subst (λ (xs : List ArcEnds). a < length xs) arcs lt);
     }
 
-accepted : (h : Header) (g : Graph) → IsHeaderWithin h → HasEnds g → g.n ≡ length h.names → g.arcs ≡ h.arcs → graph_of h ≡ Ok g → Passed h g
-    → is_plain h.purpose ≡ false → IsAccepted (deal_with h g)
+accepted : (h : Header) (g : Graph) → IsHeaderWithin h → HasEnds g → g.n ≡ length h.names → g.arcs ≡ h.arcs → build_graph h ≡ Ok g → Passed h g
+    → is_plain h.purpose ≡ false → IsAccepted (header_deal h g)
 accepted h g k has n arcs made p stated =
-    let sized = is_sized h g (deal_with h g).id k has n arcs in
+    let sized = is_sized h g (header_deal h g).id k has n arcs in
     let t : timed h g h.mode h.leaders ≡ Ok p.timed.0 = subst (λ (b : Bool). timed_unless b h g ≡ Ok p.timed.0) stated p.timed.1 in
-    proposals.is_accepted (deal_with h g) (proposed h g k has n arcs made p) sized.hashlocks sized.keys sized.timelocks
-    (is_timed h.mode h g (deal_with h g).id p.one.0 p.timed.0 refl k n arcs has p.strong p.feedback p.one.1 t)
-    (sym (any_id (unnamed h g (replicate 32 0)) (deal_with h g).id))
+    proposals.is_accepted (header_deal h g) (proposed h g k has n arcs made p) sized.hashlocks sized.keys sized.timelocks
+    (is_timed h.mode h g (header_deal h g).id p.one.0 p.timed.0 refl k n arcs has p.strong p.feedback p.one.1 t)
+    (sym (any_id (unnamed h g (replicate 32 0)) (header_deal h g).id))
 
-pub accepted_for : (h : Header) (g : Graph) (u : Unit {0}) → IsHeaderWithin h → HasEnds g → g.n ≡ length h.names → g.arcs ≡ h.arcs → graph_of h ≡ Ok g
-    → checked h g ≡ Ok u → IsAcceptedFor h.purpose (deal_with h g)
+pub accepted_for : (h : Header) (g : Graph) (u : Unit {0}) → IsHeaderWithin h → HasEnds g → g.n ≡ length h.names → g.arcs ≡ h.arcs → build_graph h ≡ Ok g
+    → checked h g ≡ Ok u → IsAcceptedFor h.purpose (header_deal h g)
 accepted_for h g u k has n arcs made e = by (is_plain h.purpose) refl
   where
-    by : (plain : Bool) → is_plain h.purpose ≡ plain → IsAcceptedUnless plain (deal_with h g)
+    by : (plain : Bool) → is_plain h.purpose ≡ plain → IsAcceptedUnless plain (header_deal h g)
     by true s = proposed h g k has n arcs made (passed h g u e)
     by false s = accepted h g k has n arcs made (passed h g u e) s

@@ -12,7 +12,7 @@ use Rattle.swap_base.proofs.Lists.{and_parts, from_range}
 use Rattle.time_bounds.specs.Times.{need, timelock}
 use Rattle.swap_digraph.specs.Value.{Graph}
 use Rattle.swap_digraph.specs.Graph.{ends, arcs, is_path, are_followers, HasEnds, HasDistinctEnds, IsFeedback, IsHeight, IsDist}
-use Rattle.swap_digraph.specs.Arcs.{fault_at, first_fault, first_fault_after, graph_or, digraph_of, same_ends}
+use Rattle.swap_digraph.specs.Arcs.{arc_fault, first_fault, next_arc_fault, graph_or, build_digraph, same_ends}
 use Rattle.swap_digraph.specs.declared.arc_ends.ArcEnds.{ArcEnds}
 use Rattle.swap_digraph.specs.declared.fault.ArcFault.{ArcFault}
 use Rattle.swap_digraph.specs.declared.deal.Mode.{Mode}
@@ -21,7 +21,7 @@ use Rattle.swap_digraph.specs.declared.deal.Version.{Version}
 use Rattle.swap_digraph.specs.declared.deal.Version.TheVariants.{One, Two}
 use Rattle.swap_digraph.proofs.Faults.{has_ends}
 use Rattle.digraph_check.proofs.ClosedSets.{none_of_connected}
-use Rattle.leader_check.specs.Levels.{height_of}
+use Rattle.leader_check.specs.Levels.{latest_height}
 use Rattle.leader_check.proofs.Walks as walks
 use Rattle.leader_check.proofs.Heights as heights
 use Rattle.leader_check.specs.Distance.{dist_of}
@@ -34,8 +34,9 @@ use Rattle.offer_fields.proofs.Chains.{went}
 use Rattle.offer_header.specs.declared.header.Header.{Header}
 use Rattle.offer_header.specs.Header.{IsHeaderWithin}
 use Rattle.offer_header.specs.Raw.{is_plain}
-use Rattle.swap_offer.specs.Checks.{graph_of, by_arcs, digraph_in, connected, unless_closed, one_leader, led, unless_cycle, least_bound, bounded, started}
-use Rattle.swap_offer.specs.Checks.{timed, unless_wrong, wrong_timelock, timed_unless, checked, admitted, deal_with, IsAcceptedFor, IsAcceptedUnless}
+use Rattle.swap_offer.specs.Checks.{build_graph, by_arcs, header_digraph, connected, unless_closed, one_leader, led, unless_cycle, least_bound}
+use Rattle.swap_offer.specs.Checks.{bounded, started}
+use Rattle.swap_offer.specs.Checks.{timed, unless_wrong, wrong_timelock, timed_unless, checked, admitted, header_deal, IsAcceptedFor, IsAcceptedUnless}
 use Rattle.swap_offer.specs.Laws.{AdmittedIsAccepted}
 use Rattle.swap_offer.proofs.Accepted.{no_fault, accepted_for}
 
@@ -54,20 +55,20 @@ is_absent f from [] not_one = refl
 is_absent f from (x ∷ xs) not_one = rw (not_one 0 (omega arith)) (is_absent f (from + 1) xs (λ j lt. not_one (suc j) (omega arith)))
 
 all_sound : (v : Version) (n : ℕ) (before xs : List ArcEnds)
-    → ((i k : ℕ) → i < length xs → fault_at n v (before ++ take i xs) k (get_or xs i no_arc) ≡ None) → first_fault_after n v before xs ≡ None
+    → ((i k : ℕ) → i < length xs → arc_fault n v (before ++ take i xs) k (get_or xs i no_arc) ≡ None) → next_arc_fault n v before xs ≡ None
 all_sound v n before [] not_one = refl
 all_sound v n before (x ∷ xs) not_one =
-    let head : fault_at n v before (length before) x ≡ None =
-    subst (λ (ys : List ArcEnds). fault_at n v ys (length before) x ≡ None) (append-nil before) (not_one 0 (length before) (omega arith)) in
-    let tail : first_fault_after n v (before ++ x ∷ []) xs ≡ None =
+    let head : arc_fault n v before (length before) x ≡ None =
+    subst (λ (ys : List ArcEnds). arc_fault n v ys (length before) x ≡ None) (append-nil before) (not_one 0 (length before) (omega arith)) in
+    let tail : next_arc_fault n v (before ++ x ∷ []) xs ≡ None =
     all_sound v n (before ++ x ∷ []) xs
-    (λ i k lt. subst (λ (ys : List ArcEnds). fault_at n v ys k (get_or xs i no_arc) ≡ None) (sym (append_assoc before (x ∷ []) (take i xs)))
+    (λ i k lt. subst (λ (ys : List ArcEnds). arc_fault n v ys k (get_or xs i no_arc) ≡ None) (sym (append_assoc before (x ∷ []) (take i xs)))
     (not_one (suc i) k (omega arith))) in
     rw head tail
 
 sound : (n k : ℕ) (before : List ArcEnds) (a : ArcEnds) → a.from < n → a.to < n → (a.from ≡ a.to → ⊥) → position (same_ends a) before ≡ None
-    → fault_at n One before k a ≡ None
-unfolding fault_at
+    → arc_fault n One before k a ≡ None
+unfolding arc_fault
 sound n k before a from to apart none = rw (lt-ltb a.from n from, lt-ltb a.to n to, ne_eqb a.from a.to apart, none) refl
 
 by_test : (b : Bool) → (b ≡ true → ⊥) → b ≡ false
@@ -94,14 +95,14 @@ no_fault_of g has apart =
     all_sound One g.n [] g.arcs
     (λ i k lt. sound g.n k (take i g.arcs) (get_or g.arcs i no_arc) (has.from i lt) (has.to i lt) (has.apart i lt) (not_before g apart i lt))
 
-sound_for_two : (n k : ℕ) (before : List ArcEnds) (a : ArcEnds) → a.from < n → a.to < n → (a.from ≡ a.to → ⊥) → fault_at n Two before k a ≡ None
-unfolding fault_at
+sound_for_two : (n k : ℕ) (before : List ArcEnds) (a : ArcEnds) → a.from < n → a.to < n → (a.from ≡ a.to → ⊥) → arc_fault n Two before k a ≡ None
+unfolding arc_fault
 sound_for_two n k before a from to apart = rw (lt-ltb a.from n from, lt-ltb a.to n to, ne_eqb a.from a.to apart) refl
 
-no_fault_by : (v : Version) (h : Header) → HasEnds (digraph_in h) → IsOfVersion v (deal_with h (digraph_in h))
+no_fault_by : (v : Version) (h : Header) → HasEnds (header_digraph h) → IsOfVersion v (header_deal h (header_digraph h))
     → first_fault (length h.names) v h.arcs ≡ None
 unfolding first_fault
-no_fault_by One h has apart = no_fault_of (digraph_in h) has apart
+no_fault_by One h has apart = no_fault_of (header_digraph h) has apart
 no_fault_by Two h has keyed =
     all_sound Two (length h.names) [] h.arcs
     (λ i k lt. sound_for_two (length h.names) k (take i h.arcs) (get_or h.arcs i no_arc) (has.from i lt) (has.to i lt) (has.apart i lt))
@@ -127,34 +128,34 @@ none_all f (x ∷ xs) not_one = rw (not_one x (inl refl)) (none_all f xs (λ y i
 
 -- Each check passes.
 
-module _ (h : Header) (a : IsProposed (deal_with h (digraph_in h))) where
-  graph_is : graph_of h ≡ Ok (digraph_in h)
-  unfolding graph_of digraph_of
+module _ (h : Header) (a : IsProposed (header_deal h (header_digraph h))) where
+  graph_is : build_graph h ≡ Ok (header_digraph h)
+  unfolding build_graph build_digraph
   graph_is = ap (λ (o : Option ArcFault). by_arcs (graph_or (length h.names) h.arcs o)) (no_fault_by h.version h a.ends a.of_version)
 
-  is_connected : connected (digraph_in h) ≡ Ok tt
+  is_connected : connected (header_digraph h) ≡ Ok tt
   unfolding connected
-  is_connected = ap unless_closed (none_of_connected (digraph_in h) a.strong)
+  is_connected = ap unless_closed (none_of_connected (header_digraph h) a.strong)
 
-  is_led : led (digraph_in h) h.leaders ≡ Ok tt
+  is_led : led (header_digraph h) h.leaders ≡ Ok tt
   unfolding led
-  is_led = ap unless_cycle ((walks.no_cycle_is_feedback (digraph_in h) h.leaders).1 a.feedback)
+  is_led = ap unless_cycle ((walks.no_cycle_is_feedback (header_digraph h) h.leaders).1 a.feedback)
 
-  has_one : (m : Mode) → IsLedFor m (deal_with h (digraph_in h)) → one_leader m h.leaders ≡ Ok tt
+  has_one : (m : Mode) → IsLedFor m (header_deal h (header_digraph h)) → one_leader m h.leaders ≡ Ok tt
   unfolding one_leader
   has_one Timelocks e = rw (le-ltb 1 (length h.leaders) (omega (arith, e))) refl
   has_one Hashkeys t = refl
 
-  enough : least_bound (digraph_in h) h.leaders ≤ h.bound
+  enough : least_bound (header_digraph h) h.leaders ≤ h.bound
   enough =
-      let e : height_of (digraph_in h) h.leaders ≡ a.height =
-      height_one (digraph_in h) h.leaders (height_of (digraph_in h) h.leaders) a.height
-      (heights.greatest_level_is_height (digraph_in h) h.leaders a.feedback) a.is_height in
+      let e : latest_height (header_digraph h) h.leaders ≡ a.height =
+      height_one (header_digraph h) h.leaders (latest_height (header_digraph h) h.leaders) a.height
+      (heights.greatest_level_is_height (header_digraph h) h.leaders a.feedback) a.is_height in
       subst (λ (k : ℕ). need (length h.names) (length h.leaders) k ≤ h.bound) (sym e) a.bound.0
 
-  is_bounded : bounded h.bound (least_bound (digraph_in h) h.leaders) ≡ Ok tt
+  is_bounded : bounded h.bound (least_bound (header_digraph h) h.leaders) ≡ Ok tt
   unfolding bounded
-  is_bounded = rw (le-ltb h.bound (least_bound (digraph_in h) h.leaders) enough) refl
+  is_bounded = rw (le-ltb h.bound (least_bound (header_digraph h) h.leaders) enough) refl
 
   is_started : started h.start h.delta ≡ Ok tt
   unfolding started
@@ -165,23 +166,23 @@ module _ (h : Header) (a : IsProposed (deal_with h (digraph_in h))) where
       let few = a.leaders.0 in
       subst (λ (l : ℕ). l < length h.names) (ap (λ (ls : List ℕ). get_or ls 0 0) e) (a.leader 0 (omega (arith, few)))
 
-  is_feedback : (leader : ℕ) → h.leaders ≡ leader ∷ [] → IsFeedback (digraph_in h) (leader ∷ [])
-  is_feedback leader e = subst (IsFeedback (digraph_in h)) e a.feedback
+  is_feedback : (leader : ℕ) → h.leaders ≡ leader ∷ [] → IsFeedback (header_digraph h) (leader ∷ [])
+  is_feedback leader e = subst (IsFeedback (header_digraph h)) e a.feedback
 
-  near : (leader v : ℕ) → h.leaders ≡ leader ∷ [] → v < length h.names → IsDist (digraph_in h) leader v (dist_of (digraph_in h) leader v)
+  near : (leader v : ℕ) → h.leaders ≡ leader ∷ [] → v < length h.names → IsDist (header_digraph h) leader v (dist_of (header_digraph h) leader v)
   near leader v e lt =
-      let g : Graph = digraph_in h in
-      let k : ℕ = height_of g (leader ∷ []) in
+      let g : Graph = header_digraph h in
+      let k : ℕ = latest_height g (leader ∷ []) in
       let feedback = is_feedback leader e in
       let party = is_party leader e in
       let tall = heights.greatest_level_is_height g (leader ∷ []) feedback in
       let far = dist_is g leader a.ends a.strong party feedback k k v tall (omega arith) lt in
       subst (IsDist g leader v) (dist_by_rounds g leader a.ends a.strong party feedback k v tall lt) far
 
-  right_timelock : (leader b : ℕ) → h.leaders ≡ leader ∷ [] → IsTimed Timelocks (deal_with h (digraph_in h)) → b < length h.arcs
-      → wrong_timelock h (digraph_in h) leader b ≡ None
+  right_timelock : (leader b : ℕ) → h.leaders ≡ leader ∷ [] → IsTimed Timelocks (header_deal h (header_digraph h)) → b < length h.arcs
+      → wrong_timelock h (header_digraph h) leader b ≡ None
   right_timelock leader b e t lt =
-      let g : Graph = digraph_in h in
+      let g : Graph = header_digraph h in
       let v : ℕ = (ends g b).to in
       let s = t.1 b lt in
       let same : slice_index h.leaders 0 ≡ leader = ap (λ (ls : List ℕ). get_or ls 0 0) e in
@@ -193,42 +194,43 @@ module _ (h : Header) (a : IsProposed (deal_with h (digraph_in h))) where
       let right : given ≡ wanted = s.timelock ∙ ap (timelock h.start h.delta h.bound) d in
       ap (λ (x : Bool). cond x None (Some (WrongTimelock b given wanted))) (eq-eqb given wanted right)
 
-  is_in_time : (m : Mode) → IsTimed m (deal_with h (digraph_in h)) → timed h (digraph_in h) m h.leaders ≡ Ok tt
+  is_in_time : (m : Mode) → IsTimed m (header_deal h (header_digraph h)) → timed h (header_digraph h) m h.leaders ≡ Ok tt
   unfolding timed
   is_in_time Hashkeys t = refl
   is_in_time Timelocks t = go h.leaders refl
     where
-      go : (ls : List ℕ) → h.leaders ≡ ls → timed h (digraph_in h) Timelocks ls ≡ Ok tt
+      go : (ls : List ℕ) → h.leaders ≡ ls → timed h (header_digraph h) Timelocks ls ≡ Ok tt
       go [] e = refl
       go (leader ∷ []) e =
-          ap unless_wrong (none_all (wrong_timelock h (digraph_in h) leader) (arcs (digraph_in h))
+          ap unless_wrong (none_all (wrong_timelock h (header_digraph h) leader) (arcs (header_digraph h))
           (λ b i. right_timelock leader b e t (from_range b (length h.arcs) i)))
       go (x ∷ y ∷ ls) e = refl
 
-  checked_is : timed_unless (is_plain h.purpose) h (digraph_in h) ≡ Ok tt → checked h (digraph_in h) ≡ Ok tt
+  checked_is : timed_unless (is_plain h.purpose) h (header_digraph h) ≡ Ok tt → checked h (header_digraph h) ≡ Ok tt
   unfolding checked
   checked_is t = rw (is_connected, has_one h.mode a.led, is_led, is_bounded, is_started) t
 
-  is_admitted : timed_unless (is_plain h.purpose) h (digraph_in h) ≡ Ok tt → admitted h ≡ Ok (digraph_in h)
+  is_admitted : timed_unless (is_plain h.purpose) h (header_digraph h) ≡ Ok tt → admitted h ≡ Ok (header_digraph h)
   unfolding admitted
   is_admitted t = rw (graph_is, checked_is t) refl
 
-admits : (h : Header) (plain : Bool) → is_plain h.purpose ≡ plain → IsAcceptedUnless plain (deal_with h (digraph_in h)) → admitted h ≡ Ok (digraph_in h)
-admits h true e a = is_admitted h a (subst (λ (b : Bool). timed_unless b h (digraph_in h) ≡ Ok tt) (sym e) refl)
+admits : (h : Header) (plain : Bool) → is_plain h.purpose ≡ plain → IsAcceptedUnless plain (header_deal h (header_digraph h))
+    → admitted h ≡ Ok (header_digraph h)
+admits h true e a = is_admitted h a (subst (λ (b : Bool). timed_unless b h (header_digraph h) ≡ Ok tt) (sym e) refl)
 admits h false e a =
-    let p = is_proposed (deal_with h (digraph_in h)) a in
-    is_admitted h p (subst (λ (b : Bool). timed_unless b h (digraph_in h) ≡ Ok tt) (sym e) (is_in_time h p h.mode a.timed))
+    let p = is_proposed (header_deal h (header_digraph h)) a in
+    is_admitted h p (subst (λ (b : Bool). timed_unless b h (header_digraph h) ≡ Ok tt) (sym e) (is_in_time h p h.mode a.timed))
 
-passes : (h : Header) → IsHeaderWithin h → admitted h ≡ Ok (digraph_in h) → IsAcceptedFor h.purpose (deal_with h (digraph_in h))
+passes : (h : Header) → IsHeaderWithin h → admitted h ≡ Ok (header_digraph h) → IsAcceptedFor h.purpose (header_deal h (header_digraph h))
 unfolding admitted
 passes h k e =
-    let g = went (graph_of h) _ (digraph_in h) e in
-    let c = went (checked h g.0) _ (digraph_in h) g.2 in
-    let same : g.0 ≡ digraph_in h = cc (c.2) in
-    let made : graph_of h ≡ Ok (digraph_in h) = subst (λ (x : Graph). graph_of h ≡ Ok x) same g.1 in
-    let check : checked h (digraph_in h) ≡ Ok c.0 = subst (λ (x : Graph). checked h x ≡ Ok c.0) same c.1 in
-    let has = has_ends (length h.names) h.version h.arcs (sym (no_fault h (digraph_in h) made)) in
-    accepted_for h (digraph_in h) c.0 k has refl refl made check
+    let g = went (build_graph h) _ (header_digraph h) e in
+    let c = went (checked h g.0) _ (header_digraph h) g.2 in
+    let same : g.0 ≡ header_digraph h = cc (c.2) in
+    let made : build_graph h ≡ Ok (header_digraph h) = subst (λ (x : Graph). build_graph h ≡ Ok x) same g.1 in
+    let check : checked h (header_digraph h) ≡ Ok c.0 = subst (λ (x : Graph). checked h x ≡ Ok c.0) same c.1 in
+    let has = has_ends (length h.names) h.version h.arcs (sym (no_fault h (header_digraph h) made)) in
+    accepted_for h (header_digraph h) c.0 k has refl refl made check
 
 pub admitted_is_accepted : AdmittedIsAccepted
 admitted_is_accepted h k = (passes h k, λ a. admits h (is_plain h.purpose) refl a)

@@ -10,7 +10,7 @@ use Rattle.swap_base.specs.Lists.{or_else, first_of}
 use Rattle.time_bounds.specs.Times.{timelock}
 use Rattle.swap_digraph.specs.Value.{Graph}
 use Rattle.swap_digraph.specs.Graph.{arcs, ends, HasEnds}
-use Rattle.swap_digraph.specs.Arcs.{first_fault, graph_or, digraph_of}
+use Rattle.swap_digraph.specs.Arcs.{first_fault, graph_or, build_digraph}
 use Rattle.swap_digraph.specs.declared.fault.ArcFault.{ArcFault}
 use Rattle.swap_digraph.specs.declared.fault.ArcFault.TheVariants.{OutOfRange, SelfArc, Parallel}
 use Rattle.swap_digraph.specs.declared.deal.Mode.{Mode}
@@ -33,10 +33,10 @@ use Rattle.refusals.proofs.Named.{named_err}
 use Rattle.offer_header.specs.declared.header.Header.{Header}
 use Rattle.offer_header.specs.Header.{IsHeaderWithin}
 use Rattle.offer_header.specs.Raw.{is_plain}
-use Rattle.swap_offer.specs.Checks.{graph_of, by_arcs, digraph_in, connected, unless_closed, one_leader, led, unless_cycle, least_bound, bounded}
-use Rattle.swap_offer.specs.Checks.{started, timed, unless_wrong, wrong_timelock, timed_unless, checked, admitted, job_with}
+use Rattle.swap_offer.specs.Checks.{build_graph, by_arcs, header_digraph, connected, unless_closed, one_leader, led, unless_cycle, least_bound, bounded}
+use Rattle.swap_offer.specs.Checks.{started, timed, unless_wrong, wrong_timelock, timed_unless, checked, admitted, assemble_job}
 use Rattle.swap_offer.specs.Wallets.{party_conforms, party_seed, needs_seed, no_seed, seeded, wrong_seed, wrong_wallet, fitting, walleted_for, walleted}
-use Rattle.swap_offer.specs.Job.{provided, accepted_of}
+use Rattle.swap_offer.specs.Job.{provided, accepted_entries}
 use Rattle.swap_offer.specs.Certificates.{IsCertified, Certifies}
 
 -- what a reason shows, where there is one
@@ -81,8 +81,8 @@ module _ (h : Header) (k : IsHeaderWithin h) where
   abbrev Shows : Reason → Type 0
   Shows reason = IsCertified h reason
 
-  of_arcs : IfBad Shows (graph_of h)
-  unfolding graph_of digraph_of
+  of_arcs : IfBad Shows (build_graph h)
+  unfolding build_graph build_digraph
   of_arcs = go (first_fault (length h.names) h.version h.arcs)
     where
       go : (o : Option ArcFault) → IfBad (IsCertified h) (by_arcs (graph_or (length h.names) h.arcs o))
@@ -92,30 +92,30 @@ module _ (h : Header) (k : IsHeaderWithin h) where
       go (Some (Parallel a b)) = tt
 
   -- the digraph that was made is the header's
-  made : (g : Graph) → graph_of h ≡ Ok g → (g ≡ digraph_in h) × HasEnds (digraph_in h)
-  unfolding graph_of digraph_of
+  made : (g : Graph) → build_graph h ≡ Ok g → (g ≡ header_digraph h) × HasEnds (header_digraph h)
+  unfolding build_graph build_digraph
   made g e = go (first_fault (length h.names) h.version h.arcs) refl e
     where
       go : (o : Option ArcFault) → first_fault (length h.names) h.version h.arcs ≡ o → by_arcs (graph_or (length h.names) h.arcs o) ≡ Ok g
-          → (g ≡ digraph_in h) × HasEnds (digraph_in h)
-      go None s e = let same : digraph_in h ≡ g = cc e in (sym same, has_ends (length h.names) h.version h.arcs (sym s))
+          → (g ≡ header_digraph h) × HasEnds (header_digraph h)
+      go None s e = let same : header_digraph h ≡ g = cc e in (sym same, has_ends (length h.names) h.version h.arcs (sym s))
       go (Some f) s e = absurd (cc e)
 
-  of_connected : HasEnds (digraph_in h) → IfBad Shows (connected (digraph_in h))
+  of_connected : HasEnds (header_digraph h) → IfBad Shows (connected (header_digraph h))
   unfolding connected
-  of_connected has = go (closed_set (digraph_in h)) refl
+  of_connected has = go (closed_set (header_digraph h)) refl
     where
-      go : (o : Option (List ℕ)) → closed_set (digraph_in h) ≡ o → IfBad (IsCertified h) (unless_closed o)
+      go : (o : Option (List ℕ)) → closed_set (header_digraph h) ≡ o → IfBad (IsCertified h) (unless_closed o)
       go None s = tt
-      go (Some set) s = let some = k.parties.0 in closed_of_set (digraph_in h) set has (omega (arith, some)) (sym s)
+      go (Some set) s = let some = k.parties.0 in closed_of_set (header_digraph h) set has (omega (arith, some)) (sym s)
 
-  of_led : IfBad Shows (led (digraph_in h) h.leaders)
+  of_led : IfBad Shows (led (header_digraph h) h.leaders)
   unfolding led
-  of_led = go (follower_cycle (digraph_in h) h.leaders) refl
+  of_led = go (follower_cycle (header_digraph h) h.leaders) refl
     where
-      go : (o : Option (List ℕ)) → follower_cycle (digraph_in h) h.leaders ≡ o → IfBad (IsCertified h) (unless_cycle o)
+      go : (o : Option (List ℕ)) → follower_cycle (header_digraph h) h.leaders ≡ o → IfBad (IsCertified h) (unless_cycle o)
       go None s = tt
-      go (Some cycle) s = walks.cycle_is (digraph_in h) h.leaders cycle s
+      go (Some cycle) s = walks.cycle_is (header_digraph h) h.leaders cycle s
 
   of_one_leader : (m : Mode) → IfBad Shows (one_leader m h.leaders)
   unfolding one_leader
@@ -130,42 +130,42 @@ module _ (h : Header) (k : IsHeaderWithin h) where
   unfolding started
   of_started = by_test (IsCertified h) (nat_lt h.start h.delta) (StartTooSoon h.start h.delta) tt
 
-  of_timelock : (leader a : ℕ) → IfThere Shows (wrong_timelock h (digraph_in h) leader a)
+  of_timelock : (leader a : ℕ) → IfThere Shows (wrong_timelock h (header_digraph h) leader a)
   of_timelock leader a =
       let given : ℕ = slice_index h.timelocks a in
-      let wanted : ℕ = timelock h.start h.delta h.bound (dist_of (digraph_in h) leader (ends (digraph_in h) a).to) in
+      let wanted : ℕ = timelock h.start h.delta h.bound (dist_of (header_digraph h) leader (ends (header_digraph h) a).to) in
       if_not (IsCertified h) (given == wanted) (WrongTimelock a given wanted) tt
 
-  of_timed : (m : Mode) (leaders : List ℕ) → IfBad Shows (timed h (digraph_in h) m leaders)
+  of_timed : (m : Mode) (leaders : List ℕ) → IfBad Shows (timed h (header_digraph h) m leaders)
   unfolding timed
   of_timed Hashkeys leaders = tt
   of_timed Timelocks [] = tt
   of_timed Timelocks (leader ∷ []) =
-      if_wrong (IsCertified h) (first_of (wrong_timelock h (digraph_in h) leader) (arcs (digraph_in h)))
-      (the_first (IsCertified h) (wrong_timelock h (digraph_in h) leader) (arcs (digraph_in h)) (of_timelock leader))
+      if_wrong (IsCertified h) (first_of (wrong_timelock h (header_digraph h) leader) (arcs (header_digraph h)))
+      (the_first (IsCertified h) (wrong_timelock h (header_digraph h) leader) (arcs (header_digraph h)) (of_timelock leader))
   of_timed Timelocks (x ∷ y ∷ leaders) = tt
 
-  of_times : (plain : Bool) → IfBad Shows (timed_unless plain h (digraph_in h))
+  of_times : (plain : Bool) → IfBad Shows (timed_unless plain h (header_digraph h))
   of_times true = tt
   of_times false = of_timed h.mode h.leaders
 
-  of_checked : HasEnds (digraph_in h) → IfBad Shows (checked h (digraph_in h))
+  of_checked : HasEnds (header_digraph h) → IfBad Shows (checked h (header_digraph h))
   unfolding checked
   of_checked has =
-      onward (IsCertified h) (connected (digraph_in h)) _ (of_connected has)
+      onward (IsCertified h) (connected (header_digraph h)) _ (of_connected has)
       (λ u e. onward (IsCertified h) (one_leader h.mode h.leaders) _ (of_one_leader h.mode)
-      (λ v f. onward (IsCertified h) (led (digraph_in h) h.leaders) _ of_led
-      (λ w d. onward (IsCertified h) (bounded h.bound (least_bound (digraph_in h) h.leaders)) _ (of_bounded (least_bound (digraph_in h) h.leaders))
+      (λ v f. onward (IsCertified h) (led (header_digraph h) h.leaders) _ of_led
+      (λ w d. onward (IsCertified h) (bounded h.bound (least_bound (header_digraph h) h.leaders)) _ (of_bounded (least_bound (header_digraph h) h.leaders))
       (λ x b. onward (IsCertified h) (started h.start h.delta) _ of_started (λ y s. of_times (is_plain h.purpose))))))
 
   of_admitted : IfBad Shows (admitted h)
   unfolding admitted
   of_admitted =
-      onward (IsCertified h) (graph_of h) _ of_arcs
+      onward (IsCertified h) (build_graph h) _ of_arcs
       (λ g e.
       let m = made g e in
       subst (λ (x : Graph). IfBad (IsCertified h) (checked h x >>= λ u. let r : Result Graph Reason = Ok x in r)) (sym m.0)
-      (onward (IsCertified h) (checked h (digraph_in h)) _ (of_checked m.1) (λ u c. tt)))
+      (onward (IsCertified h) (checked h (header_digraph h)) _ (of_checked m.1) (λ u c. tt)))
 
   of_seed : (job : Job) (p : ℕ) → IfThere Shows (no_seed job p)
   of_seed job p = if_so (IsCertified h) (needs_seed job.purpose job p && is_none (party_seed job p)) (NoSeed p) tt
@@ -205,22 +205,22 @@ module _ (h : Header) (k : IsHeaderWithin h) where
       go Make = tt
       go Audit = tt
 
-  of_accepted : IfBad Shows (accepted_of h)
-  unfolding accepted_of provided
+  of_accepted : IfBad Shows (accepted_entries h)
+  unfolding accepted_entries provided
   of_accepted =
       onward (IsCertified h) (admitted h) _ of_admitted
-      (λ g e. onward (IsCertified h) (provided (job_with h g)) _ (onward (IsCertified h) (seeded (job_with h g)) _ (of_seeded (job_with h g))
-      (λ u s. of_walleted (job_with h g))) (λ u p. tt))
+      (λ g e. onward (IsCertified h) (provided (assemble_job h g)) _ (onward (IsCertified h) (seeded (assemble_job h g)) _ (of_seeded (assemble_job h g))
+      (λ u s. of_walleted (assemble_job h g))) (λ u p. tt))
 
   shown_by : (r : Result Job Reason) (reason : Reason) → r ≡ Err reason → IfBad Shows r → IsCertified h reason
   shown_by (Ok job) reason e bad = absurd (cc e)
   shown_by (Err given) reason e bad = let same : given ≡ reason = cc e in subst (IsCertified h) same bad
 
   pub certifies : {X : Type 0} (view : X → Job) (names : List (List ℕ)) (result : Result X (Fault Refusal))
-      → Gives view result (named names (accepted_of h)) → Certifies h result
+      → Gives view result (named names (accepted_entries h)) → Certifies h result
   certifies view names (Ok x) e = tt
   certifies view names (Err NoMemory) e = tt
-  certifies view names (Err (Refused refusal)) e = shown_by (accepted_of h) refusal.reason (named_err names (accepted_of h) refusal e).0 of_accepted
+  certifies view names (Err (Refused refusal)) e = shown_by (accepted_entries h) refusal.reason (named_err names (accepted_entries h) refusal e).0 of_accepted
 
 -- where the reader fails before there is a header, nothing is shown of one
 pub no_header : (X : Type 0) (names : List (List ℕ)) (fault : Fault Reason) (read : Result Header Reason) (h : Header) → Fails fault read → read ≡ Ok h

@@ -9,7 +9,7 @@ use Rattle.swap_job.specs.declared.job.Job.{Job}
 use Rattle.swap_job.specs.declared.event.Event.{Event}
 use Rattle.refusals.specs.declared.reason.Reason.{Reason}
 use Rattle.offer_fields.proofs.Lists.{with_front}
-use Rattle.swap_offer.specs.Job.{counted, events_of, limited_event}
+use Rattle.swap_offer.specs.Job.{counted, parse_events, limited_event}
 
 -- a line as it stands in the text
 abbrev pub line_of : {B : Type 0} → (B → List ℕ) → ℕ × B → ℕ × List ℕ
@@ -22,12 +22,13 @@ regroup front (Ok e) (Err r) = refl
 regroup front (Err r) rest = refl
 
 step_of : (job : Job) (n : ℕ) (front : List Event) (line : ℕ) (text : List ℕ) (rest : List (ℕ × List ℕ)) →
-    with_front front (events_of job n ((line, text) ∷ rest)) ≡ limited_event job n line text >>= λ e. with_front (front ++ e ∷ []) (events_of job (n + 1) rest)
-unfolding events_of
-step_of job n front line text rest = regroup front (limited_event job n line text) (events_of job (n + 1) rest)
+    with_front front (parse_events job n ((line, text) ∷ rest))
+    ≡ limited_event job n line text >>= λ e. with_front (front ++ e ∷ []) (parse_events job (n + 1) rest)
+unfolding parse_events
+step_of job n front line text rest = regroup front (limited_event job n line text) (parse_events job (n + 1) rest)
 
-none_left : (job : Job) (n : ℕ) → events_of job n [] ≡ Ok []
-unfolding events_of
+none_left : (job : Job) (n : ℕ) → parse_events job n [] ≡ Ok []
+unfolding parse_events
 none_left job n = refl
 
 pub starts : (read : Result (List Event) Reason) → with_front [] read ≡ read
@@ -37,13 +38,13 @@ starts (Err r) = refl
 module _ {B : Type 0} (text : B → List ℕ) (job : Job) (ls : List (ℕ × B)) (total : Result (List Event) Reason) where
   -- what was read, and what is still read
   abbrev pub left : ℕ → List Event → Result (List Event) Reason
-  left i front = with_front front (events_of job i (map (line_of text) (drop i ls)))
+  left i front = with_front front (parse_events job i (map (line_of text) (drop i ls)))
 
   next : (i : ℕ) (front : List Event) (d : ℕ × B) → i < length ls → left i front ≡ limited_event job i (get_or ls i d).0 (text (get_or ls i d).1) >>= λ e.
       left (i + 1) (front ++ e ∷ [])
   next i front d lt =
       let e : drop i ls ≡ get_or ls i d ∷ drop (i + 1) ls = rw (add-one, drop-cons ls i d) refl in
-      ap (λ (xs : List (ℕ × B)). with_front front (events_of job i (map (line_of text) xs))) e
+      ap (λ (xs : List (ℕ × B)). with_front front (parse_events job i (map (line_of text) xs))) e
       ∙ step_of job i front (get_or ls i d).0 (text (get_or ls i d).1) (map (line_of text) (drop (i + 1) ls))
 
   pub goes_on : (i : ℕ) (front : List Event) (e : Event) (d : ℕ × B) → i < length ls → limited_event job i (get_or ls i d).0 (text (get_or ls i d).1) ≡ Ok e
@@ -59,7 +60,7 @@ module _ {B : Type 0} (text : B → List ℕ) (job : Job) (ls : List (ℕ × B))
   pub is_done : (i : ℕ) (front : List Event) → length ls ≤ i → left i front ≡ total → total ≡ Ok front
   is_done i front le so_far =
       let e : drop i ls ≡ [] = nil_from_length (drop i ls) (omega (arith, length-drop i ls)) in
-      sym so_far ∙ ap (λ (xs : List (ℕ × B)). with_front front (events_of job i (map (line_of text) xs))) e
+      sym so_far ∙ ap (λ (xs : List (ℕ × B)). with_front front (parse_events job i (map (line_of text) xs))) e
       ∙ ap (λ (r : Result (List Event) Reason). with_front front r) (none_left job i)
       ∙ ap (λ (xs : List Event). let r : Result (List Event) Reason = Ok xs in r) (append-nil front)
 

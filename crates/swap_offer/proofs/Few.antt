@@ -6,16 +6,16 @@ use Rattle.swap_digraph.specs.declared.deal.Version.TheVariants.{One, Two}
 use Rattle.offer_header.specs.Header.{IsHeaderWithin}
 use Rattle.offer_header.specs.declared.header.Header.{Header}
 
-parties_of : (v : Version) → most_parties v ≤ 32
-parties_of One = omega arith
-parties_of Two = omega arith
+count_parties : (v : Version) → most_parties v ≤ 32
+count_parties One = omega arith
+count_parties Two = omega arith
 
-arcs_of : (v : Version) → most_arcs v ≤ 128
-arcs_of One = omega arith
-arcs_of Two = omega arith
+listed_arcs : (v : Version) → most_arcs v ≤ 128
+listed_arcs One = omega arith
+listed_arcs Two = omega arith
 
 pub few_names : (h : Header) → IsHeaderWithin h → length h.names ≤ 32
-few_names h k = let few = k.parties.1 in let most = parties_of h.version in omega (arith, few, most)
+few_names h k = let few = k.parties.1 in let most = count_parties h.version in omega (arith, few, most)
 
 pub few_arcs : (h : Header) → IsHeaderWithin h → length h.arcs ≤ 128
-few_arcs h k = let few = k.arcs.1 in let most = arcs_of h.version in omega (arith, few, most)
+few_arcs h k = let few = k.arcs.1 in let most = listed_arcs h.version in omega (arith, few, most)

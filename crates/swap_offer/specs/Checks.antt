@@ -7,7 +7,7 @@ use Rattle.time_bounds.specs.Times.{need, timelock}
 use Rattle.leader_check.specs.Distance.{dist_of}
 use Rattle.swap_digraph.specs.Graph.{arcs, ends}
 use Rattle.swap_digraph.specs.Value.{Graph}
-use Rattle.swap_digraph.specs.Arcs.{digraph_of}
+use Rattle.swap_digraph.specs.Arcs.{build_digraph}
 use Rattle.swap_digraph.specs.declared.fault.ArcFault.{ArcFault}
 use Rattle.swap_digraph.specs.declared.fault.ArcFault.TheVariants as faults
 use Rattle.swap_digraph.specs.declared.deal.Deal.{Deal}
@@ -16,7 +16,7 @@ use Rattle.swap_digraph.specs.declared.deal.Mode.TheVariants.{Timelocks, Hashkey
 use Rattle.hashkey_path.specs.Digest.{deal_id}
 use Rattle.digraph_check.specs.Reach.{closed_set}
 use Rattle.leader_check.specs.Cycles.{follower_cycle}
-use Rattle.leader_check.specs.Levels.{height_of}
+use Rattle.leader_check.specs.Levels.{latest_height}
 use Rattle.swap_job.specs.declared.job.Job.{Job}
 use Rattle.swap_job.specs.declared.job.Purpose.{Purpose}
 use Rattle.refusals.specs.declared.reason.Reason.{Reason}
@@ -38,12 +38,12 @@ by_arcs (Ok g) = Ok g
 by_arcs (Err fault) = Err (arc_reason fault)
 
 -- the parties and the arcs of a header
-abbrev pub digraph_in : Header → Graph
-digraph_in h = record { n = length h.names; arcs = h.arcs }
+abbrev pub header_digraph : Header → Graph
+header_digraph h = record { n = length h.names; arcs = h.arcs }
 
 -- the digraph of the header's arcs
-unfoldable pub graph_of : Header → Result Graph Reason
-graph_of h = by_arcs (digraph_of (length h.names) h.version h.arcs)
+unfoldable pub build_graph : Header → Result Graph Reason
+build_graph h = by_arcs (build_digraph (length h.names) h.version h.arcs)
 
 abbrev pub unless_closed : Option (List ℕ) → Result (Unit {0}) Reason
 unless_closed None = Ok tt
@@ -68,11 +68,11 @@ led g leaders = unless_cycle (follower_cycle g leaders)
 
 -- the least bound: no path that ends in a leader has more arcs
 abbrev pub least_bound : Graph → List ℕ → ℕ
-least_bound g leaders = need g.n (length leaders) (height_of g leaders)
+least_bound g leaders = need g.n (length leaders) (latest_height g leaders)
 
 -- the least bound of a deal
-abbrev pub need_of : Deal → ℕ
-need_of d = least_bound d.graph d.leaders
+abbrev pub deal_need : Deal → ℕ
+deal_need d = least_bound d.graph d.leaders
 
 -- the bound is at least the one that is needed
 unfoldable pub bounded : (bound needed : ℕ) → Result (Unit {0}) Reason
@@ -121,13 +121,13 @@ unnamed h g id = record {
 }
 
 -- the deal, with the digest of what it says as its id
-abbrev pub deal_with : Header → Graph → Deal
-deal_with h g = unnamed h g (deal_id (unnamed h g (replicate 32 0)))
+abbrev pub header_deal : Header → Graph → Deal
+header_deal h g = unnamed h g (deal_id (unnamed h g (replicate 32 0)))
 
-abbrev pub job_with : Header → Graph → Job
-job_with h g = record {
+abbrev pub assemble_job : Header → Graph → Job
+assemble_job h g = record {
   purpose = h.purpose;
-  deal = deal_with h g;
+  deal = header_deal h g;
   names = h.names;
   roles = h.roles;
   conforming = h.conforming;
@@ -148,7 +148,7 @@ checked h g = do
 -- the digraph of a header, where its digraph, its leaders and its times pass their checks
 unfoldable pub admitted : Header → Result Graph Reason
 admitted h = do
-  g ← graph_of h
+  g ← build_graph h
   u ← checked h g
   Ok g
 

@@ -9,11 +9,11 @@ use Rattle.swap_job.specs.declared.event.Event.{Event}
 use Rattle.refusals.specs.declared.reason.Reason.{Reason}
 use Rattle.refusals.specs.declared.reason.Reason.TheVariants.{NotJson, OverLimit}
 use Rattle.offer_header.specs.Raw.{is_plain}
-use Rattle.offer_header.specs.Header.{header_of}
-use Rattle.offer_events.specs.Event.{event_of}
-use Rattle.command_input.specs.Lines.{lines_of, filled_lines}
+use Rattle.offer_header.specs.Header.{parse_whole_header}
+use Rattle.offer_events.specs.Event.{parse_event}
+use Rattle.command_input.specs.Lines.{collect_lines, filled_lines}
 use Rattle.offer_header.specs.declared.header.Header.{Header}
-use Rattle.swap_offer.specs.Checks.{admitted, job_with}
+use Rattle.swap_offer.specs.Checks.{admitted, assemble_job}
 use Rattle.swap_offer.specs.Wallets.{seeded, walleted}
 
 -- a job has the seeds that it needs
@@ -23,17 +23,17 @@ provided job = do
   walleted job
 
 -- the job of a header, or the first reason against it: its digraph, its leaders and times, and the seeds of its conforming parties
-unfoldable pub accepted_of : Header → Result Job Reason
-accepted_of h = do
+unfoldable pub accepted_entries : Header → Result Job Reason
+accepted_entries h = do
   g ← admitted h
-  u ← provided (job_with h g)
-  Ok (job_with h g)
+  u ← provided (assemble_job h g)
+  Ok (assemble_job h g)
 
 -- the job of a header line; `has` tells which strategies exist
 unfoldable pub job_header_of : (List ℕ → Bool) → Purpose → ℕ → List ℕ → Result Job Reason
 job_header_of has purpose line text = do
-  h ← header_of has purpose line text
-  accepted_of h
+  h ← parse_whole_header has purpose line text
+  accepted_entries h
 
 abbrev pub names_or_none : Result Header Reason → List (List ℕ)
 names_or_none (Ok h) = h.names
@@ -41,7 +41,7 @@ names_or_none (Err reason) = []
 
 -- the names of the parties in a header line; none where it has no header within its limits
 unfoldable pub names_at : (List ℕ → Bool) → Purpose → ℕ → List ℕ → List (List ℕ)
-names_at has purpose line text = names_or_none (header_of has purpose line text)
+names_at has purpose line text = names_or_none (parse_whole_header has purpose line text)
 
 -- the names of the parties that an offer's lines speak of
 abbrev pub names_in : (List ℕ → Bool) → Purpose → List (ℕ × List ℕ) → List (List ℕ)
@@ -50,12 +50,12 @@ names_in has purpose (l ∷ ls) = names_at has purpose l.0 l.1
 
 -- the event of a line, where so many events came before
 unfoldable pub limited_event : Job → ℕ → ℕ → List ℕ → Result Event Reason
-limited_event job count line text = if count == 200000 then Err (OverLimit line (codes "events") 200001) else event_of job line text
+limited_event job count line text = if count == 200000 then Err (OverLimit line (codes "events") 200001) else parse_event job line text
 
 -- the events of lines, where so many came before
-unfoldable pub events_of : Job → ℕ → List (ℕ × List ℕ) → Result (List Event) Reason
-events_of job count [] = Ok []
-events_of job count (l ∷ ls) = limited_event job count l.0 l.1 >>= λ e. events_of job (count + 1) ls >>= λ es. Ok (e ∷ es)
+unfoldable pub parse_events : Job → ℕ → List (ℕ × List ℕ) → Result (List Event) Reason
+parse_events job count [] = Ok []
+parse_events job count (l ∷ ls) = limited_event job count l.0 l.1 >>= λ e. parse_events job (count + 1) ls >>= λ es. Ok (e ∷ es)
 
 -- how many lines there are with one more, where so many came before: its text isn't examined
 unfoldable pub counted : ℕ → ℕ × List ℕ → Result ℕ Reason
@@ -63,23 +63,23 @@ counted count l = if count == 200000 then Err (OverLimit l.0 (codes "events") 20
 
 abbrev pub events_unless : (plain : Bool) → Job → List (ℕ × List ℕ) → Result (List Event) Reason
 events_unless true job ls = steps counted 0 ls >>= λ count. Ok []
-events_unless false job ls = events_of job 0 ls
+events_unless false job ls = parse_events job 0 ls
 
 -- the events of the further lines; those of a plain job are counted, and no event is read
-abbrev pub events_for : Purpose → Job → List (ℕ × List ℕ) → Result (List Event) Reason
-events_for purpose job ls = events_unless (is_plain purpose) job ls
+abbrev pub parse_job_events : Purpose → Job → List (ℕ × List ℕ) → Result (List Event) Reason
+parse_job_events purpose job ls = events_unless (is_plain purpose) job ls
 
 abbrev pub job_of_lines : (List ℕ → Bool) → Purpose → List (ℕ × List ℕ) → Result (Job × List Event) Reason
 job_of_lines has purpose [] = Err (NotJson 1)
-job_of_lines has purpose (l ∷ ls) = job_header_of has purpose l.0 l.1 >>= λ job. events_for purpose job ls >>= λ events. Ok (job, events)
+job_of_lines has purpose (l ∷ ls) = job_header_of has purpose l.0 l.1 >>= λ job. parse_job_events purpose job ls >>= λ events. Ok (job, events)
 
 -- the names of the parties that an offer's bytes speak of
 abbrev pub names_of_offer : (List ℕ → Bool) → Purpose → List ℕ → List (List ℕ)
-names_of_offer has purpose bytes = names_in has purpose (filled_lines 1 (lines_of bytes))
+names_of_offer has purpose bytes = names_in has purpose (filled_lines 1 (collect_lines bytes))
 
 -- the job and the events of an offer's bytes
-unfoldable pub job_of : (List ℕ → Bool) → Purpose → List ℕ → Result (Job × List Event) Reason
-job_of has purpose bytes = job_of_lines has purpose (filled_lines 1 (lines_of bytes))
+unfoldable pub parse_job : (List ℕ → Bool) → Purpose → List ℕ → Result (Job × List Event) Reason
+parse_job has purpose bytes = job_of_lines has purpose (filled_lines 1 (collect_lines bytes))
 
 -- A job whose deal is well sized, with a name, a role and perhaps a seed per party.
 pub record IsWholeJob (job : Job) : Type 0 where

@@ -2,8 +2,8 @@
 use Rattle.std.specs.Prelude.{◌≡◌, ◌↔◌, Ok}
 use Rattle.offer_header.specs.declared.header.Header.{Header}
 use Rattle.offer_header.specs.Header.{IsHeaderWithin}
-use Rattle.swap_offer.specs.Checks.{admitted, deal_with, digraph_in, IsAcceptedFor}
+use Rattle.swap_offer.specs.Checks.{admitted, header_deal, header_digraph, IsAcceptedFor}
 
 -- a header within its limits passes its checks exactly where its deal is accepted, or that of a plain job proposed
 abbrev pub AdmittedIsAccepted : Type 0
-AdmittedIsAccepted = (h : Header) → IsHeaderWithin h → (admitted h ≡ Ok (digraph_in h)) ↔ IsAcceptedFor h.purpose (deal_with h (digraph_in h))
+AdmittedIsAccepted = (h : Header) → IsHeaderWithin h → (admitted h ≡ Ok (header_digraph h)) ↔ IsAcceptedFor h.purpose (header_deal h (header_digraph h))

@@ -5,7 +5,7 @@ use Rattle.std.specs.List.{list_any, range_with_len}
 use Rattle.swap_base.specs.Lists.{first_of}
 use Rattle.swap_job.specs.declared.job.Job.{Job}
 use Rattle.swap_job.specs.Fitting.{IsMoveOf}
-use Rattle.swap_job.specs.Roles.{role_in, script_of}
+use Rattle.swap_job.specs.Roles.{job_role, role_script}
 use Rattle.swap_job.specs.declared.moves.Move.{Move}
 use Rattle.swap_job.specs.declared.moves.Move.TheVariants.{Craft}
 use Rattle.swap_job.specs.declared.job.Role.{Role}
@@ -18,7 +18,7 @@ use Rattle.refusals.specs.declared.reason.Reason.{Reason}
 use Rattle.refusals.specs.declared.reason.Reason.TheVariants.{NoSeed, WrongWallet}
 use Rattle.party_wallet.specs.Fits.{wrong_lock}
 use Rattle.party_wallet.specs.Value.{WalletState}
-use Rattle.party_wallet.specs.Wallets.{wallets_of}
+use Rattle.party_wallet.specs.Wallets.{new_wallets}
 use Rattle.swap_offer.specs.Checks.{unless_wrong}
 
 -- party p conforms
@@ -35,11 +35,11 @@ crafts p (Craft a lock via onto) = list_any (nat_eq p) via
 crafts p _ = false
 
 -- party p crafts a hashkey in a script
-abbrev pub crafts_in : ℕ → Role → Bool
-crafts_in p role = list_any (crafts p) (script_of role)
+abbrev pub role_crafts : ℕ → Role → Bool
+role_crafts p role = list_any (crafts p) (role_script role)
 
 abbrev pub is_crafter : Job → ℕ → Bool
-is_crafter job p = list_any (crafts_in p) job.roles
+is_crafter job p = list_any (role_crafts p) job.roles
 
 -- the parties whose seeds a purpose needs: for a run and a race those that conform or craft in a script, for making all
 abbrev pub needs_seed : Purpose → Job → ℕ → Bool
@@ -80,10 +80,10 @@ unfoldable pub walleted : Job → Result (Unit {0}) Reason
 walleted job = walleted_for job.purpose job
 
 -- the wallets that a purpose needs: for a run and a race those of the parties
-abbrev pub wallets_for : Purpose → Job → List (Option WalletState)
-wallets_for Run job = wallets_of job.deal job.conforming job.seeds
-wallets_for Race job = wallets_of job.deal job.conforming job.seeds
-wallets_for _ job = []
+abbrev pub prepared_wallets : Purpose → Job → List (Option WalletState)
+prepared_wallets Run job = new_wallets job.deal job.conforming job.seeds
+prepared_wallets Race job = new_wallets job.deal job.conforming job.seeds
+prepared_wallets _ job = []
 
 -- A party's seed is there, and gives it what the deal states for each lock.
 pub record HasWallet (job : Job) (p : ℕ) : Type 0 where
@@ -113,7 +113,7 @@ IsUntoldJob _ job = Unit {0}
 
 -- each move of a script fits, and stands on an arc that touches its party
 abbrev pub HaveScripts : Job → Type 0
-HaveScripts job = (p : ℕ) → p < job.deal.graph.n → All (IsMoveOf job.deal job.seeds p) (script_of (role_in job p))
+HaveScripts job = (p : ℕ) → p < job.deal.graph.n → All (IsMoveOf job.deal job.seeds p) (role_script (job_role job p))
 
 -- for a run and a race, and of a plain job
 abbrev pub HaveScriptsFor : Purpose → Job → Type 0

@@ -4,11 +4,11 @@ ghost use Rattle.std.specs.Prelude.{◌≡◌, ◌≤◌, ◌<◌, ℕ, length, 
 ghost use Rattle.swap_base.specs.Lists.{first_of};
 ghost use Rattle.swap_base.specs.Fault.{Gives};
 ghost use Rattle.swap_digraph.specs.Graph.{HasEnds, IsStronglyConnected, IsFeedback, IsHeight, arcs};
-ghost use Rattle.leader_check.specs.Levels.{height_of};
+ghost use Rattle.leader_check.specs.Levels.{latest_height};
 ghost use Rattle.leader_check.specs.Distance.{dist_of};
 ghost use Rattle.offer_header.specs.Header.{IsHeaderWithin};
 ghost use Rattle.offer_header.specs.Raw.{is_plain};
-ghost use Rattle.swap_offer.specs.Checks.{arc_reason, graph_of, connected, one_leader, led, least_bound, bounded, started, wrong_timelock, timed};
+ghost use Rattle.swap_offer.specs.Checks.{arc_reason, build_graph, connected, one_leader, led, least_bound, bounded, started, wrong_timelock, timed};
 ghost use Rattle.swap_offer.specs.Checks.{timed_unless, checked};
 
 use digraph_check::{Strength, strong};
@@ -31,10 +31,10 @@ fn arc_reason(fault: ArcFault) -> Reason
 }
 
 /// The digraph of the header's arcs, or the first fault of the least arc that has one.
-#[tactic(auto, using(crate::proofs::Few::few_names, crate::proofs::Few::few_arcs), unfolding(crate::specs::Checks::graph_of))]
-pub(crate) fn graph_in(alloc: Global, header: &Header) -> Result<Digraph, OfferFault>
+#[tactic(auto, using(crate::proofs::Few::few_names, crate::proofs::Few::few_arcs), unfolding(crate::specs::Checks::build_graph))]
+pub(crate) fn header_graph(alloc: Global, header: &Header) -> Result<Digraph, OfferFault>
     requires { IsHeaderWithin header.now }
-    ensures exact { Gives (λ g. g) result (graph_of header.now) }
+    ensures exact { Gives (λ g. g) result (build_graph header.now) }
     ensures parts { IfOk result (λ g. (g.n ≡ length header.now.names) × (g.arcs ≡ header.now.arcs)) }
     ensures ends { IfOk result (λ g. HasEnds g) }
 {
@@ -85,7 +85,7 @@ fn check_leaders(alloc: Global, graph: &Digraph, leaders: &[PartyId]) -> Result<
     ensures exact { Gives (λ _. tt) result (led graph.now leaders.now) }
     ensures feedback { OnOk result (IsFeedback graph.now leaders.now) }
     ensures height { IfOk result (λ l. IsHeight graph.now leaders.now l.h) }
-    ensures greatest { IfOk result (λ l. l.h ≡ height_of graph.now leaders.now) }
+    ensures greatest { IfOk result (λ l. l.h ≡ latest_height graph.now leaders.now) }
 {
     match levels(alloc, graph, leaders)? {
         LeaderAnswer::Levels(levels) => Ok(levels),

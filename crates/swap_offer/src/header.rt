@@ -6,20 +6,20 @@ ghost use Rattle.swap_digraph.specs.Deal.{IsWellSized};
 ghost use Rattle.swap_digraph.specs.Graph.{HasEnds};
 ghost use Rattle.refusals.specs.Refusal.{named};
 ghost use Rattle.offer_header.specs.declared.header.Header.{Header};
-ghost use Rattle.offer_header.specs.Header.{header_of, AreSimpleFor, IsUntoldFor, IsHeaderWithin};
+ghost use Rattle.offer_header.specs.Header.{parse_whole_header, AreSimpleFor, IsUntoldFor, IsHeaderWithin};
 ghost use Rattle.offer_header.specs.Limits.{HoldsEach};
 ghost use Rattle.offer_header.specs.Names.{has_strategy, AreNames};
 ghost use Rattle.offer_header.specs.Scripts.{scripts_placed, AreMade};
-ghost use Rattle.swap_offer.specs.Checks.{admitted, deal_with, job_with, least_bound, need_of, unnamed, IsAcceptedFor};
+ghost use Rattle.swap_offer.specs.Checks.{admitted, header_deal, assemble_job, least_bound, deal_need, unnamed, IsAcceptedFor};
 ghost use Rattle.swap_offer.specs.Certificates.{Certifies};
-ghost use Rattle.swap_offer.specs.Wallets.{seeded, AreSimpleRoles, HaveScriptsFor, HaveSeedsFor, HaveWalletsFor, IsUntoldJob, wallets_for};
-ghost use Rattle.swap_offer.specs.Job.{accepted_of, job_header_of, names_at, provided, IsWholeJob};
+ghost use Rattle.swap_offer.specs.Wallets.{seeded, AreSimpleRoles, HaveScriptsFor, HaveSeedsFor, HaveWalletsFor, IsUntoldJob, prepared_wallets};
+ghost use Rattle.swap_offer.specs.Job.{accepted_entries, job_header_of, names_at, provided, IsWholeJob};
 
-use crate::checks::{check_header, graph_in};
+use crate::checks::{check_header, header_graph};
 use crate::prepared::Prepared;
-use crate::wallets::{check_seeds, wallets_for};
+use crate::wallets::{check_seeds, prepared_wallets};
 use hashkey_path::deal_digest;
-use offer_header::{Header, header_in};
+use offer_header::{Header, parse_header};
 use party_wallet::Wallet;
 use refusals::{HeaderFault, OfferFault, with_names};
 use std::alloc::Global;
@@ -28,9 +28,9 @@ use swap_digraph::{Deal, Digraph};
 use swap_job::{Job, Purpose};
 
 /// The job that a header gives with its digraph.
-pub fn job_with(header: Header, graph: Digraph) -> Job
+pub fn assemble_job(header: Header, graph: Digraph) -> Job
     requires sized { (id : List ℕ) → IsWellSized (unnamed header graph id) }
-    ensures { result ≡ job_with header graph }
+    ensures { result ≡ assemble_job header graph }
 {
     let mut deal = Deal {
         version: header.version,
@@ -65,10 +65,10 @@ pub fn admit(alloc: Global, header: &Header) -> Result<(Digraph, u32), OfferFaul
     ensures exact { Gives (λ a. a.0) result (admitted header.now) }
     ensures parts { IfOk result (λ a. (a.0.n ≡ length header.now.names) × (a.0.arcs ≡ header.now.arcs)) }
     ensures ends { IfOk result (λ a. HasEnds a.0) }
-    ensures accepted { IfOk result (λ a. IsAcceptedFor header.now.purpose (deal_with header.now a.0)) }
+    ensures accepted { IfOk result (λ a. IsAcceptedFor header.now.purpose (header_deal header.now a.0)) }
     ensures need { IfOk result (λ a. a.1 ≡ least_bound a.0 header.now.leaders) }
 {
-    let graph = graph_in(alloc, header)?;
+    let graph = header_graph(alloc, header)?;
     let need = check_header(alloc, header, &graph)?;
     Ok((graph, need))
 }
@@ -81,21 +81,21 @@ fn provide(alloc: Global, job: &Job) -> Result<Vec<Option<Wallet>>, OfferFault>
     ensures seeded { OnOk result (seeded job.now ≡ Ok tt) }
     ensures wallets { OnOk result (HaveWalletsFor job.now.purpose job.now) }
     ensures seeds { OnOk result (HaveSeedsFor job.now.purpose job.now) }
-    ensures made { IfOk result (λ v. v.items ≡ wallets_for job.now.purpose job.now) }
+    ensures made { IfOk result (λ v. v.items ≡ prepared_wallets job.now.purpose job.now) }
 {
     check_seeds(job)?;
-    wallets_for(alloc, job)
+    prepared_wallets(alloc, job)
 }
 
 /// The job of a header within its limits, with its wallets. A reason against it takes the header's names.
-#[tactic(auto, using(crate::proofs::Size::is_whole, crate::proofs::Size::is_sized, refusals::proofs::Named::fails), unfolding(crate::specs::Job::accepted_of))]
+#[tactic(auto, using(crate::proofs::Size::is_whole, crate::proofs::Size::is_sized, refusals::proofs::Named::fails), unfolding(crate::specs::Job::accepted_entries))]
 fn accept(alloc: Global, line: u32, header: Header) -> Result<Prepared, HeaderFault>
     requires within { IsHeaderWithin header }
     requires untold { IsUntoldFor header.purpose header }
     requires simple { AreSimpleFor header.purpose header }
     requires placed { scripts_placed line header ≡ Ok tt }
     requires made { AreMade line header }
-    ensures exact { Gives (λ p. p.job) result (named header.names (accepted_of header)) }
+    ensures exact { Gives (λ p. p.job) result (named header.names (accepted_entries header)) }
     ensures names { IfOk result (λ p. p.job.names ≡ header.names) }
     ensures known { IfOk result (λ p. AreNames p.job.names) }
     ensures purpose { IfOk result (λ p. p.job.purpose ≡ header.purpose) }
@@ -107,14 +107,14 @@ fn accept(alloc: Global, line: u32, header: Header) -> Result<Prepared, HeaderFa
     ensures acting { IfOk result (λ p. p.job.roles ≡ header.roles) }
     ensures scripts { IfOk result (λ p. HaveScriptsFor header.purpose p.job) }
     ensures untold { IfOk result (λ p. IsUntoldJob header.purpose p.job) }
-    ensures made { IfOk result (λ p. p.wallets.items ≡ wallets_for header.purpose p.job) }
-    ensures need { IfOk result (λ p. p.need ≡ need_of p.job.deal) }
+    ensures made { IfOk result (λ p. p.wallets.items ≡ prepared_wallets header.purpose p.job) }
+    ensures need { IfOk result (λ p. p.need ≡ deal_need p.job.deal) }
 {
     let (graph, need) = match admit(alloc, &header) {
         Ok(admitted) => admitted,
         Err(fault) => return Err(with_names(fault, header.names)),
     };
-    let job = job_with(header, graph);
+    let job = assemble_job(header, graph);
     match provide(alloc, &job) {
         Ok(wallets) => Ok(Prepared { job, wallets, need }),
         Err(fault) => Err(with_names(fault, job.names)),
@@ -148,12 +148,12 @@ pub fn read_header(
     ensures strategies { IfOk result (λ p. HoldsEach (has_strategy strategies.now) p.job.roles) }
     ensures scripts { IfOk result (λ p. HaveScriptsFor purpose p.job) }
     ensures untold { IfOk result (λ p. IsUntoldJob purpose p.job) }
-    ensures made { IfOk result (λ p. p.wallets.items ≡ wallets_for purpose p.job) }
-    ensures need { IfOk result (λ p. p.need ≡ need_of p.job.deal) }
+    ensures made { IfOk result (λ p. p.wallets.items ≡ prepared_wallets purpose p.job) }
+    ensures need { IfOk result (λ p. p.need ≡ deal_need p.job.deal) }
     // A closed set or a cycle of followers that is named is one of the header's digraph.
-    ensures certified { (h : Header) → header_of (has_strategy strategies.now) purpose line text.now ≡ Ok h → Certifies h result }
+    ensures certified { (h : Header) → parse_whole_header (has_strategy strategies.now) purpose line text.now ≡ Ok h → Certifies h result }
 {
-    let header = match header_in(alloc, strategies, purpose, line, text) {
+    let header = match parse_header(alloc, strategies, purpose, line, text) {
         Ok(header) => header,
         Err(fault) => return Err(with_names(fault, Listed::empty(alloc))),
     };

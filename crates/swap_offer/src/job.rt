@@ -2,14 +2,14 @@
 
 ghost use Rattle.std.specs.Prelude.{true, ◌≡◌, ◌<◌, ◌≤◌, ◌^◌, ◌∷◌, length, map, All, IfOk};
 ghost use Rattle.swap_base.specs.Fault.{Gives, steps};
-ghost use Rattle.swap_job.specs.Step.{IsEventOf};
+ghost use Rattle.swap_job.specs.Step.{IsJobEvent};
 ghost use Rattle.offer_events.specs.Event.{needs_seeds};
 ghost use Rattle.refusals.specs.Refusal.{named};
 ghost use Rattle.offer_header.specs.Limits.{HoldsEach};
 ghost use Rattle.offer_header.specs.Names.{AreNames, has_strategy};
 ghost use Rattle.offer_header.specs.Raw.{is_plain};
 ghost use Rattle.swap_offer.specs.Checks.{IsAcceptedFor};
-ghost use Rattle.swap_offer.specs.Job.{limited_event, counted, events_of, events_for, job_of_lines, job_of, names_at, names_in, names_of_offer, IsWholeJob};
+ghost use Rattle.swap_offer.specs.Job.{limited_event, counted, parse_events, parse_job_events, job_of_lines, parse_job, names_at, names_in, names_of_offer, IsWholeJob};
 ghost use Rattle.swap_offer.specs.Wallets.{AreSimpleRoles, HaveScriptsFor, HaveSeedsFor, HaveWalletsFor, IsUntoldJob};
 
 use crate::header::read_header;
@@ -36,7 +36,7 @@ pub fn next_event(
 ) -> Result<Event, OfferFault>
     requires { IsWholeJob job.now }
     ensures exact { Gives (λ e. e) result (limited_event job.now count line text.now) }
-    ensures fits { IfOk result (λ e. needs_seeds job.now.purpose ≡ true → IsEventOf job.now e) }
+    ensures fits { IfOk result (λ e. needs_seeds job.now.purpose ≡ true → IsJobEvent job.now e) }
 {
     if count == MOST_EVENTS {
         return Err(over_limit(alloc, line, b"events", MOST_EVENTS as u64 + 1));
@@ -48,8 +48,8 @@ pub fn next_event(
 fn read_events(alloc: Global, job: &Job, lines: &[(u32, &[u8])]) -> Result<Vec<Event>, OfferFault>
     requires whole { IsWholeJob job.now }
     requires few { length lines.now < 2 ^ 31 }
-    ensures exact { Gives (λ v. v.items) result (events_of job.now 0 (map (λ l. (l.0, l.1.now)) lines.now)) }
-    ensures fit { IfOk result (λ v. needs_seeds job.now.purpose ≡ true → All (IsEventOf job.now) v.items) }
+    ensures exact { Gives (λ v. v.items) result (parse_events job.now 0 (map (λ l. (l.0, l.1.now)) lines.now)) }
+    ensures fit { IfOk result (λ v. needs_seeds job.now.purpose ≡ true → All (IsJobEvent job.now) v.items) }
 {
     let mut events = Vec::new(alloc);
     'lines: for (count, line) in lines.iter().enumerate() {
@@ -92,8 +92,8 @@ fn read_further(
 ) -> Result<Vec<Event>, OfferFault>
     requires whole { IsWholeJob job.now }
     requires few { length lines.now < 2 ^ 31 }
-    ensures exact { Gives (λ v. v.items) result (events_for purpose job.now (map (λ l. (l.0, l.1.now)) lines.now)) }
-    ensures fit { IfOk result (λ v. needs_seeds job.now.purpose ≡ true → All (IsEventOf job.now) v.items) }
+    ensures exact { Gives (λ v. v.items) result (parse_job_events purpose job.now (map (λ l. (l.0, l.1.now)) lines.now)) }
+    ensures fit { IfOk result (λ v. needs_seeds job.now.purpose ≡ true → All (IsJobEvent job.now) v.items) }
 {
     if is_plain(purpose) {
         count_events(alloc, lines)?;
@@ -105,7 +105,7 @@ fn read_further(
 
 /// The job of a header line and the events of the further lines.
 #[tactic(auto, using(refusals::proofs::Named::fails))]
-fn read_from(
+fn read_source(
     alloc: Global,
     purpose: Purpose,
     strategies: &[ByteText],
@@ -126,7 +126,7 @@ fn read_from(
     ensures strategies { IfOk result (λ j. HoldsEach (has_strategy strategies.now) j.0.roles) }
     ensures scripts { IfOk result (λ j. HaveScriptsFor purpose j.0) }
     ensures untold { IfOk result (λ j. IsUntoldJob purpose j.0) }
-    ensures fit { IfOk result (λ j. needs_seeds purpose ≡ true → All (IsEventOf j.0) j.1.items) }
+    ensures fit { IfOk result (λ j. needs_seeds purpose ≡ true → All (IsJobEvent j.0) j.1.items) }
 {
     let Prepared { job, .. } = read_header(alloc, line, text, purpose, strategies)?;
     match read_further(alloc, purpose, &job, further) {
@@ -155,7 +155,7 @@ fn read_lines(
     ensures strategies { IfOk result (λ j. HoldsEach (has_strategy strategies.now) j.0.roles) }
     ensures scripts { IfOk result (λ j. HaveScriptsFor purpose j.0) }
     ensures untold { IfOk result (λ j. IsUntoldJob purpose j.0) }
-    ensures fit { IfOk result (λ j. needs_seeds purpose ≡ true → All (IsEventOf j.0) j.1.items) }
+    ensures fit { IfOk result (λ j. needs_seeds purpose ≡ true → All (IsJobEvent j.0) j.1.items) }
 {
     if lines.is_empty() {
         let names = Listed::empty(alloc);
@@ -163,11 +163,11 @@ fn read_lines(
         return Err(Fault::Refused(Refusal { reason, names }));
     }
     let (line, text) = lines[0];
-    read_from(alloc, purpose, strategies, line, text, &lines[1..])
+    read_source(alloc, purpose, strategies, line, text, &lines[1..])
 }
 
 /// The job and the events of an offer, or the first reason against it with the names in its header.
-#[tactic(auto, unfolding(crate::specs::Job::job_of))]
+#[tactic(auto, unfolding(crate::specs::Job::parse_job))]
 pub fn read_job(
     alloc: Global,
     bytes: &[u8],
@@ -176,7 +176,7 @@ pub fn read_job(
 ) -> Result<(Job, Vec<Event>), HeaderFault>
     requires few { length bytes.now < 2 ^ 31 }
     ensures exact { Gives (λ j. (j.0, j.1.items)) result (named (names_of_offer (has_strategy strategies.now) purpose bytes.now)
-        (job_of (has_strategy strategies.now) purpose bytes.now)) }
+        (parse_job (has_strategy strategies.now) purpose bytes.now)) }
     ensures whole { IfOk result (λ j. IsWholeJob j.0) }
     ensures accepted { IfOk result (λ j. IsAcceptedFor purpose j.0.deal) }
     ensures known { IfOk result (λ j. AreNames j.0.names) }
@@ -187,7 +187,7 @@ pub fn read_job(
     ensures strategies { IfOk result (λ j. HoldsEach (has_strategy strategies.now) j.0.roles) }
     ensures scripts { IfOk result (λ j. HaveScriptsFor purpose j.0) }
     ensures untold { IfOk result (λ j. IsUntoldJob purpose j.0) }
-    ensures fit { IfOk result (λ j. needs_seeds purpose ≡ true → All (IsEventOf j.0) j.1.items) }
+    ensures fit { IfOk result (λ j. needs_seeds purpose ≡ true → All (IsJobEvent j.0) j.1.items) }
 {
     let lines = filled_lines(alloc, bytes)?;
     read_lines(alloc, purpose, strategies, &lines)

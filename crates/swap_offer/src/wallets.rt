@@ -8,10 +8,10 @@ ghost use Rattle.swap_digraph.specs.Deal.{IsWellSized};
 ghost use Rattle.refusals.specs.declared.reason.Reason.TheVariants.{WrongWallet};
 ghost use Rattle.party_wallet.specs.Fits.{wrong_lock};
 ghost use Rattle.party_wallet.specs.Keys.{new_wallet};
-ghost use Rattle.party_wallet.specs.Wallets.{wallet_for, wallets_of};
+ghost use Rattle.party_wallet.specs.Wallets.{job_wallet, new_wallets};
 ghost use Rattle.swap_offer.specs.Checks.{unless_wrong};
 ghost use Rattle.swap_offer.specs.Job.{IsWholeJob};
-ghost use Rattle.swap_offer.specs.Wallets.{crafts, crafts_in, is_crafter, needs_seed, no_seed, seeded, wrong_wallet, fitting, walleted, wallets_for};
+ghost use Rattle.swap_offer.specs.Wallets.{crafts, role_crafts, is_crafter, needs_seed, no_seed, seeded, wrong_wallet, fitting, walleted, prepared_wallets};
 
 use party_wallet::Wallet;
 use refusals::{OfferFault, Reason};
@@ -21,7 +21,7 @@ use swap_digraph::Deal;
 use swap_job::{Job, Move, Purpose, Role};
 
 /// Whether a party is among those that make a hashkey.
-fn is_among(p: PartyId, via: &[PartyId]) -> bool
+fn is_listed(p: PartyId, via: &[PartyId]) -> bool
     ensures { result ≡ list_any (nat_eq p) via.now }
 {
     for v in via {
@@ -36,7 +36,7 @@ fn crafts(p: PartyId, mv: &Move) -> bool
     ensures { result ≡ crafts p mv.now }
 {
     match mv {
-        Move::Craft { via, .. } => is_among(p, via.as_slice()),
+        Move::Craft { via, .. } => is_listed(p, via.as_slice()),
         _ => false,
     }
 }
@@ -52,8 +52,8 @@ fn crafts_in_one(p: PartyId, moves: &[Move]) -> bool
     false
 }
 
-fn crafts_in(p: PartyId, role: &Role) -> bool
-    ensures { result ≡ crafts_in p role.now }
+fn role_crafts(p: PartyId, role: &Role) -> bool
+    ensures { result ≡ role_crafts p role.now }
 {
     match role {
         Role::Script(moves) => crafts_in_one(p, moves.as_slice()),
@@ -66,7 +66,7 @@ fn is_crafter(job: &Job, p: PartyId) -> bool
     ensures { result ≡ is_crafter job.now p }
 {
     for role in job.roles.as_slice() {
-        if crafts_in(p, role) {
+        if role_crafts(p, role) {
             return true;
         }
     }
@@ -138,11 +138,11 @@ fn with_seed(alloc: Global, deal: &Deal, p: PartyId, seed: &Digest) -> Result<Wa
 }
 
 /// The wallet of a party that conforms and has a seed, or the reason against it.
-fn wallet_for(alloc: Global, job: &Job, p: PartyId) -> Result<Option<Wallet>, OfferFault>
+fn job_wallet(alloc: Global, job: &Job, p: PartyId) -> Result<Option<Wallet>, OfferFault>
     requires whole { IsWholeJob job.now }
     requires known { p < job.now.deal.graph.n }
     ensures fits { Gives (λ _. tt) result (unless_wrong (wrong_wallet job.now p)) }
-    ensures made { IfOk result (λ o. o ≡ wallet_for job.now.deal job.now.conforming job.now.seeds p) }
+    ensures made { IfOk result (λ o. o ≡ job_wallet job.now.deal job.now.conforming job.now.seeds p) }
 {
     if !job.conforming.as_slice()[p as usize] {
         return Ok(None);
@@ -156,14 +156,14 @@ fn wallet_for(alloc: Global, job: &Job, p: PartyId) -> Result<Option<Wallet>, Of
 /// The wallet of each conforming party with a seed, or the refusal of the first seed that isn't the
 /// deal's.
 #[tactic(auto, unfolding(crate::specs::Wallets::fitting))]
-fn wallets_of(alloc: Global, job: &Job) -> Result<Vec<Option<Wallet>>, OfferFault>
+fn new_wallets(alloc: Global, job: &Job) -> Result<Vec<Option<Wallet>>, OfferFault>
     requires whole { IsWholeJob job.now }
     ensures fit { Gives (λ _. tt) result (fitting job.now) }
-    ensures made { IfOk result (λ v. v.items ≡ wallets_of job.now.deal job.now.conforming job.now.seeds) }
+    ensures made { IfOk result (λ v. v.items ≡ new_wallets job.now.deal job.now.conforming job.now.seeds) }
 {
     let mut wallets = Vec::new(alloc);
     'parties: for p in 0..job.deal.graph.n() {
-        let wallet = wallet_for(alloc, job, p)?;
+        let wallet = job_wallet(alloc, job, p)?;
         wallets.push(wallet)?;
     }
     Ok(wallets)
@@ -176,20 +176,20 @@ fn check_wallets(alloc: Global, job: &Job) -> Result<(), OfferFault>
     ensures { Gives (λ u. u) result (fitting job.now) }
 {
     'parties: for p in 0..job.deal.graph.n() {
-        wallet_for(alloc, job, p)?;
+        job_wallet(alloc, job, p)?;
     }
     Ok(())
 }
 
 /// The wallets that the job's purpose needs, where the seeds give what the deal states of them.
 #[tactic(auto, unfolding(crate::specs::Wallets::walleted))]
-pub(crate) fn wallets_for(alloc: Global, job: &Job) -> Result<Vec<Option<Wallet>>, OfferFault>
+pub(crate) fn prepared_wallets(alloc: Global, job: &Job) -> Result<Vec<Option<Wallet>>, OfferFault>
     requires whole { IsWholeJob job.now }
     ensures fit { Gives (λ _. tt) result (walleted job.now) }
-    ensures made { IfOk result (λ v. v.items ≡ wallets_for job.now.purpose job.now) }
+    ensures made { IfOk result (λ v. v.items ≡ prepared_wallets job.now.purpose job.now) }
 {
     match job.purpose {
-        Purpose::Run | Purpose::Race => wallets_of(alloc, job),
+        Purpose::Run | Purpose::Race => new_wallets(alloc, job),
         Purpose::Check => {
             check_wallets(alloc, job)?;
             Ok(Vec::new(alloc))

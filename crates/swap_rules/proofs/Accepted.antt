@@ -9,10 +9,10 @@ use Rattle.swap_digraph.specs.Value.{Graph}
 use Rattle.swap_digraph.specs.declared.deal.Deal.{Deal}
 use Rattle.swap_digraph.specs.declared.deal.Mode.{Mode}
 use Rattle.swap_digraph.specs.declared.deal.Mode.TheVariants.{Timelocks, Hashkeys}
-use Rattle.swap_digraph.specs.Graph.{ends, is_path, has_arc, last_is, arcs_of, IsFeedback, IsDist}
-use Rattle.swap_digraph.specs.Deal.{leader_of, counterparty}
+use Rattle.swap_digraph.specs.Graph.{ends, is_path, has_arc, last_is, listed_arcs, IsFeedback, IsDist}
+use Rattle.swap_digraph.specs.Deal.{lock_leader, counterparty}
 use Rattle.swap_rules.specs.Accepted.{IsTimed, IsAccepted}
-use Rattle.swap_rules.proofs.Times.{TimelockLaw, HashkeyLaw, TimeLaw, OfTimelocks, OfHashkeys, TimesLaw, times_of}
+use Rattle.swap_rules.proofs.Times.{TimelockLaw, HashkeyLaw, TimeLaw, OfTimelocks, OfHashkeys, TimesLaw, parse_times}
 use Rattle.swap_rules.proofs.Words.{enters, leaves}
 use Rattle.leader_check.proofs.Bounds.{path_law}
 use Rattle.swap_rules.proofs.Graph.{dist_falls}
@@ -29,13 +29,13 @@ arc_has g c u v l e f =
     list_any-in (λ a. (a.from == u) && (a.to == v)) g.arcs (ends g c)
     (and_both ((ends g c).from == u) ((ends g c).to == v) (eq-eqb _ _ e) (eq-eqb _ _ f)) (get_in g.arcs c (record { from = 0; to = 0 }) l)
 
-leader_in : (d : Deal) (i : ℕ) → i < length d.leaders → IsIn (leader_of d i) d.leaders
+leader_in : (d : Deal) (i : ℕ) → i < length d.leaders → IsIn (lock_leader d i) d.leaders
 leader_in d i l = get_in d.leaders i 0 l
 
-pub bounded_path : (d : Deal) → IsAccepted d → (p : List ℕ) (i : ℕ) → i < length d.leaders → is_path d.graph p ≡ true → last_is (leader_of d i) p ≡ true
-    → arcs_of p ≤ d.bound
+pub bounded_path : (d : Deal) → IsAccepted d → (p : List ℕ) (i : ℕ) → i < length d.leaders → is_path d.graph p ≡ true → last_is (lock_leader d i) p ≡ true
+    → listed_arcs p ≤ d.bound
 bounded_path d k p i l e f =
-    let n = path_law d.graph d.leaders k.height k.is_height p (leader_of d i) e f (leader_in d i l) in
+    let n = path_law d.graph d.leaders k.height k.is_height p (lock_leader d i) e f (leader_in d i l) in
     let m = k.bound.0 in omega arith
 
 hashkey_law : (d : Deal) → IsAccepted d → d.mode ≡ Hashkeys → HashkeyLaw d
@@ -66,11 +66,12 @@ timelock_law d k m = record {
       let x = timed.1 a in_arc.0 in
       let y = timed.1 c out.0 in
       let below : v < d.graph.n = subst (λ u. u < d.graph.n) in_arc.1 (k.ends.to a in_arc.0) in
-      let follower : v ≡ leader_of d 0 → ⊥ = λ e. false≢true (sym f ∙ eq-eqb _ v (get_or_default d.leaders 0 d.graph.n 0 k.leaders.0 ∙ sym e)) in
+      let follower : v ≡ lock_leader d 0 → ⊥ = λ e. false≢true (sym f ∙ eq-eqb _ v (get_or_default d.leaders 0 d.graph.n 0 k.leaders.0 ∙ sym e)) in
       let fall =
-      dist_falls d.graph (leader_of d 0) (subst (IsFeedback d.graph) (one_leader d.leaders timed.0) k.feedback) v (counterparty d c) x.dist y.dist
+      dist_falls d.graph (lock_leader d 0) (subst (IsFeedback d.graph) (one_leader d.leaders timed.0) k.feedback) v (counterparty d c) x.dist y.dist
       below
-      (arc_has d.graph c v (counterparty d c) out.0 out.1 refl) follower (subst (λ u. IsDist d.graph (leader_of d 0) u x.dist) in_arc.1 x.is_dist) y.is_dist in
+      (arc_has d.graph c v (counterparty d c) out.0 out.1 refl) follower (subst (λ u. IsDist d.graph
+      (lock_leader d 0) u x.dist) in_arc.1 x.is_dist) y.is_dist in
       let more : (y.dist + 1) * d.delta ≤ x.dist * d.delta = mul-le-mul_right d.delta fall in
       let tx = x.timelock in
       let ty = y.timelock in
@@ -88,7 +89,7 @@ time_law d k = go d.mode refl
     go Hashkeys e = OfHashkeys (hashkey_law d k e)
 
 pub times_law : (d : Deal) → IsAccepted d → TimesLaw d
-times_law d k = times_of d (time_law d k)
+times_law d k = parse_times d (time_law d k)
 
 pub accepted_is_well_sized : AcceptedIsWellSized
 accepted_is_well_sized d k = record {

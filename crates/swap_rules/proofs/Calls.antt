@@ -9,7 +9,7 @@ use Rattle.swap_digraph.specs.declared.deal.Deal.{Deal}
 use Rattle.swap_digraph.specs.Graph.{leaving}
 use Rattle.hashkey_path.specs.declared.hashkey.Hashkey.{Hashkey}
 use Rattle.escrow_core.specs.declared.terms.Terms.{Terms}
-use Rattle.escrow_core.specs.Terms.{terms_of, same_terms}
+use Rattle.escrow_core.specs.Terms.{stated_terms, same_terms}
 use Rattle.ledger_core.specs.declared.entry.Call.{Call}
 use Rattle.ledger_core.specs.declared.entry.Call.TheVariants.{Publish, Unlock, Claim, Refund, Transfer}
 use Rattle.ledger_core.specs.declared.entry.Entry.{Entry}
@@ -17,27 +17,27 @@ use Rattle.ledger_core.specs.History.{height, Publication, published, IsLegal}
 use Rattle.ledger_core.specs.Book.{Histories, history, IsLegalBook}
 use Rattle.swap_rules.specs.declared.finding.Rule.{Rule}
 use Rattle.swap_rules.specs.declared.finding.Rule.TheVariants.{Publish as ToPublish, Unlock as ToUnlock, Claim as ToClaim, Refund as ToRefund}
-use Rattle.swap_rules.specs.Party.{is_correct_in, is_correct, is_ready, leads_one, call_by, first_key}
-use Rattle.swap_rules.specs.Conduct.{is_first_key, keeps, keeps_at, IsConducted}
+use Rattle.swap_rules.specs.Party.{is_arc_correct, is_correct, is_ready, leads_one, pick_call, first_key}
+use Rattle.swap_rules.specs.Conduct.{is_first_key, keeps, keeps_entry, IsConducted}
 use Rattle.swap_rules.specs.Due.{is_claiming}
 use Rattle.swap_rules.specs.Late.{ref_of, counts, is_done, late_at, is_late}
-use Rattle.swap_rules.proofs.Words.{and_three, and_five, same_terms-true, leaves, call_by-act}
+use Rattle.swap_rules.proofs.Words.{and_three, and_five, same_terms-true, leaves, pick_call-act}
 use Rattle.ledger_core.proofs.History.{published_done, of_publish, published-past}
 
 module _ (d : Deal) (b : Histories) (v : ℕ) (conducted : IsConducted d b v) where
   -- each call of v keeps the rules
-  pub kept : (a : ℕ) (past : List Entry) (e : Entry) (c : Call) → IsMoment (history b a) past e → call_by v e ≡ Some c
+  pub kept : (a : ℕ) (past : List Entry) (e : Entry) (c : Call) → IsMoment (history b a) past e → pick_call v e ≡ Some c
       → keeps d b v a past e.height (Some c) ≡ true
   kept a past e c m k =
       ap (keeps d b v a past e.height) (sym k)
-      ∙ at_moment (λ m. keeps_at d b v a m ≡ true) (history b a) past e (all_from_list_all (keeps_at d b v a) (moments (history b a)) (conducted a)) m
+      ∙ at_moment (λ m. keeps_entry d b v a m ≡ true) (history b a) past e (all_from_list_all (keeps_entry d b v a) (moments (history b a)) (conducted a)) m
 
   module _ (legal : IsLegalBook d b) where
     pub legal_at : (a : ℕ) → a < length d.graph.arcs → IsLegal d a (history b a)
     legal_at a l = legal.legal a (rw legal.one_each l)
 
     pub record OwnPublish (a : ℕ) (t : Terms) : Type 0 where
-      pub correct : t ≡ terms_of d a
+      pub correct : t ≡ stated_terms d a
       pub may : (leads_one d v || is_ready d b v) ≡ true
 
     -- what v published on an arc that leaves it is correct, and v led or was ready
@@ -47,16 +47,16 @@ module _ (d : Deal) (b : Histories) (v : ℕ) (conducted : IsConducted d b v) wh
         let l = leaves d v a i in
         let done = published_done d a (history b a) p (legal_at a l.0) e in
         let by : done.act.by ≡ v = (of_publish d a done.past done.act.by p.terms done.clear).party ∙ l.1 in
-        let k = kept a done.past done.now (Publish p.terms) done.stands (call_by-act d a done.past done.now (Publish p.terms) v done.act by) in
-        let parts = and_three (same_terms p.terms (terms_of d a)) _ (leads_one d v || is_ready d b v) k in
-        record { correct = same_terms-true p.terms (terms_of d a) parts.0; may = parts.2 }
+        let k = kept a done.past done.now (Publish p.terms) done.stands (pick_call-act d a done.past done.now (Publish p.terms) v done.act by) in
+        let parts = and_three (same_terms p.terms (stated_terms d a)) _ (leads_one d v || is_ready d b v) k in
+        record { correct = same_terms-true p.terms (stated_terms d a) parts.0; may = parts.2 }
 
     pub or-left_false : (x y : Bool) → x ≡ false → (x || y) ≡ true → y ≡ true
     or-left_false true y h k = absurd (cc h)
     or-left_false false y h k = k
 
     -- an unlock call of v anywhere shows that v is ready
-    pub unlock_ready : (e : Entry) (key : Hashkey) → IsIn e (flat_map (λ h. h) b) → call_by v e ≡ Some (Unlock key) → is_ready d b v ≡ true
+    pub unlock_ready : (e : Entry) (key : Hashkey) → IsIn e (flat_map (λ h. h) b) → pick_call v e ≡ Some (Unlock key) → is_ready d b v ≡ true
     unfolding keeps
     unlock_ready e key i k =
         let w = from_whole b e i in
@@ -69,7 +69,7 @@ module _ (d : Deal) (b : Histories) (v : ℕ) (conducted : IsConducted d b v) wh
       pub now : Entry
       pub call : Call
       pub stands : IsMoment (history b a) past now
-      pub called : call_by v now ≡ Some call
+      pub called : pick_call v now ≡ Some call
       pub counted : counts d b v rule a now.height (Some call) ≡ true
       pub in_time : now.height ≤ due
 
@@ -93,9 +93,9 @@ module _ (d : Deal) (b : Histories) (v : ℕ) (conducted : IsConducted d b v) wh
         let e : (nat_lt (r + d.delta) (height (history b a)) && not (is_done d b v rule a (r + d.delta))) ≡ false =
         ap (late_at d b v rule a) (sym enabled) ∙ on_time in
         let k : is_done d b v rule a (r + d.delta) ≡ true = late_parts (nat_lt (r + d.delta) (height (history b a))) _ e (lt-ltb _ _ passed) in
-        let f = any_at (λ e. counts d b v rule a e.height (call_by v e) && nat_le e.height (r + d.delta)) (history b a) k in
-        let parts = and_parts (counts d b v rule a f.now.height (call_by v f.now)) (nat_le f.now.height (r + d.delta)) f.passes in
-        let c = some_call rule a f.now.height (call_by v f.now) parts.0 in
+        let f = any_at (λ e. counts d b v rule a e.height (pick_call v e) && nat_le e.height (r + d.delta)) (history b a) k in
+        let parts = and_parts (counts d b v rule a f.now.height (pick_call v f.now)) (nat_le f.now.height (r + d.delta)) f.passes in
+        let c = some_call rule a f.now.height (pick_call v f.now) parts.0 in
         record {
           past = f.past;
           now = f.now;
@@ -145,18 +145,18 @@ claiming_is (Some (Transfer to units)) k = absurd (cc k)
 pub record Correct (d : Deal) (b : Histories) (a : ℕ) : Type 0 where
   pub contract : Publication
   pub published : published (history b a) ≡ Some contract
-  pub terms : contract.terms ≡ terms_of d a
+  pub terms : contract.terms ≡ stated_terms d a
 
-correct_of : (d : Deal) (b : Histories) (a : ℕ) (o : Option Publication) → published (history b a) ≡ o → is_correct_in d a o ≡ true → Correct d b a
+correct_of : (d : Deal) (b : Histories) (a : ℕ) (o : Option Publication) → published (history b a) ≡ o → is_arc_correct d a o ≡ true → Correct d b a
 correct_of d b a None e k = absurd (cc k)
-correct_of d b a (Some p) e k = record { contract = p; published = e; terms = same_terms-true p.terms (terms_of d a) k }
+correct_of d b a (Some p) e k = record { contract = p; published = e; terms = same_terms-true p.terms (stated_terms d a) k }
 
 pub correct : (d : Deal) (b : Histories) (a : ℕ) → is_correct d b a ≡ true → Correct d b a
 correct d b a k = correct_of d b a (published (history b a)) refl k
 
 -- on a correct arc a prefix that has a publish has the correct terms
 pub correct_past : (d : Deal) (b : Histories) (a : ℕ) (past : List Entry) (e : Entry) (p : Publication) → Correct d b a → IsMoment (history b a) past e
-    → published past ≡ Some p → p.terms ≡ terms_of d a
+    → published past ≡ Some p → p.terms ≡ stated_terms d a
 correct_past d b a past e p c m k =
     let one : p ≡ c.contract = same_Some p c.contract (sym (published-past (history b a) past e p m k) ∙ c.published) in
     ap (λ q. q.terms) one ∙ c.terms

@@ -11,10 +11,10 @@ use Rattle.swap_base.specs.Lists.{first_of, IsIn, Moment, moments, IsMoment, mom
 use Rattle.swap_base.proofs.Lists.{first_at, first_of-in, all_moments_push, list_all-from, list_any-at, and_both, in_from_moment}
 use Rattle.swap_base.proofs.Lists.{moment_from_in, in_whole, from_whole}
 use Rattle.swap_digraph.specs.declared.deal.Deal.{Deal}
-use Rattle.swap_digraph.specs.Deal.{hashlock_of, touches}
+use Rattle.swap_digraph.specs.Deal.{lock_hashlock, touches}
 use Rattle.hashkey_path.specs.declared.hashkey.Hashkey.{Hashkey}
 use Rattle.hashkey_path.specs.Hashkey.{same_key, is_valid}
-use Rattle.escrow_core.specs.Terms.{terms_of, same_terms}
+use Rattle.escrow_core.specs.Terms.{stated_terms, same_terms}
 use Rattle.ledger_core.specs.declared.entry.Call.{Call}
 use Rattle.ledger_core.specs.declared.entry.Call.TheVariants.{Publish, Unlock, Claim, Refund, Transfer}
 use Rattle.ledger_core.specs.declared.entry.Sender.{Sender}
@@ -22,10 +22,10 @@ use Rattle.ledger_core.specs.declared.entry.Sender.TheVariants.{Party}
 use Rattle.ledger_core.specs.declared.entry.What.{What}
 use Rattle.ledger_core.specs.declared.entry.What.TheVariants.{Call as Made}
 use Rattle.ledger_core.specs.declared.entry.Entry.{Entry}
-use Rattle.ledger_core.specs.History.{height, published, reply_to, fit, IsLegal, IsLegalMoment, sent_by, call_in}
+use Rattle.ledger_core.specs.History.{height, published, history_reply, fit, IsLegal, IsLegalMoment, is_sender, read_raw_call}
 use Rattle.ledger_core.specs.Book.{Histories, history, IsLegalBook}
-use Rattle.swap_rules.specs.Party.{has_expired, is_ready, call_by, key_in, first_key}
-use Rattle.swap_rules.specs.Conduct.{is_publish, is_first_key, keeps, keeps_at, IsConducted}
+use Rattle.swap_rules.specs.Party.{has_expired, is_ready, pick_call, fetch_key, first_key}
+use Rattle.swap_rules.specs.Conduct.{is_publish, is_first_key, keeps, keeps_entry, IsConducted}
 use Rattle.ledger_core.specs.Ledger.{after_call, is_sender_full}
 use Rattle.swap_rules.specs.Machine.{KeepsOwn, KeepsKey, KeepsRules, Begins, Knows, entry_of}
 use Rattle.swap_rules.proofs.Words.{past_end, call_of_parts, act_of, key_parts, same_key-refl}
@@ -88,19 +88,20 @@ count_single p xs past x m px none =
 -- A party all of whose unlock calls for a lock carry one hashkey carries its first.
 
 module _ (b : Histories) (v : ℕ) (signed : ℕ → Option Hashkey)
-    (one_key : (a : ℕ) (past : List Entry) (e : Entry) (key : Hashkey) → IsMoment (history b a) past e → call_by v e ≡ Some (Unlock key)
+    (one_key : (a : ℕ) (past : List Entry) (e : Entry) (key : Hashkey) → IsMoment (history b a) past e → pick_call v e ≡ Some (Unlock key)
     → signed key.lock ≡ Some key) where
-  pub first_signed : (key : Hashkey) (a : ℕ) (past : List Entry) (e : Entry) → IsMoment (history b a) past e → call_by v e ≡ Some (Unlock key)
+  pub first_signed : (key : Hashkey) (a : ℕ) (past : List Entry) (e : Entry) → IsMoment (history b a) past e → pick_call v e ≡ Some (Unlock key)
       → is_first_key (first_key b v key.lock) key ≡ true
   unfolding first_key
   first_signed key a past e m k =
-      let key_is : key_in key.lock (call_by v e) ≡ Some key = ap (key_in key.lock) k ∙ ap (λ x. cond x (Some key) None) (eq-eqb key.lock key.lock refl) in
+      let key_is : fetch_key key.lock (pick_call v e) ≡ Some key = ap (fetch_key key.lock) k
+      ∙ ap (λ x. cond x (Some key) None) (eq-eqb key.lock key.lock refl) in
       let stands : IsIn e (flat_map (λ h. h) b) = in_whole b a e (subst (IsIn e) (sym m.1) (in_from_moment past e m.0)) in
       let s =
-      is_some-of (first_of (λ e. key_in key.lock (call_by v e)) (flat_map (λ h. h) b))
-      (first_of-in (λ e. key_in key.lock (call_by v e)) (flat_map (λ h. h) b) e key stands key_is) in
-      let f = first_at (λ e. key_in key.lock (call_by v e)) (flat_map (λ h. h) b) s.0 s.1 in
-      let p = key_parts key.lock (call_by v f.now) s.0 f.gives in
+      is_some-of (first_of (λ e. fetch_key key.lock (pick_call v e)) (flat_map (λ h. h) b))
+      (first_of-in (λ e. fetch_key key.lock (pick_call v e)) (flat_map (λ h. h) b) e key stands key_is) in
+      let f = first_at (λ e. fetch_key key.lock (pick_call v e)) (flat_map (λ h. h) b) s.0 s.1 in
+      let p = key_parts key.lock (pick_call v f.now) s.0 f.gives in
       let w = from_whole b f.now (subst (IsIn f.now) (sym f.stands.1) (in_from_moment f.past f.now f.stands.0)) in
       let n = moment_from_in (history b w.0) f.now w.2 in
       let r1 = one_key w.0 n.0 f.now s.0 n.1 p.0 in
@@ -114,16 +115,17 @@ module _ (d : Deal) (b : Histories) (signed : ℕ → Option Hashkey) (v : ℕ) 
   legal_here : (a : ℕ) (past : List Entry) (e : Entry) → IsMoment (history b a) past e → IsLegal d a (history b a)
   legal_here a past e m = legal.legal a (below_of b a past e m)
 
-  keep_call : (a : ℕ) (past : List Entry) (e : Entry) (c : Call) → IsMoment (history b a) past e → call_by v e ≡ Some c → KeepsOwn d b signed v a past c
+  keep_call : (a : ℕ) (past : List Entry) (e : Entry) (c : Call) → IsMoment (history b a) past e → pick_call v e ≡ Some c → KeepsOwn d b signed v a past c
       → keeps d b v a past e.height (Some c) ≡ true
   unfolding keeps
   keep_call a past e (Publish t) m k r =
-      let one = count_single (λ e. is_publish (call_by v e)) (history b a) past e m (ap is_publish k) (λ q y n p. publish_first q y n (call_by v y) refl p) in
-      and_both (same_terms t (terms_of d a) && (count_by (λ e. is_publish (call_by v e)) (history b a) == 1)) _
-      (and_both (same_terms t (terms_of d a)) _ r.0 (eq-eqb _ 1 one)) r.1
+      let one = count_single (λ e. is_publish (pick_call v e)) (history b a) past e m (ap is_publish k) (λ q y n p. publish_first q y n
+      (pick_call v y) refl p) in
+      and_both (same_terms t (stated_terms d a) && (count_by (λ e. is_publish (pick_call v e)) (history b a) == 1)) _
+      (and_both (same_terms t (stated_terms d a)) _ r.0 (eq-eqb _ 1 one)) r.1
     where
-      publish_first : (q : List Entry) (y : Entry) → IsMoment (history b a) q y → (o : Option Call) → call_by v y ≡ o → is_publish (call_by v y) ≡ true
-          → list_any (λ e. is_publish (call_by v e)) q ≡ false
+      publish_first : (q : List Entry) (y : Entry) → IsMoment (history b a) q y → (o : Option Call) → pick_call v y ≡ o → is_publish (pick_call v y) ≡ true
+          → list_any (λ e. is_publish (pick_call v e)) q ≡ false
       publish_first q y n None h p = absurd (false≢true (sym (ap is_publish h) ∙ p))
       publish_first q y n (Some (Publish u)) h p = (rules.own a q y (Publish u) n h).2
       publish_first q y n (Some (Unlock u)) h p = absurd (false≢true (sym (ap is_publish h) ∙ p))
@@ -132,7 +134,7 @@ module _ (d : Deal) (b : Histories) (signed : ℕ → Option Hashkey) (v : ℕ) 
       publish_first q y n (Some (Transfer u z)) h p = absurd (false≢true (sym (ap is_publish h) ∙ p))
   keep_call a past e (Unlock key) m k r =
       let kr = rules.keys key.lock key r.2 in
-      and_both (is_some (published past) && is_ready d b v && is_first_key (first_key b v key.lock) key && is_valid d a (hashlock_of d key.lock) key) _
+      and_both (is_some (published past) && is_ready d b v && is_first_key (first_key b v key.lock) key && is_valid d a (lock_hashlock d key.lock) key) _
       (and_both (is_some (published past) && is_ready d b v && is_first_key (first_key b v key.lock) key) _
       (and_both (is_some (published past) && is_ready d b v) _
       (and_both (is_some (published past)) _ r.0 r.1)
@@ -146,14 +148,15 @@ module _ (d : Deal) (b : Histories) (signed : ℕ → Option Hashkey) (v : ℕ) 
       subst (λ n. has_expired d a past n ≡ true) (sym at) r.0
   keep_call a past e (Transfer to units) m k r = absurd r
 
-  keep_at : (a : ℕ) (past : List Entry) (e : Entry) → IsMoment (history b a) past e → (o : Option Call) → call_by v e ≡ o → keeps d b v a past e.height o ≡ true
+  keep_at : (a : ℕ) (past : List Entry) (e : Entry) → IsMoment (history b a) past e → (o : Option Call) → pick_call v e ≡ o
+      → keeps d b v a past e.height o ≡ true
   unfolding keeps
   keep_at a past e m None k = refl
   keep_at a past e m (Some c) k = keep_call a past e c m k (rules.own a past e c m k)
 
   pub rules_conduct : IsConducted d b v
   rules_conduct a =
-      list_all-from (keeps_at d b v a) (moments (history b a)) (λ m i. keep_at a m.past m.now (from_moments (history b a) m i) (call_by v m.now) refl)
+      list_all-from (keeps_entry d b v a) (moments (history b a)) (λ m i. keep_at a m.past m.now (from_moments (history b a) m i) (pick_call v m.now) refl)
 
 -- A history's next entry, if any.
 
@@ -164,9 +167,9 @@ pub data Next (d : Deal) (a : ℕ) (h k : List Entry) (s : Sender) (w : What) : 
 pub next_call : (d : Deal) (a : ℕ) (h : List Entry) (p : ℕ) (c : Call) → IsTrue (touches d p a) → IsTrue (fit d a c)
     → Next d a h (after_call d a p c h) (Party p) (Made c)
 unfolding after_call
-next_call d a h p c two fits = go (is_sender_full (reply_to d a h p c)) refl
+next_call d a h p c two fits = go (is_sender_full (history_reply d a h p c)) refl
   where
-    go : (x : Bool) → is_sender_full (reply_to d a h p c) ≡ x → Next d a h (cond x h (h ++ entry_of d a h p c ∷ [])) (Party p) (Made c)
+    go : (x : Bool) → is_sender_full (history_reply d a h p c) ≡ x → Next d a h (cond x h (h ++ entry_of d a h p c ∷ [])) (Party p) (Made c)
     go true e = Still refl
     go false e = Pushed (entry_of d a h p c) refl refl refl
         (record { of_the_two = two; fits = fits; height = refl; reply = refl; room = λ q. false≢true (sym e ∙ ap is_sender_full q) })
@@ -226,7 +229,7 @@ key_more d b c v i key g k = record { below = k.below; good = k.good; origin = h
 pub rules_next : (d : Deal) (b : Histories) (a : ℕ) (k : List Entry) (s : Sender) (w : What) (signed more : ℕ → Option Hashkey) (v : ℕ) → a < length b
     → Next d a (history b a) k s w → KeepsRules d b signed v
     → ((i : ℕ) (key : Hashkey) → signed i ≡ Some key → more i ≡ Some key) → ((i : ℕ) (key : Hashkey) → more i ≡ Some key → KeepsKey d b v i key)
-    → ((c : Call) → sent_by v s ≡ true → call_in w ≡ Some c → KeepsOwn d b more v a (history b a) c) → KeepsRules d (set b a k) more v
+    → ((c : Call) → is_sender v s ≡ true → read_raw_call w ≡ Some c → KeepsOwn d b more v a (history b a) c) → KeepsRules d (set b a k) more v
 rules_next d b a k s w signed more v below n r keep keys own = record {
   own =
       λ c past e call m q. own_more d b (set b a k) more more v c past call (next_grows d b a k s w below n) (λ i key z.
@@ -234,10 +237,10 @@ rules_next d b a k s w signed more v below n r keep keys own = record {
   keys = λ i key q. key_more d b (set b a k) v i key (next_grows d b a k s w below n) (keys i key q);
 }
   where
-    old : (c : ℕ) (past : List Entry) (e : Entry) (call : Call) → IsMoment (history b c) past e → call_by v e ≡ Some call → KeepsOwn d b more v c past call
+    old : (c : ℕ) (past : List Entry) (e : Entry) (call : Call) → IsMoment (history b c) past e → pick_call v e ≡ Some call → KeepsOwn d b more v c past call
     old c past e call m q = own_more d b b signed more v c past call (λ z. begins_refl (history b z)) keep (r.own c past e call m q)
 
-    here : (past : List Entry) (e : Entry) (call : Call) → Next d a (history b a) k s w → IsMoment k past e → call_by v e ≡ Some call
+    here : (past : List Entry) (e : Entry) (call : Call) → Next d a (history b a) k s w → IsMoment k past e → pick_call v e ≡ Some call
         → KeepsOwn d b more v a past call
     here past e call (Still z) m q = old a past e call (subst (λ l. IsMoment l past e) z m) q
     here past e call (Pushed x z es ew le) m q = new (at_end (history b a) x past e (subst (λ l. IsMoment l past e) z m))
@@ -245,10 +248,10 @@ rules_next d b a k s w signed more v below n r keep keys own = record {
         new : IsMoment (history b a) past e ⊎ ((past ≡ history b a) × (e ≡ x)) → KeepsOwn d b more v a past call
         new (inl i) = old a past e call i q
         new (inr p) =
-            let parts = call_of_parts v x call (ap (call_by v) (sym p.1) ∙ q) in
-            subst (λ l. KeepsOwn d b more v a l call) (sym p.0) (own call (ap (sent_by v) (sym es) ∙ parts.0) (ap call_in (sym ew) ∙ parts.1))
+            let parts = call_of_parts v x call (ap (pick_call v) (sym p.1) ∙ q) in
+            subst (λ l. KeepsOwn d b more v a l call) (sym p.0) (own call (ap (is_sender v) (sym es) ∙ parts.0) (ap read_raw_call (sym ew) ∙ parts.1))
 
-    at : (c : ℕ) (past : List Entry) (e : Entry) (call : Call) → IsMoment (history (set b a k) c) past e → call_by v e ≡ Some call → (c ≡ a) ⊎ (c ≢ a)
+    at : (c : ℕ) (past : List Entry) (e : Entry) (call : Call) → IsMoment (history (set b a k) c) past e → pick_call v e ≡ Some call → (c ≡ a) ⊎ (c ≢ a)
         → KeepsOwn d b more v c past call
     at c past e call m q (inl z) =
         subst (λ y. KeepsOwn d b more v y past call) (sym z)

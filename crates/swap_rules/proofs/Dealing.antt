@@ -9,14 +9,14 @@ use Rattle.swap_digraph.specs.Graph.{arcs}
 use Rattle.ledger_core.specs.declared.entry.Entry.{Entry}
 use Rattle.ledger_core.specs.History.{height}
 use Rattle.ledger_core.specs.Book.{history}
-use Rattle.swap_rules.specs.Conduct.{keeps_at}
+use Rattle.swap_rules.specs.Conduct.{keeps_entry}
 use Rattle.swap_rules.specs.Late.{ref_of}
 use Rattle.swap_rules.specs.Forged.{is_forged}
-use Rattle.swap_rules.specs.Findings.{or_zero, rules_of, failing, broken, late_on, lates, forgeries, findings_of, unfinished}
+use Rattle.swap_rules.specs.Findings.{or_zero, deal_rules, failing, broken, late_on, lates, forgeries, party_findings, unfinished}
 use Rattle.swap_rules.specs.declared.finding.Finding.{Finding}
 use Rattle.swap_rules.specs.declared.finding.Finding.TheVariants.{Broke, Late, Forged, Unfinished}
 use Rattle.swap_rules.specs.Laws.{RacesAreDealt, AllIsDealt}
-use Rattle.swap_rules.specs.Rounds.{book_at}
+use Rattle.swap_rules.specs.Rounds.{round_book}
 use Rattle.swap_rules.proofs.Rounds.{races_in_time}
 use Rattle.swap_rules.proofs.Words.{leaves}
 use Rattle.swap_rules.proofs.Transfer.{all_is_transferred}
@@ -40,8 +40,8 @@ failing_none say test (x ∷ xs) e =
 
 pub all_dealt : AllIsDealt
 all_dealt d conforming b k legal ended conducted on_time = record {
-  nothing = append_both (flat_map (λ v. if conforming v then findings_of d b v else []) (range_with_len 0 d.graph.n)) (unfinished d b)
-      (flat_map_empty (λ v. if conforming v then findings_of d b v else []) (range_with_len 0 d.graph.n) (λ v i.
+  nothing = append_both (flat_map (λ v. if conforming v then party_findings d b v else []) (range_with_len 0 d.graph.n)) (unfinished d b)
+      (flat_map_empty (λ v. if conforming v then party_findings d b v else []) (range_with_len 0 d.graph.n) (λ v i.
       of_party v (from_range v d.graph.n i) (conforming v)))
       (flat_map_empty (λ a. if nat_lt (times.horizon d.start d.delta d.bound) (height (history b a)) then [] else Unfinished a (height (history b a))
       ∷ []) (arcs d.graph)
@@ -55,12 +55,12 @@ all_dealt d conforming b k legal ended conducted on_time = record {
       })).whole;
 }
   where
-    clean : (v : ℕ) → v < d.graph.n → findings_of d b v ≡ []
+    clean : (v : ℕ) → v < d.graph.n → party_findings d b v ≡ []
     clean v l = append_both (broken d b v ++ lates d b v) (forgeries d b v)
         (append_both (broken d b v) (lates d b v)
-        (flat_map_empty (λ a. failing (Broke v a) (keeps_at d b v a) (history b a)) (arcs d.graph) (λ a i.
-        failing_none (λ m. Broke v a (length m.past)) (keeps_at d b v a) (moments (history b a)) (conducted v l a)))
-        (flat_map_empty (λ rule. flat_map (late_on d b v rule) (arcs d.graph)) (rules_of d) (λ rule i.
+        (flat_map_empty (λ a. failing (Broke v a) (keeps_entry d b v a) (history b a)) (arcs d.graph) (λ a i.
+        failing_none (λ m. Broke v a (length m.past)) (keeps_entry d b v a) (moments (history b a)) (conducted v l a)))
+        (flat_map_empty (λ rule. flat_map (late_on d b v rule) (arcs d.graph)) (deal_rules d) (λ rule i.
         flat_map_empty (late_on d b v rule) (arcs d.graph) (λ a z.
         ap (λ t. cond t (Late v rule a (or_zero (ref_of d b v rule a) + d.delta) ∷ []) []) (on_time v l rule a i z)))))
         (flat_map_empty (λ a. failing (Forged v a) (λ m. not (is_forged d b v m.now)) (history b a)) (arcs d.graph) (λ a i.
@@ -69,7 +69,7 @@ all_dealt d conforming b k legal ended conducted on_time = record {
         ap not (nothing_is_forged d b k legal conducted v a m.past m.now (from_range a (length d.graph.arcs) i)
         (from_moments (history b a) m z))))))
 
-    of_party : (v : ℕ) → v < d.graph.n → (x : Bool) → cond x (findings_of d b v) [] ≡ []
+    of_party : (v : ℕ) → v < d.graph.n → (x : Bool) → cond x (party_findings d b v) [] ≡ []
     of_party v l true = clean v l
     of_party v l false = refl
 
@@ -77,8 +77,8 @@ pub races_dealt : RacesAreDealt
 races_dealt d conforming ticks rounds books k some fast long all =
     let n : 2 ≤ d.graph.n = k.parties.0 in
     let first = (all 0 (omega arith)).1 in
-    all_dealt d conforming (book_at books rounds) k (first.legal rounds (omega arith))
-    (λ a l. let h : height (history (book_at books rounds) a) ≡ rounds * ticks = first.at rounds a (omega arith) (in_range a (length d.graph.arcs) l) in
+    all_dealt d conforming (round_book books rounds) k (first.legal rounds (omega arith))
+    (λ a l. let h : height (history (round_book books rounds) a) ≡ rounds * ticks = first.at rounds a (omega arith) (in_range a (length d.graph.arcs) l) in
     omega arith)
     (λ v l. (all v l).1.conducted)
     (λ v l. let x = all v l in (races_in_time d v x.0 ticks rounds books k some x.1).1 fast)

@@ -8,24 +8,24 @@ use Rattle.swap_digraph.specs.declared.deal.Deal.{Deal}
 use Rattle.swap_digraph.specs.Graph.{leaving, entering}
 use Rattle.swap_digraph.specs.Deal.{party, counterparty, touches}
 use Rattle.hashkey_path.specs.declared.hashkey.Hashkey.{Hashkey}
-use Rattle.escrow_core.specs.Terms.{terms_of}
+use Rattle.escrow_core.specs.Terms.{stated_terms}
 use Rattle.ledger_core.specs.declared.entry.Call.{Call}
 use Rattle.ledger_core.specs.declared.entry.Call.TheVariants.{Publish, Unlock, Claim, Refund, Transfer}
 use Rattle.ledger_core.specs.declared.entry.Entry.{Entry}
 use Rattle.ledger_core.specs.History.{height, published, settled, fit, IsLegal}
 use Rattle.ledger_core.specs.Known.{presents_valid}
 use Rattle.ledger_core.specs.Book.{Histories, history, IsLegalBook}
-use Rattle.swap_rules.specs.Party.{has_expired, is_correct, is_ready, is_triggered, leads_one, call_by}
+use Rattle.swap_rules.specs.Party.{has_expired, is_correct, is_ready, is_triggered, leads_one, pick_call}
 use Rattle.swap_rules.specs.Conduct.{is_publish}
 use Rattle.swap_rules.specs.declared.finding.Rule.{Rule}
 use Rattle.swap_rules.specs.declared.finding.Rule.TheVariants.{Publish as OfPublish, Unlock as OfUnlock, Claim as OfClaim, Refund as OfRefund}
-use Rattle.swap_rules.specs.Findings.{rules_of}
+use Rattle.swap_rules.specs.Findings.{deal_rules}
 use Rattle.swap_rules.specs.Accepted.{IsAccepted}
-use Rattle.swap_rules.specs.Due.{Wallet, Action, is_unlock_for, is_claiming, is_refunding, has_called, is_due_publish, due_key}
+use Rattle.swap_rules.specs.Due.{Wallet, Action, unlocks_lock, is_claiming, is_refunding, has_called, is_due_publish, due_key}
 use Rattle.swap_rules.specs.Due.{may_unlock, is_due_claim, is_due_refund}
 use Rattle.swap_rules.specs.Due.{due}
-use Rattle.swap_rules.specs.Machine.{KeepsOwn, KeepsKey, KeepsRules, test_of, Knows, IsWallet, noted}
-use Rattle.swap_rules.proofs.Words.{same_terms-refl, and_three, and_five, same_terms-true, enters, leaves, call_by-act, publish_rule}
+use Rattle.swap_rules.specs.Machine.{KeepsOwn, KeepsKey, KeepsRules, rule_test, Knows, IsWallet, noted}
+use Rattle.swap_rules.proofs.Words.{same_terms-refl, and_three, and_five, same_terms-true, enters, leaves, pick_call-act, publish_rule}
 use Rattle.swap_rules.proofs.Words.{unlock_rule, claim_rule, refund_rule, or-left}
 use Rattle.swap_rules.proofs.Cases.{Case, ToPublish, ToUnlock, ToClaim, ToRefund, case_of}
 use Rattle.swap_rules.proofs.DueKeys.{OwnTerms, key_rule}
@@ -38,9 +38,9 @@ use Rattle.swap_rules.proofs.Growth.{Grows, triggered-more, is_published-more, c
 
 pub record IsDue (d : Deal) (v : ℕ) (w : Wallet) (signed : ℕ → Option Hashkey) (b known : Histories) (a : ℕ) (c : Call) : Type 0 where
   pub slot : Rule
-  pub slot_in : IsIn slot (rules_of d)
-  pub passes : test_of slot (Some c) ≡ true
-  pub fresh : has_called v (test_of slot) (history known a) ≡ false
+  pub slot_in : IsIn slot (deal_rules d)
+  pub passes : rule_test slot (Some c) ≡ true
+  pub fresh : has_called v (rule_test slot) (history known a) ≡ false
   pub below : a < length d.graph.arcs
   pub of_the_two : IsTrue (touches d v a)
   pub fits : IsTrue (fit d a c)
@@ -60,10 +60,10 @@ due_is_valid d v w signed b known a (Transfer to units) i = refl
 -- whatever v called on a ledger, it knows of
 pub knows_call : (v : ℕ) (test : Option Call → Bool) (k h : List Entry) → test None ≡ false → Knows v k h → has_called v test k ≡ false
     → has_called v test h ≡ false
-knows_call v test k h n kn e = list_any-none (λ x. test (call_by v x)) h (λ x i. go x (from_append k kn.rest x (subst (IsIn x) kn.whole i)))
+knows_call v test k h n kn e = list_any-none (λ x. test (pick_call v x)) h (λ x i. go x (from_append k kn.rest x (subst (IsIn x) kn.whole i)))
   where
-    go : (x : Entry) → IsIn x k ⊎ IsIn x kn.rest → test (call_by v x) ≡ false
-    go x (inl i) = not_any-in (λ x. test (call_by v x)) k x e i
+    go : (x : Entry) → IsIn x k ⊎ IsIn x kn.rest → test (pick_call v x) ≡ false
+    go x (inl i) = not_any-in (λ x. test (pick_call v x)) k x e i
     go x (inr i) = ap test (none_called v x (kn.others x i)) ∙ n
 
 module _ (d : Deal) (v : ℕ) (w : Wallet) (signed : ℕ → Option Hashkey) (b known : Histories)
@@ -87,14 +87,14 @@ module _ (d : Deal) (v : ℕ) (w : Wallet) (signed : ℕ → Option Hashkey) (b 
       let l = leaves d v c i in
       let done = published_done d c (history b c) p (legal_on c l.0) e in
       let by : done.act.by ≡ v = (of_publish d c done.past done.act.by p.terms done.clear).party ∙ l.1 in
-      let r = rules.own c done.past done.now (Publish p.terms) done.stands (call_by-act d c done.past done.now (Publish p.terms) v done.act by) in
-      same_terms-true p.terms (terms_of d c) r.0
+      let r = rules.own c done.past done.now (Publish p.terms) done.stands (pick_call-act d c done.past done.now (Publish p.terms) v done.act by) in
+      same_terms-true p.terms (stated_terms d c) r.0
 
   -- the hashkey that is due for a lock keeps the rules
   key_due : (i : ℕ) (key : Hashkey) → i < length d.leaders → due_key d v w (signed i) known i ≡ Some key → KeepsKey d b v i key
   key_due i key below e = key_rule d v w b legal wallet own_terms signed known rules.keys grows i key below e
 
-  publish_due : (a : ℕ) → IsIn a (leaving d.graph v) → is_due_publish d v known a ≡ true → IsDue d v w signed b known a (Publish (terms_of d a))
+  publish_due : (a : ℕ) → IsIn a (leaving d.graph v) → is_due_publish d v known a ≡ true → IsDue d v w signed b known a (Publish (stated_terms d a))
   unfolding is_due_publish
   publish_due a i e =
       let k = and_parts (leads_one d v || is_ready d known v) (not (has_called v is_publish (history known a))) e in
@@ -107,7 +107,7 @@ module _ (d : Deal) (v : ℕ) (w : Wallet) (signed : ℕ → Option Hashkey) (b 
         of_the_two = leaving_two a i;
         fits = terms_fit d accepted_deal a (leaves d v a i).0;
         rule = (
-          same_terms-refl (terms_of d a),
+          same_terms-refl (stated_terms d a),
           may-more d known b v grows k.0,
           knows_call v is_publish (history known a) (history b a) refl (knows a) (not-true-of _ k.1),
         );
@@ -163,7 +163,7 @@ module _ (d : Deal) (v : ℕ) (w : Wallet) (signed : ℕ → Option Hashkey) (b 
       → due_key d v w (signed i) known i ≡ Some key → IsDue d v w signed b known a (Unlock key)
   unfolding due_key
   unlock_due a i key w_in below may e =
-      let k = and_parts (is_ready d known v) (not (has_called v (is_unlock_for i) (history known a))) may in
+      let k = and_parts (is_ready d known v) (not (has_called v (unlocks_lock i) (history known a))) may in
       let r = key_due i key below e in
       let lock : key.lock ≡ i = r.good.lock in
       record {
@@ -180,8 +180,8 @@ module _ (d : Deal) (v : ℕ) (w : Wallet) (signed : ℕ → Option Hashkey) (b 
           is_ready-more d known b v grows k.0,
           ap (λ x. cond x (Some key) (signed key.lock)) (eq-eqb key.lock key.lock refl),
           w_in,
-          subst (λ j. has_called v (is_unlock_for j) (history b a) ≡ false) (sym lock)
-              (knows_call v (is_unlock_for i) (history known a) (history b a) refl (knows a) (not-true-of _ k.1)),
+          subst (λ j. has_called v (unlocks_lock j) (history b a) ≡ false) (sym lock)
+              (knows_call v (unlocks_lock i) (history known a) (history b a) refl (knows a) (not-true-of _ k.1)),
         );
         keeps_signed = λ j old q. keep j old q (j == key.lock) refl;
         keys = λ j new q. at j new (j == key.lock) refl q;
@@ -213,7 +213,7 @@ module _ (d : Deal) (v : ℕ) (w : Wallet) (signed : ℕ → Option Hashkey) (b 
       at c e r = subst (λ z. IsDue d v w signed b known x.arc z) (sym e) r
 
       go : Case d v w signed known x.arc x.call → IsDue d v w signed b known x.arc x.call
-      go (ToPublish out e c) = at (Publish (terms_of d x.arc)) c (publish_due x.arc out e)
+      go (ToPublish out e c) = at (Publish (stated_terms d x.arc)) c (publish_due x.arc out e)
       go (ToUnlock l key below en e k c) = at (Unlock key) c (unlock_due x.arc l key en below e k)
       go (ToClaim en e c) = at Claim c (claim_due x.arc en e)
       go (ToRefund out e c) = at Refund c (refund_due x.arc out e)

@@ -9,10 +9,10 @@ use Rattle.swap_digraph.specs.declared.deal.Mode.{Mode}
 use Rattle.swap_digraph.specs.declared.deal.Mode.TheVariants.{Timelocks, Hashkeys}
 use Rattle.swap_digraph.specs.declared.deal.Deal.{Deal}
 use Rattle.swap_digraph.specs.Graph.{leaving}
-use Rattle.swap_digraph.specs.Deal.{leads, hashlock_of}
+use Rattle.swap_digraph.specs.Deal.{leads, lock_hashlock}
 use Rattle.hashkey_path.specs.declared.hashkey.Hashkey.{Hashkey}
 use Rattle.hashkey_path.specs.Hashkey.{is_valid}
-use Rattle.escrow_core.specs.Terms.{hashlock_in, terms_of}
+use Rattle.escrow_core.specs.Terms.{read_hashlock, stated_terms}
 use Rattle.ledger_core.specs.declared.entry.Call.TheVariants.{Unlock}
 use Rattle.ledger_core.specs.declared.entry.Entry.{Entry}
 use Rattle.ledger_core.specs.History.{accepted, Publication, published, opened, IsLegal}
@@ -32,7 +32,7 @@ AreGood d b v kept = (i : ℕ) (key : Hashkey) → kept i ≡ Some key → Keeps
 
 -- what v published on a leaving arc is correct
 abbrev pub OwnTerms : Deal → Histories → ℕ → Type 0
-OwnTerms d b v = (c : ℕ) (p : Publication) → IsIn c (leaving d.graph v) → published (history b c) ≡ Some p → p.terms ≡ terms_of d c
+OwnTerms d b v = (c : ℕ) (p : Publication) → IsIn c (leaving d.graph v) → published (history b c) ≡ Some p → p.terms ≡ stated_terms d c
 
 module _ (d : Deal) (v : ℕ) (w : Wallet) (b : Histories) (legal : IsLegalBook d b) (wallet : IsWallet d v w) (own_terms : OwnTerms d b v) where
   legal_on : (a : ℕ) → a < length d.graph.arcs → IsLegal d a (history b a)
@@ -69,10 +69,10 @@ module _ (d : Deal) (v : ℕ) (w : Wallet) (b : Histories) (legal : IsLegalBook 
           let o : opened (history b x.now) i ≡ Some p.0 = opened-more (history known x.now) (history b x.now) i p.0 (grows x.now) p.1 in
           let u = opened_done d x.now (history b x.now) i p.0 (legal_on x.now l.0) o in
           let of_u = of_unlock d x.now u.0.past u.0.act.by p.0.key u.0.clear in
-          let terms : of_u.contract.terms ≡ terms_of d x.now =
+          let terms : of_u.contract.terms ≡ stated_terms d x.now =
           own_terms x.now of_u.contract c (published-past (history b x.now) u.0.past u.0.now of_u.contract u.0.stands of_u.published) in
-          let valid : is_valid d x.now (hashlock_of d p.0.key.lock) p.0.key ≡ true =
-          subst (λ t. is_valid d x.now (hashlock_in t p.0.key.lock) p.0.key ≡ true) terms (valid_of_unlock d x.now u.0.past u.0.act.by p.0.key of_u)
+          let valid : is_valid d x.now (lock_hashlock d p.0.key.lock) p.0.key ≡ true =
+          subst (λ t. is_valid d x.now (read_hashlock t p.0.key.lock) p.0.key ≡ true) terms (valid_of_unlock d x.now u.0.past u.0.act.by p.0.key of_u)
           in
           let good = wallet.onto x.now p.0.key c (lock-below d x.now p.0.key u.0.act.fits) valid p.3 in
           let key_is : w.onto p.0.key ≡ key = ap w.onto p.2 ∙ same_Some (w.onto inner) key e in

@@ -7,37 +7,37 @@ use Rattle.swap_digraph.specs.declared.deal.Deal.{Deal}
 use Rattle.swap_digraph.specs.Deal.{counterparty, locks}
 use Rattle.hashkey_path.specs.declared.hashkey.Hashkey.{Hashkey}
 use Rattle.hashkey_path.specs.Hashkey.{is_wrong_secret, is_wrong_path, is_wrong_signature, is_valid}
-use Rattle.escrow_core.specs.Terms.{hashlock_in, last_in}
+use Rattle.escrow_core.specs.Terms.{read_hashlock, last_unlock}
 use Rattle.ledger_core.specs.declared.entry.Call.TheVariants.{Unlock, Claim}
 use Rattle.ledger_core.specs.declared.entry.Entry.{Entry}
 use Rattle.ledger_core.specs.declared.facts.Settlement.{Settlement}
 use Rattle.ledger_core.specs.declared.facts.Settlement.TheVariants.{Claimed, Refunded}
-use Rattle.ledger_core.specs.History.{height, accepted, Publication, published, is_open, settled, settling, triggered, terms_in, the_terms, rows, IsLegal}
+use Rattle.ledger_core.specs.History.{height, accepted, Publication, published, is_open, settled, settling, triggered, parse_terms, the_terms, rows, IsLegal}
 use Rattle.ledger_core.proofs.History.{Act, from_clear, not-full, not-true-of, accepted-now, claimed_done, of_claim, legal-past, lock-below, opened-past}
 use Rattle.ledger_core.proofs.History.{opened-now, refunded-untriggered, triggered-past, settled-past, settled-now}
 
 -- An unlock in time with a valid hashkey leaves its lock open, whatever the reply.
 pub unlock_opens : (d : Deal) (a : ℕ) (h past : List Entry) (e : Entry) (key : Hashkey) (p : Publication) → IsLegal d a h → (m : IsMoment h past e)
     → (act : Act d a past e (Unlock key))
-    → act.by ≡ counterparty d a → published past ≡ Some p → is_valid d a (hashlock_in p.terms key.lock) key ≡ true
-    → height past ≤ last_in d.mode p.terms key → (settled past ≡ Some Refunded → ⊥) → is_open h key.lock ≡ true
+    → act.by ≡ counterparty d a → published past ≡ Some p → is_valid d a (read_hashlock p.terms key.lock) key ≡ true
+    → height past ≤ last_unlock d.mode p.terms key → (settled past ≡ Some Refunded → ⊥) → is_open h key.lock ≡ true
 unfolding rows
 unlock_opens d a h past e key p l m act by pub_past valid in_time unrefunded = settled_case (settled past) refl
   where
     same : the_terms past ≡ p.terms
-    same = ap terms_in pub_past
+    same = ap parse_terms pub_past
 
-    v1 : ((not (is_wrong_secret (hashlock_in p.terms key.lock) key) && not (is_wrong_path d a d.mode key)) ≡ true)
+    v1 : ((not (is_wrong_secret (read_hashlock p.terms key.lock) key) && not (is_wrong_path d a d.mode key)) ≡ true)
         × (not (is_wrong_signature d d.mode key) ≡ true)
     v1 =
-        and_parts (not (is_wrong_secret (hashlock_in p.terms key.lock) key) && not (is_wrong_path d a d.mode key))
+        and_parts (not (is_wrong_secret (read_hashlock p.terms key.lock) key) && not (is_wrong_path d a d.mode key))
         (not (is_wrong_signature d d.mode key)) valid
 
-    v2 : (not (is_wrong_secret (hashlock_in p.terms key.lock) key) ≡ true) × (not (is_wrong_path d a d.mode key) ≡ true)
-    v2 = and_parts (not (is_wrong_secret (hashlock_in p.terms key.lock) key)) (not (is_wrong_path d a d.mode key)) v1.0
+    v2 : (not (is_wrong_secret (read_hashlock p.terms key.lock) key) ≡ true) × (not (is_wrong_path d a d.mode key) ≡ true)
+    v2 = and_parts (not (is_wrong_secret (read_hashlock p.terms key.lock) key)) (not (is_wrong_path d a d.mode key)) v1.0
 
-    on_time : nat_lt (last_in d.mode (the_terms past) key) (height past) ≡ false
-    on_time = le-ltb (last_in d.mode (the_terms past) key) (height past) (subst (λ t. height past ≤ last_in d.mode t key) (sym same) in_time)
+    on_time : nat_lt (last_unlock d.mode (the_terms past) key) (height past) ≡ false
+    on_time = le-ltb (last_unlock d.mode (the_terms past) key) (height past) (subst (λ t. height past ≤ last_unlock d.mode t key) (sym same) in_time)
 
     closed_case : settled past ≡ None → (b : Bool) → is_open past key.lock ≡ b → is_open h key.lock ≡ true
     closed_case s true o = opened-past h past e key.lock m o
@@ -52,8 +52,8 @@ unlock_opens d a h past e key p l m act by pub_past valid in_time unrefunded = s
             (
               o,
               (
-                ap (λ t. is_wrong_secret (hashlock_in t key.lock) key) same
-                    ∙ not-true-of (is_wrong_secret (hashlock_in p.terms key.lock) key) v2.0,
+                ap (λ t. is_wrong_secret (read_hashlock t key.lock) key) same
+                    ∙ not-true-of (is_wrong_secret (read_hashlock p.terms key.lock) key) v2.0,
                 (not-true-of (is_wrong_path d a d.mode key) v2.1, (not-true-of (is_wrong_signature d d.mode key) v1.1, (on_time, tt))),
               ),
             ),

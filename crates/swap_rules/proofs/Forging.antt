@@ -10,10 +10,10 @@ use Rattle.swap_base.proofs.Lists.{list_any-in, and_parts, and_both, same_list-t
 use Rattle.swap_digraph.specs.declared.deal.Mode.{Mode}
 use Rattle.swap_digraph.specs.declared.deal.Mode.TheVariants.{Timelocks, Hashkeys}
 use Rattle.swap_digraph.specs.declared.deal.Deal.{Deal}
-use Rattle.swap_digraph.specs.Graph.{is_path, first_is, last_is, leaving, is_among, are_followers, has_arc}
-use Rattle.swap_digraph.specs.Deal.{counterparty, leads, leader_of, hashlock_of}
+use Rattle.swap_digraph.specs.Graph.{is_path, first_is, last_is, leaving, is_listed, are_followers, has_arc}
+use Rattle.swap_digraph.specs.Deal.{counterparty, leads, lock_leader, lock_hashlock}
 use Rattle.hash_signature.specs.declared.sig.Sig.{Sig}
-use Rattle.hash_signature.specs.Signature.{hash_of}
+use Rattle.hash_signature.specs.Signature.{hashed_value}
 use Rattle.hashkey_path.specs.declared.hashkey.Hashkey.{Hashkey}
 use Rattle.hashkey_path.specs.Hashkey.{same_key, is_wrong_path, is_valid}
 use Rattle.ledger_core.specs.declared.entry.Call.{Call}
@@ -21,16 +21,16 @@ use Rattle.ledger_core.specs.declared.entry.Call.TheVariants.{Publish, Unlock, C
 use Rattle.ledger_core.specs.declared.entry.Entry.{Entry}
 use Rattle.ledger_core.specs.History.{accepted, published}
 use Rattle.ledger_core.specs.Book.{Histories, history, IsLegalBook}
-use Rattle.swap_rules.specs.Party.{is_ready, call_by, key_in, first_key}
+use Rattle.swap_rules.specs.Party.{is_ready, pick_call, fetch_key, first_key}
 use Rattle.swap_rules.specs.Conduct.{is_first_key, has_origin, carries, keeps, IsConducted, extends_without, is_alone}
 use Rattle.swap_rules.specs.Forged.{forges, has_made, has_forged_suffix}
 use Rattle.swap_rules.specs.Accepted.{IsAccepted, IsTimed}
-use Rattle.swap_rules.proofs.Words.{bytes_eq-true, bytes_eq-refl, same_key-true, same_key-refl, and_three, and_five, leaves, call_by-act}
+use Rattle.swap_rules.proofs.Words.{bytes_eq-true, bytes_eq-refl, same_key-true, same_key-refl, and_three, and_five, leaves, pick_call-act}
 use Rattle.swap_rules.proofs.SafeHashkeys.{extended_without}
 use Rattle.swap_rules.proofs.Calls.{kept}
 use Rattle.ledger_core.proofs.History.{of_unlock, clear_at, not-false, not-true, lock-below}
 use Rattle.swap_rules.proofs.Accepted.{one_leader, arc_has}
-use Rattle.swap_digraph.proofs.Paths.{path_length, path_snoc, suffix_from, followers-append, is_among-true}
+use Rattle.swap_digraph.proofs.Paths.{path_length, path_snoc, suffix_from, followers-append, is_listed-true}
 use Rattle.swap_rules.proofs.Prefixes.{in_any}
 use Rattle.swap_rules.specs.Laws.{NothingIsForged}
 
@@ -45,7 +45,7 @@ pub record Taken (d : Deal) (b : Histories) (key : Hashkey) : Type 0 where
 
 -- what its sender kept
 pub record Taker (d : Deal) (b : Histories) (key : Hashkey) (t : Taken d b key) : Type 0 where
-  pub called : call_by (counterparty d t.arc) t.now ≡ Some (Unlock key)
+  pub called : pick_call (counterparty d t.arc) t.now ≡ Some (Unlock key)
   pub path : is_wrong_path d t.arc d.mode key ≡ false
   pub origin : has_origin d.mode d b (counterparty d t.arc) key ≡ true
   pub lock : key.lock < length d.leaders
@@ -74,10 +74,10 @@ module _ (d : Deal) (b : Histories) (k : IsAccepted d) (legal : IsLegalBook d b)
       let l = legal.legal t.arc (rw legal.one_each t.below) in
       let c = clear_at d t.arc (history b t.arc) t.past t.now (Unlock key) l t.stands t.took in
       let u = of_unlock d t.arc t.past c.0.by key c.1 in
-      let called = call_by-act d t.arc t.past t.now (Unlock key) (counterparty d t.arc) c.0 u.counterparty in
+      let called = pick_call-act d t.arc t.past t.now (Unlock key) (counterparty d t.arc) c.0 u.counterparty in
       let q =
       and_five (is_some (published t.past)) (is_ready d b (counterparty d t.arc)) (is_first_key (first_key b (counterparty d t.arc) key.lock) key)
-      (is_valid d t.arc (hashlock_of d key.lock) key) _
+      (is_valid d t.arc (lock_hashlock d key.lock) key) _
       (kept d b (counterparty d t.arc) (all (counterparty d t.arc) (k.ends.to t.arc t.below)) t.arc t.past t.now (Unlock key) t.stands called) in
       record { called = called; path = u.path; origin = q.4; lock = lock-below d t.arc key c.0.fits }
 
@@ -89,17 +89,17 @@ module _ (d : Deal) (b : Histories) (k : IsAccepted d) (legal : IsLegalBook d b)
   made : (key : Hashkey) (t : Taken d b key) → has_made b (counterparty d t.arc) key ≡ true
   made key t =
       let r = taker key t in
-      list_any-in (λ e. is_first_key (key_in key.lock (call_by (counterparty d t.arc) e)) key) (flat_map (λ h. h) b) t.now
-      (ap (λ o. is_first_key (key_in key.lock o) key) r.called
+      list_any-in (λ e. is_first_key (fetch_key key.lock (pick_call (counterparty d t.arc) e)) key) (flat_map (λ h. h) b) t.now
+      (ap (λ o. is_first_key (fetch_key key.lock o) key) r.called
       ∙ (ap (λ z. is_first_key (cond z (Some key) None) key) (eq-eqb key.lock key.lock refl) ∙ same_key-refl key)) (entry_in key t)
 
   first_of_path : (key : Hashkey) (t : Taken d b key) → d.mode ≡ Hashkeys → first_is (counterparty d t.arc) key.path ≡ true
   first_of_path key t m =
       let h = not-false _ (ap (λ x. is_wrong_path d t.arc x key) (sym m) ∙ Taker.path (taker key t)) in
       let k1 =
-      and_parts (is_path d.graph key.path && first_is (counterparty d t.arc) key.path && last_is (leader_of d key.lock) key.path)
+      and_parts (is_path d.graph key.path && first_is (counterparty d t.arc) key.path && last_is (lock_leader d key.lock) key.path)
       (length key.path == length key.sigs) h in
-      (and_three (is_path d.graph key.path) (first_is (counterparty d t.arc) key.path) (last_is (leader_of d key.lock) key.path) k1.0).1
+      (and_three (is_path d.graph key.path) (first_is (counterparty d t.arc) key.path) (last_is (lock_leader d key.lock) key.path) k1.0).1
 
   alone_rest : (u x : ℕ) (p : List ℕ) → is_alone u (x ∷ p) ≡ true → p ≡ []
   alone_rest u x p e = same_list-true (λ x y. x == y) eqb-true p [] (and_parts (x == u) (same_list (λ x y. x == y) p []) e).1
@@ -161,11 +161,11 @@ module _ (d : Deal) (b : Histories) (k : IsAccepted d) (legal : IsLegalBook d b)
     one = (subst (λ m. IsTimed m d) mode k.timed).0
 
     abbrev IsShown : Type 0
-    IsShown = list_any (λ e. carries secret (call_by v e)) (flat_map (λ h. h) b) ≡ true
+    IsShown = list_any (λ e. carries secret (pick_call v e)) (flat_map (λ h. h) b) ≡ true
 
-    follower : (u : ℕ) → leads d u 0 ≡ false → is_among u d.leaders ≡ false
+    follower : (u : ℕ) → leads d u 0 ≡ false → is_listed u d.leaders ≡ false
     follower u f = not-true _ (λ e.
-        let i = is_among-true u (get_or d.leaders 0 0 ∷ []) (ap (is_among u) (sym (one_leader d.leaders one)) ∙ e) in
+        let i = is_listed-true u (get_or d.leaders 0 0 ∷ []) (ap (is_listed u) (sym (one_leader d.leaders one)) ∙ e) in
         elim i [
           | inl q ↦ false≢true (sym f ∙ eq-eqb _ u (get_or_default d.leaders 0 d.graph.n 0 (subst (λ z. 0 < z) (sym one) (omega arith)) ∙ sym q))
           | inr q ↦ q
@@ -176,7 +176,7 @@ module _ (d : Deal) (b : Histories) (k : IsAccepted d) (legal : IsLegalBook d b)
     by_leader key t s l =
         let same : counterparty d t.arc ≡ v = sym (eqb-true _ (counterparty d t.arc) l) ∙ eqb-true _ v lead in
         let r = taker key t in
-        list_any-in (λ e. carries secret (call_by v e)) (flat_map (λ h. h) b) t.now (ap (λ z. carries secret (call_by z t.now)) (sym same)
+        list_any-in (λ e. carries secret (pick_call v e)) (flat_map (λ h. h) b) t.now (ap (λ z. carries secret (pick_call z t.now)) (sym same)
         ∙ (ap (carries secret) r.called ∙ s)) (entry_in key t)
 
     abbrev Again : ℕ → Type 0
@@ -232,7 +232,7 @@ module _ (d : Deal) (b : Histories) (k : IsAccepted d) (legal : IsLegalBook d b)
         go false l =
             chase d.graph.n (counterparty d t.arc ∷ []) key t s l (lt-ltb (counterparty d t.arc) d.graph.n (k.ends.to t.arc t.below))
             (eq-eqb (counterparty d t.arc) (counterparty d t.arc) refl)
-            (and_both (not (is_among (counterparty d t.arc) d.leaders)) true (ap not (follower (counterparty d t.arc) l)) refl) (omega arith)
+            (and_both (not (is_listed (counterparty d t.arc) d.leaders)) true (ap not (follower (counterparty d t.arc) l)) refl) (omega arith)
 
   forges_none : (m : Mode) → d.mode ≡ m → (v : ℕ) (key : Hashkey) → Taken d b key → forges m d b v (Some (Unlock key)) ≡ false
   unfolding forges
@@ -246,11 +246,11 @@ module _ (d : Deal) (b : Histories) (k : IsAccepted d) (legal : IsLegalBook d b)
       and_last false y z h = refl
 
       go : (x : Bool) → leads d v key.lock ≡ x
-          → (bytes_eq (hash_of key.secret) (slice_index_or d.hashlocks key.lock []) && leads d v key.lock
-          && not (list_any (λ e. carries key.secret (call_by v e)) (flat_map (λ h. h) b))) ≡ false
+          → (bytes_eq (hashed_value key.secret) (slice_index_or d.hashlocks key.lock []) && leads d v key.lock
+          && not (list_any (λ e. carries key.secret (pick_call v e)) (flat_map (λ h. h) b))) ≡ false
       go x l =
-          and_last (bytes_eq (hash_of key.secret) (slice_index_or d.hashlocks key.lock [])) (leads d v key.lock)
-          (list_any (λ e. carries key.secret (call_by v e)) (flat_map (λ h. h) b)) (λ h.
+          and_last (bytes_eq (hashed_value key.secret) (slice_index_or d.hashlocks key.lock [])) (leads d v key.lock)
+          (list_any (λ e. carries key.secret (pick_call v e)) (flat_map (λ h. h) b)) (λ h.
           let lock : key.lock ≡ 0 =
           (let z = Taker.lock (taker key t) in let q : length d.leaders ≡ 1 = (subst (λ m. IsTimed m d) e k.timed).0 in omega arith) in
           shown e v (ap (leads d v) (sym lock) ∙ h) key.secret key t (bytes_eq-refl key.secret))

@@ -11,8 +11,8 @@ use Rattle.swap_digraph.specs.declared.deal.Deal.{Deal}
 use Rattle.swap_digraph.specs.Graph.{arcs}
 use Rattle.ledger_core.specs.History.{height}
 use Rattle.ledger_core.specs.Book.{Histories, history, IsLegalBook}
-use Rattle.swap_rules.specs.Findings.{findings, or_zero, failing, broken, rules_of, late_on, lates, forgeries, findings_of, unfinished}
-use Rattle.swap_rules.specs.Conduct.{IsConducted, keeps_at}
+use Rattle.swap_rules.specs.Findings.{findings, or_zero, failing, broken, deal_rules, late_on, lates, forgeries, party_findings, unfinished}
+use Rattle.swap_rules.specs.Conduct.{IsConducted, keeps_entry}
 use Rattle.swap_rules.specs.Late.{ref_of, is_late}
 use Rattle.swap_rules.specs.Forged.{is_forged}
 use Rattle.swap_rules.specs.Outcome.{IsEnded}
@@ -20,7 +20,7 @@ use Rattle.swap_rules.specs.declared.finding.Rule.{Rule}
 use Rattle.swap_rules.specs.declared.finding.Rule.TheVariants.{Publish as ToPublish, Unlock as ToUnlock, Claim as ToClaim, Refund as ToRefund}
 use Rattle.swap_rules.specs.declared.finding.Finding.{Finding}
 use Rattle.swap_rules.specs.declared.finding.Finding.TheVariants.{Broke, Late, Forged, Unfinished}
-use Rattle.swap_rules.specs.Laws.{UnnamedIsSafe, is_against, is_in_name_of, IsUnforged, WithoutFindingsAllIsTransferred, Conforms, NothingFound}
+use Rattle.swap_rules.specs.Laws.{UnnamedIsSafe, is_against, names_party, IsUnforged, WithoutFindingsAllIsTransferred, Conforms, NothingFound}
 use Rattle.swap_rules.proofs.Refunds.{every_book_is_safe, safe_by, unlocks_all, claims_all, has_refunds, on_time_asks}
 use Rattle.swap_rules.proofs.Entering.{UnlocksInTime}
 use Rattle.swap_rules.proofs.Accepted.{times_law}
@@ -59,19 +59,19 @@ no_not : (x : Bool) → not x ≡ true → x ≡ false
 no_not true e = absurd (cc e)
 no_not false e = refl
 
-nothing_of_party : (d : Deal) (b : Histories) (v : ℕ) → IsLegalBook d b → findings_of d b v ≡ [] → Conforms d b v
+nothing_of_party : (d : Deal) (b : Histories) (v : ℕ) → IsLegalBook d b → party_findings d b v ≡ [] → Conforms d b v
 nothing_of_party d b v legal e =
     let k1 = append_empty (broken d b v ++ lates d b v) (forgeries d b v) e in
     let k2 = append_empty (broken d b v) (lates d b v) k1.0 in
     record {
       conducted = λ a. elim (within a (length d.graph.arcs)) [
-        | inl l ↦ failing_empty (λ m. Broke v a (length m.past)) (keeps_at d b v a) (moments (history b a))
-            (flat_map_none (λ a. failing (Broke v a) (keeps_at d b v a) (history b a)) (arcs d.graph) a k2.0 (in_range a (length d.graph.arcs) l))
-        | inr n ↦ ap (λ h. list_all (keeps_at d b v a) (moments h)) (past_end b a (λ l. n (subst (λ z. a < z) legal.one_each l)))
+        | inl l ↦ failing_empty (λ m. Broke v a (length m.past)) (keeps_entry d b v a) (moments (history b a))
+            (flat_map_none (λ a. failing (Broke v a) (keeps_entry d b v a) (history b a)) (arcs d.graph) a k2.0 (in_range a (length d.graph.arcs) l))
+        | inr n ↦ ap (λ h. list_all (keeps_entry d b v a) (moments h)) (past_end b a (λ l. n (subst (λ z. a < z) legal.one_each l)))
       ];
       on_time = λ rule a r i. late_none (is_late d b v rule a) (Late v rule a (or_zero (ref_of d b v rule a) + d.delta))
           (flat_map_none (late_on d b v rule) (arcs d.graph) a (flat_map_none (λ rule.
-          flat_map (late_on d b v rule) (arcs d.graph)) (rules_of d) rule k2.1 r) i);
+          flat_map (late_on d b v rule) (arcs d.graph)) (deal_rules d) rule k2.1 r) i);
       unforged = λ a past x w m.
           let out = leaves d v a w in
           let q =
@@ -95,12 +95,12 @@ none_if false xs e h = absurd (cc h)
 
 pub nothing_found : NothingFound
 nothing_found d conforming b legal e =
-    let parts = append_empty (flat_map (λ v. if conforming v then findings_of d b v else []) (range_with_len 0 d.graph.n)) (unfinished d b) e in
+    let parts = append_empty (flat_map (λ v. if conforming v then party_findings d b v else []) (range_with_len 0 d.graph.n)) (unfinished d b) e in
     record {
       ended = nothing_unfinished d b parts.1;
       conforms = λ v l c. nothing_of_party d b v legal
-          (none_if (conforming v) (findings_of d b v) (flat_map_none (λ v.
-          if conforming v then findings_of d b v else []) (range_with_len 0 d.graph.n) v parts.0 (in_range v d.graph.n l)) c);
+          (none_if (conforming v) (party_findings d b v) (flat_map_none (λ v.
+          if conforming v then party_findings d b v else []) (range_with_len 0 d.graph.n) v parts.0 (in_range v d.graph.n l)) c);
     }
 
 -- What is found of a party stands in the list.
@@ -124,30 +124,30 @@ split_test true h = refl
 split_test false h = absurd (h refl)
 
 module _ (d : Deal) (conforming : ℕ → Bool) (b : Histories) (v : ℕ) (legal : IsLegalBook d b) (below : v < d.graph.n) (c : conforming v ≡ true) where
-  of_party : (x : Finding) → IsIn x (findings_of d b v) → IsIn x (findings d conforming b)
-  of_party x i = in_append (flat_map (λ v. if conforming v then findings_of d b v else []) (range_with_len 0 d.graph.n)) (unfinished d b) x (inl
-      (in_flat_map (λ v. if conforming v then findings_of d b v else []) (range_with_len 0 d.graph.n) v x (in_range v d.graph.n below)
-      (subst (λ t. IsIn x (cond t (findings_of d b v) [])) (sym c) i)))
+  of_party : (x : Finding) → IsIn x (party_findings d b v) → IsIn x (findings d conforming b)
+  of_party x i = in_append (flat_map (λ v. if conforming v then party_findings d b v else []) (range_with_len 0 d.graph.n)) (unfinished d b) x (inl
+      (in_flat_map (λ v. if conforming v then party_findings d b v else []) (range_with_len 0 d.graph.n) v x (in_range v d.graph.n below)
+      (subst (λ t. IsIn x (cond t (party_findings d b v) [])) (sym c) i)))
 
-  clean : (t : Finding → Bool) (x : Finding) → list_any t (findings d conforming b) ≡ false → IsIn x (findings_of d b v) → t x ≡ true → ⊥
+  clean : (t : Finding → Bool) (x : Finding) → list_any t (findings d conforming b) ≡ false → IsIn x (party_findings d b v) → t x ≡ true → ⊥
   clean t x none i p = false≢true (sym none ∙ list_any-in t (findings d conforming b) x p (of_party x i))
 
   -- What no finding of a kind says.
   module _ (t : Finding → Bool) (none : list_any t (findings d conforming b) ≡ false) where
     conducted_by : ((a e : ℕ) → t (Broke v a e) ≡ true) → IsConducted d b v
     conducted_by broke a = elim (within a (length d.graph.arcs)) [
-      | inl l ↦ list_all-from (keeps_at d b v a) (moments (history b a)) (λ m i.
-          split_test (keeps_at d b v a m) (λ e. clean t (Broke v a (length m.past)) none
+      | inl l ↦ list_all-from (keeps_entry d b v a) (moments (history b a)) (λ m i.
+          split_test (keeps_entry d b v a m) (λ e. clean t (Broke v a (length m.past)) none
           (in_append (broken d b v ++ lates d b v) (forgeries d b v) (Broke v a (length m.past))
           (inl (in_append (broken d b v) (lates d b v) (Broke v a (length m.past)) (inl
-          (in_flat_map (λ a. failing (Broke v a) (keeps_at d b v a) (history b a)) (arcs d.graph) a (Broke v a (length m.past))
+          (in_flat_map (λ a. failing (Broke v a) (keeps_entry d b v a) (history b a)) (arcs d.graph) a (Broke v a (length m.past))
           (in_range a (length d.graph.arcs) l)
-          (failing_in (λ m. Broke v a (length m.past)) (keeps_at d b v a) (moments (history b a)) m i e))))))
+          (failing_in (λ m. Broke v a (length m.past)) (keeps_entry d b v a) (moments (history b a)) m i e))))))
           (broke a (length m.past))))
-      | inr n ↦ ap (λ h. list_all (keeps_at d b v a) (moments h)) (past_end b a (λ l. n (subst (λ z. a < z) legal.one_each l)))
+      | inr n ↦ ap (λ h. list_all (keeps_entry d b v a) (moments h)) (past_end b a (λ l. n (subst (λ z. a < z) legal.one_each l)))
     ]
 
-    not_late_by : (rule : Rule) (a : ℕ) → ((due : ℕ) → t (Late v rule a due) ≡ true) → IsIn rule (rules_of d) → IsIn a (arcs d.graph)
+    not_late_by : (rule : Rule) (a : ℕ) → ((due : ℕ) → t (Late v rule a due) ≡ true) → IsIn rule (deal_rules d) → IsIn a (arcs d.graph)
         → is_late d b v rule a ≡ false
     not_late_by rule a said r i = go (is_late d b v rule a) refl
       where
@@ -156,7 +156,7 @@ module _ (d : Deal) (conforming : ℕ → Bool) (b : Histories) (v : ℕ) (legal
         go true e = absurd (clean t (Late v rule a (or_zero (ref_of d b v rule a) + d.delta)) none
             (in_append (broken d b v ++ lates d b v) (forgeries d b v) (Late v rule a (or_zero (ref_of d b v rule a) + d.delta))
             (inl (in_append (broken d b v) (lates d b v) (Late v rule a (or_zero (ref_of d b v rule a) + d.delta)) (inr
-            (in_flat_map (λ rule. flat_map (late_on d b v rule) (arcs d.graph)) (rules_of d) rule (Late v rule a (or_zero (ref_of d b v rule a) + d.delta)) r
+            (in_flat_map (λ rule. flat_map (late_on d b v rule) (arcs d.graph)) (deal_rules d) rule (Late v rule a (or_zero (ref_of d b v rule a) + d.delta)) r
             (in_flat_map (late_on d b v rule) (arcs d.graph) a (Late v rule a (or_zero (ref_of d b v rule a) + d.delta)) i
             (subst (λ t. IsIn (Late v rule a (or_zero (ref_of d b v rule a) + d.delta))
             (cond t (Late v rule a (or_zero (ref_of d b v rule a) + d.delta) ∷ []) [])) (sym e) (inl refl))))))))
@@ -166,18 +166,18 @@ module _ (d : Deal) (conforming : ℕ → Bool) (b : Histories) (v : ℕ) (legal
     ended_by said a l =
         ltb-true (times.horizon d.start d.delta d.bound) (height (history b a))
         (split_test _ (λ e. false≢true (sym none ∙ list_any-in t (findings d conforming b) (Unfinished a (height (history b a))) (said a (height (history b a)))
-        (in_append (flat_map (λ v. if conforming v then findings_of d b v else []) (range_with_len 0 d.graph.n)) (unfinished d b)
+        (in_append (flat_map (λ v. if conforming v then party_findings d b v else []) (range_with_len 0 d.graph.n)) (unfinished d b)
         (Unfinished a (height (history b a))) (inr
         (in_flat_map (λ a. if nat_lt (times.horizon d.start d.delta d.bound) (height (history b a)) then [] else Unfinished a (height (history b a))
         ∷ []) (arcs d.graph) a (Unfinished a (height (history b a))) (in_range a (length d.graph.arcs) l)
         (subst (λ t. IsIn (Unfinished a (height (history b a))) (cond t [] (Unfinished a (height (history b a)) ∷ []))) (sym e) (inl refl))))))))
 
-  is_unforged : list_any (is_in_name_of d v) (findings d conforming b) ≡ false → IsUnforged d b v
+  is_unforged : list_any (names_party d v) (findings d conforming b) ≡ false → IsUnforged d b v
   is_unforged none a past x w m =
       let out = leaves d v a w in
       let all =
       list_all-from (λ m. not (is_forged d b v m.now)) (moments (history b a)) (λ n i.
-      split_test (not (is_forged d b v n.now)) (λ e. clean (is_in_name_of d v) (Forged v a (length n.past)) none
+      split_test (not (is_forged d b v n.now)) (λ e. clean (names_party d v) (Forged v a (length n.past)) none
       (in_append (broken d b v ++ lates d b v) (forgeries d b v) (Forged v a (length n.past)) (inr
       (in_flat_map (λ a. failing (Forged v a) (λ m. not (is_forged d b v m.now)) (history b a)) (arcs d.graph) a (Forged v a (length n.past))
       (in_range a (length d.graph.arcs) out.0)

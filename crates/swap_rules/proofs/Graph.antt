@@ -6,8 +6,8 @@ use Rattle.std.proofs.lemmas.Bool.{false≢true}
 use Rattle.swap_base.specs.Lists.{IsIn}
 use Rattle.swap_base.proofs.Lists.{list_all-in, in_range, length-range}
 use Rattle.swap_digraph.specs.Value.{Graph}
-use Rattle.swap_digraph.specs.Graph.{is_path, is_among, has_arc, arcs_of, are_followers, IsPathBetween, IsFeedback, IsHeight, IsDist}
-use Rattle.swap_digraph.proofs.Paths.{in-is_among, path_more, path_distinct, path_below, subset_length}
+use Rattle.swap_digraph.specs.Graph.{is_path, is_listed, has_arc, listed_arcs, are_followers, IsConnectingPath, IsFeedback, IsHeight, IsDist}
+use Rattle.swap_digraph.proofs.Paths.{in-is_listed, path_more, path_distinct, path_below, subset_length}
 use Rattle.swap_digraph.proofs.Parts.{part_to}
 
 -- followers on a path are fewer than all vertices, where there is a leader
@@ -17,7 +17,7 @@ height_below g ls l h i b (k) = go k.reached
     go : (h ≡ 0) ⊎ ((p : List ℕ) × IsTrue (is_path g p) × IsTrue (are_followers ls p) × (length p ≡ h)) → h + 1 ≤ g.n
     go (inl e) = omega arith
     go (inr p) =
-        let fresh : IsIn l p.0 → ⊥ = λ j. both (is_among l ls) (in-is_among l ls i) (list_all-in (λ v. not (is_among v ls)) p.0 l p.2 j) in
+        let fresh : IsIn l p.0 → ⊥ = λ j. both (is_listed l ls) (in-is_listed l ls i) (list_all-in (λ v. not (is_listed v ls)) p.0 l p.2 j) in
         let n =
         subset_length (l ∷ p.0) (range_with_len 0 g.n) (fresh, path_distinct g p.0 p.1) (λ x.
         elim [ inl q ↦ in_range x g.n (subst (λ z. z < g.n) (sym q) b) | inr j ↦ in_range x g.n (path_below g p.0 x p.1 j) ]) in
@@ -33,7 +33,7 @@ module _ (g : Graph) (l : ℕ) (feedback : IsFeedback g (l ∷ [])) where
   pub dist_falls : (v w dv dw : ℕ) → v < g.n → has_arc g v w ≡ true → (v ≡ l → ⊥) → IsDist g l v dv → IsDist g l w dw → dw + 1 ≤ dv
   dist_falls v w dv dw b a n x y = go y.reached.0 y.reached.1 y.reached.2
     where
-      go : (p : List ℕ) → IsPathBetween g w l p → arcs_of p ≡ dw → dw + 1 ≤ dv
+      go : (p : List ℕ) → IsConnectingPath g w l p → listed_arcs p ≡ dw → dw + 1 ≤ dv
       go [] k e = absurd (cc k.0)
       go (u ∷ p) k e =
           let same : u ≡ w = eqb-true u w k.1 in

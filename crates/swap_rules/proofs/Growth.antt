@@ -12,7 +12,7 @@ use Rattle.hashkey_path.specs.declared.hashkey.Hashkey.{Hashkey}
 use Rattle.ledger_core.specs.declared.entry.Entry.{Entry}
 use Rattle.ledger_core.specs.History.{accepted, Publication, publication, published, Opening, opening, opened, is_open, triggered}
 use Rattle.ledger_core.specs.Book.{Histories, history}
-use Rattle.swap_rules.specs.Party.{is_correct_in, is_correct, height_in, is_good, is_ready, leads_one}
+use Rattle.swap_rules.specs.Party.{is_arc_correct, is_correct, publication_height, is_good, is_ready, leads_one}
 use Rattle.swap_rules.specs.Conduct.{has_seen, has_origin, carries, extends_without, is_alone}
 use Rattle.ledger_core.proofs.History.{is_some-of}
 use Rattle.swap_rules.proofs.Prefixes.{list_any-more, in_any}
@@ -37,7 +37,7 @@ triggered-more d k h b e = list_all-from (is_open h) (locks d) (λ i w. is_open-
 pub is_published-more : (k h : List Entry) → Begins k h → is_some (published k) ≡ true → is_some (published h) ≡ true
 is_published-more k h b e = let p = is_some-of (published k) e in ap is_some (published-more k h p.0 b p.1)
 
-is_correct_some : (d : Deal) (a : ℕ) (o : Option Publication) → is_correct_in d a o ≡ true → is_some o ≡ true
+is_correct_some : (d : Deal) (a : ℕ) (o : Option Publication) → is_arc_correct d a o ≡ true → is_some o ≡ true
 is_correct_some d a None e = absurd (cc e)
 is_correct_some d a (Some p) e = refl
 
@@ -50,13 +50,14 @@ pub same_published : (d : Deal) (b c : Histories) (a : ℕ) → Grows b c → is
 same_published d b c a g e = let p = is_some-of (published (history b a)) e in published-more (history b a) (history c a) p.0 (g a) p.1 ∙ sym p.1
 
 pub is_correct-more : (d : Deal) (b c : Histories) (a : ℕ) → Grows b c → is_correct d b a ≡ true → is_correct d c a ≡ true
-is_correct-more d b c a g e = ap (is_correct_in d a) (same_published d b c a g (correct_published d b a e)) ∙ e
+is_correct-more d b c a g e = ap (is_arc_correct d a) (same_published d b c a g (correct_published d b a e)) ∙ e
 
 pub is_good-more : (d : Deal) (b c : Histories) (a : ℕ) → Grows b c → is_good d b a ≡ true → is_good d c a ≡ true
 is_good-more d b c a g e =
-    let k = and_parts (is_correct d b a) (nat_le (height_in (published (history b a))) (times.open_by d.start d.delta d.bound)) e in
+    let k = and_parts (is_correct d b a) (nat_le (publication_height (published (history b a))) (times.opening_deadline d.start d.delta d.bound)) e in
     let same = same_published d b c a g (correct_published d b a k.0) in
-    and_both (is_correct d c a) _ (is_correct-more d b c a g k.0) (ap (λ o. nat_le (height_in o) (times.open_by d.start d.delta d.bound)) same ∙ k.1)
+    and_both (is_correct d c a) _ (is_correct-more d b c a g k.0) (ap (λ o. nat_le (publication_height o)
+    (times.opening_deadline d.start d.delta d.bound)) same ∙ k.1)
 
 pub is_ready-more : (d : Deal) (b c : Histories) (v : ℕ) → Grows b c → is_ready d b v ≡ true → is_ready d c v ≡ true
 unfolding is_ready

@@ -8,26 +8,26 @@ use Rattle.swap_base.specs.Lists.{IsIn, IsMoment}
 use Rattle.swap_base.proofs.Lists.{first_of-in, any_at, list_all-in, in_range, some_passes, some_fails, in_from_moment}
 use Rattle.swap_digraph.specs.declared.deal.Deal.{Deal}
 use Rattle.swap_digraph.specs.declared.deal.Mode.TheVariants.{Timelocks}
-use Rattle.swap_digraph.specs.Graph.{leaving, entering, is_among}
-use Rattle.swap_digraph.specs.Deal.{locks, leads, hashlock_of}
-use Rattle.hash_signature.specs.Signature.{hash_of}
+use Rattle.swap_digraph.specs.Graph.{leaving, entering, is_listed}
+use Rattle.swap_digraph.specs.Deal.{locks, leads, lock_hashlock}
+use Rattle.hash_signature.specs.Signature.{hashed_value}
 use Rattle.hashkey_path.specs.declared.hashkey.Hashkey.{Hashkey}
 use Rattle.hashkey_path.specs.Hashkey.{is_wrong_secret, is_wrong_path, is_valid}
-use Rattle.escrow_core.specs.Terms.{terms_of, last_in, hashlock_in}
+use Rattle.escrow_core.specs.Terms.{stated_terms, last_unlock, read_hashlock}
 use Rattle.ledger_core.specs.declared.entry.Call.{Call}
 use Rattle.ledger_core.specs.declared.entry.Call.TheVariants.{Publish, Unlock, Claim, Refund, Transfer}
 use Rattle.ledger_core.specs.declared.entry.Entry.{Entry}
 use Rattle.ledger_core.specs.History.{height, accepted, Publication, published, Opening, opened, is_open}
 use Rattle.ledger_core.specs.Book.{Histories, history, IsLegalBook}
 use Rattle.swap_rules.specs.declared.outcome.Outcome.TheVariants.{NoDeal, FreeRide, Underwater, Deal as WholeDeal, Discount}
-use Rattle.swap_rules.specs.Party.{is_ready, ready_height, is_triggered, leads_one, call_by, key_in, first_key, opens_without}
+use Rattle.swap_rules.specs.Party.{is_ready, ready_height, is_triggered, leads_one, pick_call, fetch_key, first_key, opens_without}
 use Rattle.swap_rules.specs.Conduct.{IsConducted, carries}
 use Rattle.swap_rules.specs.Forged.{forges}
 use Rattle.swap_rules.specs.Outcome.{is_got, got, lost, outcome}
 use Rattle.swap_rules.proofs.Entering.{DueUnlock, valid_of_unlock}
-use Rattle.swap_digraph.proofs.Paths.{is_among-true}
+use Rattle.swap_digraph.proofs.Paths.{is_listed-true}
 use Rattle.swap_rules.proofs.Words.{and_three, leaves}
-use Rattle.swap_rules.specs.Late.{base_of, when, ref_of}
+use Rattle.swap_rules.specs.Late.{unlock_base, when, ref_of}
 use Rattle.swap_rules.specs.declared.finding.Rule.TheVariants.{Unlock as ToUnlock}
 use Rattle.ledger_core.proofs.History.{opened_done, of_unlock, published-past, is_some-of, not-false}
 use Rattle.swap_rules.proofs.Calls.{legal_at, OwnPublish, own_publish, or-left_false, unlock_ready}
@@ -59,10 +59,10 @@ underwater_missing d b v e =
 
 -- A party with a triggered leaving arc is ready.
 
-place_of : (v : ℕ) (vs : List ℕ) (z : ℕ) → IsIn v vs → (i : ℕ) × (i < length vs) × (get_or vs i z ≡ v)
-place_of v [] z i = absurd i
-place_of v (w ∷ vs) z (inl e) = (0, omega arith, sym e)
-place_of v (w ∷ vs) z (inr i) = let r = place_of v vs z i in (suc r.0, omega arith, r.2)
+find_place : (v : ℕ) (vs : List ℕ) (z : ℕ) → IsIn v vs → (i : ℕ) × (i < length vs) × (get_or vs i z ≡ v)
+find_place v [] z i = absurd i
+find_place v (w ∷ vs) z (inl e) = (0, omega arith, sym e)
+find_place v (w ∷ vs) z (inr i) = let r = find_place v vs z i in (suc r.0, omega arith, r.2)
 
 carried : (secret : List ℕ) (o : Option Call) → carries secret o ≡ true → (key : Hashkey) × (o ≡ Some (Unlock key))
 carried secret (Some (Unlock key)) k = (key, refl)
@@ -83,15 +83,15 @@ pub record Shown (b : Histories) (v : ℕ) : Type 0 where
   pub entry : Entry
   pub key : Hashkey
   pub stands : IsIn entry (flat_map (λ h. h) b)
-  pub called : call_by v entry ≡ Some (Unlock key)
+  pub called : pick_call v entry ≡ Some (Unlock key)
 
 pub shown_timelocks : (d : Deal) (b : Histories) (v : ℕ) (key : Hashkey) → forges Timelocks d b v (Some (Unlock key)) ≡ false
-    → is_wrong_secret (hashlock_of d key.lock) key ≡ false → leads d v key.lock ≡ true → Shown b v
+    → is_wrong_secret (lock_hashlock d key.lock) key ≡ false → leads d v key.lock ≡ true → Shown b v
 unfolding forges
 shown_timelocks d b v key f s l =
-    let any = not-forged (bytes_eq (hash_of key.secret) (slice_index_or d.hashlocks key.lock [])) (leads d v key.lock) _ f (not-false _ s) l in
-    let e = any_at (λ e. carries key.secret (call_by v e)) (flat_map (λ h. h) b) any in
-    let c = carried key.secret (call_by v e.now) e.passes in
+    let any = not-forged (bytes_eq (hashed_value key.secret) (slice_index_or d.hashlocks key.lock [])) (leads d v key.lock) _ f (not-false _ s) l in
+    let e = any_at (λ e. carries key.secret (pick_call v e)) (flat_map (λ h. h) b) any in
+    let c = carried key.secret (pick_call v e.now) e.passes in
     record { entry = e.now; key = c.0; stands = subst (IsIn e.now) (sym e.stands.1) (in_from_moment e.past e.now e.stands.0); called = c.1 }
 
 module _ (d : Deal) (b : Histories) (v : ℕ) (legal : IsLegalBook d b) (conducted : IsConducted d b v)
@@ -106,11 +106,11 @@ module _ (d : Deal) (b : Histories) (v : ℕ) (legal : IsLegalBook d b) (conduct
     pub lock : opening.key.lock ≡ i
     pub contract : Publication
     pub published : published (history b a) ≡ Some contract
-    pub correct : contract.terms ≡ terms_of d a
-    pub valid : is_valid d a (hashlock_of d opening.key.lock) opening.key ≡ true
-    pub secret : is_wrong_secret (hashlock_of d opening.key.lock) opening.key ≡ false
+    pub correct : contract.terms ≡ stated_terms d a
+    pub valid : is_valid d a (lock_hashlock d opening.key.lock) opening.key ≡ true
+    pub secret : is_wrong_secret (lock_hashlock d opening.key.lock) opening.key ≡ false
     pub path : is_wrong_path d a d.mode opening.key ≡ false
-    pub in_time : opening.height ≤ last_in d.mode (terms_of d a) opening.key
+    pub in_time : opening.height ≤ last_unlock d.mode (stated_terms d a) opening.key
 
   pub opener_at : (a i : ℕ) → IsIn a (leaving d.graph v) → (o : Opening) → opened (history b a) i ≡ Some o → Opener a i o
   opener_at a i w o e =
@@ -118,8 +118,9 @@ module _ (d : Deal) (b : Histories) (v : ℕ) (legal : IsLegalBook d b) (conduct
       let u = opened_done d a (history b a) i o (legal_at d b v conducted legal a out.0) e in
       let of_u = of_unlock d a u.0.past u.0.act.by o.key u.0.clear in
       let pub_whole = published-past (history b a) u.0.past u.0.now of_u.contract u.0.stands of_u.published in
-      let terms : of_u.contract.terms ≡ terms_of d a = OwnPublish.correct (own_publish d b v conducted legal a of_u.contract w pub_whole) in
-      let on_time : height u.0.past ≤ last_in d.mode (terms_of d a) o.key = subst (λ t. height u.0.past ≤ last_in d.mode t o.key) terms of_u.in_time in
+      let terms : of_u.contract.terms ≡ stated_terms d a = OwnPublish.correct (own_publish d b v conducted legal a of_u.contract w pub_whole) in
+      let on_time : height u.0.past ≤ last_unlock d.mode (stated_terms d a) o.key = subst
+      (λ t. height u.0.past ≤ last_unlock d.mode t o.key) terms of_u.in_time in
       let at : o.height ≡ height u.0.past = u.0.at in
       record {
         opened = e;
@@ -131,8 +132,8 @@ module _ (d : Deal) (b : Histories) (v : ℕ) (legal : IsLegalBook d b) (conduct
         contract = of_u.contract;
         published = pub_whole;
         correct = terms;
-        valid = subst (λ t. is_valid d a (hashlock_in t o.key.lock) o.key ≡ true) terms (valid_of_unlock d a u.0.past u.0.act.by o.key of_u);
-        secret = subst (λ t. is_wrong_secret (hashlock_in t o.key.lock) o.key ≡ false) terms of_u.secret;
+        valid = subst (λ t. is_valid d a (read_hashlock t o.key.lock) o.key ≡ true) terms (valid_of_unlock d a u.0.past u.0.act.by o.key of_u);
+        secret = subst (λ t. is_wrong_secret (read_hashlock t o.key.lock) o.key ≡ false) terms of_u.secret;
         path = of_u.path;
         in_time = omega arith;
       }
@@ -153,7 +154,7 @@ module _ (d : Deal) (b : Histories) (v : ℕ) (legal : IsLegalBook d b) (conduct
           let p = own_publish d b v conducted legal a o.1.contract w o.1.published in
           or-left_false d b v conducted legal (leads_one d v) (is_ready d b v) e p.may
       go true e =
-          let place = place_of v d.leaders d.graph.n (is_among-true v d.leaders e) in
+          let place = find_place v d.leaders d.graph.n (is_listed-true v d.leaders e) in
           let l : leads d v place.0 ≡ true = eq-eqb _ v place.2 in
           let o = opener a place.0 w t place.1 in
           let s = shown a place.0 place.1 w l o.0 o.1 in
@@ -183,15 +184,15 @@ pub enabled_parts : (d : Deal) (b : Histories) (v i a r : ℕ) → ref_of d b v 
 unfolding ref_of
 enabled_parts d b v i a r e =
     let t =
-    when_true (is_among a (entering d.graph v) && is_ready d b v && is_known d b v i)
-    (if leads d v i then ready_height d b v else max (ready_height d b v) (base_of d.mode d b v i (first_key b v i))) r e in
-    let k = and_three (is_among a (entering d.graph v)) (is_ready d b v) (is_known d b v i) t in
-    record { enters = is_among-true a (entering d.graph v) k.0; ready = k.1; known = k.2 }
+    when_true (is_listed a (entering d.graph v) && is_ready d b v && is_known d b v i)
+    (if leads d v i then ready_height d b v else max (ready_height d b v) (unlock_base d.mode d b v i (first_key b v i))) r e in
+    let k = and_three (is_listed a (entering d.graph v)) (is_ready d b v) (is_known d b v i) t in
+    record { enters = is_listed-true a (entering d.graph v) k.0; ready = k.1; known = k.2 }
 
 -- a hashkey that v presents for a lock shows as its first one
-pub presents : (b : Histories) (v i : ℕ) (e : Entry) (key : Hashkey) → IsIn e (flat_map (λ h. h) b) → call_by v e ≡ Some (Unlock key) → key.lock ≡ i
+pub presents : (b : Histories) (v i : ℕ) (e : Entry) (key : Hashkey) → IsIn e (flat_map (λ h. h) b) → pick_call v e ≡ Some (Unlock key) → key.lock ≡ i
     → is_some (first_key b v i) ≡ true
 unfolding first_key
 presents b v i e key stands called lock =
-    first_of-in (λ e. key_in i (call_by v e)) (flat_map (λ h. h) b) e key stands
-    (ap (key_in i) called ∙ ap (λ x. cond x (Some key) None) (eq-eqb key.lock i lock))
+    first_of-in (λ e. fetch_key i (pick_call v e)) (flat_map (λ h. h) b) e key stands
+    (ap (fetch_key i) called ∙ ap (λ x. cond x (Some key) None) (eq-eqb key.lock i lock))

@@ -12,7 +12,7 @@ use Rattle.ledger_core.specs.declared.entry.What.TheVariants.{Call as Made}
 use Rattle.ledger_core.specs.declared.entry.Entry.{Entry}
 use Rattle.ledger_core.specs.History.{IsLegal}
 use Rattle.ledger_core.specs.Book.{Histories, history}
-use Rattle.swap_rules.specs.Party.{call_by}
+use Rattle.swap_rules.specs.Party.{pick_call}
 use Rattle.ledger_core.specs.Ledger.{after_call}
 use Rattle.swap_rules.specs.Machine.{KeepsOwn, KeepsRules, Begins, Knows, noted}
 use Rattle.swap_rules.specs.Laws.{KnowledgeConducts, LearningIsSound, DueIsSound}
@@ -26,7 +26,7 @@ cancel [] x y e = e
 cancel (z ∷ k) x y e = cancel k x y (cc)
 
 -- a call of v in the whole stands in what v knows
-pub own_known : (v : ℕ) (k h past : List Entry) (e : Entry) (c : Call) → Knows v k h → IsMoment h past e → call_by v e ≡ Some c → IsMoment k past e
+pub own_known : (v : ℕ) (k h past : List Entry) (e : Entry) (c : Call) → Knows v k h → IsMoment h past e → pick_call v e ≡ Some c → IsMoment k past e
 own_known v k h past e c kn m q = go (split k kn.rest past e m.0 (sym kn.whole ∙ m.1))
   where
     go : IsMoment k past e ⊎ Begins k past → IsMoment k past e

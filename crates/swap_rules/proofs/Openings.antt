@@ -12,11 +12,11 @@ use Rattle.swap_digraph.specs.Deal.{counterparty, locks}
 use Rattle.hashkey_path.specs.declared.hashkey.Hashkey.{Hashkey}
 use Rattle.hashkey_path.specs.Hashkey.{is_valid}
 use Rattle.escrow_core.specs.declared.terms.Terms.{Terms}
-use Rattle.escrow_core.specs.Terms.{terms_of, expiry_in, last_in, hashlock_in, least, closed_locks, refund_expiry}
+use Rattle.escrow_core.specs.Terms.{stated_terms, lock_expiry, last_unlock, read_hashlock, least, closed_locks, refund_expiry}
 use Rattle.escrow_core.specs.Table.{are_open}
 use Rattle.ledger_core.specs.declared.entry.Call.TheVariants.{Unlock, Claim}
 use Rattle.ledger_core.specs.declared.entry.Entry.{Entry}
-use Rattle.ledger_core.specs.History.{ticks_in, height, accepted, Publication, published, Opening, opening, opened, settled, is_open, triggered}
+use Rattle.ledger_core.specs.History.{entry_ticks, height, accepted, Publication, published, Opening, opening, opened, settled, is_open, triggered}
 use Rattle.ledger_core.specs.History.{IsLegal, IsLegalMoment}
 use Rattle.ledger_core.specs.declared.facts.Settlement.TheVariants.{Refunded}
 use Rattle.swap_rules.specs.Party.{expiry, has_expired, least_expiry}
@@ -39,8 +39,8 @@ is_open_by h i t o = ap is_some o.opened
 -- An unlock in time with a valid hashkey leaves its lock open by then.
 pub unlock_opens_by : (d : Deal) (a : ℕ) (h past : List Entry) (e : Entry) (key : Hashkey) (p : Publication) → IsLegal d a h → (m : IsMoment h past e)
     → (act : Act d a past e (Unlock key))
-    → act.by ≡ counterparty d a → published past ≡ Some p → is_valid d a (hashlock_in p.terms key.lock) key ≡ true
-    → height past ≤ last_in d.mode p.terms key → (settled past ≡ Some Refunded → ⊥) → IsOpenBy h key.lock (height past)
+    → act.by ≡ counterparty d a → published past ≡ Some p → is_valid d a (read_hashlock p.terms key.lock) key ≡ true
+    → height past ≤ last_unlock d.mode p.terms key → (settled past ≡ Some Refunded → ⊥) → IsOpenBy h key.lock (height past)
 unlock_opens_by d a h past e key p l m act by pub_past valid in_time unrefunded =
     let whole : h ≡ (past ++ e ∷ []) ++ m.0 = m.1 ∙ sym append_assoc_at in
     let l1 : IsLegal d a (past ++ e ∷ []) = all_moments_front (IsLegalMoment d a) (past ++ e ∷ []) m.0 (subst (IsLegal d a) whole l) in
@@ -49,8 +49,8 @@ unlock_opens_by d a h past e key p l m act by pub_past valid in_time unrefunded 
     unrefunded) in
     let u = opened_done d a (past ++ e ∷ []) key.lock o.0 l1 o.1 in
     let low = height-past (past ++ e ∷ []) u.0.past u.0.now u.0.stands in
-    let same : height (past ++ e ∷ []) ≡ height past + ticks_in e.what = sum_by_push (λ x. ticks_in x.what) past e in
-    let none : ticks_in e.what ≡ 0 = ap ticks_in act.what in
+    let same : height (past ++ e ∷ []) ≡ height past + entry_ticks e.what = sum_by_push (λ x. entry_ticks x.what) past e in
+    let none : entry_ticks e.what ≡ 0 = ap entry_ticks act.what in
     let at = u.0.at in
     record {
       opening = o.0;
@@ -71,8 +71,8 @@ claim_claims_by d a h past e p l m act by pub_past all_open =
     let l1 : IsLegal d a (past ++ e ∷ []) = all_moments_front (IsLegalMoment d a) (past ++ e ∷ []) m.0 (subst (IsLegal d a) whole l) in
     let c = (claimed_done d a (past ++ e ∷ []) l1 (claim_claims d a (past ++ e ∷ []) past e p l1 ([], refl) act by pub_past all_open)).1 in
     let low = height-past (past ++ e ∷ []) c.past c.now c.stands in
-    let same : height (past ++ e ∷ []) ≡ height past + ticks_in e.what = sum_by_push (λ x. ticks_in x.what) past e in
-    let none : ticks_in e.what ≡ 0 = ap ticks_in act.what in
+    let same : height (past ++ e ∷ []) ≡ height past + entry_ticks e.what = sum_by_push (λ x. entry_ticks x.what) past e in
+    let none : entry_ticks e.what ≡ 0 = ap entry_ticks act.what in
     let at = c.act.at in
     record {
       past = c.past;
@@ -127,7 +127,7 @@ pub record FirstExpiry (d : Deal) (a : ℕ) (t : Terms) (o : ℕ → Bool) : Typ
   pub lock : ℕ
   pub within : IsIn lock (locks d)
   pub closed : o lock ≡ false
-  pub height : expiry_in d.mode d a t lock ≡ refund_expiry d a t o
+  pub height : lock_expiry d.mode d a t lock ≡ refund_expiry d a t o
 
 pub first_expiry : (d : Deal) (a : ℕ) (t : Terms) (o : ℕ → Bool) → are_open d o ≡ false → FirstExpiry d a t o
 first_expiry d a t o h =
@@ -137,16 +137,16 @@ first_expiry d a t o h =
     go : (x : ℕ) (xs : List ℕ) → closed_locks d o ≡ xs → IsIn x xs → FirstExpiry d a t o
     go x [] e i = absurd i
     go x (y ∷ ys) e i =
-        let m = least-in (expiry_in d.mode d a t y) (map (expiry_in d.mode d a t) ys) in
-        let r = from_map (expiry_in d.mode d a t) (y ∷ ys) (least (map (expiry_in d.mode d a t) (y ∷ ys))) m in
+        let m = least-in (lock_expiry d.mode d a t y) (map (lock_expiry d.mode d a t) ys) in
+        let r = from_map (lock_expiry d.mode d a t) (y ∷ ys) (least (map (lock_expiry d.mode d a t) (y ∷ ys))) m in
         let q = from_filter (λ i. not (o i)) r.0 (locks d) (subst (IsIn r.0) (sym e) r.1) in
-        record { lock = r.0; within = q.0; closed = not-true-of (o r.0) q.1; height = r.2 ∙ ap (λ z. least (map (expiry_in d.mode d a t) z)) (sym e) }
+        record { lock = r.0; within = q.0; closed = not-true-of (o r.0) q.1; height = r.2 ∙ ap (λ z. least (map (lock_expiry d.mode d a t) z)) (sym e) }
 
 pub refund_expiry-low : (d : Deal) (a : ℕ) (t : Terms) (o : ℕ → Bool) (i : ℕ) → IsIn i (locks d) → o i ≡ false
-    → refund_expiry d a t o ≤ expiry_in d.mode d a t i
+    → refund_expiry d a t o ≤ lock_expiry d.mode d a t i
 refund_expiry-low d a t o i w h =
-    least-below (map (expiry_in d.mode d a t) (closed_locks d o)) (expiry_in d.mode d a t i)
-    (in_map (expiry_in d.mode d a t) (closed_locks d o) i (in_filter (λ i. not (o i)) i (locks d) w (ap not h)))
+    least-below (map (lock_expiry d.mode d a t) (closed_locks d o)) (lock_expiry d.mode d a t i)
+    (in_map (lock_expiry d.mode d a t) (closed_locks d o) i (in_filter (λ i. not (o i)) i (locks d) w (ap not h)))
 
 -- a closed lock that is expired at a height
 pub record Expired (d : Deal) (a : ℕ) (h : List Entry) (at : ℕ) : Type 0 where
@@ -175,12 +175,12 @@ has_expired-lock d a h at i w c l =
 pub expired-least : (d : Deal) (a : ℕ) (h : List Entry) (at : ℕ) → has_expired d a h at ≡ true → least_expiry d a h < at
 expired-least d a h at e =
     let x = expired_lock d a h at e in
-    let y = refund_expiry-low d a (terms_of d a) (is_open h) x.lock x.within x.closed in
+    let y = refund_expiry-low d a (stated_terms d a) (is_open h) x.lock x.within x.closed in
     let z = x.above in omega arith
 
 pub least-expired : (d : Deal) (a : ℕ) (h : List Entry) (at : ℕ) → triggered d h ≡ false → least_expiry d a h < at → has_expired d a h at ≡ true
 least-expired d a h at shut l =
-    let x = first_expiry d a (terms_of d a) (is_open h) shut in
+    let x = first_expiry d a (stated_terms d a) (is_open h) shut in
     let y = x.height in
     has_expired-lock d a h at x.lock x.within x.closed (omega arith)
 

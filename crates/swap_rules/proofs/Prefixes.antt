@@ -6,8 +6,8 @@ use Rattle.std.proofs.lemmas.Bool.{false≢true}
 use Rattle.swap_base.specs.Lists.{IsIn, IsMoment}
 use Rattle.swap_base.proofs.Lists.{Order, moments_in_order, Earlier, Same, Later, any_at, list_any-in, in_from_moment, in_append, from_append}
 use Rattle.ledger_core.specs.declared.entry.Entry.{Entry}
-use Rattle.ledger_core.specs.History.{height, sent_by, call_in}
-use Rattle.swap_rules.specs.Party.{call_by}
+use Rattle.ledger_core.specs.History.{height, is_sender, read_raw_call}
+use Rattle.swap_rules.specs.Party.{pick_call}
 use Rattle.ledger_core.proofs.History.{height_append, not-true}
 use Rattle.swap_rules.specs.Machine.{Begins}
 
@@ -89,5 +89,5 @@ not_any-in p xs x e i = not-true (p x) (λ q. false≢true (sym e ∙ list_any-i
 
 -- Calls of v.
 
-pub none_called : (v : ℕ) (e : Entry) → sent_by v e.sender ≡ false → call_by v e ≡ None
-none_called v e s = ap (λ b. cond b (call_in e.what) None) s
+pub none_called : (v : ℕ) (e : Entry) → is_sender v e.sender ≡ false → pick_call v e ≡ None
+none_called v e s = ap (λ b. cond b (read_raw_call e.what) None) s

@@ -6,17 +6,17 @@ use Rattle.std.proofs.lemmas.Bool.{false≢true}
 use Rattle.swap_base.specs.Lists.{or_else, IsIn, IsMoment}
 use Rattle.swap_base.proofs.Lists.{list_all-from, in_range, in_filter, and_both, greatest-below, first_of-append, in_append, bool_or}
 use Rattle.swap_digraph.specs.declared.deal.Deal.{Deal}
-use Rattle.swap_digraph.specs.Graph.{is_path, last_is, ends, arcs, leaving, entering, is_among, are_followers}
-use Rattle.swap_digraph.specs.Deal.{party, counterparty, leader_of, amount}
+use Rattle.swap_digraph.specs.Graph.{is_path, last_is, ends, arcs, leaving, entering, is_listed, are_followers}
+use Rattle.swap_digraph.specs.Deal.{party, counterparty, lock_leader, amount}
 use Rattle.escrow_core.specs.declared.terms.Terms.{Terms}
-use Rattle.escrow_core.specs.Terms.{terms_of, same_terms}
+use Rattle.escrow_core.specs.Terms.{stated_terms, same_terms}
 use Rattle.ledger_core.specs.declared.entry.Call.TheVariants.{Publish}
 use Rattle.ledger_core.specs.declared.entry.Entry.{Entry}
 use Rattle.ledger_core.specs.History.{height, accepted, Publication, publication, published, settled, rows, IsLegal, accounts, held, balance, the_terms}
-use Rattle.ledger_core.specs.History.{terms_in}
+use Rattle.ledger_core.specs.History.{parse_terms}
 use Rattle.ledger_core.specs.Book.{Histories, history, IsLegalBook}
 use Rattle.swap_rules.specs.declared.finding.Rule.TheVariants.{Publish as ToPublish}
-use Rattle.swap_rules.specs.Party.{is_correct_in, is_correct, height_in, is_good, is_ready, ready_height, leads_one, call_by}
+use Rattle.swap_rules.specs.Party.{is_arc_correct, is_correct, publication_height, is_good, is_ready, ready_height, leads_one, pick_call}
 use Rattle.swap_rules.specs.Conduct.{is_publish, keeps}
 use Rattle.swap_rules.specs.Late.{when, ref_of}
 use Rattle.swap_rules.specs.Outcome.{is_claim, IsEnded}
@@ -27,7 +27,7 @@ use Rattle.swap_rules.proofs.Accepted.{times_law, arc_has, get_in}
 use Rattle.ledger_core.proofs.Units.{units, settled-published}
 use Rattle.ledger_core.proofs.History.{Act, published_done, height-past, published-past, legal-past, not-full, from_clear, accepted-now}
 use Rattle.swap_rules.proofs.Refunds.{counterparty_empty, NoOwnTransfer, no_own_transfer, counted_publish}
-use Rattle.swap_digraph.proofs.Paths.{path_snoc, suffix_from, followers-append, in-is_among}
+use Rattle.swap_digraph.proofs.Paths.{path_snoc, suffix_from, followers-append, in-is_listed}
 use Rattle.swap_rules.proofs.Graph.{height_below}
 use Rattle.swap_rules.proofs.Calls.{kept, legal_at, own_publish, OwnPublish, done_in_time}
 use Rattle.swap_rules.specs.Laws.{AllConform}
@@ -37,7 +37,7 @@ use Rattle.time_bounds.specs.Times as times
 pub record IsGoodBy (d : Deal) (b : Histories) (a t : ℕ) : Type 0 where
   pub contract : Publication
   pub published : published (history b a) ≡ Some contract
-  pub correct : contract.terms ≡ terms_of d a
+  pub correct : contract.terms ≡ stated_terms d a
   pub early : contract.height ≤ t
 
 -- A correct publish of a party that has its amount is accepted, or one was before it.
@@ -63,7 +63,7 @@ publish_takes d a h past e t l m act by same_amount own = go (published past) re
         (ap is_claim s) in
         let u = units d a past l0 in
         let total = u.total in
-        let nothing : held past ≡ 0 = ap (λ x. cond (is_some x) 0 (the_terms past).amount) s ∙ ap (λ x. (terms_in x).amount) q in
+        let nothing : held past ≡ 0 = ap (λ x. cond (is_some x) 0 (the_terms past).amount) s ∙ ap (λ x. (parse_terms x).amount) q in
         let has : t.amount ≤ (accounts d a past).party = omega arith in
         let funds : nat_lt (balance d a past act.by) t.amount ≡ false =
         ap (λ x. nat_lt (cond x (accounts d a past).party (accounts d a past).counterparty) t.amount) (eq-eqb act.by (party d a) by)
@@ -92,7 +92,7 @@ module _ (d : Deal) (b : Histories) (k : IsAccepted d) (legal : IsLegalBook d b)
 
   -- a party that may publish does so in time
   published_by : (u : ℕ) → u < d.graph.n → (a : ℕ) → IsIn a (leaving d.graph u) → (r : ℕ) → ref_of d b u ToPublish a ≡ Some r
-      → r ≤ times.open_by d.start d.delta d.bound → IsGoodBy d b a (r + d.delta)
+      → r ≤ times.opening_deadline d.start d.delta d.bound → IsGoodBy d b a (r + d.delta)
   unfolding keeps
   published_by u below a w r enabled low =
       let c = all u below in
@@ -104,12 +104,12 @@ module _ (d : Deal) (b : Histories) (k : IsAccepted d) (legal : IsLegalBook d b)
       let passed : r + d.delta < height (history b a) = omega arith in
       let x = done_in_time d b u c.conducted legal ToPublish a (c.on_time ToPublish a (publish_rule d) (in_range a (length d.graph.arcs) out.0)) r enabled passed in
       let pb = counted_publish d b u a x.now.height x.call x.counted in
-      let called : call_by u x.now ≡ Some (Publish pb.0) = x.called ∙ ap Some pb.1 in
+      let called : pick_call u x.now ≡ Some (Publish pb.0) = x.called ∙ ap Some pb.1 in
       let act = act_of d a (history b a) x.past x.now (Publish pb.0) u l x.stands called in
       let q =
-      and_three (same_terms pb.0 (terms_of d a)) (count_by (λ e. is_publish (call_by u e)) (history b a) == 1) (leads_one d u || is_ready d b u)
+      and_three (same_terms pb.0 (stated_terms d a)) (count_by (λ e. is_publish (pick_call u e)) (history b a) == 1) (leads_one d u || is_ready d b u)
       (kept d b u c.conducted a x.past x.now (Publish pb.0) x.stands called) in
-      let terms : pb.0 ≡ terms_of d a = same_terms-true pb.0 (terms_of d a) q.0 in
+      let terms : pb.0 ≡ stated_terms d a = same_terms-true pb.0 (stated_terms d a) q.0 in
       let own = no_own_transfer d b u legal c.conducted a w in
       let got = publish_takes d a (history b a) x.past x.now pb.0 l x.stands act.0 (act.1 ∙ sym out.1) (ap (λ z. z.amount) terms) own in
       let at : x.now.height ≡ height x.past = act.0.at in
@@ -117,13 +117,14 @@ module _ (d : Deal) (b : Histories) (k : IsAccepted d) (legal : IsLegalBook d b)
       let early : got.0.height ≤ height x.past = got.2 in
       record { contract = got.0; published = got.1; correct = OwnPublish.correct (own_publish d b u c.conducted legal a got.0 w got.1); early = omega arith }
 
-  pub good_of : (a t : ℕ) → t ≤ times.open_by d.start d.delta d.bound → IsGoodBy d b a t → is_good d b a ≡ true
+  pub good_of : (a t : ℕ) → t ≤ times.opening_deadline d.start d.delta d.bound → IsGoodBy d b a t → is_good d b a ≡ true
   good_of a t low g =
       let early = g.early in
-      let is_low : g.contract.height ≤ times.open_by d.start d.delta d.bound = omega arith in
-      and_both (is_correct d b a) _ (ap (is_correct_in d a) g.published ∙ (ap (λ x. same_terms x (terms_of d a)) g.correct ∙ same_terms-refl (terms_of d a)))
-      (ap (λ x. nat_le (height_in x) (times.open_by d.start d.delta d.bound)) g.published
-      ∙ le-leb g.contract.height (times.open_by d.start d.delta d.bound) is_low)
+      let is_low : g.contract.height ≤ times.opening_deadline d.start d.delta d.bound = omega arith in
+      and_both (is_correct d b a) _ (ap (is_arc_correct d a) g.published ∙ (ap (λ x. same_terms x (stated_terms d a)) g.correct
+      ∙ same_terms-refl (stated_terms d a)))
+      (ap (λ x. nat_le (publication_height x) (times.opening_deadline d.start d.delta d.bound)) g.published
+      ∙ le-leb g.contract.height (times.opening_deadline d.start d.delta d.bound) is_low)
 
   -- every path of followers that ends in u has at most m vertices
   abbrev Reach : ℕ → ℕ → Type 0
@@ -144,12 +145,12 @@ module _ (d : Deal) (b : Histories) (k : IsAccepted d) (legal : IsLegalBook d b)
 
   height_bound : k.height ≤ d.bound
   height_bound =
-      let first : IsIn (leader_of d 0) d.leaders = get_in d.leaders 0 0 k.leaders.0 in
-      let n = height_below d.graph d.leaders (leader_of d 0) k.height first (k.leader 0 k.leaders.0) k.is_height in
+      let first : IsIn (lock_leader d 0) d.leaders = get_in d.leaders 0 0 k.leaders.0 in
+      let n = height_below d.graph d.leaders (lock_leader d 0) k.height first (k.leader 0 k.leaders.0) k.is_height in
       let some : 1 * (k.height + 1) ≤ length d.leaders * (k.height + 1) = mul-le-mul_right (k.height + 1) k.leaders.0 in
       let m = k.bound.0 in omega arith
 
-  pub height_low : (m : ℕ) → m ≤ k.height → m * d.delta + d.delta ≤ times.open_by d.start d.delta d.bound
+  pub height_low : (m : ℕ) → m ≤ k.height → m * d.delta + d.delta ≤ times.opening_deadline d.start d.delta d.bound
   height_low m h =
       let e = height_bound in
       let f : m ≤ d.bound = omega arith in
@@ -159,8 +160,8 @@ module _ (d : Deal) (b : Histories) (k : IsAccepted d) (legal : IsLegalBook d b)
   leader_by : (m u : ℕ) → u < d.graph.n → leads_one d u ≡ true → (a : ℕ) → IsIn a (leaving d.graph u) → IsGoodBy d b a ((m + 1) * d.delta)
   unfolding ref_of
   leader_by m u below lead a w =
-      let on : (is_among a (leaving d.graph u) && (leads_one d u || is_ready d b u)) ≡ true =
-      and_both (is_among a (leaving d.graph u)) _ (in-is_among a (leaving d.graph u) w) (ap (λ x. x || is_ready d b u) lead) in
+      let on : (is_listed a (leaving d.graph u) && (leads_one d u || is_ready d b u)) ≡ true =
+      and_both (is_listed a (leaving d.graph u)) _ (in-is_listed a (leaving d.graph u) w) (ap (λ x. x || is_ready d b u) lead) in
       let g =
       published_by u below a w 0 (ap (λ x. when x (if leads_one d u then 0 else ready_height d b u)) on
       ∙ ap (λ x. Some (cond x 0 (ready_height d b u))) lead) (omega arith) in
@@ -168,15 +169,15 @@ module _ (d : Deal) (b : Histories) (k : IsAccepted d) (legal : IsLegalBook d b)
       record { contract = g.contract; published = g.published; correct = g.correct; early = omega arith }
 
   -- a follower whose entering arcs are good by t publishes by t + delta
-  follower_by : (t u : ℕ) → t ≤ times.open_by d.start d.delta d.bound → u < d.graph.n → leads_one d u ≡ false
+  follower_by : (t u : ℕ) → t ≤ times.opening_deadline d.start d.delta d.bound → u < d.graph.n → leads_one d u ≡ false
       → ((c : ℕ) → IsIn c (entering d.graph u) → IsGoodBy d b c t) → (a : ℕ) → IsIn a (leaving d.graph u) → IsGoodBy d b a (t + d.delta)
   unfolding ref_of ready_height is_ready
   follower_by t u low below lead goods a w =
       let ready : is_ready d b u ≡ true = list_all-from (is_good d b) (entering d.graph u) (λ c i. good_of c t low (goods c i)) in
-      let g_low : ready_height d b u ≤ t = greatest-below (λ c. height_in (published (history b c))) (entering d.graph u) t
-      (λ c i. subst (λ z. height_in z ≤ t) (sym (goods c i).published) (goods c i).early) in
-      let on : (is_among a (leaving d.graph u) && (leads_one d u || is_ready d b u)) ≡ true =
-      and_both (is_among a (leaving d.graph u)) _ (in-is_among a (leaving d.graph u) w) (ap (λ x. x || is_ready d b u) lead ∙ ready) in
+      let g_low : ready_height d b u ≤ t = greatest-below (λ c. publication_height (published (history b c))) (entering d.graph u) t
+      (λ c i. subst (λ z. publication_height z ≤ t) (sym (goods c i).published) (goods c i).early) in
+      let on : (is_listed a (leaving d.graph u) && (leads_one d u || is_ready d b u)) ≡ true =
+      and_both (is_listed a (leaving d.graph u)) _ (in-is_listed a (leaving d.graph u) w) (ap (λ x. x || is_ready d b u) lead ∙ ready) in
       let g =
       published_by u below a w (ready_height d b u) (ap (λ x. when x (if leads_one d u then 0 else ready_height d b u)) on
       ∙ ap (λ x. Some (cond x 0 (ready_height d b u))) lead) (omega arith) in
@@ -193,12 +194,12 @@ module _ (d : Deal) (b : Histories) (k : IsAccepted d) (legal : IsLegalBook d b)
       not_reached : (u : ℕ) → u < d.graph.n → leads_one d u ≡ false → Reach zero u → ⊥
       not_reached u below lead r =
           let z : length (u ∷ []) ≤ 0 =
-          r (u ∷ []) (lt-ltb u d.graph.n below) (and_both (not (is_among u d.leaders)) true (ap not lead) refl) (eq-eqb u u refl) in omega arith
+          r (u ∷ []) (lt-ltb u d.graph.n below) (and_both (not (is_listed u d.leaders)) true (ap not lead) refl) (eq-eqb u u refl) in omega arith
   good_by (suc m) h u below r a w =
       elim (bool_or (leads_one d u)) [
         | inl lead ↦ leader_by (suc m) u below lead a w
         | inr lead ↦
-            let low : (m + 1) * d.delta ≤ times.open_by d.start d.delta d.bound = (let z = height_low m (omega arith) in omega arith) in
+            let low : (m + 1) * d.delta ≤ times.opening_deadline d.start d.delta d.bound = (let z = height_low m (omega arith) in omega arith) in
             let g = follower_by ((m + 1) * d.delta) u low below lead (λ c i.
             let in_arc = enters d u c i in
             good_by m (omega arith) (party d c) (from_below c in_arc.0) (reach_back m (party d c) u c in_arc.0 refl in_arc.1 lead below r) c

@@ -9,24 +9,24 @@ use Rattle.swap_base.specs.Lists.{or_else, IsIn, IsMoment}
 use Rattle.swap_base.proofs.Lists.{first_of-now, Order, moments_in_order, in_range, and_both, moment_from_in, grow, all_moments_front, first_of-append}
 use Rattle.swap_base.proofs.Lists.{first_of-front, in_append, in_from_moment, list_any-in, Earlier, Same, Later}
 use Rattle.swap_digraph.specs.declared.deal.Deal.{Deal}
-use Rattle.swap_digraph.specs.Graph.{arcs, leaving, is_among}
+use Rattle.swap_digraph.specs.Graph.{arcs, leaving, is_listed}
 use Rattle.swap_digraph.specs.Deal.{party}
 use Rattle.escrow_core.specs.declared.terms.Terms.{Terms}
-use Rattle.escrow_core.specs.Terms.{terms_of, same_terms, refund_expiry}
+use Rattle.escrow_core.specs.Terms.{stated_terms, same_terms, refund_expiry}
 use Rattle.ledger_core.specs.declared.entry.Call.{Call}
 use Rattle.ledger_core.specs.declared.entry.Call.TheVariants.{Publish, Unlock, Claim, Refund, Transfer}
 use Rattle.ledger_core.specs.declared.entry.Sender.{Sender}
 use Rattle.ledger_core.specs.declared.entry.Sender.TheVariants.{Party}
 use Rattle.ledger_core.specs.declared.entry.Entry.{Entry}
 use Rattle.ledger_core.specs.History.{height, accepted, Publication, publication, published, settling, settled, is_open, triggered, rows, IsLegal}
-use Rattle.ledger_core.specs.History.{accounts, held, IsLegalMoment, the_terms, terms_in, moved, transferred}
+use Rattle.ledger_core.specs.History.{accounts, held, IsLegalMoment, the_terms, parse_terms, moved, transferred}
 use Rattle.ledger_core.specs.declared.facts.Settlement.{Settlement}
 use Rattle.ledger_core.specs.declared.facts.Settlement.TheVariants.{Claimed, Refunded}
 use Rattle.ledger_core.specs.Book.{Histories, history, IsLegalBook}
 use Rattle.ledger_core.specs.declared.accounts.Accounts.{Accounts}
 use Rattle.swap_rules.specs.declared.finding.Rule.TheVariants.{Publish as ToPublish, Claim as ToClaim, Refund as ToRefund}
 use Rattle.swap_rules.specs.declared.outcome.Outcome.TheVariants.{Underwater}
-use Rattle.swap_rules.specs.Party.{is_ready, ready_height, is_triggered, leads_one, call_by, least_expiry, has_expired}
+use Rattle.swap_rules.specs.Party.{is_ready, ready_height, is_triggered, leads_one, pick_call, least_expiry, has_expired}
 use Rattle.swap_rules.specs.Conduct.{is_publish, keeps, IsConducted}
 use Rattle.swap_rules.specs.Late.{trigger_height, when, ref_of, counts, is_late}
 use Rattle.swap_rules.specs.Outcome.{is_claim, outcome, IsEnded}
@@ -46,8 +46,8 @@ use Rattle.swap_rules.proofs.SafeTimelocks.{timelocks_are_safe, timelocks_unlock
 use Rattle.swap_rules.proofs.SafeHashkeys.{hashkeys_are_safe, hashkeys_unlock}
 use Rattle.swap_rules.proofs.Accepted.{times_law, time_law}
 use Rattle.ledger_core.proofs.Units.{units, after}
-use Rattle.swap_digraph.proofs.Paths.{in-is_among}
-use Rattle.swap_rules.proofs.Words.{publish_rule, claim_rule, refund_rule, act_of, call_by-act, and_three, enters, leaves}
+use Rattle.swap_digraph.proofs.Paths.{in-is_listed}
+use Rattle.swap_rules.proofs.Words.{publish_rule, claim_rule, refund_rule, act_of, pick_call-act, and_three, enters, leaves}
 use Rattle.time_bounds.specs.Times as times
 
 -- The counterparty has nothing until it claims.
@@ -55,7 +55,7 @@ use Rattle.time_bounds.specs.Times as times
 module _ (d : Deal) (a : ℕ) where
   -- no call of the arc's party is a transfer
   abbrev pub NoOwnTransfer : List Entry → Type 0
-  NoOwnTransfer h = (e : Entry) (to units : ℕ) → IsIn e h → call_by (party d a) e ≡ Some (Transfer to units) → ⊥
+  NoOwnTransfer h = (e : Entry) (to units : ℕ) → IsIn e h → pick_call (party d a) e ≡ Some (Transfer to units) → ⊥
 
   abbrev pub Empty : List Entry → Type 0
   Empty h = IsLegal d a h → NoOwnTransfer h → is_claim (settled h) ≡ false → (accounts d a h).counterparty ≡ 0
@@ -90,7 +90,7 @@ module _ (d : Deal) (a : ℕ) where
       let f = of_transfer d a h q.0.by to units q.1 in
       from_moved h e (Party q.0.by) (Some (Transfer to units)) q.0.sender k
       (go (q.0.by == party d a) (to == party d a) (λ same.
-      n e to units (in_append h (e ∷ []) e (inr (inl refl))) (call_by-act d a h e (Transfer to units) (party d a) q.0 (eqb-true _ _ same))) f)
+      n e to units (in_append h (e ∷ []) e (inr (inl refl))) (pick_call-act d a h e (Transfer to units) (party d a) q.0 (eqb-true _ _ same))) f)
     where
       b : Accounts
       b = accounts d a h
@@ -113,7 +113,7 @@ unfolding rows
 refund_settles d a h past e p l m act by pub_past shut expired = go (settled past) refl
   where
     same : the_terms past ≡ p.terms
-    same = ap terms_in pub_past
+    same = ap parse_terms pub_past
 
     closed : triggered d past ≡ false
     closed = not-true (triggered d past) (λ t. false≢true (sym shut ∙ triggered-past d h past e m t))
@@ -180,7 +180,7 @@ module _ (d : Deal) (b : Histories) (v : ℕ) (legal : IsLegalBook d b) (conduct
   no_own_transfer a w e to units i k =
       let out = leaves d v a w in
       let m = moment_from_in (history b a) e i in
-      false≢true (kept d b v conducted a m.0 e (Transfer to units) m.1 (ap (λ x. call_by x e) (sym out.1) ∙ k))
+      false≢true (kept d b v conducted a m.0 e (Transfer to units) m.1 (ap (λ x. pick_call x e) (sym out.1) ∙ k))
 
 module _ (d : Deal) (b : Histories) (v : ℕ) (legal : IsLegalBook d b) (conducted : IsConducted d b v) (law : TimesLaw d) (asks : AsksAllBack d b v) where
   -- what was published and wasn't triggered was settled, since it was asked back above the expiry of a lock that stays closed
@@ -226,7 +226,7 @@ module _ (d : Deal) (b : Histories) (v : ℕ) (legal : IsLegalBook d b) (conduct
 
       held_none : (s : Option Settlement) (p : Option Publication) → settled (history b a) ≡ s → published (history b a) ≡ p → held (history b a) ≡ 0
       held_none (Some s) p e f = ap (λ x. cond (is_some x) 0 (the_terms (history b a)).amount) e
-      held_none None None e f = ap (λ x. cond (is_some x) 0 (the_terms (history b a)).amount) e ∙ ap (λ q. (terms_in q).amount) f
+      held_none None None e f = ap (λ x. cond (is_some x) 0 (the_terms (history b a)).amount) e ∙ ap (λ q. (parse_terms q).amount) f
       held_none None (Some p) e f = absurd (unsettled-never a p w shut f e)
 
 -- A party that is nowhere late is watchful.
@@ -250,7 +250,7 @@ claims_all d b v legal ended conducted law in_time a w right t =
     let done =
     done_in_time d b v conducted legal ToClaim a (in_time a (in_range a (length d.graph.arcs) in_arc.0)) (trigger_height d (history b a))
     (claim_enabled d b v legal conducted law a w right t) passed in
-    list_any-in (λ e. is_claiming (call_by v e)) (history b a) done.now
+    list_any-in (λ e. is_claiming (pick_call v e)) (history b a) done.now
     (ap is_claiming (done.called ∙ ap Some (counted_claim d b v a done.now.height done.call done.counted)))
     (subst (IsIn done.now) (sym done.stands.1) (in_from_moment done.past done.now done.stands.0))
 
@@ -261,21 +261,21 @@ on_time_claims d b v legal ended conducted law on_time =
 module _ (d : Deal) (b : Histories) (v : ℕ) (legal : IsLegalBook d b) (ended : IsEnded d b) (conducted : IsConducted d b v)
     (publishes : (a : ℕ) → IsIn a (arcs d.graph) → is_late d b v ToPublish a ≡ false)
     (refunds : (a : ℕ) → IsIn a (arcs d.graph) → is_late d b v ToRefund a ≡ false) (law : TimesLaw d) where
-  pub ready_low : is_ready d b v ≡ true → ready_height d b v ≤ times.open_by d.start d.delta d.bound
+  pub ready_low : is_ready d b v ≡ true → ready_height d b v ≤ times.opening_deadline d.start d.delta d.bound
   ready_low ready = ready_below d b v legal conducted law ready
 
   pub publish_ref : (a : ℕ) → IsIn a (leaving d.graph v) → (leads_one d v || is_ready d b v) ≡ true
-      → (r : ℕ) × (ref_of d b v ToPublish a ≡ Some r) × (r ≤ times.open_by d.start d.delta d.bound)
+      → (r : ℕ) × (ref_of d b v ToPublish a ≡ Some r) × (r ≤ times.opening_deadline d.start d.delta d.bound)
   unfolding ref_of
   publish_ref a w may = go (leads_one d v) refl
     where
-      on : (is_among a (leaving d.graph v) && (leads_one d v || is_ready d b v)) ≡ true
-      on = and_both (is_among a (leaving d.graph v)) _ (in-is_among a (leaving d.graph v) w) may
+      on : (is_listed a (leaving d.graph v) && (leads_one d v || is_ready d b v)) ≡ true
+      on = and_both (is_listed a (leaving d.graph v)) _ (in-is_listed a (leaving d.graph v) w) may
 
       is_at : (r : ℕ) → (if leads_one d v then 0 else ready_height d b v) ≡ r → ref_of d b v ToPublish a ≡ Some r
       is_at r e = ap (λ x. when x (if leads_one d v then 0 else ready_height d b v)) on ∙ ap Some e
 
-      go : (x : Bool) → leads_one d v ≡ x → (r : ℕ) × (ref_of d b v ToPublish a ≡ Some r) × (r ≤ times.open_by d.start d.delta d.bound)
+      go : (x : Bool) → leads_one d v ≡ x → (r : ℕ) × (ref_of d b v ToPublish a ≡ Some r) × (r ≤ times.opening_deadline d.start d.delta d.bound)
       go true e = (0, is_at 0 (ap (λ x. cond x 0 (ready_height d b v)) e), omega arith)
       go false e = (
         ready_height d b v,
@@ -286,7 +286,7 @@ module _ (d : Deal) (b : Histories) (v : ℕ) (legal : IsLegalBook d b) (ended :
 
   -- what v published was published before any lock expires
   published_early : (a : ℕ) (p : Publication) → IsIn a (leaving d.graph v) → published (history b a) ≡ Some p
-      → p.height ≤ times.open_by d.start d.delta d.bound + d.delta
+      → p.height ≤ times.opening_deadline d.start d.delta d.bound + d.delta
   unfolding keeps
   published_early a p w e =
       let out = leaves d v a w in
@@ -294,20 +294,20 @@ module _ (d : Deal) (b : Histories) (v : ℕ) (legal : IsLegalBook d b) (ended :
       let own = own_publish d b v conducted legal a p w e in
       let done = published_done d a (history b a) p l e in
       let by : done.act.by ≡ v = (of_publish d a done.past done.act.by p.terms done.clear).party ∙ out.1 in
-      let called = call_by-act d a done.past done.now (Publish p.terms) v done.act by in
+      let called = pick_call-act d a done.past done.now (Publish p.terms) v done.act by in
       let k =
-      and_three (same_terms p.terms (terms_of d a)) (count_by (λ e. is_publish (call_by v e)) (history b a) == 1) (leads_one d v || is_ready d b v)
+      and_three (same_terms p.terms (stated_terms d a)) (count_by (λ e. is_publish (pick_call v e)) (history b a) == 1) (leads_one d v || is_ready d b v)
       (kept d b v conducted a done.past done.now (Publish p.terms) done.stands called) in
       let r = publish_ref a w own.may in
       let now_ended : times.horizon d.start d.delta d.bound < height (history b a) = ended a out.0 in
       let t1 = law.opens a 0 out.0 in
       let t2 = law.ends a 0 out.0 in
-      let t3 : r.0 ≤ times.open_by d.start d.delta d.bound = r.2 in
+      let t3 : r.0 ≤ times.opening_deadline d.start d.delta d.bound = r.2 in
       let passed : r.0 + d.delta < height (history b a) = omega arith in
       let x = done_in_time d b v conducted legal ToPublish a (publishes a (in_range a (length d.graph.arcs) out.0)) r.0 r.1 passed in
       let c = counted_publish d b v a x.now.height x.call x.counted in
       let one =
-      count_one (λ e. is_publish (call_by v e)) (history b a) done.past x.past done.now x.now (eqb-true _ _ k.1) done.stands x.stands
+      count_one (λ e. is_publish (pick_call v e)) (history b a) done.past x.past done.now x.now (eqb-true _ _ k.1) done.stands x.stands
       (ap is_publish called) (ap is_publish x.called ∙ ap (λ z. is_publish (Some z)) c.1) in
       let t4 : p.height ≡ height done.past = done.at in
       let t5 : done.now.height ≡ height done.past = done.act.at in
@@ -323,19 +323,19 @@ module _ (d : Deal) (b : Histories) (v : ℕ) (legal : IsLegalBook d b) (ended :
       let out = leaves d v a w in
       let l = legal_at d b v conducted legal a out.0 in
       let now_ended : times.horizon d.start d.delta d.bound < height (history b a) = ended a out.0 in
-      let first = first_expiry d a (terms_of d a) (is_open (history b a)) shut in
+      let first = first_expiry d a (stated_terms d a) (is_open (history b a)) shut in
       let t1 = law.opens a first.lock out.0 in
       let t2 = law.ends a first.lock out.0 in
       let t3 = first.height in
       let passed : least_expiry d a (history b a) + d.delta < height (history b a) = omega arith in
-      let on : (is_among a (leaving d.graph v) && is_some (published (history b a)) && not (is_triggered d b a)) ≡ true =
-      and_both (is_among a (leaving d.graph v) && is_some (published (history b a))) _
-      (and_both (is_among a (leaving d.graph v)) _ (in-is_among a (leaving d.graph v) w) shown) (ap not shut) in
+      let on : (is_listed a (leaving d.graph v) && is_some (published (history b a)) && not (is_triggered d b a)) ≡ true =
+      and_both (is_listed a (leaving d.graph v) && is_some (published (history b a))) _
+      (and_both (is_listed a (leaving d.graph v)) _ (in-is_listed a (leaving d.graph v) w) shown) (ap not shut) in
       let y =
       done_in_time d b v conducted legal ToRefund a (refunds a (in_range a (length d.graph.arcs) out.0))
       (least_expiry d a (history b a)) (ap (λ x. when x (least_expiry d a (history b a))) on) passed in
       let c = counted_refund d b v a y.now.height y.call y.counted in
-      let called : call_by v y.now ≡ Some Refund = y.called ∙ ap Some c.0 in
+      let called : pick_call v y.now ≡ Some Refund = y.called ∙ ap Some c.0 in
       let act = act_of d a (history b a) y.past y.now Refund v l y.stands called in
       let done = published_done d a (history b a) p.0 l p.1 in
       let early = published_early a p.0 w p.1 in
@@ -346,7 +346,7 @@ module _ (d : Deal) (b : Histories) (v : ℕ) (legal : IsLegalBook d b) (ended :
       go p.0 done y.past y.now y.stands called apart (moments_in_order (history b a) done.past y.past done.now y.now done.stands y.stands)
     where
       go : {t : ℕ} (p : Publication) (done : Done d a (history b a) (Publish p.terms) t) (past : List Entry) (now : Entry) → IsMoment (history b a) past now
-          → call_by v now ≡ Some Refund → height done.past < height past → Order done.past done.now past now → AsksBack b v a
+          → pick_call v now ≡ Some Refund → height done.past < height past → Order done.past done.now past now → AsksBack b v a
       go p done past now stands called apart (Same q n) = let z : height done.past ≡ height past = ap height q in absurd (omega arith)
       go p done past now stands called apart (Later m) = let z = height-past done.past past now m in absurd (omega arith)
       go p done past now stands called apart (Earlier m) =

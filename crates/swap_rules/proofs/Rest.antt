@@ -10,22 +10,22 @@ use Rattle.swap_digraph.specs.declared.deal.Deal.{Deal}
 use Rattle.swap_digraph.specs.Graph.{leaving, entering}
 use Rattle.swap_digraph.specs.Deal.{locks, leads}
 use Rattle.hashkey_path.specs.declared.hashkey.Hashkey.{Hashkey}
-use Rattle.escrow_core.specs.Terms.{terms_of, least, refund_expiry}
+use Rattle.escrow_core.specs.Terms.{stated_terms, least, refund_expiry}
 use Rattle.escrow_core.specs.Table.{are_open}
 use Rattle.ledger_core.specs.declared.entry.Call.{Call}
 use Rattle.ledger_core.specs.declared.entry.Call.TheVariants.{Publish, Claim, Refund}
 use Rattle.ledger_core.specs.declared.entry.What.{What}
 use Rattle.ledger_core.specs.declared.entry.What.TheVariants.{Call as Made, Tick}
 use Rattle.ledger_core.specs.declared.entry.Entry.{Entry}
-use Rattle.ledger_core.specs.History.{height, accepted, accepted_call, publication, published, opening, opened, settling, settled, triggered, sent_by}
+use Rattle.ledger_core.specs.History.{height, accepted, accepted_call, publication, published, opening, opened, settling, settled, triggered, is_sender}
 use Rattle.ledger_core.specs.Book.{Histories, history}
-use Rattle.ledger_core.specs.History.{call_in}
-use Rattle.swap_rules.specs.Party.{is_correct_in, height_in, is_ready, is_triggered, least_expiry, has_expired, leads_one, call_by}
+use Rattle.ledger_core.specs.History.{read_raw_call}
+use Rattle.swap_rules.specs.Party.{is_arc_correct, publication_height, is_ready, is_triggered, least_expiry, has_expired, leads_one, pick_call}
 use Rattle.swap_rules.specs.Party.{key_without, first_seen_key}
 use Rattle.swap_rules.specs.Conduct.{is_publish}
-use Rattle.swap_rules.specs.Due.{Wallet, is_unlock_for, is_claiming, is_refunding, has_called, is_due_publish, seen_key, extended, due_key, presented}
-use Rattle.swap_rules.specs.Due.{due_unlock_on, is_due_claim, is_due_refund, when_due, due_publishes, due_unlocks, due_claims, due_refunds, due}
-use Rattle.swap_rules.specs.Rest.{is_ticking, are_ticks, is_waiting, least_of, rest_until, StaysLow, TicksMakeNothingDue}
+use Rattle.swap_rules.specs.Due.{Wallet, unlocks_lock, is_claiming, is_refunding, has_called, is_due_publish, seen_key, extended, due_key, presented}
+use Rattle.swap_rules.specs.Due.{due_arc_unlock, is_due_claim, is_due_refund, when_due, due_publishes, due_unlocks, due_claims, due_refunds, due}
+use Rattle.swap_rules.specs.Rest.{is_ticking, are_ticks, is_waiting, least_number, rest_deadline, StaysLow, TicksMakeNothingDue}
 use Rattle.ledger_core.proofs.History.{not-true}
 use Rattle.swap_rules.proofs.Words.{append_empty}
 use Rattle.swap_rules.specs.Machine.{Begins}
@@ -41,10 +41,10 @@ no_call : (w : What) (x : _) → is_ticking w ≡ true → accepted_call w x ≡
 no_call (Made c) x t = absurd (false≢true t)
 no_call (Tick k) x t = refl
 
-pub not_called : (v : ℕ) (e : Entry) → is_ticking e.what ≡ true → call_by v e ≡ None
-not_called v e t = go (sent_by v e.sender) e.what t
+pub not_called : (v : ℕ) (e : Entry) → is_ticking e.what ≡ true → pick_call v e ≡ None
+not_called v e t = go (is_sender v e.sender) e.what t
   where
-    go : (b : Bool) (w : What) → is_ticking w ≡ true → cond b (call_in w) None ≡ None
+    go : (b : Bool) (w : What) → is_ticking w ≡ true → cond b (read_raw_call w) None ≡ None
     go true (Made c) t = absurd (false≢true t)
     go true (Tick k) t = refl
     go false w t = refl
@@ -81,7 +81,7 @@ reads_on v h more t = record {
   publish = first_past (λ e. publication e.height (accepted e)) (λ e s. ap (publication e.height) (no_call e.what e.reply s)) h more t;
   open_at = λ i. first_past (λ e. opening i e.height (accepted e)) (λ e s. ap (opening i e.height) (no_call e.what e.reply s)) h more t;
   settle = first_past (λ e. settling (accepted e)) (λ e s. ap settling (no_call e.what e.reply s)) h more t;
-  calls = λ test n. any_past (λ e. test (call_by v e)) (λ e s. ap test (not_called v e s) ∙ n) h more t;
+  calls = λ test n. any_past (λ e. test (pick_call v e)) (λ e s. ap test (not_called v e s) ∙ n) h more t;
 }
 
 -- Two books in which a party reads the same, heights apart.
@@ -105,24 +105,25 @@ module _ (d : Deal) (v : ℕ) (b c : Histories) (same : (a : ℕ) → ReadsSame 
   ready_on : is_ready d c v ≡ is_ready d b v
   unfolding is_ready
   ready_on =
-      λ j. list_all (λ a. is_correct_in d a (published_on a j) && nat_le (height_in (published_on a j)) (times.open_by d.start d.delta d.bound))
+      λ j. list_all (λ a. is_arc_correct d a (published_on a j) && nat_le (publication_height (published_on a j))
+      (times.opening_deadline d.start d.delta d.bound))
       (entering d.graph v)
 
-  seen_on : (i : ℕ) → first_seen_key d c v i ≡ first_seen_key d b v i
-  seen_on i = λ j. first_of (λ a. key_without v (opened_on a i j)) (leaving d.graph v)
+  first_seen_arc : (i : ℕ) → first_seen_key d c v i ≡ first_seen_key d b v i
+  first_seen_arc i = λ j. first_of (λ a. key_without v (opened_on a i j)) (leaving d.graph v)
 
   pub same_publish : (a : ℕ) → is_due_publish d v c a ≡ is_due_publish d v b a
   unfolding is_due_publish
   same_publish a = λ j. (leads_one d v || ready_on j) && not (called_on is_publish a refl j)
 
   pub same_publishes : due_publishes d v c ≡ due_publishes d v b
-  same_publishes = λ j. flat_map (λ a. when_due (same_publish a j) a (Publish (terms_of d a))) (leaving d.graph v)
+  same_publishes = λ j. flat_map (λ a. when_due (same_publish a j) a (Publish (stated_terms d a))) (leaving d.graph v)
 
-  pub same_unlock : (w : Wallet) (s : Option Hashkey) (i a : ℕ) → due_unlock_on d v w s c i a ≡ due_unlock_on d v w s b i a
-  unfolding due_unlock_on due_key seen_key
+  pub same_unlock : (w : Wallet) (s : Option Hashkey) (i a : ℕ) → due_arc_unlock d v w s c i a ≡ due_arc_unlock d v w s b i a
+  unfolding due_arc_unlock due_key seen_key
   same_unlock w s i a =
-      λ j. cond (ready_on j && not (called_on (is_unlock_for i) a refl j))
-      (presented a (or_else s (cond (leads d v i) (Some (w.first i)) (extended w (seen_on i j))))) []
+      λ j. cond (ready_on j && not (called_on (unlocks_lock i) a refl j))
+      (presented a (or_else s (cond (leads d v i) (Some (w.first i)) (extended w (first_seen_arc i j))))) []
 
   pub same_unlocks : (w : Wallet) (signed : ℕ → Option Hashkey) → due_unlocks d v w signed c ≡ due_unlocks d v w signed b
   same_unlocks w signed = λ j. flat_map (λ i. flat_map (λ a. same_unlock w (signed i) i a j) (entering d.graph v)) (locks d)
@@ -130,14 +131,14 @@ module _ (d : Deal) (v : ℕ) (b c : Histories) (same : (a : ℕ) → ReadsSame 
   pub same_claims : due_claims d v c ≡ due_claims d v b
   unfolding is_due_claim
   same_claims =
-      λ j. flat_map (λ a. when_due (is_correct_in d a (published_on a j) && triggered_on a j && not (called_on is_claiming a refl j)) a Claim)
+      λ j. flat_map (λ a. when_due (is_arc_correct d a (published_on a j) && triggered_on a j && not (called_on is_claiming a refl j)) a Claim)
       (entering d.graph v)
 
   pub same_waiting : (a : ℕ) → is_waiting d v c a ≡ is_waiting d v b a
   same_waiting a = λ j. is_some (published_on a j) && is_none (settled_on a j) && not (triggered_on a j) && not (called_on is_refunding a refl j)
 
   pub same_expiry : (a : ℕ) → least_expiry d a (history c a) ≡ least_expiry d a (history b a)
-  same_expiry a = λ j. refund_expiry d a (terms_of d a) (λ i. is_some (opened_on a i j))
+  same_expiry a = λ j. refund_expiry d a (stated_terms d a) (λ i. is_some (opened_on a i j))
 
 -- Refunds.
 
@@ -199,13 +200,13 @@ no_refunds test (a ∷ arcs) h =
 
 -- The height of rest.
 
-least_below : (xs : List ℕ) (x : ℕ) → IsIn x xs → (t : ℕ) × (least_of xs ≡ Some t) × (t ≤ x)
+least_below : (xs : List ℕ) (x : ℕ) → IsIn x xs → (t : ℕ) × (least_number xs ≡ Some t) × (t ≤ x)
 least_below [] x i = absurd i
 least_below (y ∷ ys) x i = (least (y ∷ ys), refl, least-below (y ∷ ys) x i)
 
 -- where v waits, it rests at most up to the least expiry
 pub rests_below : (d : Deal) (v : ℕ) (k : Histories) (a : ℕ) → IsIn a (leaving d.graph v) → is_waiting d v k a ≡ true
-    → (t : ℕ) × (rest_until d v k ≡ Some t) × (t ≤ least_expiry d a (history k a))
+    → (t : ℕ) × (rest_deadline d v k ≡ Some t) × (t ≤ least_expiry d a (history k a))
 rests_below d v k a i w =
     let expiries = λ (c : ℕ). least_expiry d c (history k c) in
     let waited = filter (is_waiting d v k) (leaving d.graph v) in

@@ -12,12 +12,12 @@ use Rattle.swap_base.proofs.Lists.{greatest-below, in_from_moment, moment_from_i
 use Rattle.swap_digraph.specs.declared.deal.Mode.{Mode}
 use Rattle.swap_digraph.specs.declared.deal.Mode.TheVariants.{Timelocks, Hashkeys}
 use Rattle.swap_digraph.specs.declared.deal.Deal.{Deal}
-use Rattle.swap_digraph.specs.Graph.{arcs, leaving, entering, is_among}
-use Rattle.swap_digraph.specs.Deal.{locks, leads, hashlock_of}
+use Rattle.swap_digraph.specs.Graph.{arcs, leaving, entering, is_listed}
+use Rattle.swap_digraph.specs.Deal.{locks, leads, lock_hashlock}
 use Rattle.hashkey_path.specs.declared.hashkey.Hashkey.{Hashkey}
 use Rattle.hashkey_path.specs.Hashkey.{same_key, is_valid}
 use Rattle.escrow_core.specs.declared.terms.Terms.{Terms}
-use Rattle.escrow_core.specs.Terms.{terms_of, same_terms}
+use Rattle.escrow_core.specs.Terms.{stated_terms, same_terms}
 use Rattle.ledger_core.specs.declared.entry.Call.{Call}
 use Rattle.ledger_core.specs.declared.entry.Call.TheVariants.{Publish, Unlock, Claim, Refund, Transfer}
 use Rattle.ledger_core.specs.declared.entry.Entry.{Entry}
@@ -26,20 +26,21 @@ use Rattle.ledger_core.specs.History.{IsLegalMoment}
 use Rattle.ledger_core.specs.declared.facts.Settlement.{Settlement}
 use Rattle.ledger_core.specs.declared.facts.Settlement.TheVariants.{Claimed, Refunded}
 use Rattle.ledger_core.specs.Book.{Histories, history, IsLegalBook}
-use Rattle.swap_rules.specs.Party.{has_expired, least_expiry, is_correct_in, is_correct, height_in, is_good, is_ready, ready_height, is_triggered}
-use Rattle.swap_rules.specs.Party.{leads_one, call_by, key_in, first_key, first_seen_key, key_without, opens_without}
+use Rattle.swap_rules.specs.Party.{has_expired, least_expiry, is_arc_correct, is_correct, publication_height, is_good, is_ready, ready_height, is_triggered}
+use Rattle.swap_rules.specs.Party.{leads_one, pick_call, fetch_key, first_key, first_seen_key, key_without, opens_without}
 use Rattle.swap_rules.specs.Conduct.{is_publish, is_first_key, has_origin, carries, keeps, IsConducted, extends, extends_without, is_alone}
-use Rattle.swap_rules.specs.Late.{is_carried, is_used, greatest_used, height_of_opening, base_of, trigger_height, when, ref_of, counts, is_done, is_late, late_at}
+use Rattle.swap_rules.specs.Late.{is_carried, is_used, greatest_used, height_of_opening, unlock_base, trigger_height, when, ref_of, counts, is_done}
+use Rattle.swap_rules.specs.Late.{is_late, late_at}
 use Rattle.swap_rules.specs.declared.finding.Rule.{Rule}
 use Rattle.swap_rules.specs.declared.finding.Rule.TheVariants.{Publish as ToPublish, Unlock as ToUnlock, Claim as ToClaim, Refund as ToRefund}
-use Rattle.swap_rules.specs.Findings.{rules_of}
+use Rattle.swap_rules.specs.Findings.{deal_rules}
 use Rattle.swap_rules.specs.Accepted.{IsAccepted, IsTimed}
-use Rattle.swap_rules.specs.Due.{Wallet, is_unlock_for, is_claiming, is_refunding, has_called, is_due_publish, seen_key, extended, due_key, presented}
-use Rattle.swap_rules.specs.Due.{may_unlock, due_unlock_on, is_due_claim, is_due_refund, when_due, due_publishes, due_unlocks, due_claims, due_refunds}
+use Rattle.swap_rules.specs.Due.{Wallet, unlocks_lock, is_claiming, is_refunding, has_called, is_due_publish, seen_key, extended, due_key, presented}
+use Rattle.swap_rules.specs.Due.{may_unlock, due_arc_unlock, is_due_claim, is_due_refund, when_due, due_publishes, due_unlocks, due_claims, due_refunds}
 use Rattle.swap_rules.specs.Due.{due}
 use Rattle.swap_rules.specs.Walking.{is_withheld, pressing_unlocks, pressing}
-use Rattle.swap_digraph.proofs.Paths.{is_among-true}
-use Rattle.swap_rules.proofs.Words.{past_end, key_without_parts, and_three, and_five, enters, leaves, call_by-act, act_of, key_parts}
+use Rattle.swap_digraph.proofs.Paths.{is_listed-true}
+use Rattle.swap_rules.proofs.Words.{past_end, key_without_parts, and_three, and_five, enters, leaves, pick_call-act, act_of, key_parts}
 use Rattle.swap_rules.proofs.Words.{append_empty, flat_map_none, or-left, same_key-refl}
 use Rattle.swap_rules.proofs.Times.{no_path}
 use Rattle.swap_rules.proofs.Openings.{first_expiry, has_expired-lock, expired-least}
@@ -55,7 +56,7 @@ use Rattle.swap_rules.proofs.Refunds.{count_one}
 use Rattle.swap_rules.proofs.Prefixes.{begins_refl, begins_more, moment_more, begins_height, in_front, in_any}
 use Rattle.swap_rules.specs.Laws.{RoundsAreInTime, RoundsAreOnTime, RacesAreInTime}
 use Rattle.swap_rules.specs.Machine.{Begins}
-use Rattle.swap_rules.specs.Rounds.{IsNear, IsRounds, IsDoneBy, IsRaceTurn, AreRaceBooks, book_at}
+use Rattle.swap_rules.specs.Rounds.{IsNear, IsRounds, IsDoneBy, IsRaceTurn, AreRaceBooks, round_book}
 use Rattle.time_bounds.specs.Times as times
 use Rattle.swap_rules.proofs.Forging.{revealed}
 
@@ -84,12 +85,12 @@ pub record NothingDue (d : Deal) (v : ℕ) (signed : ℕ → Option Hashkey) (w 
   pub refund : (a : ℕ) → IsIn a (leaving d.graph v) → is_due_refund d v k a ≡ false
 
 unlock_none : (d : Deal) (v : ℕ) (w : Wallet) (signed : ℕ → Option Hashkey) (k : Histories) (i a : ℕ)
-    → flat_map (due_unlock_on d v w (signed i) k i) (entering d.graph v) ≡ [] → IsIn a (entering d.graph v) → may_unlock d v k i a ≡ true
+    → flat_map (due_arc_unlock d v w (signed i) k i) (entering d.graph v) ≡ [] → IsIn a (entering d.graph v) → may_unlock d v k i a ≡ true
     → due_key d v w (signed i) k i ≡ None
-unfolding due_unlock_on
+unfolding due_arc_unlock
 unlock_none d v w signed k i a e j t =
     present_none (may_unlock d v k i a) a (due_key d v w (signed i) k i)
-    (flat_map_none (due_unlock_on d v w (signed i) k i) (entering d.graph v) a e j) t
+    (flat_map_none (due_arc_unlock d v w (signed i) k i) (entering d.graph v) a e j) t
 
 claim_none : (d : Deal) (v : ℕ) (k : Histories) → due_claims d v k ≡ [] → (a : ℕ) → IsIn a (entering d.graph v) → is_due_claim d v k a ≡ false
 claim_none d v k c a i =
@@ -108,7 +109,7 @@ nothing_presses d v w signed k e =
     let e2 = append_empty (flat_map (pressing_unlocks d v w signed k) (locks d)) (due_claims d v k) e1.0 in
     record {
       unlock = λ i a l j t free. unlock_none d v w signed k i a
-          (ap (λ x. cond x [] (flat_map (due_unlock_on d v w (signed i) k i) (entering d.graph v))) (sym free)
+          (ap (λ x. cond x [] (flat_map (due_arc_unlock d v w (signed i) k i) (entering d.graph v))) (sym free)
           ∙ flat_map_none (pressing_unlocks d v w signed k) (locks d) i e2.0 (in_range i (length d.leaders) l)) j t;
       claim = claim_none d v k e2.1;
       refund = refund_none d v k e1.1;
@@ -122,10 +123,10 @@ nothing_due d v w signed k e =
     let e3 = append_empty (due_publishes d v k) (due_unlocks d v w signed k) e2.0 in
     record {
       publish =
-          λ a i. when_due_none (is_due_publish d v k a) a (Publish (terms_of d a))
-          (flat_map_none (λ a. when_due (is_due_publish d v k a) a (Publish (terms_of d a))) (leaving d.graph v) a e3.0 i);
+          λ a i. when_due_none (is_due_publish d v k a) a (Publish (stated_terms d a))
+          (flat_map_none (λ a. when_due (is_due_publish d v k a) a (Publish (stated_terms d a))) (leaving d.graph v) a e3.0 i);
       unlock = λ i a l j t. unlock_none d v w signed k i a
-          (flat_map_none (λ i. flat_map (due_unlock_on d v w (signed i) k i) (entering d.graph v)) (locks d) i e3.1 (in_range i (length d.leaders) l)) j t;
+          (flat_map_none (λ i. flat_map (due_arc_unlock d v w (signed i) k i) (entering d.graph v)) (locks d) i e3.1 (in_range i (length d.leaders) l)) j t;
       claim = claim_none d v k e2.1;
       refund = refund_none d v k e1.1;
     }
@@ -136,18 +137,18 @@ and_false false = refl
 
 -- no lock is withheld over knowledge of which nothing is more than delta above a height by which contracts open
 pub not_withheld : (d : Deal) (v : ℕ) (k : Histories) (i t : ℕ) → ((a : ℕ) → height (history k a) ≤ t + d.delta)
-    → (leads d v i ≡ true → t ≤ times.open_by d.start d.delta d.bound) → is_withheld d v k i ≡ false
+    → (leads d v i ≡ true → t ≤ times.opening_deadline d.start d.delta d.bound) → is_withheld d v k i ≡ false
 not_withheld d v k i t low early = go (leads d v i) refl
   where
     go : (x : Bool) → leads d v i ≡ x → is_withheld d v k i ≡ false
     go false e =
         ap (λ x. x && is_none (first_key k v i)
-        && not (list_all (λ a. nat_le (height (history k a)) (times.open_by d.start d.delta d.bound + d.delta)) (entering d.graph v))) e
+        && not (list_all (λ a. nat_le (height (history k a)) (times.opening_deadline d.start d.delta d.bound + d.delta)) (entering d.graph v))) e
     go true e =
         let h = early e in
         ap (λ x. leads d v i && is_none (first_key k v i) && not x)
-        (list_all-from (λ a. nat_le (height (history k a)) (times.open_by d.start d.delta d.bound + d.delta)) (entering d.graph v) (λ a j.
-        let l = low a in le-leb (height (history k a)) (times.open_by d.start d.delta d.bound + d.delta) (omega arith)))
+        (list_all-from (λ a. nat_le (height (history k a)) (times.opening_deadline d.start d.delta d.bound + d.delta)) (entering d.graph v) (λ a j.
+        let l = low a in le-leb (height (history k a)) (times.opening_deadline d.start d.delta d.bound + d.delta) (omega arith)))
         ∙ and_false (leads d v i && is_none (first_key k v i))
 
 -- Numbers.
@@ -179,7 +180,7 @@ in_map f [] y i = absurd i
 in_map f (x ∷ xs) y (inl e) = (x, inl refl, e)
 in_map f (x ∷ xs) y (inr i) = let r = in_map f xs y i in (r.0, inr r.1, r.2)
 
-lock_of_rule : (d : Deal) (l : ℕ) → IsIn (ToUnlock l) (rules_of d) → l < length d.leaders
+lock_of_rule : (d : Deal) (l : ℕ) → IsIn (ToUnlock l) (deal_rules d) → l < length d.leaders
 lock_of_rule d l (inl e) = absurd (cc e)
 lock_of_rule d l (inr i) = elim (from_append (map ToUnlock (locks d)) (ToClaim ∷ ToRefund ∷ []) (ToUnlock l) i) [
   | inl j ↦ (let r = in_map ToUnlock (locks d) (ToUnlock l) j in let same : l ≡ r.0 = lock_is l r.0 r.2 in
@@ -201,13 +202,13 @@ pub record Called (v : ℕ) (h : List Entry) (test : Option Call → Bool) : Typ
   pub now : Entry
   pub call : Call
   pub stands : IsMoment h past now
-  pub called : call_by v now ≡ Some call
+  pub called : pick_call v now ≡ Some call
   pub passes : test (Some call) ≡ true
 
 pub called_at : (v : ℕ) (h : List Entry) (test : Option Call → Bool) → test None ≡ false → has_called v test h ≡ true → Called v h test
-called_at v h test n e = let f = any_at (λ x. test (call_by v x)) h e in go f (call_by v f.now) refl
+called_at v h test n e = let f = any_at (λ x. test (pick_call v x)) h e in go f (pick_call v f.now) refl
   where
-    go : (f : AnyAt (λ x. test (call_by v x)) h) → (o : Option Call) → call_by v f.now ≡ o → Called v h test
+    go : (f : AnyAt (λ x. test (pick_call v x)) h) → (o : Option Call) → pick_call v f.now ≡ o → Called v h test
     go f None q = absurd (false≢true (sym n ∙ (ap test (sym q) ∙ f.passes)))
     go f (Some c) q = record { past = f.past; now = f.now; call = c; stands = f.stands; called = q; passes = ap test (sym q) ∙ f.passes }
 
@@ -286,30 +287,30 @@ module _ (d : Deal) (b : Histories) (v : ℕ) (w : Wallet) (ref due : ℕ) (k : 
       let q = is_some-of (opened (history x.known a) i) s in
       q.1 ∙ (sym (opened-more (history x.known a) (history b a) i q.0 (x.grows a) q.1) ∙ e)
 
-  good_known : (a : ℕ) → IsNear d v a → is_good d b a ≡ true → height_in (published (history b a)) ≤ ref → is_good d x.known a ≡ true
+  good_known : (a : ℕ) → IsNear d v a → is_good d b a ≡ true → publication_height (published (history b a)) ≤ ref → is_good d x.known a ≡ true
   good_known a l g low =
       let c = correct d b a (and_parts (is_correct d b a) _ g).0 in
-      let h : height_in (published (history b a)) ≡ c.contract.height = ap height_in c.published in
+      let h : publication_height (published (history b a)) ≡ c.contract.height = ap publication_height c.published in
       let same : published (history x.known a) ≡ published (history b a) = published_known a c.contract l c.published (omega arith) ∙ sym c.published in
-      ap (λ o. is_correct_in d a o && nat_le (height_in o) (times.open_by d.start d.delta d.bound)) same ∙ g
+      ap (λ o. is_arc_correct d a o && nat_le (publication_height o) (times.opening_deadline d.start d.delta d.bound)) same ∙ g
 
   ready_known : is_ready d b v ≡ true → ready_height d b v ≤ ref → is_ready d x.known v ≡ true
   unfolding is_ready ready_height
   ready_known r low = list_all-from (is_good d x.known) (entering d.graph v) (λ a i.
-      let h = greatest-in (λ a. height_in (published (history b a))) (entering d.graph v) a i in
+      let h = greatest-in (λ a. publication_height (published (history b a))) (entering d.graph v) a i in
       good_known a (inr i) (ready_good d b v a r i) (omega arith))
 
   -- a known call of v that counts is in time
   done_by : (rule : Rule) (a : ℕ) (past : List Entry) (e : Entry) (c : Call) → a < length d.graph.arcs → IsMoment (history x.known a) past e
-      → call_by v e ≡ Some c → counts d b v rule a e.height (Some c) ≡ true → is_done d b v rule a due ≡ true
+      → pick_call v e ≡ Some c → counts d b v rule a e.height (Some c) ≡ true → is_done d b v rule a due ≡ true
   done_by rule a past e c l m called counted =
       let m2 = moment_more (history x.known a) (history b a) past e (x.grows a) m in
       let act = act_of d a (history b a) past e c v (legal_on a l) m2 called in
       let at : e.height ≡ height past = act.0.at in
       let h1 = height-past (history x.known a) past e m in
       let h2 = x.high a in
-      list_any-in (λ e. counts d b v rule a e.height (call_by v e) && nat_le e.height due) (history b a) e
-      (and_both (counts d b v rule a e.height (call_by v e)) _ (ap (counts d b v rule a e.height) called ∙ counted) (le-leb e.height due (omega arith)))
+      list_any-in (λ e. counts d b v rule a e.height (pick_call v e) && nat_le e.height due) (history b a) e
+      (and_both (counts d b v rule a e.height (pick_call v e)) _ (ap (counts d b v rule a e.height) called ∙ counted) (le-leb e.height due (omega arith)))
       (subst (IsIn e) (sym m2.1) (in_from_moment past e m2.0))
 
   -- Publish.
@@ -338,9 +339,9 @@ module _ (d : Deal) (b : Histories) (v : ℕ) (w : Wallet) (ref due : ℕ) (k : 
   publish_done : NoPublish → (a : ℕ) → ref_of d b v ToPublish a ≡ Some ref → is_done d b v ToPublish a due ≡ true
   unfolding ref_of counts
   publish_done none a e =
-      let s = when_some (is_among a (leaving d.graph v) && (leads_one d v || is_ready d b v)) (if leads_one d v then 0 else ready_height d b v) ref e in
-      let p = and_parts (is_among a (leaving d.graph v)) (leads_one d v || is_ready d b v) s.0 in
-      let i = is_among-true a (leaving d.graph v) p.0 in
+      let s = when_some (is_listed a (leaving d.graph v) && (leads_one d v || is_ready d b v)) (if leads_one d v then 0 else ready_height d b v) ref e in
+      let p = and_parts (is_listed a (leaving d.graph v)) (leads_one d v || is_ready d b v) s.0 in
+      let i = is_listed-true a (leaving d.graph v) p.0 in
       let c =
       called_at v (history x.known a) is_publish refl (publish_known none a i p.1 (λ f.
       let z : ready_height d b v ≡ ref = ap (λ y. cond y 0 (ready_height d b v)) (sym f) ∙ s.1 in omega arith)) in
@@ -376,14 +377,14 @@ module _ (d : Deal) (b : Histories) (v : ℕ) (w : Wallet) (ref due : ℕ) (k : 
   pub claim_done : (a : ℕ) → ref_of d b v ToClaim a ≡ Some ref → is_done d b v ToClaim a due ≡ true
   unfolding ref_of counts is_due_claim
   claim_done a e =
-      let s = when_some (is_among a (entering d.graph v) && is_correct d b a && is_triggered d b a) (trigger_height d (history b a)) ref e in
-      let p = and_three (is_among a (entering d.graph v)) (is_correct d b a) (is_triggered d b a) s.0 in
-      let i = is_among-true a (entering d.graph v) p.0 in
+      let s = when_some (is_listed a (entering d.graph v) && is_correct d b a && is_triggered d b a) (trigger_height d (history b a)) ref e in
+      let p = and_three (is_listed a (entering d.graph v)) (is_correct d b a) (is_triggered d b a) s.0 in
+      let i = is_listed-true a (entering d.graph v) p.0 in
       let l = (enters d v a i).0 in
       let same : trigger_height d (history b a) ≡ ref = s.1 in
       let t = triggered_known a (inr i) p.2 (omega arith) in
       let shown = open_published a 0 l (list_all-in (is_open (history x.known a)) (locks d) 0 t (in_range 0 (length d.leaders) k.leaders.0)) in
-      let right : is_correct d x.known a ≡ true = ap (is_correct_in d a) (sym (same_published d x.known b a x.grows shown)) ∙ p.1 in
+      let right : is_correct d x.known a ≡ true = ap (is_arc_correct d a) (sym (same_published d x.known b a x.grows shown)) ∙ p.1 in
       let c =
       called_at v (history x.known a) is_claiming refl (and_not (is_correct d x.known a && is_triggered d x.known a)
       (has_called v is_claiming (history x.known a)) (x.idle.claim a i) (and_both (is_correct d x.known a) _ right t)) in
@@ -399,7 +400,7 @@ module _ (d : Deal) (b : Histories) (v : ℕ) (w : Wallet) (ref due : ℕ) (k : 
   refund_is (Transfer to units) e = absurd (cc e)
 
   -- a refund call of v counts: the lock that was closed and expired then stays closed
-  refund_counts : (a : ℕ) (past : List Entry) (e : Entry) → IsIn a (leaving d.graph v) → IsMoment (history x.known a) past e → call_by v e ≡ Some Refund
+  refund_counts : (a : ℕ) (past : List Entry) (e : Entry) → IsIn a (leaving d.graph v) → IsMoment (history x.known a) past e → pick_call v e ≡ Some Refund
       → is_done d b v ToRefund a due ≡ true
   unfolding counts keeps
   refund_counts a past e i m called =
@@ -413,25 +414,26 @@ module _ (d : Deal) (b : Histories) (v : ℕ) (w : Wallet) (ref due : ℕ) (k : 
       done_by ToRefund a past e Refund l m called (lt-ltb (least_expiry d a (history b a)) e.height (expired-least d a (history b a) e.height still))
 
   -- v's accepted publish on a leaving arc is known, where ref is late enough
-  own_known : NoPublish → (a : ℕ) (p : Publication) → IsIn a (leaving d.graph v) → times.open_by d.start d.delta d.bound ≤ ref → published (history b a) ≡ Some p
+  own_known : NoPublish → (a : ℕ) (p : Publication) → IsIn a (leaving d.graph v) → times.opening_deadline d.start d.delta d.bound ≤ ref
+      → published (history b a) ≡ Some p
       → is_some (published (history x.known a)) ≡ true
   unfolding keeps ready_height
   own_known none a p i same e =
       let out = leaves d v a i in
       let done = published_done d a (history b a) p (legal_on a out.0) e in
       let by : done.act.by ≡ v = (of_publish d a done.past done.act.by p.terms done.clear).party ∙ out.1 in
-      let called = call_by-act d a done.past done.now (Publish p.terms) v done.act by in
+      let called = pick_call-act d a done.past done.now (Publish p.terms) v done.act by in
       let r =
-      and_three (same_terms p.terms (terms_of d a)) (count_by (λ e. is_publish (call_by v e)) (history b a) == 1) (leads_one d v || is_ready d b v)
+      and_three (same_terms p.terms (stated_terms d a)) (count_by (λ e. is_publish (pick_call v e)) (history b a) == 1) (leads_one d v || is_ready d b v)
       (kept d b v conducted a done.past done.now (Publish p.terms) done.stands called) in
       let c = called_at v (history x.known a) is_publish refl (publish_known none a i r.2 (λ f.
       let ready : is_ready d b v ≡ true = ap (λ y. y || is_ready d b v) (sym f) ∙ r.2 in
-      let h : ready_height d b v ≤ times.open_by d.start d.delta d.bound =
-      greatest-below (λ a. height_in (published (history b a))) (entering d.graph v) (times.open_by d.start d.delta d.bound)
+      let h : ready_height d b v ≤ times.opening_deadline d.start d.delta d.bound =
+      greatest-below (λ a. publication_height (published (history b a))) (entering d.graph v) (times.opening_deadline d.start d.delta d.bound)
       (λ c w. leb-true _ _ (and_parts (is_correct d b c) _ (ready_good d b v c ready w)).1) in
       omega arith)) in
       let one =
-      count_one (λ e. is_publish (call_by v e)) (history b a) done.past c.past done.now c.now (eqb-true _ 1 r.1) done.stands
+      count_one (λ e. is_publish (pick_call v e)) (history b a) done.past c.past done.now c.now (eqb-true _ 1 r.1) done.stands
       (moment_more (history x.known a) (history b a) c.past c.now (x.grows a) c.stands) (ap is_publish called) (ap is_publish c.called
       ∙ c.passes) in
       first_of-now (λ e. publication e.height (accepted e)) (history x.known a) c.past c.now (record {
@@ -444,13 +446,13 @@ module _ (d : Deal) (b : Histories) (v : ℕ) (w : Wallet) (ref due : ℕ) (k : 
   unfolding ref_of is_due_refund
   refund_done none a e =
       let s =
-      when_some (is_among a (leaving d.graph v) && is_some (published (history b a)) && not (is_triggered d b a)) (least_expiry d a (history b a))
+      when_some (is_listed a (leaving d.graph v) && is_some (published (history b a)) && not (is_triggered d b a)) (least_expiry d a (history b a))
       ref e in
-      let p = and_three (is_among a (leaving d.graph v)) (is_some (published (history b a))) (not (is_triggered d b a)) s.0 in
-      let i = is_among-true a (leaving d.graph v) p.0 in
+      let p = and_three (is_listed a (leaving d.graph v)) (is_some (published (history b a))) (not (is_triggered d b a)) s.0 in
+      let i = is_listed-true a (leaving d.graph v) p.0 in
       let l = (leaves d v a i).0 in
       let q = is_some-of (published (history b a)) p.1 in
-      let first = first_expiry d a (terms_of d a) (is_open (history b a)) (not-true-of _ p.2) in
+      let first = first_expiry d a (stated_terms d a) (is_open (history b a)) (not-true-of _ p.2) in
       let same : least_expiry d a (history b a) ≡ ref = s.1 in
       let t1 = (times_law d k).opens a first.lock l in
       let t2 = first.height in
@@ -485,7 +487,7 @@ module _ (d : Deal) (b : Histories) (v : ℕ) (w : Wallet) (ref due : ℕ) (k : 
           all_moments_front (IsLegalMoment d a) (history x.known a) (x.grows a).0 (subst (IsLegal d a) (x.grows a).1 (legal_on a l)) in
           let c = (refunded_done d a (history x.known a) lk z).1 in
           let by : c.act.by ≡ v = (of_refund d a c.past c.act.by c.clear).party ∙ (leaves d v a i).1 in
-          refund_counts a c.past c.now i c.stands (call_by-act d a c.past c.now Refund v c.act by)
+          refund_counts a c.past c.now i c.stands (pick_call-act d a c.past c.now Refund v c.act by)
 
   -- Unlock.
 
@@ -495,7 +497,7 @@ module _ (d : Deal) (b : Histories) (v : ℕ) (w : Wallet) (ref due : ℕ) (k : 
     leaves : IsIn arc (leaving d.graph v)
     opening : Opening
     opened : opened (history b arc) i ≡ Some opening
-    without : is_among v opening.key.path ≡ false
+    without : is_listed v opening.key.path ≡ false
     early : opening.height ≤ ref
 
   seen_key_some : (i : ℕ) → Seen i → is_some (seen_key d v x.known i) ≡ true
@@ -505,7 +507,7 @@ module _ (d : Deal) (b : Histories) (v : ℕ) (w : Wallet) (ref due : ℕ) (k : 
       first_of-in (λ a. key_without v (opened (history x.known a) i)) (leaving d.graph v) s.arc s.opening.key s.leaves
       (ap (key_without v) o ∙ ap (λ z. cond z None (Some s.opening.key)) s.without)
 
-  opens_without_parts : (o : Option Opening) → opens_without v o ≡ true → (z : Opening) × (o ≡ Some z) × (is_among v z.key.path ≡ false)
+  opens_without_parts : (o : Option Opening) → opens_without v o ≡ true → (z : Opening) × (o ≡ Some z) × (is_listed v z.key.path ≡ false)
   opens_without_parts None e = absurd (cc e)
   opens_without_parts (Some z) e = (z, refl, not-true-of _ e)
 
@@ -513,18 +515,18 @@ module _ (d : Deal) (b : Histories) (v : ℕ) (w : Wallet) (ref due : ℕ) (k : 
   first_rules : (i : ℕ) (key : Hashkey) → first_key b v i ≡ Some key → (key.lock ≡ i) × (has_origin d.mode d b v key ≡ true)
   unfolding first_key keeps
   first_rules i key e =
-      let f = first_at (λ e. key_in i (call_by v e)) (flat_map (λ h. h) b) key e in
-      let parts = key_parts i (call_by v f.now) key f.gives in
+      let f = first_at (λ e. fetch_key i (pick_call v e)) (flat_map (λ h. h) b) key e in
+      let parts = key_parts i (pick_call v f.now) key f.gives in
       let y = from_whole b f.now (subst (IsIn f.now) (sym f.stands.1) (in_from_moment f.past f.now f.stands.0)) in
       let m = moment_from_in (history b y.0) f.now y.2 in
       let q =
-      and_five (is_some (published m.0)) (is_ready d b v) (is_first_key (first_key b v key.lock) key) (is_valid d y.0 (hashlock_of d key.lock) key)
+      and_five (is_some (published m.0)) (is_ready d b v) (is_first_key (first_key b v key.lock) key) (is_valid d y.0 (lock_hashlock d key.lock) key)
       _ (kept d b v conducted y.0 m.0 f.now (Unlock key) m.1 parts.0) in
       (parts.1, q.4)
 
   -- Hashkeys.
 
-  seen_extended : (i t : ℕ) (key : Hashkey) → key.lock ≡ i → (y : Extended d b v key t) → is_among v y.inner.path ≡ false → t ≤ ref → Seen i
+  seen_extended : (i t : ℕ) (key : Hashkey) → key.lock ≡ i → (y : Extended d b v key t) → is_listed v y.inner.path ≡ false → t ≤ ref → Seen i
   seen_extended i t key lock y apart low =
       let out = leaves d v y.arc y.leaves in
       let done = done_at d y.arc (history b y.arc) y.past y.now (Unlock y.inner) t (legal_on y.arc out.0) y.stands y.took y.height in
@@ -540,7 +542,7 @@ module _ (d : Deal) (b : Histories) (v : ℕ) (w : Wallet) (ref due : ℕ) (k : 
         leaves = y.leaves;
         opening = o.0;
         opened = o.1;
-        without = ap (λ z. is_among v z.path) one.0 ∙ apart;
+        without = ap (λ z. is_listed v z.path) one.0 ∙ apart;
         early = omega arith;
       }
 
@@ -593,7 +595,7 @@ module _ (d : Deal) (b : Histories) (v : ℕ) (w : Wallet) (ref due : ℕ) (k : 
       let of_u = of_unlock d c u.0.past u.0.act.by o.0.key u.0.clear in
       let h = greatest-in (λ a. height_of_opening (opened (history b a) i)) (leaving d.graph v) c z in
       let at : height_of_opening (opened (history b c) i) ≡ o.0.height = ap height_of_opening o.1 in
-      record { arc = c; leaves = z; opening = o.0; opened = o.1; without = ap (is_among v) (no_path d c o.0.key mode of_u.path); early = omega arith }
+      record { arc = c; leaves = z; opening = o.0; opened = o.1; without = ap (is_listed v) (no_path d c o.0.key mode of_u.path); early = omega arith }
 
   open_revealed : (i : ℕ) (key : Hashkey) → i < length d.leaders → length d.leaders ≡ 1
       → list_any (λ a. list_any (λ e. carries key.secret (accepted e)) (history b a)) (leaving d.graph v) ≡ true
@@ -617,7 +619,7 @@ module _ (d : Deal) (b : Histories) (v : ℕ) (w : Wallet) (ref due : ℕ) (k : 
   -- what an enabled unlock of a lock that v doesn't lead extends is known
   seen : (i : ℕ) → i < length d.leaders → leads d v i ≡ false
       → (is_some (first_key b v i) || list_any (λ c. opens_without v (opened (history b c) i)) (leaving d.graph v)) ≡ true
-      → base_of d.mode d b v i (first_key b v i) ≤ ref → Seen i
+      → unlock_base d.mode d b v i (first_key b v i) ≤ ref → Seen i
   seen i below f enabled low = go d.mode refl (first_key b v i) refl
     where
       timed : d.mode ≡ Timelocks → length d.leaders ≡ 1
@@ -630,24 +632,24 @@ module _ (d : Deal) (b : Histories) (v : ℕ) (w : Wallet) (ref due : ℕ) (k : 
           ap (λ z. cond z (is_alone v key.path) (list_any (λ a. list_any (λ e. extends_without v key (accepted e)) (history b a)) (leaving d.graph v)))
           (sym (ap (leads d v) r.0 ∙ f)) ∙ (ap (λ m. has_origin m d b v key) (sym em) ∙ r.1) in
           by_extended i key r.0 origin
-          (subst (λ n. n ≤ ref) (ap (λ m. base_of m d b v i (first_key b v i)) em ∙ ap (base_of Hashkeys d b v i) eo) low)
+          (subst (λ n. n ≤ ref) (ap (λ m. unlock_base m d b v i (first_key b v i)) em ∙ ap (unlock_base Hashkeys d b v i) eo) low)
       go Hashkeys em None eo =
           let open_at : list_any (λ c. opens_without v (opened (history b c) i)) (leaving d.graph v) ≡ true =
           ap (λ o. is_some o || list_any (λ c. opens_without v (opened (history b c) i)) (leaving d.graph v)) (sym eo) ∙ enabled in
           by_without i open_at
-          (subst (λ n. n ≤ ref) (ap (λ m. base_of m d b v i (first_key b v i)) em ∙ ap (base_of Hashkeys d b v i) eo) low)
+          (subst (λ n. n ≤ ref) (ap (λ m. unlock_base m d b v i (first_key b v i)) em ∙ ap (unlock_base Hashkeys d b v i) eo) low)
       go Timelocks em (Some key) eo =
           let r = first_rules i key eo in
           let origin : list_any (λ a. list_any (λ e. carries key.secret (accepted e)) (history b a)) (leaving d.graph v) ≡ true =
           ap (λ z. z || list_any (λ a. list_any (λ e. carries key.secret (accepted e)) (history b a)) (leaving d.graph v)) (sym (ap (leads d v) r.0
           ∙ f)) ∙ (ap (λ m. has_origin m d b v key) (sym em) ∙ r.1) in
           let c = open_revealed i key below (timed em) origin in
-          seen_open c.0 i em c.1 c.2 (subst (λ n. n ≤ ref) (ap (λ m. base_of m d b v i (first_key b v i)) em) low)
+          seen_open c.0 i em c.1 c.2 (subst (λ n. n ≤ ref) (ap (λ m. unlock_base m d b v i (first_key b v i)) em) low)
       go Timelocks em None eo =
           let open_at : list_any (λ c. opens_without v (opened (history b c) i)) (leaving d.graph v) ≡ true =
           ap (λ o. is_some o || list_any (λ c. opens_without v (opened (history b c) i)) (leaving d.graph v)) (sym eo) ∙ enabled in
           let c = open_without i open_at in
-          seen_open c.0 i em c.1 c.2 (subst (λ n. n ≤ ref) (ap (λ m. base_of m d b v i (first_key b v i)) em) low)
+          seen_open c.0 i em c.1 c.2 (subst (λ n. n ≤ ref) (ap (λ m. unlock_base m d b v i (first_key b v i)) em) low)
 
   due_key_some : (i : ℕ) → (leads d v i || is_some (seen_key d v x.known i)) ≡ true → due_key d v w (x.signed i) x.known i ≡ None → ⊥
   unfolding due_key
@@ -659,60 +661,61 @@ module _ (d : Deal) (b : Histories) (v : ℕ) (w : Wallet) (ref due : ℕ) (k : 
       go None false (Some key) h e = cc e
       go None false None h e = cc h
 
-  unlock_is : (i : ℕ) (c : Call) → is_unlock_for i (Some c) ≡ true → (key : Hashkey) × (c ≡ Unlock key) × ((key.lock == i) ≡ true)
+  unlock_is : (i : ℕ) (c : Call) → unlocks_lock i (Some c) ≡ true → (key : Hashkey) × (c ≡ Unlock key) × ((key.lock == i) ≡ true)
   unlock_is i (Unlock key) e = (key, refl, e)
   unlock_is i (Publish t) e = absurd (cc e)
   unlock_is i Claim e = absurd (cc e)
   unlock_is i Refund e = absurd (cc e)
   unlock_is i (Transfer to units) e = absurd (cc e)
 
-  unlock_called : (i a : ℕ) → IsIn a (entering d.graph v) → has_called v (is_unlock_for i) (history x.known a) ≡ true → is_done d b v (ToUnlock i) a due ≡ true
+  unlock_called : (i a : ℕ) → IsIn a (entering d.graph v) → has_called v (unlocks_lock i) (history x.known a) ≡ true → is_done d b v (ToUnlock i) a due ≡ true
   unfolding counts keeps
   unlock_called i a z h =
       let l = (enters d v a z).0 in
-      let c = called_at v (history x.known a) (is_unlock_for i) refl h in
+      let c = called_at v (history x.known a) (unlocks_lock i) refl h in
       let u = unlock_is i c.call c.passes in
-      let called : call_by v c.now ≡ Some (Unlock u.0) = c.called ∙ ap Some u.1 in
+      let called : pick_call v c.now ≡ Some (Unlock u.0) = c.called ∙ ap Some u.1 in
       let m = moment_more (history x.known a) (history b a) c.past c.now (x.grows a) c.stands in
       let q =
-      and_five (is_some (published c.past)) (is_ready d b v) (is_first_key (first_key b v u.0.lock) u.0) (is_valid d a (hashlock_of d u.0.lock) u.0)
+      and_five (is_some (published c.past)) (is_ready d b v) (is_first_key (first_key b v u.0.lock) u.0) (is_valid d a (lock_hashlock d u.0.lock) u.0)
       _ (kept d b v conducted a c.past c.now (Unlock u.0) m called) in
       done_by (ToUnlock i) a c.past c.now (Unlock u.0) l c.stands called
       (and_both (u.0.lock == i) _ u.2 (subst (λ j. is_first_key (first_key b v j) u.0 ≡ true) (eqb-true u.0.lock i u.2) q.2))
 
   -- a party is ready by the height by which contracts open
-  low_height : is_ready d b v ≡ true → ready_height d b v ≤ times.open_by d.start d.delta d.bound
+  low_height : is_ready d b v ≡ true → ready_height d b v ≤ times.opening_deadline d.start d.delta d.bound
   unfolding ready_height
-  low_height ready = greatest-below (λ a. height_in (published (history b a))) (entering d.graph v) (times.open_by d.start d.delta d.bound)
+  low_height ready = greatest-below (λ a. publication_height (published (history b a))) (entering d.graph v) (times.opening_deadline d.start d.delta d.bound)
       (λ c w. leb-true _ _ (and_parts (is_correct d b c) _ (ready_good d b v c ready w)).1)
 
   -- an enabled unlock is done, where its lock isn't held back
-  pub unlock_done : (i a : ℕ) → i < length d.leaders → ((leads d v i ≡ true → ref ≤ times.open_by d.start d.delta d.bound) → x.held i ≡ false) → ref_of d b v (ToUnlock i) a ≡ Some ref → is_done d b v (ToUnlock i) a due ≡ true
+  pub unlock_done : (i a : ℕ) → i < length d.leaders → ((leads d v i ≡ true → ref ≤ times.opening_deadline d.start d.delta d.bound) → x.held i ≡ false)
+      → ref_of d b v (ToUnlock i) a ≡ Some ref → is_done d b v (ToUnlock i) a due ≡ true
   unfolding ref_of
   unlock_done i a below free e =
       let s =
-      when_some (is_among a (entering d.graph v) && is_ready d b v
+      when_some (is_listed a (entering d.graph v) && is_ready d b v
       && (leads d v i || is_some (first_key b v i) || list_any (λ c. opens_without v (opened (history b c) i)) (leaving d.graph v)))
-      (if leads d v i then ready_height d b v else max (ready_height d b v) (base_of d.mode d b v i (first_key b v i))) ref e in
-      let p = and_three (is_among a (entering d.graph v)) (is_ready d b v) _ s.0 in
-      let z = is_among-true a (entering d.graph v) p.0 in
-      go z p.1 p.2 s.1 (bool_or (has_called v (is_unlock_for i) (history x.known a))) (leads d v i) refl
+      (if leads d v i then ready_height d b v else max (ready_height d b v) (unlock_base d.mode d b v i (first_key b v i))) ref e in
+      let p = and_three (is_listed a (entering d.graph v)) (is_ready d b v) _ s.0 in
+      let z = is_listed-true a (entering d.graph v) p.0 in
+      go z p.1 p.2 s.1 (bool_or (has_called v (unlocks_lock i) (history x.known a))) (leads d v i) refl
     where
       go : IsIn a (entering d.graph v) → is_ready d b v ≡ true
           → (leads d v i || is_some (first_key b v i) || list_any (λ c. opens_without v (opened (history b c) i)) (leaving d.graph v)) ≡ true
-          → (if leads d v i then ready_height d b v else max (ready_height d b v) (base_of d.mode d b v i (first_key b v i))) ≡ ref
-          → (has_called v (is_unlock_for i) (history x.known a) ≡ true) ⊎ (has_called v (is_unlock_for i) (history x.known a) ≡ false)
+          → (if leads d v i then ready_height d b v else max (ready_height d b v) (unlock_base d.mode d b v i (first_key b v i))) ≡ ref
+          → (has_called v (unlocks_lock i) (history x.known a) ≡ true) ⊎ (has_called v (unlocks_lock i) (history x.known a) ≡ false)
           → (y : Bool) → leads d v i ≡ y → is_done d b v (ToUnlock i) a due ≡ true
       go z ready enabled same (inl h) y f = unlock_called i a z h
       go z ready enabled same (inr h) true f =
           let r : ready_height d b v ≡ ref =
-          ap (λ y. cond y (ready_height d b v) (max (ready_height d b v) (base_of d.mode d b v i (first_key b v i)))) (sym f) ∙ same in
+          ap (λ y. cond y (ready_height d b v) (max (ready_height d b v) (unlock_base d.mode d b v i (first_key b v i)))) (sym f) ∙ same in
           let may = and_both (is_ready d x.known v) _ (ready_known ready (omega arith)) (ap not h) in
           let top = low_height ready in
           absurd (due_key_some i (or-left (leads d v i) _ f) (x.idle.unlock i a below z may (free (λ q. omega arith))))
       go z ready enabled same (inr h) false f =
-          let r : max (ready_height d b v) (base_of d.mode d b v i (first_key b v i)) ≡ ref =
-          ap (λ y. cond y (ready_height d b v) (max (ready_height d b v) (base_of d.mode d b v i (first_key b v i)))) (sym f) ∙ same in
+          let r : max (ready_height d b v) (unlock_base d.mode d b v i (first_key b v i)) ≡ ref =
+          ap (λ y. cond y (ready_height d b v) (max (ready_height d b v) (unlock_base d.mode d b v i (first_key b v i)))) (sym f) ∙ same in
           let may = and_both (is_ready d x.known v) _ (ready_known ready (omega arith)) (ap not h) in
           let known =
           seen i below f (ap (λ y. y || is_some (first_key b v i) || list_any (λ c. opens_without v (opened (history b c) i)) (leaving d.graph v))
@@ -733,7 +736,7 @@ module _ (d : Deal) (b : Histories) (v : ℕ) (w : Wallet) (ref due : ℕ) (k : 
   }
 
   -- an enabled action is done
-  pub informed_done : (rule : Rule) (a : ℕ) → IsIn rule (rules_of d) → ref_of d b v rule a ≡ Some ref → is_done d b v rule a due ≡ true
+  pub informed_done : (rule : Rule) (a : ℕ) → IsIn rule (deal_rules d) → ref_of d b v rule a ≡ Some ref → is_done d b v rule a due ≡ true
   unfolding told
   informed_done ToPublish a i e = publish_done d b v w ref due k legal conducted told x.idle.publish a e
   informed_done (ToUnlock l) a i e = unlock_done d b v w ref due k legal conducted told l a (lock_of_rule d l i) (λ q. refl) e
@@ -770,7 +773,7 @@ module _ (d : Deal) (v : ℕ) (w : Wallet) (ticks slack rounds : ℕ) (books : �
         high = λ a. let h = t.top a in omega arith;
       }
 
-  in_time : (rule : Rule) (a ref : ℕ) → IsIn rule (rules_of d) → IsIn a (arcs d.graph) → ref_of d (books rounds) v rule a ≡ Some ref
+  in_time : (rule : Rule) (a ref : ℕ) → IsIn rule (deal_rules d) → IsIn a (arcs d.graph) → ref_of d (books rounds) v rule a ≡ Some ref
       → IsDoneBy d (books rounds) v rule a (ref + ticks + slack)
   in_time rule a ref i j e =
       let q = next_round ticks some ref in
@@ -791,11 +794,11 @@ rounds_in_time d v w ticks slack rounds books k some x rule a ref i j e = in_tim
 
 done_more : (d : Deal) (b : Histories) (v : ℕ) (rule : Rule) (a s t : ℕ) → s ≤ t → is_done d b v rule a s ≡ true → is_done d b v rule a t ≡ true
 done_more d b v rule a s t l h =
-    let y = in_any (λ e. counts d b v rule a e.height (call_by v e) && nat_le e.height s) (history b a) h in
-    let p = and_parts (counts d b v rule a y.0.height (call_by v y.0)) (nat_le y.0.height s) y.2 in
+    let y = in_any (λ e. counts d b v rule a e.height (pick_call v e) && nat_le e.height s) (history b a) h in
+    let p = and_parts (counts d b v rule a y.0.height (pick_call v y.0)) (nat_le y.0.height s) y.2 in
     let low = leb-true y.0.height s p.1 in
-    list_any-in (λ e. counts d b v rule a e.height (call_by v e) && nat_le e.height t) (history b a) y.0
-    (and_both (counts d b v rule a y.0.height (call_by v y.0)) _ p.0 (le-leb y.0.height t (omega arith))) y.1
+    list_any-in (λ e. counts d b v rule a e.height (pick_call v e) && nat_le e.height t) (history b a) y.0
+    (and_both (counts d b v rule a y.0.height (pick_call v y.0)) _ p.0 (le-leb y.0.height t (omega arith))) y.1
 
 -- an action that is done within delta isn't late
 pub done_not_late : (d : Deal) (b : Histories) (v n : ℕ) → n ≤ d.delta → (rule : Rule) (a : ℕ)
@@ -817,7 +820,7 @@ rounds_on_time d v w ticks slack rounds books k some fast x rule a i j = done_no
 -- Races.
 
 rounds_of_race : (d : Deal) (v : ℕ) (w : Wallet) (ticks rounds : ℕ) (books : List Histories) → AreRaceBooks d v w ticks rounds books
-    → IsRounds d v w ticks ticks rounds (book_at books)
+    → IsRounds d v w ticks ticks rounds (round_book books)
 rounds_of_race d v w ticks rounds books x = record {
   legal = x.legal;
   conducted = x.conducted;
@@ -836,26 +839,26 @@ rounds_of_race d v w ticks rounds books x = record {
       };
 }
   where
-    top : (r : ℕ) → r < rounds → (a : ℕ) → (t : IsRaceTurn d v w (book_at books r) (book_at books (r + 1))) → (y : Bool)
+    top : (r : ℕ) → r < rounds → (a : ℕ) → (t : IsRaceTurn d v w (round_book books r) (round_book books (r + 1))) → (y : Bool)
         → nat_lt a (length d.graph.arcs) ≡ y → height (history (IsRaceTurn.known t) a) ≤ r * ticks + ticks
     top r l a t true e =
         let n = IsRaceTurn.knows t a in
-        let h = begins_height (history (IsRaceTurn.known t) a) (history (book_at books (r + 1)) a) (n.rest, n.whole) in
+        let h = begins_height (history (IsRaceTurn.known t) a) (history (round_book books (r + 1)) a) (n.rest, n.whole) in
         let at = x.at (r + 1) a (omega arith) (in_range a (length d.graph.arcs) (ltb-true a (length d.graph.arcs) e)) in
         omega arith
     top r l a t false e =
         let n = IsRaceTurn.knows t a in
-        let h = begins_height (history (IsRaceTurn.known t) a) (history (book_at books (r + 1)) a) (n.rest, n.whole) in
+        let h = begins_height (history (IsRaceTurn.known t) a) (history (round_book books (r + 1)) a) (n.rest, n.whole) in
         let g = x.legal (r + 1) (omega arith) in
-        let none : history (book_at books (r + 1)) a ≡ [] =
-        past_end (book_at books (r + 1)) a (λ q. false≢true (sym e ∙ lt-ltb a (length d.graph.arcs) (subst (λ z. a < z) g.one_each q))) in
-        let z : ◌≡◌ {A = ℕ} (height (history (book_at books (r + 1)) a)) 0 = ap height none in
+        let none : history (round_book books (r + 1)) a ≡ [] =
+        past_end (round_book books (r + 1)) a (λ q. false≢true (sym e ∙ lt-ltb a (length d.graph.arcs) (subst (λ z. a < z) g.one_each q))) in
+        let z : ◌≡◌ {A = ℕ} (height (history (round_book books (r + 1)) a)) 0 = ap height none in
         omega arith
 
 pub races_in_time : RacesAreInTime
 races_in_time d v w ticks rounds books k some x =
     let y = rounds_of_race d v w ticks rounds books x in (
-      λ rule a ref i j e. subst (λ n. IsDoneBy d (book_at books rounds) v rule a n) (omega arith)
-          (in_time d v w ticks ticks rounds (book_at books) k some y rule a ref i j e),
-      λ fast. rounds_on_time d v w ticks ticks rounds (book_at books) k some (omega arith) y,
+      λ rule a ref i j e. subst (λ n. IsDoneBy d (round_book books rounds) v rule a n) (omega arith)
+          (in_time d v w ticks ticks rounds (round_book books) k some y rule a ref i j e),
+      λ fast. rounds_on_time d v w ticks ticks rounds (round_book books) k some (omega arith) y,
     )

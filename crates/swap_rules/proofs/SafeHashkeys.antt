@@ -8,26 +8,26 @@ use Rattle.swap_base.proofs.Lists.{first_of-in, any_at, list_all-in, list_any-in
 use Rattle.swap_base.proofs.Lists.{greatest-below, in_from_moment, moment_from_in}
 use Rattle.swap_digraph.specs.declared.deal.Deal.{Deal}
 use Rattle.swap_digraph.specs.declared.deal.Mode.TheVariants.{Hashkeys}
-use Rattle.swap_digraph.specs.Graph.{last_is, arcs_of, leaving, entering, is_among}
-use Rattle.swap_digraph.specs.Deal.{locks, leads, leader_of}
+use Rattle.swap_digraph.specs.Graph.{last_is, listed_arcs, leaving, entering, is_listed}
+use Rattle.swap_digraph.specs.Deal.{locks, leads, lock_leader}
 use Rattle.hash_signature.specs.declared.sig.Sig.{Sig}
 use Rattle.hashkey_path.specs.declared.hashkey.Hashkey.{Hashkey}
-use Rattle.escrow_core.specs.Terms.{terms_of, last_in}
+use Rattle.escrow_core.specs.Terms.{stated_terms, last_unlock}
 use Rattle.ledger_core.specs.declared.entry.Call.{Call}
 use Rattle.ledger_core.specs.declared.entry.Call.TheVariants.{Publish, Unlock, Claim, Refund, Transfer}
 use Rattle.ledger_core.specs.declared.entry.Entry.{Entry}
 use Rattle.ledger_core.specs.History.{height, accepted, Opening, opened, is_open}
 use Rattle.ledger_core.specs.Book.{Histories, history, IsLegalBook}
 use Rattle.swap_rules.specs.declared.outcome.Outcome.TheVariants.{Underwater}
-use Rattle.swap_rules.specs.Party.{is_ready, ready_height, is_triggered, call_by, key_in, first_key, opens_without, first_seen_key}
+use Rattle.swap_rules.specs.Party.{is_ready, ready_height, is_triggered, pick_call, fetch_key, first_key, opens_without, first_seen_key}
 use Rattle.swap_rules.specs.Conduct.{is_first_key, IsConducted, extends, extends_with, extends_without}
-use Rattle.swap_rules.specs.Late.{is_carried, is_used, height_if, greatest_used, base_of, when, ref_of}
+use Rattle.swap_rules.specs.Late.{is_carried, is_used, height_if, greatest_used, unlock_base, when, ref_of}
 use Rattle.swap_rules.specs.Forged.{forges, has_made, has_forged_suffix}
 use Rattle.swap_rules.specs.Outcome.{outcome, IsEnded}
-use Rattle.swap_rules.proofs.Entering.{DueUnlock, UnlocksInTime, call_of, call_due, ready_below, gets_all}
-use Rattle.swap_digraph.proofs.Paths.{in-is_among, last_in as end_in, some_length}
+use Rattle.swap_rules.proofs.Entering.{DueUnlock, UnlocksInTime, parse_call, call_due, ready_below, gets_all}
+use Rattle.swap_digraph.proofs.Paths.{in-is_listed, last_unlock as end_in, some_length}
 use Rattle.swap_rules.proofs.Words.{leaves, or-left, or-first, key_parts, same_key-path, leader_reads}
-use Rattle.swap_rules.proofs.Times.{HashkeyLaw, below_horizon, deadline_mono, deadline_next, deadline_first, deadline_last, path_of, times_of_hashkeys}
+use Rattle.swap_rules.proofs.Times.{HashkeyLaw, below_horizon, deadline_mono, deadline_next, deadline_first, deadline_last, make_path, times_of_hashkeys}
 use Rattle.ledger_core.proofs.History.{done_at, of_unlock, published-past, is_some-of, not-true-of, lock-below}
 use Rattle.swap_rules.specs.Laws.{IsUnforged}
 use Rattle.swap_rules.specs.Walking.{UnlocksAll, ClaimsAll, HasLost, IsUnrevealed}
@@ -40,31 +40,31 @@ pub record MadeFor (b : Histories) (v i : ℕ) : Type 0 where
   pub entry : Entry
   pub key : Hashkey
   pub stands : IsIn entry (flat_map (λ h. h) b)
-  pub called : call_by v entry ≡ Some (Unlock key)
+  pub called : pick_call v entry ≡ Some (Unlock key)
   pub lock : key.lock ≡ i
 
-made_for : (b : Histories) (v : ℕ) (key : Hashkey) → has_made b v key ≡ true → MadeFor b v key.lock
-made_for b v key h =
-    let e = any_at (λ e. is_first_key (key_in key.lock (call_by v e)) key) (flat_map (λ h. h) b) h in
-    go e.now (subst (IsIn e.now) (sym e.stands.1) (in_from_moment e.past e.now e.stands.0)) (key_in key.lock (call_by v e.now)) refl e.passes
+renewed_wallet : (b : Histories) (v : ℕ) (key : Hashkey) → has_made b v key ≡ true → MadeFor b v key.lock
+renewed_wallet b v key h =
+    let e = any_at (λ e. is_first_key (fetch_key key.lock (pick_call v e)) key) (flat_map (λ h. h) b) h in
+    go e.now (subst (IsIn e.now) (sym e.stands.1) (in_from_moment e.past e.now e.stands.0)) (fetch_key key.lock (pick_call v e.now)) refl e.passes
   where
-    go : (e : Entry) → IsIn e (flat_map (λ h. h) b) → (o : Option Hashkey) → key_in key.lock (call_by v e) ≡ o → is_first_key o key ≡ true
+    go : (e : Entry) → IsIn e (flat_map (λ h. h) b) → (o : Option Hashkey) → fetch_key key.lock (pick_call v e) ≡ o → is_first_key o key ≡ true
         → MadeFor b v key.lock
     go e i None k q = absurd (cc q)
-    go e i (Some k') k q = let parts = key_parts key.lock (call_by v e) k' k in record { entry = e; key = k'; stands = i; called = parts.0; lock = parts.1 }
+    go e i (Some k') k q = let parts = key_parts key.lock (pick_call v e) k' k in record { entry = e; key = k'; stands = i; called = parts.0; lock = parts.1 }
 
 -- a hashkey that isn't forged in v's name, with v on its path, shows a call of v for its lock
 suffix_made : (b : Histories) (v : ℕ) (key : Hashkey) (p : List ℕ) (sigs : List Sig) → has_forged_suffix b v key p sigs ≡ false → length p ≡ length sigs
-    → is_among v p ≡ true → MadeFor b v key.lock
+    → is_listed v p ≡ true → MadeFor b v key.lock
 suffix_made b v key [] sigs f l i = absurd (cc i)
 suffix_made b v key (u ∷ p) [] f l i = absurd (cc l)
 suffix_made b v key (u ∷ p) (s ∷ sigs) f l i =
     go (u == v) (has_made b v (record { lock = key.lock; secret = key.secret; path = u ∷ p; sigs = s ∷ sigs })) (has_forged_suffix b v key p sigs) f i
-    (made_for b v (record { lock = key.lock; secret = key.secret; path = u ∷ p; sigs = s ∷ sigs }))
+    (renewed_wallet b v (record { lock = key.lock; secret = key.secret; path = u ∷ p; sigs = s ∷ sigs }))
     (λ g j. suffix_made b v key p sigs g (omega arith) j)
   where
-    go : (x y z : Bool) → ((x && not y) || z) ≡ false → (x || is_among v p) ≡ true → (y ≡ true → MadeFor b v key.lock)
-        → (z ≡ false → is_among v p ≡ true → MadeFor b v key.lock) → MadeFor b v key.lock
+    go : (x y z : Bool) → ((x && not y) || z) ≡ false → (x || is_listed v p) ≡ true → (y ≡ true → MadeFor b v key.lock)
+        → (z ≡ false → is_listed v p ≡ true → MadeFor b v key.lock) → MadeFor b v key.lock
     go true true z f i m rest = m refl
     go true false z f i m rest = absurd (cc f)
     go false y z f i m rest = rest f i
@@ -97,9 +97,9 @@ extended_key v key (Some (Transfer to units)) e = absurd (cc e)
 
 -- what an extension of a hashkey without v says of that hashkey
 pub extended_without : (v : ℕ) (key : Hashkey) (o : Option Call) → extends_without v key o ≡ true
-    → (inner : Hashkey) × (o ≡ Some (Unlock inner)) × (is_among v inner.path ≡ false) × (extends_with v inner key.path key.sigs key ≡ true)
+    → (inner : Hashkey) × (o ≡ Some (Unlock inner)) × (is_listed v inner.path ≡ false) × (extends_with v inner key.path key.sigs key ≡ true)
 extended_without v key (Some (Unlock inner)) e =
-    let k = and_parts (not (is_among v inner.path)) (extends_with v inner key.path key.sigs key) e in
+    let k = and_parts (not (is_listed v inner.path)) (extends_with v inner key.path key.sigs key) e in
     (inner, refl, not-true-of _ k.0, k.1)
 extended_without v key None e = absurd (cc e)
 extended_without v key (Some (Publish t)) e = absurd (cc e)
@@ -153,40 +153,40 @@ longer g v inner (u ∷ p) (s ∷ sigs) key e =
 
 module _ (d : Deal) (b : Histories) (v : ℕ) (legal : IsLegalBook d b) (conducted : IsConducted d b v)
     (law : HashkeyLaw d) where
-  last_is_deadline : (a : ℕ) (key : Hashkey) → last_in d.mode (terms_of d a) key ≡ times.deadline d.start d.delta d.bound (arcs_of key.path)
-  last_is_deadline a key = ap (λ m. last_in m (terms_of d a) key) law.mode
+  last_is_deadline : (a : ℕ) (key : Hashkey) → last_unlock d.mode (stated_terms d a) key ≡ times.deadline d.start d.delta d.bound (listed_arcs key.path)
+  last_is_deadline a key = ap (λ m. last_unlock m (stated_terms d a) key) law.mode
 
   module _ (ready : is_ready d b v ≡ true) where
-    g_low_hashkeys : ready_height d b v ≤ times.open_by d.start d.delta d.bound
+    g_low_hashkeys : ready_height d b v ≤ times.opening_deadline d.start d.delta d.bound
     g_low_hashkeys = ready_below d b v legal conducted (times_of_hashkeys d law) ready
 
     -- the base height is in time for every hashkey that v may use, and for the horizon
     record InTime (o : Option Hashkey) (t : ℕ) : Type 0 where
       ends : t + d.delta ≤ times.horizon d.start d.delta d.bound
-      early : (key : Hashkey) → is_first_key o key ≡ true → t + d.delta ≤ times.deadline d.start d.delta d.bound (arcs_of key.path)
+      early : (key : Hashkey) → is_first_key o key ≡ true → t + d.delta ≤ times.deadline d.start d.delta d.bound (listed_arcs key.path)
 
-    first_in_time : (t : ℕ) → t ≤ times.open_by d.start d.delta d.bound → (o : Option Hashkey) → InTime o t
+    first_in_time : (t : ℕ) → t ≤ times.opening_deadline d.start d.delta d.bound → (o : Option Hashkey) → InTime o t
     first_in_time t h o =
         let z = deadline_first d.start d.delta d.bound in
         record {
           ends = omega arith;
-          early = λ key f. let m = deadline_mono d.start d.delta d.bound 0 (arcs_of key.path) (omega arith) in omega arith;
+          early = λ key f. let m = deadline_mono d.start d.delta d.bound 0 (listed_arcs key.path) (omega arith) in omega arith;
         }
 
     -- an unlock that was accepted on a leaving arc was in time
     taken_in_time : (a : ℕ) (past : List Entry) (e : Entry) (key : Hashkey) → IsIn a (leaving d.graph v) → IsMoment (history b a) past e
         → accepted e ≡ Some (Unlock key)
-        → (e.height ≤ times.deadline d.start d.delta d.bound (arcs_of key.path)) × (arcs_of key.path ≤ d.bound) × (0 < length key.path)
+        → (e.height ≤ times.deadline d.start d.delta d.bound (listed_arcs key.path)) × (listed_arcs key.path ≤ d.bound) × (0 < length key.path)
     taken_in_time a past e key w m took =
         let out = leaves d v a w in
         let done = done_at d a (history b a) past e (Unlock key) e.height (legal_at d b v conducted legal a out.0) m took refl in
         let of_u = of_unlock d a done.past done.act.by key done.clear in
         let pub_whole = published-past (history b a) done.past done.now of_u.contract done.stands of_u.published in
-        let terms : of_u.contract.terms ≡ terms_of d a = OwnPublish.correct (own_publish d b v conducted legal a of_u.contract w pub_whole) in
-        let e2 : height done.past ≤ last_in d.mode (terms_of d a) key = subst (λ t. height done.past ≤ last_in d.mode t key) terms of_u.in_time in
+        let terms : of_u.contract.terms ≡ stated_terms d a = OwnPublish.correct (own_publish d b v conducted legal a of_u.contract w pub_whole) in
+        let e2 : height done.past ≤ last_unlock d.mode (stated_terms d a) key = subst (λ t. height done.past ≤ last_unlock d.mode t key) terms of_u.in_time in
         let e1 = last_is_deadline a key in
-        let p = path_of d a key law.mode of_u.path in
-        let k : arcs_of key.path ≤ d.bound = law.path key.path key.lock (lock-below d a key done.act.fits) p.path p.last in
+        let p = make_path d a key law.mode of_u.path in
+        let k : listed_arcs key.path ≤ d.bound = law.path key.path key.lock (lock-below d a key done.act.fits) p.path p.last in
         let e3 : e.height ≡ height done.past = done.at in
         (omega arith, k, some_length d.graph key.path p.path)
 
@@ -194,12 +194,12 @@ module _ (d : Deal) (b : Histories) (v : ℕ) (legal : IsLegalBook d b) (conduct
         → accepted e ≡ Some (Unlock key) → e.height ≤ times.last_expiry d.start d.delta d.bound
     taken_ends a past e key w m took =
         let t = taken_in_time a past e key w m took in
-        let x : e.height ≤ times.deadline d.start d.delta d.bound (arcs_of key.path) = t.0 in
-        let y = deadline_mono d.start d.delta d.bound (arcs_of key.path) d.bound t.1 in
+        let x : e.height ≤ times.deadline d.start d.delta d.bound (listed_arcs key.path) = t.0 in
+        let y = deadline_mono d.start d.delta d.bound (listed_arcs key.path) d.bound t.1 in
         let z = deadline_last d.start d.delta d.bound in
         omega arith
 
-    base_in_time : (i : ℕ) → i < length d.leaders → (o : Option Hashkey) → InTime o (base_of Hashkeys d b v i o)
+    base_in_time : (i : ℕ) → i < length d.leaders → (o : Option Hashkey) → InTime o (unlock_base Hashkeys d b v i o)
     base_in_time i below None =
         let h =
         used_below d b v (is_used d b v i None) (times.last_expiry d.start d.delta d.bound) (λ a past e w m t.
@@ -215,19 +215,20 @@ module _ (d : Deal) (b : Histories) (v : ℕ) (legal : IsLegalBook d b) (conduct
           ends = omega arith;
           early = λ key q.
               let z1 = deadline_first d.start d.delta d.bound in
-              let z2 = deadline_mono d.start d.delta d.bound 0 (arcs_of key.path) (omega arith) in
-              let g = used_below d b v (is_used d b v i (Some first)) (times.deadline d.start d.delta d.bound (arcs_of key.path) - d.delta) (λ a past e w m t.
+              let z2 = deadline_mono d.start d.delta d.bound 0 (listed_arcs key.path) (omega arith) in
+              let g = used_below d b v (is_used d b v i (Some first)) (times.deadline d.start d.delta d.bound (listed_arcs key.path) - d.delta)
+              (λ a past e w m t.
               let x = extended_key v first (accepted e) t in
               let t1 = taken_in_time a past e x.0 w m x.1 in
               let some = t1.2 in
-              let e4 : e.height ≤ times.deadline d.start d.delta d.bound (arcs_of x.0.path) = t1.0 in
+              let e4 : e.height ≤ times.deadline d.start d.delta d.bound (listed_arcs x.0.path) = t1.0 in
               let long = longer first v x.0 first.path first.sigs first x.2 in
               let same = same_key-path first key q in
               let l1 : length first.path ≡ suc (length x.0.path) = long.0 in
               let l2 : length first.path ≡ length key.path = ap length same.1 in
-              let l3 : arcs_of x.0.path + 1 ≡ arcs_of key.path = omega arith in
-              let n = deadline_next d.start d.delta d.bound (arcs_of x.0.path) in
-              let n2 : times.deadline d.start d.delta d.bound (arcs_of x.0.path + 1) ≡ times.deadline d.start d.delta d.bound (arcs_of key.path) =
+              let l3 : listed_arcs x.0.path + 1 ≡ listed_arcs key.path = omega arith in
+              let n = deadline_next d.start d.delta d.bound (listed_arcs x.0.path) in
+              let n2 : times.deadline d.start d.delta d.bound (listed_arcs x.0.path + 1) ≡ times.deadline d.start d.delta d.bound (listed_arcs key.path) =
               ap (times.deadline d.start d.delta d.bound) l3 in
               omega arith) in
               omega arith;
@@ -243,19 +244,19 @@ module _ (d : Deal) (b : Histories) (v : ℕ) (legal : IsLegalBook d b) (conduct
     unfolding ref_of
     due_known_hashkeys a i w below known = go (leads d v i) refl
       where
-        on : (is_among a (entering d.graph v) && is_ready d b v && is_known d b v i) ≡ true
+        on : (is_listed a (entering d.graph v) && is_ready d b v && is_known d b v i) ≡ true
         on =
-            and_both (is_among a (entering d.graph v) && is_ready d b v) _
-            (and_both (is_among a (entering d.graph v)) (is_ready d b v) (in-is_among a (entering d.graph v) w) ready) known
+            and_both (is_listed a (entering d.graph v) && is_ready d b v) _
+            (and_both (is_listed a (entering d.graph v)) (is_ready d b v) (in-is_listed a (entering d.graph v) w) ready) known
 
-        due_at : (r : ℕ) → (if leads d v i then ready_height d b v else max (ready_height d b v) (base_of d.mode d b v i (first_key b v i))) ≡ r
+        due_at : (r : ℕ) → (if leads d v i then ready_height d b v else max (ready_height d b v) (unlock_base d.mode d b v i (first_key b v i))) ≡ r
             → InTime (first_key b v i) r → DueUnlock d b v a i
         due_at r e in_time = record {
           within = below;
           ref = r;
           value = sym e;
           enabled =
-              ap (λ x. when x (if leads d v i then ready_height d b v else max (ready_height d b v) (base_of d.mode d b v i (first_key b v i)))) on
+              ap (λ x. when x (if leads d v i then ready_height d b v else max (ready_height d b v) (unlock_base d.mode d b v i (first_key b v i)))) on
               ∙ ap Some e;
           ends = in_time.ends;
           early = λ key valid first. let e1 = in_time.early key first in let e2 = last_is_deadline a key in omega arith;
@@ -263,32 +264,32 @@ module _ (d : Deal) (b : Histories) (v : ℕ) (legal : IsLegalBook d b) (conduct
 
         go : (x : Bool) → leads d v i ≡ x → DueUnlock d b v a i
         go true e =
-            due_at (ready_height d b v) (ap (λ x. cond x (ready_height d b v) (max (ready_height d b v) (base_of d.mode d b v i (first_key b v i)))) e)
+            due_at (ready_height d b v) (ap (λ x. cond x (ready_height d b v) (max (ready_height d b v) (unlock_base d.mode d b v i (first_key b v i)))) e)
             (first_in_time (ready_height d b v) g_low_hashkeys (first_key b v i))
         go false e =
-            due_at (max (ready_height d b v) (base_of d.mode d b v i (first_key b v i)))
-            (ap (λ x. cond x (ready_height d b v) (max (ready_height d b v) (base_of d.mode d b v i (first_key b v i)))) e)
-            (max_in_time (first_key b v i) (ready_height d b v) (base_of d.mode d b v i (first_key b v i))
+            due_at (max (ready_height d b v) (unlock_base d.mode d b v i (first_key b v i)))
+            (ap (λ x. cond x (ready_height d b v) (max (ready_height d b v) (unlock_base d.mode d b v i (first_key b v i)))) e)
+            (max_in_time (first_key b v i) (ready_height d b v) (unlock_base d.mode d b v i (first_key b v i))
             (first_in_time (ready_height d b v) g_low_hashkeys (first_key b v i))
-            (subst (λ m. InTime (first_key b v i) (base_of m d b v i (first_key b v i))) (sym law.mode) (base_in_time i below (first_key b v i))))
+            (subst (λ m. InTime (first_key b v i) (unlock_base m d b v i (first_key b v i))) (sym law.mode) (base_in_time i below (first_key b v i))))
 
   module _ (unforged : IsUnforged d b v) where
     -- v's calls that an open lock of a leaving arc shows
-    made_of : (a i : ℕ) → IsIn a (leaving d.graph v) → (o : Opening) → Opener d b v legal conducted law.lock a i o → is_among v o.key.path ≡ true
+    made_of : (a i : ℕ) → IsIn a (leaving d.graph v) → (o : Opening) → Opener d b v legal conducted law.lock a i o → is_listed v o.key.path ≡ true
         → MadeFor b v i
     made_of a i w o u among =
         let f : forges Hashkeys d b v (Some (Unlock o.key)) ≡ false =
         ap (λ m. forges m d b v (Some (Unlock o.key))) (sym law.mode) ∙ (ap (forges d.mode d b v) (sym u.took) ∙ unforged a u.past u.now w u.stands) in
-        let p = path_of d a o.key law.mode u.path in
+        let p = make_path d a o.key law.mode u.path in
         subst (λ j. MadeFor b v j) u.lock (suffix_made b v o.key o.key.path o.key.sigs (forges_hashkeys b d v o.key f) p.lengths among)
 
     -- v's call for a lock of its own, which an open lock of a leaving arc shows
     own_made : (a i : ℕ) → i < length d.leaders → IsIn a (leaving d.graph v) → leads d v i ≡ true → (o : Opening)
         → Opener d b v legal conducted law.lock a i o → MadeFor b v i
     own_made a i below w l o u =
-        let p = path_of d a o.key law.mode u.path in
-        let last : last_is v o.key.path ≡ true = subst (λ x. last_is x o.key.path ≡ true) (ap (leader_of d) u.lock ∙ leader_reads d v i below l) p.last in
-        made_of a i w o u (in-is_among v o.key.path (end_in v o.key.path last))
+        let p = make_path d a o.key law.mode u.path in
+        let last : last_is v o.key.path ≡ true = subst (λ x. last_is x o.key.path ≡ true) (ap (lock_leader d) u.lock ∙ leader_reads d v i below l) p.last in
+        made_of a i w o u (in-is_listed v o.key.path (end_in v o.key.path last))
 
     shown_hashkeys : (a i : ℕ) → i < length d.leaders → IsIn a (leaving d.graph v) → leads d v i ≡ true → (o : Opening)
         → Opener d b v legal conducted law.lock a i o → Shown b v
@@ -308,7 +309,7 @@ module _ (d : Deal) (b : Histories) (v : ℕ) (legal : IsLegalBook d b) (conduct
 
     known_open_hashkeys : (c i : ℕ) → IsIn c (leaving d.graph v) → is_open (history b c) i ≡ true → is_known d b v i ≡ true
     unfolding first_key
-    known_open_hashkeys c i z t = go (is_among v o.0.key.path) refl
+    known_open_hashkeys c i z t = go (is_listed v o.0.key.path) refl
       where
         o : (o : Opening) × (opened (history b c) i ≡ Some o)
         o = is_some-of (opened (history b c) i) t
@@ -316,12 +317,13 @@ module _ (d : Deal) (b : Histories) (v : ℕ) (legal : IsLegalBook d b) (conduct
         u : Opener d b v legal conducted law.lock c i o.0
         u = opener_at d b v legal conducted law.lock c i z o.0 o.1
 
-        go : (x : Bool) → is_among v o.0.key.path ≡ x → is_known d b v i ≡ true
+        go : (x : Bool) → is_listed v o.0.key.path ≡ x → is_known d b v i ≡ true
         go true e =
             let m = made_of c i z o.0 u e in
-            let key_is : key_in i (call_by v m.entry) ≡ Some m.key = ap (key_in i) m.called ∙ ap (λ x. cond x (Some m.key) None) (eq-eqb m.key.lock i m.lock) in
+            let key_is : fetch_key i (pick_call v m.entry) ≡ Some m.key = ap (fetch_key i) m.called
+            ∙ ap (λ x. cond x (Some m.key) None) (eq-eqb m.key.lock i m.lock) in
             or-first (leads d v i) (is_some (first_key b v i)) _
-            (or-left (is_some (first_key b v i)) _ (first_of-in (λ e. key_in i (call_by v e)) (flat_map (λ h. h) b) m.entry m.key m.stands key_is))
+            (or-left (is_some (first_key b v i)) _ (first_of-in (λ e. fetch_key i (pick_call v e)) (flat_map (λ h. h) b) m.entry m.key m.stands key_is))
         go false e =
             or-right (leads d v i || is_some (first_key b v i)) _ (list_any-in (λ c.
             opens_without v (opened (history b c) i)) (leaving d.graph v) c (ap (opens_without v) o.1 ∙ ap not e) z)
@@ -339,7 +341,7 @@ module _ (d : Deal) (b : Histories) (v : ℕ) (legal : IsLegalBook d b) (conduct
         (λ a i w k.
         let below = from_range i (length d.leaders) k in
         let due = due_known_hashkeys ready a i w below (known_open_hashkeys lost.0 i lost.1 (list_all-in (is_open (history b lost.0)) (locks d) i lost.2 k)) in
-        call_of d b v i a (unlocks stake i a due.ref below due.enabled)) missing.0 missing.1 in
+        parse_call d b v i a (unlocks stake i a due.ref below due.enabled)) missing.0 missing.1 in
         false≢true (sym missing.2 ∙ has)
 
 -- an enabled unlock that isn't late is called while its hashkey is accepted

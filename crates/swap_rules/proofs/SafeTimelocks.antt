@@ -6,21 +6,21 @@ use Rattle.swap_base.specs.Lists.{IsIn, greatest}
 use Rattle.swap_base.proofs.Lists.{from_whole, moment_from_in, list_all-in, list_any-in, or-right, from_range, and_both, greatest-below}
 use Rattle.swap_digraph.specs.declared.deal.Deal.{Deal}
 use Rattle.swap_digraph.specs.declared.deal.Mode.TheVariants.{Timelocks}
-use Rattle.swap_digraph.specs.Graph.{leaving, entering, is_among}
+use Rattle.swap_digraph.specs.Graph.{leaving, entering, is_listed}
 use Rattle.swap_digraph.specs.Deal.{locks, leads}
 use Rattle.hashkey_path.specs.declared.hashkey.Hashkey.{Hashkey}
-use Rattle.escrow_core.specs.Terms.{terms_of, last_in}
+use Rattle.escrow_core.specs.Terms.{stated_terms, last_unlock}
 use Rattle.ledger_core.specs.declared.entry.Call.TheVariants.{Unlock}
 use Rattle.ledger_core.specs.History.{Opening, opened, is_open}
 use Rattle.ledger_core.specs.Book.{Histories, history, IsLegalBook}
 use Rattle.swap_rules.specs.declared.outcome.Outcome.TheVariants.{Underwater}
 use Rattle.swap_rules.specs.Party.{is_ready, ready_height, is_triggered, first_key, opens_without}
 use Rattle.swap_rules.specs.Conduct.{IsConducted}
-use Rattle.swap_rules.specs.Late.{height_of_opening, base_of, when, ref_of}
+use Rattle.swap_rules.specs.Late.{height_of_opening, unlock_base, when, ref_of}
 use Rattle.swap_rules.specs.Forged.{forges}
 use Rattle.swap_rules.specs.Outcome.{outcome, IsEnded}
-use Rattle.swap_rules.proofs.Entering.{DueUnlock, UnlocksInTime, call_of, call_due, ready_below, gets_all}
-use Rattle.swap_digraph.proofs.Paths.{in-is_among}
+use Rattle.swap_rules.proofs.Entering.{DueUnlock, UnlocksInTime, parse_call, call_due, ready_below, gets_all}
+use Rattle.swap_digraph.proofs.Paths.{in-is_listed}
 use Rattle.swap_rules.proofs.Words.{enters, act_of}
 use Rattle.swap_rules.proofs.Times.{TimelockLaw, last-timelock, below_horizon, times_of_timelocks, no_path}
 use Rattle.ledger_core.proofs.History.{is_some-of, lock-below}
@@ -35,16 +35,16 @@ module _ (d : Deal) (b : Histories) (v : ℕ) (legal : IsLegalBook d b) (conduct
   some_lock = (times_of_timelocks d law).lock
 
   module _ (ready : is_ready d b v ≡ true) where
-    g_low : ready_height d b v ≤ times.open_by d.start d.delta d.bound
+    g_low : ready_height d b v ≤ times.opening_deadline d.start d.delta d.bound
     g_low = ready_below d b v legal conducted (times_of_timelocks d law) ready
 
     -- what was opened on a leaving arc can be passed on in time
     base_low : (a : ℕ) → IsIn a (entering d.graph v) → leads d v 0 ≡ false → (o : Option Hashkey)
-        → base_of d.mode d b v 0 o + d.delta ≤ slice_index d.timelocks a
+        → unlock_base d.mode d b v 0 o + d.delta ≤ slice_index d.timelocks a
     base_low a w l o =
-        let early : times.open_by d.start d.delta d.bound + d.delta ≤ slice_index d.timelocks a = law.opens a (enters d v a w).0 in
-        let k : base_of d.mode d b v 0 o ≡ greatest (λ c. height_of_opening (opened (history b c) 0)) (leaving d.graph v) =
-        ap (λ m. base_of m d b v 0 o) law.mode in
+        let early : times.opening_deadline d.start d.delta d.bound + d.delta ≤ slice_index d.timelocks a = law.opens a (enters d v a w).0 in
+        let k : unlock_base d.mode d b v 0 o ≡ greatest (λ c. height_of_opening (opened (history b c) 0)) (leaving d.graph v) =
+        ap (λ m. unlock_base m d b v 0 o) law.mode in
         let low : greatest (λ c. height_of_opening (opened (history b c) 0)) (leaving d.graph v) ≤ slice_index d.timelocks a - d.delta =
         greatest-below (λ c. height_of_opening (opened (history b c) 0)) (leaving d.graph v) (slice_index d.timelocks a - d.delta) (λ c z.
         go c z (opened (history b c) 0) refl) in
@@ -55,8 +55,8 @@ module _ (d : Deal) (b : Histories) (v : ℕ) (legal : IsLegalBook d b) (conduct
         go c z None e = omega arith
         go c z (Some x) e =
             let u = opener_at d b v legal conducted some_lock c 0 z x e in
-            let in_time : x.height ≤ last_in d.mode (terms_of d c) x.key = u.in_time in
-            let same : last_in d.mode (terms_of d c) x.key ≡ slice_index d.timelocks c = last-timelock d (terms_of d c) x.key law.mode in
+            let in_time : x.height ≤ last_unlock d.mode (stated_terms d c) x.key = u.in_time in
+            let same : last_unlock d.mode (stated_terms d c) x.key ≡ slice_index d.timelocks c = last-timelock d (stated_terms d c) x.key law.mode in
             let step : slice_index d.timelocks c + d.delta ≤ slice_index d.timelocks a = law.steps v a c w z l in
             omega arith
 
@@ -65,12 +65,12 @@ module _ (d : Deal) (b : Histories) (v : ℕ) (legal : IsLegalBook d b) (conduct
     unfolding ref_of
     due_known_zero a w known = go (leads d v 0) refl
       where
-        on : (is_among a (entering d.graph v) && is_ready d b v && is_known d b v 0) ≡ true
+        on : (is_listed a (entering d.graph v) && is_ready d b v && is_known d b v 0) ≡ true
         on =
-            and_both (is_among a (entering d.graph v) && is_ready d b v) _
-            (and_both (is_among a (entering d.graph v)) (is_ready d b v) (in-is_among a (entering d.graph v) w) ready) known
+            and_both (is_listed a (entering d.graph v) && is_ready d b v) _
+            (and_both (is_listed a (entering d.graph v)) (is_ready d b v) (in-is_listed a (entering d.graph v) w) ready) known
 
-        due_at : (r : ℕ) → (if leads d v 0 then ready_height d b v else max (ready_height d b v) (base_of d.mode d b v 0 (first_key b v 0))) ≡ r
+        due_at : (r : ℕ) → (if leads d v 0 then ready_height d b v else max (ready_height d b v) (unlock_base d.mode d b v 0 (first_key b v 0))) ≡ r
             → r + d.delta ≤ slice_index d.timelocks a → DueUnlock d b v a 0
         due_at r e low =
             let last : slice_index d.timelocks a ≤ times.last_expiry d.start d.delta d.bound = law.ends a (enters d v a w).0 in
@@ -80,25 +80,25 @@ module _ (d : Deal) (b : Histories) (v : ℕ) (legal : IsLegalBook d b) (conduct
               ref = r;
               value = sym e;
               enabled =
-                  ap (λ x. when x (if leads d v 0 then ready_height d b v else max (ready_height d b v) (base_of d.mode d b v 0 (first_key b v 0)))) on
+                  ap (λ x. when x (if leads d v 0 then ready_height d b v else max (ready_height d b v) (unlock_base d.mode d b v 0 (first_key b v 0)))) on
                   ∙ ap Some e;
               ends = omega arith;
-              early = λ key valid first. let same : last_in d.mode (terms_of d a) key ≡ slice_index d.timelocks a =
-                  last-timelock d (terms_of d a) key law.mode in omega arith;
+              early = λ key valid first. let same : last_unlock d.mode (stated_terms d a) key ≡ slice_index d.timelocks a =
+                  last-timelock d (stated_terms d a) key law.mode in omega arith;
             }
 
         go : (x : Bool) → leads d v 0 ≡ x → DueUnlock d b v a 0
         go true e =
             let g = g_low in
-            let early : times.open_by d.start d.delta d.bound + d.delta ≤ slice_index d.timelocks a = law.opens a (enters d v a w).0 in
-            due_at (ready_height d b v) (ap (λ x. cond x (ready_height d b v) (max (ready_height d b v) (base_of d.mode d b v 0 (first_key b v 0)))) e)
+            let early : times.opening_deadline d.start d.delta d.bound + d.delta ≤ slice_index d.timelocks a = law.opens a (enters d v a w).0 in
+            due_at (ready_height d b v) (ap (λ x. cond x (ready_height d b v) (max (ready_height d b v) (unlock_base d.mode d b v 0 (first_key b v 0)))) e)
             (omega arith)
         go false e =
             let g = g_low in
-            let early : times.open_by d.start d.delta d.bound + d.delta ≤ slice_index d.timelocks a = law.opens a (enters d v a w).0 in
+            let early : times.opening_deadline d.start d.delta d.bound + d.delta ≤ slice_index d.timelocks a = law.opens a (enters d v a w).0 in
             let base = base_low a w e (first_key b v 0) in
-            due_at (max (ready_height d b v) (base_of d.mode d b v 0 (first_key b v 0)))
-            (ap (λ x. cond x (ready_height d b v) (max (ready_height d b v) (base_of d.mode d b v 0 (first_key b v 0)))) e) (omega arith)
+            due_at (max (ready_height d b v) (unlock_base d.mode d b v 0 (first_key b v 0)))
+            (ap (λ x. cond x (ready_height d b v) (max (ready_height d b v) (unlock_base d.mode d b v 0 (first_key b v 0)))) e) (omega arith)
 
     due_known : (a i : ℕ) → IsIn a (entering d.graph v) → i < length d.leaders → is_known d b v i ≡ true → DueUnlock d b v a i
     due_known a i w below known =
@@ -112,7 +112,7 @@ module _ (d : Deal) (b : Histories) (v : ℕ) (legal : IsLegalBook d b) (conduct
       let o = is_some-of (opened (history b c) i) t in
       let u = opener_at d b v legal conducted some_lock c i z o.0 o.1 in
       or-right (leads d v i || is_some (first_key b v i)) _ (list_any-in (λ c. opens_without v (opened (history b c) i)) (leaving d.graph v) c
-      (ap (opens_without v) o.1 ∙ ap (λ p. not (is_among v p)) (no_path d c o.0.key law.mode u.path)) z)
+      (ap (opens_without v) o.1 ∙ ap (λ p. not (is_listed v p)) (no_path d c o.0.key law.mode u.path)) z)
 
   module _ (unforged : IsUnforged d b v) where
     shown : (a i : ℕ) → i < length d.leaders → IsIn a (leaving d.graph v) → leads d v i ≡ true → (o : Opening)
@@ -153,7 +153,7 @@ module _ (d : Deal) (b : Histories) (v : ℕ) (legal : IsLegalBook d b) (conduct
         (λ a i w k.
         let below = from_range i (length d.leaders) k in
         let due = due_known ready a i w below (known_open lost.0 i lost.1 (list_all-in (is_open (history b lost.0)) (locks d) i lost.2 k)) in
-        call_of d b v i a (unlocks stake i a due.ref below due.enabled)) missing.0 missing.1 in
+        parse_call d b v i a (unlocks stake i a due.ref below due.enabled)) missing.0 missing.1 in
         false≢true (sym missing.2 ∙ has)
 
 -- an enabled unlock that isn't late is called while its hashkey is accepted

@@ -16,26 +16,27 @@ use Rattle.swap_digraph.specs.declared.deal.Mode.{Mode}
 use Rattle.swap_digraph.specs.declared.deal.Deal.{Deal}
 use Rattle.swap_digraph.specs.Value.{Graph}
 use Rattle.swap_digraph.specs.declared.deal.Mode.TheVariants.{Timelocks, Hashkeys}
-use Rattle.swap_digraph.specs.Graph.{ends, leaving, entering, IsPathBetween, has_arc, IsFeedback}
-use Rattle.swap_digraph.specs.Deal.{party, counterparty, locks, leads, leader_of, amount, hashlock_of, touches}
+use Rattle.swap_digraph.specs.Graph.{ends, leaving, entering, IsConnectingPath, has_arc, IsFeedback}
+use Rattle.swap_digraph.specs.Deal.{party, counterparty, locks, leads, lock_leader, amount, lock_hashlock, touches}
 use Rattle.hashkey_path.specs.declared.hashkey.Hashkey.{Hashkey}
 use Rattle.hashkey_path.specs.Hashkey.{same_key, is_valid}
 use Rattle.ledger_core.specs.declared.entry.Call.{Call}
 use Rattle.ledger_core.specs.declared.entry.Call.TheVariants.{Publish, Unlock, Claim, Refund, Transfer}
 use Rattle.ledger_core.specs.declared.entry.Entry.{Entry}
 use Rattle.ledger_core.specs.History.{height, accepted, Publication, publication, published, opened, settling, settled, is_open, triggered, IsLegal}
-use Rattle.ledger_core.specs.History.{accounts, held, balance, IsLegalMoment, the_terms, terms_in}
+use Rattle.ledger_core.specs.History.{accounts, held, balance, IsLegalMoment, the_terms, parse_terms}
 use Rattle.ledger_core.specs.declared.facts.Settlement.TheVariants.{Refunded}
 use Rattle.ledger_core.specs.Book.{Histories, history, IsLegalBook}
 use Rattle.swap_rules.specs.declared.finding.Rule.TheVariants.{Claim as ToClaim}
 use Rattle.swap_rules.specs.declared.outcome.Outcome.TheVariants.{NoDeal, FreeRide, Underwater, Deal as WholeDeal, Discount}
-use Rattle.swap_rules.specs.Party.{is_correct, height_in, is_good, is_ready, ready_height, is_triggered, call_by, key_in, first_key, opens_without}
+use Rattle.swap_rules.specs.Party.{is_correct, publication_height, is_good, is_ready, ready_height, is_triggered, pick_call, fetch_key, first_key}
+use Rattle.swap_rules.specs.Party.{opens_without}
 use Rattle.swap_rules.specs.Conduct.{is_first_key, keeps, IsConducted}
-use Rattle.swap_rules.specs.Late.{is_used, height_of_opening, base_of, trigger_height}
+use Rattle.swap_rules.specs.Late.{is_used, height_of_opening, unlock_base, trigger_height}
 use Rattle.swap_rules.specs.Outcome.{is_claim, is_got, got, lost, outcome, IsEnded}
 use Rattle.swap_rules.specs.Accepted.{IsAccepted, HasTimelock, IsTimed}
 use Rattle.swap_rules.specs.Laws.{IsOnTime, AllConform, IsClaimedBy, AllIsTransferred}
-use Rattle.swap_rules.proofs.Times.{TimeLaw, OfTimelocks, OfHashkeys, path_of, path_of_valid, PathOf, TimesLaw}
+use Rattle.swap_rules.proofs.Times.{TimeLaw, OfTimelocks, OfHashkeys, make_path, path_of_valid, PathOf, TimesLaw}
 use Rattle.swap_rules.proofs.Accepted.{times_law, time_law, arc_has, get_in, one_leader}
 use Rattle.swap_rules.proofs.Entering.{opens, Unlocked, trigger_ends, claims, DueUnlock, claim_enabled, correct_entering, call_due, unlocks_in_time}
 use Rattle.swap_rules.proofs.Leaving.{Passing, is_known}
@@ -44,7 +45,7 @@ use Rattle.swap_rules.proofs.SafeHashkeys.{passing_hashkeys, longer, used_below,
 use Rattle.swap_rules.proofs.Calls.{counted_claim, kept, legal_at, done_in_time}
 use Rattle.swap_rules.proofs.Openings.{IsOpenBy, open_by_more, claim_claims_by, opened_once}
 use Rattle.swap_rules.proofs.Publishing.{every_good, enters_own, leaves_own, from_below, good_of, height_low}
-use Rattle.swap_rules.proofs.Words.{claim_rule, same_key-path, key_parts, and_five, enters, act_of, call_by-act, leaves}
+use Rattle.swap_rules.proofs.Words.{claim_rule, same_key-path, key_parts, and_five, enters, act_of, pick_call-act, leaves}
 use Rattle.ledger_core.proofs.Units.{units, after, settled-published}
 use Rattle.ledger_core.proofs.History.{done_at, opened_done, of_unlock, of_publish, of_claim, of_refund, clear_at, published-past, legal-past, is_some-of}
 use Rattle.swap_rules.proofs.Refunds.{counterparty_empty, NoOwnTransfer, no_own_transfer, on_time_claims}
@@ -64,8 +65,8 @@ get_past : {A : Type 0} (past : List A) (x : A) (rest : List A) (z : A) → get_
 get_past [] x rest z = refl
 get_past (y ∷ past) x rest z = get_past past x rest z
 
-arc_of : (g : Graph) (u v : ℕ) → has_arc g u v ≡ true → ArcOf g u v
-arc_of g u v e =
+parse_arc : (g : Graph) (u v : ℕ) → has_arc g u v ≡ true → ArcOf g u v
+parse_arc g u v e =
     let f = any_at (λ a. (a.from == u) && (a.to == v)) g.arcs e in
     let k = and_parts (f.now.from == u) (f.now.to == v) f.passes in
     let at : ends g (length f.past) ≡ f.now =
@@ -95,7 +96,7 @@ module _ (d : Deal) (b : Histories) (v : ℕ) (legal : IsLegalBook d b) (ended :
       let done =
       done_in_time d b v conducted legal ToClaim a (on_time ToClaim a (claim_rule d) (in_range a (length d.graph.arcs) in_arc.0))
       (trigger_height d (history b a)) (claim_enabled d b v legal conducted law a w right open_all) passed in
-      let called : call_by v done.now ≡ Some Claim = done.called ∙ ap Some (counted_claim d b v a done.now.height done.call done.counted) in
+      let called : pick_call v done.now ≡ Some Claim = done.called ∙ ap Some (counted_claim d b v a done.now.height done.call done.counted) in
       let act = act_of d a (history b a) done.past done.now Claim v l done.stands called in
       let shown : triggered d done.past ≡ true = kept d b v conducted a done.past done.now Claim done.stands called in
       let o = is_some-of (opened done.past 0) (list_all-in (is_open done.past) (locks d) 0 shown (in_range 0 (length d.leaders) law.lock)) in
@@ -109,7 +110,7 @@ module _ (d : Deal) (b : Histories) (v : ℕ) (legal : IsLegalBook d b) (ended :
       let at2 = c.height in
       record { past = c.past; now = c.now; stands = c.stands; claims = c.claims; height = omega arith }
 
-leads_zero : (d : Deal) (v i : ℕ) → i < length d.leaders → leader_of d i ≡ v → leads d v i ≡ true
+leads_zero : (d : Deal) (v i : ℕ) → i < length d.leaders → lock_leader d i ≡ v → leads d v i ≡ true
 leads_zero d v i l e = eq-eqb _ v (get_or_default d.leaders i d.graph.n 0 l ∙ e)
 
 -- What a claim pays stays.
@@ -153,7 +154,7 @@ module _ (d : Deal) (a : ℕ) where
       let u = units d a h l0 in
       let same = u.same in
       let held_is : held h ≡ of_c.contract.terms.amount =
-      ap (λ x. cond (is_some x) 0 (the_terms h).amount) of_c.unsettled ∙ ap (λ x. (terms_in x).amount) of_c.published in
+      ap (λ x. cond (is_some x) 0 (the_terms h).amount) of_c.unsettled ∙ ap (λ x. (parse_terms x).amount) of_c.published in
       let is_amount = right of_c.contract of_c.published in
       ap (λ x. x.counterparty) (after d a h e e.sender (Some Claim) refl q) ∙ omega arith
   paid_step h e (Some (Transfer to units)) q l l0 own n right c rest = absurd (n e to units (in_append h (e ∷ []) e (inr (inl refl))) q)
@@ -189,9 +190,9 @@ module _ (d : Deal) (b : Histories) (k : IsAccepted d) (legal : IsLegalBook d b)
 
   g_by : (v : ℕ) → ready_height d b v ≤ (k.height + 1) * d.delta
   unfolding ready_height
-  g_by v = greatest-below (λ a. height_in (published (history b a))) (entering d.graph v) ((k.height + 1) * d.delta) (λ a w.
+  g_by v = greatest-below (λ a. publication_height (published (history b a))) (entering d.graph v) ((k.height + 1) * d.delta) (λ a w.
       let g = every_good d b k legal ended all a (enters d v a w).0 in
-      subst (λ z. height_in z ≤ (k.height + 1) * d.delta) (sym g.published) g.early)
+      subst (λ z. publication_height z ≤ (k.height + 1) * d.delta) (sym g.published) g.early)
 
   passing : (v : ℕ) → v < d.graph.n → Passing d b v
   passing v below = go (time_law d k)
@@ -215,7 +216,7 @@ module _ (d : Deal) (b : Histories) (k : IsAccepted d) (legal : IsLegalBook d b)
       )
 
   -- Along a path to the leader every entering arc is opened.
-  opens_along : (p : List ℕ) (v : ℕ) → v < d.graph.n → (i : ℕ) → i < length d.leaders → IsPathBetween d.graph v (leader_of d i) p → (a : ℕ)
+  opens_along : (p : List ℕ) (v : ℕ) → v < d.graph.n → (i : ℕ) → i < length d.leaders → IsConnectingPath d.graph v (lock_leader d i) p → (a : ℕ)
       → IsIn a (entering d.graph v) → is_open (history b a) i ≡ true
   opens_along [] v below i l path a w = absurd (cc path.0)
   opens_along (u ∷ []) v below i l path a w =
@@ -223,68 +224,68 @@ module _ (d : Deal) (b : Histories) (k : IsAccepted d) (legal : IsLegalBook d b)
       let known : is_known d b v i ≡ true =
       ap (λ x. x || is_some (first_key b v i) || list_any (λ c. opens_without v (opened (history b c) i)) (leaving d.graph v)) lead in
       let r = unlocked v below a i w l known in
-      ap is_some r.1.open_by.opened
+      ap is_some r.1.opening_deadline.opened
   opens_along (u ∷ y ∷ p) v below i l path a w =
       let s = path_step d.graph u y p path.0 in
-      let arc = arc_of d.graph u y s.arc in
+      let arc = parse_arc d.graph u y s.arc in
       let from : party d arc.arc ≡ v = arc.from ∙ eqb-true u v path.1 in
       let open_there = opens_along (y ∷ p) y (subst (λ z. z < d.graph.n) arc.to (to_below arc.arc arc.below)) i l (s.rest, eq-eqb y y refl, path.2) arc.arc
       (subst (λ z. IsIn arc.arc (entering d.graph z)) arc.to (enters_own d b k legal ended all arc.arc arc.below)) in
       let known =
       (passing v below).known arc.arc i (subst (λ z. IsIn arc.arc (leaving d.graph z)) from (leaves_own d b k legal ended all arc.arc arc.below))
       open_there in
-      ap is_some (unlocked v below a i w l known).1.open_by.opened
+      ap is_some (unlocked v below a i w l known).1.opening_deadline.opened
 
-  path_to : (v l : ℕ) → v < d.graph.n → l < d.graph.n → (p : List ℕ) × IsPathBetween d.graph v l p
+  path_to : (v l : ℕ) → v < d.graph.n → l < d.graph.n → (p : List ℕ) × IsConnectingPath d.graph v l p
   path_to v l below lb = go (v == l) refl
     where
-      go : (x : Bool) → (v == l) ≡ x → (p : List ℕ) × IsPathBetween d.graph v l p
+      go : (x : Bool) → (v == l) ≡ x → (p : List ℕ) × IsConnectingPath d.graph v l p
       go true e = (v ∷ [], (lt-ltb v d.graph.n below, eq-eqb v v refl, e))
       go false e = k.strong v l below lb (λ q. false≢true (sym e ∙ eq-eqb v l q))
 
   opens_everywhere : (a i : ℕ) → a < length d.graph.arcs → i < length d.leaders → is_open (history b a) i ≡ true
   opens_everywhere a i la li =
       let v = counterparty d a in
-      let path = path_to (counterparty d a) (leader_of d i) (to_below a la) (k.leader i li) in
+      let path = path_to (counterparty d a) (lock_leader d i) (to_below a la) (k.leader i li) in
       opens_along path.0 (counterparty d a) (to_below a la) i li path.1 a (enters_own d b k legal ended all a la)
 
   -- every party but the leader has a leaving arc, so it knows each lock
   all_known : (v : ℕ) → v < d.graph.n → (i : ℕ) → i < length d.leaders → is_known d b v i ≡ true
   all_known v below i l =
-      let path = path_to v (leader_of d i) below (k.leader i l) in
+      let path = path_to v (lock_leader d i) below (k.leader i l) in
       go path.0 path.1
     where
-      go : (p : List ℕ) → IsPathBetween d.graph v (leader_of d i) p → is_known d b v i ≡ true
+      go : (p : List ℕ) → IsConnectingPath d.graph v (lock_leader d i) p → is_known d b v i ≡ true
       go [] path = absurd (cc path.0)
       go (u ∷ []) path =
           let lead : leads d v i ≡ true = leads_zero d v i l (sym (eqb-true u _ path.2) ∙ eqb-true u v path.1) in
           ap (λ x. x || is_some (first_key b v i) || list_any (λ c. opens_without v (opened (history b c) i)) (leaving d.graph v)) lead
       go (u ∷ y ∷ p) path =
           let s = path_step d.graph u y p path.0 in
-          let arc = arc_of d.graph u y s.arc in
+          let arc = parse_arc d.graph u y s.arc in
           let from : party d arc.arc ≡ v = arc.from ∙ eqb-true u v path.1 in
           (passing v below).known arc.arc i (subst (λ z. IsIn arc.arc (leaving d.graph z)) from (leaves_own d b k legal ended all arc.arc arc.below))
           (opens_everywhere arc.arc i arc.below l)
 
   -- where v's ref height is low, v's entering arcs are opened by then
   opened_by_ref : (v : ℕ) → v < d.graph.n → (a i t : ℕ) → IsIn a (entering d.graph v) → i < length d.leaders
-      → (leads d v i ≡ true → ready_height d b v ≤ t) → (leads d v i ≡ false → max (ready_height d b v) (base_of d.mode d b v i (first_key b v i)) ≤ t)
+      → (leads d v i ≡ true → ready_height d b v ≤ t) → (leads d v i ≡ false → max (ready_height d b v) (unlock_base d.mode d b v i (first_key b v i)) ≤ t)
       → IsOpenBy (history b a) i (t + d.delta)
   opened_by_ref v below a i t w l if_lead if_not =
       let r = unlocked v below a i w l (all_known v below i l) in
       let low : r.0.ref ≤ t = go (leads d v i) refl r.0.value in
-      open_by_more (history b a) i (r.0.ref + d.delta) (t + d.delta) (omega arith) r.1.open_by
+      open_by_more (history b a) i (r.0.ref + d.delta) (t + d.delta) (omega arith) r.1.opening_deadline
     where
       go : (x : Bool) → leads d v i ≡ x → {n : ℕ}
-          → n ≡ cond (leads d v i) (ready_height d b v) (max (ready_height d b v) (base_of d.mode d b v i (first_key b v i))) → n ≤ t
+          → n ≡ cond (leads d v i) (ready_height d b v) (max (ready_height d b v) (unlock_base d.mode d b v i (first_key b v i))) → n ≤ t
       go true e q = let z =
-          if_lead e in let y : cond (leads d v i) (ready_height d b v) (max (ready_height d b v) (base_of d.mode d b v i (first_key b v i)))
-          ≡ ready_height d b v = ap (λ x. cond x (ready_height d b v) (max (ready_height d b v) (base_of d.mode d b v i (first_key b v i)))) e in
+          if_lead e in let y : cond (leads d v i) (ready_height d b v) (max (ready_height d b v) (unlock_base d.mode d b v i (first_key b v i)))
+          ≡ ready_height d b v = ap (λ x. cond x (ready_height d b v) (max (ready_height d b v) (unlock_base d.mode d b v i (first_key b v i)))) e in
           omega arith
       go false e q = let z = if_not e in
-          let y : cond (leads d v i) (ready_height d b v) (max (ready_height d b v) (base_of d.mode d b v i (first_key b v i)))
-          ≡ max (ready_height d b v) (base_of d.mode d b v i (first_key b v i)) =
-          ap (λ x. cond x (ready_height d b v) (max (ready_height d b v) (base_of d.mode d b v i (first_key b v i)))) e in omega arith
+          let y : cond (leads d v i) (ready_height d b v) (max (ready_height d b v) (unlock_base d.mode d b v i (first_key b v i)))
+          ≡ max (ready_height d b v) (unlock_base d.mode d b v i (first_key b v i)) =
+          ap (λ x. cond x (ready_height d b v) (max (ready_height d b v) (unlock_base d.mode d b v i (first_key b v i)))) e in omega arith
 
   -- The heights, with T the time that the path takes.
 
@@ -301,10 +302,10 @@ module _ (d : Deal) (b : Histories) (k : IsAccepted d) (legal : IsLegalBook d b)
   by_g v m = let e = g_by v in let f = by_mono 0 m (omega arith) in let z : by_height 0 ≡ (k.height + 1) * d.delta = omega arith in omega arith
 
   base_max : d.mode ≡ Timelocks → (v t : ℕ) → ready_height d b v ≤ t → ((c : ℕ) → IsIn c (leaving d.graph v) → IsOpenBy (history b c) 0 t)
-      → max (ready_height d b v) (base_of d.mode d b v 0 (first_key b v 0)) ≤ t
+      → max (ready_height d b v) (unlock_base d.mode d b v 0 (first_key b v 0)) ≤ t
   base_max mode v t g opens =
-      let e : base_of d.mode d b v 0 (first_key b v 0) ≡ greatest (λ a. height_of_opening (opened (history b a) 0)) (leaving d.graph v) =
-      ap (λ m. base_of m d b v 0 (first_key b v 0)) mode in
+      let e : unlock_base d.mode d b v 0 (first_key b v 0) ≡ greatest (λ a. height_of_opening (opened (history b a) 0)) (leaving d.graph v) =
+      ap (λ m. unlock_base m d b v 0 (first_key b v 0)) mode in
       let low : greatest (λ a. height_of_opening (opened (history b a) 0)) (leaving d.graph v) ≤ t =
       greatest-below (λ a. height_of_opening (opened (history b a) 0)) (leaving d.graph v) t
       (λ c z. subst (λ q. height_of_opening q ≤ t) (sym (opens c z).opened) (opens c z).early) in
@@ -315,8 +316,8 @@ module _ (d : Deal) (b : Histories) (k : IsAccepted d) (legal : IsLegalBook d b)
       → leads d (counterparty d a) 0 ≡ false → (x : HasTimelock d a) (y : HasTimelock d c) → y.dist + 1 ≤ x.dist
   fall timed a c la lc e f x y =
       let v = counterparty d a in
-      let follower : counterparty d a ≡ leader_of d 0 → ⊥ = λ q. false≢true (sym f ∙ leads_zero d (counterparty d a) 0 k.leaders.0 (sym q)) in
-      dist_falls d.graph (leader_of d 0) (subst (IsFeedback d.graph) (one_leader d.leaders timed.0) k.feedback) (counterparty d a) (counterparty d c)
+      let follower : counterparty d a ≡ lock_leader d 0 → ⊥ = λ q. false≢true (sym f ∙ leads_zero d (counterparty d a) 0 k.leaders.0 (sym q)) in
+      dist_falls d.graph (lock_leader d 0) (subst (IsFeedback d.graph) (one_leader d.leaders timed.0) k.feedback) (counterparty d a) (counterparty d c)
       x.dist y.dist (to_below a la)
       (arc_has d.graph c (counterparty d a) (counterparty d c) lc e refl) follower x.is_dist y.is_dist
 
@@ -344,17 +345,17 @@ module _ (d : Deal) (b : Histories) (k : IsAccepted d) (legal : IsLegalBook d b)
   unfolding first_key keeps
   first_key_path mode v below i key e =
       let c = all v below in
-      let f = first_at (λ e. key_in i (call_by v e)) (flat_map (λ h. h) b) key e in
-      let parts = key_parts i (call_by v f.now) key f.gives in
+      let f = first_at (λ e. fetch_key i (pick_call v e)) (flat_map (λ h. h) b) key e in
+      let parts = key_parts i (pick_call v f.now) key f.gives in
       let w = from_whole b f.now (subst (IsIn f.now) (sym f.stands.1) (in_from_moment f.past f.now f.stands.0)) in
       let m = moment_from_in (history b w.0) f.now w.2 in
       let q =
-      and_five (is_some (published m.0)) (is_ready d b v) (is_first_key (first_key b v key.lock) key) (is_valid d w.0 (hashlock_of d key.lock) key)
+      and_five (is_some (published m.0)) (is_ready d b v) (is_first_key (first_key b v key.lock) key) (is_valid d w.0 (lock_hashlock d key.lock) key)
       _ (kept d b v c.conducted w.0 m.0 f.now (Unlock key) m.1 parts.0) in
-      (w.0, path_of d w.0 key mode (path_of_valid d w.0 (hashlock_of d key.lock) key q.3), parts.1)
+      (w.0, make_path d w.0 key mode (path_of_valid d w.0 (lock_hashlock d key.lock) key q.3), parts.1)
 
   first_kept : (v : ℕ) → v < d.graph.n → (a : ℕ) (past : List Entry) (e : Entry) (key : Hashkey) → IsMoment (history b a) past e
-      → call_by v e ≡ Some (Unlock key) → is_first_key (first_key b v key.lock) key ≡ true
+      → pick_call v e ≡ Some (Unlock key) → is_first_key (first_key b v key.lock) key ≡ true
   unfolding keeps
   first_kept v below a past e key m called =
       let c = all v below in
@@ -373,8 +374,8 @@ module _ (d : Deal) (b : Histories) (k : IsAccepted d) (legal : IsLegalBook d b)
   by_key mode (suc m) v below i l key e short a w =
       subst (λ z. IsOpenBy (history b a) i z) (by_next m) (opened_by_ref v below a i (by_height m) w l (λ q. by_g v m) (λ q.
       let g = by_g v m in
-      let low : base_of d.mode d b v i (first_key b v i) ≤ by_height m =
-      subst (λ z. z ≤ by_height m) (sym (ap (λ z. base_of z d b v i (first_key b v i)) mode ∙ ap (base_of Hashkeys d b v i) e))
+      let low : unlock_base d.mode d b v i (first_key b v i) ≤ by_height m =
+      subst (λ z. z ≤ by_height m) (sym (ap (λ z. unlock_base z d b v i (first_key b v i)) mode ∙ ap (unlock_base Hashkeys d b v i) e))
       (used_below d b v (is_used d b v i (Some key)) (by_height m) (λ a past e w q z.
       base e.height (extended_of d b v key a past e w q z) (λ x y z kx ky kz. by_key mode m x y i l z kx ky kz))) in
       omega arith))
@@ -389,7 +390,7 @@ module _ (d : Deal) (b : Histories) (k : IsAccepted d) (legal : IsLegalBook d b)
           let done = done_at d x.arc (history b x.arc) x.past x.now (Unlock x.inner) t la x.stands x.took x.height in
           let of_u = of_unlock d x.arc done.past done.act.by x.inner done.clear in
           let y = counterparty d x.arc in
-          let called = call_by-act d x.arc done.past done.now (Unlock x.inner) (counterparty d x.arc) done.act of_u.counterparty in
+          let called = pick_call-act d x.arc done.past done.now (Unlock x.inner) (counterparty d x.arc) done.act of_u.counterparty in
           let rule = first_kept (counterparty d x.arc) (to_below x.arc out.0) x.arc done.past done.now x.inner done.stands called in
           let first = some_first (first_key b (counterparty d x.arc) x.inner.lock) x.inner rule in
           let same = same_key-path first.0 x.inner first.2 in
@@ -416,7 +417,7 @@ module _ (d : Deal) (b : Histories) (k : IsAccepted d) (legal : IsLegalBook d b)
           let timed = subst (λ q. IsTimed q d) e k.timed in
           let x = timed.1 a la in
           let p = x.is_dist.reached in
-          let z = path_law d.graph d.leaders k.height k.is_height p.0 (leader_of d 0) p.1.0 p.1.2 (get_in d.leaders 0 0 k.leaders.0) in
+          let z = path_law d.graph d.leaders k.height k.is_height p.0 (lock_leader d 0) p.1.0 p.1.2 (get_in d.leaders 0 0 k.leaders.0) in
           let q = p.2 in
           let one : length d.leaders ≡ 1 = timed.0 in
           let first : i ≡ 0 = omega arith in
@@ -429,7 +430,7 @@ module _ (d : Deal) (b : Histories) (k : IsAccepted d) (legal : IsLegalBook d b)
           let first = some_first (first_key b (counterparty d a) i) r.1.key r.1.first in
           let p = first_key_path e (counterparty d a) (to_below a la) i first.0 first.1 in
           let low =
-          path_law d.graph d.leaders k.height k.is_height first.0.path (leader_of d first.0.lock) p.1.path p.1.last
+          path_law d.graph d.leaders k.height k.is_height first.0.path (lock_leader d first.0.lock) p.1.path p.1.last
           (get_in d.leaders first.0.lock 0 (subst (λ j. j < length d.leaders) (sym p.2) li)) in
           by_key e (suc span) (counterparty d a) (to_below a la) i li first.0 first.1 (omega arith) a (enters_own d b k legal ended all a la)
 
@@ -457,7 +458,7 @@ module _ (d : Deal) (b : Histories) (k : IsAccepted d) (legal : IsLegalBook d b)
       let act = (clear_at d a (history b a) past e (Transfer to units) (legal.legal a (rw legal.one_each la)) m q).0 in
       let below : act.by < d.graph.n = by_below act.by act.of_the_two in
       let c = all act.by below in
-      false≢true (kept d b act.by c.conducted a past e (Transfer to units) m (call_by-act d a past e (Transfer to units) act.by act refl))
+      false≢true (kept d b act.by c.conducted a past e (Transfer to units) m (pick_call-act d a past e (Transfer to units) act.by act refl))
     where
       by_below : (p : ℕ) → IsTrue (touches d p a) → p < d.graph.n
       by_below p h = go (p == party d a) refl h
@@ -502,11 +503,11 @@ module _ (d : Deal) (b : Histories) (k : IsAccepted d) (legal : IsLegalBook d b)
       let path = path_to v u.0 below u.1 in
       go u.0 path.0 path.1 u.2
     where
-      go : (u : ℕ) → (p : List ℕ) → IsPathBetween d.graph v u p → (v == u) ≡ false → 0 < length (leaving d.graph v)
+      go : (u : ℕ) → (p : List ℕ) → IsConnectingPath d.graph v u p → (v == u) ≡ false → 0 < length (leaving d.graph v)
       go u [] path n = absurd (cc path.0)
       go u (x ∷ []) path n = absurd (false≢true (sym n ∙ (ap (λ z. z == u) (sym (eqb-true x v path.1)) ∙ path.2)))
       go u (x ∷ y ∷ p) path n =
-          let arc = arc_of d.graph x y (path_step d.graph x y p path.0).arc in
+          let arc = parse_arc d.graph x y (path_step d.graph x y p path.0).arc in
           in_length arc.arc (leaving d.graph v) (subst (λ z. IsIn arc.arc (leaving d.graph z)) (arc.from
           ∙ eqb-true x v path.1) (leaves_own d b k legal ended all arc.arc arc.below))
 

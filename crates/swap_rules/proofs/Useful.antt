@@ -9,14 +9,15 @@ use Rattle.swap_digraph.specs.declared.deal.Deal.{Deal}
 use Rattle.swap_digraph.specs.Graph.{leaving, entering}
 use Rattle.swap_digraph.specs.Deal.{locks, leads}
 use Rattle.hashkey_path.specs.declared.hashkey.Hashkey.{Hashkey}
-use Rattle.escrow_core.specs.Terms.{terms_of}
+use Rattle.escrow_core.specs.Terms.{stated_terms}
 use Rattle.ledger_core.specs.declared.entry.Call.{Call}
 use Rattle.ledger_core.specs.declared.entry.Call.TheVariants.{Publish, Unlock, Claim, Refund, Transfer}
 use Rattle.ledger_core.specs.declared.entry.Entry.{Entry}
 use Rattle.ledger_core.specs.History.{height}
 use Rattle.ledger_core.specs.Book.{Histories, history}
-use Rattle.swap_rules.specs.Party.{call_by, key_in, first_key}
-use Rattle.swap_rules.specs.Due.{Wallet, Action, is_unlock_for, has_called, is_due_publish, due_unlock_on, when_due, due_publishes, due_unlocks, due_claims, due_refunds, due}
+use Rattle.swap_rules.specs.Party.{pick_call, fetch_key, first_key}
+use Rattle.swap_rules.specs.Due.{Wallet, Action, unlocks_lock, has_called, is_due_publish, due_arc_unlock, when_due, due_publishes, due_unlocks}
+use Rattle.swap_rules.specs.Due.{due_claims, due_refunds, due}
 use Rattle.swap_rules.specs.Rest.{is_ticking, are_ticks, StaysLow}
 use Rattle.swap_rules.specs.Rounds.{IsNear}
 use Rattle.swap_rules.specs.Walking.{is_withheld, pressing_unlocks, pressing}
@@ -50,19 +51,19 @@ unless_or false xs x i = inl i
 
 module _ (d : Deal) (v : ℕ) (w : Wallet) (signed : ℕ → Option Hashkey) (k : Histories) where
   abbrev publish_at : ℕ → List Action
-  publish_at a = when_due (is_due_publish d v k a) a (Publish (terms_of d a))
+  publish_at a = when_due (is_due_publish d v k a) a (Publish (stated_terms d a))
 
   abbrev early_at : ℕ → List Action
-  early_at a = when_due (is_due_publish d v k a && opens_in_time d k a) a (Publish (terms_of d a))
+  early_at a = when_due (is_due_publish d v k a && opens_in_time d k a) a (Publish (stated_terms d a))
 
   abbrev unlocks_at : ℕ → List Action
-  unlocks_at i = flat_map (due_unlock_on d v w (signed i) k i) (entering d.graph v)
+  unlocks_at i = flat_map (due_arc_unlock d v w (signed i) k i) (entering d.graph v)
 
   publish_is_due : (x : Action) → IsIn x (useful_publishes d v k) → IsIn x (due_publishes d v k)
   publish_is_due x i =
       let f = from_flat_map early_at (leaving d.graph v) x i in
       in_flat_map publish_at (leaving d.graph v) f.0 x f.1
-      (fewer (is_due_publish d v k f.0) (opens_in_time d k f.0) f.0 (Publish (terms_of d f.0)) x f.2)
+      (fewer (is_due_publish d v k f.0) (opens_in_time d k f.0) f.0 (Publish (stated_terms d f.0)) x f.2)
 
   unlock_is_due : (x : Action) → IsIn x (useful_unlocks d v w signed k) → IsIn x (due_unlocks d v w signed k)
   unlock_is_due x i =
@@ -105,12 +106,12 @@ module _ (d : Deal) (v : ℕ) (w : Wallet) (signed : ℕ → Option Hashkey) (k 
       with_claims j = with_refunds (in_append (useful_publishes d v k ++ useful_unlocks d v w signed k) (due_claims d v k) x (inl j))
 
       on_arc : (a : ℕ) → IsIn a (leaving d.graph v)
-          → IsIn x (early_at a) ⊎ ((opens_in_time d k a ≡ false) × (x.arc ≡ a) × (x.call ≡ Publish (terms_of d a))) → IsUsefulOrHarms x
+          → IsIn x (early_at a) ⊎ ((opens_in_time d k a ≡ false) × (x.arc ≡ a) × (x.call ≡ Publish (stated_terms d a))) → IsUsefulOrHarms x
       on_arc a j (inl t) =
           with_claims (in_append (useful_publishes d v k) (useful_unlocks d v w signed k) x
           (inl (in_flat_map early_at (leaving d.graph v) a x j t)))
       on_arc a j (inr t) =
-          inr (PublishesLate (t.2 ∙ ap (λ c. Publish (terms_of d c)) (sym t.1)) (ap (opens_in_time d k) t.1 ∙ t.0))
+          inr (PublishesLate (t.2 ∙ ap (λ c. Publish (stated_terms d c)) (sym t.1)) (ap (opens_in_time d k) t.1 ∙ t.0))
 
       on_lock : (l : ℕ) → IsIn l (locks d) → IsIn x (unlocks_at l) → IsIn x (pressing_unlocks d v w signed k l) ⊎ (is_withheld d v k l ≡ true)
           → IsUsefulOrHarms x
@@ -122,7 +123,7 @@ module _ (d : Deal) (v : ℕ) (w : Wallet) (signed : ℕ → Option Hashkey) (k 
       inner : IsIn x (due_publishes d v k) ⊎ IsIn x (due_unlocks d v w signed k) → IsUsefulOrHarms x
       inner (inl j) =
           let f = from_flat_map publish_at (leaving d.graph v) x j in
-          on_arc f.0 f.1 (kept_or (is_due_publish d v k f.0) (opens_in_time d k f.0) f.0 (Publish (terms_of d f.0)) x f.2)
+          on_arc f.0 f.1 (kept_or (is_due_publish d v k f.0) (opens_in_time d k f.0) f.0 (Publish (stated_terms d f.0)) x f.2)
       inner (inr j) =
           let f = from_flat_map unlocks_at (locks d) x j in
           on_lock f.0 f.1 f.2 (unless_or (is_withheld d v k f.0) (unlocks_at f.0) x f.2)
@@ -174,20 +175,20 @@ early_is_useful d v w signed k early =
     free : (i : ℕ) → is_withheld d v k i ≡ false
     free i =
         and_false (leads d v i && is_none (first_key k v i)) _
-        (ap not (list_all-from (λ a. nat_le (height (history k a)) (times.open_by d.start d.delta d.bound + d.delta)) (entering d.graph v) (λ a j.
-        let l = leb-true (height (history k a)) (times.open_by d.start d.delta d.bound) (early a (inr j)) in
-        le-leb (height (history k a)) (times.open_by d.start d.delta d.bound + d.delta) (omega arith))))
+        (ap not (list_all-from (λ a. nat_le (height (history k a)) (times.opening_deadline d.start d.delta d.bound + d.delta)) (entering d.graph v) (λ a j.
+        let l = leb-true (height (history k a)) (times.opening_deadline d.start d.delta d.bound) (early a (inr j)) in
+        le-leb (height (history k a)) (times.opening_deadline d.start d.delta d.bound + d.delta) (omega arith))))
 
     publishes : useful_publishes d v k ≡ due_publishes d v k
     publishes =
-        same_flat (λ a. when_due (is_due_publish d v k a && opens_in_time d k a) a (Publish (terms_of d a)))
-        (λ a. when_due (is_due_publish d v k a) a (Publish (terms_of d a))) (leaving d.graph v)
-        (λ a j. ap (λ b. when_due b a (Publish (terms_of d a))) (and_true (is_due_publish d v k a) (opens_in_time d k a) (early a (inl j))))
+        same_flat (λ a. when_due (is_due_publish d v k a && opens_in_time d k a) a (Publish (stated_terms d a)))
+        (λ a. when_due (is_due_publish d v k a) a (Publish (stated_terms d a))) (leaving d.graph v)
+        (λ a j. ap (λ b. when_due b a (Publish (stated_terms d a))) (and_true (is_due_publish d v k a) (opens_in_time d k a) (early a (inl j))))
 
     unlocks : useful_unlocks d v w signed k ≡ due_unlocks d v w signed k
     unlocks =
-        same_flat (pressing_unlocks d v w signed k) (λ i. flat_map (due_unlock_on d v w (signed i) k i) (entering d.graph v)) (locks d)
-        (λ i j. ap (λ b. cond b [] (flat_map (due_unlock_on d v w (signed i) k i) (entering d.graph v))) (free i))
+        same_flat (pressing_unlocks d v w signed k) (λ i. flat_map (due_arc_unlock d v w (signed i) k i) (entering d.graph v)) (locks d)
+        (λ i j. ap (λ b. cond b [] (flat_map (due_arc_unlock d v w (signed i) k i) (entering d.graph v))) (free i))
 
 -- Whether a hashkey was presented.
 
@@ -195,7 +196,7 @@ none_if : (b : Bool) (key : Hashkey) → is_none (cond b (Some key) None) ≡ no
 none_if true key = refl
 none_if false key = refl
 
-none_key : (i : ℕ) (o : Option Call) → is_none (key_in i o) ≡ not (is_unlock_for i o)
+none_key : (i : ℕ) (o : Option Call) → is_none (fetch_key i o) ≡ not (unlocks_lock i o)
 none_key i None = refl
 none_key i (Some (Publish t)) = refl
 none_key i (Some (Unlock key)) = none_if (key.lock == i) key
@@ -211,36 +212,36 @@ not_or : (a b : Bool) → (not a && not b) ≡ not (a || b)
 not_or true b = refl
 not_or false b = refl
 
-none_called : (v i : ℕ) (h : List Entry) → is_none (first_of (λ e. key_in i (call_by v e)) h) ≡ not (has_called v (is_unlock_for i) h)
+none_called : (v i : ℕ) (h : List Entry) → is_none (first_of (λ e. fetch_key i (pick_call v e)) h) ≡ not (has_called v (unlocks_lock i) h)
 none_called v i [] = refl
 none_called v i (e ∷ h) =
-    none_or (key_in i (call_by v e)) (first_of (λ e. key_in i (call_by v e)) h)
-    ∙ (ap₂ (λ a b. a && b) (none_key i (call_by v e)) (none_called v i h)
-    ∙ not_or (is_unlock_for i (call_by v e)) (has_called v (is_unlock_for i) h))
+    none_or (fetch_key i (pick_call v e)) (first_of (λ e. fetch_key i (pick_call v e)) h)
+    ∙ (ap₂ (λ a b. a && b) (none_key i (pick_call v e)) (none_called v i h)
+    ∙ not_or (unlocks_lock i (pick_call v e)) (has_called v (unlocks_lock i) h))
 
 -- no hashkey for lock i was presented exactly where no history has an unlock call for it
-pub unrevealed : (v i : ℕ) (k : Histories) → is_none (first_key k v i) ≡ not (list_any (has_called v (is_unlock_for i)) k)
+pub unrevealed : (v i : ℕ) (k : Histories) → is_none (first_key k v i) ≡ not (list_any (has_called v (unlocks_lock i)) k)
 unfolding first_key
 unrevealed v i [] = refl
 unrevealed v i (h ∷ k) =
-    ap is_none (first_of-append (λ e. key_in i (call_by v e)) h (flat_map (λ h. h) k))
-    ∙ (none_or (first_of (λ e. key_in i (call_by v e)) h) (first_of (λ e. key_in i (call_by v e)) (flat_map (λ h. h) k))
+    ap is_none (first_of-append (λ e. fetch_key i (pick_call v e)) h (flat_map (λ h. h) k))
+    ∙ (none_or (first_of (λ e. fetch_key i (pick_call v e)) h) (first_of (λ e. fetch_key i (pick_call v e)) (flat_map (λ h. h) k))
     ∙ (ap₂ (λ a b. a && b) (none_called v i h) (unrevealed v i k)
-    ∙ not_or (has_called v (is_unlock_for i) h) (list_any (has_called v (is_unlock_for i)) k)))
+    ∙ not_or (has_called v (unlocks_lock i) h) (list_any (has_called v (unlocks_lock i)) k)))
 
 -- nothing is useful for a lock where no unlock for it is due
 pub none_pressing : (d : Deal) (v : ℕ) (w : Wallet) (signed : ℕ → Option Hashkey) (k : Histories) (i : ℕ)
-    → flat_map (due_unlock_on d v w (signed i) k i) (entering d.graph v) ≡ [] → pressing_unlocks d v w signed k i ≡ []
+    → flat_map (due_arc_unlock d v w (signed i) k i) (entering d.graph v) ≡ [] → pressing_unlocks d v w signed k i ≡ []
 none_pressing d v w signed k i e = go (is_withheld d v k i)
   where
-    go : (b : Bool) → cond b [] (flat_map (due_unlock_on d v w (signed i) k i) (entering d.graph v)) ≡ []
+    go : (b : Bool) → cond b [] (flat_map (due_arc_unlock d v w (signed i) k i) (entering d.graph v)) ≡ []
     go true = refl
     go false = e
 
 -- Ticks.
 
-ticking_key : (v i : ℕ) (e : Entry) → is_ticking e.what ≡ true → key_in i (call_by v e) ≡ None
-ticking_key v i e t = ap (key_in i) (not_called v e t)
+ticking_key : (v i : ℕ) (e : Entry) → is_ticking e.what ≡ true → fetch_key i (pick_call v e) ≡ None
+ticking_key v i e t = ap (fetch_key i) (not_called v e t)
 
 first_in_book : (f : Entry → Option Hashkey) → ((e : Entry) → is_ticking e.what ≡ true → f e ≡ None) → (k : Histories) (a : ℕ) (more : List Entry)
     → are_ticks more ≡ true → first_of f (flat_map (λ h. h) (set k a (history k a ++ more))) ≡ first_of f (flat_map (λ h. h) k)
@@ -280,24 +281,24 @@ module _ (d : Deal) (v : ℕ) (w : Wallet) (signed : ℕ → Option Hashkey) (k 
 
   in_time : (c : ℕ) → opens_in_time d after c ≡ true → opens_in_time d k c ≡ true
   in_time c e =
-      let l = leb-true (height (history after c)) (times.open_by d.start d.delta d.bound) e in
+      let l = leb-true (height (history after c)) (times.opening_deadline d.start d.delta d.bound) e in
       let g = grows c in
-      le-leb (height (history k c)) (times.open_by d.start d.delta d.bound) (omega arith)
+      le-leb (height (history k c)) (times.opening_deadline d.start d.delta d.bound) (omega arith)
 
   same_key : (i : ℕ) → first_key after v i ≡ first_key k v i
   unfolding first_key
-  same_key i = first_in_book (λ e. key_in i (call_by v e)) (ticking_key v i) k a more ticks
+  same_key i = first_in_book (λ e. fetch_key i (pick_call v e)) (ticking_key v i) k a more ticks
 
   low_at : Histories → ℕ → Bool
-  low_at h c = nat_le (height (history h c)) (times.open_by d.start d.delta d.bound + d.delta)
+  low_at h c = nat_le (height (history h c)) (times.opening_deadline d.start d.delta d.bound + d.delta)
 
   low_before : list_all (low_at after) (entering d.graph v) ≡ true → list_all (low_at k) (entering d.graph v) ≡ true
   unfolding low_at
   low_before e = list_all-from (low_at k) (entering d.graph v) (λ c j.
       let l =
-      leb-true (height (history after c)) (times.open_by d.start d.delta d.bound + d.delta) (list_all-in (low_at after) (entering d.graph v) c e j) in
+      leb-true (height (history after c)) (times.opening_deadline d.start d.delta d.bound + d.delta) (list_all-in (low_at after) (entering d.graph v) c e j) in
       let g = grows c in
-      le-leb (height (history k c)) (times.open_by d.start d.delta d.bound + d.delta) (omega arith))
+      le-leb (height (history k c)) (times.opening_deadline d.start d.delta d.bound + d.delta) (omega arith))
 
   still_held : (i : ℕ) → is_withheld d v k i ≡ true → is_withheld d v after i ≡ true
   unfolding low_at
@@ -309,9 +310,9 @@ module _ (d : Deal) (v : ℕ) (w : Wallet) (signed : ℕ → Option Hashkey) (k 
   publishes : useful_publishes d v k ≡ [] → useful_publishes d v after ≡ []
   publishes e =
       none_flat (early_at d v w signed after) (leaving d.graph v) (λ c i.
-      ap (λ b. when_due (b && opens_in_time d after c) c (Publish (terms_of d c)))
+      ap (λ b. when_due (b && opens_in_time d after c) c (Publish (stated_terms d c)))
       (same_publish d v k after (reads d v w signed k a more ticks) c)
-      ∙ fewer_none (is_due_publish d v k c) (opens_in_time d k c) (opens_in_time d after c) c (Publish (terms_of d c)) (in_time c)
+      ∙ fewer_none (is_due_publish d v k c) (opens_in_time d k c) (opens_in_time d after c) c (Publish (stated_terms d c)) (in_time c)
       (flat_map_none (early_at d v w signed k) (leaving d.graph v) c e i))
 
   unlocks : useful_unlocks d v w signed k ≡ [] → useful_unlocks d v w signed after ≡ []

@@ -10,20 +10,20 @@ use Rattle.swap_digraph.specs.declared.deal.Deal.{Deal}
 use Rattle.swap_digraph.specs.Graph.{ends, arcs, leaving, entering}
 use Rattle.swap_digraph.specs.Deal.{amount, party, counterparty, locks, leads}
 use Rattle.hashkey_path.specs.declared.hashkey.Hashkey.{Hashkey}
-use Rattle.escrow_core.specs.Terms.{terms_of}
+use Rattle.escrow_core.specs.Terms.{stated_terms}
 use Rattle.ledger_core.specs.declared.entry.Call.{Call}
 use Rattle.ledger_core.specs.declared.entry.Call.TheVariants.{Publish, Unlock, Claim, Refund, Transfer}
 use Rattle.ledger_core.specs.declared.entry.Entry.{Entry}
 use Rattle.ledger_core.specs.declared.facts.Settlement.{Settlement}
 use Rattle.ledger_core.specs.declared.facts.Settlement.TheVariants.{Claimed, Refunded}
-use Rattle.ledger_core.specs.History.{height, accepted, accounts, balance, held, the_terms, terms_in, Publication, publication, published, Opening, opened}
+use Rattle.ledger_core.specs.History.{height, accepted, accounts, balance, held, the_terms, parse_terms, Publication, publication, published, Opening, opened}
 use Rattle.ledger_core.specs.History.{settled, is_open, triggered, IsLegal, IsLegalMoment}
 use Rattle.ledger_core.specs.Book.{Histories, history, IsLegalBook}
 use Rattle.swap_rules.specs.declared.finding.Rule.{Rule}
 use Rattle.swap_rules.specs.declared.finding.Rule.TheVariants.{Unlock as ToUnlock, Claim as ToClaim}
 use Rattle.swap_rules.specs.declared.outcome.Outcome.TheVariants.{NoDeal}
 use Rattle.swap_rules.specs.Accepted.{IsAccepted}
-use Rattle.swap_rules.specs.Party.{is_correct, height_in, is_good, is_ready, is_triggered, expiry, has_expired, call_by}
+use Rattle.swap_rules.specs.Party.{is_correct, publication_height, is_good, is_ready, is_triggered, expiry, has_expired, pick_call}
 use Rattle.swap_rules.specs.Conduct.{keeps, IsConducted}
 use Rattle.swap_rules.specs.Late.{height_of_opening, trigger_height, counts, is_done}
 use Rattle.swap_rules.specs.Due.{Wallet, is_claiming, is_refunding, is_due_refund}
@@ -44,7 +44,7 @@ use Rattle.swap_rules.proofs.Openings.{first_expiry, has_expired-lock}
 use Rattle.swap_rules.proofs.Prefixes.{begins_refl, begins_more, begins_height, moment_more, in_any, none_called}
 use Rattle.swap_rules.proofs.Refunds.{NoOwnTransfer, counterparty_empty, has_refunds, unlocks_all, watchful_is_safe}
 use Rattle.swap_rules.proofs.Rounds.{Told, NothingElseDue, nothing_presses, not_withheld, next_round, and_not, called_at, claim_done, unlock_done, done_not_late}
-use Rattle.swap_rules.proofs.Words.{past_end, and_five, call_by-act, enters, leaves}
+use Rattle.swap_rules.proofs.Words.{past_end, and_five, pick_call-act, enters, leaves}
 use Rattle.ledger_core.proofs.History.{published_done, opened_done, claimed_done, refunded_done, of_publish, of_unlock, of_claim, of_refund, published-past}
 use Rattle.ledger_core.proofs.History.{triggered-past, is_some-of, not-true}
 use Rattle.ledger_core.proofs.Units.{units, settled-published}
@@ -96,13 +96,13 @@ module _ (d : Deal) (b : Histories) (v : ℕ) (k : IsAccepted d) (legal : IsLega
         let out = leaves d v a w in
         let l = legal_of a out.0 in
         let own : NoOwnTransfer d a (history b a) =
-        λ e to units i c. let m = moment_from_in (history b a) e i in gives a m.0 e to units w m.1 (ap (λ x. call_by x e) (sym out.1) ∙ c) in
+        λ e to units i c. let m = moment_from_in (history b a) e i in gives a m.0 e to units w m.1 (ap (λ x. pick_call x e) (sym out.1) ∙ c) in
         let s = settled-published d a (history b a) l (none a w) in
         let z = counterparty_empty d a (history b a) l own (ap is_claim s) in
         let u = units d a (history b a) l in
         let total = u.total in
         let none_held : held (history b a) ≡ 0 =
-        ap (λ x. cond (is_some x) 0 (the_terms (history b a)).amount) s ∙ ap (λ q. (terms_in q).amount) (none a w) in
+        ap (λ x. cond (is_some x) 0 (the_terms (history b a)).amount) s ∙ ap (λ q. (parse_terms q).amount) (none a w) in
         ap (λ x. cond x (accounts d a (history b a)).party (accounts d a (history b a)).counterparty) (eq-eqb v (party d a) (sym out.1)) ∙ omega arith
 
     loses_nothing : GivesNothing d b v → LosesNothing d b v
@@ -123,7 +123,7 @@ module _ (d : Deal) (b : Histories) (v : ℕ) (k : IsAccepted d) (legal : IsLega
             let done = published_done d a (history b a) p (legal_of a out.0) e in
             let by : done.act.by ≡ v = (of_publish d a done.past done.act.by p.terms done.clear).party ∙ out.1 in
             absurd (none_some (Publish p.terms) (sym (silent a done.past done.now done.stands)
-            ∙ call_by-act d a done.past done.now (Publish p.terms) v done.act by))
+            ∙ pick_call-act d a done.past done.now (Publish p.terms) v done.act by))
 
     silent_claims : (a : ℕ) → IsIn a (entering d.graph v) → is_got d b a ≡ true → ⊥
     silent_claims a w g = go (settled (history b a)) refl (and_parts (is_correct d b a) _ g).1
@@ -135,7 +135,7 @@ module _ (d : Deal) (b : Histories) (v : ℕ) (k : IsAccepted d) (legal : IsLega
             let in_arc = enters d v a w in
             let done = (claimed_done d a (history b a) (legal_of a in_arc.0) e).1 in
             let by : done.act.by ≡ v = (of_claim d a done.past done.act.by done.clear).counterparty ∙ in_arc.1 in
-            none_some Claim (sym (silent a done.past done.now done.stands) ∙ call_by-act d a done.past done.now Claim v done.act by)
+            none_some Claim (sym (silent a done.past done.now done.stands) ∙ pick_call-act d a done.past done.now Claim v done.act by)
 
     silent_outcome : outcome d b v ≡ NoDeal
     unfolding outcome
@@ -183,8 +183,8 @@ late_publish_is_idle d b a p legal l e late = (unready, λ conducted i. unlocked
     unready = not-true (is_ready d b u) (λ ready.
         let w : IsIn a (entering d.graph u) = in_filter (λ x. (ends d.graph x).to == u) a (arcs d.graph) (in_range a (length d.graph.arcs) l) (eq-eqb u u refl) in
         let g = and_parts (is_correct d b a) _ (list_all-in (is_good d b) (entering d.graph u) a ready w) in
-        let low : height_in (published (history b a)) ≤ times.open_by d.start d.delta d.bound = leb-true _ _ g.1 in
-        let same : height_in (published (history b a)) ≡ p.height = ap height_in e in
+        let low : publication_height (published (history b a)) ≤ times.opening_deadline d.start d.delta d.bound = leb-true _ _ g.1 in
+        let same : publication_height (published (history b a)) ≡ p.height = ap publication_height e in
         absurd (omega arith))
 
     unlocked_none : (i : ℕ) (o : Option Opening) → opened (history b a) i ≡ o → IsConducted d b u → opened (history b a) i ≡ None
@@ -192,7 +192,7 @@ late_publish_is_idle d b a p legal l e late = (unready, λ conducted i. unlocked
     unlocked_none i (Some o) q conducted =
         let done = opened_done d a (history b a) i o (legal.legal a (rw legal.one_each l)) q in
         let by : done.0.act.by ≡ u = (of_unlock d a done.0.past done.0.act.by o.key done.0.clear).counterparty in
-        let called = call_by-act d a done.0.past done.0.now (Unlock o.key) u done.0.act by in
+        let called = pick_call-act d a done.0.past done.0.now (Unlock o.key) u done.0.act by in
         let r =
         and_five (is_some (published done.0.past)) (is_ready d b u) _ _ _ (kept d b u conducted a done.0.past done.0.now (Unlock o.key) done.0.stands called)
         in
@@ -251,14 +251,14 @@ module _ (d : Deal) (b : Histories) (v : ℕ) (w : Wallet) (k : IsAccepted d) (l
         high = below_top;
       } in
       let done = claim_done d b v w (trigger_height d (history b a)) top k legal conducted told a (claim_enabled d b v legal conducted law a i right t) in
-      let y = in_any (λ e. counts d b v ToClaim a e.height (call_by v e) && nat_le e.height top) (history b a) done in
-      let p = (and_parts (counts d b v ToClaim a y.0.height (call_by v y.0)) _ y.2).0 in
-      let c = some_call d b v conducted legal ToClaim a y.0.height (call_by v y.0) p in
+      let y = in_any (λ e. counts d b v ToClaim a e.height (pick_call v e) && nat_le e.height top) (history b a) done in
+      let p = (and_parts (counts d b v ToClaim a y.0.height (pick_call v y.0)) _ y.2).0 in
+      let c = some_call d b v conducted legal ToClaim a y.0.height (pick_call v y.0) p in
       let claim = counted_claim d b v a y.0.height c.0 (ap (counts d b v ToClaim a y.0.height) (sym c.1) ∙ p) in
-      list_any-in (λ e. is_claiming (call_by v e)) (history b a) y.0 (ap is_claiming (c.1 ∙ ap Some claim)) y.1
+      list_any-in (λ e. is_claiming (pick_call v e)) (history b a) y.0 (ap is_claiming (c.1 ∙ ap Some claim)) y.1
 
   -- what v called is known
-  known_call : (a : ℕ) (e : Entry) (c : Call) → IsIn e (history b a) → call_by v e ≡ Some c → IsIn e (history x.known a)
+  known_call : (a : ℕ) (e : Entry) (c : Call) → IsIn e (history b a) → pick_call v e ≡ Some c → IsIn e (history x.known a)
   known_call a e c i called =
       let n = x.knows a in
       elim (from_append (history x.known a) n.rest e (subst (IsIn e) n.whole i)) [
@@ -266,7 +266,7 @@ module _ (d : Deal) (b : Histories) (v : ℕ) (w : Wallet) (k : IsAccepted d) (l
         | inr j ↦ absurd (none_some c (sym (none_called v e (n.others e j)) ∙ called))
       ]
 
-  module _ (asks : (a : ℕ) (past : List Entry) (e : Entry) → IsIn a (leaving d.graph v) → IsMoment (history b a) past e → call_by v e ≡ Some Refund
+  module _ (asks : (a : ℕ) (past : List Entry) (e : Entry) → IsIn a (leaving d.graph v) → IsMoment (history b a) past e → pick_call v e ≡ Some Refund
       → is_some (published past) ≡ true) where
     pub last_refunds : AsksAllBack d b v
     unfolding is_due_refund
@@ -276,7 +276,7 @@ module _ (d : Deal) (b : Histories) (v : ℕ) (w : Wallet) (k : IsAccepted d) (l
         let p = is_some-of (published (history b a)) shown in
         let done = published_done d a (history b a) p.0 l p.1 in
         let by : done.act.by ≡ v = (of_publish d a done.past done.act.by p.0.terms done.clear).party ∙ out.1 in
-        let called = call_by-act d a done.past done.now (Publish p.0.terms) v done.act by in
+        let called = pick_call-act d a done.past done.now (Publish p.0.terms) v done.act by in
         let known =
         known_call a done.now (Publish p.0.terms) (subst (IsIn done.now) (sym done.stands.1) (in_from_moment done.past done.now done.stands.0)) called in
         let shown_known : is_some (published (history x.known a)) ≡ true =
@@ -285,7 +285,7 @@ module _ (d : Deal) (b : Histories) (v : ℕ) (w : Wallet) (k : IsAccepted d) (l
           terms =
               p.0.terms;
         }) known (ap (publication done.now.height) done.took) in
-        let first = first_expiry d a (terms_of d a) (is_open (history b a)) shut in
+        let first = first_expiry d a (stated_terms d a) (is_open (history b a)) shut in
         let ends = expires_before a first.lock out.0 in
         let low = x.past a (inl i) in
         let up : expiry d a first.lock < height (history x.known a) = omega arith in
@@ -308,7 +308,7 @@ module _ (d : Deal) (b : Histories) (v : ℕ) (w : Wallet) (k : IsAccepted d) (l
             (and_both (is_some (published (history x.known a)) && is_none (settled (history x.known a))) _
             (and_both (is_some (published (history x.known a))) _ shown (ap is_none z)) (ap not shut)) late)) in
             let m = moment_more (history x.known a) (history b a) c.past c.now (grows a) c.stands in
-            let called : call_by v c.now ≡ Some Refund = c.called ∙ ap Some (refunding_is c.call c.passes) in
+            let called : pick_call v c.now ≡ Some Refund = c.called ∙ ap Some (refunding_is c.call c.passes) in
             record { past = c.past; now = c.now; stands = m; called = called; after = asks a c.past c.now i m called }
         go l shown shut late (Some Claimed) z =
             let lk : IsLegal d a (history x.known a) =
@@ -325,7 +325,7 @@ module _ (d : Deal) (b : Histories) (v : ℕ) (w : Wallet) (k : IsAccepted d) (l
               past = c.past;
               now = c.now;
               stands = moment_more (history x.known a) (history b a) c.past c.now (grows a) c.stands;
-              called = call_by-act d a c.past c.now Refund v c.act by;
+              called = pick_call-act d a c.past c.now Refund v c.act by;
               after = ap is_some of_r.published;
             }
 
@@ -354,8 +354,8 @@ module _ (d : Deal) (v : ℕ) (w : Wallet) (ticks slack rounds : ℕ) (books : �
   ended : IsEnded d (books rounds)
   ended a l = let at = x.at rounds a (omega arith) (in_range a (length d.graph.arcs) l) in omega arith
 
-  told_at : (ref q : ℕ) → ref < q * ticks → q * ticks ≤ ref + ticks → q < rounds → Told d (books rounds) v w ref (ref + ticks + slack)
-  told_at ref q low high inside =
+  told_swap : (ref q : ℕ) → ref < q * ticks → q * ticks ≤ ref + ticks → q < rounds → Told d (books rounds) v w ref (ref + ticks + slack)
+  told_swap ref q low high inside =
       let t = x.turn q inside in
       record {
         known = t.known;
@@ -372,15 +372,15 @@ module _ (d : Deal) (v : ℕ) (w : Wallet) (ticks slack rounds : ℕ) (books : �
 
   by_round : (rule : Rule) (a ref : ℕ) → IsIn a (arcs d.graph)
       → ((t : Told d (books rounds) v w ref (ref + ticks + slack))
-      → ((i : ℕ) → (leads d v i ≡ true → ref ≤ times.open_by d.start d.delta d.bound) → t.held i ≡ false)
+      → ((i : ℕ) → (leads d v i ≡ true → ref ≤ times.opening_deadline d.start d.delta d.bound) → t.held i ≡ false)
       → is_done d (books rounds) v rule a (ref + ticks + slack) ≡ true) → IsDoneBy d (books rounds) v rule a (ref + ticks + slack)
-  unfolding told_at
+  unfolding told_swap
   by_round rule a ref j does = let q = next_round ticks some ref in go q.0 q.1 q.2 (nat_lt q.0 rounds) refl
     where
       go : (q : ℕ) → ref < q * ticks → q * ticks ≤ ref + ticks → (y : Bool) → nat_lt q rounds ≡ y → IsDoneBy d (books rounds) v rule a (ref + ticks + slack)
       go q low high true h =
           let inside = ltb-true q rounds h in
-          inl (does (told_at ref q low high inside) (λ i early.
+          inl (does (told_swap ref q low high inside) (λ i early.
           not_withheld d v (IsFreeTurn.known (x.turn q inside)) i ref (λ c. let t = IsFreeTurn.top (x.turn q inside) c in omega arith) early))
       go q low high false h =
           let past : rounds ≤ q = ltb-false q rounds h in

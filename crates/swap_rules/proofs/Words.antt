@@ -11,20 +11,20 @@ use Rattle.swap_base.proofs.Lists.{same_list-refl, same_list-true, and_parts, in
 use Rattle.swap_base.proofs.Lists.{in_map}
 use Rattle.swap_base.specs.Lists.{IsIn, IsMoment, same_list}
 use Rattle.swap_digraph.specs.declared.deal.Deal.{Deal}
-use Rattle.swap_digraph.specs.Graph.{ends, arcs, leaving, entering, is_among}
-use Rattle.swap_digraph.specs.Deal.{party, counterparty, locks, leads, leader_of}
+use Rattle.swap_digraph.specs.Graph.{ends, arcs, leaving, entering, is_listed}
+use Rattle.swap_digraph.specs.Deal.{party, counterparty, locks, leads, lock_leader}
 use Rattle.hash_signature.specs.declared.sig.Sig.{Sig}
 use Rattle.hashkey_path.specs.declared.hashkey.Hashkey.{Hashkey}
 use Rattle.hashkey_path.specs.Hashkey.{same_key}
 use Rattle.escrow_core.specs.declared.terms.Terms.{Terms}
 use Rattle.escrow_core.specs.Terms.{same_terms}
-use Rattle.ledger_core.specs.History.{Opening, IsLegal, sent_by, call_in}
+use Rattle.ledger_core.specs.History.{Opening, IsLegal, is_sender, read_raw_call}
 use Rattle.ledger_core.specs.declared.entry.Call.{Call}
 use Rattle.ledger_core.specs.declared.entry.Call.TheVariants.{Publish, Unlock, Claim, Refund, Transfer}
 use Rattle.ledger_core.specs.declared.entry.Entry.{Entry}
 use Rattle.swap_rules.specs.declared.finding.Rule.TheVariants.{Publish as ToPublish, Unlock as ToUnlock, Claim as ToClaim, Refund as ToRefund}
-use Rattle.swap_rules.specs.Party.{call_by, key_in, key_without}
-use Rattle.swap_rules.specs.Findings.{rules_of}
+use Rattle.swap_rules.specs.Party.{pick_call, fetch_key, key_without}
+use Rattle.swap_rules.specs.Findings.{deal_rules}
 use Rattle.ledger_core.proofs.History.{Act, act_at}
 
 -- Equal parts, equal values.
@@ -65,18 +65,18 @@ same_terms-true t u e =
 
 -- The rules of a deal.
 
-pub publish_rule : (d : Deal) → IsIn ToPublish (rules_of d)
+pub publish_rule : (d : Deal) → IsIn ToPublish (deal_rules d)
 publish_rule d = inl refl
 
-pub unlock_rule : (d : Deal) (i : ℕ) → i < length d.leaders → IsIn (ToUnlock i) (rules_of d)
+pub unlock_rule : (d : Deal) (i : ℕ) → i < length d.leaders → IsIn (ToUnlock i) (deal_rules d)
 unlock_rule d i l =
     inr (in_append (map ToUnlock (locks d)) (ToClaim ∷ ToRefund ∷ []) (ToUnlock i)
     (inl (in_map ToUnlock (locks d) i (in_range i (length d.leaders) l))))
 
-pub claim_rule : (d : Deal) → IsIn ToClaim (rules_of d)
+pub claim_rule : (d : Deal) → IsIn ToClaim (deal_rules d)
 claim_rule d = inr (in_append (map ToUnlock (locks d)) (ToClaim ∷ ToRefund ∷ []) ToClaim (inr (inl refl)))
 
-pub refund_rule : (d : Deal) → IsIn ToRefund (rules_of d)
+pub refund_rule : (d : Deal) → IsIn ToRefund (deal_rules d)
 refund_rule d = inr (in_append (map ToUnlock (locks d)) (ToClaim ∷ ToRefund ∷ []) ToRefund (inr (inr (inl refl))))
 
 -- A book, its parties and their calls.
@@ -89,24 +89,25 @@ pub leaves : (d : Deal) (v a : ℕ) → IsIn a (leaving d.graph v) → (a < leng
 leaves d v a i = let k =
     from_filter (λ a. (ends d.graph a).from == v) a (arcs d.graph) i in (from_range a (length d.graph.arcs) k.0, eqb-true (ends d.graph a).from v k.1)
 
-pub call_by-act : (d : Deal) (a : ℕ) (past : List Entry) (e : Entry) (c : Call) (v : ℕ) (act : Act d a past e c) → act.by ≡ v → call_by v e ≡ Some c
-call_by-act d a past e c v act by =
-    ap (λ s. cond (sent_by v s) (call_in e.what) None) act.sender ∙ (ap (λ b. cond b (call_in e.what) None) (eq-eqb act.by v by) ∙ ap call_in act.what)
+pub pick_call-act : (d : Deal) (a : ℕ) (past : List Entry) (e : Entry) (c : Call) (v : ℕ) (act : Act d a past e c) → act.by ≡ v → pick_call v e ≡ Some c
+pick_call-act d a past e c v act by =
+    ap (λ s. cond (is_sender v s) (read_raw_call e.what) None) act.sender ∙ (ap (λ b. cond b (read_raw_call e.what) None) (eq-eqb act.by v by)
+    ∙ ap read_raw_call act.what)
 
-pub call_of_parts : (v : ℕ) (e : Entry) (c : Call) → call_by v e ≡ Some c → (sent_by v e.sender ≡ true) × (call_in e.what ≡ Some c)
-call_of_parts v e c k = go (sent_by v e.sender) refl k
+pub call_of_parts : (v : ℕ) (e : Entry) (c : Call) → pick_call v e ≡ Some c → (is_sender v e.sender ≡ true) × (read_raw_call e.what ≡ Some c)
+call_of_parts v e c k = go (is_sender v e.sender) refl k
   where
-    go : (b : Bool) → sent_by v e.sender ≡ b → cond b (call_in e.what) None ≡ Some c → (sent_by v e.sender ≡ true) × (call_in e.what ≡ Some c)
+    go : (b : Bool) → is_sender v e.sender ≡ b → cond b (read_raw_call e.what) None ≡ Some c → (is_sender v e.sender ≡ true) × (read_raw_call e.what ≡ Some c)
     go true h k = (h, k)
     go false h k = absurd (cc k)
 
 -- a call of v in a legal history, with its sender
-pub act_of : (d : Deal) (a : ℕ) (h past : List Entry) (e : Entry) (c : Call) (v : ℕ) → IsLegal d a h → IsMoment h past e → call_by v e ≡ Some c
+pub act_of : (d : Deal) (a : ℕ) (h past : List Entry) (e : Entry) (c : Call) (v : ℕ) → IsLegal d a h → IsMoment h past e → pick_call v e ≡ Some c
     → (act : Act d a past e c) × (act.by ≡ v)
 act_of d a h past e c v l m k =
     let parts = call_of_parts v e c k in
     let act = act_at d a h past e c l m parts.1 in
-    (act, eqb-true act.by v (ap (sent_by v) (sym act.sender) ∙ parts.0))
+    (act, eqb-true act.by v (ap (is_sender v) (sym act.sender) ∙ parts.0))
 
 pub or-left : (x y : Bool) → x ≡ true → (x || y) ≡ true
 or-left true y h = refl
@@ -116,7 +117,7 @@ pub or-first : (x y z : Bool) → (y || z) ≡ true → ((x || y) || z) ≡ true
 or-first true y z h = refl
 or-first false y z h = h
 
-pub key_parts : (i : ℕ) (o : Option Call) (key : Hashkey) → key_in i o ≡ Some key → (o ≡ Some (Unlock key)) × (key.lock ≡ i)
+pub key_parts : (i : ℕ) (o : Option Call) (key : Hashkey) → fetch_key i o ≡ Some key → (o ≡ Some (Unlock key)) × (key.lock ≡ i)
 key_parts i (Some (Unlock k)) key e = go (k.lock == i) refl e
   where
     go : (x : Bool) → (k.lock == i) ≡ x → cond x (Some k) None ≡ Some key → (Some (Unlock k) ≡ Some (Unlock key)) × (key.lock ≡ i)
@@ -135,7 +136,7 @@ same_key-path k l e =
     let k3 = and_parts (k.lock == l.lock) (bytes_eq k.secret l.secret) k2.0 in
     (eqb-true _ _ k3.0, same_list-true (λ x y. x == y) eqb-true k.path l.path k2.1)
 
-pub leader_reads : (d : Deal) (v i : ℕ) → i < length d.leaders → leads d v i ≡ true → leader_of d i ≡ v
+pub leader_reads : (d : Deal) (v i : ℕ) → i < length d.leaders → leads d v i ≡ true → lock_leader d i ≡ v
 leader_reads d v i l e = get_or_default d.leaders i 0 d.graph.n l ∙ eqb-true _ _ e
 
 pub bytes_eq-refl : (x : List ℕ) → bytes_eq x x ≡ true
@@ -188,11 +189,11 @@ flat_map_none f (y ∷ xs) x e (inl q) = ap f q ∙ (append_empty (f y) (flat_ma
 flat_map_none f (y ∷ xs) x e (inr i) = flat_map_none f xs x (append_empty (f y) (flat_map f xs) e).1 i
 
 pub key_without_parts : (v : ℕ) (o : Option Opening) (key : Hashkey) → key_without v o ≡ Some key
-    → (w : Opening) × (o ≡ Some w) × (w.key ≡ key) × (is_among v w.key.path ≡ false)
+    → (w : Opening) × (o ≡ Some w) × (w.key ≡ key) × (is_listed v w.key.path ≡ false)
 key_without_parts v None key e = absurd (cc e)
-key_without_parts v (Some w) key e = go (is_among v w.key.path) refl e
+key_without_parts v (Some w) key e = go (is_listed v w.key.path) refl e
   where
-    go : (x : Bool) → is_among v w.key.path ≡ x → cond x None (Some w.key) ≡ Some key
-        → (w' : Opening) × (Some w ≡ Some w') × (w'.key ≡ key) × (is_among v w'.key.path ≡ false)
+    go : (x : Bool) → is_listed v w.key.path ≡ x → cond x None (Some w.key) ≡ Some key
+        → (w' : Opening) × (Some w ≡ Some w') × (w'.key ≡ key) × (is_listed v w'.key.path ≡ false)
     go true h q = absurd (cc q)
     go false h q = (w, refl, same_Some w.key key q, h)

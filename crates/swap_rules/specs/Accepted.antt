@@ -7,13 +7,13 @@ use Rattle.swap_digraph.specs.declared.deal.Mode.{Mode}
 use Rattle.swap_digraph.specs.declared.deal.Mode.TheVariants.{Timelocks, Hashkeys}
 use Rattle.swap_digraph.specs.declared.deal.Version.{Version}
 use Rattle.swap_digraph.specs.declared.deal.Version.TheVariants.{One, Two}
-use Rattle.swap_digraph.specs.Deal.{counterparty, leader_of, amount, most_parties, most_arcs, HasKeys}
+use Rattle.swap_digraph.specs.Deal.{counterparty, lock_leader, amount, most_parties, most_arcs, HasKeys}
 use Rattle.hashkey_path.specs.Digest.{deal_id}
 
 -- The timelock of arc a goes by the greatest number of arcs on a path from its counterparty to the leader.
 pub record HasTimelock (d : Deal) (a : ℕ) : Type 0 where
   pub dist : ℕ
-  pub is_dist : IsDist d.graph (leader_of d 0) (counterparty d a) dist
+  pub is_dist : IsDist d.graph (lock_leader d 0) (counterparty d a) dist
   pub timelock : slice_index d.timelocks a ≡ times.timelock d.start d.delta d.bound dist
 
 -- With timelocks there is one leader, and each arc has its timelock; with hashkeys all timelocks are 0.
@@ -34,8 +34,8 @@ pub record IsAccepted (d : Deal) : Type 0 where
   pub of_version : IsOfVersion d.version d
   pub strong : IsStronglyConnected d.graph
   pub leaders : (1 ≤ length d.leaders) × (length d.leaders ≤ 8)
-  pub leader : (i : ℕ) → i < length d.leaders → leader_of d i < d.graph.n
-  pub apart : (i j : ℕ) → i < length d.leaders → j < length d.leaders → leader_of d i ≡ leader_of d j → i ≡ j
+  pub leader : (i : ℕ) → i < length d.leaders → lock_leader d i < d.graph.n
+  pub apart : (i j : ℕ) → i < length d.leaders → j < length d.leaders → lock_leader d i ≡ lock_leader d j → i ≡ j
   pub feedback : IsFeedback d.graph d.leaders
   -- the most vertices on a path of followers alone
   pub height : ℕ

@@ -3,21 +3,21 @@ use Rattle.std.specs.Prelude.{ℕ, Bool, true, false, not, ◌&&◌, ◌||◌, �
 use Rattle.std.specs.List.{list_any, list_all}
 use Rattle.std.specs.Str.{bytes_eq}
 use Rattle.swap_base.specs.Lists.{Moment, moments, same_list}
-use Rattle.swap_digraph.specs.Graph.{leaving, is_among}
+use Rattle.swap_digraph.specs.Graph.{leaving, is_listed}
 use Rattle.swap_digraph.specs.declared.deal.Mode.{Mode}
 use Rattle.swap_digraph.specs.declared.deal.Mode.TheVariants.{Timelocks, Hashkeys}
 use Rattle.swap_digraph.specs.declared.deal.Deal.{Deal}
-use Rattle.swap_digraph.specs.Deal.{leads, hashlock_of}
+use Rattle.swap_digraph.specs.Deal.{leads, lock_hashlock}
 use Rattle.hash_signature.specs.declared.sig.Sig.{Sig}
 use Rattle.hashkey_path.specs.declared.hashkey.Hashkey.{Hashkey}
 use Rattle.hashkey_path.specs.Hashkey.{same_key, is_valid}
-use Rattle.escrow_core.specs.Terms.{terms_of, same_terms}
+use Rattle.escrow_core.specs.Terms.{stated_terms, same_terms}
 use Rattle.ledger_core.specs.declared.entry.Call.{Call}
 use Rattle.ledger_core.specs.declared.entry.Call.TheVariants.{Publish, Unlock, Claim, Refund, Transfer}
 use Rattle.ledger_core.specs.declared.entry.Entry.{Entry}
 use Rattle.ledger_core.specs.History.{accepted, published, triggered}
 use Rattle.ledger_core.specs.Book.{Histories, history}
-use Rattle.swap_rules.specs.Party.{is_ready, has_expired, leads_one, call_by, first_key}
+use Rattle.swap_rules.specs.Party.{is_ready, has_expired, leads_one, pick_call, first_key}
 
 -- the call is a publish
 abbrev pub is_publish : Option Call → Bool
@@ -46,7 +46,7 @@ extends v key _ = false
 
 -- the call is an unlock with an inner hashkey: this one extends it by v, and its path lacks v
 abbrev pub extends_without : ℕ → Hashkey → Option Call → Bool
-extends_without v key (Some (Unlock inner)) = not (is_among v inner.path) && extends_with v inner key.path key.sigs key
+extends_without v key (Some (Unlock inner)) = not (is_listed v inner.path) && extends_with v inner key.path key.sigs key
 extends_without v key _ = false
 
 -- the path is v alone
@@ -66,23 +66,23 @@ has_origin Hashkeys d b v key = if leads d v key.lock then is_alone v key.path e
 unfoldable pub keeps : Deal → Histories → ℕ → ℕ → List Entry → ℕ → Option Call → Bool
 keeps d b v a past at None = true
 keeps d b v a past at (Some (Publish t)) =
-    same_terms t (terms_of d a)
-    && (count_by (λ e. is_publish (call_by v e)) (history b a) == 1)
+    same_terms t (stated_terms d a)
+    && (count_by (λ e. is_publish (pick_call v e)) (history b a) == 1)
     && (leads_one d v || is_ready d b v)
 keeps d b v a past at (Some (Unlock key)) =
     is_some (published past)
     && is_ready d b v
     && is_first_key (first_key b v key.lock) key
-    && is_valid d a (hashlock_of d key.lock) key
+    && is_valid d a (lock_hashlock d key.lock) key
     && has_origin d.mode d b v key
 keeps d b v a past at (Some Claim) = triggered d past
 keeps d b v a past at (Some Refund) = has_expired d a past at
 keeps d b v a past at (Some (Transfer to units)) = false
 
 -- the entry, where it is a call of v, keeps the rules of conduct
-abbrev pub keeps_at : Deal → Histories → ℕ → ℕ → Moment Entry → Bool
-keeps_at d b v a m = keeps d b v a m.past m.now.height (call_by v m.now)
+abbrev pub keeps_entry : Deal → Histories → ℕ → ℕ → Moment Entry → Bool
+keeps_entry d b v a m = keeps d b v a m.past m.now.height (pick_call v m.now)
 
 -- v is conducted: every call of v keeps the rules of conduct
 abbrev pub IsConducted : Deal → Histories → ℕ → Type 0
-IsConducted d b v = (a : ℕ) → IsTrue (list_all (keeps_at d b v a) (moments (history b a)))
+IsConducted d b v = (a : ℕ) → IsTrue (list_all (keeps_entry d b v a) (moments (history b a)))

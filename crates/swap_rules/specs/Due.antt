@@ -7,13 +7,13 @@ use Rattle.swap_digraph.specs.Graph.{leaving, entering}
 use Rattle.swap_digraph.specs.declared.deal.Deal.{Deal}
 use Rattle.swap_digraph.specs.Deal.{locks, leads}
 use Rattle.hashkey_path.specs.declared.hashkey.Hashkey.{Hashkey}
-use Rattle.escrow_core.specs.Terms.{terms_of}
+use Rattle.escrow_core.specs.Terms.{stated_terms}
 use Rattle.ledger_core.specs.declared.entry.Call.{Call}
 use Rattle.ledger_core.specs.declared.entry.Call.TheVariants.{Publish, Unlock, Claim, Refund}
 use Rattle.ledger_core.specs.declared.entry.Entry.{Entry}
 use Rattle.ledger_core.specs.History.{height, published, settled}
 use Rattle.ledger_core.specs.Book.{Histories, history}
-use Rattle.swap_rules.specs.Party.{is_ready, is_correct, is_triggered, has_expired, leads_one, call_by, first_seen_key}
+use Rattle.swap_rules.specs.Party.{is_ready, is_correct, is_triggered, has_expired, leads_one, pick_call, first_seen_key}
 use Rattle.swap_rules.specs.Conduct.{is_publish}
 
 -- What a party signs with: a hashkey of its own for a lock that it leads, and one put before a hashkey that it saw.
@@ -27,9 +27,9 @@ pub record Action : Type 0 where
   pub call : Call
 
 -- the call is an unlock for lock i
-abbrev pub is_unlock_for : ℕ → Option Call → Bool
-is_unlock_for i (Some (Unlock key)) = key.lock == i
-is_unlock_for i _ = false
+abbrev pub unlocks_lock : ℕ → Option Call → Bool
+unlocks_lock i (Some (Unlock key)) = key.lock == i
+unlocks_lock i _ = false
 
 -- the call is a claim
 abbrev pub is_claiming : Option Call → Bool
@@ -43,7 +43,7 @@ is_refunding _ = false
 
 -- whether v has a call that passes the test in the list, whatever the reply
 abbrev pub has_called : ℕ → (Option Call → Bool) → List Entry → Bool
-has_called v test h = list_any (λ e. test (call_by v e)) h
+has_called v test h = list_any (λ e. test (pick_call v e)) h
 
 -- v, a leader or ready, has no publish entry on arc a
 unfoldable pub is_due_publish : Deal → ℕ → Histories → ℕ → Bool
@@ -69,11 +69,11 @@ presented a (Some key) = record { arc = a; call = Unlock key } ∷ []
 
 -- v is ready and has no unlock entry for lock i on arc a
 abbrev pub may_unlock : Deal → ℕ → Histories → ℕ → ℕ → Bool
-may_unlock d v k i a = is_ready d k v && not (has_called v (is_unlock_for i) (history k a))
+may_unlock d v k i a = is_ready d k v && not (has_called v (unlocks_lock i) (history k a))
 
 -- the unlock for lock i that is due on arc a, if any
-unfoldable pub due_unlock_on : Deal → ℕ → Wallet → Option Hashkey → Histories → ℕ → ℕ → List Action
-due_unlock_on d v w signed k i a = if may_unlock d v k i a then presented a (due_key d v w signed k i) else []
+unfoldable pub due_arc_unlock : Deal → ℕ → Wallet → Option Hashkey → Histories → ℕ → ℕ → List Action
+due_arc_unlock d v w signed k i a = if may_unlock d v k i a then presented a (due_key d v w signed k i) else []
 
 -- arc a is correct and triggered, and v has no claim entry there
 unfoldable pub is_due_claim : Deal → ℕ → Histories → ℕ → Bool
@@ -91,11 +91,11 @@ when_due test a c = if test then record { arc = a; call = c } ∷ [] else []
 
 -- the due publishes, by leaving arc
 abbrev pub due_publishes : Deal → ℕ → Histories → List Action
-due_publishes d v k = flat_map (λ a. when_due (is_due_publish d v k a) a (Publish (terms_of d a))) (leaving d.graph v)
+due_publishes d v k = flat_map (λ a. when_due (is_due_publish d v k a) a (Publish (stated_terms d a))) (leaving d.graph v)
 
 -- the due unlocks, by lock and entering arc
 abbrev pub due_unlocks : Deal → ℕ → Wallet → (ℕ → Option Hashkey) → Histories → List Action
-due_unlocks d v w signed k = flat_map (λ i. flat_map (due_unlock_on d v w (signed i) k i) (entering d.graph v)) (locks d)
+due_unlocks d v w signed k = flat_map (λ i. flat_map (due_arc_unlock d v w (signed i) k i) (entering d.graph v)) (locks d)
 
 -- the due claims, by entering arc
 abbrev pub due_claims : Deal → ℕ → Histories → List Action

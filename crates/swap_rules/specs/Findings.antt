@@ -13,7 +13,7 @@ use Rattle.swap_rules.specs.declared.finding.Rule.{Rule}
 use Rattle.swap_rules.specs.declared.finding.Rule.TheVariants.{Publish as ToPublish, Unlock as ToUnlock, Claim as ToClaim, Refund as ToRefund}
 use Rattle.swap_rules.specs.declared.finding.Finding.{Finding}
 use Rattle.swap_rules.specs.declared.finding.Finding.TheVariants.{Broke, Late, Forged, Unfinished}
-use Rattle.swap_rules.specs.Conduct.{keeps_at}
+use Rattle.swap_rules.specs.Conduct.{keeps_entry}
 use Rattle.swap_rules.specs.Late.{is_late, ref_of}
 use Rattle.swap_rules.specs.Forged.{is_forged}
 
@@ -23,11 +23,11 @@ failing say test h = filter_map (λ m. if test m then None else Some (say (lengt
 
 -- where v broke a rule of conduct, by arc and entry
 abbrev pub broken : Deal → Histories → ℕ → List Finding
-broken d b v = flat_map (λ a. failing (Broke v a) (keeps_at d b v a) (history b a)) (arcs d.graph)
+broken d b v = flat_map (λ a. failing (Broke v a) (keeps_entry d b v a) (history b a)) (arcs d.graph)
 
 -- the rules in their order, that of unlocks by lock
-abbrev pub rules_of : Deal → List Rule
-rules_of d = ToPublish ∷ [] ++ map ToUnlock (locks d) ++ ToClaim ∷ ToRefund ∷ []
+abbrev pub deal_rules : Deal → List Rule
+deal_rules d = ToPublish ∷ [] ++ map ToUnlock (locks d) ++ ToClaim ∷ ToRefund ∷ []
 
 -- the number, 0 where there is none
 abbrev pub or_zero : Option ℕ → ℕ
@@ -40,15 +40,15 @@ late_on d b v rule a = if is_late d b v rule a then Late v rule a (or_zero (ref_
 
 -- where v is late, by rule, lock and arc
 abbrev pub lates : Deal → Histories → ℕ → List Finding
-lates d b v = flat_map (λ rule. flat_map (late_on d b v rule) (arcs d.graph)) (rules_of d)
+lates d b v = flat_map (λ rule. flat_map (late_on d b v rule) (arcs d.graph)) (deal_rules d)
 
 -- where an entry is forged in v's name, by arc and entry
 abbrev pub forgeries : Deal → Histories → ℕ → List Finding
 forgeries d b v = flat_map (λ a. failing (Forged v a) (λ m. not (is_forged d b v m.now)) (history b a)) (arcs d.graph)
 
 -- what is found of v
-abbrev pub findings_of : Deal → Histories → ℕ → List Finding
-findings_of d b v = broken d b v ++ lates d b v ++ forgeries d b v
+abbrev pub party_findings : Deal → Histories → ℕ → List Finding
+party_findings d b v = broken d b v ++ lates d b v ++ forgeries d b v
 
 -- the ledgers that aren't above the horizon, by arc, with their heights
 abbrev pub unfinished : Deal → Histories → List Finding
@@ -58,4 +58,4 @@ unfinished d b =
 
 -- what is found of each conforming party, and then of the ledgers
 abbrev pub findings : Deal → (ℕ → Bool) → Histories → List Finding
-findings d conforming b = flat_map (λ v. if conforming v then findings_of d b v else []) (range_with_len 0 d.graph.n) ++ unfinished d b
+findings d conforming b = flat_map (λ v. if conforming v then party_findings d b v else []) (range_with_len 0 d.graph.n) ++ unfinished d b

@@ -3,7 +3,7 @@
 use Rattle.std.specs.Prelude.{ℕ, ◌+◌, max, Bool, true, false, not, ◌&&◌, ◌||◌, ◌==◌, nat_lt, nat_le, List, Option, Some, None, is_some, if◌then◌else◌}
 use Rattle.std.specs.List.{list_any}
 use Rattle.swap_base.specs.Lists.{greatest}
-use Rattle.swap_digraph.specs.Graph.{leaving, entering, is_among}
+use Rattle.swap_digraph.specs.Graph.{leaving, entering, is_listed}
 use Rattle.swap_digraph.specs.declared.deal.Mode.{Mode}
 use Rattle.swap_digraph.specs.declared.deal.Mode.TheVariants.{Timelocks, Hashkeys}
 use Rattle.swap_digraph.specs.declared.deal.Deal.{Deal}
@@ -17,7 +17,8 @@ use Rattle.ledger_core.specs.History.{height, accepted, published, Opening, open
 use Rattle.ledger_core.specs.Book.{Histories, history}
 use Rattle.swap_rules.specs.declared.finding.Rule.{Rule}
 use Rattle.swap_rules.specs.declared.finding.Rule.TheVariants.{Publish as ToPublish, Unlock as ToUnlock, Claim as ToClaim, Refund as ToRefund}
-use Rattle.swap_rules.specs.Party.{is_correct, is_ready, ready_height, is_triggered, least_expiry, leads_one, call_by, first_key, first_seen_key, opens_without}
+use Rattle.swap_rules.specs.Party.{is_correct, is_ready, ready_height, is_triggered, least_expiry, leads_one, pick_call, first_key, first_seen_key}
+use Rattle.swap_rules.specs.Party.{opens_without}
 use Rattle.swap_rules.specs.Conduct.{is_first_key, extends}
 
 -- the height at which a lock was opened, or 0 if it wasn't
@@ -46,9 +47,9 @@ greatest_used d b v test = greatest (λ a. greatest (λ e. height_if (test e) e.
 
 -- the base height: the greatest height at which the used hashkey was accepted on an arc that leaves
 -- v; with timelocks, the greatest height at which lock i was opened there
-abbrev pub base_of : Mode → Deal → Histories → ℕ → ℕ → Option Hashkey → ℕ
-base_of Timelocks d b v i key = greatest (λ a. height_of_opening (opened (history b a) i)) (leaving d.graph v)
-base_of Hashkeys d b v i key = greatest_used d b v (is_used d b v i key)
+abbrev pub unlock_base : Mode → Deal → Histories → ℕ → ℕ → Option Hashkey → ℕ
+unlock_base Timelocks d b v i key = greatest (λ a. height_of_opening (opened (history b a) i)) (leaving d.graph v)
+unlock_base Hashkeys d b v i key = greatest_used d b v (is_used d b v i key)
 
 -- the height of the last opened lock
 abbrev pub trigger_height : Deal → List Entry → ℕ
@@ -60,14 +61,14 @@ when test n = if test then Some n else None
 
 -- the height from which the rule's action of v on arc a is to be done within delta, where it is enabled
 unfoldable pub ref_of : Deal → Histories → ℕ → Rule → ℕ → Option ℕ
-ref_of d b v ToPublish a = when (is_among a (leaving d.graph v) && (leads_one d v || is_ready d b v)) (if leads_one d v then 0 else ready_height d b v)
+ref_of d b v ToPublish a = when (is_listed a (leaving d.graph v) && (leads_one d v || is_ready d b v)) (if leads_one d v then 0 else ready_height d b v)
 ref_of d b v (ToUnlock i) a =
-    when (is_among a (entering d.graph v) && is_ready d b v
+    when (is_listed a (entering d.graph v) && is_ready d b v
     && (leads d v i || is_some (first_key b v i) || list_any (λ c. opens_without v (opened (history b c) i)) (leaving d.graph v)))
-    (if leads d v i then ready_height d b v else max (ready_height d b v) (base_of d.mode d b v i (first_key b v i)))
-ref_of d b v ToClaim a = when (is_among a (entering d.graph v) && is_correct d b a && is_triggered d b a) (trigger_height d (history b a))
+    (if leads d v i then ready_height d b v else max (ready_height d b v) (unlock_base d.mode d b v i (first_key b v i)))
+ref_of d b v ToClaim a = when (is_listed a (entering d.graph v) && is_correct d b a && is_triggered d b a) (trigger_height d (history b a))
 ref_of d b v ToRefund a =
-    when (is_among a (leaving d.graph v) && is_some (published (history b a)) && not (is_triggered d b a)) (least_expiry d a (history b a))
+    when (is_listed a (leaving d.graph v) && is_some (published (history b a)) && not (is_triggered d b a)) (least_expiry d a (history b a))
 
 -- whether a call of v on arc a, made at a height, counts for the rule
 unfoldable pub counts : Deal → Histories → ℕ → Rule → ℕ → ℕ → Option Call → Bool
@@ -79,7 +80,7 @@ counts d b v _ a at _ = false
 
 -- whether a call that counts stands on arc a at a height of at most due
 abbrev pub is_done : Deal → Histories → ℕ → Rule → ℕ → ℕ → Bool
-is_done d b v rule a due = list_any (λ e. counts d b v rule a e.height (call_by v e) && nat_le e.height due) (history b a)
+is_done d b v rule a due = list_any (λ e. counts d b v rule a e.height (pick_call v e) && nat_le e.height due) (history b a)
 
 -- whether the ledger of arc a stands above the due height, which is delta above ref, and nothing was done by then
 abbrev pub late_at : Deal → Histories → ℕ → Rule → ℕ → Option ℕ → Bool

@@ -9,7 +9,7 @@ use Rattle.swap_digraph.specs.declared.deal.Deal.{Deal}
 use Rattle.hashkey_path.specs.declared.hashkey.Hashkey.{Hashkey}
 use Rattle.ledger_core.specs.declared.entry.Entry.{Entry}
 use Rattle.ledger_core.specs.declared.entry.Call.TheVariants.{Claim}
-use Rattle.ledger_core.specs.History.{accepted, accounts, held, balance, sent_by, is_full, IsLegal}
+use Rattle.ledger_core.specs.History.{accepted, accounts, held, balance, is_sender, is_full, IsLegal}
 use Rattle.ledger_core.specs.Book.{Histories, history, IsLegalBook}
 use Rattle.swap_rules.specs.declared.finding.Rule.{Rule}
 use Rattle.swap_rules.specs.declared.finding.Finding.{Finding}
@@ -21,11 +21,11 @@ use Rattle.swap_rules.specs.Conduct.{IsConducted}
 use Rattle.swap_rules.specs.Late.{ref_of, is_late}
 use Rattle.swap_rules.specs.Forged.{is_forged}
 use Rattle.swap_rules.specs.Due.{Wallet, Action, due}
-use Rattle.swap_rules.specs.Findings.{findings, rules_of}
+use Rattle.swap_rules.specs.Findings.{findings, deal_rules}
 use Rattle.swap_rules.specs.Outcome.{outcome, IsEnded}
 use Rattle.ledger_core.specs.Ledger.{after_call}
 use Rattle.swap_rules.specs.Machine.{Knows, IsWallet, KeepsRules, IsSound, noted}
-use Rattle.swap_rules.specs.Rounds.{IsRounds, IsDoneBy, AreRaceBooks, book_at}
+use Rattle.swap_rules.specs.Rounds.{IsRounds, IsDoneBy, AreRaceBooks, round_book}
 
 -- the balances and the held amount add up to the amount of arc a
 abbrev pub AddsUp : Deal → ℕ → List Entry → Type 0
@@ -41,7 +41,7 @@ AcceptedIsWellSized = (d : Deal) → IsAccepted d → IsWellSized d
 
 -- v is late by no rule on no arc of the deal
 abbrev pub IsOnTime : Deal → Histories → ℕ → Type 0
-IsOnTime d b v = (rule : Rule) (a : ℕ) → IsIn rule (rules_of d) → IsIn a (arcs d.graph) → is_late d b v rule a ≡ false
+IsOnTime d b v = (rule : Rule) (a : ℕ) → IsIn rule (deal_rules d) → IsIn a (arcs d.graph) → is_late d b v rule a ≡ false
 
 -- no entry of an arc that leaves v is forged in its name
 abbrev pub IsUnforged : Deal → Histories → ℕ → Type 0
@@ -111,11 +111,11 @@ is_against v (Forged u a e) = false
 is_against v (Unfinished a h) = true
 
 -- the finding says that an entry of an arc that leaves v is forged in v's name
-abbrev pub is_in_name_of : Deal → ℕ → Finding → Bool
-is_in_name_of d v (Forged u a e) = (u == v) && (party d a == v)
-is_in_name_of d v (Broke u a e) = false
-is_in_name_of d v (Late u rule a due) = false
-is_in_name_of d v (Unfinished a h) = false
+abbrev pub names_party : Deal → ℕ → Finding → Bool
+names_party d v (Forged u a e) = (u == v) && (party d a == v)
+names_party d v (Broke u a e) = false
+names_party d v (Late u rule a due) = false
+names_party d v (Unfinished a h) = false
 
 -- of a legal book of an accepted deal: a conforming party against which no finding stands has its refunds, and where none stands in its name it isn't
 -- underwater
@@ -123,7 +123,7 @@ abbrev pub UnnamedIsSafe : Type 0
 UnnamedIsSafe =
     (d : Deal) (conforming : ℕ → Bool) (b : Histories) (v : ℕ) → IsAccepted d → IsLegalBook d b → v < d.graph.n → conforming v ≡ true
     → list_any (is_against v) (findings d conforming b) ≡ false
-    → (list_any (is_in_name_of d v) (findings d conforming b) ≡ false → outcome d b v ≢ Underwater) × HasRefunds d b v
+    → (list_any (names_party d v) (findings d conforming b) ≡ false → outcome d b v ≢ Underwater) × HasRefunds d b v
 
 -- in a legal book of an accepted deal in which every party is conducted, no entry is forged in anybody's name
 abbrev pub NothingIsForged : Type 0
@@ -140,7 +140,7 @@ KnowledgeConducts =
 abbrev pub LearningIsSound : Type 0
 LearningIsSound =
     (d : Deal) (known : Histories) (signed : ℕ → Option Hashkey) (v a : ℕ) (more : List Entry) → a < length known
-    → ((e : Entry) → IsIn e more → sent_by v e.sender ≡ false) → IsLegal d a (history known a ++ more)
+    → ((e : Entry) → IsIn e more → is_sender v e.sender ≡ false) → IsLegal d a (history known a ++ more)
     → IsSound d known signed v → IsSound d (set known a (history known a ++ more)) signed v
 
 -- a machine that makes a due call stays sound, where entries of others may come before the call's entry
@@ -148,7 +148,7 @@ abbrev pub DueIsSound : Type 0
 DueIsSound =
     (d : Deal) (v : ℕ) (w : Wallet) (known : Histories) (signed : ℕ → Option Hashkey) (x : Action) (fresh : List Entry) → IsWallet d v w → IsAccepted d
     → IsIn x (due d v w signed known)
-    → x.arc < length known → ((e : Entry) → IsIn e fresh → sent_by v e.sender ≡ false) → IsLegal d x.arc (history known x.arc ++ fresh)
+    → x.arc < length known → ((e : Entry) → IsIn e fresh → is_sender v e.sender ≡ false) → IsLegal d x.arc (history known x.arc ++ fresh)
     → IsSound d known signed v
     → IsSound d (set (set known x.arc (history known x.arc ++ fresh)) x.arc (after_call d x.arc v x.call (history known x.arc ++ fresh)))
     (noted signed x.call) v
@@ -165,7 +165,7 @@ abbrev pub RoundsAreInTime : Type 0
 RoundsAreInTime =
     (d : Deal) (v : ℕ) (w : Wallet) (ticks slack rounds : ℕ) (books : ℕ → Histories) → IsAccepted d → 1 ≤ ticks
     → IsRounds d v w ticks slack rounds books
-    → (rule : Rule) (a ref : ℕ) → IsIn rule (rules_of d) → IsIn a (arcs d.graph) → ref_of d (books rounds) v rule a ≡ Some ref
+    → (rule : Rule) (a ref : ℕ) → IsIn rule (deal_rules d) → IsIn a (arcs d.graph) → ref_of d (books rounds) v rule a ≡ Some ref
     → IsDoneBy d (books rounds) v rule a (ref + ticks + slack)
 
 -- where that is within delta, v is nowhere late
@@ -178,9 +178,9 @@ RoundsAreOnTime =
 -- in a race an enabled action is done within two rounds' ticks, so that with two ticks within delta nobody conforming is late
 abbrev pub RacesAreInTime : Type 0
 RacesAreInTime = (d : Deal) (v : ℕ) (w : Wallet) (ticks rounds : ℕ) (books : List Histories) → IsAccepted d → 1 ≤ ticks → AreRaceBooks d v w ticks rounds books
-    → ((rule : Rule) (a ref : ℕ) → IsIn rule (rules_of d) → IsIn a (arcs d.graph) → ref_of d (book_at books rounds) v rule a ≡ Some ref
-    → IsDoneBy d (book_at books rounds) v rule a (ref + 2 * ticks))
-    × (2 * ticks ≤ d.delta → IsOnTime d (book_at books rounds) v)
+    → ((rule : Rule) (a ref : ℕ) → IsIn rule (deal_rules d) → IsIn a (arcs d.graph) → ref_of d (round_book books rounds) v rule a ≡ Some ref
+    → IsDoneBy d (round_book books rounds) v rule a (ref + 2 * ticks))
+    × (2 * ticks ≤ d.delta → IsOnTime d (round_book books rounds) v)
 
 -- Nothing is found, and every outcome is the whole deal.
 pub record IsDealt (d : Deal) (conforming : ℕ → Bool) (b : Histories) : Type 0 where
@@ -198,4 +198,4 @@ abbrev pub RacesAreDealt : Type 0
 RacesAreDealt =
     (d : Deal) (conforming : ℕ → Bool) (ticks rounds : ℕ) (books : List Histories) → IsAccepted d → 1 ≤ ticks → 2 * ticks ≤ d.delta
     → times.horizon d.start d.delta d.bound < rounds * ticks
-    → ((v : ℕ) → v < d.graph.n → (w : Wallet) × AreRaceBooks d v w ticks rounds books) → IsDealt d conforming (book_at books rounds)
+    → ((v : ℕ) → v < d.graph.n → (w : Wallet) × AreRaceBooks d v w ticks rounds books) → IsDealt d conforming (round_book books rounds)

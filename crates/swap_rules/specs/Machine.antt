@@ -2,25 +2,25 @@
 use Rattle.std.specs.Prelude.{◌≡◌, ℕ, ◌<◌, Bool, true, false, ◌||◌, ◌==◌, IsTrue, List, ◌++◌, length, Option, Some, is_some, if◌then◌else◌}
 use Rattle.std.specs.Str.{bytes_eq}
 use Rattle.swap_base.specs.Lists.{IsIn, IsMoment}
-use Rattle.swap_digraph.specs.Graph.{leaving, entering, is_among}
+use Rattle.swap_digraph.specs.Graph.{leaving, entering, is_listed}
 use Rattle.swap_digraph.specs.declared.deal.Mode.{Mode}
 use Rattle.swap_digraph.specs.declared.deal.Mode.TheVariants.{Timelocks, Hashkeys}
 use Rattle.swap_digraph.specs.declared.deal.Deal.{Deal}
-use Rattle.swap_digraph.specs.Deal.{leads, hashlock_of}
+use Rattle.swap_digraph.specs.Deal.{leads, lock_hashlock}
 use Rattle.hashkey_path.specs.declared.hashkey.Hashkey.{Hashkey}
 use Rattle.hashkey_path.specs.Hashkey.{is_valid}
-use Rattle.escrow_core.specs.Terms.{terms_of, same_terms}
+use Rattle.escrow_core.specs.Terms.{stated_terms, same_terms}
 use Rattle.ledger_core.specs.declared.entry.Call.{Call}
 use Rattle.ledger_core.specs.declared.entry.Call.TheVariants.{Publish, Unlock, Claim, Refund, Transfer}
 use Rattle.ledger_core.specs.declared.entry.Entry.{Entry}
-use Rattle.ledger_core.specs.History.{height, published, triggered, sent_by, reply_to}
+use Rattle.ledger_core.specs.History.{height, published, triggered, is_sender, history_reply}
 use Rattle.ledger_core.specs.Ledger.{call_entry}
 use Rattle.ledger_core.specs.Book.{Histories, history, IsLegalBook}
 use Rattle.swap_rules.specs.declared.finding.Rule.{Rule}
 use Rattle.swap_rules.specs.declared.finding.Rule.TheVariants.{Publish as ToPublish, Unlock as ToUnlock, Claim as ToClaim, Refund as ToRefund}
-use Rattle.swap_rules.specs.Party.{is_ready, has_expired, leads_one, call_by}
+use Rattle.swap_rules.specs.Party.{is_ready, has_expired, leads_one, pick_call}
 use Rattle.swap_rules.specs.Conduct.{is_publish, is_alone, extends_without, has_origin}
-use Rattle.swap_rules.specs.Due.{Wallet, is_unlock_for, is_claiming, is_refunding, has_called}
+use Rattle.swap_rules.specs.Due.{Wallet, unlocks_lock, is_claiming, is_refunding, has_called}
 
 -- Knowledge.
 
@@ -32,11 +32,11 @@ Begins {A} k h = (rest : List A) × (h ≡ k ++ rest)
 pub record Knows (v : ℕ) (k h : List Entry) : Type 0 where
   pub rest : List Entry
   pub whole : h ≡ k ++ rest
-  pub others : (e : Entry) → IsIn e rest → sent_by v e.sender ≡ false
+  pub others : (e : Entry) → IsIn e rest → is_sender v e.sender ≡ false
 
 -- the entry of a call of p at the end of the history
 abbrev pub entry_of : Deal → ℕ → List Entry → ℕ → Call → Entry
-entry_of d a h p c = call_entry p (height h) c (reply_to d a h p c)
+entry_of d a h p c = call_entry p (height h) c (history_reply d a h p c)
 
 -- What a wallet of v signs: hashkeys that are valid on every arc that enters v, with the origin that conduct asks for.
 
@@ -54,14 +54,14 @@ IsOnto Hashkeys v inner key = IsTrue (extends_without v key (Some (Unlock inner)
 -- A hashkey for lock i that opens it on every arc that enters v.
 pub record IsGoodKey (d : Deal) (v i : ℕ) (key : Hashkey) : Type 0 where
   pub lock : key.lock ≡ i
-  pub valid : (a : ℕ) → IsIn a (entering d.graph v) → is_valid d a (hashlock_of d key.lock) key ≡ true
+  pub valid : (a : ℕ) → IsIn a (entering d.graph v) → is_valid d a (lock_hashlock d key.lock) key ≡ true
 
 -- A wallet of v: its own hashkeys for the locks that v leads, and hashkeys made from valid ones
 -- with a path without v.
 pub record IsWallet (d : Deal) (v : ℕ) (w : Wallet) : Type 0 where
   pub first : (i : ℕ) → i < length d.leaders → leads d v i ≡ true → IsGoodKey d v i (w.first i) × IsOwnKey d.mode v (w.first i)
   pub onto : (c : ℕ) (inner : Hashkey) → IsIn c (leaving d.graph v) → inner.lock < length d.leaders
-      → is_valid d c (hashlock_of d inner.lock) inner ≡ true → is_among v inner.path ≡ false
+      → is_valid d c (lock_hashlock d inner.lock) inner ≡ true → is_listed v inner.path ≡ false
       → IsGoodKey d v inner.lock (w.onto inner) × IsOnto d.mode v inner (w.onto inner)
 
 -- the hashkeys that were signed, after a call
@@ -72,19 +72,19 @@ noted signed _ i = signed i
 -- The rules that a machine keeps call by call. Conduct follows from them in every book that holds its knowledge and no further call of it.
 
 -- whether a call is one that the rule speaks of
-abbrev pub test_of : Rule → Option Call → Bool
-test_of ToPublish = is_publish
-test_of (ToUnlock i) = is_unlock_for i
-test_of ToClaim = is_claiming
-test_of ToRefund = is_refunding
+abbrev pub rule_test : Rule → Option Call → Bool
+rule_test ToPublish = is_publish
+rule_test (ToUnlock i) = unlocks_lock i
+rule_test ToClaim = is_claiming
+rule_test ToRefund = is_refunding
 
 -- what a call of v on arc a keeps, over the book, the entries before it and what v has signed: it is allowed, and the first of its kind
 abbrev pub KeepsOwn : Deal → Histories → (ℕ → Option Hashkey) → ℕ → ℕ → List Entry → Call → Type 0
 KeepsOwn d b signed v a past (Publish t) =
-    (same_terms t (terms_of d a) ≡ true) × ((leads_one d v || is_ready d b v) ≡ true) × (has_called v is_publish past ≡ false)
+    (same_terms t (stated_terms d a) ≡ true) × ((leads_one d v || is_ready d b v) ≡ true) × (has_called v is_publish past ≡ false)
 KeepsOwn d b signed v a past (Unlock key) =
     (is_some (published past) ≡ true) × (is_ready d b v ≡ true) × (signed key.lock ≡ Some key) × IsIn a (entering d.graph v)
-    × (has_called v (is_unlock_for key.lock) past ≡ false)
+    × (has_called v (unlocks_lock key.lock) past ≡ false)
 KeepsOwn d b signed v a past Claim = (triggered d past ≡ true) × (has_called v is_claiming past ≡ false)
 KeepsOwn d b signed v a past Refund = (has_expired d a past (height past) ≡ true) × (has_called v is_refunding past ≡ false)
 KeepsOwn d b signed v a past (Transfer to units) = ⊥
@@ -97,7 +97,7 @@ pub record KeepsKey (d : Deal) (b : Histories) (v i : ℕ) (key : Hashkey) : Typ
 
 -- What all calls and hashkeys of v keep.
 pub record KeepsRules (d : Deal) (b : Histories) (signed : ℕ → Option Hashkey) (v : ℕ) : Type 0 where
-  pub own : (a : ℕ) (past : List Entry) (e : Entry) (c : Call) → IsMoment (history b a) past e → call_by v e ≡ Some c → KeepsOwn d b signed v a past c
+  pub own : (a : ℕ) (past : List Entry) (e : Entry) (c : Call) → IsMoment (history b a) past e → pick_call v e ≡ Some c → KeepsOwn d b signed v a past c
   pub keys : (i : ℕ) (key : Hashkey) → signed i ≡ Some key → KeepsKey d b v i key
 
 -- A machine's state is sound: what it knows is legal, and its calls there keep its rules.

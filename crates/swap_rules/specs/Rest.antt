@@ -30,13 +30,13 @@ is_waiting d v k a =
     is_some (published (history k a)) && is_none (settled (history k a)) && not (is_triggered d k a) && not (has_called v is_refunding (history k a))
 
 -- the least of the numbers, none where there are none
-abbrev pub least_of : List ℕ → Option ℕ
-least_of [] = None
-least_of (n ∷ ns) = Some (least (n ∷ ns))
+abbrev pub least_number : List ℕ → Option ℕ
+least_number [] = None
+least_number (n ∷ ns) = Some (least (n ∷ ns))
 
 -- the height up to which v may rest: the least of the least expiries of the leaving arcs on which it waits for a refund, none where it waits nowhere
-abbrev pub rest_until : Deal → ℕ → Histories → Option ℕ
-rest_until d v k = least_of (map (λ a. least_expiry d a (history k a)) (filter (is_waiting d v k) (leaving d.graph v)))
+abbrev pub rest_deadline : Deal → ℕ → Histories → Option ℕ
+rest_deadline d v k = least_number (map (λ a. least_expiry d a (history k a)) (filter (is_waiting d v k) (leaving d.graph v)))
 
 -- where v waits for a refund on arc a, more entries don't bring its ledger above the least expiry there
 abbrev pub StaysLow : Deal → ℕ → Histories → ℕ → List Entry → Type 0

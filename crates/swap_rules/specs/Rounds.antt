@@ -48,15 +48,15 @@ pub record IsRaceTurn (d : Deal) (v : ℕ) (w : Wallet) (old new : Histories) : 
   pub done : due d v w (first_key known v) known ≡ []
 
 -- the book at the end of so many rounds
-abbrev pub book_at : List Histories → ℕ → Histories
-book_at books r = get_or books r []
+abbrev pub round_book : List Histories → ℕ → Histories
+round_book books r = get_or books r []
 
 -- The books at the ends of a race's rounds, oldest first; the first one is empty.
 pub record AreRaceBooks (d : Deal) (v : ℕ) (w : Wallet) (ticks rounds : ℕ) (books : List Histories) : Type 0 where
   pub number : length books ≡ rounds + 1
-  pub legal : (r : ℕ) → r ≤ rounds → IsLegalBook d (book_at books r)
-  pub conducted : IsConducted d (book_at books rounds) v
-  pub empty : (a : ℕ) → history (book_at books 0) a ≡ []
-  pub grows : (r a : ℕ) → r < rounds → Begins (history (book_at books r) a) (history (book_at books (r + 1)) a)
-  pub at : (r a : ℕ) → r ≤ rounds → IsIn a (arcs d.graph) → height (history (book_at books r) a) ≡ r * ticks
-  pub turn : (r : ℕ) → r < rounds → IsRaceTurn d v w (book_at books r) (book_at books (r + 1))
+  pub legal : (r : ℕ) → r ≤ rounds → IsLegalBook d (round_book books r)
+  pub conducted : IsConducted d (round_book books rounds) v
+  pub empty : (a : ℕ) → history (round_book books 0) a ≡ []
+  pub grows : (r a : ℕ) → r < rounds → Begins (history (round_book books r) a) (history (round_book books (r + 1)) a)
+  pub at : (r a : ℕ) → r ≤ rounds → IsIn a (arcs d.graph) → height (history (round_book books r) a) ≡ r * ticks
+  pub turn : (r : ℕ) → r < rounds → IsRaceTurn d v w (round_book books r) (round_book books (r + 1))

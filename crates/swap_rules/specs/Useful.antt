@@ -7,24 +7,24 @@ use Rattle.swap_digraph.specs.Graph.{leaving, entering}
 use Rattle.swap_digraph.specs.Deal.{locks}
 use Rattle.swap_digraph.specs.declared.deal.Deal.{Deal}
 use Rattle.hashkey_path.specs.declared.hashkey.Hashkey.{Hashkey}
-use Rattle.escrow_core.specs.Terms.{terms_of}
+use Rattle.escrow_core.specs.Terms.{stated_terms}
 use Rattle.ledger_core.specs.declared.entry.Call.{Call}
 use Rattle.ledger_core.specs.declared.entry.Call.TheVariants.{Publish}
 use Rattle.ledger_core.specs.declared.entry.Entry.{Entry}
 use Rattle.ledger_core.specs.History.{height}
 use Rattle.ledger_core.specs.Book.{Histories, history}
-use Rattle.swap_rules.specs.Due.{Wallet, Action, is_due_publish, due_unlock_on, when_due, due_claims, due_refunds, due}
+use Rattle.swap_rules.specs.Due.{Wallet, Action, is_due_publish, due_arc_unlock, when_due, due_claims, due_refunds, due}
 use Rattle.swap_rules.specs.Rest.{are_ticks, StaysLow}
 use Rattle.swap_rules.specs.Rounds.{IsNear}
 use Rattle.swap_rules.specs.Walking.{is_withheld, pressing_unlocks, pressing}
 
 -- the ledger of arc a isn't above the height by which contracts open
 abbrev pub opens_in_time : Deal → Histories → ℕ → Bool
-opens_in_time d k a = nat_le (height (history k a)) (times.open_by d.start d.delta d.bound)
+opens_in_time d k a = nat_le (height (history k a)) (times.opening_deadline d.start d.delta d.bound)
 
 -- the publishes that are due and still open in time, by leaving arc
 abbrev pub useful_publishes : Deal → ℕ → Histories → List Action
-useful_publishes d v k = flat_map (λ a. when_due (is_due_publish d v k a && opens_in_time d k a) a (Publish (terms_of d a))) (leaving d.graph v)
+useful_publishes d v k = flat_map (λ a. when_due (is_due_publish d v k a && opens_in_time d k a) a (Publish (stated_terms d a))) (leaving d.graph v)
 
 -- the unlocks that are due and not withheld, by lock and entering arc
 abbrev pub useful_unlocks : Deal → ℕ → Wallet → (ℕ → Option Hashkey) → Histories → List Action
@@ -37,8 +37,8 @@ useful d v w signed k = useful_publishes d v k ++ useful_unlocks d v w signed k 
 -- Why a due call can only hurt its party: it publishes on an arc whose ledger is above the height
 -- by which contracts open, or it presents a hashkey for a withheld lock.
 pub data IsHarmful (d : Deal) (v : ℕ) (w : Wallet) (signed : ℕ → Option Hashkey) (k : Histories) (x : Action) : Type 0 where
-  PublishesLate : x.call ≡ Publish (terms_of d x.arc) → opens_in_time d k x.arc ≡ false → IsHarmful d v w signed k x
-  RevealsLate : (i : ℕ) → IsIn x (flat_map (due_unlock_on d v w (signed i) k i) (entering d.graph v)) → is_withheld d v k i ≡ true
+  PublishesLate : x.call ≡ Publish (stated_terms d x.arc) → opens_in_time d k x.arc ≡ false → IsHarmful d v w signed k x
+  RevealsLate : (i : ℕ) → IsIn x (flat_map (due_arc_unlock d v w (signed i) k i) (entering d.graph v)) → is_withheld d v k i ≡ true
       → IsHarmful d v w signed k x
 
 -- all that is useful is due

@@ -9,7 +9,7 @@ use Rattle.swap_digraph.specs.Graph.{arcs, leaving, entering}
 use Rattle.swap_digraph.specs.Deal.{amount, counterparty, locks, leads}
 use Rattle.swap_digraph.specs.declared.deal.Deal.{Deal}
 use Rattle.hashkey_path.specs.declared.hashkey.Hashkey.{Hashkey}
-use Rattle.escrow_core.specs.Terms.{terms_of, last_in}
+use Rattle.escrow_core.specs.Terms.{stated_terms, last_unlock}
 use Rattle.ledger_core.specs.declared.entry.Entry.{Entry}
 use Rattle.ledger_core.specs.declared.entry.Call.TheVariants.{Unlock, Refund, Transfer}
 use Rattle.ledger_core.specs.History.{height, balance, published, Publication, opened}
@@ -20,14 +20,14 @@ use Rattle.swap_rules.specs.declared.finding.Finding.TheVariants.{Broke, Late, F
 use Rattle.swap_rules.specs.Findings.{findings}
 use Rattle.swap_rules.specs.declared.outcome.Outcome.TheVariants.{NoDeal, Underwater}
 use Rattle.swap_rules.specs.Accepted.{IsAccepted}
-use Rattle.swap_rules.specs.Party.{is_correct, is_ready, is_triggered, call_by, first_key}
+use Rattle.swap_rules.specs.Party.{is_correct, is_ready, is_triggered, pick_call, first_key}
 use Rattle.swap_rules.specs.Conduct.{IsConducted}
 use Rattle.swap_rules.specs.Late.{ref_of}
-use Rattle.swap_rules.specs.Due.{Wallet, Action, is_claiming, has_called, due_unlock_on, due_claims, due_refunds}
+use Rattle.swap_rules.specs.Due.{Wallet, Action, is_claiming, has_called, due_arc_unlock, due_claims, due_refunds}
 use Rattle.swap_rules.specs.Outcome.{lost, outcome, IsEnded}
 use Rattle.swap_rules.specs.Machine.{Begins, Knows}
 use Rattle.swap_rules.specs.Rounds.{IsNear}
-use Rattle.swap_rules.specs.Laws.{IsOnTime, IsUnforged, IsSafe, HasRefunds, is_in_name_of}
+use Rattle.swap_rules.specs.Laws.{IsOnTime, IsUnforged, IsSafe, HasRefunds, names_party}
 
 -- What a party has to see to.
 
@@ -37,9 +37,9 @@ pub record UnlocksOn (d : Deal) (b : Histories) (v i a : ℕ) : Type 0 where
   pub now : Entry
   pub key : Hashkey
   pub stands : IsMoment (history b a) past now
-  pub called : call_by v now ≡ Some (Unlock key)
+  pub called : pick_call v now ≡ Some (Unlock key)
   pub lock : key.lock ≡ i
-  pub in_time : now.height ≤ last_in d.mode (terms_of d a) key
+  pub in_time : now.height ≤ last_unlock d.mode (stated_terms d a) key
 
 -- v makes each unlock that is enabled, while its hashkey is accepted
 abbrev pub UnlocksAll : Deal → Histories → ℕ → Type 0
@@ -55,7 +55,7 @@ pub record AsksBack (b : Histories) (v a : ℕ) : Type 0 where
   pub past : List Entry
   pub now : Entry
   pub stands : IsMoment (history b a) past now
-  pub called : call_by v now ≡ Some Refund
+  pub called : pick_call v now ≡ Some Refund
   pub after : is_some (published past) ≡ true
 
 -- v asks back what it published on each arc that wasn't triggered
@@ -99,7 +99,7 @@ endangers v (Unfinished a h) = true
 abbrev pub LatePublishIsSafe : Type 0
 LatePublishIsSafe =
     (d : Deal) (conforming : ℕ → Bool) (b : Histories) (v : ℕ) → IsAccepted d → IsLegalBook d b → v < d.graph.n → conforming v ≡ true
-    → list_any (endangers v) (findings d conforming b) ≡ false → list_any (is_in_name_of d v) (findings d conforming b) ≡ false
+    → list_any (endangers v) (findings d conforming b) ≡ false → list_any (names_party d v) (findings d conforming b) ≡ false
     → outcome d b v ≢ Underwater
 
 -- the finding says that v broke a rule of conduct or was late with a publish or a refund, or that a ledger is unfinished
@@ -128,11 +128,11 @@ HasPublishedNothing d b v = (a : ℕ) → IsIn a (leaving d.graph v) → publish
 abbrev pub GivesNothing : Deal → Histories → ℕ → Type 0
 GivesNothing d b v =
     (a : ℕ) (past : List Entry) (e : Entry) (to units : ℕ) → IsIn a (leaving d.graph v) → IsMoment (history b a) past e
-    → call_by v e ≡ Some (Transfer to units) → ⊥
+    → pick_call v e ≡ Some (Transfer to units) → ⊥
 
 -- v makes no call at all
 abbrev pub IsSilent : Histories → ℕ → Type 0
-IsSilent b v = (a : ℕ) (past : List Entry) (e : Entry) → IsMoment (history b a) past e → call_by v e ≡ None
+IsSilent b v = (a : ℕ) (past : List Entry) (e : Entry) → IsMoment (history b a) past e → pick_call v e ≡ None
 
 -- Nothing is lost: no arc that leaves v is triggered, v isn't underwater, and it has the whole amount of each arc that leaves it.
 pub record LosesNothing (d : Deal) (b : Histories) (v : ℕ) : Type 0 where
@@ -176,7 +176,7 @@ UnrevealedLosesNothing =
 abbrev pub LatePublishIsIdle : Type 0
 LatePublishIsIdle =
     (d : Deal) (b : Histories) (a : ℕ) (p : Publication) → IsLegalBook d b → a < length d.graph.arcs → published (history b a) ≡ Some p
-    → times.open_by d.start d.delta d.bound < p.height
+    → times.opening_deadline d.start d.delta d.bound < p.height
     → (is_ready d b (counterparty d a) ≡ false) × (IsConducted d b (counterparty d a) → (i : ℕ) → opened (history b a) i ≡ None)
 
 -- What v has to see to that publishes as it likes, and stops whenever it likes.
@@ -186,11 +186,11 @@ LatePublishIsIdle =
 abbrev pub is_withheld : Deal → ℕ → Histories → ℕ → Bool
 is_withheld d v k i =
     leads d v i && is_none (first_key k v i)
-    && not (list_all (λ a. nat_le (height (history k a)) (times.open_by d.start d.delta d.bound + d.delta)) (entering d.graph v))
+    && not (list_all (λ a. nat_le (height (history k a)) (times.opening_deadline d.start d.delta d.bound + d.delta)) (entering d.graph v))
 
 -- the unlocks for lock i that are due and not withheld, by entering arc
 abbrev pub pressing_unlocks : Deal → ℕ → Wallet → (ℕ → Option Hashkey) → Histories → ℕ → List Action
-pressing_unlocks d v w signed k i = if is_withheld d v k i then [] else flat_map (due_unlock_on d v w (signed i) k i) (entering d.graph v)
+pressing_unlocks d v w signed k i = if is_withheld d v k i then [] else flat_map (due_arc_unlock d v w (signed i) k i) (entering d.graph v)
 
 -- what presses: all that is due for v but its publishes, and but unlocks that are withheld
 unfoldable pub pressing : Deal → ℕ → Wallet → (ℕ → Option Hashkey) → Histories → List Action
@@ -220,7 +220,7 @@ pub record AreFreeRounds (d : Deal) (v : ℕ) (w : Wallet) (ticks slack rounds :
   pub turn : (r : ℕ) → r < rounds → IsFreeTurn d v w (books r) (books (r + 1)) (r * ticks + slack)
   -- a refund is asked for only where a publish was accepted, as one that is due
   pub asks : (a : ℕ) (past : List Entry) (e : Entry) → IsIn a (leaving d.graph v) → IsMoment (history (books rounds) a) past e
-      → call_by v e ≡ Some Refund → is_some (published past) ≡ true
+      → pick_call v e ≡ Some Refund → is_some (published past) ≡ true
 
 -- A party may stop publishing at any time. If a round's ticks and the slack are within delta, it is
 -- watchful, and it is safe at the end of rounds that pass the horizon. It may withhold its own

@@ -16,7 +16,7 @@ use Rattle.ledger_core.specs.Book.{Histories, history}
 use Rattle.swap_job.specs.declared.event.Event.{Event}
 use Rattle.swap_job.specs.declared.event.Event.TheVariants.{Tick, Look, Act}
 use Rattle.swap_job.specs.Step.{CanStep}
-use Rattle.swap_run.specs.Run.{Cast, State, conforms, after_tick, run_from, step}
+use Rattle.swap_run.specs.Run.{Cast, State, conforms, after_tick, continued_run, step}
 use Rattle.swap_run.specs.Fair.{repeat, adjacent_arcs, looks, acts, most_acts, turn, turns, the_horizon, tick_low, ticks, round, has_ended}
 use Rattle.swap_run.specs.Fair.{round_unless_ended, finish}
 use Rattle.swap_run.specs.FairLaws.{IsReached}
@@ -35,10 +35,10 @@ module _ (c : Cast) where
       record {
         count = k.count;
         few = omega (arith, l, few);
-        book = k.book ∙ ap (λ (es : List Event). (run_from c s es).book) (sym (take-append-le k.count xs ys k.few));
+        book = k.book ∙ ap (λ (es : List Event). (continued_run c s es).book) (sym (take-append-le k.count xs ys k.few));
       }
 
-  pub along_after : (s : State) (xs ys : List Event) (b : Histories) → IsAlong c (run_from c s xs) ys b → IsAlong c s (xs ++ ys) b
+  pub along_after : (s : State) (xs ys : List Event) (b : Histories) → IsAlong c (continued_run c s xs) ys b → IsAlong c s (xs ++ ys) b
   along_after s xs ys b k =
       let l : length (xs ++ ys) ≡ length xs + length ys = length-append xs ys in
       let few = k.few in
@@ -46,22 +46,22 @@ module _ (c : Cast) where
         count = length xs + k.count;
         few = omega (arith, l, few);
         book = k.book ∙ ap (λ (t : State). t.book) (sym (fold-append (step c) s xs (take k.count ys)))
-            ∙ ap (λ (es : List Event). (run_from c s es).book) (sym (take-append-add xs ys k.count));
+            ∙ ap (λ (es : List Event). (continued_run c s es).book) (sym (take-append-add xs ys k.count));
       }
 
-  pub along_split : (s : State) (xs ys : List Event) (b : Histories) → IsAlong c s (xs ++ ys) b → IsAlong c s xs b ⊎ IsAlong c (run_from c s xs) ys b
+  pub along_split : (s : State) (xs ys : List Event) (b : Histories) → IsAlong c s (xs ++ ys) b → IsAlong c s xs b ⊎ IsAlong c (continued_run c s xs) ys b
   along_split s xs ys b k = go (nat_le k.count (length xs)) refl
     where
       l : length (xs ++ ys) ≡ length xs + length ys
       l = length-append xs ys
 
-      go : (y : Bool) → nat_le k.count (length xs) ≡ y → IsAlong c s xs b ⊎ IsAlong c (run_from c s xs) ys b
+      go : (y : Bool) → nat_le k.count (length xs) ≡ y → IsAlong c s xs b ⊎ IsAlong c (continued_run c s xs) ys b
       go true e =
           let low : k.count ≤ length xs = leb-true k.count (length xs) e in
           inl (record {
             count = k.count;
             few = low;
-            book = k.book ∙ ap (λ (es : List Event). (run_from c s es).book) (take-append-le k.count xs ys low);
+            book = k.book ∙ ap (λ (es : List Event). (continued_run c s es).book) (take-append-le k.count xs ys low);
           })
       go false e =
           let high = leb-false k.count (length xs) e in
@@ -70,20 +70,20 @@ module _ (c : Cast) where
           inr (record {
             count = k.count - length xs;
             few = omega (arith, l, few, high);
-            book = k.book ∙ ap (λ (i : ℕ). (run_from c s (take i (xs ++ ys))).book) (sym n)
-                ∙ ap (λ (es : List Event). (run_from c s es).book) (take-append-add xs ys (k.count - length xs))
+            book = k.book ∙ ap (λ (i : ℕ). (continued_run c s (take i (xs ++ ys))).book) (sym n)
+                ∙ ap (λ (es : List Event). (continued_run c s es).book) (take-append-add xs ys (k.count - length xs))
                 ∙ ap (λ (t : State). t.book) (fold-append (step c) s xs (take (k.count - length xs) ys));
           })
 
   pub along_none : (s : State) (b : Histories) → IsAlong c s [] b → b ≡ s.book
-  along_none s b k = k.book ∙ ap (λ (es : List Event). (run_from c s es).book) (take-nil k.count)
+  along_none s b k = k.book ∙ ap (λ (es : List Event). (continued_run c s es).book) (take-nil k.count)
 
   pub along_one : (s : State) (e : Event) (b : Histories) → IsAlong c s (e ∷ []) b → (b ≡ s.book) ⊎ (b ≡ (step c s e).book)
   along_one s e b k = go k.count k.book
     where
-      go : (n : ℕ) → b ≡ (run_from c s (take n (e ∷ []))).book → (b ≡ s.book) ⊎ (b ≡ (step c s e).book)
+      go : (n : ℕ) → b ≡ (continued_run c s (take n (e ∷ []))).book → (b ≡ s.book) ⊎ (b ≡ (step c s e).book)
       go zero q = inl q
-      go (suc n) q = inr (q ∙ ap (λ (es : List Event). (run_from c (step c s e) es).book) (take-nil n))
+      go (suc n) q = inr (q ∙ ap (λ (es : List Event). (continued_run c (step c s e) es).book) (take-nil n))
 
   pub along_step : (s : State) (e : Event) (b : Histories) → (b ≡ s.book) ⊎ (b ≡ (step c s e).book) → IsAlong c s (e ∷ []) b
   along_step s e b (inl q) = along_start s (e ∷ []) b q
@@ -91,80 +91,80 @@ module _ (c : Cast) where
 
   -- Where the steps lead.
 
-  pub looks_run : (v : ℕ) (s : State) → run_from c s (look_steps c.deal v) ≡ looks c v s
+  pub looks_run : (v : ℕ) (s : State) → continued_run c s (look_steps c.deal v) ≡ looks c v s
   unfolding looks
   looks_run v s = fold-map (step c) (λ a. Look v a) s (adjacent_arcs c.deal v)
 
-  pub acts_run : (n v : ℕ) (s : State) → run_from c s (replicate n (Act v)) ≡ acts c v n s
+  pub acts_run : (n v : ℕ) (s : State) → continued_run c s (replicate n (Act v)) ≡ acts c v n s
   acts_run zero v s = refl
   acts_run (suc n) v s = acts_run n v (step c s (Act v)) ∙ repeat_first n (λ t. step c t (Act v)) s
 
-  pub turn_run : (v : ℕ) (s : State) → run_from c s (turn_steps c v) ≡ turn c s v
+  pub turn_run : (v : ℕ) (s : State) → continued_run c s (turn_steps c v) ≡ turn c s v
   unfolding turn turn_steps
   turn_run v s =
       fold-append (step c) s (look_steps c.deal v) (act_steps c v)
-      ∙ ap (λ (t : State). run_from c t (act_steps c v)) (looks_run v s) ∙ go (conforms c v)
+      ∙ ap (λ (t : State). continued_run c t (act_steps c v)) (looks_run v s) ∙ go (conforms c v)
     where
-      go : (b : Bool) → run_from c (looks c v s) (cond b (replicate (most_acts c.deal) (Act v)) (Act v ∷ []))
+      go : (b : Bool) → continued_run c (looks c v s) (cond b (replicate (most_acts c.deal) (Act v)) (Act v ∷ []))
           ≡ cond b (acts c v (most_acts c.deal) (looks c v s)) (step c (looks c v s) (Act v))
       go true = acts_run (most_acts c.deal) v (looks c v s)
       go false = refl
 
-  turns_over : (xs : List ℕ) (s : State) → run_from c s (flat_map (turn_steps c) xs) ≡ fold (turn c) s xs
+  turns_over : (xs : List ℕ) (s : State) → continued_run c s (flat_map (turn_steps c) xs) ≡ fold (turn c) s xs
   turns_over [] s = refl
   turns_over (x ∷ xs) s =
       fold-append (step c) s (turn_steps c x) (flat_map (turn_steps c) xs)
-      ∙ ap (λ (t : State). run_from c t (flat_map (turn_steps c) xs)) (turn_run x s) ∙ turns_over xs (turn c s x)
+      ∙ ap (λ (t : State). continued_run c t (flat_map (turn_steps c) xs)) (turn_run x s) ∙ turns_over xs (turn c s x)
 
-  pub turns_run : (s : State) → run_from c s (turns_steps c) ≡ turns c s
+  pub turns_run : (s : State) → continued_run c s (turns_steps c) ≡ turns c s
   unfolding turns turns_steps
   turns_run s = turns_over (range_with_len 0 c.deal.graph.n) s
 
-  low_over : (js : List ℕ) (s : State) → run_from c s (low_steps c.deal s.book js) ≡ fold (tick_low c) s js
+  low_over : (js : List ℕ) (s : State) → continued_run c s (low_steps c.deal s.book js) ≡ fold (tick_low c) s js
   low_over [] s = refl
   low_over (a ∷ js) s = go (nat_le (height (history s.book a)) (the_horizon c.deal)) (λ t. low_over js t)
     where
       after : Histories
       after = (step c s (Tick a 1)).book
 
-      go : (y : Bool) → ((t : State) → run_from c t (low_steps c.deal t.book js) ≡ fold (tick_low c) t js)
-          → run_from c s (cond y (Tick a 1 ∷ []) [] ++ low_steps c.deal (cond y after s.book) js)
+      go : (y : Bool) → ((t : State) → continued_run c t (low_steps c.deal t.book js) ≡ fold (tick_low c) t js)
+          → continued_run c s (cond y (Tick a 1 ∷ []) [] ++ low_steps c.deal (cond y after s.book) js)
           ≡ fold (tick_low c) (cond y (step c s (Tick a 1)) s) js
       go true rest = rest (step c s (Tick a 1))
       go false rest = rest s
 
-  pub ticks_run : (s : State) → run_from c s (tick_steps c.deal s.book) ≡ ticks c s
+  pub ticks_run : (s : State) → continued_run c s (tick_steps c.deal s.book) ≡ ticks c s
   unfolding ticks tick_steps
   ticks_run s = low_over (arcs c.deal.graph) s
 
-  pub round_run : (s : State) → run_from c s (round_steps c s) ≡ round c s
+  pub round_run : (s : State) → continued_run c s (round_steps c s) ≡ round c s
   unfolding round
   round_run s =
       fold-append (step c) s (turns_steps c) (tick_steps c.deal (turns c s).book)
-      ∙ ap (λ (t : State). run_from c t (tick_steps c.deal (turns c s).book)) (turns_run s) ∙ ticks_run (turns c s)
+      ∙ ap (λ (t : State). continued_run c t (tick_steps c.deal (turns c s).book)) (turns_run s) ∙ ticks_run (turns c s)
 
-  pub unless_run : (s : State) → run_from c s (unless_steps c s) ≡ round_unless_ended c s
+  pub unless_run : (s : State) → continued_run c s (unless_steps c s) ≡ round_unless_ended c s
   unless_run s = go (has_ended c.deal s.book)
     where
-      go : (y : Bool) → run_from c s (cond y [] (round_steps c s)) ≡ cond y s (round c s)
+      go : (y : Bool) → continued_run c s (cond y [] (round_steps c s)) ≡ cond y s (round c s)
       go true = refl
       go false = round_run s
 
-  pub rounds_run : (n : ℕ) (s : State) → run_from c s (rounds_steps n c s) ≡ repeat n (round_unless_ended c) s
+  pub rounds_run : (n : ℕ) (s : State) → continued_run c s (rounds_steps n c s) ≡ repeat n (round_unless_ended c) s
   rounds_run zero s = refl
   rounds_run (suc n) s =
       let t = repeat n (round_unless_ended c) s in
       fold-append (step c) s (rounds_steps n c s) (unless_steps c t)
-      ∙ ap (λ (u : State). run_from c u (unless_steps c t)) (rounds_run n s) ∙ unless_run t
+      ∙ ap (λ (u : State). continued_run c u (unless_steps c t)) (rounds_run n s) ∙ unless_run t
 
-  pub pass_run : (n : ℕ) (s : State) → run_from c s (pass_steps n c s) ≡ repeat n (ticks c) s
+  pub pass_run : (n : ℕ) (s : State) → continued_run c s (pass_steps n c s) ≡ repeat n (ticks c) s
   pass_run zero s = refl
   pass_run (suc n) s =
       let t = repeat n (ticks c) s in
       fold-append (step c) s (pass_steps n c s) (tick_steps c.deal t.book)
-      ∙ ap (λ (u : State). run_from c u (tick_steps c.deal t.book)) (pass_run n s) ∙ ticks_run t
+      ∙ ap (λ (u : State). continued_run c u (tick_steps c.deal t.book)) (pass_run n s) ∙ ticks_run t
 
-  pub finish_run : (s : State) → run_from c s (finish_steps c s) ≡ finish c s
+  pub finish_run : (s : State) → continued_run c s (finish_steps c s) ≡ finish c s
   unfolding finish finish_steps
   finish_run s = rounds_run (the_horizon c.deal + 1) s
 
@@ -291,7 +291,7 @@ module _ (c : Cast) where
 
   -- events lead to the state of such histories
   pub along_reached : (s : State) (events : List Event) (b : Histories) → All Can events → (k : IsAlong c s events b)
-      → IsReached c s (run_from c s (take k.count events))
+      → IsReached c s (continued_run c s (take k.count events))
   along_reached s events b can k = record { events = take k.count events; can = All-take Can k.count events can; state = refl }
 
 pub finish_is_steps : FinishIsSteps

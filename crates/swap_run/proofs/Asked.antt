@@ -17,7 +17,7 @@ use Rattle.deviators.specs.Script.{next_call, moves_left}
 use Rattle.swap_rules.specs.Due.{Action}
 use Rattle.swap_rules.specs.Machine.{Begins}
 use Rattle.swap_rules.proofs.Prefixes.{begins_more}
-use Rattle.swap_run.specs.Run.{Cast, Question, State, conforms, role_of, plan_of, look, make, next_of, act, watch, take_call, after_turn, question}
+use Rattle.swap_run.specs.Run.{Cast, Question, State, conforms, party_role, party_plan, look, make, next_action, act, watch, take_call, after_turn, question}
 use Rattle.swap_run.specs.Run.{after_question, answer_for, act_as, step}
 use Rattle.swap_run.specs.Fair.{repeat, adjacent_arcs, looks, acts, most_acts, turn, turns, the_horizon, tick_low, ticks, round, has_ended}
 use Rattle.swap_run.specs.Fair.{round_unless_ended, finish}
@@ -26,18 +26,18 @@ use Rattle.swap_run.specs.Asked.{FinishesWithoutStrategies, RulesDecideRuns, Rul
 
 -- Nothing but an act of a strategy's party asks.
 
-take_asked : (c : Cast) (s : State) (v : ℕ) (o : Option (ℕ × Call)) → (take_call c s v o).asked ≡ s.asked
+pub take_asked : (c : Cast) (s : State) (v : ℕ) (o : Option (ℕ × Call)) → (take_call c s v o).asked ≡ s.asked
 take_asked c s v None = refl
 take_asked c s v (Some x) = refl
 
-make_asked : (c : Cast) (s : State) (v : ℕ) (o : Option Action) → (make c.deal s v o).asked ≡ s.asked
+pub make_asked : (c : Cast) (s : State) (v : ℕ) (o : Option Action) → (make c.deal s v o).asked ≡ s.asked
 make_asked c s v None = refl
 make_asked c s v (Some x) = refl
 
 follow_asked : (c : Cast) (s : State) (v : ℕ) (moves : List Move) → (act_as c s v (Script moves)).asked ≡ s.asked
 follow_asked c s v moves =
-    take_asked c (after_turn s v (moves_left (plan_of s v).known (plan_of s v).moves)) v
-    (next_call c.deal c.seeds (plan_of s v).known (plan_of s v).moves)
+    take_asked c (after_turn s v (moves_left (party_plan s v).known (party_plan s v).moves)) v
+    (next_call c.deal c.seeds (party_plan s v).known (party_plan s v).moves)
 
 ask_asked : (c : Cast) (s : State) (v : ℕ) (name : List ℕ) → (act_as c s v (Strategy name)).asked ≡ s.asked ++ question s v name ∷ []
 ask_asked c s v name = take_asked c (after_question s v name) v (answer_for c.deal v (c.answers (length s.asked)))
@@ -46,7 +46,7 @@ ask_asked c s v name = take_asked c (after_question s v name) v (answer_for c.de
 abbrev Between : (ℕ → Question → Type 0) → State → State → Type 0
 Between P s t = (i : ℕ) (q : Question) → length s.asked ≤ i → i < length t.asked → q ≡ get_or t.asked i q → P i q
 
-begins_length : {A : Type 0} (xs ys : List A) → Begins xs ys → length xs ≤ length ys
+pub begins_length : {A : Type 0} (xs ys : List A) → Begins xs ys → length xs ≤ length ys
 begins_length xs ys b = let e : length ys ≡ length xs + length b.0 = ap length b.1 ∙ length-append xs b.0 in omega arith
 
 early : (P : ℕ → Question → Type 0) (s t u : State) → Begins t.asked u.asked → Between P s u → Between P s t
@@ -130,7 +130,8 @@ module _
   act_orderly s v Manual = at_once s s s refl refl
   act_orderly s v (Script moves) =
       at_once s (act_as c s v (Script moves)) (act_as w s v (Script moves)) (follow_asked c s v moves)
-      (take_same (after_turn s v (moves_left (plan_of s v).known (plan_of s v).moves)) v (next_call c.deal c.seeds (plan_of s v).known (plan_of s v).moves))
+      (take_same (after_turn s v (moves_left (party_plan s v).known (party_plan s v).moves)) v (next_call c.deal c.seeds (party_plan s v).known
+      (party_plan s v).moves))
   act_orderly s v (Strategy name) = ask_orderly s v name
 
   step_orderly : (e : Event) (s : State) → Orderly s (step c s e) (step w s e)
@@ -139,8 +140,8 @@ module _
       either (conforms c v) s (look s v a) (look s v a) (watch c s v a) (watch w s v a)
       (at_once s (look s v a) (look s v a) refl refl) (at_once s (watch c s v a) (watch w s v a) refl refl)
   step_orderly (Act v) s =
-      either (conforms c v) s (act c s v) (act w s v) (act_as c s v (role_of c v)) (act_as w s v (role_of c v))
-      (at_once s (act c s v) (act w s v) (make_asked c s v (next_of c s v)) refl) (act_orderly s v (role_of c v))
+      either (conforms c v) s (act c s v) (act w s v) (act_as c s v (party_role c v)) (act_as w s v (party_role c v))
+      (at_once s (act c s v) (act w s v) (make_asked c s v (next_action c s v)) refl) (act_orderly s v (party_role c v))
   step_orderly (Made v mv) s =
       at_once s (step c s (Made v mv)) (step w s (Made v mv)) (take_asked c s v (resolved c.deal c.seeds s.book mv))
       (take_same s v (resolved c.deal c.seeds s.book mv))
@@ -236,8 +237,8 @@ module _ (c : Cast) (none : list_any is_strategy c.roles ≡ false) where
   quiet_step (Tick a k) s = refl
   quiet_step (Look v a) s = quiet_either (conforms c v) s (look s v a) (watch c s v a) refl refl
   quiet_step (Act v) s =
-      quiet_either (conforms c v) s (act c s v) (act_as c s v (role_of c v)) (make_asked c s v (next_of c s v))
-      (quiet_act s v (role_of c v) (among c.roles v none))
+      quiet_either (conforms c v) s (act c s v) (act_as c s v (party_role c v)) (make_asked c s v (next_action c s v))
+      (quiet_act s v (party_role c v) (among c.roles v none))
   quiet_step (Made v mv) s = take_asked c s v (resolved c.deal c.seeds s.book mv)
   quiet_step (Crash v k image) s = refl
 

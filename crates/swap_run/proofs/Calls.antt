@@ -27,14 +27,15 @@ use Rattle.swap_rules.specs.Machine.{IsSound, Begins}
 use Rattle.swap_rules.proofs.Due.{IsDue}
 use Rattle.swap_rules.proofs.Growth.{is_published-more}
 use Rattle.swap_rules.proofs.Prefixes.{same_or_not}
-use Rattle.swap_run.specs.Run.{Cast, Notes, State, conforms, role_of, notes_of, plan_of, signed_after, look, make, next_of, act, watch, take_call}
+use Rattle.swap_run.specs.Run.{Cast, Notes, State, conforms, party_role, state_notes, party_plan, signed_after, look, make, next_action, act, watch, take_call}
 use Rattle.swap_run.specs.Run.{plans_seen, after_turn, question, after_question, answer_for, act_as}
 use Rattle.swap_run.specs.Laws.{IsReadyCast, AreGoodNotes, IsGood}
 use Rattle.swap_run.proofs.Noted.{hold_look, due_now, signed_length}
 use Rattle.swap_run.proofs.Plans.{good_seen, good_turn, good_asked, answer_may}
-use Rattle.swap_run.proofs.Good.{holds, good_notes, note_same, note_other, first_in, script_may}
+use Rattle.swap_run.proofs.Good.{holds, good_notes, note_same, note_other, script_may}
 use Rattle.swap_run.specs.Called.{Called, by, by_due, called_as, turned_as, noted_to, planned_to, is_barred}
 use Rattle.swap_run.specs.CalledLaws.{CallsSplit, CallsArePlaced, PassedIsGood}
+use Rattle.swap_rules.proofs.Cases.{first_in}
 
 -- The parts of an event.
 
@@ -65,16 +66,16 @@ acted : (c : Cast) (s : State) (v : ℕ) (role : Role) (x : Called) → called_a
 acted c s v Conforming x e = absurd (cc e)
 acted c s v Manual x e = absurd (cc e)
 acted c s v (Script moves) x e =
-    taken c (after_turn s v (moves_left (plan_of s v).known (plan_of s v).moves)) v
-    (next_call c.deal c.seeds (plan_of s v).known (plan_of s v).moves) x e
+    taken c (after_turn s v (moves_left (party_plan s v).known (party_plan s v).moves)) v
+    (next_call c.deal c.seeds (party_plan s v).known (party_plan s v).moves) x e
 acted c s v (Strategy name) x e = taken c (after_question s v name) v (answer_for c.deal v (c.answers (length s.asked))) x e
 
 acted_none : (c : Cast) (s : State) (v : ℕ) (role : Role) → called_as c s v role ≡ None → act_as c s v role ≡ turned_as c s v role
 acted_none c s v Conforming e = refl
 acted_none c s v Manual e = refl
 acted_none c s v (Script moves) e =
-    taken_none c (after_turn s v (moves_left (plan_of s v).known (plan_of s v).moves)) v
-    (next_call c.deal c.seeds (plan_of s v).known (plan_of s v).moves) e
+    taken_none c (after_turn s v (moves_left (party_plan s v).known (party_plan s v).moves)) v
+    (next_call c.deal c.seeds (party_plan s v).known (party_plan s v).moves) e
 acted_none c s v (Strategy name) e = taken_none c (after_question s v name) v (answer_for c.deal v (c.answers (length s.asked))) e
 
 turned_calm : (c : Cast) (s : State) (v : ℕ) (role : Role) → (turned_as c s v role).book ≡ s.book
@@ -103,23 +104,23 @@ calls_split c s (Crash v k image) e = record { alone = λ q. refl; calls = λ x 
 calls_split c s (Act v) e = record { alone = alone (conforms c v); calls = λ x. calls x (conforms c v); calm = calm (conforms c v) }
   where
     role : Role
-    role = role_of c v
+    role = party_role c v
 
-    alone : (b : Bool) → cond b (by_due v (next_of c s v)) (called_as c s v (role_of c v)) ≡ None
-        → cond b (act c s v) (act_as c s v (role_of c v)) ≡ cond b s (turned_as c s v (role_of c v))
-    alone true q = made_none c s v (next_of c s v) q
-    alone false q = acted_none c s v (role_of c v) q
+    alone : (b : Bool) → cond b (by_due v (next_action c s v)) (called_as c s v (party_role c v)) ≡ None
+        → cond b (act c s v) (act_as c s v (party_role c v)) ≡ cond b s (turned_as c s v (party_role c v))
+    alone true q = made_none c s v (next_action c s v) q
+    alone false q = acted_none c s v (party_role c v) q
 
-    calls : (x : Called) (b : Bool) → cond b (by_due v (next_of c s v)) (called_as c s v (role_of c v)) ≡ Some x
-        → cond b (act c s v) (act_as c s v (role_of c v))
-        ≡ cond b (noted_to (cond b s (turned_as c s v (role_of c v))) x (left_by c s x))
-        (planned_to c (cond b s (turned_as c s v (role_of c v))) x (left_by c s x))
-    calls x true q = made c s v (next_of c s v) x q
-    calls x false q = acted c s v (role_of c v) x q
+    calls : (x : Called) (b : Bool) → cond b (by_due v (next_action c s v)) (called_as c s v (party_role c v)) ≡ Some x
+        → cond b (act c s v) (act_as c s v (party_role c v))
+        ≡ cond b (noted_to (cond b s (turned_as c s v (party_role c v))) x (left_by c s x))
+        (planned_to c (cond b s (turned_as c s v (party_role c v))) x (left_by c s x))
+    calls x true q = made c s v (next_action c s v) x q
+    calls x false q = acted c s v (party_role c v) x q
 
-    calm : (b : Bool) → (cond b s (turned_as c s v (role_of c v))).book ≡ s.book
+    calm : (b : Bool) → (cond b s (turned_as c s v (party_role c v))).book ≡ s.book
     calm true = refl
-    calm false = turned_calm c s v (role_of c v)
+    calm false = turned_calm c s v (party_role c v)
 
 -- What is called.
 
@@ -141,11 +142,11 @@ turned_as_is : (c : Cast) (s : State) (v : ℕ) (role : Role) (x : Called) → v
 turned_as_is c s v Conforming x lv g e = absurd (cc e)
 turned_as_is c s v Manual x lv g e = absurd (cc e)
 turned_as_is c s v (Script moves) x lv g e =
-    let k = answered c.deal v (next_call c.deal c.seeds (plan_of s v).known (plan_of s v).moves) x (script_may c s v lv g) e in
+    let k = answered c.deal v (next_call c.deal c.seeds (party_plan s v).known (party_plan s v).moves) x (script_may c s v lv g) e in
     record {
       good =
-          good_turn c s v (moves_left (plan_of s v).known (plan_of s v).moves) lv
-          (left_fit (IsMoveOf c.deal c.seeds v) (plan_of s v).known (plan_of s v).moves (g.plans v lv).moves) g;
+          good_turn c s v (moves_left (party_plan s v).known (party_plan s v).moves) lv
+          (left_fit (IsMoveOf c.deal c.seeds v) (party_plan s v).known (party_plan s v).moves (g.plans v lv).moves) g;
       calm = refl;
       sender = k.0;
       answer = k.1;
@@ -154,22 +155,22 @@ turned_as_is c s v (Strategy name) x lv g e =
     let k = answered c.deal v (answer_for c.deal v (c.answers (length s.asked))) x (answer_may c.deal v (c.answers (length s.asked))) e in
     record {
       good =
-          good_asked c (after_turn s v (plan_of s v).moves) (s.asked ++ question s v name ∷ [])
-          (good_turn c s v (plan_of s v).moves lv (g.plans v lv).moves g);
+          good_asked c (after_turn s v (party_plan s v).moves) (s.asked ++ question s v name ∷ [])
+          (good_turn c s v (party_plan s v).moves lv (g.plans v lv).moves g);
       calm = refl;
       sender = k.0;
       answer = k.1;
     }
 
 -- the due call of v is the first that is due
-due_in : (c : Cast) (s : State) (v : ℕ) (o : Option Action) (x : Called) → next_of c s v ≡ o → by_due v o ≡ Some x
-    → (x.sender ≡ v) × IsIn (record { arc = x.arc; call = x.call }) (due c.deal v (c.wallet v) (signed_in (notes_of s v).signed) (notes_of s v).known)
+due_in : (c : Cast) (s : State) (v : ℕ) (o : Option Action) (x : Called) → next_action c s v ≡ o → by_due v o ≡ Some x
+    → (x.sender ≡ v) × IsIn (record { arc = x.arc; call = x.call }) (due c.deal v (c.wallet v) (signed_in (state_notes s v).signed) (state_notes s v).known)
 due_in c s v None x q e = absurd (cc e)
 due_in c s v (Some y) x q e =
     subst (λ z. (z.sender ≡ v) × IsIn (record { arc = z.arc; call = z.call })
-    (due c.deal v (c.wallet v) (signed_in (notes_of s v).signed) (notes_of s v).known))
+    (due c.deal v (c.wallet v) (signed_in (state_notes s v).signed) (state_notes s v).known))
     (same_Some (record { sender = v; arc = y.arc; call = y.call }) x e)
-    (refl, first_in (due c.deal v (c.wallet v) (signed_in (notes_of s v).signed) (notes_of s v).known) y q)
+    (refl, first_in (due c.deal v (c.wallet v) (signed_in (state_notes s v).signed) (state_notes s v).known) y q)
 
 pub calls_are_placed : CallsArePlaced
 calls_are_placed c s (Tick a k) x ready can g e = absurd (cc e)
@@ -180,12 +181,12 @@ calls_are_placed c s (Calls v mv) x ready can g e =
     (may_resolve c.deal c.seeds v s.book mv g.legal (record { fits = can.fits; adjacent = can.adjacent })) e).1.arc
 calls_are_placed c s (Act v) x ready can g e = go (conforms c v) refl e
   where
-    go : (b : Bool) → conforms c v ≡ b → cond b (by_due v (next_of c s v)) (called_as c s v (role_of c v)) ≡ Some x → x.arc < length c.deal.graph.arcs
+    go : (b : Bool) → conforms c v ≡ b → cond b (by_due v (next_action c s v)) (called_as c s v (party_role c v)) ≡ Some x → x.arc < length c.deal.graph.arcs
     go true cv q =
-        let i = due_in c s v (next_of c s v) x refl q in
-        (due_now c.deal s.book (notes_of s v) v (c.wallet v) (record { arc = x.arc; call = x.call }) (ready.wallets v can cv) ready.accepted i.1
+        let i = due_in c s v (next_action c s v) x refl q in
+        (due_now c.deal s.book (state_notes s v) v (c.wallet v) (record { arc = x.arc; call = x.call }) (ready.wallets v can cv) ready.accepted i.1
         (holds c s v (g.notes v can cv))).below
-    go false out q = (turned_as_is c s v (role_of c v) x can g q).answer.arc
+    go false out q = (turned_as_is c s v (party_role c v) x can g q).answer.arc
 
 -- A call that leaves no entry.
 
@@ -226,7 +227,7 @@ signs_nothing c s v a (Unlock key) n is b bar =
 
 -- of a party that conforms
 passed_notes : (c : Cast) (s : State) (v : ℕ) (x : Called) → IsReadyCast c → v < c.deal.graph.n → conforms c v ≡ true → x.sender ≡ v
-    → IsIn (record { arc = x.arc; call = x.call }) (due c.deal v (c.wallet v) (signed_in (notes_of s v).signed) (notes_of s v).known)
+    → IsIn (record { arc = x.arc; call = x.call }) (due c.deal v (c.wallet v) (signed_in (state_notes s v).signed) (state_notes s v).known)
     → is_barred true (history s.book x.arc) x.call ≡ true → IsGood c s → IsGood c (noted_to s x (history s.book x.arc))
 passed_notes c s v x ready lv cv e i bar g =
     subst (λ b. IsGood c (record s { book = b; notes = slice_set s.notes x.sender (after x.sender) })) (sym (still s.book x.arc))
@@ -239,7 +240,7 @@ passed_notes c s v x ready lv cv e i bar g =
     }))
   where
     after : ℕ → Notes
-    after u = record { known = slice_set (notes_of s u).known x.arc (history s.book x.arc); signed = signed_after (notes_of s u).signed x.call }
+    after u = record { known = slice_set (state_notes s u).known x.arc (history s.book x.arc); signed = signed_after (state_notes s u).signed x.call }
 
     now : State
     now = record s { notes = slice_set s.notes v (after v) }
@@ -248,20 +249,20 @@ passed_notes c s v x ready lv cv e i bar g =
     go u l cu (inl q) = subst (AreGoodNotes c (record s { notes = slice_set s.notes v (after v) })) (sym q)
         (let hv = holds c s v (g.notes v lv cv) in
         let is =
-        due_now c.deal s.book (notes_of s v) v (c.wallet v) (record { arc = x.arc; call = x.call }) (ready.wallets v lv cv) ready.accepted i hv in
-        let k = hold_look c.deal s.book (notes_of s v) v x.arc is.below is.of_the_two g.legal hv in
+        due_now c.deal s.book (state_notes s v) v (c.wallet v) (record { arc = x.arc; call = x.call }) (ready.wallets v lv cv) ready.accepted i hv in
+        let k = hold_look c.deal s.book (state_notes s v) v x.arc is.below is.of_the_two g.legal hv in
         let same =
-        signs_nothing c s v x.arc x.call (notes_of s v) is ((hv.knows x.arc).rest, (hv.knows x.arc).whole) bar in
+        signs_nothing c s v x.arc x.call (state_notes s v) is ((hv.knows x.arc).rest, (hv.knows x.arc).whole) bar in
         good_notes c (record s { notes = slice_set s.notes v (after v) }) v (after v)
         (note_same s s.book v (after v) (subst (λ m. v < m) (sym g.one_each) lv)) (record {
           one_each = k.one_each;
-          places = signed_length (notes_of s v).signed x.call ∙ hv.places;
+          places = signed_length (state_notes s v).signed x.call ∙ hv.places;
           knows = k.knows;
           far = k.far;
-          sound = subst (λ f. IsSound c.deal (set (notes_of s v).known x.arc (history s.book x.arc)) f v) (sym same) k.sound;
+          sound = subst (λ f. IsSound c.deal (set (state_notes s v).known x.arc (history s.book x.arc)) f v) (sym same) k.sound;
         }))
     go u l cu (inr n) =
-        good_notes c (record s { notes = slice_set s.notes v (after v) }) u (notes_of s u) (note_other s s.book v u (after v) n)
+        good_notes c (record s { notes = slice_set s.notes v (after v) }) u (state_notes s u) (note_other s s.book v u (after v) n)
         (holds c s u (g.notes u l cu))
 
 pub passed_is_good : PassedIsGood
@@ -274,11 +275,11 @@ passed_is_good c s (Calls v mv) x ready can g e bar =
     passed_plan c s v x can.known k.0 k.1 g
 passed_is_good c s (Act v) x ready can g e bar = go (conforms c v) refl e
   where
-    go : (b : Bool) → conforms c v ≡ b → cond b (by_due v (next_of c s v)) (called_as c s v (role_of c v)) ≡ Some x
-        → IsGood c (cond b (noted_to (cond b s (turned_as c s v (role_of c v))) x (history s.book x.arc))
-        (planned_to c (cond b s (turned_as c s v (role_of c v))) x (history s.book x.arc)))
-    go true cv q = let i = due_in c s v (next_of c s v) x refl q in passed_notes c s v x ready can cv i.0 i.1 bar g
+    go : (b : Bool) → conforms c v ≡ b → cond b (by_due v (next_action c s v)) (called_as c s v (party_role c v)) ≡ Some x
+        → IsGood c (cond b (noted_to (cond b s (turned_as c s v (party_role c v))) x (history s.book x.arc))
+        (planned_to c (cond b s (turned_as c s v (party_role c v))) x (history s.book x.arc)))
+    go true cv q = let i = due_in c s v (next_action c s v) x refl q in passed_notes c s v x ready can cv i.0 i.1 bar g
     go false out q =
-        let k = turned_as_is c s v (role_of c v) x can g q in
-        subst (λ b. IsGood c (planned_to c (turned_as c s v (role_of c v)) x (history b x.arc))) k.calm
-        (passed_plan c (turned_as c s v (role_of c v)) v x can k.sender k.answer k.good)
+        let k = turned_as_is c s v (party_role c v) x can g q in
+        subst (λ b. IsGood c (planned_to c (turned_as c s v (party_role c v)) x (history b x.arc))) k.calm
+        (passed_plan c (turned_as c s v (party_role c v)) v x can k.sender k.answer k.good)

@@ -12,7 +12,7 @@ use Rattle.ledger_core.specs.declared.entry.Call.TheVariants.{Publish, Unlock, C
 use Rattle.ledger_core.specs.declared.entry.Sender.TheVariants.{Clock}
 use Rattle.ledger_core.specs.declared.entry.What.TheVariants.{Tick}
 use Rattle.ledger_core.specs.declared.entry.Entry.{Entry}
-use Rattle.ledger_core.specs.History.{height, rows, reply_to, is_full, is_clock_full}
+use Rattle.ledger_core.specs.History.{height, rows, history_reply, is_full, is_clock_full}
 use Rattle.ledger_core.specs.Ledger.{tick_entry, is_sender_full, after_call}
 use Rattle.swap_rules.specs.Machine.{entry_of}
 use Rattle.ledger_core.proofs.History.{not-true-of}
@@ -59,7 +59,7 @@ tail [] = []
 tail (x ∷ xs) = xs
 
 -- where the sender's entries aren't full, no row says that they are
-pub has_room : (d : Deal) (a : ℕ) (past : List Entry) (p : ℕ) (c : Call) → is_full past p ≡ false → is_sender_full (reply_to d a past p c) ≡ false
+pub has_room : (d : Deal) (a : ℕ) (past : List Entry) (p : ℕ) (c : Call) → is_full past p ≡ false → is_sender_full (history_reply d a past p c) ≡ false
 unfolding rows tail
 has_room d a past p (Publish t) f = rw f (first_row-not (tail (rows d a past p (Publish t))) refl)
 has_room d a past p (Unlock key) f = rw f (first_row-not (tail (rows d a past p (Unlock key))) refl)

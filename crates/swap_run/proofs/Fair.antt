@@ -19,7 +19,7 @@ use Rattle.swap_rules.proofs.Growth.{Grows}
 use Rattle.swap_rules.proofs.Rounds.{rounds_on_time}
 use Rattle.swap_rules.proofs.Dealing.{all_dealt}
 use Rattle.party_wallet.specs.Value.{signed_in}
-use Rattle.swap_run.specs.Run.{Cast, State, conforms, notes_of, next_of, start}
+use Rattle.swap_run.specs.Run.{Cast, State, conforms, state_notes, next_action, start}
 use Rattle.swap_run.specs.Laws.{IsReadyCast, IsGood}
 use Rattle.swap_run.specs.Fair.{repeat, turn, turns, the_horizon, raised, round, has_ended, round_unless_ended, finish}
 use Rattle.swap_run.specs.FairLaws.{FairIsDealt}
@@ -34,9 +34,9 @@ record TurnIn (c : Cast) (v : ℕ) (s t : State) : Type 0 where
   mid : State
   good : IsGood c mid
   calm : Calm s.book mid.book
-  seen : (a : ℕ) → IsNear c.deal v a → Begins (history s.book a) (history (notes_of mid v).known a)
-  rest : next_of c mid v ≡ None
-  same : notes_of t v ≡ notes_of mid v
+  seen : (a : ℕ) → IsNear c.deal v a → Begins (history s.book a) (history (state_notes mid v).known a)
+  rest : next_action c mid v ≡ None
+  same : state_notes t v ≡ state_notes mid v
 
 -- A good state whose ledgers are all at one height.
 record Level (c : Cast) (s : State) (r : ℕ) : Type 0 where
@@ -56,7 +56,8 @@ raised_low m r l = ap (λ y. cond {A = ℕ} y (r + 1) r) (le-leb r m l) ∙ next
     next r = omega arith
 
 module _ (c : Cast) (ready : IsReadyCast c) (all : (v : ℕ) → v < c.deal.graph.n → conforms c v ≡ true) where
-  later_turns : (m k : ℕ) (s : State) → k + m ≤ c.deal.graph.n → IsGood c s → (v : ℕ) → v < k → notes_of (fold (turn c) s (range_with_len k m)) v ≡ notes_of s v
+  later_turns : (m k : ℕ) (s : State) → k + m ≤ c.deal.graph.n → IsGood c s → (v : ℕ) → v < k
+      → state_notes (fold (turn c) s (range_with_len k m)) v ≡ state_notes s v
   later_turns zero k s l g v b = refl
   later_turns (suc m) k s l g v b =
       let t = turned c ready k (omega arith) s g in
@@ -75,9 +76,9 @@ module _ (c : Cast) (ready : IsReadyCast c) (all : (v : ℕ) → v < c.deal.grap
         good = x.turned.good;
         calm = x.turned.calm;
         seen =
-            λ a i. subst (λ u. Begins (history s.book a) (history (notes_of (turn c s k) u).known a)) (sym e)
+            λ a i. subst (λ u. Begins (history s.book a) (history (state_notes (turn c s k) u).known a)) (sym e)
             (x.seen a (subst (λ u. IsNear c.deal u a) e i));
-        rest = subst (λ u. next_of c (turn c s k) u ≡ None) (sym e) x.rest;
+        rest = subst (λ u. next_action c (turn c s k) u ≡ None) (sym e) x.rest;
         same = later_turns m (k + 1) (turn c s k) (omega arith) x.turned.good v (let q : ◌≡◌ {A = ℕ} v k = e in omega arith);
       }
       go x (inr n) again =
@@ -87,7 +88,7 @@ module _ (c : Cast) (ready : IsReadyCast c) (all : (v : ℕ) → v < c.deal.grap
             good = y.good;
             calm = calm_more s.book (turn c s k).book y.mid.book x.turned.calm y.calm;
             seen =
-                λ a i. begins_more (history s.book a) (history (turn c s k).book a) (history (notes_of y.mid v).known a) (x.turned.calm.grows a)
+                λ a i. begins_more (history s.book a) (history (turn c s k).book a) (history (state_notes y.mid v).known a) (x.turned.calm.grows a)
                 (y.seen a i);
             rest = y.rest;
             same = y.same;
@@ -98,17 +99,17 @@ module _ (c : Cast) (ready : IsReadyCast c) (all : (v : ℕ) → v < c.deal.grap
   turn_of_round s g v lv = turn_in c.deal.graph.n 0 s (omega arith) g v (omega arith) (omega arith)
 
   -- nothing that v knows is above the height of the round
-  known_low : (r : ℕ) (s mid : State) (v a : ℕ) → Level c s r → Calm s.book mid.book → Knows v (history (notes_of mid v).known a) (history mid.book a)
-      → height (history (notes_of mid v).known a) ≤ r
+  known_low : (r : ℕ) (s mid : State) (v a : ℕ) → Level c s r → Calm s.book mid.book → Knows v (history (state_notes mid v).known a) (history mid.book a)
+      → height (history (state_notes mid v).known a) ≤ r
   known_low r s mid v a x calm n = go (nat_lt a (length c.deal.graph.arcs)) refl
     where
-      below : height (history (notes_of mid v).known a) ≤ height (history s.book a)
+      below : height (history (state_notes mid v).known a) ≤ height (history s.book a)
       below =
-          let h = begins_height (history (notes_of mid v).known a) (history mid.book a) (n.rest, n.whole) in
+          let h = begins_height (history (state_notes mid v).known a) (history mid.book a) (n.rest, n.whole) in
           let e : height (history mid.book a) ≡ height (history s.book a) = calm.heights a in
           omega arith
 
-      go : (y : Bool) → nat_lt a (length c.deal.graph.arcs) ≡ y → height (history (notes_of mid v).known a) ≤ r
+      go : (y : Bool) → nat_lt a (length c.deal.graph.arcs) ≡ y → height (history (state_notes mid v).known a) ≤ r
       go true e = let l = below in let o : height (history s.book a) ≡ r = x.at a (ltb-true _ _ e) in omega arith
       go false e =
           let l = below in
@@ -124,16 +125,16 @@ module _ (c : Cast) (ready : IsReadyCast c) (all : (v : ℕ) → v < c.deal.grap
         grows = k.grows;
         turn_of = λ v lv.
             let m = turn_of_round s x.good v lv in
-            let known_is : notes_of (round c s) v ≡ notes_of m.mid v =
-            ap (λ ns. slice_index_or ns v (record { known = []; signed = [] })) k.notes_same ∙ (ap (λ z. notes_of z v) k.mid_is ∙ m.same) in
+            let known_is : state_notes (round c s) v ≡ state_notes m.mid v =
+            ap (λ ns. slice_index_or ns v (record { known = []; signed = [] })) k.notes_same ∙ (ap (λ z. state_notes z v) k.mid_is ∙ m.same) in
             let new = k.good.notes v lv (all v lv) in
             let old = m.good.notes v lv (all v lv) in
             record {
-              known = (notes_of m.mid v).known;
-              signed = signed_in (notes_of m.mid v).signed;
+              known = (state_notes m.mid v).known;
+              signed = signed_in (state_notes m.mid v).signed;
               seen = m.seen;
               knows = λ a. subst (λ n. Knows v (history n.known a) (history (round c s).book a)) known_is (new.knows a);
-              done = first_none (due c.deal v (c.wallet v) (signed_in (notes_of m.mid v).signed) (notes_of m.mid v).known) m.rest;
+              done = first_none (due c.deal v (c.wallet v) (signed_in (state_notes m.mid v).signed) (state_notes m.mid v).known) m.rest;
               top = λ a. known_low r s m.mid v a x m.calm (old.knows a);
             };
       }

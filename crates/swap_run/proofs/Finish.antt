@@ -10,7 +10,7 @@ use Rattle.ledger_core.specs.Book.{Histories, history}
 use Rattle.swap_run.specs.Run.{Cast, State, start, run}
 use Rattle.swap_run.specs.Laws.{IsReadyCast, IsGood}
 use Rattle.swap_run.specs.Fair.{repeat, the_horizon, round, has_ended, round_unless_ended, finish}
-use Rattle.swap_run.specs.FairLaws.{FinishesEnd, FinishesAreGood, FinishHeights, FinishStops, FinishGoesOn}
+use Rattle.swap_run.specs.FairLaws.{FinishesEnd, FinishesAreGood, FinishHeights, FinishStops, FinishContinues}
 use Rattle.swap_run.proofs.Good.{start_is_good, runs_are_good, good_is_kept}
 use Rattle.swap_run.proofs.Repeats.{repeat_first, repeat_fixed}
 use Rattle.swap_run.proofs.Rounds.{rounded}
@@ -135,7 +135,7 @@ pub finish_stops : FinishStops
 unfolding finish
 finish_stops c s e = repeat_fixed (the_horizon c.deal + 1) (round_unless_ended c) s (round_rests c s e)
 
-pub finish_goes_on : FinishGoesOn
+pub finish_goes_on : FinishContinues
 unfolding finish
 finish_goes_on c s ready g e =
     let x = finishes_are_good c s ready g in

@@ -13,7 +13,7 @@ use Rattle.ledger_core.specs.declared.entry.Sender.TheVariants.{Party, Clock}
 use Rattle.ledger_core.specs.declared.entry.What.{What}
 use Rattle.ledger_core.specs.declared.entry.What.TheVariants.{Call as Made, Tick as Ticks}
 use Rattle.ledger_core.specs.declared.entry.Entry.{Entry}
-use Rattle.ledger_core.specs.History.{sent_by, IsLegal}
+use Rattle.ledger_core.specs.History.{is_sender, IsLegal}
 use Rattle.ledger_core.specs.Book.{Histories, history, IsLegalBook}
 use Rattle.swap_job.specs.declared.moves.Move.{Move}
 use Rattle.swap_job.specs.declared.event.Event.{Event}
@@ -31,7 +31,8 @@ use Rattle.swap_rules.proofs.Prefixes.{begins_refl, same_or_not}
 use Rattle.swap_rules.proofs.Machines.{knowledge_conducts, rules_transfer}
 use Rattle.swap_rules.proofs.Conducting.{Next, next_call as next_of_call, next_legal, next_grows, knows_all, history_same}
 use Rattle.party_wallet.specs.Value.{signed_in}
-use Rattle.swap_run.specs.Run.{Cast, Notes, State, conforms, role_of, notes_of, plan_of, signed_after, after_tick, known_up_to, look, make, next_of}
+use Rattle.swap_run.specs.Run.{Cast, Notes, State, conforms, party_role, state_notes, party_plan, signed_after, after_tick, known_up_to, look, make}
+use Rattle.swap_run.specs.Run.{next_action}
 use Rattle.swap_run.specs.Run.{is_recorded, recorded_after, relearnt, crash}
 use Rattle.swap_run.specs.Run.{act, watch, take_call, after_turn, follow, question, after_question, ask, answer_for, act_as}
 use Rattle.swap_run.specs.Run.{step, no_histories, no_notes, first_plan, start, run}
@@ -42,13 +43,14 @@ use Rattle.swap_run.proofs.Entries.{next_tick}
 use Rattle.swap_run.proofs.Noted.{Holds, hold_other, hold_look, hold_act, due_now}
 use Rattle.swap_run.proofs.Crashes.{hold_restart, hold_recorded}
 use Rattle.swap_run.proofs.Plans.{plan_grown, good_seen, good_turn, good_asked, plan_legal, answer_may}
+use Rattle.swap_rules.proofs.Cases.{first_in}
 
 -- Notes.
 
-pub holds : (c : Cast) (s : State) (v : ℕ) → AreGoodNotes c s v → Holds c.deal s.book (notes_of s v) v
+pub holds : (c : Cast) (s : State) (v : ℕ) → AreGoodNotes c s v → Holds c.deal s.book (state_notes s v) v
 holds c s v g = record { one_each = g.one_each; places = g.places; knows = g.knows; far = g.far; sound = g.sound }
 
-pub good_notes : (c : Cast) (s : State) (v : ℕ) (n : Notes) → notes_of s v ≡ n → Holds c.deal s.book n v → AreGoodNotes c s v
+pub good_notes : (c : Cast) (s : State) (v : ℕ) (n : Notes) → state_notes s v ≡ n → Holds c.deal s.book n v → AreGoodNotes c s v
 good_notes c s v n e h =
     let k = subst (λ m. Holds c.deal s.book m v) (sym e) h in
     record { one_each = k.one_each; places = k.places; knows = k.knows; far = k.far; sound = k.sound }
@@ -56,10 +58,11 @@ good_notes c s v n e h =
 no_note : Notes
 no_note = record { known = []; signed = [] }
 
-pub note_same : (s : State) (b : Histories) (v : ℕ) (n : Notes) → v < length s.notes → notes_of (record s { book = b; notes = slice_set s.notes v n }) v ≡ n
+pub note_same : (s : State) (b : Histories) (v : ℕ) (n : Notes) → v < length s.notes → state_notes (record s { book = b; notes = slice_set s.notes v n }) v ≡ n
 note_same s b v n below = get_or-set_same s.notes v n (record { known = []; signed = [] }) below
 
-pub note_other : (s : State) (b : Histories) (v u : ℕ) (n : Notes) → u ≢ v → notes_of (record s { book = b; notes = slice_set s.notes v n }) u ≡ notes_of s u
+pub note_other : (s : State) (b : Histories) (v u : ℕ) (n : Notes) → u ≢ v
+    → state_notes (record s { book = b; notes = slice_set s.notes v n }) u ≡ state_notes s u
 note_other s b v u n apart = get_or-set_other s.notes v u n (record { known = []; signed = [] }) apart
 
 -- The steps.
@@ -69,16 +72,17 @@ in_book c s a g l = subst (λ m. a < m) (sym g.legal.one_each) l
 
 -- an entry of nobody who conforms
 pub good_other : (c : Cast) (s : State) (a : ℕ) (k : List Entry) (by : Sender) (w : What) → a < length c.deal.graph.arcs
-    → Next c.deal a (history s.book a) k by w → ((v : ℕ) → conforms c v ≡ true → sent_by v by ≡ false) → IsGood c s
+    → Next c.deal a (history s.book a) k by w → ((v : ℕ) → conforms c v ≡ true → is_sender v by ≡ false) → IsGood c s
     → IsGood c (record s { book = set s.book a k })
 good_other c s a k by w below n others g = record {
   legal = next_legal c.deal s.book a k by w (in_book c s a g below) n g.legal;
   one_each = g.one_each;
   notes =
-      λ v l cv. good_notes c _ v (notes_of s v) refl (hold_other c.deal s.book (notes_of s v) v a k by w (in_book c s a g below) n (others v cv)
+      λ v l cv. good_notes c _ v (state_notes s v) refl (hold_other c.deal s.book (state_notes s v) v a k by w (in_book c s a g below) n (others v cv)
       (holds c s v (g.notes v l cv)));
   plan_each = g.plan_each;
-  plans = λ v l. plan_grown c.deal c.seeds v s.book (set s.book a k) (plan_of s v) (next_grows c.deal s.book a k by w (in_book c s a g below) n) (g.plans v l);
+  plans = λ v l. plan_grown c.deal c.seeds v s.book (set s.book a k) (party_plan s v) (next_grows c.deal s.book a k by w (in_book c s a g below) n)
+      (g.plans v l);
 }
 
 pub good_tick : (c : Cast) (s : State) (a k : ℕ) → CanTick c.deal a k → IsGood c s → IsGood c (step c s (Tick a k))
@@ -110,25 +114,25 @@ good_watch c s v a lv la near g = good_seen c s v a (history s.book a) lv la nea
 
 -- what a script calls in a good state may be made
 pub script_may : (c : Cast) (s : State) (v : ℕ) → v < c.deal.graph.n → IsGood c s
-    → MayAnswer c.deal v (next_call c.deal c.seeds (plan_of s v).known (plan_of s v).moves)
+    → MayAnswer c.deal v (next_call c.deal c.seeds (party_plan s v).known (party_plan s v).moves)
 script_may c s v lv g =
     let p = g.plans v lv in
-    next_may c.deal c.seeds v (plan_of s v).known (plan_of s v).moves (plan_legal c.deal c.seeds v s.book (plan_of s v) g.legal p) p.moves
+    next_may c.deal c.seeds v (party_plan s v).known (party_plan s v).moves (plan_legal c.deal c.seeds v s.book (party_plan s v) g.legal p) p.moves
 
 good_follow : (c : Cast) (s : State) (v : ℕ) → v < c.deal.graph.n → conforms c v ≡ false → IsGood c s → IsGood c (follow c s v)
 good_follow c s v lv out g =
     let p = g.plans v lv in
-    good_take c (after_turn s v (moves_left (plan_of s v).known (plan_of s v).moves)) v
-    (next_call c.deal c.seeds (plan_of s v).known (plan_of s v).moves) lv out
+    good_take c (after_turn s v (moves_left (party_plan s v).known (party_plan s v).moves)) v
+    (next_call c.deal c.seeds (party_plan s v).known (party_plan s v).moves) lv out
     (script_may c s v lv g)
-    (good_turn c s v (moves_left (plan_of s v).known (plan_of s v).moves) lv
-    (left_fit (IsMoveOf c.deal c.seeds v) (plan_of s v).known (plan_of s v).moves p.moves) g)
+    (good_turn c s v (moves_left (party_plan s v).known (party_plan s v).moves) lv
+    (left_fit (IsMoveOf c.deal c.seeds v) (party_plan s v).known (party_plan s v).moves p.moves) g)
 
 good_ask : (c : Cast) (s : State) (v : ℕ) (name : List ℕ) → v < c.deal.graph.n → conforms c v ≡ false → IsGood c s → IsGood c (ask c s v name)
 good_ask c s v name lv out g =
     good_take c (after_question s v name) v (answer_for c.deal v (c.answers (length s.asked))) lv out (answer_may c.deal v (c.answers (length s.asked)))
-    (good_asked c (after_turn s v (plan_of s v).moves) (s.asked ++ question s v name ∷ [])
-    (good_turn c s v (plan_of s v).moves lv (g.plans v lv).moves g))
+    (good_asked c (after_turn s v (party_plan s v).moves) (s.asked ++ question s v name ∷ [])
+    (good_turn c s v (party_plan s v).moves lv (g.plans v lv).moves g))
 
 -- an act of a party that doesn't conform
 good_deviate : (c : Cast) (s : State) (v : ℕ) (role : Role) → v < c.deal.graph.n → conforms c v ≡ false → IsGood c s → IsGood c (act_as c s v role)
@@ -141,7 +145,7 @@ pub good_look : (c : Cast) (s : State) (v a : ℕ) → v < c.deal.graph.n → a 
     → IsGood c (look s v a)
 good_look c s v a lv below near g = record {
   legal = g.legal;
-  one_each = length-set s.notes v (known_up_to (notes_of s v) a (history s.book a)) ∙ g.one_each;
+  one_each = length-set s.notes v (known_up_to (state_notes s v) a (history s.book a)) ∙ g.one_each;
   notes = λ u l cu. go u l cu (same_or_not u v);
   plan_each = g.plan_each;
   plans = g.plans;
@@ -149,19 +153,19 @@ good_look c s v a lv below near g = record {
   where
     go : (u : ℕ) → u < c.deal.graph.n → conforms c u ≡ true → (u ≡ v) ⊎ (u ≢ v) → AreGoodNotes c (look s v a) u
     go u l cu (inl e) = subst (AreGoodNotes c (look s v a)) (sym e)
-        (good_notes c (look s v a) v (known_up_to (notes_of s v) a (history s.book a))
-        (note_same s s.book v (known_up_to (notes_of s v) a (history s.book a)) (subst (λ m. v < m) (sym g.one_each) lv))
-        (hold_look c.deal s.book (notes_of s v) v a below near g.legal (holds c s v (g.notes v lv (ap (conforms c) (sym e) ∙ cu)))))
+        (good_notes c (look s v a) v (known_up_to (state_notes s v) a (history s.book a))
+        (note_same s s.book v (known_up_to (state_notes s v) a (history s.book a)) (subst (λ m. v < m) (sym g.one_each) lv))
+        (hold_look c.deal s.book (state_notes s v) v a below near g.legal (holds c s v (g.notes v lv (ap (conforms c) (sym e) ∙ cu)))))
     go u l cu (inr n) =
-        good_notes c (look s v a) u (notes_of s u) (note_other s s.book v u (known_up_to (notes_of s v) a (history s.book a)) n)
+        good_notes c (look s v a) u (state_notes s u) (note_other s s.book v u (known_up_to (state_notes s v) a (history s.book a)) n)
         (holds c s u (g.notes u l cu))
 
 -- a due call of v
 pub good_make : (c : Cast) (s : State) (v : ℕ) (x : Action) → IsReadyCast c → v < c.deal.graph.n → conforms c v ≡ true
-    → IsIn x (due c.deal v (c.wallet v) (signed_in (notes_of s v).signed) (notes_of s v).known) → IsGood c s → IsGood c (make c.deal s v (Some x))
+    → IsIn x (due c.deal v (c.wallet v) (signed_in (state_notes s v).signed) (state_notes s v).known) → IsGood c s → IsGood c (make c.deal s v (Some x))
 good_make c s v x ready lv cv i g =
     let hv = holds c s v (g.notes v lv cv) in
-    let is = due_now c.deal s.book (notes_of s v) v (c.wallet v) x (ready.wallets v lv cv) ready.accepted i hv in
+    let is = due_now c.deal s.book (state_notes s v) v (c.wallet v) x (ready.wallets v lv cv) ready.accepted i hv in
     let n = next_of_call c.deal x.arc (history s.book x.arc) v x.call is.of_the_two is.fits in
     let below = in_book c s x.arc g is.below in
     record {
@@ -169,7 +173,7 @@ good_make c s v x ready lv cv i g =
       one_each = length-set s.notes v _ ∙ g.one_each;
       notes = λ u l cu. go u l cu below n (same_or_not u v);
       plan_each = g.plan_each;
-      plans = λ u l. plan_grown c.deal c.seeds u s.book (set s.book x.arc (after_call c.deal x.arc v x.call (history s.book x.arc))) (plan_of s u)
+      plans = λ u l. plan_grown c.deal c.seeds u s.book (set s.book x.arc (after_call c.deal x.arc v x.call (history s.book x.arc))) (party_plan s u)
           (next_grows c.deal s.book x.arc (after_call c.deal x.arc v x.call (history s.book x.arc)) (Party v) (Made x.call) below n) (g.plans u l);
     }
   where
@@ -179,48 +183,43 @@ good_make c s v x ready lv cv i g =
     go u l cu below n (inl e) = subst (AreGoodNotes c (make c.deal s v (Some x))) (sym e)
         (good_notes c (make c.deal s v (Some x)) v (record {
           known =
-              set (notes_of s v).known x.arc (after_call c.deal x.arc v x.call (history s.book x.arc));
+              set (state_notes s v).known x.arc (after_call c.deal x.arc v x.call (history s.book x.arc));
           signed =
-              signed_after (notes_of s v).signed x.call;
+              signed_after (state_notes s v).signed x.call;
         })
         (note_same s (set s.book x.arc (after_call c.deal x.arc v x.call (history s.book x.arc))) v _ (subst (λ m. v < m) (sym g.one_each) lv))
-        (hold_act c.deal s.book (notes_of s v) v (c.wallet v) x (ready.wallets v lv cv) ready.accepted g.legal i (holds c s v (g.notes v lv cv))))
+        (hold_act c.deal s.book (state_notes s v) v (c.wallet v) x (ready.wallets v lv cv) ready.accepted g.legal i (holds c s v (g.notes v lv cv))))
     go u l cu below n (inr apart) =
-        good_notes c (make c.deal s v (Some x)) u (notes_of s u)
+        good_notes c (make c.deal s v (Some x)) u (state_notes s u)
         (note_other s (set s.book x.arc (after_call c.deal x.arc v x.call (history s.book x.arc))) v u _ apart)
-        (hold_other c.deal s.book (notes_of s u) u x.arc (after_call c.deal x.arc v x.call (history s.book x.arc)) (Party v) (Made x.call) below n
+        (hold_other c.deal s.book (state_notes s u) u x.arc (after_call c.deal x.arc v x.call (history s.book x.arc)) (Party v) (Made x.call) below n
         (not-true (v == u) (λ e. apart (sym (eqb-true v u e)))) (holds c s u (g.notes u l cu)))
 
--- the first of a list stands in it
-pub first_in : {A : Type 0} (xs : List A) (x : A) → first xs ≡ Some x → IsIn x xs
-first_in [] x e = absurd (cc e)
-first_in (y ∷ ys) x e = inl (cc)
-
 pub good_act : (c : Cast) (s : State) (v : ℕ) → IsReadyCast c → v < c.deal.graph.n → conforms c v ≡ true → IsGood c s → IsGood c (act c s v)
-good_act c s v ready lv cv g = go (next_of c s v) refl
+good_act c s v ready lv cv g = go (next_action c s v) refl
   where
-    go : (o : Option Action) → next_of c s v ≡ o → IsGood c (make c.deal s v o)
+    go : (o : Option Action) → next_action c s v ≡ o → IsGood c (make c.deal s v o)
     go None e = g
-    go (Some x) e = good_make c s v x ready lv cv (first_in (due c.deal v (c.wallet v) (signed_in (notes_of s v).signed) (notes_of s v).known) x e) g
+    go (Some x) e = good_make c s v x ready lv cv (first_in (due c.deal v (c.wallet v) (signed_in (state_notes s v).signed) (state_notes s v).known) x e) g
 
 -- A crash leaves a run good.
 module _ (c : Cast) (s : State) (v k image : ℕ) (ready : IsReadyCast c) (lv : v < c.deal.graph.n) (cv : conforms c v ≡ true) (g : IsGood c s) where
-  hv : Holds c.deal s.book (notes_of s v) v
+  hv : Holds c.deal s.book (state_notes s v) v
   hv = holds c s v (g.notes v lv cv)
 
-  hold_crash : (o : Option Action) → next_of c s v ≡ o
-      → Holds c.deal s.book (record { known = relearnt c.deal v s.book; signed = recorded_after (notes_of s v).signed o k image }) v
-  hold_crash None e = hold_restart c.deal s.book (notes_of s v) v g.legal hv
+  hold_crash : (o : Option Action) → next_action c s v ≡ o
+      → Holds c.deal s.book (record { known = relearnt c.deal v s.book; signed = recorded_after (state_notes s v).signed o k image }) v
+  hold_crash None e = hold_restart c.deal s.book (state_notes s v) v g.legal hv
   hold_crash (Some x) e = kept (is_recorded k image)
     where
       kept : (y : Bool) → Holds c.deal s.book (record {
         known = relearnt c.deal v s.book;
-        signed = if y then signed_after (notes_of s v).signed x.call else (notes_of s v).signed;
+        signed = if y then signed_after (state_notes s v).signed x.call else (state_notes s v).signed;
       }) v
       kept true =
-          hold_recorded c.deal s.book (notes_of s v) v g.legal hv (c.wallet v) x (ready.wallets v lv cv) ready.accepted
-          (first_in (due c.deal v (c.wallet v) (signed_in (notes_of s v).signed) (notes_of s v).known) x e)
-      kept false = hold_restart c.deal s.book (notes_of s v) v g.legal hv
+          hold_recorded c.deal s.book (state_notes s v) v g.legal hv (c.wallet v) x (ready.wallets v lv cv) ready.accepted
+          (first_in (due c.deal v (c.wallet v) (signed_in (state_notes s v).signed) (state_notes s v).known) x e)
+      kept false = hold_restart c.deal s.book (state_notes s v) v g.legal hv
 
   pub crash_is_good : IsGood c (crash c s v k image)
   crash_is_good = record {
@@ -232,14 +231,14 @@ module _ (c : Cast) (s : State) (v k image : ℕ) (ready : IsReadyCast c) (lv : 
   }
     where
       new : Notes
-      new = record { known = relearnt c.deal v s.book; signed = recorded_after (notes_of s v).signed (next_of c s v) k image }
+      new = record { known = relearnt c.deal v s.book; signed = recorded_after (state_notes s v).signed (next_action c s v) k image }
 
       go : (u : ℕ) → u < c.deal.graph.n → conforms c u ≡ true → (u ≡ v) ⊎ (u ≢ v) → AreGoodNotes c (crash c s v k image) u
       go u l cu (inl e) =
           subst (AreGoodNotes c (crash c s v k image)) (sym e)
-          (good_notes c (crash c s v k image) v new (note_same s s.book v new (subst (λ m. v < m) (sym g.one_each) lv)) (hold_crash (next_of c s v) refl))
+          (good_notes c (crash c s v k image) v new (note_same s s.book v new (subst (λ m. v < m) (sym g.one_each) lv)) (hold_crash (next_action c s v) refl))
       go u l cu (inr n) =
-          good_notes c (crash c s v k image) u (notes_of s u) (note_other s s.book v u new n) (holds c s u (g.notes u l cu))
+          good_notes c (crash c s v k image) u (state_notes s u) (note_other s s.book v u new n) (holds c s u (g.notes u l cu))
 
 pub steps_are_good : StepsAreGood
 steps_are_good c s (Tick a k) ready can g = good_tick c s a k can g
@@ -250,9 +249,9 @@ steps_are_good c s (Look v a) ready can g = go (conforms c v)
     go false = good_watch c s v a can.known can.arc can.adjacent g
 steps_are_good c s (Act v) ready can g = go (conforms c v) refl
   where
-    go : (x : Bool) → conforms c v ≡ x → IsGood c (cond x (act c s v) (act_as c s v (role_of c v)))
+    go : (x : Bool) → conforms c v ≡ x → IsGood c (cond x (act c s v) (act_as c s v (party_role c v)))
     go true e = good_act c s v ready can e g
-    go false e = good_deviate c s v (role_of c v) can e g
+    go false e = good_deviate c s v (party_role c v) can e g
 steps_are_good c s (Calls p mv) ready can g = good_call c s p mv can g
 steps_are_good c s (Crash v k image) ready can g = crash_is_good c s v k image ready can.known can.conforms g
 
@@ -316,13 +315,13 @@ pub good_is_kept : GoodIsKept
 good_is_kept c s ready g = record {
   legal = g.legal;
   conducted = λ v l cv. let n =
-      g.notes v l cv in knowledge_conducts c.deal (notes_of s v).known s.book (signed_in (notes_of s v).signed) v g.legal n.knows n.sound.rules;
+      g.notes v l cv in knowledge_conducts c.deal (state_notes s v).known s.book (signed_in (state_notes s v).signed) v g.legal n.knows n.sound.rules;
 }
 
 pub unlocks_are_signed : UnlocksAreSigned
 unlocks_are_signed c s v a past e key g lv cv m q =
     let n = g.notes v lv cv in
-    ((rules_transfer c.deal (notes_of s v).known s.book (signed_in (notes_of s v).signed) v n.knows n.sound.rules).own a past e (Unlock key) m q).2
+    ((rules_transfer c.deal (state_notes s v).known s.book (signed_in (state_notes s v).signed) v n.knows n.sound.rules).own a past e (Unlock key) m q).2
 
 pub runs_are_good : (c : Cast) (events : List Event) (s : State) → IsReadyCast c → All (CanStep c.deal c.conforming c.seeds) events → IsGood c s
     → IsGood c (fold (step c) s events)

@@ -14,7 +14,7 @@ use Rattle.ledger_core.specs.declared.entry.Call.TheVariants.{Publish, Unlock, C
 use Rattle.ledger_core.specs.declared.entry.Sender.{Sender}
 use Rattle.ledger_core.specs.declared.entry.What.{What}
 use Rattle.ledger_core.specs.declared.entry.Entry.{Entry}
-use Rattle.ledger_core.specs.History.{sent_by, IsLegal}
+use Rattle.ledger_core.specs.History.{is_sender, IsLegal}
 use Rattle.ledger_core.specs.Book.{Histories, history, IsLegalBook}
 use Rattle.swap_job.specs.Fitting.{is_near}
 use Rattle.swap_rules.specs.Accepted.{IsAccepted}
@@ -72,7 +72,7 @@ pub record Holds (d : Deal) (b : Histories) (n : Notes) (v : ℕ) : Type 0 where
 
 -- Entries of others.
 
-pub knows_on : (d : Deal) (v a : ℕ) (k h g : List Entry) (s : Sender) (w : What) → Knows v k h → Next d a h g s w → sent_by v s ≡ false → Knows v k g
+pub knows_on : (d : Deal) (v a : ℕ) (k h g : List Entry) (s : Sender) (w : What) → Knows v k h → Next d a h g s w → is_sender v s ≡ false → Knows v k g
 knows_on d v a k h g s w kn (Still e) other = subst (Knows v k) (sym e) kn
 knows_on d v a k h g s w kn (Pushed e q es ew le) other = record {
   rest = kn.rest ++ e ∷ [];
@@ -80,13 +80,13 @@ knows_on d v a k h g s w kn (Pushed e q es ew le) other = record {
   others = λ x i. at x (from_append kn.rest (e ∷ []) x i);
 }
   where
-    at : (x : Entry) → IsIn x kn.rest ⊎ IsIn x (e ∷ []) → sent_by v x.sender ≡ false
+    at : (x : Entry) → IsIn x kn.rest ⊎ IsIn x (e ∷ []) → is_sender v x.sender ≡ false
     at x (inl j) = kn.others x j
-    at x (inr (inl z)) = ap (λ y. sent_by v y.sender) z ∙ (ap (sent_by v) es ∙ other)
+    at x (inr (inl z)) = ap (λ y. is_sender v y.sender) z ∙ (ap (is_sender v) es ∙ other)
     at x (inr (inr z)) = absurd z
 
 pub hold_other : (d : Deal) (b : Histories) (n : Notes) (v a : ℕ) (k : List Entry) (s : Sender) (w : What) → a < length b → Next d a (history b a) k s w
-    → sent_by v s ≡ false → Holds d b n v → Holds d (set b a k) n v
+    → is_sender v s ≡ false → Holds d b n v → Holds d (set b a k) n v
 hold_other d b n v a k s w below next other h = record {
   one_each = h.one_each;
   places = h.places;

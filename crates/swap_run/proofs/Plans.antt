@@ -20,7 +20,7 @@ use Rattle.swap_rules.specs.Machine.{Begins}
 use Rattle.swap_rules.proofs.Growth.{Grows}
 use Rattle.swap_rules.proofs.Prefixes.{begins_refl, begins_more, same_or_not}
 use Rattle.swap_rules.proofs.Conducting.{history_same, history_other}
-use Rattle.swap_run.specs.Run.{Cast, Plan, Question, State, role_of, plan_of, plan_up_to, plans_seen, after_turn, is_planned, is_answer_of, answer_for}
+use Rattle.swap_run.specs.Run.{Cast, Plan, Question, State, party_role, party_plan, plan_up_to, plans_seen, after_turn, is_planned, is_party_answer, answer_for}
 use Rattle.swap_run.specs.Laws.{IsGoodPlan, IsGood}
 
 -- Plans among plans.
@@ -90,17 +90,17 @@ with_plan c s v n lv good g = with_plans c s (set s.plans v n) (length-set s.pla
 
 pub good_seen : (c : Cast) (s : State) (v a : ℕ) (h : List Entry) → v < c.deal.graph.n → a < length c.deal.graph.arcs → is_near c.deal v a ≡ true
     → history s.book a ≡ h → IsGood c s → IsGood c (record s { plans = plans_seen c s v a h })
-good_seen c s v a h lv la near e g = go (is_planned (role_of c v))
+good_seen c s v a h lv la near e g = go (is_planned (party_role c v))
   where
-    go : (b : Bool) → IsGood c (record s { plans = cond b (set s.plans v (plan_up_to (plan_of s v) a h)) s.plans })
-    go true = with_plan c s v (plan_up_to (plan_of s v) a h) lv (plan_seen c.deal c.seeds v a s.book (plan_of s v) h la near e (g.plans v lv)) g
+    go : (b : Bool) → IsGood c (record s { plans = cond b (set s.plans v (plan_up_to (party_plan s v) a h)) s.plans })
+    go true = with_plan c s v (plan_up_to (party_plan s v) a h) lv (plan_seen c.deal c.seeds v a s.book (party_plan s v) h la near e (g.plans v lv)) g
     go false = with_plans c s s.plans g.plan_each g.plans g
 
 pub good_turn : (c : Cast) (s : State) (v : ℕ) (moves : List Move) → v < c.deal.graph.n → All (IsMoveOf c.deal c.seeds v) moves → IsGood c s
     → IsGood c (after_turn s v moves)
 good_turn c s v moves lv all g =
     let p = g.plans v lv in
-    with_plan c s v (record (plan_of s v) { moves = moves; turns = (plan_of s v).turns + 1 }) lv (record {
+    with_plan c s v (record (party_plan s v) { moves = moves; turns = (party_plan s v).turns + 1 }) lv (record {
       one_each = p.one_each;
       begins =
           p.begins;
@@ -136,9 +136,9 @@ plan_view d seeds v b n sized lv legal g = record { sized = sized; party = lv; l
 -- an answer that passes the test may be made
 pub answer_may : (d : Deal) (v : ℕ) (o : Option (ℕ × Call)) → MayAnswer d v (answer_for d v o)
 answer_may d v None = λ x q. absurd (cc q)
-answer_may d v (Some x) = go (is_answer_of d v x) refl
+answer_may d v (Some x) = go (is_party_answer d v x) refl
   where
-    go : (b : Bool) → is_answer_of d v x ≡ b → MayAnswer d v (cond b (Some x) None)
+    go : (b : Bool) → is_party_answer d v x ≡ b → MayAnswer d v (cond b (Some x) None)
     go false e = λ y q. absurd (cc q)
     go true e = λ y q.
         let k = and_parts (nat_lt x.0 (length d.graph.arcs) && is_near d v x.0) (fit d x.0 x.1) e in

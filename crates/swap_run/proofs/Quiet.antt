@@ -22,8 +22,8 @@ use Rattle.swap_rules.specs.Due.{Action, due, first}
 use Rattle.swap_rules.specs.Rest.{are_ticks, is_ticking}
 use Rattle.swap_rules.proofs.Prefixes.{same_or_not}
 use Rattle.swap_rules.proofs.Conducting.{history_same, history_other}
-use Rattle.swap_run.specs.Run.{Cast, Notes, State, conforms, role_of, is_planned, notes_of, known_up_to, signed_after, after_tick, look}
-use Rattle.swap_run.specs.Run.{watch, make, act, act_as, next_of, step}
+use Rattle.swap_run.specs.Run.{Cast, Notes, State, conforms, party_role, is_planned, state_notes, known_up_to, signed_after, after_tick, look}
+use Rattle.swap_run.specs.Run.{watch, make, act, act_as, next_action, step}
 use Rattle.swap_run.specs.Fair.{repeat, adjacent_arcs, looks, acts, most_acts, turn, turns, the_horizon, tick_low, ticks, round, has_ended, round_unless_ended}
 use Rattle.swap_run.specs.Quiet.{over, looked, IsIdle}
 use Rattle.swap_run.proofs.Entries.{tick_full, tick_room}
@@ -89,13 +89,13 @@ tick_rises h = go (is_clock_full h 1) refl
 abbrev pub with_note : State → ℕ → Notes → State
 with_note s v n = record s { notes = set s.notes v n }
 
-its_note : (s : State) (v : ℕ) (n : Notes) → v < length s.notes → notes_of (with_note s v n) v ≡ n
+its_note : (s : State) (v : ℕ) (n : Notes) → v < length s.notes → state_notes (with_note s v n) v ≡ n
 its_note s v n l = get_or-set_same s.notes v n (record { known = []; signed = [] }) l
 
-other_note : (s : State) (u v : ℕ) (n : Notes) → v ≢ u → notes_of (with_note s u n) v ≡ notes_of s v
+other_note : (s : State) (u v : ℕ) (n : Notes) → v ≢ u → state_notes (with_note s u n) v ≡ state_notes s v
 other_note s u v n apart = get_or-set_other s.notes u v n (record { known = []; signed = [] }) apart
 
-own_note : (s : State) (v : ℕ) → with_note s v (notes_of s v) ≡ s
+own_note : (s : State) (v : ℕ) → with_note s v (state_notes s v) ≡ s
 own_note s v = ap (λ (ns : List Notes). record s { notes = ns }) (set-get_or s.notes v (record { known = []; signed = [] }))
 
 -- the later notes of a party count
@@ -110,24 +110,24 @@ module _ (c : Cast) where
   -- Looks.
 
   looks_at : (v : ℕ) (js : List ℕ) (s : State) → conforms c v ≡ true → v < length s.notes
-      → fold (λ s a. step c s (Look v a)) s js ≡ with_note s v (record (notes_of s v) { known = over s.book js (notes_of s v).known })
+      → fold (λ s a. step c s (Look v a)) s js ≡ with_note s v (record (state_notes s v) { known = over s.book js (state_notes s v).known })
   looks_at v [] s cv l = sym (own_note s v)
   looks_at v (a ∷ js) s cv l =
-      let n = known_up_to (notes_of s v) a (history s.book a) in
+      let n = known_up_to (state_notes s v) a (history s.book a) in
       let e : step c s (Look v a) ≡ with_note s v n = ap (λ (b : Bool). cond b (look s v a) (watch c s v a)) cv in
       let lower : v < length (set s.notes v n) = rw (length-set s.notes v n) l in
       ap (λ (t : State). fold (λ s a. step c s (Look v a)) t js) e ∙ looks_at v js (with_note s v n) cv lower
       ∙ ap (λ (m : Notes). with_note (with_note s v n) v (record m { known = over s.book js m.known })) (its_note s v n l)
       ∙ note_twice s v n (record n { known = over s.book js n.known })
 
-  looks_note : (v : ℕ) (s : State) → conforms c v ≡ true → v < length s.notes → looks c v s ≡ with_note s v (looked c.deal s.book v (notes_of s v))
+  looks_note : (v : ℕ) (s : State) → conforms c v ≡ true → v < length s.notes → looks c v s ≡ with_note s v (looked c.deal s.book v (state_notes s v))
   unfolding looks
   looks_note v s cv l = looks_at v (adjacent_arcs c.deal v) s cv l
 
   -- Another party's turn leaves a party's notes.
 
   acts_now : (s : State) (v : ℕ) → conforms c v ≡ true → step c s (Act v) ≡ act c s v
-  acts_now s v cv = ap (λ (b : Bool). cond b (act c s v) (act_as c s v (role_of c v))) cv
+  acts_now s v cv = ap (λ (b : Bool). cond b (act c s v) (act_as c s v (party_role c v))) cv
 
   abbrev known_after : Notes → ℕ → List Entry → List (Option Hashkey) → Notes
   known_after m a h signed = record { known = set m.known a h; signed = signed }
@@ -138,14 +138,14 @@ module _ (c : Cast) where
       let h = after_call c.deal x.arc v x.call (history s.book x.arc) in
       let after = λ (m : Notes). known_after m x.arc h (signed_after m.signed x.call) in
       ap (λ (m : Notes). record s { book = set s.book x.arc h; notes = set (set s.notes u n) v (after m) }) (other_note s u v n (λ e. apart (sym e)))
-      ∙ ap (λ (ns : List Notes). record s { book = set s.book x.arc h; notes = ns }) (set_comm s.notes u v n (after (notes_of s v)) apart)
+      ∙ ap (λ (ns : List Notes). record s { book = set s.book x.arc h; notes = ns }) (set_comm s.notes u v n (after (state_notes s v)) apart)
 
   act_other : (s : State) (u v : ℕ) (n : Notes) → u ≢ v → conforms c v ≡ true → step c (with_note s u n) (Act v) ≡ with_note (step c s (Act v)) u n
   act_other s u v n apart cv =
-      let same : notes_of (with_note s u n) v ≡ notes_of s v = other_note s u v n (λ e. apart (sym e)) in
-      let call : next_of c (with_note s u n) v ≡ next_of c s v
+      let same : state_notes (with_note s u n) v ≡ state_notes s v = other_note s u v n (λ e. apart (sym e)) in
+      let call : next_action c (with_note s u n) v ≡ next_action c s v
       = ap (λ (m : Notes). first (due c.deal v (c.wallet v) (signed_in m.signed) m.known)) same in
-      acts_now (with_note s u n) v cv ∙ ap (make c.deal (with_note s u n) v) call ∙ make_other s u v n (next_of c s v) apart
+      acts_now (with_note s u n) v cv ∙ ap (make c.deal (with_note s u n) v) call ∙ make_other s u v n (next_action c s v) apart
       ∙ ap (λ (t : State). with_note t u n) (sym (acts_now s v cv))
 
   pub acts_other : (k : ℕ) (s : State) (u v : ℕ) (n : Notes) → u ≢ v → conforms c v ≡ true → acts c v k (with_note s u n) ≡ with_note (acts c v k s) u n
@@ -159,14 +159,14 @@ module _ (c : Cast) where
       let lower : v < length (set s.notes u n) = rw (length-set s.notes u n) l in
       looks_note v (with_note s u n) cv lower
       ∙ ap (λ (m : Notes). with_note (with_note s u n) v (looked c.deal s.book v m)) (other_note s u v n (λ e. apart (sym e)))
-      ∙ note_both s u v n (looked c.deal s.book v (notes_of s v)) apart
+      ∙ note_both s u v n (looked c.deal s.book v (state_notes s v)) apart
       ∙ ap (λ (t : State). with_note t u n) (sym (looks_note v s cv l))
 
   turn_of : (s : State) (v : ℕ) → conforms c v ≡ true → turn c s v ≡ acts c v (most_acts c.deal) (looks c v s)
   unfolding turn
   turn_of s v cv = ap (λ (b : Bool). cond b (acts c v (most_acts c.deal) (looks c v s)) (step c (looks c v s) (Act v))) cv
 
-  turn_other_by : (b : Bool) (s : State) (u v : ℕ) (n : Notes) → conforms c v ≡ b → (conforms c v ≡ false → is_planned (role_of c v) ≡ false) → u ≢ v
+  turn_other_by : (b : Bool) (s : State) (u v : ℕ) (n : Notes) → conforms c v ≡ b → (conforms c v ≡ false → is_planned (party_role c v) ≡ false) → u ≢ v
       → v < length s.notes → turn c (with_note s u n) v ≡ with_note (turn c s v) u n
   turn_other_by true s u v n cv plain apart l =
       turn_of (with_note s u n) v cv ∙ ap (acts c v (most_acts c.deal)) (looks_other s u v n apart cv l)
@@ -183,21 +183,21 @@ module _ (c : Cast) where
   acts_many : (k : ℕ) (s : State) (v : ℕ) → conforms c v ≡ true → length (acts c v k s).notes ≡ length s.notes
   acts_many zero s v cv = refl
   acts_many (suc k) s v cv =
-      ap (λ (t : State). length t.notes) (acts_now (acts c v k s) v cv) ∙ make_many (acts c v k s) v (next_of c (acts c v k s) v) ∙ acts_many k s v cv
+      ap (λ (t : State). length t.notes) (acts_now (acts c v k s) v cv) ∙ make_many (acts c v k s) v (next_action c (acts c v k s) v) ∙ acts_many k s v cv
 
-  turn_many_by : (b : Bool) (s : State) (v : ℕ) → conforms c v ≡ b → (conforms c v ≡ false → is_planned (role_of c v) ≡ false) → v < length s.notes
+  turn_many_by : (b : Bool) (s : State) (v : ℕ) → conforms c v ≡ b → (conforms c v ≡ false → is_planned (party_role c v) ≡ false) → v < length s.notes
       → length (turn c s v).notes ≡ length s.notes
   turn_many_by true s v cv plain l =
       ap (λ (t : State). length t.notes) (turn_of s v cv) ∙ acts_many (most_acts c.deal) (looks c v s) v cv
-      ∙ ap (λ (t : State). length t.notes) (looks_note v s cv l) ∙ length-set s.notes v (looked c.deal s.book v (notes_of s v))
+      ∙ ap (λ (t : State). length t.notes) (looks_note v s cv l) ∙ length-set s.notes v (looked c.deal s.book v (state_notes s v))
   turn_many_by false s v cv plain l = ap (λ (t : State). length t.notes) (others_rest c s v cv (plain cv))
 
   -- A turn forgets what its party knew of the arcs at which it looks.
 
   -- n is what party u notes in s, but for what stands at those arcs
   pub record IsStale (s : State) (u : ℕ) (n : Notes) : Type 0 where
-    pub signed : n.signed ≡ (notes_of s u).signed
-    pub known : (b : Histories) → over b (adjacent_arcs c.deal u) n.known ≡ over b (adjacent_arcs c.deal u) (notes_of s u).known
+    pub signed : n.signed ≡ (state_notes s u).signed
+    pub known : (b : Histories) → over b (adjacent_arcs c.deal u) n.known ≡ over b (adjacent_arcs c.deal u) (state_notes s u).known
 
   pub looks_forget : (s : State) (u : ℕ) (n : Notes) → conforms c u ≡ true → u < length s.notes → IsStale s u n
       → looks c u (with_note s u n) ≡ looks c u s
@@ -346,7 +346,7 @@ module _ (c : Cast) where
   notes_kept zero s = refl
   notes_kept (suc n) s = ticks_notes (repeat n (ticks c) s) ∙ notes_kept n s
 
-  module _ (plain : (v : ℕ) → v < c.deal.graph.n → conforms c v ≡ false → is_planned (role_of c v) ≡ false) where
+  module _ (plain : (v : ℕ) → v < c.deal.graph.n → conforms c v ≡ false → is_planned (party_role c v) ≡ false) where
     pub turn_other : (s : State) (u v : ℕ) (n : Notes) → v < c.deal.graph.n → u ≢ v → v < length s.notes
         → turn c (with_note s u n) v ≡ with_note (turn c s v) u n
     turn_other s u v n lv apart l = turn_other_by (conforms c v) s u v n refl (plain v lv) apart l
@@ -355,11 +355,11 @@ module _ (c : Cast) where
     turn_many s v lv l = turn_many_by (conforms c v) s v refl (plain v lv) l
 
     -- the turn of v leaves the notes of u
-    pub turn_keeps : (s : State) (u v : ℕ) → v < c.deal.graph.n → u ≢ v → u < length s.notes → v < length s.notes → notes_of (turn c s v) u ≡ notes_of s u
+    pub turn_keeps : (s : State) (u v : ℕ) → v < c.deal.graph.n → u ≢ v → u < length s.notes → v < length s.notes → state_notes (turn c s v) u ≡ state_notes s u
     turn_keeps s u v lv apart lu l =
-        let n = notes_of s u in
+        let n = state_notes s u in
         let lower : u < length (turn c s v).notes = rw (turn_many s v lv l) lu in
-        ap (λ (t : State). notes_of (turn c t v) u) (sym (own_note s u)) ∙ ap (λ (t : State). notes_of t u) (turn_other s u v n lv apart l)
+        ap (λ (t : State). state_notes (turn c t v) u) (sym (own_note s u)) ∙ ap (λ (t : State). state_notes t u) (turn_other s u v n lv apart l)
         ∙ its_note (turn c s v) u n lower
 
     forgets_first : (x u : ℕ) (xs : List ℕ) (s : State) (n : Notes) → (x ≡ u) ⊎ (x ≢ u) → (u ≡ x) ⊎ IsIn u xs → conforms c u ≡ true
@@ -370,7 +370,7 @@ module _ (c : Cast) where
         ap (λ (t : State). fold (turn c) t xs) (subst (λ z. turn c (with_note s u n) z ≡ turn c s z) (sym e) (turn_forgets s u n cu lu stale))
     forgets_first x u xs s n (inr apart) (inl e) cu lx l lu stale rest = absurd (apart (sym e))
     forgets_first x u xs s n (inr apart) (inr i) cu lx l lu stale rest =
-        let same : notes_of (turn c s x) u ≡ notes_of s u = turn_keeps s u x lx (λ e. apart (sym e)) lu l in
+        let same : state_notes (turn c s x) u ≡ state_notes s u = turn_keeps s u x lx (λ e. apart (sym e)) lu l in
         ap (λ (t : State). fold (turn c) t xs) (turn_other s u x n lx (λ e. apart (sym e)) l)
         ∙ rest i (record {
           signed = stale.signed ∙ ap (λ (m : Notes). m.signed) (sym same);
@@ -395,31 +395,31 @@ module _ (c : Cast) where
 
     -- A quiet round.
 
-    quiet_turn : (s : State) (v : ℕ) → conforms c v ≡ true → v < length s.notes → IsIdle c s.book v (notes_of s v)
-        → turn c s v ≡ with_note s v (looked c.deal s.book v (notes_of s v))
+    quiet_turn : (s : State) (v : ℕ) → conforms c v ≡ true → v < length s.notes → IsIdle c s.book v (state_notes s v)
+        → turn c s v ≡ with_note s v (looked c.deal s.book v (state_notes s v))
     quiet_turn s v cv l idle =
-        let n = looked c.deal s.book v (notes_of s v) in
+        let n = looked c.deal s.book v (state_notes s v) in
         let t = with_note s v n in
-        let none : next_of c t v ≡ None = ap (λ (m : Notes). first (due c.deal v (c.wallet v) (signed_in m.signed) m.known)) (its_note s v n l) ∙ idle in
+        let none : next_action c t v ≡ None = ap (λ (m : Notes). first (due c.deal v (c.wallet v) (signed_in m.signed) m.known)) (its_note s v n l) ∙ idle in
         turn_of s v cv ∙ ap (acts c v (most_acts c.deal)) (looks_note v s cv l)
         ∙ repeat_fixed (most_acts c.deal) (λ t. step c t (Act v)) t (acts_now t v cv ∙ ap (make c.deal t v) none)
 
     -- nothing is due for any conforming party once it has looked
     abbrev pub AllIdle : State → Type 0
-    AllIdle s = (v : ℕ) → v < c.deal.graph.n → conforms c v ≡ true → IsIdle c s.book v (notes_of s v)
+    AllIdle s = (v : ℕ) → v < c.deal.graph.n → conforms c v ≡ true → IsIdle c s.book v (state_notes s v)
 
-    idle_still_by : (s : State) (u v : ℕ) → (v ≡ u) ⊎ (v ≢ u) → v < length s.notes → IsIdle c s.book v (notes_of s v)
-        → IsIdle c s.book v (notes_of (with_note s u (looked c.deal s.book u (notes_of s u))) v)
+    idle_still_by : (s : State) (u v : ℕ) → (v ≡ u) ⊎ (v ≢ u) → v < length s.notes → IsIdle c s.book v (state_notes s v)
+        → IsIdle c s.book v (state_notes (with_note s u (looked c.deal s.book u (state_notes s u))) v)
     idle_still_by s u v (inr apart) l idle =
-        subst (IsIdle c s.book v) (sym (other_note s u v (looked c.deal s.book u (notes_of s u)) apart)) idle
+        subst (IsIdle c s.book v) (sym (other_note s u v (looked c.deal s.book u (state_notes s u)) apart)) idle
     idle_still_by s u v (inl e) l idle =
-        let n = looked c.deal s.book v (notes_of s v) in
+        let n = looked c.deal s.book v (state_notes s v) in
         let near = adjacent_arcs c.deal v in
-        let k = (notes_of s v).known in
+        let k = (state_notes s v).known in
         let twice : over s.book near (over s.book near k) ≡ over s.book near k = again s.book s.book near near k (λ a i. i) in
         let now : IsIdle c s.book v n
-        = ap (λ (h : Histories). first (due c.deal v (c.wallet v) (signed_in (notes_of s v).signed) h)) twice ∙ idle in
-        subst (λ z. IsIdle c s.book v (notes_of (with_note s z (looked c.deal s.book z (notes_of s z))) v)) e
+        = ap (λ (h : Histories). first (due c.deal v (c.wallet v) (signed_in (state_notes s v).signed) h)) twice ∙ idle in
+        subst (λ z. IsIdle c s.book v (state_notes (with_note s z (looked c.deal s.book z (state_notes s z))) v)) e
         (subst (IsIdle c s.book v) (sym (its_note s v n l)) now)
 
     -- what stays where a party's notes are stale
@@ -436,15 +436,15 @@ module _ (c : Cast) where
           subst (λ (t : State). P (ticks c (fold (turn c) t xs))) (sym (others_rest c s x cx (plain x lx cx))) (rest s many idle h)
       skips_by true x xs s cx lx many idle rest h =
           let l : x < length s.notes = rw many lx in
-          let n = looked c.deal s.book x (notes_of s x) in
+          let n = looked c.deal s.book x (state_notes s x) in
           let t = with_note s x n in
           let far : length t.notes ≡ c.deal.graph.n = length-set s.notes x n ∙ many in
-          let same : notes_of (ticks c s) x ≡ notes_of s x = ap (λ (ns : List Notes). get_or ns x (record { known = []; signed = [] })) (ticks_notes s) in
+          let same : state_notes (ticks c s) x ≡ state_notes s x = ap (λ (ns : List Notes). get_or ns x (record { known = []; signed = [] })) (ticks_notes s) in
           subst (λ (u : State). P (ticks c (fold (turn c) u xs))) (sym (quiet_turn s x cx l (idle x lx cx)))
           (rest t far (λ v lv cv. idle_still_by s x v (same_or_not v x) (rw many lv) (idle v lv cv))
           (subst P (sym (ticks_other s x n)) (forgets_here x (ticks c s) n cx lx (ap length (ticks_notes s) ∙ many) (record {
             signed = ap (λ (m : Notes). m.signed) (sym same);
-            known = λ b. again b s.book (adjacent_arcs c.deal x) (adjacent_arcs c.deal x) (notes_of s x).known (λ a i. i)
+            known = λ b. again b s.book (adjacent_arcs c.deal x) (adjacent_arcs c.deal x) (state_notes s x).known (λ a i. i)
                 ∙ ap (λ (m : Notes). over b (adjacent_arcs c.deal x) m.known) (sym same);
           }) h)))
 
@@ -474,7 +474,7 @@ module _ (c : Cast) where
     calm_by false x xs s cx lx many idle rest =
         ap (λ (t : State). (fold (turn c) t xs).book) (others_rest c s x cx (plain x lx cx)) ∙ rest s many idle
     calm_by true x xs s cx lx many idle rest =
-        let n = looked c.deal s.book x (notes_of s x) in
+        let n = looked c.deal s.book x (state_notes s x) in
         ap (λ (u : State). (fold (turn c) u xs).book) (quiet_turn s x cx (rw many lx) (idle x lx cx))
         ∙ rest (with_note s x n) (length-set s.notes x n ∙ many) (λ v lv cv. idle_still_by s x v (same_or_not v x) (rw many lv) (idle v lv cv))
 
@@ -497,7 +497,7 @@ module _ (c : Cast) where
     pub finish_skips : (n : ℕ) (s : State) → length s.notes ≡ c.deal.graph.n
         → ((i : ℕ) → i ≤ n → has_ended c.deal (repeat i (ticks c) s).book ≡ false)
         → ((i : ℕ) → i < n → (v : ℕ) → v < c.deal.graph.n → conforms c v ≡ true
-        → IsIdle c (repeat i (ticks c) s).book v (notes_of (repeat i (ticks c) s) v))
+        → IsIdle c (repeat i (ticks c) s).book v (state_notes (repeat i (ticks c) s) v))
         → repeat (suc n) (round_unless_ended c) s ≡ round c (repeat n (ticks c) s)
     finish_skips zero s many on idle = round_goes_on c s (on 0 (omega arith))
     finish_skips (suc n) s many on idle =

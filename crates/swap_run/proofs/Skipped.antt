@@ -11,7 +11,7 @@ use Rattle.swap_job.specs.declared.event.Event.TheVariants.{Look, Act}
 use Rattle.swap_job.specs.declared.job.Role.{Role}
 use Rattle.swap_job.specs.declared.job.Role.TheVariants.{Conforming, Manual, Script, Strategy}
 use Rattle.swap_rules.proofs.Prefixes.{same_or_not}
-use Rattle.swap_run.specs.Run.{Cast, Notes, State, conforms, role_of, is_planned, notes_of, act, act_as, look, watch, run_from, step}
+use Rattle.swap_run.specs.Run.{Cast, Notes, State, conforms, party_role, is_planned, state_notes, act, act_as, look, watch, continued_run, step}
 use Rattle.swap_run.specs.Fair.{repeat, adjacent_arcs, looks, acts, most_acts, turn, turns, ticks, round, has_ended, round_unless_ended}
 use Rattle.swap_run.specs.Quiet.{over}
 use Rattle.swap_run.specs.Steps.{act_steps, look_steps, pass_steps, round_steps, rounds_steps, tick_steps, turn_steps, turns_steps, unless_steps}
@@ -31,13 +31,13 @@ module _ (c : Cast) where
       go true = refl
       go false = refl
 
-  looks_book : (v : ℕ) (js : List ℕ) (s : State) → (run_from c s (map (λ a. Look v a) js)).book ≡ s.book
+  looks_book : (v : ℕ) (js : List ℕ) (s : State) → (continued_run c s (map (λ a. Look v a) js)).book ≡ s.book
   looks_book v [] s = refl
   looks_book v (a ∷ js) s = looks_book v js (step c s (Look v a)) ∙ look_book v a s
 
   along_looks : (v : ℕ) (js : List ℕ) (s : State) (b : Histories) → IsAlong c s (map (λ a. Look v a) js) b → b ≡ s.book
   along_looks v js s b k =
-      k.book ∙ ap (λ (es : List Event). (run_from c s es).book) (take-map (λ a. Look v a) k.count js) ∙ looks_book v (take k.count js) s
+      k.book ∙ ap (λ (es : List Event). (continued_run c s es).book) (take-map (λ a. Look v a) k.count js) ∙ looks_book v (take k.count js) s
 
   -- So many acts.
 
@@ -49,13 +49,13 @@ module _ (c : Cast) where
       record {
         count = k.count;
         few = k.few;
-        book = k.book ∙ ap (λ (es : List Event). (run_from c s es).book) some ∙ ap (λ (u : State). u.book) (acts_run c k.count v s) ∙ sym (same k.count)
-            ∙ ap (λ (u : State). u.book) (sym (acts_run c k.count v t)) ∙ ap (λ (es : List Event). (run_from c t es).book) (sym some);
+        book = k.book ∙ ap (λ (es : List Event). (continued_run c s es).book) some ∙ ap (λ (u : State). u.book) (acts_run c k.count v s) ∙ sym (same k.count)
+            ∙ ap (λ (u : State). u.book) (sym (acts_run c k.count v t)) ∙ ap (λ (es : List Event). (continued_run c t es).book) (sym some);
       }
 
   -- an act of a party that neither conforms nor plans
-  act_rests : (v : ℕ) (s : State) → conforms c v ≡ false → is_planned (role_of c v) ≡ false → step c s (Act v) ≡ s
-  act_rests v s out none = ap (λ (b : Bool). cond b (act c s v) (act_as c s v (role_of c v))) out ∙ by (role_of c v) none
+  act_rests : (v : ℕ) (s : State) → conforms c v ≡ false → is_planned (party_role c v) ≡ false → step c s (Act v) ≡ s
+  act_rests v s out none = ap (λ (b : Bool). cond b (act c s v) (act_as c s v (party_role c v))) out ∙ by (party_role c v) none
     where
       by : (role : Role) → is_planned role ≡ false → act_as c s v role ≡ s
       by Conforming e = refl
@@ -63,7 +63,7 @@ module _ (c : Cast) where
       by (Script moves) e = absurd (cc e)
       by (Strategy name) e = absurd (cc e)
 
-  module _ (plain : (v : ℕ) → v < c.deal.graph.n → conforms c v ≡ false → is_planned (role_of c v) ≡ false) where
+  module _ (plain : (v : ℕ) → v < c.deal.graph.n → conforms c v ≡ false → is_planned (party_role c v) ≡ false) where
     -- Stale notes leave the way of the turns.
 
     acts_part : (y : Bool) (x u : ℕ) (s : State) (n : Notes) (b : Histories) → conforms c x ≡ y → x < c.deal.graph.n → x < length s.notes
@@ -97,7 +97,7 @@ module _ (c : Cast) where
     unfolding turn_steps
     turn_part x u s n b lx l lu cu stale k = go (along_split c s (look_steps c.deal x) (act_steps c x) b k)
       where
-        go : IsAlong c s (look_steps c.deal x) b ⊎ IsAlong c (run_from c s (look_steps c.deal x)) (act_steps c x) b
+        go : IsAlong c s (look_steps c.deal x) b ⊎ IsAlong c (continued_run c s (look_steps c.deal x)) (act_steps c x) b
             → IsAlong c (with_note s u n) (look_steps c.deal x ++ act_steps c x) b
         go (inl i) = along_start c (with_note s u n) (look_steps c.deal x ++ act_steps c x) b (along_looks x (adjacent_arcs c.deal x) s b i)
         go (inr i) =
@@ -129,7 +129,7 @@ module _ (c : Cast) where
             subst (λ z. turn c (with_note s u n) z ≡ turn c s z) (sym e) (turn_forgets c s u n cu here stale) in
             subst (λ (t : State). IsAlong c t (flat_map (turn_steps c) xs) b) (sym same) i
         after rest (inr apart) i =
-            let kept : notes_of (turn c s x) u ≡ notes_of s u = turn_keeps c plain s u x lx (λ e. apart (sym e)) here l in
+            let kept : state_notes (turn c s x) u ≡ state_notes s u = turn_keeps c plain s u x lx (λ e. apart (sym e)) here l in
             subst (λ (t : State). IsAlong c t (flat_map (turn_steps c) xs) b) (sym (turn_other c plain s u x n lx (λ e. apart (sym e)) l))
             (rest (turn c s x) (turn_many c plain s x lx l ∙ many) (record {
               signed = stale.signed ∙ ap (λ (m : Notes). m.signed) (sym kept);
@@ -138,7 +138,7 @@ module _ (c : Cast) where
 
         go : ((t : State) → length t.notes ≡ c.deal.graph.n → IsStale c t u n → IsAlong c t (flat_map (turn_steps c) xs) b
             → IsAlong c (with_note t u n) (flat_map (turn_steps c) xs) b)
-            → IsAlong c s (turn_steps c x) b ⊎ IsAlong c (run_from c s (turn_steps c x)) (flat_map (turn_steps c) xs) b
+            → IsAlong c s (turn_steps c x) b ⊎ IsAlong c (continued_run c s (turn_steps c x)) (flat_map (turn_steps c) xs) b
             → IsAlong c (with_note s u n) (turn_steps c x ++ flat_map (turn_steps c) xs) b
         go rest (inl i) =
             along_more c (with_note s u n) (turn_steps c x) (flat_map (turn_steps c) xs) b (turn_part x u s n b lx l here cu stale i)
@@ -173,9 +173,9 @@ module _ (c : Cast) where
       next_at : (i : ℕ) → i ≤ n → rounded (suc i) ≡ round c (ticked i)
       next_at i le = finish_skips c plain i s many (λ j l. on j (omega (arith, l, le))) (λ j l. idle j (omega (arith, l, le)))
 
-      book_at : (i : ℕ) → i ≤ n → (rounded i).book ≡ (ticked i).book
-      book_at zero le = refl
-      book_at (suc m) le =
+      round_book : (i : ℕ) → i ≤ n → (rounded i).book ≡ (ticked i).book
+      round_book zero le = refl
+      round_book (suc m) le =
           ap (λ (t : State). t.book) (next_at m (omega (arith, le))) ∙ calm_round c plain (ticked m) (many_at m) (idle m (omega (arith, le)))
 
       turned_at : (i : ℕ) → i < n → (turns c (rounded i)).book ≡ (ticked i).book
@@ -188,10 +188,10 @@ module _ (c : Cast) where
       -- on the way of the round number i
       here : (i : ℕ) (b : Histories) → i ≤ n → IsAlong c (rounded i) (round_steps c (rounded i)) b → IsAlong c s (rounds_steps (suc i) c s) b
       here i b le k =
-          let low : has_ended c.deal (rounded i).book ≡ false = ap (has_ended c.deal) (book_at i le) ∙ on i le in
+          let low : has_ended c.deal (rounded i).book ≡ false = ap (has_ended c.deal) (round_book i le) ∙ on i le in
           let is : unless_steps c (rounded i) ≡ round_steps c (rounded i) = ap (λ (y : Bool). cond y [] (round_steps c (rounded i))) low in
           along_after c s (rounds_steps i c s) (unless_steps c (rounded i)) b
-          (subst (λ (es : List Event). IsAlong c (run_from c s (rounds_steps i c s)) es b) (sym is)
+          (subst (λ (es : List Event). IsAlong c (continued_run c s (rounds_steps i c s)) es b) (sym is)
           (subst (λ (t : State). IsAlong c t (round_steps c (rounded i)) b) (sym (rounds_run c i s)) k))
 
       pass_way : (m : ℕ) (b : Histories) → m ≤ n → IsAlong c s (pass_steps m c s) b → IsAlong c s (rounds_steps m c s) b
@@ -202,7 +202,7 @@ module _ (c : Cast) where
           low = omega (arith, le)
 
           go : (IsAlong c s (pass_steps m c s) b → IsAlong c s (rounds_steps m c s) b)
-              → IsAlong c s (pass_steps m c s) b ⊎ IsAlong c (run_from c s (pass_steps m c s)) (tick_steps c.deal (ticked m).book) b
+              → IsAlong c s (pass_steps m c s) b ⊎ IsAlong c (continued_run c s (pass_steps m c s)) (tick_steps c.deal (ticked m).book) b
               → IsAlong c s (rounds_steps (suc m) c s) b
           go rest (inl i) = along_more c s (rounds_steps m c s) (unless_steps c (rounded m)) b (rest i)
           go rest (inr i) =
@@ -219,7 +219,7 @@ module _ (c : Cast) where
           same = turns_skip c plain t far still
 
           go : IsAlong c (ticks c t) (turns_steps c) b
-              ⊎ IsAlong c (run_from c (ticks c t) (turns_steps c)) (tick_steps c.deal (turns c (ticks c t)).book) b
+              ⊎ IsAlong c (continued_run c (ticks c t) (turns_steps c)) (tick_steps c.deal (turns c (ticks c t)).book) b
               → IsAlong c (round c t) (round_steps c (round c t)) b
           go (inl i) = along_more c (round c t) (turns_steps c) (tick_steps c.deal (turns c (round c t)).book) b (turns_way t b far still i)
           go (inr i) =

@@ -10,7 +10,7 @@ use Rattle.swap_job.specs.declared.event.Event.TheVariants.{Act}
 use Rattle.swap_run.specs.Run.{Cast, State, conforms, step}
 use Rattle.swap_run.specs.Laws.{IsGood}
 use Rattle.swap_run.specs.Fair.{repeat, looks, acts, most_acts, turn, turns}
-use Rattle.swap_run.specs.Called.{Called, called, told, is_barred, landed_on, step_on, turn_on}
+use Rattle.swap_run.specs.Called.{Called, called, told, is_barred, landed_on, apply_step, turn_on}
 use Rattle.swap_run.specs.CalledLaws.{NoneSwept, StepsOnAreGood}
 use Rattle.swap_run.proofs.Good.{steps_are_good}
 use Rattle.swap_run.proofs.Calls.{passed_is_good}
@@ -24,7 +24,7 @@ open_slot h Claim = refl
 open_slot h Refund = refl
 open_slot h (Transfer to units) = refl
 
-step_is : (c : Cast) (s : State) (e : Event) → step_on (λ a. false) c s e ≡ step c s e
+step_is : (c : Cast) (s : State) (e : Event) → apply_step (λ a. false) c s e ≡ step c s e
 step_is c s e = go (called c s e)
   where
     go : (o : Option Called) → landed_on (λ a. false) c s e o ≡ step c s e
@@ -44,9 +44,9 @@ unfolding turn
 turn_is c s v = go (conforms c v)
   where
     go : (b : Bool)
-        → cond b (repeat (most_acts c.deal) (λ s. step_on (λ a. false) c s (Act v)) (looks c v s)) (step_on (λ a. false) c (looks c v s) (Act v))
+        → cond b (repeat (most_acts c.deal) (λ s. apply_step (λ a. false) c s (Act v)) (looks c v s)) (apply_step (λ a. false) c (looks c v s) (Act v))
         ≡ cond b (acts c v (most_acts c.deal) (looks c v s)) (step c (looks c v s) (Act v))
-    go true = repeat_same (most_acts c.deal) (λ s. step_on (λ a. false) c s (Act v)) (λ s. step c s (Act v)) (looks c v s) (λ s. step_is c s (Act v))
+    go true = repeat_same (most_acts c.deal) (λ s. apply_step (λ a. false) c s (Act v)) (λ s. step c s (Act v)) (looks c v s) (λ s. step_is c s (Act v))
     go false = step_is c (looks c v s) (Act v)
 
 pub none_swept : NoneSwept

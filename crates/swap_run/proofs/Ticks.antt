@@ -12,7 +12,7 @@ use Rattle.ledger_core.specs.declared.entry.Sender.TheVariants.{Party, Clock}
 use Rattle.ledger_core.specs.declared.entry.What.{What}
 use Rattle.ledger_core.specs.declared.entry.What.TheVariants.{Call as Made, Tick as Ticks}
 use Rattle.ledger_core.specs.declared.entry.Entry.{Entry}
-use Rattle.ledger_core.specs.History.{height, ticks_in, is_tick, is_clock_full, IsLegal, IsLegalMoment, IsLegalEntry}
+use Rattle.ledger_core.specs.History.{height, entry_ticks, is_tick, is_clock_full, IsLegal, IsLegalMoment, IsLegalEntry}
 use Rattle.ledger_core.specs.Ledger.{tick_entry}
 use Rattle.ledger_core.specs.Book.{history}
 use Rattle.swap_job.specs.declared.event.Event.TheVariants.{Tick}
@@ -42,7 +42,7 @@ clocks_push h e =
     omega arith
 
 tick_some : (d : Deal) (a : ℕ) (past : List Entry) (s : Sender) (w : What) (at : ℕ) (r : Reply) → IsLegalEntry d a past s w at r
-    → ◌≤◌ (cond {A = ℕ} (is_tick s) 1 0) (ticks_in w)
+    → ◌≤◌ (cond {A = ℕ} (is_tick s) 1 0) (entry_ticks w)
 tick_some d a past (Party p) w at r l = omega arith
 tick_some d a past Clock (Ticks k) at r l = l.some
 tick_some d a past Clock (Made c) at r l = absurd l

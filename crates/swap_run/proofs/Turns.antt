@@ -11,7 +11,7 @@ use Rattle.ledger_core.specs.declared.entry.Call.{Call}
 use Rattle.ledger_core.specs.declared.entry.Sender.TheVariants.{Party}
 use Rattle.ledger_core.specs.declared.entry.What.TheVariants.{Call as Made}
 use Rattle.ledger_core.specs.declared.entry.Entry.{Entry}
-use Rattle.ledger_core.specs.History.{height, ticks_in}
+use Rattle.ledger_core.specs.History.{height, entry_ticks}
 use Rattle.ledger_core.specs.Book.{Histories, history}
 use Rattle.swap_job.specs.declared.event.Event.TheVariants.{Look, Act}
 use Rattle.swap_job.specs.declared.job.Role.{Role}
@@ -28,8 +28,8 @@ use Rattle.swap_rules.proofs.Words.{enters, leaves, or-left}
 use Rattle.swap_rules.proofs.Prefixes.{begins_refl, begins_more, same_or_not}
 use Rattle.swap_rules.proofs.Growth.{Grows}
 use Rattle.swap_rules.proofs.Conducting.{Next, next_call as next_of_call, Still, Pushed, next_grows, history_same, history_other}
-use Rattle.swap_run.specs.Run.{Cast, State, conforms, role_of, notes_of, plan_of, plan_up_to, is_planned, signed_after, known_up_to, look, make}
-use Rattle.swap_run.specs.Run.{next_of, act, watch, take_call, after_turn, question, after_question, answer_for, act_as, step}
+use Rattle.swap_run.specs.Run.{Cast, State, conforms, party_role, state_notes, party_plan, plan_up_to, is_planned, signed_after, known_up_to, look, make}
+use Rattle.swap_run.specs.Run.{next_action, act, watch, take_call, after_turn, question, after_question, answer_for, act_as, step}
 use Rattle.ledger_core.specs.Ledger.{after_call}
 use Rattle.swap_job.specs.Fitting.{is_near, IsMoveOf}
 use Rattle.swap_run.specs.Laws.{IsReadyCast, IsGood}
@@ -37,14 +37,15 @@ use Rattle.swap_run.specs.Fair.{adjacent_arcs, looks, acts, most_acts, turn}
 use Rattle.swap_run.specs.FairLaws.{OthersRest, TurnsAreGood}
 use Rattle.swap_run.proofs.Noted.{due_now}
 use Rattle.swap_run.proofs.Plans.{good_turn, good_asked, answer_may}
-use Rattle.swap_run.proofs.Good.{holds, note_same, note_other, in_book, first_in, good_look, script_may, steps_are_good}
+use Rattle.swap_run.proofs.Good.{holds, note_same, note_other, in_book, good_look, script_may, steps_are_good}
 use Rattle.swap_run.proofs.Repeats.{fold_fixed}
 use Rattle.swap_run.proofs.Acts.{act_is, all_due, acts_good, at_rest}
+use Rattle.swap_rules.proofs.Cases.{first_in}
 
-pub height_push : (h : List Entry) (e : Entry) → height (h ++ e ∷ []) ≡ height h + ticks_in e.what
+pub height_push : (h : List Entry) (e : Entry) → height (h ++ e ∷ []) ≡ height h + entry_ticks e.what
 height_push h e =
     let e1 = height_append h (e ∷ []) in
-    let e2 : height (e ∷ []) ≡ ticks_in e.what + height [] = sum_by-cons (λ e. ticks_in e.what) e [] in
+    let e2 : height (e ∷ []) ≡ entry_ticks e.what + height [] = sum_by-cons (λ e. entry_ticks e.what) e [] in
     let e3 : height [] ≡ 0 = refl in
     omega arith
 
@@ -70,7 +71,7 @@ calm_next d b a k v c below n = record { grows = next_grows d b a k (Party v) (M
     flat (Still e) = ap height e
     flat (Pushed e q es ew le) =
         let e1 = height_push (history b a) e in
-        let e2 : ticks_in e.what ≡ 0 = ap ticks_in ew in
+        let e2 : entry_ticks e.what ≡ 0 = ap entry_ticks ew in
         let e3 : ◌≡◌ {A = ℕ} (height k) (height (history b a ++ e ∷ [])) = ap height q in
         omega arith
 
@@ -99,13 +100,13 @@ near_below d v a i =
 pub record Turned (c : Cast) (v : ℕ) (s t : State) : Type 0 where
   pub good : IsGood c t
   pub calm : Calm s.book t.book
-  pub others : (u : ℕ) → u ≢ v → notes_of t u ≡ notes_of s u
+  pub others : (u : ℕ) → u ≢ v → state_notes t u ≡ state_notes s u
 
 -- What it leaves of the notes of v, where v conforms.
 pub record Rests (c : Cast) (v : ℕ) (s t : State) : Type 0 where
   pub turned : Turned c v s t
-  pub seen : (a : ℕ) → IsNear c.deal v a → Begins (history s.book a) (history (notes_of t v).known a)
-  pub rest : next_of c t v ≡ None
+  pub seen : (a : ℕ) → IsNear c.deal v a → Begins (history s.book a) (history (state_notes t v).known a)
+  pub rest : next_action c t v ≡ None
 
 module _ (c : Cast) (ready : IsReadyCast c) (v : ℕ) (lv : v < c.deal.graph.n) (cv : conforms c v ≡ true) where
   -- Looks.
@@ -131,24 +132,24 @@ module _ (c : Cast) (ready : IsReadyCast c) (v : ℕ) (lv : v < c.deal.graph.n) 
   looks_book [] s = refl
   looks_book (x ∷ xs) s = looks_book xs (look_at s x) ∙ ap (λ t. t.book) (look_is s x)
 
-  looks_others : (xs : List ℕ) (s : State) (u : ℕ) → u ≢ v → notes_of (fold look_at s xs) u ≡ notes_of s u
+  looks_others : (xs : List ℕ) (s : State) (u : ℕ) → u ≢ v → state_notes (fold look_at s xs) u ≡ state_notes s u
   looks_others [] s u n = refl
   looks_others (x ∷ xs) s u n =
-      looks_others xs (look_at s x) u n ∙ (ap (λ t. notes_of t u) (look_is s x)
-      ∙ note_other s s.book v u (known_up_to (notes_of s v) x (history s.book x)) n)
+      looks_others xs (look_at s x) u n ∙ (ap (λ t. state_notes t u) (look_is s x)
+      ∙ note_other s s.book v u (known_up_to (state_notes s v) x (history s.book x)) n)
 
   -- v knows the ledger of a as it stands
   abbrev Sees : ℕ → State → Type 0
-  Sees a s = history (notes_of s v).known a ≡ history s.book a
+  Sees a s = history (state_notes s v).known a ≡ history s.book a
 
-  noted_look : (s : State) (x : ℕ) → IsGood c s → notes_of (look s v x) v ≡ known_up_to (notes_of s v) x (history s.book x)
-  noted_look s x g = note_same s s.book v (known_up_to (notes_of s v) x (history s.book x)) (subst (λ m. v < m) (sym g.one_each) lv)
+  noted_look : (s : State) (x : ℕ) → IsGood c s → state_notes (look s v x) v ≡ known_up_to (state_notes s v) x (history s.book x)
+  noted_look s x g = note_same s s.book v (known_up_to (state_notes s v) x (history s.book x)) (subst (λ m. v < m) (sym g.one_each) lv)
 
   look_here : (x a : ℕ) (s : State) → x < length c.deal.graph.arcs → IsGood c s → a ≡ x → Sees a (look s v x)
   look_here x a s l g e =
       let hv = holds c s v (g.notes v lv cv) in
-      ap (λ n. history n.known a) (noted_look s x g) ∙ (ap (history (set (notes_of s v).known x (history s.book x))) e
-      ∙ (history_same (notes_of s v).known x (history s.book x) (subst (λ m. x < m) (sym hv.one_each) l) ∙ ap (history s.book) (sym e)))
+      ap (λ n. history n.known a) (noted_look s x g) ∙ (ap (history (set (state_notes s v).known x (history s.book x))) e
+      ∙ (history_same (state_notes s v).known x (history s.book x) (subst (λ m. x < m) (sym hv.one_each) l) ∙ ap (history s.book) (sym e)))
 
   look_sees : (x a : ℕ) (s : State) → x < length c.deal.graph.arcs → IsGood c s → (a ≡ x) ⊎ Sees a s → Sees a (look_at s x)
   look_sees x a s l g (inl e) = subst (Sees a) (sym (look_is s x)) (look_here x a s l g e)
@@ -158,7 +159,7 @@ module _ (c : Cast) (ready : IsReadyCast c) (v : ℕ) (lv : v < c.deal.graph.n) 
       go (inl e) = subst (Sees a) (sym (look_is s x)) (look_here x a s l g e)
       go (inr n) =
           subst (Sees a) (sym (look_is s x)) (ap (λ n. history n.known a) (noted_look s x g)
-          ∙ (history_other (notes_of s v).known x a (history s.book x) n ∙ h))
+          ∙ (history_other (state_notes s v).known x a (history s.book x) n ∙ h))
 
   looks_see : (xs : List ℕ) (s : State) (a : ℕ) → ((a : ℕ) → IsIn a xs → Touches a) → IsGood c s → Sees a s ⊎ IsIn a xs
       → Sees a (fold look_at s xs)
@@ -174,32 +175,32 @@ module _ (c : Cast) (ready : IsReadyCast c) (v : ℕ) (lv : v < c.deal.graph.n) 
 
   record Acted (s t : State) : Type 0 where
     calm : Calm s.book t.book
-    others : (u : ℕ) → u ≢ v → notes_of t u ≡ notes_of s u
-    own : (a : ℕ) → Begins (history (notes_of s v).known a) (history (notes_of t v).known a)
+    others : (u : ℕ) → u ≢ v → state_notes t u ≡ state_notes s u
+    own : (a : ℕ) → Begins (history (state_notes s v).known a) (history (state_notes t v).known a)
 
   acted_refl : (s : State) → Acted s s
-  acted_refl s = record { calm = calm_refl s.book; others = λ u n. refl; own = λ a. begins_refl (history (notes_of s v).known a) }
+  acted_refl s = record { calm = calm_refl s.book; others = λ u n. refl; own = λ a. begins_refl (history (state_notes s v).known a) }
 
   made_acted : (s : State) (x : Action) → IsGood c s → IsIn x (all_due c ready v lv cv s) → Acted s (make c.deal s v (Some x))
   made_acted s x g i =
       let hv = holds c s v (g.notes v lv cv) in
-      let is = due_now c.deal s.book (notes_of s v) v (c.wallet v) x (ready.wallets v lv cv) ready.accepted i hv in
+      let is = due_now c.deal s.book (state_notes s v) v (c.wallet v) x (ready.wallets v lv cv) ready.accepted i hv in
       let below : x.arc < length s.book = in_book c s x.arc g is.below in
       let n = next_of_call c.deal x.arc (history s.book x.arc) v x.call is.of_the_two is.fits in
       record {
         calm = calm_next c.deal s.book x.arc (after_call c.deal x.arc v x.call (history s.book x.arc)) v x.call below n;
         others =
             λ u m. note_other s (set s.book x.arc after) v u (record {
-              known = set (notes_of s v).known x.arc after;
+              known = set (state_notes s v).known x.arc after;
               signed =
-                  signed_after (notes_of s v).signed x.call;
+                  signed_after (state_notes s v).signed x.call;
             }) m;
         own =
-            λ a. subst (λ n. Begins (history (notes_of s v).known a) (history n.known a))
+            λ a. subst (λ n. Begins (history (state_notes s v).known a) (history n.known a))
             (sym (note_same s (set s.book x.arc after) v (record {
-              known = set (notes_of s v).known x.arc after;
+              known = set (state_notes s v).known x.arc after;
               signed =
-                  signed_after (notes_of s v).signed x.call;
+                  signed_after (state_notes s v).signed x.call;
             }) (subst (λ m. v < m) (sym g.one_each) lv)))
             (at a (subst (λ m. x.arc < m) (sym hv.one_each) is.below) below n (hv.knows a).rest (hv.knows a).whole (same_or_not a x.arc));
       }
@@ -207,26 +208,26 @@ module _ (c : Cast) (ready : IsReadyCast c) (v : ℕ) (lv : v < c.deal.graph.n) 
       after : List Entry
       after = after_call c.deal x.arc v x.call (history s.book x.arc)
 
-      at : (a : ℕ) → x.arc < length (notes_of s v).known → x.arc < length s.book
+      at : (a : ℕ) → x.arc < length (state_notes s v).known → x.arc < length s.book
           → Next c.deal x.arc (history s.book x.arc) (after_call c.deal x.arc v x.call (history s.book x.arc)) (Party v) (Made x.call)
-          → (rest : List Entry) → history s.book a ≡ history (notes_of s v).known a ++ rest → (a ≡ x.arc) ⊎ (a ≢ x.arc)
-          → Begins (history (notes_of s v).known a) (history (set (notes_of s v).known x.arc (after_call c.deal x.arc v x.call (history s.book x.arc))) a)
+          → (rest : List Entry) → history s.book a ≡ history (state_notes s v).known a ++ rest → (a ≡ x.arc) ⊎ (a ≢ x.arc)
+          → Begins (history (state_notes s v).known a) (history (set (state_notes s v).known x.arc (after_call c.deal x.arc v x.call (history s.book x.arc))) a)
       at a here below n rest whole (inl e) =
-          subst (Begins (history (notes_of s v).known a))
-          (sym (ap (history (set (notes_of s v).known x.arc (after_call c.deal x.arc v x.call (history s.book x.arc)))) e
-          ∙ history_same (notes_of s v).known x.arc (after_call c.deal x.arc v x.call (history s.book x.arc)) here))
-          (begins_more (history (notes_of s v).known a) (history s.book a) (after_call c.deal x.arc v x.call (history s.book x.arc)) (rest, whole)
+          subst (Begins (history (state_notes s v).known a))
+          (sym (ap (history (set (state_notes s v).known x.arc (after_call c.deal x.arc v x.call (history s.book x.arc)))) e
+          ∙ history_same (state_notes s v).known x.arc (after_call c.deal x.arc v x.call (history s.book x.arc)) here))
+          (begins_more (history (state_notes s v).known a) (history s.book a) (after_call c.deal x.arc v x.call (history s.book x.arc)) (rest, whole)
           (subst (λ y. Begins (history s.book y) (after_call c.deal x.arc v x.call (history s.book x.arc))) (sym e)
           (subst (Begins (history s.book x.arc)) (history_same s.book x.arc (after_call c.deal x.arc v x.call (history s.book x.arc)) below)
           (next_grows c.deal s.book x.arc (after_call c.deal x.arc v x.call (history s.book x.arc)) (Party v) (Made x.call) below n x.arc))))
       at a here below n rest whole (inr e) =
-          subst (Begins (history (notes_of s v).known a)) (sym (history_other (notes_of s v).known x.arc a _ e))
-          (begins_refl (history (notes_of s v).known a))
+          subst (Begins (history (state_notes s v).known a)) (sym (history_other (state_notes s v).known x.arc a _ e))
+          (begins_refl (history (state_notes s v).known a))
 
   act_acted : (s : State) → IsGood c s → Acted s (step c s (Act v))
-  act_acted s g = go (next_of c s v) refl
+  act_acted s g = go (next_action c s v) refl
     where
-      go : (o : Option Action) → next_of c s v ≡ o → Acted s (step c s (Act v))
+      go : (o : Option Action) → next_action c s v ≡ o → Acted s (step c s (Act v))
       go None e = subst (Acted s) (sym (act_is c ready v lv cv s ∙ ap (make c.deal s v) e)) (acted_refl s)
       go (Some x) e = subst (Acted s) (sym (act_is c ready v lv cv s ∙ ap (make c.deal s v) e)) (made_acted s x g (first_in (all_due c ready v lv cv s) x e))
 
@@ -239,8 +240,8 @@ module _ (c : Cast) (ready : IsReadyCast c) (v : ℕ) (lv : v < c.deal.graph.n) 
         calm = calm_more s.book (acts c v n s).book (step c (acts c v n s) (Act v)).book x.calm y.calm;
         others = λ u m. y.others u m ∙ x.others u m;
         own =
-            λ a. begins_more (history (notes_of s v).known a) (history (notes_of (acts c v n s) v).known a)
-            (history (notes_of (step c (acts c v n s) (Act v)) v).known a) (x.own a) (y.own a);
+            λ a. begins_more (history (state_notes s v).known a) (history (state_notes (acts c v n s) v).known a)
+            (history (state_notes (step c (acts c v n s) (Act v)) v).known a) (x.own a) (y.own a);
       }
 
   turn_is : (s : State) → turn c s v ≡ acts c v (most_acts c.deal) (looks c v s)
@@ -262,7 +263,7 @@ module _ (c : Cast) (ready : IsReadyCast c) (v : ℕ) (lv : v < c.deal.graph.n) 
           calm = subst (λ b. Calm b (acts c v (most_acts c.deal) (looks c v s)).book) (looks_book (adjacent_arcs c.deal v) s) x.calm;
           others = λ u n. x.others u n ∙ looks_others (adjacent_arcs c.deal v) s u n;
         };
-        seen = λ a i. subst (λ h. Begins h (history (notes_of (acts c v (most_acts c.deal) (looks c v s)) v).known a))
+        seen = λ a i. subst (λ h. Begins h (history (state_notes (acts c v (most_acts c.deal) (looks c v s)) v).known a))
             (looks_see (adjacent_arcs c.deal v) s a low g (inr (near_in c.deal v a i)) ∙ ap (λ b. history b a) (looks_book (adjacent_arcs c.deal v) s))
             (x.own a);
         rest = at_rest c ready v lv cv (looks c v s) g1;
@@ -313,25 +314,26 @@ module _ (c : Cast) (ready : IsReadyCast c) (v : ℕ) (lv : v < c.deal.graph.n) 
   act_calm s Manual g = calm_refl s.book
   act_calm s (Script moves) g =
       let p = g.plans v lv in
-      take_calm (after_turn s v (moves_left (plan_of s v).known (plan_of s v).moves)) (next_call c.deal c.seeds (plan_of s v).known (plan_of s v).moves)
+      take_calm (after_turn s v (moves_left (party_plan s v).known (party_plan s v).moves)) (next_call c.deal c.seeds (party_plan s v).known
+      (party_plan s v).moves)
       (script_may c s v lv g)
-      (good_turn c s v (moves_left (plan_of s v).known (plan_of s v).moves) lv
-      (left_fit (IsMoveOf c.deal c.seeds v) (plan_of s v).known (plan_of s v).moves p.moves) g)
+      (good_turn c s v (moves_left (party_plan s v).known (party_plan s v).moves) lv
+      (left_fit (IsMoveOf c.deal c.seeds v) (party_plan s v).known (party_plan s v).moves p.moves) g)
   act_calm s (Strategy name) g =
       take_calm (after_question s v name) (answer_for c.deal v (c.answers (length s.asked))) (answer_may c.deal v (c.answers (length s.asked)))
-      (good_asked c (after_turn s v (plan_of s v).moves) (s.asked ++ question s v name ∷ [])
-      (good_turn c s v (plan_of s v).moves lv (g.plans v lv).moves g))
+      (good_asked c (after_turn s v (party_plan s v).moves) (s.asked ++ question s v name ∷ [])
+      (good_turn c s v (party_plan s v).moves lv (g.plans v lv).moves g))
 
   act_notes : (s : State) (role : Role) → (act_as c s v role).notes ≡ s.notes
   act_notes s Conforming = refl
   act_notes s Manual = refl
   act_notes s (Script moves) =
-      take_notes (after_turn s v (moves_left (plan_of s v).known (plan_of s v).moves))
-      (next_call c.deal c.seeds (plan_of s v).known (plan_of s v).moves)
+      take_notes (after_turn s v (moves_left (party_plan s v).known (party_plan s v).moves))
+      (next_call c.deal c.seeds (party_plan s v).known (party_plan s v).moves)
   act_notes s (Strategy name) = take_notes (after_question s v name) (answer_for c.deal v (c.answers (length s.asked)))
 
-  act_is_as : (s : State) → step c s (Act v) ≡ act_as c s v (role_of c v)
-  act_is_as s = ap (λ b. cond b (act c s v) (act_as c s v (role_of c v))) out
+  act_is_as : (s : State) → step c s (Act v) ≡ act_as c s v (party_role c v)
+  act_is_as s = ap (λ b. cond b (act c s v) (act_as c s v (party_role c v))) out
 
   pub deviated : (s : State) → IsGood c s → Turned c v s (turn c s v)
   unfolding turn
@@ -339,8 +341,8 @@ module _ (c : Cast) (ready : IsReadyCast c) (v : ℕ) (lv : v < c.deal.graph.n) 
       let x = looked s g in
       let e = act_is_as (looks c v s) in
       let calm : Calm (looks c v s).book (step c (looks c v s) (Act v)).book =
-      subst (λ t. Calm (looks c v s).book t.book) (sym e) (act_calm (looks c v s) (role_of c v) x.good) in
-      let notes : (step c (looks c v s) (Act v)).notes ≡ s.notes = ap (λ t. t.notes) e ∙ (act_notes (looks c v s) (role_of c v) ∙ x.notes) in
+      subst (λ t. Calm (looks c v s).book t.book) (sym e) (act_calm (looks c v s) (party_role c v) x.good) in
+      let notes : (step c (looks c v s) (Act v)).notes ≡ s.notes = ap (λ t. t.notes) e ∙ (act_notes (looks c v s) (party_role c v) ∙ x.notes) in
       subst (Turned c v s) (sym (ap (λ b. cond b (acts c v (most_acts c.deal) (looks c v s)) (step c (looks c v s) (Act v))) out)) (record {
         good = steps_are_good c (looks c v s) (Act v) ready lv x.good;
         calm = calm_more s.book (looks c v s).book (step c (looks c v s) (Act v)).book x.calm calm;
@@ -352,12 +354,12 @@ unfolding turn looks
 others_rest c s v out none =
     ap (λ b. cond b (acts c v (most_acts c.deal) (looks c v s)) (step c (looks c v s) (Act v))) out
     ∙ (ap (λ t. step c t (Act v)) (fold_fixed (λ s a. step c s (Look v a)) s (adjacent_arcs c.deal v) look_rests)
-    ∙ (ap (λ b. cond b (act c s v) (act_as c s v (role_of c v))) out ∙ act_rests (role_of c v) none))
+    ∙ (ap (λ b. cond b (act c s v) (act_as c s v (party_role c v))) out ∙ act_rests (party_role c v) none))
   where
     look_rests : (a : ℕ) → step c s (Look v a) ≡ s
     look_rests a =
         ap (λ b. cond b (look s v a) (watch c s v a)) out
-        ∙ ap (λ b. record s { plans = cond b (set s.plans v (plan_up_to (plan_of s v) a (history s.book a))) s.plans }) none
+        ∙ ap (λ b. record s { plans = cond b (set s.plans v (plan_up_to (party_plan s v) a (history s.book a))) s.plans }) none
 
     act_rests : (role : Role) → is_planned role ≡ false → act_as c s v role ≡ s
     act_rests Conforming e = refl

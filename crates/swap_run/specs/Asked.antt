@@ -6,7 +6,7 @@ use Rattle.swap_digraph.specs.declared.deal.Deal.{Deal}
 use Rattle.swap_job.specs.declared.event.Event.{Event}
 use Rattle.swap_job.specs.declared.job.Role.{Role}
 use Rattle.swap_job.specs.declared.job.Role.TheVariants.{Strategy}
-use Rattle.swap_run.specs.Run.{Cast, Question, State, run_from}
+use Rattle.swap_run.specs.Run.{Cast, Question, State, continued_run}
 use Rattle.swap_run.specs.Fair.{finish}
 
 -- the answers of strategies, in the order in which they are asked
@@ -24,8 +24,8 @@ Agree s t f g = (i : ℕ) → length s.asked ≤ i → i < length t.asked → f 
 -- a run asks its answers in order and looks at no other: others that agree with those that it asked lead to the same state
 abbrev pub RunsAskInOrder : Type 0
 RunsAskInOrder =
-    (c : Cast) (answers : Answers) (s : State) (events : List Event) → Agree s (run_from c s events) answers c.answers
-    → run_from (with_answers c answers) s events ≡ run_from c s events
+    (c : Cast) (answers : Answers) (s : State) (events : List Event) → Agree s (continued_run c s events) answers c.answers
+    → continued_run (with_answers c answers) s events ≡ continued_run c s events
 
 -- and so does a fair finish
 abbrev pub FinishesAskInOrder : Type 0
@@ -41,7 +41,7 @@ is_strategy _ = false
 abbrev pub RunsWithoutStrategies : Type 0
 RunsWithoutStrategies =
     (c : Cast) (answers : Answers) (s : State) (events : List Event) → list_any is_strategy c.roles ≡ false
-    → run_from (with_answers c answers) s events ≡ run_from c s events
+    → continued_run (with_answers c answers) s events ≡ continued_run c s events
 
 -- and so is a fair finish
 abbrev pub FinishesWithoutStrategies : Type 0
@@ -59,9 +59,9 @@ IsByRule rule c s t = (i : ℕ) (q : Question) → length s.asked ≤ i → i < 
 -- where a rule gives all answers, it decides what a run comes to
 abbrev pub RulesDecideRuns : Type 0
 RulesDecideRuns =
-    (rule : Rule) (c : Cast) (answers : Answers) (s : State) (events : List Event) → IsByRule rule c s (run_from c s events)
-    → IsByRule rule (with_answers c answers) s (run_from (with_answers c answers) s events)
-    → run_from (with_answers c answers) s events ≡ run_from c s events
+    (rule : Rule) (c : Cast) (answers : Answers) (s : State) (events : List Event) → IsByRule rule c s (continued_run c s events)
+    → IsByRule rule (with_answers c answers) s (continued_run (with_answers c answers) s events)
+    → continued_run (with_answers c answers) s events ≡ continued_run c s events
 
 -- and what a fair finish comes to
 abbrev pub RulesDecideFinishes : Type 0

@@ -6,7 +6,7 @@ use Rattle.swap_job.specs.declared.event.Event.{Event}
 use Rattle.swap_job.specs.Step.{CanStep}
 use Rattle.swap_rules.specs.Outcome.{IsEnded}
 use Rattle.swap_rules.specs.Laws.{IsDealt}
-use Rattle.swap_run.specs.Run.{Cast, State, conforms, role_of, is_planned, next_of, start, run_from, run}
+use Rattle.swap_run.specs.Run.{Cast, State, conforms, party_role, is_planned, next_action, start, continued_run, run}
 use Rattle.swap_run.specs.Laws.{IsReadyCast, IsGood, IsKept}
 use Rattle.swap_run.specs.Fair.{acts, most_acts, turn, raised, ended_at, round, has_ended, rounds_left, finish}
 
@@ -14,7 +14,7 @@ use Rattle.swap_run.specs.Fair.{acts, most_acts, turn, raised, ended_at, round, 
 pub record IsReached (c : Cast) (s t : State) : Type 0 where
   pub events : List Event
   pub can : All (CanStep c.deal c.conforming c.seeds) events
-  pub state : t ≡ run_from c s events
+  pub state : t ≡ continued_run c s events
 
 -- a finish is made of events of a run
 abbrev pub FinishesAreRuns : Type 0
@@ -47,17 +47,17 @@ FairIsDealt = (c : Cast) → IsReadyCast c → ((v : ℕ) → v < c.deal.graph.n
 abbrev pub ActsComeToRest : Type 0
 ActsComeToRest =
     (c : Cast) (s : State) (v : ℕ) → IsReadyCast c → IsGood c s → v < c.deal.graph.n → conforms c v ≡ true
-    → next_of c (acts c v (most_acts c.deal) s) v ≡ None
+    → next_action c (acts c v (most_acts c.deal) s) v ≡ None
 
 -- acts until nothing is due leave what so many acts leave
 abbrev pub ActsAreEnough : Type 0
 ActsAreEnough =
-    (c : Cast) (s : State) (v n : ℕ) → IsReadyCast c → IsGood c s → v < c.deal.graph.n → conforms c v ≡ true → next_of c (acts c v n s) v ≡ None
+    (c : Cast) (s : State) (v n : ℕ) → IsReadyCast c → IsGood c s → v < c.deal.graph.n → conforms c v ≡ true → next_action c (acts c v n s) v ≡ None
     → acts c v n s ≡ acts c v (most_acts c.deal) s
 
 -- the turn of a party that neither conforms nor follows a script or a strategy changes nothing
 abbrev pub OthersRest : Type 0
-OthersRest = (c : Cast) (s : State) (v : ℕ) → conforms c v ≡ false → is_planned (role_of c v) ≡ false → turn c s v ≡ s
+OthersRest = (c : Cast) (s : State) (v : ℕ) → conforms c v ≡ false → is_planned (party_role c v) ≡ false → turn c s v ≡ s
 
 -- a turn leaves a good state good
 abbrev pub TurnsAreGood : Type 0
@@ -84,5 +84,5 @@ abbrev pub FinishStops : Type 0
 FinishStops = (c : Cast) (s : State) → has_ended c.deal s.book ≡ true → finish c s ≡ s
 
 -- and else it is a round and a finish
-abbrev pub FinishGoesOn : Type 0
-FinishGoesOn = (c : Cast) (s : State) → IsReadyCast c → IsGood c s → has_ended c.deal s.book ≡ false → finish c (round c s) ≡ finish c s
+abbrev pub FinishContinues : Type 0
+FinishContinues = (c : Cast) (s : State) → IsReadyCast c → IsGood c s → has_ended c.deal s.book ≡ false → finish c (round c s) ≡ finish c s

@@ -23,7 +23,7 @@ use Rattle.swap_job.specs.Crafted.{Seeds}
 use Rattle.swap_job.specs.Resolved.{resolved}
 use Rattle.deviators.specs.Script.{next_call, moves_left}
 use Rattle.swap_job.specs.Fitting.{is_near}
-use Rattle.swap_job.specs.Roles.{script_of}
+use Rattle.swap_job.specs.Roles.{role_script}
 use Rattle.swap_rules.specs.Due.{Wallet, Action, due, first}
 use Rattle.swap_rules.specs.Machine.{noted}
 
@@ -68,16 +68,16 @@ abbrev pub conforms : Cast → ℕ → Bool
 conforms c v = slice_index_or c.conforming v false
 
 -- the role of party v
-abbrev pub role_of : Cast → ℕ → Role
-role_of c v = slice_index_or c.roles v Manual
+abbrev pub party_role : Cast → ℕ → Role
+party_role c v = slice_index_or c.roles v Manual
 
 -- the notes of party v
-abbrev pub notes_of : State → ℕ → Notes
-notes_of s v = slice_index_or s.notes v (record { known = []; signed = [] })
+abbrev pub state_notes : State → ℕ → Notes
+state_notes s v = slice_index_or s.notes v (record { known = []; signed = [] })
 
 -- the plan of party v
-abbrev pub plan_of : State → ℕ → Plan
-plan_of s v = slice_index_or s.plans v (record { known = []; moves = []; turns = 0 })
+abbrev pub party_plan : State → ℕ → Plan
+party_plan s v = slice_index_or s.plans v (record { known = []; moves = []; turns = 0 })
 
 -- the hashkeys that were signed, lock by lock, after a call
 abbrev pub signed_after : List (Option Hashkey) → Call → List (Option Hashkey)
@@ -102,7 +102,7 @@ known_up_to n a h = record n { known = slice_set n.known a h }
 
 -- v looks at the ledger of arc a
 abbrev pub look : State → ℕ → ℕ → State
-look s v a = record s { notes = slice_set s.notes v (known_up_to (notes_of s v) a (history s.book a)) }
+look s v a = record s { notes = slice_set s.notes v (known_up_to (state_notes s v) a (history s.book a)) }
 
 -- v makes a call, notes what it signed, and then knows the ledger up to its end
 abbrev pub make : Deal → State → ℕ → Option Action → State
@@ -111,16 +111,16 @@ make d s v (Some x) =
     let h = after_call d x.arc v x.call (history s.book x.arc) in
     record s {
       book = slice_set s.book x.arc h;
-      notes = slice_set s.notes v (record { known = slice_set (notes_of s v).known x.arc h; signed = signed_after (notes_of s v).signed x.call });
+      notes = slice_set s.notes v (record { known = slice_set (state_notes s v).known x.arc h; signed = signed_after (state_notes s v).signed x.call });
     }
 
 -- the first of what is due for v over what it knows, if anything
-abbrev pub next_of : Cast → State → ℕ → Option Action
-next_of c s v = first (due c.deal v (c.wallet v) (signed_in (notes_of s v).signed) (notes_of s v).known)
+abbrev pub next_action : Cast → State → ℕ → Option Action
+next_action c s v = first (due c.deal v (c.wallet v) (signed_in (state_notes s v).signed) (state_notes s v).known)
 
 -- v makes the first due call
 abbrev pub act : Cast → State → ℕ → State
-act c s v = make c.deal s v (next_of c s v)
+act c s v = make c.deal s v (next_action c s v)
 
 -- What the other parties do.
 
@@ -136,7 +136,7 @@ plan_up_to n a h = record n { known = slice_set n.known a h }
 
 -- the plans after v has seen the ledger of arc a up to its end, if v keeps one
 abbrev pub plans_seen : Cast → State → ℕ → ℕ → List Entry → List Plan
-plans_seen c s v a h = if is_planned (role_of c v) then slice_set s.plans v (plan_up_to (plan_of s v) a h) else s.plans
+plans_seen c s v a h = if is_planned (party_role c v) then slice_set s.plans v (plan_up_to (party_plan s v) a h) else s.plans
 
 -- v looks at the ledger of arc a
 abbrev pub watch : Cast → State → ℕ → ℕ → State
@@ -151,30 +151,30 @@ take_call c s v (Some x) =
 
 -- v has acted once more, and these moves are left of its script
 abbrev pub after_turn : State → ℕ → List Move → State
-after_turn s v moves = record s { plans = slice_set s.plans v (record (plan_of s v) { moves = moves; turns = (plan_of s v).turns + 1 }) }
+after_turn s v moves = record s { plans = slice_set s.plans v (record (party_plan s v) { moves = moves; turns = (party_plan s v).turns + 1 }) }
 
 -- v makes the next call of its script
 abbrev pub follow : Cast → State → ℕ → State
 follow c s v =
-    take_call c (after_turn s v (moves_left (plan_of s v).known (plan_of s v).moves)) v
-    (next_call c.deal c.seeds (plan_of s v).known (plan_of s v).moves)
+    take_call c (after_turn s v (moves_left (party_plan s v).known (party_plan s v).moves)) v
+    (next_call c.deal c.seeds (party_plan s v).known (party_plan s v).moves)
 
 -- a call on an arc that touches v, and that fits
-abbrev pub is_answer_of : Deal → ℕ → ℕ × Call → Bool
-is_answer_of d v x = nat_lt x.0 (length d.graph.arcs) && is_near d v x.0 && fit d x.0 x.1
+abbrev pub is_party_answer : Deal → ℕ → ℕ × Call → Bool
+is_party_answer d v x = nat_lt x.0 (length d.graph.arcs) && is_near d v x.0 && fit d x.0 x.1
 
 -- the call of an answer, where v can make it
 abbrev pub answer_for : Deal → ℕ → Option (ℕ × Call) → Option (ℕ × Call)
 answer_for d v None = None
-answer_for d v (Some x) = if is_answer_of d v x then Some x else None
+answer_for d v (Some x) = if is_party_answer d v x then Some x else None
 
 -- what v asks the strategy that it follows
 abbrev pub question : State → ℕ → List ℕ → Question
-question s v name = record { strategy = name; party = v; turn = (plan_of s v).turns; known = (plan_of s v).known }
+question s v name = record { strategy = name; party = v; turn = (party_plan s v).turns; known = (party_plan s v).known }
 
 -- v has asked its strategy
 abbrev pub after_question : State → ℕ → List ℕ → State
-after_question s v name = record (after_turn s v (plan_of s v).moves) { asked = s.asked ++ question s v name ∷ [] }
+after_question s v name = record (after_turn s v (party_plan s v).moves) { asked = s.asked ++ question s v name ∷ [] }
 
 -- v asks its strategy and makes the call that comes as the next answer
 abbrev pub ask : Cast → State → ℕ → List ℕ → State
@@ -210,7 +210,7 @@ crash c s v k image =
       notes =
           slice_set s.notes v (record {
             known = relearnt c.deal v s.book;
-            signed = recorded_after (notes_of s v).signed (next_of c s v) k image;
+            signed = recorded_after (state_notes s v).signed (next_action c s v) k image;
           });
     }
 
@@ -220,7 +220,7 @@ crash c s v k image =
 abbrev pub step : Cast → State → Event → State
 step c s (Tick a k) = record s { book = slice_set s.book a (after_tick k (history s.book a)) }
 step c s (Look v a) = if conforms c v then look s v a else watch c s v a
-step c s (Act v) = if conforms c v then act c s v else act_as c s v (role_of c v)
+step c s (Act v) = if conforms c v then act c s v else act_as c s v (party_role c v)
 step c s (Made v mv) = take_call c s v (resolved c.deal c.seeds s.book mv)
 step c s (Crash v k image) = crash c s v k image
 
@@ -234,16 +234,16 @@ no_notes d = record { known = no_histories d; signed = replicate (length d.leade
 
 -- the plan of a party that has seen nothing, with its script at its first move
 abbrev pub first_plan : Deal → Role → Plan
-first_plan d role = record { known = no_histories d; moves = script_of role; turns = 0 }
+first_plan d role = record { known = no_histories d; moves = role_script role; turns = 0 }
 
 -- before any event
 abbrev pub start : Cast → State
 start c = record { book = no_histories c.deal; notes = replicate c.deal.graph.n (no_notes c.deal); plans = map (first_plan c.deal) c.roles; asked = [] }
 
 -- the state after a list of events
-abbrev pub run_from : Cast → State → List Event → State
-run_from c s events = fold (step c) s events
+abbrev pub continued_run : Cast → State → List Event → State
+continued_run c s events = fold (step c) s events
 
 -- the state after a list of events, from the start
 abbrev pub run : Cast → List Event → State
-run c events = run_from c (start c) events
+run c events = continued_run c (start c) events

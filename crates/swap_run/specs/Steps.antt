@@ -7,7 +7,7 @@ use Rattle.ledger_core.specs.History.{height}
 use Rattle.ledger_core.specs.Book.{Histories, history}
 use Rattle.swap_job.specs.declared.event.Event.{Event}
 use Rattle.swap_job.specs.declared.event.Event.TheVariants.{Tick, Look, Act}
-use Rattle.swap_run.specs.Run.{Cast, State, conforms, after_tick, run_from}
+use Rattle.swap_run.specs.Run.{Cast, State, conforms, after_tick, continued_run}
 use Rattle.swap_run.specs.Fair.{repeat, adjacent_arcs, most_acts, turns, the_horizon, ticks, has_ended, round_unless_ended, finish}
 use Rattle.swap_run.specs.Quiet.{SkipsTo}
 
@@ -15,7 +15,7 @@ use Rattle.swap_run.specs.Quiet.{SkipsTo}
 pub record IsAlong (c : Cast) (s : State) (events : List Event) (b : Histories) : Type 0 where
   pub count : ℕ
   pub few : count ≤ length events
-  pub book : b ≡ (run_from c s (take count events)).book
+  pub book : b ≡ (continued_run c s (take count events)).book
 
 -- v looks at each arc that touches it
 abbrev pub look_steps : Deal → ℕ → List Event
@@ -69,7 +69,7 @@ finish_steps c s = rounds_steps (the_horizon c.deal + 1) c s
 
 -- they lead to where it leads
 abbrev pub FinishIsSteps : Type 0
-FinishIsSteps = (c : Cast) (s : State) → run_from c s (finish_steps c s) ≡ finish c s
+FinishIsSteps = (c : Cast) (s : State) → continued_run c s (finish_steps c s) ≡ finish c s
 
 -- the ticks of so many rounds alone
 abbrev pub pass_steps : ℕ → Cast → State → List Event

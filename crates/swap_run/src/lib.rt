@@ -14,7 +14,7 @@ ghost use Rattle.swap_run.specs.Asked.{RunsAskInOrder, FinishesAskInOrder, RunsW
 ghost use Rattle.swap_run.specs.Asked.{RulesDecideFinishes};
 ghost use Rattle.swap_run.specs.CalledLaws.{CallsSplit, CallsArePlaced, PassedIsGood, NoneSwept, StepsOnAreGood};
 ghost use Rattle.swap_run.specs.FairLaws.{FinishesAreRuns, FinishesEnd, FinishesAreGood, FinishHeights, FairIsDealt, ActsComeToRest, ActsAreEnough};
-ghost use Rattle.swap_run.specs.FairLaws.{OthersRest, TurnsAreGood, RoundsAreGood, RoundsRaise, RoundsCountDown, FinishStops, FinishGoesOn};
+ghost use Rattle.swap_run.specs.FairLaws.{OthersRest, TurnsAreGood, RoundsAreGood, RoundsRaise, RoundsCountDown, FinishStops, FinishContinues};
 ghost use Rattle.swap_run.specs.Steps.{FinishIsSteps};
 ghost use Rattle.swap_run.specs.Laws.{StartIsGood, StepsAreGood, DueCallsCanBeMade, GoodIsKept, RunsAreKept, UnlocksAreSigned};
 
@@ -61,7 +61,7 @@ pub fn every_finish_ends()
     ensures good { FinishesAreGood }
     ensures heights { FinishHeights }
     ensures stops { FinishStops }
-    ensures goes_on { FinishGoesOn }
+    ensures goes_on { FinishContinues }
 {}
 
 /// Where every party conforms and no event comes before, a fair finish deals: nothing is found, and every outcome is the whole deal.

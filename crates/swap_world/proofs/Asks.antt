@@ -16,20 +16,21 @@ use Rattle.swap_job.specs.declared.job.Role.{Role}
 use Rattle.swap_job.specs.declared.job.Role.TheVariants as kinds
 use Rattle.swap_run.specs.Asked.{Answers, with_answers}
 use Rattle.swap_run.specs.Run.{Cast, Plan, Question, State}
-use Rattle.swap_run.specs.Called.{step_on}
+use Rattle.swap_run.specs.Called.{apply_step}
 use Rattle.swap_run.specs.Laws.{IsReadyCast, IsGood, IsKept}
-use Rattle.swap_world.specs.Cast.{cast_with}
+use Rattle.swap_world.specs.Cast.{made_cast}
 use Rattle.swap_world.specs.Value.{WorldState}
-use Rattle.swap_world.specs.Acting.{histories, taken, seen, told_to, asked_once, question_of}
+use Rattle.swap_world.specs.Acting.{histories, taken, seen, told_to, asked_once, answer_question}
 use Rattle.swap_world.specs.Gone.{MayGive, Answered, MayBeGiven, HasAsked, HasGone}
-use Rattle.swap_world.specs.On.{IsCutOn, told_in}
+use Rattle.swap_world.specs.On.{IsCutOn, tell_entries}
 use Rattle.swap_world.specs.declared.told.Told.{Told}
 use Rattle.swap_world.specs.Inside.{name_in, questions_in, AreActorsOf}
 use Rattle.swap_world.specs.declared.actor.Actor.{Actor}
 use Rattle.swap_world.specs.declared.actor.Actor.TheVariants.{Planned}
 use Rattle.swap_world.proofs.States.{IsPlanAt, answered, answered_told, plan_notes, state}
 use Rattle.swap_world.proofs.Disks.{HaveSigned, have_signed}
-use Rattle.swap_world.proofs.Worlds.{Seeds, good_step, kept_step, world}
+use Rattle.swap_world.proofs.Worlds.{good_step, kept_step, world}
+use Rattle.swap_job.specs.Crafted.{Seeds}
 
 -- as many questions as parties that asked
 pub questions_each : (roles : List Role) (ps : List ℕ) (ns : List Plan) → length ps ≡ length ns → length (questions_in roles ps ns) ≡ length ps
@@ -39,12 +40,12 @@ questions_each roles (p ∷ ps) (n ∷ ns) e = let l = questions_each roles ps n
 
 -- one more question
 pub questions_more : (roles : List Role) (ps : List ℕ) (ns : List Plan) (p : ℕ) (n : Plan) → length ps ≡ length ns
-    → questions_in roles (ps ++ p ∷ []) (ns ++ n ∷ []) ≡ questions_in roles ps ns ++ question_of (name_in (get_or roles p kinds.Manual)) p n ∷ []
+    → questions_in roles (ps ++ p ∷ []) (ns ++ n ∷ []) ≡ questions_in roles ps ns ++ answer_question (name_in (get_or roles p kinds.Manual)) p n ∷ []
 questions_more roles [] [] p n e = refl
 questions_more roles [] (m ∷ ns) p n e = absurd (cc e)
 questions_more roles (q ∷ ps) [] p n e = absurd (cc e)
 questions_more roles (q ∷ ps) (m ∷ ns) p n e =
-    ap (λ (qs : List Question). question_of (name_in (get_or roles q kinds.Manual)) q m ∷ qs) (questions_more roles ps ns p n (omega (arith, e)))
+    ap (λ (qs : List Question). answer_question (name_in (get_or roles q kinds.Manual)) q m ∷ qs) (questions_more roles ps ns p n (omega (arith, e)))
 
 -- Party p, which plans n, has asked the strategy of that name, and o was answered.
 pub record IsAsking (gives : MayGive) (d : Deal) (conforming : List Bool) (seeds : Seeds) (roles : List Role) (ps : List ℕ) (ns : List Plan)
@@ -65,7 +66,7 @@ module _ {gives : MayGive} {d : Deal} {conforming : List Bool} {seeds : Seeds} {
     {ps' : List ℕ} {ns' : List Plan} {os' : List (Option (ℕ × Call))} (sw : ℕ → Bool)
     (k : IsAsking gives d conforming seeds roles ps ns os ls xs p n name o ps' ns' os') where
   abbrev c : Cast
-  c = cast_with d conforming seeds roles
+  c = made_cast d conforming seeds roles
 
   abbrev before : List Question
   before = questions_in roles ps ns
@@ -76,11 +77,11 @@ module _ {gives : MayGive} {d : Deal} {conforming : List Bool} {seeds : Seeds} {
   abbrev s : State
   s = state d before xs (histories ls)
 
-  asks_more : after ≡ before ++ question_of name p n ∷ []
+  asks_more : after ≡ before ++ answer_question name p n ∷ []
   asks_more =
       ap₂ (λ (x : List ℕ) (y : List Plan). questions_in roles x y) k.asker k.plan
       ∙ (questions_more roles ps ns p n (k.askers ∙ sym k.told)
-      ∙ ap (λ (x : List ℕ). before ++ question_of x p n ∷ []) (ap name_in k.role))
+      ∙ ap (λ (x : List ℕ). before ++ answer_question x p n ∷ []) (ap name_in k.role))
 
   -- the answers go on so
   abbrev pub Follows : Answers → Type 0
@@ -95,13 +96,13 @@ module _ {gives : MayGive} {d : Deal} {conforming : List Bool} {seeds : Seeds} {
 
   -- what the act comes to, with any answers that go on so
   stepped : (g : Answers) → Follows g → (new : Plan) (b : Histories) → b ≡ taken sw d p o (histories ls)
-      → new ≡ seen sw d p o (histories ls) (asked_once n) → state d after (set xs p (Planned new)) b ≡ step_on sw (with_answers c g) s (Act p)
+      → new ≡ seen sw d p o (histories ls) (asked_once n) → state d after (set xs p (Planned new)) b ≡ apply_step sw (with_answers c g) s (Act p)
   stepped g e new b eb en =
       ap (λ (x : List Question). state d x (set xs p (Planned new)) b) asks_more
       ∙ answered d conforming seeds roles before ls xs sw g p n new b name o k.place k.role (now_is g e) k.may eb en
 
   -- the histories alone
-  stepped_book : (g : Answers) → Follows g → taken sw d p o (histories ls) ≡ (step_on sw (with_answers c g) s (Act p)).book
+  stepped_book : (g : Answers) → Follows g → taken sw d p o (histories ls) ≡ (apply_step sw (with_answers c g) s (Act p)).book
   stepped_book g e =
       ap (λ (t : State). t.book) (stepped g e (seen sw d p o (histories ls) (asked_once n)) (taken sw d p o (histories ls)) refl refl)
 
@@ -115,7 +116,7 @@ module _ {gives : MayGive} {d : Deal} {conforming : List Bool} {seeds : Seeds} {
 
   has_asked : (x y : Bool) (new : Plan) (b : Histories) → HasAsked gives (old x) (now y new b)
   has_asked x y new b =
-      let one : Answered = record { question = question_of name p n; answer = o } in
+      let one : Answered = record { question = answer_question name p n; answer = o } in
       record {
         more = one ∷ [];
         questions = asks_more;
@@ -125,7 +126,7 @@ module _ {gives : MayGive} {d : Deal} {conforming : List Bool} {seeds : Seeds} {
 
   pub has_gone : {A E : Type 0} (r : Result A E) (x y : Bool) (new : Plan) (b : Histories) → y ≡ is_err r → x ≡ false
       → b ≡ taken sw d p o (histories ls) → OnOk r (new ≡ seen sw d p o (histories ls) (asked_once n))
-      → OnOk r (HasGone gives (λ c s. step_on sw c s (Act p)) (old x) (now y new b))
+      → OnOk r (HasGone gives (λ c s. apply_step sw c s (Act p)) (old x) (now y new b))
   has_gone (Ok u) x y new b is on eb en = record {
     asked = has_asked x y new b;
     same = ap (λ (z : Bool). now z new b) (is ∙ sym on);
@@ -139,11 +140,11 @@ module _ {gives : MayGive} {d : Deal} {conforming : List Bool} {seeds : Seeds} {
   is_cut (Err u) x y new b eb = record { cast = refl; asked = has_asked x y new b; book = inr (λ g e. eb ∙ stepped_book g e) }
 
   -- what the party is told
-  told_asked : (g : Answers) → Follows g → told_to sw d p o (histories ls) ≡ told_in sw (with_answers c g) s (Act p)
+  told_asked : (g : Answers) → Follows g → told_to sw d p o (histories ls) ≡ tell_entries sw (with_answers c g) s (Act p)
   told_asked g e = answered_told d conforming seeds roles before ls xs sw g p n name o k.place k.role (now_is g e) k.may
 
   pub has_told : {E : Type 0} (r : Result Told E) → IfOk r (λ t. t ≡ told_to sw d p o (histories ls))
-      → IfOk r (λ t. (g : Answers) → Follows g → t ≡ told_in sw (with_answers c g) s (Act p))
+      → IfOk r (λ t. (g : Answers) → Follows g → t ≡ tell_entries sw (with_answers c g) s (Act p))
   has_told (Ok t) e = λ g f. e ∙ told_asked g f
   has_told (Err u) e = tt
 
@@ -168,6 +169,6 @@ module _ {gives : MayGive} {d : Deal} {conforming : List Bool} {seeds : Seeds} {
   signed_asked b eb actors ready can good =
       let is = stepped so_far (λ i l. refl) (seen sw d p o (histories ls) (asked_once n)) (taken sw d p o (histories ls)) refl refl in
       subst (λ (h : Histories). HaveSigned d h xs) (sym (eb ∙ stepped_book so_far (λ i l. refl)))
-      (have_signed d conforming seeds roles (step_on sw (with_answers c so_far) s (Act p)) xs actors (good_step c so_far sw s (Act p) ready can good)
+      (have_signed d conforming seeds roles (apply_step sw (with_answers c so_far) s (Act p)) xs actors (good_step c so_far sw s (Act p) ready can good)
       (sym (ap (λ (t : State). t.notes) is)
       ∙ plan_notes d conforming seeds roles before ls xs p n (seen sw d p o (histories ls) (asked_once n)) k.place))

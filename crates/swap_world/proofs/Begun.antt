@@ -15,7 +15,7 @@ use Rattle.swap_rules.specs.Accepted.{IsAccepted}
 use Rattle.swap_run.specs.Run.{Cast, Notes, Plan, State, no_notes, start}
 use Rattle.swap_run.specs.Laws.{IsReadyCast, IsGood}
 use Rattle.swap_run.proofs.Good.{start_is_good}
-use Rattle.swap_world.specs.Cast.{cast_with, cast_of}
+use Rattle.swap_world.specs.Cast.{made_cast, job_cast}
 use Rattle.swap_world.specs.Value.{new_world}
 use Rattle.swap_world.specs.Actors.{team, AllFit, HaveRoles, ConformingHaveSeeds}
 use Rattle.swap_world.specs.Acting.{histories}
@@ -26,7 +26,8 @@ use Rattle.swap_world.specs.declared.actor.Actor.TheVariants.{Conforming}
 use Rattle.swap_world.proofs.Rooms.{new_histories, new_ledgers_of, new_room}
 use Rattle.swap_world.proofs.States.{state}
 use Rattle.swap_world.proofs.Team.{are_actors, no_notes_yet, first_plans, is_ready}
-use Rattle.swap_world.proofs.Worlds.{Seeds, world}
+use Rattle.swap_world.proofs.Worlds.{world}
+use Rattle.swap_job.specs.Crafted.{Seeds}
 
 module _ (job : Job) (d : Deal) (conforming : List Bool) (seeds : Seeds) (roles : List Role) (ls : List LedgerState) (ys : List Actor) (ed : d ≡ job.deal)
     (ec : conforming ≡ job.conforming) (es : seeds ≡ job.seeds) (er : roles ≡ job.roles)
@@ -35,12 +36,12 @@ module _ (job : Job) (d : Deal) (conforming : List Bool) (seeds : Seeds) (roles 
     abbrev parts : Histories → List Notes → List Plan → State
     parts b ns ps = record { book = b; notes = ns; plans = ps; asked = [] }
 
-    state_is : state d [] ys (histories ls) ≡ start (cast_of job)
+    state_is : state d [] ys (histories ls) ≡ start (job_cast job)
     state_is =
         ap₂ (λ (e : Deal) (xs : List Actor). state e [] xs (histories ls)) ed ea
         ∙ (ap₂ (λ (b : Histories) (ns : List Notes). parts b ns (map (plan_in job.deal) (team job))) (new_histories job.deal ls el)
         (no_notes_yet job have act fit)
-        ∙ ap (λ (ps : List Plan). record (start (cast_of job)) { plans = ps }) (first_plans job have act fit))
+        ∙ ap (λ (ps : List Plan). record (start (job_cast job)) { plans = ps }) (first_plans job have act fit))
 
     pub world_is : world d conforming seeds roles [] false (state d [] ys (histories ls)) ≡ new_world job
     world_is =
@@ -48,12 +49,12 @@ module _ (job : Job) (d : Deal) (conforming : List Bool) (seeds : Seeds) (roles 
         ∙ (ap₂ (λ (c : List Bool) (s : Seeds). world job.deal c s roles [] false (state d [] ys (histories ls))) ec es
         ∙ ap₂ (λ (rs : List Role) (st : State). world job.deal job.conforming job.seeds rs [] false st) er state_is)
 
-    cast_is : cast_with d conforming seeds roles ≡ cast_of job
+    cast_is : made_cast d conforming seeds roles ≡ job_cast job
     cast_is =
-        ap₂ (λ (e : Deal) (rs : List Role). cast_with e conforming seeds rs) ed er
-        ∙ ap₂ (λ (c : List Bool) (s : Seeds). cast_with job.deal c s job.roles) ec es
+        ap₂ (λ (e : Deal) (rs : List Role). made_cast e conforming seeds rs) ed er
+        ∙ ap₂ (λ (c : List Bool) (s : Seeds). made_cast job.deal c s job.roles) ec es
 
-    pub ready : IsAccepted job.deal → IsReadyCast (cast_with d conforming seeds roles)
+    pub ready : IsAccepted job.deal → IsReadyCast (made_cast d conforming seeds roles)
     ready accepted = subst IsReadyCast (sym cast_is) (is_ready job accepted have act fit)
 
     pub actors : AreActorsOf d conforming seeds roles ys
@@ -65,10 +66,10 @@ module _ (job : Job) (d : Deal) (conforming : List Bool) (seeds : Seeds) (roles 
     pub room : HaveRoom ls
     room = new_room job.deal (length job.deal.graph.arcs) ls el
 
-    pub good : IsAccepted job.deal → IsGood (cast_with d conforming seeds roles) (state d [] ys (histories ls))
+    pub good : IsAccepted job.deal → IsGood (made_cast d conforming seeds roles) (state d [] ys (histories ls))
     good accepted =
         subst (λ (c : Cast). IsGood c (state d [] ys (histories ls))) (sym cast_is)
-        (subst (IsGood (cast_of job)) (sym state_is) (start_is_good (cast_of job) (is_ready job accepted have act fit)))
+        (subst (IsGood (job_cast job)) (sym state_is) (start_is_good (job_cast job) (is_ready job accepted have act fit)))
 
     its : AreActorsOf job.deal job.conforming job.seeds job.roles ys
     its = subst (AreActorsOf job.deal job.conforming job.seeds job.roles) (sym ea) (are_actors job have act fit)

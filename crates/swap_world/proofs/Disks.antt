@@ -16,7 +16,7 @@ use Rattle.swap_job.specs.declared.job.Role.{Role}
 use Rattle.swap_job.specs.declared.job.Role.TheVariants as kinds
 use Rattle.swap_job.specs.Step.{CanStep}
 use Rattle.swap_base.specs.Lists.{IsMoment}
-use Rattle.swap_rules.specs.Party.{call_by}
+use Rattle.swap_rules.specs.Party.{pick_call}
 use Rattle.swap_rules.proofs.Prefixes.{same_or_not}
 use Rattle.party_wallet.specs.Value.{signed_in}
 use Rattle.party_machine.specs.Machine.{MachineState, next_due}
@@ -28,13 +28,13 @@ use Rattle.wallet_journal.specs.Journal.{JournalState, signed_at}
 use Rattle.wallet_journal.specs.Layout.{recorded}
 use Rattle.wallet_journal.specs.Memory.{DiskState}
 use Rattle.wallet_journal.specs.Stopped.{IsWrittenUp, ShowsAll}
-use Rattle.swap_run.specs.Run.{Notes, Plan, Question, State, notes_of}
-use Rattle.swap_run.specs.Called.{step_on}
+use Rattle.swap_run.specs.Run.{Notes, Plan, Question, State, state_notes}
+use Rattle.swap_run.specs.Called.{apply_step}
 use Rattle.swap_run.specs.Laws.{IsGood, IsReadyCast}
 use Rattle.swap_run.proofs.Good.{unlocks_are_signed}
 use Rattle.swap_run.proofs.Swept.{steps_on_are_good}
-use Rattle.swap_world.specs.Acting.{book_after, histories, machine_after, IsSameOwner}
-use Rattle.swap_world.specs.Cast.{cast_with}
+use Rattle.swap_world.specs.Acting.{next_book, histories, next_machine, IsSameOwner}
+use Rattle.swap_world.specs.Cast.{made_cast}
 use Rattle.swap_world.specs.Inside.{notes_in, state_in, AreActorsOf, Holds, IsActorOf}
 use Rattle.swap_world.specs.Journals.{AreDisksOf, AreJournalsOf, IsBetween, IsDiskOf, IsSomeDisk, IsSomeJournal}
 use Rattle.swap_world.specs.declared.actor.Actor.{Actor}
@@ -43,14 +43,12 @@ use Rattle.swap_world.specs.declared.world.World.TheInside.{Inside}
 use Rattle.swap_world.proofs.Restarts.{seen_left}
 use Rattle.swap_world.proofs.States.{actor_set, acted, c, s, state, notes_at, IsAt}
 use Rattle.swap_world.proofs.Worlds.{owned}
-
-abbrev Seeds : Type 0
-Seeds = List (Option (List ℕ))
+use Rattle.swap_job.specs.Crafted.{Seeds}
 
 -- What a machine signed, over a book: each unlock call of its party carries the hashkey that is signed for its lock.
 pub record IsSigned (d : Deal) (v : ℕ) (b : Histories) (signed : List (Option Hashkey)) : Type 0 where
   pub places : length signed ≡ length d.leaders
-  pub calls : (a : ℕ) (past : List Entry) (e : Entry) (key : Hashkey) → IsMoment (history b a) past e → call_by v e ≡ Some (Unlock key)
+  pub calls : (a : ℕ) (past : List Entry) (e : Entry) (key : Hashkey) → IsMoment (history b a) past e → pick_call v e ≡ Some (Unlock key)
       → signed_in signed key.lock ≡ Some key
 
 -- the same of each machine
@@ -175,33 +173,33 @@ module _ (before after shown : List (Option Hashkey)) (h h' : Held) (bytes : Lis
 
 pub have_signed : (d : Deal) (conforming : List Bool) (seeds : Seeds) (roles : List Role) (t : State) (ys : List Actor)
     → AreActorsOf d conforming seeds roles ys
-    → IsGood (cast_with d conforming seeds roles) t → t.notes ≡ map (notes_in d) ys → HaveSigned d t.book ys
+    → IsGood (made_cast d conforming seeds roles) t → t.notes ≡ map (notes_in d) ys → HaveSigned d t.book ys
 have_signed d conforming seeds roles t ys actors good notes v m lt here =
     let is = actors.each v (Conforming m) lt here in
     let none : Notes = record { known = []; signed = [] } in
     let lv : v < d.graph.n = subst (λ n. v < n) actors.one_each lt in
-    let same : notes_of t v ≡ record { known = m.known; signed = m.signed } =
+    let same : state_notes t v ≡ record { known = m.known; signed = m.signed } =
     ap (λ (ns : List Notes). get_or ns v none) notes
     ∙ (get_or-map (notes_in d) ys v (Conforming m) none lt ∙ ap (notes_in d) (sym here)) in
     record {
       places = ap (λ (n : Notes). length n.signed) (sym same) ∙ (good.notes v lv is.0).places;
       calls = λ a past e key mo q. ap (λ (n : Notes). signed_in n.signed key.lock) (sym same)
-          ∙ unlocks_are_signed (cast_with d conforming seeds roles) t v a past e key good lv is.0 mo q;
+          ∙ unlocks_are_signed (made_cast d conforming seeds roles) t v a past e key good lv is.0 mo q;
     }
 
 -- before an event that no machine notes, or after it
 pub have_either : (d : Deal) (conforming : List Bool) (seeds : Seeds) (roles : List Role) (qs : List Question) (ls : List LedgerState) (xs : List Actor)
     (sw : ℕ → Bool) (e : Event) (b : Histories) → AreActorsOf d conforming seeds roles xs → IsReadyCast (c d conforming seeds roles qs ls xs)
     → CanStep d conforming seeds e → IsGood (c d conforming seeds roles qs ls xs) (s d conforming seeds roles qs ls xs)
-    → (step_on sw (c d conforming seeds roles qs ls xs) (s d conforming seeds roles qs ls xs) e).notes ≡ map (notes_in d) xs
-    → (b ≡ histories ls) ⊎ (b ≡ (step_on sw (c d conforming seeds roles qs ls xs) (s d conforming seeds roles qs ls xs) e).book) → HaveSigned d b xs
+    → (apply_step sw (c d conforming seeds roles qs ls xs) (s d conforming seeds roles qs ls xs) e).notes ≡ map (notes_in d) xs
+    → (b ≡ histories ls) ⊎ (b ≡ (apply_step sw (c d conforming seeds roles qs ls xs) (s d conforming seeds roles qs ls xs) e).book) → HaveSigned d b xs
 have_either d conforming seeds roles qs ls xs sw e b actors ready can good notes (inl q) =
     subst (λ (h : Histories). HaveSigned d h xs) (sym q) (have_signed d conforming seeds roles (s d conforming seeds roles qs ls xs) xs actors good refl)
 have_either d conforming seeds roles qs ls xs sw e b actors ready can good notes (inr q) =
     let cast = c d conforming seeds roles qs ls xs in
     let old = s d conforming seeds roles qs ls xs in
     subst (λ (h : Histories). HaveSigned d h xs) (sym q)
-    (have_signed d conforming seeds roles (step_on sw cast old e) xs actors (steps_on_are_good sw cast old e ready can good) notes)
+    (have_signed d conforming seeds roles (apply_step sw cast old e) xs actors (steps_on_are_good sw cast old e ready can good) notes)
 
 -- The disks of a world.
 
@@ -292,10 +290,10 @@ module _ (d : Deal) (conforming : List Bool) (seeds : Seeds) (roles : List Role)
     (ready : IsReadyCast (c d conforming seeds roles qs ls xs)) (known : p < d.graph.n)
     (good : IsGood (c d conforming seeds roles qs ls xs) (s d conforming seeds roles qs ls xs)) (k : AreJournalsOf d xs js) where
   abbrev after : MachineState
-  after = machine_after sw m (next_due m) (histories ls)
+  after = next_machine sw m (next_due m) (histories ls)
 
   abbrev called : Histories
-  called = book_after sw m (next_due m) (histories ls)
+  called = next_book sw m (next_due m) (histories ls)
 
   after_signed : HaveSigned d called (set xs p (Conforming after))
   after_signed =
@@ -304,7 +302,7 @@ module _ (d : Deal) (conforming : List Bool) (seeds : Seeds) (roles : List Role)
       (subst (IsGood (c d conforming seeds roles qs ls xs)) (sym (acted d conforming seeds roles qs ls xs sw p m after called place refl refl))
       (steps_on_are_good sw (c d conforming seeds roles qs ls xs) (s d conforming seeds roles qs ls xs) (Act p) ready known good)) refl
     where
-      same : (o : Option Action) → IsSameOwner m (machine_after sw m o (histories ls))
+      same : (o : Option Action) → IsSameOwner m (next_machine sw m o (histories ls))
       same None = record { deal = refl; me = refl; seed = refl }
       same (Some x) = record { deal = refl; me = refl; seed = refl }
 
@@ -350,10 +348,10 @@ module _ (d : Deal) (conforming : List Bool) (seeds : List (Option (List ℕ))) 
   low : p < length xs
   low = subst (λ n. p < n) (sym actors.one_each) known
 
-  pub disk_at : IsSomeDisk d p b (notes_of (state d qs xs (histories ls)) p).signed o
+  pub disk_at : IsSomeDisk d p b (state_notes (state d qs xs (histories ls)) p).signed o
   disk_at = go (get_or xs p Manual) (get_or_default xs p Manual (get_or xs p Manual) low)
     where
-      go : (x : Actor) → x ≡ get_or xs p x → IsSomeDisk d p b (notes_of (state d qs xs (histories ls)) p).signed o
+      go : (x : Actor) → x ≡ get_or xs p x → IsSomeDisk d p b (state_notes (state d qs xs (histories ls)) p).signed o
       go (Conforming m) at =
           let is = actors.each p (Conforming m) low at in
           subst (λ (n : Notes). IsSomeDisk d p b n.signed o)

@@ -25,7 +25,7 @@ use Rattle.swap_run.proofs.Finish.{finishes_are_good}
 use Rattle.swap_run.proofs.Fair.{fair_is_dealt}
 use Rattle.swap_rules.specs.Outcome.{IsEnded}
 use Rattle.swap_rules.specs.Laws.{IsDealt}
-use Rattle.swap_world.specs.Value.{WorldState, answers_of, cast_at, cast_for}
+use Rattle.swap_world.specs.Value.{WorldState, world_answers, world_cast, answering_cast}
 use Rattle.swap_world.specs.Gone.{MayGive, HasGone}
 use Rattle.swap_world.specs.Near.{all_adjacent}
 use Rattle.swap_world.specs.Stopped.{AllConform, IsStopped}
@@ -96,27 +96,27 @@ pub turn_cut : (gives : MayGive) (old new : WorldState) (v : ℕ) → IsStopped 
     → IsStopped gives (λ c s. turn_steps c v) old new
 turn_cut gives old new v k =
     stopped_as gives (λ c s. look_steps c.deal v ++ acts_steps (conforms c v) c.deal v) (λ c s. turn_steps c v) old new
-    (λ g. turn_steps_as (cast_for old g) v (conforms (cast_for old g) v) refl)
+    (λ g. turn_steps_as (answering_cast old g) v (conforms (answering_cast old g) v) refl)
     (stopped_then gives (λ c s. look_steps c.deal v) (λ c s. acts_steps (conforms c v) c.deal v) old new k)
 
-module _ (gives : MayGive) (old mid new : WorldState) (v : ℕ) (b : Bool) (is : conforms (cast_at mid) v ≡ b)
+module _ (gives : MayGive) (old mid new : WorldState) (v : ℕ) (b : Bool) (is : conforms (world_cast mid) v ≡ b)
     (looked : HasGone gives (λ c s. looks c v s) old mid) where
-  was : (g : Answers) → conforms (cast_for old g) v ≡ b
+  was : (g : Answers) → conforms (answering_cast old g) v ≡ b
   was g = subst (λ c. conforms c v ≡ b) (cast_gone gives (λ c s. looks c v s) old mid looked) is
 
   -- acts end a turn
   pub turn_ends : HasGone gives (λ c s. acts_as b c v s) mid new → HasGone gives (λ c s. turn c s v) old new
   turn_ends k =
       gone_as gives (λ c s. acts_as b c v (looks c v s)) (λ c s. turn c s v) old new
-      (λ g. sym (turn_acts (cast_for old g) old.state v b (was g)))
+      (λ g. sym (turn_acts (answering_cast old g) old.state v b (was g)))
       (gone_then gives (λ c s. looks c v s) (λ c s. acts_as b c v s) old mid new looked k)
 
   pub turn_stops : IsStopped gives (λ c s. acts_steps b c.deal v) mid new → IsStopped gives (λ c s. turn_steps c v) old new
   turn_stops k =
       stopped_as gives (λ c s. look_steps c.deal v ++ acts_steps b c.deal v) (λ c s. turn_steps c v) old new
-      (λ g. turn_steps_as (cast_for old g) v b (was g))
+      (λ g. turn_steps_as (answering_cast old g) v b (was g))
       (stopped_after gives (λ c s. looks c v s) (λ c s. look_steps c.deal v) (λ c s. acts_steps b c.deal v) old mid new looked
-      (λ g. looks_run (cast_for old g) v old.state) k)
+      (λ g. looks_run (answering_cast old g) v old.state) k)
 
 -- Ticks.
 
@@ -147,7 +147,7 @@ module _ (gives : MayGive) (w new : WorldState) where
   unfolding tick_steps
   ticks_stop k =
       stopped_as gives (λ c s. over (tick_low c) (λ t a. low_step c.deal t.book a) s (range_with_len 0 (length w.deal.graph.arcs)))
-      (λ c s. tick_steps c.deal s.book) w new (λ g. over_ticks (cast_for w g) (range_with_len 0 (length w.deal.graph.arcs)) w.state) k
+      (λ c s. tick_steps c.deal s.book) w new (λ g. over_ticks (answering_cast w g) (range_with_len 0 (length w.deal.graph.arcs)) w.state) k
 
   pub ticks_are : HasGone gives (λ c s. fold (tick_low c) s (range_with_len 0 (length w.deal.graph.arcs))) w new → HasGone gives ticks w new
   unfolding ticks
@@ -161,7 +161,7 @@ module _ (gives : MayGive) (w new : WorldState) where
   unfolding turns_steps
   turns_stop k =
       stopped_as gives (λ c s. over (turn c) (λ t v. turn_steps c v) s (range_with_len 0 w.deal.graph.n)) (λ c s. turns_steps c) w new
-      (λ g. over_turns (cast_for w g) (range_with_len 0 w.deal.graph.n) w.state) k
+      (λ g. over_turns (answering_cast w g) (range_with_len 0 w.deal.graph.n) w.state) k
 
   pub turns_are : HasGone gives (λ c s. fold (turn c) s (range_with_len 0 w.deal.graph.n)) w new → HasGone gives turns w new
   unfolding turns
@@ -175,7 +175,7 @@ module _ (gives : MayGive) (old mid new : WorldState) (turned : HasGone gives tu
 
   pub round_stops : IsStopped gives (λ c s. tick_steps c.deal s.book) mid new → IsStopped gives round_steps old new
   round_stops k =
-      stopped_after gives turns (λ c s. turns_steps c) (λ c s. tick_steps c.deal s.book) old mid new turned (λ g. turns_run (cast_for old g) old.state) k
+      stopped_after gives turns (λ c s. turns_steps c) (λ c s. tick_steps c.deal s.book) old mid new turned (λ g. turns_run (answering_cast old g) old.state) k
 
 pub round_cut : (gives : MayGive) (old new : WorldState) → IsStopped gives (λ c s. turns_steps c) old new → IsStopped gives round_steps old new
 round_cut gives old new k = stopped_then gives (λ c s. turns_steps c) (λ c s. tick_steps c.deal (turns c s).book) old new k
@@ -187,10 +187,10 @@ pub is_rest : (c : Cast) (s : State) → has_ended c.deal s.book ≡ true → ro
 is_rest c s e = ap (λ (b : Bool). cond b s (round c s)) e
 
 -- Rounds of which only the ticks are taken, and one more.
-module _ (gives : MayGive) (old mid new : WorldState) (n : ℕ) (skips : (g : Answers) → IsSkipped (cast_for old g) n old.state) where
-  are_rounds : (g : Answers) → round (cast_for old g) (repeat n (ticks (cast_for old g)) old.state)
-      ≡ repeat (n + 1) (round_unless_ended (cast_for old g)) old.state
-  are_rounds g = let e : suc n ≡ n + 1 = omega arith in sym (skips g).skips ∙ ap (λ k. repeat k (round_unless_ended (cast_for old g)) old.state) e
+module _ (gives : MayGive) (old mid new : WorldState) (n : ℕ) (skips : (g : Answers) → IsSkipped (answering_cast old g) n old.state) where
+  are_rounds : (g : Answers) → round (answering_cast old g) (repeat n (ticks (answering_cast old g)) old.state)
+      ≡ repeat (n + 1) (round_unless_ended (answering_cast old g)) old.state
+  are_rounds g = let e : suc n ≡ n + 1 = omega arith in sym (skips g).skips ∙ ap (λ k. repeat k (round_unless_ended (answering_cast old g)) old.state) e
 
   more : suc n ≡ n + 1
   more = omega arith
@@ -233,7 +233,7 @@ module _ (gives : MayGive) (old mid new : WorldState) (all left n : ℕ) (few : 
   goes_further h =
       gone_as gives (λ c s. repeat n (round_unless_ended c) (repeat (all - left) (round_unless_ended c) s))
       (λ c s. repeat (all - (left - n)) (round_unless_ended c) s) old new
-      (λ g. in_a_row (round_unless_ended (cast_for old g)) old.state)
+      (λ g. in_a_row (round_unless_ended (answering_cast old g)) old.state)
       (gone_then gives (λ c s. repeat (all - left) (round_unless_ended c) s) (λ c s. repeat n (round_unless_ended c) s) old mid new so_far h)
 
   all_steps : (c : Cast) (s : State) → (rounds_steps (all - left) c s ++ rounds_steps n c (repeat (all - left) (round_unless_ended c) s))
@@ -247,11 +247,11 @@ module _ (gives : MayGive) (old mid new : WorldState) (all left n : ℕ) (few : 
   stops_further k =
       stopped_as gives (λ c s. (rounds_steps (all - left) c s ++ rounds_steps n c (repeat (all - left) (round_unless_ended c) s))
       ++ rounds_steps (left - n) c (repeat (n + (all - left)) (round_unless_ended c) s)) (rounds_steps all) old new
-      (λ g. all_steps (cast_for old g) old.state)
+      (λ g. all_steps (answering_cast old g) old.state)
       (stopped_then gives (λ c s. rounds_steps (all - left) c s ++ rounds_steps n c (repeat (all - left) (round_unless_ended c) s))
       (λ c s. rounds_steps (left - n) c (repeat (n + (all - left)) (round_unless_ended c) s)) old new
       (stopped_after gives (λ c s. repeat (all - left) (round_unless_ended c) s) (rounds_steps (all - left)) (rounds_steps n) old mid new so_far
-      (λ g. rounds_run (cast_for old g) (all - left) old.state) k))
+      (λ g. rounds_run (answering_cast old g) (all - left) old.state) k))
 
 module _ (gives : MayGive) (w new : WorldState) where
   pub finish_stops_at : IsStopped gives (rounds_steps (the_horizon w.deal + 1)) w new → IsStopped gives finish_steps w new
@@ -269,24 +269,24 @@ module _ (gives : MayGive) (w new : WorldState) where
         stopped = refl;
         cast = refl;
         asked = nothing_asked gives w (record w { stopped = true }) refl refl;
-        book = λ g x. along_start (cast_for w g) w.state (finish_steps (cast_for w g) w.state) w.state.book refl;
+        book = λ g x. along_start (answering_cast w g) w.state (finish_steps (answering_cast w g) w.state) w.state.book refl;
       })
 
 -- What a finish leaves.
 
-module _ {A E : Type 0} (gives : MayGive) (w new : WorldState) (ready : IsReadyCast (cast_at w)) where
-  pub has_ended_by : (r : Result A E) → OnOk r (HasGone gives finish w new) → IsGood (cast_at w) w.state → OnOk r (IsEnded w.deal new.state.book)
+module _ {A E : Type 0} (gives : MayGive) (w new : WorldState) (ready : IsReadyCast (world_cast w)) where
+  pub has_ended_by : (r : Result A E) → OnOk r (HasGone gives finish w new) → IsGood (world_cast w) w.state → OnOk r (IsEnded w.deal new.state.book)
   has_ended_by (Ok x) k good =
-      let g = answers_of new in
+      let g = world_answers new in
       subst (λ (s : State). IsEnded w.deal s.book) (sym (k.state g (λ i l. refl)))
-      (finishes_are_good (cast_for w g) w.state (ready_for (cast_at w) g ready) (good_for (cast_at w) g w.state good)).1
+      (finishes_are_good (answering_cast w g) w.state (ready_for (world_cast w) g ready) (good_for (world_cast w) g w.state good)).1
   has_ended_by (Err x) k good = tt
 
   pub dealt_by : (r : Result A E) → OnOk r (HasGone gives finish w new)
-      → OnOk r (AllConform w → w.state ≡ start (cast_at w) → IsDealt w.deal (conforms (cast_at w)) new.state.book)
+      → OnOk r (AllConform w → w.state ≡ start (world_cast w) → IsDealt w.deal (conforms (world_cast w)) new.state.book)
   dealt_by (Ok x) k = λ all at.
-      let g = answers_of new in
-      subst (λ (s : State). IsDealt w.deal (conforms (cast_at w)) s.book)
-      (sym (k.state g (λ i l. refl) ∙ ap (λ (s : State). finish (cast_for w g) s) at))
-      (fair_is_dealt (cast_for w g) (ready_for (cast_at w) g ready) all)
+      let g = world_answers new in
+      subst (λ (s : State). IsDealt w.deal (conforms (world_cast w)) s.book)
+      (sym (k.state g (λ i l. refl) ∙ ap (λ (s : State). finish (answering_cast w g) s) at))
+      (fair_is_dealt (answering_cast w g) (ready_for (world_cast w) g ready) all)
   dealt_by (Err x) k = tt

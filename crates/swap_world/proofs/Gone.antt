@@ -16,15 +16,15 @@ use Rattle.swap_job.specs.declared.job.Role.TheVariants.{Conforming, Manual, Scr
 use Rattle.swap_job.specs.declared.moves.Move.{Move}
 use Rattle.swap_rules.specs.Due.{Action}
 use Rattle.swap_run.specs.Asked.{Answers, with_answers, is_strategy}
-use Rattle.swap_run.specs.Run.{Cast, Question, State, conforms, role_of, plan_of, look, next_of, watch, after_turn, run_from, step}
-use Rattle.swap_run.specs.Called.{Called, by_due, called_as, step_on}
+use Rattle.swap_run.specs.Run.{Cast, Question, State, conforms, party_role, party_plan, look, next_action, watch, after_turn, continued_run, step}
+use Rattle.swap_run.specs.Called.{Called, by_due, called_as, apply_step}
 use Rattle.swap_run.specs.Steps.{IsAlong}
 use Rattle.swap_run.proofs.Along.{along_start, along_more, along_after, along_step}
 use Rattle.swap_world.specs.Cast.{asks}
-use Rattle.swap_world.specs.Value.{WorldState, cast_at, cast_for, Continues}
+use Rattle.swap_world.specs.Value.{WorldState, world_cast, answering_cast, Continues}
 use Rattle.swap_world.specs.Actors.{AreHeld}
 use Rattle.swap_world.specs.Gone.{MayGive, Answered, MayBeGiven, HasAsked, HasGone, IsCutBy, IsCut}
-use Rattle.swap_world.specs.On.{told_in, told_of_call}
+use Rattle.swap_world.specs.On.{tell_entries, told_of_call}
 use Rattle.swap_world.specs.declared.told.Told.{Told}
 use Rattle.swap_world.specs.Stopped.{IsStopped}
 use Rattle.swap_world.proofs.On.{make_on, take_on, act_on, act_is, call_is, plainly}
@@ -74,21 +74,21 @@ more_asked gives old mid new a d b = record {
 
 module _ (gives : MayGive) where
   -- where f changes nothing
-  pub stays : (f : Cast → State → State) (w : WorldState) → ((g : Answers) → f (cast_for w g) w.state ≡ w.state) → HasGone gives f w w
+  pub stays : (f : Cast → State → State) (w : WorldState) → ((g : Answers) → f (answering_cast w g) w.state ≡ w.state) → HasGone gives f w w
   stays f w e = record { asked = nothing_asked gives w w refl refl; same = refl; state = λ g k. sym (e g) }
 
   pub begun : (w : WorldState) → HasGone gives (λ c s. s) w w
   begun w = stays (λ c s. s) w (λ g. refl)
 
   -- by a function that is the same
-  pub gone_as : (f h : Cast → State → State) (old new : WorldState) → ((g : Answers) → f (cast_for old g) old.state ≡ h (cast_for old g) old.state)
+  pub gone_as : (f h : Cast → State → State) (old new : WorldState) → ((g : Answers) → f (answering_cast old g) old.state ≡ h (answering_cast old g) old.state)
       → HasGone gives f old new → HasGone gives h old new
   gone_as f h old new e k = record { asked = k.asked; same = k.same; state = λ g x. k.state g x ∙ e g }
 
-  pub cast_gone : (f : Cast → State → State) (old new : WorldState) → HasGone gives f old new → cast_at new ≡ cast_at old
-  cast_gone f old new k = ap cast_at k.same
+  pub cast_gone : (f : Cast → State → State) (old new : WorldState) → HasGone gives f old new → world_cast new ≡ world_cast old
+  cast_gone f old new k = ap world_cast k.same
 
-  pub for_gone : (f : Cast → State → State) (old new : WorldState) (g : Answers) → HasGone gives f old new → cast_for new g ≡ cast_for old g
+  pub for_gone : (f : Cast → State → State) (old new : WorldState) (g : Answers) → HasGone gives f old new → answering_cast new g ≡ answering_cast old g
   for_gone f old new g k = ap (λ (c : Cast). with_answers c g) (cast_gone f old new k)
 
   pub deal_gone : (f : Cast → State → State) (old new : WorldState) → HasGone gives f old new → new.deal ≡ old.deal
@@ -117,12 +117,12 @@ module _ (gives : MayGive) where
   -- Worlds that stop.
 
   pub stopped_as : (e f : Cast → State → List Event) (old new : WorldState)
-      → ((g : Answers) → e (cast_for old g) old.state ≡ f (cast_for old g) old.state) → IsStopped gives e old new → IsStopped gives f old new
+      → ((g : Answers) → e (answering_cast old g) old.state ≡ f (answering_cast old g) old.state) → IsStopped gives e old new → IsStopped gives f old new
   stopped_as e f old new same k = record {
     stopped = k.stopped;
     cast = k.cast;
     asked = k.asked;
-    book = λ g x. subst (λ (es : List Event). IsAlong (cast_for old g) old.state es new.state.book) (same g) (k.book g x);
+    book = λ g x. subst (λ (es : List Event). IsAlong (answering_cast old g) old.state es new.state.book) (same g) (k.book g x);
   }
 
   -- on the way along steps after which others come
@@ -131,25 +131,26 @@ module _ (gives : MayGive) where
     stopped = k.stopped;
     cast = k.cast;
     asked = k.asked;
-    book = λ g x. let c = cast_for old g in along_more c old.state (e c old.state) (f c old.state) new.state.book (k.book g x);
+    book = λ g x. let c = answering_cast old g in along_more c old.state (e c old.state) (f c old.state) new.state.book (k.book g x);
   }
 
   -- on the way from another world, to which the old one went
   pub way_from : (f : Cast → State → State) (e : Cast → State → List Event) (old mid new : WorldState) (g : Answers) → HasGone gives f old mid
-      → HasAsked gives mid new → Continues new g → IsAlong (cast_for mid g) mid.state (e (cast_for mid g) mid.state) new.state.book
-      → IsAlong (cast_for old g) (f (cast_for old g) old.state) (e (cast_for old g) (f (cast_for old g) old.state)) new.state.book
+      → HasAsked gives mid new → Continues new g → IsAlong (answering_cast mid g) mid.state (e (answering_cast mid g) mid.state) new.state.book
+      → IsAlong (answering_cast old g) (f (answering_cast old g) old.state) (e (answering_cast old g) (f (answering_cast old g) old.state)) new.state.book
   way_from f e old mid new g a more k way =
-      subst (λ (s : State). IsAlong (cast_for old g) s (e (cast_for old g) s) new.state.book) (a.state g (continues_less gives mid new g more k))
+      subst (λ (s : State). IsAlong (answering_cast old g) s (e (answering_cast old g) s) new.state.book) (a.state g (continues_less gives mid new g more k))
       (subst (λ (c : Cast). IsAlong c mid.state (e c mid.state) new.state.book) (for_gone f old mid g a) way)
 
   pub stopped_after : (f : Cast → State → State) (d e : Cast → State → List Event) (old mid new : WorldState) → HasGone gives f old mid
-      → ((g : Answers) → run_from (cast_for old g) old.state (d (cast_for old g) old.state) ≡ f (cast_for old g) old.state) → IsStopped gives e mid new
+      → ((g : Answers) → continued_run (answering_cast old g) old.state (d (answering_cast old g) old.state) ≡ f (answering_cast old g) old.state)
+      → IsStopped gives e mid new
       → IsStopped gives (λ c s. d c s ++ e c (f c s)) old new
   stopped_after f d e old mid new a runs k = record {
     stopped = k.stopped;
     cast = k.cast ∙ cast_gone f old mid a;
     asked = more_asked gives old mid new a.asked (deal_gone f old mid a) k.asked;
-    book = λ g x. let c = cast_for old g in
+    book = λ g x. let c = answering_cast old g in
         along_after c old.state (d c old.state) (e c (f c old.state)) new.state.book
         (subst (λ (t : State). IsAlong c t (e c (f c old.state)) new.state.book) (sym (runs g)) (way_from f e old mid new g a k.asked x (k.book g x)));
   }
@@ -160,17 +161,17 @@ module _ (gives : MayGive) where
     stopped = stopped;
     cast = k.cast;
     asked = k.asked;
-    book = λ g x. along_step (cast_for old g) old.state e new.state.book (either g x k.book);
+    book = λ g x. along_step (answering_cast old g) old.state e new.state.book (either g x k.book);
   }
     where
       either : (g : Answers) → Continues new g
-          → (new.state.book ≡ old.state.book) ⊎ ((g : Answers) → Continues new g → new.state.book ≡ (step (cast_for old g) old.state e).book)
-          → (new.state.book ≡ old.state.book) ⊎ (new.state.book ≡ (step (cast_for old g) old.state e).book)
+          → (new.state.book ≡ old.state.book) ⊎ ((g : Answers) → Continues new g → new.state.book ≡ (step (answering_cast old g) old.state e).book)
+          → (new.state.book ≡ old.state.book) ⊎ (new.state.book ≡ (step (answering_cast old g) old.state e).book)
       either g x (inl h) = inl h
       either g x (inr h) = inr (h g x)
 
   pub stopped_by : {A E : Type 0} (r : Result A E) (old new : WorldState) (e : Event) (f : Cast → State → List Event)
-      → ((g : Answers) → e ∷ [] ≡ f (cast_for old g) old.state) → OnErr r (new.stopped ≡ true) → OnErr r (IsCut gives e old new)
+      → ((g : Answers) → e ∷ [] ≡ f (answering_cast old g) old.state) → OnErr r (new.stopped ≡ true) → OnErr r (IsCut gives e old new)
       → OnErr r (IsStopped gives f old new)
   stopped_by (Ok x) old new e f same stopped k = tt
   stopped_by (Err x) old new e f same stopped k = stopped_as (λ c s. e ∷ []) f old new same (stopped_in old new e stopped k)
@@ -181,7 +182,7 @@ module _ (gives : MayGive) where
     stopped = is;
     cast = refl;
     asked = nothing_asked gives w w refl refl;
-    book = λ g x. along_start (cast_for w g) w.state (e (cast_for w g) w.state) w.state.book refl;
+    book = λ g x. along_start (answering_cast w g) w.state (e (answering_cast w g) w.state) w.state.book refl;
   }
 
 -- Events in which nothing is asked.
@@ -193,9 +194,9 @@ pub record IsQuiet (f : Cast → State → State) (c : Cast) (s : State) : Type 
 
 -- an event, where slots may be swept
 abbrev pub stepping : (ℕ → Bool) → Event → Cast → State → State
-stepping sw e c s = step_on sw c s e
+stepping sw e c s = apply_step sw c s e
 
-either_asked : (b : Bool) (s t u : State) → t.asked ≡ s.asked → u.asked ≡ s.asked → (cond b t u).asked ≡ s.asked
+pub either_asked : (b : Bool) (s t u : State) → t.asked ≡ s.asked → u.asked ≡ s.asked → (cond b t u).asked ≡ s.asked
 either_asked true s t u x y = x
 either_asked false s t u x y = y
 
@@ -224,26 +225,26 @@ act_quiet : (sw : ℕ → Bool) (c : Cast) (s : State) (v : ℕ) (role : Role) �
 act_quiet sw c s v Conforming e = ((λ g. refl), refl)
 act_quiet sw c s v Manual e = ((λ g. refl), refl)
 act_quiet sw c s v (Script moves) e =
-    let t = after_turn s v (moves_left (plan_of s v).known (plan_of s v).moves) in
-    let o = next_call c.deal c.seeds (plan_of s v).known (plan_of s v).moves in
+    let t = after_turn s v (moves_left (party_plan s v).known (party_plan s v).moves) in
+    let o = next_call c.deal c.seeds (party_plan s v).known (party_plan s v).moves in
     ((λ g. take_same sw c g t v o), take_asked sw c t v o)
 act_quiet sw c s v (Strategy name) e = absurd (cc e)
 
-own_quiet : (sw : ℕ → Bool) (c : Cast) (s : State) (v : ℕ) (b : Bool) → conforms c v ≡ b → cond b false (is_strategy (role_of c v)) ≡ false
-    → IsQuiet (λ c s. cond (conforms c v) (make_on sw c.deal s v (next_of c s v)) (act_on sw c s v (role_of c v))) c s
+own_quiet : (sw : ℕ → Bool) (c : Cast) (s : State) (v : ℕ) (b : Bool) → conforms c v ≡ b → cond b false (is_strategy (party_role c v)) ≡ false
+    → IsQuiet (λ c s. cond (conforms c v) (make_on sw c.deal s v (next_action c s v)) (act_on sw c s v (party_role c v))) c s
 own_quiet sw c s v true e alone =
-    let made : State = make_on sw c.deal s v (next_of c s v) in
+    let made : State = make_on sw c.deal s v (next_action c s v) in
     record {
-      same = λ g. ap (λ (b : Bool). cond b made (act_on sw (with_answers c g) s v (role_of c v))) e
-          ∙ sym (ap (λ (b : Bool). cond b made (act_on sw c s v (role_of c v))) e);
-      asked = ap (λ (b : Bool). (cond b made (act_on sw c s v (role_of c v))).asked) e ∙ make_asked sw c s v (next_of c s v);
+      same = λ g. ap (λ (b : Bool). cond b made (act_on sw (with_answers c g) s v (party_role c v))) e
+          ∙ sym (ap (λ (b : Bool). cond b made (act_on sw c s v (party_role c v))) e);
+      asked = ap (λ (b : Bool). (cond b made (act_on sw c s v (party_role c v))).asked) e ∙ make_asked sw c s v (next_action c s v);
     }
 own_quiet sw c s v false e alone =
-    let made : State = make_on sw c.deal s v (next_of c s v) in
-    let k = act_quiet sw c s v (role_of c v) alone in
+    let made : State = make_on sw c.deal s v (next_action c s v) in
+    let k = act_quiet sw c s v (party_role c v) alone in
     record {
       same = λ g. ap (λ (t : State). cond (conforms c v) made t) (k.0 g);
-      asked = ap (λ (b : Bool). (cond b made (act_on sw c s v (role_of c v))).asked) e ∙ k.1;
+      asked = ap (λ (b : Bool). (cond b made (act_on sw c s v (party_role c v))).asked) e ∙ k.1;
     }
 
 -- an act of a party that asks no strategy
@@ -273,35 +274,35 @@ told_as sw c s v (Script moves) g e = refl
 told_as sw c s v (Strategy name) g e = absurd (cc e)
 
 own_told : (sw : ℕ → Bool) (c : Cast) (s : State) (v : ℕ) (b : Bool) (g : Answers) → conforms c v ≡ b
-    → cond b false (is_strategy (role_of c v)) ≡ false → told_in sw (with_answers c g) s (Act v) ≡ told_in sw c s (Act v)
+    → cond b false (is_strategy (party_role c v)) ≡ false → tell_entries sw (with_answers c g) s (Act v) ≡ tell_entries sw c s (Act v)
 own_told sw c s v true g e alone =
-    let due : Option Called = by_due v (next_of c s v) in
-    ap (λ (b : Bool). told_of_call sw c s (cond b due (called_as (with_answers c g) s v (role_of c v)))) e
-    ∙ sym (ap (λ (b : Bool). told_of_call sw c s (cond b due (called_as c s v (role_of c v)))) e)
+    let due : Option Called = by_due v (next_action c s v) in
+    ap (λ (b : Bool). told_of_call sw c s (cond b due (called_as (with_answers c g) s v (party_role c v)))) e
+    ∙ sym (ap (λ (b : Bool). told_of_call sw c s (cond b due (called_as c s v (party_role c v)))) e)
 own_told sw c s v false g e alone =
-    ap (λ (o : Option Called). told_of_call sw c s (cond (conforms c v) (by_due v (next_of c s v)) o)) (told_as sw c s v (role_of c v) g alone)
+    ap (λ (o : Option Called). told_of_call sw c s (cond (conforms c v) (by_due v (next_action c s v)) o)) (told_as sw c s v (party_role c v) g alone)
 
 pub told_same : (sw : ℕ → Bool) (c : Cast) (s : State) (v : ℕ) (g : Answers) → asks c v ≡ false
-    → told_in sw (with_answers c g) s (Act v) ≡ told_in sw c s (Act v)
+    → tell_entries sw (with_answers c g) s (Act v) ≡ tell_entries sw c s (Act v)
 told_same sw c s v g alone = own_told sw c s v (conforms c v) g refl alone
 
-not_asking_as : (c : Cast) (v : ℕ) (b : Bool) → b ≡ false → cond b false (is_strategy (role_of c v)) ≡ false → is_strategy (role_of c v) ≡ false
+not_asking_as : (c : Cast) (v : ℕ) (b : Bool) → b ≡ false → cond b false (is_strategy (party_role c v)) ≡ false → is_strategy (party_role c v) ≡ false
 not_asking_as c v true e f = absurd (cc e)
 not_asking_as c v false e f = f
 
 -- who neither conforms nor asks follows no strategy
-pub not_asking : (c : Cast) (v : ℕ) → conforms c v ≡ false → asks c v ≡ false → is_strategy (role_of c v) ≡ false
+pub not_asking : (c : Cast) (v : ℕ) → conforms c v ≡ false → asks c v ≡ false → is_strategy (party_role c v) ≡ false
 not_asking c v e f = not_asking_as c v (conforms c v) e f
 
-asking_as : (c : Cast) (v : ℕ) (b : Bool) → cond b false (is_strategy (role_of c v)) ≡ true → (b ≡ false) × (is_strategy (role_of c v) ≡ true)
+asking_as : (c : Cast) (v : ℕ) (b : Bool) → cond b false (is_strategy (party_role c v)) ≡ true → (b ≡ false) × (is_strategy (party_role c v) ≡ true)
 asking_as c v true e = absurd (cc e)
 asking_as c v false e = (refl, e)
 
 -- who asks doesn't conform, and follows a strategy
-pub asking : (c : Cast) (v : ℕ) → asks c v ≡ true → (conforms c v ≡ false) × (is_strategy (role_of c v) ≡ true)
+pub asking : (c : Cast) (v : ℕ) → asks c v ≡ true → (conforms c v ≡ false) × (is_strategy (party_role c v) ≡ true)
 asking c v e = asking_as c v (conforms c v) e
 
-conforming_alone : (c : Cast) (v : ℕ) (b : Bool) → b ≡ true → cond b false (is_strategy (role_of c v)) ≡ false
+conforming_alone : (c : Cast) (v : ℕ) (b : Bool) → b ≡ true → cond b false (is_strategy (party_role c v)) ≡ false
 conforming_alone c v true e = refl
 conforming_alone c v false e = absurd (cc e)
 
@@ -320,16 +321,16 @@ pub still_at : (w new : WorldState) (t : State) → new ≡ at w t → t ≡ w.s
 still_at w new t e same = e ∙ ap (λ (s : State). at w s) same
 
 -- a quiet event that a world took
-pub went_to : (gives : MayGive) (f : Cast → State → State) (old new : WorldState) → IsQuiet f (cast_at old) old.state
-    → new ≡ at old (f (cast_at old) old.state) → HasGone gives f old new
+pub went_to : (gives : MayGive) (f : Cast → State → State) (old new : WorldState) → IsQuiet f (world_cast old) old.state
+    → new ≡ at old (f (world_cast old) old.state) → HasGone gives f old new
 went_to gives f old new quiet is = record {
   asked = nothing_asked gives old new (ap (λ (w : WorldState). w.state.asked) is ∙ quiet.asked) (ap (λ (w : WorldState). w.answers) is);
   same = is ∙ ap (λ (w : WorldState). record old { answers = w.answers; state = w.state }) (sym is);
   state = λ g k. ap (λ (w : WorldState). w.state) is ∙ sym (quiet.same g);
 }
 
-pub went : {A E : Type 0} (r : Result A E) (gives : MayGive) (f : Cast → State → State) (old new : WorldState) → IsQuiet f (cast_at old) old.state
-    → OnOk r (new ≡ at old (f (cast_at old) old.state)) → OnOk r (HasGone gives f old new)
+pub went : {A E : Type 0} (r : Result A E) (gives : MayGive) (f : Cast → State → State) (old new : WorldState) → IsQuiet f (world_cast old) old.state
+    → OnOk r (new ≡ at old (f (world_cast old) old.state)) → OnOk r (HasGone gives f old new)
 went (Ok x) gives f old new quiet is = went_to gives f old new quiet is
 went (Err x) gives f old new quiet is = tt
 
@@ -338,30 +339,30 @@ pub unmoved : {A E : Type 0} (r : Result A E) (gives : MayGive) (f : Cast → St
     → OnErr r (IsCutBy gives f old new)
 unmoved (Ok x) gives f old new is = tt
 unmoved (Err x) gives f old new is = record {
-  cast = ap cast_at is;
+  cast = ap world_cast is;
   asked = nothing_asked gives old new (ap (λ (w : WorldState). w.state.asked) is) (ap (λ (w : WorldState). w.answers) is);
   book = inl (ap (λ (w : WorldState). w.state.book) is);
 }
 
 -- or after the call
-pub cut_to : (gives : MayGive) (f : Cast → State → State) (old new : WorldState) → IsQuiet f (cast_at old) old.state → cast_at new ≡ cast_at old
+pub cut_to : (gives : MayGive) (f : Cast → State → State) (old new : WorldState) → IsQuiet f (world_cast old) old.state → world_cast new ≡ world_cast old
     → new.state.asked ≡ old.state.asked → new.answers ≡ old.answers
-    → (new.state.book ≡ old.state.book) ⊎ (new.state.book ≡ (f (cast_at old) old.state).book) → IsCutBy gives f old new
+    → (new.state.book ≡ old.state.book) ⊎ (new.state.book ≡ (f (world_cast old) old.state).book) → IsCutBy gives f old new
 cut_to gives f old new quiet cast asked answers book = record { cast = cast; asked = nothing_asked gives old new asked answers; book = by book }
   where
-    by : (new.state.book ≡ old.state.book) ⊎ (new.state.book ≡ (f (cast_at old) old.state).book)
-        → (new.state.book ≡ old.state.book) ⊎ ((g : Answers) → Continues new g → new.state.book ≡ (f (cast_for old g) old.state).book)
+    by : (new.state.book ≡ old.state.book) ⊎ (new.state.book ≡ (f (world_cast old) old.state).book)
+        → (new.state.book ≡ old.state.book) ⊎ ((g : Answers) → Continues new g → new.state.book ≡ (f (answering_cast old g) old.state).book)
     by (inl h) = inl h
     by (inr h) = inr (λ g k. h ∙ ap (λ (s : State). s.book) (sym (quiet.same g)))
 
-pub cut : {A E : Type 0} (r : Result A E) (gives : MayGive) (f : Cast → State → State) (old new : WorldState) → IsQuiet f (cast_at old) old.state
-    → OnErr r (cast_at new ≡ cast_at old) → OnErr r (new.state.asked ≡ old.state.asked) → OnErr r (new.answers ≡ old.answers)
-    → OnErr r ((new.state.book ≡ old.state.book) ⊎ (new.state.book ≡ (f (cast_at old) old.state).book)) → OnErr r (IsCutBy gives f old new)
+pub cut : {A E : Type 0} (r : Result A E) (gives : MayGive) (f : Cast → State → State) (old new : WorldState) → IsQuiet f (world_cast old) old.state
+    → OnErr r (world_cast new ≡ world_cast old) → OnErr r (new.state.asked ≡ old.state.asked) → OnErr r (new.answers ≡ old.answers)
+    → OnErr r ((new.state.book ≡ old.state.book) ⊎ (new.state.book ≡ (f (world_cast old) old.state).book)) → OnErr r (IsCutBy gives f old new)
 cut (Ok x) gives f old new quiet cast asked answers book = tt
 cut (Err x) gives f old new quiet cast asked answers book = cut_to gives f old new quiet cast asked answers book
 
 -- a cut world that stops
-pub cut_still : (gives : MayGive) (f : Cast → State → State) (old mid new : WorldState) → cast_at new ≡ cast_at mid → new.answers ≡ mid.answers
+pub cut_still : (gives : MayGive) (f : Cast → State → State) (old mid new : WorldState) → world_cast new ≡ world_cast mid → new.answers ≡ mid.answers
     → new.state ≡ mid.state → IsCutBy gives f old mid → IsCutBy gives f old new
 cut_still gives f old mid new cast answers state k = record {
   cast = cast ∙ k.cast;
@@ -374,18 +375,18 @@ cut_still gives f old mid new cast answers state k = record {
   book = by k.book;
 }
   where
-    by : (mid.state.book ≡ old.state.book) ⊎ ((g : Answers) → Continues mid g → mid.state.book ≡ (f (cast_for old g) old.state).book)
-        → (new.state.book ≡ old.state.book) ⊎ ((g : Answers) → Continues new g → new.state.book ≡ (f (cast_for old g) old.state).book)
+    by : (mid.state.book ≡ old.state.book) ⊎ ((g : Answers) → Continues mid g → mid.state.book ≡ (f (answering_cast old g) old.state).book)
+        → (new.state.book ≡ old.state.book) ⊎ ((g : Answers) → Continues new g → new.state.book ≡ (f (answering_cast old g) old.state).book)
     by (inl h) = inl (ap (λ (s : State). s.book) state ∙ h)
     by (inr h) = inr (λ g c.
         ap (λ (s : State). s.book) state ∙ h g (subst (λ (xs : List (Option (ℕ × Call))). (i : ℕ) → i < length xs → g i ≡ get_or xs i None) answers c))
 
 -- a cut by a function that is the same
 pub cut_as : (gives : MayGive) (f h : Cast → State → State) (old new : WorldState)
-    → ((g : Answers) → f (cast_for old g) old.state ≡ h (cast_for old g) old.state) → IsCutBy gives f old new → IsCutBy gives h old new
+    → ((g : Answers) → f (answering_cast old g) old.state ≡ h (answering_cast old g) old.state) → IsCutBy gives f old new → IsCutBy gives h old new
 cut_as gives f h old new e k = record { cast = k.cast; asked = k.asked; book = by k.book }
   where
-    by : (new.state.book ≡ old.state.book) ⊎ ((g : Answers) → Continues new g → new.state.book ≡ (f (cast_for old g) old.state).book)
-        → (new.state.book ≡ old.state.book) ⊎ ((g : Answers) → Continues new g → new.state.book ≡ (h (cast_for old g) old.state).book)
+    by : (new.state.book ≡ old.state.book) ⊎ ((g : Answers) → Continues new g → new.state.book ≡ (f (answering_cast old g) old.state).book)
+        → (new.state.book ≡ old.state.book) ⊎ ((g : Answers) → Continues new g → new.state.book ≡ (h (answering_cast old g) old.state).book)
     by (inl x) = inl x
     by (inr x) = inr (λ g c. x g c ∙ ap (λ (s : State). s.book) (e g))

@@ -20,12 +20,12 @@ use Rattle.swap_rules.specs.Machine.{Begins}
 use Rattle.swap_rules.specs.Rest.{are_ticks, is_ticking}
 use Rattle.swap_rules.proofs.Prefixes.{same_or_not}
 use Rattle.swap_rules.proofs.Conducting.{history_same, history_other}
-use Rattle.party_machine.specs.Wallet.{wallet_of}
+use Rattle.party_machine.specs.Wallet.{seed_wallet}
 use Rattle.party_machine.specs.Machine.{MachineState, learnt}
 use Rattle.party_machine.specs.Rest.{IsAtRest}
 use Rattle.party_machine.proofs.Resting.{still}
 use Rattle.swap_run.specs.Asked.{Answers, with_answers}
-use Rattle.swap_run.specs.Run.{Cast, Notes, Question, State, conforms, role_of, is_planned, notes_of}
+use Rattle.swap_run.specs.Run.{Cast, Notes, Question, State, conforms, party_role, is_planned, state_notes}
 use Rattle.swap_run.specs.Fair.{repeat, adjacent_arcs, the_horizon, ticks, has_ended}
 use Rattle.swap_run.specs.Quiet.{over, IsIdle}
 use Rattle.swap_run.specs.Steps.{IsSkipped}
@@ -134,11 +134,11 @@ module _ (d : Deal) (conforming : List Bool) (seeds : List (Option (List ℕ))) 
   book = histories ls
 
   machine_idles : (n i : ℕ) (p : ℕ) (m : MachineState) (after : Histories) → i < n → p < d.graph.n → IsAt d conforming seeds roles qs ls xs p m
-      → IsCalm n book (adjacent_arcs d p) m → AreRaised i book after → IsIdle cast after p (notes_of now p)
+      → IsCalm n book (adjacent_arcs d p) m → AreRaised i book after → IsIdle cast after p (state_notes now p)
   machine_idles n i p m after l lp at calm raised =
       let near = adjacent_arcs d p in
       let k = m.known in
-      let noted : notes_of now p ≡ record { known = k; signed = m.signed } = notes_at d conforming seeds roles qs ls xs p m at in
+      let noted : state_notes now p ≡ record { known = k; signed = m.signed } = notes_at d conforming seeds roles qs ls xs p m at in
       let long : length k ≡ length d.graph.arcs = ap (λ (z : Notes). length z.known) (sym noted) ∙ (good.notes p lp at.is.0).one_each in
       let low : All (λ a. a < length d.graph.arcs) near = near_low d p in
       let fresh = λ (x : ℕ) (j : IsIn x near).
@@ -149,11 +149,11 @@ module _ (d : Deal) (conforming : List Bool) (seeds : List (Option (List ℕ))) 
       fresh_by k after book x calm.until n i l b quiet r in
       let rests = rests_over calm.until m after k near calm.rests fresh
       (λ x j. subst (λ z. x < z) (sym long) (all_in (λ a. a < length d.graph.arcs) near x low j)) in
-      let w : cast.wallet p ≡ wallet_of m.seed m.me m.deal
-      = ap (λ (o : Option (List ℕ)). wallet_with o p d) at.is.3 ∙ ap₂ (λ (v : ℕ) (e : Deal). wallet_of m.seed v e) (sym at.is.2) (sym at.is.1) in
+      let w : cast.wallet p ≡ seed_wallet m.seed m.me m.deal
+      = ap (λ (o : Option (List ℕ)). wallet_with o p d) at.is.3 ∙ ap₂ (λ (v : ℕ) (e : Deal). seed_wallet m.seed v e) (sym at.is.2) (sym at.is.1) in
       let none : first (due d p (cast.wallet p) (signed_in m.signed) (over after near k)) ≡ None
       = ap (λ (w : Wallet). first (due d p w (signed_in m.signed) (over after near k))) w
-      ∙ ap₂ (λ (v : ℕ) (e : Deal). first (due e v (wallet_of m.seed m.me m.deal) (signed_in m.signed) (over after near k))) (sym at.is.2)
+      ∙ ap₂ (λ (v : ℕ) (e : Deal). first (due e v (seed_wallet m.seed m.me m.deal) (signed_in m.signed) (over after near k))) (sym at.is.2)
       (sym at.is.1)
       ∙ rests.nothing in
       subst (IsIdle cast after p) (sym noted) none
@@ -173,7 +173,7 @@ module _ (d : Deal) (conforming : List Bool) (seeds : List (Option (List ℕ))) 
 
   idles_by : (n i : ℕ) (p : ℕ) (x : Actor) (after : Histories) → i < n → p < d.graph.n → p < length xs → x ≡ get_or xs p x
       → IsActorOf d (slice_index_or conforming p false) (slice_index_or seeds p None) (slice_index_or roles p kinds.Manual) p x
-      → conforms cast p ≡ true → IsCalmActor n book (adjacent_arcs d p) x → AreRaised i book after → IsIdle cast after p (notes_of now p)
+      → conforms cast p ≡ true → IsCalmActor n book (adjacent_arcs d p) x → AreRaised i book after → IsIdle cast after p (state_notes now p)
   idles_by n i p (Conforming m) after l lp lx here is cp calm raised =
       machine_idles n i p m after l lp (record { below = lx; here = here; is = is }) calm raised
   idles_by n i p (Planned x) after l lp lx here is cp calm raised = absurd calm
@@ -181,7 +181,7 @@ module _ (d : Deal) (conforming : List Bool) (seeds : List (Option (List ℕ))) 
 
   plain_by : (n p : ℕ) (x : Actor)
       → IsActorOf d (slice_index_or conforming p false) (slice_index_or seeds p None) (slice_index_or roles p kinds.Manual) p x
-      → conforms cast p ≡ false → IsCalmActor n book (adjacent_arcs d p) x → is_planned (role_of cast p) ≡ false
+      → conforms cast p ≡ false → IsCalmActor n book (adjacent_arcs d p) x → is_planned (party_role cast p) ≡ false
   plain_by n p (Conforming m) is cp calm = absurd (false≢true (sym cp ∙ is.0))
   plain_by n p (Planned x) is cp calm = absurd calm
   plain_by n p Manual is cp calm = is.1

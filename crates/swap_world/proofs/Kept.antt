@@ -8,7 +8,7 @@ use Rattle.std.proofs.lemmas.List.{length-set, get_or-set_same, get_or-set_other
 use Rattle.swap_digraph.specs.declared.deal.Deal.{Deal}
 use Rattle.hashkey_path.specs.declared.hashkey.Hashkey.{Hashkey}
 use Rattle.ledger_core.specs.Book.{Histories}
-use Rattle.swap_run.specs.Run.{Notes, Plan, Question, notes_of}
+use Rattle.swap_run.specs.Run.{Notes, Plan, Question, state_notes}
 use Rattle.ledger_core.specs.Value.{LedgerState}
 use Rattle.swap_job.specs.declared.job.Role.{Role}
 use Rattle.swap_rules.proofs.Prefixes.{same_or_not}
@@ -121,10 +121,10 @@ module _ (d : Deal) (conforming : List Bool) (seeds : List (Option (List ℕ))) 
   low : p < length xs
   low = subst (λ n. p < n) (sym actors.one_each) known
 
-  pub journal_at : IsSomeJournal d p (notes_of (state d qs xs (histories ls)) p).signed o
+  pub journal_at : IsSomeJournal d p (state_notes (state d qs xs (histories ls)) p).signed o
   journal_at = go (get_or xs p Manual) (get_or_default xs p Manual (get_or xs p Manual) low)
     where
-      go : (x : Actor) → x ≡ get_or xs p x → IsSomeJournal d p (notes_of (state d qs xs (histories ls)) p).signed o
+      go : (x : Actor) → x ≡ get_or xs p x → IsSomeJournal d p (state_notes (state d qs xs (histories ls)) p).signed o
       go (Conforming m) at =
           let is = actors.each p (Conforming m) low at in
           subst (λ (n : Notes). IsSomeJournal d p n.signed o)

@@ -11,7 +11,7 @@ use Rattle.swap_rules.proofs.Prefixes.{same_or_not}
 use Rattle.swap_rules.specs.Due.{Action}
 use Rattle.party_wallet.specs.Value.{signed_in}
 use Rattle.std.proofs.lemmas.Option.{same_Some}
-use Rattle.party_machine.specs.Machine.{MachineState, action_of, next_due, noted_for}
+use Rattle.party_machine.specs.Machine.{MachineState, due_action, next_due, noted_for}
 use Rattle.party_machine.specs.Recording.{unsigned_key, new_key, signs_next, MayHave, IsCallPlaced}
 use Rattle.party_machine.proofs.Whole.{fresh}
 use Rattle.party_machine.proofs.Recorded.{answer_placed}
@@ -117,13 +117,13 @@ pub seen_left : (h : Held) → h.loose ≡ [] → Leaves h (read_bytes h)
 seen_left h settled = subst (λ (ws : List Write). MayBeLeft (synced_bytes h) ws (after_writes (synced_bytes h) ws)) (sym settled) refl
 
 -- an answer that signs nothing
-pub answer_calm : (m new : MachineState) (o : Option (ℕ × Call)) → option_map action_of o ≡ next_due m
+pub answer_calm : (m new : MachineState) (o : Option (ℕ × Call)) → option_map due_action o ≡ next_due m
     → signed_in new.signed ≡ noted_for (signed_in m.signed) o
     → ((i : ℕ) (k : Hashkey) → signed_in m.signed i ≡ Some k → signed_in new.signed i ≡ Some k) → length new.signed ≡ length m.signed
     → signs_next m ≡ None → (x : Action) → next_due m ≡ Some x → signed_after m.signed x.call ≡ m.signed
 answer_calm m new None due signed once places none x is = absurd (cc (due ∙ is))
 answer_calm m new (Some y) due signed once places none x is =
-    let same : action_of y ≡ x = same_Some (action_of y) x (due ∙ is) in
+    let same : due_action y ≡ x = same_Some (due_action y) x (due ∙ is) in
     let call : y.1 ≡ x.call = ap (λ (z : Action). z.call) same in
     let at : IsCallPlaced m.signed y.1 = answer_placed m.signed m.signed new.signed (Some y) refl signed once places in
     let nothing : unsigned_key m.signed x.call ≡ None = ap (new_key m.signed) (sym is) ∙ none in

@@ -18,16 +18,17 @@ use Rattle.swap_job.specs.declared.job.Role.TheVariants as kinds
 use Rattle.swap_job.specs.declared.moves.Move.{Move}
 use Rattle.swap_rules.specs.Due.{Wallet, Action, due, first}
 use Rattle.party_wallet.specs.Value.{signed_in}
-use Rattle.swap_run.specs.Run.{Cast, Notes, Plan, State, conforms, role_of, notes_of, plan_of, plan_up_to, signed_after, known_up_to, look, next_of}
+use Rattle.swap_run.specs.Run.{Cast, Notes, Plan, State, conforms, party_role, state_notes, party_plan, plan_up_to, signed_after, known_up_to, look}
+use Rattle.swap_run.specs.Run.{next_action}
 use Rattle.swap_run.specs.Run.{Question, watch, step, answer_for, relearnt, recorded_after}
-use Rattle.swap_run.specs.Called.{step_on}
+use Rattle.swap_run.specs.Called.{apply_step}
 use Rattle.swap_run.specs.Asked.{Answers, with_answers}
-use Rattle.party_machine.specs.Wallet.{wallet_of}
+use Rattle.party_machine.specs.Wallet.{seed_wallet}
 use Rattle.party_machine.specs.Machine.{MachineState, next_due}
 use Rattle.swap_world.proofs.Plans.{IsScript, absent, due_call, answer_is, planned_look, planned_call, planned_act, planned_ask}
-use Rattle.swap_world.specs.Cast.{cast_with, wallet_with}
-use Rattle.swap_world.specs.Acting.{histories, landed, book_after, machine_after, told_of, taken, seen, told_to, turned, asked_once, question_of}
-use Rattle.swap_world.specs.On.{told_in}
+use Rattle.swap_world.specs.Cast.{made_cast, wallet_with}
+use Rattle.swap_world.specs.Acting.{histories, landed, next_book, next_machine, build_told, taken, seen, told_to, turned, asked_once, answer_question}
+use Rattle.swap_world.specs.On.{tell_entries}
 use Rattle.swap_world.proofs.On.{make_on, act_on, act_is, call_is, told_due, told_call, told_script, told_strategy}
 use Rattle.swap_world.specs.Inside.{notes_in, plan_in, IsActorOf, AreActorsOf}
 use Rattle.swap_world.specs.declared.actor.Actor.{Actor}
@@ -69,7 +70,7 @@ module _ (d : Deal) (conforming : List Bool) (seeds : List (Option (List ℕ))) 
     (xs : List Actor) where
   -- who takes part
   abbrev pub c : Cast
-  c = cast_with d conforming seeds roles
+  c = made_cast d conforming seeds roles
 
   -- the state before
   abbrev pub s : State
@@ -102,7 +103,7 @@ module _ (d : Deal) (conforming : List Bool) (seeds : List (Option (List ℕ))) 
     pub here : Conforming m ≡ get_or xs p (Conforming m)
     pub is : IsActorOf d (slice_index_or conforming p false) (slice_index_or seeds p None) (slice_index_or roles p kinds.Manual) p (Conforming m)
 
-  pub notes_at : (p : ℕ) (m : MachineState) → IsAt p m → notes_of s p ≡ record { known = m.known; signed = m.signed }
+  pub notes_at : (p : ℕ) (m : MachineState) → IsAt p m → state_notes s p ≡ record { known = m.known; signed = m.signed }
   notes_at p m i = get_or-map (notes_in d) xs p (Conforming m) (record { known = []; signed = [] }) i.below ∙ ap (notes_in d) (sym i.here)
 
   -- a machine plans nothing
@@ -123,20 +124,20 @@ module _ (d : Deal) (conforming : List Bool) (seeds : List (Option (List ℕ))) 
   }
       → replaced p (Conforming new) (histories ls) ≡ step c s (Look p a)
   looked p a m new i e =
-      let n : notes_in d (Conforming new) ≡ known_up_to (notes_of s p) a (history (histories ls) a)
+      let n : notes_in d (Conforming new) ≡ known_up_to (state_notes s p) a (history (histories ls) a)
       = ap (λ (x : MachineState). notes_in d (Conforming x)) e ∙ ap (λ (x : Notes). known_up_to x a (history (histories ls) a)) (sym (notes_at p m i)) in
       same_parts _ _ _ _ _ _ refl (noted p new _ n) (plans_still p m new i) ∙ where_it_conforms p (look s p a) (watch c s p a) i.is.0
 
-  pub next_is : (p : ℕ) (m : MachineState) → IsAt p m → next_of c s p ≡ next_due m
+  pub next_is : (p : ℕ) (m : MachineState) → IsAt p m → next_action c s p ≡ next_due m
   next_is p m i =
-      let w : c.wallet p ≡ wallet_of m.seed m.me m.deal
-      = ap (λ (o : Option (List ℕ)). wallet_with o p d) i.is.3 ∙ ap₂ (λ (v : ℕ) (e : Deal). wallet_of m.seed v e) (sym i.is.2) (sym i.is.1) in
+      let w : c.wallet p ≡ seed_wallet m.seed m.me m.deal
+      = ap (λ (o : Option (List ℕ)). wallet_with o p d) i.is.3 ∙ ap₂ (λ (v : ℕ) (e : Deal). seed_wallet m.seed v e) (sym i.is.2) (sym i.is.1) in
       ap (λ (n : Notes). first (due d p (c.wallet p) (signed_in n.signed) n.known)) (notes_at p m i)
       ∙ (ap (λ (w : Wallet). first (due d p w (signed_in m.signed) m.known)) w
-      ∙ ap₂ (λ (v : ℕ) (e : Deal). first (due e v (wallet_of m.seed m.me m.deal) (signed_in m.signed) m.known)) (sym i.is.2) (sym i.is.1))
+      ∙ ap₂ (λ (v : ℕ) (e : Deal). first (due e v (seed_wallet m.seed m.me m.deal) (signed_in m.signed) m.known)) (sym i.is.2) (sym i.is.1))
 
-  made : (sw : ℕ → Bool) (p : ℕ) (m new : MachineState) (b : Histories) (o : Option Action) → IsAt p m → b ≡ book_after sw m o (histories ls)
-      → new ≡ machine_after sw m o (histories ls)
+  made : (sw : ℕ → Bool) (p : ℕ) (m new : MachineState) (b : Histories) (o : Option Action) → IsAt p m → b ≡ next_book sw m o (histories ls)
+      → new ≡ next_machine sw m o (histories ls)
       → replaced p (Conforming new) b ≡ make_on sw d s p o
   made sw p m new b None i eb en =
       same_actor p (Conforming m) (Conforming new) b i.here (ap (λ (x : MachineState). Conforming x) en) ∙ ap (λ (x : Histories). state d qs xs x) eb
@@ -146,9 +147,9 @@ module _ (d : Deal) (conforming : List Bool) (seeds : List (Option (List ℕ))) 
       = ap₂ (λ (e : Deal) (v : ℕ). landed (sw x.arc) e x.arc v x.call (history (histories ls) x.arc)) i.is.1 i.is.2 in
       let n : notes_in d (Conforming new) ≡ record {
         known =
-            set (notes_of s p).known x.arc (landed (sw x.arc) d x.arc p x.call (history (histories ls) x.arc));
+            set (state_notes s p).known x.arc (landed (sw x.arc) d x.arc p x.call (history (histories ls) x.arc));
         signed =
-            signed_after (notes_of s p).signed x.call;
+            signed_after (state_notes s p).signed x.call;
       }
       = ap (λ (y : MachineState). notes_in d (Conforming y)) en
       ∙ (ap (λ (k : List Entry). note (set m.known x.arc k) (signed_after m.signed x.call)) h
@@ -159,21 +160,21 @@ module _ (d : Deal) (conforming : List Bool) (seeds : List (Option (List ℕ))) 
       note : Histories → List (Option Hashkey) → Notes
       note k ss = record { known = k; signed = ss }
 
-  pub acted : (sw : ℕ → Bool) (p : ℕ) (m new : MachineState) (b : Histories) → IsAt p m → b ≡ book_after sw m (next_due m) (histories ls)
-      → new ≡ machine_after sw m (next_due m) (histories ls)
-      → replaced p (Conforming new) b ≡ step_on sw c s (Act p)
+  pub acted : (sw : ℕ → Bool) (p : ℕ) (m new : MachineState) (b : Histories) → IsAt p m → b ≡ next_book sw m (next_due m) (histories ls)
+      → new ≡ next_machine sw m (next_due m) (histories ls)
+      → replaced p (Conforming new) b ≡ apply_step sw c s (Act p)
   acted sw p m new b i eb en =
       made sw p m new b (next_due m) i eb en ∙ (ap (λ (o : Option Action). make_on sw d s p o) (sym (next_is p m i))
-      ∙ (where_it_conforms p (make_on sw d s p (next_of c s p)) (act_on sw c s p (role_of c p)) i.is.0 ∙ sym (act_is sw c s p)))
+      ∙ (where_it_conforms p (make_on sw d s p (next_action c s p)) (act_on sw c s p (party_role c p)) i.is.0 ∙ sym (act_is sw c s p)))
 
   -- a party crashes and restarts
   pub crashed : (p k image : ℕ) (m new : MachineState) → IsAt p m → new ≡ crashed_machine d m k image (histories ls)
       → replaced p (Conforming new) (histories ls) ≡ step c s (Crash p k image)
   crashed p k image m new i e =
-      let was : (notes_of s p).signed ≡ m.signed = ap (λ (n : Notes). n.signed) (notes_at p m i) in
+      let was : (state_notes s p).signed ≡ m.signed = ap (λ (n : Notes). n.signed) (notes_at p m i) in
       let n : notes_in d (Conforming new) ≡ record {
         known = relearnt d p (histories ls);
-        signed = recorded_after (notes_of s p).signed (next_of c s p) k image;
+        signed = recorded_after (state_notes s p).signed (next_action c s p) k image;
       }
       = ap (λ (x : MachineState). notes_in d (Conforming x)) e
       ∙ (λ j. record { known = relearnt d (i.is.2 j) (histories ls); signed = recorded_after (sym was j) (sym (next_is p m i) j) k image }) in
@@ -181,16 +182,16 @@ module _ (d : Deal) (conforming : List Bool) (seeds : List (Option (List ℕ))) 
 
   -- the histories after it, whatever became of the machine
   pub acted_book : (sw : ℕ → Bool) (p : ℕ) (m : MachineState) → IsAt p m
-      → book_after sw m (next_due m) (histories ls) ≡ (step_on sw c s (Act p)).book
+      → next_book sw m (next_due m) (histories ls) ≡ (apply_step sw c s (Act p)).book
   acted_book sw p m i =
       ap (λ (t : State). t.book)
-      (acted sw p m (machine_after sw m (next_due m) (histories ls)) (book_after sw m (next_due m) (histories ls)) i refl refl)
+      (acted sw p m (next_machine sw m (next_due m) (histories ls)) (next_book sw m (next_due m) (histories ls)) i refl refl)
 
   -- what the party is told
   pub acted_told : (sw : ℕ → Bool) (p : ℕ) (m : MachineState) → IsAt p m
-      → told_of sw m (next_due m) (histories ls) ≡ told_in sw c s (Act p)
+      → build_told sw m (next_due m) (histories ls) ≡ tell_entries sw c s (Act p)
   acted_told sw p m i =
-      ap (λ (o : Option Action). told_of sw m o (histories ls)) (sym (next_is p m i)) ∙ told_due sw c s m p i.is.0 i.is.1 i.is.2
+      ap (λ (o : Option Action). build_told sw m o (histories ls)) (sym (next_is p m i)) ∙ told_due sw c s m p i.is.0 i.is.1 i.is.2
 
   -- Parties that follow a script or a strategy.
 
@@ -200,10 +201,10 @@ module _ (d : Deal) (conforming : List Bool) (seeds : List (Option (List ℕ))) 
     pub here : Planned n ≡ get_or xs p (Planned n)
     pub is : IsActorOf d (slice_index_or conforming p false) (slice_index_or seeds p None) (slice_index_or roles p kinds.Manual) p (Planned n)
 
-  pub plan_at : (p : ℕ) (n : Plan) → IsPlanAt p n → plan_of s p ≡ n
+  pub plan_at : (p : ℕ) (n : Plan) → IsPlanAt p n → party_plan s p ≡ n
   plan_at p n i = get_or-map (plan_in d) xs p (Planned n) absent i.below ∙ ap (plan_in d) (sym i.here)
 
-  has_plan : (p : ℕ) (n : Plan) → IsPlanAt p n → (p < length s.plans) × (plan_of s p ≡ n)
+  has_plan : (p : ℕ) (n : Plan) → IsPlanAt p n → (p < length s.plans) × (party_plan s p ≡ n)
   has_plan p n i = (subst (λ l. p < l) (sym (length-map xs (plan_in d))) i.below, plan_at p n i)
 
   -- what party p plans is all that another plan in its place changes
@@ -222,39 +223,39 @@ module _ (d : Deal) (conforming : List Bool) (seeds : List (Option (List ℕ))) 
       planned p n new (histories ls) i ∙ (ap (λ (m : Plan). st (histories ls) s.notes (set s.plans p m)) e
       ∙ sym (planned_look d conforming seeds roles s p a n i.is.0 i.is.1 (has_plan p n i)))
 
-  pub followed : (sw : ℕ → Bool) (p : ℕ) (n new : Plan) (b : Histories) → IsPlanAt p n → IsScript (role_of c p)
+  pub followed : (sw : ℕ → Bool) (p : ℕ) (n new : Plan) (b : Histories) → IsPlanAt p n → IsScript (party_role c p)
       → b ≡ taken sw d p (due_call d conforming seeds roles n) (histories ls)
-      → new ≡ seen sw d p (due_call d conforming seeds roles n) (histories ls) (turned n) → replaced p (Planned new) b ≡ step_on sw c s (Act p)
+      → new ≡ seen sw d p (due_call d conforming seeds roles n) (histories ls) (turned n) → replaced p (Planned new) b ≡ apply_step sw c s (Act p)
   followed sw p n new b i script eb en =
       planned p n new b i ∙ (ap₂ (λ (x : Histories) (m : Plan). st x s.notes (set s.plans p m)) eb en
       ∙ sym (planned_act d conforming seeds roles sw s p n i.is.0 script (has_plan p n i)))
 
-  pub followed_book : (sw : ℕ → Bool) (p : ℕ) (n : Plan) → IsPlanAt p n → IsScript (role_of c p)
-      → taken sw d p (due_call d conforming seeds roles n) (histories ls) ≡ (step_on sw c s (Act p)).book
+  pub followed_book : (sw : ℕ → Bool) (p : ℕ) (n : Plan) → IsPlanAt p n → IsScript (party_role c p)
+      → taken sw d p (due_call d conforming seeds roles n) (histories ls) ≡ (apply_step sw c s (Act p)).book
   followed_book sw p n i script = ap (λ (t : State). t.book) (followed sw p n _ _ i script refl refl)
 
-  pub followed_notes : (sw : ℕ → Bool) (p : ℕ) (n : Plan) → IsPlanAt p n → IsScript (role_of c p) → (step_on sw c s (Act p)).notes ≡ map (notes_in d) xs
+  pub followed_notes : (sw : ℕ → Bool) (p : ℕ) (n : Plan) → IsPlanAt p n → IsScript (party_role c p) → (apply_step sw c s (Act p)).notes ≡ map (notes_in d) xs
   followed_notes sw p n i script = sym (ap (λ (t : State). t.notes) (followed sw p n _ _ i script refl refl)) ∙ plan_notes p n _ i
 
-  pub followed_told : (sw : ℕ → Bool) (p : ℕ) (n : Plan) → IsPlanAt p n → IsScript (role_of c p)
-      → told_to sw d p (due_call d conforming seeds roles n) (histories ls) ≡ told_in sw c s (Act p)
+  pub followed_told : (sw : ℕ → Bool) (p : ℕ) (n : Plan) → IsPlanAt p n → IsScript (party_role c p)
+      → told_to sw d p (due_call d conforming seeds roles n) (histories ls) ≡ tell_entries sw c s (Act p)
   followed_told sw p n i script =
       ap (λ (m : Plan). told_to sw d p (due_call d conforming seeds roles m) (histories ls)) (sym (plan_at p n i))
       ∙ sym (told_script sw c s p script.0 i.is.0 script.1)
 
   -- the party has asked its strategy, and made the call that was answered
   pub answered : (sw : ℕ → Bool) (g : Answers) (p : ℕ) (n new : Plan) (b : Histories) (name : List ℕ) (o : Option (ℕ × Call)) → IsPlanAt p n
-      → role_of c p ≡ kinds.Strategy name → g (length qs) ≡ o → MayAnswer d p o → b ≡ taken sw d p o (histories ls)
+      → party_role c p ≡ kinds.Strategy name → g (length qs) ≡ o → MayAnswer d p o → b ≡ taken sw d p o (histories ls)
       → new ≡ seen sw d p o (histories ls) (asked_once n)
-      → state d (qs ++ question_of name p n ∷ []) (set xs p (Planned new)) b ≡ step_on sw (with_answers c g) s (Act p)
+      → state d (qs ++ answer_question name p n ∷ []) (set xs p (Planned new)) b ≡ apply_step sw (with_answers c g) s (Act p)
   answered sw g p n new b name o i role at may eb en =
-      ap (λ (t : State). record t { asked = qs ++ question_of name p n ∷ [] }) (planned p n new b i)
-      ∙ (ap₂ (λ (x : Histories) (m : Plan). record (st x s.notes (set s.plans p m)) { asked = qs ++ question_of name p n ∷ [] }) eb en
+      ap (λ (t : State). record t { asked = qs ++ answer_question name p n ∷ [] }) (planned p n new b i)
+      ∙ (ap₂ (λ (x : Histories) (m : Plan). record (st x s.notes (set s.plans p m)) { asked = qs ++ answer_question name p n ∷ [] }) eb en
       ∙ sym (planned_ask d conforming seeds roles sw g s p n name o i.is.0 i.is.1 role (has_plan p n i) at may))
 
   pub answered_told : (sw : ℕ → Bool) (g : Answers) (p : ℕ) (n : Plan) (name : List ℕ) (o : Option (ℕ × Call)) → IsPlanAt p n
-      → role_of c p ≡ kinds.Strategy name → g (length qs) ≡ o → MayAnswer d p o
-      → told_to sw d p o (histories ls) ≡ told_in sw (with_answers c g) s (Act p)
+      → party_role c p ≡ kinds.Strategy name → g (length qs) ≡ o → MayAnswer d p o
+      → told_to sw d p o (histories ls) ≡ tell_entries sw (with_answers c g) s (Act p)
   answered_told sw g p n name o i role at may =
       sym (told_strategy sw (with_answers c g) s p name i.is.0 role
       ∙ (ap (λ (x : Option (ℕ × Call)). told_to sw d p (answer_for d p x) (histories ls)) at
@@ -262,17 +263,17 @@ module _ (d : Deal) (conforming : List Bool) (seeds : List (Option (List ℕ))) 
 
   pub made_by_hand : (sw : ℕ → Bool) (p : ℕ) (mv : Move) (n new : Plan) (b : Histories) → IsPlanAt p n
       → b ≡ taken sw d p (resolved d seeds (histories ls) mv) (histories ls)
-      → new ≡ seen sw d p (resolved d seeds (histories ls) mv) (histories ls) n → replaced p (Planned new) b ≡ step_on sw c s (Made p mv)
+      → new ≡ seen sw d p (resolved d seeds (histories ls) mv) (histories ls) n → replaced p (Planned new) b ≡ apply_step sw c s (Made p mv)
   made_by_hand sw p mv n new b i eb en =
       planned p n new b i ∙ (ap₂ (λ (x : Histories) (m : Plan). st x s.notes (set s.plans p m)) eb en
       ∙ sym (call_is sw c s p mv ∙ planned_call d conforming seeds roles sw s p n (resolved d seeds (histories ls) mv) i.is.1 (has_plan p n i)))
 
   pub made_book : (sw : ℕ → Bool) (p : ℕ) (mv : Move) (n : Plan) → IsPlanAt p n
-      → taken sw d p (resolved d seeds (histories ls) mv) (histories ls) ≡ (step_on sw c s (Made p mv)).book
+      → taken sw d p (resolved d seeds (histories ls) mv) (histories ls) ≡ (apply_step sw c s (Made p mv)).book
   made_book sw p mv n i = ap (λ (t : State). t.book) (made_by_hand sw p mv n _ _ i refl refl)
 
-  pub made_notes : (sw : ℕ → Bool) (p : ℕ) (mv : Move) (n : Plan) → IsPlanAt p n → (step_on sw c s (Made p mv)).notes ≡ map (notes_in d) xs
+  pub made_notes : (sw : ℕ → Bool) (p : ℕ) (mv : Move) (n : Plan) → IsPlanAt p n → (apply_step sw c s (Made p mv)).notes ≡ map (notes_in d) xs
   made_notes sw p mv n i = sym (ap (λ (t : State). t.notes) (made_by_hand sw p mv n _ _ i refl refl)) ∙ plan_notes p n _ i
 
-  pub made_told : (sw : ℕ → Bool) (p : ℕ) (mv : Move) → told_to sw d p (resolved d seeds (histories ls) mv) (histories ls) ≡ told_in sw c s (Made p mv)
+  pub made_told : (sw : ℕ → Bool) (p : ℕ) (mv : Move) → told_to sw d p (resolved d seeds (histories ls) mv) (histories ls) ≡ tell_entries sw c s (Made p mv)
   made_told sw p mv = sym (told_call sw c s p mv)

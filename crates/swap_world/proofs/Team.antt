@@ -14,14 +14,14 @@ use Rattle.swap_run.specs.Asked.{is_strategy}
 use Rattle.swap_run.specs.Run.{Notes, Plan, no_notes, first_plan, is_planned}
 use Rattle.swap_digraph.specs.declared.deal.Deal.{Deal}
 use Rattle.swap_job.specs.Fitting.{IsMoveOf}
-use Rattle.swap_job.specs.Roles.{IsHeld, role_in, is_conforming, script_of}
+use Rattle.swap_job.specs.Roles.{IsHeld, job_role, is_conforming, role_script}
 use Rattle.swap_job.specs.declared.job.Role.{Role}
 use Rattle.swap_job.specs.declared.job.Role.TheVariants as kinds
 use Rattle.swap_run.specs.Laws.{IsReadyCast}
 use Rattle.party_wallet.specs.Fits.{wrong_lock}
 use Rattle.party_machine.proofs.Good.{fitting_is_good}
-use Rattle.swap_world.specs.Cast.{cast_of, wallet_with}
-use Rattle.swap_world.specs.Actors.{by_role, acts_with, acts_for, team, wrong_with, AllFit, AreHeld, HaveRoles, ConformingHaveSeeds}
+use Rattle.swap_world.specs.Cast.{job_cast, wallet_with}
+use Rattle.swap_world.specs.Actors.{by_role, role_actor, job_actor, team, wrong_with, AllFit, AreHeld, HaveRoles, ConformingHaveSeeds}
 use Rattle.swap_world.specs.Inside.{notes_in, plan_in, IsActorOf, AreActorsOf}
 use Rattle.swap_world.specs.declared.actor.Actor.{Actor}
 use Rattle.swap_world.specs.declared.actor.Actor.TheVariants.{Manual}
@@ -29,26 +29,26 @@ use Rattle.swap_world.specs.declared.actor.Actor.TheVariants.{Manual}
 -- Each place has its party's actor.
 
 pub team_length : (job : Job) → length (team job) ≡ job.deal.graph.n
-team_length job = length-map-range_with_len (acts_for job) 0 job.deal.graph.n
+team_length job = length-map-range_with_len (job_actor job) 0 job.deal.graph.n
 
-pub team_at : (job : Job) (p : ℕ) → p < job.deal.graph.n → get_or (team job) p Manual ≡ acts_for job p
-team_at job p lt = get_or-map-range_with_len (acts_for job) 0 job.deal.graph.n p p Manual lt (zero-add p)
+pub team_at : (job : Job) (p : ℕ) → p < job.deal.graph.n → get_or (team job) p Manual ≡ job_actor job p
+team_at job p lt = get_or-map-range_with_len (job_actor job) 0 job.deal.graph.n p p Manual lt (zero-add p)
 
 -- What each is.
 
 -- what is known of the actor of party p
 pub record IsOwn (job : Job) (p : ℕ) (x : Actor) : Type 0 where
-  pub is : IsActorOf job.deal (slice_index_or job.conforming p false) (slice_index_or job.seeds p None) (role_in job p) p x
+  pub is : IsActorOf job.deal (slice_index_or job.conforming p false) (slice_index_or job.seeds p None) (job_role job p) p x
   pub notes : notes_in job.deal x ≡ no_notes job.deal
-  pub plan : plan_in job.deal x ≡ first_plan job.deal (role_in job p)
+  pub plan : plan_in job.deal x ≡ first_plan job.deal (job_role job p)
   pub fits : slice_index_or job.conforming p false ≡ true → (seed : List ℕ) × (slice_index_or job.seeds p None ≡ Some seed)
       × (wrong_lock job.deal p seed ≡ None)
 
-by_itself : (job : Job) (p : ℕ) (role : Role) → slice_index_or job.conforming p false ≡ false → role_in job p ≡ role → IsOwn job p (by_role job.deal role)
+by_itself : (job : Job) (p : ℕ) (role : Role) → slice_index_or job.conforming p false ≡ false → job_role job p ≡ role → IsOwn job p (by_role job.deal role)
 by_itself job p role ec er = record { is = kind role er; notes = no_note role; plan = first role er; fits = λ t. absurd (false≢true (sym ec ∙ t)) }
   where
-    kind : (r : Role) → role_in job p ≡ r
-        → IsActorOf job.deal (slice_index_or job.conforming p false) (slice_index_or job.seeds p None) (role_in job p) p (by_role job.deal r)
+    kind : (r : Role) → job_role job p ≡ r
+        → IsActorOf job.deal (slice_index_or job.conforming p false) (slice_index_or job.seeds p None) (job_role job p) p (by_role job.deal r)
     kind kinds.Conforming e = (ec, ap is_planned e)
     kind kinds.Manual e = (ec, ap is_planned e)
     kind (kinds.Script moves) e = (ec, ap is_planned e)
@@ -60,7 +60,7 @@ by_itself job p role ec er = record { is = kind role er; notes = no_note role; p
     no_note (kinds.Script moves) = refl
     no_note (kinds.Strategy name) = refl
 
-    first : (r : Role) → role_in job p ≡ r → plan_in job.deal (by_role job.deal r) ≡ first_plan job.deal (role_in job p)
+    first : (r : Role) → job_role job p ≡ r → plan_in job.deal (by_role job.deal r) ≡ first_plan job.deal (job_role job p)
     first kinds.Conforming e = sym (ap (first_plan job.deal) e)
     first kinds.Manual e = sym (ap (first_plan job.deal) e)
     first (kinds.Script moves) e = sym (ap (first_plan job.deal) e)
@@ -74,14 +74,14 @@ no_moves d (kinds.Script moves) e = absurd (cc e)
 no_moves d (kinds.Strategy name) e = absurd (cc e)
 
 own : (job : Job) (p : ℕ) (b : Bool) (o : Option (List ℕ)) → slice_index_or job.conforming p false ≡ b → slice_index_or job.seeds p None ≡ o
-    → b ≡ is_conforming (role_in job p) → (b ≡ true → is_some o ≡ true) → cond b (wrong_with job.deal p o) None ≡ None
-    → IsOwn job p (cond b (acts_with job.deal (role_in job p) p o) (by_role job.deal (role_in job p)))
-own job p false o eb eo role some right = by_itself job p (role_in job p) eb refl
+    → b ≡ is_conforming (job_role job p) → (b ≡ true → is_some o ≡ true) → cond b (wrong_with job.deal p o) None ≡ None
+    → IsOwn job p (cond b (role_actor job.deal (job_role job p) p o) (by_role job.deal (job_role job p)))
+own job p false o eb eo role some right = by_itself job p (job_role job p) eb refl
 own job p true None eb eo role some right = absurd (false≢true (some refl))
 own job p true (Some seed) eb eo role some right = record {
   is = (eb, refl, refl, eo);
   notes = refl;
-  plan = no_moves job.deal (role_in job p) (sym role);
+  plan = no_moves job.deal (job_role job p) (sym role);
   fits = λ t. (seed, eo, right);
 }
 
@@ -90,12 +90,12 @@ pub role_each : (job : Job) → ConformingHaveSeeds job → HaveRoles job → le
 role_each job seeds roles = sym (length-map job.roles is_conforming) ∙ (sym (ap (λ (bs : List Bool). length bs) roles.conforming) ∙ seeds.conforming)
 
 role_of_its : (job : Job) (p : ℕ) → ConformingHaveSeeds job → HaveRoles job → p < job.deal.graph.n
-    → slice_index_or job.conforming p false ≡ is_conforming (role_in job p)
+    → slice_index_or job.conforming p false ≡ is_conforming (job_role job p)
 role_of_its job p seeds roles lt =
     ap (λ (bs : List Bool). get_or bs p false) roles.conforming
     ∙ get_or-map is_conforming job.roles p kinds.Manual false (subst (λ n. p < n) (sym (role_each job seeds roles)) lt)
 
-pub is_own : (job : Job) (p : ℕ) → ConformingHaveSeeds job → HaveRoles job → AllFit job → p < job.deal.graph.n → IsOwn job p (acts_for job p)
+pub is_own : (job : Job) (p : ℕ) → ConformingHaveSeeds job → HaveRoles job → AllFit job → p < job.deal.graph.n → IsOwn job p (job_actor job p)
 is_own job p seeds roles fit lt =
     own job p (slice_index_or job.conforming p false) (slice_index_or job.seeds p None) refl refl (role_of_its job p seeds roles lt) (seeds.there p lt)
     (fit p lt)
@@ -105,7 +105,7 @@ are_actors job seeds roles fit = record {
   one_each = team_length job;
   each = λ v x l is.
       let lt : v < job.deal.graph.n = subst (λ n. v < n) (team_length job) l in
-      subst (IsActorOf job.deal (slice_index_or job.conforming v false) (slice_index_or job.seeds v None) (role_in job v) v)
+      subst (IsActorOf job.deal (slice_index_or job.conforming v false) (slice_index_or job.seeds v None) (job_role job v) v)
       (sym (team_at job v lt) ∙ (get_or_default (team job) v Manual x l ∙ sym is)) (is_own job v seeds roles fit lt).is;
 }
 
@@ -136,7 +136,7 @@ first_plans job seeds roles fit =
         get_or-map (plan_in job.deal) (team job) k Manual d lt ∙ (ap (plan_in job.deal) (team_at job k below) ∙ ((is_own job k seeds roles fit below).plan
         ∙ sym (get_or-map (first_plan job.deal) job.roles k kinds.Manual d (subst (λ z. k < z) (sym (role_each job seeds roles)) below))))
 
-pub is_ready : (job : Job) → IsAccepted job.deal → ConformingHaveSeeds job → HaveRoles job → AllFit job → IsReadyCast (cast_of job)
+pub is_ready : (job : Job) → IsAccepted job.deal → ConformingHaveSeeds job → HaveRoles job → AllFit job → IsReadyCast (job_cast job)
 is_ready job accepted seeds roles fit = record {
   accepted = accepted;
   one_each = seeds.conforming;
@@ -174,7 +174,7 @@ module _ (f : Bool → Role) (same : (b : Bool) → is_conforming (f b) ≡ b) (
   no_strategy (kinds.Script moves) e = refl
   no_strategy (kinds.Strategy name) e = e
 
-  no_script : (role : Role) → is_planned role ≡ false → script_of role ≡ []
+  no_script : (role : Role) → is_planned role ≡ false → role_script role ≡ []
   no_script kinds.Conforming e = refl
   no_script kinds.Manual e = refl
   no_script (kinds.Script moves) e = absurd (cc e)
@@ -188,8 +188,9 @@ module _ (f : Bool → Role) (same : (b : Bool) → is_conforming (f b) ≡ b) (
   plain_roles job e = record {
     conforming = conforms_as job.conforming ∙ ap (map is_conforming) (sym e);
     scripts = λ p lt.
-        let none : script_of (role_in job p) ≡ []
-        = ap (λ (rs : List Role). script_of (get_or rs p kinds.Manual)) e ∙ no_script (get_or (map f job.conforming) p kinds.Manual) (plain_at job.conforming p)
+        let none : role_script (job_role job p) ≡ []
+        = ap (λ (rs : List Role). role_script (get_or rs p kinds.Manual)) e
+        ∙ no_script (get_or (map f job.conforming) p kinds.Manual) (plain_at job.conforming p)
         in
         subst (All (IsMoveOf job.deal job.seeds p)) (sym none) (All-nil (IsMoveOf job.deal job.seeds p));
   }

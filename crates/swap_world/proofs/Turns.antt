@@ -8,7 +8,7 @@ use Rattle.ledger_core.specs.declared.entry.Entry.{Entry}
 use Rattle.ledger_core.specs.Value.{LedgerState}
 use Rattle.swap_rules.specs.Machine.{Begins}
 use Rattle.swap_rules.proofs.Prefixes.{begins_refl}
-use Rattle.ledger_core.specs.History.{height, reply_to}
+use Rattle.ledger_core.specs.History.{height, history_reply}
 use Rattle.ledger_core.specs.Ledger.{IsAfter, call_entry, is_sender_full, after_call}
 
 full_or_kept : (r : Reply) (h h' : List Entry) (e : Entry) → (r ≡ SenderFull → h' ≡ h) → (r ≢ SenderFull → h' ≡ h ++ e ∷ [])
@@ -26,7 +26,7 @@ pub record IsCalled (old new : LedgerState) (p : ℕ) (c : Call) : Type 0 where
   pub arc : new.arc ≡ old.arc
   pub history : new.history ≡ after_call old.deal old.arc p c old.history
 
-pub called : (old new : LedgerState) (p : ℕ) (c : Call) (r : Reply) → r ≡ reply_to old.deal old.arc old.history p c → (r ≡ SenderFull → new ≡ old)
+pub called : (old new : LedgerState) (p : ℕ) (c : Call) (r : Reply) → r ≡ history_reply old.deal old.arc old.history p c → (r ≡ SenderFull → new ≡ old)
     → (r ≢ SenderFull → IsAfter old (call_entry p (height old.history) c r) new) → IsCalled old new p c
 unfolding after_call
 called old new p c r reply full kept = record {
@@ -41,8 +41,8 @@ called old new p c r reply full kept = record {
 -- a call leaves the entries before it
 pub call_begins : (d : Deal) (a p : ℕ) (c : Call) (h : List Entry) → Begins h (after_call d a p c h)
 unfolding after_call
-call_begins d a p c h = go (is_sender_full (reply_to d a h p c))
+call_begins d a p c h = go (is_sender_full (history_reply d a h p c))
   where
-    go : (b : Bool) → Begins h (cond b h (h ++ call_entry p (height h) c (reply_to d a h p c) ∷ []))
+    go : (b : Bool) → Begins h (cond b h (h ++ call_entry p (height h) c (history_reply d a h p c) ∷ []))
     go true = begins_refl h
-    go false = (call_entry p (height h) c (reply_to d a h p c) ∷ [], refl)
+    go false = (call_entry p (height h) c (history_reply d a h p c) ∷ [], refl)

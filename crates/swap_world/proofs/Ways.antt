@@ -12,7 +12,7 @@ use Rattle.ledger_core.specs.History.{height}
 use Rattle.ledger_core.specs.Book.{Histories, history}
 use Rattle.swap_job.specs.declared.event.Event.{Event}
 use Rattle.swap_job.specs.declared.event.Event.TheVariants.{Tick, Look, Act}
-use Rattle.swap_run.specs.Run.{Cast, State, run_from, step}
+use Rattle.swap_run.specs.Run.{Cast, State, continued_run, step}
 use Rattle.swap_run.specs.Fair.{repeat, acts, the_horizon, tick_low, ticks, turn}
 use Rattle.swap_run.specs.Steps.{after_low, low_step, low_steps, pass_steps, tick_steps, turn_steps, IsAlong}
 use Rattle.swap_run.proofs.Along.{along_more, along_after, acts_run, pass_run}
@@ -68,7 +68,7 @@ abbrev pub over : {B : Type 0} → (State → B → State) → (State → B → 
 over f e s [] = []
 over f e s (x ∷ xs) = e s x ++ over f e (f s x) xs
 
-module _ (c : Cast) {B : Type 0} (f : State → B → State) (e : State → B → List Event) (runs : (s : State) (x : B) → run_from c s (e s x) ≡ f s x) where
+module _ (c : Cast) {B : Type 0} (f : State → B → State) (e : State → B → List Event) (runs : (s : State) (x : B) → continued_run c s (e s x) ≡ f s x) where
   -- what is on the way of one of them is on the way of all
   pub along_over : (xs : List B) (k : ℕ) (x : B) (s : State) (b : Histories) → k < length xs → x ≡ get_or xs k x
       → IsAlong c (fold f s (take k xs)) (e (fold f s (take k xs)) x) b → IsAlong c s (over f e s xs) b
@@ -99,10 +99,10 @@ module _ (c : Cast) where
       go true = refl
       go false = refl
 
-  pub low_run : (s : State) (a : ℕ) → run_from c s (low_step c.deal s.book a) ≡ tick_low c s a
+  pub low_run : (s : State) (a : ℕ) → continued_run c s (low_step c.deal s.book a) ≡ tick_low c s a
   low_run s a = go (nat_le (height (history s.book a)) (the_horizon c.deal))
     where
-      go : (y : Bool) → run_from c s (cond y (Tick a 1 ∷ []) []) ≡ cond y (step c s (Tick a 1)) s
+      go : (y : Bool) → continued_run c s (cond y (Tick a 1 ∷ []) []) ≡ cond y (step c s (Tick a 1)) s
       go true = refl
       go false = refl
 

@@ -18,19 +18,19 @@ use Rattle.swap_job.specs.declared.job.Role.{Role}
 use Rattle.swap_run.specs.Shown.{IsShown}
 use Rattle.swap_job.specs.Step.{CanStep}
 use Rattle.swap_run.specs.Asked.{Answers, with_answers}
-use Rattle.swap_run.specs.Run.{Cast, Plan, Question, State, notes_of, next_of, step, run_from}
+use Rattle.swap_run.specs.Run.{Cast, Plan, Question, State, state_notes, next_action, step, continued_run}
 use Rattle.swap_run.specs.Laws.{AreGoodNotes, IsReadyCast, IsGood, IsGoodPlan, IsKept}
 use Rattle.swap_run.specs.FairLaws.{IsReached}
 use Rattle.swap_run.proofs.Along.{along_reached}
 use Rattle.party_wallet.specs.Value.{signed_in}
 use Rattle.swap_rules.proofs.Due.{due_is_valid}
 use Rattle.swap_run.proofs.Noted.{due_now}
-use Rattle.swap_run.specs.Called.{step_on}
-use Rattle.swap_run.proofs.Good.{holds, first_in, steps_are_good, good_is_kept}
+use Rattle.swap_run.specs.Called.{apply_step}
+use Rattle.swap_run.proofs.Good.{holds, steps_are_good, good_is_kept}
 use Rattle.swap_run.proofs.Swept.{steps_on_are_good}
 use Rattle.swap_run.proofs.Plans.{plan_view}
 use Rattle.party_machine.specs.Machine.{MachineState, next_due}
-use Rattle.swap_world.specs.Value.{WorldState, answers_of, cast_at, cast_for, Continues}
+use Rattle.swap_world.specs.Value.{WorldState, world_answers, world_cast, answering_cast, Continues}
 use Rattle.swap_world.specs.Gone.{MayGive, HasGone}
 use Rattle.swap_world.specs.On.{IsCutOn}
 use Rattle.swap_world.specs.Stopped.{IsStopped}
@@ -40,9 +40,8 @@ use Rattle.swap_world.specs.declared.actor.Actor.{Actor}
 use Rattle.swap_world.specs.declared.actor.Actor.TheVariants.{Conforming, Planned}
 use Rattle.swap_world.proofs.Ledgers.{history_at}
 use Rattle.swap_world.proofs.States.{IsAt, IsPlanAt, c, s, notes_at, plan_at, next_is}
-
-abbrev pub Seeds : Type 0
-Seeds = List (Option (List ℕ))
+use Rattle.swap_rules.proofs.Cases.{first_in}
+use Rattle.swap_job.specs.Crafted.{Seeds}
 
 -- a world with that state
 abbrev pub world : Deal → List Bool → Seeds → List Role → List (Option (ℕ × Call)) → Bool → State → WorldState
@@ -101,21 +100,21 @@ pub owned : (d : Deal) (conforms : Bool) (seed : Option (List ℕ)) (role : Role
 owned d conforms seed role p m new k i = (i.0, k.deal ∙ i.1, k.me ∙ i.2, i.3 ∙ ap (λ (z : List ℕ). Some z) (sym k.seed))
 
 -- the state after an event, or as before where memory ran out, is good
-pub good_on : {A E : Type 0} (r : Result A E) (sw : ℕ → Bool) (cast : Cast) (old new : State) (e : Event) → OnOk r (new ≡ step_on sw cast old e)
+pub good_on : {A E : Type 0} (r : Result A E) (sw : ℕ → Bool) (cast : Cast) (old new : State) (e : Event) → OnOk r (new ≡ apply_step sw cast old e)
     → OnErr r (new ≡ old) → IsReadyCast cast → CanStep cast.deal cast.conforming cast.seeds e → IsGood cast old → IsGood cast new
 good_on (Ok x) sw cast old new e ok err ready can g = subst (IsGood cast) (sym ok) (steps_on_are_good sw cast old e ready can g)
 good_on (Err x) sw cast old new e ok err ready can g = subst (IsGood cast) (sym err) g
 
 -- before an event and after it every conforming party has kept its conduct
-kept_either : (sw : ℕ → Bool) (cast : Cast) (old : State) (b : Histories) (e : Event) → (b ≡ old.book) ⊎ (b ≡ (step_on sw cast old e).book)
+kept_either : (sw : ℕ → Bool) (cast : Cast) (old : State) (b : Histories) (e : Event) → (b ≡ old.book) ⊎ (b ≡ (apply_step sw cast old e).book)
     → IsReadyCast cast → CanStep cast.deal cast.conforming cast.seeds e → IsGood cast old → IsKept cast b
 kept_either sw cast old b e (inl h) ready can g = subst (IsKept cast) (sym h) (good_is_kept cast old ready g)
 kept_either sw cast old b e (inr h) ready can g =
-    subst (IsKept cast) (sym h) (good_is_kept cast (step_on sw cast old e) ready (steps_on_are_good sw cast old e ready can g))
+    subst (IsKept cast) (sym h) (good_is_kept cast (apply_step sw cast old e) ready (steps_on_are_good sw cast old e ready can g))
 
 -- whether memory ran out or not, every conforming party has kept its conduct
-pub kept_on : {A E : Type 0} (r : Result A E) (sw : ℕ → Bool) (cast : Cast) (old new : State) (e : Event) → OnOk r (new ≡ step_on sw cast old e)
-    → OnErr r ((new.book ≡ old.book) ⊎ (new.book ≡ (step_on sw cast old e).book)) → IsReadyCast cast
+pub kept_on : {A E : Type 0} (r : Result A E) (sw : ℕ → Bool) (cast : Cast) (old new : State) (e : Event) → OnOk r (new ≡ apply_step sw cast old e)
+    → OnErr r ((new.book ≡ old.book) ⊎ (new.book ≡ (apply_step sw cast old e).book)) → IsReadyCast cast
     → CanStep cast.deal cast.conforming cast.seeds e → IsGood cast old
     → IsKept cast new.book
 kept_on (Ok x) sw cast old new e ok err ready can g =
@@ -157,34 +156,34 @@ module _ (c : Cast) (g : Answers) where
 
   -- an event leaves a good state good, whatever is answered
   pub good_step : (sw : ℕ → Bool) (s : State) (e : Event) → IsReadyCast c → CanStep c.deal c.conforming c.seeds e → IsGood c s
-      → IsGood c (step_on sw (with_answers c g) s e)
+      → IsGood c (apply_step sw (with_answers c g) s e)
   good_step sw s e ready can k =
-      good_of_any (step_on sw (with_answers c g) s e) (steps_on_are_good sw (with_answers c g) s e (ready_for ready) can (good_for s k))
+      good_of_any (apply_step sw (with_answers c g) s e) (steps_on_are_good sw (with_answers c g) s e (ready_for ready) can (good_for s k))
 
   pub kept_step : (sw : ℕ → Bool) (s : State) (e : Event) → IsReadyCast c → CanStep c.deal c.conforming c.seeds e → IsGood c s
-      → IsKept c (step_on sw (with_answers c g) s e).book
-  kept_step sw s e ready can k = good_is_kept c (step_on sw (with_answers c g) s e) ready (good_step sw s e ready can k)
+      → IsKept c (apply_step sw (with_answers c g) s e).book
+  kept_step sw s e ready can k = good_is_kept c (apply_step sw (with_answers c g) s e) ready (good_step sw s e ready can k)
 
 -- the same of a world after a step
-pub kept_by : {A E : Type 0} (r : Result A E) (gives : MayGive) (sw : ℕ → Bool) (old new : WorldState) (e : Event)
-    → OnOk r (HasGone gives (λ c s. step_on sw c s e) old new)
-    → OnErr r (IsCutOn gives sw e old new) → IsReadyCast (cast_at old) → CanStep old.deal old.conforming old.seeds e → IsGood (cast_at old) old.state
-    → IsKept (cast_at new) new.state.book
-kept_by (Ok x) gives sw old new e ok cut ready can k =
-    subst (λ c. IsKept c new.state.book) (sym (ap cast_at ok.same))
-    (subst (λ (s : State). IsKept (cast_at old) s.book) (sym (ok.state (answers_of new) (λ i l. refl)))
-    (kept_step (cast_at old) (answers_of new) sw old.state e ready can k))
-kept_by (Err x) gives sw old new e ok cut ready can k = subst (λ c. IsKept c new.state.book) (sym cut.cast) (by cut.book)
+pub collect_kept : {A E : Type 0} (r : Result A E) (gives : MayGive) (sw : ℕ → Bool) (old new : WorldState) (e : Event)
+    → OnOk r (HasGone gives (λ c s. apply_step sw c s e) old new)
+    → OnErr r (IsCutOn gives sw e old new) → IsReadyCast (world_cast old) → CanStep old.deal old.conforming old.seeds e → IsGood (world_cast old) old.state
+    → IsKept (world_cast new) new.state.book
+collect_kept (Ok x) gives sw old new e ok cut ready can k =
+    subst (λ c. IsKept c new.state.book) (sym (ap world_cast ok.same))
+    (subst (λ (s : State). IsKept (world_cast old) s.book) (sym (ok.state (world_answers new) (λ i l. refl)))
+    (kept_step (world_cast old) (world_answers new) sw old.state e ready can k))
+collect_kept (Err x) gives sw old new e ok cut ready can k = subst (λ c. IsKept c new.state.book) (sym cut.cast) (by cut.book)
   where
-    by : (new.state.book ≡ old.state.book) ⊎ ((g : Answers) → Continues new g → new.state.book ≡ (step_on sw (cast_for old g) old.state e).book)
-        → IsKept (cast_at old) new.state.book
-    by (inl h) = subst (IsKept (cast_at old)) (sym h) (good_is_kept (cast_at old) old.state ready k)
+    by : (new.state.book ≡ old.state.book) ⊎ ((g : Answers) → Continues new g → new.state.book ≡ (apply_step sw (answering_cast old g) old.state e).book)
+        → IsKept (world_cast old) new.state.book
+    by (inl h) = subst (IsKept (world_cast old)) (sym h) (good_is_kept (world_cast old) old.state ready k)
     by (inr h) =
-        subst (IsKept (cast_at old)) (sym (h (answers_of new) (λ i l. refl))) (kept_step (cast_at old) (answers_of new) sw old.state e ready can k)
+        subst (IsKept (world_cast old)) (sym (h (world_answers new) (λ i l. refl))) (kept_step (world_cast old) (world_answers new) sw old.state e ready can k)
 
 -- every state that events lead to from a good one is good
 reached_good : (c : Cast) (s : State) (events : List Event) → IsReadyCast c → All (CanStep c.deal c.conforming c.seeds) events → IsGood c s
-    → IsGood c (run_from c s events)
+    → IsGood c (continued_run c s events)
 reached_good c s [] ready can g = g
 reached_good c s (e ∷ events) ready can g =
     reached_good c (step c s e) events ready (All-tail (CanStep c.deal c.conforming c.seeds) e events can)
@@ -199,22 +198,22 @@ reached_kept_for c g s t ready k r = kept_of_any c g t.book (reached_kept (with_
 -- the same of a world that went where f leads, or stopped on the way along steps that can be taken
 pub kept_to : {A E : Type 0} (r : Result A E) (gives : MayGive) (f : Cast → State → State) (e : Cast → State → List Event) (old new : WorldState)
     → OnOk r (HasGone gives f old new) → OnErr r (IsStopped gives e old new)
-    → ((g : Answers) → IsReached (cast_for old g) old.state (f (cast_for old g) old.state))
-    → ((g : Answers) → All (CanStep old.deal old.conforming old.seeds) (e (cast_for old g) old.state))
-    → IsReadyCast (cast_at old) → IsGood (cast_at old) old.state → IsKept (cast_at new) new.state.book
+    → ((g : Answers) → IsReached (answering_cast old g) old.state (f (answering_cast old g) old.state))
+    → ((g : Answers) → All (CanStep old.deal old.conforming old.seeds) (e (answering_cast old g) old.state))
+    → IsReadyCast (world_cast old) → IsGood (world_cast old) old.state → IsKept (world_cast new) new.state.book
 kept_to (Ok x) gives f e old new ok err leads can ready k =
-    let g = answers_of new in
-    subst (λ c. IsKept c new.state.book) (sym (ap cast_at ok.same))
-    (subst (λ (s : State). IsKept (cast_at old) s.book) (sym (ok.state g (λ i l. refl)))
-    (reached_kept_for (cast_at old) g old.state (f (cast_for old g) old.state) ready k (leads g)))
+    let g = world_answers new in
+    subst (λ c. IsKept c new.state.book) (sym (ap world_cast ok.same))
+    (subst (λ (s : State). IsKept (world_cast old) s.book) (sym (ok.state g (λ i l. refl)))
+    (reached_kept_for (world_cast old) g old.state (f (answering_cast old g) old.state) ready k (leads g)))
 kept_to (Err x) gives f e old new ok err leads can ready k =
-    let g = answers_of new in
-    let c = cast_for old g in
+    let g = world_answers new in
+    let c = answering_cast old g in
     let way = err.book g (λ i l. refl) in
     let events = e c old.state in
     subst (λ c. IsKept c new.state.book) (sym err.cast)
-    (subst (IsKept (cast_at old)) (sym way.book)
-    (reached_kept_for (cast_at old) g old.state (run_from c old.state (take way.count events)) ready k
+    (subst (IsKept (world_cast old)) (sym way.book)
+    (reached_kept_for (world_cast old) g old.state (continued_run c old.state (take way.count events)) ready k
     (along_reached c old.state events new.state.book (can g) way)))
 
 -- what follows from two facts that stand where memory sufficed
@@ -224,7 +223,7 @@ both (Err e) f p q = tt
 
 -- the state after an act that didn't run out of memory is good
 pub good_unless : {A E : Type 0} (r : Result A E) (stopped : Bool) (sw : ℕ → Bool) (cast : Cast) (old new : State) (e : Event) → stopped ≡ is_err r
-    → stopped ≡ false → OnOk r (new ≡ step_on sw cast old e) → IsReadyCast cast → CanStep cast.deal cast.conforming cast.seeds e → IsGood cast old
+    → stopped ≡ false → OnOk r (new ≡ apply_step sw cast old e) → IsReadyCast cast → CanStep cast.deal cast.conforming cast.seeds e → IsGood cast old
     → IsGood cast new
 good_unless (Ok x) stopped sw cast old new e is goes_on ok ready can g = subst (IsGood cast) (sym ok) (steps_on_are_good sw cast old e ready can g)
 good_unless (Err x) stopped sw cast old new e is goes_on ok ready can g = absurd (false≢true (sym goes_on ∙ is))
@@ -273,10 +272,10 @@ module _ (d : Deal) (conforming : List Bool) (seeds : List (Option (List ℕ))) 
   makable x e =
       let cast = c d conforming seeds roles qs ls xs in
       let before = s d conforming seeds roles qs ls xs in
-      let next : next_of cast before p ≡ Some x = next_is d conforming seeds roles qs ls xs p m i ∙ e in
+      let next : next_action cast before p ≡ Some x = next_is d conforming seeds roles qs ls xs p m i ∙ e in
       let is =
-      due_now d before.book (notes_of before p) p (cast.wallet p) x (ready.wallets p below i.is.0) ready.accepted
-      (first_in (due d p (cast.wallet p) (signed_in (notes_of before p).signed) (notes_of before p).known) x next)
+      due_now d before.book (state_notes before p) p (cast.wallet p) x (ready.wallets p below i.is.0) ready.accepted
+      (first_in (due d p (cast.wallet p) (signed_in (state_notes before p).signed) (state_notes before p).known) x next)
       (holds cast before p (good.notes p below i.is.0)) in
       subst (λ e. IsMakable e m.me x) (sym i.is.1) (subst (λ v. IsMakable d v x) (sym i.is.2) (record {
         arc = is.below;

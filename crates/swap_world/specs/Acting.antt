@@ -14,7 +14,7 @@ use Rattle.ledger_core.specs.Ledger.{after_call}
 use Rattle.swap_run.specs.Run.{Plan, Question, plan_up_to, signed_after, after_tick}
 use Rattle.swap_run.specs.Called.{is_barred}
 use Rattle.party_machine.specs.Machine.{MachineState}
-use Rattle.swap_world.specs.On.{told_by}
+use Rattle.swap_world.specs.On.{parse_told}
 use Rattle.swap_world.specs.declared.told.Told.{Told}
 use Rattle.swap_world.specs.declared.told.Told.TheVariants.{Nothing}
 
@@ -40,14 +40,14 @@ abbrev pub landed : (swept : Bool) → Deal → (a p : ℕ) → Call → List En
 landed swept d a p c h = if is_barred swept h c then h else after_call d a p c h
 
 -- the histories after a call of the machine, if any
-abbrev pub book_after : (ℕ → Bool) → MachineState → Option Action → Histories → Histories
-book_after swept m None b = b
-book_after swept m (Some x) b = slice_set b x.arc (landed (swept x.arc) m.deal x.arc m.me x.call (history b x.arc))
+abbrev pub next_book : (ℕ → Bool) → MachineState → Option Action → Histories → Histories
+next_book swept m None b = b
+next_book swept m (Some x) b = slice_set b x.arc (landed (swept x.arc) m.deal x.arc m.me x.call (history b x.arc))
 
 -- the machine after its call, if any: it notes what it signed, and knows the ledger up to its end
-abbrev pub machine_after : (ℕ → Bool) → MachineState → Option Action → Histories → MachineState
-machine_after swept m None b = m
-machine_after swept m (Some x) b = record {
+abbrev pub next_machine : (ℕ → Bool) → MachineState → Option Action → Histories → MachineState
+next_machine swept m None b = m
+next_machine swept m (Some x) b = record {
   deal = m.deal;
   me = m.me;
   seed = m.seed;
@@ -56,9 +56,9 @@ machine_after swept m (Some x) b = record {
 }
 
 -- what the machine's party is told
-abbrev pub told_of : (ℕ → Bool) → MachineState → Option Action → Histories → Told
-told_of swept m None b = Nothing
-told_of swept m (Some x) b = told_by (swept x.arc) m.deal x.arc m.me x.call (history b x.arc)
+abbrev pub build_told : (ℕ → Bool) → MachineState → Option Action → Histories → Told
+build_told swept m None b = Nothing
+build_told swept m (Some x) b = parse_told (swept x.arc) m.deal x.arc m.me x.call (history b x.arc)
 
 -- the histories after a call of party v that doesn't conform, if any
 abbrev pub taken : (ℕ → Bool) → Deal → ℕ → Option (ℕ × Call) → Histories → Histories
@@ -73,15 +73,15 @@ seen swept d v (Some x) b n = plan_up_to n x.0 (landed (swept x.0) d x.0 v x.1 (
 -- what party v is told
 abbrev pub told_to : (ℕ → Bool) → Deal → ℕ → Option (ℕ × Call) → Histories → Told
 told_to swept d v None b = Nothing
-told_to swept d v (Some x) b = told_by (swept x.0) d x.0 v x.1 (history b x.0)
+told_to swept d v (Some x) b = parse_told (swept x.0) d x.0 v x.1 (history b x.0)
 
 -- the plan of a party that has asked its strategy once more
 abbrev pub asked_once : Plan → Plan
 asked_once n = record n { turns = n.turns + 1 }
 
 -- what party v asks the strategy of that name, with that plan
-abbrev pub question_of : List ℕ → ℕ → Plan → Question
-question_of name v n = record { strategy = name; party = v; turn = n.turns; known = n.known }
+abbrev pub answer_question : List ℕ → ℕ → Plan → Question
+answer_question name v n = record { strategy = name; party = v; turn = n.turns; known = n.known }
 
 -- the plan of a party that has acted once more by its script
 abbrev pub turned : Plan → Plan

@@ -6,7 +6,7 @@ use Rattle.swap_base.specs.declared.fault.Fault.{Fault}
 use Rattle.swap_base.specs.declared.fault.Fault.TheVariants.{Refused, NoMemory}
 use Rattle.swap_digraph.specs.declared.deal.Deal.{Deal}
 use Rattle.swap_job.specs.Fitting.{IsMoveOf}
-use Rattle.swap_job.specs.Roles.{IsHeld, role_in, is_conforming, script_of}
+use Rattle.swap_job.specs.Roles.{IsHeld, job_role, is_conforming, role_script}
 use Rattle.swap_job.specs.declared.job.Job.{Job}
 use Rattle.swap_job.specs.declared.job.Role.{Role}
 use Rattle.swap_job.specs.declared.job.Role.TheVariants as kinds
@@ -26,7 +26,7 @@ pub record ConformingHaveSeeds (job : Job) : Type 0 where
 -- Each party has a role, that of a conforming one exactly where it conforms, and the moves of a script are its party's.
 pub record HaveRoles (job : Job) : Type 0 where
   pub conforming : job.conforming ≡ map is_conforming job.roles
-  pub scripts : (p : ℕ) → p < job.deal.graph.n → All (IsMoveOf job.deal job.seeds p) (script_of (role_in job p))
+  pub scripts : (p : ℕ) → p < job.deal.graph.n → All (IsMoveOf job.deal job.seeds p) (role_script (job_role job p))
 
 -- each strategy that a role follows is held
 abbrev pub AreHeld : (List ℕ → Bool) → List Role → Type 0
@@ -39,37 +39,37 @@ by_role d (kinds.Strategy name) = Planned (first_plan d (kinds.Strategy name))
 by_role d _ = Manual
 
 -- what acts with the seed of party p, where there is one
-abbrev pub acts_with : Deal → Role → ℕ → Option (List ℕ) → Actor
-acts_with d role p None = by_role d role
-acts_with d role p (Some seed) = Conforming (new_machine d p seed)
+abbrev pub role_actor : Deal → Role → ℕ → Option (List ℕ) → Actor
+role_actor d role p None = by_role d role
+role_actor d role p (Some seed) = Conforming (new_machine d p seed)
 
 -- what acts for party p, where its wallet is right
-abbrev pub acts_for : Job → ℕ → Actor
-acts_for job p =
-    if slice_index_or job.conforming p false then acts_with job.deal (role_in job p) p (slice_index_or job.seeds p None)
-    else by_role job.deal (role_in job p)
+abbrev pub job_actor : Job → ℕ → Actor
+job_actor job p =
+    if slice_index_or job.conforming p false then role_actor job.deal (job_role job p) p (slice_index_or job.seeds p None)
+    else by_role job.deal (job_role job p)
 
 -- what acts for each party
 abbrev pub team : Job → List Actor
-team job = map (acts_for job) (range_with_len 0 job.deal.graph.n)
+team job = map (job_actor job) (range_with_len 0 job.deal.graph.n)
 
 abbrev pub wrong_with : Deal → ℕ → Option (List ℕ) → Option ℕ
 wrong_with d p None = None
 wrong_with d p (Some seed) = wrong_lock d p seed
 
 -- the least lock for which the seed of party p lacks what the deal states, where p conforms
-abbrev pub wrong_for : Job → ℕ → Option ℕ
-wrong_for job p = if slice_index_or job.conforming p false then wrong_with job.deal p (slice_index_or job.seeds p None) else None
+abbrev pub mismatched_lock : Job → ℕ → Option ℕ
+mismatched_lock job p = if slice_index_or job.conforming p false then wrong_with job.deal p (slice_index_or job.seeds p None) else None
 
 -- every wallet is right
 abbrev pub AllFit : Job → Type 0
-AllFit job = (p : ℕ) → p < job.deal.graph.n → wrong_for job p ≡ None
+AllFit job = (p : ℕ) → p < job.deal.graph.n → mismatched_lock job p ≡ None
 
 -- Party and lock are the first for which a wallet is wrong.
 pub record IsFirstWrong (job : Job) (w : WrongWallet) : Type 0 where
   pub party : w.party < job.deal.graph.n
-  pub lock : wrong_for job w.party ≡ Some w.lock
-  pub before : (p : ℕ) → p < w.party → wrong_for job p ≡ None
+  pub lock : mismatched_lock job w.party ≡ Some w.lock
+  pub before : (p : ℕ) → p < w.party → mismatched_lock job p ≡ None
 
 -- what is told of the first wallet that is wrong
 abbrev pub IsFirstOf : Job → Fault WrongWallet → Type 0

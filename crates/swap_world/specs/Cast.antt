@@ -5,18 +5,18 @@ use Rattle.swap_job.specs.Crafted.{Seeds}
 use Rattle.swap_job.specs.declared.job.Job.{Job}
 use Rattle.swap_job.specs.declared.job.Role.{Role}
 use Rattle.swap_rules.specs.Due.{Wallet}
-use Rattle.party_machine.specs.Wallet.{wallet_of}
-use Rattle.swap_run.specs.Run.{Cast, conforms, role_of}
+use Rattle.party_machine.specs.Wallet.{seed_wallet}
+use Rattle.swap_run.specs.Run.{Cast, conforms, party_role}
 use Rattle.swap_run.specs.Asked.{is_strategy}
 
 -- what party v signs with; that of a party without a seed is never used
 abbrev pub wallet_with : Option (List ℕ) → ℕ → Deal → Wallet
-wallet_with (Some seed) v d = wallet_of seed v d
-wallet_with None v d = wallet_of [] v d
+wallet_with (Some seed) v d = seed_wallet seed v d
+wallet_with None v d = seed_wallet [] v d
 
 -- the parties that conform sign with their seeds
-abbrev pub cast_with : Deal → List Bool → Seeds → List Role → Cast
-cast_with d conforming seeds roles = record {
+abbrev pub made_cast : Deal → List Bool → Seeds → List Role → Cast
+made_cast d conforming seeds roles = record {
   deal = d;
   conforming = conforming;
   wallet = λ v. wallet_with (slice_index_or seeds v None) v d;
@@ -26,9 +26,9 @@ cast_with d conforming seeds roles = record {
 }
 
 -- who takes part in a job's run
-abbrev pub cast_of : Job → Cast
-cast_of job = cast_with job.deal job.conforming job.seeds job.roles
+abbrev pub job_cast : Job → Cast
+job_cast job = made_cast job.deal job.conforming job.seeds job.roles
 
 -- party v asks a strategy when it acts: it follows one, and doesn't conform
 abbrev pub asks : Cast → ℕ → Bool
-asks c v = if conforms c v then false else is_strategy (role_of c v)
+asks c v = if conforms c v then false else is_strategy (party_role c v)

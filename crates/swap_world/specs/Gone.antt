@@ -7,7 +7,7 @@ use Rattle.ledger_core.specs.Book.{Histories}
 use Rattle.swap_job.specs.declared.event.Event.{Event}
 use Rattle.swap_run.specs.Run.{Cast, Question, State, step}
 use Rattle.swap_run.specs.Asked.{Answers}
-use Rattle.swap_world.specs.Value.{WorldState, cast_at, cast_for, Continues}
+use Rattle.swap_world.specs.Value.{WorldState, world_cast, answering_cast, Continues}
 
 -- what the strategy of a name may answer, by deal, party, turn number and what the party knows
 abbrev pub MayGive : Type 1
@@ -34,13 +34,13 @@ pub record HasAsked (gives : MayGive) (old new : WorldState) : Type 0 where
 pub record HasGone (gives : MayGive) (f : Cast → State → State) (old new : WorldState) : Type 0 where
   pub asked : HasAsked gives old new
   pub same : new ≡ record old { answers = new.answers; state = new.state }
-  pub state : (g : Answers) → Continues new g → new.state ≡ f (cast_for old g) old.state
+  pub state : (g : Answers) → Continues new g → new.state ≡ f (answering_cast old g) old.state
 
 -- Memory ran out on the way to where f leads: the histories are those before it or after it.
 pub record IsCutBy (gives : MayGive) (f : Cast → State → State) (old new : WorldState) : Type 0 where
-  pub cast : cast_at new ≡ cast_at old
+  pub cast : world_cast new ≡ world_cast old
   pub asked : HasAsked gives old new
-  pub book : (new.state.book ≡ old.state.book) ⊎ ((g : Answers) → Continues new g → new.state.book ≡ (f (cast_for old g) old.state).book)
+  pub book : (new.state.book ≡ old.state.book) ⊎ ((g : Answers) → Continues new g → new.state.book ≡ (f (answering_cast old g) old.state).book)
 
 -- memory ran out in an event: the histories are those before it or after it
 abbrev pub IsCut : MayGive → Event → (old new : WorldState) → Type 0

@@ -8,8 +8,8 @@ use Rattle.swap_job.specs.declared.job.Role.{Role}
 use Rattle.swap_job.specs.declared.job.Role.TheVariants as kinds
 use Rattle.swap_run.specs.Run.{Cast, Notes, Plan, Question, State, no_notes, first_plan, is_planned}
 use Rattle.swap_run.specs.Laws.{IsReadyCast, IsGood, IsKept}
-use Rattle.swap_world.specs.Cast.{cast_with}
-use Rattle.swap_world.specs.Acting.{question_of}
+use Rattle.swap_world.specs.Cast.{made_cast}
+use Rattle.swap_world.specs.Acting.{answer_question}
 use Rattle.swap_world.specs.Journals.{AreDisksOf, AreJournalsOf}
 use Rattle.swap_world.specs.Value.{WorldState}
 use Rattle.swap_world.specs.declared.actor.Actor.{Actor}
@@ -35,10 +35,10 @@ name_in _ = []
 abbrev pub questions_in : List Role → List ℕ → List Plan → List Question
 questions_in roles [] ns = []
 questions_in roles (p ∷ ps) [] = []
-questions_in roles (p ∷ ps) (n ∷ ns) = question_of (name_in (slice_index_or roles p kinds.Manual)) p n ∷ questions_in roles ps ns
+questions_in roles (p ∷ ps) (n ∷ ns) = answer_question (name_in (slice_index_or roles p kinds.Manual)) p n ∷ questions_in roles ps ns
 
-abbrev pub cast_in : Inside → Cast
-cast_in w = cast_with w.deal w.conforming w.seeds w.roles
+abbrev pub inside_cast : Inside → Cast
+inside_cast w = made_cast w.deal w.conforming w.seeds w.roles
 
 abbrev pub asked_in : Inside → List Question
 asked_in w = questions_in w.roles w.askers.items w.told.items
@@ -51,8 +51,8 @@ state_in w = record {
   asked = asked_in w;
 }
 
-abbrev pub world_in : Inside → WorldState
-world_in w = record {
+abbrev pub inside_world : Inside → WorldState
+inside_world w = record {
   deal = w.deal;
   conforming = w.conforming;
   seeds = w.seeds;
@@ -110,14 +110,14 @@ pub record AreActorsOf (d : Deal) (conforming : List Bool) (seeds : List (Option
       → IsActorOf d (slice_index_or conforming v false) (slice_index_or seeds v None) (slice_index_or roles v kinds.Manual) v x
 
 pub record Holds (w : Inside) : Type 0 where
-  pub ready : IsReadyCast (cast_in w)
+  pub ready : IsReadyCast (inside_cast w)
   pub ledgers : AreLedgersOf w.deal w.ledgers.items
   pub actors : AreActorsOf w.deal w.conforming w.seeds w.roles w.actors.items
   pub askers : length w.askers.items ≡ length w.answers.items
   pub told : length w.told.items ≡ length w.answers.items
-  pub good : w.stopped ≡ false → IsGood (cast_in w) (state_in w)
+  pub good : w.stopped ≡ false → IsGood (inside_cast w) (state_in w)
   pub room : w.stopped ≡ false → HaveRoom w.ledgers.items
   pub journals : w.stopped ≡ false → AreJournalsOf w.deal w.actors.items w.journals.items
   pub disks : w.stopped ≡ true → AreDisksOf w.deal (state_in w).book w.actors.items w.journals.items
   -- also where memory ran out
-  pub kept : IsKept (cast_in w) (state_in w).book
+  pub kept : IsKept (inside_cast w) (state_in w).book

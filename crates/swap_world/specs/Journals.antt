@@ -7,7 +7,7 @@ use Rattle.ledger_core.specs.Book.{Histories, history}
 use Rattle.swap_job.specs.Fitting.{is_near}
 use Rattle.ledger_core.specs.declared.entry.Call.TheVariants.{Unlock}
 use Rattle.swap_base.specs.Lists.{IsMoment}
-use Rattle.swap_rules.specs.Party.{call_by}
+use Rattle.swap_rules.specs.Party.{pick_call}
 use Rattle.party_wallet.specs.Value.{signed_in}
 use Rattle.wallet_journal.specs.Held.{Held, Leaves}
 use Rattle.wallet_journal.specs.Layout.{recorded}
@@ -50,7 +50,7 @@ pub record IsBetween (before after : List (Option Hashkey)) (h : Held) : Type 0 
 pub record IsDiskOf (d : Deal) (v : ℕ) (b : Histories) (signed : List (Option Hashkey)) (h : Held) : Type 0 where
   pub places : length signed ≡ length d.leaders
   pub only : (i : ℕ) (key : Hashkey) → i < length signed → (c : List ℕ) → Leaves h c → recorded c i ≡ Some key → signed_in signed i ≡ Some key
-  pub calls : (a : ℕ) (past : List Entry) (e : Entry) (key : Hashkey) → IsMoment (history b a) past e → call_by v e ≡ Some (Unlock key)
+  pub calls : (a : ℕ) (past : List Entry) (e : Entry) (key : Hashkey) → IsMoment (history b a) past e → pick_call v e ≡ Some (Unlock key)
       → (c : List ℕ) → Leaves h c → recorded c key.lock ≡ Some key
 
 abbrev pub IsSomeDisk : Deal → ℕ → Histories → List (Option Hashkey) → Option (JournalState DiskState) → Type 0

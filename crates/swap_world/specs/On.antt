@@ -3,12 +3,12 @@ use Rattle.std.specs.Prelude.{ℕ, Bool, false, List, fold, slice_index_or, Opti
 use Rattle.swap_digraph.specs.declared.deal.Deal.{Deal}
 use Rattle.ledger_core.specs.declared.entry.Call.{Call}
 use Rattle.ledger_core.specs.declared.entry.Entry.{Entry}
-use Rattle.ledger_core.specs.History.{reply_to}
+use Rattle.ledger_core.specs.History.{history_reply}
 use Rattle.ledger_core.specs.Book.{history}
 use Rattle.swap_job.specs.declared.event.Event.{Event}
 use Rattle.swap_job.specs.declared.event.Event.TheVariants.{Tick}
 use Rattle.swap_run.specs.Run.{Cast, State, step}
-use Rattle.swap_run.specs.Called.{Called, called, is_barred, step_on}
+use Rattle.swap_run.specs.Called.{Called, called, is_barred, apply_step}
 use Rattle.swap_world.specs.Value.{WorldState}
 use Rattle.swap_world.specs.Gone.{MayGive, IsCutBy}
 use Rattle.swap_world.specs.declared.told.Told.{Told}
@@ -19,21 +19,21 @@ abbrev pub swept_in : List Bool → ℕ → Bool
 swept_in swept a = slice_index_or swept a false
 
 -- what party p is told of its call on arc a, over that history
-abbrev pub told_by : (swept : Bool) → Deal → (a p : ℕ) → Call → List Entry → Told
-told_by swept d a p c h = if is_barred swept h c then Passed else Replied (reply_to d a h p c)
+abbrev pub parse_told : (swept : Bool) → Deal → (a p : ℕ) → Call → List Entry → Told
+parse_told swept d a p c h = if is_barred swept h c then Passed else Replied (history_reply d a h p c)
 
 -- the same of a call, if there is one
 abbrev pub told_of_call : (ℕ → Bool) → Cast → State → Option Called → Told
 told_of_call swept c s None = Nothing
-told_of_call swept c s (Some x) = told_by (swept x.arc) c.deal x.arc x.sender x.call (history s.book x.arc)
+told_of_call swept c s (Some x) = parse_told (swept x.arc) c.deal x.arc x.sender x.call (history s.book x.arc)
 
 -- what a party is told of the call that an event makes, if any
-abbrev pub told_in : (ℕ → Bool) → Cast → State → Event → Told
-told_in swept c s e = told_of_call swept c s (called c s e)
+abbrev pub tell_entries : (ℕ → Bool) → Cast → State → Event → Told
+tell_entries swept c s e = told_of_call swept c s (called c s e)
 
 -- Memory ran out in an event: the histories are those before it or after it.
 abbrev pub IsCutOn : MayGive → (swept : ℕ → Bool) → Event → (old new : WorldState) → Type 0
-IsCutOn gives swept event old new = IsCutBy gives (λ c s. step_on swept c s event) old new
+IsCutOn gives swept event old new = IsCutBy gives (λ c s. apply_step swept c s event) old new
 
 -- the ledger of arc a ticks by k
 abbrev pub tick_at : ℕ → Cast → State → ℕ → State

@@ -9,7 +9,7 @@ use Rattle.swap_rules.specs.Machine.{Begins}
 use Rattle.swap_rules.specs.Rest.{are_ticks}
 use Rattle.party_machine.specs.Machine.{MachineState}
 use Rattle.party_machine.specs.Rest.{IsAtRest}
-use Rattle.swap_run.specs.Run.{Cast, State, conforms, role_of, is_planned, notes_of}
+use Rattle.swap_run.specs.Run.{Cast, State, conforms, party_role, is_planned, state_notes}
 use Rattle.swap_run.specs.Quiet.{IsIdle}
 use Rattle.swap_world.specs.declared.actor.Actor.{Actor}
 use Rattle.swap_world.specs.declared.actor.Actor.TheVariants.{Conforming, Planned, Manual}
@@ -28,9 +28,9 @@ AreRaised n b after = (a : ℕ) → a < length b → IsRaised n (history b a) (h
 -- Nobody makes a call in the next n rounds, where ticks alone come between them, which raise each ledger by at most one height a round.
 pub record IsStill (c : Cast) (n : ℕ) (s : State) : Type 0 where
   pub noted : length s.notes ≡ c.deal.graph.n
-  pub plain : (v : ℕ) → v < c.deal.graph.n → conforms c v ≡ false → is_planned (role_of c v) ≡ false
+  pub plain : (v : ℕ) → v < c.deal.graph.n → conforms c v ≡ false → is_planned (party_role c v) ≡ false
   pub idle : (i : ℕ) (b : Histories) → i < n → AreRaised i s.book b → (v : ℕ) → v < c.deal.graph.n → conforms c v ≡ true
-      → IsIdle c b v (notes_of s v)
+      → IsIdle c b v (state_notes s v)
 
 -- of the entries after those that were seen all are ticks, and n further ticks by 1 don't bring the ledger above that height
 pub record IsLow (seen until n : ℕ) (h : List Entry) : Type 0 where

@@ -6,7 +6,7 @@ use Rattle.swap_job.specs.declared.job.Job.{Job}
 use Rattle.swap_job.specs.declared.job.Role.{Role}
 use Rattle.swap_run.specs.Run.{Cast, State, start}
 use Rattle.swap_run.specs.Asked.{Answers, with_answers}
-use Rattle.swap_world.specs.Cast.{cast_with, cast_of}
+use Rattle.swap_world.specs.Cast.{made_cast, job_cast}
 
 pub record WorldState : Type 0 where
   pub deal : Deal
@@ -23,16 +23,16 @@ pub record WorldState : Type 0 where
   pub stopped : Bool
 
 -- who takes part, but for what strategies answer
-abbrev pub cast_at : WorldState → Cast
-cast_at w = cast_with w.deal w.conforming w.seeds w.roles
+abbrev pub world_cast : WorldState → Cast
+world_cast w = made_cast w.deal w.conforming w.seeds w.roles
 
 -- who takes part, where strategies answer g
-abbrev pub cast_for : WorldState → Answers → Cast
-cast_for w g = with_answers (cast_at w) g
+abbrev pub answering_cast : WorldState → Answers → Cast
+answering_cast w g = with_answers (world_cast w) g
 
 -- the answers so far, and none after them
-abbrev pub answers_of : WorldState → Answers
-answers_of w = λ k. slice_index_or w.answers k None
+abbrev pub world_answers : WorldState → Answers
+world_answers w = λ k. slice_index_or w.answers k None
 
 -- the answers begin with those so far
 abbrev pub Continues : WorldState → Answers → Type 0
@@ -46,6 +46,6 @@ new_world job = record {
   seeds = job.seeds;
   roles = job.roles;
   answers = [];
-  state = start (cast_of job);
+  state = start (job_cast job);
   stopped = false;
 }

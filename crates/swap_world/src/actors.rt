@@ -2,8 +2,8 @@
 
 ghost use Rattle.std.specs.Prelude.{◌≡◌, ◌<◌, ◌++◌, ◌∷◌, [], None, IfOk, IfSome, OnOk, length};
 ghost use Rattle.swap_digraph.specs.Deal.{IsWellSized};
-ghost use Rattle.party_wallet.specs.Wallets.{wallet_for, wallets_of};
-ghost use Rattle.swap_world.specs.Actors.{acts_for, by_role, team, wrong_for, AllFit, IsFirstWrong};
+ghost use Rattle.party_wallet.specs.Wallets.{job_wallet, new_wallets};
+ghost use Rattle.swap_world.specs.Actors.{job_actor, by_role, team, mismatched_lock, AllFit, IsFirstWrong};
 
 use crate::actor::Actor;
 use party_machine::Machine;
@@ -25,11 +25,11 @@ pub struct WrongWallet {
 pub type WorldFault = Fault<WrongWallet>;
 
 /// The least lock for which a party's wallet lacks what the deal states, where it has one.
-fn wrong_in(job: &Job, p: PartyId, wallet: &Option<Wallet>) -> Option<LockId>
+fn find_wrong_lock(job: &Job, p: PartyId, wallet: &Option<Wallet>) -> Option<LockId>
     requires sized { IsWellSized job.now.deal }
     requires party { p < job.now.deal.graph.n }
-    requires wallet { wallet.now ≡ wallet_for job.now.deal job.now.conforming job.now.seeds p }
-    ensures { result ≡ wrong_for job.now p }
+    requires wallet { wallet.now ≡ job_wallet job.now.deal job.now.conforming job.now.seeds p }
+    ensures { result ≡ mismatched_lock job.now p }
 {
     match wallet {
         Some(wallet) => wallet.wrong_lock(&job.deal),
@@ -41,12 +41,12 @@ fn wrong_in(job: &Job, p: PartyId, wallet: &Option<Wallet>) -> Option<LockId>
 /// seed is another.
 pub fn wrong_wallet(job: &Job, wallets: &[Option<Wallet>]) -> Option<WrongWallet>
     requires sized { IsWellSized job.now.deal }
-    requires wallets { wallets.now ≡ wallets_of job.now.deal job.now.conforming job.now.seeds }
+    requires wallets { wallets.now ≡ new_wallets job.now.deal job.now.conforming job.now.seeds }
     ensures first { IfSome result (IsFirstWrong job.now) }
     ensures fit { result ≡ None → AllFit job.now }
 {
     'parties: for p in 0..job.deal.graph.n() {
-        if let Some(lock) = wrong_in(job, p, &wallets[p as usize]) {
+        if let Some(lock) = find_wrong_lock(job, p, &wallets[p as usize]) {
             return Some(WrongWallet { party: p, lock });
         }
     }
@@ -65,13 +65,18 @@ fn by_role(alloc: Global, deal: &Deal, role: &Role) -> Result<Actor, NoMemory>
 }
 
 /// What acts for a party of the job, by its wallet or else by its role.
-fn actor_of(alloc: Global, job: &Job, p: PartyId, wallet: Option<Wallet>) -> Result<Actor, NoMemory>
+fn new_actor(
+    alloc: Global,
+    job: &Job,
+    p: PartyId,
+    wallet: Option<Wallet>,
+) -> Result<Actor, NoMemory>
     requires sized { IsWellSized job.now.deal }
     requires party { p < job.now.deal.graph.n }
     requires roles { length job.now.roles ≡ job.now.deal.graph.n }
-    requires wallet { wallet ≡ wallet_for job.now.deal job.now.conforming job.now.seeds p }
-    requires fits { wrong_for job.now p ≡ None }
-    ensures { IfOk result (λ x. x ≡ acts_for job.now p) }
+    requires wallet { wallet ≡ job_wallet job.now.deal job.now.conforming job.now.seeds p }
+    requires fits { mismatched_lock job.now p ≡ None }
+    ensures { IfOk result (λ x. x ≡ job_actor job.now p) }
 {
     match wallet {
         Some(wallet) => {
@@ -92,23 +97,23 @@ fn add_actor(
     requires sized { IsWellSized job.now.deal }
     requires party { p < job.now.deal.graph.n }
     requires roles { length job.now.roles ≡ job.now.deal.graph.n }
-    requires wallet { wallet ≡ wallet_for job.now.deal job.now.conforming job.now.seeds p }
-    requires fits { wrong_for job.now p ≡ None }
-    ensures { OnOk result (actors.new.items ≡ actors.old.items ++ acts_for job.now p ∷ []) }
+    requires wallet { wallet ≡ job_wallet job.now.deal job.now.conforming job.now.seeds p }
+    requires fits { mismatched_lock job.now p ≡ None }
+    ensures { OnOk result (actors.new.items ≡ actors.old.items ++ job_actor job.now p ∷ []) }
 {
-    actors.push(actor_of(alloc, job, p, wallet)?)?;
+    actors.push(new_actor(alloc, job, p, wallet)?)?;
     Ok(())
 }
 
 /// What acts for each party, by its wallet or else by its role, where every wallet is right.
-pub fn actors_of(
+pub fn new_actors(
     alloc: Global,
     job: &Job,
     mut wallets: Vec<Option<Wallet>>,
 ) -> Result<Vec<Actor>, NoMemory>
     requires sized { IsWellSized job.now.deal }
     requires roles { length job.now.roles ≡ job.now.deal.graph.n }
-    requires wallets { wallets.items ≡ wallets_of job.now.deal job.now.conforming job.now.seeds }
+    requires wallets { wallets.items ≡ new_wallets job.now.deal job.now.conforming job.now.seeds }
     requires fit { AllFit job.now }
     ensures { IfOk result (λ v. v.items ≡ team job.now) }
 {

@@ -6,7 +6,7 @@ ghost use Rattle.swap_run.specs.Run.{conforms};
 ghost use Rattle.swap_run.specs.Fair.{acts, adjacent_arcs, finish, has_ended, looks, most_acts, repeat, round, round_unless_ended};
 ghost use Rattle.swap_run.specs.Fair.{the_horizon, tick_low, ticks, turn, turns};
 ghost use Rattle.swap_run.specs.Steps.{finish_steps, look_steps, low_step, pass_steps, round_steps, rounds_steps, tick_steps, turn_steps, turns_steps};
-ghost use Rattle.swap_world.specs.Value.{cast_at};
+ghost use Rattle.swap_world.specs.Value.{world_cast};
 ghost use Rattle.swap_world.specs.Gone.{HasGone};
 ghost use Rattle.swap_world.specs.Actors.{AreHeld};
 ghost use Rattle.swap_world.specs.Near.{all_adjacent};
@@ -39,8 +39,8 @@ fn look_around<A: Strategies>(
     Ok(())
 }
 
-/// The most calls of a party that conforms.
-fn most_acts(deal: &Deal) -> u32
+/// The most calls of a conforming party.
+pub fn most_acts(deal: &Deal) -> u32
     requires { IsWellSized deal.now }
     ensures { result ≡ most_acts deal.now }
 {
@@ -50,7 +50,7 @@ fn most_acts(deal: &Deal) -> u32
 /// Lets a conforming party act until nothing is due.
 fn act_to_rest<A: Strategies>(world: &mut World, _staff: &A, p: PartyId) -> Result<(), NoMemory>
     requires party { p < world.old.deal.graph.n }
-    requires conforms { conforms (cast_at world.old) p ≡ true }
+    requires conforms { conforms (world_cast world.old) p ≡ true }
     requires goes_on { world.old.stopped ≡ false }
     ensures ok { OnOk result (HasGone (A.gives _staff.now) (λ c s. acts c p (most_acts world.old.deal) s) world.old world.new) }
     ensures err { OnErr result (IsStopped (A.gives _staff.now) (λ c s. replicate (most_acts world.old.deal) (Event.Act p)) world.old world.new) }
@@ -104,7 +104,7 @@ fn turns<A: Strategies>(
 }
 
 /// The height above which a ledger of the world has ended.
-pub(crate) fn horizon_of(deal: &Deal) -> u64
+pub(crate) fn deal_horizon(deal: &Deal) -> u64
     requires { IsWellSized deal.now }
     ensures { result ≡ the_horizon deal.now }
 {
@@ -118,7 +118,7 @@ fn tick_low<A: Strategies>(world: &mut World, staff: &A, arc: ArcId) -> Result<(
     ensures ok { OnOk result (HasGone (A.gives staff.now) (λ c s. tick_low c s arc) world.old world.new) }
     ensures err { OnErr result (IsStopped (A.gives staff.now) (λ c s. low_step c.deal s.book arc) world.old world.new) }
 {
-    if world.height(arc) as u64 > horizon_of(world.deal()) {
+    if world.height(arc) as u64 > deal_horizon(world.deal()) {
         return Ok(());
     }
     world.step(staff, &Event::Tick(arc, 1))
@@ -140,7 +140,7 @@ fn ticks<A: Strategies>(world: &mut World, staff: &A) -> Result<(), NoMemory>
 fn has_ended(world: &World) -> bool
     ensures { result ≡ has_ended world.now.deal world.now.state.book }
 {
-    let horizon = horizon_of(world.deal());
+    let horizon = deal_horizon(world.deal());
     for arc in 0..world.deal().graph.arcs().len() as ArcId {
         if world.height(arc) as u64 <= horizon {
             return false;
@@ -214,7 +214,7 @@ fn rounds<A: Strategies>(
     ensures ok { OnOk result (HasGone (A.gives staff.now) finish world.old world.new) }
     ensures err { OnErr result (IsStopped (A.gives staff.now) finish_steps world.old world.new) }
 {
-    let mut left = horizon_of(world.deal()) + 1;
+    let mut left = deal_horizon(world.deal()) + 1;
     'rounds: while left > 0 {
         if has_ended(world) {
             return Ok(());

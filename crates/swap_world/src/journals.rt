@@ -25,7 +25,7 @@ use swap_digraph::Deal;
 use wallet_journal::{Journal, MemoryDisk, RecordFault};
 
 /// The journal of a party, where it conforms.
-fn journal_of(
+fn new_journal(
     alloc: Global,
     deal: &Deal,
     p: PartyId,
@@ -42,7 +42,7 @@ fn journal_of(
 }
 
 /// For each party its journal, where it conforms, on a disk on which nothing was written before.
-pub(crate) fn journals_of(
+pub(crate) fn new_journals(
     alloc: Global,
     deal: &Deal,
     conforming: &[bool],
@@ -53,7 +53,7 @@ pub(crate) fn journals_of(
 {
     let mut journals = Vec::new(alloc);
     'parties: for p in 0..deal.graph.n() {
-        journals.push(journal_of(alloc, deal, p, conforming[p as usize])?)?;
+        journals.push(new_journal(alloc, deal, p, conforming[p as usize])?)?;
     }
     Ok(journals)
 }
@@ -107,7 +107,7 @@ fn restart(
     ensures journal { OnOk result (IsJournalOf deal.now machine.old.me machine.new.signed journal.new) }
     ensures between { IsBetween machine.old.signed machine.new.signed journal.new.disk.held }
 {
-    journal.stop_after(k);
+    journal.limit_calls(k);
     begin(machine, journal, k)?;
     journal.crash(alloc, deal, image)?;
     machine.restart(journal)

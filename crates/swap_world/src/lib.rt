@@ -16,7 +16,8 @@ mod turn;
 mod world;
 
 pub use actor::Actor;
-pub use actors::{WorldFault, WrongWallet, actors_of, wrong_wallet};
+pub use actors::{WorldFault, WrongWallet, new_actors, wrong_wallet};
+pub use fair::most_acts;
 pub use near::arcs_by_party;
 pub use told::Told;
 pub use world::World;

@@ -2,7 +2,7 @@
 
 ghost use Rattle.std.specs.Prelude.{OnOk, OnErr, All};
 ghost use Rattle.swap_job.specs.Step.{CanStep};
-ghost use Rattle.swap_run.specs.Run.{run_from};
+ghost use Rattle.swap_run.specs.Run.{continued_run};
 ghost use Rattle.swap_world.specs.Gone.{HasGone};
 ghost use Rattle.swap_world.specs.Actors.{AreHeld};
 ghost use Rattle.swap_world.specs.Stopped.{IsAfterSome, IsStopped};
@@ -20,7 +20,7 @@ pub(crate) fn run<A: Strategies>(
 ) -> Result<(), NoMemory>
     requires events { All (CanStep world.old.deal world.old.conforming world.old.seeds) events.now }
     requires held { AreHeld (A.holds staff.now) world.old.roles }
-    ensures ok { OnOk result (HasGone (A.gives staff.now) (λ c s. run_from c s events.now) world.old world.new) }
+    ensures ok { OnOk result (HasGone (A.gives staff.now) (λ c s. continued_run c s events.now) world.old world.new) }
     ensures err { OnErr result (IsStopped (A.gives staff.now) (λ c s. events.now) world.old world.new) }
     ensures prefix { OnErr result (IsAfterSome events.now world.old world.new) }
 {

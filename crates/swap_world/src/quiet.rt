@@ -16,7 +16,7 @@ use swap_base::{ArcId, Listed};
 use swap_digraph::Deal;
 
 /// Up to `most` rounds, each with one tick, for which the height stays at or below `until`.
-fn rounds_up_to(height: u32, until: u64, most: u64) -> u64
+fn remaining_rounds(height: u32, until: u64, most: u64) -> u64
     ensures few { result ≤ most }
     ensures low { 0 < result → height + result ≤ until }
 {
@@ -30,20 +30,26 @@ fn rounds_up_to(height: u32, until: u64, most: u64) -> u64
 
 /// Up to `most` rounds of ticks on this ledger that leave a resting party at rest. The party has
 /// seen the first `seen` entries of the ledger and rests until its height passes `until`.
-fn rounds_at(ledger: &Ledger, seen: u32, until: u64, most: u64) -> u64
+fn ledger_rounds(ledger: &Ledger, seen: u32, until: u64, most: u64) -> u64
     requires { seen ≤ length ledger.now.history }
     ensures few { result ≤ most }
     ensures low { 0 < result → IsLow seen until result ledger.now.history }
 {
     match fresh_ticks(ledger, seen) {
         None => 0,
-        Some(_) => rounds_up_to(ledger.height(), until, most),
+        Some(_) => remaining_rounds(ledger.height(), until, most),
     }
 }
 
 /// Up to `most` rounds of ticks on these arcs' ledgers that leave the machine at rest. The machine
 /// rests until a height passes `until`.
-fn rounds_until(ledgers: &[Ledger], machine: &Machine, near: &[ArcId], until: u64, most: u64) -> u64
+fn bounded_rounds(
+    ledgers: &[Ledger],
+    machine: &Machine,
+    near: &[ArcId],
+    until: u64,
+    most: u64,
+) -> u64
     requires arcs { HaveArcs (length ledgers.now) machine.now.deal near.now }
     requires seen { HasSeen machine.now (histories ledgers.now) }
     ensures few { result ≤ most }
@@ -53,32 +59,32 @@ fn rounds_until(ledgers: &[Ledger], machine: &Machine, near: &[ArcId], until: u6
     'arcs: for arc in near {
         let place = *arc as usize;
         let seen = machine.known(*arc).count();
-        rounds = rounds_at(&ledgers[place], seen, until, rounds);
+        rounds = ledger_rounds(&ledgers[place], seen, until, rounds);
     }
     rounds
 }
 
 /// Up to `most` rounds in which a machine that looks at these arcs makes no call.
-fn rounds_of(ledgers: &[Ledger], machine: &Machine, near: &[ArcId], most: u64) -> u64
+fn machine_rounds(ledgers: &[Ledger], machine: &Machine, near: &[ArcId], most: u64) -> u64
     requires arcs { HaveArcs (length ledgers.now) machine.now.deal near.now }
     requires seen { HasSeen machine.now (histories ledgers.now) }
     ensures few { result ≤ most }
     ensures calm { 0 < result → IsCalm result (histories ledgers.now) near.now machine.now }
 {
-    match machine.rests_until() {
+    match machine.idle_deadline() {
         None => 0,
-        Some(until) => rounds_until(ledgers, machine, near, until, most),
+        Some(until) => bounded_rounds(ledgers, machine, near, until, most),
     }
 }
 
 /// Up to `most` rounds in which the actor makes no call.
-fn rounds_for(ledgers: &[Ledger], actor: &Actor, near: &[ArcId], most: u64) -> u64
+fn needed_rounds(ledgers: &[Ledger], actor: &Actor, near: &[ArcId], most: u64) -> u64
     requires { IsReadyActor (length ledgers.now) (histories ledgers.now) near.now actor.now }
     ensures few { result ≤ most }
     ensures calm { 0 < result → IsCalmActor result (histories ledgers.now) near.now actor.now }
 {
     match actor {
-        Actor::Conforming(machine) => rounds_of(ledgers, machine, near, most),
+        Actor::Conforming(machine) => machine_rounds(ledgers, machine, near, most),
         Actor::Planned(_) => 0,
         Actor::Manual => most,
     }
@@ -102,13 +108,13 @@ pub(crate) fn rounds(
 {
     let mut rounds = most;
     'parties: for p in 0..actors.len() {
-        rounds = rounds_for(ledgers, &actors[p], near[p].as_slice(), rounds);
+        rounds = needed_rounds(ledgers, &actors[p], near[p].as_slice(), rounds);
     }
     rounds
 }
 
 /// Up to `most` rounds for which the first ledger stays at or below the horizon.
-pub(crate) fn rounds_below(ledgers: &[Ledger], horizon: u64, most: u64) -> u64
+pub(crate) fn horizon_rounds(ledgers: &[Ledger], horizon: u64, most: u64) -> u64
     ensures few { result ≤ most }
     ensures some { 0 < result → 0 < length ledgers.now }
     ensures low { 0 < result → height (history (histories ledgers.now) 0) + result ≤ horizon }
@@ -116,5 +122,5 @@ pub(crate) fn rounds_below(ledgers: &[Ledger], horizon: u64, most: u64) -> u64
     if ledgers.is_empty() {
         return 0;
     }
-    rounds_up_to(ledgers[0].height(), horizon, most)
+    remaining_rounds(ledgers[0].height(), horizon, most)
 }

@@ -3,10 +3,10 @@
 ghost use Rattle.std.specs.Prelude.{◌≡◌, ◌==◌, ◌||◌, ◌<◌, ◌≤◌, ◌+◌, ◌-◌, ◌⊎◌, ℕ, Some, None, false, IsTrue, OnOk};
 ghost use Rattle.std.specs.Prelude.{OnErr, IfOk, IfSome, length, drop, slice_set, option_copied, option_map};
 ghost use Rattle.swap_digraph.specs.Deal.{IsWellSized, party, counterparty};
-ghost use Rattle.ledger_core.specs.Known.{is_known_in};
+ghost use Rattle.ledger_core.specs.Known.{is_known_call};
 ghost use Rattle.ledger_core.specs.History.{IsLegal, fit};
 ghost use Rattle.ledger_core.specs.Book.{history};
-ghost use Rattle.ledger_core.specs.Runs.{ticks_of, IsRightRun};
+ghost use Rattle.ledger_core.specs.Runs.{run_ticks, IsRightRun};
 ghost use Rattle.std.specs.Option.{ForSome};
 ghost use Rattle.swap_job.specs.Fitting.{IsFitting, is_near};
 ghost use Rattle.swap_job.specs.Resolved.{move_arc, opening_named, key_opened, resolved};
@@ -18,11 +18,11 @@ ghost use Rattle.swap_rules.specs.Due.{Action};
 ghost use Rattle.swap_run.specs.Run.{after_tick, plan_up_to};
 ghost use Rattle.swap_run.specs.Called.{is_barred};
 ghost use Rattle.party_wallet.specs.Value.{signed_in};
-ghost use Rattle.party_machine.specs.Machine.{action_of, next_due, noted_for, IsOfSame};
+ghost use Rattle.party_machine.specs.Machine.{due_action, next_due, noted_for, IsOfSame};
 ghost use Rattle.wallet_journal.specs.Stopped.{ShowsAll};
 ghost use Rattle.swap_world.specs.Journals.{IsBetween, IsJournalOf};
-ghost use Rattle.swap_world.specs.Acting.{IsMakable, IsSameOwner, histories, landed, book_after, machine_after, told_of, seen, taken, told_to, turned};
-ghost use Rattle.swap_world.specs.On.{swept_in, told_by};
+ghost use Rattle.swap_world.specs.Acting.{IsMakable, IsSameOwner, histories, landed, next_book, next_machine, build_told, seen, taken, told_to, turned};
+ghost use Rattle.swap_world.specs.On.{swept_in, parse_told};
 ghost use Rattle.swap_world.specs.Inside.{AreLedgersOf, IsLedgerOf, HaveRoom};
 
 use crate::told::Told;
@@ -35,7 +35,7 @@ use std::marker::Brand;
 use std::sync::ledger::{Blank, Ledger as Counted};
 use swap_base::{ArcId, Digest, NoMemory, PartyId};
 use swap_digraph::Deal;
-use swap_job::{Move, opened_key_in, opening_named, resolve_with};
+use swap_job::{Move, find_opened_key, opening_named, resolve_keyed_move};
 use swap_run::Planner;
 use wallet_journal::{Journal, MemoryDisk};
 
@@ -80,11 +80,11 @@ fn call(
 ) -> Result<Told, NoMemory>
     requires of_the_two { IsTrue ((sender == party ledger.old.deal ledger.old.arc) || (sender == counterparty ledger.old.deal ledger.old.arc)) }
     requires fits { IsTrue (fit ledger.old.deal ledger.old.arc call) }
-    requires known { IsTrue (is_known_in known ledger.old.deal call) }
+    requires known { IsTrue (is_known_call known ledger.old.deal call) }
     requires legal { IsLegal ledger.old.deal ledger.old.arc ledger.old.history }
     requires room { 0 < ledger.old.spare }
     ensures leaves { ledger.new.history ≡ landed swept ledger.old.deal ledger.old.arc sender call ledger.old.history }
-    ensures told { IfOk result (λ r. r ≡ told_by swept ledger.old.deal ledger.old.arc sender call ledger.old.history) }
+    ensures told { IfOk result (λ r. r ≡ parse_told swept ledger.old.deal ledger.old.arc sender call ledger.old.history) }
     ensures room { OnOk result (0 < ledger.new.spare) }
     ensures deal { ledger.new.deal ≡ ledger.old.deal }
     ensures arc { ledger.new.arc ≡ ledger.old.arc }
@@ -114,13 +114,13 @@ fn key_named<'l>(ledgers: &'l [Ledger], mv: &Move) -> Option<&'l Hashkey>
     ensures { option_copied result ≡ key_opened (histories ledgers.now) (opening_named mv.now) }
 {
     match opening_named(mv) {
-        Some((onto, lock)) => opened_key_in(ledgers[onto as usize].history(), lock),
+        Some((onto, lock)) => find_opened_key(ledgers[onto as usize].history(), lock),
         None => None,
     }
 }
 
 /// The call that a move stands for over the ledgers as they stand, with its arc.
-fn resolve_on(
+fn resolve_move(
     alloc: Global,
     ledgers: &[Ledger],
     deal: &Deal,
@@ -133,7 +133,7 @@ fn resolve_on(
     ensures exact { IfOk result (λ o. o ≡ resolved deal.now seeds.now (histories ledgers.now) mv.now) }
     ensures fits { IfOk result (λ o. ForSome o (λ x. IsTrue (fit deal.now x.0 x.1))) }
 {
-    resolve_with(alloc, deal, seeds, mv, key_named(ledgers, mv))
+    resolve_keyed_move(alloc, deal, seeds, mv, key_named(ledgers, mv))
 }
 
 /// Makes the call that a move stands for, if any, over the ledgers as they stand, and answers what its party is told.
@@ -161,7 +161,7 @@ pub(crate) fn make(
     ensures room { OnOk result (HaveRoom ledgers.new.items) }
 {
     let alloc = *ledgers.allocator();
-    match resolve_on(alloc, ledgers, deal, seeds, mv)? {
+    match resolve_move(alloc, ledgers, deal, seeds, mv)? {
         Some((arc, made)) => {
             let is = is_swept(swept, arc);
             call(&mut ledgers[arc as usize], sender, made, 0, is)
@@ -172,10 +172,10 @@ pub(crate) fn make(
 
 /// The last n ticks of a run.
 #[tactic(auto, using(ledger_core::proofs::Ticks::last_right))]
-fn last_of(run: Run, n: u32) -> Run
+fn last_run(run: Run, n: u32) -> Run
     requires within { n ≤ run.count }
     requires right { IsRightRun run }
-    ensures ticks { ticks_of result ≡ drop (run.count - n) (ticks_of run) }
+    ensures ticks { run_ticks result ≡ drop (run.count - n) (run_ticks run) }
     ensures right { IsRightRun result }
     ensures count { result.count ≡ n }
 {
@@ -189,14 +189,14 @@ fn last_of(run: Run, n: u32) -> Run
 /// The entries from `seen` on, where they are ticks after the ledger's last item, as nearly always.
 pub(crate) fn fresh_ticks(ledger: &Ledger, seen: u32) -> Option<Run>
     requires { seen ≤ length ledger.now.history }
-    ensures ticks { IfSome result (λ r. ticks_of r ≡ drop seen ledger.now.history) }
+    ensures ticks { IfSome result (λ r. run_ticks r ≡ drop seen ledger.now.history) }
     ensures right { IfSome result IsRightRun }
     ensures count { IfSome result (λ r. seen + r.count ≡ length ledger.now.history) }
 {
     let (_, open) = ledger.history().parts();
     let fresh = ledger.len() - seen;
     if fresh <= open.count {
-        Some(last_of(open, fresh))
+        Some(last_run(open, fresh))
     } else {
         None
     }
@@ -217,12 +217,12 @@ fn learn_copied<L: Counted>(
     ensures counted { OnOk result (steps.new + length (history machine.old.known ledger.now.arc) ≡ steps.old + length ledger.now.history) }
 {
     let arc = ledger.arc();
-    let fresh = ledger.copy_from(machine.known(arc).count() as usize)?;
+    let fresh = ledger.copy_tail(machine.known(arc).count() as usize)?;
     machine.learn(arc, fresh, steps)
 }
 
 /// Lets a machine know a ledger up to its end, in as many steps as there are entries that it doesn't know.
-fn learn_in<L: Counted>(
+fn learn_entries<L: Counted>(
     machine: &mut Machine,
     ledger: &Ledger,
     steps: &mut Steps<L>,
@@ -261,7 +261,7 @@ fn learn_counted<L: Counted>(
     ensures err { OnErr result (machine.new ≡ machine.old) }
 {
     let mut steps = Steps::<L>::new(blank);
-    learn_in(machine, ledger, &mut steps)
+    learn_entries(machine, ledger, &mut steps)
 }
 
 /// Lets a machine know a ledger up to its end.
@@ -290,7 +290,7 @@ fn make_due(
     requires begins { Begins (history machine.old.known arc) ledger.old.history }
     requires room { 0 < ledger.old.spare }
     ensures leaves { ledger.new.history ≡ landed swept machine.old.deal arc machine.old.me due ledger.old.history }
-    ensures told { IfOk result (λ r. r ≡ told_by swept machine.old.deal arc machine.old.me due ledger.old.history) }
+    ensures told { IfOk result (λ r. r ≡ parse_told swept machine.old.deal arc machine.old.me due ledger.old.history) }
     ensures room { OnOk result (0 < ledger.new.spare) }
     ensures knows { OnOk result (machine.new ≡ record machine.old {
       known =
@@ -312,7 +312,7 @@ fn next(
     journal: &mut Journal<MemoryDisk>,
 ) -> Result<Option<(ArcId, Call)>, NoMemory>
     requires journal { IsJournalOf machine.old.deal machine.old.me machine.old.signed journal.old }
-    ensures due { IfOk result (λ o. option_map action_of o ≡ next_due machine.old) }
+    ensures due { IfOk result (λ o. option_map due_action o ≡ next_due machine.old) }
     ensures signed { IfOk result (λ o. signed_in machine.new.signed ≡ noted_for (signed_in machine.old.signed) o) }
     ensures same { IsOfSame machine.old machine.new }
     ensures journal { OnOk result (IsJournalOf machine.old.deal machine.old.me machine.new.signed journal.new) }
@@ -341,19 +341,19 @@ pub(crate) fn act(
     requires begins { (a : ℕ) → Begins (history machine.old.known a) (history (histories ledgers.old.items) a) }
     requires room { HaveRoom ledgers.old.items }
     ensures ok { OnOk result (histories ledgers.new.items
-        ≡ book_after (swept_in swept.now) machine.old (next_due machine.old) (histories ledgers.old.items)) }
-    ensures knows { OnOk result (machine.new ≡ machine_after (swept_in swept.now) machine.old (next_due machine.old) (histories ledgers.old.items)) }
-    ensures told { IfOk result (λ r. r ≡ told_of (swept_in swept.now) machine.old (next_due machine.old) (histories ledgers.old.items)) }
+        ≡ next_book (swept_in swept.now) machine.old (next_due machine.old) (histories ledgers.old.items)) }
+    ensures knows { OnOk result (machine.new ≡ next_machine (swept_in swept.now) machine.old (next_due machine.old) (histories ledgers.old.items)) }
+    ensures told { IfOk result (λ r. r ≡ build_told (swept_in swept.now) machine.old (next_due machine.old) (histories ledgers.old.items)) }
     ensures err { OnErr result ((histories ledgers.new.items ≡ histories ledgers.old.items)
-        ⊎ (histories ledgers.new.items ≡ book_after (swept_in swept.now) machine.old (next_due machine.old) (histories ledgers.old.items))) }
+        ⊎ (histories ledgers.new.items ≡ next_book (swept_in swept.now) machine.old (next_due machine.old) (histories ledgers.old.items))) }
     ensures ledgers { AreLedgersOf machine.old.deal ledgers.new.items }
     ensures room { OnOk result (HaveRoom ledgers.new.items) }
     ensures owner { IsSameOwner machine.old machine.new }
     ensures journal { OnOk result (IsJournalOf machine.old.deal machine.old.me machine.new.signed journal.new) }
     ensures between { OnErr result (IsBetween machine.old.signed machine.new.signed journal.new.disk.held) }
     ensures made { OnErr result ((histories ledgers.new.items ≡ histories ledgers.old.items)
-        ⊎ ((histories ledgers.new.items ≡ book_after (swept_in swept.now) machine.old (next_due machine.old) (histories ledgers.old.items))
-        × (machine.new.signed ≡ (machine_after (swept_in swept.now) machine.old (next_due machine.old) (histories ledgers.old.items)).signed)
+        ⊎ ((histories ledgers.new.items ≡ next_book (swept_in swept.now) machine.old (next_due machine.old) (histories ledgers.old.items))
+        × (machine.new.signed ≡ (next_machine (swept_in swept.now) machine.old (next_due machine.old) (histories ledgers.old.items)).signed)
         × ShowsAll machine.new.signed journal.new.disk.held)) }
 {
     match next(machine, journal)? {
@@ -373,7 +373,7 @@ pub(crate) fn watch(planner: &mut Planner, ledger: &Ledger, arc: ArcId) -> Resul
     ensures ok { OnOk result (planner.new ≡ plan_up_to planner.old arc ledger.now.history) }
     ensures err { OnErr result (planner.new ≡ planner.old) }
 {
-    let fresh = ledger.copy_from(planner.count(arc))?;
+    let fresh = ledger.copy_tail(planner.count(arc))?;
     planner.learn(arc, fresh)
 }
 
@@ -393,7 +393,7 @@ fn make_planned(
     requires legal { IsLegal ledger.old.deal ledger.old.arc ledger.old.history }
     requires room { 0 < ledger.old.spare }
     ensures leaves { ledger.new.history ≡ landed swept ledger.old.deal ledger.old.arc sender made ledger.old.history }
-    ensures told { IfOk result (λ r. r ≡ told_by swept ledger.old.deal ledger.old.arc sender made ledger.old.history) }
+    ensures told { IfOk result (λ r. r ≡ parse_told swept ledger.old.deal ledger.old.arc sender made ledger.old.history) }
     ensures room { OnOk result (0 < ledger.new.spare) }
     ensures knows { OnOk result (planner.new
         ≡ plan_up_to planner.old arc (landed swept ledger.old.deal ledger.old.arc sender made ledger.old.history)) }
@@ -465,7 +465,7 @@ pub(crate) fn make_by_hand(
     ensures room { OnOk result (HaveRoom ledgers.new.items) }
 {
     let alloc = *ledgers.allocator();
-    let made = resolve_on(alloc, ledgers, deal, seeds, mv)?;
+    let made = resolve_move(alloc, ledgers, deal, seeds, mv)?;
     take(planner, ledgers, deal, sender, made, swept)
 }
 

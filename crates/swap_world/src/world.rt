@@ -11,7 +11,7 @@ ghost use Rattle.swap_base.specs.Lists.{IsMoment};
 ghost use Rattle.hashkey_path.specs.declared.hashkey.Hashkey.{Hashkey};
 ghost use Rattle.ledger_core.specs.declared.entry.Entry.{Entry};
 ghost use Rattle.ledger_core.specs.declared.entry.Call.TheVariants.{Unlock};
-ghost use Rattle.swap_rules.specs.Party.{call_by};
+ghost use Rattle.swap_rules.specs.Party.{pick_call};
 ghost use Rattle.ledger_core.specs.History.{height, accounts, published, settled};
 ghost use Rattle.ledger_core.specs.Book.{IsLegalBook, history};
 ghost use Rattle.swap_job.specs.Step.{CanStep, CanTick, CanLook, CanCall, CanCrash};
@@ -19,26 +19,26 @@ ghost use Rattle.swap_rules.specs.Accepted.{IsAccepted};
 ghost use Rattle.swap_rules.specs.Outcome.{IsEnded};
 ghost use Rattle.swap_rules.specs.Laws.{IsDealt};
 ghost use Rattle.swap_run.specs.Asked.{is_strategy};
-ghost use Rattle.swap_run.specs.Run.{conforms, is_planned, notes_of, role_of, start, step, run_from};
-ghost use Rattle.swap_run.specs.Called.{step_on};
+ghost use Rattle.swap_run.specs.Run.{conforms, is_planned, state_notes, party_role, start, step, continued_run};
+ghost use Rattle.swap_run.specs.Called.{apply_step};
 ghost use Rattle.swap_run.specs.Asked.{Answers};
 ghost use Rattle.swap_run.specs.Fair.{finish, has_ended};
 ghost use Rattle.swap_run.specs.Steps.{finish_steps, IsSkipped};
 ghost use Rattle.swap_run.specs.Laws.{IsKept, IsReadyCast};
-ghost use Rattle.party_wallet.specs.Wallets.{wallets_of};
+ghost use Rattle.party_wallet.specs.Wallets.{new_wallets};
 ghost use Rattle.swap_world.specs.Stopped.{IsAfterSome, IsStopped, AllConform};
 ghost use Rattle.swap_world.specs.Cast.{asks};
-ghost use Rattle.swap_world.specs.Value.{cast_at, cast_for, new_world, Continues};
+ghost use Rattle.swap_world.specs.Value.{world_cast, answering_cast, new_world, Continues};
 ghost use Rattle.swap_world.specs.Near.{all_adjacent};
 ghost use Rattle.swap_world.specs.Quiet.{IsStill};
 ghost use Rattle.swap_world.specs.Gone.{HasGone, IsCut};
-ghost use Rattle.swap_world.specs.On.{swept_in, told_in, ticked_on, IsCutOn};
+ghost use Rattle.swap_world.specs.On.{swept_in, tell_entries, ticked_on, IsCutOn};
 ghost use Rattle.swap_world.specs.Actors.{AllFit, AreHeld, HaveRoles, ConformingHaveSeeds, IsFirstOf};
 ghost use Rattle.swap_world.specs.Inside.{AreNewLedgers};
 
 use crate::actor::Actor;
-use crate::actors::{WorldFault, actors_of, wrong_wallet};
-use crate::journals::journals_of;
+use crate::actors::{WorldFault, new_actors, wrong_wallet};
+use crate::journals::new_journals;
 use crate::told::Told;
 use crate::{chain, fair, journals, many, quiet, turn};
 use deviators::Strategies;
@@ -78,14 +78,14 @@ impl Model for World {
 
     ghost Value = { WorldState };
 
-    ghost use Rattle.swap_world.specs.Inside.{world_in, Holds};
+    ghost use Rattle.swap_world.specs.Inside.{inside_world, Holds};
 
-    ghost view = { world_in };
+    ghost view = { inside_world };
 
     ghost invariant = { Holds };
 }
 
-fn ledgers_of(alloc: Global, deal: &Deal) -> Result<Vec<Ledger>, NoMemory>
+fn make_ledgers(alloc: Global, deal: &Deal) -> Result<Vec<Ledger>, NoMemory>
     requires { IsWellSized deal.now }
     ensures { IfOk result (λ v. AreNewLedgers deal.now (length deal.now.graph.arcs) v.items) }
 {
@@ -99,7 +99,7 @@ fn ledgers_of(alloc: Global, deal: &Deal) -> Result<Vec<Ledger>, NoMemory>
     Ok(ledgers)
 }
 
-fn histories_of(alloc: Global, ledgers: Vec<Ledger>) -> Result<Listed<EntryList>, NoMemory>
+fn ledger_histories(alloc: Global, ledgers: Vec<Ledger>) -> Result<Listed<EntryList>, NoMemory>
     ensures { IfOk result (λ v. v ≡ map (λ l. l.history) ledgers.items) }
 {
     let mut histories = Vec::new(alloc);
@@ -109,12 +109,12 @@ fn histories_of(alloc: Global, ledgers: Vec<Ledger>) -> Result<Listed<EntryList>
     Ok(Listed::new(histories))
 }
 
-fn copies_of(alloc: Global, ledgers: &[Ledger]) -> Result<Listed<EntryList>, NoMemory>
+fn ledger_copies(alloc: Global, ledgers: &[Ledger]) -> Result<Listed<EntryList>, NoMemory>
     ensures { IfOk result (λ v. v ≡ map (λ l. l.history) ledgers.now) }
 {
     let mut histories = Vec::new(alloc);
     'copies: for ledger in ledgers {
-        histories.push(ledger.copy_from(0)?)?;
+        histories.push(ledger.copy_tail(0)?)?;
     }
     Ok(Listed::new(histories))
 }
@@ -129,17 +129,17 @@ impl World {
         requires accepted { IsAccepted job.now.deal }
         requires seeds { ConformingHaveSeeds job.now }
         requires roles { HaveRoles job.now }
-        requires wallets { wallets.items ≡ wallets_of job.now.deal job.now.conforming job.now.seeds }
+        requires wallets { wallets.items ≡ new_wallets job.now.deal job.now.conforming job.now.seeds }
         requires fit { AllFit job.now }
         ensures { IfOk result (λ w. w ≡ new_world job.now) }
     {
-        let actors = actors_of(alloc, job, wallets)?;
+        let actors = new_actors(alloc, job, wallets)?;
         Ok(World {
             conforming: Listed::new(Vec::from_slice(alloc, job.conforming.as_slice())?),
             seeds: job.seeds.copy()?,
             roles: job.roles.copy()?,
-            ledgers: ledgers_of(alloc, &job.deal)?,
-            journals: journals_of(alloc, &job.deal, job.conforming.as_slice())?,
+            ledgers: make_ledgers(alloc, &job.deal)?,
+            journals: new_journals(alloc, &job.deal, job.conforming.as_slice())?,
             deal: copy_deal(&job.deal)?,
             actors,
             askers: Past::new(),
@@ -155,7 +155,7 @@ impl World {
         requires accepted { IsAccepted job.now.deal }
         requires seeds { ConformingHaveSeeds job.now }
         requires roles { HaveRoles job.now }
-        requires wallets { wallets.items ≡ wallets_of job.now.deal job.now.conforming job.now.seeds }
+        requires wallets { wallets.items ≡ new_wallets job.now.deal job.now.conforming job.now.seeds }
         ensures new { IfOk result (λ w. w ≡ new_world job.now) }
         ensures fit { OnOk result (AllFit job.now) }
         ensures wrong { IfErr result (IsFirstOf job.now) }
@@ -169,12 +169,12 @@ impl World {
     fn tick(&mut self, arc: ArcId, k: u32) -> Result<(), NoMemory>
         requires event { CanTick self.old.deal arc k }
         requires goes_on { self.old.stopped ≡ false }
-        ensures ok { OnOk result (self.new ≡ record self.old { state = step (cast_at self.old) self.old.state (Event.Tick arc k) }) }
-        ensures cast { OnErr result (cast_at self.new ≡ cast_at self.old) }
+        ensures ok { OnOk result (self.new ≡ record self.old { state = step (world_cast self.old) self.old.state (Event.Tick arc k) }) }
+        ensures cast { OnErr result (world_cast self.new ≡ world_cast self.old) }
         ensures asked { OnErr result (self.new.state.asked ≡ self.old.state.asked) }
         ensures answers { OnErr result (self.new.answers ≡ self.old.answers) }
         ensures book { OnErr result ((self.new.state.book ≡ self.old.state.book)
-            ⊎ (self.new.state.book ≡ (step (cast_at self.old) self.old.state (Event.Tick arc k)).book)) }
+            ⊎ (self.new.state.book ≡ (step (world_cast self.old) self.old.state (Event.Tick arc k)).book)) }
     {
         let ledger = &mut self.ledgers[arc as usize];
         let done = turn::tick(ledger, k);
@@ -185,9 +185,9 @@ impl World {
     /// Lets a party look that doesn't conform: one that follows a script or a strategy knows the ledger up to its end.
     fn watch(&mut self, p: PartyId, arc: ArcId) -> Result<(), NoMemory>
         requires event { CanLook self.old.deal p arc }
-        requires deviates { conforms (cast_at self.old) p ≡ false }
+        requires deviates { conforms (world_cast self.old) p ≡ false }
         requires goes_on { self.old.stopped ≡ false }
-        ensures ok { OnOk result (self.new ≡ record self.old { state = step (cast_at self.old) self.old.state (Event.Look p arc) }) }
+        ensures ok { OnOk result (self.new ≡ record self.old { state = step (world_cast self.old) self.old.state (Event.Look p arc) }) }
         ensures err { OnErr result (self.new ≡ self.old) }
     {
         let Actor::Planned(planner) = &mut self.actors[p as usize] else {
@@ -199,7 +199,7 @@ impl World {
     fn look(&mut self, p: PartyId, arc: ArcId) -> Result<(), NoMemory>
         requires event { CanLook self.old.deal p arc }
         requires goes_on { self.old.stopped ≡ false }
-        ensures ok { OnOk result (self.new ≡ record self.old { state = step (cast_at self.old) self.old.state (Event.Look p arc) }) }
+        ensures ok { OnOk result (self.new ≡ record self.old { state = step (world_cast self.old) self.old.state (Event.Look p arc) }) }
         ensures err { OnErr result (self.new ≡ self.old) }
     {
         let Actor::Conforming(machine) = &mut self.actors[p as usize] else {
@@ -211,7 +211,7 @@ impl World {
     /// Whether a party conforms.
     pub fn conforms(&self, p: PartyId) -> bool
         requires { p < self.now.deal.graph.n }
-        ensures { result ≡ conforms (cast_at self.now) p }
+        ensures { result ≡ conforms (world_cast self.now) p }
     {
         self.conforming.as_slice()[p as usize]
     }
@@ -219,17 +219,17 @@ impl World {
     /// Lets a conforming party act, and answers what it is told.
     fn act_due(&mut self, p: PartyId, swept: &[bool]) -> Result<Told, NoMemory>
         requires party { p < self.old.deal.graph.n }
-        requires conforms { conforms (cast_at self.old) p ≡ true }
+        requires conforms { conforms (world_cast self.old) p ≡ true }
         requires goes_on { self.old.stopped ≡ false }
         ensures ok { OnOk result (self.new
-            ≡ record self.old { state = step_on (swept_in swept.now) (cast_at self.old) self.old.state (Event.Act p) }) }
-        ensures told { IfOk result (λ r. r ≡ told_in (swept_in swept.now) (cast_at self.old) self.old.state (Event.Act p)) }
+            ≡ record self.old { state = apply_step (swept_in swept.now) (world_cast self.old) self.old.state (Event.Act p) }) }
+        ensures told { IfOk result (λ r. r ≡ tell_entries (swept_in swept.now) (world_cast self.old) self.old.state (Event.Act p)) }
         ensures stopped { OnErr result (self.new.stopped ≡ true) }
-        ensures cast { OnErr result (cast_at self.new ≡ cast_at self.old) }
+        ensures cast { OnErr result (world_cast self.new ≡ world_cast self.old) }
         ensures asked { OnErr result (self.new.state.asked ≡ self.old.state.asked) }
         ensures answers { OnErr result (self.new.answers ≡ self.old.answers) }
         ensures book { OnErr result ((self.new.state.book ≡ self.old.state.book)
-            ⊎ (self.new.state.book ≡ (step_on (swept_in swept.now) (cast_at self.old) self.old.state (Event.Act p)).book)) }
+            ⊎ (self.new.state.book ≡ (apply_step (swept_in swept.now) (world_cast self.old) self.old.state (Event.Act p)).book)) }
     {
         let Actor::Conforming(machine) = &mut self.actors[p as usize] else {
             unreachable!();
@@ -246,16 +246,16 @@ impl World {
     /// have more to do; after `false` the act changed nothing.
     pub(crate) fn act_if_due(&mut self, p: PartyId) -> Result<bool, NoMemory>
         requires party { p < self.old.deal.graph.n }
-        requires conforms { conforms (cast_at self.old) p ≡ true }
+        requires conforms { conforms (world_cast self.old) p ≡ true }
         requires goes_on { self.old.stopped ≡ false }
-        ensures ok { OnOk result (self.new ≡ record self.old { state = step (cast_at self.old) self.old.state (Event.Act p) }) }
-        ensures idle { IfOk result (λ made. made ≡ false → step (cast_at self.old) self.old.state (Event.Act p) ≡ self.old.state) }
+        ensures ok { OnOk result (self.new ≡ record self.old { state = step (world_cast self.old) self.old.state (Event.Act p) }) }
+        ensures idle { IfOk result (λ made. made ≡ false → step (world_cast self.old) self.old.state (Event.Act p) ≡ self.old.state) }
         ensures stopped { OnErr result (self.new.stopped ≡ true) }
-        ensures cast { OnErr result (cast_at self.new ≡ cast_at self.old) }
+        ensures cast { OnErr result (world_cast self.new ≡ world_cast self.old) }
         ensures asked { OnErr result (self.new.state.asked ≡ self.old.state.asked) }
         ensures answers { OnErr result (self.new.answers ≡ self.old.answers) }
         ensures book { OnErr result ((self.new.state.book ≡ self.old.state.book)
-            ⊎ (self.new.state.book ≡ (step (cast_at self.old) self.old.state (Event.Act p)).book)) }
+            ⊎ (self.new.state.book ≡ (step (world_cast self.old) self.old.state (Event.Act p)).book)) }
     {
         match self.act_due(p, &[]) {
             Ok(Told::Nothing) => Ok(false),
@@ -267,7 +267,7 @@ impl World {
     /// Whether a party follows a strategy.
     fn has_strategy(&self, p: PartyId) -> bool
         requires { p < self.now.deal.graph.n }
-        ensures { result ≡ is_strategy (role_of (cast_at self.now) p) }
+        ensures { result ≡ is_strategy (party_role (world_cast self.now) p) }
     {
         match &self.roles.as_slice()[p as usize] {
             Role::Strategy(_) => true,
@@ -278,7 +278,7 @@ impl World {
     /// Whether a party asks a strategy when it acts.
     fn asks(&self, p: PartyId) -> bool
         requires { p < self.now.deal.graph.n }
-        ensures { result ≡ asks (cast_at self.now) p }
+        ensures { result ≡ asks (world_cast self.now) p }
     {
         if self.conforms(p) {
             return false;
@@ -289,18 +289,18 @@ impl World {
     /// Lets a party act that neither conforms nor follows a strategy: one that follows a script makes its next call.
     fn follow(&mut self, p: PartyId, swept: &[bool]) -> Result<Told, NoMemory>
         requires party { p < self.old.deal.graph.n }
-        requires deviates { conforms (cast_at self.old) p ≡ false }
-        requires alone { asks (cast_at self.old) p ≡ false }
+        requires deviates { conforms (world_cast self.old) p ≡ false }
+        requires alone { asks (world_cast self.old) p ≡ false }
         requires goes_on { self.old.stopped ≡ false }
         ensures ok { OnOk result (self.new
-            ≡ record self.old { state = step_on (swept_in swept.now) (cast_at self.old) self.old.state (Event.Act p) }) }
-        ensures told { IfOk result (λ r. r ≡ told_in (swept_in swept.now) (cast_at self.old) self.old.state (Event.Act p)) }
+            ≡ record self.old { state = apply_step (swept_in swept.now) (world_cast self.old) self.old.state (Event.Act p) }) }
+        ensures told { IfOk result (λ r. r ≡ tell_entries (swept_in swept.now) (world_cast self.old) self.old.state (Event.Act p)) }
         ensures stopped { OnErr result (self.new.stopped ≡ true) }
-        ensures cast { OnErr result (cast_at self.new ≡ cast_at self.old) }
+        ensures cast { OnErr result (world_cast self.new ≡ world_cast self.old) }
         ensures asked { OnErr result (self.new.state.asked ≡ self.old.state.asked) }
         ensures answers { OnErr result (self.new.answers ≡ self.old.answers) }
         ensures book { OnErr result ((self.new.state.book ≡ self.old.state.book)
-            ⊎ (self.new.state.book ≡ (step_on (swept_in swept.now) (cast_at self.old) self.old.state (Event.Act p)).book)) }
+            ⊎ (self.new.state.book ≡ (apply_step (swept_in swept.now) (world_cast self.old) self.old.state (Event.Act p)).book)) }
     {
         let Actor::Planned(planner) = &mut self.actors[p as usize] else {
             return Ok(Told::Nothing);
@@ -320,16 +320,16 @@ impl World {
     /// Lets a party act that asks no strategy.
     fn act_alone(&mut self, p: PartyId, swept: &[bool]) -> Result<Told, NoMemory>
         requires party { p < self.old.deal.graph.n }
-        requires alone { asks (cast_at self.old) p ≡ false }
+        requires alone { asks (world_cast self.old) p ≡ false }
         requires goes_on { self.old.stopped ≡ false }
         ensures ok { OnOk result (self.new
-            ≡ record self.old { state = step_on (swept_in swept.now) (cast_at self.old) self.old.state (Event.Act p) }) }
-        ensures told { IfOk result (λ r. r ≡ told_in (swept_in swept.now) (cast_at self.old) self.old.state (Event.Act p)) }
-        ensures cast { OnErr result (cast_at self.new ≡ cast_at self.old) }
+            ≡ record self.old { state = apply_step (swept_in swept.now) (world_cast self.old) self.old.state (Event.Act p) }) }
+        ensures told { IfOk result (λ r. r ≡ tell_entries (swept_in swept.now) (world_cast self.old) self.old.state (Event.Act p)) }
+        ensures cast { OnErr result (world_cast self.new ≡ world_cast self.old) }
         ensures asked { OnErr result (self.new.state.asked ≡ self.old.state.asked) }
         ensures answers { OnErr result (self.new.answers ≡ self.old.answers) }
         ensures book { OnErr result ((self.new.state.book ≡ self.old.state.book)
-            ⊎ (self.new.state.book ≡ (step_on (swept_in swept.now) (cast_at self.old) self.old.state (Event.Act p)).book)) }
+            ⊎ (self.new.state.book ≡ (apply_step (swept_in swept.now) (world_cast self.old) self.old.state (Event.Act p)).book)) }
     {
         if !self.conforms(p) {
             return self.follow(p, swept);
@@ -345,12 +345,12 @@ impl World {
         swept: &[bool],
     ) -> Result<Told, NoMemory>
         requires party { p < self.old.deal.graph.n }
-        requires asks { asks (cast_at self.old) p ≡ true }
+        requires asks { asks (world_cast self.old) p ≡ true }
         requires goes_on { self.old.stopped ≡ false }
         requires held { AreHeld (A.holds staff.now) self.old.roles }
-        ensures ok { OnOk result (HasGone (A.gives staff.now) (λ c s. step_on (swept_in swept.now) c s (Event.Act p)) self.old self.new) }
+        ensures ok { OnOk result (HasGone (A.gives staff.now) (λ c s. apply_step (swept_in swept.now) c s (Event.Act p)) self.old self.new) }
         ensures told { IfOk result (λ r. (g : Answers) → Continues self.new g
-            → r ≡ told_in (swept_in swept.now) (cast_for self.old g) self.old.state (Event.Act p)) }
+            → r ≡ tell_entries (swept_in swept.now) (answering_cast self.old g) self.old.state (Event.Act p)) }
         ensures cut { OnErr result (IsCutOn (A.gives staff.now) (swept_in swept.now) (Event.Act p) self.old self.new) }
     {
         let Role::Strategy(name) = &self.roles.as_slice()[p as usize] else {
@@ -380,9 +380,9 @@ impl World {
         requires party { p < self.old.deal.graph.n }
         requires goes_on { self.old.stopped ≡ false }
         requires held { AreHeld (A.holds staff.now) self.old.roles }
-        ensures ok { OnOk result (HasGone (A.gives staff.now) (λ c s. step_on (swept_in swept.now) c s (Event.Act p)) self.old self.new) }
+        ensures ok { OnOk result (HasGone (A.gives staff.now) (λ c s. apply_step (swept_in swept.now) c s (Event.Act p)) self.old self.new) }
         ensures told { IfOk result (λ r. (g : Answers) → Continues self.new g
-            → r ≡ told_in (swept_in swept.now) (cast_for self.old g) self.old.state (Event.Act p)) }
+            → r ≡ tell_entries (swept_in swept.now) (answering_cast self.old g) self.old.state (Event.Act p)) }
         ensures cut { OnErr result (IsCutOn (A.gives staff.now) (swept_in swept.now) (Event.Act p) self.old self.new) }
     {
         if self.asks(p) {
@@ -394,16 +394,16 @@ impl World {
     /// Makes the move of a party that follows neither a script nor a strategy.
     fn make_plain(&mut self, sender: PartyId, mv: &Move, swept: &[bool]) -> Result<Told, NoMemory>
         requires event { CanCall self.old.deal self.old.conforming self.old.seeds sender mv.now }
-        requires plain { is_planned (role_of (cast_at self.old) sender) ≡ false }
+        requires plain { is_planned (party_role (world_cast self.old) sender) ≡ false }
         requires goes_on { self.old.stopped ≡ false }
         ensures ok { OnOk result (self.new
-            ≡ record self.old { state = step_on (swept_in swept.now) (cast_at self.old) self.old.state (Event.Call sender mv.now) }) }
-        ensures told { IfOk result (λ r. r ≡ told_in (swept_in swept.now) (cast_at self.old) self.old.state (Event.Call sender mv.now)) }
-        ensures cast { OnErr result (cast_at self.new ≡ cast_at self.old) }
+            ≡ record self.old { state = apply_step (swept_in swept.now) (world_cast self.old) self.old.state (Event.Call sender mv.now) }) }
+        ensures told { IfOk result (λ r. r ≡ tell_entries (swept_in swept.now) (world_cast self.old) self.old.state (Event.Call sender mv.now)) }
+        ensures cast { OnErr result (world_cast self.new ≡ world_cast self.old) }
         ensures asked { OnErr result (self.new.state.asked ≡ self.old.state.asked) }
         ensures answers { OnErr result (self.new.answers ≡ self.old.answers) }
         ensures book { OnErr result ((self.new.state.book ≡ self.old.state.book)
-            ⊎ (self.new.state.book ≡ (step_on (swept_in swept.now) (cast_at self.old) self.old.state (Event.Call sender mv.now)).book)) }
+            ⊎ (self.new.state.book ≡ (apply_step (swept_in swept.now) (world_cast self.old) self.old.state (Event.Call sender mv.now)).book)) }
     {
         let done = turn::make(
             &mut self.ledgers,
@@ -421,13 +421,13 @@ impl World {
         requires event { CanCall self.old.deal self.old.conforming self.old.seeds sender mv.now }
         requires goes_on { self.old.stopped ≡ false }
         ensures ok { OnOk result (self.new
-            ≡ record self.old { state = step_on (swept_in swept.now) (cast_at self.old) self.old.state (Event.Call sender mv.now) }) }
-        ensures told { IfOk result (λ r. r ≡ told_in (swept_in swept.now) (cast_at self.old) self.old.state (Event.Call sender mv.now)) }
-        ensures cast { OnErr result (cast_at self.new ≡ cast_at self.old) }
+            ≡ record self.old { state = apply_step (swept_in swept.now) (world_cast self.old) self.old.state (Event.Call sender mv.now) }) }
+        ensures told { IfOk result (λ r. r ≡ tell_entries (swept_in swept.now) (world_cast self.old) self.old.state (Event.Call sender mv.now)) }
+        ensures cast { OnErr result (world_cast self.new ≡ world_cast self.old) }
         ensures asked { OnErr result (self.new.state.asked ≡ self.old.state.asked) }
         ensures answers { OnErr result (self.new.answers ≡ self.old.answers) }
         ensures book { OnErr result ((self.new.state.book ≡ self.old.state.book)
-            ⊎ (self.new.state.book ≡ (step_on (swept_in swept.now) (cast_at self.old) self.old.state (Event.Call sender mv.now)).book)) }
+            ⊎ (self.new.state.book ≡ (apply_step (swept_in swept.now) (world_cast self.old) self.old.state (Event.Call sender mv.now)).book)) }
     {
         let Actor::Planned(planner) = &mut self.actors[sender as usize] else {
             return self.make_plain(sender, mv, swept);
@@ -449,8 +449,8 @@ impl World {
     fn crash(&mut self, p: PartyId, k: u8, image: u8) -> Result<(), NoMemory>
         requires event { CanCrash self.old.deal self.old.conforming p k }
         requires goes_on { self.old.stopped ≡ false }
-        ensures ok { OnOk result (self.new ≡ record self.old { state = step (cast_at self.old) self.old.state (Event.Crash p k image) }) }
-        ensures cast { OnErr result (cast_at self.new ≡ cast_at self.old) }
+        ensures ok { OnOk result (self.new ≡ record self.old { state = step (world_cast self.old) self.old.state (Event.Crash p k image) }) }
+        ensures cast { OnErr result (world_cast self.new ≡ world_cast self.old) }
         ensures asked { OnErr result (self.new.state.asked ≡ self.old.state.asked) }
         ensures answers { OnErr result (self.new.answers ≡ self.old.answers) }
         ensures book { self.new.state.book ≡ self.old.state.book }
@@ -477,9 +477,9 @@ impl World {
         requires event { CanStep self.old.deal self.old.conforming self.old.seeds event.now }
         requires goes_on { self.old.stopped ≡ false }
         requires held { AreHeld (A.holds staff.now) self.old.roles }
-        ensures ok { OnOk result (HasGone (A.gives staff.now) (λ c s. step_on (swept_in swept.now) c s event.now) self.old self.new) }
+        ensures ok { OnOk result (HasGone (A.gives staff.now) (λ c s. apply_step (swept_in swept.now) c s event.now) self.old self.new) }
         ensures told { IfOk result (λ r. (g : Answers) → Continues self.new g
-            → r ≡ told_in (swept_in swept.now) (cast_for self.old g) self.old.state event.now) }
+            → r ≡ tell_entries (swept_in swept.now) (answering_cast self.old g) self.old.state event.now) }
         ensures cut { OnErr result (IsCutOn (A.gives staff.now) (swept_in swept.now) event.now self.old self.new) }
     {
         match event {
@@ -510,9 +510,9 @@ impl World {
         requires event { CanStep self.old.deal self.old.conforming self.old.seeds event.now }
         requires goes_on { self.old.stopped ≡ false }
         requires held { AreHeld (A.holds staff.now) self.old.roles }
-        ensures ok { OnOk result (HasGone (A.gives staff.now) (λ c s. step_on (swept_in swept.now) c s event.now) self.old self.new) }
+        ensures ok { OnOk result (HasGone (A.gives staff.now) (λ c s. apply_step (swept_in swept.now) c s event.now) self.old self.new) }
         ensures told { IfOk result (λ r. (g : Answers) → Continues self.new g
-            → r ≡ told_in (swept_in swept.now) (cast_for self.old g) self.old.state event.now) }
+            → r ≡ tell_entries (swept_in swept.now) (answering_cast self.old g) self.old.state event.now) }
         ensures err { OnErr result (self.new.stopped ≡ true) }
         ensures cut { OnErr result (IsCutOn (A.gives staff.now) (swept_in swept.now) event.now self.old self.new) }
     {
@@ -537,18 +537,18 @@ impl World {
         requires goes_on { self.now.stopped ≡ false }
         requires low { has_ended self.now.deal self.now.state.book ≡ false }
         ensures few { result ≤ most }
-        ensures skips { (g : Answers) → IsSkipped (cast_for self.now g) result self.now.state }
+        ensures skips { (g : Answers) → IsSkipped (answering_cast self.now g) result self.now.state }
     {
-        let low = quiet::rounds_below(&self.ledgers, fair::horizon_of(&self.deal), most);
-        self.rests_for(near, low)
+        let low = quiet::horizon_rounds(&self.ledgers, fair::deal_horizon(&self.deal), most);
+        self.rest_rounds(near, low)
     }
 
     /// At most `most` rounds in which nobody makes a call, so that only ticks come between them.
-    pub fn rests_for(&self, near: &[Listed<ArcId>], most: u64) -> u64
+    pub fn rest_rounds(&self, near: &[Listed<ArcId>], most: u64) -> u64
         requires near { near.now ≡ all_adjacent self.now.deal }
         requires goes_on { self.now.stopped ≡ false }
         ensures few { result ≤ most }
-        ensures still { 0 < result → IsStill (cast_at self.now) result self.now.state }
+        ensures still { 0 < result → IsStill (world_cast self.now) result self.now.state }
     {
         quiet::rounds(&self.deal, &self.ledgers, &self.actors, near, most)
     }
@@ -562,7 +562,7 @@ impl World {
 
     /// Takes one event, where some slots may be swept (an empty list: none is), and answers what its party is told of its call. After want of memory
     /// the histories are those before the event or after it, and every later step wants memory too.
-    pub fn step_on<A: Strategies>(
+    pub fn apply_step<A: Strategies>(
         &mut self,
         staff: &A,
         event: &Event,
@@ -570,14 +570,14 @@ impl World {
     ) -> Result<Told, NoMemory>
         requires event { CanStep self.old.deal self.old.conforming self.old.seeds event.now }
         requires held { AreHeld (A.holds staff.now) self.old.roles }
-        ensures ok { OnOk result (HasGone (A.gives staff.now) (λ c s. step_on (swept_in swept.now) c s event.now) self.old self.new) }
+        ensures ok { OnOk result (HasGone (A.gives staff.now) (λ c s. apply_step (swept_in swept.now) c s event.now) self.old self.new) }
         ensures told { IfOk result (λ r. (g : Answers) → Continues self.new g
-            → r ≡ told_in (swept_in swept.now) (cast_for self.old g) self.old.state event.now) }
+            → r ≡ tell_entries (swept_in swept.now) (answering_cast self.old g) self.old.state event.now) }
         ensures err { OnErr result (self.new.stopped ≡ true) }
         ensures cut { OnErr result (IsCutOn (A.gives staff.now) (swept_in swept.now) event.now self.old self.new) }
         ensures stopped { IsTrue self.old.stopped → IsErr result × (self.new.state.book ≡ self.old.state.book) }
         // Whatever the others do, and whether memory ran out or not, every conforming party has kept its conduct.
-        ensures kept { IsKept (cast_at self.new) self.new.state.book }
+        ensures kept { IsKept (world_cast self.new) self.new.state.book }
     {
         if self.stopped {
             return Err(NoMemory);
@@ -595,9 +595,9 @@ impl World {
         ensures cut { OnErr result (IsCut (A.gives staff.now) event.now self.old self.new) }
         ensures stopped { IsTrue self.old.stopped → IsErr result × (self.new.state.book ≡ self.old.state.book) }
         // Whatever the others do, and whether memory ran out or not, every conforming party has kept its conduct.
-        ensures kept { IsKept (cast_at self.new) self.new.state.book }
+        ensures kept { IsKept (world_cast self.new) self.new.state.book }
     {
-        match self.step_on(staff, event, &[]) {
+        match self.apply_step(staff, event, &[]) {
             Ok(_) => Ok(()),
             Err(NoMemory) => Err(NoMemory),
         }
@@ -607,11 +607,11 @@ impl World {
     pub fn run<A: Strategies>(&mut self, staff: &A, events: &[Event]) -> Result<(), NoMemory>
         requires events { All (CanStep self.old.deal self.old.conforming self.old.seeds) events.now }
         requires held { AreHeld (A.holds staff.now) self.old.roles }
-        ensures ok { OnOk result (HasGone (A.gives staff.now) (λ c s. run_from c s events.now) self.old self.new) }
+        ensures ok { OnOk result (HasGone (A.gives staff.now) (λ c s. continued_run c s events.now) self.old self.new) }
         ensures err { OnErr result (IsStopped (A.gives staff.now) (λ c s. events.now) self.old self.new) }
         ensures prefix { OnErr result (IsAfterSome events.now self.old self.new) }
         ensures stopped { IsTrue self.old.stopped → IsErr result × (self.new.state.book ≡ self.old.state.book) }
-        ensures kept { IsKept (cast_at self.new) self.new.state.book }
+        ensures kept { IsKept (world_cast self.new) self.new.state.book }
     {
         if self.stopped {
             return Err(NoMemory);
@@ -627,11 +627,11 @@ impl World {
         ensures ok { OnOk result (HasGone (A.gives staff.now) finish self.old self.new) }
         ensures ended { OnOk result (IsEnded self.old.deal self.new.state.book) }
         // Where every party conforms and nothing came before, everything moves.
-        ensures dealt { OnOk result (AllConform self.old → self.old.state ≡ start (cast_at self.old)
-            → IsDealt self.old.deal (conforms (cast_at self.old)) self.new.state.book) }
+        ensures dealt { OnOk result (AllConform self.old → self.old.state ≡ start (world_cast self.old)
+            → IsDealt self.old.deal (conforms (world_cast self.old)) self.new.state.book) }
         ensures err { OnErr result (IsStopped (A.gives staff.now) finish_steps self.old self.new) }
         ensures stopped { IsTrue self.old.stopped → IsErr result × (self.new.state.book ≡ self.old.state.book) }
-        ensures kept { IsKept (cast_at self.new) self.new.state.book }
+        ensures kept { IsKept (world_cast self.new) self.new.state.book }
     {
         if self.stopped {
             return Err(NoMemory);
@@ -643,7 +643,7 @@ impl World {
     pub fn deal(&self) -> &Deal
         ensures value { result.now ≡ self.now.deal }
         ensures sized { IsWellSized result.now }
-        ensures ready { IsReadyCast (cast_at self.now) }
+        ensures ready { IsReadyCast (world_cast self.now) }
     {
         &self.deal
     }
@@ -658,16 +658,16 @@ impl World {
 
     /// Ticks each ledger of these arcs, those that stand on a chain, by k heights. It makes all ticks; where there is no memory for a further entry
     /// then, the world is stopped.
-    pub fn tick_on(&mut self, on: &[ArcId], k: u32)
+    pub fn tick_ledgers(&mut self, on: &[ArcId], k: u32)
         requires some { 1 ≤ k }
         requires below { k ≤ 1000000 }
         requires arcs { All (λ a. a < length self.old.deal.graph.arcs) on.now }
         requires ascending { IsStrictlyIncreasing on.now }
         requires goes_on { self.old.stopped ≡ false }
-        ensures ticked { self.new.state ≡ ticked_on on.now k (cast_at self.old) self.old.state }
+        ensures ticked { self.new.state ≡ ticked_on on.now k (world_cast self.old) self.old.state }
         ensures same { self.new ≡ record self.old { state = self.new.state; stopped = self.new.stopped } }
         // Every conforming party has kept its conduct.
-        ensures kept { IsKept (cast_at self.new) self.new.state.book }
+        ensures kept { IsKept (world_cast self.new) self.new.state.book }
     {
         let ready = chain::tick_all(&mut self.ledgers, &self.deal, on, k);
         self.stopped = !ready;
@@ -683,22 +683,22 @@ impl World {
     /// The disk of a conforming party, also where memory ran out on the way.
     pub fn disk(&self, p: PartyId) -> &MemoryDisk
         requires party { p < self.now.deal.graph.n }
-        requires conforms { conforms (cast_at self.now) p ≡ true }
+        requires conforms { conforms (world_cast self.now) p ≡ true }
 
         // What a read gives is among what a crash may leave.
         ensures read { Leaves result.now.held (read_bytes result.now.held) }
 
         // Each crash leaves the hashkey of each unlock call that the party made, on whatever arc, recorded for its lock; and so does a read.
         ensures calls { (a : ℕ) (past : List Entry) (e : Entry) (key : Hashkey) → IsMoment (history self.now.state.book a) past e
-            → call_by p e ≡ Some (Unlock key) → (c : List ℕ) → Leaves result.now.held c → recorded c key.lock ≡ Some key }
+            → pick_call p e ≡ Some (Unlock key) → (c : List ℕ) → Leaves result.now.held c → recorded c key.lock ≡ Some key }
 
         // It leaves no hashkey recorded that the party didn't sign.
         ensures only { (i : ℕ) (key : Hashkey) → i < length self.now.deal.leaders → (c : List ℕ) → Leaves result.now.held c
-            → recorded c i ≡ Some key → signed_in (notes_of self.now.state p).signed i ≡ Some key }
+            → recorded c i ≡ Some key → signed_in (state_notes self.now.state p).signed i ≡ Some key }
 
         // And just those that it signed, unless memory ran out between signing and recording.
         ensures durable { self.now.stopped ≡ false → (i : ℕ) → i < length self.now.deal.leaders → (c : List ℕ) → Leaves result.now.held c
-            → recorded c i ≡ signed_in (notes_of self.now.state p).signed i }
+            → recorded c i ≡ signed_in (state_notes self.now.state p).signed i }
     {
         let Some(journal) = &self.journals[p as usize] else {
             unreachable!();
@@ -734,7 +734,7 @@ impl World {
     fn into_ledgers(self) -> Vec<Ledger>
         ensures value { map (λ l. l.history) result.items ≡ self.state.book }
         ensures legal { IsLegalBook self.deal self.state.book }
-        ensures kept { IsKept (cast_at self) self.state.book }
+        ensures kept { IsKept (world_cast self) self.state.book }
     {
         let World { ledgers, .. } = self;
         ledgers
@@ -745,10 +745,10 @@ impl World {
         ensures value { IfOk result (λ b. b.histories ≡ self.now.state.book) }
         ensures legal { IsLegalBook self.now.deal self.now.state.book }
         // Whatever the others do, every conforming party keeps its conduct.
-        ensures kept { IsKept (cast_at self.now) self.now.state.book }
+        ensures kept { IsKept (world_cast self.now) self.now.state.book }
     {
         Ok(Book {
-            histories: copies_of(alloc, &self.ledgers)?,
+            histories: ledger_copies(alloc, &self.ledgers)?,
         })
     }
 
@@ -757,11 +757,11 @@ impl World {
         ensures value { IfOk result (λ b. b.histories ≡ self.state.book) }
         ensures legal { IsLegalBook self.deal self.state.book }
         // Whatever the others do, every conforming party keeps its conduct.
-        ensures kept { IsKept (cast_at self) self.state.book }
+        ensures kept { IsKept (world_cast self) self.state.book }
     {
         let ledgers = self.into_ledgers();
         Ok(Book {
-            histories: histories_of(alloc, ledgers)?,
+            histories: ledger_histories(alloc, ledgers)?,
         })
     }
 }

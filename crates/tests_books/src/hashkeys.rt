@@ -236,7 +236,7 @@ fn the_first_fault_is_named(rt: HostRuntime) -> Result<(), Fail> {
     finds_the_faults_around(&rt, rt.alloc(), &ring)
 }
 
-fn digest_of(alloc: Global, header: &str) -> Result<Digest, Fail> {
+fn to_digest(alloc: Global, header: &str) -> Result<Digest, Fail> {
     let deal = read(alloc, header)?;
     Ok(deal_digest(&deal))
 }
@@ -244,13 +244,13 @@ fn digest_of(alloc: Global, header: &str) -> Result<Digest, Fail> {
 /// The digest of the offer's deal is that of the text.
 fn has_digest(rt: &impl Abort, alloc: Global, header: &str, text: &str) -> Result<(), Fail> {
     let wanted = <Digest as FromHex>::from_hex(text)?;
-    let digest = digest_of(alloc, header)?;
+    let digest = to_digest(alloc, header)?;
     assert!(rt; digest == wanted, "{text}");
     Ok(())
 }
 
 /// The digest of the deal of three parties with hashkeys is that of the text, where the offer has that version.
-fn has_digest_in(rt: &impl Abort, alloc: Global, version: &str, text: &str) -> Result<(), Fail> {
+fn has_text_digest(rt: &impl Abort, alloc: Global, version: &str, text: &str) -> Result<(), Fail> {
     let header = jobs::THREE.replacen(alloc, "\"swap\":1", version, 1)?;
     has_digest(rt, alloc, header.as_str(), text)
 }
@@ -263,7 +263,7 @@ fn digests_of_deals(rt: HostRuntime) -> Result<(), Fail> {
     let hashkeys = "f9c2c81c2fb42fd1ac0938069fecd63a5c984c3f4ed0c3e941f7d04c8441043d";
     has_digest(&rt, rt.alloc(), rings::three(), hashkeys)?;
     let first = "782fe71bee4ff7a857bfbfa864d376ab6cda86d211b5814c16073d2acebac479";
-    has_digest_in(&rt, rt.alloc(), "\"swap\":1", first)?;
+    has_text_digest(&rt, rt.alloc(), "\"swap\":1", first)?;
     let second = "6b24ffde0357b0300f14fc7bd47c875d18e2e9d8835f11011187b25dfc64a754";
-    has_digest_in(&rt, rt.alloc(), "\"swap\":2", second)
+    has_text_digest(&rt, rt.alloc(), "\"swap\":2", second)
 }

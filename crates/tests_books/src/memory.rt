@@ -1,11 +1,11 @@
 //! Calls of libraries that may answer that memory is wanting, and that the program never makes.
 
 ghost use Rattle.std.specs.Prelude.{◌≡◌, true, IfOk, All, length};
-ghost use Rattle.swap_job.specs.Step.{IsEventOf};
+ghost use Rattle.swap_job.specs.Step.{IsJobEvent};
 ghost use Rattle.ledger_core.specs.Book.{IsLegalBook};
 ghost use Rattle.offer_events.specs.Event.{needs_seeds};
 ghost use Rattle.offer_header.specs.Limits.{HoldsEach};
-ghost use Rattle.party_wallet.specs.Wallets.{wallets_of};
+ghost use Rattle.party_wallet.specs.Wallets.{new_wallets};
 ghost use Rattle.swap_digraph.specs.Deal.{IsWellSized};
 ghost use Rattle.swap_offer.specs.Job.{IsWholeJob};
 ghost use Rattle.swap_offer.specs.Wallets.{HaveScripts, HaveWallets};
@@ -14,7 +14,7 @@ ghost use Rattle.swap_rules.specs.Accepted.{IsAccepted};
 use crate::jobs;
 use deviators::{Kit, Strategies};
 use ledger_core::Book;
-use outcome_rules::{findings, report_of, unfinished};
+use outcome_rules::{build_report, findings, unfinished};
 use party_wallet::Wallet;
 use report_text::report_text;
 use std::alloc::Global;
@@ -49,7 +49,7 @@ fn has_end(rt: &impl Abort, alloc: Global, job: &Job, book: &Book, end: &[u8]) -
     requires legal { IsLegalBook job.now.deal book.now.histories }
     requires conforming { length job.now.conforming ≡ job.now.deal.graph.n }
 {
-    let report = report_of(alloc, &job.deal, &job.conforming, book)?;
+    let report = build_report(alloc, &job.deal, &job.conforming, book)?;
     assert!(rt; report.outcomes.len() <= 256);
     Ok(
         report_text(alloc, job, book, &report)?
@@ -92,8 +92,8 @@ fn played<A: Strategies>(
     requires wallets { HaveWallets job.now }
     requires scripts { HaveScripts job.now }
     requires strategies { HoldsEach (A.holds staff.now) job.now.roles }
-    requires made { wallets.items ≡ wallets_of job.now.deal job.now.conforming job.now.seeds }
-    requires events { All (IsEventOf job.now) events.now }
+    requires made { wallets.items ≡ new_wallets job.now.deal job.now.conforming job.now.seeds }
+    requires events { All (IsJobEvent job.now) events.now }
     ensures { IfOk result (λ b. IsLegalBook job.now.deal b.histories) }
 {
     let mut world = World::new(alloc, job, wallets)?;
@@ -115,7 +115,7 @@ fn tells<A: Strategies>(
     requires wallets { HaveWallets job.now }
     requires scripts { HaveScripts job.now }
     requires strategies { HoldsEach (A.holds staff.now) job.now.roles }
-    requires made { wallets.items ≡ wallets_of job.now.deal job.now.conforming job.now.seeds }
+    requires made { wallets.items ≡ new_wallets job.now.deal job.now.conforming job.now.seeds }
 {
     let events = [next_event(alloc, job, 0, 2, b"{\"tick\":0,\"by\":2}")?];
     let book = played(alloc, job, staff, wallets, &events)?;
@@ -123,7 +123,7 @@ fn tells<A: Strategies>(
 }
 
 /// Tells of the book of three parties, with whoever answers for strategies.
-fn tells_with<A: Strategies>(rt: &impl Abort, alloc: Global, staff: &A) -> Result<(), Fail> {
+fn check_told<A: Strategies>(rt: &impl Abort, alloc: Global, staff: &A) -> Result<(), Fail> {
     let strategies = staff.names()?;
     let Prepared { job, wallets, .. } = read_header(
         alloc,
@@ -137,7 +137,7 @@ fn tells_with<A: Strategies>(rt: &impl Abort, alloc: Global, staff: &A) -> Resul
 
 #[test]
 fn a_book_is_told_without_the_program(rt: HostRuntime) -> Result<(), Fail> {
-    tells_with(&rt, rt.alloc(), &Kit::new(rt.alloc()))
+    check_told(&rt, rt.alloc(), &Kit::new(rt.alloc()))
 }
 
 /// How many parties the job of number 7 has, and how many events.

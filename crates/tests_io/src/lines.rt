@@ -1,7 +1,7 @@
 //! Lines of a source, one after another.
 
 use crate::rows::answers;
-use crate::whole::source_of;
+use crate::whole::make_source;
 use std::alloc::Global;
 use std::test::Fail;
 use swap_io::{LineEnd, LineFault, Lines, VecSource};
@@ -24,7 +24,7 @@ fn line_of(
 }
 
 /// Reads at most so many lines.
-fn lines_of(
+fn collect_lines(
     lines: &mut Lines,
     source: &mut VecSource,
     line: &mut Vec<u8>,
@@ -49,13 +49,13 @@ fn read_lines(
 ) -> Result<(), LineFault> {
     let mut lines = Lines::new(alloc, limit as usize)?;
     let mut line = Vec::new(alloc);
-    lines_of(&mut lines, source, &mut line, all, most)
+    collect_lines(&mut lines, source, &mut line, all, most)
 }
 
 /// The lines of an input, each with its mark.
 fn read_back(alloc: Global, input: &[u8], per_call: usize, limit: u32) -> Result<Vec<u8>, Fail> {
     let mut all = Vec::new(alloc);
-    let mut source = source_of(alloc, input, per_call, &[])?;
+    let mut source = make_source(alloc, input, per_call, &[])?;
     read_lines(alloc, &mut source, limit, input.len() + 2, &mut all)?;
     Ok(all)
 }
@@ -135,7 +135,7 @@ fn gives_lines_that_are_longer_than_its_buffer(rt: HostRuntime) -> Result<(), Fa
 
 /// How the reading of two lines ends that may take at most so many bytes.
 fn limited(alloc: Global, limit: u32) -> Result<String, Fail> {
-    let mut source = source_of(alloc, b"ab\ncd", 2, &[])?;
+    let mut source = make_source(alloc, b"ab\ncd", 2, &[])?;
     let mut all = Vec::new(alloc);
     let done = read_lines(alloc, &mut source, limit, 7, &mut all);
     ending(alloc, done)
@@ -146,7 +146,7 @@ fn ending(alloc: Global, done: Result<(), LineFault>) -> Result<String, Fail> {
 }
 
 /// What a drain answers after the first line.
-fn drained_by(
+fn drain_lines(
     alloc: Global,
     lines: &mut Lines,
     source: &mut VecSource,
@@ -162,12 +162,12 @@ fn drained_by(
 fn drained_after_one(alloc: Global, source: &mut VecSource, limit: u32) -> Result<String, Fail> {
     let mut lines = Lines::new(alloc, limit as usize)?;
     let mut line = Vec::new(alloc);
-    drained_by(alloc, &mut lines, source, &mut line)
+    drain_lines(alloc, &mut lines, source, &mut line)
 }
 
 /// What a drain answers after the first of three lines of seven bytes, with so many bytes at most.
 fn drained(alloc: Global, limit: u32, failing: &[u64]) -> Result<String, Fail> {
-    let mut source = source_of(alloc, b"a\nb\ncd\n", 4, failing)?;
+    let mut source = make_source(alloc, b"a\nb\ncd\n", 4, failing)?;
     drained_after_one(alloc, &mut source, limit)
 }
 

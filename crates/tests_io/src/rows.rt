@@ -4,12 +4,17 @@ use crate::lines::lines_told;
 use crate::whole::{
     broken_read, full_writer, grown, reader_read, vec_read, vec_written, writer_written,
 };
-use crate::words::task_of;
+use crate::words::task_text;
 use std::alloc::Global;
 use std::test::Fail;
 
 /// The answer to a word with a number, where the calls of these numbers fail.
-fn answer_of(alloc: Global, word: &str, most: usize, failing: &[u64]) -> Result<String, Fail> {
+fn computed_answer(
+    alloc: Global,
+    word: &str,
+    most: usize,
+    failing: &[u64],
+) -> Result<String, Fail> {
     match word {
         "read" => vec_read(alloc, most, failing),
         "reader" => reader_read(alloc, most),
@@ -26,14 +31,14 @@ fn answer_of(alloc: Global, word: &str, most: usize, failing: &[u64]) -> Result<
 fn told(alloc: Global, asked: &str) -> Result<String, Fail> {
     let (word, numbers) = asked.split_once(" ").ok_or("no number")?;
     match numbers.split_once(" ") {
-        Some((most, call)) => answer_of(alloc, word, most.parse()?, &[call.parse()?]),
-        None => answer_of(alloc, word, numbers.parse()?, &[]),
+        Some((most, call)) => computed_answer(alloc, word, most.parse()?, &[call.parse()?]),
+        None => computed_answer(alloc, word, numbers.parse()?, &[]),
     }
 }
 
-fn told_about(alloc: Global, about: &str, asked: &str) -> Result<String, Fail> {
+fn tell_text(alloc: Global, about: &str, asked: &str) -> Result<String, Fail> {
     if about == "words" {
-        task_of(alloc, asked)
+        task_text(alloc, asked)
     } else {
         told(alloc, asked)
     }
@@ -41,14 +46,14 @@ fn told_about(alloc: Global, about: &str, asked: &str) -> Result<String, Fail> {
 
 fn is_answered(alloc: Global, about: &str, row: &str) -> Result<(), Fail> {
     let (asked, wanted) = row.split_once(" => ").ok_or("no row")?;
-    let answer = told_about(alloc, about, asked)?;
+    let answer = tell_text(alloc, about, asked)?;
     if answer.as_str() != wanted {
         return Err(Fail::new(format_args!("{row} but {answer}")));
     }
     Ok(())
 }
 
-/// Each row is what is asked and the answer: `ASKED => ANSWER`. What is asked are words of the program, or a word of `answer_of` with its numbers.
+/// Each row is what is asked and the answer: `ASKED => ANSWER`. What is asked are words of the program, or a word of `computed_answer` with its numbers.
 pub(crate) fn answers(alloc: Global, about: &str, table: &str) -> Result<(), Fail> {
     for row in table.lines() {
         is_answered(alloc, about, row)?;

@@ -6,24 +6,24 @@ use std::io::{self, Read};
 use std::test::Fail;
 use swap_base::{ByteText, NoMemory};
 use swap_io::{
-    ReaderSource, Source, TextSink, VecSink, VecSource, WriteFault, WriterSink, flush, pass_on,
-    read_all, write_all,
+    ReaderSource, Source, TextSink, VecSink, VecSource, WriteFault, WriterSink, flush,
+    flush_waiting, read_all, write_all,
 };
 
-fn text_of(alloc: Global, bytes: &[u8]) -> Result<String, Fail> {
+fn to_text(alloc: Global, bytes: &[u8]) -> Result<String, Fail> {
     Ok(String::from_str(alloc, str::from_utf8(bytes)?)?)
 }
 
 /// All that a source gives, or why it was not read whole.
-fn all_of<S: Source>(alloc: Global, source: &mut S, limit: usize) -> Result<String, Fail> {
+fn whole_source<S: Source>(alloc: Global, source: &mut S, limit: usize) -> Result<String, Fail> {
     match read_all(alloc, source, limit) {
-        Ok(all) => text_of(alloc, &all),
+        Ok(all) => to_text(alloc, &all),
         Err(fault) => Ok(format!(in alloc; "{fault:?}")?),
     }
 }
 
 /// A source of these bytes, some of whose reads fail.
-pub(crate) fn source_of(
+pub(crate) fn make_source(
     alloc: Global,
     input: &[u8],
     per_call: usize,
@@ -36,14 +36,14 @@ pub(crate) fn source_of(
 
 /// Five bytes from memory.
 pub(crate) fn vec_read(alloc: Global, limit: usize, failing: &[u64]) -> Result<String, Fail> {
-    let mut source = source_of(alloc, b"hello", 2, failing)?;
-    all_of(alloc, &mut source, limit)
+    let mut source = make_source(alloc, b"hello", 2, failing)?;
+    whole_source(alloc, &mut source, limit)
 }
 
 /// Five bytes from a reader.
 pub(crate) fn reader_read(alloc: Global, limit: usize) -> Result<String, Fail> {
     let mut source = ReaderSource::new(b"hello".as_slice());
-    all_of(alloc, &mut source, limit)
+    whole_source(alloc, &mut source, limit)
 }
 
 #[derive(Drop)]
@@ -58,28 +58,28 @@ impl Read for Broken {
 /// A reader whose reads all fail.
 pub(crate) fn broken_read(alloc: Global, limit: usize) -> Result<String, Fail> {
     let mut source = ReaderSource::new(Broken);
-    all_of(alloc, &mut source, limit)
+    whole_source(alloc, &mut source, limit)
 }
 
 /// What was taken of a text, and what was answered.
-fn taken_of(alloc: Global, taken: &[u8], done: Result<(), WriteFault>) -> Result<String, Fail> {
+fn taken_text(alloc: Global, taken: &[u8], done: Result<(), WriteFault>) -> Result<String, Fail> {
     let text = str::from_utf8(taken)?;
     Ok(format!(in alloc; "[{text}] {done:?}")?)
 }
 
-fn sink_of(alloc: Global, room: usize, failing: &[u64]) -> Result<VecSink, NoMemory> {
+fn make_sink(alloc: Global, room: usize, failing: &[u64]) -> Result<VecSink, NoMemory> {
     let failing = Vec::from_slice(alloc, failing)?;
     VecSink::new(alloc, room, 2, failing)
 }
 
 /// Five bytes to a sink in memory of so much room.
 pub(crate) fn vec_written(alloc: Global, room: usize, failing: &[u64]) -> Result<String, Fail> {
-    let mut sink = sink_of(alloc, room, failing)?;
+    let mut sink = make_sink(alloc, room, failing)?;
     let done = write_all(&mut sink, b"hello");
-    taken_of(alloc, sink.taken(), done)
+    taken_text(alloc, sink.taken(), done)
 }
 
-fn write_to(out: &mut Vec<u8>) -> Result<(), WriteFault> {
+fn write_output(out: &mut Vec<u8>) -> Result<(), WriteFault> {
     let mut sink = WriterSink::new(out);
     write_all(&mut sink, b"hello")
 }
@@ -87,8 +87,8 @@ fn write_to(out: &mut Vec<u8>) -> Result<(), WriteFault> {
 /// Five bytes to a writer that grows.
 pub(crate) fn writer_written(alloc: Global) -> Result<String, Fail> {
     let mut out = Vec::new(alloc);
-    let done = write_to(&mut out);
-    taken_of(alloc, &out, done)
+    let done = write_output(&mut out);
+    taken_text(alloc, &out, done)
 }
 
 /// Five bytes to a writer with room for three.
@@ -96,21 +96,21 @@ pub(crate) fn full_writer(alloc: Global) -> Result<String, Fail> {
     let mut room = [0; 3];
     let mut sink = WriterSink::new(room.as_mut_slice());
     let done = write_all(&mut sink, b"hello");
-    taken_of(alloc, &room, done)
+    taken_text(alloc, &room, done)
 }
 
 /// How many bytes wait behind a call with those that wait, and behind one with one byte more; then all are written.
 fn waits(sink: &mut TextSink, waiting: &mut Vec<u8>) -> Result<(usize, usize), Fail> {
-    pass_on(sink, waiting)?;
+    flush_waiting(sink, waiting)?;
     let first = waiting.len();
     waiting.push(b'y')?;
-    pass_on(sink, waiting)?;
+    flush_waiting(sink, waiting)?;
     let then = waiting.len();
     flush(sink, waiting)?;
     Ok((first, then))
 }
 
-fn counts_of(alloc: Global, first: usize, then: usize, text: &ByteText) -> Result<String, Fail> {
+fn read_counts(alloc: Global, first: usize, then: usize, text: &ByteText) -> Result<String, Fail> {
     let written = text.as_slice().len();
     Ok(format!(in alloc; "{first} {then} {written}")?)
 }
@@ -120,7 +120,7 @@ pub(crate) fn grown(alloc: Global, bytes: usize) -> Result<String, Fail> {
     let mut waiting = vec![in alloc; b'x'; bytes]?;
     let mut sink = TextSink::new(alloc);
     let (first, then) = waits(&mut sink, &mut waiting)?;
-    counts_of(alloc, first, then, &sink.into_text())
+    read_counts(alloc, first, then, &sink.into_text())
 }
 
 /// A number is the most bytes that are read, the room, or how many bytes are written; one behind it is that of a call that fails.

@@ -11,7 +11,7 @@ fn add_word(alloc: Global, words: &mut Vec<String>, word: &str) -> Result<(), Fa
 }
 
 /// The words that stand between single blanks.
-fn words_in(alloc: Global, text: &str) -> Result<Vec<String>, Fail> {
+fn split_words(alloc: Global, text: &str) -> Result<Vec<String>, Fail> {
     let mut words = Vec::new(alloc);
     for word in text.split(" ") {
         add_word(alloc, &mut words, word)?;
@@ -28,8 +28,8 @@ fn told(alloc: Global, words: &[String]) -> Result<String, Fail> {
 }
 
 /// The task that the words of a text ask for.
-pub(crate) fn task_of(alloc: Global, text: &str) -> Result<String, Fail> {
-    let words = words_in(alloc, text)?;
+pub(crate) fn task_text(alloc: Global, text: &str) -> Result<String, Fail> {
+    let words = split_words(alloc, text)?;
     told(alloc, &words)
 }
 

@@ -51,7 +51,7 @@ fn put_lock(alloc: Global, disk: &mut MemoryDisk, lock: u32, words: &str)
 }
 
 /// A disk with a head, and what is written for the locks 0 and 1, if anything.
-fn disk_of(alloc: Global, asked: &str) -> MemoryDisk {
+fn make_disk(alloc: Global, asked: &str) -> MemoryDisk {
     let (head, bodies) = parted(asked, "; ");
     let (first, second) = parted(bodies, "; ");
     let mut disk = MemoryDisk::new(alloc, Vec::new(alloc));
@@ -65,7 +65,7 @@ fn disk_of(alloc: Global, asked: &str) -> MemoryDisk {
 pub(crate) fn disk_told(alloc: Global, deal: &Deal, asked: &str) -> Result<String, AllocError>
     requires { IsWellSized deal.now }
 {
-    match Journal::open(alloc, disk_of(alloc, asked), deal, 1) {
+    match Journal::open(alloc, make_disk(alloc, asked), deal, 1) {
         Ok(journal) => paths_told(alloc, &journal),
         Err(fault) => String::from_str(alloc, refusal(fault.why)),
     }

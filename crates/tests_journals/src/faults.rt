@@ -40,7 +40,7 @@ fn recorded(journal: &mut Journal<MemoryDisk>, key: &Shared<Hashkey>) -> &'stati
 }
 
 /// What a journal answers whose disk stops after some calls, and what another shows after a crash.
-fn stopped_on(
+fn stopped_outcome(
     alloc: Global,
     deal: &Deal,
     key: &Shared<Hashkey>,
@@ -52,7 +52,7 @@ fn stopped_on(
     requires sound { journal.sound ≡ true }
 {
     let mut journal = journal;
-    journal.stop_after(calls);
+    journal.limit_calls(calls);
     let answer = recorded(&mut journal, key);
     (
         answer,
@@ -70,7 +70,7 @@ fn stopped(
     requires { IsWellSized deal.now }
 {
     match Journal::open(alloc, MemoryDisk::new(alloc, Vec::new(alloc)), deal, 1) {
-        Ok(journal) => stopped_on(alloc, deal, key, journal, calls, image),
+        Ok(journal) => stopped_outcome(alloc, deal, key, journal, calls, image),
         Err(fault) => (refusal(fault.why), "not opened"),
     }
 }
@@ -89,7 +89,7 @@ pub(crate) fn stop_told(
     format!(in alloc; "{answer}, {shown}")
 }
 
-fn recorded_on(
+fn recorded_outcome(
     alloc: Global,
     deal: &Deal,
     key: &Shared<Hashkey>,
@@ -113,7 +113,7 @@ fn failed(
     requires { IsWellSized deal.now }
 {
     match Journal::open(alloc, disk, deal, 1) {
-        Ok(journal) => recorded_on(alloc, deal, key, journal),
+        Ok(journal) => recorded_outcome(alloc, deal, key, journal),
         Err(fault) => (
             refusal(fault.why),
             opened_again(alloc, deal, key, fault.disk),

@@ -30,7 +30,7 @@ pub(crate) fn numbers(alloc: Global, text: &str) -> Result<Vec<u8>, NoMemory> {
     Ok(numbers)
 }
 
-fn answer_of(
+fn computed_answer(
     alloc: Global,
     deal: &Deal,
     key: &Shared<Hashkey>,
@@ -56,7 +56,7 @@ fn is_answered(
     requires { IsWellSized deal.now }
 {
     let (asked, wanted) = parted(row, " => ");
-    let answer = answer_of(alloc, deal, key, about, asked)?;
+    let answer = computed_answer(alloc, deal, key, about, asked)?;
     if answer.as_str() != wanted {
         return Err(Fail::new(format_args!("{row} but {answer}")));
     }

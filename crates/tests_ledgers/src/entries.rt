@@ -27,18 +27,18 @@ fn has(alloc: Global, list: &EntryList, count: usize) -> Result<bool, Fail> {
 }
 
 /// Whether a ledger's copy that begins at a place has so many entries.
-fn has_from(alloc: Global, ledger: &Ledger, k: usize, count: usize) -> Result<bool, Fail>
+fn has_tail(alloc: Global, ledger: &Ledger, k: usize, count: usize) -> Result<bool, Fail>
     requires { k ≤ length ledger.now.history }
 {
-    let rest = ledger.copy_from(k)?;
+    let rest = ledger.copy_tail(k)?;
     has(alloc, &rest, count)
 }
 
-fn copies_from(rt: &impl Abort, alloc: Global, ledger: &Ledger, k: usize) -> Result<(), Fail>
+fn check_copies(rt: &impl Abort, alloc: Global, ledger: &Ledger, k: usize) -> Result<(), Fail>
     requires { k ≤ 12 }
 {
     assert!(rt; k <= ledger.len() as usize);
-    let has = has_from(alloc, ledger, k, 12 - k)?;
+    let has = has_tail(alloc, ledger, k, 12 - k)?;
     assert!(rt; has, "from {k}");
     Ok(())
 }
@@ -46,7 +46,7 @@ fn copies_from(rt: &impl Abort, alloc: Global, ledger: &Ledger, k: usize) -> Res
 /// A copy from each entry on has the entries after it.
 fn copies(rt: &impl Abort, alloc: Global, ledger: &Ledger) -> Result<(), Fail> {
     for k in 0..13 {
-        copies_from(rt, alloc, ledger, k)?;
+        check_copies(rt, alloc, ledger, k)?;
     }
     Ok(())
 }
@@ -76,7 +76,7 @@ fn is_in_runs(list: EntryList) -> bool {
 
 /// The entries of a ledger, put into a list anew.
 fn put_again(alloc: Global, ledger: &Ledger) -> Result<EntryList, Fail> {
-    let entries = ledger.copy_from(0)?.to_vec(alloc)?;
+    let entries = ledger.copy_tail(0)?.to_vec(alloc)?;
     pushed(alloc, &entries)
 }
 

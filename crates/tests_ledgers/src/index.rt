@@ -59,15 +59,15 @@ fn fill<L: Counted>(
 }
 
 /// The entries of a ledger, one by one.
-fn entries_of(alloc: Global, ledger: &Ledger) -> Result<Vec<Entry>, Fail>
+fn ledger_entries(alloc: Global, ledger: &Ledger) -> Result<Vec<Entry>, Fail>
     ensures { IfOk result (λ v. IsLegal ledger.now.deal ledger.now.arc v.items) }
 {
     let _history = ledger.history();
-    Ok(ledger.copy_from(0)?.to_vec(alloc)?)
+    Ok(ledger.copy_tail(0)?.to_vec(alloc)?)
 }
 
 /// Whether an index of a ledger's entries tells of the claimed contract below.
-fn told_in<L: Counted>(
+fn tell_entries<L: Counted>(
     alloc: Global,
     ledger: &Ledger,
     entries: &[Entry],
@@ -83,8 +83,8 @@ fn told_in<L: Counted>(
 }
 
 fn told<L: Counted>(alloc: Global, ledger: &Ledger, steps: &mut Steps<L>) -> Result<bool, Fail> {
-    let entries = entries_of(alloc, ledger)?;
-    told_in(alloc, ledger, &entries, steps)
+    let entries = ledger_entries(alloc, ledger)?;
+    tell_entries(alloc, ledger, &entries, steps)
 }
 
 fn counted<L: Counted>(alloc: Global, ledger: &Ledger, blank: Blank) -> Result<bool, Fail>

@@ -49,7 +49,7 @@ fn look<L: Counted>(
 {
     let arc = ledger.arc();
     let _history = ledger.history();
-    let fresh = ledger.copy_from(machine.known(arc).count() as usize)?;
+    let fresh = ledger.copy_tail(machine.known(arc).count() as usize)?;
     machine.learn(arc, fresh, steps)?;
     Ok(())
 }
@@ -82,7 +82,7 @@ fn learn_in_pieces<L: Counted>(
 }
 
 /// The machine of party b, which leads no lock.
-fn machine_of(alloc: Global, deal: &Deal, seed: &Digest) -> Result<Machine, Fail>
+fn make_machine(alloc: Global, deal: &Deal, seed: &Digest) -> Result<Machine, Fail>
     requires sized { IsWellSized deal.now }
     requires party { 1 < deal.now.graph.n }
     ensures { IfOk result (λ m. m ≡ new_machine deal.now 1 seed.now) }
@@ -111,11 +111,11 @@ fn learn_anew<L: Counted>(
     requires none { steps.old ≡ 0 }
     ensures { OnOk result (steps.new ≡ 10000) }
 {
-    let mut machine = machine_of(alloc, deal, &[9; 32])?;
+    let mut machine = make_machine(alloc, deal, &[9; 32])?;
     learn_in_pieces(rt, &mut machine, ledger, piece, steps)
 }
 
-fn learn_of<L: Counted>(
+fn learn_pieces<L: Counted>(
     rt: &impl Abort,
     alloc: Global,
     deal: &Deal,
@@ -147,7 +147,7 @@ fn count_steps<L: Counted>(
 {
     let deal = small_deal(alloc)?;
     let mut steps = Steps::<L>::new(blank);
-    learn_of(rt, alloc, &deal, piece, &mut steps)
+    learn_pieces(rt, alloc, &deal, piece, &mut steps)
 }
 
 fn learns(rt: &impl Abort, alloc: Global, piece: u32) -> Result<(), Fail>

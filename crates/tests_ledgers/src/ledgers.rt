@@ -3,9 +3,9 @@
 ghost use Rattle.std.specs.Prelude.{◌<◌, length};
 ghost use Rattle.swap_digraph.specs.Deal.{IsWellSized};
 
-use escrow_core::{Reply, terms_of};
+use escrow_core::{Reply, stated_terms};
 use hashkey_path::Hashkey;
-use ledger_core::{Accounts, Call, Ledger, accounts_of, fits, is_adjacent, share_deal};
+use ledger_core::{Accounts, Call, Ledger, fits, history_accounts, is_adjacent, share_deal};
 use std::alloc::Global;
 use std::process::Abort;
 use std::test::Fail;
@@ -15,7 +15,7 @@ use tests_parts::small_deal;
 
 /// A publish of the deal's terms but for the amount.
 fn publish(alloc: Global, ledger: &Ledger, amount: u64) -> Result<Call, NoMemory> {
-    let mut terms = terms_of(ledger.deal(), ledger.arc());
+    let mut terms = stated_terms(ledger.deal(), ledger.arc());
     terms.amount = amount;
     Ok(Call::Publish(Shared::new(alloc, terms)?))
 }
@@ -32,13 +32,13 @@ fn unlock(alloc: Global, lock: u8, byte: u8, path: &[PartyId]) -> Result<Call, N
 }
 
 /// The unlock of a lock and the byte of its secret.
-fn unlock_of(alloc: Global, words: &str, path: &[PartyId]) -> Result<Call, Fail> {
+fn parse_unlock(alloc: Global, words: &str, path: &[PartyId]) -> Result<Call, Fail> {
     let (lock, byte) = two(words)?;
     Ok(unlock(alloc, lock.parse()?, byte.parse()?, path)?)
 }
 
 /// The number of a party.
-fn party_of(word: &str) -> Result<PartyId, Fail> {
+fn parse_party(word: &str) -> Result<PartyId, Fail> {
     match word {
         "a" => Ok(0),
         "b" => Ok(1),
@@ -52,35 +52,35 @@ fn two(words: &str) -> Result<(&str, &str), Fail> {
 }
 
 /// The transfer to a party of so many units.
-fn transfer_of(words: &str) -> Result<Call, Fail> {
+fn parse_transfer(words: &str) -> Result<Call, Fail> {
     let (to, units) = two(words)?;
-    Ok(Call::Transfer(party_of(to)?, units.parse()?))
+    Ok(Call::Transfer(parse_party(to)?, units.parse()?))
 }
 
 /// The publish of so many units.
-fn publish_of(alloc: Global, ledger: &Ledger, words: &str) -> Result<Call, Fail> {
+fn make_publish(alloc: Global, ledger: &Ledger, words: &str) -> Result<Call, Fail> {
     Ok(publish(alloc, ledger, words.parse()?)?)
 }
 
 /// The call of a kind that says more.
-fn call_with(alloc: Global, ledger: &Ledger, kind: &str, rest: &str) -> Result<Call, Fail> {
+fn build_call(alloc: Global, ledger: &Ledger, kind: &str, rest: &str) -> Result<Call, Fail> {
     match kind {
-        "publish" => publish_of(alloc, ledger, rest),
-        "unlock" => unlock_of(alloc, rest, &[]),
-        "trace" => unlock_of(alloc, rest, &[1]),
-        "pay" => transfer_of(rest),
+        "publish" => make_publish(alloc, ledger, rest),
+        "unlock" => parse_unlock(alloc, rest, &[]),
+        "trace" => parse_unlock(alloc, rest, &[1]),
+        "pay" => parse_transfer(rest),
         _ => Err("no call".into()),
     }
 }
 
 /// The call that words stand for.
-fn call_of(alloc: Global, ledger: &Ledger, words: &str) -> Result<Call, Fail> {
+fn parse_call(alloc: Global, ledger: &Ledger, words: &str) -> Result<Call, Fail> {
     match words {
         "claim" => Ok(Call::Claim),
         "refund" => Ok(Call::Refund),
         _ => {
             let (kind, rest) = two(words)?;
-            call_with(alloc, ledger, kind, rest)
+            build_call(alloc, ledger, kind, rest)
         }
     }
 }
@@ -107,9 +107,9 @@ fn act(rt: &impl Abort, alloc: Global, ledger: &mut Ledger, words: &str) -> Resu
     if first == "tick" {
         return tick(rt, ledger, rest.parse()?);
     }
-    let party = party_of(first)?;
+    let party = parse_party(first)?;
     ledger.reserve()?;
-    let call = call_of(alloc, ledger, rest)?;
+    let call = parse_call(alloc, ledger, rest)?;
     Ok(make(rt, ledger, party, call))
 }
 
@@ -127,8 +127,8 @@ fn accounts(rt: &impl Abort, ledger: &Ledger) -> Accounts {
 /// The same by the entries.
 fn accounts_read(ledger: &Ledger) -> Result<Accounts, NoMemory> {
     let _ = ledger.history();
-    let list = ledger.copy_from(0)?;
-    Ok(accounts_of(ledger.deal(), ledger.arc(), &list))
+    let list = ledger.copy_tail(0)?;
+    Ok(history_accounts(ledger.deal(), ledger.arc(), &list))
 }
 
 /// Whether the text is a reply, and the units after it.
@@ -168,7 +168,7 @@ fn follow_row(rt: &impl Abort, alloc: Global, ledger: &mut Ledger, row: &str) ->
 }
 
 /// The ledger of a deal's first arc, before any entry.
-fn ledger_of(alloc: Global, deal: &Deal) -> Result<Ledger, Fail>
+fn make_ledger(alloc: Global, deal: &Deal) -> Result<Ledger, Fail>
     requires sized { IsWellSized deal.now }
     requires arc { 0 < length deal.now.graph.arcs }
 {
@@ -178,7 +178,7 @@ fn ledger_of(alloc: Global, deal: &Deal) -> Result<Ledger, Fail>
 /// The ledger of the small deal's first arc, before any entry.
 pub(crate) fn first_ledger(alloc: Global) -> Result<Ledger, Fail> {
     let deal = small_deal(alloc)?;
-    ledger_of(alloc, &deal)
+    make_ledger(alloc, &deal)
 }
 
 /// Whether the accounts are those that the entries give.

@@ -38,7 +38,7 @@ fn chorded(alloc: Global) -> Result<Vec<ArcEnds>, NoMemory> {
 }
 
 /// The arc of a word, such as `0>1`. A word that is none stands for party 255, which no digraph has.
-fn arc_of(word: &str) -> ArcEnds {
+fn parse_arc(word: &str) -> ArcEnds {
     let (from, to) = parted(word, ">");
     ArcEnds {
         from: number_of(from),
@@ -50,13 +50,13 @@ fn arc_of(word: &str) -> ArcEnds {
 fn listed(alloc: Global, text: &str) -> Result<Vec<ArcEnds>, NoMemory> {
     let mut arcs = Vec::new(alloc);
     for word in text.split(" ") {
-        arcs.push(arc_of(word))?;
+        arcs.push(parse_arc(word))?;
     }
     Ok(arcs)
 }
 
 /// The arcs that a text stands for.
-fn arcs_of(alloc: Global, text: &str) -> Result<Vec<ArcEnds>, NoMemory> {
+fn listed_arcs(alloc: Global, text: &str) -> Result<Vec<ArcEnds>, NoMemory> {
     match text {
         "a pair" => onward(alloc, 2, 1),
         "a triangle" => onward(alloc, 3, 1),
@@ -70,7 +70,7 @@ fn arcs_of(alloc: Global, text: &str) -> Result<Vec<ArcEnds>, NoMemory> {
 }
 
 /// The least number of parties that the arcs name.
-fn parties_of(arcs: &[ArcEnds]) -> u8 {
+fn count_parties(arcs: &[ArcEnds]) -> u8 {
     let mut n: u8 = 0;
     for arc in arcs {
         n = n.max(arc.from.max(arc.to).saturating_add(1));
@@ -79,12 +79,12 @@ fn parties_of(arcs: &[ArcEnds]) -> u8 {
 }
 
 /// The digraph with these arcs, if there is one.
-fn digraph_of(alloc: Global, arcs: Vec<ArcEnds>) -> Option<Digraph>
+fn build_digraph(alloc: Global, arcs: Vec<ArcEnds>) -> Option<Digraph>
     ensures parties { IfSome result (λ g. (2 ≤ g.n) × (g.n ≤ 32)) }
     ensures few { IfSome result (λ g. length g.arcs ≤ 128) }
     ensures ends { IfSome result (λ g. HasEnds g) }
 {
-    let n = parties_of(&arcs);
+    let n = count_parties(&arcs);
     if n < 2 || n > 32 || arcs.len() > 128 {
         return None;
     }
@@ -92,12 +92,12 @@ fn digraph_of(alloc: Global, arcs: Vec<ArcEnds>) -> Option<Digraph>
 }
 
 /// A copy of the digraph with the arcs that a text stands for, if there is one.
-pub(crate) fn graph_of(alloc: Global, text: &str) -> Option<Digraph>
+pub(crate) fn build_graph(alloc: Global, text: &str) -> Option<Digraph>
     ensures parties { IfSome result (λ g. (2 ≤ g.n) × (g.n ≤ 32)) }
     ensures few { IfSome result (λ g. length g.arcs ≤ 128) }
     ensures ends { IfSome result (λ g. HasEnds g) }
 {
-    let arcs = arcs_of(alloc, text).ok()?;
-    let graph = digraph_of(alloc, arcs)?;
+    let arcs = listed_arcs(alloc, text).ok()?;
+    let graph = build_digraph(alloc, arcs)?;
     graph.copy().ok()
 }

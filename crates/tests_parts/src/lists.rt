@@ -5,7 +5,7 @@ use std::alloc::{AllocError, Global};
 use std::test::Fail;
 use swap_base::{ByteText, Listed, NoMemory, Piece, TryCopy, put};
 
-fn text_of(alloc: Global, bytes: &[u8]) -> Result<String, AllocError> {
+fn to_text(alloc: Global, bytes: &[u8]) -> Result<String, AllocError> {
     String::from_str(alloc, str::from_utf8(bytes).unwrap_or("no text"))
 }
 
@@ -26,7 +26,7 @@ fn only_text(list: &Listed<ByteText>) -> &[u8] {
 
 fn copied(alloc: Global) -> Result<String, AllocError> {
     match copy_of(alloc) {
-        Ok(other) => text_of(alloc, only_text(&other)),
+        Ok(other) => to_text(alloc, only_text(&other)),
         Err(_) => no_memory(alloc),
     }
 }
@@ -44,7 +44,7 @@ fn put_together(out: &mut Vec<u8>) -> bool {
 fn pieces(alloc: Global) -> Result<String, AllocError> {
     let mut out = Vec::new(alloc);
     if put_together(&mut out) {
-        text_of(alloc, &out)
+        to_text(alloc, &out)
     } else {
         no_memory(alloc)
     }

@@ -1,8 +1,8 @@
 //! Tables of questions and answers.
 
-use crate::graphs::graph_of;
+use crate::graphs::build_graph;
 use crate::lists::list_told;
-use crate::signatures::digests_of;
+use crate::signatures::list_digests;
 use crate::told::told;
 use std::alloc::{AllocError, Global};
 use std::test::Fail;
@@ -25,23 +25,23 @@ pub(crate) fn no_memory(alloc: Global) -> Result<String, AllocError> {
 /// The answer to a question about a digraph.
 fn graph_told(alloc: Global, asked: &str) -> Result<String, AllocError> {
     let (question, arcs) = parted(asked, ": ");
-    match graph_of(alloc, arcs) {
+    match build_graph(alloc, arcs) {
         Some(graph) => told(alloc, question, &graph),
         None => String::from_str(alloc, "no digraph"),
     }
 }
 
-fn answer_of(alloc: Global, about: &str, asked: &str) -> Result<String, AllocError> {
+fn computed_answer(alloc: Global, about: &str, asked: &str) -> Result<String, AllocError> {
     match about {
         "digraphs" => graph_told(alloc, asked),
-        "signatures" => digests_of(alloc, asked),
+        "signatures" => list_digests(alloc, asked),
         _ => list_told(alloc, asked),
     }
 }
 
 fn is_answered(alloc: Global, about: &str, row: &str) -> Result<(), Fail> {
     let (asked, wanted) = parted(row, " => ");
-    let answer = answer_of(alloc, about, asked)?;
+    let answer = computed_answer(alloc, about, asked)?;
     if answer.as_str() != wanted {
         return Err(Fail::new(format_args!("{row} but {answer}")));
     }

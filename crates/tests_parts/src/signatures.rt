@@ -3,7 +3,7 @@
 ghost use Rattle.std.specs.Prelude.{◌<◌};
 
 use crate::rows::{answers, number_of, parted};
-use hash_signature::{LockId, PartyId, Sig, hash_of, keygen, secret_of, verify};
+use hash_signature::{LockId, PartyId, Sig, derive_secret, hashed_value, keygen, verify};
 use hex::FromHex;
 use sha2::{Digest as Hasher, Sha256};
 use std::alloc::{AllocError, Global};
@@ -29,7 +29,7 @@ fn is_copied(sig: &Sig) -> bool {
 }
 
 /// The digest of the bytes of a signature that holds, comes back from its bytes, and equals a copy; zeros for another.
-fn digest_of(public: &Digest, message: &Digest, sig: &Sig) -> Digest {
+fn to_digest(public: &Digest, message: &Digest, sig: &Sig) -> Digest {
     if verify(public, message, sig) && is_in_bytes(sig) && is_copied(sig) {
         Sha256::digest(sig.to_bytes())
     } else {
@@ -47,11 +47,11 @@ fn signed(
 ) -> Result<(Digest, Digest), NoMemory> {
     let (key, public) = keygen(alloc, seed, party, lock)?;
     let sig = key.sign(message);
-    Ok((public, digest_of(&public, message, &sig)))
+    Ok((public, to_digest(&public, message, &sig)))
 }
 
 /// The same for a seed, a party, a lock and a message in words.
-fn signed_of(alloc: Global, words: &str) -> Result<(Digest, Digest), NoMemory> {
+fn parse_signed(alloc: Global, words: &str) -> Result<(Digest, Digest), NoMemory> {
     let (seed, rest) = parted(words, " ");
     let (party, rest) = parted(rest, " ");
     let (lock, message) = parted(rest, " ");
@@ -64,30 +64,30 @@ fn signed_of(alloc: Global, words: &str) -> Result<(Digest, Digest), NoMemory> {
     )
 }
 
-fn hex_of(alloc: Global, digest: &Digest) -> Result<String, AllocError> {
+fn digest_hex(alloc: Global, digest: &Digest) -> Result<String, AllocError> {
     hex::encode(alloc, digest.as_slice())
 }
 
 fn two_in_hex(alloc: Global, first: &Digest, second: &Digest) -> Result<String, AllocError> {
-    let first = hex_of(alloc, first)?;
-    let second = hex_of(alloc, second)?;
+    let first = digest_hex(alloc, first)?;
+    let second = digest_hex(alloc, second)?;
     format!(in alloc; "{first} {second}")
 }
 
 /// The public key and the digest of the signature that words ask for.
 fn signed_told(alloc: Global, words: &str) -> Result<String, AllocError> {
-    match signed_of(alloc, words) {
+    match parse_signed(alloc, words) {
         Ok(told) => two_in_hex(alloc, &told.0, &told.1),
         Err(NoMemory) => Err(AllocError),
     }
 }
 
 /// The digests that words ask for, the first of which says of what.
-pub(crate) fn digests_of(alloc: Global, asked: &str) -> Result<String, AllocError> {
+pub(crate) fn list_digests(alloc: Global, asked: &str) -> Result<String, AllocError> {
     let (word, rest) = parted(asked, " ");
     match word {
-        "hash" => hex_of(alloc, &hash_of(&digest(rest))),
-        "secret" => hex_of(alloc, &secret_of(&digest(rest))),
+        "hash" => digest_hex(alloc, &hashed_value(&digest(rest))),
+        "secret" => digest_hex(alloc, &derive_secret(&digest(rest))),
         _ => signed_told(alloc, rest),
     }
 }
@@ -142,7 +142,7 @@ fn refuses_changes(public: &Digest, message: &Digest, sig: &Sig) -> Result<(), F
 }
 
 /// Whether the signature holds for the message by the key of that seed, party and lock.
-fn is_by(
+fn signature_matches(
     alloc: Global,
     seed: u8,
     party: PartyId,
@@ -159,11 +159,11 @@ fn is_of_one(alloc: Global, message: &Digest, sig: &Sig) -> Result<bool, NoMemor
     let mut other = *message;
     other[31] = 0x5b;
     Ok(
-        is_by(alloc, 1, 2, 3, message, sig)?
-            && !is_by(alloc, 1, 2, 3, &other, sig)?
-            && !is_by(alloc, 2, 2, 3, message, sig)?
-            && !is_by(alloc, 1, 3, 3, message, sig)?
-            && !is_by(alloc, 1, 2, 2, message, sig)?,
+        signature_matches(alloc, 1, 2, 3, message, sig)?
+            && !signature_matches(alloc, 1, 2, 3, &other, sig)?
+            && !signature_matches(alloc, 2, 2, 3, message, sig)?
+            && !signature_matches(alloc, 1, 3, 3, message, sig)?
+            && !signature_matches(alloc, 1, 2, 2, message, sig)?,
     )
 }
 

@@ -90,7 +90,12 @@ fn numbers(alloc: Global, text: &str) -> Result<Vec<u8>, NoMemory> {
 }
 
 /// The answer to a question that names leaders.
-fn told_of(alloc: Global, word: &str, leaders: &[u8], graph: &Digraph) -> Result<String, AllocError>
+fn build_told(
+    alloc: Global,
+    word: &str,
+    leaders: &[u8],
+    graph: &Digraph,
+) -> Result<String, AllocError>
     requires parties { (2 ≤ graph.now.n) × (graph.now.n ≤ 32) }
     requires few { length graph.now.arcs ≤ 128 }
     requires ends { HasEnds graph.now }
@@ -117,7 +122,7 @@ fn led_told(alloc: Global, word: &str, leaders: &str, graph: &Digraph) -> Result
     requires ends { HasEnds graph.now }
 {
     match numbers(alloc, leaders) {
-        Ok(leaders) => told_of(alloc, word, &leaders, graph),
+        Ok(leaders) => build_told(alloc, word, &leaders, graph),
         Err(_) => no_memory(alloc),
     }
 }

@@ -4,7 +4,7 @@ ghost use Rattle.std.specs.Prelude.{◌<◌, IfOk};
 ghost use Rattle.swap_digraph.specs.Deal.{IsWellSized};
 ghost use Rattle.deviators.specs.View.{IsView, MayAnswer};
 
-use escrow_core::{LockList, Terms, terms_of};
+use escrow_core::{LockList, Terms, stated_terms};
 use hashkey_path::Hashkey;
 use ledger_core::{Book, Call, EntryList, fits, is_adjacent};
 use std::alloc::Global;
@@ -37,7 +37,7 @@ pub(crate) enum Attacker {
 }
 
 /// The arc in that place among those that leave the party, with its correct terms.
-fn leaving_at(deal: &Deal, me: PartyId, at: u32) -> Option<(ArcId, Terms)>
+fn leaving_arc_terms(deal: &Deal, me: PartyId, at: u32) -> Option<(ArcId, Terms)>
     requires sized { IsWellSized deal.now }
     requires party { me < deal.now.graph.n }
 {
@@ -45,7 +45,7 @@ fn leaving_at(deal: &Deal, me: PartyId, at: u32) -> Option<(ArcId, Terms)>
     if arc as usize >= deal.graph.arcs().len() {
         return None;
     }
-    Some((arc, terms_of(deal, arc)))
+    Some((arc, stated_terms(deal, arc)))
 }
 
 /// A publish of those terms.
@@ -90,7 +90,7 @@ fn move_away(deal: &Deal, me: PartyId, at: u32) -> Option<(ArcId, Call)>
     requires sized { IsWellSized deal.now }
     requires party { me < deal.now.graph.n }
 {
-    let (arc, terms) = leaving_at(deal, me, at)?;
+    let (arc, terms) = leaving_arc_terms(deal, me, at)?;
     Some((arc, Call::Transfer(other_end(deal, me, arc), terms.amount)))
 }
 
@@ -169,12 +169,12 @@ fn intended(
     requires view { IsView deal.now me known.now.histories }
 {
     match attacker {
-        Attacker::Starter => publish(alloc, leaving_at(deal, me, turn)),
-        Attacker::Relocker => publish_relocked(alloc, leaving_at(deal, me, turn)),
+        Attacker::Starter => publish(alloc, leaving_arc_terms(deal, me, turn)),
+        Attacker::Relocker => publish_relocked(alloc, leaving_arc_terms(deal, me, turn)),
         Attacker::Mover if turn % 2 == 0 => Ok(move_away(deal, me, turn / 2)),
-        Attacker::Mover => publish(alloc, leaving_at(deal, me, turn / 2)),
+        Attacker::Mover => publish(alloc, leaving_arc_terms(deal, me, turn / 2)),
         Attacker::Taker => Ok(take(deal, me, turn)),
-        Attacker::Presenter if turn < EARLY => publish(alloc, leaving_at(deal, me, turn)),
+        Attacker::Presenter if turn < EARLY => publish(alloc, leaving_arc_terms(deal, me, turn)),
         Attacker::Presenter => present(alloc, deal, me, turn.saturating_sub(EARLY) as usize, known),
     }
 }

@@ -5,7 +5,7 @@ ghost use Rattle.deviators.specs.View.{IsView, MayAnswer};
 
 use crate::attackers::{Attacker, attack_rule};
 use crate::deals::edited;
-use crate::runs::{Open, answer, asks, kit_with, raced};
+use crate::runs::{Open, answer, asks, raced, rule_kit};
 use deviators::{Kit, Rule};
 use ledger_core::{Book, Call};
 use std::alloc::Global;
@@ -96,6 +96,6 @@ pub(crate) fn attack<R: Threads + Wait + Sync>(
             ensures fits { IfOk result (MayAnswer deal.now me) }
         { attack_rule(alloc, attacker, deal, me, turn, known) },
     )?;
-    let kit = kit_with(alloc, "attacker", rule)?;
+    let kit = rule_kit(alloc, "attacker", rule)?;
     comes_so(rt, alloc, &kit, deal, case, word)
 }

@@ -4,7 +4,7 @@ ghost use Rattle.std.specs.Prelude.{IfOk};
 ghost use Rattle.deviators.specs.View.{IsView, MayAnswer};
 
 use crate::deals::HASHKEYS;
-use crate::runs::{Open, kit_with, raced};
+use crate::runs::{Open, raced, rule_kit};
 use deviators::{Kit, Rule};
 use ledger_core::{Book, Call};
 use party_threads::Gate;
@@ -125,7 +125,7 @@ fn race_of_meeting<R: Threads + Wait + Sync>(
             Ok(None)
         },
     )?;
-    let kit = kit_with(alloc, "meets", rule)?;
+    let kit = rule_kit(alloc, "meets", rule)?;
     let job = HASHKEYS.replace(
         alloc,
         "\",\"seed\":",

@@ -9,7 +9,7 @@ use swap_job::{Event, Job, Purpose};
 use swap_offer::read_job;
 
 /// How many names are told, and how many events where the job is read.
-fn counts_of(read: &Result<(Job, Vec<Event>), Fault<Refusal>>) -> (usize, Option<usize>) {
+fn read_counts(read: &Result<(Job, Vec<Event>), Fault<Refusal>>) -> (usize, Option<usize>) {
     match read {
         Ok((job, events)) => (job.names.len(), Some(events.len())),
         Err(Fault::Refused(refusal)) => (refusal.names.len(), None),
@@ -23,11 +23,11 @@ fn counts(alloc: Global, text: &str) -> (usize, Option<usize>) {
         return (0, None);
     }
     let read = read_job(alloc, text.as_bytes(), Purpose::Run, &[]);
-    counts_of(&read)
+    read_counts(&read)
 }
 
 /// Of the deal with such lines behind it.
-fn counts_with(alloc: Global, lines: &str) -> Result<(usize, Option<usize>), Fail> {
+fn line_counts(alloc: Global, lines: &str) -> Result<(usize, Option<usize>), Fail> {
     let text = format!(in alloc; "{TIMELOCKS}{lines}")?;
     Ok(counts(alloc, text.as_str()))
 }
@@ -35,14 +35,14 @@ fn counts_with(alloc: Global, lines: &str) -> Result<(usize, Option<usize>), Fai
 #[test]
 fn reads_a_job_with_its_events(rt: HostRuntime) -> Result<(), Fail> {
     let lines = "\n \t\n{\"tick\":2,\"by\":40}\n{\"act\":\"bob\"}";
-    let (names, events) = counts_with(rt.alloc(), lines)?;
+    let (names, events) = line_counts(rt.alloc(), lines)?;
     assert!(rt; names == 3 && events == Some(2));
     Ok(())
 }
 
 #[test]
 fn refuses_a_job_with_its_names(rt: HostRuntime) -> Result<(), Fail> {
-    let (names, events) = counts_with(rt.alloc(), "\n{\"act\":\"dave\"}\n")?;
+    let (names, events) = line_counts(rt.alloc(), "\n{\"act\":\"dave\"}\n")?;
     assert!(rt; names == 3 && events.is_none());
     Ok(())
 }

@@ -4,7 +4,7 @@ ghost use Rattle.std.specs.Prelude.{IfOk};
 ghost use Rattle.deviators.specs.View.{IsView, MayAnswer};
 
 use crate::deals::HASHKEYS;
-use crate::runs::{kit_with, raced};
+use crate::runs::{raced, rule_kit};
 use deviators::Rule;
 use ledger_core::{Book, Call};
 use party_threads::Gate;
@@ -121,7 +121,7 @@ fn race_counted<R: Threads + Wait + Sync>(
             Ok(None)
         },
     )?;
-    let kit = kit_with(alloc, "counts", rule)?;
+    let kit = rule_kit(alloc, "counts", rule)?;
     let job = HASHKEYS.replace(
         alloc,
         "\",\"seed\":",

@@ -25,7 +25,7 @@ impl Gate for Open {
 }
 
 /// A kit with that one strategy. Who makes the rule hands it on: a function that gave away what holds it would be one that hides.
-pub(crate) fn kit_with(alloc: Global, name: &str, rule: Rule) -> Result<Kit, Fail>
+pub(crate) fn rule_kit(alloc: Global, name: &str, rule: Rule) -> Result<Kit, Fail>
     requires callable { (d : _) (p t : ℕ) (k : _) → IsView d.now p k.now.histories → Rule.pre rule d p t k }
     requires fits { (d : _) (p t : ℕ) (k : _) (r : _) → IsView d.now p k.now.histories → Rule.post rule d p t k r → IfOk r (MayAnswer d.now p) }
 {
@@ -55,7 +55,7 @@ fn told(alloc: Global, status: &Status, written: &[u8]) -> Result<String, Fail> 
 }
 
 /// The words of a command, which single spaces part.
-pub(crate) fn words_of(alloc: Global, command: &str) -> Result<Vec<String>, Fail> {
+pub(crate) fn collect_words(alloc: Global, command: &str) -> Result<Vec<String>, Fail> {
     let mut words = Vec::new(alloc);
     for word in command.split(' ') {
         words.push(String::from_str(alloc, word)?)?;
@@ -64,7 +64,7 @@ pub(crate) fn words_of(alloc: Global, command: &str) -> Result<Vec<String>, Fail
 }
 
 /// The program's status. What its contract says of it stays here: it would be carried along by whatever comes after.
-fn status_of<R: Threads + Wait + Sync, G: Gate>(
+fn command_status<R: Threads + Wait + Sync, G: Gate>(
     rt: &R,
     alloc: Global,
     words: &Vec<String>,
@@ -77,7 +77,7 @@ fn status_of<R: Threads + Wait + Sync, G: Gate>(
 }
 
 /// What the program answers to a command and what a source gives.
-fn answer_from<R: Threads + Wait + Sync, G: Gate>(
+fn command_answer<R: Threads + Wait + Sync, G: Gate>(
     rt: &R,
     alloc: Global,
     command: &str,
@@ -85,9 +85,9 @@ fn answer_from<R: Threads + Wait + Sync, G: Gate>(
     gate: &G,
     kit: &Kit,
 ) -> Result<String, Fail> {
-    let words = words_of(alloc, command)?;
+    let words = collect_words(alloc, command)?;
     let mut sink = TextSink::new(alloc);
-    let status = status_of(rt, alloc, &words, source, &mut sink, gate, kit);
+    let status = command_status(rt, alloc, &words, source, &mut sink, gate, kit);
     told(alloc, &status, sink.into_text().as_slice())
 }
 
@@ -102,7 +102,7 @@ pub(crate) fn answer<R: Threads + Wait + Sync, G: Gate>(
 ) -> Result<String, Fail> {
     let bytes = Vec::from_slice(alloc, input.as_bytes())?;
     let mut source = VecSource::new(bytes, PER_READ, Vec::new(alloc));
-    answer_from(rt, alloc, command, &mut source, gate, kit)
+    command_answer(rt, alloc, command, &mut source, gate, kit)
 }
 
 /// What an audit answers of a race of the job, in which nothing is found.

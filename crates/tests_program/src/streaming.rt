@@ -4,7 +4,7 @@ ghost use Rattle.std.specs.Prelude.{IfOk, Some};
 ghost use Rattle.deviators.specs.View.{IsView, MayAnswer};
 
 use crate::deals::{HASHKEYS, edited};
-use crate::runs::{kit_with, words_of};
+use crate::runs::{collect_words, rule_kit};
 use deviators::{Kit, Rule};
 use ledger_core::{Book, Call};
 use std::alloc::Global;
@@ -88,8 +88,8 @@ fn is_named_early(
             Ok(None)
         },
     )?;
-    let kit = kit_with(alloc, "watcher", rule)?;
-    let words = words_of(alloc, "run")?;
+    let kit = rule_kit(alloc, "watcher", rule)?;
+    let words = collect_words(alloc, "run")?;
     Ok(names_findings(alloc, &words, source, &kit))
 }
 

@@ -72,7 +72,7 @@ fn is_set(flag: &AtomicU64) -> bool {
 }
 
 /// Keeps the turn until the flag is set, and tells whether it was.
-fn keep_until<R: Wait>(
+fn hold_turn<R: Wait>(
     rt: &R,
     lock: &TurnLock<Held>,
     mut seat: TurnSeat<Held>,
@@ -96,7 +96,7 @@ fn claims<R: Wait>(rt: &R, ledger: &SharedLedger, pass: &mut Pass) -> bool
 }
 
 /// Claims once the flag is set, and then sets the other.
-fn claim_after<R: Wait>(
+fn delayed_claim<R: Wait>(
     rt: &R,
     ledger: &SharedLedger,
     mut pass: Pass,
@@ -111,7 +111,7 @@ fn claim_after<R: Wait>(
 }
 
 /// A call on a ledger is answered beside the turn.
-fn is_answered_beside<R: Threads + Wait + Sync + Abort>(
+fn check_neighbor_answered<R: Threads + Wait + Sync + Abort>(
     rt: &R,
     lock: &TurnLock<Held>,
     seat: TurnSeat<Held>,
@@ -129,10 +129,10 @@ fn is_answered_beside<R: Threads + Wait + Sync + Abort>(
         rt,
         move ||
             requires { pass.lock ≡ ledger.now.lock }
-        { claim_after(rt, ledger, pass, taken, done) },
+        { delayed_claim(rt, ledger, pass, taken, done) },
         move ||
             requires { (seat.table_id ≡ lock.now.lock) × IsIdle seat.me }
-        { keep_until(rt, lock, seat, taken, done) },
+        { hold_turn(rt, lock, seat, taken, done) },
     );
     assert!(rt; answered);
 }
@@ -150,11 +150,11 @@ fn is_answered<R: Threads + Wait + Sync + Abort>(
     requires idle { IsIdle seat.me }
 {
     let (ledger, pass, _, _) = shared_ledger(rt, alloc, deal)?;
-    is_answered_beside(rt, lock, seat, &ledger, pass);
+    check_neighbor_answered(rt, lock, seat, &ledger, pass);
     Ok(())
 }
 
-fn is_answered_of<R: Threads + Wait + Sync + Abort>(
+fn check_answered<R: Threads + Wait + Sync + Abort>(
     rt: &R,
     alloc: Global,
     deal: &Deal,
@@ -168,5 +168,5 @@ fn is_answered_of<R: Threads + Wait + Sync + Abort>(
 #[test]
 fn a_call_is_answered_while_another_ledgers_turn_is_taken(rt: HostRuntime) -> Result<(), Fail> {
     let deal = small_deal(rt.alloc())?;
-    is_answered_of(&rt, rt.alloc(), &deal)
+    check_answered(&rt, rt.alloc(), &deal)
 }

@@ -5,7 +5,7 @@ ghost use Rattle.swap_digraph.specs.Deal.{IsWellSized};
 ghost use Rattle.ledger_shared.specs.Value.{IsFirstAt, IsSecondAt};
 ghost use Rattle.tests_shared.specs.Stays.{Stays};
 
-use escrow_core::{Reply, terms_of};
+use escrow_core::{Reply, stated_terms};
 use ledger_core::{Call, Entry, Ledger, Sender, What, fits, share_deal};
 use ledger_shared::{ClockPass, Pass, SharedLedger, share};
 use std::alloc::Global;
@@ -40,7 +40,7 @@ fn call_number(alloc: Global, deal: &Deal, i: u32, to: PartyId) -> Result<Call, 
     requires { IsWellSized deal.now }
 {
     match i % 4 {
-        0 => Ok(Call::Publish(Shared::new(alloc, terms_of(deal, 0))?)),
+        0 => Ok(Call::Publish(Shared::new(alloc, stated_terms(deal, 0))?)),
         1 => Ok(Call::Transfer(to, 1)),
         2 => Ok(Call::Claim),
         _ => Ok(Call::Refund),

@@ -92,7 +92,7 @@ fn is_left(rt: &impl Abort, alloc: Global, deal: &Deal, closed: Box<Ledger>) -> 
     is_replayed(rt, alloc, deal, &history)
 }
 
-fn is_left_of<R: Threads + Wait + Sync + Abort>(
+fn check_left<R: Threads + Wait + Sync + Abort>(
     rt: &R,
     alloc: Global,
     deal: &Deal,
@@ -111,5 +111,5 @@ fn is_left_of<R: Threads + Wait + Sync + Abort>(
 #[test]
 fn three_threads_leave_the_replies_of_one(rt: HostRuntime) -> Result<(), Fail> {
     let deal = small_deal(rt.alloc())?;
-    is_left_of(&rt, rt.alloc(), &deal)
+    check_left(&rt, rt.alloc(), &deal)
 }

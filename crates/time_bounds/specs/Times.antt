@@ -6,8 +6,8 @@ use Rattle.std.specs.Prelude.{ℕ, ◌+◌, ◌-◌, ◌*◌, min}
 abbrev pub need : ℕ → ℕ → ℕ → ℕ
 need n leaders h = min (n - 1) (leaders * (h + 1) - 1)
 
-abbrev pub open_by : ℕ → ℕ → ℕ → ℕ
-open_by start delta bound = start + bound * delta
+abbrev pub opening_deadline : ℕ → ℕ → ℕ → ℕ
+opening_deadline start delta bound = start + bound * delta
 
 abbrev pub deadline : ℕ → ℕ → ℕ → ℕ → ℕ
 deadline start delta bound k = start + (bound + 1 + k) * delta

@@ -4,7 +4,7 @@
 #![tactic(auto)]
 
 ghost use Rattle.std.specs.Prelude.{◌≡◌, ◌≤◌, ◌*◌, ◌+◌};
-ghost use Rattle.time_bounds.specs.Times.{need, open_by, deadline, last_expiry, own_expiry, horizon, timelock};
+ghost use Rattle.time_bounds.specs.Times.{need, opening_deadline, deadline, last_expiry, own_expiry, horizon, timelock};
 
 /// A bound on the arcs of a path that ends in a leader: n parties, of which some lead, and h, the most vertices on a path of followers alone.
 pub fn need(n: u8, leaders: u8, h: u8) -> u32
@@ -18,11 +18,11 @@ pub fn need(n: u8, leaders: u8, h: u8) -> u32
 }
 
 /// The height at and up to which a contract has to be published.
-pub fn open_by(start: u32, delta: u32, bound: u32) -> u64
+pub fn opening_deadline(start: u32, delta: u32, bound: u32) -> u64
     requires start { start ≤ 1000000 }
     requires delta { delta ≤ 1000000 }
     requires bound { bound ≤ 1000000 }
-    ensures { result ≡ open_by start delta bound }
+    ensures { result ≡ opening_deadline start delta bound }
 {
     start as u64 + bound as u64 * delta as u64
 }

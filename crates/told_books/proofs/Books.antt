@@ -8,14 +8,14 @@ use Rattle.swap_base.proofs.Lists.{and_both}
 use Rattle.swap_digraph.specs.declared.deal.Mode.{Mode}
 use Rattle.swap_digraph.specs.declared.deal.Mode.TheVariants.{Timelocks, Hashkeys}
 use Rattle.swap_digraph.specs.declared.deal.Deal.{Deal}
-use Rattle.swap_digraph.specs.Deal.{locks, leads, hashlock_of}
-use Rattle.swap_digraph.specs.Graph.{leaving, entering, is_among}
-use Rattle.swap_digraph.proofs.Paths.{is_among-true}
+use Rattle.swap_digraph.specs.Deal.{locks, leads, lock_hashlock}
+use Rattle.swap_digraph.specs.Graph.{leaving, entering, is_listed}
+use Rattle.swap_digraph.proofs.Paths.{is_listed-true}
 use Rattle.hash_signature.specs.declared.sig.Sig.{Sig}
-use Rattle.hash_signature.specs.Signature.{hash_of}
+use Rattle.hash_signature.specs.Signature.{hashed_value}
 use Rattle.hashkey_path.specs.declared.hashkey.Hashkey.{Hashkey}
 use Rattle.hashkey_path.specs.Hashkey.{is_valid}
-use Rattle.escrow_core.specs.Terms.{terms_of, same_terms, refund_expiry}
+use Rattle.escrow_core.specs.Terms.{stated_terms, same_terms, refund_expiry}
 use Rattle.escrow_core.specs.Table.{are_open}
 use Rattle.ledger_core.specs.declared.entry.Call.{Call}
 use Rattle.ledger_core.specs.declared.entry.Call.TheVariants.{Publish, Unlock, Claim, Refund, Transfer}
@@ -25,10 +25,10 @@ use Rattle.ledger_core.specs.Book.{Histories, history}
 use Rattle.ledger_core.proofs.History.{not-true}
 use Rattle.swap_rules.specs.declared.finding.Rule.{Rule}
 use Rattle.swap_rules.specs.declared.finding.Rule.TheVariants.{Publish as ToPublish, Unlock as ToUnlock, Claim as ToClaim, Refund as ToRefund}
-use Rattle.swap_rules.specs.Party.{is_correct, is_correct_in, is_ready, ready_height, is_triggered, expiry, least_expiry, leads_one, call_by}
-use Rattle.swap_rules.specs.Party.{key_in, first_key, first_seen_key, opens_without}
-use Rattle.swap_rules.specs.Conduct.{is_publish, is_first_key, carries, extends, extends_without, is_alone, has_seen, has_origin, keeps, keeps_at}
-use Rattle.swap_rules.specs.Late.{height_of_opening, is_carried, is_used, height_if, base_of, trigger_height, when, ref_of, counts, is_done}
+use Rattle.swap_rules.specs.Party.{is_correct, is_arc_correct, is_ready, ready_height, is_triggered, expiry, least_expiry, leads_one, pick_call}
+use Rattle.swap_rules.specs.Party.{fetch_key, first_key, first_seen_key, opens_without}
+use Rattle.swap_rules.specs.Conduct.{is_publish, is_first_key, carries, extends, extends_without, is_alone, has_seen, has_origin, keeps, keeps_entry}
+use Rattle.swap_rules.specs.Late.{height_of_opening, is_carried, is_used, height_if, unlock_base, trigger_height, when, ref_of, counts, is_done}
 use Rattle.swap_rules.specs.Late.{late_at, is_late}
 use Rattle.swap_rules.specs.Forged.{has_made, has_forged_suffix, forges, is_forged}
 use Rattle.swap_rules.specs.Due.{has_called}
@@ -38,7 +38,7 @@ use Rattle.told_books.specs.Told.{is_of_contract, is_told, telling, is_useless, 
 use Rattle.told_books.proofs.Filters.{first_of-filter, list_any-filter, sum_by-filter, greatest-filter, all_moments-filter, moment-filter, moment_unfilter}
 use Rattle.told_books.proofs.Filters.{any-same, greatest-same, first_each, any_each}
 use Rattle.told_books.proofs.Telling.{noise, no_call, no_unlock, says_telling}
-use Rattle.told_books.proofs.Needed.{not_called, same_called, same_height, useless, silent_in, told_at, says_enough}
+use Rattle.told_books.proofs.Needed.{not_called, same_called, same_height, useless, silent_in, told_swap, says_enough}
 use Rattle.told_books.proofs.Enough as enough
 
 -- Words of one call.
@@ -57,22 +57,22 @@ no_counts d v b ToRefund a at = refl
 -- A history in which v made no call.
 
 silent_moments : (v : ℕ) (Q : Moment Entry → Bool) (before h : List Entry)
-    → ((past : List Entry) (e : Entry) → call_by v e ≡ None → Q (record { past = past; now = e }) ≡ true)
-    → ((e : Entry) → IsIn e h → call_by v e ≡ None) → list_all Q (moments_after before h) ≡ true
+    → ((past : List Entry) (e : Entry) → pick_call v e ≡ None → Q (record { past = past; now = e }) ≡ true)
+    → ((e : Entry) → IsIn e h → pick_call v e ≡ None) → list_all Q (moments_after before h) ≡ true
 silent_moments v Q before [] q n = refl
 silent_moments v Q before (e ∷ h) q n =
     and_both (Q (record { past = before; now = e })) (list_all Q (moments_after (before ++ e ∷ []) h)) (q before e (n e (inl refl)))
     (silent_moments v Q (before ++ e ∷ []) h q (λ x i. n x (inr i)))
 
-silent_keeps : (d : Deal) (v a : ℕ) (b : Histories) (h : List Entry) → has_called v is_some h ≡ false → list_all (keeps_at d b v a) (moments h) ≡ true
+silent_keeps : (d : Deal) (v a : ℕ) (b : Histories) (h : List Entry) → has_called v is_some h ≡ false → list_all (keeps_entry d b v a) (moments h) ≡ true
 unfolding keeps
 silent_keeps d v a b h n =
-    silent_moments v (keeps_at d b v a) [] h (λ past e k. ap (keeps d b v a past e.height) k) (silent_in v h n)
+    silent_moments v (keeps_entry d b v a) [] h (λ past e k. ap (keeps d b v a past e.height) k) (silent_in v h n)
 
 silent_done : (d : Deal) (v a : ℕ) (b : Histories) (rule : Rule) (by : ℕ) (h : List Entry) → has_called v is_some h ≡ false
-    → list_any (λ e. counts d b v rule a e.height (call_by v e) && nat_le e.height by) h ≡ false
+    → list_any (λ e. counts d b v rule a e.height (pick_call v e) && nat_le e.height by) h ≡ false
 silent_done d v a b rule by h n =
-    list_any-none (λ e. counts d b v rule a e.height (call_by v e) && nat_le e.height by) h
+    list_any-none (λ e. counts d b v rule a e.height (pick_call v e) && nat_le e.height by) h
     (λ e i. ap (λ x. x && nat_le e.height by) (ap (counts d b v rule a e.height) (silent_in v h n e i) ∙ no_counts d v b rule a e.height))
 
 -- Numbers that matter only where a test holds.
@@ -109,7 +109,7 @@ module _ (d : Deal) (v : ℕ) (u : ℕ → Bool) (b c : Histories) (is_part : (a
   leaving_told a i = not-true (u a) (λ t. (useless d v a (history b a) (idle a t)).apart i)
 
   pub all_at : (a : ℕ) → u a ≡ false → history c a ≡ telling v (history b a)
-  all_at a e = told_at d v u b idle c b is_part a e
+  all_at a e = told_swap d v u b idle c b is_part a e
 
   pub silent_at : (a : ℕ) → u a ≡ true → has_called v is_some (history b a) ≡ false
   silent_at a e = (useless d v a (history b a) (idle a e)).silent
@@ -132,9 +132,9 @@ module _ (d : Deal) (v : ℕ) (u : ℕ → Bool) (b c : Histories) (is_part : (a
   same_first : (i : ℕ) → first_key c v i ≡ first_key b v i
   unfolding first_key
   same_first i =
-      first_each (λ e. key_in i (call_by v e)) c b
-      (λ a. ap (first_of (λ e. key_in i (call_by v e))) (is_part a)
-      ∙ first_of-filter (is_needed (u a) v) (λ e. key_in i (call_by v e)) (history b a) (λ e t. ap (key_in i) (not_called (u a) v e t)))
+      first_each (λ e. fetch_key i (pick_call v e)) c b
+      (λ a. ap (first_of (λ e. fetch_key i (pick_call v e))) (is_part a)
+      ∙ first_of-filter (is_needed (u a) v) (λ e. fetch_key i (pick_call v e)) (history b a) (λ e t. ap (fetch_key i) (not_called (u a) v e t)))
 
   -- Conduct.
 
@@ -149,39 +149,39 @@ module _ (d : Deal) (v : ℕ) (u : ℕ → Bool) (b c : Histories) (is_part : (a
   same_origin Timelocks key = ap (λ x. leads d v key.lock || x) (same_has_seen (carries key.secret) refl (λ to units. refl))
   same_origin Hashkeys key = ap (λ x. cond (leads d v key.lock) (is_alone v key.path) x) (same_has_seen (extends_without v key) refl (λ to units. refl))
 
-  same_count : (a : ℕ) → count_by (λ e. is_publish (call_by v e)) (history c a) ≡ count_by (λ e. is_publish (call_by v e)) (history b a)
+  same_count : (a : ℕ) → count_by (λ e. is_publish (pick_call v e)) (history c a) ≡ count_by (λ e. is_publish (pick_call v e)) (history b a)
   same_count a =
-      ap (count_by (λ e. is_publish (call_by v e))) (is_part a)
-      ∙ sum_by-filter (is_needed (u a) v) (λ e. cond (is_publish (call_by v e)) 1 0) (history b a)
+      ap (count_by (λ e. is_publish (pick_call v e))) (is_part a)
+      ∙ sum_by-filter (is_needed (u a) v) (λ e. cond (is_publish (pick_call v e)) 1 0) (history b a)
       (λ e t. ap (λ o. cond {A = ℕ} (is_publish o) 1 0) (not_called (u a) v e t))
 
   same_keeps : (a : ℕ) (past : List Entry) (at : ℕ) (o : Option Call) → keeps d c v a (telling v past) at o ≡ keeps d b v a past at o
   unfolding keeps
   same_keeps a past at None = refl
   same_keeps a past at (Some (Publish t)) =
-      ap₂ (λ n r. same_terms t (terms_of d a) && (n == 1) && (leads_one d v || r)) (same_count a) same_ready
+      ap₂ (λ n r. same_terms t (stated_terms d a) && (n == 1) && (leads_one d v || r)) (same_count a) same_ready
   same_keeps a past at (Some (Unlock key)) =
-      ap₂ (λ p r. is_some p && r && is_first_key (first_key c v key.lock) key && is_valid d a (hashlock_of d key.lock) key && has_origin d.mode d c v key)
+      ap₂ (λ p r. is_some p && r && is_first_key (first_key c v key.lock) key && is_valid d a (lock_hashlock d key.lock) key && has_origin d.mode d c v key)
       (says_telling v past).published same_ready
-      ∙ ap₂ (λ f o. is_some (published past) && is_ready d b v && is_first_key f key && is_valid d a (hashlock_of d key.lock) key && o)
+      ∙ ap₂ (λ f o. is_some (published past) && is_ready d b v && is_first_key f key && is_valid d a (lock_hashlock d key.lock) key && o)
       (same_first key.lock) (same_origin d.mode key)
   same_keeps a past at (Some Claim) = ap (λ (f : ℕ → Bool). list_all f (locks d)) (λ j i. is_some ((says_telling v past).opened i j))
   same_keeps a past at (Some Refund) =
       ap (λ (f : ℕ → Bool). list_any (λ i. not (f i) && nat_lt (expiry d a i) at) (locks d)) (λ j i. is_some ((says_telling v past).opened i j))
   same_keeps a past at (Some (Transfer to units)) = refl
 
-  keeps_noise : (a : ℕ) (past : List Entry) (e : Entry) → is_told v e ≡ false → keeps d b v a past e.height (call_by v e) ≡ true
+  keeps_noise : (a : ℕ) (past : List Entry) (e : Entry) → is_told v e ≡ false → keeps d b v a past e.height (pick_call v e) ≡ true
   unfolding keeps
   keeps_noise a past e t = ap (keeps d b v a past e.height) (no_call v e (noise v e t).others)
 
-  pub same_conduct : (a : ℕ) → list_all (keeps_at d c v a) (moments (history c a)) ≡ list_all (keeps_at d b v a) (moments (history b a))
+  pub same_conduct : (a : ℕ) → list_all (keeps_entry d c v a) (moments (history c a)) ≡ list_all (keeps_entry d b v a) (moments (history b a))
   same_conduct a = go (u a) refl
     where
-      go : (t : Bool) → u a ≡ t → list_all (keeps_at d c v a) (moments (history c a)) ≡ list_all (keeps_at d b v a) (moments (history b a))
+      go : (t : Bool) → u a ≡ t → list_all (keeps_entry d c v a) (moments (history c a)) ≡ list_all (keeps_entry d b v a) (moments (history b a))
       go false e =
-          ap (λ h. list_all (keeps_at d c v a) (moments h)) (all_at a e)
-          ∙ all_moments-filter (is_told v) (keeps_at d c v a) (keeps_at d b v a) [] (history b a)
-          (λ past e t. same_keeps a past e.height (call_by v e)) (λ past e t. keeps_noise a past e t)
+          ap (λ h. list_all (keeps_entry d c v a) (moments h)) (all_at a e)
+          ∙ all_moments-filter (is_told v) (keeps_entry d c v a) (keeps_entry d b v a) [] (history b a)
+          (λ past e t. same_keeps a past e.height (pick_call v e)) (λ past e t. keeps_noise a past e t)
       go true e =
           silent_keeps d v a c (history c a) (calls_at a is_some refl ∙ silent_at a e) ∙ sym (silent_keeps d v a b (history b a) (silent_at a e))
 
@@ -201,7 +201,7 @@ module _ (d : Deal) (v : ℕ) (u : ℕ → Bool) (b c : Histories) (is_part : (a
       ap₂ (λ (f : Entry → Bool) (h : List Entry). greatest (λ e. height_if (f e) e.height) h) (λ j e. same_used i o e j) (all_at a (leaving_told a l))
       ∙ greatest-filter (is_told v) (λ e. height_if (is_used d b v i o e) e.height) (history b a) (λ e t. ap (λ x. height_if x e.height) (no_used i o e t))
 
-  same_base : (m : Mode) (i : ℕ) (o : Option Hashkey) → base_of m d c v i o ≡ base_of m d b v i o
+  same_base : (m : Mode) (i : ℕ) (o : Option Hashkey) → unlock_base m d c v i o ≡ unlock_base m d b v i o
   same_base Timelocks i o =
       greatest-same (λ a. height_of_opening (opened (history c a) i)) (λ a. height_of_opening (opened (history b a) i)) (leaving d.graph v)
       (λ a l. ap height_of_opening ((says_leaving a l).opened i))
@@ -226,50 +226,50 @@ module _ (d : Deal) (v : ℕ) (u : ℕ → Bool) (b c : Histories) (is_part : (a
   same_may_open i = ap₂ (λ k o. leads d v i || is_some k || o) (same_first i) (same_others i)
 
   abbrev open_height : Histories → ℕ → ℕ
-  open_height x i = cond (leads d v i) (ready_height d x v) (max (ready_height d x v) (base_of d.mode d x v i (first_key x v i)))
+  open_height x i = cond (leads d v i) (ready_height d x v) (max (ready_height d x v) (unlock_base d.mode d x v i (first_key x v i)))
 
   same_open_height : (i : ℕ) → is_ready d b v ≡ true → open_height c i ≡ open_height b i
   same_open_height i r =
-      ap₂ (λ n m. cond (leads d v i) n (max n m)) (same_ready_height r) (ap (base_of d.mode d c v i) (same_first i) ∙ same_base d.mode i (first_key b v i))
+      ap₂ (λ n m. cond (leads d v i) n (max n m)) (same_ready_height r) (ap (unlock_base d.mode d c v i) (same_first i) ∙ same_base d.mode i (first_key b v i))
 
   claim_told : (a : ℕ) → SaysTheSame v (history c a) (history b a) → ref_of d c v ToClaim a ≡ ref_of d b v ToClaim a
   unfolding ref_of
   claim_told a s =
       let same_open : is_open (history c a) ≡ is_open (history b a) = λ j i. is_some (s.opened i j) in
-      ap₂ (λ x (f : ℕ → Bool). when (is_among a (entering d.graph v) && is_correct_in d a x && are_open d f) (trigger_height d (history c a)))
+      ap₂ (λ x (f : ℕ → Bool). when (is_listed a (entering d.graph v) && is_arc_correct d a x && are_open d f) (trigger_height d (history c a)))
       s.published same_open
-      ∙ ap (λ (f : ℕ → ℕ). when (is_among a (entering d.graph v) && is_correct d b a && is_triggered d b a) (greatest f (locks d)))
+      ∙ ap (λ (f : ℕ → ℕ). when (is_listed a (entering d.graph v) && is_correct d b a && is_triggered d b a) (greatest f (locks d)))
       (λ j i. height_of_opening (s.opened i j))
 
   refund_told : (a : ℕ) → SaysTheSame v (history c a) (history b a) → ref_of d c v ToRefund a ≡ ref_of d b v ToRefund a
   unfolding ref_of
   refund_told a s =
       let same_open : is_open (history c a) ≡ is_open (history b a) = λ j i. is_some (s.opened i j) in
-      ap₂ (λ x (f : ℕ → Bool). when (is_among a (leaving d.graph v) && is_some x && not (are_open d f)) (refund_expiry d a (terms_of d a) f))
+      ap₂ (λ x (f : ℕ → Bool). when (is_listed a (leaving d.graph v) && is_some x && not (are_open d f)) (refund_expiry d a (stated_terms d a) f))
       s.published same_open
 
   pub same_ref : (rule : Rule) (a : ℕ) → ref_of d c v rule a ≡ ref_of d b v rule a
   unfolding ref_of
   same_ref ToPublish a =
-      ap (λ r. when (is_among a (leaving d.graph v) && (leads_one d v || r)) (cond (leads_one d v) 0 (ready_height d c v))) same_ready
-      ∙ where_last (is_among a (leaving d.graph v)) (leads_one d v) (is_ready d b v) (ready_height d c v) (ready_height d b v) same_ready_height
+      ap (λ r. when (is_listed a (leaving d.graph v) && (leads_one d v || r)) (cond (leads_one d v) 0 (ready_height d c v))) same_ready
+      ∙ where_last (is_listed a (leaving d.graph v)) (leads_one d v) (is_ready d b v) (ready_height d c v) (ready_height d b v) same_ready_height
   same_ref (ToUnlock i) a =
-      ap₂ (λ r o. when (is_among a (entering d.graph v) && r && o) (open_height c i)) same_ready (same_may_open i)
-      ∙ where_middle (is_among a (entering d.graph v)) (is_ready d b v) (may_open b i) (open_height c i) (open_height b i) (same_open_height i)
+      ap₂ (λ r o. when (is_listed a (entering d.graph v) && r && o) (open_height c i)) same_ready (same_may_open i)
+      ∙ where_middle (is_listed a (entering d.graph v)) (is_ready d b v) (may_open b i) (open_height c i) (open_height b i) (same_open_height i)
   same_ref ToClaim a = go (enough_said a)
     where
       go : SaysTheSame v (history c a) (history b a) ⊎ AreUseless d v a (history c a) (history b a) → ref_of d c v ToClaim a ≡ ref_of d b v ToClaim a
       go (inl s) = claim_told a s
       go (inr s) =
-          middle_false (is_among a (entering d.graph v)) (is_correct d c a) (is_triggered d c a) (trigger_height d (history c a)) s.one
-          ∙ sym (middle_false (is_among a (entering d.graph v)) (is_correct d b a) (is_triggered d b a) (trigger_height d (history b a)) s.other)
-  same_ref ToRefund a = go (is_among a (leaving d.graph v)) refl
+          middle_false (is_listed a (entering d.graph v)) (is_correct d c a) (is_triggered d c a) (trigger_height d (history c a)) s.one
+          ∙ sym (middle_false (is_listed a (entering d.graph v)) (is_correct d b a) (is_triggered d b a) (trigger_height d (history b a)) s.other)
+  same_ref ToRefund a = go (is_listed a (leaving d.graph v)) refl
     where
-      go : (l : Bool) → is_among a (leaving d.graph v) ≡ l → ref_of d c v ToRefund a ≡ ref_of d b v ToRefund a
-      go true l = refund_told a (says_leaving a (is_among-true a (leaving d.graph v) l))
+      go : (l : Bool) → is_listed a (leaving d.graph v) ≡ l → ref_of d c v ToRefund a ≡ ref_of d b v ToRefund a
+      go true l = refund_told a (says_leaving a (is_listed-true a (leaving d.graph v) l))
       go false l =
-          first_false (is_among a (leaving d.graph v)) (is_some (published (history c a))) (not (is_triggered d c a)) (least_expiry d a (history c a)) l
-          ∙ sym (first_false (is_among a (leaving d.graph v)) (is_some (published (history b a))) (not (is_triggered d b a))
+          first_false (is_listed a (leaving d.graph v)) (is_some (published (history c a))) (not (is_triggered d c a)) (least_expiry d a (history c a)) l
+          ∙ sym (first_false (is_listed a (leaving d.graph v)) (is_some (published (history b a))) (not (is_triggered d b a))
           (least_expiry d a (history b a)) l)
 
   same_counts : (rule : Rule) (a at : ℕ) (o : Option Call) → SaysTheSame v (history c a) (history b a) → counts d c v rule a at o ≡ counts d b v rule a at o
@@ -283,7 +283,7 @@ module _ (d : Deal) (v : ℕ) (u : ℕ → Bool) (b c : Histories) (is_part : (a
   same_counts (ToUnlock i) a at (Some (Transfer to units)) s = refl
   same_counts ToClaim a at o s = refl
   same_counts ToRefund a at (Some Refund) s =
-      ap (λ (f : ℕ → Bool). nat_lt (refund_expiry d a (terms_of d a) f) at) (λ j i. is_some (s.opened i j))
+      ap (λ (f : ℕ → Bool). nat_lt (refund_expiry d a (stated_terms d a) f) at) (λ j i. is_some (s.opened i j))
   same_counts ToRefund a at None s = refl
   same_counts ToRefund a at (Some (Publish t)) s = refl
   same_counts ToRefund a at (Some (Unlock key)) s = refl
@@ -295,9 +295,9 @@ module _ (d : Deal) (v : ℕ) (u : ℕ → Bool) (b c : Histories) (is_part : (a
     where
       go : (t : Bool) → u a ≡ t → is_done d c v rule a by ≡ is_done d b v rule a by
       go false e =
-          ap₂ (λ (f : ℕ → Option Call → Bool) (h : List Entry). list_any (λ e. f e.height (call_by v e) && nat_le e.height by) h)
+          ap₂ (λ (f : ℕ → Option Call → Bool) (h : List Entry). list_any (λ e. f e.height (pick_call v e) && nat_le e.height by) h)
           (λ j at o. same_counts rule a at o (says_at a e) j) (all_at a e)
-          ∙ list_any-filter (is_told v) (λ e. counts d b v rule a e.height (call_by v e) && nat_le e.height by) (history b a)
+          ∙ list_any-filter (is_told v) (λ e. counts d b v rule a e.height (pick_call v e) && nat_le e.height by) (history b a)
           (λ e t. ap (λ x. x && nat_le e.height by) (ap (counts d b v rule a e.height) (no_call v e (noise v e t).others) ∙ no_counts d v b rule a e.height))
       go true e =
           silent_done d v a c rule by (history c a) (calls_at a is_some refl ∙ silent_at a e)
@@ -313,11 +313,11 @@ module _ (d : Deal) (v : ℕ) (u : ℕ → Bool) (b c : Histories) (is_part : (a
   -- Forgeries.
 
   same_any : (test : Option Call → Bool) → test None ≡ false
-      → list_any (λ e. test (call_by v e)) (flat_map (λ h. h) c) ≡ list_any (λ e. test (call_by v e)) (flat_map (λ h. h) b)
-  same_any test n = any_each (λ e. test (call_by v e)) c b (λ a. calls_at a test n)
+      → list_any (λ e. test (pick_call v e)) (flat_map (λ h. h) c) ≡ list_any (λ e. test (pick_call v e)) (flat_map (λ h. h) b)
+  same_any test n = any_each (λ e. test (pick_call v e)) c b (λ a. calls_at a test n)
 
   same_made : (key : Hashkey) → has_made c v key ≡ has_made b v key
-  same_made key = same_any (λ o. is_first_key (key_in key.lock o) key) refl
+  same_made key = same_any (λ o. is_first_key (fetch_key key.lock o) key) refl
 
   same_suffix : (key : Hashkey) (p : List ℕ) (s : List Sig) → has_forged_suffix c v key p s ≡ has_forged_suffix b v key p s
   same_suffix key (u ∷ p) (s ∷ sigs) =
@@ -329,7 +329,7 @@ module _ (d : Deal) (v : ℕ) (u : ℕ → Bool) (b c : Histories) (is_part : (a
   same_forges : (m : Mode) (o : Option Call) → forges m d c v o ≡ forges m d b v o
   unfolding forges
   same_forges Timelocks (Some (Unlock key)) =
-      ap (λ x. bytes_eq (hash_of key.secret) (hashlock_of d key.lock) && leads d v key.lock && not x) (same_any (carries key.secret) refl)
+      ap (λ x. bytes_eq (hashed_value key.secret) (lock_hashlock d key.lock) && leads d v key.lock && not x) (same_any (carries key.secret) refl)
   same_forges Hashkeys (Some (Unlock key)) = same_suffix key key.path key.sigs
   same_forges Timelocks None = refl
   same_forges Timelocks (Some (Publish t)) = refl

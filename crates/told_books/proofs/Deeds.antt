@@ -21,9 +21,9 @@ use Rattle.ledger_core.specs.declared.entry.What.TheVariants.{Call as Made, Tick
 use Rattle.ledger_core.specs.declared.entry.Entry.{Entry}
 use Rattle.ledger_core.specs.declared.facts.Settlement.{Settlement}
 use Rattle.ledger_core.specs.declared.facts.Settlement.TheVariants.{Claimed, Refunded}
-use Rattle.ledger_core.specs.History.{accepted, accepted_call, call_in, publication, published, opening, settling, settled, is_open, balance, fit, rows}
-use Rattle.ledger_core.specs.History.{sent_by}
-use Rattle.ledger_core.proofs.Bounds.{calls_of, calls-push}
+use Rattle.ledger_core.specs.History.{accepted, accepted_call, read_raw_call, publication, published, opening, settling, settled, is_open, balance, fit, rows}
+use Rattle.ledger_core.specs.History.{is_sender}
+use Rattle.ledger_core.proofs.Bounds.{total_calls, calls-push}
 use Rattle.ledger_core.proofs.History.{clear, AreClear, not-true, not-false, lock-below}
 use Rattle.swap_rules.specs.Rest.{is_ticking}
 use Rattle.told_books.specs.Told.{is_of_contract, is_told, telling, reply_without_limit, IsTrueEntry, IsTrueMoment, IsChain}
@@ -67,12 +67,12 @@ pub record Deed (d : Deal) (a : ℕ) (past : List Entry) (s : Sender) (c : Call)
   pub fits : IsTrue (fit d a c)
   pub clear : AreClear (drop 1 (rows d a past by c))
 
-accepted_parts : (w : What) (r : Reply) (c : Call) → accepted_call w r ≡ Some c → (call_in w ≡ Some c) × (r ≡ Accepted)
+accepted_parts : (w : What) (r : Reply) (c : Call) → accepted_call w r ≡ Some c → (read_raw_call w ≡ Some c) × (r ≡ Accepted)
 accepted_parts (Made c') Accepted c e = (e, refl)
 accepted_parts _ _ c e = absurd (cc e)
 
 deed_of : (d : Deal) (a : ℕ) (past : List Entry) (s : Sender) (w : What) (at : ℕ) (r : Reply) (c : Call) → IsTrueEntry d a past s w at r
-    → call_in w ≡ Some c → r ≡ Accepted → Deed d a past s c
+    → read_raw_call w ≡ Some c → r ≡ Accepted → Deed d a past s c
 deed_of d a past (Party p) (Made c') at r c t k q =
     let same : c' ≡ c = cc k in
     record {
@@ -92,7 +92,7 @@ deed d v a past e c m t k =
 
 -- what is of the contract is told
 pub told_if : (v : ℕ) (e : Entry) (c : Call) → accepted e ≡ Some c → is_of_contract (Some c) ≡ true → is_told v e ≡ true
-told_if v e c k o = or_last (is_ticking e.what || sent_by v e.sender) (is_of_contract (accepted e)) (ap is_of_contract k ∙ o)
+told_if v e c k o = or_last (is_ticking e.what || is_sender v e.sender) (is_of_contract (accepted e)) (ap is_of_contract k ∙ o)
   where
     or_last : (x y : Bool) → y ≡ true → (x || y) ≡ true
     or_last true y h = refl
@@ -182,7 +182,7 @@ module _ (d : Deal) where
 -- Another's call that is told was accepted.
 
 of_another : (d : Deal) (v a p : ℕ) (past : List Entry) (s : Sender) (w : What) (at : ℕ) (r : Reply) → p ≢ v → IsTrueEntry d a past s w at r
-    → sent_by p s ≡ true → (is_ticking w || sent_by v s || is_of_contract (accepted_call w r)) ≡ true → is_of_contract (accepted_call w r) ≡ true
+    → is_sender p s ≡ true → (is_ticking w || is_sender v s || is_of_contract (accepted_call w r)) ≡ true → is_of_contract (accepted_call w r) ≡ true
 of_another d v a p past (Party q) (Made c) at r ne t h told =
     let n : (q == v) ≡ false = not-true (q == v) (λ x. ne (sym (eqb-true q p h) ∙ eqb-true q v x)) in
     sym (ap (λ b. b || is_of_contract (accepted_call (Made c) r)) n) ∙ told
@@ -195,32 +195,32 @@ some_call (Some c) e = (c, refl)
 
 module _ (d : Deal) (v a p : ℕ) (other : p ≢ v) where
   abbrev Few : List Entry → Type 0
-  Few h = IsChain d v a h → calls_of p (telling v h) ≤ progress d h
+  Few h = IsChain d v a h → total_calls p (telling v h) ≤ progress d h
 
-  few_sent : (h : List Entry) (x : Entry) (b : Bool) → sent_by p x.sender ≡ b → is_told v x ≡ true → IsTrueMoment d v a (record { past = h; now = x })
-      → calls_of p (telling v h) ≤ progress d h → calls_of p (telling v h ++ x ∷ []) ≤ progress d (h ++ x ∷ [])
+  few_sent : (h : List Entry) (x : Entry) (b : Bool) → is_sender p x.sender ≡ b → is_told v x ≡ true → IsTrueMoment d v a (record { past = h; now = x })
+      → total_calls p (telling v h) ≤ progress d h → total_calls p (telling v h ++ x ∷ []) ≤ progress d (h ++ x ∷ [])
   few_sent h x true s t m few =
       let o = of_another d v a p h x.sender x.what x.height x.reply other (m.told t) s t in
       let c = some_call (accepted x) o in
       let up = gains d a h x x.sender c.0 c.1 (ap is_of_contract (sym c.1) ∙ o) (deed d v a h x c.0 m t c.1) in
-      let one : bit (sent_by p x.sender) ≡ 1 = ap bit s in
+      let one : bit (is_sender p x.sender) ≡ 1 = ap bit s in
       omega (arith, calls-push (telling v h) x p)
   few_sent h x false s t m few =
       let up = goes_on d h x in
-      let none : bit (sent_by p x.sender) ≡ 0 = ap bit s in
+      let none : bit (is_sender p x.sender) ≡ 0 = ap bit s in
       omega (arith, calls-push (telling v h) x p)
 
   few_step : (h : List Entry) (x : Entry) (b : Bool) → is_told v x ≡ b → IsTrueMoment d v a (record { past = h; now = x })
-      → calls_of p (telling v h) ≤ progress d h → calls_of p (telling v (h ++ x ∷ [])) ≤ progress d (h ++ x ∷ [])
+      → total_calls p (telling v h) ≤ progress d h → total_calls p (telling v (h ++ x ∷ [])) ≤ progress d (h ++ x ∷ [])
   few_step h x true t m few =
-      subst (λ l. calls_of p l ≤ progress d (h ++ x ∷ [])) (sym (filter-on (is_told v) h x t)) (few_sent h x (sent_by p x.sender) refl t m few)
+      subst (λ l. total_calls p l ≤ progress d (h ++ x ∷ [])) (sym (filter-on (is_told v) h x t)) (few_sent h x (is_sender p x.sender) refl t m few)
   few_step h x false t m few =
       let up = goes_on d h x in
-      subst (λ l. calls_of p l ≤ progress d (h ++ x ∷ [])) (sym (filter-off (is_told v) h x t)) (omega arith)
+      subst (λ l. total_calls p l ≤ progress d (h ++ x ∷ [])) (sym (filter-off (is_told v) h x t)) (omega arith)
 
-  pub few_calls : (h : List Entry) → IsChain d v a h → calls_of p (telling v h) ≤ length d.leaders + 2
+  pub few_calls : (h : List Entry) → IsChain d v a h → total_calls p (telling v h) ≤ length d.leaders + 2
   few_calls h l =
-      let k : calls_of p (telling v h) ≤ progress d h =
+      let k : total_calls p (telling v h) ≤ progress d h =
       grow Few h (λ l. omega arith)
       (λ xs x rest l. few_step xs x (is_told v x) refl (at_moment (IsTrueMoment d v a) (xs ++ x ∷ []) xs x l ([], refl))
       (rest (all_moments_front (IsTrueMoment d v a) xs (x ∷ []) l))) l in

@@ -10,20 +10,21 @@ use Rattle.swap_digraph.specs.declared.deal.Deal.{Deal}
 use Rattle.swap_digraph.specs.Graph.{leaving, entering}
 use Rattle.swap_digraph.specs.Deal.{locks, leads}
 use Rattle.hashkey_path.specs.declared.hashkey.Hashkey.{Hashkey}
-use Rattle.escrow_core.specs.Terms.{terms_of, refund_expiry}
+use Rattle.escrow_core.specs.Terms.{stated_terms, refund_expiry}
 use Rattle.escrow_core.specs.Table.{are_open}
 use Rattle.ledger_core.specs.declared.entry.Call.{Call}
 use Rattle.ledger_core.specs.declared.entry.Call.TheVariants.{Publish, Claim, Refund}
 use Rattle.ledger_core.specs.History.{height, opened, published, settled, is_open}
 use Rattle.ledger_core.specs.Book.{Histories, history}
 use Rattle.swap_rules.specs.declared.outcome.Outcome.TheVariants.{NoDeal, FreeRide, Underwater, Deal as WholeDeal, Discount}
-use Rattle.swap_rules.specs.Party.{is_correct, is_correct_in, is_good, height_in, is_ready, ready_height, is_triggered, expiry, least_expiry, has_expired}
-use Rattle.swap_rules.specs.Party.{leads_one, call_by, key_in, first_key, key_without, first_seen_key}
+use Rattle.swap_rules.specs.Party.{is_correct, is_arc_correct, is_good, publication_height, is_ready, ready_height, is_triggered, expiry, least_expiry}
+use Rattle.swap_rules.specs.Party.{has_expired}
+use Rattle.swap_rules.specs.Party.{leads_one, pick_call, fetch_key, first_key, key_without, first_seen_key}
 use Rattle.swap_rules.specs.Conduct.{is_publish}
-use Rattle.swap_rules.specs.Due.{Wallet, Action, is_unlock_for, is_claiming, is_refunding, has_called, is_due_publish, seen_key, extended, due_key}
-use Rattle.swap_rules.specs.Due.{presented, may_unlock, due_unlock_on, is_due_claim, is_due_refund, when_due, due_publishes, due_unlocks, due_claims}
+use Rattle.swap_rules.specs.Due.{Wallet, Action, unlocks_lock, is_claiming, is_refunding, has_called, is_due_publish, seen_key, extended, due_key}
+use Rattle.swap_rules.specs.Due.{presented, may_unlock, due_arc_unlock, is_due_claim, is_due_refund, when_due, due_publishes, due_unlocks, due_claims}
 use Rattle.swap_rules.specs.Due.{due_refunds, due}
-use Rattle.swap_rules.specs.Rest.{is_waiting, least_of, rest_until}
+use Rattle.swap_rules.specs.Rest.{is_waiting, least_number, rest_deadline}
 use Rattle.swap_rules.specs.Outcome.{outcome, is_got, is_claim, got, lost}
 use Rattle.swap_rules.specs.Walking.{is_withheld, pressing_unlocks, pressing}
 use Rattle.swap_rules.specs.Useful.{opens_in_time, useful_publishes, useful_unlocks, useful}
@@ -62,10 +63,10 @@ module _ (d : Deal) (v : ℕ) (k h : Histories) (s : SayEnough d v k h) where
   same_good a = go (s a)
     where
       go : SaysTheSame v (history k a) (history h a) ⊎ AreUseless d v a (history k a) (history h a) → is_good d k a ≡ is_good d h a
-      go (inl t) = ap (λ o. is_correct_in d a o && nat_le (height_in o) (times.open_by d.start d.delta d.bound)) t.published
+      go (inl t) = ap (λ o. is_arc_correct d a o && nat_le (publication_height o) (times.opening_deadline d.start d.delta d.bound)) t.published
       go (inr u) =
-          ap (λ b. b && nat_le (height_in (published (history k a))) (times.open_by d.start d.delta d.bound)) u.one
-          ∙ sym (ap (λ b. b && nat_le (height_in (published (history h a))) (times.open_by d.start d.delta d.bound)) u.other)
+          ap (λ b. b && nat_le (publication_height (published (history k a))) (times.opening_deadline d.start d.delta d.bound)) u.one
+          ∙ sym (ap (λ b. b && nat_le (publication_height (published (history h a))) (times.opening_deadline d.start d.delta d.bound)) u.other)
 
   pub same_ready : is_ready d k v ≡ is_ready d h v
   unfolding is_ready
@@ -97,10 +98,10 @@ module _ (d : Deal) (v : ℕ) (k h : Histories) (s : SayEnough d v k h) where
   same_due_key o w i = ap (λ x. or_else o (cond (leads d v i) (Some (w.first i)) (extended w x))) (same_seen i)
 
   same_may : (i a : ℕ) → may_unlock d v k i a ≡ may_unlock d v h i a
-  same_may i a = ap₂ (λ x y. x && not y) same_ready (same_calls a (is_unlock_for i) refl)
+  same_may i a = ap₂ (λ x y. x && not y) same_ready (same_calls a (unlocks_lock i) refl)
 
-  same_unlock_on : (w : Wallet) (o : Option Hashkey) (i a : ℕ) → due_unlock_on d v w o k i a ≡ due_unlock_on d v w o h i a
-  unfolding due_unlock_on
+  same_unlock_on : (w : Wallet) (o : Option Hashkey) (i a : ℕ) → due_arc_unlock d v w o k i a ≡ due_arc_unlock d v w o h i a
+  unfolding due_arc_unlock
   same_unlock_on w o i a = ap₂ (λ x y. cond x (presented a y) []) (same_may i a) (same_due_key o w i)
 
   same_due_claim : (a : ℕ) → is_due_claim d v k a ≡ is_due_claim d v h a
@@ -111,7 +112,7 @@ module _ (d : Deal) (v : ℕ) (k h : Histories) (s : SayEnough d v k h) where
           → (is_correct d k a && is_triggered d k a && not (has_called v is_claiming (history k a)))
           ≡ (is_correct d h a && is_triggered d h a && not (has_called v is_claiming (history h a)))
       go (inl t) =
-          ap₂ (λ x y. x && y && not (has_called v is_claiming (history k a))) (ap (is_correct_in d a) t.published) (same_trigger a t)
+          ap₂ (λ x y. x && y && not (has_called v is_claiming (history k a))) (ap (is_arc_correct d a) t.published) (same_trigger a t)
           ∙ ap (λ z. is_correct d h a && is_triggered d h a && not z) (t.calls is_claiming refl)
       go (inr u) =
           ap (λ x. x && is_triggered d k a && not (has_called v is_claiming (history k a))) u.one
@@ -129,7 +130,7 @@ module _ (d : Deal) (v : ℕ) (k h : Histories) (s : SayEnough d v k h) where
 
   same_publishes : due_publishes d v k ≡ due_publishes d v h
   same_publishes =
-      ap (λ (f : ℕ → Bool). flat_map (λ a. when_due (f a) a (Publish (terms_of d a))) (leaving d.graph v)) (λ j a. same_due_publish a j)
+      ap (λ (f : ℕ → Bool). flat_map (λ a. when_due (f a) a (Publish (stated_terms d a))) (leaving d.graph v)) (λ j a. same_due_publish a j)
 
   same_unlocks : (w : Wallet) (signed : ℕ → Option Hashkey) → due_unlocks d v w signed k ≡ due_unlocks d v w signed h
   same_unlocks w signed =
@@ -153,18 +154,18 @@ module _ (d : Deal) (v : ℕ) (k h : Histories) (s : SayEnough d v k h) where
   -- Rest.
 
   same_least : (a : ℕ) → SaysTheSame v (history k a) (history h a) → least_expiry d a (history k a) ≡ least_expiry d a (history h a)
-  same_least a t = ap (refund_expiry d a (terms_of d a)) (open_at a t)
+  same_least a t = ap (refund_expiry d a (stated_terms d a)) (open_at a t)
 
   same_waiting : (a : ℕ) → SaysTheSame v (history k a) (history h a) → is_waiting d v k a ≡ is_waiting d v h a
   same_waiting a t =
       ap₂ (λ x y. is_some x && is_none y && not (is_triggered d k a) && not (has_called v is_refunding (history k a))) t.published t.settled
       ∙ ap₂ (λ x y. is_some (published (history h a)) && is_none (settled (history h a)) && not x && not y) (same_trigger a t) (t.calls is_refunding refl)
 
-  pub same_rest : rest_until d v k ≡ rest_until d v h
+  pub same_rest : rest_deadline d v k ≡ rest_deadline d v h
   same_rest =
-      ap (λ xs. least_of (map (λ a. least_expiry d a (history k a)) xs))
+      ap (λ xs. least_number (map (λ a. least_expiry d a (history k a)) xs))
       (filter-same (is_waiting d v k) (is_waiting d v h) (leaving d.graph v) (λ a i. same_waiting a (leaving_same a i)))
-      ∙ ap least_of (map-same (λ a. least_expiry d a (history k a)) (λ a. least_expiry d a (history h a)) (filter (is_waiting d v h) (leaving d.graph v))
+      ∙ ap least_number (map-same (λ a. least_expiry d a (history k a)) (λ a. least_expiry d a (history h a)) (filter (is_waiting d v h) (leaving d.graph v))
       (λ a i. same_least a (leaving_same a (from_filter (is_waiting d v h) a (leaving d.graph v) i).0)))
 
   -- Heights at which v became ready, and how it came out.
@@ -173,7 +174,7 @@ module _ (d : Deal) (v : ℕ) (k h : Histories) (s : SayEnough d v k h) where
   same_correct a = go (s a)
     where
       go : SaysTheSame v (history k a) (history h a) ⊎ AreUseless d v a (history k a) (history h a) → is_correct d k a ≡ is_correct d h a
-      go (inl t) = ap (is_correct_in d a) t.published
+      go (inl t) = ap (is_arc_correct d a) t.published
       go (inr u) = u.one ∙ sym u.other
 
   -- of a correct arc the same is said
@@ -186,19 +187,19 @@ module _ (d : Deal) (v : ℕ) (k h : Histories) (s : SayEnough d v k h) where
 
   good_says : (a : ℕ) → is_good d h a ≡ true → SaysTheSame v (history k a) (history h a)
   good_says a g =
-      correct_says a (and_parts (is_correct d h a) (nat_le (height_in (published (history h a))) (times.open_by d.start d.delta d.bound)) g).0
+      correct_says a (and_parts (is_correct d h a) (nat_le (publication_height (published (history h a))) (times.opening_deadline d.start d.delta d.bound)) g).0
 
   pub same_ready_height : is_ready d h v ≡ true → ready_height d k v ≡ ready_height d h v
   unfolding ready_height
   same_ready_height r =
-      greatest-same (λ a. height_in (published (history k a))) (λ a. height_in (published (history h a))) (entering d.graph v)
-      (λ a i. ap height_in (good_says a (ready_good d h v a r i)).published)
+      greatest-same (λ a. publication_height (published (history k a))) (λ a. publication_height (published (history h a))) (entering d.graph v)
+      (λ a i. ap publication_height (good_says a (ready_good d h v a r i)).published)
 
   same_got_at : (a : ℕ) → is_got d k a ≡ is_got d h a
   same_got_at a = go (s a)
     where
       go : SaysTheSame v (history k a) (history h a) ⊎ AreUseless d v a (history k a) (history h a) → is_got d k a ≡ is_got d h a
-      go (inl t) = ap₂ (λ x y. is_correct_in d a x && is_claim y) t.published t.settled
+      go (inl t) = ap₂ (λ x y. is_arc_correct d a x && is_claim y) t.published t.settled
       go (inr u) =
           ap (λ x. x && is_claim (settled (history k a))) u.one ∙ sym (ap (λ x. x && is_claim (settled (history h a))) u.other)
 
@@ -219,24 +220,24 @@ module _ (d : Deal) (v : ℕ) (k h : Histories) (s : SayEnough d v k h) where
   same_presented : (i : ℕ) → is_none (first_key k v i) ≡ is_none (first_key h v i)
   unfolding first_key
   same_presented i =
-      none_any (λ e. key_in i (call_by v e)) (flat_map (λ l. l) k)
-      ∙ (ap not (any_each (λ e. is_some (key_in i (call_by v e))) k h (λ a. same_calls a (λ o. is_some (key_in i o)) refl))
-      ∙ sym (none_any (λ e. key_in i (call_by v e)) (flat_map (λ l. l) h)))
+      none_any (λ e. fetch_key i (pick_call v e)) (flat_map (λ l. l) k)
+      ∙ (ap not (any_each (λ e. is_some (fetch_key i (pick_call v e))) k h (λ a. same_calls a (λ o. is_some (fetch_key i o)) refl))
+      ∙ sym (none_any (λ e. fetch_key i (pick_call v e)) (flat_map (λ l. l) h)))
 
   -- who isn't ready unlocks nothing
   unready : (b : Histories) → is_ready d b v ≡ false → (w : Wallet) (o : Option Hashkey) (i : ℕ) (xs : List ℕ)
-      → flat_map (due_unlock_on d v w o b i) xs ≡ []
-  unfolding due_unlock_on
+      → flat_map (due_arc_unlock d v w o b i) xs ≡ []
+  unfolding due_arc_unlock
   unready b n w o i [] = refl
   unready b n w o i (a ∷ xs) =
-      ap₂ (λ r l. cond (r && not (has_called v (is_unlock_for i) (history b a))) (presented a (due_key d v w o b i)) [] ++ l) n (unready b n w o i xs)
+      ap₂ (λ r l. cond (r && not (has_called v (unlocks_lock i) (history b a))) (presented a (due_key d v w o b i)) [] ++ l) n (unready b n w o i xs)
 
   no_choice : (b : Bool) (xs : List Action) → xs ≡ [] → cond b [] xs ≡ []
   no_choice true xs e = refl
   no_choice false xs e = e
 
   abbrev open_until : ℕ
-  open_until = times.open_by d.start d.delta d.bound + d.delta
+  open_until = times.opening_deadline d.start d.delta d.bound + d.delta
 
   same_withheld : is_ready d h v ≡ true → (i : ℕ) → is_withheld d v k i ≡ is_withheld d v h i
   same_withheld r i =
@@ -251,9 +252,9 @@ module _ (d : Deal) (v : ℕ) (k h : Histories) (s : SayEnough d v k h) where
       go true r =
           ap₂ (λ (x : Bool) (f : ℕ → List Action). cond x [] (flat_map f (entering d.graph v))) (same_withheld r i) (λ j a. same_unlock_on w (signed i) i a j)
       go false r =
-          no_choice (is_withheld d v k i) (flat_map (due_unlock_on d v w (signed i) k i) (entering d.graph v))
+          no_choice (is_withheld d v k i) (flat_map (due_arc_unlock d v w (signed i) k i) (entering d.graph v))
           (unready k (same_ready ∙ r) w (signed i) i (entering d.graph v))
-          ∙ sym (no_choice (is_withheld d v h i) (flat_map (due_unlock_on d v w (signed i) h i) (entering d.graph v))
+          ∙ sym (no_choice (is_withheld d v h i) (flat_map (due_arc_unlock d v w (signed i) h i) (entering d.graph v))
           (unready h r w (signed i) i (entering d.graph v)))
 
   -- and all that presses over the one presses over the other
@@ -267,9 +268,9 @@ module _ (d : Deal) (v : ℕ) (k h : Histories) (s : SayEnough d v k h) where
 
   same_useful_publishes : useful_publishes d v k ≡ useful_publishes d v h
   same_useful_publishes =
-      flat-same (λ a. when_due (is_due_publish d v k a && opens_in_time d k a) a (Publish (terms_of d a)))
-      (λ a. when_due (is_due_publish d v h a && opens_in_time d h a) a (Publish (terms_of d a))) (leaving d.graph v)
-      (λ a i. ap₂ (λ x n. when_due (x && nat_le n (times.open_by d.start d.delta d.bound)) a (Publish (terms_of d a)))
+      flat-same (λ a. when_due (is_due_publish d v k a && opens_in_time d k a) a (Publish (stated_terms d a)))
+      (λ a. when_due (is_due_publish d v h a && opens_in_time d h a) a (Publish (stated_terms d a))) (leaving d.graph v)
+      (λ a i. ap₂ (λ x n. when_due (x && nat_le n (times.opening_deadline d.start d.delta d.bound)) a (Publish (stated_terms d a)))
       (same_due_publish a) (leaving_same a i).height)
 
   -- and all that is useful over the one is useful over the other

@@ -18,11 +18,12 @@ use Rattle.ledger_core.specs.declared.entry.Entry.{Entry}
 use Rattle.ledger_core.specs.declared.accounts.Accounts.{Accounts}
 use Rattle.ledger_core.specs.declared.facts.Settlement.{Settlement}
 use Rattle.ledger_core.specs.declared.facts.Settlement.TheVariants.{Claimed, Refunded}
-use Rattle.ledger_core.specs.History.{call_in, accepted, accepted_call, publication, published, settling, settled, opening_accounts, transferred, is_party}
-use Rattle.ledger_core.specs.History.{moved, accounts, sent_by}
+use Rattle.ledger_core.specs.History.{read_raw_call, accepted, accepted_call, publication, published, settling, settled, opening_accounts, transferred}
+use Rattle.ledger_core.specs.History.{is_party}
+use Rattle.ledger_core.specs.History.{moved, accounts, is_sender}
 use Rattle.ledger_core.proofs.Units.{accounts-push}
 use Rattle.ledger_core.proofs.History.{not-true}
-use Rattle.swap_rules.specs.Party.{call_by}
+use Rattle.swap_rules.specs.Party.{pick_call}
 use Rattle.swap_rules.specs.Outcome.{is_claim}
 use Rattle.swap_rules.specs.Rest.{is_ticking}
 use Rattle.swap_rules.proofs.Prefixes.{moment_more}
@@ -33,18 +34,18 @@ use Rattle.told_books.proofs.Deeds.{deed, told_if, of_claim, of_refund}
 
 -- Transfers.
 
-ticks_accept_none : (w : What) (r : Reply) (c : Call) → accepted_call w r ≡ Some c → (is_ticking w ≡ false) × (call_in w ≡ Some c)
+ticks_accept_none : (w : What) (r : Reply) (c : Call) → accepted_call w r ≡ Some c → (is_ticking w ≡ false) × (read_raw_call w ≡ Some c)
 ticks_accept_none (Made c') Accepted c e = (refl, e)
 ticks_accept_none _ _ c e = absurd (cc e)
 
 -- an accepted transfer isn't v's, where v makes none
-pub not_mine : (v : ℕ) (e : Entry) (to units : ℕ) → accepted e ≡ Some (Transfer to units) → is_transfer (call_by v e) ≡ false → sent_by v e.sender ≡ false
+pub not_mine : (v : ℕ) (e : Entry) (to units : ℕ) → accepted e ≡ Some (Transfer to units) → is_transfer (pick_call v e) ≡ false → is_sender v e.sender ≡ false
 not_mine v e to units k calm =
-    not-true (sent_by v e.sender) (λ t. false≢true (sym calm ∙ ap is_transfer (ap (λ b. cond b (call_in e.what) None) t
+    not-true (is_sender v e.sender) (λ t. false≢true (sym calm ∙ ap is_transfer (ap (λ b. cond b (read_raw_call e.what) None) t
     ∙ (ticks_accept_none e.what e.reply (Transfer to units) k).1)))
 
 -- and is noise
-pub transfer_is_noise : (v : ℕ) (e : Entry) (to units : ℕ) → accepted e ≡ Some (Transfer to units) → is_transfer (call_by v e) ≡ false
+pub transfer_is_noise : (v : ℕ) (e : Entry) (to units : ℕ) → accepted e ≡ Some (Transfer to units) → is_transfer (pick_call v e) ≡ false
     → is_told v e ≡ false
 transfer_is_noise v e to units k calm =
     ap₂ (λ x y. x || y || is_of_contract (accepted e)) (ticks_accept_none e.what e.reply (Transfer to units) k).0 (not_mine v e to units k calm)
@@ -66,7 +67,7 @@ nothing_moves b true units z l =
     let two : b.counterparty - units ≡ b.counterparty = omega arith in
     λ i. record { party = one i; counterparty = two i; held = b.held }
 
-not_by : (d : Deal) (v a : ℕ) (s : Sender) → v ≡ party d a → sent_by v s ≡ false → is_party d a s ≡ false
+not_by : (d : Deal) (v a : ℕ) (s : Sender) → v ≡ party d a → is_sender v s ≡ false → is_party d a s ≡ false
 not_by d v a (Party q) e n = ap (λ p. q == p) (sym e) ∙ n
 not_by d v a Clock e n = refl
 
@@ -108,7 +109,7 @@ module _ (d : Deal) (v a : ℕ) where
   told_still h x false t e = ap (accounts d a) (filter-off (is_told v) h x t)
 
   funds_step : (h : List Entry) (x : Entry) (o : Option Call) → accepted x ≡ o → IsTrueMoment d v a (record { past = h; now = x })
-      → is_transfer (call_by v x) ≡ false → Funds h → Funds (h ++ x ∷ [])
+      → is_transfer (pick_call v x) ≡ false → Funds h → Funds (h ++ x ∷ [])
   funds_step h x None k m calm f =
       idle h x (accounts-push d a h x ∙ ap (moved d a (accounts d a h) x.sender) k)
       (told_still h x (is_told v x) refl (ap (moved d a (accounts d a (telling v h)) x.sender) k)) f
@@ -176,7 +177,7 @@ module _ (d : Deal) (v a : ℕ) where
       ap (λ (b : Accounts). b.counterparty) (accounts-push d a h x ∙ ap (moved d a (accounts d a h) x.sender) k) ∙ (e ∙ z)
 
   same_step : (h : List Entry) (x : Entry) (o : Option Call) → accepted x ≡ o → v ≡ party d a → IsTrueMoment d v a (record { past = h; now = x })
-      → is_transfer (call_by v x) ≡ false → is_claim (settled (h ++ x ∷ [])) ≡ false → Same h → Same (h ++ x ∷ [])
+      → is_transfer (pick_call v x) ≡ false → is_claim (settled (h ++ x ∷ [])) ≡ false → Same h → Same (h ++ x ∷ [])
   same_step h x None k e m calm u s =
       record { same = both_move h x None (is_told v x) k refl (inr refl) s.same; zero = zero_stays h x None k refl s.zero }
   same_step h x (Some (Publish t)) k e m calm u s = record {

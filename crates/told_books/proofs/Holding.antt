@@ -6,7 +6,7 @@ use Rattle.swap_digraph.specs.declared.deal.Deal.{Deal}
 use Rattle.swap_digraph.specs.Graph.{leaving, entering}
 use Rattle.ledger_core.specs.Book.{Histories, history}
 use Rattle.swap_rules.specs.declared.outcome.Outcome.TheVariants.{NoDeal, FreeRide, Underwater, Deal as WholeDeal, Discount}
-use Rattle.swap_rules.specs.Party.{is_correct_in}
+use Rattle.swap_rules.specs.Party.{is_arc_correct}
 use Rattle.swap_rules.specs.Outcome.{outcome, is_got, is_claim, got, lost}
 use Rattle.told_books.specs.Told.{tellings, is_useless, is_needed, needs, all_needed}
 use Rattle.told_books.specs.Laws.{HoldsAsTold, AllHoldsAsTold, AllOutcomesAreTold, NeededHoldsAsTold}
@@ -50,7 +50,7 @@ needed_holds_as_told d v b =
 
 module _ (d : Deal) (v : ℕ) (b : Histories) where
   same_got_at : (a : ℕ) → is_got d (tellings v b) a ≡ is_got d b a
-  same_got_at a = ap₂ (λ x y. is_correct_in d a x && is_claim y) (say_tellings v b a).published (say_tellings v b a).settled
+  same_got_at a = ap₂ (λ x y. is_arc_correct d a x && is_claim y) (say_tellings v b a).published (say_tellings v b a).settled
 
   same_got : (u : ℕ) → got d (tellings v b) u ≡ got d b u
   same_got u = ap (λ (f : ℕ → Bool). count_by f (entering d.graph u)) (λ j a. same_got_at a j)

@@ -20,10 +20,11 @@ use Rattle.ledger_core.specs.declared.entry.What.TheVariants.{Call as Made, Tick
 use Rattle.ledger_core.specs.declared.entry.Entry.{Entry}
 use Rattle.ledger_core.specs.declared.accounts.Accounts.{Accounts}
 use Rattle.ledger_core.specs.declared.facts.Settlement.{Settlement}
-use Rattle.ledger_core.specs.History.{ticks_in, height, call_in, accepted, accepted_call, Publication, published, settled, is_open, terms_in, accounts, balance}
-use Rattle.ledger_core.specs.History.{is_party, sent_by, is_tick, is_full, is_clock_full, rows, reply_to}
+use Rattle.ledger_core.specs.History.{entry_ticks, height, read_raw_call, accepted, accepted_call, Publication, published, settled, is_open}
+use Rattle.ledger_core.specs.History.{parse_terms, accounts, balance}
+use Rattle.ledger_core.specs.History.{is_party, is_sender, is_tick, is_full, is_clock_full, rows, history_reply}
 use Rattle.ledger_core.specs.History.{IsLegal, IsLegalEntry, IsLegalMoment}
-use Rattle.ledger_core.proofs.Bounds.{calls_of, ticks_of, calls-push, ticks-push, height-push}
+use Rattle.ledger_core.proofs.Bounds.{total_calls, run_ticks, calls-push, ticks-push, height-push}
 use Rattle.ledger_core.proofs.History.{of_transfer, clear_at}
 use Rattle.swap_rules.specs.Rest.{is_ticking}
 use Rattle.told_books.specs.Told.{is_of_contract, is_told, telling, SaysTheSame, reply_without_limit, IsTrueEntry, IsPaid, IsTrueMoment, IsChain}
@@ -36,7 +37,7 @@ use Rattle.told_books.proofs.Funds.{Funds, funds, no_past}
 
 -- The table with its first row, and without.
 
-reply_is : (d : Deal) (a : ℕ) (h : List Entry) (p : ℕ) (c : Call) → reply_to d a h p c ≡ cond (is_full h p) SenderFull (reply_without_limit d a h p c)
+reply_is : (d : Deal) (a : ℕ) (h : List Entry) (p : ℕ) (c : Call) → history_reply d a h p c ≡ cond (is_full h p) SenderFull (reply_without_limit d a h p c)
 unfolding rows
 reply_is d a h p (Publish t) = refl
 reply_is d a h p (Unlock key) = refl
@@ -68,9 +69,9 @@ room_left d a h p (Transfer to units) = never_full (drop 1 (rows d a h p (Transf
 -- The replies that speak of no balance.
 
 abbrev contract_rows : Deal → ℕ → Option Publication → (ℕ → Bool) → Option Settlement → (at p : ℕ) → Call → List (Bool × Reply)
-contract_rows d a o is_open s at p (Unlock key) = (is_none o, NoContract) ∷ unlock_rows d a (terms_in o) is_open (is_some s) at p key
+contract_rows d a o is_open s at p (Unlock key) = (is_none o, NoContract) ∷ unlock_rows d a (parse_terms o) is_open (is_some s) at p key
 contract_rows d a o is_open s at p Claim = (is_none o, NoContract) ∷ claim_rows d a is_open (is_some s) p
-contract_rows d a o is_open s at p Refund = (is_none o, NoContract) ∷ refund_rows d a (terms_in o) is_open (is_some s) at p
+contract_rows d a o is_open s at p Refund = (is_none o, NoContract) ∷ refund_rows d a (parse_terms o) is_open (is_some s) at p
 contract_rows d a o is_open s at p (Publish t) = []
 contract_rows d a o is_open s at p (Transfer to units) = []
 
@@ -167,9 +168,9 @@ no_contract_transfer (Transfer to units) e k = cc e
 module _ (d : Deal) (v a : ℕ) (leaders : length d.leaders ≤ 8) where
   -- the entry that is told is legal after what is told
   told_entry : (h : List Entry) (s : Sender) (w : What) (at : ℕ) (r : Reply) → IsTrueEntry d a h s w at r
-      → (is_ticking w || sent_by v s || is_of_contract (accepted_call w r)) ≡ true
-      → is_transfer (cond (sent_by v s) (call_in w) None) ≡ false → IsChain d v a h → Funds d v a h
-      → calls_of v h + cond (sent_by v s) 1 0 ≤ 32 → ticks_of h + cond (is_tick s) 1 0 ≤ 20000 → height h + ticks_in w ≤ 1000000
+      → (is_ticking w || is_sender v s || is_of_contract (accepted_call w r)) ≡ true
+      → is_transfer (cond (is_sender v s) (read_raw_call w) None) ≡ false → IsChain d v a h → Funds d v a h
+      → total_calls v h + cond (is_sender v s) 1 0 ≤ 32 → run_ticks h + cond (is_tick s) 1 0 ≤ 20000 → height h + entry_ticks w ≤ 1000000
       → IsLegalEntry d a (telling v h) s w at r
   told_entry h (Party p) (Made c) at r t told calm l f calls ticks low = record {
     of_the_two = t.of_the_two;
@@ -198,15 +199,15 @@ module _ (d : Deal) (v a : ℕ) (leaders : length d.leaders ≤ 8) where
           go : (b : Bool) → (p == v) ≡ b → is_full (telling v h) p ≡ false
           go true e =
               let one : ◌≡◌ {A = ℕ} (cond (p == v) 1 0) 1 = ap (λ b. cond {A = ℕ} b 1 0) e in
-              let same : calls_of p (telling v h) ≡ calls_of v (telling v h) = ap (λ n. calls_of n (telling v h)) (eqb-true p v e) in
-              let part : calls_of v (telling v h) ≤ calls_of v h = sum_by-part (is_told v) (λ e. cond (sent_by v e.sender) 1 0) h in
-              lt-leb 32 (calls_of p (telling v h)) (omega arith)
+              let same : total_calls p (telling v h) ≡ total_calls v (telling v h) = ap (λ n. total_calls n (telling v h)) (eqb-true p v e) in
+              let part : total_calls v (telling v h) ≤ total_calls v h = sum_by-part (is_told v) (λ e. cond (is_sender v e.sender) 1 0) h in
+              lt-leb 32 (total_calls p (telling v h)) (omega arith)
           go false e =
-              let few = few_calls d v a p (λ q. false≢true (sym e ∙ eq-eqb p v q)) h l in lt-leb 32 (calls_of p (telling v h)) (omega arith)
+              let few = few_calls d v a p (λ q. false≢true (sym e ∙ eq-eqb p v q)) h l in lt-leb 32 (total_calls p (telling v h)) (omega arith)
   told_entry h Clock (Tick k) at r t told calm l f calls ticks low =
       let says = (says_telling v h).height in
-      let part : ticks_of (telling v h) ≤ ticks_of h = sum_by-part (is_told v) (λ e. cond (is_tick e.sender) 1 0) h in
-      let few : nat_le 20000 (ticks_of (telling v h)) ≡ false = lt-leb 20000 (ticks_of (telling v h)) (omega arith) in
+      let part : run_ticks (telling v h) ≤ run_ticks h = sum_by-part (is_told v) (λ e. cond (is_tick e.sender) 1 0) h in
+      let few : nat_le 20000 (run_ticks (telling v h)) ≡ false = lt-leb 20000 (run_ticks (telling v h)) (omega arith) in
       let below : nat_lt 1000000 (height (telling v h) + k) ≡ false = le-ltb 1000000 (height (telling v h) + k) (omega arith) in
       record {
         some = t.some;

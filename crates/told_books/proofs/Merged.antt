@@ -20,12 +20,12 @@ use Rattle.ledger_core.specs.declared.entry.What.TheVariants.{Call as Made, Tick
 use Rattle.ledger_core.specs.declared.entry.Entry.{Entry}
 use Rattle.ledger_core.specs.declared.accounts.Accounts.{Accounts}
 use Rattle.ledger_core.specs.declared.facts.Settlement.{Settlement}
-use Rattle.ledger_core.specs.History.{ticks_in, height, accepted, accepted_call, Publication, publication, published, opening, opened, settling, settled}
-use Rattle.ledger_core.specs.History.{is_open, terms_in, accounts, moved, is_clock_full, sent_by, is_tick, rows, reply_to, reply_to_tick}
+use Rattle.ledger_core.specs.History.{entry_ticks, height, accepted, accepted_call, Publication, publication, published, opening, opened, settling, settled}
+use Rattle.ledger_core.specs.History.{is_open, parse_terms, accounts, moved, is_clock_full, is_sender, is_tick, rows, history_reply, reply_to_tick}
 use Rattle.ledger_core.specs.History.{IsLegalTick, IsLegalEntry, IsLegalMoment}
-use Rattle.ledger_core.proofs.Bounds.{calls_of, ticks_of, calls-push, ticks-push, height-push, tick_room}
+use Rattle.ledger_core.proofs.Bounds.{total_calls, run_ticks, calls-push, ticks-push, height-push, tick_room}
 use Rattle.ledger_core.proofs.Units.{accounts-push}
-use Rattle.swap_rules.specs.Party.{call_by}
+use Rattle.swap_rules.specs.Party.{pick_call}
 use Rattle.swap_rules.specs.Rest.{is_ticking}
 use Rattle.told_books.specs.Told.{SaysTheSame, as_one, join, merged}
 use Rattle.told_books.specs.Laws.{MergedIsLegal}
@@ -38,8 +38,8 @@ record Alike (d : Deal) (a : ℕ) (h k : List Entry) : Type 0 where
   published : published k ≡ published h
   opened : (i : ℕ) → opened k i ≡ opened h i
   settled : settled k ≡ settled h
-  calls : (p : ℕ) → calls_of p k ≡ calls_of p h
-  ticks : ticks_of k ≤ ticks_of h
+  calls : (p : ℕ) → total_calls p k ≡ total_calls p h
+  ticks : run_ticks k ≤ run_ticks h
 
 abbrev balance_in : Deal → ℕ → Accounts → ℕ → ℕ
 balance_in d a b p = cond (p == party d a) b.party b.counterparty
@@ -49,15 +49,15 @@ all_rows d a b o is_open s full at p (Publish terms) =
     (full, SenderFull) ∷ (not (p == party d a), NotParty) ∷ (is_some o, AlreadyPublished)
     ∷ (nat_lt (balance_in d a b p) terms.amount, NoFunds (balance_in d a b p)) ∷ []
 all_rows d a b o is_open s full at p (Unlock key) =
-    (full, SenderFull) ∷ (is_none o, NoContract) ∷ unlock_rows d a (terms_in o) is_open (is_some s) at p key
+    (full, SenderFull) ∷ (is_none o, NoContract) ∷ unlock_rows d a (parse_terms o) is_open (is_some s) at p key
 all_rows d a b o is_open s full at p Claim = (full, SenderFull) ∷ (is_none o, NoContract) ∷ claim_rows d a is_open (is_some s) p
 all_rows d a b o is_open s full at p Refund =
-    (full, SenderFull) ∷ (is_none o, NoContract) ∷ refund_rows d a (terms_in o) is_open (is_some s) at p
+    (full, SenderFull) ∷ (is_none o, NoContract) ∷ refund_rows d a (parse_terms o) is_open (is_some s) at p
 all_rows d a b o is_open s full at p (Transfer to units) =
     (full, SenderFull) ∷ (nat_lt (balance_in d a b p) units, NoFunds (balance_in d a b p)) ∷ []
 
 rows_are : (d : Deal) (a : ℕ) (h : List Entry) (p : ℕ) (c : Call)
-    → rows d a h p c ≡ all_rows d a (accounts d a h) (published h) (is_open h) (settled h) (nat_le 32 (calls_of p h)) (height h) p c
+    → rows d a h p c ≡ all_rows d a (accounts d a h) (published h) (is_open h) (settled h) (nat_le 32 (total_calls p h)) (height h) p c
 unfolding rows
 rows_are d a h p (Publish terms) = refl
 rows_are d a h p (Unlock key) = refl
@@ -65,16 +65,16 @@ rows_are d a h p Claim = refl
 rows_are d a h p Refund = refl
 rows_are d a h p (Transfer to units) = refl
 
-same_reply : (d : Deal) (a : ℕ) (h k : List Entry) (p : ℕ) (c : Call) → Alike d a h k → reply_to d a k p c ≡ reply_to d a h p c
+same_reply : (d : Deal) (a : ℕ) (h k : List Entry) (p : ℕ) (c : Call) → Alike d a h k → history_reply d a k p c ≡ history_reply d a h p c
 same_reply d a h k p c s =
     let same_open : is_open k ≡ is_open h = λ j i. is_some (s.opened i j) in
     ap first_row (rows_are d a k p c
-    ∙ (ap (λ (x : Accounts). all_rows d a x (published k) (is_open k) (settled k) (nat_le 32 (calls_of p k)) (height k) p c) s.accounts
-    ∙ (ap (λ (x : Option Publication). all_rows d a (accounts d a h) x (is_open k) (settled k) (nat_le 32 (calls_of p k)) (height k) p c) s.published
-    ∙ (ap (λ (x : ℕ → Bool). all_rows d a (accounts d a h) (published h) x (settled k) (nat_le 32 (calls_of p k)) (height k) p c) same_open
-    ∙ (ap (λ (x : Option Settlement). all_rows d a (accounts d a h) (published h) (is_open h) x (nat_le 32 (calls_of p k)) (height k) p c) s.settled
+    ∙ (ap (λ (x : Accounts). all_rows d a x (published k) (is_open k) (settled k) (nat_le 32 (total_calls p k)) (height k) p c) s.accounts
+    ∙ (ap (λ (x : Option Publication). all_rows d a (accounts d a h) x (is_open k) (settled k) (nat_le 32 (total_calls p k)) (height k) p c) s.published
+    ∙ (ap (λ (x : ℕ → Bool). all_rows d a (accounts d a h) (published h) x (settled k) (nat_le 32 (total_calls p k)) (height k) p c) same_open
+    ∙ (ap (λ (x : Option Settlement). all_rows d a (accounts d a h) (published h) (is_open h) x (nat_le 32 (total_calls p k)) (height k) p c) s.settled
     ∙ (ap (λ (x : ℕ). all_rows d a (accounts d a h) (published h) (is_open h) (settled h) (nat_le 32 x) (height k) p c) (s.calls p)
-    ∙ (ap (λ (x : ℕ). all_rows d a (accounts d a h) (published h) (is_open h) (settled h) (nat_le 32 (calls_of p h)) x p c) s.height
+    ∙ (ap (λ (x : ℕ). all_rows d a (accounts d a h) (published h) (is_open h) (settled h) (nat_le 32 (total_calls p h)) x p c) s.height
     ∙ sym (rows_are d a h p c))))))))
 
 tick_accepts : (b : Bool) (r : Reply) → r ≡ cond b ClockFull Accepted → r ≢ ClockFull → r ≡ Accepted
@@ -82,9 +82,9 @@ tick_accepts true r e n = absurd (n e)
 tick_accepts false r e n = e
 
 -- a tick for which there is room
-roomy : (h : List Entry) (k : ℕ) → ticks_of h < 20000 → height h + k ≤ 1000000 → Accepted ≡ reply_to_tick h k
+roomy : (h : List Entry) (k : ℕ) → run_ticks h < 20000 → height h + k ≤ 1000000 → Accepted ≡ reply_to_tick h k
 roomy h k few low =
-    let first : nat_le 20000 (ticks_of h) ≡ false = lt-leb 20000 (ticks_of h) few in
+    let first : nat_le 20000 (run_ticks h) ≡ false = lt-leb 20000 (run_ticks h) few in
     let second : nat_lt 1000000 (height h + k) ≡ false = le-ltb 1000000 (height h + k) low in
     sym (ap₂ (λ x y. cond (x || y) ClockFull Accepted) first second)
 
@@ -115,7 +115,7 @@ still_legal d a h k Clock (Made c) at r same l = absurd l
 
 alike_more : (d : Deal) (a : ℕ) (h k : List Entry) (e : Entry) → Alike d a h k → Alike d a (h ++ e ∷ []) (k ++ e ∷ [])
 alike_more d a h k e s = record {
-  height = height-push k e ∙ (ap (λ n. n + ticks_in e.what) s.height ∙ sym (height-push h e));
+  height = height-push k e ∙ (ap (λ n. n + entry_ticks e.what) s.height ∙ sym (height-push h e));
   accounts = accounts-push d a k e ∙ (ap (λ b. moved d a b e.sender (accepted e)) s.accounts ∙ sym (accounts-push d a h e));
   published =
       first_of-append (λ x. publication x.height (accepted x)) k (e ∷ [])
@@ -128,7 +128,7 @@ alike_more d a h k e s = record {
   settled =
       first_of-append (λ x. settling (accepted x)) k (e ∷ []) ∙ (ap (λ o. or_else o (or_else (settling (accepted e)) None)) s.settled
       ∙ sym (first_of-append (λ x. settling (accepted x)) h (e ∷ [])));
-  calls = λ p. calls-push k e p ∙ (ap (λ n. n + cond (sent_by p e.sender) 1 0) (s.calls p) ∙ sym (calls-push h e p));
+  calls = λ p. calls-push k e p ∙ (ap (λ n. n + cond (is_sender p e.sender) 1 0) (s.calls p) ∙ sym (calls-push h e p));
   ticks = let few = s.ticks in omega (arith, ticks-push k e, ticks-push h e);
 }
 
@@ -164,7 +164,7 @@ module _ (d : Deal) (a : ℕ) where
         height =
             let one = height-push h e in
             let two = height-push (h ++ e ∷ []) f in
-            let three : height (h ++ as_one e f ∷ []) ≡ height h + (ticks_in e.what + ticks_in f.what) = height-push h (as_one e f) in
+            let three : height (h ++ as_one e f ∷ []) ≡ height h + (entry_ticks e.what + entry_ticks f.what) = height-push h (as_one e f) in
             omega arith;
         accounts = still h (as_one e f) refl ∙ sym (still (h ++ e ∷ []) f of ∙ still h e oe);
         published =
@@ -173,18 +173,18 @@ module _ (d : Deal) (a : ℕ) where
             λ i. skip_two (λ x. opening i x.height (accepted x)) h e f (as_one e f) (ap (opening i e.height) oe) (ap (opening i f.height) of) refl;
         settled = skip_two (λ x. settling (accepted x)) h e f (as_one e f) (ap settling oe) (ap settling of) refl;
         calls =
-            λ p. let se2 : ◌≡◌ {A = ℕ} (cond (sent_by p e.sender) 1 0) 0 = ap (λ s. cond {A = ℕ} (sent_by p s) 1 0) se in
-            let sf2 : ◌≡◌ {A = ℕ} (cond (sent_by p f.sender) 1 0) 0 = ap (λ s. cond {A = ℕ} (sent_by p s) 1 0) sf in
+            λ p. let se2 : ◌≡◌ {A = ℕ} (cond (is_sender p e.sender) 1 0) 0 = ap (λ s. cond {A = ℕ} (is_sender p s) 1 0) se in
+            let sf2 : ◌≡◌ {A = ℕ} (cond (is_sender p f.sender) 1 0) 0 = ap (λ s. cond {A = ℕ} (is_sender p s) 1 0) sf in
             let one = calls-push h e p in
             let two = calls-push (h ++ e ∷ []) f p in
-            let three : calls_of p (h ++ as_one e f ∷ []) ≡ calls_of p h + cond (sent_by p f.sender) 1 0 = calls-push h (as_one e f) p in
+            let three : total_calls p (h ++ as_one e f ∷ []) ≡ total_calls p h + cond (is_sender p f.sender) 1 0 = calls-push h (as_one e f) p in
             omega arith;
         ticks =
             let se2 : ◌≡◌ {A = ℕ} (cond (is_tick e.sender) 1 0) 1 = ap (λ s. cond {A = ℕ} (is_tick s) 1 0) se in
             let sf2 : ◌≡◌ {A = ℕ} (cond (is_tick f.sender) 1 0) 1 = ap (λ s. cond {A = ℕ} (is_tick s) 1 0) sf in
             let one = ticks-push h e in
             let two = ticks-push (h ++ e ∷ []) f in
-            let three : ticks_of (h ++ as_one e f ∷ []) ≡ ticks_of h + cond (is_tick f.sender) 1 0 = ticks-push h (as_one e f) in
+            let three : run_ticks (h ++ as_one e f ∷ []) ≡ run_ticks h + cond (is_tick f.sender) 1 0 = ticks-push h (as_one e f) in
             omega arith;
       }
 
@@ -202,10 +202,11 @@ module _ (d : Deal) (a : ℕ) where
   ticks_at h e s (Made c) es ew t l = absurd (cc t)
 
   -- two ticks are one legal tick
-  one_tick : (h : List Entry) (e f : Entry) → (x : Ticks h e) (y : Ticks (h ++ e ∷ []) f) → IsLegalEntry d a h f.sender (Tick (ticks_in e.what + ticks_in f.what)) f.height f.reply
+  one_tick : (h : List Entry) (e f : Entry) → (x : Ticks h e) (y : Ticks (h ++ e ∷ []) f)
+      → IsLegalEntry d a h f.sender (Tick (entry_ticks e.what + entry_ticks f.what)) f.height f.reply
   one_tick h e f x y =
-      let we : ticks_in e.what ≡ x.by = ap ticks_in x.what in
-      let wf : ticks_in f.what ≡ y.by = ap ticks_in y.what in
+      let we : entry_ticks e.what ≡ x.by = ap entry_ticks x.what in
+      let wf : entry_ticks f.what ≡ y.by = ap entry_ticks y.what in
       let up = height-push h e in
       let more = ticks-push h e in
       let room = tick_room (h ++ e ∷ []) y.by f.reply y.legal.reply y.legal.room in
@@ -213,14 +214,14 @@ module _ (d : Deal) (a : ℕ) where
       let low = room.height in
       let some = x.legal.some in
       let at = y.legal.height in
-      subst (λ s. IsLegalEntry d a h s (Tick (ticks_in e.what + ticks_in f.what)) f.height f.reply) (sym y.sender)
+      subst (λ s. IsLegalEntry d a h s (Tick (entry_ticks e.what + entry_ticks f.what)) f.height f.reply) (sym y.sender)
       (record {
         some = omega arith;
         below = omega arith;
         height = omega arith;
         reply =
             tick_accepts (is_clock_full (h ++ e ∷ []) y.by) f.reply y.legal.reply y.legal.room
-            ∙ roomy h (ticks_in e.what + ticks_in f.what) (omega arith) (omega arith);
+            ∙ roomy h (entry_ticks e.what + entry_ticks f.what) (omega arith) (omega arith);
         room = y.legal.room;
       })
 
@@ -254,11 +255,11 @@ says_refl v h = record { height = refl; published = refl; opened = λ i. refl; s
 says_more : (v : ℕ) (e : Entry) (k h : List Entry) → SaysTheSame v k h → SaysTheSame v (e ∷ k) (e ∷ h)
 says_more v e k h s = record {
   height =
-      sum_by-cons (λ x. ticks_in x.what) e k ∙ (ap (λ n. ticks_in e.what + n) s.height ∙ sym (sum_by-cons (λ x. ticks_in x.what) e h));
+      sum_by-cons (λ x. entry_ticks x.what) e k ∙ (ap (λ n. entry_ticks e.what + n) s.height ∙ sym (sum_by-cons (λ x. entry_ticks x.what) e h));
   published = ap (or_else (publication e.height (accepted e))) s.published;
   opened = λ i. ap (or_else (opening i e.height (accepted e))) (s.opened i);
   settled = ap (or_else (settling (accepted e))) s.settled;
-  calls = λ test n. ap (λ x. test (call_by v e) || x) (s.calls test n);
+  calls = λ test n. ap (λ x. test (pick_call v e) || x) (s.calls test n);
 }
 
 pub says_on : (v : ℕ) (k h l : List Entry) → SaysTheSame v k h → SaysTheSame v h l → SaysTheSame v k l
@@ -278,9 +279,9 @@ says_joined v e (f ∷ m) = go (is_ticking e.what && is_ticking f.what) refl
     go false t = says_refl v (e ∷ f ∷ m)
     go true t =
         let k = and_parts (is_ticking e.what) (is_ticking f.what) t in
-        let one : height (as_one e f ∷ []) ≡ (ticks_in e.what + ticks_in f.what) + height [] = sum_by-cons (λ x. ticks_in x.what) (as_one e f) [] in
-        let two : height (e ∷ f ∷ []) ≡ ticks_in e.what + height (f ∷ []) = sum_by-cons (λ x. ticks_in x.what) e (f ∷ []) in
-        let three : height (f ∷ []) ≡ ticks_in f.what + height [] = sum_by-cons (λ x. ticks_in x.what) f [] in
+        let one : height (as_one e f ∷ []) ≡ (entry_ticks e.what + entry_ticks f.what) + height [] = sum_by-cons (λ x. entry_ticks x.what) (as_one e f) [] in
+        let two : height (e ∷ f ∷ []) ≡ entry_ticks e.what + height (f ∷ []) = sum_by-cons (λ x. entry_ticks x.what) e (f ∷ []) in
+        let three : height (f ∷ []) ≡ entry_ticks f.what + height [] = sum_by-cons (λ x. entry_ticks x.what) f [] in
         let none : height [] ≡ 0 = refl in
         ticks_may_be_merged v [] (as_one e f ∷ []) (e ∷ f ∷ []) m refl
         (and_both (is_ticking e.what) (is_ticking f.what && true) k.0 (and_both (is_ticking f.what) true k.1 refl)) (omega arith)

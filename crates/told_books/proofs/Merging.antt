@@ -8,9 +8,9 @@ use Rattle.ledger_core.specs.declared.entry.Call.{Call}
 use Rattle.ledger_core.specs.declared.entry.What.{What}
 use Rattle.ledger_core.specs.declared.entry.What.TheVariants.{Call as Made, Tick}
 use Rattle.ledger_core.specs.declared.entry.Entry.{Entry}
-use Rattle.ledger_core.specs.History.{height, call_in, accepted, accepted_call, publication, opening, settling, sent_by}
+use Rattle.ledger_core.specs.History.{height, read_raw_call, accepted, accepted_call, publication, opening, settling, is_sender}
 use Rattle.ledger_core.proofs.History.{height_append}
-use Rattle.swap_rules.specs.Party.{call_by}
+use Rattle.swap_rules.specs.Party.{pick_call}
 use Rattle.swap_rules.specs.Rest.{is_ticking, are_ticks}
 use Rattle.told_books.specs.Laws.{TicksMayBeMerged}
 use Rattle.told_books.proofs.Filters.{any-append}
@@ -19,7 +19,7 @@ pub no_accepted : (w : What) (r : Reply) → is_ticking w ≡ true → accepted_
 no_accepted (Made c) r e = absurd (cc e)
 no_accepted (Tick k) r e = refl
 
-no_call_in : (w : What) → is_ticking w ≡ true → call_in w ≡ None
+no_call_in : (w : What) → is_ticking w ≡ true → read_raw_call w ≡ None
 no_call_in (Made c) e = absurd (cc e)
 no_call_in (Tick k) e = refl
 
@@ -69,6 +69,6 @@ ticks_may_be_merged v past k h rest tk th same = record {
       λ i. same_first (λ e. opening i e.height (accepted e)) past k h rest (λ e t. ap (opening i e.height) (no_accepted e.what e.reply t)) tk th;
   settled = same_first (λ e. settling (accepted e)) past k h rest (λ e t. ap settling (no_accepted e.what e.reply t)) tk th;
   calls =
-      λ test n. same_any (λ e. test (call_by v e)) past k h rest
-      (λ e t. ap test (by_none (sent_by v e.sender) (call_in e.what) (no_call_in e.what t)) ∙ n) tk th;
+      λ test n. same_any (λ e. test (pick_call v e)) past k h rest
+      (λ e t. ap test (by_none (is_sender v e.sender) (read_raw_call e.what) (no_call_in e.what t)) ∙ n) tk th;
 }

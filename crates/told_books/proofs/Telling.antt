@@ -8,9 +8,9 @@ use Rattle.ledger_core.specs.declared.entry.Call.TheVariants.{Publish, Unlock, C
 use Rattle.ledger_core.specs.declared.entry.What.{What}
 use Rattle.ledger_core.specs.declared.entry.What.TheVariants.{Call as Made, Tick}
 use Rattle.ledger_core.specs.declared.entry.Entry.{Entry}
-use Rattle.ledger_core.specs.History.{ticks_in, call_in, accepted, publication, opening, settling, sent_by}
+use Rattle.ledger_core.specs.History.{entry_ticks, read_raw_call, accepted, publication, opening, settling, is_sender}
 use Rattle.ledger_core.specs.Book.{Histories, history}
-use Rattle.swap_rules.specs.Party.{call_by}
+use Rattle.swap_rules.specs.Party.{pick_call}
 use Rattle.swap_rules.specs.Rest.{is_ticking}
 use Rattle.told_books.specs.Told.{is_of_contract, is_told, telling, tellings, SaysTheSame, SayTheSame}
 use Rattle.told_books.proofs.Filters.{first_of-filter, list_any-filter, sum_by-filter, flat-filter}
@@ -18,16 +18,16 @@ use Rattle.told_books.proofs.Filters.{first_of-filter, list_any-filter, sum_by-f
 -- What noise is.
 pub record IsNoise (v : ℕ) (e : Entry) : Type 0 where
   pub call : is_ticking e.what ≡ false
-  pub others : sent_by v e.sender ≡ false
+  pub others : is_sender v e.sender ≡ false
   pub idle : is_of_contract (accepted e) ≡ false
 
 pub noise : (v : ℕ) (e : Entry) → is_told v e ≡ false → IsNoise v e
 noise v e t =
-    let one = or_neither (is_ticking e.what || sent_by v e.sender) (is_of_contract (accepted e)) t in
-    let two = or_neither (is_ticking e.what) (sent_by v e.sender) one.0 in
+    let one = or_neither (is_ticking e.what || is_sender v e.sender) (is_of_contract (accepted e)) t in
+    let two = or_neither (is_ticking e.what) (is_sender v e.sender) one.0 in
     record { call = two.0; others = two.1; idle = one.1 }
 
-pub no_ticks : (w : What) → is_ticking w ≡ false → ticks_in w ≡ 0
+pub no_ticks : (w : What) → is_ticking w ≡ false → entry_ticks w ≡ 0
 no_ticks (Made c) e = refl
 no_ticks (Tick k) e = absurd (cc e)
 
@@ -55,8 +55,8 @@ no_settling (Some Claim) e = absurd (cc e)
 no_settling (Some Refund) e = absurd (cc e)
 no_settling (Some (Transfer to units)) e = refl
 
-pub no_call : (v : ℕ) (e : Entry) → sent_by v e.sender ≡ false → call_by v e ≡ None
-no_call v e n = ap (λ b. cond b (call_in e.what) None) n
+pub no_call : (v : ℕ) (e : Entry) → is_sender v e.sender ≡ false → pick_call v e ≡ None
+no_call v e n = ap (λ b. cond b (read_raw_call e.what) None) n
 
 -- a test that only unlocks pass is passed by no noise
 pub no_unlock : (test : Option Call → Bool) → test None ≡ false → ((to units : ℕ) → test (Some (Transfer to units)) ≡ false) → (o : Option Call)
@@ -70,14 +70,14 @@ no_unlock test n t (Some (Transfer to units)) e = t to units
 
 pub says_telling : (v : ℕ) (h : List Entry) → SaysTheSame v (telling v h) h
 says_telling v h = record {
-  height = sum_by-filter (is_told v) (λ e. ticks_in e.what) h (λ e t. no_ticks e.what (noise v e t).call);
+  height = sum_by-filter (is_told v) (λ e. entry_ticks e.what) h (λ e t. no_ticks e.what (noise v e t).call);
   published =
       first_of-filter (is_told v) (λ e. publication e.height (accepted e)) h (λ e t. no_publication e.height (accepted e) (noise v e t).idle);
   opened =
       λ i. first_of-filter (is_told v) (λ e. opening i e.height (accepted e)) h (λ e t. no_opening i e.height (accepted e) (noise v e t).idle);
   settled = first_of-filter (is_told v) (λ e. settling (accepted e)) h (λ e t. no_settling (accepted e) (noise v e t).idle);
   calls =
-      λ test n. list_any-filter (is_told v) (λ e. test (call_by v e)) h (λ e t. ap test (no_call v e (noise v e t).others) ∙ n);
+      λ test n. list_any-filter (is_told v) (λ e. test (pick_call v e)) h (λ e t. ap test (no_call v e (noise v e t).others) ∙ n);
 }
 
 -- Books.

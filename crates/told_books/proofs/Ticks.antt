@@ -16,14 +16,15 @@ use Rattle.ledger_core.specs.declared.entry.Sender.TheVariants.{Party, Clock}
 use Rattle.ledger_core.specs.declared.entry.What.{What}
 use Rattle.ledger_core.specs.declared.entry.What.TheVariants.{Call as Made, Tick}
 use Rattle.ledger_core.specs.declared.entry.Entry.{Entry}
-use Rattle.ledger_core.specs.History.{ticks_in, height, accepted, published, sent_by, is_tick, IsLegal, IsLegalEntry, IsLegalMoment}
+use Rattle.ledger_core.specs.History.{entry_ticks, height, accepted, published, is_sender, is_tick, IsLegal, IsLegalEntry, IsLegalMoment}
 use Rattle.ledger_core.specs.Book.{Histories, history, IsLegalBook}
-use Rattle.ledger_core.proofs.Bounds.{ticks_of, ticks-push, height-push}
-use Rattle.swap_rules.specs.Party.{is_correct_in}
+use Rattle.ledger_core.proofs.Bounds.{run_ticks, ticks-push, height-push}
+use Rattle.swap_rules.specs.Party.{is_arc_correct}
 use Rattle.swap_rules.specs.Due.{has_called}
 use Rattle.swap_rules.specs.Rest.{is_ticking}
 use Rattle.swap_rules.proofs.Prefixes.{begins_refl}
-use Rattle.told_books.specs.Told.{is_of_contract, is_told, is_useless, is_needed, needed, needs, all_needed, merged, calls_in, SaysTheSame, AreUseless, SayEnough}
+use Rattle.told_books.specs.Told.{is_of_contract, is_told, is_useless, is_needed, needed, needs, all_needed, merged, call_count, SaysTheSame}
+use Rattle.told_books.specs.Told.{AreUseless, SayEnough}
 use Rattle.told_books.specs.Told.{IsTrueEntry, IsTrueMoment, IsChain, IsTrueClock, HasTrueClock, IsNeededChain, IsNeededBook}
 use Rattle.told_books.specs.Laws.{IsWithin, MergedSaysEnough, ChainIsNeeded, NeededIsLegal, NeededIsShort, NeededCanBeTold}
 use Rattle.told_books.proofs.Filters.{filter-on, filter-off, sum_by-filter, sum_by-part}
@@ -36,15 +37,15 @@ use Rattle.told_books.proofs.Short.{merged_short, telling_is_short}
 -- The ticks of a history are legal.
 
 ticks_height : (h : List Entry) → height (ticks h) ≡ height h
-ticks_height h = sum_by-filter (λ e. is_ticking e.what) (λ e. ticks_in e.what) h (λ e t. no_ticks e.what t)
+ticks_height h = sum_by-filter (λ e. is_ticking e.what) (λ e. entry_ticks e.what) h (λ e t. no_ticks e.what t)
 
 module _ (d : Deal) (a : ℕ) where
   tick_entry : (h : List Entry) (s : Sender) (w : What) (at : ℕ) (r : Reply) → is_ticking w ≡ true → IsTrueEntry d a h s w at r
-      → ticks_of h + cond (is_tick s) 1 0 ≤ 20000 → height h + ticks_in w ≤ 1000000 → IsLegalEntry d a (ticks h) s w at r
+      → run_ticks h + cond (is_tick s) 1 0 ≤ 20000 → height h + entry_ticks w ≤ 1000000 → IsLegalEntry d a (ticks h) s w at r
   tick_entry h Clock (Tick k) at r w t few low =
       let says = ticks_height h in
-      let part : ticks_of (ticks h) ≤ ticks_of h = sum_by-part (λ e. is_ticking e.what) (λ e. cond (is_tick e.sender) 1 0) h in
-      let free : nat_le 20000 (ticks_of (ticks h)) ≡ false = lt-leb 20000 (ticks_of (ticks h)) (omega arith) in
+      let part : run_ticks (ticks h) ≤ run_ticks h = sum_by-part (λ e. is_ticking e.what) (λ e. cond (is_tick e.sender) 1 0) h in
+      let free : nat_le 20000 (run_ticks (ticks h)) ≡ false = lt-leb 20000 (run_ticks (ticks h)) (omega arith) in
       let below : nat_lt 1000000 (height (ticks h) + k) ≡ false = le-ltb 1000000 (height (ticks h) + k) (omega arith) in
       record {
         some = t.some;
@@ -57,10 +58,10 @@ module _ (d : Deal) (a : ℕ) where
   tick_entry h s (Made c) at r w t few low = absurd (cc w)
 
   abbrev Stays : List Entry → Type 0
-  Stays h = HasTrueClock d a h → ticks_of h ≤ 20000 → height h ≤ 1000000 → IsLegal d a (ticks h)
+  Stays h = HasTrueClock d a h → run_ticks h ≤ 20000 → height h ≤ 1000000 → IsLegal d a (ticks h)
 
   step : (h : List Entry) (x : Entry) (b : Bool) → is_ticking x.what ≡ b → IsTrueClock d a (record { past = h; now = x })
-      → ticks_of (h ++ x ∷ []) ≤ 20000 → height (h ++ x ∷ []) ≤ 1000000 → IsLegal d a (ticks h) → IsLegal d a (ticks (h ++ x ∷ []))
+      → run_ticks (h ++ x ∷ []) ≤ 20000 → height (h ++ x ∷ []) ≤ 1000000 → IsLegal d a (ticks h) → IsLegal d a (ticks (h ++ x ∷ []))
   step h x true t m few low legal =
       subst (IsLegal d a) (sym (filter-on (λ e. is_ticking e.what) h x t))
       (all_moments_push (IsLegalMoment d a) (ticks h) x legal
@@ -83,10 +84,10 @@ needed_is_legal d v a h few chain w = go (is_useless d v a h) refl
 
 -- And short.
 
-no_calls : (h : List Entry) → ((e : Entry) → IsIn e h → is_ticking e.what ≡ true) → calls_in h ≡ 0
+no_calls : (h : List Entry) → ((e : Entry) → IsIn e h → is_ticking e.what ≡ true) → call_count h ≡ 0
 no_calls [] t = refl
 no_calls (e ∷ h) t =
-    let c : calls_in (e ∷ h) ≡ cond (not (is_ticking e.what)) 1 0 + calls_in h = sum_by-cons (λ x. cond (not (is_ticking x.what)) 1 0) e h in
+    let c : call_count (e ∷ h) ≡ cond (not (is_ticking e.what)) 1 0 + call_count h = sum_by-cons (λ x. cond (not (is_ticking x.what)) 1 0) e h in
     let k : ◌≡◌ {A = ℕ} (cond (not (is_ticking e.what)) 1 0) 0 = ap (λ b. cond {A = ℕ} (not b) 1 0) (t e (inl refl)) in
     let rest = no_calls h (λ x i. t x (inr i)) in
     omega arith
@@ -94,14 +95,14 @@ no_calls (e ∷ h) t =
 pub needed_is_short : NeededIsShort
 needed_is_short d v a h chain = go (is_useless d v a h) refl
   where
-    go : (b : Bool) → is_useless d v a h ≡ b → length (merged (needed d v a h)) ≤ 2 * (count_by (λ e. sent_by v e.sender) h + length d.leaders + 2) + 1
+    go : (b : Bool) → is_useless d v a h ≡ b → length (merged (needed d v a h)) ≤ 2 * (count_by (λ e. is_sender v e.sender) h + length d.leaders + 2) + 1
     go true e =
         let few = merged_short (ticks h) in
         let none = no_calls (ticks h) (λ x i. (from_filter (λ y. is_ticking y.what) x h i).1) in
-        subst (λ l. length (merged l) ≤ 2 * (count_by (λ e. sent_by v e.sender) h + length d.leaders + 2) + 1) (sym (useless_is_ticks d v a h e))
+        subst (λ l. length (merged l) ≤ 2 * (count_by (λ e. is_sender v e.sender) h + length d.leaders + 2) + 1) (sym (useless_is_ticks d v a h e))
         (omega arith)
     go false e =
-        subst (λ l. length (merged l) ≤ 2 * (count_by (λ e. sent_by v e.sender) h + length d.leaders + 2) + 1)
+        subst (λ l. length (merged l) ≤ 2 * (count_by (λ e. is_sender v e.sender) h + length d.leaders + 2) + 1)
         (sym (ap (λ b. filter (is_needed b v) h) e ∙ all_told v h)) (telling_is_short d v a h (chain.contract e))
 
 -- A book of a chain is one of which no more is needed.
@@ -113,7 +114,7 @@ true_clock d v a h =
     (λ t. (at_moment (IsTrueMoment d v a) (xs ++ x ∷ []) xs x l ([], refl)).told (told_tick x t)))
   where
     told_tick : (x : Entry) → is_ticking x.what ≡ true → is_told v x ≡ true
-    told_tick x t = ap (λ b. b || sent_by v x.sender || is_of_contract (accepted x)) t
+    told_tick x t = ap (λ b. b || is_sender v x.sender || is_of_contract (accepted x)) t
 
 pub chain_is_needed : ChainIsNeeded
 chain_is_needed d v b chain = record {
@@ -129,7 +130,7 @@ enough_on d v a k h l s (inl t) = inl (says_on v k h l s t)
 enough_on d v a k h l s (inr u) =
     inr (record {
       enters = u.enters;
-      one = ap (is_correct_in d a) s.published ∙ u.one;
+      one = ap (is_arc_correct d a) s.published ∙ u.one;
       other = u.other;
       calls = λ test n. s.calls test n ∙ u.calls test n;
     })
@@ -143,8 +144,8 @@ merged_says_enough d v k h s a =
     (enough_on d v a (merged (history k a)) (history k a) (history h a) (says_merged v (history k a)) (s a))
 
 module _ (d : Deal) (v : ℕ) (b : Histories) (few : length d.leaders ≤ 8) (book : IsNeededBook d v b) (within : (a : ℕ) → IsWithin v (history b a)) where
-  chain_at : (a : ℕ) → IsNeededChain d v a (history b a)
-  chain_at a = by (nat_lt a (length b)) refl
+  nth_chain : (a : ℕ) → IsNeededChain d v a (history b a)
+  nth_chain a = by (nat_lt a (length b)) refl
     where
       by : (t : Bool) → nat_lt a (length b) ≡ t → IsNeededChain d v a (history b a)
       by true e = book.chain a (ltb-true a (length b) e)
@@ -152,7 +153,7 @@ module _ (d : Deal) (v : ℕ) (b : Histories) (few : length d.leaders ≤ 8) (bo
           subst (IsNeededChain d v a) (sym (get_or_past b a [] (ltb-false a (length b) e))) (record { clock = tt; contract = λ e. tt })
 
   pub legal_at : (a : ℕ) → IsLegal d a (history (all_needed d v b) a)
-  legal_at a = subst (IsLegal d a) (sym (part_is (needs d v b) b a)) (needed_is_legal d v a (history b a) few (chain_at a) (within a))
+  legal_at a = subst (IsLegal d a) (sym (part_is (needs d v b) b a)) (needed_is_legal d v a (history b a) few (nth_chain a) (within a))
 
   pub one_each : length (all_needed d v b) ≡ length d.graph.arcs
   one_each = length-parts (needs d v b) b ∙ book.one_each

@@ -12,19 +12,19 @@ use Rattle.told_books.proofs.Legal.{telling_is_legal}
 use Rattle.told_books.proofs.Merged.{merged_is_legal, says_on}
 
 module _ (d : Deal) (v : ℕ) (b : Histories) (few : length d.leaders ≤ 8) (chain : IsChainBook d v b) (within : (a : ℕ) → IsWithin v (history b a)) where
-  chain_at : (a : ℕ) → IsChain d v a (history b a)
-  chain_at a = by (nat_lt a (length b)) refl
+  nth_chain : (a : ℕ) → IsChain d v a (history b a)
+  nth_chain a = by (nat_lt a (length b)) refl
     where
       by : (t : Bool) → nat_lt a (length b) ≡ t → IsChain d v a (history b a)
       by true e = chain.chain a (ltb-true a (length b) e)
       by false e = subst (IsChain d v a) (sym (get_or_past b a [] (ltb-false a (length b) e))) tt
 
-  told_at : (a : ℕ) → IsLegal d a (telling v (history b a))
-  told_at a = telling_is_legal d v a (history b a) few (chain_at a) (within a)
+  told_swap : (a : ℕ) → IsLegal d a (telling v (history b a))
+  told_swap a = telling_is_legal d v a (history b a) few (nth_chain a) (within a)
 
   merged_at : (a : ℕ) → IsLegal d a (merged (telling v (history b a))) × SaysTheSame v (merged (telling v (history b a))) (history b a)
   merged_at a =
-      let m = merged_is_legal d v a (telling v (history b a)) (told_at a) in
+      let m = merged_is_legal d v a (telling v (history b a)) (told_swap a) in
       (m.0, says_on v (merged (telling v (history b a))) (telling v (history b a)) (history b a) m.1 (says_telling v (history b a)))
 
   is_merged : (a : ℕ) → history (map merged (tellings v b)) a ≡ merged (telling v (history b a))

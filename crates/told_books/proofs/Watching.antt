@@ -8,11 +8,11 @@ use Rattle.swap_digraph.specs.Graph.{leaving}
 use Rattle.ledger_core.specs.declared.entry.Call.{Call}
 use Rattle.ledger_core.specs.declared.entry.Call.TheVariants.{Unlock, Refund}
 use Rattle.ledger_core.specs.declared.entry.Entry.{Entry}
-use Rattle.ledger_core.specs.History.{accepted, sent_by, published}
+use Rattle.ledger_core.specs.History.{accepted, is_sender, published}
 use Rattle.ledger_core.specs.Book.{Histories, history}
 use Rattle.swap_rules.specs.declared.finding.Rule.TheVariants.{Unlock as ToUnlock}
 use Rattle.swap_rules.specs.Late.{ref_of}
-use Rattle.swap_rules.specs.Party.{is_correct, is_triggered, call_by}
+use Rattle.swap_rules.specs.Party.{is_correct, is_triggered, pick_call}
 use Rattle.swap_rules.specs.Due.{is_claiming}
 use Rattle.swap_rules.specs.Rest.{is_ticking}
 use Rattle.swap_rules.specs.Walking.{UnlocksOn, ClaimsAll, UnlocksAll, AsksBack, AsksAllBack, HasLost, IsWatchful}
@@ -25,15 +25,15 @@ use Rattle.told_books.proofs.Enough as enough
 use Rattle.told_books.proofs.Books as books
 
 -- each call of v is needed
-pub own_needed : (useless : Bool) (v : ℕ) (e : Entry) → sent_by v e.sender ≡ true → is_needed useless v e ≡ true
-own_needed true v e s = or-right (is_ticking e.what) (sent_by v e.sender) s
+pub own_needed : (useless : Bool) (v : ℕ) (e : Entry) → is_sender v e.sender ≡ true → is_needed useless v e ≡ true
+own_needed true v e s = or-right (is_ticking e.what) (is_sender v e.sender) s
 own_needed false v e s =
-    or-first (is_ticking e.what) (sent_by v e.sender) (is_of_contract (accepted e)) (or-left (sent_by v e.sender) (is_of_contract (accepted e)) s)
+    or-first (is_ticking e.what) (is_sender v e.sender) (is_of_contract (accepted e)) (or-left (is_sender v e.sender) (is_of_contract (accepted e)) s)
 
 module _ (d : Deal) (v : ℕ) (u : ℕ → Bool) (b c : Histories) (is_part : (a : ℕ) → history c a ≡ filter (is_needed (u a) v) (history b a))
     (idle : (a : ℕ) → u a ≡ true → is_useless d v a (history b a) ≡ true) where
   -- a call of v stands in both
-  pub into : (a : ℕ) (past : List Entry) (e : Entry) (x : Call) → IsMoment (history b a) past e → call_by v e ≡ Some x
+  pub into : (a : ℕ) (past : List Entry) (e : Entry) (x : Call) → IsMoment (history b a) past e → pick_call v e ≡ Some x
       → IsMoment (history c a) (filter (is_needed (u a) v) past) e
   into a past e x m k =
       subst (λ h. IsMoment h (filter (is_needed (u a) v) past) e) (sym (is_part a))

@@ -4,14 +4,14 @@ use Rattle.swap_digraph.specs.declared.deal.Deal.{Deal}
 use Rattle.swap_digraph.specs.Deal.{party}
 use Rattle.hashkey_path.specs.declared.hashkey.Hashkey.{Hashkey}
 use Rattle.ledger_core.specs.declared.entry.Entry.{Entry}
-use Rattle.ledger_core.specs.History.{height, settled, balance, sent_by, is_tick, IsLegal}
+use Rattle.ledger_core.specs.History.{height, settled, balance, is_sender, is_tick, IsLegal}
 use Rattle.ledger_core.specs.Book.{Histories, history, IsLegalBook}
 use Rattle.swap_rules.specs.declared.finding.Rule.{Rule}
 use Rattle.swap_rules.specs.Conduct.{IsConducted}
 use Rattle.swap_rules.specs.Late.{ref_of, is_late}
 use Rattle.swap_rules.specs.Due.{Wallet, due}
 use Rattle.swap_rules.specs.Outcome.{outcome, is_claim, IsEnded}
-use Rattle.swap_rules.specs.Rest.{is_ticking, are_ticks, rest_until}
+use Rattle.swap_rules.specs.Rest.{is_ticking, are_ticks, rest_deadline}
 use Rattle.swap_rules.specs.Machine.{Begins}
 use Rattle.swap_rules.specs.Laws.{IsUnforged}
 use Rattle.swap_rules.specs.Walking.{pressing, IsWatchful}
@@ -41,7 +41,7 @@ EnoughIsPressing =
 
 -- it rests up to the same height
 abbrev pub EnoughRests : Type 0
-EnoughRests = (d : Deal) (v : ℕ) (k h : Histories) → SayEnough d v k h → rest_until d v k ≡ rest_until d v h
+EnoughRests = (d : Deal) (v : ℕ) (k h : Histories) → SayEnough d v k h → rest_deadline d v k ≡ rest_deadline d v h
 
 -- and what is told may have its successive ticks told as one
 abbrev pub MergedSaysEnough : Type 0
@@ -49,7 +49,7 @@ MergedSaysEnough = (d : Deal) (v : ℕ) (k h : Histories) → SayEnough d v k h 
 
 -- over books that say the same it rests up to the same height
 abbrev pub WhatIsSaidRests : Type 0
-WhatIsSaidRests = (d : Deal) (v : ℕ) (k h : Histories) → SayTheSame v k h → rest_until d v k ≡ rest_until d v h
+WhatIsSaidRests = (d : Deal) (v : ℕ) (k h : Histories) → SayTheSame v k h → rest_deadline d v k ≡ rest_deadline d v h
 
 -- a history says to v what is told of it
 abbrev pub TellingsSayTheSame : Type 0
@@ -98,7 +98,7 @@ LegalIsChain = (d : Deal) (v a : ℕ) (h : List Entry) → IsLegal d a h → IsC
 
 -- What v does and the clock keep within the limits of a ledger.
 pub record IsWithin (v : ℕ) (h : List Entry) : Type 0 where
-  pub calls : count_by (λ e. sent_by v e.sender) h ≤ 32
+  pub calls : count_by (λ e. is_sender v e.sender) h ≤ 32
   pub ticks : count_by (λ e. is_tick e.sender) h ≤ 20000
   pub height : height h ≤ 1000000
   pub transfers : MakesNoTransfer v h
@@ -111,7 +111,7 @@ TellingIsLegal =
 -- of another it tells few calls
 abbrev pub OthersAreFew : Type 0
 OthersAreFew =
-    (d : Deal) (v a p : ℕ) (h : List Entry) → IsChain d v a h → p ≢ v → count_by (λ e. sent_by p e.sender) (telling v h) ≤ length d.leaders + 2
+    (d : Deal) (v a p : ℕ) (h : List Entry) → IsChain d v a h → p ≢ v → count_by (λ e. is_sender p e.sender) (telling v h) ≤ length d.leaders + 2
 
 -- where v is the arc's party, and its contract wasn't claimed, the balances are those that are told
 abbrev pub BalancesAreTold : Type 0
@@ -127,7 +127,7 @@ MergedIsLegal = (d : Deal) (v a : ℕ) (h : List Entry) → IsLegal d a h → Is
 abbrev pub TellingIsShort : Type 0
 TellingIsShort =
     (d : Deal) (v a : ℕ) (h : List Entry) → IsChain d v a h
-    → length (merged (telling v h)) ≤ 2 * (count_by (λ e. sent_by v e.sender) h + length d.leaders + 2) + 1
+    → length (merged (telling v h)) ≤ 2 * (count_by (λ e. is_sender v e.sender) h + length d.leaders + 2) + 1
 
 -- so each book of a chain without limits can be told: legal, in few entries, and saying the same
 abbrev pub BookCanBeTold : Type 0
@@ -151,7 +151,7 @@ NeededIsLegal =
 abbrev pub NeededIsShort : Type 0
 NeededIsShort =
     (d : Deal) (v a : ℕ) (h : List Entry) → IsNeededChain d v a h
-    → length (merged (needed d v a h)) ≤ 2 * (count_by (λ e. sent_by v e.sender) h + length d.leaders + 2) + 1
+    → length (merged (needed d v a h)) ≤ 2 * (count_by (λ e. is_sender v e.sender) h + length d.leaders + 2) + 1
 
 -- so each such book can be told: legal, in few entries, and saying enough
 abbrev pub NeededCanBeTold : Type 0

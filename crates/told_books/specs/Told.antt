@@ -4,7 +4,7 @@ use Rattle.std.specs.Prelude.{map, Option, Some, None, is_some, if◌then◌else
 use Rattle.std.specs.List.{AllByRecursion}
 use Rattle.swap_base.specs.Lists.{IsIn, IsMoment, Moment, moments}
 use Rattle.swap_digraph.specs.declared.deal.Deal.{Deal}
-use Rattle.swap_digraph.specs.Graph.{leaving, entering, is_among}
+use Rattle.swap_digraph.specs.Graph.{leaving, entering, is_listed}
 use Rattle.swap_digraph.specs.Deal.{touches}
 use Rattle.escrow_core.specs.declared.reply.Reply.{Reply}
 use Rattle.escrow_core.specs.declared.reply.Reply.TheVariants.{Accepted}
@@ -16,9 +16,9 @@ use Rattle.ledger_core.specs.declared.entry.Sender.TheVariants.{Party, Clock}
 use Rattle.ledger_core.specs.declared.entry.What.{What}
 use Rattle.ledger_core.specs.declared.entry.What.TheVariants.{Call as Made, Tick}
 use Rattle.ledger_core.specs.declared.entry.Entry.{Entry}
-use Rattle.ledger_core.specs.History.{ticks_in, height, accepted, accounts, published, opened, settled, sent_by, is_party, fit, rows}
+use Rattle.ledger_core.specs.History.{entry_ticks, height, accepted, accounts, published, opened, settled, is_sender, is_party, fit, rows}
 use Rattle.ledger_core.specs.Book.{Histories, history}
-use Rattle.swap_rules.specs.Party.{is_correct_in, call_by}
+use Rattle.swap_rules.specs.Party.{is_arc_correct, pick_call}
 use Rattle.swap_rules.specs.Due.{has_called}
 use Rattle.swap_rules.specs.Rest.{is_ticking}
 
@@ -33,7 +33,7 @@ is_of_contract None = false
 
 -- an entry is told to v: each tick, each call of v, and each accepted call of the contract
 abbrev pub is_told : ℕ → Entry → Bool
-is_told v e = is_ticking e.what || sent_by v e.sender || is_of_contract (accepted e)
+is_told v e = is_ticking e.what || is_sender v e.sender || is_of_contract (accepted e)
 
 -- a history as it is told to v
 abbrev pub telling : ℕ → List Entry → List Entry
@@ -59,8 +59,8 @@ SayTheSame v k h = (a : ℕ) → SaysTheSame v (history k a) (history h a)
 -- accepted publish of the correct terms.
 pub record AreUseless (d : Deal) (v a : ℕ) (k h : List Entry) : Type 0 where
   pub enters : IsIn a (leaving d.graph v) → ⊥
-  pub one : is_correct_in d a (published k) ≡ false
-  pub other : is_correct_in d a (published h) ≡ false
+  pub one : is_arc_correct d a (published k) ≡ false
+  pub other : is_arc_correct d a (published h) ≡ false
   pub calls : (test : Option Call → Bool) → test None ≡ false → has_called v test k ≡ has_called v test h
 
 -- two books say enough to v: of a contract on an arc that enters it whose terms are wrong nothing need be said
@@ -72,11 +72,11 @@ SayEnough d v k h = (a : ℕ) → SaysTheSame v (history k a) (history h a) ⊎ 
 -- arc a is useless to v: it enters v and doesn't leave it, no publish of the correct terms was accepted there, and v made no call there
 abbrev pub is_useless : Deal → ℕ → ℕ → List Entry → Bool
 is_useless d v a h =
-    is_among a (entering d.graph v) && not (is_among a (leaving d.graph v)) && not (is_correct_in d a (published h)) && not (has_called v is_some h)
+    is_listed a (entering d.graph v) && not (is_listed a (leaving d.graph v)) && not (is_arc_correct d a (published h)) && not (has_called v is_some h)
 
 -- v needs an entry: of a useless arc each tick, and each call of v, of which there is none; of another arc each entry that is told
 abbrev pub is_needed : (useless : Bool) → ℕ → Entry → Bool
-is_needed true v e = is_ticking e.what || sent_by v e.sender
+is_needed true v e = is_ticking e.what || is_sender v e.sender
 is_needed false v e = is_told v e
 
 -- the history of arc a, as far as v needs it
@@ -173,13 +173,13 @@ is_transfer _ = false
 
 -- v makes no transfer in the list
 abbrev pub MakesNoTransfer : ℕ → List Entry → Type 0
-MakesNoTransfer v h = (past : List Entry) (e : Entry) → IsMoment h past e → is_transfer (call_by v e) ≡ false
+MakesNoTransfer v h = (past : List Entry) (e : Entry) → IsMoment h past e → is_transfer (pick_call v e) ≡ false
 
 -- Successive ticks told as one.
 
 -- one tick in place of two
 abbrev pub as_one : Entry → Entry → Entry
-as_one e f = record f { what = Tick (ticks_in e.what + ticks_in f.what) }
+as_one e f = record f { what = Tick (entry_ticks e.what + entry_ticks f.what) }
 
 -- an entry before others, where two ticks are told as one
 abbrev pub join : Entry → List Entry → List Entry
@@ -192,5 +192,5 @@ merged [] = []
 merged (e ∷ h) = join e (merged h)
 
 -- how many entries are calls
-abbrev pub calls_in : List Entry → ℕ
-calls_in h = count_by (λ e. not (is_ticking e.what)) h
+abbrev pub call_count : List Entry → ℕ
+call_count h = count_by (λ e. not (is_ticking e.what)) h

@@ -7,8 +7,8 @@ use Rattle.swap_base.specs.Lists.{IsIn, IsMoment}
 use Rattle.swap_base.proofs.Lists.{in_map, and_parts, and_both, from_filter, moment_from_in}
 use Rattle.time_bounds.specs.Times as times
 use Rattle.swap_digraph.specs.declared.deal.Deal.{Deal}
-use Rattle.swap_digraph.specs.Graph.{leaving, entering, is_among}
-use Rattle.swap_digraph.proofs.Paths.{in-is_among, not_among}
+use Rattle.swap_digraph.specs.Graph.{leaving, entering, is_listed}
+use Rattle.swap_digraph.proofs.Paths.{in-is_listed, not_among}
 use Rattle.hashkey_path.specs.declared.hashkey.Hashkey.{Hashkey}
 use Rattle.ledger_core.specs.declared.entry.Call.{Call}
 use Rattle.ledger_core.specs.declared.entry.Entry.{Entry}
@@ -19,10 +19,10 @@ use Rattle.ledger_core.specs.Book.{Histories, history, IsLegalBook}
 use Rattle.ledger_core.proofs.History.{claimed_done, of_claim, triggered-past, not-true}
 use Rattle.swap_rules.specs.declared.finding.Rule.TheVariants.{Unlock as OfUnlock}
 use Rattle.swap_rules.specs.Accepted.{IsAccepted}
-use Rattle.swap_rules.specs.Party.{is_correct, height_in, is_ready, is_triggered, call_by}
+use Rattle.swap_rules.specs.Party.{is_correct, publication_height, is_ready, is_triggered, pick_call}
 use Rattle.swap_rules.specs.Conduct.{is_publish, IsConducted}
 use Rattle.swap_rules.specs.Outcome.{is_claim, IsEnded}
-use Rattle.swap_rules.specs.Due.{Wallet, Action, due, has_called, is_unlock_for, is_claiming, is_due_claim, first}
+use Rattle.swap_rules.specs.Due.{Wallet, Action, due, has_called, unlocks_lock, is_claiming, is_due_claim, first}
 use Rattle.swap_rules.specs.Machine.{Begins, Knows, IsWallet}
 use Rattle.swap_rules.specs.Laws.{IsOnTime, IsSafe, HasRefunds}
 use Rattle.swap_rules.specs.Walking.{HasLost, IsWatchful, pressing}
@@ -127,7 +127,7 @@ module _ (d : Deal) (v : ℕ) (w : Wallet) (b : Histories) (hs : List Hearing) (
 
   -- v makes no transfer
   pub no_transfer : (a : ℕ) → MakesNoTransfer v (history b a)
-  no_transfer a past e m = go (call_by v e) refl
+  no_transfer a past e m = go (pick_call v e) refl
     where
       due_none : {s : ℕ → Option Hashkey} {n : Histories} (c : Call) → Case d v w s n a c → is_transfer (Some c) ≡ false
       due_none c (ToPublish j t q) = ap (λ z. is_transfer (Some z)) q
@@ -135,7 +135,7 @@ module _ (d : Deal) (v : ℕ) (w : Wallet) (b : Histories) (hs : List Hearing) (
       due_none c (ToClaim j t q) = ap (λ z. is_transfer (Some z)) q
       due_none c (ToRefund j t q) = ap (λ z. is_transfer (Some z)) q
 
-      go : (o : Option Call) → call_by v e ≡ o → is_transfer o ≡ false
+      go : (o : Option Call) → pick_call v e ≡ o → is_transfer o ≡ false
       go None k = refl
       go (Some c) k = due_none c (case_at a past c (life.calls a past e c m k))
 
@@ -149,20 +149,20 @@ module _ (d : Deal) (v : ℕ) (w : Wallet) (b : Histories) (hs : List Hearing) (
     unfolding is_due_claim
     not_due h i s c (ToPublish j t q) = apart j
     not_due h i s c (ToUnlock j key l en may t q) =
-        let ready = (and_parts (is_ready d h.behind v) (not (has_called v (is_unlock_for j) (history h.behind a))) may).0 in
+        let ready = (and_parts (is_ready d h.behind v) (not (has_called v (unlocks_lock j) (history h.behind a))) may).0 in
         let good = ready_good d h.behind v a ready en in
-        let correct = (and_parts (is_correct d h.behind a) (nat_le (height_in (published (history h.behind a)))
-        (times.open_by d.start d.delta d.bound)) good).0 in
+        let correct = (and_parts (is_correct d h.behind a) (nat_le (publication_height (published (history h.behind a)))
+        (times.opening_deadline d.start d.delta d.bound)) good).0 in
         false≢true (sym wrong ∙ still_correct h i a correct)
     not_due h i s c (ToClaim j t q) =
         false≢true (sym wrong ∙ still_correct h i a (and_three (is_correct d h.behind a) (is_triggered d h.behind a)
         (not (has_called v is_claiming (history h.behind a))) t).0)
     not_due h i s c (ToRefund j t q) = apart j
 
-    pub not_called : (past : List Entry) (e : Entry) → IsMoment (history b a) past e → call_by v e ≡ None
-    not_called past e m = go (call_by v e) refl
+    pub not_called : (past : List Entry) (e : Entry) → IsMoment (history b a) past e → pick_call v e ≡ None
+    not_called past e m = go (pick_call v e) refl
       where
-        go : (o : Option Call) → call_by v e ≡ o → call_by v e ≡ None
+        go : (o : Option Call) → pick_call v e ≡ o → pick_call v e ≡ None
         go None k = k
         go (Some c) k =
             let i = life.calls a past e c m k in
@@ -170,17 +170,17 @@ module _ (d : Deal) (v : ℕ) (w : Wallet) (b : Histories) (hs : List Hearing) (
 
     silent : has_called v is_some (history b a) ≡ false
     silent =
-        list_any-none (λ e. is_some (call_by v e)) (history b a)
+        list_any-none (λ e. is_some (pick_call v e)) (history b a)
         (λ e i. let m = moment_from_in (history b a) e i in ap (λ o. is_some o) (not_called m.0 e m.1))
 
     pub is_idle : IsIn a (entering d.graph v) → is_useless d v a (history b a) ≡ true
     is_idle en =
-        let enters : Bool = is_among a (entering d.graph v) in
-        let not_leaving : Bool = not (is_among a (leaving d.graph v)) in
+        let enters : Bool = is_listed a (entering d.graph v) in
+        let not_leaving : Bool = not (is_listed a (leaving d.graph v)) in
         let incorrect : Bool = not (is_correct d b a) in
         and_both (enters && not_leaving && incorrect) (not (has_called v is_some (history b a)))
         (and_both (enters && not_leaving) incorrect
-        (and_both enters not_leaving (in-is_among a (entering d.graph v) en) (not_among a (leaving d.graph v) apart)) (ap not wrong)) (ap not silent)
+        (and_both enters not_leaving (in-is_listed a (entering d.graph v) en) (not_among a (leaving d.graph v) apart)) (ap not wrong)) (ap not silent)
 
 pub is_life : ToldLifeIsLife
 is_life d v w b hs kept life = whole_life d v w b hs kept life

@@ -5,10 +5,10 @@ use Rattle.swap_digraph.specs.Graph.{leaving, entering}
 use Rattle.swap_digraph.specs.declared.deal.Deal.{Deal}
 use Rattle.hashkey_path.specs.declared.hashkey.Hashkey.{Hashkey}
 use Rattle.ledger_core.specs.declared.entry.Entry.{Entry}
-use Rattle.ledger_core.specs.History.{height, sent_by, is_tick}
+use Rattle.ledger_core.specs.History.{height, is_sender, is_tick}
 use Rattle.ledger_core.specs.Book.{Histories, history, IsLegalBook}
 use Rattle.swap_rules.specs.Accepted.{IsAccepted}
-use Rattle.swap_rules.specs.Party.{is_correct, call_by}
+use Rattle.swap_rules.specs.Party.{is_correct, pick_call}
 use Rattle.swap_rules.specs.Conduct.{IsConducted}
 use Rattle.swap_rules.specs.Outcome.{IsEnded}
 use Rattle.swap_rules.specs.Due.{Wallet}
@@ -63,11 +63,11 @@ abbrev pub NothingIsCalledThere : Type 0
 NothingIsCalledThere =
     (d : Deal) (v : ℕ) (w : Wallet) (b : Histories) (hearings : List Hearing) (kept : ℕ → Option Hashkey) (a : ℕ) → IsToldLife d v w b hearings kept
     → IsIn a (entering d.graph v) → (IsIn a (leaving d.graph v) → ⊥) → is_correct d b a ≡ false
-    → ((past : List Entry) (e : Entry) → IsMoment (history b a) past e → call_by v e ≡ None) × (is_useless d v a (history b a) ≡ true)
+    → ((past : List Entry) (e : Entry) → IsMoment (history b a) past e → pick_call v e ≡ None) × (is_useless d v a (history b a) ≡ true)
 
 -- The party's own entries, and the clock's, are within the limits of a ledger on each arc; those of others may be any number.
 pub record IsWithinLimits (v : ℕ) (b : Histories) : Type 0 where
-  pub calls : (a : ℕ) → count_by (λ e. sent_by v e.sender) (history b a) ≤ 32
+  pub calls : (a : ℕ) → count_by (λ e. is_sender v e.sender) (history b a) ≤ 32
   pub ticks : (a : ℕ) → count_by (λ e. is_tick e.sender) (history b a) ≤ 20000
   pub heights : (a : ℕ) → height (history b a) ≤ 1000000
 

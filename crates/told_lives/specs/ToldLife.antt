@@ -10,10 +10,10 @@ use Rattle.ledger_core.specs.History.{height}
 use Rattle.ledger_core.specs.Book.{Histories, history}
 use Rattle.swap_rules.specs.declared.finding.Rule.{Rule}
 use Rattle.swap_rules.specs.declared.finding.Rule.TheVariants.{Unlock as ToUnlock}
-use Rattle.swap_rules.specs.Party.{call_by}
+use Rattle.swap_rules.specs.Party.{pick_call}
 use Rattle.swap_rules.specs.Conduct.{is_publish}
 use Rattle.swap_rules.specs.Late.{ref_of}
-use Rattle.swap_rules.specs.Findings.{rules_of}
+use Rattle.swap_rules.specs.Findings.{deal_rules}
 use Rattle.swap_rules.specs.Due.{Wallet, has_called, due}
 use Rattle.swap_rules.specs.Machine.{Begins, Knows}
 use Rattle.swap_rules.specs.Rounds.{IsNear}
@@ -57,9 +57,9 @@ pub record IsHeardFor (d : Deal) (v : ℕ) (w : Wallet) (hearings : List Hearing
 pub record IsToldLife (d : Deal) (v : ℕ) (w : Wallet) (b : Histories) (hearings : List Hearing) (kept : ℕ → Option Hashkey) : Type 0 where
   pub journal : IsJournal d v w nothing_kept (map (λ h. h.asking) hearings) kept
   pub told : (h : Hearing) → IsIn h hearings → IsHeard d v b h
-  pub calls : (a : ℕ) (past : List Entry) (e : Entry) (c : Call) → IsMoment (history b a) past e → call_by v e ≡ Some c
+  pub calls : (a : ℕ) (past : List Entry) (e : Entry) (c : Call) → IsMoment (history b a) past e → pick_call v e ≡ Some c
       → IsHeardFor d v w hearings a past c
-  pub once : (a : ℕ) (past : List Entry) (e : Entry) → IsMoment (history b a) past e → is_publish (call_by v e) ≡ true → has_called v is_publish past ≡ false
+  pub once : (a : ℕ) (past : List Entry) (e : Entry) → IsMoment (history b a) past e → is_publish (pick_call v e) ≡ true → has_called v is_publish past ≡ false
 
 -- What a wallet does in time. Heights are those of the ledgers behind what is told.
 
@@ -75,7 +75,7 @@ pub record CameToRest (d : Deal) (v : ℕ) (w : Wallet) (hearings : List Hearing
 -- the wallet comes to rest within delta of whatever its party has to do
 abbrev pub IsToldAttentive : Deal → ℕ → Wallet → Histories → List Hearing → Type 0
 IsToldAttentive d v w b hearings =
-    (rule : Rule) (a ref : ℕ) → IsIn rule (rules_of d) → IsIn a (arcs d.graph) → ref_of d b v rule a ≡ Some ref → ref + d.delta < height (history b a)
+    (rule : Rule) (a ref : ℕ) → IsIn rule (deal_rules d) → IsIn a (arcs d.graph) → ref_of d b v rule a ≡ Some ref → ref + d.delta < height (history b a)
     → CameToRest d v w hearings ref (ref + d.delta)
 
 -- The wallet did what presses on time for the height `at`. Nothing pressed over what one of its

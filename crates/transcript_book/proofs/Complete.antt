@@ -22,13 +22,13 @@ use Rattle.swap_job.specs.declared.job.Job.{Job}
 use Rattle.ledger_core.specs.WellFormed.{GoesOn, IsFormedWhat, IsFormedEntry, written_height}
 use Rattle.transcript_lines.specs.declared.said.Misspelling.{Misspelling}
 use Rattle.transcript_lines.specs.Lines.{IsStatable, IsStated, entry_line, ledger_lines, lines_from}
-use Rattle.transcript_lines.specs.Reading.{field_of, line_said, misspelt, number_below, number_of}
+use Rattle.transcript_lines.specs.Reading.{field_of, line_said, misspelt, bounded_number, number_of}
 use Rattle.transcript_lines.proofs.Numbers.{below_back, high_number, number_back}
 use Rattle.transcript_lines.proofs.Parts.{high_too, parts_between}
 use Rattle.transcript_lines.proofs.Spelling.{field_back}
-use Rattle.transcript_lines.proofs.Stories.{entry_says, said_of}
-use Rattle.transcript_book.specs.Counts.{count_of, just, ledger_word, words_count}
-use Rattle.transcript_book.specs.Entries.{entry_at, entry_of, placed_as}
+use Rattle.transcript_lines.proofs.Stories.{entry_says, inside_said}
+use Rattle.transcript_book.specs.Counts.{parse_limited_count, just, ledger_word, words_count}
+use Rattle.transcript_book.specs.Entries.{parse_entry, entry_of, placed_as}
 use Rattle.transcript_book.specs.Stages.{BookSoFar, begun, ended, entry_read, gone_on, ledger_read, line_read}
 use Rattle.transcript_book.specs.Books.{WholeIsRead, whole}
 use Rattle.transcript_book.proofs.Heights.{held_again}
@@ -53,10 +53,10 @@ unfolding words_count
 words_back a n lt le =
     stepped _ (tt, decimal a ∷ decimal n ∷ []) _ (word_back (decimal a ∷ decimal n ∷ []))
     ∙ stepped _ (tt, decimal n ∷ []) _ (field_back (just a) (decimal a) tt (decimal n ∷ []) (just_back a lt))
-    ∙ stepped _ (n, []) _ (field_back (number_below 20065) (decimal n) n [] (below_back 20065 n (omega arith) (omega arith)))
+    ∙ stepped _ (n, []) _ (field_back (bounded_number 20065) (decimal n) n [] (below_back 20065 n (omega arith) (omega arith)))
 
-count_back : (a n : ℕ) → a < 2 ^ 64 → n ≤ 20064 → count_of a (count_line a n) ≡ Ok n
-unfolding count_of
+count_back : (a n : ℕ) → a < 2 ^ 64 → n ≤ 20064 → parse_limited_count a (count_line a n) ≡ Ok n
+unfolding parse_limited_count
 count_back a n lt le =
     ap (words_count a) (parts_between 32 33 (codes "ledger") (decimal a ∷ decimal n ∷ []) (omega arith) refl (
       high_too 33 48 (decimal a) (omega arith) (high_number a lt),
@@ -79,9 +79,9 @@ placed_back d a past (Party p) (Tick k) reply at f = absurd f
 placed_back d a past Clock (Made c) reply at f = absurd f
 
 entry_back : (d : Deal) (a : ℕ) (past : List Entry) (e : Entry) → IsFormedEntry d a past e → IsStatable e → entry_of d a past (entry_line e) ≡ Ok e
-unfolding entry_at
+unfolding parse_entry
 entry_back d a past e f k =
-    stepped (line_said (length d.leaders) (entry_line e)) (said_of e) _ (entry_says d a past e f k)
+    stepped (line_said (length d.leaders) (entry_line e)) (inside_said e) _ (entry_says d a past e f k)
     ∙ placed_back d a past e.sender e.what e.reply e.height f.what
 
 -- ---- ledgers
@@ -109,10 +109,10 @@ ledger_begun : (job : Job) (b : Histories) (n : ℕ) (ls : List (List ℕ)) → 
 unfolding steps ledger_read
 ledger_begun job b n ls lt small le =
     stepped _ (begun (at_ledger job b) n) (λ u. steps line_read u ls)
-    (ap (λ t. cond t (count_of (length b) (count_line (length b) n) >>= λ m. Ok (begun (at_ledger job b) m))
+    (ap (λ t. cond t (parse_limited_count (length b) (count_line (length b) n) >>= λ m. Ok (begun (at_ledger job b) m))
     (ended (at_ledger job b) (count_line (length b) n)))
     (lt-ltb (length b) (length job.deal.graph.arcs) lt)
-    ∙ stepped (count_of (length b) (count_line (length b) n)) n _ (count_back (length b) n small le))
+    ∙ stepped (parse_limited_count (length b) (count_line (length b) n)) n _ (count_back (length b) n small le))
 
 ledger_back : (job : Job) (b : Histories) (h : List Entry) (ls : List (List ℕ)) → length b < length job.deal.graph.arcs → length b < 2 ^ 64
     → GoesOn job.deal (length b) [] h → All IsStatable h → length h ≤ 20064
@@ -128,7 +128,7 @@ end_back : (job : Job) (b : Histories) → length b ≡ length job.deal.graph.ar
 unfolding steps ledger_read
 end_back job b all =
     stepped _ (whole job b) (λ u. Ok u)
-    (ap (λ t. cond t (count_of (length b) (codes "end") >>= λ m. Ok (begun (at_ledger job b) m)) (ended (at_ledger job b) (codes "end"))) (not_less all))
+    (ap (λ t. cond t (parse_limited_count (length b) (codes "end") >>= λ m. Ok (begun (at_ledger job b) m)) (ended (at_ledger job b) (codes "end"))) (not_less all))
   where
     not_less : length b ≡ length job.deal.graph.arcs → nat_lt (length b) (length job.deal.graph.arcs) ≡ false
     not_less e = le-ltb (length b) (length job.deal.graph.arcs) (omega arith)

@@ -8,7 +8,7 @@ use Rattle.hashkey_path.proofs.Validity.{bytes_eq-true}
 use Rattle.transcript_lines.specs.declared.said.Said.{Said}
 use Rattle.transcript_lines.specs.Between.{between, spaced, parts_at}
 use Rattle.transcript_lines.specs.Words.{entry_words, call_words}
-use Rattle.transcript_lines.specs.Reading.{number_below, field_of, call_of, reply_of, equals, nothing_more, call_said, tick_said, words_said}
+use Rattle.transcript_lines.specs.Reading.{bounded_number, field_of, parse_call, make_reply, equals, nothing_more, call_said, tick_said, words_said}
 use Rattle.transcript_lines.specs.Reading.{line_said}
 use Rattle.transcript_book.specs.Spelling.{IsSpelling, OneSpelling}
 use Rattle.transcript_book.proofs.Exact.{IsExact, went, ok_is, if_ok, below_is, parts_whole}
@@ -25,10 +25,10 @@ equals_is w u e = let p = if_ok _ (Ok tt) u e in (bytes_eq-true w (codes "=") p.
 call_said_is : (locks : ℕ) (ws : List (List ℕ)) (s : Said) → call_said locks ws ≡ Ok s → IsSaidBy locks (codes "c" ∷ ws) s
 unfolding call_said
 call_said_is locks ws s e =
-    let a = went (field_of (number_below 256) ws) _ s e in
-    let b = went (call_of locks a.0.1) _ s a.2 in
+    let a = went (field_of (bounded_number 256) ws) _ s e in
+    let b = went (parse_call locks a.0.1) _ s a.2 in
     let d = went (field_of equals b.0.1) _ s b.2 in
-    let f = went (reply_of d.0.1) _ s d.2 in
+    let f = went (make_reply d.0.1) _ s d.2 in
     let t : Said = record { sender = Party a.0.0; what = Made b.0.0; reply = f.0 } in
     let same : t ≡ s = ok_is t s f.2 in
     let ka = byte_is ws a.0.0 a.0.1 a.1 in
@@ -57,11 +57,11 @@ none_more (w ∷ ws) u e = absurd (cc e)
 tick_said_is : (locks : ℕ) (ws : List (List ℕ)) (s : Said) → tick_said ws ≡ Ok s → IsSaidBy locks (codes "t" ∷ ws) s
 unfolding tick_said
 tick_said_is locks ws s e =
-    let a = went (field_of (number_below (2 ^ 32)) ws) _ s e in
+    let a = went (field_of (bounded_number (2 ^ 32)) ws) _ s e in
     let b = went (nothing_more a.0.1) _ s a.2 in
     let t : Said = record { sender = Clock; what = Tick a.0.0; reply = Accepted } in
     let same : t ≡ s = ok_is t s b.2 in
-    let ka = field_is (number_below (2 ^ 32)) decimal (λ n. n < 2 ^ 32) (below_is (2 ^ 32)) ws a.0.0 a.0.1 a.1 in
+    let ka = field_is (bounded_number (2 ^ 32)) decimal (λ n. n < 2 ^ 32) (below_is (2 ^ 32)) ws a.0.0 a.0.1 a.1 in
     subst (IsSaidBy locks (codes "t" ∷ ws)) same (record {
       words = ap (λ (l : List (List ℕ)). codes "t" ∷ l) (ka.0 ∙ ap (λ (l : List (List ℕ)). decimal a.0.0 ∷ l) (none_more a.0.1 b.0 b.1));
       said = record {

@@ -14,16 +14,17 @@ use Rattle.hex.specs.Hex.{IsBytes, encode_lower, decode_sized}
 use Rattle.swap_base.specs.Fault.{◌>>=◌}
 use Rattle.swap_base.specs.Text.{joined}
 use Rattle.swap_base.proofs.Lists.{and_parts}
-use Rattle.hash_signature.specs.Signature.{for_chains, value_at, values_of}
+use Rattle.hash_signature.specs.Signature.{for_chains, value_at, text_values}
 use Rattle.hash_signature.proofs.Chains.{get_or-for_chains}
-use Rattle.hash_signature.proofs.Values.{joined-values_of}
+use Rattle.hash_signature.proofs.Values.{joined-text_values}
 use Rattle.hashkey_path.proofs.Validity.{bytes_eq-true}
 use Rattle.transcript_lines.specs.declared.said.Misspelling.{Misspelling}
 use Rattle.transcript_lines.specs.Between.{between, longer_first, parts_at}
 use Rattle.typed_books.specs.Typed.{IsDigest, IsSignature}
 use Rattle.transcript_lines.specs.Words.{list_word, signature_word}
-use Rattle.transcript_lines.specs.Reading.{misspelt, read_on, number_of, number_below, is_lower_digit, decoded, bytes_of, digest_of, signature_of, each_of}
-use Rattle.transcript_lines.specs.Reading.{list_of}
+use Rattle.transcript_lines.specs.Reading.{misspelt, continue_reading, number_of, bounded_number, is_lower_digit, decoded, bytes_of, to_digest}
+use Rattle.transcript_lines.specs.Reading.{parse_signature, each_of}
+use Rattle.transcript_lines.specs.Reading.{inside_entries}
 use Rattle.transcript_book.proofs.HexDigits.{digits_are}
 
 -- ---- steps of a reading
@@ -45,11 +46,11 @@ IsExact {A = A} f word P = (w : List ℕ) (x : A) → f w ≡ Ok x → (w ≡ wo
 
 -- ---- numbers
 
-read_is : (m : ℕ) (bs : List ℕ) (n : ℕ) → 0 < m → m < 2 ^ 64 → read_on m bs ≡ Ok n → (decimal m ++ bs ≡ decimal n) × (n < 2 ^ 64)
+read_is : (m : ℕ) (bs : List ℕ) (n : ℕ) → 0 < m → m < 2 ^ 64 → continue_reading m bs ≡ Ok n → (decimal m ++ bs ≡ decimal n) × (n < 2 ^ 64)
 read_is m [] n some small e = (append-nil (decimal m) ∙ ap decimal (ok_is m n e), subst (λ k. k < 2 ^ 64) (ok_is m n e) small)
 read_is m (b ∷ bs) n some small e =
     let k = m * 10 + (b - 48) in
-    let p = if_ok (nat_le 48 b && nat_le b 57 && nat_lt k (2 ^ 64)) (read_on k bs) n e in
+    let p = if_ok (nat_le 48 b && nat_le b 57 && nat_lt k (2 ^ 64)) (continue_reading k bs) n e in
     let q = and_parts (nat_le 48 b && nat_le b 57) (nat_lt k (2 ^ 64)) p.0 in
     let r = and_parts (nat_le 48 b) (nat_le b 57) q.0 in
     let low : 48 ≤ b = leb-true 48 b r.0 in
@@ -62,10 +63,10 @@ read_is m (b ∷ bs) n some small e =
     let rest = read_is (m * 10 + (b - 48)) bs n (omega arith) fits p.1 in
     (sym (append_assoc (decimal m) (b ∷ []) bs) ∙ ap (λ (l : List ℕ). l ++ bs) (sym step) ∙ rest.0, rest.1)
 
-first_is : (b : ℕ) (bs : List ℕ) (n : ℕ) → b ≢ 48 → read_on 0 (b ∷ bs) ≡ Ok n → (b ∷ bs ≡ decimal n) × (n < 2 ^ 64)
+first_is : (b : ℕ) (bs : List ℕ) (n : ℕ) → b ≢ 48 → continue_reading 0 (b ∷ bs) ≡ Ok n → (b ∷ bs ≡ decimal n) × (n < 2 ^ 64)
 first_is b bs n other e =
     let k = 0 * 10 + (b - 48) in
-    let p = if_ok (nat_le 48 b && nat_le b 57 && nat_lt k (2 ^ 64)) (read_on k bs) n e in
+    let p = if_ok (nat_le 48 b && nat_le b 57 && nat_lt k (2 ^ 64)) (continue_reading k bs) n e in
     let q = and_parts (nat_le 48 b && nat_le b 57) (nat_lt k (2 ^ 64)) p.0 in
     let r = and_parts (nat_le 48 b) (nat_le b 57) q.0 in
     let low : 48 ≤ b = leb-true 48 b r.0 in
@@ -79,7 +80,7 @@ pub number_is : IsExact number_of decimal (λ n. n < 2 ^ 64)
 number_is [] n e = absurd (cc e)
 number_is (b ∷ bs) n e = by (b == 48) refl e
   where
-    by : (t : Bool) → (b == 48) ≡ t → cond t (cond (length bs == 0) (Ok 0) misspelt) (read_on 0 (b ∷ bs)) ≡ Ok n → (b ∷ bs ≡ decimal n) × (n < 2 ^ 64)
+    by : (t : Bool) → (b == 48) ≡ t → cond t (cond (length bs == 0) (Ok 0) misspelt) (continue_reading 0 (b ∷ bs)) ≡ Ok n → (b ∷ bs ≡ decimal n) × (n < 2 ^ 64)
     by true q k =
         let p = if_ok (length bs == 0) (Ok 0) n k in
         let none : bs ≡ [] = nil_from_length bs (eqb-true (length bs) 0 p.0) in
@@ -87,7 +88,7 @@ number_is (b ∷ bs) n e = by (b == 48) refl e
         (ap₂ (λ (x : ℕ) (l : List ℕ). x ∷ l) (eqb-true b 48 q) none ∙ sym (decimal_digit 0 (omega arith)) ∙ ap decimal is, omega arith)
     by false q k = first_is b bs n (eqb-false b 48 q) k
 
-pub below_is : (limit : ℕ) → IsExact (number_below limit) decimal (λ n. n < limit)
+pub below_is : (limit : ℕ) → IsExact (bounded_number limit) decimal (λ n. n < limit)
 below_is limit w n e =
     let p = went (number_of w) (λ m. cond (nat_lt m limit) (Ok m) misspelt) n e in
     let q = if_ok (nat_lt p.0 limit) (Ok p.0) n p.2 in
@@ -105,7 +106,7 @@ bytes_are n w xs e =
     let p = if_ok (list_all is_lower_digit w) (decoded (decode_sized w n)) xs e in
     digits_are n w xs p.0 (decoded_ok (decode_sized w n) xs p.1)
 
-pub digest_is : IsExact digest_of encode_lower IsDigest
+pub digest_is : IsExact to_digest encode_lower IsDigest
 digest_is w xs e = let k = bytes_are 32 w xs e in (k.0, record { size = k.1; bytes = k.2 })
 
 bytes_cons : (x : ℕ) (xs : List ℕ) → x < 256 → IsBytes xs → IsBytes (x ∷ xs)
@@ -128,22 +129,22 @@ value_is bytes j size h lt = record {
   bytes = bytes_take 32 (drop (32 * j) bytes) (bytes_drop (32 * j) bytes h);
 }
 
-pub many_values : (bytes : List ℕ) → length (values_of bytes) ≡ 67
-unfolding values_of for_chains
+pub many_values : (bytes : List ℕ) → length (text_values bytes) ≡ 67
+unfolding text_values for_chains
 many_values bytes = length-map-range_with_len (value_at bytes) 0 67
 
-pub each_value : (bytes : List ℕ) → length bytes ≡ 2144 → IsBytes bytes → All IsDigest (values_of bytes)
-unfolding values_of
+pub each_value : (bytes : List ℕ) → length bytes ≡ 2144 → IsBytes bytes → All IsDigest (text_values bytes)
+unfolding text_values
 each_value bytes size h j d lt =
     let below : j < 67 = omega (arith, many_values bytes) in
     subst IsDigest (sym (get_or-for_chains (value_at bytes) j d below)) (value_is bytes j size h below)
 
-pub signature_is : IsExact signature_of signature_word IsSignature
+pub signature_is : IsExact parse_signature signature_word IsSignature
 signature_is w s e =
-    let p = went (bytes_of 2144 w) (λ bytes. Ok (values_of bytes)) s e in
+    let p = went (bytes_of 2144 w) (λ bytes. Ok (text_values bytes)) s e in
     let k = bytes_are 2144 w p.0 p.1 in
-    let same : values_of p.0 ≡ s = ok_is (values_of p.0) s p.2 in
-    let back : joined s ≡ p.0 = ap joined (sym same) ∙ joined-values_of p.0 k.1 in
+    let same : text_values p.0 ≡ s = ok_is (text_values p.0) s p.2 in
+    let back : joined s ≡ p.0 = ap joined (sym same) ∙ joined-text_values p.0 k.1 in
     (k.0 ∙ ap encode_lower (sym back), subst IsSignature same (record { size = many_values p.0; values = each_value p.0 k.1 k.2 }))
 
 -- ---- parts of a text
@@ -203,7 +204,7 @@ module _ {A : Type 0} (f : List ℕ → Result A Misspelling) (word : A → List
   some_word ws [] some e = absurd (omega (arith, some, ap length e))
   some_word ws (x ∷ xs) some e = ap (between 44) e
 
-  pub list_is : IsExact (list_of f) (λ xs. list_word (map word xs)) (All P)
+  pub list_is : IsExact (inside_entries f) (λ xs. list_word (map word xs)) (All P)
   list_is w xs e = by (bytes_eq w (codes "-")) refl e
     where
       by : (t : Bool) → bytes_eq w (codes "-") ≡ t → cond t (Ok []) (each_of f (parts_at 44 w)) ≡ Ok xs → (w ≡ list_word (map word xs)) × All P xs

@@ -16,8 +16,8 @@ use Rattle.ledger_core.specs.declared.entry.Call.TheVariants.{Publish, Unlock, C
 use Rattle.transcript_lines.specs.declared.said.Misspelling.{Misspelling}
 use Rattle.typed_books.specs.Typed.{IsDigest, IsSignature, IsTypedCall, IsTypedReply}
 use Rattle.transcript_lines.specs.Words.{list_word, signature_word, call_words, reply_words}
-use Rattle.transcript_lines.specs.Reading.{number_of, number_below, digest_of, signature_of, list_of, is_word, field_of, locks_of}
-use Rattle.transcript_lines.specs.Reading.{terms_of, key_of, units_of, call_by, call_of, plain_reply, numbered_reply, reply_of}
+use Rattle.transcript_lines.specs.Reading.{number_of, bounded_number, to_digest, parse_signature, inside_entries, is_word, field_of, parse_locks}
+use Rattle.transcript_lines.specs.Reading.{stated_terms, key_of, read_units, pick_call, parse_call, plain_reply, numbered_reply, make_reply}
 use Rattle.transcript_book.specs.Spelling.{HasLocks}
 use Rattle.transcript_book.proofs.Exact.{IsExact, went, ok_is, number_is, below_is, digest_is, signature_is, list_is}
 
@@ -36,11 +36,11 @@ field_is {A = A} f word P exact (w ∷ ws) x rest e =
     let k = exact w p.0 p.1 in
     (ap₂ (λ (v : List ℕ) (vs : List (List ℕ)). v ∷ vs) (k.0 ∙ ap word one) more, subst P one k.1)
 
-small_is : (ws : List (List ℕ)) (x : ℕ) (rest : List (List ℕ)) → field_of (number_below (2 ^ 32)) ws ≡ Ok (x, rest) → (ws ≡ decimal x ∷ rest) × (x < 2 ^ 32)
-small_is ws x rest e = field_is (number_below (2 ^ 32)) decimal (λ n. n < 2 ^ 32) (below_is (2 ^ 32)) ws x rest e
+small_is : (ws : List (List ℕ)) (x : ℕ) (rest : List (List ℕ)) → field_of (bounded_number (2 ^ 32)) ws ≡ Ok (x, rest) → (ws ≡ decimal x ∷ rest) × (x < 2 ^ 32)
+small_is ws x rest e = field_is (bounded_number (2 ^ 32)) decimal (λ n. n < 2 ^ 32) (below_is (2 ^ 32)) ws x rest e
 
-pub byte_is : (ws : List (List ℕ)) (x : ℕ) (rest : List (List ℕ)) → field_of (number_below 256) ws ≡ Ok (x, rest) → (ws ≡ decimal x ∷ rest) × (x < 256)
-byte_is ws x rest e = field_is (number_below 256) decimal (λ n. n < 256) (below_is 256) ws x rest e
+pub byte_is : (ws : List (List ℕ)) (x : ℕ) (rest : List (List ℕ)) → field_of (bounded_number 256) ws ≡ Ok (x, rest) → (ws ≡ decimal x ∷ rest) × (x < 256)
+byte_is ws x rest e = field_is (bounded_number 256) decimal (λ n. n < 256) (below_is 256) ws x rest e
 
 wide_is : (ws : List (List ℕ)) (x : ℕ) (rest : List (List ℕ)) → field_of number_of ws ≡ Ok (x, rest) → (ws ≡ decimal x ∷ rest) × (x < 2 ^ 64)
 wide_is ws x rest e = field_is number_of decimal (λ n. n < 2 ^ 64) number_is ws x rest e
@@ -55,15 +55,15 @@ record AreLocks (n : ℕ) (ws : List (List ℕ)) (xs : List (List ℕ)) (rest : 
   count : length xs ≡ n
   each : All IsDigest xs
 
-locks_are : (n : ℕ) (ws xs rest : List (List ℕ)) → locks_of n ws ≡ Ok (xs, rest) → AreLocks n ws xs rest
+locks_are : (n : ℕ) (ws xs rest : List (List ℕ)) → parse_locks n ws ≡ Ok (xs, rest) → AreLocks n ws xs rest
 locks_are zero ws xs rest e =
     let same : ◌≡◌ {A = List (List ℕ) × List (List ℕ)} ([], ws) (xs, rest) = ok_is ([], ws) (xs, rest) e in
     subst (λ (q : List (List ℕ) × List (List ℕ)). AreLocks 0 ws q.0 q.1) same (record { words = refl; count = refl; each = λ i d lt. absurd (omega arith) })
 locks_are (suc n) ws xs rest e =
-    let p = went (field_of digest_of ws) _ (xs, rest) e in
-    let q = went (locks_of n p.0.1) _ (xs, rest) p.2 in
+    let p = went (field_of to_digest ws) _ (xs, rest) e in
+    let q = went (parse_locks n p.0.1) _ (xs, rest) p.2 in
     let same : ◌≡◌ {A = List (List ℕ) × List (List ℕ)} (p.0.0 ∷ q.0.0, q.0.1) (xs, rest) = ok_is (p.0.0 ∷ q.0.0, q.0.1) (xs, rest) q.2 in
-    let one = field_is digest_of encode_lower IsDigest digest_is ws p.0.0 p.0.1 p.1 in
+    let one = field_is to_digest encode_lower IsDigest digest_is ws p.0.0 p.0.1 p.1 in
     let more = locks_are n p.0.1 q.0.0 q.0.1 q.1 in
     let count : length q.0.0 ≡ n = more.count in
     subst (λ (r : List (List ℕ) × List (List ℕ)). AreLocks (suc n) ws r.0 r.1) same (record {
@@ -89,16 +89,16 @@ record IsSaidAfter (locks : ℕ) (word : List ℕ) (ws : List (List ℕ)) (c : C
 abbrev Rest : Type 0
 Rest = List (List ℕ)
 
-terms_are : (locks : ℕ) (ws : List (List ℕ)) (c : Call) (rest : List (List ℕ)) → terms_of locks ws ≡ Ok (c, rest)
+terms_are : (locks : ℕ) (ws : List (List ℕ)) (c : Call) (rest : List (List ℕ)) → stated_terms locks ws ≡ Ok (c, rest)
     → IsSaidAfter locks (codes "publish") ws c rest
-unfolding terms_of
+unfolding stated_terms
 terms_are locks ws c rest e =
-    let a = went (field_of (number_below (2 ^ 32)) ws) _ (c, rest) e in
-    let b = went (field_of (number_below (2 ^ 32)) a.0.1) _ (c, rest) a.2 in
-    let d = went (field_of (number_below (2 ^ 32)) b.0.1) _ (c, rest) b.2 in
-    let f = went (field_of (number_below (2 ^ 32)) d.0.1) _ (c, rest) d.2 in
+    let a = went (field_of (bounded_number (2 ^ 32)) ws) _ (c, rest) e in
+    let b = went (field_of (bounded_number (2 ^ 32)) a.0.1) _ (c, rest) a.2 in
+    let d = went (field_of (bounded_number (2 ^ 32)) b.0.1) _ (c, rest) b.2 in
+    let f = went (field_of (bounded_number (2 ^ 32)) d.0.1) _ (c, rest) d.2 in
     let g = went (field_of number_of f.0.1) _ (c, rest) f.2 in
-    let h = went (locks_of locks g.0.1) _ (c, rest) g.2 in
+    let h = went (parse_locks locks g.0.1) _ (c, rest) g.2 in
     let t : Terms = record { locks = h.0.0; start = a.0.0; delta = b.0.0; bound = d.0.0; timelock = f.0.0; amount = g.0.0 } in
     let same : ◌≡◌ {A = Call × Rest} (Publish t, h.0.1) (c, rest) = ok_is (Publish t, h.0.1) (c, rest) h.2 in
     let ka = small_is ws a.0.0 a.0.1 a.1 in
@@ -117,18 +117,18 @@ terms_are locks ws c rest e =
 key_is : (locks : ℕ) (ws : List (List ℕ)) (c : Call) (rest : List (List ℕ)) → key_of ws ≡ Ok (c, rest) → IsSaidAfter locks (codes "unlock") ws c rest
 unfolding key_of
 key_is locks ws c rest e =
-    let a = went (field_of (number_below 256) ws) _ (c, rest) e in
-    let b = went (field_of digest_of a.0.1) _ (c, rest) a.2 in
-    let d = went (field_of (list_of (number_below 256)) b.0.1) _ (c, rest) b.2 in
-    let f = went (field_of (list_of signature_of) d.0.1) _ (c, rest) d.2 in
+    let a = went (field_of (bounded_number 256) ws) _ (c, rest) e in
+    let b = went (field_of to_digest a.0.1) _ (c, rest) a.2 in
+    let d = went (field_of (inside_entries (bounded_number 256)) b.0.1) _ (c, rest) b.2 in
+    let f = went (field_of (inside_entries parse_signature) d.0.1) _ (c, rest) d.2 in
     let key : Hashkey = record { lock = a.0.0; secret = b.0.0; path = d.0.0; sigs = f.0.0 } in
     let same : ◌≡◌ {A = Call × Rest} (Unlock key, f.0.1) (c, rest) = ok_is (Unlock key, f.0.1) (c, rest) f.2 in
     let ka = byte_is ws a.0.0 a.0.1 a.1 in
-    let kb = field_is digest_of encode_lower IsDigest digest_is a.0.1 b.0.0 b.0.1 b.1 in
-    let kd = field_is (list_of (number_below 256)) (λ xs. list_word (map decimal xs)) (All (λ p. p < 256))
-    (list_is (number_below 256) decimal (λ n. n < 256) (below_is 256)) b.0.1 d.0.0 d.0.1 d.1 in
-    let kf = field_is (list_of signature_of) (λ xs. list_word (map signature_word xs)) (All IsSignature)
-    (list_is signature_of signature_word IsSignature signature_is) d.0.1 f.0.0 f.0.1 f.1 in
+    let kb = field_is to_digest encode_lower IsDigest digest_is a.0.1 b.0.0 b.0.1 b.1 in
+    let kd = field_is (inside_entries (bounded_number 256)) (λ xs. list_word (map decimal xs)) (All (λ p. p < 256))
+    (list_is (bounded_number 256) decimal (λ n. n < 256) (below_is 256)) b.0.1 d.0.0 d.0.1 d.1 in
+    let kf = field_is (inside_entries parse_signature) (λ xs. list_word (map signature_word xs)) (All IsSignature)
+    (list_is parse_signature signature_word IsSignature signature_is) d.0.1 f.0.0 f.0.1 f.1 in
     subst (λ (q : Call × Rest). IsSaidAfter locks (codes "unlock") ws q.0 q.1) same (record {
       words = ap (λ (l : Rest). codes "unlock" ∷ l) (ka.0 ∙ ap (λ (l : Rest). decimal a.0.0 ∷ l) (kb.0 ∙ ap (λ (l : Rest). encode_lower b.0.0 ∷ l) (kd.0
           ∙ ap (λ (l : Rest). list_word (map decimal d.0.0) ∷ l) kf.0)));
@@ -136,10 +136,10 @@ key_is locks ws c rest e =
       typed = record { lock = ka.1; secret = kb.1; path = kd.1; sigs = kf.1 };
     })
 
-units_are : (locks : ℕ) (ws : List (List ℕ)) (c : Call) (rest : List (List ℕ)) → units_of ws ≡ Ok (c, rest) → IsSaidAfter locks (codes "transfer") ws c rest
-unfolding units_of
+units_are : (locks : ℕ) (ws : List (List ℕ)) (c : Call) (rest : List (List ℕ)) → read_units ws ≡ Ok (c, rest) → IsSaidAfter locks (codes "transfer") ws c rest
+unfolding read_units
 units_are locks ws c rest e =
-    let a = went (field_of (number_below 256) ws) _ (c, rest) e in
+    let a = went (field_of (bounded_number 256) ws) _ (c, rest) e in
     let b = went (field_of number_of a.0.1) _ (c, rest) a.2 in
     let same : ◌≡◌ {A = Call × Rest} (Transfer a.0.0 b.0.0, b.0.1) (c, rest) = ok_is (Transfer a.0.0 b.0.0, b.0.1) (c, rest) b.2 in
     let ka = byte_is ws a.0.0 a.0.1 a.1 in
@@ -174,7 +174,7 @@ named : (locks : ℕ) (w word : List ℕ) (ws : List (List ℕ)) (c : Call) (res
     → IsSaidCall locks (w ∷ ws) c rest
 named locks w word ws c rest is k = record { words = ap (λ (v : List ℕ). v ∷ ws) is ∙ k.words; few = k.few; typed = k.typed }
 
-call_by_is : (locks : ℕ) (w : List ℕ) (ws : List (List ℕ)) (c : Call) (rest : List (List ℕ)) → call_by locks w ws ≡ Ok (c, rest)
+call_by_is : (locks : ℕ) (w : List ℕ) (ws : List (List ℕ)) (c : Call) (rest : List (List ℕ)) → pick_call locks w ws ≡ Ok (c, rest)
     → IsSaidCall locks (w ∷ ws) c rest
 call_by_is locks w ws c rest e =
     let P = IsSaidCall locks (w ∷ ws) c rest in
@@ -187,8 +187,8 @@ call_by_is locks w ws c rest e =
     if_word P w (codes "transfer") _ _ (c, rest) e4 (λ is k. named locks w (codes "transfer") ws c rest is (units_are locks ws c rest k)) (λ e5.
     absurd (cc e5))))))
 
-pub call_is : (locks : ℕ) (ws : List (List ℕ)) (c : Call) (rest : List (List ℕ)) → call_of locks ws ≡ Ok (c, rest) → IsSaidCall locks ws c rest
-unfolding call_of
+pub call_is : (locks : ℕ) (ws : List (List ℕ)) (c : Call) (rest : List (List ℕ)) → parse_call locks ws ≡ Ok (c, rest) → IsSaidCall locks ws c rest
+unfolding parse_call
 call_is locks [] c rest e = absurd (cc e)
 call_is locks (w ∷ ws) c rest e = call_by_is locks w ws c rest e
 
@@ -246,14 +246,14 @@ numbered_is w n r e =
     let P = IsSaidReply (w ∷ n ∷ []) r in
     if_word P w (codes "TooLate") _ _ r e (numbered (2 ^ 64) number_of w (codes "TooLate") n TooLate r number_is (λ m. refl) (λ m lt. lt) (λ m q.
     absurd (cc q)) (λ m q. absurd (cc q))) (λ e1.
-    if_word P w (codes "StillLocked") _ _ r e1 (numbered 256 (number_below 256) w (codes "StillLocked") n StillLocked r (below_is 256) (λ m. refl) (λ m lt.
+    if_word P w (codes "StillLocked") _ _ r e1 (numbered 256 (bounded_number 256) w (codes "StillLocked") n StillLocked r (below_is 256) (λ m. refl) (λ m lt.
     lt) (λ m q. absurd (cc q)) (λ m q. absurd (cc q))) (λ e2.
     if_word P w (codes "NotExpired") _ _ r e2 (numbered (2 ^ 64) number_of w (codes "NotExpired") n NotExpired r number_is (λ m. refl) (λ m lt. lt) (λ m q.
     absurd (cc q)) (λ m q. absurd (cc q))) (λ e3.
     if_word P w (codes "NoFunds") _ _ r e3 (numbered (2 ^ 64) number_of w (codes "NoFunds") n NoFunds r number_is (λ m. refl) (λ m lt. lt) (λ m q.
     absurd (cc q)) (λ m q. absurd (cc q))) (λ e4. absurd (cc e4)))))
 
-pub reply_is : (ws : List (List ℕ)) (r : Reply) → reply_of ws ≡ Ok r → IsSaidReply ws r
+pub reply_is : (ws : List (List ℕ)) (r : Reply) → make_reply ws ≡ Ok r → IsSaidReply ws r
 reply_is [] r e = absurd (cc e)
 reply_is (w ∷ []) r e = plain_is w r e
 reply_is (w ∷ n ∷ []) r e = numbered_is w n r e

@@ -18,7 +18,7 @@ use Rattle.ledger_core.specs.WellFormed.{written_height}
 use Rattle.transcript_lines.specs.declared.said.Said.{Said}
 use Rattle.transcript_lines.specs.declared.said.Misspelling.{Misspelling}
 use Rattle.transcript_lines.specs.Reading.{line_said, misspelt}
-use Rattle.transcript_book.specs.Entries.{entry_at, placed, placed_as}
+use Rattle.transcript_book.specs.Entries.{parse_entry, placed, placed_as}
 
 -- a height that is held, and then more
 pub held_again : (n k : ℕ) → written_height (written_height n + k) ≡ written_height (n + k)
@@ -56,8 +56,8 @@ placed_height d a past at reply (Party p) (Tick n) e is k = absurd (cc k)
 placed_height d a past at reply Clock (Made c) e is k = absurd (cc k)
 
 pub read_height : (d : Deal) (a : ℕ) (past : List Entry) (at : ℕ) (line : List ℕ) (e : Entry) → at ≡ written_height (height past)
-    → entry_at d a at line ≡ Ok e → e.height ≡ written_height (height (past ++ e ∷ []))
-unfolding entry_at
+    → parse_entry d a at line ≡ Ok e → e.height ≡ written_height (height (past ++ e ∷ []))
+unfolding parse_entry
 read_height d a past at line e is k = by (line_said (length d.leaders) line) k
   where
     by : (r : Result Said Misspelling) → (r >>= λ s. placed d a at s) ≡ Ok e → IsHeightOf past e

@@ -8,15 +8,15 @@ use Rattle.hex.specs.declared.error.FromHexError.TheVariants.{InvalidStringLengt
 use Rattle.swap_base.proofs.Lists.{and_parts}
 use Rattle.transcript_lines.specs.Reading.{decoded, is_lower_digit, misspelt}
 
-abbrev pub value_in : ℕ → ℕ
-value_in c = if nat_le c 57 then c - 48 else c - 87
+abbrev pub field_value : ℕ → ℕ
+field_value c = if nat_le c 57 then c - 48 else c - 87
 
 abbrev has : ℕ → Option ℕ → Bool
 has v (Some w) = (w == v) && nat_lt w 16
 has v None = false
 
 abbrev is_valued : ℕ → Bool
-is_valued c = not (is_lower_digit c) || has (value_in c) (hex_digit_value c)
+is_valued c = not (is_lower_digit c) || has (field_value c) (hex_digit_value c)
 
 abbrev are_valued : ℕ → Bool
 are_valued zero = true
@@ -62,13 +62,13 @@ below_103 c e = by (nat_le 48 c) (nat_le c 57) (nat_le 97 c) (nat_le c 102) refl
     by false t false v p q k = absurd (cc k)
 
 -- the value of a lower digit
-pub value_is : (c : ℕ) → is_lower_digit c ≡ true → (hex_digit_value c ≡ Some (value_in c)) × (value_in c < 16)
+pub value_is : (c : ℕ) → is_lower_digit c ≡ true → (hex_digit_value c ≡ Some (field_value c)) × (field_value c < 16)
 value_is c lower = by (is_lower_digit c) (hex_digit_value c) lower (valued_at 103 c refl (below_103 c lower))
   where
-    by : (t : Bool) (o : Option ℕ) → t ≡ true → (not t || has (value_in c) o) ≡ true → (o ≡ Some (value_in c)) × (value_in c < 16)
+    by : (t : Bool) (o : Option ℕ) → t ≡ true → (not t || has (field_value c) o) ≡ true → (o ≡ Some (field_value c)) × (field_value c < 16)
     by true (Some w) l k =
-        let both = and_parts (w == value_in c) (nat_lt w 16) k in
-        let same : w ≡ value_in c = eqb-true w (value_in c) both.0 in
+        let both = and_parts (w == field_value c) (nat_lt w 16) k in
+        let same : w ≡ field_value c = eqb-true w (field_value c) both.0 in
         (ap (λ (v : ℕ). Some v) same, subst (λ n. n < 16) same (ltb-true w 16 both.1))
     by true None l k = absurd (cc k)
     by false o l k = absurd (cc l)

@@ -2,7 +2,7 @@
 use Rattle.std.proofs.Common.{◌≡◌, ℕ, suc, List, [], ◌∷◌, ◌++◌, Result, Ok, Err, refl, sym, ap, ◌∙◌, append_assoc}
 use Rattle.swap_base.specs.Fault.{◌>>=◌}
 use Rattle.transcript_lines.specs.declared.said.Misspelling.{Misspelling}
-use Rattle.transcript_lines.specs.Reading.{digest_of, field_of, locks_of}
+use Rattle.transcript_lines.specs.Reading.{to_digest, field_of, parse_locks}
 
 -- what was read before, and what is still read
 abbrev pub with_front : {A : Type 0} → List A → Result (List A) Misspelling → Result (List A) Misspelling
@@ -28,9 +28,9 @@ locks_start (Ok r) = refl
 locks_start (Err e) = refl
 
 module _ (front : List (List ℕ)) (total : Result (List (List ℕ) × List (List ℕ)) Misspelling) (k n : ℕ) (more : k ≡ suc n) where
-  pub locks_on : (old new : List (List ℕ)) (x : List ℕ) → field_of digest_of old ≡ Ok (x, new) → with_locks front (locks_of k old) ≡ total
-      → with_locks (front ++ x ∷ []) (locks_of n new) ≡ total
+  pub locks_on : (old new : List (List ℕ)) (x : List ℕ) → field_of to_digest old ≡ Ok (x, new) → with_locks front (parse_locks k old) ≡ total
+      → with_locks (front ++ x ∷ []) (parse_locks n new) ≡ total
   locks_on old new x one so_far =
-      sym (ap (λ m. with_locks front (locks_of m old)) more
-      ∙ ap (λ (r : Result (List ℕ × List (List ℕ)) Misspelling). with_locks front (r >>= λ q. locks_of n q.1 >>= λ p. Ok (q.0 ∷ p.0, p.1))) one
-      ∙ regroup_locks front x (locks_of n new)) ∙ so_far
+      sym (ap (λ m. with_locks front (parse_locks m old)) more
+      ∙ ap (λ (r : Result (List ℕ × List (List ℕ)) Misspelling). with_locks front (r >>= λ q. parse_locks n q.1 >>= λ p. Ok (q.0 ∷ p.0, p.1))) one
+      ∙ regroup_locks front x (parse_locks n new)) ∙ so_far

@@ -21,9 +21,9 @@ use Rattle.transcript_lines.specs.Between.{between, parts_at, spaced}
 use Rattle.typed_books.specs.Typed.{IsTypedReply, IsTypedSender, IsTypedWhat}
 use Rattle.transcript_lines.specs.Words.{entry_words}
 use Rattle.transcript_lines.specs.Lines.{IsStatable, IsStatedWhat, entry_line}
-use Rattle.transcript_lines.specs.Reading.{field_of, is_word, line_said, misspelt, nothing_more, number_below, number_of}
-use Rattle.transcript_book.specs.Counts.{count_of, just, ledger_word, words_count}
-use Rattle.transcript_book.specs.Entries.{entry_at, entry_of, placed_as}
+use Rattle.transcript_lines.specs.Reading.{field_of, is_word, line_said, misspelt, nothing_more, bounded_number, number_of}
+use Rattle.transcript_book.specs.Counts.{parse_limited_count, just, ledger_word, words_count}
+use Rattle.transcript_book.specs.Entries.{parse_entry, entry_of, placed_as}
 use Rattle.transcript_book.proofs.Heights.{held_again}
 use Rattle.transcript_book.specs.Spelling.{IsSpelling}
 use Rattle.transcript_book.proofs.Exact.{IsExact, went, ok_is, if_ok, below_is, number_is, parts_whole}
@@ -90,7 +90,7 @@ stated_by d a past line s e k p = record {
 }
 
 pub entry_is : (d : Deal) (a : ℕ) (past : List Entry) (line : List ℕ) (e : Entry) → entry_of d a past line ≡ Ok e → IsEntryLine d a past line e
-unfolding entry_at
+unfolding parse_entry
 entry_is d a past line e is =
     let p = went (line_said (length d.leaders) line) _ e is in
     stated_by d a past line p.0 e (one_spelling (length d.leaders) line p.0 p.1) (placed_is d a past p.0.sender p.0.what p.0.reply e p.2)
@@ -115,20 +115,20 @@ unfolding words_count
 words_are a ws n e =
     let p = went (field_of ledger_word ws) _ n e in
     let q = went (field_of (just a) p.0.1) _ n p.2 in
-    let r = went (field_of (number_below 20065) q.0.1) _ n q.2 in
+    let r = went (field_of (bounded_number 20065) q.0.1) _ n q.2 in
     let s = went (nothing_more r.0.1) _ n r.2 in
     let same : r.0.0 ≡ n = ok_is r.0.0 n s.2 in
     let kp = field_is ledger_word (λ u. codes "ledger") (λ u. Unit {0}) word_is ws p.0.0 p.0.1 p.1 in
     let kq = field_is (just a) (λ u. decimal a) (λ u. Unit {0}) (just_is a) p.0.1 q.0.0 q.0.1 q.1 in
-    let kr = field_is (number_below 20065) decimal (λ m. m < 20065) (below_is 20065) q.0.1 r.0.0 r.0.1 r.1 in
+    let kr = field_is (bounded_number 20065) decimal (λ m. m < 20065) (below_is 20065) q.0.1 r.0.0 r.0.1 r.1 in
     let small : r.0.0 < 20065 = kr.1 in (
       kp.0 ∙ ap (λ (l : List (List ℕ)). codes "ledger" ∷ l) (kq.0 ∙ ap (λ (l : List (List ℕ)). decimal a ∷ l) (kr.0
           ∙ ap₂ (λ (m : ℕ) (l : List (List ℕ)). decimal m ∷ l) same (none_more r.0.1 s.0 s.1))),
       omega arith,
     )
 
-pub count_is : (a : ℕ) (line : List ℕ) (n : ℕ) → count_of a line ≡ Ok n → (line ≡ count_line a n) × (n ≤ 20064)
-unfolding count_of
+pub count_is : (a : ℕ) (line : List ℕ) (n : ℕ) → parse_limited_count a line ≡ Ok n → (line ≡ count_line a n) × (n ≤ 20064)
+unfolding parse_limited_count
 count_is a line n e =
     let k = words_are a (parts_at 32 line) n e in
     (sym (parts_whole 32 line) ∙ ap (between 32) k.0, k.1)

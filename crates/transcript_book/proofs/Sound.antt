@@ -12,7 +12,7 @@ use Rattle.ledger_core.specs.Book.{Histories}
 use Rattle.swap_job.specs.declared.job.Job.{Job}
 use Rattle.ledger_core.specs.WellFormed.{GoesOn}
 use Rattle.transcript_lines.specs.Lines.{IsStatable, IsStated, entry_line, lines_from}
-use Rattle.transcript_book.specs.Counts.{count_of}
+use Rattle.transcript_book.specs.Counts.{parse_limited_count}
 use Rattle.transcript_book.specs.declared.place.Place.TheVariants.{Ledger, Entries, Over}
 use Rattle.transcript_book.specs.Entries.{entry_of}
 use Rattle.transcript_book.specs.Stages.{BookSoFar, begun, ended, entry_read, gone_on, ledger_read, line_read, with_whole}
@@ -148,7 +148,7 @@ none_come job b h ls t k =
     }
 
 -- the line of a ledger, and then its entries
-ledger_begins : (job : Job) (b : Histories) (n : ℕ) (l : List ℕ) (ls : List (List ℕ)) (t : BookSoFar) → count_of (length b) l ≡ Ok n
+ledger_begins : (job : Job) (b : Histories) (n : ℕ) (l : List ℕ) (ls : List (List ℕ)) (t : BookSoFar) → parse_limited_count (length b) l ≡ Ok n
     → FromEntries job b [] n ls t → FromLedger job b (l ∷ ls) t
 ledger_begins job b n l ls t is k =
     let one = count_is (length b) l n is in
@@ -223,12 +223,13 @@ unfolding ledger_read
 ledger_on job b l ls t le some none e = by (nat_lt (length b) (length job.deal.graph.arcs)) refl e
   where
     by : (test : Bool) → nat_lt (length b) (length job.deal.graph.arcs) ≡ test
-        → (cond test (count_of (length b) l >>= λ n. Ok (begun (at_ledger job b) n)) (ended (at_ledger job b) l) >>= λ u. steps line_read u ls) ≡ Ok t
+        → (cond test (parse_limited_count (length b) l >>= λ n. Ok (begun (at_ledger job b) n)) (ended (at_ledger job b) l) >>= λ u. steps line_read u ls)
+        ≡ Ok t
         → FromLedger job b (l ∷ ls) t
     by true q k =
         let lt : length b < length job.deal.graph.arcs = ltb-true (length b) (length job.deal.graph.arcs) q in
-        let p = went (count_of (length b) l >>= λ n. Ok (begun (at_ledger job b) n)) (λ u. steps line_read u ls) t k in
-        let r = went (count_of (length b) l) (λ n. Ok (begun (at_ledger job b) n)) p.0 p.1 in
+        let p = went (parse_limited_count (length b) l >>= λ n. Ok (begun (at_ledger job b) n)) (λ u. steps line_read u ls) t k in
+        let r = went (parse_limited_count (length b) l) (λ n. Ok (begun (at_ledger job b) n)) p.0 p.1 in
         let same : begun (at_ledger job b) r.0 ≡ p.0 = ok_is (begun (at_ledger job b) r.0) p.0 r.2 in
         ledger_begins job b r.0 l ls t r.1 (begins job b ls t r.0 (some lt) (none lt) (ap (λ (u : BookSoFar). steps line_read u ls) same ∙ p.2))
     by false q k =
@@ -257,20 +258,21 @@ HasArc job b (suc more) = length b < length job.deal.graph.arcs
 more_arcs : (job : Job) (b : Histories) (h : List Entry) → length b < length job.deal.graph.arcs → HasArc job (b ++ h ∷ []) 0
 more_arcs job b h lt = let long = push_length b h in omega arith
 
-read_on : (job : Job) (b : Histories) (h : List Entry) (more : ℕ) (ls : List (List ℕ)) (t : BookSoFar) → t.place ≡ Over → HasArc job b more
+continue_reading : (job : Job) (b : Histories) (h : List Entry) (more : ℕ) (ls : List (List ℕ)) (t : BookSoFar) → t.place ≡ Over → HasArc job b more
     → steps line_read (at_place job b h more) ls ≡ Ok t → From job b h more ls t
 unfolding steps
-read_on job b h zero [] t over arc e = absurd (cc (ap (λ (s : BookSoFar). s.place) (ok_is (at_ledger job b) t e) ∙ over))
-read_on job b h (suc more) [] t over arc e = absurd (cc (ap (λ (s : BookSoFar). s.place) (ok_is (in_ledger job b h (suc more)) t e) ∙ over))
-read_on job b h zero (l ∷ ls) t over arc e =
-    ledger_on job b l ls t arc (λ lt m. read_on job b [] (suc m) ls t over lt) (λ lt. read_on job (b ++ [] ∷ []) [] zero ls t over (more_arcs job b [] lt)) e
-read_on job b h (suc more) (l ∷ ls) t over arc e =
-    entry_on job b h more l ls t (λ x m. read_on job b (h ++ x ∷ []) (suc m) ls t over arc)
-    (λ x. read_on job (b ++ (h ++ x ∷ []) ∷ []) [] zero ls t over (more_arcs job b (h ++ x ∷ []) arc)) e
+continue_reading job b h zero [] t over arc e = absurd (cc (ap (λ (s : BookSoFar). s.place) (ok_is (at_ledger job b) t e) ∙ over))
+continue_reading job b h (suc more) [] t over arc e = absurd (cc (ap (λ (s : BookSoFar). s.place) (ok_is (in_ledger job b h (suc more)) t e) ∙ over))
+continue_reading job b h zero (l ∷ ls) t over arc e =
+    ledger_on job b l ls t arc (λ lt m. continue_reading job b [] (suc m) ls t over lt) (λ lt. continue_reading job (b ++ []
+    ∷ []) [] zero ls t over (more_arcs job b [] lt)) e
+continue_reading job b h (suc more) (l ∷ ls) t over arc e =
+    entry_on job b h more l ls t (λ x m. continue_reading job b (h ++ x ∷ []) (suc m) ls t over arc)
+    (λ x. continue_reading job (b ++ (h ++ x ∷ []) ∷ []) [] zero ls t over (more_arcs job b (h ++ x ∷ []) arc)) e
 
 pub read_is_whole : ReadIsWhole
 read_is_whole job ls t e over =
-    let k = read_on job [] [] 0 ls t over (omega arith) e in
+    let k = continue_reading job [] [] 0 ls t over (omega arith) e in
     let book : t.book ≡ k.rest = ap (λ (s : BookSoFar). s.book) k.read in
     let count = k.count in record {
       read = k.read ∙ ap (whole job) (sym book);

@@ -26,9 +26,9 @@ abbrev pub placed : Deal → (a at : ℕ) → Said → Result Entry Misspelling
 placed d a at s = placed_as d a at s.reply s.sender s.what
 
 -- the entry of arc a that a line states at a height
-unfoldable pub entry_at : Deal → (a at : ℕ) → List ℕ → Result Entry Misspelling
-entry_at d a at line = line_said (length d.leaders) line >>= λ s. placed d a at s
+unfoldable pub parse_entry : Deal → (a at : ℕ) → List ℕ → Result Entry Misspelling
+parse_entry d a at line = line_said (length d.leaders) line >>= λ s. placed d a at s
 
 -- the entry of arc a that a line states after those before it
 abbrev pub entry_of : Deal → ℕ → List Entry → List ℕ → Result Entry Misspelling
-entry_of d a past line = entry_at d a (written_height (height past)) line
+entry_of d a past line = parse_entry d a (written_height (height past)) line

@@ -8,7 +8,7 @@ use Rattle.ledger_core.specs.Book.{Histories}
 use Rattle.swap_job.specs.declared.job.Job.{Job}
 use Rattle.transcript_lines.specs.declared.said.Misspelling.{Misspelling}
 use Rattle.transcript_lines.specs.Reading.{misspelt}
-use Rattle.transcript_book.specs.Counts.{count_of}
+use Rattle.transcript_book.specs.Counts.{parse_limited_count}
 use Rattle.transcript_book.specs.declared.place.Place.{Place}
 use Rattle.transcript_book.specs.declared.place.Place.TheVariants.{Ledger, Entries, Over}
 use Rattle.transcript_book.specs.Entries.{entry_of}
@@ -52,7 +52,7 @@ ended s line =
 -- the line of the next ledger, or the last one where no ledger is to come
 unfoldable pub ledger_read : BookSoFar → List ℕ → Result BookSoFar Misspelling
 ledger_read s line =
-    if nat_lt (length s.book) (length s.job.deal.graph.arcs) then (count_of (length s.book) line >>= λ n. Ok (begun s n)) else ended s line
+    if nat_lt (length s.book) (length s.job.deal.graph.arcs) then (parse_limited_count (length s.book) line >>= λ n. Ok (begun s n)) else ended s line
 
 -- the line of an entry
 unfoldable pub entry_read : BookSoFar → List ℕ → Result BookSoFar Misspelling
@@ -67,9 +67,9 @@ read_at Over s line = misspelt
 abbrev pub line_read : BookSoFar → List ℕ → Result BookSoFar Misspelling
 line_read s line = read_at s.place s line
 
-abbrev pub is_over : Place → Bool
-is_over Over = true
-is_over _ = false
+abbrev pub is_finished : Place → Bool
+is_finished Over = true
+is_finished _ = false
 
 -- A call that reads a line answers so: after a line that isn't bad all is as it is read, and after any other answer as it was.
 abbrev pub Reads : {T : Type 0} → Result T (Fault Misspelling) → BookSoFar → BookSoFar → Result BookSoFar Misspelling → Type 0

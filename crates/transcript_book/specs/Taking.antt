@@ -11,5 +11,5 @@ Takes view (Ok x) rest read = read ≡ Ok (view x, rest)
 Takes view (Err e) rest read = Fails e read
 
 -- one more digit, where the number stays below 2 ^ 64
-abbrev pub digit_on : ℕ → ℕ → Result ℕ Misspelling
-digit_on n b = if nat_le 48 b && nat_le b 57 && nat_lt (n * 10 + (b - 48)) (2 ^ 64) then Ok (n * 10 + (b - 48)) else misspelt
+abbrev pub append_digit : ℕ → ℕ → Result ℕ Misspelling
+append_digit n b = if nat_le 48 b && nat_le b 57 && nat_lt (n * 10 + (b - 48)) (2 ^ 64) then Ok (n * 10 + (b - 48)) else misspelt

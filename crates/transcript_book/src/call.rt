@@ -1,7 +1,7 @@
 //! The call of an entry's line.
 
 ghost use Rattle.std.specs.Prelude.{◌≤◌};
-ghost use Rattle.transcript_lines.specs.Reading.{call_by, call_of, key_of, locks_of, terms_of, units_of};
+ghost use Rattle.transcript_lines.specs.Reading.{pick_call, parse_call, key_of, parse_locks, stated_terms, read_units};
 ghost use Rattle.transcript_book.specs.Taking.{Takes};
 
 use crate::field::{
@@ -16,9 +16,9 @@ use std::alloc::Global;
 use swap_base::Shared;
 
 /// So many digests, a field each.
-fn locks_of(count: usize, fields: &mut Parts<'_>) -> Result<LockList, WordFault>
+fn parse_locks(count: usize, fields: &mut Parts<'_>) -> Result<LockList, WordFault>
     requires { count ≤ 8 }
-    ensures { Takes (λ l. l) result fields.new (locks_of count fields.old) }
+    ensures { Takes (λ l. l) result fields.new (parse_locks count fields.old) }
 {
     let mut locks = LockList::new();
     'locks: for _ in 0..count {
@@ -27,17 +27,17 @@ fn locks_of(count: usize, fields: &mut Parts<'_>) -> Result<LockList, WordFault>
     Ok(locks)
 }
 
-#[tactic(auto, unfolding(transcript_lines::specs::Reading::terms_of))]
-fn terms_of(alloc: Global, count: usize, fields: &mut Parts<'_>) -> Result<Call, WordFault>
+#[tactic(auto, unfolding(transcript_lines::specs::Reading::stated_terms))]
+fn stated_terms(alloc: Global, count: usize, fields: &mut Parts<'_>) -> Result<Call, WordFault>
     requires { count ≤ 8 }
-    ensures { Takes (λ c. c) result fields.new (terms_of count fields.old) }
+    ensures { Takes (λ c. c) result fields.new (stated_terms count fields.old) }
 {
     let start = small_field(fields)?;
     let delta = small_field(fields)?;
     let bound = small_field(fields)?;
     let timelock = small_field(fields)?;
     let amount = number_field(fields)?;
-    let locks = locks_of(count, fields)?;
+    let locks = parse_locks(count, fields)?;
     let terms = Terms {
         locks,
         start,
@@ -67,26 +67,26 @@ pub fn key_of(alloc: Global, fields: &mut Parts<'_>) -> Result<Call, WordFault>
     Ok(Call::Unlock(Shared::new(alloc, key)?))
 }
 
-#[tactic(auto, unfolding(transcript_lines::specs::Reading::units_of))]
-fn units_of(fields: &mut Parts<'_>) -> Result<Call, WordFault>
-    ensures { Takes (λ c. c) result fields.new (units_of fields.old) }
+#[tactic(auto, unfolding(transcript_lines::specs::Reading::read_units))]
+fn read_units(fields: &mut Parts<'_>) -> Result<Call, WordFault>
+    ensures { Takes (λ c. c) result fields.new (read_units fields.old) }
 {
     let to = byte_field(fields)?;
     let units = number_field(fields)?;
     Ok(Call::Transfer(to, units))
 }
 
-fn call_by(
+fn pick_call(
     alloc: Global,
     count: usize,
     first: &[u8],
     fields: &mut Parts<'_>,
 ) -> Result<Call, WordFault>
     requires { count ≤ 8 }
-    ensures { Takes (λ c. c) result fields.new (call_by count first.now fields.old) }
+    ensures { Takes (λ c. c) result fields.new (pick_call count first.now fields.old) }
 {
     if first == b"publish".as_slice() {
-        terms_of(alloc, count, fields)
+        stated_terms(alloc, count, fields)
     } else if first == b"unlock".as_slice() {
         key_of(alloc, fields)
     } else if first == b"claim".as_slice() {
@@ -94,22 +94,22 @@ fn call_by(
     } else if first == b"refund".as_slice() {
         Ok(Call::Refund)
     } else if first == b"transfer".as_slice() {
-        units_of(fields)
+        read_units(fields)
     } else {
         Err(misspelt())
     }
 }
 
 /// The call that the next fields say of a deal with so many locks.
-#[tactic(auto, unfolding(transcript_lines::specs::Reading::call_of))]
-pub(crate) fn call_of(
+#[tactic(auto, unfolding(transcript_lines::specs::Reading::parse_call))]
+pub(crate) fn parse_call(
     alloc: Global,
     count: usize,
     fields: &mut Parts<'_>,
 ) -> Result<Call, WordFault>
     requires { count ≤ 8 }
-    ensures { Takes (λ c. c) result fields.new (call_of count fields.old) }
+    ensures { Takes (λ c. c) result fields.new (parse_call count fields.old) }
 {
     let first = word(fields)?;
-    call_by(alloc, count, first, fields)
+    pick_call(alloc, count, first, fields)
 }

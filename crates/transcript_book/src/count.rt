@@ -1,8 +1,8 @@
 //! The line before the entries of an arc.
 
 ghost use Rattle.swap_base.specs.Fault.{Gives};
-ghost use Rattle.transcript_lines.specs.Reading.{field_of, number_below};
-ghost use Rattle.transcript_book.specs.Counts.{count_of, just, ledger_word, words_count};
+ghost use Rattle.transcript_lines.specs.Reading.{field_of, bounded_number};
+ghost use Rattle.transcript_book.specs.Counts.{parse_limited_count, just, ledger_word, words_count};
 ghost use Rattle.transcript_book.specs.Taking.{Takes};
 
 use crate::field::{nothing_more, word};
@@ -41,8 +41,8 @@ fn arc_field(arc: ArcId, fields: &mut Parts<'_>) -> Result<(), WordFault>
     just(arc as u64, word(fields)?)
 }
 
-fn count_in(word: &[u8]) -> Result<u32, WordFault>
-    ensures { Gives (λ n. n) result (number_below 20065 word.now) }
+fn parse_count(word: &[u8]) -> Result<u32, WordFault>
+    ensures { Gives (λ n. n) result (bounded_number 20065 word.now) }
 {
     let n = number_of(word)?;
     if n < 20_065 {
@@ -54,9 +54,9 @@ fn count_in(word: &[u8]) -> Result<u32, WordFault>
 
 #[tactic(auto, unfolding(transcript_lines::specs::Reading::field_of))]
 fn count_field(fields: &mut Parts<'_>) -> Result<u32, WordFault>
-    ensures { Takes (λ n. n) result fields.new (field_of (number_below 20065) fields.old) }
+    ensures { Takes (λ n. n) result fields.new (field_of (bounded_number 20065) fields.old) }
 {
-    count_in(word(fields)?)
+    parse_count(word(fields)?)
 }
 
 #[tactic(auto, unfolding(crate::specs::Counts::words_count))]
@@ -71,9 +71,9 @@ fn words_count(arc: ArcId, fields: &mut Parts<'_>) -> Result<u32, WordFault>
 }
 
 /// How many entries the line before those of an arc tells, or that no writer writes the line.
-#[tactic(auto, unfolding(crate::specs::Counts::count_of))]
+#[tactic(auto, unfolding(crate::specs::Counts::parse_limited_count))]
 pub fn read_count(arc: ArcId, line: &[u8]) -> Result<u32, WordFault>
-    ensures { Gives (λ n. n) result (count_of arc line.now) }
+    ensures { Gives (λ n. n) result (parse_limited_count arc line.now) }
 {
     words_count(arc, &mut Parts::new(b' ', line))
 }

@@ -4,7 +4,7 @@ ghost use Rattle.std.specs.Prelude.{◌≡◌, ◌<◌, ◌*◌, ℕ, Ok, Some, 
 ghost use Rattle.std.specs.List.{list_all};
 ghost use Rattle.hex.specs.Hex.{decode_sized, hex_digit_value, pair_value};
 ghost use Rattle.swap_base.specs.Fault.{Gives};
-ghost use Rattle.transcript_lines.specs.Reading.{digest_of, is_lower_digit, signature_of};
+ghost use Rattle.transcript_lines.specs.Reading.{to_digest, is_lower_digit, parse_signature};
 
 use crate::number::{WordFault, misspelt};
 use hash_signature::{SIGNATURE_BYTES, Sig};
@@ -29,8 +29,8 @@ fn are_lower_digits(word: &[u8]) -> bool
 }
 
 /// The digest that a field says.
-pub fn digest_of(word: &[u8]) -> Result<Digest, WordFault>
-    ensures { Gives (λ d. d) result (digest_of word.now) }
+pub fn to_digest(word: &[u8]) -> Result<Digest, WordFault>
+    ensures { Gives (λ d. d) result (to_digest word.now) }
 {
     if !are_lower_digits(word) {
         return Err(misspelt());
@@ -81,8 +81,8 @@ fn signature_bytes(word: &[u8]) -> [u8; SIGNATURE_BYTES]
 
 /// The signature that a field says.
 #[tactic(auto, using(crate::proofs::Lower::wrong_length))]
-pub(crate) fn signature_of(word: &[u8]) -> Result<Sig, WordFault>
-    ensures { Gives (λ s. s) result (signature_of word.now) }
+pub(crate) fn parse_signature(word: &[u8]) -> Result<Sig, WordFault>
+    ensures { Gives (λ s. s) result (parse_signature word.now) }
 {
     if word.len() != 2 * SIGNATURE_BYTES || !are_lower_digits(word) {
         return Err(misspelt());

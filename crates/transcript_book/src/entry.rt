@@ -2,13 +2,13 @@
 
 ghost use Rattle.std.specs.Prelude.{◌≤◌};
 ghost use Rattle.swap_base.specs.Fault.{Gives};
-ghost use Rattle.transcript_lines.specs.Reading.{call_said, line_said, said_by, tick_said, words_said};
+ghost use Rattle.transcript_lines.specs.Reading.{call_said, line_said, parse_said, tick_said, words_said};
 
-use crate::call::call_of;
+use crate::call::parse_call;
 use crate::field::{byte_field, nothing_more, sign_field, small_field, word};
 use crate::number::{WordFault, misspelt};
 use crate::parts::Parts;
-use crate::reply::reply_of;
+use crate::reply::make_reply;
 use escrow_core::Reply;
 use ledger_core::{Sender, What};
 use std::alloc::Global;
@@ -33,9 +33,9 @@ fn call_said(alloc: Global, locks: usize, fields: &mut Parts<'_>) -> Result<Said
     ensures { Gives (λ s. s) result (call_said locks fields.old) }
 {
     let party = byte_field(fields)?;
-    let call = call_of(alloc, locks, fields)?;
+    let call = parse_call(alloc, locks, fields)?;
     sign_field(fields)?;
-    let reply = reply_of(fields)?;
+    let reply = make_reply(fields)?;
     Ok(Said {
         sender: Sender::Party(party),
         what: What::Call(call),
@@ -43,14 +43,14 @@ fn call_said(alloc: Global, locks: usize, fields: &mut Parts<'_>) -> Result<Said
     })
 }
 
-fn said_by(
+fn parse_said(
     alloc: Global,
     locks: usize,
     first: &[u8],
     fields: &mut Parts<'_>,
 ) -> Result<Said, WordFault>
     requires { locks ≤ 8 }
-    ensures { Gives (λ s. s) result (said_by locks first.now fields.old) }
+    ensures { Gives (λ s. s) result (parse_said locks first.now fields.old) }
 {
     if first == b"t".as_slice() {
         tick_said(fields)
@@ -67,7 +67,7 @@ fn words_said(alloc: Global, locks: usize, fields: &mut Parts<'_>) -> Result<Sai
     ensures { Gives (λ s. s) result (words_said locks fields.old) }
 {
     let first = word(fields)?;
-    said_by(alloc, locks, first, fields)
+    parse_said(alloc, locks, first, fields)
 }
 
 /// What a line says of a deal with so many locks, or that no writer writes it.

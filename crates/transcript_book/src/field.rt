@@ -2,12 +2,12 @@
 
 ghost use Rattle.std.specs.Prelude.{◌^◌};
 ghost use Rattle.swap_base.specs.Fault.{Gives};
-ghost use Rattle.transcript_lines.specs.Reading.{digest_of, equals, field_of, first_field, list_of, nothing_more, number_below, number_of, signature_of};
+ghost use Rattle.transcript_lines.specs.Reading.{to_digest, equals, field_of, first_field, inside_entries, nothing_more, bounded_number, number_of, parse_signature};
 ghost use Rattle.transcript_book.specs.Taking.{Takes};
 
-use crate::digits::digest_of;
-use crate::lists::{path_of, signatures_of};
-use crate::number::{WordFault, byte_of, misspelt, number_of, small_of};
+use crate::digits::to_digest;
+use crate::lists::{make_path, parse_signatures};
+use crate::number::{WordFault, misspelt, number_of, parse_byte, parse_small};
 use crate::parts::Parts;
 use hashkey_path::SigList;
 use std::alloc::Global;
@@ -33,38 +33,38 @@ pub(crate) fn number_field(fields: &mut Parts<'_>) -> Result<u64, WordFault>
 
 #[tactic(auto, unfolding(transcript_lines::specs::Reading::field_of))]
 pub(crate) fn small_field(fields: &mut Parts<'_>) -> Result<u32, WordFault>
-    ensures { Takes (λ n. n) result fields.new (field_of (number_below (2 ^ 32)) fields.old) }
+    ensures { Takes (λ n. n) result fields.new (field_of (bounded_number (2 ^ 32)) fields.old) }
 {
-    small_of(word(fields)?)
+    parse_small(word(fields)?)
 }
 
 #[tactic(auto, unfolding(transcript_lines::specs::Reading::field_of))]
 pub(crate) fn byte_field(fields: &mut Parts<'_>) -> Result<u8, WordFault>
-    ensures { Takes (λ n. n) result fields.new (field_of (number_below 256) fields.old) }
+    ensures { Takes (λ n. n) result fields.new (field_of (bounded_number 256) fields.old) }
 {
-    byte_of(word(fields)?)
+    parse_byte(word(fields)?)
 }
 
 /// A digest.
 #[tactic(auto, unfolding(transcript_lines::specs::Reading::field_of))]
 pub fn digest_field(fields: &mut Parts<'_>) -> Result<Digest, WordFault>
-    ensures { Takes (λ d. d) result fields.new (field_of digest_of fields.old) }
+    ensures { Takes (λ d. d) result fields.new (field_of to_digest fields.old) }
 {
-    digest_of(word(fields)?)
+    to_digest(word(fields)?)
 }
 
 #[tactic(auto, unfolding(transcript_lines::specs::Reading::field_of))]
 pub(crate) fn path_field(alloc: Global, fields: &mut Parts<'_>) -> Result<PathList, WordFault>
-    ensures { Takes (λ l. l) result fields.new (field_of (list_of (number_below 256)) fields.old) }
+    ensures { Takes (λ l. l) result fields.new (field_of (inside_entries (bounded_number 256)) fields.old) }
 {
-    path_of(alloc, word(fields)?)
+    make_path(alloc, word(fields)?)
 }
 
 #[tactic(auto, unfolding(transcript_lines::specs::Reading::field_of))]
 pub(crate) fn signatures_field(alloc: Global, fields: &mut Parts<'_>) -> Result<SigList, WordFault>
-    ensures { Takes (λ l. l) result fields.new (field_of (list_of signature_of) fields.old) }
+    ensures { Takes (λ l. l) result fields.new (field_of (inside_entries parse_signature) fields.old) }
 {
-    signatures_of(alloc, word(fields)?)
+    parse_signatures(alloc, word(fields)?)
 }
 
 fn equals(word: &[u8]) -> Result<(), WordFault>

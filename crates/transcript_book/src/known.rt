@@ -12,7 +12,7 @@ use swap_base::{LockId, NoMemory, PartyId, Shared, TryCopy};
 /// No fewer than the locks of a deal.
 const MOST_LOCKS: usize = 8;
 
-/// The last hashkey of each party for each lock, at the place that `place_of` says.
+/// The last hashkey of each party for each lock, at the place that `find_place` says.
 pub(crate) type Known = Vec<Option<Shared<Hashkey>>>;
 
 /// Nothing was read of so many parties.
@@ -24,7 +24,7 @@ pub(crate) fn none_known(alloc: Global, parties: usize) -> Result<Known, NoMemor
     Ok(known)
 }
 
-fn place_of(party: PartyId, lock: LockId) -> usize {
+fn find_place(party: PartyId, lock: LockId) -> usize {
     party as usize * MOST_LOCKS + lock as usize
 }
 
@@ -38,7 +38,7 @@ fn is_same(one: &Hashkey, other: &Hashkey) -> bool
 }
 
 /// The hashkey at a place, if it is this one.
-fn same_at<'a>(known: &'a Known, place: usize, key: &Hashkey) -> Option<&'a Shared<Hashkey>>
+fn find_same_key<'a>(known: &'a Known, place: usize, key: &Hashkey) -> Option<&'a Shared<Hashkey>>
     ensures { IfSome result (λ k. k.now ≡ key.now) }
 {
     match known.get(place) {
@@ -55,8 +55,8 @@ fn held_once(
 ) -> Result<Shared<Hashkey>, NoMemory>
     ensures { IfOk result (λ k. k ≡ key) }
 {
-    let place = place_of(party, key.lock);
-    if let Some(same) = same_at(known, place, &key) {
+    let place = find_place(party, key.lock);
+    if let Some(same) = find_same_key(known, place, &key) {
         return same.copy();
     }
     if place < known.len() {

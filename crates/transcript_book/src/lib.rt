@@ -22,11 +22,11 @@ mod reply;
 mod stated;
 
 pub use call::key_of;
-pub use digits::digest_of;
+pub use digits::to_digest;
 pub use field::{digest_field, nothing_more, word};
 pub use laws::{legal_is_stated, one_spelling, read_is_whole, whole_is_read};
 pub use number::{WordFault, misspelt, number_of};
 pub use parts::Parts;
 pub use place::Place;
 pub use reader::BookReader;
-pub use stated::entry_at;
+pub use stated::parse_entry;

@@ -1,10 +1,10 @@
 //! Lists in one field.
 
 ghost use Rattle.swap_base.specs.Fault.{Gives};
-ghost use Rattle.transcript_lines.specs.Reading.{each_of, list_of, number_below, signature_of};
+ghost use Rattle.transcript_lines.specs.Reading.{each_of, inside_entries, bounded_number, parse_signature};
 
-use crate::digits::signature_of;
-use crate::number::{WordFault, byte_of};
+use crate::digits::parse_signature;
+use crate::number::{WordFault, parse_byte};
 use crate::parts::Parts;
 use hash_signature::SIGNATURE_BYTES;
 use hashkey_path::SigList;
@@ -13,18 +13,18 @@ use swap_base::Listed;
 use swap_digraph::PathList;
 
 fn each_party(alloc: Global, parts: &mut Parts<'_>) -> Result<PathList, WordFault>
-    ensures { Gives (λ l. l) result (each_of (number_below 256) parts.old) }
+    ensures { Gives (λ l. l) result (each_of (bounded_number 256) parts.old) }
 {
     let mut list = Vec::new(alloc);
     while let Some(word) = parts.next() {
-        list.push(byte_of(word)?)?;
+        list.push(parse_byte(word)?)?;
     }
     Ok(Listed::new(list))
 }
 
 /// The path that a field says.
-pub(crate) fn path_of(alloc: Global, word: &[u8]) -> Result<PathList, WordFault>
-    ensures { Gives (λ l. l) result (list_of (number_below 256) word.now) }
+pub(crate) fn make_path(alloc: Global, word: &[u8]) -> Result<PathList, WordFault>
+    ensures { Gives (λ l. l) result (inside_entries (bounded_number 256) word.now) }
 {
     if word == b"-".as_slice() {
         return Ok(Listed::empty(alloc));
@@ -34,18 +34,18 @@ pub(crate) fn path_of(alloc: Global, word: &[u8]) -> Result<PathList, WordFault>
 
 /// It takes memory for so many at once, as each is 2 KB.
 fn each_signature(alloc: Global, count: usize, parts: &mut Parts<'_>) -> Result<SigList, WordFault>
-    ensures { Gives (λ l. l) result (each_of signature_of parts.old) }
+    ensures { Gives (λ l. l) result (each_of parse_signature parts.old) }
 {
     let mut list = Vec::with_capacity(alloc, count)?;
     while let Some(word) = parts.next() {
-        list.push(signature_of(word)?)?;
+        list.push(parse_signature(word)?)?;
     }
     Ok(Listed::new(list))
 }
 
 /// The signatures that a field says.
-pub(crate) fn signatures_of(alloc: Global, word: &[u8]) -> Result<SigList, WordFault>
-    ensures { Gives (λ l. l) result (list_of signature_of word.now) }
+pub(crate) fn parse_signatures(alloc: Global, word: &[u8]) -> Result<SigList, WordFault>
+    ensures { Gives (λ l. l) result (inside_entries parse_signature word.now) }
 {
     if word == b"-".as_slice() {
         return Ok(Listed::empty(alloc));

@@ -2,8 +2,8 @@
 
 ghost use Rattle.std.specs.Prelude.{◌≡◌, ◌^◌};
 ghost use Rattle.swap_base.specs.Fault.{Gives};
-ghost use Rattle.transcript_lines.specs.Reading.{number_of, number_below, read_on};
-ghost use Rattle.transcript_book.specs.Taking.{digit_on};
+ghost use Rattle.transcript_lines.specs.Reading.{number_of, bounded_number, continue_reading};
+ghost use Rattle.transcript_book.specs.Taking.{append_digit};
 
 use swap_base::Fault;
 use transcript_lines::Misspelling;
@@ -18,8 +18,8 @@ pub fn misspelt() -> WordFault
     Fault::Refused(Misspelling::Misspelt)
 }
 
-fn digit_on(value: u64, byte: u8) -> Result<u64, WordFault>
-    ensures { Gives (λ n. n) result (digit_on value byte) }
+fn append_digit(value: u64, byte: u8) -> Result<u64, WordFault>
+    ensures { Gives (λ n. n) result (append_digit value byte) }
 {
     if byte < b'0' || byte > b'9' {
         return Err(misspelt());
@@ -31,12 +31,12 @@ fn digit_on(value: u64, byte: u8) -> Result<u64, WordFault>
     Ok(value * 10 + digit)
 }
 
-fn read_on(digits: &[u8]) -> Result<u64, WordFault>
-    ensures { Gives (λ n. n) result (read_on 0 digits.now) }
+fn continue_reading(digits: &[u8]) -> Result<u64, WordFault>
+    ensures { Gives (λ n. n) result (continue_reading 0 digits.now) }
 {
     let mut value: u64 = 0;
     for byte in digits {
-        value = digit_on(value, *byte)?;
+        value = append_digit(value, *byte)?;
     }
     Ok(value)
 }
@@ -49,13 +49,13 @@ pub fn number_of(word: &[u8]) -> Result<u64, WordFault>
         [] => Err(misspelt()),
         [b'0'] => Ok(0),
         [b'0', ..] => Err(misspelt()),
-        _ => read_on(word),
+        _ => continue_reading(word),
     }
 }
 
 /// The number that a field says, below 2^32.
-pub(crate) fn small_of(word: &[u8]) -> Result<u32, WordFault>
-    ensures { Gives (λ n. n) result (number_below (2 ^ 32) word.now) }
+pub(crate) fn parse_small(word: &[u8]) -> Result<u32, WordFault>
+    ensures { Gives (λ n. n) result (bounded_number (2 ^ 32) word.now) }
 {
     let n = number_of(word)?;
     if n < 4_294_967_296 {
@@ -66,8 +66,8 @@ pub(crate) fn small_of(word: &[u8]) -> Result<u32, WordFault>
 }
 
 /// The number that a field says, below 256.
-pub(crate) fn byte_of(word: &[u8]) -> Result<u8, WordFault>
-    ensures { Gives (λ n. n) result (number_below 256 word.now) }
+pub(crate) fn parse_byte(word: &[u8]) -> Result<u8, WordFault>
+    ensures { Gives (λ n. n) result (bounded_number 256 word.now) }
 {
     let n = number_of(word)?;
     if n < 256 {

@@ -12,7 +12,7 @@ pub struct Parts<'a> {
     text: &'a [u8],
     by: u8,
     at: usize,
-    is_over: bool,
+    is_finished: bool,
 }
 
 impl<'a> Model for Parts<'a> {
@@ -36,7 +36,7 @@ impl<'a> Parts<'a> {
             text,
             by,
             at: 0,
-            is_over: false,
+            is_finished: false,
         }
     }
 
@@ -44,7 +44,7 @@ impl<'a> Parts<'a> {
     pub fn peek(&self) -> Option<&'a [u8]>
         ensures { MatchOption result (self.now ≡ []) (λ w. self.now ≡ w.now ∷ drop 1 self.now) }
     {
-        if self.is_over {
+        if self.is_finished {
             return None;
         }
         let rest = &self.text[self.at..];
@@ -58,7 +58,7 @@ impl<'a> Parts<'a> {
     pub fn next(&mut self) -> Option<&'a [u8]>
         ensures { MatchOption result ((self.old ≡ []) × (self.new ≡ [])) (λ w. self.old ≡ w.now ∷ self.new) }
     {
-        if self.is_over {
+        if self.is_finished {
             return None;
         }
         let rest = &self.text[self.at..];
@@ -68,7 +68,7 @@ impl<'a> Parts<'a> {
                 Some(&rest[..end])
             }
             None => {
-                self.is_over = true;
+                self.is_finished = true;
                 Some(rest)
             }
         }

@@ -3,13 +3,13 @@
 ghost use Rattle.std.specs.Prelude.{◌≡◌, IfOk};
 ghost use Rattle.swap_digraph.specs.Deal.{IsWellSized};
 ghost use Rattle.transcript_book.specs.declared.place.Place.TheVariants.{Ledger, Entries};
-ghost use Rattle.transcript_book.specs.Stages.{Reads, entry_read, is_over, ledger_read, line_read, no_ledgers, settled};
+ghost use Rattle.transcript_book.specs.Stages.{Reads, entry_read, is_finished, ledger_read, line_read, no_ledgers, settled};
 
 use crate::count::read_count;
 use crate::known::{Known, none_known, with_known};
 use crate::number::{WordFault, misspelt};
 use crate::place::Place;
-use crate::stated::entry_at;
+use crate::stated::parse_entry;
 use ledger_core::{Book, EntryList};
 use std::alloc::Global;
 use std::marker::Model;
@@ -69,8 +69,8 @@ impl BookReader {
     }
 
     /// Whether the last line was read.
-    pub fn is_over(&self) -> bool
-        ensures { result ≡ is_over self.now.place }
+    pub fn is_finished(&self) -> bool
+        ensures { result ≡ is_finished self.now.place }
     {
         match self.place {
             Place::Over => true,
@@ -125,7 +125,7 @@ impl BookReader {
     {
         let alloc = *self.histories.allocator();
         let arc = self.histories.len() as ArcId;
-        let entry = entry_at(alloc, &self.job.deal, arc, self.height, line)?;
+        let entry = parse_entry(alloc, &self.job.deal, arc, self.height, line)?;
         let height = entry.height;
         self.entries.push(with_known(&mut self.known, entry)?)?;
         self.height = height;

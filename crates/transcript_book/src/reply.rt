@@ -1,10 +1,10 @@
 //! The reply of an entry's line.
 
 ghost use Rattle.swap_base.specs.Fault.{Gives};
-ghost use Rattle.transcript_lines.specs.Reading.{numbered_reply, plain_reply, reply_of};
+ghost use Rattle.transcript_lines.specs.Reading.{numbered_reply, plain_reply, make_reply};
 
 use crate::field::{nothing_more, word};
-use crate::number::{WordFault, byte_of, misspelt, number_of};
+use crate::number::{WordFault, misspelt, number_of, parse_byte};
 use crate::parts::Parts;
 use escrow_core::Reply;
 
@@ -44,7 +44,7 @@ fn numbered_reply(word: &[u8], number: &[u8]) -> Result<Reply, WordFault>
     if word == b"TooLate".as_slice() {
         Ok(Reply::TooLate(number_of(number)?))
     } else if word == b"StillLocked".as_slice() {
-        Ok(Reply::StillLocked(byte_of(number)?))
+        Ok(Reply::StillLocked(parse_byte(number)?))
     } else if word == b"NotExpired".as_slice() {
         Ok(Reply::NotExpired(number_of(number)?))
     } else if word == b"NoFunds".as_slice() {
@@ -55,8 +55,8 @@ fn numbered_reply(word: &[u8], number: &[u8]) -> Result<Reply, WordFault>
 }
 
 /// The reply that the last fields say.
-pub(crate) fn reply_of(fields: &mut Parts<'_>) -> Result<Reply, WordFault>
-    ensures { Gives (λ r. r) result (reply_of fields.old) }
+pub(crate) fn make_reply(fields: &mut Parts<'_>) -> Result<Reply, WordFault>
+    ensures { Gives (λ r. r) result (make_reply fields.old) }
 {
     let first = word(fields)?;
     match fields.next() {

@@ -5,7 +5,7 @@ ghost use Rattle.swap_base.specs.Fault.{Gives};
 ghost use Rattle.swap_digraph.specs.Deal.{IsWellSized};
 ghost use Rattle.ledger_core.specs.declared.entry.Sender.TheVariants.{Party, Clock};
 ghost use Rattle.ledger_core.specs.declared.entry.What.TheVariants.{Call as Made, Tick};
-ghost use Rattle.transcript_book.specs.Entries.{entry_at, placed, placed_as};
+ghost use Rattle.transcript_book.specs.Entries.{parse_entry, placed, placed_as};
 
 use crate::entry::read_entry;
 use crate::number::{WordFault, misspelt};
@@ -73,8 +73,8 @@ fn place(deal: &Deal, arc: ArcId, height: u32, said: Said) -> Result<Entry, Word
 }
 
 /// The entry that a line states at a height of its arc's ledger.
-#[tactic(auto, unfolding(crate::specs::Entries::entry_at))]
-pub fn entry_at(
+#[tactic(auto, unfolding(crate::specs::Entries::parse_entry))]
+pub fn parse_entry(
     alloc: Global,
     deal: &Deal,
     arc: ArcId,
@@ -83,7 +83,7 @@ pub fn entry_at(
 ) -> Result<Entry, WordFault>
     requires sized { IsWellSized deal.now }
     requires arc { arc < length deal.now.graph.arcs }
-    ensures { Gives (λ e. e) result (entry_at deal.now arc height line.now) }
+    ensures { Gives (λ e. e) result (parse_entry deal.now arc height line.now) }
 {
     let said = read_entry(alloc, deal.leaders.len(), line)?;
     place(deal, arc, height, said)

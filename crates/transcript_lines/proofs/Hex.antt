@@ -10,10 +10,10 @@ use Rattle.swap_base.specs.Fault.{◌>>=◌}
 use Rattle.swap_base.specs.Text.{joined}
 use Rattle.swap_base.proofs.Lists.{and_parts, and_both}
 use Rattle.hash_signature.specs.declared.sig.Sig.{Sig}
-use Rattle.hash_signature.specs.Signature.{values_of}
-use Rattle.hash_signature.proofs.Values.{values_of-joined}
+use Rattle.hash_signature.specs.Signature.{text_values}
+use Rattle.hash_signature.proofs.Values.{text_values-joined}
 use Rattle.transcript_lines.specs.declared.said.Misspelling.{Misspelling}
-use Rattle.transcript_lines.specs.Reading.{misspelt, is_lower_digit, decoded, bytes_of, digest_of, signature_of}
+use Rattle.transcript_lines.specs.Reading.{misspelt, is_lower_digit, decoded, bytes_of, to_digest, parse_signature}
 use Rattle.typed_books.specs.Typed.{IsDigest, IsSignature}
 use Rattle.transcript_lines.specs.Words.{signature_word}
 use Rattle.transcript_lines.proofs.Parts.{IsHigh}
@@ -66,7 +66,7 @@ bytes_back : (n : ℕ) (xs : List ℕ) → length xs ≡ n → IsBytes xs → by
 bytes_back n xs size h =
     ap (λ t. cond t (decoded (decode_sized (encode_lower xs) n)) misspelt) (lower_word xs h) ∙ ap decoded (decode_sized-encode_lower xs n size h)
 
-pub digest_back : (x : List ℕ) → IsDigest x → digest_of (encode_lower x) ≡ Ok x
+pub digest_back : (x : List ℕ) → IsDigest x → to_digest (encode_lower x) ≡ Ok x
 digest_back x k = bytes_back 32 x k.size k.bytes
 
 -- the bytes of digests, one after another
@@ -93,12 +93,12 @@ joined_size (d ∷ ds) h =
     let rest = joined_size ds (λ k e lt. h (suc k) e (omega arith)) in
     omega (arith, length-append d (joined ds))
 
-pub signature_back : (s : Sig) → IsSignature s → signature_of (signature_word s) ≡ Ok s
+pub signature_back : (s : Sig) → IsSignature s → parse_signature (signature_word s) ≡ Ok s
 signature_back s k =
     let many : length s ≡ 67 = k.size in
     let size : length (joined s) ≡ 2144 = omega (arith, joined_size s k.values) in
-    ap (λ (r : Result (List ℕ) Misspelling). r >>= λ bytes. Ok (values_of bytes)) (bytes_back 2144 (joined s) size (joined_bytes s k.values))
-    ∙ ap (λ (v : List (List ℕ)). Ok v) (values_of-joined s many (λ i lt. (k.values i [] (omega arith)).size))
+    ap (λ (r : Result (List ℕ) Misspelling). r >>= λ bytes. Ok (text_values bytes)) (bytes_back 2144 (joined s) size (joined_bytes s k.values))
+    ∙ ap (λ (v : List (List ℕ)). Ok v) (text_values-joined s many (λ i lt. (k.values i [] (omega arith)).size))
 
 pub high_signature : (s : Sig) → IsSignature s → IsHigh 48 (signature_word s)
 high_signature s k = high_hex (joined s) (joined_bytes s k.values)

@@ -6,11 +6,11 @@ use Rattle.std.proofs.lemmas.Fmt.{decimal_digit, decimal_by_steps, decimal_nonem
 use Rattle.swap_base.specs.Fault.{◌>>=◌}
 use Rattle.swap_base.proofs.Lists.{and_both}
 use Rattle.transcript_lines.specs.declared.said.Misspelling.{Misspelling}
-use Rattle.transcript_lines.specs.Reading.{misspelt, read_on, number_of, number_below}
+use Rattle.transcript_lines.specs.Reading.{misspelt, continue_reading, number_of, bounded_number}
 use Rattle.transcript_lines.proofs.Parts.{IsHigh, high_append}
 
 -- one more digit
-one_digit : (m d : ℕ) → d < 10 → m * 10 + d < 2 ^ 64 → read_on m ((48 + d) ∷ []) ≡ Ok (m * 10 + d)
+one_digit : (m d : ℕ) → d < 10 → m * 10 + d < 2 ^ 64 → continue_reading m ((48 + d) ∷ []) ≡ Ok (m * 10 + d)
 one_digit m d lt small =
     let back : 48 + d - 48 ≡ d = omega arith in
     let low : nat_le 48 (48 + d) ≡ true = le-leb 48 (48 + d) (omega arith) in
@@ -18,17 +18,18 @@ one_digit m d lt small =
     let fits : nat_lt (m * 10 + d) (2 ^ 64) ≡ true = lt-ltb (m * 10 + d) (2 ^ 64) small in
     rw (back, low, high, fits) refl
 
-read_append : (m : ℕ) (bs cs : List ℕ) → read_on m (bs ++ cs) ≡ read_on m bs >>= λ n. read_on n cs
+read_append : (m : ℕ) (bs cs : List ℕ) → continue_reading m (bs ++ cs) ≡ continue_reading m bs >>= λ n. continue_reading n cs
 read_append m [] cs = refl
 read_append m (b ∷ bs) cs = by (nat_le 48 b && nat_le b 57 && nat_lt (m * 10 + (b - 48)) (2 ^ 64)) (read_append (m * 10 + (b - 48)) bs cs)
   where
-    by : (t : Bool) → read_on (m * 10 + (b - 48)) (bs ++ cs) ≡ read_on (m * 10 + (b - 48)) bs >>= (λ n. read_on n cs)
-        → cond t (read_on (m * 10 + (b - 48)) (bs ++ cs)) misspelt ≡ cond t (read_on (m * 10 + (b - 48)) bs) misspelt >>= λ n. read_on n cs
+    by : (t : Bool) → continue_reading (m * 10 + (b - 48)) (bs ++ cs) ≡ continue_reading (m * 10 + (b - 48)) bs >>= (λ n. continue_reading n cs)
+        → cond t (continue_reading (m * 10 + (b - 48)) (bs ++ cs)) misspelt
+        ≡ cond t (continue_reading (m * 10 + (b - 48)) bs) misspelt >>= λ n. continue_reading n cs
     by true e = e
     by false e = refl
 
 abbrev IsRead : ℕ → List ℕ → Type 0
-IsRead n ds = n < 2 ^ 64 → read_on 0 ds ≡ Ok n
+IsRead n ds = n < 2 ^ 64 → continue_reading 0 ds ≡ Ok n
 
 reads_one : (n : ℕ) → n < 10 → IsRead n ((48 + n) ∷ [])
 reads_one n lt small = one_digit 0 n lt (omega arith) ∙ ap (λ (m : ℕ). Ok m) (let z : ◌≡◌ {A = ℕ} (0 * 10 + n) n = omega arith in z)
@@ -37,16 +38,16 @@ reads_more : (n : ℕ) (ds : List ℕ) → 10 ≤ n → IsRead (n / 10) ds → I
 reads_more n ds le front small =
     let parts : n / 10 * 10 + n % 10 ≡ n = omega arith in
     let before : n / 10 < 2 ^ 64 = omega arith in
-    read_append 0 ds ((48 + n % 10) ∷ []) ∙ ap (λ (r : Result ℕ Misspelling). r >>= λ m. read_on m ((48 + n % 10) ∷ [])) (front before)
+    read_append 0 ds ((48 + n % 10) ∷ []) ∙ ap (λ (r : Result ℕ Misspelling). r >>= λ m. continue_reading m ((48 + n % 10) ∷ [])) (front before)
     ∙ one_digit (n / 10) (n % 10) (omega arith) (omega arith) ∙ ap (λ (m : ℕ). Ok m) parts
 
-other_first : (ds : List ℕ) → 0 < length ds → 48 < get_or ds 0 0 → number_of ds ≡ read_on 0 ds
+other_first : (ds : List ℕ) → 0 < length ds → 48 < get_or ds 0 0 → number_of ds ≡ continue_reading 0 ds
 other_first [] some first = absurd (omega arith)
 other_first (b ∷ bs) some first = by (b == 48) refl
   where
-    by : (t : Bool) → (b == 48) ≡ t → cond (b == 48) (cond (length bs == 0) (Ok 0) misspelt) (read_on 0 (b ∷ bs)) ≡ read_on 0 (b ∷ bs)
+    by : (t : Bool) → (b == 48) ≡ t → cond (b == 48) (cond (length bs == 0) (Ok 0) misspelt) (continue_reading 0 (b ∷ bs)) ≡ continue_reading 0 (b ∷ bs)
     by true e = let same : b ≡ 48 = eqb-true b 48 e in absurd (omega arith)
-    by false e = ap (λ t. cond t (cond (length bs == 0) (Ok 0) misspelt) (read_on 0 (b ∷ bs))) e
+    by false e = ap (λ t. cond t (cond (length bs == 0) (Ok 0) misspelt) (continue_reading 0 (b ∷ bs))) e
 
 pub number_back : (n : ℕ) → n < 2 ^ 64 → number_of (decimal n) ≡ Ok n
 number_back n small = by (nat_lt 0 n) refl
@@ -59,7 +60,7 @@ number_back n small = by (nat_lt 0 n) refl
         let none : n ≡ 0 = (let le : n ≤ 0 = ltb-false 0 n e in omega arith) in
         rw (none, decimal_digit 0 (omega arith)) refl
 
-pub below_back : (limit n : ℕ) → n < limit → limit ≤ 2 ^ 64 → number_below limit (decimal n) ≡ Ok n
+pub below_back : (limit n : ℕ) → n < limit → limit ≤ 2 ^ 64 → bounded_number limit (decimal n) ≡ Ok n
 below_back limit n lt le =
     ap (λ (r : Result ℕ Misspelling). r >>= λ m. cond (nat_lt m limit) (Ok m) misspelt) (number_back n (omega arith))
     ∙ ap (λ t. cond t (Ok n) misspelt) (lt-ltb n limit lt)

@@ -28,8 +28,8 @@ use Rattle.transcript_lines.specs.declared.said.Misspelling.{Misspelling}
 use Rattle.transcript_lines.specs.Between.{between, spaced, parts_at}
 use Rattle.typed_books.specs.Typed.{IsDigest, IsSignature, IsTerms, IsHashkey, IsTypedCall, IsTypedReply, IsTypedSender, IsTypedWhat}
 use Rattle.transcript_lines.specs.Words.{list_word, signature_word, terms_words, key_words, call_words, reply_words, entry_words}
-use Rattle.transcript_lines.specs.Reading.{number_of, number_below, digest_of, signature_of, each_of, list_of, field_of, locks_of, terms_of}
-use Rattle.transcript_lines.specs.Reading.{key_of, units_of, call_of, reply_of, equals, call_said, tick_said, words_said, line_said}
+use Rattle.transcript_lines.specs.Reading.{number_of, bounded_number, to_digest, parse_signature, each_of, inside_entries, field_of, parse_locks, stated_terms}
+use Rattle.transcript_lines.specs.Reading.{key_of, read_units, parse_call, make_reply, equals, call_said, tick_said, words_said, line_said}
 use Rattle.transcript_lines.proofs.Parts.{IsHigh, high_too, parts_between, high_between, all_append}
 use Rattle.transcript_lines.proofs.Numbers.{number_back, below_back, high_number}
 use Rattle.transcript_lines.proofs.Hex.{digest_back, signature_back, high_hex, high_signature, some_signature}
@@ -73,7 +73,7 @@ module _ {A : Type 0} (P : A → Type 0) (word : A → List ℕ) (f : List ℕ �
   not_dash w [] h k = ap (λ (l : List ℕ). bytes_eq l (codes "-")) (sym (append-nil w)) ∙ no_dash w [] h k
   not_dash w (v ∷ ws) h k = no_dash w (44 ∷ between 44 (v ∷ ws)) h k
 
-  pub list_back : (xs : List A) → All P xs → list_of f (list_word (map word xs)) ≡ Ok xs
+  pub list_back : (xs : List A) → All P xs → inside_entries f (list_word (map word xs)) ≡ Ok xs
   list_back [] h = refl
   list_back (x ∷ xs) h =
       let px = first_of_all P x xs h in
@@ -96,51 +96,51 @@ module _ {A : Type 0} (P : A → Type 0) (word : A → List ℕ) (f : List ℕ �
 some_number : (n : ℕ) → n < 256 → 0 < length (decimal n)
 some_number n lt = decimal_nonempty n (omega arith)
 
-path_back : (xs : List ℕ) → All (λ p. p < 256) xs → list_of (number_below 256) (list_word (map decimal xs)) ≡ Ok xs
+path_back : (xs : List ℕ) → All (λ p. p < 256) xs → inside_entries (bounded_number 256) (list_word (map decimal xs)) ≡ Ok xs
 path_back xs h =
-    list_back (λ p. p < 256) decimal (number_below 256) (λ n lt. below_back 256 n lt (omega arith)) (λ n lt.
+    list_back (λ p. p < 256) decimal (bounded_number 256) (λ n lt. below_back 256 n lt (omega arith)) (λ n lt.
     high_number n (omega arith)) some_number xs h
 
 high_path : (xs : List ℕ) → All (λ p. p < 256) xs → IsHigh 44 (list_word (map decimal xs))
 high_path xs h =
-    high_list (λ p. p < 256) decimal (number_below 256) (λ n lt. below_back 256 n lt (omega arith)) (λ n lt.
+    high_list (λ p. p < 256) decimal (bounded_number 256) (λ n lt. below_back 256 n lt (omega arith)) (λ n lt.
     high_number n (omega arith)) some_number xs h
 
-sigs_back : (xs : List Sig) → All IsSignature xs → list_of signature_of (list_word (map signature_word xs)) ≡ Ok xs
-sigs_back xs h = list_back IsSignature signature_word signature_of signature_back high_signature some_signature xs h
+sigs_back : (xs : List Sig) → All IsSignature xs → inside_entries parse_signature (list_word (map signature_word xs)) ≡ Ok xs
+sigs_back xs h = list_back IsSignature signature_word parse_signature signature_back high_signature some_signature xs h
 
 high_sigs : (xs : List Sig) → All IsSignature xs → IsHigh 44 (list_word (map signature_word xs))
-high_sigs xs h = high_list IsSignature signature_word signature_of signature_back high_signature some_signature xs h
+high_sigs xs h = high_list IsSignature signature_word parse_signature signature_back high_signature some_signature xs h
 
 pub field_back : {A : Type 0} (f : List ℕ → Result A Misspelling) (w : List ℕ) (x : A) (rest : List (List ℕ)) → f w ≡ Ok x
     → field_of f (w ∷ rest) ≡ Ok (x, rest)
 unfolding field_of
 field_back f w x rest e = went (f w) x (λ y. Ok (y, rest)) e
 
-locks_back : (xs : List (List ℕ)) (rest : List (List ℕ)) → All IsDigest xs → locks_of (length xs) (map encode_lower xs ++ rest) ≡ Ok (xs, rest)
+locks_back : (xs : List (List ℕ)) (rest : List (List ℕ)) → All IsDigest xs → parse_locks (length xs) (map encode_lower xs ++ rest) ≡ Ok (xs, rest)
 locks_back [] rest h = refl
 locks_back (x ∷ xs) rest h =
-    went (field_of digest_of (encode_lower x ∷ (map encode_lower xs ++ rest))) (x, map encode_lower xs ++ rest) (λ y. locks_of (length xs) y.1 >>= λ r.
+    went (field_of to_digest (encode_lower x ∷ (map encode_lower xs ++ rest))) (x, map encode_lower xs ++ rest) (λ y. parse_locks (length xs) y.1 >>= λ r.
     Ok (y.0 ∷ r.0, r.1))
-    (field_back digest_of (encode_lower x) x (map encode_lower xs ++ rest) (digest_back x (first_of_all IsDigest x xs h)))
-    ∙ went (locks_of (length xs) (map encode_lower xs ++ rest)) (xs, rest) (λ r. Ok (x ∷ r.0, r.1)) (locks_back xs rest (rest_of IsDigest x xs h))
+    (field_back to_digest (encode_lower x) x (map encode_lower xs ++ rest) (digest_back x (first_of_all IsDigest x xs h)))
+    ∙ went (parse_locks (length xs) (map encode_lower xs ++ rest)) (xs, rest) (λ r. Ok (x ∷ r.0, r.1)) (locks_back xs rest (rest_of IsDigest x xs h))
 
 -- Calls.
 
-small_back : (n : ℕ) → n < 2 ^ 32 → number_below (2 ^ 32) (decimal n) ≡ Ok n
+small_back : (n : ℕ) → n < 2 ^ 32 → bounded_number (2 ^ 32) (decimal n) ≡ Ok n
 small_back n lt = below_back (2 ^ 32) n lt (omega arith)
 
-small_field : (n : ℕ) (rest : List (List ℕ)) → n < 2 ^ 32 → field_of (number_below (2 ^ 32)) (decimal n ∷ rest) ≡ Ok (n, rest)
-small_field n rest lt = field_back (number_below (2 ^ 32)) (decimal n) n rest (small_back n lt)
+small_field : (n : ℕ) (rest : List (List ℕ)) → n < 2 ^ 32 → field_of (bounded_number (2 ^ 32)) (decimal n ∷ rest) ≡ Ok (n, rest)
+small_field n rest lt = field_back (bounded_number (2 ^ 32)) (decimal n) n rest (small_back n lt)
 
-byte_field : (n : ℕ) (rest : List (List ℕ)) → n < 256 → field_of (number_below 256) (decimal n ∷ rest) ≡ Ok (n, rest)
-byte_field n rest lt = field_back (number_below 256) (decimal n) n rest (below_back 256 n lt (omega arith))
+byte_field : (n : ℕ) (rest : List (List ℕ)) → n < 256 → field_of (bounded_number 256) (decimal n ∷ rest) ≡ Ok (n, rest)
+byte_field n rest lt = field_back (bounded_number 256) (decimal n) n rest (below_back 256 n lt (omega arith))
 
 number_field : (n : ℕ) (rest : List (List ℕ)) → n < 2 ^ 64 → field_of number_of (decimal n ∷ rest) ≡ Ok (n, rest)
 number_field n rest lt = field_back number_of (decimal n) n rest (number_back n lt)
 
-terms_back : (t : Terms) (rest : List (List ℕ)) → IsTerms t → terms_of (length t.locks) (terms_words t ++ rest) ≡ Ok (Publish t, rest)
-unfolding terms_of
+terms_back : (t : Terms) (rest : List (List ℕ)) → IsTerms t → stated_terms (length t.locks) (terms_words t ++ rest) ≡ Ok (Publish t, rest)
+unfolding stated_terms
 terms_back t rest k =
     let locks = map encode_lower t.locks ++ rest in
     went _ (t.start, decimal t.delta ∷ decimal t.bound ∷ decimal t.timelock ∷ decimal t.amount ∷ locks) _ (small_field t.start _ k.start)
@@ -156,12 +156,13 @@ key_back key rest k =
     let sigs = list_word (map signature_word key.sigs) ∷ rest in
     let path = list_word (map decimal key.path) ∷ sigs in
     went _ (key.lock, encode_lower key.secret ∷ path) _ (byte_field key.lock _ k.lock)
-    ∙ went _ (key.secret, path) _ (field_back digest_of (encode_lower key.secret) key.secret path (digest_back key.secret k.secret))
-    ∙ went _ (key.path, sigs) _ (field_back (list_of (number_below 256)) (list_word (map decimal key.path)) key.path sigs (path_back key.path k.path))
-    ∙ went _ (key.sigs, rest) _ (field_back (list_of signature_of) (list_word (map signature_word key.sigs)) key.sigs rest (sigs_back key.sigs k.sigs))
+    ∙ went _ (key.secret, path) _ (field_back to_digest (encode_lower key.secret) key.secret path (digest_back key.secret k.secret))
+    ∙ went _ (key.path, sigs) _ (field_back (inside_entries (bounded_number 256)) (list_word (map decimal key.path)) key.path sigs (path_back key.path k.path))
+    ∙ went _ (key.sigs, rest) _ (field_back (inside_entries parse_signature) (list_word (map signature_word key.sigs)) key.sigs rest
+    (sigs_back key.sigs k.sigs))
 
-units_back : (to units : ℕ) (rest : List (List ℕ)) → to < 256 → units < 2 ^ 64 → units_of (decimal to ∷ decimal units ∷ rest) ≡ Ok (Transfer to units, rest)
-unfolding units_of
+units_back : (to units : ℕ) (rest : List (List ℕ)) → to < 256 → units < 2 ^ 64 → read_units (decimal to ∷ decimal units ∷ rest) ≡ Ok (Transfer to units, rest)
+unfolding read_units
 units_back to units rest lt small =
     went _ (to, decimal units ∷ rest) _ (byte_field to _ lt) ∙ went _ (units, rest) _ (number_field units rest small)
 
@@ -170,9 +171,9 @@ abbrev pub HasLocks : ℕ → Call → Type 0
 HasLocks locks (Publish t) = length t.locks ≡ locks
 HasLocks locks _ = Unit {0}
 
-call_back : (locks : ℕ) (c : Call) (rest : List (List ℕ)) → HasLocks locks c → IsTypedCall c → call_of locks (call_words c ++ rest) ≡ Ok (c, rest)
-unfolding call_of
-call_back locks (Publish t) rest few k = ap (λ n. terms_of n (terms_words t ++ rest)) (sym few) ∙ terms_back t rest k
+call_back : (locks : ℕ) (c : Call) (rest : List (List ℕ)) → HasLocks locks c → IsTypedCall c → parse_call locks (call_words c ++ rest) ≡ Ok (c, rest)
+unfolding parse_call
+call_back locks (Publish t) rest few k = ap (λ n. stated_terms n (terms_words t ++ rest)) (sym few) ∙ terms_back t rest k
 call_back locks (Unlock key) rest few k = key_back key rest k
 call_back locks Claim rest few k = refl
 call_back locks Refund rest few k = refl
@@ -180,7 +181,7 @@ call_back locks (Transfer to units) rest few k = units_back to units rest k.0 k.
 
 -- Replies.
 
-reply_back : (r : Reply) → r ≢ SenderFull → r ≢ ClockFull → IsTypedReply r → reply_of (reply_words r) ≡ Ok r
+reply_back : (r : Reply) → r ≢ SenderFull → r ≢ ClockFull → IsTypedReply r → make_reply (reply_words r) ≡ Ok r
 reply_back Accepted s c k = refl
 reply_back Settled s c k = refl
 reply_back NotCounterparty s c k = refl
@@ -193,7 +194,7 @@ reply_back NothingLocked s c k = refl
 reply_back NoContract s c k = refl
 reply_back AlreadyPublished s c k = refl
 reply_back (TooLate n) s c k = went (number_of (decimal n)) n (λ m. Ok (TooLate m)) (number_back n k)
-reply_back (StillLocked n) s c k = went (number_below 256 (decimal n)) n (λ m. Ok (StillLocked m)) (below_back 256 n k (omega arith))
+reply_back (StillLocked n) s c k = went (bounded_number 256 (decimal n)) n (λ m. Ok (StillLocked m)) (below_back 256 n k (omega arith))
 reply_back (NotExpired n) s c k = went (number_of (decimal n)) n (λ m. Ok (NotExpired m)) (number_back n k)
 reply_back (NoFunds n) s c k = went (number_of (decimal n)) n (λ m. Ok (NoFunds m)) (number_back n k)
 reply_back SenderFull s c k = absurd (s refl)

@@ -14,7 +14,7 @@ use Rattle.ledger_core.specs.declared.entry.Sender.TheVariants.{Party, Clock}
 use Rattle.ledger_core.specs.declared.entry.What.{What}
 use Rattle.ledger_core.specs.declared.entry.What.TheVariants.{Call as Made, Tick}
 use Rattle.ledger_core.specs.declared.entry.Entry.{Entry}
-use Rattle.ledger_core.specs.History.{ticks_in, height, fit}
+use Rattle.ledger_core.specs.History.{entry_ticks, height, fit}
 use Rattle.ledger_core.specs.Book.{Histories}
 use Rattle.swap_job.specs.declared.job.Job.{Job}
 use Rattle.ledger_core.specs.WellFormed.{written_height, IsFormedWhat, IsFormedEntry, GoesOn}
@@ -30,8 +30,8 @@ use Rattle.transcript_lines.proofs.Spelling.{HasLocks, call_line_back, tick_line
 
 -- Entries.
 
-abbrev pub said_of : Entry → Said
-said_of e = record { sender = e.sender; what = e.what; reply = e.reply }
+abbrev pub inside_said : Entry → Said
+inside_said e = record { sender = e.sender; what = e.what; reply = e.reply }
 
 publish_locks : (d : Deal) (a : ℕ) (c : Call) → IsTrue (fit d a c) → HasLocks (length d.leaders) c
 publish_locks d a (Publish t) f =
@@ -67,16 +67,16 @@ line_says d a past e (Party p) (Tick n) es ew f k formed ts tw st = absurd forme
 line_says d a past e Clock (Made c) es ew f k formed ts tw st = absurd formed
 
 pub entry_says : (d : Deal) (a : ℕ) (past : List Entry) (e : Entry) → IsFormedEntry d a past e → IsStatable e
-    → line_said (length d.leaders) (entry_line e) ≡ Ok (said_of e)
+    → line_said (length d.leaders) (entry_line e) ≡ Ok (inside_said e)
 entry_says d a past e f k = line_says d a past e e.sender e.what refl refl f k f.what k.sender k.what k.tick
 
 -- the height of a formed entry
-height_of : (d : Deal) (a : ℕ) (past : List Entry) (s : Sender) (w : What) (at : ℕ) → IsFormedWhat d a past s w at
-    → at ≡ written_height (height past + ticks_in w)
-height_of d a past (Party p) (Made c) at f = f.height ∙ ap written_height (let z : ◌≡◌ {A = ℕ} (height past) (height past + 0) = omega arith in z)
-height_of d a past Clock (Tick n) at f = f.height
-height_of d a past (Party p) (Tick n) at f = absurd f
-height_of d a past Clock (Made c) at f = absurd f
+latest_height : (d : Deal) (a : ℕ) (past : List Entry) (s : Sender) (w : What) (at : ℕ) → IsFormedWhat d a past s w at
+    → at ≡ written_height (height past + entry_ticks w)
+latest_height d a past (Party p) (Made c) at f = f.height ∙ ap written_height (let z : ◌≡◌ {A = ℕ} (height past) (height past + 0) = omega arith in z)
+latest_height d a past Clock (Tick n) at f = f.height
+latest_height d a past (Party p) (Tick n) at f = absurd f
+latest_height d a past Clock (Made c) at f = absurd f
 
 from_parts : (e o : Entry) → e.sender ≡ o.sender → e.height ≡ o.height → e.what ≡ o.what → e.reply ≡ o.reply → e ≡ o
 from_parts e o s h w r =
@@ -91,12 +91,12 @@ ok_is x y e = cc
 same_entry : (d : Deal) (a : ℕ) (past : List Entry) (e o : Entry) → IsFormedEntry d a past e → IsFormedEntry d a past o → IsStatable e → IsStatable o
     → entry_line e ≡ entry_line o → e ≡ o
 same_entry d a past e o f g k l same =
-    let says : said_of e ≡ said_of o =
-    ok_is (said_of e) (said_of o) (sym (entry_says d a past e f k) ∙ ap (line_said (length d.leaders)) same ∙ entry_says d a past o g l) in
+    let says : inside_said e ≡ inside_said o =
+    ok_is (inside_said e) (inside_said o) (sym (entry_says d a past e f k) ∙ ap (line_said (length d.leaders)) same ∙ entry_says d a past o g l) in
     let what : e.what ≡ o.what = ap (λ (x : Said). x.what) says in
     from_parts e o (ap (λ (x : Said). x.sender) says)
-    (height_of d a past e.sender e.what e.height f.what ∙ ap (λ w. written_height (height past + ticks_in w)) what
-    ∙ sym (height_of d a past o.sender o.what o.height g.what))
+    (latest_height d a past e.sender e.what e.height f.what ∙ ap (λ w. written_height (height past + entry_ticks w)) what
+    ∙ sym (latest_height d a past o.sender o.what o.height g.what))
     what (ap (λ (x : Said). x.reply) says)
 
 -- Histories.
@@ -170,11 +170,11 @@ ok_job : (x y : Job) → Some x ≡ Some y → x ≡ y
 ok_job x y e = cc
 
 pub one_story : OneStory
-one_story header_of ls job other b c k l =
+one_story parse_whole_header ls job other b c k l =
     let same = sym k.lines ∙ l.lines in
     let after = head_is (codes "swap transcript 1") (codes "swap transcript 1") (k.header ∷ lines_from 0 b) (l.header ∷ lines_from 0 c) same in
     let both = head_is k.header l.header (lines_from 0 b) (lines_from 0 c) after.1 in
-    let job_is : job ≡ other = ok_job job other (sym k.gives ∙ ap header_of both.0 ∙ l.gives) in
+    let job_is : job ≡ other = ok_job job other (sym k.gives ∙ ap parse_whole_header both.0 ∙ l.gives) in
     let stated : IsStated job.deal c = subst (λ (j : Job). IsStated j.deal c) (sym job_is) l.stated in (
       job_is,
       same_books job.deal 0 b c (are_stated job.deal b k.stated) (are_stated job.deal c stated) (k.stated.formed.one_each

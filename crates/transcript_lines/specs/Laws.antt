@@ -7,5 +7,5 @@ use Rattle.transcript_lines.specs.Lines.{IsWholeTranscript}
 -- A whole transcript has one job and one book, whatever header lines give.
 abbrev pub OneStory : Type 0
 OneStory =
-    (header_of : List ℕ → Option Job) (ls : List (List ℕ)) (job other : Job) (b c : Histories) → IsWholeTranscript header_of ls job b
-    → IsWholeTranscript header_of ls other c → (job ≡ other) × (b ≡ c)
+    (parse_whole_header : List ℕ → Option Job) (ls : List (List ℕ)) (job other : Job) (b c : Histories) → IsWholeTranscript parse_whole_header ls job b
+    → IsWholeTranscript parse_whole_header ls other c → (job ≡ other) × (b ≡ c)

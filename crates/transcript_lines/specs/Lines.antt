@@ -57,10 +57,10 @@ pub record IsStated (d : Deal) (b : Histories) : Type 0 where
   pub statable : (a : ℕ) → a < length b → All IsStatable (history b a)
   pub few : (a : ℕ) → a < length b → length (history b a) ≤ 20064
 
--- The lines are a whole transcript of the job and the book, where header_of says which job a header line gives, if any. A header line counts by what it
+-- The lines are a whole transcript of the job and the book, where parse_whole_header says which job a header line gives, if any. A header line counts by what it
 -- reads as; every other line has one spelling.
-pub record IsWholeTranscript (header_of : List ℕ → Option Job) (ls : List (List ℕ)) (job : Job) (b : Histories) : Type 0 where
+pub record IsWholeTranscript (parse_whole_header : List ℕ → Option Job) (ls : List (List ℕ)) (job : Job) (b : Histories) : Type 0 where
   pub header : List ℕ
-  pub gives : header_of header ≡ Some job
+  pub gives : parse_whole_header header ≡ Some job
   pub lines : ls ≡ transcript_lines header b
   pub stated : IsStated job.deal b

@@ -7,7 +7,7 @@ use Rattle.hex.specs.Hex.{decode_sized}
 use Rattle.hex.specs.declared.error.FromHexError.{FromHexError}
 use Rattle.swap_base.specs.Fault.{◌>>=◌}
 use Rattle.hash_signature.specs.declared.sig.Sig.{Sig}
-use Rattle.hash_signature.specs.Signature.{values_of}
+use Rattle.hash_signature.specs.Signature.{text_values}
 use Rattle.escrow_core.specs.declared.reply.Reply.{Reply}
 use Rattle.escrow_core.specs.declared.reply.Reply.TheVariants.{Accepted, Settled, NotCounterparty, NotParty, AlreadyUnlocked, WrongSecret, WrongPath}
 use Rattle.escrow_core.specs.declared.reply.Reply.TheVariants.{WrongSignature, TooLate, StillLocked, NothingLocked, NotExpired, NoContract}
@@ -27,18 +27,18 @@ misspelt = Err Misspelt
 -- ---- numbers
 
 -- the number that further digits make of n, below 2 ^ 64
-abbrev pub read_on : ℕ → List ℕ → Result ℕ Misspelling
-read_on n [] = Ok n
-read_on n (b ∷ bs) = if nat_le 48 b && nat_le b 57 && nat_lt (n * 10 + (b - 48)) (2 ^ 64) then read_on (n * 10 + (b - 48)) bs else misspelt
+abbrev pub continue_reading : ℕ → List ℕ → Result ℕ Misspelling
+continue_reading n [] = Ok n
+continue_reading n (b ∷ bs) = if nat_le 48 b && nat_le b 57 && nat_lt (n * 10 + (b - 48)) (2 ^ 64) then continue_reading (n * 10 + (b - 48)) bs else misspelt
 
 -- a number without leading zeros
 abbrev pub number_of : List ℕ → Result ℕ Misspelling
 number_of [] = misspelt
-number_of (b ∷ bs) = if b == 48 then (if length bs == 0 then Ok 0 else misspelt) else read_on 0 (b ∷ bs)
+number_of (b ∷ bs) = if b == 48 then (if length bs == 0 then Ok 0 else misspelt) else continue_reading 0 (b ∷ bs)
 
 -- a number below a limit
-abbrev pub number_below : ℕ → List ℕ → Result ℕ Misspelling
-number_below limit w = number_of w >>= λ n. if nat_lt n limit then Ok n else misspelt
+abbrev pub bounded_number : ℕ → List ℕ → Result ℕ Misspelling
+bounded_number limit w = number_of w >>= λ n. if nat_lt n limit then Ok n else misspelt
 
 -- ---- digests and signatures
 
@@ -53,11 +53,11 @@ decoded (Err e) = misspelt
 abbrev pub bytes_of : ℕ → List ℕ → Result (List ℕ) Misspelling
 bytes_of n w = if list_all is_lower_digit w then decoded (decode_sized w n) else misspelt
 
-abbrev pub digest_of : List ℕ → Result (List ℕ) Misspelling
-digest_of w = bytes_of 32 w
+abbrev pub to_digest : List ℕ → Result (List ℕ) Misspelling
+to_digest w = bytes_of 32 w
 
-abbrev pub signature_of : List ℕ → Result Sig Misspelling
-signature_of w = bytes_of 2144 w >>= λ bytes. Ok (values_of bytes)
+abbrev pub parse_signature : List ℕ → Result Sig Misspelling
+parse_signature w = bytes_of 2144 w >>= λ bytes. Ok (text_values bytes)
 
 -- ---- lists
 
@@ -66,8 +66,8 @@ each_of f [] = Ok []
 each_of f (w ∷ ws) = f w >>= λ x. each_of f ws >>= λ xs. Ok (x ∷ xs)
 
 -- a list in one field
-abbrev pub list_of : {A : Type 0} → (List ℕ → Result A Misspelling) → List ℕ → Result (List A) Misspelling
-list_of f w = if bytes_eq w (codes "-") then Ok [] else each_of f (parts_at 44 w)
+abbrev pub inside_entries : {A : Type 0} → (List ℕ → Result A Misspelling) → List ℕ → Result (List A) Misspelling
+inside_entries f w = if bytes_eq w (codes "-") then Ok [] else each_of f (parts_at 44 w)
 
 -- ---- calls, each with the fields that follow it
 
@@ -87,47 +87,47 @@ field_of f ws = do
   Ok (x, first.1)
 
 -- so many digests, and the fields after them
-abbrev pub locks_of : ℕ → List (List ℕ) → Result (List (List ℕ) × List (List ℕ)) Misspelling
-locks_of zero ws = Ok ([], ws)
-locks_of (suc n) ws = field_of digest_of ws >>= λ first. locks_of n first.1 >>= λ r. Ok (first.0 ∷ r.0, r.1)
+abbrev pub parse_locks : ℕ → List (List ℕ) → Result (List (List ℕ) × List (List ℕ)) Misspelling
+parse_locks zero ws = Ok ([], ws)
+parse_locks (suc n) ws = field_of to_digest ws >>= λ first. parse_locks n first.1 >>= λ r. Ok (first.0 ∷ r.0, r.1)
 
-unfoldable pub terms_of : ℕ → List (List ℕ) → Result (Call × List (List ℕ)) Misspelling
-terms_of count ws = do
-  start ← field_of (number_below (2 ^ 32)) ws
-  delta ← field_of (number_below (2 ^ 32)) start.1
-  bound ← field_of (number_below (2 ^ 32)) delta.1
-  timelock ← field_of (number_below (2 ^ 32)) bound.1
+unfoldable pub stated_terms : ℕ → List (List ℕ) → Result (Call × List (List ℕ)) Misspelling
+stated_terms count ws = do
+  start ← field_of (bounded_number (2 ^ 32)) ws
+  delta ← field_of (bounded_number (2 ^ 32)) start.1
+  bound ← field_of (bounded_number (2 ^ 32)) delta.1
+  timelock ← field_of (bounded_number (2 ^ 32)) bound.1
   amount ← field_of number_of timelock.1
-  locks ← locks_of count amount.1
+  locks ← parse_locks count amount.1
   Ok (Publish (record { locks = locks.0; start = start.0; delta = delta.0; bound = bound.0; timelock = timelock.0; amount = amount.0 }), locks.1)
 
 unfoldable pub key_of : List (List ℕ) → Result (Call × List (List ℕ)) Misspelling
 key_of ws = do
-  lock ← field_of (number_below 256) ws
-  secret ← field_of digest_of lock.1
-  path ← field_of (list_of (number_below 256)) secret.1
-  sigs ← field_of (list_of signature_of) path.1
+  lock ← field_of (bounded_number 256) ws
+  secret ← field_of to_digest lock.1
+  path ← field_of (inside_entries (bounded_number 256)) secret.1
+  sigs ← field_of (inside_entries parse_signature) path.1
   Ok (Unlock (record { lock = lock.0; secret = secret.0; path = path.0; sigs = sigs.0 }), sigs.1)
 
-unfoldable pub units_of : List (List ℕ) → Result (Call × List (List ℕ)) Misspelling
-units_of ws = do
-  to ← field_of (number_below 256) ws
+unfoldable pub read_units : List (List ℕ) → Result (Call × List (List ℕ)) Misspelling
+read_units ws = do
+  to ← field_of (bounded_number 256) ws
   units ← field_of number_of to.1
   Ok (Transfer to.0 units.0, units.1)
 
-abbrev pub call_by : ℕ → List ℕ → List (List ℕ) → Result (Call × List (List ℕ)) Misspelling
-call_by locks w ws =
-    if is_word w (codes "publish") then terms_of locks ws
+abbrev pub pick_call : ℕ → List ℕ → List (List ℕ) → Result (Call × List (List ℕ)) Misspelling
+pick_call locks w ws =
+    if is_word w (codes "publish") then stated_terms locks ws
     else if is_word w (codes "unlock") then key_of ws
     else if is_word w (codes "claim") then Ok (Claim, ws)
     else if is_word w (codes "refund") then Ok (Refund, ws)
-    else if is_word w (codes "transfer") then units_of ws
+    else if is_word w (codes "transfer") then read_units ws
     else misspelt
 
-unfoldable pub call_of : ℕ → List (List ℕ) → Result (Call × List (List ℕ)) Misspelling
-call_of locks ws = do
+unfoldable pub parse_call : ℕ → List (List ℕ) → Result (Call × List (List ℕ)) Misspelling
+parse_call locks ws = do
   first ← first_field ws
-  call_by locks first.0 first.1
+  pick_call locks first.0 first.1
 
 -- ---- replies of an entry
 
@@ -149,15 +149,15 @@ plain_reply w =
 abbrev pub numbered_reply : List ℕ → List ℕ → Result Reply Misspelling
 numbered_reply w n =
     if is_word w (codes "TooLate") then (number_of n >>= λ last. Ok (TooLate last))
-    else if is_word w (codes "StillLocked") then (number_below 256 n >>= λ i. Ok (StillLocked i))
+    else if is_word w (codes "StillLocked") then (bounded_number 256 n >>= λ i. Ok (StillLocked i))
     else if is_word w (codes "NotExpired") then (number_of n >>= λ first. Ok (NotExpired first))
     else if is_word w (codes "NoFunds") then (number_of n >>= λ have. Ok (NoFunds have))
     else misspelt
 
-abbrev pub reply_of : List (List ℕ) → Result Reply Misspelling
-reply_of (w ∷ []) = plain_reply w
-reply_of (w ∷ n ∷ []) = numbered_reply w n
-reply_of _ = misspelt
+abbrev pub make_reply : List (List ℕ) → Result Reply Misspelling
+make_reply (w ∷ []) = plain_reply w
+make_reply (w ∷ n ∷ []) = numbered_reply w n
+make_reply _ = misspelt
 
 -- ---- entries
 
@@ -166,10 +166,10 @@ equals w = if is_word w (codes "=") then Ok tt else misspelt
 
 unfoldable pub call_said : ℕ → List (List ℕ) → Result Said Misspelling
 call_said locks ws = do
-  party ← field_of (number_below 256) ws
-  call ← call_of locks party.1
+  party ← field_of (bounded_number 256) ws
+  call ← parse_call locks party.1
   sign ← field_of equals call.1
-  reply ← reply_of sign.1
+  reply ← make_reply sign.1
   Ok (record { sender = Party party.0; what = Made call.0; reply = reply })
 
 abbrev pub nothing_more : List (List ℕ) → Result (Unit {0}) Misspelling
@@ -178,12 +178,12 @@ nothing_more (w ∷ ws) = misspelt
 
 unfoldable pub tick_said : List (List ℕ) → Result Said Misspelling
 tick_said ws = do
-  by ← field_of (number_below (2 ^ 32)) ws
+  by ← field_of (bounded_number (2 ^ 32)) ws
   u ← nothing_more by.1
   Ok (record { sender = Clock; what = Tick by.0; reply = Accepted })
 
-abbrev pub said_by : ℕ → List ℕ → List (List ℕ) → Result Said Misspelling
-said_by locks w ws =
+abbrev pub parse_said : ℕ → List ℕ → List (List ℕ) → Result Said Misspelling
+parse_said locks w ws =
     if is_word w (codes "t") then tick_said ws
     else if is_word w (codes "c") then call_said locks ws
     else misspelt
@@ -192,7 +192,7 @@ said_by locks w ws =
 unfoldable pub words_said : ℕ → List (List ℕ) → Result Said Misspelling
 words_said locks ws = do
   first ← first_field ws
-  said_by locks first.0 first.1
+  parse_said locks first.0 first.1
 
 -- what a line says
 unfoldable pub line_said : ℕ → List ℕ → Result Said Misspelling

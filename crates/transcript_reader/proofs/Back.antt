@@ -19,14 +19,14 @@ use Rattle.command_input.specs.Input.{limit}
 use Rattle.transcript_reader.specs.declared.reason.TranscriptReason.{TranscriptReason}
 use Rattle.transcript_reader.specs.declared.reason.TranscriptReason.TheVariants.{TooLong}
 use Rattle.transcript_reader.specs.declared.stage.Stage.TheVariants.{Header, Ledgers}
-use Rattle.transcript_reader.specs.Stages.{Progress, gone_on, headed, more_bytes, next_line, no_lines, stage_after, with_line}
+use Rattle.transcript_reader.specs.Stages.{Progress, gone_on, headed, more_bytes, next_line, no_lines, next_stage, with_line}
 use Rattle.transcript_reader.specs.Reading.{Story, finished, parts_read, transcript_read}
 use Rattle.transcript_reader.specs.Laws.{WholeIsRead, ok_of}
 use Rattle.transcript_reader.proofs.Whole.{at_stage}
 
 -- the parts of lines, each with its line feed
 
-not_feed : (t : Bool) → not t ≡ true → t ≡ false
+pub not_feed : (t : Bool) → not t ≡ true → t ≡ false
 not_feed true e = absurd (cc e)
 not_feed false e = refl
 
@@ -69,7 +69,7 @@ ended_length l ls = length-append (l ++ 10 ∷ []) (ended ls) ∙ ap (λ n. n + 
 ledgers_back : (header : List ℕ → Result Job Refusal) (s : BookSoFar) (n m : ℕ) (ls : List (List ℕ)) (job : Job) (b : Histories)
     → steps line_read s ls ≡ Ok (whole job b) → m + length (ended ls) ≤ limit
     → parts_read header (at_stage (Ledgers s) n m) (ls ++ [] ∷ []) ≡ Ok (story job b)
-unfolding stage_after steps
+unfolding next_stage steps
 ledgers_back header s n m [] job b e le =
     let same : s ≡ whole job b = ok_is s (whole job b) e in
     ap (λ (u : BookSoFar). finished (at_stage (Ledgers u) n m) []) same
@@ -99,7 +99,7 @@ ok_job (Err refusal) job e = absurd (cc e)
 lines_back : (header : List ℕ → Result Job Refusal) (line : List ℕ) (ls : List (List ℕ)) (job : Job) (b : Histories) → header line ≡ Ok job
     → steps line_read (no_ledgers job) ls ≡ Ok (whole job b) → length (ended (codes "swap transcript 1" ∷ line ∷ ls)) ≤ limit
     → parts_read header no_lines (codes "swap transcript 1" ∷ line ∷ (ls ++ [] ∷ [])) ≡ Ok (story job b)
-unfolding stage_after
+unfolding next_stage
 lines_back header line ls job b gives e le =
     read_after header (at_stage Header (next_line 0) (more_bytes 0 (length (codes "swap transcript 1") + 1))) line ls
     ∙ ap (λ (r : Result Job Refusal). parts_read header (at_stage (headed r) (next_line (next_line 0)) (more_bytes (more_bytes 0

@@ -16,7 +16,7 @@ use Rattle.transcript_reader.specs.declared.reason.TranscriptReason.{TranscriptR
 use Rattle.transcript_reader.specs.declared.stage.Stage.{Stage}
 use Rattle.transcript_reader.specs.declared.stage.Stage.TheVariants.{First, Header, Ledgers, Bad}
 use Rattle.transcript_reader.specs.Stages.{Progress, no_lines, with_line}
-use Rattle.transcript_reader.specs.Reading.{ReadsLine, finished, parts_read, so_far, story_of, transcript_read}
+use Rattle.transcript_reader.specs.Reading.{ReadsLine, finished, parts_read, so_far, job_story, transcript_read}
 use Rattle.transcript_reader.specs.Laws.{IsWholeText}
 use Rattle.transcript_reader.proofs.Whole.{at_stage, bad_stands, text_is_whole}
 
@@ -80,7 +80,7 @@ module _ (header : List ℕ → Result Job Refusal) where
   pub led_fault : (bytes : List ℕ) (at end n : ℕ) (p q : Progress) (rest : List ℕ) (fault : Fault TranscriptReason) → IsLed bytes at p
       → rest ≡ drop at bytes → NoneBefore (Passes (is_byte 10) rest) 0 (length rest) end → Passes (is_byte 10) rest end
       → ReadsLine {T = Unit {0}} (Err fault) p q (with_line header p (take n (drop at bytes))) → n ≡ end
-      → Gives {X = Job × Book} story_of (Err fault) (transcript_read header bytes)
+      → Gives {X = Job × Book} job_story (Err fault) (transcript_read header bytes)
   led_fault bytes at end n p q rest NoMemory k is before here h same = tt
   led_fault bytes at end n p q rest (Refused reason) k is before here h same =
       k.led ∙ line_on p (take end rest) (drop (at + (end + 1)) bytes) (drop at bytes) (next_parts bytes at end rest is before here)
@@ -94,7 +94,7 @@ module _ (header : List ℕ → Result Job Refusal) where
   led_to_end bytes at p rest k is nowhere = k.led ∙ ap (parts_read header p) (next_none 10 at bytes rest false refl is nowhere)
 
   -- what is read is a whole transcript
-  pub whole_of : (bytes : List ℕ) (r : Result (Job × Book) (Fault TranscriptReason)) → Gives story_of r (transcript_read header bytes)
-      → IfOk r (λ p. IsWholeText header bytes (story_of p))
-  whole_of bytes (Ok x) e = text_is_whole header bytes (story_of x) e
+  pub whole_of : (bytes : List ℕ) (r : Result (Job × Book) (Fault TranscriptReason)) → Gives job_story r (transcript_read header bytes)
+      → IfOk r (λ p. IsWholeText header bytes (job_story p))
+  whole_of bytes (Ok x) e = text_is_whole header bytes (job_story x) e
   whole_of bytes (Err f) e = tt

@@ -13,7 +13,7 @@ use Rattle.transcript_lines.specs.Between.{between, ended, parts_at}
 use Rattle.transcript_lines.specs.Lines.{IsStated, lines_from}
 use Rattle.transcript_book.specs.declared.place.Place.{Place}
 use Rattle.transcript_book.specs.declared.place.Place.TheVariants.{Ledger, Entries, Over}
-use Rattle.transcript_book.specs.Stages.{BookSoFar, is_over, line_read, no_ledgers}
+use Rattle.transcript_book.specs.Stages.{BookSoFar, is_finished, line_read, no_ledgers}
 use Rattle.transcript_book.specs.Books.{whole}
 use Rattle.transcript_book.proofs.Exact.{parts_some, parts_whole}
 use Rattle.transcript_book.proofs.Sound.{read_is_whole}
@@ -22,7 +22,7 @@ use Rattle.transcript_reader.specs.declared.reason.TranscriptReason.{TranscriptR
 use Rattle.transcript_reader.specs.declared.reason.TranscriptReason.TheVariants.{BadLine, TooLong, CutShort, Header as BadHeader}
 use Rattle.transcript_reader.specs.declared.stage.Stage.{Stage}
 use Rattle.transcript_reader.specs.declared.stage.Stage.TheVariants.{Header, Ledgers, Bad}
-use Rattle.transcript_reader.specs.Stages.{Progress, gone_on, headed, more_bytes, next_line, no_lines, stage_after}
+use Rattle.transcript_reader.specs.Stages.{Progress, gone_on, headed, more_bytes, next_line, no_lines, next_stage}
 use Rattle.transcript_reader.specs.Reading.{Story, ledgers_told, parts_read, story_so_far, transcript_read, unless_long}
 use Rattle.transcript_reader.specs.Laws.{IsWholeText, ReadIsWhole, ok_of}
 
@@ -32,7 +32,7 @@ at_stage stage lines bytes = record { stage = stage; lines = lines; bytes = byte
 -- after a bad line nothing is read
 pub bad_stands : (header : List ℕ → Result Job Refusal) (reason : TranscriptReason) (n m : ℕ) (ps : List (List ℕ))
     → parts_read header (at_stage (Bad reason) n m) ps ≡ Err reason
-unfolding stage_after
+unfolding next_stage
 bad_stands header reason n m [] = refl
 bad_stands header reason n m (rest ∷ []) = refl
 bad_stands header reason n m (l ∷ next ∷ ps) = bad_stands header reason (next_line n) (more_bytes m (length l + 1)) (next ∷ ps)
@@ -60,7 +60,7 @@ record AreLines (s : BookSoFar) (ps : List (List ℕ)) (t : Story) : Type 0 wher
   job_is : t.job ≡ last.job
   book_is : t.book ≡ last.book
 
-over_is : (p : Place) → is_over p ≡ true → p ≡ Over
+over_is : (p : Place) → is_finished p ≡ true → p ≡ Over
 over_is Ledger e = absurd (cc e)
 over_is Entries e = absurd (cc e)
 over_is Over e = refl
@@ -70,9 +70,9 @@ ok_is x y q = cc
 
 told_is : (n m : ℕ) (s : BookSoFar) (rest : List ℕ) (t : Story) → ledgers_told n m s rest ≡ Ok t → AreLines s (rest ∷ []) t
 unfolding steps
-told_is n m s rest t e = by (is_over s.place) (nat_lt 0 (length rest)) refl refl e
+told_is n m s rest t e = by (is_finished s.place) (nat_lt 0 (length rest)) refl refl e
   where
-    by : (over some : Bool) → is_over s.place ≡ over → nat_lt 0 (length rest) ≡ some
+    by : (over some : Bool) → is_finished s.place ≡ over → nat_lt 0 (length rest) ≡ some
         → cond (over && some) (Err (BadLine (next_line n))) (unless_long m (cond over (Ok (story_so_far s)) (Err CutShort))) ≡ Ok t → AreLines s (rest ∷ []) t
     by true true p q k = absurd (cc k)
     by true false p q k =
@@ -90,7 +90,7 @@ told_is n m s rest t e = by (is_over s.place) (nat_lt 0 (length rest)) refl refl
 
 ledgers_are : (header : List ℕ → Result Job Refusal) (s : BookSoFar) (n m : ℕ) (ps : List (List ℕ)) (t : Story) → 0 < length ps
     → parts_read header (at_stage (Ledgers s) n m) ps ≡ Ok t → AreLines s ps t
-unfolding stage_after steps
+unfolding next_stage steps
 ledgers_are header s n m [] t some e = absurd (omega arith)
 ledgers_are header s n m (rest ∷ []) t some e = told_is n (more_bytes m (length rest)) s rest t e
 ledgers_are header s n m (l ∷ next ∷ ps) t some e =
@@ -150,14 +150,14 @@ after_header header bytes line next ps t n m parts e = by (header line) refl e
 
 after_first : (header : List ℕ → Result Job Refusal) (bytes : List ℕ) (ps : List (List ℕ)) (t : Story) (n m : ℕ) → 0 < length ps
     → parts_at 10 bytes ≡ codes "swap transcript 1" ∷ ps → parts_read header (at_stage Header n m) ps ≡ Ok t → IsWholeText header bytes t
-unfolding stage_after
+unfolding next_stage
 after_first header bytes [] t n m some parts e = absurd (omega arith)
 after_first header bytes (line ∷ []) t n m some parts e = cut_off (more_bytes m (length line)) t e
 after_first header bytes (line ∷ next ∷ ps) t n m some parts e = after_header header bytes line next ps t (next_line n) (more_bytes m (length line + 1)) parts e
 
 from_parts : (header : List ℕ → Result Job Refusal) (bytes : List ℕ) (ps : List (List ℕ)) (t : Story) → 0 < length ps → parts_at 10 bytes ≡ ps
     → parts_read header no_lines ps ≡ Ok t → IsWholeText header bytes t
-unfolding stage_after
+unfolding next_stage
 from_parts header bytes [] t some parts e = absurd (omega arith)
 from_parts header bytes (l ∷ []) t some parts e = cut_off (more_bytes 0 (length l)) t e
 from_parts header bytes (l ∷ next ∷ ps) t some parts e = by (bytes_eq l (codes "swap transcript 1")) refl e

@@ -7,7 +7,7 @@ use Rattle.ledger_core.specs.declared.entry.Book.{Book}
 use Rattle.swap_job.specs.declared.job.Job.{Job}
 use Rattle.refusals.specs.declared.refusal.Refusal.{Refusal}
 use Rattle.transcript_lines.specs.Between.{parts_at}
-use Rattle.transcript_book.specs.Stages.{BookSoFar, is_over}
+use Rattle.transcript_book.specs.Stages.{BookSoFar, is_finished}
 use Rattle.command_input.specs.Input.{limit}
 use Rattle.transcript_reader.specs.declared.reason.TranscriptReason.{TranscriptReason}
 use Rattle.transcript_reader.specs.declared.reason.TranscriptReason.TheVariants.{BadLine, TooLong, CutShort}
@@ -34,11 +34,11 @@ story_so_far s = record { job = s.job; book = s.book }
 
 -- the book of ledgers of which the last line was read
 abbrev pub told : BookSoFar → Result Story TranscriptReason
-told s = if is_over s.place then Ok (story_so_far s) else Err CutShort
+told s = if is_finished s.place then Ok (story_so_far s) else Err CutShort
 
 -- no bytes stand after the last line
 abbrev pub ledgers_told : (lines bytes : ℕ) → BookSoFar → List ℕ → Result Story TranscriptReason
-ledgers_told lines bytes s rest = if is_over s.place && nat_lt 0 (length rest) then Err (BadLine (next_line lines)) else unless_long bytes (told s)
+ledgers_told lines bytes s rest = if is_finished s.place && nat_lt 0 (length rest) then Err (BadLine (next_line lines)) else unless_long bytes (told s)
 
 abbrev pub answer_at : Stage → Progress → List ℕ → Result Story TranscriptReason
 answer_at (Bad reason) p rest = Err reason
@@ -60,8 +60,8 @@ unfoldable pub transcript_read : (List ℕ → Result Job Refusal) → List ℕ 
 transcript_read header bytes = parts_read header no_lines (parts_at 10 bytes)
 
 -- the story of a job and its book
-abbrev pub story_of : Job × Book → Story
-story_of p = record { job = p.0; book = p.1.histories }
+abbrev pub job_story : Job × Book → Story
+job_story p = record { job = p.0; book = p.1.histories }
 
 -- What stands next after a header line, or the reason against it.
 abbrev pub Heads : Result Stage (Fault TranscriptReason) → Result Job Refusal → Type 0

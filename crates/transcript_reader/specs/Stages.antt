@@ -19,11 +19,11 @@ gone_on n (Ok s) = Ledgers s
 gone_on n (Err e) = Bad (BadLine n)
 
 -- what the line of number n makes of a stage, where header says what a header line gives; the first bad line stands
-unfoldable pub stage_after : (List ℕ → Result Job Refusal) → ℕ → Stage → List ℕ → Stage
-stage_after header n First line = if bytes_eq line (codes "swap transcript 1") then Header else Bad (BadLine n)
-stage_after header n Header line = headed (header line)
-stage_after header n (Ledgers s) line = gone_on n (line_read s line)
-stage_after header n (Bad reason) line = Bad reason
+unfoldable pub next_stage : (List ℕ → Result Job Refusal) → ℕ → Stage → List ℕ → Stage
+next_stage header n First line = if bytes_eq line (codes "swap transcript 1") then Header else Bad (BadLine n)
+next_stage header n Header line = headed (header line)
+next_stage header n (Ledgers s) line = gone_on n (line_read s line)
+next_stage header n (Bad reason) line = Bad reason
 
 -- What was read.
 pub record Progress : Type 0 where
@@ -45,7 +45,7 @@ more_bytes n k = min (n + k) (2 ^ 64 - 1)
 -- with one more line, which a line feed ended
 abbrev pub with_line : (List ℕ → Result Job Refusal) → Progress → List ℕ → Progress
 with_line header s line = record {
-  stage = stage_after header (next_line s.lines) s.stage line;
+  stage = next_stage header (next_line s.lines) s.stage line;
   lines = next_line s.lines;
   bytes = more_bytes s.bytes (length line + 1);
 }

@@ -3,7 +3,7 @@
 ghost use Rattle.std.specs.Prelude.{◌≡◌, IfOk, MatchOption, Ok, Err};
 ghost use Rattle.swap_base.specs.Fault.{Gives};
 ghost use Rattle.transcript_reader.specs.Header.{header_read, IsTold};
-ghost use Rattle.transcript_reader.specs.Reading.{ReadsLine, Story, finished, ledgers_told, story_of, story_so_far, unless_long};
+ghost use Rattle.transcript_reader.specs.Reading.{ReadsLine, Story, finished, ledgers_told, job_story, story_so_far, unless_long};
 ghost use Rattle.transcript_reader.specs.Stages.{no_lines, with_line};
 
 use crate::reason::{TranscriptFault, TranscriptReason};
@@ -70,7 +70,7 @@ impl TranscriptReader {
 
     /// The job and the book that the transcript states, where these bytes stand after the last line feed.
     pub fn finish(self, rest: &[u8]) -> Result<(Job, Book), TranscriptFault>
-        ensures exact { Gives story_of result (finished self rest.now) }
+        ensures exact { Gives job_story result (finished self rest.now) }
         ensures told { IfOk result (λ p. IsTold p.0) }
     {
         let lines = self.lines;
@@ -105,7 +105,7 @@ fn wrong_at_end(
     ensures { MatchOption result (ledgers_told lines bytes reader.now rest.now ≡ Ok (story_so_far reader.now))
         (λ r. ledgers_told lines bytes reader.now rest.now ≡ Err r) }
 {
-    if !reader.is_over() {
+    if !reader.is_finished() {
         Some(cut_or_long(bytes))
     } else if !rest.is_empty() {
         Some(TranscriptReason::BadLine(lines.saturating_add(1)))
@@ -124,7 +124,7 @@ fn told(
     rest: &[u8],
 ) -> Result<(Job, Book), TranscriptFault>
     requires { IsTold reader.job }
-    ensures exact { Gives story_of result (ledgers_told lines bytes reader rest.now) }
+    ensures exact { Gives job_story result (ledgers_told lines bytes reader rest.now) }
     ensures told { IfOk result (λ p. IsTold p.0) }
 {
     match wrong_at_end(&reader, lines, bytes, rest) {

@@ -5,7 +5,7 @@ ghost use Rattle.transcript_book.specs.Stages.{line_read};
 ghost use Rattle.transcript_reader.specs.declared.stage.Stage.TheVariants.{Ledgers};
 ghost use Rattle.transcript_reader.specs.Header.{header_read, IsToldAt};
 ghost use Rattle.transcript_reader.specs.Reading.{Heads, Turns};
-ghost use Rattle.transcript_reader.specs.Stages.{gone_on, stage_after};
+ghost use Rattle.transcript_reader.specs.Stages.{gone_on, next_stage};
 
 use crate::header::read_job;
 use crate::reason::{TranscriptFault, TranscriptReason};
@@ -45,7 +45,11 @@ fn after_header(alloc: Global, line: &[u8]) -> Result<Stage, TranscriptFault>
 }
 
 /// Reads a line of the ledgers, or the last line.
-fn read_on(reader: &mut BookReader, number: u32, line: &[u8]) -> Result<(), TranscriptFault>
+fn continue_reading(
+    reader: &mut BookReader,
+    number: u32,
+    line: &[u8],
+) -> Result<(), TranscriptFault>
     ensures turns { Turns result (Ledgers reader.old) (Ledgers reader.new) (gone_on number (line_read reader.old line.now)) }
     ensures job { reader.new.job ≡ reader.old.job }
 {
@@ -58,14 +62,14 @@ fn read_on(reader: &mut BookReader, number: u32, line: &[u8]) -> Result<(), Tran
 
 impl Stage {
     /// Reads the line of that number. A line that is bad, or for which memory runs out, changes nothing.
-    #[tactic(auto, unfolding(crate::specs::Stages::stage_after))]
+    #[tactic(auto, unfolding(crate::specs::Stages::next_stage))]
     pub(crate) fn read(
         &mut self,
         alloc: Global,
         number: u32,
         line: &[u8],
     ) -> Result<(), TranscriptFault>
-        ensures turns { Turns result self.old self.new (stage_after header_read number self.old line.now) }
+        ensures turns { Turns result self.old self.new (next_stage header_read number self.old line.now) }
         ensures told { IsToldAt self.old → IsToldAt self.new }
     {
         match self {
@@ -80,7 +84,7 @@ impl Stage {
                 *self = after_header(alloc, line)?;
                 Ok(())
             }
-            Stage::Ledgers(reader) => read_on(reader, number, line),
+            Stage::Ledgers(reader) => continue_reading(reader, number, line),
             Stage::Bad(reason) => Err(Fault::Refused(reason.copy()?)),
         }
     }

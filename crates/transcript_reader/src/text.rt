@@ -4,7 +4,7 @@ ghost use Rattle.std.specs.Prelude.{IfOk};
 ghost use Rattle.swap_base.specs.Fault.{Gives};
 ghost use Rattle.transcript_reader.specs.Header.{header_read, IsTold};
 ghost use Rattle.transcript_reader.specs.Laws.{IsWholeText};
-ghost use Rattle.transcript_reader.specs.Reading.{story_of, transcript_read};
+ghost use Rattle.transcript_reader.specs.Reading.{job_story, transcript_read};
 
 use crate::reader::TranscriptReader;
 use crate::reason::TranscriptFault;
@@ -15,8 +15,8 @@ use swap_job::Job;
 
 /// The job and the book that a transcript states.
 pub fn read_transcript(alloc: Global, bytes: &[u8]) -> Result<(Job, Book), TranscriptFault>
-    ensures exact { Gives story_of result (transcript_read header_read bytes.now) }
-    ensures whole { IfOk result (λ p. IsWholeText header_read bytes.now (story_of p)) }
+    ensures exact { Gives job_story result (transcript_read header_read bytes.now) }
+    ensures whole { IfOk result (λ p. IsWholeText header_read bytes.now (job_story p)) }
     ensures told { IfOk result (λ p. IsTold p.0) }
 {
     let mut reader = TranscriptReader::new(alloc);

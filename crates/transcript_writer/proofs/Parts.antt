@@ -5,7 +5,7 @@ use Rattle.swap_base.specs.Text.{lines}
 use Rattle.ledger_core.specs.declared.entry.Entry.{Entry}
 use Rattle.ledger_core.specs.declared.runs.Item.{Item}
 use Rattle.ledger_core.specs.Book.{Histories}
-use Rattle.ledger_core.specs.Runs.{entries_of, expand}
+use Rattle.ledger_core.specs.Runs.{ledger_entries, expand}
 use Rattle.swap_job.specs.declared.job.Job.{Job}
 use Rattle.transcript_lines.specs.Between.{ended}
 use Rattle.transcript_lines.specs.Lines.{entry_line, ledger_lines, lines_from, transcript}
@@ -32,7 +32,7 @@ of_items n [] last = refl
 of_items n (i ∷ items) last =
     append_assoc (item_text n i) (lines item_text (n + 1) items) (entries_text last)
     ∙ ap (λ (l : List ℕ). item_text n i ++ l) (of_items (n + 1) items last)
-    ∙ sym (ap entries_text (append_assoc (entries_of i) (expand items) last) ∙ entries_append 0 (entries_of i) (expand items ++ last))
+    ∙ sym (ap entries_text (append_assoc (ledger_entries i) (expand items) last) ∙ entries_append 0 (ledger_entries i) (expand items ++ last))
 
 pub of_entry : (e : Entry) → entry_text 0 e ≡ entries_text (e ∷ [])
 unfolding lines

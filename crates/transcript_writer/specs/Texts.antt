@@ -6,7 +6,7 @@ use Rattle.hash_signature.specs.declared.sig.Sig.{Sig}
 use Rattle.escrow_core.specs.declared.terms.Terms.{Terms}
 use Rattle.ledger_core.specs.declared.entry.Entry.{Entry}
 use Rattle.ledger_core.specs.declared.runs.Item.{Item}
-use Rattle.ledger_core.specs.Runs.{entries_of}
+use Rattle.ledger_core.specs.Runs.{ledger_entries}
 use Rattle.swap_job.specs.declared.job.Job.{Job}
 use Rattle.offer_text.specs.HeaderLine.{header_line}
 use Rattle.transcript_lines.specs.Words.{signature_word}
@@ -23,8 +23,8 @@ abbrev pub party_after : ℕ → ℕ → List ℕ
 party_after number p = 44 ∷ decimal p
 
 -- a signature after a comma
-abbrev pub signature_after : ℕ → Sig → List ℕ
-signature_after number s = 44 ∷ signature_word s
+abbrev pub signature_words : ℕ → Sig → List ℕ
+signature_words number s = 44 ∷ signature_word s
 
 -- the fields of a publish before its digests
 unfoldable pub numbers_text : Terms → List ℕ
@@ -43,7 +43,7 @@ entries_text h = lines entry_text 0 h
 
 -- the lines of the entries that an item stands for
 abbrev pub item_text : ℕ → Item → List ℕ
-item_text number item = entries_text (entries_of item)
+item_text number item = entries_text (ledger_entries item)
 
 -- the line before the entries of an arc, with its line feed
 abbrev pub count_text : ℕ → List Entry → List ℕ

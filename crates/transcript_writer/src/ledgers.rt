@@ -3,22 +3,22 @@
 ghost use Rattle.std.specs.Prelude.{◌≡◌, ◌≤◌, ◌++◌, ◌∷◌, ℕ, [], length, OnOk};
 ghost use Rattle.swap_base.specs.Text.{lines};
 ghost use Rattle.swap_io.specs.Handed.{Hands};
-ghost use Rattle.ledger_core.specs.Runs.{ticks_of};
+ghost use Rattle.ledger_core.specs.Runs.{run_ticks};
 ghost use Rattle.transcript_writer.specs.Texts.{count_text, entries_text, item_text, ledger_text};
 
 use crate::entry::{put_entry, put_tick};
 use ledger_core::{Book, Entry, EntryList, Item, Run};
 use swap_base::{ArcId, NoMemory, Piece, put};
-use swap_io::{Sink, TextFault, pass_on};
+use swap_io::{Sink, TextFault, flush_waiting};
 
 /// The lines of ticks, each handed on.
 fn write_ticks<K: Sink>(sink: &mut K, out: &mut Vec<u8>, run: Run) -> Result<(), TextFault>
     ensures { Hands (K.taken sink.old) (K.taken sink.new) (K.faults sink.old) (K.faults sink.new) out.old.items out.new.items
-        (entries_text (ticks_of run)) result }
+        (entries_text (run_ticks run)) result }
 {
     'ticks: for _ in 0..run.count {
         put_tick(out, run.by)?;
-        pass_on(sink, out)?;
+        flush_waiting(sink, out)?;
     }
     Ok(())
 }
@@ -29,7 +29,7 @@ fn write_entry<K: Sink>(sink: &mut K, out: &mut Vec<u8>, entry: &Entry) -> Resul
         (entries_text (entry.now ∷ [])) result }
 {
     put_entry(out, entry)?;
-    pass_on(sink, out)
+    flush_waiting(sink, out)
 }
 
 fn write_item<K: Sink>(sink: &mut K, out: &mut Vec<u8>, item: &Item) -> Result<(), TextFault>

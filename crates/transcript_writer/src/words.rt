@@ -4,7 +4,7 @@ ghost use Rattle.std.specs.Prelude.{◌≡◌, ◌∷◌, ◌++◌, OnOk, decima
 ghost use Rattle.hex.specs.Hex.{encode_lower};
 ghost use Rattle.swap_base.specs.Text.{lines};
 ghost use Rattle.transcript_lines.specs.Words.{list_word, signature_word};
-ghost use Rattle.transcript_writer.specs.Texts.{lock_after, party_after, signature_after};
+ghost use Rattle.transcript_writer.specs.Texts.{lock_after, party_after, signature_words};
 
 use escrow_core::LockList;
 use hash_signature::Sig;
@@ -82,14 +82,14 @@ fn put_signature(out: &mut Vec<u8>, sig: &Sig) -> Result<(), NoMemory>
 }
 
 fn put_next_signature(out: &mut Vec<u8>, sig: &Sig) -> Result<(), NoMemory>
-    ensures { OnOk result (out.new.items ≡ out.old.items ++ signature_after 0 sig.now) }
+    ensures { OnOk result (out.new.items ≡ out.old.items ++ signature_words 0 sig.now) }
 {
     put(out, &[Piece::Text(",")])?;
     put_signature(out, sig)
 }
 
 fn put_further_signatures(out: &mut Vec<u8>, sigs: &[Sig]) -> Result<(), NoMemory>
-    ensures { OnOk result (out.new.items ≡ out.old.items ++ lines signature_after 0 sigs.now) }
+    ensures { OnOk result (out.new.items ≡ out.old.items ++ lines signature_words 0 sigs.now) }
 {
     for sig in sigs {
         put_next_signature(out, sig)?;

@@ -3,7 +3,7 @@ use Rattle.std.proofs.Common.{Bool, List, None, Option, [], codes, false, is_som
 use Rattle.serde_json.specs.Data.{Data}
 use Rattle.serde_json.specs.Find.{get}
 use Rattle.refusals.specs.declared.reason.Reason.TheVariants.{Missing, NoSeed, EventInRace, NotConforming}
-use Rattle.offer_fields.specs.Fields.{needed, number_at, text_at, optional_number_at, object_at, only, object_of}
+use Rattle.offer_fields.specs.Fields.{needed, number_at, text_at, optional_number_at, object_at, only, parse_data}
 use Rattle.offer_moves.specs.Reading.{move_at}
 use Rattle.offer_events.specs.declared.raw.RawEvent.{RawEvent}
 use Rattle.swap_digraph.specs.declared.deal.Deal.{Deal}
@@ -13,17 +13,17 @@ use Rattle.swap_job.specs.declared.job.Purpose.TheVariants.{Race}
 use Rattle.swap_job.specs.declared.moves.Move.{Move}
 use Rattle.swap_job.specs.declared.moves.Move.TheVariants.{Craft}
 use Rattle.swap_job.specs.Crafted.{Seeds}
-use Rattle.offer_fields.specs.Limits.{number_within}
+use Rattle.offer_fields.specs.Limits.{ranged_number}
 use Rattle.offer_fields.specs.Names.{party_of_name}
 use Rattle.offer_moves.specs.declared.raw.RawMove.{RawMove}
-use Rattle.offer_moves.specs.Moves.{sizes_of, arc_of, move_of}
+use Rattle.offer_moves.specs.Moves.{deal_sizes, parse_arc, parse_move}
 use Rattle.offer_moves.specs.Placed.{deviating, adjacent, placed}
-use Rattle.offer_events.specs.Reading.{event_at, tick_at, look_at, act_at, call_at, crash_at}
+use Rattle.offer_events.specs.Reading.{event_at, tick_at, look_at, act_at, submit_call, crash_at}
 use Rattle.offer_events.specs.Event.{event_of_tick, event_of_look, event_of_act, each_seeded, needs_seeds, crafted_with_seeds, permitted, event_of_call}
 use Rattle.offer_events.specs.Event.{conforming_crash, event_of_crash}
 use Rattle.swap_job.specs.declared.event.Event.{Event}
 use Rattle.swap_job.specs.declared.event.Event.TheVariants as event_kinds
-use Rattle.offer_events.specs.Event.{checked, outside_race, asked, event_of}
+use Rattle.offer_events.specs.Event.{checked, outside_race, asked, parse_event}
 use Rattle.offer_events.specs.declared.raw.RawEvent.TheVariants as raws
 use Rattle.swap_job.specs.declared.job.Purpose.TheVariants as purpose_kinds
 use Rattle.swap_job.specs.declared.moves.Move.TheVariants as move_kinds
@@ -54,8 +54,8 @@ act_at_bare line d =
     onward (text_at line (codes "act") d) _ (text_at_bare line (codes "act") d)
     (λ name. onward (only line (codes "act" ∷ []) d) _ (only_bare line (codes "act" ∷ []) d) (λ u. landed _))
 
-pub call_at_bare : (line : ℕ) (d : Data) → Bare (call_at line d)
-unfolding call_at
+pub call_at_bare : (line : ℕ) (d : Data) → Bare (submit_call line d)
+unfolding submit_call
 call_at_bare line d =
     onward (text_at line (codes "call") d) _ (text_at_bare line (codes "call") d)
     (λ name. onward (needed line (codes "move") d) _ (needed_bare line (codes "move") d)
@@ -84,15 +84,15 @@ event_at_bare line d =
 pub event_of_tick_bare : (d : Deal) (line : ℕ) (n : ℕ) (by : Option ℕ) → Bare (event_of_tick d line n by)
 unfolding event_of_tick
 event_of_tick_bare d line n by =
-    onward (arc_of (sizes_of d) line (codes "tick") n) _ (arc_of_bare (sizes_of d) line (codes "tick") n)
-    (λ arc. onward (number_within line (codes "by") 1 1000000 (unwrap_or by 1))
+    onward (parse_arc (deal_sizes d) line (codes "tick") n) _ (arc_of_bare (deal_sizes d) line (codes "tick") n)
+    (λ arc. onward (ranged_number line (codes "by") 1 1000000 (unwrap_or by 1))
     _ (number_within_bare line (codes "by") 1 1000000 (unwrap_or by 1)) (λ heights. landed _))
 
 pub event_of_look_bare : (job : Job) (line : ℕ) (name : List ℕ) (n : ℕ) → Bare (event_of_look job line name n)
 unfolding event_of_look
 event_of_look_bare job line name n =
     onward (party_of_name line job.names name) _ (party_of_name_bare line job.names name)
-    (λ p. onward (arc_of (sizes_of job.deal) line (codes "arc") n) _ (arc_of_bare (sizes_of job.deal) line (codes "arc") n)
+    (λ p. onward (parse_arc (deal_sizes job.deal) line (codes "arc") n) _ (arc_of_bare (deal_sizes job.deal) line (codes "arc") n)
     (λ arc. onward (adjacent job.deal.graph.arcs line p arc) _ (adjacent_bare job.deal.graph.arcs line p arc) (λ u. landed _)))
 
 pub event_of_act_bare : (job : Job) (line : ℕ) (name : List ℕ) → Bare (event_of_act job line name)
@@ -123,7 +123,7 @@ pub event_of_call_bare : (job : Job) (line : ℕ) (name : List ℕ) (raw : RawMo
 unfolding event_of_call
 event_of_call_bare job line name raw =
     onward (party_of_name line job.names name) _ (party_of_name_bare line job.names name)
-    (λ p. onward (move_of (sizes_of job.deal) job.names line raw) _ (move_of_bare (sizes_of job.deal) job.names line raw)
+    (λ p. onward (parse_move (deal_sizes job.deal) job.names line raw) _ (move_of_bare (deal_sizes job.deal) job.names line raw)
     (λ mv. onward (deviating line (slice_index_or job.conforming p false)) _ (deviating_bare line (slice_index_or job.conforming p false))
     (λ u. onward (permitted job line p mv) _ (permitted_bare job line p mv) (λ w. landed _))))
 
@@ -131,8 +131,8 @@ pub event_of_crash_bare : (job : Job) (line : ℕ) (name : List ℕ) (n : ℕ) (
 unfolding event_of_crash
 event_of_crash_bare job line name n m =
     onward (party_of_name line job.names name) _ (party_of_name_bare line job.names name)
-    (λ p. onward (number_within line (codes "after") 0 3 n) _ (number_within_bare line (codes "after") 0 3 n)
-    (λ k. onward (number_within line (codes "image") 0 255 m) _ (number_within_bare line (codes "image") 0 255 m) (λ image. landed _)))
+    (λ p. onward (ranged_number line (codes "after") 0 3 n) _ (number_within_bare line (codes "after") 0 3 n)
+    (λ k. onward (ranged_number line (codes "image") 0 255 m) _ (number_within_bare line (codes "image") 0 255 m) (λ image. landed _)))
 
 pub checked_bare : (job : Job) (line : ℕ) (x2 : RawEvent) → Bare (checked job line x2)
 checked_bare job line (raws.Tick n by) = event_of_tick_bare job.deal line n by
@@ -163,8 +163,8 @@ asked_bare job line raw =
     (λ event. onward (outside_race line job.purpose) _ (outside_race_bare line job.purpose)
     (λ u. onward (conforming_crash job.conforming line event) _ (conforming_crash_bare job.conforming line event) (λ w. landed _)))
 
-pub event_of_bare : (job : Job) (line : ℕ) (text : List ℕ) → Bare (event_of job line text)
-unfolding event_of
+pub event_of_bare : (job : Job) (line : ℕ) (text : List ℕ) → Bare (parse_event job line text)
+unfolding parse_event
 event_of_bare job line text =
-    onward (object_of line text) _ (object_of_bare line text)
+    onward (parse_data line text) _ (object_of_bare line text)
     (λ d. onward (event_at line d) _ (event_at_bare line d) (λ raw. asked_bare job line raw))

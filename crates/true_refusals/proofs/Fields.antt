@@ -8,10 +8,10 @@ use Rattle.refusals.specs.declared.reason.Reason.{Reason}
 use Rattle.refusals.specs.declared.reason.Reason.TheVariants.{NotJson, Missing, WrongKind, UnknownField, OverLimit, WrongHex, Unknown}
 use Rattle.hex.specs.Hex.{decode_sized}
 use Rattle.hex.specs.declared.error.FromHexError.{FromHexError}
-use Rattle.offer_fields.specs.Fields.{object_or, object_of, kind, present, needed, number_at, text_at, word_at, optional_number, optional_number_at}
-use Rattle.offer_fields.specs.Fields.{first_unknown, no_unknown, only, listed, each, array_at, list_at, object_at, optional_text, optional_text_at}
+use Rattle.offer_fields.specs.Fields.{object_or, parse_data, kind, present, needed, number_at, text_at, word_at, optional_number, optional_number_at}
+use Rattle.offer_fields.specs.Fields.{first_unknown, no_unknown, only, listed, each, read_array_field, list_at, object_at, optional_text, optional_text_at}
 use Rattle.offer_fields.specs.Fields.{member_text_of}
-use Rattle.offer_fields.specs.Limits.{within, number_within, decoded, digest_of}
+use Rattle.offer_fields.specs.Limits.{within, ranged_number, decoded, to_digest}
 use Rattle.offer_fields.specs.Names.{found, party_of_name}
 use Rattle.true_refusals.proofs.Bare.{Bare, onward, landed, refused, choose, each_of_bare}
 
@@ -19,8 +19,8 @@ pub object_or_bare : (line : ℕ) (x1 : Option Data) → Bare (object_or line x1
 object_or_bare line (Some d) = choose (is_some (as_object d)) _ _ (landed _) (refused (NotJson line) tt)
 object_or_bare line None = refused (NotJson line) tt
 
-pub object_of_bare : (line : ℕ) (text : List ℕ) → Bare (object_of line text)
-unfolding object_of
+pub object_of_bare : (line : ℕ) (text : List ℕ) → Bare (parse_data line text)
+unfolding parse_data
 object_of_bare line text = choose (is_utf8 text) _ _ (object_or_bare line (read text)) (refused (NotJson line) tt)
 
 pub kind_bare : {A : Type 0} (line : ℕ) (field : List ℕ) (x2 : Option A) → Bare (kind line field x2)
@@ -44,8 +44,8 @@ pub text_at_bare : (line : ℕ) (field : List ℕ) (d : Data) → Bare (text_at 
 unfolding text_at
 text_at_bare line field d = onward (needed line field d) _ (needed_bare line field d) (λ value. kind_bare line field (as_str value))
 
-pub word_at_bare : {A : Type 0} (line : ℕ) (field : List ℕ) (word_of : List ℕ → Option A) (d : Data) → Bare (word_at line field word_of d)
-word_at_bare line field word_of d = onward (text_at line field d) _ (text_at_bare line field d) (λ word. kind_bare line field (word_of word))
+pub word_at_bare : {A : Type 0} (line : ℕ) (field : List ℕ) (choice_word : List ℕ → Option A) (d : Data) → Bare (word_at line field choice_word d)
+word_at_bare line field choice_word d = onward (text_at line field d) _ (text_at_bare line field d) (λ word. kind_bare line field (choice_word word))
 
 pub optional_number_bare : (line : ℕ) (field : List ℕ) (x2 : Option Data) → Bare (optional_number line field x2)
 optional_number_bare line field None = landed _
@@ -64,8 +64,8 @@ pub only_bare : (line : ℕ) (allowed : List (List ℕ)) (d : Data) → Bare (on
 unfolding only
 only_bare line allowed d = no_unknown_bare line (option_and_then (first_unknown allowed) (as_object d))
 
-pub array_at_bare : (line : ℕ) (field : List ℕ) (d : Data) → Bare (array_at line field d)
-unfolding array_at
+pub array_at_bare : (line : ℕ) (field : List ℕ) (d : Data) → Bare (read_array_field line field d)
+unfolding read_array_field
 array_at_bare line field d = onward (needed line field d) _ (needed_bare line field d) (λ value. kind_bare line field (as_array value))
 
 pub object_at_bare : (line : ℕ) (field : List ℕ) (d : Data) → Bare (object_at line field d)
@@ -88,16 +88,16 @@ pub within_bare : (line : ℕ) (field : List ℕ) (low : ℕ) (high : ℕ) (n : 
 unfolding within
 within_bare line field low high n = choose (nat_le low n && nat_le n high) _ _ (landed _) (refused (OverLimit line field n) tt)
 
-pub number_within_bare : (line : ℕ) (field : List ℕ) (low : ℕ) (high : ℕ) (n : ℕ) → Bare (number_within line field low high n)
-unfolding number_within
+pub number_within_bare : (line : ℕ) (field : List ℕ) (low : ℕ) (high : ℕ) (n : ℕ) → Bare (ranged_number line field low high n)
+unfolding ranged_number
 number_within_bare line field low high n = onward (within line field low high n) _ (within_bare line field low high n) (λ u. landed _)
 
 pub decoded_bare : (line : ℕ) (field : List ℕ) (x2 : Result (List ℕ) FromHexError) → Bare (decoded line field x2)
 decoded_bare line field (Ok bytes) = landed _
 decoded_bare line field (Err e) = refused (WrongHex line field) tt
 
-pub digest_of_bare : (line : ℕ) (field : List ℕ) (text : List ℕ) → Bare (digest_of line field text)
-unfolding digest_of
+pub digest_of_bare : (line : ℕ) (field : List ℕ) (text : List ℕ) → Bare (to_digest line field text)
+unfolding to_digest
 digest_of_bare line field text = decoded_bare line field (decode_sized text 32)
 
 pub found_bare : (line : ℕ) (name : List ℕ) (x2 : Option ℕ) → Bare (found line name x2)
@@ -115,4 +115,4 @@ each_bare f h ds = each_of_bare f h (listed ds)
 pub list_at_bare : {A : Type 0} (line : ℕ) (field : List ℕ) (f : Data → Result A Reason) → ((d : Data) → Bare (f d)) → (d : Data)
     → Bare (list_at line field f d)
 unfolding list_at
-list_at_bare line field f h d = onward (array_at line field d) _ (array_at_bare line field d) (λ items. each_bare f h items)
+list_at_bare line field f h d = onward (read_array_field line field d) _ (array_at_bare line field d) (λ items. each_bare f h items)

@@ -7,8 +7,8 @@ use Rattle.swap_digraph.specs.Deal.{most_arcs, most_parties}
 use Rattle.swap_job.specs.declared.job.Purpose.{Purpose}
 use Rattle.offer_moves.specs.declared.moves.Sizes.{Sizes}
 use Rattle.offer_moves.specs.declared.raw.RawMove.{RawMove}
-use Rattle.offer_moves.specs.Moves.{move_of}
-use Rattle.offer_fields.specs.Limits.{number_within, within, digest_of}
+use Rattle.offer_moves.specs.Moves.{parse_move}
+use Rattle.offer_fields.specs.Limits.{ranged_number, within, to_digest}
 use Rattle.offer_fields.specs.Lists.{each_of}
 use Rattle.offer_header.specs.Raw.{is_plain}
 use Rattle.offer_header.specs.declared.raw.RawActor.{RawActor}
@@ -19,16 +19,18 @@ use Rattle.offer_header.specs.declared.raw.RawLeader.{RawLeader}
 use Rattle.offer_header.specs.declared.raw.RawRow.{RawRow}
 use Rattle.offer_header.specs.declared.raw.RawHeader.{RawHeader}
 use Rattle.offer_header.specs.declared.names.Numbered.{Numbered}
-use Rattle.offer_header.specs.Limits.{seed_or_none, checked_seed, script_role, checked_role, acting_of, parties_of, sizes_in, terms_of, all_terms_of}
-use Rattle.offer_header.specs.Limits.{hashlock_of}
-use Rattle.offer_header.specs.Limits.{hashlocks_by, hashlocks_of, key_digest, party_keys_of, stated_keys_of, keys_by, keys_of, parts_of, limited_of}
+use Rattle.offer_header.specs.Limits.{seed_or_none, checked_seed, script_role, checked_role, parse_acting, count_parties, header_sizes, stated_terms}
+use Rattle.offer_header.specs.Limits.{parse_all_terms}
+use Rattle.offer_header.specs.Limits.{lock_hashlock}
+use Rattle.offer_header.specs.Limits.{read_hashlocks, hashlocks_of, key_digest, party_keys_of, stated_keys_of, read_listed_keys, derived_keys}
+use Rattle.offer_header.specs.Limits.{parts_of, limited_of}
 use Rattle.true_refusals.proofs.Bare.{Bare, onward, landed, each_of_bare}
 use Rattle.true_refusals.proofs.Fields.{within_bare, number_within_bare, digest_of_bare}
 use Rattle.true_refusals.proofs.Moves.{move_of_bare}
 
 pub seed_or_none_bare : (line : ℕ) (x1 : Option (List ℕ)) → Bare (seed_or_none line x1)
 seed_or_none_bare line None = landed _
-seed_or_none_bare line (Some text) = onward (digest_of line (codes "seed") text) _ (digest_of_bare line (codes "seed") text) (λ seed. landed _)
+seed_or_none_bare line (Some text) = onward (to_digest line (codes "seed") text) _ (digest_of_bare line (codes "seed") text) (λ seed. landed _)
 
 pub seed_of_bare : (line : ℕ) (p : RawParty) → Bare (checked_seed line p)
 unfolding checked_seed
@@ -38,8 +40,8 @@ pub script_role_bare : (sizes : Sizes) (names : List (List ℕ)) (line : ℕ) (r
 unfolding script_role
 script_role_bare sizes names line raws =
     onward (within line (codes "script") 0 1000 (length raws)) _ (within_bare line (codes "script") 0 1000 (length raws))
-    (λ u. onward (each_of (move_of sizes names line) raws)
-    _ (each_of_bare (move_of sizes names line) (move_of_bare sizes names line) raws) (λ moves. landed _))
+    (λ u. onward (each_of (parse_move sizes names line) raws)
+    _ (each_of_bare (parse_move sizes names line) (move_of_bare sizes names line) raws) (λ moves. landed _))
 
 pub role_of_bare : (sizes : Sizes) (names : List (List ℕ)) (line : ℕ) (x3 : RawActor) → Bare (checked_role sizes names line x3)
 role_of_bare sizes names line Conforming = landed _
@@ -47,39 +49,39 @@ role_of_bare sizes names line Manual = landed _
 role_of_bare sizes names line (Script raws) = script_role_bare sizes names line raws
 role_of_bare sizes names line (Strategy name) = landed _
 
-pub acting_of_bare : (sizes : Sizes) (names : List (List ℕ)) (line : ℕ) (p : RawParty) → Bare (acting_of sizes names line p)
-unfolding acting_of
+pub acting_of_bare : (sizes : Sizes) (names : List (List ℕ)) (line : ℕ) (p : RawParty) → Bare (parse_acting sizes names line p)
+unfolding parse_acting
 acting_of_bare sizes names line p =
     onward (checked_role sizes names line p.actor) _ (role_of_bare sizes names line p.actor)
     (λ role. onward (checked_seed line p) _ (seed_of_bare line p) (λ seed. landed _))
 
 pub parties_of_bare : (version : Version) (sizes : Sizes) (names : List (List ℕ)) (line : ℕ) (parties : List RawParty)
-    → Bare (parties_of version sizes names line parties)
-unfolding parties_of
+    → Bare (count_parties version sizes names line parties)
+unfolding count_parties
 parties_of_bare version sizes names line parties =
     onward (within line (codes "parties") 2 (most_parties version) (length parties)) _ (within_bare line (codes "parties") 2 (most_parties version)
-    (length parties)) (λ u. each_of_bare (acting_of sizes names line) (acting_of_bare sizes names line) parties)
+    (length parties)) (λ u. each_of_bare (parse_acting sizes names line) (acting_of_bare sizes names line) parties)
 
-pub terms_of_bare : (line : ℕ) (a : RawArc) → Bare (terms_of line a)
-unfolding terms_of
+pub terms_of_bare : (line : ℕ) (a : RawArc) → Bare (stated_terms line a)
+unfolding stated_terms
 terms_of_bare line a =
     onward (within line (codes "amount") 1 (10 ^ 12) a.amount) _ (within_bare line (codes "amount") 1 (10 ^ 12) a.amount)
-    (λ u. onward (number_within line (codes "timelock") 0 1000000 a.timelock)
+    (λ u. onward (ranged_number line (codes "timelock") 0 1000000 a.timelock)
     _ (number_within_bare line (codes "timelock") 0 1000000 a.timelock) (λ timelock. landed _))
 
-pub all_terms_of_bare : (version : Version) (line : ℕ) (arcs : List RawArc) → Bare (all_terms_of version line arcs)
-unfolding all_terms_of
+pub all_terms_of_bare : (version : Version) (line : ℕ) (arcs : List RawArc) → Bare (parse_all_terms version line arcs)
+unfolding parse_all_terms
 all_terms_of_bare version line arcs =
     onward (within line (codes "arcs") 2 (most_arcs version) (length arcs))
-    _ (within_bare line (codes "arcs") 2 (most_arcs version) (length arcs)) (λ u. each_of_bare (terms_of line) (terms_of_bare line) arcs)
+    _ (within_bare line (codes "arcs") 2 (most_arcs version) (length arcs)) (λ u. each_of_bare (stated_terms line) (terms_of_bare line) arcs)
 
-pub hashlock_of_bare : (line : ℕ) (l : RawLeader) → Bare (hashlock_of line l)
-unfolding hashlock_of
+pub hashlock_of_bare : (line : ℕ) (l : RawLeader) → Bare (lock_hashlock line l)
+unfolding lock_hashlock
 hashlock_of_bare line l = digest_of_bare line (codes "hashlock") l.hashlock
 
-pub hashlocks_by_bare : (true : Bool) (line : ℕ) (leaders : List RawLeader) → Bare (hashlocks_by true line leaders)
+pub hashlocks_by_bare : (true : Bool) (line : ℕ) (leaders : List RawLeader) → Bare (read_hashlocks true line leaders)
 hashlocks_by_bare true line leaders = landed _
-hashlocks_by_bare false line leaders = each_of_bare (hashlock_of line) (hashlock_of_bare line) leaders
+hashlocks_by_bare false line leaders = each_of_bare (lock_hashlock line) (hashlock_of_bare line) leaders
 
 pub hashlocks_of_bare : (plain : Bool) (line : ℕ) (leaders : List RawLeader) → Bare (hashlocks_of plain line leaders)
 unfolding hashlocks_of
@@ -103,27 +105,27 @@ stated_keys_of_bare line h =
     onward (within line (codes "keys") (length h.parties) (length h.parties) (length h.keys)) _ (within_bare line (codes "keys") (length h.parties)
     (length h.parties) (length h.keys)) (λ u. each_of_bare (party_keys_of (length h.leaders) line) (party_keys_of_bare (length h.leaders) line) h.keys)
 
-pub keys_by_bare : (true : Bool) (line : ℕ) (h : RawHeader) → Bare (keys_by true line h)
+pub keys_by_bare : (true : Bool) (line : ℕ) (h : RawHeader) → Bare (read_listed_keys true line h)
 keys_by_bare true line h = landed _
 keys_by_bare false line h = stated_keys_of_bare line h
 
-pub keys_of_bare : (x0 : Mode) (plain : Bool) (line : ℕ) (h : RawHeader) → Bare (keys_of x0 plain line h)
+pub keys_of_bare : (x0 : Mode) (plain : Bool) (line : ℕ) (h : RawHeader) → Bare (derived_keys x0 plain line h)
 keys_of_bare Timelocks plain line h = landed _
 keys_of_bare Hashkeys plain line h = keys_by_bare plain line h
 
 pub parts_of_bare : (purpose : Purpose) (line : ℕ) (raw : RawHeader) (numbered : Numbered) (start : ℕ) (delta : ℕ) (bound : ℕ)
     → Bare (parts_of purpose line raw numbered start delta bound)
 parts_of_bare purpose line raw numbered start delta bound =
-    onward (parties_of raw.version (sizes_in raw) numbered.names line raw.parties)
-    _ (parties_of_bare raw.version (sizes_in raw) numbered.names line raw.parties)
-    (λ parties. onward (all_terms_of raw.version line raw.arcs) _ (all_terms_of_bare raw.version line raw.arcs)
+    onward (count_parties raw.version (header_sizes raw) numbered.names line raw.parties)
+    _ (parties_of_bare raw.version (header_sizes raw) numbered.names line raw.parties)
+    (λ parties. onward (parse_all_terms raw.version line raw.arcs) _ (all_terms_of_bare raw.version line raw.arcs)
     (λ terms. onward (hashlocks_of (is_plain purpose) line raw.leaders) _ (hashlocks_of_bare (is_plain purpose) line raw.leaders)
-    (λ hashlocks. onward (keys_of raw.mode (is_plain purpose) line raw) _ (keys_of_bare raw.mode (is_plain purpose) line raw) (λ keys. landed _))))
+    (λ hashlocks. onward (derived_keys raw.mode (is_plain purpose) line raw) _ (keys_of_bare raw.mode (is_plain purpose) line raw) (λ keys. landed _))))
 
 pub limited_of_bare : (purpose : Purpose) (line : ℕ) (raw : RawHeader) (numbered : Numbered) → Bare (limited_of purpose line raw numbered)
 unfolding limited_of
 limited_of_bare purpose line raw numbered =
-    onward (number_within line (codes "start") 1 1000 raw.start) _ (number_within_bare line (codes "start") 1 1000 raw.start)
-    (λ start. onward (number_within line (codes "delta") 1 100 raw.delta) _ (number_within_bare line (codes "delta") 1 100 raw.delta)
-    (λ delta. onward (number_within line (codes "bound") 1 64 raw.bound)
+    onward (ranged_number line (codes "start") 1 1000 raw.start) _ (number_within_bare line (codes "start") 1 1000 raw.start)
+    (λ start. onward (ranged_number line (codes "delta") 1 100 raw.delta) _ (number_within_bare line (codes "delta") 1 100 raw.delta)
+    (λ delta. onward (ranged_number line (codes "bound") 1 64 raw.bound)
     _ (number_within_bare line (codes "bound") 1 64 raw.bound) (λ bound. parts_of_bare purpose line raw numbered start delta bound)))

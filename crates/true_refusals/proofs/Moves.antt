@@ -2,7 +2,7 @@
 use Rattle.std.proofs.Common.{List, None, Option, Some, codes, length, nat_lt, ℕ}
 use Rattle.hex.specs.Hex.{decode_sized}
 use Rattle.refusals.specs.declared.reason.Reason.TheVariants.{OverLimit}
-use Rattle.offer_fields.specs.Limits.{number_within, within, decoded, digest_of}
+use Rattle.offer_fields.specs.Limits.{ranged_number, within, decoded, to_digest}
 use Rattle.offer_fields.specs.Lists.{each_of}
 use Rattle.offer_fields.specs.Names.{party_of_name}
 use Rattle.offer_moves.specs.declared.moves.Sizes.{Sizes}
@@ -10,45 +10,46 @@ use Rattle.offer_moves.specs.declared.raw.RawTerms.{RawTerms}
 use Rattle.offer_moves.specs.declared.raw.RawKey.{RawKey}
 use Rattle.offer_moves.specs.declared.raw.RawCraft.{RawCraft}
 use Rattle.offer_moves.specs.declared.raw.RawMove.{RawMove}
-use Rattle.offer_moves.specs.Limits.{number_below, optional_most, optional_locks, sig_of, locks_of}
-use Rattle.offer_moves.specs.Moves.{arc_of, publish_of, optional_arc, craft_of, replay_of, key_of, unlock_of, claim_of, refund_of, transfer_of, wait_of}
-use Rattle.offer_moves.specs.Moves.{move_of}
+use Rattle.offer_moves.specs.Limits.{bounded_number, optional_most, optional_locks, parse_sig, parse_locks}
+use Rattle.offer_moves.specs.Moves.{parse_arc, make_publish, optional_arc, parse_craft, parse_replay, key_of, parse_unlock, parse_claim, parse_refund}
+use Rattle.offer_moves.specs.Moves.{parse_transfer, parse_wait}
+use Rattle.offer_moves.specs.Moves.{parse_move}
 use Rattle.offer_moves.specs.declared.raw.RawMove.TheVariants as raws
 use Rattle.true_refusals.proofs.Bare.{Bare, onward, landed, refused, choose, each_of_bare}
 use Rattle.true_refusals.proofs.Fields.{within_bare, number_within_bare, decoded_bare, digest_of_bare, party_of_name_bare}
 
-pub number_below_bare : (line : ℕ) (field : List ℕ) (count : ℕ) (n : ℕ) → Bare (number_below line field count n)
-unfolding number_below
+pub number_below_bare : (line : ℕ) (field : List ℕ) (count : ℕ) (n : ℕ) → Bare (bounded_number line field count n)
+unfolding bounded_number
 number_below_bare line field count n = choose (nat_lt n count) _ _ (landed _) (refused (OverLimit line field n) tt)
 
 pub optional_most_bare : (line : ℕ) (field : List ℕ) (high : ℕ) (x3 : Option ℕ) → Bare (optional_most line field high x3)
 optional_most_bare line field high None = landed _
-optional_most_bare line field high (Some n) = onward (number_within line field 0 high n) _ (number_within_bare line field 0 high n) (λ m. landed _)
+optional_most_bare line field high (Some n) = onward (ranged_number line field 0 high n) _ (number_within_bare line field 0 high n) (λ m. landed _)
 
-pub locks_of_bare : (line : ℕ) (count : ℕ) (texts : List (List ℕ)) → Bare (locks_of line count texts)
-unfolding locks_of
+pub locks_of_bare : (line : ℕ) (count : ℕ) (texts : List (List ℕ)) → Bare (parse_locks line count texts)
+unfolding parse_locks
 locks_of_bare line count texts =
     onward (within line (codes "locks") count count (length texts)) _ (within_bare line (codes "locks") count count (length texts))
-    (λ u. onward (each_of (digest_of line (codes "locks")) texts)
-    _ (each_of_bare (digest_of line (codes "locks")) (digest_of_bare line (codes "locks")) texts) (λ digests. landed _))
+    (λ u. onward (each_of (to_digest line (codes "locks")) texts)
+    _ (each_of_bare (to_digest line (codes "locks")) (digest_of_bare line (codes "locks")) texts) (λ digests. landed _))
 
 pub optional_locks_bare : (line : ℕ) (count : ℕ) (x2 : Option (List (List ℕ))) → Bare (optional_locks line count x2)
 optional_locks_bare line count None = landed _
-optional_locks_bare line count (Some texts) = onward (locks_of line count texts) _ (locks_of_bare line count texts) (λ locks. landed _)
+optional_locks_bare line count (Some texts) = onward (parse_locks line count texts) _ (locks_of_bare line count texts) (λ locks. landed _)
 
-pub sig_of_bare : (line : ℕ) (text : List ℕ) → Bare (sig_of line text)
-unfolding sig_of
+pub sig_of_bare : (line : ℕ) (text : List ℕ) → Bare (parse_sig line text)
+unfolding parse_sig
 sig_of_bare line text =
     onward (decoded line (codes "sigs") (decode_sized text 2144)) _ (decoded_bare line (codes "sigs") (decode_sized text 2144)) (λ bytes. landed _)
 
-pub arc_of_bare : (s : Sizes) (line : ℕ) (field : List ℕ) (n : ℕ) → Bare (arc_of s line field n)
-unfolding arc_of
+pub arc_of_bare : (s : Sizes) (line : ℕ) (field : List ℕ) (n : ℕ) → Bare (parse_arc s line field n)
+unfolding parse_arc
 arc_of_bare s line field n = number_below_bare line field s.arcs n
 
-pub publish_of_bare : (s : Sizes) (line : ℕ) (n : ℕ) (t : RawTerms) → Bare (publish_of s line n t)
-unfolding publish_of
+pub publish_of_bare : (s : Sizes) (line : ℕ) (n : ℕ) (t : RawTerms) → Bare (make_publish s line n t)
+unfolding make_publish
 publish_of_bare s line n t =
-    onward (arc_of s line (codes "arc") n) _ (arc_of_bare s line (codes "arc") n)
+    onward (parse_arc s line (codes "arc") n) _ (arc_of_bare s line (codes "arc") n)
     (λ arc. onward (optional_most line (codes "start") 1000000 t.start) _ (optional_most_bare line (codes "start") 1000000 t.start)
     (λ start. onward (optional_most line (codes "delta") 1000000 t.delta) _ (optional_most_bare line (codes "delta") 1000000 t.delta)
     (λ delta. onward (optional_most line (codes "bound") 1000000 t.bound) _ (optional_most_bare line (codes "bound") 1000000 t.bound)
@@ -58,63 +59,63 @@ publish_of_bare s line n t =
 
 pub optional_arc_bare : (s : Sizes) (line : ℕ) (field : List ℕ) (x3 : Option ℕ) → Bare (optional_arc s line field x3)
 optional_arc_bare s line field None = landed _
-optional_arc_bare s line field (Some n) = onward (arc_of s line field n) _ (arc_of_bare s line field n) (λ arc. landed _)
+optional_arc_bare s line field (Some n) = onward (parse_arc s line field n) _ (arc_of_bare s line field n) (λ arc. landed _)
 
-pub craft_of_bare : (s : Sizes) (names : List (List ℕ)) (line : ℕ) (n : ℕ) (k : RawCraft) → Bare (craft_of s names line n k)
-unfolding craft_of
+pub craft_of_bare : (s : Sizes) (names : List (List ℕ)) (line : ℕ) (n : ℕ) (k : RawCraft) → Bare (parse_craft s names line n k)
+unfolding parse_craft
 craft_of_bare s names line n k =
     onward (each_of (party_of_name line names) k.via) _ (each_of_bare (party_of_name line names) (party_of_name_bare line names) k.via)
-    (λ via. onward (arc_of s line (codes "arc") n) _ (arc_of_bare s line (codes "arc") n)
-    (λ arc. onward (number_below line (codes "lock") s.locks k.lock) _ (number_below_bare line (codes "lock") s.locks k.lock)
+    (λ via. onward (parse_arc s line (codes "arc") n) _ (arc_of_bare s line (codes "arc") n)
+    (λ arc. onward (bounded_number line (codes "lock") s.locks k.lock) _ (number_below_bare line (codes "lock") s.locks k.lock)
     (λ lock. onward (within line (codes "via") 1 s.path (length k.via)) _ (within_bare line (codes "via") 1 s.path (length k.via))
     (λ u. onward (optional_arc s line (codes "onto") k.onto) _ (optional_arc_bare s line (codes "onto") k.onto) (λ onto. landed _)))))
 
-pub replay_of_bare : (s : Sizes) (line : ℕ) (n : ℕ) (m : ℕ) (k : ℕ) → Bare (replay_of s line n m k)
-unfolding replay_of
+pub replay_of_bare : (s : Sizes) (line : ℕ) (n : ℕ) (m : ℕ) (k : ℕ) → Bare (parse_replay s line n m k)
+unfolding parse_replay
 replay_of_bare s line n m k =
-    onward (arc_of s line (codes "arc") n) _ (arc_of_bare s line (codes "arc") n)
-    (λ arc. onward (number_below line (codes "lock") s.locks m) _ (number_below_bare line (codes "lock") s.locks m)
-    (λ lock. onward (arc_of s line (codes "onto") k) _ (arc_of_bare s line (codes "onto") k) (λ onto. landed _)))
+    onward (parse_arc s line (codes "arc") n) _ (arc_of_bare s line (codes "arc") n)
+    (λ arc. onward (bounded_number line (codes "lock") s.locks m) _ (number_below_bare line (codes "lock") s.locks m)
+    (λ lock. onward (parse_arc s line (codes "onto") k) _ (arc_of_bare s line (codes "onto") k) (λ onto. landed _)))
 
 pub key_of_bare : (s : Sizes) (line : ℕ) (path : List ℕ) (k : RawKey) → Bare (key_of s line path k)
 unfolding key_of
 key_of_bare s line path k =
-    onward (number_below line (codes "lock") s.locks k.lock) _ (number_below_bare line (codes "lock") s.locks k.lock)
-    (λ lock. onward (digest_of line (codes "secret") k.secret) _ (digest_of_bare line (codes "secret") k.secret)
+    onward (bounded_number line (codes "lock") s.locks k.lock) _ (number_below_bare line (codes "lock") s.locks k.lock)
+    (λ lock. onward (to_digest line (codes "secret") k.secret) _ (digest_of_bare line (codes "secret") k.secret)
     (λ secret. onward (within line (codes "path") 0 s.path (length k.path)) _ (within_bare line (codes "path") 0 s.path (length k.path))
     (λ u. onward (within line (codes "sigs") 0 s.path (length k.sigs)) _ (within_bare line (codes "sigs") 0 s.path (length k.sigs))
-    (λ w. onward (each_of (sig_of line) k.sigs) _ (each_of_bare (sig_of line) (sig_of_bare line) k.sigs) (λ sigs. landed _)))))
+    (λ w. onward (each_of (parse_sig line) k.sigs) _ (each_of_bare (parse_sig line) (sig_of_bare line) k.sigs) (λ sigs. landed _)))))
 
-pub unlock_of_bare : (s : Sizes) (names : List (List ℕ)) (line : ℕ) (n : ℕ) (k : RawKey) → Bare (unlock_of s names line n k)
-unfolding unlock_of
+pub unlock_of_bare : (s : Sizes) (names : List (List ℕ)) (line : ℕ) (n : ℕ) (k : RawKey) → Bare (parse_unlock s names line n k)
+unfolding parse_unlock
 unlock_of_bare s names line n k =
     onward (each_of (party_of_name line names) k.path) _ (each_of_bare (party_of_name line names) (party_of_name_bare line names) k.path)
-    (λ path. onward (arc_of s line (codes "arc") n) _ (arc_of_bare s line (codes "arc") n)
+    (λ path. onward (parse_arc s line (codes "arc") n) _ (arc_of_bare s line (codes "arc") n)
     (λ arc. onward (key_of s line path k) _ (key_of_bare s line path k) (λ key. landed _)))
 
-pub claim_of_bare : (s : Sizes) (line : ℕ) (n : ℕ) → Bare (claim_of s line n)
-unfolding claim_of
-claim_of_bare s line n = onward (arc_of s line (codes "arc") n) _ (arc_of_bare s line (codes "arc") n) (λ arc. landed _)
+pub claim_of_bare : (s : Sizes) (line : ℕ) (n : ℕ) → Bare (parse_claim s line n)
+unfolding parse_claim
+claim_of_bare s line n = onward (parse_arc s line (codes "arc") n) _ (arc_of_bare s line (codes "arc") n) (λ arc. landed _)
 
-pub refund_of_bare : (s : Sizes) (line : ℕ) (n : ℕ) → Bare (refund_of s line n)
-unfolding refund_of
-refund_of_bare s line n = onward (arc_of s line (codes "arc") n) _ (arc_of_bare s line (codes "arc") n) (λ arc. landed _)
+pub refund_of_bare : (s : Sizes) (line : ℕ) (n : ℕ) → Bare (parse_refund s line n)
+unfolding parse_refund
+refund_of_bare s line n = onward (parse_arc s line (codes "arc") n) _ (arc_of_bare s line (codes "arc") n) (λ arc. landed _)
 
-pub transfer_of_bare : (s : Sizes) (names : List (List ℕ)) (line : ℕ) (n : ℕ) (name : List ℕ) (m : ℕ) → Bare (transfer_of s names line n name m)
-unfolding transfer_of
+pub transfer_of_bare : (s : Sizes) (names : List (List ℕ)) (line : ℕ) (n : ℕ) (name : List ℕ) (m : ℕ) → Bare (parse_transfer s names line n name m)
+unfolding parse_transfer
 transfer_of_bare s names line n name m =
     onward (party_of_name line names name) _ (party_of_name_bare line names name)
-    (λ to. onward (arc_of s line (codes "arc") n) _ (arc_of_bare s line (codes "arc") n)
-    (λ arc. onward (number_within line (codes "units") 0 1000000000000 m)
+    (λ to. onward (parse_arc s line (codes "arc") n) _ (arc_of_bare s line (codes "arc") n)
+    (λ arc. onward (ranged_number line (codes "units") 0 1000000000000 m)
     _ (number_within_bare line (codes "units") 0 1000000000000 m) (λ units. landed _)))
 
-pub wait_of_bare : (s : Sizes) (line : ℕ) (n : ℕ) (m : ℕ) → Bare (wait_of s line n m)
-unfolding wait_of
+pub wait_of_bare : (s : Sizes) (line : ℕ) (n : ℕ) (m : ℕ) → Bare (parse_wait s line n m)
+unfolding parse_wait
 wait_of_bare s line n m =
-    onward (arc_of s line (codes "arc") n) _ (arc_of_bare s line (codes "arc") n)
-    (λ arc. onward (number_within line (codes "height") 0 1000000 m) _ (number_within_bare line (codes "height") 0 1000000 m) (λ height. landed _))
+    onward (parse_arc s line (codes "arc") n) _ (arc_of_bare s line (codes "arc") n)
+    (λ arc. onward (ranged_number line (codes "height") 0 1000000 m) _ (number_within_bare line (codes "height") 0 1000000 m) (λ height. landed _))
 
-pub move_of_bare : (s : Sizes) (names : List (List ℕ)) (line : ℕ) (x3 : RawMove) → Bare (move_of s names line x3)
+pub move_of_bare : (s : Sizes) (names : List (List ℕ)) (line : ℕ) (x3 : RawMove) → Bare (parse_move s names line x3)
 move_of_bare s names line (raws.Publish n t) = publish_of_bare s line n t
 move_of_bare s names line (raws.Craft n k) = craft_of_bare s names line n k
 move_of_bare s names line (raws.Replay n lock onto) = replay_of_bare s line n lock onto

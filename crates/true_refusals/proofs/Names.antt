@@ -15,7 +15,7 @@ use Rattle.offer_header.specs.declared.raw.RawArc.{RawArc}
 use Rattle.offer_header.specs.declared.raw.RawLeader.{RawLeader}
 use Rattle.offer_header.specs.declared.raw.RawHeader.{RawHeader}
 use Rattle.offer_header.specs.Names.{is_name, known, all_known, move_known, strategy_known, actor_known, name_added, name_step, names_stated, named_ends}
-use Rattle.offer_header.specs.Names.{leader_step, numbered_by, numbered_among, numbered_of}
+use Rattle.offer_header.specs.Names.{leader_step, resolve_numbers, assign_checked_numbers, numbered_of}
 use Rattle.offer_moves.specs.declared.raw.RawMove.TheVariants as raw_kinds
 use Rattle.offer_header.specs.declared.raw.RawActor.TheVariants as actor_kinds
 use Rattle.true_refusals.proofs.Bare.{Bare, onward, landed, refused, choose, each_of_bare, steps_bare}
@@ -72,13 +72,13 @@ leader_step_bare line names seen l =
     onward (party_of_name line names l.party) _ (party_of_name_bare line names l.party)
     (λ k. choose (list_any (λ n. nat_eq n k) seen) _ _ (refused (Duplicate line l.party) tt) (landed _))
 
-pub numbered_by_bare : (line : ℕ) (names : List (List ℕ)) (h : RawHeader) → Bare (numbered_by line names h)
+pub numbered_by_bare : (line : ℕ) (names : List (List ℕ)) (h : RawHeader) → Bare (resolve_numbers line names h)
 numbered_by_bare line names h =
     onward (each_of (named_ends line names) h.arcs) _ (each_of_bare (named_ends line names) (ends_of_bare line names) h.arcs)
     (λ arcs. onward (steps (leader_step line names) [] h.leaders)
     _ (steps_bare (leader_step line names) (leader_step_bare line names) [] h.leaders) (λ leaders. landed _))
 
-pub numbered_among_bare : (has : List ℕ → Bool) (line : ℕ) (all : List (List ℕ)) (h : RawHeader) → Bare (numbered_among has line all h)
+pub numbered_among_bare : (has : List ℕ → Bool) (line : ℕ) (all : List (List ℕ)) (h : RawHeader) → Bare (assign_checked_numbers has line all h)
 numbered_among_bare has line all h =
     onward (steps (name_step has line all) [] h.parties)
     _ (steps_bare (name_step has line all) (name_step_bare has line all) [] h.parties) (λ names. numbered_by_bare line names h)

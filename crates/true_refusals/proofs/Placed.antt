@@ -2,7 +2,7 @@
 use Rattle.std.proofs.Common.{Bool, List, false, slice_index_or, ℕ, ◌==◌, ◌||◌}
 use Rattle.std.specs.List.{list_any}
 use Rattle.swap_digraph.specs.declared.arc_ends.ArcEnds.{ArcEnds}
-use Rattle.swap_digraph.specs.Graph.{ends_in}
+use Rattle.swap_digraph.specs.Graph.{resolve_all_ends}
 use Rattle.swap_job.specs.declared.moves.Move.{Move}
 use Rattle.swap_job.specs.declared.moves.Move.TheVariants.{Craft, Transfer}
 use Rattle.swap_job.specs.Resolved.{move_arc}
@@ -17,7 +17,8 @@ deviating_bare line is_conforming = choose is_conforming _ _ (refused (Conformin
 
 pub adjacent_bare : (arcs : List ArcEnds) (line : ℕ) (p : ℕ) (a : ℕ) → Bare (adjacent arcs line p a)
 unfolding adjacent
-adjacent_bare arcs line p a = choose ((p == (ends_in arcs a).from) || (p == (ends_in arcs a).to)) _ _ (landed _) (refused (NotAdjacent line) tt)
+adjacent_bare arcs line p a = choose ((p == (resolve_all_ends arcs a).from) || (p == (resolve_all_ends arcs a).to)) _ _ (landed _) (refused
+    (NotAdjacent line) tt)
 
 pub received_bare : (arcs : List ArcEnds) (line : ℕ) (x2 : Move) → Bare (received arcs line x2)
 received_bare arcs line (Transfer a to units) = adjacent_bare arcs line to a

@@ -14,10 +14,11 @@ use Rattle.offer_fields.specs.Fields.{kind, number_at, text_at, optional_text_at
 use Rattle.offer_moves.specs.Reading.{scripted_at}
 use Rattle.offer_header.specs.declared.raw.Front.{Front}
 use Rattle.offer_header.specs.declared.raw.Reading.{Reading}
-use Rattle.offer_header.specs.Raw.{is_plain, states_timelocks, states_keys, script_at, strategy_at, planned_actor, object_actor, actor_of_word, actor_of}
-use Rattle.offer_header.specs.Raw.{actor_or_conforming, actor_at, seed_at, party_fields, party_of, timelock_at, arc_fields, arc_between, raw_arc_of}
+use Rattle.offer_header.specs.Raw.{is_plain, states_timelocks, states_keys, script_at, strategy_at, planned_actor, object_actor, actor_of_word, new_actor}
+use Rattle.offer_header.specs.Raw.{actor_or_conforming, actor_at, seed_at, party_fields, parse_party, timelock_at, arc_fields, read_arc, raw_arc_of}
 use Rattle.offer_header.specs.Raw.{hashlock_at}
-use Rattle.offer_header.specs.Raw.{leader_fields, raw_leader_of, row_of, keys_at, version_of, version_at, mode_of, mode_for, stated_mode_at, mode_at}
+use Rattle.offer_header.specs.Raw.{leader_fields, raw_leader_of, parse_row, keys_at, parse_version, version_at, parse_mode, checked_mode}
+use Rattle.offer_header.specs.Raw.{stated_mode_at, mode_at}
 use Rattle.offer_header.specs.Raw.{finish_of_word, finish_or_stop, stated_finish_at, finish_at, header_fields, lists_of, raw_of}
 use Rattle.swap_job.specs.declared.job.Purpose.TheVariants as purpose_kinds
 use Rattle.true_refusals.proofs.Bare.{Bare, onward, landed, refused, choose}
@@ -52,7 +53,7 @@ actor_of_word_bare line word =
     choose (bytes_eq word (codes "conforming"))
     _ _ (landed _) (choose (bytes_eq word (codes "manual")) _ _ (landed _) (refused (WrongKind line (codes "actor")) tt))
 
-pub actor_of_bare : (line : ℕ) (purpose : Purpose) (d : Data) → Bare (actor_of line purpose d)
+pub actor_of_bare : (line : ℕ) (purpose : Purpose) (d : Data) → Bare (new_actor line purpose d)
 actor_of_bare line purpose d =
     choose (is_some (as_object d)) _ _ (object_actor_bare line purpose d) (onward (member_text_of line (codes "actor") d) _ (member_text_of_bare line
     (codes "actor") d) (λ word. actor_of_word_bare line word))
@@ -72,8 +73,8 @@ seed_at_bare line purpose_kinds.Run d = optional_text_at_bare line (codes "seed"
 seed_at_bare line purpose_kinds.Race d = optional_text_at_bare line (codes "seed") d
 seed_at_bare line purpose_kinds.Make d = optional_text_at_bare line (codes "seed") d
 
-pub party_of_bare : (reading : Reading) (line : ℕ) (d : Data) → Bare (party_of reading line d)
-unfolding party_of
+pub party_of_bare : (reading : Reading) (line : ℕ) (d : Data) → Bare (parse_party reading line d)
+unfolding parse_party
 party_of_bare reading line d =
     onward (object_at line (codes "parties") d) _ (object_at_bare line (codes "parties") d)
     (λ o. onward (text_at line (codes "name") d) _ (text_at_bare line (codes "name") d)
@@ -84,7 +85,7 @@ party_of_bare reading line d =
 pub timelock_at_bare : (line : ℕ) (stated : Bool) (d : Data) → Bare (timelock_at line stated d)
 timelock_at_bare line stated d = choose stated _ _ (number_at_bare line (codes "timelock") d) (landed _)
 
-pub arc_between_bare : (stated : Bool) (line : ℕ) (d : Data) (from : List ℕ) (to : List ℕ) → Bare (arc_between stated line d from to)
+pub arc_between_bare : (stated : Bool) (line : ℕ) (d : Data) (from : List ℕ) (to : List ℕ) → Bare (read_arc stated line d from to)
 arc_between_bare stated line d from to =
     onward (number_at line (codes "amount") d) _ (number_at_bare line (codes "amount") d)
     (λ amount. onward (timelock_at line stated d) _ (timelock_at_bare line stated d)
@@ -110,31 +111,31 @@ leader_of_bare reading line d =
     (λ hashlock. onward (only line (leader_fields (is_plain reading.purpose)) d)
     _ (only_bare line (leader_fields (is_plain reading.purpose)) d) (λ u. landed _))))
 
-pub row_of_bare : (line : ℕ) (d : Data) → Bare (row_of line d)
-unfolding row_of
+pub row_of_bare : (line : ℕ) (d : Data) → Bare (parse_row line d)
+unfolding parse_row
 row_of_bare line d =
     onward (kind line (codes "keys") (as_array d)) _ (kind_bare line (codes "keys") (as_array d))
     (λ items. onward (each (member_text_of line (codes "keys")) items)
     _ (each_bare (member_text_of line (codes "keys")) (member_text_of_bare line (codes "keys")) items) (λ texts. landed _))
 
 pub keys_at_bare : (line : ℕ) (stated : Bool) (d : Data) → Bare (keys_at line stated d)
-keys_at_bare line stated d = choose stated _ _ (list_at_bare line (codes "keys") (row_of line) (row_of_bare line) d) (landed _)
+keys_at_bare line stated d = choose stated _ _ (list_at_bare line (codes "keys") (parse_row line) (row_of_bare line) d) (landed _)
 
-pub version_of_bare : (line : ℕ) (n : ℕ) → Bare (version_of line n)
+pub version_of_bare : (line : ℕ) (n : ℕ) → Bare (parse_version line n)
 version_of_bare line n = choose (n == 1) _ _ (landed _) (choose (n == 2) _ _ (landed _) (refused (WrongKind line (codes "swap")) tt))
 
 pub version_at_bare : (line : ℕ) (d : Data) → Bare (version_at line d)
 unfolding version_at
 version_at_bare line d = onward (number_at line (codes "swap") d) _ (number_at_bare line (codes "swap") d) (λ n. version_of_bare line n)
 
-pub mode_for_bare : (line : ℕ) (x1 : Version) (mode : Mode) → Bare (mode_for line x1 mode)
+pub mode_for_bare : (line : ℕ) (x1 : Version) (mode : Mode) → Bare (checked_mode line x1 mode)
 mode_for_bare line One mode = landed _
 mode_for_bare line Two Timelocks = refused (WrongKind line (codes "mode")) tt
 mode_for_bare line Two Hashkeys = landed _
 
 pub stated_mode_at_bare : (line : ℕ) (d : Data) → Bare (stated_mode_at line d)
 unfolding stated_mode_at
-stated_mode_at_bare line d = word_at_bare line (codes "mode") mode_of d
+stated_mode_at_bare line d = word_at_bare line (codes "mode") parse_mode d
 
 pub mode_at_bare : (line : ℕ) (version : Version) (d : Data) → Bare (mode_at line version d)
 unfolding mode_at
@@ -163,8 +164,8 @@ finish_at_bare line purpose_kinds.Make d = stated_finish_at_bare line d
 
 pub lists_of_bare : (purpose : Purpose) (front : Front) (line : ℕ) (d : Data) → Bare (lists_of purpose front line d)
 lists_of_bare purpose front line d =
-    onward (list_at line (codes "parties") (party_of (record { purpose = purpose; mode = front.mode }) line) d) _ (list_at_bare line (codes "parties")
-    (party_of (record { purpose = purpose; mode = front.mode }) line) (party_of_bare (record { purpose = purpose; mode = front.mode }) line) d)
+    onward (list_at line (codes "parties") (parse_party (record { purpose = purpose; mode = front.mode }) line) d) _ (list_at_bare line (codes "parties")
+    (parse_party (record { purpose = purpose; mode = front.mode }) line) (party_of_bare (record { purpose = purpose; mode = front.mode }) line) d)
     (λ parties. onward (list_at line (codes "arcs") (raw_arc_of (record { purpose = purpose; mode = front.mode }) line) d) _ (list_at_bare line
     (codes "arcs") (raw_arc_of (record { purpose = purpose; mode = front.mode }) line) (arc_of_bare (record { purpose = purpose; mode = front.mode }) line) d)
     (λ arcs. onward (list_at line (codes "leaders") (raw_leader_of (record { purpose = purpose; mode = front.mode }) line) d) _ (list_at_bare line

@@ -6,7 +6,8 @@ use Rattle.serde_json.specs.Find.{get, as_array}
 use Rattle.refusals.specs.declared.reason.Reason.TheVariants.{WrongKind}
 use Rattle.offer_fields.specs.Fields.{kind, number_at, text_at, optional_number_at, object_at, only, member_text_of}
 use Rattle.offer_moves.specs.declared.raw.MoveKind.{MoveKind}
-use Rattle.offer_moves.specs.Reading.{texts_of, optional_texts, optional_texts_at, texts_at, wait_of, kind_of, kind_at, terms_at, publish_fields, publish_at}
+use Rattle.offer_moves.specs.Reading.{list_texts, optional_texts, optional_texts_at, texts_at, parse_wait, kind_of, kind_at, terms_at, publish_fields}
+use Rattle.offer_moves.specs.Reading.{publish_at}
 use Rattle.offer_moves.specs.Reading.{crafting_at, craft_fields, craft_at, replay_fields, replay_at, key_at, raw_fields, raw_at, plain_fields, claim_at}
 use Rattle.offer_moves.specs.Reading.{refund_at, transfer_fields, transfer_at, wait_fields, wait_at, rest_at, move_at, scripted_at}
 use Rattle.offer_moves.specs.declared.raw.MoveKind.TheVariants as kinds
@@ -14,15 +15,15 @@ use Rattle.true_refusals.proofs.Bare.{Bare, onward, landed, refused, choose}
 use Rattle.true_refusals.proofs.Fields.{kind_bare, number_at_bare, text_at_bare, optional_number_at_bare, only_bare, object_at_bare, member_text_of_bare}
 use Rattle.true_refusals.proofs.Fields.{each_bare, list_at_bare}
 
-pub texts_of_bare : (line : ℕ) (field : List ℕ) (items : Option Items) → Bare (texts_of line field items)
-unfolding texts_of
+pub texts_of_bare : (line : ℕ) (field : List ℕ) (items : Option Items) → Bare (list_texts line field items)
+unfolding list_texts
 texts_of_bare line field items =
     onward (kind line field items)
     _ (kind_bare line field items) (λ members. each_bare (member_text_of line field) (member_text_of_bare line field) members)
 
 pub optional_texts_bare : (line : ℕ) (field : List ℕ) (x2 : Option Data) → Bare (optional_texts line field x2)
 optional_texts_bare line field None = landed _
-optional_texts_bare line field (Some d) = onward (texts_of line field (as_array d)) _ (texts_of_bare line field (as_array d)) (λ texts. landed _)
+optional_texts_bare line field (Some d) = onward (list_texts line field (as_array d)) _ (texts_of_bare line field (as_array d)) (λ texts. landed _)
 
 pub optional_texts_at_bare : (line : ℕ) (field : List ℕ) (d : Data) → Bare (optional_texts_at line field d)
 unfolding optional_texts_at
@@ -32,7 +33,7 @@ pub texts_at_bare : (line : ℕ) (field : List ℕ) (d : Data) → Bare (texts_a
 unfolding texts_at
 texts_at_bare line field d = list_at_bare line field (member_text_of line field) (member_text_of_bare line field) d
 
-pub wait_of_bare : (line : ℕ) (scripted : Bool) (word : List ℕ) → Bare (wait_of line scripted word)
+pub wait_of_bare : (line : ℕ) (scripted : Bool) (word : List ℕ) → Bare (parse_wait line scripted word)
 wait_of_bare line scripted word = choose (scripted && bytes_eq word (codes "wait")) _ _ (landed _) (refused (WrongKind line (codes "do")) tt)
 
 pub kind_of_bare : (line : ℕ) (scripted : Bool) (word : List ℕ) → Bare (kind_of line scripted word)

@@ -8,19 +8,20 @@ use Rattle.swap_job.specs.declared.job.Purpose.{Purpose}
 use Rattle.refusals.specs.Refusal.{named, refusal}
 use Rattle.refusals.specs.declared.reason.Reason.{Reason}
 use Rattle.refusals.specs.declared.reason.Reason.TheVariants.{NotFeedback, NotJson, NotStrong, OverLimit}
-use Rattle.offer_fields.specs.Fields.{object_of}
+use Rattle.offer_fields.specs.Fields.{parse_data}
 use Rattle.offer_fields.proofs.Chains.{went}
-use Rattle.offer_header.specs.Header.{header_by, header_of, IsHeaderWithin}
+use Rattle.offer_header.specs.Header.{resolve_header, parse_whole_header, IsHeaderWithin}
 use Rattle.offer_header.specs.Raw.{is_plain, raw_of}
 use Rattle.offer_header.specs.declared.header.Header.{Header}
 use Rattle.offer_header.proofs.Fitting.{read_so}
 use Rattle.swap_offer.specs.Certificates.{IsCertified}
-use Rattle.swap_offer.specs.Job.{accepted_of, counted, events_for, events_of, events_unless, job_header_of, job_of, limited_event, job_of_lines}
-use Rattle.command_input.specs.Lines.{filled_lines, lines_of}
+use Rattle.swap_offer.specs.Job.{accepted_entries, counted, parse_job_events, parse_events, events_unless, job_header_of, parse_job, limited_event}
+use Rattle.swap_offer.specs.Job.{job_of_lines}
+use Rattle.command_input.specs.Lines.{filled_lines, collect_lines}
 use Rattle.swap_offer.proofs.Certified.{certifies}
 use Rattle.command_input.specs.Written.{Written}
 use Rattle.made_jobs.specs.Making.{made_text}
-use Rattle.swap_commands.specs.Output.{book_of, output_by, output_for, plain_text, purpose_of, reported, told, Chance}
+use Rattle.swap_commands.specs.Output.{collected_book, output_by, job_output, plain_text, command_purpose, reported, told, Chance}
 use Rattle.swap_commands.specs.Words.{OfJob, JobCommand, Check, Make, Race, Run}
 use Rattle.true_refusals.specs.Laws.{NamedCyclesAreOfFollowers, NamedSetsAreClosed, Proposes}
 use Rattle.true_refusals.proofs.Bare.{choose, landed, onward, refused, steps_bare, Bare, IsBare}
@@ -33,12 +34,12 @@ next_of_bare : (job : Job) (count line : ℕ) (text : List ℕ) → Bare (limite
 unfolding limited_event
 next_of_bare job count line text = choose (count == 200000) _ _ (refused (OverLimit line (codes "events") 200001) tt) (event_of_bare job line text)
 
-events_of_bare : (job : Job) (count : ℕ) (ls : List (ℕ × List ℕ)) → Bare (events_of job count ls)
-unfolding events_of
+events_of_bare : (job : Job) (count : ℕ) (ls : List (ℕ × List ℕ)) → Bare (parse_events job count ls)
+unfolding parse_events
 events_of_bare job count [] = landed _
 events_of_bare job count (l ∷ ls) =
     onward (limited_event job count l.0 l.1) _ (next_of_bare job count l.0 l.1)
-    (λ e. onward (events_of job (count + 1) ls) _ (events_of_bare job (count + 1) ls) (λ es. landed _))
+    (λ e. onward (parse_events job (count + 1) ls) _ (events_of_bare job (count + 1) ls) (λ es. landed _))
 
 counted_bare : (count : ℕ) (l : ℕ × List ℕ) → Bare (counted count l)
 unfolding counted
@@ -50,14 +51,15 @@ events_unless_bare false job ls = events_of_bare job 0 ls
 
 -- What is said against a header that was read.
 
-is_within : (has : List ℕ → Bool) (purpose : Purpose) (line : ℕ) (text : List ℕ) (h : Header) → header_of has purpose line text ≡ Ok h → IsHeaderWithin h
-unfolding header_of
-is_within has purpose line text h e =
-    let d = went (object_of line text) (λ d. raw_of purpose line d >>= λ raw. header_by has purpose line raw) h e in
-    let raw = went (raw_of purpose line d.0) (λ raw. header_by has purpose line raw) h d.2 in
+set_contains_ends : (has : List ℕ → Bool) (purpose : Purpose) (line : ℕ) (text : List ℕ) (h : Header) → parse_whole_header has purpose line text ≡ Ok h
+    → IsHeaderWithin h
+unfolding parse_whole_header
+set_contains_ends has purpose line text h e =
+    let d = went (parse_data line text) (λ d. raw_of purpose line d >>= λ raw. resolve_header has purpose line raw) h e in
+    let raw = went (raw_of purpose line d.0) (λ raw. resolve_header has purpose line raw) h d.2 in
     read_so has purpose line d.0 raw.0 (Ok h) IsHeaderWithin raw.1 raw.2 (λ x k. k.within)
 
-certified : (h : Header) → IsHeaderWithin h → (reason : Reason) → accepted_of h ≡ Err reason → IsCertified h reason
+certified : (h : Header) → IsHeaderWithin h → (reason : Reason) → accepted_entries h ≡ Err reason → IsCertified h reason
 certified h k reason e =
     certifies h k (λ (j : Job). j) [] (Err (fault.Refused (refusal [] reason))) (ap (λ (r : Result Job Reason). named [] r) e)
 
@@ -68,8 +70,8 @@ module _ (has : List ℕ → Bool) (purpose : Purpose) (input : List ℕ) (reaso
   abbrev Shown : Type 0
   Shown = Proposes has purpose input (λ h. IsCertified h reason)
 
-  of_header : (line : ℕ) (text : List ℕ) (others : List (ℕ × List ℕ)) → filled_lines 1 (lines_of input) ≡ (line, text) ∷ others
-      → (read : Result Header Reason) → header_of has purpose line text ≡ read → (read >>= λ h. accepted_of h) ≡ Err reason → Shown
+  of_header : (line : ℕ) (text : List ℕ) (others : List (ℕ × List ℕ)) → filled_lines 1 (collect_lines input) ≡ (line, text) ∷ others
+      → (read : Result Header Reason) → parse_whole_header has purpose line text ≡ read → (read >>= λ h. accepted_entries h) ≡ Err reason → Shown
   of_header line text others first (Ok h) is e = record {
     line = line;
     text = text;
@@ -77,35 +79,35 @@ module _ (has : List ℕ → Bool) (purpose : Purpose) (input : List ℕ) (reaso
     first = first;
     header = h;
     read = is;
-    told = certified h (is_within has purpose line text h is) reason e;
+    told = certified h (set_contains_ends has purpose line text h is) reason e;
   }
   of_header line text others first (Err k) is e =
       absurd (shows (header_of_bare has purpose line text reason (is ∙ err_is {A = Job} {B = Header} k reason e)))
 
-  of_first : (line : ℕ) (text : List ℕ) (others : List (ℕ × List ℕ)) → filled_lines 1 (lines_of input) ≡ (line, text) ∷ others
+  of_first : (line : ℕ) (text : List ℕ) (others : List (ℕ × List ℕ)) → filled_lines 1 (collect_lines input) ≡ (line, text) ∷ others
       → job_header_of has purpose line text ≡ Err reason → Shown
   unfolding job_header_of
-  of_first line text others first e = of_header line text others first (header_of has purpose line text) refl e
+  of_first line text others first e = of_header line text others first (parse_whole_header has purpose line text) refl e
 
   abbrev with_events : Job → List Event → Result (Job × List Event) Reason
   with_events job events = Ok (job, events)
 
-  of_read : (line : ℕ) (text : List ℕ) (others : List (ℕ × List ℕ)) → filled_lines 1 (lines_of input) ≡ (line, text) ∷ others
+  of_read : (line : ℕ) (text : List ℕ) (others : List (ℕ × List ℕ)) → filled_lines 1 (collect_lines input) ≡ (line, text) ∷ others
       → (read : Result Job Reason) → job_header_of has purpose line text ≡ read
-      → (read >>= λ job. events_for purpose job others >>= λ events. with_events job events) ≡ Err reason → Shown
+      → (read >>= λ job. parse_job_events purpose job others >>= λ events. with_events job events) ≡ Err reason → Shown
   of_read line text others first (Ok job) is e =
-      absurd (shows (onward (events_for purpose job others) (with_events job) (events_unless_bare (is_plain purpose) job others) (λ events. landed _)
+      absurd (shows (onward (parse_job_events purpose job others) (with_events job) (events_unless_bare (is_plain purpose) job others) (λ events. landed _)
       reason e))
   of_read line text others first (Err k) is e =
       of_first line text others first (is ∙ err_is {A = Job × List Event} {B = Job} k reason e)
 
-  of_all : (ls : List (ℕ × List ℕ)) → filled_lines 1 (lines_of input) ≡ ls → job_of_lines has purpose ls ≡ Err reason → Shown
+  of_all : (ls : List (ℕ × List ℕ)) → filled_lines 1 (collect_lines input) ≡ ls → job_of_lines has purpose ls ≡ Err reason → Shown
   of_all [] first e = absurd (shows (refused {A = Job × List Event} (NotJson 1) tt reason e))
   of_all (l ∷ ls) first e = of_read l.0 l.1 ls first (job_header_of has purpose l.0 l.1) refl e
 
-  pub of_offer : job_of has purpose input ≡ Err reason → Shown
-  unfolding job_of
-  of_offer e = of_all (filled_lines 1 (lines_of input)) refl e
+  pub of_offer : parse_job has purpose input ≡ Err reason → Shown
+  unfolding parse_job
+  of_offer e = of_all (filled_lines 1 (collect_lines input)) refl e
 
 -- What a command writes of an input that is read is no refusal.
 
@@ -115,22 +117,22 @@ from_read g (Ok j) reason e = absurd (cc e)
 from_read g (Err k) reason e = err_is {A = Written} {B = Job × List Event} k reason e
 
 from_output : (chance : Chance) (command : JobCommand) (ls : List (ℕ × List ℕ)) (read : Result (Job × List Event) Reason) (reason : Reason)
-    → output_for chance command ls read ≡ Err reason → read ≡ Err reason
-from_output chance (Run transcript) ls read reason e = from_read (λ j. reported transcript j.0 (book_of chance.answers j.0 j.1)) read reason e
+    → job_output chance command ls read ≡ Err reason → read ≡ Err reason
+from_output chance (Run transcript) ls read reason e = from_read (λ j. reported transcript j.0 (collected_book chance.answers j.0 j.1)) read reason e
 from_output chance (Race ticks transcript) ls read reason e = from_read (λ j. reported transcript j.0 chance.book) read reason e
 from_output chance Check ls read reason e = from_read (λ j. told j.0) read reason e
 from_output chance Make ls read reason e = from_read (λ j. plain_text (made_text j.0 (drop 1 ls))) read reason e
 
 offer_refused : (has : List ℕ → Bool) (chance : Chance) (command : JobCommand) (input : List ℕ) (reason : Reason)
-    → output_by has chance (OfJob command) input ≡ Err reason → job_of has (purpose_of command) input ≡ Err reason
+    → output_by has chance (OfJob command) input ≡ Err reason → parse_job has (command_purpose command) input ≡ Err reason
 unfolding output_by
 offer_refused has chance command input reason e =
-    from_output chance command (filled_lines 1 (lines_of input)) (job_of has (purpose_of command) input) reason e
+    from_output chance command (filled_lines 1 (collect_lines input)) (parse_job has (command_purpose command) input) reason e
 
 pub named_sets_are_closed : NamedSetsAreClosed
 named_sets_are_closed has chance command input set e =
-    of_offer has (purpose_of command) input (NotStrong set) (λ bare. bare) (offer_refused has chance command input (NotStrong set) e)
+    of_offer has (command_purpose command) input (NotStrong set) (λ bare. bare) (offer_refused has chance command input (NotStrong set) e)
 
 pub named_cycles_are_of_followers : NamedCyclesAreOfFollowers
 named_cycles_are_of_followers has chance command input cycle e =
-    of_offer has (purpose_of command) input (NotFeedback cycle) (λ bare. bare) (offer_refused has chance command input (NotFeedback cycle) e)
+    of_offer has (command_purpose command) input (NotFeedback cycle) (λ bare. bare) (offer_refused has chance command input (NotFeedback cycle) e)

@@ -594,9 +594,10 @@ module _ {T E : Type 0} (history : T → List E) (author : E → ℕ) (start : L
       }
 
   -- a number in the list has its part
-  part_of : (P : Part E → Type 0) (k : ℕ) (ps : List (Part E)) → AllByRecursion P ps → IsTrue (has_number k ps) → (p : Part E) × (p.0 ≡ k) × P p
-  part_of P k [] h e = absurd (off e)
-  part_of P k (p ∷ ps) h e = dite (ℕ_discrete p.0 k) (λ is. (p, is, h.0)) (λ ne. part_of P k ps h.1 (ap (λ b. b || has_number k ps) (sym (ne_eqb p.0 k ne))
+  bounded_part : (P : Part E → Type 0) (k : ℕ) (ps : List (Part E)) → AllByRecursion P ps → IsTrue (has_number k ps) → (p : Part E) × (p.0 ≡ k) × P p
+  bounded_part P k [] h e = absurd (off e)
+  bounded_part P k (p ∷ ps) h e = dite (ℕ_discrete p.0 k) (λ is. (p, is, h.0)) (λ ne. bounded_part P k ps h.1 (ap (λ b. b || has_number k ps) (sym
+      (ne_eqb p.0 k ne))
       ∙ e))
 
   -- at the end, a seat with every number
@@ -607,7 +608,7 @@ module _ {T E : Type 0} (history : T → List E) (author : E → ℕ) (start : L
     where
       go : (p : Phase T) → f.1.0.phase ≡ p → (x : T) × (get_elem? slots 0 ≡ core.some (Some x)) × AllByRecursion (Covers author (history x)) v.parts
       go early is = let stands = subst (Stands history author start seats f.1.0.current f.1.0.claimed f.0.views) is f.1.0.stands in
-          let o = part_of (Own f.1.0.owner f.1.0.current f.1.0.claimed id) 0 v.parts (f.1.0.views id v f.1.1).own (all 0 some_seats) in
+          let o = bounded_part (Own f.1.0.owner f.1.0.current f.1.0.claimed id) 0 v.parts (f.1.0.views id v f.1.1).own (all 0 some_seats) in
           absurd (one_or_none (sym (ap (λ n. bit_at f.1.0.claimed n) (sym o.1) ∙ o.2.claim) ∙ stands.1))
       go (home x) is = let stands = subst (Stands history author start seats f.1.0.current f.1.0.claimed f.0.views) is f.1.0.stands in (
         x,
@@ -620,7 +621,7 @@ module _ {T E : Type 0} (history : T → List E) (author : E → ℕ) (start : L
           let sees = f.1.0.views j w stands.0.1 in
           let turn = (sees.turn stands.0.2).1 in
           let o = (subst (AllByRecursion (Own f.1.0.owner f.1.0.current f.1.0.claimed j)) turn.1 sees.own).0 in
-          let mine = part_of (Own f.1.0.owner f.1.0.current f.1.0.claimed id) turn.0 v.parts (f.1.0.views id v f.1.1).own (all turn.0 o.below) in
+          let mine = bounded_part (Own f.1.0.owner f.1.0.current f.1.0.claimed id) turn.0 v.parts (f.1.0.views id v f.1.1).own (all turn.0 o.below) in
           absurd (holder_apart f.0.views id j v w f.1.1 idle stands.0.1 stands.0.2 (sym o.place ∙ (ap f.1.0.owner (sym mine.1) ∙ mine.2.place)))
 
 pub seats_snoc : {T E : Type 0} (lock : TableId) (start : List E) (k : ℕ) (ss : List (Seat (Option T) (View E))) (s : Seat (Option T) (View E))

@@ -96,24 +96,24 @@ busy o k h = (turning o k h, (0, None) ∷ [])
 
 module _ {T E : Type 0} where
   -- the history that the lock was made with
-  abbrev pub opening_of : Sat T E → List E
-  opening_of m = m.0.opening
+  abbrev pub key_opening : Sat T E → List E
+  key_opening m = m.0.opening
 
   -- the seat's one number
   abbrev pub number_of : Sat T E → ℕ
   number_of m = number_in m.0.parts
 
   -- the history that the seat knows
-  abbrev pub known_of : Sat T E → List E
-  known_of m = known_in m.0.parts
+  abbrev pub known_key : Sat T E → List E
+  known_key m = known_in m.0.parts
 
   -- it has one number, and no turn
   abbrev pub IsIdle : Sat T E → Type 0
-  IsIdle m = m ≡ idle (opening_of m) (number_of m) (known_of m)
+  IsIdle m = m ≡ idle (key_opening m) (number_of m) (known_key m)
 
   -- it has one number, and the turn, whose value is out
   abbrev pub IsBusy : Sat T E → Type 0
-  IsBusy m = m ≡ busy (opening_of m) (number_of m) (known_of m)
+  IsBusy m = m ≡ busy (key_opening m) (number_of m) (known_key m)
 
   -- it has no turn
   abbrev pub IsResting : Sat T E → Type 0

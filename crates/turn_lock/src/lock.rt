@@ -3,7 +3,7 @@
 ghost use Rattle.std.specs.Prelude.{◌≡◌, ℕ, ◌+◌, ◌<◌, ◌≤◌, [], ◌∷◌, ◌++◌, length, vec_len, vec_capacity, false, IfOk, IfErr, IsTrue};
 ghost use Rattle.std.specs.List.{AllByRecursion};
 ghost use Rattle.turn_lock.specs.Parts.{AreBelow, IsContinuedBy, has_number, Covers};
-ghost use Rattle.turn_lock.specs.Turns.{idle, busy, both_of, opening_of, number_of, known_of, IsIdle, IsBusy, IsResting, SeatsFrom};
+ghost use Rattle.turn_lock.specs.Turns.{idle, busy, both_of, key_opening, number_of, known_key, IsIdle, IsBusy, IsResting, SeatsFrom};
 
 use crate::journal::Journal;
 use crate::plays::{Glue, Take};
@@ -75,8 +75,8 @@ impl<T: Journal> TurnLock<T> {
         requires lock { seat.old.table_id ≡ self.now.lock }
         requires idle { IsIdle seat.old.me }
         ensures lock { seat.new.table_id ≡ seat.old.table_id }
-        ensures turn { seat.new.me ≡ busy (opening_of seat.old.me) (number_of seat.old.me) (T.history result) }
-        ensures further { Covers T.author (T.history result) (number_of seat.old.me, known_of seat.old.me) }
+        ensures turn { seat.new.me ≡ busy (key_opening seat.old.me) (number_of seat.old.me) (T.history result) }
+        ensures further { Covers T.author (T.history result) (number_of seat.old.me, known_key seat.old.me) }
     {
         let shared = &self.table.shared;
         // Who slept can't know whether others sleep still, and takes the turn as one for which somebody waits.
@@ -105,9 +105,9 @@ impl<T: Journal> TurnLock<T> {
     pub fn give(&self, seat: &mut TurnSeat<T>, value: T)
         requires lock { seat.old.table_id ≡ self.now.lock }
         requires turn { IsBusy seat.old.me }
-        requires further { IsContinuedBy T.author (number_of seat.old.me) (known_of seat.old.me) (T.history value) }
+        requires further { IsContinuedBy T.author (number_of seat.old.me) (known_key seat.old.me) (T.history value) }
         ensures lock { seat.new.table_id ≡ seat.old.table_id }
-        ensures idle { seat.new.me ≡ idle (opening_of seat.old.me) (number_of seat.old.me) (T.history value) }
+        ensures idle { seat.new.me ≡ idle (key_opening seat.old.me) (number_of seat.old.me) (T.history value) }
     {
         give_back(&self.table, seat, value);
     }

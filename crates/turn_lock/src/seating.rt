@@ -2,7 +2,7 @@
 
 ghost use Rattle.std.specs.Prelude.{◌≡◌, ◌+◌, ◌*◌, ◌%◌, ◌<◌, [], IfSome};
 ghost use Rattle.turn_lock.specs.Parts.{AreBelow, IsContinuedBy};
-ghost use Rattle.turn_lock.specs.Turns.{fresh, idle, busy, mark, opening_of, number_of, known_of, IsBusy};
+ghost use Rattle.turn_lock.specs.Turns.{fresh, idle, busy, mark, key_opening, number_of, known_key, IsBusy};
 
 use crate::journal::Journal;
 use crate::plays::{Ask, Claim, ClaimFirst, Give, Same};
@@ -91,9 +91,9 @@ pub(crate) fn give_back<T: Journal>(table: &TurnTable<T>, seat: &mut TurnSeat<T>
     requires table { seat.old.table_id ≡ table.now.shared.table_id }
     requires shape { (table.now.shared.table_id.words ≡ 2) × (table.now.shared.table_id.slots ≡ 1) }
     requires turn { IsBusy seat.old.me }
-    requires further { IsContinuedBy T.author (number_of seat.old.me) (known_of seat.old.me) (T.history value) }
+    requires further { IsContinuedBy T.author (number_of seat.old.me) (known_key seat.old.me) (T.history value) }
     ensures table { seat.new.table_id ≡ seat.old.table_id }
-    ensures idle { seat.new.me ≡ idle (opening_of seat.old.me) (number_of seat.old.me) (T.history value) }
+    ensures idle { seat.new.me ≡ idle (key_opening seat.old.me) (number_of seat.old.me) (T.history value) }
 {
     let shared = &table.shared;
     let count = value.count();

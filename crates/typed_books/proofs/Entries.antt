@@ -3,7 +3,7 @@ use Rattle.std.proofs.Common.{◌<◌, ℕ, zero, suc, ◌+◌, ◌*◌, ◌^◌
 use Rattle.std.proofs.lemmas.List.Elements.{All-append, All-head, All-nil, All-push, All-tail}
 use Rattle.escrow_core.specs.declared.reply.Reply.TheVariants.{Accepted}
 use Rattle.ledger_core.specs.Ledger.{tick_entry}
-use Rattle.ledger_core.specs.Runs.{entries_of, expand, ticks_above}
+use Rattle.ledger_core.specs.Runs.{ledger_entries, expand, ticks_above}
 use Rattle.ledger_core.specs.declared.runs.Item.{Item}
 use Rattle.typed_books.specs.Books.{AreTyped, IsTypedEntry}
 
@@ -13,9 +13,9 @@ ticks_typed at k (suc n) lt = All-push IsTypedEntry (ticks_above at k n) (tick_e
 
 -- the entries of the item are typed
 abbrev pub IsTypedItem : Item → Type 0
-IsTypedItem i = AreTyped (entries_of i)
+IsTypedItem i = AreTyped (ledger_entries i)
 
 pub expanded_typed : (items : List Item) → All IsTypedItem items → AreTyped (expand items)
 expanded_typed [] h = All-nil IsTypedEntry
 expanded_typed (x ∷ xs) h =
-    All-append IsTypedEntry (entries_of x) (expand xs) (All-head IsTypedItem x xs h) (expanded_typed xs (All-tail IsTypedItem x xs h))
+    All-append IsTypedEntry (ledger_entries x) (expand xs) (All-head IsTypedItem x xs h) (expanded_typed xs (All-tail IsTypedItem x xs h))

@@ -1,6 +1,6 @@
 //! Books, read entry by entry.
 
-ghost use Rattle.ledger_core.specs.Runs.{entries_of, expand, ticks_of};
+ghost use Rattle.ledger_core.specs.Runs.{ledger_entries, expand, run_ticks};
 ghost use Rattle.typed_books.specs.Books.{AreTyped, IsTypedBook, IsTypedEntry};
 
 use crate::call::read_call;
@@ -18,13 +18,13 @@ fn read_entry(entry: &Entry)
 }
 
 fn read_ticks(run: Run)
-    ensures { AreTyped (ticks_of run) }
+    ensures { AreTyped (run_ticks run) }
 {
     let _by = run.by;
 }
 
 fn read_item(item: &Item)
-    ensures { AreTyped (entries_of item.now) }
+    ensures { AreTyped (ledger_entries item.now) }
 {
     match item {
         Item::One(entry) => read_entry(entry),

@@ -6,10 +6,10 @@ use Rattle.std.proofs.lemmas.List.{get_or-drop}
 use Rattle.std.proofs.lemmas.Option.{same_Some}
 use Rattle.hashkey_path.specs.declared.hashkey.Hashkey.{Hashkey}
 use Rattle.wallet_journal.specs.Device.{written, Torn}
-use Rattle.wallet_journal.specs.Layout.{byte, is_made, is_open, id_in, party_in, gate_at, body_at, body, key_in, is_recorded, recorded, body_of}
-use Rattle.wallet_journal.specs.Layout.{are_below, is_bad, is_damaged, IsTold}
+use Rattle.wallet_journal.specs.Layout.{byte, is_made, is_open, id_in, party_in, gate_at, body_position, body, fetch_key, is_recorded, recorded, encoded_body}
+use Rattle.wallet_journal.specs.Layout.{are_bounded, is_bad, is_damaged, IsTold}
 use Rattle.wallet_journal.specs.Journal.{IsBeforeOrAfter, KeepsRecorded, Gains}
-use Rattle.wallet_journal.specs.Opening.{is_damaged_for}
+use Rattle.wallet_journal.specs.Opening.{is_damaged_contents}
 use Rattle.wallet_journal.specs.Own.{IsOwn, FitsDeal, IsInRecord}
 use Rattle.swap_digraph.specs.declared.deal.Deal.{Deal}
 use Rattle.swap_digraph.specs.Deal.{path_limit}
@@ -18,7 +18,7 @@ use Rattle.wallet_journal.proofs.Tells.{body_size, parts, path_is, round_trip}
 
 -- what is recorded, by its parts
 abbrev shown : Bool → Bool → ℕ → List ℕ → Option Hashkey
-shown made opened i b = if made && opened then Some (key_in i b) else None
+shown made opened i b = if made && opened then Some (fetch_key i b) else None
 
 pub same : (old new : List ℕ) (i : ℕ) → byte new 0 ≡ byte old 0 → byte new (gate_at i) ≡ byte old (gate_at i) → body i new ≡ body i old
     → recorded new i ≡ recorded old i
@@ -45,7 +45,7 @@ none_parts true true i b d h = absurd (cc h)
 lock_parts : (made opened : Bool) (i : ℕ) (b : List ℕ) (k : Hashkey) → shown made opened i b ≡ Some k → k.lock ≡ i
 lock_parts false opened i b k h = absurd (cc h)
 lock_parts true false i b k h = absurd (cc h)
-lock_parts true true i b k h = sym (ap (λ (x : Hashkey). x.lock) (same_Some (key_in i b) k h))
+lock_parts true true i b k h = sym (ap (λ (x : Hashkey). x.lock) (same_Some (fetch_key i b) k h))
 
 -- what is recorded for a lock is a hashkey for it
 pub recorded_lock : (bytes : List ℕ) (i : ℕ) (k : Hashkey) → recorded bytes i ≡ Some k → k.lock ≡ i
@@ -71,32 +71,32 @@ same_damage : (limit n : ℕ) (old new : List ℕ) (i : ℕ) → byte new 0 ≡ 
     → is_damaged limit n new i ≡ is_damaged limit n old i
 same_damage limit n old new i made gate b = λ j. ((made j == 1) && (gate j == 1)) && is_bad limit n (b j)
 
-either_parts : (made opened : Bool) (i : ℕ) (b : List ℕ) (k : Hashkey) → key_in i b ≡ k → (shown made opened i b ≡ None) ⊎ (shown made opened i b ≡ Some k)
+either_parts : (made opened : Bool) (i : ℕ) (b : List ℕ) (k : Hashkey) → fetch_key i b ≡ k → (shown made opened i b ≡ None) ⊎ (shown made opened i b ≡ Some k)
 either_parts false opened i b k h = inl refl
 either_parts true false i b k h = inl refl
 either_parts true true i b k h = inr (ap (λ (x : Hashkey). Some x) h)
 
 -- A body is written.
-module _ (l n : ℕ) (lt : l < 8) (few : n ≤ 68673) (old new : List ℕ) (torn : Torn (body_at l) n old new) where
+module _ (l n : ℕ) (lt : l < 8) (few : n ≤ 68673) (old new : List ℕ) (torn : Torn (body_position l) n old new) where
   body_made : byte new 0 ≡ byte old 0
-  body_made = byte_before (body_at l) n old new torn 0 (omega arith)
+  body_made = byte_before (body_position l) n old new torn 0 (omega arith)
 
   body_gate : (i : ℕ) → i < 8 → byte new (gate_at i) ≡ byte old (gate_at i)
-  body_gate i lt_i = byte_before (body_at l) n old new torn (gate_at i) (omega (arith, lt_i))
+  body_gate i lt_i = byte_before (body_position l) n old new torn (gate_at i) (omega (arith, lt_i))
 
   pub body_id : id_in new ≡ id_in old
-  body_id = slice_before (body_at l) n old new torn 1 32 (omega arith)
+  body_id = slice_before (body_position l) n old new torn 1 32 (omega arith)
 
   pub body_party : party_in new ≡ party_in old
-  body_party = byte_before (body_at l) n old new torn 33 (omega arith)
+  body_party = byte_before (body_position l) n old new torn 33 (omega arith)
 
   pub body_is_made : is_made new ≡ is_made old
   body_is_made = ap (λ (b : ℕ). b == 1) body_made
 
   body_other : (i : ℕ) → i ≢ l → body i new ≡ body i old
   body_other i apart = elim (cases_lt i l) [
-    | inl less ↦ slice_before (body_at l) n old new torn (body_at i) 68673 (omega (arith, less))
-    | inr more ↦ slice_after (body_at l) n old new torn (body_at i) 68673 (omega (arith, more, apart, few))
+    | inl less ↦ slice_before (body_position l) n old new torn (body_position i) 68673 (omega (arith, less))
+    | inr more ↦ slice_after (body_position l) n old new torn (body_position i) 68673 (omega (arith, more, apart, few))
   ]
 
   -- it leaves what is recorded
@@ -140,7 +140,7 @@ module _ (l : ℕ) (lt : l < 8) (old new : List ℕ) (torn : Torn (gate_at l) 1 
   gate_is_made = ap (λ (b : ℕ). b == 1) gate_made
 
   pub gate_body : (i : ℕ) → body i new ≡ body i old
-  gate_body i = slice_after (gate_at l) 1 old new torn (body_at i) 68673 (omega (arith, lt))
+  gate_body i = slice_after (gate_at l) 1 old new torn (body_position i) 68673 (omega (arith, lt))
 
   gate_other : (i : ℕ) → i ≢ l → byte new (gate_at i) ≡ byte old (gate_at i)
   gate_other i apart = elim (cases_lt i l) [
@@ -149,14 +149,14 @@ module _ (l : ℕ) (lt : l < 8) (old new : List ℕ) (torn : Torn (gate_at l) 1 
   ]
 
   -- it leaves what is recorded, or records what the body tells
-  pub gate_torn : (k : Hashkey) → l ≡ k.lock → recorded old l ≡ None → key_in l (body l old) ≡ k → IsBeforeOrAfter old k new
+  pub gate_torn : (k : Hashkey) → l ≡ k.lock → recorded old l ≡ None → fetch_key l (body l old) ≡ k → IsBeforeOrAfter old k new
   gate_torn k is_lock none tells i lt_i = elim (cases_eq i l) [
     | inl here ↦ at_l here
     | inr apart ↦ inl (same old new i gate_made (gate_other i apart) (gate_body i))
   ]
     where
       at_l : i ≡ l → (recorded new i ≡ recorded old i) ⊎ ((i ≡ k.lock) × (recorded new i ≡ Some k))
-      at_l here = elim (either_parts (is_made new) (is_open new l) l (body l new) k (ap (key_in l) (gate_body l) ∙ tells)) [
+      at_l here = elim (either_parts (is_made new) (is_open new l) l (body l new) k (ap (fetch_key l) (gate_body l) ∙ tells)) [
         | inl still ↦ inl (ap (recorded new) here ∙ still ∙ sym none ∙ ap (recorded old) (sym here))
         | inr now ↦ inr (here ∙ is_lock, ap (recorded new) here ∙ now)
       ]
@@ -173,9 +173,9 @@ module _ (l : ℕ) (lt : l < 8) (old new : List ℕ) (torn : Torn (gate_at l) 1 
     ];
   }
     where
-      at_l : (i : ℕ) → i ≡ l → is_damaged_for d new i ≡ false
+      at_l : (i : ℕ) → i ≡ l → is_damaged_contents d new i ≡ false
       at_l i here =
-          ap (is_damaged_for d new) here
+          ap (is_damaged_contents d new) here
           ∙ ap (λ (b : Bool). is_recorded new l && b) (ap (is_bad (path_limit d) d.graph.n) (gate_body l) ∙ good)
           ∙ and_false (is_recorded new l)
 
@@ -184,12 +184,13 @@ module _ (l : ℕ) (lt : l < 8) (old new : List ℕ) (torn : Torn (gate_at l) 1 
 
 -- What was written stands there.
 pub body_there : (k : Hashkey) (l : ℕ) (old new : List ℕ) → length old ≡ 549426 → l < 8 → length k.path ≤ 32 → length k.sigs ≡ length k.path → IsTold k
-    → new ≡ written old (body_at l) (body_of k) → body l new ≡ body_of k ++ take (68673 - length (body_of k)) (drop (body_at l + length (body_of k)) old)
+    → new ≡ written old (body_position l) (encoded_body k)
+    → body l new ≡ encoded_body k ++ take (68673 - length (encoded_body k)) (drop (body_position l + length (encoded_body k)) old)
 body_there k l old new sized lt few paired told is =
     let size = body_size k paired told in
-    let fits : body_at l + length (body_of k) ≤ length old = omega (arith, size, few, lt, sized) in
-    ap (λ (c : List ℕ). take 68673 c) (ap (λ (c : List ℕ). drop (body_at l) c) is ∙ drop_written old (body_at l) (body_of k) fits)
-    ∙ take_over 68673 (body_of k) (drop (body_at l + length (body_of k)) old) (omega (arith, size, few))
+    let fits : body_position l + length (encoded_body k) ≤ length old = omega (arith, size, few, lt, sized) in
+    ap (λ (c : List ℕ). take 68673 c) (ap (λ (c : List ℕ). drop (body_position l) c) is ∙ drop_written old (body_position l) (encoded_body k) fits)
+    ∙ take_over 68673 (encoded_body k) (drop (body_position l + length (encoded_body k)) old) (omega (arith, size, few))
   where
     take_over : (n : ℕ) (xs ys : List ℕ) → length xs ≤ n → take n (xs ++ ys) ≡ xs ++ take (n - length xs) ys
     take_over n [] ys le = ap (λ (m : ℕ). take m ys) (omega arith)
@@ -197,20 +198,20 @@ body_there k l old new sized lt few paired told is =
     take_over (suc n) (x ∷ xs) ys le = ap (λ (l : List ℕ). x ∷ l) (take_over n xs ys (omega (arith, le)) ∙ ap (λ (m : ℕ). xs ++ take m ys) (omega arith))
 
 -- The body of a hashkey that fits a deal can be one of the deal's.
-pub not_bad : (k : Hashkey) → length k.sigs ≡ length k.path → IsTold k → (rest : List ℕ) (limit n : ℕ) → length k.path ≤ limit → are_below n k.path ≡ true
-    → is_bad limit n (body_of k ++ rest) ≡ false
+pub not_bad : (k : Hashkey) → length k.sigs ≡ length k.path → IsTold k → (rest : List ℕ) (limit n : ℕ) → length k.path ≤ limit → are_bounded n k.path ≡ true
+    → is_bad limit n (encoded_body k ++ rest) ≡ false
 not_bad k paired told rest limit n few below =
     let path = ap (λ (b : List ℕ). take (length k.path) (drop 33 b)) (parts k paired told rest) ∙ path_is k paired told k.lock refl rest in
     let count : nat_lt limit (length k.path) ≡ false = le-ltb limit (length k.path) few in
-    (λ j. count j || not (are_below n (path j))) ∙ ap (λ (b : Bool). not b) below
+    (λ j. count j || not (are_bounded n (path j))) ∙ ap (λ (b : Bool). not b) below
 
 -- A body that was written tells its hashkey.
 pub tells_written : (k : Hashkey) (l : ℕ) (old new : List ℕ) → length old ≡ 549426 → l < 8 → l ≡ k.lock → length k.path ≤ 32 → length k.sigs ≡ length k.path
     → IsTold k
-    → new ≡ written old (body_at l) (body_of k) → key_in l (body l new) ≡ k
+    → new ≡ written old (body_position l) (encoded_body k) → fetch_key l (body l new) ≡ k
 tells_written k l old new sized lt is_lock few paired told is =
-    ap (key_in l) (body_there k l old new sized lt few paired told is)
-    ∙ round_trip k paired told l is_lock (take (68673 - length (body_of k)) (drop (body_at l + length (body_of k)) old))
+    ap (fetch_key l) (body_there k l old new sized lt few paired told is)
+    ∙ round_trip k paired told l is_lock (take (68673 - length (encoded_body k)) (drop (body_position l + length (encoded_body k)) old))
 
 -- where a crash left what stands there, what is recorded in all that it left is kept
 pub keeps : (outcomes : List ℕ → Type 0) (old c : List ℕ) (k : Hashkey) → outcomes old → recorded old k.lock ≡ None → IsBeforeOrAfter old k c
@@ -226,39 +227,39 @@ keeps outcomes old c k among none h i x lt all = elim (h i lt) [
 -- The two writes of a record, from a journal that is made and hasn't its lock recorded.
 module _ (k : Hashkey) (old : List ℕ) (sized : length old ≡ 549426) (made : is_made old ≡ true) (lt : k.lock < 8) (none : recorded old k.lock ≡ None)
     (few : length k.path ≤ 32) (paired : length k.sigs ≡ length k.path) (told : IsTold k) where
-  body_fits : length (body_of k) ≤ 68673
+  body_fits : length (encoded_body k) ≤ 68673
   body_fits = omega (arith, body_size k paired told, few)
 
   abbrev pub mid : List ℕ
-  mid = written old (body_at k.lock) (body_of k)
+  mid = written old (body_position k.lock) (encoded_body k)
 
-  mid_torn : Torn (body_at k.lock) (length (body_of k)) old mid
-  mid_torn = written_torn old (body_at k.lock) (body_of k) (omega (arith, body_fits, lt, sized))
+  mid_torn : Torn (body_position k.lock) (length (encoded_body k)) old mid
+  mid_torn = written_torn old (body_position k.lock) (encoded_body k) (omega (arith, body_fits, lt, sized))
 
   mid_none : recorded mid k.lock ≡ None
-  mid_none = body_torn k.lock (length (body_of k)) lt body_fits old mid mid_torn none k.lock lt ∙ none
+  mid_none = body_torn k.lock (length (encoded_body k)) lt body_fits old mid mid_torn none k.lock lt ∙ none
 
-  mid_tells : key_in k.lock (body k.lock mid) ≡ k
+  mid_tells : fetch_key k.lock (body k.lock mid) ≡ k
   mid_tells = tells_written k k.lock old mid sized lt refl few paired told refl
 
   -- a crash in the first
-  pub first_write : (c : List ℕ) → Torn (body_at k.lock) (length (body_of k)) old c → IsInRecord old k c
+  pub first_write : (c : List ℕ) → Torn (body_position k.lock) (length (encoded_body k)) old c → IsInRecord old k c
   first_write c torn = record {
-    whole = λ i lt_i. inl (body_torn k.lock (length (body_of k)) lt body_fits old c torn none i lt_i);
-    own = λ d me fits own. body_own k.lock (length (body_of k)) lt body_fits old c torn none d me own;
+    whole = λ i lt_i. inl (body_torn k.lock (length (encoded_body k)) lt body_fits old c torn none i lt_i);
+    own = λ d me fits own. body_own k.lock (length (encoded_body k)) lt body_fits old c torn none d me own;
   }
 
   second_own : (c : List ℕ) → Torn (gate_at k.lock) 1 mid c → (d : Deal) (me : ℕ) → FitsDeal d k → IsOwn d me old → IsOwn d me c
   second_own c torn d me fits own =
-      let rest = take (68673 - length (body_of k)) (drop (body_at k.lock + length (body_of k)) old) in
+      let rest = take (68673 - length (encoded_body k)) (drop (body_position k.lock + length (encoded_body k)) old) in
       let good : is_bad (path_limit d) d.graph.n (body k.lock mid) ≡ false =
       ap (is_bad (path_limit d) d.graph.n) (body_there k k.lock old mid sized lt few paired told refl)
       ∙ not_bad k paired told rest (path_limit d) d.graph.n fits.few fits.parties in
-      gate_own k.lock lt mid c torn d me good (body_own k.lock (length (body_of k)) lt body_fits old mid mid_torn none d me own)
+      gate_own k.lock lt mid c torn d me good (body_own k.lock (length (encoded_body k)) lt body_fits old mid mid_torn none d me own)
 
   second_whole : (c : List ℕ) → Torn (gate_at k.lock) 1 mid c → IsBeforeOrAfter old k c
   second_whole c torn i lt_i = elim (gate_torn k.lock lt mid c torn k refl mid_none mid_tells i lt_i) [
-    | inl was ↦ inl (was ∙ body_torn k.lock (length (body_of k)) lt body_fits old mid mid_torn none i lt_i)
+    | inl was ↦ inl (was ∙ body_torn k.lock (length (encoded_body k)) lt body_fits old mid mid_torn none i lt_i)
     | inr new ↦ inr new
   ]
 
@@ -274,15 +275,16 @@ module _ (k : Hashkey) (old : List ℕ) (sized : length old ≡ 549426) (made : 
       let torn : Torn (gate_at k.lock) 1 mid end = written_torn mid (gate_at k.lock) (1 ∷ []) fits in
       let gate : byte end (gate_at k.lock) ≡ 1 =
       byte_at_start end (gate_at k.lock) ∙ ap (λ (l : List ℕ). get_or l 0 0) (drop_written mid (gate_at k.lock) (1 ∷ []) fits) in
-      let still_made = gate_is_made k.lock lt mid end torn ∙ body_is_made k.lock (length (body_of k)) lt body_fits old mid mid_torn in
+      let still_made = gate_is_made k.lock lt mid end torn ∙ body_is_made k.lock (length (encoded_body k)) lt body_fits old mid mid_torn in
       record {
         made = still_made;
-        id = gate_id k.lock lt mid end torn ∙ body_id k.lock (length (body_of k)) lt body_fits old mid mid_torn;
-        party = gate_party k.lock lt mid end torn ∙ body_party k.lock (length (body_of k)) lt body_fits old mid mid_torn;
+        id = gate_id k.lock lt mid end torn ∙ body_id k.lock (length (encoded_body k)) lt body_fits old mid mid_torn;
+        party = gate_party k.lock lt mid end torn ∙ body_party k.lock (length (encoded_body k)) lt body_fits old mid mid_torn;
         here =
             (λ j. shown ((still_made ∙ made) j) (gate j == 1) k.lock (body k.lock end))
-            ∙ ap (λ (x : Hashkey). Some x) (ap (key_in k.lock) (gate_body k.lock lt mid end torn k.lock) ∙ mid_tells);
-        others = λ i lt_i apart. gate_others k.lock lt mid end torn i apart ∙ body_torn k.lock (length (body_of k)) lt body_fits old mid mid_torn none i lt_i;
+            ∙ ap (λ (x : Hashkey). Some x) (ap (fetch_key k.lock) (gate_body k.lock lt mid end torn k.lock) ∙ mid_tells);
+        others = λ i lt_i apart. gate_others k.lock lt mid end torn i apart
+            ∙ body_torn k.lock (length (encoded_body k)) lt body_fits old mid mid_torn none i lt_i;
       }
     where
       byte_at_start : (l : List ℕ) (n : ℕ) → byte l n ≡ get_or (drop n l) 0 0

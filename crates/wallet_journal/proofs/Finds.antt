@@ -8,7 +8,7 @@ use Rattle.hashkey_path.specs.declared.hashkey.Hashkey.{Hashkey}
 use Rattle.wallet_journal.specs.Device.{Write, IsStill, slice}
 use Rattle.wallet_journal.specs.Layout.{is_made, id_in, party_in, recorded}
 use Rattle.wallet_journal.specs.Journal.{KeepsRecorded, IsKeptOn, IsUnused, signed_at}
-use Rattle.wallet_journal.specs.Opening.{is_damaged_for, IsLeastDamaged, IsOf, IsFit, IsUnfit, IsOpenFault, IsOpened}
+use Rattle.wallet_journal.specs.Opening.{is_damaged_contents, IsLeastDamaged, IsOf, IsFit, IsUnfit, IsOpenFault, IsOpened}
 use Rattle.wallet_journal.specs.Own.{IsOwn, IsInOpening}
 use Rattle.wallet_journal.specs.declared.fault.Unopened.{Unopened}
 use Rattle.wallet_journal.specs.declared.fault.Unopened.TheVariants.{DiskFault, Foreign, Damaged, NoMemory}
@@ -24,9 +24,9 @@ unfit d me bytes NoMemory own h = tt
 unfit d me bytes Foreign own h = absurd h
 unfit d me bytes (Damaged j) own h = (own, h.0, h.1, h.2)
 
-pub fit_of : (d : Deal) (me : ℕ) (b bytes : List ℕ) → b ≡ bytes → IsOf d me bytes → ((i : ℕ) → i < length d.leaders → is_damaged_for d b i ≡ false)
+pub fit_of : (d : Deal) (me : ℕ) (b bytes : List ℕ) → b ≡ bytes → IsOf d me bytes → ((i : ℕ) → i < length d.leaders → is_damaged_contents d b i ≡ false)
     → IsFit d me bytes
-fit_of d me b bytes is own sound = record { own = own; sound = λ i lt. ap (λ (c : List ℕ). is_damaged_for d c i) (sym is) ∙ sound i lt }
+fit_of d me b bytes is own sound = record { own = own; sound = λ i lt. ap (λ (c : List ℕ). is_damaged_contents d c i) (sym is) ∙ sound i lt }
 
 pub unfit_fault : (d : Deal) (me : ℕ) (bytes : List ℕ) (before now : ℕ) (e : Unopened) → is_made bytes ≡ true → IsUnfit d me bytes e
     → IsOpenFault d me bytes before now e

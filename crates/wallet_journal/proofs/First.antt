@@ -5,7 +5,7 @@ use Rattle.std.proofs.Common.{ap, ◌∙◌, subst, arith}
 use Rattle.std.proofs.lemmas.Bool.{false≢true}
 use Rattle.swap_digraph.specs.declared.deal.Deal.{Deal}
 use Rattle.hashkey_path.specs.declared.hashkey.Hashkey.{Hashkey}
-use Rattle.wallet_journal.specs.Layout.{is_made, is_open, is_bad, body, key_in, recorded}
+use Rattle.wallet_journal.specs.Layout.{is_made, is_open, is_bad, body, fetch_key, recorded}
 use Rattle.swap_digraph.specs.Deal.{path_limit}
 use Rattle.wallet_journal.specs.Journal.{signed_at}
 use Rattle.wallet_journal.specs.Held.{disk_size, no_bytes}
@@ -20,7 +20,7 @@ none_made : is_made no_bytes ≡ false
 none_made = ap (λ (b : ℕ). b == 1) (all_zero disk_size 0)
 
 pub none_recorded : (i : ℕ) → recorded no_bytes i ≡ None
-none_recorded i = ap (λ (b : Bool). cond (b && is_open no_bytes i) (Some (key_in i (body i no_bytes))) None) none_made
+none_recorded i = ap (λ (b : Bool). cond (b && is_open no_bytes i) (Some (fetch_key i (body i no_bytes))) None) none_made
 
 pub none_own : (d : Deal) (me : ℕ) (c : List ℕ) → c ≡ no_bytes → IsOwn d me c
 none_own d me c is = subst (IsOwn d me) (sym is) (record {

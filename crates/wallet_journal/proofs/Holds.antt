@@ -46,8 +46,8 @@ module _ (h h' : Held) where
 
   -- after a write
   module _ (at : ℕ) (bytes : List ℕ) (spare : ℕ) (is : h' ≡ with_write h at bytes spare) where
-    pub put_on : AreOnDisk h → at + length bytes ≤ 549426 → AreOnDisk h'
-    put_on on range = subst AreOnDisk (sym is) (on.0, both_on h.loose (record { at = at; bytes = bytes } ∷ []) on.1 (range, tt))
+    pub append_items : AreOnDisk h → at + length bytes ≤ 549426 → AreOnDisk h'
+    append_items on range = subst AreOnDisk (sym is) (on.0, both_on h.loose (record { at = at; bytes = bytes } ∷ []) on.1 (range, tt))
 
     pub put_written : read_bytes h' ≡ written (read_bytes h) at bytes
     put_written = ap read_bytes is ∙ after_push (synced_bytes h) h.loose (record { at = at; bytes = bytes })

@@ -38,15 +38,15 @@ module _ (bytes : List ℕ) (may_leave : List ℕ → Type 0) (loose : List Writ
   shows_lock k is = recorded_lock bytes i k (shows ∙ is)
 
 -- and what a crash leaves of it
-pub made_on : (bytes : List ℕ) (may_leave : List ℕ → Type 0) (loose : List Write) (id : List ℕ) (me : ℕ) (signed : List (Option Hashkey))
+pub made_calls : (bytes : List ℕ) (may_leave : List ℕ → Type 0) (loose : List Write) (id : List ℕ) (me : ℕ) (signed : List (Option Hashkey))
     → IsKeptOn bytes may_leave loose id me signed → (c : List ℕ) → may_leave c → IsMadeFor id me c
-made_on bytes may_leave loose id me signed kept c left =
+made_calls bytes may_leave loose id me signed kept c left =
     let is = kept.still.only c left in
     record { made = ap is_made is ∙ kept.made; id_there = ap id_in is ∙ kept.id_there; party_there = ap party_in is ∙ kept.party_there }
 
 -- what a journal's invariant says of its value
-pub kept_of : {D : Type 0} (seen : D → List ℕ) (may_leave : D → List ℕ → Type 0) (loose : D → List Write) (i j : JournalState D) → i ≡ j → j.sound ≡ true
+pub kept_state : {D : Type 0} (seen : D → List ℕ) (may_leave : D → List ℕ → Type 0) (loose : D → List Write) (i j : JournalState D) → i ≡ j → j.sound ≡ true
     → (i.sound ≡ true → IsKeptOn (seen i.disk) (may_leave i.disk) (loose i.disk) i.id i.me i.signed)
     → IsKeptOn (seen j.disk) (may_leave j.disk) (loose j.disk) j.id j.me j.signed
-kept_of {D = D} seen may_leave loose i j is sound inv =
+kept_state {D = D} seen may_leave loose i j is sound inv =
     subst (λ (x : JournalState D). x.sound ≡ true → IsKeptOn (seen x.disk) (may_leave x.disk) (loose x.disk) x.id x.me x.signed) is inv sound

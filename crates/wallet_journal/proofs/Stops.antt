@@ -8,7 +8,7 @@ use Rattle.std.proofs.lemmas.List.{get_or-drop}
 use Rattle.std.proofs.lemmas.Bool.Decides.{nat_tests}
 use Rattle.hashkey_path.specs.declared.hashkey.Hashkey.{Hashkey}
 use Rattle.wallet_journal.specs.Device.{Write, written}
-use Rattle.wallet_journal.specs.Layout.{byte, is_made, recorded, gate_at, body_at, body_of, IsTold}
+use Rattle.wallet_journal.specs.Layout.{byte, is_made, recorded, gate_at, body_position, encoded_body, IsTold}
 use Rattle.wallet_journal.specs.Held.{Held, no_bytes, after_writes, read_bytes, IsOnDisk}
 use Rattle.wallet_journal.specs.Memory.{crashed}
 use Rattle.wallet_journal.specs.Recording.{body_write, gate_write, IsStoppedAt}
@@ -35,15 +35,15 @@ module _ (k : Hashkey) (ws : List Write) (spare : ℕ) (on : AllByRecursion IsOn
   abbrev pub late : Held
   late = record { synced = ws ++ body_write k ∷ []; loose = gate_write k ∷ []; spare = spare }
 
-  fits : body_at k.lock + length (body_of k) ≤ 549426
+  fits : body_position k.lock + length (encoded_body k) ≤ 549426
   fits = omega (arith, body_size k paired told, few, lt)
 
   pub early_none : (image : ℕ) → recorded (read_bytes (crashed image early)) k.lock ≡ None
   early_none image =
       let left = crash_left image early (on, (fits, tt)) in
-      let small : length (body_of k) ≤ 68673 = omega (arith, body_size k paired told, few) in
+      let small : length (encoded_body k) ≤ 68673 = omega (arith, body_size k paired told, few) in
       ap (λ (c : List ℕ). recorded c k.lock) left.2
-      ∙ body_torn k.lock (length (body_of k)) lt small old left.0 left.1 none k.lock lt ∙ none
+      ∙ body_torn k.lock (length (encoded_body k)) lt small old left.0 left.1 none k.lock lt ∙ none
 
   abbrev staged : List ℕ
   staged = mid k old sized made lt none few paired told
@@ -52,12 +52,13 @@ module _ (k : Hashkey) (ws : List Write) (spare : ℕ) (on : AllByRecursion IsOn
   is_staged = after_push no_bytes ws (body_write k)
 
   staged_size : length staged ≡ 549426
-  staged_size = (written_torn old (body_at k.lock) (body_of k) (omega (arith, fits, sized))).as_long ∙ sized
+  staged_size = (written_torn old (body_position k.lock) (encoded_body k) (omega (arith, fits, sized))).as_long ∙ sized
 
   staged_none : recorded staged k.lock ≡ None
   staged_none =
-      let small : length (body_of k) ≤ 68673 = omega (arith, body_size k paired told, few) in
-      body_torn k.lock (length (body_of k)) lt small old staged (written_torn old (body_at k.lock) (body_of k) (omega (arith, fits, sized))) none k.lock lt
+      let small : length (encoded_body k) ≤ 68673 = omega (arith, body_size k paired told, few) in
+      body_torn k.lock (length (encoded_body k)) lt small old staged (written_torn old (body_position k.lock) (encoded_body k) (omega
+      (arith, fits, sized))) none k.lock lt
       ∙ none
 
   pub late_one : recorded (read_bytes (crashed 1 late)) k.lock ≡ Some k

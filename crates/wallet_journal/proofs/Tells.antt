@@ -6,20 +6,20 @@ use Rattle.std.proofs.lemmas.List.Elements.{recursion_from_All, All-more}
 use Rattle.std.proofs.lemmas.List.{take_at, drop_at, drop-drop, flat_map_more, take_more}
 use Rattle.swap_base.specs.Text.{joined}
 use Rattle.hash_signature.specs.declared.sig.Sig.{Sig}
-use Rattle.hash_signature.specs.Signature.{values_of}
+use Rattle.hash_signature.specs.Signature.{text_values}
 use Rattle.hashkey_path.specs.declared.hashkey.Hashkey.{Hashkey}
 use Rattle.wallet_journal.specs.Device.{slice}
-use Rattle.wallet_journal.specs.Layout.{sigs_in, key_in, body_of, IsWholeSig, IsTold}
+use Rattle.wallet_journal.specs.Layout.{sigs_in, fetch_key, encoded_body, IsWholeSig, IsTold}
 
 -- one more signature at the end
-pub sigs_more : (j : ℕ) (bytes : List ℕ) → sigs_in (j + 1) bytes ≡ sigs_in j bytes ++ values_of (take 2144 (drop (2144 * j) bytes)) ∷ []
+pub sigs_more : (j : ℕ) (bytes : List ℕ) → sigs_in (j + 1) bytes ≡ sigs_in j bytes ++ text_values (take 2144 (drop (2144 * j) bytes)) ∷ []
 sigs_more zero bytes = refl
 sigs_more (suc j) bytes =
     let n : suc j + 1 ≡ suc (j + 1) = omega arith in
     let at : 2144 + 2144 * j ≡ 2144 * suc j = omega arith in
     ap (λ (m : ℕ). sigs_in m bytes) n
-    ∙ ap (λ (l : List Sig). values_of (take 2144 bytes) ∷ l) (sigs_more j (drop 2144 bytes))
-    ∙ ap (λ (l : List ℕ). values_of (take 2144 bytes) ∷ (sigs_in j (drop 2144 bytes) ++ values_of (take 2144 l) ∷ []))
+    ∙ ap (λ (l : List Sig). text_values (take 2144 bytes) ∷ l) (sigs_more j (drop 2144 bytes))
+    ∙ ap (λ (l : List ℕ). text_values (take 2144 bytes) ∷ (sigs_in j (drop 2144 bytes) ++ text_values (take 2144 l) ∷ []))
     (drop-drop (2144 * j) 2144 bytes ∙ ap (λ (m : ℕ). drop m bytes) at)
 
 -- bytes of signatures tell them, whatever follows
@@ -27,8 +27,8 @@ told_sigs : (sigs : List Sig) (rest : List ℕ) → AllByRecursion IsWholeSig si
 told_sigs [] rest all = refl
 told_sigs (s ∷ sigs) rest all =
     let parts : flat_map joined (s ∷ sigs) ++ rest ≡ joined s ++ (flat_map joined sigs ++ rest) = append_assoc (joined s) (flat_map joined sigs) rest in
-    ap (λ (l : List ℕ). values_of (take 2144 l) ∷ sigs_in (length sigs) (drop 2144 l)) parts
-    ∙ (λ i. values_of (take_at (joined s) (flat_map joined sigs ++ rest) 2144 all.0.bytes i) ∷ sigs_in (length sigs)
+    ap (λ (l : List ℕ). text_values (take 2144 l) ∷ sigs_in (length sigs) (drop 2144 l)) parts
+    ∙ (λ i. text_values (take_at (joined s) (flat_map joined sigs ++ rest) 2144 all.0.bytes i) ∷ sigs_in (length sigs)
     (drop_at (joined s) (flat_map joined sigs ++ rest) 2144 all.0.bytes i))
     ∙ (λ i. all.0.values i ∷ told_sigs sigs rest all.1 i)
 
@@ -40,7 +40,7 @@ module _ (k : Hashkey) (paired : length k.sigs ≡ length k.path) (told : IsTold
   whole : AllByRecursion IsWholeSig k.sigs
   whole = recursion_from_All IsWholeSig k.sigs told.sigs
 
-  pub body_size : length (body_of k) ≡ 33 + 2145 * length k.path
+  pub body_size : length (encoded_body k) ≡ 33 + 2145 * length k.path
   body_size =
       omega (
         arith,
@@ -53,7 +53,7 @@ module _ (k : Hashkey) (paired : length k.sigs ≡ length k.path) (told : IsTold
       )
 
   -- the parts, each before the rest
-  pub parts : (rest : List ℕ) → body_of k ++ rest ≡ length k.path ∷ (k.secret ++ (k.path ++ (flat_map joined k.sigs ++ rest)))
+  pub parts : (rest : List ℕ) → encoded_body k ++ rest ≡ length k.path ∷ (k.secret ++ (k.path ++ (flat_map joined k.sigs ++ rest)))
   parts rest =
       ap (λ (l : List ℕ). length k.path ∷ l) (append_assoc k.secret (k.path ++ flat_map joined k.sigs) rest
       ∙ ap (λ (l : List ℕ). k.secret ++ l) (append_assoc k.path (flat_map joined k.sigs) rest))
@@ -82,8 +82,8 @@ module _ (k : Hashkey) (paired : length k.sigs ≡ length k.path) (told : IsTold
         ∙ told_sigs k.sigs rest whole
 
     -- a body tells its hashkey, whatever follows
-    pub round_trip : key_in i (body_of k ++ rest) ≡ k
-    round_trip = ap (key_in i) (parts rest) ∙ (λ j. record { lock = is_lock j; secret = secret_is j; path = path_is j; sigs = sigs_are j })
+    pub round_trip : fetch_key i (encoded_body k ++ rest) ≡ k
+    round_trip = ap (fetch_key i) (parts rest) ∙ (λ j. record { lock = is_lock j; secret = secret_is j; path = path_is j; sigs = sigs_are j })
 
 -- one more signature is put
 pub put_more : (old mid new bytes : List ℕ) (sigs : List Sig) (i : ℕ) (s : Sig) → i < length sigs → s ≡ get_or sigs i s

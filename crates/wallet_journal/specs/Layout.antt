@@ -4,7 +4,7 @@ use Rattle.std.specs.Prelude.{Option, Some, None, if◌then◌else◌}
 use Rattle.std.specs.List.{flat_map, All, list_all}
 use Rattle.swap_base.specs.Text.{joined}
 use Rattle.hash_signature.specs.declared.sig.Sig.{Sig}
-use Rattle.hash_signature.specs.Signature.{values_of}
+use Rattle.hash_signature.specs.Signature.{text_values}
 use Rattle.hashkey_path.specs.declared.hashkey.Hashkey.{Hashkey}
 use Rattle.wallet_journal.specs.Device.{slice}
 
@@ -29,12 +29,12 @@ abbrev pub gate_at : ℕ → ℕ
 gate_at i = 34 + i
 
 -- where the body of lock i begins
-abbrev pub body_at : ℕ → ℕ
-body_at i = 42 + 68673 * i
+abbrev pub body_position : ℕ → ℕ
+body_position i = 42 + 68673 * i
 
 -- the body of lock i
 abbrev pub body : ℕ → List ℕ → List ℕ
-body i bytes = slice (body_at i) 68673 bytes
+body i bytes = slice (body_position i) 68673 bytes
 
 -- the gate of lock i is open
 abbrev pub is_open : List ℕ → ℕ → Bool
@@ -47,32 +47,32 @@ is_recorded bytes i = is_made bytes && is_open bytes i
 -- the signatures that n times 2,144 bytes hold
 abbrev pub sigs_in : ℕ → List ℕ → List Sig
 sigs_in zero bytes = []
-sigs_in (suc n) bytes = values_of (take 2144 bytes) ∷ sigs_in n (drop 2144 bytes)
+sigs_in (suc n) bytes = text_values (take 2144 bytes) ∷ sigs_in n (drop 2144 bytes)
 
 -- how many vertices a body has
-abbrev pub count_in : List ℕ → ℕ
-count_in b = byte b 0
+abbrev pub parse_count : List ℕ → ℕ
+parse_count b = byte b 0
 
 -- the vertices of a body
 abbrev pub path_in : List ℕ → List ℕ
-path_in b = slice 33 (count_in b) b
+path_in b = slice 33 (parse_count b) b
 
 -- the hashkey of a body: the number of vertices, the secret, the vertices and their signatures
-abbrev pub key_in : ℕ → List ℕ → Hashkey
-key_in i b = record { lock = i; secret = slice 1 32 b; path = path_in b; sigs = sigs_in (count_in b) (drop (33 + count_in b) b) }
+abbrev pub fetch_key : ℕ → List ℕ → Hashkey
+fetch_key i b = record { lock = i; secret = slice 1 32 b; path = path_in b; sigs = sigs_in (parse_count b) (drop (33 + parse_count b) b) }
 
 -- the hashkey that is recorded for lock i, if any
 abbrev pub recorded : List ℕ → ℕ → Option Hashkey
-recorded bytes i = if is_recorded bytes i then Some (key_in i (body i bytes)) else None
+recorded bytes i = if is_recorded bytes i then Some (fetch_key i (body i bytes)) else None
 
 -- the body of a hashkey
-abbrev pub body_of : Hashkey → List ℕ
-body_of k = length k.path ∷ (k.secret ++ (k.path ++ flat_map joined k.sigs))
+abbrev pub encoded_body : Hashkey → List ℕ
+encoded_body k = length k.path ∷ (k.secret ++ (k.path ++ flat_map joined k.sigs))
 
 -- A signature has its bytes, which tell it.
 pub record IsWholeSig (s : Sig) : Type 0 where
   pub bytes : length (joined s) ≡ 2144
-  pub values : values_of (joined s) ≡ s
+  pub values : text_values (joined s) ≡ s
 
 -- The hashkey's parts have their sizes, so that its body tells it.
 pub record IsTold (k : Hashkey) : Type 0 where
@@ -80,12 +80,12 @@ pub record IsTold (k : Hashkey) : Type 0 where
   pub sigs : All IsWholeSig k.sigs
 
 -- each is below n
-abbrev pub are_below : ℕ → List ℕ → Bool
-are_below n xs = list_all (λ v. nat_lt v n) xs
+abbrev pub are_bounded : ℕ → List ℕ → Bool
+are_bounded n xs = list_all (λ v. nat_lt v n) xs
 
 -- a body has more vertices than the limit or one that is no party's
 abbrev pub is_bad : ℕ → ℕ → List ℕ → Bool
-is_bad limit n b = nat_lt limit (count_in b) || not (are_below n (path_in b))
+is_bad limit n b = nat_lt limit (parse_count b) || not (are_bounded n (path_in b))
 
 -- lock i is recorded with a bad body
 abbrev pub is_damaged : ℕ → ℕ → List ℕ → ℕ → Bool

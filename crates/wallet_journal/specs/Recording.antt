@@ -3,7 +3,7 @@ use Rattle.std.specs.Prelude.{◌≡◌, ℕ, zero, suc, List, [], ◌∷◌, �
 use Rattle.hashkey_path.specs.declared.hashkey.Hashkey.{Hashkey}
 use Rattle.swap_io.specs.Causes.{Rose}
 use Rattle.wallet_journal.specs.Device.{Write, IsStill}
-use Rattle.wallet_journal.specs.Layout.{body_at, gate_at, body_of}
+use Rattle.wallet_journal.specs.Layout.{body_position, gate_at, encoded_body}
 use Rattle.wallet_journal.specs.declared.fault.RecordFault.{RecordFault}
 use Rattle.wallet_journal.specs.declared.fault.RecordFault.TheVariants.{DiskFault, NoMemory}
 
@@ -19,7 +19,7 @@ IsRefused before now NoMemory old new sound = (sound ≡ true) × (new ≡ old)
 
 -- the write of a hashkey's body
 abbrev pub body_write : Hashkey → Write
-body_write k = record { at = body_at k.lock; bytes = body_of k }
+body_write k = record { at = body_position k.lock; bytes = encoded_body k }
 
 -- the write that opens its gate
 abbrev pub gate_write : Hashkey → Write

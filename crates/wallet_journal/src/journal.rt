@@ -62,7 +62,7 @@ fn note(signed: &mut SignedKeys, lock: LockId, key: Shared<Hashkey>)
 }
 
 /// Records a hashkey on a disk and notes it.
-fn record_on<D: Disk>(
+fn record_key<D: Disk>(
     disk: &mut D,
     id: &Digest,
     me: PartyId,
@@ -182,7 +182,7 @@ impl<D: Disk> Journal<D> {
             → IsUntouched (D.seen self.old.disk) (D.seen self.new.disk) (D.may_leave self.old.disk) (D.may_leave self.new.disk)) }
         ensures fault { IfErr result (λ e. IsRefused (D.faults self.old.disk) (D.faults self.new.disk) e self.old.signed self.new.signed self.new.sound) }
     {
-        match record_on(&mut self.disk, &self.id, self.me, &mut self.signed, key) {
+        match record_key(&mut self.disk, &self.id, self.me, &mut self.signed, key) {
             Ok(()) => Ok(()),
             Err(fault) => {
                 self.sound = matches!(fault, RecordFault::NoMemory);
@@ -264,11 +264,11 @@ impl Journal<MemoryDisk> {
     }
 
     /// Lets the next `k` calls of the disk pass, and every later one fail.
-    pub fn stop_after(&mut self, k: u8)
+    pub fn limit_calls(&mut self, k: u8)
         ensures left { self.new ≡ record self.old { disk = record self.old.disk { left = Some k } } }
         ensures ready { self.old.sound ≡ true → IsWrittenUp self.old.disk self.old.signed }
     {
-        self.disk.stop_after(k);
+        self.disk.limit_calls(k);
     }
 
     /// The disk crashes with an image, and the journal is opened again. Where memory runs out, it is to be opened again.

@@ -12,7 +12,7 @@ use swap_base::{Digest, PartyId};
 use swap_io::Failed;
 
 /// A deal's id, a party, and eight closed gates.
-fn head_of(id: &Digest, me: PartyId) -> [u8; 41]
+fn encoded_head(id: &Digest, me: PartyId) -> [u8; 41]
     ensures { IsHead id.now me result }
 {
     let mut head = [0u8; 41];
@@ -32,6 +32,6 @@ pub(crate) fn make<D: Disk>(disk: &mut D, id: &Digest, me: PartyId) -> Result<()
     ensures never { D.never_fails disk.old → IsOk result × D.never_fails disk.new }
     ensures cause { HasCause (D.faults disk.old) (D.faults disk.new) result }
 {
-    write_synced(disk, 1, &head_of(id, me))?;
+    write_synced(disk, 1, &encoded_head(id, me))?;
     write_synced(disk, 0, &[1])
 }

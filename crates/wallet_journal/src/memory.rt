@@ -66,7 +66,7 @@ impl MemoryDisk {
     }
 
     /// Lets the next `k` calls pass, and every later one fail.
-    pub fn stop_after(&mut self, k: u8)
+    pub fn limit_calls(&mut self, k: u8)
         ensures left { self.new ≡ record self.old { left = Some k } }
         ensures on { AreOnDisk self.old.held }
     {

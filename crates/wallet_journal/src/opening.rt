@@ -7,7 +7,7 @@ ghost use Rattle.swap_io.specs.Causes.{HasCause};
 ghost use Rattle.wallet_journal.specs.Device.{AddsNone, IsStill, IsUntouched, LeavesOnly, slice};
 ghost use Rattle.wallet_journal.specs.Layout.{is_made, recorded};
 ghost use Rattle.wallet_journal.specs.Journal.{IsUnused, IsKeptOn};
-ghost use Rattle.wallet_journal.specs.Opening.{IsReadFault, IsLeastDamaged, IsOf, IsOpenFault, IsOpened, is_damaged_for};
+ghost use Rattle.wallet_journal.specs.Opening.{IsReadFault, IsLeastDamaged, IsOf, IsOpenFault, IsOpened, is_damaged_contents};
 ghost use Rattle.wallet_journal.specs.Own.{IsInOpening};
 ghost use Rattle.wallet_journal.specs.declared.fault.Unopened.TheVariants.{DiskFault as Failing};
 
@@ -113,7 +113,7 @@ fn is_made(head: &[u8]) -> bool
 }
 
 /// Whether a head is of a party's journal of a deal.
-fn is_of(head: &[u8], deal: &Deal, me: PartyId) -> bool
+fn head_matches(head: &[u8], deal: &Deal, me: PartyId) -> bool
     requires { length head.now ≡ 42 }
     ensures { (result ≡ true) ↔ IsOf deal.now me head.now }
 {
@@ -125,7 +125,7 @@ fn sound_keys(alloc: Global, bytes: &[u8], deal: &Deal) -> Result<SignedKeys, Un
     requires sized { IsWellSized deal.now }
     requires size { length bytes.now ≡ 549426 }
     ensures value { IfOk result (λ s. s ≡ map (recorded bytes.now) (range_with_len 0 (length deal.now.leaders))) }
-    ensures sound { OnOk result ((i : ℕ) → i < length deal.now.leaders → is_damaged_for deal.now bytes.now i ≡ false) }
+    ensures sound { OnOk result ((i : ℕ) → i < length deal.now.leaders → is_damaged_contents deal.now bytes.now i ≡ false) }
     ensures fault { IfErr result (IsLeastDamaged (path_limit deal.now) deal.now.graph.n bytes.now (length deal.now.leaders)) }
 {
     let locks = deal.leaders.len() as u8;
@@ -154,7 +154,7 @@ fn found<D: Disk>(
     ensures later { D.faults disk.old ≤ D.faults disk.new }
     ensures fault { IfErr result (IsOpenFault deal.now me (D.seen disk.old) (D.faults disk.old) (D.faults disk.new)) }
 {
-    if !is_of(head, deal, me) {
+    if !head_matches(head, deal, me) {
         return Err(Unopened::Foreign);
     }
     let bytes = read_whole(alloc, disk)?;

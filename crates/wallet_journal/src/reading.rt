@@ -2,7 +2,7 @@
 
 ghost use Rattle.std.specs.Prelude.{◌≡◌, ◌<◌, ◌≤◌, ℕ, map, length, false, true, IfOk, IfErr, IfSome, MatchOption, OnOk};
 ghost use Rattle.std.specs.List.{range_with_len};
-ghost use Rattle.wallet_journal.specs.Layout.{are_below, is_bad, is_damaged, is_recorded, body, count_in, recorded};
+ghost use Rattle.wallet_journal.specs.Layout.{are_bounded, is_bad, is_damaged, is_recorded, body, parse_count, recorded};
 ghost use Rattle.wallet_journal.specs.Opening.{IsLeastDamaged, IsDamage};
 
 use crate::bodies::key_of;
@@ -15,8 +15,8 @@ use swap_base::{Listed, LockId, Shared};
 pub type SignedKeys = Listed<Option<Shared<Hashkey>>>;
 
 /// Whether the vertices are of so many parties.
-fn are_below(path: &[u8], parties: u8) -> bool
-    ensures { result ≡ are_below parties path.now }
+fn are_bounded(path: &[u8], parties: u8) -> bool
+    ensures { result ≡ are_bounded parties path.now }
 {
     path.iter().all(|v| *v < parties)
 }
@@ -41,13 +41,13 @@ fn sound_count(body: &[u8], limit: u8, parties: u8) -> Option<usize>
     requires size { length body.now ≡ 68673 }
     requires limit { limit ≤ 32 }
     ensures few { IfSome result (λ n. n ≤ 32) }
-    ensures exact { MatchOption result (is_bad limit parties body.now ≡ true) (λ n. (n ≡ count_in body.now) × (is_bad limit parties body.now ≡ false)) }
+    ensures exact { MatchOption result (is_bad limit parties body.now ≡ true) (λ n. (n ≡ parse_count body.now) × (is_bad limit parties body.now ≡ false)) }
 {
     let count = body[0] as usize;
     if count > limit as usize {
         return None;
     }
-    if are_below(&body[33..33 + count], parties) {
+    if are_bounded(&body[33..33 + count], parties) {
         Some(count)
     } else {
         None
@@ -55,7 +55,7 @@ fn sound_count(body: &[u8], limit: u8, parties: u8) -> Option<usize>
 }
 
 /// The hashkey that is recorded for a lock, if any.
-fn recorded_at(
+fn read_record(
     alloc: Global,
     bytes: &[u8],
     limit: u8,
@@ -96,7 +96,7 @@ pub(crate) fn recorded_keys(
 {
     let mut signed = Vec::new(alloc);
     'locks: for lock in 0..locks {
-        signed.push(recorded_at(alloc, bytes, limit, parties, lock)?)?;
+        signed.push(read_record(alloc, bytes, limit, parties, lock)?)?;
     }
     Ok(Listed::new(signed))
 }

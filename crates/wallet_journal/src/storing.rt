@@ -3,14 +3,14 @@
 ghost use Rattle.std.specs.Prelude.{◌≡◌, ◌<◌, ◌≤◌, ◌+◌, ℕ, length, None, true, IsOk, IsErr, OnOk, IfErr};
 ghost use Rattle.swap_io.specs.Causes.{HasCause};
 ghost use Rattle.wallet_journal.specs.Device.{LeavesOnly, IsStill, IsUntouched};
-ghost use Rattle.wallet_journal.specs.Layout.{IsTold, body_of, is_made, recorded};
+ghost use Rattle.wallet_journal.specs.Layout.{IsTold, encoded_body, is_made, recorded};
 ghost use Rattle.wallet_journal.specs.Journal.{Gains};
 ghost use Rattle.wallet_journal.specs.Own.{IsInRecord};
 ghost use Rattle.wallet_journal.specs.Recording.{IsRecordFault, IsStoppedAt, IsStoppedRecord, IsWritten};
 ghost use Rattle.wallet_journal.specs.Stopped.{bytes_left, kept_key, IsOfWrites};
 ghost use Rattle.wallet_journal.specs.declared.fault.RecordFault.TheVariants.{DiskFault as Failing, NoMemory as Wanting};
 
-use crate::bodies::body_of;
+use crate::bodies::encoded_body;
 use crate::disk::Disk;
 use crate::fault::RecordFault;
 use crate::writing::write_synced;
@@ -27,7 +27,7 @@ pub(crate) fn store<D: Disk>(disk: &mut D, key: &Hashkey, body: &[u8]) -> Result
     requires few { length key.now.path ≤ 32 }
     requires paired { length key.now.sigs ≡ length key.now.path }
     requires told { IsTold key.now }
-    requires body { body.now ≡ body_of key.now }
+    requires body { body.now ≡ encoded_body key.now }
     requires spare { 4 ≤ D.spare disk.old }
     ensures still { OnOk result (IsStill (D.seen disk.new) (D.may_leave disk.new) (D.loose disk.new)) }
     ensures gains { OnOk result (Gains (D.seen disk.old) key.now (D.seen disk.new)) }
@@ -69,7 +69,7 @@ pub(crate) fn store_ready<D: Disk>(
     ensures fault { IfErr result (IsRecordFault (D.faults disk.old) (D.faults disk.new) (D.seen disk.old) (D.seen disk.new) (D.may_leave disk.new)
         (D.loose disk.new)) }
 {
-    let body = body_of(alloc, key)?;
+    let body = encoded_body(alloc, key)?;
     disk.ready()?;
     store(disk, key, &body)?;
     Ok(())

@@ -12,10 +12,10 @@ use Rattle.swap_rules.specs.Conduct.{is_publish}
 use Rattle.swap_rules.specs.Due.{Wallet, Action, first}
 use Rattle.swap_rules.specs.Useful.{useful, IsHarmful}
 use Rattle.swap_rules.proofs.Useful.{useful_is_due, only_harm_is_left_out}
-use Rattle.wallet_promise.specs.Life.{Asking, Answer, Rest, Make, Keep, keep_of, make_if, is_kept, answer_for, MayGo, MayKeep}
+use Rattle.wallet_promise.specs.Life.{Asking, Answer, Rest, Make, Keep, kept_note, make_if, is_kept, answer_for, MayGo, MayKeep}
 use Rattle.wallet_promise.specs.Answers.{was_sent, is_asked, once, unsent, answers, AllMayGo, AllMayBeKept, NoneIsSentTwice, NothingIsLeftOut}
 use Rattle.wallet_promise.specs.Answers.{EachKeyIsAsked, AllIsUseful, RestIsNothing}
-use Rattle.wallet_promise.proofs.Keys.{made_of, kept_of}
+use Rattle.wallet_promise.proofs.Keys.{made_of, kept_state}
 
 -- Lists.
 
@@ -155,7 +155,7 @@ each_key_is_asked d v w q sent key may = go (only_harm_is_left_out d v w q.kept 
         → AsksFor key.lock (answers d v w q sent) ⊎ IsHarmful d v w q.kept q.known (MayKeep.unlock may)
     go (inl i) =
         let xs = useful d v w q.kept q.known in
-        let unlock = (kept_of q.kept (MayKeep.unlock may) key (MayKeep.asks may)).0 in
+        let unlock = (kept_state q.kept (MayKeep.unlock may) key (MayKeep.asks may)).0 in
         let s : was_sent sent (MayKeep.unlock may) ≡ false =
         ap (λ (c : Call). is_publish (Some c) && sent (Action.arc (MayKeep.unlock may))) unlock in
         inl (asks_once None (each q.kept sent xs) key refl (to_each q.kept sent xs (MayKeep.unlock may) (Keep key) i s (MayKeep.asks may)))
@@ -163,7 +163,7 @@ each_key_is_asked d v w q sent key may = go (only_harm_is_left_out d v w q.kept 
 
 never_rest : (kept : ℕ → Option Hashkey) (c : Call) (x : Action) (b : Bool) → x.call ≡ c → is_kept kept c ≡ b → make_if b x ≡ Rest → ⊥
 never_rest kept c x true call e r = cc r
-never_rest kept (Unlock key) x false call e r = absurd (cc (sym (ap keep_of call) ∙ r))
+never_rest kept (Unlock key) x false call e r = absurd (cc (sym (ap kept_note call) ∙ r))
 never_rest kept (Publish t) x false call e r = false≢true (sym e)
 never_rest kept Claim x false call e r = false≢true (sym e)
 never_rest kept Refund x false call e r = false≢true (sym e)

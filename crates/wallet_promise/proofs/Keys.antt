@@ -15,7 +15,7 @@ use Rattle.swap_rules.specs.Machine.{KeepsKey, IsWallet}
 use Rattle.swap_rules.proofs.Words.{same_key-refl}
 use Rattle.swap_rules.proofs.Cases.{Case, ToPublish, ToUnlock, ToClaim, ToRefund, case_of}
 use Rattle.swap_rules.proofs.DueKeys.{AreGood, OwnTerms, key_rule}
-use Rattle.wallet_promise.specs.Life.{Asking, is_kept, Make, Keep, keep_of, make_if, answer_for, IsPart, IsKeptAfter, MayKeep}
+use Rattle.wallet_promise.specs.Life.{Asking, is_kept, Make, Keep, kept_note, make_if, answer_for, IsPart, IsKeptAfter, MayKeep}
 use Rattle.wallet_promise.specs.Life.{IsJournal, IsTold}
 
 -- a hashkey that was kept is the one that is due
@@ -31,7 +31,7 @@ make_of : (test : Bool) (x y : Action) → make_if test y ≡ Make x → (test �
 make_of true x y e = (refl, cc e)
 make_of false x y e = absurd (none y.call e)
   where
-    none : (c : Call) → keep_of c ≡ Make x → ⊥
+    none : (c : Call) → kept_note c ≡ Make x → ⊥
     none (Publish t) q = cc q
     none (Unlock k) q = cc q
     none Claim q = cc q
@@ -46,16 +46,16 @@ keep_if : (test : Bool) (y : Action) (key : Hashkey) → make_if test y ≡ Keep
 keep_if true y key e = absurd (cc e)
 keep_if false y key e = (refl, go y.call e)
   where
-    go : (c : Call) → keep_of c ≡ Keep key → c ≡ Unlock key
+    go : (c : Call) → kept_note c ≡ Keep key → c ≡ Unlock key
     go (Publish t) q = absurd (cc q)
     go (Unlock k) q = cc q
     go Claim q = absurd (cc q)
     go Refund q = absurd (cc q)
     go (Transfer u z) q = absurd (cc q)
 
-pub kept_of : (kept : ℕ → Option Hashkey) (x : Action) (key : Hashkey) → answer_for kept (Some x) ≡ Keep key
+pub kept_state : (kept : ℕ → Option Hashkey) (x : Action) (key : Hashkey) → answer_for kept (Some x) ≡ Keep key
     → (x.call ≡ Unlock key) × (is_first_key (kept key.lock) key ≡ false)
-kept_of kept x key e = let m = keep_if (is_kept kept x.call) x key e in (m.1, subst (λ c. is_kept kept c ≡ false) m.1 m.0)
+kept_state kept x key e = let m = keep_if (is_kept kept x.call) x key e in (m.1, subst (λ c. is_kept kept c ≡ false) m.1 m.0)
 
 pub keep_first : (kept : ℕ → Option Hashkey) (o : Option Action) (key : Hashkey) → answer_for kept o ≡ Keep key
     → (x : Action) × (o ≡ Some x) × (answer_for kept (Some x) ≡ Keep key)
@@ -89,7 +89,7 @@ module _ (d : Deal) (v : ℕ) (w : Wallet) (b : Histories) (legal : IsLegalBook 
 
   pub is_new : (q : Asking) (key : Hashkey) → IsTold b q → AreGood d b v q.kept → MayKeep d v w q key → IsNew d v b q key
   is_new q key told good e =
-      let k = kept_of q.kept e.unlock key e.asks in
+      let k = kept_state q.kept e.unlock key e.asks in
       let c = case_of d v w q.kept q.known e.unlock e.is_due in
       let u = of_unlock_due q e.unlock.arc key told good (subst (λ z. Case d v w q.kept q.known e.unlock.arc z) k.0 c) in
       record { rule = u.0; free = not_first (q.kept key.lock) key k.1 u.1 }

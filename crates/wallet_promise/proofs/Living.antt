@@ -10,10 +10,10 @@ use Rattle.swap_base.proofs.Lists.{in_append, in_range}
 use Rattle.swap_base.proofs.Lists.{in_from_moment, moment_from_in, from_whole, at_moment, all_from_list_all}
 use Rattle.swap_digraph.specs.declared.deal.Deal.{Deal}
 use Rattle.swap_digraph.specs.Graph.{leaving, entering}
-use Rattle.swap_digraph.specs.Deal.{hashlock_of, locks}
+use Rattle.swap_digraph.specs.Deal.{lock_hashlock, locks}
 use Rattle.hashkey_path.specs.declared.hashkey.Hashkey.{Hashkey}
 use Rattle.hashkey_path.specs.Hashkey.{same_key, is_valid}
-use Rattle.escrow_core.specs.Terms.{terms_of, same_terms}
+use Rattle.escrow_core.specs.Terms.{stated_terms, same_terms}
 use Rattle.ledger_core.specs.declared.entry.Call.{Call}
 use Rattle.ledger_core.specs.declared.entry.Call.TheVariants.{Publish, Unlock, Claim, Refund, Transfer}
 use Rattle.ledger_core.specs.declared.entry.Entry.{Entry}
@@ -21,14 +21,14 @@ use Rattle.ledger_core.specs.History.{height, accepted, publication, published, 
 use Rattle.ledger_core.specs.Book.{Histories, history, IsLegalBook}
 use Rattle.ledger_core.proofs.History.{published_done, of_publish, not-true-of}
 use Rattle.swap_rules.specs.Accepted.{IsAccepted}
-use Rattle.swap_rules.specs.Party.{has_expired, is_correct, is_ready, is_triggered, leads_one, call_by, key_in, first_key}
-use Rattle.swap_rules.specs.Conduct.{is_publish, is_first_key, keeps, keeps_at, IsConducted}
-use Rattle.swap_rules.specs.Due.{Wallet, has_called, is_unlock_for, is_claiming, is_due_publish, may_unlock, is_due_claim, is_due_refund, due, first}
-use Rattle.swap_rules.specs.Due.{is_refunding, due_unlock_on, due_key, presented, due_unlocks, due_publishes, due_claims, due_refunds}
+use Rattle.swap_rules.specs.Party.{has_expired, is_correct, is_ready, is_triggered, leads_one, pick_call, fetch_key, first_key}
+use Rattle.swap_rules.specs.Conduct.{is_publish, is_first_key, keeps, keeps_entry, IsConducted}
+use Rattle.swap_rules.specs.Due.{Wallet, has_called, unlocks_lock, is_claiming, is_due_publish, may_unlock, is_due_claim, is_due_refund, due, first}
+use Rattle.swap_rules.specs.Due.{is_refunding, due_arc_unlock, due_key, presented, due_unlocks, due_publishes, due_claims, due_refunds}
 use Rattle.swap_rules.specs.declared.finding.Rule.{Rule}
 use Rattle.swap_rules.specs.declared.finding.Rule.TheVariants.{Publish as OfPublish, Unlock as OfUnlock, Claim as OfClaim, Refund as OfRefund}
 use Rattle.swap_rules.specs.Late.{ref_of, late_at, is_done}
-use Rattle.swap_rules.specs.Machine.{Begins, Knows, KeepsOwn, KeepsRules, IsWallet, test_of, noted}
+use Rattle.swap_rules.specs.Machine.{Begins, Knows, KeepsOwn, KeepsRules, IsWallet, rule_test, noted}
 use Rattle.swap_rules.proofs.Room.{rules_leave_room}
 use Rattle.swap_rules.proofs.Rounds.{Informed, informed_done, nothing_due}
 use Rattle.swap_rules.specs.Laws.{IsOnTime}
@@ -41,7 +41,7 @@ use Rattle.swap_rules.proofs.Expiry.{still_expired}
 use Rattle.swap_rules.proofs.Growth.{Grows, triggered-more, is_published-more, correct_published, is_ready-more, ready_good, may-more}
 use Rattle.swap_rules.proofs.Prefixes.{begins_height, in_any, moment_more}
 use Rattle.swap_rules.proofs.Refunds.{every_book_is_safe}
-use Rattle.swap_rules.proofs.Words.{act_of, call_by-act, key_parts, same_key-refl, same_key-true, same_terms-refl, and_three, and_five, leaves}
+use Rattle.swap_rules.proofs.Words.{act_of, pick_call-act, key_parts, same_key-refl, same_key-true, same_terms-refl, and_three, and_five, leaves}
 use Rattle.swap_rules.specs.Useful.{useful}
 use Rattle.swap_rules.proofs.Useful.{useful_is_due}
 use Rattle.wallet_promise.specs.Life.{Asking, nothing_kept, is_kept, IsTold, IsAnswered, IsLife, MayKeep, MayGo}
@@ -49,7 +49,7 @@ use Rattle.wallet_promise.specs.Life.{HasRested}
 use Rattle.wallet_promise.specs.Laws.{LifeConducts, LifeIsSafe, OneHashkey, AskedIsNotKept, NothingIsLost, AnswersMayGo, AnswersMayBeKept, ToldIsOnce}
 use Rattle.wallet_promise.specs.Laws.{TwiceIsBroken, TwoKeysAreBroken, KeptMayGo}
 use Rattle.wallet_promise.specs.Laws.{LifeLeavesRoom, PatienceLeavesRoom, AttentiveIsSafe, LedgersHoldKeys}
-use Rattle.wallet_promise.proofs.Keys.{Keeps, made_of, of_unlock_due, is_new, journal_keeps, keep_first, kept_of}
+use Rattle.wallet_promise.proofs.Keys.{Keeps, made_of, of_unlock_due, is_new, journal_keeps, keep_first, kept_state}
 
 -- What each call of a life keeps, whenever it lands and however often.
 
@@ -68,10 +68,10 @@ module _ (d : Deal) (v : ℕ) (w : Wallet) (b : Histories) (askings : List Askin
       let done = published_done d c (history b c) p (legal_on c l.0) e in
       let by : done.act.by ≡ v = (of_publish d c done.past done.act.by p.terms done.clear).party ∙ l.1 in
       let k = life.calls c done.past done.now (Publish p.terms) done.stands
-      (call_by-act d c done.past done.now (Publish p.terms) v done.act by) in
+      (pick_call-act d c done.past done.now (Publish p.terms) v done.act by) in
       terms (case_at c done.past (Publish p.terms) k)
     where
-      terms : {s : ℕ → Option Hashkey} {n : Histories} → Case d v w s n c (Publish p.terms) → p.terms ≡ terms_of d c
+      terms : {s : ℕ → Option Hashkey} {n : Histories} → Case d v w s n c (Publish p.terms) → p.terms ≡ stated_terms d c
       terms (ToPublish j t q) = cc q
       terms (ToUnlock j key l en may t q) = absurd (cc q)
       terms (ToClaim j t q) = absurd (cc q)
@@ -81,7 +81,7 @@ module _ (d : Deal) (v : ℕ) (w : Wallet) (b : Histories) (askings : List Askin
   keeping = journal_keeps d v w b legal wallet own_terms nothing_kept askings kept life.told (λ i key e. absurd (cc e)) life.journal
 
   -- an unlock of v carries the hashkey that is kept for its lock
-  pub one_key : (a : ℕ) (past : List Entry) (e : Entry) (key : Hashkey) → IsMoment (history b a) past e → call_by v e ≡ Some (Unlock key)
+  pub one_key : (a : ℕ) (past : List Entry) (e : Entry) (key : Hashkey) → IsMoment (history b a) past e → pick_call v e ≡ Some (Unlock key)
       → kept key.lock ≡ Some key
   one_key a past e key m k =
       let i = life.calls a past e (Unlock key) m k in
@@ -100,23 +100,23 @@ module _ (d : Deal) (v : ℕ) (w : Wallet) (b : Histories) (askings : List Askin
   pub last_one : (q : Asking) (i : ℕ) (key : Hashkey) → IsIn q askings → q.kept i ≡ Some key → kept i ≡ Some key
   last_one q i key j e = keeping.lasts q j i key e
 
-  publish_kept : (a : ℕ) (past : List Entry) (e : Entry) (known : Histories) → IsMoment (history b a) past e → call_by v e ≡ Some (Publish (terms_of d a))
-      → Grows known b → is_due_publish d v known a ≡ true → keeps d b v a past e.height (Some (Publish (terms_of d a))) ≡ true
+  publish_kept : (a : ℕ) (past : List Entry) (e : Entry) (known : Histories) → IsMoment (history b a) past e → pick_call v e ≡ Some (Publish (stated_terms d a))
+      → Grows known b → is_due_publish d v known a ≡ true → keeps d b v a past e.height (Some (Publish (stated_terms d a))) ≡ true
   unfolding keeps is_due_publish
   publish_kept a past e known m k grows t =
       let r = and_parts (leads_one d v || is_ready d known v) (not (has_called v is_publish (history known a))) t in
-      let one = count_single (λ e. is_publish (call_by v e)) (history b a) past e m (ap is_publish k) (λ q y n p. life.once a q y n p) in
-      and_both (same_terms (terms_of d a) (terms_of d a) && (count_by (λ e. is_publish (call_by v e)) (history b a) == 1)) _
-      (and_both (same_terms (terms_of d a) (terms_of d a)) _ (same_terms-refl (terms_of d a)) (eq-eqb _ 1 one)) (may-more d known b v grows r.0)
+      let one = count_single (λ e. is_publish (pick_call v e)) (history b a) past e m (ap is_publish k) (λ q y n p. life.once a q y n p) in
+      and_both (same_terms (stated_terms d a) (stated_terms d a) && (count_by (λ e. is_publish (pick_call v e)) (history b a) == 1)) _
+      (and_both (same_terms (stated_terms d a) (stated_terms d a)) _ (same_terms-refl (stated_terms d a)) (eq-eqb _ 1 one)) (may-more d known b v grows r.0)
 
   unlock_kept : (a : ℕ) (past : List Entry) (e : Entry) (known : Histories) (i : ℕ) (key : Hashkey) → IsMoment (history b a) past e
-      → call_by v e ≡ Some (Unlock key) → Grows known b → Begins (history known a) past → IsIn a (entering d.graph v) → may_unlock d v known i a ≡ true
+      → pick_call v e ≡ Some (Unlock key) → Grows known b → Begins (history known a) past → IsIn a (entering d.graph v) → may_unlock d v known i a ≡ true
       → keeps d b v a past e.height (Some (Unlock key)) ≡ true
   unfolding keeps
   unlock_kept a past e known i key m k grows later en may =
-      let t = and_parts (is_ready d known v) (not (has_called v (is_unlock_for i) (history known a))) may in
+      let t = and_parts (is_ready d known v) (not (has_called v (unlocks_lock i) (history known a))) may in
       let kr = keeping.good key.lock key (one_key a past e key m k) in
-      and_both (is_some (published past) && is_ready d b v && is_first_key (first_key b v key.lock) key && is_valid d a (hashlock_of d key.lock) key) _
+      and_both (is_some (published past) && is_ready d b v && is_first_key (first_key b v key.lock) key && is_valid d a (lock_hashlock d key.lock) key) _
       (and_both (is_some (published past) && is_ready d b v && is_first_key (first_key b v key.lock) key) _
       (and_both (is_some (published past) && is_ready d b v) _
       (and_both (is_some (published past)) _
@@ -133,7 +133,7 @@ module _ (d : Deal) (v : ℕ) (w : Wallet) (b : Histories) (askings : List Askin
       let k = and_three (is_correct d known a) (is_triggered d known a) (not (has_called v is_claiming (history known a))) t in
       triggered-more d (history known a) past later k.1
 
-  refund_kept : (a : ℕ) (past : List Entry) (e : Entry) (known : Histories) → IsMoment (history b a) past e → call_by v e ≡ Some Refund
+  refund_kept : (a : ℕ) (past : List Entry) (e : Entry) (known : Histories) → IsMoment (history b a) past e → pick_call v e ≡ Some Refund
       → Begins (history known a) past → IsIn a (leaving d.graph v) → is_due_refund d v known a ≡ true
       → keeps d b v a past e.height (Some Refund) ≡ true
   unfolding keeps is_due_refund
@@ -152,7 +152,7 @@ module _ (d : Deal) (v : ℕ) (w : Wallet) (b : Histories) (askings : List Askin
       (height (history known a)) (height past) k.3 (omega arith) up in
       subst (λ n. has_expired d a past n ≡ true) (sym at) r
 
-  keep_case : (a : ℕ) (past : List Entry) (e : Entry) (c : Call) (q : Asking) → IsMoment (history b a) past e → call_by v e ≡ Some c → IsTold b q
+  keep_case : (a : ℕ) (past : List Entry) (e : Entry) (c : Call) (q : Asking) → IsMoment (history b a) past e → pick_call v e ≡ Some c → IsTold b q
       → Begins (history q.known a) past → Case d v w q.kept q.known a c → keeps d b v a past e.height (Some c) ≡ true
   keep_case a past e c q m k told later (ToPublish i t z) =
       subst (λ y. keeps d b v a past e.height (Some y) ≡ true) (sym z)
@@ -166,7 +166,8 @@ module _ (d : Deal) (v : ℕ) (w : Wallet) (b : Histories) (askings : List Askin
       subst (λ y. keeps d b v a past e.height (Some y) ≡ true) (sym z)
       (refund_kept a past e q.known m (k ∙ ap (λ y. Some y) z) later i t)
 
-  keep_at : (a : ℕ) (past : List Entry) (e : Entry) → IsMoment (history b a) past e → (o : Option Call) → call_by v e ≡ o → keeps d b v a past e.height o ≡ true
+  keep_at : (a : ℕ) (past : List Entry) (e : Entry) → IsMoment (history b a) past e → (o : Option Call) → pick_call v e ≡ o
+      → keeps d b v a past e.height o ≡ true
   unfolding keeps
   keep_at a past e m None k = refl
   keep_at a past e m (Some c) k =
@@ -174,33 +175,34 @@ module _ (d : Deal) (v : ℕ) (w : Wallet) (b : Histories) (askings : List Askin
       keep_case a past e c i.asking m k (life.told i.asking i.asked) i.later (case_at a past c i)
 
   pub conducts : IsConducted d b v
-  conducts a = list_all-from (keeps_at d b v a) (moments (history b a)) (λ m i. keep_at a m.past m.now (from_moments (history b a) m i) (call_by v m.now) refl)
+  conducts a = list_all-from (keeps_entry d b v a) (moments (history b a)) (λ m i. keep_at a m.past m.now (from_moments (history b a) m i)
+      (pick_call v m.now) refl)
 
   -- A call is the first of its kind, where what was told of its ledger holds what stands there before it.
   pub patient_first : (a : ℕ) (past : List Entry) (c : Call) (i : IsAnswered d v w askings a past c) → Knows v (history i.asking.known a) past → (r : Rule)
-      → test_of r (Some c) ≡ true → has_called v (test_of r) past ≡ false
+      → rule_test r (Some c) ≡ true → has_called v (rule_test r) past ≡ false
   unfolding is_due_publish is_due_claim is_due_refund
   patient_first a past c i kn r h = first (case_at a past c i) r h
     where
-      other : (x : Call) (r : Rule) → c ≡ x → test_of r (Some x) ≡ false → test_of r (Some c) ≡ true → has_called v (test_of r) past ≡ false
-      other x r q f h = absurd (false≢true (sym f ∙ (ap (λ y. test_of r (Some y)) (sym q) ∙ h)))
+      other : (x : Call) (r : Rule) → c ≡ x → rule_test r (Some x) ≡ false → rule_test r (Some c) ≡ true → has_called v (rule_test r) past ≡ false
+      other x r q f h = absurd (false≢true (sym f ∙ (ap (λ y. rule_test r (Some y)) (sym q) ∙ h)))
 
-      first : Case d v w i.asking.kept i.asking.known a c → (r : Rule) → test_of r (Some c) ≡ true → has_called v (test_of r) past ≡ false
+      first : Case d v w i.asking.kept i.asking.known a c → (r : Rule) → rule_test r (Some c) ≡ true → has_called v (rule_test r) past ≡ false
       first (ToPublish j t q) OfPublish h =
           let k = and_parts (leads_one d v || is_ready d i.asking.known v) (not (has_called v is_publish (history i.asking.known a))) t in
           knows_call v is_publish (history i.asking.known a) past refl kn (not-true-of _ k.1)
-      first (ToPublish j t q) (OfUnlock l) h = other (Publish (terms_of d a)) (OfUnlock l) q refl h
-      first (ToPublish j t q) OfClaim h = other (Publish (terms_of d a)) OfClaim q refl h
-      first (ToPublish j t q) OfRefund h = other (Publish (terms_of d a)) OfRefund q refl h
+      first (ToPublish j t q) (OfUnlock l) h = other (Publish (stated_terms d a)) (OfUnlock l) q refl h
+      first (ToPublish j t q) OfClaim h = other (Publish (stated_terms d a)) OfClaim q refl h
+      first (ToPublish j t q) OfRefund h = other (Publish (stated_terms d a)) OfRefund q refl h
       first (ToUnlock j key low en may t q) OfPublish h = other (Unlock key) OfPublish q refl h
       first (ToUnlock j key low en may t q) (OfUnlock l) h =
           let good = keeping.each i.asking i.asked in
           let told = life.told i.asking i.asked in
           let lock : key.lock ≡ j = (key_rule d v w b legal wallet own_terms i.asking.kept i.asking.known good told j key low t).good.lock in
-          let same : key.lock ≡ l = eqb-true key.lock l (ap (λ y. is_unlock_for l (Some y)) (sym q) ∙ h) in
-          let k = and_parts (is_ready d i.asking.known v) (not (has_called v (is_unlock_for j) (history i.asking.known a))) may in
-          subst (λ n. has_called v (is_unlock_for n) past ≡ false) (sym lock ∙ same)
-          (knows_call v (is_unlock_for j) (history i.asking.known a) past refl kn (not-true-of _ k.1))
+          let same : key.lock ≡ l = eqb-true key.lock l (ap (λ y. unlocks_lock l (Some y)) (sym q) ∙ h) in
+          let k = and_parts (is_ready d i.asking.known v) (not (has_called v (unlocks_lock j) (history i.asking.known a))) may in
+          subst (λ n. has_called v (unlocks_lock n) past ≡ false) (sym lock ∙ same)
+          (knows_call v (unlocks_lock j) (history i.asking.known a) past refl kn (not-true-of _ k.1))
       first (ToUnlock j key low en may t q) OfClaim h = other (Unlock key) OfClaim q refl h
       first (ToUnlock j key low en may t q) OfRefund h = other (Unlock key) OfRefund q refl h
       first (ToClaim j t q) OfPublish h = other Claim OfPublish q refl h
@@ -222,12 +224,12 @@ module _ (d : Deal) (v : ℕ) (w : Wallet) (b : Histories) (askings : List Askin
   -- An unlock whose hashkey was kept is due as before.
   pub goes : (q : Asking) (key : Hashkey) → IsIn q askings → (k : MayKeep d v w q key)
       → MayGo d v w (record { known = q.known; kept = noted q.kept (Unlock key) }) k.unlock
-  unfolding due due_unlock_on due_key
+  unfolding due due_arc_unlock due_key
   goes q key j k =
       record { is_due = again (case_of d v w q.kept q.known k.unlock k.is_due); was_kept = ap (is_kept (noted q.kept (Unlock key))) call ∙ first_kept }
     where
       call : k.unlock.call ≡ Unlock key
-      call = (kept_of q.kept k.unlock key k.asks).0
+      call = (kept_state q.kept k.unlock key k.asks).0
 
       first_kept : is_first_key (noted q.kept (Unlock key) key.lock) key ≡ true
       first_kept = ap (λ x. is_first_key (cond x (Some key) (q.kept key.lock)) key) (eq-eqb key.lock key.lock refl) ∙ same_key-refl key
@@ -242,13 +244,13 @@ module _ (d : Deal) (v : ℕ) (w : Wallet) (b : Histories) (askings : List Askin
           let lock : key.lock ≡ i =
           (key_rule d v w b legal wallet own_terms q.kept q.known (keeping.each q j) (life.told q j) i key low t2).good.lock in
           let now : noted q.kept (Unlock key) i ≡ Some key = ap (λ x. cond x (Some key) (q.kept i)) (eq-eqb i key.lock (sym lock)) in
-          let here : IsIn k.unlock (due_unlock_on d v w (noted q.kept (Unlock key) i) q.known i k.unlock.arc) =
-          subst (λ s. IsIn k.unlock (due_unlock_on d v w s q.known i k.unlock.arc)) (sym now)
+          let here : IsIn k.unlock (due_arc_unlock d v w (noted q.kept (Unlock key) i) q.known i k.unlock.arc) =
+          subst (λ s. IsIn k.unlock (due_arc_unlock d v w s q.known i k.unlock.arc)) (sym now)
           (subst (λ x. IsIn k.unlock (cond x (presented k.unlock.arc (Some key)) [])) (sym may) (inl (ap (λ c. record { arc = k.unlock.arc; call = c }) call)))
           in
-          let inner = in_flat_map (due_unlock_on d v w (noted q.kept (Unlock key) i) q.known i) (entering d.graph v) k.unlock.arc k.unlock en here in
+          let inner = in_flat_map (due_arc_unlock d v w (noted q.kept (Unlock key) i) q.known i) (entering d.graph v) k.unlock.arc k.unlock en here in
           let all : IsIn k.unlock (due_unlocks d v w (noted q.kept (Unlock key)) q.known) =
-          in_flat_map (λ i. flat_map (due_unlock_on d v w (noted q.kept (Unlock key) i) q.known i) (entering d.graph v)) (locks d) i k.unlock
+          in_flat_map (λ i. flat_map (due_arc_unlock d v w (noted q.kept (Unlock key) i) q.known i) (entering d.graph v)) (locks d) i k.unlock
           (in_range i (length d.leaders) low) inner in
           let two = in_append (due_publishes d v q.known) (due_unlocks d v w (noted q.kept (Unlock key)) q.known) k.unlock (inr all) in
           let three =
@@ -257,23 +259,23 @@ module _ (d : Deal) (v : ℕ) (w : Wallet) (b : Histories) (askings : List Askin
           k.unlock (inl three)
 
   -- Where each call is the first of its kind.
-  module _ (first_one : (a : ℕ) (past : List Entry) (e : Entry) (c : Call) → IsMoment (history b a) past e → call_by v e ≡ Some c
-      → (r : Rule) → test_of r (Some c) ≡ true → has_called v (test_of r) past ≡ false) where
+  module _ (first_one : (a : ℕ) (past : List Entry) (e : Entry) (c : Call) → IsMoment (history b a) past e → pick_call v e ≡ Some c
+      → (r : Rule) → rule_test r (Some c) ≡ true → has_called v (rule_test r) past ≡ false) where
     enters_at : {s : ℕ → Option Hashkey} {n : Histories} (a : ℕ) (key : Hashkey) → Case d v w s n a (Unlock key) → IsIn a (entering d.graph v)
     enters_at a key (ToPublish j t q) = absurd (cc q)
     enters_at a key (ToUnlock j k l en may t q) = en
     enters_at a key (ToClaim j t q) = absurd (cc q)
     enters_at a key (ToRefund j t q) = absurd (cc q)
 
-    own : (a : ℕ) (past : List Entry) (e : Entry) (c : Call) → IsMoment (history b a) past e → call_by v e ≡ Some c
+    own : (a : ℕ) (past : List Entry) (e : Entry) (c : Call) → IsMoment (history b a) past e → pick_call v e ≡ Some c
         → keeps d b v a past e.height (Some c) ≡ true → KeepsOwn d b kept v a past c
     unfolding keeps
     own a past e (Publish t) m k r =
-        let r1 = and_parts (same_terms t (terms_of d a) && (count_by (λ e. is_publish (call_by v e)) (history b a) == 1)) _ r in
-        ((and_parts (same_terms t (terms_of d a)) _ r1.0).0, r1.1, first_one a past e (Publish t) m k OfPublish refl)
+        let r1 = and_parts (same_terms t (stated_terms d a) && (count_by (λ e. is_publish (pick_call v e)) (history b a) == 1)) _ r in
+        ((and_parts (same_terms t (stated_terms d a)) _ r1.0).0, r1.1, first_one a past e (Publish t) m k OfPublish refl)
     own a past e (Unlock key) m k r =
         let r1 =
-        and_parts (is_some (published past) && is_ready d b v && is_first_key (first_key b v key.lock) key && is_valid d a (hashlock_of d key.lock) key) _ r
+        and_parts (is_some (published past) && is_ready d b v && is_first_key (first_key b v key.lock) key && is_valid d a (lock_hashlock d key.lock) key) _ r
         in
         let r2 = and_parts (is_some (published past) && is_ready d b v && is_first_key (first_key b v key.lock) key) _ r1.0 in
         let r3 = and_parts (is_some (published past) && is_ready d b v) _ r2.0 in
@@ -294,7 +296,7 @@ module _ (d : Deal) (v : ℕ) (w : Wallet) (b : Histories) (askings : List Askin
 
     pub keeps_rules : KeepsRules d b kept v
     keeps_rules = record {
-      own = λ a past e c m k. own a past e c m k (subst (λ o. keeps d b v a past e.height o ≡ true) k (keep_at a past e m (call_by v e) refl));
+      own = λ a past e c m k. own a past e c m k (subst (λ o. keeps d b v a past e.height o ≡ true) k (keep_at a past e m (pick_call v e) refl));
       keys = keeping.good;
     }
 
@@ -347,8 +349,8 @@ attentive_is_safe d v w b askings kept acc legal wallet life attends = (on_time,
 pub ledgers_hold_keys : LedgersHoldKeys
 unfolding first_key
 ledgers_hold_keys d v w b askings kept acc legal wallet life known i key grows e =
-    let f = first_at (λ e. key_in i (call_by v e)) (flat_map (λ h. h) known) key e in
-    let p = key_parts i (call_by v f.now) key f.gives in
+    let f = first_at (λ e. fetch_key i (pick_call v e)) (flat_map (λ h. h) known) key e in
+    let p = key_parts i (pick_call v f.now) key f.gives in
     let x = from_whole known f.now (subst (IsIn f.now) (sym f.stands.1) (in_from_moment f.past f.now f.stands.0)) in
     let n = moment_from_in (history known x.0) f.now x.2 in
     let m = moment_more (history known x.0) (history b x.0) n.0 f.now (grows x.0) n.1 in
@@ -410,28 +412,28 @@ count_some p (y ∷ ys) x (inr i) t z =
 pub twice_is_broken : TwiceIsBroken
 unfolding keeps
 twice_is_broken d b v a past e m t before c =
-    go (call_by v e) refl t
-    (at_moment (λ m. keeps_at d b v a m ≡ true) (history b a) past e (all_from_list_all (keeps_at d b v a) (moments (history b a)) (c a)) m)
+    go (pick_call v e) refl t
+    (at_moment (λ m. keeps_entry d b v a m ≡ true) (history b a) past e (all_from_list_all (keeps_entry d b v a) (moments (history b a)) (c a)) m)
   where
-    two : count_by (λ e. is_publish (call_by v e)) (history b a) ≡ 1 → ⊥
+    two : count_by (λ e. is_publish (pick_call v e)) (history b a) ≡ 1 → ⊥
     two one =
-        let y = in_any (λ x. is_publish (call_by v x)) past before in
-        let e1 : count_by (λ e. is_publish (call_by v e)) (history b a) ≡ count_by (λ e. is_publish (call_by v e)) (past ++ e ∷ m.0) =
-        ap (count_by (λ e. is_publish (call_by v e))) m.1 in
-        let e2 : count_by (λ e. is_publish (call_by v e)) (past ++ e ∷ m.0) ≡ count_by (λ e. is_publish (call_by v e)) past
-        + count_by (λ e. is_publish (call_by v e)) (e ∷ m.0) =
-        sum_by-append (λ z. cond (is_publish (call_by v z)) 1 0) past (e ∷ m.0) in
-        let e3 : count_by (λ e. is_publish (call_by v e)) (e ∷ m.0) ≡ cond (is_publish (call_by v e)) 1 0 + count_by (λ e. is_publish (call_by v e)) m.0 =
-        sum_by-cons (λ z. cond (is_publish (call_by v z)) 1 0) e m.0 in
-        let e4 : ◌≡◌ {A = ℕ} (cond (is_publish (call_by v e)) 1 0) 1 = ap (λ b. cond {A = ℕ} b 1 0) t in
-        count_some (λ e. is_publish (call_by v e)) past y.0 y.1 y.2 (omega arith)
+        let y = in_any (λ x. is_publish (pick_call v x)) past before in
+        let e1 : count_by (λ e. is_publish (pick_call v e)) (history b a) ≡ count_by (λ e. is_publish (pick_call v e)) (past ++ e ∷ m.0) =
+        ap (count_by (λ e. is_publish (pick_call v e))) m.1 in
+        let e2 : count_by (λ e. is_publish (pick_call v e)) (past ++ e ∷ m.0) ≡ count_by (λ e. is_publish (pick_call v e)) past
+        + count_by (λ e. is_publish (pick_call v e)) (e ∷ m.0) =
+        sum_by-append (λ z. cond (is_publish (pick_call v z)) 1 0) past (e ∷ m.0) in
+        let e3 : count_by (λ e. is_publish (pick_call v e)) (e ∷ m.0) ≡ cond (is_publish (pick_call v e)) 1 0 + count_by (λ e. is_publish (pick_call v e)) m.0 =
+        sum_by-cons (λ z. cond (is_publish (pick_call v z)) 1 0) e m.0 in
+        let e4 : ◌≡◌ {A = ℕ} (cond (is_publish (pick_call v e)) 1 0) 1 = ap (λ b. cond {A = ℕ} b 1 0) t in
+        count_some (λ e. is_publish (pick_call v e)) past y.0 y.1 y.2 (omega arith)
 
-    go : (o : Option Call) → call_by v e ≡ o → is_publish (call_by v e) ≡ true → keeps d b v a past e.height (call_by v e) ≡ true → ⊥
+    go : (o : Option Call) → pick_call v e ≡ o → is_publish (pick_call v e) ≡ true → keeps d b v a past e.height (pick_call v e) ≡ true → ⊥
     go None k t r = false≢true (sym (ap is_publish k) ∙ t)
     go (Some (Publish u)) k t r =
         let r1 = ap (keeps d b v a past e.height) (sym k) ∙ r in
-        let r2 = and_parts (same_terms u (terms_of d a) && (count_by (λ e. is_publish (call_by v e)) (history b a) == 1)) _ r1 in
-        two (eqb-true _ 1 (and_parts (same_terms u (terms_of d a)) _ r2.0).1)
+        let r2 = and_parts (same_terms u (stated_terms d a) && (count_by (λ e. is_publish (pick_call v e)) (history b a) == 1)) _ r1 in
+        two (eqb-true _ 1 (and_parts (same_terms u (stated_terms d a)) _ r2.0).1)
     go (Some (Unlock u)) k t r = false≢true (sym (ap is_publish k) ∙ t)
     go (Some Claim) k t r = false≢true (sym (ap is_publish k) ∙ t)
     go (Some Refund) k t r = false≢true (sym (ap is_publish k) ∙ t)
@@ -444,13 +446,13 @@ first_is None key other e f = absurd (cc e)
 first_is (Some k) key other e f = sym (same_key-true k key e) ∙ same_key-true k other f
 
 conducted_first : (d : Deal) (b : Histories) (v a : ℕ) (past : List Entry) (e : Entry) (key : Hashkey) → IsMoment (history b a) past e
-    → call_by v e ≡ Some (Unlock key) → IsConducted d b v → is_first_key (first_key b v key.lock) key ≡ true
+    → pick_call v e ≡ Some (Unlock key) → IsConducted d b v → is_first_key (first_key b v key.lock) key ≡ true
 unfolding keeps
 conducted_first d b v a past e key m k c =
-    let r = at_moment (λ m. keeps_at d b v a m ≡ true) (history b a) past e (all_from_list_all (keeps_at d b v a) (moments (history b a)) (c a)) m in
+    let r = at_moment (λ m. keeps_entry d b v a m ≡ true) (history b a) past e (all_from_list_all (keeps_entry d b v a) (moments (history b a)) (c a)) m in
     let r0 : keeps d b v a past e.height (Some (Unlock key)) ≡ true = ap (keeps d b v a past e.height) (sym k) ∙ r in
     let r1 =
-    and_parts (is_some (published past) && is_ready d b v && is_first_key (first_key b v key.lock) key && is_valid d a (hashlock_of d key.lock) key) _ r0 in
+    and_parts (is_some (published past) && is_ready d b v && is_first_key (first_key b v key.lock) key && is_valid d a (lock_hashlock d key.lock) key) _ r0 in
     let r2 = and_parts (is_some (published past) && is_ready d b v && is_first_key (first_key b v key.lock) key) _ r1.0 in
     (and_parts (is_some (published past) && is_ready d b v) _ r2.0).1
 

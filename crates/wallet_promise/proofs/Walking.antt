@@ -11,7 +11,7 @@ use Rattle.ledger_core.specs.History.{height, published, settled}
 use Rattle.ledger_core.specs.Book.{Histories, history, IsLegalBook}
 use Rattle.swap_rules.specs.declared.finding.Rule.TheVariants.{Unlock as RuleUnlock}
 use Rattle.swap_rules.specs.Accepted.{IsAccepted}
-use Rattle.swap_rules.specs.Party.{is_triggered, has_expired, call_by}
+use Rattle.swap_rules.specs.Party.{is_triggered, has_expired, pick_call}
 use Rattle.swap_rules.specs.Conduct.{IsConducted}
 use Rattle.swap_rules.specs.Due.{Wallet, is_due_refund}
 use Rattle.swap_rules.specs.Late.{ref_of}
@@ -37,7 +37,7 @@ watchful_life_is_safe d v w b askings kept acc legal wallet life watchful =
 module _ (d : Deal) (v : ℕ) (w : Wallet) (b : Histories) (askings : List Asking) (kept : ℕ → Option Hashkey) (acc : IsAccepted d) (legal : IsLegalBook d b)
     (wallet : IsWallet d v w) (life : IsLife d v w b askings kept) where
   -- a wallet asks back only what was published
-  asks : (a : ℕ) (past : List Entry) (e : Entry) → IsIn a (leaving d.graph v) → IsMoment (history b a) past e → call_by v e ≡ Some Refund
+  asks : (a : ℕ) (past : List Entry) (e : Entry) → IsIn a (leaving d.graph v) → IsMoment (history b a) past e → pick_call v e ≡ Some Refund
       → is_some (published past) ≡ true
   unfolding is_due_refund
   asks a past e i m k =

@@ -7,7 +7,7 @@ ghost use Rattle.wallet_promise.specs.Laws.{LifeConducts, LifeIsSafe, OneHashkey
 ghost use Rattle.wallet_promise.specs.Laws.{NothingIsLost, AnswersMayGo, AnswersMayBeKept, ToldIsOnce, TwiceIsBroken};
 ghost use Rattle.wallet_promise.specs.Laws.{TwoKeysAreBroken, LifeLeavesRoom, PatienceLeavesRoom, AttentiveIsSafe, LedgersHoldKeys};
 ghost use Rattle.wallet_promise.specs.Laws.{WatchfulLifeIsSafe, MindfulIsSafe};
-ghost use Rattle.wallet_promise.specs.Laws.{LifeBegins, OthersGoOn, AskingGoesOn, CallsLand};
+ghost use Rattle.wallet_promise.specs.Laws.{LifeBegins, OthersContinue, AskingContinues, CallsLand};
 ghost use Rattle.wallet_promise.specs.Answers.{AllIsUseful, AllMayGo, AllMayBeKept, EachKeyIsAsked, NoneIsSentTwice, NothingIsLeftOut, RestIsNothing};
 
 /// In every legal book of an accepted deal, a wallet's life keeps its party's conduct. If the
@@ -49,10 +49,10 @@ pub fn answers_may_go()
 {}
 
 /// A life begins with nothing and goes on by entries of others, askings and calls that land: all that a wallet does is such a life.
-pub fn life_goes_on()
+pub fn life_continues()
     ensures begins { LifeBegins }
-    ensures others { OthersGoOn }
-    ensures asks { AskingGoesOn }
+    ensures others { OthersContinue }
+    ensures asks { AskingContinues }
     ensures lands { CallsLand }
 {}
 

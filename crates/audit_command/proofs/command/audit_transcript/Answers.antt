@@ -3,7 +3,7 @@ use Rattle.std.proofs.KnownBytes.{Keeps-refl}
 use Rattle.command_input.specs.Input.{desk, fresh}
 use Rattle.command_input.proofs.Streams.{calm_unread}
 use Rattle.audit_command.specs.Reading.{IsAgainst}
-use Rattle.transcript_reader.specs.Reading.{story_of}
+use Rattle.transcript_reader.specs.Reading.{job_story}
 use Rattle.audit_command.proofs.Ends.{all_consumed}
 use Rattle.audit_command.proofs.Told.{is_formed, says_refused, says_unread, says_written}
 use Rattle.audit_command.proofs.command.audit_transcript.Goals as goal
@@ -12,17 +12,17 @@ pub returns-in-Err-clause-says : goal.returns-in-Err-clause-says
 returns-in-Err-clause-says g c = rw c.unread.ensures (says_unread _ _ _ _ _ _ c.in-Err.fault c.in-Err.ensures.stops)
 
 pub judge-requires-clause-formed : goal.judge-requires-clause-formed
-judge-requires-clause-formed g c = is_formed _ _ _ _ (story_of c.in-Ok.story) c.in-Ok.ensures.read
+judge-requires-clause-formed g c = is_formed _ _ _ _ (job_story c.in-Ok.story) c.in-Ok.ensures.read
 
 pub returns-in-Ok-judge-clause-says : goal.returns-in-Ok-judge-clause-says
 returns-in-Ok-judge-clause-says g c =
-    says_written _ _ _ _ (story_of c.in-Ok.story) c.in-Ok.ensures.read _ _ _ _ c.in-Ok-judge.report c.in-Ok.ensures.told c.in-Ok-judge.ensures.exact
+    says_written _ _ _ _ (job_story c.in-Ok.story) c.in-Ok.ensures.read _ _ _ _ c.in-Ok-judge.report c.in-Ok.ensures.told c.in-Ok-judge.ensures.exact
     c.in-Ok-judge.ensures.sound c.tell.result c.tell.ensures
 
 pub returns-in-Err-Refused-clause-says : goal.returns-in-Err-Refused-clause-says
 returns-in-Err-Refused-clause-says g c =
     rw c.in-Err-Refused.field-0-is
-    (says_refused _ _ (g.S.Source.faults c.args.source.now) (g.S.Source.faults c.read_story.new.source) (story_of c.in-Ok.story) c.in-Ok.ensures.read
+    (says_refused _ _ (g.S.Source.faults c.args.source.now) (g.S.Source.faults c.read_story.new.source) (job_story c.in-Ok.story) c.in-Ok.ensures.read
     (g.K.Sink.taken c.args.sink.now) (g.K.Sink.faults c.args.sink.now) c.in-Err-Refused.refusal
     (rw c.in-Err-Refused.field-0-is at c.in-Err-Refused.ensures.exact))
 

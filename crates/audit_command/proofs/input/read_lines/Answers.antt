@@ -2,7 +2,7 @@ use Rattle.std.proofs.lemmas.Result.{err_from_is_err_and}
 use Rattle.command_input.specs.Input.{Tells, desk, fresh}
 use Rattle.command_input.proofs.Ahead.{line_faults}
 use Rattle.audit_command.specs.Reading.{IsBad}
-use Rattle.audit_command.proofs.Leads.{last_of, led_fault, led_first, led_on, led_to_end, line_of}
+use Rattle.audit_command.proofs.Leads.{last_run, led_fault, led_first, led_on, led_to_end, line_of}
 use Rattle.audit_command.proofs.input.read_lines.Goals as goal
 
 pub lines-init : goal.lines-init
@@ -36,4 +36,4 @@ pub lines-smaller : goal.lines-smaller
 lines-smaller g c = (line_of _ _ _ c.if-branch.true c.in_ok-part.ensures.gives).fewer
 
 pub returns-clause-read : goal.returns-clause-read
-returns-clause-read g c = led_to_end _ _ _ _ _ c.lines.invariant (last_of _ _ _ c.if-branch.false c.in_ok-part.ensures.gives)
+returns-clause-read g c = led_to_end _ _ _ _ _ c.lines.invariant (last_run _ _ _ c.if-branch.false c.in_ok-part.ensures.gives)

@@ -1,7 +1,7 @@
 use Rattle.std.proofs.Common.{refl, ap, ◌∙◌, ◌==◌, count_by}
 use Rattle.ledger_core.specs.Book.{history}
-use Rattle.history_index.specs.Indexes.{entries_in}
-use Rattle.swap_rules.specs.Party.{call_by}
+use Rattle.history_index.specs.Indexes.{all_entries}
+use Rattle.swap_rules.specs.Party.{pick_call}
 use Rattle.swap_rules.specs.Conduct.{is_publish}
 use Rattle.conduct_check.proofs.Asked.{count_calls}
 use Rattle.conduct_check.proofs.conduct.publishes_once.Goals as goal
@@ -9,5 +9,5 @@ use Rattle.conduct_check.proofs.conduct.publishes_once.Goals as goal
 pub returns : goal.returns
 returns c =
     ap (λ n. n == 1)
-    (c.count_publishes.ensures ∙ ap (count_by (λ m. is_publish (call_by c.args.party m.entry))) c.made_on.ensures
-    ∙ count_calls is_publish c.args.party (history (entries_in c.args.known.now) c.args.arc) refl)
+    (c.count_publishes.ensures ∙ ap (count_by (λ m. is_publish (pick_call c.args.party m.entry))) c.made_calls.ensures
+    ∙ count_calls is_publish c.args.party (history (all_entries c.args.known.now) c.args.arc) refl)

@@ -4,7 +4,7 @@ use Rattle.std.proofs.lemmas.Iterator.{YieldsList-from_slice}
 use Rattle.std.proofs.lemmas.Iterator.Search.{any_from_yields_List}
 use Rattle.hashkey_path.specs.declared.hashkey.Hashkey.{Hashkey}
 use Rattle.hashkey_path.specs.Hashkey.{same_key}
-use Rattle.history_index.specs.Indexes.{entries_in}
+use Rattle.history_index.specs.Indexes.{all_entries}
 use Rattle.conduct_check.proofs.Forgery.{made_by_parts}
 use Rattle.conduct_check.proofs.forged.has_made.Goals as goal
 
@@ -17,5 +17,5 @@ returns c =
       sigs =
           c.args.sigs.now;
     })) _ _ c.any.result c.any.ensures.ran (YieldsList-from_slice c.args.keys.now cc) (λ x b q k. search rules)
-    ∙ sym (made_by_parts (entries_in c.args.known.now) c.args.party c.args.lock c.args.secret.now c.args.path.now c.args.sigs.now c.args.keys.now
+    ∙ sym (made_by_parts (all_entries c.args.known.now) c.args.party c.args.lock c.args.secret.now c.args.path.now c.args.sigs.now c.args.keys.now
     c.requires.keys)

@@ -4,7 +4,7 @@ use Rattle.std.specs.Str.{bytes_eq}
 use Rattle.std.proofs.lemmas.Iterator.{YieldsList-from_slice}
 use Rattle.std.proofs.lemmas.Iterator.Search.{any_from_yields_List}
 use Rattle.hashkey_path.specs.declared.hashkey.Hashkey.{Hashkey}
-use Rattle.history_index.specs.Indexes.{entries_in}
+use Rattle.history_index.specs.Indexes.{all_entries}
 use Rattle.conduct_check.proofs.Forgery.{sent_secret}
 use Rattle.conduct_check.proofs.forged.has_sent.Goals as goal
 
@@ -12,4 +12,4 @@ pub returns : goal.returns
 returns c =
     any_from_yields_List (λ (r : Bor Hashkey). bytes_eq r.now.secret c.args.secret.now) _ _ c.any.result c.any.ensures.ran
     (YieldsList-from_slice c.args.keys.now cc) (λ x b q k. search rules)
-    ∙ sym (sent_secret (entries_in c.args.known.now) c.args.party c.args.secret.now c.args.keys.now c.requires.keys)
+    ∙ sym (sent_secret (all_entries c.args.known.now) c.args.party c.args.secret.now c.args.keys.now c.requires.keys)

@@ -4,5 +4,5 @@ use Rattle.deviators.proofs.replayed.add_known.Goals as goal
 
 pub returns : goal.returns
 returns c =
-    on_ok c.add_among.result (λ e. e
-    ∙ ap (λ ys. c.args.keys.now.items ++ ys) (of_list c.args.list.now c.parts.result.0.now c.parts.result.1 c.parts.ensures.list)) c.add_among.ensures
+    on_ok c.add_keys.result (λ e. e
+    ∙ ap (λ ys. c.args.keys.now.items ++ ys) (of_list c.args.list.now c.parts.result.0.now c.parts.result.1 c.parts.ensures.list)) c.add_keys.ensures

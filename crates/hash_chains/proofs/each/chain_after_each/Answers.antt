@@ -10,7 +10,7 @@ steps-init c = λ j lt. none_each (digest_bytes (lane c.args.y j) 8) (slice_inde
 pub steps-preserved : goal.steps-preserved
 steps-preserved c = λ j lt.
     each_more (lane c.steps.reached j) _ _ _ c.steps.i (slice_index c.args.counts j) (c.chain_step-next.ensures j lt)
-    (c.all_moved_on-moved.ensures j lt) (c.steps.invariant j lt)
+    (c.all_advanced-moved.ensures j lt) (c.steps.invariant j lt)
 
 pub returns : goal.returns
 returns c = λ j lt.

@@ -1,7 +1,7 @@
 use Rattle.std.proofs.Common.{◌≡◌, ◌∙◌, sym, ap, arith, length, below_more}
 use Rattle.std.proofs.lemmas.List.{places}
 use Rattle.swap_base.specs.Text.{joined}
-use Rattle.hash_signature.proofs.Values.{bytes_more, bytes_filled, values_of-joined}
+use Rattle.hash_signature.proofs.Values.{bytes_more, bytes_filled, text_values-joined}
 use Rattle.hash_signature.proofs.sig.bytes_of.Goals as goal
 
 pub values-preserved : goal.values-preserved
@@ -22,4 +22,4 @@ pub returns-clause-values : goal.returns-clause-values
 returns-clause-values c =
     let bytes : c.values.bytes ≡ joined c.args.values.now =
     bytes_filled c.values.bytes c.args.values.now c.values.i c.values.invariant.width c.told-values (omega arith) c.values.invariant.filled in
-    rw bytes (values_of-joined c.args.values.now c.told-values (λ k lt. c.values.invariant.widths k (omega arith)))
+    rw bytes (text_values-joined c.args.values.now c.told-values (λ k lt. c.values.invariant.widths k (omega arith)))

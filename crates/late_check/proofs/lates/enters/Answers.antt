@@ -1,9 +1,9 @@
 use Rattle.std.proofs.Common.{◌==◌, ap, ◌∙◌}
-use Rattle.swap_digraph.specs.Graph.{ends_in}
+use Rattle.swap_digraph.specs.Graph.{resolve_all_ends}
 use Rattle.late_check.proofs.Asked.{enters_by_end}
 use Rattle.late_check.proofs.lates.enters.Goals as goal
 
 pub returns : goal.returns
 returns c =
-    ap (λ arcs. (ends_in arcs c.args.arc).to == c.args.party) c.arcs.ensures
+    ap (λ arcs. (resolve_all_ends arcs c.args.arc).to == c.args.party) c.arcs.ensures
     ∙ enters_by_end c.args.deal.now.graph c.args.party c.args.arc c.requires.arc

@@ -11,6 +11,6 @@ not-true true h = absurd (cc h)
 pub returns-clause-feedback : goal.returns-clause-feedback
 returns-clause-feedback c = (
   λ h. none_feedback c.args.graph.now c.args.leaders.now
-      (none_of (follower_cycle c.args.graph.now c.args.leaders.now) (sym c.in_ok-rise_on.ensures ∙ not-true c.in_ok-rise_on.field-0 h)),
-  λ feedback. ap not (c.in_ok-rise_on.ensures ∙ ap is_some (feedback_none c.args.graph.now c.args.leaders.now feedback)),
+      (none_of (follower_cycle c.args.graph.now c.args.leaders.now) (sym c.in_ok-levels_rise.ensures ∙ not-true c.in_ok-levels_rise.field-0 h)),
+  λ feedback. ap not (c.in_ok-levels_rise.ensures ∙ ap is_some (feedback_none c.args.graph.now c.args.leaders.now feedback)),
 )

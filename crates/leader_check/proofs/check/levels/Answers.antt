@@ -1,5 +1,5 @@
 use Rattle.std.proofs.Common.{◌≡◌, ◌∙◌, sym}
-use Rattle.leader_check.specs.Levels.{level_of, height_of}
+use Rattle.leader_check.specs.Levels.{party_level, latest_height}
 use Rattle.leader_check.proofs.Heights.{is_level, is_height}
 use Rattle.leader_check.proofs.Walks.{cycle_is, cycle_no_feedback, none_feedback}
 use Rattle.leader_check.proofs.Bounds as bounds
@@ -19,18 +19,18 @@ returns-in-None-clause-feedback c = none_feedback c.args.graph.now c.args.leader
 
 pub returns-in-None-clause-parties : goal.returns-in-None-clause-parties
 returns-in-None-clause-parties c =
-    length-row (level_of c.args.graph.now c.args.leaders.now) c.args.graph.now.n c.with_greatest.result.level (c.with_greatest.ensures.level
+    length-row (party_level c.args.graph.now c.args.leaders.now) c.args.graph.now.n c.with_greatest.result.level (c.with_greatest.ensures.level
     ∙ c.in_ok-row.ensures)
 
 pub returns-in-None-clause-level : goal.returns-in-None-clause-level
 returns-in-None-clause-level c v lt =
-    row_at (level_of c.args.graph.now c.args.leaders.now) c.args.graph.now.n v 0 c.with_greatest.result.level (c.with_greatest.ensures.level
+    row_at (party_level c.args.graph.now c.args.leaders.now) c.args.graph.now.n v 0 c.with_greatest.result.level (c.with_greatest.ensures.level
     ∙ c.in_ok-row.ensures) lt
 
 pub returns-in-None-clause-longest : goal.returns-in-None-clause-longest
 returns-in-None-clause-longest c v lt =
     let e =
-    row_at (level_of c.args.graph.now c.args.leaders.now) c.args.graph.now.n v 0 c.with_greatest.result.level (c.with_greatest.ensures.level
+    row_at (party_level c.args.graph.now c.args.leaders.now) c.args.graph.now.n v 0 c.with_greatest.result.level (c.with_greatest.ensures.level
     ∙ c.in_ok-row.ensures) lt in
     rw e (is_level c.args.graph.now c.args.leaders.now (none_feedback c.args.graph.now c.args.leaders.now (sym c.in_ok-cycle.ensures ∙ c.in-None.is)) v)
 
@@ -39,7 +39,7 @@ returns-in-None-clause-greatest c = c.with_greatest.ensures.height ∙ height_is
 
 pub returns-in-None-clause-height : goal.returns-in-None-clause-height
 returns-in-None-clause-height c =
-    let e : c.with_greatest.result.h ≡ height_of c.args.graph.now c.args.leaders.now =
+    let e : c.with_greatest.result.h ≡ latest_height c.args.graph.now c.args.leaders.now =
     c.with_greatest.ensures.height ∙ height_is c.args.graph.now c.args.leaders.now _ c.in_ok-row.ensures in
     rw e (is_height c.args.graph.now c.args.leaders.now (none_feedback c.args.graph.now c.args.leaders.now (sym c.in_ok-cycle.ensures ∙ c.in-None.is)))
 

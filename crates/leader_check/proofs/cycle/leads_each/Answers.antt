@@ -4,7 +4,7 @@ use Rattle.std.specs.Int.Bits.{bit_or}
 use Rattle.std.proofs.lemmas.Grind.{get_or_default_zero}
 use Rattle.std.proofs.lemmas.List.{length-set}
 use Rattle.swap_digraph.specs.declared.arc_ends.ArcEnds.{ArcEnds}
-use Rattle.leader_check.specs.Cycles.{has_bit, leads_into}
+use Rattle.leader_check.specs.Cycles.{has_bit, enters_led}
 use Rattle.leader_check.proofs.Passes.{unite, any_ends, from_below}
 use Rattle.leader_check.proofs.cycle.leads_each.Goals as goal
 
@@ -29,7 +29,7 @@ loop-arc-preserved c =
     }
 
 pub returns-clause-leads : goal.returns-clause-leads
-unfolding leads_into
+unfolding enters_led
 returns-clause-leads c v u lt =
     any_ends (λ a. (a.from == u) && has_bit c.args.row.now v a.to) c.arcs-arc-items.result.now c.loop-arc.arc-index (has_bit c.loop-arc.leads.items v u)
     _ c.loop-arc-test.false (c.loop-arc.invariant.leads v u)

@@ -1,6 +1,6 @@
 use Rattle.std.proofs.Common.{◌≡◌, ◌∙◌, ℕ, replicate, arith, ap, rules}
 use Rattle.leader_check.specs.Followers.{is_follower}
-use Rattle.leader_check.specs.Levels.{level_within}
+use Rattle.leader_check.specs.Levels.{bounded_level}
 use Rattle.leader_check.proofs.Rows.{levels_none, levels_next, levels_low, levels_all, length-row}
 use Rattle.leader_check.proofs.rounds.level_row.Goals as goal
 
@@ -15,7 +15,7 @@ next_levels-requires-clause-follows c =
 
 pub next_levels-requires-clause-row : goal.next_levels-requires-clause-row
 next_levels-requires-clause-row c =
-    length-row (level_within c.args.graph.now c.args.leaders.now c.loop-round._round) c.args.graph.now.n c.deref-in-loop-round.result.now
+    length-row (bounded_level c.args.graph.now c.args.leaders.now c.loop-round._round) c.args.graph.now.n c.deref-in-loop-round.result.now
     (c.deref-in-loop-round.ensures.value ∙ c.loop-round.invariant)
 
 pub next_levels-requires-clause-low : goal.next_levels-requires-clause-low

@@ -6,8 +6,8 @@ use Rattle.leader_check.specs.Levels.{most_before}
 use Rattle.leader_check.proofs.Heights.{before-below}
 use Rattle.leader_check.proofs.rounds.next_levels.Goals as goal
 
-pub level_over-requires : goal.level_over-requires
-level_over-requires c =
+pub raised_level-requires : goal.raised_level-requires
+raised_level-requires c =
     let s = c.in_ok-most.ensures.parties in
     let e =
     c.index.ensures ∙ get_or_default_zero c.in_ok-most.most.items c.loop-v.v c.index.result.now (omega (arith, s))
@@ -22,5 +22,5 @@ loop-v-preserved c =
     ∙ c.in_ok-most.ensures.most c.loop-v.v (omega arith) in
     map_more (λ v. cond (at c.args.follows.now v) (most_before c.args.graph.now (slice_index c.args.row.now) v + 1) 0) c.loop-v.v c.loop-v.next.items
     c.push.new.self.items
-    (c.in_ok-push.ensures.items ∙ ap (λ (x : ℕ). c.loop-v.next.items ++ x ∷ []) (c.level_over.ensures
+    (c.in_ok-push.ensures.items ∙ ap (λ (x : ℕ). c.loop-v.next.items ++ x ∷ []) (c.raised_level.ensures
     ∙ ap (λ (m : ℕ). cond (at c.args.follows.now c.loop-v.v) (m + 1) 0) e)) c.loop-v.invariant

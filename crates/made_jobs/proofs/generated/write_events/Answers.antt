@@ -15,10 +15,10 @@ returns-in_err-put_event g c =
     hands_err NoMemory _ _ _ _ _ _ _ _ (p.1 ∙ ap Err p.2) (rest_lost (λ _. event_line c.args.names.now) xs _ _ _ _ _ _ c.events.invariant.so_far)
     c.events.invariant.later (λ is. absurd (cc is))
 
-pub returns-in_err-pass_on : goal.returns-in_err-pass_on
-returns-in_err-pass_on g c =
-    let p = err_from_is_err_and c.from_residual-in_err-pass_on.result c.from_residual-in_err-pass_on.ensures.1 in
-    let e = c.in_err-pass_on.field-0.0 in
+pub returns-in_err-flush_waiting : goal.returns-in_err-flush_waiting
+returns-in_err-flush_waiting g c =
+    let p = err_from_is_err_and c.from_residual-in_err-flush_waiting.result c.from_residual-in_err-flush_waiting.ensures.1 in
+    let e = c.in_err-flush_waiting.field-0.0 in
     let seed : ℕ = c.args.generator.now.seed in
     let n : ℕ = c.args.generator.now.parties in
     let xs : List Event = generated_events seed n c.args.events in
@@ -31,9 +31,9 @@ returns-in_err-pass_on g c =
     hands_err e _ _ _ _ _ _ _ _ (p.1 ∙ ap Err p.2)
     (line_lost (λ _. event_line c.args.names.now) xs _ _ _ e _ _ _ _ c.events._e event event lt
     (drawn_is seed n c.args.events c.events._e event event d.first)
-    c.in_ok-put_event.ensures.ok (lost_was e _ _ _ _ _ _ _ _ c.in_err-pass_on.was c.pass_on.ensures) c.events.invariant.so_far)
-    (omega (arith, c.events.invariant.later, c.pass_on.ensures.later))
-    (λ is. rose_before _ _ _ c.events.invariant.later (rose_was e _ _ _ _ _ _ _ _ c.in_err-pass_on.was c.pass_on.ensures is))
+    c.in_ok-put_event.ensures.ok (lost_was e _ _ _ _ _ _ _ _ c.in_err-flush_waiting.was c.flush_waiting.ensures) c.events.invariant.so_far)
+    (omega (arith, c.events.invariant.later, c.flush_waiting.ensures.later))
+    (λ is. rose_before _ _ _ c.events.invariant.later (rose_was e _ _ _ _ _ _ _ _ c.in_err-flush_waiting.was c.flush_waiting.ensures is))
 
 pub events-preserved : goal.events-preserved
 events-preserved g c =
@@ -50,8 +50,8 @@ events-preserved g c =
       at = d.on;
       so_far = line_on (λ _. event_line c.args.names.now) xs _ _ _ _ _ _ _ _ c.events._e event event lt
           (drawn_is seed n c.args.events c.events._e event event d.first)
-          c.in_ok-put_event.ensures.ok (handed_was _ _ _ _ _ _ _ _ _ c.in_ok-pass_on.was c.pass_on.ensures) c.events.invariant.so_far;
-      later = omega (arith, c.events.invariant.later, c.pass_on.ensures.later);
+          c.in_ok-put_event.ensures.ok (handed_was _ _ _ _ _ _ _ _ _ c.in_ok-flush_waiting.was c.flush_waiting.ensures) c.events.invariant.so_far;
+      later = omega (arith, c.events.invariant.later, c.flush_waiting.ensures.later);
     }
 
 pub returns : goal.returns

@@ -12,9 +12,9 @@ step-requires g c =
     let seed : ℕ = c.args.generator.now.seed in
     let n : ℕ = c.args.generator.now.parties in
     record {
-      event = can_step seed n c.events.generator c.events.world c.next_event-event.result i.at.seed_is i.at.parties_are i.is_of
+      event = can_step seed n c.events.generator c.events.world c.next_event-event.result i.at.seed_is i.at.parties_are i.head_matches
           c.next_event-event.ensures.fits;
-      held = unasked_are_held _ c.events.world.roles (unasked_in seed n c.events.world i.is_of);
+      held = unasked_are_held _ c.events.world.roles (unasked_in seed n c.events.world i.head_matches);
     }
 
 pub events-preserved : goal.events-preserved
@@ -27,10 +27,10 @@ events-preserved g c =
     e.drawn in
     record {
       at = d.on;
-      is_of = is_still _ _ c.events.world c.step.new.self c.in_ok-step.ensures.ok (generated seed n) i.is_of;
+      head_matches = is_still _ _ c.events.world c.step.new.self c.in_ok-step.ensures.ok (generated seed n) i.head_matches;
       goes_on = goes_on_still _ _ c.events.world c.step.new.self c.in_ok-step.ensures.ok i.goes_on;
-      rest = one_more (generated seed n) c.events.world c.step.new.self c.next_event-event.result _ _ _ i.is_of
-          (plain_step _ c.events.world c.step.new.self (unasked_in seed n c.events.world i.is_of) c.next_event-event.result c.in_ok-step.ensures.ok)
+      rest = one_more (generated seed n) c.events.world c.step.new.self c.next_event-event.result _ _ _ i.head_matches
+          (plain_step _ c.events.world c.step.new.self (unasked_in seed n c.events.world i.head_matches) c.next_event-event.result c.in_ok-step.ensures.ok)
           d.first i.rest;
     }
 

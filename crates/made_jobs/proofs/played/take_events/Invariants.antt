@@ -1,6 +1,6 @@
 use Rattle.std.proofs.Common.{◌≡◌, false, drop}
-use Rattle.swap_run.specs.Run.{run_from}
-use Rattle.swap_world.specs.Cast.{cast_of}
+use Rattle.swap_run.specs.Run.{continued_run}
+use Rattle.swap_world.specs.Cast.{job_cast}
 use Rattle.swap_gen.specs.Drawn.{generated}
 use Rattle.swap_gen.specs.Events.{generated_events}
 use Rattle.made_jobs.specs.Generating.{IsOf, StandsAt}
@@ -9,10 +9,10 @@ use Rattle.made_jobs.proofs.played.take_events.Given as goal
 abbrev pub invariant-events : goal.invariant-events
 invariant-events g l = record {
   at : StandsAt l.fn.generator.seed l.fn.generator.parties l.events l._e l.generator;
-  is_of : IsOf (generated l.fn.generator.seed l.fn.generator.parties) l.world;
+  head_matches : IsOf (generated l.fn.generator.seed l.fn.generator.parties) l.world;
   goes_on : l.world.stopped ≡ false;
-  rest : run_from (cast_of (generated l.fn.generator.seed l.fn.generator.parties)) l.world.state
+  rest : continued_run (job_cast (generated l.fn.generator.seed l.fn.generator.parties)) l.world.state
       (drop l._e (generated_events l.fn.generator.seed l.fn.generator.parties l.events))
-      ≡ run_from (cast_of (generated l.fn.generator.seed l.fn.generator.parties)) l.fn.world.state
+      ≡ continued_run (job_cast (generated l.fn.generator.seed l.fn.generator.parties)) l.fn.world.state
       (generated_events l.fn.generator.seed l.fn.generator.parties l.events);
 }

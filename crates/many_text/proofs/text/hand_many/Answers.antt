@@ -4,15 +4,16 @@ use Rattle.swap_base.specs.Text.{lines}
 use Rattle.swap_io.specs.Handed.{Handed, Lost}
 use Rattle.swap_io.specs.declared.fault.TextFault.TheVariants.{NoMemory}
 use Rattle.swap_io.proofs.Handing.{handed_on, handed_put, handed_was, hands_err, hands_ok, lost_before, lost_then, lost_was, rose_was}
-use Rattle.swap_many.specs.Value.{kept_of}
+use Rattle.swap_many.specs.Value.{kept_state}
 use Rattle.report_text.specs.Report.{count_line}
 use Rattle.many_text.specs.ManyText.{chain_text_in, findings_from, swap_text_in}
-use Rattle.many_text.proofs.Handing.{all_three, of_many}
+use Rattle.many_text.proofs.Handing.{of_many}
+use Rattle.report_text.proofs.Parts.{all_three}
 use Rattle.many_text.proofs.text.hand_many.Goals as goal
 
 pub returns-in_err-count-clause-hands : goal.returns-in_err-count-clause-hands
 returns-in_err-count-clause-hands g c =
-    let z = kept_of c.args.world.now in
+    let z = kept_state c.args.world.now in
     let t1 = lines (swap_text_in z) 0 c.args.jobs.now in
     let t2 = lines (chain_text_in z) 0 c.args.names.now in
     let t3 = count_line (findings_from z 0 c.args.jobs.now) in
@@ -26,7 +27,7 @@ returns-in_err-count-clause-hands g c =
 
 pub returns-in_err-put_chains-clause-hands : goal.returns-in_err-put_chains-clause-hands
 returns-in_err-put_chains-clause-hands g c =
-    let z = kept_of c.args.world.now in
+    let z = kept_state c.args.world.now in
     let t1 = lines (swap_text_in z) 0 c.args.jobs.now in
     let t2 = lines (chain_text_in z) 0 c.args.names.now in
     let t3 = count_line (findings_from z 0 c.args.jobs.now) in
@@ -38,7 +39,7 @@ returns-in_err-put_chains-clause-hands g c =
 
 pub returns-in_err-put_count-clause-hands : goal.returns-in_err-put_count-clause-hands
 returns-in_err-put_count-clause-hands g c =
-    let z = kept_of c.args.world.now in
+    let z = kept_state c.args.world.now in
     let t1 = lines (swap_text_in z) 0 c.args.jobs.now in
     let t2 = lines (chain_text_in z) 0 c.args.names.now in
     let t3 = count_line (findings_from z 0 c.args.jobs.now) in
@@ -51,7 +52,7 @@ returns-in_err-put_count-clause-hands g c =
 
 pub returns-clause-hands : goal.returns-clause-hands
 returns-clause-hands g c =
-    let z = kept_of c.args.world.now in
+    let z = kept_state c.args.world.now in
     let t1 = lines (swap_text_in z) 0 c.args.jobs.now in
     let t2 = lines (chain_text_in z) 0 c.args.names.now in
     let t3 = count_line (findings_from z 0 c.args.jobs.now) in

@@ -1,5 +1,5 @@
 use Rattle.std.proofs.Common.{◌<◌, length, sym, subst, arith}
-use Rattle.offer_moves.specs.Kept.{AreCraftersBelow}
+use Rattle.offer_moves.specs.Kept.{AreBoundedCrafters}
 use Rattle.offer_moves.proofs.Made.{move_made}
 use Rattle.offer_events.proofs.event.event_of_call.Goals as goal
 
@@ -13,9 +13,9 @@ pub check_move-requires : goal.check_move-requires
 check_move-requires c =
     let job = c.args.job.now in
     let made = move_made job.deal job.seeds job.names c.args.line c.args.raw.now c.in_ok-mv.mv c.requires.sized c.requires.names
-    (rw (c.sizes_of.ensures, c.as_slice-names.ensures) at c.in_ok-mv.ensures) in
+    (rw (c.deal_sizes.ensures, c.as_slice-names.ensures) at c.in_ok-mv.ensures) in
     record {
       arc = made.arc;
-      conforming = subst (λ n. AreCraftersBelow n c.in_ok-mv.mv) (sym c.requires.conforming) made.below;
-      seeds = subst (λ n. AreCraftersBelow n c.in_ok-mv.mv) (sym c.requires.seeds) made.below;
+      conforming = subst (λ n. AreBoundedCrafters n c.in_ok-mv.mv) (sym c.requires.conforming) made.below;
+      seeds = subst (λ n. AreBoundedCrafters n c.in_ok-mv.mv) (sym c.requires.seeds) made.below;
     }

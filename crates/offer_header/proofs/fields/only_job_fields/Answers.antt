@@ -1,7 +1,7 @@
 use Rattle.offer_header.proofs.fields.only_job_fields.Goals as goal
 
 pub returns-then-keyed : goal.returns-then-keyed
-returns-then-keyed c = rw c.if-keyed.true c.only_in.ensures
+returns-then-keyed c = rw c.if-keyed.true c.allow_only.ensures
 
 pub returns : goal.returns
-returns c = rw c.if-keyed.false c.only_in-2.ensures
+returns c = rw c.if-keyed.false c.allow_only-2.ensures

@@ -1,6 +1,6 @@
 use Rattle.std.proofs.Common.{◌≡◌, IfOk, ap, ◌∙◌, subst}
 use Rattle.ledger_core.specs.Book.{Histories}
-use Rattle.history_index.specs.Indexes.{entries_in}
+use Rattle.history_index.specs.Indexes.{all_entries}
 use Rattle.swap_rules.specs.Findings.{findings}
 use Rattle.outcome_rules.specs.Report.{conforms_in}
 use Rattle.outcome_rules.proofs.listing.findings.Goals as goal
@@ -8,16 +8,16 @@ use Rattle.outcome_rules.proofs.listing.findings.Goals as goal
 pub returns-clause-exact : goal.returns-clause-exact
 returns-clause-exact c =
     subst (λ (b : Histories). IfOk c.findings_indexed.result (λ l. l ≡ findings c.args.deal.now (conforms_in c.args.conforming.now) b))
-    (ap entries_in c.deref.ensures.value ∙ c.in_ok-known.ensures.entries) c.findings_indexed.ensures.exact
+    (ap all_entries c.deref.ensures.value ∙ c.in_ok-known.ensures.entries) c.findings_indexed.ensures.exact
 
 pub returns-clause-safe : goal.returns-clause-safe
-returns-clause-safe c = rw (ap entries_in c.deref.ensures.value ∙ c.in_ok-known.ensures.entries) at c.findings_indexed.ensures.safe
+returns-clause-safe c = rw (ap all_entries c.deref.ensures.value ∙ c.in_ok-known.ensures.entries) at c.findings_indexed.ensures.safe
 
 pub returns-clause-refunds : goal.returns-clause-refunds
-returns-clause-refunds c = rw (ap entries_in c.deref.ensures.value ∙ c.in_ok-known.ensures.entries) at c.findings_indexed.ensures.refunds
+returns-clause-refunds c = rw (ap all_entries c.deref.ensures.value ∙ c.in_ok-known.ensures.entries) at c.findings_indexed.ensures.refunds
 
 pub returns-clause-transfer : goal.returns-clause-transfer
-returns-clause-transfer c = rw (ap entries_in c.deref.ensures.value ∙ c.in_ok-known.ensures.entries) at c.findings_indexed.ensures.transfer
+returns-clause-transfer c = rw (ap all_entries c.deref.ensures.value ∙ c.in_ok-known.ensures.entries) at c.findings_indexed.ensures.transfer
 
 pub returns-clause-nothing_found : goal.returns-clause-nothing_found
-returns-clause-nothing_found c = rw (ap entries_in c.deref.ensures.value ∙ c.in_ok-known.ensures.entries) at c.findings_indexed.ensures.nothing_found
+returns-clause-nothing_found c = rw (ap all_entries c.deref.ensures.value ∙ c.in_ok-known.ensures.entries) at c.findings_indexed.ensures.nothing_found

@@ -16,4 +16,4 @@ pub returns-in-Err-Refused-clause-exact : goal.returns-in-Err-Refused-clause-exa
 unfolding transcript_read
 returns-in-Err-Refused-clause-exact c =
     ap (by_story c.args.lines) (rw c.in-Err-Refused.field-0-is at c.in-Err-Refused.ensures.exact)
-    ∙ ap (λ (r : Refusal). Err (Refused r)) (sym c.refusal_behind.ensures)
+    ∙ ap (λ (r : Refusal). Err (Refused r)) (sym c.later_refusal.ensures)

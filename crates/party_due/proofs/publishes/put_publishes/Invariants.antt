@@ -1,8 +1,8 @@
 use Rattle.std.proofs.Common.{◌≡◌, ◌&&◌, ◌++◌, take}
 use Rattle.std.specs.List.{flat_map}
-use Rattle.escrow_core.specs.Terms.{terms_of}
+use Rattle.escrow_core.specs.Terms.{stated_terms}
 use Rattle.ledger_core.specs.declared.entry.Call.TheVariants.{Publish}
-use Rattle.history_index.specs.Indexes.{entries_in}
+use Rattle.history_index.specs.Indexes.{all_entries}
 use Rattle.swap_rules.specs.Due.{is_due_publish, when_due}
 use Rattle.swap_rules.specs.Useful.{opens_in_time}
 use Rattle.party_due.specs.Actions.{actions}
@@ -12,5 +12,5 @@ abbrev pub invariant-arcs : goal.invariant-arcs
 invariant-arcs l =
     actions l.calls.items
     ≡ actions l.initial.calls.items ++ flat_map (λ a.
-    when_due (is_due_publish l.deal l.me (entries_in l.known) a && opens_in_time l.deal (entries_in l.known) a) a (Publish (terms_of l.deal a)))
+    when_due (is_due_publish l.deal l.me (all_entries l.known) a && opens_in_time l.deal (all_entries l.known) a) a (Publish (stated_terms l.deal a)))
     (take l.arc-index l.arc-items)

@@ -1,11 +1,12 @@
 use Rattle.std.proofs.Common.{◌∙◌, ap, arith}
 use Rattle.transcript_book.proofs.Falls.{the_rest}
-use Rattle.party_notes.proofs.Lines.{as_read, read_end, read_fault, read_on, read_to, said}
+use Rattle.party_notes.proofs.Lines.{as_read, read_end, read_fault, continue_reading, read_to, said}
 use Rattle.party_notes.proofs.notes.read_notes.Goals as goal
 
 pub lines-preserved : goal.lines-preserved
 lines-preserved c =
-    let k = read_on c.args.text.now c.lines.at c.in-Some.end _ _ (the_rest c.args.text.now c.lines.at) c.in-Some.ensures.0 c.in-Some.ensures.1 (omega arith)
+    let k = continue_reading c.args.text.now c.lines.at c.in-Some.end _ _ (the_rest c.args.text.now c.lines.at) c.in-Some.ensures.0 c.in-Some.ensures.1
+    (omega arith)
     c.args.first c.lines.number c.lines.list.items c.in-Ok-Some.note c.lines.invariant (c.in-Ok-Some.ensures
     ∙ ap said c.in-Ok-Some.field-0-is) in
     rw (c.saturating_add-number.ensures, c.in_ok-push-in-Ok-Some.ensures.items) k

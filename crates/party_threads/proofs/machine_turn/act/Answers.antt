@@ -11,36 +11,36 @@ bounds-passes-place g c =
     place_below c.args.ledgers.now c.args.machine.now c.next.new.self c.in_ok-next.field-0 c.in-Some.arc c.in-Some.due c.args.passes.now
     c.requires.able c.requires.tracks c.in-Some.is c.in_ok-next.ensures.due
 
-pub call_at-requires-clause-makable : goal.call_at-requires-clause-makable
-call_at-requires-clause-makable g c =
+pub submit_call-requires-clause-makable : goal.submit_call-requires-clause-makable
+submit_call-requires-clause-makable g c =
     can_make c.args.ledgers.now c.args.machine.now c.next.new.self c.in_ok-next.field-0 c.in-Some.arc c.in-Some.due c.args.passes.now
     c.requires.able c.requires.tracks c.in-Some.is c.in_ok-next.ensures.due c.in_ok-next.ensures.same
 
-pub call_at-requires-clause-pass : goal.call_at-requires-clause-pass
-call_at-requires-clause-pass g c =
+pub submit_call-requires-clause-pass : goal.submit_call-requires-clause-pass
+submit_call-requires-clause-pass g c =
     place_is c.args.ledgers.now c.args.machine.now c.next.new.self c.in_ok-next.field-0 c.in-Some.arc c.in-Some.due c.args.passes.now
     c.requires.able c.requires.tracks c.in-Some.is c.in_ok-next.ensures.due c.in_ok-next.ensures.same c.index-passes-place.result
     c.index-ledgers-place.result c.index-ledgers-place.is
 
-pub call_at-requires-clause-there : goal.call_at-requires-clause-there
-call_at-requires-clause-there g c =
+pub submit_call-requires-clause-there : goal.submit_call-requires-clause-there
+submit_call-requires-clause-there g c =
     there c.args.ledgers.now c.args.machine.now c.next.new.self c.in_ok-next.field-0 c.in-Some.arc c.in-Some.due c.args.passes.now
     c.requires.able c.requires.tracks c.in-Some.is c.in_ok-next.ensures.due c.requires.passes c.index-passes-place.result
 
-pub returns-in_ok-call_at-in-Some-clause-able : goal.returns-in_ok-call_at-in-Some-clause-able
-returns-in_ok-call_at-in-Some-clause-able g c =
+pub returns-in_ok-submit_call-in-Some-clause-able : goal.returns-in_ok-submit_call-in-Some-clause-able
+returns-in_ok-submit_call-in-Some-clause-able g c =
     (has_acted_so c.args.ledgers.now c.args.machine.now c.next.new.self c.in_ok-next.field-0 c.in-Some.arc c.in-Some.due c.args.passes.now
     c.requires.able c.requires.tracks c.in-Some.is c.in_ok-next.ensures.due c.in_ok-next.ensures.same c.in_ok-next.ensures.signed
-    c.index-passes-place.result c.call_at.new.machine c.call_at.new.place c.in_ok-call_at-in-Some.ensures.made).able
+    c.index-passes-place.result c.submit_call.new.machine c.submit_call.new.place c.in_ok-submit_call-in-Some.ensures.made).able
 
-pub returns-in_ok-call_at-in-Some-clause-tracks : goal.returns-in_ok-call_at-in-Some-clause-tracks
-returns-in_ok-call_at-in-Some-clause-tracks g c =
+pub returns-in_ok-submit_call-in-Some-clause-tracks : goal.returns-in_ok-submit_call-in-Some-clause-tracks
+returns-in_ok-submit_call-in-Some-clause-tracks g c =
     (has_acted_so c.args.ledgers.now c.args.machine.now c.next.new.self c.in_ok-next.field-0 c.in-Some.arc c.in-Some.due c.args.passes.now
     c.requires.able c.requires.tracks c.in-Some.is c.in_ok-next.ensures.due c.in_ok-next.ensures.same c.in_ok-next.ensures.signed
-    c.index-passes-place.result c.call_at.new.machine c.call_at.new.place c.in_ok-call_at-in-Some.ensures.made).tracks
+    c.index-passes-place.result c.submit_call.new.machine c.submit_call.new.place c.in_ok-submit_call-in-Some.ensures.made).tracks
 
-pub returns-in_ok-call_at-in-Some-clause-fewer : goal.returns-in_ok-call_at-in-Some-clause-fewer
-returns-in_ok-call_at-in-Some-clause-fewer g c = λ e.
+pub returns-in_ok-submit_call-in-Some-clause-fewer : goal.returns-in_ok-submit_call-in-Some-clause-fewer
+returns-in_ok-submit_call-in-Some-clause-fewer g c = λ e.
     (has_acted_so c.args.ledgers.now c.args.machine.now c.next.new.self c.in_ok-next.field-0 c.in-Some.arc c.in-Some.due c.args.passes.now
     c.requires.able c.requires.tracks c.in-Some.is c.in_ok-next.ensures.due c.in_ok-next.ensures.same c.in_ok-next.ensures.signed
-    c.index-passes-place.result c.call_at.new.machine c.call_at.new.place c.in_ok-call_at-in-Some.ensures.made).fewer
+    c.index-passes-place.result c.submit_call.new.machine c.submit_call.new.place c.in_ok-submit_call-in-Some.ensures.made).fewer

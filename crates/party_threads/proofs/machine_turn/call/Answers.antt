@@ -1,5 +1,6 @@
 use Rattle.party_threads.specs.Able.{watcher, machine_with}
-use Rattle.party_threads.proofs.Looks.{on_ok, has_made}
+use Rattle.party_threads.proofs.Looks.{has_made}
+use Rattle.swap_world.proofs.Ledgers.{on_ok}
 use Rattle.party_threads.proofs.machine_turn.call.Goals as goal
 
 pub returns-in-Ok-clause-made : goal.returns-in-Ok-clause-made

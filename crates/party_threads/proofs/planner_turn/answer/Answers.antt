@@ -2,7 +2,7 @@ use Rattle.std.proofs.Common.{sym, subst, All}
 use Rattle.swap_job.specs.Fitting.{IsMoveOf}
 use Rattle.deviators.proofs.Scripts.{left_fit}
 use Rattle.swap_run.specs.Run.{Plan}
-use Rattle.party_threads.proofs.Looks.{on_ok}
+use Rattle.swap_world.proofs.Ledgers.{on_ok}
 use Rattle.party_threads.proofs.planner_turn.answer.Goals as goal
 
 pub returns-in-Script-clause-moves : goal.returns-in-Script-clause-moves

@@ -1,7 +1,7 @@
 use Rattle.std.proofs.Common.{sym, subst}
 use Rattle.party_threads.specs.Played.{HasMadeCall}
-use Rattle.party_threads.proofs.Looks.{on_ok}
 use Rattle.party_threads.proofs.Planning.{calls_nothing, ledger_below, place_below, known_below, it_fits, there, place_is, has_done_so}
+use Rattle.swap_world.proofs.Ledgers.{on_ok}
 use Rattle.party_threads.proofs.planner_turn.make.Goals as goal
 
 pub bounds-ledgers-place : goal.bounds-ledgers-place
@@ -14,24 +14,24 @@ bounds-passes-place g c =
     place_below c.args.ledgers.now c.args.deal.now c.args.me c.args.planner.now c.args.passes.now c.args.answer c.in-Some.arc c.in-Some.made c.requires.may
     c.requires.view c.requires.tracks c.in-Some.is
 
-pub call_at-requires-clause-arc : goal.call_at-requires-clause-arc
-call_at-requires-clause-arc g c =
+pub submit_call-requires-clause-arc : goal.submit_call-requires-clause-arc
+submit_call-requires-clause-arc g c =
     known_below c.args.ledgers.now c.args.deal.now c.args.me c.args.planner.now c.args.passes.now c.args.answer c.in-Some.arc c.in-Some.made c.requires.may
     c.requires.view c.requires.tracks c.in-Some.is
 
-pub call_at-requires-clause-fits : goal.call_at-requires-clause-fits
-call_at-requires-clause-fits g c =
+pub submit_call-requires-clause-fits : goal.submit_call-requires-clause-fits
+submit_call-requires-clause-fits g c =
     it_fits c.args.ledgers.now c.args.deal.now c.args.me c.args.planner.now c.args.passes.now c.args.answer c.in-Some.arc c.in-Some.made c.requires.may
     c.requires.view c.requires.tracks c.in-Some.is
 
-pub call_at-requires-clause-pass : goal.call_at-requires-clause-pass
-call_at-requires-clause-pass g c =
+pub submit_call-requires-clause-pass : goal.submit_call-requires-clause-pass
+submit_call-requires-clause-pass g c =
     place_is c.args.ledgers.now c.args.deal.now c.args.me c.args.planner.now c.args.passes.now c.args.answer c.in-Some.arc c.in-Some.made c.requires.may
     c.requires.view c.requires.tracks c.in-Some.is c.index-passes-place.result
     c.index-ledgers-place.result c.index-ledgers-place.is
 
-pub call_at-requires-clause-there : goal.call_at-requires-clause-there
-call_at-requires-clause-there g c =
+pub submit_call-requires-clause-there : goal.submit_call-requires-clause-there
+submit_call-requires-clause-there g c =
     there c.args.ledgers.now c.args.deal.now c.args.me c.args.planner.now c.args.passes.now c.args.answer c.in-Some.arc c.in-Some.made c.requires.may
     c.requires.view c.requires.tracks c.in-Some.is c.requires.passes c.index-passes-place.result
 
@@ -42,24 +42,28 @@ returns-in-None-clause-called g c =
 
 pub returns-in-Some-clause-tracks : goal.returns-in-Some-clause-tracks
 returns-in-Some-clause-tracks g c =
-    on_ok c.call_at.result (λ e.
+    on_ok c.submit_call.result (λ e.
     (has_done_so c.args.ledgers.now c.args.deal.now c.args.me c.args.planner.now c.args.passes.now c.args.answer c.in-Some.arc c.in-Some.made c.requires.may
-    c.requires.view c.requires.tracks c.in-Some.is c.index-passes-place.result c.call_at.new.planner c.call_at.new.place e).tracks) c.call_at.ensures.made
+    c.requires.view c.requires.tracks c.in-Some.is c.index-passes-place.result c.submit_call.new.planner c.submit_call.new.place e).tracks)
+    c.submit_call.ensures.made
 
 pub returns-in-Some-clause-view : goal.returns-in-Some-clause-view
 returns-in-Some-clause-view g c =
-    on_ok c.call_at.result (λ e.
+    on_ok c.submit_call.result (λ e.
     (has_done_so c.args.ledgers.now c.args.deal.now c.args.me c.args.planner.now c.args.passes.now c.args.answer c.in-Some.arc c.in-Some.made c.requires.may
-    c.requires.view c.requires.tracks c.in-Some.is c.index-passes-place.result c.call_at.new.planner c.call_at.new.place e).view) c.call_at.ensures.made
+    c.requires.view c.requires.tracks c.in-Some.is c.index-passes-place.result c.submit_call.new.planner c.submit_call.new.place e).view)
+    c.submit_call.ensures.made
 
 pub returns-in-Some-clause-grown : goal.returns-in-Some-clause-grown
 returns-in-Some-clause-grown g c =
-    on_ok c.call_at.result (λ e.
+    on_ok c.submit_call.result (λ e.
     (has_done_so c.args.ledgers.now c.args.deal.now c.args.me c.args.planner.now c.args.passes.now c.args.answer c.in-Some.arc c.in-Some.made c.requires.may
-    c.requires.view c.requires.tracks c.in-Some.is c.index-passes-place.result c.call_at.new.planner c.call_at.new.place e).grown) c.call_at.ensures.made
+    c.requires.view c.requires.tracks c.in-Some.is c.index-passes-place.result c.submit_call.new.planner c.submit_call.new.place e).grown)
+    c.submit_call.ensures.made
 
 pub returns-in-Some-clause-called : goal.returns-in-Some-clause-called
 returns-in-Some-clause-called g c =
-    on_ok c.call_at.result (λ e.
+    on_ok c.submit_call.result (λ e.
     (has_done_so c.args.ledgers.now c.args.deal.now c.args.me c.args.planner.now c.args.passes.now c.args.answer c.in-Some.arc c.in-Some.made c.requires.may
-    c.requires.view c.requires.tracks c.in-Some.is c.index-passes-place.result c.call_at.new.planner c.call_at.new.place e).called) c.call_at.ensures.made
+    c.requires.view c.requires.tracks c.in-Some.is c.index-passes-place.result c.submit_call.new.planner c.submit_call.new.place e).called)
+    c.submit_call.ensures.made

@@ -1,8 +1,8 @@
 use Rattle.std.proofs.Common.{◌<◌, refl}
 use Rattle.swap_rules.proofs.Accepted.{accepted_is_well_sized}
-use Rattle.swap_world.specs.Cast.{cast_of}
-use Rattle.party_threads.specs.Race.{rounds_for}
-use Rattle.party_threads.specs.Standing.{state_of}
+use Rattle.swap_world.specs.Cast.{job_cast}
+use Rattle.party_threads.specs.Race.{needed_rounds}
+use Rattle.party_threads.specs.Standing.{inside_state}
 use Rattle.party_threads.proofs.Running.{no_rounds, one_round_more, room_left}
 use Rattle.party_threads.proofs.rounds.run_rounds.Goals as goal
 
@@ -10,25 +10,26 @@ pub rounds-init : goal.rounds-init
 rounds-init g c = record {
   stands = c.requires.stands;
   raced =
-      no_rounds (g.A.Strategies.gives c.args.staff.now) (cast_of c.args.job.now) c.args.ticks 0 (state_of c.args.job.now c.args.ledgers.now c.args.turns.now)
+      no_rounds (g.A.Strategies.gives c.args.staff.now) (job_cast c.args.job.now) c.args.ticks 0
+      (inside_state c.args.job.now c.args.ledgers.now c.args.turns.now)
       refl c.requires.first;
 }
 
-pub rounds_for-number-end-requires-clause-sized : goal.rounds_for-number-end-requires-clause-sized
-rounds_for-number-end-requires-clause-sized g c = accepted_is_well_sized c.args.job.now.deal c.requires.stands.cast.accepted
+pub needed_rounds-number-end-requires-clause-sized : goal.needed_rounds-number-end-requires-clause-sized
+needed_rounds-number-end-requires-clause-sized g c = accepted_is_well_sized c.args.job.now.deal c.requires.stands.cast.accepted
 
 pub round-requires-clause-room : goal.round-requires-clause-room
 round-requires-clause-room g c = λ κs lives.
-    let l : c.rounds.number < rounds_for c.args.job.now.deal c.args.ticks = rw (← c.rounds_for-number-end.ensures) c.rounds-test.true in
-    room_left (g.A.Strategies.gives c.args.staff.now) (cast_of c.args.job.now) c.args.ticks c.rounds.number
-    (state_of c.args.job.now c.rounds.ledgers c.rounds.turns)
+    let l : c.rounds.number < needed_rounds c.args.job.now.deal c.args.ticks = rw (← c.needed_rounds-number-end.ensures) c.rounds-test.true in
+    room_left (g.A.Strategies.gives c.args.staff.now) (job_cast c.args.job.now) c.args.ticks c.rounds.number
+    (inside_state c.args.job.now c.rounds.ledgers c.rounds.turns)
     c.rounds.invariant.stands.cast c.requires.some c.requires.below l c.rounds.invariant.raced
 
 pub rounds-preserved : goal.rounds-preserved
 rounds-preserved g c = record {
   stands = c.in_ok-round.ensures.stands;
   raced =
-      one_round_more (g.A.Strategies.gives c.args.staff.now) (cast_of c.args.job.now) c.args.ticks c.rounds.number
-      (state_of c.args.job.now c.rounds.ledgers c.rounds.turns)
-      (state_of c.args.job.now c.round.new.ledgers c.round.new.turns) c.rounds.invariant.raced c.in_ok-round.ensures.round;
+      one_round_more (g.A.Strategies.gives c.args.staff.now) (job_cast c.args.job.now) c.args.ticks c.rounds.number
+      (inside_state c.args.job.now c.rounds.ledgers c.rounds.turns)
+      (inside_state c.args.job.now c.round.new.ledgers c.round.new.turns) c.rounds.invariant.raced c.in_ok-round.ensures.round;
 }

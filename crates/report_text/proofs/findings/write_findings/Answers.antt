@@ -12,21 +12,21 @@ returns-in_err-put_finding g c =
     (rest_lost (λ _. finding_line c.args.names.now) c.args.findings.now _ _ _ _ _ _ c.loop-finding.invariant.so_far)
     c.loop-finding.invariant.later (λ is. absurd (cc is))
 
-pub returns-in_err-pass_on : goal.returns-in_err-pass_on
-returns-in_err-pass_on g c =
-    let p = err_from_is_err_and c.from_residual-in_err-pass_on.result c.from_residual-in_err-pass_on.ensures.1 in
-    let e = c.in_err-pass_on.field-0.0 in
+pub returns-in_err-flush_waiting : goal.returns-in_err-flush_waiting
+returns-in_err-flush_waiting g c =
+    let p = err_from_is_err_and c.from_residual-in_err-flush_waiting.result c.from_residual-in_err-flush_waiting.ensures.1 in
+    let e = c.in_err-flush_waiting.field-0.0 in
     hands_err e _ _ _ _ _ _ _ _ (p.1 ∙ ap Err p.2)
     (line_lost (λ _. finding_line c.args.names.now) c.args.findings.now _ _ _ e _ _ _ _ c.loop-finding.finding-index _ _ c.loop-finding-test.true refl
-    c.in_ok-put_finding.ensures (lost_was e _ _ _ _ _ _ _ _ c.in_err-pass_on.was c.pass_on.ensures) c.loop-finding.invariant.so_far)
-    (omega (arith, c.loop-finding.invariant.later, c.pass_on.ensures.later))
-    (λ is. rose_before _ _ _ c.loop-finding.invariant.later (rose_was e _ _ _ _ _ _ _ _ c.in_err-pass_on.was c.pass_on.ensures is))
+    c.in_ok-put_finding.ensures (lost_was e _ _ _ _ _ _ _ _ c.in_err-flush_waiting.was c.flush_waiting.ensures) c.loop-finding.invariant.so_far)
+    (omega (arith, c.loop-finding.invariant.later, c.flush_waiting.ensures.later))
+    (λ is. rose_before _ _ _ c.loop-finding.invariant.later (rose_was e _ _ _ _ _ _ _ _ c.in_err-flush_waiting.was c.flush_waiting.ensures is))
 
 pub loop-finding-preserved : goal.loop-finding-preserved
 loop-finding-preserved g c = record {
   so_far = line_on (λ _. finding_line c.args.names.now) c.args.findings.now _ _ _ _ _ _ _ _ c.loop-finding.finding-index _ _ c.loop-finding-test.true refl
-      c.in_ok-put_finding.ensures (handed_was _ _ _ _ _ _ _ _ _ c.in_ok-pass_on.was c.pass_on.ensures) c.loop-finding.invariant.so_far;
-  later = omega (arith, c.loop-finding.invariant.later, c.pass_on.ensures.later);
+      c.in_ok-put_finding.ensures (handed_was _ _ _ _ _ _ _ _ _ c.in_ok-flush_waiting.was c.flush_waiting.ensures) c.loop-finding.invariant.so_far;
+  later = omega (arith, c.loop-finding.invariant.later, c.flush_waiting.ensures.later);
 }
 
 pub returns : goal.returns

@@ -3,7 +3,7 @@ use Rattle.std.proofs.lemmas.Result.{err_from_is_err_and}
 use Rattle.swap_base.specs.Text.{lines}
 use Rattle.swap_digraph.specs.Deal.{amount}
 use Rattle.swap_digraph.specs.Graph.{ends}
-use Rattle.escrow_core.specs.Terms.{terms_of}
+use Rattle.escrow_core.specs.Terms.{stated_terms}
 use Rattle.ledger_core.specs.History.{accounts, height}
 use Rattle.swap_io.proofs.Handing.{handed_none, handed_on, handed_put, handed_was, hands_after, hands_err, lost_then, lost_was, lost_with, rose_was}
 use Rattle.swap_io.specs.declared.fault.TextFault.TheVariants.{NoMemory}
@@ -27,7 +27,7 @@ returns-in_err-write_entries g c =
     let a = c.args.number in
     let h = c.args.entries.now in
     let head = ledger_head names a (ends d.graph a) (amount d a) in
-    let middle = lines (entry_line names (terms_of d a)) 0 h in
+    let middle = lines (entry_line names (stated_terms d a)) 0 h in
     let last = ledger_end names (ends d.graph a) (height h) (accounts d a h) in
     hands_err e _ _ _ _ _ _ _ _ (p.1 ∙ ap Err p.2)
     (lost_with e _ _ _ _ _ head middle (last ++ []) _ (handed_put _ _ _ head c.in_ok-put_head.ensures)
@@ -42,7 +42,7 @@ returns-in_err-put_last g c =
     let a = c.args.number in
     let h = c.args.entries.now in
     let head = ledger_head names a (ends d.graph a) (amount d a) in
-    let middle = lines (entry_line names (terms_of d a)) 0 h in
+    let middle = lines (entry_line names (stated_terms d a)) 0 h in
     let last = ledger_end names (ends d.graph a) (height h) (accounts d a h) in
     hands_err NoMemory _ _ _ _ _ _ _ _ (p.1 ∙ ap Err p.2)
     (lost_then _ _ _ _ (head ++ middle) (last ++ []) _
@@ -58,12 +58,12 @@ returns g c =
     let a = c.args.number in
     let h = c.args.entries.now in
     let head = ledger_head names a (ends d.graph a) (amount d a) in
-    let middle = lines (entry_line names (terms_of d a)) 0 h in
+    let middle = lines (entry_line names (stated_terms d a)) 0 h in
     let last = ledger_end names (ends d.graph a) (height h) (accounts d a h) in
-    hands_after _ _ _ _ _ _ _ _ _ ((head ++ middle) ++ last) _ c.pass_on.result
+    hands_after _ _ _ _ _ _ _ _ _ ((head ++ middle) ++ last) _ c.flush_waiting.result
     (handed_on _ _ _ _ _ _ (head ++ middle) last
     (handed_on _ _ _ _ _ _ head middle (handed_put _ _ _ head c.in_ok-put_head.ensures)
     (handed_was _ _ _ _ _ _ _ _ _ c.in_ok-write_entries.was c.write_entries.ensures))
     (handed_put _ _ _ last c.in_ok-put_last.ensures))
     (all_three head middle last ∙ of_ledger names d a h)
-    c.write_entries.ensures.later c.pass_on.ensures
+    c.write_entries.ensures.later c.flush_waiting.ensures

@@ -1,11 +1,11 @@
 use Rattle.std.proofs.Common.{◌++◌, sym, ap, ◌∙◌, append-nil}
-use Rattle.history_index.specs.Indexes.{entries_in}
+use Rattle.history_index.specs.Indexes.{all_entries}
 use Rattle.sent_keys.specs.Sent.{shown}
 use Rattle.sent_keys.proofs.Own.{no_unlocks}
 use Rattle.sent_keys.proofs.keys.put_own_unlocks.Goals as goal
 
 pub returns-else-is_adjacent : goal.returns-else-is_adjacent
 returns-else-is_adjacent c =
-    sym (ap (λ l. shown c.args.keys.now.items ++ l) (no_unlocks c.args.deal.now (entries_in c.args.known.now) c.args.arc c.args.party c.requires.legal
+    sym (ap (λ l. shown c.args.keys.now.items ++ l) (no_unlocks c.args.deal.now (all_entries c.args.known.now) c.args.arc c.args.party c.requires.legal
     c.requires.arc (sym c.is_adjacent.ensures ∙ c.if-is_adjacent.false))
     ∙ append-nil (shown c.args.keys.now.items))

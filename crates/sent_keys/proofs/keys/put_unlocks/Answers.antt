@@ -1,18 +1,18 @@
 use Rattle.std.proofs.Common.{ap, ◌∙◌}
-use Rattle.swap_rules.specs.Party.{call_by}
-use Rattle.sent_keys.specs.Sent.{unlock_in}
+use Rattle.swap_rules.specs.Party.{pick_call}
+use Rattle.sent_keys.specs.Sent.{unlock_key}
 use Rattle.sent_keys.proofs.Unlocks.{sent_more, sent_one, sent_none}
 use Rattle.sent_keys.proofs.keys.put_unlocks.Goals as goal
 use Rattle.sent_keys.proofs.keys.put_unlocks.Goals.{in-Some+in_ok-push-in-Some, in-None}
 
 pub loop-made-preserved : goal.loop-made-preserved
 loop-made-preserved c =
-    sent_more c.args.keys.now.items c.loop-made.keys.items c.match-unlock_in.keys.items c.args.calls.now c.args.party c.loop-made.made-index
+    sent_more c.args.keys.now.items c.loop-made.keys.items c.match-unlock_key.keys.items c.args.calls.now c.args.party c.loop-made.made-index
     c.made-item.result c.loop-made-test.true c.made-item.is c.loop-made.invariant
-    (elim c.match-unlock_in.branch [
-      | in-Some+in_ok-push-in-Some w ↦ sent_one c.loop-made.keys.items c.match-unlock_in.keys.items w.in-Some.key
-          (unlock_in (call_by c.args.party c.made-item.result.entry)) (ap (λ v. v.items) w.keys-is
-          ∙ w.in_ok-push-in-Some.ensures.items) (w.in-Some.ensures ∙ ap unlock_in c.call_by.ensures)
-      | in-None w ↦ sent_none c.loop-made.keys.items c.match-unlock_in.keys.items (unlock_in (call_by c.args.party c.made-item.result.entry))
-          (ap (λ v. v.items) w.keys-is) (w.in-None.ensures ∙ ap unlock_in c.call_by.ensures)
+    (elim c.match-unlock_key.branch [
+      | in-Some+in_ok-push-in-Some w ↦ sent_one c.loop-made.keys.items c.match-unlock_key.keys.items w.in-Some.key
+          (unlock_key (pick_call c.args.party c.made-item.result.entry)) (ap (λ v. v.items) w.keys-is
+          ∙ w.in_ok-push-in-Some.ensures.items) (w.in-Some.ensures ∙ ap unlock_key c.pick_call.ensures)
+      | in-None w ↦ sent_none c.loop-made.keys.items c.match-unlock_key.keys.items (unlock_key (pick_call c.args.party c.made-item.result.entry))
+          (ap (λ v. v.items) w.keys-is) (w.in-None.ensures ∙ ap unlock_key c.pick_call.ensures)
     ])

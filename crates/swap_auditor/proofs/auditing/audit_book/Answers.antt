@@ -5,8 +5,8 @@ use Rattle.swap_auditor.proofs.auditing.audit_book.Goals as goal
 pub replay_book-requires-clause-sized : goal.replay_book-requires-clause-sized
 replay_book-requires-clause-sized c = accepted_is_well_sized c.args.deal.now c.requires.accepted
 
-pub report_of-requires-clause-sized : goal.report_of-requires-clause-sized
-report_of-requires-clause-sized c = accepted_is_well_sized c.args.deal.now c.requires.accepted
+pub build_report-requires-clause-sized : goal.build_report-requires-clause-sized
+build_report-requires-clause-sized c = accepted_is_well_sized c.args.deal.now c.requires.accepted
 
 pub returns-clause-units : goal.returns-clause-units
 returns-clause-units c = units_add_up c.args.deal.now c.args.book.now.histories c.in_ok-replay_book.ensures.legal

@@ -1,13 +1,13 @@
 use Rattle.std.proofs.Common.{◌≡◌, ◌∙◌, ◌++◌, ◌∷◌, [], ◌+◌, ◌≤◌, ℕ, List, Ok, length, subst, sym, ap, arith, length-append}
 use Rattle.swap_base.specs.Fault.{Fails}
 use Rattle.swap_clear.specs.declared.answer.Group.{Group}
-use Rattle.swap_clear.specs.Clearing.{next_group, with_group, groups_of}
+use Rattle.swap_clear.specs.Clearing.{next_group, with_group, cleared_components}
 use Rattle.swap_clear.proofs.Sizes.{groups_on, groups_fail, groups_end}
 use Rattle.swap_clear.proofs.groups.groups.Goals as goal
 use Rattle.swap_clear.proofs.groups.groups.Goals.{in-Some+in_ok-push-in-Some, in-None}
 
 pub returns-in-Err : goal.returns-in-Err
-unfolding groups_of
+unfolding cleared_components
 returns-in-Err c =
     let size : c.len.result ≡ length c.loop-v.groups.items = omega (arith, c.len.ensures) in
     groups_fail c.in-Err.fault c.args.graph.now c.loop-v.groups.items c.loop-v.v c.args.graph.now.n _ (omega arith)
@@ -41,7 +41,7 @@ loop-v-preserved c =
     ]
 
 pub returns : goal.returns
-unfolding groups_of
+unfolding cleared_components
 returns c =
     groups_end c.args.graph.now c.loop-v.groups.items c.loop-v.v c.args.graph.now.n _ (omega arith) c.loop-v.invariant.goes_on
     ∙ ap (λ (xs : List Group). Ok xs) (sym c.new.ensures)

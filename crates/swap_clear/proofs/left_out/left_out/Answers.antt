@@ -2,7 +2,7 @@ use Rattle.std.proofs.Common.{◌≡◌, ◌∙◌, get_or, not, List, ◌++◌,
 use Rattle.swap_digraph.specs.declared.arc_ends.ArcEnds.{ArcEnds}
 use Rattle.digraph_check.specs.Reach.{reaches}
 use Rattle.leader_check.proofs.Passes.{to_below}
-use Rattle.swap_clear.specs.Groups.{is_cyclic, left_out, reached_from}
+use Rattle.swap_clear.specs.Groups.{is_cyclic, left_out, reachable_parties}
 use Rattle.swap_clear.proofs.Loops.{listed_on, listed_off}
 use Rattle.swap_clear.proofs.left_out.left_out.Goals as goal
 use Rattle.swap_clear.proofs.left_out.left_out.Goals.{then-not-reaches+in_ok-closed+in_ok-push, else-not-reaches}
@@ -24,7 +24,7 @@ loop-number-preserved c =
           (ap not (sym is ∙ w.if-not-reaches.true))
           (ap (λ v. v.items) w.list-is ∙ w.in_ok-push.ensures.items
           ∙ ap (λ (set : List ℕ). c.loop-number.list.items ++ (record { arc = n; closed = set }) ∷ []) (w.in_ok-closed.ensures
-          ∙ ap (λ (ys : List ArcEnds). reached_from c.args.graph.now (end_at ys n).to) c.arcs-arc-items.ensures)) c.loop-number.invariant
+          ∙ ap (λ (ys : List ArcEnds). reachable_parties c.args.graph.now (end_at ys n).to) c.arcs-arc-items.ensures)) c.loop-number.invariant
       | else-not-reaches w ↦ ap (λ v. v.items) w.list-is
           ∙ listed_off (left_out c.args.graph.now) (λ a. not (is_cyclic c.args.graph.now a)) n c.loop-number.list.items
           (ap not (sym is ∙ w.if-not-reaches.false)) c.loop-number.invariant

@@ -7,8 +7,8 @@ use Rattle.swap_commands.specs.Replay.{passed_over, replayed}
 use Rattle.swap_commands.proofs.Reading.{against_event, check_says, is_read}
 use Rattle.swap_commands.proofs.check.examine.Goals as goal
 
-pub pass_over-requires-clause-fits : goal.pass_over-requires-clause-fits
-pass_over-requires-clause-fits g c = c.in_ok-job.ensures.line.stands.fits
+pub skip_events-requires-clause-fits : goal.skip_events-requires-clause-fits
+skip_events-requires-clause-fits g c = c.in_ok-job.ensures.line.stands.fits
 
 pub returns-in_err-job-clause-stops : goal.returns-in_err-job-clause-stops
 returns-in_err-job-clause-stops g c =
@@ -24,7 +24,7 @@ pub returns-in-Err-clause-stops : goal.returns-in-Err-clause-stops
 returns-in-Err-clause-stops g c =
     let job = c.in_ok-job.field-0.job in
     let mid = desk (g.S.Source.left c.first_line.new.source) (g.S.Source.faults c.first_line.new.source) c.first_line.new.input in
-    let now = desk (g.S.Source.left c.pass_over.new.source) (g.S.Source.faults c.pass_over.new.source) c.pass_over.new.input in
+    let now = desk (g.S.Source.left c.skip_events.new.source) (g.S.Source.faults c.skip_events.new.source) c.skip_events.new.input in
     rw c.with_names.ensures
     (against_event _ (replayed passed_over job 0 tt) Check (g.S.Source.left c.args.source.now) (g.S.Source.faults c.args.source.now) mid now job.names
     (check_says _ _ _ job c.in_ok-job.ensures.header) c.in_ok-job.ensures.names c.in_ok-job.ensures.line c.in-Err.fault c.in-Err.ensures.stops)

@@ -5,7 +5,7 @@ use Rattle.swap_commands.specs.Cleared.{IsFurther}
 use Rattle.command_input.specs.Input.{desk}
 use Rattle.command_input.specs.declared.fault.InputFault.TheVariants.{Refused}
 use Rattle.swap_commands.proofs.Clearings.{further_stops}
-use Rattle.command_input.proofs.Streams.{last_of, line_stops}
+use Rattle.command_input.proofs.Streams.{last_run, line_stops}
 use Rattle.swap_commands.proofs.clear.alone.Goals as goal
 
 pub returns-in_err-next-clause-stops : goal.returns-in_err-next-clause-stops
@@ -16,7 +16,7 @@ returns-in_err-next-clause-stops g c =
     rw (p.1, p.2) (line_stops (IsFurther c.args.input.now) old now c.in_err-next.field-0.0 c.in_err-next.ensures.fails)
 
 pub returns-then-not-branch-clause-none : goal.returns-then-not-branch-clause-none
-returns-then-not-branch-clause-none g c = last_of _ _ _ c.if-not-branch.true c.in_ok-next.ensures.gives
+returns-then-not-branch-clause-none g c = last_run _ _ _ c.if-not-branch.true c.in_ok-next.ensures.gives
 
 pub returns-clause-stops : goal.returns-clause-stops
 returns-clause-stops g c =

@@ -17,25 +17,26 @@ returns-in_err-strategies-clause-stops g c = λ command asked.
 
 pub returns-clause-header : goal.returns-clause-header
 returns-clause-header g c =
-    subst (λ (has : List ℕ → Bool). IfOk c.first_among.result (λ p. job_header_of has c.args.purpose c.first_among.new.input.number
-    c.first_among.new.input.text ≡ Ok p.job))
-    (ap has_strategy c.as_slice.ensures ∙ same_strategies _ (g.A.Strategies.holds c.args.staff.now) c.in_ok-strategies.ensures) c.first_among.ensures.header
+    subst (λ (has : List ℕ → Bool). IfOk c.prepare_first.result (λ p. job_header_of has c.args.purpose c.prepare_first.new.input.number
+    c.prepare_first.new.input.text ≡ Ok p.job))
+    (ap has_strategy c.as_slice.ensures ∙ same_strategies _ (g.A.Strategies.holds c.args.staff.now) c.in_ok-strategies.ensures) c.prepare_first.ensures.header
 
 pub returns-clause-names : goal.returns-clause-names
 returns-clause-names g c =
-    subst (λ (has : List ℕ → Bool). IfOk c.first_among.result (λ p. p.job.names ≡ names_at has c.args.purpose c.first_among.new.input.number
-    c.first_among.new.input.text))
-    (ap has_strategy c.as_slice.ensures ∙ same_strategies _ (g.A.Strategies.holds c.args.staff.now) c.in_ok-strategies.ensures) c.first_among.ensures.names
+    subst (λ (has : List ℕ → Bool). IfOk c.prepare_first.result (λ p. p.job.names ≡ names_at has c.args.purpose c.prepare_first.new.input.number
+    c.prepare_first.new.input.text))
+    (ap has_strategy c.as_slice.ensures ∙ same_strategies _ (g.A.Strategies.holds c.args.staff.now) c.in_ok-strategies.ensures) c.prepare_first.ensures.names
 
 pub returns-clause-strategies : goal.returns-clause-strategies
 returns-clause-strategies g c =
-    subst (λ (has : List ℕ → Bool). IfOk c.first_among.result (λ p. HoldsEach has p.job.roles))
-    (ap has_strategy c.as_slice.ensures ∙ same_strategies _ (g.A.Strategies.holds c.args.staff.now) c.in_ok-strategies.ensures) c.first_among.ensures.strategies
+    subst (λ (has : List ℕ → Bool). IfOk c.prepare_first.result (λ p. HoldsEach has p.job.roles))
+    (ap has_strategy c.as_slice.ensures ∙ same_strategies _
+    (g.A.Strategies.holds c.args.staff.now) c.in_ok-strategies.ensures) c.prepare_first.ensures.strategies
 
 pub returns-clause-stops : goal.returns-clause-stops
 returns-clause-stops g c = λ command asked.
-    subst (λ (has : List ℕ → Bool). IfErr c.first_among.result (λ e. Stops (IsAgainst has (OfJob command))
+    subst (λ (has : List ℕ → Bool). IfErr c.prepare_first.result (λ e. Stops (IsAgainst has (OfJob command))
     (desk (g.S.Source.left c.args.source.now) (g.S.Source.faults c.args.source.now) fresh)
-    (desk (g.S.Source.left c.first_among.new.source) (g.S.Source.faults c.first_among.new.source) c.first_among.new.input) e))
+    (desk (g.S.Source.left c.prepare_first.new.source) (g.S.Source.faults c.prepare_first.new.source) c.prepare_first.new.input) e))
     (ap has_strategy c.as_slice.ensures ∙ same_strategies _ (g.A.Strategies.holds c.args.staff.now) c.in_ok-strategies.ensures)
-    (c.first_among.ensures.stops command asked)
+    (c.prepare_first.ensures.stops command asked)

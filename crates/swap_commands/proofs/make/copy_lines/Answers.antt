@@ -3,7 +3,7 @@ use Rattle.std.proofs.lemmas.Result.{err_from_is_err_and}
 use Rattle.made_jobs.specs.Making.{copied, next_line}
 use Rattle.made_jobs.proofs.Copying.{copied_none, copied_one, step_fails, step_says}
 use Rattle.command_input.specs.Input.{ahead, desk}
-use Rattle.command_input.proofs.Streams.{last_of, led_none, led_on, led_stops, led_to_end, led_to_fault, line_of}
+use Rattle.command_input.proofs.Streams.{last_run, led_none, led_on, led_stops, led_to_end, led_to_fault, line_of}
 use Rattle.swap_commands.proofs.make.copy_lines.Goals as goal
 
 pub lines-init : goal.lines-init
@@ -45,4 +45,4 @@ lines-smaller g c =
 
 pub returns-clause-exact : goal.returns-clause-exact
 returns-clause-exact g c =
-    led_to_end _ _ _ (λ y. y) copied_none _ _ _ _ c.lines.invariant.led (last_of _ _ _ c.if-branch.false c.in_ok-next.ensures.gives)
+    led_to_end _ _ _ (λ y. y) copied_none _ _ _ _ c.lines.invariant.led (last_run _ _ _ c.if-branch.false c.in_ok-next.ensures.gives)

@@ -16,19 +16,22 @@ returns-in_err-strategies-clause-stops g c =
 
 pub returns-clause-heading : goal.returns-clause-heading
 returns-clause-heading g c =
-    subst (λ (has : List ℕ → Bool). IfOk c.heading_among.result (λ h. IsHeading has h
+    subst (λ (has : List ℕ → Bool). IfOk c.read_checked_heading.result (λ h. IsHeading has h
     (desk (g.S.Source.left c.args.source.now) (g.S.Source.faults c.args.source.now) fresh)
-    (desk (g.S.Source.left c.heading_among.new.source) (g.S.Source.faults c.heading_among.new.source) c.heading_among.new.input)))
-    (ap has_strategy c.as_slice.ensures ∙ same_strategies _ (g.A.Strategies.holds c.args.staff.now) c.in_ok-strategies.ensures) c.heading_among.ensures.heading
+    (desk (g.S.Source.left c.read_checked_heading.new.source) (g.S.Source.faults c.read_checked_heading.new.source) c.read_checked_heading.new.input)))
+    (ap has_strategy c.as_slice.ensures ∙ same_strategies _
+    (g.A.Strategies.holds c.args.staff.now) c.in_ok-strategies.ensures) c.read_checked_heading.ensures.heading
 
 pub returns-clause-held : goal.returns-clause-held
 returns-clause-held g c =
-    subst (λ (has : List ℕ → Bool). IfOk c.heading_among.result (λ h. HoldsEverySwap has h.many))
-    (ap has_strategy c.as_slice.ensures ∙ same_strategies _ (g.A.Strategies.holds c.args.staff.now) c.in_ok-strategies.ensures) c.heading_among.ensures.held
+    subst (λ (has : List ℕ → Bool). IfOk c.read_checked_heading.result (λ h. HoldsEverySwap has h.many))
+    (ap has_strategy c.as_slice.ensures ∙ same_strategies _
+    (g.A.Strategies.holds c.args.staff.now) c.in_ok-strategies.ensures) c.read_checked_heading.ensures.held
 
 pub returns-clause-stops : goal.returns-clause-stops
 returns-clause-stops g c =
-    subst (λ (has : List ℕ → Bool). IfErr c.heading_among.result (λ e. Stops (λ bytes r. headed has (ahead fresh bytes) ≡ Err r)
+    subst (λ (has : List ℕ → Bool). IfErr c.read_checked_heading.result (λ e. Stops (λ bytes r. headed has (ahead fresh bytes) ≡ Err r)
     (desk (g.S.Source.left c.args.source.now) (g.S.Source.faults c.args.source.now) fresh)
-    (desk (g.S.Source.left c.heading_among.new.source) (g.S.Source.faults c.heading_among.new.source) c.heading_among.new.input) e))
-    (ap has_strategy c.as_slice.ensures ∙ same_strategies _ (g.A.Strategies.holds c.args.staff.now) c.in_ok-strategies.ensures) c.heading_among.ensures.stops
+    (desk (g.S.Source.left c.read_checked_heading.new.source) (g.S.Source.faults c.read_checked_heading.new.source) c.read_checked_heading.new.input) e))
+    (ap has_strategy c.as_slice.ensures ∙ same_strategies _
+    (g.A.Strategies.holds c.args.staff.now) c.in_ok-strategies.ensures) c.read_checked_heading.ensures.stops

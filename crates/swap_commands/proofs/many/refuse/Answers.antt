@@ -8,5 +8,5 @@ returns-in-Ok g c = record { stops = refused_after c.args.many.now _ _ c.args.re
 pub returns-in-Err : goal.returns-in-Err
 returns-in-Err g c =
     let old = desk (g.S.Source.left c.args.source.now) (g.S.Source.faults c.args.source.now) c.args.input.now in
-    let now = desk (g.S.Source.left c.pass_over.new.source) (g.S.Source.faults c.pass_over.new.source) c.pass_over.new.input in
+    let now = desk (g.S.Source.left c.skip_events.new.source) (g.S.Source.faults c.skip_events.new.source) c.skip_events.new.input in
     record { stops = stops_after c.args.many.now old now c.in-Err.fault c.in-Err.ensures.stops }

@@ -5,13 +5,13 @@ use Rattle.command_input.specs.Input.{ahead, desk}
 use Rattle.swap_commands.specs.Many.{events_told}
 use Rattle.swap_commands.proofs.ManyTold.{are_replayed, line_refused, none_yet, one_more}
 use Rattle.swap_commands.proofs.ManyWorlds.{still_of}
-use Rattle.command_input.proofs.Streams.{last_of, led_stops, line_of}
+use Rattle.command_input.proofs.Streams.{last_run, led_stops, line_of}
 use Rattle.swap_commands.proofs.many.replay.Goals as goal
 
 pub lines-init : goal.lines-init
 lines-init g c = record {
   on = none_yet (g.A.Strategies.gives c.args.staff.now) c.args.many.now c.args.world.now _ c.requires.fits;
-  is_of = c.requires.of;
+  head_matches = c.requires.of;
   held = c.requires.held;
   counted = omega arith;
 }
@@ -43,7 +43,7 @@ lines-preserved g c =
     let line = line_of _ _ _ c.if-branch.true c.in_ok-next.ensures.gives in
     record {
       on = one_more gives c.args.many.now _ c.lines.world c.step_line.new.world _ _ _ _ _ _ i.on line c.number.ensures c.text.ensures step;
-      is_of = still_of gives c.args.many.now c.lines.world c.step_line.new.world step.gone.same i.is_of;
+      head_matches = still_of gives c.args.many.now c.lines.world c.step_line.new.world step.gone.same i.head_matches;
       held = held_same gives c.lines.world c.step_line.new.world _ step.gone.same i.held;
       counted = omega (arith, i.counted, line.counted);
     }
@@ -61,4 +61,4 @@ lines-smaller g c =
 pub returns-clause-replayed : goal.returns-clause-replayed
 returns-clause-replayed g c =
     are_replayed (g.A.Strategies.gives c.args.staff.now) c.args.many.now _ _ _ _ _ _ c.lines.invariant.on
-    (last_of _ _ _ c.if-branch.false c.in_ok-next.ensures.gives)
+    (last_run _ _ _ c.if-branch.false c.in_ok-next.ensures.gives)

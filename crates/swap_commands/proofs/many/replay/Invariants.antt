@@ -9,7 +9,7 @@ abbrev pub invariant-lines : goal.invariant-lines
 invariant-lines g l = record {
   on : AreOn (g.A.Strategies.gives l.staff) l.many l.fn.world l.world (desk (g.S.Source.left l.fn.source) (g.S.Source.faults l.fn.source) l.fn.input)
       (desk (g.S.Source.left l.source) (g.S.Source.faults l.source) l.input) l.count;
-  is_of : AreWorldsOf l.many l.world;
+  head_matches : AreWorldsOf l.many l.world;
   held : AreAllHeld (g.A.Strategies.holds l.staff) l.world;
   counted : l.count ≤ l.input.number;
 }

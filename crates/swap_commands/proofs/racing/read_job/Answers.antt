@@ -8,8 +8,8 @@ use Rattle.swap_commands.proofs.Reading.{against_event, is_read, race_says}
 use Rattle.swap_commands.proofs.Replays.{held}
 use Rattle.swap_commands.proofs.racing.read_job.Goals as goal
 
-pub pass_over-requires-clause-fits : goal.pass_over-requires-clause-fits
-pass_over-requires-clause-fits g c = c.in_ok-job.ensures.line.stands.fits
+pub skip_events-requires-clause-fits : goal.skip_events-requires-clause-fits
+skip_events-requires-clause-fits g c = c.in_ok-job.ensures.line.stands.fits
 
 pub returns-in_err-job-clause-stops : goal.returns-in_err-job-clause-stops
 returns-in_err-job-clause-stops g c = λ ticks transcript.
@@ -28,7 +28,7 @@ pub returns-in-Err-clause-stops : goal.returns-in-Err-clause-stops
 returns-in-Err-clause-stops g c = λ ticks transcript.
     let job = c.in_ok-job.field-0.job in
     let mid = desk (g.S.Source.left c.first_line.new.source) (g.S.Source.faults c.first_line.new.source) c.first_line.new.input in
-    let now = desk (g.S.Source.left c.pass_over.new.source) (g.S.Source.faults c.pass_over.new.source) c.pass_over.new.input in
+    let now = desk (g.S.Source.left c.skip_events.new.source) (g.S.Source.faults c.skip_events.new.source) c.skip_events.new.input in
     rw c.with_names.ensures
     (against_event _ (replayed passed_over job 0 tt) (Race ticks transcript) (g.S.Source.left c.args.source.now)
     (g.S.Source.faults c.args.source.now) mid now job.names

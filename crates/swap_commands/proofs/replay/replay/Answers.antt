@@ -1,16 +1,16 @@
 use Rattle.std.proofs.Common.{◌≡◌, [], Err, arith, refl, sym, ap, subst}
 use Rattle.std.proofs.lemmas.Result.{err_from_is_err_and}
 use Rattle.swap_run.specs.Run.{start, step}
-use Rattle.swap_world.specs.Cast.{cast_of}
+use Rattle.swap_world.specs.Cast.{job_cast}
 use Rattle.swap_world.specs.Value.{WorldState}
 use Rattle.swap_world.specs.Gone.{HasAsked}
 use Rattle.swap_world.proofs.Gone.{more_asked, nothing_asked}
 use Rattle.command_input.specs.Input.{ahead, desk}
-use Rattle.swap_commands.specs.Output.{cast_by}
+use Rattle.swap_commands.specs.Output.{command_cast}
 use Rattle.swap_commands.specs.Replay.{next_by, passed_over, replayed}
 use Rattle.command_input.proofs.Ahead.{stands_none}
 use Rattle.swap_commands.proofs.Replays.{is_of_new, none_left, step_of}
-use Rattle.command_input.proofs.Streams.{Led, last_of, led_none, led_on, led_stops, led_to_end, led_to_fault, line_of, no_memory_after}
+use Rattle.command_input.proofs.Streams.{Led, last_run, led_none, led_on, led_stops, led_to_end, led_to_fault, line_of, no_memory_after}
 use Rattle.swap_commands.proofs.replay.replay.Goals as goal
 
 pub lines-init : goal.lines-init
@@ -20,11 +20,11 @@ lines-init g c =
     let gives = g.A.Strategies.gives c.args.staff.now in
     let new = c.in_ok-world.ensures.new in
     record {
-      led = λ a x. subst (λ (w : WorldState). Led (replayed (step (cast_by a job)) job) first (start (cast_of job)) first 0 w.state) (sym new)
-          (led_none (replayed (step (cast_by a job)) job) first (start (cast_of job)) c.requires.fits);
+      led = λ a x. subst (λ (w : WorldState). Led (replayed (step (command_cast a job)) job) first (start (job_cast job)) first 0 w.state) (sym new)
+          (led_none (replayed (step (command_cast a job)) job) first (start (job_cast job)) c.requires.fits);
       passed = led_none (replayed passed_over job) first tt c.requires.fits;
       asked = subst (λ (w : WorldState). HasAsked gives w c.in_ok-world.world) new (nothing_asked gives c.in_ok-world.world c.in_ok-world.world refl refl);
-      is_of = is_of_new job c.in_ok-world.world new;
+      head_matches = is_of_new job c.in_ok-world.world new;
       goes_on = ap (λ (w : WorldState). w.stopped) new;
       counted = omega arith;
     }
@@ -65,12 +65,12 @@ lines-preserved g c =
     let e = c.in_ok-step_line.ensures in
     let line = line_of _ _ _ c.if-branch.true c.in_ok-next.ensures.gives in
     record {
-      led = λ a x. led_on _ _ _ (next_by (step (cast_by a job)) job) (step_of (step (cast_by a job)) job) _ _ _ _ _ (i.led a (e.continued a x)) line
+      led = λ a x. led_on _ _ _ (next_by (step (command_cast a job)) job) (step_of (step (command_cast a job)) job) _ _ _ _ _ (i.led a (e.continued a x)) line
           (rw (c.number.ensures, c.text.ensures) at e.stepped a x);
       passed = led_on _ _ _ (next_by passed_over job) (step_of passed_over job) _ _ _ _ _ i.passed line
           (rw (c.number.ensures, c.text.ensures) at e.passed);
-      asked = more_asked (g.A.Strategies.gives c.args.staff.now) _ c.lines.world c.step_line.new.world i.asked i.is_of.deal e.asked;
-      is_of = e.of;
+      asked = more_asked (g.A.Strategies.gives c.args.staff.now) _ c.lines.world c.step_line.new.world i.asked i.head_matches.deal e.asked;
+      head_matches = e.of;
       goes_on = e.goes_on;
       counted = omega (arith, i.counted, line.counted);
     }
@@ -88,5 +88,5 @@ lines-smaller g c =
 pub returns-clause-exact : goal.returns-clause-exact
 returns-clause-exact g c = λ a x.
     let job = c.args.job.now in
-    led_to_end _ _ _ (λ y. y) (none_left (step (cast_by a job)) job) _ _ _ _ (c.lines.invariant.led a x)
-    (last_of _ _ _ c.if-branch.false c.in_ok-next.ensures.gives)
+    led_to_end _ _ _ (λ y. y) (none_left (step (command_cast a job)) job) _ _ _ _ (c.lines.invariant.led a x)
+    (last_run _ _ _ c.if-branch.false c.in_ok-next.ensures.gives)

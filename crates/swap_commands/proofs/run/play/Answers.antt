@@ -2,10 +2,10 @@ use Rattle.std.proofs.Common.{refl}
 use Rattle.std.proofs.lemmas.Result.{err_from_is_err_and}
 use Rattle.command_input.specs.Input.{desk}
 use Rattle.swap_run.specs.Run.{start, step}
-use Rattle.swap_world.specs.Cast.{cast_of}
+use Rattle.swap_world.specs.Cast.{job_cast}
 use Rattle.swap_job.specs.declared.job.Purpose.TheVariants as purposes
 use Rattle.swap_commands.specs.Words.{Run}
-use Rattle.swap_commands.specs.Output.{cast_by}
+use Rattle.swap_commands.specs.Output.{command_cast}
 use Rattle.swap_commands.specs.Replay.{passed_over, replayed}
 use Rattle.swap_commands.proofs.Reading.{against_event, is_read, run_says}
 use Rattle.swap_commands.proofs.Replays.{held}
@@ -24,7 +24,7 @@ returns-in_err-job-clause-stops g c =
 
 pub returns-in-Ok-clause-played : goal.returns-in-Ok-clause-played
 returns-in-Ok-clause-played g c = λ a x.
-    is_read _ purposes.Run (λ job. replayed (step (cast_by a job)) job 0 (start (cast_of job)))
+    is_read _ purposes.Run (λ job. replayed (step (command_cast a job)) job 0 (start (job_cast job)))
     _ _ _ _ c.in_ok-job.field-0.job c.in-Ok.world.state c.in_ok-job.ensures.line c.in_ok-job.ensures.header (c.in-Ok.ensures.exact a x)
 
 pub returns-in-Ok-clause-held : goal.returns-in-Ok-clause-held

@@ -1,6 +1,6 @@
 use Rattle.std.proofs.Common.{inl, refl, ◌∙◌}
 use Rattle.std.proofs.KnownBytes.{Keeps-refl}
-use Rattle.swap_world.specs.Value.{answers_of}
+use Rattle.swap_world.specs.Value.{world_answers}
 use Rattle.swap_commands.specs.Replay.{IsPlayed}
 use Rattle.swap_commands.specs.Words.{OfJob, Run}
 use Rattle.swap_commands.proofs.Saying.{all_consumed, calm_stopped, says_run, says_stopped}
@@ -17,7 +17,7 @@ returns-in-Err-clause-says g c =
 pub returns-in_default-clause-says : goal.returns-in_default-clause-says
 returns-in_default-clause-says g c =
     let has = g.A.Strategies.holds c.args.staff.now in
-    let a = answers_of c.in-Ok.played.1 in
+    let a = world_answers c.in-Ok.played.1 in
     inl (
       Keeps-refl (g.K.Sink.taken c.args.sink.now),
       all_consumed has (λ bytes. IsPlayed has a bytes c.in-Ok.played.0 c.in-Ok.played.1.state) _ _ _ _ c.play.new.input
@@ -40,7 +40,7 @@ returns-in-Err-clause-calm g c = λ unless.
     (λ e. unless (c.unread.ensures ∙ e))
 
 pub returns-in_default-clause-calm : goal.returns-in_default-clause-calm
-returns-in_default-clause-calm g c = λ unless. (c.in-Ok.ensures.played (answers_of c.in-Ok.played.1) (λ i lt. refl)).stands.calm
+returns-in_default-clause-calm g c = λ unless. (c.in-Ok.ensures.played (world_answers c.in-Ok.played.1) (λ i lt. refl)).stands.calm
 
 pub returns-clause-calm : goal.returns-clause-calm
-returns-clause-calm g c = λ unless. (c.in-Ok.ensures.played (answers_of c.in-Ok.played.1) (λ i lt. refl)).stands.calm
+returns-clause-calm g c = λ unless. (c.in-Ok.ensures.played (world_answers c.in-Ok.played.1) (λ i lt. refl)).stands.calm

@@ -1,7 +1,7 @@
 use Rattle.std.proofs.Common.{◌≡◌, map}
 use Rattle.std.specs.List.{range_with_len}
-use Rattle.swap_digraph.specs.Graph.{leaving_among}
+use Rattle.swap_digraph.specs.Graph.{leaving_numbers}
 use Rattle.swap_digraph.proofs.digraph.all_leaving.Given as goal
 
 abbrev pub invariant-loop-p : goal.invariant-loop-p
-invariant-loop-p l = l.lists.items ≡ map (leaving_among l.arcs) (range_with_len 0 l.p)
+invariant-loop-p l = l.lists.items ≡ map (leaving_numbers l.arcs) (range_with_len 0 l.p)

@@ -10,13 +10,13 @@ drawn_amounts-requires-clause-few c =
     let few = few_arcs _ _ c.in_ok-arcs.arcs.items c.requires.high c.in_ok-arcs.ensures.arcs in
     omega (arith, few, c.len.ensures)
 
-pub graph_of-requires-clause-few : goal.graph_of-requires-clause-few
-graph_of-requires-clause-few c =
+pub build_graph-requires-clause-few : goal.build_graph-requires-clause-few
+build_graph-requires-clause-few c =
     let few = few_arcs _ _ c.in_ok-arcs.arcs.items c.requires.high c.in_ok-arcs.ensures.arcs in
     omega (arith, few)
 
-pub graph_of-requires-clause-sound : goal.graph_of-requires-clause-sound
-graph_of-requires-clause-sound c = faultless_arcs _ _ c.in_ok-arcs.arcs.items c.requires.low c.in_ok-arcs.ensures.arcs
+pub build_graph-requires-clause-sound : goal.build_graph-requires-clause-sound
+build_graph-requires-clause-sound c = faultless_arcs _ _ c.in_ok-arcs.arcs.items c.requires.low c.in_ok-arcs.ensures.arcs
 
 pub returns-clause-deal : goal.returns-clause-deal
 returns-clause-deal c =
@@ -25,7 +25,7 @@ returns-clause-deal c =
     let arcs = c.in_ok-arcs.ensures.arcs ∙ ap (λ (s : DrawState). drawn_arcs s.seed n) c.leader_count-leaders.ensures.draws in
     let size : c.len.result ≡ length (drawn_arcs seed n) = omega (arith, c.len.ensures, ap length arcs) in
     deal_is seed n _ _ _ _ _ _
-    (c.in_ok-graph_of.ensures ∙ ap (graph_with n) arcs)
+    (c.in_ok-build_graph.ensures ∙ ap (graph_with n) arcs)
     (c.in_ok-lowest.ensures ∙ ap (range_with_len 0) c.leader_count-leaders.ensures.count)
     (c.in_ok-amounts.ensures.amounts
     ∙ ap (λ (s : DrawState). map (drawn_amount s.seed n) (range_with_len 0 c.len.result)) c.in_ok-arcs.ensures.draws

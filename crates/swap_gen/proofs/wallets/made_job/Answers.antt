@@ -2,11 +2,11 @@ use Rattle.std.proofs.Common.{◌∙◌}
 use Rattle.swap_gen.proofs.Equipped.{has_few, has_wallets, in_hashkeys, is_made, is_proposed, states_keys}
 use Rattle.swap_gen.proofs.wallets.made_job.Goals as goal
 
-pub wallets_for-requires-clause-mode : goal.wallets_for-requires-clause-mode
-wallets_for-requires-clause-mode c = in_hashkeys c.args.seed c.args.parties c.in_ok-job.job c.in_ok-job.ensures.job
+pub prepared_wallets-requires-clause-mode : goal.prepared_wallets-requires-clause-mode
+prepared_wallets-requires-clause-mode c = in_hashkeys c.args.seed c.args.parties c.in_ok-job.job c.in_ok-job.ensures.job
 
-pub wallets_for-requires-clause-few : goal.wallets_for-requires-clause-few
-wallets_for-requires-clause-few c = has_few c.args.seed c.args.parties c.in_ok-job.job c.in_ok-job.ensures.job c.requires.low c.requires.high
+pub prepared_wallets-requires-clause-few : goal.prepared_wallets-requires-clause-few
+prepared_wallets-requires-clause-few c = has_few c.args.seed c.args.parties c.in_ok-job.job c.in_ok-job.ensures.job c.requires.low c.requires.high
 
 pub fill-requires-clause-proposed : goal.fill-requires-clause-proposed
 fill-requires-clause-proposed c = is_proposed c.args.seed c.args.parties c.in_ok-job.job c.in_ok-job.ensures.job c.requires.low c.requires.high

@@ -4,5 +4,5 @@ use Rattle.swap_job.proofs.openings.opened_key.Goals as goal
 
 pub returns : goal.returns
 returns c =
-    c.key_among.ensures ∙ ap (option_map (λ o. o.key))
+    c.find_key.ensures ∙ ap (option_map (λ o. o.key))
     (opened_among c.args.lock c.args.list.now c.parts.result.0.now c.parts.result.1 c.parts.ensures.list)

@@ -2,9 +2,10 @@ use Rattle.std.proofs.Common.{ℕ, ◌+◌, ◌≤◌, arith}
 use Rattle.swap_run.specs.Fair.{repeat}
 use Rattle.swap_many.specs.Fair.{kept_ticks, kept_round_or_rest}
 use Rattle.swap_many.specs.Value.{IsManyStopped}
-use Rattle.swap_many.proofs.Gone.{if_err, on_gone}
+use Rattle.swap_many.proofs.Gone.{on_gone}
 use Rattle.swap_many.proofs.Nearby.{near_gone}
 use Rattle.swap_many.proofs.Advancing.{advance_cut, advance_ends, advance_stops}
+use Rattle.swap_world.proofs.Ways.{if_err}
 use Rattle.swap_many.proofs.fair.advance.Goals as goal
 
 pub quiet_rounds-quiet-requires-clause-goes_on : goal.quiet_rounds-quiet-requires-clause-goes_on

@@ -4,7 +4,8 @@ use Rattle.swap_many.specs.Fair.{kept_turns}
 use Rattle.swap_world.specs.Near.{all_adjacent}
 use Rattle.swap_many.proofs.Values.{item_is}
 use Rattle.swap_many.proofs.Gone.{deal_gone, gone_as, on_gone, stopped_as}
-use Rattle.swap_many.proofs.Gone.{if_err, range_on, range_done, range_stops}
+use Rattle.swap_many.proofs.Gone.{range_on, range_done, range_stops}
+use Rattle.swap_world.proofs.Ways.{if_err}
 use Rattle.swap_many.proofs.Turning as lemmas
 use Rattle.swap_many.proofs.fair.all_turns.Goals as goal
 

@@ -2,7 +2,7 @@ use Rattle.std.proofs.Common.{refl}
 use Rattle.swap_many.specs.Kept.{kept_finish}
 use Rattle.swap_many.specs.Fair.{kept_rounds, kept_sweeps}
 use Rattle.swap_many.proofs.Gone.{gone_as, gone_then, on_gone, stopped_as, stopped_then}
-use Rattle.swap_many.proofs.Gone.{if_err}
+use Rattle.swap_world.proofs.Ways.{if_err}
 use Rattle.swap_many.proofs.Turning as lemmas
 use Rattle.swap_many.proofs.fair.finish.Goals as goal
 

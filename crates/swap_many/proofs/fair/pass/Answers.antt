@@ -2,8 +2,9 @@ use Rattle.std.proofs.Common.{◌≡◌, arith, subst}
 use Rattle.swap_run.specs.Fair.{repeat}
 use Rattle.swap_many.specs.Fair.{kept_ticks}
 use Rattle.swap_many.specs.Value.{HasManyGone}
-use Rattle.swap_many.proofs.Gone.{begun, if_err, on_gone, repeat_on, repeat_stops}
+use Rattle.swap_many.proofs.Gone.{begun, on_gone, repeat_on, repeat_stops}
 use Rattle.swap_many.proofs.Turning.{ticks_lead}
+use Rattle.swap_world.proofs.Ways.{if_err}
 use Rattle.swap_many.proofs.fair.pass.Goals as goal
 
 pub rounds-init : goal.rounds-init

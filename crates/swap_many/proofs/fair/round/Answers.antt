@@ -4,7 +4,7 @@ use Rattle.swap_many.specs.Chains.{Setup}
 use Rattle.swap_many.specs.Kept.{Kept}
 use Rattle.swap_many.specs.Fair.{kept_turns, kept_ticks, kept_round}
 use Rattle.swap_many.proofs.Gone.{gone_as, gone_then, on_gone, stopped_as, stopped_then, stopped_after, on_ok, on_err}
-use Rattle.swap_many.proofs.Gone.{if_err}
+use Rattle.swap_world.proofs.Ways.{if_err}
 use Rattle.swap_many.proofs.Turning as lemmas
 use Rattle.swap_many.proofs.fair.round.Goals as goal
 

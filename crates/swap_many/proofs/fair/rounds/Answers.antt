@@ -4,11 +4,12 @@ use Rattle.swap_many.specs.Many.{last_horizon}
 use Rattle.swap_many.specs.Chains.{Setup}
 use Rattle.swap_many.specs.Kept.{Kept}
 use Rattle.swap_many.specs.Fair.{kept_round_or_rest, kept_rounds, have_ended}
-use Rattle.swap_many.specs.Value.{HasManyGone, kept_of, setup_of}
+use Rattle.swap_many.specs.Value.{HasManyGone, kept_state, world_setup}
 use Rattle.swap_many.proofs.Values.{same_setup_of}
-use Rattle.swap_many.proofs.Gone.{begun, gone_as, if_err, on_gone, repeat_rests, stopped_as}
+use Rattle.swap_many.proofs.Gone.{begun, gone_as, on_gone, repeat_rests, stopped_as}
 use Rattle.swap_many.proofs.Nearby.{near_gone}
 use Rattle.swap_many.proofs.Advancing.{goes_further, stops_further}
+use Rattle.swap_world.proofs.Ways.{if_err}
 use Rattle.swap_many.proofs.Turning as lemmas
 use Rattle.swap_many.proofs.fair.rounds.Goals as goal
 
@@ -17,7 +18,7 @@ rounds-init g c =
     let gives = g.A.Strategies.gives c.args.staff.now in
     let w = c.args.worlds.now in
     let h = c.last_horizon-horizon.ensures.value in
-    let none : 0 ≡ (last_horizon (setup_of w) + 1) - (c.last_horizon-horizon.result + 1) = omega (arith, h) in
+    let none : 0 ≡ (last_horizon (world_setup w) + 1) - (c.last_horizon-horizon.result + 1) = omega (arith, h) in
     record {
       few = omega (arith, h);
       gone = subst (λ n. HasManyGone gives (λ m z. repeat n (kept_round_or_rest m) z) w w) none (begun gives w);
@@ -31,7 +32,7 @@ have_ended-requires g c =
 pub advance-requires-clause-near : goal.advance-requires-clause-near
 advance-requires-clause-near g c =
     let w = c.args.worlds.now in
-    near_gone (g.A.Strategies.gives c.args.staff.now) (λ m z. repeat ((last_horizon (setup_of w) + 1) - c.rounds.left) (kept_round_or_rest m) z) w
+    near_gone (g.A.Strategies.gives c.args.staff.now) (λ m z. repeat ((last_horizon (world_setup w) + 1) - c.rounds.left) (kept_round_or_rest m) z) w
     c.rounds.worlds c.args.near.now c.rounds.invariant.gone c.requires.near
 
 pub advance-requires-clause-horizon : goal.advance-requires-clause-horizon
@@ -45,7 +46,7 @@ advance-requires-clause-low g c = sym c.have_ended.ensures ∙ c.if-have_ended.f
 pub advance-requires-clause-on : goal.advance-requires-clause-on
 advance-requires-clause-on g c =
     let w = c.args.worlds.now in
-    on_gone (g.A.Strategies.gives c.args.staff.now) (λ m z. repeat ((last_horizon (setup_of w) + 1) - c.rounds.left) (kept_round_or_rest m) z) w
+    on_gone (g.A.Strategies.gives c.args.staff.now) (λ m z. repeat ((last_horizon (world_setup w) + 1) - c.rounds.left) (kept_round_or_rest m) z) w
     c.rounds.worlds _ c.rounds.invariant.gone c.requires.on
 
 pub rounds-preserved : goal.rounds-preserved
@@ -57,7 +58,7 @@ rounds-preserved g c =
     let few = i.few in
     record {
       few = omega (arith, few);
-      gone = goes_further (g.A.Strategies.gives c.args.staff.now) w c.rounds.worlds c.advance.new.worlds (last_horizon (setup_of w) + 1) c.rounds.left n
+      gone = goes_further (g.A.Strategies.gives c.args.staff.now) w c.rounds.worlds c.advance.new.worlds (last_horizon (world_setup w) + 1) c.rounds.left n
           i.few less i.gone c.in_ok-taken.ensures.ok;
     }
 
@@ -66,9 +67,9 @@ returns-then-have_ended-clause-ok g c =
     let gives = g.A.Strategies.gives c.args.staff.now in
     let w = c.args.worlds.now in
     let mid = c.rounds.worlds in
-    let all = last_horizon (setup_of w) + 1 in
-    let part = λ (m : Setup) (z : Kept). repeat (last_horizon (setup_of w) + 1) (kept_round_or_rest m) z in
-    let ended : have_ended (setup_of mid) (kept_of mid) ≡ true = sym c.have_ended.ensures ∙ c.if-have_ended.true in
+    let all = last_horizon (world_setup w) + 1 in
+    let part = λ (m : Setup) (z : Kept). repeat (last_horizon (world_setup w) + 1) (kept_round_or_rest m) z in
+    let ended : have_ended (world_setup mid) (kept_state mid) ≡ true = sym c.have_ended.ensures ∙ c.if-have_ended.true in
     gone_as gives part kept_rounds w mid (λ a. refl)
     (repeat_rests gives kept_round_or_rest w mid mid all (all - c.rounds.left) c.rounds.invariant.gone (omega arith) (λ a. lemmas.rests mid a ended))
 
@@ -78,15 +79,15 @@ returns-in_err-taken-clause-err g c =
     let w = c.args.worlds.now in
     let i = c.rounds.invariant in
     let k = c.in_err-taken.ensures.err in
-    let part = λ (m : Setup) (z : Kept). repeat (last_horizon (setup_of w) + 1) (kept_round_or_rest m) z in
+    let part = λ (m : Setup) (z : Kept). repeat (last_horizon (world_setup w) + 1) (kept_round_or_rest m) z in
     if_err _ (stopped_as gives part kept_rounds w c.advance.new.worlds (λ a. refl)
-    (stops_further gives w c.rounds.worlds c.advance.new.worlds (last_horizon (setup_of w) + 1) c.rounds.left k.0 i.few k.1 i.gone c.requires.on.ready k.2))
+    (stops_further gives w c.rounds.worlds c.advance.new.worlds (last_horizon (world_setup w) + 1) c.rounds.left k.0 i.few k.1 i.gone c.requires.on.ready k.2))
 
 pub returns-clause-ok : goal.returns-clause-ok
 returns-clause-ok g c =
     let gives = g.A.Strategies.gives c.args.staff.now in
     let w = c.args.worlds.now in
-    let part = λ (m : Setup) (z : Kept). repeat (last_horizon (setup_of w) + 1) (kept_round_or_rest m) z in
-    let none : (last_horizon (setup_of w) + 1) - c.rounds.left ≡ last_horizon (setup_of w) + 1 = omega (arith, c.rounds-test.false) in
+    let part = λ (m : Setup) (z : Kept). repeat (last_horizon (world_setup w) + 1) (kept_round_or_rest m) z in
+    let none : (last_horizon (world_setup w) + 1) - c.rounds.left ≡ last_horizon (world_setup w) + 1 = omega (arith, c.rounds-test.false) in
     gone_as gives part kept_rounds w c.rounds.worlds (λ a. refl)
     (subst (λ n. HasManyGone gives (λ m z. repeat n (kept_round_or_rest m) z) w c.rounds.worlds) none c.rounds.invariant.gone)

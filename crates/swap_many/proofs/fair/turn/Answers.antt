@@ -1,7 +1,7 @@
 use Rattle.std.proofs.Common.{sym, ◌∙◌}
 use Rattle.swap_many.specs.Fair.{kept_looks}
 use Rattle.swap_many.proofs.Gone.{on_gone, on_ok, on_err}
-use Rattle.swap_many.proofs.Gone.{if_err}
+use Rattle.swap_world.proofs.Ways.{if_err}
 use Rattle.swap_many.proofs.Turning as lemmas
 use Rattle.swap_many.proofs.fair.turn.Goals as goal
 

@@ -20,11 +20,11 @@ swaps-preserved c =
     let there = c.as_slice.ensures
     ∙ item_is c.args.places.now k [] c.index-places-s.result (subst (λ n. k < n) (sym c.requires.one_each) l) c.index-places-s.is in
     let m = setup_of_worlds ws c.args.places.now [] in
-    let e : c.aside_in-sum.result ≡ sum_by (pays_for m c.args.chain c.args.account k) (arcs (nth ws k).deal.graph) =
-    c.aside_in-sum.ensures.value
+    let e : c.units_aside-sum.result ≡ sum_by (pays_for m c.args.chain c.args.account k) (arcs (nth ws k).deal.graph) =
+    c.units_aside-sum.ensures.value
     ∙ ap₂ (λ (y : WorldState) (ps : List Place). sum_by (pays_in y.deal ps c.args.chain c.args.account) (arcs y.deal.graph)) here there in
     let a = inv.1 in
-    let b = c.aside_in-sum.ensures.few in (
-      sum_next (λ s. sum_by (pays_for m c.args.chain c.args.account s) (arcs (nth ws s).deal.graph)) k c.swaps.sum c.aside_in-sum.result inv.0 e,
+    let b = c.units_aside-sum.ensures.few in (
+      sum_next (λ s. sum_by (pays_for m c.args.chain c.args.account s) (arcs (nth ws s).deal.graph)) k c.swaps.sum c.units_aside-sum.result inv.0 e,
       omega (arith, a, b),
     )

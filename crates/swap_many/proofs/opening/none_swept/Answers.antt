@@ -2,7 +2,7 @@ use Rattle.std.proofs.Common.{◌≡◌, ◌≢◌, ◌⊎◌, ◌<◌, ◌+◌,
 use Rattle.swap_rules.proofs.Prefixes.{same_or_not}
 use Rattle.swap_digraph.specs.declared.deal.Deal.{Deal}
 use Rattle.swap_run.specs.Laws.{IsReadyCast}
-use Rattle.swap_world.specs.Value.{WorldState, cast_at}
+use Rattle.swap_world.specs.Value.{WorldState, world_cast}
 use Rattle.swap_many.specs.Opening.{none_swept}
 use Rattle.swap_many.specs.Ticking.{nth}
 use Rattle.swap_many.specs.Value.{no_world}
@@ -32,5 +32,5 @@ swaps-preserved c =
     ∙ (ap (λ (d : Deal). replicate (length d.graph.arcs) false) c.deal.ensures.value ∙ ap none_swept here)) in (
       map_next none_swept ws k no_world c.swaps.all.items c.push.new.self.items l
           (c.in_ok-push.ensures.items ∙ ap (λ (x : List Bool). c.swaps.all.items ++ x ∷ []) flags) inv.0,
-      next (λ s. IsReadyCast (cast_at (nth ws s))) k inv.1 (subst (λ (y : WorldState). IsReadyCast (cast_at y)) here c.deal.ensures.ready),
+      next (λ s. IsReadyCast (world_cast (nth ws s))) k inv.1 (subst (λ (y : WorldState). IsReadyCast (world_cast y)) here c.deal.ensures.ready),
     )

@@ -2,7 +2,7 @@ use Rattle.std.proofs.Common.{◌≡◌, ◌≢◌, ◌⊎◌, inl, inr, ℕ, �
 use Rattle.swap_rules.proofs.Prefixes.{same_or_not}
 use Rattle.swap_world.specs.Near.{all_adjacent}
 use Rattle.swap_world.specs.Quiet.{IsStill}
-use Rattle.swap_world.specs.Value.{WorldState, cast_at}
+use Rattle.swap_world.specs.Value.{WorldState, world_cast}
 use Rattle.swap_many.specs.Ticking.{nth}
 use Rattle.swap_many.specs.Value.{no_world}
 use Rattle.swap_many.proofs.Values.{item_is}
@@ -19,16 +19,16 @@ swaps-init c = record { few = omega arith; still = λ more s l. absurd (omega (a
 pub bounds-near-s : goal.bounds-near-s
 bounds-near-s c = subst (λ n. c.swaps.s < n) (sym c.requires.near.one_each) c.swaps-test.true
 
-pub rests_for-rounds-requires-clause-near : goal.rests_for-rounds-requires-clause-near
-rests_for-rounds-requires-clause-near c =
+pub rest_rounds-rounds-requires-clause-near : goal.rest_rounds-rounds-requires-clause-near
+rest_rounds-rounds-requires-clause-near c =
     let ws = c.args.worlds.now in
     let k = c.swaps.s in
     let here = item_is ws k no_world c.index-worlds-s.result c.swaps-test.true c.index-worlds-s.is in
     let there = item_is c.args.near.now k [] c.index-near-s.result (subst (λ n. k < n) (sym c.requires.near.one_each) c.swaps-test.true) c.index-near-s.is in
     c.as_slice.ensures ∙ (there ∙ (c.requires.near.each k c.swaps-test.true ∙ ap (λ (y : WorldState). all_adjacent y.deal) (sym here)))
 
-pub rests_for-rounds-requires-clause-goes_on : goal.rests_for-rounds-requires-clause-goes_on
-rests_for-rounds-requires-clause-goes_on c =
+pub rest_rounds-rounds-requires-clause-goes_on : goal.rest_rounds-rounds-requires-clause-goes_on
+rest_rounds-rounds-requires-clause-goes_on c =
     let ws = c.args.worlds.now in
     let k = c.swaps.s in
     let here = item_is ws k no_world c.index-worlds-s.result c.swaps-test.true c.index-worlds-s.is in
@@ -38,17 +38,17 @@ pub swaps-preserved : goal.swaps-preserved
 swaps-preserved c =
     let ws = c.args.worlds.now in
     let k = c.swaps.s in
-    let n = c.rests_for-rounds.result in
-    let less = c.rests_for-rounds.ensures.few in
+    let n = c.rest_rounds-rounds.result in
+    let less = c.rest_rounds-rounds.ensures.few in
     let few = c.swaps.invariant.few in
     let here = item_is ws k no_world c.index-worlds-s.result c.swaps-test.true c.index-worlds-s.is in
     record {
       few = omega (arith, less, few);
       still = λ more s l.
-          next (λ s. IsStill (cast_at (nth ws s)) n (nth ws s).state) k s
-          (λ low. still_less (cast_at (nth ws s)) c.swaps.rounds n (nth ws s).state less
+          next (λ s. IsStill (world_cast (nth ws s)) n (nth ws s).state) k s
+          (λ low. still_less (world_cast (nth ws s)) c.swaps.rounds n (nth ws s).state less
           (c.swaps.invariant.still (omega (arith, more, less)) s low))
-          (subst (λ (y : WorldState). IsStill (cast_at y) n y.state) here (c.rests_for-rounds.ensures.still more)) l (same_or_not s k);
+          (subst (λ (y : WorldState). IsStill (world_cast y) n y.state) here (c.rest_rounds-rounds.ensures.still more)) l (same_or_not s k);
     }
 
 pub returns-clause-still : goal.returns-clause-still

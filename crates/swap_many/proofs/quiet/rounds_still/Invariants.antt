@@ -1,11 +1,11 @@
 use Rattle.std.proofs.Common.{ℕ, ◌<◌, ◌≤◌}
 use Rattle.swap_world.specs.Quiet.{IsStill}
-use Rattle.swap_world.specs.Value.{cast_at}
+use Rattle.swap_world.specs.Value.{world_cast}
 use Rattle.swap_many.specs.Ticking.{nth}
 use Rattle.swap_many.proofs.quiet.rounds_still.Given as goal
 
 abbrev pub invariant-swaps : goal.invariant-swaps
 invariant-swaps l = record {
   few : l.rounds ≤ l.most;
-  still : 0 < l.rounds → (s : ℕ) → s < l.s → IsStill (cast_at (nth l.worlds s)) l.rounds (nth l.worlds s).state;
+  still : 0 < l.rounds → (s : ℕ) → s < l.s → IsStill (world_cast (nth l.worlds s)) l.rounds (nth l.worlds s).state;
 }

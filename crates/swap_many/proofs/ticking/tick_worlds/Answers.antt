@@ -7,8 +7,8 @@ use Rattle.swap_many.specs.Value.{no_world}
 use Rattle.swap_many.proofs.Values.{item_is}
 use Rattle.swap_many.proofs.ticking.tick_worlds.Goals as goal
 
-pub tick_on-requires-clause-arcs : goal.tick_on-requires-clause-arcs
-tick_on-requires-clause-arcs c =
+pub tick_ledgers-requires-clause-arcs : goal.tick_ledgers-requires-clause-arcs
+tick_ledgers-requires-clause-arcs c =
     let s = c.swaps.s in
     let on = c.args.on.now in
     let ws = c.args.worlds.now.items in
@@ -20,8 +20,8 @@ tick_on-requires-clause-arcs c =
     subst (λ (xs : List ℕ). All (λ a. a < length c.index_mut.result.now.deal.graph.arcs) xs) (sym there)
     (subst (λ (y : WorldState). All (λ a. a < length y.deal.graph.arcs) (slice_index_or on s [])) (sym here) (c.requires.fits.arcs s l))
 
-pub tick_on-requires-clause-ascending : goal.tick_on-requires-clause-ascending
-tick_on-requires-clause-ascending c =
+pub tick_ledgers-requires-clause-ascending : goal.tick_ledgers-requires-clause-ascending
+tick_ledgers-requires-clause-ascending c =
     let s = c.swaps.s in
     let on = c.args.on.now in
     let l : s < length c.args.worlds.now.items = omega (arith, c.swaps-test.true, c.len-s-end.ensures) in

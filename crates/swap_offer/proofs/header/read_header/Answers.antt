@@ -3,7 +3,7 @@ use Rattle.std.specs.Prelude.{IfOk}
 use Rattle.swap_base.specs.declared.fault.Fault.{Fault}
 use Rattle.refusals.specs.declared.refusal.Refusal.{Refusal}
 use Rattle.swap_job.specs.declared.job.Role.{Role}
-use Rattle.offer_header.specs.Header.{header_of}
+use Rattle.offer_header.specs.Header.{parse_whole_header}
 use Rattle.offer_header.specs.Limits.{HoldsEach}
 use Rattle.offer_header.specs.Names.{has_strategy}
 use Rattle.swap_offer.specs.declared.prepared.Prepared.{Prepared}
@@ -12,7 +12,7 @@ use Rattle.swap_offer.proofs.header.read_header.Goals as goal
 
 pub returns-in-Err-clause-certified : goal.returns-in-Err-clause-certified
 returns-in-Err-clause-certified c = λ h e.
-    let read = header_of (has_strategy c.args.strategies.now) c.args.purpose c.args.line c.args.text.now in
+    let read = parse_whole_header (has_strategy c.args.strategies.now) c.args.purpose c.args.line c.args.text.now in
     rw c.with_names.ensures (no_header Prepared c.empty.result c.in-Err.fault read h c.in-Err.ensures.exact e)
 
 pub returns-clause-certified : goal.returns-clause-certified

@@ -7,14 +7,14 @@ pub parties-preserved : goal.parties-preserved
 parties-preserved c =
     let job = c.args.job.now in
     goes_on (wrong_wallet job) job.deal.graph.n (fitting job) c.parties.p tt
-    (rw c.n-p-end.ensures at c.parties-test.true) c.in_ok-wallet_for.ensures.fits c.parties.invariant
+    (rw c.n-p-end.ensures at c.parties-test.true) c.in_ok-job_wallet.ensures.fits c.parties.invariant
 
-pub returns-in_err-wallet_for : goal.returns-in_err-wallet_for
-returns-in_err-wallet_for c =
+pub returns-in_err-job_wallet : goal.returns-in_err-job_wallet
+returns-in_err-job_wallet c =
     let job = c.args.job.now in
     let p = err_from_is_err_and c.from_residual.result c.from_residual.ensures.1 in
-    rw (p.1, p.2) (ends (wrong_wallet job) job.deal.graph.n (fitting job) c.in_err-wallet_for.field-0.0 c.parties.p
-    (rw c.n-p-end.ensures at c.parties-test.true) c.in_err-wallet_for.ensures.fits c.parties.invariant)
+    rw (p.1, p.2) (ends (wrong_wallet job) job.deal.graph.n (fitting job) c.in_err-job_wallet.field-0.0 c.parties.p
+    (rw c.n-p-end.ensures at c.parties-test.true) c.in_err-job_wallet.ensures.fits c.parties.invariant)
 
 pub returns : goal.returns
 returns c =

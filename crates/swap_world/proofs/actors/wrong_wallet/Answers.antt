@@ -1,20 +1,20 @@
 use Rattle.std.proofs.Common.{◌≡◌, ◌<◌, ℕ, List, Option, None, get_or, length, zero-add, sym, ap, ◌∙◌, subst}
 use Rattle.std.proofs.lemmas.List.FromFn.{get_or-map-range_with_len, length-map-range_with_len}
 use Rattle.party_wallet.specs.Value.{WalletState}
-use Rattle.party_wallet.specs.Wallets.{wallet_for}
+use Rattle.party_wallet.specs.Wallets.{job_wallet}
 use Rattle.swap_world.proofs.actors.wrong_wallet.Goals as goal
 
 pub bounds-wallets-p : goal.bounds-wallets-p
 bounds-wallets-p c =
     let job = c.args.job.now in
-    let f : ℕ → Option WalletState = wallet_for job.deal job.conforming job.seeds in
+    let f : ℕ → Option WalletState = job_wallet job.deal job.conforming job.seeds in
     let lt : c.parties.p < job.deal.graph.n = rw c.n-p-end.ensures at c.parties-test.true in
     subst (λ n. c.parties.p < n) (sym (ap length c.requires.wallets ∙ length-map-range_with_len f 0 job.deal.graph.n)) lt
 
-pub wrong_in-requires-clause-wallet : goal.wrong_in-requires-clause-wallet
-wrong_in-requires-clause-wallet c =
+pub find_wrong_lock-requires-clause-wallet : goal.find_wrong_lock-requires-clause-wallet
+find_wrong_lock-requires-clause-wallet c =
     let job = c.args.job.now in
-    let f : ℕ → Option WalletState = wallet_for job.deal job.conforming job.seeds in
+    let f : ℕ → Option WalletState = job_wallet job.deal job.conforming job.seeds in
     let p : ℕ = c.parties.p in
     let d : Option WalletState = c.index-wallets-p.result in
     let lt : p < job.deal.graph.n = rw c.n-p-end.ensures at c.parties-test.true in

@@ -2,7 +2,7 @@ use Rattle.std.proofs.Common.{◌≡◌, ◌<◌, ℕ, true, ◌∷◌, [], repl
 use Rattle.swap_job.specs.declared.event.Event.TheVariants.{Act}
 use Rattle.swap_run.specs.Run.{Cast, State, conforms, step}
 use Rattle.swap_run.specs.Fair.{repeat, most_acts}
-use Rattle.swap_world.specs.Value.{cast_at, cast_for}
+use Rattle.swap_world.specs.Value.{world_cast, answering_cast}
 use Rattle.swap_world.specs.Gone.{HasGone}
 use Rattle.swap_world.proofs.Ways.{along_acts, if_err}
 use Rattle.swap_world.proofs.Gone.{alone_conforming, begun, cast_gone, cut_to, deal_gone, goes_on_gone, quiet_rests, quiet_run, still_at, stopped_in, went_to}
@@ -35,12 +35,12 @@ acts-preserved g c =
     let gives = g.A.Strategies.gives c.args._staff.now in
     let w = c.args.world.now in
     let mid = c.acts.world in
-    let conforming : conforms (cast_at mid) c.args.p ≡ true =
+    let conforming : conforms (world_cast mid) c.args.p ≡ true =
     subst (λ x. conforms x c.args.p ≡ true) (sym (cast_gone gives (λ x s. repeat c.acts.counter (act_of c.args.p x) s) w mid c.acts.invariant))
     c.requires.conforms in
     repeat_on gives (act_of c.args.p) w mid c.act_if_due.new.self (most_acts w.deal) c.acts.counter c.acts.invariant
     (went_to gives (act_of c.args.p) mid c.act_if_due.new.self
-    (quiet_run (cast_at mid) mid.state c.args.p (alone_conforming (cast_at mid) c.args.p conforming)) c.in_ok-act_if_due.ensures.ok)
+    (quiet_run (world_cast mid) mid.state c.args.p (alone_conforming (world_cast mid) c.args.p conforming)) c.in_ok-act_if_due.ensures.ok)
 
 pub returns-in_err-act_if_due-clause-err : goal.returns-in_err-act_if_due-clause-err
 returns-in_err-act_if_due-clause-err g c =
@@ -50,15 +50,16 @@ returns-in_err-act_if_due-clause-err g c =
     let new = c.act_if_due.new.self in
     let l : c.acts.counter < most_acts w.deal = rw (← c.deal.ensures.value, ← c.most_acts-end.ensures) c.acts-test.true in
     let e = c.in_err-act_if_due.ensures in
-    let conforming : conforms (cast_at mid) c.args.p ≡ true =
+    let conforming : conforms (world_cast mid) c.args.p ≡ true =
     subst (λ x. conforms x c.args.p ≡ true) (sym (cast_gone gives (λ x s. repeat c.acts.counter (act_of c.args.p x) s) w mid c.acts.invariant))
     c.requires.conforms in
     let cut =
-    cut_to gives (act_of c.args.p) mid new (quiet_run (cast_at mid) mid.state c.args.p (alone_conforming (cast_at mid) c.args.p conforming)) e.cast e.asked
+    cut_to gives (act_of c.args.p) mid new (quiet_run (world_cast mid) mid.state c.args.p (alone_conforming
+    (world_cast mid) c.args.p conforming)) e.cast e.asked
     e.answers e.book in
     if_err _ (repeat_stops gives (act_of c.args.p) w mid new (most_acts w.deal) c.acts.counter c.acts.invariant (λ x s. Act c.args.p ∷ [])
     (λ x s. replicate (most_acts w.deal) (Act c.args.p))
-    (λ a b k. along_acts (cast_for w a) (most_acts w.deal) c.acts.counter c.args.p w.state b l k)
+    (λ a b k. along_acts (answering_cast w a) (most_acts w.deal) c.acts.counter c.args.p w.state b l k)
     (stopped_in gives mid new (Act c.args.p) e.stopped cut))
 
 pub returns-then-not-branch-clause-ok : goal.returns-then-not-branch-clause-ok
@@ -69,14 +70,14 @@ returns-then-not-branch-clause-ok g c =
     let l : c.acts.counter < most_acts w.deal = rw (← c.deal.ensures.value, ← c.most_acts-end.ensures) c.acts-test.true in
     let e = c.in_ok-act_if_due.ensures in
     let idle = e.idle c.if-not-branch.true in
-    let conforming : conforms (cast_at mid) c.args.p ≡ true =
+    let conforming : conforms (world_cast mid) c.args.p ≡ true =
     subst (λ x. conforms x c.args.p ≡ true) (sym (cast_gone gives (λ x s. repeat c.acts.counter (act_of c.args.p x) s) w mid c.acts.invariant))
     c.requires.conforms in
-    let same = still_at mid c.act_if_due.new.self (step (cast_at mid) mid.state (Act c.args.p)) e.ok idle in
+    let same = still_at mid c.act_if_due.new.self (step (world_cast mid) mid.state (Act c.args.p)) e.ok idle in
     subst (λ x. HasGone gives (λ y s. repeat (most_acts w.deal) (act_of c.args.p y) s) w x) (sym same)
     (repeat_rests gives (act_of c.args.p) w mid mid (most_acts w.deal) c.acts.counter c.acts.invariant (omega (arith, l))
-    (quiet_rests (act_of c.args.p) (cast_at mid) mid.state
-    (quiet_run (cast_at mid) mid.state c.args.p (alone_conforming (cast_at mid) c.args.p conforming)) idle))
+    (quiet_rests (act_of c.args.p) (world_cast mid) mid.state
+    (quiet_run (world_cast mid) mid.state c.args.p (alone_conforming (world_cast mid) c.args.p conforming)) idle))
 
 pub returns-clause-ok : goal.returns-clause-ok
 returns-clause-ok g c =

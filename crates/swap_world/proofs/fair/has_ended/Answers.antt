@@ -9,7 +9,7 @@ pub returns-then-height-horizon : goal.returns-then-height-horizon
 returns-then-height-horizon c =
     let w = c.args.world.now in
     let l : c.loop-arc.arc < length w.deal.graph.arcs = rw (← c.deal-2.ensures.value, ← c.arcs.ensures) c.loop-arc-test.true in
-    let e : c.horizon_of-horizon.result ≡ the_horizon w.deal = rw c.deal.ensures.value at c.horizon_of-horizon.ensures in
+    let e : c.deal_horizon-horizon.result ≡ the_horizon w.deal = rw c.deal.ensures.value at c.deal_horizon-horizon.ensures in
     sym (range_fails (λ a. nat_lt (the_horizon w.deal) (height (history w.state.book a))) (length w.deal.graph.arcs) c.loop-arc.arc l
     (le-ltb _ _ (rw (← c.height.ensures, ← e) c.if-height-horizon.true)))
 
@@ -17,7 +17,7 @@ pub loop-arc-preserved : goal.loop-arc-preserved
 loop-arc-preserved c =
     let w = c.args.world.now in
     let l : c.loop-arc.arc < length w.deal.graph.arcs = rw (← c.deal-2.ensures.value, ← c.arcs.ensures) c.loop-arc-test.true in
-    let e : c.horizon_of-horizon.result ≡ the_horizon w.deal = rw c.deal.ensures.value at c.horizon_of-horizon.ensures in
+    let e : c.deal_horizon-horizon.result ≡ the_horizon w.deal = rw c.deal.ensures.value at c.deal_horizon-horizon.ensures in
     range_holds_more (λ a. nat_lt (the_horizon w.deal) (height (history w.state.book a))) (length w.deal.graph.arcs) c.loop-arc.arc l
     c.loop-arc.invariant (lt-ltb _ _ (rw (← c.height.ensures, ← e) c.if-height-horizon.false))
 

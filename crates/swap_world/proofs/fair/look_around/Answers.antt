@@ -6,7 +6,7 @@ use Rattle.swap_job.specs.Step.{CanLook}
 use Rattle.swap_run.specs.Run.{Cast, State, step}
 use Rattle.swap_run.specs.Fair.{adjacent_arcs, looks}
 use Rattle.swap_run.specs.Steps.{look_steps}
-use Rattle.swap_world.specs.Value.{cast_for}
+use Rattle.swap_world.specs.Value.{answering_cast}
 use Rattle.swap_world.proofs.Ways.{if_err, over, over_looks}
 use Rattle.swap_world.proofs.Gone.{begun, can_gone, gone_as, held_gone, stopped_as, stopped_in}
 use Rattle.swap_world.proofs.Loops.{list_on, list_done, list_stops}
@@ -58,7 +58,7 @@ returns-in_err-step-clause-err g c =
     let p = c.args.p in
     let near = c.args.near.now in
     if_err _ (stopped_as gives (λ x s. over (look_at p x) (λ t a. Look p a ∷ []) s near) (λ x s. look_steps x.deal p) w new
-    (λ a. over_looks (cast_for w a) p near w.state ∙ ap (λ (xs : List ℕ). map (λ a. Look p a) xs) c.requires.near)
+    (λ a. over_looks (answering_cast w a) p near w.state ∙ ap (λ (xs : List ℕ). map (λ a. Look p a) xs) c.requires.near)
     (list_stops gives (look_at p) w mid new near c.arcs.arc-index (slice_index c.args.near.now c.arcs.arc-index) c.arcs.invariant
     (λ x s a. Look p a ∷ []) c.arcs-test.true (item c.args.near.now c.arcs.arc-index c.arcs-test.true) (λ a s y. refl)
     (stopped_in gives mid new (Look p (slice_index c.args.near.now c.arcs.arc-index)) c.in_err-step.ensures.err c.in_err-step.ensures.cut)))
@@ -68,5 +68,5 @@ returns-clause-ok g c =
     let gives = g.A.Strategies.gives c.args.staff.now in
     let w = c.args.world.now in
     gone_as gives (λ x s. fold (look_at c.args.p x) s c.args.near.now) (λ x s. looks x c.args.p s) w c.arcs.world
-    (λ a. looks_over (cast_for w a) c.args.p w.state c.args.near.now c.requires.near)
+    (λ a. looks_over (answering_cast w a) c.args.p w.state c.args.near.now c.requires.near)
     (list_done gives (look_at c.args.p) w c.arcs.world c.args.near.now c.arcs.arc-index c.arcs-test.false c.arcs.invariant)

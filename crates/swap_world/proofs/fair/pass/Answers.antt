@@ -2,7 +2,7 @@ use Rattle.std.proofs.Common.{◌≡◌, arith, subst}
 use Rattle.swap_run.specs.Fair.{repeat, ticks}
 use Rattle.swap_run.specs.Steps.{pass_steps, tick_steps}
 use Rattle.swap_world.specs.Gone.{HasGone}
-use Rattle.swap_world.specs.Value.{cast_for}
+use Rattle.swap_world.specs.Value.{answering_cast}
 use Rattle.swap_world.proofs.Ways.{along_pass, if_err}
 use Rattle.swap_world.proofs.Gone.{begun, held_gone}
 use Rattle.swap_world.proofs.Loops.{repeat_on, repeat_stops}
@@ -27,7 +27,7 @@ returns-in_err-ticks-clause-err g c =
     let w = c.args.world.now in
     if_err _ (repeat_stops (g.A.Strategies.gives c.args.staff.now) ticks w c.rounds.world c.ticks.new.world c.args.count c.rounds.counter
     c.rounds.invariant (λ x s. tick_steps x.deal s.book) (pass_steps c.args.count)
-    (λ a b k. along_pass (cast_for w a) c.args.count c.rounds.counter w.state b c.rounds-test.true k) c.in_err-ticks.ensures.err)
+    (λ a b k. along_pass (answering_cast w a) c.args.count c.rounds.counter w.state b c.rounds-test.true k) c.in_err-ticks.ensures.err)
 
 pub returns-clause-ok : goal.returns-clause-ok
 returns-clause-ok g c =

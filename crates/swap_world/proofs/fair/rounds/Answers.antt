@@ -1,6 +1,6 @@
 use Rattle.std.proofs.Common.{◌≡◌, ◌+◌, ◌-◌, true, arith, sym, ◌∙◌, subst}
 use Rattle.swap_run.specs.Fair.{repeat, the_horizon, has_ended, round_unless_ended}
-use Rattle.swap_world.specs.Value.{cast_for}
+use Rattle.swap_world.specs.Value.{answering_cast}
 use Rattle.swap_world.specs.Gone.{HasGone}
 use Rattle.swap_world.specs.Near.{all_adjacent}
 use Rattle.swap_world.proofs.Ways.{if_err}
@@ -13,9 +13,9 @@ pub rounds-init : goal.rounds-init
 rounds-init g c =
     let gives = g.A.Strategies.gives c.args.staff.now in
     let w = c.args.world.now in
-    let h : c.horizon_of-left.result ≡ the_horizon w.deal = rw c.deal.ensures.value at c.horizon_of-left.ensures in
+    let h : c.deal_horizon-left.result ≡ the_horizon w.deal = rw c.deal.ensures.value at c.deal_horizon-left.ensures in
     let all = the_horizon w.deal + 1 in
-    let none : 0 ≡ all - (c.horizon_of-left.result + 1) = omega (arith, h) in
+    let none : 0 ≡ all - (c.deal_horizon-left.result + 1) = omega (arith, h) in
     record {
       few = omega (arith, h);
       gone = subst (λ n. HasGone gives (λ x s. repeat n (round_unless_ended x) s) w w) none (begun gives w);
@@ -63,7 +63,7 @@ returns-then-has_ended-clause-ok g c =
     let all = the_horizon w.deal + 1 in
     let e : has_ended mid.deal mid.state.book ≡ true = sym c.has_ended.ensures ∙ c.if-has_ended.true in
     finish_is gives w mid (repeat_rests gives round_unless_ended w mid mid all (all - c.rounds.left) c.rounds.invariant.gone (omega arith)
-    (λ a. is_rest (cast_for mid a) mid.state e))
+    (λ a. is_rest (answering_cast mid a) mid.state e))
 
 pub returns-in_err-taken-clause-err : goal.returns-in_err-taken-clause-err
 returns-in_err-taken-clause-err g c =

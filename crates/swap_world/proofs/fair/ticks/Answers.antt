@@ -2,7 +2,7 @@ use Rattle.std.proofs.Common.{◌<◌, ◌≤◌, length, fold, take, sym, subst
 use Rattle.std.specs.List.{range_with_len}
 use Rattle.swap_run.specs.Fair.{tick_low}
 use Rattle.swap_run.specs.Steps.{low_step}
-use Rattle.swap_world.specs.Value.{cast_for}
+use Rattle.swap_world.specs.Value.{answering_cast}
 use Rattle.swap_world.proofs.Ways.{if_err, low_run}
 use Rattle.swap_world.proofs.Gone.{begun, deal_gone, held_gone}
 use Rattle.swap_world.proofs.Loops.{range_on, range_done, range_stops}
@@ -31,7 +31,7 @@ returns-in_err-tick_low-clause-err g c =
     let w = c.args.world.now in
     let l : c.arcs.arc < length w.deal.graph.arcs = rw (← c.deal.ensures.value, ← c.arcs-2.ensures) c.arcs-test.true in
     if_err _ (ticks_stop gives w c.tick_low.new.world (range_stops gives tick_low w c.arcs.world c.tick_low.new.world (length w.deal.graph.arcs) c.arcs.arc
-    c.arcs.invariant (λ x s a. low_step x.deal s.book a) l (λ a s y. low_run (cast_for w a) s y) c.in_err-tick_low.ensures.err))
+    c.arcs.invariant (λ x s a. low_step x.deal s.book a) l (λ a s y. low_run (answering_cast w a) s y) c.in_err-tick_low.ensures.err))
 
 pub arcs-preserved : goal.arcs-preserved
 arcs-preserved g c =

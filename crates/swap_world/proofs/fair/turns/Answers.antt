@@ -3,7 +3,7 @@ use Rattle.std.specs.List.{range_with_len}
 use Rattle.swap_run.specs.Fair.{adjacent_arcs, turn}
 use Rattle.swap_run.specs.Steps.{turn_steps}
 use Rattle.swap_run.proofs.Along.{turn_run}
-use Rattle.swap_world.specs.Value.{cast_for}
+use Rattle.swap_world.specs.Value.{answering_cast}
 use Rattle.swap_world.proofs.Ways.{if_err}
 use Rattle.swap_world.proofs.Gone.{begun, deal_gone, goes_on_gone, held_gone}
 use Rattle.swap_world.proofs.Loops.{range_on, range_done, range_stops}
@@ -55,7 +55,7 @@ returns-in_err-turn-clause-err g c =
     let w = c.args.world.now in
     let l : c.parties.p < w.deal.graph.n = rw (← c.deal.ensures.value) (omega (arith, c.parties-test.true, c.n-p-end.ensures)) in
     if_err _ (turns_stop gives w c.turn.new.world (range_stops gives turn w c.parties.world c.turn.new.world w.deal.graph.n c.parties.p c.parties.invariant
-    (λ x s v. turn_steps x v) l (λ a s v. turn_run (cast_for w a) v s) c.in_err-turn.ensures.err))
+    (λ x s v. turn_steps x v) l (λ a s v. turn_run (answering_cast w a) v s) c.in_err-turn.ensures.err))
 
 pub parties-preserved : goal.parties-preserved
 parties-preserved g c =

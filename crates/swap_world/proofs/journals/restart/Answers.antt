@@ -15,15 +15,15 @@ use Rattle.swap_world.proofs.journals.restart.Goals as goal
 
 pub begin-requires-clause-opened : goal.begin-requires-clause-opened
 begin-requires-clause-opened c = (
-  ap (λ (x : JournalState DiskState). x.id) c.stop_after.ensures.left ∙ c.requires.journal.id ∙ sym (ap (λ (d : Deal). d.id) c.requires.same),
-  ap (λ (x : JournalState DiskState). x.me) c.stop_after.ensures.left ∙ c.requires.journal.me,
+  ap (λ (x : JournalState DiskState). x.id) c.limit_calls.ensures.left ∙ c.requires.journal.id ∙ sym (ap (λ (d : Deal). d.id) c.requires.same),
+  ap (λ (x : JournalState DiskState). x.me) c.limit_calls.ensures.left ∙ c.requires.journal.me,
 )
 
 pub restart-requires-clause-opened : goal.restart-requires-clause-opened
 restart-requires-clause-opened c = (
   c.in_ok-crash.ensures.opened.0 ∙ sym (ap (λ (d : Deal). d.id) (c.begin.ensures.same.deal ∙ c.requires.same)),
-  c.crash.ensures.party ∙ c.begin.ensures.party ∙ ap (λ (x : JournalState DiskState). x.me) c.stop_after.ensures.left ∙ c.requires.journal.me
-  ∙ sym c.begin.ensures.same.me,
+  c.crash.ensures.party ∙ c.begin.ensures.party ∙ ap (λ (x : JournalState DiskState). x.me) c.limit_calls.ensures.left ∙ c.requires.journal.me
+      ∙ sym c.begin.ensures.same.me,
 )
 
 pub returns-clause-ok : goal.returns-clause-ok
@@ -33,12 +33,12 @@ returns-clause-ok c =
     let h = c.begin.new.journal.disk.held in
     let bytes = bytes_left c.args.image h.synced h.loose in
     let up : IsWrittenUp c.args.journal.now.disk c.args.machine.now.signed =
-    subst (IsWrittenUp c.args.journal.now.disk) c.requires.journal.has (c.stop_after.ensures.ready c.requires.journal.sound) in
+    subst (IsWrittenUp c.args.journal.now.disk) c.requires.journal.has (c.limit_calls.ensures.ready c.requires.journal.sound) in
     let few : length c.args.machine.now.signed ≤ 8 = omega (arith, c.requires.places, c.requires.sized.leaders.1) in
     let signed : c.crash.new.self.signed ≡ recorded_after c.args.machine.now.signed (next_due c.args.machine.now) c.args.k c.args.image =
     recorded_as m c.crash.new.self.signed j.disk c.args.k c.args.image bytes up (c.in_ok-crash.ensures.places ∙ sym c.requires.places) few
     c.in_ok-crash.ensures.shown
-    (subst (λ (x : JournalState DiskState). Leaves x.disk.held bytes ⊎ MayHave (read_bytes x.disk.held) (signs_next m) bytes) c.stop_after.ensures.left
+    (subst (λ (x : JournalState DiskState). Leaves x.disk.held bytes ⊎ MayHave (read_bytes x.disk.held) (signs_next m) bytes) c.limit_calls.ensures.left
     (c.begin.ensures.whole bytes c.crash.ensures.left))
     (c.in_ok-begin.ensures.left c.args.image) c.in_ok-begin.ensures.calm (next_due m) refl in
     on_ok c.restart.result (λ e. e ∙ (λ t.

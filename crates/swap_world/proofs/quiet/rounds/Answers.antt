@@ -28,8 +28,8 @@ bounds-near-p c =
     subst (λ n. c.parties.p < n) (sym (near_many c.args.deal.now c.args.near.now c.requires.near)) (subst (λ n. c.parties.p < n) c.requires.parties
     c.parties-test.true)
 
-pub rounds_for-rounds-requires : goal.rounds_for-rounds-requires
-rounds_for-rounds-requires c =
+pub needed_rounds-rounds-requires : goal.needed_rounds-rounds-requires
+needed_rounds-rounds-requires c =
     let d = c.args.deal.now in
     let p = c.parties.p in
     let x = c.index-actors-p.result in
@@ -46,7 +46,7 @@ parties-preserved c =
     let p = c.parties.p in
     let x = c.index-actors-p.result in
     let b = histories c.args.ledgers.now in
-    let less = c.rounds_for-rounds.ensures.few in
+    let less = c.needed_rounds-rounds.ensures.few in
     let few = c.parties.invariant.few in
     let near = c.as_slice.ensures ∙ near_at d c.args.near.now p c.index-near-p.result c.requires.near (subst (λ n. p < n) c.requires.parties
     c.parties-test.true)
@@ -54,7 +54,7 @@ parties-preserved c =
     record {
       few = omega (arith, less, few);
       calm = λ more v y low l.
-          let here = subst (λ (ns : List ℕ). IsCalmActor c.rounds_for-rounds.result b ns x) near (c.rounds_for-rounds.ensures.calm more) in
-          one_more d b c.args.actors.now c.parties.rounds c.rounds_for-rounds.result p x v y less l c.index-actors-p.is here
+          let here = subst (λ (ns : List ℕ). IsCalmActor c.needed_rounds-rounds.result b ns x) near (c.needed_rounds-rounds.ensures.calm more) in
+          one_more d b c.args.actors.now c.parties.rounds c.needed_rounds-rounds.result p x v y less l c.index-actors-p.is here
           (λ z. c.parties.invariant.calm (omega (arith, more, less)) v y z l) low (same_or_not v p);
     }

@@ -3,7 +3,7 @@ use Rattle.swap_base.specs.Fault.{Gives}
 use Rattle.transcript_book.proofs.Falls.{the_rest}
 use Rattle.transcript_reader.specs.declared.reason.TranscriptReason.{TranscriptReason}
 use Rattle.transcript_reader.specs.Header.{header_read}
-use Rattle.transcript_reader.specs.Reading.{Story, story_of}
+use Rattle.transcript_reader.specs.Reading.{Story, job_story}
 use Rattle.transcript_reader.proofs.Steps.{led_fault, led_first, led_on, led_to_end, whole_of}
 use Rattle.transcript_reader.proofs.text.read_transcript.Goals as goal
 
@@ -22,7 +22,7 @@ returns-in-Err-clause-exact c =
 
 pub returns-clause-exact : goal.returns-clause-exact
 returns-clause-exact c =
-    subst (λ (r : Result Story TranscriptReason). Gives story_of c.finish.result r)
+    subst (λ (r : Result Story TranscriptReason). Gives job_story c.finish.result r)
     (sym (led_to_end header_read c.args.bytes.now c.lines.at c.lines.reader _ c.lines.invariant (the_rest c.args.bytes.now c.lines.at)
     c.in_default.ensures)) c.finish.ensures.exact
 

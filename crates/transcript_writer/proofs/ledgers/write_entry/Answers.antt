@@ -14,5 +14,5 @@ returns-in_err-put_entry g c =
 pub returns : goal.returns
 returns g c =
     let text = entry_text 0 c.args.entry.now in
-    hands_after _ _ _ _ _ _ _ _ _ text _ c.pass_on.result (handed_put _ _ _ text c.in_ok-put_entry.ensures) (of_entry c.args.entry.now) (omega arith)
-    c.pass_on.ensures
+    hands_after _ _ _ _ _ _ _ _ _ text _ c.flush_waiting.result (handed_put _ _ _ text c.in_ok-put_entry.ensures) (of_entry c.args.entry.now) (omega arith)
+    c.flush_waiting.ensures

@@ -1,14 +1,14 @@
 use Rattle.swap_base.proofs.Lines.{lines_on, lines_done}
-use Rattle.transcript_writer.specs.Texts.{signature_after}
+use Rattle.transcript_writer.specs.Texts.{signature_words}
 use Rattle.transcript_writer.proofs.words.put_further_signatures.Goals as goal
 
 pub loop-sig-preserved : goal.loop-sig-preserved
 loop-sig-preserved c =
-    lines_on signature_after c.loop-sig.out.items c.put_next_signature.new.out.items _ c.loop-sig.sig-index c.args.sigs.now c.loop-sig.sig-index
+    lines_on signature_words c.loop-sig.out.items c.put_next_signature.new.out.items _ c.loop-sig.sig-index c.args.sigs.now c.loop-sig.sig-index
     c.sig-item.result
     c.sig-item.result c.loop-sig-test.true c.sig-item.is
     c.in_ok-put_next_signature.ensures c.loop-sig.invariant
 
 pub returns : goal.returns
 returns c =
-    lines_done signature_after c.loop-sig.out.items _ c.loop-sig.sig-index c.args.sigs.now c.loop-sig.sig-index c.loop-sig-test.false c.loop-sig.invariant
+    lines_done signature_words c.loop-sig.out.items _ c.loop-sig.sig-index c.args.sigs.now c.loop-sig.sig-index c.loop-sig-test.false c.loop-sig.invariant

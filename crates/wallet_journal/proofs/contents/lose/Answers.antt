@@ -5,8 +5,8 @@ use Rattle.wallet_journal.specs.declared.contents.Span.{Span}
 use Rattle.wallet_journal.proofs.Writes.{total_front, writes_front, writes_lost, left_other}
 use Rattle.wallet_journal.proofs.contents.lose.Goals as goal
 
-pub total_of-kept-requires : goal.total_of-kept-requires
-total_of-kept-requires c =
+pub total_length-kept-requires : goal.total_length-kept-requires
+total_length-kept-requires c =
     omega (
       arith,
       total_front c.args.spans.now.items c.args.synced,
@@ -15,29 +15,29 @@ total_of-kept-requires c =
       c.len.ensures,
     )
 
-pub fill_from-requires : goal.fill_from-requires
-fill_from-requires c =
+pub fill_image-requires : goal.fill_image-requires
+fill_image-requires c =
     omega (
       arith,
       total_front c.args.spans.now.items c.args.synced,
       ap (λ (l : List Span). total (take c.args.synced l)) c.deref.ensures.value,
       c.requires.total,
-      c.total_of-kept.ensures,
+      c.total_length-kept.ensures,
     )
 
 pub returns-then-image-eq0-clause-total : goal.returns-then-image-eq0-clause-total
 returns-then-image-eq0-clause-total c =
-    let kept : c.total_of-kept.result ≡ total (take c.args.synced c.args.spans.now.items) =
-    c.total_of-kept.ensures ∙ ap (λ (l : List Span). total (take c.args.synced l)) c.deref.ensures.value in
-    let within : c.total_of-kept.result ≤ length c.args.bytes.now.items =
+    let kept : c.total_length-kept.result ≡ total (take c.args.synced c.args.spans.now.items) =
+    c.total_length-kept.ensures ∙ ap (λ (l : List Span). total (take c.args.synced l)) c.deref.ensures.value in
+    let within : c.total_length-kept.result ≤ length c.args.bytes.now.items =
     omega (arith, total_front c.args.spans.now.items c.args.synced, kept, c.requires.total) in
     ap total c.truncate.ensures.items ∙ sym kept ∙ sym (ap length c.truncate-then-image-eq0.ensures.items
-    ∙ length-take-le c.total_of-kept.result c.args.bytes.now.items within)
+    ∙ length-take-le c.total_length-kept.result c.args.bytes.now.items within)
 
 pub returns-then-image-eq0-clause-writes : goal.returns-then-image-eq0-clause-writes
 returns-then-image-eq0-clause-writes c =
-    let kept : c.total_of-kept.result ≡ total (take c.args.synced c.args.spans.now.items) =
-    c.total_of-kept.ensures ∙ ap (λ (l : List Span). total (take c.args.synced l)) c.deref.ensures.value in
+    let kept : c.total_length-kept.result ≡ total (take c.args.synced c.args.spans.now.items) =
+    c.total_length-kept.ensures ∙ ap (λ (l : List Span). total (take c.args.synced l)) c.deref.ensures.value in
     let writes = writes_in c.args.bytes.now.items c.args.spans.now.items in
     (λ i. writes_in ((c.truncate-then-image-eq0.ensures.items ∙ ap (λ (k : ℕ). take k c.args.bytes.now.items) kept) i) (c.truncate.ensures.items i))
     ∙ writes_front c.args.bytes.now.items c.args.spans.now.items c.args.synced
@@ -45,10 +45,10 @@ returns-then-image-eq0-clause-writes c =
 
 pub returns-then-image-ne1-clause-writes : goal.returns-then-image-ne1-clause-writes
 returns-then-image-ne1-clause-writes c =
-    let kept : c.total_of-kept.result ≡ total (take c.args.synced c.args.spans.now.items) =
-    c.total_of-kept.ensures ∙ ap (λ (l : List Span). total (take c.args.synced l)) c.deref.ensures.value in
+    let kept : c.total_length-kept.result ≡ total (take c.args.synced c.args.spans.now.items) =
+    c.total_length-kept.ensures ∙ ap (λ (l : List Span). total (take c.args.synced l)) c.deref.ensures.value in
     let writes = writes_in c.args.bytes.now.items c.args.spans.now.items in
-    ap (λ (b : List ℕ). writes_in b c.args.spans.now.items) (c.fill_from.ensures
+    ap (λ (b : List ℕ). writes_in b c.args.spans.now.items) (c.fill_image.ensures
     ∙ ap (λ (k : ℕ). take k c.args.bytes.now.items ++ replicate (length c.args.bytes.now.items - k) c.args.image) kept)
     ∙ writes_lost c.args.bytes.now.items c.args.spans.now.items c.args.synced c.args.image c.requires.total c.requires.synced
     ∙ sym (left_other c.args.image (take c.args.synced writes) (drop c.args.synced writes) c.if-image-eq0.false c.if-image-ne1.true)

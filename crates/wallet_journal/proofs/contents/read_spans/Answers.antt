@@ -14,8 +14,8 @@ spans-init c = record {
   size = ap length c.clear.ensures ∙ length-replicate (length c.args.buf.now) 0;
 }
 
-pub part_of-end-requires : goal.part_of-end-requires
-part_of-end-requires c =
+pub bounded_part-end-requires : goal.bounded_part-end-requires
+bounded_part-end-requires c =
     let none : Span = record { at = 0; len = 0 } in
     let s = get_or c.args.spans.now c.spans.span-index none in
     ends_within c.args.bytes.now c.args.spans.now c.spans.span-index c.spans.start s c.requires.total c.spans-test.true
@@ -28,7 +28,7 @@ overlay-requires-clause-place c =
     let is = get_or_default c.args.spans.now c.spans.span-index none s c.spans-test.true in
     omega (
       arith,
-      ap length c.part_of-end.ensures.part,
+      ap length c.bounded_part-end.ensures.part,
       span_on c.args.bytes.now c.args.spans.now c.spans.span-index c.spans.start s c.spans-test.true is
           c.spans.invariant.start c.requires.on_disk,
     )
@@ -46,11 +46,11 @@ spans-preserved c =
       read =
           c.overlay.ensures before (so_far_size c.args.bytes.now c.args.spans.now c.spans.span-index c.spans.start s c.spans-test.true is inv.start
           c.requires.on_disk) same
-          ∙ ap (λ (n : ℕ). slice c.args.at n (written before s.at c.part_of-end.result.0.now)) inv.size
-          ∙ ap (λ (b : List ℕ). slice c.args.at (length c.args.buf.now) (written before s.at b)) c.part_of-end.ensures.part
+          ∙ ap (λ (n : ℕ). slice c.args.at n (written before s.at c.bounded_part-end.result.0.now)) inv.size
+          ∙ ap (λ (b : List ℕ). slice c.args.at (length c.args.buf.now) (written before s.at b)) c.bounded_part-end.ensures.part
           ∙ ap (λ (b : List ℕ). slice c.args.at (length c.args.buf.now) b) (sym
           (writes_more c.args.bytes.now c.args.spans.now c.spans.span-index c.spans.start s c.spans-test.true is inv.start c.requires.on_disk));
-      start = c.part_of-end.ensures.end ∙ start_more c.args.bytes.now c.args.spans.now c.spans.span-index c.spans.start s c.spans-test.true is inv.start
+      start = c.bounded_part-end.ensures.end ∙ start_more c.args.bytes.now c.args.spans.now c.spans.span-index c.spans.start s c.spans-test.true is inv.start
           c.requires.on_disk;
       size = kept ∙ inv.size;
     }

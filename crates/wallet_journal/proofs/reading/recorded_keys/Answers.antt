@@ -8,7 +8,7 @@ use Rattle.wallet_journal.proofs.reading.recorded_keys.Goals as goal
 pub locks-preserved : goal.locks-preserved
 locks-preserved c = record {
   value = map_more (recorded c.args.bytes.now) c.locks.lock c.locks.signed.items c.push.new.self.items
-      (c.in_ok-push.ensures.items ∙ ap (λ (x : Option Hashkey). c.locks.signed.items ++ x ∷ []) c.in_ok-recorded_at.ensures.value) c.locks.invariant.value;
+      (c.in_ok-push.ensures.items ∙ ap (λ (x : Option Hashkey). c.locks.signed.items ++ x ∷ []) c.in_ok-read_record.ensures.value) c.locks.invariant.value;
   sound = below_more (λ i. is_damaged c.args.limit c.args.parties c.args.bytes.now i ≡ false) c.locks.lock c.locks.invariant.sound
-      c.in_ok-recorded_at.ensures.sound;
+      c.in_ok-read_record.ensures.sound;
 }

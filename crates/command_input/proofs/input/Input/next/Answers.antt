@@ -37,4 +37,4 @@ lines-smaller g c = rw c.pass_empty.ensures (omega (arith, c.in_ok-read_line.ens
 pub returns-clause-gives : goal.returns-clause-gives
 returns-clause-gives g c =
     let over = sym c.lines-test.ensures.over in
-    is_last _ _ c.lines.invariant over (c.is_over.ensures.kept over)
+    is_last _ _ c.lines.invariant over (c.is_finished.ensures.kept over)

@@ -1,9 +1,9 @@
 use Rattle.std.proofs.Common.{◌≡◌, ap, ◌∙◌, arith}
 use Rattle.std.proofs.Math.ListN.{length-set}
 use Rattle.swap_base.specs.Text.{joined}
-use Rattle.hash_signature.specs.Signature.{value_at, values_of}
+use Rattle.hash_signature.specs.Signature.{value_at, text_values}
 use Rattle.hash_signature.proofs.Chains.{filled_more, filled_all}
-use Rattle.hash_signature.proofs.Values.{joined-values_of}
+use Rattle.hash_signature.proofs.Values.{joined-text_values}
 use Rattle.hash_signature.proofs.sig.Sig.from_bytes.Goals as goal
 
 pub values-preserved : goal.values-preserved
@@ -15,13 +15,13 @@ values-preserved c = record {
 }
 
 pub returns-clause-values : goal.returns-clause-values
-unfolding values_of
+unfolding text_values
 returns-clause-values c =
     filled_all (value_at c.args.bytes.now) c.values.values c.values.i c.values.invariant.width (omega arith) c.values.invariant.filled
 
 pub returns-clause-bytes : goal.returns-clause-bytes
-unfolding values_of
+unfolding text_values
 returns-clause-bytes c =
-    let e : c.values.values ≡ values_of c.args.bytes.now =
+    let e : c.values.values ≡ text_values c.args.bytes.now =
     filled_all (value_at c.args.bytes.now) c.values.values c.values.i c.values.invariant.width (omega arith) c.values.invariant.filled in
-    ap joined e ∙ joined-values_of c.args.bytes.now (omega arith)
+    ap joined e ∙ joined-text_values c.args.bytes.now (omega arith)

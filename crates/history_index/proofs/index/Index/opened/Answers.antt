@@ -14,6 +14,6 @@ returns-then-is_none c =
 pub returns : goal.returns
 returns c =
     rw (← c.self.view_is)
-    (c.opened_in.ensures
+    (c.find_opened.ensures
     ∙ (ap (first_of (λ m. opening c.args.lock m.entry.height (accepted m.entry))) (c.deref.ensures.value ∙ c.self.invariant.made)
     ∙ sym (opened_made (expand c.self.inside.past.items) c.args.lock)))

@@ -2,7 +2,7 @@ use Rattle.std.proofs.Common.{◌≡◌, ℕ, ◌+◌, ◌-◌, ◌<◌, ◌++�
 use Rattle.std.specs.Prelude.{IsTrue}
 use Rattle.ledger_core.specs.declared.entry.Entry.{Entry}
 use Rattle.ledger_core.specs.declared.runs.Item.TheVariants.{One}
-use Rattle.ledger_core.specs.History.{sent_by}
+use Rattle.ledger_core.specs.History.{is_sender}
 use Rattle.ledger_core.specs.Runs.{expand}
 use Rattle.history_index.specs.declared.made.Made.{Made}
 use Rattle.ledger_core.specs.Facts.{is_call}
@@ -32,7 +32,7 @@ invariant_of-self g c =
     ap expand c.with_entry-past.ensures.past ∙ expand_push i.past.items (One c.args.entry) ∙ ap (λ x. h ++ x ∷ []) (sym same) in
     let lock = last_lock i.from.party i.to.party h e fits in
     let made : c.keep.new.made.items ≡ made_after i.count e i.made.items = c.keep.ensures.made in
-    let room : i.room - c.calls_in.result ≡ i.room - cond (is_call e.what) 1 0 = ap (λ n. i.room - n) c.calls_in.ensures in
+    let room : i.room - c.call_count.result ≡ i.room - cond (is_call e.what) 1 0 = ap (λ n. i.room - n) c.call_count.ensures in
     record {
       locks = k.locks;
       indexable = indexable_kept i.from.party i.to.party from.party to.party (h ++ e ∷ []) xs c.add-2.ensures.party c.add-3.ensures.party items fits;
@@ -49,9 +49,9 @@ invariant_of-self g c =
           room_kept (is_call e.what) (is_call e.what) (made_of i.count e) i.made.items c.keep.new.made.items i.room _ _ _ made (λ s.
           s) some room k.room c.keep.ensures.capacity;
       from_room =
-          room_kept (is_call e.what) (sent_by i.from.party e.sender) i.count i.from.numbers.items from.numbers.items i.room _ _ _
+          room_kept (is_call e.what) (is_sender i.from.party e.sender) i.count i.from.numbers.items from.numbers.items i.room _ _ _
           c.add-2.ensures.numbers (last_sent i.from.party i.to.party i.from.party h e fits) some room k.from_room c.add-2.ensures.capacity;
       to_room =
-          room_kept (is_call e.what) (sent_by i.to.party e.sender) i.count i.to.numbers.items to.numbers.items i.room _ _ _ c.add-3.ensures.numbers
+          room_kept (is_call e.what) (is_sender i.to.party e.sender) i.count i.to.numbers.items to.numbers.items i.room _ _ _ c.add-3.ensures.numbers
           (last_sent i.from.party i.to.party i.to.party h e fits) some room k.to_room c.add-3.ensures.capacity;
     }

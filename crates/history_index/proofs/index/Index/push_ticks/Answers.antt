@@ -1,6 +1,6 @@
 use Rattle.std.proofs.Common.{◌≡◌, ◌++◌, refl, ap, ◌∙◌, arith}
 use Rattle.ledger_core.specs.declared.runs.Item.TheVariants.{Ticks}
-use Rattle.ledger_core.specs.Runs.{expand, ticks_of}
+use Rattle.ledger_core.specs.Runs.{expand, run_ticks}
 use Rattle.history_index.proofs.Push.{expand_push, indexable_kept}
 use Rattle.history_index.proofs.Ticks.{has_height, has_count, count_run, answers_run, calls_run, made_run}
 use Rattle.history_index.proofs.index.Index.push_ticks.Goals as goal
@@ -29,10 +29,10 @@ invariant_of-self g c =
     let h = expand i.past.items in
     let xs = expand c.and-self-inside.result.items in
     let fits = rw (← c.self.view_is) at c.requires.indexable in
-    let items : xs ≡ h ++ ticks_of r = ap expand c.and-self-inside.ensures ∙ expand_push i.past.items (Ticks r) in
+    let items : xs ≡ h ++ run_ticks r = ap expand c.and-self-inside.ensures ∙ expand_push i.past.items (Ticks r) in
     record {
       locks = k.locks;
-      indexable = indexable_kept i.from.party i.to.party i.from.party i.to.party (h ++ ticks_of r) xs refl refl items fits;
+      indexable = indexable_kept i.from.party i.to.party i.from.party i.to.party (h ++ run_ticks r) xs refl refl items fits;
       count = count_run h xs r i.count _ items k.count refl;
       answers = answers_run i.terms h xs r i.answers items k.answers;
       made = made_run h xs r i.made.items items k.made;

@@ -2,12 +2,12 @@ use Rattle.std.proofs.Common.{◌≡◌, ℕ, List, Bool, true, false, ◌==◌,
 use Rattle.swap_digraph.specs.Deal.{party, counterparty}
 use Rattle.ledger_core.specs.declared.entry.Entry.{Entry}
 use Rattle.ledger_core.specs.History.{is_full}
-use Rattle.ledger_core.proofs.Bounds.{calls_of}
+use Rattle.ledger_core.proofs.Bounds.{total_calls}
 use Rattle.ledger_core.proofs.ledger.Ledger.is_full.Goals as goal
 use Rattle.ledger_core.proofs.ledger.Ledger.is_full.Goals.{then-p-self, else-p-self}
 
-count_at : (h : List Entry) (n p q : ℕ) → n ≡ calls_of q h → p ≡ q → leb 32 n ≡ is_full h p
-count_at h n p q e k = ap (leb 32) (e ∙ ap (λ x. calls_of x h) (sym k))
+count_at : (h : List Entry) (n p q : ℕ) → n ≡ total_calls q h → p ≡ q → leb 32 n ≡ is_full h p
+count_at h n p q e k = ap (leb 32) (e ∙ ap (λ x. total_calls x h) (sym k))
 
 other : (p q r : ℕ) → IsTrue ((p == q) || (p == r)) → (p ≡ q → ⊥) → p ≡ r
 other p q r h n = go (p == q) refl h

@@ -1,6 +1,6 @@
 use Rattle.std.proofs.Common.{◌≡◌, ℕ, ◌+◌, List, ◌++◌, length, ap, arith, length-append}
 use Rattle.ledger_core.specs.declared.entry.Entry.{Entry}
-use Rattle.ledger_core.specs.Runs.{expand, ticks_of}
+use Rattle.ledger_core.specs.Runs.{expand, run_ticks}
 use Rattle.ledger_core.proofs.Ticks.{length_ticks}
 use Rattle.ledger_core.proofs.ledger_history.LedgerHistory.join.Goals as goal
 
@@ -21,6 +21,6 @@ invariant_of-self c =
       items = c.self.invariant.items;
       run = c.in-Some.ensures.right;
       count =
-          more_counted (expand h.items.items) (ticks_of h.open) (ticks_of r) (ticks_of c.in-Some.all) h.count r.count c.in-Some.ensures.ticks
+          more_counted (expand h.items.items) (run_ticks h.open) (run_ticks r) (run_ticks c.in-Some.all) h.count r.count c.in-Some.ensures.ticks
           c.self.invariant.count (length_ticks r.above r.by r.count);
     }

@@ -1,5 +1,5 @@
 use Rattle.std.proofs.Common.{◌++◌, take, drop, refl, sym, ap, ◌∙◌}
-use Rattle.ledger_shared.specs.Value.{made_by}
+use Rattle.ledger_shared.specs.Value.{party_made}
 use Rattle.ledger_shared.proofs.Passes.{turned, unchanged, seen_whole, party_all, party_kept, party_sees, party_whole, party_foreign, counted_as}
 use Rattle.ledger_shared.proofs.shared.SharedLedger.look.Goals as goal
 
@@ -35,7 +35,7 @@ pub returns-in-Ok-clause-foreign : goal.returns-in-Ok-clause-foreign
 returns-in-Ok-clause-foreign g c =
     let p = c.pass.inside in
     rw (← c.pass.view_is)
-    (ap (made_by p.party) (c.in-Ok.ensures.fresh ∙ ap (λ l. drop p.seen l.history) c.deref.ensures)
+    (ap (party_made p.party) (c.in-Ok.ensures.fresh ∙ ap (λ l. drop p.seen l.history) c.deref.ensures)
     ∙ party_foreign p c.pass.invariant c.take-ledger.result.value c.take-ledger.ensures.ledger)
 
 pub returns-in-Ok-clause-whole : goal.returns-in-Ok-clause-whole

@@ -2,7 +2,7 @@ use Rattle.std.proofs.Common.{◌≡◌, ◌<◌, ◌+◌, ◌∙◌, ◌++◌, 
 use Rattle.std.specs.Prelude.{is_ok}
 use Rattle.many_lines.specs.declared.stage.Stage.TheVariants.{Words}
 use Rattle.many_lines.specs.Heading.{HeadingState}
-use Rattle.many_lines.specs.Inside.{many_in}
+use Rattle.many_lines.specs.Inside.{inside_many_job}
 use Rattle.many_lines.specs.Whole.{IsSwap}
 use Rattle.many_lines.proofs.Swaps.{grown, mapped_more, swaps_more}
 use Rattle.many_lines.proofs.heading.Heading.keep.Goals as goal
@@ -33,7 +33,7 @@ invariant_of-self c =
       chains_room = omega (arith, k.chains_room, c.push-2.ensures.capacity);
       wallets_room = omega (arith, k.wallets_room, c.push-3.ensures.capacity);
       chains = record { few = k.chains.few; each = k.chains.each; chains = k.chains.chains };
-      swaps = rw (jobs, chains) (swaps_more (many_in h) job c.args.chains k.swaps few swap);
+      swaps = rw (jobs, chains) (swaps_more (inside_many_job h) job c.args.chains k.swaps few swap);
       next = λ before waiting is. absurd (cc (sym words ∙ is));
       below = λ before waiting is. absurd (cc (sym words ∙ is));
       some = λ is. omega (arith, longer, one_more);

@@ -1,7 +1,7 @@
 use Rattle.std.proofs.Common.{◌≡◌, subst, sym, set}
 use Rattle.std.specs.Prelude.{OnOk}
 use Rattle.party_machine.specs.Machine.{MachineState, learnt}
-use Rattle.party_machine.specs.Within.{entries_in}
+use Rattle.party_machine.specs.Within.{all_entries}
 use Rattle.party_machine.proofs.Known.{fronts, called_ready, called_shows}
 use Rattle.party_machine.specs.Rest.{MayRest}
 use Rattle.party_machine.proofs.Resting.{shown, learns}
@@ -40,7 +40,7 @@ returns-clause-ok g c =
       me = i.wallet.party;
       seed = i.wallet.seed;
       known =
-          entries_in (set i.known.items c.args.arc c.extend-added.new.self);
+          all_entries (set i.known.items c.args.arc c.extend-added.new.self);
       signed = i.wallet.signed;
     }) (learnt s c.args.arc c.args.entries)))
     c.self.view_is

@@ -1,9 +1,9 @@
 use Rattle.std.proofs.Common.{◌≡◌, true, subst, sym, set}
 use Rattle.std.specs.Prelude.{Ok}
-use Rattle.ledger_core.specs.Runs.{ticks_of}
+use Rattle.ledger_core.specs.Runs.{run_ticks}
 use Rattle.history_index.proofs.Extending.{takes_all}
 use Rattle.party_machine.specs.Machine.{MachineState, learnt}
-use Rattle.party_machine.specs.Within.{entries_in}
+use Rattle.party_machine.specs.Within.{all_entries}
 use Rattle.party_machine.specs.Rest.{MayRest}
 use Rattle.party_machine.proofs.Known.{fronts, called_ready, called_shows}
 use Rattle.party_machine.proofs.Resting.{shown, learns, are_all_ticks}
@@ -13,7 +13,7 @@ pub push_ticks-requires-clause-indexable : goal.push_ticks-requires-clause-index
 push_ticks-requires-clause-indexable g c =
     let i = c.self.inside in
     let x = c.index_mut-index.result.now in
-    let more = ticks_of c.args.run in
+    let more = run_ticks c.args.run in
     let r = rw (← c.self.view_is) at c.requires in
     takes_all x.from x.to x.entries more
     (fronts i.deal i.wallet i.known.items c.args.arc x more c.self.invariant.ready r.arc c.index_mut-index.ensures.value r.legal)
@@ -23,7 +23,7 @@ invariant_of-self g c =
     let i = c.self.inside in
     let x = c.index_mut-index.result.now in
     let y = c.push_ticks.new.self in
-    let more = ticks_of c.args.run in
+    let more = run_ticks c.args.run in
     let r = rw (← c.self.view_is) at c.requires in
     record {
       ready =
@@ -47,9 +47,9 @@ returns-clause-learnt g c =
       me = i.wallet.party;
       seed = i.wallet.seed;
       known =
-          entries_in (set i.known.items c.args.arc y);
+          all_entries (set i.known.items c.args.arc y);
       signed = i.wallet.signed;
-    }) (learnt s c.args.arc (ticks_of c.args.run)))
+    }) (learnt s c.args.arc (run_ticks c.args.run)))
     c.self.view_is
-    (called_shows {A = Unit {0}} {E = Unit {0}} i.deal i.wallet i.known.items c.args.arc c.index_mut-index.result.now y (ticks_of c.args.run) (Ok tt)
+    (called_shows {A = Unit {0}} {E = Unit {0}} i.deal i.wallet i.known.items c.args.arc c.index_mut-index.result.now y (run_ticks c.args.run) (Ok tt)
     c.self.invariant.ready r.arc c.index_mut-index.ensures.value c.push_ticks.ensures.entries)

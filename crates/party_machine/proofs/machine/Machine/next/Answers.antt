@@ -1,12 +1,12 @@
 use Rattle.std.proofs.Common.{◌≡◌, ◌∙◌, ℕ, not, Some, List, refl, sym, ap, ap₂, subst}
 use Rattle.hashkey_path.specs.declared.hashkey.Hashkey.{Hashkey}
 use Rattle.ledger_core.specs.declared.entry.Call.TheVariants.{Unlock}
-use Rattle.swap_rules.specs.Rest.{rest_until}
+use Rattle.swap_rules.specs.Rest.{rest_deadline}
 use Rattle.swap_rules.specs.Machine.{noted}
 use Rattle.party_wallet.specs.Value.{signed_in}
 use Rattle.history_index.specs.Value.{IndexState}
 use Rattle.party_machine.specs.Machine.{MachineState, next_due}
-use Rattle.party_machine.specs.Within.{entries_in}
+use Rattle.party_machine.specs.Within.{all_entries}
 use Rattle.party_machine.specs.Unlocking.{due_hashkey}
 use Rattle.party_machine.specs.Recording.{unsigned_key, IsWholeKey}
 use Rattle.party_machine.proofs.Next.{at_once}
@@ -26,7 +26,7 @@ returns-then-is_some-clause-due c =
       deal = i.deal;
       me = i.wallet.party;
       seed = i.wallet.seed;
-      known = entries_in i.known.items;
+      known = all_entries i.known.items;
       signed =
           i.wallet.signed;
     }) c.in_ok-first.first e (sym c.is_some.ensures ∙ c.if-is_some.true)
@@ -35,8 +35,8 @@ returns-then-is_some-clause-due c =
 pub returns-then-is_some-clause-signed : goal.returns-then-is_some-clause-signed
 returns-then-is_some-clause-signed c = sym (c.in_ok-first.ensures.no_key (signed_in c.args.self.now.signed))
 
-pub hashkey_for-requires-clause-from : goal.hashkey_for-requires-clause-from
-hashkey_for-requires-clause-from c =
+pub chosen_hashkey-requires-clause-from : goal.chosen_hashkey-requires-clause-from
+chosen_hashkey-requires-clause-from c =
     let i = c.self.inside in
     from_some i.deal i.wallet i.known.items c.self.invariant.ready c.in-Some.due c.deref-in-Some.result.now c.deref-in-Some.ensures.value
     (first_unlock i.deal i.wallet i.known.items c.self.invariant.ready c.party-me.result c.deref-2.result.now c.signed.result.now.keys c.in-Some.due
@@ -50,10 +50,10 @@ invariant_of-self-in-Some c =
     c.deref-2.ensures.value c.in-Some.ensures.base in
     record {
       ready =
-          answered_ready i.deal i.wallet i.known.items c.self.invariant.ready c.in-Some.due c.hashkey_for.result c.hashkey_for.new.wallet
-          c.deref-in-Some.result.now c.deref-in-Some.ensures.value c.in-Some.ensures.lock seen c.hashkey_for.ensures.value c.hashkey_for.ensures.kept
-          c.hashkey_for.ensures.err;
-      rests = awake i.rest (shown i.deal c.hashkey_for.new.wallet i.known.items) c.in-Awake.is;
+          answered_ready i.deal i.wallet i.known.items c.self.invariant.ready c.in-Some.due c.chosen_hashkey.result c.chosen_hashkey.new.wallet
+          c.deref-in-Some.result.now c.deref-in-Some.ensures.value c.in-Some.ensures.lock seen c.chosen_hashkey.ensures.value c.chosen_hashkey.ensures.kept
+          c.chosen_hashkey.ensures.err;
+      rests = awake i.rest (shown i.deal c.chosen_hashkey.new.wallet i.known.items) c.in-Awake.is;
     }
 
 pub returns-in-Some-clause-due : goal.returns-in-Some-clause-due
@@ -68,8 +68,8 @@ returns-in-Some-clause-due c =
     let f =
     first_unlock i.deal i.wallet i.known.items c.self.invariant.ready c.party-me.result c.deref-2.result.now c.signed.result.now.keys c.in-Some.due
     c.party-me.ensures c.deref-2.ensures.value c.signed.ensures c.in-Some.ensures.some in
-    let value : due_hashkey i.deal i.wallet (entries_in i.known.items) c.in-Some.due ≡ Some c.in_ok-key-in-Some.key =
-    subst (λ (ys : List IndexState). due_hashkey i.deal i.wallet (entries_in ys) c.in-Some.due ≡ Some c.in_ok-key-in-Some.key)
+    let value : due_hashkey i.deal i.wallet (all_entries i.known.items) c.in-Some.due ≡ Some c.in_ok-key-in-Some.key =
+    subst (λ (ys : List IndexState). due_hashkey i.deal i.wallet (all_entries ys) c.in-Some.due ≡ Some c.in_ok-key-in-Some.key)
     c.deref-in-Some.ensures.value c.in_ok-key-in-Some.ensures.value in
     unlocks_next i.deal i.wallet i.known.items c.self.invariant.ready c.in_ok-first.first c.in-Some.due c.in_ok-key-in-Some.key e (sym c.is_some.ensures
     ∙ c.if-is_some.false)
@@ -82,10 +82,10 @@ returns-in-Some-clause-signed c =
     let seen =
     seen_by i.deal i.wallet i.known.items c.self.invariant.ready c.party-me.result c.deref-2.result.now c.in-Some.due c.party-me.ensures
     c.deref-2.ensures.value c.in-Some.ensures.base in
-    let value : due_hashkey i.deal i.wallet (entries_in i.known.items) c.in-Some.due ≡ Some c.in_ok-key-in-Some.key =
-    subst (λ (ys : List IndexState). due_hashkey i.deal i.wallet (entries_in ys) c.in-Some.due ≡ Some c.in_ok-key-in-Some.key)
+    let value : due_hashkey i.deal i.wallet (all_entries i.known.items) c.in-Some.due ≡ Some c.in_ok-key-in-Some.key =
+    subst (λ (ys : List IndexState). due_hashkey i.deal i.wallet (all_entries ys) c.in-Some.due ≡ Some c.in_ok-key-in-Some.key)
     c.deref-in-Some.ensures.value c.in_ok-key-in-Some.ensures.value in
-    noted_as i.deal i.wallet i.known.items c.self.invariant.ready c.in-Some.due c.in_ok-key-in-Some.key c.hashkey_for.new.wallet c.in-Some.ensures.lock
+    noted_as i.deal i.wallet i.known.items c.self.invariant.ready c.in-Some.due c.in_ok-key-in-Some.key c.chosen_hashkey.new.wallet c.in-Some.ensures.lock
     seen value c.in_ok-key-in-Some.ensures.kept
     ∙ ap (λ (s : MachineState). noted (signed_in s.signed) (Unlock c.in_ok-key-in-Some.key)) c.self.view_is
 
@@ -100,9 +100,9 @@ invariant_of-self-then-is_none c =
     c.signed.ensures e (sym c.is_some.ensures ∙ c.if-is_some.false) (c.in-None.ensures.none refl) c.due_last-last.ensures.first in
     record {
       ready = c.self.invariant.ready;
-      rests = begins (shown i.deal i.wallet i.known.items) c.due_last-last.result c.rest_until.result last (c.is_none.ensures ∙ ap not c.if-is_none.true)
-          (c.rest_until.ensures ∙ ap₂ (λ (v : ℕ) (ys : List IndexState).
-          rest_until i.deal v (entries_in ys)) c.party-me.ensures c.deref-then-is_none.ensures.value);
+      rests = begins (shown i.deal i.wallet i.known.items) c.due_last-last.result c.rest_deadline.result last (c.is_none.ensures ∙ ap not c.if-is_none.true)
+          (c.rest_deadline.ensures ∙ ap₂ (λ (v : ℕ) (ys : List IndexState).
+          rest_deadline i.deal v (all_entries ys)) c.party-me.ensures c.deref-then-is_none.ensures.value);
     }
 
 pub returns-clause-due : goal.returns-clause-due
@@ -131,8 +131,8 @@ returns-in-Some-clause-whole c =
     let seen =
     seen_by i.deal i.wallet i.known.items c.self.invariant.ready c.party-me.result c.deref-2.result.now c.in-Some.due c.party-me.ensures
     c.deref-2.ensures.value c.in-Some.ensures.base in
-    let value : due_hashkey i.deal i.wallet (entries_in i.known.items) c.in-Some.due ≡ Some c.in_ok-key-in-Some.key =
-    subst (λ (ys : List IndexState). due_hashkey i.deal i.wallet (entries_in ys) c.in-Some.due ≡ Some c.in_ok-key-in-Some.key)
+    let value : due_hashkey i.deal i.wallet (all_entries i.known.items) c.in-Some.due ≡ Some c.in_ok-key-in-Some.key =
+    subst (λ (ys : List IndexState). due_hashkey i.deal i.wallet (all_entries ys) c.in-Some.due ≡ Some c.in_ok-key-in-Some.key)
     c.deref-in-Some.ensures.value c.in_ok-key-in-Some.ensures.value in
     subst (λ (s : MachineState). (k : Hashkey) → unsigned_key s.signed (Unlock c.in_ok-key-in-Some.key) ≡ Some k → IsWholeKey s.deal k)
     c.self.view_is

@@ -4,7 +4,7 @@ use Rattle.party_wallet.specs.Value.{signed_in}
 use Rattle.hashkey_path.specs.declared.hashkey.Hashkey.{Hashkey}
 use Rattle.wallet_journal.specs.declared.fault.RecordFault.{RecordFault}
 use Rattle.wallet_journal.specs.declared.fault.RecordFault.TheVariants.{DiskFault}
-use Rattle.party_machine.specs.Machine.{action_of}
+use Rattle.party_machine.specs.Machine.{due_action}
 use Rattle.party_machine.specs.Recording.{new_key, signs_next}
 use Rattle.party_machine.proofs.Recorded.{answer_placed, answer_stays, answer_new, answer_signed, carried, signs, may_have, of_any}
 use Rattle.party_machine.proofs.machine.Machine.next_recorded.Goals as goal
@@ -26,8 +26,8 @@ record-requires-clause-lock g c =
 
 pub returns-in_err-record-clause-own : goal.returns-in_err-record-clause-own
 returns-in_err-record-clause-own g c own =
-    let is : new_key c.args.self.now.signed (option_map action_of c.in_ok-answer.answer) ≡ Some c.in-Some.key.now =
-    ap (λ (l : List (Option Hashkey)). new_key l (option_map action_of c.in_ok-answer.answer)) (sym c.requires.recorded) ∙ sym c.in-Some.ensures.key in
+    let is : new_key c.args.self.now.signed (option_map due_action c.in_ok-answer.answer) ≡ Some c.in-Some.key.now =
+    ap (λ (l : List (Option Hashkey)). new_key l (option_map due_action c.in_ok-answer.answer)) (sym c.requires.recorded) ∙ sym c.in-Some.ensures.key in
     c.record.ensures.own c.args.self.now.deal (c.in_ok-answer.ensures.whole c.in-Some.key.now is).fits own
 
 pub returns-in_err-record-clause-whole : goal.returns-in_err-record-clause-whole
@@ -62,8 +62,8 @@ returns-clause-recorded g c =
 
 pub returns-clause-own : goal.returns-clause-own
 returns-clause-own g c own =
-    let is : new_key c.args.self.now.signed (option_map action_of c.in_ok-answer.answer) ≡ Some c.in-Some.key.now =
-    ap (λ (l : List (Option Hashkey)). new_key l (option_map action_of c.in_ok-answer.answer)) (sym c.requires.recorded) ∙ sym c.in-Some.ensures.key in
+    let is : new_key c.args.self.now.signed (option_map due_action c.in_ok-answer.answer) ≡ Some c.in-Some.key.now =
+    ap (λ (l : List (Option Hashkey)). new_key l (option_map due_action c.in_ok-answer.answer)) (sym c.requires.recorded) ∙ sym c.in-Some.ensures.key in
     c.record.ensures.own c.args.self.now.deal (c.in_ok-answer.ensures.whole c.in-Some.key.now is).fits own
 
 pub returns-clause-whole : goal.returns-clause-whole

@@ -1,6 +1,6 @@
 use Rattle.std.proofs.Common.{◌<◌, ◌≤◌, arith, length, max, refl, sym, ap₂, ◌∙◌}
 use Rattle.swap_run.specs.Fair.{the_horizon}
-use Rattle.swap_many.specs.Value.{world_at}
+use Rattle.swap_many.specs.Value.{nth_world}
 use Rattle.swap_many.proofs.Turning.{greatest_more, greatest_all}
 use Rattle.swap_many.proofs.worlds.Worlds.last_horizon.Goals as goal
 
@@ -16,7 +16,7 @@ swaps-preserved c =
     let a = i.1 in
     let b = c.horizon.ensures.few in (
       c.greater-last.ensures ∙ (ap₂ max i.0 c.horizon.ensures.value
-          ∙ sym (greatest_more (λ s. the_horizon (world_at w s).deal) (length w.worlds) c.swaps.swap l)),
+          ∙ sym (greatest_more (λ s. the_horizon (nth_world w s).deal) (length w.worlds) c.swaps.swap l)),
       omega (arith, g, a, b),
     )
 
@@ -24,7 +24,7 @@ pub returns-clause-value : goal.returns-clause-value
 returns-clause-value c =
     let w = c.args.self.now in
     let l : length w.worlds ≤ c.swaps.swap = omega (arith, c.swaps-test.false, c.swaps-swap-end.ensures) in
-    c.swaps.invariant.0 ∙ greatest_all (λ s. the_horizon (world_at w s).deal) (length w.worlds) c.swaps.swap l
+    c.swaps.invariant.0 ∙ greatest_all (λ s. the_horizon (nth_world w s).deal) (length w.worlds) c.swaps.swap l
 
 pub returns-clause-few : goal.returns-clause-few
 returns-clause-few c = c.swaps.invariant.1

@@ -1,7 +1,7 @@
 use Rattle.std.proofs.Common.{◌≡◌, ◌<◌, ℕ, List, [], Ok, false, length, map, sym, ap, ◌∙◌, subst}
 use Rattle.std.specs.List.{range_with_len}
 use Rattle.swap_run.specs.Laws.{IsReadyCast}
-use Rattle.swap_world.specs.Value.{cast_at}
+use Rattle.swap_world.specs.Value.{world_cast}
 use Rattle.swap_many.specs.Opened.{overdrawn}
 use Rattle.swap_many.specs.Opening.{setup_of_worlds, new_chain, new_many, none_swept, opened_or}
 use Rattle.swap_many.specs.Ticking.{nth}
@@ -24,11 +24,11 @@ invariant_of-result c =
     let e : opened_or (overdrawn m) all ≡ Ok c.in-Ok.opened.items = rw (c.deref.ensures.value, c.as_slice.ensures) at c.in-Ok.ensures in
     let k = was_opened (overdrawn m) all c.in-Ok.opened.items e in
     let flags : c.in_ok-swept.swept.items ≡ map none_swept ws = rw c.deref-2.ensures.value at c.in_ok-swept.ensures.value in
-    let casts : (s : ℕ) → s < length ws → IsReadyCast (cast_at (nth ws s)) = rw c.deref-2.ensures.value at c.in_ok-swept.ensures.ready in
+    let casts : (s : ℕ) → s < length ws → IsReadyCast (world_cast (nth ws s)) = rw c.deref-2.ensures.value at c.in_ok-swept.ensures.ready in
     let is : (let w : ManyState = record {
       worlds = ws;
       places = ps;
-      openings = c.told_of.result.items;
+      openings = c.build_told.result.items;
       chains = c.in-Ok.opened.items;
       swept = c.in_ok-swept.swept.items;
       stages = [];
@@ -36,7 +36,7 @@ invariant_of-result c =
     } in w) ≡ new_many cs ws ps = λ j. record {
       worlds = ws;
       places = ps;
-      openings = c.told_of.ensures j;
+      openings = c.build_told.ensures j;
       chains = k.1 j;
       swept = flags j;
       stages = [];
@@ -45,5 +45,5 @@ invariant_of-result c =
     let on : c.in_ok-on.on ≡ standing (length cs) ps = rw c.as_slice-2.ensures at c.in_ok-on.ensures in
     record {
       whole = subst AreWhole (sym is) (new_whole cs ws ps c.requires k.0 casts);
-      on = on ∙ ap (λ (os : List (List ℕ)). standing (length os) ps) (sym c.told_of.ensures);
+      on = on ∙ ap (λ (os : List (List ℕ)). standing (length os) ps) (sym c.build_told.ensures);
     }

@@ -2,8 +2,8 @@ use Rattle.std.proofs.Common.{◌≡◌, ◌<◌, ◌≤◌, ◌+◌, ◌^◌, a
 use Rattle.swap_many.specs.declared.place.Place.{Place}
 use Rattle.swap_many.specs.Chains.{place}
 use Rattle.swap_many.specs.Laws.{CanSweep}
-use Rattle.swap_many.specs.Value.{no_chain, setup_of}
-use Rattle.swap_many.specs.Inside.{worlds_in}
+use Rattle.swap_many.specs.Value.{no_chain, world_setup}
+use Rattle.swap_many.specs.Inside.{inside_worlds}
 use Rattle.swap_many.proofs.Values.{item_is, chain_low}
 use Rattle.swap_many.proofs.Emptied.{MayGoBack, from_in, to_in, both_fit, back_gone, back_whole}
 use Rattle.swap_many.proofs.worlds.Worlds.put_back.Given as given
@@ -12,11 +12,11 @@ use Rattle.swap_many.proofs.worlds.Worlds.put_back.Goals.{After-index_mut-chain}
 
 -- the slot's units may go back to their chain
 may : (g : given.Over) (c : goal.After-index_mut-chain g)
-    → MayGoBack (worlds_in c.self.inside) c.args.swap c.args.arc c.args.fair c.place-place.result c.index_mut-chain.result.now c.accounts-left.result
+    → MayGoBack (inside_worlds c.self.inside) c.args.swap c.args.arc c.args.fair c.place-place.result c.index_mut-chain.result.now c.accounts-left.result
 may g c =
-    let w = worlds_in c.self.inside in
-    let can : CanSweep (setup_of w) c.args.swap c.args.arc = rw (← c.self.view_is) at c.requires.event in
-    let at : c.place-place.result ≡ place (setup_of w) c.args.swap c.args.arc = rw (← c.self.view_is) at c.place-place.ensures in
+    let w = inside_worlds c.self.inside in
+    let can : CanSweep (world_setup w) c.args.swap c.args.arc = rw (← c.self.view_is) at c.requires.event in
+    let at : c.place-place.result ≡ place (world_setup w) c.args.swap c.args.arc = rw (← c.self.view_is) at c.place-place.ensures in
     let low = subst (λ (p : Place). p.chain < length w.chains) (sym at) (chain_low w c.args.swap c.args.arc c.self.invariant.whole can) in
     record {
       on = rw (← c.self.view_is) at c.requires.goes_on;
@@ -32,12 +32,12 @@ fits : (g : given.Over) (c : goal.After-index_mut-chain g)
     → sum_by (λ u. u) c.index_mut-chain.result.now.free + c.accounts-left.result.party + c.accounts-left.result.counterparty ≤ 10 ^ 18
 fits g c =
     let m = may g c in
-    both_fit (worlds_in c.self.inside) c.args.swap c.args.arc c.args.fair c.self.invariant.whole m.on m.can m.accepted _ _ _ m.at m.here m.is
+    both_fit (inside_worlds c.self.inside) c.args.swap c.args.arc c.args.fair c.self.invariant.whole m.on m.can m.accepted _ _ _ m.at m.here m.is
 
 pub put_back-requires-clause-account : goal.put_back-requires-clause-account
 put_back-requires-clause-account g c =
     let m = may g (goal.at.put_back-requires-clause-account g c).After-index_mut-chain in
-    from_in (worlds_in c.self.inside) c.args.swap c.args.arc c.args.fair c.self.invariant.whole m.on m.can m.accepted _ _ _ m.at m.here m.is
+    from_in (inside_worlds c.self.inside) c.args.swap c.args.arc c.args.fair c.self.invariant.whole m.on m.can m.accepted _ _ _ m.at m.here m.is
 
 pub put_back-requires-clause-few : goal.put_back-requires-clause-few
 put_back-requires-clause-few g c = let fit = fits g (goal.at.put_back-requires-clause-few g c).After-index_mut-chain in omega (arith, fit)
@@ -46,7 +46,7 @@ pub put_back-requires-2-clause-account : goal.put_back-requires-2-clause-account
 put_back-requires-2-clause-account g c =
     let m = may g (goal.at.put_back-requires-2-clause-account g c).After-index_mut-chain in
     subst (λ n. c.place-place.result.to < n) (sym c.put_back.ensures.count)
-    (to_in (worlds_in c.self.inside) c.args.swap c.args.arc c.args.fair c.self.invariant.whole m.on m.can m.accepted _ _ _ m.at m.here m.is)
+    (to_in (inside_worlds c.self.inside) c.args.swap c.args.arc c.args.fair c.self.invariant.whole m.on m.can m.accepted _ _ _ m.at m.here m.is)
 
 pub put_back-requires-2-clause-few : goal.put_back-requires-2-clause-few
 put_back-requires-2-clause-few g c =
@@ -56,7 +56,7 @@ put_back-requires-2-clause-few g c =
 
 pub invariant_of-self : goal.invariant_of-self
 invariant_of-self g c =
-    let w = worlds_in c.self.inside in
+    let w = inside_worlds c.self.inside in
     let m = may g (goal.at.invariant_of-self g c).After-index_mut-chain in
     let flags : c.args.swap < length w.swept = subst (λ n. c.args.swap < n) (sym c.self.invariant.whole.swept) m.can.swap in
     record {
@@ -69,7 +69,7 @@ invariant_of-self g c =
 
 pub returns : goal.returns
 returns g c =
-    let w = worlds_in c.self.inside in
+    let w = inside_worlds c.self.inside in
     let m = may g (goal.at.returns g c).After-index_mut-chain in
     let flags : c.args.swap < length w.swept = subst (λ n. c.args.swap < n) (sym c.self.invariant.whole.swept) m.can.swap in
     rw (← c.self.view_is) (back_gone w c.args.swap c.args.arc c.args.fair c.self.invariant.whole m.on m.can m.accepted _ _ _ m.at m.here m.is

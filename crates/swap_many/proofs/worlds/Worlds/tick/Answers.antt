@@ -4,8 +4,8 @@ use Rattle.swap_many.specs.Chains.{has_no_tick, is_done}
 use Rattle.swap_many.specs.Kept.{later}
 use Rattle.swap_many.specs.Laws.{CanTickChain}
 use Rattle.swap_many.specs.Ticking.{AreTickable, AreTicked, some_stopped}
-use Rattle.swap_many.specs.Value.{no_chain, setup_of}
-use Rattle.swap_many.specs.Inside.{worlds_in}
+use Rattle.swap_many.specs.Value.{no_chain, world_setup}
+use Rattle.swap_many.specs.Inside.{inside_worlds}
 use Rattle.swap_many.proofs.Values.{item_is}
 use Rattle.swap_many.proofs.Ticked.{HasTicked, looked_up, may_tick, has_room, ok_unless, err_unless, has_ticked}
 use Rattle.swap_many.proofs.worlds.Worlds.tick.Given as given
@@ -14,15 +14,15 @@ use Rattle.swap_many.proofs.worlds.Worlds.tick.Goals.{After-has_stopped-self-ins
 
 pub bounds-as_slice-chain : goal.bounds-as_slice-chain
 bounds-as_slice-chain g c =
-    let w = worlds_in c.self.inside in
-    let can : CanTickChain (setup_of w) c.args.chain c.args.k = rw (← c.self.view_is) at c.requires.event in
+    let w = inside_worlds c.self.inside in
+    let can : CanTickChain (world_setup w) c.args.chain c.args.k = rw (← c.self.view_is) at c.requires.event in
     (looked_up c.as_slice.result.now (length w.openings) w.places c.args.chain (c.as_slice.ensures ∙ c.self.invariant.on) can.chain).0
 
 pub tick_worlds-requires-clause-fits : goal.tick_worlds-requires-clause-fits
 tick_worlds-requires-clause-fits g c =
-    let w = worlds_in c.self.inside in
+    let w = inside_worlds c.self.inside in
     let i = c.args.chain in
-    let can : CanTickChain (setup_of w) i c.args.k = rw (← c.self.view_is) at c.requires.event in
+    let can : CanTickChain (world_setup w) i c.args.k = rw (← c.self.view_is) at c.requires.event in
     let on : w.stopped ≡ false = rw (← c.self.view_is) at c.requires.goes_on in
     let up = looked_up c.as_slice.result.now (length w.openings) w.places i (c.as_slice.ensures ∙ c.self.invariant.on) can.chain in
     let there = c.as_slice-2.ensures ∙ (item_is c.as_slice.result.now i [] c.index-as_slice-chain.result up.0 c.index-as_slice-chain.is ∙ up.1) in
@@ -30,12 +30,13 @@ tick_worlds-requires-clause-fits g c =
 
 -- the worlds after the ticks
 ticked : (g : given.Over) (c : goal.After-has_stopped-self-inside g)
-    → HasTicked (g.A.Strategies.gives c.args._staff.now) (worlds_in c.self.inside) c.args.chain c.args.k c.tick-reply.new.self c.tick_worlds.new.worlds.items
+    → HasTicked (g.A.Strategies.gives c.args._staff.now)
+    (inside_worlds c.self.inside) c.args.chain c.args.k c.tick-reply.new.self c.tick_worlds.new.worlds.items
     c.has_stopped-self-inside.result
 ticked g c =
-    let w = worlds_in c.self.inside in
+    let w = inside_worlds c.self.inside in
     let i = c.args.chain in
-    let may : CanTickChain (setup_of w) i c.args.k = rw (← c.self.view_is) at c.requires.event in
+    let may : CanTickChain (world_setup w) i c.args.k = rw (← c.self.view_is) at c.requires.event in
     let up = looked_up c.as_slice.result.now (length w.openings) w.places i (c.as_slice.ensures ∙ c.self.invariant.on) may.chain in
     let there = c.as_slice-2.ensures ∙ (item_is c.as_slice.result.now i [] c.index-as_slice-chain.result up.0 c.index-as_slice-chain.is ∙ up.1) in
     let low : i < length w.chains = subst (λ n. i < n) (sym c.self.invariant.whole.chains) may.chain in

@@ -4,11 +4,11 @@ use Rattle.swap_digraph.specs.declared.deal.Deal.{Deal}
 use Rattle.ledger_core.specs.Book.{Histories}
 use Rattle.swap_job.specs.declared.event.Event.TheVariants.{Act}
 use Rattle.swap_job.specs.declared.job.Role.TheVariants as kinds
-use Rattle.swap_run.specs.Called.{step_on}
+use Rattle.swap_run.specs.Called.{apply_step}
 use Rattle.swap_run.specs.Run.{State}
 use Rattle.party_machine.specs.Machine.{MachineState}
 use Rattle.swap_world.specs.Acting.{histories}
-use Rattle.swap_world.specs.Inside.{asked_in, cast_in, state_in, AreLedgersOf}
+use Rattle.swap_world.specs.Inside.{asked_in, inside_cast, state_in, AreLedgersOf}
 use Rattle.swap_world.specs.Journals.{IsJournalOf, IsSomeJournal}
 use Rattle.swap_world.specs.On.{swept_in}
 use Rattle.swap_world.specs.declared.actor.Actor.TheVariants.{Conforming}
@@ -96,12 +96,12 @@ module _ (c : goal.After-is_err-self-inside) where
   place : IsMachineOf i c.args.p m
   place = machine_found i c.self.invariant c.args.p known c.index_mut.result.now c.index_mut.ensures.value m c.in-Conforming.is
 
-  done : OnOk c.act-done.result (after ≡ step_on sw (cast_in i) (state_in i) (Act c.args.p))
+  done : OnOk c.act-done.result (after ≡ apply_step sw (inside_cast i) (state_in i) (Act c.args.p))
   done =
       both c.act-done.result (acted i.deal i.conforming i.seeds i.roles (asked_in i) i.ledgers.items i.actors.items sw c.args.p m new b place)
       c.act-done.ensures.ok c.act-done.ensures.knows
 
-  cut : OnErr c.act-done.result ((b ≡ (state_in i).book) ⊎ (b ≡ (step_on sw (cast_in i) (state_in i) (Act c.args.p)).book))
+  cut : OnErr c.act-done.result ((b ≡ (state_in i).book) ⊎ (b ≡ (apply_step sw (inside_cast i) (state_in i) (Act c.args.p)).book))
   cut =
       on_err c.act-done.result (either (λ e. e)
       (λ e. e ∙ acted_book i.deal i.conforming i.seeds i.roles (asked_in i) i.ledgers.items i.actors.items sw c.args.p m place)) c.act-done.ensures.err
@@ -124,7 +124,7 @@ invariant_of-self c =
       askers = c.self.invariant.askers;
       told = c.self.invariant.told;
       good =
-          λ g. good_unless c.act-done.result c.is_err-self-inside.result (sw o) (cast_in i) (state_in i) (after o) (Act c.args.p)
+          λ g. good_unless c.act-done.result c.is_err-self-inside.result (sw o) (inside_cast i) (state_in i) (after o) (Act c.args.p)
           c.is_err-self-inside.ensures.value g (done o) c.self.invariant.ready (known o) good;
       room =
           λ on. room_unless c.act-done.result c.is_err-self-inside.result c.act-done.new.ledgers.items c.is_err-self-inside.ensures.value on
@@ -140,7 +140,7 @@ invariant_of-self c =
           c.act-done.new.journal here c.self.invariant.actors c.self.invariant.ready (known o) good (c.self.invariant.journals (goes_on o))
           c.act-done.result c.act-done.ensures.between c.act-done.ensures.made);
       kept =
-          kept_on c.act-done.result (sw o) (cast_in i) (state_in i) (after o) (Act c.args.p) (done o) (cut o) c.self.invariant.ready (known o) good;
+          kept_on c.act-done.result (sw o) (inside_cast i) (state_in i) (after o) (Act c.args.p) (done o) (cut o) c.self.invariant.ready (known o) good;
     }
 
 pub returns-clause-ok : goal.returns-clause-ok

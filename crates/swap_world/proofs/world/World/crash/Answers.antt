@@ -8,7 +8,7 @@ use Rattle.swap_rules.proofs.Accepted.{accepted_is_well_sized}
 use Rattle.swap_run.specs.Run.{State, step}
 use Rattle.party_machine.specs.Machine.{MachineState}
 use Rattle.swap_world.specs.Acting.{histories}
-use Rattle.swap_world.specs.Inside.{asked_in, cast_in, state_in}
+use Rattle.swap_world.specs.Inside.{asked_in, inside_cast, state_in}
 use Rattle.swap_world.specs.Journals.{IsJournalOf, IsSomeJournal}
 use Rattle.swap_world.specs.declared.actor.Actor.TheVariants.{Conforming}
 use Rattle.swap_world.specs.declared.world.World.TheInside.{Inside}
@@ -76,7 +76,7 @@ module _ (c : goal.After-is_err-self-inside) where
   place : IsMachineOf i c.args.p m
   place = machine_found i c.self.invariant c.args.p can.known c.index_mut.result.now c.index_mut.ensures.value m c.in-Conforming.is
 
-  done : OnOk c.crash-done.result (after ≡ step (cast_in i) (state_in i) (Crash c.args.p c.args.k c.args.image))
+  done : OnOk c.crash-done.result (after ≡ step (inside_cast i) (state_in i) (Crash c.args.p c.args.k c.args.image))
   done =
       on_ok c.crash-done.result (λ (e : new ≡ crashed_machine i.deal m c.args.k c.args.image (histories c.deref.result.now)).
       crashed i.deal i.conforming i.seeds i.roles (asked_in i) i.ledgers.items i.actors.items c.args.p c.args.k c.args.image m new place
@@ -99,7 +99,7 @@ invariant_of-self c =
       askers = c.self.invariant.askers;
       told = c.self.invariant.told;
       good =
-          λ g. good_unless c.crash-done.result c.is_err-self-inside.result (λ a. false) (cast_in i) (state_in i) (after o)
+          λ g. good_unless c.crash-done.result c.is_err-self-inside.result (λ a. false) (inside_cast i) (state_in i) (after o)
           (Crash c.args.p c.args.k c.args.image) c.is_err-self-inside.ensures.value g (done o) c.self.invariant.ready (can o)
           (c.self.invariant.good (goes_on o));
       room = λ on. c.self.invariant.room (goes_on o);

@@ -8,8 +8,8 @@ use Rattle.swap_base.specs.Lists.{IsMoment}
 use Rattle.ledger_core.specs.declared.entry.Call.TheVariants.{Unlock}
 use Rattle.ledger_core.specs.declared.entry.Entry.{Entry}
 use Rattle.ledger_core.specs.Book.{history}
-use Rattle.swap_rules.specs.Party.{call_by}
-use Rattle.swap_run.specs.Run.{notes_of}
+use Rattle.swap_rules.specs.Party.{pick_call}
+use Rattle.swap_run.specs.Run.{state_notes}
 use Rattle.swap_world.specs.Acting.{histories}
 use Rattle.swap_world.specs.Inside.{asked_in, state_in}
 use Rattle.swap_world.specs.Journals.{IsDiskOf, IsJournalOf, IsSomeDisk, IsSomeJournal}
@@ -26,7 +26,7 @@ unreachable-requires c =
     let at =
     disk_at i.deal i.conforming i.seeds i.roles (asked_in i) i.ledgers.items i.actors.items i.journals.items c.self.invariant.actors
     (histories i.ledgers.items) (all_disks i c.self.invariant) c.args.p known conform c.index.result.now c.index.ensures in
-    subst (IsSomeDisk i.deal c.args.p (histories i.ledgers.items) (notes_of (state_in i) c.args.p).signed) c.in_default.is at
+    subst (IsSomeDisk i.deal c.args.p (histories i.ledgers.items) (state_notes (state_in i) c.args.p).signed) c.in_default.is at
 
 pub returns-clause-calls : goal.returns-clause-calls
 returns-clause-calls c =
@@ -36,10 +36,10 @@ returns-clause-calls c =
     let at =
     disk_at i.deal i.conforming i.seeds i.roles (asked_in i) i.ledgers.items i.actors.items i.journals.items c.self.invariant.actors
     (histories i.ledgers.items) (all_disks i c.self.invariant) c.args.p known conform c.index.result.now c.index.ensures in
-    let is : IsDiskOf i.deal c.args.p (histories i.ledgers.items) (notes_of (state_in i) c.args.p).signed c.in-Some.journal.disk.held =
-    subst (IsSomeDisk i.deal c.args.p (histories i.ledgers.items) (notes_of (state_in i) c.args.p).signed) c.in-Some.is at in
+    let is : IsDiskOf i.deal c.args.p (histories i.ledgers.items) (state_notes (state_in i) c.args.p).signed c.in-Some.journal.disk.held =
+    subst (IsSomeDisk i.deal c.args.p (histories i.ledgers.items) (state_notes (state_in i) c.args.p).signed) c.in-Some.is at in
     subst (λ (w : WorldState). (a : ℕ) (past : List Entry) (e : Entry) (key : Hashkey) → IsMoment (history w.state.book a) past e
-    → call_by c.args.p e ≡ Some (Unlock key) → (b : List ℕ) → Leaves c.memory.result.now.held b → recorded b key.lock ≡ Some key) c.self.view_is
+    → pick_call c.args.p e ≡ Some (Unlock key) → (b : List ℕ) → Leaves c.memory.result.now.held b → recorded b key.lock ≡ Some key) c.self.view_is
     (λ a past e key m q b left. is.calls a past e key m q b (subst (λ (d : DiskState). Leaves d.held b) c.memory.ensures.value left))
 
 pub returns-clause-only : goal.returns-clause-only
@@ -50,10 +50,10 @@ returns-clause-only c =
     let at =
     disk_at i.deal i.conforming i.seeds i.roles (asked_in i) i.ledgers.items i.actors.items i.journals.items c.self.invariant.actors
     (histories i.ledgers.items) (all_disks i c.self.invariant) c.args.p known conform c.index.result.now c.index.ensures in
-    let is : IsDiskOf i.deal c.args.p (histories i.ledgers.items) (notes_of (state_in i) c.args.p).signed c.in-Some.journal.disk.held =
-    subst (IsSomeDisk i.deal c.args.p (histories i.ledgers.items) (notes_of (state_in i) c.args.p).signed) c.in-Some.is at in
+    let is : IsDiskOf i.deal c.args.p (histories i.ledgers.items) (state_notes (state_in i) c.args.p).signed c.in-Some.journal.disk.held =
+    subst (IsSomeDisk i.deal c.args.p (histories i.ledgers.items) (state_notes (state_in i) c.args.p).signed) c.in-Some.is at in
     subst (λ (w : WorldState). (n : ℕ) (key : Hashkey) → n < length w.deal.leaders → (b : List ℕ) → Leaves c.memory.result.now.held b
-    → recorded b n ≡ Some key → signed_in (notes_of w.state c.args.p).signed n ≡ Some key) c.self.view_is
+    → recorded b n ≡ Some key → signed_in (state_notes w.state c.args.p).signed n ≡ Some key) c.self.view_is
     (λ n key lt b left e. is.only n key (subst (λ l. n < l) (sym is.places) lt) b (subst (λ (d : DiskState). Leaves d.held b) c.memory.ensures.value left) e)
 
 pub returns-clause-durable : goal.returns-clause-durable
@@ -61,14 +61,14 @@ returns-clause-durable c =
     let i = c.self.inside in
     let known : c.args.p < i.deal.graph.n = rw (← c.self.view_is) at c.requires.party in
     let conform : slice_index_or i.conforming c.args.p false ≡ true = rw (← c.self.view_is) at c.requires.conforms in
-    let signed = (notes_of (state_in i) c.args.p).signed in
+    let signed = (state_notes (state_in i) c.args.p).signed in
     subst (λ (w : WorldState). w.stopped ≡ false → (n : ℕ) → n < length w.deal.leaders → (b : List ℕ) → Leaves c.memory.result.now.held b
-    → recorded b n ≡ signed_in (notes_of w.state c.args.p).signed n) c.self.view_is (λ goes_on n lt b left.
+    → recorded b n ≡ signed_in (state_notes w.state c.args.p).signed n) c.self.view_is (λ goes_on n lt b left.
     let at =
     journal_at i.deal i.conforming i.seeds i.roles (asked_in i) i.ledgers.items i.actors.items i.journals.items c.self.invariant.actors
     (c.self.invariant.journals goes_on) c.args.p known conform c.index.result.now c.index.ensures in
-    let is : IsJournalOf i.deal c.args.p (notes_of (state_in i) c.args.p).signed c.in-Some.journal =
-    subst (IsSomeJournal i.deal c.args.p (notes_of (state_in i) c.args.p).signed) c.in-Some.is at in
+    let is : IsJournalOf i.deal c.args.p (state_notes (state_in i) c.args.p).signed c.in-Some.journal =
+    subst (IsSomeJournal i.deal c.args.p (state_notes (state_in i) c.args.p).signed) c.in-Some.is at in
     let many : length c.in-Some.journal.signed ≡ length i.deal.leaders =
     ap (λ (l : List (Option Hashkey)). length l) is.has ∙ ((c.self.invariant.good goes_on).notes c.args.p known conform).places in
     is.shows n (subst (λ l. n < l) (sym many) lt) b (subst (λ (d : DiskState). Leaves d.held b) c.memory.ensures.value left)

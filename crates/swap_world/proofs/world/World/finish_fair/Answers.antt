@@ -2,7 +2,7 @@ use Rattle.swap_run.specs.Fair.{finish}
 use Rattle.swap_run.specs.Steps.{finish_steps}
 use Rattle.swap_run.proofs.Along.{finish_can}
 use Rattle.swap_run.proofs.Reached.{finish_events}
-use Rattle.swap_world.specs.Value.{cast_for}
+use Rattle.swap_world.specs.Value.{answering_cast}
 use Rattle.swap_world.proofs.Finishes.{dealt_by, has_ended_by}
 use Rattle.swap_world.proofs.Gone.{stopped_before}
 use Rattle.swap_world.proofs.Worlds.{kept_to}
@@ -30,5 +30,5 @@ pub returns-clause-kept : goal.returns-clause-kept
 returns-clause-kept g c =
     let w = c.args.self.now in
     kept_to c.finish.result (g.A.Strategies.gives c.args.staff.now) finish finish_steps w c.finish.new.world c.finish.ensures.ok c.finish.ensures.err
-    (λ a. finish_events (cast_for w a) w.state) (λ a. finish_can (cast_for w a) w.state)
+    (λ a. finish_events (answering_cast w a) w.state) (λ a. finish_can (answering_cast w a) w.state)
     (rw (← c.self.view_is) c.self.invariant.ready) (rw (← c.self.view_is) (c.self.invariant.good c.if-self.false))

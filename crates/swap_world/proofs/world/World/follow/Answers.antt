@@ -3,12 +3,12 @@ use Rattle.ledger_core.specs.Book.{Histories}
 use Rattle.deviators.specs.Script.{next_call}
 use Rattle.swap_job.specs.declared.event.Event.TheVariants.{Act}
 use Rattle.swap_job.specs.declared.job.Role.TheVariants as kinds
-use Rattle.swap_run.specs.Called.{step_on}
-use Rattle.swap_run.specs.Run.{Plan, State, role_of}
+use Rattle.swap_run.specs.Called.{apply_step}
+use Rattle.swap_run.specs.Run.{Plan, State, party_role}
 use Rattle.swap_run.specs.Shown.{IsShown}
 use Rattle.swap_world.specs.Acting.{histories, taken, seen, told_to, turned}
 use Rattle.swap_world.specs.On.{swept_in}
-use Rattle.swap_world.specs.Inside.{asked_in, cast_in, state_in}
+use Rattle.swap_world.specs.Inside.{asked_in, inside_cast, state_in}
 use Rattle.swap_world.specs.declared.actor.Actor.TheVariants.{Planned}
 use Rattle.swap_world.specs.declared.world.World.TheInside.{Inside}
 use Rattle.swap_world.proofs.Kept.{journals_planned}
@@ -80,12 +80,12 @@ module _ (c : goal.After-is_err-self-inside) where
   place : IsPlanOf i c.args.p n
   place = plan_found i c.self.invariant c.args.p known c.index_mut.result.now c.index_mut.ensures.value n c.in-Planned.is
 
-  script : IsScript (role_of (cast_in i) c.args.p)
+  script : IsScript (party_role (inside_cast i) c.args.p)
   script =
       scripted (slice_index_or i.roles c.args.p kinds.Manual) place.is.1
-      (not_asking (cast_in i) c.args.p (rw (← c.self.view_is) at c.requires.deviates) (rw (← c.self.view_is) at c.requires.alone))
+      (not_asking (inside_cast i) c.args.p (rw (← c.self.view_is) at c.requires.deviates) (rw (← c.self.view_is) at c.requires.alone))
 
-  done : OnOk c.follow-done.result (after ≡ step_on sw (cast_in i) (state_in i) (Act c.args.p))
+  done : OnOk c.follow-done.result (after ≡ apply_step sw (inside_cast i) (state_in i) (Act c.args.p))
   done =
       both c.follow-done.result
       (followed i.deal i.conforming i.seeds i.roles (asked_in i) i.ledgers.items i.actors.items sw c.args.p n new b place script)
@@ -95,7 +95,7 @@ module _ (c : goal.After-is_err-self-inside) where
       (new ≡ seen sw i.deal c.args.p (next_call i.deal ss n.known n.moves) (histories i.ledgers.items) (turned n)))
       c.as_slice.ensures c.follow-done.ensures.knows)
 
-  cut : OnErr c.follow-done.result ((b ≡ (state_in i).book) ⊎ (b ≡ (step_on sw (cast_in i) (state_in i) (Act c.args.p)).book))
+  cut : OnErr c.follow-done.result ((b ≡ (state_in i).book) ⊎ (b ≡ (apply_step sw (inside_cast i) (state_in i) (Act c.args.p)).book))
   cut =
       on_err c.follow-done.result (either (λ e. e)
       (λ e. e ∙ followed_book i.deal i.conforming i.seeds i.roles (asked_in i) i.ledgers.items i.actors.items sw c.args.p n place script))
@@ -116,7 +116,7 @@ invariant_of-self-2 c =
       actors = actor_set i.deal i.conforming i.seeds i.roles xs c.args.p (Planned new) c.self.invariant.actors (place o).below (place o).is;
       askers = c.self.invariant.askers;
       told = c.self.invariant.told;
-      good = λ g. good_unless c.follow-done.result c.is_err-self-inside.result (sw o) (cast_in i) (state_in i) (after o) (Act c.args.p)
+      good = λ g. good_unless c.follow-done.result c.is_err-self-inside.result (sw o) (inside_cast i) (state_in i) (after o) (Act c.args.p)
           c.is_err-self-inside.ensures.value g (done o) c.self.invariant.ready (known o) (c.self.invariant.good (goes_on o));
       room =
           λ on. room_unless c.follow-done.result c.is_err-self-inside.result c.follow-done.new.ledgers.items c.is_err-self-inside.ensures.value on
@@ -129,7 +129,7 @@ invariant_of-self-2 c =
           (have_either i.deal i.conforming i.seeds i.roles (asked_in i) i.ledgers.items xs (sw o) (Act c.args.p) (b o) c.self.invariant.actors
           c.self.invariant.ready (known o) (c.self.invariant.good (goes_on o))
           (followed_notes i.deal i.conforming i.seeds i.roles (asked_in i) i.ledgers.items xs (sw o) c.args.p (n o) (place o) (script o)) two))) (cut o));
-      kept = kept_on c.follow-done.result (sw o) (cast_in i) (state_in i) (after o) (Act c.args.p) (done o) (cut o)
+      kept = kept_on c.follow-done.result (sw o) (inside_cast i) (state_in i) (after o) (Act c.args.p) (done o) (cut o)
           c.self.invariant.ready (known o) (c.self.invariant.good (goes_on o));
     }
 

@@ -10,7 +10,7 @@ use Rattle.swap_rules.specs.Machine.{Begins}
 use Rattle.swap_run.specs.Run.{State, step}
 use Rattle.party_machine.specs.Machine.{MachineState}
 use Rattle.swap_world.specs.Acting.{histories}
-use Rattle.swap_world.specs.Inside.{asked_in, cast_in, state_in, IsLedgerOf}
+use Rattle.swap_world.specs.Inside.{asked_in, inside_cast, state_in, IsLedgerOf}
 use Rattle.swap_world.specs.declared.actor.Actor.TheVariants.{Conforming}
 use Rattle.swap_world.specs.declared.world.World.TheInside.{Inside}
 use Rattle.swap_world.proofs.Kept.{journals_learnt, still_signed}
@@ -75,7 +75,7 @@ module _ (c : goal.After-learn) where
       let k : IsLedgerOf i.deal c.args.arc l = c.self.invariant.ledgers.each c.args.arc l below c.index.ensures in
       on_ok c.learn.result (know m new i.ledgers.items c.args.arc l k.arc below c.index.ensures) c.learn.ensures.ok
 
-  saw : OnOk c.learn.result (after ≡ step (cast_in i) (state_in i) (Look c.args.p c.args.arc))
+  saw : OnOk c.learn.result (after ≡ step (inside_cast i) (state_in i) (Look c.args.p c.args.arc))
   saw =
       on_ok c.learn.result
       (looked i.deal i.conforming i.seeds i.roles (asked_in i) i.ledgers.items i.actors.items c.args.p c.args.arc m new place) knows
@@ -101,7 +101,7 @@ invariant_of-self-2 c =
           (slice_index_or i.roles c.args.p kinds.Manual) c.args.p m new (same_owner c.learn.result m new k (knows o) c.learn.ensures.err) (place o).is);
       askers = c.self.invariant.askers;
       told = c.self.invariant.told;
-      good = λ g. good_on c.learn.result (λ a. false) (cast_in i) (state_in i) (after o) (Look c.args.p c.args.arc) (saw o) (same o)
+      good = λ g. good_on c.learn.result (λ a. false) (inside_cast i) (state_in i) (after o) (Look c.args.p c.args.arc) (saw o) (same o)
           c.self.invariant.ready (can o) (c.self.invariant.good g);
       room = c.self.invariant.room;
       journals = λ on. journals_learnt i.deal xs i.journals.items c.args.p m new (c.self.invariant.journals on) (place o).below (place o).here

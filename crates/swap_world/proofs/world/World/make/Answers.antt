@@ -4,11 +4,11 @@ use Rattle.swap_job.specs.Resolved.{resolved}
 use Rattle.swap_job.specs.Step.{CanCall}
 use Rattle.swap_job.specs.declared.event.Event.TheVariants.{Call as Made}
 use Rattle.swap_rules.proofs.Accepted.{accepted_is_well_sized}
-use Rattle.swap_run.specs.Called.{step_on}
+use Rattle.swap_run.specs.Called.{apply_step}
 use Rattle.swap_run.specs.Run.{Plan, State}
 use Rattle.swap_world.specs.Acting.{histories, taken, seen, told_to}
 use Rattle.swap_world.specs.On.{swept_in}
-use Rattle.swap_world.specs.Inside.{asked_in, cast_in, state_in}
+use Rattle.swap_world.specs.Inside.{asked_in, inside_cast, state_in}
 use Rattle.swap_world.specs.declared.actor.Actor.TheVariants.{Planned}
 use Rattle.swap_world.specs.declared.world.World.TheInside.{Inside}
 use Rattle.swap_world.proofs.Kept.{journals_planned}
@@ -77,7 +77,7 @@ module _ (c : goal.After-is_err-self-inside) where
   place : IsPlanOf i c.args.sender n
   place = plan_found i c.self.invariant c.args.sender can.known c.index_mut.result.now c.index_mut.ensures.value n c.in-Planned.is
 
-  done : OnOk c.make_by_hand-done.result (after ≡ step_on sw (cast_in i) (state_in i) (Made c.args.sender c.args.mv.now))
+  done : OnOk c.make_by_hand-done.result (after ≡ apply_step sw (inside_cast i) (state_in i) (Made c.args.sender c.args.mv.now))
   done =
       both c.make_by_hand-done.result
       (made_by_hand i.deal i.conforming i.seeds i.roles (asked_in i) i.ledgers.items i.actors.items sw c.args.sender c.args.mv.now n new b place)
@@ -89,7 +89,7 @@ module _ (c : goal.After-is_err-self-inside) where
       c.as_slice.ensures c.make_by_hand-done.ensures.knows)
 
   cut : OnErr c.make_by_hand-done.result
-      ((b ≡ (state_in i).book) ⊎ (b ≡ (step_on sw (cast_in i) (state_in i) (Made c.args.sender c.args.mv.now)).book))
+      ((b ≡ (state_in i).book) ⊎ (b ≡ (apply_step sw (inside_cast i) (state_in i) (Made c.args.sender c.args.mv.now)).book))
   cut =
       on_err c.make_by_hand-done.result (either (λ e. e)
       (λ e. e ∙ made_book i.deal i.conforming i.seeds i.roles (asked_in i) i.ledgers.items i.actors.items sw c.args.sender c.args.mv.now n place))
@@ -110,7 +110,7 @@ invariant_of-self-2 c =
       actors = actor_set i.deal i.conforming i.seeds i.roles xs c.args.sender (Planned new) c.self.invariant.actors (place o).below (place o).is;
       askers = c.self.invariant.askers;
       told = c.self.invariant.told;
-      good = λ g. good_unless c.make_by_hand-done.result c.is_err-self-inside.result (sw o) (cast_in i) (state_in i) (after o)
+      good = λ g. good_unless c.make_by_hand-done.result c.is_err-self-inside.result (sw o) (inside_cast i) (state_in i) (after o)
           (Made c.args.sender c.args.mv.now) c.is_err-self-inside.ensures.value g (done o)
           c.self.invariant.ready (can o) (c.self.invariant.good (goes_on o));
       room =
@@ -124,7 +124,7 @@ invariant_of-self-2 c =
           (have_either i.deal i.conforming i.seeds i.roles (asked_in i) i.ledgers.items xs (sw o) (Made c.args.sender c.args.mv.now) (b o)
           c.self.invariant.actors c.self.invariant.ready (can o) (c.self.invariant.good (goes_on o))
           (made_notes i.deal i.conforming i.seeds i.roles (asked_in i) i.ledgers.items xs (sw o) c.args.sender c.args.mv.now (n o) (place o)) two))) (cut o));
-      kept = kept_on c.make_by_hand-done.result (sw o) (cast_in i) (state_in i) (after o) (Made c.args.sender c.args.mv.now) (done o) (cut o)
+      kept = kept_on c.make_by_hand-done.result (sw o) (inside_cast i) (state_in i) (after o) (Made c.args.sender c.args.mv.now) (done o) (cut o)
           c.self.invariant.ready (can o) (c.self.invariant.good (goes_on o));
     }
 

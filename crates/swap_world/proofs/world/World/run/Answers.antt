@@ -1,5 +1,5 @@
 use Rattle.std.proofs.Common.{arith, refl}
-use Rattle.swap_run.specs.Run.{run_from}
+use Rattle.swap_run.specs.Run.{continued_run}
 use Rattle.swap_world.proofs.Gone.{stopped_before}
 use Rattle.swap_world.proofs.Worlds.{kept_to}
 use Rattle.swap_world.proofs.world.World.run.Goals as goal
@@ -17,6 +17,6 @@ returns-then-self-clause-kept g c = rw (← c.self.view_is) c.self.invariant.kep
 pub returns-clause-kept : goal.returns-clause-kept
 returns-clause-kept g c =
     let w = c.args.self.now in
-    kept_to c.run.result (g.A.Strategies.gives c.args.staff.now) (λ x s. run_from x s c.args.events.now) (λ x s. c.args.events.now) w c.run.new.world
+    kept_to c.run.result (g.A.Strategies.gives c.args.staff.now) (λ x s. continued_run x s c.args.events.now) (λ x s. c.args.events.now) w c.run.new.world
     c.run.ensures.ok c.run.ensures.err (λ a. record { events = c.args.events.now; can = c.requires.events; state = refl }) (λ a. c.requires.events)
     (rw (← c.self.view_is) c.self.invariant.ready) (rw (← c.self.view_is) (c.self.invariant.good c.if-self.false))

@@ -6,7 +6,7 @@ use Rattle.swap_run.specs.Run.{State, after_tick, step}
 use Rattle.swap_run.specs.Laws.{IsGood}
 use Rattle.swap_run.proofs.Good.{good_is_kept, steps_are_good}
 use Rattle.swap_world.specs.Acting.{histories}
-use Rattle.swap_world.specs.Inside.{asked_in, cast_in, state_in}
+use Rattle.swap_world.specs.Inside.{asked_in, inside_cast, state_in}
 use Rattle.swap_world.specs.declared.world.World.TheInside.{Inside}
 use Rattle.swap_world.proofs.Disks.{disks_stay, have_signed}
 use Rattle.swap_world.proofs.Ledgers.{book_ok, moved, ledger_set}
@@ -40,7 +40,7 @@ module _ (c : goal.After-is_err-self-inside) where
   below : c.args.arc < length i.ledgers.items
   below = subst (λ n. c.args.arc < n) (sym c.self.invariant.ledgers.one_each) can.arc
 
-  to : after ≡ step (cast_in i) (state_in i) (Tick c.args.arc c.args.k)
+  to : after ≡ step (inside_cast i) (state_in i) (Tick c.args.arc c.args.k)
   to =
       ap (λ (b : Histories). state i.deal (asked_in i) i.actors.items b)
       (book_ok i.ledgers.items c.args.arc c.index_mut-ledger.result.now c.tick-done.new.ledger (after_tick c.args.k) below c.index_mut-ledger.ensures.value
@@ -52,9 +52,9 @@ invariant_of-self c =
     let i = c.self.inside in
     let l = c.index_mut-ledger.result.now in
     let new = c.tick-done.new.ledger in
-    let good : IsGood (cast_in i) (after o) =
-    subst (IsGood (cast_in i)) (sym (to o))
-    (steps_are_good (cast_in i) (state_in i) (Tick c.args.arc c.args.k) c.self.invariant.ready (can o) (c.self.invariant.good (goes_on o))) in
+    let good : IsGood (inside_cast i) (after o) =
+    subst (IsGood (inside_cast i)) (sym (to o))
+    (steps_are_good (inside_cast i) (state_in i) (Tick c.args.arc c.args.k) c.self.invariant.ready (can o) (c.self.invariant.good (goes_on o))) in
     record {
       ready = c.self.invariant.ready;
       ledgers = ledger_set i.deal i.ledgers.items c.args.arc new c.self.invariant.ledgers (below o)
@@ -70,7 +70,7 @@ invariant_of-self c =
       disks =
           λ on. disks_stay i.deal (after o).book i.actors.items i.journals.items (c.self.invariant.journals (goes_on o))
           (have_signed i.deal i.conforming i.seeds i.roles (after o) i.actors.items c.self.invariant.actors good refl);
-      kept = good_is_kept (cast_in i) (after o) c.self.invariant.ready good;
+      kept = good_is_kept (inside_cast i) (after o) c.self.invariant.ready good;
     }
 
 pub returns-clause-ok : goal.returns-clause-ok

@@ -7,7 +7,7 @@ use Rattle.swap_job.specs.Step.{CanLook}
 use Rattle.swap_job.specs.declared.event.Event.TheVariants.{Look}
 use Rattle.swap_run.specs.Run.{Plan, State, plan_up_to, step}
 use Rattle.swap_world.specs.Acting.{histories}
-use Rattle.swap_world.specs.Inside.{asked_in, cast_in, state_in}
+use Rattle.swap_world.specs.Inside.{asked_in, inside_cast, state_in}
 use Rattle.swap_world.specs.declared.actor.Actor.TheVariants.{Planned}
 use Rattle.swap_world.specs.declared.world.World.TheInside.{Inside}
 use Rattle.swap_world.proofs.Kept.{journals_planned}
@@ -55,7 +55,7 @@ module _ (c : goal.After-watch) where
   place : IsPlanOf i c.args.p n
   place = plan_found i c.self.invariant c.args.p can.known c.index_mut.result.now c.index_mut.ensures.value n c.in-Planned.is
 
-  saw : OnOk c.watch.result (after ≡ step (cast_in i) (state_in i) (Look c.args.p c.args.arc))
+  saw : OnOk c.watch.result (after ≡ step (inside_cast i) (state_in i) (Look c.args.p c.args.arc))
   saw =
       let below = subst (λ k. c.args.arc < k) (sym c.self.invariant.ledgers.one_each) can.arc in
       on_ok c.watch.result (λ (e : new ≡ plan_up_to n c.args.arc c.index.result.now.history). watched i.deal i.conforming i.seeds i.roles (asked_in i)
@@ -78,7 +78,7 @@ invariant_of-self-2 c =
       actors = actor_set i.deal i.conforming i.seeds i.roles i.actors.items c.args.p (Planned new) c.self.invariant.actors (place o).below (place o).is;
       askers = c.self.invariant.askers;
       told = c.self.invariant.told;
-      good = λ g. good_on c.watch.result (λ a. false) (cast_in i) (state_in i) (after o) (Look c.args.p c.args.arc) (saw o) (same o)
+      good = λ g. good_on c.watch.result (λ a. false) (inside_cast i) (state_in i) (after o) (Look c.args.p c.args.arc) (saw o) (same o)
           c.self.invariant.ready (can o) (c.self.invariant.good g);
       room = c.self.invariant.room;
       journals = λ on. journals_planned i.deal i.actors.items i.journals.items c.args.p new (c.self.invariant.journals on) (place o).below;

@@ -6,7 +6,7 @@ use Rattle.transcript_reader.specs.declared.stage.Stage.{Stage}
 use Rattle.transcript_reader.specs.declared.stage.Stage.TheVariants.{First, Header}
 use Rattle.transcript_reader.specs.Header.{header_read}
 use Rattle.transcript_reader.specs.Reading.{so_far}
-use Rattle.transcript_reader.specs.Stages.{stage_after}
+use Rattle.transcript_reader.specs.Stages.{next_stage}
 use Rattle.transcript_reader.proofs.stage.Stage.read.Goals as goal
 
 is_true : (b : Bool) → not b ≡ false → b ≡ true
@@ -15,12 +15,12 @@ is_true false e = absurd (cc e)
 
 begun : (header : List ℕ → Result Job Refusal) (n : ℕ) (s : Stage) (line word : List ℕ) (other : Bool) → s ≡ First → word ≡ codes "swap transcript 1"
     → other ≡ not (bytes_eq line word) → other ≡ false
-    → (Header ≡ stage_after header n s line) × (so_far (stage_after header n s line) ≡ Ok tt)
-unfolding stage_after
+    → (Header ≡ next_stage header n s line) × (so_far (next_stage header n s line) ≡ Ok tt)
+unfolding next_stage
 begun header n s line word other first is ne e =
     let same : bytes_eq line (codes "swap transcript 1") ≡ true =
     ap (bytes_eq line) (sym is) ∙ is_true (bytes_eq line word) (sym ne ∙ e) in
-    subst (λ (x : Stage). (Header ≡ stage_after header n x line) × (so_far (stage_after header n x line) ≡ Ok tt)) (sym first) (rw same (refl, refl))
+    subst (λ (x : Stage). (Header ≡ next_stage header n x line) × (so_far (next_stage header n x line) ≡ Ok tt)) (sym first) (rw same (refl, refl))
 
 pub returns-else-ne-clause-turns : goal.returns-else-ne-clause-turns
 returns-else-ne-clause-turns c =

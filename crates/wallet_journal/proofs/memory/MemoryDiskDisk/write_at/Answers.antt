@@ -2,12 +2,12 @@ use Rattle.std.proofs.Common.{◌∷◌, [], ◌++◌, ◌-◌, ◌∙◌, List,
 use Rattle.wallet_journal.specs.Device.{written, Torn}
 use Rattle.wallet_journal.specs.Held.{Leaves, read_bytes}
 use Rattle.wallet_journal.specs.Memory.{DiskState}
-use Rattle.wallet_journal.proofs.Holds.{among, put_on, put_written, put_left, elapses_to}
+use Rattle.wallet_journal.proofs.Holds.{among, append_items, put_written, put_left, elapses_to}
 use Rattle.wallet_journal.proofs.memory.MemoryDiskDisk.write_at.Goals as goal
 
 pub returns-then-next-clause-among : goal.returns-then-next-clause-among
 returns-then-next-clause-among c =
-    among c.put.new.self (put_on c.self.inside.contents c.put.new.self c.args.at c.args.bytes.now (c.self.inside.contents.spare - 1) c.put.ensures
+    among c.put.new.self (append_items c.self.inside.contents c.put.new.self c.args.at c.args.bytes.now (c.self.inside.contents.spare - 1) c.put.ensures
     c.self.invariant c.requires.range)
 
 pub returns-then-next-clause-crash : goal.returns-then-next-clause-crash
@@ -27,7 +27,7 @@ returns-clause-written c =
 
 pub returns-clause-among : goal.returns-clause-among
 returns-clause-among c =
-    among c.put.new.self (put_on c.self.inside.contents c.put.new.self c.args.at c.args.bytes.now (c.self.inside.contents.spare - 1) c.put.ensures
+    among c.put.new.self (append_items c.self.inside.contents c.put.new.self c.args.at c.args.bytes.now (c.self.inside.contents.spare - 1) c.put.ensures
     c.self.invariant c.requires.range)
 
 pub returns-clause-crash : goal.returns-clause-crash

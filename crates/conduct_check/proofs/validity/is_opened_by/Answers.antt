@@ -1,8 +1,0 @@
-use Rattle.due_calls.proofs.Openings.{has_lock}
-use Rattle.conduct_check.proofs.validity.is_opened_by.Goals as goal
-
-pub opened-requires : goal.opened-requires
-opened-requires c =
-    let l = c.in-Some.ensures.lookup in
-    has_lock (λ x. x.terms) c.args.deal.now c.args.known.now c.args.arc c.args.key.now.lock c.in-Some.index.now c.requires.sized c.requires.known.terms
-    l.3.0 l.1 c.requires.lock

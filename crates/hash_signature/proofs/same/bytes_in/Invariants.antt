@@ -1,5 +1,0 @@
-use Rattle.std.proofs.Common.{◌≡◌, ◌<◌, ℕ, [], length, get_or}
-use Rattle.hash_signature.proofs.same.bytes_in.Given as goal
-
-abbrev pub invariant-values : goal.invariant-values
-invariant-values l = (k : ℕ) → k < l.value-index → length (get_or l.values k []) ≡ 32

@@ -1,9 +1,0 @@
-use Rattle.std.proofs.Common.{◌≡◌, ◌++◌}
-use Rattle.std.specs.List.{flat_map, range_with_len}
-use Rattle.history_index.specs.Indexes.{entries_in}
-use Rattle.swap_rules.specs.declared.finding.Rule.TheVariants.{Unlock}
-use Rattle.swap_rules.specs.Findings.{late_on}
-use Rattle.late_check.proofs.lates.put_late_unlocks_of.Given as goal
-
-abbrev pub invariant-loop-arc : goal.invariant-loop-arc
-invariant-loop-arc l = l.out.items ≡ l.initial.out.items ++ flat_map (late_on l.deal (entries_in l.known) l.party (Unlock l.lock)) (range_with_len 0 l.arc)

@@ -1,5 +1,0 @@
-use Rattle.ledger_core.proofs.Ticks.{last_ticks}
-use Rattle.ledger_core.proofs.runs.last_of.Goals as goal
-
-pub returns-clause-ticks : goal.returns-clause-ticks
-returns-clause-ticks c = last_ticks c.args.run c.args.n c.requires.within

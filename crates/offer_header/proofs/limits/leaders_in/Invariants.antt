@@ -1,5 +1,0 @@
-use Rattle.std.proofs.Common.{◌≡◌, take}
-use Rattle.offer_header.proofs.limits.leaders_in.Given as goal
-
-abbrev pub invariant-loop-leader : goal.invariant-loop-leader
-invariant-loop-leader l = l.list.items ≡ take l.leader-index l.leaders

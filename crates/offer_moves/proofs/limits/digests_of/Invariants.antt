@@ -1,9 +1,0 @@
-use Rattle.std.proofs.Common.{◌≡◌, codes, drop}
-use Rattle.offer_fields.specs.Lists.{each_of}
-use Rattle.offer_fields.specs.Limits.{digest_of}
-use Rattle.offer_fields.proofs.Lists.{with_front}
-use Rattle.offer_moves.proofs.limits.digests_of.Given as goal
-
-abbrev pub invariant-loop-text : goal.invariant-loop-text
-invariant-loop-text l =
-    with_front l.digests.items (each_of (digest_of l.line (codes "locks")) (drop l.text-index l.texts)) ≡ each_of (digest_of l.line (codes "locks")) l.texts

@@ -1,0 +1,7 @@
+use Rattle.std.proofs.Common.{codes}
+use Rattle.offer_fields.proofs.Lists.{starts}
+use Rattle.offer_fields.specs.Limits.{to_digest}
+use Rattle.offer_moves.proofs.limits.list_digests.Goals as goal
+
+pub loop-text-init : goal.loop-text-init
+loop-text-init c = rw c.new-digests.ensures.items (starts (to_digest c.args.line (codes "locks")) c.args.texts.now)

@@ -1,8 +1,0 @@
-use Rattle.std.proofs.Common.{◌≡◌, drop}
-use Rattle.offer_fields.specs.Lists.{each_of}
-use Rattle.offer_moves.specs.Limits.{sig_of}
-use Rattle.offer_fields.proofs.Lists.{with_front}
-use Rattle.offer_moves.proofs.limits.sigs_of.Given as goal
-
-abbrev pub invariant-loop-text : goal.invariant-loop-text
-invariant-loop-text l = with_front l.sigs.items (each_of (sig_of l.line) (drop l.text-index l.texts)) ≡ each_of (sig_of l.line) l.texts

@@ -1,0 +1,4 @@
+use Rattle.outcome_rules.proofs.indexes.build_index.Given as goal
+
+abbrev pub ghosts-index_counted : goal.ghosts-index_counted
+ghosts-index_counted a = record { name = a.blank.name; parts = a.blank.parts }

@@ -1,4 +1,0 @@
-use Rattle.outcome_rules.proofs.indexes.index_of.Given as goal
-
-abbrev pub ghosts-index_counted : goal.ghosts-index_counted
-ghosts-index_counted a = record { name = a.blank.name; parts = a.blank.parts }

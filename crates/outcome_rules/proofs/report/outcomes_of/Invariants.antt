@@ -1,8 +1,0 @@
-use Rattle.std.proofs.Common.{◌≡◌, map}
-use Rattle.std.specs.List.{range_with_len}
-use Rattle.swap_rules.specs.Outcome.{outcome}
-use Rattle.history_index.specs.Indexes.{entries_in}
-use Rattle.outcome_rules.proofs.report.outcomes_of.Given as goal
-
-abbrev pub invariant-loop-party : goal.invariant-loop-party
-invariant-loop-party l = l.list.items ≡ map (outcome l.deal (entries_in l.known)) (range_with_len 0 l.party)

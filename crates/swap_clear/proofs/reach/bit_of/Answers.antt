@@ -1,5 +1,0 @@
-use Rattle.leader_check.proofs.Passes.{one_bit}
-use Rattle.swap_clear.proofs.reach.bit_of.Goals as goal
-
-pub returns : goal.returns
-returns c w = one_bit c.args.v w c.requires

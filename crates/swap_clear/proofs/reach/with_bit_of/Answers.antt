@@ -1,7 +1,0 @@
-use Rattle.std.proofs.Common.{◌==◌, ◌||◌, ◌∙◌, ap, Bool}
-use Rattle.std.specs.Int.{bit_at}
-use Rattle.leader_check.proofs.Passes.{bit_of_or}
-use Rattle.swap_clear.proofs.reach.with_bit_of.Goals as goal
-
-pub returns : goal.returns
-returns c w = bit_of_or c.bit_of.result c.args.bits w ∙ ap (λ (b : Bool). b || (bit_at c.args.bits w == 1)) (c.bit_of.ensures w)

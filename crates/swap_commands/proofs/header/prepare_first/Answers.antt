@@ -1,0 +1,36 @@
+use Rattle.std.proofs.lemmas.Result.{err_from_is_err_and}
+use Rattle.command_input.specs.Input.{desk}
+use Rattle.swap_commands.specs.Says.{IsAgainst}
+use Rattle.swap_commands.specs.Words.{OfJob}
+use Rattle.swap_commands.proofs.Reading.{empty_stops, header_stops}
+use Rattle.command_input.proofs.Streams.{first_stops, fits_fresh, line_of}
+use Rattle.swap_commands.proofs.header.prepare_first.Goals as goal
+
+pub next-requires : goal.next-requires
+next-requires g c = fits_fresh _ _ c.requires
+
+pub returns-in_err-next-clause-stops : goal.returns-in_err-next-clause-stops
+returns-in_err-next-clause-stops g c = λ command asked.
+    let now = desk (g.S.Source.left c.next.new.source) (g.S.Source.faults c.next.new.source) c.next.new.self in
+    let p = err_from_is_err_and c.from_residual.result c.from_residual.ensures.1 in
+    rw (p.1, p.2)
+    (first_stops (IsAgainst _ (OfJob command)) (g.S.Source.left c.args.source.now) (g.S.Source.faults c.args.source.now) c.args.input.now now c.requires
+    c.in_err-next.field-0.0 c.in_err-next.ensures.fails)
+
+pub returns-then-not-branch-clause-stops : goal.returns-then-not-branch-clause-stops
+returns-then-not-branch-clause-stops g c = λ command asked.
+    let now = desk (g.S.Source.left c.next.new.source) (g.S.Source.faults c.next.new.source) c.next.new.self in
+    empty_stops _ command c.in_ok-next.field-0 (g.S.Source.left c.args.source.now) (g.S.Source.faults c.args.source.now) c.args.input.now now
+    c.no_line.result c.requires c.if-not-branch.true c.in_ok-next.ensures.gives c.no_line.ensures
+
+pub returns-in_err-prepared-clause-stops : goal.returns-in_err-prepared-clause-stops
+returns-in_err-prepared-clause-stops g c = λ command asked.
+    let now = desk (g.S.Source.left c.next.new.source) (g.S.Source.faults c.next.new.source) c.next.new.self in
+    let p = err_from_is_err_and c.from_residual-in_err-prepared.result c.from_residual-in_err-prepared.ensures.1 in
+    rw (p.1, p.2)
+    (header_stops _ command c.in_ok-next.field-0 (g.S.Source.left c.args.source.now) (g.S.Source.faults c.args.source.now) c.args.input.now now
+    c.in_err-prepared.field-0.0 c.args.purpose c.number-number.result c.text.result.now c.requires c.if-not-branch.false c.in_ok-next.ensures.gives asked
+    c.number-number.ensures c.text.ensures c.in_err-prepared.ensures.exact)
+
+pub returns-clause-line : goal.returns-clause-line
+returns-clause-line g c = rw c.requires at (line_of _ _ _ c.if-not-branch.false c.in_ok-next.ensures.gives)

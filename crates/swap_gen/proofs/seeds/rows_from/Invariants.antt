@@ -1,7 +1,0 @@
-use Rattle.std.proofs.Common.{◌≡◌, map}
-use Rattle.std.specs.List.{range_with_len}
-use Rattle.swap_gen.specs.Made.{keys_from}
-use Rattle.swap_gen.proofs.seeds.rows_from.Given as goal
-
-abbrev pub invariant-parties : goal.invariant-parties
-invariant-parties l = l.rows.items ≡ map (keys_from l.seeds l.deal) (range_with_len 0 l.p)

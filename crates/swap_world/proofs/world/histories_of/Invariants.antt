@@ -1,6 +1,0 @@
-use Rattle.std.proofs.Common.{◌≡◌}
-use Rattle.swap_world.specs.Acting.{histories}
-use Rattle.swap_world.proofs.world.histories_of.Given as goal
-
-abbrev pub invariant-loop-ledger : goal.invariant-loop-ledger
-invariant-loop-ledger l = l.histories.items ≡ histories l.yielded

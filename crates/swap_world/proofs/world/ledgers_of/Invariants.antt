@@ -1,5 +1,0 @@
-use Rattle.swap_world.specs.Inside.{AreNewLedgers}
-use Rattle.swap_world.proofs.world.ledgers_of.Given as goal
-
-abbrev pub invariant-loop-arc : goal.invariant-loop-arc
-invariant-loop-arc l = AreNewLedgers l.deal l.arc l.ledgers.items
