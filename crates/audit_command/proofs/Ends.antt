@@ -8,7 +8,7 @@ use Rattle.refusals.specs.declared.refusal.Refusal.{Refusal}
 use Rattle.transcript_reader.specs.declared.reason.TranscriptReason.{TranscriptReason}
 use Rattle.transcript_reader.specs.Stages.{Progress}
 use Rattle.transcript_reader.specs.Reading.{finished, job_story}
-use Rattle.command_input.specs.Faults.{parse_told}
+use Rattle.command_input.specs.Faults.{retold}
 use Rattle.command_input.specs.declared.fault.InputFault.{InputFault}
 use Rattle.command_input.specs.declared.fault.InputFault.TheVariants.{Refused, ReadFault, TooLong, NoMemory}
 use Rattle.command_input.specs.Input.{At, Desk, Ends, HasStopped, IsPart, IsTooLong, desk, fresh, limit}
@@ -27,7 +27,7 @@ pub all_consumed : (P : List ℕ → Type 0) (a b : Option (List ℕ)) (n m : �
 all_consumed P a b n m k = (k.ends.bytes, omega (arith, k.ends.stands.took.counted, k.ends.stands.fits.within), k.ends.stands.took.consumed)
 
 -- a reason as it is told
-pub told_stopped : (old new : Desk) (f : InputFault TranscriptReason) → HasStopped IsBad old new f → HasStopped IsAgainst old new (parse_told to_refusal f)
+pub told_stopped : (old new : Desk) (f : InputFault TranscriptReason) → HasStopped IsBad old new f → HasStopped IsAgainst old new (retold to_refusal f)
 unfolding story_in
 told_stopped old new (Refused reason) h = record { bytes = h.bytes; stands = h.stands; can = h.can; told = ap by_text h.told; ended = h.ended }
 told_stopped old new ReadFault h = h

@@ -5,7 +5,7 @@ ghost use Rattle.transcript_reader.specs.Header.{IsTold};
 ghost use Rattle.transcript_reader.specs.Reading.{finished, job_story};
 ghost use Rattle.audit_command.specs.Output.{to_refusal};
 ghost use Rattle.audit_command.specs.Reading.{Concludes, HasRead, IsStory, Stopped};
-ghost use Rattle.command_input.specs.Faults.{parse_told};
+ghost use Rattle.command_input.specs.Faults.{retold};
 
 use crate::input::read_lines;
 use command_input::{Input, InputFault};
@@ -47,7 +47,7 @@ fn conclude(
 
 /// The fault with the refusal of a text.
 fn refused(alloc: Global, fault: InputFault<TranscriptReason>) -> InputFault<Refusal>
-    ensures { result ≡ parse_told to_refusal fault }
+    ensures { result ≡ retold to_refusal fault }
 {
     match fault {
         InputFault::Refused(reason) => InputFault::Refused(to_refusal(alloc, reason)),

@@ -11,7 +11,7 @@ use Rattle.swap_run.specs.Run.{Question}
 use Rattle.swap_world.specs.Cast.{wallet_with}
 use Rattle.swap_offer.specs.Job.{parse_events, job_header_of, parse_job, job_of_lines}
 use Rattle.command_input.specs.Lines.{filled_lines, collect_lines}
-use Rattle.swap_commands.specs.Output.{AreGiven, command_cast, inside_state}
+use Rattle.swap_commands.specs.Output.{AreGiven, command_cast, run_state}
 use Rattle.swap_main.specs.Known.{by_rule}
 use Rattle.read_back.specs.Headers.{IsShowable}
 use Rattle.read_back.proofs.Onward.{landed, onward}
@@ -48,12 +48,12 @@ wallet_has (Some seed) v d = record { first = own_has d.mode d v seed; onto = on
 wallet_has None v d = record { first = own_has d.mode d v []; onto = onto_has d.mode d v [] }
 
 module _ (rule : Rule) (keeps : KeepsDigests rule) (answers : Answers) (job : Job) (events : List Event) (k : AreRead (job, events))
-    (given : AreGiven (by_rule rule) job.deal answers (inside_state answers job events).asked) where
+    (given : AreGiven (by_rule rule) job.deal answers (run_state answers job events).asked) where
   wallets : (v : ℕ) → WalletHas ((command_cast answers job).wallet v)
   wallets v = wallet_has (slice_index_or job.seeds v None) v job.deal
 
   -- an answer that was given holds digests, where its question does
-  sure : (i : ℕ) (q : Question) → i < length (inside_state answers job events).asked → q ≡ slice_index_or (inside_state answers job events).asked i q
+  sure : (i : ℕ) (q : Question) → i < length (run_state answers job events).asked → q ≡ slice_index_or (run_state answers job events).asked i q
       → BookHas q.known → May AnswerHas (answers i)
   sure i q lt is known = by (answers i) (given i q lt is)
     where
@@ -61,9 +61,9 @@ module _ (rule : Rule) (keeps : KeepsDigests rule) (answers : Answers) (job : Jo
       by None e = tt
       by (Some x) e = keeps q.strategy job.deal q.party q.turn q.known x k.showable.hashlocks (λ a l. known a [] l) (sym e)
 
-  state_has : StateHas (inside_state answers job events)
+  state_has : StateHas (run_state answers job events)
   state_has =
-      whole_has (command_cast answers job) k.showable.hashlocks wallets k.scripts (inside_state answers job events).asked sure job.finish events k.events refl
+      whole_has (command_cast answers job) k.showable.hashlocks wallets k.scripts (run_state answers job events).asked sure job.finish events k.events refl
 
 pub runs_hold_digests : RunsHoldDigests
 runs_hold_digests rule has answers input job events keeps e given = λ a lt.

@@ -9,7 +9,7 @@ use Rattle.ledger_core.specs.Book.{Histories}
 use Rattle.deviators.specs.Program.{program_rule}
 use Rattle.swap_run.specs.Asked.{Answers}
 use Rattle.swap_offer.specs.Job.{parse_job}
-use Rattle.swap_commands.specs.Output.{AreGiven, collected_book, inside_state}
+use Rattle.swap_commands.specs.Output.{AreGiven, collected_book, run_state}
 use Rattle.swap_main.specs.Known.{by_rule}
 use Rattle.typed_books.specs.Typed.{IsDigest}
 use Rattle.audited_runs.specs.Digests.{HasDigests, HoldsDigests}
@@ -32,5 +32,5 @@ ProgramKeepsDigests = KeepsDigests program_rule
 abbrev pub RunsHoldDigests : Type 0
 RunsHoldDigests =
     (rule : Rule) (has : List ℕ → Bool) (answers : Answers) (input : List ℕ) (job : Job) (events : List Event) → KeepsDigests rule
-    → parse_job has purposes.Run input ≡ Ok (job, events) → AreGiven (by_rule rule) job.deal answers (inside_state answers job events).asked
+    → parse_job has purposes.Run input ≡ Ok (job, events) → AreGiven (by_rule rule) job.deal answers (run_state answers job events).asked
     → HoldsDigests (collected_book answers job events)

@@ -13,7 +13,7 @@ use Rattle.swap_io.specs.declared.line_end.LineEnd.TheVariants.{Ended, Rest, End
 use Rattle.swap_io.proofs.Feeds.{took_none, took_on}
 use Rattle.command_input.specs.declared.fault.InputFault.{InputFault}
 use Rattle.command_input.specs.declared.fault.InputFault.TheVariants.{Refused, ReadFault, TooLong, NoMemory}
-use Rattle.command_input.specs.Faults.{of_line, parse_told}
+use Rattle.command_input.specs.Faults.{of_line, retold}
 use Rattle.command_input.specs.Lines.{collect_lines, with_first, filled_lines, is_blank}
 use Rattle.command_input.proofs.Filled.{one_more}
 use Rattle.swap_io.specs.declared.fault.DrainFault.{DrainFault}
@@ -228,7 +228,7 @@ too_long_on r s t xs p q = ((xs ++ q.0.0, took_on r.left s.left t.left r.at.read
 
 -- a fault behind what was taken, of a reading that tells its refusals by other values
 pub faulted_on : {R E : Type 0} (Q : R → Type 0) (P : E → Type 0) (r s t : Desk) (xs : List ℕ) → Stands r s xs → (said : R → E)
-    → ((x : R) → Q x → P (said x)) → (f : InputFault R) → Faulted Q s t f → Faulted P r t (parse_told said f)
+    → ((x : R) → Q x → P (said x)) → (f : InputFault R) → Faulted Q s t f → Faulted P r t (retold said f)
 faulted_on Q P r s t xs p said says (Refused x) h = says x h
 faulted_on Q P r s t xs p said says ReadFault h = (subst (λ (n : ℕ). Rose n t.faults) p.calm h.0, part_on r s t xs p h.1)
 faulted_on Q P r s t xs p said says TooLong h = (h.0 ∙ p.calm, too_long_on r s t xs p h.1)

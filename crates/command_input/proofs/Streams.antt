@@ -13,7 +13,7 @@ use Rattle.command_input.specs.declared.fault.InputFault.{InputFault}
 use Rattle.command_input.specs.declared.fault.InputFault.TheVariants.{Refused, ReadFault, TooLong, NoMemory}
 use Rattle.command_input.specs.declared.status.Status.TheVariants as status
 use Rattle.refusals.specs.declared.refusal.Refusal.{Refusal}
-use Rattle.command_input.specs.Faults.{of_drain, of_line, of_offer, parse_told, unread}
+use Rattle.command_input.specs.Faults.{of_drain, of_line, of_offer, retold, unread}
 use Rattle.command_input.specs.Input.{At, Breaks, CanBeLeft, Desk, Drains, Ends, Faulted, Fits, GivesLine, GivesNoLine}
 use Rattle.command_input.specs.Input.{HasStopped, IsCalm, IsDrained, IsLast, IsLine}
 use Rattle.command_input.specs.Input.{IsPart, Reads, ReadsLine, ReadsNone, Stands, Stops, Tells, ahead, desk, fresh}
@@ -177,7 +177,7 @@ first_stops P left n s t first e h = subst (λ (x : At). Stops P (desk left n x)
 -- What stopped a reading behind what was taken, where what is said of the bytes after it is said of all.
 pub stops_on : {R E : Type 0} (Q : List ℕ → R → Type 0) (P : List ℕ → E → Type 0) (r s t : Desk) (xs : List ℕ) → Stands r s xs → r.at.over ≡ false
     → (said : R → E) → ((bytes : List ℕ) (e : R) → CanBeLeft s.at bytes → Q bytes e → P (xs ++ bytes) (said e)) → (f : InputFault R)
-    → Stops Q s t f → Stops P r t (parse_told said f)
+    → Stops Q s t f → Stops P r t (retold said f)
 stops_on Q P r s t xs p going said says f h =
     faulted_on (λ e. Tells (λ bytes. Q bytes e) s t) (λ e. Tells (λ bytes. P bytes e) r t) r s t xs p said
     (λ e k. record {
@@ -190,7 +190,7 @@ stops_on Q P r s t xs p going said says f h =
     f h
 
 -- the same where the refusals are told as they are
-told_same : {R : Type 0} (f : InputFault R) → parse_told (λ said. said) f ≡ f
+told_same : {R : Type 0} (f : InputFault R) → retold (λ said. said) f ≡ f
 told_same (Refused x) = refl
 told_same ReadFault = refl
 told_same TooLong = refl

@@ -33,15 +33,15 @@ abbrev pub IsNoMemory : {R : Type 0} → InputFault R → Type 0
 IsNoMemory e = e ≡ NoMemory
 
 -- what stopped a reading, where what is said against the input is told by another value
-abbrev pub parse_told : {R E : Type 0} → (R → E) → InputFault R → InputFault E
-parse_told said (Refused r) = Refused (said r)
-parse_told said ReadFault = ReadFault
-parse_told said TooLong = TooLong
-parse_told said NoMemory = NoMemory
+abbrev pub retold : {R E : Type 0} → (R → E) → InputFault R → InputFault E
+retold said (Refused r) = Refused (said r)
+retold said ReadFault = ReadFault
+retold said TooLong = TooLong
+retold said NoMemory = NoMemory
 
 -- a reason with the names of the parties
 abbrev pub named_fault : List (List ℕ) → InputFault Reason → InputFault Refusal
-named_fault names fault = parse_told (λ reason. record { reason = reason; names = names }) fault
+named_fault names fault = retold (λ reason. record { reason = reason; names = names }) fault
 
 -- the status where the reading of an input stopped
 abbrev pub unread : InputFault Refusal → Status

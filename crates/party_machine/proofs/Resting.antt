@@ -61,19 +61,18 @@ begins s o until e n u = (
 
 -- Rest, by the machine's own word for it.
 
-pub rests_by : (r : Rest) (s : MachineState) (t : ℕ) → r ≡ Until (Some t) → MayRest r s → IsAtRest (Some t) s
-rests_by r s t e m = (subst (λ x. MayRest x s) e m).1
+ends_late : (until : Option ℕ) (t : ℕ) → EndsBy until t → EndsBy (Some (latest_height until)) t
+ends_late None t e = absurd e
+ends_late (Some u) t e = e
 
-pub rests_always : (r : Rest) (s : MachineState) (t : ℕ) → r ≡ Until None → MayRest r s → IsAtRest (Some t) s
-rests_always r s t e m =
-    let n : IsAtRest None s = (subst (λ x. MayRest x s) e m).1 in
-    record { nothing = n.nothing; ends = λ a i waits. absurd (n.ends a i waits) }
+pub rests_late : (r : Rest) (until : Option ℕ) (s : MachineState) → r ≡ Until until → MayRest r s → IsAtRest (Some (latest_height until)) s
+rests_late r until s e m =
+    let n : IsAtRest until s = (subst (λ x. MayRest x s) e m).1 in
+    record { nothing = n.nothing; ends = λ a i waits. ends_late until (least_expiry s.deal a (history s.known a)) (n.ends a i waits) }
 
-pub least_by : (r : Rest) (s : MachineState) (t : ℕ) → r ≡ Until (Some t) → MayRest r s → t ≡ latest_height (rest_deadline s.deal s.me s.known)
-least_by r s t e m = ap latest_height (subst (λ x. MayRest x s) e m).0
-
-pub least_always : (r : Rest) (s : MachineState) → r ≡ Until None → MayRest r s → 4294967295 ≡ latest_height (rest_deadline s.deal s.me s.known)
-least_always r s e m = ap latest_height (subst (λ x. MayRest x s) e m).0
+pub least_late : (r : Rest) (until : Option ℕ) (s : MachineState) → r ≡ Until until → MayRest r s
+    → latest_height until ≡ latest_height (rest_deadline s.deal s.me s.known)
+least_late r until s e m = ap latest_height (subst (λ x. MayRest x s) e m).0
 
 -- Rest goes on.
 

@@ -66,6 +66,16 @@ impl Model for Machine {
     ghost invariant = { IsKept };
 }
 
+/// The height that stands for rest up to that height, if any: the greatest, where no tick ends the rest.
+fn latest_height(until: Option<u64>) -> u64
+    ensures { result ≡ latest_height until }
+{
+    match until {
+        Some(until) => until,
+        None => u32::MAX as u64,
+    }
+}
+
 impl Machine {
     /// A party with a new wallet that has what the deal states. It knows nothing and signed
     /// nothing. It keeps a copy of the deal.
@@ -319,8 +329,7 @@ impl Machine {
     {
         match self.rest {
             Rest::Awake => None,
-            Rest::Until(Some(until)) => Some(until),
-            Rest::Until(None) => Some(u32::MAX as u64),
+            Rest::Until(until) => Some(latest_height(until)),
         }
     }
 

@@ -50,7 +50,7 @@ use Rattle.party_threads.specs.Took.{IsSameActor, Did, HasActed, HasPlanned}
 use Rattle.party_threads.specs.Race.{IsRound}
 use Rattle.party_threads.specs.Turns.{passes_of, clocks_of, actor_at, held_at, clock_held_at, arc_ledger, started, IsHome, AreHome, HavePlaces, AreFreeAt}
 use Rattle.party_threads.specs.Turns.{AreDealt, IsClosed, IsShut, IsSameShape}
-use Rattle.party_threads.specs.Standing.{history_in, notes_in, notes_at, plan_in, plan_at, inside_state, IsActorOf, IsActorIn, KnowsOwn, Stands}
+use Rattle.party_threads.specs.Standing.{history_in, notes_in, notes_at, plan_in, plan_at, race_state, IsActorOf, IsActorIn, KnowsOwn, Stands}
 use Rattle.party_threads.proofs.Turning.{none_pass, HasTaken, HasDone, places_kept, places_taken}
 use Rattle.party_threads.proofs.Sharing.{home_at, lock_at, held_near, held_far, clock_is, went_from}
 use Rattle.party_threads.proofs.Seating.{notes_are, plans_are, history_is, wallet_is}
@@ -115,10 +115,10 @@ module _ (gives : MayGive) (job : Job) (ticks : ℕ) (ls ls' : List (Option Ledg
   d = job.deal
 
   abbrev old : State
-  old = inside_state job ls ts
+  old = race_state job ls ts
 
   abbrev new : State
-  new = inside_state job ls' ts3
+  new = race_state job ls' ts3
 
   places : HavePlaces d ts1
   places = places_kept d ts ts1 shape s.places

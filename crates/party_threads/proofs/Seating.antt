@@ -41,7 +41,7 @@ use Rattle.party_threads.specs.Played.{party_planner}
 use Rattle.party_threads.specs.Took.{IsMachineSeated, IsPlannerSeated, IsActorSeated, IsSeated}
 use Rattle.party_threads.specs.Turns.{new_actor, passes_of, clocks_of, actor_at, held_at, arc_ledger, started, HasArc, IsBehind, AreBehind, HavePlaces}
 use Rattle.party_threads.specs.Turns.{AreDealt, IsSameShape}
-use Rattle.party_threads.specs.Standing.{history_in, swap_book, notes_in, notes_at, plan_in, plan_at, inside_state, IsActorIn, KnowsOwn, Stands}
+use Rattle.party_threads.specs.Standing.{history_in, race_book, notes_in, notes_at, plan_in, plan_at, race_state, IsActorIn, KnowsOwn, Stands}
 use Rattle.party_threads.specs.Standing.{HasRoom, AllHaveRoom}
 use Rattle.party_threads.proofs.Clocks.{height_of_ticks}
 use Rattle.party_threads.proofs.Sharing.{home_at, lock_at, held_near, held_far, clock_is}
@@ -61,16 +61,16 @@ wallet_is job v m e = ap (λ o. wallet_with o v job.deal) e
 
 -- the notes of the state are the machine's
 pub notes_are : (job : Job) (ls : List (Option LedgerState)) (ts : List Turn) (v : ℕ) → v < job.deal.graph.n
-    → state_notes (inside_state job ls ts) v ≡ notes_in job.deal (actor_at ts v)
+    → state_notes (race_state job ls ts) v ≡ notes_in job.deal (actor_at ts v)
 notes_are job ls ts v l = get_or-map-range_with_len (notes_at job.deal ts) 0 job.deal.graph.n v v _ l (zero-add v)
 
 -- the plan of the state is the actor's
 pub plans_are : (job : Job) (ls : List (Option LedgerState)) (ts : List Turn) (v : ℕ) → v < job.deal.graph.n
-    → party_plan (inside_state job ls ts) v ≡ plan_in job.deal (actor_at ts v)
+    → party_plan (race_state job ls ts) v ≡ plan_in job.deal (actor_at ts v)
 plans_are job ls ts v l = get_or-map-range_with_len (plan_at job.deal ts) 0 job.deal.graph.n v v _ l (zero-add v)
 
 -- the history of the state is the ledger's
-pub history_is : (ls : List (Option LedgerState)) (a : ℕ) (l : LedgerState) → arc_ledger ls a ≡ Some l → a < length ls → history (swap_book ls) a ≡ l.history
+pub history_is : (ls : List (Option LedgerState)) (a : ℕ) (l : LedgerState) → arc_ledger ls a ≡ Some l → a < length ls → history (race_book ls) a ≡ l.history
 history_is ls a l e lt = get_or-map history_in ls a None [] lt ∙ ap history_in e
 
 few_parties : (v : Version) → most_parties v ≤ 32
@@ -85,8 +85,8 @@ module _ (job : Job) (ls : List (Option LedgerState)) (ts : List Turn) (s : Stan
   pub able_at : (v : ℕ) (m : MachineState) → v < d.graph.n → actor_at ts v ≡ Conforming m → IsAble m
   able_at v m lv e =
       let is : IsActorIn job v (Conforming m) = subst (IsActorIn job v) e (s.actors v lv) in
-      let n : AreGoodNotes (job_cast job) (inside_state job ls ts) v = s.good.notes v lv is.0 in
-      let note : state_notes (inside_state job ls ts) v ≡ record { known = m.known; signed = m.signed } = notes_are job ls ts v lv ∙ ap (notes_in d) e in
+      let n : AreGoodNotes (job_cast job) (race_state job ls ts) v = s.good.notes v lv is.0 in
+      let note : state_notes (race_state job ls ts) v ≡ record { known = m.known; signed = m.signed } = notes_are job ls ts v lv ∙ ap (notes_in d) e in
       subst IsAble (is_named d v m is.1 is.2) (record {
         accepted = s.cast.accepted;
         wallet = subst (IsWallet d v) (wallet_is job v m is.3) (s.cast.wallets v lv is.0);
@@ -97,13 +97,13 @@ module _ (job : Job) (ls : List (Option LedgerState)) (ts : List Turn) (s : Stan
       })
 
   -- what stands of a plan
-  pub plan_good : (v : ℕ) (n : Plan) → v < d.graph.n → actor_at ts v ≡ Planned n → IsGoodPlan d job.seeds v (swap_book ls) n
-  plan_good v n lv e = subst (IsGoodPlan d job.seeds v (swap_book ls)) (plans_are job ls ts v lv ∙ ap (plan_in d) e) (s.good.plans v lv)
+  pub plan_good : (v : ℕ) (n : Plan) → v < d.graph.n → actor_at ts v ≡ Planned n → IsGoodPlan d job.seeds v (race_book ls) n
+  plan_good v n lv e = subst (IsGoodPlan d job.seeds v (race_book ls)) (plans_are job ls ts v lv ∙ ap (plan_in d) e) (s.good.plans v lv)
 
   pub plan_shown : (v : ℕ) (n : Plan) → v < d.graph.n → actor_at ts v ≡ Planned n → IsShown d job.seeds v n
   plan_shown v n lv e =
       let g = plan_good v n lv e in
-      record { view = plan_view d job.seeds v (swap_book ls) n (accepted_is_well_sized d s.cast.accepted) lv s.good.legal g; moves = g.moves }
+      record { view = plan_view d job.seeds v (race_book ls) n (accepted_is_well_sized d s.cast.accepted) lv s.good.legal g; moves = g.moves }
 
   -- how many turns there are
   pub few_turns : (us : List Turn) → IsSameShape ts us → length us ≤ 256
@@ -129,14 +129,14 @@ module _ (job : Job) (ls : List (Option LedgerState)) (ts : List Turn) (s : Stan
   pub behind : AreBehind d ts ls
   behind v a l lv lt at = go (actor_at ts v) refl (s.actors v lv)
     where
-      now : history (swap_book ls) a ≡ l.history
+      now : history (race_book ls) a ≡ l.history
       now = history_is ls a l at (subst (λ n. a < n) (sym s.home.one_each) lt)
 
       go : (x : Actor) → actor_at ts v ≡ x → IsActorIn job v x → IsBehind x v a l.history
       go (Conforming m) e k =
-          let note : state_notes (inside_state job ls ts) v ≡ record { known = m.known; signed = m.signed } = notes_are job ls ts v lv ∙ ap (notes_in d) e in
+          let note : state_notes (race_state job ls ts) v ≡ record { known = m.known; signed = m.signed } = notes_are job ls ts v lv ∙ ap (notes_in d) e in
           subst (λ (w : Notes × List Entry). Knows v (history w.0.known a) w.1) (λ i. (note i, now i)) ((s.good.notes v lv k.0).knows a)
-      go (Planned n) e k = subst (λ h. Knows v (history n.known a) h) now (subst (λ x. KnowsOwn v x (swap_book ls)) e (s.own v lv) a)
+      go (Planned n) e k = subst (λ h. Knows v (history n.known a) h) now (subst (λ x. KnowsOwn v x (race_book ls)) e (s.own v lv) a)
       go Manual e k = knows_all v l.history
       go Clock e k = knows_all v l.history
 
@@ -254,12 +254,12 @@ module _ (job : Job) (ls : List (Option LedgerState)) (first ts : List Turn) (sh
           };
         }
 
-    module _ (ticks : ℕ) (room : AllHaveRoom ticks job.deal (swap_book ls)) where
+    module _ (ticks : ℕ) (room : AllHaveRoom ticks job.deal (race_book ls)) where
       clock_room : (a : ℕ) (lock : TableId) (l : LedgerState) (p : ClockState) → a < length e.graph.arcs → arc_ledger ls a ≡ Some l → IsLedgerOf e a l
           → table_clock lock l ≡ p
           → HaveRoom ticks p
       clock_room a lock l p lt at k is =
-          let h : history (swap_book ls) a ≡ l.history = history_is ls a l at (subst (λ n. a < n) (sym s.home.one_each) lt) in
+          let h : history (race_book ls) a ≡ l.history = history_is ls a l at (subst (λ n. a < n) (sym s.home.one_each) lt) in
           let r : HasRoom ticks l.history = subst (HasRoom ticks) h (room a lt) in
           let level : height l.history ≡ height (ticks_in_order l.history) = height_of_ticks e a l.history k.legal in
           subst (HaveRoom ticks) is (record { few = r.few; low = subst (λ n. n + ticks ≤ 1000000) level r.low })

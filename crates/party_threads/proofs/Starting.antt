@@ -28,13 +28,13 @@ use Rattle.party_threads.specs.declared.turn.Actor.{Actor}
 use Rattle.party_threads.specs.declared.turn.Actor.TheVariants.{Clock}
 use Rattle.party_threads.specs.declared.turn.Turn.{Turn}
 use Rattle.party_threads.specs.Turns.{new_actor, passes_of, clocks_of, actor_at, arc_ledger, IsHome}
-use Rattle.party_threads.specs.Standing.{swap_book, notes_in, notes_at, plan_in, plan_at, inside_state, IsActorIn, KnowsOwn, Stands}
+use Rattle.party_threads.specs.Standing.{race_book, notes_in, notes_at, plan_in, plan_at, race_state, IsActorIn, KnowsOwn, Stands}
 use Rattle.party_threads.specs.FirstTurns.{racing_actor, IsNewTurn, AreNew}
 use Rattle.swap_digraph.proofs.Ranges.{map_more}
 use Rattle.party_threads.proofs.Turning.{get_there}
 use Rattle.party_threads.proofs.Placing.{map_append}
 
-some_histories : (ls : List LedgerState) → swap_book (map (λ l. Some l) ls) ≡ histories ls
+some_histories : (ls : List LedgerState) → race_book (map (λ l. Some l) ls) ≡ histories ls
 some_histories [] = refl
 some_histories (l ∷ ls) = ap (λ hs. l.history ∷ hs) (some_histories ls)
 
@@ -115,10 +115,10 @@ module _ (job : Job) (ts : List Turn) (accepted : IsAccepted job.deal) (seeds : 
   abbrev with_parts : Histories → List Notes → List Plan → State
   with_parts b ns ps = record { book = b; notes = ns; plans = ps; asked = [] }
 
-  first_book : swap_book ls ≡ no_histories d
+  first_book : race_book ls ≡ no_histories d
   first_book = some_histories (new_ledgers d) ∙ none_yet d
 
-  pub first_state : inside_state job ls ts ≡ start (job_cast job)
+  pub first_state : race_state job ls ts ≡ start (job_cast job)
   first_state = λ i. with_parts (first_book i) (all_notes i) (all_plans i)
 
   ledger_is : (a : ℕ) → a < length d.graph.arcs → arc_ledger ls a ≡ Some (new_ledger d a)

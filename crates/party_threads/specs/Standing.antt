@@ -24,8 +24,8 @@ abbrev pub history_in : Option LedgerState → List Entry
 history_in (Some l) = l.history
 history_in None = []
 
-abbrev pub swap_book : List (Option LedgerState) → Histories
-swap_book ls = map history_in ls
+abbrev pub race_book : List (Option LedgerState) → Histories
+race_book ls = map history_in ls
 
 -- what the party has noted, where it conforms
 abbrev pub notes_in : Deal → Actor → Notes
@@ -43,9 +43,9 @@ plan_in d _ = first_plan d kinds.Manual
 abbrev pub plan_at : Deal → List Turn → ℕ → Plan
 plan_at d ts v = plan_in d (actor_at ts v)
 
-abbrev pub inside_state : Job → List (Option LedgerState) → List Turn → State
-inside_state job ls ts = record {
-  book = swap_book ls;
+abbrev pub race_state : Job → List (Option LedgerState) → List Turn → State
+race_state job ls ts = record {
+  book = race_book ls;
   notes = map (notes_at job.deal ts) (range_with_len 0 job.deal.graph.n);
   plans = map (plan_at job.deal ts) (range_with_len 0 job.deal.graph.n);
   asked = [];
@@ -76,8 +76,8 @@ pub record Stands (job : Job) (ls : List (Option LedgerState)) (ts : List Turn) 
   pub free : AreFree job.deal ts
   pub actors : (v : ℕ) → v < job.deal.graph.n → IsActorIn job v (actor_at ts v)
   pub clock : actor_at ts job.deal.graph.n ≡ Clock
-  pub good : IsGood (job_cast job) (inside_state job ls ts)
-  pub own : (v : ℕ) → v < job.deal.graph.n → KnowsOwn v (actor_at ts v) (swap_book ls)
+  pub good : IsGood (job_cast job) (race_state job ls ts)
+  pub own : (v : ℕ) → v < job.deal.graph.n → KnowsOwn v (actor_at ts v) (race_book ls)
 
 -- The history of arc a takes a further tick.
 pub record HasRoom (ticks : ℕ) (h : List Entry) : Type 0 where

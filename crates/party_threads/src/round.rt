@@ -7,7 +7,7 @@ ghost use Rattle.party_threads.specs.Later.{HaveAdvanced};
 ghost use Rattle.party_threads.specs.Ticks.{HaveClocksAdvanced};
 ghost use Rattle.party_threads.specs.Took.{IsSeated, IsSameActor, DidIn, Took};
 ghost use Rattle.party_threads.specs.Race.{IsRound};
-ghost use Rattle.party_threads.specs.Standing.{Stands, AllHaveRoom, swap_book, inside_state};
+ghost use Rattle.party_threads.specs.Standing.{Stands, AllHaveRoom, race_book, race_state};
 
 use crate::clock::take_clock_turn;
 use crate::gate::Gate;
@@ -135,10 +135,10 @@ pub(crate) fn round<R: Threads + Wait + Sync, A: Strategies + Sync, G: Gate>(
     requires below { ticks ≤ 1000 }
     requires stands { Stands job.now ledgers.old turns.old }
     requires held { AreHeld (A.holds staff.now) job.now.roles }
-    requires room { AllHaveRoom ticks job.now.deal (swap_book ledgers.old) }
+    requires room { AllHaveRoom ticks job.now.deal (race_book ledgers.old) }
     ensures stands { OnOk result (Stands job.now ledgers.new turns.new) }
-    ensures round { OnOk result (IsRound (A.gives staff.now) (job_cast job.now) ticks (inside_state job.now ledgers.old turns.old)
-        (inside_state job.now ledgers.new turns.new)) }
+    ensures round { OnOk result (IsRound (A.gives staff.now) (job_cast job.now) ticks (race_state job.now ledgers.old turns.old)
+        (race_state job.now ledgers.new turns.new)) }
 {
     let shared = hand_out(rt, alloc, &job.deal, ledgers, turns)?;
     take_turns(

@@ -9,7 +9,7 @@ ghost use Rattle.swap_world.specs.Cast.{job_cast};
 ghost use Rattle.swap_world.specs.Inside.{new_ledgers};
 ghost use Rattle.swap_world.specs.Actors.{AllFit, AreHeld, ConformingHaveSeeds, HaveRoles, IsFirstOf};
 ghost use Rattle.party_threads.specs.Race.{needed_rounds, IsRaced, IsRaceBook};
-ghost use Rattle.party_threads.specs.Standing.{Stands, swap_book, history_in, inside_state};
+ghost use Rattle.party_threads.specs.Standing.{Stands, race_book, history_in, race_state};
 
 use crate::first_turns::new_turns;
 use crate::gate::Gate;
@@ -60,7 +60,7 @@ fn released_history(ledger: Option<Home>, alloc: Global) -> EntryList
 
 /// The book of the ledgers.
 fn collected_book(alloc: Global, ledgers: Vec<Option<Home>>) -> Result<Book, NoMemory>
-    ensures { IfOk result (λ b. b.histories ≡ swap_book ledgers.items) }
+    ensures { IfOk result (λ b. b.histories ≡ race_book ledgers.items) }
 {
     let mut histories = Vec::new(alloc);
     'ledgers: for ledger in ledgers {
@@ -120,8 +120,8 @@ fn run_rounds<R: Threads + Wait + Sync, A: Strategies + Sync, G: Gate>(
     requires below { ticks ≤ 1000 }
     requires stands { Stands job.now ledgers.old turns.old }
     requires held { AreHeld (A.holds staff.now) job.now.roles }
-    requires first { inside_state job.now ledgers.old turns.old ≡ start (job_cast job.now) }
-    ensures raced { OnOk result (IsRaced (A.gives staff.now) (job_cast job.now) ticks (needed_rounds job.now.deal ticks) (inside_state job.now ledgers.new turns.new)) }
+    requires first { race_state job.now ledgers.old turns.old ≡ start (job_cast job.now) }
+    ensures raced { OnOk result (IsRaced (A.gives staff.now) (job_cast job.now) ticks (needed_rounds job.now.deal ticks) (race_state job.now ledgers.new turns.new)) }
 {
     // In the first round everybody may have something to do.
     let mut calls = usize::MAX;

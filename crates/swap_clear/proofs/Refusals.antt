@@ -19,10 +19,14 @@ use Rattle.swap_clear.specs.declared.fault.ClearReason.{ClearReason}
 use Rattle.swap_clear.specs.declared.fault.ClearReason.TheVariants.{OutOfRange, SelfArc, TooManyLeaders}
 use Rattle.swap_clear.specs.Proposals.{resolve_arc_ends, proposed_graph, to_offer_fault, first_proposal_fault, graph_unless, build_graph}
 use Rattle.swap_clear.specs.Groups.{all_left_out}
-use Rattle.swap_clear.specs.Leaders.{choose_leaders}
+use Rattle.swap_clear.specs.Leaders.{choose_leaders, order}
+use Rattle.swap_clear.specs.Led.{SoManyRemain}
 use Rattle.swap_clear.specs.Clearing.{add_group, cleared_components, cleared_groups}
 use Rattle.swap_clear.specs.Refused.{IsSound, IsFault}
 use Rattle.swap_clear.proofs.Cleared.{sound}
+use Rattle.swap_clear.proofs.Leading.{lead_remain}
+use Rattle.swap_clear.proofs.Places.{own_has_ends}
+use Rattle.swap_clear.proofs.Remaining.{is_order}
 use Rattle.swap_clear.proofs.Gathered.{own_with, is_head, many, add_none, add_one, add_many, the_group}
 
 abbrev pub at_place : List Proposed → ℕ → Proposed
@@ -227,6 +231,16 @@ steps_refused g (suc m) a before reason e =
           before = λ v le lt t. absurd (omega (arith, le, lt));
         })
 
+-- the leaders that the definition gives are what remains
+leaders_remain : (g : Graph) → HasEnds g → (v : ℕ) → v < g.n → SoManyRemain (own_with g v) (length (choose_leaders (own_with g v)))
+leaders_remain g has v low = record {
+  order = order (own_with g v);
+  is_order = is_order (own_with g v) (own_has_ends g has v low);
+  leaders = choose_leaders (own_with g v);
+  remain = lead_remain (own_with g v);
+  many = refl;
+}
+
 many_fault : (g : Graph) (reason : ClearReason) → HasEnds g → IsMany g 0 g.n 0 reason → IsFault g reason
 many_fault g (OutOfRange k) has m = absurd m
 many_fault g (SelfArc k) has m = absurd m
@@ -241,9 +255,9 @@ many_fault g (TooManyLeaders group count) has m = (
         party = omega (arith, high);
         least = m.least;
         number = placed;
-        leaders = m.leaders;
+        leaders = subst (SoManyRemain (own_with g m.head)) (sym m.leaders) (leaders_remain g has m.head (omega (arith, high)));
         many = m.many;
-        before = λ v lt h. m.before v (omega arith) lt h;
+        before = λ v lt h. (length (choose_leaders (own_with g v)), leaders_remain g has v (omega (arith, high, lt)), m.before v (omega arith) lt h);
       },
   λ a lt. (has.from a lt, has.to a lt, has.apart a lt),
 )

@@ -39,6 +39,14 @@ Remain g leaders (v ∷ order) rest =
     (IsFeedback g (without v leaders) × Remain g (without v leaders) order rest)
     ⊎ ((IsFeedback g (without v leaders) → ⊥) × Remain g leaders order rest)
 
+-- So many leaders remain of all parties of the digraph, tried in order.
+pub record SoManyRemain (g : Graph) (count : ℕ) : Type 0 where
+  pub order : List ℕ
+  pub is_order : IsOrder g order
+  pub leaders : List ℕ
+  pub remain : Remain g (parties g) order leaders
+  pub many : length leaders ≡ count
+
 -- The leaders are what remains of all parties, tried in order.
 pub record IsLed (g : Graph) (group : Group) : Type 0 where
   pub ascending : IsStrictlyIncreasing group.leaders

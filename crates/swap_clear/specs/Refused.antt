@@ -6,7 +6,7 @@ use Rattle.swap_base.specs.declared.fault.Fault.TheVariants.{Refused, NoMemory}
 use Rattle.swap_digraph.specs.Value.{Graph}
 use Rattle.swap_digraph.specs.Graph.{ends, first_is}
 use Rattle.swap_clear.specs.Groups.{strong_component, inner_arcs, own_graph}
-use Rattle.swap_clear.specs.Leaders.{choose_leaders}
+use Rattle.swap_clear.specs.Led.{SoManyRemain}
 use Rattle.swap_clear.specs.declared.fault.ClearReason.{ClearReason}
 use Rattle.swap_clear.specs.declared.fault.ClearReason.TheVariants.{OutOfRange, SelfArc, TooManyLeaders}
 
@@ -22,15 +22,16 @@ own_of g v = own_graph g (strong_component g v) (inner_arcs g (strong_component 
 abbrev pub is_least : Graph → ℕ → Bool
 is_least g v = first_is v (strong_component g v) && not (length (inner_arcs g (strong_component g v)) == 0)
 
--- The group with that number, by its least party, has so many leaders, more than 8; each group before it has at most 8.
+-- Of the group with that number, by its least party, so many leaders remain when its parties are dropped in order, more than 8; of each group before it at
+-- most 8 do.
 pub record IsTooMany (g : Graph) (group count : ℕ) : Type 0 where
   pub head : ℕ
   pub party : head < g.n
   pub least : IsTrue (is_least g head)
   pub number : group ≡ length (filter (is_least g) (range_with_len 0 head))
-  pub leaders : count ≡ length (choose_leaders (own_of g head))
+  pub leaders : SoManyRemain (own_of g head) count
   pub many : 8 < count
-  pub before : (v : ℕ) → v < head → IsTrue (is_least g v) → length (choose_leaders (own_of g v)) ≤ 8
+  pub before : (v : ℕ) → v < head → IsTrue (is_least g v) → (few : ℕ) × SoManyRemain (own_of g v) few × (few ≤ 8)
 
 -- The arc has that fault: an end that is no party, or else one party at both ends. Too many leaders are of a digraph whose arcs are sound.
 abbrev pub IsFault : Graph → ClearReason → Type 0

@@ -1,10 +1,13 @@
 -- What several swaps promise of what is shown of them: the laws of their run by the histories of the chains.
-use Rattle.std.proofs.Common.{◌≡◌, ◌<◌, ℕ, false, List, length, sym, ap, subst}
+use Rattle.std.proofs.Common.{◌≡◌, ◌<◌, ℕ, false, List, [], length, sym, ap, arith, subst}
 use Rattle.std.specs.List.{All}
 use Rattle.ledger_core.specs.Book.{Histories}
 use Rattle.swap_job.specs.declared.job.Finish.{Finish}
 use Rattle.swap_job.specs.declared.job.Finish.TheVariants.{Stop, Fair}
+use Rattle.swap_rules.specs.Findings.{findings}
 use Rattle.swap_rules.specs.Outcome.{IsEnded}
+use Rattle.outcome_rules.specs.Report.{conforms_in, build_report}
+use Rattle.outcome_rules.specs.Promises.{AllAreConforming}
 use Rattle.swap_run.specs.Asked.{Answers, with_answers}
 use Rattle.swap_run.specs.Run.{Cast, State}
 use Rattle.swap_run.specs.Laws.{IsKept}
@@ -12,18 +15,19 @@ use Rattle.swap_world.specs.Cast.{job_cast}
 use Rattle.swap_many.specs.declared.many_event.ManyEvent.{ManyEvent}
 use Rattle.swap_many.specs.declared.place.Place.{Place}
 use Rattle.swap_many.specs.Chains.{Setup, book}
-use Rattle.swap_many.specs.Many.{Run}
-use Rattle.swap_many.specs.Kept.{Kept, kept_run}
+use Rattle.swap_many.specs.Many.{Run, many_finish, many_start}
+use Rattle.swap_many.specs.Kept.{Kept, kept_finish, kept_run, kept_start}
 use Rattle.swap_many.specs.Laws.{CanCome, Follows, IsReady}
 use Rattle.swap_many.specs.Value.{UnitsArePlacedIn}
 use Rattle.swap_many.proofs.Follow.{books_are_kept, runs_follow}
 use Rattle.swap_many.proofs.Finish.{many_finishes_end}
 use Rattle.swap_many.proofs.Units.{units_are_placed}
+use Rattle.swap_many.proofs.Dealt.{every_fair_swap_is_dealt}
 use Rattle.many_lines.specs.Places.{job_at}
 use Rattle.many_lines.specs.Setup.{setup_by}
 use Rattle.many_lines.specs.Whole.{AreSwaps}
 use Rattle.many_lines.specs.declared.many_job.ManyJob.{ManyJob}
-use Rattle.many_text.specs.ManyText.{swap_book}
+use Rattle.many_text.specs.ManyText.{swap_book, report_in}
 use Rattle.swap_commands.specs.Many.{ended_by, many_state, run_to}
 use Rattle.swap_commands.specs.Promised.{AreManyPromised}
 use Rattle.swap_commands.proofs.Promises.{is_promised}
@@ -78,3 +82,20 @@ module _ (many : ManyJob) (g : ℕ → Answers) (places : List (List Place)) (ev
       subst (λ (b : Histories). IsEnded (job_at many.jobs s).deal b)
       (book_is m (run_to finish m events) (many_state g many places finish events) s (all_holds m events ready can finish).follows l)
       (all_ended m events ready can finish fair s l)
+
+  -- a swap whose parties all conform, where the finish is fair and no event came before it
+  fair_dealt : (s : ℕ) → s < length many.jobs → AllAreConforming (job_at many.jobs s).deal (job_at many.jobs s).conforming
+      → (report_in (many_state g many places Fair []) s (job_at many.jobs s)).findings ≡ []
+  unfolding build_report
+  fair_dealt s l all =
+      let m : Setup = setup_by g many places in
+      let job = job_at many.jobs s in
+      let f = many_finishes_end m [] ready (λ i x low. absurd (omega (arith, low))) in
+      subst (λ (b : Histories). findings job.deal (conforms_in job.conforming) b ≡ [])
+      (book_is m (many_finish m (many_start m)) (kept_finish m (kept_start m)) s f.follows l) (every_fair_swap_is_dealt m s ready l all).nothing
+
+  pub are_fair : finish ≡ Fair → events ≡ [] → (s : ℕ) → s < length many.jobs → AllAreConforming (job_at many.jobs s).deal (job_at many.jobs s).conforming
+      → (report_in (many_state g many places finish events) s (job_at many.jobs s)).findings ≡ []
+  are_fair fair none s l all =
+      subst (λ (x : Finish × List ManyEvent). (report_in (many_state g many places x.0 x.1) s (job_at many.jobs s)).findings ≡ [])
+      (λ i. (sym fair i, sym none i)) (fair_dealt s l all)

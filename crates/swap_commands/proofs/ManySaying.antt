@@ -31,7 +31,7 @@ use Rattle.command_input.specs.declared.fault.InputFault.{InputFault}
 use Rattle.command_input.specs.declared.status.Status.{Status}
 use Rattle.command_input.specs.Streams.{streams}
 use Rattle.swap_commands.specs.Words.{Many}
-use Rattle.swap_commands.proofs.ManyPromises.{are_ended, are_promised}
+use Rattle.swap_commands.proofs.ManyPromises.{are_ended, are_fair, are_promised}
 use Rattle.swap_commands.proofs.ManyTold.{fails_with}
 use Rattle.swap_commands.proofs.ManyWorlds.{all_can, kept_before, new_are_of, new_at}
 use Rattle.swap_commands.proofs.Reading.{set_contains_ends}
@@ -208,6 +208,7 @@ module _ (has : List ℕ → Bool) where
           shown = ap (many_written many) state_is;
           promised = are_promised many g places k.events swaps (k.begun.ready g) can finish;
           ended = are_ended many g places k.events swaps (k.begun.ready g) can finish;
+          fair = are_fair many g places k.events swaps (k.begun.ready g) can finish;
         }
 
     pub many_made : output_by has (by_many g) Many bytes ≡ Ok (many_written many (kept_state last))

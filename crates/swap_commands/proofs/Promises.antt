@@ -29,7 +29,8 @@ use Rattle.made_jobs.specs.Making.{copied, line_step, with_line, written_line, I
 use Rattle.made_jobs.proofs.Copying.{lines_put}
 use Rattle.offer_fields.proofs.Chains.{went}
 use Rattle.command_input.specs.Written.{Written}
-use Rattle.swap_commands.specs.Output.{AreGiven, command_cast, inside_state, collected_book, finished, story_report, reported, told}
+use Rattle.swap_commands.specs.Output.{AreGiven, command_cast, run_state, collected_book, finished, story_report, reported, told}
+use Rattle.swap_commands.specs.Recorded.{AreRecorded}
 use Rattle.swap_commands.specs.Promised.{IsPromised, IsRace, IsRun, IsCheck, IsMaking}
 use Rattle.party_threads.specs.Race.{IsRaceBook}
 use Rattle.swap_commands.specs.Replay.{passed_over, replayed}
@@ -81,18 +82,20 @@ module _ (has : List ℕ → Bool) where
 
   -- what was read, the book that is shown, and what the world promised of it
   world_run : (gives : MayGive) (a : Answers) (transcript : Bool) (job : Job) (events : List Event) (read : Result (Job × List Event) Reason) (b : Histories)
-      (output : Written) → read ≡ Ok (job, events) → AreGiven gives job.deal a (inside_state a job events).asked → b ≡ collected_book a job events
+      (output : Written) → read ≡ Ok (job, events) → AreGiven gives job.deal a (run_state a job events).asked → b ≡ collected_book a job events
       → output ≡ reported transcript job b → IsAccepted job.deal → IsKept (job_cast job) b
+      → AreRecorded (command_cast a job) (run_state a job events)
       → (job.finish ≡ Fair → IsEnded job.deal b) → (job.finish ≡ Fair → events ≡ [] → AllAreConforming job.deal job.conforming
       → IsDealt job.deal (conforms_in job.conforming) b) → IsRun gives a transcript read output
   unfolding build_report
-  world_run gives a transcript job events read b output r given same shown k kept ended dealt = record {
+  world_run gives a transcript job events read b output r given same shown k kept disks ended dealt = record {
     job = job;
     events = events;
     is_read = r;
     given = given;
     shown = shown ∙ ap (λ (b : Histories). reported transcript job b) same;
     promised = is_promised job (collected_book a job events) k (subst (λ (b : Histories). IsKept (job_cast job) b) same kept);
+    recorded = disks;
     ended = λ fair. subst (λ (b : Histories). IsEnded job.deal b) same (ended fair);
     fair = λ fair none all. subst (λ (b : Histories). findings job.deal (conforms_in job.conforming) b ≡ []) same (dealt fair none all).nothing;
   }
@@ -102,15 +105,17 @@ module _ (has : List ℕ → Bool) where
       → job_header_of has purposes.Run line text ≡ Ok job → replayed (step (command_cast a job)) job 0 (start (job_cast job)) ls ≡ Ok s
       → AreGiven gives job.deal a (finished job.finish (command_cast a job) s).asked → b ≡ (finished job.finish (command_cast a job) s).book
       → output ≡ reported transcript job b → IsAccepted job.deal → IsKept (job_cast job) b
+      → AreRecorded (command_cast a job) (finished job.finish (command_cast a job) s)
       → (job.finish ≡ Fair → IsEnded job.deal b)
       → (job.finish ≡ Fair → s ≡ start (job_cast job) → AllAreConforming job.deal job.conforming → IsDealt job.deal (conforms_in job.conforming) b)
       → IsRun gives a transcript (job_of_lines has purposes.Run ((line, text) ∷ ls)) output
-  is_run gives a transcript line text ls job s b output h r given same shown k kept ended dealt =
+  is_run gives a transcript line text ls job s b output h r given same shown k kept disks ended dealt =
       let p = replayed_by (step (command_cast a job)) job (start (job_cast job)) s ls r in
       world_run gives a transcript job p.events (job_of_lines has purposes.Run ((line, text) ∷ ls)) b output
       (read_of (job_header_of has purposes.Run line text) (λ j. parse_events j 0 ls) job p.events h p.read)
       (subst (λ (s : State). AreGiven gives job.deal a (finished job.finish (command_cast a job) s).asked) p.leads given)
-      (same ∙ ap (λ (s : State). (finished job.finish (command_cast a job) s).book) p.leads) shown k kept ended
+      (same ∙ ap (λ (s : State). (finished job.finish (command_cast a job) s).book) p.leads) shown k kept
+      (subst (λ (s : State). AreRecorded (command_cast a job) (finished job.finish (command_cast a job) s)) p.leads disks) ended
       (λ fair none. dealt fair (p.leads ∙ ap (λ (es : List Event). fold (step (command_cast a job)) (start (job_cast job)) es) none))
 
   -- A race.

@@ -36,6 +36,7 @@ use Rattle.made_jobs.specs.Generating.{IsOf}
 use Rattle.made_jobs.proofs.Copying.{made_is}
 use Rattle.swap_commands.specs.Output.{AreGiven, Chance, command_cast, command_purpose, finished, collected_book, reported, told, output_by}
 use Rattle.swap_commands.specs.Output.{job_output, plain_text}
+use Rattle.swap_commands.specs.Recorded.{AreRecorded}
 use Rattle.swap_commands.specs.Replay.{replayed, next_by, passed_over, IsConcluded, of_run, of_race, of_check, of_lines, of_make}
 
 regroup : {A : Type 0} (f : A → Event → A) (x : A) (next : Result Event Reason) (rest : Result (List Event) Reason) →
@@ -194,8 +195,8 @@ module _ (gives : MayGive) (job : Job) (w new : WorldState) (k : IsOf job w) whe
 
   -- after the job's finish
   pub concluded : (b : Histories) → b ≡ new.state.book → HasAsked gives (new_world job) w → HasGone gives (finished job.finish) w new
-      → IsConcluded gives job w b
-  concluded b is asked h =
+      → AreRecorded (world_cast new) new.state → IsConcluded gives job w b
+  concluded b is asked h kept =
       let a = world_answers new in
       let state : new.state ≡ finished job.finish (command_cast a job) w.state =
       h.state a (λ i l. refl) ∙ ap (λ (c : Cast). finished job.finish c w.state) (for_job a) in
@@ -206,13 +207,16 @@ module _ (gives : MayGive) (job : Job) (w new : WorldState) (k : IsOf job w) whe
         given = subst (λ (s : State). AreGiven gives job.deal a s.asked) state
             (are_given gives job.deal all.more new.state.asked new.answers all.questions all.answers all.may);
         book = is ∙ ap (λ (s : State). s.book) state;
+        recorded =
+            subst (AreRecorded (command_cast a job)) state
+            (subst (λ (c : Cast). AreRecorded c new.state) (same_cast job new (is_of_still (finished job.finish) h)) kept);
       }
 
   -- the book of the world
   pub concluded_book : {E : Type 0} (r : Result Book E) → IfOk r (λ b. b.histories ≡ new.state.book) → HasAsked gives (new_world job) w
-      → HasGone gives (finished job.finish) w new → IfOk r (λ b. IsConcluded gives job w b.histories)
-  concluded_book (Ok b) is asked h = concluded b.histories is asked h
-  concluded_book (Err e) is asked h = tt
+      → HasGone gives (finished job.finish) w new → AreRecorded (world_cast new) new.state → IfOk r (λ b. IsConcluded gives job w b.histories)
+  concluded_book (Ok b) is asked h kept = concluded b.histories is asked h kept
+  concluded_book (Err e) is asked h kept = tt
 
 pub kept_book : {E : Type 0} (job : Job) (w : WorldState) → IsOf job w → (r : Result Book E) → IfOk r (λ b. b.histories ≡ w.state.book)
     → IsKept (world_cast w) w.state.book → IfOk r (λ b. IsKept (job_cast job) b.histories)

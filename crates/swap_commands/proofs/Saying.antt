@@ -29,6 +29,7 @@ use Rattle.command_input.specs.declared.fault.InputFault.{InputFault}
 use Rattle.command_input.specs.declared.fault.InputFault.TheVariants as fault
 use Rattle.command_input.proofs.Streams.{calm_unread, has_stopped}
 use Rattle.swap_commands.specs.Output.{AreGiven, Chance, by_answers, by_book, command_cast, finished, no_chance, output_by, reported, told, plain_text}
+use Rattle.swap_commands.specs.Recorded.{AreRecorded}
 use Rattle.swap_commands.specs.Promised.{AsPromised}
 use Rattle.swap_commands.specs.Says.{HasRead, IsAgainst, Says}
 use Rattle.command_input.specs.Written.{Writes, Written}
@@ -119,11 +120,12 @@ module _ (has : List ℕ → Bool) where
     says_played : (a : Answers) (now : At) (job : Job) (s : State) (b : Histories) (status : Status)
         (e : Ends (λ bytes. IsPlayed has a bytes job s) (desk left n fresh) (desk left' m now))
         → AreGiven gives job.deal a (finished job.finish (command_cast a job) s).asked
-        → b ≡ (finished job.finish (command_cast a job) s).book → IsAccepted job.deal → IsKept (job_cast job) b → (job.finish ≡ Fair → IsEnded job.deal b)
+        → b ≡ (finished job.finish (command_cast a job) s).book → IsAccepted job.deal → IsKept (job_cast job) b
+        → AreRecorded (command_cast a job) (finished job.finish (command_cast a job) s) → (job.finish ≡ Fair → IsEnded job.deal b)
         → (job.finish ≡ Fair → s ≡ start (job_cast job) → AllAreConforming job.deal job.conforming → IsDealt job.deal (conforms_in job.conforming) b)
         → Writes taken taken' p q (reported transcript job b) status
         → Says (strategies has gives) (OfJob (Run transcript)) (streams left n taken p) (streams left' m taken' q) status
-    says_played a now job s b status e given same k kept ended dealt w =
+    says_played a now job s b status e given same k kept disks ended dealt w =
         let out : Written = reported transcript job b in
         let made : output_by has (by_answers a) (OfJob (Run transcript)) e.bytes ≡ Ok out =
         gives_run has a transcript e.bytes job s e.told ∙ ap (λ (x : Histories). Ok (reported transcript job x)) (sym same) in
@@ -136,7 +138,8 @@ module _ (has : List ℕ → Bool) where
           gives = made;
         })
         (run_of_bytes has gives a transcript e.bytes ((e.told.line, e.told.text) ∷ e.told.others) out e.told.lines
-        (is_run has gives a transcript e.told.line e.told.text e.told.others job s b out e.told.header e.told.leads given same refl k kept ended dealt))
+        (is_run has gives a transcript e.told.line e.told.text e.told.others job s b out e.told.header e.told.leads given same refl k kept disks
+        ended dealt))
         status w
 
     -- the answers are those with which the world was finished
@@ -149,7 +152,7 @@ module _ (has : List ℕ → Bool) where
         → Writes taken taken' p q (reported transcript job b) status
         → Says (strategies has gives) (OfJob (Run transcript)) (streams left n taken p) (streams left' m taken' q) status
     says_run now job world b status e c k kept ended dealt w =
-        says_played c.answers now job world.state b status (e c.answers c.continues) c.given c.book k kept ended dealt w
+        says_played c.answers now job world.state b status (e c.answers c.continues) c.given c.book k kept c.recorded ended dealt w
 
   pub says_race : (gives : MayGive) (ticks : ℕ) (transcript : Bool) (left left' : Option (List ℕ)) (n m : ℕ) (taken taken' : Option (List ℕ)) (p q : ℕ)
       (job : Job) (b : Histories) (status : Status) → HasEntered has left left' job → IsAccepted job.deal → job.purpose ≡ purposes.Race

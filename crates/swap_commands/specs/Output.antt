@@ -66,12 +66,12 @@ abbrev pub command_cast : Answers → Job → Cast
 command_cast a job = with_answers (job_cast job) a
 
 -- the state to which a job's run leads: after its events, and then after its finish
-abbrev pub inside_state : Answers → Job → List Event → State
-inside_state a job events = finished job.finish (command_cast a job) (run (command_cast a job) events)
+abbrev pub run_state : Answers → Job → List Event → State
+run_state a job events = finished job.finish (command_cast a job) (run (command_cast a job) events)
 
 -- its histories
 abbrev pub collected_book : Answers → Job → List Event → Histories
-collected_book a job events = (inside_state a job events).book
+collected_book a job events = (run_state a job events).book
 
 -- each answer to these questions is one that its strategy may give
 abbrev pub AreGiven : MayGive → Deal → Answers → List Question → Type 0

@@ -37,7 +37,8 @@ use Rattle.many_text.specs.ManyText.{swap_book, report_in}
 use Rattle.party_threads.specs.Race.{IsRaceBook}
 use Rattle.swap_commands.specs.Cleared.{IsClearing}
 use Rattle.swap_commands.specs.Many.{Headed, events_told, headed, many_state, many_written, opened_places, run_to}
-use Rattle.swap_commands.specs.Output.{AreGiven, Chance, collected_book, inside_state, command_purpose, story_report, reported, told}
+use Rattle.swap_commands.specs.Recorded.{AreRecorded}
+use Rattle.swap_commands.specs.Output.{AreGiven, Chance, collected_book, command_cast, run_state, command_purpose, story_report, reported, told}
 use Rattle.made_jobs.specs.Making.{IsMade}
 use Rattle.swap_commands.specs.Words.{Command, OfJob, Audit, Clear, Many, JobCommand, Check, Run, Race, Make}
 
@@ -62,9 +63,11 @@ pub record IsRun (gives : MayGive) (a : Answers) (transcript : Bool) (read : Res
   pub events : List Event
   pub is_read : read ≡ Ok (job, events)
   -- each answer is one that its strategy may give to what it was asked
-  pub given : AreGiven gives job.deal a (inside_state a job events).asked
+  pub given : AreGiven gives job.deal a (run_state a job events).asked
   pub shown : output ≡ reported transcript job (collected_book a job events)
   pub promised : IsPromised job (collected_book a job events) (story_report job (collected_book a job events))
+  -- whatever crashes came, the disk of each conforming party has recorded each hashkey that the party presented
+  pub recorded : AreRecorded (command_cast a job) (run_state a job events)
   -- a fair finish ends every ledger
   pub ended : job.finish ≡ Fair → IsEnded job.deal (collected_book a job events)
   -- and where all conform and no event came before it, nothing is found
@@ -123,6 +126,10 @@ pub record IsManyRun (has : List ℕ → Bool) (gives : MayGive) (g : ℕ → An
   -- a fair finish ends every ledger of every swap
   pub ended : head.finish ≡ Fair → (s : ℕ) → s < length head.many.jobs
       → IsEnded (job_at head.many.jobs s).deal (swap_book (many_state g head.many places head.finish events) s)
+  -- and of a swap whose parties all conform it finds nothing, where no event came before it
+  pub fair : head.finish ≡ Fair → events ≡ [] → (s : ℕ) → s < length head.many.jobs
+      → AllAreConforming (job_at head.many.jobs s).deal (job_at head.many.jobs s).conforming
+      → (report_in (many_state g head.many places head.finish events) s (job_at head.many.jobs s)).findings ≡ []
 
 -- what the output of a command promises, by what was read of a job
 abbrev pub AsRead : MayGive → Chance → JobCommand → Result (Job × List Event) Reason → Written → Type 0

@@ -18,6 +18,7 @@ use Rattle.swap_world.specs.Value.{Continues, WorldState}
 use Rattle.swap_gen.specs.Made.{made}
 use Rattle.made_jobs.specs.Making.{copied, written_line}
 use Rattle.swap_commands.specs.Output.{AreGiven, Chance, command_cast, finished, plain_text, reported, told}
+use Rattle.swap_commands.specs.Recorded.{AreRecorded}
 use Rattle.command_input.specs.Written.{Written}
 use Rattle.swap_commands.specs.Words.{JobCommand, Check, Run, Race, Make}
 
@@ -29,12 +30,14 @@ replayed f job count x lines = parse_events job count lines >>= λ events. Ok (f
 unfoldable pub next_by : {A : Type 0} → (A → Event → A) → Job → ℕ → A → ℕ → List ℕ → Result A Reason
 next_by f job count x line text = limited_event job count line text >>= λ e. Ok (f x e)
 
--- The world w was finished with these histories, where strategies answered so, with each answer one that may be given.
+-- The world w was finished with these histories, where strategies answered so, with each answer one that may be given, and the disks have recorded what
+-- the conforming parties presented.
 pub record IsConcluded (gives : MayGive) (job : Job) (w : WorldState) (b : Histories) : Type 0 where
   pub answers : Answers
   pub continues : Continues w answers
   pub given : AreGiven gives job.deal answers (finished job.finish (command_cast answers job) w.state).asked
   pub book : b ≡ (finished job.finish (command_cast answers job) w.state).book
+  pub recorded : AreRecorded (command_cast answers job) (finished job.finish (command_cast answers job) w.state)
 
 -- an event is read and passed over
 abbrev pub passed_over : Unit {0} → Event → Unit {0}

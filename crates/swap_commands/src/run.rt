@@ -18,13 +18,14 @@ ghost use Rattle.swap_run.specs.Asked.{Answers};
 ghost use Rattle.swap_world.specs.Cast.{job_cast};
 ghost use Rattle.swap_world.specs.Gone.{HasAsked};
 ghost use Rattle.swap_world.specs.Actors.{AreHeld};
-ghost use Rattle.swap_world.specs.Value.{Continues, new_world};
+ghost use Rattle.swap_world.specs.Value.{Continues, world_cast, new_world};
 ghost use Rattle.swap_offer.specs.Job.{IsWholeJob};
 ghost use Rattle.command_input.specs.Input.{Ends, Stops, desk, fresh};
 ghost use Rattle.command_input.specs.Written.{Writes};
 ghost use Rattle.command_input.specs.Streams.{streams};
 ghost use Rattle.made_jobs.specs.Generating.{IsOf};
 ghost use Rattle.swap_commands.specs.Output.{story_report, reported, run_text};
+ghost use Rattle.swap_commands.specs.Recorded.{AreRecorded};
 ghost use Rattle.swap_commands.specs.Replay.{IsConcluded, IsPlayed};
 ghost use Rattle.swap_commands.specs.Says.{IsAgainst, Says};
 ghost use Rattle.swap_commands.specs.Words.{OfJob, Run};
@@ -79,6 +80,18 @@ fn play<S: Source, A: Strategies>(
     }
 }
 
+/// Looks at the disk of each conforming party, which has recorded what that party presented.
+fn look_at_disks(world: &World)
+    requires { world.now.stopped ≡ false }
+    ensures { AreRecorded (world_cast world.now) world.now.state }
+{
+    'parties: for party in 0..world.deal().graph.n() {
+        if world.conforms(party) {
+            let _disk = world.disk(party);
+        }
+    }
+}
+
 /// The book of a world after the job's finish.
 fn conclude<A: Strategies>(
     alloc: Global,
@@ -97,6 +110,7 @@ fn conclude<A: Strategies>(
         → IsDealt job.now.deal (conforms_in job.now.conforming) b.histories) }
 {
     finish(&mut world, staff, job)?;
+    look_at_disks(&world);
     world.into_book(alloc)
 }
 

@@ -31,14 +31,14 @@ use Rattle.command_input.specs.Written.{Written}
 use Rattle.swap_main.specs.Laws.{SameWithoutStrategies, RulesDecide}
 use Rattle.swap_main.specs.Known.{by_rule}
 use Rattle.swap_main.proofs.ManyTexts.{one_text}
-use Rattle.swap_commands.specs.Output.{AreGiven, Chance, command_cast, finished, output_by, job_output, reported, inside_state}
+use Rattle.swap_commands.specs.Output.{AreGiven, Chance, command_cast, finished, output_by, job_output, reported, run_state}
 use Rattle.swap_commands.specs.Words.{OfJob, Audit, Clear, Many, Check, Run, Race, Make}
 use Rattle.swap_main.proofs.ManyDecided.{as_before}
 
 -- What is written depends on the state alone.
 
 written_for : (a b : Chance) (transcript : Bool) (job : Job) (events : List Event) (read : Result (Job × List Event) Reason) (ls : List (ℕ × List ℕ))
-    → read ≡ Ok (job, events) → inside_state a.answers job events ≡ inside_state b.answers job events
+    → read ≡ Ok (job, events) → run_state a.answers job events ≡ run_state b.answers job events
     → job_output a (Run transcript) ls read ≡ job_output b (Run transcript) ls read
 written_for a b transcript job events read ls is same =
     ap (λ (r : Result (Job × List Event) Reason). job_output a (Run transcript) ls r) is
@@ -46,7 +46,7 @@ written_for a b transcript job events read ls is same =
     ∙ sym (ap (λ (r : Result (Job × List Event) Reason). job_output b (Run transcript) ls r) is))
 
 written_same : (has : List ℕ → Bool) (a b : Chance) (transcript : Bool) (input : List ℕ) (job : Job) (events : List Event)
-    → parse_job has purposes.Run input ≡ Ok (job, events) → inside_state a.answers job events ≡ inside_state b.answers job events
+    → parse_job has purposes.Run input ≡ Ok (job, events) → run_state a.answers job events ≡ run_state b.answers job events
     → output_by has a (OfJob (Run transcript)) input ≡ output_by has b (OfJob (Run transcript)) input
 unfolding output_by
 written_same has a b transcript input job events is same =
@@ -60,7 +60,7 @@ plain_finish Stop job a s none = refl
 plain_finish Fair job a s none = finishes_without_strategies (job_cast job) a s none
 
 plain_state : (job : Job) (a : Answers) (events : List Event) → list_any is_strategy job.roles ≡ false
-    → inside_state a job events ≡ finished job.finish (job_cast job) (run (job_cast job) events)
+    → run_state a job events ≡ finished job.finish (job_cast job) (run (job_cast job) events)
 plain_state job a events none =
     ap (λ (s : State). finished job.finish (command_cast a job) s) (runs_without_strategies (job_cast job) a (start (job_cast job)) events none)
     ∙ plain_finish job.finish job a (run (job_cast job) events) none
@@ -117,7 +117,7 @@ late rule c s t u b by = λ i q lo hi is. let l = begins_length s.asked t.asked 
 
 -- all that a run asks is answered by the rule
 abbrev IsRunByRule : Rule → Answers → Job → List Event → Type 0
-IsRunByRule rule a job events = IsByRule rule (command_cast a job) (start (job_cast job)) (inside_state a job events)
+IsRunByRule rule a job events = IsByRule rule (command_cast a job) (start (job_cast job)) (run_state a job events)
 
 module _ (rule : Rule) (job : Job) (a b : Answers) (events : List Event) where
   abbrev mid : Answers → State
@@ -126,22 +126,22 @@ module _ (rule : Rule) (job : Job) (a b : Answers) (events : List Event) where
   mids : IsRunByRule rule a job events → IsRunByRule rule b job events → mid b ≡ mid a
   mids k l =
       rules_decide_runs rule (command_cast a job) b (start (job_cast job)) events
-      (early rule (command_cast a job) (start (job_cast job)) (mid a) (inside_state a job events) (finished_begins job.finish (command_cast a job) (mid a)) k)
-      (early rule (command_cast b job) (start (job_cast job)) (mid b) (inside_state b job events) (finished_begins job.finish (command_cast b job) (mid b)) l)
+      (early rule (command_cast a job) (start (job_cast job)) (mid a) (run_state a job events) (finished_begins job.finish (command_cast a job) (mid a)) k)
+      (early rule (command_cast b job) (start (job_cast job)) (mid b) (run_state b job events) (finished_begins job.finish (command_cast b job) (mid b)) l)
 
   ends : (fin : Finish) (s : State) → IsByRule rule (command_cast a job) s (finished fin (command_cast a job) s)
       → IsByRule rule (command_cast b job) s (finished fin (command_cast b job) s) → finished fin (command_cast b job) s ≡ finished fin (command_cast a job) s
   ends Stop s k l = refl
   ends Fair s k l = rules_decide_finishes rule (command_cast a job) b s k l
 
-  same_state : IsRunByRule rule a job events → IsRunByRule rule b job events → inside_state a job events ≡ inside_state b job events
+  same_state : IsRunByRule rule a job events → IsRunByRule rule b job events → run_state a job events ≡ run_state b job events
   same_state k l =
       let e : mid b ≡ mid a = mids k l in
       let after : IsByRule rule (command_cast b job) (mid b) (finished job.finish (command_cast b job) (mid b)) =
-      late rule (command_cast b job) (start (job_cast job)) (mid b) (inside_state b job events) (run_begins (command_cast b job) (start
+      late rule (command_cast b job) (start (job_cast job)) (mid b) (run_state b job events) (run_begins (command_cast b job) (start
       (job_cast job)) events) l in
       sym (ap (λ (s : State). finished job.finish (command_cast b job) s) e ∙ ends job.finish (mid a)
-      (late rule (command_cast a job) (start (job_cast job)) (mid a) (inside_state a job events) (run_begins (command_cast a job) (start
+      (late rule (command_cast a job) (start (job_cast job)) (mid a) (run_state a job events) (run_begins (command_cast a job) (start
       (job_cast job)) events) k)
       (subst (λ (s : State). IsByRule rule (command_cast b job) s (finished job.finish (command_cast b job) s)) e after))
 
@@ -150,13 +150,13 @@ abbrev of_question : (List ℕ → Deal → ℕ → ℕ → Histories → Option
 of_question rule d q = rule q.strategy d q.party q.turn q.known
 
 signature_matches : (rule : List ℕ → Deal → ℕ → ℕ → Histories → Option (ℕ × Call)) (a : Answers) (job : Job) (events : List Event)
-    → AreGiven (by_rule rule) job.deal a (inside_state a job events).asked → IsRunByRule (of_question rule) a job events
+    → AreGiven (by_rule rule) job.deal a (run_state a job events).asked → IsRunByRule (of_question rule) a job events
 signature_matches rule a job events given = λ i q lo hi is. given i q hi is
 
 one_run : (rule : List ℕ → Deal → ℕ → ℕ → Histories → Option (ℕ × Call)) (has : List ℕ → Bool) (a b : Chance) (transcript : Bool) (input : List ℕ)
     (job other : Job) (events others : List Event) → parse_job has purposes.Run input ≡ Ok (job, events) → parse_job has purposes.Run input ≡ Ok (other, others)
-    → AreGiven (by_rule rule) job.deal a.answers (inside_state a.answers job events).asked
-    → AreGiven (by_rule rule) other.deal b.answers (inside_state b.answers other others).asked
+    → AreGiven (by_rule rule) job.deal a.answers (run_state a.answers job events).asked
+    → AreGiven (by_rule rule) other.deal b.answers (run_state b.answers other others).asked
     → output_by has a (OfJob (Run transcript)) input ≡ output_by has b (OfJob (Run transcript)) input
 one_run rule has a b transcript input job other events others is is' given given' =
     let read : ◌≡◌ {A = Result (Job × List Event) Reason} (Ok (other, others)) (Ok (job, events)) = sym is' ∙ is in
@@ -164,7 +164,7 @@ one_run rule has a b transcript input job other events others is is' given given
     written_same has a b transcript input job events is
     (same_state (of_question rule) job a.answers b.answers events (signature_matches rule a.answers job events given)
     (signature_matches rule b.answers job events
-    (subst (λ (j : Job × List Event). AreGiven (by_rule rule) j.0.deal b.answers (inside_state b.answers j.0 j.1).asked) same given')))
+    (subst (λ (j : Job × List Event). AreGiven (by_rule rule) j.0.deal b.answers (run_state b.answers j.0 j.1).asked) same given')))
 
 as_one : (one other : Written) → ◌≡◌ {A = Result Written Reason} (Ok one) (Ok other) → one ≡ other
 as_one one other e = cc e

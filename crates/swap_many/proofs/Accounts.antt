@@ -3,7 +3,7 @@ use Rattle.std.proofs.Common.{◌≡◌, ◌≢◌, ◌⊎◌, ℕ, suc, zero, �
 use Rattle.std.proofs.Common.{slice_index_or}
 use Rattle.std.proofs.lemmas.List.{get_or-set_same, get_or-set_other, length-set}
 use Rattle.swap_rules.proofs.Prefixes.{same_or_not}
-use Rattle.swap_many.specs.Accounts.{parse_units}
+use Rattle.swap_many.specs.Accounts.{account_units}
 use Rattle.swap_many.specs.Chains.{put, paid}
 use Rattle.swap_many.proofs.Projections.{put_same, put_other}
 
@@ -26,10 +26,10 @@ any_default (x ∷ xs) (suc i) d e l = any_default xs i d e (omega arith)
 
 pub paid_set : (xs : List ℕ) (f t u have now : ℕ) → f < length xs → t < length xs → have ≡ slice_index_or xs f have
     → now ≡ slice_index_or (slice_set xs f (have - u)) t now
-    → parse_units (slice_set (slice_set xs f (have - u)) t (now + u)) ≡ paid (parse_units xs) f t u
+    → account_units (slice_set (slice_set xs f (have - u)) t (now + u)) ≡ paid (account_units xs) f t u
 paid_set xs f t u have now lf lt e q =
     let longer : t < length (slice_set xs f (have - u)) = subst (λ n. t < n) (sym (length-set xs f (have - u))) lt in
     set_is_put 0 (slice_set xs f (have - u)) t (now + u) longer
-    ∙ (ap (λ n. put (parse_units (slice_set xs f (have - u))) t (n + u)) (q ∙ any_default (slice_set xs f (have - u)) t now 0 longer)
+    ∙ (ap (λ n. put (account_units (slice_set xs f (have - u))) t (n + u)) (q ∙ any_default (slice_set xs f (have - u)) t now 0 longer)
     ∙ (ap (λ g. put g t (g t + u)) (set_is_put 0 xs f (have - u) lf)
-    ∙ ap (λ h. put (put (parse_units xs) f (h - u)) t (put (parse_units xs) f (h - u) t + u)) (e ∙ any_default xs f have 0 lf)))
+    ∙ ap (λ h. put (put (account_units xs) f (h - u)) t (put (account_units xs) f (h - u) t + u)) (e ∙ any_default xs f have 0 lf)))

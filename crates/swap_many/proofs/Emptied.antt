@@ -16,7 +16,7 @@ use Rattle.swap_world.specs.Gone.{MayGive}
 use Rattle.swap_many.specs.declared.many_event.ManyEvent.TheVariants.{Sweep}
 use Rattle.swap_many.specs.declared.many_reply.ManyReply.{ManyReply}
 use Rattle.swap_many.specs.declared.many_reply.ManyReply.TheVariants.{Plain}
-use Rattle.swap_many.specs.Accounts.{ChainState, parse_units}
+use Rattle.swap_many.specs.Accounts.{ChainState, account_units}
 use Rattle.swap_many.specs.declared.place.Place.{Place}
 use Rattle.swap_many.specs.Chains.{place, arc_chain, put, plus, returned, Units, is_done, projection, free, opening, in_accounts}
 use Rattle.swap_many.specs.Kept.{Time, kept_sweep, kept_done, answer_sweep}
@@ -32,14 +32,14 @@ use Rattle.swap_many.proofs.Fits.{sweep_fits}
 use Rattle.swap_many.proofs.Values.{put_map, can_for, all_same, each_chain, chains_put, whole_next, sound_step, chain_low, from_low, to_low}
 
 -- a list is what it says of its places
-pub list_sum : (xs : List ℕ) → sum_by (parse_units xs) (range_with_len 0 (length xs)) ≡ sum_by (λ u. u) xs
+pub list_sum : (xs : List ℕ) → sum_by (account_units xs) (range_with_len 0 (length xs)) ≡ sum_by (λ u. u) xs
 list_sum xs =
-    sym (sum-map (parse_units xs) (range_with_len 0 (length xs)))
-    ∙ (ap (λ ys. sum_by (λ u. u) ys) (ext_get_or 0 (map (parse_units xs) (range_with_len 0 (length xs))) xs
-    (length-map-range_with_len (parse_units xs) 0 (length xs)) (λ i l.
-    let low : i < length xs = subst (λ n. i < n) (length-map-range_with_len (parse_units xs) 0 (length xs)) l in
+    sym (sum-map (account_units xs) (range_with_len 0 (length xs)))
+    ∙ (ap (λ ys. sum_by (λ u. u) ys) (ext_get_or 0 (map (account_units xs) (range_with_len 0 (length xs))) xs
+    (length-map-range_with_len (account_units xs) 0 (length xs)) (λ i l.
+    let low : i < length xs = subst (λ n. i < n) (length-map-range_with_len (account_units xs) 0 (length xs)) l in
     let z : 0 + i ≡ i = omega arith in
-    get_or-map-range_with_len (parse_units xs) 0 (length xs) i i 0 low z)))
+    get_or-map-range_with_len (account_units xs) 0 (length xs) i i 0 low z)))
 
 -- A slot whose units may go back: its place, its chain, and what it holds.
 pub record MayGoBack (w : ManyState) (s a : ℕ) (fair : Bool) (p : Place) (y : ChainState) (b : Accounts) : Type 0 where
@@ -82,7 +82,7 @@ module _ (w : ManyState) (s a : ℕ) (fair : Bool) (whole : AreWhole w) (on : w.
           sym (ap (λ (y : State). history y.book a) (k.follows.swaps s can.swap) ∙ shown_at m r.chains s a can.arc) in
           let sum : in_accounts m j (free m j (r.chains j)) ≡ sum_by (λ u. u) (nth_chain w j).free =
           ap (in_accounts m j) (sym (k.follows.free j))
-          ∙ (ap (λ n. sum_by (parse_units (nth_chain w j).free) (range_with_len 0 n)) (sym (whole.accounts j)) ∙ list_sum (nth_chain w j).free) in
+          ∙ (ap (λ n. sum_by (account_units (nth_chain w j).free) (range_with_len 0 n)) (sym (whole.accounts j)) ∙ list_sum (nth_chain w j).free) in
           let all : in_accounts m j (opening m j) ≡ sum_by (λ u. u) (slice_index_or w.openings j []) = list_sum (slice_index_or w.openings j []) in
           end (in_accounts m j (free m j (r.chains j))) (sum_by (λ u. u) (nth_chain w j).free)
           (accounts (nth_world w s).deal a (projection s a (r.chains j))) (accounts (nth_world w s).deal a (history (nth_world w s).state.book a))
@@ -98,8 +98,8 @@ module _ (w : ManyState) (s a : ℕ) (fair : Bool) (whole : AreWhole w) (on : w.
               last f x p q o t c y e1 e2 e3 l e4 u = omega arith
 
   module _ (gives : MayGive) (x : ChainState) (f : List Bool) (clock : x.clock ≡ (nth_chain w (arc_chain (world_setup w) s a)).clock)
-      (units : parse_units x.free
-      ≡ returned (parse_units (nth_chain w (arc_chain (world_setup w) s a)).free) (place (world_setup w) s a)
+      (units : account_units x.free
+      ≡ returned (account_units (nth_chain w (arc_chain (world_setup w) s a)).free) (place (world_setup w) s a)
       (accounts (nth_world w s).deal a (history (nth_world w s).state.book a)))
       (count : length x.free ≡ length (nth_chain w (arc_chain (world_setup w) s a)).free) (flag : f ≡ slice_set (swept_at w s) a true) where
     abbrev pub with_sweep : ManyState
@@ -129,14 +129,14 @@ module _ (w : ManyState) (s a : ℕ) (fair : Bool) (whole : AreWhole w) (on : w.
         ∙ (put_map (λ (y : ChainState). y.clock) (nth_chain w) (arc_chain (world_setup w) s a) x
         ∙ put_still (kept_state w).clocks (arc_chain (world_setup w) s a) x.clock clock)
 
-    free_now : (λ j. parse_units (nth_chain with_sweep j).free)
+    free_now : (λ j. account_units (nth_chain with_sweep j).free)
         ≡ put (kept_state w).free (arc_chain (world_setup w) s a)
         (returned ((kept_state w).free (arc_chain (world_setup w) s a)) (place (world_setup w) s a)
         (accounts (nth_world w s).deal a (history (nth_world w s).state.book a)))
     free_now =
-        ap (λ (f : ℕ → ChainState). let h : ℕ → Units = λ j. parse_units (f j).free in h)
+        ap (λ (f : ℕ → ChainState). let h : ℕ → Units = λ j. account_units (f j).free in h)
         (chains_put w (arc_chain (world_setup w) s a) x (chain_low w s a whole can))
-        ∙ (put_map (λ (y : ChainState). parse_units y.free) (nth_chain w) (arc_chain (world_setup w) s a) x
+        ∙ (put_map (λ (y : ChainState). account_units y.free) (nth_chain w) (arc_chain (world_setup w) s a) x
         ∙ ap (λ (u : Units). put (kept_state w).free (arc_chain (world_setup w) s a) u) units)
 
     pub sweep_gone : HasManyGone gives (λ m z. kept_done fair m z (Sweep s a)) w with_sweep
@@ -181,18 +181,18 @@ module _ (w : ManyState) (s a : ℕ) (fair : Bool) (whole : AreWhole w) (on : w.
         subst (λ (y : ChainState). sum_by (λ u. u) y.free + b.party + b.counterparty ≤ 10 ^ 18) (sym chain_is)
         (subst (λ (b : Accounts). sum_by (λ u. u) (nth_chain w (arc_chain (world_setup w) s a)).free + b.party + b.counterparty ≤ 10 ^ 18) (sym is) they_fit)
 
-    module _ (gives : MayGive) (mid x : ChainState) (f old : List Bool) (one : parse_units mid.free ≡ plus (parse_units y.free) p.from b.party)
-        (two : parse_units x.free ≡ plus (parse_units mid.free) p.to b.counterparty) (clock_one : mid.clock ≡ y.clock) (clock_two : x.clock ≡ mid.clock)
+    module _ (gives : MayGive) (mid x : ChainState) (f old : List Bool) (one : account_units mid.free ≡ plus (account_units y.free) p.from b.party)
+        (two : account_units x.free ≡ plus (account_units mid.free) p.to b.counterparty) (clock_one : mid.clock ≡ y.clock) (clock_two : x.clock ≡ mid.clock)
         (count_one : length mid.free ≡ length y.free) (count_two : length x.free ≡ length mid.free) (was : old ≡ swept_at w s)
         (flag : f ≡ slice_set old a true) where
-      units_back : parse_units x.free
-          ≡ returned (parse_units (nth_chain w (arc_chain (world_setup w) s a)).free) (place (world_setup w) s a)
+      units_back : account_units x.free
+          ≡ returned (account_units (nth_chain w (arc_chain (world_setup w) s a)).free) (place (world_setup w) s a)
           (accounts (nth_world w s).deal a (history (nth_world w s).state.book a))
       units_back =
           two ∙ (ap (λ (u : Units). plus u p.to b.counterparty) one
-          ∙ (ap (λ (p : Place). returned (parse_units y.free) p b) at
-          ∙ (ap (λ (y : ChainState). returned (parse_units y.free) (place (world_setup w) s a) b) chain_is
-          ∙ ap (λ (b : Accounts). returned (parse_units (nth_chain w (arc_chain (world_setup w) s a)).free) (place (world_setup w) s a) b) is)))
+          ∙ (ap (λ (p : Place). returned (account_units y.free) p b) at
+          ∙ (ap (λ (y : ChainState). returned (account_units y.free) (place (world_setup w) s a) b) chain_is
+          ∙ ap (λ (b : Accounts). returned (account_units (nth_chain w (arc_chain (world_setup w) s a)).free) (place (world_setup w) s a) b) is)))
 
       clock_back : x.clock ≡ (nth_chain w (arc_chain (world_setup w) s a)).clock
       clock_back = clock_two ∙ (clock_one ∙ ap (λ (y : ChainState). y.clock) chain_is)

@@ -20,7 +20,7 @@ use Rattle.swap_run.proofs.Good.{good_is_kept}
 use Rattle.swap_run.proofs.Ticks.{horizon_low}
 use Rattle.swap_many.specs.declared.many_event.ManyEvent.TheVariants.{Tick, In, Sweep}
 use Rattle.swap_many.specs.Chains.{Setup, Slot, chain_slots, slots, arc_chain, put, chain_height, has_no_tick, book, is_done}
-use Rattle.swap_many.specs.Many.{Run, parse_swap, done, last_horizon, looks_in, turn_in, turns_in, many_round, all_ended, round_or_rest, many_run, many_finish}
+use Rattle.swap_many.specs.Many.{Run, swap_state, done, last_horizon, looks_in, turn_in, turns_in, many_round, all_ended, round_or_rest, many_run, many_finish}
 use Rattle.swap_many.specs.Kept.{Kept, Time, later, ticked, kept_tick, kept_sweep, kept_done, kept_run, kept_finish}
 use Rattle.swap_many.specs.Kept.{answer_sweep}
 use Rattle.swap_many.specs.Laws.{IsReady, ManyFinishesEnd}
@@ -36,10 +36,10 @@ from_map f (x ∷ xs) y (inr i) = let k = from_map f xs y i in (k.0, inr k.1, k.
 
 -- The two finishes go side by side.
 
-abbrev run_height : Run → ℕ → ℕ
+abbrev pub run_height : Run → ℕ → ℕ
 run_height r i = chain_height (r.chains i)
 
-abbrev kept_height : Kept → ℕ → ℕ
+abbrev pub kept_height : Kept → ℕ → ℕ
 kept_height z i = (z.clocks i).height
 
 module _ (m : Setup) (ready : IsReady m) where
@@ -48,7 +48,7 @@ module _ (m : Setup) (ready : IsReady m) where
   both_fold f g [] r z h k = k
   both_fold f g (x ∷ xs) r z h k = both_fold f g xs (f r x) (g z x) (λ r z y i. h r z y (inr i)) (h r z x (inl refl) k)
 
-  both_repeat : (n : ℕ) (f : Run → Run) (g : Kept → Kept) (r : Run) (z : Kept) → ((r : Run) (z : Kept) → Keeps m r z → Keeps m (f r) (g z)) → Keeps m r z
+  pub both_repeat : (n : ℕ) (f : Run → Run) (g : Kept → Kept) (r : Run) (z : Kept) → ((r : Run) (z : Kept) → Keeps m r z → Keeps m (f r) (g z)) → Keeps m r z
       → Keeps m (repeat n f r) (repeat n g z)
   both_repeat zero f g r z h k = k
   both_repeat (suc n) f g r z h k = h (repeat n f r) (repeat n g z) (both_repeat n f g r z h k)
@@ -105,7 +105,7 @@ module _ (m : Setup) (ready : IsReady m) where
       (range_with_len 0 (m.cast s).deal.graph.n) r z
       (λ r z v j k. both_turn s r z v (from_range s m.swaps i) (from_range v (m.cast s).deal.graph.n j) k) k) k)
 
-  both_unless : (r : Run) (z : Kept) → Keeps m r z
+  pub both_unless : (r : Run) (z : Kept) → Keeps m r z
       → Keeps m (round_or_rest m (done false m) (done true m) run_height r) (round_or_rest m (kept_done false m) (kept_done true m) kept_height z)
   both_unless r z k =
       subst (λ b. Keeps m (cond b r (many_round m (done false m) (done true m) run_height r))
@@ -136,10 +136,10 @@ module _ (m : Setup) (ready : IsReady m) where
 -- Ticks of a round.
 
 -- What ticks by 1 of the chains from lo on, n of them, leave.
-record Raised (m : Setup) (lo n : ℕ) (z t : Kept) : Type 0 where
-  timed : IsTimed t
-  mono : (j : ℕ) → (z.clocks j).height ≤ (t.clocks j).height
-  up : (j : ℕ) → lo ≤ j → j < lo + n → (z.clocks j).height ≤ last_horizon m → (z.clocks j).height + 1 ≤ (t.clocks j).height
+pub record Raised (m : Setup) (lo n : ℕ) (z t : Kept) : Type 0 where
+  pub timed : IsTimed t
+  pub mono : (j : ℕ) → (z.clocks j).height ≤ (t.clocks j).height
+  pub up : (j : ℕ) → lo ≤ j → j < lo + n → (z.clocks j).height ≤ last_horizon m → (z.clocks j).height + 1 ≤ (t.clocks j).height
 
 module _ (m : Setup) (ready : IsReady m) where
   last_low : last_horizon m ≤ 14000
@@ -259,7 +259,7 @@ module _ (m : Setup) (ready : IsReady m) where
       (λ z s. fold_clocks (turn_in m (kept_done false m) (kept_done true m) kept_height s) (range_with_len 0 (m.cast s).deal.graph.n) z
       (λ z v. turn_clocks s v z))
 
-  round_raised : (z : Kept) → IsTimed z → Raised m 0 (length m.chains) z (many_round m (kept_done false m) (kept_done true m) kept_height z)
+  pub round_raised : (z : Kept) → IsTimed z → Raised m 0 (length m.chains) z (many_round m (kept_done false m) (kept_done true m) kept_height z)
   round_raised z t =
       let mid = fold (turns_in m (kept_done false m) (kept_done true m) kept_height) z (range_with_len 0 m.swaps) in
       let x = tick_all (length m.chains) 0 mid (same_timed z mid (turns_clocks z) t) in
@@ -332,7 +332,7 @@ module _ (m : Setup) (ready : IsReady m) where
       end a b c d l h e = omega arith
 
 keeps_kept : (m : Setup) (r : Run) (z : Kept) (s : ℕ) → IsReady m → s < m.swaps → Keeps m r z → IsKept (m.cast s) (book m r.chains s)
-keeps_kept m r z s ready l k = good_is_kept (m.cast s) (parse_swap m r s) (ready.casts s l) (subst (IsGood (m.cast s)) (k.follows.swaps s l) (k.good s l))
+keeps_kept m r z s ready l k = good_is_kept (m.cast s) (swap_state m r s) (ready.casts s l) (subst (IsGood (m.cast s)) (k.follows.swaps s l) (k.good s l))
 
 pub many_finishes_end : ManyFinishesEnd
 many_finishes_end m events ready all =

@@ -24,7 +24,7 @@ use Rattle.swap_many.specs.Chains.{Setup, arc_chain, place, put, Ticked, Paid, E
 use Rattle.swap_many.specs.Chains.{projection, Chains, book, Units, paid, returned, free, is_done, is_swept, reply_to_call}
 use Rattle.swap_run.specs.Called.{is_barred, landed_on}
 use Rattle.swap_many.specs.Chains.{reply_to_payment, reply_to_sweep, entered}
-use Rattle.swap_many.specs.Many.{Run, parse_swap, post_call, posted, heard, done, many_step, many_start, many_run}
+use Rattle.swap_many.specs.Many.{Run, swap_state, post_call, posted, heard, done, many_step, many_start, many_run}
 use Rattle.swap_many.specs.Kept.{Kept, later, ticked, is_passed, answer_in, answer_payment, answer_sweep, kept_sweep, kept_done, kept_step}
 use Rattle.swap_many.specs.Kept.{kept_start}
 use Rattle.swap_run.specs.CalledLaws.{IsSplit}
@@ -152,7 +152,7 @@ abbrev pub in_swap : Setup → Kept → ℕ → Event → Option Called → Stat
 in_swap m z s e o = landed_on (z.swept s) (m.cast s) (z.swaps s) e o
 
 -- the swap whose event it is comes to X, and no other one's book changes
-swaps_follow : (m : Setup) (r : Run) (z : Kept) (s : ℕ) (x y : State) (h : Chains) → ((t : ℕ) → t < m.swaps → z.swaps t ≡ parse_swap m r t)
+swaps_follow : (m : Setup) (r : Run) (z : Kept) (s : ℕ) (x y : State) (h : Chains) → ((t : ℕ) → t < m.swaps → z.swaps t ≡ swap_state m r t)
     → x ≡ record y { book = book m h s } → ((t : ℕ) → t ≢ s → book m r.chains t ≡ book m h t)
     → (t : ℕ) → t < m.swaps → put z.swaps s x t ≡ record (put r.minds s y t) { book = book m h t }
 swaps_follow m r z s x y h old new others t l = go (same_or_not t s)
@@ -173,14 +173,14 @@ passed_is m r z s x f ls la =
 
 -- what the swap comes to is what is heard of the chain's new entry
 heard_is : (m : Setup) (r : Run) (z : Kept) (s : ℕ) (e : Event) (x : Called) → Follows m r z → s < m.swaps → x.arc < length (m.cast s).deal.graph.arcs
-    → IsSplit (m.cast s) (parse_swap m r s) e → called (m.cast s) (parse_swap m r s) e ≡ Some x
+    → IsSplit (m.cast s) (swap_state m r s) e → called (m.cast s) (swap_state m r s) e ≡ Some x
     → in_swap m z s e (Some x) ≡ heard m r (posted r.chains (Some (post_call m r s x))) s e (Some x)
 heard_is m r z s e x f ls la split q =
     ap (λ t. cond (is_passed z s x) (told (m.cast s) t e x (history t.book x.arc)) (step (m.cast s) t e)) (f.swaps s ls)
-    ∙ (ap (λ b. cond b (told (m.cast s) (parse_swap m r s) e x (history (parse_swap m r s).book x.arc)) (step (m.cast s) (parse_swap m r s) e))
+    ∙ (ap (λ b. cond b (told (m.cast s) (swap_state m r s) e x (history (swap_state m r s).book x.arc)) (step (m.cast s) (swap_state m r s) e))
     (passed_is m r z s x f ls la)
     ∙ (go (is_barred (is_swept s x.arc here) (projection s x.arc here) x.call)
-    ∙ ap (told (m.cast s) (parse_swap m r s) e x)
+    ∙ ap (told (m.cast s) (swap_state m r s) e x)
     (sym (call_shown m s x.arc x.sender x.call here) ∙ sym (ap (projection s x.arc) (put_same r.chains (arc_chain m s x.arc) new)))))
   where
     here : List ChainEntry
@@ -189,37 +189,37 @@ heard_is m r z s e x f ls la split q =
     new : List ChainEntry
     new = entered here (parse_call s x.arc x.sender x.call here (reply_to_call m here s x.arc x.sender x.call))
 
-    go : (b : Bool) → cond b (told (m.cast s) (parse_swap m r s) e x (history (parse_swap m r s).book x.arc)) (step (m.cast s) (parse_swap m r s) e)
-        ≡ told (m.cast s) (parse_swap m r s) e x
+    go : (b : Bool) → cond b (told (m.cast s) (swap_state m r s) e x (history (swap_state m r s).book x.arc)) (step (m.cast s) (swap_state m r s) e)
+        ≡ told (m.cast s) (swap_state m r s) e x
         (cond b (projection s x.arc here) (after_call (m.cast s).deal x.arc x.sender x.call (projection s x.arc here)))
-    go true = ap (told (m.cast s) (parse_swap m r s) e x) (shown_at m r.chains s x.arc la)
+    go true = ap (told (m.cast s) (swap_state m r s) e x) (shown_at m r.chains s x.arc la)
     go false =
         split.calls x q
-        ∙ ap (λ h. told (m.cast s) (parse_swap m r s) e x (after_call (m.cast s).deal x.arc x.sender x.call h)) (shown_at m r.chains s x.arc la)
+        ∙ ap (λ h. told (m.cast s) (swap_state m r s) e x (after_call (m.cast s).deal x.arc x.sender x.call h)) (shown_at m r.chains s x.arc la)
 
 in_follows : (fair : Bool) (m : Setup) (r : Run) (z : Kept) (s : ℕ) (e : Event) → IsReady m → CanHappen m s e → Follows m r z → AreGood m z
     → Follows m (done fair m r (In s e)) (kept_done fair m z (In s e))
 in_follows fair m r z s e ready can f good =
     subst (λ o. Follows m (done fair m r (In s e)) (record z { swaps = put z.swaps s (in_swap m z s e o) }))
-    (sym (ap (λ t. called (m.cast s) t e) (f.swaps s can.swap))) (go (called (m.cast s) (parse_swap m r s) e) refl)
+    (sym (ap (λ t. called (m.cast s) t e) (f.swaps s can.swap))) (go (called (m.cast s) (swap_state m r s) e) refl)
   where
-    split : IsSplit (m.cast s) (parse_swap m r s) e
-    split = calls_split (m.cast s) (parse_swap m r s) e can.no_tick
+    split : IsSplit (m.cast s) (swap_state m r s) e
+    split = calls_split (m.cast s) (swap_state m r s) e can.no_tick
 
-    placed : (x : Called) → called (m.cast s) (parse_swap m r s) e ≡ Some x → x.arc < length (m.cast s).deal.graph.arcs
+    placed : (x : Called) → called (m.cast s) (swap_state m r s) e ≡ Some x → x.arc < length (m.cast s).deal.graph.arcs
     placed x q =
-        calls_are_placed (m.cast s) (parse_swap m r s) e x (ready.casts s can.swap) can.can
+        calls_are_placed (m.cast s) (swap_state m r s) e x (ready.casts s can.swap) can.can
         (subst (IsGood (m.cast s)) (f.swaps s can.swap) (good s can.swap)) q
 
-    go : (o : Option Called) → called (m.cast s) (parse_swap m r s) e ≡ o
+    go : (o : Option Called) → called (m.cast s) (swap_state m r s) e ≡ o
         → Follows m (record {
           chains = posted r.chains (option_map (post_call m r s) o);
           minds = put r.minds s (heard m r (posted r.chains (option_map (post_call m r s) o)) s e o);
         }) (record z { swaps = put z.swaps s (in_swap m z s e o) })
     go None q = record {
-      swaps = swaps_follow m r z s (step (m.cast s) (z.swaps s) e) (before_call (m.cast s) (parse_swap m r s) e) r.chains f.swaps
+      swaps = swaps_follow m r z s (step (m.cast s) (z.swaps s) e) (before_call (m.cast s) (swap_state m r s) e) r.chains f.swaps
           (ap (λ t. step (m.cast s) t e) (f.swaps s can.swap) ∙ (split.alone q
-          ∙ with_book (before_call (m.cast s) (parse_swap m r s) e) (book m r.chains s) split.calm)) (λ t n. refl);
+          ∙ with_book (before_call (m.cast s) (swap_state m r s) e) (book m r.chains s) split.calm)) (λ t n. refl);
       heights = f.heights;
       ticks = f.ticks;
       free = f.free;
@@ -230,7 +230,7 @@ in_follows fair m r z s e ready can f good =
           (posted r.chains (Some (post_call m r s x))) f.swaps
           (heard_is m r z s e x f can.swap (placed x q) split q
           ∙ with_book (heard m r (posted r.chains (Some (post_call m r s x))) s e (Some x)) (book m (posted r.chains (Some (post_call m r s x))) s)
-          (told_book (m.cast s) (parse_swap m r s) e x (projection s x.arc (put r.chains (arc_chain m s x.arc) new (arc_chain m s x.arc))) split
+          (told_book (m.cast s) (swap_state m r s) e x (projection s x.arc (put r.chains (arc_chain m s x.arc) new (arc_chain m s x.arc))) split
           ∙ (ap (λ h. slice_set (book m r.chains s) x.arc (projection s x.arc h)) (put_same r.chains (arc_chain m s x.arc) new)
           ∙ own_book m r.chains s x.arc x.sender x.call reply (placed x q))))
           (λ t n. other_book m r.chains t s x.arc x.sender x.call reply n);
@@ -503,14 +503,14 @@ pub replies_follow : RepliesFollow
 replies_follow m r z (Tick i k) ready can f g =
     ap₂ (λ x y. Some (cond (has_no_tick x y k) (Plain ClockFull) (Plain Accepted))) (f.ticks i) (f.heights i)
 replies_follow m r z (In s e) ready can f g =
-    ap (λ t. option_map (answer_in m z s) (called (m.cast s) t e)) (f.swaps s can.swap) ∙ go (called (m.cast s) (parse_swap m r s) e) refl
+    ap (λ t. option_map (answer_in m z s) (called (m.cast s) t e)) (f.swaps s can.swap) ∙ go (called (m.cast s) (swap_state m r s) e) refl
   where
-    go : (o : Option Called) → called (m.cast s) (parse_swap m r s) e ≡ o
+    go : (o : Option Called) → called (m.cast s) (swap_state m r s) e ≡ o
         → option_map (answer_in m z s) o ≡ option_map (λ x. x.entry.reply) (option_map (post_call m r s) o)
     go None q = refl
     go (Some x) q =
         ap Some (answer_is m r z s x f can.swap
-        (calls_are_placed (m.cast s) (parse_swap m r s) e x (ready.casts s can.swap) can.can (subst (IsGood (m.cast s)) (f.swaps s can.swap) (g s can.swap)) q))
+        (calls_are_placed (m.cast s) (swap_state m r s) e x (ready.casts s can.swap) can.can (subst (IsGood (m.cast s)) (f.swaps s can.swap) (g s can.swap)) q))
 replies_follow m r z (Pay i from to units) ready can f g = ap (λ u. Some (reply_to_payment (u from) units)) (f.free i)
 replies_follow m r z (Sweep s a) ready can f g = ap Some (sweep_answer false m r z s a can f)
 
@@ -530,4 +530,4 @@ runs_follow m events ready all =
 pub books_are_kept : BooksAreKept
 books_are_kept m events s ready all l =
     let x = runs_follow m events ready all in
-    good_is_kept (m.cast s) (parse_swap m (many_run m events) s) (ready.casts s l) (subst (IsGood (m.cast s)) (x.0.swaps s l) (x.1 s l))
+    good_is_kept (m.cast s) (swap_state m (many_run m events) s) (ready.casts s l) (subst (IsGood (m.cast s)) (x.0.swaps s l) (x.1 s l))

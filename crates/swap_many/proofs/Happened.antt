@@ -16,7 +16,7 @@ use Rattle.swap_world.specs.declared.told.Told.{Told}
 use Rattle.swap_world.specs.declared.told.Told.TheVariants.{Passed, Replied}
 use Rattle.swap_world.specs.Value.{WorldState, world_cast, answering_cast, Continues}
 use Rattle.swap_world.specs.Gone.{MayGive, HasGone}
-use Rattle.swap_world.specs.On.{swept_in, told_of_call, tell_entries, IsCutOn}
+use Rattle.swap_world.specs.On.{swept_in, told_of_call, event_told, IsCutOn}
 use Rattle.swap_many.specs.declared.many_event.ManyEvent.TheVariants.{In}
 use Rattle.swap_many.specs.declared.many_reply.ManyReply.{ManyReply}
 use Rattle.swap_many.specs.declared.many_reply.ManyReply.TheVariants.{Plain, Swept}
@@ -33,7 +33,7 @@ use Rattle.swap_many.proofs.Way.{no_step, one_step}
 
 -- What is told is the reply.
 pub told_is : (w : ManyState) (s : ℕ) (e : Event) (g : ℕ → Answers)
-    → reply_told (tell_entries (swept_in (swept_at w s)) (answering_cast (nth_world w s) (g s)) (nth_world w s).state e)
+    → reply_told (event_told (swept_in (swept_at w s)) (answering_cast (nth_world w s) (g s)) (nth_world w s).state e)
     ≡ kept_reply false (made_setup w g) (kept_state w) (In s e)
 told_is w s e g = go (called (answering_cast (nth_world w s) (g s)) (nth_world w s).state e)
   where
@@ -52,7 +52,7 @@ told_is w s e g = go (called (answering_cast (nth_world w s) (g s)) (nth_world w
 -- What an event does to its world, and what is told.
 pub record IsTaken {E : Type 0} (gives : MayGive) (swept : List Bool) (e : Event) (old new : WorldState) (r : Result Told E) : Type 0 where
   pub ok : OnOk r (HasGone gives (λ c s. apply_step (swept_in swept) c s e) old new)
-  pub told : IfOk r (λ t. (g : Answers) → Continues new g → t ≡ tell_entries (swept_in swept) (answering_cast old g) old.state e)
+  pub told : IfOk r (λ t. (g : Answers) → Continues new g → t ≡ event_told (swept_in swept) (answering_cast old g) old.state e)
   pub err : OnErr r (new.stopped ≡ true)
   pub cut : OnErr r (IsCutOn gives (swept_in swept) e old new)
   pub kept : IsKept (world_cast new) new.state.book

@@ -12,6 +12,7 @@ pub mod Units
 pub mod Finish
 pub mod On
 pub mod Way
+pub mod Along
 pub mod Opened
 pub mod Accounts
 pub mod Fits
@@ -28,6 +29,8 @@ pub mod Ticked
 pub mod Nearby
 pub mod Still
 pub mod Skips
+pub mod InTurn
+pub mod Dealt
 pub mod Advancing
 pub mod Runs
 pub mod Begun

@@ -25,11 +25,13 @@ use Rattle.swap_many.specs.Stages.{Stage, Came, Finished, run_stage, run_by, sta
 use Rattle.swap_many.specs.Value.{ManyState, AreReady, nth_world, world_setup, made_setup, kept_state, world_run, ContinueAll, AreSame, HasManyGone}
 use Rattle.swap_many.specs.Value.{IsManyStopped, UnitsArePlacedIn}
 use Rattle.swap_many.specs.Inside.{AreWhole}
+use Rattle.swap_many.specs.Along.{IsCutRun}
 use Rattle.swap_many.specs.Whole.{IsOfRun}
 use Rattle.swap_many.proofs.Follow.{replies_follow}
 use Rattle.swap_many.proofs.Units.{keeps_step, counted_is_placed}
 use Rattle.swap_many.proofs.Finish.{both_finish, finish_above, swap_ended}
 use Rattle.swap_many.proofs.Values.{can_for, same_deal, same_setup, continue_less}
+use Rattle.swap_many.proofs.Along.{cut_run}
 use Rattle.swap_many.proofs.Way.{one_step, finish_steps}
 use Rattle.swap_many.proofs.Gone.{LeadOn, on_ok, on_err}
 
@@ -159,6 +161,16 @@ has_taken gives f x a b xs ys r stage runs more on ok err =
       follows = then_follows gives f x old new stage runs more on r gone;
       placed = then_placed gives f x old new stage runs more on r gone;
     }
+
+-- Where memory ran out all units are in one place too.
+pub then_cut : {A E : Type 0} (gives : MayGive) (f : Setup → Kept → Kept) (old new : ManyState) (r : Result A E) → AreReady old → IsOfRun old
+    → OnErr r (IsManyStopped gives f old new)
+    → OnErr r (old.stopped ≡ false → (g : ℕ → Answers) → ContinueAll new g → IsCutRun (made_setup old g) (world_run old g) new)
+then_cut gives f old new (Ok a) ready runs err = tt
+then_cut gives f old new (Err e) ready runs err = λ on g c.
+    let m = made_setup old g in
+    cut_run m (ready g) (world_run old g) (kept_state old) (f m (kept_state old)) new err.same.swaps (runs on g (continue_less gives old new g err.same c))
+    (err.way g c)
 
 -- The reply is that of the run.
 pub then_reply : {E : Type 0} (gives : MayGive) (f : Setup → Kept → Kept) (old new : ManyState) (e : ManyEvent) (r : Result (Option ManyReply) E)

@@ -67,21 +67,21 @@ not_before (suc j) k s l (inr i) = not_before j (k + 1) s (omega (arith, l)) i
 module _ (m : Setup) where
   -- What a tick of each chain of a list does.
 
-  abbrev full : (ℕ → Time) → ℕ → Bool
+  abbrev pub full : (ℕ → Time) → ℕ → Bool
   full ck i = has_no_tick (ck i).ticks (ck i).height 1
 
-  abbrev clock_tick : (ℕ → Time) → ℕ → ℕ → Time
+  abbrev pub clock_tick : (ℕ → Time) → ℕ → ℕ → Time
   clock_tick ck i = cond (full ck i) ck (put ck i (later (ck i) 1))
 
   -- of the histories of swap s
-  abbrev chain_tick : (ℕ → Time) → (i s : ℕ) → Histories → Histories
+  abbrev pub chain_tick : (ℕ → Time) → (i s : ℕ) → Histories → Histories
   chain_tick ck i s b = cond (full ck i) b (fold (book_tick m i 1 s) b (arcs (m.cast s).deal.graph))
 
-  abbrev book_ticks : (ℕ → Time) → ℕ → List ℕ → Histories → Histories
+  abbrev pub book_ticks : (ℕ → Time) → ℕ → List ℕ → Histories → Histories
   book_ticks ck s [] b = b
   book_ticks ck s (i ∷ is) b = book_ticks (clock_tick ck i) s is (chain_tick ck i s b)
 
-  abbrev after_ticks : Kept → List ℕ → Kept
+  abbrev pub after_ticks : Kept → List ℕ → Kept
   after_ticks z is = record z {
     clocks = fold clock_tick z.clocks is;
     swaps = λ s. record (z.swaps s) { book = book_ticks z.clocks s is (z.swaps s).book };
@@ -116,7 +116,7 @@ module _ (m : Setup) where
 
   -- What the turns of each swap of a list do.
 
-  abbrev turned : (ℕ → ℕ → Bool) → (ℕ → State) → ℕ → ℕ → State
+  abbrev pub turned : (ℕ → ℕ → Bool) → (ℕ → State) → ℕ → ℕ → State
   turned sw f x = put f x (turns_on (sw x) (m.cast x) (f x))
 
   turns_are : (xs : List ℕ) (z : Kept) → fold (kept_turns m) z xs ≡ record z { swaps = fold (turned z.swept) z.swaps xs }
@@ -138,7 +138,7 @@ module _ (m : Setup) where
     turned_at k rest f (inr n) out more =
         more n ∙ ap (turns_on (sw s) (m.cast s)) (put_other f k (turns_on (sw k) (m.cast k) (f k)) s n)
 
-    turned_once : (j k : ℕ) (f : ℕ → State) → k ≤ s → s < k + j → fold (turned sw) f (range_with_len k j) s ≡ turns_on (sw s) (m.cast s) (f s)
+    pub turned_once : (j k : ℕ) (f : ℕ → State) → k ≤ s → s < k + j → fold (turned sw) f (range_with_len k j) s ≡ turns_on (sw s) (m.cast s) (f s)
     turned_once zero k f lo hi = absurd (omega (arith, lo, hi))
     turned_once (suc j) k f lo hi =
         turned_at k (range_with_len (k + 1) j) f (same_or_not s k)
@@ -147,13 +147,13 @@ module _ (m : Setup) where
 
   -- Rounds.
 
-  abbrev all_swaps : List ℕ
+  abbrev pub all_swaps : List ℕ
   all_swaps = range_with_len 0 m.swaps
 
-  abbrev all_chains : List ℕ
+  abbrev pub all_chains : List ℕ
   all_chains = range_with_len 0 (length m.chains)
 
-  abbrev all_turns : Kept → Kept
+  abbrev pub all_turns : Kept → Kept
   all_turns z = fold (kept_turns m) z all_swaps
 
   -- nobody of swap s makes a call in its turn
@@ -163,10 +163,10 @@ module _ (m : Setup) where
     pub idle : (v : ℕ) → v < (m.cast s).deal.graph.n → conforms (m.cast s) v ≡ true → IsIdle (m.cast s) x.book v (state_notes x v)
 
   module _ (z : Kept) where
-    abbrev once : Kept
+    abbrev pub once : Kept
     once = record z { swaps = fold (turned z.swept) z.swaps all_swaps }
 
-    ticked_once : kept_ticks m (all_turns z) ≡ after_ticks once all_chains
+    pub ticked_once : kept_ticks m (all_turns z) ≡ after_ticks once all_chains
     ticked_once = ap (kept_ticks m) (turns_are all_swaps z) ∙ ticks_are all_chains once
 
     round_clocks : (kept_round m z).clocks ≡ (kept_ticks m z).clocks
@@ -203,7 +203,7 @@ module _ (m : Setup) where
         (ap all_turns ticked_once ∙ (turns_are all_swaps (after_ticks once all_chains)
         ∙ (middle ∙ sym (ap all_turns (ticks_are all_chains z) ∙ turns_are all_swaps (after_ticks z all_chains)))))
 
-  goes_on : (z : Kept) → have_ended m z ≡ false → kept_round_or_rest m z ≡ kept_round m z
+  pub goes_on : (z : Kept) → have_ended m z ≡ false → kept_round_or_rest m z ≡ kept_round m z
   goes_on z e = ap (λ b. cond b z (kept_round m z)) e
 
   -- so many rounds in which nobody makes a call, and one more
@@ -221,7 +221,7 @@ module _ (m : Setup) where
   -- What so many ticks of all chains leave: the notes, and histories that are longer by ticks.
 
   module _ (s : ℕ) where
-    abbrev count : ℕ
+    abbrev pub count : ℕ
     count = length (m.cast s).deal.graph.arcs
 
     tick_many : (ck : ℕ → Time) (i : ℕ) (b : Histories) → length (chain_tick ck i s b) ≡ length b
@@ -275,7 +275,7 @@ module _ (m : Setup) where
       up_by k ck b after e (inl q) rest more = subst (IsRaised 1 (history b a)) (sym (rest q)) (tick_up ck k b e)
       up_by k ck b after e (inr n) rest more = subst (λ (h : List Entry). IsRaised 1 h after) (tick_away ck k b e n) more
 
-      up : (j k : ℕ) (ck : ℕ → Time) (b : Histories) → length b ≡ count → IsRaised 1 (history b a) (history (book_ticks ck s (range_with_len k j) b) a)
+      pub up : (j k : ℕ) (ck : ℕ → Time) (b : Histories) → length b ≡ count → IsRaised 1 (history b a) (history (book_ticks ck s (range_with_len k j) b) a)
       up zero k ck b e = no_raise 1 (history b a)
       up (suc j) k ck b e =
           let longer : length (chain_tick ck k s b) ≡ count = tick_many ck k b ∙ e in
@@ -339,7 +339,7 @@ module _ (m : Setup) where
         omega (arith, h, u)
     clocks_by k ck after (inr n) rest more = subst (λ (t : Time). after.height ≤ t.height + 1) (clock_away k ck n) more
 
-    clocks_up : (j k : ℕ) (ck : ℕ → Time) → (fold clock_tick ck (range_with_len k j) q).height ≤ (ck q).height + 1
+    pub clocks_up : (j k : ℕ) (ck : ℕ → Time) → (fold clock_tick ck (range_with_len k j) q).height ≤ (ck q).height + 1
     clocks_up zero k ck = omega arith
     clocks_up (suc j) k ck =
         clocks_by k ck (fold clock_tick (clock_tick ck k) (range_with_len (k + 1) j) q) (same_or_not q k)

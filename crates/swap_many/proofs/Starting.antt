@@ -11,7 +11,7 @@ use Rattle.swap_run.specs.Laws.{IsReadyCast, IsKept}
 use Rattle.swap_run.proofs.Good.{start_is_good, good_is_kept}
 use Rattle.swap_world.specs.Value.{WorldState, world_cast, answering_cast}
 use Rattle.swap_many.specs.declared.place.Place.{Place}
-use Rattle.swap_many.specs.Accounts.{ChainState, parse_units}
+use Rattle.swap_many.specs.Accounts.{ChainState, account_units}
 use Rattle.swap_many.specs.Chains.{Setup, opening, set_aside, first_free}
 use Rattle.swap_many.specs.Many.{many_start}
 use Rattle.swap_many.specs.Kept.{kept_start}
@@ -58,24 +58,24 @@ module _ (chains : List (List ℕ)) (ws : List WorldState) (places : List (List 
           ∙ length-map-range_with_len (first_free (setup_of_worlds ws places chains) i) 0 (length (slice_index_or chains i []))
       go (inr l) = ap (λ (y : ChainState). length y.free) (chain_out i l) ∙ sym (ap (λ xs. length xs) (past_end chains i [] l))
 
-  free_new : (i x : ℕ) → parse_units (nth_chain new i).free x ≡ first_free m i x
+  free_new : (i x : ℕ) → account_units (nth_chain new i).free x ≡ first_free m i x
   free_new i x = go (below_or i (length chains)) (below_or x (length (slice_index_or chains i [])))
     where
       none : (o a : ℕ) → o ≡ 0 → 0 ≡ o - a
       none o a e = omega (arith, e)
 
       go : (i < length chains) ⊎ (length chains ≤ i) → (x < length (slice_index_or chains i [])) ⊎ (length (slice_index_or chains i []) ≤ x)
-          → parse_units (nth_chain new i).free x ≡ first_free m i x
+          → account_units (nth_chain new i).free x ≡ first_free m i x
       go (inl l) (inl k) =
           let z : 0 + x ≡ x = omega arith in
-          ap (λ (y : ChainState). parse_units y.free x) (inside_chain i l)
+          ap (λ (y : ChainState). account_units y.free x) (inside_chain i l)
           ∙ get_or-map-range_with_len (first_free (setup_of_worlds ws places chains) i) 0 (length (slice_index_or chains i [])) x x 0 k z
       go (inl l) (inr k) =
           let e = accounts_new i in
           past_end (nth_chain new i).free x 0 (omega (arith, e, k))
           ∙ none (opening m i x) (set_aside m i x) (past_end (slice_index_or chains i []) x 0 k)
       go (inr l) k =
-          ap (λ (y : ChainState). parse_units y.free x) (chain_out i l)
+          ap (λ (y : ChainState). account_units y.free x) (chain_out i l)
           ∙ none (opening m i x) (set_aside m i x) (ap (λ (xs : List ℕ). slice_index_or xs x 0) (past_end chains i [] l))
 
   clock_new : (i : ℕ) → (nth_chain new i).clock ≡ no_chain.clock

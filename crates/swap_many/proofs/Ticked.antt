@@ -23,7 +23,7 @@ use Rattle.swap_world.proofs.Gone.{nothing_asked}
 use Rattle.swap_world.proofs.Ways.{range_all}
 use Rattle.swap_many.specs.declared.many_event.ManyEvent.TheVariants.{Tick}
 use Rattle.swap_many.specs.declared.place.Place.{Place}
-use Rattle.swap_many.specs.Accounts.{ChainState, parse_units}
+use Rattle.swap_many.specs.Accounts.{ChainState, account_units}
 use Rattle.swap_many.specs.Chains.{Setup, put, has_no_tick, nowhere, Units, is_done, reply_to_tick_of}
 use Rattle.swap_many.specs.Kept.{Kept, Time, later, tick_ledgers, ticked, kept_done}
 use Rattle.swap_many.specs.Laws.{CanTickChain}
@@ -185,11 +185,11 @@ module _ (gives : MayGive) (w : ManyState) (i k : ℕ) (x : ChainState) (ws : Li
           ∙ (put_map (λ (y : ChainState). y.clock) (nth_chain w) i x
           ∙ ap (λ (y : ChainState). put (kept_state w).clocks i y.clock) clock)
 
-      frees : (λ j. parse_units (nth_chain (with_chain w i x low) j).free) ≡ (kept_state w).free
+      frees : (λ j. account_units (nth_chain (with_chain w i x low) j).free) ≡ (kept_state w).free
       frees =
-          ap (λ (f : ℕ → ChainState). let h : ℕ → Units = λ j. parse_units (f j).free in h) (chains_put w i x low)
-          ∙ (put_map (λ (y : ChainState). parse_units y.free) (nth_chain w) i x
-          ∙ put_still (kept_state w).free i (parse_units x.free) (ap (λ (y : ChainState). parse_units y.free) clock))
+          ap (λ (f : ℕ → ChainState). let h : ℕ → Units = λ j. account_units (f j).free in h) (chains_put w i x low)
+          ∙ (put_map (λ (y : ChainState). account_units y.free) (nth_chain w) i x
+          ∙ put_still (kept_state w).free i (account_units x.free) (ap (λ (y : ChainState). account_units y.free) clock))
 
   ticks_gone : b ≡ w.stopped → HasManyGone gives (λ m z. kept_done false m z (Tick i k)) w with_ticks
   ticks_gone on = record { same = ticks_same; goes_on = on; kept = λ g c. ticks_kept g }

@@ -25,7 +25,7 @@ use Rattle.swap_run.specs.Called.{Called, called}
 use Rattle.swap_many.specs.Chains.{Setup, place, arc_chain, put, Emptied, Paid, Ticked, ChainEntry, chain_height, chain_ticks, has_no_tick, projection, Chains}
 use Rattle.swap_many.specs.Chains.{total, pays_for, set_aside, opening, Units, plus, paid, returned, is_done, first_free, free, is_swept}
 use Rattle.swap_many.specs.Chains.{reply_to_call, reply_to_payment, reply_to_sweep, entered, in_accounts, unswept, in_slot, placed}
-use Rattle.swap_many.specs.Many.{Run, parse_swap, post_call, posted, done, many_step, many_start, many_run}
+use Rattle.swap_many.specs.Many.{Run, swap_state, post_call, posted, done, many_step, many_start, many_run}
 use Rattle.swap_many.specs.Kept.{Kept, kept_done, kept_step, kept_start, kept_run}
 use Rattle.swap_many.specs.Laws.{IsReady, CanPay, CanSweep, CanCome, Follows, AreGood, UnitsArePlaced, SweptAcceptNothing}
 use Rattle.swap_many.specs.Sound.{SweptIsOver, worth, Count, IsSound, Keeps}
@@ -276,7 +276,7 @@ module _ (m : Setup) (fair : Bool) (s a : ℕ) (h : List ChainEntry) where
 pub shown_legal : (m : Setup) (r : Run) (z : Kept) (s a : ℕ) → Follows m r z → AreGood m z → s < m.swaps → a < length (m.cast s).deal.graph.arcs
     → IsLegal (m.cast s).deal a (projection s a (r.chains (arc_chain m s a)))
 shown_legal m r z s a f g ls la =
-    let k : IsGood (m.cast s) (parse_swap m r s) = subst (IsGood (m.cast s)) (f.swaps s ls) (g s ls) in
+    let k : IsGood (m.cast s) (swap_state m r s) = subst (IsGood (m.cast s)) (f.swaps s ls) (g s ls) in
     subst (IsLegal (m.cast s).deal a) (shown_at m r.chains s a la) (k.legal.legal a (subst (λ n. a < n) (sym (book_length m r.chains s)) la))
 
 -- a chain gets a history that is as sound as its own was
@@ -302,7 +302,7 @@ step_sound fair m r z (Tick i k) ready can f g x = go (has_no_tick (chain_ticks 
         sound_next m r.chains i (r.chains i ++ entry_tick k (r.chains i) ∷ []) x (over_after_tick k (r.chains i) (x.over i))
         (λ l. count_same m i (r.chains i) (r.chains i ++ entry_tick k (r.chains i) ∷ []) (free_more m i (r.chains i) (entry_tick k (r.chains i)))
         (λ s a. tick_swept s a k (r.chains i)) (x.count i l))
-step_sound fair m r z (In s e) ready can f g x = go (called (m.cast s) (parse_swap m r s) e)
+step_sound fair m r z (In s e) ready can f g x = go (called (m.cast s) (swap_state m r s) e)
   where
     go : (o : Option Called) → IsSound m (posted r.chains (option_map (post_call m r s) o))
     go None = x

@@ -13,7 +13,7 @@ use Rattle.swap_world.specs.Actors.{AreHeld}
 use Rattle.swap_world.proofs.Gone.{continues_less, nothing_asked, more_asked}
 use Rattle.swap_many.specs.declared.many_event.ManyEvent.{ManyEvent}
 use Rattle.swap_many.specs.declared.many_event.ManyEvent.TheVariants.{Tick, In, Pay, Sweep}
-use Rattle.swap_many.specs.Accounts.{ChainState, parse_units}
+use Rattle.swap_many.specs.Accounts.{ChainState, account_units}
 use Rattle.swap_many.specs.Chains.{Setup, put, Units, place, arc_chain}
 use Rattle.ledger_core.specs.History.{IsLegal}
 use Rattle.ledger_core.specs.Book.{history}
@@ -176,12 +176,12 @@ module _ (w : ManyState) (i : ℕ) (x : ChainState) (low : i < length w.chains) 
 
   pub chain_kept : kept_state with_chain ≡ record (kept_state w) {
     clocks = put (kept_state w).clocks i x.clock;
-    free = put (kept_state w).free i (parse_units x.free);
+    free = put (kept_state w).free i (account_units x.free);
   }
   chain_kept =
       ap₂ (λ (c : ℕ → Time) (f : ℕ → Units). let z : Kept = record (kept_state w) { clocks = c; free = f } in z)
       (ap (λ (f : ℕ → ChainState). let h : ℕ → Time = λ j. (f j).clock in h) chains_put ∙ put_map (λ (y : ChainState). y.clock) (nth_chain w) i x)
-      (ap (λ (f : ℕ → ChainState). let h : ℕ → Units = λ j. parse_units (f j).free in h) chains_put ∙ put_map (λ (y : ChainState). parse_units y.free)
+      (ap (λ (f : ℕ → ChainState). let h : ℕ → Units = λ j. account_units (f j).free in h) chains_put ∙ put_map (λ (y : ChainState). account_units y.free)
       (nth_chain w) i x)
 
 -- Where an arc stands.

@@ -69,9 +69,9 @@ pub record ChainEntry : Type 0 where
   pub deed : Deed
   pub reply : ManyReply
 
-abbrev pub parse_heights : Deed → ℕ
-parse_heights (Ticked k) = k
-parse_heights _ = 0
+abbrev pub deed_heights : Deed → ℕ
+deed_heights (Ticked k) = k
+deed_heights _ = 0
 
 abbrev pub is_ticked : Deed → Bool
 is_ticked (Ticked k) = true
@@ -79,7 +79,7 @@ is_ticked _ = false
 
 -- the height of a chain
 abbrev pub chain_height : List ChainEntry → ℕ
-chain_height h = sum_by (λ e. parse_heights e.deed) h
+chain_height h = sum_by (λ e. deed_heights e.deed) h
 
 -- how often a chain has ticked
 abbrev pub chain_ticks : List ChainEntry → ℕ

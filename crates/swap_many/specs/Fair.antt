@@ -51,11 +51,11 @@ abbrev pub kept_rounds : Setup → Kept → Kept
 kept_rounds m z = repeat (last_horizon m + 1) (kept_round_or_rest m) z
 
 -- a sweep of the slot of arc a of swap s
-abbrev pub parse_sweep_fields : ℕ → Setup → Kept → ℕ → Kept
-parse_sweep_fields s m z a = kept_done true m z (Sweep s a)
+abbrev pub swept_kept : ℕ → Setup → Kept → ℕ → Kept
+swept_kept s m z a = kept_done true m z (Sweep s a)
 
 abbrev pub sweeps_of : Setup → Kept → ℕ → Kept
-sweeps_of m z s = fold (parse_sweep_fields s m) z (arcs (m.cast s).deal.graph)
+sweeps_of m z s = fold (swept_kept s m) z (arcs (m.cast s).deal.graph)
 
 abbrev pub kept_sweeps : Setup → Kept → Kept
 kept_sweeps m z = fold (λ z t. kept_done true m z (Sweep t.swap t.arc)) z (slots m)

@@ -9,7 +9,7 @@ use Rattle.swap_job.specs.Step.{CanStep}
 use Rattle.swap_rules.specs.declared.outcome.Outcome.TheVariants.{Underwater}
 use Rattle.swap_rules.specs.Findings.{findings}
 use Rattle.swap_rules.specs.Outcome.{outcome, IsEnded}
-use Rattle.swap_rules.specs.Laws.{is_against, names_party, HasRefunds, IsTransferred}
+use Rattle.swap_rules.specs.Laws.{is_against, names_party, HasRefunds, IsDealt, IsTransferred}
 use Rattle.swap_run.specs.Run.{conforms}
 use Rattle.swap_run.specs.Laws.{IsReadyCast, IsGood, IsKept}
 use Rattle.swap_many.specs.declared.many_event.ManyEvent.{ManyEvent}
@@ -20,7 +20,7 @@ use Rattle.swap_run.specs.CalledLaws.{is_no_tick}
 use Rattle.swap_many.specs.Chains.{Setup, place, arc_chain, put, ChainEntry, projection, has_no_tick, chain_height, chain_ticks, book, free, opening}
 use Rattle.swap_many.specs.Chains.{set_aside, is_swept, reply_to_call}
 use Rattle.swap_many.specs.Chains.{in_accounts, placed}
-use Rattle.swap_many.specs.Many.{Run, parse_swap, done, many_reply, many_start, many_run, many_finish, turns_in}
+use Rattle.swap_many.specs.Many.{Run, swap_state, done, many_reply, many_start, many_run, many_finish, turns_in}
 use Rattle.swap_many.specs.Kept.{Kept, kept_done, kept_reply, kept_start, kept_run, kept_finish}
 
 -- What runs is ready: who takes part, the places of the arcs, and what is set aside.
@@ -63,7 +63,7 @@ CanCome m (Sweep s a) = CanSweep m s a
 
 -- What is kept is what the chains' histories give.
 pub record Follows (m : Setup) (r : Run) (z : Kept) : Type 0 where
-  pub swaps : (s : ℕ) → s < m.swaps → z.swaps s ≡ parse_swap m r s
+  pub swaps : (s : ℕ) → s < m.swaps → z.swaps s ≡ swap_state m r s
   pub heights : (i : ℕ) → (z.clocks i).height ≡ chain_height (r.chains i)
   pub ticks : (i : ℕ) → (z.clocks i).ticks ≡ chain_ticks (r.chains i)
   pub free : (i : ℕ) → z.free i ≡ free m i (r.chains i)
@@ -176,3 +176,9 @@ EverySwapIsTransferred =
     → ((v : ℕ) → v < (m.cast s).deal.graph.n → conforms (m.cast s) v ≡ true)
     → findings (m.cast s).deal (conforms (m.cast s)) (book m (many_finish m (many_run m events)).chains s) ≡ []
     → IsTransferred (m.cast s).deal (book m (many_finish m (many_run m events)).chains s) (ready.casts s low).accepted
+
+-- and where all of a swap's parties conform, a fair finish with no event before it finds nothing of the swap, and every outcome is the whole deal
+abbrev pub EveryFairSwapIsDealt : Type 0
+EveryFairSwapIsDealt =
+    (m : Setup) (s : ℕ) → IsReady m → s < m.swaps → ((v : ℕ) → v < (m.cast s).deal.graph.n → conforms (m.cast s) v ≡ true)
+    → IsDealt (m.cast s).deal (conforms (m.cast s)) (book m (many_finish m (many_start m)).chains s)

@@ -12,6 +12,7 @@ pub mod Told
 pub mod Ticking
 pub mod Near
 pub mod Inside
+pub mod Along
 pub mod Fair
 pub mod Whole
 pub mod Opening

@@ -19,8 +19,8 @@ pub record Run : Type 0 where
   pub minds : ℕ → State
 
 -- swap s, over the projections of the chains
-abbrev pub parse_swap : Setup → Run → ℕ → State
-parse_swap m r s = record (r.minds s) { book = book m r.chains s }
+abbrev pub swap_state : Setup → Run → ℕ → State
+swap_state m r s = record (r.minds s) { book = book m r.chains s }
 
 -- An entry that an event makes, and its chain.
 pub record Post : Type 0 where
@@ -50,7 +50,7 @@ post fair m r (Tick i k) = Some (record {
         reply = reply_to_tick_of (chain_ticks (r.chains i)) (chain_height (r.chains i)) k;
       };
 })
-post fair m r (In s e) = option_map (post_call m r s) (called (m.cast s) (parse_swap m r s) e)
+post fair m r (In s e) = option_map (post_call m r s) (called (m.cast s) (swap_state m r s) e)
 post fair m r (Pay i from to units) = Some (record {
   chain = i;
   entry =
@@ -80,11 +80,11 @@ posted h (Some x) = put h x.chain (entered (h x.chain) x.entry)
 -- the state of swap s after an event of its own; the event's call, if any, is made, and the chains
 -- are then h
 abbrev pub heard : Setup → Run → Chains → ℕ → Event → Option Call → State
-heard m r h s e None = before_call (m.cast s) (parse_swap m r s) e
-heard m r h s e (Some x) = told (m.cast s) (parse_swap m r s) e x (projection s x.arc (h (arc_chain m s x.arc)))
+heard m r h s e None = before_call (m.cast s) (swap_state m r s) e
+heard m r h s e (Some x) = told (m.cast s) (swap_state m r s) e x (projection s x.arc (h (arc_chain m s x.arc)))
 
 abbrev pub minds_after : Setup → Run → Chains → ManyEvent → ℕ → State
-minds_after m r h (In s e) = put r.minds s (heard m r h s e (called (m.cast s) (parse_swap m r s) e))
+minds_after m r h (In s e) = put r.minds s (heard m r h s e (called (m.cast s) (swap_state m r s) e))
 minds_after m r h _ = r.minds
 
 -- what an event does; a sweep of a fair finish does also what the last row of its table refuses

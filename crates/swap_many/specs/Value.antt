@@ -8,7 +8,7 @@ use Rattle.swap_world.specs.Value.{WorldState, world_cast, answering_cast, Conti
 use Rattle.swap_world.specs.Gone.{MayGive, HasAsked}
 use Rattle.swap_world.specs.Actors.{AreHeld}
 use Rattle.swap_many.specs.declared.place.Place.{Place}
-use Rattle.swap_many.specs.Accounts.{ChainState, parse_units}
+use Rattle.swap_many.specs.Accounts.{ChainState, account_units}
 use Rattle.swap_many.specs.Chains.{Setup, in_accounts, opening, placed}
 use Rattle.swap_many.specs.Many.{Run}
 use Rattle.swap_many.specs.Kept.{Kept}
@@ -86,7 +86,7 @@ abbrev pub kept_state : ManyState → Kept
 kept_state w = record {
   swaps = λ s. (nth_world w s).state;
   clocks = λ i. (nth_chain w i).clock;
-  free = λ i. parse_units (nth_chain w i).free;
+  free = λ i. account_units (nth_chain w i).free;
   swept = λ s a. slice_index_or (swept_at w s) a false;
 }
 
@@ -142,7 +142,7 @@ pub record IsBetween (m : Setup) (z t : Kept) (w : ManyState) : Type 0 where
   pub after : Leads m there t
   pub books : (s : ℕ) → s < length w.worlds → (nth_world w s).state.book ≡ (there.swaps s).book
   pub clocks : (i : ℕ) → (nth_chain w i).clock ≡ there.clocks i
-  pub free : (i : ℕ) → parse_units (nth_chain w i).free ≡ there.free i
+  pub free : (i : ℕ) → account_units (nth_chain w i).free ≡ there.free i
 
 -- Memory ran out on the way to where f leads.
 pub record IsManyStopped (gives : MayGive) (f : Setup → Kept → Kept) (old new : ManyState) : Type 0 where

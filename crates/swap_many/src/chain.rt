@@ -1,7 +1,7 @@
 //! A chain: its clock and its free accounts.
 
 ghost use Rattle.std.specs.Prelude.{◌≡◌, ◌≤◌, ◌<◌, ◌+◌, ◌^◌, IsTrue, length, sum_by, false};
-ghost use Rattle.swap_many.specs.Accounts.{ChainState, parse_units};
+ghost use Rattle.swap_many.specs.Accounts.{ChainState, account_units};
 ghost use Rattle.swap_many.specs.Chains.{has_no_tick, is_done, paid, plus, reply_to_payment, reply_to_tick_of};
 ghost use Rattle.swap_many.specs.Kept.{later};
 
@@ -52,7 +52,7 @@ impl Chain {
     /// The free units of an account.
     pub(crate) fn free(&self, account: u8) -> u64
         requires { account < length self.now.free }
-        ensures { result ≡ parse_units self.now.free account }
+        ensures { result ≡ account_units self.now.free account }
     {
         self.free[account as usize]
     }
@@ -77,10 +77,10 @@ impl Chain {
     pub(crate) fn pay(&mut self, from: u8, to: u8, units: u64) -> ManyReply
         requires from { from < length self.old.free }
         requires to { to < length self.old.free }
-        ensures reply { result ≡ reply_to_payment (parse_units self.old.free from) units }
-        ensures refused { is_done (reply_to_payment (parse_units self.old.free from) units) ≡ false → self.new ≡ self.old }
-        ensures paid { IsTrue (is_done (reply_to_payment (parse_units self.old.free from) units))
-            → parse_units self.new.free ≡ paid (parse_units self.old.free) from to units }
+        ensures reply { result ≡ reply_to_payment (account_units self.old.free from) units }
+        ensures refused { is_done (reply_to_payment (account_units self.old.free from) units) ≡ false → self.new ≡ self.old }
+        ensures paid { IsTrue (is_done (reply_to_payment (account_units self.old.free from) units))
+            → account_units self.new.free ≡ paid (account_units self.old.free) from to units }
         ensures clock { self.new.clock ≡ self.old.clock }
         ensures count { length self.new.free ≡ length self.old.free }
         ensures sum { sum_by (λ u. u) self.new.free ≡ sum_by (λ u. u) self.old.free }
@@ -98,7 +98,7 @@ impl Chain {
     pub(crate) fn put_back(&mut self, account: u8, units: u64)
         requires account { account < length self.old.free }
         requires few { sum_by (λ u. u) self.old.free + units ≤ 10 ^ 18 }
-        ensures units { parse_units self.new.free ≡ plus (parse_units self.old.free) account units }
+        ensures units { account_units self.new.free ≡ plus (account_units self.old.free) account units }
         ensures clock { self.new.clock ≡ self.old.clock }
         ensures count { length self.new.free ≡ length self.old.free }
         ensures sum { sum_by (λ u. u) self.new.free ≡ sum_by (λ u. u) self.old.free + units }

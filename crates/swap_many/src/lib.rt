@@ -20,8 +20,9 @@ mod worlds;
 ghost use Rattle.swap_many.specs.Laws.{StartFollows, StepsFollow, RepliesFollow, RunsFollow, BooksAreKept};
 ghost use Rattle.swap_many.specs.Laws.{UnitsArePlaced, SweptAcceptNothing, ManyFinishesEnd};
 ghost use Rattle.swap_many.specs.Opened.{NoLackIsCovered};
+ghost use Rattle.swap_many.specs.Along.{UnitsStayPlaced};
 ghost use Rattle.swap_many.specs.Way.{ManyFinishesAreSteps};
-ghost use Rattle.swap_many.specs.Laws.{EverySwapIsSafe, EverySwapIsTransferred, SlotsShowTheClock, SweepsFit, TurnsAreOn};
+ghost use Rattle.swap_many.specs.Laws.{EveryFairSwapIsDealt, EverySwapIsSafe, EverySwapIsTransferred, SlotsShowTheClock, SweepsFit, TurnsAreOn};
 
 pub use many_event::ManyEvent;
 pub use many_reply::ManyReply;
@@ -44,9 +45,10 @@ pub fn every_run_follows()
     ensures kept { BooksAreKept }
 {}
 
-/// On every chain all units are in one place, after every list of events; and on a swept slot no call is accepted.
+/// On every chain all units are in one place, after every list of events and after each step of a fair finish; and on a swept slot no call is accepted.
 pub fn all_units_are_placed()
     ensures placed { UnitsArePlaced }
+    ensures stay { UnitsStayPlaced }
     ensures fit { SweepsFit }
     ensures swept { SweptAcceptNothing }
 {}
@@ -72,4 +74,9 @@ pub fn no_lack_is_covered()
 pub fn every_swap_is_safe()
     ensures safe { EverySwapIsSafe }
     ensures transferred { EverySwapIsTransferred }
+{}
+
+/// Where every party of a swap conforms and no event comes before, a fair finish deals that swap, whoever takes part in the others.
+pub fn every_fair_swap_is_dealt()
+    ensures { EveryFairSwapIsDealt }
 {}

@@ -7,12 +7,13 @@ ghost use Rattle.swap_rules.specs.Outcome.{IsEnded};
 ghost use Rattle.swap_run.specs.Asked.{Answers};
 ghost use Rattle.swap_run.specs.Laws.{IsKept};
 ghost use Rattle.swap_world.specs.Value.{world_cast};
-ghost use Rattle.swap_many.specs.Accounts.{parse_units};
+ghost use Rattle.swap_many.specs.Accounts.{account_units};
 ghost use Rattle.swap_many.specs.Kept.{kept_done, kept_finish};
 ghost use Rattle.swap_many.specs.Laws.{CanCome, Follows};
 ghost use Rattle.swap_many.specs.Many.{many_reply};
 ghost use Rattle.swap_many.specs.Opening.{AreOpenable, opened};
 ghost use Rattle.swap_many.specs.Stages.{Came, Finished};
+ghost use Rattle.swap_many.specs.Along.{IsCutRun};
 ghost use Rattle.swap_many.specs.Value.{AreAllHeld, ContinueAll, HasManyGone, IsManyStopped, UnitsArePlacedIn, nth_chain, kept_state, world_run, made_setup, world_setup};
 ghost use Rattle.swap_many.specs.Value.{nth_world};
 
@@ -94,6 +95,9 @@ impl ManyWorld {
             → Follows (made_setup self.new g) (world_run self.new g) (kept_state self.new)) }
         // On every chain all units are in one place.
         ensures units { OnOk result ((g : ℕ → Answers) → ContinueAll self.new g → UnitsArePlacedIn (made_setup self.new g) (world_run self.new g)) }
+        // And so they are where memory ran out in this call.
+        ensures cut { OnErr result (self.old.stopped ≡ false → (g : ℕ → Answers) → ContinueAll self.new g
+            → IsCutRun (made_setup self.old g) (world_run self.old g) self.new) }
         ensures err { OnErr result (IsManyStopped (A.gives staff.now) (λ m z. kept_done false m z event.now) self.old self.new) }
         ensures stopped { IsTrue self.old.stopped → IsErr result × (self.new ≡ self.old) }
         // Whatever the others do, and whether memory ran out or not, every swap's book is legal and its conforming parties have kept their conduct.
@@ -118,6 +122,9 @@ impl ManyWorld {
         ensures history { OnOk result ((g : ℕ → Answers) → ContinueAll self.new g
             → Follows (made_setup self.new g) (world_run self.new g) (kept_state self.new)) }
         ensures units { OnOk result ((g : ℕ → Answers) → ContinueAll self.new g → UnitsArePlacedIn (made_setup self.new g) (world_run self.new g)) }
+        // And so they are where memory ran out in this call.
+        ensures cut { OnErr result (self.old.stopped ≡ false → (g : ℕ → Answers) → ContinueAll self.new g
+            → IsCutRun (made_setup self.old g) (world_run self.old g) self.new) }
         ensures ended { OnOk result ((s : ℕ) → s < length self.new.worlds → IsEnded (nth_world self.new s).deal (nth_world self.new s).state.book) }
         ensures err { OnErr result (IsManyStopped (A.gives staff.now) kept_finish self.old self.new) }
         ensures stopped { IsTrue self.old.stopped → IsErr result × (self.new ≡ self.old) }
@@ -148,7 +155,7 @@ impl ManyWorld {
     pub fn free(&self, chain: u8, account: u8) -> u64
         requires chain { chain < length self.now.openings }
         requires account { account < length (slice_index_or self.now.openings chain []) }
-        ensures { result ≡ parse_units (nth_chain self.now chain).free account }
+        ensures { result ≡ account_units (nth_chain self.now chain).free account }
     {
         self.worlds.free(chain, account)
     }

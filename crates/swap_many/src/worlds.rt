@@ -9,7 +9,7 @@ ghost use Rattle.swap_digraph.specs.Deal.{IsWellSized};
 ghost use Rattle.swap_run.specs.Fair.{the_horizon};
 ghost use Rattle.swap_run.specs.Run.{conforms};
 ghost use Rattle.swap_world.specs.Value.{world_cast};
-ghost use Rattle.swap_many.specs.Accounts.{parse_units};
+ghost use Rattle.swap_many.specs.Accounts.{account_units};
 ghost use Rattle.swap_many.specs.Fair.{SkipsTo, have_ended};
 ghost use Rattle.swap_many.specs.Inside.{AreWhole};
 ghost use Rattle.swap_many.specs.Many.{last_horizon};
@@ -390,7 +390,7 @@ impl Worlds {
     pub(crate) fn free(&self, chain: u8, account: u8) -> u64
         requires chain { chain < length self.now.chains }
         requires account { account < length (nth_chain self.now chain).free }
-        ensures { result ≡ parse_units (nth_chain self.now chain).free account }
+        ensures { result ≡ account_units (nth_chain self.now chain).free account }
     {
         self.chains[chain as usize].free(account)
     }

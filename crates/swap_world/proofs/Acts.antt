@@ -11,7 +11,7 @@ use Rattle.swap_rules.specs.Due.{Action}
 use Rattle.party_wallet.specs.Value.{signed_in}
 use Rattle.party_machine.specs.Machine.{MachineState, IsOfSame, due_action, next_due, noted_for}
 use Rattle.swap_world.specs.declared.told.Told.{Told}
-use Rattle.swap_world.specs.On.{parse_told}
+use Rattle.swap_world.specs.On.{call_told}
 use Rattle.swap_world.specs.Acting.{histories, landed, next_book, next_machine, build_told}
 use Rattle.swap_world.proofs.Ledgers.{history_at, book_ok}
 use Rattle.swap_world.proofs.Signed.{signed_by, signed_still}
@@ -71,7 +71,7 @@ module _ (sw : ℕ → Bool) (m n : MachineState) (ls : List LedgerState) (a : �
   pub signed_is : ((i : ℕ) → signed_in n.signed i ≡ noted (signed_in m.signed) c i) → n.signed ≡ (next_machine sw m (next_due m) (histories ls)).signed
   signed_is g = signed_by n.signed m.signed c same.places g ∙ sym (ap (λ o. (next_machine sw m o (histories ls)).signed) next)
 
-  pub told_is : (t : Told) → t ≡ parse_told (sw a) n.deal a n.me c l.history → t ≡ build_told sw m (next_due m) (histories ls)
+  pub told_is : (t : Told) → t ≡ call_told (sw a) n.deal a n.me c l.history → t ≡ build_told sw m (next_due m) (histories ls)
   told_is t e =
-      e ∙ (ap₂ (λ (d : Deal) (v : ℕ). parse_told (sw a) d a v c l.history) same.deal same.me
-      ∙ (ap (parse_told (sw a) m.deal a m.me c) (sym (history_at ls a l below is)) ∙ sym (ap (λ o. build_told sw m o (histories ls)) next)))
+      e ∙ (ap₂ (λ (d : Deal) (v : ℕ). call_told (sw a) d a v c l.history) same.deal same.me
+      ∙ (ap (call_told (sw a) m.deal a m.me c) (sym (history_at ls a l below is)) ∙ sym (ap (λ o. build_told sw m o (histories ls)) next)))

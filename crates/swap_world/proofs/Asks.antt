@@ -22,7 +22,7 @@ use Rattle.swap_world.specs.Cast.{made_cast}
 use Rattle.swap_world.specs.Value.{WorldState}
 use Rattle.swap_world.specs.Acting.{histories, taken, seen, told_to, asked_once, answer_question}
 use Rattle.swap_world.specs.Gone.{MayGive, Answered, MayBeGiven, HasAsked, HasGone}
-use Rattle.swap_world.specs.On.{IsCutOn, tell_entries}
+use Rattle.swap_world.specs.On.{IsCutOn, event_told}
 use Rattle.swap_world.specs.declared.told.Told.{Told}
 use Rattle.swap_world.specs.Inside.{name_in, questions_in, AreActorsOf}
 use Rattle.swap_world.specs.declared.actor.Actor.{Actor}
@@ -140,11 +140,11 @@ module _ {gives : MayGive} {d : Deal} {conforming : List Bool} {seeds : Seeds} {
   is_cut (Err u) x y new b eb = record { cast = refl; asked = has_asked x y new b; book = inr (λ g e. eb ∙ stepped_book g e) }
 
   -- what the party is told
-  told_asked : (g : Answers) → Follows g → told_to sw d p o (histories ls) ≡ tell_entries sw (with_answers c g) s (Act p)
+  told_asked : (g : Answers) → Follows g → told_to sw d p o (histories ls) ≡ event_told sw (with_answers c g) s (Act p)
   told_asked g e = answered_told d conforming seeds roles before ls xs sw g p n name o k.place k.role (now_is g e) k.may
 
   pub has_told : {E : Type 0} (r : Result Told E) → IfOk r (λ t. t ≡ told_to sw d p o (histories ls))
-      → IfOk r (λ t. (g : Answers) → Follows g → t ≡ tell_entries sw (with_answers c g) s (Act p))
+      → IfOk r (λ t. (g : Answers) → Follows g → t ≡ event_told sw (with_answers c g) s (Act p))
   has_told (Ok t) e = λ g f. e ∙ told_asked g f
   has_told (Err u) e = tt
 

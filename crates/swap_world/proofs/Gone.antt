@@ -24,7 +24,7 @@ use Rattle.swap_world.specs.Cast.{asks}
 use Rattle.swap_world.specs.Value.{WorldState, world_cast, answering_cast, Continues}
 use Rattle.swap_world.specs.Actors.{AreHeld}
 use Rattle.swap_world.specs.Gone.{MayGive, Answered, MayBeGiven, HasAsked, HasGone, IsCutBy, IsCut}
-use Rattle.swap_world.specs.On.{tell_entries, told_of_call}
+use Rattle.swap_world.specs.On.{event_told, told_of_call}
 use Rattle.swap_world.specs.declared.told.Told.{Told}
 use Rattle.swap_world.specs.Stopped.{IsStopped}
 use Rattle.swap_world.proofs.On.{make_on, take_on, act_on, act_is, call_is, plainly}
@@ -274,7 +274,7 @@ told_as sw c s v (Script moves) g e = refl
 told_as sw c s v (Strategy name) g e = absurd (cc e)
 
 own_told : (sw : ℕ → Bool) (c : Cast) (s : State) (v : ℕ) (b : Bool) (g : Answers) → conforms c v ≡ b
-    → cond b false (is_strategy (party_role c v)) ≡ false → tell_entries sw (with_answers c g) s (Act v) ≡ tell_entries sw c s (Act v)
+    → cond b false (is_strategy (party_role c v)) ≡ false → event_told sw (with_answers c g) s (Act v) ≡ event_told sw c s (Act v)
 own_told sw c s v true g e alone =
     let due : Option Called = by_due v (next_action c s v) in
     ap (λ (b : Bool). told_of_call sw c s (cond b due (called_as (with_answers c g) s v (party_role c v)))) e
@@ -283,7 +283,7 @@ own_told sw c s v false g e alone =
     ap (λ (o : Option Called). told_of_call sw c s (cond (conforms c v) (by_due v (next_action c s v)) o)) (told_as sw c s v (party_role c v) g alone)
 
 pub told_same : (sw : ℕ → Bool) (c : Cast) (s : State) (v : ℕ) (g : Answers) → asks c v ≡ false
-    → tell_entries sw (with_answers c g) s (Act v) ≡ tell_entries sw c s (Act v)
+    → event_told sw (with_answers c g) s (Act v) ≡ event_told sw c s (Act v)
 told_same sw c s v g alone = own_told sw c s v (conforms c v) g refl alone
 
 not_asking_as : (c : Cast) (v : ℕ) (b : Bool) → b ≡ false → cond b false (is_strategy (party_role c v)) ≡ false → is_strategy (party_role c v) ≡ false

@@ -26,7 +26,7 @@ use Rattle.swap_run.proofs.Swept.{none_swept}
 use Rattle.party_machine.specs.Machine.{MachineState}
 use Rattle.swap_world.specs.Acting.{landed, build_told, told_to}
 use Rattle.swap_world.specs.Inside.{IsLedgerOf}
-use Rattle.swap_world.specs.On.{parse_told, told_of_call, tell_entries}
+use Rattle.swap_world.specs.On.{call_told, told_of_call, event_told}
 use Rattle.swap_world.specs.declared.told.Told.{Told}
 use Rattle.swap_world.proofs.Turns.{call_begins}
 
@@ -53,9 +53,9 @@ landed_called w d a p c old new k e =
 
 -- and what its party is told
 pub told_called : (w : Bool) (d : Deal) (a p : ℕ) (c : Call) (old : LedgerState) (t : Told) → IsLedgerOf d a old
-    → t ≡ parse_told w old.deal old.arc p c old.history → t ≡ parse_told w d a p c old.history
+    → t ≡ call_told w old.deal old.arc p c old.history → t ≡ call_told w d a p c old.history
 told_called w d a p c old t k e =
-    e ∙ ap (λ (x : Deal). parse_told w x old.arc p c old.history) k.deal ∙ ap (λ (x : ℕ). parse_told w d x p c old.history) k.arc
+    e ∙ ap (λ (x : Deal). call_told w x old.arc p c old.history) k.deal ∙ ap (λ (x : ℕ). call_told w d x p c old.history) k.arc
 
 pub if_told : {A E : Type 0} {P Q : A → Type 0} (r : Result A E) → ((x : A) → P x → Q x) → IfOk r P → IfOk r Q
 if_told (Ok x) f h = f x h
@@ -165,30 +165,30 @@ module _ (sw : ℕ → Bool) (c : Cast) (s : State) where
       → build_told sw m o s.book ≡ told_of_call sw c s (by_due v o)
   told_by_machine m v None ed em = refl
   told_by_machine m v (Some x) ed em =
-      ap (λ (d : Deal). parse_told (sw x.arc) d x.arc m.me x.call (history s.book x.arc)) ed
-      ∙ ap (λ (u : ℕ). parse_told (sw x.arc) c.deal x.arc u x.call (history s.book x.arc)) em
+      ap (λ (d : Deal). call_told (sw x.arc) d x.arc m.me x.call (history s.book x.arc)) ed
+      ∙ ap (λ (u : ℕ). call_told (sw x.arc) c.deal x.arc u x.call (history s.book x.arc)) em
 
   -- of a due call
   pub told_due : (m : MachineState) (v : ℕ) → conforms c v ≡ true → m.deal ≡ c.deal → m.me ≡ v
-      → build_told sw m (next_action c s v) s.book ≡ tell_entries sw c s (Act v)
+      → build_told sw m (next_action c s v) s.book ≡ event_told sw c s (Act v)
   told_due m v cv ed em =
       told_by_machine m v (next_action c s v) ed em
       ∙ sym (ap (λ b. told_of_call sw c s (cond b (by_due v (next_action c s v)) (called_as c s v (party_role c v)))) cv)
 
   -- of the call of a party that doesn't conform
-  pub told_act : (v : ℕ) (role : Role) → conforms c v ≡ false → party_role c v ≡ role → tell_entries sw c s (Act v) ≡ told_of_call sw c s (called_as c s v role)
+  pub told_act : (v : ℕ) (role : Role) → conforms c v ≡ false → party_role c v ≡ role → event_told sw c s (Act v) ≡ told_of_call sw c s (called_as c s v role)
   told_act v role cv r = ap (told_of_call sw c s) (called_by v role cv r)
 
-  pub told_call : (v : ℕ) (mv : Move) → tell_entries sw c s (Made v mv) ≡ told_to sw c.deal v (resolved c.deal c.seeds s.book mv) s.book
+  pub told_call : (v : ℕ) (mv : Move) → event_told sw c s (Made v mv) ≡ told_to sw c.deal v (resolved c.deal c.seeds s.book mv) s.book
   told_call v mv = told_by_plan v (resolved c.deal c.seeds s.book mv)
 
   pub told_script : (v : ℕ) (moves : List Move) → conforms c v ≡ false → party_role c v ≡ Script moves
-      → tell_entries sw c s (Act v) ≡ told_to sw c.deal v (next_call c.deal c.seeds (party_plan s v).known (party_plan s v).moves) s.book
+      → event_told sw c s (Act v) ≡ told_to sw c.deal v (next_call c.deal c.seeds (party_plan s v).known (party_plan s v).moves) s.book
   told_script v moves cv r =
       told_act v (Script moves) cv r ∙ told_by_plan v (next_call c.deal c.seeds (party_plan s v).known (party_plan s v).moves)
 
   pub told_strategy : (v : ℕ) (name : List ℕ) → conforms c v ≡ false → party_role c v ≡ Strategy name
-      → tell_entries sw c s (Act v) ≡ told_to sw c.deal v (answer_for c.deal v (c.answers (length s.asked))) s.book
+      → event_told sw c s (Act v) ≡ told_to sw c.deal v (answer_for c.deal v (c.answers (length s.asked))) s.book
   told_strategy v name cv r =
       told_act v (Strategy name) cv r ∙ told_by_plan v (answer_for c.deal v (c.answers (length s.asked)))
 

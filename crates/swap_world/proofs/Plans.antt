@@ -20,7 +20,7 @@ use Rattle.swap_run.specs.Asked.{Answers, with_answers, is_strategy}
 use Rattle.swap_world.specs.Cast.{made_cast}
 use Rattle.swap_world.specs.Acting.{landed, taken, seen, turned, asked_once, answer_question}
 use Rattle.swap_world.specs.Inside.{name_in}
-use Rattle.swap_world.specs.On.{told_of_call, tell_entries}
+use Rattle.swap_world.specs.On.{told_of_call, event_told}
 use Rattle.swap_world.specs.declared.told.Told.TheVariants.{Nothing}
 use Rattle.swap_world.proofs.On.{make_on, take_on, act_on, act_is, told_act}
 
@@ -102,7 +102,7 @@ module _ (d : Deal) (conforming : List Bool) (seeds : Seeds) (roles : List Role)
   silent_as sw s v (Strategy name) e = absurd (cc e)
 
   pub other_told : (sw : ℕ → Bool) (s : State) (v : ℕ) → slice_index_or conforming v false ≡ false → is_planned (party_role c v) ≡ false
-      → tell_entries sw c s (Act v) ≡ Nothing
+      → event_told sw c s (Act v) ≡ Nothing
   other_told sw s v e r = told_act sw c s v (party_role c v) e refl ∙ silent_as sw s v (party_role c v) r
 
   -- a call changes the histories alone

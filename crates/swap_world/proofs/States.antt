@@ -28,7 +28,7 @@ use Rattle.party_machine.specs.Machine.{MachineState, next_due}
 use Rattle.swap_world.proofs.Plans.{IsScript, absent, due_call, answer_is, planned_look, planned_call, planned_act, planned_ask}
 use Rattle.swap_world.specs.Cast.{made_cast, wallet_with}
 use Rattle.swap_world.specs.Acting.{histories, landed, next_book, next_machine, build_told, taken, seen, told_to, turned, asked_once, answer_question}
-use Rattle.swap_world.specs.On.{tell_entries}
+use Rattle.swap_world.specs.On.{event_told}
 use Rattle.swap_world.proofs.On.{make_on, act_on, act_is, call_is, told_due, told_call, told_script, told_strategy}
 use Rattle.swap_world.specs.Inside.{notes_in, plan_in, IsActorOf, AreActorsOf}
 use Rattle.swap_world.specs.declared.actor.Actor.{Actor}
@@ -189,7 +189,7 @@ module _ (d : Deal) (conforming : List Bool) (seeds : List (Option (List ℕ))) 
 
   -- what the party is told
   pub acted_told : (sw : ℕ → Bool) (p : ℕ) (m : MachineState) → IsAt p m
-      → build_told sw m (next_due m) (histories ls) ≡ tell_entries sw c s (Act p)
+      → build_told sw m (next_due m) (histories ls) ≡ event_told sw c s (Act p)
   acted_told sw p m i =
       ap (λ (o : Option Action). build_told sw m o (histories ls)) (sym (next_is p m i)) ∙ told_due sw c s m p i.is.0 i.is.1 i.is.2
 
@@ -238,7 +238,7 @@ module _ (d : Deal) (conforming : List Bool) (seeds : List (Option (List ℕ))) 
   followed_notes sw p n i script = sym (ap (λ (t : State). t.notes) (followed sw p n _ _ i script refl refl)) ∙ plan_notes p n _ i
 
   pub followed_told : (sw : ℕ → Bool) (p : ℕ) (n : Plan) → IsPlanAt p n → IsScript (party_role c p)
-      → told_to sw d p (due_call d conforming seeds roles n) (histories ls) ≡ tell_entries sw c s (Act p)
+      → told_to sw d p (due_call d conforming seeds roles n) (histories ls) ≡ event_told sw c s (Act p)
   followed_told sw p n i script =
       ap (λ (m : Plan). told_to sw d p (due_call d conforming seeds roles m) (histories ls)) (sym (plan_at p n i))
       ∙ sym (told_script sw c s p script.0 i.is.0 script.1)
@@ -255,7 +255,7 @@ module _ (d : Deal) (conforming : List Bool) (seeds : List (Option (List ℕ))) 
 
   pub answered_told : (sw : ℕ → Bool) (g : Answers) (p : ℕ) (n : Plan) (name : List ℕ) (o : Option (ℕ × Call)) → IsPlanAt p n
       → party_role c p ≡ kinds.Strategy name → g (length qs) ≡ o → MayAnswer d p o
-      → told_to sw d p o (histories ls) ≡ tell_entries sw (with_answers c g) s (Act p)
+      → told_to sw d p o (histories ls) ≡ event_told sw (with_answers c g) s (Act p)
   answered_told sw g p n name o i role at may =
       sym (told_strategy sw (with_answers c g) s p name i.is.0 role
       ∙ (ap (λ (x : Option (ℕ × Call)). told_to sw d p (answer_for d p x) (histories ls)) at
@@ -275,5 +275,5 @@ module _ (d : Deal) (conforming : List Bool) (seeds : List (Option (List ℕ))) 
   pub made_notes : (sw : ℕ → Bool) (p : ℕ) (mv : Move) (n : Plan) → IsPlanAt p n → (apply_step sw c s (Made p mv)).notes ≡ map (notes_in d) xs
   made_notes sw p mv n i = sym (ap (λ (t : State). t.notes) (made_by_hand sw p mv n _ _ i refl refl)) ∙ plan_notes p n _ i
 
-  pub made_told : (sw : ℕ → Bool) (p : ℕ) (mv : Move) → told_to sw d p (resolved d seeds (histories ls) mv) (histories ls) ≡ tell_entries sw c s (Made p mv)
+  pub made_told : (sw : ℕ → Bool) (p : ℕ) (mv : Move) → told_to sw d p (resolved d seeds (histories ls) mv) (histories ls) ≡ event_told sw c s (Made p mv)
   made_told sw p mv = sym (told_call sw c s p mv)

@@ -14,7 +14,7 @@ use Rattle.ledger_core.specs.Ledger.{after_call}
 use Rattle.swap_run.specs.Run.{Plan, Question, plan_up_to, signed_after, after_tick}
 use Rattle.swap_run.specs.Called.{is_barred}
 use Rattle.party_machine.specs.Machine.{MachineState}
-use Rattle.swap_world.specs.On.{parse_told}
+use Rattle.swap_world.specs.On.{call_told}
 use Rattle.swap_world.specs.declared.told.Told.{Told}
 use Rattle.swap_world.specs.declared.told.Told.TheVariants.{Nothing}
 
@@ -58,7 +58,7 @@ next_machine swept m (Some x) b = record {
 -- what the machine's party is told
 abbrev pub build_told : (ℕ → Bool) → MachineState → Option Action → Histories → Told
 build_told swept m None b = Nothing
-build_told swept m (Some x) b = parse_told (swept x.arc) m.deal x.arc m.me x.call (history b x.arc)
+build_told swept m (Some x) b = call_told (swept x.arc) m.deal x.arc m.me x.call (history b x.arc)
 
 -- the histories after a call of party v that doesn't conform, if any
 abbrev pub taken : (ℕ → Bool) → Deal → ℕ → Option (ℕ × Call) → Histories → Histories
@@ -73,7 +73,7 @@ seen swept d v (Some x) b n = plan_up_to n x.0 (landed (swept x.0) d x.0 v x.1 (
 -- what party v is told
 abbrev pub told_to : (ℕ → Bool) → Deal → ℕ → Option (ℕ × Call) → Histories → Told
 told_to swept d v None b = Nothing
-told_to swept d v (Some x) b = parse_told (swept x.0) d x.0 v x.1 (history b x.0)
+told_to swept d v (Some x) b = call_told (swept x.0) d x.0 v x.1 (history b x.0)
 
 -- the plan of a party that has asked its strategy once more
 abbrev pub asked_once : Plan → Plan

@@ -19,17 +19,17 @@ abbrev pub swept_in : List Bool → ℕ → Bool
 swept_in swept a = slice_index_or swept a false
 
 -- what party p is told of its call on arc a, over that history
-abbrev pub parse_told : (swept : Bool) → Deal → (a p : ℕ) → Call → List Entry → Told
-parse_told swept d a p c h = if is_barred swept h c then Passed else Replied (history_reply d a h p c)
+abbrev pub call_told : (swept : Bool) → Deal → (a p : ℕ) → Call → List Entry → Told
+call_told swept d a p c h = if is_barred swept h c then Passed else Replied (history_reply d a h p c)
 
 -- the same of a call, if there is one
 abbrev pub told_of_call : (ℕ → Bool) → Cast → State → Option Called → Told
 told_of_call swept c s None = Nothing
-told_of_call swept c s (Some x) = parse_told (swept x.arc) c.deal x.arc x.sender x.call (history s.book x.arc)
+told_of_call swept c s (Some x) = call_told (swept x.arc) c.deal x.arc x.sender x.call (history s.book x.arc)
 
 -- what a party is told of the call that an event makes, if any
-abbrev pub tell_entries : (ℕ → Bool) → Cast → State → Event → Told
-tell_entries swept c s e = told_of_call swept c s (called c s e)
+abbrev pub event_told : (ℕ → Bool) → Cast → State → Event → Told
+event_told swept c s e = told_of_call swept c s (called c s e)
 
 -- Memory ran out in an event: the histories are those before it or after it.
 abbrev pub IsCutOn : MayGive → (swept : ℕ → Bool) → Event → (old new : WorldState) → Type 0

@@ -22,7 +22,7 @@ ghost use Rattle.party_machine.specs.Machine.{due_action, next_due, noted_for, I
 ghost use Rattle.wallet_journal.specs.Stopped.{ShowsAll};
 ghost use Rattle.swap_world.specs.Journals.{IsBetween, IsJournalOf};
 ghost use Rattle.swap_world.specs.Acting.{IsMakable, IsSameOwner, histories, landed, next_book, next_machine, build_told, seen, taken, told_to, turned};
-ghost use Rattle.swap_world.specs.On.{swept_in, parse_told};
+ghost use Rattle.swap_world.specs.On.{swept_in, call_told};
 ghost use Rattle.swap_world.specs.Inside.{AreLedgersOf, IsLedgerOf, HaveRoom};
 
 use crate::told::Told;
@@ -84,7 +84,7 @@ fn call(
     requires legal { IsLegal ledger.old.deal ledger.old.arc ledger.old.history }
     requires room { 0 < ledger.old.spare }
     ensures leaves { ledger.new.history ≡ landed swept ledger.old.deal ledger.old.arc sender call ledger.old.history }
-    ensures told { IfOk result (λ r. r ≡ parse_told swept ledger.old.deal ledger.old.arc sender call ledger.old.history) }
+    ensures told { IfOk result (λ r. r ≡ call_told swept ledger.old.deal ledger.old.arc sender call ledger.old.history) }
     ensures room { OnOk result (0 < ledger.new.spare) }
     ensures deal { ledger.new.deal ≡ ledger.old.deal }
     ensures arc { ledger.new.arc ≡ ledger.old.arc }
@@ -290,7 +290,7 @@ fn make_due(
     requires begins { Begins (history machine.old.known arc) ledger.old.history }
     requires room { 0 < ledger.old.spare }
     ensures leaves { ledger.new.history ≡ landed swept machine.old.deal arc machine.old.me due ledger.old.history }
-    ensures told { IfOk result (λ r. r ≡ parse_told swept machine.old.deal arc machine.old.me due ledger.old.history) }
+    ensures told { IfOk result (λ r. r ≡ call_told swept machine.old.deal arc machine.old.me due ledger.old.history) }
     ensures room { OnOk result (0 < ledger.new.spare) }
     ensures knows { OnOk result (machine.new ≡ record machine.old {
       known =
@@ -393,7 +393,7 @@ fn make_planned(
     requires legal { IsLegal ledger.old.deal ledger.old.arc ledger.old.history }
     requires room { 0 < ledger.old.spare }
     ensures leaves { ledger.new.history ≡ landed swept ledger.old.deal ledger.old.arc sender made ledger.old.history }
-    ensures told { IfOk result (λ r. r ≡ parse_told swept ledger.old.deal ledger.old.arc sender made ledger.old.history) }
+    ensures told { IfOk result (λ r. r ≡ call_told swept ledger.old.deal ledger.old.arc sender made ledger.old.history) }
     ensures room { OnOk result (0 < ledger.new.spare) }
     ensures knows { OnOk result (planner.new
         ≡ plan_up_to planner.old arc (landed swept ledger.old.deal ledger.old.arc sender made ledger.old.history)) }

@@ -32,7 +32,7 @@ ghost use Rattle.swap_world.specs.Value.{world_cast, answering_cast, new_world, 
 ghost use Rattle.swap_world.specs.Near.{all_adjacent};
 ghost use Rattle.swap_world.specs.Quiet.{IsStill};
 ghost use Rattle.swap_world.specs.Gone.{HasGone, IsCut};
-ghost use Rattle.swap_world.specs.On.{swept_in, tell_entries, ticked_on, IsCutOn};
+ghost use Rattle.swap_world.specs.On.{swept_in, event_told, ticked_on, IsCutOn};
 ghost use Rattle.swap_world.specs.Actors.{AllFit, AreHeld, HaveRoles, ConformingHaveSeeds, IsFirstOf};
 ghost use Rattle.swap_world.specs.Inside.{AreNewLedgers};
 
@@ -223,7 +223,7 @@ impl World {
         requires goes_on { self.old.stopped ≡ false }
         ensures ok { OnOk result (self.new
             ≡ record self.old { state = apply_step (swept_in swept.now) (world_cast self.old) self.old.state (Event.Act p) }) }
-        ensures told { IfOk result (λ r. r ≡ tell_entries (swept_in swept.now) (world_cast self.old) self.old.state (Event.Act p)) }
+        ensures told { IfOk result (λ r. r ≡ event_told (swept_in swept.now) (world_cast self.old) self.old.state (Event.Act p)) }
         ensures stopped { OnErr result (self.new.stopped ≡ true) }
         ensures cast { OnErr result (world_cast self.new ≡ world_cast self.old) }
         ensures asked { OnErr result (self.new.state.asked ≡ self.old.state.asked) }
@@ -294,7 +294,7 @@ impl World {
         requires goes_on { self.old.stopped ≡ false }
         ensures ok { OnOk result (self.new
             ≡ record self.old { state = apply_step (swept_in swept.now) (world_cast self.old) self.old.state (Event.Act p) }) }
-        ensures told { IfOk result (λ r. r ≡ tell_entries (swept_in swept.now) (world_cast self.old) self.old.state (Event.Act p)) }
+        ensures told { IfOk result (λ r. r ≡ event_told (swept_in swept.now) (world_cast self.old) self.old.state (Event.Act p)) }
         ensures stopped { OnErr result (self.new.stopped ≡ true) }
         ensures cast { OnErr result (world_cast self.new ≡ world_cast self.old) }
         ensures asked { OnErr result (self.new.state.asked ≡ self.old.state.asked) }
@@ -324,7 +324,7 @@ impl World {
         requires goes_on { self.old.stopped ≡ false }
         ensures ok { OnOk result (self.new
             ≡ record self.old { state = apply_step (swept_in swept.now) (world_cast self.old) self.old.state (Event.Act p) }) }
-        ensures told { IfOk result (λ r. r ≡ tell_entries (swept_in swept.now) (world_cast self.old) self.old.state (Event.Act p)) }
+        ensures told { IfOk result (λ r. r ≡ event_told (swept_in swept.now) (world_cast self.old) self.old.state (Event.Act p)) }
         ensures cast { OnErr result (world_cast self.new ≡ world_cast self.old) }
         ensures asked { OnErr result (self.new.state.asked ≡ self.old.state.asked) }
         ensures answers { OnErr result (self.new.answers ≡ self.old.answers) }
@@ -350,7 +350,7 @@ impl World {
         requires held { AreHeld (A.holds staff.now) self.old.roles }
         ensures ok { OnOk result (HasGone (A.gives staff.now) (λ c s. apply_step (swept_in swept.now) c s (Event.Act p)) self.old self.new) }
         ensures told { IfOk result (λ r. (g : Answers) → Continues self.new g
-            → r ≡ tell_entries (swept_in swept.now) (answering_cast self.old g) self.old.state (Event.Act p)) }
+            → r ≡ event_told (swept_in swept.now) (answering_cast self.old g) self.old.state (Event.Act p)) }
         ensures cut { OnErr result (IsCutOn (A.gives staff.now) (swept_in swept.now) (Event.Act p) self.old self.new) }
     {
         let Role::Strategy(name) = &self.roles.as_slice()[p as usize] else {
@@ -382,7 +382,7 @@ impl World {
         requires held { AreHeld (A.holds staff.now) self.old.roles }
         ensures ok { OnOk result (HasGone (A.gives staff.now) (λ c s. apply_step (swept_in swept.now) c s (Event.Act p)) self.old self.new) }
         ensures told { IfOk result (λ r. (g : Answers) → Continues self.new g
-            → r ≡ tell_entries (swept_in swept.now) (answering_cast self.old g) self.old.state (Event.Act p)) }
+            → r ≡ event_told (swept_in swept.now) (answering_cast self.old g) self.old.state (Event.Act p)) }
         ensures cut { OnErr result (IsCutOn (A.gives staff.now) (swept_in swept.now) (Event.Act p) self.old self.new) }
     {
         if self.asks(p) {
@@ -398,7 +398,7 @@ impl World {
         requires goes_on { self.old.stopped ≡ false }
         ensures ok { OnOk result (self.new
             ≡ record self.old { state = apply_step (swept_in swept.now) (world_cast self.old) self.old.state (Event.Call sender mv.now) }) }
-        ensures told { IfOk result (λ r. r ≡ tell_entries (swept_in swept.now) (world_cast self.old) self.old.state (Event.Call sender mv.now)) }
+        ensures told { IfOk result (λ r. r ≡ event_told (swept_in swept.now) (world_cast self.old) self.old.state (Event.Call sender mv.now)) }
         ensures cast { OnErr result (world_cast self.new ≡ world_cast self.old) }
         ensures asked { OnErr result (self.new.state.asked ≡ self.old.state.asked) }
         ensures answers { OnErr result (self.new.answers ≡ self.old.answers) }
@@ -422,7 +422,7 @@ impl World {
         requires goes_on { self.old.stopped ≡ false }
         ensures ok { OnOk result (self.new
             ≡ record self.old { state = apply_step (swept_in swept.now) (world_cast self.old) self.old.state (Event.Call sender mv.now) }) }
-        ensures told { IfOk result (λ r. r ≡ tell_entries (swept_in swept.now) (world_cast self.old) self.old.state (Event.Call sender mv.now)) }
+        ensures told { IfOk result (λ r. r ≡ event_told (swept_in swept.now) (world_cast self.old) self.old.state (Event.Call sender mv.now)) }
         ensures cast { OnErr result (world_cast self.new ≡ world_cast self.old) }
         ensures asked { OnErr result (self.new.state.asked ≡ self.old.state.asked) }
         ensures answers { OnErr result (self.new.answers ≡ self.old.answers) }
@@ -479,7 +479,7 @@ impl World {
         requires held { AreHeld (A.holds staff.now) self.old.roles }
         ensures ok { OnOk result (HasGone (A.gives staff.now) (λ c s. apply_step (swept_in swept.now) c s event.now) self.old self.new) }
         ensures told { IfOk result (λ r. (g : Answers) → Continues self.new g
-            → r ≡ tell_entries (swept_in swept.now) (answering_cast self.old g) self.old.state event.now) }
+            → r ≡ event_told (swept_in swept.now) (answering_cast self.old g) self.old.state event.now) }
         ensures cut { OnErr result (IsCutOn (A.gives staff.now) (swept_in swept.now) event.now self.old self.new) }
     {
         match event {
@@ -512,7 +512,7 @@ impl World {
         requires held { AreHeld (A.holds staff.now) self.old.roles }
         ensures ok { OnOk result (HasGone (A.gives staff.now) (λ c s. apply_step (swept_in swept.now) c s event.now) self.old self.new) }
         ensures told { IfOk result (λ r. (g : Answers) → Continues self.new g
-            → r ≡ tell_entries (swept_in swept.now) (answering_cast self.old g) self.old.state event.now) }
+            → r ≡ event_told (swept_in swept.now) (answering_cast self.old g) self.old.state event.now) }
         ensures err { OnErr result (self.new.stopped ≡ true) }
         ensures cut { OnErr result (IsCutOn (A.gives staff.now) (swept_in swept.now) event.now self.old self.new) }
     {
@@ -572,7 +572,7 @@ impl World {
         requires held { AreHeld (A.holds staff.now) self.old.roles }
         ensures ok { OnOk result (HasGone (A.gives staff.now) (λ c s. apply_step (swept_in swept.now) c s event.now) self.old self.new) }
         ensures told { IfOk result (λ r. (g : Answers) → Continues self.new g
-            → r ≡ tell_entries (swept_in swept.now) (answering_cast self.old g) self.old.state event.now) }
+            → r ≡ event_told (swept_in swept.now) (answering_cast self.old g) self.old.state event.now) }
         ensures err { OnErr result (self.new.stopped ≡ true) }
         ensures cut { OnErr result (IsCutOn (A.gives staff.now) (swept_in swept.now) event.now self.old self.new) }
         ensures stopped { IsTrue self.old.stopped → IsErr result × (self.new.state.book ≡ self.old.state.book) }

@@ -16,8 +16,8 @@ use Rattle.atomic_table.proofs.Lists.{at_set, set_again, set_here, set_else, at_
 use Rattle.atomic_table.specs.Seated.{TableId}
 use Rattle.atomic_table.specs.declared.shared.Seat.{Seat}
 use Rattle.turn_lock.specs.declared.view.View.{View}
-use Rattle.turn_lock.specs.Parts.{entries_by, IsContinuedBy, AreBelow, Part, has_number, known_in, Covers}
-use Rattle.turn_lock.specs.Turns.{Phase, early, home, out, mark, turn_word, slot_in, fresh, spent, resting, turning, both_of, IsOwn, Knows, Stands, IsKept, Sat}
+use Rattle.turn_lock.specs.Parts.{entries_by, IsContinuedBy, AreBelow, IsOnceEach, Part, has_number, known_in, Covers}
+use Rattle.turn_lock.specs.Turns.{Phase, early, home, out, mark, turn_word, slot_in, fresh, spent, resting, turning, opening_with, both_of, IsOwn, Knows, Stands, IsKept, Sat}
 use Rattle.turn_lock.specs.Turns.{idle, Claims, ClaimsFirst, Takes, Asks, Gives, SeatsFrom}
 use Rattle.turn_lock.proofs.Histories.{prefix_self, prefix_trans, all_map, all_append, others_stay, none_above}
 
@@ -65,6 +65,27 @@ set_already n mask k small is taken = same_from_bits (bit_or n mask) n (λ i. ap
   where
     one : bit_at n k ≡ 1
     one = let b : ℕ = bit_at n k in let below : b < 2 = mod-lt (n / 2 ^ k) (omega arith) in let some : b ≢ 0 = taken in let is : b ≡ 1 = omega arith in is
+
+-- Numbers of a view.
+
+some_part : {E : Type 0} (p : Part E) (ps : List (Part E)) → p ∷ ps ≢ []
+some_part p ps e = cc
+
+none_of_two : (a b : Bool) → (a || b) ≡ false → (a ≡ false) × (b ≡ false)
+none_of_two false b e = (refl, e)
+none_of_two true b e = absurd (off (sym e))
+
+in_neither : {E : Type 0} (k : ℕ) (ps qs : List (Part E)) → has_number k ps ≡ false → has_number k qs ≡ false → has_number k (ps ++ qs) ≡ false
+in_neither k [] qs a b = b
+in_neither k (p ∷ ps) qs a b =
+    let t = none_of_two (p.0 == k) (has_number k ps) a in
+    ap (λ c. c || has_number k (ps ++ qs)) t.0 ∙ in_neither k ps qs t.1 b
+
+-- of two views that keep one opening, the view of both keeps it
+keep_opening : {E : Type 0} (start o p : List E) (ps qs : List (Part E)) → (ps ≢ [] → o ≡ start) → (qs ≢ [] → p ≡ start) → ps ++ qs ≢ []
+    → opening_with ps o p ≡ start
+keep_opening start o p [] qs first second some = second some
+keep_opening start o p (x ∷ xs) qs first second some = first (some_part x xs)
 
 pub place_inside : {A : Type 0} (xs : List A) (i : ℕ) (a : A) → get_elem? xs i ≡ core.some a → i < length xs
 place_inside [] i a e = absurd (core.some-ne-none a (sym e))
@@ -124,7 +145,8 @@ module _ {T E : Type 0} (history : T → List E) (author : E → ℕ) (start : L
   }
     where
       one : (id : ℕ) (v : View E) → get_elem? (fresh start ∷ []) id ≡ core.some v → Sees (λ n. 0) early start 0 id v
-      one zero v e = subst (Sees (λ n. 0) early start 0 0) (core.some-injective _ _ e) (record { turn = λ h. absurd (off h); own = tt })
+      one zero v e = subst (Sees (λ n. 0) early start 0 0) (core.some-injective _ _ e)
+          (record { turn = λ h. absurd (off h); own = tt; once = tt; opened = λ _. refl })
       one (suc id) v e = absurd (core.some-ne-none v (sym e))
 
   stays_out : (current : List E) (claimed : ℕ) (views views' : List (View E)) (phase : Phase T) → ((j : ℕ) (v : View E) → v.holds ≡ true
@@ -151,6 +173,8 @@ module _ {T E : Type 0} (history : T → List E) (author : E → ℕ) (start : L
         views = λ j v e. ⊎_elim (r.views j v) (λ (t : f ≡ v). subst (Sees r.owner r.phase r.current r.claimed j) t (record {
           turn = λ h. absurd (off h);
           own = tt;
+          once = tt;
+          opened = λ _. refl;
         })) (at_snoc s.views f v j e);
       } in
       subst (λ (vs : List (View E)). Rule record { words = s.words; homes = s.homes; views = vs ++ f ∷ [] }) (sym same) all
@@ -205,6 +229,8 @@ module _ {T E : Type 0} (history : T → List E) (author : E → ℕ) (start : L
   others_see owner owner' phase phase' current current' claimed claimed' j v idle go k = record {
     turn = λ h. absurd (idle h (k.turn h).0);
     own = all_map (Own owner current claimed j) (Own owner' current' claimed' j) go v.parts k.own;
+    once = k.once;
+    opened = k.opened;
   }
 
   -- a word that says that the turn is out is no multiple of four
@@ -237,7 +263,8 @@ module _ {T E : Type 0} (history : T → List E) (author : E → ℕ) (start : L
           let stands : Stands history author start seats r.current r.claimed s.views (home x) =
           subst (Stands history author start seats r.current r.claimed s.views) p.1 r.stands in
           let count : 4 * length r.current ≡ word = sym (word_0 s r ∙ ap (λ (q : Phase T). turn_word q r.waited (length r.current)) p.1) ∙ is in
-          let mine = (r.views id (resting o k h) at).own.0 in
+          let sees = r.views id (resting o k h) at in
+          let mine = sees.own.0 in
           let apart : (j : ℕ) → r.phase ≡ out j → ⊥ = λ j e. home_out x j (sym p.1 ∙ e) in (
             w,
             takes 0 (Some x),
@@ -267,6 +294,8 @@ module _ {T E : Type 0} (history : T → List E) (author : E → ℕ) (start : L
                       },
                       tt,
                     );
+                    once = (refl, tt);
+                    opened = λ _. sees.opened (some_part (k, h) []);
                   }
                   (λ j v _ e. others_see r.owner r.owner r.phase (out id) r.current r.current r.claimed r.claimed j v (λ _. apart j) (λ q o. o)
                   (r.views j v e));
@@ -341,6 +370,8 @@ module _ {T E : Type 0} (history : T → List E) (author : E → ℕ) (start : L
                   },
                   tt,
                 );
+                once = (refl, tt);
+                opened = λ _. (r.views id (turning o k h) at).opened (some_part (k, h) []);
               }
               (λ j v apart e. others_see r.owner r.owner r.phase (home x) r.current new r.claimed r.claimed j v (λ _ p. apart (out_out j id (sym p ∙ turn.0)))
               (others_own id j apart k r.current new r.owner r.claimed mine.place go) (r.views j v e));
@@ -408,12 +439,16 @@ module _ {T E : Type 0} (history : T → List E) (author : E → ℕ) (start : L
                 },
                 tt,
               );
+              once = (refl, tt);
+              opened = λ _. refl;
             }
             (λ j v _ e. let sees = r.views j v e in record {
               turn = sees.turn;
               own =
                   all_map (Own r.owner r.current r.claimed j) (Own owner r.current claimed j)
                   (keeps_own r.owner r.current r.claimed mask k id j small is free) v.parts sees.own;
+              once = sees.once;
+              opened = sees.opened;
             });
       }
     where
@@ -495,6 +530,8 @@ module _ {T E : Type 0} (history : T → List E) (author : E → ℕ) (start : L
             record {
               turn = λ _. (refl, (0, ap (λ (c : List E). (let a : List (Part E) = (0, c) ∷ [] in a)) (sym stands.0)));
               own = (record { place = refl; below = below; claim = bit_0; began = prefix_self start; covered = (r.started, r.unclaimed 0 free) }, tt);
+              once = (refl, tt);
+              opened = λ _. refl;
             }
             (λ j v _ e. others_see r.owner owner r.phase (out id) r.current r.current r.claimed claimed j v (λ _ is. early_out j (sym p
             ∙ is)) (keeps_own r.owner r.current r.claimed 1 0 id j small refl free) (r.views j v e));
@@ -554,6 +591,24 @@ module _ {T E : Type 0} (history : T → List E) (author : E → ℕ) (start : L
     covered = o.covered;
   }
 
+  -- a number of one seat is no other's
+  absent : (owner : ℕ → ℕ) (current : List E) (claimed id other k : ℕ) → (other ≡ id → ⊥) → owner k ≡ id → (qs : List (Part E))
+      → AllByRecursion (Own owner current claimed other) qs → has_number k qs ≡ false
+  absent owner current claimed id other k apart mine [] h = refl
+  absent owner current claimed id other k apart mine (q ∷ qs) h =
+      let not_it : q.0 ≢ k = λ e. apart (sym h.0.place ∙ (ap owner e ∙ mine)) in
+      ap (λ b. b || has_number k qs) (ne_eqb q.0 k not_it) ∙ absent owner current claimed id other k apart mine qs h.1
+
+  -- the numbers of two seats
+  once_both : (owner : ℕ → ℕ) (current : List E) (claimed id other : ℕ) → (other ≡ id → ⊥) → (ps qs : List (Part E))
+      → AllByRecursion (Own owner current claimed id) ps → AllByRecursion (Own owner current claimed other) qs → IsOnceEach ps → IsOnceEach qs
+      → IsOnceEach (ps ++ qs)
+  once_both owner current claimed id other apart [] qs own theirs first second = second
+  once_both owner current claimed id other apart (p ∷ ps) qs own theirs first second = (
+    in_neither p.0 ps qs first.0 (absent owner current claimed id other p.0 apart own.0.place qs theirs),
+    once_both owner current claimed id other apart ps qs own.1 theirs first.1 second,
+  )
+
   pub joins : (id other : ℕ) (v w : View E) → v.holds ≡ false → w.holds ≡ false → Joins Rule id v other w (both_of v w) spent
   joins id other v w v_idle w_idle s r at apart there =
       let there' : get_elem? s.views other ≡ core.some w = sym (set_else s.views id other (both_of v w) apart) ∙ there in
@@ -574,7 +629,7 @@ module _ {T E : Type 0} (history : T → List E) (author : E → ℕ) (start : L
         unclaimed = r.unclaimed;
         authors = r.authors;
         views = views_set (Sees owner r.phase r.current r.claimed) vs other spent
-            record { turn = λ t. absurd (off t); own = tt }
+            record { turn = λ t. absurd (off t); own = tt; once = tt; opened = λ some. absurd (some refl) }
             (λ j u not_other e. views_set (λ i x. i ≢ other → Sees owner r.phase r.current r.claimed i x) s.views id b
             (λ _. record {
               turn = λ t. absurd (off t);
@@ -583,12 +638,17 @@ module _ {T E : Type 0} (history : T → List E) (author : E → ℕ) (start : L
                   (λ e. apart (sym e))) v.parts (r.views id v at).own)
                   (all_map (Own r.owner r.current r.claimed other) (Own owner r.current r.claimed id)
                   (taken_over r.owner r.current r.claimed other id) w.parts (r.views other w there').own);
+              once = once_both r.owner r.current r.claimed id other apart v.parts w.parts (r.views id v at).own (r.views other w there').own
+                  (r.views id v at).once (r.views other w there').once;
+              opened = keep_opening start v.opening w.opening v.parts w.parts (r.views id v at).opened (r.views other w there').opened;
             })
             (λ i x _ e' not_it. let sees = r.views i x e' in record {
               turn = sees.turn;
               own =
                   all_map (Own r.owner r.current r.claimed i) (Own owner r.current r.claimed i)
                   (moved r.owner r.current r.claimed other id i not_it) x.parts sees.own;
+              once = sees.once;
+              opened = sees.opened;
             })
             j u e not_other);
       }

@@ -10,7 +10,7 @@ use Rattle.atomic_table.specs.Table.{State, Me, Step}
 use Rattle.atomic_table.specs.Seated.{TableId}
 use Rattle.atomic_table.specs.declared.shared.Seat.{Seat}
 use Rattle.turn_lock.specs.declared.view.View.{View}
-use Rattle.turn_lock.specs.Parts.{entries_by, number_in, known_in, Covers}
+use Rattle.turn_lock.specs.Parts.{entries_by, number_in, known_in, Part, IsOnceEach, Covers}
 
 -- where the value is: the lock is being made, or the value is at home, or out with the seat at that place
 pub data Phase (T : Type 0) : Type 0 where
@@ -46,8 +46,13 @@ module _ {E : Type 0} where
   abbrev pub turning : List E → ℕ → List E → View E
   turning o k h = record { holds = true; opening = o; parts = (k, h) ∷ [] }
 
+  -- the opening of the first of two views, where that has a number
+  abbrev pub opening_with : List (Part E) → List E → List E → List E
+  opening_with [] first second = second
+  opening_with (p ∷ ps) first second = first
+
   abbrev pub both_of : View E → View E → View E
-  both_of v w = record { holds = false; opening = v.opening; parts = v.parts ++ w.parts }
+  both_of v w = record { holds = false; opening = opening_with v.parts v.opening w.opening; parts = v.parts ++ w.parts }
 
 module _ {T E : Type 0} (history : T → List E) (author : E → ℕ) (start : List E) (seats : ℕ) where
   -- of one number in the view of the seat at the place id
@@ -61,6 +66,9 @@ module _ {T E : Type 0} (history : T → List E) (author : E → ℕ) (start : L
   pub record Knows (owner : ℕ → ℕ) (phase : Phase T) (current : List E) (claimed id : ℕ) (v : View E) : Type 0 where
     pub turn : v.holds ≡ true → (phase ≡ out id) × ((k : ℕ) × (v.parts ≡ (k, current) ∷ []))
     pub own : AllByRecursion (IsOwn owner current claimed id) v.parts
+    pub once : IsOnceEach v.parts
+    -- each view with a number keeps one opening, the history that the lock was made with
+    pub opened : v.parts ≢ [] → v.opening ≡ start
 
   abbrev pub Stands : List E → ℕ → List (View E) → Phase T → Type 0
   Stands current claimed views early = (current ≡ start) × (bit_at claimed 0 ≡ 0)

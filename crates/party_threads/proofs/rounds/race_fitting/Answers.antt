@@ -9,7 +9,7 @@ use Rattle.swap_world.proofs.Team.{role_each}
 use Rattle.typed_books.specs.Books.{IsTypedBook}
 use Rattle.party_threads.specs.declared.turn.Turn.{Turn}
 use Rattle.party_threads.specs.Race.{IsRaceBook}
-use Rattle.party_threads.specs.Standing.{swap_book, inside_state, Stands}
+use Rattle.party_threads.specs.Standing.{race_book, race_state, Stands}
 use Rattle.party_threads.proofs.Racing.{races_are_kept}
 use Rattle.party_threads.proofs.Starting.{first_state, stands_first, cast}
 use Rattle.party_threads.proofs.rounds.race_fitting.Goals as goal
@@ -37,16 +37,16 @@ run_rounds-requires-clause-first g c = λ κs lives.
     let e = c.in_ok-ledgers.ensures in
     let ls : c.as_mut_slice.result.now ≡ map (λ (x : LedgerState). Some x) (new_ledgers c.args.job.now.deal) = c.as_mut_slice.ensures.value ∙ e in
     let ts : c.as_mut_slice-2.result.now ≡ c.in_ok-turns.turns.items = c.as_mut_slice-2.ensures.value in
-    (λ i. inside_state c.args.job.now (ls i) (ts i))
+    (λ i. race_state c.args.job.now (ls i) (ts i))
     ∙ first_state c.args.job.now c.in_ok-turns.turns.items c.requires.accepted c.requires.seeds c.requires.roles c.requires.fit
     c.in_ok-turns.ensures
 
 pub returns : goal.returns
 returns g c =
     let is =
-    c.in_ok-book.ensures ∙ ap swap_book (with_items_is c.in_ok-ledgers.ledgers c.run_rounds.new.ledgers (search (rules, places))) in
+    c.in_ok-book.ensures ∙ ap race_book (with_items_is c.in_ok-ledgers.ledgers c.run_rounds.new.ledgers (search (rules, places))) in
     subst (λ (b : Histories). IsRaceBook (g.A.Strategies.gives c.args.staff.now) (job_cast c.args.job.now) c.args.ticks b) (sym is)
     (races_are_kept (g.A.Strategies.gives c.args.staff.now) (job_cast c.args.job.now) c.args.ticks
-    (inside_state c.args.job.now c.run_rounds.new.ledgers c.run_rounds.new.turns)
+    (race_state c.args.job.now c.run_rounds.new.ledgers c.run_rounds.new.turns)
     (cast c.args.job.now c.in_ok-turns.turns.items c.requires.accepted c.requires.seeds c.requires.roles c.requires.fit c.in_ok-turns.ensures)
     c.requires.some c.in_ok-run_rounds.ensures.raced (subst IsTypedBook is c.read_book.ensures))

@@ -2,7 +2,7 @@ use Rattle.std.proofs.Common.{◌<◌, refl}
 use Rattle.swap_rules.proofs.Accepted.{accepted_is_well_sized}
 use Rattle.swap_world.specs.Cast.{job_cast}
 use Rattle.party_threads.specs.Race.{needed_rounds}
-use Rattle.party_threads.specs.Standing.{inside_state}
+use Rattle.party_threads.specs.Standing.{race_state}
 use Rattle.party_threads.proofs.Running.{no_rounds, one_round_more, room_left}
 use Rattle.party_threads.proofs.rounds.run_rounds.Goals as goal
 
@@ -11,7 +11,7 @@ rounds-init g c = record {
   stands = c.requires.stands;
   raced =
       no_rounds (g.A.Strategies.gives c.args.staff.now) (job_cast c.args.job.now) c.args.ticks 0
-      (inside_state c.args.job.now c.args.ledgers.now c.args.turns.now)
+      (race_state c.args.job.now c.args.ledgers.now c.args.turns.now)
       refl c.requires.first;
 }
 
@@ -22,7 +22,7 @@ pub round-requires-clause-room : goal.round-requires-clause-room
 round-requires-clause-room g c = λ κs lives.
     let l : c.rounds.number < needed_rounds c.args.job.now.deal c.args.ticks = rw (← c.needed_rounds-number-end.ensures) c.rounds-test.true in
     room_left (g.A.Strategies.gives c.args.staff.now) (job_cast c.args.job.now) c.args.ticks c.rounds.number
-    (inside_state c.args.job.now c.rounds.ledgers c.rounds.turns)
+    (race_state c.args.job.now c.rounds.ledgers c.rounds.turns)
     c.rounds.invariant.stands.cast c.requires.some c.requires.below l c.rounds.invariant.raced
 
 pub rounds-preserved : goal.rounds-preserved
@@ -30,6 +30,6 @@ rounds-preserved g c = record {
   stands = c.in_ok-round.ensures.stands;
   raced =
       one_round_more (g.A.Strategies.gives c.args.staff.now) (job_cast c.args.job.now) c.args.ticks c.rounds.number
-      (inside_state c.args.job.now c.rounds.ledgers c.rounds.turns)
-      (inside_state c.args.job.now c.round.new.ledgers c.round.new.turns) c.rounds.invariant.raced c.in_ok-round.ensures.round;
+      (race_state c.args.job.now c.rounds.ledgers c.rounds.turns)
+      (race_state c.args.job.now c.round.new.ledgers c.round.new.turns) c.rounds.invariant.raced c.in_ok-round.ensures.round;
 }

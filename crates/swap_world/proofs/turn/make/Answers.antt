@@ -7,7 +7,7 @@ use Rattle.deviators.specs.View.{IsAnswerOf}
 use Rattle.deviators.proofs.Scripts.{may_resolve}
 use Rattle.swap_world.specs.Acting.{histories, landed, taken, told_to}
 use Rattle.swap_world.specs.Inside.{IsLedgerOf}
-use Rattle.swap_world.specs.On.{swept_in, parse_told}
+use Rattle.swap_world.specs.On.{swept_in, call_told}
 use Rattle.swap_world.proofs.Ledgers.{legal_book, history_at, book_ok}
 use Rattle.swap_world.proofs.Rooms.{room_on}
 use Rattle.swap_world.proofs.Ways.{if_ok, if_err}
@@ -86,6 +86,6 @@ returns-in-Some-clause-told c =
     let w = swept_in c.args.swept.now c.in-Some.arc in
     if_told c.call.result (λ t e.
     told_called w d c.in-Some.arc c.args.sender c.in-Some.made l t (its o) e
-    ∙ (ap (parse_told w d c.in-Some.arc c.args.sender c.in-Some.made) (sym (history_at ls c.in-Some.arc l (below o) c.index_mut.ensures.value))
+    ∙ (ap (call_told w d c.in-Some.arc c.args.sender c.in-Some.made) (sym (history_at ls c.in-Some.arc l (below o) c.index_mut.ensures.value))
     ∙ ap (λ (o : Option (ℕ × Call)). told_to (swept_in c.args.swept.now) d c.args.sender o (histories ls)) (sym (comes o))))
     (rw c.is_swept-is.ensures at c.call.ensures.told)

@@ -9,7 +9,7 @@ use Rattle.deviators.specs.View.{IsAnswerOf}
 use Rattle.swap_run.specs.Run.{plan_up_to}
 use Rattle.swap_world.specs.Acting.{histories, landed, taken, seen, told_to}
 use Rattle.swap_world.specs.Inside.{IsLedgerOf}
-use Rattle.swap_world.specs.On.{swept_in, parse_told}
+use Rattle.swap_world.specs.On.{swept_in, call_told}
 use Rattle.swap_world.proofs.Ledgers.{on_ok, history_at, book_ok}
 use Rattle.swap_world.proofs.Rooms.{room_on}
 use Rattle.swap_world.proofs.On.{landed_called, told_called, if_told}
@@ -100,7 +100,7 @@ returns-in-Some-clause-told c =
     let w = swept_in c.args.swept.now c.in-Some.arc in
     if_told c.make_planned.result (λ t e.
     told_called w d c.in-Some.arc c.args.sender c.in-Some.due l t (its o) e
-    ∙ (ap (parse_told w d c.in-Some.arc c.args.sender c.in-Some.due) (sym (history_at ls c.in-Some.arc l (below o) c.index_mut.ensures.value))
+    ∙ (ap (call_told w d c.in-Some.arc c.args.sender c.in-Some.due) (sym (history_at ls c.in-Some.arc l (below o) c.index_mut.ensures.value))
     ∙ ap (λ (o : Option (ℕ × Call)). told_to (swept_in c.args.swept.now) d c.args.sender o (histories ls)) (sym c.in-Some.is)))
     (rw c.is_swept-is.ensures at c.make_planned.ensures.told)
 

@@ -1,4 +1,5 @@
 use Rattle.std.proofs.Common.{◌≡◌, true, map, sym, ◌∙◌}
+use Rattle.std.proofs.lemmas.Bool.{false≢true}
 use Rattle.swap_many.specs.Kept.{kept_finish}
 use Rattle.swap_many.specs.Stages.{Finished, stages_in}
 use Rattle.swap_many.specs.Whole.{inside_many_job}
@@ -56,3 +57,14 @@ returns-clause-ended g c =
 
 pub returns-clause-err : goal.returns-clause-err
 returns-clause-err g c = rw (← c.self.view_is) (taken g (goal.at.returns-clause-err g c).After-finish-done).err
+
+pub returns-clause-cut : goal.returns-clause-cut
+returns-clause-cut g c =
+    let t = taken g (goal.at.returns-clause-cut g c).After-finish-done in
+    rw (← c.self.view_is)
+    (lemmas.then_cut (g.A.Strategies.gives c.args.staff.now) kept_finish _ _ c.finish-done.result c.self.invariant.whole.ready c.self.invariant.runs t.err)
+
+pub returns-then-is_stopped-clause-cut : goal.returns-then-is_stopped-clause-cut
+returns-then-is_stopped-clause-cut g c =
+    let stopped : (inside_many_job c.self.inside).stopped ≡ true = sym c.is_stopped.ensures ∙ c.if-is_stopped.true in
+    rw (← c.self.view_is) (λ on. absurd (false≢true (sym on ∙ stopped)))

@@ -1,4 +1,5 @@
 use Rattle.std.proofs.Common.{◌≡◌, List, true, false, map, sym, ap, ◌∙◌}
+use Rattle.std.proofs.lemmas.Bool.{false≢true}
 use Rattle.swap_many.specs.declared.many_event.ManyEvent.{ManyEvent}
 use Rattle.swap_many.specs.Kept.{kept_done}
 use Rattle.swap_many.specs.Laws.{CanCome}
@@ -60,3 +61,14 @@ returns-clause-units g c = (taken g (goal.at.returns-clause-units g c).After-ste
 
 pub returns-clause-err : goal.returns-clause-err
 returns-clause-err g c = rw (← c.self.view_is) (taken g (goal.at.returns-clause-err g c).After-step-done).err
+
+pub returns-clause-cut : goal.returns-clause-cut
+returns-clause-cut g c =
+    let t = taken g (goal.at.returns-clause-cut g c).After-step-done in
+    rw (← c.self.view_is)
+    (lemmas.then_cut (g.A.Strategies.gives c.args.staff.now) (λ m z. kept_done false m z c.args.event.now) _ _ c.step-done.result c.self.invariant.whole.ready c.self.invariant.runs t.err)
+
+pub returns-then-is_stopped-clause-cut : goal.returns-then-is_stopped-clause-cut
+returns-then-is_stopped-clause-cut g c =
+    let stopped : (inside_many_job c.self.inside).stopped ≡ true = sym c.is_stopped.ensures ∙ c.if-is_stopped.true in
+    rw (← c.self.view_is) (λ on. absurd (false≢true (sym on ∙ stopped)))

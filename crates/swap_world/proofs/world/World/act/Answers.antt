@@ -1,7 +1,7 @@
 use Rattle.std.proofs.Common.{sym, ◌∙◌}
 use Rattle.swap_job.specs.declared.event.Event.TheVariants.{Act}
 use Rattle.swap_world.specs.Value.{world_cast, answering_cast}
-use Rattle.swap_world.specs.On.{swept_in, tell_entries}
+use Rattle.swap_world.specs.On.{swept_in, event_told}
 use Rattle.swap_world.proofs.Gone.{cut, went, quiet_act, stepping, told_any, told_same}
 use Rattle.swap_world.proofs.world.World.act.Goals as goal
 
@@ -16,8 +16,8 @@ pub returns-clause-told : goal.returns-clause-told
 returns-clause-told g c =
     let w = c.args.self.now in
     let sw = swept_in c.args.swept.now in
-    told_any c.act_alone.result c.act_alone.new.self (λ a. tell_entries sw (answering_cast w a) w.state (Act c.args.p))
-    (tell_entries sw (world_cast w) w.state (Act c.args.p))
+    told_any c.act_alone.result c.act_alone.new.self (λ a. event_told sw (answering_cast w a) w.state (Act c.args.p))
+    (event_told sw (world_cast w) w.state (Act c.args.p))
     (λ a. told_same sw (world_cast w) w.state c.args.p a (sym c.asks.ensures ∙ c.if-asks.false)) c.act_alone.ensures.told
 
 pub returns-clause-cut : goal.returns-clause-cut

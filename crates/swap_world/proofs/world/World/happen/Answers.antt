@@ -3,7 +3,7 @@ use Rattle.swap_job.specs.declared.event.Event.{Event}
 use Rattle.swap_job.specs.declared.event.Event.TheVariants.{Tick, Call as Made}
 use Rattle.swap_run.specs.Asked.{Answers}
 use Rattle.swap_world.specs.Gone.{HasGone, IsCutBy}
-use Rattle.swap_world.specs.On.{swept_in, tell_entries}
+use Rattle.swap_world.specs.On.{swept_in, event_told}
 use Rattle.swap_world.specs.Value.{world_cast, answering_cast, Continues}
 use Rattle.swap_world.proofs.Gone.{cut, cut_to, went, quiet_tick, quiet_call, stepping, told_any}
 use Rattle.swap_world.proofs.Ways.{if_err}
@@ -24,9 +24,9 @@ returns-in-Call-clause-told g c =
     let w = c.args.self.now in
     let sw = swept_in c.args.swept.now in
     let is = ap (λ mv. Made c.in-Call.sender mv) c.deref.ensures ∙ sym c.in-Call.is in
-    subst (λ (e : Event). IfOk c.make.result (λ r. (a : Answers) → Continues c.make.new.self a → r ≡ tell_entries sw (answering_cast w a) w.state e)) is
-    (told_any c.make.result c.make.new.self (λ a. tell_entries sw (answering_cast w a) w.state (Made c.in-Call.sender c.deref.result.now))
-    (tell_entries sw (world_cast w) w.state (Made c.in-Call.sender c.deref.result.now)) (λ a. refl) c.make.ensures.told)
+    subst (λ (e : Event). IfOk c.make.result (λ r. (a : Answers) → Continues c.make.new.self a → r ≡ event_told sw (answering_cast w a) w.state e)) is
+    (told_any c.make.result c.make.new.self (λ a. event_told sw (answering_cast w a) w.state (Made c.in-Call.sender c.deref.result.now))
+    (event_told sw (world_cast w) w.state (Made c.in-Call.sender c.deref.result.now)) (λ a. refl) c.make.ensures.told)
 
 pub returns-in-Call-clause-cut : goal.returns-in-Call-clause-cut
 returns-in-Call-clause-cut g c =
