@@ -4,8 +4,12 @@ in one.
 docs/FORMATS.md, 'Wishes', and docs/DEFINITIONS.md, 'Clearing'. Here `parties` is how many there
 are, and `ends` the two ends of each arc, as in deal.py.
 """
+from __future__ import annotations
+
+from typing import Any
+
 from .deal import KEYED, cycle_through, follower_cycle, need, reached
-from .offer import MOST_UNITS, NAME, examine_fields, examine_known, examine_range, lines_of, parsed, refuse
+from .offer import MOST_UNITS, NAME, Table, examine_fields, examine_known, examine_range, lines_of, parsed, refuse
 from .offer import list_of, number, object_of, one_of, text
 from .texts import compact, joined
 
@@ -15,13 +19,13 @@ MOST_LEADERS = 8
 # ---- what can't be swapped
 
 
-def is_cyclic(ends, arc):
+def is_cyclic(ends: list[tuple[int, int]], arc: int) -> bool:
     """An arc is cyclic where its counterparty reaches its party."""
     party, counterparty = ends[arc]
     return party in reached(ends, counterparty)
 
 
-def left_out(ends):
+def left_out(ends: list[tuple[int, int]]) -> list[tuple[int, list[int]]]:
     """Arcs that aren't cyclic, ascending, each with the parties that its counterparty reaches: no
     arc leaves them, and its party isn't there."""
     return [(arc, sorted(reached(ends, ends[arc][1]))) for arc in range(len(ends)) if not is_cyclic(ends, arc)]
@@ -30,7 +34,7 @@ def left_out(ends):
 # ---- groups
 
 
-def together(parties, ends):
+def together(parties: int, ends: list[tuple[int, int]]) -> list[list[int]]:
     """Of each party those that are together with it: each of the two reaches the other, as each
     reaches itself."""
     reach = [reached(ends, party) for party in range(parties)]
@@ -41,7 +45,7 @@ class Group:
     """All parties that are together with one of them, with all arcs between them, and what a swap
     of them needs."""
 
-    def __init__(self, parties, ends):
+    def __init__(self, parties: list[int], ends: list[tuple[int, int]]) -> None:
         self.parties = parties
         self.arcs = [arc for arc, (party, counterparty) in enumerate(ends) if party in parties and counterparty in parties]
         # (its own digraph numbers its parties by their places)
@@ -52,7 +56,7 @@ class Group:
         self.bound = need(len(parties), own, leaders)
 
 
-def groups_of(parties, ends):
+def groups_of(parties: int, ends: list[tuple[int, int]]) -> list[Group]:
     """The groups by their least party. Parties without arcs between them are none."""
     groups = [Group(found, ends) for party, found in enumerate(together(parties, ends)) if party == found[0]]
     return [group for group in groups if group.arcs]
@@ -61,7 +65,7 @@ def groups_of(parties, ends):
 # ---- leaders, within a group's own digraph
 
 
-def leaders_of(parties, ends):
+def leaders_of(parties: int, ends: list[tuple[int, int]]) -> list[int]:
     """What remains of all parties when they are dropped, one after the other, wherever the rest is
     still a feedback vertex set.
 
@@ -75,22 +79,24 @@ def leaders_of(parties, ends):
     return leaders
 
 
-def leader_cycle(parties, ends, leaders, leader):
+def leader_cycle(parties: int, ends: list[tuple[int, int]], leaders: list[int], leader: int) -> list[int]:
     """A shortest cycle that begins with the leader and holds no other.
 
     Where several are as short, each step goes to the least party from which the rest can still be
     closed.
     """
-    return cycle_through(ends, leader, {leader} | set(range(parties)) - set(leaders))
+    cycle = cycle_through(ends, leader, {leader} | set(range(parties)) - set(leaders))
+    assert cycle is not None
+    return cycle
 
 
 # ---- reading wishes
 
-PROPOSED = {"from": text, "to": text, "amount": number}
-WISHES = {"clear": one_of(1), "start": number, "delta": number, "parties": list_of(text), "arcs": list_of(object_of(PROPOSED))}
+PROPOSED: Table = {"from": text, "to": text, "amount": number}
+WISHES: Table = {"clear": one_of(1), "start": number, "delta": number, "parties": list_of(text), "arcs": list_of(object_of(PROPOSED))}
 
 
-def examine_names(wishes, line):
+def examine_names(wishes: dict[str, Any], line: int) -> None:
     """A party's form and that it stands once, party by party; then the ends of each arc."""
     for place, name in enumerate(wishes["parties"]):
         if not NAME.fullmatch(name):
@@ -102,7 +108,7 @@ def examine_names(wishes, line):
         examine_known(arc["to"], line, wishes["parties"])
 
 
-def examine_limits(wishes, line):
+def examine_limits(wishes: dict[str, Any], line: int) -> None:
     examine_range(wishes["start"], line, "start", 1, 1000)
     examine_range(wishes["delta"], line, "delta", 1, 100)
     examine_range(len(wishes["parties"]), line, "parties", 2, 32)
@@ -111,7 +117,7 @@ def examine_limits(wishes, line):
         examine_range(arc["amount"], line, "amount", 1, MOST_UNITS)
 
 
-def wishes_of(line, count):
+def wishes_of(line: bytes, count: int) -> dict[str, Any]:
     """The wishes of a line, or the first reason against it up to the start."""
     wishes = parsed(line, count)
     examine_fields(wishes, count, WISHES)
@@ -128,7 +134,7 @@ def wishes_of(line, count):
 # ---- what is written
 
 
-def plain(wishes, group):
+def plain(wishes: dict[str, Any], group: Group) -> str:
     """The group as a plain job without seeds: version 2, with hashkeys, the least bound, its
     parties and arcs in the order of the line."""
     names = wishes["parties"]
@@ -137,7 +143,7 @@ def plain(wishes, group):
     return compact({**job, "parties": [{"name": names[party]} for party in group.parties], "arcs": arcs, "leaders": leaders})
 
 
-def cleared(source):
+def cleared(source: bytes) -> bytes:
     """The answer to a text of wishes. The last reasons against it: a group with too many leaders,
     the least such; a second line."""
     lines = lines_of(source)

@@ -1,8 +1,10 @@
 """The commands: what is written for words and an input, by which status. docs/FORMATS.md, 'Status
 and standard error'."""
+from __future__ import annotations
+
 import re
 from functools import lru_cache
-from typing import NamedTuple
+from typing import Any, Callable, NamedTuple, Optional, TYPE_CHECKING
 
 from .clearing import cleared
 from .hashes import hashlock_of, public_key, secret_of
@@ -13,6 +15,9 @@ from .play import race, run
 from .texts import check_text, compact, joined, made_header, report, summary, transcript
 from .transcripts import MOST_BYTES, Reader, replayed, transcript_of
 from .wallet import wallet_lines
+
+if TYPE_CHECKING:
+    from .rules import View
 
 USAGE = ("usage: swap check | run [--transcript] | race [--ticks K] [--transcript] | audit | make"
          " | gen --seed S --parties N --events E [--summary] | clear | many")
@@ -28,7 +33,7 @@ class Answer(NamedTuple):
 
 # ---- words
 
-def command_of(words):
+def command_of(words: list[str]) -> Optional[tuple[str, dict[str, int]]]:
     """The command that words ask for and its options, in any order, or None where they aren't well
     formed.
 
@@ -36,14 +41,15 @@ def command_of(words):
     """
     if not words or words[0] not in OPTIONS:
         return None
-    allowed, options, left = OPTIONS[words[0]], {}, list(words[1:])
+    allowed, left = OPTIONS[words[0]], list(words[1:])
+    options: dict[str, int] = {}
     while left:
         name, is_joined, given = left.pop(0).partition("=")
         if name not in allowed or name in options or is_joined and not allowed[name]:
             return None
         options[name] = True
-        if allowed[name]:
-            least, most = allowed[name]
+        if limits := allowed[name]:
+            least, most = limits
             given = given if is_joined else left.pop(0) if left else ""
             if not re.fullmatch("[0-9]{1,10}", given) or not least <= int(given) <= most:
                 return None
@@ -52,7 +58,7 @@ def command_of(words):
     return (words[0], options) if are_there else None
 
 
-OPTIONS = {
+OPTIONS: dict[str, dict[str, Optional[tuple[int, int]]]] = {
     "check": {},
     "run": {"--transcript": None},
     "race": {"--ticks": (1, 1000), "--transcript": None},
@@ -66,14 +72,14 @@ OPTIONS = {
 
 # ---- commands: each answers a text and how many findings it tells
 
-def check(text, _options):
+def check(text: bytes, _options: dict[str, int]) -> tuple[bytes, int]:
     """`check` writes a deal's times."""
     offer, _ = job_of(text, "check")
     return check_text(offer.deal), 0
 
 
 @lru_cache(maxsize=2)
-def ran(text):
+def ran(text: bytes) -> tuple[Offer, View, tuple[bytes, int]]:
     """The offer, the book and the report of a job (kept, since a run is asked for its report and
     for its transcript)."""
     offer, events = job_of(text, "run")
@@ -81,41 +87,41 @@ def ran(text):
     return offer, book, report(book, offer.conforming)
 
 
-def told(options, offer, book, reported):
+def told(options: dict[str, int], offer: Offer, book: View, reported: tuple[bytes, int]) -> tuple[bytes, int]:
     """A report, or a transcript with the status of the report."""
     return (transcript(book, offer), reported[1]) if "--transcript" in options else reported
 
 
-def run_job(text, options):
+def run_job(text: bytes, options: dict[str, int]) -> tuple[bytes, int]:
     """`run` writes what comes of a job."""
     return told(options, *ran(text))
 
 
-def race_job(text, options):
+def race_job(text: bytes, options: dict[str, int]) -> tuple[bytes, int]:
     """`race`: the report of one legal order of its calls."""
     offer, _ = job_of(text, "race")
     book = race(offer, options.get("--ticks", 1))
     return told(options, offer, book, report(book, offer.conforming))
 
 
-def audit(text, _options):
+def audit(text: bytes, _options: dict[str, int]) -> tuple[bytes, int]:
     """`audit` replays a transcript and writes the report of its job and its ledgers."""
     offer, stated = transcript_of(Reader(text))
     return report(replayed(offer, stated), offer.conforming)
 
 
-def made_offer(offer):
+def made_offer(offer: Offer) -> Offer:
     """A plain offer with what its seeds and its times give."""
-    deal, seeds = offer.deal, offer.seeds
-    deal.hashlocks = [hashlock_of(secret_of(seeds[leader])) for leader in deal.leaders]
+    deal = offer.deal
+    deal.hashlocks = [hashlock_of(secret_of(offer.seed(leader))) for leader in deal.leaders]
     if deal.is_keyed:
-        deal.keys = [[public_key(seeds[party], party, lock) for lock in deal.locks] for party in deal.parties]
+        deal.keys = [[public_key(offer.seed(party), party, lock) for lock in deal.locks] for party in deal.parties]
     else:
         deal.timelocks = [deal.timelock_of(arc) for arc in deal.arcs]
     return offer
 
 
-def make(text, _options):
+def make(text: bytes, _options: dict[str, int]) -> tuple[bytes, int]:
     """`make` writes a job from a plain one; its further lines are copied."""
     lines = lines_of(text)
     if not lines:
@@ -129,7 +135,7 @@ def make(text, _options):
     return made_header(made_offer(offer)).encode() + b"\n" + b"".join(line + b"\n" for _, line in lines[1:]), 0
 
 
-def gen(_text, options):
+def gen(_text: bytes, options: dict[str, int]) -> tuple[bytes, int]:
     """`gen` writes the job of a number, or the summary of its run."""
     header, events = plain_job(options["--seed"], options["--parties"], options["--events"])
     offer = made_offer(Offer(header, PLAIN))
@@ -138,20 +144,21 @@ def gen(_text, options):
     return joined([made_header(offer), *map(compact, events)]), 0
 
 
-def clear(text, _options):
+def clear(text: bytes, _options: dict[str, int]) -> tuple[bytes, int]:
     """`clear` makes plain jobs of wishes."""
     return cleared(text), 0
 
 
-COMMANDS = {"check": check, "run": run_job, "race": race_job, "audit": audit, "make": make, "gen": gen, "clear": clear, "many": many}
+COMMANDS: dict[str, Callable[[bytes, dict[str, int]], tuple[bytes, int]]] = {
+    "check": check, "run": run_job, "race": race_job, "audit": audit, "make": make, "gen": gen, "clear": clear, "many": many}
 
 
-def printable(word):
+def printable(word: object) -> str:
     """A control character inside a name or a field is written as `\\u{HEX}`."""
     return "".join("\\u{%x}" % ord(it) if ord(it) < 32 or 127 <= ord(it) < 160 else it for it in str(word))
 
 
-def answer(words, text):
+def answer(words: list[str], text: bytes) -> Answer:
     """The status, the output and the standard error for words and an input."""
     asked = command_of(words)
     if asked is None:
@@ -160,27 +167,27 @@ def answer(words, text):
     return answer_to(COMMANDS[command], b"" if command == "gen" else text, options)
 
 
-def takes_input(words):
+def takes_input(words: list[str]) -> bool:
     """Whether the program reads its input for these words."""
     asked = command_of(words)
     return asked is not None and asked[0] != "gen"
 
 
-def party_takes_input(words):
+def party_takes_input(words: list[str]) -> bool:
     """The same of the program `party`."""
     return len(words) == 1
 
 
-def party_answer(words, text):
+def party_answer(words: list[str], text: bytes) -> Answer:
     """The same of the program `party`."""
     return answer_to(wallet_lines, text, words[0]) if party_takes_input(words) else wrong_words(PARTY_USAGE)
 
 
-def wrong_words(usage):
+def wrong_words(usage: str) -> Answer:
     return Answer(WRONG_WORDS, b"", ("swap: wrong words\n%s\n" % usage).encode())
 
 
-def answer_to(command, text, asked):
+def answer_to(command: Callable[..., Any], text: bytes, asked: Any) -> Answer:
     if len(text) > MOST_BYTES:
         return Answer(TOO_LONG, b"", b"swap: too long\n")
     try:

@@ -1,6 +1,9 @@
 """The digraph, the times and the deal. docs/DEFINITIONS.md, 'The digraph', 'Times' and 'An accepted
 deal'."""
+from __future__ import annotations
+
 from functools import cached_property
+from typing import Optional
 
 from .hashes import tagged
 
@@ -9,7 +12,7 @@ KEYED, TIMED = "hashkeys", "timelocks"
 
 # ---- the digraph: `ends` is a list of pairs, an arc's party and its counterparty
 
-def reached(ends, first):
+def reached(ends: list[tuple[int, int]], first: int) -> set[int]:
     """The parties that paths lead to from this one, itself among them."""
     found, left = {first}, [first]
     while left:
@@ -21,7 +24,7 @@ def reached(ends, first):
     return found
 
 
-def closed_set(parties, ends):
+def closed_set(parties: int, ends: list[tuple[int, int]]) -> Optional[list[int]]:
     """A set that no arc leaves, or None where the digraph is strongly connected."""
     forward = reached(ends, 0)
     if len(forward) < parties:
@@ -32,9 +35,10 @@ def closed_set(parties, ends):
     return None
 
 
-def cycle_through(ends, party, allowed):
+def cycle_through(ends: list[tuple[int, int]], party: int, allowed: set[int]) -> Optional[list[int]]:
     """A shortest cycle from a party along allowed ones, by least numbers, or None."""
-    before, level = {}, [party]
+    before: dict[int, int] = {}
+    level = [party]
     while level:
         following = []
         for at in level:
@@ -51,7 +55,7 @@ def cycle_through(ends, party, allowed):
     return None
 
 
-def follower_cycle(parties, ends, leaders):
+def follower_cycle(parties: int, ends: list[tuple[int, int]], leaders: list[int]) -> Optional[list[int]]:
     """A cycle of followers, or None where the leaders are a feedback vertex set."""
     followers = set(range(parties)) - set(leaders)
     for party in sorted(followers):
@@ -61,39 +65,41 @@ def follower_cycle(parties, ends, leaders):
     return None
 
 
-def longest(ends, party, allowed, last=None):
-    """The most arcs on a path from a party over allowed ones (to the last, where one is named),
-    None where there is none.
+def longest(ends: list[tuple[int, int]], party: int, allowed: set[int], last: Optional[int] = None) -> int:
+    """The most arcs on a path from a party over allowed ones (to the last, where one is named,
+    which it reaches).
 
     The allowed parties have no cycle.
     """
-    known = {}
+    known: dict[int, Optional[int]] = {}
 
-    def most(at):
+    def most(at: int) -> Optional[int]:
         if at == last:
             return 0
         if at not in known:
             ways = [most(to) for start, to in ends if start == at and (to in allowed or to == last)]
-            ways = [way + 1 for way in ways if way is not None]
-            known[at] = max(ways, default=0 if last is None else None)
+            lengths = [way + 1 for way in ways if way is not None]
+            known[at] = max(lengths, default=0 if last is None else None)
         return known[at]
 
-    return most(party)
+    found = most(party)
+    assert found is not None
+    return found
 
 
-def height(parties, ends, leaders):
+def height(parties: int, ends: list[tuple[int, int]], leaders: list[int]) -> int:
     """`h`, the most parties on a path of followers alone."""
     followers = set(range(parties)) - set(leaders)
     return max((longest(ends, party, followers) + 1 for party in followers), default=0)
 
 
-def distance(parties, ends, party, leader):
+def distance(parties: int, ends: list[tuple[int, int]], party: int, leader: int) -> int:
     """`dist`, the greatest number of arcs on a path from a party to the leader, whose followers
     have no cycle."""
     return longest(ends, party, set(range(parties)) - {leader}, leader)
 
 
-def need(parties, ends, leaders):
+def need(parties: int, ends: list[tuple[int, int]], leaders: list[int]) -> int:
     """The least bound that is allowed."""
     return min(parties - 1, len(leaders) * (height(parties, ends, leaders) + 1) - 1)
 
@@ -107,7 +113,9 @@ MOST_PARTIES, MOST_ARCS, PATH_LIMIT = {1: 24, 2: 32}, {1: 96, 2: 128}, {1: 24, 2
 class Deal:
     """What the parties agree on. Parties, arcs and locks are numbered from 0."""
 
-    def __init__(self, version, mode, names, ends, amounts, leaders, times):
+    def __init__(
+        self, version: int, mode: str, names: list[str], ends: list[tuple[int, int]], amounts: list[int], leaders: list[int], times: tuple[int, int, int]
+    ) -> None:
         self.version, self.mode, self.names, self.ends = version, mode, names, ends
         self.amounts, self.leaders = amounts, leaders
         self.start, self.delta, self.bound = start, delta, bound = times
@@ -115,28 +123,29 @@ class Deal:
         self.horizon = start + (2 * bound + 2) * delta
         self.is_keyed = mode == KEYED
         self.timelocks = [0] * len(ends)
-        self.hashlocks, self.keys = [], []
+        self.hashlocks: list[bytes] = []
+        self.keys: list[list[bytes]] = []
         self.parties, self.arcs, self.locks = range(len(names)), range(len(ends)), range(len(leaders))
         self.leaving = [[arc for arc in self.arcs if ends[arc][0] == party] for party in self.parties]
         self.entering = [[arc for arc in self.arcs if ends[arc][1] == party] for party in self.parties]
         self.touching = [[arc for arc in self.arcs if party in ends[arc]] for party in self.parties]
 
     @cached_property
-    def need(self):
+    def need(self) -> int:
         return need(len(self.names), self.ends, self.leaders)
 
-    def timelock_of(self, arc):
+    def timelock_of(self, arc: int) -> int:
         """The timelock of an arc, which goes by the distance of its counterparty from the one
         leader."""
         steps = distance(len(self.names), self.ends, self.ends[arc][1], self.leaders[0])
         return self.start + (self.bound + 1 + steps) * self.delta
 
     @cached_property
-    def id(self):
+    def id(self) -> bytes:
         """The id of a deal: the digest of what it says."""
         return tagged(6, self.deal_bytes())
 
-    def deal_bytes(self):
+    def deal_bytes(self) -> bytes:
         """FORMATS, 'The deal bytes'."""
         said = bytearray([self.version, int(self.is_keyed), len(self.names), len(self.ends)])
         for (party, counterparty), amount, timelock in zip(self.ends, self.amounts, self.timelocks):

@@ -1,23 +1,26 @@
 """The job of a number, and the key stream that it is drawn from. docs/FORMATS.md, 'A job from a
 number'."""
+from __future__ import annotations
+
 import struct
+from typing import Any, Iterator, Union
 
 from .hashes import tagged
 
 
-def turned(word, count):
+def turned(word: int, count: int) -> int:
     word &= 0xFFFFFFFF
     return (word << count | word >> 32 - count) & 0xFFFFFFFF
 
 
-def quarter(state, a, b, c, d):
+def quarter(state: list[int], a: int, b: int, c: int, d: int) -> None:
     """RFC 8439, section 2.1."""
     for x, y, z, count in ((a, b, d, 16), (c, d, b, 12), (a, b, d, 8), (c, d, b, 7)):
         state[x] = state[x] + state[y] & 0xFFFFFFFF
         state[z] = turned(state[z] ^ state[x], count)
 
 
-def words_of(key):
+def words_of(key: Any) -> Iterator[int]:
     """The key stream of ChaCha20 (RFC 8439, in Bernstein's layout: a counter of 64 bits, and stream
     0), word by word."""
     counter = 0
@@ -33,7 +36,7 @@ def words_of(key):
         counter += 1
 
 
-def plain_job(number, parties, events):
+def plain_job(number: int, parties: int, events: int) -> tuple[dict[str, Any], list[dict[str, Union[int, str]]]]:
     """The plain header and the events of a number's job."""
     draws = words_of(number.to_bytes(8, "big") + bytes(24))
     leaders = 1 + next(draws) % min(3, parties - 1)
@@ -46,7 +49,7 @@ def plain_job(number, parties, events):
     return header, [drawn_event(draws, names, arcs) for _ in range(events)]
 
 
-def drawn_arcs(draws, parties, leaders):
+def drawn_arcs(draws: Iterator[Any], parties: int, leaders: int) -> list[tuple[int, int]]:
     """The ring, and some arcs more, no two with the same ends, of which none leads among followers
     to a lesser number."""
     arcs = [(it, (it + 1) % parties) for it in range(parties)]
@@ -57,7 +60,7 @@ def drawn_arcs(draws, parties, leaders):
     return arcs
 
 
-def drawn_event(draws, names, arcs):
+def drawn_event(draws: Iterator[Any], names: list[str], arcs: list[tuple[int, int]]) -> dict[str, Union[int, str]]:
     """A tick, a look or an act."""
     kind, which = next(draws) % 8, next(draws)
     if kind == 0:

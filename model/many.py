@@ -4,12 +4,19 @@ A chain has one height and accounts with free units. Opening sets the amount of 
 its payer's account, for the arc's slot. A slot is a ledger as every other, but that it ticks with
 its chain, and that it can be swept once its swap has ended: its balances then go to the accounts.
 """
+from __future__ import annotations
+
 import re
+from typing import Any, Iterable, NoReturn, Optional, TYPE_CHECKING
 
 from .ledger import ACCEPTED, CLOCK_FULL, MOST_HEIGHT, MOST_TICKS, TICK, TRANSFER, Call, Ledger
 from .offer import JOB, MOST_EVENTS, MOST_NUMBER, NAME, event_of, examine_seeds, header_of, lines_of, refuse
 from .play import World
 from .texts import joined, report
+
+if TYPE_CHECKING:
+    from .ledger import Reply
+    from .offer import Offer
 
 MOST_CHAINS, MOST_SWAPS, MOST_UNITS = 32, 8, 10**15
 SWEPT = ("Swept",)
@@ -24,7 +31,7 @@ class Slot(Ledger):
 
     is_swept = False
 
-    def make(self, sender, call):
+    def make(self, sender: Optional[int], call: Call) -> Reply:
         """On a swept slot a transfer is `Swept`, and where nothing was published every call is; no
         such call leaves an entry."""
         if self.is_swept and call.kind != TICK and (call.kind == TRANSFER or self.publish_entry is None):
@@ -35,10 +42,11 @@ class Slot(Ledger):
 class Chain:
     """A height, accounts with their free units by name, and the slots that stand on it."""
 
-    def __init__(self, free):
-        self.free, self.slots, self.ticks, self.height = dict(free), [], 0, 0
+    def __init__(self, free: Iterable[tuple[str, int]]) -> None:
+        self.free, self.ticks, self.height = dict(free), 0, 0
+        self.slots: list[Slot] = []
 
-    def tick(self, heights):
+    def tick(self, heights: int) -> Reply:
         if self.ticks == MOST_TICKS or self.height + heights > MOST_HEIGHT:
             return CLOCK_FULL
         self.ticks, self.height = self.ticks + 1, self.height + heights
@@ -46,7 +54,7 @@ class Chain:
             slot.make(None, Call(TICK, heights))
         return ACCEPTED
 
-    def pay(self, payer, to, units):
+    def pay(self, payer: str, to: str, units: int) -> Reply:
         """A payment moves free units; one to oneself moves nothing."""
         if self.free[payer] < units:
             return ("NoFunds", self.free[payer])
@@ -58,15 +66,16 @@ class Chain:
 class Many:
     """The swaps' worlds on their chains. `places` are the chains of each swap's arcs."""
 
-    def __init__(self, chains, offers, places):
+    def __init__(self, chains: list[Chain], offers: list[Offer], places: list[list[int]]) -> None:
         self.chains, self.offers, self.places = chains, offers, places
-        self.worlds = [World(offer, Slot) for offer in offers]
-        for world, places_of in zip(self.worlds, places):
-            for slot, chain in zip(world.ledgers, places_of):
+        self.slots = [[Slot(offer.deal, arc) for arc in offer.deal.arcs] for offer in offers]
+        self.worlds = [World(offer, slots) for offer, slots in zip(offers, self.slots)]
+        for world, slots, places_of in zip(self.worlds, self.slots, places):
+            for slot, chain in zip(slots, places_of):
                 self.chains[chain].slots.append(slot)
                 self.chains[chain].free[world.deal.names[slot.party]] -= world.deal.amounts[slot.arc]
 
-    def step(self, event):
+    def step(self, event: tuple[Any, ...]) -> None:
         """An event: of a chain, of an account, of a slot, or of one swap."""
         kind, *stated = event
         if kind == "tick":
@@ -78,11 +87,11 @@ class Many:
         else:
             self.worlds[stated[0]].step(stated[1])
 
-    def sweep(self, swap, arc, is_final=False):
+    def sweep(self, swap: int, arc: int, is_final: bool = False) -> Reply:
         """The first reply that applies; where none does, the slot's balances go to its parties'
         accounts. The sweeps of a fair finish pass over `Unpublished`."""
         world = self.worlds[swap]
-        slot, chain = world.ledgers[arc], self.chains[self.places[swap][arc]]
+        slot, chain = self.slots[swap][arc], self.chains[self.places[swap][arc]]
         if chain.height <= world.deal.horizon:
             return ("NotEnded", world.deal.horizon + 1)
         if slot.is_swept:
@@ -96,7 +105,7 @@ class Many:
             chain.free[world.deal.names[party]] += units
         return ACCEPTED
 
-    def finish(self):
+    def finish(self) -> None:
         """Rounds until every chain is above every horizon: the swaps in order, each with its
         parties' turns, then a tick of every chain; then every slot is swept, in order."""
         horizon = max(offer.deal.horizon for offer in self.offers)
@@ -110,7 +119,7 @@ class Many:
             for arc in world.deal.arcs:
                 self.sweep(swap, arc, True)
 
-    def text(self):
+    def text(self) -> tuple[bytes, int]:
         """The swaps' reports, the chains with their accounts, and how many findings all reports
         have."""
         out, count = b"", 0
@@ -125,18 +134,18 @@ class Many:
 
 # ---- lines: those that aren't JSON have one spelling
 
-def bad(line):
+def bad(line: int) -> NoReturn:
     refuse("BadLine", line)
 
 
-def number_in(word, line, most, least=0):
+def number_in(word: str, line: int, most: int, least: int = 0) -> int:
     """A number without leading zeros, in its range."""
     if not NUMBER.fullmatch(word) or not least <= int(word) <= most:
         bad(line)
     return int(word)
 
 
-def words_of(text):
+def words_of(text: bytes) -> list[str]:
     """The words of a line, parted by single spaces, a character for each byte."""
     return text.decode("latin-1").split(" ")
 
@@ -144,16 +153,16 @@ def words_of(text):
 class Reader:
     """Goes from one line that isn't blank to the next."""
 
-    def __init__(self, text):
+    def __init__(self, text: bytes) -> None:
         self.left = lines_of(text)[::-1]
 
-    def next(self):
+    def next(self) -> tuple[int, bytes]:
         if not self.left:
             refuse("CutShort")
         return self.left.pop()
 
 
-def chain_of(words, line):
+def chain_of(words: list[str], line: int) -> Chain:
     """A chain: 2 to 64 accounts, each a name of its own and its units."""
     names, units = words[1::2], words[2::2]
     if len(names) != len(units) or not 2 <= len(names) <= 64 or len(set(names)) < len(names) or not all(map(NAME.fullmatch, names)):
@@ -161,7 +170,7 @@ def chain_of(words, line):
     return Chain(zip(names, [number_in(it, line, MOST_UNITS) for it in units]))
 
 
-def swap_of(words, line, chains, reader):
+def swap_of(words: list[str], line: int, chains: list[Chain], reader: Reader) -> tuple[Offer, list[int]]:
     """A swap: a chain per arc, and then its header line, without `finish`; what is against the
     header comes first."""
     places = [number_in(it, line, len(chains) - 1) for it in words[1:]]
@@ -175,13 +184,14 @@ def swap_of(words, line, chains, reader):
     return offer, places
 
 
-def head_of(reader):
+def head_of(reader: Reader) -> tuple[list[Chain], list[tuple[Offer, list[int]]], bool]:
     """The lines up to `finish`: the chains, the swaps with their places, and whether the finish is
     fair."""
     line, text = reader.next()
     if text != b"swap many 1":
         bad(line)
-    chains, swaps = [], []
+    chains: list[Chain] = []
+    swaps: list[tuple[Offer, list[int]]] = []
     while True:
         line, text = reader.next()
         words = words_of(text)
@@ -195,7 +205,7 @@ def head_of(reader):
             bad(line)
 
 
-def event_in(text, line, chains, swaps):
+def event_in(text: bytes, line: int, chains: list[Chain], swaps: list[tuple[Offer, list[int]]]) -> tuple[Any, ...]:
     """An event's line: `tick C K`, `pay C NAME NAME UNITS`, `sweep S A`, or a swap's number and an
     event that is neither a tick nor a crash."""
     words = words_of(text)
@@ -219,30 +229,31 @@ def event_in(text, line, chains, swaps):
     return "in", swap, event
 
 
-def examine_accounts(chains, swaps):
+def examine_accounts(chains: list[Chain], swaps: list[tuple[Offer, list[int]]]) -> None:
     """Where no line has a fault: each arc's parties have accounts on its chain, and each account
     has the units of the arcs that it pays for."""
     for swap, (offer, places) in enumerate(swaps):
         for arc, chain in enumerate(places):
             if any(offer.deal.names[party] not in chains[chain].free for party in offer.deal.ends[arc]):
                 refuse("NoAccount", swap, arc)
-    for number, chain in enumerate(chains):
-        for name, have in chain.free.items():
+    for number, opened in enumerate(chains):
+        for name, have in opened.free.items():
             arcs = [(offer.deal, arc) for offer, places in swaps for arc, at in enumerate(places) if at == number]
             wanted = sum(deal.amounts[arc] for deal, arc in arcs if deal.names[deal.ends[arc][0]] == name)
             if have < wanted:
                 refuse("Overdrawn", number, name, have, wanted)
 
 
-def many(text, _options):
+def many(text: bytes, _options: dict[Any, Any]) -> tuple[bytes, int]:
     """`many` runs swaps on shared chains."""
-    reader, events = Reader(text), []
+    reader = Reader(text)
+    events: list[tuple[Any, ...]] = []
     chains, swaps, is_fair = head_of(reader)
     while reader.left:
-        line, event = reader.next()
+        line, stated = reader.next()
         if len(events) == MOST_EVENTS:
             refuse("OverLimit", line, "events", MOST_EVENTS + 1)
-        events.append(event_in(event, line, chains, swaps))
+        events.append(event_in(stated, line, chains, swaps))
     examine_accounts(chains, swaps)
     world = Many(chains, [offer for offer, _ in swaps], [places for _, places in swaps])
     for event in events:

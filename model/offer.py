@@ -5,8 +5,11 @@ docs/FORMATS.md, 'A job', 'Why a job is refused' and 'A plain job'. The header i
 step, then each event line by the first five steps; within a step the fields go in the order of the
 tables, and lists by place.
 """
+from __future__ import annotations
+
 import json
 import re
+from typing import Any, Callable, Dict, NoReturn
 
 from .deal import KEYED, MOST_ARCS, MOST_PARTIES, PATH_LIMIT, TIMED, Deal, closed_set, follower_cycle
 from .hashes import hashlock_of, public_key, secret_of
@@ -26,13 +29,19 @@ class Refused(Exception):
     """The first reason against an input, as words."""
 
 
-def refuse(*words):
+# A kind looks at a value, on a line, of a field, and refuses those of another kind
+Kind = Callable[[Any, int, str], None]
+Table = Dict[str, Kind]
+Json = Dict[str, Any]
+
+
+def refuse(*words: object) -> NoReturn:
     raise Refused(*words)
 
 
 # ---- lines and JSON
 
-def lines_of(text):
+def lines_of(text: bytes) -> list[tuple[int, bytes]]:
     """The lines that aren't blank, with their numbers from 1."""
     lines = text.split(b"\n")
     if not lines[-1]:
@@ -40,7 +49,7 @@ def lines_of(text):
     return [(number, line) for number, line in enumerate(lines, 1) if line.strip(b" \t\r")]
 
 
-def integer(text):
+def integer(text: str) -> float:
     """A number without sign, fraction and exponent; of others it matters alone that they are
     JSON."""
     if len(text) > 20:
@@ -48,7 +57,7 @@ def integer(text):
     return -1.0 if text.startswith("-") else int(text)
 
 
-def real(text):
+def real(text: str) -> float:
     value = float(text)
     if value in (float("inf"), float("-inf")):
         raise ValueError("a number that no double is near")
@@ -59,7 +68,7 @@ def real(text):
 DECODER = json.JSONDecoder(parse_int=integer, parse_float=real, parse_constant=int)
 
 
-def parsed(line, number):
+def parsed(line: bytes, number: int) -> Json:
     """The JSON object of a line; of two members of one name the last counts."""
     try:
         text = line.decode()
@@ -74,7 +83,7 @@ def parsed(line, number):
     return value
 
 
-def nesting(text):
+def nesting(text: str) -> int:
     """How deep the lists and objects of a JSON text stand in each other."""
     if text.count("[") + text.count("{") <= MOST_NESTING:
         return 0
@@ -87,25 +96,25 @@ def nesting(text):
 
 # ---- the step on fields: kinds of values, each a function that refuses what isn't of it
 
-def number(value, line, field):
+def number(value: Any, line: int, field: str) -> None:
     if type(value) is not int or not 0 <= value < 1 << 64:
         refuse("WrongKind", line, field)
 
 
-def text(value, line, field):
+def text(value: Any, line: int, field: str) -> None:
     if not isinstance(value, str):
         refuse("WrongKind", line, field)
 
 
-def one_of(*allowed):
-    def kind(value, line, field):
+def one_of(*allowed: Any) -> Kind:
+    def kind(value: Any, line: int, field: str) -> None:
         if type(value) not in (str, int) or value not in allowed:
             refuse("WrongKind", line, field)
     return kind
 
 
-def list_of(member):
-    def kind(value, line, field):
+def list_of(member: Kind) -> Kind:
+    def kind(value: Any, line: int, field: str) -> None:
         if not isinstance(value, list):
             refuse("WrongKind", line, field)
         for each in value:
@@ -113,15 +122,15 @@ def list_of(member):
     return kind
 
 
-def object_of(table):
-    def kind(value, line, field):
+def object_of(table: Table) -> Kind:
+    def kind(value: Any, line: int, field: str) -> None:
         if not isinstance(value, dict):
             refuse("WrongKind", line, field)
         examine_fields(value, line, table)
     return kind
 
 
-def examine_fields(value, line, table):
+def examine_fields(value: Json, line: int, table: Table) -> None:
     """The fields in the order of their table, where `?` marks one that may be absent; then the
     least, by its bytes, that isn't allowed there."""
     for name, kind in table.items():
@@ -134,7 +143,7 @@ def examine_fields(value, line, table):
         refuse("UnknownField", line, min(unknown, key=str.encode))
 
 
-MOVES = {
+MOVES: dict[str, Table] = {
     "publish": {"start?": number, "delta?": number, "bound?": number, "timelock?": number, "amount?": number, "locks?": list_of(text)},
     "craft": {"lock": number, "via": list_of(text), "onto?": number},
     "replay": {"lock": number, "onto": number},
@@ -146,11 +155,11 @@ MOVES = {
 }
 
 
-def move_kind(is_scripted):
+def move_kind(is_scripted: bool) -> Kind:
     """A move; `wait` stands in a script alone."""
     allowed = [it for it in MOVES if is_scripted or it != "wait"]
 
-    def kind(value, line, field):
+    def kind(value: Any, line: int, field: str) -> None:
         if not isinstance(value, dict):
             refuse("WrongKind", line, field)
         if "do" not in value:
@@ -160,7 +169,7 @@ def move_kind(is_scripted):
     return kind
 
 
-def actor_kind(value, line, field):
+def actor_kind(value: Any, line: int, field: str) -> None:
     """An object that holds `script` is read as a script, any other as a strategy."""
     if not isinstance(value, dict):
         one_of("manual", "conforming")(value, line, field)
@@ -170,14 +179,16 @@ def actor_kind(value, line, field):
         examine_fields(value, line, {"strategy": text})
 
 
-def header_table(header, form):
+def header_table(header: Json, form: str) -> Table:
     """The fields of a header: what they are goes by its version, its mode, and whether it is a
     job's, a plain one or a transcript's."""
     is_timed = header.get("mode") == TIMED
     modes = one_of(KEYED) if header.get("swap") == 2 else one_of(KEYED, TIMED)
-    actor = one_of("manual", "conforming") if form == STATED else actor_kind
-    table = {"swap": one_of(1, 2), "mode": modes, "start": number, "delta": number, "bound": number}
-    party, arc, leader = {"name": text, "actor?": actor}, {"from": text, "to": text, "amount": number}, {"party": text}
+    actor: Kind = one_of("manual", "conforming") if form == STATED else actor_kind
+    table: Table = {"swap": one_of(1, 2), "mode": modes, "start": number, "delta": number, "bound": number}
+    party: Table = {"name": text, "actor?": actor}
+    arc: Table = {"from": text, "to": text, "amount": number}
+    leader: Table = {"party": text}
     if form != STATED:
         party["seed?"] = text
     if form != PLAIN:
@@ -192,7 +203,7 @@ def header_table(header, form):
     return table
 
 
-EVENTS = {
+EVENTS: dict[str, Table] = {
     "tick": {"tick": number, "by?": number},
     "look": {"look": text, "arc": number},
     "act": {"act": text},
@@ -203,18 +214,18 @@ EVENTS = {
 
 # ---- the steps on names and limits
 
-def examine_known(name, line, known):
+def examine_known(name: str, line: int, known: Any) -> None:
     if name not in known:
         refuse("Unknown", line, name)
 
 
-def script_of(party):
+def script_of(party: Json) -> list[Json]:
     """The moves of a party's script, none where it follows none."""
     actor = party.get("actor")
     return actor.get("script", []) if isinstance(actor, dict) else []
 
 
-def examine_names(header, line):
+def examine_names(header: Json, line: int) -> None:
     known, before, leading = {party["name"] for party in header["parties"]}, set(), set()
     for party in header["parties"]:
         if not NAME.fullmatch(party["name"]):
@@ -237,23 +248,23 @@ def examine_names(header, line):
         leading.add(leader["party"])
 
 
-def examine_move_names(move, line, known):
+def examine_move_names(move: Json, line: int, known: Any) -> None:
     named = {"craft": "via", "raw": "path"}.get(move["do"])
     for name in move[named] if named else [move["to"]] if move["do"] == "transfer" else []:
         examine_known(name, line, known)
 
 
-def examine_range(value, line, field, least, most):
+def examine_range(value: int, line: int, field: str, least: int, most: int) -> None:
     if not least <= value <= most:
         refuse("OverLimit", line, field, value)
 
 
-def examine_hex(value, line, field, length):
+def examine_hex(value: str, line: int, field: str, length: int) -> None:
     if not re.fullmatch("[0-9a-fA-F]{%d}" % length, value):
         refuse("WrongHex", line, field)
 
 
-def examine_limits(header, line):
+def examine_limits(header: Json, line: int) -> None:
     version = header["swap"]
     parties, arcs, leaders = header["parties"], header["arcs"], header["leaders"]
     for field, least, most in (("start", 1, 1000), ("delta", 1, 100), ("bound", 1, 64)):
@@ -276,7 +287,7 @@ def examine_limits(header, line):
         examine_keys(header, line)
 
 
-def examine_keys(header, line):
+def examine_keys(header: Json, line: int) -> None:
     """The outer length, then row by row its length and its digits."""
     examine_range(len(header["keys"]), line, "keys", len(header["parties"]), len(header["parties"]))
     for row in header["keys"]:
@@ -285,7 +296,7 @@ def examine_keys(header, line):
             examine_hex(key, line, "keys", DIGEST)
 
 
-def examine_move_limits(move, line, header):
+def examine_move_limits(move: Json, line: int, header: Json) -> None:
     """The numbers, lengths and digits of a move, in the order of its table."""
     limit, locks, last_arc = PATH_LIMIT[header["swap"]], len(header["leaders"]), len(header["arcs"]) - 1
     most = {"arc": last_arc, "onto": last_arc, "lock": locks - 1, "amount": MOST_UNITS, "units": MOST_UNITS}
@@ -309,22 +320,22 @@ def examine_move_limits(move, line, header):
 
 # ---- the step on adjacency
 
-def is_conforming(party):
+def is_conforming(party: Json) -> bool:
     """`actor` is conforming where absent."""
-    return party.get("actor", "conforming") == "conforming"
+    return bool(party.get("actor", "conforming") == "conforming")
 
 
 class Places:
     """What the step on adjacency needs of a header: by names, who conforms, who has a seed, which
     arcs touch whom."""
 
-    def __init__(self, header):
+    def __init__(self, header: Json) -> None:
         self.ends = [(arc["from"], arc["to"]) for arc in header["arcs"]]
         self.conforming = {party["name"]: is_conforming(party) for party in header["parties"]}
         self.seeded = {party["name"] for party in header["parties"] if "seed" in party}
         self.touching = {name: {arc for arc, ends in enumerate(self.ends) if name in ends} for name in self.conforming}
 
-    def examine(self, name, move, line):
+    def examine(self, name: str, move: Json, line: int) -> None:
         """A move stands on an arc that touches its party; who crafts doesn't conform; a transfer
         goes to a party of the arc."""
         if move["arc"] not in self.touching[name]:
@@ -340,7 +351,7 @@ class Places:
 class Offer:
     """A header that was read: the deal, and who acts how with which seed."""
 
-    def __init__(self, header, form):
+    def __init__(self, header: Json, form: str) -> None:
         self.header, self.form, self.places = header, form, Places(header)
         self.deal = deal_of(header, form)
         parties = header["parties"]
@@ -349,11 +360,17 @@ class Offer:
         self.seeds = [bytes.fromhex(party["seed"]) if "seed" in party else None for party in parties]
         self.is_fair = header.get("finish", "stop") == "fair"
 
-    def number_of(self, name):
+    def number_of(self, name: str) -> int:
         return self.deal.names.index(name)
 
+    def seed(self, party: int) -> bytes:
+        """The seed of a party that acts: one of those that state a seed."""
+        seed = self.seeds[party]
+        assert seed is not None
+        return seed
 
-def deal_of(header, form):
+
+def deal_of(header: Json, form: str) -> Deal:
     names = [party["name"] for party in header["parties"]]
     ends = [(names.index(arc["from"]), names.index(arc["to"])) for arc in header["arcs"]]
     leaders = [names.index(leader["party"]) for leader in header["leaders"]]
@@ -366,7 +383,7 @@ def deal_of(header, form):
     return deal
 
 
-def header_of(line, number, form):
+def header_of(line: bytes, number: int, form: str) -> Offer:
     """The offer of a header line, or the first reason against it up to the timelocks."""
     header = parsed(line, number)
     examine_fields(header, number, header_table(header, form))
@@ -381,7 +398,7 @@ def header_of(line, number, form):
     return offer
 
 
-def examine_digraph(deal):
+def examine_digraph(deal: Deal) -> None:
     """The steps on arcs, connected, leaders."""
     for arc, ends in enumerate(deal.ends):
         if ends[0] == ends[1]:
@@ -399,7 +416,7 @@ def examine_digraph(deal):
         refuse("NotFeedback", ",".join(deal.names[it] for it in cycle))
 
 
-def examine_times(deal, form):
+def examine_times(deal: Deal, form: str) -> None:
     """The steps on bound, start, timelocks."""
     if deal.bound < deal.need:
         refuse("BoundTooSmall", deal.bound, deal.need)
@@ -411,7 +428,7 @@ def examine_times(deal, form):
                 refuse("WrongTimelock", arc, deal.timelocks[arc], deal.timelock_of(arc))
 
 
-def examine_seeds(offer, needs_seeds):
+def examine_seeds(offer: Offer, needs_seeds: bool) -> None:
     """The step on seeds: who conforms, or crafts in a script, has one (for a run or a race), and it
     gives what the deal states."""
     crafters = {name for party in offer.header["parties"] for move in script_of(party) for name in move.get("via", [])}
@@ -425,7 +442,7 @@ def examine_seeds(offer, needs_seeds):
                     refuse("WrongWallet", offer.deal.names[party], lock)
 
 
-def is_given(deal, party, lock, seed):
+def is_given(deal: Deal, party: int, lock: int, seed: bytes) -> bool:
     """Whether a seed gives the public key that the deal states for a lock, and the hashlock where
     the party leads it."""
     if deal.is_keyed and public_key(seed, party, lock) != deal.keys[party][lock]:
@@ -435,7 +452,7 @@ def is_given(deal, party, lock, seed):
 
 # ---- events and jobs
 
-def event_of(line, number, offer, needs_seeds):
+def event_of(line: bytes, number: int, offer: Offer, needs_seeds: bool) -> Json:
     """The event of a line, or the first reason against it, by the first five steps."""
     event = parsed(line, number)
     form = next((it for it in EVENTS if it in event), "tick")
@@ -458,13 +475,13 @@ def event_of(line, number, offer, needs_seeds):
     return event
 
 
-def examine_crash(event, line, offer):
+def examine_crash(event: Json, line: int, offer: Offer) -> None:
     """A crash is of a conforming party."""
     if "crash" in event and not offer.places.conforming[event["crash"]]:
         refuse("NotConforming", line)
 
 
-def examine_call(event, line, offer, needs_seeds):
+def examine_call(event: Json, line: int, offer: Offer, needs_seeds: bool) -> None:
     """A call is of a party that doesn't conform, and who crafts has a seed."""
     places, move = offer.places, event["move"]
     examine_move_names(move, line, places.touching)
@@ -477,7 +494,7 @@ def examine_call(event, line, offer, needs_seeds):
             refuse("NoSeed", name)
 
 
-def job_of(text, task):
+def job_of(text: bytes, task: str) -> tuple[Offer, list[Json]]:
     """The offer and the events of a job, for the task `check`, `run` or `race`."""
     lines = lines_of(text)
     if not lines:

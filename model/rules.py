@@ -4,68 +4,78 @@ findings.
 docs/DEFINITIONS.md, 'A book'. A view is a book, or what a party knows of it: of each ledger the
 first entries.
 """
+from __future__ import annotations
+
+from typing import Any, Iterator, Optional, Sequence, TYPE_CHECKING
+
 from .hashes import Hashkey, extended, hashlock_of, secret_of
 from .ledger import CLAIM, PUBLISH, REFUND, TRANSFER, UNLOCK, Call, expiry, what_is_wrong
+
+if TYPE_CHECKING:
+    from .deal import Deal
+    from .ledger import Entry, Ledger, Opening
 
 
 class View:
     """Of each ledger its first `ends[arc]` entries."""
 
-    def __init__(self, deal, ledgers, ends):
+    def __init__(self, deal: Deal, ledgers: Sequence[Ledger], ends: list[int]) -> None:
         self.deal, self.ledgers, self.ends = deal, ledgers, ends
 
     # ---- arcs
-    def height(self, arc):
+    def height(self, arc: int) -> int:
         return self.ledgers[arc].height_at(self.ends[arc])
 
-    def published(self, arc):
+    def published(self, arc: int) -> Optional[Entry]:
         return self.ledgers[arc].published(self.ends[arc])
 
-    def settled(self, arc):
+    def settled(self, arc: int) -> Optional[Entry]:
         return self.ledgers[arc].settled(self.ends[arc])
 
-    def opened(self, arc, lock):
+    def opened(self, arc: int, lock: int) -> Optional[Opening]:
         return self.ledgers[arc].opened(lock, self.ends[arc])
 
-    def expiries(self, arc, end):
+    def expiries(self, arc: int, end: int) -> list[int]:
         """The expiry of each lock that isn't opened after the first entries of an arc: that of the
         correct terms, whatever was published."""
         ledger = self.ledgers[arc]
         return [expiry(self.deal, arc, ledger.correct_terms, lock) for lock in ledger.closed_locks(end)]
 
-    def least_expiry(self, arc):
+    def least_expiry(self, arc: int) -> int:
         return min(self.expiries(arc, self.ends[arc]))
 
-    def calls(self, party, arc, kind, lock=None):
+    def calls(self, party: int, arc: int, kind: str, lock: Optional[int] = None) -> list[tuple[int, Entry]]:
         """The entries of a party's calls of a kind (for a lock) on an arc, with their numbers."""
         entries, end = self.ledgers[arc].entries, self.ends[arc]
         numbered = [(at, entries[at]) for at in self.ledgers[arc].calls[party] if at < end and entries[at].call.kind == kind]
         return numbered if lock is None else [(at, entry) for at, entry in numbered if entry.call.stated.lock == lock]
 
-    def is_correct(self, arc):
+    def is_correct(self, arc: int) -> bool:
         """An arc is correct where its accepted publish has the correct terms."""
         entry = self.published(arc)
         return entry is not None and entry.call.stated == self.ledgers[arc].correct_terms
 
-    def is_good(self, arc):
+    def is_good(self, arc: int) -> bool:
         """An arc is good where it is correct and was published at `open_by` at the latest."""
-        return self.is_correct(arc) and self.published(arc).height <= self.deal.open_by
+        entry = self.published(arc)
+        return self.is_correct(arc) and entry is not None and entry.height <= self.deal.open_by
 
-    def is_triggered(self, arc):
+    def is_triggered(self, arc: int) -> bool:
         """An arc is triggered where every lock is opened."""
         return all(self.opened(arc, lock) for lock in self.deal.locks)
 
     # ---- parties
-    def is_ready(self, party):
+    def is_ready(self, party: int) -> bool:
         """A party is ready where every arc that enters it is good."""
         return all(self.is_good(arc) for arc in self.deal.entering[party])
 
-    def ready_height(self, party):
+    def ready_height(self, party: int) -> int:
         """The height at which a party became ready: the greatest at which an arc that enters it was
         published."""
-        return max(self.published(arc).height for arc in self.deal.entering[party])
+        entries = [self.published(arc) for arc in self.deal.entering[party]]
+        return max(entry.height for entry in entries if entry)
 
-    def seen_opening(self, party, lock):
+    def seen_opening(self, party: int, lock: int) -> Optional[Opening]:
         """The opening of a lock on the least-numbered leaving arc whose opening path lacks the
         party, or None."""
         for arc in self.deal.leaving[party]:
@@ -74,22 +84,23 @@ class View:
                 return opening
         return None
 
-    def first_unlock(self, party, lock):
+    def first_unlock(self, party: int, lock: int) -> Optional[Hashkey]:
         """The hashkey of the party's first unlock call for a lock, by arc and entry, or None."""
         for arc in self.deal.touching[party]:
             for _, entry in self.calls(party, arc, UNLOCK, lock):
-                return entry.call.stated
+                hashkey: Hashkey = entry.call.stated
+                return hashkey
         return None
 
 
 # ---- what is due
 
-def first_due(view, party, seed, signed):
+def first_due(view: View, party: int, seed: bytes, signed: dict[int, Hashkey]) -> Optional[tuple[int, Call]]:
     """The first call that is due for a party, as an arc and a call, or None."""
     return next(all_due(view, party, seed, signed), None)
 
 
-def all_due(view, party, seed, signed):
+def all_due(view: View, party: int, seed: bytes, signed: dict[int, Hashkey]) -> Iterator[tuple[int, Call]]:
     """The calls that are due for a party over what it knows: by rule and then by arc, each on an
     arc on which the party has no such call yet.
 
@@ -103,7 +114,7 @@ def all_due(view, party, seed, signed):
     yield from due_refunds(view, party)
 
 
-def all_useful(view, party, seed, signed):
+def all_useful(view: View, party: int, seed: bytes, signed: Any) -> Iterator[tuple[int, Call]]:
     """What is due less the calls that can only hurt the party: a publish on a ledger above the height by which contracts open, and
     a hashkey that is withheld.
     """
@@ -113,7 +124,7 @@ def all_useful(view, party, seed, signed):
             yield arc, call
 
 
-def is_withheld(view, party, lock):
+def is_withheld(view: View, party: int, lock: int) -> bool:
     """Whether a leader has presented no hashkey for its lock, and would present its own too late on an arc that enters it."""
     deal = view.deal
     if deal.leaders[lock] != party or view.first_unlock(party, lock):
@@ -121,7 +132,7 @@ def is_withheld(view, party, lock):
     return any(view.height(arc) > deal.open_by + deal.delta for arc in deal.entering[party])
 
 
-def due_publishes(view, party, is_ready):
+def due_publishes(view: View, party: int, is_ready: bool) -> Iterator[tuple[int, Call]]:
     """A publish of the correct terms on each leaving arc: for a leader at once, for a follower
     where it is ready."""
     if party in view.deal.leaders or is_ready:
@@ -130,7 +141,7 @@ def due_publishes(view, party, is_ready):
                 yield arc, Call(PUBLISH, view.ledgers[arc].correct_terms)
 
 
-def due_unlocks(view, party, seed, signed):
+def due_unlocks(view: View, party: int, seed: bytes, signed: dict[int, Hashkey]) -> Iterator[tuple[int, Call]]:
     """Where the party is ready, an unlock for each lock on each entering arc, by lock and then by
     arc, with its hashkey for the lock."""
     for lock in view.deal.locks:
@@ -141,7 +152,7 @@ def due_unlocks(view, party, seed, signed):
                     yield arc, Call(UNLOCK, hashkey)
 
 
-def due_key(view, party, lock, seed, signed):
+def due_key(view: View, party: int, lock: int, seed: bytes, signed: dict[int, Hashkey]) -> Optional[Hashkey]:
     """The hashkey that a party signed before for a lock; else, where it leads the lock, its own;
     else its extension of one that it has seen."""
     deal = view.deal
@@ -157,14 +168,14 @@ def due_key(view, party, lock, seed, signed):
     return extended(deal.id, inner, party, seed) if deal.is_keyed else inner
 
 
-def due_claims(view, party):
+def due_claims(view: View, party: int) -> Iterator[tuple[int, Call]]:
     """A claim on each entering arc that is correct and triggered."""
     for arc in view.deal.entering[party]:
         if view.is_triggered(arc) and view.is_correct(arc) and not view.calls(party, arc, CLAIM):
             yield arc, Call(CLAIM)
 
 
-def due_refunds(view, party):
+def due_refunds(view: View, party: int) -> Iterator[tuple[int, Call]]:
     """A refund on each leaving arc that was published, is neither settled nor triggered, and is
     known above the expiry of a closed lock."""
     for arc in view.deal.leaving[party]:
@@ -172,13 +183,13 @@ def due_refunds(view, party):
             yield arc, Call(REFUND)
 
 
-def is_refundable(view, party, arc):
+def is_refundable(view: View, party: int, arc: int) -> bool:
     """Whether the party waits for a refund on an arc that leaves it, or may have it."""
     is_held = view.published(arc) and not view.settled(arc) and not view.is_triggered(arc)
     return bool(is_held) and not view.calls(party, arc, REFUND)
 
 
-def rest_until(view, party):
+def rest_until(view: View, party: int) -> Optional[int]:
     """Up to which height ticks make nothing due for a party for which nothing is: the least expiry
     that it waits for, or None where it waits for none."""
     return min((view.least_expiry(arc) for arc in view.deal.leaving[party] if is_refundable(view, party, arc)), default=None)
@@ -186,7 +197,7 @@ def rest_until(view, party):
 
 # ---- conduct
 
-def breaches(book, party):
+def breaches(book: View, party: int) -> Iterator[tuple[int, int]]:
     """Where a party broke its conduct, by arc and then entry."""
     for arc in book.deal.touching[party]:
         ledger = book.ledgers[arc]
@@ -195,7 +206,7 @@ def breaches(book, party):
                 yield arc, at
 
 
-def keeps_rules(book, party, arc, at, entry):
+def keeps_rules(book: View, party: int, arc: int, at: int, entry: Entry) -> bool:
     """Whether a call of the party keeps the rules of conduct. There is no transfer."""
     kind = entry.call.kind
     if kind == PUBLISH:
@@ -210,7 +221,7 @@ def keeps_rules(book, party, arc, at, entry):
     return False
 
 
-def is_conducted_publish(book, party, arc, entry):
+def is_conducted_publish(book: View, party: int, arc: int, entry: Entry) -> bool:
     """A publish has the correct terms, is the party's only one on its arc, and a follower makes it
     only where it is ready."""
     is_allowed = party in book.deal.leaders or book.is_ready(party)
@@ -218,7 +229,7 @@ def is_conducted_publish(book, party, arc, entry):
     return is_allowed and is_only and entry.call.stated == book.ledgers[arc].correct_terms
 
 
-def is_conducted_unlock(book, party, arc, at, hashkey):
+def is_conducted_unlock(book: View, party: int, arc: int, at: int, hashkey: Hashkey) -> bool:
     """An unlock comes after its arc's publish, where the party is ready; all unlocks for one lock
     carry one hashkey, valid on the arc."""
     if not book.ledgers[arc].published(at) or not book.is_ready(party):
@@ -230,27 +241,27 @@ def is_conducted_unlock(book, party, arc, at, hashkey):
     return book.deal.leaders[hashkey.lock] == party or extends_accepted(book, party, hashkey)
 
 
-def extends_accepted(book, party, hashkey):
+def extends_accepted(book: View, party: int, hashkey: Hashkey) -> bool:
     """Whether a hashkey extends one that was accepted on a leaving arc and whose path lacks the
     party."""
     inner = hashkey.tail() if book.deal.is_keyed else hashkey
     return party not in inner.path and bool(accepted_heights(book, party, inner))
 
 
-def accepted_heights(book, party, hashkey):
+def accepted_heights(book: View, party: int, hashkey: Hashkey) -> list[int]:
     """The heights at which a hashkey was accepted on arcs that leave a party."""
     openings = [book.opened(arc, hashkey.lock) for arc in book.deal.leaving[party]]
     return [opening.height for opening in openings if opening and opening.hashkey == hashkey]
 
 
-def is_conducted_refund(book, arc, at, entry):
+def is_conducted_refund(book: View, arc: int, at: int, entry: Entry) -> bool:
     """A refund comes above the expiry of a lock that is closed."""
     return any(entry.height > it for it in book.expiries(arc, at))
 
 
 # ---- lateness
 
-def lateness(book, party):
+def lateness(book: View, party: int) -> Iterator[tuple[str, int, int]]:
     """Where a party was late, as a rule, an arc and the due height: publish, then unlock by lock,
     then claim, then refund, each by arc."""
     deal = book.deal
@@ -270,12 +281,12 @@ def lateness(book, party):
         yield from late(book, arc, REFUND, reference, [it for it in heights if reference is not None and it > reference])
 
 
-def counted(book, party, arc, kind):
+def counted(book: View, party: int, arc: int, kind: str) -> list[int]:
     """The heights of a party's calls of a kind on an arc."""
     return [entry.height for _, entry in book.calls(party, arc, kind)]
 
 
-def late(book, arc, rule, reference, heights):
+def late(book: View, arc: int, rule: str, reference: Optional[int], heights: list[int]) -> Iterator[tuple[str, int, int]]:
     """Late: an action is enabled (has a reference), its ledger stands above its due height, and no
     call that counts stands by then."""
     if reference is not None:
@@ -284,14 +295,14 @@ def late(book, arc, rule, reference, heights):
             yield rule, arc, due
 
 
-def publish_reference(book, party):
+def publish_reference(book: View, party: int) -> Optional[int]:
     """Enabled where the party leads, or is ready."""
     if party in book.deal.leaders:
         return 0
     return book.ready_height(party) if book.is_ready(party) else None
 
 
-def unlock_reference(book, party, lock, first):
+def unlock_reference(book: View, party: int, lock: int, first: Optional[Hashkey]) -> Optional[int]:
     """Enabled where the party is ready, and leads the lock, or made an unlock call for it, or has
     seen it opened."""
     if not book.is_ready(party):
@@ -304,30 +315,32 @@ def unlock_reference(book, party, lock, first):
     return max(ready, base_height(book, party, lock, first))
 
 
-def base_height(book, party, lock, first):
+def base_height(book: View, party: int, lock: int, first: Optional[Hashkey]) -> int:
     """The greatest height at which the used hashkey was accepted on a leaving arc, 0 where on
     none."""
     if not book.deal.is_keyed:
         openings = [book.opened(arc, lock) for arc in book.deal.leaving[party]]
         return max([opening.height for opening in openings if opening], default=0)
-    if first is None:
-        used = book.seen_opening(party, lock).hashkey
-    elif first.path[:1] == (party,):
+    seen = book.seen_opening(party, lock)
+    if first is None and seen:
+        used = seen.hashkey
+    elif first and first.path[:1] == (party,):
         used = first.tail()
     else:
         return 0
     return max(accepted_heights(book, party, used), default=0)
 
 
-def claim_reference(book, arc):
+def claim_reference(book: View, arc: int) -> Optional[int]:
     """Enabled where the arc is correct and triggered: the height at which its last lock was
     opened."""
     if book.is_correct(arc) and book.is_triggered(arc):
-        return max(book.opened(arc, lock).height for lock in book.deal.locks)
+        openings = [book.opened(arc, lock) for lock in book.deal.locks]
+        return max(opening.height for opening in openings if opening)
     return None
 
 
-def refund_reference(book, arc):
+def refund_reference(book: View, arc: int) -> Optional[int]:
     """Enabled where the arc carries an accepted publish and isn't triggered: the least expiry of a
     lock that isn't opened."""
     if book.published(arc) and not book.is_triggered(arc):
@@ -337,7 +350,7 @@ def refund_reference(book, arc):
 
 # ---- forgery
 
-def forgeries(book, party):
+def forgeries(book: View, party: int) -> Iterator[tuple[int, int]]:
     """Where an accepted unlock carries a suffix that begins with the party (with timelocks, the
     leader's secret) that it never presented."""
     presented = {entry.call.stated for arc in book.deal.touching[party] for _, entry in book.calls(party, arc, UNLOCK)}
@@ -348,7 +361,7 @@ def forgeries(book, party):
                 yield arc, opening.entry
 
 
-def own_suffix(deal, party, hashkey):
+def own_suffix(deal: Deal, party: int, hashkey: Hashkey) -> Optional[Hashkey]:
     """What of a hashkey is a party's own: the suffix that begins with it; with timelocks the
     leader's secret; or None."""
     if deal.is_keyed:
@@ -359,12 +372,12 @@ def own_suffix(deal, party, hashkey):
 
 # ---- outcomes and findings
 
-def has_ended(book):
+def has_ended(book: View) -> bool:
     """A book has ended where every ledger is above the horizon."""
     return all(book.height(arc) > book.deal.horizon for arc in book.deal.arcs)
 
 
-def outcome(book, party):
+def outcome(book: View, party: int) -> str:
     """The outcome of a party, by the leaving arcs that were triggered (lost) and the entering arcs
     that are correct and were claimed (got)."""
     lost = [book.is_triggered(arc) for arc in book.deal.leaving[party]]
@@ -376,12 +389,12 @@ def outcome(book, party):
     return "Deal" if all(lost) else "Discount"
 
 
-def is_claimed(book, arc):
+def is_claimed(book: View, arc: int) -> bool:
     settled = book.settled(arc)
     return settled is not None and settled.call.kind == CLAIM
 
 
-def findings(book, conforming):
+def findings(book: View, conforming: list[bool]) -> list[str]:
     """The findings of a book, in their order; of parties that don't conform nothing is found."""
     found = []
     for party, name in enumerate(book.deal.names):

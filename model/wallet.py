@@ -1,5 +1,9 @@
 """A party's own wallet: what is useful to it, by what it wrote down and what each ledger did so far.
 docs/FORMATS.md, 'A wallet's lines'."""
+from __future__ import annotations
+
+from typing import Iterator, Optional, TYPE_CHECKING, Union
+
 from .hashes import Hashkey
 from .ledger import PUBLISH, UNLOCK, what_is_wrong
 from .offer import is_given, refuse
@@ -7,32 +11,37 @@ from .rules import all_useful, rest_until
 from .texts import call_words, joined
 from .transcripts import Reader, demand, digest, members, numeral, replayed, transcript_of
 
+if TYPE_CHECKING:
+    from .deal import Deal
+    from .ledger import Call
+    from .rules import View
+
 BYTE = 255
 
 
 # ---- lines
 
-def seed_of(line):
+def seed_of(line: str) -> bytes:
     said = line.split(" ")
     demand(len(said) == 2 and said[0] == "seed")
     return digest(said[1])
 
 
-def note_of(line):
+def note_of(line: str) -> Union[int, Hashkey]:
     """What a line notes: a hashkey that was kept, or the arc on which a publish was sent."""
     word, *said = line.split(" ")
     demand(len(said) == (4 if word == "keep" else 1))
     if word == "sent":
         return numeral(said[0], BYTE)
     lock, secret, path, signatures = said
-    path = tuple(numeral(it, BYTE) for it in members(path))
-    return Hashkey(numeral(lock, BYTE), digest(secret), path, tuple(digest(it, 4288) for it in members(signatures)))
+    parties = tuple(numeral(it, BYTE) for it in members(path))
+    return Hashkey(numeral(lock, BYTE), digest(secret), parties, tuple(digest(it, 4288) for it in members(signatures)))
 
 
-def notes_in(reader):
+def notes_in(reader: Reader) -> list[tuple[int, Union[int, Hashkey]]]:
     """The notes with the numbers of their lines, up to the first line that begins with neither
     word."""
-    notes = []
+    notes: list[tuple[int, Union[int, Hashkey]]] = []
     while reader.has_word(b"keep") or reader.has_word(b"sent"):
         notes.append((reader.number + 1, reader.read(note_of)))
     return notes
@@ -40,20 +49,20 @@ def notes_in(reader):
 
 # ---- what is asked
 
-def party_of(deal, name, line):
+def party_of(deal: Deal, name: str, line: int) -> int:
     if name not in deal.names:
         refuse("Unknown", line, name)
     return deal.names.index(name)
 
 
-def examine_seed(deal, party, seed):
+def examine_seed(deal: Deal, party: int, seed: bytes) -> None:
     """The seed gives what the deal states of the party."""
     for lock in deal.locks:
         if not is_given(deal, party, lock, seed):
             refuse("WrongWallet", deal.names[party], lock)
 
 
-def is_keepable(deal, party, kept, hashkey):
+def is_keepable(deal: Deal, party: int, kept: dict[int, Hashkey], hashkey: Hashkey) -> bool:
     """A hashkey may stand among the notes that is for a lock of the deal, the first for it, and
     opens it on the first arc that enters the party."""
     if hashkey.lock not in deal.locks or hashkey.lock in kept:
@@ -61,9 +70,10 @@ def is_keepable(deal, party, kept, hashkey):
     return what_is_wrong(deal, deal.entering[party][0], deal.hashlocks[hashkey.lock], hashkey) is None
 
 
-def noted(deal, party, notes):
+def noted(deal: Deal, party: int, notes: list[tuple[int, Union[int, Hashkey]]]) -> tuple[dict[int, Hashkey], set[int]]:
     """The hashkeys that were kept, by their locks, and the arcs on which a publish was sent."""
-    kept, sent = {}, set()
+    kept: dict[int, Hashkey] = {}
+    sent: set[int] = set()
     for line, note in notes:
         if isinstance(note, Hashkey):
             if not is_keepable(deal, party, kept, note):
@@ -76,7 +86,7 @@ def noted(deal, party, notes):
     return kept, sent
 
 
-def examine_unlocks(book, party, kept):
+def examine_unlocks(book: View, party: int, kept: dict[int, Hashkey]) -> None:
     """Each unlock of the party carries the hashkey that was kept for its lock."""
     for arc, ledger in enumerate(book.ledgers):
         for at, entry in enumerate(ledger.entries):
@@ -86,7 +96,7 @@ def examine_unlocks(book, party, kept):
 
 # ---- the answer
 
-def lines_for(party, useful, kept, sent):
+def lines_for(party: int, useful: list[tuple[int, Call]], kept: dict[int, Hashkey], sent: set[int]) -> Iterator[str]:
     """A line for each useful call that may go out, and one for each hashkey that must be kept
     first."""
     asked = set()
@@ -100,11 +110,11 @@ def lines_for(party, useful, kept, sent):
             yield "keep " + call_words(call).removeprefix("unlock ")
 
 
-def rest_line(until):
+def rest_line(until: Optional[int]) -> str:
     return "rest" if until is None else "rest %d" % until
 
 
-def wallet_lines(text, name):
+def wallet_lines(text: bytes, name: str) -> tuple[bytes, int]:
     """What `party NAME` writes; it finds nothing."""
     reader = Reader(text)
     seed, notes = reader.read(seed_of), notes_in(reader)

@@ -107,8 +107,9 @@ class Wallet:
         return {arc: chain.height for arc, chain in self.chains.items()}
 
 
-def live(folder: str, name: str, twice: bool, tell: Callable[[str], object]) -> None:
-    """A wallet's whole life, which ends where its process is killed."""
+def live(folder: str, name: str, twice: bool, tell: Callable[[str], object], pause: float = 0.003) -> None:
+    """A wallet's whole life, which ends where its process is killed. It looks again after a
+    pause."""
     wallet, last = Wallet(folder, name, twice), None
     while True:
         for chain in wallet.chains.values():
@@ -117,7 +118,7 @@ def live(folder: str, name: str, twice: bool, tell: Callable[[str], object]) -> 
             heights = wallet.turn()
             last = wallet.seen()
             tell(" ".join(f"{arc}:{height}" for arc, height in heights.items()))
-        time.sleep(0.003)
+        time.sleep(pause)
 
 
 if __name__ == "__main__":

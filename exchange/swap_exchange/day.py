@@ -1,0 +1,135 @@
+"""A day of an exchange, step by step: cut wishes into groups, make swaps of them, pack these into
+batches, settle the batches."""
+from __future__ import annotations
+
+from collections import defaultdict
+from collections.abc import Iterator, Sequence
+from dataclasses import dataclass
+from hashlib import sha256
+
+from swap_party.header import compact
+
+from . import state as steps
+from .cut import Cut, cut
+from .limits import ASSETS, Edge
+from .pool import Crew
+from .settling import Settling
+from .state import Key, State
+from .wishes import MOST_UNITS, Account, Wish
+from .work import Group, Prepared, Way
+
+ACCOUNTS, KEPT_AT_ONCE = 64, 64
+NOT_COVERED = "its payer's units don't cover it"
+
+
+@dataclass(frozen=True)
+class Terms:
+    """The times of every swap of the day, who doesn't turn up, and the way to settle."""
+
+    start: int
+    delta: int
+    away: tuple[str, ...]
+    way: str
+
+
+def digest_of(wishes: bytes, accounts: bytes | None, terms: Terms) -> str:
+    return sha256(repr((wishes, accounts, terms)).encode()).hexdigest()
+
+
+def beginning(wishes: Sequence[Wish], told: Sequence[Account] | None) -> list[Account]:
+    """What each account has when the day begins: what is told, or else what its wishes pay."""
+    units: dict[Key, int] = {} if told is None else {(it.name, it.asset): it.units for it in told}
+    for it in wishes:
+        paid = it.units if told is None else 0
+        units[it.payer, it.asset] = min(MOST_UNITS, units.get((it.payer, it.asset), 0) + paid)
+        units.setdefault((it.payee, it.asset), 0)
+    return [Account(*key, had) for key, had in sorted(units.items())]
+
+
+def uncovered(wishes: Sequence[Wish], accounts: Sequence[Account]) -> dict[int, str]:
+    """The wishes that their payers can't cover beside those of more value."""
+    left = {(it.name, it.asset): it.units for it in accounts}
+    found: dict[int, str] = {}
+    for number in sorted(range(len(wishes)), key=lambda it: (-wishes[it].value, it)):
+        wish = wishes[number]
+        if wish.units > left[wish.payer, wish.asset]:
+            found[number] = NOT_COVERED
+        else:
+            left[wish.payer, wish.asset] -= wish.units
+    return found
+
+
+class Day:
+    def __init__(self, state: State, crew: Crew, terms: Terms, way: Way) -> None:
+        self.state, self.crew, self.terms, self.way = state, crew, terms, way
+        self.wishes: Sequence[Wish] = ()
+
+    def run(self, wishes: Sequence[Wish], accounts: Sequence[Account]) -> None:
+        """Goes on from the step that is done."""
+        self.wishes = wishes
+        if self.state.done == steps.READ:
+            self.cut(accounts)
+        if self.state.done == steps.CUT:
+            self.prepare()
+        if self.state.done == steps.PREPARED:
+            self.state.keep_batches(list(self.batches(self.groups())))
+        Settling(self.state, self.crew, self.way.settle, wishes, self.terms.away).run()
+
+    def cut(self, accounts: Sequence[Account]) -> None:
+        users = {name: place for place, name in enumerate(sorted({it for wish in self.wishes for it in (wish.payer, wish.payee)}))}
+        assets = {name: place for place, name in enumerate(sorted({it.asset for it in self.wishes}))}
+        dropped = uncovered(self.wishes, accounts)
+        edges = {
+            number: Edge(users[it.payer], users[it.payee], assets[it.asset], it.value)
+            for number, it in enumerate(self.wishes)
+            if number not in dropped
+        }
+        found = cut(edges)
+        self.state.keep_cut(Cut(found.groups, {**found.dropped, **dropped}))
+
+    def groups(self) -> dict[int, list[int]]:
+        """The wishes of each swap."""
+        found: defaultdict[int, list[int]] = defaultdict(list)
+        for wish, swap in self.state.rows("select number, swap from wish where swap is not null order by number"):
+            found[swap].append(wish)
+        return dict(found)
+
+    def group(self, number: int, members: Sequence[int]) -> Group:
+        wishes = [self.wishes[it] for it in members]
+        names = sorted({name for it in wishes for name in (it.payer, it.payee)})
+        arcs = [{"from": it.payer, "to": it.payee, "amount": it.units} for it in wishes]
+        line = compact({"clear": 1, "start": self.terms.start, "delta": self.terms.delta, "parties": names, "arcs": arcs})
+        return Group(number, line, tuple(it for it in names if it in self.terms.away))
+
+    def prepare(self) -> None:
+        made = {it for (it,) in self.state.rows("select number from swap where refused is not null")}
+        asked = [self.group(number, members) for number, members in self.groups().items() if number not in made]
+        told: list[Prepared] = []
+        for it in self.crew.each(self.way.prepare, asked):
+            told.append(it)
+            if len(told) == KEPT_AT_ONCE:
+                self.state.keep_prepared(told)
+                told = []
+        self.state.keep_prepared(told)
+        self.state.end_preparing()
+
+    def batches(self, groups: dict[int, list[int]]) -> Iterator[list[int]]:
+        """The swaps in their order, as many in a batch as one text of `many` takes."""
+        batch: list[int] = []
+        touched: defaultdict[str, set[str]] = defaultdict(set)
+        for (swap,) in self.state.rows("select number from swap where refused = '' order by number"):
+            if batch and not self.has_room(len(batch), touched, groups[swap]):
+                yield batch
+                batch, touched = [], defaultdict(set)
+            batch.append(swap)
+            for wish in map(self.wishes.__getitem__, groups[swap]):
+                touched[wish.asset] |= {wish.payer, wish.payee}
+        if batch:
+            yield batch
+
+    def has_room(self, swaps: int, touched: dict[str, set[str]], members: Sequence[int]) -> bool:
+        """Whether a batch takes one swap more."""
+        both = {asset: set(names) for asset, names in touched.items()}
+        for wish in map(self.wishes.__getitem__, members):
+            both.setdefault(wish.asset, set()).update((wish.payer, wish.payee))
+        return swaps < self.way.swaps_in_batch and len(both) <= ASSETS and max(map(len, both.values())) <= ACCOUNTS

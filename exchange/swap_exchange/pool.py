@@ -1,0 +1,108 @@
+"""Workers: processes of this machine, or those of a Dask cluster. A worker may be killed at any
+moment: what it was asked is asked again."""
+from __future__ import annotations
+
+import multiprocessing
+import os
+from collections.abc import Iterable, Iterator
+from concurrent.futures import FIRST_COMPLETED, Executor, Future, ProcessPoolExecutor, wait
+from concurrent.futures.process import BrokenProcessPool
+from typing import Any
+
+from .leaving import leave_with
+from .work import Answer, Asked, FaultError, Programs, Task
+
+# How often workers may be killed before the work ends with a fault
+BREAKS = 100
+
+
+class Workers:
+    """Processes of this machine."""
+
+    def __init__(self, count: int) -> None:
+        self.count, self.breaks = count, 0
+        self.pool: Executor = self.opened()
+
+    def opened(self) -> Executor:
+        return ProcessPoolExecutor(self.count, multiprocessing.get_context("spawn"), leave_with, (os.getpid(),))
+
+    def restore(self) -> None:
+        """New workers, where one was killed."""
+        self.breaks += 1
+        if self.breaks > BREAKS:
+            raise FaultError(f"workers were killed {self.breaks} times")
+        self.pool.shutdown(wait=False, cancel_futures=True)
+        self.pool = self.opened()
+
+    def close(self) -> None:
+        self.pool.shutdown(wait=True, cancel_futures=True)
+
+
+class Cluster(Workers):
+    """The workers of a Dask cluster, which gives what a lost worker was asked to another one."""
+
+    def __init__(self, address: str) -> None:
+        try:
+            import distributed
+        except ImportError:
+            raise FaultError("--scheduler needs Dask (python3-distributed), which isn't here") from None
+        try:
+            self.client: Any = distributed.Client(address, set_as_default=False)
+        except (OSError, ValueError) as why:
+            raise FaultError(f"no scheduler answers at {address}: {why}") from None
+        super().__init__(max(1, len(self.client.scheduler_info()["workers"])))
+
+    def opened(self) -> Executor:
+        executor: Executor = self.client.get_executor(pure=False, retries=10)
+        return executor
+
+    def close(self) -> None:
+        super().close()
+        self.client.close()
+
+
+class Crew:
+    """Has tasks done. What is answered comes in any order."""
+
+    def __init__(self, workers: Workers, programs: Programs) -> None:
+        self.workers, self.programs = workers, programs
+        self.running: dict[Future[Any], tuple[Task[Any, Any], Any]] = {}
+
+    @property
+    def is_full(self) -> bool:
+        return len(self.running) >= 4 * self.workers.count
+
+    def start(self, task: Task[Asked, Answer], asked: Asked) -> None:
+        try:
+            future = self.workers.pool.submit(task, self.programs, asked)
+        except BrokenProcessPool:
+            self.again()
+            future = self.workers.pool.submit(task, self.programs, asked)
+        self.running[future] = task, asked
+
+    def again(self) -> None:
+        """Asks new workers what those that were lost were asked."""
+        self.workers.restore()
+        lost, self.running = list(self.running.values()), {}
+        for task, asked in lost:
+            self.start(task, asked)
+
+    def answers(self) -> Iterator[Any]:
+        """Waits for an answer at least, and hands over those that are there."""
+        done, _ = wait(self.running, return_when=FIRST_COMPLETED)
+        if any(isinstance(it.exception(), BrokenProcessPool) for it in done):
+            self.again()
+            return
+        for future in done:
+            del self.running[future]
+        yield from [it.result() for it in done]
+
+    def each(self, task: Task[Asked, Answer], asked: Iterable[Asked]) -> Iterator[Answer]:
+        """The answer to each, in any order."""
+        left = iter(asked)
+        while True:
+            while not self.is_full and (it := next(left, None)) is not None:
+                self.start(task, it)
+            if not self.running:
+                return
+            yield from self.answers()
