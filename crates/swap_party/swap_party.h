@@ -1,6 +1,7 @@
-/* The wallet of one party of a swap, as pure functions over bytes: what is due for the party, and
-   whether a header's deal is accepted. docs/FORMATS.md tells the texts line by line, and
-   docs/using/wallet.md what a wallet does with them.
+/* The wallet of one party of a swap, as pure functions over bytes: the party's row for a deal, the
+   deal of all rows, what the party agrees to, what is due for it, and whether a header's deal is
+   accepted. docs/FORMATS.md tells the texts line by line, and docs/using/wallet.md what a wallet
+   does with them.
 
    Nothing is kept between calls, there is no handle, and nothing is to be freed. Each call reads
    what it is given, puts a text into `out`, and answers its status with the text's length.
@@ -35,10 +36,11 @@ extern "C" {
 
 /* The version of this header. The first number changes where a program has to be compiled again. */
 #define SWAP_PARTY_VERSION_MAJOR 1
-#define SWAP_PARTY_VERSION_MINOR 0
-#define SWAP_PARTY_VERSION "1.0"
+#define SWAP_PARTY_VERSION_MINOR 1
+#define SWAP_PARTY_VERSION "1.1"
 
-#define SWAP_PARTY_TEXT_LIMIT 16777216 /* the most bytes of a text or a header */
+#define SWAP_PARTY_TEXT_LIMIT 150994944 /* the most bytes of a text for next */
+#define SWAP_PARTY_SHORT_LIMIT 1048576  /* the most bytes of a text for keys, deal, terms, check */
 #define SWAP_PARTY_NAME_LIMIT 16       /* the most bytes of a party's name in a header */
 #define SWAP_PARTY_SEED_SIZE 32        /* the bytes of a seed */
 #define SWAP_PARTY_ID_SIZE 32          /* the bytes of a deal's id */
@@ -48,6 +50,7 @@ extern "C" {
 enum {
     SWAP_PARTY_DONE = 0,      /* `out` begins with the answer */
     SWAP_PARTY_SHORT = 1,     /* `out` is too short and stays as it was: it needs `length` bytes */
+    SWAP_PARTY_WARNED = 2,    /* `out` begins with the answer, which has a `bad` or an `unkept` line */
     SWAP_PARTY_REFUSED = 3,   /* `out` begins with the line of the reason: swap: refused: .. */
     SWAP_PARTY_NO_MEMORY = 6, /* malloc answered null; `out` stays as it was */
     SWAP_PARTY_TOO_LONG = 7   /* the text is longer than its limit; `out` stays as it was */
@@ -60,7 +63,8 @@ enum {
     SWAP_PARTY_LIMIT_SEED = 2,
     SWAP_PARTY_LIMIT_ID = 3,
     SWAP_PARTY_LIMIT_STACK = 4,
-    SWAP_PARTY_LIMIT_WIPED = 5
+    SWAP_PARTY_LIMIT_WIPED = 5,
+    SWAP_PARTY_LIMIT_SHORT = 6
 };
 
 typedef struct {
@@ -68,10 +72,30 @@ typedef struct {
     size_t length; /* of the text, in bytes: no zero byte follows it */
 } swap_party_said;
 
-/* All that is due for the party of that name, a line each, or how long nothing is: what the program
-   `party` writes. `text` is the program's input without its first line, as `seed` stands apart: the
-   `keep` and `sent` lines that the wallet wrote down, then the transcript of each ledger as far as
-   it is known. Lines in a reason are counted from the text's first. */
+/* The row of the party of that name: its public keys, and its hashlock where it leads a lock. It is
+   what `party keys` writes. `text` is the line of a plain offer without seeds, with its line feed.
+   Nothing in a row is secret. A seed is for one swap: a party that signs in two swaps with one seed
+   lets others sign in its name. */
+swap_party_said swap_party_keys(const uint8_t *text, size_t text_length,
+                                const uint8_t *name, size_t name_length,
+                                const uint8_t seed[SWAP_PARTY_SEED_SIZE],
+                                uint8_t *out, size_t capacity);
+
+/* The header line of a deal, with its line feed: what `party deal` writes. `text` is the line of a
+   plain offer and then the row of each party, in any order, each with its line feed. */
+swap_party_said swap_party_deal(const uint8_t *text, size_t text_length,
+                                uint8_t *out, size_t capacity);
+
+/* What the party of that name agrees to: what `party terms` writes. `text` is a deal's header line
+   and then lines of context, each with its line feed. */
+swap_party_said swap_party_terms(const uint8_t *text, size_t text_length,
+                                 const uint8_t *name, size_t name_length,
+                                 uint8_t *out, size_t capacity);
+
+/* All that is due for the party of that name, a line each, or how long nothing is: what `party next`
+   writes. `text` is the program's input without its first line, as `seed` stands apart: the
+   digest that was agreed on, what the wallet wrote down, the header with its context, and what each
+   ledger did. Lines in a reason are counted from the program's first, as those of keys are. */
 swap_party_said swap_party_next(const uint8_t *text, size_t text_length,
                                 const uint8_t *name, size_t name_length,
                                 const uint8_t seed[SWAP_PARTY_SEED_SIZE],
@@ -82,7 +106,7 @@ swap_party_said swap_party_next(const uint8_t *text, size_t text_length,
 swap_party_said swap_party_check(const uint8_t *header, size_t header_length,
                                  uint8_t *out, size_t capacity);
 
-/* The version of the library that was linked, a space, and `proved` or `unproved`: "1.0 proved".
+/* The version of the library that was linked, a space, and `proved` or `unproved`: "1.1 proved".
    An unproved build is compiled from the same sources, without their proofs. */
 const char *swap_party_version(void);
 

@@ -1,74 +1,75 @@
--- What is answered, from what an input asks.
-use Rattle.std.proofs.Common.{◌≡◌, ◌≤◌, ◌<◌, ℕ, List, ◌++◌, length, Option, None, Result, Ok, Err, refl, sym, ap, ◌∙◌, subst, arith}
-use Rattle.std.specs.Prelude.{IfOk}
-use Rattle.std.specs.List.{flat_map}
-use Rattle.std.proofs.lemmas.List.{length-map}
-use Rattle.swap_base.specs.declared.fault.Fault.{Fault}
-use Rattle.swap_base.specs.Fault.{◌>>=◌, Gives}
+-- What is promised of an answer.
+use Rattle.std.proofs.Common.{◌≡◌, ◌⊎◌, ℕ, ◌<◌, ◌≤◌, ◌+◌, ◌&&◌, not, length, Bool, true, false, List, [], ◌++◌, Option, Some, Result, Ok, refl, sym, ap, ◌∙◌}
+use Rattle.std.proofs.Common.{subst, inl, inr, arith}
+use Rattle.std.proofs.lemmas.Bool.{false≢true}
+use Rattle.swap_base.specs.Lists.{IsIn}
+use Rattle.swap_base.proofs.Lists.{from_filter, in_filter, in_map}
 use Rattle.swap_digraph.specs.declared.deal.Deal.{Deal}
-use Rattle.swap_digraph.specs.declared.deal.Version.{Version}
-use Rattle.swap_digraph.specs.declared.deal.Version.TheVariants.{One, Two}
-use Rattle.swap_digraph.specs.Deal.{most_arcs, most_parties, IsWellSized}
+use Rattle.swap_digraph.specs.declared.deal.Mode.{Mode}
+use Rattle.swap_digraph.specs.declared.deal.Mode.TheVariants.{Timelocks, Hashkeys}
+use Rattle.hashkey_path.specs.declared.hashkey.Hashkey.{Hashkey}
+use Rattle.ledger_core.specs.declared.entry.Call.{Call}
+use Rattle.ledger_core.specs.declared.entry.Call.TheVariants.{Unlock}
 use Rattle.ledger_core.specs.declared.entry.Entry.{Entry}
 use Rattle.ledger_core.specs.History.{height}
 use Rattle.ledger_core.specs.Book.{Histories, history, IsLegalBook}
-use Rattle.history_index.specs.Value.{IndexState}
-use Rattle.swap_job.specs.declared.job.Job.{Job}
-use Rattle.history_index.specs.Indexes.{all_entries}
 use Rattle.swap_rules.specs.Accepted.{IsAccepted}
-use Rattle.swap_rules.specs.Due.{Action}
+use Rattle.swap_rules.specs.Conduct.{is_publish}
+use Rattle.swap_rules.specs.Due.{Action, due}
+use Rattle.swap_rules.specs.Machine.{IsWallet}
 use Rattle.swap_rules.specs.Rest.{rest_deadline, StaysLow}
 use Rattle.swap_rules.proofs.Rest.{rests_below}
-use Rattle.swap_rules.proofs.Useful.{ticks_make_nothing_useful}
-use Rattle.party_wallet.specs.Value.{signed_in}
-use Rattle.party_wallet.specs.Fits.{wrong_lock}
-use Rattle.party_machine.proofs.Good.{fitting_is_good}
-use Rattle.wallet_promise.specs.Answers.{answers_for}
-use Rattle.wallet_promise.proofs.AllAnswers.{all_is_useful, all_may_be_kept, all_may_go, each_key_is_asked, none_is_sent_twice, nothing_is_left_out}
+use Rattle.swap_rules.proofs.Useful.{useful_is_due, only_harm_is_left_out, ticks_make_nothing_useful}
+use Rattle.wallet_promise.specs.Life.{kept_note, make_if, is_kept, MayGo, MayKeep}
+use Rattle.wallet_promise.specs.Answers.{was_sent}
+use Rattle.wallet_promise.proofs.Keys.{kept_state}
 use Rattle.told_books.proofs.Enough.{same_useful}
-use Rattle.transcript_reader.specs.Header.{IsTold}
-use Rattle.party_notes.specs.Kept.{KeptState, kept_state}
+use Rattle.party_wallet.specs.Keys.{own_key, onto_key}
+use Rattle.party_machine.specs.Wallet.{seed_wallet}
+use Rattle.answer_rules.specs.Heights.{HasHeight}
+use Rattle.answer_rules.specs.Finished.{are_finished, ContinuesWithout}
+use Rattle.answer_rules.specs.Stopped.{is_stopped}
+use Rattle.answer_rules.specs.Laws.{AreGoodKeys, SignsItsLock}
+use Rattle.answer_rules.proofs.OnTime.{useful_has_height}
+use Rattle.answer_rules.proofs.Until.{unlocks_have_last}
+use Rattle.answer_rules.proofs.Ending.{finished_stays}
+use Rattle.answer_rules.proofs.Waiting.{ticks_leave_nothing}
+use Rattle.answer_rules.proofs.Parts.{nothing_in}
+use Rattle.party_answer.specs.declared.timed.Timed.{Timed}
+use Rattle.party_answer.specs.declared.given.Answer.{Answer}
 use Rattle.party_answer.specs.declared.reason.AnswerReason.{AnswerReason}
-use Rattle.party_answer.specs.Asked.{Question, SaidState, asked, by_reason, first_unkept, own_seed, party_named, answer_question, replayed, said_in}
-use Rattle.party_answer.specs.Asked.{unless_unkept}
-use Rattle.party_answer.specs.Text.{all_useful, question_asking, line_of, rest_lines, sent_on, to_text, wallet_in}
-use Rattle.party_answer.specs.Promised.{IsAnswerTo, IsAtRest}
+use Rattle.party_answer.specs.Asked.{Question, known}
+use Rattle.party_answer.specs.Unkept.{is_lock_unkept}
+use Rattle.party_answer.specs.Lines.{untimed, Line, Present, KeepFirst, Landing}
+use Rattle.party_answer.specs.Text.{answerable, answered, answered_calls, due_text, kept_keys, lines, own_wallet, question_answer, unkept, useful_by, was_published}
+use Rattle.party_answer.specs.Promised.{MayBeMade, MayBeKept, CanOnlyHurt, IsLockUnkept, IsLeftOut, IsAtRest, IsUntil, own_timed, IsAnswerTo}
+use Rattle.party_answer.proofs.Members.{from_map, Parts, ToPresent, ToKeep, ToLand, parts, from_lines, to_present, to_keep, never_empty}
 
--- Few parties and few arcs.
+-- A seed signs for the lock that it is asked for.
 
-count_parties : (v : Version) → most_parties v ≤ 32
-count_parties One = omega arith
-count_parties Two = omega arith
+own_lock : (m : Mode) (d : Deal) (v : ℕ) (seed : List ℕ) (i : ℕ) → (own_key m d v seed i).lock ≡ i
+own_lock Timelocks d v seed i = refl
+own_lock Hashkeys d v seed i = refl
 
-listed_arcs : (v : Version) → most_arcs v ≤ 128
-listed_arcs One = omega arith
-listed_arcs Two = omega arith
+onto_lock : (m : Mode) (d : Deal) (v : ℕ) (seed : List ℕ) (inner : Hashkey) → (onto_key m d v seed inner).lock ≡ inner.lock
+onto_lock Timelocks d v seed inner = refl
+onto_lock Hashkeys d v seed inner = refl
 
-pub few_names : (job : Job) → IsTold job → length job.names ≤ 256
-few_names job told =
-    let few = told.whole.sized.parties.1 in
-    let most = count_parties job.deal.version in omega (arith, told.whole.names, few, most)
+longer : (m : Mode) (d : Deal) (v : ℕ) (seed : List ℕ) (inner : Hashkey) → length (onto_key m d v seed inner).path ≤ length inner.path + 1
+longer Timelocks d v seed inner = omega arith
+longer Hashkeys d v seed inner = omega arith
 
-pub few_known : (d : Deal) (known : List IndexState) → IsWellSized d → IsLegalBook d (all_entries known) → length known ≤ 256
-few_known d known sized legal =
-    let few = sized.arcs.1 in
-    let most = listed_arcs d.version in
-    omega (arith, length-map known (λ x. x.entries), legal.one_each, few, most)
+pub seed_signs : (d : Deal) (v : ℕ) (seed : List ℕ) → SignsItsLock (seed_wallet seed v d)
+seed_signs d v seed = record { own = own_lock d.mode d v seed; onto = onto_lock d.mode d v seed; longer = longer d.mode d v seed }
 
--- The lines of what is useful.
-pub text_given : {E : Type 0} (q : Question) (xs : List Action) (r : Result (List ℕ) E) → xs ≡ all_useful q
-    → IfOk r (λ t. t ≡ flat_map (line_of q.me) (answers_for (signed_in q.kept.keys) (sent_on q) xs) ++ rest_lines xs (rest_deadline q.deal q.me q.known))
-    → IfOk r (λ t. t ≡ to_text q)
-unfolding to_text
-text_given q xs r e is =
-    subst (λ (ys : List Action). IfOk r (λ t. t ≡ flat_map (line_of q.me) (answers_for (signed_in q.kept.keys) (sent_on q) ys)
-    ++ rest_lines ys (rest_deadline q.deal q.me q.known))) e is
+-- What holds of a question that is answered.
+pub record IsSound (q : Question) : Type 0 where
+  pub accepted : IsAccepted q.deal
+  pub party : q.me < q.deal.graph.n
+  pub wallet : IsWallet q.deal q.me (own_wallet q)
+  pub legal : IsLegalBook q.deal (known q)
+  pub good : AreGoodKeys q.deal q.me (kept_keys q)
 
--- Every hashkey was kept.
-pub over_kept : (u : Result (Unit {0}) AnswerReason) (q : Question) (text : List ℕ) → u ≡ Ok tt → text ≡ to_text q → (u >>= λ x. Ok (to_text q)) ≡ Ok text
-over_kept u q text none is = ap (λ (r : Result (Unit {0}) AnswerReason). r >>= λ x. Ok (to_text q)) none ∙ ap Ok (sym is)
-
--- Rest.
 stays_low : (d : Deal) (v : ℕ) (k : Histories) (a : ℕ) (more : List Entry) → IsAtRest (rest_deadline d v k) (height (history k a ++ more))
     → StaysLow d v k a more
 stays_low d v k a more low i waits =
@@ -76,71 +77,177 @@ stays_low d v k a more low i waits =
     let le : height (history k a ++ more) ≤ b.0 = subst (λ (o : Option ℕ). IsAtRest o (height (history k a ++ more))) b.1 low in
     omega (arith, le, b.2)
 
--- ---- what is asked
+not_true : (b : Bool) → not b ≡ true → b ≡ false
+not_true true e = absurd (false≢true e)
+not_true false e = refl
 
-step : {A B R : Type 0} (r : Result A R) (x : A) (f : A → Result B R) → r ≡ Ok x → (r >>= f) ≡ f x
-step r x f e = ap (λ z. z >>= f) e
+module _ (q : Question) (sound : IsSound q) where
+  signs : SignsItsLock (own_wallet q)
+  signs = seed_signs q.deal q.me q.seed
 
-module _ (first : ℕ) (name seed : List ℕ) (s : SaidState) (me : ℕ) (kept : KeptState) (named : party_named s name ≡ Ok me)
-    (owned : own_seed s me seed ≡ Ok tt) (notes : by_reason (kept_state s.story.job.deal me first s.notes) ≡ Ok kept) (right : replayed s ≡ Ok tt) where
-  abbrev the : Question
-  the = record { deal = s.story.job.deal; me = me; seed = seed; known = s.story.book; kept = kept }
+  -- a call of the answer is useful, and isn't stopped
+  from_answered : (x : Action) → IsIn x (answered q) → IsIn x (useful_by q (known q)) × (is_stopped (is_lock_unkept (unkept q)) x.call ≡ false)
+  from_answered x i =
+      let f = from_filter (λ y. not (is_stopped (is_lock_unkept (unkept q)) y.call)) x (useful_by q (known q)) i in
+      (f.0, not_true (is_stopped (is_lock_unkept (unkept q)) x.call) f.1)
 
-  abbrev all_kept : Result (Unit {0}) AnswerReason
-  all_kept = unless_unkept (first_unkept (signed_in kept.keys) me 0 s.story.book)
+  to_answered : (x : Action) → IsIn x (useful_by q (known q)) → is_stopped (is_lock_unkept (unkept q)) x.call ≡ false → IsIn x (answered q)
+  to_answered x i s = in_filter (λ y. not (is_stopped (is_lock_unkept (unkept q)) y.call)) x (useful_by q (known q)) i (ap not s)
 
-  asks : answer_question first name seed s ≡ (all_kept >>= λ u. Ok the)
-  unfolding answer_question
-  asks = step _ me _ named ∙ (step _ tt _ owned ∙ (step _ kept _ notes ∙ step _ tt _ right))
+  -- with its heights
+  from_calls : (t : Timed) → IsIn t (answered_calls q) → (x : Action) × IsIn x (answered q) × (own_timed q x ≡ t)
+  from_calls t i = from_map (own_timed q) (answered q) t i
 
-  as_one : (r : Result (Unit {0}) AnswerReason) → ((r >>= λ u. Ok the) >>= λ q. Ok (to_text q)) ≡ (r >>= λ u. Ok (to_text the))
-  as_one (Ok u) = refl
-  as_one (Err e) = refl
+  to_calls : (x : Action) → IsIn x (answered q) → IsIn (own_timed q x) (answered_calls q)
+  to_calls x i = in_map (own_timed q) (answered q) x i
 
-  pub gives_asked : (r : Result (List ℕ) (Fault AnswerReason)) → Gives (λ t. t) r (all_kept >>= λ u. Ok (to_text the))
-      → Gives (λ t. t) r (answer_question first name seed s >>= λ q. Ok (to_text q))
-  gives_asked r g =
-      subst (λ (x : Result (List ℕ) AnswerReason). Gives (λ t. t) r x)
-      (sym (ap (λ (x : Result Question AnswerReason). x >>= λ q. Ok (to_text q)) asks ∙ as_one all_kept)) g
+  useful_call : (t : Timed) → IsIn t (answered_calls q) → IsIn (untimed t) (useful_by q (known q))
+  useful_call t i =
+      let f = from_calls t i in subst (λ (y : Timed). IsIn (untimed y) (useful_by q (known q))) f.2 (from_answered f.0 f.1).0
 
-  -- What is promised of it.
-  module _ (accepted : IsAccepted s.story.job.deal) (party : me < s.story.job.deal.graph.n) (legal : IsLegalBook s.story.job.deal s.story.book)
-      (fits : wrong_lock s.story.job.deal me seed ≡ None) where
-    holds : (t : List ℕ) (u : Result (Unit {0}) AnswerReason) → all_kept ≡ u → (u >>= λ x. Ok (to_text the)) ≡ Ok t
-        → IsAnswerTo (answer_question first name seed s) t
-    holds t (Err e) is g = absurd (cc g)
-    holds t (Ok x) is g =
-        let same : to_text the ≡ t = cc g in
-        let w = wallet_in the in
-        let q = question_asking the in
-        let sent = sent_on the in
-        record {
-          question = the;
-          asked = asks ∙ ap (λ (r : Result (Unit {0}) AnswerReason). r >>= λ u. Ok the) is;
-          is = sym same;
-          accepted = accepted;
-          party = party;
-          wallet = fitting_is_good s.story.job.deal me seed accepted party fits;
-          legal = legal;
-          go = all_may_go s.story.job.deal me w q sent;
-          once = none_is_sent_twice s.story.job.deal me w q sent;
-          keep = all_may_be_kept s.story.job.deal me w q sent;
-          helps = all_is_useful s.story.job.deal me w q sent;
-          all = nothing_is_left_out s.story.job.deal me w q sent;
-          each = each_key_is_asked s.story.job.deal me w q sent;
-          heard = λ h says. sym (same_useful s.story.job.deal me s.story.book h says w q.kept);
-          rest = λ a more none ticks low. ticks_make_nothing_useful s.story.job.deal me w q.kept s.story.book a more ticks none
-              (stays_low s.story.job.deal me s.story.book a more low);
-        }
+  due_call : (t : Timed) → IsIn t (answered_calls q) → IsIn (untimed t) (due q.deal q.me (own_wallet q) (kept_keys q) (known q))
+  due_call t i = useful_is_due q.deal q.me (own_wallet q) (kept_keys q) (known q) (untimed t) (useful_call t i)
 
-    pub promised_of : (r : Result (List ℕ) (Fault AnswerReason)) → Gives (λ t. t) r (all_kept >>= λ u. Ok (to_text the))
-        → IfOk r (λ t. IsAnswerTo (answer_question first name seed s) t)
-    promised_of (Err e) g = tt
-    promised_of (Ok t) g = holds t all_kept refl g
+  -- ---- line by line
 
--- ---- a whole text
+  -- a line with what it says of its call
+  pub record Said (y : Line) : Type 0 where
+    pub call : Timed
+    pub within : IsIn call (answered_calls q)
+    pub says : Parts (kept_keys q) (was_published q) call y
 
-pub asked_of : (first : ℕ) (name seed text : List ℕ) (s : SaidState) → said_in first text ≡ Ok s
-    → asked first name seed text ≡ answer_question first name seed s
-unfolding asked
-asked_of first name seed text s e = ap (λ (r : Result SaidState AnswerReason). r >>= answer_question first name seed) e
+  said : (y : Line) → IsIn y (lines q) → Said y
+  said y i =
+      let f = from_lines (kept_keys q) (was_published q) (answered_calls q) y i in
+      record { call = f.0; within = f.1; says = subst (Parts (kept_keys q) (was_published q) f.0) f.2 (parts (kept_keys q) (was_published q) f.0) }
+
+  may_be_made : (t u : Timed) (y : Line) → IsIn u (answered_calls q) → Parts (kept_keys q) (was_published q) u y → y ≡ Present t → MayBeMade q (untimed t)
+  may_be_made t u y i (ToPresent s k) e =
+      let same : u ≡ t = cc e in
+      subst (λ (z : Timed). MayBeMade q (untimed z)) same (record { is_due = due_call u i; was_kept = k })
+  may_be_made t u y i (ToKeep key s k c) e = absurd (cc e)
+  may_be_made t u y i (ToLand s) e = absurd (cc e)
+
+  sent_once : (t u : Timed) (y : Line) → Parts (kept_keys q) (was_published q) u y → y ≡ Present t → was_sent (was_published q) (untimed t) ≡ false
+  sent_once t u y (ToPresent s k) e =
+      let same : u ≡ t = cc e in subst (λ (z : Timed). was_sent (was_published q) (untimed z) ≡ false) same s
+  sent_once t u y (ToKeep key s k c) e = absurd (cc e)
+  sent_once t u y (ToLand s) e = absurd (cc e)
+
+  is_helpful : (t u : Timed) (y : Line) → IsIn u (answered_calls q) → Parts (kept_keys q) (was_published q) u y → y ≡ Present t
+      → IsIn (untimed t) (useful_by q (known q))
+  is_helpful t u y i (ToPresent s k) e =
+      let same : u ≡ t = cc e in subst (λ (z : Timed). IsIn (untimed z) (useful_by q (known q))) same (useful_call u i)
+  is_helpful t u y i (ToKeep key s k c) e = absurd (cc e)
+  is_helpful t u y i (ToLand s) e = absurd (cc e)
+
+  may_be_kept : (t u : Timed) (key : Hashkey) (y : Line) → IsIn u (answered_calls q) → Parts (kept_keys q) (was_published q) u y → y ≡ KeepFirst t key
+      → MayBeKept q key
+  may_be_kept t u key y i (ToPresent s k) e = absurd (cc e)
+  may_be_kept t u key y i (ToLand s) e = absurd (cc e)
+  may_be_kept t u key y i (ToKeep other s k c) e =
+      let same : other ≡ key = cc e in
+      subst (MayBeKept q) same (record {
+        unlock = untimed u;
+        is_due = due_call u i;
+        asks = ap (λ (b : Bool). make_if b (untimed u)) k ∙ ap kept_note c;
+      })
+
+  lands : (a : ℕ) (u : Timed) (y : Line) → IsIn u (answered_calls q) → Parts (kept_keys q) (was_published q) u y → y ≡ Landing a
+      → (x : Action) × IsIn x (useful_by q (known q)) × (was_sent (was_published q) x ≡ true) × (x.arc ≡ a)
+  lands a u y i (ToPresent s k) e = absurd (cc e)
+  lands a u y i (ToKeep key s k c) e = absurd (cc e)
+  lands a u y i (ToLand s) e = let same : u.arc ≡ a = cc e in (untimed u, useful_call u i, s, same)
+
+  -- ---- nothing is left out
+
+  stopped_or : (x : Action) → IsIn x (useful_by q (known q)) → (b : Bool) → is_stopped (is_lock_unkept (unkept q)) x.call ≡ b
+      → IsIn x (answered q) ⊎ IsLockUnkept q x
+  stopped_or x i true e = inr e
+  stopped_or x i false e = inl (to_answered x i e)
+
+  answered_or : (x : Action) → IsIn x (due q.deal q.me (own_wallet q) (kept_keys q) (known q)) → IsIn x (answered q) ⊎ IsLeftOut q x
+  answered_or x i = go (only_harm_is_left_out q.deal q.me (own_wallet q) (kept_keys q) (known q) x i)
+    where
+      by_stop : IsIn x (answered q) ⊎ IsLockUnkept q x → IsIn x (answered q) ⊎ IsLeftOut q x
+      by_stop (inl j) = inl j
+      by_stop (inr s) = inr (inr s)
+
+      go : IsIn x (useful_by q (known q)) ⊎ CanOnlyHurt q x → IsIn x (answered q) ⊎ IsLeftOut q x
+      go (inl j) = by_stop (stopped_or x j (is_stopped (is_lock_unkept (unkept q)) x.call) refl)
+      go (inr harm) = inr (inl harm)
+
+  all_made : (x : Action) → MayBeMade q x → was_sent (was_published q) x ≡ false → IsIn (Present (own_timed q x)) (lines q) ⊎ IsLeftOut q x
+  all_made x may s = go (answered_or x (MayGo.is_due may))
+    where
+      go : IsIn x (answered q) ⊎ IsLeftOut q x → IsIn (Present (own_timed q x)) (lines q) ⊎ IsLeftOut q x
+      go (inr out) = inr out
+      go (inl i) =
+          inl (to_present (kept_keys q) (was_published q) (answered_calls q) (own_timed q x) (to_calls x i) s (MayGo.was_kept may))
+
+  each_kept : (key : Hashkey) (may : MayBeKept q key)
+      → ((t : Timed) × (other : Hashkey) × IsIn (KeepFirst t other) (lines q) × (other.lock ≡ key.lock)) ⊎ IsLeftOut q (MayKeep.unlock may)
+  each_kept key may = go (answered_or (MayKeep.unlock may) (MayKeep.is_due may))
+    where
+      go : IsIn (MayKeep.unlock may) (answered q) ⊎ IsLeftOut q (MayKeep.unlock may)
+          → ((t : Timed) × (other : Hashkey) × IsIn (KeepFirst t other) (lines q) × (other.lock ≡ key.lock)) ⊎ IsLeftOut q (MayKeep.unlock may)
+      go (inr out) = inr out
+      go (inl i) =
+          let unlock = kept_state (kept_keys q) (MayKeep.unlock may) key (MayKeep.asks may) in
+          let s : was_sent (was_published q) (MayKeep.unlock may) ≡ false =
+          ap (λ (c : Call). is_publish (Some c) && was_published q (Action.arc (MayKeep.unlock may))) unlock.0 in
+          inl (to_keep (kept_keys q) (was_published q) (answered_calls q) (own_timed q (MayKeep.unlock may)) key (to_calls (MayKeep.unlock may) i) s
+          (ap (is_kept (kept_keys q)) unlock.0 ∙ unlock.1) unlock.0)
+
+  -- ---- heights
+
+  has_height : (t : Timed) → IsIn t (answered_calls q) → HasHeight q.deal (known q) q.me (kept_keys q) (untimed t) t.last
+  has_height t i =
+      let f = from_calls t i in
+      subst (λ (z : Timed). HasHeight q.deal (known q) q.me (kept_keys q) (untimed z) z.last) f.2
+      (useful_has_height q.deal q.me (own_wallet q) (kept_keys q) (known q) f.0 sound.legal signs sound.good (from_answered f.0 f.1).0)
+
+  is_until : (t : Timed) (key : Hashkey) → IsIn t (answered_calls q) → t.call ≡ Unlock key → IsUntil q t key
+  is_until t key i c =
+      let f = from_calls t i in
+      subst (λ (z : Timed). IsUntil q z key) f.2
+      (unlocks_have_last q.deal q.me (own_wallet q) (kept_keys q) (known q) f.0 key sound.legal sound.wallet signs sound.good (from_answered f.0 f.1).0
+      (ap (λ (z : Timed). z.call) f.2 ∙ c))
+
+  -- ---- rest
+
+  stays_done : (h : Histories) → answered q ≡ [] → are_finished q.deal (known q) q.me ≡ true → IsLegalBook q.deal h → ContinuesWithout q.me (known q) h
+      → answerable q h ≡ []
+  stays_done h none fin legal on = nothing_in (answerable q h) (λ x i.
+      let f = from_filter (λ y. not (is_stopped (is_lock_unkept (unkept q)) y.call)) x (useful_by q h) i in
+      let before =
+      finished_stays q.deal q.me (own_wallet q) (kept_keys q) (known q) h x sound.accepted sound.legal legal fin on f.0 in
+      subst (IsIn x) none (to_answered x before (not_true (is_stopped (is_lock_unkept (unkept q)) x.call) f.1)))
+
+  pub holds : (asks : Result Question AnswerReason) (a : Answer) → asks ≡ Ok q → a ≡ question_answer q → IsAnswerTo asks a
+  unfolding due_text
+  holds asks a e is = record {
+    question = q;
+    asked = e;
+    is = is;
+    accepted = sound.accepted;
+    party = sound.party;
+    wallet = sound.wallet;
+    legal = sound.legal;
+    go = λ t i. let s = said (Present t) i in may_be_made t s.call (Present t) s.within s.says refl;
+    once = λ t i. let s = said (Present t) i in sent_once t s.call (Present t) s.says refl;
+    helps = λ t i. let s = said (Present t) i in is_helpful t s.call (Present t) s.within s.says refl;
+    keep = λ t key i. let s = said (KeepFirst t key) i in may_be_kept t s.call key (KeepFirst t key) s.within s.says refl;
+    landing = λ c i. let s = said (Landing c) i in lands c s.call (Landing c) s.within s.says refl;
+    all = all_made;
+    each = each_kept;
+    heard = λ h says. sym (same_useful q.deal q.me (known q) h says (own_wallet q) (kept_keys q));
+    rest = λ c more none ticks low. ticks_make_nothing_useful q.deal q.me (own_wallet q) (kept_keys q) (known q) c more ticks none
+        (stays_low q.deal q.me (known q) c more low);
+    wait = λ c more none ticks low. ticks_leave_nothing q.deal q.me (own_wallet q) (kept_keys q) (is_lock_unkept (unkept q)) (known q) c more ticks none
+        (stays_low q.deal q.me (known q) c more low);
+    done = stays_done;
+    never_empty = never_empty q.deal (known q) q.me (kept_keys q) (was_published q) (answered_calls q);
+    by = has_height;
+    until = is_until;
+  }

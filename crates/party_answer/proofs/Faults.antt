@@ -1,18 +1,24 @@
--- Reasons as they are handed on.
-use Rattle.std.proofs.Common.{◌≡◌, Result, sym, ap, subst}
+-- Faults that answer.
+use Rattle.std.proofs.Common.{◌≡◌, Result, ap, sym, subst}
 use Rattle.swap_base.specs.declared.fault.Fault.{Fault}
 use Rattle.swap_base.specs.declared.fault.Fault.TheVariants.{Refused, NoMemory}
 use Rattle.swap_base.specs.Fault.{Fails}
 use Rattle.refusals.specs.declared.reason.Reason.{Reason}
+use Rattle.refusals.specs.declared.refusal.Refusal.{Refusal}
 use Rattle.party_answer.specs.declared.reason.AnswerReason.{AnswerReason}
-use Rattle.party_answer.specs.Asked.{by_reason}
-use Rattle.party_answer.specs.Faults.{nameless_fault}
+use Rattle.party_answer.specs.Asked.{by_reason, by_refusal}
+use Rattle.party_answer.specs.Faults.{reason_fault, refusal_fault}
 
-by_fault : {A : Type 0} (r : Result A Reason) (fault : Fault Reason) → Fails fault r → Fails (nameless_fault fault) (by_reason r)
-by_fault r NoMemory f = tt
-by_fault r (Refused reason) f = ap by_reason f
+refused : {A : Type 0} (f : Fault Refusal) (r : Result A Refusal) → Fails f r → Fails (refusal_fault f) (by_refusal r)
+refused (Refused e) r h = ap by_refusal h
+refused NoMemory r h = tt
 
--- a fault of a reading, without the names of parties
-pub fails_by_reason : {A : Type 0} (r : Result A Reason) (fault : Fault Reason) (given : Fault AnswerReason) → given ≡ nameless_fault fault → Fails fault r
-    → Fails given (by_reason r)
-fails_by_reason r fault given is f = subst (λ (x : Fault AnswerReason). Fails x (by_reason r)) (sym is) (by_fault r fault f)
+pub fails_by_refusal : {A : Type 0} (r : Result A Refusal) (f : Fault Refusal) (g : Fault AnswerReason) → g ≡ refusal_fault f → Fails f r → Fails g (by_refusal r)
+fails_by_refusal r f g e h = subst (λ (z : Fault AnswerReason). Fails z (by_refusal r)) (sym e) (refused f r h)
+
+reasoned : {A : Type 0} (f : Fault Reason) (r : Result A Reason) → Fails f r → Fails (reason_fault f) (by_reason r)
+reasoned (Refused e) r h = ap by_reason h
+reasoned NoMemory r h = tt
+
+pub fails_by_reason : {A : Type 0} (r : Result A Reason) (f : Fault Reason) (g : Fault AnswerReason) → g ≡ reason_fault f → Fails f r → Fails g (by_reason r)
+fails_by_reason r f g e h = subst (λ (z : Fault AnswerReason). Fails z (by_reason r)) (sym e) (reasoned f r h)

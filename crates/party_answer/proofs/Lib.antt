@@ -1,4 +1,7 @@
-pub mod Grown
-pub mod Keeping
-pub mod Faults
+pub mod Members
 pub mod Answered
+pub mod Growing
+pub mod Joined
+pub mod Along
+pub mod Asking
+pub mod Faults

@@ -2,10 +2,16 @@
 use Rattle.swap_base.specs.declared.fault.Fault.{Fault}
 use Rattle.swap_base.specs.declared.fault.Fault.TheVariants.{Refused, NoMemory}
 use Rattle.refusals.specs.declared.reason.Reason.{Reason}
+use Rattle.refusals.specs.declared.refusal.Refusal.{Refusal}
+use Rattle.party_lines.specs.Lines.{nameless}
 use Rattle.party_answer.specs.declared.reason.AnswerReason.{AnswerReason}
-use Rattle.party_answer.specs.Asked.{nameless}
+use Rattle.party_answer.specs.declared.reason.AnswerReason.TheVariants as reasons
+
+abbrev pub refusal_fault : Fault Refusal → Fault AnswerReason
+refusal_fault (Refused refusal) = Refused (reasons.Refused refusal)
+refusal_fault NoMemory = NoMemory
 
 -- a fault whose reason speaks of no party by its number
-abbrev pub nameless_fault : Fault Reason → Fault AnswerReason
-nameless_fault (Refused reason) = Refused (nameless reason)
-nameless_fault NoMemory = NoMemory
+abbrev pub reason_fault : Fault Reason → Fault AnswerReason
+reason_fault (Refused reason) = Refused (reasons.Refused (nameless reason))
+reason_fault NoMemory = NoMemory

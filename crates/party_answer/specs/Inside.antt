@@ -1,21 +1,49 @@
 -- What the program keeps of an input.
-use Rattle.std.specs.Prelude.{ℕ, List}
-use Rattle.ledger_core.specs.WellFormed.{IsWellFormed}
-use Rattle.transcript_reader.specs.Header.{IsTold}
-use Rattle.party_answer.specs.declared.asked.Said.{Said}
+use Rattle.std.specs.Prelude.{◌≡◌, ◌<◌, ◌++◌, ℕ, List, None, length}
+use Rattle.std.specs.List.{flat_map}
+use Rattle.swap_digraph.specs.Graph.{is_listed}
+use Rattle.swap_base.specs.Lists.{IsIn}
 use Rattle.swap_digraph.specs.declared.deal.Deal.{Deal}
-use Rattle.ledger_core.specs.Book.{Histories}
-use Rattle.party_notes.specs.declared.kept.Kept.{Kept}
+use Rattle.swap_digraph.specs.Deal.{IsWellSized}
+use Rattle.swap_rules.specs.Due.{Action}
+use Rattle.answer_rules.specs.Heights.{IsShort}
+use Rattle.swap_rules.specs.Accepted.{IsAccepted}
+use Rattle.party_wallet.specs.Fits.{wrong_lock}
+use Rattle.party_wallet.specs.Value.{signed_in}
+use Rattle.answer_rules.specs.Laws.{AreGoodKeys}
+use Rattle.ledger_core.specs.Book.{Histories, IsLegalBook}
+use Rattle.party_notes.specs.Inside.{kept_state, notes_state}
+use Rattle.party_terms.specs.Inside.{inside_agreed}
+use Rattle.told_ledgers.specs.Telling.{told_book}
+use Rattle.party_answer.specs.declared.said.Said.{Said}
+use Rattle.party_answer.specs.declared.asked.Asked.{Asked}
+use Rattle.party_answer.specs.declared.timed.Timed.{Timed}
 use Rattle.party_answer.specs.Asked.{SaidState, Question}
+use Rattle.party_answer.specs.Lines.{call_lines}
+use Rattle.party_answer.specs.Text.{end_text, line_text}
 
-abbrev pub inside_said : Said → SaidState
-inside_said s = record { notes = s.notes; story = record { job = s.job; book = s.book.histories }; lines = s.lines }
+abbrev pub said_state : Said → SaidState
+said_state s = record { told = s.told; notes = notes_state s.notes; agreed = inside_agreed s.agreed }
 
--- The transcript states an accepted deal, and a book that fits it.
-pub record IsSaid (s : Said) : Type 0 where
-  pub told : IsTold s.job
-  pub formed : IsWellFormed s.job.deal s.book.histories
+-- what is asked, with that seed
+abbrev pub asked_question : List ℕ → Asked → Question
+asked_question seed a = record { deal = a.deal; me = a.me; seed = seed; ledgers = a.ledgers; kept = kept_state a.kept }
 
--- what is asked with these notes
-abbrev pub question_in : Deal → ℕ → List ℕ → Histories → Kept → Question
-question_in d v seed known kept = record { deal = d; me = v; seed = seed; known = known; kept = record { keys = kept.signed.keys; sent = kept.sent } }
+-- the text of these calls over what is known, or that there is none
+abbrev pub calls_text : Asked → Histories → List Timed → List ℕ
+calls_text a k ts =
+    flat_map (line_text a.me) (call_lines (signed_in a.kept.signed.keys) (λ c. is_listed c a.kept.sent) None ts) ++ end_text a.deal k a.me ts
+
+-- each call is on an arc of the deal, and its hashkey has a short path
+abbrev pub AreMeasured : Deal → List Action → Type 0
+AreMeasured d xs = (x : Action) → IsIn x xs → (x.arc < length d.graph.arcs) × IsShort x.call
+
+-- What is asked is of a party of an accepted deal whose seed it is, over ledgers that did what is told of them; and every hashkey that was kept opens its lock.
+pub record IsAsked (seed : List ℕ) (a : Asked) : Type 0 where
+  pub accepted : IsAccepted a.deal
+  pub sized : IsWellSized a.deal
+  pub me : a.me < a.deal.graph.n
+  pub fits : wrong_lock a.deal a.me seed ≡ None
+  pub legal : IsLegalBook a.deal (told_book a.ledgers)
+  pub places : length a.kept.signed.keys ≡ length a.deal.leaders
+  pub good : AreGoodKeys a.deal a.me (signed_in a.kept.signed.keys)

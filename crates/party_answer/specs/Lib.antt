@@ -1,8 +1,8 @@
-pub mod Shifted
 pub mod Asked
+pub mod Unkept
+pub mod Lines
+pub mod Text
 pub mod Faults
 pub mod Inside
-pub mod Unkept
-pub mod Text
-pub mod Lines
+pub mod Growing
 pub mod Promised

@@ -1,22 +1,51 @@
--- The lines of calls that are useful, one after another.
-use Rattle.std.specs.Prelude.{◌≡◌, ℕ, List, [], ◌∷◌, ◌++◌, map, Option, Some, if◌then◌else◌}
-use Rattle.std.specs.List.{flat_map}
-use Rattle.swap_digraph.specs.Graph.{is_listed}
+-- What is answered for each useful call: that it may be presented, that its hashkey has to be kept first, or that it was sent and hasn't landed.
+use Rattle.std.specs.Prelude.{ℕ, Bool, true, false, List, [], ◌∷◌, map, Option, Some, if◌then◌else◌}
+use Rattle.swap_digraph.specs.declared.deal.Deal.{Deal}
 use Rattle.hashkey_path.specs.declared.hashkey.Hashkey.{Hashkey}
+use Rattle.ledger_core.specs.declared.entry.Call.{Call}
+use Rattle.ledger_core.specs.declared.entry.Call.TheVariants.{Unlock}
+use Rattle.ledger_core.specs.Book.{Histories}
 use Rattle.swap_rules.specs.Due.{Action}
-use Rattle.wallet_promise.specs.Life.{Answer, Keep, answer_for}
-use Rattle.wallet_promise.specs.Answers.{is_asked, once, unsent}
-use Rattle.party_answer.specs.Text.{line_of}
+use Rattle.wallet_promise.specs.Life.{is_kept}
+use Rattle.wallet_promise.specs.Answers.{is_asked, was_sent}
+use Rattle.answer_rules.specs.Heights.{last_on_time, last_accepted}
+use Rattle.party_answer.specs.declared.timed.Timed.{Timed}
+
+-- a call with its heights: the last at which it is on time, and the last at which the contract accepts its hashkey
+abbrev pub timed : Deal → Histories → ℕ → Action → Timed
+timed d k v x = record { arc = x.arc; call = x.call; last = last_on_time d k v x.arc x.call; until = last_accepted d x.arc x.call }
+
+-- the call without its heights
+abbrev pub untimed : Timed → Action
+untimed t = record { arc = t.arc; call = t.call }
+
+pub data Line : Type 0 where
+  -- the call may be presented
+  Present : Timed → Line
+  -- the hashkey has to be kept before this unlock with it
+  KeepFirst : Timed → Hashkey → Line
+  -- the publish on this arc was sent, and hasn't landed
+  Landing : ℕ → Line
+
+abbrev pub keep_line : Timed → Call → Line
+keep_line t (Unlock key) = KeepFirst t key
+keep_line t c = Present t
+
+abbrev pub kept_line : Bool → Timed → Line
+kept_line true t = Present t
+kept_line false t = keep_line t t.call
+
+-- what is answered for a call by itself
+abbrev pub own_line : (ℕ → Option Hashkey) → (ℕ → Bool) → Timed → Line
+own_line kept sent t = if was_sent sent (untimed t) then Landing t.arc else kept_line (is_kept kept t.call) t
+
+-- with each hashkey asked for once: unlocks for one lock stand together, and carry one hashkey
+abbrev pub each_once : Option ℕ → List Line → List Line
+each_once asked [] = []
+each_once asked (Present t ∷ xs) = Present t ∷ each_once asked xs
+each_once asked (KeepFirst t key ∷ xs) = if is_asked asked key.lock then each_once asked xs else KeepFirst t key ∷ each_once (Some key.lock) xs
+each_once asked (Landing a ∷ xs) = Landing a ∷ each_once asked xs
 
 -- what is answered for these calls, where a hashkey for that lock, if any, was asked for before them
-abbrev pub answers_on : (ℕ → Option Hashkey) → List ℕ → Option ℕ → List Action → List Answer
-answers_on kept sent asked xs = once asked (map (λ x. answer_for kept (Some x)) (unsent (λ a. is_listed a sent) xs))
-
--- the line of party v that asks for a hashkey, none where one for its lock was asked for last
-abbrev pub asking_line : ℕ → Option ℕ → Hashkey → List ℕ
-asking_line v asked key = if is_asked asked key.lock then [] else line_of v (Keep key)
-
--- From old to new the lines grow by that of the first of these calls: with those of the others they are the lines of all.
-abbrev pub IsAnswerLine : ℕ → (ℕ → Option Hashkey) → List ℕ → Option ℕ → Option ℕ → List ℕ → List ℕ → Action → List Action → Type 0
-IsAnswerLine v kept sent asked next old new x xs =
-    old ++ flat_map (line_of v) (answers_on kept sent asked (x ∷ xs)) ≡ new ++ flat_map (line_of v) (answers_on kept sent next xs)
+abbrev pub call_lines : (ℕ → Option Hashkey) → (ℕ → Bool) → Option ℕ → List Timed → List Line
+call_lines kept sent asked ts = each_once asked (map (own_line kept sent) ts)

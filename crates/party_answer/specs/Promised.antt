@@ -1,77 +1,122 @@
 -- What holds of an answer that was given.
-use Rattle.std.specs.Prelude.{◌≡◌, ◌⊎◌, ◌<◌, ◌≤◌, ◌++◌, ℕ, true, false, List, [], set, Option, Some, None, Result, Ok}
+use Rattle.std.specs.Prelude.{◌≡◌, ◌≢◌, ◌⊎◌, ◌<◌, ◌≤◌, ◌++◌, ℕ, true, false, List, [], set, Option, Some, None, Result, Ok, Err}
+use Rattle.swap_base.specs.declared.fault.Fault.{Fault}
+use Rattle.swap_base.specs.Fault.{Gives}
 use Rattle.swap_base.specs.Lists.{IsIn}
 use Rattle.hashkey_path.specs.declared.hashkey.Hashkey.{Hashkey}
+use Rattle.ledger_core.specs.declared.entry.Call.TheVariants.{Unlock}
 use Rattle.ledger_core.specs.declared.entry.Entry.{Entry}
 use Rattle.ledger_core.specs.History.{height}
 use Rattle.ledger_core.specs.Book.{Histories, history, IsLegalBook}
 use Rattle.swap_rules.specs.Accepted.{IsAccepted}
 use Rattle.swap_rules.specs.Due.{Action}
-use Rattle.swap_rules.specs.Useful.{useful, IsHarmful}
+use Rattle.swap_rules.specs.Useful.{IsHarmful}
 use Rattle.swap_rules.specs.Machine.{IsWallet}
 use Rattle.swap_rules.specs.Rest.{are_ticks, rest_deadline}
-use Rattle.party_wallet.specs.Value.{signed_in}
-use Rattle.wallet_promise.specs.Life.{Answer, Make, Keep, MayGo, MayKeep}
-use Rattle.wallet_promise.specs.Answers.{answers, was_sent}
+use Rattle.wallet_promise.specs.Life.{Asking, MayGo, MayKeep}
+use Rattle.wallet_promise.specs.Answers.{was_sent}
 use Rattle.told_books.specs.Told.{SayEnough}
+use Rattle.answer_rules.specs.Heights.{HasHeight}
+use Rattle.answer_rules.specs.Finished.{are_finished, ContinuesWithout}
+use Rattle.answer_rules.specs.Stopped.{is_stopped}
+use Rattle.answer_rules.specs.Laws.{IsLastHeight}
 use Rattle.party_answer.specs.declared.reason.AnswerReason.{AnswerReason}
-use Rattle.party_answer.specs.Asked.{Question, asked}
-use Rattle.party_answer.specs.Text.{all_useful, question_asking, sent_on, to_text, wallet_in}
+use Rattle.party_answer.specs.declared.reason.AnswerReason.TheVariants.{NotAgreed}
+use Rattle.party_answer.specs.declared.given.Answer.{Answer}
+use Rattle.party_answer.specs.Asked.{Question, SaidState, asked, known, text_said}
+use Rattle.party_answer.specs.Unkept.{is_lock_unkept}
+use Rattle.party_answer.specs.declared.timed.Timed.{Timed}
+use Rattle.party_answer.specs.Lines.{Present, KeepFirst, Landing, timed, untimed}
+use Rattle.party_answer.specs.Text.{answerable, answered, answered_calls, due_text, kept_keys, lines, own_wallet, question_answer, unkept, useful_by, was_published}
 
--- all that is answered to a question
-abbrev pub answers_in : Question → List Answer
-answers_in q = answers q.deal q.me (wallet_in q) (question_asking q) (sent_on q)
+-- what the wallet hands over
+abbrev pub own_asking : Question → Asking
+own_asking q = record { known = known q; kept = kept_keys q }
 
 -- the call may go out
-abbrev pub MayGoIn : Question → Action → Type 0
-MayGoIn q x = MayGo q.deal q.me (wallet_in q) (question_asking q) x
+abbrev pub MayBeMade : Question → Action → Type 0
+MayBeMade q x = MayGo q.deal q.me (own_wallet q) (own_asking q) x
 
 -- the hashkey may be kept
-abbrev pub MayKeepIn : Question → Hashkey → Type 0
-MayKeepIn q key = MayKeep q.deal q.me (wallet_in q) (question_asking q) key
+abbrev pub MayBeKept : Question → Hashkey → Type 0
+MayBeKept q key = MayKeep q.deal q.me (own_wallet q) (own_asking q) key
 
--- all that is useful to it over other ledgers
-abbrev pub useful_over : Question → Histories → List Action
-useful_over q known = useful q.deal q.me (wallet_in q) (signed_in q.kept.keys) known
+-- Why a call is left out: it can only hurt the party, or it is an unlock for a lock with an unlock in the party's name that it never made.
 
--- the height isn't above the height at which rest ends, if rest ends
+abbrev pub CanOnlyHurt : Question → Action → Type 0
+CanOnlyHurt q x = IsHarmful q.deal q.me (own_wallet q) (kept_keys q) (known q) x
+
+abbrev pub IsLockUnkept : Question → Action → Type 0
+IsLockUnkept q x = is_stopped (is_lock_unkept (unkept q)) x.call ≡ true
+
+abbrev pub IsLeftOut : Question → Action → Type 0
+IsLeftOut q x = CanOnlyHurt q x ⊎ IsLockUnkept q x
+
+-- the height isn't above that at which rest ends, if it ends at one
 abbrev pub IsAtRest : Option ℕ → ℕ → Type 0
 IsAtRest None at = Unit {0}
 IsAtRest (Some end) at = at ≤ end
 
--- the call that can only hurt the party
-abbrev pub IsHarmfulIn : Question → Action → Type 0
-IsHarmfulIn q x = IsHarmful q.deal q.me (wallet_in q) (signed_in q.kept.keys) q.known x
+-- the ledger of arc a with more entries
+abbrev pub with_more : Question → ℕ → List Entry → Histories
+with_more q a more = set (known q) a (history (known q) a ++ more)
 
--- A text is the answer to what is asked. The deal is accepted, the ledgers did what is told of
--- them, and the seed is the party's. Each call in the text may go out and is useful, no publish in
--- it was sent, and each hashkey in it may be kept. Only publishes that were sent and calls that can
--- only hurt the party are left out. For each lock with a hashkey that may be kept, the text has
--- one. The same calls are useful over any histories of which the told ones say enough, so noise may
--- be left out. If nothing is useful, ticks on any ledger make nothing useful up to the height at
--- which rest ends.
-pub record IsAnswerTo (asks : Result Question AnswerReason) (answer : List ℕ) : Type 0 where
+-- up to which height the contract accepts the hashkey of an unlock
+abbrev pub IsUntil : Question → Timed → Hashkey → Type 0
+IsUntil q t key = (last : ℕ) × (t.until ≡ Some last) × IsLastHeight q.deal (known q) q.me t.arc key last
+
+-- a call with its heights
+abbrev pub own_timed : Question → Action → Timed
+own_timed q x = timed q.deal (known q) q.me x
+
+-- The answer is that to what is asked: of an accepted deal, over ledgers that did what is told of them, for a party whose seed it is.
+pub record IsAnswerTo (asks : Result Question AnswerReason) (answer : Answer) : Type 0 where
   pub question : Question
   pub asked : asks ≡ Ok question
-  pub is : answer ≡ to_text question
+  pub is : answer ≡ question_answer question
   pub accepted : IsAccepted question.deal
   pub party : question.me < question.deal.graph.n
-  pub wallet : IsWallet question.deal question.me (wallet_in question)
-  pub legal : IsLegalBook question.deal question.known
-  pub go : (x : Action) → IsIn (Make x) (answers_in question) → MayGoIn question x
-  pub once : (x : Action) → IsIn (Make x) (answers_in question) → was_sent (sent_on question) x ≡ false
-  pub keep : (key : Hashkey) → IsIn (Keep key) (answers_in question) → MayKeepIn question key
-  pub helps : (x : Action) → IsIn (Make x) (answers_in question) → IsIn x (all_useful question)
-  pub all : (x : Action) → MayGoIn question x → was_sent (sent_on question) x ≡ false
-      → IsIn (Make x) (answers_in question) ⊎ IsHarmfulIn question x
-  pub each : (key : Hashkey) (may : MayKeepIn question key)
-      → ((other : Hashkey) × IsIn (Keep other) (answers_in question) × (other.lock ≡ key.lock)) ⊎ IsHarmfulIn question (MayKeep.unlock may)
-  pub heard : (h : Histories) → SayEnough question.deal question.me question.known h → useful_over question h ≡ all_useful question
-  pub rest : (a : ℕ) (more : List Entry) → all_useful question ≡ [] → are_ticks more ≡ true
-      → IsAtRest (rest_deadline question.deal question.me question.known) (height (history question.known a ++ more))
-      → useful_over question (set question.known a (history question.known a ++ more)) ≡ []
+  pub wallet : IsWallet question.deal question.me (own_wallet question)
+  pub legal : IsLegalBook question.deal (known question)
+  -- each call in it may go out and is useful, and no publish in it was sent
+  pub go : (t : Timed) → IsIn (Present t) (lines question) → MayBeMade question (untimed t)
+  pub once : (t : Timed) → IsIn (Present t) (lines question) → was_sent (was_published question) (untimed t) ≡ false
+  pub helps : (t : Timed) → IsIn (Present t) (lines question) → IsIn (untimed t) (useful_by question (known question))
+  -- each hashkey in it may be kept
+  pub keep : (t : Timed) (key : Hashkey) → IsIn (KeepFirst t key) (lines question) → MayBeKept question key
+  -- each publish that is landing is useful, and was sent
+  pub landing : (a : ℕ) → IsIn (Landing a) (lines question)
+      → (x : Action) × IsIn x (useful_by question (known question)) × (was_sent (was_published question) x ≡ true) × (x.arc ≡ a)
+  -- nothing that may is left out but publishes that were sent, calls that can only hurt the party, and unlocks for a lock with an unlock in its name that it
+  -- never made; of another lock for which a hashkey may be kept it has one
+  pub all : (x : Action) → MayBeMade question x → was_sent (was_published question) x ≡ false
+      → IsIn (Present (own_timed question x)) (lines question) ⊎ IsLeftOut question x
+  pub each : (key : Hashkey) (may : MayBeKept question key)
+      → ((t : Timed) × (other : Hashkey) × IsIn (KeepFirst t other) (lines question) × (other.lock ≡ key.lock)) ⊎ IsLeftOut question (MayKeep.unlock may)
+  -- the same is useful over any histories of which what is told says enough, so noise may be left out
+  pub heard : (h : Histories) → SayEnough question.deal question.me (known question) h → useful_by question h ≡ useful_by question (known question)
+  -- where nothing is useful, or nothing is answered, that stays so as a ledger ticks on, up to the height at which rest ends
+  pub rest : (a : ℕ) (more : List Entry) → useful_by question (known question) ≡ [] → are_ticks more ≡ true
+      → IsAtRest (rest_deadline question.deal question.me (known question)) (height (history (known question) a ++ more))
+      → useful_by question (with_more question a more) ≡ []
+  pub wait : (a : ℕ) (more : List Entry) → answered question ≡ [] → are_ticks more ≡ true
+      → IsAtRest (rest_deadline question.deal question.me (known question)) (height (history (known question) a ++ more))
+      → answerable question (with_more question a more) ≡ []
+  -- where the party is done nothing is answered, whatever lands on any ledger without calls of the party
+  pub done : (h : Histories) → answered question ≡ [] → are_finished question.deal (known question) question.me ≡ true → IsLegalBook question.deal h
+      → ContinuesWithout question.me (known question) h → answerable question h ≡ []
+  -- it tells what is due, or that nothing is
+  pub never_empty : due_text question ≢ []
+  -- each height in it is the last at which the call is on time, or the last at which the contract accepts the hashkey
+  pub by : (t : Timed) → IsIn t (answered_calls question) → HasHeight question.deal (known question) question.me (kept_keys question) (untimed t) t.last
+  pub until : (t : Timed) (key : Hashkey) → IsIn t (answered_calls question) → t.call ≡ Unlock key → IsUntil question t key
 
--- A text is the answer to an input text whose first line has number n, for the party with this name
--- and seed.
-abbrev pub IsAnswer : ℕ → List ℕ → List ℕ → List ℕ → List ℕ → Type 0
+-- The answer is that to a text whose first line has that number, for the party of that name with that seed.
+abbrev pub IsAnswer : ℕ → List ℕ → List ℕ → List ℕ → Answer → Type 0
 IsAnswer first name seed text answer = IsAnswerTo (asked first name seed text) answer
+
+-- where what stands in the text isn't what was agreed on, nothing is answered but that
+abbrev pub NeedsAgreement : ℕ → List ℕ → Result Answer (Fault AnswerReason) → Type 0
+NeedsAgreement first text result =
+    (s : SaidState) (rest : List (List ℕ)) → text_said first text ≡ Ok (s, rest) → s.told ≢ s.agreed.digest
+    → Gives (λ x. x) result (Err (NotAgreed s.agreed.digest))

@@ -1,64 +1,168 @@
--- The lines that answer a question: all that is useful of what is due, or how long nothing is.
-use Rattle.std.specs.Prelude.{ℕ, Bool, List, [], ◌∷◌, ◌++◌, codes, decimal, Option, Some, None, Result, Ok}
-use Rattle.std.specs.List.{flat_map}
+-- The text that answers a question, line by line.
+use Rattle.std.specs.Prelude.{ℕ, ◌+◌, Bool, not, ◌||◌, ◌==◌, List, [], ◌∷◌, ◌++◌, map, codes, decimal, Option, Some, None, is_some, length, Result, Ok, if◌then◌else◌}
+use Rattle.std.specs.List.{flat_map, list_any}
+use Rattle.hex.specs.Hex.{encode_lower}
 use Rattle.swap_base.specs.Fault.{◌>>=◌}
+use Rattle.swap_base.specs.Text.{joined}
 use Rattle.swap_digraph.specs.Graph.{is_listed}
+use Rattle.swap_digraph.specs.declared.deal.Deal.{Deal}
+use Rattle.hashkey_path.specs.declared.hashkey.Hashkey.{Hashkey}
+use Rattle.ledger_core.specs.Book.{Histories}
 use Rattle.swap_rules.specs.Due.{Action, Wallet}
 use Rattle.swap_rules.specs.Useful.{useful}
 use Rattle.swap_rules.specs.Rest.{rest_deadline}
+use Rattle.refusals.specs.Words.{reply_text}
 use Rattle.party_wallet.specs.Value.{signed_in}
 use Rattle.party_machine.specs.Wallet.{seed_wallet}
 use Rattle.transcript_lines.specs.Between.{spaced}
-use Rattle.transcript_lines.specs.Words.{call_words, key_words}
-use Rattle.wallet_promise.specs.Life.{Asking, Answer, Rest, Make, Keep}
-use Rattle.wallet_promise.specs.Answers.{answers}
+use Rattle.transcript_lines.specs.Words.{call_words, list_word, signature_word}
+use Rattle.answer_rules.specs.Finished.{are_finished}
+use Rattle.answer_rules.specs.Stopped.{unstopped}
+use Rattle.told_ledgers.specs.declared.told.BadEntry.{BadEntry}
+use Rattle.told_ledgers.specs.declared.told.Replies.{Replies}
+use Rattle.told_ledgers.specs.declared.told.ToldLedger.{ToldLedger}
 use Rattle.party_answer.specs.declared.reason.AnswerReason.{AnswerReason}
-use Rattle.party_answer.specs.Asked.{Question, SaidState, asked, first_unkept, answer_question, unless_unkept}
+use Rattle.party_answer.specs.declared.given.Answer.{Answer}
+use Rattle.party_answer.specs.declared.unkept.Unkept.{Unkept}
+use Rattle.party_answer.specs.Asked.{Question, SaidState, asked, by_refusal, known, lines_said, said_asked}
+use Rattle.party_answer.specs.Unkept.{all_unkept, is_lock_unkept}
+use Rattle.party_answer.specs.declared.timed.Timed.{Timed}
+use Rattle.party_answer.specs.Lines.{Line, Present, KeepFirst, Landing, call_lines, timed}
 
--- the line of an answer of party v: the call that may go out, or the hashkey that must be kept first
-abbrev pub line_of : ℕ → Answer → List ℕ
-line_of v Rest = []
-line_of v (Make x) = spaced (codes "call" ∷ decimal x.arc ∷ decimal v ∷ call_words x.call) ++ 10 ∷ []
-line_of v (Keep key) = spaced (codes "keep" ∷ key_words key) ++ 10 ∷ []
+-- ---- what goes by a question
 
--- nothing is useful before a ledger has something new or stands above that height, if any
-abbrev pub rest_line : Option ℕ → List ℕ
-rest_line None = codes "rest\n"
-rest_line (Some height) = spaced (codes "rest" ∷ decimal height ∷ []) ++ 10 ∷ []
-
-abbrev pub rest_lines : List Action → Option ℕ → List ℕ
-rest_lines [] until = rest_line until
-rest_lines (x ∷ xs) until = []
-
--- the asking of the wallet
-abbrev pub question_asking : Question → Asking
-question_asking q = record { known = q.known; kept = signed_in q.kept.keys }
+-- the hashkey that was kept for a lock
+abbrev pub kept_keys : Question → ℕ → Option Hashkey
+kept_keys q = signed_in q.kept.keys
 
 -- whether a publish was sent on the arc
-abbrev pub sent_on : Question → ℕ → Bool
-sent_on q a = is_listed a q.kept.sent
+abbrev pub was_published : Question → ℕ → Bool
+was_published q a = is_listed a q.kept.sent
 
-abbrev pub wallet_in : Question → Wallet
-wallet_in q = seed_wallet q.seed q.me q.deal
+-- what the seed signs
+abbrev pub own_wallet : Question → Wallet
+own_wallet q = seed_wallet q.seed q.me q.deal
 
--- all that is useful
-abbrev pub all_useful : Question → List Action
-all_useful q = useful q.deal q.me (wallet_in q) (signed_in q.kept.keys) q.known
+-- all that is useful over other ledgers
+abbrev pub useful_by : Question → Histories → List Action
+useful_by q k = useful q.deal q.me (own_wallet q) (kept_keys q) k
 
--- the lines that answer a question
-unfoldable pub to_text : Question → List ℕ
-to_text q =
-    flat_map (line_of q.me) (answers q.deal q.me (wallet_in q) (question_asking q) (sent_on q)) ++ rest_lines (all_useful q) (rest_deadline q.deal q.me q.known)
+-- the unlocks in the party's name that it never made
+abbrev pub unkept : Question → List Unkept
+unkept q = all_unkept (kept_keys q) q.ledgers
 
--- the answer to a question over ledgers with right replies, unless a hashkey was presented that
--- wasn't kept
-abbrev pub question_answer : Question → Result (List ℕ) AnswerReason
-question_answer q = unless_unkept (first_unkept (signed_in q.kept.keys) q.me 0 q.known) >>= λ u. Ok (to_text q)
+-- what is useful over other ledgers, without unlocks for a lock with an unlock in the party's name that it never made
+abbrev pub answerable : Question → Histories → List Action
+answerable q k = unstopped (is_lock_unkept (unkept q)) (useful_by q k)
 
--- what is answered to what a text says
-abbrev pub answer_said : ℕ → List ℕ → List ℕ → SaidState → Result (List ℕ) AnswerReason
-answer_said first name seed s = answer_question first name seed s >>= λ q. Ok (to_text q)
+-- what is answered
+abbrev pub answered : Question → List Action
+answered q = answerable q (known q)
 
--- the answer to a text whose first line has number n, or the first reason against it
-unfoldable pub answer_to : ℕ → List ℕ → List ℕ → List ℕ → Result (List ℕ) AnswerReason
-answer_to first name seed text = asked first name seed text >>= λ q. Ok (to_text q)
+-- with its heights
+abbrev pub answered_calls : Question → List Timed
+answered_calls q = map (timed q.deal (known q) q.me) (answered q)
+
+-- line by line
+abbrev pub lines : Question → List Line
+lines q = call_lines (kept_keys q) (was_published q) None (answered_calls q)
+
+-- ---- of ledgers that can't be told on
+
+abbrev pub replies_text : Option Replies → List ℕ
+replies_text None = []
+replies_text (Some r) = joined (codes " " ∷ reply_text r.stated ∷ codes " " ∷ reply_text r.replayed ∷ [])
+
+-- the bad entry of arc a: it can't be read, or the contract of the deal doesn't reply so
+unfoldable pub bad_text : ℕ → BadEntry → List ℕ
+bad_text a b = joined (codes "bad " ∷ decimal a ∷ codes " " ∷ decimal b.entry ∷ replies_text b.replies ∷ codes "\n" ∷ [])
+
+abbrev pub bad_line : ℕ → Option BadEntry → List ℕ
+bad_line a None = []
+bad_line a (Some b) = bad_text a b
+
+-- the bad entries of ledgers, the first of which is that of arc a
+abbrev pub bad_lines : ℕ → List ToldLedger → List ℕ
+bad_lines a [] = []
+bad_lines a (t ∷ ts) = bad_line a t.bad ++ bad_lines (a + 1) ts
+
+-- an unlock in the party's name that it never made
+unfoldable pub unkept_text : Unkept → List ℕ
+unkept_text u = joined (codes "unkept " ∷ decimal u.arc ∷ codes " " ∷ decimal u.entry ∷ codes " " ∷ decimal u.lock ∷ codes "\n" ∷ [])
+
+-- ---- of calls
+
+abbrev pub until_text : Option ℕ → List ℕ
+until_text None = []
+until_text (Some last) = joined (codes " until " ∷ decimal last ∷ [])
+
+-- a call of party v that may be presented
+unfoldable pub call_text : ℕ → Timed → List ℕ
+call_text v t =
+    joined (codes "call " ∷ decimal t.arc ∷ codes " " ∷ decimal v ∷ codes " by " ∷ decimal t.last ∷ until_text t.until ∷ codes " " ∷
+    spaced (call_words t.call) ∷ codes "\n" ∷ [])
+
+-- a hashkey but for its lock
+abbrev pub key_text : Hashkey → List ℕ
+key_text key =
+    joined (encode_lower key.secret ∷ codes " " ∷ list_word (map decimal key.path) ∷ codes " " ∷ list_word (map signature_word key.sigs) ∷ [])
+
+-- a hashkey that has to be kept before this unlock with it
+unfoldable pub keep_text : Timed → Hashkey → List ℕ
+keep_text t key =
+    joined (codes "keep " ∷ decimal key.lock ∷ codes " by " ∷ decimal t.last ∷ until_text t.until ∷ codes " " ∷ key_text key ∷ codes "\n" ∷ [])
+
+-- a publish that was sent and hasn't landed
+unfoldable pub landing_text : ℕ → List ℕ
+landing_text a = joined (codes "landing " ∷ decimal a ∷ codes "\n" ∷ [])
+
+abbrev pub line_text : ℕ → Line → List ℕ
+line_text v (Present t) = call_text v t
+line_text v (KeepFirst t key) = keep_text t key
+line_text v (Landing a) = landing_text a
+
+-- ---- of rest
+
+-- nothing is due before a call lands, or a ledger stands above that height, if there is one
+abbrev pub wait_text : Option ℕ → List ℕ
+wait_text None = codes "wait\n"
+wait_text (Some height) = joined (codes "wait " ∷ decimal height ∷ codes "\n" ∷ [])
+
+-- nothing is left to do, or nothing is due for now
+unfoldable pub rest_text : Deal → Histories → ℕ → List ℕ
+rest_text d k v = if are_finished d k v then codes "done\n" else wait_text (rest_deadline d v k)
+
+-- where nothing is answered
+abbrev pub end_text : Deal → Histories → ℕ → List Timed → List ℕ
+end_text d k v [] = rest_text d k v
+end_text d k v (t ∷ ts) = []
+
+-- ---- the whole
+
+-- what stands before the calls: what is wrong
+unfoldable pub warning_text : Question → List ℕ
+warning_text q = bad_lines 0 q.ledgers ++ flat_map unkept_text (unkept q)
+
+-- the calls, or that there is none
+unfoldable pub due_text : Question → List ℕ
+due_text q = flat_map (line_text q.me) (lines q) ++ end_text q.deal (known q) q.me (answered_calls q)
+
+-- a ledger has a bad entry, or an unlock stands in the party's name that it never made
+unfoldable pub warns : Question → Bool
+warns q = list_any (λ t. is_some t.bad) q.ledgers || not (length (unkept q) == 0)
+
+-- the answer to a question
+unfoldable pub question_answer : Question → Answer
+question_answer q = record { text = warning_text q ++ due_text q; warns = warns q }
+
+-- the answer to what a text says, whose first line has that number
+abbrev pub said_answer : ℕ → List ℕ → List ℕ → SaidState × List (List ℕ) → Result Answer AnswerReason
+said_answer first name seed s = said_asked first name seed s >>= λ q. Ok (question_answer q)
+
+-- the answer to lines, the first of which has that number
+abbrev pub lines_answer : ℕ → List ℕ → List ℕ → List (List ℕ) → Result Answer AnswerReason
+lines_answer first name seed ls = by_refusal (lines_said first ls) >>= said_answer first name seed
+
+-- the answer to a text whose first line has that number, or the first reason against it
+unfoldable pub answer_told : ℕ → List ℕ → List ℕ → List ℕ → Result Answer AnswerReason
+answer_told first name seed text = asked first name seed text >>= λ q. Ok (question_answer q)

@@ -1,19 +1,36 @@
--- Calls with hashkeys that were never kept.
-use Rattle.std.specs.Prelude.{ℕ, List, [], ◌∷◌, Option, Some, None, if◌then◌else◌}
+-- Unlocks of the party with hashkeys that it never kept: somebody else has its seed, or what it kept is lost.
+use Rattle.std.specs.Prelude.{ℕ, ◌+◌, ◌==◌, ◌&&◌, ◌||◌, Bool, List, [], ◌∷◌, ◌++◌, Option, if◌then◌else◌}
+use Rattle.std.specs.List.{list_any}
 use Rattle.hashkey_path.specs.declared.hashkey.Hashkey.{Hashkey}
-use Rattle.ledger_core.specs.declared.entry.Call.{Call}
-use Rattle.ledger_core.specs.declared.entry.Call.TheVariants.{Unlock}
-use Rattle.history_index.specs.declared.made.Made.{Made}
-use Rattle.swap_rules.specs.Party.{pick_call}
 use Rattle.swap_rules.specs.Conduct.{is_first_key}
-use Rattle.party_answer.specs.Asked.{is_unkept}
+use Rattle.told_ledgers.specs.declared.told.OwnUnlock.{OwnUnlock}
+use Rattle.told_ledgers.specs.declared.told.ToldLedger.{ToldLedger}
+use Rattle.party_answer.specs.declared.unkept.Unkept.{Unkept}
 
--- the hashkey that a call presents, where it isn't the one that was kept for its lock
-abbrev pub unkept_key : (ℕ → Option Hashkey) → Call → Option Hashkey
-unkept_key kept (Unlock key) = if is_first_key (kept key.lock) key then None else Some key
-unkept_key kept _ = None
+-- one of them is for the lock on arc a
+abbrev pub has_lock : List Unkept → ℕ → ℕ → Bool
+has_lock us a i = list_any (λ u. (u.arc == a) && (u.lock == i)) us
 
--- the number of the first of these calls, which an index keeps, that is v's, with a hashkey that wasn't kept
-abbrev pub unkept_made : (ℕ → Option Hashkey) → ℕ → List Made → Option ℕ
-unkept_made kept v [] = None
-unkept_made kept v (m ∷ ms) = if is_unkept kept (pick_call v m.entry) then Some m.number else unkept_made kept v ms
+-- with an unlock on arc a, where its hashkey isn't the one that was kept: the first of each arc and lock
+abbrev pub with_unlock : (ℕ → Option Hashkey) → ℕ → List Unkept → OwnUnlock → List Unkept
+with_unlock kept a us x =
+    if is_first_key (kept x.key.lock) x.key || has_lock us a x.key.lock then us
+    else us ++ record { arc = a; entry = x.entry; lock = x.key.lock } ∷ []
+
+-- with these unlocks on arc a
+abbrev pub with_unlocks : (ℕ → Option Hashkey) → ℕ → List Unkept → List OwnUnlock → List Unkept
+with_unlocks kept a us [] = us
+with_unlocks kept a us (x ∷ xs) = with_unlocks kept a (with_unlock kept a us x) xs
+
+-- with those of these ledgers, the first of which is that of arc a
+abbrev pub with_ledgers : (ℕ → Option Hashkey) → ℕ → List Unkept → List ToldLedger → List Unkept
+with_ledgers kept a us [] = us
+with_ledgers kept a us (t ∷ ts) = with_ledgers kept (a + 1) (with_unlocks kept a us t.unlocks) ts
+
+-- the first unlock of each arc and lock with a hashkey that isn't the one that was kept, by arc and entry
+abbrev pub all_unkept : (ℕ → Option Hashkey) → List ToldLedger → List Unkept
+all_unkept kept ts = with_ledgers kept 0 [] ts
+
+-- one of them is for the lock
+abbrev pub is_lock_unkept : List Unkept → ℕ → Bool
+is_lock_unkept us i = list_any (λ u. u.lock == i) us

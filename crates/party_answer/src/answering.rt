@@ -1,159 +1,200 @@
 //! The answer to an input.
 
-ghost use Rattle.std.specs.Prelude.{◌≡◌, ◌<◌, ◌≤◌, ◌++◌, IfOk, length};
-ghost use Rattle.std.specs.List.{flat_map};
+ghost use Rattle.std.specs.Prelude.{◌≡◌, ◌<◌, ◌≤◌, ◌++◌, ◌||◌, ◌==◌, IfOk, OnOk, is_some, length, not};
+ghost use Rattle.std.specs.List.{flat_map, list_any};
 ghost use Rattle.swap_base.specs.Fault.{Gives};
 ghost use Rattle.swap_digraph.specs.Deal.{IsWellSized};
-ghost use Rattle.swap_digraph.specs.Graph.{is_listed};
-ghost use Rattle.ledger_core.specs.Book.{IsLegalBook};
 ghost use Rattle.history_index.specs.Indexes.{all_entries, AreIndexes};
-ghost use Rattle.swap_rules.specs.Rest.{rest_deadline};
-ghost use Rattle.party_wallet.specs.Value.{signed_in};
-ghost use Rattle.party_due.specs.Actions.{actions};
-ghost use Rattle.wallet_promise.specs.Answers.{answers_for};
-ghost use Rattle.party_answer.specs.Asked.{first_unkept, answer_question, unless_unkept};
-ghost use Rattle.party_answer.specs.Text.{question_answer, answer_said, answer_to, line_of, rest_lines, to_text};
-ghost use Rattle.party_answer.specs.Inside.{question_in, inside_said, IsSaid};
-ghost use Rattle.party_answer.specs.Promised.{IsAnswer, IsAnswerTo};
+ghost use Rattle.told_ledgers.specs.Telling.{told_book};
+ghost use Rattle.party_terms.specs.Inside.{IsTold};
+ghost use Rattle.party_answer.specs.Asked.{lines_asked, said_asked};
+ghost use Rattle.party_answer.specs.Inside.{asked_question, calls_text, said_state, IsAsked};
+ghost use Rattle.party_answer.specs.Text.{answer_told, answered_calls, bad_lines, lines_answer, question_answer, said_answer, unkept, unkept_text};
+ghost use Rattle.party_answer.specs.Promised.{IsAnswer, IsAnswerTo, NeedsAgreement};
 
-use crate::answers::{put_answers, put_end};
-use crate::asked::{Said, collect_kept, own_seed, party_named, read_said, replayed};
-use crate::reason::{AnswerFault, AnswerReason};
-use crate::unkept::first_unkept;
+use crate::asked::{Asked, said_asked};
+use crate::calls::answered_calls;
+use crate::given::Answer;
+use crate::line::put_lines;
+use crate::reason::{AnswerFault, refusal_fault};
+use crate::said::{Said, read_said};
+use crate::text::{is_any_bad, put_all_unkept, put_end, put_ledgers};
+use crate::timed::Timed;
+use crate::unkept::{Unkept, all_unkept};
 use history_index::Index;
+use ledger_core::Book;
 use outcome_rules::build_indexes;
-use party_due::{DueCall, all_useful};
-use party_notes::Kept;
-use party_wallet::Signed;
+use party_due::all_useful;
+use party_lines::ended_lines;
 use std::alloc::Global;
-use swap_base::{ByteText, Digest, Fault, NoMemory, PartyId};
-use swap_digraph::Deal;
+use swap_base::{ByteText, Digest, Listed, NoMemory, TryCopy};
+use told_ledgers::ToldLedger;
+use transcript_book::Parts;
 
-/// The lines of what is useful, or of rest where nothing is.
-fn collect_lines(
+/// The book that is told.
+fn told_book(alloc: Global, ledgers: &[ToldLedger]) -> Result<Book, NoMemory>
+    ensures { IfOk result (λ b. b.histories ≡ told_book ledgers.now) }
+{
+    let mut histories = Vec::new(alloc);
+    for ledger in ledgers {
+        histories.push(ledger.history.copy()?)?;
+    }
+    Ok(Book {
+        histories: Listed::new(histories),
+    })
+}
+
+/// All that is answered, with its heights.
+fn calls(
     alloc: Global,
-    deal: &Deal,
-    me: PartyId,
-    kept: &Kept,
+    seed: &Digest,
+    asked: &Asked,
     known: &[Index],
-    calls: &[DueCall],
+    list: &[Unkept],
+) -> Result<Vec<Timed>, NoMemory>
+    requires asked { IsAsked seed.now asked.now }
+    requires known { AreIndexes asked.now.deal known.now }
+    requires entries { all_entries known.now ≡ told_book asked.now.ledgers }
+    requires list { list.now ≡ unkept (asked_question seed.now asked.now) }
+    ensures { IfOk result (λ v. v.items ≡ answered_calls (asked_question seed.now asked.now)) }
+{
+    let kept = &asked.kept.signed;
+    let useful = all_useful(alloc, &asked.deal, asked.me, seed, kept, known)?;
+    answered_calls(alloc, &asked.deal, known, asked.me, list, &useful)
+}
+
+/// Appends what is wrong.
+#[tactic(auto, using(crate::proofs::Joined::put_both))]
+fn put_warnings(out: &mut Vec<u8>, ledgers: &[ToldLedger], list: &[Unkept]) -> Result<(), NoMemory>
+    requires { length ledgers.now ≤ 256 }
+    ensures { OnOk result (out.new.items ≡ out.old.items ++ (bad_lines 0 ledgers.now ++ flat_map unkept_text list.now)) }
+{
+    put_ledgers(out, ledgers)?;
+    put_all_unkept(out, list)
+}
+
+/// Appends the calls, or that there is none.
+#[tactic(auto, using(crate::proofs::Joined::put_both))]
+fn put_due(
+    out: &mut Vec<u8>,
+    asked: &Asked,
+    known: &[Index],
+    calls: &[Timed],
+) -> Result<(), NoMemory>
+    requires sized { IsWellSized asked.now.deal }
+    requires known { AreIndexes asked.now.deal known.now }
+    requires me { asked.now.me < asked.now.deal.graph.n }
+    ensures { OnOk result (out.new.items ≡ out.old.items ++ calls_text asked.now (all_entries known.now) calls.now) }
+{
+    put_lines(out, asked.me, &asked.kept, calls)?;
+    put_end(out, &asked.deal, known, asked.me, calls)
+}
+
+/// The text that answers, where this is what is answered.
+fn text(
+    alloc: Global,
+    asked: &Asked,
+    known: &[Index],
+    list: &[Unkept],
+    calls: &[Timed],
 ) -> Result<ByteText, NoMemory>
-    requires sized { IsWellSized deal.now }
-    requires me { me < deal.now.graph.n }
-    requires known { AreIndexes deal.now known.now }
-    ensures { IfOk result (λ t. t
-        ≡ flat_map (line_of me) (answers_for (signed_in kept.now.signed.keys) (λ a. is_listed a kept.now.sent) (actions calls.now))
-        ++ rest_lines (actions calls.now) (rest_deadline deal.now me (all_entries known.now))) }
+    requires sized { IsWellSized asked.now.deal }
+    requires known { AreIndexes asked.now.deal known.now }
+    requires me { asked.now.me < asked.now.deal.graph.n }
+    requires few { length asked.now.ledgers ≤ 256 }
+    ensures { IfOk result (λ t. t ≡ bad_lines 0 asked.now.ledgers ++ flat_map unkept_text list.now ++ calls_text asked.now (all_entries known.now) calls.now) }
 {
     let mut out = Vec::new(alloc);
-    put_answers(&mut out, me, kept, calls)?;
-    put_end(&mut out, deal, me, known, calls)?;
+    put_warnings(&mut out, asked.ledgers.as_slice(), list)?;
+    put_due(&mut out, asked, known, calls)?;
     Ok(ByteText::new(out))
 }
 
-/// The lines that answer.
-fn to_text(
-    alloc: Global,
-    deal: &Deal,
-    me: PartyId,
-    seed: &Digest,
-    kept: &Kept,
-    known: &[Index],
-) -> Result<ByteText, NoMemory>
-    requires sized { IsWellSized deal.now }
-    requires me { me < deal.now.graph.n }
-    requires known { AreIndexes deal.now known.now }
-    requires legal { IsLegalBook deal.now (all_entries known.now) }
-    requires kept { length kept.now.signed.keys ≡ length deal.now.leaders }
-    ensures { IfOk result (λ t. t ≡ to_text (question_in deal.now me seed.now (all_entries known.now) kept.now)) }
+/// Whether a line warns.
+fn is_warning(asked: &Asked, list: &[Unkept]) -> bool
+    ensures { result ≡ (list_any (λ t. is_some t.bad) asked.now.ledgers || not (length list.now == 0)) }
 {
-    let calls = all_useful(alloc, deal, me, seed, &kept.signed, known)?;
-    collect_lines(alloc, deal, me, kept, known, &calls)
+    is_any_bad(asked.ledgers.as_slice()) || !list.is_empty()
 }
 
-/// Every hashkey that the party presented has to be one that it kept.
-fn all_kept(kept: &Signed, me: PartyId, known: &[Index]) -> Result<(), AnswerFault>
-    requires { length known.now ≤ 256 }
-    ensures { Gives (λ u. u) result (unless_unkept (first_unkept (signed_in kept.now.keys) me 0 (all_entries known.now))) }
-{
-    match first_unkept(kept, me, known) {
-        Some((arc, entry)) => Err(Fault::Refused(AnswerReason::NotKept(arc, entry))),
-        None => Ok(()),
-    }
-}
-
-/// What is answered over ledgers as the indexes know them.
+/// The answer over ledgers as the indexes know them.
 fn answer_known(
     alloc: Global,
-    deal: &Deal,
-    me: PartyId,
     seed: &Digest,
-    kept: &Kept,
+    asked: &Asked,
     known: &[Index],
-) -> Result<ByteText, AnswerFault>
-    requires sized { IsWellSized deal.now }
-    requires me { me < deal.now.graph.n }
-    requires known { AreIndexes deal.now known.now }
-    requires legal { IsLegalBook deal.now (all_entries known.now) }
-    requires kept { length kept.now.signed.keys ≡ length deal.now.leaders }
-    ensures { Gives (λ t. t) result (question_answer (question_in deal.now me seed.now (all_entries known.now) kept.now)) }
+) -> Result<Answer, NoMemory>
+    requires asked { IsAsked seed.now asked.now }
+    requires known { AreIndexes asked.now.deal known.now }
+    requires entries { all_entries known.now ≡ told_book asked.now.ledgers }
+    ensures { IfOk result (λ a. a ≡ question_answer (asked_question seed.now asked.now)) }
 {
-    all_kept(&kept.signed, me, known)?;
-    Ok(to_text(alloc, deal, me, seed, kept, known)?)
+    let list = all_unkept(alloc, &asked.kept.signed, asked.ledgers.as_slice())?;
+    let calls = calls(alloc, seed, asked, known, &list)?;
+    let text = text(alloc, asked, known, &list, &calls)?;
+    let warns = is_warning(asked, &list);
+    Ok(Answer { text, warns })
 }
 
-/// What is answered over ledgers whose replies are right.
-fn question_answer(
-    alloc: Global,
-    said: &Said,
-    me: PartyId,
-    seed: &Digest,
-    kept: &Kept,
-) -> Result<ByteText, AnswerFault>
-    requires said { IsSaid said.now }
-    requires me { me < said.now.job.deal.graph.n }
-    requires legal { IsLegalBook said.now.job.deal said.now.book.histories }
-    requires kept { length kept.now.signed.keys ≡ length said.now.job.deal.leaders }
-    ensures { Gives (λ t. t) result (question_answer (question_in said.now.job.deal me seed.now said.now.book.histories kept.now)) }
+/// The answer to what is asked.
+fn answer_asked(alloc: Global, seed: &Digest, asked: &Asked) -> Result<Answer, NoMemory>
+    requires { IsAsked seed.now asked.now }
+    ensures { IfOk result (λ a. a ≡ question_answer (asked_question seed.now asked.now)) }
 {
-    let known = build_indexes(alloc, &said.job.deal, &said.book)?;
-    answer_known(alloc, &said.job.deal, me, seed, kept, &known)
+    let book = told_book(alloc, asked.ledgers.as_slice())?;
+    let known = build_indexes(alloc, &asked.deal, &book)?;
+    answer_known(alloc, seed, asked, &known)
 }
 
-/// What is answered to what an input says.
-#[tactic(auto, unfolding(crate::specs::Asked::answer_question))]
+/// The answer to what an input says, and to the lines behind.
 fn answer_said(
     alloc: Global,
     first: u32,
     name: &[u8],
     seed: &Digest,
     said: &Said,
-) -> Result<ByteText, AnswerFault>
-    requires { IsSaid said.now }
-    ensures exact { Gives (λ t. t) result (answer_said first name.now seed.now (inside_said said.now)) }
-    ensures promised { IfOk result (λ t. IsAnswerTo (answer_question first name.now seed.now (inside_said said.now)) t) }
+    lines: &mut Parts<'_>,
+) -> Result<Answer, AnswerFault>
+    requires { IsTold said.now.agreed.job }
+    ensures exact { Gives (λ a. a) result (said_answer first name.now seed.now (said_state said.now, lines.old)) }
+    ensures promised { IfOk result (IsAnswerTo (said_asked first name.now seed.now (said_state said.now, lines.old))) }
 {
-    let me = party_named(alloc, said, name)?;
-    own_seed(alloc, said, me, seed)?;
-    let kept = collect_kept(alloc, said, me, first)?;
-    replayed(alloc, said)?;
-    question_answer(alloc, said, me, seed, &kept)
+    let asked = said_asked(alloc, first, name, seed, said, lines)?;
+    Ok(answer_asked(alloc, seed, &asked)?)
 }
 
-/// All that is useful to the party with this name and seed, a line each. The text holds what its
-/// wallet wrote down, and a transcript of each ledger as far as it was told. Its first line has
-/// this number in the input.
-#[tactic(auto, unfolding(crate::specs::Text::answer_to, crate::specs::Asked::asked))]
+/// The answer to lines, the first of which has that number.
+fn answer_lines(
+    alloc: Global,
+    first: u32,
+    name: &[u8],
+    seed: &Digest,
+    lines: &mut Parts<'_>,
+) -> Result<Answer, AnswerFault>
+    ensures exact { Gives (λ a. a) result (lines_answer first name.now seed.now lines.old) }
+    ensures promised { IfOk result (IsAnswerTo (lines_asked first name.now seed.now lines.old)) }
+{
+    match read_said(alloc, first, lines) {
+        Ok(said) => answer_said(alloc, first, name, seed, &said, lines),
+        Err(fault) => Err(refusal_fault(fault)),
+    }
+}
+
+/// All that is useful to the party of that name with that seed, a line each, by a text whose first line has that number in the input: the digest that was agreed
+/// on, what its wallet wrote down, the deal, and what each ledger did as far as it was told.
 pub fn answer(
     alloc: Global,
     first: u32,
     name: &[u8],
     seed: &Digest,
     text: &[u8],
-) -> Result<ByteText, AnswerFault>
-    ensures exact { Gives (λ t. t) result (answer_to first name.now seed.now text.now) }
-    ensures promised { IfOk result (λ t. IsAnswer first name.now seed.now text.now t) }
+) -> Result<Answer, AnswerFault>
+    ensures exact { Gives (λ a. a) result (answer_told first name.now seed.now text.now) }
+    ensures promised { IfOk result (IsAnswer first name.now seed.now text.now) }
+    ensures agreed { NeedsAgreement first text.now result }
 {
-    let said = read_said(alloc, first, text)?;
-    answer_said(alloc, first, name, seed, &said)
+    match ended_lines(alloc, text) {
+        Ok(mut lines) => answer_lines(alloc, first, name, seed, &mut lines),
+        Err(fault) => Err(refusal_fault(fault)),
+    }
 }

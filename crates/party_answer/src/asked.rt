@@ -1,112 +1,56 @@
-//! What an input asks: the party, its deal, its ledgers and its notes.
+//! What an input asks: who, of which deal, over which ledgers, with which notes.
 
-ghost use Rattle.std.specs.Prelude.{◌≡◌, ◌<◌, ◌≤◌, None, IfOk, IfSome, OnOk, drop, length, position};
+ghost use Rattle.std.specs.Prelude.{◌≡◌, ◌<◌, IfOk, OnOk, None, length};
 ghost use Rattle.std.specs.Str.{bytes_eq};
 ghost use Rattle.swap_base.specs.Fault.{Gives};
 ghost use Rattle.swap_digraph.specs.Deal.{IsWellSized};
 ghost use Rattle.ledger_core.specs.Book.{IsLegalBook};
-ghost use Rattle.ledger_core.specs.WellFormed.{IsWellFormed};
-ghost use Rattle.transcript_lines.specs.Between.{parts_at};
-ghost use Rattle.transcript_reader.specs.Header.{header_read, IsTold};
-ghost use Rattle.transcript_reader.specs.Reading.{parts_read, job_story};
-ghost use Rattle.transcript_reader.specs.Stages.{no_lines};
-ghost use Rattle.party_wallet.specs.Fits.{wrong_lock};
-ghost use Rattle.party_notes.specs.Notes.{notes_in};
-ghost use Rattle.party_notes.specs.Kept.{kept_state};
-ghost use Rattle.party_answer.specs.Asked.{by_reason, by_story, own_seed, party_named, replayed, said_in};
-ghost use Rattle.party_answer.specs.Inside.{inside_said, IsSaid};
+ghost use Rattle.party_wallet.specs.Fits.{wrong_lock as least_wrong};
+ghost use Rattle.party_wallet.specs.Value.{signed_in};
+ghost use Rattle.answer_rules.specs.Laws.{AreGoodKeys};
+ghost use Rattle.told_ledgers.specs.Telling.{ledgers_told, told_book};
+ghost use Rattle.party_terms.specs.Inside.{IsTold};
+ghost use Rattle.party_notes.specs.Inside.{kept_state};
+ghost use Rattle.party_answer.specs.Asked.{as_agreed, by_reason, by_refusal, own_seed, party_asked, said_asked};
+ghost use Rattle.party_answer.specs.Inside.{asked_question, said_state, IsAsked};
 
-use crate::reason::{AnswerFault, AnswerReason, nameless};
-use crate::shifted::later_refusal;
-use ledger_core::Book;
-use party_notes::{Kept, Note, Notes, kept_state, read_notes};
+use crate::reason::{AnswerFault, AnswerReason, reason_fault, refusal_fault};
+use crate::said::Said;
+use ledger_core::share_deal;
+use party_lines::party_named;
+use party_notes::{Kept, notes_kept};
 use party_wallet::Wallet;
-use refusals::{Reason, Refusal};
+use refusals::{HeaderFault, Reason, Refusal};
 use std::alloc::Global;
-use swap_auditor::replay_book;
-use swap_base::{ByteText, Digest, Fault, Listed, LockId, NoMemory, PartyId, TryCopy, find_place};
+use swap_base::{Digest, Fault, Listed, LockId, NoMemory, PartyId, Shared, TryCopy};
 use swap_digraph::Deal;
-use swap_job::Job;
-use transcript_reader::read_transcript;
+use told_ledgers::{ToldLedger, read_ledgers};
+use transcript_book::Parts;
 
-/// What an input says: the notes, and what its transcript states behind them.
-#[derive(Debug, Drop)]
-pub struct Said {
-    pub notes: Listed<Note>,
-    pub job: Job,
-    pub book: Book,
-    pub lines: u32,
+/// What is asked: the party of a deal, what is told of each ledger, what the party kept, and on which arcs it sent a publish.
+#[derive(Drop)]
+pub struct Asked {
+    pub deal: Shared<Deal>,
+    pub me: PartyId,
+    pub ledgers: Listed<ToldLedger>,
+    pub kept: Kept,
 }
 
-/// The job and the book of a transcript that stands behind so many lines.
-#[tactic(auto, unfolding(transcript_reader::specs::Reading::transcript_read))]
-fn read_story(alloc: Global, lines: u32, text: &[u8]) -> Result<(Job, Book), AnswerFault>
-    ensures exact { Gives job_story result (by_story lines (parts_read header_read no_lines (parts_at 10 text.now))) }
-    ensures told { IfOk result (λ p. IsTold p.0) }
-    ensures formed { IfOk result (λ p. IsWellFormed p.0.deal p.1.histories) }
+/// Whether the digest that was agreed on is that of what stands there.
+fn is_agreed(said: &Said) -> bool
+    ensures { result ≡ bytes_eq said.now.told said.now.agreed.digest }
 {
-    match read_transcript(alloc, text) {
-        Ok(story) => Ok(story),
-        Err(Fault::Refused(reason)) => Err(Fault::Refused(AnswerReason::Refused(later_refusal(
-            alloc, lines, reason,
-        )))),
-        Err(Fault::NoMemory) => Err(Fault::NoMemory),
-    }
+    said.told == said.agreed.digest
 }
 
-/// The notes at the front of a text. Its first line has this number.
-fn noted(alloc: Global, first: u32, text: &[u8]) -> Result<Notes, AnswerFault>
-    ensures exact { Gives (λ n. record { notes = n.list; rest = parts_at 10 (drop n.end text.now); next = n.next }) result
-        (by_reason (notes_in first (parts_at 10 text.now))) }
-    ensures within { IfOk result (λ n. n.end ≤ length text.now) }
+/// What stands in the input has to be what was agreed on.
+fn as_agreed(said: &Said) -> Result<(), AnswerFault>
+    ensures { Gives (λ u. u) result (as_agreed (said_state said.now)) }
 {
-    match read_notes(alloc, first, text) {
-        Ok(notes) => Ok(notes),
-        Err(fault) => Err(nameless(alloc, fault)),
-    }
-}
-
-/// What a text says. Its first line has this number.
-#[tactic(auto, unfolding(crate::specs::Asked::said_in))]
-pub(crate) fn read_said(alloc: Global, first: u32, text: &[u8]) -> Result<Said, AnswerFault>
-    ensures exact { Gives inside_said result (said_in first text.now) }
-    ensures said { IfOk result IsSaid }
-{
-    let notes = noted(alloc, first, text)?;
-    let lines = notes.next.saturating_sub(1);
-    let (job, book) = read_story(alloc, lines, &text[notes.end..])?;
-    Ok(Said {
-        notes: notes.list,
-        job,
-        book,
-        lines,
-    })
-}
-
-fn find_party(names: &[ByteText], name: &[u8]) -> Option<PartyId>
-    requires { length names.now ≤ 256 }
-    ensures exact { result ≡ position (bytes_eq name.now) names.now }
-    ensures below { IfSome result (λ p. p < length names.now) }
-{
-    match find_place(names, name) {
-        Some(place) => Some(place as PartyId),
-        None => None,
-    }
-}
-
-/// The party of that name.
-pub(crate) fn party_named(alloc: Global, said: &Said, name: &[u8]) -> Result<PartyId, AnswerFault>
-    requires { IsSaid said.now }
-    ensures exact { Gives (λ p. p) result (party_named (inside_said said.now) name.now) }
-    ensures party { IfOk result (λ p. p < said.now.job.deal.graph.n) }
-{
-    match find_party(said.job.names.as_slice(), name) {
-        Some(party) => Ok(party),
-        None => {
-            let name = ByteText::from_slice(alloc, name)?;
-            let reason = Reason::Unknown(said.lines.saturating_add(2), name);
-            Err(nameless(alloc, Fault::Refused(reason)))
-        }
+    if is_agreed(said) {
+        Ok(())
+    } else {
+        Err(Fault::Refused(AnswerReason::NotAgreed(said.agreed.digest)))
     }
 }
 
@@ -119,65 +63,113 @@ fn wrong_lock(
 ) -> Result<Option<LockId>, NoMemory>
     requires sized { IsWellSized deal.now }
     requires me { me < deal.now.graph.n }
-    ensures { IfOk result (λ o. o ≡ wrong_lock deal.now me seed.now) }
+    ensures { IfOk result (λ o. o ≡ least_wrong deal.now me seed.now) }
 {
     let wallet = Wallet::of(alloc, seed, me, deal)?;
     Ok(wallet.wrong_lock(deal))
 }
 
 /// The seed has to be the party's.
-pub(crate) fn own_seed(
-    alloc: Global,
-    said: &Said,
-    me: PartyId,
-    seed: &Digest,
-) -> Result<(), AnswerFault>
-    requires said { IsSaid said.now }
-    requires me { me < said.now.job.deal.graph.n }
-    ensures exact { Gives (λ u. u) result (own_seed (inside_said said.now) me seed.now) }
-    ensures fits { OnOk result (wrong_lock said.now.job.deal me seed.now ≡ None) }
+fn own_seed(alloc: Global, said: &Said, me: PartyId, seed: &Digest) -> Result<(), HeaderFault>
+    requires told { IsTold said.now.agreed.job }
+    requires me { me < said.now.agreed.job.deal.graph.n }
+    ensures exact { Gives (λ u. u) result (own_seed (said_state said.now) me seed.now) }
+    ensures fits { OnOk result (least_wrong said.now.agreed.job.deal me seed.now ≡ None) }
 {
-    match wrong_lock(alloc, &said.job.deal, me, seed)? {
+    match wrong_lock(alloc, &said.agreed.job.deal, me, seed)? {
         Some(lock) => {
-            let names = said.job.names.copy()?;
+            let names = said.agreed.job.names.copy()?;
             let reason = Reason::WrongWallet(me, lock);
-            Err(Fault::Refused(AnswerReason::Refused(Refusal { reason, names })))
+            Err(Fault::Refused(Refusal { reason, names }))
         }
         None => Ok(()),
     }
 }
 
-/// What the party kept and sent, by its notes. The first note is the line with this number.
-pub(crate) fn collect_kept(
+/// The party of that name with that seed, and what it kept and sent; the first note has that number.
+#[tactic(auto, unfolding(crate::specs::Asked::party_asked))]
+fn party_asked(
     alloc: Global,
-    said: &Said,
-    me: PartyId,
     first: u32,
-) -> Result<Kept, AnswerFault>
-    requires said { IsSaid said.now }
-    requires me { me < said.now.job.deal.graph.n }
-    ensures exact { Gives (λ k. record { keys = k.signed.keys; sent = k.sent }) result
-        (by_reason (kept_state said.now.job.deal me first said.now.notes)) }
-    ensures places { IfOk result (λ k. length k.signed.keys ≡ length said.now.job.deal.leaders) }
+    name: &[u8],
+    seed: &Digest,
+    said: &Said,
+) -> Result<(PartyId, Kept), HeaderFault>
+    requires { IsTold said.now.agreed.job }
+    ensures exact { Gives (λ p. (p.0, kept_state p.1)) result (party_asked first name.now seed.now (said_state said.now)) }
+    ensures party { IfOk result (λ p. p.0 < said.now.agreed.job.deal.graph.n) }
+    ensures fits { IfOk result (λ p. least_wrong said.now.agreed.job.deal p.0 seed.now ≡ None) }
+    ensures places { IfOk result (λ p. length p.1.signed.keys ≡ length said.now.agreed.job.deal.leaders) }
+    ensures good { IfOk result (λ p. AreGoodKeys said.now.agreed.job.deal p.0 (signed_in p.1.signed.keys)) }
 {
-    match kept_state(alloc, &said.job.deal, me, first, said.notes.as_slice()) {
-        Ok(kept) => Ok(kept),
-        Err(fault) => Err(nameless(alloc, fault)),
+    let job = &said.agreed.job;
+    let me = party_named(alloc, said.notes.next, job.names.as_slice(), name)?;
+    own_seed(alloc, said, me, seed)?;
+    let kept = notes_kept(alloc, &job.deal, me, first, said.notes.list.as_slice())?;
+    Ok((me, kept))
+}
+
+/// The same, with the fault that answers.
+fn party(
+    alloc: Global,
+    first: u32,
+    name: &[u8],
+    seed: &Digest,
+    said: &Said,
+) -> Result<(PartyId, Kept), AnswerFault>
+    requires { IsTold said.now.agreed.job }
+    ensures exact { Gives (λ p. (p.0, kept_state p.1)) result (by_refusal (party_asked first name.now seed.now (said_state said.now))) }
+    ensures party { IfOk result (λ p. p.0 < said.now.agreed.job.deal.graph.n) }
+    ensures fits { IfOk result (λ p. least_wrong said.now.agreed.job.deal p.0 seed.now ≡ None) }
+    ensures places { IfOk result (λ p. length p.1.signed.keys ≡ length said.now.agreed.job.deal.leaders) }
+    ensures good { IfOk result (λ p. AreGoodKeys said.now.agreed.job.deal p.0 (signed_in p.1.signed.keys)) }
+{
+    match party_asked(alloc, first, name, seed, said) {
+        Ok(found) => Ok(found),
+        Err(fault) => Err(refusal_fault(fault)),
     }
 }
 
-/// Every stated reply has to be the ledger's.
-pub(crate) fn replayed(alloc: Global, said: &Said) -> Result<(), AnswerFault>
-    requires { IsSaid said.now }
-    ensures exact { Gives (λ u. u) result (replayed (inside_said said.now)) }
-    ensures legal { OnOk result (IsLegalBook said.now.job.deal said.now.book.histories) }
+/// What is told of each ledger by the lines from the one of that number on.
+fn ledgers(
+    alloc: Global,
+    deal: &Shared<Deal>,
+    me: PartyId,
+    first: u32,
+    lines: &mut Parts<'_>,
+) -> Result<Listed<ToldLedger>, AnswerFault>
+    requires { IsWellSized deal.now }
+    ensures exact { Gives (λ t. t) result (by_reason (ledgers_told deal.now me first lines.old)) }
+    ensures legal { IfOk result (λ t. IsLegalBook deal.now (told_book t)) }
 {
-    match replay_book(alloc, &said.job.deal, &said.book) {
-        Ok(()) => Ok(()),
-        Err(Fault::Refused(bad)) => {
-            let reason = Reason::BadReply(bad.arc, bad.entry, bad.stated, bad.replayed);
-            Err(nameless(alloc, Fault::Refused(reason)))
-        }
-        Err(Fault::NoMemory) => Err(Fault::NoMemory),
+    match read_ledgers(alloc, deal, me, first, lines) {
+        Ok(told) => Ok(told),
+        Err(fault) => Err(reason_fault(alloc, fault)),
     }
+}
+
+/// What is asked by what an input says, whose first line has that number, and by the lines behind.
+#[tactic(auto, unfolding(crate::specs::Asked::said_asked))]
+pub(crate) fn said_asked(
+    alloc: Global,
+    first: u32,
+    name: &[u8],
+    seed: &Digest,
+    said: &Said,
+    lines: &mut Parts<'_>,
+) -> Result<Asked, AnswerFault>
+    requires { IsTold said.now.agreed.job }
+    ensures exact { Gives (asked_question seed.now) result (said_asked first name.now seed.now (said_state said.now, lines.old)) }
+    ensures asked { IfOk result (IsAsked seed.now) }
+{
+    as_agreed(said)?;
+    let (me, kept) = party(alloc, first.saturating_add(1), name, seed, said)?;
+    let deal = share_deal(alloc, &said.agreed.job.deal)?;
+    let ledgers = ledgers(alloc, &deal, me, said.agreed.next, lines)?;
+    Ok(Asked {
+        deal,
+        me,
+        ledgers,
+        kept,
+    })
 }

@@ -1,17 +1,22 @@
-//! The party's own wallet as a function over bytes: what a wallet wrote down and what each ledger did so far go in, and all that is due comes out.
+//! The party's own wallet as a function over bytes: what a wallet wrote down and what each ledger did so far go in, and all that is useful comes out.
 //!
-//! It watches no chain and keeps nothing: whatever a wallet must not lose is in what it hands over. Of an input all is examined, each reply too.
+//! It watches no chain and keeps nothing: whatever a wallet must not lose is in what it hands over.
 //!
-//! Read `specs/Asked.antt` first: what an input asks, or the first reason against it; then `specs/Text.antt`: the lines that answer it. What a wallet is
-//! promised that keeps to them stands in `wallet_promise`.
+//! Read `specs/Asked.antt` first: what an input asks, or the first reason against it; then `specs/Lines.antt` and `specs/Text.antt`: the text that answers it; and
+//! `specs/Promised.antt`: what holds of an answer. What a wallet is promised that keeps to them stands in `wallet_promise` and `told_lives`.
 #![tactic(auto)]
 
 mod answering;
-mod answers;
 mod asked;
+mod calls;
+mod given;
+mod line;
 mod reason;
-mod shifted;
+mod said;
+mod text;
+mod timed;
 mod unkept;
 
 pub use answering::answer;
+pub use given::Answer;
 pub use reason::{AnswerFault, AnswerReason};

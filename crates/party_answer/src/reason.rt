@@ -1,33 +1,40 @@
 //! Why an input isn't answered.
 
 ghost use Rattle.std.specs.Prelude.{◌≡◌};
-ghost use Rattle.party_answer.specs.Faults.{nameless_fault};
+ghost use Rattle.party_answer.specs.Faults.{reason_fault, refusal_fault};
 
-use refusals::{OfferFault, Refusal};
+use refusals::{HeaderFault, OfferFault, Refusal, nameless};
 use std::alloc::Global;
-use swap_base::{ArcId, Fault, Listed};
+use swap_base::{Digest, Fault};
 
 /// Why an input isn't answered.
 #[derive(Debug, Drop)]
 pub enum AnswerReason {
-    /// As an audit refuses a transcript, or a job's header its wallets. Lines are counted from the input's first.
+    /// The first reason against a line. Lines are counted from the input's first.
     Refused(Refusal),
-    /// That entry of that arc's ledger is a call of the party with a hashkey that it never kept: somebody else has its seed, or what it kept is lost.
-    NotKept(ArcId, u32),
+    /// What stands in the input has this digest, and not the one that was agreed on.
+    NotAgreed(Digest),
 }
 
 /// Why an input isn't answered: a reason, or want of memory.
 pub type AnswerFault = Fault<AnswerReason>;
 
-/// A fault whose reason speaks of no party by its number.
-pub(crate) fn nameless(alloc: Global, fault: OfferFault) -> AnswerFault
-    ensures { result ≡ nameless_fault fault }
+/// The fault of a refusal.
+pub(crate) fn refusal_fault(fault: HeaderFault) -> AnswerFault
+    ensures { result ≡ refusal_fault fault }
 {
     match fault {
-        Fault::Refused(reason) => Fault::Refused(AnswerReason::Refused(Refusal {
-            reason,
-            names: Listed::empty(alloc),
-        })),
+        Fault::Refused(refusal) => Fault::Refused(AnswerReason::Refused(refusal)),
+        Fault::NoMemory => Fault::NoMemory,
+    }
+}
+
+/// The fault of a reason that speaks of no party by its number.
+pub(crate) fn reason_fault(alloc: Global, fault: OfferFault) -> AnswerFault
+    ensures { result ≡ reason_fault fault }
+{
+    match fault {
+        Fault::Refused(reason) => Fault::Refused(AnswerReason::Refused(nameless(alloc, reason))),
         Fault::NoMemory => Fault::NoMemory,
     }
 }

@@ -1,21 +1,29 @@
 //! Unlocks of a party with hashkeys that it never kept.
 
-ghost use Rattle.std.specs.Prelude.{◌≡◌, ◌≤◌, length, option_copied};
-ghost use Rattle.history_index.specs.Indexes.{all_entries};
+ghost use Rattle.std.specs.Prelude.{◌≡◌, ◌≤◌, ◌||◌, IfOk, OnOk, length, option_copied};
+ghost use Rattle.swap_rules.specs.Conduct.{is_first_key as is_first};
+ghost use Rattle.answer_rules.specs.Stopped.{is_stopped as stops_call};
 ghost use Rattle.party_wallet.specs.Value.{signed_in};
-ghost use Rattle.wallet_promise.specs.Life.{is_kept};
-ghost use Rattle.party_answer.specs.Asked.{first_unkept, is_unkept, unkept_from};
-ghost use Rattle.party_answer.specs.Unkept.{unkept_key, unkept_made};
+ghost use Rattle.party_answer.specs.Unkept.{all_unkept, has_lock, is_lock_unkept, with_ledgers, with_unlock, with_unlocks};
 
 use hashkey_path::Hashkey;
-use history_index::{Index, Made};
 use ledger_core::Call;
 use party_wallet::Signed;
-use sent_keys::{is_first_key, pick_call};
-use swap_base::{ArcId, LockId, PartyId};
+use sent_keys::is_first_key;
+use std::alloc::Global;
+use swap_base::{ArcId, LockId, NoMemory};
+use told_ledgers::{OwnUnlock, ToldLedger};
+
+/// The first unlock for that lock on the arc with a hashkey that isn't the one that was kept, by its number among all lines of the arc's ledger.
+#[derive(Clone, Copy, Debug, PartialEq, Eq)]
+pub struct Unkept {
+    pub arc: ArcId,
+    pub entry: u32,
+    pub lock: LockId,
+}
 
 /// The hashkey that was kept for the lock, if any.
-fn kept_key(kept: &Signed, lock: LockId) -> Option<&Hashkey>
+pub(crate) fn kept_key(kept: &Signed, lock: LockId) -> Option<&Hashkey>
     ensures { option_copied result ≡ signed_in kept.now.keys lock }
 {
     match kept.keys.as_slice().get(lock as usize) {
@@ -24,72 +32,87 @@ fn kept_key(kept: &Signed, lock: LockId) -> Option<&Hashkey>
     }
 }
 
-/// The hashkey that a call presents, where it isn't the one that was kept for its lock.
-pub(crate) fn unkept_key<'a>(kept: &Signed, call: &'a Call) -> Option<&'a Hashkey>
-    ensures { option_copied result ≡ unkept_key (signed_in kept.now.keys) call.now }
+/// Whether the hashkey is the one that was kept for its lock.
+fn is_kept_key(kept: &Signed, key: &Hashkey) -> bool
+    ensures { result ≡ is_first (signed_in kept.now.keys key.now.lock) key.now }
+{
+    is_first_key(kept_key(kept, key.lock), key)
+}
+
+/// Whether one of them is for the lock on the arc.
+fn has_lock(list: &[Unkept], arc: ArcId, lock: LockId) -> bool
+    ensures { result ≡ has_lock list.now arc lock }
+{
+    list.iter()
+        .any(|unkept| unkept.arc == arc && unkept.lock == lock)
+}
+
+/// Adds the unlock on the arc, where its hashkey isn't the one that was kept, and it is the first of its arc and lock.
+fn add_unlock(
+    kept: &Signed,
+    arc: ArcId,
+    list: &mut Vec<Unkept>,
+    unlock: &OwnUnlock,
+) -> Result<(), NoMemory>
+    ensures { OnOk result (list.new.items ≡ with_unlock (signed_in kept.now.keys) arc list.old.items unlock.now) }
+{
+    let lock = unlock.key.lock;
+    if !is_kept_key(kept, &unlock.key) && !has_lock(list, arc, lock) {
+        list.push(Unkept {
+            arc,
+            entry: unlock.entry,
+            lock,
+        })?;
+    }
+    Ok(())
+}
+
+/// Adds those of these unlocks on the arc.
+fn add_unlocks(
+    kept: &Signed,
+    arc: ArcId,
+    list: &mut Vec<Unkept>,
+    unlocks: &[OwnUnlock],
+) -> Result<(), NoMemory>
+    ensures { OnOk result (list.new.items ≡ with_unlocks (signed_in kept.now.keys) arc list.old.items unlocks.now) }
+{
+    for unlock in unlocks {
+        add_unlock(kept, arc, list, unlock)?;
+    }
+    Ok(())
+}
+
+/// The first unlock of each arc and lock with a hashkey that isn't the one that was kept, by arc and entry.
+pub(crate) fn all_unkept(
+    alloc: Global,
+    kept: &Signed,
+    ledgers: &[ToldLedger],
+) -> Result<Vec<Unkept>, NoMemory>
+    requires { length ledgers.now ≤ 256 }
+    ensures { IfOk result (λ v. v.items ≡ all_unkept (signed_in kept.now.keys) ledgers.now) }
+{
+    let mut list = Vec::new(alloc);
+    let mut arc: u32 = 0;
+    for ledger in ledgers {
+        add_unlocks(kept, arc as ArcId, &mut list, ledger.unlocks.as_slice())?;
+        arc += 1;
+    }
+    Ok(list)
+}
+
+/// Whether one of them is for the lock.
+fn is_lock_unkept(list: &[Unkept], lock: LockId) -> bool
+    ensures { result ≡ is_lock_unkept list.now lock }
+{
+    list.iter().any(|unkept| unkept.lock == lock)
+}
+
+/// Whether the call is an unlock for such a lock.
+pub(crate) fn is_stopped(list: &[Unkept], call: &Call) -> bool
+    ensures { result ≡ stops_call (is_lock_unkept list.now) call.now }
 {
     match call {
-        Call::Unlock(key) => {
-            if is_first_key(kept_key(kept, key.lock), key) {
-                None
-            } else {
-                Some(key)
-            }
-        }
-        _ => None,
+        Call::Unlock(key) => is_lock_unkept(list, key.lock),
+        _ => false,
     }
-}
-
-/// Whether the hashkey of a call, if it presents one, is the one that was kept for its lock.
-fn is_kept(kept: &Signed, call: &Call) -> bool
-    ensures { result ≡ is_kept (signed_in kept.now.keys) call.now }
-{
-    match call {
-        Call::Unlock(key) => is_first_key(kept_key(kept, key.lock), key),
-        _ => true,
-    }
-}
-
-/// Whether the call, if there is one, presents a hashkey that wasn't kept.
-fn is_unkept(kept: &Signed, call: Option<&Call>) -> bool
-    ensures { result ≡ is_unkept (signed_in kept.now.keys) (option_copied call.entry) }
-{
-    match call {
-        Some(call) => !is_kept(kept, call),
-        None => false,
-    }
-}
-
-/// The number of the first of these calls that is the party's, and presents a hashkey that wasn't kept.
-fn find_unkept_call(kept: &Signed, me: PartyId, calls: &[Made]) -> Option<u32>
-    ensures { result ≡ unkept_made (signed_in kept.now.keys) me calls.now }
-{
-    for made in calls {
-        if is_unkept(kept, pick_call(me, &made.entry)) {
-            return Some(made.number);
-        }
-    }
-    None
-}
-
-/// The number of the party's first call on an arc that presents a hashkey which wasn't kept.
-#[tactic(auto, using(crate::proofs::Keeping::made_unkept))]
-fn find_unkept(kept: &Signed, me: PartyId, index: &Index) -> Option<u32>
-    ensures { result ≡ unkept_from (signed_in kept.now.keys) me 0 index.now.entries }
-{
-    find_unkept_call(kept, me, index.made())
-}
-
-/// The arc and the number of the first call of the party, by arc and entry, that presents a hashkey which wasn't kept.
-pub(crate) fn first_unkept(kept: &Signed, me: PartyId, known: &[Index]) -> Option<(ArcId, u32)>
-    requires { length known.now ≤ 256 }
-    ensures { result ≡ first_unkept (signed_in kept.now.keys) me 0 (all_entries known.now) }
-{
-    'arcs: for arc in 0..known.len() {
-        match find_unkept(kept, me, &known[arc]) {
-            Some(entry) => return Some((arc as ArcId, entry)),
-            None => {}
-        }
-    }
-    None
 }

@@ -6,12 +6,10 @@ use Rattle.memchr.specs.Find.{NoneBefore, Nowhere, Passes, is_byte}
 use Rattle.swap_base.specs.declared.fault.Fault.{Fault}
 use Rattle.swap_base.specs.declared.fault.Fault.TheVariants.{Refused}
 use Rattle.swap_base.specs.Fault.{◌>>=◌, Fails, Gives}
-use Rattle.refusals.specs.declared.reason.Reason.TheVariants.{CutShort}
+use Rattle.party_answer.specs.declared.given.Answer.{Answer}
 use Rattle.party_answer.specs.declared.reason.AnswerReason.{AnswerReason}
-use Rattle.party_answer.specs.Asked.{nameless}
 use Rattle.party_answer.specs.Promised.{IsAnswer}
-use Rattle.party_main.specs.Input.{Cut, answer_parts, answered, cut, make_seed}
-use Rattle.party_main.specs.Says.{IsAnswerOf, IsPromised}
+use Rattle.party_main.specs.Next.{Cut, answer_parts, cut, cut_short, ended_output, read_seed_line, IsInputAnswer, IsPartsAnswer}
 
 not_true : (t : Bool) → ¬ (t ≡ true) → t ≡ false
 not_true true h = absurd (h refl)
@@ -39,24 +37,24 @@ found (x ∷ xs) (suc i) lt here before =
     ap (here_or x xs) (before 0 (omega arith))
     ∙ ap (λ (r : Result Cut AnswerReason). r >>= λ c. Ok (longer x c)) (found xs i (omega arith) here (λ k below. before (suc k) (omega arith)))
 
-none : (xs : List ℕ) → ((k : ℕ) → k < length xs → (slice_index xs k == 10) ≡ false) → cut xs ≡ Err (nameless CutShort)
+none : (xs : List ℕ) → ((k : ℕ) → k < length xs → (slice_index xs k == 10) ≡ false) → cut xs ≡ Err cut_short
 none [] nowhere = refl
 none (x ∷ xs) nowhere =
     ap (here_or x xs) (nowhere 0 (omega arith))
     ∙ ap (λ (r : Result Cut AnswerReason). r >>= λ c. Ok (longer x c)) (none xs (λ k below. nowhere (suc k) (omega arith)))
 
 -- No line feed stands in it.
-pub cut_short : (name input : List ℕ) (fault : Fault AnswerReason) → Nowhere (Passes (is_byte 10) input) 0 (length input)
-    → fault ≡ Refused (nameless CutShort) → Fails fault (answered name input)
-unfolding answered
-cut_short name input fault nowhere is =
+pub is_cut_short : (name input : List ℕ) (fault : Fault AnswerReason) → Nowhere (Passes (is_byte 10) input) 0 (length input)
+    → fault ≡ Refused cut_short → Fails fault (ended_output name input)
+unfolding ended_output
+is_cut_short name input fault nowhere is =
     subst (λ (f : Fault AnswerReason). Fails f (cut input >>= answer_parts name)) (sym is)
     (ap (λ (r : Result Cut AnswerReason). r >>= answer_parts name)
     (none input (λ k below. not_true (slice_index input k == 10) (nowhere k (omega arith) below))))
 
 -- The first line feed stands there.
 module _ (name input line rest : List ℕ) (end : ℕ) (before : NoneBefore (Passes (is_byte 10) input) 0 (length input) end) (here : Passes (is_byte 10) input end)
-    (is_line : line ≡ take end input) (is_rest : rest ≡ drop (end + 1) input) (r : Result (List ℕ) (Fault AnswerReason)) where
+    (is_line : line ≡ take end input) (is_rest : rest ≡ drop (end + 1) input) (r : Result Answer (Fault AnswerReason)) where
   abbrev parts : Cut
   parts = record { line = line; rest = rest }
 
@@ -65,16 +63,16 @@ module _ (name input line rest : List ℕ) (end : ℕ) (before : NoneBefore (Pas
       let k = found input end before.high here (λ k below. not_true (slice_index input k == 10) (before.before k (omega arith) below)) in
       rw (is_line, is_rest, add-one) k
 
-  pub gives_cut : Gives (λ t. t) r (answer_parts name parts) → Gives (λ t. t) r (answered name input)
-  unfolding answered
+  pub gives_cut : Gives (λ a. a) r (answer_parts name parts) → Gives (λ a. a) r (ended_output name input)
+  unfolding ended_output
   gives_cut g =
-      subst (λ (x : Result (List ℕ) AnswerReason). Gives (λ t. t) r x) (sym (ap (λ (x : Result Cut AnswerReason). x >>= answer_parts name) is_cut)) g
+      subst (λ (x : Result Answer AnswerReason). Gives (λ a. a) r x) (sym (ap (λ (x : Result Cut AnswerReason). x >>= answer_parts name) is_cut)) g
 
-  pub promised_cut : IfOk r (λ t. IsAnswerOf name parts t) → IfOk r (λ t. IsPromised name input t)
-  promised_cut p = on_ok r (λ t. IsAnswerOf name parts t) (λ t. IsPromised name input t) (λ t k. record { parts = parts; cut = is_cut; answer = k }) p
+  pub promised_cut : IfOk r (λ t. IsPartsAnswer name parts t) → IfOk r (λ t. IsInputAnswer name input t)
+  promised_cut p = on_ok r (λ t. IsPartsAnswer name parts t) (λ t. IsInputAnswer name input t) (λ t k. record { parts = parts; cut = is_cut; is = k }) p
 
-pub computed_answer : (name line rest seed : List ℕ) (r : Result (List ℕ) (Fault AnswerReason)) → make_seed line ≡ Ok seed
-    → IfOk r (λ t. IsAnswer 2 name seed rest t) → IfOk r (λ t. IsAnswerOf name (record { line = line; rest = rest }) t)
-computed_answer name line rest seed r told p =
-    on_ok r (λ t. IsAnswer 2 name seed rest t) (λ t. IsAnswerOf name (record { line = line; rest = rest }) t)
-    (λ t k. record { seed = seed; told = told; answer = k }) p
+pub seed_answer : (name line rest seed : List ℕ) (r : Result Answer (Fault AnswerReason)) → read_seed_line line ≡ Ok seed
+    → IfOk r (λ t. IsAnswer 2 name seed rest t) → IfOk r (λ t. IsPartsAnswer name (record { line = line; rest = rest }) t)
+seed_answer name line rest seed r told p =
+    on_ok r (λ t. IsAnswer 2 name seed rest t) (λ t. IsPartsAnswer name (record { line = line; rest = rest }) t)
+    (λ t k. record { seed = seed; told = told; is = k }) p

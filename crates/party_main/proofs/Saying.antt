@@ -1,38 +1,34 @@
 -- What a status says, by how its parts ended.
-use Rattle.std.proofs.Common.{◌≡◌, ◌≤◌, ℕ, List, [], ◌∷◌, length, get_or, Option, Result, Ok, refl, sym, ap, arith}
+use Rattle.std.proofs.Common.{◌≡◌, ◌≤◌, ℕ, true, false, List, length, Option, Some, Result, Ok, sym, subst}
 use Rattle.std.specs.Io.KnownBytes.{Appends, Consumes, IsAtEnd}
 use Rattle.swap_io.specs.Causes.{AppendsProperPrefix}
-use Rattle.party_answer.specs.declared.reason.AnswerReason.{AnswerReason}
-use Rattle.party_main.specs.declared.top.PartyStatus.{PartyStatus}
-use Rattle.party_main.specs.declared.top.PartyStatus.TheVariants.{Done, WrongWords, Refused, ReadFault, WriteFault, NoMemory, TooLong}
-use Rattle.party_main.specs.Input.{answered}
-use Rattle.command_input.specs.Input.{limit}
 use Rattle.command_input.specs.Streams.{streams}
-use Rattle.party_main.specs.Says.{HasAnswer, HasText, IsPromised, Says, Writes}
+use Rattle.party_answer.specs.declared.given.Answer.{Answer}
+use Rattle.party_main.specs.declared.command.Command.{Command}
+use Rattle.party_main.specs.declared.reason.PartyReason.{PartyReason}
+use Rattle.party_main.specs.declared.top.PartyStatus.{PartyStatus}
+use Rattle.party_main.specs.declared.top.PartyStatus.TheVariants.{Done, Warned, WrongWords, Refused, ReadFault, WriteFault, NoMemory, TooLong}
+use Rattle.party_main.specs.Words.{words_command, read_limit}
+use Rattle.party_main.specs.Output.{command_output, IsPromised}
+use Rattle.party_main.specs.Says.{HasAnswer, HasText, Says, Writes}
 
--- The whole input was read.
-module _ (name input : List ℕ) (left left' : Option (List ℕ)) (n m : ℕ) (taken : Option (List ℕ)) (took : Consumes left left' input) (ended : IsAtEnd left')
-    (within : length input ≤ limit) where
-  abbrev read : (answer : Result (List ℕ) AnswerReason) → answered name input ≡ answer → HasAnswer (name ∷ []) left left' answer
-  read answer e = record { name = name; one = refl; input = input; taken = took; ended = ended; within = within; gives = e }
+-- The whole input was read for a command.
+module _ (words : List (List ℕ)) (command : Command) (asked : words_command words ≡ Some command) (input : List ℕ) (left left' : Option (List ℕ))
+    (took : Consumes left left' input) (ended : IsAtEnd left') (within : length input ≤ read_limit command) where
+  abbrev read : (answer : Result Answer PartyReason) → command_output command input ≡ answer → HasAnswer words left left' answer
+  read answer e = record { command = command; asked = asked; input = input; taken = took; ended = ended; within = within; gives = e }
 
-  text_is : (P : List ℕ → Type 0) (text : List ℕ) → answered name input ≡ Ok text → IsPromised name input text → P text
-      → HasText P (name ∷ []) left left'
-  text_is P text e promised w = record { text = text; read = read (Ok text) e; promised = promised; written = w }
+  -- this is written of it
+  module _ (n m p q : ℕ) (taken taken' : Option (List ℕ)) (w : Answer) (is : command_output command input ≡ Ok w) (promised : IsPromised command input w) where
+    has_text : (P : Answer → Type 0) → P w → HasText P words left left'
+    has_text P k = record { what = w; read = read (Ok w) is; promised = promised; written = k }
 
-  -- it is answered
-  pub says_text : (taken' : Option (List ℕ)) (p q : ℕ) (text : List ℕ) → answered name input ≡ Ok text → IsPromised name input text → (s : PartyStatus)
-      → Writes taken taken' p q text s → Says (name ∷ []) (streams left n taken p) (streams left' m taken' q) s
-  says_text taken' p q text e promised Done w = text_is (Appends taken taken') text e promised w
-  says_text taken' p q text e promised WriteFault w = (w.0, text_is (AppendsProperPrefix taken taken') text e promised w.1)
-  says_text taken' p q text e promised WrongWords w = absurd w
-  says_text taken' p q text e promised (Refused reason) w = absurd w
-  says_text taken' p q text e promised ReadFault w = absurd w
-  says_text taken' p q text e promised NoMemory w = absurd w
-  says_text taken' p q text e promised TooLong w = absurd w
-
--- one word
-pub one_word : (xs : List (List ℕ)) (x : List ℕ) → length xs ≡ 1 → x ≡ get_or xs 0 x → xs ≡ x ∷ []
-one_word [] x one is = absurd (omega (arith, one))
-one_word (y ∷ []) x one is = ap (λ (z : List ℕ). z ∷ []) (sym is)
-one_word (y ∷ z ∷ xs) x one is = absurd (omega (arith, one))
+    pub says_text : (s : PartyStatus) → Writes taken taken' p q w s → Says words (streams left n taken p) (streams left' m taken' q) s
+    says_text Done k = has_text (λ x. (x.warns ≡ false) × Appends taken taken' x.text) k
+    says_text Warned k = has_text (λ x. (x.warns ≡ true) × Appends taken taken' x.text) k
+    says_text WriteFault k = (k.0, has_text (λ x. AppendsProperPrefix taken taken' x.text) k.1)
+    says_text WrongWords k = absurd k
+    says_text (Refused reason) k = absurd k
+    says_text ReadFault k = absurd k
+    says_text NoMemory k = absurd k
+    says_text TooLong k = absurd k

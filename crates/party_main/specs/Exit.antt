@@ -1,16 +1,15 @@
 -- How the program `party` ends: the number of its status, and what it tells on standard error.
-use Rattle.std.specs.Prelude.{◌≡◌, ℕ, List, [], ◌∷◌, codes, decimal}
-use Rattle.swap_base.specs.Text.{joined}
+use Rattle.std.specs.Prelude.{◌≡◌, ℕ, List, [], codes}
 use Rattle.command_input.specs.declared.exit.Exit.{Exit}
-use Rattle.command_input.specs.Told.{refusal_text, told_text}
-use Rattle.party_answer.specs.declared.reason.AnswerReason.{AnswerReason}
-use Rattle.party_answer.specs.declared.reason.AnswerReason.TheVariants as reasons
+use Rattle.command_input.specs.Told.{told_text}
 use Rattle.party_main.specs.declared.top.PartyStatus.{PartyStatus}
-use Rattle.party_main.specs.declared.top.PartyStatus.TheVariants.{Done, WrongWords, Refused, ReadFault, WriteFault, NoMemory, TooLong}
+use Rattle.party_main.specs.declared.top.PartyStatus.TheVariants.{Done, Warned, WrongWords, Refused, ReadFault, WriteFault, NoMemory, TooLong}
+use Rattle.party_main.specs.Reasons.{reason_line}
 
 -- the number of a status: those of `swap`
 abbrev pub exit_number : PartyStatus → ℕ
 exit_number Done = 0
+exit_number Warned = 1
 exit_number WrongWords = 2
 exit_number (Refused reason) = 3
 exit_number ReadFault = 4
@@ -18,15 +17,11 @@ exit_number WriteFault = 5
 exit_number NoMemory = 6
 exit_number TooLong = 7
 
--- the line of a reason
-abbrev pub reason_line : AnswerReason → List ℕ
-reason_line (reasons.Refused r) = refusal_text r.names r.reason
-reason_line (reasons.NotKept a n) = joined (codes "swap: refused: NotKept " ∷ decimal a ∷ codes " " ∷ decimal n ∷ codes "\n" ∷ [])
-
 -- the lines of standard error
 unfoldable pub error_lines : PartyStatus → List ℕ
 error_lines Done = []
-error_lines WrongWords = codes "swap: wrong words\nusage: party NAME\n"
+error_lines Warned = []
+error_lines WrongWords = codes "swap: wrong words\nusage: party keys NAME | deal | terms NAME | next NAME\n"
 error_lines (Refused reason) = reason_line reason
 error_lines ReadFault = codes "swap: read fault\n"
 error_lines WriteFault = codes "swap: write fault\n"

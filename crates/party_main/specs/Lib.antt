@@ -1,3 +1,6 @@
-pub mod Input
+pub mod Words
+pub mod Reasons
+pub mod Next
+pub mod Output
 pub mod Says
 pub mod Exit

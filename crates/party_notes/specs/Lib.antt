@@ -1,2 +1,3 @@
 pub mod Notes
 pub mod Kept
+pub mod Inside

@@ -1,74 +1,78 @@
--- What a wallet wrote down, a line each: the lines before the first that begins with neither word.
-use Rattle.std.specs.Prelude.{◌+◌, ◌-◌, ◌^◌, ℕ, List, [], ◌∷◌, codes, min, Option, Some, None, Result, Ok, Err, if◌then◌else◌}
+-- What a wallet wrote down, a line each, in any order: the lines before the first that begins with neither word.
+use Rattle.std.specs.Prelude.{ℕ, Bool, false, ◌||◌, List, [], ◌∷◌, ◌++◌, codes, Result, Ok, Err, if◌then◌else◌}
 use Rattle.swap_base.specs.Fault.{◌>>=◌}
-use Rattle.ledger_core.specs.declared.entry.Call.{Call}
-use Rattle.ledger_core.specs.declared.entry.Call.TheVariants.{Unlock}
-use Rattle.refusals.specs.declared.reason.Reason.{Reason}
-use Rattle.refusals.specs.declared.reason.Reason.TheVariants.{BadLine}
+use Rattle.refusals.specs.declared.refusal.Refusal.{Refusal}
 use Rattle.transcript_lines.specs.declared.said.Misspelling.{Misspelling}
 use Rattle.transcript_lines.specs.Between.{parts_at}
-use Rattle.transcript_lines.specs.Reading.{misspelt, bounded_number, field_of, first_field, is_word, key_of, nothing_more}
+use Rattle.transcript_lines.specs.Reading.{misspelt, bounded_number, number_of, to_digest, parse_signature, inside_entries, field_of, first_field}
+use Rattle.transcript_lines.specs.Reading.{is_word, nothing_more}
+use Rattle.party_lines.specs.Lines.{next_number, read_in_own_line}
+use Rattle.party_lines.specs.Digests.{this_word}
 use Rattle.party_notes.specs.declared.note.Note.{Note}
 use Rattle.party_notes.specs.declared.note.Note.TheVariants.{Keep, Sent}
 
--- the note of a hashkey that was kept
-abbrev pub kept_note : Call → Result (Option Note) Misspelling
-kept_note (Unlock key) = Ok (Some (Keep key))
-kept_note _ = misspelt
+-- `by B until U`, and the fields after it: the heights are numbers that are read and not used
+unfoldable pub heights_told : List (List ℕ) → Result (Unit {0} × List (List ℕ)) Misspelling
+heights_told ws = do
+  by ← field_of (this_word (codes "by")) ws
+  last ← field_of number_of by.1
+  until ← field_of (this_word (codes "until")) last.1
+  end ← field_of number_of until.1
+  Ok (tt, end.1)
 
--- the lock, the secret, the path and the signatures of a hashkey that was kept, in the words of a transcript's unlock
-unfoldable pub keep_said : List (List ℕ) → Result (Option Note) Misspelling
-keep_said ws = do
-  call ← key_of ws
-  u ← nothing_more call.1
-  kept_note call.0
+-- `LOCK by B until U SECRET PATH SIGS`, as it was answered: a hashkey that was kept
+unfoldable pub keep_noted : List (List ℕ) → Result Note Misspelling
+keep_noted ws = do
+  lock ← field_of (bounded_number 256) ws
+  heights ← heights_told lock.1
+  secret ← field_of to_digest heights.1
+  path ← field_of (inside_entries (bounded_number 256)) secret.1
+  sigs ← field_of (inside_entries parse_signature) path.1
+  u ← nothing_more sigs.1
+  Ok (Keep (record { lock = lock.0; secret = secret.0; path = path.0; sigs = sigs.0 }))
 
--- the arc on which a publish was sent
-unfoldable pub sent_said : List (List ℕ) → Result (Option Note) Misspelling
-sent_said ws = do
+-- `ARC`: a publish went out on that arc, or may have
+unfoldable pub sent_noted : List (List ℕ) → Result Note Misspelling
+sent_noted ws = do
   arc ← field_of (bounded_number 256) ws
   u ← nothing_more arc.1
-  Ok (Some (Sent arc.0))
+  Ok (Sent arc.0)
 
-abbrev pub parse_said : List ℕ → List (List ℕ) → Result (Option Note) Misspelling
-parse_said w ws = if is_word w (codes "keep") then keep_said ws else if is_word w (codes "sent") then sent_said ws else Ok None
+abbrev pub noted_after : List ℕ → List (List ℕ) → Result Note Misspelling
+noted_after w ws = if is_word w (codes "keep") then keep_noted ws else if is_word w (codes "sent") then sent_noted ws else misspelt
 
--- what the fields of a line note, none where it begins with neither word
-unfoldable pub words_noted : List (List ℕ) → Result (Option Note) Misspelling
+-- what the fields of a line note
+unfoldable pub words_noted : List (List ℕ) → Result Note Misspelling
 words_noted ws = do
   first ← first_field ws
-  parse_said first.0 first.1
+  noted_after first.0 first.1
 
--- what a line notes
-unfoldable pub parse_note : List ℕ → Result (Option Note) Misspelling
-parse_note line = words_noted (parts_at 32 line)
+-- what the line of number n notes
+unfoldable pub line_noted : ℕ → List ℕ → Result Note Refusal
+line_noted n line = read_in_own_line n (words_noted (parts_at 32 line))
 
--- The notes of a text, the parts after them, and the number of the first of these among all lines.
-pub record Noted : Type 0 where
-  pub notes : List Note
-  pub rest : List (List ℕ)
+abbrev pub begins_note : List (List ℕ) → Bool
+begins_note [] = false
+begins_note (w ∷ ws) = is_word w (codes "keep") || is_word w (codes "sent")
+
+-- the first word of the line is `keep` or `sent`
+unfoldable pub is_note : List ℕ → Bool
+is_note line = begins_note (parts_at 32 line)
+
+-- Notes, and the number of the line behind them.
+pub record NotesState : Type 0 where
+  pub list : List Note
   pub next : ℕ
 
-abbrev pub next_number : ℕ → ℕ
-next_number n = min (n + 1) (2 ^ 32 - 1)
+abbrev pub notes_behind : ℕ → List Note → List (List ℕ) → Result (NotesState × List (List ℕ)) Refusal
+notes_behind n list ls = Ok (record { list = list; next = n }, ls)
 
--- with one more note before them
-abbrev pub with_first : Note → Noted → Noted
-with_first x r = record { notes = x ∷ r.notes; rest = r.rest; next = r.next }
+-- with the notes that stand first among these lines, of which the first has the number n, and the lines behind them
+abbrev pub with_lines : ℕ → List Note → List (List ℕ) → Result (NotesState × List (List ℕ)) Refusal
+with_lines n list [] = notes_behind n list []
+with_lines n list (l ∷ ls) =
+    if is_note l then (line_noted n l >>= λ x. with_lines (next_number n) (list ++ x ∷ []) ls) else notes_behind n list (l ∷ ls)
 
--- what the line of number n is among these parts, where further gives the notes after it
-abbrev pub noted_by : ℕ → List (List ℕ) → Result (Option Note) Misspelling → Result Noted Reason → Result Noted Reason
-noted_by n parts (Err e) further = Err (BadLine n)
-noted_by n parts (Ok None) further = Ok (record { notes = []; rest = parts; next = n })
-noted_by n parts (Ok (Some x)) further = further >>= λ r. Ok (with_first x r)
-
--- the notes at the front of these parts of a text, the first of which has the number n; the last part is ended by no line feed, and is no note
-abbrev pub notes_in : ℕ → List (List ℕ) → Result Noted Reason
-notes_in n [] = Ok (record { notes = []; rest = []; next = n })
-notes_in n (part ∷ []) = Ok (record { notes = []; rest = part ∷ []; next = n })
-notes_in n (line ∷ next ∷ parts) = noted_by n (line ∷ next ∷ parts) (parse_note line) (notes_in (next_number n) (next ∷ parts))
-
--- what the line of number n notes, or that it is a bad one
-abbrev pub numbered : ℕ → Result (Option Note) Misspelling → Result (Option Note) Reason
-numbered n (Ok o) = Ok o
-numbered n (Err e) = Err (BadLine n)
+-- the notes that stand first among lines, of which the first has the number n, and the lines behind them
+unfoldable pub notes_read : ℕ → List (List ℕ) → Result (NotesState × List (List ℕ)) Refusal
+notes_read n ls = with_lines n [] ls

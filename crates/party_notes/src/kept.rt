@@ -1,16 +1,21 @@
 //! What notes come to.
 
-ghost use Rattle.std.specs.Prelude.{◌≡◌, ◌<◌, true, IfOk, length, replicate, None};
+ghost use Rattle.std.specs.Prelude.{◌≡◌, ◌<◌, true, IfOk, length, option_copied, replicate, None};
 ghost use Rattle.swap_base.specs.Fault.{Gives};
 ghost use Rattle.swap_digraph.specs.Deal.{IsWellSized};
 ghost use Rattle.swap_digraph.specs.Graph.{entering, is_listed, leaving};
 ghost use Rattle.refusals.specs.declared.reason.Reason.TheVariants.{BadLine};
-ghost use Rattle.party_notes.specs.Kept.{kept_state, may_be_kept, opens_first, opens_arc, with_note, with_notes};
+ghost use Rattle.party_wallet.specs.Value.{signed_in};
+ghost use Rattle.party_lines.specs.Lines.{nameless};
+ghost use Rattle.party_notes.specs.Inside.{kept_state, AreGood};
+ghost use Rattle.party_notes.specs.Kept.{is_keepable, may_be_kept, notes_kept, opens_arc, opens_first, with_note, with_notes};
 
 use crate::note::Note;
 use hashkey_path::{Hashkey, HashkeyAnswer, check};
+use party_lines::refused;
 use party_wallet::Signed;
-use refusals::{OfferFault, Reason};
+use refusals::{HeaderFault, Reason};
+use sent_keys::is_first_key;
 use std::alloc::Global;
 use swap_base::{ArcId, Fault, Listed, LockId, NoMemory, PartyId, Shared, TryCopy};
 use swap_digraph::Deal;
@@ -48,17 +53,35 @@ fn opens_first(deal: &Deal, me: PartyId, key: &Hashkey) -> bool
     }
 }
 
-/// Whether the party may have kept the hashkey.
-fn may_be_kept(deal: &Deal, me: PartyId, keys: &[Option<Shared<Hashkey>>], key: &Hashkey) -> bool
+/// The hashkey that was kept for the lock, if any.
+fn kept_before(keys: &[Option<Shared<Hashkey>>], lock: LockId) -> Option<&Hashkey>
+    ensures { option_copied result ≡ signed_in keys.now lock }
+{
+    match keys.get(lock as usize) {
+        Some(Some(key)) => Some(key),
+        _ => None,
+    }
+}
+
+/// Whether the party may have kept the hashkey for its lock, where this was kept before.
+fn may_be_kept(deal: &Deal, me: PartyId, before: Option<&Hashkey>, key: &Hashkey) -> bool
     requires sized { IsWellSized deal.now }
     requires me { me < deal.now.graph.n }
-    requires places { length keys.now ≡ length deal.now.leaders }
-    ensures exact { result ≡ may_be_kept deal.now me keys.now key.now }
+    requires lock { key.now.lock < length deal.now.leaders }
+    ensures { result ≡ may_be_kept deal.now me (option_copied before.entry) key.now }
+{
+    is_first_key(before, key) || (before.is_none() && opens_first(deal, me, key))
+}
+
+/// Whether the hashkey is for a lock of the deal, and the party may have kept it.
+fn is_keepable(deal: &Deal, me: PartyId, keys: &[Option<Shared<Hashkey>>], key: &Hashkey) -> bool
+    requires sized { IsWellSized deal.now }
+    requires me { me < deal.now.graph.n }
+    ensures exact { result ≡ is_keepable deal.now me keys.now key.now }
     ensures lock { result ≡ true → key.now.lock < length deal.now.leaders }
 {
     (key.lock as usize) < deal.leaders.len()
-        && keys[key.lock as usize].is_none()
-        && opens_first(deal, me, key)
+        && may_be_kept(deal, me, kept_before(keys, key.lock), key)
 }
 
 /// Whether the arc leaves the party.
@@ -69,12 +92,6 @@ fn leaves(deal: &Deal, me: PartyId, arc: ArcId) -> bool
     deal.graph.leaving(me).iter().any(|other| *other == arc)
 }
 
-fn bad_line(number: u32) -> OfferFault
-    ensures { result ≡ Fault.Refused (BadLine number) }
-{
-    Fault::Refused(Reason::BadLine(number))
-}
-
 /// Adds a note, of the line of that number.
 fn add_note(
     deal: &Deal,
@@ -83,7 +100,7 @@ fn add_note(
     keys: &mut Vec<Option<Shared<Hashkey>>>,
     sent: &mut Vec<ArcId>,
     note: &Note,
-) -> Result<(), OfferFault>
+) -> Result<(), HeaderFault>
     requires sized { IsWellSized deal.now }
     requires me { me < deal.now.graph.n }
     requires places { length keys.old.items ≡ length deal.now.leaders }
@@ -91,16 +108,17 @@ fn add_note(
         (with_note deal.now me number (record { keys = keys.old.items; sent = sent.old.items }) note.now) }
     ensures places { length keys.new.items ≡ length deal.now.leaders }
 {
+    let alloc = *keys.allocator();
     match note {
         Note::Keep(key) => {
-            if !may_be_kept(deal, me, keys, key) {
-                return Err(bad_line(number));
+            if !is_keepable(deal, me, keys, key) {
+                return Err(refused(alloc, Reason::BadLine(number)));
             }
             keys[key.lock as usize] = Some(key.copy()?);
         }
         Note::Sent(arc) => {
             if !leaves(deal, me, *arc) {
-                return Err(bad_line(number));
+                return Err(refused(alloc, Reason::BadLine(number)));
             }
             sent.push(*arc)?;
         }
@@ -118,7 +136,7 @@ fn none_kept(alloc: Global, locks: u8) -> Result<Vec<Option<Shared<Hashkey>>>, N
     Ok(keys)
 }
 
-/// Adds notes. The first of them is the line with this number.
+/// Adds notes, the first of which is the line of that number.
 fn add_notes(
     deal: &Deal,
     me: PartyId,
@@ -126,7 +144,7 @@ fn add_notes(
     keys: &mut Vec<Option<Shared<Hashkey>>>,
     sent: &mut Vec<ArcId>,
     notes: &[Note],
-) -> Result<(), OfferFault>
+) -> Result<(), HeaderFault>
     requires sized { IsWellSized deal.now }
     requires me { me < deal.now.graph.n }
     requires places { length keys.old.items ≡ length deal.now.leaders }
@@ -144,22 +162,21 @@ fn add_notes(
     Ok(())
 }
 
-/// What a party's notes come to, or the first faulty line. The first note is the line with this
-/// number. A line is faulty if it notes a publish on an arc that doesn't leave the party, or a
-/// hashkey that the party can't have kept. Such a hashkey is for no lock of the deal, is a second
-/// one for a lock, or opens nothing, as that of a torn line.
-#[tactic(auto, unfolding(crate::specs::Kept::kept_state))]
-pub fn kept_state(
+/// What a party's notes come to, the first of which is the line of that number: or the first line that notes a hashkey which it can't have kept (of no
+/// lock of the deal, another one for a lock that has one, or one that opens nothing, as a torn line's), or a publish on an arc that doesn't leave it.
+#[tactic(auto, unfolding(crate::specs::Kept::notes_kept))]
+pub fn notes_kept(
     alloc: Global,
     deal: &Deal,
     me: PartyId,
     first: u32,
     notes: &[Note],
-) -> Result<Kept, OfferFault>
+) -> Result<Kept, HeaderFault>
     requires sized { IsWellSized deal.now }
     requires me { me < deal.now.graph.n }
-    ensures exact { Gives (λ k. record { keys = k.signed.keys; sent = k.sent }) result (kept_state deal.now me first notes.now) }
+    ensures exact { Gives kept_state result (notes_kept deal.now me first notes.now) }
     ensures places { IfOk result (λ k. length k.signed.keys ≡ length deal.now.leaders) }
+    ensures good { IfOk result (λ k. AreGood deal.now me k.signed.keys) }
 {
     let mut keys = none_kept(alloc, deal.leaders.len() as u8)?;
     let mut sent = Vec::new(alloc);

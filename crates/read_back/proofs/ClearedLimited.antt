@@ -33,14 +33,6 @@ use Rattle.read_back.proofs.Shape.{IsClear}
 use Rattle.read_back.proofs.Bounds.{enough_is_some}
 use Rattle.read_back.proofs.HeaderLimited.{within_back, number_back}
 
--- ---- ranges
-
-unfolding within
-within_back line field low high n l h = rw (and_both (nat_le low n) (nat_le n high) (le-leb low n l) (le-leb n high h)) refl
-
-unfolding ranged_number
-number_back line field low high n l h = step _ tt _ (within_back line field low high n l h)
-
 -- ---- seeds
 
 abbrev pub acting_with : List ℕ → Acting

@@ -1,13 +1,8 @@
 -- The disks of a run's conforming parties, party by party.
-use Rattle.std.proofs.Common.{◌≡◌, ◌≢◌, ◌⊎◌, inl, inr, ℕ, ◌+◌, ◌<◌, true, arith, sym, subst}
+use Rattle.std.proofs.Common.{◌≡◌, ◌≢◌, ◌⊎◌, inl, inr, ℕ, ◌+◌, arith, sym, subst}
 use Rattle.swap_rules.proofs.Prefixes.{same_or_not}
-use Rattle.wallet_journal.specs.Held.{Held}
-use Rattle.swap_run.specs.Run.{Cast, State, conforms}
-use Rattle.swap_commands.specs.Recorded.{IsDiskAt, AreRecordedBelow}
-
--- the disk of party v, where it conforms
-abbrev pub HasDisk : Cast → State → ℕ → Type 0
-HasDisk c s v = conforms c v ≡ true → (h : Held) × IsDiskAt c.deal s v h
+use Rattle.swap_run.specs.Run.{Cast, State}
+use Rattle.swap_commands.specs.Recorded.{HasDisk, AreRecordedBelow}
 
 pub none_below : (c : Cast) (s : State) → AreRecordedBelow c s 0
 none_below c s v low = absurd (omega (arith, low))

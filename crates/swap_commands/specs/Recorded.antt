@@ -21,10 +21,14 @@ pub record IsDiskAt (d : Deal) (s : State) (v : ℕ) (h : Held) : Type 0 where
       → (c : List ℕ) → Leaves h c → recorded c key.lock ≡ Some key
   pub just : (i : ℕ) → i < length d.leaders → (c : List ℕ) → Leaves h c → recorded c i ≡ signed_in (state_notes s v).signed i
 
--- each conforming party that is below n has such a disk
-abbrev pub AreRecordedBelow : Cast → State → ℕ → Type 0
-AreRecordedBelow c s n = (v : ℕ) → v < n → conforms c v ≡ true → (h : Held) × IsDiskAt c.deal s v h
+-- where party v conforms it has such a disk
+abbrev pub HasDisk : Cast → State → ℕ → Type 0
+HasDisk c s v = conforms c v ≡ true → (h : Held) × IsDiskAt c.deal s v h
 
--- each conforming party has such a disk
+-- each conforming party that is below n has one
+abbrev pub AreRecordedBelow : Cast → State → ℕ → Type 0
+AreRecordedBelow c s n = (v : ℕ) → v < n → HasDisk c s v
+
+-- each conforming party has one
 abbrev pub AreRecorded : Cast → State → Type 0
 AreRecorded c s = AreRecordedBelow c s c.deal.graph.n

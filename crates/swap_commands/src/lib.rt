@@ -8,6 +8,7 @@
 mod audit;
 mod check;
 mod clear;
+mod disks;
 mod finish;
 mod generating;
 mod header;

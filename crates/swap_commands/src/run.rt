@@ -18,19 +18,19 @@ ghost use Rattle.swap_run.specs.Asked.{Answers};
 ghost use Rattle.swap_world.specs.Cast.{job_cast};
 ghost use Rattle.swap_world.specs.Gone.{HasAsked};
 ghost use Rattle.swap_world.specs.Actors.{AreHeld};
-ghost use Rattle.swap_world.specs.Value.{Continues, world_cast, new_world};
+ghost use Rattle.swap_world.specs.Value.{Continues, new_world};
 ghost use Rattle.swap_offer.specs.Job.{IsWholeJob};
 ghost use Rattle.command_input.specs.Input.{Ends, Stops, desk, fresh};
 ghost use Rattle.command_input.specs.Written.{Writes};
 ghost use Rattle.command_input.specs.Streams.{streams};
 ghost use Rattle.made_jobs.specs.Generating.{IsOf};
 ghost use Rattle.swap_commands.specs.Output.{story_report, reported, run_text};
-ghost use Rattle.swap_commands.specs.Recorded.{AreRecorded};
 ghost use Rattle.swap_commands.specs.Replay.{IsConcluded, IsPlayed};
 ghost use Rattle.swap_commands.specs.Says.{IsAgainst, Says};
 ghost use Rattle.swap_commands.specs.Words.{OfJob, Run};
 ghost use Rattle.swap_commands.specs.Strategies.{strategies};
 
+use crate::disks::look_at_disks;
 use crate::finish::finish;
 use crate::header::first_line;
 use crate::replay::replay;
@@ -77,18 +77,6 @@ fn play<S: Source, A: Strategies>(
     match replay(alloc, &job, wallets, staff, input, source) {
         Ok(world) => Ok((job, world)),
         Err(fault) => Err(fault.with_names(job.names)),
-    }
-}
-
-/// Looks at the disk of each conforming party, which has recorded what that party presented.
-fn look_at_disks(world: &World)
-    requires { world.now.stopped ≡ false }
-    ensures { AreRecorded (world_cast world.now) world.now.state }
-{
-    'parties: for party in 0..world.deal().graph.n() {
-        if world.conforms(party) {
-            let _disk = world.disk(party);
-        }
     }
 }
 

@@ -1,14 +1,13 @@
 -- Units stay in one place along steps.
-use Rattle.std.proofs.Common.{◌≡◌, ℕ, zero, suc, ◌<◌, List, [], ◌∷◌, length, fold, take, sym, ap, ◌∙◌, arith, subst}
+use Rattle.std.proofs.Common.{◌≡◌, ℕ, zero, suc, ◌<◌, List, [], ◌∷◌, length, fold, take, ap, ◌∙◌, arith, subst}
 use Rattle.std.specs.List.{All}
 use Rattle.swap_run.specs.Run.{State}
-use Rattle.swap_run.specs.Asked.{Answers}
 use Rattle.swap_many.specs.Chains.{Setup}
 use Rattle.swap_many.specs.Many.{Run, many_run}
 use Rattle.swap_many.specs.Kept.{Kept, Time, kept_run}
 use Rattle.swap_many.specs.Laws.{IsReady, CanCome}
 use Rattle.swap_many.specs.Sound.{Keeps}
-use Rattle.swap_many.specs.Way.{Step, collect_kept, Leads}
+use Rattle.swap_many.specs.Way.{Step, collect_kept}
 use Rattle.swap_many.specs.Value.{ManyState, IsBetween}
 use Rattle.swap_many.specs.Along.{run_step, run_on, ArePlacedAfter, IsCutRun, UnitsStayPlaced}
 use Rattle.swap_many.proofs.Units.{keeps_step, keeps_run, counted_is_placed}

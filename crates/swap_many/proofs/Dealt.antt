@@ -1,10 +1,10 @@
 -- A fair finish of several swaps with no event before it: each round raises each ledger by one height, and every party of a swap in which all conform acts
 -- at the height at which the round began; so that swap deals.
-use Rattle.std.proofs.Common.{◌≡◌, ◌⊎◌, ℕ, suc, zero, ◌+◌, ◌*◌, ◌<◌, ◌≤◌, nat_lt, Bool, true, false, cond, List, [], ◌∷◌, length, fold}
-use Rattle.std.proofs.Common.{refl, sym, ap, ap₂, ◌∙◌, subst, inl, inr, arith, ltb-true}
-use Rattle.std.specs.List.{list_all, range_with_len}
+use Rattle.std.proofs.Common.{◌≡◌, ◌⊎◌, ℕ, suc, zero, ◌+◌, ◌*◌, ◌<◌, ◌≤◌, nat_lt, Bool, true, false, cond, List, [], ◌∷◌, ◌++◌, length, fold}
+use Rattle.std.proofs.Common.{refl, sym, ap, ◌∙◌, subst, inl, inr, arith, ltb-true}
+use Rattle.std.specs.List.{range_with_len}
 use Rattle.swap_base.proofs.Lists.{below_or, from_range, greatest-in, in_range, list_all-in}
-use Rattle.swap_digraph.specs.Graph.{arcs}
+use Rattle.ledger_core.specs.declared.entry.Entry.{Entry}
 use Rattle.ledger_core.specs.History.{height}
 use Rattle.ledger_core.specs.Book.{Histories, history}
 use Rattle.ledger_core.proofs.History.{not-true}
@@ -12,7 +12,7 @@ use Rattle.swap_rules.specs.Machine.{Begins}
 use Rattle.swap_rules.specs.Rounds.{IsTurn, IsRounds}
 use Rattle.swap_rules.specs.Laws.{IsDealt}
 use Rattle.swap_rules.proofs.Words.{past_end}
-use Rattle.swap_rules.proofs.Prefixes.{begins_refl, begins_more}
+use Rattle.swap_rules.proofs.Prefixes.{begins_more}
 use Rattle.swap_rules.proofs.Rounds.{rounds_on_time}
 use Rattle.swap_rules.proofs.Dealing.{all_dealt}
 use Rattle.swap_run.specs.Run.{Cast, State, conforms}
@@ -23,16 +23,16 @@ use Rattle.swap_run.proofs.Good.{good_is_kept}
 use Rattle.swap_run.proofs.Rounds.{turns_from}
 use Rattle.swap_run.proofs.Swept.{none_swept}
 use Rattle.swap_many.specs.declared.many_event.ManyEvent.TheVariants.{Sweep}
-use Rattle.swap_many.specs.Chains.{Setup, Slot, slots, arc_chain, book, chain_height, is_done}
+use Rattle.swap_many.specs.Chains.{Setup, Slot, slots, arc_chain, book, is_done}
 use Rattle.swap_many.specs.Many.{Run, done, last_horizon, round_or_rest, many_start, many_finish}
-use Rattle.swap_many.specs.Kept.{Kept, Time, answer_sweep, kept_done, kept_finish, kept_start, kept_sweep}
+use Rattle.swap_many.specs.Kept.{Kept, answer_sweep, kept_done, kept_start, kept_sweep}
 use Rattle.swap_many.specs.Fair.{kept_round, kept_round_or_rest, kept_rounds, have_ended}
 use Rattle.swap_many.specs.Laws.{IsReady, EveryFairSwapIsDealt}
 use Rattle.swap_many.specs.Sound.{Keeps}
 use Rattle.swap_many.proofs.Projections.{height_is, shown_at}
 use Rattle.swap_many.proofs.Units.{keeps_start}
 use Rattle.swap_many.proofs.Finish.{run_height, both_repeat, both_unless, round_raised, many_finishes_end}
-use Rattle.swap_many.proofs.Skips.{book_ticks, after_ticks, clock_tick, all_chains, once, turned_once, ticked_once, goes_on, up, clocks_up}
+use Rattle.swap_many.proofs.Skips.{book_ticks, clock_tick, all_chains, once, turned_once, ticked_once, goes_on, up, clocks_up}
 use Rattle.swap_many.proofs.InTurn.{IsLevel, turn_of_round}
 
 -- a state with other histories
@@ -137,7 +137,7 @@ module _ (m : Setup) (ready : IsReady m) (s : ℕ) (low : s < m.swaps) (all : (v
           let before : history (turns c old).book a ≡ [] = past_end (turns c old).book a (λ q. absurd (omega (arith, past, q, each))) in
           let after : history (book_ticks m z.clocks s (all_chains m) (turns c old).book) a ≡ [] =
           past_end (book_ticks m z.clocks s (all_chains m) (turns c old).book) a (λ q. let e = new.legal.one_each in absurd (omega (arith, past, q, e))) in
-          ([], after ∙ sym (ap (λ h. h) before))
+          ([], after ∙ sym (ap (λ (h : List Entry). h ++ []) before))
 
   next : (r : ℕ) (x y : Run) (z : Kept) → r ≤ last_horizon m → AtHeight m r x z → Keeps m y (kept_round_or_rest m z)
       → AtHeight m (suc r) y (kept_round_or_rest m z) × Raises r (z.swaps s) ((kept_round_or_rest m z).swaps s)

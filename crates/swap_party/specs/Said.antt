@@ -1,5 +1,5 @@
 -- What the calls of the library say: a status, and a text that they put into the caller's buffer.
-use Rattle.std.specs.Prelude.{◌≡◌, ◌≤◌, ◌<◌, ◌++◌, ℕ, List, drop, length, Result, Ok, Err}
+use Rattle.std.specs.Prelude.{◌≡◌, ◌≤◌, ◌<◌, ◌++◌, ℕ, Bool, true, false, List, drop, length, Result, Ok, Err}
 use Rattle.swap_rules.specs.Accepted.{IsAccepted}
 use Rattle.swap_job.specs.declared.job.Job.{Job}
 use Rattle.swap_job.specs.declared.job.Purpose.TheVariants.{Audit}
@@ -7,10 +7,13 @@ use Rattle.refusals.specs.declared.refusal.Refusal.{Refusal}
 use Rattle.refusals.specs.Refusal.{named}
 use Rattle.offer_header.specs.Names.{no_strategy}
 use Rattle.swap_offer.specs.Job.{job_header_of, names_at}
+use Rattle.party_answer.specs.declared.given.Answer.{Answer}
 use Rattle.party_answer.specs.declared.reason.AnswerReason.{AnswerReason}
-use Rattle.party_answer.specs.declared.reason.AnswerReason.TheVariants.{Refused}
 use Rattle.party_answer.specs.Promised.{IsAnswer}
-use Rattle.party_main.specs.Exit.{reason_line}
+use Rattle.party_rows.specs.Dealt.{IsDealt}
+use Rattle.party_rows.specs.declared.reason.DealReason.{DealReason}
+use Rattle.party_main.specs.declared.reason.PartyReason.TheVariants.{Header, Deal, Next}
+use Rattle.party_main.specs.Reasons.{reason_line}
 use Rattle.swap_party.specs.declared.said.Said.{Said}
 
 -- A text is put at the buffer's beginning where there is room for all of it, with that status. Else the status is 1 and the buffer stays as it was.
@@ -26,18 +29,37 @@ pub record IsNothing (status : ℕ) (old new : List ℕ) (said : Said) : Type 0 
   pub empty : said.length ≡ 0
   pub kept : new ≡ old
 
+-- ---- a row, a deal of rows, and terms
+
+-- status 0 with a row or with terms, or 3 with the line of the first reason against the text
+abbrev pub IsTextSaid : Result (List ℕ) Refusal → List ℕ → List ℕ → Said → Type 0
+IsTextSaid (Ok text) old new said = IsSaid 0 text old new said
+IsTextSaid (Err refusal) old new said = IsSaid 3 (reason_line (Header refusal)) old new said
+
+-- status 0 with the header line of an accepted deal, or 3 with the line of the first reason against
+-- the text
+abbrev pub IsDealSaid : Result (List ℕ) DealReason → List ℕ → List ℕ → Said → Type 0
+IsDealSaid (Ok text) old new said = IsDealt text × IsSaid 0 text old new said
+IsDealSaid (Err reason) old new said = IsSaid 3 (reason_line (Deal reason)) old new said
+
 -- ---- what is due
 
--- What is asked for the party with this name and seed, by a text with lines counted from 1.
+-- What is asked for the party with this name and seed, by a text whose first line has number 2.
 pub record Asked : Type 0 where
   pub name : List ℕ
   pub seed : List ℕ
   pub text : List ℕ
 
--- status 0 with the lines that answer, which are promised, or 3 with the line of the first reason against the text
-abbrev pub IsAnswerSaid : Asked → Result (List ℕ) AnswerReason → List ℕ → List ℕ → Said → Type 0
-IsAnswerSaid q (Ok lines) old new said = IsAnswer 1 q.name q.seed q.text lines × IsSaid 0 lines old new said
-IsAnswerSaid q (Err reason) old new said = IsSaid 3 (reason_line reason) old new said
+-- the status of an answer, by whether it warns
+abbrev pub answer_status : Bool → ℕ
+answer_status true = 2
+answer_status false = 0
+
+-- status 0, or 2 where it warns, with the answer, which is promised; or 3 with the line of the first
+-- reason against the text
+abbrev pub IsAnswerSaid : Asked → Result Answer AnswerReason → List ℕ → List ℕ → Said → Type 0
+IsAnswerSaid q (Ok answer) old new said = IsAnswer 2 q.name q.seed q.text answer × IsSaid (answer_status answer.warns) answer.text old new said
+IsAnswerSaid q (Err reason) old new said = IsSaid 3 (reason_line (Next reason)) old new said
 
 -- ---- a header
 
@@ -48,4 +70,4 @@ header_said line = named (names_at no_strategy Audit 1 line) (job_header_of no_s
 -- status 0 with the id of its deal, which is an accepted one, or 3 with the line of the first reason against it
 abbrev pub IsCheckSaid : Result Job Refusal → List ℕ → List ℕ → Said → Type 0
 IsCheckSaid (Ok job) old new said = IsAccepted job.deal × IsSaid 0 job.deal.id old new said
-IsCheckSaid (Err refusal) old new said = IsSaid 3 (reason_line (Refused refusal)) old new said
+IsCheckSaid (Err refusal) old new said = IsSaid 3 (reason_line (Header refusal)) old new said

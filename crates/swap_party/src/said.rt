@@ -1,11 +1,10 @@
 //! What a call says: a status, and a text that it puts into the caller's buffer.
 
 ghost use Rattle.std.specs.Prelude.{◌≡◌, ◌⊎◌};
-ghost use Rattle.party_main.specs.Exit.{reason_line};
+ghost use Rattle.party_main.specs.Reasons.{reason_line};
 ghost use Rattle.swap_party.specs.Said.{IsNothing, IsSaid};
 
-use party_answer::AnswerReason;
-use party_main::reason_line;
+use party_main::{PartyReason, reason_line};
 use std::alloc::Global;
 
 /// The status of a call, and how long its text is.
@@ -19,6 +18,9 @@ pub struct Said {
 pub(crate) const DONE: u32 = 0;
 /// The buffer is too short for the text; nothing was put into it.
 const SHORT: u32 = 1;
+
+/// The answer, in which a line tells of something that should not be.
+pub(crate) const WARNED: u32 = 2;
 
 const REFUSED: u32 = 3;
 
@@ -50,7 +52,7 @@ pub(crate) fn say_nothing(status: u32) -> Said
 }
 
 /// Puts the line of a reason into the buffer.
-pub(crate) fn say_reason(alloc: Global, reason: &AnswerReason, out: &mut [u8]) -> Said
+pub(crate) fn say_reason(alloc: Global, reason: &PartyReason, out: &mut [u8]) -> Said
     ensures { IsSaid 3 (reason_line reason.now) out.old out.new result ⊎ IsNothing 6 out.old out.new result }
 {
     match reason_line(alloc, reason) {

@@ -53,15 +53,17 @@ pub fn digest_field(fields: &mut Parts<'_>) -> Result<Digest, WordFault>
     to_digest(word(fields)?)
 }
 
+/// A path.
 #[tactic(auto, unfolding(transcript_lines::specs::Reading::field_of))]
-pub(crate) fn path_field(alloc: Global, fields: &mut Parts<'_>) -> Result<PathList, WordFault>
+pub fn path_field(alloc: Global, fields: &mut Parts<'_>) -> Result<PathList, WordFault>
     ensures { Takes (λ l. l) result fields.new (field_of (inside_entries (bounded_number 256)) fields.old) }
 {
     make_path(alloc, word(fields)?)
 }
 
+/// Signatures, in one field.
 #[tactic(auto, unfolding(transcript_lines::specs::Reading::field_of))]
-pub(crate) fn signatures_field(alloc: Global, fields: &mut Parts<'_>) -> Result<SigList, WordFault>
+pub fn signatures_field(alloc: Global, fields: &mut Parts<'_>) -> Result<SigList, WordFault>
     ensures { Takes (λ l. l) result fields.new (field_of (inside_entries parse_signature) fields.old) }
 {
     parse_signatures(alloc, word(fields)?)

@@ -23,7 +23,7 @@ mod stated;
 
 pub use call::key_of;
 pub use digits::to_digest;
-pub use field::{digest_field, nothing_more, word};
+pub use field::{digest_field, nothing_more, path_field, signatures_field, word};
 pub use laws::{legal_is_stated, one_spelling, read_is_whole, whole_is_read};
 pub use number::{WordFault, misspelt, number_of};
 pub use parts::Parts;

@@ -11,4 +11,4 @@ mod words;
 
 pub use transcript::write_transcript;
 pub use whole::{put_call, put_hashkey};
-pub use words::put_digits;
+pub use words::{put_digits, put_path, put_signatures};

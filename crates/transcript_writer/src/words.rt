@@ -65,7 +65,7 @@ fn put_parties(out: &mut Vec<u8>, first: PartyId, further: &[PartyId]) -> Result
 }
 
 /// Appends a path in one field.
-pub(crate) fn put_path(out: &mut Vec<u8>, path: &[PartyId]) -> Result<(), NoMemory>
+pub fn put_path(out: &mut Vec<u8>, path: &[PartyId]) -> Result<(), NoMemory>
     ensures { OnOk result (out.new.items ≡ out.old.items ++ list_word (map decimal path.now)) }
 {
     match path {
@@ -105,7 +105,7 @@ fn put_each_signature(out: &mut Vec<u8>, first: &Sig, further: &[Sig]) -> Result
 }
 
 /// Appends signatures in one field.
-pub(crate) fn put_signatures(out: &mut Vec<u8>, sigs: &[Sig]) -> Result<(), NoMemory>
+pub fn put_signatures(out: &mut Vec<u8>, sigs: &[Sig]) -> Result<(), NoMemory>
     ensures { OnOk result (out.new.items ≡ out.old.items ++ list_word (map signature_word sigs.now)) }
 {
     match sigs {

@@ -1,0 +1,9 @@
+pub mod Arcs
+pub mod Due
+pub mod OnTime
+pub mod Until
+pub mod Parts
+pub mod Waiting
+pub mod Ending
+pub mod Loops
+pub mod Measured

@@ -1,0 +1,4 @@
+pub mod Heights
+pub mod Finished
+pub mod Stopped
+pub mod Laws

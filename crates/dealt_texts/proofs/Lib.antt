@@ -1,0 +1,5 @@
+pub mod Ends
+pub mod Named
+pub mod RowBack
+pub mod Order
+pub mod Whole

@@ -1,0 +1,186 @@
+-- What is asked, and what is answered to it.
+use Rattle.std.proofs.Common.{◌≡◌, ◌≢◌, ◌<◌, ℕ, Bool, true, false, ◌||◌, ◌==◌, not, List, length, ◌++◌, map, None, Result, Ok, Err, refl, sym, ap, ◌∙◌, subst}
+use Rattle.std.specs.Prelude.{is_some}
+use Rattle.std.specs.List.{flat_map, list_any}
+use Rattle.std.specs.Str.{bytes_eq}
+use Rattle.swap_base.specs.declared.fault.Fault.{Fault}
+use Rattle.swap_base.specs.declared.fault.Fault.TheVariants as faults
+use Rattle.swap_base.specs.Fault.{◌>>=◌, Gives, Fails}
+use Rattle.swap_base.specs.Lists.{IsIn}
+use Rattle.swap_digraph.specs.declared.deal.Deal.{Deal}
+use Rattle.swap_digraph.specs.Deal.{IsWellSized}
+use Rattle.swap_rules.specs.Accepted.{IsAccepted}
+use Rattle.ledger_core.specs.Book.{Histories, IsLegalBook}
+use Rattle.swap_rules.specs.Due.{Action}
+use Rattle.swap_rules.specs.Useful.{useful}
+use Rattle.swap_rules.proofs.Words.{bytes_eq-true}
+use Rattle.refusals.specs.declared.refusal.Refusal.{Refusal}
+use Rattle.party_wallet.specs.Value.{signed_in}
+use Rattle.party_wallet.specs.Fits.{wrong_lock}
+use Rattle.party_machine.specs.Wallet.{seed_wallet}
+use Rattle.party_machine.proofs.Good.{fitting_is_good}
+use Rattle.told_ledgers.specs.Telling.{told_book}
+use Rattle.answer_rules.specs.Laws.{AreGoodKeys}
+use Rattle.answer_rules.specs.Stopped.{unstopped}
+use Rattle.answer_rules.proofs.Measured.{useful_is_short}
+use Rattle.party_answer.specs.declared.asked.Asked.{Asked}
+use Rattle.party_answer.specs.declared.given.Answer.{Answer}
+use Rattle.party_answer.specs.declared.reason.AnswerReason.{AnswerReason}
+use Rattle.party_answer.specs.declared.reason.AnswerReason.TheVariants.{NotAgreed}
+use Rattle.party_answer.specs.declared.timed.Timed.{Timed}
+use Rattle.party_answer.specs.declared.unkept.Unkept.{Unkept}
+use Rattle.party_answer.specs.Asked.{Question, SaidState, as_agreed, asked, by_refusal, lines_said, said_asked, text_said, unless_differs}
+use Rattle.party_answer.specs.Faults.{refusal_fault}
+use Rattle.party_answer.specs.Inside.{asked_question, calls_text, AreMeasured, IsAsked}
+use Rattle.party_answer.specs.Unkept.{is_lock_unkept}
+use Rattle.party_answer.specs.Lines.{timed}
+use Rattle.party_answer.specs.Text.{answer_told, answered_calls, bad_lines, due_text, question_answer, said_answer, unkept, unkept_text, warning_text, warns}
+use Rattle.party_answer.specs.Promised.{IsAnswerTo, NeedsAgreement}
+use Rattle.party_lines.specs.Lines.{ended_lines}
+use Rattle.party_answer.proofs.Answered.{IsSound, holds, seed_signs}
+use Rattle.party_answer.proofs.Faults.{fails_by_refusal}
+
+-- ---- what is asked is sound
+
+pub sound : (seed : List ℕ) (a : Asked) → IsAsked seed a → IsSound (asked_question seed a)
+sound seed a is = record {
+  accepted = is.accepted;
+  party = is.me;
+  wallet = fitting_is_good a.deal a.me seed is.accepted is.me is.fits;
+  legal = is.legal;
+  good = is.good;
+}
+
+pub is_asked : (seed : List ℕ) (d : Deal) (a : Asked) → a.deal ≡ d → IsAccepted d → IsWellSized d → a.me < d.graph.n → wrong_lock d a.me seed ≡ None
+    → IsLegalBook a.deal (told_book a.ledgers) → length a.kept.signed.keys ≡ length d.leaders → AreGoodKeys d a.me (signed_in a.kept.signed.keys)
+    → IsAsked seed a
+is_asked seed d a e accepted sized me fits legal places good = record {
+  accepted = subst IsAccepted (sym e) accepted;
+  sized = subst IsWellSized (sym e) sized;
+  me = subst (λ (x : Deal). a.me < x.graph.n) (sym e) me;
+  fits = subst (λ (x : Deal). wrong_lock x a.me seed ≡ None) (sym e) fits;
+  legal = legal;
+  places = subst (λ (x : Deal). length a.kept.signed.keys ≡ length x.leaders) (sym e) places;
+  good = subst (λ (x : Deal). AreGoodKeys x a.me (signed_in a.kept.signed.keys)) (sym e) good;
+}
+
+-- what is useful is on arcs of the deal
+pub measured : (seed : List ℕ) (a : Asked) (k : Histories) (xs : List Action) → IsAsked seed a → k ≡ told_book a.ledgers
+    → xs ≡ useful a.deal a.me (seed_wallet seed a.me a.deal) (signed_in a.kept.signed.keys) k → AreMeasured a.deal xs
+measured seed a k xs is e f x i =
+    let s = sound seed a is in
+    useful_is_short a.deal a.me (seed_wallet seed a.me a.deal) (signed_in a.kept.signed.keys) (told_book a.ledgers) is.accepted is.legal s.wallet
+    (seed_signs a.deal a.me seed) is.good x
+    (subst (λ b. IsIn x (useful a.deal a.me (seed_wallet seed a.me a.deal) (signed_in a.kept.signed.keys) b)) e (subst (IsIn x) f i))
+
+-- ---- what is answered
+
+pub calls_given : (seed : List ℕ) (a : Asked) (k : Histories) (xs : List Action) (us : List Unkept) (ts : List Timed) → k ≡ told_book a.ledgers
+    → xs ≡ useful a.deal a.me (seed_wallet seed a.me a.deal) (signed_in a.kept.signed.keys) k → us ≡ unkept (asked_question seed a)
+    → ts ≡ map (timed a.deal k a.me) (unstopped (is_lock_unkept us) xs) → ts ≡ answered_calls (asked_question seed a)
+calls_given seed a k xs us ts e f g h =
+    h ∙ (ap (λ ys. map (timed a.deal k a.me) (unstopped (is_lock_unkept us) ys)) f
+    ∙ (ap (λ b. map (timed a.deal b a.me) (unstopped (is_lock_unkept us) (useful a.deal a.me (seed_wallet seed a.me a.deal) (signed_in a.kept.signed.keys) b))) e
+    ∙ ap (λ z. map (timed a.deal (told_book a.ledgers) a.me) (unstopped (is_lock_unkept z)
+    (useful a.deal a.me (seed_wallet seed a.me a.deal) (signed_in a.kept.signed.keys) (told_book a.ledgers)))) g))
+
+pub text_given : (seed : List ℕ) (a : Asked) (k : Histories) (us : List Unkept) (ts : List Timed) (text : List ℕ) → k ≡ told_book a.ledgers
+    → us ≡ unkept (asked_question seed a) → ts ≡ answered_calls (asked_question seed a)
+    → text ≡ (bad_lines 0 a.ledgers ++ flat_map unkept_text us) ++ calls_text a k ts
+    → text ≡ warning_text (asked_question seed a) ++ due_text (asked_question seed a)
+unfolding warning_text due_text
+text_given seed a k us ts text e g h is =
+    is ∙ (ap (λ b. (bad_lines 0 a.ledgers ++ flat_map unkept_text us) ++ calls_text a b ts) e
+    ∙ (ap (λ z. (bad_lines 0 a.ledgers ++ flat_map unkept_text z) ++ calls_text a (told_book a.ledgers) ts) g
+    ∙ ap (λ z. (bad_lines 0 a.ledgers ++ flat_map unkept_text (unkept (asked_question seed a))) ++ calls_text a (told_book a.ledgers) z) h))
+
+pub warns_given : (seed : List ℕ) (a : Asked) (us : List Unkept) (b : Bool) → us ≡ unkept (asked_question seed a)
+    → b ≡ (list_any (λ t. is_some t.bad) a.ledgers || not (length us == 0)) → b ≡ warns (asked_question seed a)
+unfolding warns
+warns_given seed a us b g is = is ∙ ap (λ z. list_any (λ t. is_some t.bad) a.ledgers || not (length z == 0)) g
+
+pub answer_given : (q : Question) (text : List ℕ) (b : Bool) → text ≡ warning_text q ++ due_text q → b ≡ warns q
+    → ◌≡◌ {A = Answer} (record { text = text; warns = b }) (question_answer q)
+unfolding question_answer
+answer_given q text b e f = λ i. record { text = e i; warns = f i }
+
+-- ---- the promise
+
+pub promised : (seed : List ℕ) (a : Asked) (asks : Result Question AnswerReason) (answer : Answer) → IsAsked seed a → asks ≡ Ok (asked_question seed a)
+    → answer ≡ question_answer (asked_question seed a) → IsAnswerTo asks answer
+promised seed a asks answer is e f = holds (asked_question seed a) (sound seed a is) asks answer e f
+
+-- ---- step by step
+
+step : {A B R : Type 0} (r : Result A R) (x : A) (f : A → Result B R) → r ≡ Ok x → (r >>= f) ≡ f x
+step r x f e = ap (λ z. z >>= f) e
+
+as_one : {A B C R : Type 0} (r : Result A R) (f : A → Result B R) (g : B → Result C R) → ((r >>= f) >>= g) ≡ (r >>= λ x. f x >>= g)
+as_one (Ok x) f g = refl
+as_one (Err e) f g = refl
+
+fails_on : {A B : Type 0} (f : Fault AnswerReason) (r : Result A AnswerReason) (g : A → Result B AnswerReason) → Fails f r → Fails f (r >>= g)
+fails_on (faults.Refused e) r g h = ap (λ z. z >>= g) h
+fails_on faults.NoMemory r g h = tt
+
+-- where a line before the first ledger is refused
+pub lines_refused : {B : Type 0} (first : ℕ) (ls : List (List ℕ)) (f : Fault Refusal) (given : Fault AnswerReason)
+    (g : SaidState × List (List ℕ) → Result B AnswerReason) → given ≡ refusal_fault f → Fails f (lines_said first ls)
+    → Fails given (by_refusal (lines_said first ls) >>= g)
+lines_refused first ls f given g e h =
+    fails_on given (by_refusal (lines_said first ls)) g (fails_by_refusal (lines_said first ls) f given e h)
+
+pub lines_give : {B : Type 0} (first : ℕ) (ls : List (List ℕ)) (s : SaidState × List (List ℕ)) (g : SaidState × List (List ℕ) → Result B AnswerReason)
+    → lines_said first ls ≡ Ok s → (by_refusal (lines_said first ls) >>= g) ≡ g s
+lines_give first ls s g e = ap (λ r. by_refusal r >>= g) e
+
+-- where the text has no lines
+text_cut : {A B : Type 0} (f : Fault Refusal) (r : Result A Refusal) (g : A → Result B Refusal) → Fails f r → Fails f (r >>= g)
+text_cut (faults.Refused e) r g h = ap (λ z. z >>= g) h
+text_cut faults.NoMemory r g h = tt
+
+module _ (first : ℕ) (name seed text : List ℕ) where
+  pub whole : answer_told first name seed text ≡ (by_refusal (text_said first text) >>= said_answer first name seed)
+  unfolding answer_told asked
+  whole = as_one (by_refusal (text_said first text)) (said_asked first name seed) (λ q. Ok (question_answer q))
+
+  -- the answer by the lines of the text
+  pub by_lines : (ls : List (List ℕ)) → ended_lines text ≡ Ok ls
+      → answer_told first name seed text ≡ (by_refusal (lines_said first ls) >>= said_answer first name seed)
+  unfolding text_said
+  by_lines ls e =
+      whole ∙ ap (λ (r : Result (List (List ℕ)) Refusal). by_refusal (r >>= lines_said first) >>= said_answer first name seed) e
+
+  pub asks_lines : (ls : List (List ℕ)) → ended_lines text ≡ Ok ls
+      → asked first name seed text ≡ (by_refusal (lines_said first ls) >>= said_asked first name seed)
+  unfolding text_said asked
+  asks_lines ls e = ap (λ (r : Result (List (List ℕ)) Refusal). by_refusal (r >>= lines_said first) >>= said_asked first name seed) e
+
+  -- where it has none
+  pub no_lines : (f : Fault Refusal) (given : Fault AnswerReason) → given ≡ refusal_fault f → Fails f (ended_lines text)
+      → Fails given (answer_told first name seed text)
+  unfolding text_said
+  no_lines f given e h =
+      subst (Fails given) (sym whole)
+      (fails_on given (by_refusal (text_said first text)) (said_answer first name seed)
+      (fails_by_refusal (text_said first text) f given e (text_cut f (ended_lines text) (lines_said first) h)))
+
+  differs : (told digest : List ℕ) (b : Bool) → bytes_eq told digest ≡ b → told ≢ digest → unless_differs digest b ≡ Err (NotAgreed digest)
+  differs told digest true e n = absurd (n (bytes_eq-true told digest e))
+  differs told digest false e n = refl
+
+  -- what follows the test of agreement plays no part
+  stops : {A B : Type 0} (r : Result (Unit {0}) AnswerReason) (reason : AnswerReason) (f : Unit {0} → Result A AnswerReason) (g : A → Result B AnswerReason)
+      → r ≡ Err reason → ((r >>= f) >>= g) ≡ Err reason
+  stops r reason f g e = ap (λ z. (z >>= f) >>= g) e
+
+  not_agreed : (s : SaidState) (rest : List (List ℕ)) → s.told ≢ s.agreed.digest → said_answer first name seed (s, rest) ≡ Err (NotAgreed s.agreed.digest)
+  unfolding said_asked
+  not_agreed s rest n =
+      stops (as_agreed s) (NotAgreed s.agreed.digest) _ (λ q. Ok (question_answer q)) (differs s.told s.agreed.digest (bytes_eq s.told s.agreed.digest) refl n)
+
+  pub needs_agreement : (result : Result Answer (Fault AnswerReason)) → Gives (λ a. a) result (answer_told first name seed text)
+      → NeedsAgreement first text result
+  needs_agreement result g s rest e n =
+      subst (Gives (λ a. a) result)
+      (whole ∙ (ap (λ (r : Result (SaidState × List (List ℕ)) Refusal). by_refusal r >>= said_answer first name seed) e ∙ not_agreed s rest n)) g

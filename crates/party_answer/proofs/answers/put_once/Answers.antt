@@ -1,9 +1,0 @@
-use Rattle.std.proofs.Common.{◌∙◌, sym}
-use Rattle.party_answer.proofs.Grown.{asked_before, asked_now}
-use Rattle.party_answer.proofs.answers.put_once.Goals as goal
-
-pub returns-then-is_asked : goal.returns-then-is_asked
-returns-then-is_asked c = asked_before c.args.me c.args.asked c.args.key.now _ (sym c.is_asked.ensures ∙ c.if-is_asked.true)
-
-pub returns : goal.returns
-returns c = asked_now c.put_asking.result c.args.me c.args.asked c.args.key.now _ _ (sym c.is_asked.ensures ∙ c.if-is_asked.false) c.put_asking.ensures

@@ -1,0 +1,43 @@
+//! What an input says before its first ledger.
+
+ghost use Rattle.std.specs.Prelude.{IfOk};
+ghost use Rattle.party_lines.specs.Lines.{TakesLine};
+ghost use Rattle.party_terms.specs.Inside.{IsTold};
+ghost use Rattle.party_answer.specs.Asked.{lines_said};
+ghost use Rattle.party_answer.specs.Inside.{said_state};
+
+use party_lines::agreed_line;
+use party_notes::{Notes, read_notes};
+use party_terms::{Agreed, read_agreed};
+use refusals::HeaderFault;
+use std::alloc::Global;
+use swap_base::Digest;
+use transcript_book::Parts;
+
+/// What an input says before its first ledger: the digest that was agreed on, the notes, and the deal with its context and its digest.
+#[derive(Debug, Drop)]
+pub struct Said {
+    pub told: Digest,
+    pub notes: Notes,
+    pub agreed: Agreed,
+}
+
+/// Takes the lines before the first ledger, the first of which has that number.
+#[tactic(auto, unfolding(crate::specs::Asked::lines_said))]
+pub(crate) fn read_said(
+    alloc: Global,
+    first: u32,
+    lines: &mut Parts<'_>,
+) -> Result<Said, HeaderFault>
+    ensures exact { TakesLine said_state result lines.new (lines_said first lines.old) }
+    ensures told { IfOk result (λ s. IsTold s.agreed.job) }
+{
+    let told = agreed_line(alloc, first, lines)?;
+    let notes = read_notes(alloc, first.saturating_add(1), lines)?;
+    let agreed = read_agreed(alloc, notes.next, lines)?;
+    Ok(Said {
+        told,
+        notes,
+        agreed,
+    })
+}

@@ -1,0 +1,54 @@
+//! A call with its heights.
+
+ghost use Rattle.std.specs.Prelude.{◌≡◌, ◌<◌, IfOk, length};
+ghost use Rattle.swap_digraph.specs.Deal.{IsWellSized};
+ghost use Rattle.history_index.specs.Indexes.{all_entries, AreIndexes};
+ghost use Rattle.sent_keys.specs.Sent.{party_unlocks, shown};
+ghost use Rattle.party_due.specs.Actions.{due_action};
+ghost use Rattle.answer_rules.specs.Heights.{IsShort};
+ghost use Rattle.party_answer.specs.Lines.{timed};
+
+use answer_rules::{last_accepted, last_on_time};
+use hashkey_path::Hashkey;
+use history_index::Index;
+use ledger_core::Call;
+use party_due::DueCall;
+use swap_base::{ArcId, NoMemory, PartyId, TryCopy};
+use swap_digraph::Deal;
+
+/// A call that is useful on an arc.
+#[derive(Debug, Drop)]
+pub struct Timed {
+    pub arc: ArcId,
+    pub call: Call,
+    /// The last height at which it is on time.
+    pub last: u64,
+    /// The last height at which the contract accepts its hashkey, if it has one.
+    pub until: Option<u64>,
+}
+
+/// The call with its heights, where these are the hashkeys of the party's unlocks.
+pub(crate) fn time_call(
+    deal: &Deal,
+    known: &[Index],
+    me: PartyId,
+    keys: &[&Hashkey],
+    due: &DueCall,
+) -> Result<Timed, NoMemory>
+    requires sized { IsWellSized deal.now }
+    requires known { AreIndexes deal.now known.now }
+    requires me { me < deal.now.graph.n }
+    requires keys { shown keys.now ≡ party_unlocks (all_entries known.now) me }
+    requires arc { due.now.arc < length deal.now.graph.arcs }
+    requires path { IsShort due.now.call }
+    ensures { IfOk result (λ t. t ≡ timed deal.now (all_entries known.now) me (due_action due.now)) }
+{
+    let last = last_on_time(deal, known, me, keys, due.arc, &due.call);
+    let until = last_accepted(deal, due.arc, &due.call);
+    Ok(Timed {
+        arc: due.arc,
+        call: due.call.copy()?,
+        last,
+        until,
+    })
+}

@@ -1,0 +1,3 @@
+pub mod Lines
+pub mod Digests
+pub mod Names

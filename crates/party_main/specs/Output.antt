@@ -1,0 +1,45 @@
+-- What the program `party` writes of an input, by its command, or the first reason against it.
+use Rattle.std.specs.Prelude.{ℕ, false, List, Result, Ok, Err}
+use Rattle.refusals.specs.declared.refusal.Refusal.{Refusal}
+use Rattle.party_rows.specs.declared.reason.DealReason.{DealReason}
+use Rattle.party_rows.specs.Dealt.{IsDealt}
+use Rattle.party_rows.specs.Keys.{deal_output, keys_output}
+use Rattle.party_terms.specs.Terms.{terms_output}
+use Rattle.party_answer.specs.declared.given.Answer.{Answer}
+use Rattle.party_answer.specs.declared.reason.AnswerReason.{AnswerReason}
+use Rattle.party_main.specs.declared.command.Command.{Command}
+use Rattle.party_main.specs.declared.command.Command.TheVariants.{Keys, Deal, Terms, Next}
+use Rattle.party_main.specs.declared.reason.PartyReason.{PartyReason}
+use Rattle.party_main.specs.declared.reason.PartyReason.TheVariants as reasons
+use Rattle.party_main.specs.Next.{next_output, IsInputAnswer}
+
+-- a text in which nothing warns
+abbrev pub calm : List ℕ → Answer
+calm text = record { text = text; warns = false }
+
+abbrev pub by_header : Result (List ℕ) Refusal → Result Answer PartyReason
+by_header (Ok text) = Ok (calm text)
+by_header (Err refusal) = Err (reasons.Header refusal)
+
+abbrev pub by_deal : Result (List ℕ) DealReason → Result Answer PartyReason
+by_deal (Ok text) = Ok (calm text)
+by_deal (Err reason) = Err (reasons.Deal reason)
+
+abbrev pub by_answer : Result Answer AnswerReason → Result Answer PartyReason
+by_answer (Ok answer) = Ok answer
+by_answer (Err reason) = Err (reasons.Next reason)
+
+-- what is written of an input for a command
+abbrev pub command_output : Command → List ℕ → Result Answer PartyReason
+command_output (Keys name) input = by_header (keys_output name input)
+command_output Deal input = by_deal (deal_output input)
+command_output (Terms name) input = by_header (terms_output name input)
+command_output (Next name) input = by_answer (next_output name input)
+
+-- What holds of what is written of an input beside: a deal's line is that of an accepted deal, and an
+-- answer is promised.
+abbrev pub IsPromised : Command → List ℕ → Answer → Type 0
+IsPromised (Keys name) input answer = Unit {0}
+IsPromised Deal input answer = IsDealt answer.text
+IsPromised (Terms name) input answer = Unit {0}
+IsPromised (Next name) input answer = IsInputAnswer name input answer

@@ -1,0 +1,44 @@
+-- What the words of the program `party` ask for, and how much is read for it.
+use Rattle.std.specs.Prelude.{ℕ, List, [], ◌∷◌, codes, Option, Some, None, if◌then◌else◌}
+use Rattle.std.specs.Str.{bytes_eq}
+use Rattle.party_main.specs.declared.command.Command.{Command}
+use Rattle.party_main.specs.declared.command.Command.TheVariants.{Keys, Deal, Terms, Next}
+
+-- the command that has no name
+abbrev pub alone : List ℕ → Option Command
+alone word = if bytes_eq word (codes "deal") then Some Deal else None
+
+-- the commands that have a party's name
+abbrev pub named : List ℕ → List ℕ → Option Command
+named word name =
+    if bytes_eq word (codes "keys") then Some (Keys name)
+    else if bytes_eq word (codes "terms") then Some (Terms name)
+    else if bytes_eq word (codes "next") then Some (Next name)
+    else None
+
+-- what words ask for, if they are a command's
+abbrev pub words_command : List (List ℕ) → Option Command
+words_command [] = None
+words_command (word ∷ []) = alone word
+words_command (word ∷ name ∷ []) = named word name
+words_command (word ∷ name ∷ further ∷ more) = None
+
+-- the most bytes of an input of `keys`, `deal` or `terms`
+abbrev pub short_limit : ℕ
+short_limit = 1048576
+
+-- the most bytes of an input of `next`
+abbrev pub next_limit : ℕ
+next_limit = 150994944
+
+-- the most bytes that are read for a command
+abbrev pub read_limit : Command → ℕ
+read_limit (Keys name) = short_limit
+read_limit Deal = short_limit
+read_limit (Terms name) = short_limit
+read_limit (Next name) = next_limit
+
+-- the most bytes that are read for words
+abbrev pub words_limit : Option Command → ℕ
+words_limit None = 0
+words_limit (Some command) = read_limit command

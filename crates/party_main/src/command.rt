@@ -1,0 +1,79 @@
+//! What the words of the program `party` ask for.
+
+ghost use Rattle.std.specs.Prelude.{◌≡◌, map, string_bytes};
+ghost use Rattle.party_main.specs.Words.{alone, words_command, read_limit, named};
+
+use offer_fields::TextRef;
+
+/// The most bytes of an input of `keys`, `deal` or `terms`.
+///
+/// The longest that isn't refused has fewer than a third as many: a header line of 65,536 bytes and
+/// 1,024 lines of context of 256 bytes, with their line feeds, come to 328,705.
+pub const SHORT_LIMIT: usize = 1_048_576;
+
+/// The most bytes of an input of `next`.
+///
+/// The largest deal has 128 arcs, all of them next to one party, and 8 locks. On each ledger at most 8
+/// unlocks are accepted. The line of an unlock has at most 137,500 bytes: 32 signatures of 4,288
+/// digits, 32 numbers of parties, a secret and the words around them. So the unlocks come to
+/// 140,800,000 bytes, 8 kept hashkeys to 1,100,000, header and context to 328,705, and publishes,
+/// claims, refunds and ticks to less than 1,000,000. That is less than 144 MiB.
+pub const NEXT_LIMIT: usize = 150_994_944;
+
+/// What the words ask for. Each command but `deal` has the name of a party.
+#[derive(Debug, Drop)]
+pub enum Command<'a> {
+    /// The party's row, of its seed.
+    Keys(TextRef<'a>),
+    /// A deal's header line, of everybody's rows.
+    Deal,
+    /// What the party agrees to.
+    Terms(TextRef<'a>),
+    /// What is due for the party.
+    Next(TextRef<'a>),
+}
+
+fn alone<'a>(word: &[u8]) -> Option<Command<'a>>
+    ensures { result ≡ alone word.now }
+{
+    if word == b"deal".as_slice() {
+        Some(Command::Deal)
+    } else {
+        None
+    }
+}
+
+fn named<'a>(word: &[u8], name: &'a [u8]) -> Option<Command<'a>>
+    ensures { result ≡ named word.now name.now }
+{
+    if word == b"keys".as_slice() {
+        Some(Command::Keys(TextRef::new(name)))
+    } else if word == b"terms".as_slice() {
+        Some(Command::Terms(TextRef::new(name)))
+    } else if word == b"next".as_slice() {
+        Some(Command::Next(TextRef::new(name)))
+    } else {
+        None
+    }
+}
+
+/// What the words ask for, if they are a command's.
+pub(crate) fn words_command<'a>(words: &'a [String]) -> Option<Command<'a>>
+    ensures { result ≡ words_command (map string_bytes words.now) }
+{
+    match words {
+        [word] => alone(word.as_bytes()),
+        [word, name] => named(word.as_bytes(), name.as_bytes()),
+        _ => None,
+    }
+}
+
+/// The most bytes that are read for a command.
+pub(crate) fn read_limit(command: &Command<'_>) -> usize
+    ensures { result ≡ read_limit command.now }
+{
+    match command {
+        Command::Next(_) => NEXT_LIMIT,
+        _ => SHORT_LIMIT,
+    }
+}

@@ -1,0 +1,7 @@
+use Rattle.std.proofs.Common.{◌≡◌, ◌++◌, take}
+use Rattle.std.specs.List.{flat_map}
+use Rattle.party_terms.specs.Text.{paid_lines}
+use Rattle.party_terms.proofs.text.put_leaving.Given as goal
+
+abbrev pub invariant-arcs : goal.invariant-arcs
+invariant-arcs l = l.out.items ≡ l.initial.out.items ++ flat_map (paid_lines l.names l.deal l.context) (take l.arc-index l.arc-items)

@@ -1,0 +1,5 @@
+pub mod Context
+pub mod Times
+pub mod Text
+pub mod Terms
+pub mod Inside

@@ -1,0 +1,78 @@
+-- What readers of ledgers keep.
+use Rattle.std.specs.Prelude.{◌≡◌, ◌<◌, ℕ, List, length, decimal, slice_index_or}
+use Rattle.swap_digraph.specs.declared.deal.Deal.{Deal}
+use Rattle.swap_digraph.specs.Deal.{IsWellSized}
+use Rattle.ledger_core.specs.History.{IsLegal}
+use Rattle.told_ledgers.specs.declared.told.ToldLedger.{ToldLedger}
+use Rattle.told_ledgers.specs.declared.one_ledger.Heard.{Heard}
+use Rattle.told_ledgers.specs.declared.one_ledger.Heard.TheVariants.{More, Bad}
+use Rattle.told_ledgers.specs.declared.stage.Stage.{Stage}
+use Rattle.told_ledgers.specs.declared.stage.Stage.TheVariants.{Reading}
+use Rattle.told_ledgers.specs.declared.one_ledger.OneLedger.TheInside as one_ledger
+use Rattle.told_ledgers.specs.declared.reader.LedgersReader.TheInside as reader
+use Rattle.told_ledgers.specs.SoFar.{LedgerSoFar}
+use Rattle.told_ledgers.specs.Ledger.{untold}
+use Rattle.told_ledgers.specs.Telling.{Telling}
+
+-- ---- one ledger
+
+abbrev pub so_far : one_ledger.Inside → LedgerSoFar
+so_far l = record {
+  deal = l.ledger.deal;
+  me = l.me;
+  arc = l.ledger.arc;
+  past = l.past;
+  unlocks = l.unlocks;
+  is_closed = l.is_closed;
+}
+
+-- What was taken is what was replayed, and is legal.
+pub record IsReplayed (l : one_ledger.Inside) : Type 0 where
+  pub replayed : l.ledger.history ≡ l.past
+  pub legal : IsLegal l.ledger.deal l.ledger.arc l.past
+
+-- what is told of a ledger with a bad entry is legal
+abbrev pub IsLegalHeard : Deal → ℕ → Heard → Type 0
+IsLegalHeard d a (More l) = Unit {0}
+IsLegalHeard d a (Bad t) = IsLegal d a t.history
+
+-- ---- all ledgers
+
+abbrev pub telling : reader.Inside → Telling
+telling r = record {
+  deal = r.deal;
+  me = r.me;
+  ledgers = r.ledgers.items;
+  least = r.least;
+  count = r.count;
+  more = r.more;
+  stage = r.stage;
+}
+
+-- the ledger at hand is one of the deal's, and is read for the party
+pub record IsOf (d : Deal) (v : ℕ) (l : LedgerSoFar) : Type 0 where
+  pub deal : l.deal ≡ d
+  pub me : l.me ≡ v
+  pub arc : l.arc < length d.graph.arcs
+
+-- and so it is behind a line of it
+abbrev pub IsHeardOf : Deal → ℕ → Heard → Type 0
+IsHeardOf d v (More l) = IsOf d v l
+IsHeardOf d v (Bad t) = Unit {0}
+
+abbrev pub IsStageOf : Deal → ℕ → Stage → Type 0
+IsStageOf d v (Reading l) = IsOf d v l
+IsStageOf d v _ = Unit {0}
+
+-- what is told of each arc is legal
+abbrev pub AreLegal : Deal → List ToldLedger → Type 0
+AreLegal d ts = (a : ℕ) → a < length ts → IsLegal d a (slice_index_or ts a untold).history
+
+-- What is told of each arc is legal, and the ledger at hand is read for the party.
+pub record IsTelling (r : reader.Inside) : Type 0 where
+  pub sized : IsWellSized r.deal
+  pub own : r.own ≡ decimal r.me
+  pub found : r.found ≡ r.deal
+  pub one_each : length r.ledgers.items ≡ length r.deal.graph.arcs
+  pub legal : AreLegal r.deal r.ledgers.items
+  pub stage : IsStageOf r.deal r.me r.stage

@@ -1,0 +1,17 @@
+-- A ledger as far as its lines were read.
+use Rattle.std.specs.Prelude.{ℕ, Bool, List}
+use Rattle.swap_digraph.specs.declared.deal.Deal.{Deal}
+use Rattle.ledger_core.specs.declared.entry.Entry.{Entry}
+use Rattle.told_ledgers.specs.declared.told.OwnUnlock.{OwnUnlock}
+
+pub record LedgerSoFar : Type 0 where
+  pub deal : Deal
+  -- the party that is told
+  pub me : ℕ
+  pub arc : ℕ
+  -- the entries that were taken
+  pub past : List Entry
+  -- those of them that are the party's unlocks
+  pub unlocks : List OwnUnlock
+  -- a wrong publish was accepted: the calls of others are passed over
+  pub is_closed : Bool

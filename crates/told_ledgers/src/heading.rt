@@ -1,0 +1,99 @@
+//! The line before those of a ledger.
+
+ghost use Rattle.std.specs.Prelude.{◌<◌, ◌≤◌, ◌^◌, IfOk};
+ghost use Rattle.swap_base.specs.Fault.{Gives};
+ghost use Rattle.transcript_lines.specs.Reading.{field_of, bounded_number};
+ghost use Rattle.transcript_book.specs.Counts.{ledger_word};
+ghost use Rattle.transcript_book.specs.Taking.{Takes};
+ghost use Rattle.told_ledgers.specs.Telling.{arc_said, heading_said, heading_words};
+
+use swap_base::ArcId;
+use transcript_book::{Parts, WordFault, misspelt, nothing_more, number_of, word};
+
+/// What the line before those of a ledger tells.
+#[derive(Clone, Copy)]
+pub struct Heading {
+    pub arc: ArcId,
+    /// How many lines the ledger has.
+    pub count: u32,
+}
+
+fn ledger_word(word: &[u8]) -> Result<(), WordFault>
+    ensures { Gives (λ u. u) result (ledger_word word.now) }
+{
+    if word == b"ledger".as_slice() {
+        Ok(())
+    } else {
+        Err(misspelt())
+    }
+}
+
+#[tactic(auto, unfolding(transcript_lines::specs::Reading::field_of))]
+fn ledger_field(fields: &mut Parts<'_>) -> Result<(), WordFault>
+    ensures { Takes (λ u. u) result fields.new (field_of ledger_word fields.old) }
+{
+    ledger_word(word(fields)?)
+}
+
+fn arc_said(least: u64, arcs: u64, word: &[u8]) -> Result<ArcId, WordFault>
+    requires { arcs ≤ 128 }
+    ensures exact { Gives (λ a. a) result (arc_said least arcs word.now) }
+    ensures below { IfOk result (λ a. a < arcs) }
+{
+    let arc = number_of(word)?;
+    if least <= arc && arc < arcs {
+        Ok(arc as ArcId)
+    } else {
+        Err(misspelt())
+    }
+}
+
+#[tactic(auto, unfolding(transcript_lines::specs::Reading::field_of))]
+fn arc_field(least: u64, arcs: u64, fields: &mut Parts<'_>) -> Result<ArcId, WordFault>
+    requires { arcs ≤ 128 }
+    ensures exact { Takes (λ a. a) result fields.new (field_of (arc_said least arcs) fields.old) }
+    ensures below { IfOk result (λ a. a < arcs) }
+{
+    arc_said(least, arcs, word(fields)?)
+}
+
+fn count_said(word: &[u8]) -> Result<u32, WordFault>
+    ensures { Gives (λ n. n) result (bounded_number (2 ^ 32) word.now) }
+{
+    let n = number_of(word)?;
+    if n < 4_294_967_296 {
+        Ok(n as u32)
+    } else {
+        Err(misspelt())
+    }
+}
+
+#[tactic(auto, unfolding(transcript_lines::specs::Reading::field_of))]
+fn count_field(fields: &mut Parts<'_>) -> Result<u32, WordFault>
+    ensures { Takes (λ n. n) result fields.new (field_of (bounded_number (2 ^ 32)) fields.old) }
+{
+    count_said(word(fields)?)
+}
+
+#[tactic(auto, unfolding(crate::specs::Telling::heading_words))]
+fn heading_words(least: u64, arcs: u64, fields: &mut Parts<'_>) -> Result<Heading, WordFault>
+    requires { arcs ≤ 128 }
+    ensures exact { Gives (λ h. h) result (heading_words least arcs fields.old) }
+    ensures below { IfOk result (λ h. h.arc < arcs) }
+{
+    ledger_field(fields)?;
+    let arc = arc_field(least, arcs, fields)?;
+    let count = count_field(fields)?;
+    nothing_more(fields)?;
+    Ok(Heading { arc, count })
+}
+
+/// What the line before those of a ledger tells, whose arc is at least one and below another.
+#[tactic(auto, unfolding(crate::specs::Telling::heading_said))]
+pub(crate) fn heading_said(least: u64, arcs: u64, line: &[u8]) -> Result<Heading, WordFault>
+    requires { arcs ≤ 128 }
+    ensures exact { Gives (λ h. h) result (heading_said least arcs line.now) }
+    ensures below { IfOk result (λ h. h.arc < arcs) }
+{
+    heading_words(least, arcs, &mut Parts::new(b' ', line))
+}

@@ -1,0 +1,4 @@
+pub mod Apart
+pub mod Enough
+pub mod Written
+pub mod Bounded
