@@ -4,8 +4,9 @@ from __future__ import annotations
 
 import re
 from functools import lru_cache
-from typing import Any, Callable, NamedTuple, Optional, TYPE_CHECKING
+from typing import Any, Callable, NamedTuple, Optional, TYPE_CHECKING, Tuple
 
+from .agreeing import MOST_SHORT, deal_text, keys_text, terms_text
 from .clearing import cleared
 from .hashes import hashlock_of, public_key, secret_of
 from .drawn import plain_job
@@ -14,14 +15,14 @@ from .offer import MOST_EVENTS, PLAIN, Offer, Refused, header_of, job_of, lines_
 from .play import race, run
 from .texts import check_text, compact, joined, made_header, report, summary, transcript
 from .transcripts import MOST_BYTES, Reader, replayed, transcript_of
-from .wallet import wallet_lines
+from .wallet import MOST_ASKED, wallet_lines
 
 if TYPE_CHECKING:
     from .rules import View
 
 USAGE = ("usage: swap check | run [--transcript] | race [--ticks K] [--transcript] | audit | make"
          " | gen --seed S --parties N --events E [--summary] | clear | many")
-PARTY_USAGE = "usage: party NAME"
+PARTY_USAGE = "usage: party keys NAME | deal | terms NAME | next NAME"
 FOUND_NOTHING, FOUND, WRONG_WORDS, REFUSED, READ_FAULT, WRITE_FAULT, NO_MEMORY, TOO_LONG = range(8)
 
 
@@ -173,22 +174,43 @@ def takes_input(words: list[str]) -> bool:
     return asked is not None and asked[0] != "gen"
 
 
+PartyCommand = Callable[[bytes, str], Tuple[bytes, int]]
+# By the first word and the number of words, since each command but `deal` has the name of a party
+# behind it: the command, and the most bytes of its input
+PARTY_COMMANDS: dict[tuple[str, int], tuple[PartyCommand, int]] = {
+    ("keys", 2): (keys_text, MOST_SHORT),
+    ("deal", 1): (deal_text, MOST_SHORT),
+    ("terms", 2): (terms_text, MOST_SHORT),
+    ("next", 2): (wallet_lines, MOST_ASKED),
+}
+
+
+def party_command(words: list[str]) -> Optional[tuple[PartyCommand, int]]:
+    """The command of the program `party` that words ask for, with the most bytes of its input, or
+    None."""
+    return PARTY_COMMANDS.get((words[0], len(words))) if words else None
+
+
 def party_takes_input(words: list[str]) -> bool:
     """The same of the program `party`."""
-    return len(words) == 1
+    return party_command(words) is not None
 
 
 def party_answer(words: list[str], text: bytes) -> Answer:
     """The same of the program `party`."""
-    return answer_to(wallet_lines, text, words[0]) if party_takes_input(words) else wrong_words(PARTY_USAGE)
+    asked = party_command(words)
+    if asked is None:
+        return wrong_words(PARTY_USAGE)
+    command, most = asked
+    return answer_to(command, text, words[-1], most)
 
 
 def wrong_words(usage: str) -> Answer:
     return Answer(WRONG_WORDS, b"", ("swap: wrong words\n%s\n" % usage).encode())
 
 
-def answer_to(command: Callable[..., Any], text: bytes, asked: Any) -> Answer:
-    if len(text) > MOST_BYTES:
+def answer_to(command: Callable[..., Any], text: bytes, asked: Any, most: int = MOST_BYTES) -> Answer:
+    if len(text) > most:
         return Answer(TOO_LONG, b"", b"swap: too long\n")
     try:
         out, found = command(text, asked)

@@ -9,7 +9,7 @@ from __future__ import annotations
 
 import json
 import re
-from typing import Any, Callable, Dict, NoReturn
+from typing import Any, Callable, Dict, Iterable, NoReturn
 
 from .deal import KEYED, MOST_ARCS, MOST_PARTIES, PATH_LIMIT, TIMED, Deal, closed_set, follower_cycle
 from .hashes import hashlock_of, public_key, secret_of
@@ -225,7 +225,7 @@ def script_of(party: Json) -> list[Json]:
     return actor.get("script", []) if isinstance(actor, dict) else []
 
 
-def examine_names(header: Json, line: int) -> None:
+def examine_names(header: Json, line: int, strategies: Iterable[str]) -> None:
     known, before, leading = {party["name"] for party in header["parties"]}, set(), set()
     for party in header["parties"]:
         if not NAME.fullmatch(party["name"]):
@@ -235,7 +235,7 @@ def examine_names(header: Json, line: int) -> None:
         before.add(party["name"])
         actor = party.get("actor")
         if isinstance(actor, dict) and "strategy" in actor:
-            examine_known(actor["strategy"], line, STRATEGIES)
+            examine_known(actor["strategy"], line, strategies)
         for move in script_of(party):
             examine_move_names(move, line, known)
     for arc in header["arcs"]:
@@ -383,11 +383,12 @@ def deal_of(header: Json, form: str) -> Deal:
     return deal
 
 
-def header_of(line: bytes, number: int, form: str) -> Offer:
-    """The offer of a header line, or the first reason against it up to the timelocks."""
+def header_of(line: bytes, number: int, form: str, strategies: Iterable[str] = STRATEGIES) -> Offer:
+    """The offer of a header line whose strategies are among these, or the first reason against it
+    up to the timelocks."""
     header = parsed(line, number)
     examine_fields(header, number, header_table(header, form))
-    examine_names(header, number)
+    examine_names(header, number, strategies)
     examine_limits(header, number)
     offer = Offer(header, form)
     for party in header["parties"]:

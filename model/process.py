@@ -20,11 +20,11 @@ def words() -> List[str]:
         return []
 
 
-def whole_input() -> bytes:
+def whole_input(most: int) -> bytes:
     """Standard input up to its end, or up to one byte more than the most."""
     if sys.stdin is None:
         raise OSError("standard input is closed")
-    pieces, left = [], MOST_BYTES + 1
+    pieces, left = [], most + 1
     while left and (piece := os.read(0, min(PIECE, left))):
         pieces.append(piece)
         left -= len(piece)
@@ -49,22 +49,22 @@ def tell(line: bytes) -> None:
         pass
 
 
-def answered(answer: Callable[[List[str], bytes], Answer], takes_input: Callable[[List[str]], bool]) -> Answer:
+def answered(answer: Callable[[List[str], bytes], Answer], takes_input: Callable[[List[str]], bool], most: int) -> Answer:
     """The answer to the process's words and input."""
     said = words()
     try:
-        text = whole_input() if takes_input(said) else b""
+        text = whole_input(most) if takes_input(said) else b""
     except OSError:
         return Answer(READ_FAULT, b"", b"swap: read fault\n")
     return answer(said, text)
 
 
-def run(answer: Callable[[List[str], bytes], Answer], takes_input: Callable[[List[str]], bool]) -> int:
+def run(answer: Callable[[List[str], bytes], Answer], takes_input: Callable[[List[str]], bool], most: int = MOST_BYTES) -> int:
     """Answers as the program does, and gives the status."""
     signal.signal(signal.SIGINT, signal.SIG_DFL)
     found: Optional[Answer] = None
     try:
-        found = answered(answer, takes_input)
+        found = answered(answer, takes_input, most)
         write(found.out)
     except MemoryError:
         found = Answer(NO_MEMORY, b"", b"swap: no memory\n")

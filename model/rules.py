@@ -9,7 +9,7 @@ from __future__ import annotations
 from typing import Any, Iterator, Optional, Sequence, TYPE_CHECKING
 
 from .hashes import Hashkey, extended, hashlock_of, secret_of
-from .ledger import CLAIM, PUBLISH, REFUND, TRANSFER, UNLOCK, Call, expiry, what_is_wrong
+from .ledger import CLAIM, PUBLISH, REFUND, TRANSFER, UNLOCK, Call, expiry, last_accepted, what_is_wrong
 
 if TYPE_CHECKING:
     from .deal import Deal
@@ -404,3 +404,61 @@ def findings(book: View, conforming: list[bool]) -> list[str]:
             found += ["forged %s on %d entry %d" % (name, arc, at) for arc, at in forgeries(book, party)]
     unfinished = [arc for arc in book.deal.arcs if book.height(arc) <= book.deal.horizon]
     return found + ["unfinished %d height %d" % (arc, book.height(arc)) for arc in unfinished]
+
+
+# ---- walking away
+
+def has_lost(book: View, party: int) -> bool:
+    """A party has lost where an arc that leaves it is triggered."""
+    return any(book.is_triggered(arc) for arc in book.deal.leaving[party])
+
+
+def is_watchful(book: View, party: int) -> bool:
+    """A watchful party is conducted, asks back what it published, and, once it has lost, calls each
+    enabled unlock while its hashkey is accepted, and claims."""
+    if any(breaches(book, party)) or not asks_all_back(book, party):
+        return False
+    return not has_lost(book, party) or unlocks_all(book, party) and claims_all(book, party)
+
+
+def unlocks_all(book: View, party: int) -> bool:
+    """Each unlock that is enabled is called at a height at which its hashkey is accepted."""
+    for lock in book.deal.locks:
+        first = book.first_unlock(party, lock)
+        if unlock_reference(book, party, lock, first) is not None:
+            for arc in book.deal.entering[party]:
+                entries = [entry for _, entry in book.calls(party, arc, UNLOCK, lock) if entry.call.stated == first]
+                if first is None or not any(is_in_time(book, arc, entry, first) for entry in entries):
+                    return False
+    return True
+
+
+def is_in_time(book: View, arc: int, entry: Entry, hashkey: Hashkey) -> bool:
+    return entry.height <= last_accepted(book.deal, book.ledgers[arc].correct_terms, hashkey)
+
+
+def claims_all(book: View, party: int) -> bool:
+    """A claim of the party stands on each entering arc that is correct and triggered."""
+    due = [arc for arc in book.deal.entering[party] if book.is_correct(arc) and book.is_triggered(arc)]
+    return all(book.calls(party, arc, CLAIM) for arc in due)
+
+
+def asks_all_back(book: View, party: int) -> bool:
+    """A refund call of the party stands behind each publish on an arc that leaves it and isn't
+    triggered."""
+    for arc in book.deal.leaving[party]:
+        at = book.ledgers[arc].publish_entry
+        if at is not None and book.published(arc) and not book.is_triggered(arc):
+            if not any(number > at for number, _ in book.calls(party, arc, REFUND)):
+                return False
+    return True
+
+
+def has_refunds(book: View, party: int) -> bool:
+    """Whether the party has back what it published on each arc that leaves it and isn't
+    triggered."""
+    for arc in book.deal.leaving[party]:
+        settled = book.settled(arc)
+        if book.published(arc) and not book.is_triggered(arc) and (settled is None or settled.call.kind != REFUND):
+            return False
+    return True

@@ -5,6 +5,8 @@ The tests here are the stored offers: those of `examples/` by each command, its 
 its swaps on shared chains by `many`, an exchange's day by all that it takes, and the runs of
 `.ci/runs`. The rows of `tables/` are asked so too.
 """
+from __future__ import annotations
+
 import importlib.machinery
 import importlib.util
 import os
@@ -12,19 +14,24 @@ import re
 import sys
 from functools import partial
 from pathlib import Path
+from typing import Any, Callable, List
 
 sys.dont_write_bytecode = True
-from program import HERE, Program, must
+from program import HERE, Answer, Program, Tests, must
 
 sys.path.insert(1, os.path.join(HERE, ".."))
-from model.commands import answer, party_answer  # noqa: F401
+from model.commands import Answer as ModelAnswer  # noqa: E402
+from model.commands import answer  # noqa: E402
+
+# How the model answers words and an input
+ByModel = Callable[[List[str], bytes], ModelAnswer]
 
 
-def shortened(text):
+def shortened(text: bytes) -> bytes:
     return text if len(text) < 600 else text[:300] + b" .. " + text[-300:]
 
 
-def must_agree(answer, words, text, found):
+def must_agree(answer: ByModel, words: list[str], text: bytes, found: Answer) -> None:
     """Tests an answer of the program against the model's, which `answer` gives. A race has no one
     text: of it a refusal is determined, and who takes part."""
     wanted = answer(words, text)
@@ -35,7 +42,7 @@ def must_agree(answer, words, text, found):
         must(tuple(found) == tuple(wanted), told)
 
 
-def determined(race):
+def determined(race: bytes) -> list[bytes]:
     """What is determined of a race's text: the swap, its arcs and parties, and a transcript's
     header line."""
     return re.findall(rb"(?m)^(?:swap .*|ledger .* -> .*|party \S+ \w+|\{.*)", race)
@@ -47,22 +54,22 @@ TOP = Path(HERE).parent
 class Compared(Program):
     """The program, of which each answer is compared with the model's."""
 
-    def __init__(self, path, by_model=answer):
+    def __init__(self, path: str, by_model: ByModel = answer) -> None:
         super().__init__(path)
         self.by_model = by_model
 
-    def run(self, words, text):
+    def run(self, words: list[str], text: bytes) -> Answer:
         found = super().run(words, text)
         must_agree(self.by_model, words, text, found)
         return found
 
 
-def stored_run(folder, program):
+def stored_run(folder: Path, program: Program) -> None:
     words = (folder / "args").read_text().split("\n")
     program.run([word for word in words if word], (folder / "stdin").read_bytes())
 
 
-def stored_offer(file, program):
+def stored_offer(file: Path, program: Program) -> None:
     """An offer by each command that reads one, and an audit of what its run tells."""
     text = file.read_bytes()
     for words in (["check"], ["run"], ["make"], ["race"]):
@@ -70,35 +77,37 @@ def stored_offer(file, program):
     program.run(["audit"], program.run(["run", "--transcript"], text).out)
 
 
-def stored_wishes(file, program):
+def stored_wishes(file: Path, program: Program) -> None:
     program.run(["clear"], file.read_bytes())
 
 
-def must_report(program, many, reports):
+def must_report(program: Program, many: bytes, reports: Path) -> None:
     """Tests that many swaps are written as is stored, with status 0."""
     must(program.run(["many"], many) == (0, reports.read_bytes(), b""), "it isn't " + reports.name)
 
 
-def stored_swaps(file, program):
+def stored_swaps(file: Path, program: Program) -> None:
     must_report(program, file.read_bytes(), file.with_suffix(".reports"))
 
 
-def exchange():
+def exchange() -> Any:
     """The script that makes swaps on shared chains of a day's wishes."""
     loader = importlib.machinery.SourceFileLoader("exchange", str(TOP / "examples" / "exchange"))
-    module = importlib.util.module_from_spec(importlib.util.spec_from_loader("exchange", loader))
+    spec = importlib.util.spec_from_loader("exchange", loader)
+    assert spec is not None
+    module = importlib.util.module_from_spec(spec)
     loader.exec_module(module)
     return module
 
 
-def exchange_day(program):
+def exchange_day(program: Program) -> None:
     wishes = TOP / "examples" / "exchange.wishes"
     many, left_out = exchange().many_text(lambda words, text: program.run(words, text.encode()).out.decode(), wishes.read_text())
     must(left_out == ["left out 4 closed alice,bob,carol"], "what is left out: %r" % left_out)
     must_report(program, many.encode(), wishes.with_suffix(".reports"))
 
 
-def tests():
+def tests() -> Tests:
     for folder in sorted((TOP / ".ci" / "runs").iterdir()):
         yield f"beside: {folder.name}", partial(stored_run, folder)
     for file in sorted((TOP / "examples").glob("*.[jp][ol]*")):

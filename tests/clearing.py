@@ -1,32 +1,39 @@
 """Tests of what is cleared of wishes, against the definitions, over all cycles of small digraphs;
 each group that comes out is made and swapped."""
+from __future__ import annotations
+
 import itertools
 import json
 import random
 import sys
 from functools import partial
+from typing import Any, Collection, Iterator, List, Tuple
 
 sys.dont_write_bytecode = True
 from making import done
-from program import must
+from program import Program, Tests, must
 from races import raced_ends
 from texts import asked, is_wanted
+
+# From whom to whom; and the parties of a group with the numbers of its arcs
+Arc = Tuple[int, int]
+Group = Tuple[List[int], List[int]]
 
 
 class Wishes:
     """Proposed transfers between parties by their numbers, with the names and amounts of the
     line."""
 
-    def __init__(self, count, arcs, start=10, delta=10):
+    def __init__(self, count: int, arcs: list[Arc], start: int = 10, delta: int = 10) -> None:
         self.names = [f"p{place}" for place in range(count)]
         self.arcs, self.start, self.delta = arcs, start, delta
         self.reach = [self.reached(place) for place in range(count)]
 
-    def line(self):
+    def line(self) -> str:
         arcs = [{"from": self.names[u], "to": self.names[v], "amount": 1 + place} for place, (u, v) in enumerate(self.arcs)]
         return json.dumps({"clear": 1, "start": self.start, "delta": self.delta, "parties": self.names, "arcs": arcs}) + "\n"
 
-    def reached(self, first):
+    def reached(self, first: int) -> set[int]:
         found, new = {first}, [first]
         while new:
             here = new.pop()
@@ -35,10 +42,10 @@ class Wishes:
             new += more
         return found
 
-    def named(self, places):
+    def named(self, places: list[int]) -> str:
         return ",".join(self.names[place] for place in places)
 
-    def groups(self):
+    def groups(self) -> Iterator[Group]:
         """The parties of each group that has arcs, and the numbers of these."""
         for least in range(len(self.names)):
             parties = [v for v in range(len(self.names)) if v in self.reach[least] and least in self.reach[v]]
@@ -47,7 +54,7 @@ class Wishes:
                 yield parties, arcs
 
 
-def breaks_all(arcs, leaders):
+def breaks_all(arcs: list[Arc], leaders: Collection[int]) -> bool:
     """Whether no cycle lies beside the leaders: what nothing enters goes, until nothing is left."""
     left = [(u, v) for u, v in arcs if u not in leaders and v not in leaders]
     while left:
@@ -58,7 +65,7 @@ def breaks_all(arcs, leaders):
     return True
 
 
-def leaders_of(parties, arcs):
+def leaders_of(parties: list[int], arcs: list[Arc]) -> list[int]:
     """What remains of all parties when they are dropped, those first that the fewest arcs touch,
     wherever the rest breaks all cycles."""
     leaders = set(parties)
@@ -68,7 +75,7 @@ def leaders_of(parties, arcs):
     return sorted(leaders)
 
 
-def round_trip(arcs, leader, leaders):
+def round_trip(arcs: list[Arc], leader: int, leaders: list[int]) -> int:
     """The length of a shortest cycle through the leader and no other."""
     others, found, count = set(leaders) - {leader}, {leader}, 0
     while True:
@@ -77,15 +84,15 @@ def round_trip(arcs, leader, leaders):
             return count
 
 
-def seeded(line):
+def seeded(line: str) -> dict[str, Any]:
     """The plain job that a group's line is with a seed per party, and a fair finish."""
-    job = json.loads(line)
+    job: dict[str, Any] = json.loads(line)
     for place, party in enumerate(job["parties"]):
         party["seed"] = f"{place:064x}"
     return job | {"finish": "fair"}
 
 
-def is_swapped(program, line):
+def is_swapped(program: Program, line: str) -> None:
     """The group is made, accepted, run and raced, and each party has its deal; no smaller bound
     would do."""
     plain = seeded(line)
@@ -96,7 +103,7 @@ def is_swapped(program, line):
     is_wanted(raced_ends(program, job), " ".join(len(plain["parties"]) * ["Deal"]))
 
 
-def is_cycle(wishes, arcs, cycle, leader, leaders):
+def is_cycle(wishes: Wishes, arcs: list[Arc], cycle: str, leader: int, leaders: list[int]) -> None:
     """The cycle is a shortest one of distinct parties that begins with the leader and holds no
     other."""
     places = [wishes.names.index(name) for name in cycle.split(",")]
@@ -105,7 +112,7 @@ def is_cycle(wishes, arcs, cycle, leader, leaders):
     must(len(places) == round_trip(arcs, leader, leaders) and set(places) & set(leaders) == {leader}, f"not a shortest cycle: {cycle}")
 
 
-def is_group(program, wishes, number, group, lines, swapped):
+def is_group(program: Program, wishes: Wishes, number: int, group: Group, lines: list[str], swapped: bool) -> None:
     parties, numbers = group
     arcs = [wishes.arcs[a] for a in numbers]
     leaders = leaders_of(parties, arcs)
@@ -124,7 +131,7 @@ def is_group(program, wishes, number, group, lines, swapped):
         is_swapped(program, line)
 
 
-def is_cleared(wishes, swapped, program):
+def is_cleared(wishes: Wishes, swapped: bool, program: Program) -> None:
     """What is written of the wishes is what the definitions say of them."""
     groups = list(wishes.groups())
     counts = [len(leaders_of(parties, [wishes.arcs[a] for a in numbers])) for parties, numbers in groups]
@@ -145,24 +152,25 @@ def is_cleared(wishes, swapped, program):
 # ---- wishes
 
 
-def complete(count, first=0):
+def complete(count: int, first: int = 0) -> list[Arc]:
     return [(first + u, first + v) for u in range(count) for v in range(count) if u != v]
 
 
-def hub(count, at=0):
+def hub(count: int, at: int = 0) -> list[Arc]:
     return [arc for v in range(count) if v != at for arc in ((at, v), (v, at))]
 
 
-def drawn(number):
+def drawn(number: int) -> Wishes:
     """Wishes drawn from a number: up to 12 parties, and as many arcs as make groups of several
     sizes. Two rounds of a race fit in delta."""
     draw = random.Random(number)
     count = draw.randint(2, 12)
-    arcs = [tuple(draw.sample(range(count), 2)) for _ in range(draw.randint(1, 2 * count))]
+    ends = [draw.sample(range(count), 2) for _ in range(draw.randint(1, 2 * count))]
+    arcs = [(payer, to) for payer, to in ends]
     return Wishes(count, arcs, draw.randint(10, 1000), draw.randint(2, 10))
 
 
-def all_small():
+def all_small() -> Iterator[Wishes]:
     """All digraphs of three parties, each with the arcs in their order."""
     every = complete(3)
     for size in range(1, len(every) + 1):
@@ -170,21 +178,21 @@ def all_small():
             yield Wishes(3, list(arcs))
 
 
-def small_are_cleared(program):
+def small_are_cleared(program: Program) -> None:
     for wishes in all_small():
         is_cleared(wishes, False, program)
 
 
-def drawn_are_cleared(first, program):
+def drawn_are_cleared(first: int, program: Program) -> None:
     for number in range(first, first + 25):
         is_cleared(drawn(number), number % 5 == 0, program)
 
 
-def lines_of(*wishes):
+def lines_of(*wishes: Wishes) -> list[str]:
     return [json.dumps(json.loads(it.line()) | {"start": 1, "delta": 2}) + "\n" for it in wishes]
 
 
-def is_refused(line, reason, program):
+def is_refused(line: str, reason: str, program: Program) -> None:
     is_wanted(asked(program, ["clear"], line), f"swap: refused: {reason}\n")
 
 
@@ -201,7 +209,7 @@ NAMED = {
 TOO_SOON = lines_of(Wishes(10, complete(10)))[0]
 
 
-def tests():
+def tests() -> Tests:
     for name, wishes in NAMED.items():
         yield f"{name}, cleared and swapped", partial(is_cleared, wishes, True)
     yield "all digraphs of three parties are cleared", small_are_cleared

@@ -11,12 +11,14 @@ tests what it answers.
 
 The inputs are short ones, for each command. bench/faults tests the same of longer ones.
 """
+from __future__ import annotations
+
 import sys
 from functools import partial
-from typing import NamedTuple
+from typing import Callable, Iterator, NamedTuple, Optional, Sequence
 
 sys.dont_write_bytecode = True
-from program import Failed, must
+from program import Answer, Failed, Program, Tests, must
 from texts import deal, edited
 
 CUT_SHORT = (3, b"", b"swap: refused: CutShort\n")
@@ -27,21 +29,25 @@ class Row(NamedTuple):
     parties act in a race."""
 
     name: str
-    words: list
+    words: list[str]
     text: bytes
-    told_by: list = None
+    told_by: Optional[list[str]] = None
     varies: bool = False
+
+
+# A test of a row at a place, beside its usual answer
+AtPlace = Callable[[Program, Row, Answer, int], None]
 
 
 # ---- what is tested at a place
 
 
-def is_whole(text, cut):
+def is_whole(text: bytes, cut: int) -> bool:
     """Whether the cut is behind a line, with or without its line feed."""
     return text[:cut].endswith(b"\n") or text[cut : cut + 1] in (b"", b"\n")
 
 
-def tested_many(program, some, whole, found):
+def tested_many(program: Program, some: bytes, whole: bool, found: Answer) -> None:
     """The answer to many swaps that are cut, of which no line behind the finish begins with another
     line."""
     last, is_headed = some.count(b"\n") + 1, b"\nfinish " in some
@@ -53,7 +59,7 @@ def tested_many(program, some, whole, found):
         must(found in [(3, b"", b"swap: refused: %s\n" % reason) for reason in reasons], "swaps that are cut")
 
 
-def tested_cut(program, row, _, cut):
+def tested_cut(program: Program, row: Row, _: Answer, cut: int) -> None:
     some = row.text[:cut]
     found = program.run(row.words, some)
     if row.words == ["audit"]:
@@ -67,7 +73,7 @@ def tested_cut(program, row, _, cut):
         must(found == (3, b"", b"swap: refused: NotJson %d\n" % (some.count(b"\n") + 1)), "a line that is cut")
 
 
-def tested_run_cut(program, row, usual, cut):
+def tested_run_cut(program: Program, row: Row, usual: Answer, cut: int) -> None:
     """The same of a run of a job of which each event is one entry of a ledger."""
     tested_cut(program, row, usual, cut)
     if is_whole(row.text, cut):
@@ -77,16 +83,16 @@ def tested_run_cut(program, row, usual, cut):
         must(told.count(b"\nt ") + told.count(b"\nc ") == some.count(b"\n"), "an entry for each event")
 
 
-def tested_read(program, row, _, count):
+def tested_read(program: Program, row: Row, _: Answer, count: int) -> None:
     must(program.run_unread(row.words, row.text[:count]) == (4, b"", b"swap: read fault\n"), "a read that fails")
 
 
-def tested_short_read(program, row, _, count):
+def tested_short_read(program: Program, row: Row, _: Answer, count: int) -> None:
     """The same behind reads that give seven bytes each."""
     must(program.run_unread(row.words, row.text[: 7 * count], 7) == (4, b"", b"swap: read fault\n"), "a short read that fails")
 
 
-def tested_write(program, row, usual, room):
+def tested_write(program: Program, row: Row, usual: Answer, room: int) -> None:
     found = program.run_unwritten(row.words, row.text, room)
     if row.varies:
         must((found.status, len(found.out), found.err) == (5, room, b"swap: write fault\n"), "a write of a race that fails")
@@ -100,7 +106,7 @@ def tested_write(program, row, usual, room):
 # ---- places
 
 
-def begun(program, row):
+def begun(program: Program, row: Row) -> tuple[Row, Answer]:
     """The row with its input for the text, and its usual answer."""
     if row.told_by:
         row = row._replace(text=program.run(row.told_by, row.text).out)
@@ -109,7 +115,7 @@ def begun(program, row):
     return row, usual
 
 
-def places(test, row, usual):
+def places(test: AtPlace, row: Row, usual: Answer) -> range:
     """The places of the row at which that is tested."""
     if test is tested_read:
         return range(len(row.text) + 1)
@@ -122,7 +128,7 @@ def places(test, row, usual):
     return range(len(row.text) if row.words == ["audit"] else len(row.text) + 1)
 
 
-def failures(program, test, row, usual, some):
+def failures(program: Program, test: AtPlace, row: Row, usual: Answer, some: Sequence[int]) -> Iterator[str]:
     """Why it fails at some of these places."""
     for place in some:
         try:
@@ -131,7 +137,7 @@ def failures(program, test, row, usual, some):
             yield f"{why}, at {place}"
 
 
-def must_hold(program, test, row, usual, some):
+def must_hold(program: Program, test: AtPlace, row: Row, usual: Answer, some: Sequence[int]) -> None:
     """Tests these places, and tells the first three that fail."""
     failed = list(failures(program, test, row, usual, some))
     must(not failed, "%d of %d places: %s" % (len(failed), len(some), "; ".join(failed[:3])))
@@ -171,33 +177,33 @@ REFUSED = """{"call":"alice","move":{"do":"publish","arc":0}}
 """
 
 
-def plain_job():
+def plain_job() -> str:
     return edited(deal("timelocks"), GIVEN)
 
 
-def header_of(name):
+def header_of(name: str) -> str:
     return deal(name).split("\n")[0]
 
 
-def idle_job():
+def idle_job() -> str:
     """The job by hand without its events: in a race of it nobody does anything, so each race of it
     has the same text."""
     return header_of("by_hand")
 
 
-def second_job():
+def second_job() -> str:
     return edited(deal("hashkeys"), SECOND) + CALLS
 
 
-def many_swaps():
+def many_swaps() -> str:
     return deal("shared.many") + SHARED
 
 
-def row_of(words, name, text, **other):
-    return Row(words + " of " + name, words.split(), text.encode(), **other)
+def row_of(words: str, name: str, text: str, told_by: Optional[list[str]] = None, varies: bool = False) -> Row:
+    return Row(words + " of " + name, words.split(), text.encode(), told_by, varies)
 
 
-def rows():
+def rows() -> Iterator[Row]:
     """Each command that reads."""
     for words in ("check", "run", "run --transcript"):
         yield row_of(words, "by_hand", deal("by_hand"))
@@ -209,13 +215,13 @@ def rows():
         yield row_of(words, "idle parties", idle_job())
 
 
-def numbers():
+def numbers() -> Iterator[Row]:
     for more in ("", " --summary"):
         words = "gen --seed 1 --parties 2 --events 3" + more
         yield Row(words, words.split(), b"")
 
 
-def rows_of_cuts():
+def rows_of_cuts() -> Iterator[tuple[AtPlace, Row]]:
     """Each with what is tested where it is cut."""
     for name, text in (("by_hand", deal("by_hand")), ("timelocks", deal("timelocks") + ACTS), ("hashkeys", deal("hashkeys") + ACTS)):
         yield tested_run_cut, row_of("run", name, text)
@@ -234,13 +240,13 @@ def rows_of_cuts():
 # ---- tests
 
 
-def test_share(test, row, share, of, program):
+def test_share(test: AtPlace, row: Row, share: int, of: int, program: Program) -> None:
     """Tests each place of the row whose number leaves that share."""
     row, usual = begun(program, row)
     must_hold(program, test, row, usual, places(test, row, usual)[share::of])
 
 
-def test_pages(row, share, of, program):
+def test_pages(row: Row, share: int, of: int, program: Program) -> None:
     """Writes of a report of some pages fail at each 7th byte, and behind each line, where a page
     may end."""
     row, usual = begun(program, row)
@@ -249,13 +255,13 @@ def test_pages(row, share, of, program):
     must_hold(program, tested_write, row, usual, some[share::of])
 
 
-def test_race(row, program):
+def test_race(row: Row, program: Program) -> None:
     """Some writes of a race in which all conform fail."""
     row, usual = begun(program, row)
     must_hold(program, tested_write, row, usual, (0, 1, 100, 200, 10_000, 20_000))
 
 
-def test_number(words, program):
+def test_number(words: list[str], program: Program) -> None:
     """What is asked for by a number reads nothing."""
     usual = program.run(words, b"{")
     must(usual.status == 0 and usual.out and not usual.err, "the usual answer")
@@ -263,7 +269,7 @@ def test_number(words, program):
         must(program.run_unread(words, text) == usual, "a read that isn't made")
 
 
-def test_header(header, program):
+def test_header(header: str, program: Program) -> None:
     """A run of a header alone is unfinished."""
     unfinished = b"\nunfinished 0 height 0\nunfinished 1 height 0\nunfinished 2 height 0\nfindings 3\n"
     for text in (header, header + "\n"):
@@ -272,7 +278,7 @@ def test_header(header, program):
         must(found.out.startswith(b"swap report 1\n") and found.out.endswith(unfinished), "the report of a header")
 
 
-def test_lines(program):
+def test_lines(program: Program) -> None:
     """What is made of a plain job and further lines is what is made of the job, and those lines
     behind it."""
     header = program.run(["make"], plain_job().encode()).out
@@ -282,13 +288,13 @@ def test_lines(program):
         must(program.run(["make"], (plain_job() + lines).encode()) == (0, header + copied.encode(), b""), "the lines %r" % lines)
 
 
-def shared(name, test, *given):
+def shared(name: str, test: Callable[..., None], *given: object) -> Tests:
     """The test in three shares."""
     for share in range(3):
         yield f"{name}, share {share + 1} of 3", partial(test, *given, share, 3)
 
 
-def tests():
+def tests() -> Tests:
     for row in rows():
         yield from shared(f"each read of {row.name} fails", test_share, tested_read, row)
         yield f"each read of 7 bytes of {row.name} fails", partial(test_share, tested_short_read, row, 0, 1)

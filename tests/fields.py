@@ -7,22 +7,25 @@ piece at the mark <here> of a place. A field that is left out is Missing; one wi
 may be absent. A list of a list for its value is of the WrongKind. The mark <zeros> stands for 64
 zeros.
 """
+from __future__ import annotations
+
 import sys
 from functools import partial
+from typing import Iterator
 
 sys.dont_write_bytecode = True
-from program import must
+from program import Program, Tests, must
 from texts import table
 
 MARK = "<here>"
 
 
-def in_job(actor, event):
+def in_job(actor: str, event: str) -> str:
     """A place in a job: in that actor of its first party, or in that event."""
     return table("fields/job").strip().replace("<actor>", actor).replace("<event>", event)
 
 
-def tables():
+def tables() -> Iterator[tuple[str, str, tuple[str, ...], str]]:
     """What has the fields, in which table, the words that read it, and its place."""
     yield "headers", "headers", ("check", "run", "run --transcript", "race"), MARK + "\n"
     yield "plain headers", "plain_headers", ("make",), "\n" + MARK
@@ -33,23 +36,23 @@ def tables():
     yield "moves of scripts", "moves", ("race",), in_job('{"script":[%s]}' % MARK, "")
 
 
-def pieces(name):
+def pieces(name: str) -> Iterator[tuple[str, list[str]]]:
     """The pieces of a table, each with the lines of its fields."""
     for case in table("fields/" + name).split("== ")[1:]:
         piece, *lines = case.splitlines()
         yield piece, lines
 
 
-def name_of(field):
+def name_of(field: str) -> str:
     return field.split('"')[1]
 
 
-def with_lists(field):
+def with_lists(field: str) -> str:
     """The field with a list of a list for its value."""
     return '%s"%s":[[]]%s' % ("," if field.startswith(",") else "", name_of(field), "," if field.endswith(",") else "")
 
 
-def changes(line):
+def changes(line: str) -> Iterator[tuple[str, str, str]]:
     """A field, what stands in its place, and why that is refused."""
     field = line.removeprefix("? ")
     if field == line:
@@ -57,12 +60,12 @@ def changes(line):
     yield field, with_lists(field), "WrongKind"
 
 
-def is_refused(program, words, text, reason):
+def is_refused(program: Program, words: str, text: str, reason: str) -> None:
     found = program.run(words.split(), text.encode())
     must(found == (3, b"", f"swap: refused: {reason}\n".encode()), f"wanted {reason}, and got {found}")
 
 
-def test_piece(words, place, piece, lines, program):
+def test_piece(words: str, place: str, piece: str, lines: list[str], program: Program) -> None:
     line = place.split(MARK)[0].count("\n") + 1
     for field, instead, reason in (change for row in lines for change in changes(row)):
         must(field in piece, "found nowhere: " + field)
@@ -70,7 +73,7 @@ def test_piece(words, place, piece, lines, program):
         is_refused(program, words, text, f"{reason} {line} {name_of(field)}")
 
 
-def tests():
+def tests() -> Tests:
     for what, name, commands, place in tables():
         for words in commands:
             for number, (piece, lines) in enumerate(pieces(name), 1):

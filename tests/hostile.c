@@ -113,7 +113,7 @@ static answer answered(int is_next, const input *it) {
 }
 
 static int is_status(uint32_t status) {
-    return status == SWAP_PARTY_DONE || status == SWAP_PARTY_REFUSED || status == SWAP_PARTY_TOO_LONG;
+    return status == SWAP_PARTY_DONE || status == SWAP_PARTY_WARNED || status == SWAP_PARTY_REFUSED || status == SWAP_PARTY_TOO_LONG;
 }
 
 /* One call with room for so much: the text is put whole, or the buffer stays as it was. */
@@ -149,7 +149,7 @@ static size_t drawn(size_t below) {
     return (size_t)(state >> 33) % (below ? below : 1);
 }
 
-static const char *const WORDS[] = {"keep ",   "sent ",    "999999999999999999999", "-1",    "\n",  "\r\n", "swap transcript 1\n", "ledger 0 20064\n",
+static const char *const WORDS[] = {"keep ",   "sent ",    "999999999999999999999", "-1",    "\n",  "\r\n", "agreed ",             "ledger 0 20064\n",
                                     "t 1\n",   "c 0 refund = accepted\n",  "\"",  "{",   "[[[[[[[[",  "\\ud800", "\xff\xfe",  " = ",   "end\n",  "4294967296"};
 
 /* Puts some bytes in the place of some others. */
@@ -222,6 +222,9 @@ static void edits(long rounds) {
 
 /* ---- large */
 
+/* A line that may stand first, of a digest that nobody agreed on. */
+#define AGREED "agreed 0000000000000000000000000000000000000000000000000000000000000000\n"
+
 static void ask_filled(input *it, const char *first, const char *word, size_t length) {
     size_t at = strlen(first), size = strlen(word);
     it->text = malloc(length);
@@ -233,7 +236,8 @@ static void ask_filled(input *it, const char *first, const char *word, size_t le
     it->length = length;
     for (int is_next = 0; is_next < 2; is_next++) {
         answer found = answered(is_next, it);
-        must(found.status == (length > SWAP_PARTY_TEXT_LIMIT ? SWAP_PARTY_TOO_LONG : SWAP_PARTY_REFUSED), "a large input has another status");
+        size_t limit = is_next ? SWAP_PARTY_TEXT_LIMIT : SWAP_PARTY_SHORT_LIMIT;
+        must(found.status == (length > limit ? SWAP_PARTY_TOO_LONG : SWAP_PARTY_REFUSED), "a large input has another status");
         free(found.bytes);
     }
     free(it->text);
@@ -242,9 +246,9 @@ static void ask_filled(input *it, const char *first, const char *word, size_t le
 /* The first fills, of which most lines are read, have the most bytes that a text may have. */
 static void large(size_t most_fills) {
     input it = inputs[0];
-    static const char *const FILLS[] = {"sent 1\n", "{\"a\":1,", "[", "\xff", "keep 0 ", "\n", "0", "swap transcript 1\n{"};
+    static const char *const FILLS[] = {"sent 1\n", "{\"a\":1,", "[", "\xff", "keep 0 ", "\n", "0", "about 0 x\n"};
     for (size_t fill = 0; fill < sizeof FILLS / sizeof *FILLS; fill++)
-        ask_filled(&it, fill % 2 ? "swap transcript 1\n" : "", FILLS[fill], fill < most_fills ? SWAP_PARTY_TEXT_LIMIT : 1 << 16);
+        ask_filled(&it, fill % 2 ? "" : AGREED, FILLS[fill], fill < most_fills ? SWAP_PARTY_TEXT_LIMIT : 1 << 16);
     ask_filled(&it, "", "sent 1\n", (size_t)SWAP_PARTY_TEXT_LIMIT + 1);
     /* a name of any length */
     memset(it.name, 'x', sizeof it.name - 1);

@@ -1,14 +1,16 @@
 """Tests of inputs as bytes: the words beside them, their limits, how they come, and faults of
 reading behind a reason."""
+from __future__ import annotations
+
 import os
 import socket
 import sys
 import threading
 from functools import partial
-from typing import NamedTuple
+from typing import Iterator, NamedTuple, Union
 
 sys.dont_write_bytecode = True
-from program import must
+from program import Program, Tests, must
 from texts import asked, deal, edited, is_wanted, read, stored, told
 
 MOST = 16_777_216
@@ -22,16 +24,16 @@ ARC = '{"from":"alice","to":"bob","amount":1,"timelock":60},'
 ARCS = '"arcs":['
 
 
-def answers(words, text, wanted, program):
+def answers(words: list[str], text: Union[str, bytes], wanted: str, program: Program) -> None:
     is_wanted(asked(program, words, text), wanted)
 
 
-def words_are_wrong(words, program):
+def words_are_wrong(words: list[str], program: Program) -> None:
     answered = asked(program, words, deal("by_hand"))
     must(answered.startswith("swap: wrong words\n"), f"it answered:\n{answered}")
 
 
-def is_no_text(program):
+def is_no_text(program: Program) -> None:
     answers(["run"], deal("timelocks").encode() + b'{"act":"\xff"}\n', "swap: refused: NotJson 2\n", program)
 
 
@@ -46,11 +48,11 @@ class Filled(NamedTuple):
     tail: str = ""
     more: int = 0
 
-    def text(self):
+    def text(self) -> str:
         return self.head + (MOST - len(self.head) - len(self.tail) + self.more) * self.filler + self.tail
 
 
-def limits():
+def limits() -> Iterator[tuple[str, str, Filled, str]]:
     """Inputs of the most bytes, and of one more, each with its command and answer."""
     job, answer, transcript = deal("by_hand"), stored("by_hand.answer"), stored("by_hand.transcript")
     for of, command, filled, wanted in (
@@ -68,38 +70,38 @@ def limits():
         yield f"one byte more: {of}", command, filled._replace(more=1), TOO_LONG
 
 
-def is_at_limit(command, filled, wanted, program):
+def is_at_limit(command: str, filled: Filled, wanted: str, program: Program) -> None:
     answers([command], filled.text(), wanted, program)
 
 
-def nests_deep(part, program):
+def nests_deep(part: str, program: Program) -> None:
     answers(["run"], 1_000_000 * part, NO_JSON, program)
 
 
-def ticks(ending, wanted, program):
+def ticks(ending: str, wanted: str, program: Program) -> None:
     answers(["run"], deal("timelocks") + 200_000 * '{"tick":0}\n' + ending, wanted, program)
 
 
-def has_arcs_more(more, wanted, program):
+def has_arcs_more(more: int, wanted: str, program: Program) -> None:
     answers(["run"], edited(deal("timelocks"), f"{ARCS} => {ARCS}{more * ARC}"), wanted, program)
 
 
 # ---- pieces
 
 
-def widened(job):
+def widened(job: str) -> bytes:
     """The job with 20,000 blanks before its first line feed, and as many blank lines behind it."""
     header, feed, events = job.partition("\n")
     return (header + 20_000 * " " + feed + events + 20_000 * "\n").encode()
 
 
-def give_records(ours, text, length):
+def give_records(ours: socket.socket, text: bytes, length: int) -> None:
     for at in range(0, len(text), length):
         ours.send(text[at : at + length])
     ours.close()
 
 
-def answers_records(command, text, wanted, length, program):
+def answers_records(command: str, text: bytes, wanted: str, length: int, program: Program) -> None:
     """The input comes in records, of which each read gives one."""
     ours, theirs = socket.socketpair(socket.AF_UNIX, socket.SOCK_SEQPACKET)
     program.give(b"")
@@ -109,13 +111,13 @@ def answers_records(command, text, wanted, length, program):
     is_wanted(told(program.end(pid)), wanted)
 
 
-def give_writes(file, text, length):
+def give_writes(file: int, text: bytes, length: int) -> None:
     for at in range(0, len(text), length):
         os.write(file, text[at : at + length])
     os.close(file)
 
 
-def answers_writes(command, text, wanted, length, program):
+def answers_writes(command: str, text: bytes, wanted: str, length: int, program: Program) -> None:
     """The input comes through a pipe, written so many bytes at once."""
     theirs, ours = os.pipe()
     program.give(b"")
@@ -128,13 +130,13 @@ def answers_writes(command, text, wanted, length, program):
 # ---- faults of reading behind a reason
 
 
-def is_unread(command, text, program):
+def is_unread(command: str, text: str, program: Program) -> None:
     """A read that fails behind any part of a text with a reason in it is what is told."""
     for count in range(0, len(text), 1 + len(text) // 5):
         is_wanted(told(program.run_unread([command], text[:count].encode())), READ_FAULT)
 
 
-def tests():
+def tests() -> Tests:
     for words in WRONG_WORDS:
         yield f"words {words}", partial(words_are_wrong, words)
     yield "an input that is no text", is_no_text

@@ -1,12 +1,15 @@
 """Tests of jobs that are made from plain ones and from numbers, against independent programs, and
 of rings of version 2."""
+from __future__ import annotations
+
 import json
 import sys
 from functools import partial
 from hashlib import sha256
+from typing import Any
 
 sys.dont_write_bytecode = True
-from program import must
+from program import Program, Tests, must
 from races import raced_ends
 from signer import deal_id
 from tables import generated, summary
@@ -24,37 +27,37 @@ SEED = "351ebc95cc67531dbafeab20498cb7c94eae6a8ee3f5d20cfa175eb7b52fed4c"
 CHECKED = "done\nswap accepted\nneed 31\nopen by 64\nexpiry 128\nhorizon 130\n"
 
 
-def done(program, words, text):
+def done(program: Program, words: list[str], text: str) -> str:
     """What the program writes where it is done."""
     word, _, written = asked(program, words, text).partition("\n")
     must(word == "done", f"{words}: {word}")
     return written
 
 
-def is_made(name, program):
+def is_made(name: str, program: Program) -> None:
     is_wanted(done(program, ["make"], deal(name)), stored(name + ".made"))
 
 
-def copies_lines(program):
+def copies_lines(program: Program) -> None:
     lines, copied = LINES
     is_wanted(done(program, ["make"], deal("plain") + lines), stored("plain.made") + copied)
 
 
-def is_refused(text, reason, program):
+def is_refused(text: str, reason: str, program: Program) -> None:
     is_wanted(asked(program, ["make"], text), f"swap: refused: {reason}\n")
 
 
 # ---- numbers
 
 
-def plain_of(header):
+def plain_of(header: dict[str, Any]) -> str:
     """The plain job of a made one."""
     plain = {name: value for name, value in header.items() if name != "keys"}
     plain["leaders"] = [{"party": it["party"]} for it in header["leaders"]]
     return json.dumps(plain)
 
 
-def is_sevens_job(program):
+def is_sevens_job(program: Program) -> None:
     header, _, events = done(program, SEVEN, "").partition("\n")
     said = json.loads(header)
     must(said["parties"][5]["seed"] == SEED, "the seed of party 5")
@@ -63,11 +66,11 @@ def is_sevens_job(program):
     is_wanted(done(program, ["make"], plain_of(said)), header + "\n")
 
 
-def is_given_twice(program):
+def is_given_twice(program: Program) -> None:
     is_wanted(done(program, SEVEN, ""), done(program, SEVEN, ""))
 
 
-def is_summed_up(program):
+def is_summed_up(program: Program) -> None:
     """A number may stand behind its option, with zeros before it, and options come in any order."""
     words = ["gen", "--events=500", "--summary", "--parties=6", "--seed=0000000007"]
     is_wanted(asked(program, words, ""), summary("6", "500", "9", "3", "2394"))
@@ -76,7 +79,7 @@ def is_summed_up(program):
 # ---- rings
 
 
-def ring(version, count, times):
+def ring(version: int, count: int, times: int) -> str:
     """A plain job of a ring of so many parties, each of whose arcs is there so many times."""
     names = [f"p{10 + place}" for place in range(count)]
     arcs = [{"from": names[place], "to": names[(place + 1) % count], "amount": 1} for place in range(count) for _ in range(times)]
@@ -85,7 +88,7 @@ def ring(version, count, times):
     return json.dumps(job | {"leaders": [{"party": "p10"}], "finish": "fair"}) + "\n"
 
 
-def runs_the_largest_ring(program):
+def runs_the_largest_ring(program: Program) -> None:
     """32 parties in a ring, each of whose arcs is there four times: the last hashkeys have paths of
     32 vertices."""
     job = done(program, ["make"], ring(2, 32, 4))
@@ -96,7 +99,7 @@ def runs_the_largest_ring(program):
     is_wanted(done(program, ["audit"], done(program, ["run", "--transcript"], job)), report)
 
 
-def races_the_largest_ring(program):
+def races_the_largest_ring(program: Program) -> None:
     job = done(program, ["make"], ring(2, 32, 4))
     is_wanted(raced_ends(program, job), " ".join(32 * ["Deal"]))
 
@@ -107,7 +110,7 @@ REFUSED_RINGS = {
 }  # fmt: skip
 
 
-def tests():
+def tests() -> Tests:
     for name in ("plain", "plain_timelocks"):
         yield f"{name} is made byte for byte", partial(is_made, name)
     yield "further lines are copied, and blank ones left out", copies_lines

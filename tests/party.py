@@ -1,117 +1,299 @@
-"""What the program `party` answers to a wallet's lines: each reason against them, and what is due,
-as rows of tables/party, whose commands are the names of parties; words, faults and the most bytes;
-and any moments of runs, for which the model says what is due.
+"""What the program `party` answers: each reason, and each line that it writes, as rows of
+tables/party; words, faults and the most bytes; deals of rows beside those that `make` makes; and
+any moments of runs, for which the model says what is due.
 """
+from __future__ import annotations
+
 import json
 import random
 import re
 import sys
 from functools import partial
+from hashlib import sha256
 from pathlib import Path
+from typing import Any, Dict
 
 sys.dont_write_bytecode = True
-from beside import answer
-from program import HERE, MOST, must
+from program import HERE, Failed, Program, Tests, must
 from tables import tests_in
 from texts import deal, signed, stored
 
-USAGE = b"swap: wrong words\nusage: party NAME\n"
+sys.path[1:1] = [str(Path(HERE).parent), str(Path(HERE).parent / "python")]
+from model.agreeing import MOST_SHORT  # noqa: E402
+from model.commands import answer  # noqa: E402
+from model.wallet import MOST_ASKED  # noqa: E402
+from swap_party import Transcript  # noqa: E402
+
+Offer = Dict[str, Any]
+
+USAGE = b"swap: wrong words\nusage: party keys NAME | deal | terms NAME | next NAME\n"
 
 
-def lines():
+def lines() -> bytes:
     return signed(stored("alice.asked")).encode()
 
 
-def takes_one_word(program):
-    for words in [], ["alice", "bob"], ["alice", ""]:
+def takes_its_words(program: Program) -> None:
+    wrong: list[list[str]] = [[], ["alice"], [""], ["next"], ["keys"], ["terms"], ["deal", "alice"], ["next", "alice", "bob"], ["Next", "alice"]]
+    wrong += [["alice", "next"]]
+    for words in wrong:
         found = program.run(words, lines())
         must(found == (2, b"", USAGE), f"{words}: {found}")
-    must(program.run([""], lines()) == (3, b"", b"swap: refused: Unknown 5 \n"), "an empty word is a name that nobody has")
+    must(program.run(["next", ""], lines()) == (3, b"", b"swap: refused: Unknown 5 \n"), "an empty word is a name that nobody has")
 
 
-def reads_the_most(program):
+def reads_the_most(program: Program) -> None:
+    """As many bytes as the largest deal needs, and one more."""
     text = lines()
     for more, wanted in (0, b"swap: refused: BadLine 14\n"), (1, b"swap: too long\n"):
-        found = program.run(["alice"], text + b"\n" * (MOST + more - len(text)))
+        found = program.run(["next", "alice"], text + b"x" * (MOST_ASKED + more - len(text) - 1) + b"\n")
         must((found.out, found.err) == (b"", wanted), f"{more}: {found}")
 
 
-def is_cut_short(program):
+def reads_short_inputs(program: Program) -> None:
+    """As many bytes of an input that makes a deal, and one more."""
+    for words in ["keys", "alice"], ["deal"], ["terms", "alice"]:
+        for more, wanted in (0, b"swap: refused: CutShort\n"), (1, b"swap: too long\n"):
+            found = program.run(words, b"x" * (MOST_SHORT + more))
+            must((found.out, found.err) == (b"", wanted), f"{words} {more}: {found}")
+
+
+def is_cut_short(program: Program) -> None:
     """Each beginning of the lines is refused, within a line and behind it."""
     text = lines()
     for end in [*range(0, len(text), 97), *(at.end() for at in re.finditer(b"\n", text))][:-1]:
-        found = program.run(["alice"], text[:end])
+        found = program.run(["next", "alice"], text[:end])
         must(found == (3, b"", b"swap: refused: CutShort\n"), f"{end}: {found}")
 
 
-def reads_pieces(program):
+def reads_pieces(program: Program) -> None:
     text = lines()
-    whole = program.run(["alice"], text)
-    must(whole.status == 0 and whole.out.startswith(b"call 2 0 unlock 0 "), f"{whole}")
+    whole = program.run(["next", "alice"], text)
+    must(whole.status == 0 and whole.out.startswith(b"call 2 0 by 14 until 40 unlock 0 "), f"{whole}")
     for length in None, 1000:
-        found = program.run_unread(["alice"], text, length)
+        found = program.run_unread(["next", "alice"], text, length)
         must(found == (4, b"", b"swap: read fault\n"), f"{length}: {found}")
 
 
-def writes_a_prefix(program):
+def writes_a_prefix(program: Program) -> None:
     text = lines()
-    whole = program.run(["alice"], text).out
+    whole = program.run(["next", "alice"], text).out
     for room in 0, 1, len(whole) - 1:
-        found = program.run_unwritten(["alice"], text, room)
+        found = program.run_unwritten(["next", "alice"], text, room)
         must(found == (5, whole[:room], b"swap: write fault\n"), f"{room}: {found}")
+
+
+# ---- deals of rows
+
+OFFERED = "examples/three_way.job", "examples/two_payments.job", "tests/deals/plain_timelocks.made", "tests/deals/plain.made"
+
+
+def rowed(program: Program, header: Offer) -> tuple[str, list[str]]:
+    """A plain offer of a job's header, without seeds, and the rows that the parties' seeds give."""
+    kept = {"parties": ("name", "actor"), "arcs": ("from", "to", "amount"), "leaders": ("party",)}
+    plain = {field: header[field] for field in ("swap", "mode", "start", "delta", "bound")}
+    plain |= {field: [{it: member[it] for it in names if it in member} for member in header[field]] for field, names in kept.items()}
+    offer = json.dumps(plain) + "\n"
+    return offer, [program.run(["keys", it["name"]], f"seed {it['seed']}\n{offer}".encode()).out.decode() for it in header["parties"]]
+
+
+def is_the_made_deal(job: str, program: Program) -> None:
+    """The header line of a deal of rows is that of a transcript of the job which has the parties'
+    seeds."""
+    header, transcript = transcript_of(job)
+    offer, rows = rowed(program, header)
+    random.Random(job).shuffle(rows)
+    found = program.run(["deal"], (offer + "".join(rows)).encode())
+    must(found == (0, transcript.header.line.encode() + b"\n", b""), f"{found}")
+
+
+def largest_offer() -> Offer:
+    """An offer of version 2 with as many parties, arcs and leaders as there may be, and as long
+    names and amounts."""
+    names = [f"party-of-name-{it:02}" for it in range(32)]
+    ends = [(it, (it + 1) % 32) for it in range(32)] + [(it % 8, 8 + it % 24) for it in range(96)]
+    arcs = [{"from": names[at], "to": names[to], "amount": 10**12} for at, to in ends]
+    parties = [{"name": it} for it in names]
+    return {"swap": 2, "mode": "hashkeys", "start": 1000, "delta": 100, "bound": 64, "parties": parties, "arcs": arcs,
+            "leaders": [{"party": it} for it in names[:8]]}  # fmt: skip
+
+
+def takes_the_longest_header(program: Program) -> None:
+    offer, seed = largest_offer(), "5e" * 32
+    plain = json.dumps(offer) + "\n"
+    rows = [program.run(["keys", it["name"]], f"seed {seed}\n{plain}".encode()).out.decode() for it in offer["parties"]]
+    header = program.run(["deal"], (plain + "".join(rows)).encode()).out
+    must(28_000 < len(header) < 32_768, f"the longest header: {len(header)}")
+    for more, wanted in (0, ""), (1, "swap: refused: OverLimit 1 header 65537\n"):
+        found = program.run(["terms", offer["parties"][0]["name"]], b" " * (65_536 + more - len(header) + 1) + header)
+        must(found.err.decode() == wanted and (found.status == 0) == (not wanted), f"{more}: {found}")
+        found = program.run(["deal"], b" " * (65_536 + more - len(plain) + 1) + (plain + "".join(rows)).encode())
+        must(found.err.decode() == wanted and (found.out == header) == (not wanted), f"{more}: {found}")
+    for size, told in (1_000_000, b"refused: OverLimit 2 header 1000000"), (1_048_576 - 71, b"refused: OverLimit 2 header 1048505"), (1_048_576, b"too long"):
+        found = program.run(["keys", "a"], b"seed " + seed.encode() + b"\n" + b"[" * size + b"\n")
+        must((found.out, found.err) == (b"", b"swap: " + told + b"\n"), f"{found}")
+
+
+def takes_the_most_context(program: Program) -> None:
+    header = stored("three_way.agreed").split("\n")[0] + "\n"
+    for count, wanted in (1024, b""), (1025, b"swap: refused: OverLimit 1026 about 1025\n"):
+        found = program.run(["terms", "alice"], (header + "about 0 x\n" * count).encode())
+        must(found.err == wanted and found.out.count(b"about 0 x\n") == (0 if wanted else count), f"{count}: {found}")
+    found = program.run(["terms", "alice"], (header + "about 0 x\n" * 1024 + "abouts 0 x\n").encode())
+    must(found == (3, b"", b"swap: refused: BadLine 1026\n"), f"a further line of another word: {found}")
+
+
+# ---- enemies on one's ledgers
+
+
+ALICE = "call 2 0 by 14 until 40 unlock 0 <secret> 0 <alice>\n"
+
+
+def flooded(flood: str, count: int, text: str, arc: int = 2) -> str:
+    """The lines of alice with that line of somebody else, so many times, on a ledger of hers."""
+    head = re.search(rf"(?m)^ledger {arc} (\d+)\n", text)
+    if head is None:
+        raise Failed(f"no ledger {arc}")
+    return text[: head.start()] + f"ledger {arc} {int(head[1]) + count}\n" + (flood + "\n") * count + text[head.end() :]
+
+
+def must_answer(program: Program, text: str, wanted: str, status: int = 0) -> None:
+    found = program.run(["next", "alice"], signed(text).encode())
+    must(found == (status, signed(wanted).encode(), b""), f"status {found.status}, {found.err!r} {found.out[:300]!r}")
+
+
+def isnt_flooded_by_long_unlocks(program: Program) -> None:
+    """Refused unlocks of 32 signatures, of which 16 MiB stand on each ledger of hers."""
+    long = "c %d unlock 0 <secret> {} {} = WrongPath".format(",".join("0" * 32), ",".join(["0" * 4288] * 32))
+    text = flooded(long % 1, 123, flooded(long % 2, 123, stored("alice.asked")), 0)
+    must(len(signed(text)) > 2 << 24, "it isn't long")
+    must_answer(program, text, ALICE)
+
+
+def isnt_flooded_by_many_calls(program: Program) -> None:
+    """As many refused calls as anybody likes, by parties and by strangers, and transfers."""
+    for flood in "c 2 claim = NotCounterparty", "c 2 transfer 2 0 = accepted", "c 77 publish 1 = NoFunds 1", "c 2 refund = NotExpired 61":
+        for count in 33, 20_100:
+            must_answer(program, flooded(flood, count, stored("alice.asked")), ALICE)
+            must_answer(program, flooded("c 1" + flood[3:], count, stored("alice.asked"), 0), ALICE)
+
+
+def bounds_its_own_calls(program: Program) -> None:
+    """Her own calls are those of a wallet: beyond 32 on a ledger, and 20,000 ticks, an entry is
+    bad."""
+    text = stored("alice.asked")
+    unpublished = text.replace("c 0 publish", "c 1 publish").replace("f421 = accepted", "f421 = NotParty", 1)
+    for count, warned in (32, ""), (33, "bad 0 32 NoContract SenderFull\n"):
+        must_answer(program, flooded("c 0 claim = NoContract", count, unpublished, 0), warned + "landing 0\n" + ALICE, int(bool(warned)))
+    for count, warned in (20_000, ""), (20_001, "bad 0 20001 accepted ClockFull\n"):
+        ticked = text.replace("ledger 0 2", f"ledger 0 {count + 1}").replace("t 3\n", "t 1\n" * count)
+        must_answer(program, ticked, warned + ALICE + "call 0 0 by 70 refund\n", int(bool(warned)))
 
 
 # ---- moments of runs
 
 
-def transcript_of(job):
+def transcript_of(job: str) -> tuple[Offer, Transcript]:
     """The transcript of a job's run, by the model."""
     job = deal(job) if "/" not in job else (Path(HERE).parent / job).read_text()
-    return json.loads(job.split("\n")[0]), answer(["run", "--transcript"], job.encode()).out.decode()
+    return json.loads(job.split("\n")[0]), Transcript.parse(answer(["run", "--transcript"], job.encode()).out)
 
 
-def cut(chance, entries):
+def cut(chance: random.Random, entries: list[str]) -> list[str]:
     """The entries up to one, mostly up to a call or behind it."""
     calls = [at + behind for at, entry in enumerate(entries) if entry.startswith("c ") for behind in (0, 1)]
     return entries[: chance.choice([0, len(entries), chance.randint(0, len(entries)), *calls])]
 
 
-def moment(chance, header, ledgers, me):
-    """What a party's wallet hands over: each of its ledgers up to somewhere, the hashkeys that it
-    shows there and perhaps later ones, and some publishes."""
+NOISE = (
+    "c {0} claim = StillLocked 0", "c 77 refund = Settled", "c {0} transfer {1} 0 = accepted", "c {0} publish 1 = NotParty", "c  = x",
+    "c {0} unlock x y = accepted z",
+)  # fmt: skip
+BAD = (
+    "x", "t 0", "c {0} claim = accepted", "c {1} claim = accepted", "c {0} publish x = accepted", "c {1} refund = Settled",
+    "c {1} unlock 0 = accepted",
+)  # fmt: skip
+
+
+def sent_in_pieces(chance: random.Random, entry: str) -> list[str]:
+    """An entry, a tick perhaps in two pieces."""
+    heights = int(entry[2:]) if entry.startswith("t ") else 0
+    first = chance.randint(1, heights) if heights and chance.random() < 0.3 else heights
+    return [entry] if first == heights else [f"t {first}", f"t {heights - first}"]
+
+
+def troubled(chance: random.Random, entries: list[str], me: int) -> list[str]:
+    """What a party's wallet tells of a ledger on which others do as they like."""
+    told: list[str] = []
+    for entry in entries:
+        if entry.startswith(f"c {1 - me} publish") and chance.random() < 0.1:
+            entry = entry.replace(" publish ", " publish 1", 1)
+        told += sent_in_pieces(chance, entry)
+        told += [chance.choice(NOISE).format(chance.choice([it for it in range(4) if it != me]), me)] * chance.choice([0, 0, 0, 1, 3])
+        told += [chance.choice(BAD).format(chance.choice([it for it in range(4) if it != me]), me)] * (chance.random() < 0.03)
+    return told
+
+
+def notes_of(chance: random.Random, me: int, seen: list[list[str]]) -> list[str]:
+    """What a wallet wrote down of what it did there, or most of it."""
+    kept: dict[str, str] = {}
+    sent: list[str] = []
+    for arc, entries in enumerate(seen):
+        for entry in entries:
+            words = entry.split(" ")
+            if words[:3] == ["c", str(me), "unlock"] and chance.random() < 0.95:
+                heights = f"by {chance.randint(0, 99)} until {chance.randint(0, 99)}"
+                kept.setdefault(words[3], f"keep {words[3]} {heights} {' '.join(words[4:7])}")
+            if words[:3] == ["c", str(me), "publish"] and chance.random() < 0.7:
+                sent.append(f"sent {arc}")
+    notes = [*kept.values(), *sent] * chance.randint(1, 2)
+    chance.shuffle(notes)
+    return notes
+
+
+def moment(chance: random.Random, header: Offer, ledgers: list[list[str]], me: int) -> tuple[list[str], list[str], list[str]]:
+    """What a party's wallet hands over before the header's line and behind it: each of its ledgers
+    up to somewhere, the hashkeys that it shows there and perhaps later ones, and some publishes."""
     names = [party["name"] for party in header["parties"]]
     touching = [names[me] in (arc["from"], arc["to"]) for arc in header["arcs"]]
     told = [cut(chance, entries) if is_near else [] for entries, is_near in zip(ledgers, touching)]
-    kept, sent, is_early = {}, [], chance.random() < 0.5
-    for arc, (seen, entries) in enumerate(zip(told, ledgers)):
-        for entry in entries if is_early else seen:
-            words = entry.split(" ")
-            if words[:3] == ["c", str(me), "unlock"]:
-                kept.setdefault(words[3], " ".join(words[3:7]))
-            if words[:3] == ["c", str(me), "publish"] and chance.random() < 0.7:
-                sent.append(f"sent {arc}")
-    notes = [f"keep {it}" for it in kept.values()] + sent
-    chance.shuffle(notes)
-    lines = [f"seed {header['parties'][me]['seed']}", *notes]
-    return lines, [line for arc, entries in enumerate(told) for line in (f"ledger {arc} {len(entries)}", *entries)]
+    notes = notes_of(chance, me, ledgers if chance.random() < 0.5 else told)
+    told = [troubled(chance, entries, me) for entries in told]
+    context = [f"about {chance.randrange(len(told))} ledger {it}" for it in range(chance.randint(0, 2))]
+    behind = [line for arc, entries in enumerate(told) if entries or chance.random() < 0.5 for line in (f"ledger {arc} {len(entries)}", *entries)]
+    return notes, context, behind
 
 
-def answers_at_any_moment(job, program):
+def asked_at(chance: random.Random, header: Offer, line: str, ledgers: list[list[str]], me: int) -> str:
+    notes, context, behind = moment(chance, header, ledgers, me)
+    agreed = "".join(it + "\n" for it in (line, *context))
+    digest = sha256(agreed.encode()).hexdigest()
+    return "\n".join([f"seed {header['parties'][me]['seed']}", f"agreed {digest}", *notes, agreed + "\n".join([*behind, "end", ""])])
+
+
+def answers_at_any_moment(job: str, program: Program) -> None:
     header, transcript = transcript_of(job)
-    head, *ledgers = re.split(r"(?m)^ledger \d+ \d+\n", transcript.removesuffix("end\n"))
-    ledgers, chance = [it.splitlines() for it in ledgers], random.Random(job)
+    ledgers, chance = [list(map(str, it)) for it in transcript.ledgers], random.Random(job)
     for _ in range(60):
         me = chance.randrange(len(header["parties"]))
-        before, behind = moment(chance, header, ledgers, me)
-        text = "\n".join([*before, head.rstrip("\n"), *behind, "end", ""])
-        found = program.run([header["parties"][me]["name"]], text.encode())
-        must(found.status == 0, f"{found.err}: {text[:2000]}")
+        text = asked_at(chance, header, transcript.header.line, ledgers, me)
+        found = program.run(["next", header["parties"][me]["name"]], text.encode())
+        must(found.status in (0, 1) and found.out, f"{found.err!r}: {text[:2000]}")
 
 
-def tests():
+ENEMIES = isnt_flooded_by_long_unlocks, isnt_flooded_by_many_calls, bounds_its_own_calls
+LIMITS = (
+    takes_its_words, takes_the_longest_header, takes_the_most_context, reads_the_most, reads_short_inputs, is_cut_short, reads_pieces,
+    writes_a_prefix,
+)  # fmt: skip
+
+
+def tests() -> Tests:
+    for job in OFFERED:
+        yield f"party: the deal of rows of {job}", partial(is_the_made_deal, job)
     for job in "examples/three_way.job", "examples/two_payments.job", "two_leaders", "tests/deals/plain_timelocks.made":
         yield f"party: at any moment of {job}", partial(answers_at_any_moment, job)
-    for name in "party/answers", "party/refusals":
+    for name in "party/keys", "party/deal", "party/terms", "party/answers", "party/enemies", "party/refusals":
         yield from tests_in(name)
-    for it in takes_one_word, reads_the_most, is_cut_short, reads_pieces, writes_a_prefix:
+    for it in (*LIMITS, *ENEMIES):
         yield f"party: {it.__name__}", partial(it)

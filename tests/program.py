@@ -1,11 +1,13 @@
 """The built program as the scripts run it: its answers, and reads and writes that fail at a place
 that is chosen."""
+from __future__ import annotations
+
 import os
 import resource
 import signal
 import socket
 import sys
-from typing import Callable, NamedTuple
+from typing import Callable, Iterator, NamedTuple, NoReturn, Optional, Tuple
 
 sys.dont_write_bytecode = True
 
@@ -22,7 +24,7 @@ class Failed(Exception):
     pass
 
 
-def must(holds, what):
+def must(holds: object, what: str) -> None:
     if not holds:
         raise Failed(what)
 
@@ -33,11 +35,11 @@ class Answer(NamedTuple):
     err: bytes
 
 
-def late(*_):
+def late(*_: object) -> NoReturn:
     raise TimeoutError
 
 
-def status_of(pid):
+def status_of(pid: int) -> int:
     """The status of a process, which has a minute."""
     signal.alarm(60)
     try:
@@ -55,34 +57,36 @@ class Program:
     """The program with files in memory for its input and its answer, which are cheaper than
     pipes."""
 
-    def __init__(self, path):
+    def __init__(self, path: str) -> None:
         signal.signal(signal.SIGALRM, late)
-        self.path, self.asked_last = path, ([], b"")
+        self.path = path
+        self.asked_last: tuple[list[str], bytes] = ([], b"")
         self.files = [os.memfd_create(name) for name in ("input", "output", "error")]
 
-    def give(self, text):
+    def give(self, text: bytes) -> None:
         """Empties the answer's files, and fills that of the input."""
         for file in self.files:
             os.ftruncate(file, 0)
             os.lseek(file, 0, os.SEEK_SET)
         os.pwrite(self.files[0], text, 0)
 
-    def start(self, words, **other):
+    def start(self, words: list[str], **other: int) -> int:
         """Starts the program with these files but for other ones that are named."""
         files = [other.get(name, file) for name, file in zip(("input", "output", "error"), self.files)]
         moves = [(os.POSIX_SPAWN_DUP2, file, number) for number, file in enumerate(files)]
-        return os.posix_spawn(self.path, [self.path, *words], {}, file_actions=moves, setsigdef=[signal.SIGPIPE])
+        nothing: dict[str, str] = {}
+        return os.posix_spawn(self.path, [self.path, *words], nothing, file_actions=moves, setsigdef=[signal.SIGPIPE])
 
-    def end(self, pid):
+    def end(self, pid: int) -> Answer:
         status = status_of(pid)
-        return Answer(status, os.pread(self.files[1], MOST, 0), os.pread(self.files[2], MOST, 0))
+        return Answer(status, *(os.pread(file, os.fstat(file).st_size, 0) for file in self.files[1:]))
 
-    def run(self, words, text):
+    def run(self, words: list[str], text: bytes) -> Answer:
         self.asked_last = words, text
         self.give(text)
         return self.end(self.start(words))
 
-    def run_unread(self, words, text, length=None):
+    def run_unread(self, words: list[str], text: bytes, length: Optional[int] = None) -> Answer:
         """The answer where a read fails behind that text: a socket gives it, and then its other end
         is gone with something unread. With a length each read gives so many bytes: pieces that
         carry a file each aren't joined."""
@@ -99,7 +103,7 @@ class Program:
         theirs.close()
         return answer
 
-    def run_unwritten(self, words, text, room):
+    def run_unwritten(self, words: list[str], text: bytes, room: int) -> Answer:
         """The answer where its file takes so many bytes and no more; the line goes through a pipe,
         which has no limit."""
         theirs, ours = os.pipe()
@@ -117,5 +121,6 @@ class Program:
         return Answer(status, out, line)
 
 
-# A test asks the program, and fails by `must`.
+# A test asks the program, and fails by `must`. Each has a name.
 Test = Callable[[Program], None]
+Tests = Iterator[Tuple[str, Test]]

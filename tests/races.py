@@ -1,11 +1,17 @@
 """Races, each told as how its parties end and what is found; rounds of many ticks."""
-import re
+from __future__ import annotations
+
 import sys
 from functools import partial
+from pathlib import Path
 
 sys.dont_write_bytecode = True
-from program import must
+from program import HERE, Program, Tests, must
 from texts import asked, deal, edited
+
+sys.path.insert(1, str(Path(HERE).parent / "python"))
+from swap_party import Report  # noqa: E402
+from swap_party.report import Unfinished  # noqa: E402
 
 # carol opens bob's contract at height 48. The next round is at 64, when bob is too late to open
 # alice's, unless he took his turn after carol's
@@ -15,56 +21,55 @@ LATE = (
 )
 
 
-def must_be_safe(report):
-    """Nobody who conforms is underwater without being named."""
-    for name in re.findall(r"(?m)^party (.*) conforming: Underwater$", report):
-        must(re.search(rf"(?m)^(broke|late|forged) {re.escape(name)} ", report), f"{name} is underwater and isn't named")
-
-
-def raced(program, job, ticks=1):
-    """The report of a race, as an audit of its transcript tells it."""
-    status, _, transcript = asked(program, ["race", "--ticks", str(ticks), "--transcript"], job).partition("\n")
-    told, _, report = asked(program, ["audit"], transcript).partition("\n")
-    must(status in ("done", "named") and told == status, f"a race's status {status}, and an audit's {told}")
-    must_be_safe(report)
+def safe_report(text: str) -> Report:
+    """The report behind the word for its status, in which nobody who conforms is underwater without
+    being named."""
+    report = Report.parse(text.partition("\n")[2])
+    named = {it.name for it in report.findings if not isinstance(it, Unfinished)}
+    for party in report.parties:
+        is_lost = party.role == "conforming" and party.outcome == "Underwater"
+        must(not is_lost or party.name in named, f"{party.name} is underwater and isn't named")
     return report
 
 
-def raced_ends(program, job):
+def raced(program: Program, job: str, ticks: int = 1) -> str:
+    """The report of a race, as an audit of its transcript tells it."""
+    status, _, transcript = asked(program, ["race", "--ticks", str(ticks), "--transcript"], job).partition("\n")
+    audited = asked(program, ["audit"], transcript)
+    told, _, report = audited.partition("\n")
+    must(status in ("done", "named") and told == status, f"a race's status {status}, and an audit's {told}")
+    safe_report(audited)
+    return report
+
+
+def raced_ends(program: Program, job: str) -> str:
     """How races of a job end, as the report of one tells and an audit of another's transcript."""
-    report = asked(program, ["race", "--ticks", "1"], job)
-    must_be_safe(report)
-    told, audited = ends_of(report), ends_of(raced(program, job))
+    told = ends_of(safe_report(asked(program, ["race", "--ticks", "1"], job)))
+    audited = ends_of(Report.parse(raced(program, job)))
     must(told == audited, f"a report tells {told}, and an audit {audited}")
     return told
 
 
-def ending_of(line):
-    """What a line of a report tells of a party's end, or of a finding, if anything."""
-    if line.startswith("party "):
-        return line.rpartition(": ")[2]
-    return line.partition(" on ")[0] if re.match("broke |late |forged |unfinished ", line) else None
+def ends_of(report: Report) -> str:
+    """How each party ended, and what was found, without its ledger."""
+    return " ".join([*(it.outcome for it in report.parties), *(str(it).partition(" on ")[0] for it in report.findings)])
 
 
-def ends_of(report):
-    return " ".join(filter(None, map(ending_of, report.splitlines())))
-
-
-def all_deal(program):
+def all_deal(program: Program) -> None:
     """Two rounds of five ticks fit in delta."""
-    must(ends_of(raced(program, deal("hashkeys"), 5)) == "Deal Deal Deal", "not every deal")
+    must(ends_of(Report.parse(raced(program, deal("hashkeys"), 5))) == "Deal Deal Deal", "not every deal")
 
 
-def ends_somehow(ticks, program):
+def ends_somehow(ticks: int, program: Program) -> None:
     """Of rounds that are longer than delta allows no end is promised."""
     raced(program, deal("hashkeys"), ticks)
 
 
-def names_who_is_late(program):
+def names_who_is_late(program: Program) -> None:
     raced(program, edited(deal("hashkeys"), LATE), 16)
 
 
-def tests():
+def tests() -> Tests:
     yield "a race in rounds of 5 ticks", all_deal
     for ticks in (6, 40, 1000):
         yield f"a race in rounds of {ticks} ticks", partial(ends_somehow, ticks)

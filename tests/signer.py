@@ -1,19 +1,22 @@
 """An independent signer, written from docs/FORMATS.md alone: what seeds give a job, and
 hashkeys."""
+from __future__ import annotations
+
 from functools import cache
 from hashlib import sha256
+from typing import Any, Optional
 
 
-def digest(*parts):
+def digest(*parts: bytes) -> bytes:
     return sha256(b"".join(parts)).digest()
 
 
-def secret_of(seed):
+def secret_of(seed: bytes) -> bytes:
     return digest(b"\5", seed)
 
 
 @cache
-def chains(seed, party, lock):
+def chains(seed: bytes, party: int, lock: int) -> list[list[bytes]]:
     """The 67 chains of a key, each with its start and its 15 steps."""
     found = []
     for number in range(67):
@@ -26,25 +29,25 @@ def chains(seed, party, lock):
     return found
 
 
-def public_key(seed, party, lock):
+def public_key(seed: bytes, party: int, lock: int) -> bytes:
     return digest(b"\3", *(chain[15] for chain in chains(seed, party, lock)))
 
 
-def digits_of(message):
+def digits_of(message: bytes) -> list[int]:
     digits = [half for byte in message for half in (byte >> 4, byte & 15)]
     total = sum(15 - digit for digit in digits)
     return digits + [total >> 8, total >> 4 & 15, total & 15]
 
 
-def signature(seed, party, lock, message):
+def signature(seed: bytes, party: int, lock: int, message: bytes) -> bytes:
     return b"".join(chain[digit] for chain, digit in zip(chains(seed, party, lock), digits_of(message)))
 
 
-def deal_bytes(header, keyed):
+def deal_bytes(header: dict[str, Any], keyed: bool) -> bytes:
     """What the id of a header's deal is a digest of; keyed says whether the mode is hashkeys."""
     number = {party["name"]: at for at, party in enumerate(header["parties"])}
 
-    def wide(value, count):
+    def wide(value: int, count: int) -> bytes:
         return value.to_bytes(count, "big")
 
     told = [bytes([header["swap"], keyed, len(number), len(header["arcs"])])]
@@ -57,21 +60,22 @@ def deal_bytes(header, keyed):
     return b"".join(told)
 
 
-def deal_id(header, keyed):
+def deal_id(header: dict[str, Any], keyed: bool) -> bytes:
     """The id of a header's deal."""
     return digest(b"\6", deal_bytes(header, keyed))
 
 
-def message_of(identity, lock, suffix, secret, inner):
+def message_of(identity: bytes, lock: int, suffix: list[int], secret: bytes, inner: bytes) -> bytes:
     """What the first party of a path's suffix signs; inner is the next party's signature, or no
     bytes."""
     return digest(b"\4", identity, bytes([lock, len(suffix), *suffix]), secret, inner)
 
 
-def hashkey(identity, seeds, lock, path, secret=None):
+def hashkey(identity: bytes, seeds: list[bytes], lock: int, path: list[int], secret: Optional[bytes] = None) -> tuple[bytes, list[bytes]]:
     """The secret of the path's last party if none is given, and the signatures of all on it, first
     to last, over the path from each."""
-    secret, sigs = secret or secret_of(seeds[path[-1]]), []
+    secret = secret or secret_of(seeds[path[-1]])
+    sigs: list[bytes] = []
     for at in reversed(range(len(path))):
         message = message_of(identity, lock, path[at:], secret, sigs[0] if sigs else b"")
         sigs.insert(0, signature(seeds[path[at]], path[at], lock, message))

@@ -1,7 +1,10 @@
 """The transcripts of examples/vectors, told in short, with the signer's hashkeys in them."""
+from __future__ import annotations
+
 import re
 import sys
 from functools import cache
+from typing import Any
 
 sys.dont_write_bytecode = True
 from program import must
@@ -89,14 +92,14 @@ STORIES = """
 """
 
 
-def transcript_header(made, conforming):
+def transcript_header(made: dict[str, Any], conforming: list[str]) -> str:
     """The header as a transcript tells it."""
     told = {field: value for field, value in made.items() if field != "finish"}
     names = [party["name"] for party in made["parties"]]
     return line_of(told | {"parties": [{"name": it, "actor": "conforming" if it in conforming else "manual"} for it in names]})
 
 
-def entry_of(name, made, arc, words):
+def entry_of(name: str, made: dict[str, Any], arc: int, words: str) -> str:
     """The line of an entry: a tick, or a call with who makes it (the one that may, if none is
     named) and its reply (`accepted`, if none is)."""
     if words.startswith("t "):
@@ -117,10 +120,12 @@ def entry_of(name, made, arc, words):
     return f"c {names.index(sender)} {call} = {reply or 'accepted'}".replace("LOCKS", locks)
 
 
-def story(text):
+def story(text: str) -> tuple[str, str]:
     """The name of a transcript and its text."""
     head, *ledgers = re.sub(r"\n ", " ", text.strip()).split("\n")
-    name, of, conforming, _, old, new = re.fullmatch(r"(\w+) of (\w+): ([\w ]+)(; (.*) => (.*))?", head).groups()
+    found = re.fullmatch(r"(\w+) of (\w+): ([\w ]+)(; (.*) => (.*))?", head)
+    assert found is not None
+    name, of, conforming, _, old, new = found.groups()
     made = headers()[of][1]
     lines = ["swap transcript 1", transcript_header(made, conforming.split())]
     for arc, ledger in enumerate(ledgers):
@@ -135,5 +140,5 @@ def story(text):
 
 
 @cache
-def stories():
+def stories() -> dict[str, str]:
     return dict(story(it) for it in re.split(r"(?m)^== ", STORIES) if it.strip())

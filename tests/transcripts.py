@@ -1,10 +1,13 @@
 """Tests of transcripts: what is written of a run, and what an audit tells of texts that are
 changed, cut or full."""
+from __future__ import annotations
+
 import sys
 from functools import partial
+from typing import Callable
 
 sys.dont_write_bytecode = True
-from program import must
+from program import Program, Tests, must
 from texts import asked, deal, edited, is_wanted, signed, stored
 
 TRANSFER = '{"call":"bob","move":{"do":"transfer","arc":1,"to":"carol","units":2}}\n'
@@ -12,15 +15,15 @@ CAROL = '"carol", => "carol","actor":"manual",'
 CUT_SHORT = "swap: refused: CutShort\n"
 
 
-def transcript(name):
+def transcript(name: str) -> str:
     return signed(stored(name + ".transcript"))
 
 
-def is_written(job, name, program):
+def is_written(job: str, name: str, program: Program) -> None:
     is_wanted(asked(program, ["run", "--transcript"], job), "done\n" + transcript(name))
 
 
-def has_calls(calls, line, program):
+def has_calls(calls: int, line: str, program: Program) -> None:
     """An audit of so many calls of one party, each of which a ledger without a contract refuses,
     tells that line."""
     lines = f"ledger 1 {calls + 2}\n" + calls * "c 2 claim = NoContract\n"
@@ -31,7 +34,7 @@ def has_calls(calls, line, program):
 # ---- changed bits and cuts
 
 
-def notices(name, bit, first, step, program):
+def notices(name: str, bit: int, first: int, step: int, program: Program) -> None:
     """With one bit of the byte at a place changed, the transcript has another answer: a refusal, or
     the report of another book."""
     text = transcript(name).encode()
@@ -44,20 +47,20 @@ def notices(name, bit, first, step, program):
         must(answered.startswith("swap: refused: ") or "\nswap report 1\n" in answered, f"bit {bit} at {place}: {answered}")
 
 
-def is_cut_short(name, first, step, program):
+def is_cut_short(name: str, first: int, step: int, program: Program) -> None:
     text = transcript(name).encode()
     for cut in range(first, len(text), step):
         answered = asked(program, ["audit"], text[:cut])
         must(answered == CUT_SHORT, f"cut at {cut}: {answered}")
 
 
-def shares(name, test, step, of):
+def shares(name: str, test: Callable[..., None], step: int, of: int) -> Tests:
     """The places of a test whose number is a multiple of the step, in so many shares."""
     for share in range(of):
         yield f"{name}, share {share + 1} of {of}", partial(test, share * step, of * step)
 
 
-def tests():
+def tests() -> Tests:
     yield "a run's transcript with timelocks", partial(is_written, deal("by_hand") + TRANSFER, "by_hand")
     keyed = edited(deal("hashkeys"), CAROL) + stored("carol_by_hand.events")
     yield "a run's transcript with hashkeys", partial(is_written, keyed, "carol_by_hand")

@@ -1,12 +1,18 @@
 """What the test vectors of examples/vectors are made of, by the independent signer: deals, hashkeys
 and signatures."""
+from __future__ import annotations
+
 import json
 import re
 import sys
 from functools import cache
+from typing import Any, Dict, Iterator
 
 sys.dont_write_bytecode = True
 from signer import deal_bytes, deal_id, digest, digits_of, hashkey, message_of, public_key, secret_of, signature
+
+Header = Dict[str, Any]
+Row = Dict[str, Any]
 
 
 # ---- deals: version, mode, start, delta, bound; arcs with their amounts; leaders
@@ -19,15 +25,15 @@ two_payments:    2 hashkeys 10 10 1;   alice bob 100, alice bob 5, bob alice 40;
 """
 
 
-def seed_of(number):
+def seed_of(number: int) -> bytes:
     return digest(b"seed of a test vector", bytes([number]))
 
 
-def line_of(value):
+def line_of(value: object) -> str:
     return json.dumps(value, separators=(",", ":"), sort_keys=True)
 
 
-def plain_of(words):
+def plain_of(words: str) -> Header:
     """The plain job that a line of DEALS says."""
     times, arcs, leaders = (it.split() for it in words.split(";"))
     ends = [it.split() for it in " ".join(arcs).split(", ")]
@@ -38,7 +44,7 @@ def plain_of(words):
     return header | {"leaders": [{"party": name} for name in leaders], "finish": "fair"}
 
 
-def made_of(plain):
+def made_of(plain: Header) -> Header:
     """The job that `make` is to make of a plain one."""
     seeds = [bytes.fromhex(party["seed"]) for party in plain["parties"]]
     numbers = {party["name"]: at for at, party in enumerate(plain["parties"])}
@@ -53,20 +59,20 @@ def made_of(plain):
 
 
 @cache
-def headers():
+def headers() -> dict[str, tuple[Header, Header]]:
     """Each deal's plain header and its made one, by name."""
     plain = {name: plain_of(words) for name, words in (it.split(":") for it in DEALS.strip().split("\n"))}
     return {name: (it, made_of(it)) for name, it in plain.items()}
 
 
-def deal_rows():
+def deal_rows() -> Iterator[Row]:
     for name, (plain, made) in headers().items():
         keyed = made["mode"] == "hashkeys"
         told = {"deal": name, "plain": plain, "made": made, "bytes": deal_bytes(made, keyed).hex(), "id": deal_id(made, keyed).hex()}
         yield told | {"check": check_of(made["start"], made["delta"], made["bound"])}
 
 
-def check_of(start, delta, bound):
+def check_of(start: int, delta: int, bound: int) -> list[str]:
     """What `check` writes of a deal whose bound is the least one."""
     times = {"open by": bound, "expiry": 2 * bound + 1, "horizon": 2 * bound + 2}
     return ["swap accepted", f"need {bound}", *(f"{name} {start + steps * delta}" for name, steps in times.items())]
@@ -117,20 +123,20 @@ three_timelocks 0 60 0:alice; another secret alone => WrongSecret
 """
 
 
-def changed_bit(value):
+def changed_bit(value: bytes) -> bytes:
     return value[:-1] + bytes([value[-1] ^ 1])
 
 
-def seeds():
+def seeds() -> list[bytes]:
     return [seed_of(number) for number in range(3)]
 
 
-def numbers_of(made, names):
+def numbers_of(made: Header, names: str) -> list[int]:
     all_names = [party["name"] for party in made["parties"]]
     return [all_names.index(name) for name in names.split(",")]
 
 
-def key_of(name, lock, names, change=""):
+def key_of(name: str, lock: int, names: str, change: str = "") -> tuple[bytes, list[int], list[bytes]]:
     """A hashkey along a path of a deal, with a change, as secret, path and signatures."""
     made = headers()[name][1]
     path, identity = numbers_of(made, names), deal_id(made, made["mode"] == "hashkeys")
@@ -154,7 +160,7 @@ def key_of(name, lock, names, change=""):
     return (secret, [], []) if change.endswith("alone") or change.startswith("no path") else (secret, path, sigs)
 
 
-def hashkey_rows():
+def hashkey_rows() -> Iterator[Row]:
     for row in HASHKEYS.strip().split("\n"):
         words, _, answer = row.partition(" => ")
         first, _, change = words.partition(";")
@@ -169,7 +175,7 @@ def hashkey_rows():
 # ---- signatures: those of some hashkeys, each with what it signs
 
 
-def signature_rows():
+def signature_rows() -> Iterator[Row]:
     for name, lock, names in (("three", 0, "bob,carol,alice"), ("two_leaders", 1, "carol,alice,bob"), ("two_payments", 0, "bob,alice")):
         made = headers()[name][1]
         secret, path, sigs = key_of(name, lock, names)

@@ -2,26 +2,31 @@
 """Settles a swap: a chain for each arc, a wallet in a process of its own for each party, and a
 clock that lets the heights rise.
 
-usage: settle.py [--kills] [--seed S] [--late NAME | --twice NAME] < JOB
+usage: settle.py [--kills] [--seed S] [--late NAME | --twice NAME | --walks NAME] < JOB
 
-JOB is a made one, with everybody's seeds: each goes to its own wallet's folder and nowhere else. At
-the end the chains' histories go to `swap audit`, whose report is written. --kills kills wallets by
-SIGKILL at any moment and starts them again.
+The first line of JOB is an offer, or a made one. Where it tells a party's seed, that goes to its
+own wallet's folder and nowhere else, and any other wallet draws one. The wallets make the deal
+themselves. At the end the chains' histories go to `swap audit`, whose report is written. --kills
+kills wallets by SIGKILL at any moment and starts them again.
 
 The clock keeps what a wallet is promised: no chain rises by more than delta above the least height
 at which a wallet next to it came to rest. --late NAME breaks that for one party, whose wallet
-sleeps until its first publish is late.
+sleeps until its first publish is late. --walks NAME has one walk away at some moment.
 """
 from __future__ import annotations
 
+import json
 import os
 import random
+import secrets
 import select
 import signal
 import subprocess
 import sys
 import tempfile
 import time
+from pathlib import Path
+from typing import Any
 
 sys.dont_write_bytecode = True
 HERE = os.path.dirname(os.path.abspath(__file__))
@@ -32,15 +37,29 @@ from chain import Chain  # noqa: E402
 from swap_party import Header, Transcript  # noqa: E402
 
 
+# What a plain offer tells of each member of a list, without seeds
+OFFERED = {"parties": ("name",), "arcs": ("from", "to", "amount"), "leaders": ("party",)}
+
+
+def offer_of(job: str) -> tuple[dict[str, Any], dict[str, bytes]]:
+    """The offer of a job's header without seeds, and each party's seed: its own, or a fresh one."""
+    header = json.loads(job)
+    seeds = {it["name"]: bytes.fromhex(it["seed"]) if "seed" in it else secrets.token_bytes(32) for it in header["parties"]}
+    offer = {field: header[field] for field in ("swap", "mode", "start", "delta", "bound")}
+    for field, names in OFFERED.items():
+        offer[field] = [{name: it[name] for name in names} for it in header[field]]
+    return offer, seeds
+
+
 class Living:
     """A wallet's process, and the least height at which it last came to rest."""
 
-    def __init__(self, folder: str, name: str, twice: bool, asleep: bool) -> None:
+    def __init__(self, folder: str, name: str, twice: bool) -> None:
         self.words, self.rested = (folder, name, twice), 0
         self.pid: int | None = None
         self.heights: dict[int, int] = {}
-        if not asleep:
-            self.start()
+        self.agreed = False
+        self.start()
 
     def start(self) -> None:
         """A process of its own, which tells its rests by a pipe."""
@@ -70,22 +89,36 @@ class Living:
             raise ChildProcessError(f"the wallet of {self.words[1]} ended by itself")
         self.text += told
         *lines, self.text = self.text.split(b"\n")
-        for line in lines:
+        self.agreed |= b"agreed" in lines
+        for line in (it for it in lines if it != b"agreed"):
             self.heights = {int(arc): int(height) for arc, height in (it.split(":") for it in line.decode().split(" "))}
             self.rested = min(self.heights.values())
 
 
 class Swap:
-    def __init__(self, job: str, room: str, chance: random.Random, late: str | None = None, twice: str | None = None) -> None:
+    def __init__(self, job: str, room: str, chance: random.Random, twice: str | None = None) -> None:
         self.chance, self.room, self.killed = chance, room, 0
-        self.deal, seeds = Header.of_job(job)
-        self.put("header", f"{self.deal}\n")
-        for arc in range(len(self.deal.ends)):
+        offer, seeds = offer_of(job)
+        self.put("offer", f"{json.dumps(offer)}\n")
+        self.put("context", "".join(f"about {arc} chain{arc}, a file\n" for arc in range(len(offer["arcs"]))))
+        self.put("names", " ".join(seeds))
+        self.put("board/nothing", "")
+        for arc in range(len(offer["arcs"])):
             self.put(f"chain{arc}", "")
         for name, seed in seeds.items():
             self.put(f"{name}/seed", f"{seed.hex()}\n")
+        self.wallets = [Living(room, name, name == twice) for name in seeds]
+        rows = [wallet.awaited(Path(room) / "board" / f"{name}.row") for name in seeds]
+        self.deal = Header.of(wallet.answering().deal(f"{json.dumps(offer)}\n", rows).rstrip("\n"))
         self.chains = [Chain(room, self.deal, arc) for arc in range(len(self.deal.ends))]
-        self.wallets = [Living(room, name, name == twice, name == late) for name in seeds]
+
+    def begin(self, late: str | None) -> None:
+        """The moment of height 0, once all agreed. One that is late falls asleep before."""
+        while not all(it.agreed for it in self.wallets):
+            self.hear(0.01)
+        if late:
+            self.wallets[self.deal.names.index(late)].kill()
+        self.put("start", "")
 
     def put(self, name: str, text: str) -> None:
         path = os.path.join(self.room, name)
@@ -123,12 +156,20 @@ class Swap:
     def is_over(self) -> bool:
         return all(chain.look().height > self.deal.horizon for chain in self.chains)
 
-    def settle(self, kills: int = 0, late: str | None = None, most: float = 300) -> None:
+    def walk(self, name: str) -> None:
+        """Tells a wallet to walk away, at some moment before the contracts open."""
+        if self.chance.random() < 0.02 or min(chain.height for chain in self.chains) > self.deal.start:
+            self.put(f"{name}/walk", "")
+
+    def settle(self, kills: int = 0, late: str | None = None, walks: str | None = None, most: float = 300) -> None:
         """Lets the swap run to its end, for which it has so many seconds."""
         begun = time.monotonic()
+        self.begin(late)
         if late:
             self.sleep(self.wallets[self.deal.names.index(late)], late)
         while not self.is_over():
+            if walks:
+                self.walk(walks)
             self.kill(kills)
             self.tick()
             self.hear(0.004 * self.chance.random())
@@ -177,12 +218,14 @@ class Swap:
         return ended.returncode, ended.stdout, ended.stderr
 
 
-def settled(job: str, chance: random.Random, kills: int = 0, late: str | None = None, twice: str | None = None) -> tuple[int, str, str]:
+def settled(
+    job: str, chance: random.Random, kills: int = 0, late: str | None = None, twice: str | None = None, walks: str | None = None
+) -> tuple[int, str, str]:
     """The audit of a swap that was settled."""
     with tempfile.TemporaryDirectory(prefix="wallets-", dir="/dev/shm" if os.path.isdir("/dev/shm") else None) as room:
-        swap = Swap(job, room, chance, late, twice)
+        swap = Swap(job, room, chance, twice)
         try:
-            swap.settle(kills, late)
+            swap.settle(kills, late, walks)
         finally:
             swap.stop()
         return swap.audit()
@@ -191,7 +234,8 @@ def settled(job: str, chance: random.Random, kills: int = 0, late: str | None = 
 def build(program: str) -> None:
     """Has a script that builds its program do so, before any clock runs."""
     print(f"settle: {os.path.basename(program)} is built now, if it isn't yet: a minute or two", file=sys.stderr, flush=True)
-    ended = subprocess.run([program], stdin=subprocess.DEVNULL, capture_output=True, text=True)
+    environment = {**os.environ, "SWAP_WAIT": "1"}
+    ended = subprocess.run([program], stdin=subprocess.DEVNULL, capture_output=True, text=True, env=environment)
     if ended.returncode != 2:
         raise SystemExit(ended.stderr.strip())
 
@@ -206,7 +250,7 @@ def main() -> int:
     build(wallet.PARTY)
     build(SWAP)
     chance = random.Random(option("--seed") or "0")
-    status, report, told = settled(job, chance, 6 if "--kills" in words else 0, option("--late"), option("--twice"))
+    status, report, told = settled(job, chance, 6 if "--kills" in words else 0, option("--late"), option("--twice"), option("--walks"))
     sys.stdout.write(report)
     sys.stderr.write(told)
     return status

@@ -4,7 +4,7 @@ values.
 `wallet` asks what is due, by the library or by the programs. `notes` keeps what a wallet must keep.
 `formats.parse` reads any text, and `str` of what it answers is the same text.
 """
-from .answer import Answer, Asked, Due, Keep, Note, Rest, Sent
+from .answer import Answer, Asked, Bad, Done, Due, Keep, Landing, Ledger, Note, Sent, Unkept, Wait, agreed_digest
 from .calls import ACCEPTED, Called, Claim, Hashkey, Publish, Refund, Reply, Tick, Transfer, Unlock
 from .cleared import Cleared, Plain
 from .formats import parse
@@ -14,6 +14,7 @@ from .many import Many, Reports
 from .notes import Notes
 from .report import Report
 from .summary import Summary, Times
+from .terms import Row, Terms
 from .transcript import Transcript
 from .wallet import Library, NoAnswerError, Party, Program, RefusedError, TooLongError
 
@@ -21,13 +22,17 @@ __all__ = [
     "ACCEPTED",
     "Answer",
     "Asked",
+    "Bad",
     "Called",
     "Claim",
     "Cleared",
+    "Done",
     "Due",
     "Hashkey",
     "Header",
     "Keep",
+    "Landing",
+    "Ledger",
     "Library",
     "Many",
     "NoAnswerError",
@@ -43,14 +48,18 @@ __all__ = [
     "Reply",
     "Report",
     "Reports",
-    "Rest",
+    "Row",
     "Sent",
     "Summary",
+    "Terms",
     "Tick",
     "Times",
     "TooLongError",
     "Transcript",
     "Transfer",
+    "Unkept",
     "Unlock",
+    "Wait",
+    "agreed_digest",
     "parse",
 ]

@@ -1,46 +1,100 @@
-"""What a wallet hands over to `party`, and what it is answered."""
+"""What a wallet hands over to `party next`, and what it is answered."""
 from __future__ import annotations
 
 from collections.abc import Iterable, Iterator
 from dataclasses import dataclass
+from hashlib import sha256
 from typing import Union
 
-from .calls import BYTE, Call, Hashkey, call_of
+from .calls import BYTE, Call, Hashkey, Reply, Unlock, call_of
 from .lines import Lines, demand, fixed, hexadecimal, joined, number
-from .transcript import Transcript
+
+
+@dataclass(frozen=True)
+class Bad:
+    """That entry of the arc's ledger, counted from 0 over all lines that were told, can't be read,
+    or isn't what the contract of the deal replies. The ledger is read up to it."""
+
+    arc: int
+    entry: int
+    stated: Reply | None = None
+    replayed: Reply | None = None
+
+    def __str__(self) -> str:
+        told = [str(it) for it in (self.stated, self.replayed) if it]
+        return " ".join(["bad", str(self.arc), str(self.entry), *told])
+
+
+@dataclass(frozen=True)
+class Unkept:
+    """An unlock of the party for that lock, with a hashkey that isn't among the notes: somebody
+    else has the seed, or what was kept is lost."""
+
+    arc: int
+    entry: int
+    lock: int
+
+    def __str__(self) -> str:
+        return f"unkept {self.arc} {self.entry} {self.lock}"
 
 
 @dataclass(frozen=True)
 class Due:
-    """The call may be presented on that arc's ledger by the party of that number."""
+    """The call may be presented on that arc's ledger by the party of that number. `by` is the last
+    height at which it is on time, and `until`, of an unlock, the last at which the contract accepts
+    it."""
 
     arc: int
     party: int
     call: Call
+    by: int
+    until: int | None = None
 
     def __str__(self) -> str:
-        return f"call {self.arc} {self.party} {self.call}"
+        return f"call {self.arc} {self.party} {heights_words(self.by, self.until)} {self.call}"
 
 
 @dataclass(frozen=True)
 class Keep:
-    """The hashkey has to be kept where no crash loses it, and shown to nobody before."""
+    """The hashkey has to be kept where no crash loses it, and shown to nobody before. The line goes
+    into the notes as it was answered. The heights are those of the first call that waits for it."""
 
     key: Hashkey
+    by: int
+    until: int
 
     def __str__(self) -> str:
-        return f"keep {self.key}"
+        lock, key = str(self.key).split(" ", 1)
+        return f"keep {lock} {heights_words(self.by, self.until)} {key}"
 
 
 @dataclass(frozen=True)
-class Rest:
+class Landing:
+    """A publish that is due on that arc was sent, and hasn't landed."""
+
+    arc: int
+
+    def __str__(self) -> str:
+        return f"landing {self.arc}"
+
+
+@dataclass(frozen=True)
+class Wait:
     """Nothing is due before a call lands on a ledger next to the party or, where there is a height,
     one of them stands above it."""
 
     until: int | None = None
 
     def __str__(self) -> str:
-        return "rest" if self.until is None else f"rest {self.until}"
+        return "wait" if self.until is None else f"wait {self.until}"
+
+
+@dataclass(frozen=True)
+class Done:
+    """The swap is over for the party: nothing that lands makes anything due."""
+
+    def __str__(self) -> str:
+        return "done"
 
 
 @dataclass(frozen=True)
@@ -53,40 +107,90 @@ class Sent:
         return f"sent {self.arc}"
 
 
-Told = Union[Due, Keep, Rest]
+Told = Union[Bad, Unkept, Due, Keep, Landing, Wait, Done]
 Note = Union[Keep, Sent]
+# The order of an answer's lines: warnings, then what is due, or else that nothing is
+PLACES: dict[type[Told], int] = {Bad: 0, Unkept: 1, Due: 2, Keep: 2, Landing: 2, Wait: 3, Done: 3}
+
+
+def heights_words(by: int, until: int | None) -> str:
+    return f"by {by}" if until is None else f"by {by} until {until}"
+
+
+def keep_of(words: list[str]) -> Keep:
+    lock, by, until, *key = fixed(words, "keep", None, "by", None, "until", None, None, None, None)
+    return Keep(Hashkey.of([lock, *key]), number(by), number(until))
+
+
+def due_of(words: list[str]) -> Due:
+    demand(len(words) > 5 and words[3] == "by", "the line is no call")
+    has_until = words[5] == "until"
+    call = call_of(words[7:] if has_until and len(words) > 7 else words[5:])
+    demand(has_until == isinstance(call, Unlock), "an unlock alone has a last height")
+    until = number(words[6]) if has_until else None
+    return Due(number(words[1], BYTE), number(words[2], BYTE), call, number(words[4]), until)
+
+
+def bad_of(words: list[str]) -> Bad:
+    demand(len(words) >= 3, "the line is no bad entry")
+    arc, entry, said = number(words[1], BYTE), number(words[2]), words[3:]
+    if not said:
+        return Bad(arc, entry)
+    at = 2 if len(said) > 2 and said[1].isdigit() else 1
+    return Bad(arc, entry, replied(said[:at]), replied(said[at:]))
+
+
+def replied(words: list[str]) -> Reply:
+    """A reply. What a full ledger replies leaves no entry, so no ledger states it."""
+    return Reply(words[0]) if words in (["SenderFull"], ["ClockFull"]) else Reply.of(words)
 
 
 def told_of(line: str) -> Told:
     words = line.split(" ")
-    if words[0] == "rest":
-        return Rest(number(fixed(words, "rest", None)[0])) if len(words) > 1 else Rest()
-    if words[0] == "keep":
-        return Keep(Hashkey.of(words[1:]))
-    demand(words[0] == "call" and len(words) > 3, "the line is no answer")
-    return Due(number(words[1], BYTE), number(words[2], BYTE), call_of(words[3:]))
+    kind = words[0]
+    if kind in ("call", "keep", "bad"):
+        return due_of(words) if kind == "call" else keep_of(words) if kind == "keep" else bad_of(words)
+    if kind == "unkept":
+        arc, entry, lock = fixed(words, "unkept", None, None, None)
+        return Unkept(number(arc, BYTE), number(entry), number(lock, BYTE))
+    if kind == "landing":
+        return Landing(number(fixed(words, "landing", None)[0], BYTE))
+    if kind == "wait":
+        return Wait(number(fixed(words, "wait", None)[0])) if len(words) > 1 else Wait()
+    demand(line == "done", "the line is no answer")
+    return Done()
 
 
 @dataclass(frozen=True)
 class Answer:
-    """The lines that `party` answers."""
+    """The lines that `party next` answers."""
 
     told: tuple[Told, ...]
 
     @classmethod
     def parse(cls, text: str | bytes) -> Answer:
-        lines, told = Lines(text), []
+        lines = Lines(text)
+        told = [lines.read(told_of)]
         while lines.peek() is not None:
             told.append(lines.read(told_of))
-            if len(told) > 1 and any(isinstance(it, Rest) for it in (told[0], told[-1])):
-                raise lines.refuse("a line `rest` stands alone")
+            before, last = PLACES[type(told[-2])], PLACES[type(told[-1])]
+            if before > last or before == 3 or last == 3 and before == 2:
+                raise lines.refuse("the line doesn't stand behind the one before it")
+        if PLACES[type(told[-1])] < 2:
+            raise lines.refuse("what is due, or that nothing is, is wanted behind the warnings")
         lines.end()
         return cls(tuple(told))
 
     @property
-    def rest(self) -> Rest | None:
-        """The line `rest`, where nothing is due."""
-        return self.told[0] if self.told and isinstance(self.told[0], Rest) else None
+    def rest(self) -> Wait | Done | None:
+        """The last line, where nothing is due."""
+        last = self.told[-1]
+        return last if isinstance(last, (Wait, Done)) else None
+
+    @property
+    def warnings(self) -> tuple[Bad | Unkept, ...]:
+        """What is wrong with the ledgers."""
+        return tuple(it for it in self.told if isinstance(it, (Bad, Unkept)))
 
     def lines(self) -> Iterator[str]:
         return map(str, self.told)
@@ -95,37 +199,68 @@ class Answer:
         return joined(self.lines())
 
 
+# ---- what is handed over
+
+
 def note_of(line: str) -> Note:
     words = line.split(" ")
-    if words[0] == "sent":
-        return Sent(number(fixed(words, "sent", None)[0], BYTE))
-    demand(words[0] == "keep", "the line is no note")
-    return Keep(Hashkey.of(words[1:]))
+    return keep_of(words) if words[0] == "keep" else Sent(number(fixed(words, "sent", None)[0], BYTE))
+
+
+def agreed_digest(header: str, context: Iterable[str] = ()) -> str:
+    """The digest that binds a deal's header line and lines of context, as `party terms` tells it."""
+    return sha256(joined([header, *context]).encode()).hexdigest()
+
+
+@dataclass(frozen=True)
+class Ledger:
+    """What a wallet tells of an arc's ledger: its lines from the first one on, as they stand there.
+    Whether they can be read is `party`'s to say."""
+
+    arc: int
+    lines: tuple[str, ...]
 
 
 @dataclass(frozen=True)
 class Asked:
-    """What a wallet hands over: what it wrote down, and a transcript of each ledger as far as it
-    saw it. The seed stands in a line before it for the program, and apart for the library."""
+    """What a wallet hands over: the digest that its owner agreed to, what it wrote down, the deal's
+    header line with the context, and each ledger next to its party as far as it saw it. The seed
+    stands in a line before it for the program, and apart for the library."""
 
+    agreed: str
     notes: tuple[Note, ...]
-    transcript: Transcript
+    header: str
+    context: tuple[str, ...]
+    ledgers: tuple[Ledger, ...]
     seed: str | None = None
 
     @classmethod
     def parse(cls, text: str | bytes) -> Asked:
-        lines, notes = Lines(text), []
+        lines, notes, context, ledgers = Lines(text), [], [], []
         seed = lines.read(seed_of) if lines.begins("seed") else None
+        agreed = lines.read(agreed_of)
         while lines.begins("keep", "sent"):
             notes.append(lines.read(note_of))
-        transcript = Transcript.read(lines)
+        header = lines.next()
+        while lines.begins("about"):
+            context.append(lines.next())
+        while lines.begins("ledger"):
+            arc, count = lines.read(heading_of)
+            ledgers.append(Ledger(arc, tuple(lines.next() for _ in range(count))))
+        lines.exactly("end")
         lines.end()
-        return cls(tuple(notes), transcript, seed)
+        return cls(agreed, tuple(notes), header, tuple(context), tuple(ledgers), seed)
 
     def lines(self) -> Iterator[str]:
         yield from [f"seed {self.seed}"] * (self.seed is not None)
+        yield f"agreed {self.agreed}"
         yield from map(str, self.notes)
-        yield from self.transcript.lines()
+        yield self.header
+        yield from self.context
+        for ledger in self.ledgers:
+            yield f"ledger {ledger.arc} {len(ledger.lines)}"
+            yield from ledger.lines
+        yield "end"
 
     def __str__(self) -> str:
         return joined(self.lines())
@@ -133,6 +268,15 @@ class Asked:
 
 def seed_of(line: str) -> str:
     return hexadecimal(fixed(line.split(" "), "seed", None)[0])
+
+
+def agreed_of(line: str) -> str:
+    return hexadecimal(fixed(line.split(" "), "agreed", None)[0])
+
+
+def heading_of(line: str) -> tuple[int, int]:
+    arc, count = fixed(line.split(" "), "ledger", None, None)
+    return number(arc, BYTE), number(count, (1 << 32) - 1)
 
 
 def kept_for(notes: Iterable[Note]) -> dict[int, Hashkey]:

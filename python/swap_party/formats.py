@@ -9,9 +9,10 @@ from .lines import NotOfTheFormatError, decoded
 from .many import Many, Reports
 from .report import Report
 from .summary import Summary, Times
+from .terms import Row, Terms
 from .transcript import Transcript
 
-Text = Union[Report, Transcript, Cleared, Many, Reports, Times, Summary, Asked, Answer]
+Text = Union[Report, Transcript, Cleared, Many, Reports, Times, Summary, Row, Terms, Asked, Answer]
 FIRST_LINES: dict[str, type[Text]] = {
     "swap report 1": Report,
     "swap transcript 1": Transcript,
@@ -23,19 +24,23 @@ FIRST_LINES: dict[str, type[Text]] = {
 }
 
 
+# And of texts whose first line isn't always the same, the first word
+FIRST_WORDS: dict[str, type[Text]] = {
+    "row": Row,
+    "terms": Terms,
+    "seed": Asked,
+    "agreed": Asked,
+    **dict.fromkeys(("bad", "unkept", "call", "keep", "landing", "wait", "done"), Answer),
+}
+
+
 def kind_of(text: str) -> type[Text]:
     """What a text is, by its first line."""
-    lines = text.splitlines()
-    if not lines:
-        return Answer
-    word = lines[0].split(" ")[0]
-    if word in ("seed", "sent") or word == "keep" and "swap transcript 1" in lines:
-        return Asked
-    if word in ("call", "keep", "rest"):
-        return Answer
-    if lines[0] not in FIRST_LINES:
+    line = text.split("\n", 1)[0]
+    kind = FIRST_LINES.get(line) or FIRST_WORDS.get(line.split(" ")[0])
+    if kind is None:
         raise NotOfTheFormatError(1, "the line begins no text of swap or party")
-    return FIRST_LINES[lines[0]]
+    return kind
 
 
 def parse(text: str | bytes) -> Text:

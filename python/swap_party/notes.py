@@ -38,11 +38,13 @@ class Notes:
             os.close(folder)
 
     def add(self, note: Note) -> None:
-        """Writes a note down, and syncs it. One that stands there already is left as it is."""
-        if note in self.notes:
+        """Writes a note down, and syncs it. One that stands there already is left as it is, whatever
+        the heights of its hashkey are."""
+        kept = kept_for(self.notes).get(note.key.lock) if isinstance(note, Keep) else None
+        if note in self.notes or isinstance(note, Keep) and kept == note.key:
             return
-        if isinstance(note, Keep) and note.key.lock in kept_for(self.notes):
-            raise ValueError(f"another hashkey is kept for lock {note.key.lock}")
+        if kept is not None:
+            raise ValueError(f"another hashkey is kept for lock {kept.lock}")
         self._database.execute("insert into notes (line) values (?)", (str(note),))
         self.notes.append(note)
 

@@ -2,7 +2,7 @@
 from __future__ import annotations
 
 from collections.abc import Iterator
-from dataclasses import dataclass
+from dataclasses import dataclass, replace
 from typing import Union
 
 from .calls import Reply
@@ -78,7 +78,7 @@ class Ledger:
         one, two, amount = lines.read(lambda line: arc_words(line, arc))
         calls = []
         while not lines.begins("end"):
-            calls.append(lines.read(Done.of))
+            calls.append(lines.read(lambda line: call_between(line, one, two)))
         height, left, right, held = lines.read(lambda line: end_words(line, one, two))
         return cls(one, two, amount, tuple(calls), height, (left, right), held)
 
@@ -86,6 +86,13 @@ class Ledger:
         yield f"ledger {arc} {self.party} -> {self.counterparty} amount {self.amount}"
         yield from map(str, self.calls)
         yield f"end height {self.height} {self.party} {self.balances[0]} {self.counterparty} {self.balances[1]} held {self.held}"
+
+
+def call_between(line: str, one: str, two: str) -> Done:
+    """A call of one of an arc's two parties, which pays nobody else."""
+    done = Done.of(line)
+    demand(done.party in (one, two) and done.to in (None, one, two), "the call isn't between the parties of its ledger")
+    return done
 
 
 def arc_words(line: str, arc: int) -> tuple[str, str, int]:
@@ -215,10 +222,28 @@ class Report:
             ledgers.append(Ledger.read(lines, len(ledgers)))
         while lines.begins("party"):
             parties.append(lines.read(Ended.of))
+        told = cls(mode, *times, tuple(ledgers), tuple(parties), ())
+        if not told.is_of_its_parties():
+            raise lines.refuse("two parties are wanted, each once, and every name before is one of theirs")
         while lines.begins("broke", "late", "forged", "unfinished"):
-            findings.append(lines.read(finding_of))
+            findings.append(lines.read(told.finding_in))
         lines.exactly(f"findings {len(findings)}")
-        return cls(mode, *times, tuple(ledgers), tuple(parties), tuple(findings))
+        return replace(told, findings=tuple(findings))
+
+    def is_of_its_parties(self) -> bool:
+        """Whether its parties are two at least, each stands once, and the names in its ledgers are
+        theirs."""
+        names = {it.name for it in self.parties}
+        named = {name for it in self.ledgers for name in (it.party, it.counterparty)}
+        named |= {name for it in self.ledgers for call in it.calls for name in call.via}
+        return len(self.ledgers) > 1 and len(self.parties) > 1 and len(names) == len(self.parties) and named <= names
+
+    def finding_in(self, line: str) -> Finding:
+        """A finding of one of its parties on one of its ledgers."""
+        found = finding_of(line)
+        demand(isinstance(found, Unfinished) or found.name in {it.name for it in self.parties}, "the finding's name is no party's")
+        demand(found.arc < len(self.ledgers), "the finding's ledger isn't there")
+        return found
 
     def outcome(self, name: str) -> str:
         """How the party of that name ended."""

@@ -1,28 +1,29 @@
-"""What a wallet asks: what is due for its party, and whether a header's deal is accepted. By the
-library or by the programs, behind one interface."""
+"""What a wallet asks: its party's row for a deal, the deal of all rows, what its party agrees to,
+what is due for it, and whether a header's deal is accepted. By the library or by the programs,
+behind one interface."""
 from __future__ import annotations
 
 import ctypes
 import os
 import re
 import subprocess
-from collections.abc import Callable
+from collections.abc import Callable, Iterable
 from pathlib import Path
 from typing import Any, Protocol
 
 from .header import Header
 from .lines import WordError
 
-DONE, SHORT, REFUSED, NO_MEMORY, TOO_LONG = 0, 1, 3, 6, 7
-TEXT_LIMIT, NAME_LIMIT, SEED_SIZE, ID_SIZE = 16_777_216, 16, 32, 32
+DONE, SHORT, WARNED, REFUSED, NO_MEMORY, TOO_LONG = 0, 1, 2, 3, 6, 7
+TEXT_LIMIT, SHORT_LIMIT, NAME_LIMIT, SEED_SIZE, ID_SIZE = 150_994_944, 1_048_576, 16, 32, 32
 BEFORE = b"swap: refused: "
 # The reasons whose first word is a line's number
 OF_A_LINE = re.compile(rb"(NotJson|Missing|WrongKind|UnknownField|BadName|Duplicate|Unknown|OverLimit|WrongHex|BadLine) ([0-9]+)(?= |$)")
 
 
 class RefusedError(ValueError):
-    """What was handed over is refused. `reason` is the first reason, as docs/FORMATS.md tells it,
-    where lines are counted from the text's first."""
+    """What was handed over is refused. `reason` is the first reason, as docs/FORMATS.md tells it.
+    Where a seed stands apart, its line counts as the first."""
 
     def __init__(self, reason: str) -> None:
         super().__init__(reason)
@@ -44,6 +45,15 @@ class NoAnswerError(RuntimeError):
 class Party(Protocol):
     """What answers a wallet. Each call is a function of its arguments."""
 
+    def keys(self, name: str, seed: bytes, offer: str) -> str:
+        """The row of a party for the deal of an offer's line. A seed is for one swap."""
+
+    def deal(self, offer: str, rows: Iterable[str]) -> str:
+        """The header line of the deal of an offer's line and everybody's rows, in any order."""
+
+    def terms(self, name: str, agreed: str) -> str:
+        """What a party agrees to by a deal's header line and lines of context."""
+
     def next(self, name: str, seed: bytes, text: str) -> str:
         """The lines that answer `text`, which is the wallet's notes and a transcript of each ledger
         as far as it is known."""
@@ -54,12 +64,12 @@ class Party(Protocol):
 
 def answered(status: int, text: bytes) -> bytes:
     """The text of a call that ended well."""
-    if status == DONE:
+    if status in (DONE, WARNED):
         return text
     if status == REFUSED:
         raise RefusedError(text.removeprefix(BEFORE).rstrip(b"\n").decode("utf-8", "backslashreplace"))
     if status == TOO_LONG:
-        raise TooLongError(f"the text has more than {TEXT_LIMIT} bytes")
+        raise TooLongError("the text has more bytes than its limit")
     if status == NO_MEMORY:
         raise MemoryError
     raise NoAnswerError(status, text.decode("utf-8", "backslashreplace"))
@@ -69,6 +79,11 @@ def whole_seed(seed: bytes) -> bytes:
     if len(seed) != SEED_SIZE:
         raise ValueError(f"a seed has {SEED_SIZE} bytes")
     return seed
+
+
+def ended(line: str) -> str:
+    """The text with a line feed at its end."""
+    return line if line.endswith("\n") else line + "\n"
 
 
 # ---- the library
@@ -87,6 +102,9 @@ class Library:
     def __init__(self, path: str | os.PathLike[str] | None = None) -> None:
         it = ctypes.CDLL(os.fspath(path or os.environ.get("SWAP_PARTY_LIBRARY") or "libswap_party.so.1"))
         text, out = [ctypes.c_char_p, ctypes.c_size_t], [ctypes.c_void_p, ctypes.c_size_t]
+        self._keys = self._call(it.swap_party_keys, Said, [*text, *text, ctypes.c_char_p, *out])
+        self._deal = self._call(it.swap_party_deal, Said, [*text, *out])
+        self._terms = self._call(it.swap_party_terms, Said, [*text, *text, *out])
         self._next = self._call(it.swap_party_next, Said, [*text, *text, ctypes.c_char_p, *out])
         self._check = self._call(it.swap_party_check, Said, [*text, *out])
         self.version = self._call(it.swap_party_version, ctypes.c_char_p, [])().decode()
@@ -118,12 +136,30 @@ class Library:
             said = call(*words, out, len(out))
         return said.status, out.raw[: said.length]
 
-    def next_said(self, name: bytes, seed: bytes, text: bytes) -> tuple[int, bytes]:
+    def keys_said(self, name: bytes, seed: bytes, text: bytes) -> tuple[int, bytes]:
         """What the library answers, as it stands."""
+        return self.said(self._keys, text, len(text), name, len(name), whole_seed(seed))
+
+    def deal_said(self, text: bytes) -> tuple[int, bytes]:
+        return self.said(self._deal, text, len(text))
+
+    def terms_said(self, name: bytes, text: bytes) -> tuple[int, bytes]:
+        return self.said(self._terms, text, len(text), name, len(name))
+
+    def next_said(self, name: bytes, seed: bytes, text: bytes) -> tuple[int, bytes]:
         return self.said(self._next, text, len(text), name, len(name), whole_seed(seed))
 
     def check_said(self, header: bytes) -> tuple[int, bytes]:
         return self.said(self._check, header, len(header))
+
+    def keys(self, name: str, seed: bytes, offer: str) -> str:
+        return answered(*self.keys_said(name.encode(), seed, ended(offer).encode())).decode()
+
+    def deal(self, offer: str, rows: Iterable[str]) -> str:
+        return answered(*self.deal_said("".join(map(ended, (offer, *rows))).encode())).decode()
+
+    def terms(self, name: str, agreed: str) -> str:
+        return answered(*self.terms_said(name.encode(), ended(agreed).encode())).decode()
 
     def next(self, name: str, seed: bytes, text: str) -> str:
         return answered(*self.next_said(name.encode(), seed, text.encode())).decode()
@@ -149,9 +185,22 @@ class Program:
         ended = subprocess.run(words, input=text, capture_output=True, check=False)
         return ended.returncode, ended.stdout if ended.returncode in (0, 1) else ended.stderr.splitlines(True)[-1] if ended.stderr else b""
 
+    def _run_seeded(self, words: list[str], seed: bytes, text: str) -> str:
+        """What `party` writes of a text behind the line that tells a seed."""
+        status, said = self._run([self.party, *words], b"seed %s\n%s" % (whole_seed(seed).hex().encode(), text.encode()))
+        return answered(WARNED if status == 1 else status, said).decode()
+
+    def keys(self, name: str, seed: bytes, offer: str) -> str:
+        return self._run_seeded(["keys", name], seed, ended(offer))
+
+    def deal(self, offer: str, rows: Iterable[str]) -> str:
+        return answered(*self._run([self.party, "deal"], "".join(map(ended, (offer, *rows))).encode())).decode()
+
+    def terms(self, name: str, agreed: str) -> str:
+        return answered(*self._run([self.party, "terms", name], ended(agreed).encode())).decode()
+
     def next(self, name: str, seed: bytes, text: str) -> str:
-        status, said = self._run([self.party, name], b"seed %s\n%s" % (whole_seed(seed).hex().encode(), text.encode()))
-        return answered(status, less_one_line(said) if status == REFUSED else said).decode()
+        return self._run_seeded(["next", name], seed, text)
 
     def check(self, header: str) -> bytes:
         """Has a transcript without entries audited, which says whether the deal is accepted. The id

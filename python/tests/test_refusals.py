@@ -19,8 +19,17 @@ CLEARED = (EXAMPLES / "wishes.cleared").read_text()
 MANY = (EXAMPLES / "shared_chains.many").read_text()
 REPORTS = (EXAMPLES / "shared_chains.reports").read_text()
 KEY = f"0 {'a' * 64} 0,1 {'b' * 4288},{'c' * 4288}"
-ANSWER = f"call 0 1 unlock {KEY}\nkeep {KEY}\ncall 2 1 refund\ncall 1 1 publish 10 10 2 0 5 {'d' * 64}\n"
-ASKED = f"seed {'e' * 64}\nsent 0\n{TRANSCRIPT}"
+TIMED_KEY = KEY.replace("0 ", "0 by 30 until 40 ", 1)
+WARNED = "bad 0 3\nbad 1 0 NotExpired 61 accepted\nbad 2 5 accepted SenderFull\nunkept 1 4 0\n"
+ANSWER = (
+    f"{WARNED}call 0 1 by 30 until 40 unlock {KEY}\nkeep {TIMED_KEY}\ncall 2 1 by 70 refund\nlanding 3\n"
+    f"call 1 1 by 10 publish 10 10 2 0 5 {'d' * 64}\n"
+)
+TOLD = "about 0 some chain\nledger 1 2\nt 3\nno entry\nend\n"
+ASKED = f"seed {'e' * 64}\nagreed {'f' * 64}\nsent 0\nkeep {TIMED_KEY}\n{TRANSCRIPT.splitlines()[1]}\n{TOLD}"
+ROW = f"row alice {'a' * 64} {'b' * 64},{'c' * 64}\n"
+TERMS = f"terms alice 0 of 3\ndeal {'a' * 64}\nagree {'b' * 64}\nmode hashkeys start 10 delta 10 bound 2 horizon 70\n"
+TERMS += "pays 0 bob 100 publish by 10 back 61\nabout 0 some chain\ngets 2 carol 1\nleads 0\n"
 
 # A text, what is changed in it, and how many lines behind the change the one is that is refused
 ROWS = [
@@ -31,12 +40,17 @@ ROWS = [
     (REPORT, "ledger 1", "ledger 2", 0),
     (REPORT, ": accepted", ": Accepted", 0),
     (REPORT, "publish correct", "publish right", 0),
+    (REPORT, "61 alice refund", "61 carol refund", 0),
+    (REPORT, "via carol,alice", "via carol,dave", 10),
+    (REPORT, "party carol", "party alice", 0),
     (REPORT, "findings 0\n", "findings 1\n", 0),
     (REPORT, "findings 0\n", "findings 0", 0),
     (REPORT, "findings 0\n", "findings 0\n\n", 1),
     (REPORT, "conforming: Deal", "conforming: Done", 0),
     (FOUND, "unfinished 0 height 70", "unfinished 0  height 70", 0),
     (FOUND, "unfinished 1 height 70", "late bob unlock on 1 due 7", 0),
+    (FOUND, "unfinished 1 height 70", "late dave claim on 1 due 7", 0),
+    (FOUND, "unfinished 1 height 70", "unfinished 3 height 70", 0),
     (TRANSCRIPT, "swap transcript 1", "swap transcript", 0),
     (TRANSCRIPT, '"bound":2', '"bound":2.0', 0),
     (TRANSCRIPT, '"bound":2', '"bound":65', 0),
@@ -63,12 +77,32 @@ ROWS = [
     (MANY, "finish fair", "finish soon", 0),
     (REPORTS, "swap 1\n", "swap 2\n", 0),
     (REPORTS, "chain 1 height", "chain 2 height", 0),
-    (ANSWER, "call 2 1 refund", "call 2 refund", 0),
-    (ANSWER, "call 2 1 refund", "call 2 256 refund", 0),
-    (ANSWER, "call 2 1 refund", "rest 5", 0),
+    (ANSWER, "call 2 1 by 70 refund", "call 2 by 70 refund", 0),
+    (ANSWER, "call 2 1 by 70 refund", "call 2 1 refund", 0),
+    (ANSWER, "call 2 1 by 70 refund", "call 256 1 by 70 refund", 0),
+    (ANSWER, "call 2 1 by 70 refund", "call 2 1 by 70 until 80 refund", 0),
+    (ANSWER, "by 30 until 40 unlock", "by 30 unlock", 0),
+    (ANSWER, "call 2 1 by 70 refund", "wait 5", 0),
+    (ANSWER, "call 2 1 by 70 refund", "done", 0),
+    (ANSWER, "landing 3", "unkept 1 4 0", 0),
+    (ANSWER, "landing 3", "landing", 0),
+    (ANSWER, "unkept 1 4 0", "unkept 1 4", 0),
+    (ANSWER, "accepted SenderFull", "accepted Full", 0),
+    (ANSWER, "NotExpired 61 accepted", "NotExpired accepted", 0),
     (ANSWER, "bbb", "BBB", 0),
     (ASKED, "sent 0", "sent 256", 0),
+    (ASKED, "by 30 until 40", "until 40 by 30", 0),
+    (ASKED, "agreed f", "agreed F", 0),
+    (ASKED, "ledger 1 2", "ledger 1 1", 2),
+    (ASKED, "ledger 1 2", "ledger 1", 0),
     (ASKED, "seed e", "seed E", 0),
+    (ROW, "row alice", "row al.ice", 0),
+    (ROW, "bbb", "BBB", 0),
+    (TERMS, "0 of 3", "0 of", 0),
+    (TERMS, "agree bb", "agree b", 0),
+    (TERMS, "mode hashkeys", "mode keys", 0),
+    (TERMS, "back 61", "back", 0),
+    (TERMS, "gets 2", "gives 2", 0),
 ]
 
 
@@ -80,7 +114,7 @@ def test_refused(text: str, old: str, new: str, behind: int) -> None:
     assert refused.value.line == text[:before].count("\n") + 1 + behind, refused.value
 
 
-@pytest.mark.parametrize("text", [REPORT, FOUND, TRANSCRIPT, CLEARED, MANY, REPORTS, ANSWER, ASKED], ids=map(str, range(8)))
+@pytest.mark.parametrize("text", [REPORT, FOUND, TRANSCRIPT, CLEARED, MANY, REPORTS, ANSWER, ASKED, ROW, TERMS], ids=map(str, range(10)))
 def test_edited(text: str) -> None:
     """Of a random edit either a line is refused, or it is read and written as it stands."""
     rng, kind = random.Random(len(text)), type(swap_party.parse(text))
@@ -111,12 +145,13 @@ def test_bytes() -> None:
 
 
 def test_kinds() -> None:
-    assert swap_party.parse("") == Answer(())
-    assert swap_party.parse("rest\n") == Answer((swap_party.Rest(),))
+    assert swap_party.parse("wait\n") == Answer((swap_party.Wait(),))
+    assert swap_party.parse("bad 0 1\ndone\n") == Answer((swap_party.Bad(0, 1), swap_party.Done()))
     assert isinstance(swap_party.parse(ASKED), Asked)
-    assert isinstance(swap_party.parse(f"keep {KEY}\n{TRANSCRIPT}"), Asked)
-    with pytest.raises(NotOfTheFormatError):
-        swap_party.parse("swap\n")
+    assert isinstance(swap_party.parse(ASKED.split("\n", 1)[1]), Asked)
+    for text in ("", "swap\n", "bad 0 1\n", "wait\nwait\n", "done\nbad 0 1\n"):
+        with pytest.raises(NotOfTheFormatError):
+            swap_party.parse(text)
 
 
 def test_made() -> None:

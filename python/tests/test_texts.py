@@ -1,5 +1,5 @@
 """A text that is read and written again is the same text. RANDOM_TEXTS says how many random ones
-are tried, 300 if left out."""
+are tried, 2,000 if left out."""
 from __future__ import annotations
 
 import json
@@ -62,7 +62,7 @@ def round_trips(number: int) -> tuple[int, set[str]]:
 
 
 def test_random() -> None:
-    wanted, count = int(os.environ.get("RANDOM_TEXTS", "300")), 0
+    wanted, count = int(os.environ.get("RANDOM_TEXTS", "2000")), 0
     kinds: set[str] = set()
     with ProcessPoolExecutor() as pool:
         number, size = 0, 64

@@ -6,18 +6,43 @@ import os
 import signal
 import subprocess
 import sys
+from collections.abc import Callable
 from pathlib import Path
 
 import pytest
 from random_texts import TOP
 
-from swap_party import Answer, Due, Header, Keep, Library, Notes, Party, Program, RefusedError, Sent, Transcript
-from swap_party.answer import Asked
-from swap_party.calls import Hashkey
+from swap_party import (
+    Answer,
+    Asked,
+    Bad,
+    Due,
+    Hashkey,
+    Header,
+    Keep,
+    Landing,
+    Ledger,
+    Library,
+    Note,
+    Notes,
+    Party,
+    Program,
+    RefusedError,
+    Row,
+    Sent,
+    Terms,
+    Wait,
+    agreed_digest,
+)
 
 HEADER, SEEDS = Header.of_job((TOP / "examples/three_way.job").read_text().splitlines()[0])
-NOTHING = Transcript(HEADER, ((), (), ()))
+OFFER = (TOP / "examples/three_way.plain").read_text().splitlines()[0]
+AGREED = agreed_digest(HEADER.line)
 KEY = Hashkey(0, "a" * 64, (0,), ("b" * 4288,))
+
+
+def asked(*notes: Note) -> str:
+    return str(Asked(AGREED, notes, HEADER.line, (), ()))
 
 
 def answering() -> list[Party]:
@@ -28,38 +53,73 @@ def answering() -> list[Party]:
 
 @pytest.mark.parametrize("party", answering(), ids=lambda it: type(it).__name__)
 def test_answers(party: Party) -> None:
-    answer = Answer.parse(party.next("alice", SEEDS["alice"], str(NOTHING)))
+    answer = Answer.parse(party.next("alice", SEEDS["alice"], asked()))
     assert [type(it) for it in answer.told] == [Due]
     assert answer.rest is None
-    rested = Answer.parse(party.next("alice", SEEDS["alice"], str(Asked((Sent(0),), NOTHING))))
-    assert rested.told == ()
+    landing = Answer.parse(party.next("alice", SEEDS["alice"], asked(Sent(0))))
+    assert landing.told == (Landing(0),)
+    waiting = Answer.parse(party.next("bob", SEEDS["bob"], asked()))
+    assert waiting.rest == Wait()
     assert party.check(HEADER.line) == HEADER.deal_id()
 
 
 @pytest.mark.parametrize("party", answering(), ids=lambda it: type(it).__name__)
+def test_warns(party: Party) -> None:
+    """An answer that tells of a bad entry is an answer as any other."""
+    told = party.next("bob", SEEDS["bob"], str(Asked(AGREED, (), HEADER.line, (), (Ledger(0, ("no entry",)),))))
+    assert Answer.parse(told).told == (Bad(0, 0), Wait())
+
+
+@pytest.mark.parametrize("party", answering(), ids=lambda it: type(it).__name__)
+def test_agrees(party: Party) -> None:
+    """A deal that is made without anybody's seed is the one that is made with all of them."""
+    offer = json.dumps({**json.loads(OFFER), "parties": [{"name": it} for it in HEADER.names]})
+    rows = [party.keys(name, seed, offer) for name, seed in SEEDS.items()]
+    assert [Row.parse(it).name for it in rows] == list(SEEDS)
+    header = party.deal(offer, reversed(rows)).rstrip("\n")
+    assert header == HEADER.line
+    terms = Terms.parse(party.terms("carol", f"{header}\nabout 1 some chain\n"))
+    assert terms.agree == agreed_digest(header, ["about 1 some chain"])
+    assert (terms.deal, terms.party) == (HEADER.deal_id().hex(), 2)
+    refused_calls: list[tuple[Callable[[], str], str]] = [
+        (lambda: party.keys("eve", SEEDS["alice"], offer), "Unknown 2 eve"),
+        (lambda: party.deal(offer, rows[1:]), "NoRow alice"),
+        (lambda: party.terms("alice", f"{header}\nabout 9 x\n"), "BadLine 2"),
+    ]
+    for call, reason in refused_calls:
+        with pytest.raises(RefusedError) as refused:
+            call()
+        assert refused.value.reason == reason
+
+
+@pytest.mark.parametrize("party", answering(), ids=lambda it: type(it).__name__)
 def test_refuses(party: Party) -> None:
-    rows = [("nobody", "", "Unknown 2 nobody"), ("alice", "keep\n", "BadLine 1"), ("bob", "sent 1\nsent 300\n", "BadLine 2")]
+    rows = [("nobody", "", "Unknown 3 nobody"), ("alice", "keep\n", "BadLine 3"), ("bob", "sent 1\nsent 300\n", "BadLine 4")]
     for name, notes, reason in rows:
         with pytest.raises(RefusedError) as refused:
-            party.next(name, SEEDS["alice"], f"{notes}{NOTHING}")
+            party.next(name, SEEDS["alice"], asked().replace("\n", f"\n{notes}", 1))
         assert refused.value.reason == reason
+    with pytest.raises(RefusedError) as refused:
+        party.next("alice", SEEDS["alice"], asked().replace("100", "101"))
+    assert refused.value.reason == f"NotAgreed {agreed_digest(HEADER.line.replace('100', '101'))}"
     with pytest.raises(RefusedError) as refused:
         party.check("{}")
     assert refused.value.reason == "Missing 1 swap"
     with pytest.raises(ValueError, match="32 bytes"):
-        party.next("alice", b"short", str(NOTHING))
+        party.next("alice", b"short", asked())
 
 
 def test_notes(tmp_path: Path) -> None:
     with Notes(tmp_path / "notes") as notes:
         notes.add(Sent(0))
-        notes.add(Keep(KEY))
+        notes.add(Keep(KEY, 30, 40))
         notes.add(Sent(0))
+        notes.add(Keep(KEY, 31, 40))
         with pytest.raises(ValueError, match="another hashkey"):
-            notes.add(Keep(Hashkey(0, "c" * 64, (0,), ())))
+            notes.add(Keep(Hashkey(0, "c" * 64, (0,), ()), 30, 40))
     with Notes(tmp_path / "notes") as notes:
-        assert notes.notes == [Sent(0), Keep(KEY)]
-        assert notes.lines() == ["sent 0", f"keep {KEY}"]
+        assert notes.notes == [Sent(0), Keep(KEY, 30, 40)]
+        assert notes.lines() == ["sent 0", str(Keep(KEY, 30, 40))]
         assert notes.has_sent(0)
         assert not notes.has_sent(1)
 
