@@ -5,27 +5,29 @@ from __future__ import annotations
 import os
 import select
 import time
-from collections.abc import Mapping
-from typing import IO
+from pathlib import Path
 
 from chain import Chain
 from swap_party import Header, Transcript
+
+from .living import Living
+from .work import FaultError
 
 # How many seconds may pass without any wallet's rest
 PATIENCE = 120.0
 
 
 class Clock:
-    """`wallets` are the outputs of those who turned up. Each line of one tells the heights of its
-    chains at which it rests."""
+    """Each line of a wallet tells the heights of its chains at which it rests."""
 
-    def __init__(self, room: str, deal: Header, wallets: Mapping[str, IO[bytes]]) -> None:
-        self.deal, self.wallets = deal, wallets
-        self.chains = [Chain(room, deal, arc) for arc in range(len(deal.arcs))]
-        self.rested = dict.fromkeys(wallets, 0)
-        self.texts = dict.fromkeys(wallets, b"")
+    def __init__(self, room: Path, deal: Header, wallets: Living) -> None:
+        self.room, self.deal, self.wallets = room, deal, wallets
+        self.chains = [Chain(str(room), deal, arc) for arc in range(len(deal.arcs))]
+        self.rested = dict.fromkeys(wallets.processes, 0)
+        self.texts = dict.fromkeys(wallets.processes, b"")
 
     def run(self) -> None:
+        """Lets the chains rise until the swap is over."""
         heard = time.monotonic()
         while not self.is_over():
             for arc in range(len(self.chains)):
@@ -33,7 +35,7 @@ class Clock:
             if self.hear():
                 heard = time.monotonic()
             elif time.monotonic() - heard > PATIENCE:
-                raise TimeoutError(f"no wallet came to rest for {PATIENCE:.0f} s")
+                raise FaultError(f"{self.room}: no wallet came to rest for {PATIENCE:.0f} s")
 
     def is_over(self) -> bool:
         """Whether every chain stands above the horizon, and every wallet has seen that."""
@@ -49,20 +51,21 @@ class Clock:
             chain.tick(by)
 
     def hear(self) -> bool:
-        """Takes what wallets told, which may be nothing. A wallet that ended is an EOFError."""
-        names = {it.fileno(): name for name, it in self.wallets.items()}
-        ready = select.select(list(names), [], [], 0.05)[0] if names else []
+        """Takes what wallets told, if any did."""
+        outputs = self.wallets.outputs()
+        ready = select.select(list(outputs), [], [], 0.05)[0] if outputs else []
         for file in ready:
-            told = os.read(file, 1 << 16)
-            if not told:
-                raise EOFError(names[file])
-            self.take(names[file], told)
-        return bool(ready) or not names
+            self.take(outputs[file], os.read(file, 1 << 16))
+        return bool(ready) or not outputs
 
     def take(self, name: str, told: bytes) -> None:
-        """Only a whole line counts."""
+        """Only a whole line counts. A wallet that tells nothing has ended."""
+        if not told:
+            self.texts[name] = b""
+            self.wallets.again(name)
+            return
         *lines, self.texts[name] = (self.texts[name] + told).split(b"\n")
-        for line in lines:
+        for line in (it for it in lines if it != b"agreed"):
             self.rested[name] = min(int(it.partition(":")[2]) for it in line.decode().split(" "))
 
     def transcript(self) -> Transcript:

@@ -11,29 +11,14 @@ from __future__ import annotations
 
 from collections import defaultdict
 from collections.abc import Iterator, Mapping, Sequence
-from dataclasses import dataclass
 
 import networkx
 
 from .circulation import circulation
 from .joining import joined
 from .left import Left
-from .limits import ARCS, ASSETS, LEADERS, PARTIES, Edge, fits
-
-RULE = (
-    f"a part above {PARTIES} parties, {ARCS} arcs, {LEADERS} leaders or {ASSETS} assets is thinned: cycles of the circulation of greatest value, "
-    "then of what is left, most value first, each by the shortest way back; then wishes that join these cycles, most value first"
-)
-NO_CYCLE = "no cycle"
-NO_PLACE = "no place within the limits beside wishes of more value"
-
-
-@dataclass(frozen=True)
-class Cut:
-    """The groups, as numbers of wishes, and why each other wish is dropped."""
-
-    groups: tuple[tuple[int, ...], ...]
-    dropped: Mapping[int, str]
+from .limits import PARTIES, Edge, Fits, fits
+from .rule import NO_CYCLE, NO_PLACE, Cut
 
 
 def cycles(left: Left, order: Sequence[int]) -> Iterator[list[int]]:
@@ -51,19 +36,19 @@ def cycles(left: Left, order: Sequence[int]) -> Iterator[list[int]]:
             yield cycle
 
 
-def thinned(edges: Mapping[int, Edge]) -> list[list[int]]:
+def thinned(edges: Mapping[int, Edge], fits: Fits) -> list[list[int]]:
     """The groups that are taken out of a part that is too large."""
     order = sorted(edges, key=lambda it: (-edges[it].value, it))
     circles = circulation([edges[it] for it in order])
     first = [wish for wish, is_first in zip(order, circles) if is_first]
     found = list(cycles(Left(edges, first), first))
-    rest = without(order, found)
+    rest = not_taken(order, found)
     found += cycles(Left(edges, rest), rest)
-    rest = without(order, found)
-    return joined(Left(edges, rest), found, rest)
+    rest = not_taken(order, found)
+    return joined(Left(edges, rest), found, rest, fits)
 
 
-def without(order: Sequence[int], groups: Sequence[Sequence[int]]) -> list[int]:
+def not_taken(order: Sequence[int], groups: Sequence[Sequence[int]]) -> list[int]:
     """The wishes that no group has taken."""
     taken = {wish for group in groups for wish in group}
     return [it for it in order if it not in taken]
@@ -81,14 +66,14 @@ def parts(edges: Mapping[int, Edge]) -> list[list[int]]:
     return sorted(found.values())
 
 
-def cut(edges: Mapping[int, Edge]) -> Cut:
-    """Cuts wishes, which have numbers, into groups."""
+def cut(edges: Mapping[int, Edge], fits: Fits = fits) -> Cut:
+    """Cuts wishes, which have numbers, into groups that fit."""
     dropped = dict.fromkeys(sorted(edges), NO_CYCLE)
     groups: list[list[int]] = []
     for part in parts(edges):
         dropped.update(dict.fromkeys(part, NO_PLACE))
         members = {it: edges[it] for it in part}
-        groups += [part] if fits(list(members.values())) else thinned(members)
+        groups += [part] if fits(list(members.values())) else thinned(members, fits)
     for group in groups:
         for wish in group:
             del dropped[wish]

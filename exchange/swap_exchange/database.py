@@ -8,6 +8,8 @@ from collections.abc import Callable, Iterable, Iterator, Sequence
 from contextlib import AbstractContextManager, contextmanager
 from typing import Any, Protocol
 
+from .work import FaultError
+
 SCHEMES = ("postgresql://", "postgres://")
 # The lock that a day or a campaign holds in PostgreSQL, and how long it waits for one that was killed
 LOCK, WAIT = 0x73776170, 10.0
@@ -15,8 +17,7 @@ Row = tuple[Any, ...]
 
 
 class StateError(Exception):
-    """The state can't be had: another process has it, it is of something else, or the database
-    fails."""
+    """The state can't be had: another process has it, or it is of something else."""
 
 
 class Database(Protocol):
@@ -61,19 +62,19 @@ class Sqlite:
 
     def __init__(self, path: str) -> None:
         self.path = path
-        with self.told():
+        with self.told(StateError):
             self.database = sqlite3.connect(path, isolation_level=None, timeout=1)
             for pragma in ("locking_mode = EXCLUSIVE", "journal_mode = DELETE", "synchronous = FULL", "fullfsync = ON"):
                 self.database.execute(f"pragma {pragma}").fetchall()
-            with self.step():
+            with one_step(self.database.execute, "begin exclusive"):
                 pass
 
     @contextmanager
-    def told(self) -> Iterator[None]:
+    def told(self, kind: type[Exception] = FaultError) -> Iterator[None]:
         try:
             yield
         except sqlite3.Error as why:
-            raise StateError(f"{self.path}: {why}") from None
+            raise kind(f"{self.path}: {why}") from None
 
     def rows(self, ask: str, *words: object) -> list[Row]:
         with self.told():
@@ -105,7 +106,7 @@ class Postgres:
             raise StateError("a state in PostgreSQL needs psycopg2 (Debian: python3-psycopg2), which isn't here") from None
         self.error: type[Exception] = psycopg2.Error
         self.execute_batch: Callable[..., None] = psycopg2.extras.execute_batch
-        with self.told():
+        with self.told(StateError):
             self.database: Any = psycopg2.connect(url)
             self.database.autocommit = True
         self.lock()
@@ -118,11 +119,11 @@ class Postgres:
             time.sleep(0.1)
 
     @contextmanager
-    def told(self) -> Iterator[None]:
+    def told(self, kind: type[Exception] = FaultError) -> Iterator[None]:
         try:
             yield
         except self.error as why:
-            raise StateError((str(why).strip().splitlines() or ["PostgreSQL failed"])[0]) from None
+            raise kind((str(why).strip().splitlines() or ["PostgreSQL failed"])[0]) from None
 
     def rows(self, ask: str, *words: object) -> list[Row]:
         with self.told(), self.database.cursor() as cursor:

@@ -3,23 +3,24 @@ batches, settle the batches."""
 from __future__ import annotations
 
 from collections import defaultdict
-from collections.abc import Iterator, Sequence
+from collections.abc import Iterator, Mapping, Sequence
 from dataclasses import dataclass
 from hashlib import sha256
 
 from swap_party.header import compact
 
 from . import state as steps
-from .cut import Cut, cut
 from .limits import ASSETS, Edge
 from .pool import Crew
+from .progress import Progress
+from .rule import NOT_COVERED, Cut
 from .settling import Settling
 from .state import Key, State
 from .wishes import MOST_UNITS, Account, Wish
-from .work import Group, Prepared, Way
+from .work import Group, Prepared, RefusedError, Way
 
 ACCOUNTS, KEPT_AT_ONCE = 64, 64
-NOT_COVERED = "its payer's units don't cover it"
+MOST_OF_ASSET = 9 * 10**18
 
 
 @dataclass(frozen=True)
@@ -43,7 +44,17 @@ def beginning(wishes: Sequence[Wish], told: Sequence[Account] | None) -> list[Ac
         paid = it.units if told is None else 0
         units[it.payer, it.asset] = min(MOST_UNITS, units.get((it.payer, it.asset), 0) + paid)
         units.setdefault((it.payee, it.asset), 0)
+    check_sums(units)
     return [Account(*key, had) for key, had in sorted(units.items())]
+
+
+def check_sums(units: Mapping[Key, int]) -> None:
+    """No asset has more units than a database can add up."""
+    sums: defaultdict[str, int] = defaultdict(int)
+    for (_, asset), had in sorted(units.items()):
+        sums[asset] += had
+        if sums[asset] > MOST_OF_ASSET:
+            raise RefusedError(f"{asset} has more than {MOST_OF_ASSET} units in all accounts")
 
 
 def uncovered(wishes: Sequence[Wish], accounts: Sequence[Account]) -> dict[int, str]:
@@ -60,8 +71,8 @@ def uncovered(wishes: Sequence[Wish], accounts: Sequence[Account]) -> dict[int, 
 
 
 class Day:
-    def __init__(self, state: State, crew: Crew, terms: Terms, way: Way) -> None:
-        self.state, self.crew, self.terms, self.way = state, crew, terms, way
+    def __init__(self, state: State, crew: Crew, terms: Terms, way: Way, progress: Progress) -> None:
+        self.state, self.crew, self.terms, self.way, self.progress = state, crew, terms, way, progress
         self.wishes: Sequence[Wish] = ()
 
     def run(self, wishes: Sequence[Wish], accounts: Sequence[Account]) -> None:
@@ -73,9 +84,12 @@ class Day:
             self.prepare()
         if self.state.done == steps.PREPARED:
             self.state.keep_batches(list(self.batches(self.groups())))
-        Settling(self.state, self.crew, self.way.settle, wishes, self.terms.away).run()
+        Settling(self.state, self.crew, self.way.settle, wishes, self.terms.away).run(self.progress)
 
     def cut(self, accounts: Sequence[Account]) -> None:
+        # (a day that is past this step, as most that go on, needs no solver)
+        from .cut import cut
+
         users = {name: place for place, name in enumerate(sorted({it for wish in self.wishes for it in (wish.payer, wish.payee)}))}
         assets = {name: place for place, name in enumerate(sorted({it.asset for it in self.wishes}))}
         dropped = uncovered(self.wishes, accounts)
@@ -84,7 +98,7 @@ class Day:
             for number, it in enumerate(self.wishes)
             if number not in dropped
         }
-        found = cut(edges)
+        found = cut(edges, self.way.fits)
         self.state.keep_cut(Cut(found.groups, {**found.dropped, **dropped}))
 
     def groups(self) -> dict[int, list[int]]:
@@ -99,14 +113,16 @@ class Day:
         names = sorted({name for it in wishes for name in (it.payer, it.payee)})
         arcs = [{"from": it.payer, "to": it.payee, "amount": it.units} for it in wishes]
         line = compact({"clear": 1, "start": self.terms.start, "delta": self.terms.delta, "parties": names, "arcs": arcs})
-        return Group(number, line, tuple(it for it in names if it in self.terms.away))
+        return Group(number, line, tuple(it.asset for it in wishes), tuple(it for it in names if it in self.terms.away))
 
     def prepare(self) -> None:
         made = {it for (it,) in self.state.rows("select number from swap where refused is not null")}
         asked = [self.group(number, members) for number, members in self.groups().items() if number not in made]
+        self.progress.begin("swaps made", len(made), len(made) + len(asked))
         told: list[Prepared] = []
         for it in self.crew.each(self.way.prepare, asked):
             told.append(it)
+            self.progress.step()
             if len(told) == KEPT_AT_ONCE:
                 self.state.keep_prepared(told)
                 told = []

@@ -6,7 +6,7 @@ from collections import defaultdict
 from collections.abc import Sequence
 
 from .left import Left
-from .limits import PARTIES, fits
+from .limits import PARTIES, Fits
 
 # The most wishes of a way that joins a group
 EAR = 6
@@ -15,8 +15,8 @@ EAR = 6
 class Groups:
     """Groups by their numbers, and the groups of each user."""
 
-    def __init__(self, left: Left, cycles: Sequence[Sequence[int]]) -> None:
-        self.left = left
+    def __init__(self, left: Left, cycles: Sequence[Sequence[int]], fits: Fits) -> None:
+        self.left, self.fits = left, fits
         self.wishes: dict[int, list[int]] = {}
         self.parties: dict[int, set[int]] = {}
         self.of: defaultdict[int, set[int]] = defaultdict(set)
@@ -30,7 +30,7 @@ class Groups:
             self.of[user].add(number)
 
     def fit(self, wishes: Sequence[int]) -> bool:
-        return fits([self.left.edges[it] for it in wishes])
+        return self.fits([self.left.edges[it] for it in wishes])
 
     def add(self, number: int, wishes: list[int]) -> bool:
         """Has a group take wishes that are left, where the limits hold."""
@@ -55,7 +55,7 @@ class Groups:
     def ear(self, wish: int, number: int) -> bool:
         parties, payee = self.parties[number], self.left.edges[wish].payee
         most = min(EAR - 1, PARTIES - len(parties))
-        way = None if payee in parties else self.left.way_into(payee, parties, most)
+        way = None if payee in parties else self.left.way_to_any(payee, parties, most)
         return way is not None and self.add(number, [wish, *way])
 
     def as_bridge(self, wish: int) -> bool:
@@ -75,9 +75,9 @@ class Groups:
         return self.add(one, [wish])
 
 
-def joined(left: Left, cycles: Sequence[Sequence[int]], order: Sequence[int]) -> list[list[int]]:
+def joined(left: Left, cycles: Sequence[Sequence[int]], order: Sequence[int], fits: Fits) -> list[list[int]]:
     """The cycles as groups that took whatever wishes find a place, most value first."""
-    groups = Groups(left, cycles)
+    groups = Groups(left, cycles, fits)
     for wish in order:
         if left.has(wish):
             groups.join(wish)

@@ -53,12 +53,12 @@ class Left:
             else:
                 back, met = step(back, self.entering, behind, ahead)
             if met is not None:
-                return self.to(met, ahead) + self.on_from(met, behind)
+                return self.way_ahead(met, ahead) + self.way_behind(met, behind)
             if not front or not back:
                 break
         return None
 
-    def to(self, user: int, ahead: Mapping[int, int]) -> list[int]:
+    def way_ahead(self, user: int, ahead: Mapping[int, int]) -> list[int]:
         """The wishes that led to a user."""
         way = []
         while ahead[user] >= 0:
@@ -66,14 +66,14 @@ class Left:
             user = self.edges[way[-1]].payer
         return way[::-1]
 
-    def on_from(self, user: int, behind: Mapping[int, int]) -> list[int]:
+    def way_behind(self, user: int, behind: Mapping[int, int]) -> list[int]:
         way = []
         while behind[user] >= 0:
             way.append(behind[user])
             user = self.edges[way[-1]].payee
         return way
 
-    def way_into(self, begin: int, goal: Collection[int], most: int) -> list[int] | None:
+    def way_to_any(self, begin: int, goal: Collection[int], most: int) -> list[int] | None:
         """A shortest way of at most so many wishes to one of the goal, if the search finds one
         before it has looked at too many."""
         ahead, front, looks = {begin: -1}, [begin], 0
@@ -82,7 +82,7 @@ class Left:
             for wish, payee in (it for user in before for it in self.leaving.get(user, {}).items()):
                 looks += 1
                 if payee in goal:
-                    return [*self.to(self.edges[wish].payer, ahead), wish]
+                    return [*self.way_ahead(self.edges[wish].payer, ahead), wish]
                 if payee not in ahead:
                     ahead[payee] = wish
                     front.append(payee)

@@ -2,18 +2,26 @@
 moment: what it was asked is asked again."""
 from __future__ import annotations
 
+import logging
 import multiprocessing
 import os
+import signal
 from collections.abc import Iterable, Iterator
 from concurrent.futures import FIRST_COMPLETED, Executor, Future, ProcessPoolExecutor, wait
 from concurrent.futures.process import BrokenProcessPool
 from typing import Any
 
 from .leaving import leave_with
-from .work import Answer, Asked, FaultError, Programs, Task
+from .work import Answer, Asked, FaultError, Programs, Task, last_line
 
 # How often workers may be killed before the work ends with a fault
 BREAKS = 100
+
+
+def begin(parent: int) -> None:
+    """A worker ends with the day, and leaves the keyboard's interrupts to it."""
+    signal.signal(signal.SIGINT, signal.SIG_IGN)
+    leave_with(parent)
 
 
 class Workers:
@@ -24,7 +32,7 @@ class Workers:
         self.pool: Executor = self.opened()
 
     def opened(self) -> Executor:
-        return ProcessPoolExecutor(self.count, multiprocessing.get_context("spawn"), leave_with, (os.getpid(),))
+        return ProcessPoolExecutor(self.count, multiprocessing.get_context("spawn"), begin, (os.getpid(),))
 
     def restore(self) -> None:
         """New workers, where one was killed."""
@@ -46,10 +54,12 @@ class Cluster(Workers):
             import distributed
         except ImportError:
             raise FaultError("--scheduler needs Dask (python3-distributed), which isn't here") from None
+        # (what happens is told in one line)
+        logging.getLogger("distributed").setLevel(logging.CRITICAL)
         try:
             self.client: Any = distributed.Client(address, set_as_default=False)
-        except (OSError, ValueError) as why:
-            raise FaultError(f"no scheduler answers at {address}: {why}") from None
+        except (OSError, ValueError):
+            raise FaultError(f"no scheduler answers at {address}") from None
         super().__init__(max(1, len(self.client.scheduler_info()["workers"])))
 
     def opened(self) -> Executor:
@@ -59,6 +69,17 @@ class Cluster(Workers):
     def close(self) -> None:
         super().close()
         self.client.close()
+
+
+def answer_of(future: Future[Any]) -> Any:
+    """What a task answered. Where it failed in a way that it doesn't tell of itself, that is a
+    fault."""
+    try:
+        return future.result()
+    except FaultError:
+        raise
+    except Exception as why:
+        raise FaultError(f"a worker failed: {type(why).__name__}: {last_line(str(why))}") from None
 
 
 class Crew:
@@ -90,12 +111,12 @@ class Crew:
     def answers(self) -> Iterator[Any]:
         """Waits for an answer at least, and hands over those that are there."""
         done, _ = wait(self.running, return_when=FIRST_COMPLETED)
-        if any(isinstance(it.exception(), BrokenProcessPool) for it in done):
+        if any(not it.cancelled() and isinstance(it.exception(), BrokenProcessPool) for it in done):
             self.again()
             return
         for future in done:
             del self.running[future]
-        yield from [it.result() for it in done]
+        yield from map(answer_of, done)
 
     def each(self, task: Task[Asked, Answer], asked: Iterable[Asked]) -> Iterator[Answer]:
         """The answer to each, in any order."""

@@ -9,6 +9,7 @@ from swap_party.many import Account as ChainAccount
 from swap_party.many import Chain
 
 from .pool import Crew
+from .progress import Progress
 from .state import Key, State
 from .wishes import MOST_UNITS, Wish
 from .work import HELD, PAID, Batch, Placed, Settled, Task
@@ -48,11 +49,13 @@ class Settling:
             last.update((it, batch) for it in keys)
         return found
 
-    def run(self) -> None:
+    def run(self, progress: Progress) -> None:
+        progress.begin("batches settled", 0, len(self.left))
         while self.left or self.crew.running:
             self.start_ready()
             for told in self.crew.answers():
                 self.keep(told)
+                progress.step()
 
     def start_ready(self) -> None:
         for batch in [it for it in self.left if not self.waits[it]]:

@@ -10,12 +10,13 @@ from swap_party.header import compact, json_object
 from swap_party.many import Account, Swap
 from swap_party.report import Report
 
+from .limits import fits
 from .work import HELD, PAID, Batch, FaultError, Group, Placed, Prepared, Programs, RefusedError, Settled, Way, ask, cleared, end_of, ended
 
 
 def simulated(seed: bytes) -> Way:
     """The way of settling that `--simulate` takes; the seed is what it draws the users' from."""
-    return Way(8, partial(prepare, seed), settle)
+    return Way(fits, 8, partial(prepare, seed), settle)
 
 
 def seed_of(day: bytes, group: int, party: str) -> bytes:

@@ -6,8 +6,8 @@ import json
 import secrets
 from collections.abc import Iterable, Mapping, Sequence
 
-from .cut import Cut
 from .database import Database, Row, StateError
+from .rule import Cut
 from .wishes import Account, Wish
 from .work import HELD, PAID, Ended, FaultError, Prepared, Settled
 
@@ -61,6 +61,11 @@ class State:
         if not found:
             raise StateError("the state is of no day")
         return str(found[0][0])
+
+    @property
+    def is_open(self) -> bool:
+        """Whether there are batches to settle, or steps before."""
+        return self.done != PACKED or bool(self.rows("select number from batch where is_settled = 0"))
 
     @property
     def seed(self) -> bytes:

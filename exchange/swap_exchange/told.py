@@ -4,7 +4,7 @@ from __future__ import annotations
 import json
 from typing import Any
 
-from .cut import RULE
+from .rule import RULE
 from .state import DROPPED, State
 from .work import HELD, PAID, RETURNED
 

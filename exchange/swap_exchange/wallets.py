@@ -3,10 +3,9 @@ No seed comes into this process. A swap's room keeps all that its wallets need t
 from __future__ import annotations
 
 import fcntl
-import os
-import subprocess
-import sys
-from collections.abc import Iterator, Mapping
+import re
+import time
+from collections.abc import Collection, Iterator, Sequence
 from contextlib import contextmanager
 from functools import partial
 from pathlib import Path
@@ -16,26 +15,21 @@ from swap_party.header import compact
 from swap_party.report import Report
 
 from .clock import Clock
+from .limits import fits_audit
+from .living import Living, started, why_ended
 from .work import Batch, Ended, FaultError, Group, Placed, Prepared, Programs, RefusedError, Settled, Way, ask, cleared, ended
 
-WALLET = Path(__file__).resolve().parent.parent / "wallet"
+# What lies beside the wallets' own folders
+FILES = re.compile("board|offer|context|names|start|lock|chain[0-9]+")
 
 
 def by_wallets(folder: str) -> Way:
     """The way of settling that `--wallets` takes. The folder has a room for each swap."""
-    return Way(1, partial(prepare, folder), partial(settle, folder))
+    return Way(fits_audit, 1, partial(prepare, folder), partial(settle, folder))
 
 
 def room_of(folder: str, swap: int) -> Path:
     return Path(folder) / f"swap{swap}"
-
-
-def started(programs: Programs, word: str, room: Path, name: str) -> subprocess.Popen[bytes]:
-    """A wallet's process."""
-    words = [sys.executable, str(WALLET), word, str(room), name]
-    return subprocess.Popen(
-        words, stdin=subprocess.DEVNULL, stdout=subprocess.PIPE, stderr=subprocess.PIPE, env={**os.environ, "PARTY": programs.party}
-    )
 
 
 def put(path: Path, text: str) -> None:
@@ -50,34 +44,51 @@ def put(path: Path, text: str) -> None:
 
 def prepare(folder: str, programs: Programs, group: Group) -> Prepared:
     """Makes a deal of a group by `clear`, a row of each wallet, `party deal` and `check`."""
-    room = room_of(folder, group.number)
-    room.mkdir(parents=True, exist_ok=True)
     try:
         plain = cleared(programs, group)
+        for name in filter(FILES.fullmatch, plain.parties):
+            raise RefusedError(f"{name} is the name of a file in a room of wallets")
         offer = compact(plain.fields()) + "\n"
-        put(room / "offer", offer)
-        rows = [row_of(name, it) for name, it in asked(programs, room, plain.parties).items()]
-        header = ask([programs.party, "deal"], offer + "".join(rows)).strip()
+        room = opened(room_of(folder, group.number), offer, group.assets, plain.parties)
+        header = agreed(programs, room, plain.parties)
+        rows = "".join((room / "board" / f"{name}.row").read_text() for name in plain.parties)
+        if header != ask([programs.party, "deal"], offer + rows).strip():
+            raise RefusedError("the wallets agree to another deal")
         ask([programs.swap, "check"], header)
     except RefusedError as why:
         return Prepared(group.number, 0, "", f"refused: {why}")
     return Prepared(group.number, len(plain.leaders), header)
 
 
-def asked(programs: Programs, room: Path, names: tuple[str, ...]) -> Mapping[str, subprocess.Popen[bytes]]:
-    """The wallets, each asked for its row."""
-    return {name: started(programs, "row", room, name) for name in names}
+def opened(room: Path, offer: str, assets: Sequence[str], names: Sequence[str]) -> Path:
+    """A room with all that wallets read before they agree."""
+    (room / "board").mkdir(parents=True, exist_ok=True)
+    put(room / "offer", offer)
+    put(room / "context", "".join(f"about {arc} asset {asset} on chain{arc}\n" for arc, asset in enumerate(assets)))
+    put(room / "names", " ".join(names))
+    for arc in range(len(assets)):
+        (room / f"chain{arc}").touch()
+    return room
 
 
-def row_of(name: str, wallet: subprocess.Popen[bytes]) -> str:
-    row, why = wallet.communicate()
-    if wallet.returncode != 0:
-        raise RefusedError(f"no row of {name}: {last_line(why)}")
-    return row.decode()
-
-
-def last_line(told: bytes) -> str:
-    return (told.decode(errors="replace").strip().splitlines() or ["it told nothing"])[-1]
+def agreed(programs: Programs, room: Path, names: Sequence[str]) -> str:
+    """The header line to which the wallets of all agree."""
+    wallets = {name: started(programs, "agree", room, name) for name in names}
+    try:
+        while any(it.poll() is None for it in wallets.values()) and not any(it.returncode for it in wallets.values()):
+            time.sleep(0.02)
+        failed = [name for name, it in wallets.items() if it.returncode]
+        if failed:
+            told = f"the wallet of {failed[0]}: {why_ended(room, failed[0])}"
+            raise RefusedError(told) if wallets[failed[0]].returncode == 3 else FaultError(told)
+        headers = {it.communicate()[0].decode().strip() for it in wallets.values()}
+    finally:
+        for it in wallets.values():
+            it.kill()
+            it.wait()
+    if len(headers) != 1:
+        raise RefusedError("the wallets agree to different deals")
+    return headers.pop()
 
 
 # ---- settling
@@ -101,27 +112,17 @@ def settled(room: Path, programs: Programs, swap: Placed) -> Ended:
     if not room.is_dir():
         raise FaultError(f"{room} isn't there, so the wallets of swap {swap.number} can't go on")
     with alone_in(room):
-        put(room / "header", f"{deal}\n")
-        for arc in range(len(deal.arcs)):
-            (room / f"chain{arc}").touch()
-        transcript = run(room, programs, deal, swap)
+        put(room / "start", "")
+        transcript = run(room, programs, deal, swap.away)
     return ended(Report.parse(ask([programs.swap, "audit"], str(transcript))), str(transcript))
 
 
-def run(room: Path, programs: Programs, deal: Header, swap: Placed) -> Transcript:
+def run(room: Path, programs: Programs, deal: Header, away: Collection[str]) -> Transcript:
     """Lets the wallets and the clock run until the swap is over."""
-    wallets = {name: started(programs, "live", room, name) for name in deal.names if name not in swap.away}
-    clock = Clock(str(room), deal, {name: it.stdout for name, it in wallets.items() if it.stdout is not None})
+    wallets = Living(programs, room, [it for it in deal.names if it not in away])
     try:
+        clock = Clock(room, deal, wallets)
         clock.run()
-    except EOFError as why:
-        wallet = wallets[str(why)]
-        wallet.kill()
-        raise FaultError(f"the wallet of {why} in swap {swap.number} ended by itself: {last_line(wallet.communicate()[1])}") from None
-    except TimeoutError as why:
-        raise FaultError(f"swap {swap.number}: {why}") from None
     finally:
-        for it in wallets.values():
-            it.kill()
-            it.communicate()
+        wallets.stop()
     return clock.transcript()

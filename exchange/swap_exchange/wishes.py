@@ -1,6 +1,7 @@
 """Wishes and accounts, read from CSV or from JSON lines."""
 from __future__ import annotations
 
+import codecs
 import csv
 import json
 from collections.abc import Iterator
@@ -33,6 +34,7 @@ class Account:
 def rows(text: bytes, fields: tuple[str, ...]) -> Iterator[tuple[int, dict[str, str]]]:
     """Each line that isn't blank, by its number, as a word for each field that it has."""
     header: list[str] | None = None
+    text = text.removeprefix(codecs.BOM_UTF8)
     for line, told in enumerate(text.split(b"\n"), 1):
         if not told.strip():
             continue

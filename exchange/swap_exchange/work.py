@@ -12,6 +12,8 @@ from swap_party.header import json_object
 from swap_party.many import Chain
 from swap_party.report import Ledger, Report
 
+from .limits import Fits
+
 TRIES = 3
 PAID, RETURNED, HELD = "paid", "returned", "held"
 Asked = TypeVar("Asked")
@@ -39,10 +41,12 @@ Task = Callable[[Programs, Asked], Answer]
 
 @dataclass(frozen=True)
 class Group:
-    """A group to be made a swap: the line that `clear` reads, and who stays away."""
+    """A group to be made a swap: the line that `clear` reads, the asset of each arc, and who stays
+    away."""
 
     number: int
     line: str
+    assets: tuple[str, ...]
     away: tuple[str, ...]
 
 
@@ -94,8 +98,10 @@ class Settled:
 
 @dataclass(frozen=True)
 class Way:
-    """A way to settle: how many swaps go into a batch, and what workers are asked for."""
+    """A way to settle: which groups fit, how many swaps go into a batch, and what workers are asked
+    for."""
 
+    fits: Fits
     swaps_in_batch: int
     prepare: Task[Group, Prepared]
     settle: Task[Batch, Settled]
@@ -108,6 +114,10 @@ def run(words: list[str], text: str) -> subprocess.CompletedProcess[str]:
         raise FaultError(f"{words[0]}: {why.strerror}") from None
 
 
+def last_line(told: str) -> str:
+    return (told.strip().splitlines() or ["it told nothing"])[-1]
+
+
 def ask(words: list[str], text: str) -> str:
     """What a program writes. Where it is killed it is asked again."""
     for _ in range(TRIES):
@@ -118,8 +128,7 @@ def ask(words: list[str], text: str) -> str:
             return done.stdout
         if done.returncode > 0:
             break
-    told = (done.stderr.strip().splitlines() or ["it told nothing"])[-1]
-    raise FaultError(f"{' '.join(words[:2])} ended with status {done.returncode}: {told}")
+    raise FaultError(f"{' '.join(words[:2])} ended with status {done.returncode}: {last_line(done.stderr)}")
 
 
 def cleared(programs: Programs, group: Group) -> Plain:
