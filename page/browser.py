@@ -61,7 +61,8 @@ class Browser:
                 raise Lost("the browser ended")
             self.left += more
         text, _, self.left = self.left.partition(b"\0")
-        return json.loads(text)
+        told: dict[str, Any] = json.loads(text)
+        return told
 
     def ask(self, method: str, **params: Any) -> dict[str, Any]:
         """The answer to a command; events that come before it are kept."""
@@ -76,7 +77,8 @@ class Browser:
             if answer.get("id") == self.number:
                 if "error" in answer:
                     raise Lost(f"{method}: {answer['error']['message']}")
-                return answer["result"]
+                result: dict[str, Any] = answer["result"]
+                return result
             self.told.append(answer)
 
     def wait_for(self, event: str) -> None:

@@ -1,15 +1,17 @@
 """The transcripts that the page is tried with: those that are stored, those of the examples' jobs, and those of the tests' tables."""
-import re
 import sys
+from dataclasses import replace
 from pathlib import Path
 from typing import Iterator
 
 sys.dont_write_bytecode = True
 TOP = Path(__file__).resolve().parent.parent
-sys.path.insert(0, str(TOP / "tests"))
+sys.path[:0] = [str(TOP / "tests"), str(TOP / "python")]
 import findings  # noqa: E402
 import tables  # noqa: E402
 from program import Program  # noqa: E402
+from swap_party import Tick, Transcript  # noqa: E402
+from swap_party.calls import Entry  # noqa: E402
 from texts import deal, edited, signed  # noqa: E402
 
 Named = Iterator[tuple[str, bytes]]
@@ -79,9 +81,15 @@ def of_schedule(program: Program, text: str, row: str) -> bytes:
 
 def in_single_ticks(transcript: str) -> str:
     """The same book, told by ticks of one height each."""
-    head, *ledgers = re.split(r"(?m)^ledger [0-9]+ [0-9]+\n", transcript.removesuffix("end\n"))
-    slow = [re.sub(r"(?m)^t ([0-9]+)\n", lambda found: int(found[1]) * "t 1\n", ledger) for ledger in ledgers]
-    return head + "".join(f"ledger {arc} {lines.count(chr(10))}\n{lines}" for arc, lines in enumerate(slow)) + "end\n"
+    told = Transcript.parse(transcript)
+    return str(replace(told, ledgers=tuple(tuple(each for entry in entries for each in slowly(entry)) for entries in told.ledgers)))
+
+
+def slowly(entry: Entry) -> list[Entry]:
+    """An entry, or as many ticks of one height as it has heights."""
+    if isinstance(entry, Tick):
+        return [Tick(1) for _ in range(entry.by)]
+    return [entry]
 
 
 def of_tables(program: Program) -> Named:

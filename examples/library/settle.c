@@ -14,7 +14,7 @@
 
 #include "swap_party.h"
 
-enum { ARCS = 128, PARTIES = 32, WORD = 17 };
+enum { ARCS = 128, PARTIES = 32, WORD = 17, DIGITS = 64 };
 
 typedef struct {
     char *bytes;
@@ -22,7 +22,7 @@ typedef struct {
 } text;
 
 typedef struct {
-    char name[WORD];
+    char name[WORD], agreed[DIGITS + 1];
     uint8_t seed[32];
     text notes;
 } party;
@@ -61,18 +61,17 @@ static void add(text *to, const char *bytes, size_t length) {
 
 static void say(text *to, const char *words) { add(to, words, strlen(words)); }
 
-/* A transcript of every ledger, or of those that touch one party and of the others nothing. */
+/* The header, and what stands on every ledger, or on those that touch one party. */
 static void tell(text *to, const party *one) {
-    say(to, "swap transcript 1\n");
     say(to, header);
     for (int arc = 0; arc < arc_count; arc++) {
         const ledger *it = &ledgers[arc];
-        int told = !one || !strcmp(it->from, one->name) || !strcmp(it->to, one->name);
         char line[64];
-        snprintf(line, sizeof line, "ledger %d %lu\n", arc, told ? it->count : 0);
+        if (one && strcmp(it->from, one->name) && strcmp(it->to, one->name))
+            continue;
+        snprintf(line, sizeof line, "ledger %d %lu\n", arc, it->count);
         say(to, line);
-        if (told)
-            add(to, it->entries.bytes, it->entries.length);
+        add(to, it->entries.bytes, it->entries.length);
     }
     say(to, "end\n");
 }
@@ -85,13 +84,16 @@ static void enter(int arc, const char *entry) {
 /* Keeps what is to be kept and writes down a publish, before anything goes out, and presents a
    call: whether that was anything. */
 static int obey(party *me, const char *line) {
-    int arc, number, at = 0;
+    int arc, number, at = 0, behind = 0;
     if (!strncmp(line, "keep ", 5)) {
         say(&me->notes, line);
         say(&me->notes, "\n");
-    } else if (sscanf(line, "call %d %d %n", &arc, &number, &at) == 2 && at) {
+    } else if (sscanf(line, "call %d %d by %*d %n", &arc, &number, &at) == 2 && at) {
         char note[32];
         text entry = {0};
+        /* (an unlock says until when it is accepted) */
+        if (!sscanf(line + at, "until %*d %n", &behind))
+            at += behind;
         snprintf(note, sizeof note, "sent %d\n", arc);
         if (!strncmp(line + at, "publish ", 8))
             say(&me->notes, note);
@@ -106,18 +108,15 @@ static int obey(party *me, const char *line) {
     return 1;
 }
 
-/* Asks the library what is due, and obeys it line by line: whether that was anything but to rest.
-   */
-static int turn(party *me) {
-    static text asked, answer;
-    int acted = 0;
-    asked.length = 0;
-    add(&asked, me->notes.bytes, me->notes.length);
-    tell(&asked, me);
+/* What the library answers a party, as a string: what is due, or what the party agrees to. */
+static char *answered(const party *me, int is_next, const char *asked, size_t length) {
+    static text answer;
+    const uint8_t *told = (const uint8_t *)asked, *name = (const uint8_t *)me->name;
     make_room(&answer, 1);
     for (;;) {
-        swap_party_said said = swap_party_next((uint8_t *)asked.bytes, asked.length, (uint8_t *)me->name, strlen(me->name), me->seed,
-                                               (uint8_t *)answer.bytes, answer.room);
+        uint8_t *out = (uint8_t *)answer.bytes;
+        swap_party_said said = is_next ? swap_party_next(told, length, name, strlen(me->name), me->seed, out, answer.room)
+                                       : swap_party_terms(told, length, name, strlen(me->name), out, answer.room);
         answer.length = said.length;
         if (said.status == SWAP_PARTY_DONE)
             break;
@@ -128,7 +127,27 @@ static int turn(party *me) {
         make_room(&answer, said.length);
     }
     add(&answer, "", 1);
-    for (char *line = strtok(answer.bytes, "\n"); line; line = strtok(NULL, "\n"))
+    return answer.bytes;
+}
+
+/* Keeps the digest of the terms, to which here every owner agrees as they are. */
+static void agree(party *me) {
+    const char *line = strstr(answered(me, 0, header, strlen(header)), "\nagree ");
+    if (!line || sscanf(line, "\nagree %64[0-9a-f]", me->agreed) != 1)
+        stop("the terms have no digest");
+}
+
+/* Asks the library what is due, and obeys it line by line: whether anything was. */
+static int turn(party *me) {
+    static text asked;
+    int acted = 0;
+    asked.length = 0;
+    say(&asked, "agreed ");
+    say(&asked, me->agreed);
+    say(&asked, "\n");
+    add(&asked, me->notes.bytes, me->notes.length);
+    tell(&asked, me);
+    for (char *line = strtok(answered(me, 1, asked.bytes, asked.length), "\n"); line; line = strtok(NULL, "\n"))
         acted |= obey(me, line);
     return acted;
 }
@@ -166,6 +185,8 @@ int main(void) {
     read_lines();
     if (swap_party_check((uint8_t *)header, strlen(header), id, sizeof id).status != SWAP_PARTY_DONE)
         stop("the header's deal isn't accepted");
+    for (int i = 0; i < party_count; i++)
+        agree(&parties[i]);
     long horizon = atol(field(header, "\"start\":")) + (2 * atol(field(header, "\"bound\":")) + 2) * atol(field(header, "\"delta\":"));
     for (long height = 0; height <= horizon; height++) {
         for (int acted = 1; acted;) {
@@ -176,6 +197,7 @@ int main(void) {
         for (int arc = 0; arc < arc_count; arc++)
             enter(arc, "t 1\n");
     }
+    say(&told, "swap transcript 1\n");
     tell(&told, NULL);
     fwrite(told.bytes, 1, told.length, stdout);
     return fflush(stdout) ? 1 : 0;

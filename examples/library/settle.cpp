@@ -15,7 +15,7 @@ namespace {
 const uint8_t *bytes(const std::string &text) { return reinterpret_cast<const uint8_t *>(text.data()); }
 
 struct Party {
-    std::string name, seed, notes;
+    std::string name, seed, notes, agreed;
 };
 
 struct Ledger {
@@ -28,12 +28,15 @@ struct Ledger {
     }
 };
 
-// All that is due for a party, a line each.
-std::string due(const Party &party, const std::string &text) {
+// What the library answers a party: what is due, or what the party agrees to.
+std::string answered(const Party &party, bool is_next, const std::string &text) {
     std::string out(1 << 14, '\0');
     for (;;) {
-        const swap_party_said said = swap_party_next(bytes(text), text.size(), bytes(party.name), party.name.size(), bytes(party.seed),
-                                                     reinterpret_cast<uint8_t *>(&out[0]), out.size());
+        uint8_t *const at = reinterpret_cast<uint8_t *>(&out[0]);
+        const uint8_t *const name = bytes(party.name);
+        const swap_party_said said =
+            is_next ? swap_party_next(bytes(text), text.size(), name, party.name.size(), bytes(party.seed), at, out.size())
+                    : swap_party_terms(bytes(text), text.size(), name, party.name.size(), at, out.size());
         if (said.status == SWAP_PARTY_SHORT) {
             out.resize(said.length);
             continue;
@@ -64,7 +67,7 @@ struct Swap {
         for (size_t at = 0; (at = header.find("\"from\":", at)) != std::string::npos; at++)
             ledgers.push_back({field(header, "from", '"', at), field(header, "to", '"', at), "", 0});
         for (std::string name, seed; lines >> name >> seed;) {
-            Party party{name, "", ""};
+            Party party{name, "", "", ""};
             for (size_t at = 0; at + 1 < seed.size(); at += 2)
                 party.seed += static_cast<char>(std::stoi(seed.substr(at, 2), nullptr, 16));
             party.seed.resize(SWAP_PARTY_SEED_SIZE);
@@ -72,14 +75,22 @@ struct Swap {
         }
     }
 
-    // A transcript of every ledger, or of those that touch one party and of the others nothing.
-    std::string transcript(const std::string *name) const {
+    // Keeps the digest of the terms, to which here every owner agrees as they are.
+    void agree(Party &party) const {
+        std::istringstream lines(answered(party, false, header + "\n"));
+        for (std::string line; std::getline(lines, line);)
+            if (line.rfind("agree ", 0) == 0)
+                party.agreed = line.substr(6);
+    }
+
+    // The header, and what stands on every ledger, or on those that touch one party.
+    std::string told(const std::string *name) const {
         std::ostringstream told;
-        told << "swap transcript 1\n" << header << "\n";
+        told << header << "\n";
         for (size_t arc = 0; arc < ledgers.size(); arc++) {
             const Ledger &it = ledgers[arc];
-            const bool is_told = !name || it.from == *name || it.to == *name;
-            told << "ledger " << arc << " " << (is_told ? it.count : 0) << "\n" << (is_told ? it.entries : "");
+            if (!name || it.from == *name || it.to == *name)
+                told << "ledger " << arc << " " << it.count << "\n" << it.entries;
         }
         return told.str() + "end\n";
     }
@@ -87,11 +98,14 @@ struct Swap {
     // Keeps what is to be kept, writes down a publish before it goes out, and presents a call.
     bool obey(Party &party, const std::string &line) {
         std::istringstream words(line);
-        std::string word, number, call;
+        std::string word, number, by, height, call;
         size_t arc;
         if (line.rfind("keep ", 0) == 0)
             party.notes += line + "\n";
-        else if (words >> word >> arc >> number && word == "call" && std::getline(words, call)) {
+        else if (words >> word >> arc >> number >> by >> height && word == "call" && std::getline(words, call)) {
+            // (an unlock says until when it is accepted)
+            if (call.rfind(" until ", 0) == 0)
+                call.erase(0, call.find(' ', 7));
             if (call.rfind(" publish ", 0) == 0)
                 party.notes += "sent " + std::to_string(arc) + "\n";
             ledgers.at(arc).enter("c " + number + call + " = accepted");
@@ -102,7 +116,7 @@ struct Swap {
 
     bool turn(Party &party) {
         bool acted = false;
-        std::istringstream lines(due(party, party.notes + transcript(&party.name)));
+        std::istringstream lines(answered(party, true, "agreed " + party.agreed + "\n" + party.notes + told(&party.name)));
         for (std::string line; std::getline(lines, line);)
             acted |= obey(party, line);
         return acted;
@@ -111,6 +125,8 @@ struct Swap {
     void settle() {
         const long bound = std::stol(field(header, "bound", ',')), delta = std::stol(field(header, "delta", ','));
         const long horizon = std::stol(field(header, "start", ',')) + (2 * bound + 2) * delta;
+        for (Party &party : parties)
+            agree(party);
         for (long height = 0; height <= horizon; height++) {
             for (bool acted = true; acted;) {
                 acted = false;
@@ -137,6 +153,6 @@ int main() {
         std::cerr << "settle: " << why.what() << "\n";
         return 1;
     }
-    std::cout << swap.transcript(nullptr) << std::flush;
+    std::cout << "swap transcript 1\n" << swap.told(nullptr) << std::flush;
     return std::cout ? 0 : 1;
 }

@@ -10,8 +10,8 @@ from __future__ import annotations
 
 import sys
 
-from swap_party import Answer, Called, Due, Header, Keep, Library, Party, Publish, Rest, Sent, Tick, Transcript
-from swap_party.answer import Asked, Note, Told
+from swap_party import Answer, Asked, Called, Due, Header, Keep, Ledger, Library, Note, Party, Publish, Sent, Terms, Tick, Transcript
+from swap_party.answer import Told
 from swap_party.calls import Entry
 
 
@@ -22,12 +22,16 @@ class Swap:
         self.wallet, self.header, self.seeds = wallet, header, seeds
         self.entries: list[list[Entry]] = [[] for _ in header.arcs]
         self.notes: dict[str, list[Note]] = {name: [] for name in seeds}
+        # (an owner reads the terms; here all agree to them as they are)
+        self.agreed = {name: Terms.parse(wallet.terms(name, header.line)).agree for name in seeds}
 
-    def transcript(self, name: str | None = None) -> Transcript:
-        """A transcript of every ledger, or of those that touch one party and of the others
-        nothing."""
-        seen = [entries if name in (None, arc.party, arc.counterparty) else [] for arc, entries in zip(self.header.arcs, self.entries)]
-        return Transcript(self.header, tuple(map(tuple, seen)))
+    def transcript(self) -> Transcript:
+        return Transcript(self.header, tuple(map(tuple, self.entries)))
+
+    def ledgers_of(self, name: str) -> tuple[Ledger, ...]:
+        """What stands on the ledgers next to a party."""
+        near = [arc for arc, ends in enumerate(self.header.arcs) if name in (ends.party, ends.counterparty)]
+        return tuple(Ledger(arc, tuple(map(str, self.entries[arc]))) for arc in near)
 
     def obey(self, name: str, told: Told) -> bool:
         """Keeps what is to be kept and writes down a publish, before anything goes out, and
@@ -38,11 +42,11 @@ class Swap:
             if isinstance(told.call, Publish):
                 self.notes[name].append(Sent(told.arc))
             self.entries[told.arc].append(Called(told.party, told.call))
-        return not isinstance(told, Rest)
+        return isinstance(told, (Keep, Due))
 
     def turn(self, name: str) -> bool:
-        """Asks what is due, and obeys it line by line: whether that was anything but to rest."""
-        asked = Asked(tuple(self.notes[name]), self.transcript(name))
+        """Asks what is due, and obeys it line by line: whether anything was."""
+        asked = Asked(self.agreed[name], tuple(self.notes[name]), self.header.line, (), self.ledgers_of(name))
         answer = Answer.parse(self.wallet.next(name, self.seeds[name], str(asked)))
         return any([self.obey(name, told) for told in answer.told])
 

@@ -1,16 +1,30 @@
 /* The library's edge towards C. The proved functions decide what is answered; this file gives them
    their memory, gives them an address where a caller has none to give, and overwrites what they
    leave behind. .ci/library joins both, and `edge_` becomes `swap_party_` there. */
+#define swap_party_keys edge_keys
+#define swap_party_deal edge_deal
+#define swap_party_terms edge_terms
 #define swap_party_next edge_next
 #define swap_party_check edge_check
 #define swap_party_version edge_version
 #define swap_party_limit edge_limit
 #define swap_party_status_text edge_status_text
 #include "swap_party.h"
+#undef swap_party_keys
+#undef swap_party_deal
+#undef swap_party_terms
 #undef swap_party_next
 #undef swap_party_check
 
 /* The proved functions. */
+swap_party_said swap_party_keys(const uint8_t *text, size_t text_length,
+                                const uint8_t *name, size_t name_length,
+                                const uint8_t *seed, uint8_t *out, size_t capacity);
+swap_party_said swap_party_deal(const uint8_t *text, size_t text_length,
+                                uint8_t *out, size_t capacity);
+swap_party_said swap_party_terms(const uint8_t *text, size_t text_length,
+                                 const uint8_t *name, size_t name_length,
+                                 uint8_t *out, size_t capacity);
 swap_party_said swap_party_next(const uint8_t *text, size_t text_length,
                                 const uint8_t *name, size_t name_length,
                                 const uint8_t *seed, uint8_t *out, size_t capacity);
@@ -94,6 +108,32 @@ static uint8_t nothing[1];
 
 static const uint8_t *there(const uint8_t *at) { return at ? at : nothing; }
 
+CLEARS swap_party_said edge_keys(const uint8_t *text, size_t text_length,
+                                 const uint8_t *name, size_t name_length,
+                                 const uint8_t *seed, uint8_t *out, size_t capacity) {
+    swap_party_said said = swap_party_keys(there(text), text_length, there(name), name_length,
+                                           seed, out ? out : nothing, capacity);
+    overwrite_stack();
+    return said;
+}
+
+CLEARS swap_party_said edge_deal(const uint8_t *text, size_t text_length,
+                                 uint8_t *out, size_t capacity) {
+    swap_party_said said = swap_party_deal(there(text), text_length,
+                                           out ? out : nothing, capacity);
+    overwrite_stack();
+    return said;
+}
+
+CLEARS swap_party_said edge_terms(const uint8_t *text, size_t text_length,
+                                  const uint8_t *name, size_t name_length,
+                                  uint8_t *out, size_t capacity) {
+    swap_party_said said = swap_party_terms(there(text), text_length, there(name), name_length,
+                                            out ? out : nothing, capacity);
+    overwrite_stack();
+    return said;
+}
+
 CLEARS swap_party_said edge_next(const uint8_t *text, size_t text_length,
                                  const uint8_t *name, size_t name_length,
                                  const uint8_t *seed, uint8_t *out, size_t capacity) {
@@ -127,6 +167,8 @@ size_t edge_limit(uint32_t which) {
         return SWAP_PARTY_STACK_SIZE;
     case SWAP_PARTY_LIMIT_WIPED:
         return SWAP_PARTY_STACK_WIPED;
+    case SWAP_PARTY_LIMIT_SHORT:
+        return SWAP_PARTY_SHORT_LIMIT;
     default:
         return 0;
     }
@@ -138,6 +180,8 @@ const char *edge_status_text(uint32_t status) {
         return "done";
     case SWAP_PARTY_SHORT:
         return "the buffer is too short for the text";
+    case SWAP_PARTY_WARNED:
+        return "done: a line of the text warns";
     case SWAP_PARTY_REFUSED:
         return "refused: the text is the line of the reason";
     case SWAP_PARTY_NO_MEMORY:

@@ -34,6 +34,14 @@ func answer(call func(out []byte) C.swap_party_said) (string, error) {
 	return text, nil
 }
 
+// What the party of that name agrees to, a line each.
+func terms(text, name string) (string, error) {
+	told, called := []byte(text), []byte(name)
+	return answer(func(out []byte) C.swap_party_said {
+		return C.swap_party_terms(at(told), C.size_t(len(told)), at(called), C.size_t(len(called)), at(out), C.size_t(len(out)))
+	})
+}
+
 // All that is due for the party of that name, a line each.
 func next(text, name string, seed []byte) (string, error) {
 	if len(seed) != C.SWAP_PARTY_SEED_SIZE {

@@ -13,8 +13,8 @@ import (
 )
 
 type party struct {
-	name, notes string
-	seed        []byte
+	name, agreed, notes string
+	seed                []byte
 }
 
 type ledger struct {
@@ -47,33 +47,53 @@ func read(lines *bufio.Scanner) (*swap, error) {
 	return it, lines.Err()
 }
 
-// A transcript of every ledger, or of those that touch one party and of the others nothing.
-func (it *swap) transcript(name string) string {
+// The header, and what stands on every ledger, or on those that touch one party.
+func (it *swap) told(name string) string {
 	var told strings.Builder
-	fmt.Fprintf(&told, "swap transcript 1\n%s\n", it.header)
+	fmt.Fprintf(&told, "%s\n", it.header)
 	for arc := range it.Arcs {
-		ledger, entries := &it.Arcs[arc], []string(nil)
+		ledger := &it.Arcs[arc]
 		if name == "" || ledger.From == name || ledger.To == name {
-			entries = ledger.entries
+			fmt.Fprintf(&told, "ledger %d %d\n%s", arc, len(ledger.entries), strings.Join(ledger.entries, ""))
 		}
-		fmt.Fprintf(&told, "ledger %d %d\n%s", arc, len(entries), strings.Join(entries, ""))
 	}
 	return told.String() + "end\n"
+}
+
+// Keeps the digest of each party's terms, to which here every owner agrees as they are.
+func (it *swap) agree() error {
+	for _, me := range it.parties {
+		answer, err := terms(it.header+"\n", me.name)
+		if err != nil {
+			return err
+		}
+		for _, line := range strings.Split(answer, "\n") {
+			if strings.HasPrefix(line, "agree ") {
+				me.agreed = strings.TrimPrefix(line, "agree ")
+			}
+		}
+	}
+	return nil
 }
 
 // Keeps what is to be kept, writes down a publish before it goes out, and presents a call.
 func (it *swap) obey(me *party, line string) bool {
 	var arc, number int
-	words := strings.SplitN(line, " ", 4)
+	words := strings.SplitN(line, " ", 6)
 	switch words[0] {
 	case "keep":
 		me.notes += line + "\n"
 	case "call":
+		call := words[5]
 		fmt.Sscan(words[1]+" "+words[2], &arc, &number)
-		if strings.HasPrefix(words[3], "publish ") {
+		// (an unlock says until when it is accepted)
+		if strings.HasPrefix(call, "until ") {
+			call = strings.SplitN(call, " ", 3)[2]
+		}
+		if strings.HasPrefix(call, "publish ") {
 			me.notes += fmt.Sprintf("sent %d\n", arc)
 		}
-		it.Arcs[arc].entries = append(it.Arcs[arc].entries, fmt.Sprintf("c %d %s = accepted\n", number, words[3]))
+		it.Arcs[arc].entries = append(it.Arcs[arc].entries, fmt.Sprintf("c %d %s = accepted\n", number, call))
 	default:
 		return false
 	}
@@ -81,7 +101,7 @@ func (it *swap) obey(me *party, line string) bool {
 }
 
 func (it *swap) turn(me *party) (bool, error) {
-	answer, err := next(me.notes+it.transcript(me.name), me.name, me.seed)
+	answer, err := next("agreed "+me.agreed+"\n"+me.notes+it.told(me.name), me.name, me.seed)
 	acted := false
 	for _, line := range strings.Split(answer, "\n") {
 		acted = it.obey(me, line) || acted
@@ -114,10 +134,13 @@ func main() {
 		_, err = check(it.header)
 	}
 	if err == nil {
+		err = it.agree()
+	}
+	if err == nil {
 		err = it.settle()
 	}
 	if err == nil {
-		_, err = os.Stdout.WriteString(it.transcript(""))
+		_, err = os.Stdout.WriteString("swap transcript 1\n" + it.told(""))
 	}
 	if err != nil {
 		fmt.Fprintln(os.Stderr, "settle:", err)

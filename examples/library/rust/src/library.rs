@@ -1,4 +1,4 @@
-//! The library's two calls.
+//! The library's calls.
 
 #[repr(C)]
 struct Said {
@@ -20,6 +20,14 @@ extern "C" {
         out: *mut u8,
         capacity: usize,
     ) -> Said;
+    fn swap_party_terms(
+        text: *const u8,
+        text_length: usize,
+        name: *const u8,
+        name_length: usize,
+        out: *mut u8,
+        capacity: usize,
+    ) -> Said;
     fn swap_party_check(header: *const u8, length: usize, out: *mut u8, capacity: usize) -> Said;
 }
 
@@ -36,6 +44,15 @@ fn answer(call: impl Fn(&mut [u8]) -> Said) -> Result<Vec<u8>, String> {
         DONE => Ok(out),
         status => Err(format!("status {status}: {}", String::from_utf8_lossy(&out))),
     }
+}
+
+/// What the party of that name agrees to, a line each.
+pub fn terms(text: &str, name: &str) -> Result<String, String> {
+    let answered = answer(|out| unsafe {
+        let (at, capacity) = (out.as_mut_ptr(), out.len());
+        swap_party_terms(text.as_ptr(), text.len(), name.as_ptr(), name.len(), at, capacity)
+    });
+    String::from_utf8(answered?).map_err(|why| why.to_string())
 }
 
 /// All that is due for the party of that name, a line each.

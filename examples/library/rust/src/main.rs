@@ -10,6 +10,7 @@ use std::io::{Read, Write};
 struct Party {
     name: String,
     seed: [u8; 32],
+    agreed: String,
     notes: String,
 }
 
@@ -37,7 +38,7 @@ fn party(line: &str) -> Result<Party, String> {
         let pair = digits.get(2 * at..2 * at + 2).ok_or("a seed is too short")?;
         *byte = u8::from_str_radix(pair, 16).map_err(|why| why.to_string())?;
     }
-    Ok(Party { name: name.into(), seed, notes: String::new() })
+    Ok(Party { name: name.into(), seed, agreed: String::new(), notes: String::new() })
 }
 
 impl Swap {
@@ -54,24 +55,35 @@ impl Swap {
         field(&self.header, name, ',')?.parse().map_err(|_| format!("{name} is no number"))
     }
 
-    /// A transcript of every ledger, or of those that touch one party and of the others nothing.
-    fn transcript(&self, name: Option<&String>) -> String {
-        let mut told = format!("swap transcript 1\n{}\n", self.header);
-        for (arc, ledger) in self.ledgers.iter().enumerate() {
-            let entries = if name.map_or(true, |it| ledger.ends.contains(it)) { &ledger.entries[..] } else { &[] };
-            let _ = writeln!(told, "ledger {arc} {}", entries.len());
-            entries.iter().for_each(|it| told += it);
+    /// The header, and what stands on every ledger, or on those that touch one party.
+    fn told(&self, name: Option<&String>) -> String {
+        let mut told = format!("{}\n", self.header);
+        for (arc, ledger) in self.ledgers.iter().enumerate().filter(|(_, it)| name.map_or(true, |name| it.ends.contains(name))) {
+            let _ = writeln!(told, "ledger {arc} {}", ledger.entries.len());
+            ledger.entries.iter().for_each(|it| told += it);
         }
         told + "end\n"
+    }
+
+    /// Keeps the digest of each party's terms, to which here every owner agrees as they are.
+    fn agree(&mut self) -> Result<(), String> {
+        let header = format!("{}\n", self.header);
+        for party in &mut self.parties {
+            let terms = library::terms(&header, &party.name)?;
+            party.agreed = terms.lines().find_map(|it| it.strip_prefix("agree ")).ok_or("the terms have no digest")?.into();
+        }
+        Ok(())
     }
 
     /// Keeps what is to be kept, writes down a publish before it goes out, and presents a call.
     fn obey(&mut self, who: usize, line: &str) -> Result<bool, String> {
         let notes = &mut self.parties[who].notes;
-        let words: Vec<&str> = line.splitn(4, ' ').collect();
+        let words: Vec<&str> = line.splitn(6, ' ').collect();
         match words[..] {
             ["keep", ..] => *notes += &format!("{line}\n"),
-            ["call", arc, number, call] => {
+            ["call", arc, number, "by", _, call] => {
+                // (an unlock says until when it is accepted)
+                let call = call.strip_prefix("until ").and_then(|it| it.split_once(' ')).map_or(call, |it| it.1);
                 if call.starts_with("publish ") {
                     *notes += &format!("sent {arc}\n");
                 }
@@ -85,7 +97,7 @@ impl Swap {
 
     fn turn(&mut self, who: usize) -> Result<bool, String> {
         let party = &self.parties[who];
-        let text = party.notes.clone() + &self.transcript(Some(&party.name));
+        let text = format!("agreed {}\n{}{}", party.agreed, party.notes, self.told(Some(&party.name)));
         let lines = library::next(text.as_bytes(), &party.name, &party.seed)?;
         lines.lines().try_fold(false, |acted, line| Ok(self.obey(who, line)? | acted))
     }
@@ -105,8 +117,9 @@ fn settled() -> Result<String, String> {
     std::io::stdin().read_to_string(&mut text).map_err(|why| why.to_string())?;
     let mut swap = Swap::read(&text)?;
     library::check(&swap.header)?;
+    swap.agree()?;
     swap.settle()?;
-    Ok(swap.transcript(None))
+    Ok(format!("swap transcript 1\n{}", swap.told(None)))
 }
 
 fn main() -> std::process::ExitCode {
