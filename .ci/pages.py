@@ -26,8 +26,8 @@ DOCUMENTS = sorted(pages_in(TOP))
 BUDGETS: Dict[str, int] = {
     "README.md": 900,
     "docs/THEOREM.md": 1300,
-    "docs/DEFINITIONS.md": 5400,
-    "docs/FORMATS.md": 5500,
+    "docs/DEFINITIONS.md": 5850,
+    "docs/FORMATS.md": 6750,
     "docs/GLOSSARY.md": 1000,
     "docs/READING.md": 1100,
     "docs/USING.md": 400,
@@ -35,8 +35,8 @@ BUDGETS: Dict[str, int] = {
     "docs/using/day.md": 650,
     "docs/using/auditor.md": 750,
     "docs/using/contract.md": 900,
-    "docs/using/wallet.md": 1550,
-    ARCHITECTURE: 1950,
+    "docs/using/wallet.md": 1650,
+    ARCHITECTURE: 2000,
     f"{MAINTAINERS}/DECISIONS.md": 1750,
     f"{MAINTAINERS}/PROOFS.md": 2500,
     PROVED: 2950,
@@ -48,7 +48,7 @@ BUDGETS: Dict[str, int] = {
     "tests/README.md": 700,
     "CONTRIBUTING.md": 900,
 }
-FEW, TOTAL = 600, 35600
+FEW, TOTAL = 600, 37000
 WIDTH, ROW = 100, 250
 BEGIN, END = "<!-- written by .ci/documents --write -->", "<!-- up to here -->"
 DEFINITIONS, STATED_OVER = "docs/DEFINITIONS.md", "docs/STATED_OVER.txt"
