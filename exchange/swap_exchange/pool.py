@@ -67,7 +67,8 @@ class Cluster(Workers):
         return executor
 
     def close(self) -> None:
-        super().close()
+        # (Dask's executor can't cancel; its client leaves what nobody waits for)
+        self.pool.shutdown(wait=False)
         self.client.close()
 
 
