@@ -48,7 +48,7 @@ BUDGETS: Dict[str, int] = {
     "tests/README.md": 700,
     "CONTRIBUTING.md": 900,
 }
-FEW, TOTAL = 600, 37000
+FEW, TOTAL = 600, 37070
 WIDTH, ROW = 100, 250
 BEGIN, END = "<!-- written by .ci/documents --write -->", "<!-- up to here -->"
 DEFINITIONS, STATED_OVER = "docs/DEFINITIONS.md", "docs/STATED_OVER.txt"
