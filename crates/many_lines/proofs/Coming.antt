@@ -6,7 +6,7 @@ use Rattle.swap_job.specs.declared.job.Job.{Job}
 use Rattle.swap_job.specs.Step.{IsJobEvent}
 use Rattle.swap_many.specs.declared.many_event.ManyEvent.{ManyEvent}
 use Rattle.swap_many.specs.declared.many_event.ManyEvent.TheVariants.{Tick, Pay, Sweep}
-use Rattle.many_fields.specs.declared.event.Payment.{Payment}
+use Rattle.many_lines.specs.declared.payment.Payment.{Payment}
 use Rattle.many_lines.specs.Event.{is_slot}
 use Rattle.many_lines.specs.Places.{job_at}
 use Rattle.many_lines.specs.Setup.{IsEventIn, MayCome}

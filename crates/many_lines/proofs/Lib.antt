@@ -1,3 +1,4 @@
+pub mod Pairs
 pub mod Failing
 pub mod Swaps
 pub mod Walks

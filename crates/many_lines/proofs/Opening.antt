@@ -11,7 +11,7 @@ use Rattle.swap_many.specs.Opening.{AreOpenable, IsNew}
 use Rattle.swap_many.specs.Ticking.{nth}
 use Rattle.swap_many.specs.Value.{no_world}
 use Rattle.swap_many.specs.declared.place.Place.{Place}
-use Rattle.many_fields.specs.Fields.{most_units}
+use Rattle.many_lines.specs.Fields.{most_units}
 use Rattle.many_lines.specs.Places.{job_at, no_job}
 use Rattle.many_lines.specs.Whole.{AreChains, ArePlaced, AreSwaps}
 use Rattle.many_lines.specs.declared.many_job.ManyJob.{ManyJob}

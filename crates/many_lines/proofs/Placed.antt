@@ -11,7 +11,7 @@ use Rattle.swap_job.specs.declared.job.Job.{Job}
 use Rattle.swap_many.specs.Chains.{nowhere}
 use Rattle.swap_many.specs.Opening.{IsPlaceOn}
 use Rattle.swap_many.specs.declared.place.Place.{Place}
-use Rattle.many_fields.specs.Whole.{AreBelow}
+use Rattle.many_lines.specs.Below.{AreBelow}
 use Rattle.many_lines.specs.Places.{find_account, arc_places, job_at, make_place, find_place, arc_place, place_or, find_places, swap_places}
 use Rattle.many_lines.specs.Whole.{AreChains, ArePlaced, AreSwaps}
 use Rattle.many_lines.specs.declared.many_job.ManyJob.{ManyJob}

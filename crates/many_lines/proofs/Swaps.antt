@@ -8,7 +8,7 @@ use Rattle.swap_job.specs.declared.job.Job.{Job}
 use Rattle.swap_job.specs.declared.job.Purpose.TheVariants.{Run}
 use Rattle.offer_header.specs.Limits.{HoldsEach}
 use Rattle.swap_offer.specs.Job.{IsWholeJob}
-use Rattle.many_fields.specs.Whole.{AreBelow, IsChain}
+use Rattle.many_lines.specs.Below.{AreBelow, IsChain}
 use Rattle.many_lines.specs.Places.{job_at, no_job}
 use Rattle.many_lines.specs.Whole.{AreChains, AreSwaps, IsSwap}
 use Rattle.many_lines.specs.declared.many_job.ManyJob.{ManyJob}

@@ -14,7 +14,7 @@ use Rattle.refusals.specs.Refusal.{refusal}
 use Rattle.offer_events.specs.Event.{parse_event}
 use Rattle.transcript_lines.specs.Between.{parts_at}
 use Rattle.transcript_lines.specs.Reading.{is_word, bounded_number}
-use Rattle.many_fields.specs.Fields.{parse_payment_fields, parse_sweep_fields, entry_tick}
+use Rattle.many_lines.specs.Fields.{parse_payment_fields, parse_sweep_fields, entry_tick}
 use Rattle.swap_many.specs.declared.many_event.ManyEvent.{ManyEvent}
 use Rattle.swap_many.specs.declared.many_event.ManyEvent.TheVariants.{Tick, In, Pay, Sweep}
 use Rattle.many_lines.specs.Heading.{bad, bad_line, by_fields}

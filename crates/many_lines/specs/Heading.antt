@@ -17,8 +17,8 @@ use Rattle.transcript_lines.specs.declared.said.Misspelling.{Misspelling}
 use Rattle.transcript_lines.specs.Between.{parts_at}
 use Rattle.transcript_lines.specs.Reading.{is_word}
 use Rattle.swap_offer.specs.Job.{job_header_of, names_at}
-use Rattle.many_fields.specs.Fields.{history_accounts, parse_chain_list, finish_of}
-use Rattle.many_fields.specs.declared.accounts.ChainAccounts.{ChainAccounts}
+use Rattle.many_lines.specs.Fields.{history_accounts, parse_chain_list, finish_of}
+use Rattle.many_lines.specs.declared.accounts.ChainAccounts.{ChainAccounts}
 use Rattle.many_lines.specs.declared.many_job.ManyJob.{ManyJob}
 use Rattle.many_lines.specs.declared.stage.Stage.{Stage}
 use Rattle.many_lines.specs.declared.stage.Stage.TheVariants.{First, Words, Header, Over}

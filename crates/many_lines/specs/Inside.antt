@@ -2,7 +2,7 @@
 use Rattle.std.specs.Prelude.{◌≡◌, ◌≤◌, ◌<◌, ℕ, true, List, is_some, length, map, vec_capacity}
 use Rattle.swap_job.specs.declared.job.Purpose.TheVariants.{Run}
 use Rattle.swap_offer.specs.Wallets.{prepared_wallets}
-use Rattle.many_fields.specs.Whole.{AreBelow}
+use Rattle.many_lines.specs.Below.{AreBelow}
 use Rattle.many_lines.specs.declared.heading.Heading.TheInside.{Inside}
 use Rattle.many_lines.specs.declared.many_job.ManyJob.{ManyJob}
 use Rattle.many_lines.specs.declared.stage.Stage.TheVariants.{Header}

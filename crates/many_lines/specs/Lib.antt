@@ -1,3 +1,5 @@
+pub mod Fields
+pub mod Below
 pub mod Heading
 pub mod Inside
 pub mod Places

@@ -10,7 +10,7 @@ use Rattle.swap_offer.specs.Wallets.{HaveScripts, HaveWallets}
 use Rattle.swap_many.specs.Chains.{nowhere}
 use Rattle.swap_many.specs.Opening.{IsPlaceOn}
 use Rattle.swap_many.specs.declared.place.Place.{Place}
-use Rattle.many_fields.specs.Whole.{AreBelow, IsChain}
+use Rattle.many_lines.specs.Below.{AreBelow, IsChain}
 use Rattle.many_lines.specs.Places.{job_at}
 use Rattle.many_lines.specs.declared.many_job.ManyJob.{ManyJob}
 

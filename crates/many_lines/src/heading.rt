@@ -7,7 +7,7 @@ ghost use Rattle.many_lines.specs.declared.stage.Stage.TheVariants.{Words};
 ghost use Rattle.many_lines.specs.Heading.{chain_taken, fields_taken, finish_taken, first_taken, header_taken, kind_taken, line_taken, swap_taken, unread};
 ghost use Rattle.many_lines.specs.Heading.{finish_told, with_swap};
 ghost use Rattle.many_lines.specs.Whole.{AreChains, AreSwaps, HoldsEverySwap, IsSwap};
-ghost use Rattle.many_fields.specs.Whole.{AreBelow};
+ghost use Rattle.many_lines.specs.Below.{AreBelow};
 ghost use Rattle.swap_offer.specs.Wallets.{prepared_wallets};
 
 use crate::fault::{bad, by_field};

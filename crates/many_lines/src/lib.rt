@@ -1,13 +1,17 @@
 //! The lines of many swaps: what stands before their events, where their arcs stand, and their events, each with the first reason why it is refused.
 //!
-//! Read `specs/Heading.antt` first, then `specs/Places.antt` and `specs/Event.antt`. What holds of all that is read is in `specs/Whole.antt`; which events
+//! Read `specs/Fields.antt` first: what each line that is no JSON says; then `specs/Heading.antt`, `specs/Places.antt` and `specs/Event.antt`. What holds of all that is read is in `specs/Whole.antt`; which events
 //! can come, in `specs/Setup.antt`.
 #![tactic(auto)]
 
+mod accounts;
+mod chain_list;
 mod event;
 mod fault;
 mod heading;
 mod many_job;
+mod number;
+mod payment;
 mod places;
 mod said;
 mod stage;

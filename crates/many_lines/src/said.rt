@@ -3,15 +3,15 @@
 ghost use Rattle.std.specs.Prelude.{◌<◌, ◌≤◌, [], ℕ, length, slice_index_or, IfOk};
 ghost use Rattle.swap_base.specs.Fault.{Gives};
 ghost use Rattle.transcript_lines.specs.Reading.{bounded_number};
-ghost use Rattle.many_fields.specs.Fields.{history_accounts, parse_chain_list, finish_of, parse_payment_fields, parse_sweep_fields, entry_tick};
-ghost use Rattle.many_fields.specs.Whole.{AreBelow, IsChain};
+ghost use Rattle.many_lines.specs.Fields.{history_accounts, parse_chain_list, finish_of, parse_payment_fields, parse_sweep_fields, entry_tick};
+ghost use Rattle.many_lines.specs.Below.{AreBelow, IsChain};
 ghost use Rattle.many_lines.specs.Heading.{by_fields};
 
+use crate::accounts::{ChainAccounts, read_accounts};
+use crate::chain_list::{read_chains, read_finish};
 use crate::fault::by_field;
-use many_fields::{
-    ChainAccounts, Payment, read_accounts, read_bounded, read_chains, read_finish, read_payment,
-    read_sweep, read_tick,
-};
+use crate::number::read_bounded;
+use crate::payment::{Payment, read_payment, read_sweep, read_tick};
 use refusals::HeaderFault;
 use std::alloc::Global;
 use swap_base::{ByteText, Listed};

@@ -1,3 +1,4 @@
+pub mod Good
 pub mod Members
 pub mod Answered
 pub mod Growing

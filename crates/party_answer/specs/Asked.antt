@@ -14,8 +14,8 @@ use Rattle.told_ledgers.specs.Telling.{ledgers_told, told_book}
 use Rattle.party_lines.specs.Lines.{ended_lines, nameless, next_number}
 use Rattle.party_lines.specs.Names.{party_named}
 use Rattle.party_lines.specs.Digests.{agreed_line}
-use Rattle.party_notes.specs.Notes.{NotesState, notes_read}
-use Rattle.party_notes.specs.Kept.{KeptState, notes_kept}
+use Rattle.party_answer.specs.Notes.{NotesState, notes_read}
+use Rattle.party_answer.specs.Kept.{KeptState, notes_kept}
 use Rattle.party_terms.specs.Terms.{AgreedState, parse_agreed}
 use Rattle.party_answer.specs.declared.reason.AnswerReason.{AnswerReason}
 use Rattle.party_answer.specs.declared.reason.AnswerReason.TheVariants.{Refused, NotAgreed}

@@ -12,7 +12,7 @@ use Rattle.party_wallet.specs.Fits.{wrong_lock}
 use Rattle.party_wallet.specs.Value.{signed_in}
 use Rattle.answer_rules.specs.Laws.{AreGoodKeys}
 use Rattle.ledger_core.specs.Book.{Histories, IsLegalBook}
-use Rattle.party_notes.specs.Inside.{kept_state, notes_state}
+use Rattle.party_answer.specs.NoteStates.{kept_state, notes_state}
 use Rattle.party_terms.specs.Inside.{inside_agreed}
 use Rattle.told_ledgers.specs.Telling.{told_book}
 use Rattle.party_answer.specs.declared.said.Said.{Said}

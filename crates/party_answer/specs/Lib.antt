@@ -1,3 +1,6 @@
+pub mod Notes
+pub mod Kept
+pub mod NoteStates
 pub mod Asked
 pub mod Unkept
 pub mod Lines

@@ -10,7 +10,7 @@ ghost use Rattle.party_wallet.specs.Value.{signed_in};
 ghost use Rattle.answer_rules.specs.Laws.{AreGoodKeys};
 ghost use Rattle.told_ledgers.specs.Telling.{ledgers_told, told_book};
 ghost use Rattle.party_terms.specs.Inside.{IsTold};
-ghost use Rattle.party_notes.specs.Inside.{kept_state};
+ghost use Rattle.party_answer.specs.NoteStates.{kept_state};
 ghost use Rattle.party_answer.specs.Asked.{as_agreed, by_reason, by_refusal, own_seed, party_asked, said_asked};
 ghost use Rattle.party_answer.specs.Inside.{asked_question, said_state, IsAsked};
 
@@ -18,7 +18,7 @@ use crate::reason::{AnswerFault, AnswerReason, reason_fault, refusal_fault};
 use crate::said::Said;
 use ledger_core::share_deal;
 use party_lines::party_named;
-use party_notes::{Kept, notes_kept};
+use crate::kept::{Kept, notes_kept};
 use party_wallet::Wallet;
 use refusals::{HeaderFault, Reason, Refusal};
 use std::alloc::Global;

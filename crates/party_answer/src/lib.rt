@@ -2,7 +2,7 @@
 //!
 //! It watches no chain and keeps nothing: whatever a wallet must not lose is in what it hands over.
 //!
-//! Read `specs/Asked.antt` first: what an input asks, or the first reason against it; then `specs/Lines.antt` and `specs/Text.antt`: the text that answers it; and
+//! Read `specs/Notes.antt` first: what a wallet wrote down; then `specs/Asked.antt`: what an input asks, or the first reason against it; then `specs/Lines.antt` and `specs/Text.antt`: the text that answers it; and
 //! `specs/Promised.antt`: what holds of an answer. What a wallet is promised that keeps to them stands in `wallet_promise` and `told_lives`.
 #![tactic(auto)]
 
@@ -10,7 +10,10 @@ mod answering;
 mod asked;
 mod calls;
 mod given;
+mod kept;
 mod line;
+mod note;
+mod notes;
 mod reason;
 mod said;
 mod text;

@@ -13,7 +13,7 @@ use crate::timed::Timed;
 use crate::unkept::kept_key;
 use hashkey_path::Hashkey;
 use ledger_core::Call;
-use party_notes::Kept;
+use crate::kept::Kept;
 use party_wallet::Signed;
 use sent_keys::is_first_key;
 use swap_base::{ArcId, LockId, NoMemory, PartyId, Piece, put};

@@ -1,0 +1,61 @@
+//! The lines before a swap's header and before the events.
+
+ghost use Rattle.std.specs.Prelude.{◌≤◌, IfOk};
+ghost use Rattle.swap_base.specs.Fault.{Gives};
+ghost use Rattle.transcript_book.specs.Taking.{Takes};
+ghost use Rattle.transcript_lines.specs.Reading.{field_of};
+ghost use Rattle.many_lines.specs.Fields.{parse_chain_list, finish_of, finish_word};
+ghost use Rattle.many_lines.specs.Below.{AreBelow};
+
+use crate::number::read_bounded;
+use std::alloc::Global;
+use swap_base::Listed;
+use swap_job::Finish;
+use transcript_book::{Parts, WordFault, misspelt, nothing_more, word};
+
+/// The chains of a swap's arcs, one for each arc, by the fields after the first.
+#[tactic(auto, using(crate::proofs::Pairs::below_more), unfolding(crate::specs::Fields::parse_chain_list))]
+pub fn read_chains(
+    alloc: Global,
+    count: usize,
+    fields: &mut Parts<'_>,
+) -> Result<Listed<u8>, WordFault>
+    requires { count ≤ 256 }
+    ensures exact { Gives (λ l. l) result (parse_chain_list count fields.old) }
+    ensures below { IfOk result (λ l. AreBelow count l) }
+{
+    let mut list = Vec::new(alloc);
+    while let Some(word) = fields.next() {
+        list.push(read_bounded(count as u64, word)? as u8)?;
+    }
+    Ok(Listed::new(list))
+}
+
+fn finish_word(word: &[u8]) -> Result<Finish, WordFault>
+    ensures { Gives (λ f. f) result (finish_word word.now) }
+{
+    if word == b"stop".as_slice() {
+        Ok(Finish::Stop)
+    } else if word == b"fair".as_slice() {
+        Ok(Finish::Fair)
+    } else {
+        Err(misspelt())
+    }
+}
+
+#[tactic(auto, unfolding(transcript_lines::specs::Reading::field_of))]
+fn finish_field(fields: &mut Parts<'_>) -> Result<Finish, WordFault>
+    ensures { Takes (λ f. f) result fields.new (field_of finish_word fields.old) }
+{
+    finish_word(word(fields)?)
+}
+
+/// The finish, by the fields after the first.
+#[tactic(auto, unfolding(crate::specs::Fields::finish_of))]
+pub fn read_finish(fields: &mut Parts<'_>) -> Result<Finish, WordFault>
+    ensures { Gives (λ f. f) result (finish_of fields.old) }
+{
+    let finish = finish_field(fields)?;
+    nothing_more(fields)?;
+    Ok(finish)
+}

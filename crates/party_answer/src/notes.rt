@@ -1,0 +1,55 @@
+//! The notes that stand first among lines.
+
+ghost use Rattle.std.specs.Prelude.{◌≡◌, ◌∷◌, MatchOption, true};
+ghost use Rattle.party_lines.specs.Lines.{TakesLine};
+ghost use Rattle.party_answer.specs.NoteStates.{notes_state, IsBehind};
+ghost use Rattle.party_answer.specs.Notes.{is_note as is_note_line, notes_read};
+
+use crate::note::{Note, is_note, line_noted};
+use refusals::HeaderFault;
+use std::alloc::Global;
+use swap_base::Listed;
+use transcript_book::Parts;
+
+/// The notes that stand first among lines.
+#[derive(Debug, Drop)]
+pub struct Notes {
+    pub list: Listed<Note>,
+    /// The number of the line behind them.
+    pub next: u32,
+}
+
+/// Takes the next line where it is a note.
+fn next_note<'a>(lines: &mut Parts<'a>) -> Option<&'a [u8]>
+    ensures { MatchOption result (IsBehind lines.old × (lines.new ≡ lines.old)) (λ l. (lines.old ≡ l.now ∷ lines.new) × (is_note_line l.now ≡ true)) }
+{
+    match lines.peek() {
+        Some(line) if is_note(line) => {
+            let _ = lines.next();
+            Some(line)
+        }
+        _ => None,
+    }
+}
+
+/// The notes that stand first among lines, of which the first has that number. The other lines stay.
+#[tactic(auto, unfolding(crate::specs::Notes::notes_read))]
+pub fn read_notes(alloc: Global, first: u32, lines: &mut Parts<'_>) -> Result<Notes, HeaderFault>
+    ensures { TakesLine notes_state result lines.new (notes_read first lines.old) }
+{
+    let mut list = Vec::new(alloc);
+    let mut number = first;
+    'lines: while let Some(line) = next_note(lines) {
+        match line_noted(alloc, number, line) {
+            Ok(note) => {
+                list.push(note)?;
+                number = number.saturating_add(1);
+            }
+            Err(fault) => return Err(fault),
+        }
+    }
+    Ok(Notes {
+        list: Listed::new(list),
+        next: number,
+    })
+}
