@@ -7,11 +7,10 @@ ghost use Rattle.transcript_lines.specs.Reading.{field_of};
 ghost use Rattle.many_lines.specs.Fields.{parse_chain_list, finish_of, finish_word};
 ghost use Rattle.many_lines.specs.Below.{AreBelow};
 
-use crate::number::read_bounded;
 use std::alloc::Global;
 use swap_base::Listed;
 use swap_job::Finish;
-use transcript_book::{Parts, WordFault, misspelt, nothing_more, word};
+use transcript_book::{Parts, WordFault, misspelt, nothing_more, read_bounded, word};
 
 /// The chains of a swap's arcs, one for each arc, by the fields after the first.
 #[tactic(auto, using(crate::proofs::Pairs::below_more), unfolding(crate::specs::Fields::parse_chain_list))]

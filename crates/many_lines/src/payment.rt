@@ -3,12 +3,14 @@
 ghost use Rattle.std.specs.Prelude.{◌≡◌, ◌<◌, ◌≤◌, [], ℕ, length, slice_index_or, IfOk};
 ghost use Rattle.swap_base.specs.Fault.{Gives};
 ghost use Rattle.transcript_book.specs.Taking.{Takes};
-ghost use Rattle.transcript_lines.specs.Reading.{field_of, bounded_number};
+ghost use Rattle.transcript_lines.specs.Reading.{field_of};
 ghost use Rattle.many_lines.specs.Fields.{read_account, parse_heights, parse_payment_fields, parse_payment, parse_sweep_fields, entry_tick, parse_units};
 
-use crate::number::{parse_units, read_bounded};
+use crate::number::parse_units;
 use swap_base::{ByteText, Listed, find_place};
-use transcript_book::{Parts, WordFault, misspelt, nothing_more, word};
+use transcript_book::{
+    Parts, WordFault, bounded_field, misspelt, nothing_more, read_bounded, word,
+};
 
 /// A payment on a chain, from one account to another, by their places.
 #[derive(Clone, Copy, Debug, PartialEq, Eq)]
@@ -40,17 +42,6 @@ fn heights_field(fields: &mut Parts<'_>) -> Result<u32, WordFault>
     parse_heights(word(fields)?)
 }
 
-/// A number below a limit that a byte can say.
-#[tactic(auto, unfolding(transcript_lines::specs::Reading::field_of))]
-fn number_field(limit: usize, fields: &mut Parts<'_>) -> Result<u8, WordFault>
-    requires { limit ≤ 256 }
-    ensures exact { Takes (λ n. n) result fields.new (field_of (bounded_number limit) fields.old) }
-    ensures below { IfOk result (λ n. n < limit) }
-{
-    let n = read_bounded(limit as u64, word(fields)?)?;
-    Ok(n as u8)
-}
-
 /// A tick of one of so many chains, by the fields after the first: the chain, and by how many heights.
 #[tactic(auto, unfolding(crate::specs::Fields::entry_tick))]
 pub fn read_tick(chains: usize, fields: &mut Parts<'_>) -> Result<(u8, u32), WordFault>
@@ -60,7 +51,7 @@ pub fn read_tick(chains: usize, fields: &mut Parts<'_>) -> Result<(u8, u32), Wor
     ensures some { IfOk result (λ t. 1 ≤ t.1) }
     ensures few { IfOk result (λ t. t.1 ≤ 1000000) }
 {
-    let chain = number_field(chains, fields)?;
+    let chain = bounded_field(chains, fields)?;
     let by = heights_field(fields)?;
     nothing_more(fields)?;
     Ok((chain, by))
@@ -131,7 +122,7 @@ pub fn read_payment(
     ensures from { IfOk result (λ p. p.from < length (slice_index_or names.now p.chain [])) }
     ensures to { IfOk result (λ p. p.to < length (slice_index_or names.now p.chain [])) }
 {
-    let chain = number_field(names.len(), fields)?;
+    let chain = bounded_field(names.len(), fields)?;
     parse_payment(chain, names[chain as usize].as_slice(), fields)
 }
 
@@ -140,8 +131,8 @@ pub fn read_payment(
 pub fn read_sweep(fields: &mut Parts<'_>) -> Result<(u8, u8), WordFault>
     ensures { Gives (λ s. s) result (parse_sweep_fields fields.old) }
 {
-    let swap = number_field(256, fields)?;
-    let arc = number_field(256, fields)?;
+    let swap = bounded_field(256, fields)?;
+    let arc = bounded_field(256, fields)?;
     nothing_more(fields)?;
     Ok((swap, arc))
 }

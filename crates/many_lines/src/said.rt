@@ -10,13 +10,12 @@ ghost use Rattle.many_lines.specs.Heading.{by_fields};
 use crate::accounts::{ChainAccounts, read_accounts};
 use crate::chain_list::{read_chains, read_finish};
 use crate::fault::by_field;
-use crate::number::read_bounded;
 use crate::payment::{Payment, read_payment, read_sweep, read_tick};
 use refusals::HeaderFault;
 use std::alloc::Global;
 use swap_base::{ByteText, Listed};
 use swap_job::Finish;
-use transcript_book::Parts;
+use transcript_book::{Parts, read_bounded};
 
 /// The accounts of a chain.
 #[tactic(auto, using(crate::proofs::Failing::fails))]

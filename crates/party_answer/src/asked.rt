@@ -14,11 +14,11 @@ ghost use Rattle.party_answer.specs.NoteStates.{kept_state};
 ghost use Rattle.party_answer.specs.Asked.{as_agreed, by_reason, by_refusal, own_seed, party_asked, said_asked};
 ghost use Rattle.party_answer.specs.Inside.{asked_question, said_state, IsAsked};
 
+use crate::kept::{Kept, notes_kept};
 use crate::reason::{AnswerFault, AnswerReason, reason_fault, refusal_fault};
 use crate::said::Said;
 use ledger_core::share_deal;
 use party_lines::party_named;
-use crate::kept::{Kept, notes_kept};
 use party_wallet::Wallet;
 use refusals::{HeaderFault, Reason, Refusal};
 use std::alloc::Global;

@@ -9,11 +9,11 @@ ghost use Rattle.party_answer.specs.Lines.{call_lines, untimed};
 ghost use Rattle.party_answer.specs.Text.{call_text, keep_text, key_text, landing_text, line_text, until_text};
 ghost use Rattle.party_answer.specs.Growing.{asking_text, unkept_key, IsLine};
 
+use crate::kept::Kept;
 use crate::timed::Timed;
 use crate::unkept::kept_key;
 use hashkey_path::Hashkey;
 use ledger_core::Call;
-use crate::kept::Kept;
 use party_wallet::Signed;
 use sent_keys::is_first_key;
 use swap_base::{ArcId, LockId, NoMemory, PartyId, Piece, put};

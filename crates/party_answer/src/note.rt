@@ -2,7 +2,6 @@
 
 ghost use Rattle.std.specs.Prelude.{◌≡◌};
 ghost use Rattle.swap_base.specs.Fault.{Gives};
-ghost use Rattle.transcript_lines.specs.Reading.{field_of, bounded_number, number_of as number_said};
 ghost use Rattle.transcript_book.specs.Taking.{Takes};
 ghost use Rattle.party_answer.specs.Notes.{heights_told, is_note, keep_noted, line_noted, noted_after, sent_noted, words_noted};
 
@@ -12,7 +11,7 @@ use refusals::{HeaderFault, Reason};
 use std::alloc::Global;
 use swap_base::{ArcId, Fault, Shared};
 use transcript_book::{
-    Parts, WordFault, digest_field, misspelt, nothing_more, number_of, path_field,
+    Parts, WordFault, byte_field, digest_field, misspelt, nothing_more, number_field, path_field,
     signatures_field, word,
 };
 
@@ -23,13 +22,6 @@ pub enum Note {
     Keep(Shared<Hashkey>),
     /// A publish on that arc was sent, or may have been: `sent ARC`.
     Sent(ArcId),
-}
-
-#[tactic(auto, unfolding(transcript_lines::specs::Reading::field_of))]
-fn number_field(fields: &mut Parts<'_>) -> Result<u64, WordFault>
-    ensures { Takes (λ n. n) result fields.new (field_of number_said fields.old) }
-{
-    number_of(word(fields)?)
 }
 
 /// The heights between a lock and its hashkey, which are read and not used.
@@ -44,29 +36,11 @@ fn skip_heights(fields: &mut Parts<'_>) -> Result<(), WordFault>
     Ok(())
 }
 
-fn small_number(word: &[u8]) -> Result<u8, WordFault>
-    ensures { Gives (λ n. n) result (bounded_number 256 word.now) }
-{
-    let number = number_of(word)?;
-    if number < 256 {
-        Ok(number as u8)
-    } else {
-        Err(misspelt())
-    }
-}
-
-#[tactic(auto, unfolding(transcript_lines::specs::Reading::field_of))]
-fn small_field(fields: &mut Parts<'_>) -> Result<u8, WordFault>
-    ensures { Takes (λ n. n) result fields.new (field_of (bounded_number 256) fields.old) }
-{
-    small_number(word(fields)?)
-}
-
 #[tactic(auto, unfolding(crate::specs::Notes::keep_noted))]
 fn keep_noted(alloc: Global, fields: &mut Parts<'_>) -> Result<Note, WordFault>
     ensures { Gives (λ x. x) result (keep_noted fields.old) }
 {
-    let lock = small_field(fields)?;
+    let lock = byte_field(fields)?;
     skip_heights(fields)?;
     let secret = digest_field(fields)?;
     let path = path_field(alloc, fields)?;
@@ -85,7 +59,7 @@ fn keep_noted(alloc: Global, fields: &mut Parts<'_>) -> Result<Note, WordFault>
 fn sent_noted(fields: &mut Parts<'_>) -> Result<Note, WordFault>
     ensures { Gives (λ x. x) result (sent_noted fields.old) }
 {
-    let arc = small_field(fields)?;
+    let arc = byte_field(fields)?;
     nothing_more(fields)?;
     Ok(Note::Sent(arc))
 }

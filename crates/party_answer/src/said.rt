@@ -6,8 +6,8 @@ ghost use Rattle.party_terms.specs.Inside.{IsTold};
 ghost use Rattle.party_answer.specs.Asked.{lines_said};
 ghost use Rattle.party_answer.specs.Inside.{said_state};
 
-use party_lines::agreed_line;
 use crate::notes::{Notes, read_notes};
+use party_lines::agreed_line;
 use party_terms::{Agreed, read_agreed};
 use refusals::HeaderFault;
 use std::alloc::Global;

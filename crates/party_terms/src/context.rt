@@ -5,7 +5,7 @@ ghost use Rattle.std.specs.List.{list_all};
 ghost use Rattle.swap_base.specs.Fault.{Gives};
 ghost use Rattle.transcript_book.specs.Taking.{Takes};
 ghost use Rattle.transcript_lines.specs.Between.{parts_at};
-ghost use Rattle.transcript_lines.specs.Reading.{field_of, bounded_number};
+ghost use Rattle.transcript_lines.specs.Reading.{field_of};
 ghost use Rattle.party_lines.specs.Lines.{read_in_own_line, TakesLine};
 ghost use Rattle.party_terms.specs.Context.{parse_context_line, arc_said, begun, parse_context, is_context_line, is_plain_line, is_printable, check_room, with_context_line};
 ghost use Rattle.party_terms.specs.Inside.{IsBehind};
@@ -14,7 +14,7 @@ use party_lines::{refused, this_word};
 use refusals::{HeaderFault, Reason};
 use std::alloc::Global;
 use swap_base::{ArcId, ByteText, Fault, Listed};
-use transcript_book::{Parts, WordFault, misspelt, number_of, word};
+use transcript_book::{Parts, WordFault, bounded_field, misspelt, word};
 
 /// The most lines of context.
 const MOST_LINES: usize = 1_024;
@@ -52,26 +52,6 @@ fn is_plain_line(line: &[u8]) -> bool
     line.len() <= 256 && are_printable(line)
 }
 
-fn parse_arc(arcs: usize, word: &[u8]) -> Result<ArcId, WordFault>
-    requires { arcs ≤ 256 }
-    ensures { Gives (λ a. a) result (bounded_number arcs word.now) }
-{
-    let arc = number_of(word)?;
-    if arc < arcs as u64 {
-        Ok(arc as ArcId)
-    } else {
-        Err(misspelt())
-    }
-}
-
-#[tactic(auto, unfolding(transcript_lines::specs::Reading::field_of))]
-fn arc_field(arcs: usize, fields: &mut Parts<'_>) -> Result<ArcId, WordFault>
-    requires { arcs ≤ 256 }
-    ensures { Takes (λ a. a) result fields.new (field_of (bounded_number arcs) fields.old) }
-{
-    parse_arc(arcs, word(fields)?)
-}
-
 fn begun(word: &[u8]) -> Result<(), WordFault>
     ensures { Gives (λ u. u) result (begun word.now) }
 {
@@ -95,7 +75,7 @@ fn arc_said(arcs: usize, fields: &mut Parts<'_>) -> Result<ArcId, WordFault>
     ensures { Gives (λ a. a) result (arc_said arcs fields.old) }
 {
     this_word(b"about".as_slice(), fields)?;
-    let arc = arc_field(arcs, fields)?;
+    let arc = bounded_field(arcs, fields)?;
     text_field(fields)?;
     Ok(arc)
 }

@@ -33,7 +33,8 @@ use Rattle.swap_many.proofs.Projections.{height_is, shown_at}
 use Rattle.swap_many.proofs.Units.{keeps_start}
 use Rattle.swap_many.proofs.Finish.{run_height, both_repeat, both_unless, round_raised, many_finishes_end}
 use Rattle.swap_many.proofs.Skips.{book_ticks, clock_tick, all_chains, once, turned_once, ticked_once, goes_on, up, clocks_up}
-use Rattle.swap_many.proofs.InTurn.{IsLevel, turn_of_round}
+use Rattle.swap_run.proofs.Fair.{IsAtOneHeight}
+use Rattle.swap_many.proofs.InTurn.{turn_of_round}
 
 -- a state with other histories
 abbrev pub with_book : State → Histories → State
@@ -68,7 +69,7 @@ module _ (m : Setup) (ready : IsReady m) (s : ℕ) (low : s < m.swaps) (all : (v
   -- What a round leaves.
 
   -- the swap's ledgers stand where its chains do
-  level : (r : ℕ) (x : Run) (z : Kept) → AtHeight m r x z → IsLevel c (z.swaps s) r
+  level : (r : ℕ) (x : Run) (z : Kept) → AtHeight m r x z → IsAtOneHeight c (z.swaps s) r
   level r x z k = record {
     good = k.keeps.good s low;
     at = λ a l. ap (λ (t : State). height (history t.book a)) (k.keeps.follows.swaps s low)
@@ -181,7 +182,7 @@ module _ (m : Setup) (ready : IsReady m) (s : ℕ) (low : s < m.swaps) (all : (v
   abbrev next_book : ℕ → Histories
   next_book r = ((kept_at r).swaps s).book
 
-  level_at : (r : ℕ) → r ≤ last_horizon m + 1 → IsLevel c ((kept_at r).swaps s) r
+  level_at : (r : ℕ) → r ≤ last_horizon m + 1 → IsAtOneHeight c ((kept_at r).swaps s) r
   level_at r l = level r (run_at r) (kept_at r) (heights r l)
 
   next_is : (r : ℕ) → suc r ≡ r + 1

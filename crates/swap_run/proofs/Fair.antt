@@ -30,22 +30,22 @@ use Rattle.swap_run.proofs.Rounds.{rounded}
 use Rattle.swap_run.proofs.Finish.{round_goes_on}
 
 -- The turn of v among the turns of a round.
-record TurnIn (c : Cast) (v : ℕ) (s t : State) : Type 0 where
-  mid : State
-  good : IsGood c mid
-  calm : Calm s.book mid.book
-  seen : (a : ℕ) → IsNear c.deal v a → Begins (history s.book a) (history (state_notes mid v).known a)
-  rest : next_action c mid v ≡ None
-  same : state_notes t v ≡ state_notes mid v
+pub record IsTurned (c : Cast) (v : ℕ) (s t : State) : Type 0 where
+  pub mid : State
+  pub good : IsGood c mid
+  pub calm : Calm s.book mid.book
+  pub seen : (a : ℕ) → IsNear c.deal v a → Begins (history s.book a) (history (state_notes mid v).known a)
+  pub rest : next_action c mid v ≡ None
+  pub same : state_notes t v ≡ state_notes mid v
 
 -- A good state whose ledgers are all at one height.
-record Level (c : Cast) (s : State) (r : ℕ) : Type 0 where
-  good : IsGood c s
-  at : (a : ℕ) → a < length c.deal.graph.arcs → height (history s.book a) ≡ r
+pub record IsAtOneHeight (c : Cast) (s : State) (r : ℕ) : Type 0 where
+  pub good : IsGood c s
+  pub at : (a : ℕ) → a < length c.deal.graph.arcs → height (history s.book a) ≡ r
 
 -- What a round leaves of it.
 record Leveled (c : Cast) (r : ℕ) (s t : State) : Type 0 where
-  level : Level c t (suc r)
+  level : IsAtOneHeight c t (suc r)
   grows : Grows s.book t.book
   turn_of : (v : ℕ) → v < c.deal.graph.n → IsTurn c.deal v (c.wallet v) s.book t.book r
 
@@ -63,14 +63,14 @@ module _ (c : Cast) (ready : IsReadyCast c) (all : (v : ℕ) → v < c.deal.grap
       let t = turned c ready k (omega arith) s g in
       later_turns m (k + 1) (turn c s k) (omega arith) t.good v (omega arith) ∙ t.others v (λ e. let q : ◌≡◌ {A = ℕ} v k = e in omega arith)
 
-  turn_in : (m k : ℕ) (s : State) → k + m ≤ c.deal.graph.n → IsGood c s → (v : ℕ) → k ≤ v → v < k + m → TurnIn c v s (fold (turn c) s (range_with_len k m))
-  turn_in zero k s l g v low high = absurd (omega arith)
-  turn_in (suc m) k s l g v low high =
+  its_turn : (m k : ℕ) (s : State) → k + m ≤ c.deal.graph.n → IsGood c s → (v : ℕ) → k ≤ v → v < k + m → IsTurned c v s (fold (turn c) s (range_with_len k m))
+  its_turn zero k s l g v low high = absurd (omega arith)
+  its_turn (suc m) k s l g v low high =
       let x = rested c ready k (omega arith) (all k (omega arith)) s g in
-      go x (same_or_not v k) (λ n. turn_in m (k + 1) (turn c s k) (omega arith) x.turned.good v n (omega arith))
+      go x (same_or_not v k) (λ n. its_turn m (k + 1) (turn c s k) (omega arith) x.turned.good v n (omega arith))
     where
-      go : Rests c k s (turn c s k) → (v ≡ k) ⊎ (v ≢ k) → (k + 1 ≤ v → TurnIn c v (turn c s k) (fold (turn c) (turn c s k) (range_with_len (k + 1) m)))
-          → TurnIn c v s (fold (turn c) (turn c s k) (range_with_len (k + 1) m))
+      go : Rests c k s (turn c s k) → (v ≡ k) ⊎ (v ≢ k) → (k + 1 ≤ v → IsTurned c v (turn c s k) (fold (turn c) (turn c s k) (range_with_len (k + 1) m)))
+          → IsTurned c v s (fold (turn c) (turn c s k) (range_with_len (k + 1) m))
       go x (inl e) again = record {
         mid = turn c s k;
         good = x.turned.good;
@@ -94,12 +94,13 @@ module _ (c : Cast) (ready : IsReadyCast c) (all : (v : ℕ) → v < c.deal.grap
             same = y.same;
           }
 
-  turn_of_round : (s : State) → IsGood c s → (v : ℕ) → v < c.deal.graph.n → TurnIn c v s (turns c s)
+  -- the turn of v among those of a round
+  pub round_turn : (s : State) → IsGood c s → (v : ℕ) → v < c.deal.graph.n → IsTurned c v s (turns c s)
   unfolding turns
-  turn_of_round s g v lv = turn_in c.deal.graph.n 0 s (omega arith) g v (omega arith) (omega arith)
+  round_turn s g v lv = its_turn c.deal.graph.n 0 s (omega arith) g v (omega arith) (omega arith)
 
   -- nothing that v knows is above the height of the round
-  known_low : (r : ℕ) (s mid : State) (v a : ℕ) → Level c s r → Calm s.book mid.book → Knows v (history (state_notes mid v).known a) (history mid.book a)
+  pub known_low : (r : ℕ) (s mid : State) (v a : ℕ) → IsAtOneHeight c s r → Calm s.book mid.book → Knows v (history (state_notes mid v).known a) (history mid.book a)
       → height (history (state_notes mid v).known a) ≤ r
   known_low r s mid v a x calm n = go (nat_lt a (length c.deal.graph.arcs)) refl
     where
@@ -117,14 +118,14 @@ module _ (c : Cast) (ready : IsReadyCast c) (all : (v : ℕ) → v < c.deal.grap
           let z : ◌≡◌ {A = ℕ} (height (history s.book a)) 0 = ap height none in
           omega arith
 
-  leveled : (r : ℕ) (s : State) → r ≤ the_horizon c.deal → Level c s r → Leveled c r s (round c s)
+  leveled : (r : ℕ) (s : State) → r ≤ the_horizon c.deal → IsAtOneHeight c s r → Leveled c r s (round c s)
   leveled r s l x =
       let k = rounded c ready s x.good in
       record {
         level = record { good = k.good; at = λ a la. k.raises a la ∙ (ap (raised c.deal) (x.at a la) ∙ raised_low (the_horizon c.deal) r l) };
         grows = k.grows;
         turn_of = λ v lv.
-            let m = turn_of_round s x.good v lv in
+            let m = round_turn s x.good v lv in
             let known_is : state_notes (round c s) v ≡ state_notes m.mid v =
             ap (λ ns. slice_index_or ns v (record { known = []; signed = [] })) k.notes_same ∙ (ap (λ z. state_notes z v) k.mid_is ∙ m.same) in
             let new = k.good.notes v lv (all v lv) in
@@ -139,7 +140,7 @@ module _ (c : Cast) (ready : IsReadyCast c) (all : (v : ℕ) → v < c.deal.grap
             };
       }
 
-  not_ended : (r : ℕ) (s : State) → r ≤ the_horizon c.deal → Level c s r → has_ended c.deal s.book ≡ false
+  not_ended : (r : ℕ) (s : State) → r ≤ the_horizon c.deal → IsAtOneHeight c s r → has_ended c.deal s.book ≡ false
   not_ended r s l x = not-true _ (λ e.
       let n : 2 ≤ length c.deal.graph.arcs = ready.accepted.arcs.0 in
       let z =
@@ -149,24 +150,24 @@ module _ (c : Cast) (ready : IsReadyCast c) (all : (v : ℕ) → v < c.deal.grap
       let q = ltb-true _ _ z in
       omega arith)
 
-  stepped : (r : ℕ) (s : State) → r ≤ the_horizon c.deal → Level c s r → Leveled c r s (round_unless_ended c s)
+  stepped : (r : ℕ) (s : State) → r ≤ the_horizon c.deal → IsAtOneHeight c s r → Leveled c r s (round_unless_ended c s)
   stepped r s l x = subst (Leveled c r s) (sym (round_goes_on c s (not_ended r s l x))) (leveled r s l x)
 
   abbrev after : ℕ → State
   after r = repeat r (round_unless_ended c) (start c)
 
-  levels : (r : ℕ) → r ≤ the_horizon c.deal + 1 → Level c (after r) r
+  levels : (r : ℕ) → r ≤ the_horizon c.deal + 1 → IsAtOneHeight c (after r) r
   levels zero l = record { good = start_is_good c ready; at = λ a la. ap height (empty_at c.deal a) }
   levels (suc r) l = Leveled.level (stepped r (after r) (omega arith) (levels r (omega arith)))
 
   fair_rounds : (v : ℕ) → v < c.deal.graph.n → IsRounds c.deal v (c.wallet v) 1 0 (the_horizon c.deal + 1) (λ r. (after r).book)
   fair_rounds v lv = record {
-    legal = λ r l. (Level.good (levels r l)).legal;
-    conducted = (good_is_kept c (after (the_horizon c.deal + 1)) ready (Level.good (levels (the_horizon c.deal + 1) (omega arith)))).conducted v lv (all v lv);
+    legal = λ r l. (IsAtOneHeight.good (levels r l)).legal;
+    conducted = (good_is_kept c (after (the_horizon c.deal + 1)) ready (IsAtOneHeight.good (levels (the_horizon c.deal + 1) (omega arith)))).conducted v lv (all v lv);
     grows =
         λ r a l. subst (λ q. Begins (history (after r).book a) (history (after q).book a)) (next r)
         (Leveled.grows (stepped r (after r) (omega arith) (levels r (omega arith))) a);
-    at = λ r a l i. let o : height (history (after r).book a) ≡ r = Level.at (levels r l) a (from_range a (length c.deal.graph.arcs) i) in omega arith;
+    at = λ r a l i. let o : height (history (after r).book a) ≡ r = IsAtOneHeight.at (levels r l) a (from_range a (length c.deal.graph.arcs) i) in omega arith;
     turn = λ r l. subst (λ q. IsTurn c.deal v (c.wallet v) (after r).book (after q).book (r * 1 + 0)) (next r)
         (subst (IsTurn c.deal v (c.wallet v) (after r).book (after (suc r)).book) (same r)
         (Leveled.turn_of (stepped r (after r) (omega arith) (levels r (omega arith))) v lv));

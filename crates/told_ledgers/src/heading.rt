@@ -1,14 +1,15 @@
 //! The line before those of a ledger.
 
-ghost use Rattle.std.specs.Prelude.{◌<◌, ◌≤◌, ◌^◌, IfOk};
+ghost use Rattle.std.specs.Prelude.{◌<◌, ◌≤◌, IfOk};
 ghost use Rattle.swap_base.specs.Fault.{Gives};
-ghost use Rattle.transcript_lines.specs.Reading.{field_of, bounded_number};
-ghost use Rattle.transcript_book.specs.Counts.{ledger_word};
+ghost use Rattle.transcript_lines.specs.Reading.{field_of};
 ghost use Rattle.transcript_book.specs.Taking.{Takes};
 ghost use Rattle.told_ledgers.specs.Telling.{arc_said, heading_said, heading_words};
 
 use swap_base::ArcId;
-use transcript_book::{Parts, WordFault, misspelt, nothing_more, number_of, word};
+use transcript_book::{
+    Parts, WordFault, ledger_field, misspelt, nothing_more, number_of, small_field, word,
+};
 
 /// What the line before those of a ledger tells.
 #[derive(Clone, Copy)]
@@ -16,23 +17,6 @@ pub struct Heading {
     pub arc: ArcId,
     /// How many lines the ledger has.
     pub count: u32,
-}
-
-fn ledger_word(word: &[u8]) -> Result<(), WordFault>
-    ensures { Gives (λ u. u) result (ledger_word word.now) }
-{
-    if word == b"ledger".as_slice() {
-        Ok(())
-    } else {
-        Err(misspelt())
-    }
-}
-
-#[tactic(auto, unfolding(transcript_lines::specs::Reading::field_of))]
-fn ledger_field(fields: &mut Parts<'_>) -> Result<(), WordFault>
-    ensures { Takes (λ u. u) result fields.new (field_of ledger_word fields.old) }
-{
-    ledger_word(word(fields)?)
 }
 
 fn arc_said(least: u64, arcs: u64, word: &[u8]) -> Result<ArcId, WordFault>
@@ -57,24 +41,6 @@ fn arc_field(least: u64, arcs: u64, fields: &mut Parts<'_>) -> Result<ArcId, Wor
     arc_said(least, arcs, word(fields)?)
 }
 
-fn count_said(word: &[u8]) -> Result<u32, WordFault>
-    ensures { Gives (λ n. n) result (bounded_number (2 ^ 32) word.now) }
-{
-    let n = number_of(word)?;
-    if n < 4_294_967_296 {
-        Ok(n as u32)
-    } else {
-        Err(misspelt())
-    }
-}
-
-#[tactic(auto, unfolding(transcript_lines::specs::Reading::field_of))]
-fn count_field(fields: &mut Parts<'_>) -> Result<u32, WordFault>
-    ensures { Takes (λ n. n) result fields.new (field_of (bounded_number (2 ^ 32)) fields.old) }
-{
-    count_said(word(fields)?)
-}
-
 #[tactic(auto, unfolding(crate::specs::Telling::heading_words))]
 fn heading_words(least: u64, arcs: u64, fields: &mut Parts<'_>) -> Result<Heading, WordFault>
     requires { arcs ≤ 128 }
@@ -83,7 +49,7 @@ fn heading_words(least: u64, arcs: u64, fields: &mut Parts<'_>) -> Result<Headin
 {
     ledger_field(fields)?;
     let arc = arc_field(least, arcs, fields)?;
-    let count = count_field(fields)?;
+    let count = small_field(fields)?;
     nothing_more(fields)?;
     Ok(Heading { arc, count })
 }

@@ -1,8 +1,8 @@
 -- Of an arc that isn't useless all is told but noise.
-use Rattle.std.proofs.Common.{◌≡◌, ◌⊎◌, ◌&&◌, ◌||◌, ◌==◌, ◌+◌, ◌-◌, ◌<◌, ◌++◌, ℕ, nat_le, Bool, true, false, not, cond, List, [], ◌∷◌}
-use Rattle.std.proofs.Common.{length, get_or, Option, Some, None, is_some, Result, Ok, Err, refl, sym, ap, ◌∙◌, subst, inl, inr, arith, append_assoc}
+use Rattle.std.proofs.Common.{◌≡◌, ◌⊎◌, ◌&&◌, ◌||◌, ◌==◌, ◌+◌, ◌-◌, ◌<◌, ◌++◌, ℕ, Bool, true, false, not, cond, List, [], ◌∷◌}
+use Rattle.std.proofs.Common.{length, get_or, Option, Some, None, is_some, Ok, Err, refl, sym, ap, ◌∙◌, subst, inl, inr, arith, append_assoc}
 use Rattle.std.proofs.Common.{append-nil}
-use Rattle.std.proofs.Common.{eqb-true, eq-eqb, le-leb, length-append}
+use Rattle.std.proofs.Common.{eqb-true, eq-eqb, length-append}
 use Rattle.std.specs.Prelude.{All}
 use Rattle.std.proofs.lemmas.Bool.{false≢true}
 use Rattle.std.proofs.lemmas.List.{get_or-append_right}
@@ -10,7 +10,7 @@ use Rattle.swap_base.specs.Fault.{◌>>=◌}
 use Rattle.swap_base.specs.Lists.{or_else, IsMoment}
 use Rattle.swap_base.proofs.Lists.{and_both, at_moment, first_of-front, none_of}
 use Rattle.swap_digraph.specs.declared.deal.Deal.{Deal}
-use Rattle.swap_digraph.specs.Deal.{counterparty, party, touches}
+use Rattle.swap_digraph.specs.Deal.{counterparty, party}
 use Rattle.escrow_core.specs.declared.reply.Reply.{Reply}
 use Rattle.escrow_core.specs.declared.reply.Reply.TheVariants.{Accepted, Settled, NotCounterparty, NotParty, AlreadyUnlocked, WrongSecret, WrongPath}
 use Rattle.escrow_core.specs.declared.reply.Reply.TheVariants.{WrongSignature, TooLate, StillLocked, NothingLocked, NotExpired, NoContract}
@@ -23,10 +23,9 @@ use Rattle.ledger_core.specs.declared.entry.Sender.TheVariants.{Party, Clock}
 use Rattle.ledger_core.specs.declared.entry.What.{What}
 use Rattle.ledger_core.specs.declared.entry.What.TheVariants.{Call as Made, Tick}
 use Rattle.ledger_core.specs.declared.entry.Entry.{Entry}
-use Rattle.ledger_core.specs.History.{accepted, accepted_call, fit, height, is_sender, publication, published}
+use Rattle.ledger_core.specs.History.{accepted, accepted_call, height, is_sender, publication, published}
 use Rattle.ledger_core.specs.History.{IsLegal, IsLegalEntry, IsLegalMoment, Publication}
-use Rattle.ledger_core.specs.Ledger.{call_entry, tick_entry}
-use Rattle.ledger_core.specs.WellFormed.{written_height, IsFormed, IsFormedEntry, IsFormedMoment, IsFormedWhat}
+use Rattle.ledger_core.specs.WellFormed.{IsFormed, IsFormedEntry, IsFormedMoment, IsFormedWhat}
 use Rattle.ledger_core.proofs.History.{accepted_clear, of_publish}
 use Rattle.swap_rules.specs.Party.{is_arc_correct, pick_call}
 use Rattle.swap_rules.specs.Rest.{is_ticking}
@@ -36,14 +35,11 @@ use Rattle.told_books.specs.Told.{is_of_contract, is_told, telling}
 use Rattle.told_books.proofs.Filters.{filter-off, filter-on, moment-filter}
 use Rattle.told_books.proofs.Telling.{says_telling}
 use Rattle.typed_books.specs.Typed.{IsTypedSender, IsTypedWhat}
-use Rattle.transcript_lines.specs.declared.said.Misspelling.{Misspelling}
 use Rattle.transcript_lines.specs.Between.{parts_at, spaced}
 use Rattle.transcript_lines.specs.Lines.{IsStatable, entry_line}
-use Rattle.transcript_lines.specs.Reading.{line_said, misspelt}
 use Rattle.transcript_lines.specs.Words.{entry_words}
-use Rattle.transcript_lines.proofs.Stories.{entry_says, inside_said}
-use Rattle.transcript_book.specs.Entries.{entry_of, parse_entry, placed_as}
-use Rattle.transcript_book.proofs.Heights.{held_again}
+use Rattle.transcript_book.specs.Entries.{entry_of}
+use Rattle.transcript_book.proofs.Complete.{entry_back}
 use Rattle.told_ledgers.specs.declared.kind.Kind.{Kind}
 use Rattle.told_ledgers.specs.declared.kind.Kind.TheVariants.{Read, Noise, Publish as PublishLine, Accepted as AcceptedLine}
 use Rattle.told_ledgers.specs.declared.told.OwnUnlock.{OwnUnlock}
@@ -57,29 +53,6 @@ use Rattle.told_readings.specs.Apart.{all_heard, then_heard}
 use Rattle.told_readings.specs.Enough.{SayEntries, SaysEntry, call_kind, is_accepted, is_publish_call, is_transfer_call}
 use Rattle.told_readings.proofs.ByWords.{call_parts, other_kind, own_kind, tick_kind, tick_parts}
 use Rattle.told_readings.proofs.Useless.{accepted_or, is_published, published_more, refused_or}
-
-stepped : {A B : Type 0} (r : Result A Misspelling) (x : A) (f : A → Result B Misspelling) → r ≡ Ok x → (r >>= f) ≡ f x
-stepped r x f e = ap (λ (q : Result _ Misspelling). q >>= f) e
-
--- ---- an entry is read from its line
-
-placed_back : (d : Deal) (a : ℕ) (past : List Entry) (s : Sender) (w : What) (reply : Reply) (at : ℕ) → IsFormedWhat d a past s w at
-    → placed_as d a (written_height (height past)) reply s w ≡ Ok (record { sender = s; height = at; what = w; reply = reply })
-placed_back d a past (Party p) (Made c) reply at f =
-    ap (λ t. cond t (Ok (call_entry p (written_height (height past)) c reply)) misspelt) (and_both (touches d p a) (fit d a c) f.of_the_two f.fits)
-    ∙ ap (λ (h : ℕ). Ok (call_entry p h c reply)) (sym f.height)
-placed_back d a past Clock (Tick k) reply at f =
-    ap (λ t. cond t (Ok (tick_entry k (written_height (written_height (height past) + k)) reply)) misspelt)
-    (and_both (nat_le 1 k) (nat_le k 1000000) (le-leb 1 k f.some) (le-leb k 1000000 f.below))
-    ∙ ap (λ (h : ℕ). Ok (tick_entry k h reply)) (held_again (height past) k ∙ sym f.height)
-placed_back d a past (Party p) (Tick k) reply at f = absurd f
-placed_back d a past Clock (Made c) reply at f = absurd f
-
-entry_back : (d : Deal) (a : ℕ) (past : List Entry) (e : Entry) → IsFormedEntry d a past e → IsStatable e → entry_of d a past (entry_line e) ≡ Ok e
-unfolding parse_entry
-entry_back d a past e f k =
-    stepped (line_said (length d.leaders) (entry_line e)) (inside_said e) _ (entry_says d a past e f k)
-    ∙ placed_back d a past e.sender e.what e.reply e.height f.what
 
 -- ---- its reply is the replayed one
 

@@ -66,7 +66,8 @@ count_back a n lt le =
 
 -- ---- entries
 
-placed_back : (d : Deal) (a : ℕ) (past : List Entry) (s : Sender) (w : What) (reply : Reply) (at : ℕ) → IsFormedWhat d a past s w at
+-- an entry that has the form is placed as it is
+pub placed_back : (d : Deal) (a : ℕ) (past : List Entry) (s : Sender) (w : What) (reply : Reply) (at : ℕ) → IsFormedWhat d a past s w at
     → placed_as d a (written_height (height past)) reply s w ≡ Ok (record { sender = s; height = at; what = w; reply = reply })
 placed_back d a past (Party p) (Made c) reply at f =
     ap (λ t. cond t (Ok (call_entry p (written_height (height past)) c reply)) misspelt) (and_both (touches d p a) (fit d a c) f.of_the_two f.fits)
@@ -78,7 +79,8 @@ placed_back d a past Clock (Tick k) reply at f =
 placed_back d a past (Party p) (Tick k) reply at f = absurd f
 placed_back d a past Clock (Made c) reply at f = absurd f
 
-entry_back : (d : Deal) (a : ℕ) (past : List Entry) (e : Entry) → IsFormedEntry d a past e → IsStatable e → entry_of d a past (entry_line e) ≡ Ok e
+-- an entry is read from its line
+pub entry_back : (d : Deal) (a : ℕ) (past : List Entry) (e : Entry) → IsFormedEntry d a past e → IsStatable e → entry_of d a past (entry_line e) ≡ Ok e
 unfolding parse_entry
 entry_back d a past e f k =
     stepped (line_said (length d.leaders) (entry_line e)) (inside_said e) _ (entry_says d a past e f k)

@@ -6,7 +6,7 @@ ghost use Rattle.transcript_book.specs.Counts.{parse_limited_count, just, ledger
 ghost use Rattle.transcript_book.specs.Taking.{Takes};
 
 use crate::field::{nothing_more, word};
-use crate::number::{WordFault, misspelt, number_of};
+use crate::number::{WordFault, misspelt, number_of, read_bounded};
 use crate::parts::Parts;
 use swap_base::ArcId;
 
@@ -20,8 +20,9 @@ fn ledger_word(word: &[u8]) -> Result<(), WordFault>
     }
 }
 
+/// The word before the arc of a ledger.
 #[tactic(auto, unfolding(transcript_lines::specs::Reading::field_of))]
-fn ledger_field(fields: &mut Parts<'_>) -> Result<(), WordFault>
+pub fn ledger_field(fields: &mut Parts<'_>) -> Result<(), WordFault>
     ensures { Takes (λ u. u) result fields.new (field_of ledger_word fields.old) }
 {
     ledger_word(word(fields)?)
@@ -44,12 +45,7 @@ fn arc_field(arc: ArcId, fields: &mut Parts<'_>) -> Result<(), WordFault>
 fn parse_count(word: &[u8]) -> Result<u32, WordFault>
     ensures { Gives (λ n. n) result (bounded_number 20065 word.now) }
 {
-    let n = number_of(word)?;
-    if n < 20_065 {
-        Ok(n as u32)
-    } else {
-        Err(misspelt())
-    }
+    Ok(read_bounded(20_065, word)? as u32)
 }
 
 #[tactic(auto, unfolding(transcript_lines::specs::Reading::field_of))]

@@ -1,13 +1,13 @@
 //! The fields of a line: each call takes the first of those that are to come.
 
-ghost use Rattle.std.specs.Prelude.{◌^◌};
+ghost use Rattle.std.specs.Prelude.{◌<◌, ◌≤◌, ◌^◌, IfOk};
 ghost use Rattle.swap_base.specs.Fault.{Gives};
 ghost use Rattle.transcript_lines.specs.Reading.{to_digest, equals, field_of, first_field, inside_entries, nothing_more, bounded_number, number_of, parse_signature};
 ghost use Rattle.transcript_book.specs.Taking.{Takes};
 
 use crate::digits::to_digest;
 use crate::lists::{make_path, parse_signatures};
-use crate::number::{WordFault, misspelt, number_of, parse_byte, parse_small};
+use crate::number::{WordFault, misspelt, number_of, parse_byte, parse_small, read_bounded};
 use crate::parts::Parts;
 use hashkey_path::SigList;
 use std::alloc::Global;
@@ -24,25 +24,39 @@ pub fn word<'a>(fields: &mut Parts<'a>) -> Result<&'a [u8], WordFault>
     }
 }
 
+/// A number below 2^64.
 #[tactic(auto, unfolding(transcript_lines::specs::Reading::field_of))]
-pub(crate) fn number_field(fields: &mut Parts<'_>) -> Result<u64, WordFault>
+pub fn number_field(fields: &mut Parts<'_>) -> Result<u64, WordFault>
     ensures { Takes (λ n. n) result fields.new (field_of number_of fields.old) }
 {
     number_of(word(fields)?)
 }
 
+/// A number below 2^32.
 #[tactic(auto, unfolding(transcript_lines::specs::Reading::field_of))]
-pub(crate) fn small_field(fields: &mut Parts<'_>) -> Result<u32, WordFault>
+pub fn small_field(fields: &mut Parts<'_>) -> Result<u32, WordFault>
     ensures { Takes (λ n. n) result fields.new (field_of (bounded_number (2 ^ 32)) fields.old) }
 {
     parse_small(word(fields)?)
 }
 
+/// A number below 256.
 #[tactic(auto, unfolding(transcript_lines::specs::Reading::field_of))]
-pub(crate) fn byte_field(fields: &mut Parts<'_>) -> Result<u8, WordFault>
+pub fn byte_field(fields: &mut Parts<'_>) -> Result<u8, WordFault>
     ensures { Takes (λ n. n) result fields.new (field_of (bounded_number 256) fields.old) }
 {
     parse_byte(word(fields)?)
+}
+
+/// A number below a limit that a byte can say.
+#[tactic(auto, unfolding(transcript_lines::specs::Reading::field_of))]
+pub fn bounded_field(limit: usize, fields: &mut Parts<'_>) -> Result<u8, WordFault>
+    requires { limit ≤ 256 }
+    ensures exact { Takes (λ n. n) result fields.new (field_of (bounded_number limit) fields.old) }
+    ensures below { IfOk result (λ n. n < limit) }
+{
+    let n = read_bounded(limit as u64, word(fields)?)?;
+    Ok(n as u8)
 }
 
 /// A digest.

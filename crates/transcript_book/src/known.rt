@@ -13,10 +13,10 @@ use swap_base::{LockId, NoMemory, PartyId, Shared, TryCopy};
 const MOST_LOCKS: usize = 8;
 
 /// The last hashkey of each party for each lock, at the place that `find_place` says.
-pub(crate) type Known = Vec<Option<Shared<Hashkey>>>;
+pub type Known = Vec<Option<Shared<Hashkey>>>;
 
 /// Nothing was read of so many parties.
-pub(crate) fn none_known(alloc: Global, parties: usize) -> Result<Known, NoMemory> {
+pub fn none_known(alloc: Global, parties: usize) -> Result<Known, NoMemory> {
     let mut known = Vec::new(alloc);
     'places: for _place in 0..parties.saturating_mul(MOST_LOCKS) {
         known.push(None)?;
@@ -66,7 +66,7 @@ fn held_once(
 }
 
 /// The same entry, whose hashkey is held once.
-pub(crate) fn with_known(known: &mut Known, entry: Entry) -> Result<Entry, NoMemory>
+pub fn with_known(known: &mut Known, entry: Entry) -> Result<Entry, NoMemory>
     ensures { IfOk result (λ e. e ≡ entry) }
 {
     let Entry {

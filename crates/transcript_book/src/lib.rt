@@ -22,10 +22,15 @@ mod reply;
 mod stated;
 
 pub use call::key_of;
+pub use count::ledger_field;
 pub use digits::to_digest;
-pub use field::{digest_field, nothing_more, path_field, signatures_field, word};
+pub use field::{
+    bounded_field, byte_field, digest_field, nothing_more, number_field, path_field,
+    signatures_field, small_field, word,
+};
+pub use known::{Known, none_known, with_known};
 pub use laws::{legal_is_stated, one_spelling, read_is_whole, whole_is_read};
-pub use number::{WordFault, misspelt, number_of};
+pub use number::{WordFault, misspelt, number_of, read_bounded};
 pub use parts::Parts;
 pub use place::Place;
 pub use reader::BookReader;

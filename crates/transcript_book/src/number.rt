@@ -1,6 +1,6 @@
 //! Numbers in decimal, without leading zeros.
 
-ghost use Rattle.std.specs.Prelude.{◌≡◌, ◌^◌};
+ghost use Rattle.std.specs.Prelude.{◌≡◌, ◌<◌, ◌^◌, IfOk};
 ghost use Rattle.swap_base.specs.Fault.{Gives};
 ghost use Rattle.transcript_lines.specs.Reading.{number_of, bounded_number, continue_reading};
 ghost use Rattle.transcript_book.specs.Taking.{append_digit};
@@ -53,26 +53,25 @@ pub fn number_of(word: &[u8]) -> Result<u64, WordFault>
     }
 }
 
+/// The number that a field says, below a limit.
+pub fn read_bounded(limit: u64, word: &[u8]) -> Result<u64, WordFault>
+    ensures exact { Gives (λ n. n) result (bounded_number limit word.now) }
+    ensures below { IfOk result (λ n. n < limit) }
+{
+    let n = number_of(word)?;
+    if n < limit { Ok(n) } else { Err(misspelt()) }
+}
+
 /// The number that a field says, below 2^32.
 pub(crate) fn parse_small(word: &[u8]) -> Result<u32, WordFault>
     ensures { Gives (λ n. n) result (bounded_number (2 ^ 32) word.now) }
 {
-    let n = number_of(word)?;
-    if n < 4_294_967_296 {
-        Ok(n as u32)
-    } else {
-        Err(misspelt())
-    }
+    Ok(read_bounded(4_294_967_296, word)? as u32)
 }
 
 /// The number that a field says, below 256.
 pub(crate) fn parse_byte(word: &[u8]) -> Result<u8, WordFault>
     ensures { Gives (λ n. n) result (bounded_number 256 word.now) }
 {
-    let n = number_of(word)?;
-    if n < 256 {
-        Ok(n as u8)
-    } else {
-        Err(misspelt())
-    }
+    Ok(read_bounded(256, word)? as u8)
 }
