@@ -2,7 +2,7 @@
 use Rattle.std.proofs.Common.{◌≡◌, ℕ, Bool, true, false, cond, not, Option, Some, None, refl, sym, ap, ◌∙◌, subst}
 use Rattle.std.specs.List.{list_any}
 use Rattle.std.proofs.lemmas.Option.{same_Some}
-use Rattle.swap_base.specs.Lists.{or_else, IsIn}
+use Rattle.swap_base.specs.Lists.{or_else, IsElement}
 use Rattle.swap_base.proofs.Lists.{first_at, list_any-in, in_from_moment}
 use Rattle.swap_digraph.specs.declared.deal.Deal.{Deal}
 use Rattle.swap_digraph.specs.Graph.{leaving, is_listed}
@@ -11,7 +11,7 @@ use Rattle.hashkey_path.specs.declared.hashkey.Hashkey.{Hashkey}
 use Rattle.ledger_core.specs.History.{Opening, opened}
 use Rattle.ledger_core.specs.Book.{Histories, history, IsLegalBook}
 use Rattle.ledger_core.proofs.History.{opened_done}
-use Rattle.swap_rules.specs.Party.{first_seen_key, key_without, opens_without}
+use Rattle.swap_rules.specs.Party.{first_seen_key, key_without_party, opens_without_party}
 use Rattle.swap_rules.specs.Due.{Wallet, seen_key, extended, due_key}
 use Rattle.swap_rules.proofs.Words.{key_without_parts, leaves}
 use Rattle.answer_rules.specs.Laws.{AreGoodKeys, SignsItsLock}
@@ -19,7 +19,7 @@ use Rattle.answer_rules.specs.Laws.{AreGoodKeys, SignsItsLock}
 -- A hashkey that v sees: on an arc that leaves it, it opened the lock by a path without v.
 pub record Seen (d : Deal) (v : ℕ) (k : Histories) (i : ℕ) (inner : Hashkey) : Type 0 where
   pub arc : ℕ
-  pub on : IsIn arc (leaving d.graph v)
+  pub on : IsElement arc (leaving d.graph v)
   pub opening : Opening
   pub shown : opened (history k arc) i ≡ Some opening
   pub key : opening.key ≡ inner
@@ -27,11 +27,11 @@ pub record Seen (d : Deal) (v : ℕ) (k : Histories) (i : ℕ) (inner : Hashkey)
 
 pub seen : (d : Deal) (v : ℕ) (k : Histories) (i : ℕ) (inner : Hashkey) → first_seen_key d k v i ≡ Some inner → Seen d v k i inner
 seen d v k i inner e =
-    let x = first_at (λ a. key_without v (opened (history k a) i)) (leaving d.graph v) inner e in
+    let x = first_at (λ a. key_without_party v (opened (history k a) i)) (leaving d.graph v) inner e in
     let p = key_without_parts v (opened (history k x.now) i) inner x.gives in
     record {
       arc = x.now;
-      on = subst (IsIn x.now) (sym x.stands.1) (in_from_moment x.past x.now x.stands.0);
+      on = subst (IsElement x.now) (sym x.stands.1) (in_from_moment x.past x.now x.stands.0);
       opening = p.0;
       shown = p.1;
       key = p.2;
@@ -40,13 +40,14 @@ seen d v k i inner e =
 
 -- then an arc that leaves v shows one
 pub seen_shows : (d : Deal) (v : ℕ) (k : Histories) (i : ℕ) (inner : Hashkey) → first_seen_key d k v i ≡ Some inner
-    → list_any (λ c. opens_without v (opened (history k c) i)) (leaving d.graph v) ≡ true
+    → list_any (λ c. opens_without_party v (opened (history k c) i)) (leaving d.graph v) ≡ true
 seen_shows d v k i inner e =
     let s = seen d v k i inner e in
-    list_any-in (λ c. opens_without v (opened (history k c) i)) (leaving d.graph v) s.arc
-    (ap (opens_without v) s.shown ∙ ap not s.without) s.on
+    list_any-in (λ c. opens_without_party v (opened (history k c) i)) (leaving d.graph v) s.arc
+    (ap (opens_without_party v) s.shown ∙ ap not s.without) s.on
 
--- Where the hashkey of an unlock that is due comes from: it was kept, or it is v's own, or it is put on one that v sees.
+-- Where the hashkey of an unlock that is due comes from: it was kept, or it is v's own, or it is
+-- put on one that v sees.
 pub data Origin (d : Deal) (v : ℕ) (w : Wallet) (kept : ℕ → Option Hashkey) (k : Histories) (i : ℕ) (key : Hashkey) : Type 0 where
   WasKept : kept i ≡ Some key → Origin d v w kept k i key
   IsOwn : kept i ≡ None → leads d v i ≡ true → w.first i ≡ key → Origin d v w kept k i key

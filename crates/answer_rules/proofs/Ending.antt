@@ -1,10 +1,11 @@
--- Where every arc next to a party is finished, nothing that lands without calls of the party makes anything useful.
+-- Where every arc next to a party is finished, nothing that lands without calls of the party makes
+-- anything useful.
 use Rattle.std.proofs.Common.{◌≡◌, ◌⊎◌, ℕ, ◌≤◌, ◌<◌, nat_lt, nat_le, Bool, true, false, not, ◌&&◌, ◌||◌, List, [], ◌∷◌, length, Option, Some, None, is_some}
 use Rattle.std.proofs.Common.{is_none, refl, sym, ap, ap₂, ◌∙◌, subst, inl, inr, arith, leb-true, ltb-true, cond}
 use Rattle.std.specs.List.{list_all}
 use Rattle.std.proofs.lemmas.Bool.{false≢true}
-use Rattle.swap_base.specs.Lists.{or_else, first_of, IsIn, IsMoment}
-use Rattle.swap_base.proofs.Lists.{first_of-front, first_of-now, and_parts, and_both, list_all-in, list_all-from, list_any-in, from_append}
+use Rattle.swap_base.specs.Lists.{or_else, first_given_answer, IsElement, IsMoment}
+use Rattle.swap_base.proofs.Lists.{first_given_answer-front, first_given_answer-now, and_parts, and_both, list_all-in, list_all-from, list_any-in, from_append}
 use Rattle.swap_base.proofs.Lists.{in_flat_map, in_from_moment, in_range}
 use Rattle.time_bounds.specs.Times as times
 use Rattle.swap_digraph.specs.declared.deal.Deal.{Deal}
@@ -22,7 +23,7 @@ use Rattle.ledger_core.specs.Book.{Histories, history, IsLegalBook}
 use Rattle.ledger_core.proofs.History.{Done, published_done, opened_done, claimed_done, refunded_done, of_publish, of_unlock, of_claim, of_refund}
 use Rattle.ledger_core.proofs.History.{published-past, opened-now, is_some-of, not-true-of}
 use Rattle.swap_rules.specs.Accepted.{IsAccepted}
-use Rattle.swap_rules.specs.Party.{is_arc_correct, publication_height, is_good, is_correct, is_ready, is_triggered, has_expired, leads_one, pick_call, key_without}
+use Rattle.swap_rules.specs.Party.{is_arc_correct, publication_height, is_good, is_correct, is_ready, is_triggered, has_expired, leads_one, pick_call, key_without_party}
 use Rattle.swap_rules.specs.Party.{first_seen_key}
 use Rattle.swap_rules.specs.Conduct.{is_publish}
 use Rattle.swap_rules.specs.Due.{Wallet, Action, has_called, unlocks_lock, is_claiming, is_refunding, is_due_publish, seen_key, extended, due_key, presented}
@@ -33,11 +34,11 @@ use Rattle.swap_rules.proofs.Growth.{opened-more}
 use Rattle.swap_rules.proofs.Machines.{own_known}
 use Rattle.swap_rules.proofs.Prefixes.{from_flat_map, split, begins_height, list_any-more, in_any, none_called}
 use Rattle.swap_rules.proofs.Words.{and_three, and_five, enters, leaves, pick_call-act}
-use Rattle.answer_rules.specs.Finished.{last_expiry, is_shut, is_finished, are_finished, ContinuesWithout}
+use Rattle.answer_rules.specs.Finished.{last_expiry, is_shut, is_finished, are_finished, ContinuesWithoutParty}
 use Rattle.answer_rules.specs.Laws.{FinishedStays}
 use Rattle.answer_rules.proofs.Parts.{in_when, to_when, Kind, InPublishes, InUnlocks, InClaims, InRefunds, kind, is_useful, unlocked, in_unlocks, free_before}
 
-first_same : {A B : Type 0} (f g : A → Option B) (xs : List A) → ((x : A) → IsIn x xs → f x ≡ g x) → first_of f xs ≡ first_of g xs
+first_same : {A B : Type 0} (f g : A → Option B) (xs : List A) → ((x : A) → IsElement x xs → f x ≡ g x) → first_given_answer f xs ≡ first_given_answer g xs
 first_same f g [] h = refl
 first_same f g (x ∷ xs) h = ap₂ or_else (h x (inl refl)) (first_same f g xs (λ y i. h y (inr i)))
 
@@ -69,9 +70,9 @@ module _ (d : Deal) (v a : ℕ) (k h : List Entry) (lk : IsLegal d a k) (lh : Is
   -- v has called nothing that it hadn't
   pub called_before : (test : Option Call → Bool) → test None ≡ false → has_called v test h ≡ true → has_called v test k ≡ true
   called_before test none e =
-      let i = in_any (λ x. test (pick_call v x)) h e in go i.0 i.2 (from_append k (Knows.rest on) i.0 (subst (IsIn i.0) (Knows.whole on) i.1))
+      let i = in_any (λ x. test (pick_call v x)) h e in go i.0 i.2 (from_append k (Knows.rest on) i.0 (subst (IsElement i.0) (Knows.whole on) i.1))
     where
-      go : (x : Entry) → test (pick_call v x) ≡ true → IsIn x k ⊎ IsIn x (Knows.rest on) → has_called v test k ≡ true
+      go : (x : Entry) → test (pick_call v x) ≡ true → IsElement x k ⊎ IsElement x (Knows.rest on) → has_called v test k ≡ true
       go x t (inl i) = list_any-in (λ y. test (pick_call v y)) k x t i
       go x t (inr i) = absurd (false≢true (sym none ∙ (ap test (sym (none_called v x (on.others x i))) ∙ t)))
 
@@ -86,10 +87,10 @@ module _ (d : Deal) (v a : ℕ) (k h : List Entry) (lk : IsLegal d a k) (lh : Is
       go true q = absurd (false≢true (sym (not-true-of (has_called v test h) e) ∙ called_more test q))
 
   published_more : (p : Publication) → published k ≡ Some p → published h ≡ Some p
-  published_more p e = ap published (Knows.whole on) ∙ first_of-front (λ x. publication x.height (accepted x)) k (Knows.rest on) p e
+  published_more p e = ap published (Knows.whole on) ∙ first_given_answer-front (λ x. publication x.height (accepted x)) k (Knows.rest on) p e
 
   settled_more : (s : Settlement) → settled k ≡ Some s → settled h ≡ Some s
-  settled_more s e = ap settled (Knows.whole on) ∙ first_of-front (λ x. settling (accepted x)) k (Knows.rest on) s e
+  settled_more s e = ap settled (Knows.whole on) ∙ first_given_answer-front (λ x. settling (accepted x)) k (Knows.rest on) s e
 
   pub same_published : is_some (published k) ≡ true → published h ≡ published k
   same_published e = let p = is_some-of (published k) e in published_more p.0 p.1 ∙ sym p.1
@@ -110,7 +111,7 @@ module _ (d : Deal) (v a : ℕ) (k h : List Entry) (lk : IsLegal d a k) (lh : Is
   no_opening i o done e q (inr b) =
       let s = is_some-of (settled k) e in
       let u = of_unlock d a done.0.past done.0.act.by o.key done.0.clear in
-      let past_settled : settled done.0.past ≡ Some s.0 = ap settled b.1 ∙ first_of-front (λ x. settling (accepted x)) k b.0 s.0 s.1 in
+      let past_settled : settled done.0.past ≡ Some s.0 = ap settled b.1 ∙ first_given_answer-front (λ x. settling (accepted x)) k b.0 s.0 s.1 in
       false≢true (ap is_some (sym u.unsettled) ∙ ap is_some past_settled)
 
   settled_by : (i : ℕ) → is_some (settled k) ≡ true → (o : Option Opening) → opened k i ≡ o → (p : Option Opening) → opened h i ≡ p → opened h i ≡ opened k i
@@ -134,7 +135,7 @@ module _ (d : Deal) (v a : ℕ) (k h : List Entry) (lk : IsLegal d a k) (lh : Is
           let made = pick_call-act d a done.past done.now (Publish p.terms) v done.act (c.party ∙ of_v) in
           let m = own_known v k h done.past done.now (Publish p.terms) on done.stands made in
           let there : is_some (published k) ≡ true =
-          first_of-now (λ x. publication x.height (accepted x)) k done.past done.now (record { height = done.now.height; terms = p.terms }) m
+          first_given_answer-now (λ x. publication x.height (accepted x)) k done.past done.now (record { height = done.now.height; terms = p.terms }) m
           (ap (publication done.now.height) done.took) in
           absurd (some_none (published k) e there)
 
@@ -165,7 +166,7 @@ module _ (d : Deal) (v a : ℕ) (k h : List Entry) (lk : IsLegal d a k) (lh : Is
 
 -- The arcs of a party.
 module _ (d : Deal) (v : ℕ) (w : Wallet) (kept : ℕ → Option Hashkey) (k h : Histories) (acc : IsAccepted d) (lk : IsLegalBook d k) (lh : IsLegalBook d h)
-    (fin : are_finished d k v ≡ true) (on : ContinuesWithout v k h) where
+    (fin : are_finished d k v ≡ true) (on : ContinuesWithoutParty v k h) where
   abbrev fins : (list_all (is_finished d k) (leaving d.graph v) ≡ true) × (list_all (is_finished d k) (entering d.graph v) ≡ true)
   fins = and_parts (list_all (is_finished d k) (leaving d.graph v)) (list_all (is_finished d k) (entering d.graph v)) fin
 
@@ -185,10 +186,10 @@ module _ (d : Deal) (v : ℕ) (w : Wallet) (kept : ℕ → Option Hashkey) (k h 
           (nat_lt (last_expiry d a) (height (history k a))) e in
           IsShut p.0 (ltb-true (times.opening_deadline d.start d.delta d.bound) (height (history k a)) p.1)
 
-  why_leaving : (a : ℕ) → IsIn a (leaving d.graph v) → Why a
+  why_leaving : (a : ℕ) → IsElement a (leaving d.graph v) → Why a
   why_leaving a i = why a (list_all-in (is_finished d k) (leaving d.graph v) a fins.0 i)
 
-  why_entering : (a : ℕ) → IsIn a (entering d.graph v) → Why a
+  why_entering : (a : ℕ) → IsElement a (entering d.graph v) → Why a
   why_entering a i = why a (list_all-in (is_finished d k) (entering d.graph v) a fins.1 i)
 
   legal_k : (a : ℕ) → a < length d.graph.arcs → IsLegal d a (history k a)
@@ -206,7 +207,7 @@ module _ (d : Deal) (v : ℕ) (w : Wallet) (kept : ℕ → Option Hashkey) (k h 
   still_closed a i b None q e = q
   still_closed a i b (Some o) q e = absurd (false≢true (ap is_some (sym e) ∙ ap is_some (opened-more (history k a) (history h a) i o b q)))
 
-  opened_why : (a i : ℕ) → IsIn a (leaving d.graph v) → Why a → opened (history h a) i ≡ opened (history k a) i
+  opened_why : (a i : ℕ) → IsElement a (leaving d.graph v) → Why a → opened (history h a) i ≡ opened (history k a) i
   opened_why a i j (IsSettled e) =
       let of_v = leaves d v a j in settled_same d v a (history k a) (history h a) (legal_k a of_v.0) (legal_h a of_v.0) (on a) i e
   opened_why a i j (IsShut none high) =
@@ -216,13 +217,13 @@ module _ (d : Deal) (v : ℕ) (w : Wallet) (kept : ℕ → Option Hashkey) (k h 
       let b = begins d v a (history k a) (history h a) (legal_k a of_v.0) (legal_h a of_v.0) (on a) in
       new ∙ sym (still_closed a i b (opened (history k a) i) refl new)
 
-  opened_same : (a i : ℕ) → IsIn a (leaving d.graph v) → opened (history h a) i ≡ opened (history k a) i
+  opened_same : (a i : ℕ) → IsElement a (leaving d.graph v) → opened (history h a) i ≡ opened (history k a) i
   opened_same a i j = opened_why a i j (why_leaving a j)
 
   seen_same : (i : ℕ) → first_seen_key d h v i ≡ first_seen_key d k v i
   seen_same i =
-      first_same (λ a. key_without v (opened (history h a) i)) (λ a. key_without v (opened (history k a) i)) (leaving d.graph v)
-      (λ a j. ap (key_without v) (opened_same a i j))
+      first_same (λ a. key_without_party v (opened (history h a) i)) (λ a. key_without_party v (opened (history k a) i)) (leaving d.graph v)
+      (λ a j. ap (key_without_party v) (opened_same a i j))
 
   due_same : (i : ℕ) → due_key d v w (kept i) h i ≡ due_key d v w (kept i) k i
   unfolding due_key seen_key
@@ -237,7 +238,7 @@ module _ (d : Deal) (v : ℕ) (w : Wallet) (kept : ℕ → Option Hashkey) (k h 
       → IsMoment (history k a) done.past done.now ⊎ Begins (history k a) done.past → ⊥
   published_late a p done g none high (inl m) =
       some_none (published (history k a)) none
-      (first_of-now (λ x. publication x.height (accepted x)) (history k a) done.past done.now (record { height = done.now.height; terms = p.terms }) m
+      (first_given_answer-now (λ x. publication x.height (accepted x)) (history k a) done.past done.now (record { height = done.now.height; terms = p.terms }) m
       (ap (publication done.now.height) done.took))
   published_late a p done g none high (inr b) =
       let l =
@@ -263,7 +264,7 @@ module _ (d : Deal) (v : ℕ) (w : Wallet) (kept : ℕ → Option Hashkey) (k h 
   good_why a below e (IsSettled s) = as_published a below e (settled_there a below s)
   good_why a below e (IsShut none high) = absurd (late a below (published (history h a)) refl e none high)
 
-  good_before : (a : ℕ) → IsIn a (entering d.graph v) → is_good d h a ≡ true → is_good d k a ≡ true
+  good_before : (a : ℕ) → IsElement a (entering d.graph v) → is_good d h a ≡ true → is_good d k a ≡ true
   good_before a j e = good_why a (enters d v a j).0 e (why_entering a j)
 
   ready_before : is_ready d h v ≡ true → is_ready d k v ≡ true
@@ -272,7 +273,7 @@ module _ (d : Deal) (v : ℕ) (w : Wallet) (kept : ℕ → Option Hashkey) (k h 
 
   -- Kind by kind.
 
-  settled_unpublished : (a : ℕ) → IsIn a (leaving d.graph v) → is_due_publish d v h a ≡ true → is_some (settled (history k a)) ≡ true → ⊥
+  settled_unpublished : (a : ℕ) → IsElement a (leaving d.graph v) → is_due_publish d v h a ≡ true → is_some (settled (history k a)) ≡ true → ⊥
   unfolding is_due_publish
   settled_unpublished a j due e =
       let of_v = leaves d v a j in
@@ -282,14 +283,14 @@ module _ (d : Deal) (v : ℕ) (w : Wallet) (kept : ℕ → Option Hashkey) (k h 
       let made = pick_call-act d a done.past done.now (Publish p.0.terms) v done.act (c.party ∙ of_v.1) in
       let called : has_called v is_publish (history k a) ≡ true =
       list_any-in (λ e. is_publish (pick_call v e)) (history k a) done.now (ap is_publish made)
-      (subst (IsIn done.now) (sym done.stands.1) (in_from_moment done.past done.now done.stands.0)) in
+      (subst (IsElement done.now) (sym done.stands.1) (in_from_moment done.past done.now done.stands.0)) in
       let later = called_more d v a (history k a) (history h a) (legal_k a of_v.0) (legal_h a of_v.0) (on a) is_publish called in
       let uncalled =
       not-true-of (has_called v is_publish (history h a))
       (and_parts (leads_one d v || is_ready d h v) (not (has_called v is_publish (history h a))) due).1 in
       false≢true (sym uncalled ∙ later)
 
-  no_publish_why : (a : ℕ) → IsIn a (leaving d.graph v) → is_due_publish d v h a ≡ true → opens_in_time d h a ≡ true → Why a → ⊥
+  no_publish_why : (a : ℕ) → IsElement a (leaving d.graph v) → is_due_publish d v h a ≡ true → opens_in_time d h a ≡ true → Why a → ⊥
   no_publish_why a j due in_time (IsSettled e) = settled_unpublished a j due e
   no_publish_why a j due in_time (IsShut none high) =
       let of_v = leaves d v a j in
@@ -297,7 +298,7 @@ module _ (d : Deal) (v : ℕ) (w : Wallet) (kept : ℕ → Option Hashkey) (k h 
       let up = higher d v a (history k a) (history h a) (legal_k a of_v.0) (legal_h a of_v.0) (on a) in
       omega (arith, l, up, high)
 
-  no_publish : (x : Action) → IsIn x (useful_publishes d v h) → ⊥
+  no_publish : (x : Action) → IsElement x (useful_publishes d v h) → ⊥
   no_publish x i =
       let f = from_flat_map (λ a. when_due (is_due_publish d v h a && opens_in_time d h a) a (Publish (stated_terms d a))) (leaving d.graph v) x i in
       let tests =
@@ -305,7 +306,7 @@ module _ (d : Deal) (v : ℕ) (w : Wallet) (kept : ℕ → Option Hashkey) (k h 
       (in_when (is_due_publish d v h f.0 && opens_in_time d h f.0) f.0 (Publish (stated_terms d f.0)) x f.2).0 in
       no_publish_why f.0 f.1 tests.0 tests.1 (why_leaving f.0 f.1)
 
-  no_refund_by : (a : ℕ) → IsIn a (leaving d.graph v) → is_some (published (history h a)) ≡ true → is_none (settled (history h a)) ≡ true → Why a → ⊥
+  no_refund_by : (a : ℕ) → IsElement a (leaving d.graph v) → is_some (published (history h a)) ≡ true → is_none (settled (history h a)) ≡ true → Why a → ⊥
   no_refund_by a j there free (IsShut none high) =
       let of_v = leaves d v a j in
       let n = unpublished d v a (history k a) (history h a) (legal_k a of_v.0) (legal_h a of_v.0) (on a) of_v.1 none in
@@ -316,7 +317,7 @@ module _ (d : Deal) (v : ℕ) (w : Wallet) (kept : ℕ → Option Hashkey) (k h 
       let later = settled_more d v a (history k a) (history h a) (legal_k a of_v.0) (legal_h a of_v.0) (on a) s.0 s.1 in
       false≢true (ap is_none (sym later) ∙ free)
 
-  no_refund_why : (a : ℕ) → IsIn a (leaving d.graph v) → is_due_refund d v h a ≡ true → Why a → ⊥
+  no_refund_why : (a : ℕ) → IsElement a (leaving d.graph v) → is_due_refund d v h a ≡ true → Why a → ⊥
   unfolding is_due_refund
   no_refund_why a j due why =
       let tests =
@@ -324,12 +325,12 @@ module _ (d : Deal) (v : ℕ) (w : Wallet) (kept : ℕ → Option Hashkey) (k h 
       (has_expired d a (history h a) (height (history h a))) (not (has_called v is_refunding (history h a))) due in
       no_refund_by a j tests.0 tests.1 why
 
-  no_refund : (x : Action) → IsIn x (due_refunds d v h) → ⊥
+  no_refund : (x : Action) → IsElement x (due_refunds d v h) → ⊥
   no_refund x i =
       let f = from_flat_map (λ a. when_due (is_due_refund d v h a) a Refund) (leaving d.graph v) x i in
       no_refund_why f.0 f.1 (in_when (is_due_refund d v h f.0) f.0 Refund x f.2).0 (why_leaving f.0 f.1)
 
-  first_lock : IsIn 0 (locks d)
+  first_lock : IsElement 0 (locks d)
   first_lock = let few = acc.leaders.0 in in_range 0 (length d.leaders) (omega (arith, few))
 
   triggered_before : (a : ℕ) → a < length d.graph.arcs → is_some (settled (history k a)) ≡ true → is_triggered d h a ≡ true → is_triggered d k a ≡ true
@@ -338,7 +339,7 @@ module _ (d : Deal) (v : ℕ) (w : Wallet) (kept : ℕ → Option Hashkey) (k h 
       ap is_some (sym (settled_same d v a (history k a) (history h a) (legal_k a below) (legal_h a below) (on a) j e))
       ∙ list_all-in (is_open (history h a)) (locks d) j t l)
 
-  claim_why : (a : ℕ) → IsIn a (entering d.graph v) → is_due_claim d v h a ≡ true → Why a → is_due_claim d v k a ≡ true
+  claim_why : (a : ℕ) → IsElement a (entering d.graph v) → is_due_claim d v h a ≡ true → Why a → is_due_claim d v k a ≡ true
   unfolding is_due_claim
   claim_why a j due (IsShut none high) =
       let of_v = enters d v a j in
@@ -353,7 +354,7 @@ module _ (d : Deal) (v : ℕ) (w : Wallet) (kept : ℕ → Option Hashkey) (k h 
       and_both (is_correct d k a && is_triggered d k a) (not (has_called v is_claiming (history k a)))
       (and_both (is_correct d k a) (is_triggered d k a) (ap (is_arc_correct d a) (sym same) ∙ tests.0) (triggered_before a of_v.0 e tests.1)) unclaimed
 
-  claim_before : (x : Action) → IsIn x (due_claims d v h) → IsIn x (due_claims d v k)
+  claim_before : (x : Action) → IsElement x (due_claims d v h) → IsElement x (due_claims d v k)
   claim_before x i =
       let f = from_flat_map (λ a. when_due (is_due_claim d v h a) a Claim) (entering d.graph v) x i in
       let test = claim_why f.0 f.1 (in_when (is_due_claim d v h f.0) f.0 Claim x f.2).0 (why_entering f.0 f.1) in
@@ -363,7 +364,7 @@ module _ (d : Deal) (v : ℕ) (w : Wallet) (kept : ℕ → Option Hashkey) (k h 
   heights : (c : ℕ) → height (history k c) ≤ height (history h c)
   heights c = let o = on c in begins_height (history k c) (history h c) (o.rest, o.whole)
 
-  called_in : (i c : ℕ) (y : Entry) → unlocks_lock i (pick_call v y) ≡ true → IsIn y (history k c) ⊎ IsIn y (Knows.rest (on c))
+  called_in : (i c : ℕ) (y : Entry) → unlocks_lock i (pick_call v y) ≡ true → IsElement y (history k c) ⊎ IsElement y (Knows.rest (on c))
       → has_called v (unlocks_lock i) (history k c) ≡ true
   called_in i c y t (inl l) = list_any-in (λ z. unlocks_lock i (pick_call v z)) (history k c) y t l
   called_in i c y t (inr l) =
@@ -373,9 +374,9 @@ module _ (d : Deal) (v : ℕ) (w : Wallet) (kept : ℕ → Option Hashkey) (k h 
   called_at i c e =
       let j = in_any (λ y. unlocks_lock i (pick_call v y)) (history h c) e in
       let o = on c in
-      called_in i c j.0 j.2 (from_append (history k c) o.rest j.0 (subst (IsIn j.0) o.whole j.1))
+      called_in i c j.0 j.2 (from_append (history k c) o.rest j.0 (subst (IsElement j.0) o.whole j.1))
 
-  unlock_before : (x : Action) → IsIn x (useful_unlocks d v w kept h) → IsIn x (useful_unlocks d v w kept k)
+  unlock_before : (x : Action) → IsElement x (useful_unlocks d v w kept h) → IsElement x (useful_unlocks d v w kept k)
   unlock_before x i =
       let u = unlocked d v w kept h x i in
       let of_v = enters d v u.arc u.enters in
@@ -383,9 +384,9 @@ module _ (d : Deal) (v : ℕ) (w : Wallet) (kept : ℕ → Option Hashkey) (k h 
       in_unlocks d v w kept k x u.lock u.arc u.within u.enters (free_before d v k h u.lock (called_at u.lock) heights u.free)
       (and_both (is_ready d k v) (not (has_called v (unlocks_lock u.lock) (history k u.arc))) (ready_before may.0)
       (uncalled_before d v u.arc (history k u.arc) (history h u.arc) (legal_k u.arc of_v.0) (legal_h u.arc of_v.0) (on u.arc) (unlocks_lock u.lock) may.1))
-      (subst (λ o. IsIn x (presented u.arc o)) (due_same u.lock) u.is)
+      (subst (λ o. IsElement x (presented u.arc o)) (due_same u.lock) u.is)
 
-  by_kind : (x : Action) → Kind d v w kept h x → IsIn x (useful d v w kept k)
+  by_kind : (x : Action) → Kind d v w kept h x → IsElement x (useful d v w kept k)
   by_kind x (InPublishes i) = absurd (no_publish x i)
   by_kind x (InUnlocks i) = is_useful d v w kept k x (InUnlocks (unlock_before x i))
   by_kind x (InClaims i) = is_useful d v w kept k x (InClaims (claim_before x i))

@@ -2,7 +2,7 @@
 use Rattle.std.proofs.Common.{◌≡◌, ℕ, ◌<◌, ◌≤◌, ◌&&◌, nat_le, nat_lt, length, Option, sym, ap, subst, arith, leb-true}
 use Rattle.std.specs.Prelude.{IsTrue}
 use Rattle.std.specs.List.{list_all}
-use Rattle.swap_base.specs.Lists.{IsIn}
+use Rattle.swap_base.specs.Lists.{IsElement}
 use Rattle.swap_base.proofs.Lists.{and_parts}
 use Rattle.swap_digraph.specs.declared.deal.Deal.{Deal}
 use Rattle.swap_digraph.specs.declared.deal.Version.{Version}
@@ -43,11 +43,11 @@ fit_length d a key e =
 
 module _ (d : Deal) (v : ℕ) (w : Wallet) (kept : ℕ → Option Hashkey) (k : Histories) (acc : IsAccepted d) (legal : IsLegalBook d k) (wallet : IsWallet d v w)
     (signs : SignsItsLock w) (good : AreGoodKeys d v kept) where
-  good_length : (a i : ℕ) (key : Hashkey) → IsIn a (entering d.graph v) → i < length d.leaders → IsGoodKey d v i key → length key.path ≤ 32
+  good_length : (a i : ℕ) (key : Hashkey) → IsElement a (entering d.graph v) → i < length d.leaders → IsGoodKey d v i key → length key.path ≤ 32
   good_length a i key j below g =
       fit_length d a key (key_fits d acc a key (subst (λ n. n < length d.leaders) (sym g.lock) below) (g.valid a j))
 
-  key_length : (a i : ℕ) (key : Hashkey) → IsIn a (entering d.graph v) → i < length d.leaders → Origin d v w kept k i key → length key.path ≤ 33
+  key_length : (a i : ℕ) (key : Hashkey) → IsElement a (entering d.graph v) → i < length d.leaders → Origin d v w kept k i key → length key.path ≤ 33
   key_length a i key j below (WasKept e) = let l = good_length a i key j below (good i key e) in omega (arith, l)
   key_length a i key j below (IsOwn n l e) =
       let s = good_length a i key j below (subst (λ z. IsGoodKey d v i z) e (wallet.first i below l).0) in omega (arith, s)
@@ -70,5 +70,5 @@ module _ (d : Deal) (v : ℕ) (w : Wallet) (kept : ℕ → Option Hashkey) (k : 
       let short : length key.path ≤ 1000000 = omega (arith, l) in
       ((enters d v a j).0, subst IsShort (sym e) short)
 
-  pub useful_is_short : (x : Action) → IsIn x (useful d v w kept k) → (x.arc < length d.graph.arcs) × IsShort x.call
+  pub useful_is_short : (x : Action) → IsElement x (useful d v w kept k) → (x.arc < length d.graph.arcs) × IsShort x.call
   useful_is_short x i = by_case x.arc x.call (case_of d v w kept k x (useful_is_due d v w kept k x i))

@@ -3,7 +3,7 @@ use Rattle.std.proofs.Common.{◌≡◌, ℕ, ◌+◌, ◌<◌, max, Bool, true,
 use Rattle.std.proofs.Common.{◌∙◌, subst, lt-ltb, eq-eqb}
 use Rattle.std.specs.List.{list_any}
 use Rattle.std.proofs.lemmas.Bool.{false≢true}
-use Rattle.swap_base.specs.Lists.{IsIn}
+use Rattle.swap_base.specs.Lists.{IsElement}
 use Rattle.swap_base.proofs.Lists.{and_parts, and_both, or-right}
 use Rattle.swap_digraph.specs.declared.deal.Deal.{Deal}
 use Rattle.swap_digraph.specs.Graph.{leaving, entering, is_listed}
@@ -16,9 +16,9 @@ use Rattle.ledger_core.specs.declared.entry.Call.TheVariants.{Publish, Unlock, C
 use Rattle.ledger_core.specs.History.{height, published, opened, settled}
 use Rattle.ledger_core.specs.Book.{Histories, history, IsLegalBook}
 use Rattle.swap_rules.specs.declared.finding.Rule.TheVariants as rules
-use Rattle.swap_rules.specs.Party.{is_correct, is_ready, is_triggered, has_expired, leads_one, ready_height, least_expiry, first_key, opens_without}
+use Rattle.swap_rules.specs.Party.{is_correct, is_ready, is_triggered, has_expired, leads_one, ready_height, least_expiry, first_key, opens_without_party}
 use Rattle.swap_rules.specs.Conduct.{is_publish}
-use Rattle.swap_rules.specs.Late.{when, ref_of, unlock_base, trigger_height}
+use Rattle.swap_rules.specs.Late.{when, reference_height, unlock_base, trigger_height}
 use Rattle.swap_rules.specs.Due.{Wallet, has_called, is_claiming, is_refunding, is_due_publish, unlocks_lock, may_unlock, is_due_claim, is_due_refund}
 use Rattle.swap_rules.proofs.Cases.{Case, ToPublish, ToUnlock, ToClaim, ToRefund, case_of}
 use Rattle.swap_rules.proofs.Useful.{useful_is_due}
@@ -50,8 +50,8 @@ module _ (d : Deal) (v : ℕ) (w : Wallet) (kept : ℕ → Option Hashkey) (k : 
   asks : (a : ℕ) (c : Call) (ref : ℕ) → asked_height d k v a c ≡ Some ref → last_on_time d k v a c ≡ ref + d.delta
   asks a c ref e = ap (λ o. height_or o (ready_height d k v) + d.delta) e
 
-  publish_at : (a : ℕ) → IsIn a (leaving d.graph v) → is_due_publish d v k a ≡ true → (ref : ℕ) × (ref_of d k v rules.Publish a ≡ Some ref)
-  unfolding is_due_publish ref_of
+  publish_at : (a : ℕ) → IsElement a (leaving d.graph v) → is_due_publish d v k a ≡ true → (ref : ℕ) × (reference_height d k v rules.Publish a ≡ Some ref)
+  unfolding is_due_publish reference_height
   publish_at a i e =
       let p = and_parts (leads_one d v || is_ready d k v) (not (has_called v is_publish (history k a))) e in (
         cond (leads_one d v) 0 (ready_height d k v),
@@ -59,8 +59,8 @@ module _ (d : Deal) (v : ℕ) (w : Wallet) (kept : ℕ → Option Hashkey) (k : 
             (and_both (is_listed a (leaving d.graph v)) (leads_one d v || is_ready d k v) (in-is_listed a (leaving d.graph v) i) p.0),
       )
 
-  claim_at : (a : ℕ) → IsIn a (entering d.graph v) → is_due_claim d v k a ≡ true → (ref : ℕ) × (ref_of d k v rules.Claim a ≡ Some ref)
-  unfolding is_due_claim ref_of
+  claim_at : (a : ℕ) → IsElement a (entering d.graph v) → is_due_claim d v k a ≡ true → (ref : ℕ) × (reference_height d k v rules.Claim a ≡ Some ref)
+  unfolding is_due_claim reference_height
   claim_at a i e =
       let p = and_three (is_correct d k a) (is_triggered d k a) (not (has_called v is_claiming (history k a))) e in (
         trigger_height d (history k a),
@@ -68,8 +68,8 @@ module _ (d : Deal) (v : ℕ) (w : Wallet) (kept : ℕ → Option Hashkey) (k : 
             (three (is_listed a (entering d.graph v)) (is_correct d k a) (is_triggered d k a) (in-is_listed a (entering d.graph v) i) p.0 p.1),
       )
 
-  refund_at : (a : ℕ) → IsIn a (leaving d.graph v) → is_due_refund d v k a ≡ true → (ref : ℕ) × (ref_of d k v rules.Refund a ≡ Some ref)
-  unfolding is_due_refund ref_of
+  refund_at : (a : ℕ) → IsElement a (leaving d.graph v) → is_due_refund d v k a ≡ true → (ref : ℕ) × (reference_height d k v rules.Refund a ≡ Some ref)
+  unfolding is_due_refund reference_height
   refund_at a i e =
       let p =
       and_five (is_some (published (history k a))) (is_none (settled (history k a))) (not (is_triggered d k a))
@@ -83,10 +83,10 @@ module _ (d : Deal) (v : ℕ) (w : Wallet) (kept : ℕ → Option Hashkey) (k : 
   -- whether a hashkey for lock i is at hand over what is known
   abbrev at_hand : ℕ → Bool
   at_hand i =
-      leads d v i || is_some (first_key k v i) || list_any (λ c. opens_without v (opened (history k c) i)) (leaving d.graph v)
+      leads d v i || is_some (first_key k v i) || list_any (λ c. opens_without_party v (opened (history k c) i)) (leaving d.graph v)
 
-  unlock_at : (a i : ℕ) → IsIn a (entering d.graph v) → may_unlock d v k i a ≡ true → at_hand i ≡ true → (ref : ℕ) × (ref_of d k v (rules.Unlock i) a ≡ Some ref)
-  unfolding ref_of
+  unlock_at : (a i : ℕ) → IsElement a (entering d.graph v) → may_unlock d v k i a ≡ true → at_hand i ≡ true → (ref : ℕ) × (reference_height d k v (rules.Unlock i) a ≡ Some ref)
+  unfolding reference_height
   unlock_at a i j may hand =
       let p = and_parts (is_ready d k v) (not (has_called v (unlocks_lock i) (history k a))) may in (
         cond (leads d v i) (ready_height d k v) (max (ready_height d k v) (unlock_base d.mode d k v i (first_key k v i))),
@@ -94,8 +94,8 @@ module _ (d : Deal) (v : ℕ) (w : Wallet) (kept : ℕ → Option Hashkey) (k : 
             (three (is_listed a (entering d.graph v)) (is_ready d k v) (at_hand i) (in-is_listed a (entering d.graph v) j) p.0 hand),
       )
 
-  no_unlock_at : (a i : ℕ) → at_hand i ≡ false → ref_of d k v (rules.Unlock i) a ≡ None
-  unfolding ref_of
+  no_unlock_at : (a i : ℕ) → at_hand i ≡ false → reference_height d k v (rules.Unlock i) a ≡ None
+  unfolding reference_height
   no_unlock_at a i hand =
       when_false (is_listed a (entering d.graph v) && is_ready d k v && at_hand i) _
       (no_third (is_listed a (entering d.graph v)) (is_ready d k v) (at_hand i) hand)
@@ -108,12 +108,12 @@ module _ (d : Deal) (v : ℕ) (w : Wallet) (kept : ℕ → Option Hashkey) (k : 
   was_kept i key none (IsPutOn inner n l q e) =
       absurd (false≢true (sym none ∙ or-right (leads d v i || is_some (first_key k v i)) _ (seen_shows d v k i inner q)))
 
-  unlock_has : (a : ℕ) (key : Hashkey) → key.lock < length d.leaders → IsIn a (entering d.graph v) → may_unlock d v k key.lock a ≡ true
+  unlock_has : (a : ℕ) (key : Hashkey) → key.lock < length d.leaders → IsElement a (entering d.graph v) → may_unlock d v k key.lock a ≡ true
       → Origin d v w kept k key.lock key → Has a (Unlock key)
   unlock_has a key below i may from = go (at_hand key.lock) refl
     where
-      same : asked_height d k v a (Unlock key) ≡ ref_of d k v (rules.Unlock key.lock) a
-      same = ap (λ b. cond b (ref_of d k v (rules.Unlock key.lock) a) None) (lt-ltb key.lock (length d.leaders) below)
+      same : asked_height d k v a (Unlock key) ≡ reference_height d k v (rules.Unlock key.lock) a
+      same = ap (λ b. cond b (reference_height d k v (rules.Unlock key.lock) a) None) (lt-ltb key.lock (length d.leaders) below)
 
       go : (b : Bool) → at_hand key.lock ≡ b → Has a (Unlock key)
       go true hand =

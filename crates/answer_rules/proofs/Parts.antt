@@ -3,7 +3,7 @@ use Rattle.std.proofs.Common.{◌≡◌, ◌⊎◌, ℕ, zero, suc, ◌+◌, ◌
 use Rattle.std.proofs.Common.{Option, Some, None, is_none, refl, sym, ap, ◌∙◌, inl, inr, arith, leb-true, le-leb}
 use Rattle.std.specs.List.{list_any, list_all, flat_map}
 use Rattle.std.proofs.lemmas.Bool.{false≢true}
-use Rattle.swap_base.specs.Lists.{IsIn}
+use Rattle.swap_base.specs.Lists.{IsElement}
 use Rattle.swap_base.proofs.Lists.{from_append, in_append, in_flat_map, and_parts, and_both, list_all-in, list_all-from, or-right}
 use Rattle.time_bounds.specs.Times as times
 use Rattle.swap_digraph.specs.declared.deal.Deal.{Deal}
@@ -25,37 +25,37 @@ use Rattle.swap_rules.proofs.Words.{or-left}
 
 -- Lists.
 
-pub nothing_in : {A : Type 0} (xs : List A) → ((x : A) → IsIn x xs → ⊥) → xs ≡ []
+pub nothing_in : {A : Type 0} (xs : List A) → ((x : A) → IsElement x xs → ⊥) → xs ≡ []
 nothing_in [] h = refl
 nothing_in (x ∷ xs) h = absurd (h x (inl refl))
 
-pub in_when : (test : Bool) (a : ℕ) (c : Call) (x : Action) → IsIn x (when_due test a c) → (test ≡ true) × (x.call ≡ c)
+pub in_when : (test : Bool) (a : ℕ) (c : Call) (x : Action) → IsElement x (when_due test a c) → (test ≡ true) × (x.call ≡ c)
 in_when true a c x (inl e) = (refl, ap (λ y. y.call) e)
 in_when true a c x (inr i) = absurd i
 in_when false a c x i = absurd i
 
-pub to_when : (p q : Bool) (a : ℕ) (c : Call) (x : Action) → q ≡ true → IsIn x (when_due p a c) → IsIn x (when_due q a c)
+pub to_when : (p q : Bool) (a : ℕ) (c : Call) (x : Action) → q ≡ true → IsElement x (when_due p a c) → IsElement x (when_due q a c)
 to_when true true a c x e i = i
 to_when false q a c x e i = absurd i
 to_when true false a c x e i = absurd (false≢true e)
 
-pub in_cond : (b : Bool) (xs : List Action) (x : Action) → IsIn x (cond b [] xs) → (b ≡ false) × IsIn x xs
+pub in_cond : (b : Bool) (xs : List Action) (x : Action) → IsElement x (cond b [] xs) → (b ≡ false) × IsElement x xs
 in_cond true xs x i = absurd i
 in_cond false xs x i = (refl, i)
 
-pub to_cond : (b : Bool) (xs : List Action) (x : Action) → b ≡ false → IsIn x xs → IsIn x (cond b [] xs)
+pub to_cond : (b : Bool) (xs : List Action) (x : Action) → b ≡ false → IsElement x xs → IsElement x (cond b [] xs)
 to_cond true xs x e i = absurd (false≢true (sym e))
 to_cond false xs x e i = i
 
-in_if : (b : Bool) (xs : List Action) (x : Action) → IsIn x (cond b xs []) → (b ≡ true) × IsIn x xs
+in_if : (b : Bool) (xs : List Action) (x : Action) → IsElement x (cond b xs []) → (b ≡ true) × IsElement x xs
 in_if true xs x i = (refl, i)
 in_if false xs x i = absurd i
 
-to_if : (b : Bool) (xs : List Action) (x : Action) → b ≡ true → IsIn x xs → IsIn x (cond b xs [])
+to_if : (b : Bool) (xs : List Action) (x : Action) → b ≡ true → IsElement x xs → IsElement x (cond b xs [])
 to_if true xs x e i = i
 to_if false xs x e i = absurd (false≢true e)
 
-in_presented : (a : ℕ) (o : Option Hashkey) (x : Action) → IsIn x (presented a o) → (key : Hashkey) × (o ≡ Some key)
+in_presented : (a : ℕ) (o : Option Hashkey) (x : Action) → IsElement x (presented a o) → (key : Hashkey) × (o ≡ Some key)
 in_presented a None x i = absurd i
 in_presented a (Some key) x i = (key, refl)
 
@@ -63,29 +63,29 @@ in_presented a (Some key) x i = (key, refl)
 
 -- where a useful call stands
 pub data Kind (d : Deal) (v : ℕ) (w : Wallet) (kept : ℕ → Option Hashkey) (k : Histories) (x : Action) : Type 0 where
-  InPublishes : IsIn x (useful_publishes d v k) → Kind d v w kept k x
-  InUnlocks : IsIn x (useful_unlocks d v w kept k) → Kind d v w kept k x
-  InClaims : IsIn x (due_claims d v k) → Kind d v w kept k x
-  InRefunds : IsIn x (due_refunds d v k) → Kind d v w kept k x
+  InPublishes : IsElement x (useful_publishes d v k) → Kind d v w kept k x
+  InUnlocks : IsElement x (useful_unlocks d v w kept k) → Kind d v w kept k x
+  InClaims : IsElement x (due_claims d v k) → Kind d v w kept k x
+  InRefunds : IsElement x (due_refunds d v k) → Kind d v w kept k x
 
 module _ (d : Deal) (v : ℕ) (w : Wallet) (kept : ℕ → Option Hashkey) (k : Histories) (x : Action) where
-  pub kind : IsIn x (useful d v w kept k) → Kind d v w kept k x
+  pub kind : IsElement x (useful d v w kept k) → Kind d v w kept k x
   unfolding useful
   kind i = outer (from_append (useful_publishes d v k ++ useful_unlocks d v w kept k ++ due_claims d v k) (due_refunds d v k) x i)
     where
-      inner : IsIn x (useful_publishes d v k) ⊎ IsIn x (useful_unlocks d v w kept k) → Kind d v w kept k x
+      inner : IsElement x (useful_publishes d v k) ⊎ IsElement x (useful_unlocks d v w kept k) → Kind d v w kept k x
       inner (inl j) = InPublishes j
       inner (inr j) = InUnlocks j
 
-      middle : IsIn x (useful_publishes d v k ++ useful_unlocks d v w kept k) ⊎ IsIn x (due_claims d v k) → Kind d v w kept k x
+      middle : IsElement x (useful_publishes d v k ++ useful_unlocks d v w kept k) ⊎ IsElement x (due_claims d v k) → Kind d v w kept k x
       middle (inl j) = inner (from_append (useful_publishes d v k) (useful_unlocks d v w kept k) x j)
       middle (inr j) = InClaims j
 
-      outer : IsIn x (useful_publishes d v k ++ useful_unlocks d v w kept k ++ due_claims d v k) ⊎ IsIn x (due_refunds d v k) → Kind d v w kept k x
+      outer : IsElement x (useful_publishes d v k ++ useful_unlocks d v w kept k ++ due_claims d v k) ⊎ IsElement x (due_refunds d v k) → Kind d v w kept k x
       outer (inl j) = middle (from_append (useful_publishes d v k ++ useful_unlocks d v w kept k) (due_claims d v k) x j)
       outer (inr j) = InRefunds j
 
-  pub is_useful : Kind d v w kept k x → IsIn x (useful d v w kept k)
+  pub is_useful : Kind d v w kept k x → IsElement x (useful d v w kept k)
   unfolding useful
   is_useful (InPublishes j) =
       in_append (useful_publishes d v k ++ useful_unlocks d v w kept k ++ due_claims d v k) (due_refunds d v k) x
@@ -105,15 +105,15 @@ module _ (d : Deal) (v : ℕ) (w : Wallet) (kept : ℕ → Option Hashkey) (k : 
     pub lock : ℕ
     pub arc : ℕ
     pub key : Hashkey
-    pub within : IsIn lock (locks d)
-    pub enters : IsIn arc (entering d.graph v)
+    pub within : IsElement lock (locks d)
+    pub enters : IsElement arc (entering d.graph v)
     pub free : is_withheld d v k lock ≡ false
     pub may : may_unlock d v k lock arc ≡ true
     pub due : due_key d v w (kept lock) k lock ≡ Some key
-    pub at : IsIn x (due_arc_unlock d v w (kept lock) k lock arc)
-    pub is : IsIn x (presented arc (due_key d v w (kept lock) k lock))
+    pub at : IsElement x (due_arc_unlock d v w (kept lock) k lock arc)
+    pub is : IsElement x (presented arc (due_key d v w (kept lock) k lock))
 
-  pub unlocked : IsIn x (useful_unlocks d v w kept k) → Unlocked
+  pub unlocked : IsElement x (useful_unlocks d v w kept k) → Unlocked
   unfolding due_arc_unlock
   unlocked i =
       let f = from_flat_map (pressing_unlocks d v w kept k) (locks d) x i in
@@ -134,15 +134,15 @@ module _ (d : Deal) (v : ℕ) (w : Wallet) (kept : ℕ → Option Hashkey) (k : 
         is = t.1;
       }
 
-  pub in_due_unlocks : (i a : ℕ) → IsIn i (locks d) → IsIn a (entering d.graph v) → is_withheld d v k i ≡ false
-      → IsIn x (due_arc_unlock d v w (kept i) k i a) → IsIn x (useful_unlocks d v w kept k)
+  pub in_due_unlocks : (i a : ℕ) → IsElement i (locks d) → IsElement a (entering d.graph v) → is_withheld d v k i ≡ false
+      → IsElement x (due_arc_unlock d v w (kept i) k i a) → IsElement x (useful_unlocks d v w kept k)
   in_due_unlocks i a j l free p =
       in_flat_map (pressing_unlocks d v w kept k) (locks d) i x j
       (to_cond (is_withheld d v k i) (flat_map (due_arc_unlock d v w (kept i) k i) (entering d.graph v)) x free
       (in_flat_map (due_arc_unlock d v w (kept i) k i) (entering d.graph v) a x l p))
 
-  pub in_unlocks : (i a : ℕ) → IsIn i (locks d) → IsIn a (entering d.graph v) → is_withheld d v k i ≡ false → may_unlock d v k i a ≡ true
-      → IsIn x (presented a (due_key d v w (kept i) k i)) → IsIn x (useful_unlocks d v w kept k)
+  pub in_unlocks : (i a : ℕ) → IsElement i (locks d) → IsElement a (entering d.graph v) → is_withheld d v k i ≡ false → may_unlock d v k i a ≡ true
+      → IsElement x (presented a (due_key d v w (kept i) k i)) → IsElement x (useful_unlocks d v w kept k)
   unfolding due_arc_unlock
   in_unlocks i a j l free may p =
       in_due_unlocks i a j l free (to_if (may_unlock d v k i a) (presented a (due_key d v w (kept i) k i)) x may p)

@@ -2,7 +2,7 @@
 use Rattle.std.proofs.Common.{◌≡◌, ◌≢◌, ℕ, ◌<◌, ◌≤◌, nat_lt, true, false, not, List, ◌++◌, length, Option, Some, None, is_some, is_none, refl, sym, ap}
 use Rattle.std.proofs.Common.{◌∙◌, subst, arith, ltb-true, eq-eqb}
 use Rattle.std.proofs.lemmas.Bool.{false≢true}
-use Rattle.swap_base.specs.Lists.{IsIn}
+use Rattle.swap_base.specs.Lists.{IsElement}
 use Rattle.swap_base.proofs.Lists.{and_parts, list_any-in, in_from_moment}
 use Rattle.swap_digraph.specs.declared.deal.Deal.{Deal}
 use Rattle.swap_digraph.specs.Graph.{entering}
@@ -11,11 +11,11 @@ use Rattle.hashkey_path.specs.declared.hashkey.Hashkey.{Hashkey}
 use Rattle.hashkey_path.specs.Hashkey.{is_wrong_secret, is_wrong_path, is_wrong_signature}
 use Rattle.escrow_core.specs.declared.reply.Reply.TheVariants.{Accepted}
 use Rattle.escrow_core.specs.declared.terms.Terms.{Terms}
-use Rattle.escrow_core.specs.Terms.{stated_terms, last_unlock, read_hashlock}
+use Rattle.escrow_core.specs.Terms.{stated_terms, last_unlock, terms_hashlock}
 use Rattle.ledger_core.specs.declared.entry.Call.{Call}
 use Rattle.ledger_core.specs.declared.entry.Call.TheVariants.{Unlock}
 use Rattle.ledger_core.specs.declared.entry.Entry.{Entry}
-use Rattle.ledger_core.specs.History.{height, Publication, published, Opening, opened, is_open, parse_terms, the_terms, rows, history_reply, IsLegal}
+use Rattle.ledger_core.specs.History.{height, Publication, published, Opening, opened, is_open, publication_terms, the_terms, rows, history_reply, IsLegal}
 use Rattle.ledger_core.specs.Book.{Histories, history, IsLegalBook}
 use Rattle.ledger_core.proofs.History.{accepted_clear, from_clear, of_unlock, opened_done, not-true, not-true-of}
 use Rattle.swap_rules.specs.Party.{is_arc_correct, is_correct, is_ready, pick_call}
@@ -53,7 +53,7 @@ good_by d v w kept k i key legal wallet good below own (Some z) q e = good i key
 
 -- An unlock that is due on arc a.
 module _ (d : Deal) (v : ℕ) (w : Wallet) (kept : ℕ → Option Hashkey) (k : Histories) (a i : ℕ) (key : Hashkey) (legal : IsLegalBook d k)
-    (wallet : IsWallet d v w) (good : AreGoodKeys d v kept) (below : i < length d.leaders) (on : IsIn a (entering d.graph v))
+    (wallet : IsWallet d v w) (good : AreGoodKeys d v kept) (below : i < length d.leaders) (on : IsElement a (entering d.graph v))
     (may : may_unlock d v k i a ≡ true) (due : due_key d v w (kept i) k i ≡ Some key) (lock : key.lock ≡ i) where
   abbrev now : List Entry
   now = history k a
@@ -78,7 +78,7 @@ module _ (d : Deal) (v : ℕ) (w : Wallet) (kept : ℕ → Option Hashkey) (k : 
       let u = of_unlock d a done.0.past done.0.act.by o.key done.0.clear in
       let made = pick_call-act d a done.0.past done.0.now (Unlock o.key) v done.0.act (u.counterparty ∙ of_v) in
       list_any-in (λ e. unlocks_lock i (pick_call v e)) now done.0.now (ap (unlocks_lock i) made ∙ eq-eqb o.key.lock i done.1)
-      (subst (IsIn done.0.now) (sym done.0.stands.1) (in_from_moment done.0.past done.0.now done.0.stands.0))
+      (subst (IsElement done.0.now) (sym done.0.stands.1) (in_from_moment done.0.past done.0.now done.0.stands.0))
 
   uncalled : has_called v (unlocks_lock i) now ≡ false
   uncalled =
@@ -95,12 +95,12 @@ module _ (d : Deal) (v : ℕ) (w : Wallet) (kept : ℕ → Option Hashkey) (k : 
     published_later = let r = reads_on v now more ticks in r.publish
 
     terms_later : the_terms later ≡ stated_terms d a
-    terms_later = let c = correct in ap parse_terms (published_later ∙ c.is) ∙ c.terms
+    terms_later = let c = correct in ap publication_terms (published_later ∙ c.is) ∙ c.terms
 
     pub above : last_unlock d.mode (stated_terms d a) key < height later → history_reply d a later v (Unlock key) ≢ Accepted
     above high e =
         let u = of_unlock d a later v key (accepted_clear d a later v (Unlock key) e) in
-        let same : the_terms later ≡ u.contract.terms = ap parse_terms u.published in
+        let same : the_terms later ≡ u.contract.terms = ap publication_terms u.published in
         let low : height later ≤ last_unlock d.mode (stated_terms d a) key =
         subst (λ t. height later ≤ last_unlock d.mode t key) (sym same ∙ terms_later) u.in_time in
         omega (arith, low, high)
@@ -123,9 +123,9 @@ module _ (d : Deal) (v : ℕ) (w : Wallet) (kept : ℕ → Option Hashkey) (k : 
           and_three (not (is_wrong_secret (lock_hashlock d key.lock) key)) (not (is_wrong_path d a d.mode key)) (not (is_wrong_signature d d.mode key))
           (g.valid a on)
 
-      secret : is_wrong_secret (read_hashlock (the_terms later) key.lock) key ≡ false
+      secret : is_wrong_secret (terms_hashlock (the_terms later) key.lock) key ≡ false
       secret =
-          ap (λ (t : Terms). is_wrong_secret (read_hashlock t key.lock) key) terms_later
+          ap (λ (t : Terms). is_wrong_secret (terms_hashlock t key.lock) key) terms_later
           ∙ not-true-of (is_wrong_secret (lock_hashlock d key.lock) key) parts.0
 
       in_time : nat_lt (last_unlock d.mode (the_terms later) key) (height later) ≡ false

@@ -2,7 +2,7 @@
 use Rattle.std.proofs.Common.{◌≡◌, ℕ, ◌≤◌, Bool, true, false, not, ◌&&◌, List, [], ◌++◌, set, Option, refl, sym, ap, ◌∙◌, subst}
 use Rattle.std.proofs.Common.{arith, leb-true, le-leb}
 use Rattle.std.proofs.lemmas.Bool.{false≢true}
-use Rattle.swap_base.specs.Lists.{IsIn}
+use Rattle.swap_base.specs.Lists.{IsElement}
 use Rattle.swap_base.proofs.Lists.{from_filter, in_filter, in_flat_map, and_parts, and_both}
 use Rattle.time_bounds.specs.Times as times
 use Rattle.swap_digraph.specs.declared.deal.Deal.{Deal}
@@ -33,13 +33,13 @@ module _ (d : Deal) (v : ℕ) (w : Wallet) (kept : ℕ → Option Hashkey) (stop
   grows c = begins_height (history k c) (history after c) (grows_on d v w kept k a more ticks c)
 
   -- what was useful is stopped
-  stopped : (x : Action) → is_stopped stops x.call ≡ false → IsIn x (useful d v w kept k) → ⊥
+  stopped : (x : Action) → is_stopped stops x.call ≡ false → IsElement x (useful d v w kept k) → ⊥
   stopped x free i =
-      let j : IsIn x (unstopped stops (useful d v w kept k)) =
+      let j : IsElement x (unstopped stops (useful d v w kept k)) =
       in_filter (λ y. not (is_stopped stops y.call)) x (useful d v w kept k) i (ap not free) in
-      subst (IsIn x) none j
+      subst (IsElement x) none j
 
-  publishes : (x : Action) → IsIn x (useful_publishes d v after) → IsIn x (useful_publishes d v k)
+  publishes : (x : Action) → IsElement x (useful_publishes d v after) → IsElement x (useful_publishes d v k)
   publishes x i =
       let test = λ (b : Histories) (c : ℕ). is_due_publish d v b c && opens_in_time d b c in
       let f = from_flat_map (λ c. when_due (test after c) c (Publish (stated_terms d c))) (leaving d.graph v) x i in
@@ -51,19 +51,19 @@ module _ (d : Deal) (v : ℕ) (w : Wallet) (kept : ℕ → Option Hashkey) (stop
       (and_both (is_due_publish d v k f.0) (opens_in_time d k f.0) (sym (same_publish d v k after (reads d v w kept k a more ticks) f.0) ∙ p.0)
       (le-leb (height (history k f.0)) (times.opening_deadline d.start d.delta d.bound) (omega (arith, l, g)))) f.2)
 
-  unlocks : (x : Action) → IsIn x (useful_unlocks d v w kept after) → IsIn x (useful_unlocks d v w kept k)
+  unlocks : (x : Action) → IsElement x (useful_unlocks d v w kept after) → IsElement x (useful_unlocks d v w kept k)
   unlocks x i =
       let u = unlocked d v w kept after x i in
       let same = same_unlock d v k after (reads d v w kept k a more ticks) w (kept u.lock) u.lock u.arc in
       in_due_unlocks d v w kept k x u.lock u.arc u.within u.enters
       (free_before d v k after u.lock
       (λ c e. let r = reads d v w kept k a more ticks c in sym (r.calls (unlocks_lock u.lock) refl) ∙ e) grows u.free)
-      (subst (IsIn x) same u.at)
+      (subst (IsElement x) same u.at)
 
-  claims : (x : Action) → IsIn x (due_claims d v after) → IsIn x (due_claims d v k)
-  claims x i = subst (IsIn x) (same_claims d v k after (reads d v w kept k a more ticks)) i
+  claims : (x : Action) → IsElement x (due_claims d v after) → IsElement x (due_claims d v k)
+  claims x i = subst (IsElement x) (same_claims d v k after (reads d v w kept k a more ticks)) i
 
-  refund_free : (x : Action) (b : Histories) → IsIn x (due_refunds d v b) → is_stopped stops x.call ≡ false
+  refund_free : (x : Action) (b : Histories) → IsElement x (due_refunds d v b) → is_stopped stops x.call ≡ false
   refund_free x b i =
       let f = from_flat_map (λ c. when_due (is_due_refund d v b c) c Refund) (leaving d.graph v) x i in
       ap (is_stopped stops) (in_when (is_due_refund d v b f.0) f.0 Refund x f.2).1
@@ -75,7 +75,7 @@ module _ (d : Deal) (v : ℕ) (w : Wallet) (kept : ℕ → Option Hashkey) (stop
   by_kind x free (InPublishes i) = stopped x free (is_useful d v w kept k x (InPublishes (publishes x i)))
   by_kind x free (InUnlocks i) = stopped x free (is_useful d v w kept k x (InUnlocks (unlocks x i)))
   by_kind x free (InClaims i) = stopped x free (is_useful d v w kept k x (InClaims (claims x i)))
-  by_kind x free (InRefunds i) = subst (IsIn x) (none_refunded d v w kept k a more ticks no_refunds low) i
+  by_kind x free (InRefunds i) = subst (IsElement x) (none_refunded d v w kept k a more ticks no_refunds low) i
 
   pub nothing_left : unstopped stops (useful d v w kept after) ≡ []
   nothing_left = nothing_in (unstopped stops (useful d v w kept after)) (λ x i.

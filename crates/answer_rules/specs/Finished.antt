@@ -15,7 +15,8 @@ use Rattle.swap_rules.specs.Machine.{Knows}
 abbrev pub last_expiry : Deal → ℕ → ℕ
 last_expiry d a = greatest (expiry d a) (locks d)
 
--- nothing that helps can begin on arc a: it carries no accepted publish, and its ledger stands above the height by which contracts open, and above each expiry
+-- nothing that helps can begin on arc a: it carries no accepted publish, and its ledger stands
+-- above the height by which contracts open, and above each expiry
 abbrev pub is_shut : Deal → Histories → ℕ → Bool
 is_shut d k a =
     is_none (published (history k a)) && nat_lt (times.opening_deadline d.start d.delta d.bound) (height (history k a))
@@ -30,5 +31,5 @@ abbrev pub are_finished : Deal → Histories → ℕ → Bool
 are_finished d k v = list_all (is_finished d k) (leaving d.graph v) && list_all (is_finished d k) (entering d.graph v)
 
 -- each history goes on as it likes, without calls of v
-abbrev pub ContinuesWithout : ℕ → Histories → Histories → Type 0
-ContinuesWithout v k h = (a : ℕ) → Knows v (history k a) (history h a)
+abbrev pub ContinuesWithoutParty : ℕ → Histories → Histories → Type 0
+ContinuesWithoutParty v k h = (a : ℕ) → Knows v (history k a) (history h a)

@@ -1,6 +1,6 @@
 -- The laws of what an answer goes by.
 use Rattle.std.specs.Prelude.{◌≡◌, ◌≢◌, ℕ, ◌+◌, ◌<◌, ◌≤◌, Bool, true, false, List, [], ◌++◌, length, set, Option, Some, None}
-use Rattle.swap_base.specs.Lists.{IsIn}
+use Rattle.swap_base.specs.Lists.{IsElement}
 use Rattle.swap_digraph.specs.declared.deal.Deal.{Deal}
 use Rattle.swap_digraph.specs.Graph.{leaving}
 use Rattle.hashkey_path.specs.declared.hashkey.Hashkey.{Hashkey}
@@ -16,7 +16,7 @@ use Rattle.swap_rules.specs.Machine.{IsWallet, IsGoodKey}
 use Rattle.swap_rules.specs.Rest.{are_ticks, StaysLow}
 use Rattle.swap_rules.specs.Useful.{useful}
 use Rattle.answer_rules.specs.Heights.{HasHeight, last_accepted, last_on_time}
-use Rattle.answer_rules.specs.Finished.{are_finished, ContinuesWithout}
+use Rattle.answer_rules.specs.Finished.{are_finished, ContinuesWithoutParty}
 use Rattle.answer_rules.specs.Stopped.{unstopped}
 
 -- Every hashkey that was kept opens its lock on each arc that enters v.
@@ -33,16 +33,17 @@ pub record SignsItsLock (w : Wallet) : Type 0 where
 abbrev pub UsefulHasHeight : Type 0
 UsefulHasHeight =
     (d : Deal) (v : ℕ) (w : Wallet) (kept : ℕ → Option Hashkey) (k : Histories) (x : Action) → IsLegalBook d k → SignsItsLock w
-    → AreGoodKeys d v kept → IsIn x (useful d v w kept k) → HasHeight d k v kept x (last_on_time d k v x.arc x.call)
+    → AreGoodKeys d v kept → IsElement x (useful d v w kept k) → HasHeight d k v kept x (last_on_time d k v x.arc x.call)
 
--- The contract of an arc with this history can still be opened by v: it isn't settled, and v's entries don't fill its ledger; and what v published has the
--- correct terms.
+-- The contract of an arc with this history can still be opened by v: it isn't settled, and v's
+-- entries don't fill its ledger; and what v published has the correct terms.
 pub record CanBeOpened (d : Deal) (k : Histories) (v : ℕ) (h : List Entry) : Type 0 where
   pub unsettled : settled h ≡ None
   pub room : is_full h v ≡ false
-  pub own : (c : ℕ) (p : Publication) → IsIn c (leaving d.graph v) → published (history k c) ≡ Some p → p.terms ≡ stated_terms d c
+  pub own : (c : ℕ) (p : Publication) → IsElement c (leaving d.graph v) → published (history k c) ≡ Some p → p.terms ≡ stated_terms d c
 
--- Up to that height, and no longer, the contract of arc a accepts the hashkey of v, as its ledger ticks on.
+-- Up to that height, and no longer, the contract of arc a accepts the hashkey of v, as its ledger
+-- ticks on.
 pub record IsLastHeight (d : Deal) (k : Histories) (v a : ℕ) (key : Hashkey) (last : ℕ) : Type 0 where
   pub until : (more : List Entry) → are_ticks more ≡ true → height (history k a ++ more) ≤ last → CanBeOpened d k v (history k a ++ more)
       → history_reply d a (history k a ++ more) v (Unlock key) ≡ Accepted
@@ -53,16 +54,18 @@ pub record IsLastHeight (d : Deal) (k : Histories) (v a : ℕ) (key : Hashkey) (
 abbrev pub UnlocksHaveLast : Type 0
 UnlocksHaveLast =
     (d : Deal) (v : ℕ) (w : Wallet) (kept : ℕ → Option Hashkey) (k : Histories) (x : Action) (key : Hashkey) → IsLegalBook d k → IsWallet d v w
-    → SignsItsLock w → AreGoodKeys d v kept → IsIn x (useful d v w kept k) → x.call ≡ Unlock key
+    → SignsItsLock w → AreGoodKeys d v kept → IsElement x (useful d v w kept k) → x.call ≡ Unlock key
     → (last : ℕ) × (last_accepted d x.arc x.call ≡ Some last) × IsLastHeight d k v x.arc key last
 
--- where every arc next to v is finished, nothing that lands later, without calls of v, makes anything useful that wasn't
+-- where every arc next to v is finished, nothing that lands later, without calls of v, makes
+-- anything useful that wasn't
 abbrev pub FinishedStays : Type 0
 FinishedStays =
     (d : Deal) (v : ℕ) (w : Wallet) (kept : ℕ → Option Hashkey) (k h : Histories) (x : Action) → IsAccepted d → IsLegalBook d k → IsLegalBook d h
-    → are_finished d k v ≡ true → ContinuesWithout v k h → IsIn x (useful d v w kept h) → IsIn x (useful d v w kept k)
+    → are_finished d k v ≡ true → ContinuesWithoutParty v k h → IsElement x (useful d v w kept h) → IsElement x (useful d v w kept k)
 
--- where nothing is left of what is useful, ticks that don't bring a ledger above an expiry that v waits for leave nothing
+-- where nothing is left of what is useful, ticks that don't bring a ledger above an expiry that v
+-- waits for leave nothing
 abbrev pub TicksLeaveNothing : Type 0
 TicksLeaveNothing =
     (d : Deal) (v : ℕ) (w : Wallet) (kept : ℕ → Option Hashkey) (stops : ℕ → Bool) (k : Histories) (a : ℕ) (more : List Entry)

@@ -27,7 +27,8 @@ fn last_height(deal: &Deal, arc: ArcId, key: &Hashkey) -> u64
     }
 }
 
-/// The last height at which the contract of the arc accepts the hashkey of an unlock; none of another call.
+/// The last height at which the contract of the arc accepts the hashkey of an unlock; none of
+/// another call.
 pub fn last_accepted(deal: &Deal, arc: ArcId, call: &Call) -> Option<u64>
     requires sized { IsWellSized deal.now }
     requires arc { arc < length deal.now.graph.arcs }

@@ -6,7 +6,7 @@ ghost use Rattle.swap_digraph.specs.Graph.{entering, is_listed as is_listed_arc,
 ghost use Rattle.history_index.specs.Indexes.{all_entries, AreIndexes};
 ghost use Rattle.sent_keys.specs.Sent.{shown, party_unlocks};
 ghost use Rattle.swap_rules.specs.declared.finding.Rule.TheVariants.{Publish as ToPublish, Unlock as ToUnlock, Claim as ToClaim, Refund as ToRefund};
-ghost use Rattle.swap_rules.specs.Late.{ref_of};
+ghost use Rattle.swap_rules.specs.Late.{reference_height};
 ghost use Rattle.answer_rules.specs.Heights.{asked_height, height_or, last_on_time};
 
 use due_calls::{least_expiry, ready_height};
@@ -33,12 +33,12 @@ fn enters(deal: &Deal, me: PartyId, arc: ArcId) -> bool
 }
 
 /// From which height the party is to publish on the arc.
-#[tactic(auto, unfolding(swap_rules::specs::Late::ref_of))]
+#[tactic(auto, unfolding(swap_rules::specs::Late::reference_height))]
 fn publish_height(deal: &Deal, known: &[Index], me: PartyId, arc: ArcId) -> Option<u64>
     requires sized { IsWellSized deal.now }
     requires known { AreIndexes deal.now known.now }
     requires me { me < deal.now.graph.n }
-    ensures exact { result ≡ ref_of deal.now (all_entries known.now) me ToPublish arc }
+    ensures exact { result ≡ reference_height deal.now (all_entries known.now) me ToPublish arc }
     ensures small { IfSome result (λ n. n < 2 ^ 62) }
 {
     if leaves(deal, me, arc) {
@@ -49,7 +49,7 @@ fn publish_height(deal: &Deal, known: &[Index], me: PartyId, arc: ArcId) -> Opti
 }
 
 /// From which height the party is to unlock the lock on the arc.
-#[tactic(auto, unfolding(swap_rules::specs::Late::ref_of))]
+#[tactic(auto, unfolding(swap_rules::specs::Late::reference_height))]
 fn unlock_height(
     deal: &Deal,
     known: &[Index],
@@ -63,7 +63,7 @@ fn unlock_height(
     requires me { me < deal.now.graph.n }
     requires keys { shown keys.now ≡ party_unlocks (all_entries known.now) me }
     requires lock { lock < length deal.now.leaders }
-    ensures exact { result ≡ ref_of deal.now (all_entries known.now) me (ToUnlock lock) arc }
+    ensures exact { result ≡ reference_height deal.now (all_entries known.now) me (ToUnlock lock) arc }
     ensures small { IfSome result (λ n. n < 2 ^ 62) }
 {
     if enters(deal, me, arc) {
@@ -75,12 +75,12 @@ fn unlock_height(
 }
 
 /// From which height the party is to claim on the arc.
-#[tactic(auto, unfolding(swap_rules::specs::Late::ref_of))]
+#[tactic(auto, unfolding(swap_rules::specs::Late::reference_height))]
 fn claim_height(deal: &Deal, known: &[Index], me: PartyId, arc: ArcId) -> Option<u64>
     requires sized { IsWellSized deal.now }
     requires known { AreIndexes deal.now known.now }
     requires me { me < deal.now.graph.n }
-    ensures exact { result ≡ ref_of deal.now (all_entries known.now) me ToClaim arc }
+    ensures exact { result ≡ reference_height deal.now (all_entries known.now) me ToClaim arc }
     ensures small { IfSome result (λ n. n < 2 ^ 62) }
 {
     if enters(deal, me, arc) {
@@ -91,12 +91,12 @@ fn claim_height(deal: &Deal, known: &[Index], me: PartyId, arc: ArcId) -> Option
 }
 
 /// From which height the party is to refund on the arc.
-#[tactic(auto, using(crate::proofs::Arcs::leaving_below), unfolding(swap_rules::specs::Late::ref_of))]
+#[tactic(auto, using(crate::proofs::Arcs::leaving_below), unfolding(swap_rules::specs::Late::reference_height))]
 fn refund_height(deal: &Deal, known: &[Index], me: PartyId, arc: ArcId) -> Option<u64>
     requires sized { IsWellSized deal.now }
     requires known { AreIndexes deal.now known.now }
     requires me { me < deal.now.graph.n }
-    ensures exact { result ≡ ref_of deal.now (all_entries known.now) me ToRefund arc }
+    ensures exact { result ≡ reference_height deal.now (all_entries known.now) me ToRefund arc }
     ensures small { IfSome result (λ n. n < 2 ^ 62) }
 {
     if leaves(deal, me, arc) {
@@ -107,7 +107,8 @@ fn refund_height(deal: &Deal, known: &[Index], me: PartyId, arc: ArcId) -> Optio
     }
 }
 
-/// From which height a rule of the deal asks the party for the call on the arc, where the rule is enabled.
+/// From which height a rule of the deal asks the party for the call on the arc, where the rule is
+/// enabled.
 fn asked_height(
     deal: &Deal,
     known: &[Index],
@@ -138,7 +139,8 @@ fn asked_height(
     }
 }
 
-/// The last height at which the party's call on the arc is on time, where these are the hashkeys of its unlocks.
+/// The last height at which the party's call on the arc is on time, where these are the hashkeys of
+/// its unlocks.
 pub fn last_on_time(
     deal: &Deal,
     known: &[Index],

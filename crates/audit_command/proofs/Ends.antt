@@ -13,8 +13,8 @@ use Rattle.command_input.specs.declared.fault.InputFault.{InputFault}
 use Rattle.command_input.specs.declared.fault.InputFault.TheVariants.{Refused, ReadFault, TooLong, NoMemory}
 use Rattle.command_input.specs.Input.{At, Desk, Ends, HasStopped, IsPart, IsTooLong, desk, fresh, limit}
 use Rattle.command_input.proofs.Streams.{no_memory_after}
-use Rattle.audit_command.specs.Output.{by_text, to_refusal, story_in}
-use Rattle.audit_command.specs.Reading.{Concludes, HasRead, IsAgainst, IsBad, IsRead, IsStory, Stopped}
+use Rattle.audit_command.specs.Output.{by_text, to_refusal, input_story}
+use Rattle.audit_command.specs.Reading.{Concludes, HasRead, IsStoryRefusal, IsBad, IsRead, IsStory, Stopped}
 
 -- a part was read
 pub is_consumed : (a b : Option (List ℕ)) (n m : ℕ) (now : At) → IsPart (desk a n fresh) (desk b m now) → ConsumesAtMost a b limit
@@ -27,8 +27,8 @@ pub all_consumed : (P : List ℕ → Type 0) (a b : Option (List ℕ)) (n m : �
 all_consumed P a b n m k = (k.ends.bytes, omega (arith, k.ends.stands.took.counted, k.ends.stands.fits.within), k.ends.stands.took.consumed)
 
 -- a reason as it is told
-pub told_stopped : (old new : Desk) (f : InputFault TranscriptReason) → HasStopped IsBad old new f → HasStopped IsAgainst old new (retold to_refusal f)
-unfolding story_in
+pub told_stopped : (old new : Desk) (f : InputFault TranscriptReason) → HasStopped IsBad old new f → HasStopped IsStoryRefusal old new (retold to_refusal f)
+unfolding input_story
 told_stopped old new (Refused reason) h = record { bytes = h.bytes; stands = h.stands; can = h.can; told = ap by_text h.told; ended = h.ended }
 told_stopped old new ReadFault h = h
 told_stopped old new TooLong h = h
@@ -43,8 +43,8 @@ module _ (a b : Option (List ℕ)) (n m : ℕ) (now : At) (p : Progress) (rest :
       record { now = now; ends = record { bytes = k.bytes; stands = k.stands; can = k.can; told = k.told ∙ e; ended = k.ended } }
   concluded_ok (Err f) e = tt
 
-  why : (f : InputFault Refusal) → Concludes (Err f) (finished p rest) → HasStopped IsAgainst (desk a n fresh) (desk b m now) f
-  unfolding story_in
+  why : (f : InputFault Refusal) → Concludes (Err f) (finished p rest) → HasStopped IsStoryRefusal (desk a n fresh) (desk b m now) f
+  unfolding input_story
   why (Refused refusal) e = record { bytes = k.bytes; stands = k.stands; can = k.can; told = ap by_text k.told ∙ e; ended = k.ended }
   why ReadFault e = absurd e
   why TooLong e = absurd e

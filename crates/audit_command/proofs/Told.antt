@@ -18,9 +18,9 @@ use Rattle.command_input.specs.Input.{At, Ends, desk, fresh}
 use Rattle.command_input.specs.Streams.{streams}
 use Rattle.audit_command.proofs.Ends.{is_consumed, too_long}
 use Rattle.command_input.specs.Written.{Writes, Written}
-use Rattle.audit_command.specs.Output.{audit_output, by_text, judged, story_output, story_in, told}
+use Rattle.audit_command.specs.Output.{audit_output, by_text, judged, story_output, input_story, told}
 use Rattle.audit_command.specs.Promised.{IsSound}
-use Rattle.audit_command.specs.Reading.{HasRead, IsAgainst, IsStory, Stopped}
+use Rattle.audit_command.specs.Reading.{HasRead, IsStoryRefusal, IsStory, Stopped}
 use Rattle.audit_command.specs.Says.{HasAnswer, HasAuditOutput, AuditSays}
 
 -- an answer to an input that was read
@@ -35,14 +35,14 @@ answered P a b n m now output k e = record {
 }
 
 -- no story
-refused_input : (input : List ℕ) (refusal : Refusal) → story_in input ≡ Err refusal → audit_output input ≡ Err refusal
+refused_input : (input : List ℕ) (refusal : Refusal) → input_story input ≡ Err refusal → audit_output input ≡ Err refusal
 unfolding audit_output
 refused_input input refusal e = ap (λ (r : Result Story Refusal). r >>= told) e
 
 pub says_unread : (a b : Option (List ℕ)) (n m : ℕ) (taken : Option (List ℕ)) (p : ℕ) (f : InputFault Refusal) → Stopped a b n m f
     → AuditSays (streams a n taken p) (streams b m taken p) (unread f)
 says_unread a b n m taken p (stopped.Refused refusal) s =
-    (answered (λ input. IsAgainst input refusal) a b n m s.now (Err refusal) s.why (refused_input s.why.bytes refusal s.why.told), Keeps-refl taken)
+    (answered (λ input. IsStoryRefusal input refusal) a b n m s.now (Err refusal) s.why (refused_input s.why.bytes refusal s.why.told), Keeps-refl taken)
 says_unread a b n m taken p stopped.ReadFault s = (s.why.0, Keeps-refl taken, is_consumed a b n m s.now s.why.1)
 says_unread a b n m taken p stopped.TooLong s = (too_long a b n m s.now s.why.1, Keeps-refl taken)
 says_unread a b n m taken p stopped.NoMemory s = inl (Keeps-refl taken, is_consumed a b n m s.now s.why.1)
@@ -54,7 +54,7 @@ module _ (a b : Option (List ℕ)) (n m : ℕ) (t : Story) (k : HasRead (IsStory
   is_formed = (text_is_whole header_read k.ends.bytes t k.ends.told).whole.stated.formed
 
   of_story : audit_output k.ends.bytes ≡ told t
-  unfolding audit_output story_in
+  unfolding audit_output input_story
   of_story = ap (λ (r : Result Story TranscriptReason). by_text r >>= told) k.ends.told
 
   pub says_refused : (taken : Option (List ℕ)) (p : ℕ) (refusal : Refusal) → judged t ≡ Err refusal

@@ -1,4 +1,5 @@
--- What an audit writes for an input: the report of the job and the book that the input's lines state.
+-- What an audit writes for an input: the report of the job and the book that the input's lines
+-- state.
 use Rattle.std.specs.Prelude.{◌==◌, ℕ, not, List, [], length, Result, Ok, Err}
 use Rattle.swap_base.specs.Fault.{◌>>=◌}
 use Rattle.refusals.specs.declared.reason.Reason.{Reason}
@@ -36,8 +37,8 @@ by_text (Ok t) = Ok t
 by_text (Err reason) = Err (to_refusal reason)
 
 -- the job and the book that an input's lines state, or the first reason against them
-unfoldable pub story_in : List ℕ → Result Story Refusal
-story_in input = by_text (transcript_read header_read input)
+unfoldable pub input_story : List ℕ → Result Story Refusal
+input_story input = by_text (transcript_read header_read input)
 
 abbrev pub refused_reply : BadReply → Refusal
 refused_reply b = nameless (reasons.BadReply b.arc b.entry b.stated b.replayed)
@@ -60,4 +61,4 @@ told t = judged t >>= λ r. Ok (story_output t r)
 
 -- what an audit writes for an input, or the first reason why it is refused
 unfoldable pub audit_output : List ℕ → Result Written Refusal
-audit_output input = story_in input >>= told
+audit_output input = input_story input >>= told

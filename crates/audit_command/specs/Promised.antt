@@ -4,7 +4,7 @@ use Rattle.ledger_core.specs.Book.{IsLegalBook}
 use Rattle.swap_rules.specs.Accepted.{IsAccepted}
 use Rattle.swap_rules.specs.Laws.{FindsNothing, IsTransferred}
 use Rattle.outcome_rules.specs.declared.report.Report.{Report}
-use Rattle.outcome_rules.specs.Report.{conforms_in, build_report}
+use Rattle.outcome_rules.specs.Report.{is_conforming_party, build_report}
 use Rattle.outcome_rules.specs.Promises.{AllAreConforming, AllAreWhole, AllHaveRefunds, NoneIsUnderwater, shown_outcome}
 use Rattle.swap_auditor.specs.Audit.{AreUnitsConserved}
 use Rattle.transcript_reader.specs.Header.{header_read, IsTold}
@@ -24,14 +24,17 @@ pub record IsSound (t : Story) (r : Report) : Type 0 where
   -- every reply is the table's, and at every moment each unit is in one place
   pub legal : IsLegalBook t.job.deal t.book
   pub units : AreUnitsConserved t.job.deal t.book
-  -- a conforming party that no finding endangers doesn't end underwater, and one that none strands has its refunds
+  -- a conforming party that no finding endangers doesn't end underwater, and one that none strands
+  -- has its refunds
   pub safe : NoneIsUnderwater t.job.deal t.job.conforming (shown_outcome r) r.findings
   pub refunds : AllHaveRefunds t.job.deal t.job.conforming t.book r.findings
-  -- where all conform and nothing is found, all is transferred, and the report shows each party with the whole deal
+  -- where all conform and nothing is found, all is transferred, and the report shows each party
+  -- with the whole deal
   pub transfer : AllAreConforming t.job.deal t.job.conforming → r.findings ≡ [] → IsTransferred t.job.deal t.book accepted
   pub whole : AllAreConforming t.job.deal t.job.conforming → r.findings ≡ [] → AllAreWhole t.job.deal r
-  -- where nothing is found, every ledger has ended, and every conforming party kept what the laws ask for
-  pub nothing : r.findings ≡ [] → FindsNothing t.job.deal (conforms_in t.job.conforming) t.book
+  -- where nothing is found, every ledger has ended, and every conforming party kept what the laws
+  -- ask for
+  pub nothing : r.findings ≡ [] → FindsNothing t.job.deal (is_conforming_party t.job.conforming) t.book
 
 -- The input is a whole transcript of a job and a book, and what was written is their report.
 pub record IsAudit (input : List ℕ) (output : Written) : Type 0 where

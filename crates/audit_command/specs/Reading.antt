@@ -10,17 +10,18 @@ use Rattle.transcript_reader.specs.Reading.{Story, finished, job_story, transcri
 use Rattle.command_input.specs.declared.fault.InputFault.{InputFault}
 use Rattle.command_input.specs.declared.fault.InputFault.TheVariants.{Refused, ReadFault, TooLong, NoMemory}
 use Rattle.command_input.specs.Input.{At, Ends, HasStopped, desk, fresh}
-use Rattle.audit_command.specs.Output.{by_text, story_in}
+use Rattle.audit_command.specs.Output.{by_text, input_story}
 
 -- what is said against the bytes of a transcript
 abbrev pub IsBad : List ℕ → TranscriptReason → Type 0
 IsBad bytes reason = transcript_read header_read bytes ≡ Err reason
 
 -- the same as it is told
-abbrev pub IsAgainst : List ℕ → Refusal → Type 0
-IsAgainst bytes refusal = story_in bytes ≡ Err refusal
+abbrev pub IsStoryRefusal : List ℕ → Refusal → Type 0
+IsStoryRefusal bytes refusal = input_story bytes ≡ Err refusal
 
--- the bytes give what a reader of all their lines tells, where `rest` stands after the last line feed
+-- the bytes give what a reader of all their lines tells, where `rest` stands after the last line
+-- feed
 abbrev pub IsRead : Progress → List ℕ → List ℕ → Type 0
 IsRead p rest bytes = transcript_read header_read bytes ≡ finished p rest
 
@@ -36,7 +37,7 @@ pub record HasRead (P : List ℕ → Type 0) (left left' : Option (List ℕ)) (n
 -- Why an input gave no story.
 pub record Stopped (left left' : Option (List ℕ)) (n m : ℕ) (fault : InputFault Refusal) : Type 0 where
   pub now : At
-  pub why : HasStopped IsAgainst (desk left n fresh) (desk left' m now) fault
+  pub why : HasStopped IsStoryRefusal (desk left n fresh) (desk left' m now) fault
 
 -- what is concluded from what the reader of all lines tells
 abbrev pub Concludes : Result (Job × Book) (InputFault Refusal) → Result Story TranscriptReason → Type 0

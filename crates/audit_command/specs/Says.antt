@@ -21,7 +21,8 @@ pub record HasAnswer (left left' : Option (List ℕ)) (output : Result Written R
   pub within : length input ≤ limit
   pub gives : audit_output input ≡ output
 
--- The input was read and has an output, which is promised, and P tells what was written of its text.
+-- The input was read and has an output, which is promised, and P tells what was written of its
+-- text.
 pub record HasAuditOutput (P : Written → Type 0) (left left' : Option (List ℕ)) : Type 0 where
   pub output : Written
   pub read : HasAnswer left left' (Ok output)

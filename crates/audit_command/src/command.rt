@@ -39,7 +39,8 @@ fn tell<K: Sink>(alloc: Global, sink: &mut K, job: &Job, book: &Book, report: &R
     }
 }
 
-/// Audits a transcript. The source is read to its end before anything is written; the book that its lines state is kept, and none of their text.
+/// Audits a transcript. The source is read to its end before anything is written; the book that its
+/// lines state is kept, and none of their text.
 pub fn audit_transcript<S: Source, K: Sink>(alloc: Global, source: &mut S, sink: &mut K) -> Status
     ensures says { AuditSays (streams (S.left source.old) (S.faults source.old) (K.taken sink.old) (K.faults sink.old))
         (streams (S.left source.new) (S.faults source.new) (K.taken sink.new) (K.faults sink.new)) result }

@@ -9,7 +9,8 @@ use command_input::{Input, InputFault};
 use swap_io::Source;
 use transcript_reader::{TranscriptReader, TranscriptReason};
 
-/// Reads the lines of an input up to its end. The input's text is then what stands after the last line feed.
+/// Reads the lines of an input up to its end. The input's text is then what stands after the last
+/// line feed.
 pub(crate) fn read_lines<S: Source>(
     input: &mut Input,
     source: &mut S,

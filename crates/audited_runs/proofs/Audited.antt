@@ -15,7 +15,7 @@ use Rattle.deviators.specs.Program.{program_rule}
 use Rattle.refusals.specs.declared.reason.Reason.{Reason}
 use Rattle.offer_fields.proofs.Chains.{went}
 use Rattle.offer_header.specs.Raw.{is_plain}
-use Rattle.swap_offer.specs.Job.{parse_job_events, job_header_of, parse_job, job_of_lines}
+use Rattle.swap_offer.specs.Job.{parse_job_events, parse_header_job, parse_job, job_of_lines}
 use Rattle.command_input.specs.Lines.{filled_lines, collect_lines}
 use Rattle.read_back.specs.Headers.{IsShowable}
 use Rattle.read_back.proofs.Onward.{ok_is}
@@ -30,7 +30,7 @@ use Rattle.command_input.specs.Input.{limit}
 use Rattle.audit_command.specs.Output.{audit_output}
 use Rattle.command_input.specs.Written.{Written}
 use Rattle.command_input.specs.Streams.{Streams}
-use Rattle.swap_commands.specs.Output.{Chance, collected_book, by_reason, output_by, reported}
+use Rattle.swap_commands.specs.Output.{Chance, collected_book, by_reason, output_given_chance, reported}
 use Rattle.swap_commands.specs.Words.{OfJob, Audit, Run, Race, Command}
 use Rattle.swap_commands.specs.Promised.{AsPromised}
 use Rattle.swap_commands.specs.Strategies.{strategies}
@@ -47,7 +47,7 @@ lines_showable : (has : List ℕ → Bool) (purpose : Purpose) (ls : List (ℕ �
     → job_of_lines has purpose ls ≡ Ok (job, events) → IsShowable job
 lines_showable has purpose [] job events stated e = absurd (cc e)
 lines_showable has purpose (l ∷ ls) job events stated e =
-    let one = went (job_header_of has purpose l.0 l.1) _ (job, events) e in
+    let one = went (parse_header_job has purpose l.0 l.1) _ (job, events) e in
     let two = went (parse_job_events purpose one.0 ls) _ (job, events) one.2 in
     let same : one.0 ≡ job = ap (λ (p : Job × List Event). p.0) (ok_is (one.0, two.0) (job, events) two.2) in
     subst IsShowable same (read_is_showable has purpose l.0 l.1 one.0 stated one.1)
@@ -77,8 +77,8 @@ holds_digests b typed = λ a lt.
 -- ---- what an audit writes of a text that is a transcript
 
 audit_writes : (has : List ℕ → Bool) (chance : Chance) (job : Job) (b : Histories) (output : Written) → IsShowable job → IsLegalBook job.deal b → HoldsDigests b
-    → output ≡ reported true job b → length output.text ≤ limit → output_by has chance Audit output.text ≡ Ok (reported false job b)
-unfolding output_by reported
+    → output ≡ reported true job b → length output.text ≤ limit → output_given_chance has chance Audit output.text ≡ Ok (reported false job b)
+unfolding output_given_chance reported
 audit_writes has chance job b output showable legal digests is le =
     let text : output.text ≡ transcript job b = ap (λ (w : Written). w.text) is in
     let k : HasTranscript job b = record {
@@ -93,14 +93,14 @@ audit_writes has chance job b output showable legal digests is le =
 -- ---- what a run and a race write
 
 run_writes : (has : List ℕ → Bool) (chance : Chance) (input : List ℕ) (job : Job) (events : List Event) → parse_job has purposes.Run input ≡ Ok (job, events)
-    → output_by has chance (OfJob (Run false)) input ≡ Ok (reported false job (collected_book chance.answers job events))
-unfolding output_by
+    → output_given_chance has chance (OfJob (Run false)) input ≡ Ok (reported false job (collected_book chance.answers job events))
+unfolding output_given_chance
 run_writes has chance input job events e =
     ap (λ (r : Result (Job × List Event) Reason). r >>= λ j. Ok (reported false j.0 (collected_book chance.answers j.0 j.1))) e
 
 race_writes : (has : List ℕ → Bool) (chance : Chance) (ticks : ℕ) (input : List ℕ) (job : Job) → parse_job has purposes.Race input ≡ Ok (job, [])
-    → output_by has chance (OfJob (Race ticks false)) input ≡ Ok (reported false job chance.book)
-unfolding output_by
+    → output_given_chance has chance (OfJob (Race ticks false)) input ≡ Ok (reported false job chance.book)
+unfolding output_given_chance
 race_writes has chance ticks input job e =
     ap (λ (r : Result (Job × List Event) Reason). r >>= λ j. Ok (reported false j.0 chance.book)) e
 
@@ -113,7 +113,7 @@ same_found job b output is = ap (λ (w : Written). w.found) (sym is)
 
 audited_as : (has : List ℕ → Bool) (chance : Chance) (command : Command) (input : List ℕ) (job : Job) (b : Histories) (output : Written) → IsShowable job
     → IsLegalBook job.deal b → HoldsDigests b → output ≡ reported true job b → length output.text ≤ limit
-    → output_by has chance command input ≡ Ok (reported false job b) → IsAudited has chance command input output
+    → output_given_chance has chance command input ≡ Ok (reported false job b) → IsAudited has chance command input output
 audited_as has chance command input job b output showable legal digests is le writes = record {
   report = reported false job b;
   audited = audit_writes has chance job b output showable legal digests is le;
@@ -146,8 +146,8 @@ program_races_are_audited words before after found ticks done e le =
 -- ---- an audit that is done
 
 -- what an audit writes depends on no chance
-any_chance : (has : List ℕ → Bool) (a b : Chance) (text : List ℕ) → output_by has a Audit text ≡ output_by has b Audit text
-unfolding output_by
+any_chance : (has : List ℕ → Bool) (a b : Chance) (text : List ℕ) → output_given_chance has a Audit text ≡ output_given_chance has b Audit text
+unfolding output_given_chance
 any_chance has a b text = refl
 
 module _ (words others : List (List ℕ)) (before after first last : Streams) (found named : Bool)
@@ -158,12 +158,12 @@ module _ (words others : List (List ℕ)) (before after first last : Streams) (f
   within = subst (λ (l : List ℕ). length l ≤ limit) same told.read.within
 
   tells : (command : Command) → IsAudited is_known done.chance command done.read.input done.output
-      → (output_by is_known done.chance command done.read.input ≡ Ok told.output) × (named ≡ found)
+      → (output_given_chance is_known done.chance command done.read.input ≡ Ok told.output) × (named ≡ found)
   tells command k =
-      let asked : output_by is_known told.chance Audit told.read.input ≡ Ok told.output =
-      subst (λ (c : Command). output_by is_known told.chance c told.read.input ≡ Ok told.output) q told.read.gives in
-      let read : output_by is_known told.chance Audit done.output.text ≡ Ok told.output =
-      subst (λ (l : List ℕ). output_by is_known told.chance Audit l ≡ Ok told.output) same asked in
+      let asked : output_given_chance is_known told.chance Audit told.read.input ≡ Ok told.output =
+      subst (λ (c : Command). output_given_chance is_known told.chance c told.read.input ≡ Ok told.output) q told.read.gives in
+      let read : output_given_chance is_known told.chance Audit done.output.text ≡ Ok told.output =
+      subst (λ (l : List ℕ). output_given_chance is_known told.chance Audit l ≡ Ok told.output) same asked in
       let is : k.report ≡ told.output =
       ok_is k.report told.output (sym k.audited ∙ any_chance is_known done.chance told.chance done.output.text ∙ read) in (
         k.same ∙ ap (λ (w : Written). let r : Result Written Reason = Ok w in r) is,

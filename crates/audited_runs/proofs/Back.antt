@@ -6,7 +6,7 @@ use Rattle.refusals.specs.Refusal.{named}
 use Rattle.refusals.specs.declared.reason.Reason.{Reason}
 use Rattle.offer_header.specs.Names.{no_strategy}
 use Rattle.offer_text.specs.HeaderLine.{header_line}
-use Rattle.swap_offer.specs.Job.{names_at}
+use Rattle.swap_offer.specs.Job.{header_names}
 use Rattle.read_back.specs.Headers.{IsShowable, audited_job}
 use Rattle.read_back.proofs.HeaderOneLine.{header_is_one_line}
 use Rattle.read_back.proofs.HeaderShown.{header_reads}
@@ -14,7 +14,7 @@ use Rattle.read_back.proofs.HeaderWhole.{header_is_read_back}
 use Rattle.transcript_lines.specs.Lines.{transcript, transcript_lines, IsWholeTranscript}
 use Rattle.transcript_book.proofs.Legal.{legal_is_stated}
 use Rattle.transcript_reader.specs.Header.{header_read}
-use Rattle.transcript_reader.specs.Laws.{header_job, ok_of}
+use Rattle.transcript_reader.specs.Laws.{header_job, job_or_none}
 use Rattle.transcript_reader.proofs.Back.{whole_text_is_read}
 use Rattle.audited_runs.specs.Transcripts.{RoundTrip}
 use Rattle.audited_runs.proofs.Typed.{legal_is_typed}
@@ -23,7 +23,7 @@ header_gives : (job : Job) → IsShowable job → header_read (header_line job) 
 unfolding header_read
 header_gives job k =
     let line = header_reads job k in
-    ap (λ (r : Result Job Reason). named (names_at no_strategy Audit 2 (header_line job)) r)
+    ap (λ (r : Result Job Reason). named (header_names no_strategy Audit 2 (header_line job)) r)
     (header_is_read_back no_strategy job 2 (header_line job) k line.0 line.1)
 
 pub round_trip : RoundTrip
@@ -31,7 +31,7 @@ unfolding transcript
 round_trip job b k =
     let whole : IsWholeTranscript (header_job header_read) (transcript_lines (header_line job) b) (audited_job job) b = record {
       header = header_line job;
-      gives = ap ok_of (header_gives job k.showable);
+      gives = ap job_or_none (header_gives job k.showable);
       lines = refl;
       stated = legal_is_stated job.deal b k.legal (legal_is_typed job.deal b k.showable.sized k.legal k.digests);
     } in

@@ -3,7 +3,7 @@ use Rattle.std.proofs.Common.{◌==◌, ℕ, zero, suc, Bool, true, false, cond,
 use Rattle.std.specs.Prelude.{All}
 use Rattle.std.specs.List.{flat_map}
 use Rattle.std.proofs.lemmas.List.Elements.{All-append, All-cons, All-head, All-nil, All-tail}
-use Rattle.swap_base.specs.Lists.{first_of, or_else}
+use Rattle.swap_base.specs.Lists.{first_given_answer, or_else}
 use Rattle.swap_digraph.specs.Graph.{entering, is_listed, leaving}
 use Rattle.swap_digraph.specs.declared.deal.Deal.{Deal}
 use Rattle.swap_digraph.specs.Deal.{leads, locks}
@@ -18,12 +18,12 @@ use Rattle.ledger_core.specs.declared.entry.What.TheVariants.{Call as Made, Tick
 use Rattle.ledger_core.specs.declared.entry.Entry.{Entry}
 use Rattle.ledger_core.specs.History.{accepted, accepted_call, opened, opening, Opening}
 use Rattle.ledger_core.specs.Book.{Histories, history}
-use Rattle.swap_rules.specs.Party.{key_without}
+use Rattle.swap_rules.specs.Party.{key_without_party}
 use Rattle.swap_rules.specs.Due.{Action, Wallet, due, due_claims, due_key, due_publishes, due_refunds, due_arc_unlock, due_unlocks, extended, first}
 use Rattle.swap_rules.specs.Due.{is_due_claim, is_due_publish, is_due_refund, may_unlock, presented, seen_key, when_due}
 use Rattle.swap_job.specs.declared.moves.Move.{Move}
 use Rattle.swap_job.specs.declared.moves.Move.TheVariants.{Publish, Craft, Replay, Raw, Claim, Refund, Transfer, Wait}
-use Rattle.swap_job.specs.Crafted.{Seeds, crafted, crafted_onto}
+use Rattle.swap_job.specs.Crafted.{Seeds, crafted, crafted_within_limit}
 use Rattle.swap_job.specs.Resolved.{move_arc, call_of_move, build_call, key_opened, opening_named, resolved}
 use Rattle.typed_books.specs.Typed.{IsDigest}
 use Rattle.audited_runs.specs.Digests.{HasDigests, StatesDigests}
@@ -61,13 +61,13 @@ or_has : {A : Type 0} (P : A → Type 0) (o r : Option A) → May P o → May P 
 or_has P None r k l = l
 or_has P (Some x) r k l = k
 
-first_has : {A B : Type 0} (P : B → Type 0) (Q : A → Type 0) (f : A → Option B) (xs : List A) → ((x : A) → Q x → May P (f x)) → All Q xs → May P (first_of f xs)
+first_has : {A B : Type 0} (P : B → Type 0) (Q : A → Type 0) (f : A → Option B) (xs : List A) → ((x : A) → Q x → May P (f x)) → All Q xs → May P (first_given_answer f xs)
 first_has P Q f [] h k = tt
-first_has P Q f (x ∷ xs) h k = or_has P (f x) (first_of f xs) (h x (All-head Q x xs k)) (first_has P Q f xs h (All-tail Q x xs k))
+first_has P Q f (x ∷ xs) h k = or_has P (f x) (first_given_answer f xs) (h x (All-head Q x xs k)) (first_has P Q f xs h (All-tail Q x xs k))
 
-any_has : {A B : Type 0} (P : B → Type 0) (f : A → Option B) (xs : List A) → ((x : A) → May P (f x)) → May P (first_of f xs)
+any_has : {A B : Type 0} (P : B → Type 0) (f : A → Option B) (xs : List A) → ((x : A) → May P (f x)) → May P (first_given_answer f xs)
 any_has P f [] h = tt
-any_has P f (x ∷ xs) h = or_has P (f x) (first_of f xs) (h x) (any_has P f xs h)
+any_has P f (x ∷ xs) h = or_has P (f x) (first_given_answer f xs) (h x) (any_has P f xs h)
 
 map_has : {A B : Type 0} (P : B → Type 0) (g : A → B) (o : Option A) → May (λ x. P (g x)) o → May P (option_map g o)
 map_has P g None k = tt
@@ -105,7 +105,7 @@ key_opened_has : (b : Histories) (o : Option (ℕ × ℕ)) → BookHas b → May
 key_opened_has b None k = tt
 key_opened_has b (Some x) k = map_has KeyHas (λ (o : Opening). o.key) (opened (history b x.0) x.1) (opened_has (history b x.0) x.1 (history_has b x.0 k))
 
-without_has : (v : ℕ) (o : Option Opening) → May OpeningHas o → May KeyHas (key_without v o)
+without_has : (v : ℕ) (o : Option Opening) → May OpeningHas o → May KeyHas (key_without_party v o)
 without_has v None k = tt
 without_has v (Some o) k = by (is_listed v o.key.path)
   where
@@ -116,7 +116,7 @@ without_has v (Some o) k = by (is_listed v o.key.path)
 seen_has : (d : Deal) (b : Histories) (v i : ℕ) → BookHas b → May KeyHas (seen_key d v b i)
 unfolding seen_key
 seen_has d b v i k =
-    any_has KeyHas (λ a. key_without v (opened (history b a) i)) (leaving d.graph v)
+    any_has KeyHas (λ a. key_without_party v (opened (history b a) i)) (leaving d.graph v)
     (λ a. without_has v (opened (history b a) i) (opened_has (history b a) i (history_has b a k)))
 
 -- ---- the calls of moves
@@ -128,7 +128,7 @@ unlock_has (Some key) k = k
 call_has : (d : Deal) (seeds : Seeds) (key : Option Hashkey) (mv : Move) → All IsDigest d.hashlocks → May KeyHas key → MoveHas mv
     → May HasDigests (build_call d seeds key mv)
 call_has d seeds key (Craft a lock via None) locks k m = unlock_has (crafted d seeds lock None via) (crafted_has d seeds lock None via tt)
-call_has d seeds key (Craft a lock via (Some onto)) locks k m = unlock_has (crafted_onto d seeds lock key via) (onto_crafted_has d seeds lock key via k)
+call_has d seeds key (Craft a lock via (Some onto)) locks k m = unlock_has (crafted_within_limit d seeds lock key via) (onto_crafted_has d seeds lock key via k)
 call_has d seeds key (Replay a lock onto) locks k m = unlock_has key k
 call_has d seeds key (Publish a start delta bound timelock amount None) locks k m = locks
 call_has d seeds key (Publish a start delta bound timelock amount (Some given)) locks k m = m

@@ -8,13 +8,13 @@ use Rattle.swap_digraph.specs.declared.deal.Deal.{Deal}
 use Rattle.swap_digraph.specs.declared.deal.Mode.{Mode}
 use Rattle.swap_digraph.specs.declared.deal.Mode.TheVariants.{Timelocks, Hashkeys}
 use Rattle.swap_digraph.specs.Deal.{path_limit}
-use Rattle.hash_chains.specs.Chains.{chain_after, chain_start}
-use Rattle.hash_signature.specs.Signature.{digit, for_chains, derive_secret, parse_signature, signed_value}
+use Rattle.hash_chains.specs.Chains.{chain_value, chain_start}
+use Rattle.hash_signature.specs.Signature.{digit, for_chains, derive_secret, made_signature, signed_value}
 use Rattle.hashkey_path.specs.declared.hashkey.Hashkey.{Hashkey}
 use Rattle.hashkey_path.specs.Signed.{suffix_signature}
 use Rattle.party_wallet.specs.Keys.{onto_key, own_key}
 use Rattle.swap_rules.specs.Due.{Wallet}
-use Rattle.swap_job.specs.Crafted.{Seeds, crafted, crafted_onto, prepend_party, make_seed}
+use Rattle.swap_job.specs.Crafted.{Seeds, crafted, crafted_within_limit, prepend_party, make_seed}
 use Rattle.typed_books.specs.Typed.{IsDigest, IsSignature}
 use Rattle.read_back.proofs.Plain.{hash_is}
 
@@ -26,16 +26,16 @@ May P (Some x) = P x
 abbrev pub KeyHas : Hashkey → Type 0
 KeyHas key = IsDigest key.secret × All IsSignature key.sigs
 
-chain_is : (n : ℕ) (y : List ℕ) → IsDigest y → IsDigest (chain_after n y)
-unfolding chain_after
+chain_is : (n : ℕ) (y : List ℕ) → IsDigest y → IsDigest (chain_value n y)
+unfolding chain_value
 chain_is zero y k = k
-chain_is (suc n) y k = hash_is (2 ∷ chain_after n y)
+chain_is (suc n) y k = hash_is (2 ∷ chain_value n y)
 
 value_is : (seed : List ℕ) (party lock : ℕ) (message : List ℕ) (j : ℕ) → IsDigest (signed_value seed party lock message j)
 value_is seed party lock message j = chain_is (digit message j) (chain_start seed party lock j) (hash_is _)
 
-signature_is : (seed : List ℕ) (party lock : ℕ) (message : List ℕ) → IsSignature (parse_signature seed party lock message)
-unfolding parse_signature for_chains
+signature_is : (seed : List ℕ) (party lock : ℕ) (message : List ℕ) → IsSignature (made_signature seed party lock message)
+unfolding made_signature for_chains
 signature_is seed party lock message = record {
   size = length-map-range_with_len (signed_value seed party lock message) 0 67;
   values = All-map IsDigest (signed_value seed party lock message) (range_with_len 0 67) (λ k j lt. value_is seed party lock message _);
@@ -74,7 +74,7 @@ pub crafted_has : (d : Deal) (seeds : Seeds) (i : ℕ) (start : Option Hashkey) 
 crafted_has d seeds i start via k =
     fold_keeps (May KeyHas) (λ made v. Some (prepend_party d seeds i made v)) start (reverse via) k (λ made v m. put_has d seeds i made v m)
 
-pub onto_crafted_has : (d : Deal) (seeds : Seeds) (i : ℕ) (o : Option Hashkey) (via : List ℕ) → May KeyHas o → May KeyHas (crafted_onto d seeds i o via)
+pub onto_crafted_has : (d : Deal) (seeds : Seeds) (i : ℕ) (o : Option Hashkey) (via : List ℕ) → May KeyHas o → May KeyHas (crafted_within_limit d seeds i o via)
 onto_crafted_has d seeds i None via k = tt
 onto_crafted_has d seeds i (Some key) via k = by (nat_le (length via + length key.path) (path_limit d))
   where

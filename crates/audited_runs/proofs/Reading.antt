@@ -19,8 +19,8 @@ use Rattle.swap_job.specs.declared.job.Role.TheVariants as kinds
 use Rattle.swap_job.specs.declared.moves.Move.{Move}
 use Rattle.swap_job.specs.declared.moves.Move.TheVariants.{Publish, Craft, Replay, Raw, Claim, Refund, Transfer, Wait}
 use Rattle.offer_fields.specs.Fields.{parse_data}
-use Rattle.offer_fields.specs.Limits.{decoded, to_digest, ranged_number, within}
-use Rattle.offer_fields.specs.Lists.{each_of}
+use Rattle.offer_fields.specs.Limits.{decoded, to_digest, ranged_number, check_range}
+use Rattle.offer_fields.specs.Lists.{collected_results}
 use Rattle.offer_fields.specs.Names.{party_of_name}
 use Rattle.offer_fields.proofs.Chains.{each_all}
 use Rattle.offer_moves.specs.declared.moves.Sizes.{Sizes}
@@ -30,7 +30,7 @@ use Rattle.offer_moves.specs.declared.raw.RawCraft.{RawCraft}
 use Rattle.offer_moves.specs.declared.raw.RawMove.{RawMove}
 use Rattle.offer_moves.specs.declared.raw.RawMove.TheVariants as raws
 use Rattle.offer_moves.specs.Limits.{kept, parse_locks, bounded_number, optional_locks, optional_most, parse_sig}
-use Rattle.offer_moves.specs.Moves.{parse_arc, parse_claim, parse_craft, key_of, parse_move, optional_arc, make_publish, parse_refund, parse_replay}
+use Rattle.offer_moves.specs.Moves.{parse_arc, parse_claim, parse_craft, checked_hashkey, parse_move, optional_arc, make_publish, parse_refund, parse_replay}
 use Rattle.offer_moves.specs.Moves.{deal_sizes, parse_transfer}
 use Rattle.offer_moves.specs.Moves.{parse_unlock, parse_wait}
 use Rattle.offer_moves.specs.Placed.{adjacent, deviating}
@@ -38,7 +38,7 @@ use Rattle.offer_events.specs.declared.raw.RawEvent.{RawEvent}
 use Rattle.offer_events.specs.declared.raw.RawEvent.TheVariants as raw_events
 use Rattle.offer_events.specs.Event.{asked, checked, conforming_crash, parse_event, event_of_act, event_of_call, event_of_crash, event_of_look}
 use Rattle.offer_events.specs.Event.{event_of_tick, outside_race, permitted}
-use Rattle.offer_events.specs.Reading.{event_at}
+use Rattle.offer_events.specs.Reading.{raw_event}
 use Rattle.offer_header.specs.declared.limits.Acting.{Acting}
 use Rattle.offer_header.specs.declared.names.Numbered.{Numbered}
 use Rattle.offer_header.specs.declared.raw.RawActor.{RawActor}
@@ -47,13 +47,13 @@ use Rattle.offer_header.specs.declared.raw.RawHeader.{RawHeader}
 use Rattle.offer_header.specs.declared.raw.RawParty.{RawParty}
 use Rattle.offer_header.specs.declared.header.Header.{Header}
 use Rattle.offer_header.specs.Header.{parse_whole_header}
-use Rattle.offer_header.specs.Limits.{parse_acting, limited_of, count_parties, checked_role, script_role, checked_seed, header_sizes}
-use Rattle.offer_header.specs.Names.{numbered_of}
-use Rattle.offer_header.specs.Raw.{raw_of}
+use Rattle.offer_header.specs.Limits.{parse_acting, limited_value, count_parties, checked_role, script_role, checked_seed, header_sizes}
+use Rattle.offer_header.specs.Names.{numbered_header}
+use Rattle.offer_header.specs.Raw.{object_header}
 use Rattle.offer_header.specs.Scripts.{scripts_placed}
 use Rattle.offer_header.proofs.Limited.{opened}
 use Rattle.swap_offer.specs.Checks.{admitted, assemble_job}
-use Rattle.swap_offer.specs.Job.{accepted_entries, parse_events, job_header_of, limited_event, provided}
+use Rattle.swap_offer.specs.Job.{accepted_entries, parse_events, parse_header_job, limited_event, provided}
 use Rattle.typed_books.specs.Typed.{IsDigest, IsSignature}
 use Rattle.transcript_book.proofs.Exact.{each_value, many_values}
 use Rattle.read_back.proofs.Onward.{landed, onward}
@@ -83,8 +83,8 @@ kept_has ds h = by (nat_le (length ds) 8)
 locks_have : (line count : ℕ) (texts ds : List (List ℕ)) → parse_locks line count texts ≡ Ok ds → All IsDigest ds
 unfolding parse_locks
 locks_have line count texts =
-    onward (within line (codes "locks") count count (length texts)) _ (All IsDigest) (λ u w.
-    onward (each_of (to_digest line (codes "locks")) texts) _ (All IsDigest) (λ digests e.
+    onward (check_range line (codes "locks") count count (length texts)) _ (All IsDigest) (λ u w.
+    onward (collected_results (to_digest line (codes "locks")) texts) _ (All IsDigest) (λ digests e.
     landed (kept digests) (All IsDigest)
     (kept_has digests (each_all IsDigest (to_digest line (codes "locks")) (λ text xs d. digest_is line (codes "locks") text xs d) texts digests e))))
 
@@ -110,10 +110,10 @@ publish_has s line n t =
 craft_has : (s : Sizes) (names : List (List ℕ)) (line n : ℕ) (k : RawCraft) (mv : Move) → parse_craft s names line n k ≡ Ok mv → MoveHas mv
 unfolding parse_craft
 craft_has s names line n k =
-    onward (each_of (party_of_name line names) k.via) _ MoveHas (λ via a.
+    onward (collected_results (party_of_name line names) k.via) _ MoveHas (λ via a.
     onward (parse_arc s line (codes "arc") n) _ MoveHas (λ arc b.
     onward (bounded_number line (codes "lock") s.locks k.lock) _ MoveHas (λ lock c.
-    onward (within line (codes "via") 1 s.path (length k.via)) _ MoveHas (λ u e.
+    onward (check_range line (codes "via") 1 s.path (length k.via)) _ MoveHas (λ u e.
     onward (optional_arc s line (codes "onto") k.onto) _ MoveHas (λ onto f. landed (Craft arc lock via onto) MoveHas tt)))))
 
 replay_has : (s : Sizes) (line n m k : ℕ) (mv : Move) → parse_replay s line n m k ≡ Ok mv → MoveHas mv
@@ -123,14 +123,14 @@ replay_has s line n m k =
     onward (bounded_number line (codes "lock") s.locks m) _ MoveHas (λ lock b.
     onward (parse_arc s line (codes "onto") k) _ MoveHas (λ onto c. landed (Replay arc lock onto) MoveHas tt)))
 
-key_has : (s : Sizes) (line : ℕ) (path : List ℕ) (k : RawKey) (key : Hashkey) → key_of s line path k ≡ Ok key → KeyHas key
-unfolding key_of
+key_has : (s : Sizes) (line : ℕ) (path : List ℕ) (k : RawKey) (key : Hashkey) → checked_hashkey s line path k ≡ Ok key → KeyHas key
+unfolding checked_hashkey
 key_has s line path k =
     onward (bounded_number line (codes "lock") s.locks k.lock) _ KeyHas (λ lock a.
     onward (to_digest line (codes "secret") k.secret) _ KeyHas (λ secret b.
-    onward (within line (codes "path") 0 s.path (length k.path)) _ KeyHas (λ u c.
-    onward (within line (codes "sigs") 0 s.path (length k.sigs)) _ KeyHas (λ w e.
-    onward (each_of (parse_sig line) k.sigs) _ KeyHas (λ sigs f.
+    onward (check_range line (codes "path") 0 s.path (length k.path)) _ KeyHas (λ u c.
+    onward (check_range line (codes "sigs") 0 s.path (length k.sigs)) _ KeyHas (λ w e.
+    onward (collected_results (parse_sig line) k.sigs) _ KeyHas (λ sigs f.
     landed (record { lock = lock; secret = secret; path = path; sigs = sigs }) KeyHas (
       digest_is line (codes "secret") k.secret secret b,
       each_all IsSignature (parse_sig line) (sig_has line) k.sigs sigs f,
@@ -139,9 +139,9 @@ key_has s line path k =
 unlock_has : (s : Sizes) (names : List (List ℕ)) (line n : ℕ) (k : RawKey) (mv : Move) → parse_unlock s names line n k ≡ Ok mv → MoveHas mv
 unfolding parse_unlock
 unlock_has s names line n k =
-    onward (each_of (party_of_name line names) k.path) _ MoveHas (λ path a.
+    onward (collected_results (party_of_name line names) k.path) _ MoveHas (λ path a.
     onward (parse_arc s line (codes "arc") n) _ MoveHas (λ arc b.
-    onward (key_of s line path k) _ MoveHas (λ key c. landed (Raw arc key) MoveHas (key_has s line path k key c))))
+    onward (checked_hashkey s line path k) _ MoveHas (λ key c. landed (Raw arc key) MoveHas (key_has s line path k key c))))
 
 claim_has : (s : Sizes) (line n : ℕ) (mv : Move) → parse_claim s line n ≡ Ok mv → MoveHas mv
 unfolding parse_claim
@@ -182,8 +182,8 @@ unfolding script_role
 role_has s names line Conforming = landed kinds.Conforming RoleHas tt
 role_has s names line Manual = landed kinds.Manual RoleHas tt
 role_has s names line (Script raws) =
-    onward (within line (codes "script") 0 1000 (length raws)) _ RoleHas (λ u w.
-    onward (each_of (parse_move s names line) raws) _ RoleHas (λ moves e.
+    onward (check_range line (codes "script") 0 1000 (length raws)) _ RoleHas (λ u w.
+    onward (collected_results (parse_move s names line) raws) _ RoleHas (λ moves e.
     landed (kinds.Script moves) RoleHas (each_all MoveHas (parse_move s names line) (move_has s names line) raws moves e)))
 role_has s names line (Strategy name) = landed (kinds.Strategy name) RoleHas tt
 
@@ -200,13 +200,13 @@ actings_have : (v : Version) (s : Sizes) (names : List (List ℕ)) (line : ℕ) 
     → count_parties v s names line ps ≡ Ok acting → All ActingHas acting
 unfolding count_parties
 actings_have v s names line ps =
-    onward (within line (codes "parties") 2 (most_parties v) (length ps)) _ (All ActingHas)
+    onward (check_range line (codes "parties") 2 (most_parties v) (length ps)) _ (All ActingHas)
     (λ u w acting e. each_all ActingHas (parse_acting s names line) (acting_has s names line) ps acting e)
 
 abbrev HeaderHas : Header → Type 0
 HeaderHas h = All RoleHas h.roles
 
-limited_has : (purpose : Purpose) (line : ℕ) (raw : RawHeader) (n : Numbered) (h : Header) → limited_of purpose line raw n ≡ Ok h → HeaderHas h
+limited_has : (purpose : Purpose) (line : ℕ) (raw : RawHeader) (n : Numbered) (h : Header) → limited_value purpose line raw n ≡ Ok h → HeaderHas h
 limited_has purpose line raw n h e =
     let o = opened line purpose raw n h e in
     subst (All RoleHas) (ap (λ (x : Header). x.roles) o.same)
@@ -217,9 +217,9 @@ header_has : (has : List ℕ → Bool) (purpose : Purpose) (line : ℕ) (text : 
 unfolding parse_whole_header
 header_has has purpose line text =
     onward (parse_data line text) _ HeaderHas (λ d o.
-    onward (raw_of purpose line d) _ HeaderHas (λ raw r.
-    onward (numbered_of has line raw) _ HeaderHas (λ n m.
-    onward (limited_of purpose line raw n) _ HeaderHas (λ h l.
+    onward (object_header purpose line d) _ HeaderHas (λ raw r.
+    onward (numbered_header has line raw) _ HeaderHas (λ n m.
+    onward (limited_value purpose line raw n) _ HeaderHas (λ h l.
     onward (scripts_placed line h) _ HeaderHas (λ u s. landed h HeaderHas (limited_has purpose line raw n h l))))))
 
 abbrev pub JobHas : Job → Type 0
@@ -231,9 +231,9 @@ accepted_has h job k =
     onward (admitted h) _ JobHas (λ g a.
     onward (provided (assemble_job h g)) _ JobHas (λ u p. landed (assemble_job h g) JobHas k)) job
 
-pub header_job_has : (has : List ℕ → Bool) (purpose : Purpose) (line : ℕ) (text : List ℕ) (job : Job) → job_header_of has purpose line text ≡ Ok job
+pub header_job_has : (has : List ℕ → Bool) (purpose : Purpose) (line : ℕ) (text : List ℕ) (job : Job) → parse_header_job has purpose line text ≡ Ok job
     → JobHas job
-unfolding job_header_of
+unfolding parse_header_job
 header_job_has has purpose line text =
     onward (parse_whole_header has purpose line text) _ JobHas (λ h e job a. accepted_has h job (header_has has purpose line text h e) a)
 
@@ -289,7 +289,7 @@ event_has : (job : Job) (line : ℕ) (text : List ℕ) (e : Event) → parse_eve
 unfolding parse_event
 event_has job line text =
     onward (parse_data line text) _ EventHas (λ d o.
-    onward (event_at line d) _ EventHas (λ raw r e a. asked_has job line raw e a))
+    onward (raw_event line d) _ EventHas (λ raw r e a. asked_has job line raw e a))
 
 next_has : (job : Job) (count line : ℕ) (text : List ℕ) (e : Event) → limited_event job count line text ≡ Ok e → EventHas e
 unfolding limited_event

@@ -3,7 +3,7 @@ use Rattle.std.proofs.Common.{◌≡◌, ◌==◌, ◌+◌, ◌<◌, ℕ, suc, t
 use Rattle.std.proofs.Common.{append_assoc, append-nil, eq-eqb}
 use Rattle.std.specs.List.{AllByRecursion}
 use Rattle.swap_base.specs.Fault.{◌>>=◌, steps}
-use Rattle.swap_base.specs.Lists.{moments_after}
+use Rattle.swap_base.specs.Lists.{moments_after_past}
 use Rattle.swap_digraph.specs.declared.deal.Deal.{Deal}
 use Rattle.escrow_core.specs.declared.reply.Reply.{Reply}
 use Rattle.escrow_core.specs.declared.reply.Reply.TheVariants.{Accepted, Settled, NotCounterparty, NotParty, AlreadyUnlocked, WrongSecret, WrongPath}
@@ -55,7 +55,7 @@ module _ (d : Deal) (a : ℕ) where
   entry_on past e l =
       entry_stands d a past (past ++ e ∷ []) e e.reply (legal_reply d a past e.sender e.what e.height e.reply l) (same_self e.reply) refl
 
-  replay_on : (past h : List Entry) → AllByRecursion (IsLegalMoment d a) (moments_after past h) → steps (with_entry d a) past h ≡ Ok (past ++ h)
+  replay_on : (past h : List Entry) → AllByRecursion (IsLegalMoment d a) (moments_after_past past h) → steps (with_entry d a) past h ≡ Ok (past ++ h)
   unfolding steps
   replay_on past [] l = ap (λ (x : List Entry). Ok x) (sym (append-nil past))
   replay_on past (e ∷ h) l =

@@ -11,15 +11,15 @@ use Rattle.swap_auditor.specs.Audit.{audited}
 use Rattle.report_text.specs.Report.{report}
 use Rattle.transcript_lines.specs.Lines.{transcript}
 use Rattle.transcript_reader.specs.Reading.{Story}
-use Rattle.audit_command.specs.Output.{audit_output, by_replies, by_text, judged, story, story_in, told, story_output}
+use Rattle.audit_command.specs.Output.{audit_output, by_replies, by_text, judged, story, input_story, told, story_output}
 use Rattle.command_input.specs.Written.{Written}
 use Rattle.read_back.specs.Headers.{audited_job}
 use Rattle.audited_runs.specs.Transcripts.{HasTranscript, SameReport, reported_book}
 use Rattle.audited_runs.proofs.Back.{round_trip}
 use Rattle.audited_runs.proofs.Replays.{book_stands}
 
-story_is : (job : Job) (b : Histories) → HasTranscript job b → story_in (transcript job b) ≡ Ok (story (audited_job job) b)
-unfolding story_in
+story_is : (job : Job) (b : Histories) → HasTranscript job b → input_story (transcript job b) ≡ Ok (story (audited_job job) b)
+unfolding input_story
 story_is job b k = ap by_text (round_trip job b k)
 
 report_is : (job : Job) (b : Histories) → HasTranscript job b → audited job.deal job.conforming b ≡ Ok (build_report job.deal job.conforming b)

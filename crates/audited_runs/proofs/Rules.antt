@@ -16,7 +16,7 @@ use Rattle.ledger_core.specs.declared.entry.What.TheVariants.{Call as Made, Tick
 use Rattle.ledger_core.specs.declared.entry.Entry.{Entry}
 use Rattle.ledger_core.specs.History.{accepted, accepted_call}
 use Rattle.ledger_core.specs.Book.{Histories}
-use Rattle.deviators.specs.Rules.{around, greedy, fetch_key, keys_known, replayer, silent, spoiled_terms, spoiler, make_unlock}
+use Rattle.deviators.specs.Rules.{around, greedy, call_keys, keys_known, replayer, silent, spoiled_terms, spoiler, make_unlock}
 use Rattle.deviators.specs.Program.{program_rule}
 use Rattle.typed_books.specs.Typed.{IsDigest}
 use Rattle.audited_runs.specs.Digests.{StatesDigests}
@@ -41,7 +41,7 @@ unlocks None r k = tt
 unlocks (Some a) None k = tt
 unlocks (Some a) (Some key) k = k
 
-key_in_has : (w : What) (r : Reply) → StatesDigests w → All KeyHas (fetch_key (accepted_call w r))
+key_in_has : (w : What) (r : Reply) → StatesDigests w → All KeyHas (call_keys (accepted_call w r))
 key_in_has (Made (calls.Unlock key)) Accepted h = All-cons KeyHas key [] h (All-nil KeyHas)
 key_in_has (Made (calls.Publish terms)) Accepted h = All-nil KeyHas
 key_in_has (Made calls.Claim) Accepted h = All-nil KeyHas
@@ -50,16 +50,16 @@ key_in_has (Made (calls.Transfer to units)) Accepted h = All-nil KeyHas
 key_in_has (Made c) _ h = All-nil KeyHas
 key_in_has (Tick k) r h = All-nil KeyHas
 
-read_keys : (h : List Entry) → Has h → All KeyHas (flat_map (λ e. fetch_key (accepted e)) h)
+read_keys : (h : List Entry) → Has h → All KeyHas (flat_map (λ e. call_keys (accepted e)) h)
 read_keys [] k = All-nil KeyHas
 read_keys (e ∷ h) k =
-    All-append KeyHas (fetch_key (accepted e)) (flat_map (λ e. fetch_key (accepted e)) h) (key_in_has e.what e.reply (All-head EntryHas e h k))
+    All-append KeyHas (call_keys (accepted e)) (flat_map (λ e. call_keys (accepted e)) h) (key_in_has e.what e.reply (All-head EntryHas e h k))
     (read_keys h (All-tail EntryHas e h k))
 
 all_keys : (b : Histories) → BookHas b → All KeyHas (keys_known b)
 all_keys [] k = All-nil KeyHas
 all_keys (h ∷ b) k =
-    All-append KeyHas (flat_map (λ e. fetch_key (accepted e)) h) (keys_known b) (read_keys h (All-head Has h b k)) (all_keys b (All-tail Has h b k))
+    All-append KeyHas (flat_map (λ e. call_keys (accepted e)) h) (keys_known b) (read_keys h (All-head Has h b k)) (all_keys b (All-tail Has h b k))
 
 by_test : (t : Bool) (x y : Option (ℕ × Call)) → May AnswerHas x → May AnswerHas y → May AnswerHas (cond t x y)
 by_test true x y h k = h

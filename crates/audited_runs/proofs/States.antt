@@ -9,7 +9,7 @@ use Rattle.swap_digraph.specs.Graph.{arcs}
 use Rattle.swap_job.specs.Fitting.{is_near}
 use Rattle.swap_digraph.specs.declared.deal.Deal.{Deal}
 use Rattle.hashkey_path.specs.declared.hashkey.Hashkey.{Hashkey}
-use Rattle.party_wallet.specs.Value.{signed_in}
+use Rattle.party_wallet.specs.Value.{signed_hashkey}
 use Rattle.ledger_core.specs.declared.entry.Call.{Call}
 use Rattle.ledger_core.specs.declared.entry.Call.TheVariants as calls
 use Rattle.ledger_core.specs.declared.entry.Entry.{Entry}
@@ -27,10 +27,10 @@ use Rattle.swap_job.specs.declared.job.Role.TheVariants.{Conforming, Manual, Scr
 use Rattle.swap_job.specs.declared.moves.Move.{Move}
 use Rattle.swap_job.specs.Resolved.{resolved}
 use Rattle.deviators.specs.Script.{first_call, is_finished, is_wait, moves_left, next_call, past_waits, without_first}
-use Rattle.swap_run.specs.Run.{Cast, Notes, Plan, Question, State, act, act_as, after_question, after_tick, after_turn, answer_for, ask, conforms}
+use Rattle.swap_run.specs.Run.{Cast, Notes, Plan, Question, State, act, role_act, after_question, after_tick, after_turn, answered_call, ask, conforms}
 use Rattle.swap_run.specs.Run.{first_plan, follow, is_party_answer, is_clock_full_reply, is_planned, look, make, next_action, no_histories, no_notes}
-use Rattle.swap_run.specs.Run.{state_notes, party_plan, question, plan_up_to, plans_seen, party_role, run, continued_run, signed_after, start, step}
-use Rattle.swap_run.specs.Run.{take_call, watch, crash, is_recorded, recorded_after, relearnt}
+use Rattle.swap_run.specs.Run.{state_notes, party_plan, question, plan_with_ledger, plans_seen, party_role, run, continued_run, signed_through_call, start, step}
+use Rattle.swap_run.specs.Run.{take_call, watch, crash, is_recorded, recorded_hashkeys, relearnt}
 use Rattle.swap_run.specs.Fair.{acts, adjacent_arcs, finish, has_ended, looks, most_acts, repeat, round, round_unless_ended, the_horizon, tick_low, ticks, turn}
 use Rattle.swap_run.specs.Fair.{turns}
 use Rattle.swap_commands.specs.Output.{finished}
@@ -89,13 +89,13 @@ plan_has : (s : State) (v : ℕ) → All PlanHas s.plans → PlanHas (party_plan
 plan_has s v k =
     at_or PlanHas s.plans v (record { known = []; moves = []; turns = 0 }) (record { known = All-nil Has; moves = All-nil MoveHas }) k
 
-signed_has : (signed : List (Option Hashkey)) (i : ℕ) → All (May KeyHas) signed → May KeyHas (signed_in signed i)
+signed_has : (signed : List (Option Hashkey)) (i : ℕ) → All (May KeyHas) signed → May KeyHas (signed_hashkey signed i)
 signed_has signed i k = at_or (May KeyHas) signed i None tt k
 
-noted_has : (signed : List (Option Hashkey)) (c : Call) (i : ℕ) → HasDigests c → All (May KeyHas) signed → May KeyHas (noted (signed_in signed) c i)
+noted_has : (signed : List (Option Hashkey)) (c : Call) (i : ℕ) → HasDigests c → All (May KeyHas) signed → May KeyHas (noted (signed_hashkey signed) c i)
 noted_has signed (calls.Unlock key) i h k = by (i == key.lock)
   where
-    by : (t : Bool) → May KeyHas (cond t (Some key) (signed_in signed i))
+    by : (t : Bool) → May KeyHas (cond t (Some key) (signed_hashkey signed i))
     by true = h
     by false = signed_has signed i k
 noted_has signed (calls.Publish t) i h k = signed_has signed i k
@@ -103,9 +103,9 @@ noted_has signed calls.Claim i h k = signed_has signed i k
 noted_has signed calls.Refund i h k = signed_has signed i k
 noted_has signed (calls.Transfer to units) i h k = signed_has signed i k
 
-after_has : (signed : List (Option Hashkey)) (c : Call) → HasDigests c → All (May KeyHas) signed → All (May KeyHas) (signed_after signed c)
+after_has : (signed : List (Option Hashkey)) (c : Call) → HasDigests c → All (May KeyHas) signed → All (May KeyHas) (signed_through_call signed c)
 after_has signed c h k =
-    All-map (May KeyHas) (noted (signed_in signed) c) (range_with_len 0 (length signed)) (λ j d lt. noted_has signed c _ h k)
+    All-map (May KeyHas) (noted (signed_hashkey signed) c) (range_with_len 0 (length signed)) (λ j d lt. noted_has signed c _ h k)
 
 -- ---- scripts
 
@@ -143,10 +143,10 @@ module _ (c : Cast) (hashlocks : All IsDigest c.deal.hashlocks) (wallets : (v : 
   seen_has : (s : State) (v a : ℕ) (h : List Entry) → Has h → All PlanHas s.plans → All PlanHas (plans_seen c s v a h)
   seen_has s v a h p k = by (is_planned (party_role c v))
     where
-      by : (t : Bool) → All PlanHas (cond t (slice_set s.plans v (plan_up_to (party_plan s v) a h)) s.plans)
+      by : (t : Bool) → All PlanHas (cond t (slice_set s.plans v (plan_with_ledger (party_plan s v) a h)) s.plans)
       by true =
           let n = plan_has s v k in
-          All-set PlanHas s.plans v (plan_up_to (party_plan s v) a h)
+          All-set PlanHas s.plans v (plan_with_ledger (party_plan s v) a h)
           (record { known = set_has (party_plan s v).known a h p n.known; moves = n.moves }) k
       by false = k
 
@@ -185,7 +185,7 @@ module _ (c : Cast) (hashlocks : All IsDigest c.deal.hashlocks) (wallets : (v : 
   act_has v s k =
       let n = notes_have s v k.notes in
       make_has s v (next_action c s v)
-      (next_has c.deal v (c.wallet v) (signed_in (state_notes s v).signed) (state_notes s v).known hashlocks (wallets v)
+      (next_has c.deal v (c.wallet v) (signed_hashkey (state_notes s v).signed) (state_notes s v).known hashlocks (wallets v)
       (λ i. signed_has (state_notes s v).signed i n.signed) n.known) k
 
   follow_has : (v : ℕ) (s : State) → StateHas s → StateHas (follow c s v)
@@ -198,7 +198,7 @@ module _ (c : Cast) (hashlocks : All IsDigest c.deal.hashlocks) (wallets : (v : 
       (turned_has s v (moves_left (party_plan s v).known (party_plan s v).moves) (without_has (past_waits (party_plan s v).known
       (party_plan s v).moves) past) k)
 
-  answer_has : (v : ℕ) (o : Option (ℕ × Call)) → May AnswerHas o → May AnswerHas (answer_for c.deal v o)
+  answer_has : (v : ℕ) (o : Option (ℕ × Call)) → May AnswerHas o → May AnswerHas (answered_call c.deal v o)
   answer_has v None h = tt
   answer_has v (Some x) h = by (is_party_answer c.deal v x)
     where
@@ -213,7 +213,7 @@ module _ (c : Cast) (hashlocks : All IsDigest c.deal.hashlocks) (wallets : (v : 
 
   ask_has : (v : ℕ) (name : List ℕ) (s : State) → May AnswerHas (c.answers (length s.asked)) → StateHas s → StateHas (ask c s v name)
   ask_has v name s answer k =
-      take_has (after_question s v name) v (answer_for c.deal v (c.answers (length s.asked)))
+      take_has (after_question s v name) v (answered_call c.deal v (c.answers (length s.asked)))
       (answer_has v (c.answers (length s.asked)) answer) (asked_has s v name k)
 
   look_has : (v a : ℕ) (s : State) → StateHas s → StateHas (look s v a)
@@ -229,11 +229,11 @@ module _ (c : Cast) (hashlocks : All IsDigest c.deal.hashlocks) (wallets : (v : 
       }
 
   recorded_has : (signed : List (Option Hashkey)) (o : Option Action) (k image : ℕ) → May ActionHas o → All (May KeyHas) signed
-      → All (May KeyHas) (recorded_after signed o k image)
+      → All (May KeyHas) (recorded_hashkeys signed o k image)
   recorded_has signed None k image h all = all
   recorded_has signed (Some x) k image h all = by (is_recorded k image)
     where
-      by : (t : Bool) → All (May KeyHas) (cond t (signed_after signed x.call) signed)
+      by : (t : Bool) → All (May KeyHas) (cond t (signed_through_call signed x.call) signed)
       by true = after_has signed x.call h all
       by false = all
 
@@ -253,7 +253,7 @@ module _ (c : Cast) (hashlocks : All IsDigest c.deal.hashlocks) (wallets : (v : 
         notes = All-set NotesHave s.notes v _ (record {
           known = relearnt_has v s.book has.book;
           signed = recorded_has (state_notes s v).signed (next_action c s v) k image
-              (next_has c.deal v (c.wallet v) (signed_in (state_notes s v).signed) (state_notes s v).known hashlocks (wallets v)
+              (next_has c.deal v (c.wallet v) (signed_hashkey (state_notes s v).signed) (state_notes s v).known hashlocks (wallets v)
               (λ i. signed_has (state_notes s v).signed i n.signed) n.known) n.signed;
         }) has.notes;
         plans = has.plans;
@@ -289,7 +289,8 @@ module _ (c : Cast) (hashlocks : All IsDigest c.deal.hashlocks) (wallets : (v : 
     plans = All-map PlanHas (first_plan c.deal) c.roles (λ k d lt. role_plan_has _ (roles k d lt));
   }
 
-  -- ---- walks: what leads from state to state, by answers that hold digests as long as their questions do
+  -- ---- walks: what leads from state to state, by answers that hold digests as long as their
+  -- questions do
 
   module _ (total : List Question)
       (sure : (i : ℕ) (q : Question) → i < length total → q ≡ slice_index_or total i q → BookHas q.known → May AnswerHas (c.answers i)) where
@@ -297,7 +298,8 @@ module _ (c : Cast) (hashlocks : All IsDigest c.deal.hashlocks) (wallets : (v : 
     abbrev BeginsIn : State → Type 0
     BeginsIn s = (rest : List Question) × (total ≡ s.asked ++ rest)
 
-    -- A walk: questions come behind those so far, and where they are the first of all, the new state holds digests as the old one does.
+    -- A walk: questions come behind those so far, and where they are the first of all, the new
+    -- state holds digests as the old one does.
     record Walks (f : State → State) : Type 0 where
       grows : (s : State) → (more : List Question) × ((f s).asked ≡ s.asked ++ more)
       keeps : (s : State) → BeginsIn (f s) → StateHas s → StateHas (f s)
@@ -347,7 +349,7 @@ module _ (c : Cast) (hashlocks : All IsDigest c.deal.hashlocks) (wallets : (v : 
     -- ---- steps
 
     asked_more : (v : ℕ) (name : List ℕ) (s : State) → (ask c s v name).asked ≡ s.asked ++ question s v name ∷ []
-    asked_more v name s = taken_asked c (after_question s v name) v (answer_for c.deal v (c.answers (length s.asked)))
+    asked_more v name s = taken_asked c (after_question s v name) v (answered_call c.deal v (c.answers (length s.asked)))
 
     answered : (v : ℕ) (name : List ℕ) (s : State) → BeginsIn (ask c s v name) → StateHas s → May AnswerHas (c.answers (length s.asked))
     answered v name s b k =
@@ -366,7 +368,7 @@ module _ (c : Cast) (hashlocks : All IsDigest c.deal.hashlocks) (wallets : (v : 
       keeps = λ s b k. ask_has v name s (answered v name s b k) k;
     }
 
-    acts_as : (v : ℕ) (role : Role) → Walks (λ s. act_as c s v role)
+    acts_as : (v : ℕ) (role : Role) → Walks (λ s. role_act c s v role)
     acts_as v Conforming = rests
     acts_as v Manual = rests
     acts_as v (Script moves) =
@@ -382,7 +384,7 @@ module _ (c : Cast) (hashlocks : All IsDigest c.deal.hashlocks) (wallets : (v : 
 
     acting : (v : ℕ) → Walks (λ s. step c s (Act v))
     acting v =
-        either (λ s. conforms c v) (λ s. act c s v) (λ s. act_as c s v (party_role c v))
+        either (λ s. conforms c v) (λ s. act c s v) (λ s. role_act c s v (party_role c v))
         (unasked (λ s. act c s v) (λ s. made_asked c.deal s v (next_action c s v)) (act_has v)) (acts_as v (party_role c v))
 
     ticking : (a n : ℕ) → Walks (λ s. step c s (Tick a n))

@@ -11,7 +11,7 @@ use Rattle.read_back.specs.Made.{told_job}
 use Rattle.read_back.proofs.Generated.{generated_text_is_read_back}
 use Rattle.read_back.proofs.Runs.{same_book}
 use Rattle.swap_commands.specs.Generated.{summary_output}
-use Rattle.swap_commands.specs.Output.{collected_book, output_by, job_output, reported, Chance}
+use Rattle.swap_commands.specs.Output.{collected_book, output_given_chance, job_output, reported, Chance}
 use Rattle.swap_commands.specs.Words.{OfJob, Run}
 use Rattle.program_words.specs.declared.task.Request.{Request}
 use Rattle.audited_runs.specs.Generated.{summed, GeneratedRunsAreSummed}
@@ -26,8 +26,8 @@ module _ (has : List ℕ → Bool) (chance : Chance) (transcript : Bool) (r : Re
   unfolding plain_job
   book_is = same_book chance.answers r.seed r.parties r.events
 
-  run_is : output_by has chance (OfJob (Run transcript)) (generated_text r.seed r.parties r.events) ≡ Ok (summed transcript r)
-  unfolding output_by
+  run_is : output_given_chance has chance (OfJob (Run transcript)) (generated_text r.seed r.parties r.events) ≡ Ok (summed transcript r)
+  unfolding output_given_chance
   run_is =
       ap (job_output chance (Run transcript) (filled_lines 1 (collect_lines (generated_text r.seed r.parties r.events))))
       (generated_text_is_read_back has r.seed r.parties r.events many few few_events purposes.Run refl tt)

@@ -5,7 +5,7 @@ use Rattle.std.specs.Prelude.{All}
 use Rattle.std.specs.List.{list_all, AllByRecursion}
 use Rattle.std.proofs.lemmas.Bool.{leb-true}
 use Rattle.std.proofs.lemmas.List.Elements.{All-nil, All-cons}
-use Rattle.swap_base.specs.Lists.{IsIn, moments_after}
+use Rattle.swap_base.specs.Lists.{IsElement, moments_after_past}
 use Rattle.swap_base.proofs.Lists.{all_moments_push, and_parts, from_range}
 use Rattle.swap_digraph.specs.Graph.{listed_arcs}
 use Rattle.swap_digraph.specs.declared.deal.Deal.{Deal}
@@ -27,7 +27,7 @@ use Rattle.ledger_core.specs.declared.entry.Sender.TheVariants.{Party, Clock}
 use Rattle.ledger_core.specs.declared.entry.What.{What}
 use Rattle.ledger_core.specs.declared.entry.What.TheVariants.{Call as Made, Tick}
 use Rattle.ledger_core.specs.declared.entry.Entry.{Entry}
-use Rattle.ledger_core.specs.History.{accounts, balance, fit, is_clock_full, is_open, published, rows, the_terms, parse_terms, Publication, IsLegal}
+use Rattle.ledger_core.specs.History.{accounts, balance, fit, is_clock_full, is_open, published, rows, the_terms, publication_terms, Publication, IsLegal}
 use Rattle.ledger_core.specs.History.{IsLegalEntry}
 use Rattle.ledger_core.specs.History.{IsLegalMoment}
 use Rattle.ledger_core.specs.Book.{history}
@@ -168,7 +168,7 @@ least_low f n [] h = omega arith
 least_low f n (x ∷ []) h = h x
 least_low f n (x ∷ y ∷ xs) h = let one : f x ≤ n = h x in omega (arith, one)
 
-closed_low : (is_open : ℕ → Bool) (xs : List ℕ) → ((x : ℕ) → IsIn x xs → x < 256) → closed_lock is_open xs < 256
+closed_low : (is_open : ℕ → Bool) (xs : List ℕ) → ((x : ℕ) → IsElement x xs → x < 256) → closed_lock is_open xs < 256
 closed_low is_open [] h = omega arith
 closed_low is_open (x ∷ xs) h = by (is_open x) (closed_low is_open xs (λ y i. h y (inr i)))
   where
@@ -194,14 +194,14 @@ module _ (d : Deal) (sized : IsWellSized d) (a : ℕ) (lt : a < length d.graph.a
   the_low : (past : List Entry) → IsLegal d a past → AreLow (the_terms past)
   the_low past l = by (published past) refl
     where
-      by : (o : Option Publication) → published past ≡ o → AreLow (parse_terms o)
+      by : (o : Option Publication) → published past ≡ o → AreLow (publication_terms o)
       by None e = record { start = omega arith; delta = omega arith; bound = omega arith; timelock = omega arith; amount = omega arith }
       by (Some p) e = low_terms d a p.terms (published_done d a past p l e).act.fits
 
   short_path : (key : Hashkey) → IsTrue (fit d a (Unlock key)) → length key.path ≤ 32
   short_path key f = omega (arith, (fit_path d a key f).0, short_paths d.version)
 
-  few_locks : (i : ℕ) → IsIn i (locks d) → i < 256
+  few_locks : (i : ℕ) → IsElement i (locks d) → i < 256
   few_locks i is = let few : length d.leaders ≤ 8 = sized.leaders.1 in omega (arith, few, from_range i (length d.leaders) is)
 
   typed_rows : (past : List Entry) (p : ℕ) (c : Call) → IsLegal d a past → IsTrue (fit d a c) → AreTypedRows (rows d a past p c)
@@ -260,7 +260,7 @@ module _ (d : Deal) (sized : IsWellSized d) (a : ℕ) (lt : a < length d.graph.a
   typed_parts past (Party p) (Tick k) at reply before l h = absurd l
   typed_parts past Clock (Made c) at reply before l h = absurd l
 
-  typed_all : (past h : List Entry) → IsLegal d a past → AllByRecursion (IsLegalMoment d a) (moments_after past h) → All (λ e. StatesDigests e.what) h
+  typed_all : (past h : List Entry) → IsLegal d a past → AllByRecursion (IsLegalMoment d a) (moments_after_past past h) → All (λ e. StatesDigests e.what) h
       → All IsTyped h
   typed_all past [] before l k = All-nil IsTyped
   typed_all past (e ∷ h) before l k =

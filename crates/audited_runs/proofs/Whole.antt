@@ -8,8 +8,8 @@ use Rattle.swap_job.specs.declared.job.Job.{Job}
 use Rattle.swap_job.specs.declared.job.Purpose.TheVariants as purposes
 use Rattle.swap_run.specs.Asked.{Answers}
 use Rattle.swap_run.specs.Run.{Question}
-use Rattle.swap_world.specs.Cast.{wallet_with}
-use Rattle.swap_offer.specs.Job.{parse_events, job_header_of, parse_job, job_of_lines}
+use Rattle.swap_world.specs.Cast.{signing_wallet}
+use Rattle.swap_offer.specs.Job.{parse_events, parse_header_job, parse_job, job_of_lines}
 use Rattle.command_input.specs.Lines.{filled_lines, collect_lines}
 use Rattle.swap_commands.specs.Output.{AreGiven, command_cast, run_state}
 use Rattle.swap_main.specs.Known.{by_rule}
@@ -31,7 +31,7 @@ record AreRead (j : Job × List Event) : Type 0 where
 lines_are_read : (has : List ℕ → Bool) (ls : List (ℕ × List ℕ)) (j : Job × List Event) → job_of_lines has purposes.Run ls ≡ Ok j → AreRead j
 lines_are_read has [] j e = absurd (cc e)
 lines_are_read has (l ∷ ls) j e =
-    onward (job_header_of has purposes.Run l.0 l.1) _ AreRead (λ job h.
+    onward (parse_header_job has purposes.Run l.0 l.1) _ AreRead (λ job h.
     onward (parse_events job 0 ls) _ AreRead (λ events e.
     landed (job, events) AreRead (record {
       showable = read_is_showable has purposes.Run l.0 l.1 job refl h;
@@ -43,7 +43,7 @@ is_read : (has : List ℕ → Bool) (input : List ℕ) (j : Job × List Event) �
 unfolding parse_job
 is_read has input j e = lines_are_read has (filled_lines 1 (collect_lines input)) j e
 
-wallet_has : (o : Option (List ℕ)) (v : ℕ) (d : Deal) → WalletHas (wallet_with o v d)
+wallet_has : (o : Option (List ℕ)) (v : ℕ) (d : Deal) → WalletHas (signing_wallet o v d)
 wallet_has (Some seed) v d = record { first = own_has d.mode d v seed; onto = onto_has d.mode d v seed }
 wallet_has None v d = record { first = own_has d.mode d v []; onto = onto_has d.mode d v [] }
 

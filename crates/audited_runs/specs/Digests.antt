@@ -1,4 +1,5 @@
--- Books whose calls hold digests: what the program's own types hold, and what makes every entry of a legal book one of them.
+-- Books whose calls hold digests: what the program's own types hold, and what makes every entry of
+-- a legal book one of them.
 use Rattle.std.specs.Prelude.{◌<◌, ℕ, length, All}
 use Rattle.swap_digraph.specs.declared.deal.Deal.{Deal}
 use Rattle.swap_digraph.specs.Deal.{IsWellSized}

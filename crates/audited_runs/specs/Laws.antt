@@ -1,10 +1,11 @@
--- An audit of the transcript that a run or a race wrote writes the report that the run or the race writes.
+-- An audit of the transcript that a run or a race wrote writes the report that the run or the race
+-- writes.
 use Rattle.std.specs.Prelude.{◌≡◌, ◌≤◌, ℕ, Bool, true, false, List, length, Ok}
 use Rattle.command_input.specs.Written.{Written}
 use Rattle.deviators.specs.Program.{program_rule}
 use Rattle.command_input.specs.Input.{limit}
 use Rattle.command_input.specs.Streams.{Streams}
-use Rattle.swap_commands.specs.Output.{Chance, output_by}
+use Rattle.swap_commands.specs.Output.{Chance, output_given_chance}
 use Rattle.swap_commands.specs.Promised.{AsPromised}
 use Rattle.swap_main.specs.Known.{by_rule, is_known}
 use Rattle.swap_main.specs.Top.{IsDone}
@@ -16,8 +17,8 @@ use Rattle.audited_runs.specs.RunDigests.{KeepsDigests, Rule}
 -- input, and tells of a finding where the transcript's status did.
 pub record IsAudited (has : List ℕ → Bool) (chance : Chance) (command : Command) (input : List ℕ) (output : Written) : Type 0 where
   pub report : Written
-  pub audited : output_by has chance Audit output.text ≡ Ok report
-  pub same : output_by has chance command input ≡ Ok report
+  pub audited : output_given_chance has chance Audit output.text ≡ Ok report
+  pub same : output_given_chance has chance command input ≡ Ok report
   pub found : report.found ≡ output.found
 
 -- An audit of a run's transcript of at most 16,777,216 bytes writes the report that the run writes.
@@ -36,7 +37,8 @@ RacesAreAudited =
     → AsPromised has (by_rule rule) chance (OfJob (Race ticks true)) input output → length output.text ≤ limit
     → IsAudited has chance (OfJob (Race ticks false)) input output
 
--- So wherever the program is done with a run, whatever is found, its transcript is audited as the run is reported.
+-- So wherever the program is done with a run, whatever is found, its transcript is audited as the
+-- run is reported.
 abbrev pub ProgramRunsAreAudited : Type 0
 ProgramRunsAreAudited =
     (words : List (List ℕ)) (before after : Streams) (found : Bool)
@@ -51,7 +53,7 @@ AuditsTellTheRun =
     (done : IsDone (strategies is_known (by_rule program_rule)) words before after found) → done.read.command ≡ OfJob (Run true)
     → (told : IsDone (strategies is_known (by_rule program_rule)) others first last named) → told.read.command ≡ Audit
     → told.read.input ≡ done.output.text
-    → (output_by is_known done.chance (OfJob (Run false)) done.read.input ≡ Ok told.output) × (named ≡ found)
+    → (output_given_chance is_known done.chance (OfJob (Run false)) done.read.input ≡ Ok told.output) × (named ≡ found)
 
 -- The same of a race.
 abbrev pub ProgramRacesAreAudited : Type 0
@@ -67,4 +69,4 @@ AuditsTellTheRace =
     (done : IsDone (strategies is_known (by_rule program_rule)) words before after found) → done.read.command ≡ OfJob (Race ticks true)
     → (told : IsDone (strategies is_known (by_rule program_rule)) others first last named) → told.read.command ≡ Audit
     → told.read.input ≡ done.output.text
-    → (output_by is_known done.chance (OfJob (Race ticks false)) done.read.input ≡ Ok told.output) × (named ≡ found)
+    → (output_given_chance is_known done.chance (OfJob (Race ticks false)) done.read.input ≡ Ok told.output) × (named ≡ found)

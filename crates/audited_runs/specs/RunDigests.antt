@@ -28,7 +28,8 @@ KeepsDigests rule =
 abbrev pub ProgramKeepsDigests : Type 0
 ProgramKeepsDigests = KeepsDigests program_rule
 
--- By such a rule every call of the book holds digests to which the run of an input comes: what is read of it holds them, and what is made of seeds is hashed.
+-- By such a rule every call of the book holds digests to which the run of an input comes: what is
+-- read of it holds them, and what is made of seeds is hashed.
 abbrev pub RunsHoldDigests : Type 0
 RunsHoldDigests =
     (rule : Rule) (has : List ℕ → Bool) (answers : Answers) (input : List ℕ) (job : Job) (events : List Event) → KeepsDigests rule

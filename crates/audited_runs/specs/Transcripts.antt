@@ -1,4 +1,5 @@
--- What is written of a job and its book is read back, and tells an auditor just what it told the writer.
+-- What is written of a job and its book is read back, and tells an auditor just what it told the
+-- writer.
 use Rattle.std.specs.Prelude.{◌≡◌, ◌≤◌, ◌==◌, not, length, Ok}
 use Rattle.ledger_core.specs.Book.{Histories, IsLegalBook}
 use Rattle.swap_job.specs.declared.job.Job.{Job}
@@ -13,7 +14,8 @@ use Rattle.audit_command.specs.Output.{audit_output}
 use Rattle.command_input.specs.Written.{Written}
 use Rattle.audited_runs.specs.Digests.{HoldsDigests}
 
--- A job and its book, of which a transcript tells: the job can be shown, the book is legal, its calls hold digests, and the transcript isn't too long.
+-- A job and its book, of which a transcript tells: the job can be shown, the book is legal, its
+-- calls hold digests, and the transcript isn't too long.
 pub record HasTranscript (job : Job) (b : Histories) : Type 0 where
   pub showable : IsShowable job
   pub legal : IsLegalBook job.deal b
@@ -31,6 +33,7 @@ reported_book job b = record {
   found = not (length (build_report job.deal job.conforming b).findings == 0);
 }
 
--- And what an audit of it writes is, byte for byte, the report of the job and the book that were written.
+-- And what an audit of it writes is, byte for byte, the report of the job and the book that were
+-- written.
 abbrev pub SameReport : Type 0
 SameReport = (job : Job) (b : Histories) → HasTranscript job b → audit_output (transcript job b) ≡ Ok (reported_book job b)

@@ -1,7 +1,8 @@
-//! An audit of the transcript that a run or a race wrote writes the report that the run or the race writes.
+//! An audit of the transcript that a run or a race wrote writes the report that the run or the race
+//! writes.
 //!
-//! Read `specs/Laws.antt` first; it stands on `specs/Transcripts.antt` (a transcript is read back) and `specs/RunDigests.antt`. `specs/Generated.antt` is of
-//! runs of what `gen` writes.
+//! Read `specs/Laws.antt` first; it stands on `specs/Transcripts.antt` (a transcript is read back)
+//! and `specs/RunDigests.antt`. `specs/Generated.antt` is of runs of what `gen` writes.
 #![tactic(auto)]
 
 mod generated;

@@ -1,4 +1,5 @@
-//! The calls of a run hold digests, as the program's own types do: what an audit asks of a book beside that it is legal.
+//! The calls of a run hold digests, as the program's own types do: what an audit asks of a book
+//! beside that it is legal.
 
 ghost use Rattle.audited_runs.specs.RunDigests.{ProgramKeepsDigests, RunsHoldDigests};
 

@@ -1,4 +1,5 @@
-//! What is written of a job and its book is read back, and tells an auditor just what it told the writer.
+//! What is written of a job and its book is read back, and tells an auditor just what it told the
+//! writer.
 
 ghost use Rattle.audited_runs.specs.Digests.{LegalIsTyped};
 ghost use Rattle.audited_runs.specs.Transcripts.{RoundTrip, SameReport};

@@ -1,7 +1,7 @@
 -- The names of a line of wishes are names, and each number is a party's.
 use Rattle.std.proofs.Common.{◌≡◌, ℕ, ◌<◌, length, get_or, List, [], Ok, refl, subst, arith}
 use Rattle.swap_base.specs.Fault.{steps}
-use Rattle.offer_fields.specs.Lists.{each_of}
+use Rattle.offer_fields.specs.Lists.{collected_results}
 use Rattle.offer_fields.proofs.Chains.{went, each_all}
 use Rattle.offer_header.specs.Names.{AreNames, named_ends, name_step, no_strategy}
 use Rattle.offer_header.specs.declared.raw.RawArc.{RawArc}
@@ -30,6 +30,6 @@ is_below line names a n h =
     let same : record { ends = one.0; amount = a.amount } ≡ n = cc (one.2) in
     subst (HasBoundedEnds (length names)) same (ends_below line names a one.0 one.1)
 
-pub listed_arcs : (line : ℕ) (names : List (List ℕ)) (arcs : List RawArc) (numbered : List NumberedArc) → each_of (numbered_arc line names) arcs ≡ Ok numbered
+pub listed_arcs : (line : ℕ) (names : List (List ℕ)) (arcs : List RawArc) (numbered : List NumberedArc) → collected_results (numbered_arc line names) arcs ≡ Ok numbered
     → (a : ℕ) (d : NumberedArc) → a < length numbered → HasBoundedEnds (length names) (get_or numbered a d)
 listed_arcs line names arcs numbered h a d lt = each_all (HasBoundedEnds (length names)) (numbered_arc line names) (is_below line names) arcs numbered h a d lt

@@ -2,8 +2,8 @@
 use Rattle.std.proofs.Common.{◌≡◌, ℕ, ◌^◌, ◌<◌, ◌≤◌, length, get_or, List, Ok, refl, subst, arith}
 use Rattle.std.specs.Prelude.{codes}
 use Rattle.swap_base.specs.Fault.{◌>>=◌}
-use Rattle.offer_fields.specs.Lists.{each_of}
-use Rattle.offer_fields.specs.Limits.{ranged_number, within}
+use Rattle.offer_fields.specs.Lists.{collected_results}
+use Rattle.offer_fields.specs.Limits.{ranged_number, check_range}
 use Rattle.offer_fields.proofs.Chains.{went, each_at, each_length}
 use Rattle.offer_fields.proofs.Ranges.{number_within_ok, within_ok}
 use Rattle.offer_header.specs.Names.{AreNames}
@@ -11,15 +11,15 @@ use Rattle.swap_clear.specs.Proposals.{proposed_graph}
 use Rattle.swap_clear.specs.declared.answer.Clearing.{Clearing}
 use Rattle.swap_clear.specs.declared.proposed.Proposed.{Proposed}
 use Rattle.clear_line.specs.Cleared.{IsShown, Shows}
-use Rattle.clear_line.specs.Limits.{proposed_arc, proposals_of, parse_times, AreWishesWithin}
+use Rattle.clear_line.specs.Limits.{proposed_arc, limited_proposals, limited_times, AreWishesInLimits}
 use Rattle.clear_line.specs.Names.{AreBoundedEnds, HasBoundedEnds}
 use Rattle.clear_line.specs.declared.fields.RawWishes.{RawWishes}
 use Rattle.clear_line.specs.declared.limits.Wishes.{Wishes}
 use Rattle.clear_line.specs.declared.names.Numbered.{Numbered}
 use Rattle.clear_line.specs.declared.names.NumberedArc.{NumberedArc}
 
-pub times_ok : (line : ℕ) (w : RawWishes) (t : ℕ × ℕ) → parse_times line w ≡ Ok t → ((1 ≤ t.0) × (t.0 ≤ 1000)) × ((1 ≤ t.1) × (t.1 ≤ 100))
-unfolding parse_times
+pub times_ok : (line : ℕ) (w : RawWishes) (t : ℕ × ℕ) → limited_times line w ≡ Ok t → ((1 ≤ t.0) × (t.0 ≤ 1000)) × ((1 ≤ t.1) × (t.1 ≤ 100))
+unfolding limited_times
 times_ok line w t h =
     let one = went (ranged_number line (codes "start") 1 1000 w.start) (λ s. ranged_number line (codes "delta") 1 100 w.delta >>= λ d. Ok (s, d)) t h in
     let two = went (ranged_number line (codes "delta") 1 100 w.delta) (λ d. Ok (one.0, d)) t one.2 in
@@ -32,14 +32,14 @@ times_ok line w t h =
 pub record AreRead (line : ℕ) (n : Numbered) (arcs : List Proposed) : Type 0 where
   pub parties : (2 ≤ length n.names) × (length n.names ≤ 32)
   pub size : (1 ≤ length n.arcs) × (length n.arcs ≤ 128)
-  pub each : each_of (proposed_arc line) n.arcs ≡ Ok arcs
+  pub each : collected_results (proposed_arc line) n.arcs ≡ Ok arcs
 
-pub are_read : (line : ℕ) (n : Numbered) (arcs : List Proposed) → proposals_of line n ≡ Ok arcs → AreRead line n arcs
-unfolding proposals_of
+pub are_read : (line : ℕ) (n : Numbered) (arcs : List Proposed) → limited_proposals line n ≡ Ok arcs → AreRead line n arcs
+unfolding limited_proposals
 are_read line n arcs h =
-    let one = went (within line (codes "parties") 2 32 (length n.names)) (λ u. within line (codes "arcs") 1 128 (length n.arcs)
-    >>= λ v. each_of (proposed_arc line) n.arcs) arcs h in
-    let two = went (within line (codes "arcs") 1 128 (length n.arcs)) (λ v. each_of (proposed_arc line) n.arcs) arcs one.2 in
+    let one = went (check_range line (codes "parties") 2 32 (length n.names)) (λ u. check_range line (codes "arcs") 1 128 (length n.arcs)
+    >>= λ v. collected_results (proposed_arc line) n.arcs) arcs h in
+    let two = went (check_range line (codes "arcs") 1 128 (length n.arcs)) (λ v. collected_results (proposed_arc line) n.arcs) arcs one.2 in
     record {
       parties = within_ok line (codes "parties") 2 32 (length n.names) one.0 one.1;
       size = within_ok line (codes "arcs") 1 128 (length n.arcs) two.0 two.1;
@@ -51,7 +51,7 @@ pub proposed_ok : (line : ℕ) (a : NumberedArc) (p : Proposed) → proposed_arc
     → (p.from ≡ a.ends.from) × (p.to ≡ a.ends.to) × (1 ≤ p.amount) × (p.amount ≤ 10 ^ 12)
 unfolding proposed_arc
 proposed_ok line a p h =
-    let one = went (within line (codes "amount") 1 (10 ^ 12) a.amount) (λ u. Ok (record { from = a.ends.from; to = a.ends.to; amount = a.amount })) p h in
+    let one = went (check_range line (codes "amount") 1 (10 ^ 12) a.amount) (λ u. Ok (record { from = a.ends.from; to = a.ends.to; amount = a.amount })) p h in
     let same : record { from = a.ends.from; to = a.ends.to; amount = a.amount } ≡ p = cc (one.2) in
     let k = within_ok line (codes "amount") 1 (10 ^ 12) a.amount one.0 one.1 in
     subst (λ (p : Proposed). (p.from ≡ a.ends.from) × (p.to ≡ a.ends.to) × (1 ≤ p.amount) × (p.amount ≤ 10 ^ 12)) same (refl, refl, k.0, k.1)
@@ -60,8 +60,8 @@ abbrev zero_arc : NumberedArc
 zero_arc = record { ends = record { from = 0; to = 0 }; amount = 0 }
 
 pub set_contains_ends : (line : ℕ) (w : RawWishes) (n : Numbered) (t : ℕ × ℕ) (arcs : List Proposed) → AreNames n.names → AreBoundedEnds n
-    → parse_times line w ≡ Ok t
-    → proposals_of line n ≡ Ok arcs → AreWishesWithin (record { start = t.0; delta = t.1; names = n.names; arcs = arcs })
+    → limited_times line w ≡ Ok t
+    → limited_proposals line n ≡ Ok arcs → AreWishesInLimits (record { start = t.0; delta = t.1; names = n.names; arcs = arcs })
 set_contains_ends line w n t arcs names ends times proposals =
     let k = times_ok line w t times in
     let r = are_read line n arcs proposals in

@@ -1,7 +1,7 @@
 -- What is cleared of a line of wishes, or the first reason why the line is refused.
 use Rattle.std.specs.Prelude.{◌==◌, ℕ, ◌<◌, nat_lt, List, length, position, Option, Some, None, Result, Ok, Err, if◌then◌else◌}
 use Rattle.swap_base.specs.Fault.{◌>>=◌}
-use Rattle.swap_base.specs.Lists.{IsIn}
+use Rattle.swap_base.specs.Lists.{IsElement}
 use Rattle.swap_base.specs.declared.fault.Fault.{Fault}
 use Rattle.swap_base.specs.declared.fault.Fault.TheVariants.{Refused, NoMemory}
 use Rattle.swap_digraph.specs.Value.{Graph}
@@ -39,7 +39,8 @@ without_self_arcs arcs = unless_self (first_self arcs)
 unfoldable pub started : (start delta : ℕ) → Result (Unit {0}) Reason
 started start delta = if nat_lt start delta then Err (reasons.StartTooSoon start delta) else Ok tt
 
--- A reason of the proposals. The ends of a line's arcs are parties, and none leads from a party to itself, so that the first two never come.
+-- A reason of the proposals. The ends of a line's arcs are parties, and none leads from a party to
+-- itself, so that the first two never come.
 abbrev pub clear_reason : ClearReason → Reason
 clear_reason (OutOfRange arc) = reasons.SelfArc arc
 clear_reason (SelfArc arc) = reasons.SelfArc arc
@@ -73,16 +74,17 @@ parse_cleared line text = do
   clearing ← make_clearing wishes
   Ok (record { wishes = wishes; clearing = clearing })
 
--- What holds of a clearing of proposals: what is left out lies on no cycle, and each group makes a deal.
+-- What holds of a clearing of proposals: what is left out lies on no cycle, and each group makes a
+-- deal.
 pub record IsShown (g : Graph) (arcs : List Proposed) (c : Clearing) : Type 0 where
   pub left_out : TellsLeftOut g c.left_out
   pub groups : AreGroups g c.groups
-  pub strong : (group : Group) → IsIn group c.groups → IsStronglyConnected (own g group)
-  pub leaders : (group : Group) → IsIn group c.groups → IsLed g group
-  pub cycles : (group : Group) → IsIn group c.groups → HasCycles g group
-  pub no_fewer : (group : Group) → IsIn group c.groups → NoFewerLead g group
-  pub bound : (group : Group) → IsIn group c.groups → IsBound g group
-  pub ready : (group : Group) → IsIn group c.groups → MakesADeal g arcs group
+  pub strong : (group : Group) → IsElement group c.groups → IsStronglyConnected (own g group)
+  pub leaders : (group : Group) → IsElement group c.groups → IsLed g group
+  pub cycles : (group : Group) → IsElement group c.groups → HasCycles g group
+  pub no_fewer : (group : Group) → IsElement group c.groups → NoFewerLead g group
+  pub bound : (group : Group) → IsElement group c.groups → IsBound g group
+  pub ready : (group : Group) → IsElement group c.groups → MakesADeal g arcs group
 
 -- what is cleared of wishes shows so
 abbrev pub Shows : Cleared → Type 0

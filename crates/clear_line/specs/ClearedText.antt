@@ -1,4 +1,5 @@
--- What is written of a line of wishes. Every number is in decimal, and parties stand by their names.
+-- What is written of a line of wishes. Every number is in decimal, and parties stand by their
+-- names.
 use Rattle.std.specs.Prelude.{◌≡◌, ℕ, List, [], ◌∷◌, codes, decimal, slice_index_or, Result, Ok}
 use Rattle.serde_json.specs.Data.{Data, string, object, Members, no_members, member}
 use Rattle.serde_json.specs.Written.{compact_text}
@@ -11,11 +12,12 @@ use Rattle.swap_clear.specs.declared.answer.Group.{Group}
 use Rattle.swap_clear.specs.declared.answer.LeftOut.{LeftOut}
 use Rattle.swap_clear.specs.declared.proposed.Proposed.{Proposed}
 use Rattle.clear_line.specs.Cleared.{parse_cleared, Shows}
-use Rattle.clear_line.specs.Limits.{AreWishesWithin}
+use Rattle.clear_line.specs.Limits.{AreWishesInLimits}
 use Rattle.clear_line.specs.declared.cleared.Cleared.{Cleared}
 use Rattle.clear_line.specs.declared.limits.Wishes.{Wishes}
 
--- ---- the plain job of a group, but for its parties' seeds, the fields of each object in the order of their bytes
+-- ---- the plain job of a group, but for its parties' seeds, the fields of each object in the order
+-- of their bytes
 
 -- an object whose one field is the name of party p
 abbrev pub named_data : List ℕ → List (List ℕ) → ℕ → Data
@@ -87,6 +89,6 @@ cleared_line line text = do
 pub record IsClearedLine (line : ℕ) (text written : List ℕ) : Type 0 where
   pub cleared : Cleared
   pub is_read : parse_cleared line text ≡ Ok cleared
-  pub within : AreWishesWithin cleared.wishes
+  pub within : AreWishesInLimits cleared.wishes
   pub shown : written ≡ cleared_text cleared
   pub shows : Shows cleared

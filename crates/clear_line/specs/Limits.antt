@@ -3,8 +3,8 @@ use Rattle.std.specs.Prelude.{ℕ, ◌^◌, ◌<◌, ◌≤◌, List, codes, len
 use Rattle.swap_base.specs.Fault.{◌>>=◌}
 use Rattle.refusals.specs.declared.reason.Reason.{Reason}
 use Rattle.offer_fields.specs.Fields.{parse_data}
-use Rattle.offer_fields.specs.Limits.{ranged_number, within}
-use Rattle.offer_fields.specs.Lists.{each_of}
+use Rattle.offer_fields.specs.Limits.{ranged_number, check_range}
+use Rattle.offer_fields.specs.Lists.{collected_results}
 use Rattle.offer_header.specs.Names.{AreNames}
 use Rattle.swap_clear.specs.Ready.{AreAmounts}
 use Rattle.swap_clear.specs.declared.proposed.Proposed.{Proposed}
@@ -18,29 +18,29 @@ use Rattle.clear_line.specs.declared.limits.Wishes.{Wishes}
 -- a proposed transfer
 unfoldable pub proposed_arc : ℕ → NumberedArc → Result Proposed Reason
 proposed_arc line a = do
-  u ← within line (codes "amount") 1 (10 ^ 12) a.amount
+  u ← check_range line (codes "amount") 1 (10 ^ 12) a.amount
   Ok (record { from = a.ends.from; to = a.ends.to; amount = a.amount })
 
 -- the start and delta
-unfoldable pub parse_times : ℕ → RawWishes → Result (ℕ × ℕ) Reason
-parse_times line w = do
+unfoldable pub limited_times : ℕ → RawWishes → Result (ℕ × ℕ) Reason
+limited_times line w = do
   start ← ranged_number line (codes "start") 1 1000 w.start
   delta ← ranged_number line (codes "delta") 1 100 w.delta
   Ok (start, delta)
 
 -- the lengths of the lists, and then each arc
-unfoldable pub proposals_of : ℕ → Numbered → Result (List Proposed) Reason
-proposals_of line numbered = do
-  u ← within line (codes "parties") 2 32 (length numbered.names)
-  v ← within line (codes "arcs") 1 128 (length numbered.arcs)
-  each_of (proposed_arc line) numbered.arcs
+unfoldable pub limited_proposals : ℕ → Numbered → Result (List Proposed) Reason
+limited_proposals line numbered = do
+  u ← check_range line (codes "parties") 2 32 (length numbered.names)
+  v ← check_range line (codes "arcs") 1 128 (length numbered.arcs)
+  collected_results (proposed_arc line) numbered.arcs
 
 -- the wishes that fields give: the names first, and then the limits
 unfoldable pub parse_wishes : ℕ → RawWishes → Result Wishes Reason
 parse_wishes line w = do
   numbered ← numbered_wishes line w
-  times ← parse_times line w
-  arcs ← proposals_of line numbered
+  times ← limited_times line w
+  arcs ← limited_proposals line numbered
   Ok (record { start = times.0; delta = times.1; names = numbered.names; arcs = arcs })
 
 -- the wishes that a line gives, or the first reason why it is refused
@@ -51,7 +51,7 @@ parse_wish_text line text = do
   parse_wishes line raw
 
 -- Wishes within their limits.
-pub record AreWishesWithin (w : Wishes) : Type 0 where
+pub record AreWishesInLimits (w : Wishes) : Type 0 where
   pub start : (1 ≤ w.start) × (w.start ≤ 1000)
   pub delta : (1 ≤ w.delta) × (w.delta ≤ 100)
   pub parties : (2 ≤ length w.names) × (length w.names ≤ 32)

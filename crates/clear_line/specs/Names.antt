@@ -2,7 +2,7 @@
 use Rattle.std.specs.Prelude.{ℕ, ◌<◌, List, [], length, slice_index_or, None, Result, Ok}
 use Rattle.swap_base.specs.Fault.{◌>>=◌, steps}
 use Rattle.refusals.specs.declared.reason.Reason.{Reason}
-use Rattle.offer_fields.specs.Lists.{each_of}
+use Rattle.offer_fields.specs.Lists.{collected_results}
 use Rattle.offer_header.specs.Names.{named_ends, name_added}
 use Rattle.offer_header.specs.declared.raw.RawActor.TheVariants.{Conforming}
 use Rattle.offer_header.specs.declared.raw.RawParty.{RawParty}
@@ -29,7 +29,7 @@ numbered_arc line names a = do
 unfoldable pub numbered_wishes : ℕ → RawWishes → Result Numbered Reason
 numbered_wishes line w = do
   names ← steps (wished_name_step line) [] w.parties
-  arcs ← each_of (numbered_arc line names) w.arcs
+  arcs ← collected_results (numbered_arc line names) w.arcs
   Ok (record { names = names; arcs = arcs })
 
 abbrev pub HasBoundedEnds : ℕ → NumberedArc → Type 0

@@ -4,7 +4,7 @@ ghost use Rattle.std.specs.Prelude.{◌≡◌, ◌<◌, ◌≤◌, length, posit
 ghost use Rattle.swap_base.specs.Fault.{Gives};
 ghost use Rattle.swap_clear.specs.Refused.{IfRefused};
 ghost use Rattle.clear_line.specs.Cleared.{parse_cleared, make_clearing, to_offer_fault, first_self, small, started, without_self_arcs, Shows};
-ghost use Rattle.clear_line.specs.Limits.{AreWishesWithin};
+ghost use Rattle.clear_line.specs.Limits.{AreWishesInLimits};
 
 use crate::limits::{Wishes, decode_wishes};
 use refusals::{OfferFault, Reason};
@@ -68,7 +68,7 @@ fn to_offer_fault(fault: ClearFault) -> OfferFault
 /// What of the wishes can be swapped, or the first reason against them.
 #[tactic(auto, unfolding(crate::specs::Cleared::make_clearing))]
 fn make_clearing(alloc: Global, wishes: &Wishes) -> Result<Clearing, OfferFault>
-    requires { AreWishesWithin wishes.now }
+    requires { AreWishesInLimits wishes.now }
     ensures exact { Gives (λ c. c) result (make_clearing wishes.now) }
     ensures shows { IfOk result (λ c. Shows (record { wishes = wishes.now; clearing = c })) }
 {
@@ -84,7 +84,7 @@ fn make_clearing(alloc: Global, wishes: &Wishes) -> Result<Clearing, OfferFault>
 #[tactic(auto, unfolding(crate::specs::Cleared::parse_cleared))]
 pub fn read_cleared(alloc: Global, line: u32, text: &[u8]) -> Result<Cleared, OfferFault>
     ensures exact { Gives (λ c. c) result (parse_cleared line text.now) }
-    ensures within { IfOk result (λ c. AreWishesWithin c.wishes) }
+    ensures within { IfOk result (λ c. AreWishesInLimits c.wishes) }
     ensures shows { IfOk result Shows }
 {
     let wishes = decode_wishes(alloc, line, text)?;

@@ -3,10 +3,10 @@
 ghost use Rattle.std.specs.Prelude.{codes};
 ghost use Rattle.serde_json.specs.View.{view};
 ghost use Rattle.swap_base.specs.Fault.{Gives};
-ghost use Rattle.offer_fields.specs.Fields.{list_at, member_text_of, only};
-ghost use Rattle.clear_line.specs.Fields.{fields, kind_at, raw_wishes};
+ghost use Rattle.offer_fields.specs.Fields.{field_list, text_member, only};
+ghost use Rattle.clear_line.specs.Fields.{fields, clear_kind, raw_wishes};
 
-use offer_fields::{TextRef, allow_only, array_in, number_in, read_list, read_texts};
+use offer_fields::{TextRef, allow_only, field_array, read_list, read_number_field, read_texts};
 use offer_header::{RawArc, Reading};
 use refusals::{OfferFault, wrong_kind};
 use serde_json::Value;
@@ -26,26 +26,26 @@ pub struct RawWishes<'v> {
 }
 
 /// The line says that it is one of wishes.
-#[tactic(auto, unfolding(crate::specs::Fields::kind_at))]
+#[tactic(auto, unfolding(crate::specs::Fields::clear_kind))]
 fn check_kind(alloc: Global, line: u32, object: &Value) -> Result<(), OfferFault>
-    ensures { Gives (λ u. u) result (kind_at line (view object.now)) }
+    ensures { Gives (λ u. u) result (clear_kind line (view object.now)) }
 {
-    let number = number_in(alloc, line, "clear", object)?;
+    let number = read_number_field(alloc, line, "clear", object)?;
     if number == 1 {
         return Ok(());
     }
     Err(wrong_kind(alloc, line, b"clear"))
 }
 
-#[tactic(auto, unfolding(offer_fields::specs::Fields::list_at))]
+#[tactic(auto, unfolding(offer_fields::specs::Fields::field_list))]
 fn read_parties<'v>(
     alloc: Global,
     line: u32,
     object: &'v Value,
 ) -> Result<Listed<TextRef<'v>>, OfferFault>
-    ensures { Gives (λ x. x) result (list_at line (codes "parties") (member_text_of line (codes "parties")) (view object.now)) }
+    ensures { Gives (λ x. x) result (field_list line (codes "parties") (text_member line (codes "parties")) (view object.now)) }
 {
-    let values = array_in(alloc, line, "parties", object)?;
+    let values = field_array(alloc, line, "parties", object)?;
     read_texts(alloc, line, "parties", values)
 }
 
@@ -56,7 +56,8 @@ fn only_fields(alloc: Global, line: u32, object: &Value) -> Result<(), OfferFaul
     allow_only(alloc, line, &allowed, object)
 }
 
-/// The fields of the line, or the first reason why one is refused. An arc has the fields that it has in a plain job with hashkeys.
+/// The fields of the line, or the first reason why one is refused. An arc has the fields that it
+/// has in a plain job with hashkeys.
 #[tactic(auto, unfolding(crate::specs::Fields::raw_wishes))]
 pub(crate) fn parse_raw<'v>(
     alloc: Global,
@@ -66,8 +67,8 @@ pub(crate) fn parse_raw<'v>(
     ensures { Gives (λ w. w) result (raw_wishes line (view object.now)) }
 {
     check_kind(alloc, line, object)?;
-    let start = number_in(alloc, line, "start", object)?;
-    let delta = number_in(alloc, line, "delta", object)?;
+    let start = read_number_field(alloc, line, "start", object)?;
+    let delta = read_number_field(alloc, line, "delta", object)?;
     let parties = read_parties(alloc, line, object)?;
     let reading = Reading {
         purpose: Purpose::Make,

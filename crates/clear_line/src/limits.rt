@@ -2,20 +2,20 @@
 
 ghost use Rattle.std.specs.Prelude.{◌<◌, ℕ, length, slice_index_or, IfOk};
 ghost use Rattle.swap_base.specs.Fault.{Gives};
-ghost use Rattle.offer_fields.specs.Lists.{each_of};
-ghost use Rattle.clear_line.specs.Limits.{proposed_arc, parse_times, proposals_of, parse_wishes, parse_wish_text, AreWishesWithin};
+ghost use Rattle.offer_fields.specs.Lists.{collected_results};
+ghost use Rattle.clear_line.specs.Limits.{proposed_arc, limited_times, limited_proposals, parse_wishes, parse_wish_text, AreWishesInLimits};
 ghost use Rattle.clear_line.specs.Names.{AreBoundedEnds, HasBoundedEnds};
 ghost use Rattle.clear_line.specs.declared.names.NumberedArc.{NumberedArc as Arc};
 
 use crate::fields::{RawWishes, parse_raw};
 use crate::names::{Numbered, NumberedArc, assign_numbers};
-use offer_fields::{parse_object, ranged_number, within};
+use offer_fields::{check_range, parse_object, ranged_number};
 use refusals::OfferFault;
 use std::alloc::Global;
 use swap_base::{ByteText, Listed};
 use swap_clear::Proposed;
 
-/// Wishes whose fields, names and limits are in order, as `AreWishesWithin` says.
+/// Wishes whose fields, names and limits are in order, as `AreWishesInLimits` says.
 #[derive(Drop)]
 pub struct Wishes {
     /// A height, 1 to 1,000.
@@ -32,7 +32,7 @@ fn proposed_arc(alloc: Global, line: u32, arc: NumberedArc) -> Result<Proposed, 
     requires { HasBoundedEnds 256 arc }
     ensures { Gives (λ p. p) result (proposed_arc line arc) }
 {
-    within(alloc, line, "amount", 1, 1_000_000_000_000, arc.amount)?;
+    check_range(alloc, line, "amount", 1, 1_000_000_000_000, arc.amount)?;
     Ok(Proposed {
         from: arc.ends.from as u8,
         to: arc.ends.to as u8,
@@ -46,7 +46,7 @@ fn each_proposed(
     arcs: &[NumberedArc],
 ) -> Result<Listed<Proposed>, OfferFault>
     requires { (a : ℕ) (d : Arc) → a < length arcs.now → HasBoundedEnds 256 (slice_index_or arcs.now a d) }
-    ensures { Gives (λ x. x) result (each_of (proposed_arc line) arcs.now) }
+    ensures { Gives (λ x. x) result (collected_results (proposed_arc line) arcs.now) }
 {
     let mut list = Vec::new(alloc);
     for arc in arcs {
@@ -56,9 +56,9 @@ fn each_proposed(
 }
 
 /// The start and delta.
-#[tactic(auto, unfolding(crate::specs::Limits::parse_times))]
-fn read_times(alloc: Global, line: u32, wishes: &RawWishes<'_>) -> Result<(u32, u32), OfferFault>
-    ensures { Gives (λ t. t) result (parse_times line wishes.now) }
+#[tactic(auto, unfolding(crate::specs::Limits::limited_times))]
+fn limited_times(alloc: Global, line: u32, wishes: &RawWishes<'_>) -> Result<(u32, u32), OfferFault>
+    ensures { Gives (λ t. t) result (limited_times line wishes.now) }
 {
     let start = ranged_number(alloc, line, "start", 1, 1000, wishes.start)?;
     let delta = ranged_number(alloc, line, "delta", 1, 100, wishes.delta)?;
@@ -66,17 +66,17 @@ fn read_times(alloc: Global, line: u32, wishes: &RawWishes<'_>) -> Result<(u32, 
 }
 
 /// The arcs, where neither they nor the parties are too few or too many.
-#[tactic(auto, unfolding(crate::specs::Limits::proposals_of))]
+#[tactic(auto, unfolding(crate::specs::Limits::limited_proposals))]
 fn make_proposals(
     alloc: Global,
     line: u32,
     numbered: &Numbered,
 ) -> Result<Listed<Proposed>, OfferFault>
     requires { AreBoundedEnds numbered.now }
-    ensures { Gives (λ x. x) result (proposals_of line numbered.now) }
+    ensures { Gives (λ x. x) result (limited_proposals line numbered.now) }
 {
-    within(alloc, line, "parties", 2, 32, numbered.names.len() as u64)?;
-    within(alloc, line, "arcs", 1, 128, numbered.arcs.len() as u64)?;
+    check_range(alloc, line, "parties", 2, 32, numbered.names.len() as u64)?;
+    check_range(alloc, line, "arcs", 1, 128, numbered.arcs.len() as u64)?;
     each_proposed(alloc, line, numbered.arcs.as_slice())
 }
 
@@ -84,10 +84,10 @@ fn make_proposals(
 #[tactic(auto, using(crate::proofs::Within::set_contains_ends), unfolding(crate::specs::Limits::parse_wishes))]
 fn parse_wishes(alloc: Global, line: u32, raw: &RawWishes<'_>) -> Result<Wishes, OfferFault>
     ensures exact { Gives (λ w. w) result (parse_wishes line raw.now) }
-    ensures within { IfOk result AreWishesWithin }
+    ensures within { IfOk result AreWishesInLimits }
 {
     let numbered = assign_numbers(alloc, line, raw)?;
-    let (start, delta) = read_times(alloc, line, raw)?;
+    let (start, delta) = limited_times(alloc, line, raw)?;
     let arcs = make_proposals(alloc, line, &numbered)?;
     Ok(Wishes {
         start,
@@ -101,7 +101,7 @@ fn parse_wishes(alloc: Global, line: u32, raw: &RawWishes<'_>) -> Result<Wishes,
 #[tactic(auto, unfolding(crate::specs::Limits::parse_wish_text))]
 pub(crate) fn decode_wishes(alloc: Global, line: u32, text: &[u8]) -> Result<Wishes, OfferFault>
     ensures exact { Gives (λ w. w) result (parse_wish_text line text.now) }
-    ensures within { IfOk result AreWishesWithin }
+    ensures within { IfOk result AreWishesInLimits }
 {
     let object = parse_object(alloc, line, text)?;
     let raw = parse_raw(alloc, line, &object)?;

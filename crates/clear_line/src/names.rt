@@ -2,7 +2,7 @@
 
 ghost use Rattle.std.specs.Prelude.{◌≡◌, [], map, IfOk};
 ghost use Rattle.swap_base.specs.Fault.{Gives, steps};
-ghost use Rattle.offer_fields.specs.Lists.{each_of};
+ghost use Rattle.offer_fields.specs.Lists.{collected_results};
 ghost use Rattle.offer_header.specs.Names.{AreNames};
 ghost use Rattle.clear_line.specs.Names.{wished_name_step, numbered_arc, numbered_wishes, AreBoundedEnds};
 
@@ -77,13 +77,13 @@ fn numbered_arc(
     })
 }
 
-fn parse_arcs(
+fn numbered_arcs(
     alloc: Global,
     line: u32,
     names: &IndexSet<&[u8]>,
     arcs: &[RawArc<'_>],
 ) -> Result<Listed<NumberedArc>, OfferFault>
-    ensures { Gives (λ x. x) result (each_of (numbered_arc line (map (λ k. k.now) names.now.keys)) arcs.now) }
+    ensures { Gives (λ x. x) result (collected_results (numbered_arc line (map (λ k. k.now) names.now.keys)) arcs.now) }
 {
     let mut list = Vec::new(alloc);
     for arc in arcs {
@@ -92,7 +92,8 @@ fn parse_arcs(
     Ok(Listed::new(list))
 }
 
-/// The names of the parties and the numbers that stand for them, or the first reason why a name is refused.
+/// The names of the parties and the numbers that stand for them, or the first reason why a name is
+/// refused.
 #[tactic(auto, using(crate::proofs::Named::names_of, crate::proofs::Named::listed_arcs), unfolding(crate::specs::Names::numbered_wishes))]
 pub(crate) fn assign_numbers(
     alloc: Global,
@@ -105,7 +106,7 @@ pub(crate) fn assign_numbers(
 {
     let mut names = IndexSet::new(alloc);
     add_parties(alloc, line, &mut names, wishes.parties.as_slice())?;
-    let arcs = parse_arcs(alloc, line, &names, wishes.arcs.as_slice())?;
+    let arcs = numbered_arcs(alloc, line, &names, wishes.arcs.as_slice())?;
     Ok(Numbered {
         names: kept_names(alloc, &names)?,
         arcs,

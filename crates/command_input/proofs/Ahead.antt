@@ -5,7 +5,7 @@ use Rattle.std.proofs.Common.{Result, Err, drop, ◌↔◌, refl, sym, ap, ap₂
 use Rattle.std.proofs.lemmas.Bool.{and_parts}
 use Rattle.std.proofs.lemmas.List.{length-drop}
 use Rattle.swap_io.specs.Causes.{Rose}
-use Rattle.swap_io.specs.Lines.{IsNext, IsOver, Reading, TookSome, feed_of, feeds, lacks_feed}
+use Rattle.swap_io.specs.Lines.{IsNext, IsReadingOver, Reading, TookSome, line_end_bytes, feeds, lacks_feed}
 use Rattle.swap_io.specs.declared.fault.LineFault.{LineFault}
 use Rattle.swap_io.specs.declared.fault.LineFault.TheVariants as line
 use Rattle.swap_io.specs.declared.line_end.LineEnd.{LineEnd}
@@ -49,7 +49,8 @@ pub last_line : (line : List ℕ) → 0 < length line → IsTrue (lacks_feed lin
 last_line [] some one = absurd (omega arith)
 last_line (b ∷ line) some one = no_feed_last b line one
 
--- what was kept and what was taken is a line with its line feed and what is kept now, whatever comes after it
+-- what was kept and what was taken is a line with its line feed and what is kept now, whatever
+-- comes after it
 pub ended_ahead : (kept bytes line kept' rest : List ℕ) → kept ++ bytes ≡ line ++ ((10 ∷ []) ++ kept') → IsTrue (lacks_feed line)
     → collect_lines (kept ++ (bytes ++ rest)) ≡ line ∷ collect_lines (kept' ++ rest)
 ended_ahead kept bytes line kept' rest parts one =
@@ -173,7 +174,7 @@ pub fewer : (a b : Option (List ℕ)) (s t : At) (line : List ℕ) (end : LineEn
 fewer a b s t line end going lim within p (inl over) = rw (over, going) (omega arith)
 fewer a b s t line end going lim within p (inr (still, is)) =
     let parts : s.reading.kept ++ p.bytes ≡ line ++ ((10 ∷ []) ++ t.reading.kept) = p.parts
-    ∙ ap (λ (e : LineEnd). line ++ (feed_of e ++ t.reading.kept)) is in
+    ∙ ap (λ (e : LineEnd). line ++ (line_end_bytes e ++ t.reading.kept)) is in
     rw (still, going) (omega (arith, within, p.took.counted, length-append s.reading.kept p.bytes, length-append line (10 ∷ t.reading.kept), ap length parts))
 
 -- The parts of an input between line feeds.
@@ -189,7 +190,7 @@ is_fed s t line p calm lim within going still text = record {
   fewer = fewer s.left t.left s.at t.at line Ended going lim within p (inr (still, refl));
 }
 
-rest_at : (s t : Desk) (line bytes : List ℕ) → TookBytes s t bytes → s.at.reading.kept ++ bytes ≡ line ++ t.at.reading.kept → IsOver t.left t.at.reading
+rest_at : (s t : Desk) (line bytes : List ℕ) → TookBytes s t bytes → s.at.reading.kept ++ bytes ≡ line ++ t.at.reading.kept → IsReadingOver t.left t.at.reading
     → IsTrue (lacks_feed line) → IsCalm s t → t.at.reading.taken ≤ limit → t.at.over ≡ true → t.at.text ≡ line → IsRest s t
 rest_at s t line bytes took parts over one calm within met text = record {
   bytes = bytes;

@@ -27,7 +27,8 @@ can_come s rest not_over = λ over. absurd (cc (sym not_over ∙ over))
 pub fits_fresh : (left : Option (List ℕ)) (s : At) → s ≡ fresh → Fits left s
 fits_fresh left s e = subst (λ (t : At). Fits left t) (sym e) (record { within = omega arith; ended = λ over. absurd (cc over) })
 
--- what a walk that has come to y makes of the next line, where so many came before, and then of those after it
+-- what a walk that has come to y makes of the next line, where so many came before, and then of
+-- those after it
 abbrev pub IsStepAt : {A R E : Type 0} → (ℕ → A → List (ℕ × List ℕ) → Result R E) → (ℕ → A → ℕ → List ℕ → Result A E) → ℕ → A → Type 0
 IsStepAt walk next n y = (number : ℕ) (text : List ℕ) (rest : List (ℕ × List ℕ))
     → walk n y ((number, text) ∷ rest) ≡ next n y number text >>= λ z. walk (n + 1) z rest
@@ -174,7 +175,8 @@ pub first_stops : {R : Type 0} (P : List ℕ → R → Type 0) (left : Option (L
     → GivesNoLine (desk left n s) t e → Stops P (desk left n fresh) t (of_line e)
 first_stops P left n s t first e h = subst (λ (x : At). Stops P (desk left n x) t (of_line e)) first (line_stops P (desk left n s) t e h)
 
--- What stopped a reading behind what was taken, where what is said of the bytes after it is said of all.
+-- What stopped a reading behind what was taken, where what is said of the bytes after it is said of
+-- all.
 pub stops_on : {R E : Type 0} (Q : List ℕ → R → Type 0) (P : List ℕ → E → Type 0) (r s t : Desk) (xs : List ℕ) → Stands r s xs → r.at.over ≡ false
     → (said : R → E) → ((bytes : List ℕ) (e : R) → CanBeLeft s.at bytes → Q bytes e → P (xs ++ bytes) (said e)) → (f : InputFault R)
     → Stops Q s t f → Stops P r t (retold said f)

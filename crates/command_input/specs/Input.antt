@@ -40,7 +40,8 @@ past_empty s = record s { reading = past_feeds s.reading; number = s.number + fe
 abbrev pub CanBeLeft : At → List ℕ → Type 0
 CanBeLeft s rest = s.over ≡ true → rest ≡ []
 
--- What the source has left fits what was read: no more was taken than an input may have, and nothing is left where the end was met.
+-- What the source has left fits what was read: no more was taken than an input may have, and
+-- nothing is left where the end was met.
 pub record Fits (left : Option (List ℕ)) (s : At) : Type 0 where
   pub within : s.reading.taken ≤ limit
   pub ended : s.over ≡ true → IsAtEnd left
@@ -100,7 +101,8 @@ abbrev pub Reads : Bool → Desk → Desk → Type 0
 Reads true old new = ReadsLine old new
 Reads false old new = ReadsNone old new
 
--- The next line that isn't blank: whatever comes after it, the lines ahead were it and those ahead of it.
+-- The next line that isn't blank: whatever comes after it, the lines ahead were it and those ahead
+-- of it.
 pub record IsLine (old new : Desk) : Type 0 where
   pub bytes : List ℕ
   pub stands : Stands old new bytes
@@ -121,7 +123,8 @@ abbrev pub GivesLine : Bool → Desk → Desk → Type 0
 GivesLine true old new = IsLine old new
 GivesLine false old new = IsLast old new
 
--- A line that a line feed ended: what was kept, with the bytes that were taken, is the line with its line feed, and what is kept now.
+-- A line that a line feed ended: what was kept, with the bytes that were taken, is the line with
+-- its line feed, and what is kept now.
 pub record IsFed (old new : Desk) : Type 0 where
   pub bytes : List ℕ
   pub stands : Stands old new bytes
@@ -209,7 +212,8 @@ pub record IsDrained (old new : Desk) : Type 0 where
 abbrev pub Breaks : Desk → Desk → DrainFault → Type 0
 Breaks old new fault = Faulted NothingSaid old new (of_drain fault)
 
--- What is answered where the reading stopped: of an input that is refused the rest is taken first, and a fault of that comes before what is said.
+-- What is answered where the reading stopped: of an input that is refused the rest is taken first,
+-- and a fault of that comes before what is said.
 abbrev pub Drains : {R : Type 0} → Desk → Desk → InputFault R → InputFault R → Type 0
 Drains old new (Refused r) answer = Faulted (λ said. (said ≡ r) × IsDrained old new) old new answer
 Drains old new ReadFault answer = (answer ≡ ReadFault) × (new ≡ old)

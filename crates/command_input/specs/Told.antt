@@ -2,7 +2,7 @@
 use Rattle.std.specs.Prelude.{ℕ, List, [], ◌∷◌, codes}
 use Rattle.swap_base.specs.Text.{joined}
 use Rattle.refusals.specs.declared.reason.Reason.{Reason}
-use Rattle.refusals.specs.Line.{line_of}
+use Rattle.refusals.specs.Line.{refusal_line_text}
 use Rattle.command_input.specs.declared.exit.Told.{Told}
 use Rattle.command_input.specs.declared.exit.Told.TheVariants.{Words, Line}
 
@@ -13,4 +13,4 @@ told_text (Line line) = line
 
 -- the line of a reason, with its line feed
 abbrev pub refusal_text : List (List ℕ) → Reason → List ℕ
-refusal_text names reason = joined (line_of names reason ∷ codes "\n" ∷ [])
+refusal_text names reason = joined (refusal_line_text names reason ∷ codes "\n" ∷ [])

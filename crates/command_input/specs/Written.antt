@@ -16,7 +16,8 @@ pub record Written : Type 0 where
 abbrev pub IsWrittenWhole : Option (List ℕ) → Option (List ℕ) → Bool → Written → Type 0
 IsWrittenWhole taken taken' found output = Appends taken taken' output.text × (output.found ≡ found)
 
--- what a status says of an output that is written, by what the sink took and how many of its calls failed
+-- what a status says of an output that is written, by what the sink took and how many of its calls
+-- failed
 abbrev pub Writes : Option (List ℕ) → Option (List ℕ) → ℕ → ℕ → Written → Status → Type 0
 Writes taken taken' p q output Done = IsWrittenWhole taken taken' false output
 Writes taken taken' p q output Named = IsWrittenWhole taken taken' true output

@@ -8,7 +8,8 @@ use std::alloc::Global;
 use swap_base::{ByteText, Fault, Listed, NoMemory};
 use swap_io::{DrainFault, LineFault};
 
-/// Why the reading of an input stopped: something is said against it, or one of the faults of reading.
+/// Why the reading of an input stopped: something is said against it, or one of the faults of
+/// reading.
 #[derive(Debug, Drop)]
 pub enum InputFault<R> {
     Refused(R),

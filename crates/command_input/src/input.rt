@@ -86,7 +86,8 @@ impl Input {
         }
     }
 
-    /// Goes to the next line that a line feed ended, or to what stands after the last line feed, and answers which.
+    /// Goes to the next line that a line feed ended, or to what stands after the last line feed,
+    /// and answers which.
     pub fn part<S: Source>(&mut self, source: &mut S) -> Result<bool, LineFault>
         requires { self.old.over ≡ false }
         ensures gives { IfOk result (λ more. GivesPart more (desk (S.left source.old) (S.faults source.old) self.old)
@@ -160,7 +161,8 @@ impl Input {
         self.lines.drain(source)
     }
 
-    /// What stopped the reading. Where something is said against the input the rest is taken first, since a fault of reading comes before it.
+    /// What stopped the reading. Where something is said against the input the rest is taken first,
+    /// since a fault of reading comes before it.
     pub fn stop<S: Source, R: Drop>(
         &mut self,
         source: &mut S,

@@ -1,15 +1,15 @@
 //! The lines of a file.
 
 ghost use Rattle.std.specs.Prelude.{◌≡◌, ◌+◌, ◌<◌, ◌^◌, List, length, map, IfOk, ◌≤◌};
-ghost use Rattle.command_input.specs.Lines.{before, after, is_blank, collect_lines, filled_lines};
+ghost use Rattle.command_input.specs.Lines.{bytes_before_feed, bytes_after_feed, is_blank, collect_lines, filled_lines};
 
 use std::alloc::Global;
 use swap_base::NoMemory;
 
 #[tactic(auto, using(crate::proofs::Filled::shorter))]
 fn first_line(bytes: &[u8]) -> (&[u8], &[u8])
-    ensures line { result.0.now ≡ before bytes.now }
-    ensures rest { result.1.now ≡ after bytes.now }
+    ensures line { result.0.now ≡ bytes_before_feed bytes.now }
+    ensures rest { result.1.now ≡ bytes_after_feed bytes.now }
     ensures shorter { 0 < length bytes.now → length result.1.now < length bytes.now }
 {
     for (i, b) in bytes.iter().enumerate() {

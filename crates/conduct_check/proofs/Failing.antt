@@ -9,7 +9,7 @@ use Rattle.swap_base.specs.Lists.{Moment}
 use Rattle.ledger_core.specs.declared.entry.What.TheVariants.{Tick}
 use Rattle.ledger_core.specs.declared.entry.Entry.{Entry}
 use Rattle.history_index.specs.declared.made.Made.{Made}
-use Rattle.history_index.specs.Made.{made_in}
+use Rattle.history_index.specs.Made.{history_calls}
 use Rattle.swap_rules.specs.declared.finding.Finding.{Finding}
 use Rattle.swap_rules.specs.Findings.{failing}
 use Rattle.history_index.proofs.Calls.{failing_made, moment_of}
@@ -37,12 +37,12 @@ said_more say test h old now new ms i x lt is e k =
 
 -- where no tick fails, the calls are all that do
 pub said_all : (say : ℕ → Finding) (test : Moment Entry → Bool) (h : List Entry) → ((m : Moment Entry) (k : ℕ) → m.now.what ≡ Tick k → test m ≡ true)
-    → filter_map (said say test h) (made_in h) ≡ failing say test h
+    → filter_map (said say test h) (history_calls h) ≡ failing say test h
 said_all say test h tick = sym (failing_made test say h tick)
 
 -- at the end of the walk
 pub said_done : (say : ℕ → Finding) (test : Moment Entry → Bool) (h : List Entry) (old now : List Finding) (ms : List Made) (i : ℕ)
-    → ((m : Moment Entry) (k : ℕ) → m.now.what ≡ Tick k → test m ≡ true) → length ms ≤ i → ms ≡ made_in h
+    → ((m : Moment Entry) (k : ℕ) → m.now.what ≡ Tick k → test m ≡ true) → length ms ≤ i → ms ≡ history_calls h
     → now ≡ old ++ filter_map (said say test h) (take i ms) → now ≡ old ++ failing say test h
 said_done say test h old now ms i tick le is e =
     e ∙ ap (λ l. old ++ l) (ap (filter_map (said say test h)) (take_all i ms le ∙ is) ∙ said_all say test h tick)

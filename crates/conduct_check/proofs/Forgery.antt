@@ -8,7 +8,7 @@ use Rattle.hash_signature.specs.declared.sig.Sig.{Sig}
 use Rattle.hashkey_path.specs.declared.hashkey.Hashkey.{Hashkey}
 use Rattle.hashkey_path.specs.Hashkey.{same_key}
 use Rattle.ledger_core.specs.Book.{Histories}
-use Rattle.swap_rules.specs.Party.{fetch_key}
+use Rattle.swap_rules.specs.Party.{unlock_hashkey}
 use Rattle.swap_rules.specs.Conduct.{carries, is_first_key}
 use Rattle.sent_keys.specs.Sent.{shown, party_unlocks}
 use Rattle.sent_keys.proofs.Unlocks.{OfUnlocks, any_sent}
@@ -20,7 +20,7 @@ by_lock false sent key e =
     sym (ap (λ b. b && bytes_eq sent.secret key.secret && same_list (λ x y. x == y) sent.path key.path
     && same_list (λ s t. same_list bytes_eq s t) sent.sigs key.sigs) e)
 
-of_key : (key : Hashkey) → OfUnlocks (λ o. is_first_key (fetch_key key.lock o) key) (λ sent. same_key sent key)
+of_key : (key : Hashkey) → OfUnlocks (λ o. is_first_key (unlock_hashkey key.lock o) key) (λ sent. same_key sent key)
 of_key key =
     record {
       none = refl;
@@ -39,7 +39,7 @@ pub made_by_parts : (b : Histories) (v lock : ℕ) (secret path : List ℕ) (sig
     → has_made_parts b v lock secret path sigs ≡ list_any (λ r. same_key r.now (record { lock = lock; secret = secret; path = path; sigs = sigs })) rs
 made_by_parts b v lock secret path sigs rs e =
     let key : Hashkey = record { lock = lock; secret = secret; path = path; sigs = sigs } in
-    any_sent (λ o. is_first_key (fetch_key lock o) key) (λ sent. same_key sent key) (of_key key) v b rs e
+    any_sent (λ o. is_first_key (unlock_hashkey lock o) key) (λ sent. same_key sent key) (of_key key) v b rs e
 
 pub sent_secret : (b : Histories) (v : ℕ) (secret : List ℕ) (rs : List (Bor Hashkey)) → shown rs ≡ party_unlocks b v
     → has_sent b v secret ≡ list_any (λ r. bytes_eq r.now.secret secret) rs

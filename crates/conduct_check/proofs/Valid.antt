@@ -2,7 +2,7 @@
 use Rattle.std.proofs.Common.{◌≡◌, ℕ, ◌<◌, ◌==◌, true, not, ◌&&◌, List, [], ◌∷◌, length, get_or, Option, Some, None, refl}
 use Rattle.std.proofs.Common.{sym, ap, subst, ◌∙◌, eq-eqb, inl, arith, suc, ◌-◌}
 use Rattle.std.specs.List.{flat_map, list_any}
-use Rattle.swap_base.specs.Lists.{IsIn}
+use Rattle.swap_base.specs.Lists.{IsElement}
 use Rattle.swap_base.proofs.Lists.{any_at, and_both, first_at, in_from_moment, in_filter, in_range, and_parts}
 use Rattle.swap_digraph.specs.Graph.{arcs, ends, entering, is_path, first_is, last_is, is_listed, leaving}
 use Rattle.swap_digraph.specs.Deal.{counterparty, lock_leader, lock_hashlock}
@@ -23,10 +23,10 @@ use Rattle.ledger_core.proofs.History.{opened_done, of_unlock, clear_at, AreClea
 use Rattle.hash_signature.specs.declared.sig.Sig.{Sig}
 use Rattle.ledger_core.specs.declared.entry.Call.{Call}
 use Rattle.ledger_core.specs.declared.entry.Call.TheVariants.{Unlock}
-use Rattle.swap_rules.specs.Party.{pick_call, first_key, fetch_key}
-use Rattle.swap_rules.specs.Conduct.{is_first_key, extends_with, extends_without, has_seen}
+use Rattle.swap_rules.specs.Party.{pick_call, first_key, unlock_hashkey}
+use Rattle.swap_rules.specs.Conduct.{is_first_key, extends_inner_key, extends_without_party, has_seen}
 use Rattle.swap_rules.proofs.Words.{enters, key_parts, same_key-true, leaves}
-use Rattle.conduct_check.specs.Standing.{key_opens_arc, valid_on}
+use Rattle.conduct_check.specs.Standing.{key_opens_arc, is_valid_on_first_arc}
 use Rattle.conduct_check.proofs.Legal.{legal_of}
 
 -- A hashkey that opened a lock has valid signatures, whatever the terms.
@@ -53,7 +53,7 @@ pub known_opened : (n : ℕ) (d : Deal) (b : Histories) (v : ℕ) (key : Hashkey
     → list_any (λ a. key_opens_arc key (opened (history b a) key.lock)) (entering d.graph v) ≡ true → is_last_signed n d key ≡ true
 known_opened n d b v key l e =
     let f = any_at (λ a. key_opens_arc key (opened (history b a) key.lock)) (entering d.graph v) e in
-    let i : IsIn f.now (entering d.graph v) = subst (IsIn f.now) (sym f.stands.1) (in_from_moment f.past f.now f.stands.0) in
+    let i : IsElement f.now (entering d.graph v) = subst (IsElement f.now) (sym f.stands.1) (in_from_moment f.past f.now f.stands.0) in
     opened_signed n d f.now (history b f.now) key (opened (history b f.now) key.lock) (legal_of d b f.now l (enters d v f.now i).0) refl f.passes
 
 -- A hashkey that extends an accepted one has valid signatures but for its first.
@@ -69,7 +69,7 @@ tail_known d lock secret u p s (t ∷ ts) h =
 abbrev AllButFirst : Deal → Hashkey → List ℕ → List Sig → Type 0
 AllButFirst d key path sigs = (0 < length sigs) × (are_last_signed (length sigs - 1) d key.lock key.secret path sigs ≡ true)
 
-extended : (d : Deal) (v : ℕ) (key inner : Hashkey) (path : List ℕ) (sigs : List Sig) → extends_with v inner path sigs key ≡ true
+extended : (d : Deal) (v : ℕ) (key inner : Hashkey) (path : List ℕ) (sigs : List Sig) → extends_inner_key v inner path sigs key ≡ true
     → ((n : ℕ) → is_last_signed n d inner ≡ true) → AllButFirst d key path sigs
 extended d v key inner [] sigs e h = absurd (cc e)
 extended d v key inner (u ∷ p) [] e h = absurd (cc e)
@@ -83,18 +83,18 @@ extended d v key inner (u ∷ p) (s ∷ sigs) e h =
           (tail_known d key.lock key.secret u p s sigs known),
     )
 
-from_call : (d : Deal) (v : ℕ) (key : Hashkey) (o : Option Call) → extends_without v key o ≡ true
+from_call : (d : Deal) (v : ℕ) (key : Hashkey) (o : Option Call) → extends_without_party v key o ≡ true
     → ((inner : Hashkey) → o ≡ Some (Unlock inner) → (n : ℕ) → is_last_signed n d inner ≡ true) → AllButFirst d key key.path key.sigs
 from_call d v key (Some (Unlock inner)) e h =
-    extended d v key inner key.path key.sigs (and_parts (not (is_listed v inner.path)) (extends_with v inner key.path key.sigs key) e).1 (h inner refl)
+    extended d v key inner key.path key.sigs (and_parts (not (is_listed v inner.path)) (extends_inner_key v inner key.path key.sigs key) e).1 (h inner refl)
 from_call d v key _ e h = absurd (cc e)
 
-pub known_seen : (d : Deal) (b : Histories) (v : ℕ) (key : Hashkey) → IsLegalBook d b → has_seen d b v (extends_without v key) ≡ true
+pub known_seen : (d : Deal) (b : Histories) (v : ℕ) (key : Hashkey) → IsLegalBook d b → has_seen d b v (extends_without_party v key) ≡ true
     → AllButFirst d key key.path key.sigs
 known_seen d b v key l e =
-    let f = any_at (λ a. list_any (λ x. extends_without v key (accepted x)) (history b a)) (leaving d.graph v) e in
-    let g = any_at (λ x. extends_without v key (accepted x)) (history b f.now) f.passes in
-    let i : IsIn f.now (leaving d.graph v) = subst (IsIn f.now) (sym f.stands.1) (in_from_moment f.past f.now f.stands.0) in
+    let f = any_at (λ a. list_any (λ x. extends_without_party v key (accepted x)) (history b a)) (leaving d.graph v) e in
+    let g = any_at (λ x. extends_without_party v key (accepted x)) (history b f.now) f.passes in
+    let i : IsElement f.now (leaving d.graph v) = subst (IsElement f.now) (sym f.stands.1) (in_from_moment f.past f.now f.stands.0) in
     from_call d v key (accepted g.now) g.passes (λ inner k n. let c =
     clear_at d f.now (history b f.now) g.past g.now (Unlock inner) (legal_of d b f.now l (leaves d v f.now i).0) g.stands k in
     accepted_signed n d f.now g.past c.0.by inner c.1)
@@ -111,14 +111,14 @@ same_valid : (d : Deal) (a c : ℕ) (hashlock : List ℕ) (key : Hashkey) → co
 same_valid d a c hashlock key e = ap (λ p. not (is_wrong_secret hashlock key) && not p && not (is_wrong_signature d d.mode key)) (same_path d.mode d a c key e)
 
 pub valid_into : (d : Deal) (v a : ℕ) (key : Hashkey) → a < length d.graph.arcs → counterparty d a ≡ v
-    → valid_on d (entering d.graph v) (Some key) ≡ is_valid d a (lock_hashlock d key.lock) key
+    → is_valid_on_first_arc d (entering d.graph v) (Some key) ≡ is_valid d a (lock_hashlock d key.lock) key
 valid_into d v a key l e =
     go (entering d.graph v) refl (in_filter (λ a. (ends d.graph a).to == v) a (arcs d.graph) (in_range a (length d.graph.arcs) l)
     (eq-eqb (ends d.graph a).to v e))
   where
-    go : (cs : List ℕ) → entering d.graph v ≡ cs → IsIn a cs → valid_on d cs (Some key) ≡ is_valid d a (lock_hashlock d key.lock) key
+    go : (cs : List ℕ) → entering d.graph v ≡ cs → IsElement a cs → is_valid_on_first_arc d cs (Some key) ≡ is_valid d a (lock_hashlock d key.lock) key
     go [] q i = absurd i
-    go (c ∷ cs) q i = same_valid d c a (lock_hashlock d key.lock) key ((enters d v c (subst (IsIn c) (sym q) (inl refl))).1 ∙ sym e)
+    go (c ∷ cs) q i = same_valid d c a (lock_hashlock d key.lock) key ((enters d v c (subst (IsElement c) (sym q) (inl refl))).1 ∙ sym e)
 
 -- First hashkeys.
 
@@ -128,9 +128,9 @@ first_is_key (Some k) key e = ap (λ (z : Hashkey). Some z) (same_key-true k key
 
 pub first_lock : (b : Histories) (v i : ℕ) (key : Hashkey) → first_key b v i ≡ Some key → key.lock ≡ i
 unfolding first_key
-first_lock b v i key e = let f = first_at (λ x. fetch_key i (pick_call v x)) (flat_map (λ h. h) b) key e in (key_parts i (pick_call v f.now) key f.gives).1
+first_lock b v i key e = let f = first_at (λ x. unlock_hashkey i (pick_call v x)) (flat_map (λ h. h) b) key e in (key_parts i (pick_call v f.now) key f.gives).1
 
 -- the first of the arcs that enter v is an arc
 pub first_entering : (d : Deal) (v : ℕ) (cs : List ℕ) → cs ≡ entering d.graph v → 0 < length cs → get_or cs 0 0 < length d.graph.arcs
 first_entering d v [] e l = absurd (omega arith)
-first_entering d v (c ∷ cs) e l = (enters d v c (subst (IsIn c) e (inl refl))).0
+first_entering d v (c ∷ cs) e l = (enters d v c (subst (IsElement c) e (inl refl))).0

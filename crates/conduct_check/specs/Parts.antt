@@ -20,9 +20,9 @@ use Rattle.swap_rules.specs.Forged.{has_made, is_forged}
 use Rattle.swap_rules.specs.Findings.{failing}
 
 -- an unlock is for a lock of the deal
-abbrev pub IsWithin : Deal → Option Call → Type 0
-IsWithin d (Some (Unlock key)) = key.lock < length d.leaders
-IsWithin d _ = Unit {0}
+abbrev pub HasDealLock : Deal → Option Call → Type 0
+HasDealLock d (Some (Unlock key)) = key.lock < length d.leaders
+HasDealLock d _ = Unit {0}
 
 -- whether an unlock call of v carries a hashkey of these parts
 abbrev pub has_made_parts : Histories → ℕ → ℕ → List ℕ → List ℕ → List Sig → Bool

@@ -26,14 +26,14 @@ abbrev pub first_origin : Deal → Histories → ℕ → ℕ → Bool
 first_origin d b v i = has_key_origin d b v (first_key b v i)
 
 -- whether the hashkey is valid on the first of the arcs
-abbrev pub valid_on : Deal → List ℕ → Option Hashkey → Bool
-valid_on d (a ∷ rest) (Some key) = is_valid d a (lock_hashlock d key.lock) key
-valid_on d _ _ = false
+abbrev pub is_valid_on_first_arc : Deal → List ℕ → Option Hashkey → Bool
+is_valid_on_first_arc d (a ∷ rest) (Some key) = is_valid d a (lock_hashlock d key.lock) key
+is_valid_on_first_arc d _ _ = false
 
 -- whether v's first hashkey for lock i is valid on the arcs that enter v; the answer is the same
 -- for each
 abbrev pub first_valid : Deal → Histories → ℕ → ℕ → Bool
-first_valid d b v i = valid_on d (entering d.graph v) (first_key b v i)
+first_valid d b v i = is_valid_on_first_arc d (entering d.graph v) (first_key b v i)
 
 -- What is read of v in the book.
 pub record IsStanding (d : Deal) (b : Histories) (v : ℕ) (s : Standing) : Type 0 where

@@ -8,7 +8,7 @@ ghost use Rattle.swap_rules.specs.Conduct.{is_publish, keeps};
 ghost use Rattle.history_index.specs.Indexes.{all_entries, AreIndexes};
 ghost use Rattle.sent_keys.specs.Sent.{shown, party_unlocks};
 ghost use Rattle.conduct_check.specs.Standing.{IsStanding};
-ghost use Rattle.conduct_check.specs.Parts.{is_first, is_good_key, is_arc_key_valid, keeps_call, keeps_made, IsWithin};
+ghost use Rattle.conduct_check.specs.Parts.{is_first, is_good_key, is_arc_key_valid, keeps_call, keeps_made, HasDealLock};
 
 use crate::past::{had_expired, made_calls, was_published, was_triggered};
 use crate::standing::Standing;
@@ -47,7 +47,8 @@ fn publishes_once(known: &[Index], party: PartyId, arc: ArcId) -> bool
     count_publishes(made_calls(known, arc), party) == 1
 }
 
-/// Whether a publish has the correct terms and is the party's only one on the arc, and the party leads or is ready.
+/// Whether a publish has the correct terms and is the party's only one on the arc, and the party
+/// leads or is ready.
 #[tactic(auto, unfolding(swap_rules::specs::Conduct::keeps))]
 fn keeps_publish(
     deal: &Deal,
@@ -67,7 +68,8 @@ fn keeps_publish(
         && (standing.leads || standing.ready)
 }
 
-/// Whether the hashkey is valid on the arc, where it is the party's first one for its lock. On an arc that doesn't enter the party it verifies signatures anew.
+/// Whether the hashkey is valid on the arc, where it is the party's first one for its lock. On an
+/// arc that doesn't enter the party it verifies signatures anew.
 fn is_valid_arc_key(
     deal: &Deal,
     known: &[Index],
@@ -110,7 +112,8 @@ fn keeps_first(
     standing.origins[key.lock as usize] && is_valid_arc_key(deal, known, party, standing, arc, key)
 }
 
-/// Whether an unlock stands after its arc's accepted publish, the party is ready, and the hashkey is its first one for the lock, valid and well come by.
+/// Whether an unlock stands after its arc's accepted publish, the party is ready, and the hashkey
+/// is its first one for the lock, valid and well come by.
 #[tactic(auto, unfolding(swap_rules::specs::Conduct::keeps))]
 fn keeps_unlock(
     deal: &Deal,
@@ -151,7 +154,7 @@ pub(crate) fn keeps_entry(
     requires keys { shown keys.now ≡ party_unlocks (all_entries known.now) party }
     requires standing { IsStanding deal.now (all_entries known.now) party standing.now }
     requires arc { arc < length deal.now.graph.arcs }
-    requires within { IsWithin deal.now (pick_call party made.now.entry) }
+    requires within { HasDealLock deal.now (pick_call party made.now.entry) }
     ensures { result ≡ keeps_made deal.now (all_entries known.now) party arc made.now }
 {
     let Some(call) = pick_call(party, &made.entry) else {

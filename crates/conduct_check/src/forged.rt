@@ -6,7 +6,7 @@ ghost use Rattle.ledger_core.specs.History.{accepted};
 ghost use Rattle.swap_rules.specs.Forged.{has_forged_suffix, is_forged};
 ghost use Rattle.history_index.specs.Indexes.{all_entries};
 ghost use Rattle.sent_keys.specs.Sent.{shown, party_unlocks};
-ghost use Rattle.conduct_check.specs.Parts.{has_made_parts, has_sent, is_forged_secret, IsWithin};
+ghost use Rattle.conduct_check.specs.Parts.{has_made_parts, has_sent, is_forged_secret, HasDealLock};
 
 use due_calls::leads;
 use hash_signature::{Sig, hashed_value};
@@ -68,7 +68,8 @@ fn has_forged_suffix(
     }
 }
 
-/// Whether the secret opens a lock that the party leads, and no unlock call of it carries that secret.
+/// Whether the secret opens a lock that the party leads, and no unlock call of it carries that
+/// secret.
 #[tactic(auto, using(crate::proofs::Chains::secret_chain))]
 fn is_forged_secret(
     deal: &Deal,
@@ -100,7 +101,7 @@ pub(crate) fn is_forged(
     requires sized { IsWellSized deal.now }
     requires party { party < deal.now.graph.n }
     requires keys { shown keys.now ≡ party_unlocks (all_entries known.now) party }
-    requires within { IsWithin deal.now (accepted entry.now) }
+    requires within { HasDealLock deal.now (accepted entry.now) }
     ensures { result ≡ is_forged deal.now (all_entries known.now) party entry.now }
 {
     match accepted(entry) {

@@ -30,7 +30,8 @@ fn put_if(out: &mut Vec<Finding>, test: bool, finding: Finding) -> Result<(), No
     Ok(())
 }
 
-/// Adds the entries of the arc by which the party broke a rule of conduct. There is none where the arc isn't the party's.
+/// Adds the entries of the arc by which the party broke a rule of conduct. There is none where the
+/// arc isn't the party's.
 fn put_broken_arc(
     out: &mut Vec<Finding>,
     deal: &Deal,
@@ -59,7 +60,8 @@ fn put_broken_arc(
     Ok(())
 }
 
-/// Adds where the party broke a rule of conduct, by arc and entry. After want of memory a part stands there.
+/// Adds where the party broke a rule of conduct, by arc and entry. After want of memory a part
+/// stands there.
 #[tactic(auto, using(sent_keys::proofs::Loops::flat_more))]
 fn put_broken_arcs(
     out: &mut Vec<Finding>,

@@ -4,7 +4,7 @@ ghost use Rattle.std.specs.Prelude.{◌≡◌, ◌<◌, option_copied};
 ghost use Rattle.std.specs.List.{list_any};
 ghost use Rattle.ledger_core.specs.Book.{history};
 ghost use Rattle.ledger_core.specs.History.{accepted};
-ghost use Rattle.swap_rules.specs.Conduct.{carries, extends_without, has_origin, has_seen, is_alone};
+ghost use Rattle.swap_rules.specs.Conduct.{carries, extends_without_party, has_origin, has_seen, is_alone};
 ghost use Rattle.history_index.specs.Indexes.{all_entries};
 
 use crate::past::made_calls;
@@ -12,7 +12,7 @@ use due_calls::leads;
 use hashkey_path::Hashkey;
 use history_index::{Index, Made};
 use ledger_core::Call;
-use sent_keys::{accepted, extends_without};
+use sent_keys::{accepted, extends_without_party};
 use swap_base::{ArcId, Digest, PartyId};
 use swap_digraph::{Deal, Mode};
 
@@ -47,11 +47,9 @@ fn has_secret(calls: &[Made], secret: &Digest) -> bool
 /// Whether one of the calls is an accepted unlock with an inner hashkey: this one extends it by the
 /// party, and its path lacks the party.
 fn has_inner(calls: &[Made], party: PartyId, key: &Hashkey) -> bool
-    ensures { result ≡ list_any (λ m. extends_without party key.now (accepted m.entry)) calls.now }
+    ensures { result ≡ list_any (λ m. extends_without_party party key.now (accepted m.entry)) calls.now }
 {
-    calls
-        .iter()
-        .any(|made| extends_without(party, key, accepted(&made.entry)))
+    calls.iter().any(|made| extends_without_party(party, key, accepted(&made.entry)))
 }
 
 /// Whether an unlock with that secret was accepted on the arc.
@@ -64,7 +62,7 @@ fn arc_has_secret(known: &[Index], arc: ArcId, secret: &Digest) -> bool
 /// Whether an unlock with an inner hashkey was accepted on the arc: this hashkey extends the inner
 /// one by the party, and the inner path lacks the party.
 fn arc_has_inner(known: &[Index], arc: ArcId, party: PartyId, key: &Hashkey) -> bool
-    ensures { result ≡ list_any (λ e. extends_without party key.now (accepted e)) (history (all_entries known.now) arc) }
+    ensures { result ≡ list_any (λ e. extends_without_party party key.now (accepted e)) (history (all_entries known.now) arc) }
 {
     has_inner(made_calls(known, arc), party, key)
 }
@@ -83,7 +81,7 @@ fn has_seen_secret(deal: &Deal, known: &[Index], party: PartyId, secret: &Digest
 /// inner one by the party, and the inner path lacks the party.
 pub(crate) fn has_seen_inner(deal: &Deal, known: &[Index], party: PartyId, key: &Hashkey) -> bool
     requires { party < deal.now.graph.n }
-    ensures { result ≡ has_seen deal.now (all_entries known.now) party (extends_without party key.now) }
+    ensures { result ≡ has_seen deal.now (all_entries known.now) party (extends_without_party party key.now) }
 {
     let leaving = deal.graph.leaving(party);
     leaving
@@ -91,7 +89,8 @@ pub(crate) fn has_seen_inner(deal: &Deal, known: &[Index], party: PartyId, key: 
         .any(|arc| arc_has_inner(known, *arc, party, key))
 }
 
-/// Whether the hashkey is the party's own where it leads the lock, and else comes from an arc that leaves it.
+/// Whether the hashkey is the party's own where it leads the lock, and else comes from an arc that
+/// leaves it.
 pub(crate) fn has_origin(deal: &Deal, known: &[Index], party: PartyId, key: &Hashkey) -> bool
     requires { party < deal.now.graph.n }
     ensures { result ≡ has_origin deal.now.mode deal.now (all_entries known.now) party key.now }

@@ -6,7 +6,7 @@ ghost use Rattle.ledger_core.specs.Book.{history};
 ghost use Rattle.ledger_core.specs.History.{is_open, published, triggered};
 ghost use Rattle.swap_rules.specs.Party.{expiry, has_expired};
 ghost use Rattle.history_index.specs.Indexes.{all_entries, AreIndexes};
-ghost use Rattle.history_index.specs.Made.{made_in};
+ghost use Rattle.history_index.specs.Made.{history_calls};
 ghost use Rattle.history_index.specs.Numbers.{comes_earlier, published_number};
 ghost use Rattle.ledger_core.specs.Facts.{opened_number};
 
@@ -18,7 +18,7 @@ use swap_digraph::Deal;
 
 /// The calls on the arc, with their numbers.
 pub(crate) fn made_calls<'a>(known: &'a [Index], arc: ArcId) -> &'a [Made]
-    ensures { result.now ≡ made_in (history (all_entries known.now) arc) }
+    ensures { result.now ≡ history_calls (history (all_entries known.now) arc) }
 {
     match known.get(arc as usize) {
         Some(index) => index.made(),

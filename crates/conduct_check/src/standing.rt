@@ -16,8 +16,8 @@ use sent_keys::first_key;
 use swap_base::{LockId, PartyId};
 use swap_digraph::Deal;
 
-/// What is read of a party: whether it leads a lock, whether it is ready, and by lock whether its first hashkey is well come by,
-/// and is valid on the arcs that enter it.
+/// What is read of a party: whether it leads a lock, whether it is ready, and by lock whether its
+/// first hashkey is well come by, and is valid on the arcs that enter it.
 #[derive(Clone, Copy)]
 pub(crate) struct Standing {
     pub leads: bool,

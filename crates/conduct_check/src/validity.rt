@@ -9,7 +9,7 @@ ghost use Rattle.hashkey_path.specs.Known.{is_last_signed};
 ghost use Rattle.ledger_core.specs.Book.{history, IsLegalBook};
 ghost use Rattle.ledger_core.specs.History.{opened};
 ghost use Rattle.history_index.specs.Indexes.{all_entries, AreIndexes};
-ghost use Rattle.conduct_check.specs.Standing.{key_opens_arc, valid_on};
+ghost use Rattle.conduct_check.specs.Standing.{key_opens_arc, is_valid_on_first_arc};
 
 use crate::origin::has_seen_inner;
 use hashkey_path::{Hashkey, HashkeyAnswer, check};
@@ -91,7 +91,7 @@ pub(crate) fn is_valid_entering(deal: &Deal, known: &[Index], party: PartyId, ke
     requires legal { IsLegalBook deal.now (all_entries known.now) }
     requires party { party < deal.now.graph.n }
     requires lock { key.now.lock < length deal.now.leaders }
-    ensures { result ≡ valid_on deal.now (entering deal.now.graph party) (Some key.now) }
+    ensures { result ≡ is_valid_on_first_arc deal.now (entering deal.now.graph party) (Some key.now) }
 {
     let entering = deal.graph.entering(party);
     match entering {

@@ -9,7 +9,7 @@ use Rattle.std.proofs.lemmas.Bool.{leb-true}
 use Rattle.swap_base.proofs.Lists.{and_both, and_parts}
 use Rattle.refusals.specs.declared.refusal.Refusal.{Refusal}
 use Rattle.refusals.specs.declared.reason.Reason.TheVariants.{CutShort}
-use Rattle.transcript_lines.specs.Between.{between, ended, longer_first, parts_at}
+use Rattle.transcript_lines.specs.Between.{between, ended, longer_first, separated_parts}
 use Rattle.transcript_lines.proofs.Parts.{IsHigh}
 use Rattle.party_lines.specs.Lines.{ended_lines, is_ended, nameless}
 
@@ -32,20 +32,20 @@ is_false : (b : Bool) → not b ≡ true → b ≡ false
 is_false true h = absurd (cc h)
 is_false false h = refl
 
-first_part : (w rest : List ℕ) → HasNoFeed w → parts_at 10 (w ++ 10 ∷ rest) ≡ w ∷ parts_at 10 rest
+first_part : (w rest : List ℕ) → HasNoFeed w → separated_parts 10 (w ++ 10 ∷ rest) ≡ w ∷ separated_parts 10 rest
 first_part [] rest h = refl
 first_part (x ∷ w) rest h =
     let k = and_parts (not (x == 10)) (list_all (λ y. not (y == 10)) w) h in
-    let more = parts_at 10 (w ++ 10 ∷ rest) in
+    let more = separated_parts 10 (w ++ 10 ∷ rest) in
     ap (λ t. cond t ([] ∷ more) (longer_first x more)) (is_false (x == 10) k.0) ∙ ap (longer_first x) (first_part w rest k.1)
 
-only_part : (w : List ℕ) → HasNoFeed w → parts_at 10 w ≡ w ∷ []
+only_part : (w : List ℕ) → HasNoFeed w → separated_parts 10 w ≡ w ∷ []
 only_part [] h = refl
 only_part (x ∷ w) h =
     let k = and_parts (not (x == 10)) (list_all (λ y. not (y == 10)) w) h in
-    ap (λ t. cond t ([] ∷ parts_at 10 w) (longer_first x (parts_at 10 w))) (is_false (x == 10) k.0) ∙ ap (longer_first x) (only_part w k.1)
+    ap (λ t. cond t ([] ∷ separated_parts 10 w) (longer_first x (separated_parts 10 w))) (is_false (x == 10) k.0) ∙ ap (longer_first x) (only_part w k.1)
 
-all_parts : (l : List ℕ) (ls : List (List ℕ)) → HasNoFeed l → AllByRecursion HasNoFeed ls → parts_at 10 (between 10 (l ∷ ls)) ≡ l ∷ ls
+all_parts : (l : List ℕ) (ls : List (List ℕ)) → HasNoFeed l → AllByRecursion HasNoFeed ls → separated_parts 10 (between 10 (l ∷ ls)) ≡ l ∷ ls
 all_parts l [] h k = only_part l h
 all_parts l (m ∷ ms) h k = first_part l (between 10 (m ∷ ms)) h ∙ ap (λ r. l ∷ r) (all_parts m ms k.0 k.1)
 
@@ -71,6 +71,6 @@ ended_back l ls h k =
     let b = between 10 (l ∷ ls) in
     let none : Result (List (List ℕ)) Refusal = Err (nameless CutShort) in
     ap ended_lines (ended_is l ls)
-    ∙ ap (λ t. cond t (Ok (parts_at 10 (take (length (b ++ feed) - 1) (b ++ feed)))) none) (is_ended_text b)
-    ∙ ap (λ n. Ok (parts_at 10 (take n (b ++ feed)))) (last_place b) ∙ ap (λ t. Ok (parts_at 10 t)) (take-append_seam b feed)
+    ∙ ap (λ t. cond t (Ok (separated_parts 10 (take (length (b ++ feed) - 1) (b ++ feed)))) none) (is_ended_text b)
+    ∙ ap (λ n. Ok (separated_parts 10 (take n (b ++ feed)))) (last_place b) ∙ ap (λ t. Ok (separated_parts 10 t)) (take-append_seam b feed)
     ∙ ap Ok (all_parts l ls h k)

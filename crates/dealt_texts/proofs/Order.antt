@@ -10,7 +10,7 @@ use Rattle.std.proofs.lemmas.Grind.{get_or-set_at}
 use Rattle.sha2.specs.Sha256.{sha256}
 use Rattle.sha2.proofs.Facts256.{length-sha256}
 use Rattle.swap_base.specs.Fault.{◌>>=◌}
-use Rattle.swap_base.specs.Lists.{IsIn}
+use Rattle.swap_base.specs.Lists.{IsElement}
 use Rattle.swap_digraph.specs.declared.deal.Deal.{Deal}
 use Rattle.swap_digraph.specs.declared.deal.Mode.{Mode}
 use Rattle.swap_digraph.specs.declared.deal.Mode.TheVariants.{Timelocks, Hashkeys}
@@ -24,12 +24,12 @@ use Rattle.refusals.specs.declared.reason.Reason.{Reason}
 use Rattle.refusals.specs.declared.reason.Reason.TheVariants.{OverLimit}
 use Rattle.refusals.specs.Refusal.{named}
 use Rattle.typed_books.specs.Typed.{IsDigest}
-use Rattle.offer_fields.specs.Limits.{within}
+use Rattle.offer_fields.specs.Limits.{check_range}
 use Rattle.offer_header.specs.Names.{is_name}
-use Rattle.swap_gen.specs.Made.{read_seed}
+use Rattle.swap_gen.specs.Made.{seed_or_zeros}
 use Rattle.transcript_lines.specs.Between.{spaced}
 use Rattle.transcript_lines.proofs.Parts.{IsHigh}
-use Rattle.party_lines.specs.Lines.{next_number, read_in_own_line}
+use Rattle.party_lines.specs.Lines.{next_number, or_bad_line}
 use Rattle.party_lines.specs.Names.{party_named}
 use Rattle.party_rows.specs.declared.row.Row.{Row}
 use Rattle.party_rows.specs.Laws.{seeded_rows}
@@ -74,8 +74,8 @@ both_true true b x y = y
 both_true false b x y = absurd (cc x)
 
 -- a number is within itself
-within_itself : (line : ℕ) (field : List ℕ) (n m : ℕ) → m ≡ n → named [] (within line field n n m) ≡ Ok tt
-unfolding within
+within_itself : (line : ℕ) (field : List ℕ) (n m : ℕ) → m ≡ n → named [] (check_range line field n n m) ≡ Ok tt
+unfolding check_range
 within_itself line field n m same =
     let over : Result (Unit {0}) Reason = Err (OverLimit line field m) in
     ap (λ t. named [] (cond t (Ok tt) over))
@@ -94,7 +94,7 @@ right_count line seed p d = within_itself line (codes "keys") (keys_wanted d.mod
 
 module _ (job : Job) (seeds : List (Option (List ℕ))) (k : IsOffered job) (names : All (λ x. is_name x ≡ true) job.names) where
   abbrev row : ℕ → Row
-  row p = seeded_row (read_seed seeds p) p job.deal
+  row p = seeded_row (seed_or_zeros seeds p) p job.deal
 
   abbrev pub row_text : ℕ → List ℕ
   row_text p = spaced (row_words (party_name job p) (row p))
@@ -102,25 +102,25 @@ module _ (job : Job) (seeds : List (Option (List ℕ))) (k : IsOffered job) (nam
   reads : (p : ℕ) → p < length job.names → parse_row (row_text p) ≡ Ok (named_row (party_name job p) (row p))
   unfolding seeded_row
   reads p lt =
-      row_back (party_name job p) (row p) (names p [] lt) (hashlock_is (leads_one job.deal p) (read_seed seeds p))
-      (keys_are job.deal.mode (read_seed seeds p) p job.deal)
+      row_back (party_name job p) (row p) (names p [] lt) (hashlock_is (leads_one job.deal p) (seed_or_zeros seeds p))
+      (keys_are job.deal.mode (seed_or_zeros seeds p) p job.deal)
 
   pub is_high : (p : ℕ) → p < length job.names → IsHigh 32 (row_text p)
   unfolding seeded_row
   is_high p lt =
-      row_high (party_name job p) (row p) (names p [] lt) (hashlock_is (leads_one job.deal p) (read_seed seeds p))
-      (keys_are job.deal.mode (read_seed seeds p) p job.deal)
+      row_high (party_name job p) (row p) (names p [] lt) (hashlock_is (leads_one job.deal p) (seed_or_zeros seeds p))
+      (keys_are job.deal.mode (seed_or_zeros seeds p) p job.deal)
 
   takes : (line : ℕ) (rows : List (Option Row)) (p : ℕ) → p < length job.names → find_row rows p ≡ None
       → with_row job line rows (row_text p) ≡ Ok (slice_set rows p (Some (row p)))
   unfolding with_row with_party_row
   takes line rows p lt none =
       let r = named_row (party_name job p) (row p) in
-      step (read_in_own_line line (parse_row (row_text p))) r _ (ap (read_in_own_line line) (reads p lt))
+      step (or_bad_line line (parse_row (row_text p))) r _ (ap (or_bad_line line) (reads p lt))
       ∙ step (party_named line job.names (party_name job p)) p _ (finds line job.names p k.names lt)
       ∙ step (check_first line (party_name job p) (find_row rows p)) tt _ (ap (check_first line (party_name job p)) none)
-      ∙ step (right_hashlock line (leads_one job.deal p) (row p)) tt _ (right_lock line (read_seed seeds p) p job.deal)
-      ∙ step (right_keys line job.deal (row p)) tt _ (right_count line (read_seed seeds p) p job.deal)
+      ∙ step (right_hashlock line (leads_one job.deal p) (row p)) tt _ (right_lock line (seed_or_zeros seeds p) p job.deal)
+      ∙ step (right_keys line job.deal (row p)) tt _ (right_count line (seed_or_zeros seeds p) p job.deal)
 
   abbrev n : ℕ
   n = job.deal.graph.n
@@ -128,8 +128,8 @@ module _ (job : Job) (seeds : List (Option (List ℕ))) (k : IsOffered job) (nam
   -- Those in the order are still to come, and all others are there.
   record StandsBefore (order : List ℕ) (rows : List (Option Row)) : Type 0 where
     one_each : length rows ≡ n
-    there : (p : ℕ) → p < n → ¬ IsIn p order → find_row rows p ≡ Some (row p)
-    missing : (p : ℕ) → IsIn p order → find_row rows p ≡ None
+    there : (p : ℕ) → p < n → ¬ IsElement p order → find_row rows p ≡ Some (row p)
+    missing : (p : ℕ) → IsElement p order → find_row rows p ≡ None
 
   all_there : (rows : List (Option Row)) → StandsBefore [] rows → rows ≡ seeded_rows seeds job.deal
   all_there rows s =
@@ -138,20 +138,20 @@ module _ (job : Job) (seeds : List (Option (List ℕ))) (k : IsOffered job) (nam
       let below : p < n = omega (arith, s.one_each, lt) in
       s.there p below (λ i. i) ∙ sym (get_or-map-range_with_len give 0 n p p None below (omega arith)))
 
-  goes_on : (p : ℕ) (ps : List ℕ) (rows : List (Option Row)) → p < n → ¬ IsIn p ps → StandsBefore (p ∷ ps) rows → StandsBefore ps (slice_set rows p (Some (row p)))
+  goes_on : (p : ℕ) (ps : List ℕ) (rows : List (Option Row)) → p < n → ¬ IsElement p ps → StandsBefore (p ∷ ps) rows → StandsBefore ps (slice_set rows p (Some (row p)))
   goes_on p ps rows lt apart s = record {
     one_each = length-set rows p (Some (row p)) ∙ s.one_each;
     there = λ q below out. here q below out (q == p) refl;
     missing = λ q i.
-        let other : q ≢ p = λ same. apart (subst (λ x. IsIn x ps) same i) in
+        let other : q ≢ p = λ same. apart (subst (λ x. IsElement x ps) same i) in
         get_or-set_other rows p q (Some (row p)) None other ∙ s.missing q (inr i);
   }
     where
-      not_in : (q : ℕ) → q ≢ p → ¬ IsIn q ps → IsIn q (p ∷ ps) → ⊥
+      not_in : (q : ℕ) → q ≢ p → ¬ IsElement q ps → IsElement q (p ∷ ps) → ⊥
       not_in q other out (inl e) = other e
       not_in q other out (inr i) = out i
 
-      here : (q : ℕ) → q < n → ¬ IsIn q ps → (b : Bool) → (q == p) ≡ b → find_row (slice_set rows p (Some (row p))) q ≡ Some (row q)
+      here : (q : ℕ) → q < n → ¬ IsElement q ps → (b : Bool) → (q == p) ≡ b → find_row (slice_set rows p (Some (row p))) q ≡ Some (row q)
       here q below out true e =
           let same : q ≡ p = eqb-true q p e in
           let inside : p < length rows = omega (arith, s.one_each, lt) in
@@ -160,7 +160,7 @@ module _ (job : Job) (seeds : List (Option (List ℕ))) (k : IsOffered job) (nam
           let other : q ≢ p = eqb-false q p e in
           get_or-set_other rows p q (Some (row p)) None other ∙ s.there q below (λ i. not_in q other out i)
 
-  takes_all : (line : ℕ) (order : List ℕ) (rows : List (Option Row)) → ((p : ℕ) → IsIn p order → p < n) → AreApart order → StandsBefore order rows
+  takes_all : (line : ℕ) (order : List ℕ) (rows : List (Option Row)) → ((p : ℕ) → IsElement p order → p < n) → AreApart order → StandsBefore order rows
       → with_rows job line rows (map row_text order) ≡ Ok (seeded_rows seeds job.deal)
   takes_all line [] rows below apart s = ap (λ (l : List (Option Row)). Ok l) (all_there rows s)
   takes_all line (p ∷ ps) rows below apart s =

@@ -5,11 +5,11 @@ use Rattle.std.specs.List.{flat_map, position_from, range_with_len, AllByRecursi
 use Rattle.std.proofs.lemmas.Iterator.Adapters.{position_from-zero}
 use Rattle.hex.specs.Hex.{encode_lower}
 use Rattle.swap_base.specs.Fault.{◌>>=◌}
-use Rattle.swap_base.specs.Lists.{IsIn}
+use Rattle.swap_base.specs.Lists.{IsElement}
 use Rattle.swap_job.specs.declared.job.Job.{Job}
 use Rattle.refusals.specs.declared.refusal.Refusal.{Refusal}
 use Rattle.typed_books.specs.Typed.{IsDigest}
-use Rattle.swap_gen.specs.Made.{read_seed}
+use Rattle.swap_gen.specs.Made.{seed_or_zeros}
 use Rattle.transcript_lines.specs.declared.said.Misspelling.{Misspelling}
 use Rattle.transcript_lines.specs.Between.{ended, spaced}
 use Rattle.transcript_lines.specs.Reading.{to_digest}
@@ -17,7 +17,7 @@ use Rattle.transcript_lines.proofs.Parts.{high_between, high_too, parts_between}
 use Rattle.transcript_lines.proofs.Hex.{digest_back, high_hex}
 use Rattle.transcript_lines.proofs.Spelling.{field_back}
 use Rattle.party_lines.specs.Digests.{digest_line, digest_told, this_word, told_digest}
-use Rattle.party_lines.specs.Lines.{ended_lines, read_in_own_line}
+use Rattle.party_lines.specs.Lines.{ended_lines, or_bad_line}
 use Rattle.party_lines.specs.Names.{party_named}
 use Rattle.party_rows.specs.Dealt.{dealt, dealt_line}
 use Rattle.party_rows.specs.Keys.{by_refusal, deal_from_rows, deal_output, keys_from_lines, keys_output, parse_dealing, parse_dealing_lines, row_from_lines, row_of_name}
@@ -49,9 +49,9 @@ seed_said seed k =
 seed_back : (seed : List ℕ) → IsDigest seed → digest_told (codes "seed") 1 (seed_text seed) ≡ Ok seed
 unfolding digest_told
 seed_back seed k =
-    ap (λ ws. read_in_own_line 1 (told_digest (codes "seed") ws))
+    ap (λ ws. or_bad_line 1 (told_digest (codes "seed") ws))
     (parts_between 32 33 (codes "seed") (encode_lower seed ∷ []) (omega arith) refl (high_too 33 48 (encode_lower seed) (omega arith) (high_hex seed k.bytes), tt))
-    ∙ ap (read_in_own_line 1) (seed_said seed k)
+    ∙ ap (or_bad_line 1) (seed_said seed k)
 
 seed_no_feed : (seed : List ℕ) → IsDigest seed → HasNoFeed (seed_text seed)
 seed_no_feed seed k =
@@ -65,21 +65,21 @@ module _ (offer : List ℕ) (job : Job) (seeds : List (Option (List ℕ))) (k : 
   named_below p lt = omega (arith, k.offered.whole.names, lt)
 
   row_is : (p : ℕ) → p < job.deal.graph.n
-      → row_from_lines (party_name job p) (read_seed seeds p) (offer ∷ []) ≡ Ok (seeded_line seeds job p)
+      → row_from_lines (party_name job p) (seed_or_zeros seeds p) (offer ∷ []) ≡ Ok (seeded_line seeds job p)
   unfolding row_from_lines row_of_name
   row_is p lt =
       step (parse_offer 2 offer) job _ (k.reads 2)
       ∙ step (party_named 2 job.names (party_name job p)) p _ (finds 2 job.names p k.offered.names (named_below p lt))
 
   line_is : (p : ℕ) → p < job.deal.graph.n
-      → digest_line (codes "seed") 1 (seed_text (read_seed seeds p) ∷ offer ∷ []) ≡ Ok (read_seed seeds p, offer ∷ [])
+      → digest_line (codes "seed") 1 (seed_text (seed_or_zeros seeds p) ∷ offer ∷ []) ≡ Ok (seed_or_zeros seeds p, offer ∷ [])
   unfolding digest_line
-  line_is p lt = step (digest_told (codes "seed") 1 (seed_text (read_seed seeds p))) (read_seed seeds p) _ (seed_back (read_seed seeds p) (s p lt))
+  line_is p lt = step (digest_told (codes "seed") 1 (seed_text (seed_or_zeros seeds p))) (seed_or_zeros seeds p) _ (seed_back (seed_or_zeros seeds p) (s p lt))
 
-  pub keys_give : (p : ℕ) → p < job.deal.graph.n → keys_output (party_name job p) (keys_input (read_seed seeds p) offer) ≡ Ok (seeded_line seeds job p)
+  pub keys_give : (p : ℕ) → p < job.deal.graph.n → keys_output (party_name job p) (keys_input (seed_or_zeros seeds p) offer) ≡ Ok (seeded_line seeds job p)
   unfolding keys_output keys_from_lines
   keys_give p lt =
-      let seed = read_seed seeds p in
+      let seed = seed_or_zeros seeds p in
       step (ended_lines (keys_input seed offer)) (seed_text seed ∷ offer ∷ []) (keys_from_lines (party_name job p))
       (ended_back (seed_text seed) (offer ∷ []) (seed_no_feed seed (s p lt)) (k.one_line, tt))
       ∙ step (digest_line (codes "seed") 1 (seed_text seed ∷ offer ∷ [])) (seed, offer ∷ []) _ (line_is p lt)
@@ -90,11 +90,11 @@ module _ (offer : List ℕ) (job : Job) (seeds : List (Option (List ℕ))) (k : 
   abbrev text : ℕ → List ℕ
   text p = row_text job seeds k.offered k.names p
 
-  same_texts : (rows : ℕ → List ℕ) (order : List ℕ) → ((p : ℕ) → IsIn p order → rows p ≡ text p ++ 10 ∷ []) → flat_map rows order ≡ ended (map text order)
+  same_texts : (rows : ℕ → List ℕ) (order : List ℕ) → ((p : ℕ) → IsElement p order → rows p ≡ text p ++ 10 ∷ []) → flat_map rows order ≡ ended (map text order)
   same_texts rows [] same = refl
   same_texts rows (p ∷ ps) same = ap₂ (λ (a b : List ℕ). a ++ b) (same p (inl refl)) (same_texts rows ps (λ q i. same q (inr i)))
 
-  no_feeds : (order : List ℕ) → ((p : ℕ) → IsIn p order → p < job.deal.graph.n) → AllByRecursion HasNoFeed (map text order)
+  no_feeds : (order : List ℕ) → ((p : ℕ) → IsElement p order → p < job.deal.graph.n) → AllByRecursion HasNoFeed (map text order)
   no_feeds [] below = tt
   no_feeds (p ∷ ps) below =
       (no_feed (text p) (is_high job seeds k.offered k.names p (named_below p (below p (inl refl)))), no_feeds ps (λ q i. below q (inr i)))
@@ -115,7 +115,7 @@ module _ (offer : List ℕ) (job : Job) (seeds : List (Option (List ℕ))) (k : 
       (ended_back offer (map text order) k.one_line (no_feeds order o.below))
       ∙ dealing_is order o
 
-  none_from : (i : ℕ) (xs : List ℕ) → position_from is_none i (map (λ p. Some (seeded_row (read_seed seeds p) p job.deal)) xs) ≡ None
+  none_from : (i : ℕ) (xs : List ℕ) → position_from is_none i (map (λ p. Some (seeded_row (seed_or_zeros seeds p) p job.deal)) xs) ≡ None
   none_from i [] = refl
   none_from i (x ∷ xs) = none_from (i + 1) xs
 
@@ -133,12 +133,12 @@ module _ (offer : List ℕ) (job : Job) (seeds : List (Option (List ℕ))) (k : 
   same_ok a b r x y = cc (x, y)
 
   row_texts : (rows : ℕ → List ℕ) (p : ℕ) → p < job.deal.graph.n
-      → keys_output (party_name job p) (keys_input (read_seed seeds p) offer) ≡ Ok (rows p) → rows p ≡ text p ++ 10 ∷ []
+      → keys_output (party_name job p) (keys_input (seed_or_zeros seeds p) offer) ≡ Ok (rows p) → rows p ≡ text p ++ 10 ∷ []
   unfolding row_line
   row_texts rows p lt written = same_ok (rows p) (seeded_line seeds job p) _ written (keys_give p lt)
 
   pub deal_of_rows : (order : List ℕ) (rows : ℕ → List ℕ) → IsOrder job.deal.graph.n order
-      → ((p : ℕ) → p < job.deal.graph.n → keys_output (party_name job p) (keys_input (read_seed seeds p) offer) ≡ Ok (rows p))
+      → ((p : ℕ) → p < job.deal.graph.n → keys_output (party_name job p) (keys_input (seed_or_zeros seeds p) offer) ≡ Ok (rows p))
       → deal_output (deal_input offer rows order) ≡ Ok (dealt_line (dealt (seeded_rows seeds job.deal) job))
   deal_of_rows order rows o written =
       ap (λ (t : List ℕ). deal_output ((offer ++ 10 ∷ []) ++ t)) (same_texts rows order (λ p i. row_texts rows p (o.below p i) (written p (o.below p i))))

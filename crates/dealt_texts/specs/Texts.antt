@@ -2,12 +2,12 @@
 use Rattle.std.specs.Prelude.{◌≡◌, ◌<◌, ◌==◌, ◌++◌, ℕ, List, [], ◌∷◌, All, codes, not, true, slice_index_or, Option, Ok}
 use Rattle.std.specs.List.{flat_map, list_all}
 use Rattle.hex.specs.Hex.{encode_lower}
-use Rattle.swap_base.specs.Lists.{IsIn}
+use Rattle.swap_base.specs.Lists.{IsElement}
 use Rattle.swap_job.specs.declared.job.Job.{Job}
 use Rattle.swap_job.specs.declared.job.Purpose.TheVariants.{Audit}
 use Rattle.typed_books.specs.Typed.{IsDigest}
 use Rattle.offer_header.specs.Names.{is_name}
-use Rattle.swap_gen.specs.Made.{made_deal, read_seed}
+use Rattle.swap_gen.specs.Made.{made_deal, seed_or_zeros}
 use Rattle.transcript_lines.specs.Between.{ended, spaced}
 use Rattle.party_rows.specs.Dealt.{dealt_line}
 use Rattle.party_rows.specs.Inside.{IsOffered}
@@ -15,8 +15,8 @@ use Rattle.party_rows.specs.Keys.{deal_output, keys_output}
 use Rattle.party_rows.specs.Offer.{parse_offer}
 use Rattle.party_rows.specs.Row.{row_line, seeded_row}
 
--- A plain offer's line: it holds no line feed, whatever its number it proposes the job, and the job's
--- names are names.
+-- A plain offer's line: it holds no line feed, whatever its number it proposes the job, and the
+-- job's names are names.
 pub record IsOfferLine (offer : List ℕ) (job : Job) : Type 0 where
   pub one_line : list_all (λ x. not (x == 10)) offer ≡ true
   pub reads : (line : ℕ) → parse_offer line offer ≡ Ok job
@@ -25,7 +25,7 @@ pub record IsOfferLine (offer : List ℕ) (job : Job) : Type 0 where
 
 -- the seeds of the parties of a job have 32 bytes each
 abbrev pub AreSeeds : List (Option (List ℕ)) → Job → Type 0
-AreSeeds seeds job = (p : ℕ) → p < job.deal.graph.n → IsDigest (read_seed seeds p)
+AreSeeds seeds job = (p : ℕ) → p < job.deal.graph.n → IsDigest (seed_or_zeros seeds p)
 
 -- the name of party p
 abbrev pub party_name : Job → ℕ → List ℕ
@@ -33,7 +33,7 @@ party_name job p = slice_index_or job.names p []
 
 -- the row that its seed gives party p
 abbrev pub seeded_line : List (Option (List ℕ)) → Job → ℕ → List ℕ
-seeded_line seeds job p = row_line (party_name job p) (seeded_row (read_seed seeds p) p job.deal)
+seeded_line seeds job p = row_line (party_name job p) (seeded_row (seed_or_zeros seeds p) p job.deal)
 
 -- what is handed over to `keys`: a seed and an offer
 abbrev pub keys_input : List ℕ → List ℕ → List ℕ
@@ -43,28 +43,28 @@ keys_input seed offer = ended (spaced (codes "seed" ∷ encode_lower seed ∷ []
 abbrev pub KeysGiveRows : Type 0
 KeysGiveRows =
     (offer : List ℕ) (job : Job) (seeds : List (Option (List ℕ))) (p : ℕ) → IsOfferLine offer job → AreSeeds seeds job → p < job.deal.graph.n
-    → keys_output (party_name job p) (keys_input (read_seed seeds p) offer) ≡ Ok (seeded_line seeds job p)
+    → keys_output (party_name job p) (keys_input (seed_or_zeros seeds p) offer) ≡ Ok (seeded_line seeds job p)
 
 -- no party stands twice
 abbrev pub AreApart : List ℕ → Type 0
 AreApart [] = Unit {0}
-AreApart (p ∷ ps) = ¬ IsIn p ps × AreApart ps
+AreApart (p ∷ ps) = ¬ IsElement p ps × AreApart ps
 
 -- Each of n parties once, in any order.
 pub record IsOrder (n : ℕ) (order : List ℕ) : Type 0 where
-  pub below : (p : ℕ) → IsIn p order → p < n
-  pub each : (p : ℕ) → p < n → IsIn p order
+  pub below : (p : ℕ) → IsElement p order → p < n
+  pub each : (p : ℕ) → p < n → IsElement p order
   pub apart : AreApart order
 
 -- what is handed over to `deal`: an offer, and the parties' rows in that order
 abbrev pub deal_input : List ℕ → (ℕ → List ℕ) → List ℕ → List ℕ
 deal_input offer rows order = (offer ++ 10 ∷ []) ++ flat_map rows order
 
--- Of an offer and the rows that `keys` writes of the parties' seeds, in any order, `deal` writes the
--- header line of the job that is made of the offer with these seeds, as a transcript shows it.
+-- Of an offer and the rows that `keys` writes of the parties' seeds, in any order, `deal` writes
+-- the header line of the job that is made of the offer with these seeds, as a transcript shows it.
 abbrev pub DealsOfRowsAreMade : Type 0
 DealsOfRowsAreMade =
     (offer : List ℕ) (job : Job) (seeds : List (Option (List ℕ))) (order : List ℕ) (rows : ℕ → List ℕ)
     → IsOfferLine offer job → AreSeeds seeds job → IsOrder job.deal.graph.n order
-    → ((p : ℕ) → p < job.deal.graph.n → keys_output (party_name job p) (keys_input (read_seed seeds p) offer) ≡ Ok (rows p))
+    → ((p : ℕ) → p < job.deal.graph.n → keys_output (party_name job p) (keys_input (seed_or_zeros seeds p) offer) ≡ Ok (rows p))
     → deal_output (deal_input offer rows order) ≡ Ok (dealt_line (record (record job { deal = made_deal seeds job.deal }) { purpose = Audit }))

@@ -1,5 +1,6 @@
-//! From text to text: what `party deal` writes of an offer and of the rows that `party keys` writes,
-//! in any order, is the header line of the job that is made of the offer with the parties' seeds.
+//! From text to text: what `party deal` writes of an offer and of the rows that `party keys`
+//! writes, in any order, is the header line of the job that is made of the offer with the parties'
+//! seeds.
 //!
 //! Read `specs/Texts.antt`.
 #![tactic(auto)]

@@ -5,7 +5,7 @@ use Rattle.std.specs.Str.{bytes_eq}
 use Rattle.std.specs.List.{list_any}
 use Rattle.std.specs.Prelude.{IfOk, Result, Ok, Err}
 use Rattle.std.proofs.lemmas.Slice.Eq.{bytes_eq-Decides}
-use Rattle.swap_job.specs.Names.{under}
+use Rattle.swap_job.specs.Names.{named_item}
 
 from_here : {A : Type 0} (xs : List A) (n : ℕ) (x : A) → n < length xs → x ≡ get_or xs n x → drop n xs ≡ x ∷ drop (n + 1) xs
 from_here xs n x l is = rw (add-one, drop-cons xs n x l, ← is) refl
@@ -13,22 +13,22 @@ from_here xs n x l is = rw (add-one, drop-cons xs n x l, ← is) refl
 -- the first names that are left, with their items
 split : {A : Type 0} (name : List ℕ) (names : List (List ℕ)) (xs : List A) (i : ℕ) (n : List ℕ) (x : A) → i < length names → i < length xs
     → n ≡ get_or names i n → x ≡ get_or xs i x
-    → under name (drop i names) (drop i xs) ≡ cond (bytes_eq n name) (Some x) (under name (drop (i + 1) names) (drop (i + 1) xs))
+    → named_item name (drop i names) (drop i xs) ≡ cond (bytes_eq n name) (Some x) (named_item name (drop (i + 1) names) (drop (i + 1) xs))
 split {A = A} name names xs i n x ln lx isn isx =
-    ap (λ ms. under name ms (drop i xs)) (from_here names i n ln isn)
-    ∙ ap (λ (ys : List A). under name (n ∷ drop (i + 1) names) ys) (from_here xs i x lx isx)
+    ap (λ ms. named_item name ms (drop i xs)) (from_here names i n ln isn)
+    ∙ ap (λ (ys : List A). named_item name (n ∷ drop (i + 1) names) ys) (from_here xs i x lx isx)
 
 pub found : {A : Type 0} (name : List ℕ) (names : List (List ℕ)) (xs : List A) (i : ℕ) (n : List ℕ) (x : A) (whole : Option A) → i < length names
     → i < length xs → n ≡ get_or names i n → x ≡ get_or xs i x → bytes_eq n name ≡ true
-    → under name (drop i names) (drop i xs) ≡ whole → Some x ≡ whole
+    → named_item name (drop i names) (drop i xs) ≡ whole → Some x ≡ whole
 found name names xs i n x whole ln lx isn isx e so_far =
-    sym (split name names xs i n x ln lx isn isx ∙ ap (λ b. cond b (Some x) (under name (drop (i + 1) names) (drop (i + 1) xs))) e) ∙ so_far
+    sym (split name names xs i n x ln lx isn isx ∙ ap (λ b. cond b (Some x) (named_item name (drop (i + 1) names) (drop (i + 1) xs))) e) ∙ so_far
 
 pub passed : {A : Type 0} (name : List ℕ) (names : List (List ℕ)) (xs : List A) (i : ℕ) (n : List ℕ) (x : A) (whole : Option A) → i < length names
     → i < length xs → n ≡ get_or names i n → x ≡ get_or xs i x → bytes_eq n name ≡ false
-    → under name (drop i names) (drop i xs) ≡ whole → under name (drop (i + 1) names) (drop (i + 1) xs) ≡ whole
+    → named_item name (drop i names) (drop i xs) ≡ whole → named_item name (drop (i + 1) names) (drop (i + 1) xs) ≡ whole
 passed name names xs i n x whole ln lx isn isx e so_far =
-    sym (split name names xs i n x ln lx isn isx ∙ ap (λ b. cond b (Some x) (under name (drop (i + 1) names) (drop (i + 1) xs))) e) ∙ so_far
+    sym (split name names xs i n x ln lx isn isx ∙ ap (λ b. cond b (Some x) (named_item name (drop (i + 1) names) (drop (i + 1) xs))) e) ∙ so_far
 
 -- the item in a place that is there
 pub in_place : {A : Type 0} (xs : List A) (i : ℕ) → i < length xs → (x : A) × (x ≡ get_or xs i x)
@@ -48,18 +48,18 @@ same_either_way n name = by (bytes_eq n name) (bytes_eq name n) refl refl
     by false true e f = absurd (cc (sym e ∙ (bytes_eq-Decides n name).1 (sym ((bytes_eq-Decides name n).0 f))))
 
 is_had : {A : Type 0} (names : List (List ℕ)) (xs : List A) → length names ≡ length xs → (name : List ℕ)
-    → list_any (bytes_eq name) names ≡ is_some (under name names xs)
+    → list_any (bytes_eq name) names ≡ is_some (named_item name names xs)
 is_had [] xs paired name = refl
 is_had (n ∷ names) [] paired name = absurd (omega (arith, paired))
 is_had {A = A} (n ∷ names) (x ∷ xs) paired name = rw (← same_either_way n name) (by (bytes_eq n name) (is_had names xs (omega (arith, paired)) name))
   where
-    by : (b : Bool) → list_any (bytes_eq name) names ≡ is_some (under name names xs)
-        → (b || list_any (bytes_eq name) names) ≡ is_some (if b then Some x else under name names xs)
+    by : (b : Bool) → list_any (bytes_eq name) names ≡ is_some (named_item name names xs)
+        → (b || list_any (bytes_eq name) names) ≡ is_some (if b then Some x else named_item name names xs)
     by true rest = refl
     by false rest = rest
 
 -- the names that are told are those of its strategies
 pub all_had : {A E : Type 0} (names : List (List ℕ)) (xs : List A) → length names ≡ length xs → (told : Result (List (List ℕ)) E)
-    → IfOk told (λ ns. ns ≡ names) → IfOk told (λ ns. (name : List ℕ) → list_any (bytes_eq name) ns ≡ is_some (under name names xs))
+    → IfOk told (λ ns. ns ≡ names) → IfOk told (λ ns. (name : List ℕ) → list_any (bytes_eq name) ns ≡ is_some (named_item name names xs))
 all_had names xs paired (Ok ns) e = λ name. ap (list_any (bytes_eq name)) e ∙ is_had names xs paired name
 all_had names xs paired (Err e) h = tt

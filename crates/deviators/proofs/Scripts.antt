@@ -17,7 +17,7 @@ use Rattle.deviators.specs.Script.{is_wait, is_finished, past_waits, first_call,
 use Rattle.deviators.specs.View.{MayAnswer}
 use Rattle.swap_job.specs.declared.moves.Move.{Move}
 use Rattle.swap_job.proofs.Usable.{resolved_fits}
-use Rattle.swap_job.specs.Fitting.{is_near, IsMoveOf}
+use Rattle.swap_job.specs.Fitting.{is_near, IsPartyMove}
 
 from_here : (moves : List Move) (n : ℕ) (mv : Move) → n < length moves → mv ≡ get_or moves n mv → drop n moves ≡ mv ∷ drop (n + 1) moves
 from_here moves n mv l is = rw (add-one, drop-cons moves n mv l, ← is) refl
@@ -44,7 +44,7 @@ low_heights d k legal a = go (nat_lt a (length k)) refl
     go false e = subst (λ h. height h < 2 ^ 32) (sym (get_or-eq_default k [] (omega (arith, ltb-false a (length k) e)))) (omega arith)
 
 -- what a move of the party resolves to may be answered
-pub may_resolve : (d : Deal) (seeds : Seeds) (p : ℕ) (k : Histories) (mv : Move) → IsLegalBook d k → IsMoveOf d seeds p mv
+pub may_resolve : (d : Deal) (seeds : Seeds) (p : ℕ) (k : Histories) (mv : Move) → IsLegalBook d k → IsPartyMove d seeds p mv
     → MayAnswer d p (resolved d seeds k mv)
 may_resolve d seeds p k mv legal is = λ x q. record { arc = (at x q).0; near = (at x q).1; fits = resolved_fits d seeds k mv legal is.fits x q }
   where
@@ -77,15 +77,15 @@ first_gone P (mv ∷ moves) all = go (is_wait mv)
 pub left_fit : (P : Move → Type 0) (k : Histories) (moves : List Move) → All P moves → All P (moves_left k moves)
 left_fit P k moves all = first_gone P (past_waits k moves) (waits_past P k moves all)
 
-first_may : (d : Deal) (seeds : Seeds) (p : ℕ) (k : Histories) (moves : List Move) → IsLegalBook d k → All (IsMoveOf d seeds p) moves
+first_may : (d : Deal) (seeds : Seeds) (p : ℕ) (k : Histories) (moves : List Move) → IsLegalBook d k → All (IsPartyMove d seeds p) moves
     → MayAnswer d p (first_call d seeds k moves)
 first_may d seeds p k [] legal all = λ x q. absurd (cc q)
-first_may d seeds p k (mv ∷ moves) legal all = may_resolve d seeds p k mv legal (All-head (IsMoveOf d seeds p) mv moves all)
+first_may d seeds p k (mv ∷ moves) legal all = may_resolve d seeds p k mv legal (All-head (IsPartyMove d seeds p) mv moves all)
 
 -- what a script calls may be answered
-pub next_may : (d : Deal) (seeds : Seeds) (p : ℕ) (k : Histories) (moves : List Move) → IsLegalBook d k → All (IsMoveOf d seeds p) moves
+pub next_may : (d : Deal) (seeds : Seeds) (p : ℕ) (k : Histories) (moves : List Move) → IsLegalBook d k → All (IsPartyMove d seeds p) moves
     → MayAnswer d p (next_call d seeds k moves)
-next_may d seeds p k moves legal all = first_may d seeds p k (past_waits k moves) legal (waits_past (IsMoveOf d seeds p) k moves all)
+next_may d seeds p k moves legal all = first_may d seeds p k (past_waits k moves) legal (waits_past (IsPartyMove d seeds p) k moves all)
 
 -- each move from a place on
 pub all_from : {A : Type 0} (P : A → Type 0) (xs : List A) (n i : ℕ) (d : A) → All P (drop n xs) → n ≤ i → i < length xs → P (get_or xs i d)

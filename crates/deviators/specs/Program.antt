@@ -9,7 +9,8 @@ use Rattle.deviators.specs.Rules.{silent, greedy, replayer, spoiler}
 abbrev pub program_names : List (List ℕ)
 program_names = codes "silent" ∷ codes "greedy" ∷ codes "replayer" ∷ codes "spoiler" ∷ []
 
--- what the strategy of that name answers, by deal, party, turn number and what the party knows; there is none of any other name
+-- what the strategy of that name answers, by deal, party, turn number and what the party knows;
+-- there is none of any other name
 abbrev pub program_rule : List ℕ → Deal → ℕ → ℕ → Histories → Option (ℕ × Call)
 program_rule name d p t k =
     if bytes_eq (codes "silent") name then silent d p t k

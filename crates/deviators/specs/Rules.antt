@@ -27,13 +27,13 @@ abbrev pub greedy : Deal → ℕ → ℕ → Histories → Option (ℕ × Call)
 greedy d v t k = option_map (λ a. (a, Claim)) (around (entering d.graph v) t)
 
 -- the hashkey of a call, where it is an unlock
-abbrev pub fetch_key : Option Call → List Hashkey
-fetch_key (Some (Unlock key)) = key ∷ []
-fetch_key _ = []
+abbrev pub call_keys : Option Call → List Hashkey
+call_keys (Some (Unlock key)) = key ∷ []
+call_keys _ = []
 
 -- the hashkeys of the accepted unlocks that are known, by arc and entry
 abbrev pub keys_known : Histories → List Hashkey
-keys_known k = flat_map (λ h. flat_map (λ e. fetch_key (accepted e)) h) k
+keys_known k = flat_map (λ h. flat_map (λ e. call_keys (accepted e)) h) k
 
 -- an unlock on the arc with the hashkey, where both are there
 abbrev pub make_unlock : Option ℕ → Option Hashkey → Option (ℕ × Call)
@@ -53,6 +53,6 @@ abbrev pub spoiler : Deal → ℕ → ℕ → Histories → Option (ℕ × Call)
 spoiler d v t k = option_map (λ a. (a, Publish (spoiled_terms d a))) (around (leaving d.graph v) t)
 
 -- the hashkeys of the item's accepted unlocks: one for an accepted unlock, none for ticks
-abbrev pub read_keys : Item → List Hashkey
-read_keys (One e) = fetch_key (accepted e)
-read_keys (Ticks r) = []
+abbrev pub item_keys : Item → List Hashkey
+item_keys (One e) = call_keys (accepted e)
+item_keys (Ticks r) = []

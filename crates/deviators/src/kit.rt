@@ -7,7 +7,7 @@ ghost use Rattle.std.specs.Str.{bytes_eq};
 ghost use Rattle.swap_digraph.specs.declared.deal.Deal.{Deal};
 ghost use Rattle.ledger_core.specs.declared.entry.Call.{Call};
 ghost use Rattle.ledger_core.specs.Book.{Histories};
-ghost use Rattle.swap_job.specs.Names.{under};
+ghost use Rattle.swap_job.specs.Names.{named_item};
 ghost use Rattle.deviators.specs.View.{IsView, MayAnswer};
 
 use crate::strategy::{Rule, Strategy};
@@ -21,7 +21,8 @@ pub trait Strategies {
     /// Whether there is a strategy of that name.
     ghost holds: { Self → List ℕ → Bool };
 
-    /// What the strategy of that name may answer, by deal, party, turn number and what the party knows.
+    /// What the strategy of that name may answer, by deal, party, turn number and what the party
+    /// knows.
     ghost gives: { Self → List ℕ → Deal → ℕ → ℕ → Histories → Option (ℕ × Call) → Type 0 };
 
     /// The names under which there is a strategy.
@@ -64,7 +65,7 @@ impl Kit {
 
     /// Adds a strategy under a name that isn't there.
     pub fn add(&mut self, name: ByteText, strategy: Strategy) -> Result<(), NoMemory>
-        requires new { is_some (under name self.old.names self.old.strategies.items) ≡ false }
+        requires new { is_some (named_item name self.old.names self.old.strategies.items) ≡ false }
         ensures names { OnOk result (self.new.names ≡ self.old.names ++ name ∷ []) }
         ensures strategies { OnOk result (self.new.strategies.items ≡ self.old.strategies.items ++ strategy ∷ []) }
         ensures err_names { OnErr result (self.new.names ≡ self.old.names) }
@@ -78,7 +79,7 @@ impl Kit {
 
     /// The strategy of that name.
     pub fn get(&self, name: &ByteText) -> Option<&Strategy>
-        ensures { option_copied result ≡ under name.now self.now.names self.now.strategies.items }
+        ensures { option_copied result ≡ named_item name.now self.now.names self.now.strategies.items }
     {
         for at in 0..self.strategies.len() {
             if self.names.as_slice()[at] == *name {
@@ -90,9 +91,9 @@ impl Kit {
 }
 
 impl Strategies for Kit {
-    ghost holds = { λ kit name. is_some (under name kit.names kit.strategies.items) };
+    ghost holds = { λ kit name. is_some (named_item name kit.names kit.strategies.items) };
 
-    ghost gives = { λ kit name d p t k o. (s : _) × (dr : _) × (kr : _) × (under name kit.names kit.strategies.items ≡ Some s) × (dr.now ≡ d)
+    ghost gives = { λ kit name d p t k o. (s : _) × (dr : _) × (kr : _) × (named_item name kit.names kit.strategies.items ≡ Some s) × (dr.now ≡ d)
         × (kr.now.histories ≡ k) × Rule.post s.rule dr p t kr (Ok o) };
 
     fn names(&self) -> Result<Listed<ByteText>, NoMemory> {

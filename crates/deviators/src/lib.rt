@@ -1,7 +1,9 @@
-//! Parties that don't conform: what scripts and strategies do next, and the program's strategies under their names.
+//! Parties that don't conform: what scripts and strategies do next, and the program's strategies
+//! under their names.
 //!
-//! Read `specs/View.antt` first: what a script or a strategy is shown and what it may answer. `specs/Script.antt` and `specs/Rules.antt` say what
-//! a script and the program's strategies do, `specs/Program.antt` under which names.
+//! Read `specs/View.antt` first: what a script or a strategy is shown and what it may answer.
+//! `specs/Script.antt` and `specs/Rules.antt` say what a script and the program's strategies do,
+//! `specs/Program.antt` under which names.
 #![tactic(auto)]
 
 mod kit;

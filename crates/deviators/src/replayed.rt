@@ -2,7 +2,7 @@
 
 ghost use Rattle.std.specs.Prelude.{◌≡◌, ◌++◌, OnOk, IfOk};
 ghost use Rattle.std.specs.List.{flat_map};
-ghost use Rattle.deviators.specs.Rules.{around, fetch_key, keys_known, read_keys};
+ghost use Rattle.deviators.specs.Rules.{around, call_keys, keys_known, item_keys};
 ghost use Rattle.ledger_core.specs.History.{accepted};
 
 use escrow_core::Reply;
@@ -12,7 +12,7 @@ use std::alloc::Global;
 use swap_base::{NoMemory, Shared, TryCopy};
 
 fn add_key(keys: &mut Vec<Shared<Hashkey>>, e: &Entry) -> Result<(), NoMemory>
-    ensures { OnOk result (keys.new.items ≡ keys.old.items ++ fetch_key (accepted e.now)) }
+    ensures { OnOk result (keys.new.items ≡ keys.old.items ++ call_keys (accepted e.now)) }
 {
     match (&e.what, e.reply) {
         (What::Call(Call::Unlock(key)), Reply::Accepted) => {
@@ -24,7 +24,7 @@ fn add_key(keys: &mut Vec<Shared<Hashkey>>, e: &Entry) -> Result<(), NoMemory>
 }
 
 fn add_of_item(keys: &mut Vec<Shared<Hashkey>>, item: &Item) -> Result<(), NoMemory>
-    ensures { OnOk result (keys.new.items ≡ keys.old.items ++ read_keys item.now) }
+    ensures { OnOk result (keys.new.items ≡ keys.old.items ++ item_keys item.now) }
 {
     match item {
         Item::One(entry) => add_key(keys, entry),
@@ -33,7 +33,7 @@ fn add_of_item(keys: &mut Vec<Shared<Hashkey>>, item: &Item) -> Result<(), NoMem
 }
 
 fn add_keys(keys: &mut Vec<Shared<Hashkey>>, items: &[Item]) -> Result<(), NoMemory>
-    ensures { OnOk result (keys.new.items ≡ keys.old.items ++ flat_map read_keys items.now) }
+    ensures { OnOk result (keys.new.items ≡ keys.old.items ++ flat_map item_keys items.now) }
 {
     for item in items {
         add_of_item(keys, item)?;
@@ -42,7 +42,7 @@ fn add_keys(keys: &mut Vec<Shared<Hashkey>>, items: &[Item]) -> Result<(), NoMem
 }
 
 fn add_known(keys: &mut Vec<Shared<Hashkey>>, list: &EntryList) -> Result<(), NoMemory>
-    ensures { OnOk result (keys.new.items ≡ keys.old.items ++ flat_map (λ e. fetch_key (accepted e)) list.now) }
+    ensures { OnOk result (keys.new.items ≡ keys.old.items ++ flat_map (λ e. call_keys (accepted e)) list.now) }
 {
     let (items, _) = list.parts();
     add_keys(keys, items)

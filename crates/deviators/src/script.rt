@@ -6,7 +6,7 @@ ghost use Rattle.ledger_core.specs.History.{height};
 ghost use Rattle.swap_job.specs.Resolved.{move_arc};
 ghost use Rattle.deviators.specs.Script.{is_wait, is_finished, past_waits, next_call, moves_left};
 ghost use Rattle.deviators.specs.View.{IsView, MayAnswer};
-ghost use Rattle.swap_job.specs.Fitting.{IsMoveOf};
+ghost use Rattle.swap_job.specs.Fitting.{IsPartyMove};
 
 use ledger_core::{Book, Call};
 use std::marker::Model;
@@ -94,7 +94,7 @@ impl Script {
         seeds: &[Option<Digest>],
     ) -> Result<Option<(ArcId, Call)>, NoMemory>
         requires view { IsView deal.now me known.now.histories }
-        requires moves { All (IsMoveOf deal.now seeds.now me) self.old }
+        requires moves { All (IsPartyMove deal.now seeds.now me) self.old }
         ensures exact { IfOk result (λ o. o ≡ next_call deal.now seeds.now known.now.histories self.old) }
         ensures left { OnOk result (self.new ≡ moves_left known.now.histories self.old) }
         ensures fits { IfOk result (MayAnswer deal.now me) }

@@ -8,7 +8,8 @@ use ledger_core::{Book, Call};
 use swap_base::{ArcId, NoMemory, PartyId};
 use swap_digraph::Deal;
 
-/// The next call of a party, if any, by a deal, the party, its turn number from 0, and what it knows.
+/// The next call of a party, if any, by a deal, the party, its turn number from 0, and what it
+/// knows.
 pub type Rule = Box<
     dyn Fn(&Deal, PartyId, u32, &Book) -> Result<Option<(ArcId, Call)>, NoMemory> + Send + Sync,
 >;

@@ -1,4 +1,5 @@
--- The closed set that is answered is closed, and there is none exactly where the digraph is strongly connected.
+-- The closed set that is answered is closed, and there is none exactly where the digraph is
+-- strongly connected.
 use Rattle.std.proofs.Common.{◌≡◌, ◌≢◌, ◌⊎◌, ℕ, zero, suc, ◌<◌, ◌==◌, Bool, true, false, not, List, [], ◌∷◌, length, filter, Some, None, refl, sym, ap}
 use Rattle.std.proofs.Common.{◌∙◌, subst, inl, inr, arith, eqb-true, eq-eqb}
 use Rattle.std.proofs.lemmas.Bool.{eqb-false, both_ways, not-true}
@@ -6,7 +7,7 @@ use Rattle.std.specs.List.{range_with_len, list_all}
 use Rattle.swap_base.proofs.Lists.{list_all-in, list_all-from, in_range, from_range}
 use Rattle.swap_digraph.specs.Value.{Graph}
 use Rattle.swap_digraph.specs.Graph.{parties, ends, is_listed, HasEnds, IsStronglyConnected}
-use Rattle.digraph_check.specs.Reach.{reaches_in, reaches, reached, stranded, closed_set}
+use Rattle.digraph_check.specs.Reach.{reaches_in_arcs, reaches, reached, stranded, closed_set}
 use Rattle.digraph_check.specs.Closed.{IsClosedSet}
 use Rattle.digraph_check.proofs.ListTests.{failing, among_where, where_among, where_ascends}
 use Rattle.digraph_check.proofs.Walks.{Along, goes_on, at_once, stays, snoc, along, two_walks, arc_json, arc_number}
@@ -94,8 +95,8 @@ none_both g false b h k e = absurd (let c : Some (reached g) ≡ None = sym (clo
 through_zero : (g : Graph) (u v : ℕ) → BothWays g → u < g.n → v < g.n → PathBetween g u v
 unfolding reaches
 through_zero g u v both lu lv =
-    let back = list_all-in (λ w. reaches_in g g.n w 0) (parties g) u both.to_zero (in_range u g.n lu) in
-    let on = list_all-in (λ w. reaches_in g g.n 0 w) (parties g) v both.from_zero (in_range v g.n lv) in
+    let back = list_all-in (λ w. reaches_in_arcs g g.n w 0) (parties g) u both.to_zero (in_range u g.n lu) in
+    let on = list_all-in (λ w. reaches_in_arcs g g.n 0 w) (parties g) v both.from_zero (in_range v g.n lv) in
     let w = two_walks g g.n g.n u 0 v back on in
     make_path g w.most u v lu w.walk
 
@@ -119,14 +120,14 @@ none_of_connected g strong =
 -- No walk leaves a closed set.
 
 remains_on : (g : Graph) (set : List ℕ) (k u v : ℕ) → IsClosedSet g set → is_listed u set ≡ true → (u ≡ v) ⊎ Along g k u v
-    → ((w : ℕ) → is_listed w set ≡ true → reaches_in g k w v ≡ true → is_listed v set ≡ true) → is_listed v set ≡ true
+    → ((w : ℕ) → is_listed w set ≡ true → reaches_in_arcs g k w v ≡ true → is_listed v set ≡ true) → is_listed v set ≡ true
 remains_on g set k u v closed h (inl e) rest = subst (λ (w : ℕ). is_listed w set ≡ true) e h
 remains_on g set k u v closed h (inr a) rest =
     let r = arc_number g.arcs u a.next a.arc in
     rest a.next (subst (λ (w : ℕ). is_listed w set ≡ true) r.to
     (closed.closed r.number r.stands (subst (λ (w : ℕ). is_listed w set ≡ true) (sym r.from) h))) a.rest
 
-remains : (g : Graph) (set : List ℕ) (k u v : ℕ) → IsClosedSet g set → is_listed u set ≡ true → reaches_in g k u v ≡ true → is_listed v set ≡ true
+remains : (g : Graph) (set : List ℕ) (k u v : ℕ) → IsClosedSet g set → is_listed u set ≡ true → reaches_in_arcs g k u v ≡ true → is_listed v set ≡ true
 remains g set zero u v closed h r = subst (λ (w : ℕ). is_listed w set ≡ true) (at_once g u v r) h
 remains g set (suc k) u v closed h r = remains_on g set k u v closed h (goes_on g k u v r) (λ w i s. remains g set k w v closed i s)
 

@@ -8,7 +8,7 @@ use Rattle.std.specs.List.{range_with_len}
 use Rattle.swap_base.proofs.Lists.{list_all-in, in_range, or_neither}
 use Rattle.swap_digraph.specs.Value.{Graph}
 use Rattle.swap_digraph.specs.Graph.{ends, has_arc, HasEnds}
-use Rattle.digraph_check.specs.Reach.{reaches_in, reaches}
+use Rattle.digraph_check.specs.Reach.{reaches_in_arcs, reaches}
 use Rattle.digraph_check.specs.Tree.{tree_arc, is_entered, all_entered, tree_parent, walked_back, IsCrossing, IsTree, IsSearch}
 use Rattle.digraph_check.proofs.ListTests.{or_split, same_test}
 use Rattle.digraph_check.proofs.Walks.{Along, goes_on, is_there, at_once, snoc, at_most, more, arc_json, arc_number}
@@ -174,15 +174,15 @@ grown_smaller g tree new a has grown lt crossing is =
 -- The last tree enters what party 0 reaches.
 
 by_entry : (g : Graph) (tree : List (Option ℕ)) (k v : ℕ) → HasEnds g → IsGrown g tree → v < g.n → (o : Option ℕ) → tree_arc tree v ≡ o
-    → walked_back g tree k (tree_parent g v o) ≡ 0 → ((u : ℕ) → u < g.n → walked_back g tree k u ≡ 0 → reaches_in g k 0 u ≡ true)
-    → reaches_in g (suc k) 0 v ≡ true
+    → walked_back g tree k (tree_parent g v o) ≡ 0 → ((u : ℕ) → u < g.n → walked_back g tree k u ≡ 0 → reaches_in_arcs g k 0 u ≡ true)
+    → reaches_in_arcs g (suc k) 0 v ≡ true
 by_entry g tree k v has grown lt None e h rest = more g k 0 v (rest v lt h)
 by_entry g tree k v has grown lt (Some a) e h rest =
     let t = grown.arc v a e in
     snoc g k 0 (ends g a).from v lt (subst (λ (w : ℕ). has_arc g (ends g a).from w
     ≡ true) t.1 (arc_json g.arcs a t.0)) (rest (ends g a).from (has.from a t.0) h)
 
-walk_of_steps : (g : Graph) (tree : List (Option ℕ)) (k v : ℕ) → HasEnds g → IsGrown g tree → v < g.n → walked_back g tree k v ≡ 0 → reaches_in g k 0 v ≡ true
+walk_of_steps : (g : Graph) (tree : List (Option ℕ)) (k v : ℕ) → HasEnds g → IsGrown g tree → v < g.n → walked_back g tree k v ≡ 0 → reaches_in_arcs g k 0 v ≡ true
 unfolding walked_back
 walk_of_steps g tree zero v has grown lt h = is_there g 0 0 v (sym h)
 walk_of_steps g tree (suc k) v has grown lt h = by_entry g tree k v has grown lt (tree_arc tree v) refl h (λ u l r. walk_of_steps g tree k u has grown l r)
@@ -195,12 +195,12 @@ enters_next g tree u w none arc h false e =
     absurd (none r.number r.stands (ap (is_entered tree) r.from ∙ h, ap (is_entered tree) r.to ∙ e))
 
 enters_on : (g : Graph) (tree : List (Option ℕ)) (k u v : ℕ) → ((a : ℕ) → a < length g.arcs → IsCrossing g.arcs tree a → ⊥) → is_entered tree u ≡ true
-    → (u ≡ v) ⊎ Along g k u v → ((w : ℕ) → is_entered tree w ≡ true → reaches_in g k w v ≡ true → is_entered tree v ≡ true) → is_entered tree v ≡ true
+    → (u ≡ v) ⊎ Along g k u v → ((w : ℕ) → is_entered tree w ≡ true → reaches_in_arcs g k w v ≡ true → is_entered tree v ≡ true) → is_entered tree v ≡ true
 enters_on g tree k u v none h (inl e) rest = subst (λ (w : ℕ). is_entered tree w ≡ true) e h
 enters_on g tree k u v none h (inr a) rest = rest a.next (enters_next g tree u a.next none a.arc h (is_entered tree a.next) refl) a.rest
 
 enters : (g : Graph) (tree : List (Option ℕ)) (k u v : ℕ) → ((a : ℕ) → a < length g.arcs → IsCrossing g.arcs tree a → ⊥) → is_entered tree u ≡ true
-    → reaches_in g k u v ≡ true → is_entered tree v ≡ true
+    → reaches_in_arcs g k u v ≡ true → is_entered tree v ≡ true
 enters g tree zero u v none h r = subst (λ (w : ℕ). is_entered tree w ≡ true) (at_once g u v r) h
 enters g tree (suc k) u v none h r = enters_on g tree k u v none h (goes_on g k u v r) (λ w i s. enters g tree k w v none i s)
 
@@ -240,11 +240,11 @@ pub searched : (g : Graph) (tree : List (Option ℕ)) → HasEnds g → IsGrown 
 unfolding reaches
 searched g tree has grown none = record {
   entries = grown.entries;
-  reached = λ v lt. same_test (is_entered tree v) (reaches_in g g.n 0 v) (λ h. by_steps v lt (grown.back v lt h)) (λ h. enters g tree g.n 0 v none refl h);
+  reached = λ v lt. same_test (is_entered tree v) (reaches_in_arcs g g.n 0 v) (λ h. by_steps v lt (grown.back v lt h)) (λ h. enters g tree g.n 0 v none refl h);
   spanning = λ all. spans g tree grown all;
 }
   where
-    by_steps : (v : ℕ) → v < g.n → StepsBack g tree v → reaches_in g g.n 0 v ≡ true
+    by_steps : (v : ℕ) → v < g.n → StepsBack g tree v → reaches_in_arcs g g.n 0 v ≡ true
     by_steps v lt r =
         let few : r.steps + open_count tree ≤ g.n = r.few in
         at_most g r.steps g.n 0 v (omega arith) (walk_of_steps g tree r.steps v has grown lt r.ends)

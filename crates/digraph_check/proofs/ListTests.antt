@@ -6,7 +6,7 @@ use Rattle.std.proofs.lemmas.List.FromFn.{length-range_with_len, get_or-range_wi
 use Rattle.std.proofs.lemmas.List.Kept.{IsStrictlyIncreasing-filter}
 use Rattle.std.specs.List.{list_any, list_all, range_with_len}
 use Rattle.std.specs.List.Sorted.{IsStrictlyIncreasing}
-use Rattle.swap_base.specs.Lists.{IsIn}
+use Rattle.swap_base.specs.Lists.{IsElement}
 use Rattle.swap_base.proofs.Lists.{list_any-in, list_all-in, list_all-from, in_range, from_range, in_filter, from_filter}
 use Rattle.swap_digraph.specs.Graph.{is_listed}
 
@@ -27,7 +27,7 @@ same_test false false f g = refl
 -- an element that passes
 pub record Passing {A : Type 0} (p : A → Bool) (xs : List A) : Type 0 where
   pub one : A
-  pub stands : IsIn one xs
+  pub stands : IsElement one xs
   pub passes : p one ≡ true
 
 passing_head : {A : Type 0} (p : A → Bool) (x : A) (xs : List A) → (p x ≡ true) ⊎ (list_any p xs ≡ true) → (list_any p xs ≡ true → Passing p xs)
@@ -42,7 +42,7 @@ passing p (x ∷ xs) h = passing_head p x xs (or_split (p x) (list_any p xs) h) 
 -- an element that fails
 pub record Failing {A : Type 0} (p : A → Bool) (xs : List A) : Type 0 where
   pub one : A
-  pub stands : IsIn one xs
+  pub stands : IsElement one xs
   pub fails : p one ≡ false
 
 failing_head : {A : Type 0} (p : A → Bool) (x : A) (xs : List A) (b : Bool) → p x ≡ b → list_all p (x ∷ xs) ≡ false
@@ -55,18 +55,18 @@ failing p [] h = absurd (cc h)
 failing p (x ∷ xs) h = failing_head p x xs (p x) refl h (failing p xs)
 
 -- one failure fails the whole
-pub list_all-fails : {A : Type 0} (p : A → Bool) (xs : List A) (x : A) (b : Bool) → list_all p xs ≡ b → IsIn x xs → p x ≡ false → list_all p xs ≡ false
+pub list_all-fails : {A : Type 0} (p : A → Bool) (xs : List A) (x : A) (b : Bool) → list_all p xs ≡ b → IsElement x xs → p x ≡ false → list_all p xs ≡ false
 list_all-fails p xs x false h i e = h
 list_all-fails p xs x true h i e = absurd (both_ways (p x) e (list_all-in p xs x h i))
 
 -- equal tests keep equal lists
-pub filter-same : (p q : ℕ → Bool) (xs : List ℕ) → ((x : ℕ) → IsIn x xs → p x ≡ q x) → filter p xs ≡ filter q xs
+pub filter-same : (p q : ℕ → Bool) (xs : List ℕ) → ((x : ℕ) → IsElement x xs → p x ≡ q x) → filter p xs ≡ filter q xs
 filter-same p q [] h = refl
 filter-same p q (x ∷ xs) h =
     ap (λ (b : Bool). cond b (x ∷ filter p xs) (filter p xs)) (h x (inl refl))
     ∙ ap (λ (ys : List ℕ). cond (q x) (x ∷ ys) ys) (filter-same p q xs (λ y i. h y (inr i)))
 
-pub list_all-same : (p q : ℕ → Bool) (xs : List ℕ) → ((x : ℕ) → IsIn x xs → p x ≡ q x) → list_all p xs ≡ list_all q xs
+pub list_all-same : (p q : ℕ → Bool) (xs : List ℕ) → ((x : ℕ) → IsElement x xs → p x ≡ q x) → list_all p xs ≡ list_all q xs
 list_all-same p q [] h = refl
 list_all-same p q (x ∷ xs) h = rw (h x (inl refl), list_all-same p q xs (λ y i. h y (inr i))) refl
 

@@ -6,7 +6,7 @@ use Rattle.swap_base.proofs.Lists.{and_parts, and_both}
 use Rattle.swap_digraph.specs.Value.{Graph}
 use Rattle.swap_digraph.specs.Graph.{has_arc, is_path, first_is, last_is, is_listed, IsConnectingPath}
 use Rattle.swap_digraph.proofs.Paths.{path_length}
-use Rattle.digraph_check.specs.Reach.{reaches_in, reaches}
+use Rattle.digraph_check.specs.Reach.{reaches_in_arcs, reaches}
 use Rattle.digraph_check.proofs.ListTests.{or_split}
 use Rattle.digraph_check.proofs.Walks.{Along, goes_on, is_there, at_once, along, at_most}
 
@@ -53,13 +53,13 @@ put_first g u w v (x ∷ p) false lt arc path first last e =
 path_here : (g : Graph) (u v : ℕ) → u < g.n → u ≡ v → PathBetween g u v
 path_here g u v lt e = record { vertices = u ∷ []; between = (lt-ltb u g.n lt, eq-eqb u u refl, eq-eqb u v e) }
 
-path_on : (g : Graph) (k u v : ℕ) → u < g.n → (u ≡ v) ⊎ Along g k u v → ((w : ℕ) → w < g.n → reaches_in g k w v ≡ true → PathBetween g w v) → PathBetween g u v
+path_on : (g : Graph) (k u v : ℕ) → u < g.n → (u ≡ v) ⊎ Along g k u v → ((w : ℕ) → w < g.n → reaches_in_arcs g k w v ≡ true → PathBetween g w v) → PathBetween g u v
 path_on g k u v lt (inl e) rest = path_here g u v lt e
 path_on g k u v lt (inr a) rest =
     let r = rest a.next a.party a.rest in
     put_first g u a.next v r.vertices (is_listed u r.vertices) lt a.arc r.between.0 r.between.1 r.between.2 refl
 
-pub make_path : (g : Graph) (k u v : ℕ) → u < g.n → reaches_in g k u v ≡ true → PathBetween g u v
+pub make_path : (g : Graph) (k u v : ℕ) → u < g.n → reaches_in_arcs g k u v ≡ true → PathBetween g u v
 make_path g zero u v lt h = path_here g u v lt (at_once g u v h)
 make_path g (suc k) u v lt h = path_on g k u v lt (goes_on g k u v h) (λ w l r. make_path g k w v l r)
 
@@ -72,7 +72,7 @@ head_below g w (x ∷ p) h =
     let b = and_parts (nat_lt w g.n && not (is_listed w (x ∷ p))) (has_arc g w x) a.0 in
     ltb-true w g.n (and_parts (nat_lt w g.n) (not (is_listed w (x ∷ p))) b.0).0
 
-along_path : (g : Graph) (u v : ℕ) (p : List ℕ) → is_path g (u ∷ p) ≡ true → last_is v (u ∷ p) ≡ true → reaches_in g (length p) u v ≡ true
+along_path : (g : Graph) (u v : ℕ) (p : List ℕ) → is_path g (u ∷ p) ≡ true → last_is v (u ∷ p) ≡ true → reaches_in_arcs g (length p) u v ≡ true
 along_path g u v [] path last = is_there g 0 u v (eqb-true u v last)
 along_path g u v (w ∷ p) path last =
     let a = and_parts (nat_lt u g.n && not (is_listed u (w ∷ p)) && has_arc g u w) (is_path g (w ∷ p)) path in
@@ -80,11 +80,11 @@ along_path g u v (w ∷ p) path last =
 
 -- The law.
 
-path_walk : (g : Graph) (u v : ℕ) (p : List ℕ) → is_path g p ≡ true → first_is u p ≡ true → last_is v p ≡ true → reaches_in g g.n u v ≡ true
+path_walk : (g : Graph) (u v : ℕ) (p : List ℕ) → is_path g p ≡ true → first_is u p ≡ true → last_is v p ≡ true → reaches_in_arcs g g.n u v ≡ true
 path_walk g u v [] path first last = absurd (cc path)
 path_walk g u v (x ∷ p) path first last =
     let le : length (x ∷ p) ≤ g.n = path_length g (x ∷ p) path in
-    subst (λ (y : ℕ). reaches_in g g.n y v ≡ true) (eqb-true x u first) (at_most g (length p) g.n x v (omega arith) (along_path g x v p path last))
+    subst (λ (y : ℕ). reaches_in_arcs g g.n y v ≡ true) (eqb-true x u first) (at_most g (length p) g.n x v (omega arith) (along_path g x v p path last))
 
 pub path_reaches : (g : Graph) (u v : ℕ) (p : List ℕ) → IsConnectingPath g u v p → reaches g u v ≡ true
 unfolding reaches
@@ -95,5 +95,5 @@ unfolding reaches
 reaches_path g u v lt h = make_path g g.n u v lt h
 
 -- a walk of any length will do
-pub walk_reaches : (g : Graph) (k u v : ℕ) → u < g.n → reaches_in g k u v ≡ true → reaches g u v ≡ true
+pub walk_reaches : (g : Graph) (k u v : ℕ) → u < g.n → reaches_in_arcs g k u v ≡ true → reaches g u v ≡ true
 walk_reaches g k u v lt h = let r = make_path g k u v lt h in path_reaches g u v r.vertices r.between

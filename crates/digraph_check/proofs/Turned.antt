@@ -7,7 +7,7 @@ use Rattle.swap_base.proofs.Lists.{and_swap}
 use Rattle.swap_digraph.specs.declared.arc_ends.ArcEnds.{ArcEnds}
 use Rattle.swap_digraph.specs.Value.{Graph}
 use Rattle.swap_digraph.specs.Graph.{has_arc, HasEnds, resolve_all_ends}
-use Rattle.digraph_check.specs.Reach.{reaches_in, reaches, reversed, reversed_ends}
+use Rattle.digraph_check.specs.Reach.{reaches_in_arcs, reaches, reversed, reversed_ends}
 use Rattle.digraph_check.proofs.ListTests.{same_test}
 use Rattle.digraph_check.proofs.Walks.{Along, goes_on, is_there, at_once, snoc}
 
@@ -19,12 +19,12 @@ arc_turned (x ∷ arcs) u w =
     ∙ ap (λ (b : Bool). ((x.from == u) && (x.to == w)) || b) (arc_turned arcs u w)
 
 turn_along : (g h : Graph) (k u v : ℕ) → u < h.n → ((x y : ℕ) → has_arc g x y ≡ true → has_arc h y x ≡ true) → (u ≡ v) ⊎ Along g k u v
-    → ((w : ℕ) → w < g.n → reaches_in g k w v ≡ true → reaches_in h k v w ≡ true) → reaches_in h (suc k) v u ≡ true
+    → ((w : ℕ) → w < g.n → reaches_in_arcs g k w v ≡ true → reaches_in_arcs h k v w ≡ true) → reaches_in_arcs h (suc k) v u ≡ true
 turn_along g h k u v lt turned (inl e) rest = is_there h (suc k) v u (sym e)
 turn_along g h k u v lt turned (inr a) rest = snoc h k v a.next u lt (turned u a.next a.arc) (rest a.next a.party a.rest)
 
-turn : (g h : Graph) (k u v : ℕ) → g.n ≡ h.n → ((x y : ℕ) → has_arc g x y ≡ true → has_arc h y x ≡ true) → u < h.n → reaches_in g k u v ≡ true
-    → reaches_in h k v u ≡ true
+turn : (g h : Graph) (k u v : ℕ) → g.n ≡ h.n → ((x y : ℕ) → has_arc g x y ≡ true → has_arc h y x ≡ true) → u < h.n → reaches_in_arcs g k u v ≡ true
+    → reaches_in_arcs h k v u ≡ true
 turn g h zero u v same turned lt r = is_there h 0 v u (sym (at_once g u v r))
 turn g h (suc k) u v same turned lt r =
     turn_along g h k u v lt turned (goes_on g k u v r) (λ w l s. turn g h k w v same turned (subst (λ (n : ℕ). w < n) same l) s)
@@ -32,7 +32,7 @@ turn g h (suc k) u v same turned lt r =
 pub reaches-reversed : (g : Graph) (u v : ℕ) → u < g.n → v < g.n → reaches (reversed g) u v ≡ reaches g v u
 unfolding reaches
 reaches-reversed g u v lu lv =
-    same_test (reaches_in (reversed g) g.n u v) (reaches_in g g.n v u)
+    same_test (reaches_in_arcs (reversed g) g.n u v) (reaches_in_arcs g g.n v u)
     (turn (reversed g) g g.n u v refl (λ x y e. sym (arc_turned g.arcs y x) ∙ e) lu)
     (turn g (reversed g) g.n v u refl (λ x y e. arc_turned g.arcs x y ∙ e) lv)
 

@@ -27,7 +27,8 @@ abbrev pub tree_parent : Graph → ℕ → Option ℕ → ℕ
 tree_parent g v None = v
 tree_parent g v (Some a) = (ends g a).from
 
--- where one stands after k steps back from v, against the arcs of the tree; party 0 has none and ends the walk
+-- where one stands after k steps back from v, against the arcs of the tree; party 0 has none and
+-- ends the walk
 unfoldable pub walked_back : Graph → List (Option ℕ) → ℕ → ℕ → ℕ
 walked_back g tree zero v = v
 walked_back g tree (suc k) v = walked_back g tree k (tree_parent g v (tree_arc tree v))
@@ -45,7 +46,8 @@ pub record IsSearch (g : Graph) (tree : List (Option ℕ)) : Type 0 where
   pub reached : (v : ℕ) → v < g.n → is_entered tree v ≡ reaches g 0 v
   pub spanning : IsTrue (all_entered tree) → IsTree g tree
 
--- One tree leads from party 0 to every party. The other does so in the digraph with each arc turned round, and so leads from every party to party 0.
+-- One tree leads from party 0 to every party. The other does so in the digraph with each arc turned
+-- round, and so leads from every party to party 0.
 pub record AreTrees (g : Graph) (t : Trees) : Type 0 where
   pub from_zero : IsTree g t.from_zero
   pub to_zero : IsTree (reversed g) t.to_zero

@@ -24,7 +24,7 @@ fn tree_along(alloc: Global, graph: &Digraph) -> Result<Listed<Option<ArcId>>, N
 }
 
 /// The tree from party 0, with each arc turned round.
-fn tree_against(alloc: Global, graph: &Digraph) -> Result<Listed<Option<ArcId>>, NoMemory>
+fn reversed_tree(alloc: Global, graph: &Digraph) -> Result<Listed<Option<ArcId>>, NoMemory>
     requires parties { (2 ≤ graph.now.n) × (graph.now.n ≤ 32) }
     requires few { length graph.now.arcs ≤ 128 }
     requires ends { HasEnds graph.now }
@@ -52,7 +52,7 @@ pub fn strong(alloc: Global, graph: &Digraph) -> Result<Strength, NoMemory>
         let reached = entered_parties(alloc, from_zero.as_slice())?;
         return Ok(Strength::Closed(reached));
     }
-    let to_zero = tree_against(alloc, graph)?;
+    let to_zero = reversed_tree(alloc, graph)?;
     if !enters_all(to_zero.as_slice()) {
         let stranded = missed_parties(alloc, to_zero.as_slice())?;
         return Ok(Strength::Closed(stranded));

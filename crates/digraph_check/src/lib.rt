@@ -1,6 +1,8 @@
-//! Whether a digraph is strongly connected (Herlihy 2018, section 2.1), with a certificate for either answer: two trees, or a closed set.
+//! Whether a digraph is strongly connected (Herlihy 2018, section 2.1), with a certificate for
+//! either answer: two trees, or a closed set.
 //!
-//! Read `specs/Reach.antt` first: which party reaches which, and the closed set that is answered. `paths_tell` says that reaching is by paths.
+//! Read `specs/Reach.antt` first: which party reaches which, and the closed set that is answered.
+//! `paths_tell` says that reaching is by paths.
 #![tactic(auto)]
 
 mod certificate;

@@ -3,7 +3,7 @@ use Rattle.std.proofs.Common.{◌≡◌, ◌==◌, ℕ, ◌<◌, Bool, true, fal
 use Rattle.std.proofs.Common.{◌∙◌, inl, inr}
 use Rattle.std.specs.Prelude.{IfSome}
 use Rattle.std.specs.List.{find, flat_map}
-use Rattle.swap_base.specs.Lists.{IsIn}
+use Rattle.swap_base.specs.Lists.{IsElement}
 use Rattle.swap_base.proofs.Lists.{from_filter, from_range}
 use Rattle.swap_digraph.specs.declared.arc_ends.ArcEnds.{ArcEnds}
 use Rattle.swap_digraph.specs.Graph.{resolve_all_ends, entering_numbers, leaving_numbers}
@@ -29,11 +29,11 @@ pub find_none : {A : Type 0} (test : A → Bool) (xs : List A) → ((x : A) → 
 find_none test [] h = refl
 find_none test (x ∷ xs) h = ap (λ b. cond b (Some x) (find test xs)) (h x) ∙ find_none test xs h
 
-by_test : {A : Type 0} (b : Bool) (x y : A) (xs : List A) (o : Option A) → (o ≡ Some y → IsIn y xs) → cond b (Some x) o ≡ Some y → IsIn y (x ∷ xs)
+by_test : {A : Type 0} (b : Bool) (x y : A) (xs : List A) (o : Option A) → (o ≡ Some y → IsElement y xs) → cond b (Some x) o ≡ Some y → IsElement y (x ∷ xs)
 by_test true x y xs o h e = inl (cc e)
 by_test false x y xs o h e = inr (h e)
 
-pub find_in : {A : Type 0} (test : A → Bool) (xs : List A) (y : A) → find test xs ≡ Some y → IsIn y xs
+pub find_in : {A : Type 0} (test : A → Bool) (xs : List A) (y : A) → find test xs ≡ Some y → IsElement y xs
 find_in test [] y e = absurd (cc e)
 find_in test (x ∷ xs) y e = by_test (test x) x y xs (find test xs) (find_in test xs y) e
 

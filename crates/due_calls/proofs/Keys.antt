@@ -1,14 +1,14 @@
 -- Where the hashkey comes from that is due for a lock.
 use Rattle.std.proofs.Common.{◌≡◌, ℕ, Bool, true, false, cond, not, List, [], ◌∷◌, Option, Some, None, is_some, option_map, refl, ap}
 use Rattle.std.specs.List.{find}
-use Rattle.swap_base.specs.Lists.{or_else, first_of}
+use Rattle.swap_base.specs.Lists.{or_else, first_given_answer}
 use Rattle.swap_digraph.specs.declared.deal.Deal.{Deal}
 use Rattle.swap_digraph.specs.Graph.{is_listed, leaving}
 use Rattle.swap_digraph.specs.Deal.{leads}
 use Rattle.hashkey_path.specs.declared.hashkey.Hashkey.{Hashkey}
 use Rattle.ledger_core.specs.History.{Opening, opened}
 use Rattle.ledger_core.specs.Book.{Histories, history}
-use Rattle.swap_rules.specs.Party.{opens_without, key_without, first_seen_key}
+use Rattle.swap_rules.specs.Party.{opens_without_party, key_without_party, first_seen_key}
 use Rattle.swap_rules.specs.Due.{Wallet, due_key, seen_key, extended}
 use Rattle.due_calls.specs.Unlocks.{make_due_key, first_seen_arc}
 use Rattle.due_calls.specs.Parts.{due_base}
@@ -26,13 +26,13 @@ by_path o x u true found key e h = h
 by_path o x u false found key e h = (u.key, ap (option_map (λ u. u.key)) e, refl)
 
 by_opening : (v : ℕ) (o : ℕ → Option Opening) (x : ℕ) (q : Option Opening) (found : Option ℕ) (key : Option Hashkey) → o x ≡ q → Opens o found key
-    → Opens o (cond (opens_without v q) (Some x) found) (or_else (key_without v q) key)
+    → Opens o (cond (opens_without_party v q) (Some x) found) (or_else (key_without_party v q) key)
 by_opening v o x None found key e h = h
 by_opening v o x (Some u) found key e h = by_path o x u (is_listed v u.key.path) found key e h
 
-opens : (v : ℕ) (o : ℕ → Option Opening) (xs : List ℕ) → Opens o (find (λ a. opens_without v (o a)) xs) (first_of (λ a. key_without v (o a)) xs)
+opens : (v : ℕ) (o : ℕ → Option Opening) (xs : List ℕ) → Opens o (find (λ a. opens_without_party v (o a)) xs) (first_given_answer (λ a. key_without_party v (o a)) xs)
 opens v o [] = refl
-opens v o (x ∷ xs) = by_opening v o x (o x) (find (λ a. opens_without v (o a)) xs) (first_of (λ a. key_without v (o a)) xs) refl (opens v o xs)
+opens v o (x ∷ xs) = by_opening v o x (o x) (find (λ a. opens_without_party v (o a)) xs) (first_given_answer (λ a. key_without_party v (o a)) xs) refl (opens v o xs)
 
 -- the hashkey for the lock is the one that comes from the base
 abbrev pub ComesFrom : Wallet → (ℕ → Option Hashkey) → Histories → ℕ → Option Base → Option Hashkey → Type 0

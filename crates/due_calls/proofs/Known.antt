@@ -7,7 +7,7 @@ use Rattle.escrow_core.specs.declared.terms.Terms.{Terms}
 use Rattle.escrow_core.specs.Terms.{stated_terms}
 use Rattle.ledger_core.specs.declared.entry.Entry.{Entry}
 use Rattle.ledger_core.specs.Book.{history}
-use Rattle.ledger_core.specs.Facts.{published_as}
+use Rattle.ledger_core.specs.Facts.{checked_history_publication}
 use Rattle.due_calls.specs.Known.{AreDealTerms}
 
 -- one member per arc
@@ -31,5 +31,5 @@ history_at entries known a x within is = ap entries is ∙ sym (get_or-map entri
 -- the accepted publish of the arc
 pub published_at : {A : Type 0} (terms : A → Terms) (entries : A → List Entry) (d : Deal) (known : List A) (a : ℕ) (x : A) → AreDealTerms terms d known
     → a < length known → x ≡ get_or known a x
-    → published_as (terms x) (entries x) ≡ published_as (stated_terms d a) (history (map entries known) a)
-published_at terms entries d known a x made within is = ap₂ published_as (terms_at terms d known a x made within is) (history_at entries known a x within is)
+    → checked_history_publication (terms x) (entries x) ≡ checked_history_publication (stated_terms d a) (history (map entries known) a)
+published_at terms entries d known a x made within is = ap₂ checked_history_publication (terms_at terms d known a x made within is) (history_at entries known a x within is)

@@ -6,7 +6,7 @@ use Rattle.std.specs.List.{find, position_or_len}
 use Rattle.std.proofs.lemmas.Option.{slice_get_past, slice_get-get_or}
 use Rattle.std.proofs.lemmas.List.Folds.{find_at}
 use Rattle.std.proofs.lemmas.Bool.{ltb-false}
-use Rattle.swap_base.specs.Lists.{or_else, first_of}
+use Rattle.swap_base.specs.Lists.{or_else, first_given_answer}
 use Rattle.swap_base.proofs.Lists.{or_else-stays, or_else-skips}
 use Rattle.swap_digraph.specs.declared.deal.Deal.{Deal}
 use Rattle.swap_digraph.specs.Deal.{IsWellSized}
@@ -14,7 +14,7 @@ use Rattle.escrow_core.specs.declared.terms.Terms.{Terms}
 use Rattle.ledger_core.specs.declared.entry.Entry.{Entry}
 use Rattle.swap_digraph.specs.Graph.{is_listed}
 use Rattle.hashkey_path.specs.declared.hashkey.Hashkey.{Hashkey}
-use Rattle.swap_rules.specs.Party.{opens_without}
+use Rattle.swap_rules.specs.Party.{opens_without_party}
 use Rattle.ledger_core.specs.History.{accepted, Opening, opening, opened, is_open}
 use Rattle.ledger_core.specs.Facts.{opened_number}
 use Rattle.due_calls.specs.Known.{AreDealTerms}
@@ -30,18 +30,18 @@ found_by : {A B : Type 0} (f : A → Option B) (b : Bool) (x y : A) (o : Option 
 found_by f true x y o rest s e h = or_else-stays (f x) rest s ∙ ap f (same_some x y e)
 found_by f false x y o rest s e h = or_else-skips (f x) rest s ∙ h e
 
-pub first_of_found : {A B : Type 0} (f : A → Option B) (xs : List A) (y : A) → find (λ x. is_some (f x)) xs ≡ Some y → first_of f xs ≡ f y
+pub first_of_found : {A B : Type 0} (f : A → Option B) (xs : List A) (y : A) → find (λ x. is_some (f x)) xs ≡ Some y → first_given_answer f xs ≡ f y
 first_of_found f [] y e = absurd (cc e)
-first_of_found f (x ∷ xs) y e = found_by f (is_some (f x)) x y (find (λ z. is_some (f z)) xs) (first_of f xs) refl e (first_of_found f xs y)
+first_of_found f (x ∷ xs) y e = found_by f (is_some (f x)) x y (find (λ z. is_some (f z)) xs) (first_given_answer f xs) refl e (first_of_found f xs y)
 
 is_some_by : {A B : Type 0} (o : Option B) (x : A) (rest : Option B) (r : Option A) → is_some r ≡ is_some rest
     → is_some (cond (is_some o) (Some x) r) ≡ is_some (or_else o rest)
 is_some_by None x rest r e = e
 is_some_by (Some y) x rest r e = refl
 
-pub is_some_found : {A B : Type 0} (f : A → Option B) (xs : List A) → is_some (find (λ x. is_some (f x)) xs) ≡ is_some (first_of f xs)
+pub is_some_found : {A B : Type 0} (f : A → Option B) (xs : List A) → is_some (find (λ x. is_some (f x)) xs) ≡ is_some (first_given_answer f xs)
 is_some_found f [] = refl
-is_some_found f (x ∷ xs) = is_some_by (f x) x (first_of f xs) (find (λ y. is_some (f y)) xs) (is_some_found f xs)
+is_some_found f (x ∷ xs) = is_some_by (f x) x (first_given_answer f xs) (find (λ y. is_some (f y)) xs) (is_some_found f xs)
 
 -- its place, where it has one
 
@@ -89,10 +89,10 @@ has_lock terms d known a i x sized made within is l =
 
 -- whether a path without v opened the lock, by the hashkey alone
 
-pub opens_by_key : (v : ℕ) (o : Option Opening) (key : Hashkey) → Some key ≡ option_map (λ x. x.key) o → not (is_listed v key.path) ≡ opens_without v o
+pub opens_by_key : (v : ℕ) (o : Option Opening) (key : Hashkey) → Some key ≡ option_map (λ x. x.key) o → not (is_listed v key.path) ≡ opens_without_party v o
 opens_by_key v None key e = absurd (cc e)
 opens_by_key v (Some o) key e = ap (λ k. not (is_listed v k.path)) (same_some key o.key e)
 
-pub opens_by_none : (v : ℕ) (o : Option Opening) → ◌≡◌ {A = Option Hashkey} None (option_map (λ x. x.key) o) → false ≡ opens_without v o
+pub opens_by_none : (v : ℕ) (o : Option Opening) → ◌≡◌ {A = Option Hashkey} None (option_map (λ x. x.key) o) → false ≡ opens_without_party v o
 opens_by_none v None e = refl
 opens_by_none v (Some o) e = absurd (cc e)

@@ -2,7 +2,7 @@
 use Rattle.std.proofs.Common.{◌≡◌, ℕ, Bool, true, false, cond, ◌&&◌, List, [], ◌∷◌, ◌++◌, Option, Some, None, option_map, refl, sym, ap, ap₂, ◌∙◌, subst}
 use Rattle.std.specs.Prelude.{IfSome}
 use Rattle.std.specs.List.{find, flat_map}
-use Rattle.swap_base.specs.Lists.{or_else, first_of}
+use Rattle.swap_base.specs.Lists.{or_else, first_given_answer}
 use Rattle.swap_digraph.specs.declared.deal.Deal.{Deal}
 use Rattle.swap_digraph.specs.Graph.{entering}
 use Rattle.swap_digraph.specs.Deal.{locks}
@@ -76,16 +76,16 @@ either w signed k None s o p m n = subst (λ z. Means w signed k s (or_else z p)
 either w signed k (Some u) s o p m n = (m.0, m.1, ap (λ z. or_else z p) m.2)
 
 on_locks : (w : Wallet) (signed : ℕ → Option Hashkey) (k : Histories) (r : ℕ → Option UnlockDue) (f : ℕ → List Action)
-    → ((i : ℕ) → Means w signed k (r i) (first (f i))) → (xs : List ℕ) → Means w signed k (first_of r xs) (first (flat_map f xs))
+    → ((i : ℕ) → Means w signed k (r i) (first (f i))) → (xs : List ℕ) → Means w signed k (first_given_answer r xs) (first (flat_map f xs))
 on_locks w signed k r f h [] = refl
 on_locks w signed k r f h (x ∷ xs) =
-    subst (Means w signed k (or_else (r x) (first_of r xs))) (sym (first_append (f x) (flat_map f xs)))
-    (either w signed k (r x) (first_of r xs) (first (f x)) (first (flat_map f xs)) (h x) (on_locks w signed k r f h xs))
+    subst (Means w signed k (or_else (r x) (first_given_answer r xs))) (sym (first_append (f x) (flat_map f xs)))
+    (either w signed k (r x) (first_given_answer r xs) (first (f x)) (first (flat_map f xs)) (h x) (on_locks w signed k r f h xs))
 
 -- What the first due unlock stands for.
 
 first_means : (d : Deal) (v : ℕ) (signed : ℕ → Option Hashkey) (k : Histories) (r : Option UnlockDue) → is_ready d k v ≡ true
-    → r ≡ first_of (next_due_unlock d v signed k) (locks d) → (w : Wallet) → Means w signed k r (first (due_unlocks d v w signed k))
+    → r ≡ first_given_answer (next_due_unlock d v signed k) (locks d) → (w : Wallet) → Means w signed k r (first (due_unlocks d v w signed k))
 first_means d v signed k r ready e w =
     subst (λ r. Means w signed k r (first (due_unlocks d v w signed k))) (sym e)
     (on_locks w signed k (next_due_unlock d v signed k) (λ i. flat_map (due_arc_unlock d v w (signed i) k i) (entering d.graph v))
@@ -97,7 +97,7 @@ some_means d v signed k None h = tt
 some_means d v signed k (Some u) h = λ w. let m = h w in record { key = m.0; from = m.1; call = m.2 }
 
 pub some : (d : Deal) (v : ℕ) (signed : ℕ → Option Hashkey) (k : Histories) (r : Option UnlockDue) → is_ready d k v ≡ true
-    → r ≡ first_of (next_due_unlock d v signed k) (locks d) → IfSome r (λ u. (w : Wallet) → IsFirstUnlock d v signed k u w)
+    → r ≡ first_given_answer (next_due_unlock d v signed k) (locks d) → IfSome r (λ u. (w : Wallet) → IsFirstUnlock d v signed k u w)
 some d v signed k r ready e = some_means d v signed k r (first_means d v signed k r ready e)
 
 empty_of : (xs : List Action) → first xs ≡ None → xs ≡ []
@@ -105,7 +105,7 @@ empty_of [] e = refl
 empty_of (x ∷ xs) e = absurd (cc e)
 
 pub none : (d : Deal) (v : ℕ) (signed : ℕ → Option Hashkey) (k : Histories) (r : Option UnlockDue) → is_ready d k v ≡ true
-    → r ≡ first_of (next_due_unlock d v signed k) (locks d) → r ≡ None → (w : Wallet) → due_unlocks d v w signed k ≡ []
+    → r ≡ first_given_answer (next_due_unlock d v signed k) (locks d) → r ≡ None → (w : Wallet) → due_unlocks d v w signed k ≡ []
 none d v signed k r ready e n w =
     empty_of (due_unlocks d v w signed k) (subst (λ r. Means w signed k r (first (due_unlocks d v w signed k))) n
     (first_means d v signed k r ready e w))

@@ -12,7 +12,8 @@ use Rattle.due_calls.specs.declared.unlock_due.Base.{Base}
 use Rattle.due_calls.specs.declared.unlock_due.Base.TheVariants.{Signed, Own, Onto}
 use Rattle.due_calls.specs.declared.unlock_due.UnlockDue.{UnlockDue}
 
--- where the hashkey for lock i comes from: it was signed, or is v's own where it leads the lock, or is put onto one that v saw
+-- where the hashkey for lock i comes from: it was signed, or is v's own where it leads the lock, or
+-- is put onto one that v saw
 unfoldable pub due_base : Deal → ℕ → Option Hashkey → Histories → ℕ → Option Base
 due_base d v signed k i = if is_some signed then Some Signed else if leads d v i then Some Own else option_map Onto (first_seen_arc d v k i)
 

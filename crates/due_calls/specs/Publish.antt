@@ -6,5 +6,5 @@ use Rattle.ledger_core.specs.declared.entry.Call.TheVariants.{Publish}
 use Rattle.swap_rules.specs.Due.{Action}
 
 -- the publish of the correct terms of arc a
-abbrev pub publish_on : Deal → ℕ → Action
-publish_on d a = record { arc = a; call = Publish (stated_terms d a) }
+abbrev pub publish_action : Deal → ℕ → Action
+publish_action d a = record { arc = a; call = Publish (stated_terms d a) }

@@ -4,9 +4,9 @@ use Rattle.ledger_core.specs.declared.entry.Call.TheVariants.{Claim, Refund}
 use Rattle.swap_rules.specs.Due.{Action}
 
 -- the claim on arc a
-abbrev pub claim_on : ℕ → Action
-claim_on a = record { arc = a; call = Claim }
+abbrev pub claim_action : ℕ → Action
+claim_action a = record { arc = a; call = Claim }
 
 -- the refund on arc a
-abbrev pub refund_on : ℕ → Action
-refund_on a = record { arc = a; call = Refund }
+abbrev pub refund_action : ℕ → Action
+refund_action a = record { arc = a; call = Refund }

@@ -7,7 +7,7 @@ ghost use Rattle.swap_digraph.specs.Deal.{IsWellSized};
 ghost use Rattle.swap_rules.specs.Due.{due_claims, first, has_called, is_claiming, is_due_claim};
 ghost use Rattle.ledger_core.specs.Book.{history};
 ghost use Rattle.due_calls.specs.Known.{AreDealTerms};
-ghost use Rattle.due_calls.specs.Settling.{claim_on};
+ghost use Rattle.due_calls.specs.Settling.{claim_action};
 
 use crate::locks::is_triggered;
 use crate::readings::is_correct;
@@ -54,7 +54,7 @@ pub fn due_claim<F: Facts>(deal: &Deal, me: PartyId, known: &[F]) -> Option<ArcI
     requires sized { IsWellSized deal.now }
     requires me { me < deal.now.graph.n }
     requires known { AreDealTerms F.terms deal.now known.now }
-    ensures first { option_map claim_on result ≡ first (due_claims deal.now me (map F.entries known.now)) }
+    ensures first { option_map claim_action result ≡ first (due_claims deal.now me (map F.entries known.now)) }
     ensures arc { IfSome result (λ a. a < length deal.now.graph.arcs) }
 {
     first_claim(deal, me, known)

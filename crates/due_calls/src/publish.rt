@@ -9,7 +9,7 @@ ghost use Rattle.swap_rules.specs.Conduct.{is_publish};
 ghost use Rattle.swap_rules.specs.Due.{due_publishes, first, has_called};
 ghost use Rattle.ledger_core.specs.Book.{history};
 ghost use Rattle.due_calls.specs.Known.{AreDealTerms};
-ghost use Rattle.due_calls.specs.Publish.{publish_on};
+ghost use Rattle.due_calls.specs.Publish.{publish_action};
 
 use crate::readings::{is_ready, leads_one};
 use ledger_core::{CallKind, Facts};
@@ -53,7 +53,7 @@ pub fn due_publish<F: Facts>(deal: &Deal, me: PartyId, known: &[F]) -> Option<Ar
     requires sized { IsWellSized deal.now }
     requires me { me < deal.now.graph.n }
     requires known { AreDealTerms F.terms deal.now known.now }
-    ensures first { option_map (publish_on deal.now) result ≡ first (due_publishes deal.now me (map F.entries known.now)) }
+    ensures first { option_map (publish_action deal.now) result ≡ first (due_publishes deal.now me (map F.entries known.now)) }
     ensures arc { IfSome result (λ a. a < length deal.now.graph.arcs) }
 {
     if !may_publish(deal, me, known) {

@@ -4,7 +4,7 @@ ghost use Rattle.std.specs.Prelude.{◌≡◌, ◌<◌, map};
 ghost use Rattle.swap_digraph.specs.Deal.{IsWellSized};
 ghost use Rattle.swap_rules.specs.Party.{is_correct, is_good, is_ready, leads_one};
 ghost use Rattle.ledger_core.specs.Book.{history};
-ghost use Rattle.ledger_core.specs.Facts.{published_as};
+ghost use Rattle.ledger_core.specs.Facts.{checked_history_publication};
 ghost use Rattle.escrow_core.specs.Terms.{stated_terms};
 ghost use Rattle.due_calls.specs.Known.{AreDealTerms};
 
@@ -23,7 +23,7 @@ pub fn leads_one(deal: &Deal, me: PartyId) -> bool
 /// The arc's accepted publish: its height, and whether it has the correct terms.
 pub fn published<F: Facts>(deal: &Deal, known: &[F], arc: ArcId) -> Option<Published>
     requires known { AreDealTerms F.terms deal.now known.now }
-    ensures { result ≡ published_as (stated_terms deal.now arc) (history (map F.entries known.now) arc) }
+    ensures { result ≡ checked_history_publication (stated_terms deal.now arc) (history (map F.entries known.now) arc) }
 {
     match known.get(arc as usize) {
         Some(fact) => fact.published(),
@@ -42,7 +42,8 @@ pub fn is_correct<F: Facts>(deal: &Deal, known: &[F], arc: ArcId) -> bool
     }
 }
 
-/// Whether the arc's accepted publish has the correct terms, and came at most at the height by which contracts open.
+/// Whether the arc's accepted publish has the correct terms, and came at most at the height by
+/// which contracts open.
 pub fn is_good<F: Facts>(deal: &Deal, known: &[F], arc: ArcId) -> bool
     requires sized { IsWellSized deal.now }
     requires known { AreDealTerms F.terms deal.now known.now }

@@ -8,7 +8,7 @@ ghost use Rattle.swap_rules.specs.Due.{due_refunds, first, has_called, is_due_re
 ghost use Rattle.ledger_core.specs.Book.{history};
 ghost use Rattle.ledger_core.specs.History.{published, settled};
 ghost use Rattle.due_calls.specs.Known.{AreDealTerms};
-ghost use Rattle.due_calls.specs.Settling.{refund_on};
+ghost use Rattle.due_calls.specs.Settling.{refund_action};
 
 use crate::heights::arc_height;
 use crate::locks::{has_expired, is_triggered};
@@ -37,7 +37,8 @@ pub(crate) fn has_refunded<F: Facts>(me: PartyId, known: &[F], arc: ArcId) -> bo
     }
 }
 
-/// Whether the arc carries an accepted publish, is neither settled nor triggered, and is above the expiry of a closed lock, and the party made no refund there.
+/// Whether the arc carries an accepted publish, is neither settled nor triggered, and is above the
+/// expiry of a closed lock, and the party made no refund there.
 #[tactic(auto, unfolding(swap_rules::specs::Due::is_due_refund))]
 pub fn is_due_refund<F: Facts>(deal: &Deal, me: PartyId, known: &[F], arc: ArcId) -> bool
     requires sized { IsWellSized deal.now }
@@ -69,7 +70,7 @@ pub fn due_refund<F: Facts>(deal: &Deal, me: PartyId, known: &[F]) -> Option<Arc
     requires sized { IsWellSized deal.now }
     requires me { me < deal.now.graph.n }
     requires known { AreDealTerms F.terms deal.now known.now }
-    ensures first { option_map refund_on result ≡ first (due_refunds deal.now me (map F.entries known.now)) }
+    ensures first { option_map refund_action result ≡ first (due_refunds deal.now me (map F.entries known.now)) }
     ensures arc { IfSome result (λ a. a < length deal.now.graph.arcs) }
 {
     first_refund(deal, me, known)

@@ -23,8 +23,9 @@ fn is_waiting<F: Facts>(deal: &Deal, me: PartyId, known: &[F], arc: ArcId) -> bo
     is_held(known, arc) && !is_triggered(deal, known, arc) && !has_refunded(me, known, arc)
 }
 
-/// The height up to which a party for which nothing is due may rest: the least expiry of the refunds that it waits for, none where it waits for none.
-/// Ticks up to it make nothing due. It takes no memory.
+/// The height up to which a party for which nothing is due may rest: the least expiry of the
+/// refunds that it waits for, none where it waits for none. Ticks up to it make nothing due. It
+/// takes no memory.
 pub fn rest_deadline<F: Facts>(deal: &Deal, me: PartyId, known: &[F]) -> Option<u64>
     requires sized { IsWellSized deal.now }
     requires me { me < deal.now.graph.n }

@@ -1,16 +1,16 @@
 //! The unlock that is due.
 
 ghost use Rattle.std.specs.Prelude.{◌≡◌, ◌<◌, [], None, IfSome, is_some, map, length};
-ghost use Rattle.swap_base.specs.Lists.{first_of};
+ghost use Rattle.swap_base.specs.Lists.{first_given_answer};
 ghost use Rattle.swap_digraph.specs.Deal.{locks, IsWellSized};
-ghost use Rattle.swap_rules.specs.Party.{opens_without};
+ghost use Rattle.swap_rules.specs.Party.{opens_without_party};
 ghost use Rattle.swap_rules.specs.Due.{due_unlocks, has_called, unlocks_lock, Wallet};
 ghost use Rattle.ledger_core.specs.Book.{history};
 ghost use Rattle.ledger_core.specs.History.{opened};
 ghost use Rattle.due_calls.specs.Known.{AreDealTerms};
 ghost use Rattle.due_calls.specs.Parts.{due_base, first_closed, next_due_unlock};
-ghost use Rattle.due_calls.specs.Unlocks.{first_seen_arc, IsFirstUnlock, IsSeenOn};
-ghost use Rattle.party_wallet.specs.Value.{signed_in};
+ghost use Rattle.due_calls.specs.Unlocks.{first_seen_arc, IsFirstUnlock, IsSeenBase};
+ghost use Rattle.party_wallet.specs.Value.{signed_hashkey};
 
 use crate::locks::leads;
 use crate::readings::is_ready;
@@ -25,7 +25,7 @@ fn is_seen<F: Facts>(deal: &Deal, me: PartyId, known: &[F], lock: LockId, arc: A
     requires sized { IsWellSized deal.now }
     requires known { AreDealTerms F.terms deal.now known.now }
     requires lock { lock < length deal.now.leaders }
-    ensures { result ≡ opens_without me (opened (history (map F.entries known.now) arc) lock) }
+    ensures { result ≡ opens_without_party me (opened (history (map F.entries known.now) arc) lock) }
 {
     match known.get(arc as usize) {
         Some(fact) => match fact.opened_key(lock) {
@@ -65,7 +65,7 @@ pub fn due_base<F: Facts>(
     requires known { AreDealTerms F.terms deal.now known.now }
     requires lock { lock < length deal.now.leaders }
     requires signed { length signed.now.keys ≡ length deal.now.leaders }
-    ensures { result ≡ due_base deal.now me (signed_in signed.now.keys lock) (map F.entries known.now) lock }
+    ensures { result ≡ due_base deal.now me (signed_hashkey signed.now.keys lock) (map F.entries known.now) lock }
 {
     if signed.keys.as_slice()[lock as usize].is_some() {
         Some(Base::Signed)
@@ -115,7 +115,7 @@ fn next_due_unlock<F: Facts>(
     requires known { AreDealTerms F.terms deal.now known.now }
     requires lock { lock < length deal.now.leaders }
     requires signed { length signed.now.keys ≡ length deal.now.leaders }
-    ensures { result ≡ next_due_unlock deal.now me (signed_in signed.now.keys) (map F.entries known.now) lock }
+    ensures { result ≡ next_due_unlock deal.now me (signed_hashkey signed.now.keys) (map F.entries known.now) lock }
 {
     match first_closed(deal, me, known, lock) {
         Some(arc) => match due_base(deal, me, known, signed, lock) {
@@ -137,7 +137,7 @@ fn first_unlock<F: Facts>(
     requires me { me < deal.now.graph.n }
     requires known { AreDealTerms F.terms deal.now known.now }
     requires signed { length signed.now.keys ≡ length deal.now.leaders }
-    ensures { result ≡ first_of (next_due_unlock deal.now me (signed_in signed.now.keys) (map F.entries known.now)) (locks deal.now) }
+    ensures { result ≡ first_given_answer (next_due_unlock deal.now me (signed_hashkey signed.now.keys) (map F.entries known.now)) (locks deal.now) }
 {
     for lock in 0..deal.leaders.len() as u8 {
         let found = next_due_unlock(deal, me, known, signed, lock);
@@ -159,9 +159,9 @@ pub fn due_unlock<F: Facts>(
     requires me { me < deal.now.graph.n }
     requires known { AreDealTerms F.terms deal.now known.now }
     requires signed { length signed.now.keys ≡ length deal.now.leaders }
-    ensures some { IfSome result (λ u. (w : Wallet) → IsFirstUnlock deal.now me (signed_in signed.now.keys) (map F.entries known.now) u w) }
-    ensures none { result ≡ None → (w : Wallet) → due_unlocks deal.now me w (signed_in signed.now.keys) (map F.entries known.now) ≡ [] }
-    ensures base { IfSome result (λ u. IsSeenOn deal.now me (map F.entries known.now) u.lock u.base) }
+    ensures some { IfSome result (λ u. (w : Wallet) → IsFirstUnlock deal.now me (signed_hashkey signed.now.keys) (map F.entries known.now) u w) }
+    ensures none { result ≡ None → (w : Wallet) → due_unlocks deal.now me w (signed_hashkey signed.now.keys) (map F.entries known.now) ≡ [] }
+    ensures base { IfSome result (λ u. IsSeenBase deal.now me (map F.entries known.now) u.lock u.base) }
     ensures arc { IfSome result (λ u. u.arc < length deal.now.graph.arcs) }
     ensures lock { IfSome result (λ u. u.lock < length deal.now.leaders) }
 {

@@ -11,14 +11,14 @@ use Rattle.swap_digraph.specs.declared.deal.Version.{Version}
 use Rattle.swap_digraph.specs.declared.deal.Version.TheVariants.{One, Two}
 use Rattle.swap_digraph.specs.Deal.{most_parties, IsWellSized}
 use Rattle.hashkey_path.specs.Hashkey.{HasPath, IsValidHashkey, wrong_signature, is_wrong_secret, is_wrong_path, is_wrong_signature, of_signatures}
-use Rattle.hashkey_path.specs.Hashkey.{computed_answer}
+use Rattle.hashkey_path.specs.Hashkey.{hashkey_answer}
 use Rattle.hashkey_path.proofs.Validity.{are_signed-is_none}
 use Rattle.hashkey_path.proofs.Paths.{path_fits}
 use Rattle.escrow_core.specs.declared.terms.Terms.{Terms}
 use Rattle.escrow_core.specs.declared.reply.Reply.{Reply}
 use Rattle.escrow_core.specs.declared.reply.Reply.TheVariants.{Accepted, WrongSecret, WrongPath, WrongSignature, TooLate}
 use Rattle.escrow_core.specs.Table.{first_row}
-use Rattle.escrow_core.specs.Terms.{read_hashlock, last_unlock}
+use Rattle.escrow_core.specs.Terms.{terms_hashlock, last_unlock}
 use Rattle.escrow_core.specs.Parts.{key_rows}
 
 -- the reply that follows from the answer, where late tells that the height is above last
@@ -48,31 +48,31 @@ by_tests false true rest late last end e = refl
 by_tests false false rest late last end e = e
 
 pub by_answer : (d : Deal) (a : ℕ) (t : Terms) (height : ℕ) (key : Hashkey)
-    → reply_for (computed_answer d a (read_hashlock t key.lock) key) (nat_lt (last_unlock d.mode t key) height) (last_unlock d.mode t key)
+    → reply_for (hashkey_answer d a (terms_hashlock t key.lock) key) (nat_lt (last_unlock d.mode t key) height) (last_unlock d.mode t key)
     ≡ first_row (key_rows d a t height key)
-unfolding computed_answer
+unfolding hashkey_answer
 by_answer d a t height key =
-    by_tests (is_wrong_secret (read_hashlock t key.lock) key) (is_wrong_path d a d.mode key)
+    by_tests (is_wrong_secret (terms_hashlock t key.lock) key) (is_wrong_path d a d.mode key)
     (of_signatures d.mode (wrong_signature 0 d key.lock key.secret key.path key.sigs)) (nat_lt (last_unlock d.mode t key) height) (last_unlock d.mode t key)
     _
     (signature_test d.mode d key (nat_lt (last_unlock d.mode t key) height) (last_unlock d.mode t key))
 
 -- by the hashlock that was read
 pub reply_is : (d : Deal) (a : ℕ) (t : Terms) (height : ℕ) (key : Hashkey) (hashlock : List ℕ) (answer : HashkeyAnswer)
-    → hashlock ≡ read_hashlock t key.lock → answer ≡ computed_answer d a hashlock key
+    → hashlock ≡ terms_hashlock t key.lock → answer ≡ hashkey_answer d a hashlock key
     → reply_for answer (nat_lt (last_unlock d.mode t key) height) (last_unlock d.mode t key) ≡ first_row (key_rows d a t height key)
 reply_is d a t height key hashlock answer h e =
     ap (λ (r : HashkeyAnswer). reply_for r (nat_lt (last_unlock d.mode t key) height) (last_unlock d.mode t key)) (e
-    ∙ ap (λ (x : List ℕ). computed_answer d a x key) h) ∙ by_answer d a t height key
+    ∙ ap (λ (x : List ℕ). hashkey_answer d a x key) h) ∙ by_answer d a t height key
 
-pub too_late : (d : Deal) (a : ℕ) (t : Terms) (height : ℕ) (key : Hashkey) (hashlock : List ℕ) (n : ℕ) → hashlock ≡ read_hashlock t key.lock
-    → answers.Valid ≡ computed_answer d a hashlock key → n ≡ last_unlock d.mode t key → n < height → TooLate n ≡ first_row (key_rows d a t height key)
+pub too_late : (d : Deal) (a : ℕ) (t : Terms) (height : ℕ) (key : Hashkey) (hashlock : List ℕ) (n : ℕ) → hashlock ≡ terms_hashlock t key.lock
+    → answers.Valid ≡ hashkey_answer d a hashlock key → n ≡ last_unlock d.mode t key → n < height → TooLate n ≡ first_row (key_rows d a t height key)
 too_late d a t height key hashlock n h e is lt =
     ap (λ (b : Bool). cond b (TooLate n) Accepted) (sym (lt-ltb n height lt)) ∙ ap (λ (k : ℕ). cond (nat_lt k height) (TooLate k) Accepted) is
     ∙ reply_is d a t height key hashlock answers.Valid h e
 
-pub in_time : (d : Deal) (a : ℕ) (t : Terms) (height : ℕ) (key : Hashkey) (hashlock : List ℕ) (n : ℕ) → hashlock ≡ read_hashlock t key.lock
-    → answers.Valid ≡ computed_answer d a hashlock key → n ≡ last_unlock d.mode t key → height ≤ n → Accepted ≡ first_row (key_rows d a t height key)
+pub in_time : (d : Deal) (a : ℕ) (t : Terms) (height : ℕ) (key : Hashkey) (hashlock : List ℕ) (n : ℕ) → hashlock ≡ terms_hashlock t key.lock
+    → answers.Valid ≡ hashkey_answer d a hashlock key → n ≡ last_unlock d.mode t key → height ≤ n → Accepted ≡ first_row (key_rows d a t height key)
 in_time d a t height key hashlock n h e is le =
     ap (λ (b : Bool). cond b (TooLate n) Accepted) (sym (le-ltb _ _ le)) ∙ ap (λ (k : ℕ). cond (nat_lt k height) (TooLate k) Accepted) is
     ∙ reply_is d a t height key hashlock answers.Valid h e

@@ -13,11 +13,11 @@ pub record HasPlaces (c : Inside) : Type 0 where
   pub within : length c.terms.locks ≤ 8
   pub padded : drop (length c.terms.locks) c.opened ≡ replicate (8 - length c.terms.locks) false
 
-abbrev pub inside_of : ContractState → Inside
-inside_of s = record { arc = s.arc; from = s.from; to = s.to; terms = s.terms; opened = s.opened ++ replicate (8 - length s.opened) false; settled = s.settled }
+abbrev pub contract_inside : ContractState → Inside
+contract_inside s = record { arc = s.arc; from = s.from; to = s.to; terms = s.terms; opened = s.opened ++ replicate (8 - length s.opened) false; settled = s.settled }
 
-pub inside_of_ok : (c : Inside) → HasPlaces c → inside_of (inside_state c) ≡ c
-inside_of_ok c p =
+pub contract_inside_ok : (c : Inside) → HasPlaces c → contract_inside (inside_state c) ≡ c
+contract_inside_ok c p =
     let n : length (take (length c.terms.locks) c.opened) ≡ length c.terms.locks =
     (let z = length-take (length c.terms.locks) c.opened in let a = p.places in let b = p.within in omega arith) in
     let m : take (length c.terms.locks) c.opened ++ replicate (8 - length (take (length c.terms.locks) c.opened)) false ≡ c.opened =

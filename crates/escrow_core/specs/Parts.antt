@@ -7,14 +7,14 @@ use Rattle.hashkey_path.specs.Hashkey.{is_wrong_secret, is_wrong_path, is_wrong_
 use Rattle.escrow_core.specs.declared.terms.Terms.{Terms}
 use Rattle.escrow_core.specs.declared.reply.Reply.{Reply}
 use Rattle.escrow_core.specs.declared.reply.Reply.TheVariants.{Settled, NotCounterparty, WrongSecret, WrongPath, WrongSignature, TooLate, StillLocked}
-use Rattle.escrow_core.specs.Terms.{read_hashlock, last_unlock}
+use Rattle.escrow_core.specs.Terms.{terms_hashlock, last_unlock}
 use Rattle.escrow_core.specs.Table.{closed_lock}
 use Rattle.escrow_core.specs.Value.{ContractState, is_lock_open}
 
 -- the rows of an unlock that speak of its hashkey
 abbrev pub key_rows : Deal → ℕ → Terms → (height : ℕ) → Hashkey → List (Bool × Reply)
 key_rows d a t height key =
-    (is_wrong_secret (read_hashlock t key.lock) key, WrongSecret) ∷
+    (is_wrong_secret (terms_hashlock t key.lock) key, WrongSecret) ∷
     (is_wrong_path d a d.mode key, WrongPath) ∷
     (is_wrong_signature d d.mode key, WrongSignature) ∷
     (nat_lt (last_unlock d.mode t key) height, TooLate (last_unlock d.mode t key)) ∷ []

@@ -10,7 +10,7 @@ use Rattle.escrow_core.specs.declared.terms.Terms.{Terms}
 use Rattle.escrow_core.specs.declared.reply.Reply.{Reply}
 use Rattle.escrow_core.specs.declared.reply.Reply.TheVariants.{Accepted, Settled, NotCounterparty, NotParty, AlreadyUnlocked, WrongSecret, WrongPath}
 use Rattle.escrow_core.specs.declared.reply.Reply.TheVariants.{WrongSignature, TooLate, StillLocked, NothingLocked, NotExpired}
-use Rattle.escrow_core.specs.Terms.{read_hashlock, last_unlock, refund_expiry}
+use Rattle.escrow_core.specs.Terms.{terms_hashlock, last_unlock, refund_expiry}
 
 abbrev pub first_row : List (Bool × Reply) → Reply
 first_row [] = Accepted
@@ -33,7 +33,7 @@ unlock_rows d a t is_open settled height p key =
     (settled, Settled) ∷
     (not (p == counterparty d a), NotCounterparty) ∷
     (is_open key.lock, AlreadyUnlocked) ∷
-    (is_wrong_secret (read_hashlock t key.lock) key, WrongSecret) ∷
+    (is_wrong_secret (terms_hashlock t key.lock) key, WrongSecret) ∷
     (is_wrong_path d a d.mode key, WrongPath) ∷
     (is_wrong_signature d d.mode key, WrongSignature) ∷
     (nat_lt (last_unlock d.mode t key) height, TooLate (last_unlock d.mode t key)) ∷ []

@@ -23,8 +23,8 @@ same_terms t u =
     && (t.amount == u.amount)
 
 -- the hashlock of lock i
-abbrev pub read_hashlock : Terms → ℕ → List ℕ
-read_hashlock t i = slice_index_or t.locks i []
+abbrev pub terms_hashlock : Terms → ℕ → List ℕ
+terms_hashlock t i = slice_index_or t.locks i []
 
 -- whether lock i expires early on arc a: in version 2, where the arc enters the lock's leader
 abbrev pub is_own : Version → Deal → ℕ → ℕ → Bool

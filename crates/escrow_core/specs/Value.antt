@@ -29,7 +29,7 @@ pub record AreFitting (d : Deal) (t : Terms) : Type 0 where
   pub amount : t.amount ≤ 10 ^ 12
 
 -- The contract is one of an arc of the deal, with terms that a call may state.
-pub record IsFor (d : Deal) (c : ContractState) : Type 0 where
+pub record IsDealContract (d : Deal) (c : ContractState) : Type 0 where
   pub arc : c.arc < length d.graph.arcs
   pub from : c.from ≡ party d c.arc
   pub to : c.to ≡ counterparty d c.arc

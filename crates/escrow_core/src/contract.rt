@@ -5,7 +5,7 @@ ghost use Rattle.swap_digraph.specs.declared.deal.Deal.{Deal};
 ghost use Rattle.swap_digraph.specs.Deal.{IsWellSized};
 ghost use Rattle.hashkey_path.specs.Known.{is_last_signed};
 ghost use Rattle.escrow_core.specs.Table.{first_row, unlock_rows, claim_rows, refund_rows};
-ghost use Rattle.escrow_core.specs.Value.{AreFitting, IsFor, is_lock_open, new_contract, with_opened, with_settled};
+ghost use Rattle.escrow_core.specs.Value.{AreFitting, IsDealContract, is_lock_open, new_contract, with_opened, with_settled};
 ghost use Rattle.escrow_core.specs.Parts.{own_claim_rows};
 
 use crate::decisions::{first_closed, key_reply};
@@ -17,7 +17,8 @@ use std::marker::Model;
 use swap_base::{ArcId, LockId, PartyId};
 use swap_digraph::Deal;
 
-/// The contract of an arc: its terms, the locks that are opened, and whether it is settled. It is kept in place, and none of its calls takes memory.
+/// The contract of an arc: its terms, the locks that are opened, and whether it is settled. It is
+/// kept in place, and none of its calls takes memory.
 #[derive(Clone, Copy, Debug)]
 pub struct Contract {
     arc: ArcId,
@@ -33,15 +34,15 @@ impl Model for Contract {
 
     ghost Value = { ContractState };
 
-    ghost use Rattle.escrow_core.specs.Inside.{inside_state, HasPlaces, inside_of, inside_of_ok};
+    ghost use Rattle.escrow_core.specs.Inside.{inside_state, HasPlaces, contract_inside, contract_inside_ok};
 
     ghost view = { inside_state };
 
     ghost invariant = { HasPlaces };
 
-    ghost inverse = { inside_of };
+    ghost inverse = { contract_inside };
 
-    ghost inverse_ok = { inside_of_ok };
+    ghost inverse_ok = { contract_inside_ok };
 }
 
 impl Contract {
@@ -51,7 +52,7 @@ impl Contract {
         requires arc { arc < length deal.now.graph.arcs }
         requires fitting { AreFitting deal.now terms }
         ensures value { result ≡ new_contract deal.now arc terms }
-        ensures made { IsFor deal.now result }
+        ensures made { IsDealContract deal.now result }
     {
         let ends = deal.graph.arcs()[arc as usize];
         Contract {
@@ -110,7 +111,7 @@ impl Contract {
         known: usize,
     ) -> Reply
         requires sized { IsWellSized deal.now }
-        requires of_the_deal { IsFor deal.now self.now }
+        requires of_the_deal { IsDealContract deal.now self.now }
         requires lock { key.now.lock < length deal.now.leaders }
         requires known { IsTrue (is_last_signed known deal.now key.now) }
         ensures { result ≡ first_row (unlock_rows deal.now self.now.arc self.now.terms (is_lock_open self.now) self.now.settled height sender key.now) }
@@ -118,7 +119,7 @@ impl Contract {
         if self.is_settled() {
             return Reply::Settled;
         }
-        if sender != self.to() {
+        if sender != self.counterparty_id() {
             return Reply::NotCounterparty;
         }
         if self.is_open(key.lock) {
@@ -133,7 +134,7 @@ impl Contract {
         if self.is_settled() {
             return Reply::Settled;
         }
-        if sender != self.to() {
+        if sender != self.counterparty_id() {
             return Reply::NotCounterparty;
         }
         match first_closed(self.opened()) {
@@ -144,13 +145,13 @@ impl Contract {
 
     fn refund_reply(&self, deal: &Deal, height: u32, sender: PartyId) -> Reply
         requires sized { IsWellSized deal.now }
-        requires of_the_deal { IsFor deal.now self.now }
+        requires of_the_deal { IsDealContract deal.now self.now }
         ensures { result ≡ first_row (refund_rows deal.now self.now.arc self.now.terms (is_lock_open self.now) self.now.settled height sender) }
     {
         if self.is_settled() {
             return Reply::Settled;
         }
-        if sender != self.from() {
+        if sender != self.party_id() {
             return Reply::NotParty;
         }
         if first_closed(self.opened()).is_none() {
@@ -164,20 +165,21 @@ impl Contract {
     }
 
     /// The party, which the arc leaves.
-    fn from(&self) -> PartyId
+    fn party_id(&self) -> PartyId
         ensures { result ≡ self.now.from }
     {
         self.from
     }
 
     /// The counterparty, which the arc enters.
-    fn to(&self) -> PartyId
+    fn counterparty_id(&self) -> PartyId
         ensures { result ≡ self.now.to }
     {
         self.to
     }
 
-    /// Opens the hashkey's lock, where the table accepts it. The last `known` signatures are known to be valid, and aren't verified.
+    /// Opens the hashkey's lock, where the table accepts it. The last `known` signatures are known
+    /// to be valid, and aren't verified.
     pub fn unlock(
         &mut self,
         deal: &Deal,
@@ -187,13 +189,13 @@ impl Contract {
         known: usize,
     ) -> Reply
         requires sized { IsWellSized deal.now }
-        requires of_the_deal { IsFor deal.now self.old }
+        requires of_the_deal { IsDealContract deal.now self.old }
         requires lock { key.now.lock < length deal.now.leaders }
         requires known { IsTrue (is_last_signed known deal.now key.now) }
         ensures reply { result ≡ first_row (unlock_rows deal.now self.old.arc self.old.terms (is_lock_open self.old) self.old.settled height sender key.now) }
         ensures accepted { result ≡ Reply.Accepted → self.new ≡ with_opened self.old key.now.lock }
         ensures refused { result ≢ Reply.Accepted → self.new ≡ self.old }
-        ensures kept { IsFor deal.now self.new }
+        ensures kept { IsDealContract deal.now self.new }
     {
         let reply = self.unlock_reply(deal, height, sender, key, known);
         match reply {
@@ -205,10 +207,10 @@ impl Contract {
 
     /// Settles the contract for its counterparty, where the table accepts it.
     pub fn claim(&mut self, sender: PartyId) -> Reply
-        ensures reply { (d : Deal) → IsFor d self.old → result ≡ first_row (claim_rows d self.old.arc (is_lock_open self.old) self.old.settled sender) }
+        ensures reply { (d : Deal) → IsDealContract d self.old → result ≡ first_row (claim_rows d self.old.arc (is_lock_open self.old) self.old.settled sender) }
         ensures accepted { result ≡ Reply.Accepted → self.new ≡ with_settled self.old }
         ensures refused { result ≢ Reply.Accepted → self.new ≡ self.old }
-        ensures kept { (d : Deal) → IsFor d self.old → IsFor d self.new }
+        ensures kept { (d : Deal) → IsDealContract d self.old → IsDealContract d self.new }
     {
         let reply = self.claim_reply(sender);
         match reply {
@@ -221,11 +223,11 @@ impl Contract {
     /// Settles the contract for its party, where the table accepts it.
     pub fn refund(&mut self, deal: &Deal, height: u32, sender: PartyId) -> Reply
         requires sized { IsWellSized deal.now }
-        requires of_the_deal { IsFor deal.now self.old }
+        requires of_the_deal { IsDealContract deal.now self.old }
         ensures reply { result ≡ first_row (refund_rows deal.now self.old.arc self.old.terms (is_lock_open self.old) self.old.settled height sender) }
         ensures accepted { result ≡ Reply.Accepted → self.new ≡ with_settled self.old }
         ensures refused { result ≢ Reply.Accepted → self.new ≡ self.old }
-        ensures kept { IsFor deal.now self.new }
+        ensures kept { IsDealContract deal.now self.new }
     {
         let reply = self.refund_reply(deal, height, sender);
         match reply {

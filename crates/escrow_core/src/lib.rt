@@ -1,4 +1,5 @@
-//! The hashed timelock contract of an arc: its terms, and its replies to unlock, claim and refund (Herlihy 2018, section 4).
+//! The hashed timelock contract of an arc: its terms, and its replies to unlock, claim and refund
+//! (Herlihy 2018, section 4).
 //!
 //! Read `specs/Table.antt` first: the rows of the table of replies.
 #![tactic(auto)]

@@ -3,7 +3,7 @@ use Rattle.std.proofs.Common.{◌≡◌, ℕ, List, [], ◌∷◌, ◌++◌, tak
 use Rattle.std.proofs.Common.{◌<◌, arith, add-one, sym, ◌∙◌}
 use Rattle.std.specs.Int.{w32, to_be_bytes}
 use Rattle.sha2.specs.Sha256.{digest_bytes, first_words, hash_after, sha256}
-use Rattle.hash_chains.specs.Chains.{chain_after, chain_start, chain_step}
+use Rattle.hash_chains.specs.Chains.{chain_value, chain_start, chain_step}
 use Rattle.hash_chains.specs.Lanes.{block_words, joined_word, lane, start_message, step_message, word_start, word_step}
 
 pub lane-at : (vs : List (List ℕ)) (j i : ℕ) → slice_index (lane vs j) i ≡ slice_index (get_or vs i []) j
@@ -59,15 +59,15 @@ pub lane_of_sixteen : (x0 x1 x2 x3 x4 x5 x6 x7 x8 x9 x10 x11 x12 x13 x14 x15 : L
 unfolding lane
 lane_of_sixteen x0 x1 x2 x3 x4 x5 x6 x7 x8 x9 x10 x11 x12 x13 x14 x15 j = refl
 
-pub one_step_more : (n : ℕ) (y : List ℕ) → chain_after (n + 1) y ≡ chain_step (chain_after n y)
-unfolding chain_after
+pub one_step_more : (n : ℕ) (y : List ℕ) → chain_value (n + 1) y ≡ chain_step (chain_value n y)
+unfolding chain_value
 one_step_more n y = rw add-one refl
 
-pub no_steps : (y : List ℕ) → y ≡ chain_after 0 y
-unfolding chain_after
+pub no_steps : (y : List ℕ) → y ≡ chain_value 0 y
+unfolding chain_value
 no_steps y = refl
 
 -- one step more on the words
-pub words_more : (h next y : List ℕ) (n : ℕ) → next ≡ word_step h → digest_bytes h 8 ≡ chain_after n y → digest_bytes next 8 ≡ chain_after (n + 1) y
+pub words_more : (h next y : List ℕ) (n : ℕ) → next ≡ word_step h → digest_bytes h 8 ≡ chain_value n y → digest_bytes next 8 ≡ chain_value (n + 1) y
 words_more h next y n e so_far =
     ap (λ (l : List ℕ). digest_bytes l 8) e ∙ sym (step_bytes h) ∙ ap chain_step so_far ∙ sym (one_step_more n y)

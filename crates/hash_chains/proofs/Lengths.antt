@@ -6,7 +6,7 @@ use Rattle.std.proofs.Math.Seq.{take-add}
 use Rattle.std.proofs.lemmas.List.{take_all}
 use Rattle.std.proofs.lemmas.Bool.{cases_lt, lt-ltb, le-ltb}
 use Rattle.sha2.specs.Sha256.{digest_bytes}
-use Rattle.hash_chains.specs.Chains.{chain_after}
+use Rattle.hash_chains.specs.Chains.{chain_value}
 use Rattle.hash_chains.specs.Lanes.{first_eight, word_step}
 use Rattle.hash_chains.proofs.Lanes.{words_more, no_steps}
 
@@ -51,20 +51,20 @@ digest_first_eight : (h : List ℕ) → digest_bytes (first_eight h) 8 ≡ diges
 unfolding digest_bytes
 digest_first_eight h = refl
 
-pub none_each : (y : List ℕ) (n : ℕ) → y ≡ chain_after (min 0 n) y
+pub none_each : (y : List ℕ) (n : ℕ) → y ≡ chain_value (min 0 n) y
 none_each y n =
     let e : min 0 n ≡ 0 = omega arith in
     rw e (no_steps y)
 
 -- one step more, where there is one to do
 pub each_more : (reached next moved y : List ℕ) (i n : ℕ) → next ≡ word_step reached → moved ≡ cond (nat_lt i n) (first_eight next) (first_eight reached)
-    → digest_bytes reached 8 ≡ chain_after (min i n) y → digest_bytes moved 8 ≡ chain_after (min (i + 1) n) y
+    → digest_bytes reached 8 ≡ chain_value (min i n) y → digest_bytes moved 8 ≡ chain_value (min (i + 1) n) y
 each_more reached next moved y i n stepped chosen so_far = elim (cases_lt i n) [
   | inl lt ↦
       let now : min i n ≡ i = omega arith in
       let then : min (i + 1) n ≡ i + 1 = omega arith in
       let is : moved ≡ first_eight next = rw (lt-ltb i n lt) at chosen in
-      let held : digest_bytes reached 8 ≡ chain_after i y = rw now at so_far in
+      let held : digest_bytes reached 8 ≡ chain_value i y = rw now at so_far in
       rw (is, then) (digest_first_eight next ∙ words_more reached next y i stepped held)
   | inr ge ↦
       let same : min (i + 1) n ≡ min i n = omega arith in

@@ -4,7 +4,8 @@ use Rattle.std.proofs.Math.ListN.{set}
 use Rattle.std.proofs.lemmas.Bool.{cases_lt}
 use Rattle.std.proofs.lemmas.List.{get_or-set_same, get_or-set_other}
 
--- what holds at each place below n holds at one more, once an element for which it does is written there
+-- what holds at each place below n holds at one more, once an element for which it does is written
+-- there
 pub each_written : {X : Type 0} (P : ℕ → X → Type 0) (xs : List X) (n : ℕ) (x d : X) → n < length xs → ((k : ℕ) → k < n → P k (get_or xs k d)) → P n x
     → (k : ℕ) → k < n + 1 → P k (get_or (set xs n x) k d)
 each_written P xs n x d lt each here k k_lt = elim (cases_lt k n) [

@@ -19,6 +19,6 @@ abbrev pub chain_step : List ℕ → List ℕ
 chain_step y = sha256 (2 ∷ y)
 
 -- the value that n steps lead to from y
-unfoldable pub chain_after : ℕ → List ℕ → List ℕ
-chain_after zero y = y
-chain_after (suc n) y = chain_step (chain_after n y)
+unfoldable pub chain_value : ℕ → List ℕ → List ℕ
+chain_value zero y = y
+chain_value (suc n) y = chain_step (chain_value n y)

@@ -1,6 +1,6 @@
 -- The values of chains, by fours.
 use Rattle.std.specs.Prelude.{◌≡◌, ℕ, ◌+◌, ◌*◌, ◌<◌, List, [], length, slice_index_or}
-use Rattle.hash_chains.specs.Chains.{chain_after, chain_start}
+use Rattle.hash_chains.specs.Chains.{chain_value, chain_start}
 use Rattle.hash_chains.specs.declared.chains.Row.{Row}
 use Rattle.hash_chains.specs.declared.chains.Four.{Four}
 
@@ -16,7 +16,7 @@ HasRow f n rows = (i : ℕ) → i < 4 → slice_index_or (slice_index_or rows n 
 
 -- the values of four chains, of which j is the first, after 0 to 15 steps
 abbrev pub AreFourChains : List ℕ → ℕ → ℕ → ℕ → Four → Type 0
-AreFourChains seed party lock j four = (n : ℕ) → n < 16 → HasRow (λ k i. chain_after k (chain_start seed party lock (j + i))) n four.rows
+AreFourChains seed party lock j four = (n : ℕ) → n < 16 → HasRow (λ k i. chain_value k (chain_start seed party lock (j + i))) n four.rows
 
 -- the starts of four chains, of which j is the first
 abbrev pub AreStarts : List ℕ → ℕ → ℕ → ℕ → List (List ℕ) → Type 0

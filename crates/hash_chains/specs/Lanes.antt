@@ -2,7 +2,7 @@
 use Rattle.std.specs.Prelude.{◌≡◌, ℕ, ◌<◌, List, [], ◌∷◌, ◌++◌, map, take, slice_index, slice_index_or, Bool, true, false}
 use Rattle.std.specs.Int.{w32, from_be_bytes, to_be_bytes}
 use Rattle.sha2.specs.Sha256.{compress, digest_bytes, initial_hash_256, padded_message}
-use Rattle.hash_chains.specs.Chains.{chain_after}
+use Rattle.hash_chains.specs.Chains.{chain_value}
 
 -- what lane j has of each vector
 unfoldable pub lane : List (List ℕ) → ℕ → List ℕ
@@ -13,7 +13,8 @@ abbrev pub joined_word : ℕ → ℕ → ℕ
 joined_word a b = from_be_bytes w32
     (slice_index (to_be_bytes w32 a) 3 ∷ slice_index (to_be_bytes w32 b) 0 ∷ slice_index (to_be_bytes w32 b) 1 ∷ slice_index (to_be_bytes w32 b) 2 ∷ [])
 
--- the words of a block: the byte kind, the bytes of the eight words h, the first three of tail, the word next, zeros, and the length
+-- the words of a block: the byte kind, the bytes of the eight words h, the first three of tail, the
+-- word next, zeros, and the length
 abbrev pub block_words : ℕ → List ℕ → ℕ → ℕ → ℕ → List ℕ
 block_words kind h tail next bits =
     joined_word kind (slice_index h 0) ∷ joined_word (slice_index h 0) (slice_index h 1) ∷ joined_word (slice_index h 1) (slice_index h 2)
@@ -44,8 +45,8 @@ first_eight h =
     slice_index h 0 ∷ slice_index h 1 ∷ slice_index h 2 ∷ slice_index h 3 ∷ slice_index h 4 ∷ slice_index h 5 ∷ slice_index h 6 ∷ slice_index h 7 ∷ []
 
 -- the value of chain j, carried on by its count
-abbrev pub carried_to : List (List ℕ) → List ℕ → ℕ → List ℕ
-carried_to values counts j = chain_after (slice_index counts j) (slice_index_or values j [])
+abbrev pub carried_value : List (List ℕ) → List ℕ → ℕ → List ℕ
+carried_value values counts j = chain_value (slice_index counts j) (slice_index_or values j [])
 
 -- each chain that is done has its end, by f
 abbrev pub IsDone : (ℕ → List ℕ) → List (List ℕ) → List Bool → Type 0

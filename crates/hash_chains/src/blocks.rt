@@ -9,7 +9,8 @@ ghost use Rattle.hash_chains.specs.Lanes.{block_words, lane, word_start, word_st
 use crate::ops::{V, joined, splat};
 use crate::rounds::first_hash;
 
-// The words of a block: the byte `kind`, the 32 bytes of `y`, the first three of `tail`, the word `next`, zeros, and the length of the message in bits.
+// The words of a block: the byte `kind`, the 32 bytes of `y`, the first three of `tail`, the word
+// `next`, zeros, and the length of the message in bits.
 #[inline(always)]
 fn block(kind: u32, y: [V; 8], tail: V, next: u32, bits: u32) -> [V; 16]
     ensures { (j : ℕ) → j < 4 → lane result j ≡ block_words kind (lane y j) (slice_index tail j) next bits }
@@ -43,7 +44,8 @@ pub(crate) fn chain_step(y: [V; 8]) -> [V; 8]
     first_hash(block(2, y, splat(0x8000_0000), 0, 264))
 }
 
-// The start that each lane's seed and the first three bytes of its tail give. Its message has 36 bytes.
+// The start that each lane's seed and the first three bytes of its tail give. Its message has 36
+// bytes.
 fn lane_start(seed: [V; 8], tail: V) -> [V; 8]
     ensures { (j : ℕ) → j < 4 → lane result j ≡ word_start (lane seed j) (slice_index tail j) }
 {

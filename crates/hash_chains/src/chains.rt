@@ -2,7 +2,7 @@
 
 ghost use Rattle.std.specs.Prelude.{◌≡◌, ℕ, ◌+◌, ◌*◌, ◌<◌, ◌≤◌, length, IfOk};
 ghost use Rattle.sha2.specs.Sha256.{digest_bytes};
-ghost use Rattle.hash_chains.specs.Chains.{KeyParts, chain_after, chain_start};
+ghost use Rattle.hash_chains.specs.Chains.{KeyParts, chain_value, chain_start};
 ghost use Rattle.hash_chains.specs.Fours.{AreFourChains, HasRow};
 ghost use Rattle.hash_chains.specs.Lanes.{lane};
 
@@ -36,7 +36,8 @@ struct Four {
     rows: [Row; 16],
 }
 
-/// Each value of each chain of a party's key for one lock: 34 KB in a place of their own, so that who hands on the chains moves none of them.
+/// Each value of each chain of a party's key for one lock: 34 KB in a place of their own, so that
+/// who hands on the chains moves none of them.
 #[derive(Drop)]
 pub struct Chains {
     seed: ChainValue,
@@ -59,7 +60,7 @@ impl Model for Chains {
 
 // Puts into the rows what each number of steps leads to from the values in the lanes.
 fn walk(rows: &mut [Row; 16], start: [V; 8])
-    ensures { (n : ℕ) → n < 16 → HasRow (λ k i. chain_after k (digest_bytes (lane start i) 8)) n rows.new }
+    ensures { (n : ℕ) → n < 16 → HasRow (λ k i. chain_value k (digest_bytes (lane start i) 8)) n rows.new }
 {
     let mut reached = start;
     rows[0].values = four_values(&reached);
@@ -111,7 +112,7 @@ impl Chains {
     pub fn value(&self, chain: usize, steps: u8) -> &ChainValue
         requires chain { chain < 67 }
         requires steps { steps ≤ 15 }
-        ensures { result.now ≡ chain_after steps (chain_start self.now.seed self.now.party self.now.lock chain) }
+        ensures { result.now ≡ chain_value steps (chain_start self.now.seed self.now.party self.now.lock chain) }
     {
         &self.fours[chain / 4].rows[steps as usize].values[chain % 4]
     }

@@ -2,7 +2,7 @@
 
 ghost use Rattle.std.specs.Prelude.{◌≡◌, ℕ, ◌<◌, ◌≤◌, slice_index, nat_lt, cond};
 ghost use Rattle.sha2.specs.Sha256.{digest_bytes};
-ghost use Rattle.hash_chains.specs.Chains.{chain_after};
+ghost use Rattle.hash_chains.specs.Chains.{chain_value};
 ghost use Rattle.hash_chains.specs.Lanes.{first_eight, lane};
 
 use crate::blocks::chain_step;
@@ -38,7 +38,7 @@ fn all_advanced(reached: [V; 8], next: [V; 8], at: u32, counts: V) -> [V; 8]
 /// The value of each chain after the number of steps in `counts`; no count is above `most`.
 pub(crate) fn chain_after_each(y: [V; 8], counts: V, most: u32) -> [V; 8]
     requires { (j : ℕ) → j < 4 → slice_index counts j ≤ most }
-    ensures { (j : ℕ) → j < 4 → digest_bytes (lane result j) 8 ≡ chain_after (slice_index counts j) (digest_bytes (lane y j) 8) }
+    ensures { (j : ℕ) → j < 4 → digest_bytes (lane result j) 8 ≡ chain_value (slice_index counts j) (digest_bytes (lane y j) 8) }
 {
     let mut reached = y;
     'steps: for i in 0..most {

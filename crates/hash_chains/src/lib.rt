@@ -1,7 +1,9 @@
 //! Chains of SHA-256, walked four at a time.
 //!
-//! A step hashes 33 bytes, which are one block, so that the steps of four chains are the same operations on four words side by side.
-//! `Chains` has every value of a key's chains, `chain_starts` their starts alone, and `carried` goes on from values that are given. `specs/Chains.antt` says what a chain is.
+//! A step hashes 33 bytes, which are one block, so that the steps of four chains are the same
+//! operations on four words side by side. `Chains` has every value of a key's chains,
+//! `chain_starts` their starts alone, and `carried` goes on from values that are given.
+//! `specs/Chains.antt` says what a chain is.
 #![tactic(auto)]
 
 mod blocks;

@@ -1,4 +1,5 @@
-//! Operations on four words side by side, of which the functions of SHA-256 are made (FIPS 180-4, sections 3.2 and 4.1.2).
+//! Operations on four words side by side, of which the functions of SHA-256 are made (FIPS 180-4,
+//! sections 3.2 and 4.1.2).
 
 ghost use Rattle.std.specs.Prelude.{◌≡◌, ℕ, ◌+◌, ◌-◌, ◌*◌, ◌/◌, ◌%◌, ◌^◌, ◌<◌, slice_index, bit_and, bit_or, bit_xor};
 ghost use Rattle.std.specs.Int.{w32, bit_not, rotate_right};
@@ -118,7 +119,8 @@ pub(crate) fn small_sigma1(x: V) -> V
     xor(xor(rotated(x, 17), rotated(x, 19)), right(x, 10))
 }
 
-// The words that begin with the last byte of those of `x`, and go on with the first three of those of `y`.
+// The words that begin with the last byte of those of `x`, and go on with the first three of those
+// of `y`.
 #[inline(always)]
 pub(crate) fn joined(x: V, y: V) -> V
     ensures { (j : ℕ) → j < 4 → slice_index result j ≡ joined_word (slice_index x j) (slice_index y j) }

@@ -51,7 +51,7 @@ pub(crate) fn value_lanes(values: &[ChainValue; 4]) -> [V; 8]
 }
 
 // The value in a lane.
-fn value_at(words: &[V; 8], j: usize) -> ChainValue
+fn lane_value(words: &[V; 8], j: usize) -> ChainValue
     requires { j < 4 }
     ensures { result ≡ digest_bytes (lane words.now j) 8 }
 {
@@ -68,9 +68,9 @@ pub(crate) fn four_values(words: &[V; 8]) -> [ChainValue; 4]
     ensures { (j : ℕ) → j < 4 → slice_index_or result j [] ≡ digest_bytes (lane words.now j) 8 }
 {
     [
-        value_at(words, 0),
-        value_at(words, 1),
-        value_at(words, 2),
-        value_at(words, 3),
+        lane_value(words, 0),
+        lane_value(words, 1),
+        lane_value(words, 2),
+        lane_value(words, 3),
     ]
 }

@@ -7,16 +7,16 @@ use Rattle.std.proofs.lemmas.List.FromFn.{get_or-map-range_with_len, map-range_w
 use Rattle.sha2.specs.Hashers.{Holds256}
 use Rattle.sha2.specs.declared.Sha256.{Sha256}
 use Rattle.swap_base.specs.Text.{joined}
-use Rattle.hash_chains.specs.Chains.{chain_step, chain_after}
+use Rattle.hash_chains.specs.Chains.{chain_step, chain_value}
 use Rattle.hash_signature.specs.Signature.{for_chains}
 
 -- steps after steps
-pub chain_after-sum : (n k : ℕ) (y : List ℕ) → chain_after n (chain_after k y) ≡ chain_after (n + k) y
-unfolding chain_after
-chain_after-sum zero k y = ap (λ (i : ℕ). chain_after i y) (omega arith)
-chain_after-sum (suc n) k y =
+pub chain_value-sum : (n k : ℕ) (y : List ℕ) → chain_value n (chain_value k y) ≡ chain_value (n + k) y
+unfolding chain_value
+chain_value-sum zero k y = ap (λ (i : ℕ). chain_value i y) (omega arith)
+chain_value-sum (suc n) k y =
     let e : suc n + k ≡ suc (n + k) = omega arith in
-    ap chain_step (chain_after-sum n k y) ∙ sym (ap (λ (i : ℕ). chain_after i y) e)
+    ap chain_step (chain_value-sum n k y) ∙ sym (ap (λ (i : ℕ). chain_value i y) e)
 
 -- what f gives for the first n chains
 abbrev pub first_chains : {X : Type 0} → (ℕ → X) → ℕ → List X

@@ -2,8 +2,8 @@
 
 ghost use Rattle.std.specs.Prelude.{◌≡◌, IfOk, IsTrue};
 ghost use Rattle.hash_signature.specs.Key.{KeyParts};
-ghost use Rattle.hash_signature.specs.Inside.{parts_of};
-ghost use Rattle.hash_signature.specs.Signature.{derive_public_key, parse_signature, is_valid_signature};
+ghost use Rattle.hash_signature.specs.Inside.{source_parts};
+ghost use Rattle.hash_signature.specs.Signature.{derive_public_key, made_signature, is_valid_signature};
 
 use crate::digits::digits;
 use crate::sig::Sig;
@@ -20,7 +20,8 @@ use swap_base::NoMemory;
 enum Source {
     /// Each value of the chains, of which signing only picks one of each chain.
     Walked(Chains),
-    /// What the chains begin with, from where signing walks each as far as the digit of the message at it says.
+    /// What the chains begin with, from where signing walks each as far as the digit of the message
+    /// at it says.
     Unwalked {
         seed: Digest,
         party: PartyId,
@@ -30,7 +31,8 @@ enum Source {
 
 /// A party's key for one lock. Signing spends it, and it can't be copied. It may be let go unused.
 ///
-/// One that was made with its public key keeps each value of its chains, 34 KB in a place of their own. Who spends it or lets it go gives that memory back.
+/// One that was made with its public key keeps each value of its chains, 34 KB in a place of their
+/// own. Who spends it or lets it go gives that memory back.
 #[derive(Drop)]
 pub struct OneTimeKey {
     source: Source,
@@ -41,9 +43,9 @@ impl Model for OneTimeKey {
 
     ghost Value = { KeyParts };
 
-    ghost use Rattle.hash_signature.specs.Inside.{parts_of};
+    ghost use Rattle.hash_signature.specs.Inside.{source_parts};
 
-    ghost view = { λ k. parts_of k.source };
+    ghost view = { λ k. source_parts k.source };
 }
 
 /// The key that a party's seed gives for a lock, with its public key.
@@ -62,8 +64,9 @@ pub fn keygen(
     Ok((OneTimeKey { source }, public))
 }
 
-/// The same key without its public key. It takes no memory and hashes nothing yet; its signature takes half of the hashes that `keygen` does.
-pub fn key_of(seed: &Digest, party: PartyId, lock: LockId) -> OneTimeKey
+/// The same key without its public key. It takes no memory and hashes nothing yet; its signature
+/// takes half of the hashes that `keygen` does.
+pub fn unwalked_key(seed: &Digest, party: PartyId, lock: LockId) -> OneTimeKey
     ensures { result ≡ record { seed = seed.now; party = party; lock = lock } }
 {
     OneTimeKey {
@@ -87,7 +90,7 @@ fn public_key(chains: &Chains) -> Digest
 }
 
 fn picked(chains: &Chains, message: &Digest) -> [Digest; CHAINS]
-    ensures { result ≡ parse_signature chains.now.seed chains.now.party chains.now.lock message.now }
+    ensures { result ≡ made_signature chains.now.seed chains.now.party chains.now.lock message.now }
 {
     let wanted = digits(message);
     let mut values = [[0u8; 32]; CHAINS];
@@ -98,13 +101,13 @@ fn picked(chains: &Chains, message: &Digest) -> [Digest; CHAINS]
 }
 
 fn walked(seed: &Digest, party: PartyId, lock: LockId, message: &Digest) -> [Digest; CHAINS]
-    ensures { result ≡ parse_signature seed.now party lock message.now }
+    ensures { result ≡ made_signature seed.now party lock message.now }
 {
     carried(&chain_starts(seed, party, lock), &digits(message))
 }
 
 fn opened_values(source: &Source, message: &Digest) -> [Digest; CHAINS]
-    ensures { result ≡ (let key = parts_of source.now in parse_signature key.seed key.party key.lock message.now) }
+    ensures { result ≡ (let key = source_parts source.now in made_signature key.seed key.party key.lock message.now) }
 {
     match source {
         Source::Walked(chains) => picked(chains, message),
@@ -115,7 +118,7 @@ fn opened_values(source: &Source, message: &Digest) -> [Digest; CHAINS]
 impl OneTimeKey {
     /// The key's signature over the message, which spends the key.
     pub fn sign(self, message: &Digest) -> Sig
-        ensures value { result ≡ parse_signature self.seed self.party self.lock message.now }
+        ensures value { result ≡ made_signature self.seed self.party self.lock message.now }
         ensures valid { IsTrue (is_valid_signature (derive_public_key self.seed self.party self.lock) message.now result) }
     {
         Sig::new(opened_values(&self.source, message))

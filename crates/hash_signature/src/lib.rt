@@ -1,9 +1,11 @@
 //! One-time signatures made of chains of SHA-256, secrets and their hashlocks.
 //!
-//! A signer has one key for each party and lock. Its public key is the digest of the ends of 67 chains, and a signature opens each chain as far as the
-//! digit of the message at that chain says. Who signs twice with one key gives others the means to sign.
+//! A signer has one key for each party and lock. Its public key is the digest of the ends of 67
+//! chains, and a signature opens each chain as far as the digit of the message at that chain says.
+//! Who signs twice with one key gives others the means to sign.
 //!
-//! Read `specs/Signature.antt` first: `is_valid_signature` says what `verify` answers, and `parse_signature` what `sign` does.
+//! Read `specs/Signature.antt` first: `is_valid_signature` says what `verify` answers, and
+//! `made_signature` what `sign` does.
 #![tactic(auto)]
 
 mod digits;
@@ -14,7 +16,7 @@ mod secret;
 mod sig;
 
 pub use hash_chains::CHAINS;
-pub use key::{OneTimeKey, key_of, keygen};
+pub use key::{OneTimeKey, keygen, unwalked_key};
 pub use law::checksum_law;
 pub use same::same_sigs;
 pub use secret::{derive_secret, hashed_value};

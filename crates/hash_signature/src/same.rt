@@ -10,7 +10,7 @@ use crate::sig::Sig;
 use crate::{CHAINS, Digest};
 
 /// A value has 32 bytes. Its type says so, which only clauses need.
-fn read_size(_value: &Digest)
+fn show_value_size(_value: &Digest)
     ensures { length _value.now ≡ 32 }
 {}
 
@@ -20,7 +20,7 @@ fn value_bytes(values: &[Digest; CHAINS]) -> &[u8]
     ensures values { text_values result.now ≡ values.now }
 {
     'values: for value in values {
-        read_size(value);
+        show_value_size(value);
     }
     values.as_flattened()
 }

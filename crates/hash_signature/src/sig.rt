@@ -2,7 +2,7 @@
 
 ghost use Rattle.std.specs.Prelude.{◌≡◌, ◌<◌, List, ℕ};
 ghost use Rattle.swap_base.specs.Text.{joined};
-ghost use Rattle.hash_signature.specs.Signature.{carried_on, digest_of_ends, for_chains, is_valid_signature, value_at, text_values};
+ghost use Rattle.hash_signature.specs.Signature.{signature_chain_end, digest_of_ends, for_chains, is_valid_signature, signature_value, text_values};
 
 use crate::digits::{digits, rests};
 use crate::{CHAINS, Digest};
@@ -28,16 +28,16 @@ impl Model for Sig {
     ghost inverse = { λ v. record { values = v } };
 }
 
-fn value_at(bytes: &[u8; SIGNATURE_BYTES], i: usize) -> Digest
+fn signature_value(bytes: &[u8; SIGNATURE_BYTES], i: usize) -> Digest
     requires { i < 67 }
-    ensures { result ≡ value_at bytes.now i }
+    ensures { result ≡ signature_value bytes.now i }
 {
     let mut value = [0u8; 32];
     value.copy_from_slice(&bytes[32 * i..32 * i + 32]);
     value
 }
 
-fn bytes_of(values: &[Digest; CHAINS]) -> [u8; SIGNATURE_BYTES]
+fn joined_value_bytes(values: &[Digest; CHAINS]) -> [u8; SIGNATURE_BYTES]
     ensures bytes { result ≡ joined values.now }
     ensures values { text_values result ≡ values.now }
 {
@@ -70,7 +70,7 @@ impl Sig {
     {
         let mut values = [[0u8; 32]; CHAINS];
         'values: for i in 0..CHAINS {
-            values[i] = value_at(bytes, i);
+            values[i] = signature_value(bytes, i);
         }
         Sig { values }
     }
@@ -80,7 +80,7 @@ impl Sig {
         ensures bytes { result ≡ joined self.now }
         ensures values { text_values result ≡ self.now }
     {
-        bytes_of(&self.values)
+        joined_value_bytes(&self.values)
     }
 }
 
@@ -97,7 +97,7 @@ impl TryCopy for Sig {
 
 // The digest of the ends that the values are carried on to.
 fn digest_of_carried(message: &Digest, values: &[Digest; CHAINS]) -> Digest
-    ensures { result ≡ digest_of_ends (for_chains (carried_on message.now values.now)) }
+    ensures { result ≡ digest_of_ends (for_chains (signature_chain_end message.now values.now)) }
 {
     let ends = carried(values, &rests(&digits(message)));
     let mut hasher = Sha256::new();
@@ -108,8 +108,8 @@ fn digest_of_carried(message: &Digest, values: &[Digest; CHAINS]) -> Digest
     hasher.finalize()
 }
 
-/// Whether the signature is valid for the public key and the message: its values, each carried on by 15 steps less the digit at its chain, are the ends
-/// whose digest is the public key.
+/// Whether the signature is valid for the public key and the message: its values, each carried on
+/// by 15 steps less the digit at its chain, are the ends whose digest is the public key.
 #[tactic(auto, unfolding(crate::specs::Signature::is_valid_signature))]
 pub fn verify(public: &Digest, message: &Digest, sig: &Sig) -> bool
     ensures { result ≡ is_valid_signature public.now message.now sig.now }

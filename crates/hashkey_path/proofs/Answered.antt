@@ -6,7 +6,7 @@ use Rattle.swap_digraph.specs.declared.deal.Deal.{Deal}
 use Rattle.hashkey_path.specs.declared.hashkey.Hashkey.{Hashkey}
 use Rattle.hashkey_path.specs.declared.hashkey.HashkeyAnswer.{HashkeyAnswer}
 use Rattle.hashkey_path.specs.declared.hashkey.HashkeyAnswer.TheVariants.{Valid, WrongSecret, WrongPath}
-use Rattle.hashkey_path.specs.Hashkey.{is_wrong_secret, is_wrong_path, is_wrong_signature, wrong_signature, are_signed, of_signatures, computed_answer}
+use Rattle.hashkey_path.specs.Hashkey.{is_wrong_secret, is_wrong_path, is_wrong_signature, wrong_signature, are_signed, of_signatures, hashkey_answer}
 use Rattle.hashkey_path.specs.Hashkey.{is_valid}
 use Rattle.hashkey_path.proofs.Validity.{are_signed-is_none}
 
@@ -34,8 +34,8 @@ by_tests true p o b e = refl
 by_tests false true o b e = refl
 by_tests false false o b e = e
 
-pub valid_answer : (d : Deal) (a : ℕ) (hashlock : List ℕ) (key : Hashkey) → is_valid d a hashlock key ≡ says_valid (computed_answer d a hashlock key)
-unfolding computed_answer
+pub valid_answer : (d : Deal) (a : ℕ) (hashlock : List ℕ) (key : Hashkey) → is_valid d a hashlock key ≡ says_valid (hashkey_answer d a hashlock key)
+unfolding hashkey_answer
 valid_answer d a hashlock key =
     by_tests (is_wrong_secret hashlock key) (is_wrong_path d a d.mode key)
     (of_signatures d.mode (wrong_signature 0 d key.lock key.secret key.path key.sigs)) (not (is_wrong_signature d d.mode key))

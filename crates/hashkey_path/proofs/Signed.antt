@@ -13,15 +13,15 @@ use Rattle.swap_digraph.specs.declared.deal.Mode.TheVariants.{Timelocks, Hashkey
 use Rattle.swap_digraph.specs.Graph.{is_path, is_listed, resolve_all_ends, has_arc, first_is, IsConnectingPath}
 use Rattle.swap_digraph.specs.Deal.{party, counterparty, lock_leader, lock_hashlock}
 use Rattle.hash_signature.specs.declared.sig.Sig.{Sig}
-use Rattle.hash_signature.specs.Signature.{is_valid_signature, derive_public_key, parse_signature}
+use Rattle.hash_signature.specs.Signature.{is_valid_signature, derive_public_key, made_signature}
 use Rattle.hashkey_path.specs.declared.hashkey.Hashkey.{Hashkey}
-use Rattle.hashkey_path.specs.Hashkey.{key_of, signing_message, is_signed, wrong_signature, HasPath, IsValidHashkey}
+use Rattle.hashkey_path.specs.Hashkey.{party_public_key, signing_message, is_signed, wrong_signature, HasPath, IsValidHashkey}
 use Rattle.hashkey_path.specs.Signed.{suffix_signature, leaders_key, extended_key, IsLeadersOwn, CanExtend, IsValidEntering}
 use Rattle.hashkey_path.proofs.Validity.{SignsEach, signed_both, each_from_none, none_from_each}
 
 -- a signature of the deal's key for the party is the right one at its place
 pub signed_by : (d : Deal) (lock : ℕ) (secret : List ℕ) (party : ℕ) (seed rest : List ℕ) (inner : List Sig)
-    → key_of d party lock ≡ derive_public_key seed party lock
+    → party_public_key d party lock ≡ derive_public_key seed party lock
     → IsTrue (is_valid_signature (derive_public_key seed party lock) (signing_message d.id lock (party ∷ rest) secret inner)
     (suffix_signature d lock secret party seed rest inner))
     → is_signed d lock secret party rest (suffix_signature d lock secret party seed rest inner) inner ≡ true
@@ -104,12 +104,13 @@ extended_is_valid d inner party seed b hashlock lt right can valid a in_range en
 pub signed_as : (id : List ℕ) (lock : ℕ) (secret : List ℕ) (party : ℕ) (seed rest : List ℕ) (inner : List Sig) (p l : ℕ) (path : List ℕ)
     (sigs : List Sig) → p ≡ party → l ≡ lock → path ≡ party ∷ rest → sigs ≡ inner
     → IsTrue (is_valid_signature (derive_public_key seed p l) (signing_message id lock path secret sigs)
-    (parse_signature seed p l (signing_message id lock path secret sigs)))
+    (made_signature seed p l (signing_message id lock path secret sigs)))
     → IsTrue (is_valid_signature (derive_public_key seed party lock) (signing_message id lock (party ∷ rest) secret inner)
-    (parse_signature seed party lock (signing_message id lock (party ∷ rest) secret inner)))
+    (made_signature seed party lock (signing_message id lock (party ∷ rest) secret inner)))
 signed_as id lock secret party seed rest inner p l path sigs e₁ e₂ e₃ e₄ h = rw (e₁, e₂, e₃, e₄) at h
 
--- For the crates above: a hashkey that is valid on an arc leads on from the party that the arc leaves.
+-- For the crates above: a hashkey that is valid on an arc leads on from the party that the arc
+-- leaves.
 
 ends_among : (u v : ℕ) (arcs : List ArcEnds) (a : ℕ) → a < length arcs → (resolve_all_ends arcs a).from ≡ u → (resolve_all_ends arcs a).to ≡ v
     → list_any (λ e. (e.from == u) && (e.to == v)) arcs ≡ true

@@ -14,7 +14,7 @@ use Rattle.hash_signature.specs.declared.sig.Sig.{Sig}
 use Rattle.hash_signature.specs.Signature.{hashed_value}
 use Rattle.hashkey_path.specs.declared.hashkey.Hashkey.{Hashkey}
 use Rattle.hashkey_path.specs.declared.hashkey.HashkeyAnswer.TheVariants.{Valid, WrongSecret, WrongPath}
-use Rattle.hashkey_path.specs.Hashkey.{is_signed, are_signed, wrong_signature, is_wrong_secret, is_wrong_path, of_signatures, computed_answer, HasPath}
+use Rattle.hashkey_path.specs.Hashkey.{is_signed, are_signed, wrong_signature, is_wrong_secret, is_wrong_path, of_signatures, hashkey_answer, HasPath}
 use Rattle.hashkey_path.specs.Hashkey.{IsValidHashkey}
 
 -- The walk over the signatures.
@@ -133,8 +133,8 @@ from_parts m true path o a b e = absurd (cc a)
 from_parts m false true o a b e = absurd (cc b)
 from_parts m false false o a b e = e
 
-pub valid_from : (d : Deal) (a : ℕ) (hashlock : List ℕ) (key : Hashkey) → computed_answer d a hashlock key ≡ Valid → IsValidHashkey d a hashlock key
-unfolding computed_answer
+pub valid_from : (d : Deal) (a : ℕ) (hashlock : List ℕ) (key : Hashkey) → hashkey_answer d a hashlock key ≡ Valid → IsValidHashkey d a hashlock key
+unfolding hashkey_answer
 valid_from d a hashlock key e =
     let p = parts_of d.mode (is_wrong_secret hashlock key) (is_wrong_path d a d.mode key) (wrong_signature 0 d key.lock key.secret key.path key.sigs) e in
     record {
@@ -142,8 +142,8 @@ valid_from d a hashlock key e =
       path = path_from d.mode d a key p.1 p.2;
     }
 
-pub to_valid : (d : Deal) (a : ℕ) (hashlock : List ℕ) (key : Hashkey) → IsValidHashkey d a hashlock key → computed_answer d a hashlock key ≡ Valid
-unfolding computed_answer
+pub to_valid : (d : Deal) (a : ℕ) (hashlock : List ℕ) (key : Hashkey) → IsValidHashkey d a hashlock key → hashkey_answer d a hashlock key ≡ Valid
+unfolding hashkey_answer
 to_valid d a hashlock key v =
     let p = to_path d.mode d a key v.path in
     from_parts d.mode (is_wrong_secret hashlock key) (is_wrong_path d a d.mode key) (wrong_signature 0 d key.lock key.secret key.path key.sigs)

@@ -1,4 +1,5 @@
--- The digest that names a deal, and the bytes that it is taken of. Numbers of several bytes have the highest byte first.
+-- The digest that names a deal, and the bytes that it is taken of. Numbers of several bytes have
+-- the highest byte first.
 use Rattle.std.specs.Prelude.{ℕ, List, [], ◌∷◌, ◌++◌, length, slice_index}
 use Rattle.std.specs.Int.{w32, w64, to_be_bytes}
 use Rattle.std.specs.List.{flat_map}

@@ -23,21 +23,23 @@ same_key k l =
     && same_list (λ s t. same_list bytes_eq s t) k.sigs l.sigs
 
 -- the public key of party p for lock i
-abbrev pub key_of : Deal → ℕ → ℕ → List ℕ
-key_of d p i = slice_index_or (slice_index_or d.keys p []) i []
+abbrev pub party_public_key : Deal → ℕ → ℕ → List ℕ
+party_public_key d p i = slice_index_or (slice_index_or d.keys p []) i []
 
 -- the bytes of the signature of the next suffix, none after the last
 abbrev pub inner_bytes : List Sig → List ℕ
 inner_bytes [] = []
 inner_bytes (s ∷ sigs) = joined s
 
--- what the first vertex of a suffix signs: the deal, the lock, the suffix, the secret and the signature of the next suffix
+-- what the first vertex of a suffix signs: the deal, the lock, the suffix, the secret and the
+-- signature of the next suffix
 unfoldable pub signing_message : List ℕ → ℕ → List ℕ → List ℕ → List Sig → List ℕ
 signing_message id lock path secret inner = sha256 (4 ∷ id ++ lock ∷ length path ∷ path ++ secret ++ inner_bytes inner)
 
--- whether s is the signature of v over the suffix that it begins, where inner are the signatures after s
+-- whether s is the signature of v over the suffix that it begins, where inner are the signatures
+-- after s
 unfoldable pub is_signed : Deal → ℕ → List ℕ → ℕ → List ℕ → Sig → List Sig → Bool
-is_signed d lock secret v rest s inner = is_valid_signature (key_of d v lock) (signing_message d.id lock (v ∷ rest) secret inner) s
+is_signed d lock secret v rest s inner = is_valid_signature (party_public_key d v lock) (signing_message d.id lock (v ∷ rest) secret inner) s
 
 -- each signature is that of its vertex over the suffix from there
 abbrev pub are_signed : Deal → ℕ → List ℕ → List ℕ → List Sig → Bool
@@ -53,7 +55,8 @@ wrong_signature j d lock secret _ _ = None
 abbrev pub is_wrong_secret : List ℕ → Hashkey → Bool
 is_wrong_secret hashlock key = not (bytes_eq (hashed_value key.secret) hashlock)
 
--- In hashkeys mode the path leads from the arc's counterparty to the lock's leader, with as many signatures as vertices; in timelocks mode there is none.
+-- In hashkeys mode the path leads from the arc's counterparty to the lock's leader, with as many
+-- signatures as vertices; in timelocks mode there is none.
 abbrev pub is_wrong_path : Deal → ℕ → Mode → Hashkey → Bool
 is_wrong_path d a Timelocks key = not ((length key.path == 0) && (length key.sigs == 0))
 is_wrong_path d a Hashkeys key =
@@ -73,8 +76,8 @@ of_signatures Hashkeys None = Valid
 of_signatures Hashkeys (Some j) = WrongSignature j
 
 -- the first thing that is wrong with the hashkey
-unfoldable pub computed_answer : Deal → ℕ → List ℕ → Hashkey → HashkeyAnswer
-computed_answer d a hashlock key =
+unfoldable pub hashkey_answer : Deal → ℕ → List ℕ → Hashkey → HashkeyAnswer
+hashkey_answer d a hashlock key =
     if is_wrong_secret hashlock key then WrongSecret
     else if is_wrong_path d a d.mode key then WrongPath
     else of_signatures d.mode (wrong_signature 0 d key.lock key.secret key.path key.sigs)

@@ -5,7 +5,8 @@ use Rattle.hash_signature.specs.declared.sig.Sig.{Sig}
 use Rattle.hashkey_path.specs.declared.hashkey.Hashkey.{Hashkey}
 use Rattle.hashkey_path.specs.Hashkey.{are_signed}
 
--- each of the last n signatures, or each if there are fewer, is that of its vertex over the suffix from there
+-- each of the last n signatures, or each if there are fewer, is that of its vertex over the suffix
+-- from there
 abbrev pub are_last_signed : ℕ → Deal → ℕ → List ℕ → List ℕ → List Sig → Bool
 are_last_signed zero d lock secret path sigs = true
 are_last_signed (suc n) d lock secret path sigs = are_signed d lock secret (drop (length sigs - suc n) path) (drop (length sigs - suc n) sigs)

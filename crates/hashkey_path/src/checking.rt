@@ -2,7 +2,7 @@
 
 ghost use Rattle.std.specs.Prelude.{◌≡◌, ◌<◌, ◌↔◌, IsTrue, length};
 ghost use Rattle.swap_digraph.specs.Deal.{IsWellSized};
-ghost use Rattle.hashkey_path.specs.Hashkey.{computed_answer, is_wrong_path, IsValidHashkey};
+ghost use Rattle.hashkey_path.specs.Hashkey.{hashkey_answer, is_wrong_path, IsValidHashkey};
 ghost use Rattle.hashkey_path.specs.Known.{is_last_signed};
 
 use crate::hashkey::{Hashkey, HashkeyAnswer};
@@ -31,8 +31,8 @@ fn is_wrong_path(deal: &Deal, arc: ArcId, key: &Hashkey) -> bool
     }
 }
 
-#[tactic(auto, unfolding(crate::specs::Hashkey::computed_answer))]
-fn computed_answer(
+#[tactic(auto, unfolding(crate::specs::Hashkey::hashkey_answer))]
+fn hashkey_answer(
     deal: &Deal,
     arc: ArcId,
     hashlock: &Digest,
@@ -43,7 +43,7 @@ fn computed_answer(
     requires arc { arc < length deal.now.graph.arcs }
     requires lock { key.now.lock < length deal.now.leaders }
     requires known { IsTrue (is_last_signed known deal.now key.now) }
-    ensures { result ≡ computed_answer deal.now arc hashlock.now key.now }
+    ensures { result ≡ hashkey_answer deal.now arc hashlock.now key.now }
 {
     if hashed_value(&key.secret) != *hashlock {
         return HashkeyAnswer::WrongSecret;
@@ -64,8 +64,9 @@ fn computed_answer(
     }
 }
 
-/// Whether the hashkey is valid on the arc under the hashlock, or the first thing that is wrong with it. The last `known` signatures are known to be
-/// valid, and aren't verified: all are where it is at least their number. It takes no memory.
+/// Whether the hashkey is valid on the arc under the hashlock, or the first thing that is wrong
+/// with it. The last `known` signatures are known to be valid, and aren't verified: all are where
+/// it is at least their number. It takes no memory.
 pub fn check(
     deal: &Deal,
     arc: ArcId,
@@ -77,8 +78,8 @@ pub fn check(
     requires arc { arc < length deal.now.graph.arcs }
     requires lock { key.now.lock < length deal.now.leaders }
     requires known { IsTrue (is_last_signed known deal.now key.now) }
-    ensures first { result ≡ computed_answer deal.now arc hashlock.now key.now }
+    ensures first { result ≡ hashkey_answer deal.now arc hashlock.now key.now }
     ensures valid { (result ≡ HashkeyAnswer.Valid) ↔ IsValidHashkey deal.now arc hashlock.now key.now }
 {
-    computed_answer(deal, arc, hashlock, key, known)
+    hashkey_answer(deal, arc, hashlock, key, known)
 }

@@ -90,7 +90,8 @@ fn feed_rows(hasher: &mut Sha256, rows: &[Listed<Digest>])
     }
 }
 
-/// The digest of all that a deal says but its id, which is what the id is to be. It takes no memory.
+/// The digest of all that a deal says but its id, which is what the id is to be. It takes no
+/// memory.
 pub fn deal_digest(deal: &Deal) -> Digest
     requires { IsWellSized deal.now }
     ensures value { result ≡ deal_id deal.now }

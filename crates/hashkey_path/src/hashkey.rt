@@ -7,8 +7,8 @@ use swap_digraph::PathList;
 /// Signatures, one per vertex of a path.
 pub type SigList = Listed<Sig>;
 
-/// What opens a lock. In hashkeys mode `sigs[j]` is the signature of `path[j]` over the suffix that begins at `j`, and the leader is last; in timelocks
-/// mode both lists are empty.
+/// What opens a lock. In hashkeys mode `sigs[j]` is the signature of `path[j]` over the suffix that
+/// begins at `j`, and the leader is last; in timelocks mode both lists are empty.
 #[derive(Debug, Drop)]
 pub struct Hashkey {
     pub lock: LockId,

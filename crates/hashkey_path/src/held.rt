@@ -2,7 +2,7 @@
 
 ghost use Rattle.std.specs.Prelude.{◌≡◌, ◌∷◌, ◌+◌, ◌<◌, IfOk, IfErr, length};
 ghost use Rattle.swap_digraph.specs.Deal.{path_limit};
-ghost use Rattle.hash_signature.specs.Signature.{parse_signature};
+ghost use Rattle.hash_signature.specs.Signature.{made_signature};
 ghost use Rattle.hashkey_path.specs.Hashkey.{signing_message};
 ghost use Rattle.hashkey_path.specs.Signed.{leaders_key, extended_key};
 
@@ -37,7 +37,8 @@ fn place(alloc: Global) -> Result<Shared<Hashkey>, NoMemory> {
     )
 }
 
-/// Two holders of one hashkey, where `spare` is the one holder of an equal hashkey. It takes no memory.
+/// Two holders of one hashkey, where `spare` is the one holder of an equal hashkey. It takes no
+/// memory.
 fn two_holders(kept: Shared<Hashkey>, spare: Shared<Hashkey>) -> (Shared<Hashkey>, Shared<Hashkey>)
     requires { spare ≡ kept }
     ensures one { result.0 ≡ kept }
@@ -82,7 +83,7 @@ impl Places {
               lock = lock;
               secret = secret.now;
               path = self.lists.path.items;
-              sigs = parse_signature key.seed key.party key.lock message ∷ self.lists.sigs.items;
+              sigs = made_signature key.seed key.party key.lock message ∷ self.lists.sigs.items;
             }) }
         ensures equal { IfOk result (λ held. held.1 ≡ held.0) }
         ensures back { IfErr result (λ b. b.key ≡ key) }

@@ -1,7 +1,9 @@
-//! Hashkeys: a secret, the path that it took from a party to its leader, and nested signatures over the suffixes of that path (Herlihy 2018, section 4.1).
+//! Hashkeys: a secret, the path that it took from a party to its leader, and nested signatures over
+//! the suffixes of that path (Herlihy 2018, section 4.1).
 //!
-//! Read `specs/Hashkey.antt` first: `IsValidHashkey` speaks of all suffixes at once, `computed_answer` says what `check` answers. `specs/Signed.antt` says
-//! what `first`, `extend` and their likes of `held.rt` make, and `specs/Digest.antt` what a deal's id is taken of.
+//! Read `specs/Hashkey.antt` first: `IsValidHashkey` speaks of all suffixes at once,
+//! `hashkey_answer` says what `check` answers. `specs/Signed.antt` says what `first`, `extend` and
+//! their likes of `held.rt` make, and `specs/Digest.antt` what a deal's id is taken of.
 #![tactic(auto)]
 
 mod checking;

@@ -15,7 +15,8 @@ fn has_arc(graph: &Digraph, from: PartyId, to: PartyId) -> bool
         .any(|arc| arc.from == from && arc.to == to)
 }
 
-/// Whether the vertices are distinct, each with an arc to the next. It goes down the list as far as they are.
+/// Whether the vertices are distinct, each with an arc to the next. It goes down the list as far as
+/// they are.
 pub(crate) fn is_path(graph: &Digraph, path: &[PartyId]) -> bool
     ensures { result ≡ is_path graph.now path.now }
 {

@@ -4,7 +4,7 @@ ghost use Rattle.std.specs.Prelude.{◌≡◌, ◌∷◌, ℕ, List, ◌+◌, �
 ghost use Rattle.std.specs.Vec.{vec_capacity};
 ghost use Rattle.swap_digraph.specs.Deal.{path_limit, lock_hashlock};
 ghost use Rattle.hashkey_path.specs.Hashkey.{signing_message, IsValidHashkey};
-ghost use Rattle.hash_signature.specs.Signature.{is_valid_signature, derive_public_key, parse_signature};
+ghost use Rattle.hash_signature.specs.Signature.{is_valid_signature, derive_public_key, made_signature};
 ghost use Rattle.hashkey_path.specs.Signed.{leaders_key, extended_key, CanExtend, IsLeadersOwn, IsValidEntering};
 
 use crate::hashkey::Hashkey;
@@ -75,10 +75,10 @@ impl Unsigned {
               lock = lock;
               secret = secret.now;
               path = self.path.items;
-              sigs = parse_signature key.seed key.party key.lock message ∷ self.sigs.items;
+              sigs = made_signature key.seed key.party key.lock message ∷ self.sigs.items;
             } }
         ensures valid { let message = signing_message deal.now.id lock self.path.items secret.now self.sigs.items in
-            IsTrue (is_valid_signature (derive_public_key key.seed key.party key.lock) message (parse_signature key.seed key.party key.lock message)) }
+            IsTrue (is_valid_signature (derive_public_key key.seed key.party key.lock) message (made_signature key.seed key.party key.lock message)) }
     {
         let Unsigned { path, mut sigs } = self;
         let message = signing_message(&deal.id, lock, &path, secret, &sigs);
@@ -105,7 +105,8 @@ impl Unsigned {
         }
     }
 
-    /// Signs once with the key, which spends it, and puts the signature into these lists and into equal ones. It takes no memory.
+    /// Signs once with the key, which spends it, and puts the signature into these lists and into
+    /// equal ones. It takes no memory.
     pub(crate) fn sign_twice(
         self,
         twin: Unsigned,
@@ -121,7 +122,7 @@ impl Unsigned {
               lock = lock;
               secret = secret.now;
               path = self.path.items;
-              sigs = parse_signature key.seed key.party key.lock message ∷ self.sigs.items;
+              sigs = made_signature key.seed key.party key.lock message ∷ self.sigs.items;
             } }
         ensures equal { result.1 ≡ result.0 }
     {

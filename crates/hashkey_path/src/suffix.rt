@@ -2,7 +2,7 @@
 
 ghost use Rattle.std.specs.Prelude.{◌≡◌, ◌+◌, ◌<◌, All, IsTrue, length};
 ghost use Rattle.swap_digraph.specs.Deal.{HasKeys};
-ghost use Rattle.hashkey_path.specs.Hashkey.{key_of, signing_message, wrong_signature};
+ghost use Rattle.hashkey_path.specs.Hashkey.{party_public_key, signing_message, wrong_signature};
 ghost use Rattle.hashkey_path.specs.Known.{are_last_signed};
 
 use hash_signature::{Sig, verify};
@@ -11,17 +11,18 @@ use swap_base::{Digest, LockId, PartyId};
 use swap_digraph::{Deal, Mode};
 
 /// The public key of a party for a lock.
-pub(crate) fn key_of(deal: &Deal, party: PartyId, lock: LockId) -> Digest
+pub(crate) fn party_public_key(deal: &Deal, party: PartyId, lock: LockId) -> Digest
     requires keys { HasKeys Mode.Hashkeys deal.now }
     requires party { party < deal.now.graph.n }
     requires lock { lock < length deal.now.leaders }
-    ensures { result ≡ key_of deal.now party lock }
+    ensures { result ≡ party_public_key deal.now party lock }
 {
     let row = &deal.keys.as_slice()[party as usize];
     row.as_slice()[lock as usize]
 }
 
-/// What the first vertex of a suffix signs, where `inner` are the signatures of the shorter suffixes.
+/// What the first vertex of a suffix signs, where `inner` are the signatures of the shorter
+/// suffixes.
 #[tactic(auto, unfolding(crate::specs::Hashkey::signing_message))]
 pub(crate) fn signing_message(
     id: &Digest,
@@ -72,7 +73,7 @@ pub(crate) fn wrong_signature(
             if sigs.len() <= known {
                 return None;
             }
-            let public = key_of(deal, *v, lock);
+            let public = party_public_key(deal, *v, lock);
             let message = signing_message(&deal.id, lock, path, secret, inner);
             if verify(&public, &message, sig) {
                 wrong_signature(place + 1, deal, lock, secret, rest, inner, known)

@@ -15,20 +15,20 @@ use Rattle.ledger_core.specs.declared.entry.Entry.{Entry}
 use Rattle.ledger_core.specs.History.{is_sender, IsLegal, IsLegalEntry, IsLegalMoment}
 use Rattle.ledger_core.proofs.Bounds.{total_calls, bounds, countable}
 use Rattle.ledger_core.proofs.History.{lock-below}
-use Rattle.history_index.specs.Numbers.{numbers_from, comes_from, names_lock, IsIndexable}
+use Rattle.history_index.specs.Numbers.{sender_numbers, has_right_sender, names_lock, IsIndexable}
 
 one_more : (b : Bool) (n : ℕ) (xs : List ℕ) (m : ℕ) → length xs ≡ m → length (cond b (n ∷ xs) xs) ≡ cond b 1 0 + m
 one_more true n xs m e = omega arith
 one_more false n xs m e = omega arith
 
-length-numbers : (n p : ℕ) (h : List Entry) → length (numbers_from n p h) ≡ total_calls p h
+length-numbers : (n p : ℕ) (h : List Entry) → length (sender_numbers n p h) ≡ total_calls p h
 length-numbers n p [] = refl
 length-numbers n p (e ∷ h) =
-    one_more (is_sender p e.sender) n (numbers_from (n + 1) p h) (total_calls p h) (length-numbers (n + 1) p h)
+    one_more (is_sender p e.sender) n (sender_numbers (n + 1) p h) (total_calls p h) (length-numbers (n + 1) p h)
     ∙ sym (sum_by-cons (λ x. cond (is_sender p x.sender) 1 0) e h)
 
 module _ (d : Deal) (a : ℕ) where
-  among : (past : List Entry) (s : Sender) (w : What) (at : ℕ) (r : _) → IsLegalEntry d a past s w at r → comes_from (party d a) (counterparty d a) s w ≡ true
+  among : (past : List Entry) (s : Sender) (w : What) (at : ℕ) (r : _) → IsLegalEntry d a past s w at r → has_right_sender (party d a) (counterparty d a) s w ≡ true
   among past (Party p) (Made c) at r l = l.of_the_two
   among past (Party p) (Tick k) at r l = absurd l
   among past Clock (Tick k) at r l = refl
@@ -47,7 +47,7 @@ module _ (d : Deal) (a : ℕ) where
       let b = bounds d a h l in
       record {
         countable = countable d a h l;
-        senders = list_all-from (λ e. comes_from (party d a) (counterparty d a) e.sender e.what) h (λ e i.
+        senders = list_all-from (λ e. has_right_sender (party d a) (counterparty d a) e.sender e.what) h (λ e i.
             let m = moment_from_in h e i in
             among m.0 e.sender e.what e.height e.reply (at_moment (IsLegalMoment d a) h m.0 e l m.1));
         locks = list_all-from (λ e. names_lock e.what) h (λ e i.

@@ -10,8 +10,8 @@ use Rattle.std.proofs.lemmas.Grind.{flat_map-append}
 use Rattle.std.proofs.Math.ListN.{length-set}
 use Rattle.std.proofs.lemmas.List.Folds.{list_any-append, list_all-append, position_or_len_push}
 use Rattle.std.proofs.lemmas.List.Sums.{prefix_len-le-length}
-use Rattle.swap_base.specs.Lists.{or_else, first_of}
-use Rattle.swap_base.proofs.Lists.{first_of-append, and_parts, or_else-none, or-false, or-true}
+use Rattle.swap_base.specs.Lists.{or_else, first_given_answer}
+use Rattle.swap_base.proofs.Lists.{first_given_answer-append, and_parts, or_else-none, or-false, or-true}
 use Rattle.hashkey_path.specs.declared.hashkey.Hashkey.{Hashkey}
 use Rattle.escrow_core.specs.declared.terms.Terms.{Terms}
 use Rattle.escrow_core.specs.declared.reply.Reply.{Reply}
@@ -26,17 +26,17 @@ use Rattle.ledger_core.specs.declared.entry.Entry.{Entry}
 use Rattle.ledger_core.specs.declared.facts.CallKind.{CallKind}
 use Rattle.ledger_core.specs.declared.facts.CallKind.TheVariants.{Publish, Unlock, Claim, Refund}
 use Rattle.ledger_core.specs.History.{entry_ticks, accepted_call, accepted, publication, Opening, opening, settling, is_sender}
-use Rattle.ledger_core.specs.Facts.{shown_as, is_of_kind, has_call}
+use Rattle.ledger_core.specs.Facts.{checked_publication, is_of_kind, has_call}
 use Rattle.ledger_core.specs.declared.runs.Item.{Item}
 use Rattle.ledger_core.specs.Runs.{ledger_entries, expand}
 use Rattle.ledger_core.proofs.Bounds.{height-push}
 use Rattle.history_index.specs.declared.kinds.Kinds.{Kinds}
 use Rattle.history_index.specs.declared.answers.Answers.{Answers}
 use Rattle.history_index.specs.declared.made.Made as made
-use Rattle.history_index.specs.Numbers.{numbers_from, call_numbers, comes_from, names_lock, IsIndexable}
+use Rattle.history_index.specs.Numbers.{sender_numbers, call_numbers, has_right_sender, names_lock, IsIndexable}
 use Rattle.ledger_core.specs.Facts.{is_call}
-use Rattle.history_index.specs.Made.{made_from, made_in, made_after}
-use Rattle.history_index.specs.Kept.{has_kind, with_call, numbers_after, kinds_after, with_opening, answers_after, AreAnswers, AreCalls}
+use Rattle.history_index.specs.Made.{numbered_calls, history_calls, updated_calls}
+use Rattle.history_index.specs.Kept.{has_kind, with_call, updated_numbers, updated_kinds, with_opening, updated_answers, AreAnswers, AreCalls}
 
 -- The numbers of a party's entries.
 
@@ -48,7 +48,7 @@ cond_front true n xs ys zs e = ap (λ l. n ∷ l) e
 cond_front false n xs ys zs e = e
 
 pub numbers_push : (n p : ℕ) (h : List Entry) (e : Entry)
-    → numbers_from n p (h ++ e ∷ []) ≡ numbers_from n p h ++ number_where (is_sender p e.sender) (n + length h)
+    → sender_numbers n p (h ++ e ∷ []) ≡ sender_numbers n p h ++ number_where (is_sender p e.sender) (n + length h)
 numbers_push n p [] e = go (is_sender p e.sender)
   where
     go : (b : Bool) → cond b (n ∷ []) [] ≡ number_where b (n + 0)
@@ -57,7 +57,7 @@ numbers_push n p [] e = go (is_sender p e.sender)
 numbers_push n p (x ∷ h) e =
     let rest = numbers_push (n + 1) p h e in
     let k : n + 1 + length h ≡ n + length (x ∷ h) = omega arith in
-    cond_front (is_sender p x.sender) n _ _ _ (rest ∙ ap (λ m. numbers_from (n + 1) p h ++ number_where (is_sender p e.sender) m) k)
+    cond_front (is_sender p x.sender) n _ _ _ (rest ∙ ap (λ m. sender_numbers (n + 1) p h ++ number_where (is_sender p e.sender) m) k)
 
 pub call_numbers_push : (p : ℕ) (h : List Entry) (e : Entry) → call_numbers p (h ++ e ∷ []) ≡ call_numbers p h ++ number_where (is_sender p e.sender) (length h)
 call_numbers_push p h e =
@@ -106,7 +106,7 @@ places_set ks (Made (calls.Transfer to units)) = refl
 places_set ks (Tick m) = refl
 
 pub calls_push : (p : ℕ) (h : List Entry) (e : Entry) (ns : List ℕ) (ks : Kinds) → IsTrue (names_lock e.what) → AreCalls p h ns ks
-    → AreCalls p (h ++ e ∷ []) (numbers_after (length h) p e ns) (kinds_after p e ks)
+    → AreCalls p (h ++ e ∷ []) (updated_numbers (length h) p e ns) (updated_kinds p e ks)
 calls_push p h e ns ks l a = go (is_sender p e.sender) refl
   where
     go : (b : Bool) → is_sender p e.sender ≡ b → AreCalls p (h ++ e ∷ []) (cond b (ns ++ length h ∷ []) ns) (cond b (with_call ks e.what) ks)
@@ -125,8 +125,8 @@ calls_push p h e ns ks l a = go (is_sender p e.sender) refl
 
 -- The answers.
 
-first_push : {B : Type 0} (f : Entry → Option B) (h : List Entry) (e : Entry) → first_of f (h ++ e ∷ []) ≡ or_else (first_of f h) (f e)
-first_push f h e = first_of-append f h (e ∷ []) ∙ ap (or_else (first_of f h)) (or_else-none (f e))
+first_push : {B : Type 0} (f : Entry → Option B) (h : List Entry) (e : Entry) → first_given_answer f (h ++ e ∷ []) ≡ or_else (first_given_answer f h) (f e)
+first_push f h e = first_given_answer-append f h (e ∷ []) ∙ ap (or_else (first_given_answer f h)) (or_else-none (f e))
 
 map_or_else : {B C : Type 0} (g : B → C) (o r : Option B) → option_map g (or_else o r) ≡ or_else (option_map g o) (option_map g r)
 map_or_else g None r = refl
@@ -167,12 +167,12 @@ places_opening us n (Some (calls.Unlock key)) = length-set us key.lock (or_else 
 places_opening us n _ = refl
 
 pub answers_push : (t : Terms) (h : List Entry) (e : Entry) (a : Answers) → IsTrue (names_lock e.what) → AreAnswers t h a
-    → AreAnswers t (h ++ e ∷ []) (answers_after t (length h) e a)
+    → AreAnswers t (h ++ e ∷ []) (updated_answers t (length h) e a)
 answers_push t h e a l k = record {
   height = ap (λ n. n + entry_ticks e.what) k.height ∙ sym (height-push h e);
   published =
-      ap (λ o. or_else o (option_map (shown_as t) (publication e.height (accepted e)))) k.published
-      ∙ sym (ap (option_map (shown_as t)) (first_push (λ x. publication x.height (accepted x)) h e) ∙ map_or_else (shown_as t) _ _);
+      ap (λ o. or_else o (option_map (checked_publication t) (publication e.height (accepted e)))) k.published
+      ∙ sym (ap (option_map (checked_publication t)) (first_push (λ x. publication x.height (accepted x)) h e) ∙ map_or_else (checked_publication t) _ _);
   number =
       ap (λ o. or_else o (cond (is_some (publication e.height (accepted e))) (Some (length h)) None)) k.number
       ∙ sym (position_push (λ x. is_some (publication x.height (accepted x))) h e);
@@ -193,33 +193,33 @@ call_front false m xs ys zs e = e
 made_last : ℕ → Entry → List made.Made
 made_last n e = cond (is_call e.what) (record { number = n; entry = e } ∷ []) []
 
-made_push : (n : ℕ) (h : List Entry) (e : Entry) → made_from n (h ++ e ∷ []) ≡ made_from n h ++ made_last (n + length h) e
+made_push : (n : ℕ) (h : List Entry) (e : Entry) → numbered_calls n (h ++ e ∷ []) ≡ numbered_calls n h ++ made_last (n + length h) e
 unfolding made_last
 made_push n [] e = ap (λ k. made_last k e) (omega arith)
 made_push n (x ∷ h) e =
     let rest = made_push (n + 1) h e in
     let k : n + 1 + length h ≡ n + length (x ∷ h) = omega arith in
-    call_front (is_call x.what) (record { number = n; entry = x }) _ _ _ (rest ∙ ap (λ m. made_from (n + 1) h ++ made_last m e) k)
+    call_front (is_call x.what) (record { number = n; entry = x }) _ _ _ (rest ∙ ap (λ m. numbered_calls (n + 1) h ++ made_last m e) k)
 
 last_or_not : {A : Type 0} (b : Bool) (xs ys : List A) → cond b (xs ++ ys) xs ≡ xs ++ cond b ys []
 last_or_not true xs ys = refl
 last_or_not false xs ys = sym (append-nil xs)
 
-pub made_in_push : (h : List Entry) (e : Entry) → made_after (length h) e (made_in h) ≡ made_in (h ++ e ∷ [])
+pub made_in_push : (h : List Entry) (e : Entry) → updated_calls (length h) e (history_calls h) ≡ history_calls (h ++ e ∷ [])
 unfolding made_last
 made_in_push h e =
     let k : length h ≡ 0 + length h = omega arith in
-    last_or_not (is_call e.what) (made_in h) (record { number = length h; entry = e } ∷ []) ∙ ap (λ n. made_in h ++ made_last n e) k ∙ sym (made_push 0 h e)
+    last_or_not (is_call e.what) (history_calls h) (record { number = length h; entry = e } ∷ []) ∙ ap (λ n. history_calls h ++ made_last n e) k ∙ sym (made_push 0 h e)
 
 -- Who sent what.
 
-sent_of_two : (from to : ℕ) (s : Sender) (w : What) → comes_from from to s w ≡ true → is_call w ≡ true → (is_sender from s || is_sender to s) ≡ true
+sent_of_two : (from to : ℕ) (s : Sender) (w : What) → has_right_sender from to s w ≡ true → is_call w ≡ true → (is_sender from s || is_sender to s) ≡ true
 sent_of_two from to (Party p) (Made c) a k = a
 sent_of_two from to (Party p) (Tick n) a k = absurd (false≢true a)
 sent_of_two from to Clock (Made c) a k = absurd (false≢true a)
 sent_of_two from to Clock (Tick n) a k = absurd (false≢true k)
 
-sent_call : (from to p : ℕ) (s : Sender) (w : What) → comes_from from to s w ≡ true → is_sender p s ≡ true → is_call w ≡ true
+sent_call : (from to p : ℕ) (s : Sender) (w : What) → has_right_sender from to s w ≡ true → is_sender p s ≡ true → is_call w ≡ true
 sent_call from to p (Party q) (Made c) a k = refl
 sent_call from to p (Party q) (Tick n) a k = absurd (false≢true a)
 sent_call from to p Clock w a k = absurd (false≢true k)
@@ -235,11 +235,11 @@ few_more false true false m n ms xs ys h l = omega arith
 few_more false false true m n ms xs ys h l = omega arith
 few_more false false false m n ms xs ys h l = l
 
-made_few : (from to n : ℕ) (h : List Entry) → IsTrue (list_all (λ e. comes_from from to e.sender e.what) h)
-    → length (made_from n h) ≤ length (numbers_from n from h) + length (numbers_from n to h)
+made_few : (from to n : ℕ) (h : List Entry) → IsTrue (list_all (λ e. has_right_sender from to e.sender e.what) h)
+    → length (numbered_calls n h) ≤ length (sender_numbers n from h) + length (sender_numbers n to h)
 made_few from to n [] a = omega arith
 made_few from to n (e ∷ h) a =
-    let parts = and_parts (comes_from from to e.sender e.what) (list_all (λ x. comes_from from to x.sender x.what) h) a in
+    let parts = and_parts (has_right_sender from to e.sender e.what) (list_all (λ x. has_right_sender from to x.sender x.what) h) a in
     few_more (is_call e.what) (is_sender from e.sender) (is_sender to e.sender) (record {
       number = n;
       entry =
@@ -247,15 +247,15 @@ made_few from to n (e ∷ h) a =
     }) n _ _ _ (sent_of_two from to e.sender e.what parts.0) (made_few from to (n + 1) h parts.1)
 
 -- there are at most 64 calls
-pub few_made : (from to : ℕ) (h : List Entry) (ms : List made.Made) → IsIndexable from to h → ms ≡ made_in h → length ms ≤ 64
+pub few_made : (from to : ℕ) (h : List Entry) (ms : List made.Made) → IsIndexable from to h → ms ≡ history_calls h → length ms ≤ 64
 few_made from to h ms i e =
-    let n : length ms ≡ length (made_in h) = ap length e in
+    let n : length ms ≡ length (history_calls h) = ap length e in
     let few = made_few from to 0 h i.senders in
     let from_few = i.from_few in
     let to_few = i.to_few in
     omega arith
 
-not_sent : (from to p : ℕ) (s : Sender) (w : What) → comes_from from to s w ≡ true → (p ≡ from → ⊥) → (p ≡ to → ⊥) → is_sender p s ≡ false
+not_sent : (from to p : ℕ) (s : Sender) (w : What) → has_right_sender from to s w ≡ true → (p ≡ from → ⊥) → (p ≡ to → ⊥) → is_sender p s ≡ false
 not_sent from to p (Party q) (Made c) h nf nt = go (q == p) (q == from) (q == to) refl refl refl h
   where
     go : (b x y : Bool) → (q == p) ≡ b → (q == from) ≡ x → (q == to) ≡ y → (x || y) ≡ true → (q == p) ≡ false
@@ -266,11 +266,11 @@ not_sent from to p (Party q) (Tick k) h nf nt = absurd (false≢true h)
 not_sent from to p Clock w h nf nt = refl
 
 -- a party that sent nothing made no call
-pub nothing_called : (from to p : ℕ) (k : CallKind) (h : List Entry) → IsTrue (list_all (λ e. comes_from from to e.sender e.what) h) → (p ≡ from → ⊥)
+pub nothing_called : (from to p : ℕ) (k : CallKind) (h : List Entry) → IsTrue (list_all (λ e. has_right_sender from to e.sender e.what) h) → (p ≡ from → ⊥)
     → (p ≡ to → ⊥) → has_call p k h ≡ false
 nothing_called from to p k [] a nf nt = refl
 nothing_called from to p k (e ∷ h) a nf nt =
-    let parts = and_parts (comes_from from to e.sender e.what) (list_all (λ x. comes_from from to x.sender x.what) h) a in
+    let parts = and_parts (has_right_sender from to e.sender e.what) (list_all (λ x. has_right_sender from to x.sender x.what) h) a in
     ap (λ b. cond b (is_of_kind k e.what) false || has_call p k h) (not_sent from to p e.sender e.what parts.0 nf nt)
     ∙ nothing_called from to p k h parts.1 nf nt
 
@@ -285,7 +285,7 @@ pub last_lock : (from to : ℕ) (h : List Entry) (e : Entry) → IsIndexable fro
 last_lock from to h e i = last_passes (λ x. names_lock x.what) h e i.locks
 
 pub last_sent : (from to p : ℕ) (h : List Entry) (e : Entry) → IsIndexable from to (h ++ e ∷ []) → is_sender p e.sender ≡ true → is_call e.what ≡ true
-last_sent from to p h e i = sent_call from to p e.sender e.what (last_passes (λ x. comes_from from to x.sender x.what) h e i.senders)
+last_sent from to p h e i = sent_call from to p e.sender e.what (last_passes (λ x. has_right_sender from to x.sender x.what) h e i.senders)
 
 -- room for further elements after one more; the element takes a place if s holds, and room was set
 -- aside for it if b holds
@@ -299,28 +299,29 @@ room_kept true false x xs xs' room room' cap cap' e h r k l m = let n : length x
 room_kept false true x xs xs' room room' cap cap' e h r k l m = absurd (false≢true (h refl))
 room_kept false false x xs xs' room room' cap cap' e h r k l m = let n : length xs' ≡ length xs = ap length e in omega arith
 
--- What is kept after a push: the entries xs are h and e, which has number n, and what is marked is what was kept, with e.
+-- What is kept after a push: the entries xs are h and e, which has number n, and what is marked is
+-- what was kept, with e.
 
 pub expand_push : (items : List Item) (x : Item) → expand (items ++ x ∷ []) ≡ expand items ++ ledger_entries x
 expand_push items x = flat_map-append ledger_entries items (x ∷ []) ∙ ap (λ l. expand items ++ l) (append-nil (ledger_entries x))
 
-pub answers_kept : (t : Terms) (h xs : List Entry) (e : Entry) (n : ℕ) (a a' : Answers) → xs ≡ h ++ e ∷ [] → n ≡ length h → a' ≡ answers_after t n e a
+pub answers_kept : (t : Terms) (h xs : List Entry) (e : Entry) (n : ℕ) (a a' : Answers) → xs ≡ h ++ e ∷ [] → n ≡ length h → a' ≡ updated_answers t n e a
     → IsTrue (names_lock e.what) → AreAnswers t h a → AreAnswers t xs a'
 answers_kept t h xs e n a a' ex en ea l k =
-    subst (λ ys. AreAnswers t ys a') (sym ex) (subst (AreAnswers t (h ++ e ∷ [])) (sym (ea ∙ ap (λ m. answers_after t m e a) en)) (answers_push t h e a l k))
+    subst (λ ys. AreAnswers t ys a') (sym ex) (subst (AreAnswers t (h ++ e ∷ [])) (sym (ea ∙ ap (λ m. updated_answers t m e a) en)) (answers_push t h e a l k))
 
 pub calls_kept : (p p' : ℕ) (h xs : List Entry) (e : Entry) (n : ℕ) (ns ns' : List ℕ) (ks ks' : Kinds) → p' ≡ p → xs ≡ h ++ e ∷ [] → n ≡ length h
-    → ns' ≡ numbers_after n p e ns → ks' ≡ kinds_after p e ks → IsTrue (names_lock e.what) → AreCalls p h ns ks → AreCalls p' xs ns' ks'
+    → ns' ≡ updated_numbers n p e ns → ks' ≡ updated_kinds p e ks → IsTrue (names_lock e.what) → AreCalls p h ns ks → AreCalls p' xs ns' ks'
 calls_kept p p' h xs e n ns ns' ks ks' ep ex en ens eks l k =
     subst (λ q. AreCalls q xs ns' ks') (sym ep)
     (subst (λ ys. AreCalls p ys ns' ks') (sym ex)
-    (subst (λ ms. AreCalls p (h ++ e ∷ []) ms ks') (sym (ens ∙ ap (λ m. numbers_after m p e ns) en))
-    (subst (λ ms. AreCalls p (h ++ e ∷ []) (numbers_after (length h) p e ns) ms) (sym eks) (calls_push p h e ns ks l k))))
+    (subst (λ ms. AreCalls p (h ++ e ∷ []) ms ks') (sym (ens ∙ ap (λ m. updated_numbers m p e ns) en))
+    (subst (λ ms. AreCalls p (h ++ e ∷ []) (updated_numbers (length h) p e ns) ms) (sym eks) (calls_push p h e ns ks l k))))
 
-pub made_kept : (h xs : List Entry) (e : Entry) (n : ℕ) (ms ms' : List made.Made) → xs ≡ h ++ e ∷ [] → n ≡ length h → ms' ≡ made_after n e ms
-    → ms ≡ made_in h → ms' ≡ made_in xs
+pub made_kept : (h xs : List Entry) (e : Entry) (n : ℕ) (ms ms' : List made.Made) → xs ≡ h ++ e ∷ [] → n ≡ length h → ms' ≡ updated_calls n e ms
+    → ms ≡ history_calls h → ms' ≡ history_calls xs
 made_kept h xs e n ms ms' ex en em k =
-    em ∙ (ap (λ m. made_after m e ms) en ∙ (ap (λ l. made_after (length h) e l) k ∙ (made_in_push h e ∙ ap made_in (sym ex))))
+    em ∙ (ap (λ m. updated_calls m e ms) en ∙ (ap (λ l. updated_calls (length h) e l) k ∙ (made_in_push h e ∙ ap history_calls (sym ex))))
 
 pub indexable_kept : (from to from' to' : ℕ) (h xs : List Entry) → from' ≡ from → to' ≡ to → xs ≡ h → IsIndexable from to h → IsIndexable from' to' xs
 indexable_kept from to from' to' h xs ef et ex k =

@@ -18,8 +18,8 @@ use Rattle.history_index.specs.declared.answers.Answers.{Answers}
 use Rattle.history_index.specs.declared.kinds.Kinds.{Kinds}
 use Rattle.history_index.specs.declared.made.Made.{Made}
 use Rattle.history_index.specs.Numbers.{IsIndexable}
-use Rattle.history_index.specs.Made.{made_in}
-use Rattle.history_index.specs.Kept.{answers_after, AreAnswers, AreCalls}
+use Rattle.history_index.specs.Made.{history_calls}
+use Rattle.history_index.specs.Kept.{updated_answers, AreAnswers, AreCalls}
 use Rattle.swap_base.proofs.Lists.{or_else-none}
 use Rattle.history_index.proofs.Push.{answers_push, calls_push, made_in_push}
 
@@ -49,7 +49,7 @@ length_ticks h at k (suc n) =
 world_answers : ℕ → Option Published → Option ℕ → List (Option ℕ) → Option Settlement → Answers
 world_answers t p k us s = record { height = t; published = p; published_number = k; unlocked = us; settled = s }
 
-answers_tick : (t : Terms) (n k at : ℕ) (a : Answers) → answers_after t n (tick_entry k at Accepted) a ≡ record a { height = a.height + k }
+answers_tick : (t : Terms) (n k at : ℕ) (a : Answers) → updated_answers t n (tick_entry k at Accepted) a ≡ record a { height = a.height + k }
 unfolding world_answers
 answers_tick t n k at a =
     ap (λ p. world_answers (a.height + k) p (or_else a.published_number None) a.unlocked (or_else a.settled None)) (or_else-none a.published)
@@ -79,10 +79,10 @@ calls_ticks p h at k (suc n) ns ks c =
     subst (λ xs. AreCalls p xs ns ks) (one_more h at k n)
     (calls_push p (h ++ ticks_above at k n) (tick_entry k (at + k * suc n) Accepted) ns ks refl (calls_ticks p h at k n ns ks c))
 
-made_ticks : (h : List Entry) (at k n : ℕ) → made_in h ≡ made_in (h ++ ticks_above at k n)
-made_ticks h at k zero = ap made_in (sym (append-nil h))
+made_ticks : (h : List Entry) (at k n : ℕ) → history_calls h ≡ history_calls (h ++ ticks_above at k n)
+made_ticks h at k zero = ap history_calls (sym (append-nil h))
 made_ticks h at k (suc n) =
-    made_ticks h at k n ∙ (made_in_push (h ++ ticks_above at k n) (tick_entry k (at + k * suc n) Accepted) ∙ ap made_in (one_more h at k n))
+    made_ticks h at k n ∙ (made_in_push (h ++ ticks_above at k n) (tick_entry k (at + k * suc n) Accepted) ∙ ap history_calls (one_more h at k n))
 
 -- What is kept after the ticks of a run: the entries xs are h and these.
 
@@ -112,5 +112,5 @@ answers_run t h xs r a ex i =
 pub calls_run : (p : ℕ) (h xs : List Entry) (r : Run) (ns : List ℕ) (ks : Kinds) → xs ≡ h ++ run_ticks r → AreCalls p h ns ks → AreCalls p xs ns ks
 calls_run p h xs r ns ks ex c = subst (λ ys. AreCalls p ys ns ks) (sym ex) (calls_ticks p h r.above r.by r.count ns ks c)
 
-pub made_run : (h xs : List Entry) (r : Run) (ms : List Made) → xs ≡ h ++ run_ticks r → ms ≡ made_in h → ms ≡ made_in xs
-made_run h xs r ms ex e = e ∙ (made_ticks h r.above r.by r.count ∙ ap made_in (sym ex))
+pub made_run : (h xs : List Entry) (r : Run) (ms : List Made) → xs ≡ h ++ run_ticks r → ms ≡ history_calls h → ms ≡ history_calls xs
+made_run h xs r ms ex e = e ∙ (made_ticks h r.above r.by r.count ∙ ap history_calls (sym ex))

@@ -3,7 +3,7 @@ use Rattle.std.specs.Prelude.{◌≡◌, ◌≤◌, ◌+◌, ℕ, length, vec_ca
 use Rattle.ledger_core.specs.Runs.{expand}
 use Rattle.history_index.specs.Value.{IndexState}
 use Rattle.history_index.specs.Numbers.{IsIndexable}
-use Rattle.history_index.specs.Made.{made_in}
+use Rattle.history_index.specs.Made.{history_calls}
 use Rattle.history_index.specs.Kept.{AreAnswers, AreCalls}
 use Rattle.history_index.specs.declared.caller.Caller.{Caller}
 use Rattle.history_index.specs.declared.index.Index.TheInside.{Inside}
@@ -22,7 +22,7 @@ pub record IsKept (i : Inside) : Type 0 where
   pub indexable : IsIndexable i.from.party i.to.party (expand i.past.items)
   pub count : i.count ≡ length (expand i.past.items)
   pub answers : AreAnswers i.terms (expand i.past.items) i.answers
-  pub made : i.made.items ≡ made_in (expand i.past.items)
+  pub made : i.made.items ≡ history_calls (expand i.past.items)
   pub from : AreCalls i.from.party (expand i.past.items) i.from.numbers.items i.from.kinds
   pub to : AreCalls i.to.party (expand i.past.items) i.to.numbers.items i.to.kinds
   pub room : length i.made.items + i.room ≤ vec_capacity i.made

@@ -11,7 +11,7 @@ use Rattle.ledger_core.specs.declared.entry.Entry.{Entry}
 use Rattle.ledger_core.specs.declared.facts.CallKind.{CallKind}
 use Rattle.ledger_core.specs.declared.facts.CallKind.TheVariants.{Publish, Unlock, Claim, Refund}
 use Rattle.ledger_core.specs.History.{entry_ticks, accepted, publication, settling, is_sender, height, settled}
-use Rattle.ledger_core.specs.Facts.{shown_as, published_as, opened_number, has_call}
+use Rattle.ledger_core.specs.Facts.{checked_publication, checked_history_publication, opened_number, has_call}
 use Rattle.history_index.specs.Numbers.{call_numbers, published_number}
 use Rattle.history_index.specs.declared.kinds.Kinds.{Kinds}
 use Rattle.history_index.specs.declared.answers.Answers.{Answers}
@@ -36,12 +36,12 @@ with_call k (Made calls.Refund) = record k { refund = true }
 with_call k _ = k
 
 -- the numbers of p's entries after an entry with number n
-abbrev pub numbers_after : (n p : ℕ) → Entry → List ℕ → List ℕ
-numbers_after n p e ns = if is_sender p e.sender then ns ++ n ∷ [] else ns
+abbrev pub updated_numbers : (n p : ℕ) → Entry → List ℕ → List ℕ
+updated_numbers n p e ns = if is_sender p e.sender then ns ++ n ∷ [] else ns
 
 -- the kinds of p's calls after an entry
-abbrev pub kinds_after : ℕ → Entry → Kinds → Kinds
-kinds_after p e ks = if is_sender p e.sender then with_call ks e.what else ks
+abbrev pub updated_kinds : ℕ → Entry → Kinds → Kinds
+updated_kinds p e ks = if is_sender p e.sender then with_call ks e.what else ks
 
 -- over no entries
 abbrev pub no_answers : Answers
@@ -53,10 +53,10 @@ with_opening us n (Some (calls.Unlock key)) = slice_set us key.lock (or_else (sl
 with_opening us n _ = us
 
 -- after an entry with number n
-abbrev pub answers_after : Terms → ℕ → Entry → Answers → Answers
-answers_after t n e a = record {
+abbrev pub updated_answers : Terms → ℕ → Entry → Answers → Answers
+updated_answers t n e a = record {
   height = a.height + entry_ticks e.what;
-  published = or_else a.published (option_map (shown_as t) (publication e.height (accepted e)));
+  published = or_else a.published (option_map (checked_publication t) (publication e.height (accepted e)));
   published_number = or_else a.published_number (if is_some (publication e.height (accepted e)) then Some n else None);
   unlocked = with_opening a.unlocked n (accepted e);
   settled = or_else a.settled (settling (accepted e));
@@ -65,7 +65,7 @@ answers_after t n e a = record {
 -- The answers are those of the scans.
 pub record AreAnswers (t : Terms) (h : List Entry) (a : Answers) : Type 0 where
   pub height : a.height ≡ height h
-  pub published : a.published ≡ published_as t h
+  pub published : a.published ≡ checked_history_publication t h
   pub number : a.published_number ≡ published_number h
   pub places : length a.unlocked ≡ 8
   pub unlocked : (i : ℕ) → slice_index_or a.unlocked i None ≡ opened_number h i

@@ -7,17 +7,17 @@ use Rattle.history_index.specs.declared.made.Made.{Made}
 use Rattle.history_index.specs.declared.made.Opened.{Opened}
 
 -- the calls, with their numbers among all entries, which are counted from n
-abbrev pub made_from : ℕ → List Entry → List Made
-made_from n [] = []
-made_from n (e ∷ h) = if is_call e.what then record { number = n; entry = e } ∷ made_from (n + 1) h else made_from (n + 1) h
+abbrev pub numbered_calls : ℕ → List Entry → List Made
+numbered_calls n [] = []
+numbered_calls n (e ∷ h) = if is_call e.what then record { number = n; entry = e } ∷ numbered_calls (n + 1) h else numbered_calls (n + 1) h
 
 -- the calls, with their numbers among all entries
-abbrev pub made_in : List Entry → List Made
-made_in h = made_from 0 h
+abbrev pub history_calls : List Entry → List Made
+history_calls h = numbered_calls 0 h
 
 -- the calls after an entry with number n
-abbrev pub made_after : ℕ → Entry → List Made → List Made
-made_after n e ms = if is_call e.what then ms ++ record { number = n; entry = e } ∷ [] else ms
+abbrev pub updated_calls : ℕ → Entry → List Made → List Made
+updated_calls n e ms = if is_call e.what then ms ++ record { number = n; entry = e } ∷ [] else ms
 
 -- the unlock, whose hashkey lies in the index
 abbrev pub key_opening : Opened → Opening

@@ -4,7 +4,7 @@ ghost use Rattle.std.specs.Prelude.{◌≡◌, ◌+◌, ◌<◌, ◌^◌, IsTrue
 ghost use Rattle.escrow_core.specs.declared.terms.Terms.{Terms};
 ghost use Rattle.ledger_core.specs.History.{entry_ticks, accepted, publication};
 ghost use Rattle.history_index.specs.Numbers.{names_lock};
-ghost use Rattle.history_index.specs.Kept.{answers_after, no_answers, with_opening};
+ghost use Rattle.history_index.specs.Kept.{updated_answers, no_answers, with_opening};
 
 use crate::entry_facts::{entry_publication, entry_settlement, entry_ticks};
 use escrow_core::{Reply, Terms};
@@ -62,7 +62,7 @@ impl Answers {
         requires places { length self.old.unlocked ≡ 8 }
         requires height { self.old.height + entry_ticks entry.now.what < 2 ^ 32 }
         requires lock { IsTrue (names_lock entry.now.what) }
-        ensures { self.new ≡ answers_after terms.now number entry.now self.old }
+        ensures { self.new ≡ updated_answers terms.now number entry.now self.old }
     {
         self.height += entry_ticks(entry);
         self.published = self.published.or(entry_publication(terms, entry));

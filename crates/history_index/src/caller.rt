@@ -3,7 +3,7 @@
 ghost use Rattle.std.specs.Prelude.{◌≡◌, ◌<◌, ◌≤◌, [], IsTrue, length, vec_capacity};
 ghost use Rattle.ledger_core.specs.History.{is_sender};
 ghost use Rattle.history_index.specs.Numbers.{names_lock};
-ghost use Rattle.history_index.specs.Kept.{no_kinds, numbers_after, kinds_after};
+ghost use Rattle.history_index.specs.Kept.{no_kinds, updated_numbers, updated_kinds};
 
 use crate::kinds::Kinds;
 use ledger_core::{Entry, Sender};
@@ -38,8 +38,8 @@ impl Caller {
         requires room { IsTrue (is_sender self.old.party entry.now.sender) → length self.old.numbers.items < vec_capacity self.old.numbers }
         requires lock { IsTrue (names_lock entry.now.what) }
         ensures party { self.new.party ≡ self.old.party }
-        ensures numbers { self.new.numbers.items ≡ numbers_after number self.old.party entry.now self.old.numbers.items }
-        ensures kinds { self.new.kinds ≡ kinds_after self.old.party entry.now self.old.kinds }
+        ensures numbers { self.new.numbers.items ≡ updated_numbers number self.old.party entry.now self.old.numbers.items }
+        ensures kinds { self.new.kinds ≡ updated_kinds self.old.party entry.now self.old.kinds }
         ensures capacity { vec_capacity self.old.numbers ≤ vec_capacity self.new.numbers }
     {
         if entry.sender != Sender::Party(self.party) {

@@ -2,7 +2,7 @@
 
 ghost use Rattle.std.specs.Prelude.{◌≡◌, option_map};
 ghost use Rattle.ledger_core.specs.History.{accepted, publication, settling, entry_ticks};
-ghost use Rattle.ledger_core.specs.Facts.{shown_as};
+ghost use Rattle.ledger_core.specs.Facts.{checked_publication};
 
 use escrow_core::{Reply, Terms};
 use ledger_core::{Call, Entry, Published, Settlement, What};
@@ -19,7 +19,7 @@ pub(crate) fn entry_ticks(e: &Entry) -> u32
 
 /// The publish that the entry is, where it was accepted.
 pub(crate) fn entry_publication(terms: &Terms, e: &Entry) -> Option<Published>
-    ensures { result ≡ option_map (shown_as terms.now) (publication e.now.height (accepted e.now)) }
+    ensures { result ≡ option_map (checked_publication terms.now) (publication e.now.height (accepted e.now)) }
 {
     match (&e.what, e.reply) {
         (What::Call(Call::Publish(stated)), Reply::Accepted) => Some(Published {

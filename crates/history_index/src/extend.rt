@@ -45,7 +45,8 @@ fn push_items<L: Ledger>(index: &mut Index, items: Vec<Item>, steps: &mut Steps<
 }
 
 impl Index {
-    /// Adds all of the entries, a step each, or none where memory runs out. It takes memory for calls alone.
+    /// Adds all of the entries, a step each, or none where memory runs out. It takes memory for
+    /// calls alone.
     pub fn extend<L: Ledger>(
         &mut self,
         entries: EntryList,

@@ -11,7 +11,7 @@ ghost use Rattle.ledger_core.specs.Runs.{run_ticks, IsRightRun};
 ghost use Rattle.history_index.specs.Value.{new_index, IsSameArc};
 ghost use Rattle.history_index.specs.Numbers.{call_numbers, published_number, IsIndexable};
 ghost use Rattle.ledger_core.specs.Facts.{is_call};
-ghost use Rattle.history_index.specs.Made.{made_in, key_opening};
+ghost use Rattle.history_index.specs.Made.{history_calls, key_opening};
 ghost use Rattle.history_index.specs.Kept.{AreCalls};
 
 use crate::answers::Answers;
@@ -27,7 +27,8 @@ use std::sync::ledger::Ledger;
 use swap_base::{ArcId, LockId, NoMemory, PartyId, Past};
 use swap_digraph::Deal;
 
-/// The calls of an arc's ledger, with the answers over all its entries, oldest first. Of ticks it keeps their number and their sum.
+/// The calls of an arc's ledger, with the answers over all its entries, oldest first. Of ticks it
+/// keeps their number and their sum.
 #[derive(Debug, Drop)]
 pub struct Index {
     arc: ArcId,
@@ -135,7 +136,7 @@ impl Index {
 
     /// The calls, oldest first.
     pub fn made(&self) -> &[Made]
-        ensures value { result.now ≡ made_in self.now.entries }
+        ensures value { result.now ≡ history_calls self.now.entries }
         ensures few { length result.now ≤ 64 }
     {
         &self.made

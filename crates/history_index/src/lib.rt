@@ -1,7 +1,9 @@
-//! The answers over a list of entries, kept beside it entry by entry, so that none of them reads the list again.
+//! The answers over a list of entries, kept beside it entry by entry, so that none of them reads
+//! the list again.
 //!
-//! Read `specs/Numbers.antt` first: the lists that an index takes; then `specs/Made.antt`: the calls that it keeps of them, and `proofs/Calls.antt`:
-//! what may be asked of these alone. What each answer is stands in `ledger_core`, at the trait `Facts`.
+//! Read `specs/Numbers.antt` first: the lists that an index takes; then `specs/Made.antt`: the
+//! calls that it keeps of them, and `proofs/Calls.antt`: what may be asked of these alone. What
+//! each answer is stands in `ledger_core`, at the trait `Facts`.
 #![tactic(auto)]
 
 mod answers;

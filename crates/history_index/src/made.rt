@@ -1,10 +1,10 @@
 //! The calls of an index.
 
 ghost use Rattle.std.specs.Prelude.{◌≡◌, ◌<◌, ◌≤◌, IsTrue, option_map, length, vec_capacity, if◌then◌else◌};
-ghost use Rattle.swap_base.specs.Lists.{first_of};
+ghost use Rattle.swap_base.specs.Lists.{first_given_answer};
 ghost use Rattle.ledger_core.specs.History.{opening, accepted};
 ghost use Rattle.ledger_core.specs.Facts.{is_call};
-ghost use Rattle.history_index.specs.Made.{made_after, key_opening};
+ghost use Rattle.history_index.specs.Made.{updated_calls, key_opening};
 
 use escrow_core::Reply;
 use hashkey_path::Hashkey;
@@ -38,7 +38,7 @@ pub(crate) fn call_count(entry: &Entry) -> usize
 /// Keeps an entry with its number, where it is a call.
 pub(crate) fn keep(made: &mut Vec<Made>, number: u32, entry: Entry)
     requires { IsTrue (is_call entry.what) → length made.old.items < vec_capacity made.old }
-    ensures made { made.new.items ≡ made_after number entry made.old.items }
+    ensures made { made.new.items ≡ updated_calls number entry made.old.items }
     ensures capacity { vec_capacity made.old ≤ vec_capacity made.new }
 {
     if call_count(&entry) == 0 {
@@ -70,7 +70,7 @@ fn opening<'a>(lock: LockId, made: &'a Made) -> Option<Opened<'a>>
 
 /// The accepted unlock of the lock among the calls.
 pub(crate) fn find_opened<'a>(made: &'a [Made], lock: LockId) -> Option<Opened<'a>>
-    ensures { option_map key_opening result ≡ first_of (λ m. opening lock m.entry.height (accepted m.entry)) made.now }
+    ensures { option_map key_opening result ≡ first_given_answer (λ m. opening lock m.entry.height (accepted m.entry)) made.now }
 {
     for call in made {
         let found = opening(lock, call);

@@ -5,7 +5,8 @@ ghost use Rattle.std.specs.Prelude.{◌≡◌, ◌+◌};
 use std::marker::Model;
 use std::sync::ledger::{Blank, Book, Ledger, Share};
 
-/// How many entries were put into an index. It takes no bytes, and only `Index::push` and `Index::push_ticks` raise it.
+/// How many entries were put into an index. It takes no bytes, and only `Index::push` and
+/// `Index::push_ticks` raise it.
 #[derive(Drop)]
 pub struct Steps<L: Ledger> {
     book: Book<L>,

@@ -8,7 +8,7 @@ use Rattle.swap_digraph.specs.declared.deal.Mode.TheVariants.{Hashkeys}
 use Rattle.hashkey_path.specs.declared.hashkey.Hashkey.{Hashkey}
 use Rattle.ledger_core.specs.History.{Opening, opened}
 use Rattle.ledger_core.specs.Book.{Histories, history}
-use Rattle.swap_rules.specs.Party.{first_seen_key, key_without, opens_without}
+use Rattle.swap_rules.specs.Party.{first_seen_key, key_without_party, opens_without_party}
 use Rattle.swap_rules.specs.Late.{unlock_base}
 use Rattle.late_check.specs.Parts.{greatest_index_use}
 use Rattle.late_check.proofs.FirstAnswer.{some_first}
@@ -27,14 +27,14 @@ by_path : (b : Bool) (key : Hashkey) → not b ≡ is_some (cond b None (Some ke
 by_path true key = refl
 by_path false key = refl
 
-by_opening : (v : ℕ) (o : Option Opening) → opens_without v o ≡ is_some (key_without v o)
+by_opening : (v : ℕ) (o : Option Opening) → opens_without_party v o ≡ is_some (key_without_party v o)
 by_opening v None = refl
 by_opening v (Some o) = by_path (is_listed v o.key.path) o.key
 
 -- a path without v opened the lock where there is a first hashkey that it did
 pub seen_some : (d : Deal) (b : Histories) (v i : ℕ)
-    → list_any (λ c. opens_without v (opened (history b c) i)) (leaving d.graph v) ≡ is_some (first_seen_key d b v i)
+    → list_any (λ c. opens_without_party v (opened (history b c) i)) (leaving d.graph v) ≡ is_some (first_seen_key d b v i)
 seen_some d b v i =
-    any_same (λ c. opens_without v (opened (history b c) i)) (λ c. is_some (key_without v (opened (history b c) i))) (leaving d.graph v) (λ c.
+    any_same (λ c. opens_without_party v (opened (history b c) i)) (λ c. is_some (key_without_party v (opened (history b c) i))) (leaving d.graph v) (λ c.
     by_opening v (opened (history b c) i))
-    ∙ sym (some_first (λ c. key_without v (opened (history b c) i)) (leaving d.graph v))
+    ∙ sym (some_first (λ c. key_without_party v (opened (history b c) i)) (leaving d.graph v))

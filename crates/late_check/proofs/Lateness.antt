@@ -14,11 +14,11 @@ use Rattle.swap_rules.specs.declared.finding.Rule.{Rule}
 use Rattle.swap_rules.specs.declared.finding.Rule.TheVariants.{Publish as ToPublish, Unlock as ToUnlock, Claim as ToClaim, Refund as ToRefund}
 use Rattle.swap_rules.specs.declared.finding.Finding.{Finding}
 use Rattle.swap_rules.specs.declared.finding.Finding.TheVariants.{Late}
-use Rattle.swap_rules.specs.Late.{counts, is_done, late_at, ref_of}
+use Rattle.swap_rules.specs.Late.{counts, is_done, is_past_due, reference_height}
 use Rattle.swap_rules.specs.Party.{pick_call}
-use Rattle.swap_rules.specs.Findings.{late_on, lates, or_zero}
+use Rattle.swap_rules.specs.Findings.{arc_late_findings, lates, or_zero}
 use Rattle.late_check.specs.declared.counting.Counted.{Counted}
-use Rattle.late_check.specs.Parts.{counts_as, counts_entry, is_done_in, is_overdue, lates_by, overdue, IsAsked}
+use Rattle.late_check.specs.Parts.{is_counted_call, counts_entry, has_counted_call, is_overdue, rule_late_findings, overdue, IsAsked}
 use Rattle.late_check.proofs.Base.{any_same}
 
 abbrev pub listed : ℕ → Rule → ℕ → Option ℕ → List Finding
@@ -31,18 +31,18 @@ by_test v rule a from delta true = refl
 by_test v rule a from delta false = refl
 
 counts_same : (d : Deal) (b : Histories) (v : ℕ) (rule : Rule) (a : ℕ) (c : Counted) (due : ℕ)
-    → ((at : ℕ) (o : Option Call) → counts_as c at o ≡ counts d b v rule a at o) → (e : Entry)
+    → ((at : ℕ) (o : Option Call) → is_counted_call c at o ≡ counts d b v rule a at o) → (e : Entry)
     → (counts d b v rule a e.height (pick_call v e) && nat_le e.height due) ≡ counts_entry c v due e
 unfolding counts_entry
 counts_same d b v rule a c due same e = ap (λ x. x && nat_le e.height due) (sym (same e.height (pick_call v e)))
 
 by_ref : (d : Deal) (b : Histories) (v : ℕ) (rule : Rule) (a : ℕ) (c : Counted)
-    → ((at : ℕ) (o : Option Call) → counts_as c at o ≡ counts d b v rule a at o) → (ref : Option ℕ)
-    → cond (late_at d b v rule a ref) (Late v rule a (or_zero ref + d.delta) ∷ []) [] ≡ listed v rule a (overdue d.delta c v ref (history b a))
+    → ((at : ℕ) (o : Option Call) → is_counted_call c at o ≡ counts d b v rule a at o) → (ref : Option ℕ)
+    → cond (is_past_due d b v rule a ref) (Late v rule a (or_zero ref + d.delta) ∷ []) [] ≡ listed v rule a (overdue d.delta c v ref (history b a))
 by_ref d b v rule a c same None = refl
 by_ref d b v rule a c same (Some from) =
     let due = from + d.delta in
-    let done : is_done d b v rule a due ≡ is_done_in c v due (history b a) =
+    let done : is_done d b v rule a due ≡ has_counted_call c v due (history b a) =
     any_same (λ e. counts d b v rule a e.height (pick_call v e) && nat_le e.height due) (counts_entry c v due) (history b a)
     (counts_same d b v rule a c due same) in
     ap (λ x. cond (nat_lt due (height (history b a)) && not x) (Late v rule a due ∷ []) []) done
@@ -50,24 +50,24 @@ by_ref d b v rule a c same (Some from) =
 
 -- where v is late, by the height from which the rule asks and the calls that count
 pub late_listed : (d : Deal) (b : Histories) (v : ℕ) (rule : Rule) (a : ℕ) (from : Option ℕ) (c : Counted) → IsAsked d b v rule a from c
-    → late_on d b v rule a ≡ listed v rule a (overdue d.delta c v from (history b a))
+    → arc_late_findings d b v rule a ≡ listed v rule a (overdue d.delta c v from (history b a))
 late_listed d b v rule a from c k =
-    by_ref d b v rule a c k.calls (ref_of d b v rule a) ∙ ap (λ r. listed v rule a (overdue d.delta c v r (history b a))) (sym k.height)
+    by_ref d b v rule a c k.calls (reference_height d b v rule a) ∙ ap (λ r. listed v rule a (overdue d.delta c v r (history b a))) (sym k.height)
 
 -- where the rule asks nothing, nothing is added
-pub none_late : (d : Deal) (b : Histories) (v : ℕ) (rule : Rule) (a : ℕ) (out : List Finding) → ref_of d b v rule a ≡ None → out ≡ out ++ late_on d b v rule a
+pub none_late : (d : Deal) (b : Histories) (v : ℕ) (rule : Rule) (a : ℕ) (out : List Finding) → reference_height d b v rule a ≡ None → out ≡ out ++ arc_late_findings d b v rule a
 none_late d b v rule a out e =
-    sym (append-nil out) ∙ ap (λ r. out ++ cond (late_at d b v rule a r) (Late v rule a (or_zero r + d.delta) ∷ []) []) (sym e)
+    sym (append-nil out) ∙ ap (λ r. out ++ cond (is_past_due d b v rule a r) (Late v rule a (or_zero r + d.delta) ∷ []) []) (sym e)
 
 flat_map-map : {A B C : Type 0} (f : B → List C) (g : A → B) (xs : List A) → flat_map f (map g xs) ≡ flat_map (λ x. f (g x)) xs
 flat_map-map f g [] = refl
 flat_map-map f g (x ∷ xs) = ap (λ l. f (g x) ++ l) (flat_map-map f g xs)
 
 pub lates_in_parts : (d : Deal) (b : Histories) (v : ℕ)
-    → lates d b v ≡ ((lates_by d b v ToPublish ++ flat_map (λ i. lates_by d b v (ToUnlock i)) (locks d)) ++ lates_by d b v ToClaim)
-    ++ lates_by d b v ToRefund
+    → lates d b v ≡ ((rule_late_findings d b v ToPublish ++ flat_map (λ i. rule_late_findings d b v (ToUnlock i)) (locks d)) ++ rule_late_findings d b v ToClaim)
+    ++ rule_late_findings d b v ToRefund
 lates_in_parts d b v =
-    let f : Rule → List Finding = lates_by d b v in
+    let f : Rule → List Finding = rule_late_findings d b v in
     let us = flat_map (λ i. f (ToUnlock i)) (locks d) in
     let middle : flat_map f (map ToUnlock (locks d) ++ ToClaim ∷ ToRefund ∷ []) ≡ us ++ (f ToClaim ++ f ToRefund) =
     flat_map-append f (map ToUnlock (locks d)) (ToClaim ∷ ToRefund ∷ [])
@@ -84,9 +84,9 @@ added o a b c e w x y z p q r s =
     s ∙ ap (λ l. l ++ e) three ∙ append_assoc o ((a ++ b) ++ c) e
 
 -- the four parts, added one after another
-pub lates_added : (d : Deal) (b : Histories) (v : ℕ) (o w x y z : List Finding) → w ≡ o ++ lates_by d b v ToPublish
-    → x ≡ w ++ flat_map (λ i. lates_by d b v (ToUnlock i)) (locks d) → y ≡ x ++ lates_by d b v ToClaim → z ≡ y ++ lates_by d b v ToRefund
+pub lates_added : (d : Deal) (b : Histories) (v : ℕ) (o w x y z : List Finding) → w ≡ o ++ rule_late_findings d b v ToPublish
+    → x ≡ w ++ flat_map (λ i. rule_late_findings d b v (ToUnlock i)) (locks d) → y ≡ x ++ rule_late_findings d b v ToClaim → z ≡ y ++ rule_late_findings d b v ToRefund
     → z ≡ o ++ lates d b v
 lates_added d b v o w x y z p q r s =
-    added o (lates_by d b v ToPublish) (flat_map (λ i. lates_by d b v (ToUnlock i)) (locks d)) (lates_by d b v ToClaim) (lates_by d b v ToRefund) w x y
+    added o (rule_late_findings d b v ToPublish) (flat_map (λ i. rule_late_findings d b v (ToUnlock i)) (locks d)) (rule_late_findings d b v ToClaim) (rule_late_findings d b v ToRefund) w x y
     z p q r s ∙ ap (λ l. o ++ l) (sym (lates_in_parts d b v))

@@ -8,7 +8,7 @@ ghost use Rattle.ledger_core.specs.Book.{history};
 ghost use Rattle.ledger_core.specs.History.{opened};
 ghost use Rattle.history_index.specs.Indexes.{all_entries, AreIndexes};
 ghost use Rattle.swap_rules.specs.Late.{unlock_base, height_of_opening, is_carried};
-ghost use Rattle.late_check.specs.Parts.{greatest_index_use, is_used_with};
+ghost use Rattle.late_check.specs.Parts.{greatest_index_use, is_used_with_key};
 
 use crate::openings::{first_seen_key, opening_height};
 use hashkey_path::Hashkey;
@@ -27,9 +27,10 @@ fn is_carried(inner: Option<&Hashkey>, call: Option<&Call>) -> bool
     }
 }
 
-/// Whether the entry was accepted with the hashkey that the party's first one extends, or else with the one that it would extend.
+/// Whether the entry was accepted with the hashkey that the party's first one extends, or else with
+/// the one that it would extend.
 fn is_used(party: PartyId, first: Option<&Hashkey>, seen: Option<&Hashkey>, entry: &Entry) -> bool
-    ensures { result ≡ is_used_with party (option_copied first.entry) (option_copied seen.entry) entry.now }
+    ensures { result ≡ is_used_with_key party (option_copied first.entry) (option_copied seen.entry) entry.now }
 {
     match first {
         Some(key) => extends(party, key, accepted(entry)),
@@ -111,7 +112,8 @@ fn base_by_lock(deal: &Deal, known: &[Index], party: PartyId, lock: LockId) -> u
         .fold(0, |most, height| most.max(height))
 }
 
-/// The base height of the party's unlocks of the lock, where these are its first hashkey and the one that it would extend.
+/// The base height of the party's unlocks of the lock, where these are its first hashkey and the
+/// one that it would extend.
 #[tactic(auto, using(crate::proofs::Base::base_with))]
 pub(crate) fn unlock_base(
     deal: &Deal,

@@ -4,7 +4,7 @@ ghost use Rattle.std.specs.Prelude.{◌≡◌, option_copied};
 ghost use Rattle.std.specs.List.{list_any};
 ghost use Rattle.ledger_core.specs.Book.{history};
 ghost use Rattle.history_index.specs.Indexes.{all_entries};
-ghost use Rattle.late_check.specs.Parts.{counts_as, counts_entry, is_done_in};
+ghost use Rattle.late_check.specs.Parts.{is_counted_call, counts_entry, has_counted_call};
 
 use hashkey_path::Hashkey;
 use history_index::{Index, Made};
@@ -12,7 +12,8 @@ use ledger_core::{Call, Entry};
 use sent_keys::{is_first_key, pick_call};
 use swap_base::{ArcId, LockId, PartyId};
 
-/// The calls that count for a rule: a refund above the arc's least expiry, and an unlock of the lock with the party's first hashkey for it.
+/// The calls that count for a rule: a refund above the arc's least expiry, and an unlock of the
+/// lock with the party's first hashkey for it.
 #[derive(Clone, Copy)]
 pub(crate) enum Counted<'a> {
     Publish,
@@ -23,7 +24,7 @@ pub(crate) enum Counted<'a> {
 
 /// Whether a call, made at a height, counts.
 fn counts(counted: &Counted, at: u32, call: Option<&Call>) -> bool
-    ensures { result ≡ counts_as counted.now at (option_copied call.entry) }
+    ensures { result ≡ is_counted_call counted.now at (option_copied call.entry) }
 {
     match (counted, call) {
         (Counted::Publish, Some(Call::Publish(_))) => true,
@@ -62,7 +63,7 @@ pub(crate) fn is_done(
     arc: ArcId,
     due: u64,
 ) -> bool
-    ensures { result ≡ is_done_in counted.now party due (history (all_entries known.now) arc) }
+    ensures { result ≡ has_counted_call counted.now party due (history (all_entries known.now) arc) }
 {
     match known.get(arc as usize) {
         Some(index) => any_counts(index.made(), party, counted, due),

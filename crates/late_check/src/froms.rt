@@ -7,7 +7,7 @@ ghost use Rattle.swap_digraph.specs.Deal.{leads, IsWellSized};
 ghost use Rattle.ledger_core.specs.Book.{history};
 ghost use Rattle.ledger_core.specs.History.{opened};
 ghost use Rattle.history_index.specs.Indexes.{all_entries, AreIndexes};
-ghost use Rattle.swap_rules.specs.Party.{first_key, least_expiry, opens_without};
+ghost use Rattle.swap_rules.specs.Party.{first_key, least_expiry, opens_without_party};
 ghost use Rattle.late_check.specs.Parts.{claim_start, publish_start, refund_start, unlock_start};
 
 use crate::bases::unlock_base;
@@ -48,7 +48,7 @@ fn has_key(
     requires party { party < deal.now.graph.n }
     requires lock { lock < length deal.now.leaders }
     ensures { result ≡ (leads deal.now party lock || is_some (option_copied first.entry)
-        || list_any (λ c. opens_without party (opened (history (all_entries known.now) c) lock)) (leaving deal.now.graph party)) }
+        || list_any (λ c. opens_without_party party (opened (history (all_entries known.now) c) lock)) (leaving deal.now.graph party)) }
 {
     leads(deal, party, lock)
         || first.is_some()

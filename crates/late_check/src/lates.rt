@@ -7,9 +7,9 @@ ghost use Rattle.swap_digraph.specs.Deal.{locks, IsWellSized};
 ghost use Rattle.ledger_core.specs.Book.{history};
 ghost use Rattle.history_index.specs.Indexes.{all_entries, AreIndexes};
 ghost use Rattle.swap_rules.specs.Party.{first_key};
-ghost use Rattle.swap_rules.specs.Findings.{late_on, lates};
+ghost use Rattle.swap_rules.specs.Findings.{arc_late_findings, lates};
 ghost use Rattle.sent_keys.specs.Sent.{shown, party_unlocks};
-ghost use Rattle.late_check.specs.Parts.{lates_by, overdue, publish_start, unlock_start, IsAsked};
+ghost use Rattle.late_check.specs.Parts.{rule_late_findings, overdue, publish_start, unlock_start, IsAsked};
 
 use crate::counting::{Counted, is_done};
 use crate::froms::{claim_start, publish_start, refund_start, unlock_start};
@@ -73,7 +73,7 @@ fn put_late_arc(
 ) -> Result<(), NoMemory>
     requires small { IfSome from (λ n. n < 2 ^ 62) }
     requires asked { IsAsked deal.now (all_entries known.now) party rule arc from counted.now }
-    ensures { OnOk result (out.new.items ≡ out.old.items ++ late_on deal.now (all_entries known.now) party rule arc) }
+    ensures { OnOk result (out.new.items ≡ out.old.items ++ arc_late_findings deal.now (all_entries known.now) party rule arc) }
 {
     match overdue(deal, known, party, arc, from, counted) {
         Some(due) => out.push(Finding::Late(party, rule, arc, due))?,
@@ -94,7 +94,7 @@ fn put_late_publish(
     requires arc { arc < length deal.now.graph.arcs }
     requires from { from ≡ publish_start deal.now (all_entries known.now) party }
     requires small { IfSome from (λ n. n < 2 ^ 62) }
-    ensures { OnOk result (out.new.items ≡ out.old.items ++ late_on deal.now (all_entries known.now) party Rule.Publish arc) }
+    ensures { OnOk result (out.new.items ≡ out.old.items ++ arc_late_findings deal.now (all_entries known.now) party Rule.Publish arc) }
 {
     if !leaves(deal, party, arc) {
         return Ok(());
@@ -122,7 +122,7 @@ fn put_late_publishes(
     requires sized { IsWellSized deal.now }
     requires known { AreIndexes deal.now known.now }
     requires party { party < deal.now.graph.n }
-    ensures { OnOk result (out.new.items ≡ out.old.items ++ lates_by deal.now (all_entries known.now) party Rule.Publish) }
+    ensures { OnOk result (out.new.items ≡ out.old.items ++ rule_late_findings deal.now (all_entries known.now) party Rule.Publish) }
 {
     let from = publish_start(deal, known, party);
     for arc in 0..deal.graph.arcs().len() as u8 {
@@ -146,7 +146,7 @@ fn put_late_unlock(
     requires first { option_copied first ≡ first_key (all_entries known.now) party lock }
     requires from { from ≡ unlock_start deal.now (all_entries known.now) party lock }
     requires small { IfSome from (λ n. n < 2 ^ 62) }
-    ensures { OnOk result (out.new.items ≡ out.old.items ++ late_on deal.now (all_entries known.now) party (Rule.Unlock lock) arc) }
+    ensures { OnOk result (out.new.items ≡ out.old.items ++ arc_late_findings deal.now (all_entries known.now) party (Rule.Unlock lock) arc) }
 {
     if !enters(deal, party, arc) {
         return Ok(());
@@ -179,7 +179,7 @@ fn put_late_lock_unlocks(
     requires party { party < deal.now.graph.n }
     requires keys { shown keys.now ≡ party_unlocks (all_entries known.now) party }
     requires lock { lock < length deal.now.leaders }
-    ensures { OnOk result (out.new.items ≡ out.old.items ++ lates_by deal.now (all_entries known.now) party (Rule.Unlock lock)) }
+    ensures { OnOk result (out.new.items ≡ out.old.items ++ rule_late_findings deal.now (all_entries known.now) party (Rule.Unlock lock)) }
 {
     let first = first_key(known, party, keys, lock);
     let from = unlock_start(deal, known, party, lock, first);
@@ -202,7 +202,7 @@ fn put_late_unlocks(
     requires known { AreIndexes deal.now known.now }
     requires party { party < deal.now.graph.n }
     requires keys { shown keys.now ≡ party_unlocks (all_entries known.now) party }
-    ensures { OnOk result (out.new.items ≡ out.old.items ++ flat_map (λ i. lates_by deal.now (all_entries known.now) party (Rule.Unlock i)) (locks deal.now)) }
+    ensures { OnOk result (out.new.items ≡ out.old.items ++ flat_map (λ i. rule_late_findings deal.now (all_entries known.now) party (Rule.Unlock i)) (locks deal.now)) }
 {
     for lock in 0..deal.leaders.len() as u8 {
         put_late_lock_unlocks(out, deal, known, party, keys, lock)?;
@@ -221,7 +221,7 @@ fn put_late_claim(
     requires sized { IsWellSized deal.now }
     requires known { AreIndexes deal.now known.now }
     requires arc { arc < length deal.now.graph.arcs }
-    ensures { OnOk result (out.new.items ≡ out.old.items ++ late_on deal.now (all_entries known.now) party Rule.Claim arc) }
+    ensures { OnOk result (out.new.items ≡ out.old.items ++ arc_late_findings deal.now (all_entries known.now) party Rule.Claim arc) }
 {
     if !enters(deal, party, arc) {
         return Ok(());
@@ -249,7 +249,7 @@ fn put_late_claims(
 ) -> Result<(), NoMemory>
     requires sized { IsWellSized deal.now }
     requires known { AreIndexes deal.now known.now }
-    ensures { OnOk result (out.new.items ≡ out.old.items ++ lates_by deal.now (all_entries known.now) party Rule.Claim) }
+    ensures { OnOk result (out.new.items ≡ out.old.items ++ rule_late_findings deal.now (all_entries known.now) party Rule.Claim) }
 {
     for arc in 0..deal.graph.arcs().len() as u8 {
         put_late_claim(out, deal, known, party, arc)?;
@@ -268,7 +268,7 @@ fn put_late_refund(
     requires sized { IsWellSized deal.now }
     requires known { AreIndexes deal.now known.now }
     requires arc { arc < length deal.now.graph.arcs }
-    ensures { OnOk result (out.new.items ≡ out.old.items ++ late_on deal.now (all_entries known.now) party Rule.Refund arc) }
+    ensures { OnOk result (out.new.items ≡ out.old.items ++ arc_late_findings deal.now (all_entries known.now) party Rule.Refund arc) }
 {
     if !leaves(deal, party, arc) {
         return Ok(());
@@ -297,7 +297,7 @@ fn put_late_refunds(
 ) -> Result<(), NoMemory>
     requires sized { IsWellSized deal.now }
     requires known { AreIndexes deal.now known.now }
-    ensures { OnOk result (out.new.items ≡ out.old.items ++ lates_by deal.now (all_entries known.now) party Rule.Refund) }
+    ensures { OnOk result (out.new.items ≡ out.old.items ++ rule_late_findings deal.now (all_entries known.now) party Rule.Refund) }
 {
     for arc in 0..deal.graph.arcs().len() as u8 {
         put_late_refund(out, deal, known, party, arc)?;

@@ -6,7 +6,7 @@ ghost use Rattle.ledger_core.specs.Book.{history};
 ghost use Rattle.ledger_core.specs.History.{opened};
 ghost use Rattle.history_index.specs.Indexes.{all_entries, AreIndexes};
 ghost use Rattle.history_index.specs.Made.{key_opening};
-ghost use Rattle.swap_rules.specs.Party.{first_seen_key, key_without};
+ghost use Rattle.swap_rules.specs.Party.{first_seen_key, key_without_party};
 ghost use Rattle.swap_rules.specs.Late.{height_of_opening, trigger_height};
 
 use hashkey_path::Hashkey;
@@ -41,7 +41,7 @@ pub(crate) fn opening_height(deal: &Deal, known: &[Index], arc: ArcId, lock: Loc
 }
 
 /// The hashkey that opened the lock on the arc, where its path lacks the party.
-fn key_without<'a>(
+fn key_without_party<'a>(
     deal: &Deal,
     known: &'a [Index],
     party: PartyId,
@@ -51,7 +51,7 @@ fn key_without<'a>(
     requires sized { IsWellSized deal.now }
     requires known { AreIndexes deal.now known.now }
     requires lock { lock < length deal.now.leaders }
-    ensures { option_copied result ≡ key_without party (opened (history (all_entries known.now) arc) lock) }
+    ensures { option_copied result ≡ key_without_party party (opened (history (all_entries known.now) arc) lock) }
 {
     match opened(deal, known, arc, lock) {
         Some(unlock) => {
@@ -80,7 +80,7 @@ pub(crate) fn first_seen_key<'a>(
     ensures { option_copied result ≡ first_seen_key deal.now (all_entries known.now) party lock }
 {
     for arc in deal.graph.leaving(party) {
-        let found = key_without(deal, known, party, *arc, lock);
+        let found = key_without_party(deal, known, party, *arc, lock);
         if found.is_some() {
             return found;
         }

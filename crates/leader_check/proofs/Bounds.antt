@@ -1,7 +1,8 @@
--- A path that ends in a leader is as long as the vertices, the leaders and the paths of followers allow.
+-- A path that ends in a leader is as long as the vertices, the leaders and the paths of followers
+-- allow.
 use Rattle.std.proofs.Common.{◌≡◌, ◌⊎◌, ℕ, suc, ◌+◌, ◌*◌, ◌<◌, ◌≤◌, Bool, true, false, cond, not, List, [], ◌∷◌, length, filter, refl, sym, ap, ◌∙◌}
 use Rattle.std.proofs.Common.{subst, inl, inr, arith, eqb-true, eq-eqb, lt-ltb, mul-le-mul_right}
-use Rattle.swap_base.specs.Lists.{IsIn}
+use Rattle.swap_base.specs.Lists.{IsElement}
 use Rattle.swap_base.proofs.Lists.{and_both, from_filter}
 use Rattle.swap_digraph.specs.Value.{Graph}
 use Rattle.swap_digraph.specs.Graph.{is_path, is_listed, has_arc, first_is, last_is, listed_arcs, are_followers, IsHeight}
@@ -24,11 +25,11 @@ module _ (g : Graph) (leaders : List ℕ) (h : ℕ) (height : IsHeight g leaders
   record Run (u : ℕ) (p : List ℕ) : Type 0 where
     run : List ℕ
     short : length run ≤ h
-    part : (x : ℕ) → IsIn x run → IsIn x p
+    part : (x : ℕ) → IsElement x run → IsElement x p
     path : (length run ≡ 0) ⊎ ((is_path g run ≡ true) × (first_is u run ≡ true) × (are_followers leaders run ≡ true))
     bound : length p + h ≤ led p * (h + 1) + length run
 
-  longer : (u v : ℕ) (q : List ℕ) → u < g.n → has_arc g u v ≡ true → is_listed u leaders ≡ false → (IsIn u q → ⊥)
+  longer : (u v : ℕ) (q : List ℕ) → u < g.n → has_arc g u v ≡ true → is_listed u leaders ≡ false → (IsElement u q → ⊥)
       → (length q ≡ 0) ⊎ ((is_path g q ≡ true) × (first_is v q ≡ true) × (are_followers leaders q ≡ true))
       → (is_path g (u ∷ q) ≡ true) × (first_is u (u ∷ q) ≡ true) × (are_followers leaders (u ∷ q) ≡ true)
   longer u v [] b a l f k = (lt-ltb u g.n b, eq-eqb u u refl, and_both (not (is_listed u leaders)) true (ap not l) refl)
@@ -40,9 +41,9 @@ module _ (g : Graph) (leaders : List ℕ) (h : ℕ) (height : IsHeight g leaders
         and_both (not (is_listed u leaders)) (are_followers leaders (w ∷ q)) (ap not l) k.2,
       )
 
-  runs : (u : ℕ) (p : List ℕ) (l : ℕ) → is_path g (u ∷ p) ≡ true → last_is l (u ∷ p) ≡ true → IsIn l leaders → Run u (u ∷ p)
+  runs : (u : ℕ) (p : List ℕ) (l : ℕ) → is_path g (u ∷ p) ≡ true → last_is l (u ∷ p) ≡ true → IsElement l leaders → Run u (u ∷ p)
   runs u [] l e last i =
-      let lead : is_listed u leaders ≡ true = in-is_listed u leaders (subst (λ x. IsIn x leaders) (sym (eqb-true u l last)) i) in
+      let lead : is_listed u leaders ≡ true = in-is_listed u leaders (subst (λ x. IsElement x leaders) (sym (eqb-true u l last)) i) in
       let k : led (u ∷ []) ≡ 1 + 0 = led-cons u [] true lead in
       let k2 : led (u ∷ []) * (h + 1) ≡ 1 * (h + 1) = ap (λ n. n * (h + 1)) k in
       record { run = []; short = omega arith; part = λ x j. absurd j; path = inl refl; bound = omega arith }
@@ -66,7 +67,7 @@ module _ (g : Graph) (leaders : List ℕ) (h : ℕ) (height : IsHeight g leaders
           record { run = u ∷ r.run; short = sh; part = λ x. elim [ inl q ↦ inl q | inr j ↦ inr (r.part x j) ]; path = inr long; bound = omega arith }
 
   -- a path that ends in a leader has at most so many vertices
-  pub path_law : (p : List ℕ) (l : ℕ) → is_path g p ≡ true → last_is l p ≡ true → IsIn l leaders → listed_arcs p ≤ need g.n (length leaders) h
+  pub path_law : (p : List ℕ) (l : ℕ) → is_path g p ≡ true → last_is l p ≡ true → IsElement l leaders → listed_arcs p ≤ need g.n (length leaders) h
   path_law [] l e last i = absurd (cc e)
   path_law (u ∷ p) l e last i =
       let r = runs u p l e last i in

@@ -1,4 +1,5 @@
--- A round more than there are parties raises a level above their number exactly where followers form a cycle.
+-- A round more than there are parties raises a level above their number exactly where followers
+-- form a cycle.
 use Rattle.std.proofs.Common.{◌≡◌, ◌⊎◌, inl, inr, ℕ, zero, suc, ◌+◌, ◌-◌, ◌≤◌, true, nat_lt, List, Option, Some, None, is_some, refl, sym, ap, ◌∙◌}
 use Rattle.std.proofs.Common.{arith, lt-ltb, le-ltb}
 use Rattle.swap_base.specs.Lists.{greatest}
@@ -6,7 +7,7 @@ use Rattle.swap_base.proofs.Lists.{greatest-in, greatest-below, in_range}
 use Rattle.swap_digraph.specs.Value.{Graph}
 use Rattle.swap_digraph.specs.Graph.{parties, has_arc, IsFeedback}
 use Rattle.leader_check.specs.Followers.{is_follower}
-use Rattle.leader_check.specs.Levels.{bounded_level, most_before}
+use Rattle.leader_check.specs.Levels.{bounded_level, greatest_prior_value}
 use Rattle.leader_check.specs.Cycles.{walks, traced_cycle, follower_cycle}
 use Rattle.leader_check.proofs.Followers.{follower_parts}
 use Rattle.swap_digraph.proofs.Paths.{path_length}
@@ -40,7 +41,7 @@ module _ (g : Graph) (ls : List ℕ) where
       let l = last_arc u m u e in
       let r = cycle_rises k l.last m (on.walks-step g ls l.last m l.last u (walk_ends_in l.last m u l.before) l.arc l.before) in
       let b = before-arc g (bounded_level g ls k) l.last u l.arc in
-      let s : bounded_level g ls (suc k) u ≡ most_before g (bounded_level g ls k) u + 1 =
+      let s : bounded_level g ls (suc k) u ≡ greatest_prior_value g (bounded_level g ls k) u + 1 =
       within-suc g ls k u ∙ after-follower g ls (bounded_level g ls k) u (on.walks-follower g ls u (suc m) u e) in
       omega (arith, r, b, s)
 

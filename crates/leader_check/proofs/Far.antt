@@ -2,7 +2,7 @@
 use Rattle.std.proofs.Common.{◌≡◌, ◌⊎◌, ℕ, suc, zero, ◌+◌, ◌<◌, ◌≤◌, ◌==◌, Bool, true, false, cond, not, IsTrue, List, [], ◌∷◌, length, get_or, refl}
 use Rattle.std.proofs.Common.{sym, ap, ◌∙◌, subst, inl, inr, arith, eqb-true, eq-eqb, lt-ltb}
 use Rattle.std.proofs.lemmas.Bool.{false≢true}
-use Rattle.swap_base.specs.Lists.{IsIn, greatest}
+use Rattle.swap_base.specs.Lists.{IsElement, greatest}
 use Rattle.swap_base.proofs.Lists.{and_both, greatest-in, greatest-below}
 use Rattle.swap_digraph.specs.declared.arc_ends.ArcEnds.{ArcEnds}
 use Rattle.swap_digraph.specs.Value.{Graph}
@@ -14,12 +14,12 @@ use Rattle.leader_check.proofs.Followers.{follower_is, parse_arc, arc_from, grea
 use Rattle.swap_digraph.proofs.Paths.{in-is_listed, path_step, path_more, path_length}
 use Rattle.swap_digraph.proofs.Parts.{leader_among, not_leader, is_leader_not, meets_rest, part_to}
 use Rattle.leader_check.proofs.Bounds.{paths_to_leaders_are_bounded}
-use Rattle.leader_check.specs.Distance.{most_after, prior_distance, bounded_distance, dist_of}
+use Rattle.leader_check.specs.Distance.{greatest_next_value, prior_distance, bounded_distance, leader_distance}
 
 -- Values after a vertex.
 
-after-arc : (g : Graph) (f : ℕ → ℕ) (v w : ℕ) → has_arc g v w ≡ true → f w ≤ most_after g f v
-unfolding most_after
+after-arc : (g : Graph) (f : ℕ → ℕ) (v w : ℕ) → has_arc g v w ≡ true → f w ≤ greatest_next_value g f v
+unfolding greatest_next_value
 after-arc g f v w e =
     let a = parse_arc g v w e in
     let m = greatest-in (λ b. cond (b.from == v) (f b.to) 0) g.arcs a.arc a.among in
@@ -27,43 +27,43 @@ after-arc g f v w e =
     omega (arith, m, k)
 
 -- the greatest value after v is that of some vertex, where it is not 0
-after-reached : (g : Graph) (f : ℕ → ℕ) (v : ℕ) → (most_after g f v ≡ 0) ⊎ ((w : ℕ) × (has_arc g v w ≡ true) × (f w ≡ most_after g f v))
-unfolding most_after
+after-reached : (g : Graph) (f : ℕ → ℕ) (v : ℕ) → (greatest_next_value g f v ≡ 0) ⊎ ((w : ℕ) × (has_arc g v w ≡ true) × (f w ≡ greatest_next_value g f v))
+unfolding greatest_next_value
 after-reached g f v = go (greatest-reached (λ b. cond (b.from == v) (f b.to) 0) g.arcs)
   where
-    by_test : (a : ArcEnds) (b : Bool) (m : ℕ) → IsIn a g.arcs → (a.from == v) ≡ b → cond b (f a.to) 0 ≡ m
+    by_test : (a : ArcEnds) (b : Bool) (m : ℕ) → IsElement a g.arcs → (a.from == v) ≡ b → cond b (f a.to) 0 ≡ m
         → (m ≡ 0) ⊎ ((w : ℕ) × (has_arc g v w ≡ true) × (f w ≡ m))
     by_test a true m i t e = inr (a.to, arc_from g a v a.to i (eqb-true a.from v t) refl, e)
     by_test a false m i t e = inl (sym e)
 
     go : (greatest (λ b. cond (b.from == v) (f b.to) 0) g.arcs ≡ 0)
-        ⊎ ((a : ArcEnds) × IsIn a g.arcs × (cond (a.from == v) (f a.to) 0 ≡ greatest (λ b. cond (b.from == v) (f b.to) 0) g.arcs))
+        ⊎ ((a : ArcEnds) × IsElement a g.arcs × (cond (a.from == v) (f a.to) 0 ≡ greatest (λ b. cond (b.from == v) (f b.to) 0) g.arcs))
         → (greatest (λ b. cond (b.from == v) (f b.to) 0) g.arcs ≡ 0)
         ⊎ ((w : ℕ) × (has_arc g v w ≡ true) × (f w ≡ greatest (λ b. cond (b.from == v) (f b.to) 0) g.arcs))
     go (inl z) = inl z
     go (inr a) = by_test a.0 (a.0.from == v) (greatest (λ b. cond (b.from == v) (f b.to) 0) g.arcs) a.1 refl a.2
 
-pub after-below : (g : Graph) (f : ℕ → ℕ) (v m : ℕ) → ((w : ℕ) → f w ≤ m) → most_after g f v ≤ m
-unfolding most_after
+pub after-below : (g : Graph) (f : ℕ → ℕ) (v m : ℕ) → ((w : ℕ) → f w ≤ m) → greatest_next_value g f v ≤ m
+unfolding greatest_next_value
 after-below g f v m le = greatest-below (λ b. cond (b.from == v) (f b.to) 0) g.arcs m (λ a i. go (a.from == v) a.to)
   where
     go : (b : Bool) (w : ℕ) → cond b (f w) 0 ≤ m
     go true w = le w
     go false w = omega arith
 
-pub before-follower : (g : Graph) (l : ℕ) (f : ℕ → ℕ) (v : ℕ) → is_follower g (l ∷ []) v ≡ true → prior_distance g l f v ≡ most_after g f v + 1
+pub before-follower : (g : Graph) (l : ℕ) (f : ℕ → ℕ) (v : ℕ) → is_follower g (l ∷ []) v ≡ true → prior_distance g l f v ≡ greatest_next_value g f v + 1
 unfolding prior_distance
-before-follower g l f v e = ap (λ b. cond b (most_after g f v + 1) 0) e
+before-follower g l f v e = ap (λ b. cond b (greatest_next_value g f v + 1) 0) e
 
 pub before-other : (g : Graph) (l : ℕ) (f : ℕ → ℕ) (v : ℕ) → is_follower g (l ∷ []) v ≡ false → prior_distance g l f v ≡ 0
 unfolding prior_distance
-before-other g l f v e = ap (λ b. cond b (most_after g f v + 1) 0) e
+before-other g l f v e = ap (λ b. cond b (greatest_next_value g f v + 1) 0) e
 
 before-below : (g : Graph) (l : ℕ) (f : ℕ → ℕ) (v m : ℕ) → ((w : ℕ) → f w ≤ m) → prior_distance g l f v ≤ suc m
 unfolding prior_distance
 before-below g l f v m le = go (is_follower g (l ∷ []) v) (after-below g f v m le)
   where
-    go : (b : Bool) → most_after g f v ≤ m → cond b (most_after g f v + 1) 0 ≤ suc m
+    go : (b : Bool) → greatest_next_value g f v ≤ m → cond b (greatest_next_value g f v + 1) 0 ≤ suc m
     go true k = omega arith
     go false k = omega arith
 
@@ -78,7 +78,7 @@ within-below g l (suc k) v = before-below g l (bounded_distance g l k) v k (with
 
 -- Ends of arcs.
 
-find_place : {A : Type 0} (xs : List A) (x d : A) → IsIn x xs → (i : ℕ) × (i < length xs) × (get_or xs i d ≡ x)
+find_place : {A : Type 0} (xs : List A) (x d : A) → IsElement x xs → (i : ℕ) × (i < length xs) × (get_or xs i d ≡ x)
 find_place [] x d i = absurd i
 find_place (y ∷ xs) x d (inl e) = (0, omega arith, sym e)
 find_place (y ∷ xs) x d (inr i) = let r = find_place xs x d i in (suc r.0, omega arith, r.2)
@@ -100,14 +100,14 @@ pub other_follows : (g : Graph) (l v : ℕ) → v < g.n → (l ≡ v → ⊥) �
 other_follows g l v b n = follower_is g (l ∷ []) v b ∙ not_leader l v (λ e. n (sym e))
 
 -- the distance of a party, by a test whether it leads
-pub before_is : (g : Graph) (l : ℕ) (f : ℕ → ℕ) (v : ℕ) → v < g.n → cond (l == v) 0 (most_after g f v + 1) ≡ prior_distance g l f v
+pub before_is : (g : Graph) (l : ℕ) (f : ℕ → ℕ) (v : ℕ) → v < g.n → cond (l == v) 0 (greatest_next_value g f v + 1) ≡ prior_distance g l f v
 before_is g l f v b = go (l == v) refl
   where
     no : (t : Bool) → t ≡ false → t ≡ true → ⊥
     no true h i = cc h
     no false h i = cc i
 
-    go : (t : Bool) → (l == v) ≡ t → cond t 0 (most_after g f v + 1) ≡ prior_distance g l f v
+    go : (t : Bool) → (l == v) ≡ t → cond t 0 (greatest_next_value g f v + 1) ≡ prior_distance g l f v
     go true e = sym (before-other g l f v (leader_follows_not g l v b (eqb-true l v e)))
     go false e = sym (before-follower g l f v (other_follows g l v b (λ q. no (l == v) e (eq-eqb l v q))))
 
@@ -121,7 +121,7 @@ module _ (g : Graph) (l : ℕ) where
       let k = meets_rest g l u w p e (inl last) in
       let r = far-most w p m s.rest last (omega arith) in
       let follows = follower_is g (l ∷ []) u s.below ∙ k.0 in
-      let x : bounded_distance g l (suc m) u ≡ most_after g (bounded_distance g l m) u + 1 = within-suc g l m u
+      let x : bounded_distance g l (suc m) u ≡ greatest_next_value g (bounded_distance g l m) u + 1 = within-suc g l m u
       ∙ before-follower g l (bounded_distance g l m) u follows in
       let y = after-arc g (bounded_distance g l m) u w s.arc in
       omega (arith, r, x, y)
@@ -144,10 +144,10 @@ module _ (g : Graph) (l : ℕ) (ends : HasEnds g) (strong : IsStronglyConnected 
       go (u ∷ w ∷ p) k = (w, ap (λ x. has_arc g x w) (sym (eqb-true u v k.1)) ∙ (path_step g u w p k.0).arc)
 
   -- the vertex after v that stands the farthest
-  farthest : (f : ℕ → ℕ) (v : ℕ) → v < g.n → (v ≡ l → ⊥) → (w : ℕ) × (has_arc g v w ≡ true) × (f w ≡ most_after g f v)
+  farthest : (f : ℕ → ℕ) (v : ℕ) → v < g.n → (v ≡ l → ⊥) → (w : ℕ) × (has_arc g v w ≡ true) × (f w ≡ greatest_next_value g f v)
   farthest f v b n = go (after-reached g f v)
     where
-      go : (most_after g f v ≡ 0) ⊎ ((w : ℕ) × (has_arc g v w ≡ true) × (f w ≡ most_after g f v)) → (w : ℕ) × (has_arc g v w ≡ true) × (f w ≡ most_after g f v)
+      go : (greatest_next_value g f v ≡ 0) ⊎ ((w : ℕ) × (has_arc g v w ≡ true) × (f w ≡ greatest_next_value g f v)) → (w : ℕ) × (has_arc g v w ≡ true) × (f w ≡ greatest_next_value g f v)
       go (inl z) = let w = has_next v b n in let m = after-arc g f v w.0 w.1 in (w.0, w.1, omega (arith, m, z))
       go (inr w) = w
 
@@ -156,7 +156,7 @@ module _ (g : Graph) (l : ℕ) (ends : HasEnds g) (strong : IsStronglyConnected 
 
   further : (v w k d : ℕ) → v < g.n → not (is_listed v (l ∷ [])) ≡ true → has_arc g v w ≡ true → Far w k d → Far v (suc k) (d + 1)
   further v w k d b follows a r =
-      let fresh : IsIn v (w ∷ r.rest) → ⊥ = λ i.
+      let fresh : IsElement v (w ∷ r.rest) → ⊥ = λ i.
       let t = part_to g l w v r.rest r.path (elim r.end [ inl x ↦ inl x | inr x ↦ inr x.0 ]) (is_leader_not l v follows) i in
       false≢true (sym (feedback w v t.part (t.path, t.first, t.last) t.followers) ∙ a) in
       let s = r.size in
@@ -235,8 +235,8 @@ module _ (g : Graph) (l : ℕ) (ends : HasEnds g) (strong : IsStronglyConnected 
       go (inr p) = let n = path_length g p.0 p.1 in let e = p.3 in omega (arith, n, e)
 
   -- h rounds give the distance
-  pub dist_by_rounds : (h v : ℕ) → IsHeight g (l ∷ []) h → v < g.n → bounded_distance g l h v ≡ dist_of g l v
-  unfolding dist_of
+  pub dist_by_rounds : (h v : ℕ) → IsHeight g (l ∷ []) h → v < g.n → bounded_distance g l h v ≡ leader_distance g l v
+  unfolding leader_distance
   dist_by_rounds h v height b =
       dist_one v (bounded_distance g l h v) (bounded_distance g l g.n v) (dist_is h h v height (omega arith) b) (dist_is h g.n v height
       (height_below h height) b)

@@ -1,7 +1,7 @@
 -- Followers and arcs, in the words of lists.
 use Rattle.std.proofs.Common.{◌≡◌, ◌⊎◌, ℕ, ◌<◌, ◌≤◌, ◌==◌, max, true, not, ◌&&◌, List, [], ◌∷◌, refl, sym, ap, ◌∙◌, subst, inl, inr, arith, eqb-true}
 use Rattle.std.proofs.Common.{eq-eqb, ltb-true, lt-ltb, nat_lt}
-use Rattle.swap_base.specs.Lists.{IsIn, greatest}
+use Rattle.swap_base.specs.Lists.{IsElement, greatest}
 use Rattle.swap_base.proofs.Lists.{and_parts, and_both, any_at, list_any-in, in_from_moment}
 use Rattle.swap_digraph.specs.declared.arc_ends.ArcEnds.{ArcEnds}
 use Rattle.swap_digraph.specs.Value.{Graph}
@@ -20,7 +20,7 @@ follower_is g ls v b = ap (λ t. t && not (is_listed v ls)) (lt-ltb v g.n b)
 -- an arc with those ends
 pub record Arc (g : Graph) (u v : ℕ) : Type 0 where
   pub arc : ArcEnds
-  pub among : IsIn arc g.arcs
+  pub among : IsElement arc g.arcs
   pub from : arc.from ≡ u
   pub to : arc.to ≡ v
 
@@ -30,17 +30,17 @@ parse_arc g u v e =
     let k = and_parts (m.now.from == u) (m.now.to == v) m.passes in
     record {
       arc = m.now;
-      among = subst (λ xs. IsIn m.now xs) (sym m.stands.1) (in_from_moment m.past m.now m.stands.0);
+      among = subst (λ xs. IsElement m.now xs) (sym m.stands.1) (in_from_moment m.past m.now m.stands.0);
       from = eqb-true m.now.from u k.0;
       to = eqb-true m.now.to v k.1;
     }
 
-pub arc_from : (g : Graph) (a : ArcEnds) (u v : ℕ) → IsIn a g.arcs → a.from ≡ u → a.to ≡ v → has_arc g u v ≡ true
+pub arc_from : (g : Graph) (a : ArcEnds) (u v : ℕ) → IsElement a g.arcs → a.from ≡ u → a.to ≡ v → has_arc g u v ≡ true
 arc_from g a u v i e f = list_any-in (λ b. (b.from == u) && (b.to == v)) g.arcs a (and_both (a.from == u) (a.to == v) (eq-eqb a.from u e) (eq-eqb a.to v f)) i
 
 -- The greatest value along a list.
 
-pub greatest-reached : {A : Type 0} (f : A → ℕ) (xs : List A) → (greatest f xs ≡ 0) ⊎ ((x : A) × IsIn x xs × (f x ≡ greatest f xs))
+pub greatest-reached : {A : Type 0} (f : A → ℕ) (xs : List A) → (greatest f xs ≡ 0) ⊎ ((x : A) × IsElement x xs × (f x ≡ greatest f xs))
 greatest-reached f [] = inl refl
 greatest-reached {A = A} f (x ∷ xs) = go (greatest-reached f xs)
   where
@@ -48,14 +48,14 @@ greatest-reached {A = A} f (x ∷ xs) = go (greatest-reached f xs)
     larger m n = grind arith
 
     pick : (max (f x) (greatest f xs) ≡ f x) ⊎ (max (f x) (greatest f xs) ≡ greatest f xs)
-        → (greatest f xs ≡ 0) ⊎ ((y : A) × IsIn y xs × (f y ≡ greatest f xs))
-        → (max (f x) (greatest f xs) ≡ 0) ⊎ ((y : A) × IsIn y (x ∷ xs) × (f y ≡ max (f x) (greatest f xs)))
+        → (greatest f xs ≡ 0) ⊎ ((y : A) × IsElement y xs × (f y ≡ greatest f xs))
+        → (max (f x) (greatest f xs) ≡ 0) ⊎ ((y : A) × IsElement y (x ∷ xs) × (f y ≡ max (f x) (greatest f xs)))
     pick (inl e) r = inr (x, inl refl, sym e)
     pick (inr e) (inl z) = inl (e ∙ z)
     pick (inr e) (inr y) = inr (y.0, inr y.1, y.2 ∙ sym e)
 
-    go : (greatest f xs ≡ 0) ⊎ ((y : A) × IsIn y xs × (f y ≡ greatest f xs))
-        → (max (f x) (greatest f xs) ≡ 0) ⊎ ((y : A) × IsIn y (x ∷ xs) × (f y ≡ max (f x) (greatest f xs)))
+    go : (greatest f xs ≡ 0) ⊎ ((y : A) × IsElement y xs × (f y ≡ greatest f xs))
+        → (max (f x) (greatest f xs) ≡ 0) ⊎ ((y : A) × IsElement y (x ∷ xs) × (f y ≡ max (f x) (greatest f xs)))
     go r = pick (larger (f x) (greatest f xs)) r
 
 pub greatest-more : {A : Type 0} (f h : A → ℕ) (xs : List A) → ((x : A) → f x ≤ h x) → greatest f xs ≤ greatest h xs

@@ -2,27 +2,27 @@
 use Rattle.std.proofs.Common.{◌≡◌, ◌⊎◌, ℕ, suc, zero, ◌+◌, ◌<◌, ◌≤◌, ◌==◌, Bool, true, false, cond, not, IsTrue, List, [], ◌∷◌, ◌++◌, length, refl, sym}
 use Rattle.std.proofs.Common.{ap, ◌∙◌, subst, inl, inr, arith, eqb-true, eq-eqb, ltb-true, lt-ltb}
 use Rattle.std.proofs.lemmas.Bool.{false≢true}
-use Rattle.swap_base.specs.Lists.{IsIn, greatest}
+use Rattle.swap_base.specs.Lists.{IsElement, greatest}
 use Rattle.swap_base.proofs.Lists.{and_parts, and_both, greatest-in, greatest-below, in_range}
 use Rattle.swap_digraph.specs.declared.arc_ends.ArcEnds.{ArcEnds}
 use Rattle.swap_digraph.specs.Value.{Graph}
 use Rattle.swap_digraph.specs.Graph.{parties, is_path, has_arc, is_listed, last_is, are_followers, IsFeedback, IsHeight}
 use Rattle.leader_check.specs.Followers.{is_follower}
-use Rattle.leader_check.specs.Levels.{most_before, following_level, bounded_level, party_level, latest_height, IsLevel}
+use Rattle.leader_check.specs.Levels.{greatest_prior_value, following_level, bounded_level, party_level, greatest_level, IsLevel}
 use Rattle.leader_check.specs.Laws.{GreatestLevelIsHeight}
 use Rattle.leader_check.proofs.Followers.{follower_parts, follower_from, parse_arc, arc_from, greatest-reached, greatest-more}
 use Rattle.swap_digraph.proofs.Paths.{path_step, path_below, path_length, path_snoc, suffix_from, followers-append}
 
-pub before-arc : (g : Graph) (f : ℕ → ℕ) (u v : ℕ) → has_arc g u v ≡ true → f u ≤ most_before g f v
-unfolding most_before
+pub before-arc : (g : Graph) (f : ℕ → ℕ) (u v : ℕ) → has_arc g u v ≡ true → f u ≤ greatest_prior_value g f v
+unfolding greatest_prior_value
 before-arc g f u v e =
     let a = parse_arc g u v e in
     let m = greatest-in (λ b. cond (b.to == v) (f b.from) 0) g.arcs a.arc a.among in
     let k : cond (a.arc.to == v) (f a.arc.from) 0 ≡ f u = ap (λ b. cond b (f a.arc.from) 0) (eq-eqb a.arc.to v a.to) ∙ ap f a.from in
     omega (arith, m, k)
 
-before-more : (g : Graph) (f h : ℕ → ℕ) (v : ℕ) → ((u : ℕ) → f u ≤ h u) → most_before g f v ≤ most_before g h v
-unfolding most_before
+before-more : (g : Graph) (f h : ℕ → ℕ) (v : ℕ) → ((u : ℕ) → f u ≤ h u) → greatest_prior_value g f v ≤ greatest_prior_value g h v
+unfolding greatest_prior_value
 before-more g f h v le = greatest-more (λ b. cond (b.to == v) (f b.from) 0) (λ b. cond (b.to == v) (h b.from) 0) g.arcs (λ a. go (a.to == v) a.from)
   where
     go : (b : Bool) (u : ℕ) → cond b (f u) 0 ≤ cond b (h u) 0
@@ -30,35 +30,35 @@ before-more g f h v le = greatest-more (λ b. cond (b.to == v) (f b.from) 0) (λ
     go false u = omega arith
 
 -- the greatest value before v is that of some vertex, where it is not 0
-before-reached : (g : Graph) (f : ℕ → ℕ) (v : ℕ) → (most_before g f v ≡ 0) ⊎ ((u : ℕ) × (has_arc g u v ≡ true) × (f u ≡ most_before g f v))
-unfolding most_before
+before-reached : (g : Graph) (f : ℕ → ℕ) (v : ℕ) → (greatest_prior_value g f v ≡ 0) ⊎ ((u : ℕ) × (has_arc g u v ≡ true) × (f u ≡ greatest_prior_value g f v))
+unfolding greatest_prior_value
 before-reached g f v = go (greatest-reached (λ b. cond (b.to == v) (f b.from) 0) g.arcs)
   where
-    by_test : (a : ArcEnds) (b : Bool) (m : ℕ) → IsIn a g.arcs → (a.to == v) ≡ b → cond b (f a.from) 0 ≡ m
+    by_test : (a : ArcEnds) (b : Bool) (m : ℕ) → IsElement a g.arcs → (a.to == v) ≡ b → cond b (f a.from) 0 ≡ m
         → (m ≡ 0) ⊎ ((u : ℕ) × (has_arc g u v ≡ true) × (f u ≡ m))
     by_test a true m i t e = inr (a.from, arc_from g a a.from v i refl (eqb-true a.to v t), e)
     by_test a false m i t e = inl (sym e)
 
     go : (greatest (λ b. cond (b.to == v) (f b.from) 0) g.arcs ≡ 0)
-        ⊎ ((a : ArcEnds) × IsIn a g.arcs × (cond (a.to == v) (f a.from) 0 ≡ greatest (λ b. cond (b.to == v) (f b.from) 0) g.arcs))
+        ⊎ ((a : ArcEnds) × IsElement a g.arcs × (cond (a.to == v) (f a.from) 0 ≡ greatest (λ b. cond (b.to == v) (f b.from) 0) g.arcs))
         → (greatest (λ b. cond (b.to == v) (f b.from) 0) g.arcs ≡ 0)
         ⊎ ((u : ℕ) × (has_arc g u v ≡ true) × (f u ≡ greatest (λ b. cond (b.to == v) (f b.from) 0) g.arcs))
     go (inl z) = inl z
     go (inr a) = by_test a.0 (a.0.to == v) (greatest (λ b. cond (b.to == v) (f b.from) 0) g.arcs) a.1 refl a.2
 
-pub after-follower : (g : Graph) (ls : List ℕ) (f : ℕ → ℕ) (v : ℕ) → is_follower g ls v ≡ true → following_level g ls f v ≡ most_before g f v + 1
+pub after-follower : (g : Graph) (ls : List ℕ) (f : ℕ → ℕ) (v : ℕ) → is_follower g ls v ≡ true → following_level g ls f v ≡ greatest_prior_value g f v + 1
 unfolding following_level
-after-follower g ls f v e = ap (λ b. cond b (most_before g f v + 1) 0) e
+after-follower g ls f v e = ap (λ b. cond b (greatest_prior_value g f v + 1) 0) e
 
 pub after-other : (g : Graph) (ls : List ℕ) (f : ℕ → ℕ) (v : ℕ) → is_follower g ls v ≡ false → following_level g ls f v ≡ 0
 unfolding following_level
-after-other g ls f v e = ap (λ b. cond b (most_before g f v + 1) 0) e
+after-other g ls f v e = ap (λ b. cond b (greatest_prior_value g f v + 1) 0) e
 
 after-more : (g : Graph) (ls : List ℕ) (f h : ℕ → ℕ) (v : ℕ) → ((u : ℕ) → f u ≤ h u) → following_level g ls f v ≤ following_level g ls h v
 unfolding following_level
 after-more g ls f h v le = go (is_follower g ls v) (before-more g f h v le)
   where
-    go : (b : Bool) → most_before g f v ≤ most_before g h v → cond b (most_before g f v + 1) 0 ≤ cond b (most_before g h v + 1) 0
+    go : (b : Bool) → greatest_prior_value g f v ≤ greatest_prior_value g h v → cond b (greatest_prior_value g f v + 1) 0 ≤ cond b (greatest_prior_value g h v + 1) 0
     go true k = omega arith
     go false k = omega arith
 
@@ -82,8 +82,8 @@ within-grows g ls k (suc m) v h = go (le_split k m h) (within-grows g ls k m v)
     go (inl l) below = let a = below l in let b = within-more g ls m v in omega (arith, a, b)
     go (inr e) below = rw e (omega arith)
 
-pub before-below : (g : Graph) (f : ℕ → ℕ) (v m : ℕ) → ((u : ℕ) → f u ≤ m) → most_before g f v ≤ m
-unfolding most_before
+pub before-below : (g : Graph) (f : ℕ → ℕ) (v m : ℕ) → ((u : ℕ) → f u ≤ m) → greatest_prior_value g f v ≤ m
+unfolding greatest_prior_value
 before-below g f v m le = greatest-below (λ b. cond (b.to == v) (f b.from) 0) g.arcs m (λ a i. go (a.to == v) a.from)
   where
     go : (b : Bool) (u : ℕ) → cond b (f u) 0 ≤ m
@@ -94,7 +94,7 @@ after-below : (g : Graph) (ls : List ℕ) (f : ℕ → ℕ) (v m : ℕ) → ((u 
 unfolding following_level
 after-below g ls f v m le = go (is_follower g ls v) (before-below g f v m le)
   where
-    go : (b : Bool) → most_before g f v ≤ m → cond b (most_before g f v + 1) 0 ≤ suc m
+    go : (b : Bool) → greatest_prior_value g f v ≤ m → cond b (greatest_prior_value g f v + 1) 0 ≤ suc m
     go true k = omega arith
     go false k = omega arith
 
@@ -116,7 +116,7 @@ rises g ls u (w ∷ q) v m t e last o s =
     let l = and_parts (not (is_listed w ls)) (are_followers ls q) k.1 in
     let r = rises g ls w q v (suc m) t p.rest last k.1 (omega arith) in
     let follows = follower_from g ls w (path_below g (w ∷ q) w p.rest (inl refl)) l.0 in
-    let x : bounded_level g ls (suc m) w ≡ most_before g (bounded_level g ls m) w + 1 =
+    let x : bounded_level g ls (suc m) w ≡ greatest_prior_value g (bounded_level g ls m) w + 1 =
     within-suc g ls m w ∙ after-follower g ls (bounded_level g ls m) w follows in
     let y = before-arc g (bounded_level g ls m) u w p.arc in
     omega (arith, r, x, y)
@@ -128,7 +128,7 @@ level-most g ls v [] e last o = absurd (cc e)
 level-most g ls v (u ∷ q) e last o =
     let k = and_parts (not (is_listed u ls)) (are_followers ls q) o in
     let follows = follower_from g ls u (path_below g (u ∷ q) u e (inl refl)) k.0 in
-    let x : bounded_level g ls 1 u ≡ most_before g (bounded_level g ls 0) u + 1 = within-suc g ls 0 u ∙ after-follower g ls (bounded_level g ls 0) u follows in
+    let x : bounded_level g ls 1 u ≡ greatest_prior_value g (bounded_level g ls 0) u + 1 = within-suc g ls 0 u ∙ after-follower g ls (bounded_level g ls 0) u follows in
     let r = rises g ls u q v 1 (1 + length q) e last o refl in
     let n = path_length g (u ∷ q) e in
     let m = within-grows g ls (1 + length q) g.n v (omega arith) in
@@ -155,7 +155,7 @@ module _ (g : Graph) (ls : List ℕ) (feedback : IsFeedback g ls) where
   further : (u v k : ℕ) → is_follower g ls v ≡ true → has_arc g u v ≡ true → Run u k → Run v (k + 1)
   further u v k e a r =
       let f = follower_parts g ls v e in
-      let fresh : IsIn v r.run → ⊥ = λ i.
+      let fresh : IsElement v r.run → ⊥ = λ i.
       let s = suffix_from g ls r.run v u r.path r.last r.followers i in
       false≢true (sym (feedback v u s.part s.between s.followers) ∙ a) in
       let p = path_snoc g r.run u v r.path r.last a f.0 fresh in
@@ -180,15 +180,15 @@ module _ (g : Graph) (ls : List ℕ) (feedback : IsFeedback g ls) where
   within-reached (suc k) v = go (within-reached k) (is_follower g ls v) refl
     where
       by_before : ((u : ℕ) → (bounded_level g ls k u ≡ 0) ⊎ Run u (bounded_level g ls k u)) → is_follower g ls v ≡ true
-          → (most_before g (bounded_level g ls k) v ≡ 0) ⊎ ((u : ℕ) × (has_arc g u v ≡ true)
-          × (bounded_level g ls k u ≡ most_before g (bounded_level g ls k) v)) → Run v (most_before g (bounded_level g ls k) v + 1)
+          → (greatest_prior_value g (bounded_level g ls k) v ≡ 0) ⊎ ((u : ℕ) × (has_arc g u v ≡ true)
+          × (bounded_level g ls k u ≡ greatest_prior_value g (bounded_level g ls k) v)) → Run v (greatest_prior_value g (bounded_level g ls k) v + 1)
       by_before rest e (inl z) = rw z (alone v e)
       by_before rest e (inr r) = by_run r.0 r.1 r.2 (rest r.0)
         where
-          by_run : (u : ℕ) → has_arc g u v ≡ true → bounded_level g ls k u ≡ most_before g (bounded_level g ls k) v
-              → (bounded_level g ls k u ≡ 0) ⊎ Run u (bounded_level g ls k u) → Run v (most_before g (bounded_level g ls k) v + 1)
-          by_run u a s (inl z) = let y : most_before g (bounded_level g ls k) v ≡ 0 = sym s ∙ z in rw y (alone v e)
-          by_run u a s (inr q) = further u v (most_before g (bounded_level g ls k) v) e a (subst (Run u) s q)
+          by_run : (u : ℕ) → has_arc g u v ≡ true → bounded_level g ls k u ≡ greatest_prior_value g (bounded_level g ls k) v
+              → (bounded_level g ls k u ≡ 0) ⊎ Run u (bounded_level g ls k u) → Run v (greatest_prior_value g (bounded_level g ls k) v + 1)
+          by_run u a s (inl z) = let y : greatest_prior_value g (bounded_level g ls k) v ≡ 0 = sym s ∙ z in rw y (alone v e)
+          by_run u a s (inr q) = further u v (greatest_prior_value g (bounded_level g ls k) v) e a (subst (Run u) s q)
 
       go : ((u : ℕ) → (bounded_level g ls k u ≡ 0) ⊎ Run u (bounded_level g ls k u)) → (b : Bool) → is_follower g ls v ≡ b
           → (following_level g ls (bounded_level g ls k) v ≡ 0) ⊎ Run v (following_level g ls (bounded_level g ls k) v)
@@ -211,8 +211,8 @@ module _ (g : Graph) (ls : List ℕ) (feedback : IsFeedback g ls) where
   last_run u [] e = (u, eq-eqb u u refl, ltb-true u g.n e)
   last_run u (w ∷ p) e = let s = path_step g u w p e in last_run w p s.rest
 
-  height-most : (p : List ℕ) → is_path g p ≡ true → are_followers ls p ≡ true → length p ≤ latest_height g ls
-  unfolding latest_height
+  height-most : (p : List ℕ) → is_path g p ≡ true → are_followers ls p ≡ true → length p ≤ greatest_level g ls
+  unfolding greatest_level
   height-most [] e o = absurd (cc e)
   height-most (u ∷ p) e o =
       let l = last_run u p e in
@@ -220,8 +220,8 @@ module _ (g : Graph) (ls : List ℕ) (feedback : IsFeedback g ls) where
       let b = greatest-in (party_level g ls) (parties g) l.0 (in_range l.0 g.n l.2) in
       omega (arith, a, b)
 
-  height-reached : (latest_height g ls ≡ 0) ⊎ ((p : List ℕ) × IsTrue (is_path g p) × IsTrue (are_followers ls p) × (length p ≡ latest_height g ls))
-  unfolding latest_height
+  height-reached : (greatest_level g ls ≡ 0) ⊎ ((p : List ℕ) × IsTrue (is_path g p) × IsTrue (are_followers ls p) × (length p ≡ greatest_level g ls))
+  unfolding greatest_level
   height-reached = go (greatest-reached (party_level g ls) (parties g))
     where
       by_run : (v h : ℕ) → party_level g ls v ≡ h → (party_level g ls v ≡ 0) ⊎ Run v (party_level g ls v)
@@ -229,13 +229,13 @@ module _ (g : Graph) (ls : List ℕ) (feedback : IsFeedback g ls) where
       by_run v h e (inl z) = inl (sym e ∙ z)
       by_run v h e (inr r) = inr (r.run, r.path, r.followers, r.size ∙ e)
 
-      go : (greatest (party_level g ls) (parties g) ≡ 0) ⊎ ((v : ℕ) × IsIn v (parties g) × (party_level g ls v ≡ greatest (party_level g ls) (parties g)))
+      go : (greatest (party_level g ls) (parties g) ≡ 0) ⊎ ((v : ℕ) × IsElement v (parties g) × (party_level g ls v ≡ greatest (party_level g ls) (parties g)))
           → (greatest (party_level g ls) (parties g) ≡ 0) ⊎ ((p : List ℕ) × IsTrue (is_path g p) × IsTrue (are_followers ls p)
           × (length p ≡ greatest (party_level g ls) (parties g)))
       go (inl z) = inl z
       go (inr r) = by_run r.0 (greatest (party_level g ls) (parties g)) r.2 (level-reached r.0)
 
-  pub is_height : IsHeight g ls (latest_height g ls)
+  pub is_height : IsHeight g ls (greatest_level g ls)
   is_height = record { reached = height-reached; most = height-most }
 
 pub greatest_level_is_height : GreatestLevelIsHeight

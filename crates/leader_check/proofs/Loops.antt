@@ -3,7 +3,7 @@ use Rattle.std.proofs.Common.{◌≡◌, ℕ, ◌+◌, ◌-◌, ◌<◌, ◌≤�
 use Rattle.std.proofs.Common.{sym, ap, ◌∙◌, arith, add-one, drop-cons}
 use Rattle.std.specs.List.{range_with_len}
 use Rattle.std.proofs.lemmas.List.{nil_from_length, length-drop}
-use Rattle.swap_base.specs.Lists.{first_of, greatest}
+use Rattle.swap_base.specs.Lists.{first_given_answer, greatest}
 use Rattle.swap_base.proofs.Lists.{range-next, range-none, or_else-skips, or_else-stays}
 
 pub drop-next : {A : Type 0} (xs : List A) (i : ℕ) (d : A) → i < length xs → drop i xs ≡ get_or xs i d ∷ drop (i + 1) xs
@@ -31,14 +31,14 @@ greatest_none m = omega arith
 -- The first answer along a range of numbers.
 
 pub first_goes_on : {B : Type 0} (f : ℕ → Option B) (a n : ℕ) (total : Option B) → a < n → is_some (f a) ≡ false
-    → first_of f (range_with_len a (n - a)) ≡ total → first_of f (range_with_len (a + 1) (n - (a + 1))) ≡ total
+    → first_given_answer f (range_with_len a (n - a)) ≡ total → first_given_answer f (range_with_len (a + 1) (n - (a + 1))) ≡ total
 first_goes_on f a n total lt none so_far =
-    sym (ap (first_of f) (range-next a n lt) ∙ or_else-skips (f a) (first_of f (range_with_len (a + 1) (n - (a + 1)))) none) ∙ so_far
+    sym (ap (first_given_answer f) (range-next a n lt) ∙ or_else-skips (f a) (first_given_answer f (range_with_len (a + 1) (n - (a + 1)))) none) ∙ so_far
 
 pub first_is_found : {B : Type 0} (f : ℕ → Option B) (a n : ℕ) (total : Option B) → a < n → is_some (f a) ≡ true
-    → first_of f (range_with_len a (n - a)) ≡ total → f a ≡ total
+    → first_given_answer f (range_with_len a (n - a)) ≡ total → f a ≡ total
 first_is_found f a n total lt some so_far =
-    sym (ap (first_of f) (range-next a n lt) ∙ or_else-stays (f a) (first_of f (range_with_len (a + 1) (n - (a + 1)))) some) ∙ so_far
+    sym (ap (first_given_answer f) (range-next a n lt) ∙ or_else-stays (f a) (first_given_answer f (range_with_len (a + 1) (n - (a + 1)))) some) ∙ so_far
 
-pub first_is_none : {B : Type 0} (f : ℕ → Option B) (a n : ℕ) (total : Option B) → n ≤ a → first_of f (range_with_len a (n - a)) ≡ total → None ≡ total
-first_is_none f a n total le so_far = sym (ap (first_of f) (range-none a n le)) ∙ so_far
+pub first_is_none : {B : Type 0} (f : ℕ → Option B) (a n : ℕ) (total : Option B) → n ≤ a → first_given_answer f (range_with_len a (n - a)) ≡ total → None ≡ total
+first_is_none f a n total le so_far = sym (ap (first_given_answer f) (range-none a n le)) ∙ so_far

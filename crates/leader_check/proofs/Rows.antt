@@ -7,13 +7,13 @@ use Rattle.std.specs.List.{range_with_len}
 use Rattle.std.proofs.lemmas.List.{get_or_past, get_or_read}
 use Rattle.std.proofs.lemmas.Nat.Bits.{bit_at-zero}
 use Rattle.std.proofs.lemmas.List.FromFn.{get_or-map-range_with_len, length-map-range_with_len}
-use Rattle.swap_base.specs.Lists.{or_else, first_of, greatest}
+use Rattle.swap_base.specs.Lists.{or_else, first_given_answer, greatest}
 use Rattle.swap_base.proofs.Lists.{below_or}
 use Rattle.swap_digraph.specs.Value.{Graph}
 use Rattle.swap_digraph.specs.Graph.{parties}
-use Rattle.leader_check.specs.Followers.{is_follower, at}
-use Rattle.leader_check.specs.Levels.{most_before, following_level, bounded_level, bounded_levels, party_level, latest_height}
-use Rattle.leader_check.specs.Cycles.{only_if, enters_led, first_step, walks, walk_of, shortest_cycle, traced_cycle, has_bit, has_row_bit}
+use Rattle.leader_check.specs.Followers.{is_follower, is_marked_place}
+use Rattle.leader_check.specs.Levels.{greatest_prior_value, following_level, bounded_level, bounded_levels, party_level, greatest_level}
+use Rattle.leader_check.specs.Cycles.{only_if, enters_led, first_step, walks, least_walk, shortest_cycle, traced_cycle, has_bit, has_row_bit}
 use Rattle.leader_check.specs.Cycles.{distance_cycle, TellsWalks}
 use Rattle.leader_check.specs.Cycles.{TellAllWalks}
 use Rattle.leader_check.proofs.Followers.{follower_parts}
@@ -54,7 +54,7 @@ walks-outside g ls v k u le = by_test (walks g ls v k u) (λ e. let m = (followe
     by_test true h = absurd (h refl)
     by_test false h = refl
 
-pub follows_at : (g : Graph) (ls : List ℕ) (follows : List Bool) → follows ≡ map (is_follower g ls) (parties g) → at follows ≡ is_follower g ls
+pub follows_at : (g : Graph) (ls : List ℕ) (follows : List Bool) → follows ≡ map (is_follower g ls) (parties g) → is_marked_place follows ≡ is_follower g ls
 follows_at g ls follows e = fun_ext (row_reads (is_follower g ls) g.n false follows (no_follower g ls) e)
 
 -- The rounds of levels.
@@ -68,14 +68,14 @@ levels_none g ls = go 0 g.n
     go a (suc n) = ap (λ xs. 0 ∷ xs) (go (a + 1) n)
 
 pub levels_next : (g : Graph) (ls : List ℕ) (k : ℕ) (follows : List Bool) (row next : List ℕ) → follows ≡ map (is_follower g ls) (parties g)
-    → row ≡ bounded_levels g ls k → next ≡ map (λ v. cond (at follows v) (most_before g (slice_index row) v + 1) 0) (parties g)
+    → row ≡ bounded_levels g ls k → next ≡ map (λ v. cond (is_marked_place follows v) (greatest_prior_value g (slice_index row) v + 1) 0) (parties g)
     → next ≡ bounded_levels g ls (k + 1)
 unfolding bounded_level following_level
 levels_next g ls k follows row next e is h =
     let s : k + 1 ≡ suc k = omega arith in
     let f : slice_index row ≡ bounded_level g ls k = fun_ext (row_reads (bounded_level g ls k) g.n 0 row (within-outside g ls k) is) in
-    h ∙ ap (λ (t : ℕ → Bool). map (λ v. cond (t v) (most_before g (slice_index row) v + 1) 0) (parties g)) (follows_at g ls follows e)
-    ∙ ap (λ (t : ℕ → ℕ). map (λ v. cond (is_follower g ls v) (most_before g t v + 1) 0) (parties g)) f ∙ ap (bounded_levels g ls) (sym s)
+    h ∙ ap (λ (t : ℕ → Bool). map (λ v. cond (t v) (greatest_prior_value g (slice_index row) v + 1) 0) (parties g)) (follows_at g ls follows e)
+    ∙ ap (λ (t : ℕ → ℕ). map (λ v. cond (is_follower g ls v) (greatest_prior_value g t v + 1) 0) (parties g)) f ∙ ap (bounded_levels g ls) (sym s)
 
 pub levels_low : (g : Graph) (ls : List ℕ) (k : ℕ) (row : List ℕ) → row ≡ bounded_levels g ls k → k ≤ 32 → (v : ℕ) → slice_index row v ≤ 32
 levels_low g ls k row e le v =
@@ -91,8 +91,8 @@ pub greatest-map : (f : ℕ → ℕ) (xs : List ℕ) → greatest (λ x. x) (map
 greatest-map f [] = refl
 greatest-map f (x ∷ xs) = ap (max (f x)) (greatest-map f xs)
 
-pub height_is : (g : Graph) (ls : List ℕ) (row : List ℕ) → row ≡ map (party_level g ls) (parties g) → greatest (λ x. x) row ≡ latest_height g ls
-unfolding latest_height
+pub height_is : (g : Graph) (ls : List ℕ) (row : List ℕ) → row ≡ map (party_level g ls) (parties g) → greatest (λ x. x) row ≡ greatest_level g ls
+unfolding greatest_level
 height_is g ls row e = ap (greatest (λ x. x)) e ∙ greatest-map (party_level g ls) (parties g)
 
 -- The rows of walks.
@@ -110,7 +110,7 @@ bits_are n v f row size outside inside u = go (below_or u n)
     go (inr le) = no_bit row v u (omega (arith, size)) ∙ sym (outside u le)
 
 pub walks_none : (g : Graph) (ls : List ℕ) (follows : List Bool) (row : List ℕ) → follows ≡ map (is_follower g ls) (parties g)
-    → length row ≡ length follows → ((v u : ℕ) → u < length follows → has_bit row v u ≡ (at follows u && (u == v))) → TellsWalks g ls 0 row
+    → length row ≡ length follows → ((v u : ℕ) → u < length follows → has_bit row v u ≡ (is_marked_place follows u && (u == v))) → TellsWalks g ls 0 row
 unfolding walks
 walks_none g ls follows row e size stays =
     let s = length-row (is_follower g ls) g.n follows e in
@@ -122,7 +122,7 @@ walks_none g ls follows row e size stays =
     }
 
 pub walks_next : (g : Graph) (ls : List ℕ) (k : ℕ) (follows : List Bool) (row next : List ℕ) → follows ≡ map (is_follower g ls) (parties g)
-    → TellsWalks g ls k row → length next ≡ g.n → ((v u : ℕ) → u < g.n → has_bit next v u ≡ (at follows u && enters_led g (has_bit row v) u))
+    → TellsWalks g ls k row → length next ≡ g.n → ((v u : ℕ) → u < g.n → has_bit next v u ≡ (is_marked_place follows u && enters_led g (has_bit row v) u))
     → TellsWalks g ls (k + 1) next
 unfolding walks
 walks_next g ls k follows row next e tells size leads =
@@ -187,26 +187,26 @@ rows_more g ls k row rows next e tell tells =
 pub rows_all : (g : Graph) (ls : List ℕ) (k : ℕ) (rows : List (List ℕ)) → k ≡ g.n → TellWalks g ls k rows → TellAllWalks g ls rows
 rows_all g ls k rows e tell = let s = tell.size in record { size = omega (arith, s); row = λ j le. tell.row j (omega arith) }
 
-pub same_walk : (g : Graph) (f h : ℕ → ℕ → Bool) (k u : ℕ) → ((j : ℕ) → j < k → f j ≡ h j) → walk_of g f k u ≡ walk_of g h k u
-unfolding walk_of
+pub same_walk : (g : Graph) (f h : ℕ → ℕ → Bool) (k u : ℕ) → ((j : ℕ) → j < k → f j ≡ h j) → least_walk g f k u ≡ least_walk g h k u
+unfolding least_walk
 same_walk g f h zero u e = refl
 same_walk g f h (suc k) u e =
-    ap (λ (t : ℕ → Bool). u ∷ walk_of g f k (first_step g t u)) (e k (omega arith))
+    ap (λ (t : ℕ → Bool). u ∷ least_walk g f k (first_step g t u)) (e k (omega arith))
     ∙ ap (λ (xs : List ℕ). u ∷ xs) (same_walk g f h k (first_step g (h k) u) (λ j lt. e j (omega arith)))
 
 same_cycle : (g : Graph) (f h : ℕ → ℕ → Bool) (v k : ℕ) → ((j : ℕ) → j ≤ k → f j ≡ h j) → distance_cycle g f v k ≡ distance_cycle g h v k
 same_cycle g f h v k e =
-    ap (λ (t : ℕ → Bool). only_if (t v) (walk_of g f k v)) (e k (omega arith))
+    ap (λ (t : ℕ → Bool). only_if (t v) (least_walk g f k v)) (e k (omega arith))
     ∙ ap (λ (xs : List ℕ). only_if (h k v) xs) (same_walk g f h k v (λ j lt. e j (omega arith)))
 
-first_same : {B : Type 0} (f h : ℕ → Option B) (a n : ℕ) → ((k : ℕ) → k < a + n → f k ≡ h k) → first_of f (range_with_len a n) ≡ first_of h (range_with_len a n)
+first_same : {B : Type 0} (f h : ℕ → Option B) (a n : ℕ) → ((k : ℕ) → k < a + n → f k ≡ h k) → first_given_answer f (range_with_len a n) ≡ first_given_answer h (range_with_len a n)
 first_same f h a zero e = refl
 first_same {B = B} f h a (suc n) e =
-    ap (λ (o : Option B). or_else o (first_of f (range_with_len (a + 1) n))) (e a (omega arith))
+    ap (λ (o : Option B). or_else o (first_given_answer f (range_with_len (a + 1) n))) (e a (omega arith))
     ∙ ap (λ (o : Option B). or_else (h a) o) (first_same f h (a + 1) n (λ k lt. e k (omega arith)))
 
 pub cycle_is_from : (g : Graph) (ls : List ℕ) (rows : List (List ℕ)) (v : ℕ) → TellAllWalks g ls rows
-    → first_of (distance_cycle g (has_row_bit rows v) v) (range_with_len 1 g.n) ≡ traced_cycle g ls v
+    → first_given_answer (distance_cycle g (has_row_bit rows v) v) (range_with_len 1 g.n) ≡ traced_cycle g ls v
 unfolding traced_cycle
 cycle_is_from g ls rows v tell =
     first_same (distance_cycle g (has_row_bit rows v) v) (shortest_cycle g ls v) 1 g.n (λ k lt.
@@ -215,15 +215,15 @@ cycle_is_from g ls rows v tell =
 -- The loop that walks.
 
 pub walk_goes_on : (g : Graph) (f : ℕ → ℕ → Bool) (left u w : ℕ) (list total : List ℕ) → 0 < left → w ≡ first_step g (f (left - 1)) u
-    → list ++ walk_of g f left u ≡ total → (list ++ u ∷ []) ++ walk_of g f (left - 1) w ≡ total
-unfolding walk_of
+    → list ++ least_walk g f left u ≡ total → (list ++ u ∷ []) ++ least_walk g f (left - 1) w ≡ total
+unfolding least_walk
 walk_goes_on g f left u w list total some e so_far =
     let s : left ≡ suc (left - 1) = omega arith in
-    append_assoc list (u ∷ []) (walk_of g f (left - 1) w) ∙ ap (λ (x : ℕ). list ++ (u ∷ walk_of g f (left - 1) x)) e
-    ∙ sym (ap (λ (k : ℕ). list ++ walk_of g f k u) s) ∙ so_far
+    append_assoc list (u ∷ []) (least_walk g f (left - 1) w) ∙ ap (λ (x : ℕ). list ++ (u ∷ least_walk g f (left - 1) x)) e
+    ∙ sym (ap (λ (k : ℕ). list ++ least_walk g f k u) s) ∙ so_far
 
-pub walk_ends : (g : Graph) (f : ℕ → ℕ → Bool) (left u : ℕ) (list total : List ℕ) → left ≤ 0 → list ++ walk_of g f left u ≡ total → list ≡ total
-unfolding walk_of
+pub walk_ends : (g : Graph) (f : ℕ → ℕ → Bool) (left u : ℕ) (list total : List ℕ) → left ≤ 0 → list ++ least_walk g f left u ≡ total → list ≡ total
+unfolding least_walk
 walk_ends g f left u list total none so_far =
     let s : left ≡ 0 = omega arith in
-    sym (ap (λ (k : ℕ). list ++ walk_of g f k u) s ∙ append-nil list) ∙ so_far
+    sym (ap (λ (k : ℕ). list ++ least_walk g f k u) s ∙ append-nil list) ∙ so_far

@@ -2,14 +2,14 @@
 use Rattle.std.proofs.Common.{◌≡◌, ◌⊎◌, ℕ, suc, zero, ◌+◌, ◌<◌, ◌≤◌, ◌==◌, Bool, true, false, not, ◌&&◌, List, [], ◌∷◌, length, Option, Some, None}
 use Rattle.std.proofs.Common.{is_some, unwrap_or, refl, sym, ap, ◌∙◌, subst, inl, inr, arith, eqb-true, eq-eqb, lt-ltb}
 use Rattle.std.specs.List.{list_any, range_with_len}
-use Rattle.swap_base.specs.Lists.{or_else, first_of, IsIn}
-use Rattle.swap_base.proofs.Lists.{and_parts, and_both, any_at, list_any-in, in_from_moment, in_range, in_range_from, first_at, first_of-in}
+use Rattle.swap_base.specs.Lists.{or_else, first_given_answer, IsElement}
+use Rattle.swap_base.proofs.Lists.{and_parts, and_both, any_at, list_any-in, in_from_moment, in_range, in_range_from, first_at, first_given_answer-in}
 use Rattle.swap_base.proofs.Lists.{none_in, below_or}
 use Rattle.swap_digraph.specs.Value.{Graph}
 use Rattle.swap_digraph.specs.Graph.{parties, is_path, has_arc, is_listed, first_is, last_is, are_followers, IsConnectingPath, IsFeedback}
 use Rattle.leader_check.specs.Followers.{is_follower}
-use Rattle.leader_check.specs.Cycles.{only_if, enters_led, first_step, walks, walk_of, shortest_cycle, traced_cycle, follower_cycle, IsFollowerCycle}
-use Rattle.leader_check.specs.Cycles.{IsCycleThrough}
+use Rattle.leader_check.specs.Cycles.{only_if, enters_led, first_step, walks, least_walk, shortest_cycle, traced_cycle, follower_cycle, IsFollowerCycle}
+use Rattle.leader_check.specs.Cycles.{IsShortestFollowerCycle}
 use Rattle.leader_check.specs.Laws.{NoCycleIsFeedback}
 use Rattle.leader_check.proofs.Followers.{follower_parts, follower_from, parse_arc, arc_from}
 use Rattle.swap_digraph.proofs.Paths.{path_step, path_more, path_below, path_length, some_length}
@@ -26,8 +26,8 @@ pub record FirstIn {B : Type 0} (f : ℕ → Option B) (a m : ℕ) (y : B) : Typ
 at_or_after : (a j : ℕ) → a ≤ j → (j ≡ a) ⊎ (a + 1 ≤ j)
 at_or_after a j h = grind arith
 
-first_in_head : {B : Type 0} (f : ℕ → Option B) (a m : ℕ) (y : B) (o : Option B) → f a ≡ o → or_else o (first_of f (range_with_len (a + 1) m)) ≡ Some y
-    → (first_of f (range_with_len (a + 1) m) ≡ Some y → FirstIn f (a + 1) m y) → FirstIn f a (suc m) y
+first_in_head : {B : Type 0} (f : ℕ → Option B) (a m : ℕ) (y : B) (o : Option B) → f a ≡ o → or_else o (first_given_answer f (range_with_len (a + 1) m)) ≡ Some y
+    → (first_given_answer f (range_with_len (a + 1) m) ≡ Some y → FirstIn f (a + 1) m y) → FirstIn f a (suc m) y
 first_in_head f a m y None h e rest =
     let r = rest e in
     let l = r.from in
@@ -41,7 +41,7 @@ first_in_head f a m y None h e rest =
     }
 first_in_head f a m y (Some z) h e rest = record { now = a; from = omega arith; to = omega arith; gives = h ∙ e; below = λ j from to. absurd (omega arith) }
 
-pub first_in : {B : Type 0} (f : ℕ → Option B) (a m : ℕ) (y : B) → first_of f (range_with_len a m) ≡ Some y → FirstIn f a m y
+pub first_in : {B : Type 0} (f : ℕ → Option B) (a m : ℕ) (y : B) → first_given_answer f (range_with_len a m) ≡ Some y → FirstIn f a m y
 first_in f a zero y e = absurd (cc e)
 first_in f a (suc m) y e = first_in_head f a m y (f a) refl e (first_in f (a + 1) m y)
 
@@ -80,7 +80,7 @@ module _ (g : Graph) (ls : List ℕ) where
         follows = p.0;
         next = m.now.to;
         arc =
-            arc_from g m.now u m.now.to (subst (λ xs. IsIn m.now xs) (sym m.stands.1) (in_from_moment m.past m.now m.stands.0))
+            arc_from g m.now u m.now.to (subst (λ xs. IsElement m.now xs) (sym m.stands.1) (in_from_moment m.past m.now m.stands.0))
             (eqb-true m.now.from u q.0) refl;
         rest = q.1;
       }
@@ -113,7 +113,7 @@ module _ (g : Graph) (ls : List ℕ) where
     pub arc : has_arc g u s ≡ true
     pub holds : f s ≡ true
 
-  least_number : (f : ℕ → Bool) (u : ℕ) (o : Option ℕ) → first_of (λ w. only_if (has_arc g u w && f w) w) (parties g) ≡ o → is_some o ≡ true
+  least_number : (f : ℕ → Bool) (u : ℕ) (o : Option ℕ) → first_given_answer (λ w. only_if (has_arc g u w && f w) w) (parties g) ≡ o → is_some o ≡ true
       → Least f u (unwrap_or o 0)
   least_number f u None e s = absurd (cc s)
   least_number f u (Some y) e s =
@@ -125,8 +125,8 @@ module _ (g : Graph) (ls : List ℕ) where
   first_step-is : (f : ℕ → Bool) (u w : ℕ) → w < g.n → has_arc g u w ≡ true → f w ≡ true → Least f u (first_step g f u)
   unfolding first_step
   first_step-is f u w b a h =
-      least_number f u (first_of (λ x. only_if (has_arc g u x && f x) x) (parties g)) refl
-      (first_of-in (λ x. only_if (has_arc g u x && f x) x) (parties g) w w (in_range w g.n b) (ap (λ t. only_if t w) (and_both (has_arc g u w) (f w) a h)))
+      least_number f u (first_given_answer (λ x. only_if (has_arc g u x && f x) x) (parties g)) refl
+      (first_given_answer-in (λ x. only_if (has_arc g u x && f x) x) (parties g) w w (in_range w g.n b) (ap (λ t. only_if t w) (and_both (has_arc g u w) (f w) a h)))
 
   onward : (v k u : ℕ) → walks g ls v (suc k) u ≡ true → Least (walks g ls v k) u (first_step g (walks g ls v k) u)
   onward v k u e =
@@ -143,8 +143,8 @@ module _ (g : Graph) (ls : List ℕ) where
     pub to : walks g ls x before u ≡ true
     pub on : walks g ls v after x ≡ true
 
-  member : (v k u x : ℕ) → walks g ls v k u ≡ true → IsIn x (walk_of g (walks g ls v) k u) → Between v u x k
-  unfolding walk_of
+  member : (v k u x : ℕ) → walks g ls v k u ≡ true → IsElement x (least_walk g (walks g ls v) k u) → Between v u x k
+  unfolding least_walk
   member v zero u x e i = absurd i
   member v (suc k) u x e (inl q) = record {
     before = 0;
@@ -180,8 +180,8 @@ module _ (g : Graph) (ls : List ℕ) where
   abbrev Shortest : ℕ → ℕ → ℕ → Type 0
   Shortest v k u = (j : ℕ) → 1 ≤ j → j < k → walks g ls v j u ≡ true → ⊥
 
-  chain : (v k u : ℕ) → walks g ls v (suc k) u ≡ true → Shortest v (suc k) u → Chain v u (walk_of g (walks g ls v) (suc k) u)
-  unfolding walk_of
+  chain : (v k u : ℕ) → walks g ls v (suc k) u ≡ true → Shortest v (suc k) u → Chain v u (least_walk g (walks g ls v) (suc k) u)
+  unfolding least_walk
   chain v zero u e short =
       let o = walks-suc v zero u e in
       let f = follower_parts g ls u o.follows in
@@ -199,17 +199,17 @@ module _ (g : Graph) (ls : List ℕ) where
       let f = follower_parts g ls u follows in
       let s = first_step g (walks g ls v (suc k)) u in
       let c = chain v k s l.holds (λ j low below w. short (suc j) (omega arith) (omega arith) (walks-step v j u s follows l.arc w)) in
-      let fresh : IsIn u (walk_of g (walks g ls v) (suc k) s) → ⊥ = λ i.
+      let fresh : IsElement u (least_walk g (walks g ls v) (suc k) s) → ⊥ = λ i.
       let b = member v (suc k) s u l.holds i in
       let q = b.sum in
       short b.after b.some (omega arith) b.on in
       record {
-        path = path_more g u s (walk_of g (walks g ls v) k (first_step g (walks g ls v k) s)) f.0 fresh l.arc c.path;
+        path = path_more g u s (least_walk g (walks g ls v) k (first_step g (walks g ls v k) s)) f.0 fresh l.arc c.path;
         first = eq-eqb u u refl;
         end = c.end;
         last = c.last;
         closes = c.closes;
-        followers = and_both (not (is_listed u ls)) (are_followers ls (walk_of g (walks g ls v) (suc k) s)) f.1 c.followers;
+        followers = and_both (not (is_listed u ls)) (are_followers ls (least_walk g (walks g ls v) (suc k) s)) f.1 c.followers;
       }
 
   -- The cycle that is shown.
@@ -220,14 +220,14 @@ module _ (g : Graph) (ls : List ℕ) where
     pub low : 1 ≤ size
     pub high : size ≤ g.n
     pub walk : walks g ls v size v ≡ true
-    pub is : walk_of g (walks g ls v) size v ≡ c
+    pub is : least_walk g (walks g ls v) size v ≡ c
     pub shortest : Shortest v size v
 
   pub closed_from : (v : ℕ) (c : List ℕ) → traced_cycle g ls v ≡ Some c → Closed v c
   unfolding traced_cycle
   closed_from v c e =
       let m = first_in (shortest_cycle g ls v) 1 g.n c e in
-      let k = only_if-some (walks g ls v m.now v) (walk_of g (walks g ls v) m.now v) c m.gives in
+      let k = only_if-some (walks g ls v m.now v) (least_walk g (walks g ls v) m.now v) c m.gives in
       let t = m.to in
       record {
         size = m.now;
@@ -236,23 +236,23 @@ module _ (g : Graph) (ls : List ℕ) where
         walk = k.0;
         is = k.1;
         shortest =
-            λ j low below w. not_both (walks g ls v j v) (walk_of g (walks g ls v) j v) w (m.below j low below);
+            λ j low below w. not_both (walks g ls v j v) (least_walk g (walks g ls v) j v) w (m.below j low below);
       }
 
   -- a closed walk from v is found
   walk_found : (v k : ℕ) → 1 ≤ k → k ≤ g.n → walks g ls v k v ≡ true → traced_cycle g ls v ≡ None → ⊥
   unfolding traced_cycle
   walk_found v k low high w e =
-      not_both (walks g ls v k v) (walk_of g (walks g ls v) k v) w
+      not_both (walks g ls v k v) (least_walk g (walks g ls v) k v) w
       (none_in (shortest_cycle g ls v) (range_with_len 1 g.n) k e (in_range_from 1 k g.n low (omega arith)))
 
-  least_first : (v : ℕ) (c : List ℕ) → ((j : ℕ) → 0 ≤ j → j < v → traced_cycle g ls j ≡ None) → Closed v c → (x : ℕ) → IsIn x c → v ≤ x
+  least_first : (v : ℕ) (c : List ℕ) → ((j : ℕ) → 0 ≤ j → j < v → traced_cycle g ls j ≡ None) → Closed v c → (x : ℕ) → IsElement x c → v ≤ x
   least_first v c none k x i = go (below_or x v)
     where
       go : (x < v) ⊎ (v ≤ x) → v ≤ x
       go (inr h) = h
       go (inl h) =
-          let b = member v k.size v x k.walk (subst (λ p. IsIn x p) (sym k.is) i) in
+          let b = member v k.size v x k.walk (subst (λ p. IsElement x p) (sym k.is) i) in
           let s = b.sum in
           absurd (walk_found x k.size k.low k.high (walks-join v x b.after b.before k.size x (omega arith) b.on b.to) (none x (omega arith) h))
 
@@ -260,7 +260,7 @@ module _ (g : Graph) (ls : List ℕ) where
   cycle_by_size v zero c none k s = let l = k.low in absurd (omega arith)
   cycle_by_size v (suc m) c none k s =
       let r = chain v m v (ap (λ j. walks g ls v j v) (sym s) ∙ k.walk) (λ j low below. k.shortest j low (omega arith)) in
-      let e : walk_of g (walks g ls v) (suc m) v ≡ c = ap (λ j. walk_of g (walks g ls v) j v) (sym s) ∙ k.is in
+      let e : least_walk g (walks g ls v) (suc m) v ≡ c = ap (λ j. least_walk g (walks g ls v) j v) (sym s) ∙ k.is in
       let h : Chain v v c = subst (Chain v v) e r in
       record { first = v; last = h.end; path = (h.path, h.first, h.last); followers = h.followers; closes = h.closes; least = least_first v c none k }
 
@@ -317,8 +317,8 @@ module _ (g : Graph) (ls : List ℕ) where
 
   -- A cycle through a given vertex.
 
-  walk_length : (f : ℕ → ℕ → Bool) (k u : ℕ) → length (walk_of g f k u) ≡ k
-  unfolding walk_of
+  walk_length : (f : ℕ → ℕ → Bool) (k u : ℕ) → length (least_walk g f k u) ≡ k
+  unfolding least_walk
   walk_length f zero u = refl
   walk_length f (suc k) u = ap (λ (n : ℕ). suc n) (walk_length f k (first_step g (f k) u))
 
@@ -331,11 +331,11 @@ module _ (g : Graph) (ls : List ℕ) where
       subst (λ (y : ℕ). walks g ls y (suc (length q)) y ≡ true) same
       (path_walks x q end x b.0 b.2 o (ap (has_arc g end) same ∙ a) (follower_from g ls x below k.0))
 
-  through_by_size : (v m : ℕ) (c : List ℕ) → (k : Closed v c) → k.size ≡ m → IsCycleThrough g ls v c
+  through_by_size : (v m : ℕ) (c : List ℕ) → (k : Closed v c) → k.size ≡ m → IsShortestFollowerCycle g ls v c
   through_by_size v zero c k s = let l = k.low in absurd (omega arith)
   through_by_size v (suc m) c k s =
       let r = chain v m v (ap (λ j. walks g ls v j v) (sym s) ∙ k.walk) (λ j low below. k.shortest j low (omega arith)) in
-      let e : walk_of g (walks g ls v) (suc m) v ≡ c = ap (λ j. walk_of g (walks g ls v) j v) (sym s) ∙ k.is in
+      let e : least_walk g (walks g ls v) (suc m) v ≡ c = ap (λ j. least_walk g (walks g ls v) j v) (sym s) ∙ k.is in
       let h : Chain v v c = subst (Chain v v) e r in
       let long : length c ≡ k.size = ap length (sym k.is) ∙ walk_length (walks g ls v) k.size v in
       record {
@@ -351,13 +351,14 @@ module _ (g : Graph) (ls : List ℕ) where
       no_shorter other end long b o a (inl lt) = absurd (k.shortest (length other) (some_length g other b.0) lt (cycle_walks v end other b o a))
       no_shorter other end long b o a (inr le) = omega (arith, le, long)
 
-  pub through : (v : ℕ) (c : List ℕ) → traced_cycle g ls v ≡ Some c → IsCycleThrough g ls v c
+  pub through : (v : ℕ) (c : List ℕ) → traced_cycle g ls v ≡ Some c → IsShortestFollowerCycle g ls v c
   through v c e = let k = closed_from v c e in through_by_size v k.size c k refl
 
   pub none_through : (v end : ℕ) (p : List ℕ) → traced_cycle g ls v ≡ None → IsConnectingPath g v end p → are_followers ls p ≡ true → has_arc g end v ≡ true → ⊥
   none_through v end p none b o a = walk_found v (length p) (some_length g p b.0) (path_length g p b.0) (cycle_walks v end p b o a) none
 
-  -- A cycle that meets a vertex goes through it: from its first vertex on to v, and from v on to its end.
+  -- A cycle that meets a vertex goes through it: from its first vertex on to v, and from v on to
+  -- its end.
   record Meets (v u w : ℕ) (size : ℕ) : Type 0 where
     pub before : ℕ
     pub after : List ℕ
@@ -367,7 +368,7 @@ module _ (g : Graph) (ls : List ℕ) where
     pub followers : are_followers ls (v ∷ after) ≡ true
     pub sum : before + suc (length after) ≡ size
 
-  meets : (v u w : ℕ) (q : List ℕ) → is_path g (u ∷ q) ≡ true → last_is w (u ∷ q) ≡ true → are_followers ls (u ∷ q) ≡ true → IsIn v (u ∷ q)
+  meets : (v u w : ℕ) (q : List ℕ) → is_path g (u ∷ q) ≡ true → last_is w (u ∷ q) ≡ true → are_followers ls (u ∷ q) ≡ true → IsElement v (u ∷ q)
       → Meets v u w (suc (length q))
   meets v u w q e last o (inl s) =
       let k = and_parts (not (is_listed u ls)) (are_followers ls q) o in
@@ -398,7 +399,7 @@ module _ (g : Graph) (ls : List ℕ) where
       }
 
   pub none_meets : (v u w : ℕ) (p : List ℕ) → traced_cycle g ls v ≡ None → IsConnectingPath g u w p → are_followers ls p ≡ true → has_arc g w u ≡ true
-      → IsIn v p → ⊥
+      → IsElement v p → ⊥
   none_meets v u w [] none b o a i = absurd (cc b.0)
   none_meets v u w (x ∷ q) none b o a i =
       let same : x ≡ u = eqb-true x u b.1 in

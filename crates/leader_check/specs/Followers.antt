@@ -7,5 +7,5 @@ abbrev pub is_follower : Graph → List ℕ → ℕ → Bool
 is_follower g leaders v = nat_lt v g.n && not (is_listed v leaders)
 
 -- whether the list holds true at that place
-abbrev pub at : List Bool → ℕ → Bool
-at row v = slice_index_or row v false
+abbrev pub is_marked_place : List Bool → ℕ → Bool
+is_marked_place row v = slice_index_or row v false

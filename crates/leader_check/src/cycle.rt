@@ -3,11 +3,11 @@
 ghost use Rattle.std.specs.Prelude.{◌≡◌, ◌==◌, ◌≤◌, ◌<◌, ◌+◌, ◌&&◌, ℕ, List, [], length, slice_index_or, IfOk, IfSome, IfNone};
 ghost use Rattle.std.specs.Int.{bit_at};
 ghost use Rattle.std.specs.List.{range_with_len};
-ghost use Rattle.swap_base.specs.Lists.{first_of};
+ghost use Rattle.swap_base.specs.Lists.{first_given_answer};
 ghost use Rattle.swap_digraph.specs.Graph.{parties, has_arc, HasEnds};
-ghost use Rattle.leader_check.specs.Followers.{at};
-ghost use Rattle.leader_check.specs.Cycles.{has_bit, has_row_bit, enters_led, first_step, walk_of, distance_cycle, traced_cycle, follower_cycle};
-ghost use Rattle.leader_check.specs.Cycles.{TellAllWalks, IsCycleThrough};
+ghost use Rattle.leader_check.specs.Followers.{is_marked_place};
+ghost use Rattle.leader_check.specs.Cycles.{has_bit, has_row_bit, enters_led, first_step, least_walk, distance_cycle, traced_cycle, follower_cycle};
+ghost use Rattle.leader_check.specs.Cycles.{TellAllWalks, IsShortestFollowerCycle};
 
 use crate::rounds::followers;
 use std::alloc::Global;
@@ -97,7 +97,7 @@ fn next_row(
     requires row { length row.now ≡ graph.now.n }
     ensures parties { IfOk result (λ l. length l ≡ graph.now.n) }
     ensures leads { IfOk result (λ l. (v u : ℕ) → u < graph.now.n
-        → has_bit l v u ≡ (at follows.now u && enters_led graph.now (has_bit row.now v) u)) }
+        → has_bit l v u ≡ (is_marked_place follows.now u && enters_led graph.now (has_bit row.now v) u)) }
 {
     let leads = leads_each(alloc, graph, row)?;
     let mut next = Vec::new(alloc);
@@ -112,7 +112,7 @@ fn first_row(alloc: Global, follows: &[bool]) -> Result<Listed<u32>, NoMemory>
     requires { length follows.now ≤ 32 }
     ensures parties { IfOk result (λ l. length l ≡ length follows.now) }
     ensures stays { IfOk result (λ l. (v u : ℕ) → u < length follows.now
-        → has_bit l v u ≡ (at follows.now u && (u == v))) }
+        → has_bit l v u ≡ (is_marked_place follows.now u && (u == v))) }
 {
     let mut row = Vec::new(alloc);
     for u in 0..follows.len() {
@@ -142,7 +142,7 @@ fn walk_rows(
 }
 
 /// The cycle of k vertices that begins with v.
-fn walk_of(
+fn least_walk(
     alloc: Global,
     graph: &Digraph,
     rows: &[Listed<u32>],
@@ -154,7 +154,7 @@ fn walk_of(
     requires v { v < graph.now.n }
     requires k { k ≤ length rows.now }
     requires rows { (j : ℕ) → j < length rows.now → length (slice_index_or rows.now j []) ≡ graph.now.n }
-    ensures { IfOk result (λ l. l ≡ walk_of graph.now (has_row_bit rows.now v) k v) }
+    ensures { IfOk result (λ l. l ≡ least_walk graph.now (has_row_bit rows.now v) k v) }
 {
     let mut list = Vec::new(alloc);
     let mut u = v;
@@ -177,11 +177,11 @@ fn traced_cycle(
     requires size { length rows.now ≡ graph.now.n + 1 }
     requires rows { (j : ℕ) → j < length rows.now → length (slice_index_or rows.now j []) ≡ graph.now.n }
     requires v { v < graph.now.n }
-    ensures { IfOk result (λ o. o ≡ first_of (distance_cycle graph.now (has_row_bit rows.now v) v) (range_with_len 1 graph.now.n)) }
+    ensures { IfOk result (λ o. o ≡ first_given_answer (distance_cycle graph.now (has_row_bit rows.now v) v) (range_with_len 1 graph.now.n)) }
 {
     for k in 1..graph.n() + 1 {
         if holds(rows[k as usize].as_slice()[v as usize], v) {
-            return Ok(Some(walk_of(alloc, graph, rows, v, k)?));
+            return Ok(Some(least_walk(alloc, graph, rows, v, k)?));
         }
     }
     Ok(None)
@@ -218,8 +218,8 @@ pub fn find_cycle(
     requires ends { HasEnds graph.now }
     requires v { v < graph.now.n }
     ensures exact { IfOk result (λ o. o ≡ traced_cycle graph.now leaders.now v) }
-    ensures cycle { IfOk result (λ o. IfSome o (λ list. IsCycleThrough graph.now leaders.now v list)) }
-    ensures none { IfOk result (λ o. IfNone o ((list : List ℕ) → IsCycleThrough graph.now leaders.now v list → ⊥)) }
+    ensures cycle { IfOk result (λ o. IfSome o (λ list. IsShortestFollowerCycle graph.now leaders.now v list)) }
+    ensures none { IfOk result (λ o. IfNone o ((list : List ℕ) → IsShortestFollowerCycle graph.now leaders.now v list → ⊥)) }
 {
     let rows = walk_rows(alloc, graph, leaders)?;
     traced_cycle(alloc, graph, &rows, v)

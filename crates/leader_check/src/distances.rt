@@ -3,7 +3,7 @@
 ghost use Rattle.std.specs.Prelude.{◌≡◌, ◌≤◌, ◌<◌, ◌+◌, ◌∷◌, [], ℕ, length, map, slice_index, IfOk, if◌then◌else◌};
 ghost use Rattle.swap_digraph.specs.Graph.{parties, HasEnds, IsDist, IsFeedback, IsHeight, IsStronglyConnected};
 ghost use Rattle.time_bounds.specs.Times.{need};
-ghost use Rattle.leader_check.specs.Distance.{most_after, prior_distance, dist_of};
+ghost use Rattle.leader_check.specs.Distance.{greatest_next_value, prior_distance, leader_distance};
 
 use crate::leader_answer::Levels;
 use std::alloc::Global;
@@ -16,7 +16,7 @@ fn most_after_each(alloc: Global, graph: &Digraph, row: &[u32]) -> Result<Vec<u3
     requires row { length row.now ≡ graph.now.n }
     ensures parties { IfOk result (λ l. length l.items ≡ graph.now.n) }
     ensures most { IfOk result (λ l. (v : ℕ) → v < graph.now.n
-        → slice_index l.items v ≡ most_after graph.now (slice_index row.now) v) }
+        → slice_index l.items v ≡ greatest_next_value graph.now (slice_index row.now) v) }
 {
     let mut most = vec![in alloc; 0; graph.n() as usize]?;
     for arc in graph.arcs() {
@@ -68,7 +68,7 @@ pub fn dist(
     requires levels { IsHeight graph.now (leader ∷ []) levels.now.h }
     ensures parties { IfOk result (λ l. length l ≡ graph.now.n) }
     ensures dist { IfOk result (λ l. (v : ℕ) → v < graph.now.n
-        → slice_index l v ≡ dist_of graph.now leader v) }
+        → slice_index l v ≡ leader_distance graph.now leader v) }
     ensures longest { IfOk result (λ l. (v : ℕ) → v < graph.now.n
         → IsDist graph.now leader v (slice_index l v)) }
     ensures bounded { IfOk result (λ l. (v : ℕ) → v < graph.now.n

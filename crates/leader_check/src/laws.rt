@@ -7,12 +7,14 @@ pub fn no_cycle_is_feedback()
     ensures { NoCycleIsFeedback }
 {}
 
-/// Where the leaders are a feedback vertex set, the greatest level is the most vertices on a path of followers alone.
+/// Where the leaders are a feedback vertex set, the greatest level is the most vertices on a path
+/// of followers alone.
 pub fn greatest_level_is_height()
     ensures { GreatestLevelIsHeight }
 {}
 
-/// A path that ends in a leader has at most so many arcs as the parties, the leaders and the paths of followers allow.
+/// A path that ends in a leader has at most so many arcs as the parties, the leaders and the paths
+/// of followers allow.
 pub fn paths_to_leaders_are_bounded()
     ensures { PathsToLeadersAreBounded }
 {}

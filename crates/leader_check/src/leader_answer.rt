@@ -6,7 +6,8 @@ use swap_digraph::PathList;
 /// The level of each party, and the greatest of them.
 #[derive(Debug, Drop)]
 pub struct Levels {
-    /// By party: 0 for a leader, and for a follower the most vertices on a path of followers that ends in it.
+    /// By party: 0 for a leader, and for a follower the most vertices on a path of followers that
+    /// ends in it.
     pub level: Listed<u8>,
     /// The most vertices on a path of followers alone.
     pub h: u8,
@@ -16,6 +17,7 @@ pub struct Levels {
 #[derive(Debug, Drop)]
 pub enum LeaderAnswer {
     Levels(Levels),
-    /// Distinct followers, each with an arc to the next and the last with an arc to the first, which is the least.
+    /// Distinct followers, each with an arc to the next and the last with an arc to the first,
+    /// which is the least.
     Cycle(PathList),
 }

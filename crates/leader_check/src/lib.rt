@@ -1,7 +1,9 @@
-//! Whether the leaders of a digraph are a feedback vertex set: with the levels of the parties, or with a cycle of followers (Herlihy 2018, section 2).
-//! And how far the parties stand from the one leader of a deal in timelocks mode (section 4).
+//! Whether the leaders of a digraph are a feedback vertex set: with the levels of the parties, or
+//! with a cycle of followers (Herlihy 2018, section 2). And how far the parties stand from the one
+//! leader of a deal in timelocks mode (section 4).
 //!
-//! Read `specs/Levels.antt` and `specs/Cycles.antt` first: the level of a party, and which cycle is shown; then `specs/Distance.antt`.
+//! Read `specs/Levels.antt` and `specs/Cycles.antt` first: the level of a party, and which cycle is
+//! shown; then `specs/Distance.antt`.
 #![tactic(auto)]
 
 mod check;

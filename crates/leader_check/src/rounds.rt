@@ -3,8 +3,8 @@
 ghost use Rattle.std.specs.Prelude.{◌≡◌, ◌≤◌, ◌<◌, ◌+◌, ℕ, not, length, is_some, map, slice_index, IfOk, if◌then◌else◌};
 ghost use Rattle.swap_base.specs.Lists.{greatest};
 ghost use Rattle.swap_digraph.specs.Graph.{parties, is_listed, HasEnds};
-ghost use Rattle.leader_check.specs.Followers.{is_follower, at};
-ghost use Rattle.leader_check.specs.Levels.{most_before, party_level};
+ghost use Rattle.leader_check.specs.Followers.{is_follower, is_marked_place};
+ghost use Rattle.leader_check.specs.Levels.{greatest_prior_value, party_level};
 ghost use Rattle.leader_check.specs.Cycles.{follower_cycle};
 
 use crate::leader_answer::Levels;
@@ -35,7 +35,7 @@ fn most_before_each(alloc: Global, graph: &Digraph, row: &[u8]) -> Result<Vec<u8
     requires row { length row.now ≡ graph.now.n }
     ensures parties { IfOk result (λ l. length l.items ≡ graph.now.n) }
     ensures most { IfOk result (λ l. (v : ℕ) → v < graph.now.n
-        → slice_index l.items v ≡ most_before graph.now (slice_index row.now) v) }
+        → slice_index l.items v ≡ greatest_prior_value graph.now (slice_index row.now) v) }
 {
     let mut most = vec![in alloc; 0; graph.n() as usize]?;
     for arc in graph.arcs() {
@@ -64,7 +64,7 @@ fn next_levels(
     requires follows { length follows.now ≡ graph.now.n }
     requires row { length row.now ≡ graph.now.n }
     requires low { (v : ℕ) → slice_index row.now v ≤ 32 }
-    ensures { IfOk result (λ l. l.items ≡ map (λ v. if at follows.now v then most_before graph.now (slice_index row.now) v + 1 else 0) (parties graph.now)) }
+    ensures { IfOk result (λ l. l.items ≡ map (λ v. if is_marked_place follows.now v then greatest_prior_value graph.now (slice_index row.now) v + 1 else 0) (parties graph.now)) }
 {
     let most = most_before_each(alloc, graph, row)?;
     let mut next = Vec::new(alloc);

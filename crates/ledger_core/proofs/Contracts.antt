@@ -7,7 +7,7 @@ use Rattle.std.proofs.lemmas.Option.{none-some}
 use Rattle.std.proofs.lemmas.List.FromFn.{get_or-map-range_with_len, length-map-range_with_len}
 use Rattle.std.proofs.Math.ListN.{get_or-eq_default}
 use Rattle.swap_base.specs.Lists.{or_else}
-use Rattle.swap_base.proofs.Lists.{first_of-append, and_parts, or_else-none}
+use Rattle.swap_base.proofs.Lists.{first_given_answer-append, and_parts, or_else-none}
 use Rattle.swap_digraph.specs.declared.deal.Deal.{Deal}
 use Rattle.swap_digraph.specs.Deal.{party, counterparty, locks}
 use Rattle.hashkey_path.specs.declared.hashkey.Hashkey.{Hashkey}
@@ -22,8 +22,8 @@ use Rattle.ledger_core.specs.declared.entry.Entry.{Entry}
 use Rattle.ledger_core.specs.declared.facts.Settlement.{Settlement}
 use Rattle.ledger_core.specs.declared.facts.Settlement.TheVariants.{Claimed, Refunded}
 use Rattle.ledger_core.specs.History.{height, accepted, Publication, publication, published, Opening, opening, opened, settling, settled, is_open}
-use Rattle.ledger_core.specs.History.{parse_terms, is_full, rows, history_reply, fit, balance, IsLegal}
-use Rattle.ledger_core.specs.Ledger.{published_contract, history_contract, next_contract, IsHistoryContract, by_contract, reply_by}
+use Rattle.ledger_core.specs.History.{publication_terms, is_full, rows, history_reply, fit, balance, IsLegal}
+use Rattle.ledger_core.specs.Ledger.{published_contract, history_contract, next_contract, IsHistoryContract, by_contract, reply_by_contract}
 use Rattle.ledger_core.proofs.History.{published_done, opened_done, of_publish, of_unlock, of_claim, of_refund, clear_at, published-past, lock-below}
 use Rattle.ledger_core.proofs.Units.{settled-published}
 
@@ -165,10 +165,10 @@ module _ (d : Deal) (a : ℕ) where
       is_some (or_else (opened h i) (or_else (opening i e.height o) None))) (or_else (settled h) (or_else (settling o) None))
   after_push h e o k =
       same_shown _ _ _ _ _ _
-      (first_of-append (λ x. publication x.height (accepted x)) h (e ∷ []) ∙ ap (λ z. or_else (published h) (or_else (publication e.height z) None)) k)
-      (λ i. ap is_some (first_of-append (λ x. opening i x.height (accepted x)) h (e ∷ [])
+      (first_given_answer-append (λ x. publication x.height (accepted x)) h (e ∷ []) ∙ ap (λ z. or_else (published h) (or_else (publication e.height z) None)) k)
+      (λ i. ap is_some (first_given_answer-append (λ x. opening i x.height (accepted x)) h (e ∷ [])
       ∙ ap (λ z. or_else (opened h i) (or_else (opening i e.height z) None)) k))
-      (first_of-append (λ x. settling (accepted x)) h (e ∷ []) ∙ ap (λ z. or_else (settled h) (or_else (settling z) None)) k)
+      (first_given_answer-append (λ x. settling (accepted x)) h (e ∷ []) ∙ ap (λ z. or_else (settled h) (or_else (settling z) None)) k)
 
   -- an entry that publishes, opens and settles nothing
   stays : (h : List Entry) → shown (or_else (published h) None) (λ i. is_some (or_else (opened h i) None)) (or_else (settled h) None) ≡ history_contract d a h
@@ -234,12 +234,12 @@ module _ (d : Deal) (a : ℕ) where
 
   by_settled_rows : (h : List Entry) (o : Option Publication) → IsLegal d a h → (rs : Terms → (ℕ → Bool) → Bool → List (Bool × Reply))
       → by_contract (option_map (published_contract d a h) o) (λ c. rs c.terms (is_lock_open c) c.settled)
-      ≡ cond (is_none o) NoContract (first_row (rs (parse_terms o) (is_open h) (is_some (settled h))))
+      ≡ cond (is_none o) NoContract (first_row (rs (publication_terms o) (is_open h) (is_some (settled h))))
   by_settled_rows h None l rs = refl
   by_settled_rows h (Some p) l rs = ap (λ f. first_row (rs p.terms f (is_some (settled h)))) (open_in h l p)
 
   pub answer_is : (h : List Entry) (p : ℕ) (c : Call) → IsLegal d a h → is_full h p ≡ false
-      → reply_by d a (history_contract d a h) (height h) (balance d a h p) p c ≡ history_reply d a h p c
+      → reply_by_contract d a (history_contract d a h) (height h) (balance d a h p) p c ≡ history_reply d a h p c
   unfolding rows
   answer_is h p (Publish t) l f = rw (f, is_some-map (published_contract d a h) (published h)) refl
   answer_is h p (Unlock key) l f = by_settled_rows h (published h) l (λ t g s. unlock_rows d a t g s (height h) p key) ∙ rw f refl

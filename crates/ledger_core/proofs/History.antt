@@ -1,4 +1,5 @@
--- What an accepted call of a legal history shows of the entries before it, and what makes a call accepted.
+-- What an accepted call of a legal history shows of the entries before it, and what makes a call
+-- accepted.
 use Rattle.std.proofs.Common.{◌≡◌, ◌≢◌, ℕ, ◌+◌, ◌<◌, ◌≤◌, ◌==◌, nat_lt, nat_le, Bool, true, false, cond, not, ◌&&◌, IsTrue, List, [], ◌∷◌, ◌++◌}
 use Rattle.std.proofs.Common.{length, Option, Some, None, is_some, is_none, refl, sym, ap, ap₂, ◌∙◌, subst, arith, eqb-true, eq-eqb, ltb-true}
 use Rattle.std.proofs.Common.{ltb-false}
@@ -6,7 +7,7 @@ use Rattle.std.specs.List.{list_all, AllByRecursion}
 use Rattle.std.proofs.lemmas.Bool.{false≢true}
 use Rattle.std.proofs.lemmas.List.Sums.{sum_by-append}
 use Rattle.swap_base.specs.Lists.{IsMoment}
-use Rattle.swap_base.proofs.Lists.{first_at, first_of-past, first_of-now, at_moment, all_moments_front, Order, Earlier, Same, Later, moments_in_order}
+use Rattle.swap_base.proofs.Lists.{first_at, first_given_answer-past, first_given_answer-now, at_moment, all_moments_front, Order, Earlier, Same, Later, moments_in_order}
 use Rattle.swap_base.proofs.Lists.{list_all-in, list_all-from, some_fails_all, and_parts}
 use Rattle.swap_digraph.specs.declared.deal.Deal.{Deal}
 use Rattle.escrow_core.specs.declared.terms.Terms.{Terms}
@@ -23,12 +24,12 @@ use Rattle.ledger_core.specs.declared.entry.Entry.{Entry}
 use Rattle.swap_digraph.specs.Deal.{party, counterparty, locks, path_limit, touches}
 use Rattle.hashkey_path.specs.Hashkey.{is_wrong_secret, is_wrong_path, is_wrong_signature}
 use Rattle.escrow_core.specs.Table.{first_row}
-use Rattle.escrow_core.specs.Terms.{read_hashlock, last_unlock, refund_expiry}
+use Rattle.escrow_core.specs.Terms.{terms_hashlock, last_unlock, refund_expiry}
 use Rattle.ledger_core.specs.declared.facts.Settlement.{Settlement}
 use Rattle.ledger_core.specs.declared.facts.Settlement.TheVariants.{Claimed, Refunded}
-use Rattle.ledger_core.specs.History.{read_raw_call}
+use Rattle.ledger_core.specs.History.{made_call}
 use Rattle.ledger_core.specs.History.{entry_ticks, height, accepted_call, accepted, Publication, publication, published, Opening, opening, opened, settling}
-use Rattle.ledger_core.specs.History.{settled, is_open, triggered, the_terms, parse_terms, is_full, rows, history_reply, fit, IsLegalEntry, IsLegalMoment}
+use Rattle.ledger_core.specs.History.{settled, is_open, triggered, the_terms, publication_terms, is_full, rows, history_reply, fit, IsLegalEntry, IsLegalMoment}
 use Rattle.ledger_core.specs.History.{IsLegal, balance}
 
 -- The table of replies.
@@ -77,7 +78,7 @@ pub record Act (d : Deal) (a : ℕ) (past : List Entry) (e : Entry) (c : Call) :
   pub reply : e.reply ≡ history_reply d a past by c
   pub room : e.reply ≢ SenderFull
 
-made : (d : Deal) (a : ℕ) (past : List Entry) (e : Entry) (c : Call) (s : Sender) (w : What) → e.sender ≡ s → e.what ≡ w → read_raw_call w ≡ Some c
+made : (d : Deal) (a : ℕ) (past : List Entry) (e : Entry) (c : Call) (s : Sender) (w : What) → e.sender ≡ s → e.what ≡ w → made_call w ≡ Some c
     → IsLegalEntry d a past s w e.height e.reply → Act d a past e c
 made d a past e c (Party p) (Made c') es ew k l =
     let same : c' ≡ c = cc in
@@ -95,11 +96,11 @@ made d a past e c Clock (Made c') es ew k l = absurd l
 made d a past e c (Party p) (Tick n) es ew k l = absurd l
 made d a past e c Clock (Tick n) es ew k l = absurd (cc k)
 
-pub act_at : (d : Deal) (a : ℕ) (h past : List Entry) (e : Entry) (c : Call) → IsLegal d a h → IsMoment h past e → read_raw_call e.what ≡ Some c
+pub act_at : (d : Deal) (a : ℕ) (h past : List Entry) (e : Entry) (c : Call) → IsLegal d a h → IsMoment h past e → made_call e.what ≡ Some c
     → Act d a past e c
 act_at d a h past e c l m k = made d a past e c e.sender e.what refl refl k (at_moment (IsLegalMoment d a) h past e l m)
 
-accepted_parts : (w : What) (r : Reply) (c : Call) → accepted_call w r ≡ Some c → (read_raw_call w ≡ Some c) × (r ≡ Accepted)
+accepted_parts : (w : What) (r : Reply) (c : Call) → accepted_call w r ≡ Some c → (made_call w ≡ Some c) × (r ≡ Accepted)
 accepted_parts (Made c') Accepted c e = (e, refl)
 accepted_parts _ _ c e = absurd (cc e)
 
@@ -214,7 +215,7 @@ pub record OfUnlock (d : Deal) (a : ℕ) (past : List Entry) (by : ℕ) (key : H
   pub unsettled : settled past ≡ None
   pub counterparty : by ≡ counterparty d a
   pub closed : is_open past key.lock ≡ false
-  pub secret : is_wrong_secret (read_hashlock contract.terms key.lock) key ≡ false
+  pub secret : is_wrong_secret (terms_hashlock contract.terms key.lock) key ≡ false
   pub path : is_wrong_path d a d.mode key ≡ false
   pub signature : is_wrong_signature d d.mode key ≡ false
   pub in_time : height past ≤ last_unlock d.mode contract.terms key
@@ -223,14 +224,14 @@ pub of_unlock : (d : Deal) (a : ℕ) (past : List Entry) (by : ℕ) (key : Hashk
 unfolding rows
 of_unlock d a past by key k =
     let c = some_of (published past) k.1.0 in
-    let same : the_terms past ≡ c.0.terms = ap parse_terms c.1 in
+    let same : the_terms past ≡ c.0.terms = ap publication_terms c.1 in
     record {
       contract = c.0;
       published = c.1;
       unsettled = none_of (settled past) k.1.1.0;
       counterparty = eqb-true by (counterparty d a) (not-false (by == counterparty d a) k.1.1.1.0);
       closed = k.1.1.1.1.0;
-      secret = subst (λ t. is_wrong_secret (read_hashlock t key.lock) key ≡ false) same k.1.1.1.1.1.0;
+      secret = subst (λ t. is_wrong_secret (terms_hashlock t key.lock) key ≡ false) same k.1.1.1.1.1.0;
       path = k.1.1.1.1.1.1.0;
       signature = k.1.1.1.1.1.1.1.0;
       in_time = subst (λ t. height past ≤ last_unlock d.mode t key) same (ltb-false (last_unlock d.mode (the_terms past) key)
@@ -268,7 +269,7 @@ pub of_refund : (d : Deal) (a : ℕ) (past : List Entry) (by : ℕ) → AreClear
 unfolding rows
 of_refund d a past by k =
     let c = some_of (published past) k.1.0 in
-    let same : the_terms past ≡ c.0.terms = ap parse_terms c.1 in
+    let same : the_terms past ≡ c.0.terms = ap publication_terms c.1 in
     let late : refund_expiry d a (the_terms past) (is_open past) + 1 ≤ height past =
     ltb-false (height past) (refund_expiry d a (the_terms past) (is_open past) + 1) k.1.1.1.1.1.0 in
     record {
@@ -297,10 +298,10 @@ height-past h past e m =
 -- What stands in a prefix stands in the whole.
 
 pub published-past : (h past : List Entry) (e : Entry) (p : Publication) → IsMoment h past e → published past ≡ Some p → published h ≡ Some p
-published-past h past e p m k = first_of-past (λ e. publication e.height (accepted e)) h past e p m k
+published-past h past e p m k = first_given_answer-past (λ e. publication e.height (accepted e)) h past e p m k
 
 pub settled-past : (h past : List Entry) (e : Entry) (s : Settlement) → IsMoment h past e → settled past ≡ Some s → settled h ≡ Some s
-settled-past h past e s m k = first_of-past (λ e. settling (accepted e)) h past e s m k
+settled-past h past e s m k = first_given_answer-past (λ e. settling (accepted e)) h past e s m k
 
 pub is_some-of : {A : Type 0} (o : Option A) → is_some o ≡ true → (x : A) × (o ≡ Some x)
 is_some-of None h = absurd (cc h)
@@ -309,7 +310,7 @@ is_some-of (Some x) h = (x, refl)
 pub opened-past : (h past : List Entry) (e : Entry) (i : ℕ) → IsMoment h past e → is_open past i ≡ true → is_open h i ≡ true
 opened-past h past e i m k =
     let o = is_some-of (opened past i) k in
-    ap is_some (first_of-past (λ e. opening i e.height (accepted e)) h past e o.0 m o.1)
+    ap is_some (first_given_answer-past (λ e. opening i e.height (accepted e)) h past e o.0 m o.1)
 
 pub triggered-past : (d : Deal) (h past : List Entry) (e : Entry) → IsMoment h past e → triggered d past ≡ true → triggered d h ≡ true
 triggered-past d h past e m k =
@@ -320,14 +321,14 @@ opening-now i t o key e l = ap (opening i t) e ∙ ap (λ b. cond b (Some (recor
 
 pub opened-now : (h past : List Entry) (e : Entry) (key : Hashkey) → IsMoment h past e → accepted e ≡ Some (Unlock key) → is_open h key.lock ≡ true
 opened-now h past e key m k =
-    first_of-now (λ x. opening key.lock x.height (accepted x)) h past e (record {
+    first_given_answer-now (λ x. opening key.lock x.height (accepted x)) h past e (record {
       height = e.height;
       key =
           key;
     }) m (opening-now key.lock e.height (accepted e) key k refl)
 
 pub settled-now : (h past : List Entry) (e : Entry) (s : Settlement) → IsMoment h past e → settling (accepted e) ≡ Some s → is_some (settled h) ≡ true
-settled-now h past e s m k = first_of-now (λ x. settling (accepted x)) h past e s m k
+settled-now h past e s m k = first_given_answer-now (λ x. settling (accepted x)) h past e s m k
 
 -- An accepted refund and all locks open do not go together.
 pub refunded-untriggered : (d : Deal) (a : ℕ) (h : List Entry) → IsLegal d a h → settled h ≡ Some Refunded → triggered d h ≡ true → ⊥

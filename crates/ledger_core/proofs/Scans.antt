@@ -4,7 +4,7 @@ use Rattle.std.proofs.Common.{None, is_some, refl, sym, ap, ap₂, ◌∙◌, su
 use Rattle.std.specs.List.{list_all}
 use Rattle.std.proofs.lemmas.Bool.{false≢true, lt-leb}
 use Rattle.swap_base.specs.Lists.{or_else}
-use Rattle.swap_base.proofs.Lists.{all_moments_push, all_moments_front, first_of-append, and_parts, or_else-none}
+use Rattle.swap_base.proofs.Lists.{all_moments_push, all_moments_front, first_given_answer-append, and_parts, or_else-none}
 use Rattle.swap_digraph.specs.declared.deal.Deal.{Deal}
 use Rattle.swap_digraph.specs.Deal.{party, counterparty, amount, IsWellSized}
 use Rattle.escrow_core.specs.declared.terms.Terms.{Terms}
@@ -18,8 +18,8 @@ use Rattle.ledger_core.specs.declared.entry.Call.TheVariants.{Publish, Unlock, C
 use Rattle.ledger_core.specs.declared.entry.What.TheVariants.{Call as Made}
 use Rattle.ledger_core.specs.declared.entry.Entry.{Entry}
 use Rattle.ledger_core.specs.History.{height, accepted_call, accepted, publication, published, opening, opened, settling, settled, accounts, balance}
-use Rattle.ledger_core.specs.History.{held, moved_accounts, parse_terms, rows, history_reply, is_full, IsLegal, IsLegalMoment, IsLegalCall, IsLegalTick}
-use Rattle.ledger_core.specs.Ledger.{call_entry, tick_entry, AreKept, AddUp, history_contract, next_contract, reply_by, CanMove}
+use Rattle.ledger_core.specs.History.{held, moved_accounts, publication_terms, rows, history_reply, is_full, IsLegal, IsLegalMoment, IsLegalCall, IsLegalTick}
+use Rattle.ledger_core.specs.Ledger.{call_entry, tick_entry, AreKept, AddUp, history_contract, next_contract, reply_by_contract, CanMove}
 use Rattle.ledger_core.specs.Inside.{AreScans}
 use Rattle.ledger_core.proofs.History.{accepted_clear, of_publish, of_transfer, not-true}
 use Rattle.ledger_core.proofs.Units.{units, accounts-push}
@@ -131,18 +131,18 @@ kept_self d a h h' e = record {
 kept_entry : (d : Deal) (a : ℕ) (h : List Entry) (e : Entry) → accepted e ≡ None → AreKept d a h (h ++ e ∷ [])
 kept_entry d a h e k =
     let p : published (h ++ e ∷ []) ≡ published h =
-    first_of-append (λ x. publication x.height (accepted x)) h (e ∷ [])
+    first_given_answer-append (λ x. publication x.height (accepted x)) h (e ∷ [])
     ∙ (ap (λ o. or_else (published h) (or_else (publication e.height o) None)) k ∙ or_else-none (published h)) in
     let s : settled (h ++ e ∷ []) ≡ settled h =
-    first_of-append (λ x. settling (accepted x)) h (e ∷ [])
+    first_given_answer-append (λ x. settling (accepted x)) h (e ∷ [])
     ∙ (ap (λ o. or_else (settled h) (or_else (settling o) None)) k ∙ or_else-none (settled h)) in
     let b : accounts d a (h ++ e ∷ []) ≡ accounts d a h = accounts-push d a h e ∙ ap (moved_accounts (party d a) (accounts d a h) _) k in
     record {
       balances = λ q. ap (λ x. cond (q == party d a) x.party x.counterparty) b;
-      held = ap₂ (λ x y. cond (is_some x) 0 (parse_terms y).amount) s p;
+      held = ap₂ (λ x y. cond (is_some x) 0 (publication_terms y).amount) s p;
       published = p;
       opened =
-          λ i. first_of-append (λ x. opening i x.height (accepted x)) h (e ∷ [])
+          λ i. first_given_answer-append (λ x. opening i x.height (accepted x)) h (e ∷ [])
           ∙ (ap (λ o. or_else (opened h i) (or_else (opening i e.height o) None)) k ∙ or_else-none (opened h i));
       settled = s;
     }
@@ -152,11 +152,11 @@ kept_call d a h p at c r n = kept_entry d a h (call_entry p at c r) (not_accepte
 
 -- the reply by what is kept is that of the table
 pub reply_is : (d : Deal) (a : ℕ) (h : List Entry) (at : ℕ) (b : Accounts) (o : Option ContractState) (pc cc ticks have p : ℕ) (c : Call) (r : Reply)
-    → AreScans d a h at b o pc cc ticks → is_full h p ≡ false → have ≡ balance d a h p → r ≡ reply_by d a o at have p c → r ≡ history_reply d a h p c
+    → AreScans d a h at b o pc cc ticks → is_full h p ≡ false → have ≡ balance d a h p → r ≡ reply_by_contract d a o at have p c → r ≡ history_reply d a h p c
 reply_is d a h at b o pc cc ticks have p c r k f eh e =
-    e ∙ (ap (λ x. reply_by d a x at have p c) k.contract
-    ∙ (ap (λ x. reply_by d a (history_contract d a h) x have p c) k.height
-    ∙ (ap (λ x. reply_by d a (history_contract d a h) (height h) x p c) eh ∙ answer_is d a h p c k.legal f)))
+    e ∙ (ap (λ x. reply_by_contract d a x at have p c) k.contract
+    ∙ (ap (λ x. reply_by_contract d a (history_contract d a h) x have p c) k.height
+    ∙ (ap (λ x. reply_by_contract d a (history_contract d a h) (height h) x p c) eh ∙ answer_is d a h p c k.legal f)))
 
 -- One more call.
 pub call_scans : (d : Deal) (a : ℕ) (h : List Entry) (at : ℕ) (b b' : Accounts) (o o' : Option ContractState) (pc pc' cc cc' ticks p : ℕ) (c : Call) (r : Reply)

@@ -1,4 +1,5 @@
--- At every prefix of a legal history the balances and the held amount add up to the amount of the arc.
+-- At every prefix of a legal history the balances and the held amount add up to the amount of the
+-- arc.
 use Rattle.std.proofs.Common.{◌≡◌, ℕ, ◌+◌, if◌then◌else◌, ◌≤◌, ◌==◌, Bool, true, false, cond, List, [], ◌∷◌, ◌++◌, Option, Some, None, is_some, refl}
 use Rattle.std.proofs.Common.{sym, ap, ap₂, ◌∙◌, subst, arith, eq-eqb}
 use Rattle.std.specs.List.{fold}
@@ -15,9 +16,9 @@ use Rattle.ledger_core.specs.declared.accounts.Accounts.{Accounts}
 use Rattle.swap_digraph.specs.Deal.{party, amount}
 use Rattle.ledger_core.specs.declared.facts.Settlement.{Settlement}
 use Rattle.ledger_core.specs.declared.facts.Settlement.TheVariants.{Claimed, Refunded}
-use Rattle.ledger_core.specs.History.{accepted, Publication, publication, published, settling, settled, parse_terms, opening_accounts, transferred, moved}
+use Rattle.ledger_core.specs.History.{accepted, Publication, publication, published, settling, settled, publication_terms, opening_accounts, transferred, moved}
 use Rattle.ledger_core.specs.History.{accounts, held, rows, IsLegalMoment, IsLegal}
-use Rattle.swap_base.proofs.Lists.{first_of-append, grow, all_moments_front}
+use Rattle.swap_base.proofs.Lists.{first_given_answer-append, grow, all_moments_front}
 use Rattle.ledger_core.proofs.History.{claimed_done, refunded_done, of_publish, of_claim, of_refund, published-past, clear_at, of_transfer}
 
 module _ (d : Deal) (a : ℕ) where
@@ -49,7 +50,7 @@ module _ (d : Deal) (a : ℕ) where
           of_refund d a c.past c.act.by c.clear in absurd (none-some k.contract (sym n ∙ published-past h c.past c.now k.contract c.stands k.published))
 
   abbrev held_of : Option Settlement → Option Publication → ℕ
-  held_of s p = if is_some s then 0 else (parse_terms p).amount
+  held_of s p = if is_some s then 0 else (publication_terms p).amount
 
   or_else-none : {B : Type 0} (o : Option B) → or_else o None ≡ o
   or_else-none None = refl
@@ -58,8 +59,8 @@ module _ (d : Deal) (a : ℕ) where
   held-push : (h : List Entry) (e : Entry) (o : Option Call) → accepted e ≡ o
       → held (h ++ e ∷ []) ≡ held_of (or_else (settled h) (or_else (settling o) None)) (or_else (published h) (or_else (publication e.height o) None))
   held-push h e o k =
-      ap₂ held_of (first_of-append (λ e. settling (accepted e)) h (e ∷ []) ∙ ap (λ o. or_else (settled h) (or_else (settling o) None)) k)
-      (first_of-append (λ e. publication e.height (accepted e)) h (e ∷ []) ∙ ap (λ o. or_else (published h) (or_else (publication e.height o) None)) k)
+      ap₂ held_of (first_given_answer-append (λ e. settling (accepted e)) h (e ∷ []) ∙ ap (λ o. or_else (settled h) (or_else (settling o) None)) k)
+      (first_given_answer-append (λ e. publication e.height (accepted e)) h (e ∷ []) ∙ ap (λ o. or_else (published h) (or_else (publication e.height o) None)) k)
 
   -- an entry that settles and publishes nothing
   held_stays : (h : List Entry) (e : Entry) (o : Option Call) → accepted e ≡ o → settling o ≡ None → publication e.height o ≡ None → held (h ++ e ∷ []) ≡ held h

@@ -14,12 +14,12 @@ use Rattle.ledger_core.specs.declared.facts.CallKind.TheVariants.{Publish, Unloc
 use Rattle.hashkey_path.specs.declared.hashkey.Hashkey.{Hashkey}
 use Rattle.ledger_core.specs.History.{Publication, published, opening, opened, accepted, is_sender}
 
-abbrev pub shown_as : Terms → Publication → Published
-shown_as t p = record { height = p.height; correct = same_terms p.terms t }
+abbrev pub checked_publication : Terms → Publication → Published
+checked_publication t p = record { height = p.height; correct = same_terms p.terms t }
 
 -- the accepted publish, and whether its terms are t
-abbrev pub published_as : Terms → List Entry → Option Published
-published_as t h = option_map (shown_as t) (published h)
+abbrev pub checked_history_publication : Terms → List Entry → Option Published
+checked_history_publication t h = option_map (checked_publication t) (published h)
 
 -- the number of the accepted unlock for lock i
 abbrev pub opened_number : List Entry → ℕ → Option ℕ

@@ -1,8 +1,9 @@
--- The history of one ledger: what was published, opened and settled, the balances, and the table of replies.
+-- The history of one ledger: what was published, opened and settled, the balances, and the table of
+-- replies.
 use Rattle.std.specs.Prelude.{◌≡◌, ◌≢◌, ℕ, ◌+◌, ◌-◌, ◌≤◌, Bool, true, false, not, ◌&&◌, ◌||◌, ◌==◌, nat_lt, nat_le, IsTrue, List, [], ◌∷◌, length}
 use Rattle.std.specs.Prelude.{count_by, sum_by, fold, Option, Some, None, is_some, is_none, if◌then◌else◌}
 use Rattle.std.specs.List.{list_all, AllByRecursion}
-use Rattle.swap_base.specs.Lists.{first_of, Moment, moments}
+use Rattle.swap_base.specs.Lists.{first_given_answer, Moment, moments}
 use Rattle.swap_digraph.specs.declared.deal.Deal.{Deal}
 use Rattle.swap_digraph.specs.Deal.{party, amount, path_limit, touches}
 use Rattle.hashkey_path.specs.declared.hashkey.Hashkey.{Hashkey}
@@ -32,9 +33,9 @@ abbrev pub height : List Entry → ℕ
 height h = sum_by (λ e. entry_ticks e.what) h
 
 -- the call that an entry is, whatever its reply
-abbrev pub read_raw_call : What → Option Call
-read_raw_call (Made c) = Some c
-read_raw_call (Tick k) = None
+abbrev pub made_call : What → Option Call
+made_call (Made c) = Some c
+made_call (Tick k) = None
 
 -- the call that an entry is, where it was accepted
 abbrev pub accepted_call : What → Reply → Option Call
@@ -55,7 +56,7 @@ publication t _ = None
 
 -- its one accepted publish
 abbrev pub published : List Entry → Option Publication
-published h = first_of (λ e. publication e.height (accepted e)) h
+published h = first_given_answer (λ e. publication e.height (accepted e)) h
 
 -- an accepted unlock
 pub record Opening : Type 0 where
@@ -68,7 +69,7 @@ opening i t _ = None
 
 -- the accepted unlock for lock i
 abbrev pub opened : List Entry → ℕ → Option Opening
-opened h i = first_of (λ e. opening i e.height (accepted e)) h
+opened h i = first_given_answer (λ e. opening i e.height (accepted e)) h
 
 abbrev pub settling : Option Call → Option Settlement
 settling (Some Claim) = Some Claimed
@@ -77,7 +78,7 @@ settling _ = None
 
 -- its accepted claim or refund
 abbrev pub settled : List Entry → Option Settlement
-settled h = first_of (λ e. settling (accepted e)) h
+settled h = first_given_answer (λ e. settling (accepted e)) h
 
 abbrev pub is_open : List Entry → ℕ → Bool
 is_open h i = is_some (opened h i)
@@ -89,12 +90,12 @@ triggered d h = are_open d (is_open h)
 abbrev pub no_terms : Terms
 no_terms = record { locks = []; start = 0; delta = 0; bound = 0; timelock = 0; amount = 0 }
 
-abbrev pub parse_terms : Option Publication → Terms
-parse_terms None = no_terms
-parse_terms (Some p) = p.terms
+abbrev pub publication_terms : Option Publication → Terms
+publication_terms None = no_terms
+publication_terms (Some p) = p.terms
 
 abbrev pub the_terms : List Entry → Terms
-the_terms h = parse_terms (published h)
+the_terms h = publication_terms (published h)
 
 -- Balances: the opening ones with each accepted call applied.
 
@@ -130,7 +131,8 @@ accounts d a h = fold (λ b e. moved d a b e.sender (accepted e)) (opening_accou
 abbrev pub balance : Deal → ℕ → List Entry → ℕ → ℕ
 balance d a h p = if p == party d a then (accounts d a h).party else (accounts d a h).counterparty
 
--- The place of units: the published amount from the accepted publish until the accepted claim or refund.
+-- The place of units: the published amount from the accepted publish until the accepted claim or
+-- refund.
 abbrev pub held : List Entry → ℕ
 held h = if is_some (settled h) then 0 else (the_terms h).amount
 

@@ -7,7 +7,8 @@ use Rattle.swap_digraph.specs.Deal.{lock_hashlock}
 use Rattle.ledger_core.specs.declared.entry.Call.{Call}
 use Rattle.ledger_core.specs.declared.entry.Call.TheVariants.{Unlock}
 
--- the last n signatures of the hashkey that the call presents, if it does, are valid under the deal; none need be where n is 0
+-- the last n signatures of the hashkey that the call presents, if it does, are valid under the
+-- deal; none need be where n is 0
 abbrev pub is_known_call : ℕ → Deal → Call → Bool
 is_known_call zero d c = true
 is_known_call (suc n) d (Unlock key) = is_last_signed (suc n) d key

@@ -6,7 +6,7 @@ use Rattle.swap_digraph.specs.Deal.{party, counterparty, amount, locks}
 use Rattle.escrow_core.specs.declared.reply.Reply.{Reply}
 use Rattle.escrow_core.specs.declared.reply.Reply.TheVariants.{NotParty, NoContract, AlreadyPublished, NoFunds, SenderFull}
 use Rattle.escrow_core.specs.Table.{first_row, unlock_rows, claim_rows, refund_rows}
-use Rattle.escrow_core.specs.Value.{ContractState, IsFor, is_lock_open, new_contract, with_opened, with_settled}
+use Rattle.escrow_core.specs.Value.{ContractState, IsDealContract, is_lock_open, new_contract, with_opened, with_settled}
 use Rattle.ledger_core.specs.declared.entry.Call.{Call}
 use Rattle.ledger_core.specs.declared.entry.Call.TheVariants.{Publish, Unlock, Claim, Refund, Transfer}
 use Rattle.ledger_core.specs.declared.entry.Sender.TheVariants.{Party, Clock}
@@ -34,7 +34,7 @@ abbrev pub tick_entry : (k at : ℕ) → Reply → Entry
 tick_entry k at r = record { sender = Clock; height = at; what = Tick k; reply = r }
 
 -- The same ledger after one more entry.
-pub record IsAfter (old : LedgerState) (e : Entry) (new : LedgerState) : Type 0 where
+pub record HasEntryAdded (old : LedgerState) (e : Entry) (new : LedgerState) : Type 0 where
   pub deal : new.deal ≡ old.deal
   pub arc : new.arc ≡ old.arc
   pub history : new.history ≡ old.history ++ e ∷ []
@@ -70,27 +70,28 @@ next_contract d a c (Some Refund) = option_map with_settled c
 next_contract d a c (Some (Transfer to units)) = c
 
 -- A contract of arc a.
-pub record IsContractOf (d : Deal) (a : ℕ) (c : ContractState) : Type 0 where
+pub record IsArcContract (d : Deal) (a : ℕ) (c : ContractState) : Type 0 where
   pub arc : c.arc ≡ a
-  pub kept : IsFor d c
+  pub kept : IsDealContract d c
 
 abbrev pub IsHistoryContract : Deal → ℕ → Option ContractState → Type 0
 IsHistoryContract d a None = Unit {0}
-IsHistoryContract d a (Some c) = IsContractOf d a c
+IsHistoryContract d a (Some c) = IsArcContract d a c
 
 -- the rows of the contract, where there is one
 abbrev pub by_contract : Option ContractState → (ContractState → List (Bool × Reply)) → Reply
 by_contract None rows = NoContract
 by_contract (Some c) rows = first_row (rows c)
 
--- the reply to a call of p whose entries aren't too many, by the contract, the height and the balance of p
-abbrev pub reply_by : Deal → ℕ → Option ContractState → (height have p : ℕ) → Call → Reply
-reply_by d a o t have p (Publish terms) =
+-- the reply to a call of p whose entries aren't too many, by the contract, the height and the
+-- balance of p
+abbrev pub reply_by_contract : Deal → ℕ → Option ContractState → (height have p : ℕ) → Call → Reply
+reply_by_contract d a o t have p (Publish terms) =
     first_row ((not (p == party d a), NotParty) ∷ (is_some o, AlreadyPublished) ∷ (nat_lt have terms.amount, NoFunds have) ∷ [])
-reply_by d a o t have p (Unlock key) = by_contract o (λ c. unlock_rows d a c.terms (is_lock_open c) c.settled t p key)
-reply_by d a o t have p Claim = by_contract o (λ c. claim_rows d a (is_lock_open c) c.settled p)
-reply_by d a o t have p Refund = by_contract o (λ c. refund_rows d a c.terms (is_lock_open c) c.settled t p)
-reply_by d a o t have p (Transfer to units) = first_row ((nat_lt have units, NoFunds have) ∷ [])
+reply_by_contract d a o t have p (Unlock key) = by_contract o (λ c. unlock_rows d a c.terms (is_lock_open c) c.settled t p key)
+reply_by_contract d a o t have p Claim = by_contract o (λ c. claim_rows d a (is_lock_open c) c.settled p)
+reply_by_contract d a o t have p Refund = by_contract o (λ c. refund_rows d a c.terms (is_lock_open c) c.settled t p)
+reply_by_contract d a o t have p (Transfer to units) = first_row ((nat_lt have units, NoFunds have) ∷ [])
 
 -- The sender of an accepted call has what it moves.
 abbrev pub CanMove : Accounts → Bool → Option Call → Type 0

@@ -9,13 +9,14 @@ use Rattle.ledger_core.specs.declared.ledger_history.LedgerHistory.TheInside.{In
 abbrev pub inside_entries : Inside → List Entry
 inside_entries h = expand h.items.items ++ run_ticks h.open
 
--- An entry may need two places, one for the ticks that it closes and its own, and a call's entry has memory of its own besides.
-abbrev pub spare_of : (has_room : Bool) (places : ℕ) → ℕ
-spare_of false places = 0
-spare_of true places = if nat_lt 1 places then 1 else 0
+-- An entry may need two places, one for the ticks that it closes and its own, and a call's entry
+-- has memory of its own besides.
+abbrev pub spare_entries : (has_room : Bool) (places : ℕ) → ℕ
+spare_entries false places = 0
+spare_entries true places = if nat_lt 1 places then 1 else 0
 
-abbrev pub released_history : Inside → HistoryState
-released_history h = record { list = inside_entries h; spare = spare_of (is_some h.room) (vec_capacity h.items - vec_len h.items) }
+abbrev pub inside_history : Inside → HistoryState
+inside_history h = record { list = inside_entries h; spare = spare_entries (is_some h.room) (vec_capacity h.items - vec_len h.items) }
 
 pub record AreParts (h : Inside) : Type 0 where
   pub items : AllByRecursion IsRight h.items.items

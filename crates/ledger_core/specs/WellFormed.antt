@@ -1,7 +1,7 @@
 -- The books that are audited. Nothing is asked of a reply but that it is one of an entry.
 use Rattle.std.specs.Prelude.{◌≡◌, ◌≢◌, ◌≤◌, ◌<◌, ◌+◌, ◌-◌, ◌^◌, ◌==◌, ◌||◌, ℕ, IsTrue, List, length, min}
 use Rattle.std.specs.List.{AllByRecursion}
-use Rattle.swap_base.specs.Lists.{Moment, moments, moments_after}
+use Rattle.swap_base.specs.Lists.{Moment, moments, moments_after_past}
 use Rattle.swap_digraph.specs.declared.deal.Deal.{Deal}
 use Rattle.swap_digraph.specs.Deal.{party, counterparty}
 use Rattle.escrow_core.specs.declared.reply.Reply.TheVariants.{SenderFull, ClockFull}
@@ -37,7 +37,8 @@ IsFormedWhat d a past Clock (Tick k) at = IsFormedTick past k at
 IsFormedWhat d a past (Party p) (Tick k) at = ⊥
 IsFormedWhat d a past Clock (Made c) at = ⊥
 
--- An entry of a well-formed history, over the entries before it. What its reply states may be wrong, but isn't a reply that leaves no entry.
+-- An entry of a well-formed history, over the entries before it. What its reply states may be
+-- wrong, but isn't a reply that leaves no entry.
 pub record IsFormedEntry (d : Deal) (a : ℕ) (past : List Entry) (e : Entry) : Type 0 where
   pub what : IsFormedWhat d a past e.sender e.what e.height
   pub sender_not_full : e.reply ≢ SenderFull
@@ -47,8 +48,8 @@ abbrev pub IsFormedMoment : Deal → ℕ → Moment Entry → Type 0
 IsFormedMoment d a m = IsFormedEntry d a m.past m.now
 
 -- entries that go on a well-formed history
-abbrev pub GoesOn : Deal → ℕ → List Entry → List Entry → Type 0
-GoesOn d a past h = AllByRecursion (IsFormedMoment d a) (moments_after past h)
+abbrev pub IsFormedContinuation : Deal → ℕ → List Entry → List Entry → Type 0
+IsFormedContinuation d a past h = AllByRecursion (IsFormedMoment d a) (moments_after_past past h)
 
 -- a well-formed history of arc a
 abbrev pub IsFormed : Deal → ℕ → List Entry → Type 0

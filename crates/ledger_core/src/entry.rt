@@ -5,7 +5,8 @@ use escrow_core::{Reply, Terms};
 use hashkey_path::Hashkey;
 use swap_base::{Listed, NoMemory, PartyId, Shared, TryCopy};
 
-/// What a party asks of a ledger. Terms and hashkeys are shared, so that a copy of a call copies neither.
+/// What a party asks of a ledger. Terms and hashkeys are shared, so that a copy of a call copies
+/// neither.
 #[derive(Debug, Drop)]
 pub enum Call {
     Publish(Shared<Terms>),

@@ -16,7 +16,8 @@ use std::alloc::Global;
 use std::marker::Model;
 use swap_base::{NoMemory, TryCopy};
 
-/// Entries, oldest first, which contracts see as their list. Ticks that follow each other by the same number take no memory each.
+/// Entries, oldest first, which contracts see as their list. Ticks that follow each other by the
+/// same number take no memory each.
 #[derive(Debug, Drop)]
 pub struct EntryList {
     entries: LedgerHistory,
@@ -42,7 +43,7 @@ impl EntryList {
     }
 
     /// The entries of a history, without taking memory.
-    pub fn of(entries: LedgerHistory) -> EntryList
+    pub fn from_history(entries: LedgerHistory) -> EntryList
         ensures { result ≡ entries.list }
     {
         EntryList { entries }
@@ -85,7 +86,7 @@ impl EntryList {
         ensures { result ≡ height self.now }
     {
         let (items, open) = self.entries.parts();
-        latest_height(items) + run_rise(open)
+        items_rise(items) + run_rise(open)
     }
 
     /// How many entries are calls.
@@ -108,7 +109,8 @@ impl EntryList {
         Ok(out)
     }
 
-    /// Adds an entry. It takes memory, where that isn't an accepted tick that goes on with those before it.
+    /// Adds an entry. It takes memory, where that isn't an accepted tick that goes on with those
+    /// before it.
     pub fn push(&mut self, entry: Entry) -> Result<(), NoMemory>
         ensures ok { OnOk result (self.new ≡ self.old ++ entry ∷ []) }
         ensures err { OnErr result (self.new ≡ self.old) }
@@ -124,7 +126,8 @@ impl EntryList {
         Ok(())
     }
 
-    /// Adds the entries of another list, whose memory it takes over. What it costs grows with their items alone. Want of memory leaves everything as it was.
+    /// Adds the entries of another list, whose memory it takes over. What it costs grows with their
+    /// items alone. Want of memory leaves everything as it was.
     pub fn append(&mut self, more: EntryList) -> Result<(), NoMemory>
         ensures ok { OnOk result (self.new ≡ self.old ++ more) }
         ensures err { OnErr result (self.new ≡ self.old) }
@@ -155,7 +158,7 @@ fn entry_tick(entry: &Entry) -> Option<u32>
 }
 
 /// By how many heights the items raise a ledger.
-fn latest_height(items: &[Item]) -> u32
+fn items_rise(items: &[Item]) -> u32
     requires { height (expand items.now) < 2 ^ 32 }
     ensures { result ≡ height (expand items.now) }
 {

@@ -4,7 +4,7 @@ ghost use Rattle.std.specs.Prelude.{◌≡◌, ◌<◌, List, length, option_cop
 ghost use Rattle.escrow_core.specs.declared.terms.Terms.{Terms};
 ghost use Rattle.ledger_core.specs.declared.entry.Entry.{Entry};
 ghost use Rattle.ledger_core.specs.History.{height, settled};
-ghost use Rattle.ledger_core.specs.Facts.{published_as, opened_number, opened_key, has_call};
+ghost use Rattle.ledger_core.specs.Facts.{checked_history_publication, opened_number, opened_key, has_call};
 
 use hashkey_path::Hashkey;
 use swap_base::{LockId, PartyId};
@@ -44,7 +44,7 @@ pub trait Facts {
         ensures { result ≡ height (entries self.now) };
 
     fn published(&self) -> Option<Published>
-        ensures { result ≡ published_as (terms self.now) (entries self.now) };
+        ensures { result ≡ checked_history_publication (terms self.now) (entries self.now) };
 
     /// The number of the entry of the lock's accepted unlock.
     fn unlocked(&self, lock: LockId) -> Option<u32>

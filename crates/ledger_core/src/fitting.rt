@@ -53,8 +53,8 @@ fn key_fits(deal: &Deal, key: &Hashkey) -> bool
         && are_parties(key.path.as_slice(), deal.graph.n())
 }
 
-/// Whether a call fits the deal and the arc: its locks and parties are in range, its lists have the right lengths, and its heights and units are in
-/// their ranges.
+/// Whether a call fits the deal and the arc: its locks and parties are in range, its lists have the
+/// right lengths, and its heights and units are in their ranges.
 pub fn fits(deal: &Deal, arc: ArcId, call: &Call) -> bool
     requires { arc < length deal.now.graph.arcs }
     ensures { result ≡ fit deal.now arc call.now }

@@ -4,7 +4,7 @@ ghost use Rattle.std.specs.Prelude.{◌≡◌, ◌≢◌, ◌<◌, ◌≤◌, �
 ghost use Rattle.swap_digraph.specs.Deal.{party, counterparty, IsWellSized, touches};
 ghost use Rattle.ledger_core.specs.History.{height, held, balance, accounts, published, settled, fit, is_full, history_reply, reply_to_tick, IsLegal};
 ghost use Rattle.ledger_core.specs.Known.{is_known_call};
-ghost use Rattle.ledger_core.specs.Ledger.{call_entry, tick_entry, IsAfter, AreKept, AddUp};
+ghost use Rattle.ledger_core.specs.Ledger.{call_entry, tick_entry, HasEntryAdded, AreKept, AddUp};
 
 use crate::accounts::Accounts;
 use crate::entry::{Call, Entry, Sender, What};
@@ -17,7 +17,8 @@ use std::marker::Model;
 use swap_base::{ArcId, NoMemory, PartyId, Shared, TryCopy};
 use swap_digraph::Deal;
 
-/// A ledger: its history, and beside it the height, the accounts, the contract and how many entries each sender has.
+/// A ledger: its history, and beside it the height, the accounts, the contract and how many entries
+/// each sender has.
 #[derive(Debug, Drop)]
 pub struct Ledger {
     deal: Shared<Deal>,
@@ -46,7 +47,8 @@ impl Model for Ledger {
 }
 
 impl Ledger {
-    /// A ledger at height 0 without entries. The arc's party holds the amount. It is one more holder of the deal.
+    /// A ledger at height 0 without entries. The arc's party holds the amount. It is one more
+    /// holder of the deal.
     pub fn new(alloc: Global, deal: &Shared<Deal>, arc: ArcId) -> Result<Ledger, NoMemory>
         requires sized { IsWellSized deal.now }
         requires arc { arc < length deal.now.graph.arcs }
@@ -99,8 +101,9 @@ impl Ledger {
         calls >= 32
     }
 
-    /// Makes a call at the present height, and answers with the reply that the table gives. The last `known` signatures of its hashkey are known to be
-    /// valid, and aren't verified. It takes no memory.
+    /// Makes a call at the present height, and answers with the reply that the table gives. The
+    /// last `known` signatures of its hashkey are known to be valid, and aren't verified. It takes
+    /// no memory.
     pub fn apply(&mut self, sender: PartyId, call: Call, known: usize) -> Reply
         requires spare { 0 < self.old.spare }
         requires of_the_two { IsTrue (touches self.old.deal sender self.old.arc) }
@@ -108,7 +111,7 @@ impl Ledger {
         requires known { IsTrue (is_known_call known self.old.deal call) }
         ensures reply { result ≡ history_reply self.old.deal self.old.arc self.old.history sender call }
         ensures full { result ≡ Reply.SenderFull → self.new ≡ self.old }
-        ensures kept { result ≢ Reply.SenderFull → IsAfter self.old (call_entry sender (height self.old.history) call result) self.new }
+        ensures kept { result ≢ Reply.SenderFull → HasEntryAdded self.old (call_entry sender (height self.old.history) call result) self.new }
         ensures refused { result ≢ Reply.Accepted → AreKept self.old.deal self.old.arc self.old.history self.new.history }
         ensures spare { self.old.spare ≤ self.new.spare + 1 }
         ensures legal { IsLegal self.new.deal self.new.arc self.new.history }
@@ -151,7 +154,7 @@ impl Ledger {
         requires below { k ≤ 1000000 }
         ensures reply { result ≡ reply_to_tick self.old.history k }
         ensures full { result ≡ Reply.ClockFull → self.new ≡ self.old }
-        ensures kept { result ≡ Reply.Accepted → IsAfter self.old (tick_entry k (height self.old.history + k) Reply.Accepted) self.new }
+        ensures kept { result ≡ Reply.Accepted → HasEntryAdded self.old (tick_entry k (height self.old.history + k) Reply.Accepted) self.new }
         ensures spare { self.old.spare ≤ self.new.spare + 1 }
         ensures legal { IsLegal self.new.deal self.new.arc self.new.history }
     {
@@ -185,7 +188,7 @@ impl Ledger {
         ensures value { result ≡ self.history }
         ensures legal { IsLegal self.deal self.arc result }
     {
-        EntryList::of(self.history)
+        EntryList::from_history(self.history)
     }
 
     /// The sum of the ticks.
@@ -259,6 +262,6 @@ impl Ledger {
         requires { k ≤ length self.now.history }
         ensures { IfOk result (λ l. l ≡ drop k self.now.history) }
     {
-        Ok(EntryList::of(self.history.copy_tail(k)?))
+        Ok(EntryList::from_history(self.history.copy_tail(k)?))
     }
 }

@@ -1,4 +1,5 @@
-//! The entries of a ledger, where a tick that goes on with those before it takes no memory of its own.
+//! The entries of a ledger, where a tick that goes on with those before it takes no memory of its
+//! own.
 
 ghost use Rattle.std.specs.Prelude.{◌≡◌, ◌<◌, ◌≤◌, ◌+◌, ◌-◌, ◌++◌, ◌∷◌, [], OnOk, OnErr, IfOk, length, drop, is_some, true, false, vec_len, vec_capacity};
 ghost use Rattle.std.specs.List.{AllByRecursion};
@@ -13,7 +14,8 @@ use std::alloc::Global;
 use std::marker::Model;
 use swap_base::{NoMemory, TryCopy};
 
-/// Entries, oldest first. The ticks after the last item are kept beside the items, so that the common tick reaches no memory.
+/// Entries, oldest first. The ticks after the last item are kept beside the items, so that the
+/// common tick reaches no memory.
 #[derive(Debug, Drop)]
 pub struct LedgerHistory {
     items: Vec<Item>,
@@ -28,9 +30,9 @@ impl Model for LedgerHistory {
 
     ghost Value = { HistoryState };
 
-    ghost use Rattle.ledger_core.specs.Parts.{released_history, AreParts};
+    ghost use Rattle.ledger_core.specs.Parts.{inside_history, AreParts};
 
-    ghost view = { released_history };
+    ghost view = { inside_history };
 
     ghost invariant = { AreParts };
 }
@@ -114,7 +116,8 @@ impl LedgerHistory {
         }
     }
 
-    /// Adds the entries of another history, whose memory it takes over. Want of memory leaves everything as it was.
+    /// Adds the entries of another history, whose memory it takes over. Want of memory leaves
+    /// everything as it was.
     pub fn append(&mut self, more: LedgerHistory) -> Result<(), NoMemory>
         ensures ok { OnOk result (self.new.list ≡ self.old.list ++ more.list) }
         ensures err { OnErr result (self.new ≡ self.old) }
@@ -162,7 +165,8 @@ impl LedgerHistory {
         (self.items, self.open)
     }
 
-    /// A copy of the entries from k on. What it costs grows with them alone, and it takes no memory where they are ticks after the last item.
+    /// A copy of the entries from k on. What it costs grows with them alone, and it takes no memory
+    /// where they are ticks after the last item.
     pub fn copy_tail(&self, k: usize) -> Result<LedgerHistory, NoMemory>
         requires { k ≤ length self.now.list }
         ensures { IfOk result (λ h. h.list ≡ drop k self.now.list) }

@@ -4,7 +4,7 @@ ghost use Rattle.std.specs.Prelude.{◌≡◌, ◌+◌, ◌<◌, ◌≤◌, ◌=
 ghost use Rattle.swap_digraph.specs.Deal.{IsWellSized};
 ghost use Rattle.ledger_core.specs.History.{accepted_call, moved_accounts, transferred, fit};
 ghost use Rattle.ledger_core.specs.Known.{is_known_call};
-ghost use Rattle.ledger_core.specs.Ledger.{reply_by, next_contract, CanMove, IsHistoryContract};
+ghost use Rattle.ledger_core.specs.Ledger.{reply_by_contract, next_contract, CanMove, IsHistoryContract};
 
 use crate::accounts::Accounts;
 use crate::entry::{Call, What};
@@ -24,7 +24,7 @@ fn publish(
     requires sized { IsWellSized deal.now }
     requires arc { arc < length deal.now.graph.arcs }
     requires fits { IsTrue (fit deal.now arc (Call.Publish terms.now)) }
-    ensures reply { result ≡ reply_by deal.now arc contract.old 0 balance sender (Call.Publish terms.now) }
+    ensures reply { result ≡ reply_by_contract deal.now arc contract.old 0 balance sender (Call.Publish terms.now) }
     ensures contract { contract.new ≡ next_contract deal.now arc contract.old (accepted_call (What.Call (Call.Publish terms.now)) result) }
 {
     if sender != deal.graph.arcs()[arc as usize].from {
@@ -50,7 +50,8 @@ fn transfer(balance: u64, units: u64) -> Reply
     Reply::Accepted
 }
 
-/// The reply to a call of a sender that hasn't too many entries. Where it is accepted, the contract changes with it.
+/// The reply to a call of a sender that hasn't too many entries. Where it is accepted, the contract
+/// changes with it.
 pub(crate) fn make_reply(
     deal: &Shared<Deal>,
     arc: ArcId,
@@ -66,7 +67,7 @@ pub(crate) fn make_reply(
     requires contract { IsHistoryContract deal.now arc contract.old }
     requires fits { IsTrue (fit deal.now arc call.now) }
     requires known { IsTrue (is_known_call known deal.now call.now) }
-    ensures reply { result ≡ reply_by deal.now arc contract.old height balance sender call.now }
+    ensures reply { result ≡ reply_by_contract deal.now arc contract.old height balance sender call.now }
     ensures contract { contract.new ≡ next_contract deal.now arc contract.old (accepted_call (What.Call call.now) result) }
 {
     match call {

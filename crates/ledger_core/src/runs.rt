@@ -22,7 +22,8 @@ pub struct Run {
     pub count: u32,
 }
 
-/// An entry, or ticks that follow each other by the same number. Ticks are many and calls are few, so only these have memory of their own.
+/// An entry, or ticks that follow each other by the same number. Ticks are many and calls are few,
+/// so only these have memory of their own.
 #[derive(Debug, Drop)]
 pub enum Item {
     One(BoxedEntry),

@@ -3,7 +3,7 @@ use Rattle.std.proofs.Common.{◌≡◌, ℕ, suc, ◌<◌, ◌==◌, Bool, true
 use Rattle.std.proofs.Common.{if◌then◌else◌}
 use Rattle.std.specs.List.{AllByRecursion}
 use mathlib.Core.List.{IsPrefix}
-use Rattle.turn_lock.specs.Parts.{entries_by, Covers, AreBelow}
+use Rattle.turn_lock.specs.Parts.{author_entries, Covers, AreBelow}
 use Rattle.swap_digraph.specs.declared.deal.Deal.{Deal}
 use Rattle.swap_digraph.specs.Deal.{party, counterparty}
 use Rattle.ledger_core.specs.declared.entry.Entry.{Entry}
@@ -11,7 +11,7 @@ use Rattle.ledger_core.specs.declared.entry.Sender.{Sender}
 use Rattle.ledger_core.specs.declared.entry.Sender.TheVariants.{Party, Clock}
 use Rattle.ledger_shared.specs.declared.shelf.Line.{Line}
 use Rattle.ledger_shared.specs.declared.shelf.Line.TheVariants.{Head, Made}
-use Rattle.ledger_shared.specs.Lines.{sender_side, entries_on, made_lines, lines, line_author, all_entries, read_clear_arc, deal_in}
+use Rattle.ledger_shared.specs.Lines.{sender_side, side_entries, made_lines, lines, line_author, all_entries, head_arc, head_deal}
 
 pub unmade_append : (d : Deal) (a : ℕ) (h : List Entry) (ls : List Line) → all_entries (made_lines d a h ++ ls) ≡ h ++ all_entries ls
 unmade_append d a [] ls = refl
@@ -38,24 +38,24 @@ headed : (b : Bool) (d : Deal) (a : ℕ) (ls : List Line) → all_entries (if b 
 headed true d a ls = refl
 headed false d a ls = refl
 
-unmade_by : (k : ℕ) (d : Deal) (a : ℕ) (h : List Entry) → all_entries (entries_by line_author k (made_lines d a h)) ≡ entries_on d a k h
+unmade_by : (k : ℕ) (d : Deal) (a : ℕ) (h : List Entry) → all_entries (author_entries line_author k (made_lines d a h)) ≡ side_entries d a k h
 unmade_by k d a [] = refl
-unmade_by k d a (e ∷ h) = both (sender_side d a e.sender == k) (sender_side d a e.sender) e (entries_by line_author k (made_lines d a h)) (entries_on d a k h)
+unmade_by k d a (e ∷ h) = both (sender_side d a e.sender == k) (sender_side d a e.sender) e (author_entries line_author k (made_lines d a h)) (side_entries d a k h)
     (unmade_by k d a h)
 
-lines_by : (k : ℕ) (d : Deal) (a : ℕ) (h : List Entry) → all_entries (entries_by line_author k (lines d a h)) ≡ entries_on d a k h
-lines_by k d a h = headed (2 == k) d a (entries_by line_author k (made_lines d a h)) ∙ unmade_by k d a h
+lines_by : (k : ℕ) (d : Deal) (a : ℕ) (h : List Entry) → all_entries (author_entries line_author k (lines d a h)) ≡ side_entries d a k h
+lines_by k d a h = headed (2 == k) d a (author_entries line_author k (made_lines d a h)) ∙ unmade_by k d a h
 
 pub same_deal : (k : ℕ) (d c : Deal) (a b : ℕ) (h s : List Entry) → Covers line_author (lines d a h) (k, lines c b s) → d ≡ c
-same_deal k d c a b h s v = sym (ap deal_in v.0.1)
+same_deal k d c a b h s v = sym (ap head_deal v.0.1)
 
 pub same_arc : (k : ℕ) (d c : Deal) (a b : ℕ) (h s : List Entry) → Covers line_author (lines d a h) (k, lines c b s) → a ≡ b
-same_arc k d c a b h s v = sym (ap read_clear_arc v.0.1)
+same_arc k d c a b h s v = sym (ap head_arc v.0.1)
 
 pub goes_longer : (k : ℕ) (d c : Deal) (a b : ℕ) (h s : List Entry) → Covers line_author (lines d a h) (k, lines c b s) → IsPrefix s h
 goes_longer k d c a b h s v = (all_entries v.0.0, sym (unmade_append c b s v.0.0) ∙ (ap all_entries v.0.1 ∙ unmade d a h))
 
-pub goes_on : (k : ℕ) (d c : Deal) (a b : ℕ) (h s : List Entry) → Covers line_author (lines d a h) (k, lines c b s) → entries_on d a k h ≡ entries_on c b k s
+pub goes_on : (k : ℕ) (d c : Deal) (a b : ℕ) (h s : List Entry) → Covers line_author (lines d a h) (k, lines c b s) → side_entries d a k h ≡ side_entries c b k s
 goes_on k d c a b h s v = sym (lines_by k d a h) ∙ (ap all_entries v.1 ∙ lines_by k c b s)
 
 pub all_made : (d : Deal) (a k : ℕ) (rest : List Entry) → AllByRecursion (λ e. sender_side d a e.sender ≡ k) rest

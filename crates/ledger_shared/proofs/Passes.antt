@@ -19,9 +19,9 @@ use Rattle.ledger_core.specs.declared.entry.Call.{Call}
 use Rattle.ledger_core.specs.History.{height, is_sender, is_tick, history_reply, reply_to_tick}
 use Rattle.ledger_core.specs.Ledger.{call_entry, tick_entry}
 use Rattle.ledger_core.specs.Value.{LedgerState}
-use Rattle.ledger_shared.specs.Lines.{sender_side, entries_on}
-use Rattle.ledger_shared.specs.Seat.{SeatState, knowing, new_seat, GoesOn, IsContinued}
-use Rattle.ledger_shared.specs.Pass.{inside_pass, clock_pass_of, Rests, IsOfParty, IsOfClock}
+use Rattle.ledger_shared.specs.Lines.{sender_side, side_entries}
+use Rattle.ledger_shared.specs.Seat.{SeatState, knowing, new_seat, ContinuesSeat, IsContinued}
+use Rattle.ledger_shared.specs.Pass.{inside_pass, inside_clock_pass, Rests, IsOfParty, IsOfClock}
 use Rattle.ledger_shared.specs.Value.{party_made, ticks_in_order, with_seen, clock_with_seen, added_by_call, added_by_tick, HasCalled, HasTicked, Closes}
 use Rattle.ledger_shared.specs.Value.{ClosesClock}
 use Rattle.ledger_shared.specs.declared.pass.Pass.TheInside as pass
@@ -38,7 +38,8 @@ seen_in n known h within pre = sym (take-append-le n known pre.0 within) ∙ ap 
 -- Of the entries that a test picks.
 
 module _ (f : Entry → Bool) where
-  -- none stands past what was seen, where none did in what was known and the history has no more of them
+  -- none stands past what was seen, where none did in what was known and the history has no more of
+  -- them
   pub none_fresh : (n : ℕ) (known h : List Entry) → n ≤ length known → IsPrefix known h → filter f known ≡ filter f (take n known)
       → filter f h ≡ filter f known → filter f (drop n h) ≡ []
   none_fresh n known h within pre own same =
@@ -54,7 +55,7 @@ own_all f n h is = ap (filter f) (sym (take_all n h (omega arith)))
 
 -- Which entries are a side's.
 
-pub sides_are : (d : Deal) (a k p : ℕ) (h : List Entry) → ((s : Sender) → (sender_side d a s == k) ≡ is_sender p s) → entries_on d a k h ≡ party_made p h
+pub sides_are : (d : Deal) (a k p : ℕ) (h : List Entry) → ((s : Sender) → (sender_side d a s == k) ≡ is_sender p s) → side_entries d a k h ≡ party_made p h
 sides_are d a k p h side = ap (λ (f : Entry → Bool). filter f h) (λ i e. side e.sender i)
 
 one_more : {A : Type 0} (p : A → Bool) (x : A) (b c : Bool) (qs ps : List A) → filter p qs ≡ ps → p x ≡ b → (b ≡ true → c ≡ true)
@@ -72,7 +73,7 @@ tick_side d a (Party p) e = absurd (true≢false (sym e))
 tick_side d a Clock e = refl
 
 -- a history with the entries of the third side as before has the ticks as before
-pub ticks_stay : (d : Deal) (a : ℕ) (h k : List Entry) → entries_on d a 2 h ≡ entries_on d a 2 k → ticks_in_order h ≡ ticks_in_order k
+pub ticks_stay : (d : Deal) (a : ℕ) (h k : List Entry) → side_entries d a 2 h ≡ side_entries d a 2 k → ticks_in_order h ≡ ticks_in_order k
 ticks_stay d a h k same =
     sym (filter_twice (λ (e : Entry). is_tick e.sender) (λ e. sender_side d a e.sender == 2) h (λ e. tick_side d a e.sender))
     ∙ (ap ticks_in_order same ∙ filter_twice (λ (e : Entry). is_tick e.sender) (λ e. sender_side d a e.sender == 2) k (λ e. tick_side d a e.sender))
@@ -96,8 +97,8 @@ rests_kept s n h r pre = record { idle = refl; began = prefix_trans s.shared s.k
 
 -- A ledger that is lent from its box is the one in it.
 
-pub goes_as : (s : SeatState) (l lent : LedgerState) → lent ≡ l → GoesOn s l → GoesOn s lent
-goes_as s l lent e g = subst (GoesOn s) (sym e) g
+pub goes_as : (s : SeatState) (l lent : LedgerState) → lent ≡ l → ContinuesSeat s l → ContinuesSeat s lent
+goes_as s l lent e g = subst (ContinuesSeat s) (sym e) g
 
 pub turned_as : (s mid : SeatState) (l lent : LedgerState) → lent ≡ l → mid ≡ knowing s true l.history → mid ≡ knowing s true lent.history
 turned_as s mid l lent e turn = turn ∙ ap (λ (x : LedgerState). knowing s true x.history) (sym e)
@@ -137,7 +138,7 @@ module _ (p : pass.Inside) (k : IsOfParty p) where
   abbrev then_at : SeatState → ℕ → pass.Inside
   then_at s n = record { seat = s; party = p.party; seen = n }
 
-  same_mine : (l : LedgerState) → GoesOn p.seat l → party_made p.party l.history ≡ party_made p.party p.seat.known
+  same_mine : (l : LedgerState) → ContinuesSeat p.seat l → party_made p.party l.history ≡ party_made p.party p.seat.known
   same_mine l g = sym (sides_are p.seat.deal p.seat.arc p.seat.number p.party l.history k.side)
       ∙ (g.own ∙ sides_are p.seat.deal p.seat.arc p.seat.number p.party p.seat.known k.side)
 
@@ -151,7 +152,7 @@ module _ (p : pass.Inside) (k : IsOfParty p) where
     mine = own_all (λ e. is_sender p.party e.sender) n h len;
   })
 
-  pub party_kept : (s : SeatState) (l : LedgerState) → GoesOn p.seat l → s ≡ knowing p.seat false l.history → IsOfParty (then_at s p.seen)
+  pub party_kept : (s : SeatState) (l : LedgerState) → ContinuesSeat p.seat l → s ≡ knowing p.seat false l.history → IsOfParty (then_at s p.seen)
   party_kept s l g is = subst (λ x. IsOfParty (then_at x p.seen)) (sym is)
       (record {
         rests = rests_kept p.seat p.seen l.history k.rests g.longer;
@@ -172,7 +173,7 @@ module _ (p : pass.Inside) (k : IsOfParty p) where
     seen = (take_all n h (omega arith) ∙ grows) i;
   })
 
-  pub party_same : (s : SeatState) (l : LedgerState) → GoesOn p.seat l → s ≡ knowing p.seat false l.history → inside_pass (then_at s p.seen) ≡ inside_pass p
+  pub party_same : (s : SeatState) (l : LedgerState) → ContinuesSeat p.seat l → s ≡ knowing p.seat false l.history → inside_pass (then_at s p.seen) ≡ inside_pass p
   party_same s l g is = ap (λ x. inside_pass (then_at x p.seen)) is ∙ (λ i. record {
     lock = p.seat.lock;
     deal = p.seat.deal;
@@ -187,10 +188,10 @@ module _ (p : pass.Inside) (k : IsOfParty p) where
   party_whole s n h is len pre =
       subst (λ w. IsPrefix p.seat.shared w) (sym (seen_is s n p.seat h is len)) (prefix_trans p.seat.shared p.seat.known h k.rests.began pre)
 
-  pub party_foreign : (l : LedgerState) → GoesOn p.seat l → party_made p.party (drop p.seen l.history) ≡ []
+  pub party_foreign : (l : LedgerState) → ContinuesSeat p.seat l → party_made p.party (drop p.seen l.history) ≡ []
   party_foreign l g = none_fresh (λ e. is_sender p.party e.sender) p.seen p.seat.known l.history k.rests.within g.longer k.mine (same_mine l g)
 
-  pub party_called : (l : LedgerState) (call : Call) (answer : Reply) (fresh : List Entry) → GoesOn p.seat l
+  pub party_called : (l : LedgerState) (call : Call) (answer : Reply) (fresh : List Entry) → ContinuesSeat p.seat l
       → answer ≡ history_reply l.deal l.arc l.history p.party call
       → fresh ≡ drop p.seen l.history ++ added_by_call answer (call_entry p.party (height l.history) call answer) → HasCalled (inside_pass p) call answer fresh
   party_called l call answer fresh g is fresh_is =
@@ -206,7 +207,7 @@ module _ (p : pass.Inside) (k : IsOfParty p) where
   own_side e is = eqb-true (sender_side p.seat.deal p.seat.arc e.sender) p.seat.number (k.side e.sender ∙ (ap (is_sender p.party) is
       ∙ eq-eqb p.party p.party refl))
 
-  pub party_continued : (l : LedgerState) (h : List Entry) (call : Call) (answer : Reply) → GoesOn p.seat l
+  pub party_continued : (l : LedgerState) (h : List Entry) (call : Call) (answer : Reply) → ContinuesSeat p.seat l
       → h ≡ l.history ++ added_by_call answer (call_entry p.party (height l.history) call answer)
       → IsContinued (knowing p.seat true l.history) h
   party_continued l h call answer g is = (
@@ -216,7 +217,7 @@ module _ (p : pass.Inside) (k : IsOfParty p) where
         (own_side (call_entry p.party (height l.history) call answer) refl),
   )
 
-  pub party_closes : (l : LedgerState) → GoesOn p.seat l → Closes l (inside_pass p)
+  pub party_closes : (l : LedgerState) → ContinuesSeat p.seat l → Closes l (inside_pass p)
   party_closes l g = record {
     deal = g.deal;
     arc = g.arc;
@@ -233,9 +234,9 @@ module _ (p : clock.Inside) (k : IsOfClock p) where
   abbrev clock_then : SeatState → ℕ → clock.Inside
   clock_then s n = record { seat = s; seen = n }
 
-  same_ticks : (l : LedgerState) → GoesOn p.seat l → ticks_in_order l.history ≡ ticks_in_order p.seat.known
-  same_ticks l g = ticks_stay p.seat.deal p.seat.arc l.history p.seat.known (subst (λ n. entries_on p.seat.deal p.seat.arc n l.history
-      ≡ entries_on p.seat.deal p.seat.arc n p.seat.known) k.side g.own)
+  same_ticks : (l : LedgerState) → ContinuesSeat p.seat l → ticks_in_order l.history ≡ ticks_in_order p.seat.known
+  same_ticks l g = ticks_stay p.seat.deal p.seat.arc l.history p.seat.known (subst (λ n. side_entries p.seat.deal p.seat.arc n l.history
+      ≡ side_entries p.seat.deal p.seat.arc n p.seat.known) k.side g.own)
 
   pub clock_all : (s : SeatState) (n : ℕ) (h : List Entry) → s ≡ knowing p.seat false h → IsPrefix p.seat.known h → n ≡ length h → IsOfClock (clock_then s n)
   clock_all s n h is pre len = subst (λ x. IsOfClock (clock_then x n)) (sym is) (record {
@@ -245,7 +246,7 @@ module _ (p : clock.Inside) (k : IsOfClock p) where
     mine = own_all (λ e. is_tick e.sender) n h len;
   })
 
-  pub clock_kept : (s : SeatState) (l : LedgerState) → GoesOn p.seat l → s ≡ knowing p.seat false l.history → IsOfClock (clock_then s p.seen)
+  pub clock_kept : (s : SeatState) (l : LedgerState) → ContinuesSeat p.seat l → s ≡ knowing p.seat false l.history → IsOfClock (clock_then s p.seen)
   clock_kept s l g is = subst (λ x. IsOfClock (clock_then x p.seen)) (sym is)
       (record {
         rests = rests_kept p.seat p.seen l.history k.rests g.longer;
@@ -255,8 +256,8 @@ module _ (p : clock.Inside) (k : IsOfClock p) where
       })
 
   pub clock_sees : (s : SeatState) (n : ℕ) (h fresh : List Entry) → s ≡ knowing p.seat false h → n ≡ length h → h ≡ take p.seen p.seat.known ++ fresh
-      → clock_pass_of (clock_then s n) ≡ clock_with_seen (clock_pass_of p) fresh
-  clock_sees s n h fresh is len grows = ap (λ x. clock_pass_of (clock_then x n)) is ∙ (λ i. record {
+      → inside_clock_pass (clock_then s n) ≡ clock_with_seen (inside_clock_pass p) fresh
+  clock_sees s n h fresh is len grows = ap (λ x. inside_clock_pass (clock_then x n)) is ∙ (λ i. record {
     lock = p.seat.lock;
     deal = p.seat.deal;
     arc =
@@ -265,9 +266,9 @@ module _ (p : clock.Inside) (k : IsOfClock p) where
     seen = (take_all n h (omega arith) ∙ grows) i;
   })
 
-  pub clock_same : (s : SeatState) (l : LedgerState) → GoesOn p.seat l → s ≡ knowing p.seat false l.history
-      → clock_pass_of (clock_then s p.seen) ≡ clock_pass_of p
-  clock_same s l g is = ap (λ x. clock_pass_of (clock_then x p.seen)) is ∙ (λ i. record {
+  pub clock_same : (s : SeatState) (l : LedgerState) → ContinuesSeat p.seat l → s ≡ knowing p.seat false l.history
+      → inside_clock_pass (clock_then s p.seen) ≡ inside_clock_pass p
+  clock_same s l g is = ap (λ x. inside_clock_pass (clock_then x p.seen)) is ∙ (λ i. record {
     lock = p.seat.lock;
     deal = p.seat.deal;
     arc = p.seat.arc;
@@ -281,9 +282,9 @@ module _ (p : clock.Inside) (k : IsOfClock p) where
   clock_whole s n h is len pre =
       subst (λ w. IsPrefix p.seat.shared w) (sym (seen_is s n p.seat h is len)) (prefix_trans p.seat.shared p.seat.known h k.rests.began pre)
 
-  pub clock_ticked : (l : LedgerState) (t : ℕ) (answer : Reply) (h : List Entry) (s : SeatState) (n : ℕ) → GoesOn p.seat l
+  pub clock_ticked : (l : LedgerState) (t : ℕ) (answer : Reply) (h : List Entry) (s : SeatState) (n : ℕ) → ContinuesSeat p.seat l
       → answer ≡ reply_to_tick l.history t → h ≡ l.history ++ added_by_tick answer (tick_entry t (height l.history + t) answer)
-      → s ≡ knowing p.seat false h → n ≡ length h → HasTicked (clock_pass_of p) t answer (clock_pass_of (clock_then s n))
+      → s ≡ knowing p.seat false h → n ≡ length h → HasTicked (inside_clock_pass p) t answer (inside_clock_pass (clock_then s n))
   clock_ticked l t answer h s n g is h_is s_is len =
       let whole = sym (seen_whole p.seen p.seat.known l.history k.rests.within g.longer) in
       let fresh : List Entry = drop p.seen l.history ++ added_by_tick answer (tick_entry t (height l.history + t) answer) in record {
@@ -292,7 +293,7 @@ module _ (p : clock.Inside) (k : IsOfClock p) where
         reply = is ∙ ap (λ w. reply_to_tick w t) whole;
         entries = clock_sees s n h fresh s_is len (seen_grows p.seen p.seat.known l.history
             (added_by_tick answer (tick_entry t (height l.history + t) answer)) h fresh k.rests.within g.longer h_is refl)
-            ∙ ap (λ (w : List Entry). clock_with_seen (clock_pass_of p) (drop p.seen l.history ++ added_by_tick answer
+            ∙ ap (λ (w : List Entry). clock_with_seen (inside_clock_pass p) (drop p.seen l.history ++ added_by_tick answer
             (tick_entry t (height w + t) answer))) whole;
       }
 
@@ -305,7 +306,7 @@ module _ (p : clock.Inside) (k : IsOfClock p) where
     of_ticked (λ e. sender_side p.seat.deal p.seat.arc e.sender ≡ p.seat.number) answer (tick_entry t (height l.history + t) answer) (sym k.side),
   )
 
-  pub clock_closes : (l : LedgerState) → GoesOn p.seat l → ClosesClock l (clock_pass_of p)
+  pub clock_closes : (l : LedgerState) → ContinuesSeat p.seat l → ClosesClock l (inside_clock_pass p)
   clock_closes l g = record {
     deal = g.deal;
     arc = g.arc;

@@ -2,19 +2,19 @@
 use Rattle.std.proofs.Common.{◌≡◌, ℕ, zero, suc, ◌<◌, Bool, true, false, IsTrue, List, [], ◌∷◌, ◌++◌, refl, sym, ap, ◌∙◌, subst, arith}
 use Rattle.std.specs.List.{AllByRecursion}
 use Rattle.atomic_table.specs.Seated.{TableId}
-use Rattle.turn_lock.specs.Parts.{IsContinuedBy, has_number, Covers, Part}
+use Rattle.turn_lock.specs.Parts.{IsContinuedByAuthor, has_number, Covers, Part}
 use Rattle.atomic_table.specs.declared.shared.Seat.{Seat}
 use Rattle.turn_lock.specs.declared.view.View.{View}
 use Rattle.std.specs.Prelude.{Option}
-use Rattle.turn_lock.specs.Turns.{SeatsFrom, Sat, idle, busy, both_of, key_opening, number_of, known_key, IsIdle, IsBusy, IsResting}
+use Rattle.turn_lock.specs.Turns.{AreNumberedSeats, Sat, idle, busy, joined_view, key_opening, seat_number, known_key, IsIdle, IsBusy, IsResting}
 use Rattle.swap_digraph.specs.declared.deal.Deal.{Deal}
 use Rattle.ledger_core.specs.declared.entry.Entry.{Entry}
 use Rattle.ledger_core.specs.Value.{LedgerState}
 use Rattle.ledger_shared.specs.declared.shelf.Line.{Line}
 use Rattle.ledger_shared.specs.declared.shelf.Line.TheVariants.{Head}
 use Rattle.ledger_shared.specs.declared.shelf.Shelf.{Shelf}
-use Rattle.ledger_shared.specs.Lines.{entries_on, made_lines, lines, line_author}
-use Rattle.ledger_shared.specs.Seat.{SeatState, inside_state, at, IsAt, knowing, new_seat, GoesOn, IsContinued}
+use Rattle.ledger_shared.specs.Lines.{side_entries, made_lines, lines, line_author}
+use Rattle.ledger_shared.specs.Seat.{SeatState, inside_state, busy_or_idle, HasSeatLines, knowing, new_seat, ContinuesSeat, IsContinued}
 use Rattle.ledger_shared.proofs.Lines.{unmade, made_append, all_made, same_deal, same_arc, goes_longer, goes_on}
 
 abbrev Me : Type 0
@@ -23,22 +23,22 @@ Me = Sat Shelf Line
 -- What a seat whose histories are those lines says of itself.
 
 pub says : (lock : TableId) (d : Deal) (a k : ℕ) (shared h : List Entry) (b : Bool)
-    → inside_state lock (at b (lines d a shared) k (lines d a h)) ≡ record { lock = lock; deal = d; arc = a; number = k; holds = b; shared = shared; known = h }
+    → inside_state lock (busy_or_idle b (lines d a shared) k (lines d a h)) ≡ record { lock = lock; deal = d; arc = a; number = k; holds = b; shared = shared; known = h }
 says lock d a k shared h true = λ i. record { lock = lock; deal = d; arc = a; number = k; holds = true; shared = unmade d a shared i; known = unmade d a h i }
 says lock d a k shared h false = λ i. record { lock = lock; deal = d; arc = a; number = k; holds = false; shared = unmade d a shared i; known = unmade d a h i }
 
-pub is_at : (lock : TableId) (d : Deal) (a k : ℕ) (shared h : List Entry) (b : Bool) (m : Me) → m ≡ at b (lines d a shared) k (lines d a h)
-    → IsAt (inside_state lock m) m
+pub is_at : (lock : TableId) (d : Deal) (a k : ℕ) (shared h : List Entry) (b : Bool) (m : Me) → m ≡ busy_or_idle b (lines d a shared) k (lines d a h)
+    → HasSeatLines (inside_state lock m) m
 is_at lock d a k shared h b m is =
-    subst (λ (x : Me). IsAt (inside_state lock x) x) (sym is) (subst (λ s. IsAt s (at b (lines d a shared) k (lines d a h)))
+    subst (λ (x : Me). HasSeatLines (inside_state lock x) x) (sym is) (subst (λ s. HasSeatLines s (busy_or_idle b (lines d a shared) k (lines d a h)))
     (sym (says lock d a k shared h b)) refl)
 
-pub says_of : (lock : TableId) (d : Deal) (a k : ℕ) (shared h : List Entry) (b : Bool) (m : Me) → m ≡ at b (lines d a shared) k (lines d a h)
+pub says_of : (lock : TableId) (d : Deal) (a k : ℕ) (shared h : List Entry) (b : Bool) (m : Me) → m ≡ busy_or_idle b (lines d a shared) k (lines d a h)
     → inside_state lock m ≡ record { lock = lock; deal = d; arc = a; number = k; holds = b; shared = shared; known = h }
 says_of lock d a k shared h b m is = ap (inside_state lock) is ∙ says lock d a k shared h b
 
 -- it is the seat s, which knows the history h
-now_knows : (s : SeatState) (lock : TableId) (b : Bool) (h : List Entry) (m : Me) → m ≡ at b (lines s.deal s.arc s.shared) s.number (lines s.deal s.arc h)
+now_knows : (s : SeatState) (lock : TableId) (b : Bool) (h : List Entry) (m : Me) → m ≡ busy_or_idle b (lines s.deal s.arc s.shared) s.number (lines s.deal s.arc h)
     → lock ≡ s.lock → inside_state lock m ≡ knowing s b h
 now_knows s lock b h m is same = says_of lock s.deal s.arc s.number s.shared h b m is ∙ (λ i. record {
   lock = same i;
@@ -52,64 +52,64 @@ now_knows s lock b h m is same = says_of lock s.deal s.arc s.number s.shared h b
 })
 
 -- with its turn or without
-is_idle : (s : SeatState) (m : Me) → IsAt s m → s.holds ≡ false → m ≡ idle (lines s.deal s.arc s.shared) s.number (lines s.deal s.arc s.known)
-is_idle s m is free = is ∙ ap (λ b. at b (lines s.deal s.arc s.shared) s.number (lines s.deal s.arc s.known)) free
+is_idle : (s : SeatState) (m : Me) → HasSeatLines s m → s.holds ≡ false → m ≡ idle (lines s.deal s.arc s.shared) s.number (lines s.deal s.arc s.known)
+is_idle s m is free = is ∙ ap (λ b. busy_or_idle b (lines s.deal s.arc s.shared) s.number (lines s.deal s.arc s.known)) free
 
-is_busy : (s : SeatState) (m : Me) → IsAt s m → s.holds ≡ true → m ≡ busy (lines s.deal s.arc s.shared) s.number (lines s.deal s.arc s.known)
-is_busy s m is held = is ∙ ap (λ b. at b (lines s.deal s.arc s.shared) s.number (lines s.deal s.arc s.known)) held
+is_busy : (s : SeatState) (m : Me) → HasSeatLines s m → s.holds ≡ true → m ≡ busy (lines s.deal s.arc s.shared) s.number (lines s.deal s.arc s.known)
+is_busy s m is held = is ∙ ap (λ b. busy_or_idle b (lines s.deal s.arc s.shared) s.number (lines s.deal s.arc s.known)) held
 
-pub to_idle : (s : SeatState) (m : Me) → IsAt s m → s.holds ≡ false → IsIdle m
+pub to_idle : (s : SeatState) (m : Me) → HasSeatLines s m → s.holds ≡ false → IsIdle m
 to_idle s m is free = subst IsIdle (sym (is_idle s m is free)) refl
 
-pub to_busy : (s : SeatState) (m : Me) → IsAt s m → s.holds ≡ true → IsBusy m
+pub to_busy : (s : SeatState) (m : Me) → HasSeatLines s m → s.holds ≡ true → IsBusy m
 to_busy s m is held = subst IsBusy (sym (is_busy s m is held)) refl
 
-pub to_resting : (s : SeatState) (m : Me) → IsAt s m → s.holds ≡ false → IsResting m
+pub to_resting : (s : SeatState) (m : Me) → HasSeatLines s m → s.holds ≡ false → IsResting m
 to_resting s m is free = subst IsResting (sym (is_idle s m is free)) (refl, refl)
 
 -- Taking and giving.
 
 -- a history that covers what the seat knows
-pub covered_known : (s : SeatState) (l : LedgerState) → Covers line_author (lines l.deal l.arc l.history) (s.number, lines s.deal s.arc s.known) → GoesOn s l
+pub covered_known : (s : SeatState) (l : LedgerState) → Covers line_author (lines l.deal l.arc l.history) (s.number, lines s.deal s.arc s.known) → ContinuesSeat s l
 covered_known s l v =
     let deal = same_deal s.number l.deal s.deal l.arc s.arc l.history s.known v in
     let arc = same_arc s.number l.deal s.deal l.arc s.arc l.history s.known v in record {
       deal = deal;
       arc = arc;
       longer = goes_longer s.number l.deal s.deal l.arc s.arc l.history s.known v;
-      own = subst (λ (x : Deal × ℕ). entries_on x.0 x.1 s.number l.history ≡ entries_on s.deal s.arc s.number s.known) (λ i. (deal i, arc i))
+      own = subst (λ (x : Deal × ℕ). side_entries x.0 x.1 s.number l.history ≡ side_entries s.deal s.arc s.number s.known) (λ i. (deal i, arc i))
           (goes_on s.number l.deal s.deal l.arc s.arc l.history s.known v);
     }
 
-pub covered : (s : SeatState) (m : Me) (l : LedgerState) → IsAt s m → s.holds ≡ false → Covers line_author (lines l.deal l.arc l.history) (
-  number_of m,
+pub covered : (s : SeatState) (m : Me) (l : LedgerState) → HasSeatLines s m → s.holds ≡ false → Covers line_author (lines l.deal l.arc l.history) (
+  seat_number m,
   known_key m,
-) → GoesOn s l
+) → ContinuesSeat s l
 covered s m l is free c = covered_known s l (subst (λ (x : Me). Covers line_author (lines l.deal l.arc l.history) (
-  number_of x,
+  seat_number x,
   known_key x,
 )) (is_idle s m is free) c)
 
 collect_lines : (d c : Deal) (a b : ℕ) (h : List Entry) → d ≡ c → a ≡ b → lines d a h ≡ lines c b h
 collect_lines d c a b h e f = λ i. lines (e i) (f i) h
 
-pub taken : (s : SeatState) (m m' : Me) (l : LedgerState) → IsAt s m → s.holds ≡ false → GoesOn s l
-    → m' ≡ busy (key_opening m) (number_of m) (lines l.deal l.arc l.history)
-    → m' ≡ at true (lines s.deal s.arc s.shared) s.number (lines s.deal s.arc l.history)
+pub taken : (s : SeatState) (m m' : Me) (l : LedgerState) → HasSeatLines s m → s.holds ≡ false → ContinuesSeat s l
+    → m' ≡ busy (key_opening m) (seat_number m) (lines l.deal l.arc l.history)
+    → m' ≡ busy_or_idle true (lines s.deal s.arc s.shared) s.number (lines s.deal s.arc l.history)
 taken s m m' l is free g e = e
-    ∙ (ap (λ (x : Me). busy (key_opening x) (number_of x) (lines l.deal l.arc l.history)) (is_idle s m is free)
+    ∙ (ap (λ (x : Me). busy (key_opening x) (seat_number x) (lines l.deal l.arc l.history)) (is_idle s m is free)
     ∙ ap (λ (w : List Line). busy (lines s.deal s.arc s.shared) s.number w) (collect_lines l.deal s.deal l.arc s.arc l.history g.deal g.arc))
 
-pub given : (s : SeatState) (m m' : Me) (l : LedgerState) → IsAt s m → s.holds ≡ true → l.deal ≡ s.deal → l.arc ≡ s.arc
-    → m' ≡ idle (key_opening m) (number_of m) (lines l.deal l.arc l.history)
-    → m' ≡ at false (lines s.deal s.arc s.shared) s.number (lines s.deal s.arc l.history)
+pub given : (s : SeatState) (m m' : Me) (l : LedgerState) → HasSeatLines s m → s.holds ≡ true → l.deal ≡ s.deal → l.arc ≡ s.arc
+    → m' ≡ idle (key_opening m) (seat_number m) (lines l.deal l.arc l.history)
+    → m' ≡ busy_or_idle false (lines s.deal s.arc s.shared) s.number (lines s.deal s.arc l.history)
 given s m m' l is held deal arc e = e
-    ∙ (ap (λ (x : Me). idle (key_opening x) (number_of x) (lines l.deal l.arc l.history)) (is_busy s m is held)
+    ∙ (ap (λ (x : Me). idle (key_opening x) (seat_number x) (lines l.deal l.arc l.history)) (is_busy s m is held)
     ∙ ap (λ (w : List Line). idle (lines s.deal s.arc s.shared) s.number w) (collect_lines l.deal s.deal l.arc s.arc l.history deal arc))
 
-pub continued : (s : SeatState) (m : Me) (l : LedgerState) → IsAt s m → s.holds ≡ true → l.deal ≡ s.deal → l.arc ≡ s.arc → IsContinued s l.history
-    → IsContinuedBy line_author (number_of m) (known_key m) (lines l.deal l.arc l.history)
-continued s m l is held deal arc on = subst (λ (x : Me). IsContinuedBy line_author (number_of x) (known_key x) (lines l.deal l.arc l.history))
+pub continued : (s : SeatState) (m : Me) (l : LedgerState) → HasSeatLines s m → s.holds ≡ true → l.deal ≡ s.deal → l.arc ≡ s.arc → IsContinued s l.history
+    → IsContinuedByAuthor line_author (seat_number m) (known_key m) (lines l.deal l.arc l.history)
+continued s m l is held deal arc on = subst (λ (x : Me). IsContinuedByAuthor line_author (seat_number x) (known_key x) (lines l.deal l.arc l.history))
     (sym (is_busy s m is held)) (
       made_lines s.deal s.arc on.0,
       ap (λ (w : List Line). Head s.deal s.arc ∷ w) (sym (made_append s.deal s.arc s.known on.0)) ∙ (ap (lines s.deal s.arc) (sym on.1)
@@ -118,17 +118,17 @@ continued s m l is held deal arc on = subst (λ (x : Me). IsContinuedBy line_aut
     )
 
 -- the seat with its turn: it knows the lines of the ledger, and they go on from what it knew
-pub take_step : (s : SeatState) (lock : TableId) (m m' : Me) (l : LedgerState) → IsAt s m → s.holds ≡ false → lock ≡ s.lock
-    → Covers line_author (lines l.deal l.arc l.history) (number_of m, known_key m) → m' ≡ busy (key_opening m) (number_of m) (lines l.deal l.arc l.history)
-    → IsAt (inside_state lock m') m' × (inside_state lock m' ≡ knowing s true l.history) × GoesOn s l
+pub take_step : (s : SeatState) (lock : TableId) (m m' : Me) (l : LedgerState) → HasSeatLines s m → s.holds ≡ false → lock ≡ s.lock
+    → Covers line_author (lines l.deal l.arc l.history) (seat_number m, known_key m) → m' ≡ busy (key_opening m) (seat_number m) (lines l.deal l.arc l.history)
+    → HasSeatLines (inside_state lock m') m' × (inside_state lock m' ≡ knowing s true l.history) × ContinuesSeat s l
 take_step s lock m m' l is free same c turn =
     let g = covered s m l is free c in
     let me = taken s m m' l is free g turn in
     (is_at lock s.deal s.arc s.number s.shared l.history true m' me, now_knows s lock true l.history m' me same, g)
 
-pub give_step : (s : SeatState) (lock : TableId) (m m' : Me) (l : LedgerState) → IsAt s m → s.holds ≡ true → lock ≡ s.lock → l.deal ≡ s.deal → l.arc ≡ s.arc
-    → m' ≡ idle (key_opening m) (number_of m) (lines l.deal l.arc l.history)
-    → IsAt (inside_state lock m') m' × (inside_state lock m' ≡ knowing s false l.history)
+pub give_step : (s : SeatState) (lock : TableId) (m m' : Me) (l : LedgerState) → HasSeatLines s m → s.holds ≡ true → lock ≡ s.lock → l.deal ≡ s.deal → l.arc ≡ s.arc
+    → m' ≡ idle (key_opening m) (seat_number m) (lines l.deal l.arc l.history)
+    → HasSeatLines (inside_state lock m') m' × (inside_state lock m' ≡ knowing s false l.history)
 give_step s lock m m' l is held same deal arc turn =
     let me = given s m m' l is held deal arc turn in
     (is_at lock s.deal s.arc s.number s.shared l.history false m' me, now_knows s lock false l.history m' me same)
@@ -139,13 +139,13 @@ abbrev LockSeat : Type 0
 LockSeat = Seat (Option Shelf) (View Line)
 
 -- each of three seats of a new lock
-pub three_seats : (lock : TableId) (start : List Line) (items : List LockSeat) (a b c : LockSeat) → items ≡ a ∷ b ∷ c ∷ [] → SeatsFrom lock start 0 items
+pub three_seats : (lock : TableId) (start : List Line) (items : List LockSeat) (a b c : LockSeat) → items ≡ a ∷ b ∷ c ∷ [] → AreNumberedSeats lock start 0 items
     → ((a.table_id ≡ lock) × (a.me ≡ idle start 0 start)) × ((b.table_id ≡ lock) × (b.me ≡ idle start 1 start))
     × ((c.table_id ≡ lock) × (c.me ≡ idle start 2 start))
-three_seats lock start items a b c is seats = let all = subst (SeatsFrom lock start 0) is seats in (all.0, all.1.0, all.1.1.0)
+three_seats lock start items a b c is seats = let all = subst (AreNumberedSeats lock start 0) is seats in (all.0, all.1.0, all.1.1.0)
 
 pub new_step : (l : LedgerState) (lock mine : TableId) (k : ℕ) (m : Me) → (mine ≡ lock)
-    × (m ≡ idle (lines l.deal l.arc l.history) k (lines l.deal l.arc l.history)) → IsAt (inside_state mine m) m × (inside_state mine m ≡ new_seat lock l k)
+    × (m ≡ idle (lines l.deal l.arc l.history) k (lines l.deal l.arc l.history)) → HasSeatLines (inside_state mine m) m × (inside_state mine m ≡ new_seat lock l k)
 new_step l lock mine k m e = (
   is_at mine l.deal l.arc k l.history l.history false m e.1,
   says_of mine l.deal l.arc k l.history l.history false m e.1 ∙ (λ i. record {
@@ -163,8 +163,8 @@ new_step l lock mine k m e = (
 -- Closing.
 
 -- the parts of the three seats, joined
-pub parts_of : (r s t : SeatState) (a b c two three : Me) → IsAt r a → IsAt s b → IsAt t c → r.holds ≡ false → s.holds ≡ false → t.holds ≡ false
-    → two ≡ (both_of a.0 b.0, []) → three ≡ (both_of two.0 c.0, [])
+pub parts_of : (r s t : SeatState) (a b c two three : Me) → HasSeatLines r a → HasSeatLines s b → HasSeatLines t c → r.holds ≡ false → s.holds ≡ false → t.holds ≡ false
+    → two ≡ (joined_view a.0 b.0, []) → three ≡ (joined_view two.0 c.0, [])
     → three.0.parts ≡ (r.number, lines r.deal r.arc r.known) ∷ (s.number, lines s.deal s.arc s.known) ∷ (t.number, lines t.deal t.arc t.known) ∷ []
 parts_of r s t a b c two three is_r is_s is_t free_r free_s free_t is_two is_three =
     ap (λ (x : Me). x.0.parts) is_three
@@ -175,7 +175,7 @@ parts_of r s t a b c two three is_r is_s is_t free_r free_s free_t is_two is_thr
       is_idle t c is_t free_t i,
     )))
 
-pub rests_too : (two : Me) (a b : Me) → two ≡ (both_of a.0 b.0, []) → IsResting two
+pub rests_too : (two : Me) (a b : Me) → two ≡ (joined_view a.0 b.0, []) → IsResting two
 rests_too two a b is = subst IsResting (sym is) (refl, refl)
 
 -- the three numbers
@@ -196,9 +196,9 @@ has_each r s t ps zero_r one_s two_t is n k three below =
     which (suc (suc (suc k))) b = absurd (omega arith)
 
 -- the ledger that comes of the joined seats goes on from what each knew
-pub close_step : (r s t : SeatState) (a b c two three : Me) (l : LedgerState) → IsAt r a → IsAt s b → IsAt t c → r.holds ≡ false → s.holds ≡ false
-    → t.holds ≡ false → two ≡ (both_of a.0 b.0, []) → three ≡ (both_of two.0 c.0, [])
-    → AllByRecursion (Covers line_author (lines l.deal l.arc l.history)) three.0.parts → GoesOn r l × GoesOn s l × GoesOn t l
+pub close_step : (r s t : SeatState) (a b c two three : Me) (l : LedgerState) → HasSeatLines r a → HasSeatLines s b → HasSeatLines t c → r.holds ≡ false → s.holds ≡ false
+    → t.holds ≡ false → two ≡ (joined_view a.0 b.0, []) → three ≡ (joined_view two.0 c.0, [])
+    → AllByRecursion (Covers line_author (lines l.deal l.arc l.history)) three.0.parts → ContinuesSeat r l × ContinuesSeat s l × ContinuesSeat t l
 close_step r s t a b c two three l is_r is_s is_t free_r free_s free_t is_two is_three all =
     let each : AllByRecursion (Covers line_author (lines l.deal l.arc l.history)) ((r.number, lines r.deal r.arc r.known) ∷ (
       s.number,

@@ -10,14 +10,15 @@ use Rattle.ledger_core.specs.declared.entry.Sender.TheVariants.{Party, Clock}
 use Rattle.ledger_shared.specs.declared.shelf.Line.{Line}
 use Rattle.ledger_shared.specs.declared.shelf.Line.TheVariants.{Head, Made}
 
--- the number of the seat that makes the sender's entries: 0 for the arc's party, 1 for its counterparty, 2 for the clock
+-- the number of the seat that makes the sender's entries: 0 for the arc's party, 1 for its
+-- counterparty, 2 for the clock
 abbrev pub sender_side : Deal → ℕ → Sender → ℕ
 sender_side d a (Party p) = if p == party d a then 0 else (if p == counterparty d a then 1 else 2)
 sender_side d a Clock = 2
 
 -- the entries of one side
-abbrev pub entries_on : Deal → ℕ → ℕ → List Entry → List Entry
-entries_on d a k h = filter (λ e. sender_side d a e.sender == k) h
+abbrev pub side_entries : Deal → ℕ → ℕ → List Entry → List Entry
+side_entries d a k h = filter (λ e. sender_side d a e.sender == k) h
 
 abbrev pub made_lines : Deal → ℕ → List Entry → List Line
 made_lines d a [] = []
@@ -37,9 +38,9 @@ all_entries [] = []
 all_entries (Head d a ∷ ls) = all_entries ls
 all_entries (Made k e ∷ ls) = e ∷ all_entries ls
 
-abbrev pub read_clear_arc : List Line → ℕ
-read_clear_arc (Head d a ∷ ls) = a
-read_clear_arc _ = 0
+abbrev pub head_arc : List Line → ℕ
+head_arc (Head d a ∷ ls) = a
+head_arc _ = 0
 
 abbrev pub no_deal : Deal
 no_deal =
@@ -58,6 +59,6 @@ no_deal =
       id = [];
     }
 
-abbrev pub deal_in : List Line → Deal
-deal_in (Head d a ∷ ls) = d
-deal_in _ = no_deal
+abbrev pub head_deal : List Line → Deal
+head_deal (Head d a ∷ ls) = d
+head_deal _ = no_deal

@@ -13,8 +13,8 @@ use Rattle.ledger_shared.specs.declared.pass.ClockPass.TheInside as clock
 abbrev pub inside_pass : pass.Inside → PassState
 inside_pass p = record { lock = p.seat.lock; deal = p.seat.deal; arc = p.seat.arc; party = p.party; shared = p.seat.shared; seen = take p.seen p.seat.known }
 
-abbrev pub clock_pass_of : clock.Inside → ClockState
-clock_pass_of p = record { lock = p.seat.lock; deal = p.seat.deal; arc = p.seat.arc; shared = p.seat.shared; seen = take p.seen p.seat.known }
+abbrev pub inside_clock_pass : clock.Inside → ClockState
+inside_clock_pass p = record { lock = p.seat.lock; deal = p.seat.deal; arc = p.seat.arc; shared = p.seat.shared; seen = take p.seen p.seat.known }
 
 -- The seat holds no turn, and knows at least what was shared and what was seen.
 pub record Rests (s : SeatState) (n : ℕ) : Type 0 where
@@ -22,7 +22,8 @@ pub record Rests (s : SeatState) (n : ℕ) : Type 0 where
   pub began : IsPrefix s.shared s.known
   pub within : n ≤ length s.known
 
--- The seat makes the entries of the party, one of the two, and of those none stands past what was seen.
+-- The seat makes the entries of the party, one of the two, and of those none stands past what was
+-- seen.
 pub record IsOfParty (p : pass.Inside) : Type 0 where
   pub rests : Rests p.seat p.seen
   pub of_the_two : IsTrue ((p.party == party p.seat.deal p.seat.arc) || (p.party == counterparty p.seat.deal p.seat.arc))

@@ -3,14 +3,14 @@ use Rattle.std.specs.Prelude.{◌≡◌, ℕ, Bool, true, false, List, ◌++◌}
 use Rattle.std.specs.List.{AllByRecursion}
 use mathlib.Core.List.{IsPrefix}
 use Rattle.atomic_table.specs.Seated.{TableId}
-use Rattle.turn_lock.specs.Turns.{Sat, idle, busy, key_opening, number_of, known_key}
+use Rattle.turn_lock.specs.Turns.{Sat, idle, busy, key_opening, seat_number, known_key}
 use Rattle.swap_digraph.specs.declared.deal.Deal.{Deal}
 use Rattle.ledger_core.specs.declared.entry.Entry.{Entry}
 use Rattle.ledger_core.specs.Value.{LedgerState}
 use Rattle.ledger_shared.specs.declared.shelf.Line.{Line}
 use Rattle.ledger_shared.specs.declared.shelf.Shelf.{Shelf}
 use Rattle.ledger_shared.specs.declared.seat.LedgerSeat.TheInside.{Inside}
-use Rattle.ledger_shared.specs.Lines.{lines, all_entries, deal_in, read_clear_arc, sender_side, entries_on}
+use Rattle.ledger_shared.specs.Lines.{lines, all_entries, head_deal, head_arc, sender_side, side_entries}
 
 pub record SeatState : Type 0 where
   pub lock : TableId
@@ -28,9 +28,9 @@ abbrev pub inside_state : TableId → Sat Shelf Line → SeatState
 inside_state lock m =
     record {
       lock = lock;
-      deal = deal_in (key_opening m);
-      arc = read_clear_arc (key_opening m);
-      number = number_of m;
+      deal = head_deal (key_opening m);
+      arc = head_arc (key_opening m);
+      number = seat_number m;
       holds = m.0.holds;
       shared = all_entries (key_opening m);
       known = all_entries (known_key m);
@@ -40,16 +40,16 @@ abbrev pub inside_seat : Inside → SeatState
 inside_seat s = inside_state s.seat.table_id s.seat.me
 
 -- with the turn or without
-abbrev pub at : Bool → List Line → ℕ → List Line → Sat Shelf Line
-at true o k h = busy o k h
-at false o k h = idle o k h
+abbrev pub busy_or_idle : Bool → List Line → ℕ → List Line → Sat Shelf Line
+busy_or_idle true o k h = busy o k h
+busy_or_idle false o k h = idle o k h
 
 -- What it knows are lines on the same deal and arc.
-abbrev pub IsAt : SeatState → Sat Shelf Line → Type 0
-IsAt s m = m ≡ at s.holds (lines s.deal s.arc s.shared) s.number (lines s.deal s.arc s.known)
+abbrev pub HasSeatLines : SeatState → Sat Shelf Line → Type 0
+HasSeatLines s m = m ≡ busy_or_idle s.holds (lines s.deal s.arc s.shared) s.number (lines s.deal s.arc s.known)
 
 abbrev pub KnowsLines : Inside → Type 0
-KnowsLines s = IsAt (inside_seat s) s.seat.me
+KnowsLines s = HasSeatLines (inside_seat s) s.seat.me
 
 -- the same seat, with the turn or without, which knows the history h
 abbrev pub knowing : SeatState → Bool → List Entry → SeatState
@@ -59,12 +59,13 @@ knowing s b h = record { lock = s.lock; deal = s.deal; arc = s.arc; number = s.n
 abbrev pub new_seat : TableId → LedgerState → ℕ → SeatState
 new_seat lock l k = record { lock = lock; deal = l.deal; arc = l.arc; number = k; holds = false; shared = l.history; known = l.history }
 
--- The ledger is that of the seat, its history goes on from what the seat knows, and has no further entry of its side.
-pub record GoesOn (s : SeatState) (l : LedgerState) : Type 0 where
+-- The ledger is that of the seat, its history goes on from what the seat knows, and has no further
+-- entry of its side.
+pub record ContinuesSeat (s : SeatState) (l : LedgerState) : Type 0 where
   pub deal : l.deal ≡ s.deal
   pub arc : l.arc ≡ s.arc
   pub longer : IsPrefix s.known l.history
-  pub own : entries_on s.deal s.arc s.number l.history ≡ entries_on s.deal s.arc s.number s.known
+  pub own : side_entries s.deal s.arc s.number l.history ≡ side_entries s.deal s.arc s.number s.known
 
 -- The history goes on from what the seat knows, by entries of its side alone.
 abbrev pub IsContinued : SeatState → List Entry → Type 0

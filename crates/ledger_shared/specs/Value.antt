@@ -1,4 +1,5 @@
--- What callers see of a shared ledger and of its passes, and what is told of a call, a look, a tick and the closing.
+-- What callers see of a shared ledger and of its passes, and what is told of a call, a look, a tick
+-- and the closing.
 use Rattle.std.specs.Prelude.{◌≡◌, ℕ, ◌+◌, List, [], ◌∷◌, ◌++◌, filter}
 use mathlib.Core.List.{IsPrefix}
 use Rattle.atomic_table.specs.Seated.{TableId}
@@ -58,19 +59,19 @@ abbrev pub clock_with_seen : ClockState → List Entry → ClockState
 clock_with_seen p fresh = record { lock = p.lock; deal = p.deal; arc = p.arc; shared = p.shared; seen = p.seen ++ fresh }
 
 -- the pass of a party that has seen some of the shared history
-abbrev pub pass_at : TableId → LedgerState → (p : ℕ) (seen : List Entry) → PassState
-pass_at lock l p seen = record { lock = lock; deal = l.deal; arc = l.arc; party = p; shared = l.history; seen = seen }
+abbrev pub party_pass : TableId → LedgerState → (p : ℕ) (seen : List Entry) → PassState
+party_pass lock l p seen = record { lock = lock; deal = l.deal; arc = l.arc; party = p; shared = l.history; seen = seen }
 
 -- the clock's pass has seen all that was shared
 abbrev pub table_clock : TableId → LedgerState → ClockState
 table_clock lock l = record { lock = lock; deal = l.deal; arc = l.arc; shared = l.history; seen = l.history }
 
 -- the pass is that of the arc's party at the ledger, or of its counterparty
-abbrev pub IsFirstAt : TableId → PassState → Type 0
-IsFirstAt lock p = (p.lock ≡ lock) × (p.party ≡ party p.deal p.arc)
+abbrev pub IsPartyPass : TableId → PassState → Type 0
+IsPartyPass lock p = (p.lock ≡ lock) × (p.party ≡ party p.deal p.arc)
 
-abbrev pub IsSecondAt : TableId → PassState → Type 0
-IsSecondAt lock p = (p.lock ≡ lock) × (p.party ≡ counterparty p.deal p.arc)
+abbrev pub IsCounterpartyPass : TableId → PassState → Type 0
+IsCounterpartyPass lock p = (p.lock ≡ lock) × (p.party ≡ counterparty p.deal p.arc)
 
 -- what a call adds: its entry, or none where the sender is full
 abbrev pub added_by_call : Reply → Entry → List Entry
@@ -82,14 +83,16 @@ abbrev pub added_by_tick : Reply → Entry → List Entry
 added_by_tick ClockFull e = []
 added_by_tick _ e = e ∷ []
 
--- After entries of others, which the pass hadn't seen, stands its own, with the reply of the ledger at that point.
+-- After entries of others, which the pass hadn't seen, stands its own, with the reply of the ledger
+-- at that point.
 pub record HasCalled (old : PassState) (call : Call) (answer : Reply) (fresh : List Entry) : Type 0 where
   pub others : List Entry
   pub foreign : party_made old.party others ≡ []
   pub reply : answer ≡ history_reply old.deal old.arc (old.seen ++ others) old.party call
   pub entries : fresh ≡ others ++ added_by_call answer (call_entry old.party (height (old.seen ++ others)) call answer)
 
--- After entries of the parties, which the pass hadn't seen, stands the tick, with the reply of the ledger at that point.
+-- After entries of the parties, which the pass hadn't seen, stands the tick, with the reply of the
+-- ledger at that point.
 pub record HasTicked (old : ClockState) (k : ℕ) (answer : Reply) (new : ClockState) : Type 0 where
   pub others : List Entry
   pub foreign : ticks_in_order others ≡ []

@@ -1,4 +1,5 @@
-//! What is done to a ledger while its turn is taken. Each takes all its memory before it changes the history.
+//! What is done to a ledger while its turn is taken. Each takes all its memory before it changes
+//! the history.
 
 ghost use Rattle.std.specs.Prelude.{◌≡◌, ◌<◌, ◌≤◌, ◌+◌, ◌^◌, ◌++◌, ◌==◌, ◌||◌, IsTrue, OnOk, OnErr, IfOk, IfErr, length, drop};
 ghost use Rattle.swap_digraph.specs.Deal.{party, counterparty};
@@ -18,7 +19,8 @@ pub struct Called {
     pub fresh: EntryList,
 }
 
-/// Memory for a call: a copy of the entries that its pass hasn't seen, with room for one more, and of the call.
+/// Memory for a call: a copy of the entries that its pass hasn't seen, with room for one more, and
+/// of the call.
 #[derive(Drop)]
 struct Prepared {
     fresh: LedgerHistory,
@@ -33,7 +35,7 @@ pub(crate) fn fresh_entries(ledger: &Ledger, seen: u32) -> Result<EntryList, NoM
     ensures fresh { IfOk result (λ l. l ≡ drop seen ledger.now.history) }
     ensures legal { OnOk result (IsLegal ledger.now.deal ledger.now.arc ledger.now.history) }
 {
-    Ok(EntryList::of(ledger.history().copy_tail(seen as usize)?))
+    Ok(EntryList::from_history(ledger.history().copy_tail(seen as usize)?))
 }
 
 fn prepare(ledger: &mut Ledger, seen: u32, call: &Call) -> Result<Prepared, NoMemory>
@@ -89,11 +91,12 @@ fn make(
     }
     Called {
         reply,
-        fresh: EntryList::of(fresh),
+        fresh: EntryList::from_history(fresh),
     }
 }
 
-/// A call at the end of the history. Without memory the history is as before, and the call comes back.
+/// A call at the end of the history. Without memory the history is as before, and the call comes
+/// back.
 pub(crate) fn call_at_end(
     ledger: &mut Ledger,
     seen: u32,

@@ -54,9 +54,9 @@ impl Model for ClockPass {
 
     ghost Value = { ClockState };
 
-    ghost use Rattle.ledger_shared.specs.Pass.{clock_pass_of, IsOfClock};
+    ghost use Rattle.ledger_shared.specs.Pass.{inside_clock_pass, IsOfClock};
 
-    ghost view = { clock_pass_of };
+    ghost view = { inside_clock_pass };
 
     ghost invariant = { IsOfClock };
 }

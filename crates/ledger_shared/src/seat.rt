@@ -1,7 +1,7 @@
 //! Seats at the lock of a ledger, which know entries.
 
 ghost use Rattle.std.specs.Prelude.{◌≡◌, true, false, length, ◌∷◌, [], IfOk, IfErr};
-ghost use Rattle.ledger_shared.specs.Seat.{knowing, new_seat, GoesOn, IsContinued};
+ghost use Rattle.ledger_shared.specs.Seat.{knowing, new_seat, ContinuesSeat, IsContinued};
 
 use crate::shelf::Shelf;
 use ledger_core::Ledger;
@@ -35,7 +35,8 @@ pub(crate) struct Seated {
     pub clock: LedgerSeat,
 }
 
-/// A lock round the ledger, with the seats of the arc's party, of its counterparty and of the clock. Without memory the ledger comes back.
+/// A lock round the ledger, with the seats of the arc's party, of its counterparty and of the
+/// clock. Without memory the ledger comes back.
 pub(crate) fn seat_three<R: Wait>(
     rt: &R,
     alloc: Global,
@@ -80,7 +81,7 @@ pub(crate) fn take<R: Wait>(rt: &R, lock: &TurnLock<Shelf>, seat: &mut LedgerSea
     requires lock { seat.old.lock ≡ lock.now.lock }
     requires idle { seat.old.holds ≡ false }
     ensures turn { seat.new ≡ knowing seat.old true result.value.history }
-    ensures ledger { GoesOn seat.old result.value }
+    ensures ledger { ContinuesSeat seat.old result.value }
 {
     let Shelf { ledger } = lock.take(rt, &mut seat.seat);
     ledger
@@ -98,7 +99,8 @@ pub(crate) fn give(lock: &TurnLock<Shelf>, seat: &mut LedgerSeat, ledger: Box<Le
     lock.give(&mut seat.seat, Shelf { ledger });
 }
 
-/// The ledger, which goes on from what each seat knows, and has of each side just what its seat knows.
+/// The ledger, which goes on from what each seat knows, and has of each side just what its seat
+/// knows.
 pub(crate) fn close(
     lock: TurnLock<Shelf>,
     first: LedgerSeat,
@@ -109,9 +111,9 @@ pub(crate) fn close(
     requires first { (first.lock ≡ lock.lock) × (first.number ≡ 0) × (first.holds ≡ false) }
     requires second { (second.lock ≡ lock.lock) × (second.number ≡ 1) × (second.holds ≡ false) }
     requires clock { (clock.lock ≡ lock.lock) × (clock.number ≡ 2) × (clock.holds ≡ false) }
-    ensures first { GoesOn first result.value }
-    ensures second { GoesOn second result.value }
-    ensures clock { GoesOn clock result.value }
+    ensures first { ContinuesSeat first result.value }
+    ensures second { ContinuesSeat second result.value }
+    ensures clock { ContinuesSeat clock result.value }
 {
     let mut all = first.seat;
     lock.join(&mut all, second.seat);

@@ -5,7 +5,7 @@ ghost use mathlib.Core.List.{IsPrefix};
 ghost use Rattle.swap_digraph.specs.Deal.{party, counterparty};
 ghost use Rattle.ledger_core.specs.History.{fit, IsLegal};
 ghost use Rattle.ledger_core.specs.Known.{is_known_call};
-ghost use Rattle.ledger_shared.specs.Value.{party_made, with_seen, pass_at, table_clock, IsFirstAt, IsSecondAt, HasCalled, HasTicked, Closes};
+ghost use Rattle.ledger_shared.specs.Value.{party_made, with_seen, party_pass, table_clock, IsPartyPass, IsCounterpartyPass, HasCalled, HasTicked, Closes};
 ghost use Rattle.ledger_shared.specs.Value.{ClosesClock};
 
 use crate::locked::{Called, call_at_end, fresh_entries, tick_at_end};
@@ -62,8 +62,8 @@ pub fn share<R: Wait>(
     requires first { (first ≤ length ledger.value.history) × (party_made (party ledger.value.deal ledger.value.arc) (drop first ledger.value.history) ≡ []) }
     requires second { (second ≤ length ledger.value.history) × (party_made (counterparty ledger.value.deal ledger.value.arc) (drop second ledger.value.history)
         ≡ []) }
-    ensures first { IfOk result (λ s. s.1 ≡ pass_at s.0.lock ledger.value (party ledger.value.deal ledger.value.arc) (take first ledger.value.history)) }
-    ensures second { IfOk result (λ s. s.2 ≡ pass_at s.0.lock ledger.value (counterparty ledger.value.deal ledger.value.arc)
+    ensures first { IfOk result (λ s. s.1 ≡ party_pass s.0.lock ledger.value (party ledger.value.deal ledger.value.arc) (take first ledger.value.history)) }
+    ensures second { IfOk result (λ s. s.2 ≡ party_pass s.0.lock ledger.value (counterparty ledger.value.deal ledger.value.arc)
         (take second ledger.value.history)) }
     ensures clock { IfOk result (λ s. s.3 ≡ table_clock s.0.lock ledger.value) }
     ensures back { IfErr result (λ b. b.ledger ≡ ledger) }
@@ -114,7 +114,8 @@ impl SharedLedger {
         self.call_known(rt, pass, call, 0)
     }
 
-    /// Makes a call, the last `known` of whose signatures are known to be valid and aren't verified. It waits for the turn.
+    /// Makes a call, the last `known` of whose signatures are known to be valid and aren't
+    /// verified. It waits for the turn.
     pub fn call_known<R: Wait>(
         &self,
         rt: &R,
@@ -146,7 +147,8 @@ impl SharedLedger {
         }
     }
 
-    /// The entries that the pass hadn't seen, up to the end of the history at a moment of this call. It waits for the turn.
+    /// The entries that the pass hadn't seen, up to the end of the history at a moment of this
+    /// call. It waits for the turn.
     pub fn look<R: Wait>(&self, rt: &R, pass: &mut Pass) -> Result<EntryList, NoMemory>
         requires lock { pass.old.lock ≡ self.now.lock }
         ensures seen { IfOk result (λ fresh. pass.new ≡ with_seen pass.old fresh) }
@@ -196,8 +198,8 @@ impl SharedLedger {
     /// The ledger. Its history has all that the passes have seen, and each party's entries in it
     /// are those of its pass. It takes no memory and waits for nobody.
     pub fn close(self, first: Pass, second: Pass, clock: ClockPass) -> Box<Ledger>
-        requires first { IsFirstAt self.lock first }
-        requires second { IsSecondAt self.lock second }
+        requires first { IsPartyPass self.lock first }
+        requires second { IsCounterpartyPass self.lock second }
         requires clock { clock.lock ≡ self.lock }
         ensures first { Closes result.value first }
         ensures second { Closes result.value second }

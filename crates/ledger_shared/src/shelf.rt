@@ -5,8 +5,8 @@ use swap_base::ArcId;
 use swap_digraph::Deal;
 use turn_lock::Journal;
 
-/// A line of the history that the lock keeps: the deal and the arc, and then each entry with the number of the seat that makes such entries. No value of it
-/// is made.
+/// A line of the history that the lock keeps: the deal and the arc, and then each entry with the
+/// number of the seat that makes such entries. No value of it is made.
 #[derive(Drop)]
 pub enum Line {
     Head(Deal, ArcId),

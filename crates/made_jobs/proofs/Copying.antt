@@ -9,9 +9,9 @@ use Rattle.swap_job.specs.declared.job.Job.{Job}
 use Rattle.swap_job.specs.declared.job.Purpose.TheVariants.{Make}
 use Rattle.refusals.specs.declared.reason.Reason.{Reason}
 use Rattle.refusals.specs.declared.reason.Reason.TheVariants.{OverLimit}
-use Rattle.swap_offer.specs.Job.{counted, job_header_of}
+use Rattle.swap_offer.specs.Job.{counted, parse_header_job}
 use Rattle.swap_gen.specs.Made.{made}
-use Rattle.made_jobs.specs.Making.{written_line, with_line, made_text, made_of, line_step, copied, next_line}
+use Rattle.made_jobs.specs.Making.{written_line, with_line, made_text, made_lines_output, line_step, copied, next_line}
 
 -- the lines are counted, and put behind the text
 pub lines_put : (count : ℕ) (text : List ℕ) (ls : List (ℕ × List ℕ)) → steps line_step (count, text) ls ≡ steps counted count ls >>= λ n.
@@ -28,9 +28,9 @@ lines_put count text (l ∷ ls) = go (counted count l) (λ n. lines_put n (with_
 
 -- what is written of the lines of an input
 pub made_is : (has : List ℕ → Bool) (l : ℕ × List ℕ) (ls : List (ℕ × List ℕ))
-    → (job_header_of has Make l.0 l.1 >>= λ job. copied 0 (written_line (made job)) ls) ≡ made_of has (l ∷ ls)
+    → (parse_header_job has Make l.0 l.1 >>= λ job. copied 0 (written_line (made job)) ls) ≡ made_lines_output has (l ∷ ls)
 unfolding copied made_text
-made_is has l ls = go (job_header_of has Make l.0 l.1)
+made_is has l ls = go (parse_header_job has Make l.0 l.1)
   where
     after : (job : Job) (r : Result ℕ Reason) → ((r >>= λ n. let s : Result (ℕ × List ℕ) Reason = Ok (n, fold with_line (written_line (made job)) ls) in s)
         >>= λ s. let t : Result (List ℕ) Reason = Ok s.1 in t)

@@ -4,53 +4,53 @@ use Rattle.std.proofs.lemmas.List.{drop-drop, get_or-drop}
 use Rattle.swap_digraph.specs.Value.{Graph}
 use Rattle.swap_job.specs.declared.event.Event.{Event}
 use Rattle.swap_gen.specs.Drawn.{drawn_graph}
-use Rattle.swap_gen.specs.Events.{event_from, events_from, first_place, generated_events, GeneratorState}
+use Rattle.swap_gen.specs.Events.{drawn_event, drawn_events, first_place, generated_events, GeneratorState}
 use Rattle.swap_gen.proofs.Listing.{begins}
-use Rattle.made_jobs.specs.Generating.{StandsAt}
+use Rattle.made_jobs.specs.Generating.{HasDrawnEvents}
 
-pub at_first : (seed n count : ℕ) (g : GeneratorState) → g ≡ record { seed = seed; parties = n; place = first_place seed n } → StandsAt seed n count 0 g
+pub at_first : (seed n count : ℕ) (g : GeneratorState) → g ≡ record { seed = seed; parties = n; place = first_place seed n } → HasDrawnEvents seed n count 0 g
 at_first seed n count g is = record {
   seed_is = ap (λ (s : GeneratorState). s.seed) is;
   parties_are = ap (λ (s : GeneratorState). s.parties) is;
-  rest = ap (λ (s : GeneratorState). events_from seed (drawn_graph seed n) s.place (count - 0)) is ∙ begins seed n count;
+  rest = ap (λ (s : GeneratorState). drawn_events seed (drawn_graph seed n) s.place (count - 0)) is ∙ begins seed n count;
 }
 
 -- the same by what the generator itself says
 pub at_start : (seed n count : ℕ) (g : GeneratorState) → g ≡ record { seed = seed; parties = n; place = first_place seed n }
-    → StandsAt g.seed g.parties count 0 g
+    → HasDrawnEvents g.seed g.parties count 0 g
 at_start seed n count g is = let at = at_first seed n count g is in record {
   seed_is = refl;
   parties_are = refl;
   rest =
-      ap₂ (λ s m. events_from s (drawn_graph s m) g.place (count - 0)) at.seed_is at.parties_are ∙ at.rest
+      ap₂ (λ s m. drawn_events s (drawn_graph s m) g.place (count - 0)) at.seed_is at.parties_are ∙ at.rest
       ∙ sym (ap₂ (λ s m. drop 0 (generated_events s m count)) at.seed_is at.parties_are);
 }
 
 next_rest : (seed n count e k : ℕ) → e < count
-    → events_from seed (drawn_graph seed n) k (count - e)
-    ≡ (event_from seed (drawn_graph seed n) k).0 ∷ events_from seed (drawn_graph seed n) (event_from seed (drawn_graph seed n) k).1 (count - (e + 1))
-next_rest seed n count e k lt = let s : count - e ≡ suc (count - (e + 1)) = omega arith in ap (events_from seed (drawn_graph seed n) k) s
+    → drawn_events seed (drawn_graph seed n) k (count - e)
+    ≡ (drawn_event seed (drawn_graph seed n) k).0 ∷ drawn_events seed (drawn_graph seed n) (drawn_event seed (drawn_graph seed n) k).1 (count - (e + 1))
+next_rest seed n count e k lt = let s : count - e ≡ suc (count - (e + 1)) = omega arith in ap (drawn_events seed (drawn_graph seed n) k) s
 
 -- What the next draw gives: the next of the events.
 pub record Draws (seed n count e : ℕ) (event : Event) (next : GeneratorState) : Type 0 where
   pub first : drop e (generated_events seed n count) ≡ event ∷ drop (e + 1) (generated_events seed n count)
-  pub on : StandsAt seed n count (e + 1) next
+  pub on : HasDrawnEvents seed n count (e + 1) next
 
-pub draws : (seed n count e : ℕ) (g next : GeneratorState) (event : Event) → e < count → StandsAt seed n count e g
-    → event ≡ (event_from g.seed (drawn_graph g.seed g.parties) g.place).0
-    → next ≡ record g { place = (event_from g.seed (drawn_graph g.seed g.parties) g.place).1 } → Draws seed n count e event next
+pub draws : (seed n count e : ℕ) (g next : GeneratorState) (event : Event) → e < count → HasDrawnEvents seed n count e g
+    → event ≡ (drawn_event g.seed (drawn_graph g.seed g.parties) g.place).0
+    → next ≡ record g { place = (drawn_event g.seed (drawn_graph g.seed g.parties) g.place).1 } → Draws seed n count e event next
 draws seed n count e g next event lt at is goes =
     let graph : Graph = drawn_graph seed n in
-    let event_is : event ≡ (event_from seed graph g.place).0 =
-    is ∙ ap (λ s. (event_from s (drawn_graph s g.parties) g.place).0) at.seed_is ∙ ap (λ m. (event_from seed (drawn_graph seed m) g.place).0) at.parties_are in
-    let place : next.place ≡ (event_from seed graph g.place).1 =
-    ap (λ (s : GeneratorState). s.place) goes ∙ ap (λ s. (event_from s (drawn_graph s g.parties) g.place).1) at.seed_is
-    ∙ ap (λ m. (event_from seed (drawn_graph seed m) g.place).1) at.parties_are in
-    let rest : List Event = events_from seed graph next.place (count - (e + 1)) in
+    let event_is : event ≡ (drawn_event seed graph g.place).0 =
+    is ∙ ap (λ s. (drawn_event s (drawn_graph s g.parties) g.place).0) at.seed_is ∙ ap (λ m. (drawn_event seed (drawn_graph seed m) g.place).0) at.parties_are in
+    let place : next.place ≡ (drawn_event seed graph g.place).1 =
+    ap (λ (s : GeneratorState). s.place) goes ∙ ap (λ s. (drawn_event s (drawn_graph s g.parties) g.place).1) at.seed_is
+    ∙ ap (λ m. (drawn_event seed (drawn_graph seed m) g.place).1) at.parties_are in
+    let rest : List Event = drawn_events seed graph next.place (count - (e + 1)) in
     let whole : drop e (generated_events seed n count) ≡ event ∷ rest =
     sym at.rest ∙ next_rest seed n count e g.place lt
-    ∙ ap (λ (x : Event). x ∷ events_from seed graph (event_from seed graph g.place).1 (count - (e + 1))) (sym event_is)
-    ∙ ap (λ k. event ∷ events_from seed graph k (count - (e + 1))) (sym place) in
+    ∙ ap (λ (x : Event). x ∷ drawn_events seed graph (drawn_event seed graph g.place).1 (count - (e + 1))) (sym event_is)
+    ∙ ap (λ k. event ∷ drawn_events seed graph k (count - (e + 1))) (sym place) in
     let after : drop (e + 1) (generated_events seed n count) ≡ rest = sym (drop-drop 1 e (generated_events seed n count)) ∙ ap (drop 1) whole in
     record {
       first = whole ∙ ap (λ (xs : List Event). event ∷ xs) (sym after);
@@ -61,9 +61,9 @@ draws seed n count e g next event lt at is goes =
       };
     }
 
-events_count : (seed : ℕ) (g : Graph) (k count : ℕ) → length (events_from seed g k count) ≡ count
+events_count : (seed : ℕ) (g : Graph) (k count : ℕ) → length (drawn_events seed g k count) ≡ count
 events_count seed g k zero = refl
-events_count seed g k (suc count) = ap suc (events_count seed g (event_from seed g k).1 count)
+events_count seed g k (suc count) = ap suc (events_count seed g (drawn_event seed g k).1 count)
 
 pub many : (seed n count : ℕ) → length (generated_events seed n count) ≡ count
 unfolding generated_events
@@ -78,7 +78,7 @@ drawn_is seed n count e event d first =
     ∙ ap (λ k. get_or (generated_events seed n count) k d) z
 
 -- nothing is left
-pub none_left : (seed n count e : ℕ) (g : GeneratorState) → count ≤ e → StandsAt seed n count e g → drop e (generated_events seed n count) ≡ []
+pub none_left : (seed n count e : ℕ) (g : GeneratorState) → count ≤ e → HasDrawnEvents seed n count e g → drop e (generated_events seed n count) ≡ []
 none_left seed n count e g le at =
     let z : count - e ≡ 0 = omega arith in
-    sym at.rest ∙ ap (events_from seed (drawn_graph seed n) g.place) z
+    sym at.rest ∙ ap (drawn_events seed (drawn_graph seed n) g.place) z

@@ -31,7 +31,7 @@ use Rattle.swap_gen.specs.Drawn.{generated, plain_job, plain_deal, drawn_seed}
 use Rattle.swap_gen.specs.Made.{made_deal}
 use Rattle.swap_gen.specs.Events.{generated_events, GeneratorState}
 use Rattle.swap_gen.specs.Owned.{inside_wallets, OwnsKeys}
-use Rattle.made_jobs.specs.Generating.{generated_book, IsOf}
+use Rattle.made_jobs.specs.Generating.{generated_book, IsJobWorld}
 
 pub is_sized : (d : Deal) → IsAccepted d → IsWellSized d
 is_sized d k = accepted_is_well_sized d k
@@ -52,7 +52,7 @@ have_seeds job own conforming seeds = record {
 pub owners_fit : (job : Job) → ((p : ℕ) → p < job.deal.graph.n → OwnsKeys job p) → AllFit job
 owners_fit job own = all_fit job (λ p lt c. let k = own p lt in (k.seed, k.there, k.fits))
 
-same_cast : (job : Job) (w : WorldState) → IsOf job w → world_cast w ≡ job_cast job
+same_cast : (job : Job) (w : WorldState) → IsJobWorld job w → world_cast w ≡ job_cast job
 same_cast job w k =
     ap₂ (λ (d : Deal) (rs : List Role). made_cast d w.conforming w.seeds rs) k.deal k.roles
     ∙ ap₂ (λ (c : List Bool) (s : List (Option (List ℕ))). made_cast job.deal c s job.roles) k.conforming k.seeds
@@ -91,7 +91,7 @@ generated_roles seed n = plain_roles role role_conforms role_plans (generated se
 
 -- one more event
 
-pub can_step : (seed n : ℕ) (g : GeneratorState) (w : WorldState) (event : Event) → g.seed ≡ seed → g.parties ≡ n → IsOf (generated seed n) w
+pub can_step : (seed n : ℕ) (g : GeneratorState) (w : WorldState) (event : Event) → g.seed ≡ seed → g.parties ≡ n → IsJobWorld (generated seed n) w
     → IsJobEvent (generated g.seed g.parties) event → CanStep w.deal w.conforming w.seeds event
 can_step seed n g w event s p k can =
     subst (λ (d : Deal). CanStep d w.conforming w.seeds event) (sym k.deal)
@@ -101,7 +101,7 @@ can_step seed n g w event s p k can =
     (subst (λ (x : ℕ). IsJobEvent (generated x g.parties) event) s can))))
 
 module _ (gives : MayGive) (f : Cast → State → State) (w new : WorldState) (k : HasGone gives f w new) where
-  pub is_still : (job : Job) → IsOf job w → IsOf job new
+  pub is_still : (job : Job) → IsJobWorld job w → IsJobWorld job new
   is_still job i = record {
     deal = ap (λ (x : WorldState). x.deal) k.same ∙ i.deal;
     conforming = ap (λ (x : WorldState). x.conforming) k.same ∙ i.conforming;
@@ -112,7 +112,7 @@ module _ (gives : MayGive) (f : Cast → State → State) (w new : WorldState) (
   pub goes_on_still : w.stopped ≡ false → new.stopped ≡ false
   goes_on_still on = ap (λ (x : WorldState). x.stopped) k.same ∙ on
 
-pub one_more : (job : Job) (w new : WorldState) (event : Event) (left rest : List Event) (total : State) → IsOf job w
+pub one_more : (job : Job) (w new : WorldState) (event : Event) (left rest : List Event) (total : State) → IsJobWorld job w
     → new.state ≡ step (world_cast w) w.state event → left ≡ event ∷ rest → continued_run (job_cast job) w.state left ≡ total
     → continued_run (job_cast job) new.state rest ≡ total
 one_more job w new event left rest total k e first so_far =
@@ -127,7 +127,7 @@ unfolding plain_job plain_deal made_deal
 generated_unasked seed n =
     ap (λ (rs : List Role). list_any is_strategy rs) (all_conform n) ∙ nobody_asks role role_conforms role_plans (replicate n true)
 
-pub unasked_in : (seed n : ℕ) (w : WorldState) → IsOf (generated seed n) w → list_any is_strategy w.roles ≡ false
+pub unasked_in : (seed n : ℕ) (w : WorldState) → IsJobWorld (generated seed n) w → list_any is_strategy w.roles ≡ false
 unasked_in seed n w k = ap (λ (rs : List Role). list_any is_strategy rs) k.roles ∙ generated_unasked seed n
 
 pub all_taken : (job : Job) (s : State) (left : List Event) (total : State) → left ≡ [] → continued_run (job_cast job) s left ≡ total → s ≡ total
@@ -149,7 +149,7 @@ job_wallets j job wallets same e = e ∙ ap inside_wallets (sym same)
 
 -- its world before any event
 
-pub is_of_new : (j job : Job) (w : WorldState) → j ≡ job → w ≡ new_world j → IsOf job w
+pub is_of_new : (j job : Job) (w : WorldState) → j ≡ job → w ≡ new_world j → IsJobWorld job w
 is_of_new j job w e new = record {
   deal = ap (λ (x : WorldState). x.deal) new ∙ ap (λ (x : Job). x.deal) e;
   conforming = ap (λ (x : WorldState). x.conforming) new ∙ ap (λ (x : Job). x.conforming) e;
@@ -176,9 +176,10 @@ module _ (gives : MayGive) (w new : WorldState) (none : list_any is_strategy w.r
   pub finished_ended : IsEnded w.deal new.state.book → IsEnded w.deal (finish (world_cast w) w.state).book
   finished_ended e = subst (λ (b : Histories). IsEnded w.deal b) finished_book e
 
--- the run of a number's job, where first is its world before any event, and played the world after all of them
+-- the run of a number's job, where first is its world before any event, and played the world after
+-- all of them
 module _ (seed n count : ℕ) (first played : WorldState) (begins : first.state ≡ start (job_cast (generated seed n)))
-    (runs : played.state ≡ continued_run (job_cast (generated seed n)) first.state (generated_events seed n count)) (of : IsOf (generated seed n) played) where
+    (runs : played.state ≡ continued_run (job_cast (generated seed n)) first.state (generated_events seed n count)) (of : IsJobWorld (generated seed n) played) where
   run_is : played.state ≡ run (job_cast (generated seed n)) (generated_events seed n count)
   run_is = runs ∙ ap (λ (s : State). continued_run (job_cast (generated seed n)) s (generated_events seed n count)) begins
 

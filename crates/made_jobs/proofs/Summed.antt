@@ -11,15 +11,15 @@ use Rattle.party_wallet.specs.Value.{WalletState}
 use Rattle.swap_gen.specs.Drawn.{generated}
 use Rattle.swap_gen.specs.Owned.{inside_wallets}
 use Rattle.swap_gen.specs.Events.{first_place, GeneratorState}
-use Rattle.made_jobs.specs.Summary.{summary, summary_with}
+use Rattle.made_jobs.specs.Summary.{summary, outcome_summary}
 use Rattle.made_jobs.specs.Generating.{generated_book, generated_summary, is_found}
 
 -- A report's numbers are those of the summary.
 
 pub summed_is : (job : Job) (count : ℕ) (b : Histories) (r : Report) (t : List ℕ) → r ≡ build_report job.deal job.conforming b
-    → t ≡ summary_with job.deal count b r.outcomes (length r.findings) → t ≡ summary job count b
+    → t ≡ outcome_summary job.deal count b r.outcomes (length r.findings) → t ≡ summary job count b
 unfolding summary build_report
-summed_is job count b r t is e = e ∙ ap (λ (x : Report). summary_with job.deal count b x.outcomes (length x.findings)) is
+summed_is job count b r t is e = e ∙ ap (λ (x : Report). outcome_summary job.deal count b x.outcomes (length x.findings)) is
 
 pub found_is : (job : Job) (b : Histories) (r : Report) (found : Bool) → r ≡ build_report job.deal job.conforming b → found ≡ not (length r.findings == 0)
     → found ≡ is_found job b

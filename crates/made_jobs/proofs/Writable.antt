@@ -21,7 +21,7 @@ use Rattle.swap_job.specs.declared.job.Role.TheVariants.{Conforming, Manual, Scr
 use Rattle.swap_job.specs.declared.moves.Move.{Move}
 use Rattle.swap_job.specs.declared.moves.Move.TheVariants.{Publish, Craft, Replay, Raw, Claim, Refund, Transfer, Wait}
 use Rattle.swap_job.specs.Crafted.{Seeds}
-use Rattle.swap_job.specs.Fitting.{IsFitting, IsMoveOf}
+use Rattle.swap_job.specs.Fitting.{IsFitting, IsPartyMove}
 use Rattle.swap_job.specs.Roles.{role_script}
 use Rattle.offer_header.specs.Names.{AreNames}
 use Rattle.swap_offer.specs.Job.{IsWholeJob}
@@ -73,7 +73,7 @@ names_below d seeds ends (Transfer a to units) k =
     both_below to d.graph.n (party d a) (counterparty d a) (nat_le units 1000000000000) (ends.from a k.arc) (ends.to a k.arc) k.names
 names_below d seeds ends (Wait a height) k = tt
 
-said : (d : Deal) (seeds : Seeds) (p : ℕ) → HasEnds d.graph → (role : Role) → All (IsMoveOf d seeds p) (role_script role) → IsSayable d.graph.n role
+said : (d : Deal) (seeds : Seeds) (p : ℕ) → HasEnds d.graph → (role : Role) → All (IsPartyMove d seeds p) (role_script role) → IsSayable d.graph.n role
 said d seeds p ends Conforming moves = tt
 said d seeds p ends Manual moves = tt
 said d seeds p ends (Script ms) moves = λ i mv lt. names_below d seeds ends (get_or ms i mv) (moves i mv lt).fits

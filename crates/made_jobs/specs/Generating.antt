@@ -1,4 +1,5 @@
--- What is written of the job that a number gives: the job with its events, or the summary of its run.
+-- What is written of the job that a number gives: the job with its events, or the summary of its
+-- run.
 use Rattle.std.specs.Prelude.{◌≡◌, ◌==◌, ℕ, ◌++◌, ◌-◌, Bool, not, List, drop, length}
 use Rattle.swap_base.specs.Text.{lines}
 use Rattle.ledger_core.specs.Book.{Histories}
@@ -9,7 +10,7 @@ use Rattle.swap_world.specs.Cast.{job_cast}
 use Rattle.swap_world.specs.Value.{WorldState}
 use Rattle.outcome_rules.specs.Report.{build_report}
 use Rattle.swap_gen.specs.Drawn.{drawn_graph, generated}
-use Rattle.swap_gen.specs.Events.{events_from, generated_events, GeneratorState}
+use Rattle.swap_gen.specs.Events.{drawn_events, generated_events, GeneratorState}
 use Rattle.swap_gen.specs.Line.{event_line}
 use Rattle.made_jobs.specs.Summary.{summary}
 use Rattle.made_jobs.specs.Making.{written_line}
@@ -33,13 +34,13 @@ abbrev pub is_found : Job → Histories → Bool
 is_found job b = not (length (build_report job.deal job.conforming b).findings == 0)
 
 -- Of a job's events so many were drawn: the generator's next event is the next of them.
-pub record StandsAt (seed parties events drawn : ℕ) (g : GeneratorState) : Type 0 where
+pub record HasDrawnEvents (seed parties events drawn : ℕ) (g : GeneratorState) : Type 0 where
   pub seed_is : g.seed ≡ seed
   pub parties_are : g.parties ≡ parties
-  pub rest : events_from seed (drawn_graph seed parties) g.place (events - drawn) ≡ drop drawn (generated_events seed parties events)
+  pub rest : drawn_events seed (drawn_graph seed parties) g.place (events - drawn) ≡ drop drawn (generated_events seed parties events)
 
 -- The world is of the job: of its deal, with its parties, their seeds and their roles.
-pub record IsOf (job : Job) (w : WorldState) : Type 0 where
+pub record IsJobWorld (job : Job) (w : WorldState) : Type 0 where
   pub deal : w.deal ≡ job.deal
   pub conforming : w.conforming ≡ job.conforming
   pub seeds : w.seeds ≡ job.seeds

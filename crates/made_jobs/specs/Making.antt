@@ -1,4 +1,5 @@
--- What is written of a plain job: the header line of the job that is made of it, and the further lines as they are.
+-- What is written of a plain job: the header line of the job that is made of it, and the further
+-- lines as they are.
 use Rattle.std.specs.Prelude.{ℕ, Bool, ◌<◌, ◌++◌, List, ◌∷◌, [], codes, drop, fold, Result, Ok}
 use Rattle.swap_base.specs.Fault.{◌>>=◌, steps}
 use Rattle.swap_base.specs.Text.{joined}
@@ -25,24 +26,26 @@ with_line text l = text ++ joined (l.1 ∷ codes "\n" ∷ [])
 unfoldable pub made_text : Job → List (ℕ × List ℕ) → List ℕ
 made_text job further = fold with_line (written_line (made job)) further
 
-abbrev pub text_for : List (ℕ × List ℕ) → Result (Job × List Event) Reason → Result (List ℕ) Reason
-text_for lines read = read >>= λ j. Ok (made_text j.0 (drop 1 lines))
+abbrev pub made_job_text : List (ℕ × List ℕ) → Result (Job × List Event) Reason → Result (List ℕ) Reason
+made_job_text lines read = read >>= λ j. Ok (made_text j.0 (drop 1 lines))
 
 -- what is written of an input's lines that aren't blank, or the first reason why they are refused
-abbrev pub made_of : (List ℕ → Bool) → List (ℕ × List ℕ) → Result (List ℕ) Reason
-made_of has lines = text_for lines (job_of_lines has Make lines)
+abbrev pub made_lines_output : (List ℕ → Bool) → List (ℕ × List ℕ) → Result (List ℕ) Reason
+made_lines_output has lines = made_job_text lines (job_of_lines has Make lines)
 
 -- what is written of an input's bytes, or the first reason why they are refused
 unfoldable pub made_output : (List ℕ → Bool) → List ℕ → Result (List ℕ) Reason
-made_output has input = made_of has (filled_lines 1 (collect_lines input))
+made_output has input = made_lines_output has (filled_lines 1 (collect_lines input))
 
--- How many further lines were written, and the text so far: after one more line, or the reason against it.
+-- How many further lines were written, and the text so far: after one more line, or the reason
+-- against it.
 unfoldable pub line_step : ℕ × List ℕ → ℕ × List ℕ → Result (ℕ × List ℕ) Reason
 line_step s l = do
   n ← counted s.0 l
   Ok (n, with_line s.1 l)
 
--- a text with further lines after it, where so many were put before, or the reason against one of them
+-- a text with further lines after it, where so many were put before, or the reason against one of
+-- them
 unfoldable pub copied : ℕ → List ℕ → List (ℕ × List ℕ) → Result (List ℕ) Reason
 copied count text ls = do
   s ← steps line_step (count, text) ls

@@ -9,7 +9,7 @@ ghost use Rattle.swap_gen.specs.Drawn.{generated};
 ghost use Rattle.swap_gen.specs.Events.{first_place, generated_events};
 ghost use Rattle.swap_gen.specs.Line.{event_line};
 ghost use Rattle.made_jobs.specs.Making.{written_line};
-ghost use Rattle.made_jobs.specs.Generating.{generated_text, StandsAt};
+ghost use Rattle.made_jobs.specs.Generating.{generated_text, HasDrawnEvents};
 
 use crate::header::put_header;
 use std::alloc::Global;
@@ -46,7 +46,7 @@ fn write_events<K: Sink>(
     names: &[ByteText],
     events: u32,
 ) -> Result<(), TextFault>
-    requires { StandsAt generator.old.seed generator.old.parties events 0 generator.old }
+    requires { HasDrawnEvents generator.old.seed generator.old.parties events 0 generator.old }
     ensures { Hands (K.taken sink.old) (K.taken sink.new) (K.faults sink.old) (K.faults sink.new) out.old.items out.new.items
         (lines (λ _. event_line names.now) 0 (generated_events generator.old.seed generator.old.parties events)) result }
 {

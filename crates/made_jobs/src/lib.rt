@@ -1,8 +1,8 @@
-//! Jobs that nobody writes by hand, as they are written: the job that is made of a plain one, and the job that a number gives, or the
-//! summary of its run.
+//! Jobs that nobody writes by hand, as they are written: the job that is made of a plain one, and
+//! the job that a number gives, or the summary of its run.
 //!
-//! Read `specs/Making.antt` first: `made_output` says what is written of an input's bytes. `specs/Generating.antt` says what is written
-//! of a number.
+//! Read `specs/Making.antt` first: `made_output` says what is written of an input's bytes.
+//! `specs/Generating.antt` says what is written of a number.
 #![tactic(auto)]
 
 mod counts;

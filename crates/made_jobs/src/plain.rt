@@ -17,7 +17,8 @@ use swap_gen::make;
 use swap_job::Job;
 use swap_offer::count_event;
 
-/// The header line of the job that is made of a plain one, with a line feed. Its scripts stand there move by move.
+/// The header line of the job that is made of a plain one, with a line feed. Its scripts stand
+/// there move by move.
 pub fn made_line(alloc: Global, job: &Job) -> Result<Vec<u8>, NoMemory>
     requires whole { IsWholeJob job.now }
     requires known { AreNames job.now.names }
@@ -33,8 +34,8 @@ pub fn made_line(alloc: Global, job: &Job) -> Result<Vec<u8>, NoMemory>
     Ok(line)
 }
 
-/// Puts a line and a line feed behind a text, where so many lines were put before, and answers how many there are with it. The line isn't
-/// examined. A fault leaves the text as it was.
+/// Puts a line and a line feed behind a text, where so many lines were put before, and answers how
+/// many there are with it. The line isn't examined. A fault leaves the text as it was.
 #[tactic(auto, unfolding(crate::specs::Making::line_step))]
 pub fn copy_line(
     alloc: Global,

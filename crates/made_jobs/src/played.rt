@@ -14,7 +14,7 @@ ghost use Rattle.swap_world.specs.Value.{world_cast, new_world};
 ghost use Rattle.swap_gen.specs.Drawn.{generated};
 ghost use Rattle.swap_gen.specs.Events.{generated_events};
 ghost use Rattle.swap_gen.specs.Owned.{inside_wallets, OwnsKeys};
-ghost use Rattle.made_jobs.specs.Generating.{generated_book, IsOf, StandsAt};
+ghost use Rattle.made_jobs.specs.Generating.{generated_book, IsJobWorld, HasDrawnEvents};
 
 use deviators::Kit;
 use ledger_core::Book;
@@ -46,7 +46,7 @@ fn first_world(
     wallets: Vec<Option<Wallet>>,
 ) -> Result<World, NoMemory>
     requires { wallets.items ≡ inside_wallets (generated generator.now.seed generator.now.parties) }
-    ensures of { IfOk result (λ w. IsOf (generated generator.now.seed generator.now.parties) w) }
+    ensures of { IfOk result (λ w. IsJobWorld (generated generator.now.seed generator.now.parties) w) }
     ensures state { IfOk result (λ w. w.state ≡ start (job_cast (generated generator.now.seed generator.now.parties))) }
     ensures goes_on { IfOk result (λ w. w.stopped ≡ false) }
 {
@@ -54,19 +54,20 @@ fn first_world(
     Ok(world)
 }
 
-/// Draws events and lets the world take each. Nobody follows a strategy, so that nobody is ever asked.
+/// Draws events and lets the world take each. Nobody follows a strategy, so that nobody is ever
+/// asked.
 fn take_events(
     generator: &mut Generator,
     world: &mut World,
     kit: &Kit,
     events: u32,
 ) -> Result<(), NoMemory>
-    requires first { StandsAt generator.old.seed generator.old.parties events 0 generator.old }
-    requires of { IsOf (generated generator.old.seed generator.old.parties) world.old }
+    requires first { HasDrawnEvents generator.old.seed generator.old.parties events 0 generator.old }
+    requires of { IsJobWorld (generated generator.old.seed generator.old.parties) world.old }
     requires goes_on { world.old.stopped ≡ false }
     ensures seed { OnOk result (generator.new.seed ≡ generator.old.seed) }
     ensures parties { OnOk result (generator.new.parties ≡ generator.old.parties) }
-    ensures of { OnOk result (IsOf (generated generator.old.seed generator.old.parties) world.new) }
+    ensures of { OnOk result (IsJobWorld (generated generator.old.seed generator.old.parties) world.new) }
     ensures state { OnOk result (world.new.state ≡ continued_run (job_cast (generated generator.old.seed generator.old.parties)) world.old.state
         (generated_events generator.old.seed generator.old.parties events)) }
 {
@@ -97,7 +98,7 @@ pub(crate) fn played(
     wallets: Vec<Option<Wallet>>,
     events: u32,
 ) -> Result<Book, NoMemory>
-    requires first { StandsAt generator.old.seed generator.old.parties events 0 generator.old }
+    requires first { HasDrawnEvents generator.old.seed generator.old.parties events 0 generator.old }
     requires wallets { wallets.items ≡ inside_wallets (generated generator.old.seed generator.old.parties) }
     ensures book { IfOk result (λ b. b.histories ≡ generated_book generator.old.seed generator.old.parties events) }
     ensures kept { OnOk result (IsKept (job_cast (generated generator.old.seed generator.old.parties))

@@ -3,7 +3,7 @@
 ghost use Rattle.std.specs.Prelude.{◌≡◌, ◌++◌, ◌<◌, ◌≤◌, ℕ, IfOk, OnOk, length};
 ghost use Rattle.swap_digraph.specs.Deal.{IsWellSized};
 ghost use Rattle.ledger_core.specs.Book.{history, IsLegalBook};
-ghost use Rattle.made_jobs.specs.Summary.{found_line, outcome_line, run_line, size_line, summary_with};
+ghost use Rattle.made_jobs.specs.Summary.{found_line, outcome_line, run_line, size_line, outcome_summary};
 
 use crate::counts::{ended_so, entry_count, refused_count};
 use ledger_core::{Book, EntryList};
@@ -88,7 +88,7 @@ fn put_found(out: &mut Vec<u8>, found: usize) -> Result<(), NoMemory>
 
 /// The summary of a deal's run: its number of events, its book, how the parties ended, and the
 /// number of findings.
-#[tactic(auto, using(crate::proofs::Short::are_few, crate::proofs::Short::are_short), unfolding(crate::specs::Summary::summary_with))]
+#[tactic(auto, using(crate::proofs::Short::are_few, crate::proofs::Short::are_short), unfolding(crate::specs::Summary::outcome_summary))]
 pub fn summary_text(
     alloc: Global,
     deal: &Deal,
@@ -99,7 +99,7 @@ pub fn summary_text(
 ) -> Result<ByteText, NoMemory>
     requires sized { IsWellSized deal.now }
     requires legal { IsLegalBook deal.now book.now.histories }
-    ensures { IfOk result (λ t. t ≡ summary_with deal.now events book.now.histories outcomes.now found) }
+    ensures { IfOk result (λ t. t ≡ outcome_summary deal.now events book.now.histories outcomes.now found) }
 {
     let mut out = Vec::new(alloc);
     put(&mut out, &[Piece::Text("swap summary 1\n")])?;

@@ -8,8 +8,8 @@ use Rattle.swap_many.specs.declared.many_event.ManyEvent.{ManyEvent}
 use Rattle.swap_many.specs.declared.many_event.ManyEvent.TheVariants.{Tick, Pay, Sweep}
 use Rattle.many_lines.specs.declared.payment.Payment.{Payment}
 use Rattle.many_lines.specs.Event.{is_slot}
-use Rattle.many_lines.specs.Places.{job_at}
-use Rattle.many_lines.specs.Setup.{IsEventIn, MayCome}
+use Rattle.many_lines.specs.Places.{job_of_swap}
+use Rattle.many_lines.specs.Setup.{IsSwapEvent, MayCome}
 use Rattle.many_lines.specs.Whole.{AreChains}
 use Rattle.many_lines.specs.declared.many_job.ManyJob.{ManyJob}
 
@@ -31,15 +31,15 @@ both false b is = absurd (cc is)
 
 pub sweep_comes : (many : ManyJob) (s a : ℕ) → is_slot many.jobs s a ≡ true → MayCome many (Sweep s a)
 sweep_comes many s a is =
-    let t = both (nat_lt s (length many.jobs)) (nat_lt a (length (job_at many.jobs s).deal.graph.arcs)) is in
+    let t = both (nat_lt s (length many.jobs)) (nat_lt a (length (job_of_swap many.jobs s).deal.graph.arcs)) is in
     λ g places. record { swap = ltb-true s _ t.0; arc = ltb-true a _ t.1 }
 
-event_comes : (many : ManyJob) (s : ℕ) (job : Job) (e : ManyEvent) → s < length many.jobs → job_at many.jobs s ≡ job → IsEventIn s job e → MayCome many e
+event_comes : (many : ManyJob) (s : ℕ) (job : Job) (e : ManyEvent) → s < length many.jobs → job_of_swap many.jobs s ≡ job → IsSwapEvent s job e → MayCome many e
 event_comes many s job e lt is h =
-    let can : IsJobEvent (job_at many.jobs s) h.event = subst (λ (j : Job). IsJobEvent j h.event) (sym is) h.can in
+    let can : IsJobEvent (job_of_swap many.jobs s) h.event = subst (λ (j : Job). IsJobEvent j h.event) (sym is) h.can in
     subst (MayCome many) (sym h.is) (λ g places. record { swap = lt; no_tick = h.no_tick; can = can })
 
-pub events_come : {F : Type 0} (many : ManyJob) (s : ℕ) (job : Job) (result : Result ManyEvent F) → s < length many.jobs → job_at many.jobs s ≡ job
-    → IfOk result (IsEventIn s job) → IfOk result (MayCome many)
+pub events_come : {F : Type 0} (many : ManyJob) (s : ℕ) (job : Job) (result : Result ManyEvent F) → s < length many.jobs → job_of_swap many.jobs s ≡ job
+    → IfOk result (IsSwapEvent s job) → IfOk result (MayCome many)
 events_come many s job (Ok e) lt is h = event_comes many s job e lt is h
 events_come many s job (Err fault) lt is h = h

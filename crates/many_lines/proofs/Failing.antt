@@ -10,8 +10,8 @@ use Rattle.refusals.specs.Refusal.{named}
 use Rattle.swap_job.specs.declared.event.Event.{Event}
 use Rattle.swap_job.specs.declared.job.Job.{Job}
 use Rattle.swap_job.specs.declared.job.Purpose.TheVariants.{Run}
-use Rattle.swap_offer.specs.Job.{job_header_of, names_at}
-use Rattle.many_lines.specs.Event.{IsAgainst, is_of_crash, with_reason}
+use Rattle.swap_offer.specs.Job.{parse_header_job, header_names}
+use Rattle.many_lines.specs.Event.{IsEventRefusal, is_of_crash, with_reason}
 use Rattle.many_lines.specs.Heading.{bad_line, by_field, by_fields, IsNamed, swap_job, without_finish}
 
 pub fails : {A : Type 0} (line : ℕ) (fault : Fault Misspelling) (read : Result A Misspelling) → Fails fault read
@@ -21,31 +21,31 @@ fails line (Refused reason) read e = rw e refl
 
 -- and an event line with the names, unless it is of a crash
 pub crash_is_bad : (line : ℕ) (names : List (List ℕ)) (fault : Fault Reason) → is_of_crash fault ≡ true
-    → IsAgainst line names fault (Refused (bad_line line))
+    → IsEventRefusal line names fault (Refused (bad_line line))
 crash_is_bad line names NoMemory is = absurd (cc is)
 crash_is_bad line names (Refused reason) is = rw is refl
 
 pub named_stands : (line : ℕ) (names : List (List ℕ)) (fault : Fault Reason) (given : Fault Refusal) → is_of_crash fault ≡ false → IsNamed fault names given
-    → IsAgainst line names fault given
+    → IsEventRefusal line names fault given
 named_stands line names fault NoMemory e is = tt
 named_stands line names NoMemory (Refused x) e is = absurd (cc is)
 named_stands line names (Refused reason) (Refused x) e is = rw e is
 
 pub against_line : (line : ℕ) (names : List (List ℕ)) (fault : Fault Reason) (given : Fault Refusal) (read : Result Event Reason)
-    → IsAgainst line names fault given → Fails fault read → Fails given (with_reason line names read)
+    → IsEventRefusal line names fault given → Fails fault read → Fails given (with_reason line names read)
 against_line line names fault NoMemory read is e = tt
 against_line line names NoMemory (Refused x) read is e = absurd (cc is)
 against_line line names (Refused reason) (Refused x) read is e = rw e (cc is)
 
 -- a header that states a finish, and one that states none
 pub job_bad : (has : List ℕ → Bool) (line : ℕ) (text : List ℕ) (fault : Fault Refusal) (job : Job)
-    → named (names_at has Run line text) (job_header_of has Run line text) ≡ Ok job → Fails fault (without_finish line text)
+    → named (header_names has Run line text) (parse_header_job has Run line text) ≡ Ok job → Fails fault (without_finish line text)
     → Fails fault (swap_job has line text)
 unfolding swap_job
 job_bad has line text NoMemory job read e = tt
 job_bad has line text (Refused reason) job read e = rw (read, e) refl
 
 pub job_good : (has : List ℕ → Bool) (line : ℕ) (text : List ℕ) (job : Job)
-    → named (names_at has Run line text) (job_header_of has Run line text) ≡ Ok job → without_finish line text ≡ Ok tt → swap_job has line text ≡ Ok job
+    → named (header_names has Run line text) (parse_header_job has Run line text) ≡ Ok job → without_finish line text ≡ Ok tt → swap_job has line text ≡ Ok job
 unfolding swap_job
 job_good has line text job read e = rw (read, e) refl

@@ -12,12 +12,12 @@ use Rattle.swap_many.specs.Ticking.{nth}
 use Rattle.swap_many.specs.Value.{no_world}
 use Rattle.swap_many.specs.declared.place.Place.{Place}
 use Rattle.many_lines.specs.Fields.{most_units}
-use Rattle.many_lines.specs.Places.{job_at, no_job}
+use Rattle.many_lines.specs.Places.{job_of_swap, no_job}
 use Rattle.many_lines.specs.Whole.{AreChains, ArePlaced, AreSwaps}
 use Rattle.many_lines.specs.declared.many_job.ManyJob.{ManyJob}
 
 -- the world of swap s
-pub world_is : (jobs : List Job) (s : ℕ) → s < length jobs → nth (map new_world jobs) s ≡ new_world (job_at jobs s)
+pub world_is : (jobs : List Job) (s : ℕ) → s < length jobs → nth (map new_world jobs) s ≡ new_world (job_of_swap jobs s)
 world_is jobs s lt = get_or-map new_world jobs s no_job no_world lt
 
 few_here : (units : List ℕ) → length units ≤ 64 → sum_by (λ u. u) units ≤ length units * most_units → sum_by (λ u. u) units ≤ 10 ^ 18

@@ -3,16 +3,16 @@ use Rattle.std.proofs.Common.{◌≡◌, ◌<◌, ◌≤◌, ℕ, zero, suc, Lis
 use Rattle.std.specs.List.{All}
 use Rattle.std.proofs.lemmas.List.Elements.{All-append}
 use Rattle.transcript_lines.specs.declared.said.Misspelling.{Misspelling}
-use Rattle.many_lines.specs.Fields.{account_added, accounts_on, most_units}
+use Rattle.many_lines.specs.Fields.{account_added, further_accounts, most_units}
 use Rattle.many_lines.specs.Below.{AreBelow, AreLow}
 use Rattle.many_lines.specs.declared.accounts.ChainAccounts.{ChainAccounts}
 
 -- an account was added
 pub pair_on : (old new : ChainAccounts) (name word : List ℕ) (all one rest : List (List ℕ)) (total : Result ChainAccounts Misspelling)
-    → all ≡ name ∷ one → one ≡ word ∷ rest → account_added old name word ≡ Ok new → accounts_on old all ≡ total → accounts_on new rest ≡ total
+    → all ≡ name ∷ one → one ≡ word ∷ rest → account_added old name word ≡ Ok new → further_accounts old all ≡ total → further_accounts new rest ≡ total
 pair_on old new name word all one rest total first second added so_far =
     let whole : all ≡ name ∷ word ∷ rest = first ∙ rw second refl in
-    let step : accounts_on old all ≡ accounts_on new rest = rw (whole, added) refl in
+    let step : further_accounts old all ≡ further_accounts new rest = rw (whole, added) refl in
     sym step ∙ so_far
 
 one : (P : ℕ → Type 0) (x : ℕ) → P x → All P (x ∷ [])

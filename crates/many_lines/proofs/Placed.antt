@@ -9,10 +9,10 @@ use Rattle.swap_base.specs.Fault.{◌>>=◌}
 use Rattle.offer_fields.proofs.Chains.{went}
 use Rattle.swap_job.specs.declared.job.Job.{Job}
 use Rattle.swap_many.specs.Chains.{nowhere}
-use Rattle.swap_many.specs.Opening.{IsPlaceOn}
+use Rattle.swap_many.specs.Opening.{IsChainPlace}
 use Rattle.swap_many.specs.declared.place.Place.{Place}
 use Rattle.many_lines.specs.Below.{AreBelow}
-use Rattle.many_lines.specs.Places.{find_account, arc_places, job_at, make_place, find_place, arc_place, place_or, find_places, swap_places}
+use Rattle.many_lines.specs.Places.{find_account, arc_places, job_of_swap, make_place, find_place, arc_place, place_or, find_places, swap_places}
 use Rattle.many_lines.specs.Whole.{AreChains, ArePlaced, AreSwaps}
 use Rattle.many_lines.specs.declared.many_job.ManyJob.{ManyJob}
 
@@ -38,7 +38,7 @@ is_there s a None p is = absurd (cc is)
 
 module _ (many : ManyJob) (chains : AreChains many) where
   place_known : (s : ℕ) (job : Job) (chain a : ℕ) (p : Place) → chain < length many.names → find_place many.names s job chain a ≡ Ok p
-      → IsPlaceOn many.units p
+      → IsChainPlace many.units p
   place_known s job chain a p lt is =
       let accounts : List (List ℕ) = slice_index_or many.names chain [] in
       let at = is_there s a (arc_place accounts job chain a) p is in
@@ -48,10 +48,10 @@ module _ (many : ManyJob) (chains : AreChains many) where
 
   -- a place for each arc of a swap
   arcs_placed : (s : ℕ) (job : Job) (a : ℕ) (on : List ℕ) (places : List Place) → AreBelow (length many.names) on
-      → arc_places many.names s job a on ≡ Ok places → (length places ≡ length on) × All (IsPlaceOn many.units) places
+      → arc_places many.names s job a on ≡ Ok places → (length places ≡ length on) × All (IsChainPlace many.units) places
   arcs_placed s job a [] places below is =
       let e : ◌≡◌ {A = List Place} [] places = cc is in
-      (subst (λ (ps : List Place). length ps ≡ 0) e refl, subst (All (IsPlaceOn many.units)) e (All-nil (IsPlaceOn many.units)))
+      (subst (λ (ps : List Place). length ps ≡ 0) e refl, subst (All (IsChainPlace many.units)) e (All-nil (IsChainPlace many.units)))
   arcs_placed s job a (chain ∷ on) places below is =
       let one = went (find_place many.names s job chain a) (λ place. arc_places many.names s job (a + 1) on >>= λ ps. Ok (place ∷ ps)) places is in
       let two = went (arc_places many.names s job (a + 1) on) (λ ps. Ok (one.0 ∷ ps)) places one.2 in
@@ -59,34 +59,34 @@ module _ (many : ManyJob) (chains : AreChains many) where
       let rest = arcs_placed s job (a + 1) on two.0 (All-tail (λ n. n < length many.names) chain on below) two.1 in
       let here = place_known s job chain a one.0 (All-head (λ n. n < length many.names) chain on below) one.1 in (
         subst (λ (ps : List Place). length ps ≡ suc (length on)) e (ap suc rest.0),
-        subst (All (IsPlaceOn many.units)) e (All-cons (IsPlaceOn many.units) one.0 two.0 here rest.1),
+        subst (All (IsChainPlace many.units)) e (All-cons (IsChainPlace many.units) one.0 two.0 here rest.1),
       )
 
   -- one more swap
   cons_each : (on : List ℕ) (more : List (List ℕ)) (ps : List Place) (others : List (List Place))
-      → (length ps ≡ length on) × All (IsPlaceOn many.units) ps
-      → ((k : ℕ) → k < length more → (length (get_or others k []) ≡ length (get_or more k [])) × All (IsPlaceOn many.units) (get_or others k []))
+      → (length ps ≡ length on) × All (IsChainPlace many.units) ps
+      → ((k : ℕ) → k < length more → (length (get_or others k []) ≡ length (get_or more k [])) × All (IsChainPlace many.units) (get_or others k []))
       → (k : ℕ) → k < length (on ∷ more)
-      → (length (get_or (ps ∷ others) k []) ≡ length (get_or (on ∷ more) k [])) × All (IsPlaceOn many.units) (get_or (ps ∷ others) k [])
+      → (length (get_or (ps ∷ others) k []) ≡ length (get_or (on ∷ more) k [])) × All (IsChainPlace many.units) (get_or (ps ∷ others) k [])
   cons_each on more ps others here rest zero lt = here
   cons_each on more ps others here rest (suc k) lt = rest k (omega (arith, lt))
 
   swaps_placed : (s : ℕ) (rest : List (List ℕ)) (places : List (List Place))
       → ((k : ℕ) → k < length rest → AreBelow (length many.names) (get_or rest k [])) → swap_places many s rest ≡ Ok places
       → (length places ≡ length rest)
-      × ((k : ℕ) → k < length rest → (length (get_or places k []) ≡ length (get_or rest k [])) × All (IsPlaceOn many.units) (get_or places k []))
+      × ((k : ℕ) → k < length rest → (length (get_or places k []) ≡ length (get_or rest k [])) × All (IsChainPlace many.units) (get_or places k []))
   swaps_placed s [] places below is =
       let e : ◌≡◌ {A = List (List Place)} [] places = cc is in
       (subst (λ (ps : List (List Place)). length ps ≡ 0) e refl, λ k lt. absurd (omega (arith, lt)))
   swaps_placed s (on ∷ more) places below is =
-      let one = went (arc_places many.names s (job_at many.jobs s) 0 on) (λ ps. swap_places many (s + 1) more >>= λ others. Ok (ps ∷ others)) places is in
+      let one = went (arc_places many.names s (job_of_swap many.jobs s) 0 on) (λ ps. swap_places many (s + 1) more >>= λ others. Ok (ps ∷ others)) places is in
       let two = went (swap_places many (s + 1) more) (λ others. Ok (one.0 ∷ others)) places one.2 in
       let e : one.0 ∷ two.0 ≡ places = cc two.2 in
-      let here = arcs_placed s (job_at many.jobs s) 0 on one.0 (below 0 (omega arith)) one.1 in
+      let here = arcs_placed s (job_of_swap many.jobs s) 0 on one.0 (below 0 (omega arith)) one.1 in
       let rest = swaps_placed (s + 1) more two.0 (λ k lt. below (suc k) (omega (arith, lt))) two.1 in (
         subst (λ (ps : List (List Place)). length ps ≡ suc (length more)) e (ap suc rest.0),
         subst (λ (ps : List (List Place)). (k : ℕ) → k < length (on ∷ more)
-            → (length (get_or ps k []) ≡ length (get_or (on ∷ more) k [])) × All (IsPlaceOn many.units) (get_or ps k [])) e
+            → (length (get_or ps k []) ≡ length (get_or (on ∷ more) k [])) × All (IsChainPlace many.units) (get_or ps k [])) e
             (cons_each on more one.0 two.0 here rest.1),
       )
 

@@ -9,12 +9,12 @@ use Rattle.swap_job.specs.declared.job.Purpose.TheVariants.{Run}
 use Rattle.offer_header.specs.Limits.{HoldsEach}
 use Rattle.swap_offer.specs.Job.{IsWholeJob}
 use Rattle.many_lines.specs.Below.{AreBelow, IsChain}
-use Rattle.many_lines.specs.Places.{job_at, no_job}
+use Rattle.many_lines.specs.Places.{job_of_swap, no_job}
 use Rattle.many_lines.specs.Whole.{AreChains, AreSwaps, IsSwap}
 use Rattle.many_lines.specs.declared.many_job.ManyJob.{ManyJob}
 
 -- what stands there is the job of the swap
-pub is_job_at : (jobs : List Job) (s : ℕ) (job : Job) → s < length jobs → job ≡ get_or jobs s job → job_at jobs s ≡ job
+pub is_job_at : (jobs : List Job) (s : ℕ) (job : Job) → s < length jobs → job ≡ get_or jobs s job → job_of_swap jobs s ≡ job
 is_job_at jobs s job lt is = get_or_default jobs s no_job job lt ∙ sym is
 
 is_chains_at : (all : List (List ℕ)) (s : ℕ) (chains : List ℕ) → s < length all → chains ≡ get_or all s chains → slice_index_or all s [] ≡ chains
@@ -84,7 +84,7 @@ no_swaps_yet many jobs chains = record {
 -- ---- strategies
 
 abbrev pub AreAllHeld : (List ℕ → Bool) → List Job → Type 0
-AreAllHeld has jobs = (s : ℕ) → s < length jobs → HoldsEach has (job_at jobs s).roles
+AreAllHeld has jobs = (s : ℕ) → s < length jobs → HoldsEach has (job_of_swap jobs s).roles
 
 pub holds_more : (has : List ℕ → Bool) (jobs : List Job) (job : Job) → AreAllHeld has jobs → HoldsEach has job.roles → AreAllHeld has (jobs ++ job ∷ [])
 holds_more has jobs job held here = one_more (λ (x y : Job). HoldsEach has x.roles) jobs jobs job no_job job no_job refl held here

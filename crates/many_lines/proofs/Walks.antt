@@ -8,7 +8,7 @@ use Rattle.swap_base.specs.Fault.{◌>>=◌, Fails}
 use Rattle.swap_job.specs.declared.job.Job.{Job}
 use Rattle.refusals.specs.declared.refusal.Refusal.{Refusal}
 use Rattle.swap_many.specs.declared.place.Place.{Place}
-use Rattle.many_lines.specs.Places.{arc_places, job_at, find_place, swap_places}
+use Rattle.many_lines.specs.Places.{arc_places, job_of_swap, find_place, swap_places}
 use Rattle.many_lines.specs.declared.many_job.ManyJob.{ManyJob}
 
 -- what was found before, and what is still found
@@ -54,7 +54,7 @@ module _ (names : List (List (List ℕ))) (s : ℕ) (job : Job) (front : List Pl
 -- ---- the swaps
 
 module _ (many : ManyJob) (front : List (List Place)) (chains : List (List ℕ)) (i : ℕ) (total : Result (List (List Place)) Refusal) where
-  pub swaps_on : (d : List ℕ) (places : List Place) → i < length chains → arc_places many.names i (job_at many.jobs i) 0 (get_or chains i d) ≡ Ok places
+  pub swaps_on : (d : List ℕ) (places : List Place) → i < length chains → arc_places many.names i (job_of_swap many.jobs i) 0 (get_or chains i d) ≡ Ok places
       → with_front front (swap_places many i (drop i chains)) ≡ total
       → with_front (front ++ places ∷ []) (swap_places many (i + 1) (drop (i + 1) chains)) ≡ total
   swaps_on d places lt found so_far =
@@ -65,7 +65,7 @@ module _ (many : ManyJob) (front : List (List Place)) (chains : List (List ℕ))
       sym one ∙ so_far
 
   pub swaps_fail : (d : List ℕ) (fault : Fault Refusal) → i < length chains
-      → Fails fault (arc_places many.names i (job_at many.jobs i) 0 (get_or chains i d))
+      → Fails fault (arc_places many.names i (job_of_swap many.jobs i) 0 (get_or chains i d))
       → with_front front (swap_places many i (drop i chains)) ≡ total → Fails fault total
   swaps_fail d NoMemory lt found so_far = tt
   swaps_fail d (Refused reason) lt found so_far =

@@ -12,13 +12,13 @@ use Rattle.refusals.specs.declared.reason.Reason.TheVariants.{NotConforming, Ove
 use Rattle.refusals.specs.declared.refusal.Refusal.{Refusal}
 use Rattle.refusals.specs.Refusal.{refusal}
 use Rattle.offer_events.specs.Event.{parse_event}
-use Rattle.transcript_lines.specs.Between.{parts_at}
+use Rattle.transcript_lines.specs.Between.{separated_parts}
 use Rattle.transcript_lines.specs.Reading.{is_word, bounded_number}
 use Rattle.many_lines.specs.Fields.{parse_payment_fields, parse_sweep_fields, entry_tick}
 use Rattle.swap_many.specs.declared.many_event.ManyEvent.{ManyEvent}
 use Rattle.swap_many.specs.declared.many_event.ManyEvent.TheVariants.{Tick, In, Pay, Sweep}
 use Rattle.many_lines.specs.Heading.{bad, bad_line, by_fields}
-use Rattle.many_lines.specs.Places.{job_at}
+use Rattle.many_lines.specs.Places.{job_of_swap}
 use Rattle.many_lines.specs.declared.many_job.ManyJob.{ManyJob}
 
 -- up to a line's first space, and after it
@@ -32,21 +32,21 @@ after_space (b ∷ bs) = if b == 32 then bs else after_space bs
 
 unfoldable pub tick_told : ManyJob → ℕ → List ℕ → Result ManyEvent Refusal
 tick_told many line rest = do
-  t ← by_fields line (entry_tick (length many.names) (parts_at 32 rest))
+  t ← by_fields line (entry_tick (length many.names) (separated_parts 32 rest))
   Ok (Tick t.0 t.1)
 
 unfoldable pub payment_told : ManyJob → ℕ → List ℕ → Result ManyEvent Refusal
 payment_told many line rest = do
-  p ← by_fields line (parse_payment_fields many.names (parts_at 32 rest))
+  p ← by_fields line (parse_payment_fields many.names (separated_parts 32 rest))
   Ok (Pay p.chain p.from p.to p.units)
 
 -- the number is that of a swap, with an arc of that number
 abbrev pub is_slot : List Job → ℕ → ℕ → Bool
-is_slot jobs s a = if nat_lt s (length jobs) then nat_lt a (length (job_at jobs s).deal.graph.arcs) else false
+is_slot jobs s a = if nat_lt s (length jobs) then nat_lt a (length (job_of_swap jobs s).deal.graph.arcs) else false
 
 unfoldable pub sweep_told : ManyJob → ℕ → List ℕ → Result ManyEvent Refusal
 sweep_told many line rest = do
-  t ← by_fields line (parse_sweep_fields (parts_at 32 rest))
+  t ← by_fields line (parse_sweep_fields (separated_parts 32 rest))
   if is_slot many.jobs t.0 t.1 then Ok (Sweep t.0 t.1) else bad line
 
 -- an event of a swap is no tick, since chains tick, and no crash
@@ -73,9 +73,9 @@ abbrev pub event_fault : ℕ → List (List ℕ) → Fault Reason → Fault Refu
 event_fault line names (Refused reason) = Refused (against_event line names reason)
 event_fault line names NoMemory = NoMemory
 
-abbrev pub IsAgainst : ℕ → List (List ℕ) → Fault Reason → Fault Refusal → Type 0
-IsAgainst line names fault NoMemory = Unit {0}
-IsAgainst line names fault (Refused refusal) = event_fault line names fault ≡ Refused refusal
+abbrev pub IsEventRefusal : ℕ → List (List ℕ) → Fault Reason → Fault Refusal → Type 0
+IsEventRefusal line names fault NoMemory = Unit {0}
+IsEventRefusal line names fault (Refused refusal) = event_fault line names fault ≡ Refused refusal
 
 -- an event line of swap s
 unfoldable pub read_raw_event : ℕ → ℕ → Job → List ℕ → Result ManyEvent Refusal
@@ -86,7 +86,7 @@ read_raw_event line s job text = do
 -- an event line behind the number of its swap
 unfoldable pub swap_told : ManyJob → ℕ → List ℕ → List ℕ → Result ManyEvent Refusal
 swap_told many line word text =
-    if length text == 0 then bad line else (by_fields line (bounded_number (length many.jobs) word) >>= λ s. read_raw_event line s (job_at many.jobs s) text)
+    if length text == 0 then bad line else (by_fields line (bounded_number (length many.jobs) word) >>= λ s. read_raw_event line s (job_of_swap many.jobs s) text)
 
 abbrev pub parse_told : ManyJob → ℕ → List ℕ → List ℕ → Result ManyEvent Refusal
 parse_told many line word rest =
@@ -95,7 +95,8 @@ parse_told many line word rest =
     else if is_word word (codes "sweep") then sweep_told many line rest
     else swap_told many line word rest
 
--- the event of a line, where so many event lines came before: what the line says goes by its first field
+-- the event of a line, where so many event lines came before: what the line says goes by its first
+-- field
 unfoldable pub next_told : ManyJob → ℕ → ℕ → List ℕ → Result ManyEvent Refusal
 next_told many count line text =
     if count == 200000 then Err (refusal [] (OverLimit line (codes "events") 200001)) else parse_told many line (before_space text) (after_space text)

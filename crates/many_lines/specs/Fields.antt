@@ -8,7 +8,7 @@ use Rattle.swap_job.specs.declared.job.Finish.{Finish}
 use Rattle.swap_job.specs.declared.job.Finish.TheVariants.{Stop, Fair}
 use Rattle.offer_header.specs.Names.{is_name}
 use Rattle.transcript_lines.specs.declared.said.Misspelling.{Misspelling}
-use Rattle.transcript_lines.specs.Reading.{each_of, field_of, is_word, misspelt, nothing_more, bounded_number}
+use Rattle.transcript_lines.specs.Reading.{parse_each_word, parse_first_field, is_word, misspelt, nothing_more, bounded_number}
 use Rattle.many_lines.specs.declared.accounts.ChainAccounts.{ChainAccounts}
 use Rattle.many_lines.specs.declared.payment.Payment.{Payment}
 
@@ -38,28 +38,28 @@ account_added a name word =
     if may_add a.names name then (parse_units word >>= λ units. Ok (record { names = a.names ++ name ∷ []; units = a.units ++ units ∷ [] })) else misspelt
 
 -- further accounts, each a name with its units
-abbrev pub accounts_on : ChainAccounts → List (List ℕ) → Result ChainAccounts Misspelling
-accounts_on a [] = Ok a
-accounts_on a (name ∷ []) = misspelt
-accounts_on a (name ∷ word ∷ ws) = account_added a name word >>= λ more. accounts_on more ws
+abbrev pub further_accounts : ChainAccounts → List (List ℕ) → Result ChainAccounts Misspelling
+further_accounts a [] = Ok a
+further_accounts a (name ∷ []) = misspelt
+further_accounts a (name ∷ word ∷ ws) = account_added a name word >>= λ more. further_accounts more ws
 
 -- 2 to 64 accounts
 unfoldable pub history_accounts : List (List ℕ) → Result ChainAccounts Misspelling
-history_accounts ws = accounts_on no_accounts ws >>= λ a. if nat_lt 1 (length a.names) then Ok a else misspelt
+history_accounts ws = further_accounts no_accounts ws >>= λ a. if nat_lt 1 (length a.names) then Ok a else misspelt
 
 -- ---- the chains of a swap's arcs, of so many
 
 unfoldable pub parse_chain_list : ℕ → List (List ℕ) → Result (List ℕ) Misspelling
-parse_chain_list count ws = each_of (bounded_number count) ws
+parse_chain_list count ws = parse_each_word (bounded_number count) ws
 
 -- ---- the finish
 
 abbrev pub finish_word : List ℕ → Result Finish Misspelling
 finish_word w = if is_word w (codes "stop") then Ok Stop else if is_word w (codes "fair") then Ok Fair else misspelt
 
-unfoldable pub finish_of : List (List ℕ) → Result Finish Misspelling
-finish_of ws = do
-  finish ← field_of finish_word ws
+unfoldable pub parse_finish_fields : List (List ℕ) → Result Finish Misspelling
+parse_finish_fields ws = do
+  finish ← parse_first_field finish_word ws
   u ← nothing_more finish.1
   Ok finish.0
 
@@ -72,8 +72,8 @@ parse_heights word = bounded_number 1000001 word >>= λ n. if nat_le 1 n then Ok
 -- a tick of one of so many chains: the chain, and by how many heights
 unfoldable pub entry_tick : ℕ → List (List ℕ) → Result (ℕ × ℕ) Misspelling
 entry_tick chains ws = do
-  chain ← field_of (bounded_number chains) ws
-  by ← field_of parse_heights chain.1
+  chain ← parse_first_field (bounded_number chains) ws
+  by ← parse_first_field parse_heights chain.1
   u ← nothing_more by.1
   Ok (chain.0, by.0)
 
@@ -88,22 +88,22 @@ read_account names name = found (position (bytes_eq name) names)
 -- a payment between two accounts of a chain, by their names
 unfoldable pub parse_payment : ℕ → List (List ℕ) → List (List ℕ) → Result Payment Misspelling
 parse_payment chain names ws = do
-  from ← field_of (read_account names) ws
-  to ← field_of (read_account names) from.1
-  units ← field_of parse_units to.1
+  from ← parse_first_field (read_account names) ws
+  to ← parse_first_field (read_account names) from.1
+  units ← parse_first_field parse_units to.1
   u ← nothing_more units.1
   Ok (record { chain = chain; from = from.0; to = to.0; units = units.0 })
 
 -- a payment, by the names of each chain's accounts
 unfoldable pub parse_payment_fields : List (List (List ℕ)) → List (List ℕ) → Result Payment Misspelling
 parse_payment_fields names ws = do
-  chain ← field_of (bounded_number (length names)) ws
+  chain ← parse_first_field (bounded_number (length names)) ws
   parse_payment chain.0 (slice_index_or names chain.0 []) chain.1
 
 -- a sweep: a swap and its arc
 unfoldable pub parse_sweep_fields : List (List ℕ) → Result (ℕ × ℕ) Misspelling
 parse_sweep_fields ws = do
-  swap ← field_of (bounded_number 256) ws
-  arc ← field_of (bounded_number 256) swap.1
+  swap ← parse_first_field (bounded_number 256) ws
+  arc ← parse_first_field (bounded_number 256) swap.1
   u ← nothing_more arc.1
   Ok (swap.0, arc.0)

@@ -11,13 +11,13 @@ use Rattle.swap_job.specs.declared.job.Purpose.TheVariants.{Run}
 use Rattle.refusals.specs.declared.reason.Reason.{Reason}
 use Rattle.refusals.specs.declared.reason.Reason.TheVariants.{BadLine, CutShort}
 use Rattle.refusals.specs.declared.refusal.Refusal.{Refusal}
-use Rattle.refusals.specs.Refusal.{fault_with, named, refusal}
+use Rattle.refusals.specs.Refusal.{fault_with_names, named, refusal}
 use Rattle.offer_fields.specs.Fields.{parse_data}
 use Rattle.transcript_lines.specs.declared.said.Misspelling.{Misspelling}
-use Rattle.transcript_lines.specs.Between.{parts_at}
+use Rattle.transcript_lines.specs.Between.{separated_parts}
 use Rattle.transcript_lines.specs.Reading.{is_word}
-use Rattle.swap_offer.specs.Job.{job_header_of, names_at}
-use Rattle.many_lines.specs.Fields.{history_accounts, parse_chain_list, finish_of}
+use Rattle.swap_offer.specs.Job.{parse_header_job, header_names}
+use Rattle.many_lines.specs.Fields.{history_accounts, parse_chain_list, parse_finish_fields}
 use Rattle.many_lines.specs.declared.accounts.ChainAccounts.{ChainAccounts}
 use Rattle.many_lines.specs.declared.many_job.ManyJob.{ManyJob}
 use Rattle.many_lines.specs.declared.stage.Stage.{Stage}
@@ -43,7 +43,7 @@ by_fields line (Err e) = bad line
 -- the fault takes these names, or memory ran out
 abbrev pub IsNamed : Fault Reason → List (List ℕ) → Fault Refusal → Type 0
 IsNamed fault names NoMemory = Unit {0}
-IsNamed fault names (Refused refusal) = fault_with names fault ≡ Refused refusal
+IsNamed fault names (Refused refusal) = fault_with_names names fault ≡ Refused refusal
 
 -- What was read: the chains and the swaps so far, and which line stands next.
 pub record HeadingState : Type 0 where
@@ -91,7 +91,7 @@ swap_taken h line ws =
 -- the finish, after at least one swap
 unfoldable pub finish_taken : HeadingState → ℕ → List (List ℕ) → Result HeadingState Refusal
 finish_taken h line ws =
-    if length h.many.jobs == 0 then bad line else (by_fields line (finish_of ws) >>= λ f. Ok (record { many = h.many; stage = Over f }))
+    if length h.many.jobs == 0 then bad line else (by_fields line (parse_finish_fields ws) >>= λ f. Ok (record { many = h.many; stage = Over f }))
 
 -- a line of a chain, of a swap or of the finish, by its first field
 abbrev pub kind_taken : HeadingState → ℕ → List ℕ → List (List ℕ) → Result HeadingState Refusal
@@ -116,7 +116,7 @@ without_finish line text = named [] (tells_finish line text) >>= λ told. if tol
 -- the job of a swap's header, which is read as that of a run
 unfoldable pub swap_job : (List ℕ → Bool) → ℕ → List ℕ → Result Job Refusal
 swap_job has line text = do
-  job ← named (names_at has Run line text) (job_header_of has Run line text)
+  job ← named (header_names has Run line text) (parse_header_job has Run line text)
   u ← without_finish line text
   Ok job
 
@@ -131,20 +131,20 @@ unfoldable pub header_taken : (List ℕ → Bool) → ManyJob → ℕ → List �
 header_taken has many before chains line text =
     swap_job has line text >>= λ job. if length chains == length job.deal.graph.arcs then Ok (with_swap many job chains) else bad before
 
-abbrev pub taken_at : (List ℕ → Bool) → Stage → HeadingState → ℕ → List ℕ → Result HeadingState Refusal
-taken_at has First h line text = first_taken h line text
-taken_at has Words h line text = fields_taken h line (parts_at 32 text)
-taken_at has (Header before chains) h line text = header_taken has h.many before chains line text
-taken_at has (Over finish) h line text = bad line
+abbrev pub stage_line_taken : (List ℕ → Bool) → Stage → HeadingState → ℕ → List ℕ → Result HeadingState Refusal
+stage_line_taken has First h line text = first_taken h line text
+stage_line_taken has Words h line text = fields_taken h line (separated_parts 32 text)
+stage_line_taken has (Header before chains) h line text = header_taken has h.many before chains line text
+stage_line_taken has (Over finish) h line text = bad line
 
 -- what the next line makes of it
 abbrev pub line_taken : (List ℕ → Bool) → HeadingState → ℕ → List ℕ → Result HeadingState Refusal
-line_taken has h line text = taken_at has h.stage h line text
+line_taken has h line text = stage_line_taken has h.stage h line text
 
 -- the finish, once its line was read
-abbrev pub finish_at : Stage → Result Finish Refusal
-finish_at (Over finish) = Ok finish
-finish_at _ = Err (refusal [] CutShort)
+abbrev pub stage_finish : Stage → Result Finish Refusal
+stage_finish (Over finish) = Ok finish
+stage_finish _ = Err (refusal [] CutShort)
 
 abbrev pub finish_told : Stage → Option Finish
 finish_told (Over finish) = Some finish

@@ -12,8 +12,8 @@ use Rattle.many_lines.specs.Whole.{AreChains, AreSwaps}
 abbrev pub inside_many_job : Inside → ManyJob
 inside_many_job h = record { names = h.names.items; units = h.units.items; jobs = h.jobs.items; chains = h.chains.items }
 
-abbrev pub heading_in : Inside → HeadingState
-heading_in h = record { many = inside_many_job h; stage = h.stage }
+abbrev pub inside_heading : Inside → HeadingState
+inside_heading h = record { many = inside_many_job h; stage = h.stage }
 
 -- There is room for all chains and swaps, and the wallets are those of the swaps.
 pub record IsReading (h : Inside) : Type 0 where

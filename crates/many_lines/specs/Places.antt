@@ -18,8 +18,8 @@ abbrev pub no_job : Job
 no_job = record { purpose = Run; deal = no_deal; names = []; roles = []; conforming = []; seeds = []; finish = Stop }
 
 -- the job of swap s
-abbrev pub job_at : List Job → ℕ → Job
-job_at jobs s = slice_index_or jobs s no_job
+abbrev pub job_of_swap : List Job → ℕ → Job
+job_of_swap jobs s = slice_index_or jobs s no_job
 
 -- the place of an account among those of a chain
 abbrev pub find_account : List (List ℕ) → List ℕ → Option ℕ
@@ -54,7 +54,7 @@ arc_places names s job a (chain ∷ chains) =
 abbrev pub swap_places : ManyJob → ℕ → List (List ℕ) → Result (List (List Place)) Refusal
 swap_places many s [] = Ok []
 swap_places many s (chains ∷ more) =
-    arc_places many.names s (job_at many.jobs s) 0 chains >>= λ places. swap_places many (s + 1) more >>= λ others. Ok (places ∷ others)
+    arc_places many.names s (job_of_swap many.jobs s) 0 chains >>= λ places. swap_places many (s + 1) more >>= λ others. Ok (places ∷ others)
 
 -- where the arcs of all swaps stand, or the first arc with a party that has no account there
 abbrev pub find_places : ManyJob → Result (List (List Place)) Refusal

@@ -11,20 +11,20 @@ use Rattle.swap_many.specs.Laws.{CanCome}
 use Rattle.swap_many.specs.declared.many_event.ManyEvent.{ManyEvent}
 use Rattle.swap_many.specs.declared.many_event.ManyEvent.TheVariants.{In}
 use Rattle.swap_many.specs.declared.place.Place.{Place}
-use Rattle.many_lines.specs.Places.{job_at}
+use Rattle.many_lines.specs.Places.{job_of_swap}
 use Rattle.many_lines.specs.declared.many_job.ManyJob.{ManyJob}
 
 -- what runs, where the strategies of swap s answer g s
-abbrev pub setup_by : (ℕ → Answers) → ManyJob → List (List Place) → Setup
-setup_by g many places =
-    record { swaps = length many.jobs; cast = λ s. with_answers (job_cast (job_at many.jobs s)) (g s); places = places; chains = many.units }
+abbrev pub setup_with_answers : (ℕ → Answers) → ManyJob → List (List Place) → Setup
+setup_with_answers g many places =
+    record { swaps = length many.jobs; cast = λ s. with_answers (job_cast (job_of_swap many.jobs s)) (g s); places = places; chains = many.units }
 
 -- the event can come, wherever the arcs stand and whatever strategies answer
 abbrev pub MayCome : ManyJob → ManyEvent → Type 0
-MayCome many e = (g : ℕ → Answers) (places : List (List Place)) → CanCome (setup_by g many places) e
+MayCome many e = (g : ℕ → Answers) (places : List (List Place)) → CanCome (setup_with_answers g many places) e
 
 -- An event of swap s that can come in its job, and no tick.
-pub record IsEventIn (s : ℕ) (job : Job) (e : ManyEvent) : Type 0 where
+pub record IsSwapEvent (s : ℕ) (job : Job) (e : ManyEvent) : Type 0 where
   pub event : Event
   pub is : e ≡ In s event
   pub no_tick : is_no_tick event ≡ true

@@ -8,10 +8,10 @@ use Rattle.swap_rules.specs.Accepted.{IsAccepted}
 use Rattle.swap_offer.specs.Job.{IsWholeJob}
 use Rattle.swap_offer.specs.Wallets.{HaveScripts, HaveWallets}
 use Rattle.swap_many.specs.Chains.{nowhere}
-use Rattle.swap_many.specs.Opening.{IsPlaceOn}
+use Rattle.swap_many.specs.Opening.{IsChainPlace}
 use Rattle.swap_many.specs.declared.place.Place.{Place}
 use Rattle.many_lines.specs.Below.{AreBelow, IsChain}
-use Rattle.many_lines.specs.Places.{job_at}
+use Rattle.many_lines.specs.Places.{job_of_swap}
 use Rattle.many_lines.specs.declared.many_job.ManyJob.{ManyJob}
 
 -- An accepted job of a run. Each of its arcs stands on one of the chains.
@@ -29,7 +29,7 @@ pub record IsSwap (count : ℕ) (job : Job) (chains : List ℕ) : Type 0 where
 pub record AreSwaps (many : ManyJob) : Type 0 where
   pub few : length many.jobs ≤ 8
   pub each : length many.chains ≡ length many.jobs
-  pub swaps : (s : ℕ) → s < length many.jobs → IsSwap (length many.names) (job_at many.jobs s) (slice_index_or many.chains s [])
+  pub swaps : (s : ℕ) → s < length many.jobs → IsSwap (length many.names) (job_of_swap many.jobs s) (slice_index_or many.chains s [])
 
 -- At most 32 chains.
 pub record AreChains (many : ManyJob) : Type 0 where
@@ -39,11 +39,11 @@ pub record AreChains (many : ManyJob) : Type 0 where
 
 -- the strategies of every swap are had
 abbrev pub HoldsEverySwap : (List ℕ → Bool) → ManyJob → Type 0
-HoldsEverySwap has many = (s : ℕ) → s < length many.jobs → HoldsEach has (job_at many.jobs s).roles
+HoldsEverySwap has many = (s : ℕ) → s < length many.jobs → HoldsEach has (job_of_swap many.jobs s).roles
 
 -- Each swap has a place per arc, which is a chain and two of its accounts.
 pub record ArePlaced (many : ManyJob) (places : List (List Place)) : Type 0 where
   pub one_each : length places ≡ length many.jobs
-  pub arcs : (s : ℕ) → s < length many.jobs → length (slice_index_or places s []) ≡ length (job_at many.jobs s).deal.graph.arcs
-  pub known : (s a : ℕ) → s < length many.jobs → a < length (job_at many.jobs s).deal.graph.arcs
-      → IsPlaceOn many.units (slice_index_or (slice_index_or places s []) a nowhere)
+  pub arcs : (s : ℕ) → s < length many.jobs → length (slice_index_or places s []) ≡ length (job_of_swap many.jobs s).deal.graph.arcs
+  pub known : (s a : ℕ) → s < length many.jobs → a < length (job_of_swap many.jobs s).deal.graph.arcs
+      → IsChainPlace many.units (slice_index_or (slice_index_or places s []) a nowhere)

@@ -2,7 +2,7 @@
 
 ghost use Rattle.std.specs.Prelude.{◌≡◌, IfOk, OnOk};
 ghost use Rattle.swap_base.specs.Fault.{Gives};
-ghost use Rattle.many_lines.specs.Fields.{account_added, history_accounts, accounts_on, may_add};
+ghost use Rattle.many_lines.specs.Fields.{account_added, history_accounts, further_accounts, may_add};
 ghost use Rattle.many_lines.specs.Below.{AreFew, IsChain};
 
 use crate::number::parse_units;
@@ -53,7 +53,7 @@ fn add_accounts(
     accounts: &mut ChainAccounts,
     fields: &mut Parts<'_>,
 ) -> Result<(), WordFault>
-    ensures exact { Gives (λ _. accounts.new) result (accounts_on accounts.old fields.old) }
+    ensures exact { Gives (λ _. accounts.new) result (further_accounts accounts.old fields.old) }
     ensures few { OnOk result (AreFew accounts.old → AreFew accounts.new) }
 {
     while let Some(name) = fields.next() {

@@ -3,8 +3,8 @@
 ghost use Rattle.std.specs.Prelude.{◌≤◌, IfOk};
 ghost use Rattle.swap_base.specs.Fault.{Gives};
 ghost use Rattle.transcript_book.specs.Taking.{Takes};
-ghost use Rattle.transcript_lines.specs.Reading.{field_of};
-ghost use Rattle.many_lines.specs.Fields.{parse_chain_list, finish_of, finish_word};
+ghost use Rattle.transcript_lines.specs.Reading.{parse_first_field};
+ghost use Rattle.many_lines.specs.Fields.{parse_chain_list, parse_finish_fields, finish_word};
 ghost use Rattle.many_lines.specs.Below.{AreBelow};
 
 use std::alloc::Global;
@@ -42,17 +42,17 @@ fn finish_word(word: &[u8]) -> Result<Finish, WordFault>
     }
 }
 
-#[tactic(auto, unfolding(transcript_lines::specs::Reading::field_of))]
+#[tactic(auto, unfolding(transcript_lines::specs::Reading::parse_first_field))]
 fn finish_field(fields: &mut Parts<'_>) -> Result<Finish, WordFault>
-    ensures { Takes (λ f. f) result fields.new (field_of finish_word fields.old) }
+    ensures { Takes (λ f. f) result fields.new (parse_first_field finish_word fields.old) }
 {
     finish_word(word(fields)?)
 }
 
 /// The finish, by the fields after the first.
-#[tactic(auto, unfolding(crate::specs::Fields::finish_of))]
+#[tactic(auto, unfolding(crate::specs::Fields::parse_finish_fields))]
 pub fn read_finish(fields: &mut Parts<'_>) -> Result<Finish, WordFault>
-    ensures { Gives (λ f. f) result (finish_of fields.old) }
+    ensures { Gives (λ f. f) result (parse_finish_fields fields.old) }
 {
     let finish = finish_field(fields)?;
     nothing_more(fields)?;

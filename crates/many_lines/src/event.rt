@@ -5,9 +5,9 @@ ghost use Rattle.swap_base.specs.Fault.{Gives};
 ghost use Rattle.swap_offer.specs.Job.{IsWholeJob};
 ghost use Rattle.swap_run.specs.CalledLaws.{is_no_tick};
 ghost use Rattle.many_lines.specs.Event.{after_space, before_space, read_raw_event, is_slot, next_told, payment_told, sweep_told, swap_told, tick_told, parse_told};
-ghost use Rattle.many_lines.specs.Event.{IsAgainst, is_of_crash, own_event};
+ghost use Rattle.many_lines.specs.Event.{IsEventRefusal, is_of_crash, own_event};
 ghost use Rattle.many_lines.specs.Heading.{IsNamed};
-ghost use Rattle.many_lines.specs.Setup.{IsEventIn, MayCome};
+ghost use Rattle.many_lines.specs.Setup.{IsSwapEvent, MayCome};
 ghost use Rattle.many_lines.specs.Whole.{AreChains, AreSwaps};
 
 use crate::fault::{bad, nameless};
@@ -142,7 +142,7 @@ fn against_event(
     fault: OfferFault,
     names: &Listed<ByteText>,
 ) -> HeaderFault
-    ensures { IsAgainst line names.now fault result }
+    ensures { IsEventRefusal line names.now fault result }
 {
     if is_of_crash(&fault) {
         return bad(alloc, line);
@@ -162,7 +162,7 @@ fn read_raw_event(
     requires whole { IsWholeJob job.now }
     requires purpose { job.now.purpose ≡ Purpose.Run }
     ensures exact { Gives (λ e. e) result (read_raw_event line swap job.now text.now) }
-    ensures can { IfOk result (λ e. IsEventIn swap job.now e) }
+    ensures can { IfOk result (λ e. IsSwapEvent swap job.now e) }
 {
     match read_event(alloc, job, line, text) {
         Ok(event) => own_event(alloc, line, swap, event),

@@ -1,7 +1,7 @@
 //! What is said against a line.
 
 ghost use Rattle.std.specs.Prelude.{◌≡◌, []};
-ghost use Rattle.refusals.specs.Refusal.{fault_with};
+ghost use Rattle.refusals.specs.Refusal.{fault_with_names};
 ghost use Rattle.many_lines.specs.Heading.{bad_line, by_field};
 
 use refusals::{HeaderFault, OfferFault, Reason, Refusal, with_names};
@@ -11,7 +11,7 @@ use transcript_book::WordFault;
 
 /// The fault without names, since its reason speaks of no party.
 pub(crate) fn nameless(alloc: Global, fault: OfferFault) -> HeaderFault
-    ensures { result ≡ fault_with [] fault }
+    ensures { result ≡ fault_with_names [] fault }
 {
     with_names(fault, Listed::empty(alloc))
 }

@@ -48,9 +48,9 @@ impl Model for Heading {
 
     ghost Value = { HeadingState };
 
-    ghost use Rattle.many_lines.specs.Inside.{heading_in, IsReading};
+    ghost use Rattle.many_lines.specs.Inside.{inside_heading, IsReading};
 
-    ghost view = { heading_in };
+    ghost view = { inside_heading };
 
     ghost invariant = { IsReading };
 }
@@ -231,7 +231,8 @@ impl Heading {
         text: &[u8],
     ) -> Result<(), HeaderFault>
         ensures takes { Gives (λ _. self.new) result (line_taken (has_strategy strategies.now) self.old line text.now) }
-        // The strategies of every swap are those of the strategies, where those of the swaps before are.
+        // The strategies of every swap are those of the strategies, where those of the swaps before
+        // are.
         ensures held { OnOk result (HoldsEverySwap (has_strategy strategies.now) self.old.many
             → HoldsEverySwap (has_strategy strategies.now) self.new.many) }
     {

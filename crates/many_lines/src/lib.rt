@@ -1,7 +1,9 @@
-//! The lines of many swaps: what stands before their events, where their arcs stand, and their events, each with the first reason why it is refused.
+//! The lines of many swaps: what stands before their events, where their arcs stand, and their
+//! events, each with the first reason why it is refused.
 //!
-//! Read `specs/Fields.antt` first: what each line that is no JSON says; then `specs/Heading.antt`, `specs/Places.antt` and `specs/Event.antt`. What holds of all that is read is in `specs/Whole.antt`; which events
-//! can come, in `specs/Setup.antt`.
+//! Read `specs/Fields.antt` first: what each line that is no JSON says; then `specs/Heading.antt`,
+//! `specs/Places.antt` and `specs/Event.antt`. What holds of all that is read is in
+//! `specs/Whole.antt`; which events can come, in `specs/Setup.antt`.
 #![tactic(auto)]
 
 mod accounts;

@@ -3,7 +3,7 @@
 ghost use Rattle.std.specs.Prelude.{◌<◌, ◌≤◌, [], ℕ, length, slice_index_or, IfOk};
 ghost use Rattle.swap_base.specs.Fault.{Gives};
 ghost use Rattle.transcript_lines.specs.Reading.{bounded_number};
-ghost use Rattle.many_lines.specs.Fields.{history_accounts, parse_chain_list, finish_of, parse_payment_fields, parse_sweep_fields, entry_tick};
+ghost use Rattle.many_lines.specs.Fields.{history_accounts, parse_chain_list, parse_finish_fields, parse_payment_fields, parse_sweep_fields, entry_tick};
 ghost use Rattle.many_lines.specs.Below.{AreBelow, IsChain};
 ghost use Rattle.many_lines.specs.Heading.{by_fields};
 
@@ -58,7 +58,7 @@ pub(crate) fn parse_finish(
     line: u32,
     fields: &mut Parts<'_>,
 ) -> Result<Finish, HeaderFault>
-    ensures { Gives (λ f. f) result (by_fields line (finish_of fields.old)) }
+    ensures { Gives (λ f. f) result (by_fields line (parse_finish_fields fields.old)) }
 {
     match read_finish(fields) {
         Ok(finish) => Ok(finish),

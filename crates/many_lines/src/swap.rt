@@ -4,9 +4,9 @@ ghost use Rattle.std.specs.Prelude.{◌≡◌, IfOk};
 ghost use Rattle.swap_base.specs.Fault.{Gives};
 ghost use Rattle.offer_header.specs.Limits.{HoldsEach};
 ghost use Rattle.offer_header.specs.Names.{AreNames, has_strategy};
-ghost use Rattle.swap_offer.specs.Checks.{IsAcceptedFor};
+ghost use Rattle.swap_offer.specs.Checks.{IsAcceptedOrProposed};
 ghost use Rattle.swap_offer.specs.Job.{IsWholeJob};
-ghost use Rattle.swap_offer.specs.Wallets.{HaveScriptsFor, HaveSeedsFor, HaveWalletsFor, prepared_wallets};
+ghost use Rattle.swap_offer.specs.Wallets.{HaveRequiredScripts, HaveRequiredSeeds, HaveRequiredWallets, prepared_wallets};
 ghost use Rattle.many_lines.specs.Heading.{swap_job, tells_finish, without_finish};
 
 use crate::fault::{bad, nameless};
@@ -50,11 +50,11 @@ pub(crate) fn read_swap(
     ensures names { IfOk result (λ p. AreNames p.job.names) }
     ensures purpose { IfOk result (λ p. p.job.purpose ≡ Purpose.Run) }
     ensures whole { IfOk result (λ p. IsWholeJob p.job) }
-    ensures accepted { IfOk result (λ p. IsAcceptedFor Purpose.Run p.job.deal) }
-    ensures seeds { IfOk result (λ p. HaveSeedsFor Purpose.Run p.job) }
-    ensures wallets { IfOk result (λ p. HaveWalletsFor Purpose.Run p.job) }
+    ensures accepted { IfOk result (λ p. IsAcceptedOrProposed Purpose.Run p.job.deal) }
+    ensures seeds { IfOk result (λ p. HaveRequiredSeeds Purpose.Run p.job) }
+    ensures wallets { IfOk result (λ p. HaveRequiredWallets Purpose.Run p.job) }
     ensures strategies { IfOk result (λ p. HoldsEach (has_strategy strategies.now) p.job.roles) }
-    ensures scripts { IfOk result (λ p. HaveScriptsFor Purpose.Run p.job) }
+    ensures scripts { IfOk result (λ p. HaveRequiredScripts Purpose.Run p.job) }
     ensures made { IfOk result (λ p. p.wallets.items ≡ prepared_wallets Purpose.Run p.job) }
 {
     let prepared = read_header(alloc, line, text, Purpose::Run, strategies)?;

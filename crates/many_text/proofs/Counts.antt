@@ -12,22 +12,22 @@ use Rattle.outcome_rules.specs.declared.report.Report.{Report}
 use Rattle.outcome_rules.specs.Report.{build_report}
 use Rattle.swap_job.specs.declared.job.Job.{Job}
 use Rattle.swap_many.specs.Kept.{Kept}
-use Rattle.many_text.specs.ManyText.{findings_from, report_in}
+use Rattle.many_text.specs.ManyText.{finding_count, kept_report}
 
 -- one more swap
 pub counted_on : (z : Kept) (jobs : List Job) (i : ℕ) (job d : Job) (count total : ℕ) → i < length jobs → job ≡ get_or jobs i d
-    → count + findings_from z i (drop i jobs) ≡ total
-    → (count + length (report_in z i job).findings) + findings_from z (i + 1) (drop (i + 1) jobs) ≡ total
+    → count + finding_count z i (drop i jobs) ≡ total
+    → (count + length (kept_report z i job).findings) + finding_count z (i + 1) (drop (i + 1) jobs) ≡ total
 counted_on z jobs i job d count total lt is so_far =
     let e : drop i jobs ≡ get_or jobs i d ∷ drop (i + 1) jobs = rw (add-one, drop-cons jobs i d) refl in
-    let one : findings_from z i (drop i jobs) ≡ length (report_in z i job).findings + findings_from z (i + 1) (drop (i + 1) jobs) = rw (e, ← is) refl in
+    let one : finding_count z i (drop i jobs) ≡ length (kept_report z i job).findings + finding_count z (i + 1) (drop (i + 1) jobs) = rw (e, ← is) refl in
     omega (arith, one, so_far)
 
 -- none is left
-pub counted_all : (z : Kept) (jobs : List Job) (i count total : ℕ) → length jobs ≤ i → count + findings_from z i (drop i jobs) ≡ total → count ≡ total
+pub counted_all : (z : Kept) (jobs : List Job) (i count total : ℕ) → length jobs ≤ i → count + finding_count z i (drop i jobs) ≡ total → count ≡ total
 counted_all z jobs i count total le so_far =
     let e : drop i jobs ≡ [] = nil_from_length (drop i jobs) (omega (arith, length-drop i jobs)) in
-    let none : findings_from z i (drop i jobs) ≡ 0 = rw e refl in
+    let none : finding_count z i (drop i jobs) ≡ 0 = rw e refl in
     omega (arith, none, so_far)
 
 -- A report has few outcomes.

@@ -13,7 +13,7 @@ use Rattle.swap_job.specs.declared.job.Job.{Job}
 use Rattle.outcome_rules.specs.declared.report.Report.{Report}
 use Rattle.report_text.specs.Report.{count_line, report}
 use Rattle.swap_many.specs.Kept.{Kept}
-use Rattle.many_text.specs.ManyText.{chain_text_in, findings_from, many_text, swap_line, swap_text, swap_text_in}
+use Rattle.many_text.specs.ManyText.{kept_chain_text, finding_count, many_text, swap_line, swap_text, kept_swap_text}
 use Rattle.swap_io.proofs.Handing.{hands_err, hands_ok}
 
 -- a call that writes a text whole, or a prefix of it
@@ -43,6 +43,6 @@ unfolding swap_text
 of_swap s job b r = ap (λ (t : List ℕ). swap_line s ++ t) (sym (append-nil (report job b r)))
 
 pub of_many : (jobs : List Job) (names : List (List (List ℕ))) (z : Kept)
-    → lines (swap_text_in z) 0 jobs ++ (lines (chain_text_in z) 0 names ++ (count_line (findings_from z 0 jobs) ++ [])) ≡ many_text jobs names z
+    → lines (kept_swap_text z) 0 jobs ++ (lines (kept_chain_text z) 0 names ++ (count_line (finding_count z 0 jobs) ++ [])) ≡ many_text jobs names z
 unfolding many_text
 of_many jobs names z = refl

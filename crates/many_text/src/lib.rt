@@ -1,4 +1,5 @@
-//! The text of many swaps: the report of each, what is free on each chain, and how many findings there are.
+//! The text of many swaps: the report of each, what is free on each chain, and how many findings
+//! there are.
 //!
 //! Read `specs/ManyText.antt` first: the text, line by line.
 #![tactic(auto)]

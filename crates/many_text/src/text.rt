@@ -52,8 +52,8 @@ fn hand_many<K: Sink>(
     Ok(count != 0)
 }
 
-/// Writes the report of each swap, what is free on each chain, and how many findings there are; answers whether there is any. After want of memory a
-/// prefix of it was written.
+/// Writes the report of each swap, what is free on each chain, and how many findings there are;
+/// answers whether there is any. After want of memory a prefix of it was written.
 pub fn write_many<K: Sink>(
     alloc: Global,
     sink: &mut K,

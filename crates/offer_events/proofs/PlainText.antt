@@ -20,10 +20,10 @@ use Rattle.serde_json.specs.Data.{unsigned, number, string, object, Members, no_
 use Rattle.serde_json.specs.Read.{read, of_json, max_depth}
 use Rattle.serde_json.proofs.Numbers.{number_of-decimal}
 use Rattle.swap_job.specs.declared.job.Job.{Job}
-use Rattle.offer_fields.specs.Fields.{parse_data, needed, number_at, text_at, optional_number_at, only}
+use Rattle.offer_fields.specs.Fields.{parse_data, needed, field_number, field_text, optional_field_number, only}
 use Rattle.offer_events.specs.declared.raw.RawEvent.{RawEvent}
 use Rattle.offer_events.specs.declared.raw.RawEvent.TheVariants.{Tick, Look, Act}
-use Rattle.offer_events.specs.Reading.{event_at, tick_at, look_at, act_at}
+use Rattle.offer_events.specs.Reading.{raw_event, raw_tick_event, raw_look_event, raw_act_event}
 use Rattle.swap_base.proofs.Lists.{and_both}
 use Rattle.offer_events.specs.Event.{asked, parse_event}
 use Rattle.offer_events.specs.Plain.{is_plain_byte, Says}
@@ -68,7 +68,7 @@ escape_plain (x ∷ xs) h = let p = and_parts (is_plain_byte x) (list_all is_pla
 
 -- a line of ASCII that reads as an object which says an event
 says : (line : ℕ) (text : List ℕ) (ms : Members) (raw : RawEvent) → are_ascii text ≡ true → read text ≡ Some (object ms)
-    → event_at line (object ms) ≡ Ok raw → Says line text raw
+    → raw_event line (object ms) ≡ Ok raw → Says line text raw
 unfolding parse_data
 says line text ms raw ascii is fields = record {
   object = object ms;
@@ -112,7 +112,7 @@ act_key = 123 ∷ 34 ∷ 97 ∷ 99 ∷ 116 ∷ 34 ∷ 58 ∷ []
 -- ---- the forms
 
 pub tick_alone : (line n : ℕ) (text rest : List ℕ) → n < 2 ^ 64 → text ≡ tick_key ++ (decimal n ++ rest) → rest ≡ 125 ∷ [] → Says line text (Tick n None)
-unfolding print_from escape_byte event_at tick_at number_at optional_number_at needed only
+unfolding print_from escape_byte raw_event raw_tick_event field_number optional_field_number needed only
 tick_alone line n text rest h same closed =
     let whole : text ≡ tick_key ++ (decimal n ++ 125 ∷ []) = cc in
     let tree : json.Json = json.object (json.member (codes "tick") (json.number (decimal n)) json.no_members) in
@@ -122,7 +122,7 @@ tick_alone line n text rest h same closed =
 
 pub tick_then_by : (line n k : ℕ) (text rest end : List ℕ) → n < 2 ^ 64 → k < 2 ^ 64 → text ≡ tick_key ++ (decimal n ++ rest)
     → rest ≡ next_by_key ++ (decimal k ++ end) → end ≡ 125 ∷ [] → Says line text (Tick n (Some k))
-unfolding print_from escape_byte event_at tick_at number_at optional_number_at needed only
+unfolding print_from escape_byte raw_event raw_tick_event field_number optional_field_number needed only
 tick_then_by line n k text rest end h g same next closed =
     let whole : text ≡ tick_key ++ (decimal n ++ (next_by_key ++ (decimal k ++ 125 ∷ []))) = cc in
     let tree : json.Json = json.object (json.member (codes "tick") (json.number (decimal n))
@@ -134,7 +134,7 @@ tick_then_by line n k text rest end h g same next closed =
 
 pub by_then_tick : (line n k : ℕ) (text rest end : List ℕ) → n < 2 ^ 64 → k < 2 ^ 64 → text ≡ by_key ++ (decimal k ++ rest)
     → rest ≡ next_tick_key ++ (decimal n ++ end) → end ≡ 125 ∷ [] → Says line text (Tick n (Some k))
-unfolding print_from escape_byte event_at tick_at number_at optional_number_at needed only
+unfolding print_from escape_byte raw_event raw_tick_event field_number optional_field_number needed only
 by_then_tick line n k text rest end h g same next closed =
     let whole : text ≡ by_key ++ (decimal k ++ (next_tick_key ++ (decimal n ++ 125 ∷ []))) = cc in
     let tree : json.Json = json.object (json.member (codes "by") (json.number (decimal k))
@@ -147,7 +147,7 @@ by_then_tick line n k text rest end h g same next closed =
 
 pub look_then_arc : (line n : ℕ) (name text rest end : List ℕ) → n < 2 ^ 64 → list_all is_plain_byte name ≡ true → text ≡ look_key ++ (34 ∷ (name ++ 34 ∷ rest))
     → rest ≡ next_arc_key ++ (decimal n ++ end) → end ≡ 125 ∷ [] → Says line text (Look name n)
-unfolding print_from escape_byte event_at look_at number_at text_at needed only
+unfolding print_from escape_byte raw_event raw_look_event field_number field_text needed only
 look_then_arc line n name text rest end h plain same next closed =
     let after : List ℕ = next_arc_key ++ (decimal n ++ 125 ∷ []) in
     let whole : text ≡ look_key ++ (34 ∷ (name ++ 34 ∷ (next_arc_key ++ (decimal n ++ 125 ∷ [])))) = cc in
@@ -160,7 +160,7 @@ look_then_arc line n name text rest end h plain same next closed =
 
 pub arc_then_look : (line n : ℕ) (name text rest end : List ℕ) → n < 2 ^ 64 → list_all is_plain_byte name ≡ true → text ≡ arc_key ++ (decimal n ++ rest)
     → rest ≡ next_look_key ++ (34 ∷ (name ++ 34 ∷ end)) → end ≡ 125 ∷ [] → Says line text (Look name n)
-unfolding print_from escape_byte event_at look_at number_at text_at needed only
+unfolding print_from escape_byte raw_event raw_look_event field_number field_text needed only
 arc_then_look line n name text rest end h plain same next closed =
     let after : List ℕ = next_look_key ++ (34 ∷ (name ++ 34 ∷ 125 ∷ [])) in
     let whole : text ≡ arc_key ++ (decimal n ++ (next_look_key ++ (34 ∷ (name ++ 34 ∷ 125 ∷ [])))) = cc in
@@ -174,7 +174,7 @@ arc_then_look line n name text rest end h plain same next closed =
 
 pub act_alone : (line : ℕ) (name text end : List ℕ) → list_all is_plain_byte name ≡ true → text ≡ act_key ++ (34 ∷ (name ++ 34 ∷ end)) → end ≡ 125 ∷ []
     → Says line text (Act name)
-unfolding print_from escape_byte event_at act_at text_at needed only
+unfolding print_from escape_byte raw_event raw_act_event field_text needed only
 act_alone line name text end plain same closed =
     let whole : text ≡ act_key ++ (34 ∷ (name ++ 34 ∷ 125 ∷ [])) = cc in
     let tree : json.Json = json.object (json.member (codes "act") (json.string name) json.no_members) in

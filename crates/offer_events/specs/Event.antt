@@ -1,4 +1,5 @@
--- The event that a line asks for, or the first reason against it: its text, its fields, its names, its numbers and texts, and where it stands.
+-- The event that a line asks for, or the first reason against it: its text, its fields, its names,
+-- its numbers and texts, and where it stands.
 use Rattle.std.specs.Prelude.{ℕ, Bool, true, false, List, [], ◌∷◌, codes, slice_index_or, unwrap_or, if◌then◌else◌, is_some, Option, None, Result, Ok, Err}
 use Rattle.swap_base.specs.Fault.{◌>>=◌}
 use Rattle.swap_digraph.specs.declared.deal.Deal.{Deal}
@@ -20,7 +21,7 @@ use Rattle.offer_moves.specs.Moves.{deal_sizes, parse_arc, parse_move}
 use Rattle.offer_moves.specs.Placed.{deviating, adjacent, placed}
 use Rattle.offer_events.specs.declared.raw.RawEvent.{RawEvent}
 use Rattle.offer_events.specs.declared.raw.RawEvent.TheVariants as raws
-use Rattle.offer_events.specs.Reading.{event_at}
+use Rattle.offer_events.specs.Reading.{raw_event}
 
 -- a tick is by 1 height where it doesn't say
 unfoldable pub event_of_tick : Deal → ℕ → ℕ → Option ℕ → Result Event Reason
@@ -111,5 +112,5 @@ asked job line raw = do
 unfoldable pub parse_event : Job → ℕ → List ℕ → Result Event Reason
 parse_event job line text = do
   d ← parse_data line text
-  raw ← event_at line d
+  raw ← raw_event line d
   asked job line raw

@@ -219,7 +219,7 @@ fn check_crash(conforming: &[bool], line: u32, event: &Event) -> Result<(), Offe
 
 /// The event that a line asks for by what it says.
 #[tactic(auto, unfolding(crate::specs::Event::asked))]
-fn read_raw(alloc: Global, job: &Job, line: u32, raw: &RawEvent<'_>) -> Result<Event, OfferFault>
+fn asked_event(alloc: Global, job: &Job, line: u32, raw: &RawEvent<'_>) -> Result<Event, OfferFault>
     requires sized { IsWellSized job.now.deal }
     requires names { length job.now.names ≡ job.now.deal.graph.n }
     requires conforming { length job.now.conforming ≡ job.now.deal.graph.n }
@@ -245,10 +245,11 @@ fn read_object(alloc: Global, job: &Job, line: u32, text: &[u8]) -> Result<Event
 {
     let object = parse_object(alloc, line, text)?;
     let raw = read_raw_event(alloc, line, &object)?;
-    read_raw(alloc, job, line, &raw)
+    asked_event(alloc, job, line, &raw)
 }
 
-/// The event of a line of a job's offer, or the first reason against the line. Lines are counted from 1.
+/// The event of a line of a job's offer, or the first reason against the line. Lines are counted
+/// from 1.
 pub fn read_event(alloc: Global, job: &Job, line: u32, text: &[u8]) -> Result<Event, OfferFault>
     requires sized { IsWellSized job.now.deal }
     requires names { length job.now.names ≡ job.now.deal.graph.n }
@@ -258,7 +259,7 @@ pub fn read_event(alloc: Global, job: &Job, line: u32, text: &[u8]) -> Result<Ev
     ensures fits { IfOk result (λ e. needs_seeds job.now.purpose ≡ true → IsJobEvent job.now e) }
 {
     match plain_event(text) {
-        Some(raw) => read_raw(alloc, job, line, &raw),
+        Some(raw) => asked_event(alloc, job, line, &raw),
         None => read_object(alloc, job, line, text),
     }
 }

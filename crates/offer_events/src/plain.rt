@@ -7,7 +7,7 @@ ghost use Rattle.offer_events.specs.Plain.{is_plain_byte, Says};
 use crate::raw::RawEvent;
 use offer_fields::TextRef;
 
-fn after<'a>(text: &'a [u8], prefix: &[u8]) -> Option<&'a [u8]>
+fn text_behind_prefix<'a>(text: &'a [u8], prefix: &[u8]) -> Option<&'a [u8]>
     ensures { MatchOption result ((rest : List ℕ) → text.now ≢ prefix.now ++ rest) (λ rest. text.now ≡ prefix.now ++ rest.now) }
 {
     text.strip_prefix(prefix)
@@ -77,14 +77,14 @@ fn split_number<'a>(text: &'a [u8], prefix: &[u8]) -> Option<(u64, &'a [u8])>
     ensures digits { MatchOption result (Unit {0}) (λ p. text.now ≡ prefix.now ++ (decimal p.0 ++ p.1.now)) }
     ensures small { MatchOption result (Unit {0}) (λ p. p.0 < 10 ^ 19) }
 {
-    number(after(text, prefix)?)
+    number(text_behind_prefix(text, prefix)?)
 }
 
 fn split_name<'a>(text: &'a [u8], prefix: &[u8]) -> Option<(&'a [u8], &'a [u8])>
     ensures quoted { MatchOption result (Unit {0}) (λ p. text.now ≡ prefix.now ++ (p.0.now ++ 34 ∷ p.1.now)) }
     ensures plain { MatchOption result (Unit {0}) (λ p. list_all is_plain_byte p.0.now ≡ true) }
 {
-    name(after(text, prefix)?)
+    name(text_behind_prefix(text, prefix)?)
 }
 
 /// `{"tick":N}` and `{"tick":N,"by":N}`.
@@ -159,7 +159,8 @@ fn act_alone(text: &[u8]) -> Option<RawEvent<'_>>
     })
 }
 
-/// The event of a line in a plain form: no blanks, no escapes, and numbers of up to 19 digits. `None` says nothing of the line.
+/// The event of a line in a plain form: no blanks, no escapes, and numbers of up to 19 digits.
+/// `None` says nothing of the line.
 pub(crate) fn plain_event(text: &[u8]) -> Option<RawEvent<'_>>
     ensures { MatchOption result (Unit {0}) (λ e. (line : ℕ) → Says line text.now e) }
 {

@@ -2,41 +2,42 @@
 
 ghost use Rattle.serde_json.specs.View.{view};
 ghost use Rattle.swap_base.specs.Fault.{Gives};
-ghost use Rattle.offer_events.specs.Reading.{tick_at, look_at, act_at, submit_call, crash_at, event_at};
+ghost use Rattle.offer_events.specs.Reading.{raw_tick_event, raw_look_event, raw_act_event, submit_call, raw_crash_event, raw_event};
 
 use crate::raw::RawEvent;
 use offer_fields::{
-    TextRef, allow_only, field_value, is_object, number_in, read_optional_number, read_text_field,
+    TextRef, allow_only, field_value, is_object, read_number_field, read_optional_number,
+    read_text_field,
 };
 use offer_moves::read_move;
 use refusals::{OfferFault, missing};
 use serde_json::Value;
 use std::alloc::Global;
 
-#[tactic(auto, unfolding(crate::specs::Reading::tick_at))]
+#[tactic(auto, unfolding(crate::specs::Reading::raw_tick_event))]
 fn parse_tick<'v>(alloc: Global, line: u32, object: &'v Value) -> Result<RawEvent<'v>, OfferFault>
-    ensures { Gives (λ e. e) result (tick_at line (view object.now)) }
+    ensures { Gives (λ e. e) result (raw_tick_event line (view object.now)) }
 {
-    let arc = number_in(alloc, line, "tick", object)?;
+    let arc = read_number_field(alloc, line, "tick", object)?;
     let by = read_optional_number(alloc, line, "by", object)?;
     allow_only(alloc, line, &["by", "tick"], object)?;
     Ok(RawEvent::Tick { arc, by })
 }
 
-#[tactic(auto, unfolding(crate::specs::Reading::look_at))]
+#[tactic(auto, unfolding(crate::specs::Reading::raw_look_event))]
 fn read_look<'v>(alloc: Global, line: u32, object: &'v Value) -> Result<RawEvent<'v>, OfferFault>
-    ensures { Gives (λ e. e) result (look_at line (view object.now)) }
+    ensures { Gives (λ e. e) result (raw_look_event line (view object.now)) }
 {
     let name = read_text_field(alloc, line, "look", object)?;
-    let arc = number_in(alloc, line, "arc", object)?;
+    let arc = read_number_field(alloc, line, "arc", object)?;
     allow_only(alloc, line, &["arc", "look"], object)?;
     let name = TextRef::new(name.as_bytes());
     Ok(RawEvent::Look { name, arc })
 }
 
-#[tactic(auto, unfolding(crate::specs::Reading::act_at))]
+#[tactic(auto, unfolding(crate::specs::Reading::raw_act_event))]
 fn read_act<'v>(alloc: Global, line: u32, object: &'v Value) -> Result<RawEvent<'v>, OfferFault>
-    ensures { Gives (λ e. e) result (act_at line (view object.now)) }
+    ensures { Gives (λ e. e) result (raw_act_event line (view object.now)) }
 {
     let name = read_text_field(alloc, line, "act", object)?;
     allow_only(alloc, line, &["act"], object)?;
@@ -61,26 +62,26 @@ fn read_raw_call<'v>(
     Ok(RawEvent::Call { name, mv })
 }
 
-#[tactic(auto, unfolding(crate::specs::Reading::crash_at))]
+#[tactic(auto, unfolding(crate::specs::Reading::raw_crash_event))]
 fn read_crash<'v>(alloc: Global, line: u32, object: &'v Value) -> Result<RawEvent<'v>, OfferFault>
-    ensures { Gives (λ e. e) result (crash_at line (view object.now)) }
+    ensures { Gives (λ e. e) result (raw_crash_event line (view object.now)) }
 {
     let name = read_text_field(alloc, line, "crash", object)?;
-    let after = number_in(alloc, line, "after", object)?;
-    let image = number_in(alloc, line, "image", object)?;
+    let after = read_number_field(alloc, line, "after", object)?;
+    let image = read_number_field(alloc, line, "image", object)?;
     allow_only(alloc, line, &["after", "crash", "image"], object)?;
     let name = TextRef::new(name.as_bytes());
     Ok(RawEvent::Crash { name, after, image })
 }
 
 /// The event of a line as its fields say it, or the first reason against a field.
-#[tactic(auto, unfolding(crate::specs::Reading::event_at))]
+#[tactic(auto, unfolding(crate::specs::Reading::raw_event))]
 pub fn read_raw_event<'v>(
     alloc: Global,
     line: u32,
     object: &'v Value,
 ) -> Result<RawEvent<'v>, OfferFault>
-    ensures { Gives (λ e. e) result (event_at line (view object.now)) }
+    ensures { Gives (λ e. e) result (raw_event line (view object.now)) }
 {
     if object.get("tick").is_some() {
         return parse_tick(alloc, line, object);

@@ -6,7 +6,7 @@ use Rattle.std.proofs.lemmas.Bool.{leb-true}
 use Rattle.std.proofs.lemmas.List.Quantifiers.{position-Some}
 use Rattle.swap_base.proofs.Lists.{and_parts}
 use Rattle.refusals.specs.declared.reason.Reason.TheVariants.{OverLimit}
-use Rattle.offer_fields.specs.Limits.{ranged_number, within}
+use Rattle.offer_fields.specs.Limits.{ranged_number, check_range}
 use Rattle.offer_fields.specs.Names.{found, party_of_name}
 use Rattle.offer_fields.proofs.Chains.{went}
 
@@ -14,8 +14,8 @@ pub passed : {A R : Type 0} (b : Bool) (x y : A) (d : R) → cond b (Ok x) (Err 
 passed true x y d e = (refl, cc)
 passed false x y d e = absurd (cc e)
 
-pub within_ok : (line : ℕ) (field : List ℕ) (low high n : ℕ) (u : Unit {0}) → within line field low high n ≡ Ok u → (low ≤ n) × (n ≤ high)
-unfolding within
+pub within_ok : (line : ℕ) (field : List ℕ) (low high n : ℕ) (u : Unit {0}) → check_range line field low high n ≡ Ok u → (low ≤ n) × (n ≤ high)
+unfolding check_range
 within_ok line field low high n u e =
     let p = passed (nat_le low n && nat_le n high) tt u (OverLimit line field n) e in
     let q = and_parts (nat_le low n) (nat_le n high) p.0 in
@@ -24,7 +24,7 @@ within_ok line field low high n u e =
 pub number_within_ok : (line : ℕ) (field : List ℕ) (low high n m : ℕ) → ranged_number line field low high n ≡ Ok m → (low ≤ m) × (m ≤ high) × (m ≡ n)
 unfolding ranged_number
 number_within_ok line field low high n m h =
-    let one = went (within line field low high n) (λ u. Ok n) m h in
+    let one = went (check_range line field low high n) (λ u. Ok n) m h in
     let r = within_ok line field low high n one.0 one.1 in
     let same : n ≡ m = cc (one.2) in
     (omega arith, omega arith, sym same)

@@ -1,4 +1,5 @@
--- What the fields of an object say, or the reason why they are refused. A field that is read twice counts as its last member.
+-- What the fields of an object say, or the reason why they are refused. A field that is read twice
+-- counts as its last member.
 use Rattle.std.specs.Prelude.{ℕ, List, [], ◌∷◌, if◌then◌else◌, Option, Some, None, Result, Ok, Err, option_and_then, is_some}
 use Rattle.std.specs.Str.{is_utf8, bytes_eq}
 use Rattle.std.specs.List.{list_any}
@@ -6,7 +7,7 @@ use Rattle.serde_json.specs.Data.{Data, Items, no_items, item, Members, no_membe
 use Rattle.serde_json.specs.Read.{read}
 use Rattle.serde_json.specs.Find.{get, as_number, as_u64, as_str, as_array, as_object}
 use Rattle.swap_base.specs.Fault.{◌>>=◌}
-use Rattle.offer_fields.specs.Lists.{each_of}
+use Rattle.offer_fields.specs.Lists.{collected_results}
 use Rattle.refusals.specs.declared.reason.Reason.{Reason}
 use Rattle.refusals.specs.declared.reason.Reason.TheVariants.{NotJson, Missing, WrongKind, UnknownField}
 
@@ -29,20 +30,20 @@ present line field None = Err (Missing line field)
 unfoldable pub needed : ℕ → List ℕ → Data → Result Data Reason
 needed line field d = present line field (get field d)
 
-unfoldable pub number_at : ℕ → List ℕ → Data → Result ℕ Reason
-number_at line field d = do
+unfoldable pub field_number : ℕ → List ℕ → Data → Result ℕ Reason
+field_number line field d = do
   value ← needed line field d
   kind line field (option_and_then as_u64 (as_number value))
 
-unfoldable pub text_at : ℕ → List ℕ → Data → Result (List ℕ) Reason
-text_at line field d = do
+unfoldable pub field_text : ℕ → List ℕ → Data → Result (List ℕ) Reason
+field_text line field d = do
   value ← needed line field d
   kind line field (as_str value)
 
 -- one of the words that a field may hold
-abbrev pub word_at : {A : Type 0} → ℕ → List ℕ → (List ℕ → Option A) → Data → Result A Reason
-word_at line field choice_word d = do
-  word ← text_at line field d
+abbrev pub field_word : {A : Type 0} → ℕ → List ℕ → (List ℕ → Option A) → Data → Result A Reason
+field_word line field choice_word d = do
+  word ← field_text line field d
   kind line field (choice_word word)
 
 abbrev pub optional_number : ℕ → List ℕ → Option Data → Result (Option ℕ) Reason
@@ -51,8 +52,8 @@ optional_number line field (Some d) = do
   n ← kind line field (option_and_then as_u64 (as_number d))
   Ok (Some n)
 
-unfoldable pub optional_number_at : ℕ → List ℕ → Data → Result (Option ℕ) Reason
-optional_number_at line field d = optional_number line field (get field d)
+unfoldable pub optional_field_number : ℕ → List ℕ → Data → Result (Option ℕ) Reason
+optional_field_number line field d = optional_number line field (get field d)
 
 abbrev pub first_unknown : List (List ℕ) → Members → Option (List ℕ)
 first_unknown allowed no_members = None
@@ -71,21 +72,21 @@ listed no_items = []
 listed (item d ds) = d ∷ listed ds
 
 unfoldable pub each : {A : Type 0} → (Data → Result A Reason) → Items → Result (List A) Reason
-each f ds = each_of f (listed ds)
+each f ds = collected_results f (listed ds)
 
 unfoldable pub read_array_field : ℕ → List ℕ → Data → Result Items Reason
 read_array_field line field d = do
   value ← needed line field d
   kind line field (as_array value)
 
-unfoldable pub list_at : {A : Type 0} → ℕ → List ℕ → (Data → Result A Reason) → Data → Result (List A) Reason
-list_at line field f d = do
+unfoldable pub field_list : {A : Type 0} → ℕ → List ℕ → (Data → Result A Reason) → Data → Result (List A) Reason
+field_list line field f d = do
   items ← read_array_field line field d
   each f items
 
 -- a member of the list of this name is an object
-unfoldable pub object_at : ℕ → List ℕ → Data → Result (Unit {0}) Reason
-object_at line field d = if is_some (as_object d) then Ok tt else Err (WrongKind line field)
+unfoldable pub required_object : ℕ → List ℕ → Data → Result (Unit {0}) Reason
+required_object line field d = if is_some (as_object d) then Ok tt else Err (WrongKind line field)
 
 abbrev pub optional_text : ℕ → List ℕ → Option Data → Result (Option (List ℕ)) Reason
 optional_text line field None = Ok None
@@ -93,9 +94,9 @@ optional_text line field (Some d) = do
   s ← kind line field (as_str d)
   Ok (Some s)
 
-unfoldable pub optional_text_at : ℕ → List ℕ → Data → Result (Option (List ℕ)) Reason
-optional_text_at line field d = optional_text line field (get field d)
+unfoldable pub optional_field_text : ℕ → List ℕ → Data → Result (Option (List ℕ)) Reason
+optional_field_text line field d = optional_text line field (get field d)
 
 -- a text among the members of the list of this name
-unfoldable pub member_text_of : ℕ → List ℕ → Data → Result (List ℕ) Reason
-member_text_of line field d = kind line field (as_str d)
+unfoldable pub text_member : ℕ → List ℕ → Data → Result (List ℕ) Reason
+text_member line field d = kind line field (as_str d)

@@ -7,13 +7,13 @@ use Rattle.refusals.specs.declared.reason.Reason.{Reason}
 use Rattle.refusals.specs.declared.reason.Reason.TheVariants.{OverLimit, WrongHex}
 
 -- the number is from low to high
-unfoldable pub within : ℕ → List ℕ → ℕ → ℕ → ℕ → Result (Unit {0}) Reason
-within line field low high n = if nat_le low n && nat_le n high then Ok tt else Err (OverLimit line field n)
+unfoldable pub check_range : ℕ → List ℕ → ℕ → ℕ → ℕ → Result (Unit {0}) Reason
+check_range line field low high n = if nat_le low n && nat_le n high then Ok tt else Err (OverLimit line field n)
 
 -- a number from low to high
 unfoldable pub ranged_number : ℕ → List ℕ → ℕ → ℕ → ℕ → Result ℕ Reason
 ranged_number line field low high n = do
-  u ← within line field low high n
+  u ← check_range line field low high n
   Ok n
 
 abbrev pub decoded : ℕ → List ℕ → Result (List ℕ) FromHexError → Result (List ℕ) Reason

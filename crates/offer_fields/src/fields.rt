@@ -6,8 +6,8 @@ ghost use Rattle.std.specs.Str.{bytes_eq};
 ghost use Rattle.serde_json.specs.View.{view, items_view, members_view};
 ghost use Rattle.serde_json.specs.Data.{Data};
 ghost use Rattle.swap_base.specs.Fault.{Gives};
-ghost use Rattle.offer_fields.specs.Fields.{needed, number_at, text_at, optional_number_at, optional_text_at, member_text_of, first_unknown as unknown, only};
-ghost use Rattle.offer_fields.specs.Fields.{each, read_array_field, list_at, object_at};
+ghost use Rattle.offer_fields.specs.Fields.{needed, field_number, field_text, optional_field_number, optional_field_text, text_member, first_unknown as unknown, only};
+ghost use Rattle.offer_fields.specs.Fields.{each, read_array_field, field_list, required_object};
 ghost use Rattle.refusals.specs.declared.reason.Reason.{Reason};
 
 use crate::text::TextRef;
@@ -31,9 +31,14 @@ pub fn field_value<'v>(
     }
 }
 
-#[tactic(auto, unfolding(crate::specs::Fields::number_at))]
-pub fn number_in(alloc: Global, line: u32, field: &str, object: &Value) -> Result<u64, OfferFault>
-    ensures { Gives (λ n. n) result (number_at line field.now (view object.now)) }
+#[tactic(auto, unfolding(crate::specs::Fields::field_number))]
+pub fn read_number_field(
+    alloc: Global,
+    line: u32,
+    field: &str,
+    object: &Value,
+) -> Result<u64, OfferFault>
+    ensures { Gives (λ n. n) result (field_number line field.now (view object.now)) }
 {
     match field_value(alloc, line, field, object)?.as_u64() {
         Some(number) => Ok(number),
@@ -41,14 +46,14 @@ pub fn number_in(alloc: Global, line: u32, field: &str, object: &Value) -> Resul
     }
 }
 
-#[tactic(auto, unfolding(crate::specs::Fields::text_at))]
+#[tactic(auto, unfolding(crate::specs::Fields::field_text))]
 pub fn read_text_field<'v>(
     alloc: Global,
     line: u32,
     field: &str,
     object: &'v Value,
 ) -> Result<&'v str, OfferFault>
-    ensures { Gives (λ s. s.now) result (text_at line field.now (view object.now)) }
+    ensures { Gives (λ s. s.now) result (field_text line field.now (view object.now)) }
 {
     match field_value(alloc, line, field, object)?.as_str() {
         Some(text) => Ok(text),
@@ -56,14 +61,14 @@ pub fn read_text_field<'v>(
     }
 }
 
-#[tactic(auto, unfolding(crate::specs::Fields::optional_number_at))]
+#[tactic(auto, unfolding(crate::specs::Fields::optional_field_number))]
 pub fn read_optional_number(
     alloc: Global,
     line: u32,
     field: &str,
     object: &Value,
 ) -> Result<Option<u64>, OfferFault>
-    ensures { Gives (λ n. n) result (optional_number_at line field.now (view object.now)) }
+    ensures { Gives (λ n. n) result (optional_field_number line field.now (view object.now)) }
 {
     match object.get(field) {
         None => Ok(None),
@@ -75,7 +80,7 @@ pub fn read_optional_number(
 }
 
 #[tactic(auto, unfolding(crate::specs::Fields::read_array_field))]
-pub fn array_in<'v>(
+pub fn field_array<'v>(
     alloc: Global,
     line: u32,
     field: &str,
@@ -89,9 +94,9 @@ pub fn array_in<'v>(
     }
 }
 
-#[tactic(auto, unfolding(crate::specs::Fields::object_at))]
+#[tactic(auto, unfolding(crate::specs::Fields::required_object))]
 pub fn is_object(alloc: Global, line: u32, field: &str, value: &Value) -> Result<(), OfferFault>
-    ensures { Gives (λ u. u) result (object_at line field.now (view value.now)) }
+    ensures { Gives (λ u. u) result (required_object line field.now (view value.now)) }
 {
     if value.is_object() {
         Ok(())
@@ -149,7 +154,7 @@ pub trait Member<'v, C: Copy>: Sized {
 }
 
 /// The list of that name, each member read in turn.
-#[tactic(auto, unfolding(crate::specs::Fields::list_at))]
+#[tactic(auto, unfolding(crate::specs::Fields::field_list))]
 pub fn read_list<'v, C: Copy, T: Member<'v, C> + Drop>(
     alloc: Global,
     context: C,
@@ -157,9 +162,9 @@ pub fn read_list<'v, C: Copy, T: Member<'v, C> + Drop>(
     field: &str,
     object: &'v Value,
 ) -> Result<Listed<T>, OfferFault>
-    ensures { Gives (λ x. x) result (list_at line field.now (T.said context line) (view object.now)) }
+    ensures { Gives (λ x. x) result (field_list line field.now (T.said context line) (view object.now)) }
 {
-    let values = array_in(alloc, line, field, object)?;
+    let values = field_array(alloc, line, field, object)?;
     read_each(alloc, context, line, values)
 }
 
@@ -179,14 +184,14 @@ fn read_each<'v, C: Copy, T: Member<'v, C> + Drop>(
     Ok(Listed::new(list))
 }
 
-#[tactic(auto, unfolding(crate::specs::Fields::member_text_of))]
+#[tactic(auto, unfolding(crate::specs::Fields::text_member))]
 fn text_ref<'v>(
     alloc: Global,
     line: u32,
     field: &str,
     value: &'v Value,
 ) -> Result<TextRef<'v>, OfferFault>
-    ensures { Gives (λ x. x) result (member_text_of line field.now (view value.now)) }
+    ensures { Gives (λ x. x) result (text_member line field.now (view value.now)) }
 {
     let text = member_text(alloc, line, field, value)?;
     Ok(TextRef::new(text.as_bytes()))
@@ -199,7 +204,7 @@ pub fn read_texts<'v>(
     field: &str,
     values: &'v [Value],
 ) -> Result<Listed<TextRef<'v>>, OfferFault>
-    ensures { Gives (λ x. x) result (each (member_text_of line field.now) (items_view values.now)) }
+    ensures { Gives (λ x. x) result (each (text_member line field.now) (items_view values.now)) }
 {
     let mut list = Vec::new(alloc);
     for value in values {
@@ -209,14 +214,14 @@ pub fn read_texts<'v>(
 }
 
 /// The text of a field that may be absent.
-#[tactic(auto, unfolding(crate::specs::Fields::optional_text_at))]
+#[tactic(auto, unfolding(crate::specs::Fields::optional_field_text))]
 pub fn read_optional_text<'v>(
     alloc: Global,
     line: u32,
     field: &str,
     object: &'v Value,
 ) -> Result<Option<&'v str>, OfferFault>
-    ensures { Gives (λ s. option_map (λ t. t.now) s) result (optional_text_at line field.now (view object.now)) }
+    ensures { Gives (λ s. option_map (λ t. t.now) s) result (optional_field_text line field.now (view object.now)) }
 {
     match object.get(field) {
         None => Ok(None),
@@ -228,14 +233,14 @@ pub fn read_optional_text<'v>(
 }
 
 /// The text that a member of the list of that name is.
-#[tactic(auto, unfolding(crate::specs::Fields::member_text_of))]
+#[tactic(auto, unfolding(crate::specs::Fields::text_member))]
 pub fn member_text<'v>(
     alloc: Global,
     line: u32,
     field: &str,
     value: &'v Value,
 ) -> Result<&'v str, OfferFault>
-    ensures { Gives (λ s. s.now) result (member_text_of line field.now (view value.now)) }
+    ensures { Gives (λ s. s.now) result (text_member line field.now (view value.now)) }
 {
     match value.as_str() {
         Some(text) => Ok(text),

@@ -2,14 +2,14 @@
 
 ghost use Rattle.std.specs.Prelude.{◌≤◌, IfOk};
 ghost use Rattle.swap_base.specs.Fault.{Gives};
-ghost use Rattle.offer_fields.specs.Limits.{ranged_number, within};
+ghost use Rattle.offer_fields.specs.Limits.{ranged_number, check_range};
 
 use refusals::{OfferFault, over_limit};
 use std::alloc::Global;
 
 /// The number is from low to high.
-#[tactic(auto, unfolding(crate::specs::Limits::within))]
-pub fn within(
+#[tactic(auto, unfolding(crate::specs::Limits::check_range))]
+pub fn check_range(
     alloc: Global,
     line: u32,
     field: &str,
@@ -17,7 +17,7 @@ pub fn within(
     high: u64,
     number: u64,
 ) -> Result<(), OfferFault>
-    ensures { Gives (λ u. u) result (within line field.now low high number) }
+    ensures { Gives (λ u. u) result (check_range line field.now low high number) }
 {
     if low <= number && number <= high {
         return Ok(());
@@ -26,7 +26,7 @@ pub fn within(
 }
 
 /// The number itself, where it is from low to high.
-#[tactic(auto, unfolding(crate::specs::Limits::ranged_number, crate::specs::Limits::within))]
+#[tactic(auto, unfolding(crate::specs::Limits::ranged_number, crate::specs::Limits::check_range))]
 pub fn ranged_number(
     alloc: Global,
     line: u32,

@@ -4,7 +4,8 @@ ghost use Rattle.std.specs.Prelude.{◌≡◌, ℕ, List};
 
 use std::marker::Model;
 
-/// A text that is borrowed from the input until it is kept, which contracts see as the list of its bytes.
+/// A text that is borrowed from the input until it is kept, which contracts see as the list of its
+/// bytes.
 #[derive(Debug, Drop)]
 pub struct TextRef<'v> {
     bytes: &'v [u8],

@@ -7,7 +7,7 @@ use Rattle.swap_digraph.specs.declared.deal.Mode.TheVariants.{Timelocks, Hashkey
 use Rattle.swap_digraph.specs.declared.deal.Version.{Version}
 use Rattle.swap_digraph.specs.declared.deal.Version.TheVariants.{One, Two}
 use Rattle.offer_fields.proofs.Chains.{went}
-use Rattle.offer_header.specs.Raw.{checked_mode, stated_mode_at, mode_at, IsVersionMode}
+use Rattle.offer_header.specs.Raw.{checked_mode, stated_mode, mode_member, IsVersionMode}
 
 -- no version has more parties
 pub few_parties : (version : Version) → most_parties version ≤ 32
@@ -18,9 +18,9 @@ keyed : (line : ℕ) (stated mode : Mode) → checked_mode line Two stated ≡ O
 keyed line Timelocks mode e = absurd (cc e)
 keyed line Hashkeys mode e = let same : Hashkeys ≡ mode = cc e in sym same
 
-pub is_mode_of : (line : ℕ) (version : Version) (d : Data) (mode : Mode) → mode_at line version d ≡ Ok mode → IsVersionMode version mode
-unfolding mode_at
+pub is_mode_of : (line : ℕ) (version : Version) (d : Data) (mode : Mode) → mode_member line version d ≡ Ok mode → IsVersionMode version mode
+unfolding mode_member
 is_mode_of line One d mode e = tt
 is_mode_of line Two d mode e =
-    let p = went (stated_mode_at line d) (checked_mode line Two) mode e in
+    let p = went (stated_mode line d) (checked_mode line Two) mode e in
     keyed line p.0 mode p.2

@@ -6,13 +6,13 @@ use Rattle.swap_base.specs.Fault.{Gives}
 use Rattle.swap_base.specs.declared.fault.Fault.{Fault}
 use Rattle.swap_job.specs.declared.job.Purpose.{Purpose}
 use Rattle.refusals.specs.declared.reason.Reason.{Reason}
-use Rattle.offer_fields.specs.Fields.{number_at, list_at, only}
-use Rattle.offer_header.specs.Raw.{raw_arc_of, finish_at, header_fields, keys_at, raw_leader_of, mode_at, parse_party, raw_of, states_keys, version_at}
+use Rattle.offer_fields.specs.Fields.{field_number, field_list, only}
+use Rattle.offer_header.specs.Raw.{object_arc, finish_member, header_fields, keys_member, object_leader, mode_member, parse_party, object_header, states_keys, version_member}
 use Rattle.offer_header.specs.Raw.{IsVersionMode, IsUntimed, IsUntold, HasWords}
-use Rattle.offer_header.specs.Names.{numbered_of}
-use Rattle.offer_header.specs.Limits.{limited_of, HoldsEach}
+use Rattle.offer_header.specs.Names.{numbered_header}
+use Rattle.offer_header.specs.Limits.{limited_value, HoldsEach}
 use Rattle.offer_header.specs.Scripts.{scripts_placed, AreMade}
-use Rattle.offer_header.specs.Header.{resolve_header, AreSimpleFor, IsUntoldFor, IsHeaderWithin}
+use Rattle.offer_header.specs.Header.{resolve_header, HasSimpleRoles, IsUntoldHeader, IsHeaderInLimits}
 use Rattle.offer_header.specs.declared.raw.RawHeader.{RawHeader}
 use Rattle.offer_header.specs.declared.names.Numbered.{Numbered}
 use Rattle.offer_header.specs.declared.header.Header.{Header}
@@ -34,10 +34,10 @@ record IsFit (purpose : Purpose) (h : RawHeader) : Type 0 where
   untold : IsUntold purpose h
   words : HasWords purpose h
 
-fits : (purpose : Purpose) (line : ℕ) (d : Data) (h : RawHeader) → mode_at line h.version d ≡ Ok h.mode
-    → list_at line (codes "parties") (parse_party (record { purpose = purpose; mode = h.mode }) line) d ≡ Ok h.parties
-    → list_at line (codes "arcs") (raw_arc_of (record { purpose = purpose; mode = h.mode }) line) d ≡ Ok h.arcs
-    → finish_at line purpose d ≡ Ok h.finish → IsFit purpose h
+fits : (purpose : Purpose) (line : ℕ) (d : Data) (h : RawHeader) → mode_member line h.version d ≡ Ok h.mode
+    → field_list line (codes "parties") (parse_party (record { purpose = purpose; mode = h.mode }) line) d ≡ Ok h.parties
+    → field_list line (codes "arcs") (object_arc (record { purpose = purpose; mode = h.mode }) line) d ≡ Ok h.arcs
+    → finish_member line purpose d ≡ Ok h.finish → IsFit purpose h
 fits purpose line d h m ps arcs f = record {
   mode = is_mode_of line h.version d h.mode m;
   untimed = λ is. arcs_untimed (record { purpose = purpose; mode = h.mode }) line d h.arcs is arcs;
@@ -45,19 +45,19 @@ fits purpose line d h m ps arcs f = record {
   words = has_words purpose h.mode line d h ps;
 }
 
-raw_fits : (purpose : Purpose) (line : ℕ) (d : Data) → IfOk (raw_of purpose line d) (IsFit purpose)
-unfolding raw_of
+raw_fits : (purpose : Purpose) (line : ℕ) (d : Data) → IfOk (object_header purpose line d) (IsFit purpose)
+unfolding object_header
 raw_fits purpose line d =
-    after (version_at line d) _ (IsFit purpose) (λ version v.
-    after (mode_at line version d) _ (IsFit purpose) (λ mode m.
-    after (number_at line (codes "start") d) _ (IsFit purpose) (λ start s.
-    after (number_at line (codes "delta") d) _ (IsFit purpose) (λ delta t.
-    after (number_at line (codes "bound") d) _ (IsFit purpose) (λ bound b.
-    after (list_at line (codes "parties") (parse_party (record { purpose = purpose; mode = mode }) line) d) _ (IsFit purpose) (λ parties ps.
-    after (list_at line (codes "arcs") (raw_arc_of (record { purpose = purpose; mode = mode }) line) d) _ (IsFit purpose) (λ arcs some.
-    after (list_at line (codes "leaders") (raw_leader_of (record { purpose = purpose; mode = mode }) line) d) _ (IsFit purpose) (λ leaders ls.
-    after (keys_at line (states_keys purpose mode) d) _ (IsFit purpose) (λ keys ks.
-    after (finish_at line purpose d) _ (IsFit purpose) (λ finish f.
+    after (version_member line d) _ (IsFit purpose) (λ version v.
+    after (mode_member line version d) _ (IsFit purpose) (λ mode m.
+    after (field_number line (codes "start") d) _ (IsFit purpose) (λ start s.
+    after (field_number line (codes "delta") d) _ (IsFit purpose) (λ delta t.
+    after (field_number line (codes "bound") d) _ (IsFit purpose) (λ bound b.
+    after (field_list line (codes "parties") (parse_party (record { purpose = purpose; mode = mode }) line) d) _ (IsFit purpose) (λ parties ps.
+    after (field_list line (codes "arcs") (object_arc (record { purpose = purpose; mode = mode }) line) d) _ (IsFit purpose) (λ arcs some.
+    after (field_list line (codes "leaders") (object_leader (record { purpose = purpose; mode = mode }) line) d) _ (IsFit purpose) (λ leaders ls.
+    after (keys_member line (states_keys purpose mode) d) _ (IsFit purpose) (λ keys ks.
+    after (finish_member line purpose d) _ (IsFit purpose) (λ finish f.
     after (only line (header_fields purpose (states_keys purpose mode)) d) _ (IsFit purpose) (λ u o.
     fits purpose line d (record {
       version = version;
@@ -77,15 +77,15 @@ raw_fits purpose line d =
 -- What holds of each header that is read.
 pub record IsRead (has : List ℕ → Bool) (purpose : Purpose) (line : ℕ) (h : Header) : Type 0 where
   pub purpose_is : h.purpose ≡ purpose
-  pub within : IsHeaderWithin h
-  pub untold : IsUntoldFor purpose h
-  pub simple : AreSimpleFor purpose h
+  pub within : IsHeaderInLimits h
+  pub untold : IsUntoldHeader purpose h
+  pub simple : HasSimpleRoles purpose h
   pub strategies : HoldsEach has h.roles
   pub placed : scripts_placed line h ≡ Ok tt
   pub made : AreMade line h
 
 is_read : (has : List ℕ → Bool) (purpose : Purpose) (line : ℕ) (raw : RawHeader) (n : Numbered) (h : Header) → IsFit purpose raw
-    → numbered_of has line raw ≡ Ok n → limited_of purpose line raw n ≡ Ok h → scripts_placed line h ≡ Ok tt → IsRead has purpose line h
+    → numbered_header has line raw ≡ Ok n → limited_value purpose line raw n ≡ Ok h → scripts_placed line h ≡ Ok tt → IsRead has purpose line h
 is_read has purpose line raw n h fit m l s =
     let numbered = is_numbered has line raw n m in
     let o = opened line purpose raw n h l in record {
@@ -101,8 +101,8 @@ is_read has purpose line raw n h fit m l s =
 all_read : (has : List ℕ → Bool) (purpose : Purpose) (line : ℕ) (raw : RawHeader) → IsFit purpose raw
     → IfOk (resolve_header has purpose line raw) (IsRead has purpose line)
 all_read has purpose line raw fit =
-    after (numbered_of has line raw) _ (IsRead has purpose line) (λ n m.
-    after (limited_of purpose line raw n) _ (IsRead has purpose line) (λ h l.
+    after (numbered_header has line raw) _ (IsRead has purpose line) (λ n m.
+    after (limited_value purpose line raw n) _ (IsRead has purpose line) (λ h l.
     after (scripts_placed line h) _ (IsRead has purpose line) (λ u s. is_read has purpose line raw n h fit m l s)))
 
 weaker : {A E : Type 0} (r : Result A E) (P Q : A → Type 0) → ((x : A) → P x → Q x) → IfOk r P → IfOk r Q
@@ -111,7 +111,7 @@ weaker (Err e) P Q h p = tt
 
 -- and so it holds of what is answered once the fields are read
 pub read_so : (has : List ℕ → Bool) (purpose : Purpose) (line : ℕ) (d : Data) (raw : RawHeader) (r : Result Header (Fault Reason)) (Q : Header → Type 0)
-    → raw_of purpose line d ≡ Ok raw → Gives (λ h. h) r (resolve_header has purpose line raw) → ((h : Header) → IsRead has purpose line h → Q h) → IfOk r Q
+    → object_header purpose line d ≡ Ok raw → Gives (λ h. h) r (resolve_header has purpose line raw) → ((h : Header) → IsRead has purpose line h → Q h) → IfOk r Q
 read_so has purpose line d raw r Q e g h =
-    let fit = by_value raw (raw_of purpose line d) (IsFit purpose) e (raw_fits purpose line d) in
+    let fit = by_value raw (object_header purpose line d) (IsFit purpose) e (raw_fits purpose line d) in
     weaker r (IsRead has purpose line) Q h (answered r (resolve_header has purpose line raw) (IsRead has purpose line) g (all_read has purpose line raw fit))

@@ -12,13 +12,13 @@ use Rattle.swap_job.specs.Roles.{IsHeld}
 use Rattle.swap_job.specs.declared.job.Purpose.{Purpose}
 use Rattle.swap_job.specs.declared.job.Role.{Role}
 use Rattle.swap_job.specs.declared.job.Role.TheVariants as kinds
-use Rattle.offer_fields.specs.Limits.{within}
-use Rattle.offer_fields.specs.Lists.{each_of}
+use Rattle.offer_fields.specs.Limits.{check_range}
+use Rattle.offer_fields.specs.Lists.{collected_results}
 use Rattle.offer_fields.proofs.Chains.{went, each_at, each_length}
 use Rattle.offer_moves.specs.Moves.{parse_move}
 use Rattle.offer_moves.specs.declared.moves.Sizes.{Sizes}
-use Rattle.offer_header.specs.Limits.{script_role, checked_role, checked_seed, parse_acting, count_parties, header_sizes, limited_of, HoldsEach}
-use Rattle.offer_header.specs.Names.{actor_known, name_added, name_step, names_stated, named_ends, leader_step, numbered_of}
+use Rattle.offer_header.specs.Limits.{script_role, checked_role, checked_seed, parse_acting, count_parties, header_sizes, limited_value, HoldsEach}
+use Rattle.offer_header.specs.Names.{actor_known, name_added, name_step, names_stated, named_ends, leader_step, numbered_header}
 use Rattle.offer_header.specs.declared.raw.RawActor.{RawActor}
 use Rattle.offer_header.specs.declared.raw.RawActor.TheVariants.{Conforming, Manual, Script, Strategy}
 use Rattle.offer_header.specs.declared.raw.RawParty.{RawParty}
@@ -53,8 +53,8 @@ module _ (has : List ℕ → Bool) (line : ℕ) where
   held s names all (Strategy name) role u k e =
       let is : kinds.Strategy name ≡ role = cc e in subst (IsHeld has) is (one_test (has name) (Unknown line name) u k)
   held s names all (Script raws) role u k e =
-      let p = went (within line (codes "script") 0 1000 (length raws)) _ role e in
-      let q = went (each_of (parse_move s names line) raws) _ role p.2 in
+      let p = went (check_range line (codes "script") 0 1000 (length raws)) _ role e in
+      let q = went (collected_results (parse_move s names line) raws) _ role p.2 in
       let is : kinds.Script q.0 ≡ role = cc (q.2) in
       subst (IsHeld has) is tt
 
@@ -66,10 +66,10 @@ module _ (has : List ℕ → Bool) (line : ℕ) where
       let is : record { role = one.0; seed = two.0 } ≡ a = cc (two.2) in
       subst (λ (x : Acting). IsHeld has x.role) is (held s names all p.actor one.0 k.0 k.1 one.1)
 
-  all_known : (raw : RawHeader) (n : Numbered) → numbered_of has line raw ≡ Ok n → All (IsKnownIn (names_stated raw.parties)) raw.parties
-  unfolding numbered_of
+  all_known : (raw : RawHeader) (n : Numbered) → numbered_header has line raw ≡ Ok n → All (IsKnownIn (names_stated raw.parties)) raw.parties
+  unfolding numbered_header
   all_known raw n e =
-      let one = went (steps (name_step has line (names_stated raw.parties)) [] raw.parties) (λ names. each_of (named_ends line names) raw.arcs >>= λ arcs.
+      let one = went (steps (name_step has line (names_stated raw.parties)) [] raw.parties) (λ names. collected_results (named_ends line names) raw.arcs >>= λ arcs.
       steps (leader_step line names) [] raw.leaders >>= λ leaders. Ok (record { names = names; arcs = arcs; leaders = leaders })) n e in
       steps_each (IsKnownIn (names_stated raw.parties)) (name_step has line (names_stated raw.parties)) (party_known (names_stated raw.parties)) [] raw.parties
       one.0 one.1
@@ -85,7 +85,7 @@ each_held : (has : List ℕ → Bool) (version : Version) (s : Sizes) (names all
     → HoldsEach has (map (λ (a : Acting). a.role) acting)
 unfolding count_parties
 each_held has version s names all line parties acting known e =
-    let one = went (within line (codes "parties") 2 (most_parties version) (length parties)) _ acting e in
+    let one = went (check_range line (codes "parties") 2 (most_parties version) (length parties)) _ acting e in
     let size = each_length (parse_acting s names line) parties acting one.2 in
     let n = length-map acting (λ (a : Acting). a.role) in
     All-from_get_or (IsHeld has) (map (λ (a : Acting). a.role) acting) kinds.Manual
@@ -95,8 +95,8 @@ each_held has version s names all line parties acting known e =
     (All-get_or (IsKnownIn has line all) parties i zero_party (omega (arith, lt, n, size)) known)
     (each_at (parse_acting s names line) parties acting zero_party zero_acting one.2 i (omega (arith, lt, n, size)))))
 
-pub are_held : (has : List ℕ → Bool) (line : ℕ) (purpose : Purpose) (raw : RawHeader) (n : Numbered) (h : Header) → numbered_of has line raw ≡ Ok n
-    → limited_of purpose line raw n ≡ Ok h → HoldsEach has h.roles
+pub are_held : (has : List ℕ → Bool) (line : ℕ) (purpose : Purpose) (raw : RawHeader) (n : Numbered) (h : Header) → numbered_header has line raw ≡ Ok n
+    → limited_value purpose line raw n ≡ Ok h → HoldsEach has h.roles
 are_held has line purpose raw n h known e =
     let o = opened line purpose raw n h e in
     subst (λ (x : Header). HoldsEach has x.roles) o.same

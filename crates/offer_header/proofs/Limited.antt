@@ -3,14 +3,14 @@ use Rattle.std.proofs.Common.{◌≡◌, ℕ, ◌<◌, ◌≤◌, ◌^◌, lengt
 use Rattle.std.proofs.Common.{sym, ap, ◌∙◌, subst, arith, codes}
 use Rattle.std.proofs.lemmas.List.{get_or-map, length-map}
 use Rattle.swap_base.specs.Fault.{◌>>=◌}
-use Rattle.offer_fields.specs.Limits.{ranged_number, within}
-use Rattle.offer_fields.specs.Lists.{each_of}
+use Rattle.offer_fields.specs.Limits.{ranged_number, check_range}
+use Rattle.offer_fields.specs.Lists.{collected_results}
 use Rattle.offer_header.specs.Names.{AreLeaders, AreEnds, IsNumbered}
 use Rattle.offer_header.specs.Raw.{is_plain, IsVersionMode, IsUntimed}
-use Rattle.offer_header.specs.Limits.{parse_acting, count_parties, header_sizes, stated_terms, parse_all_terms, arc_ends}
-use Rattle.offer_header.specs.Limits.{lock_hashlock, no_digests, read_hashlocks, hashlocks_of}
-use Rattle.offer_header.specs.Limits.{key_digest, party_keys_of, stated_keys_of, derived_keys, assemble_header, limited_of}
-use Rattle.offer_header.specs.Header.{HasKeysFor, IsHeaderWithin}
+use Rattle.offer_header.specs.Limits.{parse_acting, count_parties, header_sizes, stated_terms, limited_terms, arc_ends}
+use Rattle.offer_header.specs.Limits.{lock_hashlock, no_digests, read_hashlocks, leader_hashlocks}
+use Rattle.offer_header.specs.Limits.{key_digest, party_key_row, stated_keys, derived_keys, assemble_header, limited_value}
+use Rattle.offer_header.specs.Header.{AreSizedKeys, IsHeaderInLimits}
 use Rattle.offer_header.specs.declared.raw.RawActor.TheVariants.{Manual}
 use Rattle.offer_header.specs.declared.raw.RawParty.{RawParty}
 use Rattle.offer_header.specs.declared.raw.RawArc.{RawArc}
@@ -41,7 +41,7 @@ pub parties_ok : (version : Version) (sizes : Sizes) (names : List (List ℕ)) (
     → (2 ≤ length parties) × (length parties ≤ most_parties version) × (length acting ≡ length parties)
 unfolding count_parties
 parties_ok version sizes names line parties acting h =
-    let one = went (within line (codes "parties") 2 (most_parties version) (length parties)) (λ u. each_of (parse_acting sizes names line) parties) acting h in
+    let one = went (check_range line (codes "parties") 2 (most_parties version) (length parties)) (λ u. collected_results (parse_acting sizes names line) parties) acting h in
     let r = within_ok line (codes "parties") 2 (most_parties version) (length parties) one.0 one.1 in
     (r.0, r.1, each_length (parse_acting sizes names line) parties acting one.2)
 
@@ -83,7 +83,7 @@ terms_ok : (line : ℕ) (a : RawArc) (t : ArcTerms) → stated_terms line a ≡ 
     → ((1 ≤ t.amount) × (t.amount ≤ 10 ^ 12)) × (t.timelock ≤ 1000000) × (t.timelock ≡ a.timelock)
 unfolding stated_terms
 terms_ok line a t h =
-    let one = went (within line (codes "amount") 1 (10 ^ 12) a.amount) (λ u. ranged_number line (codes "timelock") 0 1000000 a.timelock >>= λ timelock.
+    let one = went (check_range line (codes "amount") 1 (10 ^ 12) a.amount) (λ u. ranged_number line (codes "timelock") 0 1000000 a.timelock >>= λ timelock.
     Ok (record { amount = a.amount; timelock = timelock })) t h in
     let two = went (ranged_number line (codes "timelock") 0 1000000 a.timelock)
     (λ timelock. Ok (record { amount = a.amount; timelock = timelock })) t one.2 in
@@ -106,11 +106,11 @@ record AreTerms (version : Version) (arcs : List RawArc) (terms : List ArcTerms)
   timelock : (a : ℕ) → a < length terms → (get_or terms a zero_terms).timelock ≤ 1000000
   stated : (a : ℕ) → a < length terms → (get_or terms a zero_terms).timelock ≡ (get_or arcs a zero_arc).timelock
 
-are_terms : (version : Version) (line : ℕ) (arcs : List RawArc) (terms : List ArcTerms) → parse_all_terms version line arcs ≡ Ok terms
+are_terms : (version : Version) (line : ℕ) (arcs : List RawArc) (terms : List ArcTerms) → limited_terms version line arcs ≡ Ok terms
     → AreTerms version arcs terms
-unfolding parse_all_terms
+unfolding limited_terms
 are_terms version line arcs terms h =
-    let one = went (within line (codes "arcs") 2 (most_arcs version) (length arcs)) (λ u. each_of (stated_terms line) arcs) terms h in
+    let one = went (check_range line (codes "arcs") 2 (most_arcs version) (length arcs)) (λ u. collected_results (stated_terms line) arcs) terms h in
     let r = within_ok line (codes "arcs") 2 (most_arcs version) (length arcs) one.0 one.1 in
     let l : length terms ≡ length arcs = each_length (stated_terms line) arcs terms one.2 in
     let at : (a : ℕ) → a < length terms → ((1 ≤ (get_or terms a zero_terms).amount) × ((get_or terms a zero_terms).amount ≤ 10 ^ 12))
@@ -134,18 +134,18 @@ by_hashlocks true line leaders hashlocks h =
     ap length (sym same) ∙ length-map leaders _
 by_hashlocks false line leaders hashlocks h = each_length (lock_hashlock line) leaders hashlocks h
 
-hashlocks_ok : (plain : Bool) (line : ℕ) (leaders : List RawLeader) (hashlocks : List (List ℕ)) → hashlocks_of plain line leaders ≡ Ok hashlocks
+hashlocks_ok : (plain : Bool) (line : ℕ) (leaders : List RawLeader) (hashlocks : List (List ℕ)) → leader_hashlocks plain line leaders ≡ Ok hashlocks
     → (1 ≤ length leaders) × (length leaders ≤ 8) × (length hashlocks ≡ length leaders)
-unfolding hashlocks_of
+unfolding leader_hashlocks
 hashlocks_ok plain line leaders hashlocks h =
-    let one = went (within line (codes "leaders") 1 8 (length leaders)) (λ u. read_hashlocks plain line leaders) hashlocks h in
+    let one = went (check_range line (codes "leaders") 1 8 (length leaders)) (λ u. read_hashlocks plain line leaders) hashlocks h in
     let r = within_ok line (codes "leaders") 1 8 (length leaders) one.0 one.1 in
     (r.0, r.1, by_hashlocks plain line leaders hashlocks one.2)
 
-party_keys_ok : (locks line : ℕ) (row : RawRow) (keys : List (List ℕ)) → party_keys_of locks line row ≡ Ok keys → length keys ≡ locks
-unfolding party_keys_of
+party_keys_ok : (locks line : ℕ) (row : RawRow) (keys : List (List ℕ)) → party_key_row locks line row ≡ Ok keys → length keys ≡ locks
+unfolding party_key_row
 party_keys_ok locks line row keys h =
-    let one = went (within line (codes "keys") locks locks (length row.texts)) (λ u. each_of (key_digest line) row.texts) keys h in
+    let one = went (check_range line (codes "keys") locks locks (length row.texts)) (λ u. collected_results (key_digest line) row.texts) keys h in
     let r = within_ok line (codes "keys") locks locks (length row.texts) one.0 one.1 in
     let l : length keys ≡ length row.texts = each_length (key_digest line) row.texts keys one.2 in
     omega arith
@@ -153,31 +153,31 @@ party_keys_ok locks line row keys h =
 abbrev no_row : RawRow
 no_row = record { texts = [] }
 
-stated_keys_ok : (line : ℕ) (h : RawHeader) (keys : List (List (List ℕ))) → stated_keys_of line h ≡ Ok keys
-    → HasKeysFor Hashkeys (length h.parties) (length h.leaders) keys
-unfolding stated_keys_of
+stated_keys_ok : (line : ℕ) (h : RawHeader) (keys : List (List (List ℕ))) → stated_keys line h ≡ Ok keys
+    → AreSizedKeys Hashkeys (length h.parties) (length h.leaders) keys
+unfolding stated_keys
 stated_keys_ok line h keys e =
     let locks : ℕ = length h.leaders in
-    let one = went (within line (codes "keys") (length h.parties) (length h.parties) (length h.keys)) (λ u. each_of (party_keys_of locks line) h.keys) keys e in
+    let one = went (check_range line (codes "keys") (length h.parties) (length h.parties) (length h.keys)) (λ u. collected_results (party_key_row locks line) h.keys) keys e in
     let r = within_ok line (codes "keys") (length h.parties) (length h.parties) (length h.keys) one.0 one.1 in
-    let l : length keys ≡ length h.keys = each_length (party_keys_of locks line) h.keys keys one.2 in (
+    let l : length keys ≡ length h.keys = each_length (party_key_row locks line) h.keys keys one.2 in (
       omega arith,
       λ p lt. party_keys_ok locks line (get_or h.keys p no_row) (get_or keys p [])
-          (each_at (party_keys_of locks line) h.keys keys no_row [] one.2 p (omega arith)),
+          (each_at (party_key_row locks line) h.keys keys no_row [] one.2 p (omega arith)),
     )
 
 abbrev zero_party : RawParty
 zero_party = record { name = []; actor = Manual; seed = None }
 
 unstated_keys_ok : (h : RawHeader) (keys : List (List (List ℕ))) → map (λ (p : RawParty). no_digests h.leaders) h.parties ≡ keys
-    → HasKeysFor Hashkeys (length h.parties) (length h.leaders) keys
-unstated_keys_ok h keys same = subst (HasKeysFor Hashkeys (length h.parties) (length h.leaders)) same (
+    → AreSizedKeys Hashkeys (length h.parties) (length h.leaders) keys
+unstated_keys_ok h keys same = subst (AreSizedKeys Hashkeys (length h.parties) (length h.leaders)) same (
   length-map h.parties _,
   λ p lt. ap length (get_or-map (λ (p : RawParty). no_digests h.leaders) h.parties p zero_party [] lt) ∙ length-map h.leaders _,
 )
 
 keys_ok : (mode : Mode) (plain : Bool) (line : ℕ) (h : RawHeader) (keys : List (List (List ℕ))) → derived_keys mode plain line h ≡ Ok keys
-    → HasKeysFor mode (length h.parties) (length h.leaders) keys
+    → AreSizedKeys mode (length h.parties) (length h.leaders) keys
 keys_ok Timelocks plain line h keys e = cc e
 keys_ok Hashkeys true line h keys e = unstated_keys_ok h keys (cc e)
 keys_ok Hashkeys false line h keys e = stated_keys_ok line h keys e
@@ -198,8 +198,8 @@ all_within : (purpose : Purpose) (raw : RawHeader) (n : Numbered) (start delta b
     → (2 ≤ length raw.parties) × (length raw.parties ≤ most_parties raw.version) × (length acting ≡ length raw.parties)
     → AreTerms raw.version raw.arcs terms
     → (1 ≤ length raw.leaders) × (length raw.leaders ≤ 8) × (length hashlocks ≡ length raw.leaders)
-    → HasKeysFor raw.mode (length raw.parties) (length raw.leaders) keys
-    → IsHeaderWithin (assemble_header purpose raw n start delta bound acting terms hashlocks keys)
+    → AreSizedKeys raw.mode (length raw.parties) (length raw.leaders) keys
+    → IsHeaderInLimits (assemble_header purpose raw n start delta bound acting terms hashlocks keys)
 all_within purpose raw n start delta bound acting terms hashlocks keys is mode untimed s d b ps ts ls ks =
     let lp : length n.names ≡ length raw.parties = is.parties in
     let la : length n.arcs ≡ length raw.arcs = is.arcs in
@@ -236,8 +236,8 @@ all_within purpose raw n start delta bound acting terms hashlocks keys is mode u
       keys = rw (lp, ll) ks;
     }
 
-within_along : (h k : Header) → h ≡ k → IsHeaderWithin h → IsHeaderWithin k
-within_along h k e w = subst (λ x. IsHeaderWithin x) e w
+within_along : (h k : Header) → h ≡ k → IsHeaderInLimits h → IsHeaderInLimits k
+within_along h k e w = subst (λ x. IsHeaderInLimits x) e w
 
 -- The parts of a header within its limits.
 pub record Opened (line : ℕ) (purpose : Purpose) (raw : RawHeader) (n : Numbered) (h : Header) : Type 0 where
@@ -252,36 +252,36 @@ pub record Opened (line : ℕ) (purpose : Purpose) (raw : RawHeader) (n : Number
   pub delta_is : ranged_number line (codes "delta") 1 100 raw.delta ≡ Ok delta
   pub bound_is : ranged_number line (codes "bound") 1 64 raw.bound ≡ Ok bound
   pub acting_are : count_parties raw.version (header_sizes raw) n.names line raw.parties ≡ Ok acting
-  pub terms_are : parse_all_terms raw.version line raw.arcs ≡ Ok terms
-  pub hashlocks_are : hashlocks_of (is_plain purpose) line raw.leaders ≡ Ok hashlocks
+  pub terms_are : limited_terms raw.version line raw.arcs ≡ Ok terms
+  pub hashlocks_are : leader_hashlocks (is_plain purpose) line raw.leaders ≡ Ok hashlocks
   pub keys_are : derived_keys raw.mode (is_plain purpose) line raw ≡ Ok keys
   pub same : assemble_header purpose raw n start delta bound acting terms hashlocks keys ≡ h
 
-pub opened : (line : ℕ) (purpose : Purpose) (raw : RawHeader) (n : Numbered) (h : Header) → limited_of purpose line raw n ≡ Ok h
+pub opened : (line : ℕ) (purpose : Purpose) (raw : RawHeader) (n : Numbered) (h : Header) → limited_value purpose line raw n ≡ Ok h
     → Opened line purpose raw n h
-unfolding limited_of
+unfolding limited_value
 opened line purpose raw n h e =
     let one = went (ranged_number line (codes "start") 1 1000 raw.start) (λ start. ranged_number line (codes "delta") 1 100 raw.delta >>= λ delta.
     ranged_number line (codes "bound") 1 64 raw.bound >>= λ bound. count_parties raw.version (header_sizes raw) n.names line raw.parties >>= λ acting.
-    parse_all_terms raw.version line raw.arcs >>= λ terms.
-    hashlocks_of (is_plain purpose) line raw.leaders >>= λ hashlocks. derived_keys raw.mode (is_plain purpose) line raw >>= λ keys.
+    limited_terms raw.version line raw.arcs >>= λ terms.
+    leader_hashlocks (is_plain purpose) line raw.leaders >>= λ hashlocks. derived_keys raw.mode (is_plain purpose) line raw >>= λ keys.
     Ok (assemble_header purpose raw n start delta bound acting terms hashlocks keys)) h e in
     let two = went (ranged_number line (codes "delta") 1 100 raw.delta) (λ delta. ranged_number line (codes "bound") 1 64 raw.bound >>= λ bound.
-    count_parties raw.version (header_sizes raw) n.names line raw.parties >>= λ acting. parse_all_terms raw.version line raw.arcs >>= λ terms.
-    hashlocks_of (is_plain purpose) line raw.leaders >>= λ hashlocks.
+    count_parties raw.version (header_sizes raw) n.names line raw.parties >>= λ acting. limited_terms raw.version line raw.arcs >>= λ terms.
+    leader_hashlocks (is_plain purpose) line raw.leaders >>= λ hashlocks.
     derived_keys raw.mode (is_plain purpose) line raw >>= λ keys.
     Ok (assemble_header purpose raw n one.0 delta bound acting terms hashlocks keys)) h one.2 in
     let three = went (ranged_number line (codes "bound") 1 64 raw.bound) (λ bound. count_parties raw.version (header_sizes raw) n.names line raw.parties >>= λ acting.
-    parse_all_terms raw.version line raw.arcs >>= λ terms. hashlocks_of (is_plain purpose) line raw.leaders >>= λ hashlocks.
+    limited_terms raw.version line raw.arcs >>= λ terms. leader_hashlocks (is_plain purpose) line raw.leaders >>= λ hashlocks.
     derived_keys raw.mode (is_plain purpose) line raw >>= λ keys.
     Ok (assemble_header purpose raw n one.0 two.0 bound acting terms hashlocks keys)) h two.2 in
-    let four = went (count_parties raw.version (header_sizes raw) n.names line raw.parties) (λ acting. parse_all_terms raw.version line raw.arcs >>= λ terms.
-    hashlocks_of (is_plain purpose) line raw.leaders >>= λ hashlocks. derived_keys raw.mode (is_plain purpose) line raw >>= λ keys.
+    let four = went (count_parties raw.version (header_sizes raw) n.names line raw.parties) (λ acting. limited_terms raw.version line raw.arcs >>= λ terms.
+    leader_hashlocks (is_plain purpose) line raw.leaders >>= λ hashlocks. derived_keys raw.mode (is_plain purpose) line raw >>= λ keys.
     Ok (assemble_header purpose raw n one.0 two.0 three.0 acting terms hashlocks keys)) h three.2 in
-    let five = went (parse_all_terms raw.version line raw.arcs) (λ terms. hashlocks_of (is_plain purpose) line raw.leaders >>= λ hashlocks.
+    let five = went (limited_terms raw.version line raw.arcs) (λ terms. leader_hashlocks (is_plain purpose) line raw.leaders >>= λ hashlocks.
     derived_keys raw.mode (is_plain purpose) line raw >>= λ keys.
     Ok (assemble_header purpose raw n one.0 two.0 three.0 four.0 terms hashlocks keys)) h four.2 in
-    let six = went (hashlocks_of (is_plain purpose) line raw.leaders) (λ hashlocks. derived_keys raw.mode (is_plain purpose) line raw >>= λ keys.
+    let six = went (leader_hashlocks (is_plain purpose) line raw.leaders) (λ hashlocks. derived_keys raw.mode (is_plain purpose) line raw >>= λ keys.
     Ok (assemble_header purpose raw n one.0 two.0 three.0 four.0 five.0 hashlocks keys)) h five.2 in
     let seven = went (derived_keys raw.mode (is_plain purpose) line raw)
     (λ keys. Ok (assemble_header purpose raw n one.0 two.0 three.0 four.0 five.0 six.0 keys)) h six.2 in
@@ -305,7 +305,7 @@ opened line purpose raw n h e =
     }
 
 pub set_contains_ends : (line : ℕ) (purpose : Purpose) (raw : RawHeader) (n : Numbered) (h : Header) → IsNumbered raw n → IsVersionMode raw.version raw.mode
-    → IsUntimed raw → limited_of purpose line raw n ≡ Ok h → IsHeaderWithin h
+    → IsUntimed raw → limited_value purpose line raw n ≡ Ok h → IsHeaderInLimits h
 set_contains_ends line purpose raw n h is mode untimed e =
     let o = opened line purpose raw n h e in
     within_along (assemble_header purpose raw n o.start o.delta o.bound o.acting o.terms o.hashlocks o.keys) h o.same
@@ -319,7 +319,7 @@ set_contains_ends line purpose raw n h is mode untimed e =
     (keys_ok raw.mode (is_plain purpose) line raw o.keys o.keys_are))
 
 -- there are few roles
-pub few_roles : (line : ℕ) (purpose : Purpose) (raw : RawHeader) (n : Numbered) (h : Header) → limited_of purpose line raw n ≡ Ok h → length h.roles ≤ 256
+pub few_roles : (line : ℕ) (purpose : Purpose) (raw : RawHeader) (n : Numbered) (h : Header) → limited_value purpose line raw n ≡ Ok h → length h.roles ≤ 256
 few_roles line purpose raw n h e =
     let o = opened line purpose raw n h e in
     let r = parties_ok raw.version (header_sizes raw) n.names line raw.parties o.acting o.acting_are in

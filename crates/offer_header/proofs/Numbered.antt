@@ -15,9 +15,9 @@ use Rattle.swap_base.specs.Fault.{◌>>=◌, steps}
 use Rattle.swap_base.proofs.Lists.{and_parts}
 use Rattle.refusals.specs.declared.reason.Reason.{Reason}
 use Rattle.refusals.specs.declared.reason.Reason.TheVariants.{BadName, Duplicate}
-use Rattle.offer_fields.specs.Lists.{each_of}
+use Rattle.offer_fields.specs.Lists.{collected_results}
 use Rattle.offer_fields.specs.Names.{party_of_name}
-use Rattle.offer_header.specs.Names.{is_name_byte, is_name, actor_known, name_added, name_step, names_stated, named_ends, leader_step, numbered_of}
+use Rattle.offer_header.specs.Names.{is_name_byte, is_name, actor_known, name_added, name_step, names_stated, named_ends, leader_step, numbered_header}
 use Rattle.offer_header.specs.Names.{IsName, AreNames, AreLeaders, AreEnds, IsNumbered}
 use Rattle.offer_header.specs.declared.raw.RawParty.{RawParty}
 use Rattle.offer_header.specs.declared.raw.RawArc.{RawArc}
@@ -154,7 +154,7 @@ zero_arc = record { from = []; to = []; amount = 0; timelock = 0 }
 abbrev zero_ends : Ends
 zero_ends = record { from = 0; to = 0 }
 
-pub are_ends : (line : ℕ) (names : List (List ℕ)) (arcs : List RawArc) (ends : List Ends) → each_of (named_ends line names) arcs ≡ Ok ends
+pub are_ends : (line : ℕ) (names : List (List ℕ)) (arcs : List RawArc) (ends : List Ends) → collected_results (named_ends line names) arcs ≡ Ok ends
     → (length ends ≡ length arcs) × AreEnds (length names) ends
 are_ends line names arcs ends h =
     let l : length ends ≡ length arcs = each_length (named_ends line names) arcs ends h in
@@ -204,12 +204,12 @@ are_leaders line names leaders numbers h =
 numbered_along : (raw : RawHeader) (m n : Numbered) → m ≡ n → IsNumbered raw m → IsNumbered raw n
 numbered_along raw m n e is = subst (λ k. IsNumbered raw k) e is
 
-pub is_numbered : (has : List ℕ → Bool) (line : ℕ) (raw : RawHeader) (n : Numbered) → numbered_of has line raw ≡ Ok n → IsNumbered raw n
-unfolding numbered_of
+pub is_numbered : (has : List ℕ → Bool) (line : ℕ) (raw : RawHeader) (n : Numbered) → numbered_header has line raw ≡ Ok n → IsNumbered raw n
+unfolding numbered_header
 is_numbered has line raw n h =
-    let one = went (steps (name_step has line (names_stated raw.parties)) [] raw.parties) (λ names. each_of (named_ends line names) raw.arcs >>= λ arcs.
+    let one = went (steps (name_step has line (names_stated raw.parties)) [] raw.parties) (λ names. collected_results (named_ends line names) raw.arcs >>= λ arcs.
     steps (leader_step line names) [] raw.leaders >>= λ leaders. Ok (record { names = names; arcs = arcs; leaders = leaders })) n h in
-    let two = went (each_of (named_ends line one.0) raw.arcs) (λ arcs. steps (leader_step line one.0) [] raw.leaders >>= λ leaders.
+    let two = went (collected_results (named_ends line one.0) raw.arcs) (λ arcs. steps (leader_step line one.0) [] raw.leaders >>= λ leaders.
     Ok (record { names = one.0; arcs = arcs; leaders = leaders })) n one.2 in
     let three = went (steps (leader_step line one.0) [] raw.leaders) (λ leaders. Ok (record { names = one.0; arcs = two.0; leaders = leaders })) n two.2 in
     let same : record { names = one.0; arcs = two.0; leaders = three.0 } ≡ n = cc (three.2) in

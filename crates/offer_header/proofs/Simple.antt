@@ -17,13 +17,13 @@ use Rattle.swap_job.specs.declared.job.Purpose.{Purpose}
 use Rattle.swap_job.specs.declared.job.Purpose.TheVariants.{Check, Run, Race, Make, Audit}
 use Rattle.swap_job.specs.declared.job.Role.{Role}
 use Rattle.swap_job.specs.declared.job.Role.TheVariants as kinds
-use Rattle.offer_fields.specs.Fields.{text_at, object_at, read_array_field, list_at, listed, each, only, member_text_of}
-use Rattle.offer_fields.specs.Limits.{within}
+use Rattle.offer_fields.specs.Fields.{field_text, required_object, read_array_field, field_list, listed, each, only, text_member}
+use Rattle.offer_fields.specs.Limits.{check_range}
 use Rattle.offer_fields.proofs.Chains.{went, each_all, each_at, each_length}
 use Rattle.offer_moves.specs.declared.moves.Sizes.{Sizes}
-use Rattle.offer_header.specs.Raw.{object_actor, actor_of_word, new_actor, actor_or_conforming, actor_at, seed_at, party_fields, parse_party, IsWord, HasWords}
-use Rattle.offer_header.specs.Limits.{checked_role, checked_seed, parse_acting, count_parties, header_sizes, limited_of}
-use Rattle.offer_header.specs.Header.{simple_role, AreSimpleFor}
+use Rattle.offer_header.specs.Raw.{object_actor, actor_of_word, new_actor, actor_or_conforming, actor_member, seed_member, party_fields, parse_party, IsWord, HasWords}
+use Rattle.offer_header.specs.Limits.{checked_role, checked_seed, parse_acting, count_parties, header_sizes, limited_value}
+use Rattle.offer_header.specs.Header.{simple_role, HasSimpleRoles}
 use Rattle.offer_header.proofs.Limited.{opened}
 use Rattle.offer_header.specs.declared.raw.RawActor.{RawActor}
 use Rattle.offer_header.specs.declared.raw.RawActor.TheVariants.{Conforming, Manual, Script, Strategy}
@@ -51,11 +51,11 @@ module _ (purpose : Purpose) (none : (line : ℕ) (d : Data) (a : RawActor) → 
       go : (b : Bool) → is_some (as_object v) ≡ b → IsWord a
       go true eb = absurd (none line v a (rw eb at e))
       go false eb =
-          let p = went (member_text_of line (codes "actor") v) (λ word. actor_of_word line word) a (rw eb at e) in
+          let p = went (text_member line (codes "actor") v) (λ word. actor_of_word line word) a (rw eb at e) in
           word_is line p.0 a p.2
 
-  actor_is : (line : ℕ) (d : Data) (a : RawActor) → actor_at line purpose d ≡ Ok a → IsWord a
-  unfolding actor_at
+  actor_is : (line : ℕ) (d : Data) (a : RawActor) → actor_member line purpose d ≡ Ok a → IsWord a
+  unfolding actor_member
   actor_is line d a e = go (get (codes "actor") d) e
     where
       go : (o : Option Data) → actor_or_conforming line purpose o ≡ Ok a → IsWord a
@@ -65,18 +65,18 @@ module _ (purpose : Purpose) (none : (line : ℕ) (d : Data) (a : RawActor) → 
   party_is : (mode : Mode) (line : ℕ) (d : Data) (p : RawParty) → parse_party (record { purpose = purpose; mode = mode }) line d ≡ Ok p → IsWord p.actor
   unfolding parse_party
   party_is mode line d p h =
-      let one = went (object_at line (codes "parties") d) _ p h in
-      let two = went (text_at line (codes "name") d) _ p one.2 in
-      let three = went (actor_at line purpose d) _ p two.2 in
-      let four = went (seed_at line purpose d) _ p three.2 in
+      let one = went (required_object line (codes "parties") d) _ p h in
+      let two = went (field_text line (codes "name") d) _ p one.2 in
+      let three = went (actor_member line purpose d) _ p two.2 in
+      let four = went (seed_member line purpose d) _ p three.2 in
       let five = went (only line (party_fields purpose) d) _ p four.2 in
       let same : record { name = two.0; actor = three.0; seed = four.0 } ≡ p = cc (five.2) in
       subst (λ (x : RawParty). IsWord x.actor) same (actor_is line d three.0 three.1)
 
   parties_are : (mode : Mode) (line : ℕ) (d : Data) (ps : List RawParty)
-      → list_at line (codes "parties") (parse_party (record { purpose = purpose; mode = mode }) line) d ≡ Ok ps
+      → field_list line (codes "parties") (parse_party (record { purpose = purpose; mode = mode }) line) d ≡ Ok ps
       → (p : ℕ) (e : RawParty) → p < length ps → IsWord (get_or ps p e).actor
-  unfolding list_at each
+  unfolding field_list each
   parties_are mode line d ps h =
       let read : Data → Result RawParty Reason = parse_party (record { purpose = purpose; mode = mode }) line in
       let one = went (read_array_field line (codes "parties") d) (λ items. each read items) ps h in
@@ -86,7 +86,7 @@ none_told : (line : ℕ) (d : Data) (a : RawActor) → object_actor line Audit d
 none_told line d a e = cc e
 
 pub has_words : (purpose : Purpose) (mode : Mode) (line : ℕ) (d : Data) (h : RawHeader)
-    → list_at line (codes "parties") (parse_party (record { purpose = purpose; mode = mode }) line) d ≡ Ok h.parties → HasWords purpose h
+    → field_list line (codes "parties") (parse_party (record { purpose = purpose; mode = mode }) line) d ≡ Ok h.parties → HasWords purpose h
 has_words Audit mode line d h ps = parties_are Audit none_told mode line d h.parties ps
 has_words Check mode line d h ps = tt
 has_words Run mode line d h ps = tt
@@ -130,7 +130,7 @@ all_simple : (version : Version) (s : Sizes) (names : List (List ℕ)) (line : �
     → map (λ (a : Acting). a.role) acting ≡ map simple_role (map (λ (a : Acting). is_conforming a.role) acting)
 unfolding count_parties
 all_simple version s names line parties acting e words =
-    let one = went (within line (codes "parties") 2 (most_parties version) (length parties)) _ acting e in
+    let one = went (check_range line (codes "parties") 2 (most_parties version) (length parties)) _ acting e in
     let size = each_length (parse_acting s names line) parties acting one.2 in
     each_simple acting (All-from_get_or (λ (a : Acting). a.role ≡ simple_role (is_conforming a.role)) acting zero_acting (λ i lt.
     acting_simple s names line (get_or parties i zero_party) (get_or acting i zero_acting) (words i zero_party (omega (arith, lt, size)))
@@ -138,7 +138,7 @@ all_simple version s names line parties acting e words =
 
 simple_for : (purpose : Purpose) (line : ℕ) (raw : RawHeader) (n : Numbered) (acting : List Acting) (h : Header) → HasWords purpose raw
     → count_parties raw.version (header_sizes raw) n.names line raw.parties ≡ Ok acting → map (λ (a : Acting). a.role) acting ≡ h.roles
-    → map (λ (a : Acting). is_conforming a.role) acting ≡ h.conforming → AreSimpleFor purpose h
+    → map (λ (a : Acting). is_conforming a.role) acting ≡ h.conforming → HasSimpleRoles purpose h
 simple_for Audit line raw n acting h words e roles conforming =
     sym roles ∙ (all_simple raw.version (header_sizes raw) n.names line raw.parties acting e words ∙ ap (λ (bs : List Bool). map simple_role bs) conforming)
 simple_for Check line raw n acting h words e roles conforming = tt
@@ -146,8 +146,8 @@ simple_for Run line raw n acting h words e roles conforming = tt
 simple_for Race line raw n acting h words e roles conforming = tt
 simple_for Make line raw n acting h words e roles conforming = tt
 
-pub are_simple : (line : ℕ) (purpose : Purpose) (raw : RawHeader) (n : Numbered) (h : Header) → HasWords purpose raw → limited_of purpose line raw n ≡ Ok h
-    → AreSimpleFor purpose h
+pub are_simple : (line : ℕ) (purpose : Purpose) (raw : RawHeader) (n : Numbered) (h : Header) → HasWords purpose raw → limited_value purpose line raw n ≡ Ok h
+    → HasSimpleRoles purpose h
 are_simple line purpose raw n h words e =
     let o = opened line purpose raw n h e in
     simple_for purpose line raw n o.acting h words o.acting_are (ap (λ (x : Header). x.roles) o.same) (ap (λ (x : Header). x.conforming) o.same)

@@ -17,8 +17,8 @@ use Rattle.swap_job.specs.declared.job.Role.TheVariants as kinds
 use Rattle.swap_job.specs.declared.moves.Move.{Move}
 use Rattle.swap_job.specs.declared.moves.Move.TheVariants.{Claim}
 use Rattle.refusals.specs.declared.reason.Reason.{Reason}
-use Rattle.offer_fields.specs.Limits.{within}
-use Rattle.offer_fields.specs.Lists.{each_of}
+use Rattle.offer_fields.specs.Limits.{check_range}
+use Rattle.offer_fields.specs.Lists.{collected_results}
 use Rattle.offer_fields.proofs.Chains.{went, each_all}
 use Rattle.offer_moves.specs.Kept.{CanStand, IsMade}
 use Rattle.offer_moves.specs.Moves.{deal_sizes, parse_move}
@@ -26,7 +26,7 @@ use Rattle.offer_moves.specs.declared.raw.RawMove.{RawMove}
 use Rattle.offer_moves.proofs.Made.{move_made}
 use Rattle.offer_moves.specs.declared.moves.Sizes.{Sizes}
 use Rattle.offer_moves.proofs.Stands.{move_stands}
-use Rattle.offer_header.specs.Limits.{script_role, checked_role, checked_seed, parse_acting, count_parties, header_sizes, arc_ends, limited_of}
+use Rattle.offer_header.specs.Limits.{script_role, checked_role, checked_seed, parse_acting, count_parties, header_sizes, arc_ends, limited_value}
 use Rattle.offer_header.specs.Names.{IsNumbered}
 use Rattle.offer_header.specs.Scripts.{role_placed, roles_placed, AllStand, AreMade}
 use Rattle.offer_header.specs.declared.raw.RawActor.{RawActor}
@@ -84,8 +84,8 @@ module _ (P : Move → Type 0) (s : Sizes) (names : List (List ℕ)) (line : ℕ
   role_keeps Manual role e = let is : kinds.Manual ≡ role = cc e in subst (λ (r : Role). All P (role_script r)) is (All-nil P)
   role_keeps (Strategy name) role e = let is : kinds.Strategy name ≡ role = cc e in subst (λ (r : Role). All P (role_script r)) is (All-nil P)
   role_keeps (Script raws) role e =
-      let p = went (within line (codes "script") 0 1000 (length raws)) _ role e in
-      let q = went (each_of (parse_move s names line) raws) _ role p.2 in
+      let p = went (check_range line (codes "script") 0 1000 (length raws)) _ role e in
+      let q = went (collected_results (parse_move s names line) raws) _ role p.2 in
       let is : kinds.Script q.0 ≡ role = cc (q.2) in
       subst (λ (r : Role). All P (role_script r)) is
       (All-from_get_or P q.0 (Claim 0) (λ i lt. each_all P (parse_move s names line) each raws q.0 q.1 i (Claim 0) lt))
@@ -102,7 +102,7 @@ module _ (P : Move → Type 0) (s : Sizes) (names : List (List ℕ)) (line : ℕ
       → All (λ (r : Role). All P (role_script r)) (map (λ (a : Acting). a.role) acting)
   unfolding count_parties
   parties_keep version parties acting e =
-      let one = went (within line (codes "parties") 2 (most_parties version) (length parties)) _ acting e in
+      let one = went (check_range line (codes "parties") 2 (most_parties version) (length parties)) _ acting e in
       let n = length-map acting (λ (a : Acting). a.role) in
       All-from_get_or (λ (r : Role). All P (role_script r)) (map (λ (a : Acting). a.role) acting) kinds.Manual
       (λ i lt.
@@ -111,7 +111,7 @@ module _ (P : Move → Type 0) (s : Sizes) (names : List (List ℕ)) (line : ℕ
       (each_all (λ (a : Acting). All P (role_script a.role)) (parse_acting s names line) acting_keeps parties acting one.2 i zero_acting (omega
       (arith, lt, n))))
 
-pub all_stand : (line : ℕ) (purpose : Purpose) (raw : RawHeader) (n : Numbered) (h : Header) → IsNumbered raw n → limited_of purpose line raw n ≡ Ok h
+pub all_stand : (line : ℕ) (purpose : Purpose) (raw : RawHeader) (n : Numbered) (h : Header) → IsNumbered raw n → limited_value purpose line raw n ≡ Ok h
     → AllStand h
 all_stand line purpose raw n h is e =
     let o = opened line purpose raw n h e in
@@ -127,7 +127,7 @@ all_stand line purpose raw n h is e =
     (header_sizes raw) n.names line) raw.version raw.parties
     o.acting o.acting_are)))
 
-pub all_made : (line : ℕ) (purpose : Purpose) (raw : RawHeader) (n : Numbered) (h : Header) → IsNumbered raw n → limited_of purpose line raw n ≡ Ok h
+pub all_made : (line : ℕ) (purpose : Purpose) (raw : RawHeader) (n : Numbered) (h : Header) → IsNumbered raw n → limited_value purpose line raw n ≡ Ok h
     → AreMade line h
 all_made line purpose raw n h is e = λ d seeds w sizes many.
     let o = opened line purpose raw n h e in

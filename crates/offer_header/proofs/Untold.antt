@@ -10,13 +10,13 @@ use Rattle.swap_digraph.specs.declared.deal.Mode.{Mode}
 use Rattle.swap_digraph.specs.declared.deal.Version.{Version}
 use Rattle.swap_job.specs.declared.job.Purpose.{Purpose}
 use Rattle.swap_job.specs.declared.job.Purpose.TheVariants.{Check, Run, Race, Make, Audit}
-use Rattle.offer_fields.specs.Fields.{text_at, object_at, read_array_field, list_at, listed, each, only}
-use Rattle.offer_fields.specs.Limits.{within}
-use Rattle.offer_fields.specs.Lists.{each_of}
+use Rattle.offer_fields.specs.Fields.{field_text, required_object, read_array_field, field_list, listed, each, only}
+use Rattle.offer_fields.specs.Limits.{check_range}
+use Rattle.offer_fields.specs.Lists.{collected_results}
 use Rattle.offer_fields.proofs.Chains.{went, each_all, each_at, each_length}
-use Rattle.offer_header.specs.Raw.{actor_at, party_fields, parse_party, finish_at, IsUntold}
-use Rattle.offer_header.specs.Limits.{seed_or_none, checked_seed, checked_role, parse_acting, count_parties, header_sizes, limited_of}
-use Rattle.offer_header.specs.Header.{IsUntoldFor}
+use Rattle.offer_header.specs.Raw.{actor_member, party_fields, parse_party, finish_member, IsUntold}
+use Rattle.offer_header.specs.Limits.{seed_or_none, checked_seed, checked_role, parse_acting, count_parties, header_sizes, limited_value}
+use Rattle.offer_header.specs.Header.{IsUntoldHeader}
 use Rattle.offer_header.proofs.Limited.{opened}
 use Rattle.swap_job.specs.declared.job.Role.TheVariants as kinds
 use Rattle.offer_moves.specs.declared.moves.Sizes.{Sizes}
@@ -30,25 +30,25 @@ use Rattle.offer_header.specs.declared.header.Header.{Header}
 party_untold : (mode : Mode) (line : ℕ) (d : Data) (p : RawParty) → parse_party (record { purpose = Audit; mode = mode }) line d ≡ Ok p → p.seed ≡ None
 unfolding parse_party
 party_untold mode line d p h =
-    let one = went (object_at line (codes "parties") d) _ p h in
-    let two = went (text_at line (codes "name") d) _ p one.2 in
-    let three = went (actor_at line Audit d) _ p two.2 in
+    let one = went (required_object line (codes "parties") d) _ p h in
+    let two = went (field_text line (codes "name") d) _ p one.2 in
+    let three = went (actor_member line Audit d) _ p two.2 in
     let four = went (only line (party_fields Audit) d) _ p three.2 in
     let same : record { name = two.0; actor = three.0; seed = None } ≡ p = cc (four.2) in
     ap (λ (x : RawParty). x.seed) (sym same)
 
 parties_untold : (mode : Mode) (line : ℕ) (d : Data) (ps : List RawParty)
-    → list_at line (codes "parties") (parse_party (record { purpose = Audit; mode = mode }) line) d ≡ Ok ps
+    → field_list line (codes "parties") (parse_party (record { purpose = Audit; mode = mode }) line) d ≡ Ok ps
     → (p : ℕ) (e : RawParty) → p < length ps → (get_or ps p e).seed ≡ None
-unfolding list_at each
+unfolding field_list each
 parties_untold mode line d ps h =
     let read : Data → Result RawParty Reason = parse_party (record { purpose = Audit; mode = mode }) line in
     let one = went (read_array_field line (codes "parties") d) (λ items. each read items) ps h in
     each_all (λ p. p.seed ≡ None) read (λ d p e. party_untold mode line d p e) (listed one.0) ps one.2
 
 pub is_untold : (purpose : Purpose) (mode : Mode) (line : ℕ) (d : Data) (h : RawHeader)
-    → list_at line (codes "parties") (parse_party (record { purpose = purpose; mode = mode }) line) d ≡ Ok h.parties
-    → finish_at line purpose d ≡ Ok h.finish → IsUntold purpose h
+    → field_list line (codes "parties") (parse_party (record { purpose = purpose; mode = mode }) line) d ≡ Ok h.parties
+    → finish_member line purpose d ≡ Ok h.finish → IsUntold purpose h
 is_untold Audit mode line d h ps f = (parties_untold mode line d h.parties ps, sym (cc f))
 is_untold Check mode line d h ps f = tt
 is_untold Run mode line d h ps f = tt
@@ -82,11 +82,11 @@ no_seeds : (version : Version) (sizes : Sizes) (names : List (List ℕ)) (line :
     → ((p : ℕ) (d : RawParty) → p < length parties → (get_or parties p d).seed ≡ None) → (p : ℕ) → get_or (seeds acting) p None ≡ None
 unfolding count_parties
 no_seeds version sizes names line parties acting h none p =
-    let one = went (within line (codes "parties") 2 (most_parties version) (length parties)) _ acting h in
+    let one = went (check_range line (codes "parties") 2 (most_parties version) (length parties)) _ acting h in
     let size = each_length (parse_acting sizes names line) parties acting one.2 in
     go (nat_lt p (length parties)) refl one.2 size
   where
-    go : (b : Bool) → nat_lt p (length parties) ≡ b → each_of (parse_acting sizes names line) parties ≡ Ok acting → length acting ≡ length parties
+    go : (b : Bool) → nat_lt p (length parties) ≡ b → collected_results (parse_acting sizes names line) parties ≡ Ok acting → length acting ≡ length parties
         → get_or (seeds acting) p None ≡ None
     go true e each size =
         let lt = ltb-true p (length parties) e in
@@ -100,7 +100,7 @@ no_seeds version sizes names line parties acting h none p =
 
 with_told : (purpose : Purpose) (raw : RawHeader) (h : Header) → IsUntold purpose raw
     → (((p : ℕ) (d : RawParty) → p < length raw.parties → (get_or raw.parties p d).seed ≡ None) → (p : ℕ) → get_or h.seeds p None ≡ None)
-    → h.finish ≡ raw.finish → IsUntoldFor purpose h
+    → h.finish ≡ raw.finish → IsUntoldHeader purpose h
 with_told Audit raw h u none finish = (none u.0, finish ∙ u.1)
 with_told Check raw h u none finish = tt
 with_told Run raw h u none finish = tt
@@ -108,7 +108,7 @@ with_told Race raw h u none finish = tt
 with_told Make raw h u none finish = tt
 
 pub limited_untold : (line : ℕ) (purpose : Purpose) (raw : RawHeader) (n : Numbered) (h : Header) → IsUntold purpose raw
-    → limited_of purpose line raw n ≡ Ok h → IsUntoldFor purpose h
+    → limited_value purpose line raw n ≡ Ok h → IsUntoldHeader purpose h
 limited_untold line purpose raw n h u e =
     let o = opened line purpose raw n h e in
     let told : seeds o.acting ≡ h.seeds = ap (λ (x : Header). x.seeds) o.same in

@@ -13,41 +13,43 @@ use Rattle.swap_job.specs.declared.job.Purpose.TheVariants.{Audit}
 use Rattle.swap_job.specs.declared.job.Finish.TheVariants.{Stop}
 use Rattle.refusals.specs.declared.reason.Reason.{Reason}
 use Rattle.offer_fields.specs.Fields.{parse_data}
-use Rattle.offer_header.specs.Raw.{raw_of, IsVersionMode}
+use Rattle.offer_header.specs.Raw.{object_header, IsVersionMode}
 use Rattle.offer_header.specs.declared.raw.RawHeader.{RawHeader}
-use Rattle.offer_header.specs.Names.{numbered_of, AreNames, AreLeaders}
-use Rattle.offer_header.specs.Limits.{limited_of}
+use Rattle.offer_header.specs.Names.{numbered_header, AreNames, AreLeaders}
+use Rattle.offer_header.specs.Limits.{limited_value}
 use Rattle.offer_header.specs.Scripts.{scripts_placed}
 use Rattle.offer_header.specs.declared.header.Header.{Header}
 
 -- the header, where the moves of its scripts stand where they may
-abbrev pub placed_of : ℕ → Header → Result Header Reason
-placed_of line h = do
+abbrev pub placed_header : ℕ → Header → Result Header Reason
+placed_header line h = do
   u ← scripts_placed line h
   Ok h
 
 -- the header that fields give
 abbrev pub resolve_header : (List ℕ → Bool) → Purpose → ℕ → RawHeader → Result Header Reason
 resolve_header has purpose line raw = do
-  numbered ← numbered_of has line raw
-  h ← limited_of purpose line raw numbered
-  placed_of line h
+  numbered ← numbered_header has line raw
+  h ← limited_value purpose line raw numbered
+  placed_header line h
 
--- The header that a line gives, or the first reason why it is refused: all fields come before all names, all names before all limits, and these
--- before where the moves of scripts stand.
+-- The header that a line gives, or the first reason why it is refused: all fields come before all
+-- names, all names before all limits, and these before where the moves of scripts stand.
 unfoldable pub parse_whole_header : (List ℕ → Bool) → Purpose → ℕ → List ℕ → Result Header Reason
 parse_whole_header has purpose line text = do
   d ← parse_data line text
-  raw ← raw_of purpose line d
+  raw ← object_header purpose line d
   resolve_header has purpose line raw
 
--- The keys have a row per party and a key per lock in hashkeys mode, and are none in timelocks mode.
-abbrev pub HasKeysFor : Mode → ℕ → ℕ → List (List (List ℕ)) → Type 0
-HasKeysFor Timelocks parties locks keys = keys ≡ []
-HasKeysFor Hashkeys parties locks keys = (length keys ≡ parties) × ((p : ℕ) → p < parties → length (slice_index_or keys p []) ≡ locks)
+-- The keys have a row per party and a key per lock in hashkeys mode, and are none in timelocks
+-- mode.
+abbrev pub AreSizedKeys : Mode → ℕ → ℕ → List (List (List ℕ)) → Type 0
+AreSizedKeys Timelocks parties locks keys = keys ≡ []
+AreSizedKeys Hashkeys parties locks keys = (length keys ≡ parties) × ((p : ℕ) → p < parties → length (slice_index_or keys p []) ≡ locks)
 
--- A header's lists are as long as its version, names, arcs and leaders ask, its numbers are in their ranges, and its mode is one of its version.
-pub record IsHeaderWithin (h : Header) : Type 0 where
+-- A header's lists are as long as its version, names, arcs and leaders ask, its numbers are in
+-- their ranges, and its mode is one of its version.
+pub record IsHeaderInLimits (h : Header) : Type 0 where
   pub mode : IsVersionMode h.version h.mode
   pub start : (1 ≤ h.start) × (h.start ≤ 1000)
   pub delta : (1 ≤ h.delta) × (h.delta ≤ 100)
@@ -68,12 +70,12 @@ pub record IsHeaderWithin (h : Header) : Type 0 where
   pub leaders : (1 ≤ length h.leaders) × (length h.leaders ≤ 8)
   pub leader : AreLeaders (length h.names) h.leaders
   pub hashlocks : length h.hashlocks ≡ length h.leaders
-  pub keys : HasKeysFor h.mode (length h.names) (length h.leaders) h.keys
+  pub keys : AreSizedKeys h.mode (length h.names) (length h.leaders) h.keys
 
 -- a transcript's header has no seed, and its finish is to stop
-abbrev pub IsUntoldFor : Purpose → Header → Type 0
-IsUntoldFor Audit h = ((p : ℕ) → slice_index_or {A = Option (List ℕ)} h.seeds p None ≡ None) × (h.finish ≡ Stop)
-IsUntoldFor _ h = Unit {0}
+abbrev pub IsUntoldHeader : Purpose → Header → Type 0
+IsUntoldHeader Audit h = ((p : ℕ) → slice_index_or {A = Option (List ℕ)} h.seeds p None ≡ None) × (h.finish ≡ Stop)
+IsUntoldHeader _ h = Unit {0}
 
 -- the role of a party that conforms, or acts by its own calls alone
 abbrev pub simple_role : Bool → Role
@@ -81,6 +83,6 @@ simple_role true = Conforming
 simple_role false = Manual
 
 -- in a transcript each role is simple
-abbrev pub AreSimpleFor : Purpose → Header → Type 0
-AreSimpleFor Audit h = h.roles ≡ map simple_role h.conforming
-AreSimpleFor _ h = Unit {0}
+abbrev pub HasSimpleRoles : Purpose → Header → Type 0
+HasSimpleRoles Audit h = h.roles ≡ map simple_role h.conforming
+HasSimpleRoles _ h = Unit {0}

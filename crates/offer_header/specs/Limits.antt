@@ -14,8 +14,8 @@ use Rattle.offer_moves.specs.declared.moves.Sizes.{Sizes}
 use Rattle.offer_moves.specs.declared.raw.RawMove.{RawMove}
 use Rattle.offer_moves.specs.Moves.{parse_move}
 use Rattle.refusals.specs.declared.reason.Reason.{Reason}
-use Rattle.offer_fields.specs.Limits.{ranged_number, within, to_digest}
-use Rattle.offer_fields.specs.Lists.{each_of}
+use Rattle.offer_fields.specs.Limits.{ranged_number, check_range, to_digest}
+use Rattle.offer_fields.specs.Lists.{collected_results}
 use Rattle.offer_header.specs.Raw.{is_plain}
 use Rattle.offer_header.specs.declared.raw.RawActor.{RawActor}
 use Rattle.offer_header.specs.declared.raw.RawActor.TheVariants.{Conforming, Manual, Script, Strategy}
@@ -42,8 +42,8 @@ checked_seed line p = seed_or_none line p.seed
 -- a script, by its moves
 unfoldable pub script_role : Sizes → List (List ℕ) → ℕ → List RawMove → Result Role Reason
 script_role sizes names line raws = do
-  u ← within line (codes "script") 0 1000 (length raws)
-  moves ← each_of (parse_move sizes names line) raws
+  u ← check_range line (codes "script") 0 1000 (length raws)
+  moves ← collected_results (parse_move sizes names line) raws
   Ok (kinds.Script moves)
 
 -- how a party acts
@@ -62,8 +62,8 @@ parse_acting sizes names line p = do
 
 unfoldable pub count_parties : Version → Sizes → List (List ℕ) → ℕ → List RawParty → Result (List Acting) Reason
 count_parties version sizes names line parties = do
-  u ← within line (codes "parties") 2 (most_parties version) (length parties)
-  each_of (parse_acting sizes names line) parties
+  u ← check_range line (codes "parties") 2 (most_parties version) (length parties)
+  collected_results (parse_acting sizes names line) parties
 
 -- and so is that of each role
 abbrev pub HoldsEach : (List ℕ → Bool) → List Role → Type 0
@@ -77,14 +77,14 @@ header_sizes h = record { arcs = length h.arcs; locks = length h.leaders; path =
 
 unfoldable pub stated_terms : ℕ → RawArc → Result ArcTerms Reason
 stated_terms line a = do
-  u ← within line (codes "amount") 1 (10 ^ 12) a.amount
+  u ← check_range line (codes "amount") 1 (10 ^ 12) a.amount
   timelock ← ranged_number line (codes "timelock") 0 1000000 a.timelock
   Ok (record { amount = a.amount; timelock = timelock })
 
-unfoldable pub parse_all_terms : Version → ℕ → List RawArc → Result (List ArcTerms) Reason
-parse_all_terms version line arcs = do
-  u ← within line (codes "arcs") 2 (most_arcs version) (length arcs)
-  each_of (stated_terms line) arcs
+unfoldable pub limited_terms : Version → ℕ → List RawArc → Result (List ArcTerms) Reason
+limited_terms version line arcs = do
+  u ← check_range line (codes "arcs") 2 (most_arcs version) (length arcs)
+  collected_results (stated_terms line) arcs
 
 abbrev pub arc_ends : Ends → ArcEnds
 arc_ends e = record { from = e.from; to = e.to }
@@ -104,31 +104,31 @@ no_digests leaders = map (λ l. no_digest) leaders
 
 abbrev pub read_hashlocks : (plain : Bool) → ℕ → List RawLeader → Result (List (List ℕ)) Reason
 read_hashlocks true line leaders = Ok (no_digests leaders)
-read_hashlocks false line leaders = each_of (lock_hashlock line) leaders
+read_hashlocks false line leaders = collected_results (lock_hashlock line) leaders
 
-unfoldable pub hashlocks_of : (plain : Bool) → ℕ → List RawLeader → Result (List (List ℕ)) Reason
-hashlocks_of plain line leaders = do
-  u ← within line (codes "leaders") 1 8 (length leaders)
+unfoldable pub leader_hashlocks : (plain : Bool) → ℕ → List RawLeader → Result (List (List ℕ)) Reason
+leader_hashlocks plain line leaders = do
+  u ← check_range line (codes "leaders") 1 8 (length leaders)
   read_hashlocks plain line leaders
 
 unfoldable pub key_digest : ℕ → List ℕ → Result (List ℕ) Reason
 key_digest line text = to_digest line (codes "keys") text
 
 -- a party's keys, one for each lock
-unfoldable pub party_keys_of : ℕ → ℕ → RawRow → Result (List (List ℕ)) Reason
-party_keys_of locks line row = do
-  u ← within line (codes "keys") locks locks (length row.texts)
-  each_of (key_digest line) row.texts
+unfoldable pub party_key_row : ℕ → ℕ → RawRow → Result (List (List ℕ)) Reason
+party_key_row locks line row = do
+  u ← check_range line (codes "keys") locks locks (length row.texts)
+  collected_results (key_digest line) row.texts
 
 -- the keys of all parties, as they are stated
-unfoldable pub stated_keys_of : ℕ → RawHeader → Result (List (List (List ℕ))) Reason
-stated_keys_of line h = do
-  u ← within line (codes "keys") (length h.parties) (length h.parties) (length h.keys)
-  each_of (party_keys_of (length h.leaders) line) h.keys
+unfoldable pub stated_keys : ℕ → RawHeader → Result (List (List (List ℕ))) Reason
+stated_keys line h = do
+  u ← check_range line (codes "keys") (length h.parties) (length h.parties) (length h.keys)
+  collected_results (party_key_row (length h.leaders) line) h.keys
 
 abbrev pub read_listed_keys : (plain : Bool) → ℕ → RawHeader → Result (List (List (List ℕ))) Reason
 read_listed_keys true line h = Ok (map (λ p. no_digests h.leaders) h.parties)
-read_listed_keys false line h = stated_keys_of line h
+read_listed_keys false line h = stated_keys line h
 
 abbrev pub derived_keys : Mode → (plain : Bool) → ℕ → RawHeader → Result (List (List (List ℕ))) Reason
 derived_keys Timelocks plain line h = Ok []
@@ -159,17 +159,17 @@ assemble_header purpose raw numbered start delta bound parties terms hashlocks k
 }
 
 -- the lists of a header within their limits, after its numbers
-abbrev pub parts_of : Purpose → ℕ → RawHeader → Numbered → (start delta bound : ℕ) → Result Header Reason
-parts_of purpose line raw numbered start delta bound = do
+abbrev pub limited_lists : Purpose → ℕ → RawHeader → Numbered → (start delta bound : ℕ) → Result Header Reason
+limited_lists purpose line raw numbered start delta bound = do
   parties ← count_parties raw.version (header_sizes raw) numbered.names line raw.parties
-  terms ← parse_all_terms raw.version line raw.arcs
-  hashlocks ← hashlocks_of (is_plain purpose) line raw.leaders
+  terms ← limited_terms raw.version line raw.arcs
+  hashlocks ← leader_hashlocks (is_plain purpose) line raw.leaders
   keys ← derived_keys raw.mode (is_plain purpose) line raw
   Ok (assemble_header purpose raw numbered start delta bound parties terms hashlocks keys)
 
-unfoldable pub limited_of : Purpose → ℕ → RawHeader → Numbered → Result Header Reason
-limited_of purpose line raw numbered = do
+unfoldable pub limited_value : Purpose → ℕ → RawHeader → Numbered → Result Header Reason
+limited_value purpose line raw numbered = do
   start ← ranged_number line (codes "start") 1 1000 raw.start
   delta ← ranged_number line (codes "delta") 1 100 raw.delta
   bound ← ranged_number line (codes "bound") 1 64 raw.bound
-  parts_of purpose line raw numbered start delta bound
+  limited_lists purpose line raw numbered start delta bound

@@ -7,7 +7,7 @@ use Rattle.std.specs.List.{list_any, list_all}
 use Rattle.swap_base.specs.Fault.{◌>>=◌, steps}
 use Rattle.refusals.specs.declared.reason.Reason.{Reason}
 use Rattle.refusals.specs.declared.reason.Reason.TheVariants.{BadName, Duplicate, Unknown}
-use Rattle.offer_fields.specs.Lists.{each_of}
+use Rattle.offer_fields.specs.Lists.{collected_results}
 use Rattle.offer_fields.specs.Names.{party_of_name}
 use Rattle.offer_moves.specs.declared.raw.RawMove.{RawMove}
 use Rattle.offer_moves.specs.declared.raw.RawMove.TheVariants.{Craft, Raw, Transfer}
@@ -95,19 +95,21 @@ leader_step line names seen l = do
 -- the ends of the arcs, and then the leaders, where these are the names
 abbrev pub resolve_numbers : ℕ → List (List ℕ) → RawHeader → Result Numbered Reason
 resolve_numbers line names h = do
-  arcs ← each_of (named_ends line names) h.arcs
+  arcs ← collected_results (named_ends line names) h.arcs
   leaders ← steps (leader_step line names) [] h.leaders
   Ok (record { names = names; arcs = arcs; leaders = leaders })
 
--- the names in their order, each with that of the party's strategy or those in its script, which are among all, and then what has numbers
+-- the names in their order, each with that of the party's strategy or those in its script, which
+-- are among all, and then what has numbers
 abbrev pub assign_checked_numbers : (List ℕ → Bool) → ℕ → List (List ℕ) → RawHeader → Result Numbered Reason
 assign_checked_numbers has line all h = do
   names ← steps (name_step has line all) [] h.parties
   resolve_numbers line names h
 
--- the names in their order, those in scripts among the names that the header states, then the ends of the arcs, then the leaders
-unfoldable pub numbered_of : (List ℕ → Bool) → ℕ → RawHeader → Result Numbered Reason
-numbered_of has line h = assign_checked_numbers has line (names_stated h.parties) h
+-- the names in their order, those in scripts among the names that the header states, then the ends
+-- of the arcs, then the leaders
+unfoldable pub numbered_header : (List ℕ → Bool) → ℕ → RawHeader → Result Numbered Reason
+numbered_header has line h = assign_checked_numbers has line (names_stated h.parties) h
 
 -- A name of 1 to 16 bytes of ASCII.
 pub record IsName (name : List ℕ) : Type 0 where

@@ -1,4 +1,5 @@
--- What the fields of a header say, in the order in which they are examined, or the first reason why one is refused.
+-- What the fields of a header say, in the order in which they are examined, or the first reason why
+-- one is refused.
 use Rattle.std.specs.Prelude.{◌≡◌, ◌==◌, ◌<◌, length, slice_index_or, ℕ, List, [], ◌∷◌, codes, if◌then◌else◌, Bool, true, false, not, Option, Some, None}
 use Rattle.std.specs.Prelude.{Result, Ok, Err, is_some}
 use Rattle.std.specs.Str.{bytes_eq}
@@ -15,8 +16,8 @@ use Rattle.swap_job.specs.declared.job.Finish.{Finish}
 use Rattle.swap_job.specs.declared.job.Finish.TheVariants.{Stop, Fair}
 use Rattle.refusals.specs.declared.reason.Reason.{Reason}
 use Rattle.refusals.specs.declared.reason.Reason.TheVariants.{WrongKind}
-use Rattle.offer_fields.specs.Fields.{kind, number_at, text_at, word_at, optional_text_at, member_text_of, object_at, list_at, each, only}
-use Rattle.offer_moves.specs.Reading.{scripted_at}
+use Rattle.offer_fields.specs.Fields.{kind, field_number, field_text, field_word, optional_field_text, text_member, required_object, field_list, each, only}
+use Rattle.offer_moves.specs.Reading.{script_move}
 use Rattle.offer_header.specs.declared.raw.Front.{Front}
 use Rattle.offer_header.specs.declared.raw.Reading.{Reading}
 use Rattle.offer_header.specs.declared.raw.RawActor.{RawActor}
@@ -47,22 +48,22 @@ states_keys purpose Hashkeys = not (is_plain purpose)
 -- ---- parties
 
 -- a script, by its moves
-unfoldable pub script_at : ℕ → Data → Result RawActor Reason
-script_at line d = do
-  moves ← list_at line (codes "script") (scripted_at line) d
+unfoldable pub script_actor : ℕ → Data → Result RawActor Reason
+script_actor line d = do
+  moves ← field_list line (codes "script") (script_move line) d
   u ← only line (codes "script" ∷ []) d
   Ok (Script moves)
 
 -- a strategy, by its name
-unfoldable pub strategy_at : ℕ → Data → Result RawActor Reason
-strategy_at line d = do
-  name ← text_at line (codes "strategy") d
+unfoldable pub strategy_actor : ℕ → Data → Result RawActor Reason
+strategy_actor line d = do
+  name ← field_text line (codes "strategy") d
   u ← only line (codes "strategy" ∷ []) d
   Ok (Strategy name)
 
 -- an object that holds a script is one; any other names a strategy
 abbrev pub planned_actor : ℕ → Data → Result RawActor Reason
-planned_actor line d = if is_some (get (codes "script") d) then script_at line d else strategy_at line d
+planned_actor line d = if is_some (get (codes "script") d) then script_actor line d else strategy_actor line d
 
 -- scripts and strategies have no place in a transcript
 abbrev pub object_actor : ℕ → Purpose → Data → Result RawActor Reason
@@ -78,20 +79,20 @@ actor_of_word line word =
 abbrev pub new_actor : ℕ → Purpose → Data → Result RawActor Reason
 new_actor line purpose d =
     if is_some (as_object d) then object_actor line purpose d
-    else member_text_of line (codes "actor") d >>= λ word. actor_of_word line word
+    else text_member line (codes "actor") d >>= λ word. actor_of_word line word
 
 -- an actor that is absent conforms
 abbrev pub actor_or_conforming : ℕ → Purpose → Option Data → Result RawActor Reason
 actor_or_conforming line purpose None = Ok Conforming
 actor_or_conforming line purpose (Some d) = new_actor line purpose d
 
-unfoldable pub actor_at : ℕ → Purpose → Data → Result RawActor Reason
-actor_at line purpose d = actor_or_conforming line purpose (get (codes "actor") d)
+unfoldable pub actor_member : ℕ → Purpose → Data → Result RawActor Reason
+actor_member line purpose d = actor_or_conforming line purpose (get (codes "actor") d)
 
 -- the text of a seed, where there is one; a transcript shows none
-abbrev pub seed_at : ℕ → Purpose → Data → Result (Option (List ℕ)) Reason
-seed_at line Audit d = Ok None
-seed_at line _ d = optional_text_at line (codes "seed") d
+abbrev pub seed_member : ℕ → Purpose → Data → Result (Option (List ℕ)) Reason
+seed_member line Audit d = Ok None
+seed_member line _ d = optional_field_text line (codes "seed") d
 
 abbrev pub party_fields : Purpose → List (List ℕ)
 party_fields Audit = codes "actor" ∷ codes "name" ∷ []
@@ -99,18 +100,18 @@ party_fields _ = codes "actor" ∷ codes "name" ∷ codes "seed" ∷ []
 
 unfoldable pub parse_party : Reading → ℕ → Data → Result RawParty Reason
 parse_party reading line d = do
-  o ← object_at line (codes "parties") d
-  name ← text_at line (codes "name") d
-  actor ← actor_at line reading.purpose d
-  seed ← seed_at line reading.purpose d
+  o ← required_object line (codes "parties") d
+  name ← field_text line (codes "name") d
+  actor ← actor_member line reading.purpose d
+  seed ← seed_member line reading.purpose d
   u ← only line (party_fields reading.purpose) d
   Ok (record { name = name; actor = actor; seed = seed })
 
 -- ---- arcs
 
 -- where no timelock is stated, 0 stands in its place
-abbrev pub timelock_at : ℕ → (stated : Bool) → Data → Result ℕ Reason
-timelock_at line stated d = if stated then number_at line (codes "timelock") d else Ok 0
+abbrev pub timelock_member : ℕ → (stated : Bool) → Data → Result ℕ Reason
+timelock_member line stated d = if stated then field_number line (codes "timelock") d else Ok 0
 
 abbrev pub arc_fields : (stated : Bool) → List (List ℕ)
 arc_fields true = codes "amount" ∷ codes "from" ∷ codes "timelock" ∷ codes "to" ∷ []
@@ -119,44 +120,44 @@ arc_fields false = codes "amount" ∷ codes "from" ∷ codes "to" ∷ []
 -- the arc between these, by its numbers
 abbrev pub read_arc : (stated : Bool) → ℕ → Data → (from to : List ℕ) → Result RawArc Reason
 read_arc stated line d from to = do
-  amount ← number_at line (codes "amount") d
-  timelock ← timelock_at line stated d
+  amount ← field_number line (codes "amount") d
+  timelock ← timelock_member line stated d
   u ← only line (arc_fields stated) d
   Ok (record { from = from; to = to; amount = amount; timelock = timelock })
 
-unfoldable pub raw_arc_of : Reading → ℕ → Data → Result RawArc Reason
-raw_arc_of reading line d = do
-  o ← object_at line (codes "arcs") d
-  from ← text_at line (codes "from") d
-  to ← text_at line (codes "to") d
+unfoldable pub object_arc : Reading → ℕ → Data → Result RawArc Reason
+object_arc reading line d = do
+  o ← required_object line (codes "arcs") d
+  from ← field_text line (codes "from") d
+  to ← field_text line (codes "to") d
   read_arc (states_timelocks reading.purpose reading.mode) line d from to
 
 -- ---- leaders and keys
 
 -- a plain job has no text in the place of a hashlock
-abbrev pub hashlock_at : ℕ → (plain : Bool) → Data → Result (List ℕ) Reason
-hashlock_at line plain d = if plain then Ok [] else text_at line (codes "hashlock") d
+abbrev pub hashlock_member : ℕ → (plain : Bool) → Data → Result (List ℕ) Reason
+hashlock_member line plain d = if plain then Ok [] else field_text line (codes "hashlock") d
 
 abbrev pub leader_fields : (plain : Bool) → List (List ℕ)
 leader_fields true = codes "party" ∷ []
 leader_fields false = codes "hashlock" ∷ codes "party" ∷ []
 
-unfoldable pub raw_leader_of : Reading → ℕ → Data → Result RawLeader Reason
-raw_leader_of reading line d = do
-  o ← object_at line (codes "leaders") d
-  party ← text_at line (codes "party") d
-  hashlock ← hashlock_at line (is_plain reading.purpose) d
+unfoldable pub object_leader : Reading → ℕ → Data → Result RawLeader Reason
+object_leader reading line d = do
+  o ← required_object line (codes "leaders") d
+  party ← field_text line (codes "party") d
+  hashlock ← hashlock_member line (is_plain reading.purpose) d
   u ← only line (leader_fields (is_plain reading.purpose)) d
   Ok (record { party = party; hashlock = hashlock })
 
 unfoldable pub parse_row : ℕ → Data → Result RawRow Reason
 parse_row line d = do
   items ← kind line (codes "keys") (as_array d)
-  texts ← each (member_text_of line (codes "keys")) items
+  texts ← each (text_member line (codes "keys")) items
   Ok (record { texts = texts })
 
-abbrev pub keys_at : ℕ → (stated : Bool) → Data → Result (List RawRow) Reason
-keys_at line stated d = if stated then list_at line (codes "keys") (parse_row line) d else Ok []
+abbrev pub keys_member : ℕ → (stated : Bool) → Data → Result (List RawRow) Reason
+keys_member line stated d = if stated then field_list line (codes "keys") (parse_row line) d else Ok []
 
 -- ---- the header
 
@@ -167,9 +168,9 @@ parse_version line n =
     else if n == 2 then Ok Two
     else Err (WrongKind line (codes "swap"))
 
-unfoldable pub version_at : ℕ → Data → Result Version Reason
-version_at line d = do
-  n ← number_at line (codes "swap") d
+unfoldable pub version_member : ℕ → Data → Result Version Reason
+version_member line d = do
+  n ← field_number line (codes "swap") d
   parse_version line n
 
 abbrev pub parse_mode : List ℕ → Option Mode
@@ -184,12 +185,12 @@ checked_mode line One mode = Ok mode
 checked_mode line Two Timelocks = Err (WrongKind line (codes "mode"))
 checked_mode line Two Hashkeys = Ok Hashkeys
 
-unfoldable pub stated_mode_at : ℕ → Data → Result Mode Reason
-stated_mode_at line d = word_at line (codes "mode") parse_mode d
+unfoldable pub stated_mode : ℕ → Data → Result Mode Reason
+stated_mode line d = field_word line (codes "mode") parse_mode d
 
-unfoldable pub mode_at : ℕ → Version → Data → Result Mode Reason
-mode_at line version d = do
-  mode ← stated_mode_at line d
+unfoldable pub mode_member : ℕ → Version → Data → Result Mode Reason
+mode_member line version d = do
+  mode ← stated_mode line d
   checked_mode line version mode
 
 -- what a run does after its last event: it stops, or it goes on to a fair finish
@@ -203,15 +204,15 @@ abbrev pub finish_or_stop : ℕ → Option (List ℕ) → Result Finish Reason
 finish_or_stop line None = Ok Stop
 finish_or_stop line (Some word) = finish_of_word line word
 
-unfoldable pub stated_finish_at : ℕ → Data → Result Finish Reason
-stated_finish_at line d = do
-  word ← optional_text_at line (codes "finish") d
+unfoldable pub stated_finish : ℕ → Data → Result Finish Reason
+stated_finish line d = do
+  word ← optional_field_text line (codes "finish") d
   finish_or_stop line word
 
 -- a transcript has no finish
-abbrev pub finish_at : ℕ → Purpose → Data → Result Finish Reason
-finish_at line Audit d = Ok Stop
-finish_at line _ d = stated_finish_at line d
+abbrev pub finish_member : ℕ → Purpose → Data → Result Finish Reason
+finish_member line Audit d = Ok Stop
+finish_member line _ d = stated_finish line d
 
 abbrev pub transcript_fields : (keyed : Bool) → List (List ℕ)
 transcript_fields true = codes "arcs" ∷ codes "bound" ∷ codes "delta" ∷ codes "keys" ∷ codes "leaders" ∷ codes "mode" ∷ codes "parties" ∷
@@ -230,13 +231,13 @@ header_fields Audit keyed = transcript_fields keyed
 header_fields _ keyed = job_fields keyed
 
 -- the lists of a header and what stands beside them, after its version, its mode and its numbers
-abbrev pub lists_of : Purpose → Front → ℕ → Data → Result RawHeader Reason
-lists_of purpose front line d = do
-  parties ← list_at line (codes "parties") (parse_party (record { purpose = purpose; mode = front.mode }) line) d
-  arcs ← list_at line (codes "arcs") (raw_arc_of (record { purpose = purpose; mode = front.mode }) line) d
-  leaders ← list_at line (codes "leaders") (raw_leader_of (record { purpose = purpose; mode = front.mode }) line) d
-  keys ← keys_at line (states_keys purpose front.mode) d
-  finish ← finish_at line purpose d
+abbrev pub raw_header_lists : Purpose → Front → ℕ → Data → Result RawHeader Reason
+raw_header_lists purpose front line d = do
+  parties ← field_list line (codes "parties") (parse_party (record { purpose = purpose; mode = front.mode }) line) d
+  arcs ← field_list line (codes "arcs") (object_arc (record { purpose = purpose; mode = front.mode }) line) d
+  leaders ← field_list line (codes "leaders") (object_leader (record { purpose = purpose; mode = front.mode }) line) d
+  keys ← keys_member line (states_keys purpose front.mode) d
+  finish ← finish_member line purpose d
   u ← only line (header_fields purpose (states_keys purpose front.mode)) d
   Ok (record {
     version = front.version;
@@ -251,14 +252,14 @@ lists_of purpose front line d = do
     finish = finish;
   })
 
-unfoldable pub raw_of : Purpose → ℕ → Data → Result RawHeader Reason
-raw_of purpose line d = do
-  version ← version_at line d
-  mode ← mode_at line version d
-  start ← number_at line (codes "start") d
-  delta ← number_at line (codes "delta") d
-  bound ← number_at line (codes "bound") d
-  lists_of purpose (record { version = version; mode = mode; start = start; delta = delta; bound = bound }) line d
+unfoldable pub object_header : Purpose → ℕ → Data → Result RawHeader Reason
+object_header purpose line d = do
+  version ← version_member line d
+  mode ← mode_member line version d
+  start ← field_number line (codes "start") d
+  delta ← field_number line (codes "delta") d
+  bound ← field_number line (codes "bound") d
+  raw_header_lists purpose (record { version = version; mode = mode; start = start; delta = delta; bound = bound }) line d
 
 -- The mode is one of the version: version 2 has hashkeys alone.
 abbrev pub IsVersionMode : Version → Mode → Type 0

@@ -3,11 +3,11 @@
 ghost use Rattle.serde_json.specs.View.{view};
 ghost use Rattle.swap_base.specs.Fault.{Gives};
 ghost use Rattle.offer_fields.specs.Fields.{only};
-ghost use Rattle.offer_header.specs.Raw.{version_at, checked_mode, stated_mode_at, mode_at, states_keys, keys_at, finish_of_word, stated_finish_at, finish_at};
-ghost use Rattle.offer_header.specs.Raw.{transcript_fields, job_fields, header_fields, lists_of, raw_of};
+ghost use Rattle.offer_header.specs.Raw.{version_member, checked_mode, stated_mode, mode_member, states_keys, keys_member, finish_of_word, stated_finish, finish_member};
+ghost use Rattle.offer_header.specs.Raw.{transcript_fields, job_fields, header_fields, raw_header_lists, object_header};
 
 use crate::raw::{Front, RawHeader, RawRow, Reading};
-use offer_fields::{allow_only, number_in, read_list, read_optional_text, read_text_field};
+use offer_fields::{allow_only, read_list, read_number_field, read_optional_text, read_text_field};
 use refusals::{OfferFault, wrong_kind};
 use serde_json::Value;
 use std::alloc::Global;
@@ -15,11 +15,11 @@ use swap_base::Listed;
 use swap_digraph::{Mode, Version};
 use swap_job::{Finish, Purpose};
 
-#[tactic(auto, unfolding(crate::specs::Raw::version_at))]
+#[tactic(auto, unfolding(crate::specs::Raw::version_member))]
 fn read_version(alloc: Global, line: u32, object: &Value) -> Result<Version, OfferFault>
-    ensures { Gives (λ v. v) result (version_at line (view object.now)) }
+    ensures { Gives (λ v. v) result (version_member line (view object.now)) }
 {
-    let number = number_in(alloc, line, "swap", object)?;
+    let number = read_number_field(alloc, line, "swap", object)?;
     if number == 1 {
         Ok(Version::One)
     } else if number == 2 {
@@ -29,9 +29,9 @@ fn read_version(alloc: Global, line: u32, object: &Value) -> Result<Version, Off
     }
 }
 
-#[tactic(auto, unfolding(crate::specs::Raw::stated_mode_at))]
+#[tactic(auto, unfolding(crate::specs::Raw::stated_mode))]
 fn read_stated_mode(alloc: Global, line: u32, object: &Value) -> Result<Mode, OfferFault>
-    ensures { Gives (λ m. m) result (stated_mode_at line (view object.now)) }
+    ensures { Gives (λ m. m) result (stated_mode line (view object.now)) }
 {
     match read_text_field(alloc, line, "mode", object)? {
         "timelocks" => Ok(Mode::Timelocks),
@@ -51,9 +51,9 @@ fn checked_mode(alloc: Global, line: u32, version: Version, mode: Mode) -> Resul
     }
 }
 
-#[tactic(auto, unfolding(crate::specs::Raw::mode_at))]
+#[tactic(auto, unfolding(crate::specs::Raw::mode_member))]
 fn read_mode(alloc: Global, line: u32, version: Version, object: &Value) -> Result<Mode, OfferFault>
-    ensures { Gives (λ m. m) result (mode_at line version (view object.now)) }
+    ensures { Gives (λ m. m) result (mode_member line version (view object.now)) }
 {
     let mode = read_stated_mode(alloc, line, object)?;
     checked_mode(alloc, line, version, mode)
@@ -65,7 +65,7 @@ fn read_keys<'v>(
     line: u32,
     object: &'v Value,
 ) -> Result<Listed<RawRow<'v>>, OfferFault>
-    ensures { Gives (λ k. k) result (keys_at line (states_keys reading.purpose reading.mode) (view object.now)) }
+    ensures { Gives (λ k. k) result (keys_member line (states_keys reading.purpose reading.mode) (view object.now)) }
 {
     if reading.states_keys() {
         read_list(alloc, reading, line, "keys", object)
@@ -84,9 +84,9 @@ fn finish_of_word(alloc: Global, line: u32, word: &str) -> Result<Finish, OfferF
     }
 }
 
-#[tactic(auto, unfolding(crate::specs::Raw::stated_finish_at))]
+#[tactic(auto, unfolding(crate::specs::Raw::stated_finish))]
 fn read_stated_finish(alloc: Global, line: u32, object: &Value) -> Result<Finish, OfferFault>
-    ensures { Gives (λ f. f) result (stated_finish_at line (view object.now)) }
+    ensures { Gives (λ f. f) result (stated_finish line (view object.now)) }
 {
     match read_optional_text(alloc, line, "finish", object)? {
         None => Ok(Finish::Stop),
@@ -100,7 +100,7 @@ fn parse_finish(
     purpose: Purpose,
     object: &Value,
 ) -> Result<Finish, OfferFault>
-    ensures { Gives (λ f. f) result (finish_at line purpose (view object.now)) }
+    ensures { Gives (λ f. f) result (finish_member line purpose (view object.now)) }
 {
     match purpose {
         Purpose::Audit => Ok(Finish::Stop),
@@ -167,7 +167,7 @@ fn read_lists<'v>(
     line: u32,
     object: &'v Value,
 ) -> Result<RawHeader<'v>, OfferFault>
-    ensures { Gives (λ h. h) result (lists_of purpose front line (view object.now)) }
+    ensures { Gives (λ h. h) result (raw_header_lists purpose front line (view object.now)) }
 {
     let reading = Reading {
         purpose,
@@ -194,22 +194,22 @@ fn read_lists<'v>(
 }
 
 /// The fields of the header, or the first reason why one is refused.
-#[tactic(auto, unfolding(crate::specs::Raw::raw_of))]
+#[tactic(auto, unfolding(crate::specs::Raw::object_header))]
 pub(crate) fn parse_raw<'v>(
     alloc: Global,
     purpose: Purpose,
     line: u32,
     object: &'v Value,
 ) -> Result<RawHeader<'v>, OfferFault>
-    ensures { Gives (λ h. h) result (raw_of purpose line (view object.now)) }
+    ensures { Gives (λ h. h) result (object_header purpose line (view object.now)) }
 {
     let version = read_version(alloc, line, object)?;
     let front = Front {
         version,
         mode: read_mode(alloc, line, version, object)?,
-        start: number_in(alloc, line, "start", object)?,
-        delta: number_in(alloc, line, "delta", object)?,
-        bound: number_in(alloc, line, "bound", object)?,
+        start: read_number_field(alloc, line, "start", object)?,
+        delta: read_number_field(alloc, line, "delta", object)?,
+        bound: read_number_field(alloc, line, "bound", object)?,
     };
     read_lists(alloc, purpose, front, line, object)
 }

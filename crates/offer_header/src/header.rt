@@ -2,7 +2,7 @@
 
 ghost use Rattle.std.specs.Prelude.{◌≡◌, ◌≤◌, Ok, IfOk, length};
 ghost use Rattle.swap_base.specs.Fault.{Gives};
-ghost use Rattle.offer_header.specs.Header.{resolve_header, parse_whole_header, placed_of, AreSimpleFor, IsUntoldFor, IsHeaderWithin};
+ghost use Rattle.offer_header.specs.Header.{resolve_header, parse_whole_header, placed_header, HasSimpleRoles, IsUntoldHeader, IsHeaderInLimits};
 ghost use Rattle.offer_header.specs.Limits.{HoldsEach};
 ghost use Rattle.offer_header.specs.Names.{has_strategy};
 ghost use Rattle.offer_header.specs.Scripts.{scripts_placed, AllStand, AreMade};
@@ -19,7 +19,7 @@ use swap_base::{ByteText, Digest, Listed, PartyId};
 use swap_digraph::{ArcEnds, Mode, Version};
 use swap_job::{Finish, Purpose, Role};
 
-/// A header whose fields, names and limits are in order, as `IsHeaderWithin` says.
+/// A header whose fields, names and limits are in order, as `IsHeaderInLimits` says.
 #[derive(Drop)]
 pub struct Header {
     pub purpose: Purpose,
@@ -57,7 +57,7 @@ pub struct Header {
 fn placed(line: u32, header: Header) -> Result<Header, OfferFault>
     requires few { length header.roles ≤ 256 }
     requires stand { AllStand header }
-    ensures { Gives (λ h. h) result (placed_of line header) }
+    ensures { Gives (λ h. h) result (placed_header line header) }
 {
     check_scripts(line, &header)?;
     Ok(header)
@@ -78,7 +78,8 @@ fn resolve_header(
     placed(line, header)
 }
 
-/// The header that the line's text gives, or the first reason why it is refused; its strategies are among these.
+/// The header that the line's text gives, or the first reason why it is refused; its strategies are
+/// among these.
 #[tactic(auto, unfolding(crate::specs::Header::parse_whole_header))]
 pub fn parse_header(
     alloc: Global,
@@ -89,9 +90,9 @@ pub fn parse_header(
 ) -> Result<Header, OfferFault>
     ensures exact { Gives (λ h. h) result (parse_whole_header (has_strategy strategies.now) purpose line text.now) }
     ensures purpose { IfOk result (λ h. h.purpose ≡ purpose) }
-    ensures within { IfOk result (λ h. IsHeaderWithin h) }
-    ensures untold { IfOk result (λ h. IsUntoldFor purpose h) }
-    ensures simple { IfOk result (λ h. AreSimpleFor purpose h) }
+    ensures within { IfOk result (λ h. IsHeaderInLimits h) }
+    ensures untold { IfOk result (λ h. IsUntoldHeader purpose h) }
+    ensures simple { IfOk result (λ h. HasSimpleRoles purpose h) }
     ensures strategies { IfOk result (λ h. HoldsEach (has_strategy strategies.now) h.roles) }
     ensures placed { IfOk result (λ h. scripts_placed line h ≡ Ok tt) }
     ensures made { IfOk result (AreMade line) }

@@ -1,6 +1,8 @@
-//! The header of an offer: its fields, its names and its limits, each step with the first reason why it is refused.
+//! The header of an offer: its fields, its names and its limits, each step with the first reason
+//! why it is refused.
 //!
-//! Read `specs/Header.antt` first: `parse_whole_header` says what a line gives, and `IsWithin` what holds of every header.
+//! Read `specs/Header.antt` first: `parse_whole_header` says what a line gives, and
+//! `IsHeaderInLimits` what holds of every header.
 #![tactic(auto)]
 
 mod fields;

@@ -4,18 +4,18 @@ ghost use Rattle.std.specs.Prelude.{◌≡◌, ◌<◌, ◌≤◌, ℕ, Result, 
 ghost use Rattle.swap_base.specs.Fault.{Gives};
 ghost use Rattle.swap_job.specs.Roles.{is_conforming};
 ghost use Rattle.refusals.specs.declared.reason.Reason.{Reason};
-ghost use Rattle.offer_fields.specs.Lists.{each_of};
+ghost use Rattle.offer_fields.specs.Lists.{collected_results};
 ghost use Rattle.offer_moves.specs.Moves.{parse_move};
-ghost use Rattle.offer_header.specs.Limits.{checked_seed, script_role, checked_role, parse_acting, count_parties, header_sizes, stated_terms, parse_all_terms, arc_ends};
+ghost use Rattle.offer_header.specs.Limits.{checked_seed, script_role, checked_role, parse_acting, count_parties, header_sizes, stated_terms, limited_terms, arc_ends};
 ghost use Rattle.offer_header.specs.Limits.{lock_hashlock, no_digests, read_hashlocks};
-ghost use Rattle.offer_header.specs.Limits.{hashlocks_of, key_digest, party_keys_of, stated_keys_of, read_listed_keys, derived_keys, assemble_header, parts_of, limited_of};
+ghost use Rattle.offer_header.specs.Limits.{leader_hashlocks, key_digest, party_key_row, stated_keys, read_listed_keys, derived_keys, assemble_header, limited_lists, limited_value};
 ghost use Rattle.offer_header.specs.Names.{AreEnds, AreLeaders, IsNumbered};
 
 use crate::header::Header;
 use crate::names::{Ends, Numbered};
 use crate::raw::{RawActor, RawArc, RawHeader, RawLeader, RawParty, RawRow, is_plain};
 use crate::versions::{most_arcs, most_parties, version_path_limit};
-use offer_fields::{TextRef, parse_digest, ranged_number, within};
+use offer_fields::{TextRef, check_range, parse_digest, ranged_number};
 use offer_moves::{RawMove, Sizes, parse_move};
 use refusals::{OfferFault, Reason};
 use std::alloc::Global;
@@ -32,10 +32,10 @@ pub struct ArcTerms {
 
 /// What a part of the header gives within its limits, in a context that all such parts share.
 trait Limited<C: Copy, B>: Sized {
-    ghost limited_of: { C → ℕ → Self → Result B Reason };
+    ghost limited_value: { C → ℕ → Self → Result B Reason };
 
     fn limit(&self, alloc: Global, context: C, line: u32) -> Result<B, OfferFault>
-        ensures { Gives (λ x. x) result (limited_of context line self.now) };
+        ensures { Gives (λ x. x) result (limited_value context line self.now) };
 }
 
 /// What each part gives, or the first reason why one is refused.
@@ -45,7 +45,7 @@ fn limit_each<C: Copy, B: Drop, T: Limited<C, B>>(
     line: u32,
     parts: &[T],
 ) -> Result<Listed<B>, OfferFault>
-    ensures { Gives (λ x. x) result (each_of (T.limited_of context line) parts.now) }
+    ensures { Gives (λ x. x) result (collected_results (T.limited_value context line) parts.now) }
 {
     let mut list = Vec::new(alloc);
     for part in parts {
@@ -70,7 +70,7 @@ fn parse_moves(
     moves: &[RawMove<'_>],
 ) -> Result<MoveList, OfferFault>
     requires names { length names.now ≤ 256 }
-    ensures { Gives (λ l. l) result (each_of (parse_move sizes names.now line) moves.now) }
+    ensures { Gives (λ l. l) result (collected_results (parse_move sizes names.now line) moves.now) }
 {
     let mut list = Vec::new(alloc);
     for mv in moves {
@@ -91,7 +91,7 @@ fn script_role(
     requires names { length names.now ≤ 256 }
     ensures { Gives (λ r. r) result (script_role sizes names.now line moves.now) }
 {
-    within(alloc, line, "script", 0, 1000, moves.len() as u64)?;
+    check_range(alloc, line, "script", 0, 1000, moves.len() as u64)?;
     let moves = parse_moves(alloc, sizes, names, line, moves)?;
     Ok(Role::Script(moves))
 }
@@ -149,7 +149,7 @@ fn each_acting(
     parties: &[RawParty<'_>],
 ) -> Result<Listed<Acting>, OfferFault>
     requires names { length names.now ≤ 256 }
-    ensures { Gives (λ l. l) result (each_of (parse_acting sizes names.now line) parties.now) }
+    ensures { Gives (λ l. l) result (collected_results (parse_acting sizes names.now line) parties.now) }
 {
     let mut list = Vec::new(alloc);
     for party in parties {
@@ -159,11 +159,11 @@ fn each_acting(
 }
 
 impl<'v> Limited<(), ArcTerms> for RawArc<'v> {
-    ghost limited_of = { λ _. stated_terms };
+    ghost limited_value = { λ _. stated_terms };
 
     #[tactic(auto, unfolding(crate::specs::Limits::stated_terms))]
     fn limit(&self, alloc: Global, _context: (), line: u32) -> Result<ArcTerms, OfferFault> {
-        within(alloc, line, "amount", 1, 1_000_000_000_000, self.amount)?;
+        check_range(alloc, line, "amount", 1, 1_000_000_000_000, self.amount)?;
         let timelock = ranged_number(alloc, line, "timelock", 0, 1_000_000, self.timelock)?;
         Ok(ArcTerms {
             amount: self.amount,
@@ -173,7 +173,7 @@ impl<'v> Limited<(), ArcTerms> for RawArc<'v> {
 }
 
 impl<'v> Limited<(), Digest> for RawLeader<'v> {
-    ghost limited_of = { λ _. lock_hashlock };
+    ghost limited_value = { λ _. lock_hashlock };
 
     #[tactic(auto, unfolding(crate::specs::Limits::lock_hashlock))]
     fn limit(&self, alloc: Global, _context: (), line: u32) -> Result<Digest, OfferFault> {
@@ -182,7 +182,7 @@ impl<'v> Limited<(), Digest> for RawLeader<'v> {
 }
 
 impl<'v> Limited<(), Digest> for TextRef<'v> {
-    ghost limited_of = { λ _. key_digest };
+    ghost limited_value = { λ _. key_digest };
 
     #[tactic(auto, unfolding(crate::specs::Limits::key_digest))]
     fn limit(&self, alloc: Global, _context: (), line: u32) -> Result<Digest, OfferFault> {
@@ -191,12 +191,12 @@ impl<'v> Limited<(), Digest> for TextRef<'v> {
 }
 
 impl<'v> Limited<usize, Listed<Digest>> for RawRow<'v> {
-    ghost limited_of = { party_keys_of };
+    ghost limited_value = { party_key_row };
 
-    #[tactic(auto, unfolding(crate::specs::Limits::party_keys_of))]
+    #[tactic(auto, unfolding(crate::specs::Limits::party_key_row))]
     fn limit(&self, alloc: Global, locks: usize, line: u32) -> Result<Listed<Digest>, OfferFault> {
         let length = self.texts.len() as u64;
-        within(alloc, line, "keys", locks as u64, locks as u64, length)?;
+        check_range(alloc, line, "keys", locks as u64, locks as u64, length)?;
         limit_each(alloc, (), line, self.texts.as_slice())
     }
 }
@@ -215,20 +215,20 @@ fn read_parties(
     ensures { Gives (λ l. l) result (count_parties version sizes names.now line parties.now) }
 {
     let most = most_parties(version);
-    within(alloc, line, "parties", 2, most, parties.len() as u64)?;
+    check_range(alloc, line, "parties", 2, most, parties.len() as u64)?;
     each_acting(alloc, sizes, names, line, parties)
 }
 
-#[tactic(auto, unfolding(crate::specs::Limits::parse_all_terms))]
-fn parse_terms(
+#[tactic(auto, unfolding(crate::specs::Limits::limited_terms))]
+fn limited_terms(
     alloc: Global,
     version: Version,
     line: u32,
     arcs: &[RawArc<'_>],
 ) -> Result<Listed<ArcTerms>, OfferFault>
-    ensures { Gives (λ t. t) result (parse_all_terms version line arcs.now) }
+    ensures { Gives (λ t. t) result (limited_terms version line arcs.now) }
 {
-    within(
+    check_range(
         alloc,
         line,
         "arcs",
@@ -264,16 +264,16 @@ fn read_hashlocks(
     }
 }
 
-#[tactic(auto, unfolding(crate::specs::Limits::hashlocks_of))]
+#[tactic(auto, unfolding(crate::specs::Limits::leader_hashlocks))]
 fn parse_hashlocks(
     alloc: Global,
     plain: bool,
     line: u32,
     leaders: &[RawLeader<'_>],
 ) -> Result<Listed<Digest>, OfferFault>
-    ensures { Gives (λ h. h) result (hashlocks_of plain line leaders.now) }
+    ensures { Gives (λ h. h) result (leader_hashlocks plain line leaders.now) }
 {
-    within(alloc, line, "leaders", 1, 8, leaders.len() as u64)?;
+    check_range(alloc, line, "leaders", 1, 8, leaders.len() as u64)?;
     read_hashlocks(alloc, plain, line, leaders)
 }
 
@@ -291,16 +291,16 @@ fn no_keys(
     Ok(Listed::new(rows))
 }
 
-#[tactic(auto, unfolding(crate::specs::Limits::stated_keys_of))]
+#[tactic(auto, unfolding(crate::specs::Limits::stated_keys))]
 fn read_stated_keys(
     alloc: Global,
     line: u32,
     raw: &RawHeader<'_>,
 ) -> Result<Listed<Listed<Digest>>, OfferFault>
-    ensures { Gives (λ k. k) result (stated_keys_of line raw.now) }
+    ensures { Gives (λ k. k) result (stated_keys line raw.now) }
 {
     let (parties, rows) = (raw.parties.len() as u64, raw.keys.len() as u64);
-    within(alloc, line, "keys", parties, parties, rows)?;
+    check_range(alloc, line, "keys", parties, parties, rows)?;
     limit_each(alloc, raw.leaders.len(), line, raw.keys.as_slice())
 }
 
@@ -528,7 +528,7 @@ fn check_parts(
     bounds: Bounds,
 ) -> Result<Header, OfferFault>
     requires { IsNumbered raw.now numbered }
-    ensures { Gives (λ h. h) result (parts_of purpose line raw.now numbered bounds.start bounds.delta bounds.bound) }
+    ensures { Gives (λ h. h) result (limited_lists purpose line raw.now numbered bounds.start bounds.delta bounds.bound) }
 {
     let plain = is_plain(purpose);
     let names = numbered.names.as_slice();
@@ -541,7 +541,7 @@ fn check_parts(
         line,
         raw.parties.as_slice(),
     )?;
-    let terms = parse_terms(alloc, raw.version, line, raw.arcs.as_slice())?;
+    let terms = limited_terms(alloc, raw.version, line, raw.arcs.as_slice())?;
     let hashlocks = parse_hashlocks(alloc, plain, line, raw.leaders.as_slice())?;
     let keys = read_keys(alloc, plain, line, raw)?;
     let digests = Digests { hashlocks, keys };
@@ -551,7 +551,7 @@ fn check_parts(
 }
 
 /// The header within its limits, or the first reason why a number, a list or a text is refused.
-#[tactic(auto, unfolding(crate::specs::Limits::limited_of))]
+#[tactic(auto, unfolding(crate::specs::Limits::limited_value))]
 pub(crate) fn apply_limits(
     alloc: Global,
     purpose: Purpose,
@@ -560,7 +560,7 @@ pub(crate) fn apply_limits(
     numbered: Numbered,
 ) -> Result<Header, OfferFault>
     requires { IsNumbered raw.now numbered }
-    ensures { Gives (λ h. h) result (limited_of purpose line raw.now numbered) }
+    ensures { Gives (λ h. h) result (limited_value purpose line raw.now numbered) }
 {
     let bounds = Bounds {
         start: ranged_number(alloc, line, "start", 1, 1000, raw.start)?,

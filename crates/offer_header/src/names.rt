@@ -4,11 +4,11 @@ ghost use Rattle.std.specs.Prelude.{◌≡◌, ◌<◌, [], List, map, IfOk, OnO
 ghost use Rattle.std.specs.List.{list_all, list_any};
 ghost use Rattle.std.specs.Str.{bytes_eq};
 ghost use Rattle.swap_base.specs.Fault.{Gives, steps};
-ghost use Rattle.offer_fields.specs.Lists.{each_of};
+ghost use Rattle.offer_fields.specs.Lists.{collected_results};
 ghost use Rattle.offer_fields.specs.Names.{party_of_name};
 ghost use Rattle.offer_header.specs.Names.{has_strategy, strategy_known};
 ghost use Rattle.offer_header.specs.Names.{is_name, is_name_byte, known, all_known, move_known, actor_known, name_added, name_step};
-ghost use Rattle.offer_header.specs.Names.{with_name, names_stated, named_ends, leader_step, assign_checked_numbers, resolve_numbers, numbered_of};
+ghost use Rattle.offer_header.specs.Names.{with_name, names_stated, named_ends, leader_step, assign_checked_numbers, resolve_numbers, numbered_header};
 
 use crate::raw::{RawActor, RawArc, RawHeader, RawLeader, RawParty};
 use indexmap::IndexSet;
@@ -283,7 +283,7 @@ fn resolve_all_ends(
     names: &IndexSet<&[u8]>,
     arcs: &[RawArc<'_>],
 ) -> Result<Listed<Ends>, OfferFault>
-    ensures { Gives (λ x. x) result (each_of (named_ends line (map (λ k. k.now) names.now.keys)) arcs.now) }
+    ensures { Gives (λ x. x) result (collected_results (named_ends line (map (λ k. k.now) names.now.keys)) arcs.now) }
 {
     let mut list = Vec::new(alloc);
     for arc in arcs {
@@ -337,7 +337,8 @@ pub fn kept_names(alloc: Global, names: &IndexSet<&[u8]>) -> Result<Listed<ByteT
     Ok(Listed::new(list))
 }
 
-/// The arcs and the leaders by the numbers of their names, or the first reason why a name is refused.
+/// The arcs and the leaders by the numbers of their names, or the first reason why a name is
+/// refused.
 fn resolve_numbers(
     alloc: Global,
     line: u32,
@@ -378,15 +379,16 @@ fn assign_checked_numbers(
     resolve_numbers(alloc, line, &names, header)
 }
 
-/// The names of the header and the numbers that stand for them, or the first reason why a name is refused.
-#[tactic(auto, unfolding(crate::specs::Names::numbered_of))]
+/// The names of the header and the numbers that stand for them, or the first reason why a name is
+/// refused.
+#[tactic(auto, unfolding(crate::specs::Names::numbered_header))]
 pub(crate) fn assign_numbers(
     alloc: Global,
     strategies: &[ByteText],
     line: u32,
     header: &RawHeader<'_>,
 ) -> Result<Numbered, OfferFault>
-    ensures { Gives (λ n. n) result (numbered_of (has_strategy strategies.now) line header.now) }
+    ensures { Gives (λ n. n) result (numbered_header (has_strategy strategies.now) line header.now) }
 {
     let mut all = IndexSet::new(alloc);
     state_names(&mut all, header.parties.as_slice())?;

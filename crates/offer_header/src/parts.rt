@@ -3,15 +3,15 @@
 ghost use Rattle.std.specs.Prelude.{codes};
 ghost use Rattle.serde_json.specs.View.{view};
 ghost use Rattle.swap_base.specs.Fault.{Gives};
-ghost use Rattle.offer_fields.specs.Fields.{only, optional_text_at, text_at};
-ghost use Rattle.offer_header.specs.Raw.{script_at, strategy_at, planned_actor, object_actor, actor_of_word, actor_at, seed_at, party_fields, parse_party};
-ghost use Rattle.offer_header.specs.Raw.{timelock_at, arc_fields, read_arc, raw_arc_of};
-ghost use Rattle.offer_header.specs.Raw.{hashlock_at, leader_fields, raw_leader_of, parse_row};
+ghost use Rattle.offer_fields.specs.Fields.{only, optional_field_text, field_text};
+ghost use Rattle.offer_header.specs.Raw.{script_actor, strategy_actor, planned_actor, object_actor, actor_of_word, actor_member, seed_member, party_fields, parse_party};
+ghost use Rattle.offer_header.specs.Raw.{timelock_member, arc_fields, read_arc, object_arc};
+ghost use Rattle.offer_header.specs.Raw.{hashlock_member, leader_fields, object_leader, parse_row};
 
 use crate::raw::{RawActor, RawArc, RawLeader, RawParty, RawRow, Reading, is_plain};
 use offer_fields::{
-    Member, TextRef, allow_only, is_object, member_text, number_in, read_list, read_optional_text,
-    read_text_field, read_texts,
+    Member, TextRef, allow_only, is_object, member_text, read_list, read_number_field,
+    read_optional_text, read_text_field, read_texts,
 };
 use refusals::{OfferFault, wrong_kind};
 use serde_json::Value;
@@ -20,9 +20,9 @@ use swap_base::ByteText;
 use swap_job::Purpose;
 
 /// A script, by its moves.
-#[tactic(auto, unfolding(crate::specs::Raw::script_at))]
+#[tactic(auto, unfolding(crate::specs::Raw::script_actor))]
 fn read_script<'v>(alloc: Global, line: u32, object: &'v Value) -> Result<RawActor<'v>, OfferFault>
-    ensures { Gives (λ a. a) result (script_at line (view object.now)) }
+    ensures { Gives (λ a. a) result (script_actor line (view object.now)) }
 {
     let moves = read_list(alloc, (), line, "script", object)?;
     allow_only(alloc, line, &["script"], object)?;
@@ -30,13 +30,13 @@ fn read_script<'v>(alloc: Global, line: u32, object: &'v Value) -> Result<RawAct
 }
 
 /// A strategy, by its name.
-#[tactic(auto, unfolding(crate::specs::Raw::strategy_at))]
+#[tactic(auto, unfolding(crate::specs::Raw::strategy_actor))]
 fn read_strategy<'v>(
     alloc: Global,
     line: u32,
     object: &'v Value,
 ) -> Result<RawActor<'v>, OfferFault>
-    ensures { Gives (λ a. a) result (strategy_at line (view object.now)) }
+    ensures { Gives (λ a. a) result (strategy_actor line (view object.now)) }
 {
     let name = read_text_field(alloc, line, "strategy", object)?;
     allow_only(alloc, line, &["strategy"], object)?;
@@ -81,14 +81,14 @@ fn actor_of_word<'v>(alloc: Global, line: u32, word: &str) -> Result<RawActor<'v
     }
 }
 
-#[tactic(auto, unfolding(crate::specs::Raw::actor_at))]
+#[tactic(auto, unfolding(crate::specs::Raw::actor_member))]
 fn read_actor<'v>(
     alloc: Global,
     line: u32,
     purpose: Purpose,
     object: &'v Value,
 ) -> Result<RawActor<'v>, OfferFault>
-    ensures { Gives (λ a. a) result (actor_at line purpose (view object.now)) }
+    ensures { Gives (λ a. a) result (actor_member line purpose (view object.now)) }
 {
     let Some(value) = object.get("actor") else {
         return Ok(RawActor::Conforming);
@@ -105,7 +105,7 @@ fn read_stated_seed<'v>(
     line: u32,
     object: &'v Value,
 ) -> Result<Option<TextRef<'v>>, OfferFault>
-    ensures { Gives (λ s. s) result (optional_text_at line (codes "seed") (view object.now)) }
+    ensures { Gives (λ s. s) result (optional_field_text line (codes "seed") (view object.now)) }
 {
     match read_optional_text(alloc, line, "seed", object)? {
         None => Ok(None),
@@ -119,7 +119,7 @@ fn read_seed<'v>(
     purpose: Purpose,
     object: &'v Value,
 ) -> Result<Option<TextRef<'v>>, OfferFault>
-    ensures { Gives (λ s. s) result (seed_at line purpose (view object.now)) }
+    ensures { Gives (λ s. s) result (seed_member line purpose (view object.now)) }
 {
     match purpose {
         Purpose::Audit => Ok(None),
@@ -165,10 +165,10 @@ impl<'v> Member<'v, Reading> for RawParty<'v> {
 }
 
 fn read_timelock(alloc: Global, line: u32, stated: bool, object: &Value) -> Result<u64, OfferFault>
-    ensures { Gives (λ n. n) result (timelock_at line stated (view object.now)) }
+    ensures { Gives (λ n. n) result (timelock_member line stated (view object.now)) }
 {
     if stated {
-        number_in(alloc, line, "timelock", object)
+        read_number_field(alloc, line, "timelock", object)
     } else {
         Ok(0)
     }
@@ -194,7 +194,7 @@ fn read_arc<'v>(
 ) -> Result<RawArc<'v>, OfferFault>
     ensures { Gives (λ a. a) result (read_arc stated line (view object.now) from.now to.now) }
 {
-    let amount = number_in(alloc, line, "amount", object)?;
+    let amount = read_number_field(alloc, line, "amount", object)?;
     let timelock = read_timelock(alloc, line, stated, object)?;
     only_arc_fields(alloc, line, stated, object)?;
     Ok(RawArc {
@@ -206,9 +206,9 @@ fn read_arc<'v>(
 }
 
 impl<'v> Member<'v, Reading> for RawArc<'v> {
-    ghost said = { raw_arc_of };
+    ghost said = { object_arc };
 
-    #[tactic(auto, unfolding(crate::specs::Raw::raw_arc_of))]
+    #[tactic(auto, unfolding(crate::specs::Raw::object_arc))]
     fn read(
         alloc: Global,
         reading: Reading,
@@ -227,7 +227,7 @@ fn read_stated_hashlock<'v>(
     line: u32,
     object: &'v Value,
 ) -> Result<TextRef<'v>, OfferFault>
-    ensures { Gives (λ t. t) result (text_at line (codes "hashlock") (view object.now)) }
+    ensures { Gives (λ t. t) result (field_text line (codes "hashlock") (view object.now)) }
 {
     let hashlock = read_text_field(alloc, line, "hashlock", object)?;
     Ok(TextRef::new(hashlock.as_bytes()))
@@ -239,7 +239,7 @@ fn read_hashlock<'v>(
     plain: bool,
     object: &'v Value,
 ) -> Result<TextRef<'v>, OfferFault>
-    ensures { Gives (λ t. t) result (hashlock_at line plain (view object.now)) }
+    ensures { Gives (λ t. t) result (hashlock_member line plain (view object.now)) }
 {
     if plain {
         Ok(TextRef::new(&[]))
@@ -263,9 +263,9 @@ fn only_leader_fields(
 }
 
 impl<'v> Member<'v, Reading> for RawLeader<'v> {
-    ghost said = { raw_leader_of };
+    ghost said = { object_leader };
 
-    #[tactic(auto, unfolding(crate::specs::Raw::raw_leader_of))]
+    #[tactic(auto, unfolding(crate::specs::Raw::object_leader))]
     fn read(
         alloc: Global,
         reading: Reading,

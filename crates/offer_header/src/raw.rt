@@ -55,7 +55,8 @@ pub struct Front {
     pub bound: u64,
 }
 
-/// Who makes a party's calls: the party itself, which conforms, the offer's events, a script, or a strategy.
+/// Who makes a party's calls: the party itself, which conforms, the offer's events, a script, or a
+/// strategy.
 #[derive(Drop)]
 pub enum RawActor<'v> {
     Conforming,

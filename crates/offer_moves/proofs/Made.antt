@@ -15,8 +15,8 @@ use Rattle.swap_job.specs.Crafted.{Seeds}
 use Rattle.swap_job.specs.Fitting.{IsArc, IsFitting}
 use Rattle.swap_job.specs.Resolved.{move_arc}
 use Rattle.refusals.specs.declared.reason.Reason.TheVariants.{NotAdjacent}
-use Rattle.offer_fields.specs.Lists.{each_of}
-use Rattle.offer_fields.specs.Limits.{ranged_number, within, to_digest}
+use Rattle.offer_fields.specs.Lists.{collected_results}
+use Rattle.offer_fields.specs.Limits.{ranged_number, check_range, to_digest}
 use Rattle.offer_fields.specs.Names.{party_of_name}
 use Rattle.offer_moves.specs.declared.raw.RawTerms.{RawTerms}
 use Rattle.offer_moves.specs.declared.raw.RawKey.{RawKey}
@@ -24,7 +24,7 @@ use Rattle.offer_moves.specs.declared.raw.RawCraft.{RawCraft}
 use Rattle.offer_moves.specs.declared.raw.RawMove.{RawMove}
 use Rattle.offer_moves.specs.declared.raw.RawMove.TheVariants as raw_moves
 use Rattle.offer_moves.specs.Limits.{bounded_number, optional_most, kept, parse_locks, optional_locks, parse_sig}
-use Rattle.offer_moves.specs.Moves.{deal_sizes, parse_arc, optional_arc, make_publish, parse_craft, parse_replay, key_of, parse_unlock, parse_claim}
+use Rattle.offer_moves.specs.Moves.{deal_sizes, parse_arc, optional_arc, make_publish, parse_craft, parse_replay, checked_hashkey, parse_unlock, parse_claim}
 use Rattle.offer_moves.specs.Moves.{parse_refund, parse_transfer}
 use Rattle.offer_moves.specs.Moves.{parse_wait, parse_move}
 use Rattle.offer_moves.specs.Placed.{adjacent, crafted_by_others, placed}
@@ -51,9 +51,9 @@ kept_all digests few = ap (λ (b : Bool). cond b digests []) (le-leb (length dig
 locks_length : (line count : ℕ) (texts locks : List (List ℕ)) → count ≤ 8 → parse_locks line count texts ≡ Ok locks → length locks ≡ count
 unfolding parse_locks
 locks_length line count texts locks few e =
-    let p = went (within line (codes "locks") count count (length texts)) _ locks e in
+    let p = went (check_range line (codes "locks") count count (length texts)) _ locks e in
     let w = within_ok line (codes "locks") count count (length texts) p.0 p.1 in
-    let q = went (each_of (to_digest line (codes "locks")) texts) _ locks p.2 in
+    let q = went (collected_results (to_digest line (codes "locks")) texts) _ locks p.2 in
     let l = each_length (to_digest line (codes "locks")) texts q.0 q.1 in
     let s : kept q.0 ≡ locks = cc (q.2) in
     let same : locks ≡ q.0 = sym s ∙ kept_all q.0 (omega arith) in
@@ -107,14 +107,14 @@ record IsKey (d : Deal) (path : List ℕ) (k : RawKey) (key : Hashkey) : Type 0 
   path_few : length k.path ≤ path_limit d
   sigs_few : length key.sigs ≤ path_limit d
 
-key_fits : (d : Deal) (line : ℕ) (path : List ℕ) (k : RawKey) (key : Hashkey) → key_of (deal_sizes d) line path k ≡ Ok key → IsKey d path k key
-unfolding key_of
+key_fits : (d : Deal) (line : ℕ) (path : List ℕ) (k : RawKey) (key : Hashkey) → checked_hashkey (deal_sizes d) line path k ≡ Ok key → IsKey d path k key
+unfolding checked_hashkey
 key_fits d line path k key e =
     let p = went (bounded_number line (codes "lock") (length d.leaders) k.lock) _ key e in
     let q = went (to_digest line (codes "secret") k.secret) _ key p.2 in
-    let r = went (within line (codes "path") 0 (path_limit d) (length k.path)) _ key q.2 in
-    let b = went (within line (codes "sigs") 0 (path_limit d) (length k.sigs)) _ key r.2 in
-    let l = went (each_of (parse_sig line) k.sigs) _ key b.2 in
+    let r = went (check_range line (codes "path") 0 (path_limit d) (length k.path)) _ key q.2 in
+    let b = went (check_range line (codes "sigs") 0 (path_limit d) (length k.sigs)) _ key r.2 in
+    let l = went (collected_results (parse_sig line) k.sigs) _ key b.2 in
     let made : Hashkey = record { lock = p.0; secret = q.0; path = path; sigs = l.0 } in
     let s : made ≡ key = cc (l.2) in
     let n = each_length (parse_sig line) k.sigs l.0 l.1 in
@@ -131,9 +131,9 @@ unlock_made : (d : Deal) (seeds : Seeds) (names : List (List ℕ)) (line n : ℕ
     → IsMade d seeds line mv
 unfolding parse_unlock
 unlock_made d seeds names line n k mv same e =
-    let p = went (each_of (party_of_name line names) k.path) _ mv e in
+    let p = went (collected_results (party_of_name line names) k.path) _ mv e in
     let q = went (parse_arc (deal_sizes d) line (codes "arc") n) _ mv p.2 in
-    let r = went (key_of (deal_sizes d) line p.0 k) _ mv q.2 in
+    let r = went (checked_hashkey (deal_sizes d) line p.0 k) _ mv q.2 in
     let s : Raw q.0 r.0 ≡ mv = cc (r.2) in
     let key = key_fits d line p.0 k r.0 r.1 in
     let len = each_length (party_of_name line names) k.path p.0 p.1 in
@@ -159,10 +159,10 @@ craft_made : (d : Deal) (seeds : Seeds) (names : List (List ℕ)) (line n : ℕ)
     → parse_craft (deal_sizes d) names line n k ≡ Ok mv → IsMade d seeds line mv
 unfolding parse_craft
 craft_made d seeds names line n k mv same e =
-    let p = went (each_of (party_of_name line names) k.via) _ mv e in
+    let p = went (collected_results (party_of_name line names) k.via) _ mv e in
     let q = went (parse_arc (deal_sizes d) line (codes "arc") n) _ mv p.2 in
     let l = went (bounded_number line (codes "lock") (length d.leaders) k.lock) _ mv q.2 in
-    let w = went (within line (codes "via") 1 (path_limit d) (length k.via)) _ mv l.2 in
+    let w = went (check_range line (codes "via") 1 (path_limit d) (length k.via)) _ mv l.2 in
     let o = went (optional_arc (deal_sizes d) line (codes "onto") k.onto) _ mv w.2 in
     let s : Craft q.0 l.0 p.0 o.0 ≡ mv = cc (o.2) in
     let len = each_length (party_of_name line names) k.via p.0 p.1 in

@@ -2,8 +2,8 @@
 use Rattle.std.proofs.Common.{◌≡◌, ℕ, ◌<◌, length, List, Ok, refl, codes, subst}
 use Rattle.swap_job.specs.declared.moves.Move.{Move}
 use Rattle.swap_job.specs.declared.moves.Move.TheVariants.{Publish, Craft, Replay, Raw, Claim, Refund, Transfer, Wait}
-use Rattle.offer_fields.specs.Lists.{each_of}
-use Rattle.offer_fields.specs.Limits.{ranged_number, within}
+use Rattle.offer_fields.specs.Lists.{collected_results}
+use Rattle.offer_fields.specs.Limits.{ranged_number, check_range}
 use Rattle.offer_fields.specs.Names.{party_of_name}
 use Rattle.offer_moves.specs.declared.moves.Sizes.{Sizes}
 use Rattle.offer_moves.specs.declared.raw.RawTerms.{RawTerms}
@@ -12,7 +12,7 @@ use Rattle.offer_moves.specs.declared.raw.RawCraft.{RawCraft}
 use Rattle.offer_moves.specs.declared.raw.RawMove.{RawMove}
 use Rattle.offer_moves.specs.declared.raw.RawMove.TheVariants as raw_moves
 use Rattle.offer_moves.specs.Limits.{bounded_number, optional_most, optional_locks}
-use Rattle.offer_moves.specs.Moves.{parse_arc, optional_arc, make_publish, parse_craft, parse_replay, key_of, parse_unlock, parse_claim, parse_refund}
+use Rattle.offer_moves.specs.Moves.{parse_arc, optional_arc, make_publish, parse_craft, parse_replay, checked_hashkey, parse_unlock, parse_claim, parse_refund}
 use Rattle.offer_moves.specs.Moves.{parse_transfer, parse_wait}
 use Rattle.offer_moves.specs.Moves.{parse_move}
 use Rattle.offer_moves.specs.Kept.{CanStand}
@@ -40,10 +40,10 @@ craft_stands : (s : Sizes) (names : List (List ℕ)) (line n : ℕ) (k : RawCraf
     → CanStand s.arcs (length names) mv
 unfolding parse_craft
 craft_stands s names line n k mv e =
-    let p = went (each_of (party_of_name line names) k.via) _ mv e in
+    let p = went (collected_results (party_of_name line names) k.via) _ mv e in
     let q = went (parse_arc s line (codes "arc") n) _ mv p.2 in
     let l = went (bounded_number line (codes "lock") s.locks k.lock) _ mv q.2 in
-    let w = went (within line (codes "via") 1 s.path (length k.via)) _ mv l.2 in
+    let w = went (check_range line (codes "via") 1 s.path (length k.via)) _ mv l.2 in
     let o = went (optional_arc s line (codes "onto") k.onto) _ mv w.2 in
     let is : Craft q.0 l.0 p.0 o.0 ≡ mv = cc (o.2) in
     subst (CanStand s.arcs (length names)) is (record {
@@ -63,9 +63,9 @@ replay_stands s m line n lock onto mv e =
 unlock_stands : (s : Sizes) (names : List (List ℕ)) (m line n : ℕ) (k : RawKey) (mv : Move) → parse_unlock s names line n k ≡ Ok mv → CanStand s.arcs m mv
 unfolding parse_unlock
 unlock_stands s names m line n k mv e =
-    let p = went (each_of (party_of_name line names) k.path) _ mv e in
+    let p = went (collected_results (party_of_name line names) k.path) _ mv e in
     let q = went (parse_arc s line (codes "arc") n) _ mv p.2 in
-    let r = went (key_of s line p.0 k) _ mv q.2 in
+    let r = went (checked_hashkey s line p.0 k) _ mv q.2 in
     let is : Raw q.0 r.0 ≡ mv = cc (r.2) in
     subst (CanStand s.arcs m) is (record { arc = arc_below s line (codes "arc") n q.0 q.1; crafters = tt })
 

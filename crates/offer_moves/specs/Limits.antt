@@ -6,10 +6,11 @@ use Rattle.hash_signature.specs.Signature.{text_values}
 use Rattle.hash_signature.specs.declared.sig.Sig.{Sig}
 use Rattle.refusals.specs.declared.reason.Reason.{Reason}
 use Rattle.refusals.specs.declared.reason.Reason.TheVariants.{OverLimit}
-use Rattle.offer_fields.specs.Limits.{ranged_number, within, decoded, to_digest}
-use Rattle.offer_fields.specs.Lists.{each_of}
+use Rattle.offer_fields.specs.Limits.{ranged_number, check_range, decoded, to_digest}
+use Rattle.offer_fields.specs.Lists.{collected_results}
 
--- a number that is below a count, kept in a byte: where the count is above 256, the header is refused for that
+-- a number that is below a count, kept in a byte: where the count is above 256, the header is
+-- refused for that
 unfoldable pub bounded_number : ℕ → List ℕ → ℕ → ℕ → Result ℕ Reason
 bounded_number line field count n = if nat_lt n count then Ok (n % 256) else Err (OverLimit line field n)
 
@@ -19,15 +20,16 @@ optional_most line field high (Some n) = do
   m ← ranged_number line field 0 high n
   Ok (Some m)
 
--- as many digests as a contract may have: where there are more leaders, the header is refused for that
+-- as many digests as a contract may have: where there are more leaders, the header is refused for
+-- that
 abbrev pub kept : List (List ℕ) → List (List ℕ)
 kept digests = if nat_le (length digests) 8 then digests else []
 
 -- one digest for each lock
 unfoldable pub parse_locks : ℕ → ℕ → List (List ℕ) → Result (List (List ℕ)) Reason
 parse_locks line count texts = do
-  u ← within line (codes "locks") count count (length texts)
-  digests ← each_of (to_digest line (codes "locks")) texts
+  u ← check_range line (codes "locks") count count (length texts)
+  digests ← collected_results (to_digest line (codes "locks")) texts
   Ok (kept digests)
 
 abbrev pub optional_locks : ℕ → ℕ → Option (List (List ℕ)) → Result (Option (List (List ℕ))) Reason

@@ -1,4 +1,5 @@
--- The move that a line asks for: first its names, then its numbers and texts, in the order of its fields.
+-- The move that a line asks for: first its names, then its numbers and texts, in the order of its
+-- fields.
 use Rattle.std.specs.Prelude.{ℕ, List, length, codes, Option, Some, None, Result, Ok}
 use Rattle.swap_base.specs.Fault.{◌>>=◌}
 use Rattle.swap_digraph.specs.declared.deal.Deal.{Deal}
@@ -7,8 +8,8 @@ use Rattle.hashkey_path.specs.declared.hashkey.Hashkey.{Hashkey}
 use Rattle.swap_job.specs.declared.moves.Move.{Move}
 use Rattle.swap_job.specs.declared.moves.Move.TheVariants.{Publish, Craft, Replay, Raw, Claim, Refund, Transfer, Wait}
 use Rattle.refusals.specs.declared.reason.Reason.{Reason}
-use Rattle.offer_fields.specs.Lists.{each_of}
-use Rattle.offer_fields.specs.Limits.{ranged_number, within, to_digest}
+use Rattle.offer_fields.specs.Lists.{collected_results}
+use Rattle.offer_fields.specs.Limits.{ranged_number, check_range, to_digest}
 use Rattle.offer_fields.specs.Names.{party_of_name}
 use Rattle.offer_moves.specs.declared.moves.Sizes.{Sizes}
 use Rattle.offer_moves.specs.declared.raw.RawTerms.{RawTerms}
@@ -46,10 +47,10 @@ optional_arc s line field (Some n) = do
 
 unfoldable pub parse_craft : Sizes → List (List ℕ) → ℕ → ℕ → RawCraft → Result Move Reason
 parse_craft s names line n k = do
-  via ← each_of (party_of_name line names) k.via
+  via ← collected_results (party_of_name line names) k.via
   arc ← parse_arc s line (codes "arc") n
   lock ← bounded_number line (codes "lock") s.locks k.lock
-  u ← within line (codes "via") 1 s.path (length k.via)
+  u ← check_range line (codes "via") 1 s.path (length k.via)
   onto ← optional_arc s line (codes "onto") k.onto
   Ok (Craft arc lock via onto)
 
@@ -60,20 +61,20 @@ parse_replay s line n m k = do
   onto ← parse_arc s line (codes "onto") k
   Ok (Replay arc lock onto)
 
-unfoldable pub key_of : Sizes → ℕ → List ℕ → RawKey → Result Hashkey Reason
-key_of s line path k = do
+unfoldable pub checked_hashkey : Sizes → ℕ → List ℕ → RawKey → Result Hashkey Reason
+checked_hashkey s line path k = do
   lock ← bounded_number line (codes "lock") s.locks k.lock
   secret ← to_digest line (codes "secret") k.secret
-  u ← within line (codes "path") 0 s.path (length k.path)
-  w ← within line (codes "sigs") 0 s.path (length k.sigs)
-  sigs ← each_of (parse_sig line) k.sigs
+  u ← check_range line (codes "path") 0 s.path (length k.path)
+  w ← check_range line (codes "sigs") 0 s.path (length k.sigs)
+  sigs ← collected_results (parse_sig line) k.sigs
   Ok (record { lock = lock; secret = secret; path = path; sigs = sigs })
 
 unfoldable pub parse_unlock : Sizes → List (List ℕ) → ℕ → ℕ → RawKey → Result Move Reason
 parse_unlock s names line n k = do
-  path ← each_of (party_of_name line names) k.path
+  path ← collected_results (party_of_name line names) k.path
   arc ← parse_arc s line (codes "arc") n
-  key ← key_of s line path k
+  key ← checked_hashkey s line path k
   Ok (Raw arc key)
 
 unfoldable pub parse_claim : Sizes → ℕ → ℕ → Result Move Reason

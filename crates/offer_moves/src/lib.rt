@@ -1,6 +1,8 @@
-//! Reads one move of an offer, of an event line or of a script: its fields, its names, its numbers and texts, and where it stands.
+//! Reads one move of an offer, of an event line or of a script: its fields, its names, its numbers
+//! and texts, and where it stands.
 //!
-//! Read `specs/Moves.antt` first: `parse_move` is the move that is asked for, or the first reason against it.
+//! Read `specs/Moves.antt` first: `parse_move` is the move that is asked for, or the first reason
+//! against it.
 #![tactic(auto)]
 
 mod limits;

@@ -3,14 +3,14 @@
 ghost use Rattle.std.specs.Prelude.{◌≡◌, ◌<◌, ◌^◌, codes};
 ghost use Rattle.swap_base.specs.Fault.{Gives};
 ghost use Rattle.offer_fields.specs.Limits.{to_digest, ranged_number};
-ghost use Rattle.offer_fields.specs.Lists.{each_of};
+ghost use Rattle.offer_fields.specs.Lists.{collected_results};
 ghost use Rattle.offer_moves.specs.Limits.{bounded_number, optional_most, kept, parse_locks, optional_locks, parse_sig};
 
 use escrow_core::LockList;
 use hash_signature::Sig;
 use hashkey_path::SigList;
 use hex::FromHex;
-use offer_fields::{TextRef, parse_digest, ranged_number, within};
+use offer_fields::{TextRef, check_range, parse_digest, ranged_number};
 use refusals::{OfferFault, over_limit, wrong_hex};
 use std::alloc::Global;
 use swap_base::{Digest, Listed};
@@ -52,7 +52,7 @@ pub fn optional_most(
 pub fn units(alloc: Global, line: u32, field: &str, number: u64) -> Result<u64, OfferFault>
     ensures { Gives (λ n. n) result (ranged_number line field.now 0 1000000000000 number) }
 {
-    within(alloc, line, field, 0, 1_000_000_000_000, number)?;
+    check_range(alloc, line, field, 0, 1_000_000_000_000, number)?;
     Ok(number)
 }
 
@@ -77,7 +77,7 @@ fn list_digests(
     line: u32,
     texts: &[TextRef<'_>],
 ) -> Result<Listed<Digest>, OfferFault>
-    ensures { Gives (λ l. l) result (each_of (to_digest line (codes "locks")) texts.now) }
+    ensures { Gives (λ l. l) result (collected_results (to_digest line (codes "locks")) texts.now) }
 {
     let mut digests = Vec::new(alloc);
     for text in texts {
@@ -107,7 +107,7 @@ fn parse_locks(
     ensures { Gives (λ l. l) result (parse_locks line count texts.now) }
 {
     let count = count as u64;
-    within(alloc, line, "locks", count, count, texts.len() as u64)?;
+    check_range(alloc, line, "locks", count, count, texts.len() as u64)?;
     let digests = list_digests(alloc, line, texts)?;
     Ok(kept(digests.as_slice()))
 }
@@ -141,7 +141,7 @@ fn parse_sig(alloc: Global, line: u32, text: &[u8]) -> Result<Sig, OfferFault>
 /// Signatures.
 #[tactic(auto, using(offer_fields::proofs::Lists::goes_on, offer_fields::proofs::Lists::ends, offer_fields::proofs::Lists::is_done))]
 pub fn parse_sigs(alloc: Global, line: u32, texts: &[TextRef<'_>]) -> Result<SigList, OfferFault>
-    ensures { Gives (λ l. l) result (each_of (parse_sig line) texts.now) }
+    ensures { Gives (λ l. l) result (collected_results (parse_sig line) texts.now) }
 {
     let mut sigs = Vec::new(alloc);
     for text in texts {

@@ -2,7 +2,7 @@
 
 ghost use Rattle.std.specs.Prelude.{◌≡◌, ◌≤◌, length};
 ghost use Rattle.swap_base.specs.Fault.{Gives};
-ghost use Rattle.offer_moves.specs.Moves.{parse_arc, optional_arc, make_publish, parse_craft, parse_replay, key_of, parse_unlock, parse_claim, parse_refund, parse_transfer};
+ghost use Rattle.offer_moves.specs.Moves.{parse_arc, optional_arc, make_publish, parse_craft, parse_replay, checked_hashkey, parse_unlock, parse_claim, parse_refund, parse_transfer};
 ghost use Rattle.offer_moves.specs.Moves.{deal_sizes, parse_wait, parse_move};
 
 use crate::limits::{
@@ -11,7 +11,7 @@ use crate::limits::{
 use crate::names::path_numbers;
 use crate::raw::{RawCraft, RawKey, RawMove, RawTerms};
 use hashkey_path::Hashkey;
-use offer_fields::{TextRef, parse_digest, party_of_name, ranged_number, within};
+use offer_fields::{TextRef, check_range, parse_digest, party_of_name, ranged_number};
 use refusals::OfferFault;
 use std::alloc::Global;
 use swap_base::{ArcId, ByteText};
@@ -111,7 +111,7 @@ fn parse_craft(
     let via = path_numbers(alloc, line, names, craft.via.as_slice())?;
     let arc = parse_arc(alloc, sizes, line, "arc", number)?;
     let lock = bounded_number(alloc, line, "lock", sizes.locks, craft.lock)?;
-    within(alloc, line, "via", 1, sizes.path, craft.via.len() as u64)?;
+    check_range(alloc, line, "via", 1, sizes.path, craft.via.len() as u64)?;
     let onto = optional_arc(alloc, sizes, line, "onto", craft.onto)?;
     Ok(Move::Craft {
         arc,
@@ -138,20 +138,20 @@ fn parse_replay(
     Ok(Move::Replay { arc, lock, onto })
 }
 
-#[tactic(auto, unfolding(crate::specs::Moves::key_of))]
-fn key_of(
+#[tactic(auto, unfolding(crate::specs::Moves::checked_hashkey))]
+fn checked_hashkey(
     alloc: Global,
     sizes: Sizes,
     line: u32,
     path: PathList,
     key: &RawKey<'_>,
 ) -> Result<Hashkey, OfferFault>
-    ensures { Gives (λ k. k) result (key_of sizes line path key.now) }
+    ensures { Gives (λ k. k) result (checked_hashkey sizes line path key.now) }
 {
     let lock = bounded_number(alloc, line, "lock", sizes.locks, key.lock)?;
     let secret = parse_digest(alloc, line, "secret", key.secret.as_slice())?;
-    within(alloc, line, "path", 0, sizes.path, key.path.len() as u64)?;
-    within(alloc, line, "sigs", 0, sizes.path, key.sigs.len() as u64)?;
+    check_range(alloc, line, "path", 0, sizes.path, key.path.len() as u64)?;
+    check_range(alloc, line, "sigs", 0, sizes.path, key.sigs.len() as u64)?;
     let sigs = parse_sigs(alloc, line, key.sigs.as_slice())?;
     Ok(Hashkey {
         lock,
@@ -175,7 +175,7 @@ fn parse_unlock(
 {
     let path = path_numbers(alloc, line, names, key.path.as_slice())?;
     let arc = parse_arc(alloc, sizes, line, "arc", number)?;
-    let key = key_of(alloc, sizes, line, path, key)?;
+    let key = checked_hashkey(alloc, sizes, line, path, key)?;
     Ok(Move::Raw { arc, key })
 }
 

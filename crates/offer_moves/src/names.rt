@@ -2,7 +2,7 @@
 
 ghost use Rattle.std.specs.Prelude.{◌≤◌, length};
 ghost use Rattle.swap_base.specs.Fault.{Gives};
-ghost use Rattle.offer_fields.specs.Lists.{each_of};
+ghost use Rattle.offer_fields.specs.Lists.{collected_results};
 ghost use Rattle.offer_fields.specs.Names.{party_of_name};
 
 use offer_fields::{TextRef, party_of_name};
@@ -20,7 +20,7 @@ pub fn path_numbers(
     path: &[TextRef<'_>],
 ) -> Result<PathList, OfferFault>
     requires { length names.now ≤ 256 }
-    ensures { Gives (λ l. l) result (each_of (party_of_name line names.now) path.now) }
+    ensures { Gives (λ l. l) result (collected_results (party_of_name line names.now) path.now) }
 {
     let mut numbers = Vec::new(alloc);
     for name in path {

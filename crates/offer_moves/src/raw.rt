@@ -23,7 +23,8 @@ pub struct RawKey<'v> {
     pub sigs: Listed<TextRef<'v>>,
 }
 
-/// The lock of a craft, the parties that make its hashkey, and the arc of the hashkey that it goes onto.
+/// The lock of a craft, the parties that make its hashkey, and the arc of the hashkey that it goes
+/// onto.
 #[derive(Debug, Drop)]
 pub struct RawCraft<'v> {
     pub lock: u64,

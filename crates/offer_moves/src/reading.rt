@@ -4,13 +4,13 @@ ghost use Rattle.serde_json.specs.View.{view};
 ghost use Rattle.serde_json.specs.Find.{as_array};
 ghost use Rattle.swap_base.specs.Fault.{Gives};
 ghost use Rattle.offer_fields.specs.Fields.{only};
-ghost use Rattle.offer_moves.specs.Reading.{list_texts, optional_texts_at, texts_at, kind_of, kind_at, terms_at, publish_fields, publish_at, key_at};
-ghost use Rattle.offer_moves.specs.Reading.{raw_fields, raw_at, claim_at, refund_at, transfer_at, rest_at, move_at, crafting_at, craft_at, replay_at};
-ghost use Rattle.offer_moves.specs.Reading.{scripted_at, parse_wait, wait_at};
+ghost use Rattle.offer_moves.specs.Reading.{list_texts, optional_field_texts, field_texts, word_move_kind, move_kind, raw_publish_terms, publish_fields, raw_publish_move, raw_hashkey};
+ghost use Rattle.offer_moves.specs.Reading.{raw_fields, raw_unlock_move, raw_claim_move, raw_refund_move, raw_transfer_move, raw_move_of_kind, stated_raw_move, raw_crafting, raw_craft_move, raw_replay_move};
+ghost use Rattle.offer_moves.specs.Reading.{script_move, parse_wait, raw_wait_move};
 
 use crate::raw::{MoveKind, RawCraft, RawKey, RawMove, RawTerms};
 use offer_fields::{
-    Member, TextRef, allow_only, array_in, is_object, number_in, read_optional_number,
+    Member, TextRef, allow_only, field_array, is_object, read_number_field, read_optional_number,
     read_text_field, read_texts as members_in,
 };
 use refusals::{OfferFault, wrong_kind};
@@ -35,14 +35,14 @@ fn list_texts<'v>(
 }
 
 /// The texts of a list that may be absent.
-#[tactic(auto, unfolding(crate::specs::Reading::optional_texts_at))]
+#[tactic(auto, unfolding(crate::specs::Reading::optional_field_texts))]
 fn read_optional_texts<'v>(
     alloc: Global,
     line: u32,
     field: &str,
     object: &'v Value,
 ) -> Result<Option<Listed<TextRef<'v>>>, OfferFault>
-    ensures { Gives (λ x. x) result (optional_texts_at line field.now (view object.now)) }
+    ensures { Gives (λ x. x) result (optional_field_texts line field.now (view object.now)) }
 {
     match object.get(field) {
         None => Ok(None),
@@ -51,16 +51,16 @@ fn read_optional_texts<'v>(
 }
 
 /// The texts of a list.
-#[tactic(auto, unfolding(crate::specs::Reading::texts_at, offer_fields::specs::Fields::list_at))]
+#[tactic(auto, unfolding(crate::specs::Reading::field_texts, offer_fields::specs::Fields::field_list))]
 fn read_texts<'v>(
     alloc: Global,
     line: u32,
     field: &str,
     object: &'v Value,
 ) -> Result<Listed<TextRef<'v>>, OfferFault>
-    ensures { Gives (λ x. x) result (texts_at line field.now (view object.now)) }
+    ensures { Gives (λ x. x) result (field_texts line field.now (view object.now)) }
 {
-    let values = array_in(alloc, line, field, object)?;
+    let values = field_array(alloc, line, field, object)?;
     members_in(alloc, line, field, values)
 }
 
@@ -74,8 +74,13 @@ fn parse_wait(alloc: Global, line: u32, scripted: bool, word: &str) -> Result<Mo
     Err(wrong_kind(alloc, line, b"do"))
 }
 
-fn kind_of(alloc: Global, line: u32, scripted: bool, word: &str) -> Result<MoveKind, OfferFault>
-    ensures { Gives (λ k. k) result (kind_of line scripted word.now) }
+fn word_move_kind(
+    alloc: Global,
+    line: u32,
+    scripted: bool,
+    word: &str,
+) -> Result<MoveKind, OfferFault>
+    ensures { Gives (λ k. k) result (word_move_kind line scripted word.now) }
 {
     match word {
         "publish" => Ok(MoveKind::Publish),
@@ -89,22 +94,22 @@ fn kind_of(alloc: Global, line: u32, scripted: bool, word: &str) -> Result<MoveK
     }
 }
 
-#[tactic(auto, unfolding(crate::specs::Reading::kind_at))]
+#[tactic(auto, unfolding(crate::specs::Reading::move_kind))]
 fn read_kind(
     alloc: Global,
     line: u32,
     scripted: bool,
     object: &Value,
 ) -> Result<MoveKind, OfferFault>
-    ensures { Gives (λ k. k) result (kind_at line scripted (view object.now)) }
+    ensures { Gives (λ k. k) result (move_kind line scripted (view object.now)) }
 {
     let word = read_text_field(alloc, line, "do", object)?;
-    kind_of(alloc, line, scripted, word)
+    word_move_kind(alloc, line, scripted, word)
 }
 
-#[tactic(auto, unfolding(crate::specs::Reading::terms_at))]
+#[tactic(auto, unfolding(crate::specs::Reading::raw_publish_terms))]
 fn parse_terms<'v>(alloc: Global, line: u32, object: &'v Value) -> Result<RawTerms<'v>, OfferFault>
-    ensures { Gives (λ t. t) result (terms_at line (view object.now)) }
+    ensures { Gives (λ t. t) result (raw_publish_terms line (view object.now)) }
 {
     let start = read_optional_number(alloc, line, "start", object)?;
     let delta = read_optional_number(alloc, line, "delta", object)?;
@@ -131,68 +136,68 @@ fn only_publish(alloc: Global, line: u32, object: &Value) -> Result<(), OfferFau
     allow_only(alloc, line, &allowed, object)
 }
 
-#[tactic(auto, unfolding(crate::specs::Reading::publish_at))]
+#[tactic(auto, unfolding(crate::specs::Reading::raw_publish_move))]
 fn read_publish<'v>(
     alloc: Global,
     line: u32,
     arc: u64,
     object: &'v Value,
 ) -> Result<RawMove<'v>, OfferFault>
-    ensures { Gives (λ m. m) result (publish_at line arc (view object.now)) }
+    ensures { Gives (λ m. m) result (raw_publish_move line arc (view object.now)) }
 {
     let terms = parse_terms(alloc, line, object)?;
     only_publish(alloc, line, object)?;
     Ok(RawMove::Publish { arc, terms })
 }
 
-#[tactic(auto, unfolding(crate::specs::Reading::crafting_at))]
+#[tactic(auto, unfolding(crate::specs::Reading::raw_crafting))]
 fn read_crafting<'v>(
     alloc: Global,
     line: u32,
     object: &'v Value,
 ) -> Result<RawCraft<'v>, OfferFault>
-    ensures { Gives (λ k. k) result (crafting_at line (view object.now)) }
+    ensures { Gives (λ k. k) result (raw_crafting line (view object.now)) }
 {
-    let lock = number_in(alloc, line, "lock", object)?;
+    let lock = read_number_field(alloc, line, "lock", object)?;
     let via = read_texts(alloc, line, "via", object)?;
     let onto = read_optional_number(alloc, line, "onto", object)?;
     Ok(RawCraft { lock, via, onto })
 }
 
-#[tactic(auto, unfolding(crate::specs::Reading::craft_at))]
+#[tactic(auto, unfolding(crate::specs::Reading::raw_craft_move))]
 fn read_craft<'v>(
     alloc: Global,
     line: u32,
     arc: u64,
     object: &'v Value,
 ) -> Result<RawMove<'v>, OfferFault>
-    ensures { Gives (λ m. m) result (craft_at line arc (view object.now)) }
+    ensures { Gives (λ m. m) result (raw_craft_move line arc (view object.now)) }
 {
     let craft = read_crafting(alloc, line, object)?;
     allow_only(alloc, line, &["arc", "do", "lock", "onto", "via"], object)?;
     Ok(RawMove::Craft { arc, craft })
 }
 
-#[tactic(auto, unfolding(crate::specs::Reading::replay_at))]
+#[tactic(auto, unfolding(crate::specs::Reading::raw_replay_move))]
 fn read_replay<'v>(
     alloc: Global,
     line: u32,
     arc: u64,
     object: &'v Value,
 ) -> Result<RawMove<'v>, OfferFault>
-    ensures { Gives (λ m. m) result (replay_at line arc (view object.now)) }
+    ensures { Gives (λ m. m) result (raw_replay_move line arc (view object.now)) }
 {
-    let lock = number_in(alloc, line, "lock", object)?;
-    let onto = number_in(alloc, line, "onto", object)?;
+    let lock = read_number_field(alloc, line, "lock", object)?;
+    let onto = read_number_field(alloc, line, "onto", object)?;
     allow_only(alloc, line, &["arc", "do", "lock", "onto"], object)?;
     Ok(RawMove::Replay { arc, lock, onto })
 }
 
-#[tactic(auto, unfolding(crate::specs::Reading::key_at))]
-fn fetch_key<'v>(alloc: Global, line: u32, object: &'v Value) -> Result<RawKey<'v>, OfferFault>
-    ensures { Gives (λ k. k) result (key_at line (view object.now)) }
+#[tactic(auto, unfolding(crate::specs::Reading::raw_hashkey))]
+fn read_raw_key<'v>(alloc: Global, line: u32, object: &'v Value) -> Result<RawKey<'v>, OfferFault>
+    ensures { Gives (λ k. k) result (raw_hashkey line (view object.now)) }
 {
-    let lock = number_in(alloc, line, "lock", object)?;
+    let lock = read_number_field(alloc, line, "lock", object)?;
     let secret = read_text_field(alloc, line, "secret", object)?;
     let path = read_texts(alloc, line, "path", object)?;
     let sigs = read_texts(alloc, line, "sigs", object)?;
@@ -211,72 +216,72 @@ fn only_raw(alloc: Global, line: u32, object: &Value) -> Result<(), OfferFault>
     allow_only(alloc, line, &allowed, object)
 }
 
-#[tactic(auto, unfolding(crate::specs::Reading::raw_at))]
+#[tactic(auto, unfolding(crate::specs::Reading::raw_unlock_move))]
 fn parse_raw<'v>(
     alloc: Global,
     line: u32,
     arc: u64,
     object: &'v Value,
 ) -> Result<RawMove<'v>, OfferFault>
-    ensures { Gives (λ m. m) result (raw_at line arc (view object.now)) }
+    ensures { Gives (λ m. m) result (raw_unlock_move line arc (view object.now)) }
 {
-    let key = fetch_key(alloc, line, object)?;
+    let key = read_raw_key(alloc, line, object)?;
     only_raw(alloc, line, object)?;
     Ok(RawMove::Raw { arc, key })
 }
 
-#[tactic(auto, unfolding(crate::specs::Reading::claim_at))]
+#[tactic(auto, unfolding(crate::specs::Reading::raw_claim_move))]
 fn read_claim<'v>(
     alloc: Global,
     line: u32,
     arc: u64,
     object: &'v Value,
 ) -> Result<RawMove<'v>, OfferFault>
-    ensures { Gives (λ m. m) result (claim_at line arc (view object.now)) }
+    ensures { Gives (λ m. m) result (raw_claim_move line arc (view object.now)) }
 {
     allow_only(alloc, line, &["arc", "do"], object)?;
     Ok(RawMove::Claim { arc })
 }
 
-#[tactic(auto, unfolding(crate::specs::Reading::refund_at))]
+#[tactic(auto, unfolding(crate::specs::Reading::raw_refund_move))]
 fn read_refund<'v>(
     alloc: Global,
     line: u32,
     arc: u64,
     object: &'v Value,
 ) -> Result<RawMove<'v>, OfferFault>
-    ensures { Gives (λ m. m) result (refund_at line arc (view object.now)) }
+    ensures { Gives (λ m. m) result (raw_refund_move line arc (view object.now)) }
 {
     allow_only(alloc, line, &["arc", "do"], object)?;
     Ok(RawMove::Refund { arc })
 }
 
-#[tactic(auto, unfolding(crate::specs::Reading::transfer_at))]
+#[tactic(auto, unfolding(crate::specs::Reading::raw_transfer_move))]
 fn read_transfer<'v>(
     alloc: Global,
     line: u32,
     arc: u64,
     object: &'v Value,
 ) -> Result<RawMove<'v>, OfferFault>
-    ensures { Gives (λ m. m) result (transfer_at line arc (view object.now)) }
+    ensures { Gives (λ m. m) result (raw_transfer_move line arc (view object.now)) }
 {
     let to = read_text_field(alloc, line, "to", object)?;
-    let units = number_in(alloc, line, "units", object)?;
+    let units = read_number_field(alloc, line, "units", object)?;
     allow_only(alloc, line, &["arc", "do", "to", "units"], object)?;
     let to = TextRef::new(to.as_bytes());
     Ok(RawMove::Transfer { arc, to, units })
 }
 
-#[tactic(auto, unfolding(crate::specs::Reading::wait_at))]
+#[tactic(auto, unfolding(crate::specs::Reading::raw_wait_move))]
 fn read_wait<'v>(
     alloc: Global,
     line: u32,
     arc: u64,
     object: &'v Value,
 ) -> Result<RawMove<'v>, OfferFault>
-    ensures { Gives (λ m. m) result (wait_at line arc (view object.now)) }
+    ensures { Gives (λ m. m) result (raw_wait_move line arc (view object.now)) }
 {
-    let height = number_in(alloc, line, "height", object)?;
+    let height = read_number_field(alloc, line, "height", object)?;
     allow_only(alloc, line, &["arc", "do", "height"], object)?;
     Ok(RawMove::Wait { arc, height })
 }
@@ -289,7 +294,7 @@ fn read_rest<'v>(
     arc: u64,
     object: &'v Value,
 ) -> Result<RawMove<'v>, OfferFault>
-    ensures { Gives (λ m. m) result (rest_at line kind arc (view object.now)) }
+    ensures { Gives (λ m. m) result (raw_move_of_kind line kind arc (view object.now)) }
 {
     match kind {
         MoveKind::Publish => read_publish(alloc, line, arc, object),
@@ -304,25 +309,25 @@ fn read_rest<'v>(
 }
 
 /// The move that an object states; a wait is one in a script alone.
-#[tactic(auto, unfolding(crate::specs::Reading::move_at))]
+#[tactic(auto, unfolding(crate::specs::Reading::stated_raw_move))]
 pub fn read_move<'v>(
     alloc: Global,
     line: u32,
     scripted: bool,
     object: &'v Value,
 ) -> Result<RawMove<'v>, OfferFault>
-    ensures { Gives (λ m. m) result (move_at line scripted (view object.now)) }
+    ensures { Gives (λ m. m) result (stated_raw_move line scripted (view object.now)) }
 {
     let kind = read_kind(alloc, line, scripted, object)?;
-    let arc = number_in(alloc, line, "arc", object)?;
+    let arc = read_number_field(alloc, line, "arc", object)?;
     read_rest(alloc, line, kind, arc, object)
 }
 
 /// A move of a script.
 impl<'v> Member<'v, ()> for RawMove<'v> {
-    ghost said = { λ _. scripted_at };
+    ghost said = { λ _. script_move };
 
-    #[tactic(auto, unfolding(crate::specs::Reading::scripted_at))]
+    #[tactic(auto, unfolding(crate::specs::Reading::script_move))]
     fn read(
         alloc: Global,
         _context: (),

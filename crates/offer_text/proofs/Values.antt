@@ -31,7 +31,8 @@ pub put_is_first : (field : List ℕ) (d : Data) (ms : Members) → IsBelow fiel
 put_is_first field d no_members k = refl
 put_is_first field d (member other e ms) k = rw k refl
 
--- a field that stands before another one and those after it stands before them also where the other isn't there
+-- a field that stands before another one and those after it stands before them also where the other
+-- isn't there
 pub below_optional : {A : Type 0} (name field : List ℕ) (f : A → Data) (o : Option A) (ms : Members) → slice_cmp nat_cmp name field ≡ Less → IsBelow name ms
     → IsBelow name (with_optional field f o ms)
 below_optional name field f None ms first rest = rest

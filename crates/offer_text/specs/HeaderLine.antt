@@ -1,4 +1,5 @@
--- The header line that is written of a job: its JSON, the fields of each object in the order of their bytes.
+-- The header line that is written of a job: its JSON, the fields of each object in the order of
+-- their bytes.
 use Rattle.std.specs.Prelude.{◌≡◌, ℕ, List, [], Bool, true, false, codes, length, slice_index, slice_index_or, All, None, if◌then◌else◌}
 use Rattle.std.specs.Str.Lossy.{utf8_lossy}
 use Rattle.std.specs.List.{range_with_len}
@@ -67,7 +68,8 @@ shown_party job p =
     object (member (codes "actor") (string (word_of_conforming (slice_index_or job.conforming p false)))
     (member (codes "name") (name_data job.names p) no_members))
 
--- an actor as the moves that it stands for; a strategy's name as text, which leaves it as it is where it is text
+-- an actor as the moves that it stands for; a strategy's name as text, which leaves it as it is
+-- where it is text
 abbrev pub actor_data : List (List ℕ) → Role → Data
 actor_data names Conforming = string (codes "conforming")
 actor_data names Manual = string (codes "manual")
@@ -91,9 +93,9 @@ abbrev pub is_make : Purpose → Bool
 is_make Make = true
 is_make _ = false
 
-abbrev pub number_of : Version → ℕ
-number_of One = 1
-number_of Two = 2
+abbrev pub version_number : Version → ℕ
+version_number One = 1
+version_number Two = 2
 
 -- the fields that every header has last
 abbrev pub last_fields : Data → Data → Data → Deal → Members
@@ -102,7 +104,7 @@ last_fields leaders mode parties d =
     (member (codes "mode") mode
     (member (codes "parties") parties
     (member (codes "start") (number_data d.start)
-    (member (codes "swap") (number_data (number_of d.version)) no_members))))
+    (member (codes "swap") (number_data (version_number d.version)) no_members))))
 
 -- the keys stand with hashkeys alone
 abbrev pub fields_by_mode : Mode → List (List ℕ) → Data → Deal → Members

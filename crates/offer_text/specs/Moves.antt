@@ -15,7 +15,8 @@ signature_data sig = digest_data (joined sig)
 abbrev pub plain_move : List ℕ → ℕ → Data
 plain_move word arc = object (member (codes "arc") (number_data arc) (member (codes "do") (string word) no_members))
 
--- the fields of a publish, which states just the terms that were given: those before what is done, with what comes after it, and those after it
+-- the fields of a publish, which states just the terms that were given: those before what is done,
+-- with what comes after it, and those after it
 abbrev pub first_terms : Option ℕ → ℕ → Option ℕ → Option ℕ → Members → Members
 first_terms amount arc bound delta rest =
     with_optional (codes "amount") number_data amount

@@ -5,7 +5,7 @@ ghost use Rattle.serde_json.specs.Data.{member, string, no_members};
 ghost use Rattle.serde_json.specs.View.{view, members_view};
 ghost use Rattle.offer_text.specs.Words.{number_data, IsBelow};
 ghost use Rattle.offer_text.specs.HeaderLine.{first_fields, fields_by_mode, last_fields, leaders_data, finish_word, shown_header, made_header, header_data};
-ghost use Rattle.offer_text.specs.HeaderLine.{header_line, is_make, number_of, AreSayable, IsWritable};
+ghost use Rattle.offer_text.specs.HeaderLine.{header_line, is_make, version_number, AreSayable, IsWritable};
 
 use crate::deal::{arcs_value, leaders_value};
 use crate::fields::{put_first, put_number, put_text};
@@ -17,8 +17,8 @@ use swap_base::{ByteText, NoMemory};
 use swap_digraph::{Mode, Version};
 use swap_job::{Finish, Job, Purpose};
 
-fn number_of(version: Version) -> u64
-    ensures { result ≡ number_of version }
+fn version_number(version: Version) -> u64
+    ensures { result ≡ version_number version }
 {
     match version {
         Version::One => 1,
@@ -35,9 +35,9 @@ fn put_parties(
 ) -> Result<(), NoMemory>
     requires { members_view fields.old.entries ≡ no_members }
     ensures { OnOk result (members_view fields.new.entries ≡ member (codes "parties") (view parties)
-        (member (codes "start") (number_data job.now.deal.start) (member (codes "swap") (number_data (number_of job.now.deal.version)) no_members))) }
+        (member (codes "start") (number_data job.now.deal.start) (member (codes "swap") (number_data (version_number job.now.deal.version)) no_members))) }
 {
-    put_number(alloc, fields, "swap", number_of(job.deal.version))?;
+    put_number(alloc, fields, "swap", version_number(job.deal.version))?;
     put_number(alloc, fields, "start", job.deal.start as u64)?;
     put_first(alloc, fields, "parties", parties)
 }

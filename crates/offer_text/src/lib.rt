@@ -1,6 +1,7 @@
 //! The header line of a job: compact JSON, as `serde_json` writes it.
 //!
-//! Read `specs/HeaderLine.antt` first: the JSON of a header, field by field, and its line. `specs/Moves.antt` has that of a move.
+//! Read `specs/HeaderLine.antt` first: the JSON of a header, field by field, and its line.
+//! `specs/Moves.antt` has that of a move.
 #![tactic(auto)]
 
 mod deal;

@@ -11,7 +11,7 @@ use Rattle.ledger_core.specs.History.{height}
 use Rattle.ledger_core.specs.Book.{Histories, IsLegalBook}
 use Rattle.history_index.specs.Value.{IndexState}
 use Rattle.history_index.specs.Indexes.{all_entries}
-use Rattle.outcome_rules.specs.Indexed.{AreIndexesOf, IsIndexOf}
+use Rattle.outcome_rules.specs.Indexed.{AreBookIndexes, IsArcIndex}
 
 -- The indexes of the first n arcs.
 pub record AreFirst (d : Deal) (b : Histories) (n : ℕ) (known : List IndexState) : Type 0 where
@@ -26,7 +26,7 @@ one_more f g n old new x e k so_far =
     map_more f n (map g old) (map g new) (ap (map g) e ∙ map_push g old x ∙ ap (λ y. map g old ++ y ∷ []) k) so_far
 
 pub first_more : (d : Deal) (b : Histories) (n : ℕ) (old new : List IndexState) (x : IndexState) (h : List Entry) → n < length b → h ≡ get_or b n h
-    → IsIndexOf d n h x → new ≡ old ++ x ∷ [] → AreFirst d b n old → AreFirst d b (n + 1) new
+    → IsArcIndex d n h x → new ≡ old ++ x ∷ [] → AreFirst d b n old → AreFirst d b (n + 1) new
 first_more d b n old new x h lt is i e k = record {
   terms = one_more (stated_terms d) (λ z. z.terms) n old new x e i.arc.terms k.terms;
   from = one_more (party d) (λ z. z.from) n old new x e i.arc.from k.from;
@@ -37,7 +37,7 @@ first_more d b n old new x h lt is i e k = record {
       ∙ sym (take_more b n h lt);
 }
 
-pub first_all : (d : Deal) (b : Histories) (n : ℕ) (known : List IndexState) → IsLegalBook d b → n ≡ length b → AreFirst d b n known → AreIndexesOf d b known
+pub first_all : (d : Deal) (b : Histories) (n : ℕ) (known : List IndexState) → IsLegalBook d b → n ≡ length b → AreFirst d b n known → AreBookIndexes d b known
 first_all d b n known l e k =
     let m : n ≡ length d.graph.arcs = e ∙ l.one_each in
     record {

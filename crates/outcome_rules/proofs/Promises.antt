@@ -13,25 +13,25 @@ use Rattle.swap_rules.specs.Outcome.{outcome}
 use Rattle.swap_rules.specs.Laws.{names_party, FindsNothing, IsTransferred}
 use Rattle.swap_rules.specs.Walking.{endangers, strands}
 use Rattle.swap_rules.proofs.Found as found
-use Rattle.outcome_rules.specs.Report.{conforms_in, deal_outcomes}
+use Rattle.outcome_rules.specs.Report.{is_conforming_party, deal_outcomes}
 use Rattle.outcome_rules.specs.Promises.{AllAreConforming, AllHaveRefunds, NoneIsUnderwater}
 
 module _ (d : Deal) (conforming : List Bool) (b : Histories) (l : List Finding) (legal : IsLegalBook d b)
-    (exact : l ≡ findings d (conforms_in conforming) b) where
+    (exact : l ≡ findings d (is_conforming_party conforming) b) where
   pub none_is_underwater : IsAccepted d → NoneIsUnderwater d conforming (outcome d b) l
   none_is_underwater k v c none =
-      found.late_publish_is_safe d (conforms_in conforming) b v k legal c.party c.conforms (subst (λ l. list_any (endangers v) l ≡ false) exact c.clear)
+      found.late_publish_is_safe d (is_conforming_party conforming) b v k legal c.party c.conforms (subst (λ l. list_any (endangers v) l ≡ false) exact c.clear)
       (subst (λ l. list_any (names_party d v) l ≡ false) exact none)
 
   pub all_have_refunds : IsAccepted d → AllHaveRefunds d conforming b l
   all_have_refunds k v c =
-      found.late_unlock_has_refunds d (conforms_in conforming) b v k legal c.party c.conforms (subst (λ l. list_any (strands v) l ≡ false) exact c.clear)
+      found.late_unlock_has_refunds d (is_conforming_party conforming) b v k legal c.party c.conforms (subst (λ l. list_any (strands v) l ≡ false) exact c.clear)
 
   pub is_transferred : (k : IsAccepted d) → AllAreConforming d conforming → l ≡ [] → IsTransferred d b k
-  is_transferred k all none = found.without_findings_all_is_transferred d (conforms_in conforming) b k legal all (sym exact ∙ none)
+  is_transferred k all none = found.without_findings_all_is_transferred d (is_conforming_party conforming) b k legal all (sym exact ∙ none)
 
-  pub finds_nothing : l ≡ [] → FindsNothing d (conforms_in conforming) b
-  finds_nothing none = found.nothing_found d (conforms_in conforming) b legal (sym exact ∙ none)
+  pub finds_nothing : l ≡ [] → FindsNothing d (is_conforming_party conforming) b
+  finds_nothing none = found.nothing_found d (is_conforming_party conforming) b legal (sym exact ∙ none)
 
 module _ (d : Deal) (b : Histories) (shown : List Outcome) (exact : shown ≡ deal_outcomes d b) where
   outcome_shown : (v : ℕ) → v < d.graph.n → slice_index_or shown v Underwater ≡ outcome d b v

@@ -9,12 +9,12 @@ use Rattle.swap_rules.specs.declared.outcome.Outcome.TheVariants.{Underwater, De
 use Rattle.swap_rules.specs.Laws.{names_party, HasRefunds}
 use Rattle.swap_rules.specs.Walking.{endangers, strands}
 use Rattle.outcome_rules.specs.declared.report.Report.{Report}
-use Rattle.outcome_rules.specs.Report.{conforms_in}
+use Rattle.outcome_rules.specs.Report.{is_conforming_party}
 
 -- A conforming party of the deal, without a finding that passes the test.
 pub record IsClear (says : Finding → Bool) (d : Deal) (conforming : List Bool) (found : List Finding) (v : ℕ) : Type 0 where
   pub party : v < d.graph.n
-  pub conforms : conforms_in conforming v ≡ true
+  pub conforms : is_conforming_party conforming v ≡ true
   pub clear : list_any says found ≡ false
 
 -- A conforming party doesn't end underwater if no finding endangers it and none stands in its name
@@ -23,14 +23,14 @@ abbrev pub NoneIsUnderwater : Deal → List Bool → (ℕ → Outcome) → List 
 NoneIsUnderwater d conforming outcome_of found = (v : ℕ) → IsClear (endangers v) d conforming found v → list_any (names_party d v) found ≡ false
     → outcome_of v ≢ Underwater
 
--- every conforming party that no finding strands, forged or not, has the whole amount of each leaving arc that isn't triggered, however late it unlocked
--- or claimed
+-- every conforming party that no finding strands, forged or not, has the whole amount of each
+-- leaving arc that isn't triggered, however late it unlocked or claimed
 abbrev pub AllHaveRefunds : Deal → List Bool → Histories → List Finding → Type 0
 AllHaveRefunds d conforming b found = (v : ℕ) → IsClear (strands v) d conforming found v → HasRefunds d b v
 
 -- every party of the deal conforms
 abbrev pub AllAreConforming : Deal → List Bool → Type 0
-AllAreConforming d conforming = (v : ℕ) → v < d.graph.n → conforms_in conforming v ≡ true
+AllAreConforming d conforming = (v : ℕ) → v < d.graph.n → is_conforming_party conforming v ≡ true
 
 -- the outcome that the report shows of party v, the worst where it shows none
 abbrev pub shown_outcome : Report → ℕ → Outcome

@@ -15,8 +15,8 @@ abbrev pub has_ended : Deal → Histories → Bool
 has_ended d b = list_all (λ h. nat_lt (times.horizon d.start d.delta d.bound) (height h)) b
 
 -- whether party p conforms
-abbrev pub conforms_in : List Bool → ℕ → Bool
-conforms_in conforming p = slice_index_or conforming p false
+abbrev pub is_conforming_party : List Bool → ℕ → Bool
+is_conforming_party conforming p = slice_index_or conforming p false
 
 -- how each party ended
 abbrev pub deal_outcomes : Deal → Histories → List Outcome
@@ -24,4 +24,4 @@ deal_outcomes d b = map (outcome d b) (range_with_len 0 d.graph.n)
 
 -- the report of a book
 unfoldable pub build_report : Deal → List Bool → Histories → Report
-build_report d conforming b = record { ended = has_ended d b; outcomes = deal_outcomes d b; findings = findings d (conforms_in conforming) b }
+build_report d conforming b = record { ended = has_ended d b; outcomes = deal_outcomes d b; findings = findings d (is_conforming_party conforming) b }

@@ -4,7 +4,7 @@ ghost use Rattle.std.specs.Prelude.{◌≡◌, ◌<◌, length, IfOk};
 ghost use Rattle.swap_digraph.specs.Deal.{IsWellSized};
 ghost use Rattle.ledger_core.specs.History.{IsLegal};
 ghost use Rattle.ledger_core.specs.Book.{IsLegalBook};
-ghost use Rattle.outcome_rules.specs.Indexed.{AreIndexesOf, IsIndexOf};
+ghost use Rattle.outcome_rules.specs.Indexed.{AreBookIndexes, IsArcIndex};
 
 use history_index::{Index, Steps};
 use ledger_core::{Book, EntryList};
@@ -27,7 +27,7 @@ fn index_counted<L: Ledger>(
     requires sized { IsWellSized deal.now }
     requires arc { arc < length deal.now.graph.arcs }
     requires legal { IsLegal deal.now arc list.now }
-    ensures { IfOk result (λ i. IsIndexOf deal.now arc list.now i) }
+    ensures { IfOk result (λ i. IsArcIndex deal.now arc list.now i) }
 {
     let mut steps = Steps::<L>::new(blank);
     let mut index = Index::new(alloc, deal, arc)?;
@@ -40,7 +40,7 @@ fn build_index(alloc: Global, deal: &Deal, arc: ArcId, list: &EntryList) -> Resu
     requires sized { IsWellSized deal.now }
     requires arc { arc < length deal.now.graph.arcs }
     requires legal { IsLegal deal.now arc list.now }
-    ensures { IfOk result (λ i. IsIndexOf deal.now arc list.now i) }
+    ensures { IfOk result (λ i. IsArcIndex deal.now arc list.now i) }
 {
     index_counted::<Brand>(alloc, deal, arc, list, Blank::new(1))
 }
@@ -49,7 +49,7 @@ fn build_index(alloc: Global, deal: &Deal, arc: ArcId, list: &EntryList) -> Resu
 pub fn build_indexes(alloc: Global, deal: &Deal, book: &Book) -> Result<Vec<Index>, NoMemory>
     requires sized { IsWellSized deal.now }
     requires legal { IsLegalBook deal.now book.now.histories }
-    ensures { IfOk result (λ v. AreIndexesOf deal.now book.now.histories v.items) }
+    ensures { IfOk result (λ v. AreBookIndexes deal.now book.now.histories v.items) }
 {
     let mut known = Vec::new(alloc);
     for (arc, list) in book.histories.as_slice().iter().enumerate() {

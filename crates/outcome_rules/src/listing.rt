@@ -10,7 +10,7 @@ ghost use Rattle.swap_rules.specs.Outcome.{outcome};
 ghost use Rattle.swap_rules.specs.Laws.{FindsNothing, IsTransferred};
 ghost use Rattle.outcome_rules.specs.Parts.{arc_unfinished};
 ghost use Rattle.outcome_rules.specs.Promises.{AllAreConforming, AllHaveRefunds, NoneIsUnderwater};
-ghost use Rattle.outcome_rules.specs.Report.{conforms_in};
+ghost use Rattle.outcome_rules.specs.Report.{is_conforming_party};
 
 use crate::indexes::build_indexes;
 use conduct_check::{put_broken, put_forgeries};
@@ -61,7 +61,7 @@ fn put_party_findings(
     requires legal { IsLegalBook deal.now (all_entries known.now) }
     requires party { party < deal.now.graph.n }
     ensures { OnOk result (out.new.items ≡ out.old.items
-        ++ (if conforms_in conforming.now party then party_findings deal.now (all_entries known.now) party else [])) }
+        ++ (if is_conforming_party conforming.now party then party_findings deal.now (all_entries known.now) party else [])) }
 {
     if conforming.as_slice()[party as usize] {
         put_rule_findings(alloc, out, deal, known, party)?;
@@ -110,7 +110,8 @@ pub fn unfinished(alloc: Global, deal: &Deal, book: &Book) -> Result<Listed<Find
     Ok(Listed::new(list))
 }
 
-/// What is found of each conforming party, ascending, and then of the ledgers, read through one index per arc.
+/// What is found of each conforming party, ascending, and then of the ledgers, read through one
+/// index per arc.
 pub fn findings_indexed(
     alloc: Global,
     deal: &Deal,
@@ -121,12 +122,12 @@ pub fn findings_indexed(
     requires conforming { length conforming.now ≡ deal.now.graph.n }
     requires known { AreIndexes deal.now known.now }
     requires legal { IsLegalBook deal.now (all_entries known.now) }
-    ensures exact { IfOk result (λ l. l ≡ findings deal.now (conforms_in conforming.now) (all_entries known.now)) }
+    ensures exact { IfOk result (λ l. l ≡ findings deal.now (is_conforming_party conforming.now) (all_entries known.now)) }
     ensures safe { IfOk result (λ l. IsAccepted deal.now → NoneIsUnderwater deal.now conforming.now (outcome deal.now (all_entries known.now)) l) }
     ensures refunds { IfOk result (λ l. IsAccepted deal.now → AllHaveRefunds deal.now conforming.now (all_entries known.now) l) }
     ensures transfer { IfOk result (λ l. (k : IsAccepted deal.now) → AllAreConforming deal.now conforming.now → l ≡ []
         → IsTransferred deal.now (all_entries known.now) k) }
-    ensures nothing_found { IfOk result (λ l. l ≡ [] → FindsNothing deal.now (conforms_in conforming.now) (all_entries known.now)) }
+    ensures nothing_found { IfOk result (λ l. l ≡ [] → FindsNothing deal.now (is_conforming_party conforming.now) (all_entries known.now)) }
 {
     let mut list = Vec::new(alloc);
     for party in 0..deal.graph.n() {
@@ -148,12 +149,12 @@ pub fn findings(
     requires sized { IsWellSized deal.now }
     requires conforming { length conforming.now ≡ deal.now.graph.n }
     requires legal { IsLegalBook deal.now book.now.histories }
-    ensures exact { IfOk result (λ l. l ≡ findings deal.now (conforms_in conforming.now) book.now.histories) }
+    ensures exact { IfOk result (λ l. l ≡ findings deal.now (is_conforming_party conforming.now) book.now.histories) }
     ensures safe { IfOk result (λ l. IsAccepted deal.now → NoneIsUnderwater deal.now conforming.now (outcome deal.now book.now.histories) l) }
     ensures refunds { IfOk result (λ l. IsAccepted deal.now → AllHaveRefunds deal.now conforming.now book.now.histories l) }
     ensures transfer { IfOk result (λ l. (k : IsAccepted deal.now) → AllAreConforming deal.now conforming.now → l ≡ []
         → IsTransferred deal.now book.now.histories k) }
-    ensures nothing_found { IfOk result (λ l. l ≡ [] → FindsNothing deal.now (conforms_in conforming.now) book.now.histories) }
+    ensures nothing_found { IfOk result (λ l. l ≡ [] → FindsNothing deal.now (is_conforming_party conforming.now) book.now.histories) }
 {
     let known = build_indexes(alloc, deal, book)?;
     findings_indexed(alloc, deal, conforming, &known)

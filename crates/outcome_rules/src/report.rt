@@ -9,7 +9,7 @@ ghost use Rattle.history_index.specs.Indexes.{all_entries, AreIndexes};
 ghost use Rattle.swap_rules.specs.Accepted.{IsAccepted};
 ghost use Rattle.swap_rules.specs.Laws.{FindsNothing, IsTransferred};
 ghost use Rattle.outcome_rules.specs.Promises.{AllAreConforming, AllAreWhole, AllHaveRefunds, NoneIsUnderwater, shown_outcome};
-ghost use Rattle.outcome_rules.specs.Report.{conforms_in, has_ended, deal_outcomes, build_report};
+ghost use Rattle.outcome_rules.specs.Report.{is_conforming_party, has_ended, deal_outcomes, build_report};
 
 use crate::ending::outcome;
 use crate::indexes::build_indexes;
@@ -78,7 +78,7 @@ fn report_indexed(
     ensures transfer { IfOk result (λ r. (k : IsAccepted deal.now) → AllAreConforming deal.now conforming.now → r.findings ≡ []
         → IsTransferred deal.now (all_entries known.now) k) }
     ensures whole { IfOk result (λ r. IsAccepted deal.now → AllAreConforming deal.now conforming.now → r.findings ≡ [] → AllAreWhole deal.now r) }
-    ensures nothing_found { IfOk result (λ r. r.findings ≡ [] → FindsNothing deal.now (conforms_in conforming.now) (all_entries known.now)) }
+    ensures nothing_found { IfOk result (λ r. r.findings ≡ [] → FindsNothing deal.now (is_conforming_party conforming.now) (all_entries known.now)) }
 {
     Ok(Report {
         ended: has_ended(deal, known),
@@ -87,7 +87,8 @@ fn report_indexed(
     })
 }
 
-/// The report of a book. Findings are those of the parties that conform, and of ledgers that aren't above the horizon.
+/// The report of a book. Findings are those of the parties that conform, and of ledgers that aren't
+/// above the horizon.
 pub fn build_report(
     alloc: Global,
     deal: &Deal,
@@ -103,7 +104,7 @@ pub fn build_report(
     ensures transfer { IfOk result (λ r. (k : IsAccepted deal.now) → AllAreConforming deal.now conforming.now → r.findings ≡ []
         → IsTransferred deal.now book.now.histories k) }
     ensures whole { IfOk result (λ r. IsAccepted deal.now → AllAreConforming deal.now conforming.now → r.findings ≡ [] → AllAreWhole deal.now r) }
-    ensures nothing_found { IfOk result (λ r. r.findings ≡ [] → FindsNothing deal.now (conforms_in conforming.now) book.now.histories) }
+    ensures nothing_found { IfOk result (λ r. r.findings ≡ [] → FindsNothing deal.now (is_conforming_party conforming.now) book.now.histories) }
 {
     let known = build_indexes(alloc, deal, book)?;
     report_indexed(alloc, deal, conforming, &known)

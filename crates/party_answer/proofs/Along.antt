@@ -1,7 +1,7 @@
 -- Along calls.
 use Rattle.std.proofs.Common.{◌≡◌, ℕ, ◌+◌, ◌<◌, Bool, true, false, cond, not, List, [], ◌∷◌, ◌++◌, drop, length, get_or, refl, sym, ap, ◌∙◌, add-one, drop-cons, append_assoc}
 use Rattle.std.proofs.Common.{subst}
-use Rattle.swap_base.specs.Lists.{IsIn}
+use Rattle.swap_base.specs.Lists.{IsElement}
 use Rattle.swap_base.proofs.Lists.{from_filter, in_map, in_place}
 use Rattle.swap_digraph.specs.declared.deal.Deal.{Deal}
 use Rattle.swap_rules.specs.Due.{Action}
@@ -29,10 +29,10 @@ module _ (stops : ℕ → Bool) where
       ∙ ap (λ (ys : List Action). ys ++ unstopped stops (actions (drop (i + 1) xs))) (sym added))))
 
   pub unstopped_measured : (d : Deal) (xs ys : List Action) → ys ≡ unstopped stops xs → AreMeasured d xs → AreMeasured d ys
-  unstopped_measured d xs ys e m x i = m x (from_filter (λ y. not (is_stopped stops y.call)) x xs (subst (IsIn x) e i)).0
+  unstopped_measured d xs ys e m x i = m x (from_filter (λ y. not (is_stopped stops y.call)) x xs (subst (IsElement x) e i)).0
 
 -- ---- each is on an arc, and its path is short
 
 pub measured_here : (d : Deal) (xs : List DueCall) (i : ℕ) (x : DueCall) → AreMeasured d (actions xs) → i < length xs → x ≡ get_or xs i x
     → (x.arc < length d.graph.arcs) × IsShort x.call
-measured_here d xs i x m lt is = m (due_action x) (in_map due_action xs x (subst (λ (y : DueCall). IsIn y xs) (sym is) (in_place xs i x lt)))
+measured_here d xs i x m lt is = m (due_action x) (in_map due_action xs x (subst (λ (y : DueCall). IsElement y xs) (sym is) (in_place xs i x lt)))

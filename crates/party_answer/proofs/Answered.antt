@@ -2,7 +2,7 @@
 use Rattle.std.proofs.Common.{◌≡◌, ◌⊎◌, ℕ, ◌<◌, ◌≤◌, ◌+◌, ◌&&◌, not, length, Bool, true, false, List, [], ◌++◌, Option, Some, Result, Ok, refl, sym, ap, ◌∙◌}
 use Rattle.std.proofs.Common.{subst, inl, inr, arith}
 use Rattle.std.proofs.lemmas.Bool.{false≢true}
-use Rattle.swap_base.specs.Lists.{IsIn}
+use Rattle.swap_base.specs.Lists.{IsElement}
 use Rattle.swap_base.proofs.Lists.{from_filter, in_filter, in_map}
 use Rattle.swap_digraph.specs.declared.deal.Deal.{Deal}
 use Rattle.swap_digraph.specs.declared.deal.Mode.{Mode}
@@ -27,7 +27,7 @@ use Rattle.told_books.proofs.Enough.{same_useful}
 use Rattle.party_wallet.specs.Keys.{own_key, onto_key}
 use Rattle.party_machine.specs.Wallet.{seed_wallet}
 use Rattle.answer_rules.specs.Heights.{HasHeight}
-use Rattle.answer_rules.specs.Finished.{are_finished, ContinuesWithout}
+use Rattle.answer_rules.specs.Finished.{are_finished, ContinuesWithoutParty}
 use Rattle.answer_rules.specs.Stopped.{is_stopped}
 use Rattle.answer_rules.specs.Laws.{AreGoodKeys, SignsItsLock}
 use Rattle.answer_rules.proofs.OnTime.{useful_has_height}
@@ -41,8 +41,8 @@ use Rattle.party_answer.specs.declared.reason.AnswerReason.{AnswerReason}
 use Rattle.party_answer.specs.Asked.{Question, known}
 use Rattle.party_answer.specs.Unkept.{is_lock_unkept}
 use Rattle.party_answer.specs.Lines.{untimed, Line, Present, KeepFirst, Landing}
-use Rattle.party_answer.specs.Text.{answerable, answered, answered_calls, due_text, kept_keys, lines, own_wallet, question_answer, unkept, useful_by, was_published}
-use Rattle.party_answer.specs.Promised.{MayBeMade, MayBeKept, CanOnlyHurt, IsLockUnkept, IsLeftOut, IsAtRest, IsUntil, own_timed, IsAnswerTo}
+use Rattle.party_answer.specs.Text.{answerable, answered, answered_calls, due_text, kept_keys, lines, own_wallet, question_answer, unkept, useful_actions, was_published}
+use Rattle.party_answer.specs.Promised.{MayBeMade, MayBeKept, CanOnlyHurt, IsLockUnkept, IsLeftOut, IsAtRest, HasLastHeight, own_timed, IsPromisedAnswer}
 use Rattle.party_answer.proofs.Members.{from_map, Parts, ToPresent, ToKeep, ToLand, parts, from_lines, to_present, to_keep, never_empty}
 
 -- A seed signs for the lock that it is asked for.
@@ -86,26 +86,26 @@ module _ (q : Question) (sound : IsSound q) where
   signs = seed_signs q.deal q.me q.seed
 
   -- a call of the answer is useful, and isn't stopped
-  from_answered : (x : Action) → IsIn x (answered q) → IsIn x (useful_by q (known q)) × (is_stopped (is_lock_unkept (unkept q)) x.call ≡ false)
+  from_answered : (x : Action) → IsElement x (answered q) → IsElement x (useful_actions q (known q)) × (is_stopped (is_lock_unkept (unkept q)) x.call ≡ false)
   from_answered x i =
-      let f = from_filter (λ y. not (is_stopped (is_lock_unkept (unkept q)) y.call)) x (useful_by q (known q)) i in
+      let f = from_filter (λ y. not (is_stopped (is_lock_unkept (unkept q)) y.call)) x (useful_actions q (known q)) i in
       (f.0, not_true (is_stopped (is_lock_unkept (unkept q)) x.call) f.1)
 
-  to_answered : (x : Action) → IsIn x (useful_by q (known q)) → is_stopped (is_lock_unkept (unkept q)) x.call ≡ false → IsIn x (answered q)
-  to_answered x i s = in_filter (λ y. not (is_stopped (is_lock_unkept (unkept q)) y.call)) x (useful_by q (known q)) i (ap not s)
+  to_answered : (x : Action) → IsElement x (useful_actions q (known q)) → is_stopped (is_lock_unkept (unkept q)) x.call ≡ false → IsElement x (answered q)
+  to_answered x i s = in_filter (λ y. not (is_stopped (is_lock_unkept (unkept q)) y.call)) x (useful_actions q (known q)) i (ap not s)
 
   -- with its heights
-  from_calls : (t : Timed) → IsIn t (answered_calls q) → (x : Action) × IsIn x (answered q) × (own_timed q x ≡ t)
+  from_calls : (t : Timed) → IsElement t (answered_calls q) → (x : Action) × IsElement x (answered q) × (own_timed q x ≡ t)
   from_calls t i = from_map (own_timed q) (answered q) t i
 
-  to_calls : (x : Action) → IsIn x (answered q) → IsIn (own_timed q x) (answered_calls q)
+  to_calls : (x : Action) → IsElement x (answered q) → IsElement (own_timed q x) (answered_calls q)
   to_calls x i = in_map (own_timed q) (answered q) x i
 
-  useful_call : (t : Timed) → IsIn t (answered_calls q) → IsIn (untimed t) (useful_by q (known q))
+  useful_call : (t : Timed) → IsElement t (answered_calls q) → IsElement (untimed t) (useful_actions q (known q))
   useful_call t i =
-      let f = from_calls t i in subst (λ (y : Timed). IsIn (untimed y) (useful_by q (known q))) f.2 (from_answered f.0 f.1).0
+      let f = from_calls t i in subst (λ (y : Timed). IsElement (untimed y) (useful_actions q (known q))) f.2 (from_answered f.0 f.1).0
 
-  due_call : (t : Timed) → IsIn t (answered_calls q) → IsIn (untimed t) (due q.deal q.me (own_wallet q) (kept_keys q) (known q))
+  due_call : (t : Timed) → IsElement t (answered_calls q) → IsElement (untimed t) (due q.deal q.me (own_wallet q) (kept_keys q) (known q))
   due_call t i = useful_is_due q.deal q.me (own_wallet q) (kept_keys q) (known q) (untimed t) (useful_call t i)
 
   -- ---- line by line
@@ -113,15 +113,15 @@ module _ (q : Question) (sound : IsSound q) where
   -- a line with what it says of its call
   pub record Said (y : Line) : Type 0 where
     pub call : Timed
-    pub within : IsIn call (answered_calls q)
+    pub within : IsElement call (answered_calls q)
     pub says : Parts (kept_keys q) (was_published q) call y
 
-  said : (y : Line) → IsIn y (lines q) → Said y
+  said : (y : Line) → IsElement y (lines q) → Said y
   said y i =
       let f = from_lines (kept_keys q) (was_published q) (answered_calls q) y i in
       record { call = f.0; within = f.1; says = subst (Parts (kept_keys q) (was_published q) f.0) f.2 (parts (kept_keys q) (was_published q) f.0) }
 
-  may_be_made : (t u : Timed) (y : Line) → IsIn u (answered_calls q) → Parts (kept_keys q) (was_published q) u y → y ≡ Present t → MayBeMade q (untimed t)
+  may_be_made : (t u : Timed) (y : Line) → IsElement u (answered_calls q) → Parts (kept_keys q) (was_published q) u y → y ≡ Present t → MayBeMade q (untimed t)
   may_be_made t u y i (ToPresent s k) e =
       let same : u ≡ t = cc e in
       subst (λ (z : Timed). MayBeMade q (untimed z)) same (record { is_due = due_call u i; was_kept = k })
@@ -134,14 +134,14 @@ module _ (q : Question) (sound : IsSound q) where
   sent_once t u y (ToKeep key s k c) e = absurd (cc e)
   sent_once t u y (ToLand s) e = absurd (cc e)
 
-  is_helpful : (t u : Timed) (y : Line) → IsIn u (answered_calls q) → Parts (kept_keys q) (was_published q) u y → y ≡ Present t
-      → IsIn (untimed t) (useful_by q (known q))
+  is_helpful : (t u : Timed) (y : Line) → IsElement u (answered_calls q) → Parts (kept_keys q) (was_published q) u y → y ≡ Present t
+      → IsElement (untimed t) (useful_actions q (known q))
   is_helpful t u y i (ToPresent s k) e =
-      let same : u ≡ t = cc e in subst (λ (z : Timed). IsIn (untimed z) (useful_by q (known q))) same (useful_call u i)
+      let same : u ≡ t = cc e in subst (λ (z : Timed). IsElement (untimed z) (useful_actions q (known q))) same (useful_call u i)
   is_helpful t u y i (ToKeep key s k c) e = absurd (cc e)
   is_helpful t u y i (ToLand s) e = absurd (cc e)
 
-  may_be_kept : (t u : Timed) (key : Hashkey) (y : Line) → IsIn u (answered_calls q) → Parts (kept_keys q) (was_published q) u y → y ≡ KeepFirst t key
+  may_be_kept : (t u : Timed) (key : Hashkey) (y : Line) → IsElement u (answered_calls q) → Parts (kept_keys q) (was_published q) u y → y ≡ KeepFirst t key
       → MayBeKept q key
   may_be_kept t u key y i (ToPresent s k) e = absurd (cc e)
   may_be_kept t u key y i (ToLand s) e = absurd (cc e)
@@ -153,44 +153,44 @@ module _ (q : Question) (sound : IsSound q) where
         asks = ap (λ (b : Bool). make_if b (untimed u)) k ∙ ap kept_note c;
       })
 
-  lands : (a : ℕ) (u : Timed) (y : Line) → IsIn u (answered_calls q) → Parts (kept_keys q) (was_published q) u y → y ≡ Landing a
-      → (x : Action) × IsIn x (useful_by q (known q)) × (was_sent (was_published q) x ≡ true) × (x.arc ≡ a)
+  lands : (a : ℕ) (u : Timed) (y : Line) → IsElement u (answered_calls q) → Parts (kept_keys q) (was_published q) u y → y ≡ Landing a
+      → (x : Action) × IsElement x (useful_actions q (known q)) × (was_sent (was_published q) x ≡ true) × (x.arc ≡ a)
   lands a u y i (ToPresent s k) e = absurd (cc e)
   lands a u y i (ToKeep key s k c) e = absurd (cc e)
   lands a u y i (ToLand s) e = let same : u.arc ≡ a = cc e in (untimed u, useful_call u i, s, same)
 
   -- ---- nothing is left out
 
-  stopped_or : (x : Action) → IsIn x (useful_by q (known q)) → (b : Bool) → is_stopped (is_lock_unkept (unkept q)) x.call ≡ b
-      → IsIn x (answered q) ⊎ IsLockUnkept q x
+  stopped_or : (x : Action) → IsElement x (useful_actions q (known q)) → (b : Bool) → is_stopped (is_lock_unkept (unkept q)) x.call ≡ b
+      → IsElement x (answered q) ⊎ IsLockUnkept q x
   stopped_or x i true e = inr e
   stopped_or x i false e = inl (to_answered x i e)
 
-  answered_or : (x : Action) → IsIn x (due q.deal q.me (own_wallet q) (kept_keys q) (known q)) → IsIn x (answered q) ⊎ IsLeftOut q x
+  answered_or : (x : Action) → IsElement x (due q.deal q.me (own_wallet q) (kept_keys q) (known q)) → IsElement x (answered q) ⊎ IsLeftOut q x
   answered_or x i = go (only_harm_is_left_out q.deal q.me (own_wallet q) (kept_keys q) (known q) x i)
     where
-      by_stop : IsIn x (answered q) ⊎ IsLockUnkept q x → IsIn x (answered q) ⊎ IsLeftOut q x
+      by_stop : IsElement x (answered q) ⊎ IsLockUnkept q x → IsElement x (answered q) ⊎ IsLeftOut q x
       by_stop (inl j) = inl j
       by_stop (inr s) = inr (inr s)
 
-      go : IsIn x (useful_by q (known q)) ⊎ CanOnlyHurt q x → IsIn x (answered q) ⊎ IsLeftOut q x
+      go : IsElement x (useful_actions q (known q)) ⊎ CanOnlyHurt q x → IsElement x (answered q) ⊎ IsLeftOut q x
       go (inl j) = by_stop (stopped_or x j (is_stopped (is_lock_unkept (unkept q)) x.call) refl)
       go (inr harm) = inr (inl harm)
 
-  all_made : (x : Action) → MayBeMade q x → was_sent (was_published q) x ≡ false → IsIn (Present (own_timed q x)) (lines q) ⊎ IsLeftOut q x
+  all_made : (x : Action) → MayBeMade q x → was_sent (was_published q) x ≡ false → IsElement (Present (own_timed q x)) (lines q) ⊎ IsLeftOut q x
   all_made x may s = go (answered_or x (MayGo.is_due may))
     where
-      go : IsIn x (answered q) ⊎ IsLeftOut q x → IsIn (Present (own_timed q x)) (lines q) ⊎ IsLeftOut q x
+      go : IsElement x (answered q) ⊎ IsLeftOut q x → IsElement (Present (own_timed q x)) (lines q) ⊎ IsLeftOut q x
       go (inr out) = inr out
       go (inl i) =
           inl (to_present (kept_keys q) (was_published q) (answered_calls q) (own_timed q x) (to_calls x i) s (MayGo.was_kept may))
 
   each_kept : (key : Hashkey) (may : MayBeKept q key)
-      → ((t : Timed) × (other : Hashkey) × IsIn (KeepFirst t other) (lines q) × (other.lock ≡ key.lock)) ⊎ IsLeftOut q (MayKeep.unlock may)
+      → ((t : Timed) × (other : Hashkey) × IsElement (KeepFirst t other) (lines q) × (other.lock ≡ key.lock)) ⊎ IsLeftOut q (MayKeep.unlock may)
   each_kept key may = go (answered_or (MayKeep.unlock may) (MayKeep.is_due may))
     where
-      go : IsIn (MayKeep.unlock may) (answered q) ⊎ IsLeftOut q (MayKeep.unlock may)
-          → ((t : Timed) × (other : Hashkey) × IsIn (KeepFirst t other) (lines q) × (other.lock ≡ key.lock)) ⊎ IsLeftOut q (MayKeep.unlock may)
+      go : IsElement (MayKeep.unlock may) (answered q) ⊎ IsLeftOut q (MayKeep.unlock may)
+          → ((t : Timed) × (other : Hashkey) × IsElement (KeepFirst t other) (lines q) × (other.lock ≡ key.lock)) ⊎ IsLeftOut q (MayKeep.unlock may)
       go (inr out) = inr out
       go (inl i) =
           let unlock = kept_state (kept_keys q) (MayKeep.unlock may) key (MayKeep.asks may) in
@@ -201,30 +201,30 @@ module _ (q : Question) (sound : IsSound q) where
 
   -- ---- heights
 
-  has_height : (t : Timed) → IsIn t (answered_calls q) → HasHeight q.deal (known q) q.me (kept_keys q) (untimed t) t.last
+  has_height : (t : Timed) → IsElement t (answered_calls q) → HasHeight q.deal (known q) q.me (kept_keys q) (untimed t) t.last
   has_height t i =
       let f = from_calls t i in
       subst (λ (z : Timed). HasHeight q.deal (known q) q.me (kept_keys q) (untimed z) z.last) f.2
       (useful_has_height q.deal q.me (own_wallet q) (kept_keys q) (known q) f.0 sound.legal signs sound.good (from_answered f.0 f.1).0)
 
-  is_until : (t : Timed) (key : Hashkey) → IsIn t (answered_calls q) → t.call ≡ Unlock key → IsUntil q t key
+  is_until : (t : Timed) (key : Hashkey) → IsElement t (answered_calls q) → t.call ≡ Unlock key → HasLastHeight q t key
   is_until t key i c =
       let f = from_calls t i in
-      subst (λ (z : Timed). IsUntil q z key) f.2
+      subst (λ (z : Timed). HasLastHeight q z key) f.2
       (unlocks_have_last q.deal q.me (own_wallet q) (kept_keys q) (known q) f.0 key sound.legal sound.wallet signs sound.good (from_answered f.0 f.1).0
       (ap (λ (z : Timed). z.call) f.2 ∙ c))
 
   -- ---- rest
 
-  stays_done : (h : Histories) → answered q ≡ [] → are_finished q.deal (known q) q.me ≡ true → IsLegalBook q.deal h → ContinuesWithout q.me (known q) h
+  stays_done : (h : Histories) → answered q ≡ [] → are_finished q.deal (known q) q.me ≡ true → IsLegalBook q.deal h → ContinuesWithoutParty q.me (known q) h
       → answerable q h ≡ []
   stays_done h none fin legal on = nothing_in (answerable q h) (λ x i.
-      let f = from_filter (λ y. not (is_stopped (is_lock_unkept (unkept q)) y.call)) x (useful_by q h) i in
+      let f = from_filter (λ y. not (is_stopped (is_lock_unkept (unkept q)) y.call)) x (useful_actions q h) i in
       let before =
       finished_stays q.deal q.me (own_wallet q) (kept_keys q) (known q) h x sound.accepted sound.legal legal fin on f.0 in
-      subst (IsIn x) none (to_answered x before (not_true (is_stopped (is_lock_unkept (unkept q)) x.call) f.1)))
+      subst (IsElement x) none (to_answered x before (not_true (is_stopped (is_lock_unkept (unkept q)) x.call) f.1)))
 
-  pub holds : (asks : Result Question AnswerReason) (a : Answer) → asks ≡ Ok q → a ≡ question_answer q → IsAnswerTo asks a
+  pub holds : (asks : Result Question AnswerReason) (a : Answer) → asks ≡ Ok q → a ≡ question_answer q → IsPromisedAnswer asks a
   unfolding due_text
   holds asks a e is = record {
     question = q;

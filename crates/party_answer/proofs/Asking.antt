@@ -6,7 +6,7 @@ use Rattle.std.specs.Str.{bytes_eq}
 use Rattle.swap_base.specs.declared.fault.Fault.{Fault}
 use Rattle.swap_base.specs.declared.fault.Fault.TheVariants as faults
 use Rattle.swap_base.specs.Fault.{◌>>=◌, Gives, Fails}
-use Rattle.swap_base.specs.Lists.{IsIn}
+use Rattle.swap_base.specs.Lists.{IsElement}
 use Rattle.swap_digraph.specs.declared.deal.Deal.{Deal}
 use Rattle.swap_digraph.specs.Deal.{IsWellSized}
 use Rattle.swap_rules.specs.Accepted.{IsAccepted}
@@ -15,7 +15,7 @@ use Rattle.swap_rules.specs.Due.{Action}
 use Rattle.swap_rules.specs.Useful.{useful}
 use Rattle.swap_rules.proofs.Words.{bytes_eq-true}
 use Rattle.refusals.specs.declared.refusal.Refusal.{Refusal}
-use Rattle.party_wallet.specs.Value.{signed_in}
+use Rattle.party_wallet.specs.Value.{signed_hashkey}
 use Rattle.party_wallet.specs.Fits.{wrong_lock}
 use Rattle.party_machine.specs.Wallet.{seed_wallet}
 use Rattle.party_machine.proofs.Good.{fitting_is_good}
@@ -35,7 +35,7 @@ use Rattle.party_answer.specs.Inside.{asked_question, calls_text, AreMeasured, I
 use Rattle.party_answer.specs.Unkept.{is_lock_unkept}
 use Rattle.party_answer.specs.Lines.{timed}
 use Rattle.party_answer.specs.Text.{answer_told, answered_calls, bad_lines, due_text, question_answer, said_answer, unkept, unkept_text, warning_text, warns}
-use Rattle.party_answer.specs.Promised.{IsAnswerTo, NeedsAgreement}
+use Rattle.party_answer.specs.Promised.{IsPromisedAnswer, NeedsAgreement}
 use Rattle.party_lines.specs.Lines.{ended_lines}
 use Rattle.party_answer.proofs.Answered.{IsSound, holds, seed_signs}
 use Rattle.party_answer.proofs.Faults.{fails_by_refusal}
@@ -52,7 +52,7 @@ sound seed a is = record {
 }
 
 pub is_asked : (seed : List ℕ) (d : Deal) (a : Asked) → a.deal ≡ d → IsAccepted d → IsWellSized d → a.me < d.graph.n → wrong_lock d a.me seed ≡ None
-    → IsLegalBook a.deal (told_book a.ledgers) → length a.kept.signed.keys ≡ length d.leaders → AreGoodKeys d a.me (signed_in a.kept.signed.keys)
+    → IsLegalBook a.deal (told_book a.ledgers) → length a.kept.signed.keys ≡ length d.leaders → AreGoodKeys d a.me (signed_hashkey a.kept.signed.keys)
     → IsAsked seed a
 is_asked seed d a e accepted sized me fits legal places good = record {
   accepted = subst IsAccepted (sym e) accepted;
@@ -61,28 +61,28 @@ is_asked seed d a e accepted sized me fits legal places good = record {
   fits = subst (λ (x : Deal). wrong_lock x a.me seed ≡ None) (sym e) fits;
   legal = legal;
   places = subst (λ (x : Deal). length a.kept.signed.keys ≡ length x.leaders) (sym e) places;
-  good = subst (λ (x : Deal). AreGoodKeys x a.me (signed_in a.kept.signed.keys)) (sym e) good;
+  good = subst (λ (x : Deal). AreGoodKeys x a.me (signed_hashkey a.kept.signed.keys)) (sym e) good;
 }
 
 -- what is useful is on arcs of the deal
 pub measured : (seed : List ℕ) (a : Asked) (k : Histories) (xs : List Action) → IsAsked seed a → k ≡ told_book a.ledgers
-    → xs ≡ useful a.deal a.me (seed_wallet seed a.me a.deal) (signed_in a.kept.signed.keys) k → AreMeasured a.deal xs
+    → xs ≡ useful a.deal a.me (seed_wallet seed a.me a.deal) (signed_hashkey a.kept.signed.keys) k → AreMeasured a.deal xs
 measured seed a k xs is e f x i =
     let s = sound seed a is in
-    useful_is_short a.deal a.me (seed_wallet seed a.me a.deal) (signed_in a.kept.signed.keys) (told_book a.ledgers) is.accepted is.legal s.wallet
+    useful_is_short a.deal a.me (seed_wallet seed a.me a.deal) (signed_hashkey a.kept.signed.keys) (told_book a.ledgers) is.accepted is.legal s.wallet
     (seed_signs a.deal a.me seed) is.good x
-    (subst (λ b. IsIn x (useful a.deal a.me (seed_wallet seed a.me a.deal) (signed_in a.kept.signed.keys) b)) e (subst (IsIn x) f i))
+    (subst (λ b. IsElement x (useful a.deal a.me (seed_wallet seed a.me a.deal) (signed_hashkey a.kept.signed.keys) b)) e (subst (IsElement x) f i))
 
 -- ---- what is answered
 
 pub calls_given : (seed : List ℕ) (a : Asked) (k : Histories) (xs : List Action) (us : List Unkept) (ts : List Timed) → k ≡ told_book a.ledgers
-    → xs ≡ useful a.deal a.me (seed_wallet seed a.me a.deal) (signed_in a.kept.signed.keys) k → us ≡ unkept (asked_question seed a)
+    → xs ≡ useful a.deal a.me (seed_wallet seed a.me a.deal) (signed_hashkey a.kept.signed.keys) k → us ≡ unkept (asked_question seed a)
     → ts ≡ map (timed a.deal k a.me) (unstopped (is_lock_unkept us) xs) → ts ≡ answered_calls (asked_question seed a)
 calls_given seed a k xs us ts e f g h =
     h ∙ (ap (λ ys. map (timed a.deal k a.me) (unstopped (is_lock_unkept us) ys)) f
-    ∙ (ap (λ b. map (timed a.deal b a.me) (unstopped (is_lock_unkept us) (useful a.deal a.me (seed_wallet seed a.me a.deal) (signed_in a.kept.signed.keys) b))) e
+    ∙ (ap (λ b. map (timed a.deal b a.me) (unstopped (is_lock_unkept us) (useful a.deal a.me (seed_wallet seed a.me a.deal) (signed_hashkey a.kept.signed.keys) b))) e
     ∙ ap (λ z. map (timed a.deal (told_book a.ledgers) a.me) (unstopped (is_lock_unkept z)
-    (useful a.deal a.me (seed_wallet seed a.me a.deal) (signed_in a.kept.signed.keys) (told_book a.ledgers)))) g))
+    (useful a.deal a.me (seed_wallet seed a.me a.deal) (signed_hashkey a.kept.signed.keys) (told_book a.ledgers)))) g))
 
 pub text_given : (seed : List ℕ) (a : Asked) (k : Histories) (us : List Unkept) (ts : List Timed) (text : List ℕ) → k ≡ told_book a.ledgers
     → us ≡ unkept (asked_question seed a) → ts ≡ answered_calls (asked_question seed a)
@@ -107,7 +107,7 @@ answer_given q text b e f = λ i. record { text = e i; warns = f i }
 -- ---- the promise
 
 pub promised : (seed : List ℕ) (a : Asked) (asks : Result Question AnswerReason) (answer : Answer) → IsAsked seed a → asks ≡ Ok (asked_question seed a)
-    → answer ≡ question_answer (asked_question seed a) → IsAnswerTo asks answer
+    → answer ≡ question_answer (asked_question seed a) → IsPromisedAnswer asks answer
 promised seed a asks answer is e f = holds (asked_question seed a) (sound seed a is) asks answer e f
 
 -- ---- step by step

@@ -4,7 +4,7 @@ use Rattle.std.proofs.Common.{Option, Some, None, is_none, Result, Ok, Err, refl
 use Rattle.std.proofs.lemmas.Bool.{false≢true}
 use Rattle.std.proofs.lemmas.List.{get_or-set_same, get_or-set_other, set_past}
 use Rattle.std.proofs.lemmas.Option.{same_Some}
-use Rattle.swap_base.specs.Lists.{IsIn}
+use Rattle.swap_base.specs.Lists.{IsElement}
 use Rattle.swap_base.specs.Fault.{◌>>=◌}
 use Rattle.swap_base.proofs.Lists.{and_parts}
 use Rattle.swap_digraph.specs.declared.deal.Mode.{Mode}
@@ -15,11 +15,11 @@ use Rattle.swap_digraph.specs.Deal.{counterparty, lock_leader, lock_hashlock}
 use Rattle.hashkey_path.specs.declared.hashkey.Hashkey.{Hashkey}
 use Rattle.hashkey_path.specs.declared.hashkey.HashkeyAnswer.{HashkeyAnswer}
 use Rattle.hashkey_path.specs.declared.hashkey.HashkeyAnswer.TheVariants.{Valid, WrongSecret, WrongPath, WrongSignature}
-use Rattle.hashkey_path.specs.Hashkey.{is_wrong_secret, is_wrong_path, is_wrong_signature, is_valid, computed_answer}
+use Rattle.hashkey_path.specs.Hashkey.{is_wrong_secret, is_wrong_path, is_wrong_signature, is_valid, hashkey_answer}
 use Rattle.hashkey_path.proofs.Answered.{says_valid, valid_answer}
 use Rattle.refusals.specs.declared.reason.Reason.TheVariants.{BadLine}
 use Rattle.refusals.specs.declared.refusal.Refusal.{Refusal}
-use Rattle.party_wallet.specs.Value.{signed_in}
+use Rattle.party_wallet.specs.Value.{signed_hashkey}
 use Rattle.swap_rules.specs.Conduct.{is_first_key}
 use Rattle.swap_rules.specs.Machine.{IsGoodKey}
 use Rattle.swap_rules.proofs.Prefixes.{same_or_not}
@@ -52,12 +52,12 @@ kept_by : {d : Deal} {v : ℕ} {k next : KeptState} → ◌≡◌ {A = Result Ke
 kept_by {d} {v} {k} {next} e good = let same : k ≡ next = cc e in subst (λ z. AreGood d v z.keys) same good
 
 module _ (d : Deal) (v : ℕ) where
-  opens_each : (arcs : List ℕ) (key : Hashkey) → ((a : ℕ) → IsIn a arcs → counterparty d a ≡ v) → opens_first d arcs key ≡ true → (c : ℕ) → IsIn c arcs
+  opens_each : (arcs : List ℕ) (key : Hashkey) → ((a : ℕ) → IsElement a arcs → counterparty d a ≡ v) → opens_first d arcs key ≡ true → (c : ℕ) → IsElement c arcs
       → is_valid d c (lock_hashlock d key.lock) key ≡ true
   opens_each [] key of_v e c i = absurd i
   opens_each (a ∷ arcs) key of_v e c i =
       same_valid d c a (lock_hashlock d key.lock) key (of_v c i ∙ sym (of_v a (inl refl)))
-      ∙ (valid_answer d a (lock_hashlock d key.lock) key ∙ says (computed_answer d a (lock_hashlock d key.lock) key) e)
+      ∙ (valid_answer d a (lock_hashlock d key.lock) key ∙ says (hashkey_answer d a (lock_hashlock d key.lock) key) e)
 
   is_good : (key : Hashkey) → opens_first d (entering d.graph v) key ≡ true → IsGoodKey d v key.lock key
   is_good key e = record {
@@ -74,8 +74,8 @@ module _ (d : Deal) (v : ℕ) where
 
   keepable : (keys : List (Option Hashkey)) (key : Hashkey) → AreGood d v keys → is_keepable d v keys key ≡ true → IsGoodKey d v key.lock key
   keepable keys key good e =
-      let p = and_parts (nat_lt key.lock (length d.leaders)) (may_be_kept d v (signed_in keys key.lock) key) e in
-      good_first (signed_in keys key.lock) key (λ z q. good key.lock z q) (is_first_key (signed_in keys key.lock) key) refl p.1
+      let p = and_parts (nat_lt key.lock (length d.leaders)) (may_be_kept d v (signed_hashkey keys key.lock) key) e in
+      good_first (signed_hashkey keys key.lock) key (λ z q. good key.lock z q) (is_first_key (signed_hashkey keys key.lock) key) refl p.1
 
   -- with one more hashkey
   set_good : (keys : List (Option Hashkey)) (key : Hashkey) → AreGood d v keys → IsGoodKey d v key.lock key → AreGood d v (set keys key.lock (Some key))
@@ -85,10 +85,10 @@ module _ (d : Deal) (v : ℕ) where
       go (inr n) b q = good i z (sym (get_or-set_other keys key.lock i (Some key) None n) ∙ e)
       go (inl same) true q =
           let here : Some key ≡ Some z =
-          sym (get_or-set_same keys key.lock (Some key) None (ltb-true key.lock (length keys) q)) ∙ (ap (signed_in (set keys key.lock (Some key))) (sym same) ∙ e) in
+          sym (get_or-set_same keys key.lock (Some key) None (ltb-true key.lock (length keys) q)) ∙ (ap (signed_hashkey (set keys key.lock (Some key))) (sym same) ∙ e) in
           subst (λ j. IsGoodKey d v j z) (sym same) (subst (λ y. IsGoodKey d v key.lock y) (same_Some key z here) new)
       go (inl same) false q =
-          good i z (ap (λ ks. signed_in ks i) (sym (set_past keys key.lock (Some key) (ltb-false key.lock (length keys) q))) ∙ e)
+          good i z (ap (λ ks. signed_hashkey ks i) (sym (set_past keys key.lock (Some key) (ltb-false key.lock (length keys) q))) ∙ e)
 
   after_keep : (n : ℕ) (k next : KeptState) (key : Hashkey) (b : Bool) → AreGood d v k.keys → is_keepable d v k.keys key ≡ b
       → cond b (Ok (record { keys = set k.keys key.lock (Some key); sent = k.sent })) (Err (nameless (BadLine n))) ≡ Ok next → AreGood d v next.keys
@@ -115,13 +115,13 @@ module _ (d : Deal) (v : ℕ) where
   all_good n k final (x ∷ xs) good e =
       after_note n k final x xs (with_note d v n k x) good refl e (λ next better. all_good (next_number n) next final xs better)
 
-none_there : (n i : ℕ) (key : Hashkey) → signed_in (replicate n None) i ≡ Some key → ⊥
+none_there : (n i : ℕ) (key : Hashkey) → signed_hashkey (replicate n None) i ≡ Some key → ⊥
 none_there zero i key e = cc e
 none_there (suc n) zero key e = cc e
 none_there (suc n) (suc i) key e = none_there n i key e
 
 pub none_good : (d : Deal) (v : ℕ) (keys : List (Option Hashkey)) (n : ℕ) → keys ≡ replicate n None → AreGood d v keys
-none_good d v keys n e i key q = absurd (none_there n i key (ap (λ ks. signed_in ks i) (sym e) ∙ q))
+none_good d v keys n e i key q = absurd (none_there n i key (ap (λ ks. signed_hashkey ks i) (sym e) ∙ q))
 
 pub notes_good : (d : Deal) (v n : ℕ) (k final : KeptState) (notes : List Note) → AreGood d v k.keys → with_notes d v n k notes ≡ Ok final
     → AreGood d v final.keys

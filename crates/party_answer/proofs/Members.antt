@@ -3,7 +3,7 @@ use Rattle.std.proofs.Common.{◌≡◌, ◌≢◌, ◌⊎◌, ℕ, ◌==◌, Bo
 use Rattle.std.proofs.Common.{inr, eqb-true, codes}
 use Rattle.std.specs.List.{flat_map}
 use Rattle.std.proofs.lemmas.Bool.{false≢true}
-use Rattle.swap_base.specs.Lists.{IsIn}
+use Rattle.swap_base.specs.Lists.{IsElement}
 use Rattle.swap_base.proofs.Lists.{in_map}
 use Rattle.swap_digraph.specs.declared.deal.Deal.{Deal}
 use Rattle.hashkey_path.specs.declared.hashkey.Hashkey.{Hashkey}
@@ -19,7 +19,7 @@ use Rattle.party_answer.specs.Text.{call_text, keep_text, landing_text, line_tex
 use Rattle.answer_rules.specs.Finished.{are_finished}
 use Rattle.swap_rules.specs.Rest.{rest_deadline}
 
-pub from_map : {A B : Type 0} (f : A → B) (xs : List A) (y : B) → IsIn y (map f xs) → (x : A) × IsIn x xs × (f x ≡ y)
+pub from_map : {A B : Type 0} (f : A → B) (xs : List A) (y : B) → IsElement y (map f xs) → (x : A) × IsElement x xs × (f x ≡ y)
 from_map f [] y i = absurd i
 from_map f (x ∷ xs) y (inl e) = (x, inl refl, sym e)
 from_map f (x ∷ xs) y (inr i) = let r = from_map f xs y i in (r.0, inr r.1, r.2)
@@ -63,12 +63,12 @@ module _ (kept : ℕ → Option Hashkey) (sent : ℕ → Bool) (t : Timed) where
 
 -- ---- of all
 
-in_cond : (b : Bool) (y z : Line) (xs ys zs : List Line) → (IsIn y xs → IsIn y zs) → (IsIn y ys → IsIn y zs) → IsIn y (cond b xs (z ∷ ys)) → IsIn y (z ∷ zs)
+in_cond : (b : Bool) (y z : Line) (xs ys zs : List Line) → (IsElement y xs → IsElement y zs) → (IsElement y ys → IsElement y zs) → IsElement y (cond b xs (z ∷ ys)) → IsElement y (z ∷ zs)
 in_cond true y z xs ys zs f g i = inr (f i)
 in_cond false y z xs ys zs f g (inl e) = inl e
 in_cond false y z xs ys zs f g (inr i) = inr (g i)
 
-from_once : (asked : Option ℕ) (xs : List Line) (y : Line) → IsIn y (each_once asked xs) → IsIn y xs
+from_once : (asked : Option ℕ) (xs : List Line) (y : Line) → IsElement y (each_once asked xs) → IsElement y xs
 from_once asked [] y i = i
 from_once asked (Present t ∷ xs) y (inl e) = inl e
 from_once asked (Present t ∷ xs) y (inr i) = inr (from_once asked xs y i)
@@ -78,15 +78,15 @@ from_once asked (KeepFirst t key ∷ xs) y i =
     in_cond (is_asked asked key.lock) y (KeepFirst t key) (each_once asked xs) (each_once (Some key.lock) xs) xs (from_once asked xs y)
     (from_once (Some key.lock) xs y) i
 
-pub from_lines : (kept : ℕ → Option Hashkey) (sent : ℕ → Bool) (ts : List Timed) (y : Line) → IsIn y (call_lines kept sent None ts)
-    → (t : Timed) × IsIn t ts × (own_line kept sent t ≡ y)
+pub from_lines : (kept : ℕ → Option Hashkey) (sent : ℕ → Bool) (ts : List Timed) (y : Line) → IsElement y (call_lines kept sent None ts)
+    → (t : Timed) × IsElement t ts × (own_line kept sent t ≡ y)
 from_lines kept sent ts y i = from_map (own_line kept sent) ts y (from_once None (map (own_line kept sent) ts) y i)
 
-to_cond : (b : Bool) (y z : Line) (xs ys : List Line) → IsIn y xs → IsIn y ys → IsIn y (cond b xs (z ∷ ys))
+to_cond : (b : Bool) (y z : Line) (xs ys : List Line) → IsElement y xs → IsElement y ys → IsElement y (cond b xs (z ∷ ys))
 to_cond true y z xs ys i j = i
 to_cond false y z xs ys i j = inr j
 
-present_once : (asked : Option ℕ) (xs : List Line) (t : Timed) → IsIn (Present t) xs → IsIn (Present t) (each_once asked xs)
+present_once : (asked : Option ℕ) (xs : List Line) (t : Timed) → IsElement (Present t) xs → IsElement (Present t) (each_once asked xs)
 present_once asked [] t i = i
 present_once asked (Present u ∷ xs) t (inl e) = inl e
 present_once asked (Present u ∷ xs) t (inr i) = inr (present_once asked xs t i)
@@ -97,15 +97,15 @@ present_once asked (KeepFirst u key ∷ xs) t (inr i) =
     to_cond (is_asked asked key.lock) (Present t) (KeepFirst u key) (each_once asked xs) (each_once (Some key.lock) xs) (present_once asked xs t i)
     (present_once (Some key.lock) xs t i)
 
-pub to_present : (kept : ℕ → Option Hashkey) (sent : ℕ → Bool) (ts : List Timed) (t : Timed) → IsIn t ts → was_sent sent (untimed t) ≡ false
-    → is_kept kept t.call ≡ true → IsIn (Present t) (call_lines kept sent None ts)
+pub to_present : (kept : ℕ → Option Hashkey) (sent : ℕ → Bool) (ts : List Timed) (t : Timed) → IsElement t ts → was_sent sent (untimed t) ≡ false
+    → is_kept kept t.call ≡ true → IsElement (Present t) (call_lines kept sent None ts)
 to_present kept sent ts t i s k =
     present_once None (map (own_line kept sent) ts) t
-    (subst (λ (y : Line). IsIn y (map (own_line kept sent) ts)) (presents kept sent t s k) (in_map (own_line kept sent) ts t i))
+    (subst (λ (y : Line). IsElement y (map (own_line kept sent) ts)) (presents kept sent t s k) (in_map (own_line kept sent) ts t i))
 
 -- a hashkey is asked for that is for the lock
 abbrev pub AsksFor : ℕ → List Line → Type 0
-AsksFor i xs = (t : Timed) × (key : Hashkey) × IsIn (KeepFirst t key) xs × (key.lock ≡ i)
+AsksFor i xs = (t : Timed) × (key : Hashkey) × IsElement (KeepFirst t key) xs × (key.lock ≡ i)
 
 after : (i : ℕ) (x : Line) (xs : List Line) → AsksFor i xs → AsksFor i (x ∷ xs)
 after i x xs a = (a.0, a.1, inr a.2, a.3)
@@ -129,7 +129,7 @@ asked_here : (u : Timed) (head key : Hashkey) (asked : Option ℕ) (xs ys : List
 asked_here u head key asked xs ys true none same t = absurd (false≢true (sym none ∙ (ap (is_asked asked) (sym same) ∙ t)))
 asked_here u head key asked xs ys false none same t = (u, head, inl refl, same)
 
-asks_once : (asked : Option ℕ) (xs : List Line) (t : Timed) (key : Hashkey) → is_asked asked key.lock ≡ false → IsIn (KeepFirst t key) xs
+asks_once : (asked : Option ℕ) (xs : List Line) (t : Timed) (key : Hashkey) → is_asked asked key.lock ≡ false → IsElement (KeepFirst t key) xs
     → AsksFor key.lock (each_once asked xs)
 asks_once asked [] t key none i = absurd i
 asks_once asked (Present u ∷ xs) t key none (inl e) = absurd (cc e)
@@ -143,11 +143,11 @@ asks_once asked (KeepFirst u head ∷ xs) t key none (inr i) =
     further u head key (is_asked asked head.lock) (each_once asked xs) (each_once (Some head.lock) xs) (asks_once asked xs t key none i)
     (here_or_later head key (each_once (Some head.lock) xs) (head.lock == key.lock) refl (λ f. asks_once (Some head.lock) xs t key f i))
 
-pub to_keep : (kept : ℕ → Option Hashkey) (sent : ℕ → Bool) (ts : List Timed) (t : Timed) (key : Hashkey) → IsIn t ts → was_sent sent (untimed t) ≡ false
+pub to_keep : (kept : ℕ → Option Hashkey) (sent : ℕ → Bool) (ts : List Timed) (t : Timed) (key : Hashkey) → IsElement t ts → was_sent sent (untimed t) ≡ false
     → is_kept kept t.call ≡ false → t.call ≡ Unlock key → AsksFor key.lock (call_lines kept sent None ts)
 to_keep kept sent ts t key i s k c =
     asks_once None (map (own_line kept sent) ts) t key refl
-    (subst (λ (y : Line). IsIn y (map (own_line kept sent) ts)) (keeps kept sent t key s k c) (in_map (own_line kept sent) ts t i))
+    (subst (λ (y : Line). IsElement y (map (own_line kept sent) ts)) (keeps kept sent t key s k c) (in_map (own_line kept sent) ts t i))
 
 -- ---- the text is never empty
 

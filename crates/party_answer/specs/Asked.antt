@@ -28,7 +28,8 @@ abbrev pub by_reason : {A : Type 0} → Result A Reason → Result A AnswerReaso
 by_reason (Ok x) = Ok x
 by_reason (Err reason) = Err (Refused (nameless reason))
 
--- What an input says before its first ledger: the digest that was agreed on, the notes, and the deal with its context and its digest, as they stand there.
+-- What an input says before its first ledger: the digest that was agreed on, the notes, and the
+-- deal with its context and its digest, as they stand there.
 pub record SaidState : Type 0 where
   pub told : List ℕ
   pub notes : NotesState
@@ -62,7 +63,8 @@ unless_wrong names v (Some i) = Err (refusal names (WrongWallet v i))
 abbrev pub own_seed : SaidState → ℕ → List ℕ → Result (Unit {0}) Refusal
 own_seed s v seed = unless_wrong s.agreed.job.names v (wrong_lock s.agreed.job.deal v seed)
 
--- What is asked: the party of a deal, its seed, what is told of each ledger, what the party kept, and on which arcs it sent a publish.
+-- What is asked: the party of a deal, its seed, what is told of each ledger, what the party kept,
+-- and on which arcs it sent a publish.
 pub record Question : Type 0 where
   pub deal : Deal
   pub me : ℕ

@@ -2,14 +2,14 @@
 use Rattle.std.specs.Prelude.{◌≡◌, ◌<◌, ◌++◌, ℕ, List, None, length}
 use Rattle.std.specs.List.{flat_map}
 use Rattle.swap_digraph.specs.Graph.{is_listed}
-use Rattle.swap_base.specs.Lists.{IsIn}
+use Rattle.swap_base.specs.Lists.{IsElement}
 use Rattle.swap_digraph.specs.declared.deal.Deal.{Deal}
 use Rattle.swap_digraph.specs.Deal.{IsWellSized}
 use Rattle.swap_rules.specs.Due.{Action}
 use Rattle.answer_rules.specs.Heights.{IsShort}
 use Rattle.swap_rules.specs.Accepted.{IsAccepted}
 use Rattle.party_wallet.specs.Fits.{wrong_lock}
-use Rattle.party_wallet.specs.Value.{signed_in}
+use Rattle.party_wallet.specs.Value.{signed_hashkey}
 use Rattle.answer_rules.specs.Laws.{AreGoodKeys}
 use Rattle.ledger_core.specs.Book.{Histories, IsLegalBook}
 use Rattle.party_answer.specs.NoteStates.{kept_state, notes_state}
@@ -32,13 +32,14 @@ asked_question seed a = record { deal = a.deal; me = a.me; seed = seed; ledgers 
 -- the text of these calls over what is known, or that there is none
 abbrev pub calls_text : Asked → Histories → List Timed → List ℕ
 calls_text a k ts =
-    flat_map (line_text a.me) (call_lines (signed_in a.kept.signed.keys) (λ c. is_listed c a.kept.sent) None ts) ++ end_text a.deal k a.me ts
+    flat_map (line_text a.me) (call_lines (signed_hashkey a.kept.signed.keys) (λ c. is_listed c a.kept.sent) None ts) ++ end_text a.deal k a.me ts
 
 -- each call is on an arc of the deal, and its hashkey has a short path
 abbrev pub AreMeasured : Deal → List Action → Type 0
-AreMeasured d xs = (x : Action) → IsIn x xs → (x.arc < length d.graph.arcs) × IsShort x.call
+AreMeasured d xs = (x : Action) → IsElement x xs → (x.arc < length d.graph.arcs) × IsShort x.call
 
--- What is asked is of a party of an accepted deal whose seed it is, over ledgers that did what is told of them; and every hashkey that was kept opens its lock.
+-- What is asked is of a party of an accepted deal whose seed it is, over ledgers that did what is
+-- told of them; and every hashkey that was kept opens its lock.
 pub record IsAsked (seed : List ℕ) (a : Asked) : Type 0 where
   pub accepted : IsAccepted a.deal
   pub sized : IsWellSized a.deal
@@ -46,4 +47,4 @@ pub record IsAsked (seed : List ℕ) (a : Asked) : Type 0 where
   pub fits : wrong_lock a.deal a.me seed ≡ None
   pub legal : IsLegalBook a.deal (told_book a.ledgers)
   pub places : length a.kept.signed.keys ≡ length a.deal.leaders
-  pub good : AreGoodKeys a.deal a.me (signed_in a.kept.signed.keys)
+  pub good : AreGoodKeys a.deal a.me (signed_hashkey a.kept.signed.keys)

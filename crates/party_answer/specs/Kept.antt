@@ -8,10 +8,10 @@ use Rattle.swap_digraph.specs.Deal.{lock_hashlock}
 use Rattle.hashkey_path.specs.declared.hashkey.Hashkey.{Hashkey}
 use Rattle.hashkey_path.specs.declared.hashkey.HashkeyAnswer.{HashkeyAnswer}
 use Rattle.hashkey_path.specs.declared.hashkey.HashkeyAnswer.TheVariants.{Valid}
-use Rattle.hashkey_path.specs.Hashkey.{computed_answer}
+use Rattle.hashkey_path.specs.Hashkey.{hashkey_answer}
 use Rattle.refusals.specs.declared.reason.Reason.TheVariants.{BadLine}
 use Rattle.refusals.specs.declared.refusal.Refusal.{Refusal}
-use Rattle.party_wallet.specs.Value.{signed_in}
+use Rattle.party_wallet.specs.Value.{signed_hashkey}
 use Rattle.swap_rules.specs.Conduct.{is_first_key}
 use Rattle.party_lines.specs.Lines.{nameless, next_number}
 use Rattle.party_answer.specs.declared.note.Note.{Note}
@@ -33,20 +33,22 @@ is_valid_answer _ = false
 
 -- whether the hashkey opens its lock on arc a
 abbrev pub opens_arc : Deal → ℕ → Hashkey → Bool
-opens_arc d a key = is_valid_answer (computed_answer d a (lock_hashlock d key.lock) key)
+opens_arc d a key = is_valid_answer (hashkey_answer d a (lock_hashlock d key.lock) key)
 
--- whether the hashkey opens its lock on the first of these arcs; that of a line that was torn doesn't
+-- whether the hashkey opens its lock on the first of these arcs; that of a line that was torn
+-- doesn't
 abbrev pub opens_first : Deal → List ℕ → Hashkey → Bool
 opens_first d [] key = false
 opens_first d (a ∷ arcs) key = opens_arc d a key
 
--- whether v may have kept the hashkey for its lock, where this was kept before: the same, or none, and then it opens the lock on the arcs that enter v
+-- whether v may have kept the hashkey for its lock, where this was kept before: the same, or none,
+-- and then it opens the lock on the arcs that enter v
 abbrev pub may_be_kept : Deal → ℕ → Option Hashkey → Hashkey → Bool
 may_be_kept d v before key = is_first_key before key || (is_none before && opens_first d (entering d.graph v) key)
 
 -- whether the hashkey is for a lock of the deal, and v may have kept it
 abbrev pub is_keepable : Deal → ℕ → List (Option Hashkey) → Hashkey → Bool
-is_keepable d v keys key = nat_lt key.lock (length d.leaders) && may_be_kept d v (signed_in keys key.lock) key
+is_keepable d v keys key = nat_lt key.lock (length d.leaders) && may_be_kept d v (signed_hashkey keys key.lock) key
 
 -- with the note of line n
 abbrev pub with_note : Deal → ℕ → ℕ → KeptState → Note → Result KeptState Refusal

@@ -1,4 +1,5 @@
--- What is answered for each useful call: that it may be presented, that its hashkey has to be kept first, or that it was sent and hasn't landed.
+-- What is answered for each useful call: that it may be presented, that its hashkey has to be kept
+-- first, or that it was sent and hasn't landed.
 use Rattle.std.specs.Prelude.{ℕ, Bool, true, false, List, [], ◌∷◌, map, Option, Some, if◌then◌else◌}
 use Rattle.swap_digraph.specs.declared.deal.Deal.{Deal}
 use Rattle.hashkey_path.specs.declared.hashkey.Hashkey.{Hashkey}
@@ -11,7 +12,8 @@ use Rattle.wallet_promise.specs.Answers.{is_asked, was_sent}
 use Rattle.answer_rules.specs.Heights.{last_on_time, last_accepted}
 use Rattle.party_answer.specs.declared.timed.Timed.{Timed}
 
--- a call with its heights: the last at which it is on time, and the last at which the contract accepts its hashkey
+-- a call with its heights: the last at which it is on time, and the last at which the contract
+-- accepts its hashkey
 abbrev pub timed : Deal → Histories → ℕ → Action → Timed
 timed d k v x = record { arc = x.arc; call = x.call; last = last_on_time d k v x.arc x.call; until = last_accepted d x.arc x.call }
 
@@ -46,6 +48,7 @@ each_once asked (Present t ∷ xs) = Present t ∷ each_once asked xs
 each_once asked (KeepFirst t key ∷ xs) = if is_asked asked key.lock then each_once asked xs else KeepFirst t key ∷ each_once (Some key.lock) xs
 each_once asked (Landing a ∷ xs) = Landing a ∷ each_once asked xs
 
--- what is answered for these calls, where a hashkey for that lock, if any, was asked for before them
+-- what is answered for these calls, where a hashkey for that lock, if any, was asked for before
+-- them
 abbrev pub call_lines : (ℕ → Option Hashkey) → (ℕ → Bool) → Option ℕ → List Timed → List Line
 call_lines kept sent asked ts = each_once asked (map (own_line kept sent) ts)

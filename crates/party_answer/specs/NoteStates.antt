@@ -3,7 +3,7 @@ use Rattle.std.specs.Prelude.{◌≡◌, ℕ, Bool, true, not, List, [], ◌∷�
 use Rattle.swap_digraph.specs.declared.deal.Deal.{Deal}
 use Rattle.hashkey_path.specs.declared.hashkey.Hashkey.{Hashkey}
 use Rattle.swap_rules.specs.Machine.{IsGoodKey}
-use Rattle.party_wallet.specs.Value.{signed_in}
+use Rattle.party_wallet.specs.Value.{signed_hashkey}
 use Rattle.party_answer.specs.declared.notes.Notes.{Notes}
 use Rattle.party_answer.specs.declared.kept.Kept.{Kept}
 use Rattle.party_answer.specs.Notes.{is_note, NotesState}
@@ -25,4 +25,4 @@ IsBehind ls = no_note ls ≡ true
 
 -- Each hashkey that was kept opens its lock on every arc that enters v.
 abbrev pub AreGood : Deal → ℕ → List (Option Hashkey) → Type 0
-AreGood d v keys = (i : ℕ) (key : Hashkey) → signed_in keys i ≡ Some key → IsGoodKey d v i key
+AreGood d v keys = (i : ℕ) (key : Hashkey) → signed_hashkey keys i ≡ Some key → IsGoodKey d v i key

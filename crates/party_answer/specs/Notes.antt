@@ -1,12 +1,13 @@
--- What a wallet wrote down, a line each, in any order: the lines before the first that begins with neither word.
+-- What a wallet wrote down, a line each, in any order: the lines before the first that begins with
+-- neither word.
 use Rattle.std.specs.Prelude.{ℕ, Bool, false, ◌||◌, List, [], ◌∷◌, ◌++◌, codes, Result, Ok, Err, if◌then◌else◌}
 use Rattle.swap_base.specs.Fault.{◌>>=◌}
 use Rattle.refusals.specs.declared.refusal.Refusal.{Refusal}
 use Rattle.transcript_lines.specs.declared.said.Misspelling.{Misspelling}
-use Rattle.transcript_lines.specs.Between.{parts_at}
-use Rattle.transcript_lines.specs.Reading.{misspelt, bounded_number, number_of, to_digest, parse_signature, inside_entries, field_of, first_field}
+use Rattle.transcript_lines.specs.Between.{separated_parts}
+use Rattle.transcript_lines.specs.Reading.{misspelt, bounded_number, decimal_number, to_digest, parse_signature, inside_entries, parse_first_field, first_field}
 use Rattle.transcript_lines.specs.Reading.{is_word, nothing_more}
-use Rattle.party_lines.specs.Lines.{next_number, read_in_own_line}
+use Rattle.party_lines.specs.Lines.{next_number, or_bad_line}
 use Rattle.party_lines.specs.Digests.{this_word}
 use Rattle.party_answer.specs.declared.note.Note.{Note}
 use Rattle.party_answer.specs.declared.note.Note.TheVariants.{Keep, Sent}
@@ -14,42 +15,42 @@ use Rattle.party_answer.specs.declared.note.Note.TheVariants.{Keep, Sent}
 -- `by B until U`, and the fields after it: the heights are numbers that are read and not used
 unfoldable pub heights_told : List (List ℕ) → Result (Unit {0} × List (List ℕ)) Misspelling
 heights_told ws = do
-  by ← field_of (this_word (codes "by")) ws
-  last ← field_of number_of by.1
-  until ← field_of (this_word (codes "until")) last.1
-  end ← field_of number_of until.1
+  by ← parse_first_field (this_word (codes "by")) ws
+  last ← parse_first_field decimal_number by.1
+  until ← parse_first_field (this_word (codes "until")) last.1
+  end ← parse_first_field decimal_number until.1
   Ok (tt, end.1)
 
 -- `LOCK by B until U SECRET PATH SIGS`, as it was answered: a hashkey that was kept
 unfoldable pub keep_noted : List (List ℕ) → Result Note Misspelling
 keep_noted ws = do
-  lock ← field_of (bounded_number 256) ws
+  lock ← parse_first_field (bounded_number 256) ws
   heights ← heights_told lock.1
-  secret ← field_of to_digest heights.1
-  path ← field_of (inside_entries (bounded_number 256)) secret.1
-  sigs ← field_of (inside_entries parse_signature) path.1
+  secret ← parse_first_field to_digest heights.1
+  path ← parse_first_field (inside_entries (bounded_number 256)) secret.1
+  sigs ← parse_first_field (inside_entries parse_signature) path.1
   u ← nothing_more sigs.1
   Ok (Keep (record { lock = lock.0; secret = secret.0; path = path.0; sigs = sigs.0 }))
 
 -- `ARC`: a publish went out on that arc, or may have
 unfoldable pub sent_noted : List (List ℕ) → Result Note Misspelling
 sent_noted ws = do
-  arc ← field_of (bounded_number 256) ws
+  arc ← parse_first_field (bounded_number 256) ws
   u ← nothing_more arc.1
   Ok (Sent arc.0)
 
-abbrev pub noted_after : List ℕ → List (List ℕ) → Result Note Misspelling
-noted_after w ws = if is_word w (codes "keep") then keep_noted ws else if is_word w (codes "sent") then sent_noted ws else misspelt
+abbrev pub pick_note : List ℕ → List (List ℕ) → Result Note Misspelling
+pick_note w ws = if is_word w (codes "keep") then keep_noted ws else if is_word w (codes "sent") then sent_noted ws else misspelt
 
 -- what the fields of a line note
 unfoldable pub words_noted : List (List ℕ) → Result Note Misspelling
 words_noted ws = do
   first ← first_field ws
-  noted_after first.0 first.1
+  pick_note first.0 first.1
 
 -- what the line of number n notes
 unfoldable pub line_noted : ℕ → List ℕ → Result Note Refusal
-line_noted n line = read_in_own_line n (words_noted (parts_at 32 line))
+line_noted n line = or_bad_line n (words_noted (separated_parts 32 line))
 
 abbrev pub begins_note : List (List ℕ) → Bool
 begins_note [] = false
@@ -57,7 +58,7 @@ begins_note (w ∷ ws) = is_word w (codes "keep") || is_word w (codes "sent")
 
 -- the first word of the line is `keep` or `sent`
 unfoldable pub is_note : List ℕ → Bool
-is_note line = begins_note (parts_at 32 line)
+is_note line = begins_note (separated_parts 32 line)
 
 -- Notes, and the number of the line behind them.
 pub record NotesState : Type 0 where
@@ -67,12 +68,14 @@ pub record NotesState : Type 0 where
 abbrev pub notes_behind : ℕ → List Note → List (List ℕ) → Result (NotesState × List (List ℕ)) Refusal
 notes_behind n list ls = Ok (record { list = list; next = n }, ls)
 
--- with the notes that stand first among these lines, of which the first has the number n, and the lines behind them
+-- with the notes that stand first among these lines, of which the first has the number n, and the
+-- lines behind them
 abbrev pub with_lines : ℕ → List Note → List (List ℕ) → Result (NotesState × List (List ℕ)) Refusal
 with_lines n list [] = notes_behind n list []
 with_lines n list (l ∷ ls) =
     if is_note l then (line_noted n l >>= λ x. with_lines (next_number n) (list ++ x ∷ []) ls) else notes_behind n list (l ∷ ls)
 
--- the notes that stand first among lines, of which the first has the number n, and the lines behind them
+-- the notes that stand first among lines, of which the first has the number n, and the lines behind
+-- them
 unfoldable pub notes_read : ℕ → List (List ℕ) → Result (NotesState × List (List ℕ)) Refusal
 notes_read n ls = with_lines n [] ls

@@ -2,7 +2,7 @@
 use Rattle.std.specs.Prelude.{◌≡◌, ◌≢◌, ◌⊎◌, ◌<◌, ◌≤◌, ◌++◌, ℕ, true, false, List, [], set, Option, Some, None, Result, Ok, Err}
 use Rattle.swap_base.specs.declared.fault.Fault.{Fault}
 use Rattle.swap_base.specs.Fault.{Gives}
-use Rattle.swap_base.specs.Lists.{IsIn}
+use Rattle.swap_base.specs.Lists.{IsElement}
 use Rattle.hashkey_path.specs.declared.hashkey.Hashkey.{Hashkey}
 use Rattle.ledger_core.specs.declared.entry.Call.TheVariants.{Unlock}
 use Rattle.ledger_core.specs.declared.entry.Entry.{Entry}
@@ -17,7 +17,7 @@ use Rattle.wallet_promise.specs.Life.{Asking, MayGo, MayKeep}
 use Rattle.wallet_promise.specs.Answers.{was_sent}
 use Rattle.told_books.specs.Told.{SayEnough}
 use Rattle.answer_rules.specs.Heights.{HasHeight}
-use Rattle.answer_rules.specs.Finished.{are_finished, ContinuesWithout}
+use Rattle.answer_rules.specs.Finished.{are_finished, ContinuesWithoutParty}
 use Rattle.answer_rules.specs.Stopped.{is_stopped}
 use Rattle.answer_rules.specs.Laws.{IsLastHeight}
 use Rattle.party_answer.specs.declared.reason.AnswerReason.{AnswerReason}
@@ -27,7 +27,7 @@ use Rattle.party_answer.specs.Asked.{Question, SaidState, asked, known, text_sai
 use Rattle.party_answer.specs.Unkept.{is_lock_unkept}
 use Rattle.party_answer.specs.declared.timed.Timed.{Timed}
 use Rattle.party_answer.specs.Lines.{Present, KeepFirst, Landing, timed, untimed}
-use Rattle.party_answer.specs.Text.{answerable, answered, answered_calls, due_text, kept_keys, lines, own_wallet, question_answer, unkept, useful_by, was_published}
+use Rattle.party_answer.specs.Text.{answerable, answered, answered_calls, due_text, kept_keys, lines, own_wallet, question_answer, unkept, useful_actions, was_published}
 
 -- what the wallet hands over
 abbrev pub own_asking : Question → Asking
@@ -41,7 +41,8 @@ MayBeMade q x = MayGo q.deal q.me (own_wallet q) (own_asking q) x
 abbrev pub MayBeKept : Question → Hashkey → Type 0
 MayBeKept q key = MayKeep q.deal q.me (own_wallet q) (own_asking q) key
 
--- Why a call is left out: it can only hurt the party, or it is an unlock for a lock with an unlock in the party's name that it never made.
+-- Why a call is left out: it can only hurt the party, or it is an unlock for a lock with an unlock
+-- in the party's name that it never made.
 
 abbrev pub CanOnlyHurt : Question → Action → Type 0
 CanOnlyHurt q x = IsHarmful q.deal q.me (own_wallet q) (kept_keys q) (known q) x
@@ -62,15 +63,16 @@ abbrev pub with_more : Question → ℕ → List Entry → Histories
 with_more q a more = set (known q) a (history (known q) a ++ more)
 
 -- up to which height the contract accepts the hashkey of an unlock
-abbrev pub IsUntil : Question → Timed → Hashkey → Type 0
-IsUntil q t key = (last : ℕ) × (t.until ≡ Some last) × IsLastHeight q.deal (known q) q.me t.arc key last
+abbrev pub HasLastHeight : Question → Timed → Hashkey → Type 0
+HasLastHeight q t key = (last : ℕ) × (t.until ≡ Some last) × IsLastHeight q.deal (known q) q.me t.arc key last
 
 -- a call with its heights
 abbrev pub own_timed : Question → Action → Timed
 own_timed q x = timed q.deal (known q) q.me x
 
--- The answer is that to what is asked: of an accepted deal, over ledgers that did what is told of them, for a party whose seed it is.
-pub record IsAnswerTo (asks : Result Question AnswerReason) (answer : Answer) : Type 0 where
+-- The answer is that to what is asked: of an accepted deal, over ledgers that did what is told of
+-- them, for a party whose seed it is.
+pub record IsPromisedAnswer (asks : Result Question AnswerReason) (answer : Answer) : Type 0 where
   pub question : Question
   pub asked : asks ≡ Ok question
   pub is : answer ≡ question_answer question
@@ -79,41 +81,47 @@ pub record IsAnswerTo (asks : Result Question AnswerReason) (answer : Answer) : 
   pub wallet : IsWallet question.deal question.me (own_wallet question)
   pub legal : IsLegalBook question.deal (known question)
   -- each call in it may go out and is useful, and no publish in it was sent
-  pub go : (t : Timed) → IsIn (Present t) (lines question) → MayBeMade question (untimed t)
-  pub once : (t : Timed) → IsIn (Present t) (lines question) → was_sent (was_published question) (untimed t) ≡ false
-  pub helps : (t : Timed) → IsIn (Present t) (lines question) → IsIn (untimed t) (useful_by question (known question))
+  pub go : (t : Timed) → IsElement (Present t) (lines question) → MayBeMade question (untimed t)
+  pub once : (t : Timed) → IsElement (Present t) (lines question) → was_sent (was_published question) (untimed t) ≡ false
+  pub helps : (t : Timed) → IsElement (Present t) (lines question) → IsElement (untimed t) (useful_actions question (known question))
   -- each hashkey in it may be kept
-  pub keep : (t : Timed) (key : Hashkey) → IsIn (KeepFirst t key) (lines question) → MayBeKept question key
+  pub keep : (t : Timed) (key : Hashkey) → IsElement (KeepFirst t key) (lines question) → MayBeKept question key
   -- each publish that is landing is useful, and was sent
-  pub landing : (a : ℕ) → IsIn (Landing a) (lines question)
-      → (x : Action) × IsIn x (useful_by question (known question)) × (was_sent (was_published question) x ≡ true) × (x.arc ≡ a)
-  -- nothing that may is left out but publishes that were sent, calls that can only hurt the party, and unlocks for a lock with an unlock in its name that it
-  -- never made; of another lock for which a hashkey may be kept it has one
+  pub landing : (a : ℕ) → IsElement (Landing a) (lines question)
+      → (x : Action) × IsElement x (useful_actions question (known question)) × (was_sent (was_published question) x ≡ true) × (x.arc ≡ a)
+  -- nothing that may is left out but publishes that were sent, calls that can only hurt the party,
+  -- and unlocks for a lock with an unlock in its name that it never made; of another lock for which
+  -- a hashkey may be kept it has one
   pub all : (x : Action) → MayBeMade question x → was_sent (was_published question) x ≡ false
-      → IsIn (Present (own_timed question x)) (lines question) ⊎ IsLeftOut question x
+      → IsElement (Present (own_timed question x)) (lines question) ⊎ IsLeftOut question x
   pub each : (key : Hashkey) (may : MayBeKept question key)
-      → ((t : Timed) × (other : Hashkey) × IsIn (KeepFirst t other) (lines question) × (other.lock ≡ key.lock)) ⊎ IsLeftOut question (MayKeep.unlock may)
-  -- the same is useful over any histories of which what is told says enough, so noise may be left out
-  pub heard : (h : Histories) → SayEnough question.deal question.me (known question) h → useful_by question h ≡ useful_by question (known question)
-  -- where nothing is useful, or nothing is answered, that stays so as a ledger ticks on, up to the height at which rest ends
-  pub rest : (a : ℕ) (more : List Entry) → useful_by question (known question) ≡ [] → are_ticks more ≡ true
+      → ((t : Timed) × (other : Hashkey) × IsElement (KeepFirst t other) (lines question) × (other.lock ≡ key.lock)) ⊎ IsLeftOut question (MayKeep.unlock may)
+  -- the same is useful over any histories of which what is told says enough, so noise may be left
+  -- out
+  pub heard : (h : Histories) → SayEnough question.deal question.me (known question) h → useful_actions question h ≡ useful_actions question (known question)
+  -- where nothing is useful, or nothing is answered, that stays so as a ledger ticks on, up to the
+  -- height at which rest ends
+  pub rest : (a : ℕ) (more : List Entry) → useful_actions question (known question) ≡ [] → are_ticks more ≡ true
       → IsAtRest (rest_deadline question.deal question.me (known question)) (height (history (known question) a ++ more))
-      → useful_by question (with_more question a more) ≡ []
+      → useful_actions question (with_more question a more) ≡ []
   pub wait : (a : ℕ) (more : List Entry) → answered question ≡ [] → are_ticks more ≡ true
       → IsAtRest (rest_deadline question.deal question.me (known question)) (height (history (known question) a ++ more))
       → answerable question (with_more question a more) ≡ []
-  -- where the party is done nothing is answered, whatever lands on any ledger without calls of the party
+  -- where the party is done nothing is answered, whatever lands on any ledger without calls of the
+  -- party
   pub done : (h : Histories) → answered question ≡ [] → are_finished question.deal (known question) question.me ≡ true → IsLegalBook question.deal h
-      → ContinuesWithout question.me (known question) h → answerable question h ≡ []
+      → ContinuesWithoutParty question.me (known question) h → answerable question h ≡ []
   -- it tells what is due, or that nothing is
   pub never_empty : due_text question ≢ []
-  -- each height in it is the last at which the call is on time, or the last at which the contract accepts the hashkey
-  pub by : (t : Timed) → IsIn t (answered_calls question) → HasHeight question.deal (known question) question.me (kept_keys question) (untimed t) t.last
-  pub until : (t : Timed) (key : Hashkey) → IsIn t (answered_calls question) → t.call ≡ Unlock key → IsUntil question t key
+  -- each height in it is the last at which the call is on time, or the last at which the contract
+  -- accepts the hashkey
+  pub by : (t : Timed) → IsElement t (answered_calls question) → HasHeight question.deal (known question) question.me (kept_keys question) (untimed t) t.last
+  pub until : (t : Timed) (key : Hashkey) → IsElement t (answered_calls question) → t.call ≡ Unlock key → HasLastHeight question t key
 
--- The answer is that to a text whose first line has that number, for the party of that name with that seed.
+-- The answer is that to a text whose first line has that number, for the party of that name with
+-- that seed.
 abbrev pub IsAnswer : ℕ → List ℕ → List ℕ → List ℕ → Answer → Type 0
-IsAnswer first name seed text answer = IsAnswerTo (asked first name seed text) answer
+IsAnswer first name seed text answer = IsPromisedAnswer (asked first name seed text) answer
 
 -- where what stands in the text isn't what was agreed on, nothing is answered but that
 abbrev pub NeedsAgreement : ℕ → List ℕ → Result Answer (Fault AnswerReason) → Type 0

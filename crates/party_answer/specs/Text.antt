@@ -12,7 +12,7 @@ use Rattle.swap_rules.specs.Due.{Action, Wallet}
 use Rattle.swap_rules.specs.Useful.{useful}
 use Rattle.swap_rules.specs.Rest.{rest_deadline}
 use Rattle.refusals.specs.Words.{reply_text}
-use Rattle.party_wallet.specs.Value.{signed_in}
+use Rattle.party_wallet.specs.Value.{signed_hashkey}
 use Rattle.party_machine.specs.Wallet.{seed_wallet}
 use Rattle.transcript_lines.specs.Between.{spaced}
 use Rattle.transcript_lines.specs.Words.{call_words, list_word, signature_word}
@@ -33,7 +33,7 @@ use Rattle.party_answer.specs.Lines.{Line, Present, KeepFirst, Landing, call_lin
 
 -- the hashkey that was kept for a lock
 abbrev pub kept_keys : Question → ℕ → Option Hashkey
-kept_keys q = signed_in q.kept.keys
+kept_keys q = signed_hashkey q.kept.keys
 
 -- whether a publish was sent on the arc
 abbrev pub was_published : Question → ℕ → Bool
@@ -44,16 +44,17 @@ abbrev pub own_wallet : Question → Wallet
 own_wallet q = seed_wallet q.seed q.me q.deal
 
 -- all that is useful over other ledgers
-abbrev pub useful_by : Question → Histories → List Action
-useful_by q k = useful q.deal q.me (own_wallet q) (kept_keys q) k
+abbrev pub useful_actions : Question → Histories → List Action
+useful_actions q k = useful q.deal q.me (own_wallet q) (kept_keys q) k
 
 -- the unlocks in the party's name that it never made
 abbrev pub unkept : Question → List Unkept
 unkept q = all_unkept (kept_keys q) q.ledgers
 
--- what is useful over other ledgers, without unlocks for a lock with an unlock in the party's name that it never made
+-- what is useful over other ledgers, without unlocks for a lock with an unlock in the party's name
+-- that it never made
 abbrev pub answerable : Question → Histories → List Action
-answerable q k = unstopped (is_lock_unkept (unkept q)) (useful_by q k)
+answerable q k = unstopped (is_lock_unkept (unkept q)) (useful_actions q k)
 
 -- what is answered
 abbrev pub answered : Question → List Action

@@ -1,4 +1,5 @@
--- Unlocks of the party with hashkeys that it never kept: somebody else has its seed, or what it kept is lost.
+-- Unlocks of the party with hashkeys that it never kept: somebody else has its seed, or what it
+-- kept is lost.
 use Rattle.std.specs.Prelude.{ℕ, ◌+◌, ◌==◌, ◌&&◌, ◌||◌, Bool, List, [], ◌∷◌, ◌++◌, Option, if◌then◌else◌}
 use Rattle.std.specs.List.{list_any}
 use Rattle.hashkey_path.specs.declared.hashkey.Hashkey.{Hashkey}
@@ -11,7 +12,8 @@ use Rattle.party_answer.specs.declared.unkept.Unkept.{Unkept}
 abbrev pub has_lock : List Unkept → ℕ → ℕ → Bool
 has_lock us a i = list_any (λ u. (u.arc == a) && (u.lock == i)) us
 
--- with an unlock on arc a, where its hashkey isn't the one that was kept: the first of each arc and lock
+-- with an unlock on arc a, where its hashkey isn't the one that was kept: the first of each arc and
+-- lock
 abbrev pub with_unlock : (ℕ → Option Hashkey) → ℕ → List Unkept → OwnUnlock → List Unkept
 with_unlock kept a us x =
     if is_first_key (kept x.key.lock) x.key || has_lock us a x.key.lock then us
@@ -27,7 +29,8 @@ abbrev pub with_ledgers : (ℕ → Option Hashkey) → ℕ → List Unkept → L
 with_ledgers kept a us [] = us
 with_ledgers kept a us (t ∷ ts) = with_ledgers kept (a + 1) (with_unlocks kept a us t.unlocks) ts
 
--- the first unlock of each arc and lock with a hashkey that isn't the one that was kept, by arc and entry
+-- the first unlock of each arc and lock with a hashkey that isn't the one that was kept, by arc and
+-- entry
 abbrev pub all_unkept : (ℕ → Option Hashkey) → List ToldLedger → List Unkept
 all_unkept kept ts = with_ledgers kept 0 [] ts
 

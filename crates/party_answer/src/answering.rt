@@ -10,7 +10,7 @@ ghost use Rattle.party_terms.specs.Inside.{IsTold};
 ghost use Rattle.party_answer.specs.Asked.{lines_asked, said_asked};
 ghost use Rattle.party_answer.specs.Inside.{asked_question, calls_text, said_state, IsAsked};
 ghost use Rattle.party_answer.specs.Text.{answer_told, answered_calls, bad_lines, lines_answer, question_answer, said_answer, unkept, unkept_text};
-ghost use Rattle.party_answer.specs.Promised.{IsAnswer, IsAnswerTo, NeedsAgreement};
+ghost use Rattle.party_answer.specs.Promised.{IsAnswer, IsPromisedAnswer, NeedsAgreement};
 
 use crate::asked::{Asked, said_asked};
 use crate::calls::answered_calls;
@@ -157,7 +157,7 @@ fn answer_said(
 ) -> Result<Answer, AnswerFault>
     requires { IsTold said.now.agreed.job }
     ensures exact { Gives (λ a. a) result (said_answer first name.now seed.now (said_state said.now, lines.old)) }
-    ensures promised { IfOk result (IsAnswerTo (said_asked first name.now seed.now (said_state said.now, lines.old))) }
+    ensures promised { IfOk result (IsPromisedAnswer (said_asked first name.now seed.now (said_state said.now, lines.old))) }
 {
     let asked = said_asked(alloc, first, name, seed, said, lines)?;
     Ok(answer_asked(alloc, seed, &asked)?)
@@ -172,7 +172,7 @@ fn answer_lines(
     lines: &mut Parts<'_>,
 ) -> Result<Answer, AnswerFault>
     ensures exact { Gives (λ a. a) result (lines_answer first name.now seed.now lines.old) }
-    ensures promised { IfOk result (IsAnswerTo (lines_asked first name.now seed.now lines.old)) }
+    ensures promised { IfOk result (IsPromisedAnswer (lines_asked first name.now seed.now lines.old)) }
 {
     match read_said(alloc, first, lines) {
         Ok(said) => answer_said(alloc, first, name, seed, &said, lines),
@@ -180,8 +180,9 @@ fn answer_lines(
     }
 }
 
-/// All that is useful to the party of that name with that seed, a line each, by a text whose first line has that number in the input: the digest that was agreed
-/// on, what its wallet wrote down, the deal, and what each ledger did as far as it was told.
+/// All that is useful to the party of that name with that seed, a line each, by a text whose first
+/// line has that number in the input: the digest that was agreed on, what its wallet wrote down,
+/// the deal, and what each ledger did as far as it was told.
 pub fn answer(
     alloc: Global,
     first: u32,

@@ -6,7 +6,7 @@ ghost use Rattle.swap_base.specs.Fault.{Gives};
 ghost use Rattle.swap_digraph.specs.Deal.{IsWellSized};
 ghost use Rattle.ledger_core.specs.Book.{IsLegalBook};
 ghost use Rattle.party_wallet.specs.Fits.{wrong_lock as least_wrong};
-ghost use Rattle.party_wallet.specs.Value.{signed_in};
+ghost use Rattle.party_wallet.specs.Value.{signed_hashkey};
 ghost use Rattle.answer_rules.specs.Laws.{AreGoodKeys};
 ghost use Rattle.told_ledgers.specs.Telling.{ledgers_told, told_book};
 ghost use Rattle.party_terms.specs.Inside.{IsTold};
@@ -27,7 +27,8 @@ use swap_digraph::Deal;
 use told_ledgers::{ToldLedger, read_ledgers};
 use transcript_book::Parts;
 
-/// What is asked: the party of a deal, what is told of each ledger, what the party kept, and on which arcs it sent a publish.
+/// What is asked: the party of a deal, what is told of each ledger, what the party kept, and on
+/// which arcs it sent a publish.
 #[derive(Drop)]
 pub struct Asked {
     pub deal: Shared<Deal>,
@@ -86,7 +87,8 @@ fn own_seed(alloc: Global, said: &Said, me: PartyId, seed: &Digest) -> Result<()
     }
 }
 
-/// The party of that name with that seed, and what it kept and sent; the first note has that number.
+/// The party of that name with that seed, and what it kept and sent; the first note has that
+/// number.
 #[tactic(auto, unfolding(crate::specs::Asked::party_asked))]
 fn party_asked(
     alloc: Global,
@@ -100,7 +102,7 @@ fn party_asked(
     ensures party { IfOk result (λ p. p.0 < said.now.agreed.job.deal.graph.n) }
     ensures fits { IfOk result (λ p. least_wrong said.now.agreed.job.deal p.0 seed.now ≡ None) }
     ensures places { IfOk result (λ p. length p.1.signed.keys ≡ length said.now.agreed.job.deal.leaders) }
-    ensures good { IfOk result (λ p. AreGoodKeys said.now.agreed.job.deal p.0 (signed_in p.1.signed.keys)) }
+    ensures good { IfOk result (λ p. AreGoodKeys said.now.agreed.job.deal p.0 (signed_hashkey p.1.signed.keys)) }
 {
     let job = &said.agreed.job;
     let me = party_named(alloc, said.notes.next, job.names.as_slice(), name)?;
@@ -122,7 +124,7 @@ fn party(
     ensures party { IfOk result (λ p. p.0 < said.now.agreed.job.deal.graph.n) }
     ensures fits { IfOk result (λ p. least_wrong said.now.agreed.job.deal p.0 seed.now ≡ None) }
     ensures places { IfOk result (λ p. length p.1.signed.keys ≡ length said.now.agreed.job.deal.leaders) }
-    ensures good { IfOk result (λ p. AreGoodKeys said.now.agreed.job.deal p.0 (signed_in p.1.signed.keys)) }
+    ensures good { IfOk result (λ p. AreGoodKeys said.now.agreed.job.deal p.0 (signed_hashkey p.1.signed.keys)) }
 {
     match party_asked(alloc, first, name, seed, said) {
         Ok(found) => Ok(found),

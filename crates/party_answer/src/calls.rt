@@ -87,7 +87,8 @@ fn with_heights(
     all_timed(alloc, deal, known, me, &keys, calls)
 }
 
-/// All that is useful to the party, without unlocks for a lock that has an unlock that was never kept, with its heights.
+/// All that is useful to the party, without unlocks for a lock that has an unlock that was never
+/// kept, with its heights.
 pub(crate) fn answered_calls(
     alloc: Global,
     deal: &Deal,

@@ -5,7 +5,7 @@ ghost use Rattle.swap_base.specs.Fault.{Gives};
 ghost use Rattle.swap_digraph.specs.Deal.{IsWellSized};
 ghost use Rattle.swap_digraph.specs.Graph.{entering, is_listed, leaving};
 ghost use Rattle.refusals.specs.declared.reason.Reason.TheVariants.{BadLine};
-ghost use Rattle.party_wallet.specs.Value.{signed_in};
+ghost use Rattle.party_wallet.specs.Value.{signed_hashkey};
 ghost use Rattle.party_lines.specs.Lines.{nameless};
 ghost use Rattle.party_answer.specs.NoteStates.{kept_state, AreGood};
 ghost use Rattle.party_answer.specs.Kept.{is_keepable, may_be_kept, notes_kept, opens_arc, opens_first, with_note, with_notes};
@@ -54,8 +54,8 @@ fn opens_first(deal: &Deal, me: PartyId, key: &Hashkey) -> bool
 }
 
 /// The hashkey that was kept for the lock, if any.
-fn kept_before(keys: &[Option<Shared<Hashkey>>], lock: LockId) -> Option<&Hashkey>
-    ensures { option_copied result ≡ signed_in keys.now lock }
+fn kept_hashkey(keys: &[Option<Shared<Hashkey>>], lock: LockId) -> Option<&Hashkey>
+    ensures { option_copied result ≡ signed_hashkey keys.now lock }
 {
     match keys.get(lock as usize) {
         Some(Some(key)) => Some(key),
@@ -81,7 +81,7 @@ fn is_keepable(deal: &Deal, me: PartyId, keys: &[Option<Shared<Hashkey>>], key: 
     ensures lock { result ≡ true → key.now.lock < length deal.now.leaders }
 {
     (key.lock as usize) < deal.leaders.len()
-        && may_be_kept(deal, me, kept_before(keys, key.lock), key)
+        && may_be_kept(deal, me, kept_hashkey(keys, key.lock), key)
 }
 
 /// Whether the arc leaves the party.
@@ -162,8 +162,10 @@ fn add_notes(
     Ok(())
 }
 
-/// What a party's notes come to, the first of which is the line of that number: or the first line that notes a hashkey which it can't have kept (of no
-/// lock of the deal, another one for a lock that has one, or one that opens nothing, as a torn line's), or a publish on an arc that doesn't leave it.
+/// What a party's notes come to, the first of which is the line of that number: or the first line
+/// that notes a hashkey which it can't have kept (of no lock of the deal, another one for a lock
+/// that has one, or one that opens nothing, as a torn line's), or a publish on an arc that doesn't
+/// leave it.
 #[tactic(auto, unfolding(crate::specs::Kept::notes_kept))]
 pub fn notes_kept(
     alloc: Global,

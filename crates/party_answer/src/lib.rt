@@ -1,9 +1,12 @@
-//! The party's own wallet as a function over bytes: what a wallet wrote down and what each ledger did so far go in, and all that is useful comes out.
+//! The party's own wallet as a function over bytes: what a wallet wrote down and what each ledger
+//! did so far go in, and all that is useful comes out.
 //!
 //! It watches no chain and keeps nothing: whatever a wallet must not lose is in what it hands over.
 //!
-//! Read `specs/Notes.antt` first: what a wallet wrote down; then `specs/Asked.antt`: what an input asks, or the first reason against it; then `specs/Lines.antt` and `specs/Text.antt`: the text that answers it; and
-//! `specs/Promised.antt`: what holds of an answer. What a wallet is promised that keeps to them stands in `wallet_promise` and `told_lives`.
+//! Read `specs/Notes.antt` first: what a wallet wrote down; then `specs/Asked.antt`: what an input
+//! asks, or the first reason against it; then `specs/Lines.antt` and `specs/Text.antt`: the text
+//! that answers it; and `specs/Promised.antt`: what holds of an answer. What a wallet is promised
+//! that keeps to them stands in `wallet_promise` and `told_lives`.
 #![tactic(auto)]
 
 mod answering;

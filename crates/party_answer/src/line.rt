@@ -3,7 +3,7 @@
 ghost use Rattle.std.specs.Prelude.{◌≡◌, ◌++◌, ◌∷◌, List, IfOk, OnOk, None, option_copied};
 ghost use Rattle.std.specs.List.{flat_map};
 ghost use Rattle.swap_digraph.specs.Graph.{is_listed as is_listed_arc};
-ghost use Rattle.party_wallet.specs.Value.{signed_in};
+ghost use Rattle.party_wallet.specs.Value.{signed_hashkey};
 ghost use Rattle.wallet_promise.specs.Answers.{is_asked, was_sent};
 ghost use Rattle.party_answer.specs.Lines.{call_lines, untimed};
 ghost use Rattle.party_answer.specs.Text.{call_text, keep_text, key_text, landing_text, line_text, until_text};
@@ -21,7 +21,7 @@ use swap_digraph::is_listed;
 use transcript_writer::{put_call, put_digits, put_path, put_signatures};
 
 /// Appends the last height at which the contract accepts a hashkey, if there is one.
-fn put_until(out: &mut Vec<u8>, until: Option<u64>) -> Result<(), NoMemory>
+fn put_last_height(out: &mut Vec<u8>, until: Option<u64>) -> Result<(), NoMemory>
     ensures { OnOk result (out.new.items ≡ out.old.items ++ until_text until) }
 {
     match until {
@@ -46,7 +46,7 @@ fn put_present(out: &mut Vec<u8>, me: PartyId, timed: &Timed) -> Result<(), NoMe
             Piece::Number(timed.last),
         ],
     )?;
-    put_until(out, timed.until)?;
+    put_last_height(out, timed.until)?;
     put(out, &[Piece::Text(" ")])?;
     put_call(out, &timed.call)?;
     put(out, &[Piece::Text("\n")])
@@ -77,7 +77,7 @@ fn put_keep(out: &mut Vec<u8>, timed: &Timed, key: &Hashkey) -> Result<(), NoMem
             Piece::Number(timed.last),
         ],
     )?;
-    put_until(out, timed.until)?;
+    put_last_height(out, timed.until)?;
     put(out, &[Piece::Text(" ")])?;
     put_key(out, key)?;
     put(out, &[Piece::Text("\n")])
@@ -110,7 +110,7 @@ fn was_sent(kept: &Kept, timed: &Timed) -> bool
 
 /// The hashkey of a call, where it isn't the one that was kept for its lock.
 fn unkept_key<'a>(kept: &Signed, call: &'a Call) -> Option<&'a Hashkey>
-    ensures { option_copied result ≡ unkept_key (signed_in kept.now.keys) call.now }
+    ensures { option_copied result ≡ unkept_key (signed_hashkey kept.now.keys) call.now }
 {
     match call {
         Call::Unlock(key) => {
@@ -157,7 +157,7 @@ fn put_line(
     asked: Option<LockId>,
     timed: &Timed,
 ) -> Result<Option<LockId>, NoMemory>
-    ensures { IfOk result (λ next. (ts : List Timed) → IsLine me (signed_in kept.now.signed.keys) kept.now.sent asked next out.old.items out.new.items timed.now ts) }
+    ensures { IfOk result (λ next. (ts : List Timed) → IsLine me (signed_hashkey kept.now.signed.keys) kept.now.sent asked next out.old.items out.new.items timed.now ts) }
 {
     if was_sent(kept, timed) {
         put_landing(out, timed.arc)?;
@@ -183,7 +183,7 @@ pub(crate) fn put_lines(
     calls: &[Timed],
 ) -> Result<(), NoMemory>
     ensures { OnOk result (out.new.items ≡ out.old.items
-        ++ flat_map (line_text me) (call_lines (signed_in kept.now.signed.keys) (λ a. is_listed_arc a kept.now.sent) None calls.now)) }
+        ++ flat_map (line_text me) (call_lines (signed_hashkey kept.now.signed.keys) (λ a. is_listed_arc a kept.now.sent) None calls.now)) }
 {
     let mut asked = None;
     for timed in calls {

@@ -3,7 +3,7 @@
 ghost use Rattle.std.specs.Prelude.{◌≡◌};
 ghost use Rattle.swap_base.specs.Fault.{Gives};
 ghost use Rattle.transcript_book.specs.Taking.{Takes};
-ghost use Rattle.party_answer.specs.Notes.{heights_told, is_note, keep_noted, line_noted, noted_after, sent_noted, words_noted};
+ghost use Rattle.party_answer.specs.Notes.{heights_told, is_note, keep_noted, line_noted, pick_note, sent_noted, words_noted};
 
 use hashkey_path::Hashkey;
 use party_lines::{refused, this_word};
@@ -64,8 +64,8 @@ fn sent_noted(fields: &mut Parts<'_>) -> Result<Note, WordFault>
     Ok(Note::Sent(arc))
 }
 
-fn noted_after(alloc: Global, first: &[u8], fields: &mut Parts<'_>) -> Result<Note, WordFault>
-    ensures { Gives (λ x. x) result (noted_after first.now fields.old) }
+fn pick_note(alloc: Global, first: &[u8], fields: &mut Parts<'_>) -> Result<Note, WordFault>
+    ensures { Gives (λ x. x) result (pick_note first.now fields.old) }
 {
     if first == b"keep".as_slice() {
         keep_noted(alloc, fields)
@@ -81,7 +81,7 @@ fn words_noted(alloc: Global, fields: &mut Parts<'_>) -> Result<Note, WordFault>
     ensures { Gives (λ x. x) result (words_noted fields.old) }
 {
     let first = word(fields)?;
-    noted_after(alloc, first, fields)
+    pick_note(alloc, first, fields)
 }
 
 /// What the line of that number notes.

@@ -32,7 +32,8 @@ fn next_note<'a>(lines: &mut Parts<'a>) -> Option<&'a [u8]>
     }
 }
 
-/// The notes that stand first among lines, of which the first has that number. The other lines stay.
+/// The notes that stand first among lines, of which the first has that number. The other lines
+/// stay.
 #[tactic(auto, unfolding(crate::specs::Notes::notes_read))]
 pub fn read_notes(alloc: Global, first: u32, lines: &mut Parts<'_>) -> Result<Notes, HeaderFault>
     ensures { TakesLine notes_state result lines.new (notes_read first lines.old) }

@@ -14,7 +14,8 @@ use std::alloc::Global;
 use swap_base::Digest;
 use transcript_book::Parts;
 
-/// What an input says before its first ledger: the digest that was agreed on, the notes, and the deal with its context and its digest.
+/// What an input says before its first ledger: the digest that was agreed on, the notes, and the
+/// deal with its context and its digest.
 #[derive(Debug, Drop)]
 pub struct Said {
     pub told: Digest,

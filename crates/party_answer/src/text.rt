@@ -16,7 +16,8 @@ use swap_base::{ArcId, NoMemory, PartyId, Piece, put};
 use swap_digraph::Deal;
 use told_ledgers::{BadEntry, Replies, ToldLedger};
 
-/// Appends what a ledger stated, and what the deal's contract replies, where an entry could be read.
+/// Appends what a ledger stated, and what the deal's contract replies, where an entry could be
+/// read.
 fn put_replies(out: &mut Vec<u8>, replies: Option<Replies>) -> Result<(), NoMemory>
     ensures { OnOk result (out.new.items ≡ out.old.items ++ replies_text replies) }
 {

@@ -3,7 +3,7 @@
 ghost use Rattle.std.specs.Prelude.{◌≡◌, ◌≤◌, ◌||◌, IfOk, OnOk, length, option_copied};
 ghost use Rattle.swap_rules.specs.Conduct.{is_first_key as is_first};
 ghost use Rattle.answer_rules.specs.Stopped.{is_stopped as stops_call};
-ghost use Rattle.party_wallet.specs.Value.{signed_in};
+ghost use Rattle.party_wallet.specs.Value.{signed_hashkey};
 ghost use Rattle.party_answer.specs.Unkept.{all_unkept, has_lock, is_lock_unkept, with_ledgers, with_unlock, with_unlocks};
 
 use hashkey_path::Hashkey;
@@ -14,7 +14,8 @@ use std::alloc::Global;
 use swap_base::{ArcId, LockId, NoMemory};
 use told_ledgers::{OwnUnlock, ToldLedger};
 
-/// The first unlock for that lock on the arc with a hashkey that isn't the one that was kept, by its number among all lines of the arc's ledger.
+/// The first unlock for that lock on the arc with a hashkey that isn't the one that was kept, by
+/// its number among all lines of the arc's ledger.
 #[derive(Clone, Copy, Debug, PartialEq, Eq)]
 pub struct Unkept {
     pub arc: ArcId,
@@ -24,7 +25,7 @@ pub struct Unkept {
 
 /// The hashkey that was kept for the lock, if any.
 pub(crate) fn kept_key(kept: &Signed, lock: LockId) -> Option<&Hashkey>
-    ensures { option_copied result ≡ signed_in kept.now.keys lock }
+    ensures { option_copied result ≡ signed_hashkey kept.now.keys lock }
 {
     match kept.keys.as_slice().get(lock as usize) {
         Some(Some(key)) => Some(key),
@@ -34,7 +35,7 @@ pub(crate) fn kept_key(kept: &Signed, lock: LockId) -> Option<&Hashkey>
 
 /// Whether the hashkey is the one that was kept for its lock.
 fn is_kept_key(kept: &Signed, key: &Hashkey) -> bool
-    ensures { result ≡ is_first (signed_in kept.now.keys key.now.lock) key.now }
+    ensures { result ≡ is_first (signed_hashkey kept.now.keys key.now.lock) key.now }
 {
     is_first_key(kept_key(kept, key.lock), key)
 }
@@ -47,14 +48,15 @@ fn has_lock(list: &[Unkept], arc: ArcId, lock: LockId) -> bool
         .any(|unkept| unkept.arc == arc && unkept.lock == lock)
 }
 
-/// Adds the unlock on the arc, where its hashkey isn't the one that was kept, and it is the first of its arc and lock.
+/// Adds the unlock on the arc, where its hashkey isn't the one that was kept, and it is the first
+/// of its arc and lock.
 fn add_unlock(
     kept: &Signed,
     arc: ArcId,
     list: &mut Vec<Unkept>,
     unlock: &OwnUnlock,
 ) -> Result<(), NoMemory>
-    ensures { OnOk result (list.new.items ≡ with_unlock (signed_in kept.now.keys) arc list.old.items unlock.now) }
+    ensures { OnOk result (list.new.items ≡ with_unlock (signed_hashkey kept.now.keys) arc list.old.items unlock.now) }
 {
     let lock = unlock.key.lock;
     if !is_kept_key(kept, &unlock.key) && !has_lock(list, arc, lock) {
@@ -74,7 +76,7 @@ fn add_unlocks(
     list: &mut Vec<Unkept>,
     unlocks: &[OwnUnlock],
 ) -> Result<(), NoMemory>
-    ensures { OnOk result (list.new.items ≡ with_unlocks (signed_in kept.now.keys) arc list.old.items unlocks.now) }
+    ensures { OnOk result (list.new.items ≡ with_unlocks (signed_hashkey kept.now.keys) arc list.old.items unlocks.now) }
 {
     for unlock in unlocks {
         add_unlock(kept, arc, list, unlock)?;
@@ -82,14 +84,15 @@ fn add_unlocks(
     Ok(())
 }
 
-/// The first unlock of each arc and lock with a hashkey that isn't the one that was kept, by arc and entry.
+/// The first unlock of each arc and lock with a hashkey that isn't the one that was kept, by arc
+/// and entry.
 pub(crate) fn all_unkept(
     alloc: Global,
     kept: &Signed,
     ledgers: &[ToldLedger],
 ) -> Result<Vec<Unkept>, NoMemory>
     requires { length ledgers.now ≤ 256 }
-    ensures { IfOk result (λ v. v.items ≡ all_unkept (signed_in kept.now.keys) ledgers.now) }
+    ensures { IfOk result (λ v. v.items ≡ all_unkept (signed_hashkey kept.now.keys) ledgers.now) }
 {
     let mut list = Vec::new(alloc);
     let mut arc: u32 = 0;

@@ -4,7 +4,7 @@ use Rattle.std.proofs.Common.{refl, sym, ap, ap₂, ◌∙◌, subst, inl, inr, 
 use Rattle.std.specs.Prelude.{IsSome}
 use Rattle.std.specs.List.{flat_map, list_all}
 use Rattle.std.proofs.lemmas.List.{length-map}
-use Rattle.swap_base.specs.Lists.{IsIn}
+use Rattle.swap_base.specs.Lists.{IsElement}
 use Rattle.swap_base.proofs.Lists.{list_all-in}
 use Rattle.swap_digraph.specs.Graph.{leaving, entering}
 use Rattle.swap_digraph.specs.declared.deal.Deal.{Deal}
@@ -17,7 +17,7 @@ use Rattle.ledger_core.specs.Book.{Histories, history, IsLegalBook}
 use Rattle.ledger_core.specs.Facts.{opened_key}
 use Rattle.history_index.specs.Value.{IndexState}
 use Rattle.history_index.specs.Indexes.{all_entries, AreIndexes}
-use Rattle.swap_rules.specs.Party.{is_ready, opens_without}
+use Rattle.swap_rules.specs.Party.{is_ready, opens_without_party}
 use Rattle.swap_rules.specs.Due.{Wallet, Action, due_key, due_arc_unlock, extended, has_called, unlocks_lock, may_unlock, presented, when_due}
 use Rattle.swap_rules.specs.Walking.{pressing_unlocks}
 use Rattle.swap_rules.specs.Useful.{useful_unlocks}
@@ -30,7 +30,7 @@ use Rattle.due_calls.specs.declared.unlock_due.Base.TheVariants.{Signed, Own, On
 use Rattle.due_calls.specs.Parts.{due_base}
 use Rattle.due_calls.specs.Unlocks.{make_due_key, first_seen_arc}
 use Rattle.due_calls.proofs.Keys.{ComesFrom, comes_from}
-use Rattle.party_machine.specs.Unlocking.{CanPutOnto}
+use Rattle.party_machine.specs.Unlocking.{IsSignable}
 use Rattle.party_machine.proofs.Known.{released_history}
 use Rattle.party_machine.proofs.Onto.{can_put_onto, found}
 
@@ -67,7 +67,7 @@ module _ (d : Deal) (v : ℕ) (s : Option Hashkey) (known : List IndexState) (i 
 
   pub seen_below : a < length known
   seen_below =
-      let f = found (λ c. opens_without v (opened (history (all_entries known) c) i)) (leaving d.graph v) a seen in
+      let f = found (λ c. opens_without_party v (opened (history (all_entries known) c) i)) (leaving d.graph v) a seen in
       rw one_each (leaves d v a f.0).0
 
   pub seen_lock : (x : IndexState) → x ≡ get_or known a x → i < length d.leaders → i < length x.terms.locks
@@ -76,9 +76,9 @@ module _ (d : Deal) (v : ℕ) (s : Option Hashkey) (known : List IndexState) (i 
   pub seen_entries : (x : IndexState) → x ≡ get_or known a x → history (all_entries known) a ≡ x.entries
   seen_entries x is = released_history known a x seen_below is
 
-  pub seen_onto : (x : IndexState) → x ≡ get_or known a x → CanPutOnto d i (opened_key x.entries i)
+  pub seen_onto : (x : IndexState) → x ≡ get_or known a x → IsSignable d i (opened_key x.entries i)
   seen_onto x is =
-      subst (λ (h : List Entry). CanPutOnto d i (opened_key h i)) (seen_entries x is)
+      subst (λ (h : List Entry). IsSignable d i (opened_key h i)) (seen_entries x is)
       (can_put_onto d v i a (all_entries known) sized party (λ c lt. legal.legal c (rw legal.one_each lt)) seen)
 
   pub seen_key : (w : Wallet) (signed : ℕ → Option Hashkey) (x : IndexState) (key : Hashkey) → x ≡ get_or known a x
@@ -99,7 +99,7 @@ by_none d v w signed k i e =
 
 -- Unlocks.
 
-pub empty_flat : {A : Type 0} (f : ℕ → List A) (xs : List ℕ) → ((x : ℕ) → IsIn x xs → f x ≡ []) → flat_map f xs ≡ []
+pub empty_flat : {A : Type 0} (f : ℕ → List A) (xs : List ℕ) → ((x : ℕ) → IsElement x xs → f x ≡ []) → flat_map f xs ≡ []
 empty_flat f [] h = refl
 empty_flat f (x ∷ xs) h = ap₂ (λ ys zs. ys ++ zs) (h x (inl refl)) (empty_flat f xs (λ y i. h y (inr i)))
 

@@ -5,7 +5,7 @@ ghost use Rattle.swap_digraph.specs.Deal.{IsWellSized};
 ghost use Rattle.ledger_core.specs.Book.{IsLegalBook};
 ghost use Rattle.history_index.specs.Indexes.{all_entries, AreIndexes};
 ghost use Rattle.swap_rules.specs.Useful.{useful};
-ghost use Rattle.party_wallet.specs.Value.{signed_in};
+ghost use Rattle.party_wallet.specs.Value.{signed_hashkey};
 ghost use Rattle.party_machine.specs.Wallet.{seed_wallet};
 ghost use Rattle.party_due.specs.Actions.{actions};
 
@@ -36,7 +36,7 @@ pub fn all_useful(
     requires legal { IsLegalBook deal.now (all_entries known.now) }
     requires kept { length kept.now.keys ≡ length deal.now.leaders }
     ensures useful { IfOk result (λ v. actions v.items
-        ≡ useful deal.now me (seed_wallet seed.now me deal.now) (signed_in kept.now.keys) (all_entries known.now)) }
+        ≡ useful deal.now me (seed_wallet seed.now me deal.now) (signed_hashkey kept.now.keys) (all_entries known.now)) }
 {
     let mut calls = Vec::new(alloc);
     put_publishes(alloc, deal, me, known, &mut calls)?;

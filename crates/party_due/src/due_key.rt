@@ -6,11 +6,11 @@ ghost use Rattle.ledger_core.specs.Book.{IsLegalBook};
 ghost use Rattle.ledger_core.specs.Facts.{opened_key};
 ghost use Rattle.history_index.specs.Indexes.{all_entries, AreIndexes};
 ghost use Rattle.swap_rules.specs.Due.{due_key, extended};
-ghost use Rattle.party_wallet.specs.Value.{signed_in};
+ghost use Rattle.party_wallet.specs.Value.{signed_hashkey};
 ghost use Rattle.due_calls.specs.Parts.{due_base};
 ghost use Rattle.due_calls.specs.Unlocks.{make_due_key};
 ghost use Rattle.party_machine.specs.Wallet.{seed_wallet};
-ghost use Rattle.party_machine.specs.Unlocking.{CanPutOnto};
+ghost use Rattle.party_machine.specs.Unlocking.{IsSignable};
 
 use due_calls::{Base, due_base};
 use hashkey_path::Hashkey;
@@ -24,8 +24,8 @@ use swap_digraph::Deal;
 /// A copy of the hashkey that was kept for the lock.
 fn copy_kept(kept: &Signed, lock: LockId) -> Result<Shared<Hashkey>, NoMemory>
     requires lock { lock < length kept.now.keys }
-    requires kept { IsSome (signed_in kept.now.keys lock) }
-    ensures { IfOk result (λ k. signed_in kept.now.keys lock ≡ Some k) }
+    requires kept { IsSome (signed_hashkey kept.now.keys lock) }
+    ensures { IfOk result (λ k. signed_hashkey kept.now.keys lock ≡ Some k) }
 {
     match &kept.keys.as_slice()[lock as usize] {
         Some(key) => key.copy(),
@@ -59,7 +59,7 @@ fn extend_key(
 ) -> Result<Shared<Hashkey>, NoMemory>
     requires me { me < deal.now.graph.n }
     requires lock { lock < length index.now.terms.locks }
-    requires onto { CanPutOnto deal.now lock (opened_key index.now.entries lock) }
+    requires onto { IsSignable deal.now lock (opened_key index.now.entries lock) }
     ensures { IfOk result (λ k. extended (seed_wallet seed.now me deal.now) (opened_key index.now.entries lock) ≡ Some k) }
 {
     match index.opened_key(lock) {
@@ -88,8 +88,8 @@ fn make_due_key(
     requires legal { IsLegalBook deal.now (all_entries known.now) }
     requires lock { lock < length deal.now.leaders }
     requires kept { length kept.now.keys ≡ length deal.now.leaders }
-    requires base { due_base deal.now me (signed_in kept.now.keys lock) (all_entries known.now) lock ≡ Some base }
-    ensures { IfOk result (λ k. make_due_key (seed_wallet seed.now me deal.now) (signed_in kept.now.keys) (all_entries known.now) lock base ≡ Some k) }
+    requires base { due_base deal.now me (signed_hashkey kept.now.keys lock) (all_entries known.now) lock ≡ Some base }
+    ensures { IfOk result (λ k. make_due_key (seed_wallet seed.now me deal.now) (signed_hashkey kept.now.keys) (all_entries known.now) lock base ≡ Some k) }
 {
     match base {
         Base::Signed => copy_kept(kept, lock),
@@ -116,7 +116,7 @@ pub(crate) fn due_key(
     requires legal { IsLegalBook deal.now (all_entries known.now) }
     requires lock { lock < length deal.now.leaders }
     requires kept { length kept.now.keys ≡ length deal.now.leaders }
-    ensures { IfOk result (λ o. o ≡ due_key deal.now me (seed_wallet seed.now me deal.now) (signed_in kept.now.keys lock) (all_entries known.now) lock) }
+    ensures { IfOk result (λ o. o ≡ due_key deal.now me (seed_wallet seed.now me deal.now) (signed_hashkey kept.now.keys lock) (all_entries known.now) lock) }
 {
     match due_base(deal, me, known, kept, lock) {
         Some(base) => {

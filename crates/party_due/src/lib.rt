@@ -1,5 +1,5 @@
-//! All that is useful to a party, over what it knows and with the hashkeys that it kept: what is due by the rule book, less the
-//! calls that can only hurt the party.
+//! All that is useful to a party, over what it knows and with the hashkeys that it kept: what is
+//! due by the rule book, less the calls that can only hurt the party.
 //!
 //! Read in `swap_rules` the definitions `due` and `useful`.
 #![tactic(auto)]

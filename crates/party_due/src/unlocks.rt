@@ -11,7 +11,7 @@ ghost use Rattle.swap_rules.specs.Party.{is_ready};
 ghost use Rattle.swap_rules.specs.Due.{due_key, due_arc_unlock, has_called, unlocks_lock, when_due};
 ghost use Rattle.swap_rules.specs.Walking.{pressing_unlocks};
 ghost use Rattle.swap_rules.specs.Useful.{useful_unlocks};
-ghost use Rattle.party_wallet.specs.Value.{signed_in};
+ghost use Rattle.party_wallet.specs.Value.{signed_hashkey};
 ghost use Rattle.party_machine.specs.Wallet.{seed_wallet};
 ghost use Rattle.party_due.specs.Actions.{actions};
 
@@ -84,7 +84,8 @@ fn put_key_unlocks(
     Ok(())
 }
 
-/// Adds the unlocks for the lock that are due where the party is ready. Nothing is signed where there is none.
+/// Adds the unlocks for the lock that are due where the party is ready. Nothing is signed where
+/// there is none.
 fn put_lock_unlocks(
     alloc: Global,
     deal: &Deal,
@@ -103,7 +104,7 @@ fn put_lock_unlocks(
     requires kept { length kept.now.keys ≡ length deal.now.leaders }
     requires ready { is_ready deal.now (all_entries known.now) me ≡ true }
     ensures { OnOk result (actions calls.new.items ≡ actions calls.old.items
-        ++ flat_map (due_arc_unlock deal.now me (seed_wallet seed.now me deal.now) (signed_in kept.now.keys lock) (all_entries known.now) lock)
+        ++ flat_map (due_arc_unlock deal.now me (seed_wallet seed.now me deal.now) (signed_hashkey kept.now.keys lock) (all_entries known.now) lock)
         (entering deal.now.graph me)) }
 {
     if has_unlocked_all(deal, me, known, lock) {
@@ -135,7 +136,7 @@ fn put_useful_unlocks(
     requires kept { length kept.now.keys ≡ length deal.now.leaders }
     requires ready { is_ready deal.now (all_entries known.now) me ≡ true }
     ensures { OnOk result (actions calls.new.items ≡ actions calls.old.items
-        ++ pressing_unlocks deal.now me (seed_wallet seed.now me deal.now) (signed_in kept.now.keys) (all_entries known.now) lock) }
+        ++ pressing_unlocks deal.now me (seed_wallet seed.now me deal.now) (signed_hashkey kept.now.keys) (all_entries known.now) lock) }
 {
     if is_withheld(deal, me, known, lock) {
         return Ok(());
@@ -159,7 +160,7 @@ pub(crate) fn put_unlocks(
     requires legal { IsLegalBook deal.now (all_entries known.now) }
     requires kept { length kept.now.keys ≡ length deal.now.leaders }
     ensures { OnOk result (actions calls.new.items ≡ actions calls.old.items
-        ++ useful_unlocks deal.now me (seed_wallet seed.now me deal.now) (signed_in kept.now.keys) (all_entries known.now)) }
+        ++ useful_unlocks deal.now me (seed_wallet seed.now me deal.now) (signed_hashkey kept.now.keys) (all_entries known.now)) }
 {
     if !is_ready(deal, me, known) {
         return Ok(());

@@ -3,9 +3,9 @@ use Rattle.std.specs.Prelude.{ℕ, List, codes, Result, Ok, if◌then◌else◌}
 use Rattle.swap_base.specs.Fault.{◌>>=◌}
 use Rattle.refusals.specs.declared.refusal.Refusal.{Refusal}
 use Rattle.transcript_lines.specs.declared.said.Misspelling.{Misspelling}
-use Rattle.transcript_lines.specs.Between.{parts_at}
-use Rattle.transcript_lines.specs.Reading.{misspelt, to_digest, field_of, is_word, nothing_more}
-use Rattle.party_lines.specs.Lines.{first_line, read_in_own_line}
+use Rattle.transcript_lines.specs.Between.{separated_parts}
+use Rattle.transcript_lines.specs.Reading.{misspelt, to_digest, parse_first_field, is_word, nothing_more}
+use Rattle.party_lines.specs.Lines.{first_line, or_bad_line}
 
 -- the field is that word
 abbrev pub this_word : List ℕ → List ℕ → Result (Unit {0}) Misspelling
@@ -14,14 +14,14 @@ this_word word w = if is_word w word then Ok tt else misspelt
 -- the digest that the fields of a line tell behind a word
 unfoldable pub told_digest : List ℕ → List (List ℕ) → Result (List ℕ) Misspelling
 told_digest word ws = do
-  first ← field_of (this_word word) ws
-  digest ← field_of to_digest first.1
+  first ← parse_first_field (this_word word) ws
+  digest ← parse_first_field to_digest first.1
   u ← nothing_more digest.1
   Ok digest.0
 
 -- the digest that the line of that number tells behind a word
 unfoldable pub digest_told : List ℕ → ℕ → List ℕ → Result (List ℕ) Refusal
-digest_told word number line = read_in_own_line number (told_digest word (parts_at 32 line))
+digest_told word number line = or_bad_line number (told_digest word (separated_parts 32 line))
 
 -- the digest that the first of these lines tells behind a word, and the lines after it
 unfoldable pub digest_line : List ℕ → ℕ → List (List ℕ) → Result (List ℕ × List (List ℕ)) Refusal

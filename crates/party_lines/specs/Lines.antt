@@ -7,9 +7,9 @@ use Rattle.refusals.specs.declared.reason.Reason.{Reason}
 use Rattle.refusals.specs.declared.reason.Reason.TheVariants.{BadLine, CutShort}
 use Rattle.refusals.specs.declared.refusal.Refusal.{Refusal}
 use Rattle.refusals.specs.Refusal.{named, refusal}
-use Rattle.offer_fields.specs.Limits.{within}
+use Rattle.offer_fields.specs.Limits.{check_range}
 use Rattle.transcript_lines.specs.declared.said.Misspelling.{Misspelling}
-use Rattle.transcript_lines.specs.Between.{parts_at}
+use Rattle.transcript_lines.specs.Between.{separated_parts}
 
 -- ---- reasons
 
@@ -18,9 +18,9 @@ abbrev pub nameless : Reason → Refusal
 nameless reason = refusal [] reason
 
 -- what the line of that number says, or that it is a bad one
-abbrev pub read_in_own_line : {A : Type 0} → ℕ → Result A Misspelling → Result A Refusal
-read_in_own_line n (Ok x) = Ok x
-read_in_own_line n (Err e) = Err (nameless (BadLine n))
+abbrev pub or_bad_line : {A : Type 0} → ℕ → Result A Misspelling → Result A Refusal
+or_bad_line n (Ok x) = Ok x
+or_bad_line n (Err e) = Err (nameless (BadLine n))
 
 -- ---- lines
 
@@ -30,7 +30,7 @@ is_ended text = slice_index_or text (length text - 1) 0 == 10
 
 -- the lines of a text, each ended by a line feed
 unfoldable pub ended_lines : List ℕ → Result (List (List ℕ)) Refusal
-ended_lines text = if is_ended text then Ok (parts_at 10 (take (length text - 1) text)) else Err (nameless CutShort)
+ended_lines text = if is_ended text then Ok (separated_parts 10 (take (length text - 1) text)) else Err (nameless CutShort)
 
 -- the first of the lines that are to come, and those after it
 abbrev pub first_line : List (List ℕ) → Result (List ℕ × List (List ℕ)) Refusal
@@ -49,7 +49,7 @@ next_number n = min (n + 1) (2 ^ 32 - 1)
 -- A header line has at most 65,536 bytes: the longest that is written of a deal has fewer than half
 -- as many.
 unfoldable pub short_header : ℕ → List ℕ → Result (Unit {0}) Refusal
-short_header line text = named [] (within line (codes "header") 0 65536 (length text))
+short_header line text = named [] (check_range line (codes "header") 0 65536 (length text))
 
 -- what is read of the first of these lines, and the lines that are then to come
 abbrev pub TakesLine : {X Y R : Type 0} → (X → Y) → Result X (Fault R) → List (List ℕ) → Result (Y × List (List ℕ)) R → Type 0

@@ -2,8 +2,8 @@
 
 ghost use Rattle.swap_base.specs.Fault.{Gives};
 ghost use Rattle.transcript_book.specs.Taking.{Takes};
-ghost use Rattle.transcript_lines.specs.Between.{parts_at};
-ghost use Rattle.transcript_lines.specs.Reading.{field_of};
+ghost use Rattle.transcript_lines.specs.Between.{separated_parts};
+ghost use Rattle.transcript_lines.specs.Reading.{parse_first_field};
 ghost use Rattle.party_lines.specs.Digests.{agreed_line, digest_line, digest_told, seed_line, read_seed_line, this_word, told_digest};
 ghost use Rattle.party_lines.specs.Lines.{TakesLine};
 
@@ -24,9 +24,9 @@ fn same_word(word: &[u8], field: &[u8]) -> Result<(), WordFault>
 }
 
 /// Takes a field, which has to be that word.
-#[tactic(auto, unfolding(transcript_lines::specs::Reading::field_of))]
+#[tactic(auto, unfolding(transcript_lines::specs::Reading::parse_first_field))]
 pub fn this_word(word: &[u8], fields: &mut Parts<'_>) -> Result<(), WordFault>
-    ensures { Takes (λ u. u) result fields.new (field_of (this_word word.now) fields.old) }
+    ensures { Takes (λ u. u) result fields.new (parse_first_field (this_word word.now) fields.old) }
 {
     same_word(word, next_word(fields)?)
 }
@@ -42,7 +42,7 @@ fn told_digest(word: &[u8], fields: &mut Parts<'_>) -> Result<Digest, WordFault>
 }
 
 fn read_told_digest(word: &[u8], line: &[u8]) -> Result<Digest, WordFault>
-    ensures { Gives (λ d. d) result (told_digest word.now (parts_at 32 line.now)) }
+    ensures { Gives (λ d. d) result (told_digest word.now (separated_parts 32 line.now)) }
 {
     told_digest(word, &mut Parts::new(b' ', line))
 }

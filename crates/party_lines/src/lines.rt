@@ -4,7 +4,7 @@ ghost use Rattle.std.specs.Prelude.{◌≡◌};
 ghost use Rattle.swap_base.specs.Fault.{Gives};
 ghost use Rattle.party_lines.specs.Lines.{first_line, ended_lines, nameless, no_line, short_header, TakesLine};
 
-use offer_fields::within;
+use offer_fields::check_range;
 use refusals::{HeaderFault, Reason, nameless, with_names};
 use std::alloc::Global;
 use swap_base::{Fault, Listed};
@@ -61,7 +61,7 @@ pub fn no_line(alloc: Global, number: u32, lines: &mut Parts<'_>) -> Result<(), 
 pub fn short_header(alloc: Global, line: u32, text: &[u8]) -> Result<(), HeaderFault>
     ensures { Gives (λ u. u) result (short_header line text.now) }
 {
-    match within(alloc, line, "header", 0, HEADER_LIMIT, text.len() as u64) {
+    match check_range(alloc, line, "header", 0, HEADER_LIMIT, text.len() as u64) {
         Ok(()) => Ok(()),
         Err(fault) => Err(with_names(fault, Listed::empty(alloc))),
     }

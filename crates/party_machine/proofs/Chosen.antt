@@ -2,7 +2,7 @@
 use Rattle.std.proofs.Common.{◌≡◌, ℕ, ◌<◌, Bool, true, false, cond, List, [], ◌∷◌, length, Option, Some, None, refl, sym, ap, ◌∙◌, subst, inl, inr}
 use Rattle.std.specs.List.{flat_map}
 use Rattle.std.proofs.lemmas.Option.{same_Some}
-use Rattle.swap_base.specs.Lists.{or_else, IsIn}
+use Rattle.swap_base.specs.Lists.{or_else, IsElement}
 use Rattle.swap_base.proofs.Lists.{first_at, in_from_moment}
 use Rattle.swap_digraph.specs.Graph.{entering, leaving}
 use Rattle.swap_digraph.specs.declared.deal.Deal.{Deal}
@@ -11,21 +11,21 @@ use Rattle.hashkey_path.specs.declared.hashkey.Hashkey.{Hashkey}
 use Rattle.ledger_core.specs.declared.entry.Call.TheVariants.{Unlock}
 use Rattle.ledger_core.specs.History.{opened, IsLegal}
 use Rattle.ledger_core.specs.Book.{Histories, history}
-use Rattle.swap_rules.specs.Party.{key_without, first_seen_key}
+use Rattle.swap_rules.specs.Party.{key_without_party, first_seen_key}
 use Rattle.swap_rules.specs.Due.{Wallet, Action, seen_key, extended, due_key, presented, may_unlock, due_arc_unlock, due_unlocks, first}
 use Rattle.swap_rules.proofs.Prefixes.{from_flat_map}
 use Rattle.swap_rules.proofs.Words.{leaves, key_without_parts}
 use Rattle.ledger_core.proofs.History.{opened_done}
 
-first_in : (xs : List Action) (x : Action) → first xs ≡ Some x → IsIn x xs
+first_in : (xs : List Action) (x : Action) → first xs ≡ Some x → IsElement x xs
 first_in [] x e = absurd (cc e)
 first_in (y ∷ xs) x e = inl (same_Some x y (sym e))
 
-if_in : (test : Bool) (xs : List Action) (x : Action) → IsIn x (cond test xs []) → IsIn x xs
+if_in : (test : Bool) (xs : List Action) (x : Action) → IsElement x (cond test xs []) → IsElement x xs
 if_in true xs x i = i
 if_in false xs x i = absurd i
 
-present_in : (a : ℕ) (o : Option Hashkey) (x : Action) → IsIn x (presented a o) → (key : Hashkey) × (o ≡ Some key) × (x.call ≡ Unlock key)
+present_in : (a : ℕ) (o : Option Hashkey) (x : Action) → IsElement x (presented a o) → (key : Hashkey) × (o ≡ Some key) × (x.call ≡ Unlock key)
 present_in a None x i = absurd i
 present_in a (Some key) x (inl e) = (key, refl, ap (λ y. y.call) e)
 present_in a (Some key) x (inr i) = absurd i
@@ -40,8 +40,8 @@ module _ (d : Deal) (v : ℕ) (w : Wallet) (signed : ℕ → Option Hashkey) (k 
   -- the hashkey that was seen for a lock is for it
   seen_lock : (i : ℕ) (inner : Hashkey) → first_seen_key d k v i ≡ Some inner → inner.lock ≡ i
   seen_lock i inner q =
-      let x = first_at (λ a. key_without v (opened (history k a) i)) (leaving d.graph v) inner q in
-      let c : IsIn x.now (leaving d.graph v) = subst (IsIn x.now) (sym x.stands.1) (in_from_moment x.past x.now x.stands.0) in
+      let x = first_at (λ a. key_without_party v (opened (history k a) i)) (leaving d.graph v) inner q in
+      let c : IsElement x.now (leaving d.graph v) = subst (IsElement x.now) (sym x.stands.1) (in_from_moment x.past x.now x.stands.0) in
       let l = leaves d v x.now c in
       let p = key_without_parts v (opened (history k x.now) i) inner x.gives in
       ap (λ (y : Hashkey). y.lock) (sym p.2) ∙ (opened_done d x.now (history k x.now) i p.0 (legal x.now l.0) p.1).1
@@ -63,7 +63,7 @@ module _ (d : Deal) (v : ℕ) (w : Wallet) (signed : ℕ → Option Hashkey) (k 
     pub call : x.call ≡ Unlock key
     pub due : or_else (signed lock) (cond (leads d v lock) (Some (w.first lock)) (extended w (first_seen_key d k v lock))) ≡ Some key
 
-  comes : (x : Action) → IsIn x (due_unlocks d v w signed k) → Comes x
+  comes : (x : Action) → IsElement x (due_unlocks d v w signed k) → Comes x
   unfolding due_arc_unlock due_key seen_key
   comes x i =
       let a = from_flat_map (λ i. flat_map (due_arc_unlock d v w (signed i) k i) (entering d.graph v)) (locks d) x i in

@@ -4,7 +4,7 @@ use Rattle.std.specs.Prelude.{IsTrue, slice_index}
 use Rattle.std.specs.Int.{to_be_bytes, w32}
 use Rattle.sha2.specs.Sha256.{digest_bytes, sha256}
 use Rattle.sha2.proofs.Facts256.{length-sha256}
-use Rattle.hash_signature.specs.Signature.{is_valid_signature, derive_public_key, parse_signature}
+use Rattle.hash_signature.specs.Signature.{is_valid_signature, derive_public_key, made_signature}
 use Rattle.hash_signature.proofs.MessageDigits.{digits_small}
 use Rattle.hash_signature.proofs.Validity.{signed_is_valid}
 
@@ -31,5 +31,5 @@ digest_below m j = words_below _ 8 j
 
 -- what is signed over a digest is valid for it
 pub digest_signed : (seed : List ℕ) (v i : ℕ) (m : List ℕ)
-    → IsTrue (is_valid_signature (derive_public_key seed v i) (sha256 m) (parse_signature seed v i (sha256 m)))
+    → IsTrue (is_valid_signature (derive_public_key seed v i) (sha256 m) (made_signature seed v i (sha256 m)))
 digest_signed seed v i m = signed_is_valid seed v i (sha256 m) (digits_small (sha256 m) (length-sha256 m) (digest_below m))

@@ -1,9 +1,10 @@
--- What a seed signs is valid on every arc that enters its party, where the seed has what the deal states.
+-- What a seed signs is valid on every arc that enters its party, where the seed has what the deal
+-- states.
 use Rattle.std.proofs.Common.{◌≡◌, ℕ, ◌<◌, ◌==◌, Bool, true, false, not, ◌||◌, List, [], ◌∷◌, length, None, refl, sym, ap, ◌∙◌, subst, eq-eqb, get_or}
 use Rattle.std.specs.Prelude.{IsTrue}
 use Rattle.std.specs.Str.{bytes_eq}
 use Rattle.std.proofs.lemmas.Bool.{not-false}
-use Rattle.swap_base.specs.Lists.{IsIn}
+use Rattle.swap_base.specs.Lists.{IsElement}
 use Rattle.swap_base.proofs.Lists.{and_both, and_parts, in_range}
 use Rattle.swap_digraph.specs.Graph.{entering, leaving, has_arc, is_listed}
 use Rattle.swap_digraph.specs.declared.deal.Deal.{Deal}
@@ -14,12 +15,12 @@ use Rattle.hash_signature.specs.Signature.{hashed_value, derive_secret, derive_p
 use Rattle.hashkey_path.specs.declared.hashkey.Hashkey.{Hashkey}
 use Rattle.hashkey_path.specs.declared.hashkey.HashkeyAnswer.{HashkeyAnswer}
 use Rattle.hashkey_path.specs.declared.hashkey.HashkeyAnswer.TheVariants.{Valid, WrongSecret, WrongPath}
-use Rattle.hashkey_path.specs.Hashkey.{key_of, signing_message, is_valid, computed_answer, HasPath, IsValidHashkey}
+use Rattle.hashkey_path.specs.Hashkey.{party_public_key, signing_message, is_valid, hashkey_answer, HasPath, IsValidHashkey}
 use Rattle.hashkey_path.specs.Signed.{suffix_signature, leaders_key, extended_key, IsLeadersOwn, CanExtend, IsValidEntering}
 use Rattle.hashkey_path.proofs.Validity.{valid_from, to_valid}
 use Rattle.hashkey_path.proofs.Signed.{first_is_valid, extended_is_valid, leads_on}
 use Rattle.hashkey_path.proofs.Answered.{says_valid, valid_answer}
-use Rattle.swap_rules.specs.Machine.{IsGoodKey, IsOwnKey, IsOnto}
+use Rattle.swap_rules.specs.Machine.{IsGoodKey, IsOwnKey, IsDerivedHashkey}
 use Rattle.swap_rules.proofs.Words.{bytes_eq-true, bytes_eq-refl, same_key-refl, enters, leaves}
 use Rattle.party_wallet.specs.Keys.{bare_key, own_key, onto_key}
 use Rattle.party_wallet.specs.Fits.{has_key, opens_own, fits_lock, wrong_lock}
@@ -39,7 +40,7 @@ test_of_valid : (d : Deal) (a : ℕ) (hashlock : List ℕ) (key : Hashkey) → I
 test_of_valid d a hashlock key v = valid_answer d a hashlock key ∙ ap says_valid (to_valid d a hashlock key v)
 
 pub valid_of_test : (d : Deal) (a : ℕ) (hashlock : List ℕ) (key : Hashkey) → is_valid d a hashlock key ≡ true → IsValidHashkey d a hashlock key
-valid_of_test d a hashlock key e = valid_from d a hashlock key (is_says (computed_answer d a hashlock key) (sym (valid_answer d a hashlock key) ∙ e))
+valid_of_test d a hashlock key e = valid_from d a hashlock key (is_says (hashkey_answer d a hashlock key) (sym (valid_answer d a hashlock key) ∙ e))
 
 -- What the wallet test says.
 
@@ -57,11 +58,11 @@ opens_of d v seed i e l =
     (opens_own d v seed i) e).1
     l)
 
-key_for : (m : Mode) (d : Deal) (v : ℕ) (seed : List ℕ) (i : ℕ) → m ≡ Hashkeys → has_key m d v seed i ≡ true → key_of d v i ≡ derive_public_key seed v i
-key_for Hashkeys d v seed i e h = sym (bytes_eq-true (derive_public_key seed v i) (key_of d v i) h)
+key_for : (m : Mode) (d : Deal) (v : ℕ) (seed : List ℕ) (i : ℕ) → m ≡ Hashkeys → has_key m d v seed i ≡ true → party_public_key d v i ≡ derive_public_key seed v i
+key_for Hashkeys d v seed i e h = sym (bytes_eq-true (derive_public_key seed v i) (party_public_key d v i) h)
 key_for Timelocks d v seed i e h = absurd (cc e)
 
-key_is : (d : Deal) (v : ℕ) (seed : List ℕ) (i : ℕ) → d.mode ≡ Hashkeys → fits_lock d v seed i ≡ true → key_of d v i ≡ derive_public_key seed v i
+key_is : (d : Deal) (v : ℕ) (seed : List ℕ) (i : ℕ) → d.mode ≡ Hashkeys → fits_lock d v seed i ≡ true → party_public_key d v i ≡ derive_public_key seed v i
 key_is d v seed i m e = key_for d.mode d v seed i m (and_parts (has_key d.mode d v seed i) (opens_own d v seed i) e).0
 
 signature_is : (d : Deal) (lock : ℕ) (secret : List ℕ) (v : ℕ) (seed rest : List ℕ) (inner : _)
@@ -81,7 +82,7 @@ bare_valid : (d : Deal) (a i : ℕ) (hashlock secret : List ℕ) → d.mode ≡ 
 bare_valid d a i hashlock secret m e = test_of_valid d a hashlock (bare_key i secret) (record { secret = e; path = bare_path d.mode d a i secret m })
 
 -- valid on every arc that enters v
-into : (d : Deal) (v : ℕ) (hashlock : List ℕ) (key : Hashkey) → IsValidEntering d v hashlock key → (a : ℕ) → IsIn a (entering d.graph v)
+into : (d : Deal) (v : ℕ) (hashlock : List ℕ) (key : Hashkey) → IsValidEntering d v hashlock key → (a : ℕ) → IsElement a (entering d.graph v)
     → is_valid d a hashlock key ≡ true
 into d v hashlock key valid a i = let e = enters d v a i in test_of_valid d a hashlock key (valid a e.0 e.1)
 
@@ -106,8 +107,8 @@ own_good Hashkeys d v seed i m lt fits l =
     )
 
 onto_good : (m : Mode) (d : Deal) (v : ℕ) (seed : List ℕ) (c : ℕ) (inner : Hashkey) → d.mode ≡ m → v < d.graph.n → fits_lock d v seed inner.lock ≡ true
-    → IsIn c (leaving d.graph v) → is_valid d c (lock_hashlock d inner.lock) inner ≡ true → is_listed v inner.path ≡ false
-    → IsGoodKey d v inner.lock (onto_key m d v seed inner) × IsOnto m v inner (onto_key m d v seed inner)
+    → IsElement c (leaving d.graph v) → is_valid d c (lock_hashlock d inner.lock) inner ≡ true → is_listed v inner.path ≡ false
+    → IsGoodKey d v inner.lock (onto_key m d v seed inner) × IsDerivedHashkey m v inner (onto_key m d v seed inner)
 onto_good Timelocks d v seed c inner m lt fits w valid apart =
     let right = valid_of_test d c (lock_hashlock d inner.lock) inner valid in
     (record { lock = refl; valid = λ a z. bare_valid d a inner.lock (lock_hashlock d inner.lock) inner.secret m right.secret }, bytes_eq-refl inner.secret)

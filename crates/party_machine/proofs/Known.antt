@@ -22,7 +22,7 @@ use Rattle.swap_rules.specs.Accepted.{IsAccepted}
 use Rattle.swap_rules.specs.Machine.{IsWallet}
 use Rattle.swap_rules.proofs.Prefixes.{same_or_not}
 use Rattle.swap_rules.proofs.Conducting.{history_same, history_other}
-use Rattle.party_wallet.specs.Value.{WalletState, signed_in}
+use Rattle.party_wallet.specs.Value.{WalletState, signed_hashkey}
 use Rattle.party_wallet.specs.Keys.{new_wallet, with_recorded}
 use Rattle.party_machine.specs.Wallet.{seed_wallet}
 use Rattle.party_wallet.specs.Fits.{find_wrong_lock, wrong_lock}
@@ -158,7 +158,7 @@ fitting_shows d v w f m is e fits =
 
 -- a party's wallet with recorded hashkeys
 partys_recorded : (d : Deal) (w w' : WalletState) (recorded : List (Option Hashkey)) → IsPartys d w → w' ≡ with_recorded w recorded
-    → length recorded ≡ length d.leaders → ((i : ℕ) (k : Hashkey) → signed_in recorded i ≡ Some k → k.lock ≡ i) → IsPartys d w'
+    → length recorded ≡ length d.leaders → ((i : ℕ) (k : Hashkey) → signed_hashkey recorded i ≡ Some k → k.lock ≡ i) → IsPartys d w'
 partys_recorded d w w' recorded r ew places locks = subst (IsPartys d) (sym ew) (record {
   party = r.party;
   mode = r.mode;
@@ -170,7 +170,7 @@ partys_recorded d w w' recorded r ew places locks = subst (IsPartys d) (sym ew) 
 -- the same machine with recorded hashkeys in its wallet
 pub restored_ready : (d : Deal) (w w' : WalletState) (known : List IndexState) (recorded : List (Option Hashkey)) → IsReady d w known
     → w' ≡ with_recorded w recorded → length recorded ≡ length d.leaders
-    → ((i : ℕ) (k : Hashkey) → signed_in recorded i ≡ Some k → k.lock ≡ i) → IsReady d w' known
+    → ((i : ℕ) (k : Hashkey) → signed_hashkey recorded i ≡ Some k → k.lock ≡ i) → IsReady d w' known
 restored_ready d w w' known recorded r ew places locks = record {
   sized = r.sized;
   partys = partys_recorded d w w' recorded r.partys ew places locks;
@@ -182,7 +182,7 @@ restored_ready d w w' known recorded r ew places locks = record {
 -- a machine that knows nothing, with recorded hashkeys in its wallet
 pub restarted_ready : (d : Deal) (w w' : WalletState) (old known : List IndexState) (recorded : List (Option Hashkey)) → IsReady d w old
     → known ≡ map (new_index d) (arcs d.graph) → w' ≡ with_recorded w recorded → length recorded ≡ length d.leaders
-    → ((i : ℕ) (k : Hashkey) → signed_in recorded i ≡ Some k → k.lock ≡ i) → IsReady d w' known
+    → ((i : ℕ) (k : Hashkey) → signed_hashkey recorded i ≡ Some k → k.lock ≡ i) → IsReady d w' known
 restarted_ready d w w' old known recorded r ek ew places locks = record {
   sized = r.sized;
   partys = partys_recorded d w w' recorded r.partys ew places locks;

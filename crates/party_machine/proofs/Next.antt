@@ -3,7 +3,7 @@ use Rattle.std.proofs.Common.{◌≡◌, ℕ, true, false, List, [], ◌∷◌, 
 use Rattle.swap_base.specs.Lists.{or_else}
 use Rattle.ledger_core.specs.declared.entry.Call.{Call}
 use Rattle.swap_rules.specs.Due.{Action, due, due_publishes, due_unlocks, due_claims, due_refunds, first}
-use Rattle.party_wallet.specs.Value.{signed_in}
+use Rattle.party_wallet.specs.Value.{signed_hashkey}
 use Rattle.party_machine.specs.Wallet.{seed_wallet}
 use Rattle.party_machine.specs.Machine.{MachineState, due_action, next_due}
 
@@ -17,7 +17,7 @@ or_else_assoc (Some x) r s = refl
 
 -- what a machine's unlocks are
 abbrev pub party_unlocks : MachineState → List Action
-party_unlocks m = due_unlocks m.deal m.me (seed_wallet m.seed m.me m.deal) (signed_in m.signed) m.known
+party_unlocks m = due_unlocks m.deal m.me (seed_wallet m.seed m.me m.deal) (signed_hashkey m.signed) m.known
 
 pub split : (m : MachineState)
     → next_due m ≡ or_else (first (due_publishes m.deal m.me m.known))

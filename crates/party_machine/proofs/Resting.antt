@@ -1,4 +1,5 @@
--- A machine that rests may: nothing is due when it begins to, and it ends with what could make something due.
+-- A machine that rests may: nothing is due when it begins to, and it ends with what could make
+-- something due.
 use Rattle.std.proofs.Common.{◌≡◌, ℕ, zero, suc, ◌+◌, ◌*◌, ◌==◌, ◌&&◌, count_by, zero-add, ◌≤◌, nat_le, Bool, true}
 use Rattle.std.proofs.Common.{false, cond, List, [], ◌∷◌, ◌++◌, get_or, set}
 use Rattle.std.proofs.Common.{Option, Some, None, is_some, option_map, refl, sym, ap, ◌∙◌, subst, leb-true, arith, ◌<◌, length}
@@ -26,11 +27,11 @@ use Rattle.swap_rules.specs.Party.{least_expiry}
 use Rattle.swap_rules.specs.Due.{Action, due, first}
 use Rattle.swap_rules.specs.Rest.{are_ticks, is_ticking, least_number, rest_deadline}
 use Rattle.swap_rules.proofs.Rest.{reads, same_waiting, same_expiry, rests_below, ticks_make_nothing_due}
-use Rattle.party_wallet.specs.Value.{signed_in}
+use Rattle.party_wallet.specs.Value.{signed_hashkey}
 use Rattle.party_wallet.specs.Value.{WalletState}
 use Rattle.party_machine.specs.Wallet.{seed_wallet}
 use Rattle.party_machine.specs.Machine.{MachineState, due_action, learnt, next_due}
-use Rattle.party_machine.specs.Rest.{latest_height, rest_after, EndsBy, IsAtRest, MayRest}
+use Rattle.party_machine.specs.Rest.{rest_end_height, remaining_rest, EndsByExpiry, IsAtRest, MayRest}
 use Rattle.party_machine.specs.Within.{all_entries, IsReady}
 use Rattle.party_machine.specs.declared.rest.Rest.{Rest}
 use Rattle.party_machine.specs.declared.rest.Rest.TheVariants.{Awake, Until}
@@ -55,24 +56,24 @@ begins s o until e n u = (
     nothing = none_of o (next_due s) e n;
     ends = λ a i waits.
         let b = rests_below s.deal s.me s.known a i waits in
-        subst (λ t. EndsBy t (least_expiry s.deal a (history s.known a))) (sym (u ∙ b.1)) b.2;
+        subst (λ t. EndsByExpiry t (least_expiry s.deal a (history s.known a))) (sym (u ∙ b.1)) b.2;
   },
 )
 
 -- Rest, by the machine's own word for it.
 
-ends_late : (until : Option ℕ) (t : ℕ) → EndsBy until t → EndsBy (Some (latest_height until)) t
+ends_late : (until : Option ℕ) (t : ℕ) → EndsByExpiry until t → EndsByExpiry (Some (rest_end_height until)) t
 ends_late None t e = absurd e
 ends_late (Some u) t e = e
 
-pub rests_late : (r : Rest) (until : Option ℕ) (s : MachineState) → r ≡ Until until → MayRest r s → IsAtRest (Some (latest_height until)) s
+pub rests_late : (r : Rest) (until : Option ℕ) (s : MachineState) → r ≡ Until until → MayRest r s → IsAtRest (Some (rest_end_height until)) s
 rests_late r until s e m =
     let n : IsAtRest until s = (subst (λ x. MayRest x s) e m).1 in
     record { nothing = n.nothing; ends = λ a i waits. ends_late until (least_expiry s.deal a (history s.known a)) (n.ends a i waits) }
 
 pub least_late : (r : Rest) (until : Option ℕ) (s : MachineState) → r ≡ Until until → MayRest r s
-    → latest_height until ≡ latest_height (rest_deadline s.deal s.me s.known)
-least_late r until s e m = ap latest_height (subst (λ x. MayRest x s) e m).0
+    → rest_end_height until ≡ rest_end_height (rest_deadline s.deal s.me s.known)
+least_late r until s e m = ap rest_end_height (subst (λ x. MayRest x s) e m).0
 
 -- Rest goes on.
 
@@ -81,11 +82,11 @@ first_none [] e = refl
 first_none (x ∷ xs) e = absurd (cc e)
 
 pub still : (until : Option ℕ) (s : MachineState) (a : ℕ) (more : List Entry) → are_ticks more ≡ true
-    → ((e : ℕ) → EndsBy until e → height (history s.known a ++ more) ≤ e)
+    → ((e : ℕ) → EndsByExpiry until e → height (history s.known a ++ more) ≤ e)
     → IsAtRest until s → IsAtRest until (learnt s a more)
 still until s a more ticks low r =
     let w = seed_wallet s.seed s.me s.deal in
-    let signed = signed_in s.signed in
+    let signed = signed_hashkey s.signed in
     let before = s.known in
     let after = set s.known a (history s.known a ++ more) in
     let same = reads s.deal s.me w signed before a more ticks in
@@ -95,7 +96,7 @@ still until s a more ticks low r =
           ap first (ticks_make_nothing_due s.deal s.me w signed before a more ticks none (λ i waits.
           low (least_expiry s.deal a (history before a)) (r.ends a i waits)));
       ends =
-          λ c i waits. subst (EndsBy until) (sym (same_expiry s.deal s.me before after same c))
+          λ c i waits. subst (EndsByExpiry until) (sym (same_expiry s.deal s.me before after same c))
           (r.ends c i (sym (same_waiting s.deal s.me before after same c) ∙ waits));
     }
 
@@ -105,17 +106,17 @@ same_height : (s : MachineState) (a : ℕ) (more : List Entry) → are_ticks mor
 same_height s a more ticks =
     let before = s.known in
     let after = set s.known a (history s.known a ++ more) in
-    let same = reads s.deal s.me (seed_wallet s.seed s.me s.deal) (signed_in s.signed) before a more ticks in
+    let same = reads s.deal s.me (seed_wallet s.seed s.me s.deal) (signed_hashkey s.signed) before a more ticks in
     λ j. least_number (map (λ c. same_expiry s.deal s.me before after same c j)
     (filter (λ c. same_waiting s.deal s.me before after same c j) (leaving s.deal.graph s.me)))
 
 goes_still : (until : Option ℕ) (s : MachineState) (a : ℕ) (more : List Entry) → are_ticks more ≡ true
-    → ((e : ℕ) → EndsBy until e → height (history s.known a ++ more) ≤ e)
+    → ((e : ℕ) → EndsByExpiry until e → height (history s.known a ++ more) ≤ e)
     → MayRest (Until until) s → MayRest (Until until) (learnt s a more)
 goes_still until s a more ticks low m = (m.0 ∙ sym (same_height s a more ticks), still until s a more ticks low m.1)
 
 pub goes_on : (r : Rest) (s : MachineState) (a : ℕ) (more : List Entry) (ticks : Bool) (at : ℕ) → ticks ≡ are_ticks more
-    → at ≡ height (history s.known a ++ more) → MayRest r s → MayRest (rest_after r ticks at) (learnt s a more)
+    → at ≡ height (history s.known a ++ more) → MayRest r s → MayRest (remaining_rest r ticks at) (learnt s a more)
 goes_on Awake s a more true at t h m = tt
 goes_on Awake s a more false at t h m = tt
 goes_on (Until None) s a more false at t h m = tt
@@ -128,7 +129,7 @@ goes_on (Until (Some until)) s a more true at t h m = go (nat_le at until) refl
     go true q = goes_still (Some until) s a more (sym t) (λ e b. let below : at ≤ until = leb-true at until q in omega arith) m
 
 -- where nothing was learnt
-pub stays : (r : Rest) (s : MachineState) (ticks : Bool) (at : ℕ) → MayRest r s → MayRest (rest_after r ticks at) s
+pub stays : (r : Rest) (s : MachineState) (ticks : Bool) (at : ℕ) → MayRest r s → MayRest (remaining_rest r ticks at) s
 stays Awake s true at m = tt
 stays Awake s false at m = tt
 stays (Until None) s false at m = tt
@@ -148,15 +149,15 @@ pub learns : {A E : Type 0} (rest : Rest) (d : Deal) (w : WalletState) (known : 
     (r : Result A E) (ticks : Bool) (at : ℕ)
     → IsReady d w known → MayRest rest (shown d w known) → a < length d.graph.arcs → x ≡ get_or known a x → OnOk r (y.entries ≡ x.entries ++ more)
     → OnErr r (y ≡ x)
-    → ticks ≡ are_ticks more → at ≡ height y.entries → MayRest (rest_after rest ticks at) (shown d w (set known a y))
+    → ticks ≡ are_ticks more → at ≡ height y.entries → MayRest (remaining_rest rest ticks at) (shown d w (set known a y))
 learns {A = A} {E = E} rest d w known a x y more (Ok u) ticks at ready m lt e ok err t h =
     let here : history (all_entries known) a ≡ x.entries = released_history known a x (rw (one_each d w known ready) lt) e in
     let up : at ≡ height (history (all_entries known) a ++ more) = h ∙ ap height (ok ∙ ap (λ (z : List Entry). z ++ more) (sym here)) in
     let after = called_shows {A = A} {E = E} d w known a x y more (Ok u) ready lt e ok in
-    subst (MayRest (rest_after rest ticks at)) (sym after) (goes_on rest (shown d w known) a more ticks at t up m)
+    subst (MayRest (remaining_rest rest ticks at)) (sym after) (goes_on rest (shown d w known) a more ticks at t up m)
 learns rest d w known a x y more (Err u) ticks at ready m lt e ok err t h =
     let same : all_entries (set known a y) ≡ all_entries known = map-set_same (λ z. z.entries) known a y x (ap (λ (z : IndexState). z.entries) (err ∙ e)) in
-    let at_known = λ (b : Histories). MayRest (rest_after rest ticks at) (record { deal = d; me = w.party; seed = w.seed; known = b; signed = w.signed }) in
+    let at_known = λ (b : Histories). MayRest (remaining_rest rest ticks at) (record { deal = d; me = w.party; seed = w.seed; known = b; signed = w.signed }) in
     subst at_known (sym same) (stays rest (shown d w known) ticks at m)
 
 -- Entries without a call are ticks.

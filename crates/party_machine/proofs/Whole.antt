@@ -15,17 +15,17 @@ use Rattle.ledger_core.specs.declared.entry.Call.TheVariants.{Publish, Unlock, C
 use Rattle.history_index.specs.Value.{IndexState}
 use Rattle.swap_rules.specs.Due.{extended}
 use Rattle.swap_rules.specs.Machine.{noted}
-use Rattle.party_wallet.specs.Value.{WalletState, signed_in}
+use Rattle.party_wallet.specs.Value.{WalletState, signed_hashkey}
 use Rattle.party_wallet.specs.Keys.{own_key, onto_key}
-use Rattle.due_calls.specs.Unlocks.{key_on, make_due_key, IsSeenOn}
+use Rattle.due_calls.specs.Unlocks.{arc_opening_key, make_due_key, IsSeenBase}
 use Rattle.due_calls.specs.declared.unlock_due.Base.{Base}
 use Rattle.due_calls.specs.declared.unlock_due.Base.TheVariants.{Signed, Own, Onto}
 use Rattle.due_calls.specs.declared.unlock_due.UnlockDue.{UnlockDue}
 use Rattle.wallet_journal.specs.Layout.{are_bounded}
 use Rattle.party_machine.specs.Wallet.{seed_wallet}
-use Rattle.party_machine.specs.Machine.{due_action, noted_for}
+use Rattle.party_machine.specs.Machine.{due_action, noted_if_called}
 use Rattle.party_machine.specs.Within.{all_entries, IsReady}
-use Rattle.party_machine.specs.Unlocking.{CanPutOnto, base_key, due_hashkey}
+use Rattle.party_machine.specs.Unlocking.{IsSignable, base_key, due_hashkey}
 use Rattle.party_machine.specs.Recording.{new_key, unsigned_key, IsWholeKey}
 use Rattle.party_machine.proofs.Known.{legal_at}
 use Rattle.party_machine.proofs.Onto.{can_put_onto, some_room}
@@ -52,7 +52,7 @@ onto_whole Hashkeys d v seed k lt few paired parties = record {
   paired = ap suc paired;
 }
 
-put_whole : (d : Deal) (v : ℕ) (seed : List ℕ) (i : ℕ) (o : Option Hashkey) (key : Hashkey) → v < d.graph.n → CanPutOnto d i o
+put_whole : (d : Deal) (v : ℕ) (seed : List ℕ) (i : ℕ) (o : Option Hashkey) (key : Hashkey) → v < d.graph.n → IsSignable d i o
     → extended (seed_wallet seed v d) o ≡ Some key → IsWholeKey d key
 put_whole d v seed i None key lt can e = absurd can
 put_whole d v seed i (Some k) key lt can e =
@@ -68,24 +68,24 @@ fresh None key k e = (refl, same_Some key k e)
 fresh (Some l) key k e = absurd (cc e)
 
 module _ (d : Deal) (w : WalletState) (known : List IndexState) (ready : IsReady d w known) where
-  base_whole : (u : UnlockDue) (b : Base) → IsSeenOn d w.party (all_entries known) u.lock b → signed_in w.signed u.lock ≡ None → (key : Hashkey)
-      → make_due_key (seed_wallet w.seed w.party d) (signed_in w.signed) (all_entries known) u.lock b ≡ Some key → IsWholeKey d key
+  base_whole : (u : UnlockDue) (b : Base) → IsSeenBase d w.party (all_entries known) u.lock b → signed_hashkey w.signed u.lock ≡ None → (key : Hashkey)
+      → make_due_key (seed_wallet w.seed w.party d) (signed_hashkey w.signed) (all_entries known) u.lock b ≡ Some key → IsWholeKey d key
   base_whole u Signed s none key e = absurd (cc (sym none ∙ e))
   base_whole u Own s none key e =
       subst (IsWholeKey d) (same_Some (own_key d.mode d w.party w.seed u.lock) key e) (own_whole d.mode d w.party w.seed u.lock ready.partys.party)
   base_whole u (Onto a) s none key e =
-      put_whole d w.party w.seed u.lock (key_on (all_entries known) a u.lock) key ready.partys.party
+      put_whole d w.party w.seed u.lock (arc_opening_key (all_entries known) a u.lock) key ready.partys.party
       (can_put_onto d w.party u.lock a (all_entries known) ready.sized ready.partys.party (λ c lt. legal_at d w known c ready lt) s.1) e
 
   -- a hashkey that is signed for a due unlock
-  pub due_whole : (u : UnlockDue) (key : Hashkey) → IsSeenOn d w.party (all_entries known) u.lock u.base → due_hashkey d w (all_entries known) u ≡ Some key
+  pub due_whole : (u : UnlockDue) (key : Hashkey) → IsSeenBase d w.party (all_entries known) u.lock u.base → due_hashkey d w (all_entries known) u ≡ Some key
       → (k : Hashkey) → unsigned_key w.signed (Unlock key) ≡ Some k → IsWholeKey d k
   due_whole u key s e k new =
-      let f = fresh (signed_in w.signed key.lock) key k new in
+      let f = fresh (signed_hashkey w.signed key.lock) key k new in
       let at : key.lock ≡ u.lock = due_lock d w known ready u key s e in
-      let none : signed_in w.signed u.lock ≡ None = ap (signed_in w.signed) (sym at) ∙ f.0 in
+      let none : signed_hashkey w.signed u.lock ≡ None = ap (signed_hashkey w.signed) (sym at) ∙ f.0 in
       subst (IsWholeKey d) f.1
-      (base_whole u u.base s none key (or_none (signed_in w.signed u.lock) (base_key d w (all_entries known) u) key none e))
+      (base_whole u u.base s none key (or_none (signed_hashkey w.signed u.lock) (base_key d w (all_entries known) u) key none e))
 
 call_without : (signed : List (Option Hashkey)) (d : Deal) (c : Call) → ((s : ℕ → Option Hashkey) → noted s c ≡ s) → (k : Hashkey)
     → unsigned_key signed c ≡ Some k → IsWholeKey d k
@@ -100,7 +100,7 @@ call_without signed d Refund h k e = absurd (cc e)
 call_without signed d (Transfer to units) h k e = absurd (cc e)
 
 -- a call that carries no hashkey signs none
-pub none_whole : (signed : List (Option Hashkey)) (d : Deal) (o : Option (ℕ × Call)) → ((s : ℕ → Option Hashkey) → noted_for s o ≡ s) → (k : Hashkey)
+pub none_whole : (signed : List (Option Hashkey)) (d : Deal) (o : Option (ℕ × Call)) → ((s : ℕ → Option Hashkey) → noted_if_called s o ≡ s) → (k : Hashkey)
     → new_key signed (option_map due_action o) ≡ Some k → IsWholeKey d k
 none_whole signed d None h k e = absurd (cc e)
 none_whole signed d (Some x) h k e = call_without signed d x.1 h k e

@@ -7,7 +7,7 @@ use Rattle.ledger_core.specs.declared.entry.Entry.{Entry}
 use Rattle.ledger_core.specs.Book.{Histories, history}
 use Rattle.swap_rules.specs.Due.{Action, due, first}
 use Rattle.swap_rules.specs.Machine.{noted}
-use Rattle.party_wallet.specs.Value.{WalletState, signed_in}
+use Rattle.party_wallet.specs.Value.{WalletState, signed_hashkey}
 use Rattle.party_machine.specs.Wallet.{seed_wallet}
 use Rattle.party_wallet.specs.Fits.{find_wrong_lock}
 use Rattle.party_machine.specs.declared.misfit.Misfit.{Misfit}
@@ -30,7 +30,8 @@ abbrev pub machine_or : Deal → ℕ → List ℕ → Option ℕ → Result Mach
 machine_or d v seed None = Ok (new_machine d v seed)
 machine_or d v seed (Some i) = Err (WrongWallet i)
 
--- the machine of v with the wallet's seed, or the least lock for which the wallet lacks what the deal states of v
+-- the machine of v with the wallet's seed, or the least lock for which the wallet lacks what the
+-- deal states of v
 abbrev pub fresh_machine : Deal → ℕ → WalletState → Result MachineState Misfit
 fresh_machine d v w = machine_or d v w.seed (find_wrong_lock d v w)
 
@@ -43,8 +44,8 @@ resumed_or d v seed signed None = Ok (resumed_machine d v seed signed)
 resumed_or d v seed signed (Some i) = Err (WrongWallet i)
 
 -- the same, or the least lock for which the wallet lacks what the deal states of v
-abbrev pub resumed_for : Deal → ℕ → WalletState → List (Option Hashkey) → Result MachineState Misfit
-resumed_for d v w signed = resumed_or d v w.seed signed (find_wrong_lock d v w)
+abbrev pub resumed_if_fitting : Deal → ℕ → WalletState → List (Option Hashkey) → Result MachineState Misfit
+resumed_if_fitting d v w signed = resumed_or d v w.seed signed (find_wrong_lock d v w)
 
 -- after more entries of arc a
 abbrev pub learnt : MachineState → ℕ → List Entry → MachineState
@@ -56,12 +57,12 @@ due_action x = record { arc = x.0; call = x.1 }
 
 -- the first of what is due for a machine
 abbrev pub next_due : MachineState → Option Action
-next_due m = first (due m.deal m.me (seed_wallet m.seed m.me m.deal) (signed_in m.signed) m.known)
+next_due m = first (due m.deal m.me (seed_wallet m.seed m.me m.deal) (signed_hashkey m.signed) m.known)
 
 -- the hashkeys that were signed, after a call, if any
-abbrev pub noted_for : (ℕ → Option Hashkey) → Option (ℕ × Call) → ℕ → Option Hashkey
-noted_for signed None = signed
-noted_for signed (Some x) = noted signed x.1
+abbrev pub noted_if_called : (ℕ → Option Hashkey) → Option (ℕ × Call) → ℕ → Option Hashkey
+noted_if_called signed None = signed
+noted_if_called signed (Some x) = noted signed x.1
 
 -- The machine is of the same party and deal, and knows the same.
 pub record IsOfSame (old new : MachineState) : Type 0 where

@@ -5,19 +5,19 @@ use Rattle.hashkey_path.specs.declared.hashkey.Hashkey.{Hashkey}
 use Rattle.ledger_core.specs.declared.entry.Call.{Call}
 use Rattle.ledger_core.specs.declared.entry.Call.TheVariants.{Unlock}
 use Rattle.swap_rules.specs.Due.{Action}
-use Rattle.party_wallet.specs.Value.{signed_in}
+use Rattle.party_wallet.specs.Value.{signed_hashkey}
 use Rattle.wallet_journal.specs.Device.{Write}
 use Rattle.wallet_journal.specs.Layout.{recorded}
-use Rattle.wallet_journal.specs.Journal.{IsBeforeOrAfter}
+use Rattle.wallet_journal.specs.Journal.{MayHaveRecorded}
 use Rattle.wallet_journal.specs.Own.{FitsDeal}
-use Rattle.wallet_journal.specs.Recording.{IsStoppedAt}
+use Rattle.wallet_journal.specs.Recording.{IsStoppedRecording}
 use Rattle.wallet_journal.specs.declared.fault.RecordFault.{RecordFault}
 use Rattle.wallet_journal.specs.declared.fault.RecordFault.TheVariants.{DiskFault, NoMemory}
 use Rattle.party_machine.specs.Machine.{MachineState, next_due}
 
 -- the hashkey of an unlock for whose lock none was signed
 abbrev pub unsigned_key : List (Option Hashkey) → Call → Option Hashkey
-unsigned_key signed (Unlock key) = if is_some (signed_in signed key.lock) then None else Some key
+unsigned_key signed (Unlock key) = if is_some (signed_hashkey signed key.lock) then None else Some key
 unsigned_key signed _ = None
 
 -- the hashkey that is signed for a call, if one is
@@ -44,21 +44,23 @@ abbrev pub IsRecorded : (List ℕ → Type 0) → Option (ℕ × Call) → Type 
 IsRecorded outcomes None = Unit {0}
 IsRecorded outcomes (Some x) = IsCallRecorded outcomes x.1
 
--- of a disk that reads as old, all is recorded as it was, but that the new hashkey, if there is one, may be
+-- of a disk that reads as old, all is recorded as it was, but that the new hashkey, if there is
+-- one, may be
 abbrev pub MayHave : List ℕ → Option Hashkey → List ℕ → Type 0
 MayHave old None c = ⊥
-MayHave old (Some key) c = IsBeforeOrAfter old key c
+MayHave old (Some key) c = MayHaveRecorded old key c
 
--- the writes that are synced and those that aren't, where a disk stopped after n calls before an answer: it comes to none
+-- the writes that are synced and those that aren't, where a disk stopped after n calls before an
+-- answer: it comes to none
 abbrev pub IsStoppedNext : {T : Type 0} → ℕ → Hashkey → List Write → List Write → List Write → Result T RecordFault → Type 0
 IsStoppedNext n k synced synced' loose' (Ok x) = ⊥
-IsStoppedNext n k synced synced' loose' (Err DiskFault) = IsStoppedAt n k synced synced' loose'
+IsStoppedNext n k synced synced' loose' (Err DiskFault) = IsStoppedRecording n k synced synced' loose'
 IsStoppedNext n k synced synced' loose' (Err NoMemory) = Unit {0}
 
 -- the hashkey of an unlock is for one of the locks, and it is the one that was signed for its lock,
 -- if one was
 abbrev pub IsCallPlaced : List (Option Hashkey) → Call → Type 0
-IsCallPlaced signed (Unlock key) = (key.lock < length signed) × ((k : Hashkey) → signed_in signed key.lock ≡ Some k → k ≡ key)
+IsCallPlaced signed (Unlock key) = (key.lock < length signed) × ((k : Hashkey) → signed_hashkey signed key.lock ≡ Some k → k ≡ key)
 IsCallPlaced signed _ = Unit {0}
 
 abbrev pub IsPlaced : List (Option Hashkey) → Option (ℕ × Call) → Type 0

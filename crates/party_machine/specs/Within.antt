@@ -7,7 +7,7 @@ use Rattle.hashkey_path.specs.declared.hashkey.Hashkey.{Hashkey}
 use Rattle.ledger_core.specs.Book.{IsLegalBook}
 use Rattle.history_index.specs.Value.{IndexState}
 pub use Rattle.history_index.specs.Indexes.{all_entries, AreIndexes}
-use Rattle.party_wallet.specs.Value.{signed_in}
+use Rattle.party_wallet.specs.Value.{signed_hashkey}
 use Rattle.party_wallet.specs.Value.{WalletState}
 use Rattle.party_wallet.specs.Fits.{wrong_lock}
 use Rattle.party_machine.specs.Machine.{MachineState}
@@ -24,7 +24,7 @@ pub record IsPartys (d : Deal) (w : WalletState) : Type 0 where
   pub mode : w.mode ≡ d.mode
   pub places : length w.signed ≡ length d.leaders
   pub fits : wrong_lock d w.party w.seed ≡ None
-  pub locks : (i : ℕ) (k : Hashkey) → signed_in w.signed i ≡ Some k → k.lock ≡ i
+  pub locks : (i : ℕ) (k : Hashkey) → signed_hashkey w.signed i ≡ Some k → k.lock ≡ i
 
 -- The wallet is the party's, and what is known is a legal book.
 pub record IsReady (d : Deal) (w : WalletState) (known : List IndexState) : Type 0 where

@@ -4,7 +4,7 @@ ghost use Rattle.std.specs.Prelude.{◌≡◌, ◌<◌, ◌++◌, ℕ, Option, o
 ghost use Rattle.hashkey_path.specs.declared.hashkey.Hashkey.{Hashkey};
 ghost use Rattle.swap_digraph.specs.Deal.{IsWellSized};
 ghost use Rattle.swap_rules.specs.Due.{due_publishes, due_claims, due_refunds, first};
-ghost use Rattle.party_machine.specs.Machine.{due_action, noted_for};
+ghost use Rattle.party_machine.specs.Machine.{due_action, noted_if_called};
 ghost use Rattle.party_machine.specs.Within.{all_entries, AreIndexes};
 
 use due_calls::{due_claim, due_publish, due_refund};
@@ -26,7 +26,7 @@ pub(crate) fn due_first(
     requires me { me < deal.now.graph.n }
     requires known { AreIndexes deal.now known.now }
     ensures first { IfOk result (λ o. option_map due_action o ≡ first (due_publishes deal.now me (all_entries known.now))) }
-    ensures no_key { IfOk result (λ o. (signed : ℕ → Option Hashkey) → noted_for signed o ≡ signed) }
+    ensures no_key { IfOk result (λ o. (signed : ℕ → Option Hashkey) → noted_if_called signed o ≡ signed) }
 {
     match due_publish(deal, me, known) {
         Some(arc) => {
@@ -43,7 +43,7 @@ pub(crate) fn due_last(deal: &Deal, me: PartyId, known: &[Index]) -> Option<(Arc
     requires me { me < deal.now.graph.n }
     requires known { AreIndexes deal.now known.now }
     ensures first { option_map due_action result ≡ first (due_claims deal.now me (all_entries known.now) ++ due_refunds deal.now me (all_entries known.now)) }
-    ensures no_key { (signed : ℕ → Option Hashkey) → noted_for signed result ≡ signed }
+    ensures no_key { (signed : ℕ → Option Hashkey) → noted_if_called signed result ≡ signed }
 {
     match due_claim(deal, me, known) {
         Some(arc) => return Some((arc, Call::Claim)),

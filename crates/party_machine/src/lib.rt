@@ -1,6 +1,8 @@
-//! A conforming party of the swap: what it knows, what is due for it, and the call that it makes next.
+//! A conforming party of the swap: what it knows, what is due for it, and the call that it makes
+//! next.
 //!
-//! Read `specs/Machine.antt` first: `next_action` is the first of what is due. `specs/Recording.antt` says what is recorded before a call is answered.
+//! Read `specs/Machine.antt` first: `next_action` is the first of what is due.
+//! `specs/Recording.antt` says what is recorded before a call is answered.
 #![tactic(auto)]
 
 mod actions;

@@ -12,11 +12,11 @@ ghost use Rattle.history_index.specs.Value.{new_index, IsSameArc};
 ghost use Rattle.swap_rules.specs.Accepted.{IsAccepted};
 ghost use Rattle.swap_rules.specs.Machine.{IsWallet};
 ghost use Rattle.swap_rules.specs.Rest.{rest_deadline};
-ghost use Rattle.party_wallet.specs.Value.{signed_in};
+ghost use Rattle.party_wallet.specs.Value.{signed_hashkey};
 ghost use Rattle.party_wallet.specs.Keys.{new_wallet};
 ghost use Rattle.party_wallet.specs.Fits.{wrong_lock};
 ghost use Rattle.party_machine.specs.Wallet.{seed_wallet};
-ghost use Rattle.party_machine.specs.Rest.{latest_height, IsAtRest};
+ghost use Rattle.party_machine.specs.Rest.{rest_end_height, IsAtRest};
 ghost use Rattle.wallet_journal.specs.Device.{LeavesOnly, IsUntouched};
 ghost use Rattle.wallet_journal.specs.Journal.{KeepsRecorded};
 ghost use Rattle.wallet_journal.specs.Own.{IsOwn};
@@ -24,7 +24,7 @@ ghost use Rattle.wallet_journal.specs.Recording.{IsRefused, IsWritten};
 ghost use Rattle.wallet_journal.specs.Layout.{recorded};
 ghost use Rattle.wallet_journal.specs.Stopped.{bytes_left, kept_key, IsOfWrites};
 ghost use Rattle.wallet_journal.specs.declared.fault.RecordFault.TheVariants.{DiskFault as Stopped, NoMemory as Wanting};
-ghost use Rattle.party_machine.specs.Machine.{fresh_machine, new_machine, resumed_for, resumed_machine, learnt, due_action, next_due, noted_for, IsOfSame};
+ghost use Rattle.party_machine.specs.Machine.{fresh_machine, new_machine, resumed_if_fitting, resumed_machine, learnt, due_action, next_due, noted_if_called, IsOfSame};
 ghost use Rattle.party_machine.specs.Recording.{new_key, signs_next, IsRecorded, IsStoppedNext, IsWholeKey, MayHave};
 
 use crate::actions::{due_first, due_last};
@@ -45,7 +45,8 @@ use swap_base::{ArcId, Fault, NoMemory, PartyId, Shared};
 use swap_digraph::{Deal, copy_deal};
 use wallet_journal::{Disk, Journal, RecordFault};
 
-/// A conforming party: its deal, its wallet, and what it knows of each arc. It rests while it has nothing to do.
+/// A conforming party: its deal, its wallet, and what it knows of each arc. It rests while it has
+/// nothing to do.
 #[derive(Drop)]
 pub struct Machine {
     deal: Deal,
@@ -66,9 +67,10 @@ impl Model for Machine {
     ghost invariant = { IsKept };
 }
 
-/// The height that stands for rest up to that height, if any: the greatest, where no tick ends the rest.
-fn latest_height(until: Option<u64>) -> u64
-    ensures { result ≡ latest_height until }
+/// The height that stands for rest up to that height, if any: the greatest, where no tick ends the
+/// rest.
+fn rest_end_height(until: Option<u64>) -> u64
+    ensures { result ≡ rest_end_height until }
 {
     match until {
         Some(until) => until,
@@ -102,8 +104,8 @@ impl Machine {
     }
 
     /// A party that knows nothing and signed nothing, with the wallet's seed; or the least lock for
-    /// which the wallet lacks what the deal states of the party: where it was made for another party
-    /// or deal, or has signed for a lock, its keys aren't those.
+    /// which the wallet lacks what the deal states of the party: where it was made for another
+    /// party or deal, or has signed for a lock, its keys aren't those.
     pub fn new(
         alloc: Global,
         deal: &Deal,
@@ -129,7 +131,7 @@ impl Machine {
     fn restored(self, signed: &[Option<Shared<SignedKey>>]) -> Result<Machine, MachineFault>
         requires new { self.signed ≡ replicate (length self.deal.leaders) None }
         requires places { length signed.now ≡ length self.deal.leaders }
-        requires locks { (i : ℕ) (k : Hashkey) → i < length signed.now → signed_in signed.now i ≡ Some k → k.lock ≡ i }
+        requires locks { (i : ℕ) (k : Hashkey) → i < length signed.now → signed_hashkey signed.now i ≡ Some k → k.lock ≡ i }
         ensures value { IfOk result (λ m. m ≡ record self { signed = signed.now }) }
         ensures fault { IfErr result IsNoMemory }
     {
@@ -148,9 +150,9 @@ impl Machine {
         })
     }
 
-    /// A party that is restarted: it knows nothing, and signed what its journal has recorded, which was
-    /// opened for this deal and party; or the least lock for which the wallet lacks what the deal states
-    /// of the party.
+    /// A party that is restarted: it knows nothing, and signed what its journal has recorded, which
+    /// was opened for this deal and party; or the least lock for which the wallet lacks what the
+    /// deal states of the party.
     pub fn resume<D: Disk>(
         alloc: Global,
         deal: &Deal,
@@ -163,15 +165,15 @@ impl Machine {
         requires opened { (journal.now.id ≡ deal.now.id) × (journal.now.me ≡ me) }
         requires sound { journal.now.sound ≡ true }
         requires places { length journal.now.signed ≡ length deal.now.leaders }
-        ensures exact { Gives (λ m. m) result (resumed_for deal.now me wallet journal.now.signed) }
+        ensures exact { Gives (λ m. m) result (resumed_if_fitting deal.now me wallet journal.now.signed) }
         ensures resumed { IfOk result (λ m. m ≡ resumed_machine deal.now me wallet.seed journal.now.signed) }
     {
         let machine = Machine::new(alloc, deal, me, wallet)?;
         machine.restored(journal.keys().as_slice())
     }
 
-    /// The party restarts: it knows nothing, and signed what its journal has recorded, which was opened
-    /// for its deal and itself. Want of memory leaves it as it was.
+    /// The party restarts: it knows nothing, and signed what its journal has recorded, which was
+    /// opened for its deal and itself. Want of memory leaves it as it was.
     pub fn restart<D: Disk>(&mut self, journal: &Journal<D>) -> Result<(), NoMemory>
         requires opened { (journal.now.id ≡ self.old.deal.id) × (journal.now.me ≡ self.old.me) }
         requires sound { journal.now.sound ≡ true }
@@ -188,7 +190,8 @@ impl Machine {
         Ok(())
     }
 
-    /// Adds entries to what is known of an arc, a step each. Want of memory leaves everything as it was, in no step.
+    /// Adds entries to what is known of an arc, a step each. Want of memory leaves everything as it
+    /// was, in no step.
     pub fn learn<L: Ledger>(
         &mut self,
         arc: ArcId,
@@ -206,11 +209,12 @@ impl Machine {
         let index = &mut self.known[arc as usize];
         let added = index.extend(entries, steps);
         let height = index.height();
-        self.rest = self.rest.after(ticks, height);
+        self.rest = self.rest.remaining_rest(ticks, height);
         added
     }
 
-    /// Adds ticks to what is known of an arc, a step each. It takes no memory, and as long for many as for one.
+    /// Adds ticks to what is known of an arc, a step each. It takes no memory, and as long for many
+    /// as for one.
     pub fn learn_ticks<L: Ledger>(&mut self, arc: ArcId, run: Run, steps: &mut Steps<L>)
         requires arc { arc < length self.old.deal.graph.arcs }
         requires right { IsRightRun run }
@@ -221,15 +225,16 @@ impl Machine {
         let index = &mut self.known[arc as usize];
         index.push_ticks(run, steps);
         let height = index.height();
-        self.rest = self.rest.after(true, height);
+        self.rest = self.rest.remaining_rest(true, height);
     }
 
-    /// The first call that is due, with its arc. It signs a hashkey only for the call that it answers, and keeps it.
-    /// Once nothing is due it rests: it looks again only after it has learnt a call, or a tick above an expiry that it waits for.
+    /// The first call that is due, with its arc. It signs a hashkey only for the call that it
+    /// answers, and keeps it. Once nothing is due it rests: it looks again only after it has learnt
+    /// a call, or a tick above an expiry that it waits for.
     pub fn next(&mut self) -> Result<Option<(ArcId, Call)>, NoMemory>
         ensures due { IfOk result (λ o. option_map due_action o ≡ next_due self.old) }
-        ensures signed { IfOk result (λ o. signed_in self.new.signed ≡ noted_for (signed_in self.old.signed) o) }
-        ensures once { (i : ℕ) (k : Hashkey) → signed_in self.old.signed i ≡ Some k → signed_in self.new.signed i ≡ Some k }
+        ensures signed { IfOk result (λ o. signed_hashkey self.new.signed ≡ noted_if_called (signed_hashkey self.old.signed) o) }
+        ensures once { (i : ℕ) (k : Hashkey) → signed_hashkey self.old.signed i ≡ Some k → signed_hashkey self.new.signed i ≡ Some k }
         ensures whole { IfOk result (λ o. (k : Hashkey) → new_key self.old.signed (option_map due_action o) ≡ Some k → IsWholeKey self.old.deal k) }
         ensures same { IsOfSame self.old self.new }
         ensures err { OnErr result (self.new ≡ self.old) }
@@ -259,9 +264,9 @@ impl Machine {
         }
     }
 
-    /// The first call that is due, where a hashkey that it signs is recorded in the party's journal before
-    /// it is answered. The journal was opened for the machine's deal and party. After a fault it is to be
-    /// opened again, and the machine to be made again by `resume`.
+    /// The first call that is due, where a hashkey that it signs is recorded in the party's journal
+    /// before it is answered. The journal was opened for the machine's deal and party. After a
+    /// fault it is to be opened again, and the machine to be made again by `resume`.
     pub fn next_recorded<D: Disk>(
         &mut self,
         journal: &mut Journal<D>,
@@ -270,8 +275,8 @@ impl Machine {
         requires sound { journal.old.sound ≡ true }
         requires recorded { journal.old.signed ≡ self.old.signed }
         ensures due { IfOk result (λ o. option_map due_action o ≡ next_due self.old) }
-        ensures signed { IfOk result (λ o. signed_in self.new.signed ≡ noted_for (signed_in self.old.signed) o) }
-        ensures once { (i : ℕ) (k : Hashkey) → signed_in self.old.signed i ≡ Some k → signed_in self.new.signed i ≡ Some k }
+        ensures signed { IfOk result (λ o. signed_hashkey self.new.signed ≡ noted_if_called (signed_hashkey self.old.signed) o) }
+        ensures once { (i : ℕ) (k : Hashkey) → signed_hashkey self.old.signed i ≡ Some k → signed_hashkey self.new.signed i ≡ Some k }
         ensures same { IsOfSame self.old self.new }
 
         // The journal has the hashkeys that were signed. The answered hashkey is recorded on each
@@ -286,14 +291,16 @@ impl Machine {
         ensures written { OnOk result ((k : Hashkey) → signs_next self.old ≡ Some k
             → IsWritten k (D.synced journal.old.disk) (D.synced journal.new.disk) (D.loose journal.new.disk)) }
 
-        // A crash at any moment leaves what was recorded, and else the new hashkey whole or not at all.
+        // A crash at any moment leaves what was recorded, and else the new hashkey whole or not at
+        // all.
         ensures any_moment { LeavesOnly D.moment D.left_since journal.old.disk journal.new.disk (KeepsRecorded (D.may_leave journal.old.disk)) }
         ensures whole { LeavesOnly D.moment D.left_since journal.old.disk journal.new.disk
             (λ c. D.may_leave journal.old.disk c ⊎ MayHave (D.seen journal.old.disk) (signs_next self.old) c) }
         ensures own { ((c : List ℕ) → D.may_leave journal.old.disk c → IsOwn self.old.deal journal.old.me c)
             → LeavesOnly D.moment D.left_since journal.old.disk journal.new.disk (IsOwn self.old.deal journal.old.me) }
 
-        // A disk that never fails stays one, and gives no fault. One that stops within the four calls of a record has the writes of those so far.
+        // A disk that never fails stays one, and gives no fault. One that stops within the four
+        // calls of a record has the writes of those so far.
         ensures never { D.never_fails journal.old.disk → D.never_fails journal.new.disk }
         ensures passes { D.never_fails journal.old.disk → IfErr result (λ e. e ≡ Wanting) }
         ensures stops { (n : ℕ) (k : Hashkey) → n < 4 → D.stops_after journal.old.disk n → signs_next self.old ≡ Some k
@@ -305,7 +312,7 @@ impl Machine {
             → recorded (bytes_left image (D.synced journal.new.disk) (D.loose journal.new.disk)) k.lock ≡ kept_key k n image) }
 
         // Where the disk fails, the hashkey that it was to record is signed.
-        ensures kept { IfErr result (λ e. e ≡ Stopped → (k : Hashkey) → signs_next self.old ≡ Some k → signed_in self.new.signed k.lock ≡ Some k) }
+        ensures kept { IfErr result (λ e. e ≡ Stopped → (k : Hashkey) → signs_next self.old ≡ Some k → signed_hashkey self.new.signed k.lock ≡ Some k) }
         ensures journal { (journal.new.id ≡ journal.old.id) × (journal.new.me ≡ journal.old.me) }
         ensures later { D.faults journal.old.disk ≤ D.faults journal.new.disk }
         ensures untouched { IfErr result (λ e. e ≡ Wanting
@@ -321,15 +328,15 @@ impl Machine {
         Ok(answer)
     }
 
-    /// The height up to which no tick makes anything due, where nothing is due and the party rests: the
-    /// least expiry that it waits for, or the greatest height, where it waits for none.
+    /// The height up to which no tick makes anything due, where nothing is due and the party rests:
+    /// the least expiry that it waits for, or the greatest height, where it waits for none.
     pub fn idle_deadline(&self) -> Option<u64>
         ensures at_rest { IfSome result (λ t. IsAtRest (Some t) self.now) }
-        ensures height { IfSome result (λ t. t ≡ latest_height (rest_deadline self.now.deal self.now.me self.now.known)) }
+        ensures height { IfSome result (λ t. t ≡ rest_end_height (rest_deadline self.now.deal self.now.me self.now.known)) }
     {
         match self.rest {
             Rest::Awake => None,
-            Rest::Until(until) => Some(latest_height(until)),
+            Rest::Until(until) => Some(rest_end_height(until)),
         }
     }
 

@@ -2,7 +2,7 @@
 
 ghost use Rattle.std.specs.Prelude.{◌≡◌};
 ghost use Rattle.swap_rules.specs.Rest.{are_ticks};
-ghost use Rattle.party_machine.specs.Rest.{rest_after};
+ghost use Rattle.party_machine.specs.Rest.{remaining_rest};
 
 use ledger_core::EntryList;
 
@@ -10,14 +10,16 @@ use ledger_core::EntryList;
 #[derive(Clone, Copy)]
 pub(crate) enum Rest {
     Awake,
-    /// Nothing is due, and no tick up to that height makes anything due; no tick at all, where there is none.
+    /// Nothing is due, and no tick up to that height makes anything due; no tick at all, where
+    /// there is none.
     Until(Option<u64>),
 }
 
 impl Rest {
-    /// What is left of rest once more entries of a ledger, ticks or not, have brought it to that height.
-    pub(crate) fn after(self, ticks: bool, height: u32) -> Rest
-        ensures { result ≡ rest_after self ticks height }
+    /// What is left of rest once more entries of a ledger, ticks or not, have brought it to that
+    /// height.
+    pub(crate) fn remaining_rest(self, ticks: bool, height: u32) -> Rest
+        ensures { result ≡ remaining_rest self ticks height }
     {
         match self {
             Rest::Until(None) if ticks => self,

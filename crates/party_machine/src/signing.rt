@@ -1,11 +1,11 @@
 //! The hashkey of an unlock that is due: the one that was signed, or a new one.
 
 ghost use Rattle.std.specs.Prelude.{◌≡◌, ◌<◌, None, length, IfOk, OnErr, IsSome};
-ghost use Rattle.party_wallet.specs.Value.{signed_in};
-ghost use Rattle.due_calls.specs.Unlocks.{IsSeenOn};
+ghost use Rattle.party_wallet.specs.Value.{signed_hashkey};
+ghost use Rattle.due_calls.specs.Unlocks.{IsSeenBase};
 ghost use Rattle.party_wallet.specs.Keys.{with_signed};
 ghost use Rattle.party_machine.specs.Within.{all_entries, IsReady};
-ghost use Rattle.party_machine.specs.Unlocking.{base_key, due_hashkey, CanPutOnto};
+ghost use Rattle.party_machine.specs.Unlocking.{base_key, due_hashkey, IsSignable};
 ghost use Rattle.std.specs.Prelude.{Some};
 ghost use Rattle.ledger_core.specs.Facts.{opened_key};
 ghost use Rattle.swap_rules.specs.Due.{extended};
@@ -31,9 +31,9 @@ fn sign_extension(
     requires mode { wallet.old.mode ≡ deal.now.mode }
     requires party { wallet.old.party < deal.now.graph.n }
     requires lock { lock < length wallet.old.signed }
-    requires unsigned { signed_in wallet.old.signed lock ≡ None }
+    requires unsigned { signed_hashkey wallet.old.signed lock ≡ None }
     requires known { lock < length index.now.terms.locks }
-    requires onto { CanPutOnto deal.now lock (opened_key index.now.entries lock) }
+    requires onto { IsSignable deal.now lock (opened_key index.now.entries lock) }
     ensures value { IfOk result (λ k. extended (seed_wallet wallet.old.seed wallet.old.party deal.now) (opened_key index.now.entries lock) ≡ Some k) }
     ensures kept { IfOk result (λ k. wallet.new ≡ with_signed wallet.old lock k) }
     ensures err { OnErr result (wallet.new ≡ wallet.old) }
@@ -45,7 +45,8 @@ fn sign_extension(
 }
 
 /// Signs a hashkey for the lock, for which none was signed.
-// Never inlined: what a signature takes on the stack would be taken by each act that finds nothing due.
+// Never inlined: what a signature takes on the stack would be taken by each act that finds nothing
+// due.
 #[inline(never)]
 fn sign_new(
     alloc: Global,
@@ -56,9 +57,9 @@ fn sign_new(
 ) -> Result<Shared<Hashkey>, NoMemory>
     requires ready { IsReady deal.now wallet.old known.now }
     requires lock { due.lock < length deal.now.leaders }
-    requires base { IsSeenOn deal.now wallet.old.party (all_entries known.now) due.lock due.base }
+    requires base { IsSeenBase deal.now wallet.old.party (all_entries known.now) due.lock due.base }
     requires from { IsSome (base_key deal.now wallet.old (all_entries known.now) due) }
-    requires unsigned { signed_in wallet.old.signed due.lock ≡ None }
+    requires unsigned { signed_hashkey wallet.old.signed due.lock ≡ None }
     ensures value { IfOk result (λ k. base_key deal.now wallet.old (all_entries known.now) due ≡ Some k) }
     ensures kept { IfOk result (λ k. wallet.new ≡ with_signed wallet.old due.lock k) }
     ensures err { OnErr result (wallet.new ≡ wallet.old) }
@@ -70,7 +71,8 @@ fn sign_new(
     }
 }
 
-/// A copy of the hashkey of an unlock that is due, which is signed where none was for its lock. Want of memory leaves everything as it was.
+/// A copy of the hashkey of an unlock that is due, which is signed where none was for its lock.
+/// Want of memory leaves everything as it was.
 pub(crate) fn chosen_hashkey(
     alloc: Global,
     wallet: &mut Wallet,
@@ -80,7 +82,7 @@ pub(crate) fn chosen_hashkey(
 ) -> Result<Shared<Hashkey>, NoMemory>
     requires ready { IsReady deal.now wallet.old known.now }
     requires lock { due.lock < length deal.now.leaders }
-    requires base { IsSeenOn deal.now wallet.old.party (all_entries known.now) due.lock due.base }
+    requires base { IsSeenBase deal.now wallet.old.party (all_entries known.now) due.lock due.base }
     requires from { IsSome (base_key deal.now wallet.old (all_entries known.now) due) }
     ensures value { IfOk result (λ k. due_hashkey deal.now wallet.old (all_entries known.now) due ≡ Some k) }
     ensures kept { IfOk result (λ k. wallet.new ≡ with_signed wallet.old due.lock k) }

@@ -8,13 +8,13 @@ use Rattle.party_main.specs.declared.command.Command.{Command}
 use Rattle.party_main.specs.declared.reason.PartyReason.{PartyReason}
 use Rattle.party_main.specs.declared.top.PartyStatus.{PartyStatus}
 use Rattle.party_main.specs.declared.top.PartyStatus.TheVariants.{Done, Warned, WrongWords, Refused, ReadFault, WriteFault, NoMemory, TooLong}
-use Rattle.party_main.specs.Words.{words_command, read_limit}
+use Rattle.party_main.specs.Words.{words_command, command_input_limit}
 use Rattle.party_main.specs.Output.{command_output, IsPromised}
 use Rattle.party_main.specs.Says.{HasAnswer, HasText, Says, Writes}
 
 -- The whole input was read for a command.
 module _ (words : List (List ℕ)) (command : Command) (asked : words_command words ≡ Some command) (input : List ℕ) (left left' : Option (List ℕ))
-    (took : Consumes left left' input) (ended : IsAtEnd left') (within : length input ≤ read_limit command) where
+    (took : Consumes left left' input) (ended : IsAtEnd left') (within : length input ≤ command_input_limit command) where
   abbrev read : (answer : Result Answer PartyReason) → command_output command input ≡ answer → HasAnswer words left left' answer
   read answer e = record { command = command; asked = asked; input = input; taken = took; ended = ended; within = within; gives = e }
 

@@ -54,8 +54,8 @@ pub record IsPartsAnswer (name : List ℕ) (parts : Cut) (answer : Answer) : Typ
   pub told : read_seed_line parts.line ≡ Ok seed
   pub is : IsAnswer 2 name seed parts.rest answer
 
--- The answer is that to an input: to what stands behind its first line, with the seed that this line
--- tells.
+-- The answer is that to an input: to what stands behind its first line, with the seed that this
+-- line tells.
 pub record IsInputAnswer (name input : List ℕ) (answer : Answer) : Type 0 where
   pub parts : Cut
   pub cut : cut input ≡ Ok parts

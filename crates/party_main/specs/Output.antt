@@ -36,8 +36,8 @@ command_output Deal input = by_deal (deal_output input)
 command_output (Terms name) input = by_header (terms_output name input)
 command_output (Next name) input = by_answer (next_output name input)
 
--- What holds of what is written of an input beside: a deal's line is that of an accepted deal, and an
--- answer is promised.
+-- What holds of what is written of an input beside: a deal's line is that of an accepted deal, and
+-- an answer is promised.
 abbrev pub IsPromised : Command → List ℕ → Answer → Type 0
 IsPromised (Keys name) input answer = Unit {0}
 IsPromised Deal input answer = IsDealt answer.text

@@ -10,7 +10,7 @@ use Rattle.party_main.specs.declared.command.Command.{Command}
 use Rattle.party_main.specs.declared.reason.PartyReason.{PartyReason}
 use Rattle.party_main.specs.declared.top.PartyStatus.{PartyStatus}
 use Rattle.party_main.specs.declared.top.PartyStatus.TheVariants.{Done, Warned, WrongWords, Refused, ReadFault, WriteFault, NoMemory, TooLong}
-use Rattle.party_main.specs.Words.{words_command, words_limit, read_limit}
+use Rattle.party_main.specs.Words.{words_command, words_limit, command_input_limit}
 use Rattle.party_main.specs.Output.{command_output, IsPromised}
 
 -- The words are a command's, the whole input was read, and this is what is written of it.
@@ -20,7 +20,7 @@ pub record HasAnswer (words : List (List ℕ)) (left left' : Option (List ℕ)) 
   pub input : List ℕ
   pub taken : Consumes left left' input
   pub ended : IsAtEnd left'
-  pub within : length input ≤ read_limit command
+  pub within : length input ≤ command_input_limit command
   pub gives : command_output command input ≡ answer
 
 -- A text is written of it, which is promised, and P tells what was written of this text.

@@ -32,13 +32,13 @@ abbrev pub next_limit : ℕ
 next_limit = 150994944
 
 -- the most bytes that are read for a command
-abbrev pub read_limit : Command → ℕ
-read_limit (Keys name) = short_limit
-read_limit Deal = short_limit
-read_limit (Terms name) = short_limit
-read_limit (Next name) = next_limit
+abbrev pub command_input_limit : Command → ℕ
+command_input_limit (Keys name) = short_limit
+command_input_limit Deal = short_limit
+command_input_limit (Terms name) = short_limit
+command_input_limit (Next name) = next_limit
 
 -- the most bytes that are read for words
 abbrev pub words_limit : Option Command → ℕ
 words_limit None = 0
-words_limit (Some command) = read_limit command
+words_limit (Some command) = command_input_limit command

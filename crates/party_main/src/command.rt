@@ -1,7 +1,7 @@
 //! What the words of the program `party` ask for.
 
 ghost use Rattle.std.specs.Prelude.{◌≡◌, map, string_bytes};
-ghost use Rattle.party_main.specs.Words.{alone, words_command, read_limit, named};
+ghost use Rattle.party_main.specs.Words.{alone, words_command, command_input_limit, named};
 
 use offer_fields::TextRef;
 
@@ -13,9 +13,9 @@ pub const SHORT_LIMIT: usize = 1_048_576;
 
 /// The most bytes of an input of `next`.
 ///
-/// The largest deal has 128 arcs, all of them next to one party, and 8 locks. On each ledger at most 8
-/// unlocks are accepted. The line of an unlock has at most 137,500 bytes: 32 signatures of 4,288
-/// digits, 32 numbers of parties, a secret and the words around them. So the unlocks come to
+/// The largest deal has 128 arcs, all of them next to one party, and 8 locks. On each ledger at
+/// most 8 unlocks are accepted. The line of an unlock has at most 137,500 bytes: 32 signatures of
+/// 4,288 digits, 32 numbers of parties, a secret and the words around them. So the unlocks come to
 /// 140,800,000 bytes, 8 kept hashkeys to 1,100,000, header and context to 328,705, and publishes,
 /// claims, refunds and ticks to less than 1,000,000. That is less than 144 MiB.
 pub const NEXT_LIMIT: usize = 150_994_944;
@@ -69,8 +69,8 @@ pub(crate) fn words_command<'a>(words: &'a [String]) -> Option<Command<'a>>
 }
 
 /// The most bytes that are read for a command.
-pub(crate) fn read_limit(command: &Command<'_>) -> usize
-    ensures { result ≡ read_limit command.now }
+pub(crate) fn command_input_limit(command: &Command<'_>) -> usize
+    ensures { result ≡ command_input_limit command.now }
 {
     match command {
         Command::Next(_) => NEXT_LIMIT,

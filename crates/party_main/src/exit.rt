@@ -8,7 +8,8 @@ use crate::top::PartyStatus;
 use command_input::{Exit, Told};
 use std::alloc::Global;
 
-/// What the process ends with by its status. A refusal whose line finds no memory ends as want of memory does.
+/// What the process ends with by its status. A refusal whose line finds no memory ends as want of
+/// memory does.
 #[tactic(auto, unfolding(crate::specs::Exit::error_lines))]
 pub fn ending(alloc: Global, status: PartyStatus) -> Exit
     ensures exact { IsExit result status ⊎ IsExit result PartyStatus.NoMemory }

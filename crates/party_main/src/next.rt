@@ -1,5 +1,5 @@
-//! What is answered to an input of `next`: its first line tells the seed, and the rest stands behind
-//! it.
+//! What is answered to an input of `next`: its first line tells the seed, and the rest stands
+//! behind it.
 
 ghost use Rattle.std.specs.Prelude.{◌≡◌, IfOk};
 ghost use Rattle.swap_base.specs.Fault.{Gives};

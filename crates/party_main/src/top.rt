@@ -5,7 +5,7 @@ ghost use Rattle.command_input.specs.Streams.{streams};
 ghost use Rattle.party_main.specs.Says.{of_fault, Says, Writes};
 ghost use Rattle.party_main.specs.Words.{words_command};
 
-use crate::command::{Command, read_limit, words_command};
+use crate::command::{Command, command_input_limit, words_command};
 use crate::output::command_output;
 use crate::reason::{PartyFault, PartyReason};
 use party_answer::Answer;
@@ -59,7 +59,7 @@ fn obey<S: Source, K: Sink>(
         → Says words (streams (S.left source.old) (S.faults source.old) (K.taken sink.old) (K.faults sink.old))
         (streams (S.left source.new) (S.faults source.new) (K.taken sink.new) (K.faults sink.new)) result }
 {
-    let input = match read_all(alloc, source, read_limit(command)) {
+    let input = match read_all(alloc, source, command_input_limit(command)) {
         Ok(input) => input,
         Err(ReadAllFault::ReadFault) => return PartyStatus::ReadFault,
         Err(ReadAllFault::TooLong) => return PartyStatus::TooLong,

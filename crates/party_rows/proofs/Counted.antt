@@ -8,13 +8,13 @@ use Rattle.swap_digraph.specs.declared.deal.Deal.{Deal}
 use Rattle.refusals.specs.declared.reason.Reason.{Reason}
 use Rattle.refusals.specs.declared.reason.Reason.TheVariants.{OverLimit}
 use Rattle.refusals.specs.Refusal.{named}
-use Rattle.offer_fields.specs.Limits.{within}
+use Rattle.offer_fields.specs.Limits.{check_range}
 use Rattle.party_rows.specs.declared.row.Row.{Row}
 use Rattle.party_rows.specs.Rows.{keys_wanted, right_keys, find_row, AreDealRows}
 
 -- a row that is right has a key for each lock
 pub keys_right : (line : ℕ) (d : Deal) (row : Row) (u : Unit {0}) → right_keys line d row ≡ Ok u → length row.keys ≡ keys_wanted d.mode d
-unfolding right_keys within
+unfolding right_keys check_range
 keys_right line d row u e = go (nat_le wanted n) (nat_le n wanted) refl refl e
   where
     wanted : ℕ

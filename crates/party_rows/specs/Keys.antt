@@ -39,8 +39,8 @@ keys_from_lines name ls = do
 unfoldable pub keys_output : List ℕ → List ℕ → Result (List ℕ) Refusal
 keys_output name text = ended_lines text >>= keys_from_lines name
 
--- what the library's call writes, to which the seed is handed apart from the offer's line; lines are
--- counted as where the seed has one
+-- what the library's call writes, to which the seed is handed apart from the offer's line; lines
+-- are counted as where the seed has one
 unfoldable pub own_row_output : List ℕ → List ℕ → List ℕ → Result (List ℕ) Refusal
 own_row_output name seed text = ended_lines text >>= row_from_lines name seed
 

@@ -5,14 +5,14 @@ use Rattle.swap_digraph.specs.declared.deal.Deal.{Deal}
 use Rattle.swap_job.specs.declared.job.Job.{Job}
 use Rattle.swap_job.specs.declared.job.Purpose.TheVariants.{Audit}
 use Rattle.proposed_deal.specs.Proposed.{IsProposed}
-use Rattle.swap_gen.specs.Made.{made_deal, read_seed}
+use Rattle.swap_gen.specs.Made.{made_deal, seed_or_zeros}
 use Rattle.party_rows.specs.declared.row.Row.{Row}
 use Rattle.party_rows.specs.Dealt.{dealt, dealt_deal, dealt_line}
 use Rattle.party_rows.specs.Row.{seeded_row}
 
 -- the row that the seed of each party gives it
 abbrev pub seeded_rows : List (Option (List ℕ)) → Deal → List (Option Row)
-seeded_rows seeds d = map (λ p. Some (seeded_row (read_seed seeds p) p d)) (range_with_len 0 d.graph.n)
+seeded_rows seeds d = map (λ p. Some (seeded_row (seed_or_zeros seeds p) p d)) (range_with_len 0 d.graph.n)
 
 -- With the rows that the parties' seeds give, the deal of a proposed one is that which is made with
 -- these seeds.

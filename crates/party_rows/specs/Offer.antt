@@ -13,7 +13,7 @@ use Rattle.offer_header.specs.declared.header.Header.{Header}
 use Rattle.offer_header.specs.Header.{parse_whole_header}
 use Rattle.offer_header.specs.Names.{no_strategy}
 use Rattle.swap_offer.specs.Checks.{admitted, assemble_job}
-use Rattle.swap_offer.specs.Job.{names_at}
+use Rattle.swap_offer.specs.Job.{header_names}
 use Rattle.party_lines.specs.Lines.{short_header}
 
 -- no party's seed is told
@@ -42,4 +42,4 @@ parse_plain line text = parse_whole_header no_strategy Make line text >>= propos
 unfoldable pub parse_offer : ℕ → List ℕ → Result Job Refusal
 parse_offer line text = do
   u ← short_header line text
-  named (names_at no_strategy Make line text) (parse_plain line text)
+  named (header_names no_strategy Make line text) (parse_plain line text)

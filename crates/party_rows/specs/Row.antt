@@ -10,8 +10,8 @@ use Rattle.hash_signature.specs.Signature.{hashed_value, derive_secret, derive_p
 use Rattle.swap_rules.specs.Party.{leads_one}
 use Rattle.offer_header.specs.Names.{is_name}
 use Rattle.transcript_lines.specs.declared.said.Misspelling.{Misspelling}
-use Rattle.transcript_lines.specs.Between.{parts_at, spaced}
-use Rattle.transcript_lines.specs.Reading.{misspelt, to_digest, field_of, is_word, inside_entries, nothing_more}
+use Rattle.transcript_lines.specs.Between.{separated_parts, spaced}
+use Rattle.transcript_lines.specs.Reading.{misspelt, to_digest, parse_first_field, is_word, inside_entries, nothing_more}
 use Rattle.transcript_lines.specs.Words.{list_word}
 use Rattle.party_lines.specs.Digests.{this_word}
 use Rattle.party_rows.specs.declared.row.Row.{Row}
@@ -58,13 +58,13 @@ hashlock_said w = if is_word w (codes "-") then Ok None else (to_digest w >>= λ
 -- the name and its row that the fields of a line say
 unfoldable pub row_said : List (List ℕ) → Result NamedRow Misspelling
 row_said ws = do
-  word ← field_of (this_word (codes "row")) ws
-  name ← field_of name_said word.1
-  hashlock ← field_of hashlock_said name.1
-  keys ← field_of (inside_entries to_digest) hashlock.1
+  word ← parse_first_field (this_word (codes "row")) ws
+  name ← parse_first_field name_said word.1
+  hashlock ← parse_first_field hashlock_said name.1
+  keys ← parse_first_field (inside_entries to_digest) hashlock.1
   u ← nothing_more keys.1
   Ok (record { name = name.0; row = record { hashlock = hashlock.0; keys = keys.0 } })
 
 -- what a line says
 unfoldable pub parse_row : List ℕ → Result NamedRow Misspelling
-parse_row line = row_said (parts_at 32 line)
+parse_row line = row_said (separated_parts 32 line)

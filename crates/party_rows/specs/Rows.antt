@@ -10,8 +10,8 @@ use Rattle.swap_job.specs.declared.job.Job.{Job}
 use Rattle.refusals.specs.declared.reason.Reason.TheVariants.{Duplicate}
 use Rattle.refusals.specs.declared.refusal.Refusal.{Refusal}
 use Rattle.refusals.specs.Refusal.{named}
-use Rattle.offer_fields.specs.Limits.{within}
-use Rattle.party_lines.specs.Lines.{nameless, next_number, read_in_own_line}
+use Rattle.offer_fields.specs.Limits.{check_range}
+use Rattle.party_lines.specs.Lines.{nameless, next_number, or_bad_line}
 use Rattle.party_lines.specs.Names.{party_named}
 use Rattle.party_rows.specs.declared.row.Row.{Row}
 use Rattle.party_rows.specs.declared.row.NamedRow.{NamedRow}
@@ -43,11 +43,11 @@ check_first line name (Some row) = Err (nameless (Duplicate line name))
 -- the row has a hashlock exactly where the party leads
 unfoldable pub right_hashlock : ℕ → (leads : Bool) → Row → Result (Unit {0}) Refusal
 right_hashlock line leads row =
-    named [] (within line (codes "hashlock") (hashlocks_wanted leads) (hashlocks_wanted leads) (count_hashlocks row.hashlock))
+    named [] (check_range line (codes "hashlock") (hashlocks_wanted leads) (hashlocks_wanted leads) (count_hashlocks row.hashlock))
 
 -- it has a key for each lock, with timelocks none
 unfoldable pub right_keys : ℕ → Deal → Row → Result (Unit {0}) Refusal
-right_keys line d row = named [] (within line (codes "keys") (keys_wanted d.mode d) (keys_wanted d.mode d) (length row.keys))
+right_keys line d row = named [] (check_range line (codes "keys") (keys_wanted d.mode d) (keys_wanted d.mode d) (length row.keys))
 
 -- with the row of party p, which the line of that number gives
 unfoldable pub with_party_row : Job → ℕ → List (Option Row) → ℕ → NamedRow → Result (List (Option Row)) Refusal
@@ -60,7 +60,7 @@ with_party_row job line rows p r = do
 -- with the row that a line gives
 unfoldable pub with_row : Job → ℕ → List (Option Row) → List ℕ → Result (List (Option Row)) Refusal
 with_row job line rows text = do
-  r ← read_in_own_line line (parse_row text)
+  r ← or_bad_line line (parse_row text)
   p ← party_named line job.names r.name
   with_party_row job line rows p r
 

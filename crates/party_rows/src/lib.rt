@@ -1,8 +1,8 @@
 //! A deal without anybody's seed: `keys` gives a party's row of its seed, and `deal` makes a deal's
 //! header line of everybody's rows.
 //!
-//! Read `specs/Keys.antt` first: `keys_output` and `deal_output` say what is written of a text, or the
-//! first reason against it; then `specs/Offer.antt`, `specs/Row.antt`, `specs/Rows.antt` and
+//! Read `specs/Keys.antt` first: `keys_output` and `deal_output` say what is written of a text, or
+//! the first reason against it; then `specs/Offer.antt`, `specs/Row.antt`, `specs/Rows.antt` and
 //! `specs/Dealt.antt`, which say what a plain offer and rows are, and what they come to;
 //! `specs/Laws.antt` has the law.
 #![tactic(auto)]

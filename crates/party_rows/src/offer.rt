@@ -5,10 +5,10 @@ ghost use Rattle.std.specs.List.{list_all};
 ghost use Rattle.swap_base.specs.Fault.{Gives};
 ghost use Rattle.swap_digraph.specs.Graph.{HasEnds};
 ghost use Rattle.refusals.specs.Refusal.{named};
-ghost use Rattle.offer_header.specs.Header.{IsHeaderWithin};
+ghost use Rattle.offer_header.specs.Header.{IsHeaderInLimits};
 ghost use Rattle.offer_header.specs.Names.{no_strategy};
-ghost use Rattle.swap_offer.specs.Checks.{header_deal, IsAcceptedFor};
-ghost use Rattle.swap_offer.specs.Job.{names_at};
+ghost use Rattle.swap_offer.specs.Checks.{header_deal, IsAcceptedOrProposed};
+ghost use Rattle.swap_offer.specs.Job.{header_names};
 ghost use Rattle.party_rows.specs.Inside.{IsOffered};
 ghost use Rattle.party_rows.specs.Offer.{examined, parse_offer, parse_plain, proposed_job, untold};
 
@@ -42,11 +42,11 @@ fn untold(alloc: Global, line: u32, seeds: &[Option<Digest>]) -> Result<(), Offe
 /// The digraph of a header that passes its checks and tells nobody's seed.
 #[tactic(auto, unfolding(crate::specs::Offer::examined))]
 fn examined(alloc: Global, line: u32, header: &Header) -> Result<Digraph, OfferFault>
-    requires { IsHeaderWithin header.now }
+    requires { IsHeaderInLimits header.now }
     ensures exact { Gives (λ g. g) result (examined line header.now) }
     ensures parts { IfOk result (λ g. (g.n ≡ length header.now.names) × (g.arcs ≡ header.now.arcs)) }
     ensures ends { IfOk result HasEnds }
-    ensures accepted { IfOk result (λ g. IsAcceptedFor header.now.purpose (header_deal header.now g)) }
+    ensures accepted { IfOk result (λ g. IsAcceptedOrProposed header.now.purpose (header_deal header.now g)) }
 {
     let (graph, _) = admit(alloc, header)?;
     untold(alloc, line, header.seeds.as_slice())?;
@@ -56,7 +56,7 @@ fn examined(alloc: Global, line: u32, header: &Header) -> Result<Digraph, OfferF
 /// The job that a header proposes; the reason against it takes the header's names.
 #[tactic(auto, using(swap_offer::proofs::Size::is_sized, refusals::proofs::Named::fails), unfolding(crate::specs::Offer::proposed_job))]
 fn proposed(alloc: Global, line: u32, header: Header) -> Result<Job, HeaderFault>
-    requires within { IsHeaderWithin header }
+    requires within { IsHeaderInLimits header }
     requires plain { header.purpose ≡ Purpose.Make }
     ensures exact { Gives (λ j. j) result (named header.names (proposed_job line header)) }
     ensures offered { IfOk result IsOffered }
@@ -68,9 +68,9 @@ fn proposed(alloc: Global, line: u32, header: Header) -> Result<Job, HeaderFault
 }
 
 /// The job that a line proposes.
-#[tactic(auto, using(refusals::proofs::Named::fails), unfolding(crate::specs::Offer::parse_plain, swap_offer::specs::Job::names_at))]
+#[tactic(auto, using(refusals::proofs::Named::fails), unfolding(crate::specs::Offer::parse_plain, swap_offer::specs::Job::header_names))]
 fn plain(alloc: Global, line: u32, text: &[u8]) -> Result<Job, HeaderFault>
-    ensures exact { Gives (λ j. j) result (named (names_at no_strategy Purpose.Make line text.now) (parse_plain line text.now)) }
+    ensures exact { Gives (λ j. j) result (named (header_names no_strategy Purpose.Make line text.now) (parse_plain line text.now)) }
     ensures offered { IfOk result IsOffered }
 {
     let header = match parse_header(alloc, &[], Purpose::Make, line, text) {

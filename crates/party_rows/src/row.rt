@@ -5,8 +5,8 @@ ghost use Rattle.std.specs.List.{range_with_len};
 ghost use Rattle.swap_base.specs.Fault.{Gives};
 ghost use Rattle.hash_signature.specs.Signature.{derive_public_key};
 ghost use Rattle.transcript_book.specs.Taking.{Takes};
-ghost use Rattle.transcript_lines.specs.Between.{parts_at};
-ghost use Rattle.transcript_lines.specs.Reading.{to_digest, each_of, field_of, inside_entries};
+ghost use Rattle.transcript_lines.specs.Between.{separated_parts};
+ghost use Rattle.transcript_lines.specs.Reading.{to_digest, parse_each_word, parse_first_field, inside_entries};
 ghost use Rattle.party_rows.specs.Row.{seeded_hashlock, hashlock_said, seeded_keys, name_said, seeded_row, parse_row, row_said};
 
 use due_calls::leads_one;
@@ -107,9 +107,9 @@ fn name_said(alloc: Global, word: &[u8]) -> Result<ByteText, WordFault>
     }
 }
 
-#[tactic(auto, unfolding(transcript_lines::specs::Reading::field_of))]
+#[tactic(auto, unfolding(transcript_lines::specs::Reading::parse_first_field))]
 fn name_field(alloc: Global, fields: &mut Parts<'_>) -> Result<ByteText, WordFault>
-    ensures { Takes (λ n. n) result fields.new (field_of name_said fields.old) }
+    ensures { Takes (λ n. n) result fields.new (parse_first_field name_said fields.old) }
 {
     name_said(alloc, word(fields)?)
 }
@@ -123,15 +123,15 @@ fn hashlock_said(word: &[u8]) -> Result<Option<Digest>, WordFault>
     Ok(Some(to_digest(word)?))
 }
 
-#[tactic(auto, unfolding(transcript_lines::specs::Reading::field_of))]
+#[tactic(auto, unfolding(transcript_lines::specs::Reading::parse_first_field))]
 fn hashlock_field(fields: &mut Parts<'_>) -> Result<Option<Digest>, WordFault>
-    ensures { Takes (λ o. o) result fields.new (field_of hashlock_said fields.old) }
+    ensures { Takes (λ o. o) result fields.new (parse_first_field hashlock_said fields.old) }
 {
     hashlock_said(word(fields)?)
 }
 
 fn each_digest(alloc: Global, parts: &mut Parts<'_>) -> Result<Listed<Digest>, WordFault>
-    ensures { Gives (λ l. l) result (each_of to_digest parts.old) }
+    ensures { Gives (λ l. l) result (parse_each_word to_digest parts.old) }
 {
     let mut list = Vec::new(alloc);
     while let Some(word) = parts.next() {
@@ -150,9 +150,9 @@ fn parse_digests(alloc: Global, word: &[u8]) -> Result<Listed<Digest>, WordFault
     each_digest(alloc, &mut Parts::new(b',', word))
 }
 
-#[tactic(auto, unfolding(transcript_lines::specs::Reading::field_of))]
+#[tactic(auto, unfolding(transcript_lines::specs::Reading::parse_first_field))]
 fn digests_field(alloc: Global, fields: &mut Parts<'_>) -> Result<Listed<Digest>, WordFault>
-    ensures { Takes (λ l. l) result fields.new (field_of (inside_entries to_digest) fields.old) }
+    ensures { Takes (λ l. l) result fields.new (parse_first_field (inside_entries to_digest) fields.old) }
 {
     parse_digests(alloc, word(fields)?)
 }

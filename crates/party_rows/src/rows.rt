@@ -2,7 +2,7 @@
 
 ghost use Rattle.std.specs.Prelude.{◌≡◌, ◌<◌, IfOk, None, replicate};
 ghost use Rattle.swap_base.specs.Fault.{Gives};
-ghost use Rattle.party_lines.specs.Lines.{read_in_own_line};
+ghost use Rattle.party_lines.specs.Lines.{or_bad_line};
 ghost use Rattle.party_rows.specs.Inside.{IsOffered};
 ghost use Rattle.party_rows.specs.Row.{parse_row as row_of_line};
 ghost use Rattle.party_rows.specs.Rows.{check_first, count_hashlocks, hashlocks_wanted, keys_wanted, right_hashlock, right_keys, find_row, parse_rows};
@@ -10,7 +10,7 @@ ghost use Rattle.party_rows.specs.Rows.{with_party_row, with_row, with_rows, Are
 
 use crate::row::{NamedRow, Row, parse_row};
 use due_calls::leads_one;
-use offer_fields::within;
+use offer_fields::check_range;
 use party_lines::{party_named, refused};
 use refusals::{HeaderFault, Reason, with_names};
 use std::alloc::Global;
@@ -21,7 +21,7 @@ use transcript_book::Parts;
 
 /// What the line of that number says.
 fn said(alloc: Global, line: u32, text: &[u8]) -> Result<NamedRow, HeaderFault>
-    ensures { Gives (λ r. r) result (read_in_own_line line (row_of_line text.now)) }
+    ensures { Gives (λ r. r) result (or_bad_line line (row_of_line text.now)) }
 {
     match parse_row(alloc, text) {
         Ok(row) => Ok(row),
@@ -69,7 +69,7 @@ fn right_hashlock(alloc: Global, line: u32, leads: bool, row: &Row) -> Result<()
     ensures { Gives (λ u. u) result (right_hashlock line leads row.now) }
 {
     let wanted = hashlocks_wanted(leads);
-    match within(
+    match check_range(
         alloc,
         line,
         "hashlock",
@@ -97,7 +97,7 @@ fn right_keys(alloc: Global, line: u32, deal: &Deal, row: &Row) -> Result<(), He
     ensures { Gives (λ u. u) result (right_keys line deal.now row.now) }
 {
     let wanted = keys_wanted(deal);
-    match within(alloc, line, "keys", wanted, wanted, row.keys.len() as u64) {
+    match check_range(alloc, line, "keys", wanted, wanted, row.keys.len() as u64) {
         Ok(()) => Ok(()),
         Err(fault) => Err(with_names(fault, Listed::empty(alloc))),
     }

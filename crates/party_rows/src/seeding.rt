@@ -62,8 +62,8 @@ fn keys_from_lines(
 /// with the 64 digits of its seed, and a plain offer that tells nobody's seed. Or the first reason
 /// against the text.
 ///
-/// A seed is for one swap: its keys sign once, and a party that signs in two swaps with one seed lets
-/// others sign in its name.
+/// A seed is for one swap: its keys sign once, and a party that signs in two swaps with one seed
+/// lets others sign in its name.
 #[tactic(auto, unfolding(crate::specs::Keys::keys_output))]
 pub fn keys(alloc: Global, name: &[u8], text: &[u8]) -> Result<ByteText, HeaderFault>
     ensures exact { Gives (λ t. t) result (keys_output name.now text.now) }

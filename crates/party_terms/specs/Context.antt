@@ -6,10 +6,10 @@ use Rattle.swap_base.specs.Fault.{◌>>=◌}
 use Rattle.refusals.specs.declared.reason.Reason.TheVariants.{OverLimit}
 use Rattle.refusals.specs.declared.refusal.Refusal.{Refusal}
 use Rattle.transcript_lines.specs.declared.said.Misspelling.{Misspelling}
-use Rattle.transcript_lines.specs.Between.{parts_at}
-use Rattle.transcript_lines.specs.Reading.{misspelt, field_of, first_field, is_word, bounded_number}
+use Rattle.transcript_lines.specs.Between.{separated_parts}
+use Rattle.transcript_lines.specs.Reading.{misspelt, parse_first_field, first_field, is_word, bounded_number}
 use Rattle.party_lines.specs.Digests.{this_word}
-use Rattle.party_lines.specs.Lines.{nameless, next_number, read_in_own_line}
+use Rattle.party_lines.specs.Lines.{nameless, next_number, or_bad_line}
 use Rattle.party_terms.specs.declared.context.ContextLine.{ContextLine}
 use Rattle.party_terms.specs.declared.context.Context.{Context}
 
@@ -28,14 +28,14 @@ begun w = if length w == 0 then misspelt else Ok tt
 -- the arc of which the fields of a line tell something, of a deal with so many arcs
 unfoldable pub arc_said : ℕ → List (List ℕ) → Result ℕ Misspelling
 arc_said arcs ws = do
-  word ← field_of (this_word (codes "about")) ws
-  arc ← field_of (bounded_number arcs) word.1
-  text ← field_of begun arc.1
+  word ← parse_first_field (this_word (codes "about")) ws
+  arc ← parse_first_field (bounded_number arcs) word.1
+  text ← parse_first_field begun arc.1
   Ok arc.0
 
 -- the arc of which a line tells something
 unfoldable pub parse_context_line : ℕ → List ℕ → Result ℕ Misspelling
-parse_context_line arcs line = if is_plain_line line then arc_said arcs (parts_at 32 line) else misspelt
+parse_context_line arcs line = if is_plain_line line then arc_said arcs (separated_parts 32 line) else misspelt
 
 -- there are at most 1,024 lines of context
 abbrev pub check_room : ℕ → List ContextLine → Result (Unit {0}) Refusal
@@ -45,7 +45,7 @@ check_room number list = if length list == 1024 then Err (nameless (OverLimit nu
 unfoldable pub with_context_line : ℕ → ℕ → List ContextLine → List ℕ → Result (List ContextLine) Refusal
 with_context_line arcs number list line = do
   u ← check_room number list
-  arc ← read_in_own_line number (parse_context_line arcs line)
+  arc ← or_bad_line number (parse_context_line arcs line)
   Ok (list ++ record { arc = arc; line = line } ∷ [])
 
 abbrev pub begins_context : List (List ℕ) → Bool
@@ -54,7 +54,7 @@ begins_context (w ∷ ws) = is_word w (codes "about")
 
 -- the first word of the line is `about`
 unfoldable pub is_context_line : List ℕ → Bool
-is_context_line line = begins_context (parts_at 32 line)
+is_context_line line = begins_context (separated_parts 32 line)
 
 abbrev pub context_end : ℕ → List ContextLine → List (List ℕ) → Result (Context × List (List ℕ)) Refusal
 context_end number list ls = Ok (record { list = list; next = number }, ls)

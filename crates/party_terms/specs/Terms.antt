@@ -8,7 +8,7 @@ use Rattle.swap_job.specs.declared.job.Purpose.TheVariants.{Audit}
 use Rattle.refusals.specs.declared.refusal.Refusal.{Refusal}
 use Rattle.refusals.specs.Refusal.{named}
 use Rattle.offer_header.specs.Names.{no_strategy}
-use Rattle.swap_offer.specs.Job.{job_header_of, names_at}
+use Rattle.swap_offer.specs.Job.{parse_header_job, header_names}
 use Rattle.party_lines.specs.Lines.{first_line, ended_lines, next_number, no_line, short_header}
 use Rattle.party_lines.specs.Names.{party_named}
 use Rattle.party_terms.specs.declared.context.ContextLine.{ContextLine}
@@ -19,7 +19,7 @@ use Rattle.party_terms.specs.Text.{terms_text}
 unfoldable pub parse_header_line : ℕ → List ℕ → Result Job Refusal
 parse_header_line line text = do
   u ← short_header line text
-  named (names_at no_strategy Audit line text) (job_header_of no_strategy Audit line text)
+  named (header_names no_strategy Audit line text) (parse_header_job no_strategy Audit line text)
 
 -- What wallets agree on: a deal, what they say of its arcs, and the digest of both. The line behind
 -- has that number.
@@ -37,8 +37,8 @@ agreed_text header context = (header ++ 10 ∷ []) ++ flat_map (λ x. x.line ++ 
 unfoldable pub agreed_digest : List ℕ → List ContextLine → List ℕ
 agreed_digest header context = sha256 (agreed_text header context)
 
--- what wallets agree on by the first of these lines, the header line of that number, and the lines of
--- context behind it; and the lines behind these
+-- what wallets agree on by the first of these lines, the header line of that number, and the lines
+-- of context behind it; and the lines behind these
 unfoldable pub parse_agreed : ℕ → List (List ℕ) → Result (AgreedState × List (List ℕ)) Refusal
 parse_agreed number ls = do
   header ← first_line ls

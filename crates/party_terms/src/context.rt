@@ -4,9 +4,9 @@ ghost use Rattle.std.specs.Prelude.{◌≡◌, ◌≤◌, ◌∷◌, MatchOption
 ghost use Rattle.std.specs.List.{list_all};
 ghost use Rattle.swap_base.specs.Fault.{Gives};
 ghost use Rattle.transcript_book.specs.Taking.{Takes};
-ghost use Rattle.transcript_lines.specs.Between.{parts_at};
-ghost use Rattle.transcript_lines.specs.Reading.{field_of};
-ghost use Rattle.party_lines.specs.Lines.{read_in_own_line, TakesLine};
+ghost use Rattle.transcript_lines.specs.Between.{separated_parts};
+ghost use Rattle.transcript_lines.specs.Reading.{parse_first_field};
+ghost use Rattle.party_lines.specs.Lines.{or_bad_line, TakesLine};
 ghost use Rattle.party_terms.specs.Context.{parse_context_line, arc_said, begun, parse_context, is_context_line, is_plain_line, is_printable, check_room, with_context_line};
 ghost use Rattle.party_terms.specs.Inside.{IsBehind};
 
@@ -62,9 +62,9 @@ fn begun(word: &[u8]) -> Result<(), WordFault>
     }
 }
 
-#[tactic(auto, unfolding(transcript_lines::specs::Reading::field_of))]
+#[tactic(auto, unfolding(transcript_lines::specs::Reading::parse_first_field))]
 fn text_field(fields: &mut Parts<'_>) -> Result<(), WordFault>
-    ensures { Takes (λ u. u) result fields.new (field_of begun fields.old) }
+    ensures { Takes (λ u. u) result fields.new (parse_first_field begun fields.old) }
 {
     begun(word(fields)?)
 }
@@ -96,7 +96,7 @@ fn parse_context_line(arcs: usize, line: &[u8]) -> Result<ArcId, WordFault>
 /// The arc of which the line of that number tells something.
 fn said(alloc: Global, arcs: usize, number: u32, line: &[u8]) -> Result<ArcId, HeaderFault>
     requires { arcs ≤ 256 }
-    ensures { Gives (λ a. a) result (read_in_own_line number (parse_context_line arcs line.now)) }
+    ensures { Gives (λ a. a) result (or_bad_line number (parse_context_line arcs line.now)) }
 {
     match parse_context_line(arcs, line) {
         Ok(arc) => Ok(arc),
@@ -158,8 +158,8 @@ fn next_context_line<'a>(lines: &mut Parts<'a>) -> Option<&'a [u8]>
     }
 }
 
-/// The lines of context of a deal with so many arcs. The first has that number; lines that aren't of
-/// context stay.
+/// The lines of context of a deal with so many arcs. The first has that number; lines that aren't
+/// of context stay.
 #[tactic(auto, unfolding(crate::specs::Context::parse_context))]
 pub(crate) fn read_context(
     alloc: Global,

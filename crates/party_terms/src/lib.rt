@@ -1,9 +1,9 @@
 //! The terms that a party's owner agrees to: what it pays and is paid, where and until when, and
 //! the digest to agree on with the others.
 //!
-//! Read `specs/Terms.antt` first: `terms_output` says what is written of a header line and its lines of
-//! context, or the first reason against them; then `specs/Context.antt`, `specs/Times.antt` and
-//! `specs/Text.antt`.
+//! Read `specs/Terms.antt` first: `terms_output` says what is written of a header line and its
+//! lines of context, or the first reason against them; then `specs/Context.antt`,
+//! `specs/Times.antt` and `specs/Text.antt`.
 #![tactic(auto)]
 
 mod agreed;

@@ -9,15 +9,15 @@ use Rattle.ledger_core.specs.declared.entry.Entry.{Entry}
 use Rattle.ledger_core.specs.Ledger.{after_call}
 use Rattle.ledger_core.specs.Book.{history}
 use Rattle.ledger_shared.specs.Value.{PassState, SharedState}
-use Rattle.party_wallet.specs.Value.{signed_in}
-use Rattle.party_machine.specs.Machine.{MachineState, due_action, next_due, noted_for, IsOfSame}
+use Rattle.party_wallet.specs.Value.{signed_hashkey}
+use Rattle.party_machine.specs.Machine.{MachineState, due_action, next_due, noted_if_called, IsOfSame}
 use Rattle.swap_rules.specs.Due.{Action}
 use Rattle.swap_rules.specs.Machine.{noted}
 use Rattle.swap_run.specs.Fair.{most_acts}
 use Rattle.swap_run.proofs.Slots.{left, left_most}
 use Rattle.swap_world.specs.Acting.{IsMakable, IsSameOwner}
-use Rattle.party_threads.specs.Able.{watcher, machine_with, IsAble}
-use Rattle.party_threads.specs.Later.{pass_in, Advanced, HaveAdvanced}
+use Rattle.party_threads.specs.Able.{watcher, informed_machine, IsAble}
+use Rattle.party_threads.specs.Later.{arc_pass, Advanced, HaveAdvanced}
 use Rattle.party_threads.specs.Tracks.{Tracks, HaveSeenAll, HasItsPasses, IsSameElsewhere, IsWatcherPlace, HasMade, MadeIf}
 use Rattle.party_threads.proofs.Machines.{makable, made_of, able_made, owner_more, left_made, none_left}
 use Rattle.party_threads.proofs.Passes.{none_went, all_more, any_default, find_place, tracks_on, seen_again, elsewhere_on}
@@ -25,11 +25,11 @@ use Rattle.party_threads.proofs.Passes.{none_went, all_more, any_default, find_p
 -- passes that went on are at the same places
 pub stay : (d : Deal) (v : ℕ) (ps qs : List (Option PassState)) → HaveAdvanced ps qs → length qs ≡ length ps → HasItsPasses d v ps → HasItsPasses d v qs
 stay d v ps qs gone same h = record {
-  near = λ a lt t. there a (pass_in ps a) (gone a) (h.near a (subst (λ z. a < z) same lt) t);
-  far = λ a lt t. subst (λ o. Advanced o (pass_in qs a)) (h.far a (subst (λ z. a < z) same lt) t) (gone a);
+  near = λ a lt t. there a (arc_pass ps a) (gone a) (h.near a (subst (λ z. a < z) same lt) t);
+  far = λ a lt t. subst (λ o. Advanced o (arc_pass qs a)) (h.far a (subst (λ z. a < z) same lt) t) (gone a);
 }
   where
-    there : (a : ℕ) (o : Option PassState) → Advanced o (pass_in qs a) → (p : PassState) × (o ≡ Some p) → (p : PassState) × (pass_in qs a ≡ Some p)
+    there : (a : ℕ) (o : Option PassState) → Advanced o (arc_pass qs a) → (p : PassState) × (o ≡ Some p) → (p : PassState) × (arc_pass qs a ≡ Some p)
     there a None w h0 = absurd (none-some h0.0 h0.1)
     there a (Some p) w h0 = (w.0, w.1)
 
@@ -82,8 +82,8 @@ due_is m o a c e f = sym f ∙ ap (option_map due_action) e
 
 -- and what is signed for it is noted
 pub noted_is : (signed : ℕ → Option Hashkey) (m1 : MachineState) (o : Option (ℕ × Call)) (a : ℕ) (c : Call) → o ≡ Some (a, c)
-    → signed_in m1.signed ≡ noted_for signed o → signed_in m1.signed ≡ noted signed c
-noted_is signed m1 o a c e f = f ∙ ap (noted_for signed) e
+    → signed_hashkey m1.signed ≡ noted_if_called signed o → signed_hashkey m1.signed ≡ noted signed c
+noted_is signed m1 o a c e f = f ∙ ap (noted_if_called signed) e
 
 -- What an act leaves, through the pass at arc a.
 pub record HasActed (ledgers : List SharedState) (m : MachineState) (ps : List (Option PassState)) (n : MachineState) (qs : List (Option PassState))
@@ -97,8 +97,8 @@ pub record HasActed (ledgers : List SharedState) (m : MachineState) (ps : List (
 
 module _ (ledgers : List SharedState) (m n : MachineState) (s : List (Option Hashkey)) (ps : List (Option PassState)) (a : ℕ) (c : Call) (p q : PassState)
     (able : IsAble m) (tracks : Tracks ledgers (watcher m) ps) (due : next_due m ≡ Some (an_action a c)) (many : length s ≡ length m.signed)
-    (signs : signed_in s ≡ noted (signed_in m.signed) c) (below : a < length ps) (here : pass_in ps a ≡ Some p)
-    (made : HasMade (watcher m) (machine_with (with_signed m s) a) a c p n q) where
+    (signs : signed_hashkey s ≡ noted (signed_hashkey m.signed) c) (below : a < length ps) (here : arc_pass ps a ≡ Some p)
+    (made : HasMade (watcher m) (informed_machine (with_signed m s) a) a c p n q) where
   known_below : a < length m.known
   known_below = subst (λ z. a < z) (tracks.places ∙ sym able.arcs) below
 
@@ -123,16 +123,16 @@ module _ (ledgers : List SharedState) (m n : MachineState) (s : List (Option Has
 
 -- the same after a machine has answered what is due
 pub acted_at : (ledgers : List SharedState) (m m1 n : MachineState) (ps : List (Option PassState)) (a : ℕ) (c : Call) (q : Option PassState) → IsAble m
-    → Tracks ledgers (watcher m) ps → next_due m ≡ Some (an_action a c) → IsOfSame m m1 → signed_in m1.signed ≡ noted (signed_in m.signed) c → a < length ps
-    → MadeIf (watcher m1) (machine_with m1 a) a c (pass_in ps a) n q → HasActed ledgers m ps n (set ps a q)
-acted_at ledgers m m1 n ps a c q able tracks due same signs below made = go (pass_in ps a) refl made
+    → Tracks ledgers (watcher m) ps → next_due m ≡ Some (an_action a c) → IsOfSame m m1 → signed_hashkey m1.signed ≡ noted (signed_hashkey m.signed) c → a < length ps
+    → MadeIf (watcher m1) (informed_machine m1 a) a c (arc_pass ps a) n q → HasActed ledgers m ps n (set ps a q)
+acted_at ledgers m m1 n ps a c q able tracks due same signs below made = go (arc_pass ps a) refl made
   where
-    go : (o : Option PassState) → pass_in ps a ≡ o → MadeIf (watcher m1) (machine_with m1 a) a c o n q → HasActed ledgers m ps n (set ps a q)
+    go : (o : Option PassState) → arc_pass ps a ≡ o → MadeIf (watcher m1) (informed_machine m1 a) a c o n q → HasActed ledgers m ps n (set ps a q)
     go None here l = absurd l
     go (Some p) here l =
         subst (λ z. HasActed ledgers m ps n (set ps a z)) (sym l.1)
         (has_acted ledgers m n m1.signed ps a c p l.0 able tracks due same.places signs below here
-        (subst (λ x. HasMade (watcher x) (machine_with x a) a c p n l.0) (same_machine m m1 same) l.2))
+        (subst (λ x. HasMade (watcher x) (informed_machine x a) a c p n l.0) (same_machine m m1 same) l.2))
 
 -- what is due can be made
 pub makable_after : (m m1 : MachineState) (a : ℕ) (c : Call) → IsAble m → next_due m ≡ Some (an_action a c) → IsOfSame m m1
@@ -169,11 +169,11 @@ module _ (ledgers : List SharedState) (m m1 : MachineState) (o : Option (ℕ × 
   pub can_make : IsOfSame m m1 → IsMakable m1.deal m1.me (an_action a c)
   can_make same = makable_after m m1 a c able due same
 
-  pub has_acted_so : IsOfSame m m1 → signed_in m1.signed ≡ noted_for (signed_in m.signed) o → (r : Option PassState) (n : MachineState) (q : Option PassState)
-      → MadeIf (watcher m1) (machine_with m1 a) a c (slice_index_or ps a r) n q → HasActed ledgers m ps n (set ps a q)
+  pub has_acted_so : IsOfSame m m1 → signed_hashkey m1.signed ≡ noted_if_called (signed_hashkey m.signed) o → (r : Option PassState) (n : MachineState) (q : Option PassState)
+      → MadeIf (watcher m1) (informed_machine m1 a) a c (slice_index_or ps a r) n q → HasActed ledgers m ps n (set ps a q)
   has_acted_so same signed r n q made =
-      acted_at ledgers m m1 n ps a c q able tracks due same (noted_is (signed_in m.signed) m1 o a c is signed) place_below
-      (subst (λ x. MadeIf (watcher m1) (machine_with m1 a) a c x n q) (any_default ps a r None place_below) made)
+      acted_at ledgers m m1 n ps a c q able tracks due same (noted_is (signed_hashkey m.signed) m1 o a c is signed) place_below
+      (subst (λ x. MadeIf (watcher m1) (informed_machine m1 a) a c x n q) (any_default ps a r None place_below) made)
 
 pub acts_on : (ledgers : List SharedState) (m n o : MachineState) (ps qs rs : List (Option PassState)) (k : ℕ) → IsActing ledgers m ps k n qs
     → HaveAdvanced qs rs → IsAble o → Tracks ledgers (watcher o) rs → (HaveSeenAll qs → HaveSeenAll rs) → IsSameOwner n o
@@ -187,7 +187,7 @@ acts_on ledgers m n o ps qs rs k h gone able tracks seen owner elsewhere fewer =
   gone_on = all_more ps qs rs h.gone_on gone;
   seen = λ all. seen (h.seen all);
   owner = owner_more m n o h.owner owner;
-  elsewhere = λ a none. elsewhere a (subst (λ x. Advanced x (pass_in qs a)) none (h.gone_on a)) ∙ h.elsewhere a none;
+  elsewhere = λ a none. elsewhere a (subst (λ x. Advanced x (arc_pass qs a)) none (h.gone_on a)) ∙ h.elsewhere a none;
   few =
       let same : left o.deal o.me o.known ≡ left n.deal n.me o.known = λ i. left (owner.deal i) (owner.me i) o.known in
       let few = h.few in

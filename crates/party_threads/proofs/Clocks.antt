@@ -5,7 +5,7 @@ use Rattle.std.proofs.lemmas.List.Sums.{length-filter, sum_by-cons}
 use Rattle.std.proofs.lemmas.List.Elements.{filter-append}
 use Rattle.std.proofs.lemmas.Bool.{lt-leb}
 use mathlib.Core.List.{IsPrefix}
-use Rattle.swap_base.specs.Lists.{IsIn}
+use Rattle.swap_base.specs.Lists.{IsElement}
 use Rattle.swap_base.proofs.Lists.{moment_from_in, at_moment, all_moments_front, below_or}
 use Rattle.swap_rules.proofs.Prefixes.{same_or_not}
 use Rattle.std.proofs.lemmas.List.{length-set, get_or-set_same, get_or-set_other}
@@ -22,7 +22,7 @@ use Rattle.ledger_core.specs.declared.entry.What.TheVariants.{Call as Made, Tick
 use Rattle.ledger_core.specs.History.{height, entry_ticks, is_tick, is_clock_full, reply_to_tick, IsLegal, IsLegalEntry, IsLegalMoment}
 use Rattle.ledger_core.specs.Ledger.{tick_entry}
 use Rattle.ledger_shared.specs.Value.{ClockState, SharedState, ticks_in_order, clock_mine, added_by_tick, HasTicked}
-use Rattle.party_threads.specs.Later.{IsClockLater, clock_in}
+use Rattle.party_threads.specs.Later.{IsClockLater, arc_clock}
 use Rattle.party_threads.specs.Ticks.{HaveRoom, HasTickedOnce, ClockAdvanced, HaveClocksAdvanced, Ticked, HaveTicked}
 
 -- The height of a legal history is that of its ticks.
@@ -33,7 +33,7 @@ not_raising (Party p) (Made c) d a past at r l e = refl
 not_raising (Party p) (Tick k) d a past at r l e = absurd l
 not_raising Clock w d a past at r l e = absurd (true≢false e)
 
-height_split : (h : List Entry) → ((e : Entry) → IsIn e h → is_tick e.sender ≡ false → entry_ticks e.what ≡ 0) → height h ≡ height (ticks_in_order h)
+height_split : (h : List Entry) → ((e : Entry) → IsElement e h → is_tick e.sender ≡ false → entry_ticks e.what ≡ 0) → height h ≡ height (ticks_in_order h)
 height_split [] f = refl
 height_split (e ∷ es) f = go (height_split es (λ x i. f x (inr i))) (is_tick e.sender) refl
   where
@@ -116,42 +116,42 @@ went_self (Some p) = (p, refl, clock_self p)
 pub record IsTicking (ticks : ℕ) (ledgers : List SharedState) (ps : List (Option ClockState)) (k : ℕ) (qs : List (Option ClockState)) : Type 0 where
   pub places : length qs ≡ length ps
   pub gone_on : HaveClocksAdvanced ps qs
-  pub ticked : (a : ℕ) → a < k → Ticked ticks (clock_in ps a) (clock_in qs a)
-  pub left : (a : ℕ) → k ≤ a → clock_in qs a ≡ clock_in ps a
+  pub ticked : (a : ℕ) → a < k → Ticked ticks (arc_clock ps a) (arc_clock qs a)
+  pub left : (a : ℕ) → k ≤ a → arc_clock qs a ≡ arc_clock ps a
 
 pub ticking_begins : (ticks : ℕ) (ledgers : List SharedState) (ps : List (Option ClockState)) (k : ℕ) → k ≡ 0 → IsTicking ticks ledgers ps k ps
 ticking_begins ticks ledgers ps k e = record {
   places = refl;
-  gone_on = λ a. went_self (clock_in ps a);
+  gone_on = λ a. went_self (arc_clock ps a);
   ticked = λ a lt. absurd (omega (arith, lt, e));
   left = λ a le. refl;
 }
 
-clock_same : (ps : List (Option ClockState)) (a : ℕ) (q : Option ClockState) → a < length ps → clock_in (set ps a q) a ≡ q
+clock_same : (ps : List (Option ClockState)) (a : ℕ) (q : Option ClockState) → a < length ps → arc_clock (set ps a q) a ≡ q
 clock_same ps a q l = get_or-set_same ps a q None l
 
-clock_other : (ps : List (Option ClockState)) (a b : ℕ) (q : Option ClockState) → b ≢ a → clock_in (set ps a q) b ≡ clock_in ps b
+clock_other : (ps : List (Option ClockState)) (a b : ℕ) (q : Option ClockState) → b ≢ a → arc_clock (set ps a q) b ≡ arc_clock ps b
 clock_other ps a b q n = get_or-set_other ps a b q None n
 
 module _ (ticks : ℕ) (ledgers : List SharedState) (ps : List (Option ClockState)) (k : ℕ) (qs : List (Option ClockState)) (i : IsTicking ticks ledgers ps k qs)
     (below : k < length qs) (q : Option ClockState) where
-  at_it : clock_in (set qs k q) k ≡ q
+  at_it : arc_clock (set qs k q) k ≡ q
   at_it = clock_same qs k q below
 
-  went_on : ClockAdvanced (clock_in ps k) q → (a : ℕ) → (a ≡ k) ⊎ (a ≢ k) → ClockAdvanced (clock_in ps a) (clock_in (set qs k q) a)
-  went_on w a (inl e) = subst (λ b. ClockAdvanced (clock_in ps b) (clock_in (set qs k q) b)) (sym e) (subst (ClockAdvanced (clock_in ps k)) (sym at_it) w)
-  went_on w a (inr n) = subst (ClockAdvanced (clock_in ps a)) (sym (clock_other qs k a q n)) (i.gone_on a)
+  went_on : ClockAdvanced (arc_clock ps k) q → (a : ℕ) → (a ≡ k) ⊎ (a ≢ k) → ClockAdvanced (arc_clock ps a) (arc_clock (set qs k q) a)
+  went_on w a (inl e) = subst (λ b. ClockAdvanced (arc_clock ps b) (arc_clock (set qs k q) b)) (sym e) (subst (ClockAdvanced (arc_clock ps k)) (sym at_it) w)
+  went_on w a (inr n) = subst (ClockAdvanced (arc_clock ps a)) (sym (clock_other qs k a q n)) (i.gone_on a)
 
   -- one pass has gone on
-  pub one_went : ClockAdvanced (clock_in qs k) q → HaveClocksAdvanced ps (set qs k q)
+  pub one_went : ClockAdvanced (arc_clock qs k) q → HaveClocksAdvanced ps (set qs k q)
   one_went w a = went_on (subst (λ o. ClockAdvanced o q) (i.left k (omega arith)) w) a (same_or_not a k)
 
-  now_ticked : Ticked ticks (clock_in ps k) q → (a : ℕ) → a < k + 1 → (a ≡ k) ⊎ (a ≢ k) → Ticked ticks (clock_in ps a) (clock_in (set qs k q) a)
-  now_ticked t a lt (inl e) = subst (λ b. Ticked ticks (clock_in ps b) (clock_in (set qs k q) b)) (sym e) (subst (Ticked ticks (clock_in ps k)) (sym at_it) t)
-  now_ticked t a lt (inr n) = subst (Ticked ticks (clock_in ps a)) (sym (clock_other qs k a q n)) (i.ticked a (omega (arith, lt, n)))
+  now_ticked : Ticked ticks (arc_clock ps k) q → (a : ℕ) → a < k + 1 → (a ≡ k) ⊎ (a ≢ k) → Ticked ticks (arc_clock ps a) (arc_clock (set qs k q) a)
+  now_ticked t a lt (inl e) = subst (λ b. Ticked ticks (arc_clock ps b) (arc_clock (set qs k q) b)) (sym e) (subst (Ticked ticks (arc_clock ps k)) (sym at_it) t)
+  now_ticked t a lt (inr n) = subst (Ticked ticks (arc_clock ps a)) (sym (clock_other qs k a q n)) (i.ticked a (omega (arith, lt, n)))
 
   -- one ledger has ticked
-  pub ticking_on : ClockAdvanced (clock_in qs k) q → Ticked ticks (clock_in qs k) q → IsTicking ticks ledgers ps (k + 1) (set qs k q)
+  pub ticking_on : ClockAdvanced (arc_clock qs k) q → Ticked ticks (arc_clock qs k) q → IsTicking ticks ledgers ps (k + 1) (set qs k q)
   ticking_on w t = record {
     places = length-set qs k q ∙ i.places;
     gone_on = one_went w;
@@ -161,7 +161,7 @@ module _ (ticks : ℕ) (ledgers : List SharedState) (ps : List (Option ClockStat
 
 -- where there is no pass there is nothing to do
 pub ticking_past : (ticks : ℕ) (ledgers : List SharedState) (ps : List (Option ClockState)) (k : ℕ) (qs : List (Option ClockState))
-    → IsTicking ticks ledgers ps k qs → clock_in qs k ≡ None → IsTicking ticks ledgers ps (k + 1) qs
+    → IsTicking ticks ledgers ps k qs → arc_clock qs k ≡ None → IsTicking ticks ledgers ps (k + 1) qs
 ticking_past ticks ledgers ps k qs i none = record {
   places = i.places;
   gone_on = i.gone_on;
@@ -169,20 +169,20 @@ ticking_past ticks ledgers ps k qs i none = record {
   left = λ a le. i.left a (omega (arith, le));
 }
   where
-    here : clock_in ps k ≡ None
+    here : arc_clock ps k ≡ None
     here = sym (i.left k (omega arith)) ∙ none
 
-    go : (a : ℕ) → a < k + 1 → (a ≡ k) ⊎ (a ≢ k) → Ticked ticks (clock_in ps a) (clock_in qs a)
-    go a lt (inl e) = subst (λ b. Ticked ticks (clock_in ps b) (clock_in qs b)) (sym e) (subst (λ o. Ticked ticks o (clock_in qs k)) (sym here) none)
+    go : (a : ℕ) → a < k + 1 → (a ≡ k) ⊎ (a ≢ k) → Ticked ticks (arc_clock ps a) (arc_clock qs a)
+    go a lt (inl e) = subst (λ b. Ticked ticks (arc_clock ps b) (arc_clock qs b)) (sym e) (subst (λ o. Ticked ticks o (arc_clock qs k)) (sym here) none)
     go a lt (inr n) = i.ticked a (omega (arith, lt, n))
 
 pub ticking_ends : (ticks : ℕ) (ledgers : List SharedState) (ps : List (Option ClockState)) (k : ℕ) (qs : List (Option ClockState))
     → IsTicking ticks ledgers ps k qs → length qs ≤ k → HaveTicked ticks ps qs
 ticking_ends ticks ledgers ps k qs i le a = go (below_or a k)
   where
-    go : (a < k) ⊎ (k ≤ a) → Ticked ticks (clock_in ps a) (clock_in qs a)
+    go : (a < k) ⊎ (k ≤ a) → Ticked ticks (arc_clock ps a) (arc_clock qs a)
     go (inl lt) = i.ticked a lt
     go (inr ge) =
-        let old : clock_in ps a ≡ None = get_or-eq_default ps None (let n = i.places in omega (arith, n, le, ge)) in
-        let new : clock_in qs a ≡ None = get_or-eq_default qs None (omega (arith, le, ge)) in
-        subst (λ o. Ticked ticks o (clock_in qs a)) (sym old) new
+        let old : arc_clock ps a ≡ None = get_or-eq_default ps None (let n = i.places in omega (arith, n, le, ge)) in
+        let new : arc_clock qs a ≡ None = get_or-eq_default qs None (omega (arith, le, ge)) in
+        subst (λ o. Ticked ticks o (arc_clock qs a)) (sym old) new

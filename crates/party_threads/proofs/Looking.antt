@@ -11,7 +11,7 @@ use Rattle.ledger_core.specs.Book.{history}
 use Rattle.ledger_shared.specs.Value.{PassState, SharedState, party_made}
 use Rattle.swap_rules.proofs.Prefixes.{same_or_not}
 use Rattle.swap_rules.proofs.Conducting.{history_same, history_other}
-use Rattle.party_threads.specs.Later.{pass_in, Advanced, HaveAdvanced}
+use Rattle.party_threads.specs.Later.{arc_pass, Advanced, HaveAdvanced}
 use Rattle.party_threads.specs.Tracks.{Watcher, knowing, Tracks, HaveSeenAll, IsSameElsewhere, HasLooked, LookedIf}
 use Rattle.party_threads.specs.Played.{IsFresh, HaveFresh}
 use Rattle.party_threads.proofs.Passes.{one_went, none_went, tracks_on, HaveSeenBelow, first_seen_arc, elsewhere_on}
@@ -51,7 +51,7 @@ fresh_more v k h g more f is none = (
 )
 
 -- putting nothing where there is nothing changes nothing
-set_none : (ps : List (Option PassState)) (a : ℕ) → pass_in ps a ≡ None → set ps a None ≡ ps
+set_none : (ps : List (Option PassState)) (a : ℕ) → arc_pass ps a ≡ None → set ps a None ≡ ps
 set_none [] a e = refl
 set_none (p ∷ ps) zero e = ap (λ x. x ∷ ps) (sym e)
 set_none (p ∷ ps) (suc a) e = ap (λ xs. p ∷ xs) (set_none ps a e)
@@ -61,7 +61,7 @@ module _ (ledgers : List SharedState) (w : Watcher) (ps : List (Option PassState
   known : k < length x.known
   known = subst (λ z. k < z) (h.tracks.places ∙ sym h.arcs) below
 
-  module _ (p q : PassState) (here : pass_in qs k ≡ Some p) (l : HasLooked x (knowing x k) k p y q) where
+  module _ (p q : PassState) (here : arc_pass qs k ≡ Some p) (l : HasLooked x (knowing x k) k p y q) where
     abbrev now : List Entry
     now = history x.known k ++ l.fresh
 
@@ -93,7 +93,7 @@ module _ (ledgers : List SharedState) (w : Watcher) (ps : List (Option PassState
     }
 
   -- where there is no pass nothing is looked at
-  past : pass_in qs k ≡ None → IsLooking ledgers w ps (k + 1) x qs
+  past : arc_pass qs k ≡ None → IsLooking ledgers w ps (k + 1) x qs
   past none = record {
     deal = h.deal;
     me = h.me;
@@ -106,15 +106,15 @@ module _ (ledgers : List SharedState) (w : Watcher) (ps : List (Option PassState
     elsewhere = h.elsewhere;
   }
     where
-      at : (a : ℕ) (p : PassState) → a < k + 1 → pass_in qs a ≡ Some p → (a ≡ k) ⊎ (a ≢ k) → IsPrefix p.shared p.seen
-      at a p lt is (inl same) = absurd (none-some p (sym none ∙ subst (λ z. pass_in qs z ≡ Some p) same is))
+      at : (a : ℕ) (p : PassState) → a < k + 1 → arc_pass qs a ≡ Some p → (a ≡ k) ⊎ (a ≢ k) → IsPrefix p.shared p.seen
+      at a p lt is (inl same) = absurd (none-some p (sym none ∙ subst (λ z. arc_pass qs z ≡ Some p) same is))
       at a p lt is (inr apart) = h.seen a p (omega (arith, lt, apart)) is
 
   -- one more ledger was looked at, if there is a pass to it
-  pub looks_on : (q : Option PassState) → LookedIf x (knowing x k) k x (pass_in qs k) y q → IsLooking ledgers w ps (k + 1) y (set qs k q)
-  looks_on q l = go (pass_in qs k) refl l
+  pub looks_on : (q : Option PassState) → LookedIf x (knowing x k) k x (arc_pass qs k) y q → IsLooking ledgers w ps (k + 1) y (set qs k q)
+  looks_on q l = go (arc_pass qs k) refl l
     where
-      go : (o : Option PassState) → pass_in qs k ≡ o → LookedIf x (knowing x k) k x o y q → IsLooking ledgers w ps (k + 1) y (set qs k q)
+      go : (o : Option PassState) → arc_pass qs k ≡ o → LookedIf x (knowing x k) k x o y q → IsLooking ledgers w ps (k + 1) y (set qs k q)
       go None none l0 =
           subst (λ z. IsLooking ledgers w ps (k + 1) y (set qs k z)) (sym l0.1)
           (subst (λ zs. IsLooking ledgers w ps (k + 1) y zs) (sym (set_none qs k none))

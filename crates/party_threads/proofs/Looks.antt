@@ -13,7 +13,7 @@ use Rattle.ledger_core.specs.History.{height, history_reply, IsLegal, IsLegalMom
 use Rattle.ledger_core.specs.Ledger.{after_call, call_entry, is_sender_full}
 use Rattle.ledger_core.specs.Book.{history}
 use Rattle.ledger_shared.specs.Value.{PassState, party_made, with_seen, added_by_call, HasCalled}
-use Rattle.party_threads.specs.Tracks.{Watcher, IsPassOf, HasLooked, HasMade, LookedIf}
+use Rattle.party_threads.specs.Tracks.{Watcher, IsWatcherPass, HasLooked, HasMade, LookedIf}
 
 -- Where memory was enough.
 
@@ -24,14 +24,14 @@ on_both (Err e) f g h = tt
 -- A look.
 
 -- what the pass has then seen is what its party is to know
-pub legal_of : (w : Watcher) (lock : TableId) (a : ℕ) (p q : PassState) (fresh : List Entry) → IsPassOf w lock a p → q ≡ with_seen p fresh
+pub legal_of : (w : Watcher) (lock : TableId) (a : ℕ) (p q : PassState) (fresh : List Entry) → IsWatcherPass w lock a p → q ≡ with_seen p fresh
     → IsLegal p.deal p.arc q.seen → IsLegal w.deal a (history w.known a ++ fresh)
 legal_of w lock a p q fresh k is legal =
     subst (λ h. IsLegal w.deal a (h ++ fresh)) k.seen
     (subst (λ x. IsLegal w.deal x (p.seen ++ fresh)) k.arc
     (subst (λ d. IsLegal d p.arc (p.seen ++ fresh)) k.deal (subst (λ h. IsLegal p.deal p.arc h) (ap (λ (s : PassState). s.seen) is) legal)))
 
-pub foreign_of : (w : Watcher) (lock : TableId) (a : ℕ) (p : PassState) (fresh : List Entry) → IsPassOf w lock a p → party_made p.party fresh ≡ []
+pub foreign_of : (w : Watcher) (lock : TableId) (a : ℕ) (p : PassState) (fresh : List Entry) → IsWatcherPass w lock a p → party_made p.party fresh ≡ []
     → party_made w.me fresh ≡ []
 foreign_of w lock a p fresh k none = subst (λ v. party_made v fresh ≡ []) k.party none
 
@@ -39,7 +39,7 @@ pub whole_of : (p q : PassState) (fresh : List Entry) → q ≡ with_seen p fres
 whole_of p q fresh is whole = subst (λ s. IsPrefix s q.seen) (sym (ap (λ (s : PassState). s.shared) is)) whole
 
 pub has_looked : {S : Type 0} (w : Watcher) (after : List Entry → S) (lock : TableId) (a : ℕ) (p : PassState) (n : S) (q : PassState) (fresh : List Entry)
-    → IsPassOf w lock a p → q ≡ with_seen p fresh → party_made p.party fresh ≡ [] → IsLegal p.deal p.arc q.seen → IsPrefix p.shared q.seen
+    → IsWatcherPass w lock a p → q ≡ with_seen p fresh → party_made p.party fresh ≡ [] → IsLegal p.deal p.arc q.seen → IsPrefix p.shared q.seen
     → n ≡ after (history w.known a ++ fresh) → HasLooked w after a p n q
 has_looked {S} w after lock a p n q fresh k is none legal whole knows = record {
   fresh = fresh;
@@ -97,7 +97,7 @@ legal_before d a h others fresh more legal is =
     (subst (IsLegal d a) (ap (λ x. h ++ x) is ∙ sym (append_assoc h others more)) legal)
 
 -- the same in words of the party
-made_is : (w : Watcher) (lock : TableId) (a : ℕ) (p : PassState) (c : Call) (h others : List Entry) → IsPassOf w lock a p
+made_is : (w : Watcher) (lock : TableId) (a : ℕ) (p : PassState) (c : Call) (h others : List Entry) → IsWatcherPass w lock a p
     → h ≡ after_call p.deal p.arc p.party c (p.seen ++ others) → h ≡ after_call w.deal a w.me c (history w.known a ++ others)
 made_is w lock a p c h others k e =
     subst (λ x. h ≡ after_call w.deal a w.me c (x ++ others)) k.seen
@@ -105,7 +105,7 @@ made_is w lock a p c h others k e =
     (subst (λ x. h ≡ after_call w.deal x p.party c (p.seen ++ others)) k.arc (subst (λ d. h ≡ after_call d p.arc p.party c (p.seen ++ others)) k.deal e)))
 
 pub has_made : {S : Type 0} (w : Watcher) (after : List Entry → S) (lock : TableId) (a : ℕ) (c : Call) (p : PassState) (n : S) (q : PassState) (r : Reply)
-    (fresh : List Entry) → IsPassOf w lock a p → HasCalled p c r fresh → q ≡ with_seen p fresh → IsLegal p.deal p.arc q.seen → IsPrefix p.shared q.seen
+    (fresh : List Entry) → IsWatcherPass w lock a p → HasCalled p c r fresh → q ≡ with_seen p fresh → IsLegal p.deal p.arc q.seen → IsPrefix p.shared q.seen
     → n ≡ after (history w.known a ++ fresh) → HasMade w after a c p n q
 has_made {S} w after lock a c p n q r fresh k called is legal whole knows =
     let seen : q.seen ≡ p.seen ++ fresh = ap (λ (s : PassState). s.seen) is in

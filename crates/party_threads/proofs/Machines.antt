@@ -2,18 +2,18 @@
 use Rattle.std.proofs.Common.{◌≡◌, ℕ, ◌+◌, ◌<◌, ◌≤◌, ◌++◌, false, cond, List, [], ◌∷◌, length, set, Option, Some, None, refl, sym, ap, ◌∙◌, subst, inl}
 use Rattle.std.proofs.Common.{arith, eq-eqb}
 use Rattle.std.proofs.lemmas.List.{length-set, set-set}
-use Rattle.swap_base.specs.Lists.{IsIn}
+use Rattle.swap_base.specs.Lists.{IsElement}
 use Rattle.hashkey_path.specs.declared.hashkey.Hashkey.{Hashkey}
 use Rattle.ledger_core.specs.declared.entry.Entry.{Entry}
 use Rattle.ledger_core.specs.History.{is_sender, is_full, IsLegal}
 use Rattle.ledger_core.specs.Ledger.{after_call}
 use Rattle.ledger_core.specs.Book.{history}
 use Rattle.ledger_shared.specs.Value.{PassState, party_made}
-use Rattle.party_wallet.specs.Value.{signed_in}
+use Rattle.party_wallet.specs.Value.{signed_hashkey}
 use Rattle.party_machine.specs.Wallet.{seed_wallet}
 use Rattle.party_machine.specs.Machine.{MachineState, next_due}
 use Rattle.swap_rules.specs.Due.{Action, first}
-use Rattle.swap_rules.specs.Machine.{IsSound, noted, entry_of, rule_test}
+use Rattle.swap_rules.specs.Machine.{IsSound, noted, appended_entry, rule_test}
 use Rattle.swap_rules.proofs.Machines.{learn_sound, call_sound}
 use Rattle.swap_rules.proofs.Due.{IsDue, is_due, due_is_valid}
 use Rattle.swap_rules.proofs.Conducting.{knows_all, history_same}
@@ -22,13 +22,13 @@ use Rattle.swap_rules.proofs.Room.{rules_leave_room}
 use Rattle.swap_run.proofs.Entries.{call_pushes}
 use Rattle.swap_run.proofs.Slots.{left, left_less}
 use Rattle.swap_world.specs.Acting.{IsMakable, IsSameOwner}
-use Rattle.party_threads.specs.Able.{watcher, machine_with, IsAble}
+use Rattle.party_threads.specs.Able.{watcher, informed_machine, IsAble}
 use Rattle.party_threads.specs.Tracks.{HasLooked, LookedIf}
 use Rattle.party_threads.proofs.Calls.{none_passes}
 
 -- A look.
 
-able_looked : (m n : MachineState) (a : ℕ) (p q : PassState) → a < length m.deal.graph.arcs → IsAble m → HasLooked (watcher m) (machine_with m a) a p n q
+able_looked : (m n : MachineState) (a : ℕ) (p q : PassState) → a < length m.deal.graph.arcs → IsAble m → HasLooked (watcher m) (informed_machine m a) a p n q
     → IsAble n
 able_looked m n a p q below k l = subst IsAble (sym l.knows) (record {
   accepted = k.accepted;
@@ -37,12 +37,12 @@ able_looked m n a p q below k l = subst IsAble (sym l.knows) (record {
   arcs = length-set m.known a (history m.known a ++ l.fresh) ∙ k.arcs;
   signs = k.signs;
   sound =
-      learn_sound m.deal m.known (signed_in m.signed) m.me a l.fresh (subst (λ z. a < z) (sym k.arcs) below)
+      learn_sound m.deal m.known (signed_hashkey m.signed) m.me a l.fresh (subst (λ z. a < z) (sym k.arcs) below)
       (none_passes (λ (e : Entry). is_sender m.me e.sender) l.fresh l.foreign) l.legal k.sound;
 })
 
 pub able_after : (m n : MachineState) (a : ℕ) (o q : Option PassState) → a < length m.deal.graph.arcs → IsAble m
-    → LookedIf (watcher m) (machine_with m a) a m o n q → IsAble n
+    → LookedIf (watcher m) (informed_machine m a) a m o n q → IsAble n
 able_after m n a None q below k l = subst IsAble (sym l.0) k
 able_after m n a (Some p) q below k l = able_looked m n a p l.0 below k l.2
 
@@ -52,20 +52,20 @@ owner_self m = record { deal = refl; me = refl; seed = refl }
 pub owner_more : (l m n : MachineState) → IsSameOwner l m → IsSameOwner m n → IsSameOwner l n
 owner_more l m n a b = record { deal = b.deal ∙ a.deal; me = b.me ∙ a.me; seed = b.seed ∙ a.seed }
 
-pub owner_after : (m n : MachineState) (a : ℕ) (o q : Option PassState) → LookedIf (watcher m) (machine_with m a) a m o n q → IsSameOwner m n
+pub owner_after : (m n : MachineState) (a : ℕ) (o q : Option PassState) → LookedIf (watcher m) (informed_machine m a) a m o n q → IsSameOwner m n
 owner_after m n a None q l = subst (IsSameOwner m) (sym l.0) (owner_self m)
 owner_after m n a (Some p) q l = subst (IsSameOwner m) (sym l.2.knows) (record { deal = refl; me = refl; seed = refl })
 
 -- A due call.
 
-first_in : (xs : List Action) (x : Action) → first xs ≡ Some x → IsIn x xs
+first_in : (xs : List Action) (x : Action) → first xs ≡ Some x → IsElement x xs
 first_in [] x e = absurd (cc e)
 first_in (y ∷ ys) x e = inl (cc)
 
 due_of : (m : MachineState) (x : Action) → IsAble m → next_due m ≡ Some x
-    → IsDue m.deal m.me (seed_wallet m.seed m.me m.deal) (signed_in m.signed) m.known m.known x.arc x.call
+    → IsDue m.deal m.me (seed_wallet m.seed m.me m.deal) (signed_hashkey m.signed) m.known m.known x.arc x.call
 due_of m x k e =
-    is_due m.deal m.me (seed_wallet m.seed m.me m.deal) (signed_in m.signed) m.known m.known k.sound.legal k.sound.rules
+    is_due m.deal m.me (seed_wallet m.seed m.me m.deal) (signed_hashkey m.signed) m.known m.known k.sound.legal k.sound.rules
     (λ a. knows_all m.me (history m.known a)) k.wallet k.accepted x (first_in _ x e)
 
 pub makable : (m : MachineState) (x : Action) → IsAble m → next_due m ≡ Some x → IsMakable m.deal m.me x
@@ -85,13 +85,13 @@ made_of m signed x others =
     }
 
 pub able_made : (m : MachineState) (signed : List (Option Hashkey)) (x : Action) (others : List Entry) → IsAble m → next_due m ≡ Some x
-    → length signed ≡ length m.signed → signed_in signed ≡ noted (signed_in m.signed) x.call → party_made m.me others ≡ []
+    → length signed ≡ length m.signed → signed_hashkey signed ≡ noted (signed_hashkey m.signed) x.call → party_made m.me others ≡ []
     → IsLegal m.deal x.arc (history m.known x.arc ++ others) → IsAble (made_of m signed x others)
 able_made m signed x others k e many is none legal =
     let h = history m.known x.arc ++ others in
     let below : x.arc < length m.known = subst (λ z. x.arc < z) (sym k.arcs) (due_of m x k e).below in
     let sound =
-    call_sound m.deal m.me (seed_wallet m.seed m.me m.deal) m.known (signed_in m.signed) x others k.wallet k.accepted (first_in _ x e) below
+    call_sound m.deal m.me (seed_wallet m.seed m.me m.deal) m.known (signed_hashkey m.signed) x others k.wallet k.accepted (first_in _ x e) below
     (none_passes (λ (y : Entry). is_sender m.me y.sender) others none) legal k.sound in
     record {
       accepted = k.accepted;
@@ -101,7 +101,7 @@ able_made m signed x others k e many is none legal =
       signs = many ∙ k.signs;
       sound =
           subst (λ f. IsSound m.deal (set m.known x.arc (after_call m.deal x.arc m.me x.call h)) f m.me) (sym is)
-          (subst (λ b. IsSound m.deal b (noted (signed_in m.signed) x.call) m.me) (set-set m.known x.arc h (after_call m.deal x.arc m.me x.call h)) sound);
+          (subst (λ b. IsSound m.deal b (noted (signed_hashkey m.signed) x.call) m.me) (set-set m.known x.arc h (after_call m.deal x.arc m.me x.call h)) sound);
     }
 
 -- What it may still call.
@@ -112,10 +112,10 @@ room_made : (m : MachineState) (x : Action) (others : List Entry) → IsAble m �
 room_made m x others k e none legal =
     let below : x.arc < length m.known = subst (λ z. x.arc < z) (sym k.arcs) (due_of m x k e).below in
     let s =
-    learn_sound m.deal m.known (signed_in m.signed) m.me x.arc others below (none_passes (λ (y : Entry). is_sender m.me y.sender) others none) legal
+    learn_sound m.deal m.known (signed_hashkey m.signed) m.me x.arc others below (none_passes (λ (y : Entry). is_sender m.me y.sender) others none) legal
     k.sound in
     subst (λ h. is_full h m.me ≡ false) (history_same m.known x.arc (history m.known x.arc ++ others) below)
-    (rules_leave_room m.deal (set m.known x.arc (history m.known x.arc ++ others)) (signed_in m.signed) m.me x.arc k.accepted s.legal s.rules)
+    (rules_leave_room m.deal (set m.known x.arc (history m.known x.arc ++ others)) (signed_hashkey m.signed) m.me x.arc k.accepted s.legal s.rules)
 
 -- a due call leaves one less
 pub left_made : (m : MachineState) (signed : List (Option Hashkey)) (x : Action) (others : List Entry) → IsAble m → next_due m ≡ Some x
@@ -125,10 +125,10 @@ left_made m signed x others k e none legal =
     let is = due_of m x k e in
     let below : x.arc < length m.known = subst (λ z. x.arc < z) (sym k.arcs) is.below in
     let h : List Entry = history m.known x.arc ++ others in
-    let there : history (set m.known x.arc (after_call m.deal x.arc m.me x.call h)) x.arc ≡ h ++ entry_of m.deal x.arc h m.me x.call ∷ [] =
+    let there : history (set m.known x.arc (after_call m.deal x.arc m.me x.call h)) x.arc ≡ h ++ appended_entry m.deal x.arc h m.me x.call ∷ [] =
     history_same m.known x.arc (after_call m.deal x.arc m.me x.call h) below
     ∙ call_pushes m.deal x.arc h m.me x.call (room_made m x others k e none legal) in
-    left_less m.deal m.me m.known (after_call m.deal x.arc m.me x.call h) h x.arc (entry_of m.deal x.arc h m.me x.call) is.slot there (others, refl)
+    left_less m.deal m.me m.known (after_call m.deal x.arc m.me x.call h) h x.arc (appended_entry m.deal x.arc h m.me x.call) is.slot there (others, refl)
     is.slot_in is.below is.fresh (ap (rule_test is.slot) (ap (λ z. cond z (Some x.call) None) (eq-eqb m.me m.me refl)) ∙ is.passes)
 
 -- who may make no further call has nothing due
@@ -141,7 +141,7 @@ none_left m k none = go (next_due m) refl
         let is = due_of m x k e in
         let below : x.arc < length m.known = subst (λ z. x.arc < z) (sym k.arcs) is.below in
         let h : List Entry = history m.known x.arc in
-        let entry : Entry = entry_of m.deal x.arc h m.me x.call in
+        let entry : Entry = appended_entry m.deal x.arc h m.me x.call in
         let less =
         left_less m.deal m.me m.known (h ++ entry ∷ []) h x.arc entry is.slot (history_same m.known x.arc (h ++ entry ∷ []) below) (begins_refl h)
         is.slot_in is.below is.fresh (ap (rule_test is.slot) (ap (λ z. cond z (Some x.call) None) (eq-eqb m.me m.me refl)) ∙ is.passes) in

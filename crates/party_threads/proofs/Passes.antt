@@ -10,8 +10,8 @@ use Rattle.ledger_core.specs.Book.{Histories, history}
 use Rattle.ledger_shared.specs.Value.{PassState, SharedState, with_seen}
 use Rattle.swap_rules.proofs.Prefixes.{same_or_not}
 use Rattle.swap_rules.proofs.Conducting.{history_same, history_other}
-use Rattle.party_threads.specs.Later.{IsLater, pass_in, Advanced, HaveAdvanced}
-use Rattle.party_threads.specs.Tracks.{Watcher, knowing, IsPassOf, Tracks, HaveSeenAll, IsSameElsewhere, IsWatcherPlace}
+use Rattle.party_threads.specs.Later.{IsLater, arc_pass, Advanced, HaveAdvanced}
+use Rattle.party_threads.specs.Tracks.{Watcher, knowing, IsWatcherPass, Tracks, HaveSeenAll, IsSameElsewhere, IsWatcherPlace}
 
 -- Later.
 
@@ -34,17 +34,17 @@ went_more None q r a b = subst (λ x. Advanced x r) a b
 went_more (Some p) q r a b = let c = subst (λ x. Advanced x r) a.1 b in (c.0, c.1, later_more p a.0 c.0 a.2 c.2)
 
 pub none_went : (ps : List (Option PassState)) → HaveAdvanced ps ps
-none_went ps a = went_self (pass_in ps a)
+none_went ps a = went_self (arc_pass ps a)
 
 pub all_more : (ps qs rs : List (Option PassState)) → HaveAdvanced ps qs → HaveAdvanced qs rs → HaveAdvanced ps rs
-all_more ps qs rs a b c = went_more (pass_in ps c) (pass_in qs c) (pass_in rs c) (a c) (b c)
+all_more ps qs rs a b c = went_more (arc_pass ps c) (arc_pass qs c) (arc_pass rs c) (a c) (b c)
 
 -- By place.
 
-pub pass_same : (ps : List (Option PassState)) (a : ℕ) (q : Option PassState) → a < length ps → pass_in (set ps a q) a ≡ q
+pub pass_same : (ps : List (Option PassState)) (a : ℕ) (q : Option PassState) → a < length ps → arc_pass (set ps a q) a ≡ q
 pass_same ps a q l = get_or-set_same ps a q None l
 
-pub pass_other : (ps : List (Option PassState)) (a b : ℕ) (q : Option PassState) → b ≢ a → pass_in (set ps a q) b ≡ pass_in ps b
+pub pass_other : (ps : List (Option PassState)) (a b : ℕ) (q : Option PassState) → b ≢ a → arc_pass (set ps a q) b ≡ arc_pass ps b
 pass_other ps a b q n = get_or-set_other ps a b q None n
 
 -- within a list no default is taken
@@ -54,29 +54,29 @@ any_default {A} (z ∷ zs) zero x y lt = refl
 any_default {A} (z ∷ zs) (suc a) x y lt = any_default zs a x y (omega (arith, lt))
 
 -- the pass that is put is the one that is there
-pub put_is : (ps : List (Option PassState)) (a b : ℕ) (q r : PassState) → a < length ps → b ≡ a → pass_in (set ps a (Some q)) b ≡ Some r → q ≡ r
-put_is ps a b q r l same e = same_Some _ _ (sym (pass_same ps a (Some q) l) ∙ subst (λ z. pass_in (set ps a (Some q)) z ≡ Some r) same e)
+pub put_is : (ps : List (Option PassState)) (a b : ℕ) (q r : PassState) → a < length ps → b ≡ a → arc_pass (set ps a (Some q)) b ≡ Some r → q ≡ r
+put_is ps a b q r l same e = same_Some _ _ (sym (pass_same ps a (Some q) l) ∙ subst (λ z. arc_pass (set ps a (Some q)) z ≡ Some r) same e)
 
 -- one more has gone on
-pub one_went : (ps qs : List (Option PassState)) (a : ℕ) (q : Option PassState) → a < length qs → HaveAdvanced ps qs → Advanced (pass_in qs a) q
+pub one_went : (ps qs : List (Option PassState)) (a : ℕ) (q : Option PassState) → a < length qs → HaveAdvanced ps qs → Advanced (arc_pass qs a) q
     → HaveAdvanced ps (set qs a q)
 one_went ps qs a q below all here b = go (same_or_not b a)
   where
-    go : (b ≡ a) ⊎ (b ≢ a) → Advanced (pass_in ps b) (pass_in (set qs a q) b)
+    go : (b ≡ a) ⊎ (b ≢ a) → Advanced (arc_pass ps b) (arc_pass (set qs a q) b)
     go (inl e) =
-        subst (λ z. Advanced (pass_in ps z) (pass_in (set qs a q) z)) (sym e)
-        (subst (Advanced (pass_in ps a)) (sym (pass_same qs a q below)) (went_more (pass_in ps a) (pass_in qs a) q (all a) here))
-    go (inr n) = subst (Advanced (pass_in ps b)) (sym (pass_other qs a b q n)) (all b)
+        subst (λ z. Advanced (arc_pass ps z) (arc_pass (set qs a q) z)) (sym e)
+        (subst (Advanced (arc_pass ps a)) (sym (pass_same qs a q below)) (went_more (arc_pass ps a) (arc_pass qs a) q (all a) here))
+    go (inr n) = subst (Advanced (arc_pass ps b)) (sym (pass_other qs a b q n)) (all b)
 
 -- What a party's passes have seen.
 
-pass_place : (w : Watcher) (lock : TableId) (a : ℕ) (p : Option PassState) → ((r : PassState) → p ≡ Some r → IsPassOf w lock a r) → IsWatcherPlace w lock a p
+pass_place : (w : Watcher) (lock : TableId) (a : ℕ) (p : Option PassState) → ((r : PassState) → p ≡ Some r → IsWatcherPass w lock a r) → IsWatcherPlace w lock a p
 pass_place w lock a None h = tt
 pass_place w lock a (Some r) h = h r refl
 
 pub find_place : (ledgers : List SharedState) (w : Watcher) (ps : List (Option PassState)) (a : ℕ) (s : SharedState) → Tracks ledgers w ps → a < length ps
-    → s ≡ slice_index_or ledgers a s → IsWatcherPlace w s.lock a (pass_in ps a)
-find_place ledgers w ps a s t l is = pass_place w s.lock a (pass_in ps a) (λ r e. t.each a s r l is e)
+    → s ≡ slice_index_or ledgers a s → IsWatcherPlace w s.lock a (arc_pass ps a)
+find_place ledgers w ps a s t l is = pass_place w s.lock a (arc_pass ps a) (λ r e. t.each a s r l is e)
 
 shared_at : (ledgers : List SharedState) (a : ℕ) → a < length ledgers → (s : SharedState) × (s ≡ slice_index_or ledgers a s)
 shared_at [] a lt = absurd (omega (arith, lt))
@@ -85,15 +85,15 @@ shared_at (s ∷ ss) (suc a) lt = shared_at ss a (omega (arith, lt))
 
 -- a pass has seen what its party knows
 pub seen_of : (ledgers : List SharedState) (w : Watcher) (ps : List (Option PassState)) (a : ℕ) (p : PassState) → Tracks ledgers w ps → a < length ps
-    → pass_in ps a ≡ Some p → p.seen ≡ history w.known a
+    → arc_pass ps a ≡ Some p → p.seen ≡ history w.known a
 seen_of ledgers w ps a p t lt e =
     let s = shared_at ledgers a (subst (λ z. a < z) (t.places ∙ sym t.shared) lt) in
     (t.each a s.0 p lt s.1 e).seen
 
 -- The history of arc a, of which the pass there has seen all, has come to be known.
 module _ (ledgers : List SharedState) (w : Watcher) (ps : List (Option PassState)) (a : ℕ) (p q : PassState) (h : List Entry) (tracks : Tracks ledgers w ps)
-    (below : a < length ps) (known : a < length w.known) (here : pass_in ps a ≡ Some p) (later : IsLater p q) (seen : q.seen ≡ h) where
-  new_pass : (s : SharedState) → s ≡ slice_index_or ledgers a s → IsPassOf (knowing w a h) s.lock a q
+    (below : a < length ps) (known : a < length w.known) (here : arc_pass ps a ≡ Some p) (later : IsLater p q) (seen : q.seen ≡ h) where
+  new_pass : (s : SharedState) → s ≡ slice_index_or ledgers a s → IsWatcherPass (knowing w a h) s.lock a q
   new_pass s is =
       let old = tracks.each a s p below is here in
       record {
@@ -104,14 +104,14 @@ module _ (ledgers : List SharedState) (w : Watcher) (ps : List (Option PassState
         seen = seen ∙ sym (history_same w.known a h known);
       }
 
-  far_pass : (b : ℕ) (s : SharedState) (r : PassState) → b ≢ a → IsPassOf w s.lock b r → IsPassOf (knowing w a h) s.lock b r
+  far_pass : (b : ℕ) (s : SharedState) (r : PassState) → b ≢ a → IsWatcherPass w s.lock b r → IsWatcherPass (knowing w a h) s.lock b r
   far_pass b s r apart k = record { lock = k.lock; deal = k.deal; arc = k.arc; party = k.party; seen = k.seen ∙ sym (history_other w.known a b h apart) }
 
-  each_pass : (b : ℕ) (s : SharedState) (r : PassState) → b < length ps → s ≡ slice_index_or ledgers b s → pass_in (set ps a (Some q)) b ≡ Some r
-      → (b ≡ a) ⊎ (b ≢ a) → IsPassOf (knowing w a h) s.lock b r
+  each_pass : (b : ℕ) (s : SharedState) (r : PassState) → b < length ps → s ≡ slice_index_or ledgers b s → arc_pass (set ps a (Some q)) b ≡ Some r
+      → (b ≡ a) ⊎ (b ≢ a) → IsWatcherPass (knowing w a h) s.lock b r
   each_pass b s r lt is e (inl same) =
-      subst (λ z. IsPassOf (knowing w a h) s.lock z r) (sym same)
-      (subst (IsPassOf (knowing w a h) s.lock a) (put_is ps a b q r below same e) (new_pass s (subst (λ z. s ≡ slice_index_or ledgers z s) same is)))
+      subst (λ z. IsWatcherPass (knowing w a h) s.lock z r) (sym same)
+      (subst (IsWatcherPass (knowing w a h) s.lock a) (put_is ps a b q r below same e) (new_pass s (subst (λ z. s ≡ slice_index_or ledgers z s) same is)))
   each_pass b s r lt is e (inr apart) = far_pass b s r apart (tracks.each b s r lt is (sym (pass_other ps a b (Some q) apart) ∙ e))
 
   pub tracks_on : Tracks ledgers (knowing w a h) (set ps a (Some q))
@@ -123,10 +123,10 @@ module _ (ledgers : List SharedState) (w : Watcher) (ps : List (Option PassState
 
 -- the first k passes have seen all that was shared
 abbrev pub HaveSeenBelow : ℕ → List (Option PassState) → Type 0
-HaveSeenBelow k ps = (a : ℕ) (p : PassState) → a < k → pass_in ps a ≡ Some p → IsPrefix p.shared p.seen
+HaveSeenBelow k ps = (a : ℕ) (p : PassState) → a < k → arc_pass ps a ≡ Some p → IsPrefix p.shared p.seen
 
 seen_count : (k : ℕ) (ps : List (Option PassState)) (a b : ℕ) (q r : PassState) → a < length ps → IsPrefix q.shared q.seen
-    → ((b ≢ a) → HaveSeenBelow k ps × (b < k)) → pass_in (set ps a (Some q)) b ≡ Some r → (b ≡ a) ⊎ (b ≢ a) → IsPrefix r.shared r.seen
+    → ((b ≢ a) → HaveSeenBelow k ps × (b < k)) → arc_pass (set ps a (Some q)) b ≡ Some r → (b ≡ a) ⊎ (b ≢ a) → IsPrefix r.shared r.seen
 seen_count k ps a b q r below whole f e (inl same) = subst (λ (x : PassState). IsPrefix x.shared x.seen) (put_is ps a b q r below same e) whole
 seen_count k ps a b q r below whole f e (inr apart) = (f apart).0 b r (f apart).1 (sym (pass_other ps a b (Some q) apart) ∙ e)
 
@@ -143,13 +143,13 @@ seen_again ps a q below all whole b r lt e =
     seen_count (length ps) ps a b q r below whole (λ apart. (all, lt1)) e (same_or_not b a)
 
 -- what is known of the arc of a pass changes nothing elsewhere
-pub elsewhere_on : (ps qs : List (Option PassState)) (old new : Histories) (a : ℕ) (p : PassState) (h : List Entry) → HaveAdvanced ps qs → pass_in qs a ≡ Some p
+pub elsewhere_on : (ps qs : List (Option PassState)) (old new : Histories) (a : ℕ) (p : PassState) (h : List Entry) → HaveAdvanced ps qs → arc_pass qs a ≡ Some p
     → IsSameElsewhere ps old new → IsSameElsewhere ps old (set new a h)
 elsewhere_on ps qs old new a p h gone here all b none = go (same_or_not b a)
   where
-    still : pass_in qs b ≡ None
-    still = subst (λ x. Advanced x (pass_in qs b)) none (gone b)
+    still : arc_pass qs b ≡ None
+    still = subst (λ x. Advanced x (arc_pass qs b)) none (gone b)
 
     go : (b ≡ a) ⊎ (b ≢ a) → history (set new a h) b ≡ history old b
-    go (inl same) = absurd (none-some _ (sym (subst (λ z. pass_in qs z ≡ None) same still) ∙ here))
+    go (inl same) = absurd (none-some _ (sym (subst (λ z. arc_pass qs z ≡ None) same still) ∙ here))
     go (inr apart) = history_other new a b h apart ∙ all b none

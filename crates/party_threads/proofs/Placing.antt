@@ -12,14 +12,14 @@ use Rattle.swap_digraph.specs.Deal.{party, counterparty, touches, IsWellSized}
 use Rattle.ledger_core.specs.declared.entry.Entry.{Entry}
 use Rattle.ledger_core.specs.History.{is_sender, IsLegal}
 use Rattle.ledger_core.specs.Value.{LedgerState}
-use Rattle.ledger_shared.specs.Value.{PassState, ClockState, SharedState, party_made, pass_at, table_clock, Closes, ClosesClock}
+use Rattle.ledger_shared.specs.Value.{PassState, ClockState, SharedState, party_made, party_pass, table_clock, Closes, ClosesClock}
 use Rattle.swap_rules.specs.Machine.{Knows}
-use Rattle.swap_world.specs.Inside.{IsLedgerOf}
+use Rattle.swap_world.specs.Inside.{IsArcLedger}
 use Rattle.party_threads.specs.declared.turn.Actor.{Actor}
 use Rattle.party_threads.specs.declared.turn.Turn.{Turn}
-use Rattle.party_threads.specs.Later.{pass_in, clock_in}
-use Rattle.party_threads.specs.Turns.{new_actor, passes_of, clocks_of, actor_at, held_at, clock_held_at, arc_ledger, started, IsBehind, AreBehind, AreHome}
-use Rattle.party_threads.specs.Turns.{AreFreeAt, AreFree, dealt_to, dealt_in, clock_dealt_in, AreDealt, IsAt, IsSet, AreSet, IsClosed, IsShut, IsSameShape}
+use Rattle.party_threads.specs.Later.{arc_pass, arc_clock}
+use Rattle.party_threads.specs.Turns.{new_actor, held_passes, held_clocks, turn_actor, held_pass, held_clock, arc_ledger, started, IsBehind, AreBehind, AreHome}
+use Rattle.party_threads.specs.Turns.{IsArcFree, AreFree, dealt_party_pass, dealt_shared_pass, dealt_clock, AreDealt, IsArcPass, IsSet, AreSet, IsClosed, IsShut, IsSameShape}
 use Rattle.party_threads.specs.Turns.{IsPut, IsClockPut, IsSameBut}
 use Rattle.party_threads.proofs.Sharing.{home_at, dealt_near, dealt_far}
 use Rattle.party_threads.proofs.Turning.{none_pass}
@@ -78,7 +78,7 @@ drop_known v n k h knows is =
     )
 
 -- One end of an arc, as its ledger is shared: what its pass has seen is what it knows.
-module _ (d : Deal) (a : ℕ) (l : LedgerState) (home : IsLedgerOf d a l) (side : Deal → ℕ → ℕ) (x : Actor) (n w : ℕ) where
+module _ (d : Deal) (a : ℕ) (l : LedgerState) (home : IsArcLedger d a l) (side : Deal → ℕ → ℕ) (x : Actor) (n w : ℕ) where
   pub share_at : IsBehind x (side d a) a l.history → w ≡ length l.history → ((h : List Entry) → length h ≡ w → n ≡ length (started x a h))
       → (n ≤ length l.history) × (party_made (side l.deal l.arc) (drop n l.history) ≡ [])
   share_at behind whole seen =
@@ -86,11 +86,11 @@ module _ (d : Deal) (a : ℕ) (l : LedgerState) (home : IsLedgerOf d a l) (side 
       (drop_known (side d a) n (started x a l.history) l.history behind (seen l.history (sym whole)))
 
   pub pass_as : (lock : TableId) → IsBehind x (side d a) a l.history → w ≡ length l.history → ((h : List Entry) → length h ≡ w → n ≡ length (started x a h))
-      → pass_at lock l (side l.deal l.arc) (take n l.history) ≡ pass_at lock l (side d a) (started x l.arc l.history)
+      → party_pass lock l (side l.deal l.arc) (take n l.history) ≡ party_pass lock l (side d a) (started x l.arc l.history)
   pass_as lock behind whole seen =
       let known : take n l.history ≡ started x l.arc l.history =
       take_known (side d a) n (started x a l.history) l.history behind (seen l.history (sym whole)) ∙ ap (λ b. started x b l.history) (sym home.arc) in
-      λ i. pass_at lock l (side (home.deal i) (home.arc i)) (known i)
+      λ i. party_pass lock l (side (home.deal i) (home.arc i)) (known i)
 
 -- One turn of a list is changed in its passes.
 module _ (ts us : List Turn) (v : ℕ) (t u : Turn) (below : v < length ts) (there : slice_get ts v ≡ Some t) (is : us ≡ set ts v u) where
@@ -118,13 +118,13 @@ module _ (ts us : List Turn) (v : ℕ) (t u : Turn) (below : v < length ts) (the
     shape = record {
       number = number;
       actors = kept new_actor actor;
-      places = kept (λ o. length (passes_of o)) (ap length passes ∙ length-set t.passes.items a p);
-      clock_places = kept (λ o. length (clocks_of o)) (ap length clocks);
+      places = kept (λ o. length (held_passes o)) (ap length passes ∙ length-set t.passes.items a p);
+      clock_places = kept (λ o. length (held_clocks o)) (ap length clocks);
     };
-    here = ap (λ o. pass_in (passes_of o) a) at_it ∙ (ap (λ ps. pass_in ps a) passes ∙ get_or-set_same t.passes.items a p None lt);
-    others = λ w b n. ap (λ o. pass_in (passes_of o) b) (off_it w n);
-    elsewhere = λ w b n. kept (λ o. pass_in (passes_of o) b) (ap (λ ps. pass_in ps b) passes ∙ get_or-set_other t.passes.items a b p None n) w;
-    clocks = λ w b. kept (λ o. clock_in (clocks_of o) b) (ap (λ cs. clock_in cs b) clocks) w;
+    here = ap (λ o. arc_pass (held_passes o) a) at_it ∙ (ap (λ ps. arc_pass ps a) passes ∙ get_or-set_same t.passes.items a p None lt);
+    others = λ w b n. ap (λ o. arc_pass (held_passes o) b) (off_it w n);
+    elsewhere = λ w b n. kept (λ o. arc_pass (held_passes o) b) (ap (λ ps. arc_pass ps b) passes ∙ get_or-set_other t.passes.items a b p None n) w;
+    clocks = λ w b. kept (λ o. arc_clock (held_clocks o) b) (ap (λ cs. arc_clock cs b) clocks) w;
   }
 
   pub is_clock_put : (a : ℕ) (p : Option ClockState) → u.actor ≡ t.actor → u.passes.items ≡ t.passes.items → u.clocks.items ≡ set t.clocks.items a p
@@ -133,30 +133,30 @@ module _ (ts us : List Turn) (v : ℕ) (t u : Turn) (below : v < length ts) (the
     shape = record {
       number = number;
       actors = kept new_actor actor;
-      places = kept (λ o. length (passes_of o)) (ap length passes);
-      clock_places = kept (λ o. length (clocks_of o)) (ap length clocks ∙ length-set t.clocks.items a p);
+      places = kept (λ o. length (held_passes o)) (ap length passes);
+      clock_places = kept (λ o. length (held_clocks o)) (ap length clocks ∙ length-set t.clocks.items a p);
     };
-    here = ap (λ o. clock_in (clocks_of o) a) at_it ∙ (ap (λ cs. clock_in cs a) clocks ∙ get_or-set_same t.clocks.items a p None lt);
-    elsewhere = λ w b n. kept (λ o. clock_in (clocks_of o) b) (ap (λ cs. clock_in cs b) clocks ∙ get_or-set_other t.clocks.items a b p None n) w;
-    held = λ w b. kept (λ o. pass_in (passes_of o) b) (ap (λ ps. pass_in ps b) passes) w;
+    here = ap (λ o. arc_clock (held_clocks o) a) at_it ∙ (ap (λ cs. arc_clock cs a) clocks ∙ get_or-set_same t.clocks.items a p None lt);
+    elsewhere = λ w b n. kept (λ o. arc_clock (held_clocks o) b) (ap (λ cs. arc_clock cs b) clocks ∙ get_or-set_other t.clocks.items a b p None n) w;
+    held = λ w b. kept (λ o. arc_pass (held_passes o) b) (ap (λ ps. arc_pass ps b) passes) w;
   }
 
 -- the same where the turn is the one at the place
-pub put_at : (ts : List Turn) (v a : ℕ) (p q : Option PassState) (x u : Turn) → v < length ts → a < length (passes_of (slice_get ts v))
+pub put_at : (ts : List Turn) (v a : ℕ) (p q : Option PassState) (x u : Turn) → v < length ts → a < length (held_passes (slice_get ts v))
     → u.actor ≡ (get_or ts v x).actor → u.clocks.items ≡ (get_or ts v x).clocks.items → u.passes.items ≡ set (get_or ts v x).passes.items a q → q ≡ p
     → IsPut ts v a p (set ts v u)
 put_at ts v a p q x u below place actor clocks passes is =
     let there : slice_get ts v ≡ Some (get_or ts v x) = slice_get-get_or ts v x below in
     is_put ts (set ts v u) v (get_or ts v x) u below there refl a p actor clocks (passes ∙ ap (set (get_or ts v x).passes.items a) is)
-    (subst (λ o. a < length (passes_of o)) there place)
+    (subst (λ o. a < length (held_passes o)) there place)
 
-pub clock_put_at : (ts : List Turn) (v a : ℕ) (p q : Option ClockState) (x u : Turn) → v < length ts → a < length (clocks_of (slice_get ts v))
+pub clock_put_at : (ts : List Turn) (v a : ℕ) (p q : Option ClockState) (x u : Turn) → v < length ts → a < length (held_clocks (slice_get ts v))
     → u.actor ≡ (get_or ts v x).actor → u.passes.items ≡ (get_or ts v x).passes.items → u.clocks.items ≡ set (get_or ts v x).clocks.items a q → q ≡ p
     → IsClockPut ts v a p (set ts v u)
 clock_put_at ts v a p q x u below place actor passes clocks is =
     let there : slice_get ts v ≡ Some (get_or ts v x) = slice_get-get_or ts v x below in
     is_clock_put ts (set ts v u) v (get_or ts v x) u below there refl a p actor passes (clocks ∙ ap (set (get_or ts v x).clocks.items a) is)
-    (subst (λ o. a < length (clocks_of o)) there place)
+    (subst (λ o. a < length (held_clocks o)) there place)
 
 -- Shapes.
 
@@ -181,13 +181,13 @@ module _ (a u w n : ℕ) (p q : Option PassState) (c : Option ClockState) (t0 t1
     clocks = λ v b ne. three.elsewhere v b ne ∙ (two.clocks v b ∙ one.clocks v b);
   }
 
-  pub three_second : held_at t3 w a ≡ q
+  pub three_second : held_pass t3 w a ≡ q
   three_second = three.held w a ∙ two.here
 
-  pub three_first : u ≢ w → held_at t3 u a ≡ p
+  pub three_first : u ≢ w → held_pass t3 u a ≡ p
   three_first apart = three.held u a ∙ (two.others u a apart ∙ one.here)
 
-  pub three_else : (v : ℕ) → v ≢ u → v ≢ w → held_at t3 v a ≡ held_at t0 v a
+  pub three_else : (v : ℕ) → v ≢ u → v ≢ w → held_pass t3 v a ≡ held_pass t0 v a
   three_else v nu nw = three.held v a ∙ (two.others v a nw ∙ one.others v a nu)
 
   -- whatever holds of the two ends and of all others holds of each
@@ -211,26 +211,26 @@ pub else_far : (d : Deal) (v a : ℕ) → v ≢ party d a → v ≢ counterparty
 else_far d v a nu nw = ap (λ b. b || (v == counterparty d a)) (ne_eqb v (party d a) nu) ∙ ne_eqb v (counterparty d a) nw
 
 -- The passes of one arc are dealt.
-module _ (d : Deal) (a : ℕ) (lock : TableId) (l : LedgerState) (sized : IsWellSized d) (below : a < length d.graph.arcs) (home : IsLedgerOf d a l)
+module _ (d : Deal) (a : ℕ) (lock : TableId) (l : LedgerState) (sized : IsWellSized d) (below : a < length d.graph.arcs) (home : IsArcLedger d a l)
     (p q : PassState) (c : ClockState) (t0 t1 t2 t3 : List Turn) (one : IsPut t0 (party d a) a (Some p) t1) (two : IsPut t1 (counterparty d a) a (Some q) t2)
-    (three : IsClockPut t2 d.graph.n a (Some c) t3) (free : AreFreeAt d t0 a)
-    (first : p ≡ pass_at lock l (party d a) (started (actor_at t0 (party d a)) l.arc l.history))
-    (second : q ≡ pass_at lock l (counterparty d a) (started (actor_at t0 (counterparty d a)) l.arc l.history)) where
+    (three : IsClockPut t2 d.graph.n a (Some c) t3) (free : IsArcFree d t0 a)
+    (first : p ≡ party_pass lock l (party d a) (started (turn_actor t0 (party d a)) l.arc l.history))
+    (second : q ≡ party_pass lock l (counterparty d a) (started (turn_actor t0 (counterparty d a)) l.arc l.history)) where
   abbrev IsRight : ℕ → Type 0
-  IsRight v = v < d.graph.n → held_at t3 v a ≡ dealt_to (actor_at t0 v) v lock l
+  IsRight v = v < d.graph.n → held_pass t3 v a ≡ dealt_party_pass (turn_actor t0 v) v lock l
 
-  pub all_dealt : (v : ℕ) → v < d.graph.n → held_at t3 v a ≡ dealt_to (actor_at t0 v) v lock l
+  pub all_dealt : (v : ℕ) → v < d.graph.n → held_pass t3 v a ≡ dealt_party_pass (turn_actor t0 v) v lock l
   all_dealt =
       by_ends a (party d a) (counterparty d a) d.graph.n (Some p) (Some q) (Some c) t0 t1 t2 t3 one two three IsRight
       (λ lv.
       three_first a (party d a) (counterparty d a) d.graph.n (Some p) (Some q) (Some c) t0 t1 t2 t3 one two three (sized.ends.apart a below)
-      ∙ (ap (λ x. Some x) first ∙ sym (dealt_near d (actor_at t0 (party d a)) (party d a) a lock l home (party_touches d a))))
+      ∙ (ap (λ x. Some x) first ∙ sym (dealt_near d (turn_actor t0 (party d a)) (party d a) a lock l home (party_touches d a))))
       (λ lv.
       three_second a (party d a) (counterparty d a) d.graph.n (Some p) (Some q) (Some c) t0 t1 t2 t3 one two three
-      ∙ (ap (λ x. Some x) second ∙ sym (dealt_near d (actor_at t0 (counterparty d a)) (counterparty d a) a lock l home (counterparty_touches d a))))
+      ∙ (ap (λ x. Some x) second ∙ sym (dealt_near d (turn_actor t0 (counterparty d a)) (counterparty d a) a lock l home (counterparty_touches d a))))
       (λ v nu nw lv.
       three_else a (party d a) (counterparty d a) d.graph.n (Some p) (Some q) (Some c) t0 t1 t2 t3 one two three v nu nw
-      ∙ (free.passes v lv ∙ sym (dealt_far d (actor_at t0 v) v a lock l home (else_far d v a nu nw))))
+      ∙ (free.passes v lv ∙ sym (dealt_far d (turn_actor t0 v) v a lock l home (else_far d v a nu nw))))
 
 -- The passes of one arc are taken back.
 module _ (d : Deal) (a : ℕ) (lock : TableId) (sized : IsWellSized d) (below : a < length d.graph.arcs) (t0 : List Turn) (s : IsSet d t0 a lock) where
@@ -240,41 +240,41 @@ module _ (d : Deal) (a : ℕ) (lock : TableId) (sized : IsWellSized d) (below : 
   to_below : counterparty d a < d.graph.n
   to_below = sized.ends.to a below
 
-  pub first_there : (p : PassState) × (held_at t0 (party d a) a ≡ Some p)
+  pub first_there : (p : PassState) × (held_pass t0 (party d a) a ≡ Some p)
   first_there = let n = s.near (party d a) from_below (party_touches d a) in (n.0, n.1)
 
-  pub first_is : (p : PassState) → held_at t0 (party d a) a ≡ Some p → IsAt d a lock (party d a) p
-  first_is p e = let n = s.near (party d a) from_below (party_touches d a) in subst (IsAt d a lock (party d a)) (same_Some _ _ (sym n.1 ∙ e)) n.2
+  pub first_is : (p : PassState) → held_pass t0 (party d a) a ≡ Some p → IsArcPass d a lock (party d a) p
+  first_is p e = let n = s.near (party d a) from_below (party_touches d a) in subst (IsArcPass d a lock (party d a)) (same_Some _ _ (sym n.1 ∙ e)) n.2
 
-  pub second_is : (p : PassState) → held_at t0 (counterparty d a) a ≡ Some p → IsAt d a lock (counterparty d a) p
+  pub second_is : (p : PassState) → held_pass t0 (counterparty d a) a ≡ Some p → IsArcPass d a lock (counterparty d a) p
   second_is p e =
-      let n = s.near (counterparty d a) to_below (counterparty_touches d a) in subst (IsAt d a lock (counterparty d a)) (same_Some _ _ (sym n.1 ∙ e)) n.2
+      let n = s.near (counterparty d a) to_below (counterparty_touches d a) in subst (IsArcPass d a lock (counterparty d a)) (same_Some _ _ (sym n.1 ∙ e)) n.2
 
   module _ (t1 : List Turn) (one : IsPut t0 (party d a) a None t1) where
     abbrev apart : counterparty d a ≢ party d a
     apart e = sized.ends.apart a below (sym e)
 
-    pub second_there : (p : PassState) × (held_at t1 (counterparty d a) a ≡ Some p)
+    pub second_there : (p : PassState) × (held_pass t1 (counterparty d a) a ≡ Some p)
     second_there = let n = s.near (counterparty d a) to_below (counterparty_touches d a) in (n.0, one.others (counterparty d a) a apart ∙ n.1)
 
-    pub second_was : (p : PassState) → held_at t1 (counterparty d a) a ≡ Some p → held_at t0 (counterparty d a) a ≡ Some p
+    pub second_was : (p : PassState) → held_pass t1 (counterparty d a) a ≡ Some p → held_pass t0 (counterparty d a) a ≡ Some p
     second_was p e = sym (one.others (counterparty d a) a apart) ∙ e
 
     module _ (t2 : List Turn) (two : IsPut t1 (counterparty d a) a None t2) where
-      pub clock_there : (c : ClockState) × (clock_held_at t2 d.graph.n a ≡ Some c)
+      pub clock_there : (c : ClockState) × (held_clock t2 d.graph.n a ≡ Some c)
       clock_there = (s.clock.0, two.clocks d.graph.n a ∙ (one.clocks d.graph.n a ∙ s.clock.1))
 
-      pub clock_was : (c : ClockState) → clock_held_at t2 d.graph.n a ≡ Some c → clock_held_at t0 d.graph.n a ≡ Some c
+      pub clock_was : (c : ClockState) → held_clock t2 d.graph.n a ≡ Some c → held_clock t0 d.graph.n a ≡ Some c
       clock_was c e = sym (two.clocks d.graph.n a ∙ one.clocks d.graph.n a) ∙ e
 
-      pub clock_is_of : (c : ClockState) → clock_held_at t2 d.graph.n a ≡ Some c → c.lock ≡ lock
+      pub clock_is_of : (c : ClockState) → held_clock t2 d.graph.n a ≡ Some c → c.lock ≡ lock
       clock_is_of c e = ap (λ (x : ClockState). x.lock) (same_Some _ _ (sym (clock_was c e) ∙ s.clock.1)) ∙ s.clock.2
 
       module _ (t3 : List Turn) (three : IsClockPut t2 d.graph.n a None t3) where
-        pub all_free : AreFreeAt d t3 a
+        pub all_free : IsArcFree d t3 a
         all_free = record {
           passes =
-              by_ends a (party d a) (counterparty d a) d.graph.n None None None t0 t1 t2 t3 one two three (λ v. v < d.graph.n → held_at t3 v a ≡ None)
+              by_ends a (party d a) (counterparty d a) d.graph.n None None None t0 t1 t2 t3 one two three (λ v. v < d.graph.n → held_pass t3 v a ≡ None)
               (λ lv. three_first a (party d a) (counterparty d a) d.graph.n None None None t0 t1 t2 t3 one two three (sized.ends.apart a below))
               (λ lv. three_second a (party d a) (counterparty d a) d.graph.n None None None t0 t1 t2 t3 one two three)
               (λ v nu nw lv.
@@ -283,9 +283,9 @@ module _ (d : Deal) (a : ℕ) (lock : TableId) (sized : IsWellSized d) (below : 
           clock = three.here;
         }
 
-        module _ (l : LedgerState) (p q : PassState) (c : ClockState) (held_p : held_at t0 (party d a) a ≡ Some p)
-            (held_q : held_at t1 (counterparty d a) a ≡ Some q)
-            (held_c : clock_held_at t2 d.graph.n a ≡ Some c) (close_p : Closes l p) (close_q : Closes l q) (close_c : ClosesClock l c)
+        module _ (l : LedgerState) (p q : PassState) (c : ClockState) (held_p : held_pass t0 (party d a) a ≡ Some p)
+            (held_q : held_pass t1 (counterparty d a) a ≡ Some q)
+            (held_c : held_clock t2 d.graph.n a ≡ Some c) (close_p : Closes l p) (close_q : Closes l q) (close_c : ClosesClock l c)
             (legal : IsLegal l.deal l.arc l.history) where
           deal_is : l.deal ≡ d
           deal_is = close_p.deal ∙ (first_is p held_p).deal
@@ -303,7 +303,7 @@ module _ (d : Deal) (a : ℕ) (lock : TableId) (sized : IsWellSized d) (below : 
             };
             passes = λ v x lv e.
                 by_ends a (party d a) (counterparty d a) d.graph.n None None None t0 t1 t2 t3 one two three
-                (λ w. w < d.graph.n → (y : PassState) → held_at t0 w a ≡ Some y → Closes l y)
+                (λ w. w < d.graph.n → (y : PassState) → held_pass t0 w a ≡ Some y → Closes l y)
                 (λ lw y f. subst (Closes l) (same_Some _ _ (sym held_p ∙ f)) close_p)
                 (λ lw y f. subst (Closes l) (same_Some _ _ (sym (second_was q held_q) ∙ f)) close_q)
                 (λ w nu nw lw y f. absurd (none-some _ (sym (s.far w lw (else_far d w a nu nw)) ∙ f)))
@@ -354,27 +354,27 @@ module _ (d : Deal) (ls0 : List (Option LedgerState)) (ts0 : List Turn) (k : ℕ
   pub there_still : AreHome d ls0 → (l : LedgerState) × (arc_ledger ls k ≡ Some l)
   there_still home = let l = home_at d ls0 k home below in (l.0, i.left k (omega arith) ∙ l.1)
 
-  pub is_home : AreHome d ls0 → (l : LedgerState) → arc_ledger ls k ≡ Some l → IsLedgerOf d k l
+  pub is_home : AreHome d ls0 → (l : LedgerState) → arc_ledger ls k ≡ Some l → IsArcLedger d k l
   is_home home l at =
       let h = home_at d ls0 k home below in
-      subst (IsLedgerOf d k) (same_Some _ _ (sym h.1 ∙ (sym (i.left k (omega arith)) ∙ at))) h.2
+      subst (IsArcLedger d k) (same_Some _ _ (sym h.1 ∙ (sym (i.left k (omega arith)) ∙ at))) h.2
 
   pub was_home : (l : LedgerState) → arc_ledger ls k ≡ Some l → arc_ledger ls0 k ≡ Some l
   was_home l at = sym (i.left k (omega arith)) ∙ at
 
-  pub behind_still : AreBehind d ts0 ls0 → (l : LedgerState) → arc_ledger ls k ≡ Some l → (v : ℕ) → v < d.graph.n → IsBehind (actor_at ts v) v k l.history
+  pub behind_still : AreBehind d ts0 ls0 → (l : LedgerState) → arc_ledger ls k ≡ Some l → (v : ℕ) → v < d.graph.n → IsBehind (turn_actor ts v) v k l.history
   behind_still behind l at v lv = subst (λ x. IsBehind x v k l.history) (sym (i.shape.actors v)) (behind v k l lv below (was_home l at))
 
-  pub free_still : AreFreeAt d ts k
+  pub free_still : IsArcFree d ts k
   free_still = record {
-    passes = λ v lv. i.dealt.passes v k lv below ∙ ap (λ o. dealt_in (actor_at ts v) v o (arc_ledger ls0 k)) nothing_at;
-    clock = i.dealt.clocks k below ∙ ap (λ o. clock_dealt_in o (arc_ledger ls0 k)) nothing_at;
+    passes = λ v lv. i.dealt.passes v k lv below ∙ ap (λ o. dealt_shared_pass (turn_actor ts v) v o (arc_ledger ls0 k)) nothing_at;
+    clock = i.dealt.clocks k below ∙ ap (λ o. dealt_clock o (arc_ledger ls0 k)) nothing_at;
   }
 
   module _ (ls' : List (Option LedgerState)) (ts' : List Turn) (shared' : List SharedState) (l : LedgerState) (s : SharedState) (at : arc_ledger ls k ≡ Some l)
       (many : length ls' ≡ length ls) (left : (a : ℕ) → a ≢ k → arc_ledger ls' a ≡ arc_ledger ls a)
-      (dealt : (v : ℕ) → v < d.graph.n → held_at ts' v k ≡ dealt_to (actor_at ts v) v s.lock l)
-      (clock : clock_held_at ts' d.graph.n k ≡ Some (table_clock s.lock l)) (others : IsSameBut k ts ts') (is : shared' ≡ shared ++ s ∷ []) where
+      (dealt : (v : ℕ) → v < d.graph.n → held_pass ts' v k ≡ dealt_party_pass (turn_actor ts v) v s.lock l)
+      (clock : held_clock ts' d.graph.n k ≡ Some (table_clock s.lock l)) (others : IsSameBut k ts ts') (is : shared' ≡ shared ++ s ∷ []) where
     locks_now : map (λ (x : SharedState). x.lock) shared' ≡ locks ++ s.lock ∷ []
     locks_now = ap (map (λ (x : SharedState). x.lock)) is ∙ map_append (λ (x : SharedState). x.lock) shared (s ∷ [])
 
@@ -385,30 +385,30 @@ module _ (d : Deal) (ls0 : List (Option LedgerState)) (ts0 : List Turn) (k : ℕ
     lock_before a n = get_other locks s.lock a (λ e. n (e ∙ count))
 
     abbrev Here : ℕ → ℕ → Type 0
-    Here v a = held_at ts' v a ≡ dealt_in (actor_at ts' v) v (slice_get (locks ++ s.lock ∷ []) a) (arc_ledger ls0 a)
+    Here v a = held_pass ts' v a ≡ dealt_shared_pass (turn_actor ts' v) v (slice_get (locks ++ s.lock ∷ []) a) (arc_ledger ls0 a)
 
     here_now : (v : ℕ) → v < d.graph.n → Here v k
     here_now v lv =
-        dealt v lv ∙ sym (ap (λ o. dealt_in (actor_at ts' v) v o (arc_ledger ls0 k)) lock_last
-        ∙ (ap (dealt_in (actor_at ts' v) v (Some s.lock)) (was_home l at) ∙ ap (λ x. dealt_to x v s.lock l) (others.shape.actors v)))
+        dealt v lv ∙ sym (ap (λ o. dealt_shared_pass (turn_actor ts' v) v o (arc_ledger ls0 k)) lock_last
+        ∙ (ap (dealt_shared_pass (turn_actor ts' v) v (Some s.lock)) (was_home l at) ∙ ap (λ x. dealt_party_pass x v s.lock l) (others.shape.actors v)))
 
     there_now : (v a : ℕ) → v < d.graph.n → a < length d.graph.arcs → a ≢ k → Here v a
     there_now v a lv lt n =
-        others.held v a n ∙ (i.dealt.passes v a lv lt ∙ (ap (λ o. dealt_in (actor_at ts v) v o (arc_ledger ls0 a)) (sym (lock_before a n))
-        ∙ ap (λ x. dealt_in x v (slice_get (locks ++ s.lock ∷ []) a) (arc_ledger ls0 a)) (sym (others.shape.actors v))))
+        others.held v a n ∙ (i.dealt.passes v a lv lt ∙ (ap (λ o. dealt_shared_pass (turn_actor ts v) v o (arc_ledger ls0 a)) (sym (lock_before a n))
+        ∙ ap (λ x. dealt_shared_pass x v (slice_get (locks ++ s.lock ∷ []) a) (arc_ledger ls0 a)) (sym (others.shape.actors v))))
 
     at_now : (v a : ℕ) → v < d.graph.n → a < length d.graph.arcs → (a ≡ k) ⊎ (a ≢ k) → Here v a
     at_now v a lv lt (inl e) = subst (Here v) (sym e) (here_now v lv)
     at_now v a lv lt (inr n) = there_now v a lv lt n
 
     abbrev Clocked : ℕ → Type 0
-    Clocked a = clock_held_at ts' d.graph.n a ≡ clock_dealt_in (slice_get (locks ++ s.lock ∷ []) a) (arc_ledger ls0 a)
+    Clocked a = held_clock ts' d.graph.n a ≡ dealt_clock (slice_get (locks ++ s.lock ∷ []) a) (arc_ledger ls0 a)
 
     clock_now : (a : ℕ) → a < length d.graph.arcs → (a ≡ k) ⊎ (a ≢ k) → Clocked a
     clock_now a lt (inl e) =
-        subst Clocked (sym e) (clock ∙ sym (ap (λ o. clock_dealt_in o (arc_ledger ls0 k)) lock_last ∙ ap (clock_dealt_in (Some s.lock)) (was_home l at)))
+        subst Clocked (sym e) (clock ∙ sym (ap (λ o. dealt_clock o (arc_ledger ls0 k)) lock_last ∙ ap (dealt_clock (Some s.lock)) (was_home l at)))
     clock_now a lt (inr n) =
-        others.clocks d.graph.n a n ∙ (i.dealt.clocks a lt ∙ ap (λ o. clock_dealt_in o (arc_ledger ls0 a)) (sym (lock_before a n)))
+        others.clocks d.graph.n a n ∙ (i.dealt.clocks a lt ∙ ap (λ o. dealt_clock o (arc_ledger ls0 a)) (sym (lock_before a n)))
 
     pub deal_goes_on : IsDealing d ls0 ts0 (k + 1) ls' ts' shared'
     deal_goes_on = record {
@@ -431,9 +431,9 @@ pub record IsClosing (d : Deal) (ts0 : List Turn) (all rest : List SharedState) 
   pub whole : rest ++ gone ≡ all
   pub number : length ls ≡ length d.graph.arcs
   pub shut : (a : ℕ) → length rest ≤ a → a < length d.graph.arcs → IsShut d ts0 a (arc_ledger ls a)
-  pub free : (a : ℕ) → length rest ≤ a → a < length d.graph.arcs → AreFreeAt d ts a
-  pub left : (v a : ℕ) → a < length rest → held_at ts v a ≡ held_at ts0 v a
-  pub clocks : (v a : ℕ) → a < length rest → clock_held_at ts v a ≡ clock_held_at ts0 v a
+  pub free : (a : ℕ) → length rest ≤ a → a < length d.graph.arcs → IsArcFree d ts a
+  pub left : (v a : ℕ) → a < length rest → held_pass ts v a ≡ held_pass ts0 v a
+  pub clocks : (v a : ℕ) → a < length rest → held_clock ts v a ≡ held_clock ts0 v a
 
 pub close_begins : (d : Deal) (ts : List Turn) (all : List SharedState) (ls : List (Option LedgerState)) → length all ≡ length d.graph.arcs
     → length ls ≡ length d.graph.arcs
@@ -476,7 +476,7 @@ module _ (d : Deal) (ts0 : List Turn) (all rest rest' : List SharedState) (ls : 
       }
 
   module _ (ls' : List (Option LedgerState)) (ts' : List Turn) (l : LedgerState) (closed : IsClosed d ts (length rest') l)
-      (free : AreFreeAt d ts' (length rest'))
+      (free : IsArcFree d ts' (length rest'))
       (others : IsSameBut (length rest') ts ts') (at : arc_ledger ls' (length rest') ≡ Some l) (number : length ls' ≡ length ls)
       (left : (a : ℕ) → a ≢ length rest' → arc_ledger ls' a ≡ arc_ledger ls a) where
     shut_here : IsClosed d ts0 (length rest') l
@@ -492,8 +492,8 @@ module _ (d : Deal) (ts0 : List Turn) (all rest rest' : List SharedState) (ls : 
     shut_now a le lt (inl e) = subst (λ b. IsShut d ts0 b (arc_ledger ls' b)) (sym e) (subst (IsShut d ts0 (length rest')) (sym at) shut_here)
     shut_now a le lt (inr n) = subst (IsShut d ts0 a) (sym (left a n)) (i.shut a (let m = longer in omega (arith, m, le, n)) lt)
 
-    free_now : (a : ℕ) → length rest' ≤ a → a < length d.graph.arcs → (a ≡ length rest') ⊎ (a ≢ length rest') → AreFreeAt d ts' a
-    free_now a le lt (inl e) = subst (AreFreeAt d ts') (sym e) free
+    free_now : (a : ℕ) → length rest' ≤ a → a < length d.graph.arcs → (a ≡ length rest') ⊎ (a ≢ length rest') → IsArcFree d ts' a
+    free_now a le lt (inl e) = subst (IsArcFree d ts') (sym e) free
     free_now a le lt (inr n) =
         let f = i.free a (let m = longer in omega (arith, m, le, n)) lt in
         record { passes = λ v lv. others.held v a n ∙ f.passes v lv; clock = others.clocks d.graph.n a n ∙ f.clock }

@@ -19,15 +19,15 @@ use Rattle.swap_job.specs.declared.job.Role.{Role}
 use Rattle.swap_job.specs.declared.job.Role.TheVariants.{Conforming, Manual, Script, Strategy}
 use Rattle.swap_job.specs.Crafted.{Seeds}
 use Rattle.deviators.specs.Script.{next_call as script_call, moves_left}
-use Rattle.deviators.specs.View.{IsView, IsAnswerOf, MayAnswer}
+use Rattle.deviators.specs.View.{IsView, IsPartyAnswer, MayAnswer}
 use Rattle.swap_rules.specs.Machine.{Begins}
 use Rattle.swap_rules.proofs.Prefixes.{same_or_not}
 use Rattle.swap_rules.proofs.Conducting.{Next, next_call, next_legal, next_begins, history_same, history_other}
-use Rattle.swap_run.specs.Run.{Plan, plan_up_to}
+use Rattle.swap_run.specs.Run.{Plan, plan_with_ledger}
 use Rattle.swap_world.specs.Gone.{MayGive}
-use Rattle.party_threads.specs.Later.{pass_in, Advanced, HaveAdvanced}
+use Rattle.party_threads.specs.Later.{arc_pass, Advanced, HaveAdvanced}
 use Rattle.party_threads.specs.Tracks.{Watcher, Tracks, HaveSeenAll, HasItsPasses, IsWatcherPlace, HasMade, MadeIf, LookedIf}
-use Rattle.party_threads.specs.Played.{party_planner, calls_by, answer_on, HaveFresh, HaveGrown, IsAnswered, HasMadeCall, HasPlayed}
+use Rattle.party_threads.specs.Played.{party_planner, sender_calls, arc_answer, HaveFresh, HaveGrown, IsAnswered, HasMadeCall, HasPlayed}
 use Rattle.party_threads.proofs.Passes.{any_default, find_place, tracks_on, seen_of}
 use Rattle.party_threads.proofs.Looking.{IsLooking}
 use Rattle.party_threads.proofs.Calls.{others_add_none, few, none_more, one_more}
@@ -47,7 +47,7 @@ view_after d v ledgers n m ps qs k view passes places h = record {
 }
 
 -- a look leaves the moves and the turns
-pub rest_after : (d : Deal) (v : ℕ) (n m : Plan) (a : ℕ) (o q : Option PassState) → LookedIf (party_planner d v n) (plan_up_to n a) a n o m q
+pub rest_after : (d : Deal) (v : ℕ) (n m : Plan) (a : ℕ) (o q : Option PassState) → LookedIf (party_planner d v n) (plan_with_ledger n a) a n o m q
     → (m.moves ≡ n.moves) × (m.turns ≡ n.turns)
 rest_after d v n m a None q l = (ap (λ (x : Plan). x.moves) l.0, ap (λ (x : Plan). x.turns) l.0)
 rest_after d v n m a (Some p) q l = (ap (λ (x : Plan). x.moves) l.2.knows, ap (λ (x : Plan). x.turns) l.2.knows)
@@ -65,16 +65,16 @@ legal_set d b a h below legal l = record {
     go c (inr n) lt = subst (IsLegal d c) (sym (history_other b a c h n)) (l.legal c lt)
 
 -- of a party's own calls it knows few
-few_known : (d : Deal) (v : ℕ) (k : Histories) (a : ℕ) → IsView d v k → a < length d.graph.arcs → length (calls_by v (history k a)) ≤ 32
+few_known : (d : Deal) (v : ℕ) (k : Histories) (a : ℕ) → IsView d v k → a < length d.graph.arcs → length (sender_calls v (history k a)) ≤ 32
 few_known d v k a view lt = go (is_near d v a) refl
   where
-    go : (b : Bool) → is_near d v a ≡ b → length (calls_by v (history k a)) ≤ 32
+    go : (b : Bool) → is_near d v a ≡ b → length (sender_calls v (history k a)) ≤ 32
     go true e = few d a (history k a) v (view.legal.legal a (subst (λ z. a < z) (sym view.legal.one_each) lt)) e
-    go false e = subst (λ h. length (calls_by v h) ≤ 32) (sym (view.far a lt e)) (omega arith)
+    go false e = subst (λ h. length (sender_calls v h) ≤ 32) (sym (view.far a lt e)) (omega arith)
 
 same_calls : (d : Deal) (v : ℕ) (k : Histories) (a : ℕ) (h : List Entry) → IsView d v k → a < length d.graph.arcs → h ≡ history k a
-    → calls_by v h ≡ take 32 (calls_by v (history k a) ++ [])
-same_calls d v k a h view lt is = ap (calls_by v) is ∙ none_more (calls_by v (history k a)) (few_known d v k a view lt)
+    → sender_calls v h ≡ take 32 (sender_calls v (history k a) ++ [])
+same_calls d v k a h view lt is = ap (sender_calls v) is ∙ none_more (sender_calls v (history k a)) (few_known d v k a view lt)
 
 -- nothing is called where nothing is answered
 pub calls_nothing : (d : Deal) (v : ℕ) (k : Histories) → IsView d v k → HasMadeCall d v None k k
@@ -93,8 +93,8 @@ pub record HasDone (ledgers : List SharedState) (d : Deal) (v : ℕ) (answer : O
   pub turns : m.turns ≡ n.turns
 
 module _ (ledgers : List SharedState) (d : Deal) (v : ℕ) (n m : Plan) (ps : List (Option PassState)) (a : ℕ) (c : Call) (p q : PassState)
-    (view : IsView d v n.known) (tracks : Tracks ledgers (party_planner d v n) ps) (is : IsAnswerOf d v (a, c)) (here : pass_in ps a ≡ Some p)
-    (made : HasMade (party_planner d v n) (plan_up_to n a) a c p m q) where
+    (view : IsView d v n.known) (tracks : Tracks ledgers (party_planner d v n) ps) (is : IsPartyAnswer d v (a, c)) (here : arc_pass ps a ≡ Some p)
+    (made : HasMade (party_planner d v n) (plan_with_ledger n a) a c p m q) where
   below : a < length n.known
   below = subst (λ z. a < z) (sym view.legal.one_each) is.arc
 
@@ -132,24 +132,24 @@ module _ (ledgers : List SharedState) (d : Deal) (v : ℕ) (n m : Plan) (ps : Li
       (made.others ++ later.0, history_same n.known a h below ∙ (later.1 ∙ append_assoc k made.others later.0))
   grown_at b (inr apart) = ([], history_other n.known a b h apart ∙ sym (append-nil (history n.known b)))
 
-  answered_here : answer_on a (Some (a, c)) ≡ c ∷ []
+  answered_here : arc_answer a (Some (a, c)) ≡ c ∷ []
   answered_here = ap (λ b. if b then c ∷ [] else []) (eq-eqb a a refl)
 
   called_at : (b : ℕ) → b < length d.graph.arcs → (b ≡ a) ⊎ (b ≢ a)
-      → calls_by v (history (set n.known a h) b) ≡ take 32 (calls_by v (history n.known b) ++ answer_on b (Some (a, c)))
+      → sender_calls v (history (set n.known a h) b) ≡ take 32 (sender_calls v (history n.known b) ++ arc_answer b (Some (a, c)))
   called_at b lt (inl same) =
-      subst (λ z. calls_by v (history (set n.known a h) z) ≡ take 32 (calls_by v (history n.known z) ++ answer_on z (Some (a, c)))) (sym same)
-      (ap (calls_by v) (history_same n.known a h below)
-      ∙ (one_more d a v c k made.others made.legal is.near made.foreign ∙ ap (λ cs. take 32 (calls_by v k ++ cs)) (sym answered_here)))
+      subst (λ z. sender_calls v (history (set n.known a h) z) ≡ take 32 (sender_calls v (history n.known z) ++ arc_answer z (Some (a, c)))) (sym same)
+      (ap (sender_calls v) (history_same n.known a h below)
+      ∙ (one_more d a v c k made.others made.legal is.near made.foreign ∙ ap (λ cs. take 32 (sender_calls v k ++ cs)) (sym answered_here)))
   called_at b lt (inr apart) =
       same_calls d v n.known b (history (set n.known a h) b) view lt (history_other n.known a b h apart)
-      ∙ ap (λ cs. take 32 (calls_by v (history n.known b) ++ cs)) (sym (ap (λ z. if z then c ∷ [] else []) (apart_test (a == b) refl)))
+      ∙ ap (λ cs. take 32 (sender_calls v (history n.known b) ++ cs)) (sym (ap (λ z. if z then c ∷ [] else []) (apart_test (a == b) refl)))
     where
       apart_test : (z : Bool) → (a == b) ≡ z → (a == b) ≡ false
       apart_test true e = absurd (apart (sym (eqb-true a b e)))
       apart_test false e = e
 
-  done_is : HasDone ledgers d v (Some (a, c)) n (plan_up_to n a h) (set ps a (Some q))
+  done_is : HasDone ledgers d v (Some (a, c)) n (plan_with_ledger n a h) (set ps a (Some q))
   done_is = record {
     tracks = tracks_on ledgers (party_planner d v n) ps a p q h tracks place below here made.pass made.seen;
     view = record { sized = view.sized; party = view.party; legal = legal; far = far };
@@ -164,12 +164,12 @@ module _ (ledgers : List SharedState) (d : Deal) (v : ℕ) (n m : Plan) (ps : Li
 
 -- the same through the pass at a place
 pub done_at : (ledgers : List SharedState) (d : Deal) (v : ℕ) (n m : Plan) (ps : List (Option PassState)) (a : ℕ) (c : Call) (q : Option PassState)
-    → IsView d v n.known → Tracks ledgers (party_planner d v n) ps → IsAnswerOf d v (a, c)
-    → MadeIf (party_planner d v n) (plan_up_to n a) a c (pass_in ps a) m q
+    → IsView d v n.known → Tracks ledgers (party_planner d v n) ps → IsPartyAnswer d v (a, c)
+    → MadeIf (party_planner d v n) (plan_with_ledger n a) a c (arc_pass ps a) m q
     → HasDone ledgers d v (Some (a, c)) n m (set ps a q)
-done_at ledgers d v n m ps a c q view tracks is made = go (pass_in ps a) refl made
+done_at ledgers d v n m ps a c q view tracks is made = go (arc_pass ps a) refl made
   where
-    go : (o : Option PassState) → pass_in ps a ≡ o → MadeIf (party_planner d v n) (plan_up_to n a) a c o m q
+    go : (o : Option PassState) → arc_pass ps a ≡ o → MadeIf (party_planner d v n) (plan_with_ledger n a) a c o m q
         → HasDone ledgers d v (Some (a, c)) n m (set ps a q)
     go None here l = absurd l
     go (Some p) here l =
@@ -178,7 +178,7 @@ done_at ledgers d v n m ps a c q view tracks is made = go (pass_in ps a) refl ma
 -- A call of an answer is about to be made.
 module _ (ledgers : List SharedState) (d : Deal) (v : ℕ) (n : Plan) (ps : List (Option PassState)) (o : Option (ℕ × Call)) (a : ℕ) (c : Call)
     (may : MayAnswer d v o) (view : IsView d v n.known) (tracks : Tracks ledgers (party_planner d v n) ps) (is : o ≡ Some (a, c)) where
-  can : IsAnswerOf d v (a, c)
+  can : IsPartyAnswer d v (a, c)
   can = may (a, c) is
 
   pub ledger_below : a < length ledgers
@@ -204,26 +204,26 @@ module _ (ledgers : List SharedState) (d : Deal) (v : ℕ) (n : Plan) (ps : List
       subst (IsWatcherPlace (party_planner d v n) s.lock a) (any_default ps a None r place_below) (find_place ledgers
       (party_planner d v n) ps a s tracks place_below at)
 
-  pub has_done_so : (r : Option PassState) (m : Plan) (q : Option PassState) → MadeIf (party_planner d v n) (plan_up_to n a) a c (slice_index_or ps a r) m q
+  pub has_done_so : (r : Option PassState) (m : Plan) (q : Option PassState) → MadeIf (party_planner d v n) (plan_with_ledger n a) a c (slice_index_or ps a r) m q
       → HasDone ledgers d v o n m (set ps a q)
   has_done_so r m q made =
       subst (λ z. HasDone ledgers d v z n m (set ps a q)) (sym is)
       (done_at ledgers d v n m ps a c q view tracks can
-      (subst (λ x. MadeIf (party_planner d v n) (plan_up_to n a) a c x m q) (any_default ps a r None place_below) made))
+      (subst (λ x. MadeIf (party_planner d v n) (plan_with_ledger n a) a c x m q) (any_default ps a r None place_below) made))
 
 -- The turn.
 
 fresh_grows : (v : ℕ) (old new : Histories) → HaveFresh v old new → HaveGrown old new
 fresh_grows v old new f a = ((f a).0, (f a).1)
 
-fresh_own : (v : ℕ) (old new : Histories) → HaveFresh v old new → (a : ℕ) → calls_by v (history new a) ≡ calls_by v (history old a)
-fresh_own v old new f a = ap (calls_by v) (f a).1 ∙ others_add_none v (history old a) (f a).0 (f a).2
+fresh_own : (v : ℕ) (old new : Histories) → HaveFresh v old new → (a : ℕ) → sender_calls v (history new a) ≡ sender_calls v (history old a)
+fresh_own v old new f a = ap (sender_calls v) (f a).1 ∙ others_add_none v (history old a) (f a).0 (f a).2
 
 -- all that was shared with a pass is known once it has seen it
 whole_known : (ledgers : List SharedState) (w : Watcher) (ps qs : List (Option PassState)) → Tracks ledgers w qs → HaveAdvanced ps qs → HaveSeenAll qs
-    → length qs ≡ length ps → (a : ℕ) (p : PassState) → a < length ps → pass_in ps a ≡ Some p → IsPrefix p.shared (history w.known a)
+    → length qs ≡ length ps → (a : ℕ) (p : PassState) → a < length ps → arc_pass ps a ≡ Some p → IsPrefix p.shared (history w.known a)
 whole_known ledgers w ps qs tracks gone all places a p lt e =
-    let went : Advanced (Some p) (pass_in qs a) = subst (λ o. Advanced o (pass_in qs a)) e (gone a) in
+    let went : Advanced (Some p) (arc_pass qs a) = subst (λ o. Advanced o (arc_pass qs a)) e (gone a) in
     let lt1 : a < length qs = subst (λ z. a < z) (sym places) lt in
     subst (λ s. IsPrefix s (history w.known a)) (ap (λ (r : PassState). r.shared) went.2.1)
     (subst (IsPrefix went.0.shared) (seen_of ledgers w qs a went.0 tracks lt1 went.1) (all a went.0 lt1 went.1))
@@ -254,7 +254,7 @@ has_played gives ledgers d seeds role v answer n0 n1 n2 n3 ps qs tracks gone all
       grows = fresh_grows v n0.known n1.known fresh;
       begins = subst (λ k. HaveGrown k n3.known) same grown;
       own = own;
-      called = λ a lt. called a lt ∙ ap (λ cs. take 32 (cs ++ answer_on a answer)) (ap (λ k. calls_by v (history k a)) same ∙ own a);
+      called = λ a lt. called a lt ∙ ap (λ cs. take 32 (cs ++ arc_answer a answer)) (ap (λ k. sender_calls v (history k a)) same ∙ own a);
       answered = answered_as gives d seeds v n1.known answer n0 n1 n2 n3 role moves turns moves3 answered;
       may = may;
       turns = turns3 ∙ (once ∙ ap (λ t. t + 1) turns);

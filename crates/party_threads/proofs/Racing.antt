@@ -1,11 +1,12 @@
--- Races keep what they promise: by the laws of rounds, which are in time with a round's ticks and a slack of as many.
+-- Races keep what they promise: by the laws of rounds, which are in time with a round's ticks and a
+-- slack of as many.
 use Rattle.std.proofs.Common.{◌≡◌, ℕ, zero, suc, ◌+◌, ◌*◌, ◌<◌, ◌≤◌, true, false, List, [], ◌∷◌, ◌++◌, length, refl, sym, ap, ◌∙◌, subst, arith, ◌⊎◌, inl, inr}
 use Rattle.std.proofs.Common.{zero-add}
 use Rattle.std.proofs.Math.Nat.{lt-mul-div-succ, mul_comm}
 use Rattle.std.proofs.Math.ListN.{get_or-eq_default}
 use Rattle.std.proofs.lemmas.List.FromFn.{get_or-map-range_with_len, length-map-range_with_len}
 use Rattle.std.proofs.lemmas.List.Sums.{sum_by-append}
-use Rattle.swap_base.specs.Lists.{IsIn}
+use Rattle.swap_base.specs.Lists.{IsElement}
 use Rattle.swap_base.proofs.Lists.{from_range, in_range, below_or}
 use Rattle.swap_digraph.specs.Graph.{arcs}
 use Rattle.escrow_core.specs.declared.reply.Reply.TheVariants.{Accepted}
@@ -17,10 +18,10 @@ use Rattle.ledger_shared.specs.Value.{party_made, ticks_in_order}
 use Rattle.swap_rules.specs.Conduct.{IsConducted}
 use Rattle.swap_rules.specs.Due.{due}
 use Rattle.swap_rules.specs.Machine.{Begins, Knows}
-use Rattle.swap_rules.specs.Rounds.{IsRounds, IsTurn, IsDoneBy, IsRaceTurn, round_book, AreRaceBooks}
+use Rattle.swap_rules.specs.Rounds.{IsRounds, IsTurn, IsDoneInTime, IsRaceTurn, round_book, AreRaceBooks}
 use Rattle.swap_rules.proofs.Rounds.{rounds_in_time, rounds_on_time}
 use Rattle.swap_rules.proofs.Dealing.{all_dealt}
-use Rattle.party_wallet.specs.Value.{signed_in}
+use Rattle.party_wallet.specs.Value.{signed_hashkey}
 use Rattle.swap_run.specs.Run.{Cast, State, conforms, party_role, is_planned, state_notes, start}
 use Rattle.swap_run.specs.Laws.{IsReadyCast, IsGood}
 use Rattle.swap_run.specs.Fair.{the_horizon}
@@ -59,15 +60,15 @@ module _ (gives : MayGive) (c : Cast) (ticks rounds : ℕ) (ready : IsReadyCast 
   at_start : (a : ℕ) → history (states 0).book a ≡ []
   at_start a = ap (λ (s : State). history s.book a) first ∙ empty_at c.deal a
 
-  below : (r a : ℕ) → r ≤ rounds → IsIn a (arcs c.deal.graph) → a < length (states r).book
+  below : (r a : ℕ) → r ≤ rounds → IsElement a (arcs c.deal.graph) → a < length (states r).book
   below r a l i = subst (λ n. a < n) (sym (good r l).legal.one_each) (from_range a (length c.deal.graph.arcs) i)
 
-  party_level : (r a : ℕ) → r ≤ rounds → IsIn a (arcs c.deal.graph) → ticks_in_order (history (states r).book a) ≡ ticks_of_rounds ticks r
+  party_level : (r a : ℕ) → r ≤ rounds → IsElement a (arcs c.deal.graph) → ticks_in_order (history (states r).book a) ≡ ticks_of_rounds ticks r
       → height (history (states r).book a) ≡ r * ticks
   party_level r a l i e = height_of_ticks c.deal a (history (states r).book a) ((good r l).legal.legal a (below r a l i)) ∙
       (ap height e ∙ height_of_rounds ticks r)
 
-  ticked : (r a : ℕ) → r ≤ rounds → IsIn a (arcs c.deal.graph) → ticks_in_order (history (states r).book a) ≡ ticks_of_rounds ticks r
+  ticked : (r a : ℕ) → r ≤ rounds → IsElement a (arcs c.deal.graph) → ticks_in_order (history (states r).book a) ≡ ticks_of_rounds ticks r
   ticked zero a l i = ap ticks_in_order (at_start a)
   ticked (suc r) a l i =
       let before = ticked r a (omega (arith, l)) i in
@@ -77,7 +78,7 @@ module _ (gives : MayGive) (c : Cast) (ticks rounds : ℕ) (ready : IsReadyCast 
       ∙ (ap (λ h. h ++ tick_entry ticks (height (history (states r).book a) + ticks) Accepted ∷ []) before
       ∙ ap (λ n. ticks_of_rounds ticks r ++ tick_entry ticks n Accepted ∷ []) (ap (λ n. n + ticks) level ∙ sums))
 
-  level : (r a : ℕ) → r ≤ rounds → IsIn a (arcs c.deal.graph) → height (history (states r).book a) ≡ r * ticks
+  level : (r a : ℕ) → r ≤ rounds → IsElement a (arcs c.deal.graph) → height (history (states r).book a) ≡ r * ticks
   level r a l i = party_level r a l i (ticked r a l i)
 
   unmade : (r v a : ℕ) → r ≤ rounds → v < c.deal.graph.n → conforms c v ≡ false → is_planned (party_role c v) ≡ false
@@ -108,10 +109,10 @@ module _ (gives : MayGive) (c : Cast) (ticks rounds : ℕ) (ready : IsReadyCast 
       let n = state_notes (states (suc r)) v in
       record {
         known = n.known;
-        signed = signed_in n.signed;
+        signed = signed_hashkey n.signed;
         seen = λ a near. (step r l).seen v a lv cv near;
         knows = ((step r l).good.notes v lv cv).knows;
-        done = first_none (due c.deal v (c.wallet v) (signed_in n.signed) n.known) ((step r l).rests v lv cv);
+        done = first_none (due c.deal v (c.wallet v) (signed_hashkey n.signed) n.known) ((step r l).rests v lv cv);
         top = λ a. low r v a l lv cv;
       }
 
@@ -138,8 +139,8 @@ module _ (gives : MayGive) (c : Cast) (ticks rounds : ℕ) (ready : IsReadyCast 
         seen = λ a near. (each r l).seen v a lv cv near;
         knows = notes.knows;
         done =
-            (rest_shows_in_calls c.deal v (c.wallet v) n.known (signed_in n.signed) ready.accepted notes.sound).0
-            (first_none (due c.deal v (c.wallet v) (signed_in n.signed) n.known) ((each r l).rests v lv cv));
+            (rest_shows_in_calls c.deal v (c.wallet v) n.known (signed_hashkey n.signed) ready.accepted notes.sound).0
+            (first_none (due c.deal v (c.wallet v) (signed_hashkey n.signed) n.known) ((each r l).rests v lv cv));
       }
 
   listed : (v : ℕ) → v < c.deal.graph.n → conforms c v ≡ true → AreRaceBooks c.deal v (c.wallet v) ticks rounds (round_books states rounds)
@@ -190,7 +191,7 @@ module _ (gives : MayGive) (c : Cast) (ticks rounds : ℕ) (ready : IsReadyCast 
             (λ r a l. (each r l).grows a) (λ r l. (each r l).played v lv e p));
         in_time = λ v rule a ref lv cv ir ia e.
             let two : ref + ticks + ticks ≡ ref + 2 * ticks = omega arith in
-            subst (IsDoneBy c.deal (states rounds).book v rule a) two
+            subst (IsDoneInTime c.deal (states rounds).book v rule a) two
             (rounds_in_time c.deal v (c.wallet v) ticks ticks rounds (λ r. (states r).book) ready.accepted some (machine_rounds v lv cv) rule a ref ir ia e);
         on_time = on_time;
         dealt = λ two all. all_dealt c.deal (conforms c) (states rounds).book ready.accepted whole.legal ended (λ v lv. kept.conducted v lv (all v lv))
@@ -207,13 +208,13 @@ races_are_kept gives c ticks t ready some raced typed =
 
 -- after so many rounds, whether they pass the horizon or not
 pub following_level : (gives : MayGive) (c : Cast) (ticks r : ℕ) (t : State) → IsReadyCast c → 1 ≤ ticks → IsRaced gives c ticks r t → (a : ℕ)
-    → IsIn a (arcs c.deal.graph) → height (history t.book a) ≡ r * ticks
+    → IsElement a (arcs c.deal.graph) → height (history t.book a) ≡ r * ticks
 following_level gives c ticks r t ready some raced a i =
     subst (λ (s : State). height (history s.book a) ≡ r * ticks) raced.last
     (level gives c ticks r ready some raced.states raced.first raced.each r a (omega arith) i)
 
 pub ticked_after : (gives : MayGive) (c : Cast) (ticks r : ℕ) (t : State) → IsReadyCast c → 1 ≤ ticks → IsRaced gives c ticks r t → (a : ℕ)
-    → IsIn a (arcs c.deal.graph)
+    → IsElement a (arcs c.deal.graph)
     → ticks_in_order (history t.book a) ≡ ticks_of_rounds ticks r
 ticked_after gives c ticks r t ready some raced a i =
     subst (λ (s : State). ticks_in_order (history s.book a) ≡ ticks_of_rounds ticks r) raced.last

@@ -4,8 +4,8 @@ use Rattle.std.proofs.Common.{◌≡◌, ℕ, ◌<◌, Bool, true, false, cond, 
 use Rattle.std.proofs.Common.{◌∙◌, subst, inl, inr, arith}
 use Rattle.std.specs.List.{list_any, flat_map}
 use Rattle.std.proofs.lemmas.Bool.{false≢true}
-use Rattle.swap_base.specs.Lists.{or_else, IsIn}
-use Rattle.swap_base.proofs.Lists.{first_at, first_of-in, from_range, from_whole, in_from_moment, moment_from_in}
+use Rattle.swap_base.specs.Lists.{or_else, IsElement}
+use Rattle.swap_base.proofs.Lists.{first_at, first_given_answer-in, from_range, from_whole, in_from_moment, moment_from_in}
 use Rattle.swap_digraph.specs.declared.deal.Mode.{Mode}
 use Rattle.swap_digraph.specs.declared.deal.Mode.TheVariants.{Timelocks, Hashkeys}
 use Rattle.swap_digraph.specs.declared.deal.Deal.{Deal}
@@ -18,8 +18,8 @@ use Rattle.ledger_core.specs.History.{accepted, Opening, opened, is_open, IsLega
 use Rattle.ledger_core.specs.Book.{Histories, history}
 use Rattle.ledger_core.proofs.History.{done_at, opened_done, of_unlock, clear_at, opened-now, is_some-of, lock-below}
 use Rattle.swap_rules.specs.Accepted.{IsAccepted, IsTimed}
-use Rattle.swap_rules.specs.Party.{pick_call, fetch_key, first_key, key_without}
-use Rattle.swap_rules.specs.Conduct.{has_seen, has_origin, carries, extends_without, is_alone}
+use Rattle.swap_rules.specs.Party.{pick_call, unlock_hashkey, first_key, key_without_party}
+use Rattle.swap_rules.specs.Conduct.{has_seen, has_origin, carries, extends_without_party, is_alone}
 use Rattle.swap_rules.specs.Due.{Wallet, seen_key, extended, due_key, presented, may_unlock, due_arc_unlock, due_publishes, due_unlocks, due_claims}
 use Rattle.swap_rules.specs.Due.{due_refunds, due}
 use Rattle.swap_rules.specs.Machine.{IsSound}
@@ -32,7 +32,7 @@ use Rattle.party_threads.specs.Race.{RestShowsInCalls}
 
 -- Empty parts.
 
-none_of_each : {A B : Type 0} (f : A → List B) (xs : List A) → ((x : A) → IsIn x xs → f x ≡ []) → flat_map f xs ≡ []
+none_of_each : {A B : Type 0} (f : A → List B) (xs : List A) → ((x : A) → IsElement x xs → f x ≡ []) → flat_map f xs ≡ []
 none_of_each f [] h = refl
 none_of_each f (x ∷ xs) h = ap (λ ys. ys ++ flat_map f xs) (h x (inl refl)) ∙ none_of_each f xs (λ y i. h y (inr i))
 
@@ -61,7 +61,8 @@ module _ (d : Deal) (v : ℕ) (w : Wallet) (k : Histories) where
   unfolding due_key
   no_key o i e = key_parts_of o (leads d v i) (w.first i) w (seen_key d v k i) e
 
-  -- where nothing is due by some hashkeys, nothing is by others that give none where those give none
+  -- where nothing is due by some hashkeys, nothing is by others that give none where those give
+  -- none
   none_either : (s t : ℕ → Option Hashkey) → ((i : ℕ) → i < length d.leaders → due_key d v w (s i) k i ≡ None → due_key d v w (t i) k i ≡ None)
       → due d v w s k ≡ [] → due d v w t k ≡ []
   unfolding due due_arc_unlock
@@ -78,31 +79,31 @@ module _ (d : Deal) (v : ℕ) (w : Wallet) (k : Histories) where
       λ z. e3.0 z ++ unlocks z ++ e2.1 z ++ e1.1 z
 
   module _ (signed : ℕ → Option Hashkey) (accepted_deal : IsAccepted d) (sound : IsSound d k signed v) where
-    legal_on : (a : ℕ) → IsIn a (leaving d.graph v) → IsLegal d a (history k a)
+    legal_on : (a : ℕ) → IsElement a (leaving d.graph v) → IsLegal d a (history k a)
     legal_on a i = sound.legal.legal a (subst (λ n. a < n) (sym sound.legal.one_each) (leaves d v a i).0)
 
     -- the hashkey of a first unlock call was signed
     called_is_signed : (i : ℕ) (key : Hashkey) → first_key k v i ≡ Some key → signed i ≡ Some key
     unfolding first_key
     called_is_signed i key e =
-        let f = first_at (λ e. fetch_key i (pick_call v e)) (flat_map (λ h. h) k) key e in
+        let f = first_at (λ e. unlock_hashkey i (pick_call v e)) (flat_map (λ h. h) k) key e in
         let parts = key_parts i (pick_call v f.now) key f.gives in
-        let y = from_whole k f.now (subst (IsIn f.now) (sym f.stands.1) (in_from_moment f.past f.now f.stands.0)) in
+        let y = from_whole k f.now (subst (IsElement f.now) (sym f.stands.1) (in_from_moment f.past f.now f.stands.0)) in
         let m = moment_from_in (history k y.0) f.now y.2 in
         subst (λ j. signed j ≡ Some key) parts.1 (sound.rules.own y.0 m.0 f.now (Unlock key) m.1 parts.0).2
 
     -- a known opening by a path without v is one that v may extend
-    by_opening : (a i : ℕ) (o : Opening) → IsIn a (leaving d.graph v) → opened (history k a) i ≡ Some o → is_listed v o.key.path ≡ false
+    by_opening : (a i : ℕ) (o : Opening) → IsElement a (leaving d.graph v) → opened (history k a) i ≡ Some o → is_listed v o.key.path ≡ false
         → is_some (seen_key d v k i) ≡ true
     unfolding seen_key
     by_opening a i o l e without =
-        first_of-in (λ a. key_without v (opened (history k a) i)) (leaving d.graph v) a o.key l
-        (ap (key_without v) e ∙ ap (λ z. cond z None (Some o.key)) without)
+        first_given_answer-in (λ a. key_without_party v (opened (history k a) i)) (leaving d.graph v) a o.key l
+        (ap (key_without_party v) e ∙ ap (λ z. cond z None (Some o.key)) without)
 
-    seen_by_hashkeys : (i : ℕ) (key : Hashkey) → key.lock ≡ i → has_seen d k v (extends_without v key) ≡ true → is_some (seen_key d v k i) ≡ true
+    seen_by_hashkeys : (i : ℕ) (key : Hashkey) → key.lock ≡ i → has_seen d k v (extends_without_party v key) ≡ true → is_some (seen_key d v k i) ≡ true
     seen_by_hashkeys i key lock e =
-        let y = in_any (λ a. list_any (λ e. extends_without v key (accepted e)) (history k a)) (leaving d.graph v) e in
-        let z = in_any (λ e. extends_without v key (accepted e)) (history k y.0) y.2 in
+        let y = in_any (λ a. list_any (λ e. extends_without_party v key (accepted e)) (history k a)) (leaving d.graph v) e in
+        let z = in_any (λ e. extends_without_party v key (accepted e)) (history k y.0) y.2 in
         let m = moment_from_in (history k y.0) z.0 z.1 in
         let p = extended_without v key (accepted z.0) z.2 in
         let long = longer key v p.0 key.path key.sigs key p.3 in
@@ -143,7 +144,7 @@ module _ (d : Deal) (v : ℕ) (w : Wallet) (k : Histories) where
 
         go : (m : Mode) → d.mode ≡ m → is_some (seen_key d v k i) ≡ true
         go Hashkeys em =
-            seen_by_hashkeys i key kept.0 (ap (λ z. cond z (is_alone v key.path) (has_seen d k v (extends_without v key))) (sym (ap (leads d v) kept.0 ∙ f))
+            seen_by_hashkeys i key kept.0 (ap (λ z. cond z (is_alone v key.path) (has_seen d k v (extends_without_party v key))) (sym (ap (leads d v) kept.0 ∙ f))
             ∙ (ap (λ m. has_origin m d k v key) (sym em) ∙ kept.2))
         go Timelocks em =
             seen_by_timelocks i key em kept.1 (ap (λ z. z || has_seen d k v (carries key.secret)) (sym (ap (leads d v) kept.0 ∙ f))

@@ -6,7 +6,7 @@ use Rattle.std.proofs.lemmas.List.FromFn.{length-map-range_with_len}
 use Rattle.std.proofs.Math.ListN.{get_or-eq_default}
 use Rattle.std.proofs.lemmas.Bool.{false≢true}
 use mathlib.Core.List.{IsPrefix}
-use Rattle.swap_base.specs.Lists.{IsIn}
+use Rattle.swap_base.specs.Lists.{IsElement}
 use Rattle.swap_base.proofs.Lists.{bool_or, below_or, from_range}
 use Rattle.atomic_table.specs.Seated.{TableId}
 use Rattle.swap_digraph.specs.declared.deal.Deal.{Deal}
@@ -21,7 +21,7 @@ use Rattle.ledger_shared.specs.Value.{PassState, party_made, ticks_in_order, tab
 use Rattle.swap_job.specs.Roles.{job_role}
 use Rattle.swap_job.specs.declared.job.Job.{Job}
 use Rattle.deviators.proofs.Answering.{leaves, enters}
-use Rattle.party_wallet.specs.Value.{signed_in}
+use Rattle.party_wallet.specs.Value.{signed_hashkey}
 use Rattle.party_machine.specs.Machine.{MachineState}
 use Rattle.party_machine.specs.Wallet.{seed_wallet}
 use Rattle.swap_rules.specs.Due.{due, first}
@@ -32,25 +32,25 @@ use Rattle.swap_rules.proofs.Prefixes.{begins_refl, begins_more}
 use Rattle.swap_rules.proofs.Growth.{Grows}
 use Rattle.swap_run.specs.Run.{Notes, Plan, State, conforms, is_planned, state_notes, party_plan, next_action}
 use Rattle.swap_job.specs.declared.job.Role.{Role}
-use Rattle.party_threads.specs.Played.{calls_by, answer_on, IsAnswered}
+use Rattle.party_threads.specs.Played.{sender_calls, arc_answer, IsAnswered}
 use Rattle.party_threads.specs.Views.{HasPlayed}
 use Rattle.swap_run.specs.Laws.{AreGoodNotes, IsGoodPlan, IsGood}
 use Rattle.swap_run.proofs.Good.{good_notes}
 use Rattle.swap_run.proofs.Plans.{plan_grown}
 use Rattle.swap_world.specs.Cast.{job_cast}
-use Rattle.swap_world.specs.Inside.{IsLedgerOf}
+use Rattle.swap_world.specs.Inside.{IsArcLedger}
 use Rattle.swap_world.specs.Gone.{MayGive}
 use Rattle.swap_world.specs.Acting.{IsSameOwner}
 use Rattle.party_threads.specs.declared.turn.Actor.{Actor}
 use Rattle.party_threads.specs.declared.turn.Actor.TheVariants.{Conforming, Planned, Manual, Clock}
 use Rattle.party_threads.specs.declared.turn.Turn.{Turn}
-use Rattle.party_threads.specs.Later.{pass_in}
+use Rattle.party_threads.specs.Later.{arc_pass}
 use Rattle.party_threads.specs.Ticks.{HaveTicked, Ticked}
 use Rattle.party_threads.specs.Took.{IsSameActor, Did, HasActed, HasPlanned}
 use Rattle.party_threads.specs.Race.{IsRound}
-use Rattle.party_threads.specs.Turns.{passes_of, clocks_of, actor_at, held_at, clock_held_at, arc_ledger, started, IsHome, AreHome, HavePlaces, AreFreeAt}
+use Rattle.party_threads.specs.Turns.{held_passes, held_clocks, turn_actor, held_pass, held_clock, arc_ledger, started, IsHome, AreHome, HavePlaces, IsArcFree}
 use Rattle.party_threads.specs.Turns.{AreDealt, IsClosed, IsShut, IsSameShape}
-use Rattle.party_threads.specs.Standing.{history_in, notes_in, notes_at, plan_in, plan_at, race_state, IsActorOf, IsActorIn, KnowsOwn, Stands}
+use Rattle.party_threads.specs.Standing.{home_history, actor_notes, turn_notes, actor_plan, turn_plan, race_state, IsPartyActor, IsJobActor, KnowsOwn, Stands}
 use Rattle.party_threads.proofs.Turning.{none_pass, HasTaken, HasDone, places_kept, places_taken}
 use Rattle.party_threads.proofs.Sharing.{home_at, lock_at, held_near, held_far, clock_is, went_from}
 use Rattle.party_threads.proofs.Seating.{notes_are, plans_are, history_is, wallet_is}
@@ -61,7 +61,7 @@ closed_of d ts a None k = absurd k
 closed_of d ts a (Some l) k = (l, refl, k)
 
 -- a conforming party acts by its machine
-make_machine : (d : Deal) (seed : Option (List ℕ)) (role : Role) (v : ℕ) (x : Actor) (b : Bool) → b ≡ true → IsActorOf d b seed role v x
+make_machine : (d : Deal) (seed : Option (List ℕ)) (role : Role) (v : ℕ) (x : Actor) (b : Bool) → b ≡ true → IsPartyActor d b seed role v x
     → (m : MachineState) × (x ≡ Conforming m)
 make_machine d seed role v (Conforming m) b e k = (m, refl)
 make_machine d seed role v (Planned n) b e k = absurd (false≢true (sym k.0 ∙ e))
@@ -70,7 +70,7 @@ make_machine d seed role v Clock b e k = absurd k
 
 -- a party that follows a script or a strategy acts by its plan
 party_planner : (d : Deal) (seed : Option (List ℕ)) (role : Role) (v : ℕ) (x : Actor) (b : Bool) → b ≡ false → is_planned role ≡ true
-    → IsActorOf d b seed role v x
+    → IsPartyActor d b seed role v x
     → (n : Plan) × (x ≡ Planned n)
 party_planner d seed role v (Conforming m) b e p k = absurd (false≢true (sym e ∙ k.0))
 party_planner d seed role v (Planned n) b e p k = (n, refl)
@@ -78,7 +78,7 @@ party_planner d seed role v Manual b e p k = absurd (false≢true (sym k.1 ∙ p
 party_planner d seed role v Clock b e p k = absurd k
 
 -- and the others don't act
-manual_of : (d : Deal) (seed : Option (List ℕ)) (role : Role) (v : ℕ) (x : Actor) (b : Bool) → b ≡ false → is_planned role ≡ false → IsActorOf d b seed role v x
+manual_of : (d : Deal) (seed : Option (List ℕ)) (role : Role) (v : ℕ) (x : Actor) (b : Bool) → b ≡ false → is_planned role ≡ false → IsPartyActor d b seed role v x
     → x ≡ Manual
 manual_of d seed role v (Conforming m) b e p k = absurd (false≢true (sym e ∙ k.0))
 manual_of d seed role v (Planned n) b e p k = absurd (false≢true (sym p ∙ k.1))
@@ -109,7 +109,7 @@ module _ (gives : MayGive) (job : Job) (ticks : ℕ) (ls ls' : List (Option Ledg
     (dealt : AreDealt job.deal ts1 locks ls) (many : length locks ≡ length job.deal.graph.arcs) (shape : IsSameShape ts ts1) (number : length ts2 ≡ length ts1)
     (taken : (v : ℕ) → v < length ts1 → HasTaken (slice_get ts1 v) (slice_get ts2 v)) (wide : length ls' ≡ length job.deal.graph.arcs)
     (closed : (a : ℕ) → a < length job.deal.graph.arcs → IsShut job.deal ts2 a (arc_ledger ls' a))
-    (free : (a : ℕ) → a < length job.deal.graph.arcs → AreFreeAt job.deal ts3 a) (after : IsSameShape ts2 ts3)
+    (free : (a : ℕ) → a < length job.deal.graph.arcs → IsArcFree job.deal ts3 a) (after : IsSameShape ts2 ts3)
     (done : (v : ℕ) → v < length ts1 → HasDone gives job ticks v (slice_get ts1 v) (slice_get ts2 v)) where
   abbrev d : Deal
   d = job.deal
@@ -144,32 +144,32 @@ module _ (gives : MayGive) (job : Job) (ticks : ℕ) (ls ls' : List (Option Ledg
   is_now a l lt e = history_is ls' a l e (subst (λ n. a < n) (sym wide) lt)
 
   one_each_now : length new.book ≡ length d.graph.arcs
-  one_each_now = length-map ls' history_in ∙ wide
+  one_each_now = length-map ls' home_history ∙ wide
 
   none_now : (a : ℕ) → length d.graph.arcs ≤ a → history new.book a ≡ []
   none_now a ge = get_or-eq_default new.book [] (subst (λ n. n ≤ a) (sym one_each_now) ge)
 
   none_before : (a : ℕ) → length d.graph.arcs ≤ a → history old.book a ≡ []
-  none_before a ge = get_or-eq_default old.book [] (subst (λ n. n ≤ a) (sym (length-map ls history_in ∙ s.home.one_each)) ge)
+  none_before a ge = get_or-eq_default old.book [] (subst (λ n. n ≤ a) (sym (length-map ls home_history ∙ s.home.one_each)) ge)
 
   -- The clock.
 
-  clock_now : actor_at ts1 d.graph.n ≡ Clock
+  clock_now : turn_actor ts1 d.graph.n ≡ Clock
   clock_now = shape.actors d.graph.n ∙ s.clock
 
-  clock_did : HaveTicked ticks (clocks_of (slice_get ts1 d.graph.n)) (clocks_of (slice_get ts2 d.graph.n))
+  clock_did : HaveTicked ticks (held_clocks (slice_get ts1 d.graph.n)) (held_clocks (slice_get ts2 d.graph.n))
   clock_did =
-      subst (λ x. Did gives job ticks d.graph.n (passes_of (slice_get ts1 d.graph.n)) (passes_of (slice_get ts2 d.graph.n))
-      (clocks_of (slice_get ts1 d.graph.n))
-      (clocks_of (slice_get ts2 d.graph.n)) x (actor_at ts2 d.graph.n)) clock_now (done d.graph.n clock_below)
+      subst (λ x. Did gives job ticks d.graph.n (held_passes (slice_get ts1 d.graph.n)) (held_passes (slice_get ts2 d.graph.n))
+      (held_clocks (slice_get ts1 d.graph.n))
+      (held_clocks (slice_get ts2 d.graph.n)) x (turn_actor ts2 d.graph.n)) clock_now (done d.graph.n clock_below)
 
-  ticked_at : (a : ℕ) (l l' : LedgerState) → a < length d.graph.arcs → arc_ledger ls a ≡ Some l → IsLedgerOf d a l → arc_ledger ls' a ≡ Some l'
+  ticked_at : (a : ℕ) (l l' : LedgerState) → a < length d.graph.arcs → arc_ledger ls a ≡ Some l → IsArcLedger d a l → arc_ledger ls' a ≡ Some l'
       → IsClosed d ts2 a l'
       → (ticks_in_order l'.history ≡ ticks_in_order l.history ++ tick_entry ticks (height l.history + ticks) Accepted ∷ []) × Begins l.history l'.history
   ticked_at a l l' lt at home at' k =
       let lock = lock_at d ts1 locks ls s.home dealt many a lt in
       let p = clock_is d ts1 locks ls s.home dealt many a lock.0 l lt lock.1 at in
-      let t = subst (λ o. Ticked ticks o (clock_held_at ts2 d.graph.n a)) p (clock_did a) in
+      let t = subst (λ o. Ticked ticks o (held_clock ts2 d.graph.n a)) p (clock_did a) in
       clock_side d a ticks (table_clock lock.0 l) t.0 l.history l' home.legal refl t.2 (k.clock t.0 t.1)
 
   both : (a : ℕ) → a < length d.graph.arcs
@@ -201,25 +201,25 @@ module _ (gives : MayGive) (job : Job) (ticks : ℕ) (ls ls' : List (Option Ledg
   -- Machines.
 
   record WentFrom (v : ℕ) (m n : MachineState) : Type 0 where
-    before : actor_at ts1 v ≡ Conforming m
-    now : actor_at ts3 v ≡ Conforming n
+    before : turn_actor ts1 v ≡ Conforming m
+    now : turn_actor ts3 v ≡ Conforming n
     deal : n.deal ≡ d
     me : n.me ≡ v
     seed : slice_index_or job.seeds v None ≡ Some n.seed
     known : length m.known ≡ length d.graph.arcs
-    acted : HasActed m (passes_of (slice_get ts1 v)) n (passes_of (slice_get ts2 v))
+    acted : HasActed m (held_passes (slice_get ts1 v)) n (held_passes (slice_get ts2 v))
     knew : (a : ℕ) → Knows v (history m.known a) (history old.book a)
     far : (a : ℕ) → a < length d.graph.arcs → touches d v a ≡ false → history m.known a ≡ []
 
   went : (v : ℕ) → v < d.graph.n → conforms (job_cast job) v ≡ true → (m : MachineState) × (n : MachineState) × WentFrom v m n
   went v lv cv =
       let first = s.actors v lv in
-      let m = make_machine d (slice_index_or job.seeds v None) (job_role job v) v (actor_at ts v) (slice_index_or job.conforming v false) cv first in
-      let is : IsActorIn job v (Conforming m.0) = subst (IsActorIn job v) m.1 first in
-      let before : actor_at ts1 v ≡ Conforming m.0 = shape.actors v ∙ m.1 in
-      let n = same_machine m.0 (actor_at ts2 v) (subst (λ x. IsSameActor x (actor_at ts2 v)) before (taken v (below_all v lv)).actor) in
+      let m = make_machine d (slice_index_or job.seeds v None) (job_role job v) v (turn_actor ts v) (slice_index_or job.conforming v false) cv first in
+      let is : IsJobActor job v (Conforming m.0) = subst (IsJobActor job v) m.1 first in
+      let before : turn_actor ts1 v ≡ Conforming m.0 = shape.actors v ∙ m.1 in
+      let n = same_machine m.0 (turn_actor ts2 v) (subst (λ x. IsSameActor x (turn_actor ts2 v)) before (taken v (below_all v lv)).actor) in
       let g : AreGoodNotes (job_cast job) old v = s.good.notes v lv cv in
-      let note : state_notes old v ≡ record { known = m.0.known; signed = m.0.signed } = notes_are job ls ts v lv ∙ ap (notes_in d) m.1 in (
+      let note : state_notes old v ≡ record { known = m.0.known; signed = m.0.signed } = notes_are job ls ts v lv ∙ ap (actor_notes d) m.1 in (
         m.0,
         n.0,
         record {
@@ -230,8 +230,8 @@ module _ (gives : MayGive) (job : Job) (ticks : ℕ) (ls ls' : List (Option Ledg
           seed = is.3 ∙ ap (λ x. Some x) (sym n.2.seed);
           known = ap (λ (x : Notes). length x.known) (sym note) ∙ g.one_each;
           acted =
-              subst (λ (w : Actor × Actor). Did gives job ticks v (passes_of (slice_get ts1 v)) (passes_of (slice_get ts2 v)) (clocks_of (slice_get ts1 v))
-              (clocks_of (slice_get ts2 v)) w.0 w.1) (λ i. (before i, n.1 i)) (done v (below_all v lv));
+              subst (λ (w : Actor × Actor). Did gives job ticks v (held_passes (slice_get ts1 v)) (held_passes (slice_get ts2 v)) (held_clocks (slice_get ts1 v))
+              (held_clocks (slice_get ts2 v)) w.0 w.1) (λ i. (before i, n.1 i)) (done v (below_all v lv));
           knew = λ a. subst (λ (x : Notes). Knows v (history x.known a) (history old.book a)) note (g.knows a);
           far = λ a lt far. ap (λ (x : Notes). history x.known a) (sym note) ∙ g.far a lt far;
         },
@@ -239,20 +239,20 @@ module _ (gives : MayGive) (job : Job) (ticks : ℕ) (ls ls' : List (Option Ledg
 
   module _ (v : ℕ) (lv : v < d.graph.n) (m n : MachineState) (w : WentFrom v m n) where
     note_now : state_notes new v ≡ record { known = n.known; signed = n.signed }
-    note_now = notes_are job ls' ts3 v lv ∙ ap (notes_in d) w.now
+    note_now = notes_are job ls' ts3 v lv ∙ ap (actor_notes d) w.now
 
     known_now : length n.known ≡ length d.graph.arcs
     known_now = w.acted.able.arcs ∙ ap (λ x. length x.graph.arcs) w.deal
 
     -- next to v
-    at_near : (a : ℕ) (l l' : LedgerState) → a < length d.graph.arcs → arc_ledger ls a ≡ Some l → IsLedgerOf d a l → IsClosed d ts2 a l' → touches d v a ≡ true
+    at_near : (a : ℕ) (l l' : LedgerState) → a < length d.graph.arcs → arc_ledger ls a ≡ Some l → IsArcLedger d a l → IsClosed d ts2 a l' → touches d v a ≡ true
         → Knows v (history n.known a) l'.history × Begins l.history (history n.known a)
     at_near a l l' lt at home k near =
         let lock = lock_at d ts1 locks ls s.home dealt many a lt in
         let p = held_near d ts1 locks ls s.home dealt many v a lock.0 l lv lt lock.1 at home near in
         let q = went_from d ts1 locks ls s.home dealt many ts2 places taken v a _ lv p in
-        let wide_now : length (passes_of (slice_get ts2 v)) ≡ length d.graph.arcs = (taken v (below_all v lv)).places ∙ places.passes v lv in
-        let below : a < length (passes_of (slice_get ts2 v)) = subst (λ z. a < z) (sym wide_now) lt in
+        let wide_now : length (held_passes (slice_get ts2 v)) ≡ length d.graph.arcs = (taken v (below_all v lv)).places ∙ places.passes v lv in
+        let below : a < length (held_passes (slice_get ts2 v)) = subst (λ z. a < z) (sym wide_now) lt in
         let seen : q.0.seen ≡ history n.known a = w.acted.seen a q.0 below q.1 in
         let who : q.0.party ≡ v = ap (λ (x : PassState). x.party) q.2.1 in
         let began : q.0.shared ≡ l.history = ap (λ (x : PassState). x.shared) q.2.1 in (
@@ -266,7 +266,7 @@ module _ (gives : MayGive) (job : Job) (ticks : ℕ) (ls ls' : List (Option Ledg
         → touches d v a ≡ false
         → Knows v (history n.known a) l'.history
     at_far a l l' lt at at' k far =
-        let none : held_at ts1 v a ≡ None = held_far d ts1 locks ls s.home dealt many v a lv lt far in
+        let none : held_pass ts1 v a ≡ None = held_far d ts1 locks ls s.home dealt many v a lv lt far in
         let same : history n.known a ≡ history m.known a = w.acted.elsewhere a none in
         let grown : Begins l.history l'.history =
         (subst (λ (x : List Entry × List Entry). Begins x.0 x.1) (λ i. (was a l lt at i, is_now a l' lt at' i)) (grows a)) in
@@ -276,7 +276,7 @@ module _ (gives : MayGive) (job : Job) (ticks : ℕ) (ls ls' : List (Option Ledg
     knows_now : (a : ℕ) → Knows v (history n.known a) (history new.book a)
     knows_now a = go (below_or a (length d.graph.arcs))
       where
-        there : (lt : a < length d.graph.arcs) (l l' : LedgerState) → arc_ledger ls a ≡ Some l → IsLedgerOf d a l → arc_ledger ls' a ≡ Some l'
+        there : (lt : a < length d.graph.arcs) (l l' : LedgerState) → arc_ledger ls a ≡ Some l → IsArcLedger d a l → arc_ledger ls' a ≡ Some l'
             → IsClosed d ts2 a l'
             → (touches d v a ≡ true) ⊎ (touches d v a ≡ false) → Knows v (history n.known a) (history new.book a)
         there lt l l' at home at' k (inl near) =
@@ -300,15 +300,15 @@ module _ (gives : MayGive) (job : Job) (ticks : ℕ) (ls ls' : List (Option Ledg
           knows = knows_now;
           far = λ a lt far. w.acted.elsewhere a (held_far d ts1 locks ls s.home dealt many v a lv lt far) ∙ w.far a lt far;
           sound =
-              subst (λ u. IsSound d n.known (signed_in n.signed) u) w.me
-              (subst (λ x. IsSound x n.known (signed_in n.signed) n.me) w.deal w.acted.able.sound);
+              subst (λ u. IsSound d n.known (signed_hashkey n.signed) u) w.me
+              (subst (λ x. IsSound x n.known (signed_hashkey n.signed) n.me) w.deal w.acted.able.sound);
         })
 
     rests_now : next_action (job_cast job) new v ≡ None
     rests_now =
-        ap (λ (x : Notes). first (due d v ((job_cast job).wallet v) (signed_in x.signed) x.known)) note_now
-        ∙ (ap (λ k. first (due d v k (signed_in n.signed) n.known)) (wallet_is job v n w.seed)
-        ∙ (λ i. first (due (sym w.deal i) (sym w.me i) (seed_wallet n.seed (sym w.me i) (sym w.deal i)) (signed_in n.signed) n.known)) ∙ w.acted.rests)
+        ap (λ (x : Notes). first (due d v ((job_cast job).wallet v) (signed_hashkey x.signed) x.known)) note_now
+        ∙ (ap (λ k. first (due d v k (signed_hashkey n.signed) n.known)) (wallet_is job v n w.seed)
+        ∙ (λ i. first (due (sym w.deal i) (sym w.me i) (seed_wallet n.seed (sym w.me i) (sym w.deal i)) (signed_hashkey n.signed) n.known)) ∙ w.acted.rests)
 
     seen_now : (a : ℕ) → IsNear d v a → Begins (history old.book a) (history (state_notes new v).known a)
     seen_now a near =
@@ -321,26 +321,26 @@ module _ (gives : MayGive) (job : Job) (ticks : ℕ) (ls ls' : List (Option Ledg
   -- Scripts and strategies.
 
   record PlannedFrom (v : ℕ) (n m : Plan) : Type 0 where
-    before : actor_at ts1 v ≡ Planned n
-    now : actor_at ts3 v ≡ Planned m
+    before : turn_actor ts1 v ≡ Planned n
+    now : turn_actor ts3 v ≡ Planned m
     was : party_plan old v ≡ n
     is : party_plan new v ≡ m
-    acted : HasPlanned gives job v n (passes_of (slice_get ts1 v)) m (passes_of (slice_get ts2 v))
+    acted : HasPlanned gives job v n (held_passes (slice_get ts1 v)) m (held_passes (slice_get ts2 v))
     knew : (a : ℕ) → Knows v (history n.known a) (history old.book a)
 
-  planned : (v : ℕ) (n : Plan) → v < d.graph.n → actor_at ts v ≡ Planned n → (m : Plan) × PlannedFrom v n m
+  planned : (v : ℕ) (n : Plan) → v < d.graph.n → turn_actor ts v ≡ Planned n → (m : Plan) × PlannedFrom v n m
   planned v n lv first =
-      let before : actor_at ts1 v ≡ Planned n = shape.actors v ∙ first in
-      let m = same_planner n (actor_at ts2 v) (subst (λ x. IsSameActor x (actor_at ts2 v)) before (taken v (below_all v lv)).actor) in (
+      let before : turn_actor ts1 v ≡ Planned n = shape.actors v ∙ first in
+      let m = same_planner n (turn_actor ts2 v) (subst (λ x. IsSameActor x (turn_actor ts2 v)) before (taken v (below_all v lv)).actor) in (
         m.0,
         record {
           before = before;
           now = after.actors v ∙ m.1;
-          was = plans_are job ls ts v lv ∙ ap (plan_in d) first;
-          is = plans_are job ls' ts3 v lv ∙ ap (plan_in d) (after.actors v ∙ m.1);
+          was = plans_are job ls ts v lv ∙ ap (actor_plan d) first;
+          is = plans_are job ls' ts3 v lv ∙ ap (actor_plan d) (after.actors v ∙ m.1);
           acted =
-              subst (λ (w : Actor × Actor). Did gives job ticks v (passes_of (slice_get ts1 v)) (passes_of (slice_get ts2 v)) (clocks_of (slice_get ts1 v))
-              (clocks_of (slice_get ts2 v)) w.0 w.1) (λ i. (before i, m.1 i)) (done v (below_all v lv));
+              subst (λ (w : Actor × Actor). Did gives job ticks v (held_passes (slice_get ts1 v)) (held_passes (slice_get ts2 v)) (held_clocks (slice_get ts1 v))
+              (held_clocks (slice_get ts2 v)) w.0 w.1) (λ i. (before i, m.1 i)) (done v (below_all v lv));
           knew = subst (λ x. KnowsOwn v x old.book) first (s.own v lv);
         },
       )
@@ -350,16 +350,16 @@ module _ (gives : MayGive) (job : Job) (ticks : ℕ) (ls ls' : List (Option Ledg
     view = w.acted.played.view
 
     -- next to v
-    plan_near : (a : ℕ) (l l' : LedgerState) → a < length d.graph.arcs → arc_ledger ls a ≡ Some l → IsLedgerOf d a l → IsClosed d ts2 a l'
+    plan_near : (a : ℕ) (l l' : LedgerState) → a < length d.graph.arcs → arc_ledger ls a ≡ Some l → IsArcLedger d a l → IsClosed d ts2 a l'
         → touches d v a ≡ true
         → Knows v (history m.known a) l'.history × Begins l.history (history view a)
     plan_near a l l' lt at home k near =
         let lock = lock_at d ts1 locks ls s.home dealt many a lt in
         let p = held_near d ts1 locks ls s.home dealt many v a lock.0 l lv lt lock.1 at home near in
         let q = went_from d ts1 locks ls s.home dealt many ts2 places taken v a _ lv p in
-        let below_then : a < length (passes_of (slice_get ts1 v)) = subst (λ z. a < z) (sym (places.passes v lv)) lt in
-        let wide_now : length (passes_of (slice_get ts2 v)) ≡ length d.graph.arcs = (taken v (below_all v lv)).places ∙ places.passes v lv in
-        let below : a < length (passes_of (slice_get ts2 v)) = subst (λ z. a < z) (sym wide_now) lt in
+        let below_then : a < length (held_passes (slice_get ts1 v)) = subst (λ z. a < z) (sym (places.passes v lv)) lt in
+        let wide_now : length (held_passes (slice_get ts2 v)) ≡ length d.graph.arcs = (taken v (below_all v lv)).places ∙ places.passes v lv in
+        let below : a < length (held_passes (slice_get ts2 v)) = subst (λ z. a < z) (sym wide_now) lt in
         let seen : q.0.seen ≡ history m.known a = w.acted.seen a q.0 below q.1 in
         let who : q.0.party ≡ v = ap (λ (x : PassState). x.party) q.2.1 in (
           side_knows v q.0 l' (history m.known a) who seen (k.passes v q.0 lv q.1),
@@ -373,13 +373,13 @@ module _ (gives : MayGive) (job : Job) (ticks : ℕ) (ls ls' : List (Option Ledg
     plan_arcs = w.acted.shown.view.legal.one_each
 
     -- nothing is known of an arc on which v makes no call
-    knows_none : (a : ℕ) (h : List Entry) → history m.known a ≡ [] → ((e : Entry) → IsIn e h → is_sender v e.sender ≡ false) → Knows v (history m.known a) h
+    knows_none : (a : ℕ) (h : List Entry) → history m.known a ≡ [] → ((e : Entry) → IsElement e h → is_sender v e.sender ≡ false) → Knows v (history m.known a) h
     knows_none a h none others = record { rest = h; whole = sym (ap (λ k. k ++ h) none); others = others }
 
     plan_knows : (a : ℕ) → Knows v (history m.known a) (history new.book a)
     plan_knows a = go (below_or a (length d.graph.arcs))
       where
-        there : (lt : a < length d.graph.arcs) (l l' : LedgerState) → arc_ledger ls a ≡ Some l → IsLedgerOf d a l → arc_ledger ls' a ≡ Some l'
+        there : (lt : a < length d.graph.arcs) (l l' : LedgerState) → arc_ledger ls a ≡ Some l → IsArcLedger d a l → arc_ledger ls' a ≡ Some l'
             → IsClosed d ts2 a l'
             → (touches d v a ≡ true) ⊎ (touches d v a ≡ false) → Knows v (history m.known a) (history new.book a)
         there lt l l' at home at' k (inl near) =
@@ -406,7 +406,7 @@ module _ (gives : MayGive) (job : Job) (ticks : ℕ) (ls ls' : List (Option Ledg
     }
 
     -- of its own calls the party knew all that stood
-    plan_own : (a : ℕ) → calls_by v (history n.known a) ≡ calls_by v (history old.book a)
+    plan_own : (a : ℕ) → sender_calls v (history n.known a) ≡ sender_calls v (history old.book a)
     plan_own a = sym (calls_known v (history n.known a) (history old.book a) (w.knew a))
 
     plan_played : HasPlayed gives (job_cast job) old new v
@@ -424,7 +424,7 @@ module _ (gives : MayGive) (job : Job) (ticks : ℕ) (ls ls' : List (Option Ledg
       own = λ a lt. w.acted.played.own a ∙ plan_own a;
       called = λ a lt.
           calls_known v (history m.known a) (history new.book a) (plan_knows a) ∙ (w.acted.played.called a lt
-          ∙ ap (λ cs. take 32 (cs ++ answer_on a w.acted.played.answer)) (plan_own a));
+          ∙ ap (λ cs. take 32 (cs ++ arc_answer a w.acted.played.answer)) (plan_own a));
       answered =
           subst (λ (x : Plan × Plan). IsAnswered gives d job.seeds v view w.acted.played.answer x.0 x.1 (job_role job v)) (λ i. (sym w.was i, sym w.is i))
           w.acted.played.answered;
@@ -434,16 +434,16 @@ module _ (gives : MayGive) (job : Job) (ticks : ℕ) (ls ls' : List (Option Ledg
 
   -- The others.
 
-  abbrev manual_at : (v : ℕ) → v < d.graph.n → conforms (job_cast job) v ≡ false → is_planned (job_role job v) ≡ false → actor_at ts v ≡ Manual
+  abbrev manual_at : (v : ℕ) → v < d.graph.n → conforms (job_cast job) v ≡ false → is_planned (job_role job v) ≡ false → turn_actor ts v ≡ Manual
   manual_at v lv cv p =
-      manual_of d (slice_index_or job.seeds v None) (job_role job v) v (actor_at ts v) (slice_index_or job.conforming v false) cv p (s.actors v lv)
+      manual_of d (slice_index_or job.seeds v None) (job_role job v) v (turn_actor ts v) (slice_index_or job.conforming v false) cv p (s.actors v lv)
 
-  module _ (v : ℕ) (lv : v < d.graph.n) (first : actor_at ts v ≡ Manual) where
-    idle : passes_of (slice_get ts2 v) ≡ passes_of (slice_get ts1 v)
+  module _ (v : ℕ) (lv : v < d.graph.n) (first : turn_actor ts v ≡ Manual) where
+    idle : held_passes (slice_get ts2 v) ≡ held_passes (slice_get ts1 v)
     idle =
-        subst (λ x. Did gives job ticks v (passes_of (slice_get ts1 v)) (passes_of (slice_get ts2 v)) (clocks_of (slice_get ts1 v))
-        (clocks_of (slice_get ts2 v)) x
-        (actor_at ts2 v)) (shape.actors v ∙ first) (done v (below_all v lv))
+        subst (λ x. Did gives job ticks v (held_passes (slice_get ts1 v)) (held_passes (slice_get ts2 v)) (held_clocks (slice_get ts1 v))
+        (held_clocks (slice_get ts2 v)) x
+        (turn_actor ts2 v)) (shape.actors v ∙ first) (done v (below_all v lv))
 
     started_whole : (x : Actor) (a : ℕ) (h : List Entry) → x ≡ Manual → started x a h ≡ h
     started_whole x a h e = ap (λ y. started y a h) e
@@ -451,13 +451,13 @@ module _ (gives : MayGive) (job : Job) (ticks : ℕ) (ls ls' : List (Option Ledg
     made_none : (a : ℕ) (h : List Entry) → IsLegal d a h → touches d v a ≡ false → party_made v h ≡ []
     made_none a h legal far = none_pass (λ (e : Entry). is_sender v e.sender) h (far_from d a v h legal far)
 
-    unmade_at : (a : ℕ) (l l' : LedgerState) → a < length d.graph.arcs → arc_ledger ls a ≡ Some l → IsLedgerOf d a l → IsClosed d ts2 a l'
+    unmade_at : (a : ℕ) (l l' : LedgerState) → a < length d.graph.arcs → arc_ledger ls a ≡ Some l → IsArcLedger d a l → IsClosed d ts2 a l'
         → (touches d v a ≡ true) ⊎ (touches d v a ≡ false) → party_made v l'.history ≡ party_made v l.history
     unmade_at a l l' lt at home k (inl near) =
         let lock = lock_at d ts1 locks ls s.home dealt many a lt in
         let p = held_near d ts1 locks ls s.home dealt many v a lock.0 l lv lt lock.1 at home near in
-        let p2 = ap (λ ps. pass_in ps a) idle ∙ p in
-        (k.passes v _ lv p2).mine ∙ ap (party_made v) (started_whole (actor_at ts1 v) l.arc l.history (shape.actors v ∙ first))
+        let p2 = ap (λ ps. arc_pass ps a) idle ∙ p in
+        (k.passes v _ lv p2).mine ∙ ap (party_made v) (started_whole (turn_actor ts1 v) l.arc l.history (shape.actors v ∙ first))
     unmade_at a l l' lt at home k (inr far) = made_none a l'.history k.home.legal far ∙ sym (made_none a l.history home.legal far)
 
     unmade : (a : ℕ) → party_made v (history new.book a) ≡ party_made v (history old.book a)
@@ -471,46 +471,46 @@ module _ (gives : MayGive) (job : Job) (ticks : ℕ) (ls ls' : List (Option Ledg
             ∙ ap (party_made v) (sym (was a l.0 lt l.1)))
         go (inr ge) = ap (party_made v) (none_now a ge ∙ sym (none_before a ge))
 
-    stays : actor_at ts3 v ≡ Manual
-    stays = after.actors v ∙ subst (λ x. IsSameActor x (actor_at ts2 v)) (shape.actors v ∙ first) (taken v (below_all v lv)).actor
+    stays : turn_actor ts3 v ≡ Manual
+    stays = after.actors v ∙ subst (λ x. IsSameActor x (turn_actor ts2 v)) (shape.actors v ∙ first) (taken v (below_all v lv)).actor
 
   -- The round.
 
   -- who plans nothing plans nothing later
-  plan_kept : (v : ℕ) → v < d.graph.n → plan_in d (actor_at ts v) ≡ plan_in d (actor_at ts3 v) → IsGoodPlan d job.seeds v new.book (party_plan new v)
+  plan_kept : (v : ℕ) → v < d.graph.n → actor_plan d (turn_actor ts v) ≡ actor_plan d (turn_actor ts3 v) → IsGoodPlan d job.seeds v new.book (party_plan new v)
   plan_kept v lv same =
       subst (IsGoodPlan d job.seeds v new.book) (plans_are job ls ts v lv ∙ (same ∙ sym (plans_are job ls' ts3 v lv)))
       (plan_grown d job.seeds v old.book new.book (party_plan old v) grows (s.good.plans v lv))
 
   -- What each party is after the round.
   record Stays (v : ℕ) : Type 0 where
-    actor : IsActorIn job v (actor_at ts3 v)
+    actor : IsJobActor job v (turn_actor ts3 v)
     plan : IsGoodPlan d job.seeds v new.book (party_plan new v)
-    own : KnowsOwn v (actor_at ts3 v) new.book
+    own : KnowsOwn v (turn_actor ts3 v) new.book
 
   stays_in : (v : ℕ) → v < d.graph.n → Stays v
-  stays_in v lv = go (actor_at ts v) refl (s.actors v lv)
+  stays_in v lv = go (turn_actor ts v) refl (s.actors v lv)
     where
-      go : (x : Actor) → actor_at ts v ≡ x → IsActorIn job v x → Stays v
+      go : (x : Actor) → turn_actor ts v ≡ x → IsJobActor job v x → Stays v
       go (Conforming m) e k =
           let w = went v lv k.0 in
           record {
-            actor = subst (IsActorIn job v) (sym w.2.now) (k.0, w.2.deal, w.2.me, w.2.seed);
-            plan = plan_kept v lv (ap (plan_in d) e ∙ sym (ap (plan_in d) w.2.now));
+            actor = subst (IsJobActor job v) (sym w.2.now) (k.0, w.2.deal, w.2.me, w.2.seed);
+            plan = plan_kept v lv (ap (actor_plan d) e ∙ sym (ap (actor_plan d) w.2.now));
             own = subst (λ x. KnowsOwn v x new.book) (sym w.2.now) tt;
           }
       go (Planned n) e k =
           let w = planned v n lv e in
           record {
-            actor = subst (IsActorIn job v) (sym w.1.now) k;
+            actor = subst (IsJobActor job v) (sym w.1.now) k;
             plan = subst (IsGoodPlan d job.seeds v new.book) (sym w.1.is) (plan_good_now v lv n w.0 w.1);
             own = subst (λ x. KnowsOwn v x new.book) (sym w.1.now) (plan_knows v lv n w.0 w.1);
           }
       go Manual e k =
           let now = stays v lv e in
           record {
-            actor = subst (IsActorIn job v) (sym now) k;
-            plan = plan_kept v lv (ap (plan_in d) e ∙ sym (ap (plan_in d) now));
+            actor = subst (IsJobActor job v) (sym now) k;
+            plan = plan_kept v lv (ap (actor_plan d) e ∙ sym (ap (actor_plan d) now));
             own = subst (λ x. KnowsOwn v x new.book) (sym now) tt;
           }
       go Clock e k = absurd k
@@ -518,16 +518,16 @@ module _ (gives : MayGive) (job : Job) (ticks : ℕ) (ls ls' : List (Option Ledg
   pub good : IsGood (job_cast job) new
   good = record {
     legal = legal_now;
-    one_each = length-map-range_with_len (notes_at d ts3) 0 d.graph.n;
+    one_each = length-map-range_with_len (turn_notes d ts3) 0 d.graph.n;
     notes = λ v lv cv. let w = went v lv cv in good_now v lv w.0 w.1 w.2;
-    plan_each = length-map-range_with_len (plan_at d ts3) 0 d.graph.n;
+    plan_each = length-map-range_with_len (turn_plan d ts3) 0 d.graph.n;
     plans = λ v lv. (stays_in v lv).plan;
   }
 
   played_now : (v : ℕ) → v < d.graph.n → conforms (job_cast job) v ≡ false → is_planned (job_role job v) ≡ true → HasPlayed gives (job_cast job) old new v
   played_now v lv cv p =
       let n =
-      party_planner d (slice_index_or job.seeds v None) (job_role job v) v (actor_at ts v) (slice_index_or job.conforming v false) cv p (s.actors v lv) in
+      party_planner d (slice_index_or job.seeds v None) (job_role job v) v (turn_actor ts v) (slice_index_or job.conforming v false) cv p (s.actors v lv) in
       let w = planned v n.0 lv n.1 in
       plan_played v lv n.0 w.0 w.1
 
@@ -550,7 +550,7 @@ module _ (gives : MayGive) (job : Job) (ticks : ℕ) (ls ls' : List (Option Ledg
     free = free;
     actors = λ v lv. (stays_in v lv).actor;
     clock =
-        after.actors d.graph.n ∙ subst (λ x. IsSameActor x (actor_at ts2 d.graph.n)) clock_now (taken d.graph.n clock_below).actor;
+        after.actors d.graph.n ∙ subst (λ x. IsSameActor x (turn_actor ts2 d.graph.n)) clock_now (taken d.graph.n clock_below).actor;
     good = good;
     own = λ v lv. (stays_in v lv).own;
   }

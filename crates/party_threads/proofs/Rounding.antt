@@ -3,7 +3,7 @@ use Rattle.std.proofs.Common.{◌≡◌, ℕ, ◌+◌, ◌==◌, Bool, true, fal
 use Rattle.std.proofs.Common.{eqb-true}
 use Rattle.std.proofs.lemmas.List.Elements.{filter-append}
 use mathlib.Core.List.{IsPrefix}
-use Rattle.swap_base.specs.Lists.{IsIn}
+use Rattle.swap_base.specs.Lists.{IsElement}
 use Rattle.swap_base.proofs.Lists.{moment_from_in, at_moment, in_append}
 use Rattle.swap_digraph.specs.declared.deal.Deal.{Deal}
 use Rattle.swap_digraph.specs.Deal.{touches}
@@ -19,7 +19,7 @@ use Rattle.ledger_core.specs.Value.{LedgerState}
 use Rattle.ledger_shared.specs.Value.{PassState, ClockState, party_made, ticks_in_order, clock_mine, Closes, ClosesClock}
 use Rattle.swap_rules.specs.Machine.{Begins, Knows}
 use Rattle.party_threads.specs.Ticks.{HasTickedOnce}
-use Rattle.party_threads.specs.Played.{calls_by}
+use Rattle.party_threads.specs.Played.{sender_calls}
 use Rattle.party_threads.proofs.Calls.{none_passes, others_add_none}
 use Rattle.party_threads.proofs.Turning.{none_pass}
 use Rattle.party_threads.proofs.Clocks.{height_of_ticks}
@@ -39,9 +39,9 @@ pub begins_of : (k h : List Entry) → IsPrefix k h → Begins k h
 begins_of k h pre = (pre.0, sym pre.1)
 
 -- what holds all calls of v holds the same calls
-pub calls_known : (v : ℕ) (k h : List Entry) → Knows v k h → calls_by v h ≡ calls_by v k
+pub calls_known : (v : ℕ) (k h : List Entry) → Knows v k h → sender_calls v h ≡ sender_calls v k
 calls_known v k h knows =
-    ap (calls_by v) knows.whole
+    ap (sender_calls v) knows.whole
     ∙ others_add_none v k knows.rest (none_pass (λ (e : Entry). is_sender v e.sender) knows.rest knows.others)
 
 -- One side of a ledger: what its machine knows in the end.
@@ -75,7 +75,7 @@ not_sender d a v past (Party p) (Tick k) at r l far = absurd l
 not_sender d a v past Clock w at r l far = refl
 
 -- a party that an arc doesn't touch makes no call there
-pub far_from : (d : Deal) (a v : ℕ) (h : List Entry) → IsLegal d a h → touches d v a ≡ false → (e : Entry) → IsIn e h → is_sender v e.sender ≡ false
+pub far_from : (d : Deal) (a v : ℕ) (h : List Entry) → IsLegal d a h → touches d v a ≡ false → (e : Entry) → IsElement e h → is_sender v e.sender ≡ false
 far_from d a v h legal far e i =
     let m = moment_from_in h e i in
     not_sender d a v m.0 e.sender e.what e.height e.reply (at_moment (IsLegalMoment d a) h m.0 e legal m.1) far
@@ -86,5 +86,5 @@ far_knows d a v known h l legal far grows k = record {
   rest = k.rest ++ grows.0;
   whole = grows.1 ∙ (ap (λ x. x ++ grows.0) k.whole ∙ append_assoc known k.rest grows.0);
   others = λ e i. far_from d a v l legal far e
-      (subst (IsIn e) (sym (grows.1 ∙ (ap (λ x. x ++ grows.0) k.whole ∙ append_assoc known k.rest grows.0))) (in_append known (k.rest ++ grows.0) e (inr i)));
+      (subst (IsElement e) (sym (grows.1 ∙ (ap (λ x. x ++ grows.0) k.whole ∙ append_assoc known k.rest grows.0))) (in_append known (k.rest ++ grows.0) e (inr i)));
 }

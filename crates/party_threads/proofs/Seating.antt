@@ -16,9 +16,9 @@ use Rattle.ledger_core.specs.History.{height}
 use Rattle.ledger_core.specs.Value.{LedgerState}
 use Rattle.ledger_core.specs.Book.{history}
 use Rattle.ledger_core.proofs.Bounds.{countable}
-use Rattle.ledger_shared.specs.Value.{PassState, ClockState, SharedState, pass_at, table_clock, ticks_in_order}
+use Rattle.ledger_shared.specs.Value.{PassState, ClockState, SharedState, party_pass, table_clock, ticks_in_order}
 use Rattle.swap_job.specs.declared.job.Job.{Job}
-use Rattle.party_wallet.specs.Value.{signed_in}
+use Rattle.party_wallet.specs.Value.{signed_hashkey}
 use Rattle.party_machine.specs.Machine.{MachineState}
 use Rattle.party_machine.specs.Wallet.{seed_wallet}
 use Rattle.swap_rules.specs.Machine.{IsWallet, IsSound, Knows}
@@ -28,20 +28,20 @@ use Rattle.swap_run.specs.Laws.{AreGoodNotes, IsGoodPlan}
 use Rattle.swap_run.proofs.Plans.{plan_view}
 use Rattle.swap_rules.proofs.Accepted.{accepted_is_well_sized}
 use Rattle.swap_run.specs.Shown.{IsShown}
-use Rattle.swap_world.specs.Cast.{job_cast, wallet_with}
-use Rattle.swap_world.specs.Inside.{IsLedgerOf}
+use Rattle.swap_world.specs.Cast.{job_cast, signing_wallet}
+use Rattle.swap_world.specs.Inside.{IsArcLedger}
 use Rattle.swap_world.specs.Actors.{AreHeld}
 use Rattle.party_threads.specs.declared.turn.Actor.{Actor}
 use Rattle.party_threads.specs.declared.turn.Actor.TheVariants.{Conforming, Planned, Manual, Clock}
 use Rattle.party_threads.specs.declared.turn.Turn.{Turn}
-use Rattle.party_threads.specs.Tracks.{Watcher, IsPassOf}
+use Rattle.party_threads.specs.Tracks.{Watcher, IsWatcherPass}
 use Rattle.party_threads.specs.Able.{watcher, IsAble}
-use Rattle.party_threads.specs.Ticks.{HaveRoom, AreClocksOf}
+use Rattle.party_threads.specs.Ticks.{HaveRoom, AreLedgerClocks}
 use Rattle.party_threads.specs.Played.{party_planner}
 use Rattle.party_threads.specs.Took.{IsMachineSeated, IsPlannerSeated, IsActorSeated, IsSeated}
-use Rattle.party_threads.specs.Turns.{new_actor, passes_of, clocks_of, actor_at, held_at, arc_ledger, started, HasArc, IsBehind, AreBehind, HavePlaces}
+use Rattle.party_threads.specs.Turns.{new_actor, held_passes, held_clocks, turn_actor, held_pass, arc_ledger, started, HasArc, IsBehind, AreBehind, HavePlaces}
 use Rattle.party_threads.specs.Turns.{AreDealt, IsSameShape}
-use Rattle.party_threads.specs.Standing.{history_in, race_book, notes_in, notes_at, plan_in, plan_at, race_state, IsActorIn, KnowsOwn, Stands}
+use Rattle.party_threads.specs.Standing.{home_history, race_book, actor_notes, turn_notes, actor_plan, turn_plan, race_state, IsJobActor, KnowsOwn, Stands}
 use Rattle.party_threads.specs.Standing.{HasRoom, AllHaveRoom}
 use Rattle.party_threads.proofs.Clocks.{height_of_ticks}
 use Rattle.party_threads.proofs.Sharing.{home_at, lock_at, held_near, held_far, clock_is}
@@ -57,21 +57,21 @@ is_named d v m ed ev = λ i. record { deal = sym ed i; me = sym ev i; seed = m.s
 
 -- the wallet of the cast is the machine's
 pub wallet_is : (job : Job) (v : ℕ) (m : MachineState) → slice_index_or job.seeds v None ≡ Some m.seed → (job_cast job).wallet v ≡ seed_wallet m.seed v job.deal
-wallet_is job v m e = ap (λ o. wallet_with o v job.deal) e
+wallet_is job v m e = ap (λ o. signing_wallet o v job.deal) e
 
 -- the notes of the state are the machine's
 pub notes_are : (job : Job) (ls : List (Option LedgerState)) (ts : List Turn) (v : ℕ) → v < job.deal.graph.n
-    → state_notes (race_state job ls ts) v ≡ notes_in job.deal (actor_at ts v)
-notes_are job ls ts v l = get_or-map-range_with_len (notes_at job.deal ts) 0 job.deal.graph.n v v _ l (zero-add v)
+    → state_notes (race_state job ls ts) v ≡ actor_notes job.deal (turn_actor ts v)
+notes_are job ls ts v l = get_or-map-range_with_len (turn_notes job.deal ts) 0 job.deal.graph.n v v _ l (zero-add v)
 
 -- the plan of the state is the actor's
 pub plans_are : (job : Job) (ls : List (Option LedgerState)) (ts : List Turn) (v : ℕ) → v < job.deal.graph.n
-    → party_plan (race_state job ls ts) v ≡ plan_in job.deal (actor_at ts v)
-plans_are job ls ts v l = get_or-map-range_with_len (plan_at job.deal ts) 0 job.deal.graph.n v v _ l (zero-add v)
+    → party_plan (race_state job ls ts) v ≡ actor_plan job.deal (turn_actor ts v)
+plans_are job ls ts v l = get_or-map-range_with_len (turn_plan job.deal ts) 0 job.deal.graph.n v v _ l (zero-add v)
 
 -- the history of the state is the ledger's
 pub history_is : (ls : List (Option LedgerState)) (a : ℕ) (l : LedgerState) → arc_ledger ls a ≡ Some l → a < length ls → history (race_book ls) a ≡ l.history
-history_is ls a l e lt = get_or-map history_in ls a None [] lt ∙ ap history_in e
+history_is ls a l e lt = get_or-map home_history ls a None [] lt ∙ ap home_history e
 
 few_parties : (v : Version) → most_parties v ≤ 32
 few_parties One = omega arith
@@ -82,25 +82,25 @@ module _ (job : Job) (ls : List (Option LedgerState)) (ts : List Turn) (s : Stan
   d = job.deal
 
   -- what stands of a machine
-  pub able_at : (v : ℕ) (m : MachineState) → v < d.graph.n → actor_at ts v ≡ Conforming m → IsAble m
+  pub able_at : (v : ℕ) (m : MachineState) → v < d.graph.n → turn_actor ts v ≡ Conforming m → IsAble m
   able_at v m lv e =
-      let is : IsActorIn job v (Conforming m) = subst (IsActorIn job v) e (s.actors v lv) in
+      let is : IsJobActor job v (Conforming m) = subst (IsJobActor job v) e (s.actors v lv) in
       let n : AreGoodNotes (job_cast job) (race_state job ls ts) v = s.good.notes v lv is.0 in
-      let note : state_notes (race_state job ls ts) v ≡ record { known = m.known; signed = m.signed } = notes_are job ls ts v lv ∙ ap (notes_in d) e in
+      let note : state_notes (race_state job ls ts) v ≡ record { known = m.known; signed = m.signed } = notes_are job ls ts v lv ∙ ap (actor_notes d) e in
       subst IsAble (is_named d v m is.1 is.2) (record {
         accepted = s.cast.accepted;
         wallet = subst (IsWallet d v) (wallet_is job v m is.3) (s.cast.wallets v lv is.0);
         party = lv;
         arcs = ap (λ (x : Notes). length x.known) (sym note) ∙ n.one_each;
         signs = ap (λ (x : Notes). length x.signed) (sym note) ∙ n.places;
-        sound = subst (λ (x : Notes). IsSound d x.known (signed_in x.signed) v) note n.sound;
+        sound = subst (λ (x : Notes). IsSound d x.known (signed_hashkey x.signed) v) note n.sound;
       })
 
   -- what stands of a plan
-  pub plan_good : (v : ℕ) (n : Plan) → v < d.graph.n → actor_at ts v ≡ Planned n → IsGoodPlan d job.seeds v (race_book ls) n
-  plan_good v n lv e = subst (IsGoodPlan d job.seeds v (race_book ls)) (plans_are job ls ts v lv ∙ ap (plan_in d) e) (s.good.plans v lv)
+  pub plan_good : (v : ℕ) (n : Plan) → v < d.graph.n → turn_actor ts v ≡ Planned n → IsGoodPlan d job.seeds v (race_book ls) n
+  plan_good v n lv e = subst (IsGoodPlan d job.seeds v (race_book ls)) (plans_are job ls ts v lv ∙ ap (actor_plan d) e) (s.good.plans v lv)
 
-  pub plan_shown : (v : ℕ) (n : Plan) → v < d.graph.n → actor_at ts v ≡ Planned n → IsShown d job.seeds v n
+  pub plan_shown : (v : ℕ) (n : Plan) → v < d.graph.n → turn_actor ts v ≡ Planned n → IsShown d job.seeds v n
   plan_shown v n lv e =
       let g = plan_good v n lv e in
       record { view = plan_view d job.seeds v (race_book ls) n (accepted_is_well_sized d s.cast.accepted) lv s.good.legal g; moves = g.moves }
@@ -114,10 +114,10 @@ module _ (job : Job) (ls : List (Option LedgerState)) (ts : List Turn) (s : Stan
       omega (arith, n, low, most)
 
   -- each actor knows the job's arcs
-  pub has_arc : (v a : ℕ) → v < d.graph.n → a < length d.graph.arcs → HasArc (actor_at ts v) a
-  has_arc v a lv lt = go (actor_at ts v) refl (s.actors v lv)
+  pub has_arc : (v a : ℕ) → v < d.graph.n → a < length d.graph.arcs → HasArc (turn_actor ts v) a
+  has_arc v a lv lt = go (turn_actor ts v) refl (s.actors v lv)
     where
-      go : (x : Actor) → actor_at ts v ≡ x → IsActorIn job v x → HasArc x a
+      go : (x : Actor) → turn_actor ts v ≡ x → IsJobActor job v x → HasArc x a
       go (Conforming m) e k = subst (λ x. a < length x.graph.arcs) (sym k.1) lt
       go (Planned n) e k =
           let below : a < length n.known = subst (λ z. a < z) (sym (plan_good v n lv e).one_each) lt in
@@ -127,14 +127,14 @@ module _ (job : Job) (ls : List (Option LedgerState)) (ts : List Turn) (s : Stan
 
   -- each actor is behind the histories of its arcs
   pub behind : AreBehind d ts ls
-  behind v a l lv lt at = go (actor_at ts v) refl (s.actors v lv)
+  behind v a l lv lt at = go (turn_actor ts v) refl (s.actors v lv)
     where
       now : history (race_book ls) a ≡ l.history
       now = history_is ls a l at (subst (λ n. a < n) (sym s.home.one_each) lt)
 
-      go : (x : Actor) → actor_at ts v ≡ x → IsActorIn job v x → IsBehind x v a l.history
+      go : (x : Actor) → turn_actor ts v ≡ x → IsJobActor job v x → IsBehind x v a l.history
       go (Conforming m) e k =
-          let note : state_notes (race_state job ls ts) v ≡ record { known = m.known; signed = m.signed } = notes_are job ls ts v lv ∙ ap (notes_in d) e in
+          let note : state_notes (race_state job ls ts) v ≡ record { known = m.known; signed = m.signed } = notes_are job ls ts v lv ∙ ap (actor_notes d) e in
           subst (λ (w : Notes × List Entry). Knows v (history w.0.known a) w.1) (λ i. (note i, now i)) ((s.good.notes v lv k.0).knows a)
       go (Planned n) e k = subst (λ h. Knows v (history n.known a) h) now (subst (λ x. KnowsOwn v x (race_book ls)) e (s.own v lv) a)
       go Manual e k = knows_all v l.history
@@ -144,7 +144,7 @@ module _ (job : Job) (ls : List (Option LedgerState)) (ts : List Turn) (s : Stan
 module _ (job : Job) (ls : List (Option LedgerState)) (first ts : List Turn) (shared : List SharedState) (s : Stands job ls first)
     (places : HavePlaces job.deal ts)
     (dealt : AreDealt job.deal ts (map (λ (x : SharedState). x.lock) shared) ls) (many : length shared ≡ length job.deal.graph.arcs)
-    (actors : (v : ℕ) → actor_at ts v ≡ actor_at first v) where
+    (actors : (v : ℕ) → turn_actor ts v ≡ turn_actor first v) where
   abbrev e : Deal
   e = job.deal
 
@@ -161,9 +161,9 @@ module _ (job : Job) (ls : List (Option LedgerState)) (first ts : List Turn) (sh
       slice_get-map (λ (y : SharedState). y.lock) shared a ∙ ap (λ o. option_map (λ (y : SharedState). y.lock) o) there
 
   -- a pass that was dealt is that of its actor, which knows so much
-  dealt_pass : (w : Watcher) (a : ℕ) (seen : List Entry) (l : LedgerState) (x : SharedState) (p : PassState) → w.deal ≡ e → IsLedgerOf e a l
-      → seen ≡ history w.known a → pass_at x.lock l w.me seen ≡ p → IsPassOf w x.lock a p
-  dealt_pass w a seen l x p ed k known is = subst (IsPassOf w x.lock a) is (record {
+  dealt_pass : (w : Watcher) (a : ℕ) (seen : List Entry) (l : LedgerState) (x : SharedState) (p : PassState) → w.deal ≡ e → IsArcLedger e a l
+      → seen ≡ history w.known a → party_pass x.lock l w.me seen ≡ p → IsWatcherPass w x.lock a p
+  dealt_pass w a seen l x p ed k known is = subst (IsWatcherPass w x.lock a) is (record {
     lock = refl;
     deal = k.deal ∙ sym ed;
     arc = k.arc;
@@ -172,14 +172,14 @@ module _ (job : Job) (ls : List (Option LedgerState)) (first ts : List Turn) (sh
   })
 
   -- the pass that is there is the one that was dealt
-  there_is : (v a : ℕ) (x : SharedState) (p : PassState) → v < e.graph.n → a < length e.graph.arcs → x ≡ get_or shared a x → held_at ts v a ≡ Some p
-      → (l : LedgerState) × IsLedgerOf e a l × (pass_at x.lock l v (started (actor_at ts v) l.arc l.history) ≡ p)
+  there_is : (v a : ℕ) (x : SharedState) (p : PassState) → v < e.graph.n → a < length e.graph.arcs → x ≡ get_or shared a x → held_pass ts v a ≡ Some p
+      → (l : LedgerState) × IsArcLedger e a l × (party_pass x.lock l v (started (turn_actor ts v) l.arc l.history) ≡ p)
   there_is v a x p lv lt ix held =
       let l = home_at e ls a s.home lt in
       go l.0 l.1 l.2 (bool_or (touches e v a))
     where
-      go : (l : LedgerState) → arc_ledger ls a ≡ Some l → IsLedgerOf e a l → (touches e v a ≡ true) ⊎ (touches e v a ≡ false)
-          → (l : LedgerState) × IsLedgerOf e a l × (pass_at x.lock l v (started (actor_at ts v) l.arc l.history) ≡ p)
+      go : (l : LedgerState) → arc_ledger ls a ≡ Some l → IsArcLedger e a l → (touches e v a ≡ true) ⊎ (touches e v a ≡ false)
+          → (l : LedgerState) × IsArcLedger e a l × (party_pass x.lock l v (started (turn_actor ts v) l.arc l.history) ≡ p)
       go l at k (inl near) = (
         l,
         k,
@@ -189,31 +189,31 @@ module _ (job : Job) (ls : List (Option LedgerState)) (first ts : List Turn) (sh
       go l at k (inr far) = absurd (none-some _ (sym (held_far e ts locks ls s.home dealt all_locks v a lv lt far) ∙ held))
 
   -- and next to v there is one
-  near_is : (v a : ℕ) → v < e.graph.n → a < length e.graph.arcs → touches e v a ≡ true → (p : PassState) × (held_at ts v a ≡ Some p)
+  near_is : (v a : ℕ) → v < e.graph.n → a < length e.graph.arcs → touches e v a ≡ true → (p : PassState) × (held_pass ts v a ≡ Some p)
   near_is v a lv lt near =
       let l = home_at e ls a s.home lt in
       let k = lock_at e ts locks ls s.home dealt all_locks a lt in (
-        pass_at k.0 l.0 v (started (actor_at ts v) l.0.arc l.0.history),
+        party_pass k.0 l.0 v (started (turn_actor ts v) l.0.arc l.0.history),
         held_near e ts locks ls s.home dealt all_locks v a k.0 l.0 lv lt k.1 l.1 l.2 near,
       )
 
   -- and elsewhere there is none
-  far_is : (v a : ℕ) → v < e.graph.n → a < length e.graph.arcs → touches e v a ≡ false → held_at ts v a ≡ None
+  far_is : (v a : ℕ) → v < e.graph.n → a < length e.graph.arcs → touches e v a ≡ false → held_pass ts v a ≡ None
   far_is v a lv lt far = held_far e ts locks ls s.home dealt all_locks v a lv lt far
 
   pass_is : (w : Watcher) (v a : ℕ) (x : SharedState) (p : PassState) → v < e.graph.n → w.deal ≡ e → w.me ≡ v
-      → ((b : ℕ) (h : List Entry) → started (actor_at ts v) b h ≡ history w.known b) → a < length e.graph.arcs → x ≡ get_or shared a x
-      → held_at ts v a ≡ Some p → IsPassOf w x.lock a p
+      → ((b : ℕ) (h : List Entry) → started (turn_actor ts v) b h ≡ history w.known b) → a < length e.graph.arcs → x ≡ get_or shared a x
+      → held_pass ts v a ≡ Some p → IsWatcherPass w x.lock a p
   pass_is w v a x p lv ed ev known lt ix held =
       let t = there_is v a x p lv lt ix held in
-      dealt_pass w a (started (actor_at ts v) t.0.arc t.0.history) t.0 x p ed t.1 (known t.0.arc t.0.history ∙ ap (λ b. history w.known b) t.1.arc)
-      (ap (λ u. pass_at x.lock t.0 u (started (actor_at ts v) t.0.arc t.0.history)) ev ∙ t.2)
+      dealt_pass w a (started (turn_actor ts v) t.0.arc t.0.history) t.0 x p ed t.1 (known t.0.arc t.0.history ∙ ap (λ b. history w.known b) t.1.arc)
+      (ap (λ u. party_pass x.lock t.0 u (started (turn_actor ts v) t.0.arc t.0.history)) ev ∙ t.2)
 
-  seated_machine : (v : ℕ) (m : MachineState) → v < e.graph.n → actor_at ts v ≡ Conforming m → IsMachineSeated shared m (passes_of (slice_get ts v))
+  seated_machine : (v : ℕ) (m : MachineState) → v < e.graph.n → turn_actor ts v ≡ Conforming m → IsMachineSeated shared m (held_passes (slice_get ts v))
   seated_machine v m lv is =
-      let who : IsActorIn job v (Conforming m) = subst (IsActorIn job v) (sym (actors v) ∙ is) (s.actors v lv) in
+      let who : IsJobActor job v (Conforming m) = subst (IsJobActor job v) (sym (actors v) ∙ is) (s.actors v lv) in
       let arcs : length m.deal.graph.arcs ≡ length e.graph.arcs = ap (λ x. length x.graph.arcs) who.1 in
-      let wide : length (passes_of (slice_get ts v)) ≡ length e.graph.arcs = places.passes v lv in
+      let wide : length (held_passes (slice_get ts v)) ≡ length e.graph.arcs = places.passes v lv in
       record {
         able = able_at job ls first s v m lv (sym (actors v) ∙ is);
         tracks = record {
@@ -231,11 +231,11 @@ module _ (job : Job) (ls : List (Option LedgerState)) (first ts : List Turn) (sh
       }
 
   module _ (holds : List ℕ → Bool) (held : AreHeld holds job.roles) where
-    seated_planner : (v : ℕ) (n : Plan) → v < e.graph.n → actor_at ts v ≡ Planned n → IsPlannerSeated holds job shared v n (passes_of (slice_get ts v))
+    seated_planner : (v : ℕ) (n : Plan) → v < e.graph.n → turn_actor ts v ≡ Planned n → IsPlannerSeated holds job shared v n (held_passes (slice_get ts v))
     seated_planner v n lv is =
-        let before : actor_at first v ≡ Planned n = sym (actors v) ∙ is in
-        let who : IsActorIn job v (Planned n) = subst (IsActorIn job v) before (s.actors v lv) in
-        let wide : length (passes_of (slice_get ts v)) ≡ length e.graph.arcs = places.passes v lv in
+        let before : turn_actor first v ≡ Planned n = sym (actors v) ∙ is in
+        let who : IsJobActor job v (Planned n) = subst (IsJobActor job v) before (s.actors v lv) in
+        let wide : length (held_passes (slice_get ts v)) ≡ length e.graph.arcs = places.passes v lv in
         let place : v < length job.roles = subst (λ k. v < k) (sym s.cast.roles) lv in
         record {
           place = place;
@@ -255,7 +255,7 @@ module _ (job : Job) (ls : List (Option LedgerState)) (first ts : List Turn) (sh
         }
 
     module _ (ticks : ℕ) (room : AllHaveRoom ticks job.deal (race_book ls)) where
-      clock_room : (a : ℕ) (lock : TableId) (l : LedgerState) (p : ClockState) → a < length e.graph.arcs → arc_ledger ls a ≡ Some l → IsLedgerOf e a l
+      clock_room : (a : ℕ) (lock : TableId) (l : LedgerState) (p : ClockState) → a < length e.graph.arcs → arc_ledger ls a ≡ Some l → IsArcLedger e a l
           → table_clock lock l ≡ p
           → HaveRoom ticks p
       clock_room a lock l p lt at k is =
@@ -264,9 +264,9 @@ module _ (job : Job) (ls : List (Option LedgerState)) (first ts : List Turn) (sh
           let level : height l.history ≡ height (ticks_in_order l.history) = height_of_ticks e a l.history k.legal in
           subst (HaveRoom ticks) is (record { few = r.few; low = subst (λ n. n + ticks ≤ 1000000) level r.low })
 
-      seated_clock : AreClocksOf ticks shared (clocks_of (slice_get ts e.graph.n))
+      seated_clock : AreLedgerClocks ticks shared (held_clocks (slice_get ts e.graph.n))
       seated_clock =
-          let wide : length (clocks_of (slice_get ts e.graph.n)) ≡ length e.graph.arcs = places.clocks in
+          let wide : length (held_clocks (slice_get ts e.graph.n)) ≡ length e.graph.arcs = places.clocks in
           record {
             places = wide ∙ sym many;
             lock = λ a x p lt ix held.
@@ -290,25 +290,25 @@ module _ (job : Job) (ls : List (Option LedgerState)) (first ts : List Turn) (sh
       not_party : (v : ℕ) → v < length ts → v ≢ e.graph.n → v < e.graph.n
       not_party v lt apart = let n = places.actors in omega (arith, lt, n, apart)
 
-      machine_or_clock : (v : ℕ) (m : MachineState) → v < length ts → actor_at ts v ≡ Conforming m → (v ≡ e.graph.n) ⊎ (v ≢ e.graph.n)
-          → IsMachineSeated shared m (passes_of (slice_get ts v))
+      machine_or_clock : (v : ℕ) (m : MachineState) → v < length ts → turn_actor ts v ≡ Conforming m → (v ≡ e.graph.n) ⊎ (v ≢ e.graph.n)
+          → IsMachineSeated shared m (held_passes (slice_get ts v))
       machine_or_clock v m lt is (inl at) =
-          absurd (not_clock m (sym (actors e.graph.n ∙ s.clock) ∙ subst (λ w. actor_at ts w ≡ Conforming m) at is))
+          absurd (not_clock m (sym (actors e.graph.n ∙ s.clock) ∙ subst (λ w. turn_actor ts w ≡ Conforming m) at is))
       machine_or_clock v m lt is (inr apart) = seated_machine v m (not_party v lt apart) is
 
-      planner_or_clock : (v : ℕ) (n : Plan) → v < length ts → actor_at ts v ≡ Planned n → (v ≡ e.graph.n) ⊎ (v ≢ e.graph.n)
-          → IsPlannerSeated holds job shared v n (passes_of (slice_get ts v))
+      planner_or_clock : (v : ℕ) (n : Plan) → v < length ts → turn_actor ts v ≡ Planned n → (v ≡ e.graph.n) ⊎ (v ≢ e.graph.n)
+          → IsPlannerSeated holds job shared v n (held_passes (slice_get ts v))
       planner_or_clock v n lt is (inl at) =
-          absurd (not_planned n (sym (actors e.graph.n ∙ s.clock) ∙ subst (λ w. actor_at ts w ≡ Planned n) at is))
+          absurd (not_planned n (sym (actors e.graph.n ∙ s.clock) ∙ subst (λ w. turn_actor ts w ≡ Planned n) at is))
       planner_or_clock v n lt is (inr apart) = seated_planner v n (not_party v lt apart) is
 
-      clock_or_party : (v : ℕ) → v < length ts → actor_at ts v ≡ Clock → (v ≡ e.graph.n) ⊎ (v ≢ e.graph.n)
-          → AreClocksOf ticks shared (clocks_of (slice_get ts v))
-      clock_or_party v lt is (inl at) = subst (λ w. AreClocksOf ticks shared (clocks_of (slice_get ts w))) (sym at) seated_clock
-      clock_or_party v lt is (inr apart) = absurd (subst (IsActorIn job v) (sym (actors v) ∙ is) (s.actors v (not_party v lt apart)))
+      clock_or_party : (v : ℕ) → v < length ts → turn_actor ts v ≡ Clock → (v ≡ e.graph.n) ⊎ (v ≢ e.graph.n)
+          → AreLedgerClocks ticks shared (held_clocks (slice_get ts v))
+      clock_or_party v lt is (inl at) = subst (λ w. AreLedgerClocks ticks shared (held_clocks (slice_get ts w))) (sym at) seated_clock
+      clock_or_party v lt is (inr apart) = absurd (subst (IsJobActor job v) (sym (actors v) ∙ is) (s.actors v (not_party v lt apart)))
 
-      seated_actor : (v : ℕ) (x : Actor) → v < length ts → actor_at ts v ≡ x
-          → IsActorSeated holds job shared ticks v (passes_of (slice_get ts v)) (clocks_of (slice_get ts v)) x
+      seated_actor : (v : ℕ) (x : Actor) → v < length ts → turn_actor ts v ≡ x
+          → IsActorSeated holds job shared ticks v (held_passes (slice_get ts v)) (held_clocks (slice_get ts v)) x
       seated_actor v (Conforming m) lt is = machine_or_clock v m lt is (same_or_not v e.graph.n)
       seated_actor v (Planned n) lt is = planner_or_clock v n lt is (same_or_not v e.graph.n)
       seated_actor v Manual lt is = tt
@@ -317,4 +317,4 @@ module _ (job : Job) (ls : List (Option LedgerState)) (first ts : List Turn) (sh
       pub seated : (i : ℕ) (t : Turn) → i < length ts → IsSeated holds job shared ticks i (get_or ts i t)
       seated i t lt =
           let there : slice_get ts i ≡ Some (get_or ts i t) = slice_get-get_or ts i t lt in
-          subst (λ o. IsActorSeated holds job shared ticks i (passes_of o) (clocks_of o) (new_actor o)) there (seated_actor i (actor_at ts i) lt refl)
+          subst (λ o. IsActorSeated holds job shared ticks i (held_passes o) (held_clocks o) (new_actor o)) there (seated_actor i (turn_actor ts i) lt refl)

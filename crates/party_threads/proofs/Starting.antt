@@ -27,8 +27,8 @@ use Rattle.swap_world.proofs.Team.{IsOwn, is_own, is_ready, role_each}
 use Rattle.party_threads.specs.declared.turn.Actor.{Actor}
 use Rattle.party_threads.specs.declared.turn.Actor.TheVariants.{Clock}
 use Rattle.party_threads.specs.declared.turn.Turn.{Turn}
-use Rattle.party_threads.specs.Turns.{new_actor, passes_of, clocks_of, actor_at, arc_ledger, IsHome}
-use Rattle.party_threads.specs.Standing.{race_book, notes_in, notes_at, plan_in, plan_at, race_state, IsActorIn, KnowsOwn, Stands}
+use Rattle.party_threads.specs.Turns.{new_actor, held_passes, held_clocks, turn_actor, arc_ledger, IsHome}
+use Rattle.party_threads.specs.Standing.{race_book, actor_notes, turn_notes, actor_plan, turn_plan, race_state, IsJobActor, KnowsOwn, Stands}
 use Rattle.party_threads.specs.FirstTurns.{racing_actor, IsNewTurn, AreNew}
 use Rattle.swap_digraph.proofs.Ranges.{map_more}
 use Rattle.party_threads.proofs.Turning.{get_there}
@@ -50,9 +50,9 @@ one_ledger_more d k ls ls' l so_far is more =
 -- What acts for a party.
 
 pub record Acts (job : Job) (v : ℕ) (x : Actor) : Type 0 where
-  pub is : IsActorIn job v x
-  pub notes : notes_in job.deal x ≡ no_notes job.deal
-  pub plan : plan_in job.deal x ≡ first_plan job.deal (job_role job v)
+  pub is : IsJobActor job v x
+  pub notes : actor_notes job.deal x ≡ no_notes job.deal
+  pub plan : actor_plan job.deal x ≡ first_plan job.deal (job_role job v)
   pub own : KnowsOwn v x (no_histories job.deal)
 
 acts_as : (job : Job) (v : ℕ) (x : Party) → IsOwn job v x → Acts job v (racing_actor x)
@@ -83,33 +83,33 @@ module _ (job : Job) (ts : List Turn) (accepted : IsAccepted job.deal) (seeds : 
   clock_turn : (t : Turn) × (slice_get ts d.graph.n ≡ Some t) × IsNewTurn d Clock t
   clock_turn = let n = new.number in let t = get_there ts d.graph.n (omega (arith, n)) in (t.0, t.1, new.clock t.0 t.1)
 
-  actor_is : (v : ℕ) → v < d.graph.n → actor_at ts v ≡ racing_actor (job_actor job v)
+  actor_is : (v : ℕ) → v < d.graph.n → turn_actor ts v ≡ racing_actor (job_actor job v)
   actor_is v lv = let t = turn_at v lv in ap new_actor t.1 ∙ t.2.actor
 
   pub cast : IsReadyCast (job_cast job)
   cast = is_ready job accepted seeds roles fit
 
-  all_notes : map (notes_at d ts) (range_with_len 0 d.graph.n) ≡ replicate d.graph.n (no_notes d)
+  all_notes : map (turn_notes d ts) (range_with_len 0 d.graph.n) ≡ replicate d.graph.n (no_notes d)
   all_notes =
-      same_lists (map (notes_at d ts) (range_with_len 0 d.graph.n)) (replicate d.graph.n (no_notes d))
-      (length-map-range_with_len (notes_at d ts) 0 d.graph.n ∙ sym (length-replicate d.graph.n (no_notes d)))
-      (λ k x lt. at k x (subst (λ n. k < n) (length-map-range_with_len (notes_at d ts) 0 d.graph.n) lt))
+      same_lists (map (turn_notes d ts) (range_with_len 0 d.graph.n)) (replicate d.graph.n (no_notes d))
+      (length-map-range_with_len (turn_notes d ts) 0 d.graph.n ∙ sym (length-replicate d.graph.n (no_notes d)))
+      (λ k x lt. at k x (subst (λ n. k < n) (length-map-range_with_len (turn_notes d ts) 0 d.graph.n) lt))
     where
-      at : (k : ℕ) (x : Notes) → k < d.graph.n → get_or (map (notes_at d ts) (range_with_len 0 d.graph.n)) k x ≡ get_or (replicate d.graph.n (no_notes d)) k x
+      at : (k : ℕ) (x : Notes) → k < d.graph.n → get_or (map (turn_notes d ts) (range_with_len 0 d.graph.n)) k x ≡ get_or (replicate d.graph.n (no_notes d)) k x
       at k x lt =
-          get_or-map-range_with_len (notes_at d ts) 0 d.graph.n k k x lt (zero-add k)
-          ∙ (ap (notes_in d) (actor_is k lt) ∙ ((acts_at k lt).notes ∙ sym (get_or-replicate d.graph.n k (no_notes d) x lt)))
+          get_or-map-range_with_len (turn_notes d ts) 0 d.graph.n k k x lt (zero-add k)
+          ∙ (ap (actor_notes d) (actor_is k lt) ∙ ((acts_at k lt).notes ∙ sym (get_or-replicate d.graph.n k (no_notes d) x lt)))
 
-  all_plans : map (plan_at d ts) (range_with_len 0 d.graph.n) ≡ map (first_plan d) job.roles
+  all_plans : map (turn_plan d ts) (range_with_len 0 d.graph.n) ≡ map (first_plan d) job.roles
   all_plans =
-      same_lists (map (plan_at d ts) (range_with_len 0 d.graph.n)) (map (first_plan d) job.roles)
-      (length-map-range_with_len (plan_at d ts) 0 d.graph.n ∙ (sym (role_each job seeds roles) ∙ sym (length-map job.roles (first_plan d))))
-      (λ k x lt. at k x (subst (λ n. k < n) (length-map-range_with_len (plan_at d ts) 0 d.graph.n) lt))
+      same_lists (map (turn_plan d ts) (range_with_len 0 d.graph.n)) (map (first_plan d) job.roles)
+      (length-map-range_with_len (turn_plan d ts) 0 d.graph.n ∙ (sym (role_each job seeds roles) ∙ sym (length-map job.roles (first_plan d))))
+      (λ k x lt. at k x (subst (λ n. k < n) (length-map-range_with_len (turn_plan d ts) 0 d.graph.n) lt))
     where
-      at : (k : ℕ) (x : Plan) → k < d.graph.n → get_or (map (plan_at d ts) (range_with_len 0 d.graph.n)) k x ≡ get_or (map (first_plan d) job.roles) k x
+      at : (k : ℕ) (x : Plan) → k < d.graph.n → get_or (map (turn_plan d ts) (range_with_len 0 d.graph.n)) k x ≡ get_or (map (first_plan d) job.roles) k x
       at k x lt =
-          get_or-map-range_with_len (plan_at d ts) 0 d.graph.n k k x lt (zero-add k)
-          ∙ (ap (plan_in d) (actor_is k lt) ∙ ((acts_at k lt).plan
+          get_or-map-range_with_len (turn_plan d ts) 0 d.graph.n k k x lt (zero-add k)
+          ∙ (ap (actor_plan d) (actor_is k lt) ∙ ((acts_at k lt).plan
           ∙ sym (get_or-map (first_plan d) job.roles k kinds.Manual x (subst (λ n. k < n) (sym (role_each job seeds roles)) lt))))
 
   abbrev with_parts : Histories → List Notes → List Plan → State
@@ -136,16 +136,16 @@ module _ (job : Job) (ts : List Turn) (accepted : IsAccepted job.deal) (seeds : 
     };
     places = record {
       actors = new.number;
-      passes = λ v lv. let t = turn_at v lv in ap (λ o. length (passes_of o)) t.1 ∙ (ap length t.2.passes ∙ length-replicate (length d.graph.arcs) None);
-      clocks = let t = clock_turn in ap (λ o. length (clocks_of o)) t.1 ∙ (ap length t.2.clocks ∙ length-replicate (length d.graph.arcs) None);
+      passes = λ v lv. let t = turn_at v lv in ap (λ o. length (held_passes o)) t.1 ∙ (ap length t.2.passes ∙ length-replicate (length d.graph.arcs) None);
+      clocks = let t = clock_turn in ap (λ o. length (held_clocks o)) t.1 ∙ (ap length t.2.clocks ∙ length-replicate (length d.graph.arcs) None);
     };
     free = λ a lt. record {
-      passes = λ v lv. let t = turn_at v lv in ap (λ o. slice_index_or (passes_of o) a None) t.1 ∙
+      passes = λ v lv. let t = turn_at v lv in ap (λ o. slice_index_or (held_passes o) a None) t.1 ∙
           (ap (λ ps. slice_index_or ps a None) t.2.passes ∙ replicated (length d.graph.arcs) a None);
-      clock = let t = clock_turn in ap (λ o. slice_index_or (clocks_of o) a None) t.1 ∙
+      clock = let t = clock_turn in ap (λ o. slice_index_or (held_clocks o) a None) t.1 ∙
           (ap (λ ps. slice_index_or ps a None) t.2.clocks ∙ replicated (length d.graph.arcs) a None);
     };
-    actors = λ v lv. subst (IsActorIn job v) (sym (actor_is v lv)) (acts_at v lv).is;
+    actors = λ v lv. subst (IsJobActor job v) (sym (actor_is v lv)) (acts_at v lv).is;
     clock = let t = clock_turn in ap new_actor t.1 ∙ t.2.actor;
     good = subst (IsGood (job_cast job)) (sym first_state) (start_is_good (job_cast job) cast);
     own = λ v lv. subst (λ (w : Actor × Histories). KnowsOwn v w.0 w.1) (λ i. (sym (actor_is v lv) i, sym first_book i)) (acts_at v lv).own;

@@ -1,7 +1,7 @@
 -- Turns by their numbers: what each took and did.
 use Rattle.std.proofs.Common.{◌≡◌, ℕ, zero, suc, ◌<◌, false, Bool, List, [], ◌∷◌, length, slice_get, get_or, Option, Some, refl, sym, ap, ◌∙◌, subst, arith}
 use Rattle.std.proofs.Common.{cond, filter, inl, inr}
-use Rattle.swap_base.specs.Lists.{IsIn}
+use Rattle.swap_base.specs.Lists.{IsElement}
 use Rattle.std.proofs.lemmas.Option.{slice_get-get_or}
 use Rattle.swap_digraph.specs.declared.deal.Deal.{Deal}
 use Rattle.swap_job.specs.declared.job.Job.{Job}
@@ -10,7 +10,7 @@ use Rattle.party_threads.specs.declared.turn.Turn.{Turn}
 use Rattle.party_threads.specs.Later.{HaveAdvanced}
 use Rattle.party_threads.specs.Ticks.{HaveClocksAdvanced}
 use Rattle.party_threads.specs.Took.{IsSameActor, Did, Took}
-use Rattle.party_threads.specs.Turns.{new_actor, passes_of, clocks_of, HavePlaces, IsSameShape}
+use Rattle.party_threads.specs.Turns.{new_actor, held_passes, held_clocks, HavePlaces, IsSameShape}
 
 pub get_there : {A : Type 0} (xs : List A) (k : ℕ) → k < length xs → (x : A) × (slice_get xs k ≡ Some x)
 get_there [] k lt = absurd (omega arith)
@@ -18,7 +18,7 @@ get_there (x ∷ xs) zero lt = (x, refl)
 get_there (x ∷ xs) (suc k) lt = get_there xs k (omega arith)
 
 -- nothing passes a test that every member fails
-pub none_pass : {A : Type 0} (p : A → Bool) (xs : List A) → ((x : A) → IsIn x xs → p x ≡ false) → filter p xs ≡ []
+pub none_pass : {A : Type 0} (p : A → Bool) (xs : List A) → ((x : A) → IsElement x xs → p x ≡ false) → filter p xs ≡ []
 none_pass p [] f = refl
 none_pass {A} p (x ∷ xs) f =
     ap (λ c. cond {A = List A} c (x ∷ filter p xs) (filter p xs)) (f x (inl refl)) ∙ none_pass p xs (λ y i. f y (inr i))
@@ -26,13 +26,13 @@ none_pass {A} p (x ∷ xs) f =
 -- What the turn of an actor took and did, whether memory was enough or not.
 pub record HasTaken (o p : Option Turn) : Type 0 where
   pub actor : IsSameActor (new_actor o) (new_actor p)
-  pub passes : HaveAdvanced (passes_of o) (passes_of p)
-  pub places : length (passes_of p) ≡ length (passes_of o)
-  pub clocks : HaveClocksAdvanced (clocks_of o) (clocks_of p)
-  pub clock_places : length (clocks_of p) ≡ length (clocks_of o)
+  pub passes : HaveAdvanced (held_passes o) (held_passes p)
+  pub places : length (held_passes p) ≡ length (held_passes o)
+  pub clocks : HaveClocksAdvanced (held_clocks o) (held_clocks p)
+  pub clock_places : length (held_clocks p) ≡ length (held_clocks o)
 
 abbrev pub HasDone : MayGive → Job → ℕ → ℕ → Option Turn → Option Turn → Type 0
-HasDone gives job ticks v o p = Did gives job ticks v (passes_of o) (passes_of p) (clocks_of o) (clocks_of p) (new_actor o) (new_actor p)
+HasDone gives job ticks v o p = Did gives job ticks v (held_passes o) (held_passes p) (held_clocks o) (held_clocks p) (new_actor o) (new_actor p)
 
 module _ (gives : MayGive) (job : Job) (ticks : ℕ) (ts us : List Turn) (same : length us ≡ length ts)
     (took : (i : ℕ) (t : Turn) → i < length ts → Took gives job ticks i (get_or ts i t) (get_or us i t)) where

@@ -20,8 +20,8 @@ use Rattle.swap_run.specs.Run.{Cast, State, Plan, party_plan, party_role, first_
 use Rattle.swap_run.specs.Laws.{IsReadyCast, IsGood}
 use Rattle.swap_run.proofs.Good.{empty_at}
 use Rattle.swap_world.specs.Gone.{MayGive}
-use Rattle.party_threads.specs.Played.{IsAnswered, calls_by, answer_on}
-use Rattle.party_threads.specs.Views.{answers_on, made_calls, moves_at, AreAnswered, PlaysByViews, HasPlayed}
+use Rattle.party_threads.specs.Played.{IsAnswered, sender_calls, arc_answer}
+use Rattle.party_threads.specs.Views.{arc_answers, made_calls, moves_after_views, AreAnswered, PlaysByViews, HasPlayed}
 
 -- cutting twice at one place is cutting once
 take_more : {A : Type 0} (n : ℕ) (xs ys : List A) → take n (take n xs ++ ys) ≡ take n (xs ++ ys)
@@ -54,9 +54,9 @@ module _ (gives : MayGive) (c : Cast) (ticks rounds : ℕ) (states : ℕ → Sta
     shown : IsView c.deal v view
     seen : (a : ℕ) → a < length c.deal.graph.arcs → is_near c.deal v a ≡ true → Begins (history (states r).book a) (history view a)
     begins : (a : ℕ) → Begins (history view a) (history (states (suc r)).book a)
-    own : (a : ℕ) → a < length c.deal.graph.arcs → calls_by v (history view a) ≡ calls_by v (history (states r).book a)
+    own : (a : ℕ) → a < length c.deal.graph.arcs → sender_calls v (history view a) ≡ sender_calls v (history (states r).book a)
     called : (a : ℕ) → a < length c.deal.graph.arcs
-        → calls_by v (history (states (suc r)).book a) ≡ take 32 (calls_by v (history (states r).book a) ++ answer_on a answer)
+        → sender_calls v (history (states (suc r)).book a) ≡ take 32 (sender_calls v (history (states r).book a) ++ arc_answer a answer)
     answered : IsAnswered gives c.deal c.seeds v view answer (party_plan (states r) v) (party_plan (states (suc r)) v) (party_role c v)
     may : MayAnswer c.deal v answer
     turns : (party_plan (states (suc r)) v).turns ≡ (party_plan (states r) v).turns + 1
@@ -97,12 +97,12 @@ module _ (gives : MayGive) (c : Cast) (ticks rounds : ℕ) (states : ℕ → Sta
       let e : r + m ≡ rounds = omega (arith, l) in
       subst (λ n. Begins (history (states r).book a) (history (states n).book a)) e (grown r m a (omega (arith, e)))
 
-  called_so_far : (r a : ℕ) → r ≤ rounds → a < length c.deal.graph.arcs → calls_by v (history (states r).book a) ≡ made_calls a answers r
-  called_so_far zero a l la = ap (λ (s : State). calls_by v (history s.book a)) first ∙ ap (calls_by v) (empty_at c.deal a)
+  called_so_far : (r a : ℕ) → r ≤ rounds → a < length c.deal.graph.arcs → sender_calls v (history (states r).book a) ≡ made_calls a answers r
+  called_so_far zero a l la = ap (λ (s : State). sender_calls v (history s.book a)) first ∙ ap (sender_calls v) (empty_at c.deal a)
   called_so_far (suc r) a l la =
       (is_turn r (omega (arith, l))).called a la
-      ∙ (ap (λ cs. take 32 (cs ++ answer_on a (answers r))) (called_so_far r a (omega (arith, l)) la)
-      ∙ take_more 32 (answers_on a answers r) (answer_on a (answers r)))
+      ∙ (ap (λ cs. take 32 (cs ++ arc_answer a (answers r))) (called_so_far r a (omega (arith, l)) la)
+      ∙ take_more 32 (arc_answers a answers r) (arc_answer a (answers r)))
 
   turns_so_far : (r : ℕ) → r ≤ rounds → (party_plan (states 0) v).turns ≡ 0 → (party_plan (states r) v).turns ≡ r
   turns_so_far zero l z = z
@@ -111,7 +111,7 @@ module _ (gives : MayGive) (c : Cast) (ticks rounds : ℕ) (states : ℕ → Sta
       (is_turn r (omega (arith, l))).turns ∙ (ap (λ k. k + 1) n ∙ next r)
 
   moves_so_far : (r : ℕ) (moves : List Move) → r ≤ rounds → party_role c v ≡ Script moves → (party_plan (states 0) v).moves ≡ moves
-      → (party_plan (states r) v).moves ≡ moves_at views moves r
+      → (party_plan (states r) v).moves ≡ moves_after_views views moves r
   moves_so_far zero moves l e z = z
   moves_so_far (suc r) moves l e z =
       let t = is_turn r (omega (arith, l)) in

@@ -2,7 +2,7 @@
 use Rattle.std.specs.Prelude.{◌≡◌, ◌<◌, ℕ, List, length, set}
 use Rattle.swap_digraph.specs.Deal.{party}
 use Rattle.ledger_core.specs.declared.entry.Entry.{Entry}
-use Rattle.party_wallet.specs.Value.{signed_in}
+use Rattle.party_wallet.specs.Value.{signed_hashkey}
 use Rattle.party_machine.specs.Machine.{MachineState}
 use Rattle.party_machine.specs.Wallet.{seed_wallet}
 use Rattle.swap_rules.specs.Accepted.{IsAccepted}
@@ -14,14 +14,15 @@ abbrev pub watcher : MachineState → Watcher
 watcher m = record { deal = m.deal; me = m.me; known = m.known }
 
 -- the machine, once it knows the history h of arc a
-abbrev pub machine_with : MachineState → ℕ → List Entry → MachineState
-machine_with m a h = record { deal = m.deal; me = m.me; seed = m.seed; known = set m.known a h; signed = m.signed }
+abbrev pub informed_machine : MachineState → ℕ → List Entry → MachineState
+informed_machine m a h = record { deal = m.deal; me = m.me; seed = m.seed; known = set m.known a h; signed = m.signed }
 
--- The machine can act: its deal is accepted, its wallet is good, and its calls so far kept its rules.
+-- The machine can act: its deal is accepted, its wallet is good, and its calls so far kept its
+-- rules.
 pub record IsAble (m : MachineState) : Type 0 where
   pub accepted : IsAccepted m.deal
   pub wallet : IsWallet m.deal m.me (seed_wallet m.seed m.me m.deal)
   pub party : m.me < m.deal.graph.n
   pub arcs : length m.known ≡ length m.deal.graph.arcs
   pub signs : length m.signed ≡ length m.deal.leaders
-  pub sound : IsSound m.deal m.known (signed_in m.signed) m.me
+  pub sound : IsSound m.deal m.known (signed_hashkey m.signed) m.me

@@ -11,11 +11,11 @@ abbrev pub IsClockLater : ClockState → ClockState → Type 0
 IsClockLater p q = (more : List Entry) × (q ≡ clock_with_seen p more)
 
 -- the pass at arc a, if any
-abbrev pub pass_in : List (Option PassState) → ℕ → Option PassState
-pass_in ps a = slice_index_or ps a None
+abbrev pub arc_pass : List (Option PassState) → ℕ → Option PassState
+arc_pass ps a = slice_index_or ps a None
 
-abbrev pub clock_in : List (Option ClockState) → ℕ → Option ClockState
-clock_in ps a = slice_index_or ps a None
+abbrev pub arc_clock : List (Option ClockState) → ℕ → Option ClockState
+arc_clock ps a = slice_index_or ps a None
 
 -- the pass has gone on, or there is none
 abbrev pub Advanced : Option PassState → Option PassState → Type 0
@@ -23,4 +23,4 @@ Advanced None q = q ≡ None
 Advanced (Some p) q = (r : PassState) × (q ≡ Some r) × IsLater p r
 
 abbrev pub HaveAdvanced : List (Option PassState) → List (Option PassState) → Type 0
-HaveAdvanced ps qs = (a : ℕ) → Advanced (pass_in ps a) (pass_in qs a)
+HaveAdvanced ps qs = (a : ℕ) → Advanced (arc_pass ps a) (arc_pass qs a)

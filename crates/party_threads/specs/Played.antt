@@ -1,4 +1,5 @@
--- What a party that follows a script or a strategy does in a turn: it is shown a view, and makes the call that answers the view, if any.
+-- What a party that follows a script or a strategy does in a turn: it is shown a view, and makes
+-- the call that answers the view, if any.
 use Rattle.std.specs.Prelude.{◌≡◌, ℕ, ◌+◌, ◌<◌, ◌==◌, List, [], ◌∷◌, ◌++◌, length, take, Option, Some, None, if◌then◌else◌}
 use mathlib.Core.List.{IsPrefix}
 use Rattle.swap_digraph.specs.declared.deal.Deal.{Deal}
@@ -15,7 +16,7 @@ use Rattle.swap_rules.specs.Party.{pick_call}
 use Rattle.swap_rules.specs.Machine.{Begins}
 use Rattle.swap_run.specs.Run.{Plan}
 use Rattle.swap_world.specs.Gone.{MayGive}
-use Rattle.party_threads.specs.Later.{pass_in}
+use Rattle.party_threads.specs.Later.{arc_pass}
 use Rattle.party_threads.specs.Tracks.{Watcher}
 
 -- party v of the deal, with what it knows by its plan
@@ -42,14 +43,14 @@ with_call None cs = cs
 with_call (Some c) cs = c ∷ cs
 
 -- the calls of v, oldest first
-abbrev pub calls_by : ℕ → List Entry → List Call
-calls_by v [] = []
-calls_by v (e ∷ es) = with_call (pick_call v e) (calls_by v es)
+abbrev pub sender_calls : ℕ → List Entry → List Call
+sender_calls v [] = []
+sender_calls v (e ∷ es) = with_call (pick_call v e) (sender_calls v es)
 
 -- the call of an answer, where it stands on arc a
-abbrev pub answer_on : ℕ → Option (ℕ × Call) → List Call
-answer_on a None = []
-answer_on a (Some x) = if x.0 == a then x.1 ∷ [] else []
+abbrev pub arc_answer : ℕ → Option (ℕ × Call) → List Call
+arc_answer a None = []
+arc_answer a (Some x) = if x.0 == a then x.1 ∷ [] else []
 
 -- the answer to a view, by the plan before it, and the plan after it
 abbrev pub IsAnswered : MayGive → Deal → Seeds → ℕ → Histories → Option (ℕ × Call) → Plan → Plan → Role → Type 0
@@ -60,7 +61,7 @@ IsAnswered gives d seeds v view answer n m Manual = Unit {0}
 
 -- of the answer the call is made, unless the ledger had 32 of the party
 abbrev pub HasMadeCall : Deal → ℕ → Option (ℕ × Call) → Histories → Histories → Type 0
-HasMadeCall d v answer old new = (a : ℕ) → a < length d.graph.arcs → calls_by v (history new a) ≡ take 32 (calls_by v (history old a) ++ answer_on a answer)
+HasMadeCall d v answer old new = (a : ℕ) → a < length d.graph.arcs → sender_calls v (history new a) ≡ take 32 (sender_calls v (history old a) ++ arc_answer a answer)
 
 -- The party with the plan n was shown a view. The view has all that was shared, and no call of the
 -- party that it didn't know. The party made the call of the answer, if any, unless the ledger had
@@ -70,10 +71,10 @@ pub record HasPlayed (gives : MayGive) (d : Deal) (seeds : Seeds) (role : Role) 
   pub view : Histories
   pub answer : Option (ℕ × Call)
   pub shown : IsView d v view
-  pub whole : (a : ℕ) (p : PassState) → a < length ps → pass_in ps a ≡ Some p → IsPrefix p.shared (history view a)
+  pub whole : (a : ℕ) (p : PassState) → a < length ps → arc_pass ps a ≡ Some p → IsPrefix p.shared (history view a)
   pub grows : HaveGrown n.known view
   pub begins : HaveGrown view m.known
-  pub own : (a : ℕ) → calls_by v (history view a) ≡ calls_by v (history n.known a)
+  pub own : (a : ℕ) → sender_calls v (history view a) ≡ sender_calls v (history n.known a)
   pub called : HasMadeCall d v answer n.known m.known
   pub answered : IsAnswered gives d seeds v view answer n m role
   pub may : MayAnswer d v answer

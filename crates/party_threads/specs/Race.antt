@@ -1,7 +1,7 @@
 -- Races: rounds in which every party and the clock have their turns at once.
 use Rattle.std.specs.Prelude.{◌≡◌, ◌↔◌, ℕ, zero, suc, ◌+◌, ◌*◌, ◌/◌, ◌<◌, ◌≤◌, true, false, List, [], ◌∷◌, ◌++◌, map, Option, Some, None}
 use Rattle.std.specs.List.{range_with_len}
-use Rattle.swap_base.specs.Lists.{IsIn}
+use Rattle.swap_base.specs.Lists.{IsElement}
 use Rattle.swap_digraph.specs.Graph.{arcs}
 use Rattle.swap_digraph.specs.declared.deal.Deal.{Deal}
 use Rattle.hashkey_path.specs.declared.hashkey.Hashkey.{Hashkey}
@@ -17,11 +17,11 @@ use Rattle.swap_rules.specs.Party.{first_key}
 use Rattle.swap_rules.specs.Due.{Wallet, due}
 use Rattle.swap_rules.specs.declared.finding.Rule.{Rule}
 use Rattle.swap_rules.specs.Conduct.{IsConducted}
-use Rattle.swap_rules.specs.Late.{ref_of}
+use Rattle.swap_rules.specs.Late.{reference_height}
 use Rattle.swap_rules.specs.Findings.{deal_rules}
 use Rattle.swap_rules.specs.Machine.{Begins, IsSound}
 use Rattle.swap_rules.specs.Laws.{IsOnTime, IsDealt}
-use Rattle.swap_rules.specs.Rounds.{IsNear, IsDoneBy, AreRaceBooks}
+use Rattle.swap_rules.specs.Rounds.{IsNear, IsDoneInTime, AreRaceBooks}
 use Rattle.swap_run.specs.Run.{Cast, State, conforms, party_role, is_planned, state_notes, next_action, start}
 use Rattle.swap_run.specs.Laws.{IsReadyCast, IsGood}
 use Rattle.swap_run.specs.Fair.{the_horizon}
@@ -33,13 +33,14 @@ use Rattle.party_threads.specs.Views.{HasPlayed, PlaysByViews}
 abbrev pub needed_rounds : Deal → ℕ → ℕ
 needed_rounds d ticks = the_horizon d / ticks + 1
 
--- What a round makes of the book and of what each conforming party has noted, whatever the order of the threads: every conforming party ends its turn with
--- nothing due, past all that stood as the round began; a party that follows a script or a strategy makes at most the one call that answers its view; nobody
--- else makes a call; and each ledger has one more tick.
+-- What a round makes of the book and of what each conforming party has noted, whatever the order of
+-- the threads: every conforming party ends its turn with nothing due, past all that stood as the
+-- round began; a party that follows a script or a strategy makes at most the one call that answers
+-- its view; nobody else makes a call; and each ledger has one more tick.
 pub record IsRound (gives : MayGive) (c : Cast) (ticks : ℕ) (s t : State) : Type 0 where
   pub good : IsGood c t
   pub grows : (a : ℕ) → Begins (history s.book a) (history t.book a)
-  pub ticked : (a : ℕ) → IsIn a (arcs c.deal.graph)
+  pub ticked : (a : ℕ) → IsElement a (arcs c.deal.graph)
       → ticks_in_order (history t.book a) ≡ ticks_in_order (history s.book a) ++ tick_entry ticks (height (history s.book a) + ticks) Accepted ∷ []
   pub seen : (v a : ℕ) → v < c.deal.graph.n → conforms c v ≡ true → IsNear c.deal v a → Begins (history s.book a) (history (state_notes t v).known a)
   pub rests : (v : ℕ) → v < c.deal.graph.n → conforms c v ≡ true → next_action c t v ≡ None
@@ -58,8 +59,8 @@ pub record IsRaced (gives : MayGive) (c : Cast) (ticks rounds : ℕ) (t : State)
 abbrev pub round_books : (ℕ → State) → ℕ → List Histories
 round_books states rounds = map (λ r. (states r).book) (range_with_len 0 (rounds + 1))
 
--- The book came of rounds from the start, the fewest that pass the horizon. The books at their ends are, for each conforming party, such a list as the law
--- speaks of by which races are in time.
+-- The book came of rounds from the start, the fewest that pass the horizon. The books at their ends
+-- are, for each conforming party, such a list as the law speaks of by which races are in time.
 pub record IsOfRounds (gives : MayGive) (c : Cast) (ticks : ℕ) (b : Histories) : Type 0 where
   pub end : State
   pub raced : IsRaced gives c ticks (needed_rounds c.deal ticks) end
@@ -80,16 +81,18 @@ pub record IsRaceBook (gives : MayGive) (c : Cast) (ticks : ℕ) (b : Histories)
   pub legal : IsLegalBook c.deal b
   -- each call holds digests of 32 bytes and signatures of 67 digests, whoever made it
   pub typed : IsTypedBook b
-  pub ticked : (a : ℕ) → IsIn a (arcs c.deal.graph) → ticks_in_order (history b a) ≡ ticks_of_rounds ticks (needed_rounds c.deal ticks)
+  pub ticked : (a : ℕ) → IsElement a (arcs c.deal.graph) → ticks_in_order (history b a) ≡ ticks_of_rounds ticks (needed_rounds c.deal ticks)
   pub ended : IsEnded c.deal b
   pub conducted : (v : ℕ) → v < c.deal.graph.n → conforms c v ≡ true → IsConducted c.deal b v
-  -- a party that follows a script or a strategy makes just the calls that answer its round views, and nobody else makes a call
+  -- a party that follows a script or a strategy makes just the calls that answer its round views,
+  -- and nobody else makes a call
   pub played : (v : ℕ) → v < c.deal.graph.n → conforms c v ≡ false → is_planned (party_role c v) ≡ true
       → PlaysByViews gives c ticks (needed_rounds c.deal ticks) b v
   pub others : (v a : ℕ) → v < c.deal.graph.n → conforms c v ≡ false → is_planned (party_role c v) ≡ false → party_made v (history b a) ≡ []
-  -- what is enabled for a conforming party is done within two rounds' ticks, or its ledger isn't past that
-  pub in_time : (v : ℕ) (rule : Rule) (a ref : ℕ) → v < c.deal.graph.n → conforms c v ≡ true → IsIn rule (deal_rules c.deal) → IsIn a (arcs c.deal.graph)
-      → ref_of c.deal b v rule a ≡ Some ref → IsDoneBy c.deal b v rule a (ref + 2 * ticks)
+  -- what is enabled for a conforming party is done within two rounds' ticks, or its ledger isn't
+  -- past that
+  pub in_time : (v : ℕ) (rule : Rule) (a ref : ℕ) → v < c.deal.graph.n → conforms c v ≡ true → IsElement rule (deal_rules c.deal) → IsElement a (arcs c.deal.graph)
+      → reference_height c.deal b v rule a ≡ Some ref → IsDoneInTime c.deal b v rule a (ref + 2 * ticks)
   -- so that nobody conforming is late where two ticks fit in delta
   pub on_time : 2 * ticks ≤ c.deal.delta → (v : ℕ) → v < c.deal.graph.n → conforms c v ≡ true → IsOnTime c.deal b v
   -- and where all conform besides, nothing is found and everything moves

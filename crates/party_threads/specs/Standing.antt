@@ -18,50 +18,50 @@ use Rattle.swap_world.specs.Cast.{job_cast}
 use Rattle.party_threads.specs.declared.turn.Actor.{Actor}
 use Rattle.party_threads.specs.declared.turn.Actor.TheVariants.{Conforming, Planned, Manual, Clock}
 use Rattle.party_threads.specs.declared.turn.Turn.{Turn}
-use Rattle.party_threads.specs.Turns.{actor_at, AreHome, HavePlaces, AreFree}
+use Rattle.party_threads.specs.Turns.{turn_actor, AreHome, HavePlaces, AreFree}
 
-abbrev pub history_in : Option LedgerState → List Entry
-history_in (Some l) = l.history
-history_in None = []
+abbrev pub home_history : Option LedgerState → List Entry
+home_history (Some l) = l.history
+home_history None = []
 
 abbrev pub race_book : List (Option LedgerState) → Histories
-race_book ls = map history_in ls
+race_book ls = map home_history ls
 
 -- what the party has noted, where it conforms
-abbrev pub notes_in : Deal → Actor → Notes
-notes_in d (Conforming m) = record { known = m.known; signed = m.signed }
-notes_in d _ = no_notes d
+abbrev pub actor_notes : Deal → Actor → Notes
+actor_notes d (Conforming m) = record { known = m.known; signed = m.signed }
+actor_notes d _ = no_notes d
 
-abbrev pub notes_at : Deal → List Turn → ℕ → Notes
-notes_at d ts v = notes_in d (actor_at ts v)
+abbrev pub turn_notes : Deal → List Turn → ℕ → Notes
+turn_notes d ts v = actor_notes d (turn_actor ts v)
 
 -- what the party plans, where it follows a script or a strategy
-abbrev pub plan_in : Deal → Actor → Plan
-plan_in d (Planned n) = n
-plan_in d _ = first_plan d kinds.Manual
+abbrev pub actor_plan : Deal → Actor → Plan
+actor_plan d (Planned n) = n
+actor_plan d _ = first_plan d kinds.Manual
 
-abbrev pub plan_at : Deal → List Turn → ℕ → Plan
-plan_at d ts v = plan_in d (actor_at ts v)
+abbrev pub turn_plan : Deal → List Turn → ℕ → Plan
+turn_plan d ts v = actor_plan d (turn_actor ts v)
 
 abbrev pub race_state : Job → List (Option LedgerState) → List Turn → State
 race_state job ls ts = record {
   book = race_book ls;
-  notes = map (notes_at job.deal ts) (range_with_len 0 job.deal.graph.n);
-  plans = map (plan_at job.deal ts) (range_with_len 0 job.deal.graph.n);
+  notes = map (turn_notes job.deal ts) (range_with_len 0 job.deal.graph.n);
+  plans = map (turn_plan job.deal ts) (range_with_len 0 job.deal.graph.n);
   asked = [];
 }
 
 -- The actor is the one of party v of the deal. The party conforms or not, as `conforms` tells, and
 -- has this seed and this role.
-abbrev pub IsActorOf : Deal → Bool → Option (List ℕ) → Role → ℕ → Actor → Type 0
-IsActorOf d conforms seed role v (Conforming m) = (conforms ≡ true) × (m.deal ≡ d) × (m.me ≡ v) × (seed ≡ Some m.seed)
-IsActorOf d conforms seed role v (Planned n) = (conforms ≡ false) × (is_planned role ≡ true)
-IsActorOf d conforms seed role v Manual = (conforms ≡ false) × (is_planned role ≡ false)
-IsActorOf d conforms seed role v Clock = ⊥
+abbrev pub IsPartyActor : Deal → Bool → Option (List ℕ) → Role → ℕ → Actor → Type 0
+IsPartyActor d conforms seed role v (Conforming m) = (conforms ≡ true) × (m.deal ≡ d) × (m.me ≡ v) × (seed ≡ Some m.seed)
+IsPartyActor d conforms seed role v (Planned n) = (conforms ≡ false) × (is_planned role ≡ true)
+IsPartyActor d conforms seed role v Manual = (conforms ≡ false) × (is_planned role ≡ false)
+IsPartyActor d conforms seed role v Clock = ⊥
 
 -- The actor of party v of the job.
-abbrev pub IsActorIn : Job → ℕ → Actor → Type 0
-IsActorIn job v x = IsActorOf job.deal (slice_index_or job.conforming v false) (slice_index_or job.seeds v None) (job_role job v) v x
+abbrev pub IsJobActor : Job → ℕ → Actor → Type 0
+IsJobActor job v x = IsPartyActor job.deal (slice_index_or job.conforming v false) (slice_index_or job.seeds v None) (job_role job v) v x
 
 -- what the actor v plans by holds all its calls
 abbrev pub KnowsOwn : ℕ → Actor → Histories → Type 0
@@ -74,10 +74,10 @@ pub record Stands (job : Job) (ls : List (Option LedgerState)) (ts : List Turn) 
   pub home : AreHome job.deal ls
   pub places : HavePlaces job.deal ts
   pub free : AreFree job.deal ts
-  pub actors : (v : ℕ) → v < job.deal.graph.n → IsActorIn job v (actor_at ts v)
-  pub clock : actor_at ts job.deal.graph.n ≡ Clock
+  pub actors : (v : ℕ) → v < job.deal.graph.n → IsJobActor job v (turn_actor ts v)
+  pub clock : turn_actor ts job.deal.graph.n ≡ Clock
   pub good : IsGood (job_cast job) (race_state job ls ts)
-  pub own : (v : ℕ) → v < job.deal.graph.n → KnowsOwn v (actor_at ts v) (race_book ls)
+  pub own : (v : ℕ) → v < job.deal.graph.n → KnowsOwn v (turn_actor ts v) (race_book ls)
 
 -- The history of arc a takes a further tick.
 pub record HasRoom (ticks : ℕ) (h : List Entry) : Type 0 where

@@ -12,10 +12,10 @@ use Rattle.swap_world.specs.Acting.{IsSameOwner}
 use Rattle.party_threads.specs.declared.turn.Actor.{Actor}
 use Rattle.party_threads.specs.declared.turn.Actor.TheVariants.{Conforming, Planned, Manual, Clock}
 use Rattle.party_threads.specs.declared.turn.Turn.{Turn}
-use Rattle.party_threads.specs.Later.{pass_in, HaveAdvanced}
+use Rattle.party_threads.specs.Later.{arc_pass, HaveAdvanced}
 use Rattle.party_threads.specs.Tracks.{Tracks, HasItsPasses, HaveSeenAll, IsSameElsewhere}
 use Rattle.party_threads.specs.Able.{watcher, IsAble}
-use Rattle.party_threads.specs.Ticks.{AreClocksOf, HaveClocksAdvanced, HaveTicked}
+use Rattle.party_threads.specs.Ticks.{AreLedgerClocks, HaveClocksAdvanced, HaveTicked}
 use Rattle.party_threads.specs.Played.{party_planner, HasPlayed}
 
 -- A machine can act, and knows what its passes have seen.
@@ -38,7 +38,7 @@ abbrev pub IsActorSeated : (List ℕ → Bool) → Job → List SharedState → 
 IsActorSeated holds job ledgers ticks v ps cs (Conforming m) = IsMachineSeated ledgers m ps
 IsActorSeated holds job ledgers ticks v ps cs (Planned n) = IsPlannerSeated holds job ledgers v n ps
 IsActorSeated holds job ledgers ticks v ps cs Manual = Unit {0}
-IsActorSeated holds job ledgers ticks v ps cs Clock = AreClocksOf ticks ledgers cs
+IsActorSeated holds job ledgers ticks v ps cs Clock = AreLedgerClocks ticks ledgers cs
 
 -- the actor with the number v has its passes
 abbrev pub IsSeated : (List ℕ → Bool) → Job → List SharedState → ℕ → ℕ → Turn → Type 0
@@ -60,7 +60,7 @@ IsSameActor Clock y = y ≡ Clock
 -- A conforming party knows all that was shared with it, and its own calls, and has nothing due.
 pub record HasActed (m : MachineState) (old : List (Option PassState)) (n : MachineState) (new : List (Option PassState)) : Type 0 where
   pub able : IsAble n
-  pub seen : (a : ℕ) (p : PassState) → a < length new → pass_in new a ≡ Some p → p.seen ≡ history n.known a
+  pub seen : (a : ℕ) (p : PassState) → a < length new → arc_pass new a ≡ Some p → p.seen ≡ history n.known a
   pub whole : HaveSeenAll new
   pub rests : next_due n ≡ None
   pub elsewhere : IsSameElsewhere old m.known n.known
@@ -69,7 +69,7 @@ pub record HasActed (m : MachineState) (old : List (Option PassState)) (n : Mach
 -- and knows what its passes have seen.
 pub record HasPlanned (gives : MayGive) (job : Job) (v : ℕ) (n : Plan) (old : List (Option PassState)) (m : Plan) (new : List (Option PassState)) : Type 0 where
   pub shown : IsShown job.deal job.seeds v m
-  pub seen : (a : ℕ) (p : PassState) → a < length new → pass_in new a ≡ Some p → p.seen ≡ history m.known a
+  pub seen : (a : ℕ) (p : PassState) → a < length new → arc_pass new a ≡ Some p → p.seen ≡ history m.known a
   pub played : HasPlayed gives job.deal job.seeds (job_role job v) v old n m
 
 -- what an actor did in its turn, by its passes before and after it
@@ -85,14 +85,15 @@ Did gives job ticks v ps qs cs ds (Planned n) Clock = ⊥
 Did gives job ticks v ps qs cs ds Manual y = qs ≡ ps
 Did gives job ticks v ps qs cs ds Clock y = HaveTicked ticks cs ds
 
-abbrev pub DidIn : MayGive → Job → ℕ → ℕ → Turn → Turn → Type 0
-DidIn gives job ticks v old new = Did gives job ticks v old.passes.items new.passes.items old.clocks.items new.clocks.items old.actor new.actor
+abbrev pub DidInTurn : MayGive → Job → ℕ → ℕ → Turn → Turn → Type 0
+DidInTurn gives job ticks v old new = Did gives job ticks v old.passes.items new.passes.items old.clocks.items new.clocks.items old.actor new.actor
 
--- A turn leaves its actor and its passes, which have gone on; where memory was enough, it did what it had to.
+-- A turn leaves its actor and its passes, which have gone on; where memory was enough, it did what
+-- it had to.
 pub record Took (gives : MayGive) (job : Job) (ticks v : ℕ) (old new : Turn) : Type 0 where
   pub actor : IsSameActor old.actor new.actor
   pub passes : HaveAdvanced old.passes.items new.passes.items
   pub places : length new.passes.items ≡ length old.passes.items
   pub clocks : HaveClocksAdvanced old.clocks.items new.clocks.items
   pub clock_places : length new.clocks.items ≡ length old.clocks.items
-  pub did : new.failed ≡ false → DidIn gives job ticks v old new
+  pub did : new.failed ≡ false → DidInTurn gives job ticks v old new

@@ -10,7 +10,7 @@ use Rattle.ledger_core.specs.History.{IsLegal}
 use Rattle.ledger_core.specs.Ledger.{after_call}
 use Rattle.ledger_core.specs.Book.{Histories, history}
 use Rattle.ledger_shared.specs.Value.{PassState, SharedState, party_made, with_seen}
-use Rattle.party_threads.specs.Later.{IsLater, pass_in}
+use Rattle.party_threads.specs.Later.{IsLater, arc_pass}
 
 -- A party of a deal, with what it knows of each ledger.
 pub record Watcher : Type 0 where
@@ -23,7 +23,7 @@ abbrev pub knowing : Watcher → ℕ → List Entry → Watcher
 knowing w a h = record { deal = w.deal; me = w.me; known = set w.known a h }
 
 -- The pass is that of the party at the ledger of arc a, and has seen what the party knows.
-pub record IsPassOf (w : Watcher) (table : TableId) (a : ℕ) (p : PassState) : Type 0 where
+pub record IsWatcherPass (w : Watcher) (table : TableId) (a : ℕ) (p : PassState) : Type 0 where
   pub lock : p.lock ≡ table
   pub deal : p.deal ≡ w.deal
   pub arc : p.arc ≡ a
@@ -34,22 +34,23 @@ pub record IsPassOf (w : Watcher) (table : TableId) (a : ℕ) (p : PassState) : 
 pub record Tracks (ledgers : List SharedState) (w : Watcher) (ps : List (Option PassState)) : Type 0 where
   pub places : length ps ≡ length w.deal.graph.arcs
   pub shared : length ledgers ≡ length w.deal.graph.arcs
-  pub each : (a : ℕ) (s : SharedState) (p : PassState) → a < length ps → s ≡ slice_index_or ledgers a s → pass_in ps a ≡ Some p → IsPassOf w s.lock a p
+  pub each : (a : ℕ) (s : SharedState) (p : PassState) → a < length ps → s ≡ slice_index_or ledgers a s → arc_pass ps a ≡ Some p → IsWatcherPass w s.lock a p
 
 -- The party has a pass at each ledger that touches it, and at no other.
 pub record HasItsPasses (d : Deal) (me : ℕ) (ps : List (Option PassState)) : Type 0 where
-  pub near : (a : ℕ) → a < length ps → touches d me a ≡ true → (p : PassState) × (pass_in ps a ≡ Some p)
-  pub far : (a : ℕ) → a < length ps → touches d me a ≡ false → pass_in ps a ≡ None
+  pub near : (a : ℕ) → a < length ps → touches d me a ≡ true → (p : PassState) × (arc_pass ps a ≡ Some p)
+  pub far : (a : ℕ) → a < length ps → touches d me a ≡ false → arc_pass ps a ≡ None
 
 -- each pass has seen all that was shared
 abbrev pub HaveSeenAll : List (Option PassState) → Type 0
-HaveSeenAll ps = (a : ℕ) (p : PassState) → a < length ps → pass_in ps a ≡ Some p → IsPrefix p.shared p.seen
+HaveSeenAll ps = (a : ℕ) (p : PassState) → a < length ps → arc_pass ps a ≡ Some p → IsPrefix p.shared p.seen
 
 -- what is known of an arc without a pass stays
 abbrev pub IsSameElsewhere : List (Option PassState) → Histories → Histories → Type 0
-IsSameElsewhere ps old new = (a : ℕ) → pass_in ps a ≡ None → history new a ≡ history old a
+IsSameElsewhere ps old new = (a : ℕ) → arc_pass ps a ≡ None → history new a ≡ history old a
 
--- A look showed entries of others, which the party then knows, and all that was shared. `after h` is the party once it knows the history h of arc a.
+-- A look showed entries of others, which the party then knows, and all that was shared. `after h`
+-- is the party once it knows the history h of arc a.
 pub record HasLooked {S : Type 0} (w : Watcher) (after : List Entry → S) (a : ℕ) (p : PassState) (n : S) (q : PassState) : Type 0 where
   pub fresh : List Entry
   pub knows : n ≡ after (history w.known a ++ fresh)
@@ -73,7 +74,7 @@ pub record HasMade {S : Type 0} (w : Watcher) (after : List Entry → S) (a : �
 
 abbrev pub IsWatcherPlace : Watcher → TableId → ℕ → Option PassState → Type 0
 IsWatcherPlace w lock a None = Unit {0}
-IsWatcherPlace w lock a (Some p) = IsPassOf w lock a p
+IsWatcherPlace w lock a (Some p) = IsWatcherPass w lock a p
 
 -- the same as HasLooked through the pass at a place, where nothing is looked at without one
 abbrev pub LookedIf : {S : Type 0} → Watcher → (List Entry → S) → ℕ → S → Option PassState → S → Option PassState → Type 0

@@ -2,7 +2,7 @@
 
 ghost use Rattle.std.specs.Prelude.{◌≡◌, ◌<◌, ◌≤◌, OnOk};
 ghost use Rattle.party_threads.specs.Later.{IsClockLater};
-ghost use Rattle.party_threads.specs.Ticks.{HaveRoom, HasTickedOnce, HaveTicked, HaveClocksAdvanced, AreClocksOf};
+ghost use Rattle.party_threads.specs.Ticks.{HaveRoom, HasTickedOnce, HaveTicked, HaveClocksAdvanced, AreLedgerClocks};
 
 use ledger_shared::{ClockPass, SharedLedger};
 use std::sync::Wait;
@@ -35,7 +35,7 @@ pub fn take_clock_turn<R: Wait>(
 ) -> Result<(), NoMemory>
     requires some { 1 ≤ ticks }
     requires below { ticks ≤ 1000 }
-    requires passes { AreClocksOf ticks ledgers.now passes.old }
+    requires passes { AreLedgerClocks ticks ledgers.now passes.old }
     ensures gone_on { HaveClocksAdvanced passes.old passes.new }
     ensures ticked { OnOk result (HaveTicked ticks passes.old passes.new) }
 {

@@ -4,9 +4,9 @@ ghost use Rattle.std.specs.Prelude.{◌≡◌, ◌≢◌, ◌<◌, ℕ, Some, No
 ghost use Rattle.swap_digraph.specs.Deal.{IsWellSized};
 ghost use Rattle.ledger_core.specs.Value.{LedgerState};
 ghost use Rattle.ledger_shared.specs.Value.{table_clock};
-ghost use Rattle.swap_world.specs.Inside.{IsLedgerOf};
-ghost use Rattle.party_threads.specs.Turns.{actor_at, held_at, clock_held_at, arc_ledger, HasArc, IsBehind, AreBehind, AreHome};
-ghost use Rattle.party_threads.specs.Turns.{HavePlaces, AreFreeAt, AreFree, dealt_to, AreDealt, IsSet, AreSet, IsClosed, IsShut, IsSameShape, IsSameBut};
+ghost use Rattle.swap_world.specs.Inside.{IsArcLedger};
+ghost use Rattle.party_threads.specs.Turns.{turn_actor, held_pass, held_clock, arc_ledger, HasArc, IsBehind, AreBehind, AreHome};
+ghost use Rattle.party_threads.specs.Turns.{HavePlaces, IsArcFree, AreFree, dealt_party_pass, AreDealt, IsSet, AreSet, IsClosed, IsShut, IsSameShape, IsSameBut};
 
 use crate::home::Home;
 use crate::turn::{Turn, put, put_clock, seen_count, take, take_clock};
@@ -26,15 +26,15 @@ fn hand_out_one<R: Wait>(
     ledger: Box<Ledger>,
     turns: &mut [Turn],
 ) -> Result<SharedLedger, NoMemory>
-    requires ledger { IsLedgerOf deal.now arc ledger.value }
+    requires ledger { IsArcLedger deal.now arc ledger.value }
     requires arc { arc < length deal.now.graph.arcs }
     requires sized { IsWellSized deal.now }
     requires places { HavePlaces deal.now turns.old }
-    requires arcs { (v : ℕ) → v < deal.now.graph.n → HasArc (actor_at turns.old v) arc }
-    requires behind { (v : ℕ) → v < deal.now.graph.n → IsBehind (actor_at turns.old v) v arc ledger.value.history }
-    requires free { AreFreeAt deal.now turns.old arc }
-    ensures dealt { IfOk result (λ s. (v : ℕ) → v < deal.now.graph.n → held_at turns.new v arc ≡ dealt_to (actor_at turns.old v) v s.lock ledger.value) }
-    ensures clock { IfOk result (λ s. clock_held_at turns.new deal.now.graph.n arc ≡ Some (table_clock s.lock ledger.value)) }
+    requires arcs { (v : ℕ) → v < deal.now.graph.n → HasArc (turn_actor turns.old v) arc }
+    requires behind { (v : ℕ) → v < deal.now.graph.n → IsBehind (turn_actor turns.old v) v arc ledger.value.history }
+    requires free { IsArcFree deal.now turns.old arc }
+    ensures dealt { IfOk result (λ s. (v : ℕ) → v < deal.now.graph.n → held_pass turns.new v arc ≡ dealt_party_pass (turn_actor turns.old v) v s.lock ledger.value) }
+    ensures clock { IfOk result (λ s. held_clock turns.new deal.now.graph.n arc ≡ Some (table_clock s.lock ledger.value)) }
     ensures others { IsSameBut arc turns.old turns.new }
 {
     let whole = ledger.len();
@@ -73,7 +73,7 @@ fn come_home(ledgers: &mut [Option<Home>], arc: ArcId, ledger: Box<Ledger>)
     ensures number { length ledgers.new ≡ length ledgers.old }
     ensures others { (a : ℕ) → a ≢ arc → arc_ledger ledgers.new a ≡ arc_ledger ledgers.old a }
 {
-    ledgers[arc as usize] = Some(Home::of(ledger));
+    ledgers[arc as usize] = Some(Home::from_box(ledger));
 }
 
 /// Shares each ledger in order, and hands out the passes.
@@ -88,7 +88,7 @@ pub(crate) fn hand_out<R: Wait>(
     requires home { AreHome deal.now ledgers.old }
     requires places { HavePlaces deal.now turns.old }
     requires free { AreFree deal.now turns.old }
-    requires arcs { (v a : ℕ) → v < deal.now.graph.n → a < length deal.now.graph.arcs → HasArc (actor_at turns.old v) a }
+    requires arcs { (v a : ℕ) → v < deal.now.graph.n → a < length deal.now.graph.arcs → HasArc (turn_actor turns.old v) a }
     requires behind { AreBehind deal.now turns.old ledgers.old }
     ensures dealt { IfOk result (λ s. AreDealt deal.now turns.new (map (λ x. x.lock) s.items) ledgers.old) }
     ensures one_each { IfOk result (λ s. length s.items ≡ length deal.now.graph.arcs) }
@@ -111,7 +111,7 @@ fn close_one(deal: &Deal, ledger: SharedLedger, arc: ArcId, turns: &mut [Turn]) 
     requires arc { arc < length deal.now.graph.arcs }
     requires set { IsSet deal.now turns.old arc ledger.lock }
     ensures closed { IsClosed deal.now turns.old arc result.value }
-    ensures free { AreFreeAt deal.now turns.new arc }
+    ensures free { IsArcFree deal.now turns.new arc }
     ensures others { IsSameBut arc turns.old turns.new }
 {
     let ends = deal.graph.arcs()[arc as usize];
@@ -135,7 +135,7 @@ pub(crate) fn close(
     requires set { AreSet deal.now turns.old (map (λ x. x.lock) shared.items) }
     ensures closed { (a : ℕ) → a < length deal.now.graph.arcs → IsShut deal.now turns.old a (arc_ledger ledgers.new a) }
     ensures number { length ledgers.new ≡ length ledgers.old }
-    ensures free { (a : ℕ) → a < length deal.now.graph.arcs → AreFreeAt deal.now turns.new a }
+    ensures free { (a : ℕ) → a < length deal.now.graph.arcs → IsArcFree deal.now turns.new a }
     ensures shape { IsSameShape turns.old turns.new }
 {
     'ledgers: while let Some(ledger) = shared.pop() {

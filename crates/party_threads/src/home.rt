@@ -7,7 +7,8 @@ use std::alloc::Global;
 use std::marker::Model;
 use swap_base::NoMemory;
 
-/// A ledger that is in no other hands. It lies in a box, so that it is shared and comes home as a pointer.
+/// A ledger that is in no other hands. It lies in a box, so that it is shared and comes home as a
+/// pointer.
 #[derive(Drop)]
 pub(crate) struct Home {
     ledger: Box<Ledger>,
@@ -32,7 +33,7 @@ impl Home {
     }
 
     /// The ledger comes home.
-    pub fn of(ledger: Box<Ledger>) -> Home
+    pub fn from_box(ledger: Box<Ledger>) -> Home
         ensures { result ≡ ledger.value }
     {
         Home { ledger }

@@ -1,4 +1,5 @@
-//! The law by which a round's end is known from a party's calls: a function without a body, whose contract is the law.
+//! The law by which a round's end is known from a party's calls: a function without a body, whose
+//! contract is the law.
 
 ghost use Rattle.party_threads.specs.Race.{RestShowsInCalls};
 

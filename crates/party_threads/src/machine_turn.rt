@@ -6,9 +6,9 @@ ghost use Rattle.ledger_core.specs.History.{IsLegal};
 ghost use Rattle.party_machine.specs.Machine.{learnt, next_due};
 ghost use Rattle.swap_run.proofs.Slots.{left};
 ghost use Rattle.swap_world.specs.Acting.{IsMakable, IsSameOwner};
-ghost use Rattle.party_threads.specs.Able.{watcher, machine_with, IsAble};
+ghost use Rattle.party_threads.specs.Able.{watcher, informed_machine, IsAble};
 ghost use Rattle.party_threads.specs.Later.{IsLater, Advanced, HaveAdvanced};
-ghost use Rattle.party_threads.specs.Tracks.{IsPassOf, Tracks, HaveSeenAll, HasItsPasses, HasLooked, HasMade, IsSameElsewhere, IsWatcherPlace, LookedIf, MadeIf};
+ghost use Rattle.party_threads.specs.Tracks.{IsWatcherPass, Tracks, HaveSeenAll, HasItsPasses, HasLooked, HasMade, IsSameElsewhere, IsWatcherPlace, LookedIf, MadeIf};
 
 use history_index::Steps;
 use ledger_core::{Call, EntryList};
@@ -57,9 +57,9 @@ fn look<R: Wait>(
     pass: &mut Pass,
 ) -> Result<(), NoMemory>
     requires arc { arc < length machine.old.deal.graph.arcs }
-    requires pass { IsPassOf (watcher machine.old) ledger.now.lock arc pass.old }
+    requires pass { IsWatcherPass (watcher machine.old) ledger.now.lock arc pass.old }
     ensures later { IsLater pass.old pass.new }
-    ensures looked { OnOk result (HasLooked (watcher machine.old) (machine_with machine.old arc) arc pass.old machine.new pass.new) }
+    ensures looked { OnOk result (HasLooked (watcher machine.old) (informed_machine machine.old arc) arc pass.old machine.new pass.new) }
     ensures err { OnErr result (machine.new ≡ machine.old) }
 {
     let fresh = ledger.look(rt, pass)?;
@@ -77,7 +77,7 @@ fn look_if<R: Wait>(
     requires arc { arc < length machine.old.deal.graph.arcs }
     requires pass { IsWatcherPlace (watcher machine.old) ledger.now.lock arc place.old }
     ensures later { Advanced place.old place.new }
-    ensures looked { OnOk result (LookedIf (watcher machine.old) (machine_with machine.old arc) arc machine.old place.old machine.new place.new) }
+    ensures looked { OnOk result (LookedIf (watcher machine.old) (informed_machine machine.old arc) arc machine.old place.old machine.new place.new) }
     ensures err { OnErr result (machine.new ≡ machine.old) }
 {
     match place {
@@ -99,9 +99,9 @@ fn call<R: Wait>(
 ) -> Result<(), NoMemory>
     requires makable { IsMakable machine.old.deal machine.old.me (record { arc = arc; call = due }) }
     requires known { length machine.old.known ≡ length machine.old.deal.graph.arcs }
-    requires pass { IsPassOf (watcher machine.old) ledger.now.lock arc pass.old }
+    requires pass { IsWatcherPass (watcher machine.old) ledger.now.lock arc pass.old }
     ensures later { IsLater pass.old pass.new }
-    ensures made { OnOk result (HasMade (watcher machine.old) (machine_with machine.old arc) arc due pass.old machine.new pass.new) }
+    ensures made { OnOk result (HasMade (watcher machine.old) (informed_machine machine.old arc) arc due pass.old machine.new pass.new) }
     ensures err { OnErr result (machine.new ≡ machine.old) }
 {
     match ledger.call_known(rt, pass, due, usize::MAX) {
@@ -124,7 +124,7 @@ fn submit_call<R: Wait>(
     requires pass { IsWatcherPlace (watcher machine.old) ledger.now.lock arc place.old }
     requires there { place.old ≢ None }
     ensures later { Advanced place.old place.new }
-    ensures made { OnOk result (MadeIf (watcher machine.old) (machine_with machine.old arc) arc due place.old machine.new place.new) }
+    ensures made { OnOk result (MadeIf (watcher machine.old) (informed_machine machine.old arc) arc due place.old machine.new place.new) }
     ensures err { OnErr result (machine.new ≡ machine.old) }
 {
     match place {

@@ -1,14 +1,15 @@
-//! The turn of a party that follows a script or a strategy: it looks at each of its ledgers, and then makes the call that answers what it was shown.
+//! The turn of a party that follows a script or a strategy: it looks at each of its ledgers, and
+//! then makes the call that answers what it was shown.
 
 ghost use Rattle.std.specs.Prelude.{◌≡◌, ◌≢◌, ◌<◌, ◌+◌, true, None, OnOk, OnErr, IfOk, IsTrue, All, length};
 ghost use Rattle.ledger_core.specs.History.{fit};
-ghost use Rattle.swap_job.specs.Fitting.{IsMoveOf};
+ghost use Rattle.swap_job.specs.Fitting.{IsPartyMove};
 ghost use Rattle.swap_job.specs.Roles.{IsHeld, job_role};
 ghost use Rattle.deviators.specs.View.{IsView, MayAnswer};
 ghost use Rattle.swap_run.specs.Shown.{IsShown};
-ghost use Rattle.swap_run.specs.Run.{is_planned, plan_up_to};
+ghost use Rattle.swap_run.specs.Run.{is_planned, plan_with_ledger};
 ghost use Rattle.party_threads.specs.Later.{IsLater, Advanced, HaveAdvanced};
-ghost use Rattle.party_threads.specs.Tracks.{IsPassOf, Tracks, HaveSeenAll, HasItsPasses, HasLooked, HasMade, IsWatcherPlace, LookedIf, MadeIf};
+ghost use Rattle.party_threads.specs.Tracks.{IsWatcherPass, Tracks, HaveSeenAll, HasItsPasses, HasLooked, HasMade, IsWatcherPlace, LookedIf, MadeIf};
 ghost use Rattle.party_threads.specs.Played.{party_planner, HaveFresh, HaveGrown, IsAnswered, HasMadeCall, HasPlayed};
 
 use deviators::Strategies;
@@ -31,9 +32,9 @@ fn look<R: Wait>(
     pass: &mut Pass,
 ) -> Result<(), NoMemory>
     requires arc { arc < length planner.old.known }
-    requires pass { IsPassOf (party_planner deal.now me planner.old) ledger.now.lock arc pass.old }
+    requires pass { IsWatcherPass (party_planner deal.now me planner.old) ledger.now.lock arc pass.old }
     ensures later { IsLater pass.old pass.new }
-    ensures looked { OnOk result (HasLooked (party_planner deal.now me planner.old) (plan_up_to planner.old arc) arc pass.old planner.new pass.new) }
+    ensures looked { OnOk result (HasLooked (party_planner deal.now me planner.old) (plan_with_ledger planner.old arc) arc pass.old planner.new pass.new) }
     ensures err { OnErr result (planner.new ≡ planner.old) }
 {
     let fresh = ledger.look(rt, pass)?;
@@ -53,7 +54,7 @@ fn look_if<R: Wait>(
     requires arc { arc < length planner.old.known }
     requires pass { IsWatcherPlace (party_planner deal.now me planner.old) ledger.now.lock arc place.old }
     ensures later { Advanced place.old place.new }
-    ensures looked { OnOk result (LookedIf (party_planner deal.now me planner.old) (plan_up_to planner.old arc) arc planner.old place.old planner.new place.new) }
+    ensures looked { OnOk result (LookedIf (party_planner deal.now me planner.old) (plan_with_ledger planner.old arc) arc planner.old place.old planner.new place.new) }
     ensures err { OnErr result (planner.new ≡ planner.old) }
 {
     match place {
@@ -110,7 +111,7 @@ fn answer<A: Strategies>(
     ensures answered { IfOk result (λ o. IsAnswered (A.gives staff.now) job.now.deal job.now.seeds me planner.old.known o planner.old planner.new
         (job_role job.now me)) }
     ensures fits { IfOk result (MayAnswer job.now.deal me) }
-    ensures moves { OnOk result (All (IsMoveOf job.now.deal job.now.seeds me) planner.new.moves) }
+    ensures moves { OnOk result (All (IsPartyMove job.now.deal job.now.seeds me) planner.new.moves) }
     ensures turns { OnOk result (planner.new.turns ≡ planner.old.turns + 1) }
     ensures known { planner.new.known ≡ planner.old.known }
 {
@@ -134,9 +135,9 @@ fn call<R: Wait>(
 ) -> Result<(), NoMemory>
     requires arc { arc < length planner.old.known }
     requires fits { IsTrue (fit deal.now arc made) }
-    requires pass { IsPassOf (party_planner deal.now me planner.old) ledger.now.lock arc pass.old }
+    requires pass { IsWatcherPass (party_planner deal.now me planner.old) ledger.now.lock arc pass.old }
     ensures later { IsLater pass.old pass.new }
-    ensures made { OnOk result (HasMade (party_planner deal.now me planner.old) (plan_up_to planner.old arc) arc made pass.old planner.new pass.new) }
+    ensures made { OnOk result (HasMade (party_planner deal.now me planner.old) (plan_with_ledger planner.old arc) arc made pass.old planner.new pass.new) }
     ensures err { OnErr result (planner.new ≡ planner.old) }
 {
     match ledger.call(rt, pass, made) {
@@ -161,7 +162,7 @@ fn submit_call<R: Wait>(
     requires pass { IsWatcherPlace (party_planner deal.now me planner.old) ledger.now.lock arc place.old }
     requires there { place.old ≢ None }
     ensures later { Advanced place.old place.new }
-    ensures made { OnOk result (MadeIf (party_planner deal.now me planner.old) (plan_up_to planner.old arc) arc made place.old planner.new place.new) }
+    ensures made { OnOk result (MadeIf (party_planner deal.now me planner.old) (plan_with_ledger planner.old arc) arc made place.old planner.new place.new) }
     ensures err { OnErr result (planner.new ≡ planner.old) }
 {
     match place {

@@ -1,11 +1,12 @@
-//! A round: every ledger is shared, every party and the clock have their turns, and every ledger is closed.
+//! A round: every ledger is shared, every party and the clock have their turns, and every ledger is
+//! closed.
 
 ghost use Rattle.std.specs.Prelude.{◌≡◌, ◌<◌, ◌≤◌, ℕ, OnOk, length, slice_index_or, All, false, true};
 ghost use Rattle.swap_world.specs.Actors.{AreHeld};
 ghost use Rattle.swap_world.specs.Cast.{job_cast};
 ghost use Rattle.party_threads.specs.Later.{HaveAdvanced};
 ghost use Rattle.party_threads.specs.Ticks.{HaveClocksAdvanced};
-ghost use Rattle.party_threads.specs.Took.{IsSeated, IsSameActor, DidIn, Took};
+ghost use Rattle.party_threads.specs.Took.{IsSeated, IsSameActor, DidInTurn, Took};
 ghost use Rattle.party_threads.specs.Race.{IsRound};
 ghost use Rattle.party_threads.specs.Standing.{Stands, AllHaveRoom, race_book, race_state};
 
@@ -43,7 +44,7 @@ fn play<R: Wait, A: Strategies>(
     ensures clocks { HaveClocksAdvanced turn.old.clocks.items turn.new.clocks.items }
     ensures places { length turn.new.passes.items ≡ length turn.old.passes.items }
     ensures clock_places { length turn.new.clocks.items ≡ length turn.old.clocks.items }
-    ensures did { OnOk result (DidIn (A.gives staff.now) job.now ticks v turn.old turn.new) }
+    ensures did { OnOk result (DidInTurn (A.gives staff.now) job.now ticks v turn.old turn.new) }
 {
     match &mut turn.actor {
         Actor::Conforming(machine) => {
@@ -75,7 +76,8 @@ fn take_turn<R: Wait, A: Strategies>(
     turn.failed = play(rt, job, staff, ledgers, ticks, v, turn).is_err();
 }
 
-/// Every actor's turn, on at most so many threads: each takes some that follow one another. One is this thread.
+/// Every actor's turn, on at most so many threads: each takes some that follow one another. One is
+/// this thread.
 fn take_turns<R: Threads + Wait + Sync, A: Strategies + Sync, G: Gate>(
     rt: &R,
     job: &Job,
@@ -117,7 +119,8 @@ fn all_done(turns: &[Turn]) -> bool
     turns.iter().all(|t| !t.failed)
 }
 
-/// One round. Where a turn wanted memory the others have their turns all the same, and every ledger is closed.
+/// One round. Where a turn wanted memory the others have their turns all the same, and every ledger
+/// is closed.
 pub(crate) fn round<R: Threads + Wait + Sync, A: Strategies + Sync, G: Gate>(
     rt: &R,
     alloc: Global,

@@ -7,9 +7,9 @@ ghost use Rattle.party_wallet.specs.Wallets.{new_wallets};
 ghost use Rattle.swap_run.specs.Run.{start};
 ghost use Rattle.swap_world.specs.Cast.{job_cast};
 ghost use Rattle.swap_world.specs.Inside.{new_ledgers};
-ghost use Rattle.swap_world.specs.Actors.{AllFit, AreHeld, ConformingHaveSeeds, HaveRoles, IsFirstOf};
+ghost use Rattle.swap_world.specs.Actors.{AllFit, AreHeld, ConformingHaveSeeds, HaveRoles, IsFirstWrongFault};
 ghost use Rattle.party_threads.specs.Race.{needed_rounds, IsRaced, IsRaceBook};
-ghost use Rattle.party_threads.specs.Standing.{Stands, race_book, history_in, race_state};
+ghost use Rattle.party_threads.specs.Standing.{Stands, race_book, home_history, race_state};
 
 use crate::first_turns::new_turns;
 use crate::gate::Gate;
@@ -27,7 +27,7 @@ use swap_digraph::Deal;
 use swap_job::Job;
 use swap_world::{WorldFault, wrong_wallet};
 use time_bounds::horizon;
-use typed_books::read_book;
+use typed_books::visit_book;
 
 /// From so many calls in a round on each actor has a thread of its own in the next.
 const MANY_CALLS: usize = 8;
@@ -49,8 +49,8 @@ fn make_ledgers(alloc: Global, deal: &Deal) -> Result<Vec<Option<Home>>, NoMemor
     Ok(ledgers)
 }
 
-fn released_history(ledger: Option<Home>, alloc: Global) -> EntryList
-    ensures { result ≡ history_in ledger }
+fn home_history(ledger: Option<Home>, alloc: Global) -> EntryList
+    ensures { result ≡ home_history ledger }
 {
     match ledger {
         Some(ledger) => ledger.into_history(),
@@ -64,7 +64,7 @@ fn collected_book(alloc: Global, ledgers: Vec<Option<Home>>) -> Result<Book, NoM
 {
     let mut histories = Vec::new(alloc);
     'ledgers: for ledger in ledgers {
-        histories.push(released_history(ledger, alloc))?;
+        histories.push(home_history(ledger, alloc))?;
     }
     Ok(Book {
         histories: Listed::new(histories),
@@ -171,7 +171,7 @@ pub fn race_fitting<R: Threads + Wait + Sync, A: Strategies + Sync, G: Gate>(
         turns.as_mut_slice(),
     )?;
     let book = collected_book(alloc, ledgers)?;
-    read_book(&book);
+    visit_book(&book);
     Ok(book)
 }
 
@@ -195,7 +195,7 @@ pub fn race<R: Threads + Wait + Sync, A: Strategies + Sync, G: Gate>(
     requires below { ticks ≤ 1000 }
     ensures book { IfOk result (λ b. IsRaceBook (A.gives staff.now) (job_cast job.now) ticks b.histories) }
     ensures fit { OnOk result (AllFit job.now) }
-    ensures wrong { IfErr result (IsFirstOf job.now) }
+    ensures wrong { IfErr result (IsFirstWrongFault job.now) }
 {
     match wrong_wallet(job, &wallets) {
         Some(wrong) => Err(Fault::Refused(wrong)),

@@ -3,7 +3,7 @@
 ghost use Rattle.std.specs.Prelude.{◌≡◌, ◌<◌, List, Some, None, length, slice_get};
 ghost use Rattle.ledger_core.specs.declared.entry.Entry.{Entry};
 ghost use Rattle.ledger_shared.specs.Value.{PassState, ClockState};
-ghost use Rattle.party_threads.specs.Turns.{HasArc, actor_at, passes_of, clocks_of, held_at, clock_held_at, started, IsPut, IsClockPut};
+ghost use Rattle.party_threads.specs.Turns.{HasArc, turn_actor, held_passes, held_clocks, held_pass, held_clock, started, IsPut, IsClockPut};
 
 use ledger_shared::{ClockPass, Pass};
 use party_machine::Machine;
@@ -23,7 +23,8 @@ pub(crate) enum Actor {
     Clock,
 }
 
-/// An actor, with the passes that it has in a round, by arc, and whether its last turn wanted memory.
+/// An actor, with the passes that it has in a round, by arc, and whether its last turn wanted
+/// memory.
 #[derive(Drop)]
 pub(crate) struct Turn {
     pub actor: Actor,
@@ -32,11 +33,12 @@ pub(crate) struct Turn {
     pub failed: bool,
 }
 
-/// How much of the history of an arc, which has so many entries, an actor's pass has seen as it is dealt.
+/// How much of the history of an arc, which has so many entries, an actor's pass has seen as it is
+/// dealt.
 pub(crate) fn seen_count(turns: &[Turn], v: PartyId, arc: ArcId, whole: u32) -> u32
     requires actor { v < length turns.now }
-    requires arc { HasArc (actor_at turns.now v) arc }
-    ensures { (h : List Entry) → length h ≡ whole → result ≡ length (started (actor_at turns.now v) arc h) }
+    requires arc { HasArc (turn_actor turns.now v) arc }
+    ensures { (h : List Entry) → length h ≡ whole → result ≡ length (started (turn_actor turns.now v) arc h) }
 {
     match &turns[v as usize].actor {
         Actor::Conforming(machine) => machine.known(arc).count(),
@@ -49,7 +51,7 @@ pub(crate) fn seen_count(turns: &[Turn], v: PartyId, arc: ArcId, whole: u32) -> 
 /// Gives an actor the pass of an arc.
 pub(crate) fn put(turns: &mut [Turn], v: PartyId, arc: ArcId, pass: Pass)
     requires actor { v < length turns.old }
-    requires place { arc < length (passes_of (slice_get turns.old v)) }
+    requires place { arc < length (held_passes (slice_get turns.old v)) }
     ensures { IsPut turns.old v arc (Some pass) turns.new }
 {
     turns[v as usize].passes[arc as usize] = Some(pass);
@@ -58,9 +60,9 @@ pub(crate) fn put(turns: &mut [Turn], v: PartyId, arc: ArcId, pass: Pass)
 /// Takes the pass of an arc back.
 pub(crate) fn take(turns: &mut [Turn], v: PartyId, arc: ArcId) -> Pass
     requires actor { v < length turns.old }
-    requires place { arc < length (passes_of (slice_get turns.old v)) }
-    requires there { (p : PassState) × (held_at turns.old v arc ≡ Some p) }
-    ensures pass { held_at turns.old v arc ≡ Some result }
+    requires place { arc < length (held_passes (slice_get turns.old v)) }
+    requires there { (p : PassState) × (held_pass turns.old v arc ≡ Some p) }
+    ensures pass { held_pass turns.old v arc ≡ Some result }
     ensures gone { IsPut turns.old v arc None turns.new }
 {
     match turns[v as usize].passes[arc as usize].take() {
@@ -72,7 +74,7 @@ pub(crate) fn take(turns: &mut [Turn], v: PartyId, arc: ArcId) -> Pass
 /// Gives the clock its pass of an arc.
 pub(crate) fn put_clock(turns: &mut [Turn], v: PartyId, arc: ArcId, pass: ClockPass)
     requires actor { v < length turns.old }
-    requires place { arc < length (clocks_of (slice_get turns.old v)) }
+    requires place { arc < length (held_clocks (slice_get turns.old v)) }
     ensures { IsClockPut turns.old v arc (Some pass) turns.new }
 {
     turns[v as usize].clocks[arc as usize] = Some(pass);
@@ -81,9 +83,9 @@ pub(crate) fn put_clock(turns: &mut [Turn], v: PartyId, arc: ArcId, pass: ClockP
 /// Takes the clock's pass of an arc back.
 pub(crate) fn take_clock(turns: &mut [Turn], v: PartyId, arc: ArcId) -> ClockPass
     requires actor { v < length turns.old }
-    requires place { arc < length (clocks_of (slice_get turns.old v)) }
-    requires there { (p : ClockState) × (clock_held_at turns.old v arc ≡ Some p) }
-    ensures pass { clock_held_at turns.old v arc ≡ Some result }
+    requires place { arc < length (held_clocks (slice_get turns.old v)) }
+    requires there { (p : ClockState) × (held_clock turns.old v arc ≡ Some p) }
+    ensures pass { held_clock turns.old v arc ≡ Some result }
     ensures gone { IsClockPut turns.old v arc None turns.new }
 {
     match turns[v as usize].clocks[arc as usize].take() {

@@ -1,7 +1,7 @@
 -- The least number that passes, found by going along a range of numbers.
 use Rattle.std.proofs.Common.{◌≡◌, ℕ, suc, ◌+◌, ◌-◌, ◌<◌, ◌≤◌, Bool, true, false, cond, List, [], ◌∷◌, Option, Some, None, refl, sym, ap, ◌∙◌, inl, inr, arith}
 use Rattle.std.specs.List.{find, range_with_len}
-use Rattle.swap_base.specs.Lists.{IsIn}
+use Rattle.swap_base.specs.Lists.{IsElement}
 
 range-next : (a n : ℕ) → a < n → range_with_len a (n - a) ≡ a ∷ range_with_len (a + 1) (n - (a + 1))
 range-next a n lt = let e : n - a ≡ suc (n - (a + 1)) = omega arith in ap (range_with_len a) e
@@ -25,7 +25,7 @@ by_test true x o e = absurd (cc e)
 by_test false x o e = (refl, e)
 
 -- where none is found, none passes
-pub none_in : (p : ℕ → Bool) (xs : List ℕ) (i : ℕ) → find p xs ≡ None → IsIn i xs → p i ≡ false
+pub none_in : (p : ℕ → Bool) (xs : List ℕ) (i : ℕ) → find p xs ≡ None → IsElement i xs → p i ≡ false
 none_in p [] i e h = absurd h
 none_in p (x ∷ xs) i e (inl h) = ap p h ∙ (by_test (p x) x (find p xs) e).0
 none_in p (x ∷ xs) i e (inr h) = none_in p xs i (by_test (p x) x (find p xs) e).1 h

@@ -8,8 +8,8 @@ use Rattle.swap_digraph.specs.declared.deal.Mode.{Mode}
 use Rattle.swap_digraph.specs.declared.deal.Mode.TheVariants.{Timelocks, Hashkeys}
 use Rattle.swap_digraph.specs.Deal.{locks}
 use Rattle.hash_signature.specs.Signature.{derive_public_key}
-use Rattle.hashkey_path.specs.Hashkey.{key_of}
-use Rattle.party_wallet.specs.Value.{WalletState, signed_in}
+use Rattle.hashkey_path.specs.Hashkey.{party_public_key}
+use Rattle.party_wallet.specs.Value.{WalletState, signed_hashkey}
 use Rattle.party_wallet.specs.Keys.{party_public}
 use Rattle.party_wallet.specs.Fits.{has_key, opens_own, fits_lock, wrong_lock, has_ready, find_public_key, is_stated, fits_deal, find_wrong_lock}
 use Rattle.party_wallet.proofs.Least.{by_test}
@@ -23,13 +23,13 @@ none_of p q (x ∷ xs) only e =
 
 of_party : (w : WalletState) (v i : ℕ) → has_ready w v i ≡ true → w.party ≡ v
 of_party w v i is =
-    let two = and_parts (nat_eq w.party v && nat_lt i (length w.signed)) (not (is_some (signed_in w.signed i))) is in
+    let two = and_parts (nat_eq w.party v && nat_lt i (length w.signed)) (not (is_some (signed_hashkey w.signed i))) is in
     eqb-true w.party v (and_parts (nat_eq w.party v) (nat_lt i (length w.signed)) two.0).0
 
 its_key : (m : Mode) (d : Deal) (seed : List ℕ) (p v i : ℕ) (opens : Bool) → p ≡ v
     → not (is_stated Hashkeys d v i (party_public m seed p i) && opens) ≡ false → not (has_key Hashkeys d v seed i && opens) ≡ false
 its_key Timelocks d seed p v i opens same e = absurd (cc e)
-its_key Hashkeys d seed p v i opens same e = subst (λ (x : ℕ). not (bytes_eq (derive_public_key seed x i) (key_of d v i) && opens) ≡ false) same e
+its_key Hashkeys d seed p v i opens same e = subst (λ (x : ℕ). not (bytes_eq (derive_public_key seed x i) (party_public_key d v i) && opens) ≡ false) same e
 
 by_ready : (d : Deal) (v i : ℕ) (w : WalletState) (opens b : Bool) → has_ready w v i ≡ b
     → not (is_stated Hashkeys d v i (if b then party_public w.mode w.seed w.party i else None) && opens) ≡ false

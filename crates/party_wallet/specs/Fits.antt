@@ -7,14 +7,14 @@ use Rattle.swap_digraph.specs.declared.deal.Mode.{Mode}
 use Rattle.swap_digraph.specs.declared.deal.Mode.TheVariants.{Timelocks, Hashkeys}
 use Rattle.swap_digraph.specs.Deal.{locks, leads, lock_hashlock}
 use Rattle.hash_signature.specs.Signature.{hashed_value, derive_secret, derive_public_key}
-use Rattle.hashkey_path.specs.Hashkey.{key_of}
-use Rattle.party_wallet.specs.Value.{WalletState, signed_in}
+use Rattle.hashkey_path.specs.Hashkey.{party_public_key}
+use Rattle.party_wallet.specs.Value.{WalletState, signed_hashkey}
 use Rattle.party_wallet.specs.Keys.{party_public}
 
 -- with hashkeys, the seed's public key of v for lock i is the deal's
 abbrev pub has_key : Mode → Deal → ℕ → List ℕ → ℕ → Bool
 has_key Timelocks d v seed i = true
-has_key Hashkeys d v seed i = bytes_eq (derive_public_key seed v i) (key_of d v i)
+has_key Hashkeys d v seed i = bytes_eq (derive_public_key seed v i) (party_public_key d v i)
 
 -- where v leads lock i, the seed's secret opens it
 abbrev pub opens_own : Deal → ℕ → List ℕ → ℕ → Bool
@@ -30,7 +30,7 @@ wrong_lock d v seed = find (λ i. not (fits_lock d v seed i)) (locks d)
 
 -- the wallet has an unspent key of party v for lock i
 abbrev pub has_ready : WalletState → ℕ → ℕ → Bool
-has_ready w v i = nat_eq w.party v && nat_lt i (length w.signed) && not (is_some (signed_in w.signed i))
+has_ready w v i = nat_eq w.party v && nat_lt i (length w.signed) && not (is_some (signed_hashkey w.signed i))
 
 -- the public key of party v for lock i, where the wallet can sign with its key
 abbrev pub find_public_key : WalletState → ℕ → ℕ → Option (List ℕ)
@@ -40,7 +40,7 @@ find_public_key w v i = if has_ready w v i then party_public w.mode w.seed w.par
 abbrev pub is_stated : Mode → Deal → ℕ → ℕ → Option (List ℕ) → Bool
 is_stated Timelocks d v i public = true
 is_stated Hashkeys d v i None = false
-is_stated Hashkeys d v i (Some public) = bytes_eq public (key_of d v i)
+is_stated Hashkeys d v i (Some public) = bytes_eq public (party_public_key d v i)
 
 -- the wallet has what the deal states of v for lock i
 abbrev pub fits_deal : Deal → ℕ → WalletState → ℕ → Bool

@@ -11,5 +11,5 @@ pub record WalletState : Type 0 where
   pub signed : List (Option Hashkey)
 
 -- the hashkey that was signed for lock i, if any
-abbrev pub signed_in : List (Option Hashkey) → ℕ → Option Hashkey
-signed_in keys i = slice_index_or keys i None
+abbrev pub signed_hashkey : List (Option Hashkey) → ℕ → Option Hashkey
+signed_hashkey keys i = slice_index_or keys i None

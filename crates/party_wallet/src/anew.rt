@@ -1,4 +1,5 @@
-//! Hashkeys with keys that are made anew from a seed. Whoever holds a seed may make as many as it likes; a conforming party never does.
+//! Hashkeys with keys that are made anew from a seed. Whoever holds a seed may make as many as it
+//! likes; a conforming party never does.
 
 ghost use Rattle.std.specs.Prelude.{◌≡◌, ◌<◌, length, IfOk};
 ghost use Rattle.swap_digraph.specs.Deal.{path_limit};
@@ -11,7 +12,8 @@ use std::alloc::Global;
 use swap_base::{Digest, LockId, NoMemory, PartyId};
 use swap_digraph::Deal;
 
-/// A hashkey of the party's own secret, whose path is the party alone; with timelocks the secret alone.
+/// A hashkey of the party's own secret, whose path is the party alone; with timelocks the secret
+/// alone.
 pub fn sign_own_anew(
     alloc: Global,
     deal: &Deal,

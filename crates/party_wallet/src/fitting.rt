@@ -101,8 +101,8 @@ fn is_known(deal: &Deal, party: PartyId, lock: LockId, public: &Option<Digest>) 
     }
 }
 
-/// Whether a public key, if there is one, and the seed's secret are those that the deal states of the
-/// party for the lock.
+/// Whether a public key, if there is one, and the seed's secret are those that the deal states of
+/// the party for the lock.
 pub(crate) fn fits_stated(
     deal: &Deal,
     party: PartyId,

@@ -1,4 +1,5 @@
-//! The hashkeys that a wallet makes, with two holders. All their memory is taken before the key for the lock is spent.
+//! The hashkeys that a wallet makes, with two holders. All their memory is taken before the key for
+//! the lock is spent.
 
 ghost use Rattle.std.specs.Prelude.{◌≡◌, ◌<◌, ℕ, List, None, length, IfOk, OnOk, OnErr};
 ghost use Rattle.swap_digraph.specs.Deal.{path_limit};
@@ -77,7 +78,8 @@ fn onto_signed(
     }
 }
 
-/// The party's own hashkey for a lock that it leads. Want of memory leaves the key where it is, unspent.
+/// The party's own hashkey for a lock that it leads. Want of memory leaves the key where it is,
+/// unspent.
 pub(crate) fn own_held(
     alloc: Global,
     deal: &Deal,
@@ -99,7 +101,8 @@ pub(crate) fn own_held(
     }
 }
 
-/// The party's hashkey that goes on from another. Want of memory leaves the key where it is, unspent.
+/// The party's hashkey that goes on from another. Want of memory leaves the key where it is,
+/// unspent.
 pub(crate) fn onto_held(
     alloc: Global,
     deal: &Deal,

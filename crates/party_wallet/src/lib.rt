@@ -1,6 +1,8 @@
-//! What a party of a deal signs with: from its seed one key for each lock, which is spent by the one hashkey that is made with it.
+//! What a party of a deal signs with: from its seed one key for each lock, which is spent by the
+//! one hashkey that is made with it.
 //!
-//! Read `specs/Keys.antt` first: what a seed gives a party to sign with. `specs/Fits.antt` says whether that is what a deal states.
+//! Read `specs/Keys.antt` first: what a seed gives a party to sign with. `specs/Fits.antt` says
+//! whether that is what a deal states.
 #![tactic(auto)]
 
 mod anew;

@@ -4,7 +4,7 @@ ghost use Rattle.std.specs.Prelude.{◌≡◌, ◌<◌, ◌≤◌, map, length, 
 ghost use Rattle.std.specs.List.{range_with_len};
 ghost use Rattle.swap_digraph.specs.Deal.{IsWellSized};
 ghost use Rattle.swap_digraph.specs.Deal.{path_limit};
-ghost use Rattle.party_wallet.specs.Value.{signed_in};
+ghost use Rattle.party_wallet.specs.Value.{signed_hashkey};
 ghost use Rattle.party_wallet.specs.Fits.{fits_deal, has_ready, find_public_key, find_wrong_lock, wrong_lock};
 ghost use Rattle.party_wallet.specs.Keys.{empty_wallet, new_wallet, party_public, unspent, own_key, onto_key, with_recorded, with_signed};
 
@@ -20,8 +20,8 @@ use std::mem;
 use swap_base::{Digest, Listed, LockId, NoMemory, PartyId, Shared, TryCopy};
 use swap_digraph::{Deal, Mode};
 
-/// A party's keys, one for each lock of a deal with hashkeys, and the hashkeys that it made. A lock's key is spent by the one hashkey that is made for
-/// it, which stays.
+/// A party's keys, one for each lock of a deal with hashkeys, and the hashkeys that it made. A
+/// lock's key is spent by the one hashkey that is made for it, which stays.
 #[derive(Drop)]
 pub struct Wallet {
     mode: Mode,
@@ -45,9 +45,9 @@ impl Model for Wallet {
 
     ghost Value = { WalletState };
 
-    ghost use Rattle.party_wallet.specs.Inside.{wallet_in, IsKept};
+    ghost use Rattle.party_wallet.specs.Inside.{inside_wallet, IsKept};
 
-    ghost view = { wallet_in };
+    ghost view = { inside_wallet };
 
     ghost invariant = { IsKept };
 }
@@ -267,7 +267,7 @@ impl Wallet {
     /// Whether a hashkey was signed for a lock.
     pub fn is_signed(&self, lock: LockId) -> bool
         requires { lock < length self.now.signed }
-        ensures { result ≡ is_some (signed_in self.now.signed lock) }
+        ensures { result ≡ is_some (signed_hashkey self.now.signed lock) }
     {
         self.signed.keys.as_slice()[lock as usize].is_some()
     }
@@ -275,8 +275,8 @@ impl Wallet {
     /// A copy of the hashkey that was signed for a lock.
     pub fn copy_signed(&self, lock: LockId) -> Result<Shared<Hashkey>, NoMemory>
         requires lock { lock < length self.now.signed }
-        requires signed { IsSome (signed_in self.now.signed lock) }
-        ensures { IfOk result (λ k. signed_in self.now.signed lock ≡ Some k) }
+        requires signed { IsSome (signed_hashkey self.now.signed lock) }
+        ensures { IfOk result (λ k. signed_hashkey self.now.signed lock ≡ Some k) }
     {
         match &self.signed.keys.as_slice()[lock as usize] {
             Some(hashkey) => hashkey.copy(),
@@ -284,8 +284,8 @@ impl Wallet {
         }
     }
 
-    /// Makes the party's own hashkey for a lock that it leads, keeps it, and answers a copy. Want of memory leaves everything as it was: the key has
-    /// signed nothing.
+    /// Makes the party's own hashkey for a lock that it leads, keeps it, and answers a copy. Want
+    /// of memory leaves everything as it was: the key has signed nothing.
     pub fn sign_own(
         &mut self,
         alloc: Global,
@@ -295,7 +295,7 @@ impl Wallet {
         requires mode { self.old.mode ≡ deal.now.mode }
         requires party { self.old.party < deal.now.graph.n }
         requires lock { lock < length self.old.signed }
-        requires unsigned { signed_in self.old.signed lock ≡ None }
+        requires unsigned { signed_hashkey self.old.signed lock ≡ None }
         ensures value { IfOk result (λ k. k ≡ own_key deal.now.mode deal.now self.old.party self.old.seed lock) }
         ensures kept { IfOk result (λ k. self.new ≡ with_signed self.old lock k) }
         ensures err { OnErr result (self.new ≡ self.old) }
@@ -306,8 +306,8 @@ impl Wallet {
         Ok(answer)
     }
 
-    /// Makes the party's hashkey that goes on from another, keeps it, and answers a copy. Want of memory leaves everything as it was: the key has
-    /// signed nothing.
+    /// Makes the party's hashkey that goes on from another, keeps it, and answers a copy. Want of
+    /// memory leaves everything as it was: the key has signed nothing.
     pub fn sign_extension(
         &mut self,
         alloc: Global,
@@ -317,7 +317,7 @@ impl Wallet {
         requires mode { self.old.mode ≡ deal.now.mode }
         requires party { self.old.party < deal.now.graph.n }
         requires lock { inner.now.lock < length self.old.signed }
-        requires unsigned { signed_in self.old.signed inner.now.lock ≡ None }
+        requires unsigned { signed_hashkey self.old.signed inner.now.lock ≡ None }
         requires few { length inner.now.path < path_limit deal.now }
         requires paired { length inner.now.sigs ≡ length inner.now.path }
         ensures value { IfOk result (λ k. k ≡ onto_key deal.now.mode deal.now self.old.party self.old.seed inner.now) }

@@ -3,7 +3,7 @@
 ghost use Rattle.std.specs.Prelude.{◌≡◌, IfOk};
 ghost use Rattle.party_wallet.specs.Keys.{party_public, unspent};
 
-use hash_signature::{OneTimeKey, key_of, keygen};
+use hash_signature::{OneTimeKey, keygen, unwalked_key};
 use std::alloc::Global;
 use swap_base::{Digest, LockId, NoMemory, PartyId};
 use swap_digraph::Mode;
@@ -28,7 +28,8 @@ pub(crate) fn unspent(
     }
 }
 
-/// The same key without its public key, which walks its chains no further than what it signs opens them.
+/// The same key without its public key, which walks its chains no further than what it signs opens
+/// them.
 pub(crate) fn unspent_anew(
     mode: Mode,
     seed: &Digest,
@@ -39,6 +40,6 @@ pub(crate) fn unspent_anew(
 {
     match mode {
         Mode::Timelocks => None,
-        Mode::Hashkeys => Some(key_of(seed, party, lock)),
+        Mode::Hashkeys => Some(unwalked_key(seed, party, lock)),
     }
 }

@@ -1,7 +1,7 @@
 -- The values of a command, from what is read.
 use Rattle.std.proofs.Common.{◌≡◌, ◌∙◌, ℕ, ◌<◌, ◌^◌, Bool, true, false, List, Option, Some, None, refl, sym, ap, cond, codes, unwrap_or, arith}
 use Rattle.program_words.specs.Tables.{choice_range}
-use Rattle.program_words.specs.Words.{are_options, is_given, number_of, to_text, run_ticks}
+use Rattle.program_words.specs.Words.{are_options, is_given, option_number, to_text, run_ticks}
 use Rattle.program_words.specs.Parsed.{Numbers}
 use Rattle.program_words.specs.declared.choice.Choice.{Choice}
 use Rattle.program_words.specs.declared.choice.Choice.TheVariants.{Ticks}
@@ -17,7 +17,7 @@ flag_is c words o b is on off = go (is_given c words) refl
 
 pub number_is : (c : Choice) (ends : ℕ × ℕ) (bound : ℕ) (row : List Choice) (words : List (List ℕ)) (o : Option (List ℕ)) (r : Option ℕ) (other : ℕ)
     → choice_range c ≡ Some ends → are_options row None words ≡ true → ends.1 < bound
-    → o ≡ cond (is_given c words) (Some (to_text c words)) None → is_given c words ≡ true → Numbers bound o r → unwrap_or r other ≡ number_of c words
+    → o ≡ cond (is_given c words) (Some (to_text c words)) None → is_given c words ≡ true → Numbers bound o r → unwrap_or r other ≡ option_number c words
 number_is c ends bound row words o r other range ok small is given reads =
     ap (λ (x : Option ℕ). unwrap_or x other)
     (reads ends (to_text c words) (is ∙ rw given refl) (has_number row c ends None words range ok given) small)

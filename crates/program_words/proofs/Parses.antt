@@ -10,7 +10,7 @@ use Rattle.clap.specs.declared.parser.matches.ArgMatches.{ArgMatches}
 use Rattle.clap.proofs.WalkLemmas.{one_text-rows}
 use Rattle.program_words.specs.Tables.{party_label, choice_range}
 use Rattle.program_words.specs.Words.{are_options, is_given, to_text}
-use Rattle.program_words.specs.Parsed.{read_with, reading}
+use Rattle.program_words.specs.Parsed.{option_reading, reading}
 use Rattle.program_words.specs.declared.choice.Choice.{Choice}
 use Rattle.program_words.proofs.Rules.{rule, shape}
 use Rattle.program_words.proofs.Rows.{default_in, default_with, defaults_find, given_row, has_id, or_else}
@@ -77,7 +77,7 @@ read m rows c o is at = one_text-rows (found_of m) (party_label c) ∙ ap (λ (l
     ∙ ap (option_and_then row_text) at
 
 by_kind : (r : Option (ℕ × ℕ)) (id text : Text) (given : Bool)
-    → option_and_then row_text (or_else (cond given (Some (given_row r id text)) None) (default_with r id)) ≡ read_with r given text
+    → option_and_then row_text (or_else (cond given (Some (given_row r id text)) None) (default_with r id)) ≡ option_reading r given text
 by_kind None id text true = refl
 by_kind None id text false = refl
 by_kind (Some range) id text true = refl

@@ -9,7 +9,7 @@ use Rattle.clap.specs.declared.builder.value_parser.Reading.TheVariants.{AsWritt
 use Rattle.clap.specs.declared.parser.matches.ValueSource.TheVariants.{DefaultValue, CommandLine}
 use Rattle.program_words.specs.Tables.{party_label, choice_range}
 use Rattle.program_words.specs.declared.choice.Choice.{Choice}
-use Rattle.program_words.proofs.Rules.{rule, rule_with}
+use Rattle.program_words.proofs.Rules.{rule, option_rule}
 
 abbrev pub has_id : Text → Row → Bool
 has_id id r = bytes_eq r.id id
@@ -95,7 +95,7 @@ find_push p (x ∷ rows) r = go (p x) (find_push p rows r)
 
 -- a first use of an option adds its row
 used_joins : (r : Option (ℕ × ℕ)) (id text : Text) (rows : List Row) → has_row id rows ≡ false
-    → used (rule_with r id) (values_with r text) rows ≡ rows ++ given_row r id text ∷ []
+    → used (option_rule r id) (values_with r text) rows ≡ rows ++ given_row r id text ∷ []
 used_joins None id text rows h =
     rw (joins id (λ _. []) [] rows h, append-nil) (joins id (more_values CommandLine (codes "true" ∷ [])) (given_row None id text ∷ []) rows h)
 used_joins (Some range) id text rows h =
@@ -110,7 +110,7 @@ used_finds c text rows id h =
 
 -- and passes
 use_fits : (r : Option (ℕ × ℕ)) (id text : Text) (rows : List Row) → has_row id rows ≡ false
-    → use_passes false (rule_with r id) (values_with r text) rows ≡ true
+    → use_passes false (option_rule r id) (values_with r text) rows ≡ true
 use_fits None id text rows h = rw h refl
 use_fits (Some range) id text rows h = rw h refl
 
@@ -124,7 +124,7 @@ default_with None id = Some (default_row id)
 default_with (Some range) id = None
 
 default_joins : (r : Option (ℕ × ℕ)) (own : Text) (rows : List Row) (id : Text)
-    → find (has_id id) (with_default rows (rule_with r own))
+    → find (has_id id) (with_default rows (option_rule r own))
     ≡ or_else (find (has_id id) rows) (cond (bytes_eq own id) (default_with r own) None)
 default_joins r own rows id = go r (has_row own rows) refl
   where
@@ -143,7 +143,7 @@ default_joins r own rows id = go r (has_row own rows) refl
         there (find (has_id id) rows) (subst (λ (t : Text). is_some (find (has_id t) rows) ≡ true) same (some_row own rows h))
     kept false e h = sym (or_none (find (has_id id) rows))
 
-    go : (r : Option (ℕ × ℕ)) (b : Bool) → has_row own rows ≡ b → find (has_id id) (with_default rows (rule_with r own))
+    go : (r : Option (ℕ × ℕ)) (b : Bool) → has_row own rows ≡ b → find (has_id id) (with_default rows (option_rule r own))
         ≡ or_else (find (has_id id) rows) (cond (bytes_eq own id) (default_with r own) None)
     go None true h = rw h (kept (bytes_eq own id) refl h)
     go None false h = rw h (ap (find (has_id id)) (joins own (more_values DefaultValue (codes "false" ∷ [])) (default_row own ∷ []) rows h)

@@ -12,7 +12,8 @@ use Rattle.program_words.specs.Words.{names}
 use Rattle.program_words.specs.declared.choice.Choice.{Choice}
 use Rattle.program_words.proofs.Names.{IsLong}
 
--- the rule of an option that takes no number, and that of one that takes a number, as they are built
+-- the rule of an option that takes no number, and that of one that takes a number, as they are
+-- built
 abbrev pub flag_rule : Text → Rule
 flag_rule id = record (new_rule id) {
   long = Some id;
@@ -31,12 +32,12 @@ number_rule id = record (new_rule id) {
   parser = Some vp.String;
 }
 
-abbrev pub rule_with : Option (ℕ × ℕ) → Text → Rule
-rule_with None id = flag_rule id
-rule_with (Some range) id = number_rule id
+abbrev pub option_rule : Option (ℕ × ℕ) → Text → Rule
+option_rule None id = flag_rule id
+option_rule (Some range) id = number_rule id
 
 abbrev pub rule : Choice → Rule
-rule c = rule_with (choice_range c) (party_label c)
+rule c = option_rule (choice_range c) (party_label c)
 
 -- a command with these rules, built
 abbrev pub shape : Text → List Rule → Shape
@@ -47,7 +48,7 @@ shape name rules = record (new_shape name) {
   is_built = true;
 }
 
-id_test : (nm : Text) (r : Option (ℕ × ℕ)) (id : Text) → bytes_eq (rule_with r id).id nm ≡ bytes_eq id nm
+id_test : (nm : Text) (r : Option (ℕ × ℕ)) (id : Text) → bytes_eq (option_rule r id).id nm ≡ bytes_eq id nm
 id_test nm None id = refl
 id_test nm (Some range) id = refl
 
@@ -56,7 +57,7 @@ or_false true = refl
 or_false false = refl
 
 long_test : (nm : Text) (r : Option (ℕ × ℕ)) (id : Text)
-    → (not (is_some (rule_with r id).index) && has_long (rule_with r id) nm) ≡ bytes_eq id nm
+    → (not (is_some (option_rule r id).index) && has_long (option_rule r id) nm) ≡ bytes_eq id nm
 long_test nm None id = or_false (bytes_eq id nm)
 long_test nm (Some range) id = or_false (bytes_eq id nm)
 

@@ -2,7 +2,7 @@
 use Rattle.std.proofs.Common.{◌≡◌, ◌∙◌, ℕ, Bool, true, false, List, [], ◌∷◌, Option, Some, None, refl, sym, subst, find, cond, unwrap_or}
 use Rattle.std.proofs.lemmas.Slice.Eq.{bytes_eq-Decides}
 use Rattle.program_words.specs.Tables.{party_label, choice_range, choice_word}
-use Rattle.program_words.specs.Words.{after, are_options, behind, first_of, fits, front, is_given, is_number, names, option_step, step, to_text}
+use Rattle.program_words.specs.Words.{verdict_continues, are_options, behind, first_or_empty, fits, front, is_given, is_number, names, option_step, step, to_text}
 use Rattle.program_words.specs.declared.choice.Choice.{Choice}
 use Rattle.program_words.specs.declared.well_formed.Verdict.{Verdict}
 use Rattle.program_words.specs.declared.well_formed.Verdict.TheVariants.{Wrong, Done, Waits}
@@ -13,7 +13,7 @@ use Rattle.program_words.proofs.Walks.{find_passes, fits_number, one_name}
 abbrev Told : List Choice → Choice → ℕ × ℕ → List (List ℕ) → Type 0
 Told row c ends words = (waits : Option Choice) → are_options row waits words ≡ true → is_given c words ≡ true → is_number ends (to_text c words) ≡ true
 
-goes_on : (row : List Choice) (words : List (List ℕ)) (v : Verdict) → after v (λ next. are_options row next words) ≡ true
+goes_on : (row : List Choice) (words : List (List ℕ)) (v : Verdict) → verdict_continues v (λ next. are_options row next words) ≡ true
     → (waits : Option Choice) × (are_options row waits words ≡ true)
 goes_on row words Wrong h = cc
 goes_on row words Done h = (None, h)
@@ -21,7 +21,7 @@ goes_on row words (Waits own) h = (Some own, h)
 
 -- a word that doesn't name the option
 passed : (row : List Choice) (c : Choice) (ends : ℕ × ℕ) (word : List ℕ) (words : List (List ℕ)) (v : Verdict) → names word c ≡ false
-    → after v (λ next. are_options row next words) ≡ true → is_given c (word ∷ words) ≡ true → Told row c ends words
+    → verdict_continues v (λ next. are_options row next words) ≡ true → is_given c (word ∷ words) ≡ true → Told row c ends words
     → is_number ends (to_text c (word ∷ words)) ≡ true
 passed row c ends word words v other good given rest =
     let next = goes_on row words v good in
@@ -29,7 +29,7 @@ passed row c ends word words v other good given rest =
 
 -- the next word of an option that waits
 next_number : (row : List Choice) (c : Choice) (ends : ℕ × ℕ) (words : List (List ℕ)) → choice_range c ≡ Some ends → are_options row (Some c) words ≡ true
-    → is_number ends (first_of words) ≡ true
+    → is_number ends (first_or_empty words) ≡ true
 next_number row c ends [] range h = cc
 next_number row c ends (word ∷ words) range h = go (fits (choice_range c) word) refl
   where
@@ -44,7 +44,7 @@ next_number row c ends (word ∷ words) range h = go (fits (choice_range c) word
         subst (λ (e : ℕ × ℕ). is_number e word ≡ true) one is.2
 
 by_parts : (row : List Choice) (c : Choice) (ends : ℕ × ℕ) (words : List (List ℕ)) (v : Option (List ℕ)) → choice_range c ≡ Some ends
-    → after (option_step c (Some ends) v) (λ next. are_options row next words) ≡ true → is_number ends (unwrap_or v (first_of words)) ≡ true
+    → verdict_continues (option_step c (Some ends) v) (λ next. are_options row next words) ≡ true → is_number ends (unwrap_or v (first_or_empty words)) ≡ true
 by_parts row c ends words None range h = next_number row c ends words range h
 by_parts row c ends words (Some text) range h = go (is_number ends text) refl
   where
@@ -60,12 +60,12 @@ named : (row : List Choice) (c : Choice) (ends : ℕ × ℕ) (word : List ℕ) (
 named row c ends word words range n ok = rw n (by_option (find (names word) row) refl)
   where
     by_once : (b : Bool) → is_given c words ≡ b
-        → after (cond b Wrong (option_step c (choice_range c) (behind word))) (λ next. are_options row next words) ≡ true
-        → is_number ends (unwrap_or (behind word) (first_of words)) ≡ true
+        → verdict_continues (cond b Wrong (option_step c (choice_range c) (behind word))) (λ next. are_options row next words) ≡ true
+        → is_number ends (unwrap_or (behind word) (first_or_empty words)) ≡ true
     by_once true once h = cc
     by_once false once h = by_parts row c ends words (behind word) range (rw range at h)
 
-    by_option : (o : Option Choice) → find (names word) row ≡ o → is_number ends (unwrap_or (behind word) (first_of words)) ≡ true
+    by_option : (o : Option Choice) → find (names word) row ≡ o → is_number ends (unwrap_or (behind word) (first_or_empty words)) ≡ true
     by_option None e =
         let bad : false ≡ true = rw e at ok in
         cc
@@ -74,9 +74,9 @@ named row c ends word words range n ok = rw n (by_option (find (names word) row)
         let same : 45 ∷ 45 ∷ party_label own ≡ 45 ∷ 45 ∷ party_label c =
         (bytes_eq-Decides (choice_word own) (front word)).0 m ∙ sym ((bytes_eq-Decides (choice_word c) (front word)).0 n) in
         let one : own ≡ c = one_name own c cc in
-        let good : after (cond (is_given own words) Wrong (option_step own (choice_range own) (behind word))) (λ next. are_options row next words) ≡ true =
+        let good : verdict_continues (cond (is_given own words) Wrong (option_step own (choice_range own) (behind word))) (λ next. are_options row next words) ≡ true =
         rw e at ok in
-        by_once (is_given c words) refl (subst (λ (x : Choice). after (cond (is_given x words) Wrong (option_step x (choice_range x) (behind word)))
+        by_once (is_given c words) refl (subst (λ (x : Choice). verdict_continues (cond (is_given x words) Wrong (option_step x (choice_range x) (behind word)))
         (λ next. are_options row next words) ≡ true) one good)
 
 by_name : (row : List Choice) (c : Choice) (ends : ℕ × ℕ) (word : List ℕ) (words : List (List ℕ)) → choice_range c ≡ Some ends

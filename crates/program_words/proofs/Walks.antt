@@ -6,13 +6,13 @@ use Rattle.std.proofs.lemmas.Slice.Eq.{bytes_eq-Decides}
 use Rattle.clap.specs.Walk.{Held, Row, Rule, Text, Waiting, Walk, idle, option, arg_by_id, most_values, reacted, settled, takes_values, used, walked}
 use Rattle.clap.specs.Takes.{react_passes, settle_passes, use_passes, walk_passes}
 use Rattle.program_words.specs.Tables.{party_label, choice_range, choice_word}
-use Rattle.program_words.specs.Words.{after, are_options, behind, first_of, fits, front, is_given, is_number, names, option_step, to_text}
+use Rattle.program_words.specs.Words.{verdict_continues, are_options, behind, first_or_empty, fits, front, is_given, is_number, names, option_step, to_text}
 use Rattle.program_words.specs.declared.well_formed.Verdict.TheVariants.{Wrong}
 use Rattle.clap.specs.Lexer.{long_of}
 use Rattle.program_words.specs.declared.choice.Choice.{Choice}
 use Rattle.program_words.specs.declared.choice.Choice.TheVariants.{Ticks, Transcript, Seed, Parties, Events, Summary}
 use Rattle.program_words.proofs.Names.{IsLong, is_long, is_plain}
-use Rattle.program_words.proofs.Rules.{by_id, by_long, rule, rule_with, shape}
+use Rattle.program_words.proofs.Rules.{by_id, by_long, rule, option_rule, shape}
 use Rattle.program_words.proofs.Rows.{first_use_passes, given_row, has_id, or_assoc, or_else, or_none, used_finds, values_with}
 use Rattle.program_words.proofs.Steps.{Leads, at, awaiting, behind_leads, flag_leads, number_leads, option_leads}
 
@@ -48,15 +48,15 @@ decide c d = go (bytes_eq (party_label c) (party_label d)) refl
 own_name : (c : Choice) → bytes_eq (party_label c) (party_label c) ≡ true
 own_name c = (bytes_eq-Decides (party_label c) (party_label c)).1 refl
 
-id_is : (r : Option (ℕ × ℕ)) (id : Text) → (rule_with r id).id ≡ id
+id_is : (r : Option (ℕ × ℕ)) (id : Text) → (option_rule r id).id ≡ id
 id_is None id = refl
 id_is (Some range) id = refl
 
-takes_is : (r : Option (ℕ × ℕ)) (id : Text) → takes_values (rule_with r id) ≡ is_some r
+takes_is : (r : Option (ℕ × ℕ)) (id : Text) → takes_values (option_rule r id) ≡ is_some r
 takes_is None id = refl
 takes_is (Some range) id = refl
 
-most_is : (r : Option (ℕ × ℕ)) (range : ℕ × ℕ) (id : Text) → r ≡ Some range → most_values (rule_with r id) ≡ 1
+most_is : (r : Option (ℕ × ℕ)) (range : ℕ × ℕ) (id : Text) → r ≡ Some range → most_values (option_rule r id) ≡ 1
 most_is r range id h = rw h refl
 
 pub find_passes : {A : Type 0} (p : A → Bool) (xs : List A) (x : A) → find p xs ≡ Some x → p x ≡ true
@@ -92,13 +92,14 @@ expect_idle c words = cond (is_given c words) (Some (given_row (choice_range c) 
 abbrev pub expect : Choice → Option Choice → List Text → Option Row
 expect c None words = expect_idle c words
 expect c (Some own) words =
-    cond (bytes_eq (party_label own) (party_label c)) (Some (given_row (choice_range c) (party_label c) (first_of words))) (expect_idle c words)
+    cond (bytes_eq (party_label own) (party_label c)) (Some (given_row (choice_range c) (party_label c) (first_or_empty words))) (expect_idle c words)
 
 abbrev pub waiting_of : Option Choice → Waiting
 waiting_of None = idle
 waiting_of (Some c) = option (rule c).id
 
--- the walk passes over the words, and at its end each option has what it had before or else what is wanted
+-- the walk passes over the words, and at its end each option has what it had before or else what is
+-- wanted
 pub record Goes (name : Text) (rs : List Rule) (waiting : Waiting) (h : Held) (words : List Text) (R : List Row) (want : Choice → Option Row) : Type 0 where
   pub passes : walk_passes (shape name rs) [] (at waiting h) words ≡ true
   pub stopped : (fold (walked rs []) (at waiting h) words).stopped ≡ None
@@ -106,11 +107,11 @@ pub record Goes (name : Text) (rs : List Rule) (waiting : Waiting) (h : Held) (w
   pub found : (c : Choice) → find (has_id (party_label c)) (settled rs (fold (walked rs []) (at waiting h) words).held).rows
       ≡ or_else (find (has_id (party_label c)) R) (want c)
 
-goes_on : (name : Text) (rs : List Rule) (waiting then : Waiting) (h after : Held) (word : Text) (words : List Text) (test : Bool) (R : List Row)
-    (want : Choice → Option Row) → Leads name rs waiting h word then after test → test ≡ true → Goes name rs then after words R want
+goes_on : (name : Text) (rs : List Rule) (waiting then : Waiting) (h reached : Held) (word : Text) (words : List Text) (test : Bool) (R : List Row)
+    (want : Choice → Option Row) → Leads name rs waiting h word then reached test → test ≡ true → Goes name rs then reached words R want
     → Goes name rs waiting h (word ∷ words) R want
 unfolding walk_passes
-goes_on name rs waiting then h after word words test R want l t g = record {
+goes_on name rs waiting then h reached word words test R want l t g = record {
   passes = and_intro _ _ (l.passes ∙ t) (subst (λ (w : Walk). walk_passes (shape name rs) [] w words ≡ true) (sym l.walks) g.passes);
   stopped = subst (λ (w : Walk). (fold (walked rs []) w words).stopped ≡ None) (sym l.walks) g.stopped;
   settles = subst (λ (w : Walk). settle_passes rs false (fold (walked rs []) w words).held ≡ true) (sym l.walks) g.settles;
@@ -202,7 +203,7 @@ skips : (c : Choice) (word : Text) (words : List Text) → names word c ≡ fals
 skips c word words h = rw h refl
 
 takes_own : (c : Choice) (word : Text) (words : List Text) (v : Option Text) → names word c ≡ true → behind word ≡ v
-    → expect_idle c (word ∷ words) ≡ own_row c (unwrap_or v (first_of words))
+    → expect_idle c (word ∷ words) ≡ own_row c (unwrap_or v (first_or_empty words))
 takes_own c word words v n b = rw (n, b) refl
 
 flag_row : (c : Choice) (s t : Text) → choice_range c ≡ None → own_row c s ≡ own_row c t
@@ -279,14 +280,14 @@ idle_step name row word words h R ok idle_now rest = by_option (find (names word
   where
     by_parts : (own : Choice) → find (names word) row ≡ Some own → is_given own words ≡ false
         → (r : Option (ℕ × ℕ)) → choice_range own ≡ r → (v : Option Text) → behind word ≡ v
-        → after (option_step own r v) (λ next. are_options row next words) ≡ true
+        → verdict_continues (option_step own r v) (λ next. are_options row next words) ≡ true
         → Goes name (map rule row) idle h (word ∷ words) R (λ c. expect_idle c (word ∷ words))
     by_parts own e once None range None v good =
         let n : names word own ≡ true = find_passes (names word) row own e in
         let long = is_long word own n in
         let bare : long_of word ≡ Some (party_label own, None) = long.long ∙ ap (λ (t : Option Text). Some (party_label own, t)) v in
         used_at_once name row own [] [] word words h R long n once idle_now (flag_values own [] range)
-        (takes_own own word words None n v ∙ flag_row own (first_of words) [] range) good rest
+        (takes_own own word words None n v ∙ flag_row own (first_or_empty words) [] range) good rest
         (flag_leads name (party_label own) (map rule row) (rule own) h word long.no_dashes bare (by_long row word own long e)
         (takes_is (choice_range own) (party_label own) ∙ ap is_some range))
     by_parts own e once None range (Some text) v good = cc
@@ -316,7 +317,7 @@ idle_step name row word words h R ok idle_now rest = by_option (find (names word
             (takes_is (choice_range own) (party_label own) ∙ ap is_some range))
 
     by_once : (own : Choice) → find (names word) row ≡ Some own → (b : Bool) → is_given own words ≡ b
-        → after (cond b Wrong (option_step own (choice_range own) (behind word))) (λ next. are_options row next words) ≡ true
+        → verdict_continues (cond b Wrong (option_step own (choice_range own) (behind word))) (λ next. are_options row next words) ≡ true
         → Goes name (map rule row) idle h (word ∷ words) R (λ c. expect_idle c (word ∷ words))
     by_once own e true once good = cc
     by_once own e false once good = by_parts own e once (choice_range own) refl (behind word) refl good
@@ -385,6 +386,6 @@ walks name row None [] h R ok ready = record {
 }
 walks name row (Some own) [] h R ok ready = cc
 walks name row None (word ∷ words) h R ok ready =
-    idle_step name row word words h R ok ready (λ waits after S good next. walks name row waits words after S good next)
+    idle_step name row word words h R ok ready (λ waits reached S good next. walks name row waits words reached S good next)
 walks name row (Some own) (word ∷ words) h R ok ready =
-    waiting_step name row own word words h R ok ready (λ waits after S good next. walks name row waits words after S good next)
+    waiting_step name row own word words h R ok ready (λ waits reached S good next. walks name row waits words reached S good next)

@@ -29,12 +29,12 @@ flag_rule name = record (new_rule name) { long = Some name; action = Some SetTru
 abbrev pub number_rule : Text → Rule
 number_rule name = record (new_rule name) { long = Some name }
 
-abbrev pub rule_with : Option (ℕ × ℕ) → Text → Rule
-rule_with None name = flag_rule name
-rule_with (Some range) name = number_rule name
+abbrev pub option_rule : Option (ℕ × ℕ) → Text → Rule
+option_rule None name = flag_rule name
+option_rule (Some range) name = number_rule name
 
 abbrev pub choice_rule : Choice → Rule
-choice_rule choice = rule_with (choice_range choice) (party_label choice)
+choice_rule choice = option_rule (choice_range choice) (party_label choice)
 
 -- a command with no options yet, and none for help
 abbrev pub bare_shape : Text → Shape
@@ -47,13 +47,14 @@ bare_app name = record { top = bare_shape name; subs = [] }
 abbrev pub verb_app : Verb → App
 verb_app verb = record { top = record (bare_shape (first_word verb)) { rules = map choice_rule (choices verb) }; subs = [] }
 
--- what is read of an option, by whether it is given and its text: `true` or `false` of a flag, and a number's text where it is given
-abbrev pub read_with : Option (ℕ × ℕ) → Bool → Text → Option Text
-read_with None given text = Some (if given then codes "true" else codes "false")
-read_with (Some range) given text = if given then Some text else None
+-- what is read of an option, by whether it is given and its text: `true` or `false` of a flag, and
+-- a number's text where it is given
+abbrev pub option_reading : Option (ℕ × ℕ) → Bool → Text → Option Text
+option_reading None given text = Some (if given then codes "true" else codes "false")
+option_reading (Some range) given text = if given then Some text else None
 
 abbrev pub reading : Choice → List Text → Option Text
-reading choice words = read_with (choice_range choice) (is_given choice words) (to_text choice words)
+reading choice words = option_reading (choice_range choice) (is_given choice words) (to_text choice words)
 
 abbrev pub AreRead : List Choice → List Text → ArgMatches → Type 0
 AreRead [] words m = ⊤

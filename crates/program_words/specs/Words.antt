@@ -40,7 +40,8 @@ is_short_numeral text = nat_le 1 (length text) && nat_le (length text) 10 && lis
 abbrev pub is_number : ℕ × ℕ → List ℕ → Bool
 is_number range text = is_short_numeral text && (nat_le range.0 (digits_value 10 text) && nat_le (digits_value 10 text) range.1)
 
--- ---- well-formed words: a word is wrong, or it is done with, or the number of its option is the next word
+-- ---- well-formed words: a word is wrong, or it is done with, or the number of its option is the
+-- next word
 
 -- an option's word, by the numbers that the option takes and by what stands behind `=`
 abbrev pub option_step : Choice → Option (ℕ × ℕ) → Option (List ℕ) → Verdict
@@ -63,16 +64,16 @@ abbrev pub step : List Choice → Option Choice → List ℕ → List (List ℕ)
 step row None word later = named_step (find (names word) row) word later
 step row (Some choice) word later = if fits (choice_range choice) word then Done else Wrong
 
-abbrev pub after : Verdict → (Option Choice → Bool) → Bool
-after Wrong next = false
-after Done next = next None
-after (Waits choice) next = next (Some choice)
+abbrev pub verdict_continues : Verdict → (Option Choice → Bool) → Bool
+verdict_continues Wrong next = false
+verdict_continues Done next = next None
+verdict_continues (Waits choice) next = next (Some choice)
 
 -- the words are options of the row, in any order, each at most once, with their numbers
 abbrev pub are_options : List Choice → Option Choice → List (List ℕ) → Bool
 are_options row None [] = true
 are_options row (Some choice) [] = false
-are_options row waiting (word ∷ words) = after (step row waiting word words) (λ next. are_options row next words)
+are_options row waiting (word ∷ words) = verdict_continues (step row waiting word words) (λ next. are_options row next words)
 
 -- the words name the option
 abbrev pub is_given : Choice → List (List ℕ) → Bool
@@ -83,20 +84,20 @@ are_well_formed verb words = are_options (choices verb) None words && list_all (
 
 -- ---- what they ask for
 
-abbrev pub first_of : List (List ℕ) → List ℕ
-first_of [] = []
-first_of (word ∷ words) = word
+abbrev pub first_or_empty : List (List ℕ) → List ℕ
+first_or_empty [] = []
+first_or_empty (word ∷ words) = word
 
 -- the text that an option is given: what stands behind `=`, or the next word
 abbrev pub to_text : Choice → List (List ℕ) → List ℕ
 to_text choice [] = []
-to_text choice (word ∷ words) = if names word choice then unwrap_or (behind word) (first_of words) else to_text choice words
+to_text choice (word ∷ words) = if names word choice then unwrap_or (behind word) (first_or_empty words) else to_text choice words
 
-abbrev pub number_of : Choice → List (List ℕ) → ℕ
-number_of choice words = digits_value 10 (to_text choice words)
+abbrev pub option_number : Choice → List (List ℕ) → ℕ
+option_number choice words = digits_value 10 (to_text choice words)
 
 abbrev pub run_ticks : List (List ℕ) → ℕ
-run_ticks words = if is_given Ticks words then number_of Ticks words else 1
+run_ticks words = if is_given Ticks words then option_number Ticks words else 1
 
 abbrev pub asked : Verb → List (List ℕ) → Task
 asked Check words = task.Input order.Check
@@ -105,24 +106,24 @@ asked Race words = task.Race (run_ticks words) (is_given Transcript words)
 asked Audit words = task.Input order.Audit
 asked Make words = task.Input order.Make
 asked Gen words = task.Number (record {
-  seed = number_of Seed words;
-  parties = number_of Parties words;
-  events = number_of Events words;
+  seed = option_number Seed words;
+  parties = option_number Parties words;
+  events = option_number Events words;
   summary = is_given Summary words;
 })
 asked Clear words = task.Input order.Clear
 asked Many words = task.Input order.Many
 
-abbrev pub asked_by : List (List ℕ) → Verb → Option Task
-asked_by words verb = if are_well_formed verb words then Some (asked verb words) else None
+abbrev pub asked_task : List (List ℕ) → Verb → Option Task
+asked_task words verb = if are_well_formed verb words then Some (asked verb words) else None
 
 -- the task that the words ask for: no other words are well formed
 abbrev pub task_text : List (List ℕ) → Option Task
 task_text [] = None
-task_text (word ∷ words) = option_and_then (asked_by words) (parse_verb word)
+task_text (word ∷ words) = option_and_then (asked_task words) (parse_verb word)
 
 -- the numbers of a task lie in their ranges
-abbrev pub AreNumbersWithin : Task → Type 0
-AreNumbersWithin (task.Input order) = Unit {0}
-AreNumbersWithin (task.Race ticks transcript) = (1 ≤ ticks) × (ticks ≤ 1000)
-AreNumbersWithin (task.Number request) = (2 ≤ request.parties) × (request.parties ≤ 24) × (request.events ≤ 200000)
+abbrev pub AreNumbersInRange : Task → Type 0
+AreNumbersInRange (task.Input order) = Unit {0}
+AreNumbersInRange (task.Race ticks transcript) = (1 ≤ ticks) × (ticks ≤ 1000)
+AreNumbersInRange (task.Number request) = (2 ≤ request.parties) × (request.parties ≤ 24) × (request.events ≤ 200000)

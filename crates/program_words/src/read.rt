@@ -7,7 +7,7 @@ ghost use Rattle.clap.specs.Values.{kind_of};
 ghost use Rattle.clap.specs.Walk.{rule_of};
 ghost use Rattle.program_words.specs.Parsed.{AreRead, Numbers, verb_app, bare_app, flag_rule, number_rule};
 ghost use Rattle.program_words.specs.Tables.{choices};
-ghost use Rattle.program_words.specs.Words.{are_well_formed, asked, task_text, AreNumbersWithin};
+ghost use Rattle.program_words.specs.Words.{are_well_formed, asked, task_text, AreNumbersInRange};
 ghost use Rattle.program_words.specs.declared.task.Task.{Task};
 
 use crate::task::{Order, Request, Task};
@@ -82,7 +82,11 @@ fn verb_command<'a>(alloc: Global, verb: Verb) -> Result<clap::Command<'a>, Allo
 }
 
 /// What the words give the options of their first word. It fails for want of memory alone.
-fn matches_of<'a>(alloc: Global, verb: Verb, words: &'a [String]) -> Result<ArgMatches<'a>, Error>
+fn option_matches<'a>(
+    alloc: Global,
+    verb: Verb,
+    words: &'a [String],
+) -> Result<ArgMatches<'a>, Error>
     requires some { 0 < length words.now }
     requires whole { are_well_formed verb (map string_bytes (drop 1 words.now)) ≡ true }
     ensures read { IfOk result (AreRead (choices verb) (map string_bytes (drop 1 words.now))) }
@@ -96,7 +100,7 @@ fn matches_of<'a>(alloc: Global, verb: Verb, words: &'a [String]) -> Result<ArgM
 }
 
 /// The number of an option, where it is given.
-fn number_in(matches: &ArgMatches<'_>, name: &str) -> Option<u32>
+fn given_number(matches: &ArgMatches<'_>, name: &str) -> Option<u32>
     ensures none { one_text (found_of matches.now) name.now ≡ None → result ≡ None }
     ensures number { Numbers (2 ^ 32) (one_text (found_of matches.now) name.now) result }
 {
@@ -104,7 +108,7 @@ fn number_in(matches: &ArgMatches<'_>, name: &str) -> Option<u32>
 }
 
 /// The same of an option whose numbers are small.
-fn read_small_number(matches: &ArgMatches<'_>, name: &str) -> Option<u8>
+fn given_small_number(matches: &ArgMatches<'_>, name: &str) -> Option<u8>
     ensures none { one_text (found_of matches.now) name.now ≡ None → result ≡ None }
     ensures number { Numbers (2 ^ 8) (one_text (found_of matches.now) name.now) result }
 {
@@ -124,7 +128,7 @@ fn race_task(matches: &ArgMatches<'_>) -> Task
         → result ≡ asked Verb.Race words }
 {
     Task::Race {
-        ticks: number_in(matches, "ticks").unwrap_or(1),
+        ticks: given_number(matches, "ticks").unwrap_or(1),
         transcript: matches.get_flag("transcript"),
     }
 }
@@ -133,9 +137,9 @@ fn gen_task(matches: &ArgMatches<'_>) -> Task
     ensures { (words : List (List ℕ)) → are_well_formed Verb.Gen words ≡ true → AreRead (choices Verb.Gen) words matches.now → result ≡ asked Verb.Gen words }
 {
     Task::Number(Request {
-        seed: number_in(matches, "seed").unwrap_or(0),
-        parties: read_small_number(matches, "parties").unwrap_or(0),
-        events: number_in(matches, "events").unwrap_or(0),
+        seed: given_number(matches, "seed").unwrap_or(0),
+        parties: given_small_number(matches, "parties").unwrap_or(0),
+        events: given_number(matches, "events").unwrap_or(0),
         summary: matches.get_flag("summary"),
     })
 }
@@ -161,21 +165,22 @@ fn read_whole(alloc: Global, verb: Verb, words: &[String]) -> Result<Task, NoMem
     requires some { 0 < length words.now }
     requires whole { are_well_formed verb (map string_bytes (drop 1 words.now)) ≡ true }
     ensures exact { IfOk result (λ task. task ≡ asked verb (map string_bytes (drop 1 words.now))) }
-    ensures within { IfOk result AreNumbersWithin }
+    ensures within { IfOk result AreNumbersInRange }
 {
-    match matches_of(alloc, verb, words) {
+    match option_matches(alloc, verb, words) {
         Ok(matches) => Ok(parse_task(verb, &matches)),
         Err(_) => Err(NoMemory),
     }
 }
 
-/// Reads the task that the words after the program's name ask for: `None` where they aren't well formed.
+/// Reads the task that the words after the program's name ask for: `None` where they aren't well
+/// formed.
 #[tactic(auto, using(crate::proofs::Whole::no_task, crate::proofs::Whole::wrong_first, crate::proofs::Whole::wrong_rest, crate::proofs::Whole::whole_words))]
 pub fn read_task(alloc: Global, words: &[String]) -> Result<Option<Task>, NoMemory>
     ensures exact { IfOk result (λ task. task ≡ task_text (map string_bytes words.now)) }
     // Words that aren't well formed are found without memory.
     ensures wrong { task_text (map string_bytes words.now) ≡ None → result ≡ Ok None }
-    ensures within { (task : Task) → result ≡ Ok (Some task) → AreNumbersWithin task }
+    ensures within { (task : Task) → result ≡ Ok (Some task) → AreNumbersInRange task }
 {
     let [first, rest @ ..] = words else {
         return Ok(None);

@@ -5,7 +5,8 @@
 pub enum Task {
     /// An input is read, and what the order asks for is written.
     Input(Order),
-    /// A job is read and raced on threads by so many ticks a round, and the report is written, or the transcript.
+    /// A job is read and raced on threads by so many ticks a round, and the report is written, or
+    /// the transcript.
     Race { ticks: u32, transcript: bool },
     /// The job of a number is made, without an input.
     Number(Request),
@@ -24,7 +25,8 @@ pub enum Order {
     Audit,
     /// Proposed transfers are read, and those that can be swapped are written as plain jobs.
     Clear,
-    /// Several swaps on shared chains are read and run, and their reports are written with what the chains' accounts hold.
+    /// Several swaps on shared chains are read and run, and their reports are written with what the
+    /// chains' accounts hold.
     Many,
 }
 

@@ -154,8 +154,8 @@ fn step(row: &[Choice], waiting: Option<Choice>, word: &str, later: &[String]) -
     }
 }
 
-/// Whether the words are options of the row, where an option waits for its number or none does. No option comes twice, so it calls itself only a
-/// few times.
+/// Whether the words are options of the row, where an option waits for its number or none does. No
+/// option comes twice, so it calls itself only a few times.
 #[tactic(auto, using(crate::proofs::Slices::no_words, crate::proofs::Slices::more_words))]
 fn are_options(row: &[Choice], waiting: Option<Choice>, words: &[String]) -> bool
     ensures { result ≡ are_options row.now waiting (map string_bytes words.now) }

@@ -6,9 +6,9 @@ use Rattle.swap_digraph.specs.declared.deal.Mode.{Mode}
 use Rattle.swap_digraph.specs.declared.deal.Mode.TheVariants.{Timelocks, Hashkeys}
 use Rattle.hashkey_path.specs.Digest.{deal_id}
 use Rattle.swap_rules.specs.Accepted.{IsAccepted, IsTimed}
-use Rattle.proposed_deal.specs.Proposed.{IsLedFor, IsProposed}
+use Rattle.proposed_deal.specs.Proposed.{HasModeLeaders, IsProposed}
 
-led_for : (m : Mode) (d : Deal) → IsTimed m d → IsLedFor m d
+led_for : (m : Mode) (d : Deal) → IsTimed m d → HasModeLeaders m d
 led_for Timelocks d t = t.0
 led_for Hashkeys d t = tt
 

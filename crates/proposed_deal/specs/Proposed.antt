@@ -10,11 +10,12 @@ use Rattle.swap_rules.specs.Accepted.{IsOfVersion}
 use Rattle.swap_job.specs.declared.job.Job.{Job}
 
 -- with timelocks there is one leader
-abbrev pub IsLedFor : Mode → Deal → Type 0
-IsLedFor Timelocks d = length d.leaders ≡ 1
-IsLedFor Hashkeys d = Unit {0}
+abbrev pub HasModeLeaders : Mode → Deal → Type 0
+HasModeLeaders Timelocks d = length d.leaders ≡ 1
+HasModeLeaders Hashkeys d = Unit {0}
 
--- The digraph, the leaders, the times and the amounts are those of an accepted deal; of hashlocks, keys, timelocks and id nothing is said.
+-- The digraph, the leaders, the times and the amounts are those of an accepted deal; of hashlocks,
+-- keys, timelocks and id nothing is said.
 pub record IsProposed (d : Deal) : Type 0 where
   pub parties : (2 ≤ d.graph.n) × (d.graph.n ≤ most_parties d.version)
   pub arcs : (2 ≤ length d.graph.arcs) × (length d.graph.arcs ≤ most_arcs d.version)
@@ -24,7 +25,7 @@ pub record IsProposed (d : Deal) : Type 0 where
   pub leaders : (1 ≤ length d.leaders) × (length d.leaders ≤ 8)
   pub leader : (i : ℕ) → i < length d.leaders → lock_leader d i < d.graph.n
   pub apart : (i j : ℕ) → i < length d.leaders → j < length d.leaders → lock_leader d i ≡ lock_leader d j → i ≡ j
-  pub led : IsLedFor d.mode d
+  pub led : HasModeLeaders d.mode d
   pub feedback : IsFeedback d.graph d.leaders
   -- the most vertices on a path of followers alone
   pub height : ℕ

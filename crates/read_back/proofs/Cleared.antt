@@ -5,11 +5,11 @@ use Rattle.std.specs.Str.{bytes_eq}
 use Rattle.std.specs.List.{list_any}
 use Rattle.std.proofs.lemmas.List.Elements.{All-nil, All-push}
 use Rattle.swap_base.specs.Fault.{steps}
-use Rattle.swap_base.specs.Lists.{IsIn}
+use Rattle.swap_base.specs.Lists.{IsElement}
 use Rattle.refusals.specs.declared.reason.Reason.{Reason}
 use Rattle.refusals.specs.declared.reason.Reason.TheVariants.{BadName, Duplicate, StartTooSoon}
 use Rattle.offer_fields.specs.Fields.{parse_data}
-use Rattle.offer_fields.specs.Lists.{each_of}
+use Rattle.offer_fields.specs.Lists.{collected_results}
 use Rattle.offer_header.specs.Names.{is_name, name_added, AreNames}
 use Rattle.offer_header.proofs.Walked.{steps_keep}
 use Rattle.swap_clear.specs.declared.answer.Group.{Group}
@@ -19,7 +19,7 @@ use Rattle.swap_clear.specs.Clearing.{cleared_groups}
 use Rattle.swap_clear.proofs.Told as told
 use Rattle.clear_line.specs.Cleared.{by_clearing, parse_cleared, make_clearing, started, without_self_arcs}
 use Rattle.clear_line.specs.Fields.{raw_wishes}
-use Rattle.clear_line.specs.Limits.{proposals_of, parse_times, parse_wishes, parse_wish_text, AreWishesWithin}
+use Rattle.clear_line.specs.Limits.{limited_proposals, limited_times, parse_wishes, parse_wish_text, AreWishesInLimits}
 use Rattle.clear_line.specs.Names.{wished_name_step, numbered_arc, numbered_wishes, AreBoundedEnds}
 use Rattle.clear_line.specs.declared.cleared.Cleared.{Cleared}
 use Rattle.clear_line.specs.declared.fields.RawWishes.{RawWishes}
@@ -52,7 +52,7 @@ numbered_are : (line : ℕ) (raw : RawWishes) (n : Numbered) → numbered_wishes
 unfolding numbered_wishes
 numbered_are line raw =
     onward (steps (wished_name_step line) [] raw.parties) _ AreKnown (λ names e.
-    onward (each_of (numbered_arc line names) raw.arcs) _ AreKnown (λ arcs a.
+    onward (collected_results (numbered_arc line names) raw.arcs) _ AreKnown (λ arcs a.
     landed (record { names = names; arcs = arcs }) AreKnown
     (record { names = names_of line raw.parties names e; ends = listed_arcs line names raw.arcs arcs a; good = good_names line raw.parties names e })))
 
@@ -60,15 +60,15 @@ numbered_are line raw =
 
 -- What is known of wishes.
 record AreFine (w : Wishes) : Type 0 where
-  within : AreWishesWithin w
+  within : AreWishesInLimits w
   good : All IsGood w.names
 
 wishes_are : (line : ℕ) (raw : RawWishes) (w : Wishes) → parse_wishes line raw ≡ Ok w → AreFine w
 unfolding parse_wishes
 wishes_are line raw =
     onward (numbered_wishes line raw) _ AreFine (λ n m.
-    onward (parse_times line raw) _ AreFine (λ t s.
-    onward (proposals_of line n) _ AreFine (λ arcs p.
+    onward (limited_times line raw) _ AreFine (λ t s.
+    onward (limited_proposals line n) _ AreFine (λ arcs p.
     landed (record { start = t.0; delta = t.1; names = n.names; arcs = arcs }) AreFine
     (let k = numbered_are line raw n m in record { within = set_contains_ends line raw n t arcs k.names k.ends s p; good = k.good }))))
 
@@ -99,7 +99,7 @@ clearing_is w =
     onward (without_self_arcs w.arcs) _ P (λ u s.
     onward (started w.start w.delta) _ P (λ v t c e. (late_enough w.start w.delta v t, ok_cleared (cleared_groups (length w.names) w.arcs) c e)))
 
-group_is : (w : Wishes) (c : Clearing) → AreFine w → make_clearing w ≡ Ok c → (group : Group) → IsIn group c.groups → IsClear w group
+group_is : (w : Wishes) (c : Clearing) → AreFine w → make_clearing w ≡ Ok c → (group : Group) → IsElement group c.groups → IsClear w group
 group_is w c fine e group i =
     let n : ℕ = length w.names in
     let k = clearing_is w c e in record {
@@ -112,7 +112,7 @@ group_is w c fine e group i =
     }
 
 abbrev AreClear : Cleared → Type 0
-AreClear c = (group : Group) → IsIn group c.clearing.groups → IsClear c.wishes group
+AreClear c = (group : Group) → IsElement group c.clearing.groups → IsClear c.wishes group
 
 pub groups_are_clear : (line : ℕ) (text : List ℕ) (c : Cleared) → parse_cleared line text ≡ Ok c → AreClear c
 unfolding parse_cleared

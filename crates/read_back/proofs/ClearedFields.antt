@@ -5,16 +5,16 @@ use Rattle.swap_digraph.specs.declared.deal.Mode.TheVariants.{Hashkeys}
 use Rattle.swap_digraph.specs.declared.deal.Version.TheVariants.{Two}
 use Rattle.swap_job.specs.declared.job.Purpose.TheVariants.{Make}
 use Rattle.swap_job.specs.declared.job.Finish.TheVariants.{Stop}
-use Rattle.offer_fields.specs.Fields.{read_array_field, list_at, needed, number_at, object_at, only, optional_text_at, text_at}
+use Rattle.offer_fields.specs.Fields.{read_array_field, field_list, needed, field_number, required_object, only, optional_field_text, field_text}
 use Rattle.offer_header.specs.declared.raw.Reading.{Reading}
 use Rattle.offer_header.specs.declared.raw.RawActor.TheVariants.{Conforming}
 use Rattle.offer_header.specs.declared.raw.RawParty.{RawParty}
 use Rattle.offer_header.specs.declared.raw.RawArc.{RawArc}
 use Rattle.offer_header.specs.declared.raw.RawLeader.{RawLeader}
 use Rattle.offer_header.specs.declared.raw.RawHeader.{RawHeader}
-use Rattle.offer_header.specs.Raw.{actor_at, raw_arc_of, finish_at, header_fields, raw_leader_of, mode_at, parse_party, raw_of, stated_finish_at}
-use Rattle.offer_header.specs.Raw.{stated_mode_at}
-use Rattle.offer_header.specs.Raw.{version_at}
+use Rattle.offer_header.specs.Raw.{actor_member, object_arc, finish_member, header_fields, object_leader, mode_member, parse_party, object_header, stated_finish}
+use Rattle.offer_header.specs.Raw.{stated_mode}
+use Rattle.offer_header.specs.Raw.{version_member}
 use Rattle.swap_clear.specs.declared.answer.Group.{Group}
 use Rattle.clear_line.specs.declared.limits.Wishes.{Wishes}
 use Rattle.clear_line.specs.ClearedText.{proposal_data, named_data, proposal}
@@ -30,7 +30,7 @@ abbrev pub raw_party : Wishes → ℕ × List ℕ → RawParty
 raw_party w p = record { name = wished_name w p.0; actor = Conforming; seed = Some p.1 }
 
 party_back : (line : ℕ) (w : Wishes) (p : ℕ × List ℕ) → parse_party reading line (seeded_party w.names p) ≡ Ok (raw_party w p)
-unfolding parse_party object_at text_at needed actor_at optional_text_at only
+unfolding parse_party required_object field_text needed actor_member optional_field_text only
 party_back line w p = refl
 
 abbrev pub raw_arc : Wishes → ℕ → RawArc
@@ -41,15 +41,15 @@ raw_arc w a = record {
   timelock = 0;
 }
 
-arc_back : (line : ℕ) (w : Wishes) (a : ℕ) → raw_arc_of reading line (proposal_data w.names (proposal w.arcs a)) ≡ Ok (raw_arc w a)
-unfolding raw_arc_of object_at text_at needed number_at only
+arc_back : (line : ℕ) (w : Wishes) (a : ℕ) → object_arc reading line (proposal_data w.names (proposal w.arcs a)) ≡ Ok (raw_arc w a)
+unfolding object_arc required_object field_text needed field_number only
 arc_back line w a = refl
 
 abbrev pub raw_leader : Wishes → ℕ → RawLeader
 raw_leader w l = record { party = wished_name w l; hashlock = [] }
 
-leader_back : (line : ℕ) (w : Wishes) (l : ℕ) → raw_leader_of reading line (named_data (codes "party") w.names l) ≡ Ok (raw_leader w l)
-unfolding raw_leader_of object_at text_at needed only
+leader_back : (line : ℕ) (w : Wishes) (l : ℕ) → object_leader reading line (named_data (codes "party") w.names l) ≡ Ok (raw_leader w l)
+unfolding object_leader required_object field_text needed only
 leader_back line w l = refl
 
 -- ---- the header
@@ -69,48 +69,48 @@ raw_header w group texts = record {
 }
 
 module _ (line : ℕ) (w : Wishes) (group : Group) (texts : List (List ℕ)) where
-  version_is : version_at line (seeded_data w group texts) ≡ Ok Two
-  unfolding version_at number_at needed
+  version_is : version_member line (seeded_data w group texts) ≡ Ok Two
+  unfolding version_member field_number needed
   version_is = refl
 
-  mode_is : mode_at line Two (seeded_data w group texts) ≡ Ok Hashkeys
-  unfolding mode_at stated_mode_at text_at needed
+  mode_is : mode_member line Two (seeded_data w group texts) ≡ Ok Hashkeys
+  unfolding mode_member stated_mode field_text needed
   mode_is = refl
 
-  start_is : number_at line (codes "start") (seeded_data w group texts) ≡ Ok w.start
-  unfolding number_at needed
+  start_is : field_number line (codes "start") (seeded_data w group texts) ≡ Ok w.start
+  unfolding field_number needed
   start_is = refl
 
-  delta_is : number_at line (codes "delta") (seeded_data w group texts) ≡ Ok w.delta
-  unfolding number_at needed
+  delta_is : field_number line (codes "delta") (seeded_data w group texts) ≡ Ok w.delta
+  unfolding field_number needed
   delta_is = refl
 
-  bound_is : number_at line (codes "bound") (seeded_data w group texts) ≡ Ok group.bound
-  unfolding number_at needed
+  bound_is : field_number line (codes "bound") (seeded_data w group texts) ≡ Ok group.bound
+  unfolding field_number needed
   bound_is = refl
 
-  parties_are : list_at line (codes "parties") (parse_party reading line) (seeded_data w group texts) ≡ Ok (map (raw_party w) (zip group.parties texts))
-  unfolding list_at read_array_field needed
+  parties_are : field_list line (codes "parties") (parse_party reading line) (seeded_data w group texts) ≡ Ok (map (raw_party w) (zip group.parties texts))
+  unfolding field_list read_array_field needed
   parties_are = items_back (parse_party reading line) (seeded_party w.names) (raw_party w) (zip group.parties texts) (λ p i. party_back line w p)
 
-  arcs_are : list_at line (codes "arcs") (raw_arc_of reading line) (seeded_data w group texts) ≡ Ok (map (raw_arc w) group.arcs)
-  unfolding list_at read_array_field needed
-  arcs_are = items_back (raw_arc_of reading line) (λ a. proposal_data w.names (proposal w.arcs a)) (raw_arc w) group.arcs (λ a i. arc_back line w a)
+  arcs_are : field_list line (codes "arcs") (object_arc reading line) (seeded_data w group texts) ≡ Ok (map (raw_arc w) group.arcs)
+  unfolding field_list read_array_field needed
+  arcs_are = items_back (object_arc reading line) (λ a. proposal_data w.names (proposal w.arcs a)) (raw_arc w) group.arcs (λ a i. arc_back line w a)
 
-  leaders_are : list_at line (codes "leaders") (raw_leader_of reading line) (seeded_data w group texts) ≡ Ok (map (raw_leader w) group.leaders)
-  unfolding list_at read_array_field needed
-  leaders_are = items_back (raw_leader_of reading line) (named_data (codes "party") w.names) (raw_leader w) group.leaders (λ l i. leader_back line w l)
+  leaders_are : field_list line (codes "leaders") (object_leader reading line) (seeded_data w group texts) ≡ Ok (map (raw_leader w) group.leaders)
+  unfolding field_list read_array_field needed
+  leaders_are = items_back (object_leader reading line) (named_data (codes "party") w.names) (raw_leader w) group.leaders (λ l i. leader_back line w l)
 
-  finish_is : finish_at line Make (seeded_data w group texts) ≡ Ok Stop
-  unfolding stated_finish_at optional_text_at
+  finish_is : finish_member line Make (seeded_data w group texts) ≡ Ok Stop
+  unfolding stated_finish optional_field_text
   finish_is = refl
 
   no_others : only line (header_fields Make false) (seeded_data w group texts) ≡ Ok tt
   unfolding only
   no_others = refl
 
-  pub raw_back : raw_of Make line (seeded_data w group texts) ≡ Ok (raw_header w group texts)
-  unfolding raw_of
+  pub raw_back : object_header Make line (seeded_data w group texts) ≡ Ok (raw_header w group texts)
+  unfolding object_header
   raw_back =
       step _ Two _ version_is
       ∙ step _ Hashkeys _ mode_is

@@ -5,20 +5,20 @@ use Rattle.std.specs.Prelude.{codes, zip}
 use Rattle.std.proofs.lemmas.List.{length-map}
 use Rattle.hex.specs.Hex.{decode_sized}
 use Rattle.hex.specs.declared.error.FromHexError.{FromHexError}
-use Rattle.swap_base.specs.Lists.{IsIn}
+use Rattle.swap_base.specs.Lists.{IsElement}
 use Rattle.swap_base.proofs.Lists.{and_both}
 use Rattle.swap_digraph.specs.Graph.{is_listed}
 use Rattle.swap_digraph.proofs.Paths.{in-is_listed}
 use Rattle.swap_digraph.specs.declared.deal.Version.TheVariants.{Two}
 use Rattle.swap_job.specs.declared.job.Purpose.TheVariants.{Make}
 use Rattle.swap_job.specs.declared.job.Role.TheVariants.{Conforming}
-use Rattle.offer_fields.specs.Lists.{each_of}
-use Rattle.offer_fields.specs.Limits.{to_digest, ranged_number, within}
+use Rattle.offer_fields.specs.Lists.{collected_results}
+use Rattle.offer_fields.specs.Limits.{to_digest, ranged_number, check_range}
 use Rattle.offer_moves.specs.declared.moves.Sizes.{Sizes}
 use Rattle.offer_header.specs.declared.limits.Acting.{Acting}
 use Rattle.offer_header.specs.declared.limits.ArcTerms.{ArcTerms}
 use Rattle.offer_header.specs.declared.header.Header.{Header}
-use Rattle.offer_header.specs.Limits.{parse_acting, parse_all_terms, hashlocks_of, assemble_header, limited_of, no_digests, count_parties}
+use Rattle.offer_header.specs.Limits.{parse_acting, limited_terms, leader_hashlocks, assemble_header, limited_value, no_digests, count_parties}
 use Rattle.offer_header.specs.Limits.{checked_seed, header_sizes, stated_terms}
 use Rattle.swap_clear.specs.declared.answer.Group.{Group}
 use Rattle.swap_clear.specs.Led.{own, own_leaders}
@@ -48,8 +48,8 @@ unfolding parse_acting checked_seed to_digest
 seed_back w sizes names line p text seed e = rw e refl
 
 seeds_back : (w : Wishes) (sizes : Sizes) (names : List (List ℕ)) (line : ℕ) (ps : List ℕ) (texts seeds : List (List ℕ)) → length texts ≡ length ps
-    → AreDigitTexts texts seeds → each_of (parse_acting sizes names line) (map (raw_party w) (zip ps texts)) ≡ Ok (map acting_with seeds)
-unfolding each_of
+    → AreDigitTexts texts seeds → collected_results (parse_acting sizes names line) (map (raw_party w) (zip ps texts)) ≡ Ok (map acting_with seeds)
+unfolding collected_results
 seeds_back w sizes names line [] [] [] e d = refl
 seeds_back w sizes names line [] [] (s ∷ seeds) e d = absurd (cc d)
 seeds_back w sizes names line [] (t ∷ texts) seeds e d = absurd (omega (arith, e))
@@ -71,7 +71,7 @@ header_at w group texts seeds =
     (no_digests (map (raw_leader w) group.leaders))
     (map (λ p. no_digests (map (raw_leader w) group.leaders)) (map (raw_party w) (zip group.parties texts)))
 
-pub amount_low : (w : Wishes) (group : Group) → IsClear w group → (a : ℕ) → IsIn a group.arcs
+pub amount_low : (w : Wishes) (group : Group) → IsClear w group → (a : ℕ) → IsElement a group.arcs
     → (1 ≤ (proposal w.arcs a).amount) × ((proposal w.arcs a).amount ≤ 10 ^ 12)
 amount_low w group k a i =
     let lt : a < length (wished_graph w).arcs = k.one.arc a (in-is_listed a group.arcs i) in
@@ -92,15 +92,15 @@ module _ (w : Wishes) (group : Group) (k : IsClear w group) (line : ℕ) (texts 
       (omega (arith, low, size)) (omega (arith, high, size)))
       ∙ seeds_back w sizes names line group.parties texts seeds each digits
 
-  term_back : (a : ℕ) → IsIn a group.arcs → stated_terms line (raw_arc w a) ≡ Ok (terms_at w a)
+  term_back : (a : ℕ) → IsElement a group.arcs → stated_terms line (raw_arc w a) ≡ Ok (terms_at w a)
   unfolding stated_terms
   term_back a i =
       let low = amount_low w group k a i in
       step _ tt _ (within_back line (codes "amount") 1 (10 ^ 12) (proposal w.arcs a).amount low.0 low.1)
       ∙ step _ 0 _ (number_back line (codes "timelock") 0 1000000 0 (omega arith) (omega arith))
 
-  terms_back : parse_all_terms Two line (map (raw_arc w) group.arcs) ≡ Ok (map (terms_at w) group.arcs)
-  unfolding parse_all_terms
+  terms_back : limited_terms Two line (map (raw_arc w) group.arcs) ≡ Ok (map (terms_at w) group.arcs)
+  unfolding limited_terms
   terms_back =
       let own_size : length (own (wished_graph w) group).arcs ≡ length group.arcs = length-map group.arcs _ in
       let low : 2 ≤ length (own (wished_graph w) group).arcs = k.ready.arcs.0 in
@@ -110,8 +110,8 @@ module _ (w : Wishes) (group : Group) (k : IsClear w group) (line : ℕ) (texts 
       (omega (arith, low, size, own_size)) (omega (arith, high, size, own_size)))
       ∙ each_back (stated_terms line) (raw_arc w) (terms_at w) group.arcs term_back
 
-  locks_back : hashlocks_of true line (map (raw_leader w) group.leaders) ≡ Ok (no_digests (map (raw_leader w) group.leaders))
-  unfolding hashlocks_of
+  locks_back : leader_hashlocks true line (map (raw_leader w) group.leaders) ≡ Ok (no_digests (map (raw_leader w) group.leaders))
+  unfolding leader_hashlocks
   locks_back =
       let low : 1 ≤ length group.leaders = k.led.few.0 in
       let high : length group.leaders ≤ 8 = k.led.few.1 in
@@ -119,8 +119,8 @@ module _ (w : Wishes) (group : Group) (k : IsClear w group) (line : ℕ) (texts 
       step _ tt _ (within_back line (codes "leaders") 1 8 (length (map (raw_leader w) group.leaders)) (omega (arith, low, size))
       (omega (arith, high, size)))
 
-  pub limited_back : limited_of Make line (raw_header w group texts) (numbered_at w group) ≡ Ok (header_at w group texts seeds)
-  unfolding limited_of
+  pub limited_back : limited_value Make line (raw_header w group texts) (numbered_at w group) ≡ Ok (header_at w group texts seeds)
+  unfolding limited_value
   limited_back =
       let low : 1 ≤ group.bound
       = enough_is_some (own (wished_graph w) group) (own_leaders group) k.ready.height group.bound k.ready.parties.0 k.ready.leaders.0 k.ready.is_height

@@ -6,12 +6,12 @@ use Rattle.std.specs.List.{list_any}
 use Rattle.std.proofs.lemmas.Bool.{ne_eqb}
 use Rattle.std.proofs.lemmas.List.{map-append}
 use Rattle.swap_base.specs.Fault.{steps}
-use Rattle.swap_base.specs.Lists.{IsIn}
+use Rattle.swap_base.specs.Lists.{IsElement}
 use Rattle.swap_base.proofs.Lists.{in_append, in_map, in_from_moment}
 use Rattle.swap_digraph.specs.Graph.{is_listed}
 use Rattle.swap_digraph.proofs.Paths.{in-is_listed, is_listed-true}
-use Rattle.offer_fields.specs.Lists.{each_of}
-use Rattle.offer_header.specs.Names.{named_ends, is_name, leader_step, name_added, name_step, names_stated, numbered_of}
+use Rattle.offer_fields.specs.Lists.{collected_results}
+use Rattle.offer_header.specs.Names.{named_ends, is_name, leader_step, name_added, name_step, names_stated, numbered_header}
 use Rattle.offer_header.specs.declared.names.Ends.{Ends}
 use Rattle.offer_header.specs.declared.names.Numbered.{Numbered}
 use Rattle.swap_clear.specs.declared.answer.Group.{Group}
@@ -40,13 +40,13 @@ module _ (w : Wishes) (group : Group) (k : IsClear w group) (line : ℕ) (texts 
   name_is : (p : ℕ) → p < length w.names → is_name (wished_name w p) ≡ true
   name_is p lt = k.names p [] lt
 
-  in_pairs : (past : List (ℕ × List ℕ)) (x : ℕ × List ℕ) (rest : List (ℕ × List ℕ)) → zip group.parties texts ≡ past ++ x ∷ rest → IsIn x.0 group.parties
+  in_pairs : (past : List (ℕ × List ℕ)) (x : ℕ × List ℕ) (rest : List (ℕ × List ℕ)) → zip group.parties texts ≡ past ++ x ∷ rest → IsElement x.0 group.parties
   in_pairs past x rest e =
-      first_in group.parties texts x (subst (λ (l : List (ℕ × List ℕ)). IsIn x l) (sym e) (in_from_moment past x rest))
+      first_in group.parties texts x (subst (λ (l : List (ℕ × List ℕ)). IsElement x l) (sym e) (in_from_moment past x rest))
 
   -- a party is greater than those before it
   before : (past : List (ℕ × List ℕ)) (x : ℕ × List ℕ) (rest : List (ℕ × List ℕ)) → zip group.parties texts ≡ past ++ x ∷ rest
-      → (y : ℕ × List ℕ) → IsIn y past → y.0 < x.0
+      → (y : ℕ × List ℕ) → IsElement y past → y.0 < x.0
   before past x rest e y i =
       let split : group.parties ≡ map (λ (z : ℕ × List ℕ). z.0) past ++ x.0 ∷ map (λ (z : ℕ × List ℕ). z.0) rest
       = sym (firsts group.parties texts each) ∙ ap (map (λ (z : ℕ × List ℕ). z.0)) e ∙ map-append (λ (z : ℕ × List ℕ). z.0) past (x ∷ rest) in
@@ -80,7 +80,7 @@ module _ (w : Wishes) (group : Group) (k : IsClear w group) (line : ℕ) (texts 
 
   -- ---- arcs
 
-  arc_on : (a : ℕ) → IsIn a group.arcs → named_ends line (map (wished_name w) group.parties) (raw_arc w a) ≡ Ok (ends_at w group a)
+  arc_on : (a : ℕ) → IsElement a group.arcs → named_ends line (map (wished_name w) group.parties) (raw_arc w a) ≡ Ok (ends_at w group a)
   unfolding named_ends
   arc_on a i =
       let from = from_in w group k line a i in
@@ -90,19 +90,19 @@ module _ (w : Wishes) (group : Group) (k : IsClear w group) (line : ℕ) (texts 
       ∙ step _ (place group.parties (proposal w.arcs a).to) _
       (number_back w group k line (proposal w.arcs a).to (is_party w group k line _ (is_listed-true _ group.parties to)) to)
 
-  all_arcs : each_of (named_ends line (map (wished_name w) group.parties)) (map (raw_arc w) group.arcs) ≡ Ok (map (ends_at w group) group.arcs)
+  all_arcs : collected_results (named_ends line (map (wished_name w) group.parties)) (map (raw_arc w) group.arcs) ≡ Ok (map (ends_at w group) group.arcs)
   all_arcs = each_back (named_ends line (map (wished_name w) group.parties)) (raw_arc w) (ends_at w group) group.arcs arc_on
 
   -- ---- leaders
 
-  leads_in : (l : ℕ) → IsIn l group.leaders → is_listed l group.parties ≡ true
+  leads_in : (l : ℕ) → IsElement l group.leaders → is_listed l group.parties ≡ true
   leads_in l i = k.led.among l (in-is_listed l group.leaders i)
 
-  leader_in : (past : List ℕ) (x : ℕ) (rest : List ℕ) → group.leaders ≡ past ++ x ∷ rest → IsIn x group.leaders
-  leader_in past x rest e = subst (λ (l : List ℕ). IsIn x l) (sym e) (in_from_moment past x rest)
+  leader_in : (past : List ℕ) (x : ℕ) (rest : List ℕ) → group.leaders ≡ past ++ x ∷ rest → IsElement x group.leaders
+  leader_in past x rest e = subst (λ (l : List ℕ). IsElement x l) (sym e) (in_from_moment past x rest)
 
-  leader_before : (past : List ℕ) (x : ℕ) (rest : List ℕ) → group.leaders ≡ past ++ x ∷ rest → (y : ℕ) → IsIn y past → IsIn y group.leaders
-  leader_before past x rest e y i = subst (λ (l : List ℕ). IsIn y l) (sym e) (in_append past (x ∷ rest) y (inl i))
+  leader_before : (past : List ℕ) (x : ℕ) (rest : List ℕ) → group.leaders ≡ past ++ x ∷ rest → (y : ℕ) → IsElement y past → IsElement y group.leaders
+  leader_before past x rest e y i = subst (λ (l : List ℕ). IsElement y l) (sym e) (in_append past (x ∷ rest) y (inl i))
 
   leader_on : (past : List ℕ) (x : ℕ) (rest : List ℕ) → group.leaders ≡ past ++ x ∷ rest
       → leader_step line (map (wished_name w) group.parties) (map (place group.parties) past) (raw_leader w x)
@@ -124,8 +124,8 @@ module _ (w : Wishes) (group : Group) (k : IsClear w group) (line : ℕ) (texts 
   all_leaders : steps (leader_step line (map (wished_name w) group.parties)) [] (map (raw_leader w) group.leaders) ≡ Ok (own_leaders group)
   all_leaders = puts_each (leader_step line (map (wished_name w) group.parties)) (raw_leader w) (place group.parties) [] group.leaders leader_on
 
-  pub numbered_back : (has : List ℕ → Bool) → numbered_of has line (raw_header w group texts) ≡ Ok (numbered_at w group)
-  unfolding numbered_of
+  pub numbered_back : (has : List ℕ → Bool) → numbered_header has line (raw_header w group texts) ≡ Ok (numbered_at w group)
+  unfolding numbered_header
   numbered_back has =
       step _ (map (wished_name w) group.parties) _ (all_names has (names_stated (map (raw_party w) (zip group.parties texts))))
       ∙ step _ (map (ends_at w group) group.arcs) _ all_arcs

@@ -12,7 +12,7 @@ use Rattle.hex.proofs.HexLemmas.{decode_pairs-ok, decode_sized-ok}
 use Rattle.hex.proofs.Pairs.{decode_sized-pairs}
 use Rattle.serde_json.specs.Data.{Data, string, no_members, member}
 use Rattle.serde_json.specs.Read.{read}
-use Rattle.swap_base.specs.Lists.{IsIn}
+use Rattle.swap_base.specs.Lists.{IsElement}
 use Rattle.offer_text.specs.Words.{list_data, name_data, number_data, AreTexts}
 use Rattle.swap_clear.specs.declared.answer.Group.{Group}
 use Rattle.swap_clear.specs.declared.proposed.Proposed.{Proposed}
@@ -42,7 +42,7 @@ digits_text t seed e =
     let pairs : decode_pairs 0 t ≡ Ok seed = sym (decode_sized-pairs t 32 (omega (arith, long)) (omega (arith, long))) ∙ e in
     IsUtf8-from_ascii t (ascii_digits t (decode_pairs-ok 0 t seed pairs).0)
 
-texts_are : (texts seeds : List (List ℕ)) → AreDigitTexts texts seeds → (t : List ℕ) → IsIn t texts → IsUtf8 t
+texts_are : (texts seeds : List (List ℕ)) → AreDigitTexts texts seeds → (t : List ℕ) → IsElement t texts → IsUtf8 t
 texts_are [] seeds d t i = absurd i
 texts_are (x ∷ texts) [] d t i = absurd (cc d)
 texts_are (x ∷ texts) (s ∷ seeds) d t (inl e) = subst IsUtf8 (sym e) (digits_text x s (heads (decode_sized x 32) s _ _ d).0)

@@ -7,7 +7,7 @@ use Rattle.swap_job.specs.declared.job.Purpose.TheVariants.{Make}
 use Rattle.refusals.specs.declared.reason.Reason.TheVariants.{NotJson}
 use Rattle.offer_fields.specs.Fields.{parse_data, object_or}
 use Rattle.offer_header.specs.Header.{parse_whole_header}
-use Rattle.swap_offer.specs.Job.{job_header_of, parse_job, job_of_lines}
+use Rattle.swap_offer.specs.Job.{parse_header_job, parse_job, job_of_lines}
 use Rattle.swap_clear.specs.declared.answer.Group.{Group}
 use Rattle.clear_line.specs.declared.limits.Wishes.{Wishes}
 use Rattle.read_back.specs.ClearedJobs.{cleared_job, seeded_data, seeded_line, AreDigitTexts, IsSeeded}
@@ -15,7 +15,7 @@ use Rattle.read_back.specs.ClearedJobs.{ClearedGroupsAreMade, ClearedGroupsArePl
 use Rattle.read_back.specs.ClearedJobs.{SeededLineIsOneLine, SeededLineReads, SeededTextIsPlainJob}
 use Rattle.read_back.proofs.Steps.{step}
 use Rattle.clear_line.specs.declared.cleared.Cleared.{Cleared}
-use Rattle.made_jobs.specs.Making.{made_of, made_output, made_text}
+use Rattle.made_jobs.specs.Making.{made_lines_output, made_output, made_text}
 use Rattle.read_back.proofs.Cleared.{groups_are_clear}
 use Rattle.read_back.proofs.Deal.{accepted_back, all_placed}
 use Rattle.read_back.proofs.ClearedFields.{raw_back, raw_header}
@@ -48,8 +48,8 @@ module _ (w : Wishes) (group : Group) (k : IsClear w group) (texts seeds : List 
       ∙ step _ tt _ (all_placed w group k line texts seeds each digits)
 
   job_back : (has : List ℕ → Bool) (line : ℕ) (text : List ℕ) → is_utf8 text ≡ true → read text ≡ Some (seeded_data w group texts)
-      → job_header_of has Make line text ≡ Ok (cleared_job w group seeds)
-  unfolding job_header_of
+      → parse_header_job has Make line text ≡ Ok (cleared_job w group seeds)
+  unfolding parse_header_job
   job_back has line text utf8 reads =
       step _ (header_at w group texts seeds) _ (header_back has line text utf8 reads) ∙ accepted_back w group k line texts seeds each digits
 
@@ -84,5 +84,5 @@ cleared_groups_are_plain_offers c group texts seeds s has =
 pub cleared_groups_are_made : ClearedGroupsAreMade
 unfolding made_output made_text
 cleared_groups_are_made c group texts seeds s has =
-    ap (made_of has) (as_given c.wishes group texts (seeded_line_is_one_line c group texts seeds s))
+    ap (made_lines_output has) (as_given c.wishes group texts (seeded_line_is_one_line c group texts seeds s))
     ∙ step _ (cleared_job c.wishes group seeds, []) _ (line_read c group texts seeds s has)

@@ -18,7 +18,7 @@ use Rattle.swap_job.specs.declared.job.Finish.TheVariants.{Stop}
 use Rattle.swap_job.specs.declared.job.Role.{Role}
 use Rattle.swap_job.specs.declared.job.Role.TheVariants.{Conforming}
 use Rattle.proposed_deal.specs.Proposed.{IsProposed}
-use Rattle.offer_header.specs.Header.{IsHeaderWithin}
+use Rattle.offer_header.specs.Header.{IsHeaderInLimits}
 use Rattle.offer_header.specs.Limits.{arc_ends, no_digest, no_digests}
 use Rattle.offer_header.specs.Raw.{IsUntimed}
 use Rattle.offer_header.specs.Scripts.{roles_placed, scripts_placed}
@@ -171,7 +171,7 @@ module _ (w : Wishes) (group : Group) (k : IsClear w group) (line : ℕ) (texts 
       let size : length (map (raw_arc w) group.arcs) ≡ length group.arcs = length-map group.arcs (raw_arc w) in
       ap (λ (x : RawArc). x.timelock) (get_or-map (raw_arc w) group.arcs a 0 d (omega (arith, lt, size)))
 
-  within : IsHeaderWithin header
+  within : IsHeaderInLimits header
   within =
       set_contains_ends line Make (raw_header w group texts) (numbered_at w group) header
       (is_numbered (λ name. false) line (raw_header w group texts) (numbered_at w group) (numbered_back w group k line texts each (λ name. false))) refl

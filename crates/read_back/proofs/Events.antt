@@ -19,7 +19,7 @@ use Rattle.offer_events.specs.Event.{asked, parse_event, event_of_act, event_of_
 use Rattle.offer_events.specs.Plain.{is_plain_byte}
 use Rattle.offer_events.specs.declared.raw.RawEvent.TheVariants as raws
 use Rattle.offer_events.proofs.PlainText.{act_alone, arc_then_look, asked_by, by_then_tick}
-use Rattle.swap_gen.specs.Events.{event_from, events_from}
+use Rattle.swap_gen.specs.Events.{drawn_event, drawn_events}
 use Rattle.swap_gen.specs.Line.{event_line, party_name}
 use Rattle.swap_gen.specs.Word.{word}
 use Rattle.swap_offer.specs.Job.{parse_events, limited_event}
@@ -29,7 +29,7 @@ use Rattle.read_back.proofs.HeaderLimited.{number_back}
 use Rattle.read_back.proofs.HeaderOneLine.{both_lines, high_line}
 use Rattle.read_back.proofs.Steps.{step}
 use Rattle.transcript_lines.specs.Between.{ended}
-use Rattle.read_back.specs.Made.{numbered_from, IsOneLine}
+use Rattle.read_back.specs.Made.{numbered_lines, IsOneLine}
 use Rattle.read_back.proofs.Lines.{AreLines}
 use Rattle.read_back.proofs.MoveLimits.{below_back}
 
@@ -68,8 +68,8 @@ by_kind true look x y z a b c = a
 by_kind false true x y z a b c = b
 by_kind false false x y z a b c = c
 
-is_drawn : (seed : ℕ) (g : Graph) (at : ℕ) → IsDrawn (event_from seed g at).0
-unfolding event_from
+is_drawn : (seed : ℕ) (g : Graph) (at : ℕ) → IsDrawn (drawn_event seed g at).0
+unfolding drawn_event
 is_drawn seed g at = by_kind (word seed at % 8 == 0) (nat_le (word seed at % 8) 4) _ _ _ tt tt tt
 
 -- ---- one line
@@ -118,10 +118,10 @@ AreDrawn job [] = Unit {0}
 AreDrawn job (e ∷ es) = IsJobEvent job e × IsDrawn e × AreDrawn job es
 
 -- so are those that a number gives
-pub drawn_from : (job : Job) (seed : ℕ) (g : Graph) → ((at : ℕ) → IsJobEvent job (event_from seed g at).0) → (at count : ℕ)
-    → AreDrawn job (events_from seed g at count)
+pub drawn_from : (job : Job) (seed : ℕ) (g : Graph) → ((at : ℕ) → IsJobEvent job (drawn_event seed g at).0) → (at count : ℕ)
+    → AreDrawn job (drawn_events seed g at count)
 drawn_from job seed g can at zero = tt
-drawn_from job seed g can at (suc count) = (can at, is_drawn seed g at, drawn_from job seed g can (event_from seed g at).1 count)
+drawn_from job seed g can at (suc count) = (can at, is_drawn seed g at, drawn_from job seed g can (drawn_event seed g at).1 count)
 
 -- What is known of a job whose events are drawn.
 pub record HasPlainNames (job : Job) : Type 0 where
@@ -194,7 +194,7 @@ module _ (job : Job) (k : HasPlainNames job) where
       ∙ event_back line e can d
 
   pub events_back : (count line : ℕ) (es : List Event) → count + length es ≤ 200000 → AreDrawn job es
-      → parse_events job count (numbered_from line (map (event_text job.names) es)) ≡ Ok es
+      → parse_events job count (numbered_lines line (map (event_text job.names) es)) ≡ Ok es
   unfolding parse_events
   events_back count line [] few h = refl
   events_back count line (e ∷ es) few h =

@@ -24,7 +24,7 @@ use Rattle.offer_header.specs.Names.{is_name}
 use Rattle.offer_header.specs.Scripts.{roles_placed}
 use Rattle.offer_text.specs.HeaderLine.{header_line}
 use Rattle.swap_gen.specs.Drawn.{drawn_graph, generated, party_label, plain_deal, plain_job, drawn_seed}
-use Rattle.swap_gen.specs.Events.{event_from, events_from, first_place, generated_events}
+use Rattle.swap_gen.specs.Events.{drawn_event, drawn_events, first_place, generated_events}
 use Rattle.swap_gen.specs.Made.{made_deal}
 use Rattle.swap_gen.proofs.Generated.{generated_steps, plain_has_seeds, plain_job_is_proposed}
 use Rattle.swap_offer.specs.Job.{parse_events, parse_job}
@@ -32,7 +32,7 @@ use Rattle.made_jobs.specs.Generating.{generated_text}
 use Rattle.made_jobs.specs.Making.{written_line}
 use Rattle.read_back.proofs.HeaderNamed as named
 use Rattle.transcript_lines.specs.Between.{ended}
-use Rattle.read_back.specs.Made.{numbered_from, reads_jobs, told_job, with_job, GeneratedTextIsReadBack, HasEventsFor}
+use Rattle.read_back.specs.Made.{numbered_lines, reads_jobs, told_job, with_job, GeneratedTextIsReadBack, HasAllowedEvents}
 use Rattle.read_back.proofs.Events.{drawn_from, event_lines, event_text, events_back, lines_are_text, AreDrawn, HasPlainNames}
 use Rattle.read_back.proofs.Outputs.{text_back}
 use Rattle.read_back.proofs.Plain.{hash_is, made_is_told, IsPlainJob}
@@ -80,9 +80,9 @@ same_number p q lp lq e = decimal_injective p q (omega (arith, lp)) (omega (arit
 
 -- ---- events
 
-from_long : (seed : ℕ) (g : Graph) (at count : ℕ) → length (events_from seed g at count) ≡ count
+from_long : (seed : ℕ) (g : Graph) (at count : ℕ) → length (drawn_events seed g at count) ≡ count
 from_long seed g at zero = refl
-from_long seed g at (suc count) = ap (λ (m : ℕ). suc m) (from_long seed g (event_from seed g at).1 count)
+from_long seed g at (suc count) = ap (λ (m : ℕ). suc m) (from_long seed g (drawn_event seed g at).1 count)
 
 events_long : (seed n count : ℕ) → length (generated_events seed n count) ≡ count
 unfolding generated_events
@@ -161,7 +161,7 @@ module _ (has : List ℕ → Bool) (seed n : ℕ) (many : 2 ≤ n) (few : n ≤ 
       outside = outside;
     }
 
-    steps_of : (at : ℕ) → IsJobEvent job (event_from seed (drawn_graph seed n) at).0
+    steps_of : (at : ℕ) → IsJobEvent job (drawn_event seed (drawn_graph seed n) at).0
     steps_of at = generated_steps seed n at many
 
     are_drawn : (events : ℕ) → AreDrawn job (generated_events seed n events)
@@ -184,7 +184,7 @@ module _ (has : List ℕ → Bool) (seed n : ℕ) (many : 2 ≤ n) (few : n ≤ 
 
   read_as : (purpose : Purpose) → reads_jobs purpose ≡ true → (events : ℕ) → parse_job has purpose (generated_text seed n events)
       ≡ with_job (told_job purpose (plain_job seed n))
-      (parse_events (told_job purpose (plain_job seed n)) 0 (numbered_from 2 (map (event_text names) (generated_events seed n events))))
+      (parse_events (told_job purpose (plain_job seed n)) 0 (numbered_lines 2 (map (event_text names) (generated_events seed n events))))
   read_as purpose reads events =
       ap (parse_job has purpose) (text_is events)
       ∙ text_back has (plain_job seed n) generated_is_plain purpose reads (map (event_text names) (generated_events seed n events))
@@ -203,7 +203,7 @@ module _ (has : List ℕ → Bool) (seed n : ℕ) (many : 2 ≤ n) (few : n ≤ 
   unfolding generated_events parse_events
   without_events = read_as Race refl 0
 
-  pub generated_back : (purpose : Purpose) → reads_jobs purpose ≡ true → (events : ℕ) → events ≤ 200000 → HasEventsFor purpose events
+  pub generated_back : (purpose : Purpose) → reads_jobs purpose ≡ true → (events : ℕ) → events ≤ 200000 → HasAllowedEvents purpose events
       → parse_job has purpose (generated_text seed n events) ≡ Ok (told_job purpose (plain_job seed n), generated_events seed n events)
   generated_back Check reads events few_events h = with_events Check refl (λ line. refl) events few_events
   generated_back Run reads events few_events h = with_events Run refl (λ line. refl) events few_events

@@ -14,7 +14,7 @@ use Rattle.swap_digraph.specs.Deal.{amount, lock_leader, locks}
 use Rattle.swap_job.specs.declared.job.Job.{Job}
 use Rattle.swap_job.specs.declared.job.Purpose.TheVariants.{Audit}
 use Rattle.swap_job.specs.declared.job.Finish.TheVariants.{Stop}
-use Rattle.offer_fields.specs.Fields.{read_array_field, list_at, member_text_of, needed, number_at, object_at, only, text_at}
+use Rattle.offer_fields.specs.Fields.{read_array_field, field_list, text_member, needed, field_number, required_object, only, field_text}
 use Rattle.offer_header.specs.declared.raw.Reading.{Reading}
 use Rattle.offer_header.specs.declared.raw.RawActor.{RawActor}
 use Rattle.offer_header.specs.declared.raw.RawActor.TheVariants.{Conforming, Manual}
@@ -23,11 +23,11 @@ use Rattle.offer_header.specs.declared.raw.RawArc.{RawArc}
 use Rattle.offer_header.specs.declared.raw.RawLeader.{RawLeader}
 use Rattle.offer_header.specs.declared.raw.RawRow.{RawRow}
 use Rattle.offer_header.specs.declared.raw.RawHeader.{RawHeader}
-use Rattle.offer_header.specs.Raw.{actor_at, raw_arc_of, header_fields, keys_at, raw_leader_of, mode_at, checked_mode, parse_party, raw_of, parse_row}
+use Rattle.offer_header.specs.Raw.{actor_member, object_arc, header_fields, keys_member, object_leader, mode_member, checked_mode, parse_party, object_header, parse_row}
 use Rattle.offer_header.specs.Raw.{states_keys}
-use Rattle.offer_header.specs.Raw.{stated_mode_at, version_at, parse_version, IsVersionMode}
+use Rattle.offer_header.specs.Raw.{stated_mode, version_member, parse_version, IsVersionMode}
 use Rattle.offer_text.specs.Words.{digest_data, list_data, number_data}
-use Rattle.offer_text.specs.HeaderLine.{arc_data, fields_by_mode, leader_value, number_of, shown_header, shown_party, word_of_conforming}
+use Rattle.offer_text.specs.HeaderLine.{arc_data, fields_by_mode, leader_value, version_number, shown_header, shown_party, word_of_conforming}
 use Rattle.read_back.proofs.Steps.{items_back, step}
 
 abbrev pub reading : Mode → Reading
@@ -45,7 +45,7 @@ raw_party job p = record { name = slice_index_or job.names p []; actor = actor_f
 party_by : (mode : Mode) (line : ℕ) (name : List ℕ) (c : Bool)
     → parse_party (reading mode) line (object (member (codes "actor") (string (word_of_conforming c)) (member (codes "name") (string name) no_members)))
     ≡ Ok (record { name = name; actor = actor_for c; seed = None })
-unfolding parse_party object_at text_at needed actor_at member_text_of only
+unfolding parse_party required_object field_text needed actor_member text_member only
 party_by mode line name true = refl
 party_by mode line name false = refl
 
@@ -71,13 +71,13 @@ abbrev pub arc_shown : Mode → Job → ℕ → Data
 arc_shown mode job a = arc_data mode job.names (ends job.deal.graph a) (amount job.deal a) (slice_index job.deal.timelocks a)
 
 arc_by : (mode : Mode) (line : ℕ) (names : List (List ℕ)) (arc : ArcEnds) (units timelock : ℕ)
-    → raw_arc_of (reading mode) line (arc_data mode names arc units timelock)
+    → object_arc (reading mode) line (arc_data mode names arc units timelock)
     ≡ Ok (record { from = slice_index_or names arc.from []; to = slice_index_or names arc.to []; amount = units; timelock = stated mode timelock })
-unfolding raw_arc_of object_at text_at needed number_at only
+unfolding object_arc required_object field_text needed field_number only
 arc_by Timelocks line names arc units timelock = refl
 arc_by Hashkeys line names arc units timelock = refl
 
-pub arc_back : (mode : Mode) (line : ℕ) (job : Job) (a : ℕ) → raw_arc_of (reading mode) line (arc_shown mode job a) ≡ Ok (raw_arc mode job a)
+pub arc_back : (mode : Mode) (line : ℕ) (job : Job) (a : ℕ) → object_arc (reading mode) line (arc_shown mode job a) ≡ Ok (raw_arc mode job a)
 arc_back mode line job a = arc_by mode line job.names (ends job.deal.graph a) (amount job.deal a) (slice_index job.deal.timelocks a)
 
 -- ---- leaders and keys
@@ -88,12 +88,12 @@ raw_leader job i = record {
   hashlock = encode_lower (slice_index_or job.deal.hashlocks i []);
 }
 
-pub leader_back : (mode : Mode) (line : ℕ) (job : Job) (i : ℕ) → raw_leader_of (reading mode) line (leader_value job.names job.deal i) ≡ Ok (raw_leader job i)
-unfolding raw_leader_of object_at text_at needed only
+pub leader_back : (mode : Mode) (line : ℕ) (job : Job) (i : ℕ) → object_leader (reading mode) line (leader_value job.names job.deal i) ≡ Ok (raw_leader job i)
+unfolding object_leader required_object field_text needed only
 leader_back mode line job i = refl
 
-text_back : (line : ℕ) (key : List ℕ) → member_text_of line (codes "keys") (digest_data key) ≡ Ok (encode_lower key)
-unfolding member_text_of
+text_back : (line : ℕ) (key : List ℕ) → text_member line (codes "keys") (digest_data key) ≡ Ok (encode_lower key)
+unfolding text_member
 text_back line key = refl
 
 abbrev pub raw_row : List (List ℕ) → RawRow
@@ -102,7 +102,7 @@ raw_row keys = record { texts = map encode_lower keys }
 pub row_back : (line : ℕ) (keys : List (List ℕ)) → parse_row line (list_data digest_data keys) ≡ Ok (raw_row keys)
 unfolding parse_row
 row_back line keys =
-    step _ (map encode_lower keys) _ (items_back (member_text_of line (codes "keys")) digest_data encode_lower keys (λ key i. text_back line key))
+    step _ (map encode_lower keys) _ (items_back (text_member line (codes "keys")) digest_data encode_lower keys (λ key i. text_back line key))
 
 -- ---- the header
 
@@ -139,12 +139,12 @@ as_shown job = refl
 
 -- each field of it
 
-pub version_known : (line : ℕ) (v : Version) → parse_version line (number_of v) ≡ Ok v
+pub version_known : (line : ℕ) (v : Version) → parse_version line (version_number v) ≡ Ok v
 version_known line One = refl
 version_known line Two = refl
 
-version_is : (mode : Mode) (line : ℕ) (job : Job) → version_at line (shown_in mode job) ≡ Ok job.deal.version
-unfolding version_at number_at needed
+version_is : (mode : Mode) (line : ℕ) (job : Job) → version_member line (shown_in mode job) ≡ Ok job.deal.version
+unfolding version_member field_number needed
 version_is Timelocks line job = version_known line job.deal.version
 version_is Hashkeys line job = version_known line job.deal.version
 
@@ -153,33 +153,33 @@ mode_fits line One mode k = refl
 mode_fits line Two Timelocks k = absurd (cc k)
 mode_fits line Two Hashkeys k = refl
 
-stated_mode_is : (mode : Mode) (line : ℕ) (job : Job) → stated_mode_at line (shown_in mode job) ≡ Ok mode
-unfolding stated_mode_at text_at needed
+stated_mode_is : (mode : Mode) (line : ℕ) (job : Job) → stated_mode line (shown_in mode job) ≡ Ok mode
+unfolding stated_mode field_text needed
 stated_mode_is Timelocks line job = refl
 stated_mode_is Hashkeys line job = refl
 
-mode_is : (mode : Mode) (line : ℕ) (job : Job) → IsVersionMode job.deal.version mode → mode_at line job.deal.version (shown_in mode job) ≡ Ok mode
-unfolding mode_at
+mode_is : (mode : Mode) (line : ℕ) (job : Job) → IsVersionMode job.deal.version mode → mode_member line job.deal.version (shown_in mode job) ≡ Ok mode
+unfolding mode_member
 mode_is mode line job k = step _ mode _ (stated_mode_is mode line job) ∙ mode_fits line job.deal.version mode k
 
-start_is : (mode : Mode) (line : ℕ) (job : Job) → number_at line (codes "start") (shown_in mode job) ≡ Ok job.deal.start
-unfolding number_at needed
+start_is : (mode : Mode) (line : ℕ) (job : Job) → field_number line (codes "start") (shown_in mode job) ≡ Ok job.deal.start
+unfolding field_number needed
 start_is Timelocks line job = refl
 start_is Hashkeys line job = refl
 
-delta_is : (mode : Mode) (line : ℕ) (job : Job) → number_at line (codes "delta") (shown_in mode job) ≡ Ok job.deal.delta
-unfolding number_at needed
+delta_is : (mode : Mode) (line : ℕ) (job : Job) → field_number line (codes "delta") (shown_in mode job) ≡ Ok job.deal.delta
+unfolding field_number needed
 delta_is Timelocks line job = refl
 delta_is Hashkeys line job = refl
 
-bound_is : (mode : Mode) (line : ℕ) (job : Job) → number_at line (codes "bound") (shown_in mode job) ≡ Ok job.deal.bound
-unfolding number_at needed
+bound_is : (mode : Mode) (line : ℕ) (job : Job) → field_number line (codes "bound") (shown_in mode job) ≡ Ok job.deal.bound
+unfolding field_number needed
 bound_is Timelocks line job = refl
 bound_is Hashkeys line job = refl
 
 parties_are : (mode : Mode) (line : ℕ) (job : Job)
-    → list_at line (codes "parties") (parse_party (reading mode) line) (shown_in mode job) ≡ Ok (map (raw_party job) (range_with_len 0 job.deal.graph.n))
-unfolding list_at read_array_field needed
+    → field_list line (codes "parties") (parse_party (reading mode) line) (shown_in mode job) ≡ Ok (map (raw_party job) (range_with_len 0 job.deal.graph.n))
+unfolding field_list read_array_field needed
 parties_are Timelocks line job =
     items_back (parse_party (reading Timelocks) line) (shown_party job) (raw_party job) (range_with_len 0 job.deal.graph.n)
     (λ p i. party_back Timelocks line job p)
@@ -188,27 +188,27 @@ parties_are Hashkeys line job =
     (λ p i. party_back Hashkeys line job p)
 
 arcs_are : (mode : Mode) (line : ℕ) (job : Job)
-    → list_at line (codes "arcs") (raw_arc_of (reading mode) line) (shown_in mode job) ≡ Ok (map (raw_arc mode job) (arcs job.deal.graph))
-unfolding list_at read_array_field needed
+    → field_list line (codes "arcs") (object_arc (reading mode) line) (shown_in mode job) ≡ Ok (map (raw_arc mode job) (arcs job.deal.graph))
+unfolding field_list read_array_field needed
 arcs_are Timelocks line job =
-    items_back (raw_arc_of (reading Timelocks) line) (arc_shown Timelocks job) (raw_arc Timelocks job) (arcs job.deal.graph)
+    items_back (object_arc (reading Timelocks) line) (arc_shown Timelocks job) (raw_arc Timelocks job) (arcs job.deal.graph)
     (λ a i. arc_back Timelocks line job a)
 arcs_are Hashkeys line job =
-    items_back (raw_arc_of (reading Hashkeys) line) (arc_shown Hashkeys job) (raw_arc Hashkeys job) (arcs job.deal.graph)
+    items_back (object_arc (reading Hashkeys) line) (arc_shown Hashkeys job) (raw_arc Hashkeys job) (arcs job.deal.graph)
     (λ a i. arc_back Hashkeys line job a)
 
 leaders_are : (mode : Mode) (line : ℕ) (job : Job)
-    → list_at line (codes "leaders") (raw_leader_of (reading mode) line) (shown_in mode job) ≡ Ok (map (raw_leader job) (locks job.deal))
-unfolding list_at read_array_field needed
+    → field_list line (codes "leaders") (object_leader (reading mode) line) (shown_in mode job) ≡ Ok (map (raw_leader job) (locks job.deal))
+unfolding field_list read_array_field needed
 leaders_are Timelocks line job =
-    items_back (raw_leader_of (reading Timelocks) line) (leader_value job.names job.deal) (raw_leader job) (locks job.deal)
+    items_back (object_leader (reading Timelocks) line) (leader_value job.names job.deal) (raw_leader job) (locks job.deal)
     (λ k i. leader_back Timelocks line job k)
 leaders_are Hashkeys line job =
-    items_back (raw_leader_of (reading Hashkeys) line) (leader_value job.names job.deal) (raw_leader job) (locks job.deal)
+    items_back (object_leader (reading Hashkeys) line) (leader_value job.names job.deal) (raw_leader job) (locks job.deal)
     (λ k i. leader_back Hashkeys line job k)
 
-keys_are : (mode : Mode) (line : ℕ) (job : Job) → keys_at line (states_keys Audit mode) (shown_in mode job) ≡ Ok (raw_keys mode job)
-unfolding list_at read_array_field needed
+keys_are : (mode : Mode) (line : ℕ) (job : Job) → keys_member line (states_keys Audit mode) (shown_in mode job) ≡ Ok (raw_keys mode job)
+unfolding field_list read_array_field needed
 keys_are Timelocks line job = refl
 keys_are Hashkeys line job = items_back (parse_row line) (list_data digest_data) raw_row job.deal.keys (λ keys i. row_back line keys)
 
@@ -217,8 +217,8 @@ unfolding only
 no_others Timelocks line job = refl
 no_others Hashkeys line job = refl
 
-parse_raw : (mode : Mode) (line : ℕ) (job : Job) → IsVersionMode job.deal.version mode → raw_of Audit line (shown_in mode job) ≡ Ok (raw_header mode job)
-unfolding raw_of
+parse_raw : (mode : Mode) (line : ℕ) (job : Job) → IsVersionMode job.deal.version mode → object_header Audit line (shown_in mode job) ≡ Ok (raw_header mode job)
+unfolding object_header
 parse_raw mode line job k =
     step _ job.deal.version _ (version_is mode line job)
     ∙ step _ mode _ (mode_is mode line job k)
@@ -231,5 +231,5 @@ parse_raw mode line job k =
     ∙ step _ (raw_keys mode job) _ (keys_are mode line job)
     ∙ step _ tt _ (no_others mode line job)
 
-pub raw_back : (line : ℕ) (job : Job) → IsVersionMode job.deal.version job.deal.mode → raw_of Audit line (shown_header job) ≡ Ok (raw_header job.deal.mode job)
-raw_back line job k = ap (raw_of Audit line) (as_shown job) ∙ parse_raw job.deal.mode line job k
+pub raw_back : (line : ℕ) (job : Job) → IsVersionMode job.deal.version job.deal.mode → object_header Audit line (shown_header job) ≡ Ok (raw_header job.deal.mode job)
+raw_back line job k = ap (object_header Audit line) (as_shown job) ∙ parse_raw job.deal.mode line job k

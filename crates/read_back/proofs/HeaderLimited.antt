@@ -7,7 +7,7 @@ use Rattle.std.proofs.lemmas.List.{length-map}
 use Rattle.std.proofs.lemmas.List.FromFn.{length-map-range_with_len}
 use Rattle.hex.specs.Hex.{encode_lower}
 use Rattle.hex.proofs.HexLemmas.{decode_sized-encode_lower}
-use Rattle.swap_base.specs.Lists.{IsIn}
+use Rattle.swap_base.specs.Lists.{IsElement}
 use Rattle.swap_base.proofs.Lists.{and_both, from_range}
 use Rattle.swap_digraph.specs.Graph.{arcs}
 use Rattle.swap_digraph.specs.declared.arc_ends.ArcEnds.{ArcEnds}
@@ -21,15 +21,15 @@ use Rattle.swap_job.specs.declared.job.Purpose.TheVariants.{Audit}
 use Rattle.swap_job.specs.declared.job.Finish.TheVariants.{Stop}
 use Rattle.swap_job.specs.declared.job.Role.{Role}
 use Rattle.swap_rules.specs.Accepted.{IsAccepted, IsTimed}
-use Rattle.offer_fields.specs.Lists.{each_of}
-use Rattle.offer_fields.specs.Limits.{decoded, to_digest, ranged_number, within}
+use Rattle.offer_fields.specs.Lists.{collected_results}
+use Rattle.offer_fields.specs.Limits.{decoded, to_digest, ranged_number, check_range}
 use Rattle.offer_moves.specs.declared.moves.Sizes.{Sizes}
 use Rattle.offer_header.specs.declared.limits.Acting.{Acting}
 use Rattle.offer_header.specs.declared.limits.ArcTerms.{ArcTerms}
 use Rattle.offer_header.specs.declared.header.Header.{Header}
 use Rattle.offer_header.specs.Header.{simple_role}
-use Rattle.offer_header.specs.Limits.{parse_acting, parse_all_terms, arc_ends, lock_hashlock, hashlocks_of, key_digest, derived_keys, limited_of, count_parties}
-use Rattle.offer_header.specs.Limits.{party_keys_of, checked_role, checked_seed, header_sizes, stated_keys_of, stated_terms}
+use Rattle.offer_header.specs.Limits.{parse_acting, limited_terms, arc_ends, lock_hashlock, leader_hashlocks, key_digest, derived_keys, limited_value, count_parties}
+use Rattle.offer_header.specs.Limits.{party_key_row, checked_role, checked_seed, header_sizes, stated_keys, stated_terms}
 use Rattle.typed_books.specs.Typed.{IsDigest}
 use Rattle.read_back.specs.Headers.{IsShowable}
 use Rattle.read_back.proofs.Steps.{by_places, each_back, step}
@@ -40,8 +40,8 @@ use Rattle.read_back.proofs.Lists.{twice, same_map}
 
 -- ---- ranges, digests and lists
 
-pub within_back : (line : ℕ) (field : List ℕ) (low high n : ℕ) → low ≤ n → n ≤ high → within line field low high n ≡ Ok tt
-unfolding within
+pub within_back : (line : ℕ) (field : List ℕ) (low high n : ℕ) → low ≤ n → n ≤ high → check_range line field low high n ≡ Ok tt
+unfolding check_range
 within_back line field low high n l h = rw (and_both (nat_le low n) (nat_le n high) (le-leb low n l) (le-leb n high h)) refl
 
 pub number_back : (line : ℕ) (field : List ℕ) (low high n : ℕ) → low ≤ n → n ≤ high → ranged_number line field low high n ≡ Ok n
@@ -52,7 +52,7 @@ pub digest_back : (line : ℕ) (field x : List ℕ) → IsDigest x → to_digest
 unfolding to_digest
 digest_back line field x k = ap (decoded line field) (decode_sized-encode_lower x 32 k.size k.bytes)
 
-pub all_in : {A : Type 0} (P : A → Type 0) (xs : List A) (x : A) → All P xs → IsIn x xs → P x
+pub all_in : {A : Type 0} (P : A → Type 0) (xs : List A) (x : A) → All P xs → IsElement x xs → P x
 all_in P [] x h i = absurd i
 all_in P (y ∷ ys) x h (inl e) = subst P (sym e) (h 0 y (omega arith))
 all_in P (y ∷ ys) x h (inr i) = all_in P ys x (λ j d lt. h (suc j) d (omega arith)) i
@@ -176,8 +176,8 @@ module _ (job : Job) (k : IsShowable job) (line : ℕ) where
       (number_back line (codes "timelock") 0 1000000 (stated mode (slice_index job.deal.timelocks a)) (omega arith) (stated_low mode a lt))
 
   pub terms_back : (mode : Mode)
-      → parse_all_terms job.deal.version line (map (raw_arc mode job) (arcs job.deal.graph)) ≡ Ok (map (terms_at mode job) (arcs job.deal.graph))
-  unfolding parse_all_terms
+      → limited_terms job.deal.version line (map (raw_arc mode job) (arcs job.deal.graph)) ≡ Ok (map (terms_at mode job) (arcs job.deal.graph))
+  unfolding limited_terms
   terms_back mode =
       let low : 2 ≤ length job.deal.graph.arcs = k.accepted.arcs.0 in
       let high : length job.deal.graph.arcs ≤ most_arcs job.deal.version = k.accepted.arcs.1 in
@@ -219,8 +219,8 @@ module _ (job : Job) (k : IsShowable job) (line : ℕ) where
       let count : length job.deal.hashlocks ≡ length job.deal.leaders = k.accepted.hashlocks in
       digest_back line (codes "hashlock") (slice_index_or job.deal.hashlocks i []) (k.hashlocks i [] (omega (arith, count, lt)))
 
-  pub hashlocks_back : hashlocks_of false line (map (raw_leader job) (locks job.deal)) ≡ Ok job.deal.hashlocks
-  unfolding hashlocks_of
+  pub hashlocks_back : leader_hashlocks false line (map (raw_leader job) (locks job.deal)) ≡ Ok job.deal.hashlocks
+  unfolding leader_hashlocks
   hashlocks_back =
       let low : 1 ≤ length job.deal.leaders = k.accepted.leaders.0 in
       let high : length job.deal.leaders ≤ 8 = k.accepted.leaders.1 in
@@ -237,8 +237,8 @@ module _ (job : Job) (k : IsShowable job) (line : ℕ) where
   key_back key d = digest_back line (codes "keys") key d
 
   row_back : (keys : List (List ℕ)) → length keys ≡ length job.deal.leaders → All IsDigest keys
-      → party_keys_of (length job.deal.leaders) line (raw_row keys) ≡ Ok keys
-  unfolding party_keys_of
+      → party_key_row (length job.deal.leaders) line (raw_row keys) ≡ Ok keys
+  unfolding party_key_row
   row_back keys long all =
       let size : length (map encode_lower keys) ≡ length job.deal.leaders = length-map keys encode_lower ∙ long in
       step _ tt _ (within_back line (codes "keys") (length job.deal.leaders) (length job.deal.leaders) (length (map encode_lower keys))
@@ -246,20 +246,20 @@ module _ (job : Job) (k : IsShowable job) (line : ℕ) where
       ∙ each_back (key_digest line) encode_lower (λ x. x) keys (λ key i. key_back key (all_in IsDigest keys key all i))
       ∙ ap (λ (l : List (List ℕ)). Ok l) (map_self keys)
 
-  pub rows_back : (xs : List (List (List ℕ))) → ((x : List (List ℕ)) → IsIn x xs → (length x ≡ length job.deal.leaders) × All IsDigest x)
-      → each_of (party_keys_of (length job.deal.leaders) line) (map raw_row xs) ≡ Ok xs
+  pub rows_back : (xs : List (List (List ℕ))) → ((x : List (List ℕ)) → IsElement x xs → (length x ≡ length job.deal.leaders) × All IsDigest x)
+      → collected_results (party_key_row (length job.deal.leaders) line) (map raw_row xs) ≡ Ok xs
   rows_back xs each =
-      each_back (party_keys_of (length job.deal.leaders) line) raw_row (λ x. x) xs (λ x i. row_back x (each x i).0 (each x i).1)
+      each_back (party_key_row (length job.deal.leaders) line) raw_row (λ x. x) xs (λ x i. row_back x (each x i).0 (each x i).1)
       ∙ ap (λ (l : List (List (List ℕ))). Ok l) (map_self xs)
 
   pub in_place : (xs : List (List (List ℕ))) (x : List (List ℕ)) → ((p : ℕ) → p < length xs → length (slice_index_or xs p []) ≡ length job.deal.leaders)
-      → IsIn x xs → length x ≡ length job.deal.leaders
+      → IsElement x xs → length x ≡ length job.deal.leaders
   in_place [] x h i = absurd i
   in_place (y ∷ ys) x h (inl e) = ap (λ (l : List (List ℕ)). length l) e ∙ h 0 (omega arith)
   in_place (y ∷ ys) x h (inr i) = in_place ys x (λ p lt. h (suc p) (omega arith)) i
 
-  stated_back : HasKeys Hashkeys job.deal → stated_keys_of line (raw_header Hashkeys job) ≡ Ok job.deal.keys
-  unfolding stated_keys_of
+  stated_back : HasKeys Hashkeys job.deal → stated_keys line (raw_header Hashkeys job) ≡ Ok job.deal.keys
+  unfolding stated_keys
   stated_back has =
       let parties : length (map (raw_party job) (range_with_len 0 job.deal.graph.n)) ≡ job.deal.graph.n
       = length-map-range_with_len (raw_party job) 0 job.deal.graph.n in
@@ -270,7 +270,7 @@ module _ (job : Job) (k : IsShowable job) (line : ℕ) where
       step _ tt _ (within_back line (codes "keys") (length (map (raw_party job) (range_with_len 0 job.deal.graph.n)))
       (length (map (raw_party job) (range_with_len 0 job.deal.graph.n))) (length (map raw_row job.deal.keys)) (omega (arith, parties, count, keys))
       (omega (arith, parties, count, keys)))
-      ∙ ap (λ (n : ℕ). each_of (party_keys_of n line) (map raw_row job.deal.keys)) leaders
+      ∙ ap (λ (n : ℕ). collected_results (party_key_row n line) (map raw_row job.deal.keys)) leaders
       ∙ rows_back job.deal.keys (λ x i. (
         in_place job.deal.keys x (λ p lt. has.1 p (omega (arith, lt, count))) i,
         all_in (All IsDigest) job.deal.keys x k.keys i,
@@ -291,8 +291,8 @@ module _ (job : Job) (k : IsShowable job) (line : ℕ) where
       job.deal.timelocks (roles_are job.conforming) (conforming_are job.conforming) (seeds_are job.conforming) ends_are (amounts_are mode)
       (timelocks_are mode timed)
 
-  pub limited_back : limited_of Audit line (raw_header job.deal.mode job) (numbered_at job) ≡ Ok (header_at job)
-  unfolding limited_of
+  pub limited_back : limited_value Audit line (raw_header job.deal.mode job) (numbered_at job) ≡ Ok (header_at job)
+  unfolding limited_value
   limited_back =
       let mode : Mode = job.deal.mode in
       let delta : 1 ≤ job.deal.delta = k.accepted.delta.0 in

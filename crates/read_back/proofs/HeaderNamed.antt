@@ -14,8 +14,8 @@ use Rattle.swap_digraph.specs.declared.deal.Mode.{Mode}
 use Rattle.swap_digraph.specs.Deal.{lock_leader}
 use Rattle.swap_job.specs.declared.job.Job.{Job}
 use Rattle.offer_fields.specs.Names.{found, party_of_name}
-use Rattle.offer_fields.specs.Lists.{each_of}
-use Rattle.offer_header.specs.Names.{actor_known, named_ends, is_name, leader_step, name_added, name_step, names_stated, numbered_of}
+use Rattle.offer_fields.specs.Lists.{collected_results}
+use Rattle.offer_header.specs.Names.{actor_known, named_ends, is_name, leader_step, name_added, name_step, names_stated, numbered_header}
 use Rattle.offer_header.specs.declared.names.Ends.{Ends}
 use Rattle.offer_header.specs.declared.names.Numbered.{Numbered}
 use Rattle.read_back.specs.Headers.{IsShowable}
@@ -143,7 +143,7 @@ module _ (job : Job) (k : IsShowable job) (line : ℕ) where
       (λ t. steps (leader_step line job.names) t (map (raw_leader job) (range_with_len (i + 1) m))) (leader_on i (omega arith))
       ∙ leaders_on m (i + 1) (omega arith)
 
-  pub all_arcs : (mode : Mode) → each_of (named_ends line job.names) (map (raw_arc mode job) (arcs job.deal.graph))
+  pub all_arcs : (mode : Mode) → collected_results (named_ends line job.names) (map (raw_arc mode job) (arcs job.deal.graph))
       ≡ Ok (map (ends_at job) (arcs job.deal.graph))
   all_arcs mode =
       each_back (named_ends line job.names) (raw_arc mode job) (ends_at job) (arcs job.deal.graph)
@@ -156,8 +156,8 @@ module _ (job : Job) (k : IsShowable job) (line : ℕ) where
   pub all_leaders : steps (leader_step line job.names) [] (map (raw_leader job) (range_with_len 0 (length job.deal.leaders))) ≡ Ok job.deal.leaders
   all_leaders = leaders_on (length job.deal.leaders) 0 (omega arith)
 
-  pub numbered_back : (has : List ℕ → Bool) (mode : Mode) → numbered_of has line (raw_header mode job) ≡ Ok (numbered_at job)
-  unfolding numbered_of
+  pub numbered_back : (has : List ℕ → Bool) (mode : Mode) → numbered_header has line (raw_header mode job) ≡ Ok (numbered_at job)
+  unfolding numbered_header
   numbered_back has mode =
       step _ job.names _ (all_names has (names_stated (map (raw_party job) (range_with_len 0 job.deal.graph.n))))
       ∙ step _ (map (ends_at job) (arcs job.deal.graph)) _ (all_arcs mode)

@@ -11,7 +11,7 @@ use Rattle.serde_json.specs.Data.{member}
 use Rattle.serde_json.specs.View.{items_of}
 use Rattle.serde_json.specs.Written.{comma_if, compact_text, items_text, members_text}
 use Rattle.swap_base.proofs.Lists.{and_both, and_parts, from_range}
-use Rattle.swap_base.specs.Lists.{IsIn}
+use Rattle.swap_base.specs.Lists.{IsElement}
 use Rattle.swap_digraph.specs.Graph.{arcs, ends}
 use Rattle.swap_digraph.specs.declared.arc_ends.ArcEnds.{ArcEnds}
 use Rattle.swap_digraph.specs.declared.deal.Mode.{Mode}
@@ -22,7 +22,7 @@ use Rattle.swap_digraph.specs.Deal.{amount, locks, IsWellSized}
 use Rattle.swap_job.specs.declared.job.Job.{Job}
 use Rattle.offer_text.specs.Words.{digest_data, list_data}
 use Rattle.offer_text.specs.HeaderLine.{arc_json, arc_data, arcs_data, fields_by_mode, header_line, keys_data, leader_value, leaders_data, made_header}
-use Rattle.offer_text.specs.HeaderLine.{number_of}
+use Rattle.offer_text.specs.HeaderLine.{version_number}
 use Rattle.offer_text.specs.HeaderLine.{parties_data, shown_header, shown_party}
 use Rattle.transcript_lines.proofs.Numbers.{high_number}
 use Rattle.transcript_lines.proofs.Parts.{IsHigh}
@@ -146,11 +146,11 @@ mutual
 
 -- ---- a header
 
-pub low_version : (v : Version) → number_of v < 2 ^ 64
+pub low_version : (v : Version) → version_number v < 2 ^ 64
 low_version One = omega arith
 low_version Two = omega arith
 
-pub items_plain : {A : Type 0} (f : A → Data) (xs : List A) → ((x : A) → IsIn x xs → IsPlain (f x)) → ArePlain (items_of (map f xs))
+pub items_plain : {A : Type 0} (f : A → Data) (xs : List A) → ((x : A) → IsElement x xs → IsPlain (f x)) → ArePlain (items_of (map f xs))
 items_plain f [] h = tt
 items_plain f (x ∷ xs) h = (h x (inl refl), items_plain f xs (λ y i. h y (inr i)))
 

@@ -13,7 +13,7 @@ use Rattle.json.proofs.Printed.Utf8.{are_ascii, IsUtf8-are_ascii}
 use Rattle.serde_json.specs.Data.{Data, string, object, Members, no_members, member}
 use Rattle.serde_json.specs.Read.{read}
 use Rattle.serde_json.specs.Written.{compact_text}
-use Rattle.swap_base.specs.Lists.{IsIn}
+use Rattle.swap_base.specs.Lists.{IsElement}
 use Rattle.swap_base.proofs.Lists.{and_both, and_parts, from_range}
 use Rattle.swap_digraph.specs.Graph.{arcs, ends}
 use Rattle.swap_digraph.specs.declared.arc_ends.ArcEnds.{ArcEnds}
@@ -25,7 +25,7 @@ use Rattle.swap_job.specs.declared.job.Job.{Job}
 use Rattle.offer_header.specs.Names.{is_name, is_name_byte}
 use Rattle.offer_text.specs.Words.{digest_data, list_data, name_data, number_data}
 use Rattle.offer_text.specs.HeaderLine.{arc_json, arc_data, arcs_data, fields_by_mode, first_fields, header_data, header_line, keys_data, last_fields}
-use Rattle.offer_text.specs.HeaderLine.{leader_value, leaders_data, made_header, number_of, parties_data, shown_header, shown_party, word_of_conforming}
+use Rattle.offer_text.specs.HeaderLine.{leader_value, leaders_data, made_header, version_number, parties_data, shown_header, shown_party, word_of_conforming}
 use Rattle.read_back.specs.Headers.{IsShowable, HeaderReads}
 use Rattle.read_back.proofs.HeaderOneLine.{low_version}
 use Rattle.read_back.proofs.Texts.{IsRead, AreRead, list_is, number_is, object_is, reads_back, string_is}
@@ -116,7 +116,7 @@ last_are leaders parties mode d l m p start = (
       (
         field (codes "start") refl,
         number_is 2 d.start start,
-        (field (codes "swap") refl, number_is 2 (number_of d.version) (low_version d.version), tt),
+        (field (codes "swap") refl, number_is 2 (version_number d.version) (low_version d.version), tt),
       ),
     ),
   ),
@@ -150,7 +150,7 @@ module _ (job : Job) (k : IsShowable job) where
   named : (p : ℕ) → IsUtf8 (slice_index_or job.names p [])
   named p = names_are_text job.names k.names p
 
-  pub arc_at_is : (a : ℕ) → IsIn a (arcs job.deal.graph) → IsRead 1 (arc_json job.names job.deal a)
+  pub arc_at_is : (a : ℕ) → IsElement a (arcs job.deal.graph) → IsRead 1 (arc_json job.names job.deal a)
   arc_at_is a i =
       let lt = from_range a (length job.deal.graph.arcs) i in
       let amount_is = (k.accepted.amounts a lt).1 in

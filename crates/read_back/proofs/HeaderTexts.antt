@@ -22,7 +22,7 @@ use Rattle.swap_job.specs.declared.job.Role.TheVariants.{Conforming, Manual, Scr
 use Rattle.offer_text.specs.Moves.{move_data}
 use Rattle.offer_text.specs.Words.{digest_data, list_data, with_optional}
 use Rattle.offer_text.specs.HeaderLine.{actor_data, arc_json, fields_by_mode, finish_word, first_fields, keys_data, last_fields, leader_value, leaders_data}
-use Rattle.offer_text.specs.HeaderLine.{made_header, made_party, number_of, parties_data}
+use Rattle.offer_text.specs.HeaderLine.{made_header, made_party, version_number, parties_data}
 use Rattle.read_back.proofs.HeaderLimited.{all_in}
 use Rattle.read_back.proofs.HeaderOneLine.{arcs_plain, items_plain, keys_plain, leaders_plain, low_version, one_value, HavePlain, IsOneLine, IsPlain}
 use Rattle.read_back.proofs.HeaderShown.{arc_at_is, digest_is, field, leader_is, names_are_text}
@@ -102,7 +102,7 @@ last_are leaders parties mode d l m p start = (
       (
         field (codes "start") refl,
         number_is 6 d.start start,
-        (field (codes "swap") refl, number_is 6 (number_of d.version) (low_version d.version), tt),
+        (field (codes "swap") refl, number_is 6 (version_number d.version) (low_version d.version), tt),
       ),
     ),
   ),

@@ -6,7 +6,7 @@ use Rattle.std.proofs.lemmas.List.{get_or-map, length-map}
 use Rattle.std.specs.Str.{is_utf8}
 use Rattle.std.specs.List.{range_with_len}
 use Rattle.serde_json.specs.Read.{read}
-use Rattle.swap_base.specs.Lists.{first_of}
+use Rattle.swap_base.specs.Lists.{first_given_answer}
 use Rattle.swap_digraph.specs.Graph.{arcs}
 use Rattle.swap_digraph.specs.declared.arc_ends.ArcEnds.{ArcEnds}
 use Rattle.swap_digraph.specs.declared.deal.Deal.{Deal}
@@ -21,7 +21,7 @@ use Rattle.swap_job.specs.declared.job.Finish.TheVariants.{Stop}
 use Rattle.swap_rules.specs.Accepted.{IsAccepted, IsOfVersion}
 use Rattle.refusals.specs.declared.reason.Reason.TheVariants.{NotJson}
 use Rattle.offer_fields.specs.Fields.{parse_data, object_or}
-use Rattle.offer_header.specs.Header.{parse_whole_header, simple_role, IsHeaderWithin}
+use Rattle.offer_header.specs.Header.{parse_whole_header, simple_role, IsHeaderInLimits}
 use Rattle.offer_header.specs.Raw.{IsVersionMode, IsUntimed}
 use Rattle.offer_header.specs.Scripts.{roles_placed, scripts_placed}
 use Rattle.offer_header.specs.declared.raw.RawArc.{RawArc}
@@ -29,7 +29,7 @@ use Rattle.offer_header.proofs.Limited.{set_contains_ends}
 use Rattle.offer_header.proofs.Numbered.{is_numbered}
 use Rattle.offer_text.specs.HeaderLine.{shown_header}
 use Rattle.swap_offer.specs.Checks.{admitted, header_deal, header_digraph, assemble_job, unless_wrong, unnamed}
-use Rattle.swap_offer.specs.Job.{accepted_entries, job_header_of, provided}
+use Rattle.swap_offer.specs.Job.{accepted_entries, parse_header_job, provided}
 use Rattle.swap_offer.specs.Wallets.{no_seed, seeded, walleted}
 use Rattle.swap_offer.proofs.Admitted.{admitted_is_accepted}
 use Rattle.read_back.specs.Headers.{IsShowable, HeaderIsReadBack, audited_job}
@@ -44,7 +44,7 @@ object_back line text job utf8 reads =
     ap (λ (b : Bool). cond b (object_or line (read text)) (Err (NotJson line))) utf8
     ∙ ap (object_or line) reads
 
-none_given : {A B : Type 0} (f : A → Option B) (xs : List A) → ((x : A) → f x ≡ None) → first_of f xs ≡ None
+none_given : {A B : Type 0} (f : A → Option B) (xs : List A) → ((x : A) → f x ≡ None) → first_given_answer f xs ≡ None
 none_given f [] h = refl
 none_given f (x ∷ xs) h = rw (h x) (none_given f xs h)
 
@@ -85,7 +85,7 @@ module _ (job : Job) (k : IsShowable job) (line : ℕ) where
       ap (λ (x : RawArc). x.timelock) (get_or-map (raw_arc mode job) (arcs job.deal.graph) a 0 d (omega (arith, lt, size)))
       ∙ ap (λ (m : Mode). stated m (slice_index job.deal.timelocks (get_or (arcs job.deal.graph) a 0))) is
 
-  within : IsHeaderWithin (header_at job)
+  within : IsHeaderInLimits (header_at job)
   within =
       set_contains_ends line Audit (raw_header job.deal.mode job) (numbered_at job) (header_at job)
       (is_numbered (λ name. false) line (raw_header job.deal.mode job) (numbered_at job) (numbered_back job k line (λ name. false) job.deal.mode)) is_mode
@@ -147,6 +147,6 @@ module _ (job : Job) (k : IsShowable job) (line : ℕ) where
       ∙ ap (λ (j : Job). Ok j) job_is
 
 pub header_is_read_back : HeaderIsReadBack
-unfolding job_header_of
+unfolding parse_header_job
 header_is_read_back has job line text k utf8 reads =
     step _ (header_at job) _ (header_back job k line has text utf8 reads) ∙ accepted_back job k line

@@ -7,7 +7,7 @@ use Rattle.swap_base.proofs.Lists.{and_both, and_parts}
 use Rattle.command_input.specs.Lines.{filled_lines, is_blank, collect_lines, with_first}
 use Rattle.made_jobs.specs.Making.{with_line}
 use Rattle.transcript_lines.specs.Between.{ended}
-use Rattle.read_back.specs.Made.{numbered_from, IsOneLine, TextHasOneStory, TextIsItsLines}
+use Rattle.read_back.specs.Made.{numbered_lines, IsOneLine, TextHasOneStory, TextIsItsLines}
 
 pub not_is : (b : Bool) → not b ≡ true → b ≡ false
 not_is true e = absurd (cc e)
@@ -48,7 +48,7 @@ unfolding collect_lines
 lines_back [] h = refl
 lines_back (l ∷ ls) h = line_first l (ended ls) h.0 ∙ ap (λ (m : List (List ℕ)). l ∷ m) (lines_back ls h.2)
 
-pub all_filled : (n : ℕ) (ls : List (List ℕ)) → AreLines ls → filled_lines n ls ≡ numbered_from n ls
+pub all_filled : (n : ℕ) (ls : List (List ℕ)) → AreLines ls → filled_lines n ls ≡ numbered_lines n ls
 unfolding filled_lines
 all_filled n [] h = refl
 all_filled n (l ∷ ls) h = rw (h.1) (ap (λ (m : List (ℕ × List ℕ)). (n, l) ∷ m) (all_filled (n + 1) ls h.2))

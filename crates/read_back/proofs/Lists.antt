@@ -8,7 +8,7 @@ use Rattle.std.proofs.lemmas.Iterator.Adapters.{position_from-zero}
 use Rattle.std.proofs.lemmas.List.{get_or_append_left, length-append, map-append}
 use Rattle.std.proofs.Math.Seq.{get_or-append_seam}
 use Rattle.swap_base.specs.Fault.{steps}
-use Rattle.swap_base.specs.Lists.{IsIn}
+use Rattle.swap_base.specs.Lists.{IsElement}
 use Rattle.refusals.specs.declared.reason.Reason.{Reason}
 use Rattle.swap_clear.proofs.Places.{rises}
 use Rattle.read_back.proofs.Steps.{step}
@@ -16,12 +16,12 @@ use Rattle.read_back.proofs.Steps.{step}
 -- ---- tests
 
 -- none of the list passes
-pub none_passes : {A B : Type 0} (f : B → Bool) (g : A → B) (xs : List A) → ((x : A) → IsIn x xs → f (g x) ≡ false) → list_any f (map g xs) ≡ false
+pub none_passes : {A B : Type 0} (f : B → Bool) (g : A → B) (xs : List A) → ((x : A) → IsElement x xs → f (g x) ≡ false) → list_any f (map g xs) ≡ false
 none_passes f g [] h = refl
 none_passes f g (x ∷ xs) h = rw (h x (inl refl)) (none_passes f g xs (λ y i. h y (inr i)))
 
 -- the first that passes, by another test of what the list is made of
-pub same_position : {A B : Type 0} (f : B → Bool) (g : A → B) (h : A → Bool) (xs : List A) (n : ℕ) → ((x : A) → IsIn x xs → f (g x) ≡ h x)
+pub same_position : {A B : Type 0} (f : B → Bool) (g : A → B) (h : A → Bool) (xs : List A) (n : ℕ) → ((x : A) → IsElement x xs → f (g x) ≡ h x)
     → position_from f n (map g xs) ≡ position_from h n xs
 same_position f g h [] n e = refl
 same_position f g h (x ∷ xs) n e =
@@ -59,12 +59,12 @@ puts_each {B = B} {C = C} f r g before (x ∷ after) h =
 
 -- ---- lists in order
 
-at_place : (xs : List ℕ) (y : ℕ) → IsIn y xs → (j : ℕ) × (j < length xs) × (get_or xs j 0 ≡ y)
+at_place : (xs : List ℕ) (y : ℕ) → IsElement y xs → (j : ℕ) × (j < length xs) × (get_or xs j 0 ≡ y)
 at_place [] y i = absurd i
 at_place (x ∷ xs) y (inl e) = (0, omega arith, sym e)
 at_place (x ∷ xs) y (inr i) = let r = at_place xs y i in (suc r.0, (let lt = r.1 in omega (arith, lt)), r.2)
 
-rises_to : (past : List ℕ) (x : ℕ) (rest : List ℕ) → IsStrictlyIncreasing (past ++ x ∷ rest) → (y : ℕ) → IsIn y past → y < x
+rises_to : (past : List ℕ) (x : ℕ) (rest : List ℕ) → IsStrictlyIncreasing (past ++ x ∷ rest) → (y : ℕ) → IsElement y past → y < x
 rises_to past x rest up y i =
     let at = at_place past y i in
     let lt : at.0 < length past = at.1 in
@@ -75,7 +75,7 @@ rises_to past x rest up y i =
     omega (arith, less, left, right)
 
 -- what stands before x in a list in order is less
-pub is_less : (xs past : List ℕ) (x : ℕ) (rest : List ℕ) → IsStrictlyIncreasing xs → xs ≡ past ++ x ∷ rest → (y : ℕ) → IsIn y past → y < x
+pub is_less : (xs past : List ℕ) (x : ℕ) (rest : List ℕ) → IsStrictlyIncreasing xs → xs ≡ past ++ x ∷ rest → (y : ℕ) → IsElement y past → y < x
 is_less xs past x rest up e = rises_to past x rest (subst IsStrictlyIncreasing e up)
 
 -- ---- pairs
@@ -85,13 +85,13 @@ firsts [] ts e = refl
 firsts (p ∷ ps) [] e = absurd (omega (arith, e))
 firsts {A = A} (p ∷ ps) (t ∷ ts) e = ap (λ (l : List A). p ∷ l) (firsts ps ts (omega (arith, e)))
 
-pub first_in : {A B : Type 0} (ps : List A) (ts : List B) (z : A × B) → IsIn z (zip ps ts) → IsIn z.0 ps
+pub first_in : {A B : Type 0} (ps : List A) (ts : List B) (z : A × B) → IsElement z (zip ps ts) → IsElement z.0 ps
 first_in [] ts z i = absurd i
 first_in (p ∷ ps) [] z i = absurd i
 first_in (p ∷ ps) (t ∷ ts) z (inl e) = inl (ap (λ (y : _ × _). y.0) e)
 first_in (p ∷ ps) (t ∷ ts) z (inr i) = inr (first_in ps ts z i)
 
-pub second_in : {A B : Type 0} (ps : List A) (ts : List B) (z : A × B) → IsIn z (zip ps ts) → IsIn z.1 ts
+pub second_in : {A B : Type 0} (ps : List A) (ts : List B) (z : A × B) → IsElement z (zip ps ts) → IsElement z.1 ts
 second_in [] ts z i = absurd i
 second_in (p ∷ ps) [] z i = absurd i
 second_in (p ∷ ps) (t ∷ ts) z (inl e) = inl (ap (λ (y : _ × _). y.1) e)
@@ -114,6 +114,6 @@ pub twice : {A B C : Type 0} (f : B → C) (g : A → B) (xs : List A) → map f
 twice f g [] = refl
 twice {C = C} f g (x ∷ xs) = ap (λ (ys : List C). f (g x) ∷ ys) (twice f g xs)
 
-pub same_map : {A B : Type 0} (f g : A → B) (xs : List A) → ((x : A) → IsIn x xs → f x ≡ g x) → map f xs ≡ map g xs
+pub same_map : {A B : Type 0} (f g : A → B) (xs : List A) → ((x : A) → IsElement x xs → f x ≡ g x) → map f xs ≡ map g xs
 same_map f g [] h = refl
 same_map {B = B} f g (x ∷ xs) h = ap₂ (λ (y : B) (ys : List B). y ∷ ys) (h x (inl refl)) (same_map f g xs (λ y i. h y (inr i)))

@@ -1,4 +1,5 @@
--- The limits of a header that is written of a made job are kept, and its lists are those of the job.
+-- The limits of a header that is written of a made job are kept, and its lists are those of the
+-- job.
 use Rattle.std.proofs.Common.{◌≡◌, ◌≤◌, ◌<◌, ℕ, Bool, true, false, List, length, map, Option, Some, None, option_map, Ok, refl, sym, ap, ap₂, ◌∙◌}
 use Rattle.std.proofs.Common.{arith, codes}
 use Rattle.std.specs.Prelude.{All}
@@ -21,13 +22,13 @@ use Rattle.swap_job.specs.declared.job.Role.{Role}
 use Rattle.swap_job.specs.declared.job.Role.TheVariants as kinds
 use Rattle.swap_job.specs.declared.moves.Move.{Move}
 use Rattle.swap_rules.specs.Accepted.{IsTimed}
-use Rattle.offer_fields.specs.Lists.{each_of}
+use Rattle.offer_fields.specs.Lists.{collected_results}
 use Rattle.offer_fields.specs.Names.{party_of_name}
 use Rattle.offer_moves.specs.Moves.{parse_move}
 use Rattle.offer_moves.specs.declared.moves.Sizes.{Sizes}
 use Rattle.offer_header.specs.Raw.{is_plain}
-use Rattle.offer_header.specs.Limits.{parse_acting, arc_ends, hashlocks_of, derived_keys, limited_of, count_parties, party_keys_of, checked_role}
-use Rattle.offer_header.specs.Limits.{script_role, checked_seed, seed_or_none, header_sizes, stated_keys_of}
+use Rattle.offer_header.specs.Limits.{parse_acting, arc_ends, leader_hashlocks, derived_keys, limited_value, count_parties, party_key_row, checked_role}
+use Rattle.offer_header.specs.Limits.{script_role, checked_seed, seed_or_none, header_sizes, stated_keys}
 use Rattle.offer_header.specs.declared.limits.Acting.{Acting}
 use Rattle.offer_header.specs.declared.limits.ArcTerms.{ArcTerms}
 use Rattle.offer_header.specs.declared.header.Header.{Header}
@@ -128,7 +129,7 @@ module _ (has : List ℕ → Bool) (job : Job) (k : IsTold has job) (line : ℕ)
       let size : length (map (told_party job) parties) ≡ job.deal.graph.n = length-map-range_with_len (told_party job) 0 job.deal.graph.n in
       step _ tt _ (within_back line (codes "parties") 2 (most_parties job.deal.version) (length (map (told_party job) parties)) (omega (arith, low, size))
       (omega (arith, high, size)))
-      ∙ ap (λ (s : Sizes). each_of (parse_acting s job.names line) (map (told_party job) parties)) (sizes_are mode)
+      ∙ ap (λ (s : Sizes). collected_results (parse_acting s job.names line) (map (told_party job) parties)) (sizes_are mode)
       ∙ each_back (parse_acting (sizes_at job) job.names line) (told_party job) (acting_at job) parties
       (λ p i. party_acts p (from_range p job.deal.graph.n i))
 
@@ -149,8 +150,8 @@ module _ (has : List ℕ → Bool) (job : Job) (k : IsTold has job) (line : ℕ)
 
   -- ---- keys
 
-  stated_back : HasKeys Hashkeys job.deal → stated_keys_of line (told_header Hashkeys job) ≡ Ok job.deal.keys
-  unfolding stated_keys_of
+  stated_back : HasKeys Hashkeys job.deal → stated_keys line (told_header Hashkeys job) ≡ Ok job.deal.keys
+  unfolding stated_keys
   stated_back has_keys =
       let size : length (map (told_party job) parties) ≡ job.deal.graph.n = length-map-range_with_len (told_party job) 0 job.deal.graph.n in
       let leaders : length (map (raw_leader job) (locks job.deal)) ≡ length job.deal.leaders
@@ -159,7 +160,7 @@ module _ (has : List ℕ → Bool) (job : Job) (k : IsTold has job) (line : ℕ)
       let keys : length (map raw_row job.deal.keys) ≡ length job.deal.keys = length-map job.deal.keys raw_row in
       step _ tt _ (within_back line (codes "keys") (length (map (told_party job) parties)) (length (map (told_party job) parties))
       (length (map raw_row job.deal.keys)) (omega (arith, size, count, keys)) (omega (arith, size, count, keys)))
-      ∙ ap (λ (n : ℕ). each_of (party_keys_of n line) (map raw_row job.deal.keys)) leaders
+      ∙ ap (λ (n : ℕ). collected_results (party_key_row n line) (map raw_row job.deal.keys)) leaders
       ∙ rows_back job k.shown line job.deal.keys (λ x i. (
         in_place job k.shown line job.deal.keys x (λ p lt. has_keys.1 p (omega (arith, lt, count))) i,
         all_in (All IsDigest) job.deal.keys x k.shown.keys i,
@@ -183,8 +184,8 @@ module _ (has : List ℕ → Bool) (job : Job) (k : IsTold has job) (line : ℕ)
   stated_as : is_plain job.purpose ≡ false
   stated_as = not_plain job.purpose k.purpose
 
-  pub limited_back : limited_of job.purpose line (told_header job.deal.mode job) (numbered_at job) ≡ Ok (header_at job)
-  unfolding limited_of
+  pub limited_back : limited_value job.purpose line (told_header job.deal.mode job) (numbered_at job) ≡ Ok (header_at job)
+  unfolding limited_value
   limited_back =
       let mode : Mode = job.deal.mode in
       let delta : 1 ≤ job.deal.delta = k.shown.accepted.delta.0 in
@@ -195,6 +196,6 @@ module _ (has : List ℕ → Bool) (job : Job) (k : IsTold has job) (line : ℕ)
       ∙ step _ job.deal.bound _ (number_back line (codes "bound") 1 64 job.deal.bound (some_bound job.deal k.shown.accepted) k.shown.accepted.bound.1)
       ∙ step _ (map (acting_at job) parties) _ (parties_act mode)
       ∙ step _ (map (terms_at mode job) (arcs job.deal.graph)) _ (terms_back job k.shown line mode)
-      ∙ step _ job.deal.hashlocks _ (ap (λ (b : Bool). hashlocks_of b line raw.leaders) stated_as ∙ hashlocks_back job k.shown line)
+      ∙ step _ job.deal.hashlocks _ (ap (λ (b : Bool). leader_hashlocks b line raw.leaders) stated_as ∙ hashlocks_back job k.shown line)
       ∙ step _ job.deal.keys _ (ap (λ (b : Bool). derived_keys mode b line raw) stated_as ∙ keys_back mode k.shown.accepted.keys)
       ∙ ap (λ (h : Header). Ok h) (is_header mode k.shown.accepted.timed)

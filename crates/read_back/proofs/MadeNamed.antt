@@ -9,7 +9,7 @@ use Rattle.std.proofs.lemmas.List.Elements.{All-get_or}
 use Rattle.std.proofs.lemmas.List.Folds.{list_any_at}
 use Rattle.std.proofs.lemmas.Str.{utf8_lossy-IsUtf8}
 use Rattle.swap_base.specs.Fault.{steps}
-use Rattle.swap_base.specs.Lists.{IsIn}
+use Rattle.swap_base.specs.Lists.{IsElement}
 use Rattle.swap_digraph.specs.Graph.{arcs}
 use Rattle.swap_digraph.specs.declared.deal.Mode.{Mode}
 use Rattle.hashkey_path.proofs.Validity.{bytes_eq_self}
@@ -21,7 +21,7 @@ use Rattle.swap_job.specs.declared.moves.Move.TheVariants.{Publish, Craft, Repla
 use Rattle.offer_moves.specs.declared.moves.Sizes.{Sizes}
 use Rattle.refusals.specs.declared.reason.Reason.{Reason}
 use Rattle.refusals.specs.declared.reason.Reason.TheVariants.{Unknown}
-use Rattle.offer_header.specs.Names.{actor_known, all_known, known, move_known, name_added, name_step, names_stated, numbered_of, strategy_known, with_name}
+use Rattle.offer_header.specs.Names.{actor_known, all_known, known, move_known, name_added, name_step, names_stated, numbered_header, strategy_known, with_name}
 use Rattle.read_back.proofs.HeaderLimited.{all_in}
 use Rattle.read_back.proofs.HeaderNamed.{all_arcs, all_leaders, ends_at, is_fresh, name_on, numbered_at}
 use Rattle.read_back.proofs.Steps.{step}
@@ -31,7 +31,7 @@ use Rattle.read_back.proofs.RawMoves.{party_label, raw_move}
 use Rattle.read_back.proofs.Told.{sizes_at, IsTold, IsToldRole}
 
 -- each step passes, so all do
-all_pass : {A B : Type 0} (f : B → Result (Unit {0}) Reason) (g : A → B) (xs : List A) → ((x : A) → IsIn x xs → f (g x) ≡ Ok tt)
+all_pass : {A B : Type 0} (f : B → Result (Unit {0}) Reason) (g : A → B) (xs : List A) → ((x : A) → IsElement x xs → f (g x) ≡ Ok tt)
     → steps (λ u x. f x) tt (map g xs) ≡ Ok tt
 unfolding steps
 all_pass f g [] h = refl
@@ -123,8 +123,8 @@ module _ (has : List ℕ → Bool) (job : Job) (k : IsTold has job) (line : ℕ)
       ap (λ (l : List (List ℕ)). steps (name_step has line l) [] (map (told_party job) (range_with_len 0 job.deal.graph.n))) stated_are
       ∙ parties_on job.deal.graph.n 0 (omega (arith, count))
 
-  pub numbered_back : (mode : Mode) → numbered_of has line (told_header mode job) ≡ Ok (numbered_at job)
-  unfolding numbered_of
+  pub numbered_back : (mode : Mode) → numbered_header has line (told_header mode job) ≡ Ok (numbered_at job)
+  unfolding numbered_header
   numbered_back mode =
       step _ job.names _ all_names
       ∙ step _ (map (ends_at job) (arcs job.deal.graph)) _ (all_arcs job k.shown line mode)

@@ -9,14 +9,14 @@ use Rattle.hashkey_path.proofs.Feeding.{any_id}
 use Rattle.swap_job.specs.declared.job.Job.{Job}
 use Rattle.refusals.specs.declared.reason.Reason.TheVariants.{NotJson}
 use Rattle.offer_fields.specs.Fields.{parse_data, object_or}
-use Rattle.offer_header.specs.Header.{parse_whole_header, IsHeaderWithin}
+use Rattle.offer_header.specs.Header.{parse_whole_header, IsHeaderInLimits}
 use Rattle.offer_header.specs.Raw.{is_plain, IsVersionMode}
 use Rattle.offer_header.specs.Scripts.{scripts_placed}
 use Rattle.offer_header.proofs.Limited.{set_contains_ends}
 use Rattle.offer_header.proofs.Numbered.{is_numbered}
 use Rattle.offer_text.specs.HeaderLine.{made_header}
 use Rattle.swap_offer.specs.Checks.{admitted, header_deal, header_digraph, assemble_job, unnamed, IsAcceptedUnless}
-use Rattle.swap_offer.specs.Job.{accepted_entries, job_header_of, provided}
+use Rattle.swap_offer.specs.Job.{accepted_entries, parse_header_job, provided}
 use Rattle.swap_offer.proofs.Admitted.{admitted_is_accepted}
 use Rattle.read_back.proofs.HeaderNamed.{numbered_at}
 use Rattle.read_back.proofs.Steps.{step}
@@ -49,7 +49,7 @@ module _ (has : List ℕ → Bool) (job : Job) (k : IsTold has job) (line : ℕ)
       ∙ step _ (header_at job) _ (limited_back has job k line)
       ∙ step _ tt _ all_placed
 
-  within : IsHeaderWithin (header_at job)
+  within : IsHeaderInLimits (header_at job)
   within =
       set_contains_ends line job.purpose (told_header job.deal.mode job) (numbered_at job) (header_at job)
       (is_numbered has line (told_header job.deal.mode job) (numbered_at job) (numbered_back has job k line job.deal.mode)) is_mode
@@ -81,6 +81,6 @@ module _ (has : List ℕ → Bool) (job : Job) (k : IsTold has job) (line : ℕ)
       ∙ step _ tt _ (subst (λ (x : Job). provided x ≡ Ok tt) (sym job_is) k.lacks_none)
       ∙ ap (λ (j : Job). Ok j) job_is
 
-  pub job_back : (text : List ℕ) → is_utf8 text ≡ true → read text ≡ Some (made_header job) → job_header_of has job.purpose line text ≡ Ok job
-  unfolding job_header_of
+  pub job_back : (text : List ℕ) → is_utf8 text ≡ true → read text ≡ Some (made_header job) → parse_header_job has job.purpose line text ≡ Ok job
+  unfolding parse_header_job
   job_back text utf8 reads = step _ (header_at job) _ (header_back text utf8 reads) ∙ accepted_back

@@ -8,13 +8,13 @@ use Rattle.hash_signature.specs.declared.sig.Sig.{Sig}
 use Rattle.hashkey_path.specs.declared.hashkey.Hashkey.{Hashkey}
 use Rattle.swap_job.specs.declared.moves.Move.{Move}
 use Rattle.swap_job.specs.declared.moves.Move.TheVariants.{Publish, Craft, Replay, Raw, Claim, Refund, Transfer, Wait}
-use Rattle.offer_fields.specs.Limits.{to_digest, ranged_number, within}
-use Rattle.offer_fields.specs.Lists.{each_of}
+use Rattle.offer_fields.specs.Limits.{to_digest, ranged_number, check_range}
+use Rattle.offer_fields.specs.Lists.{collected_results}
 use Rattle.offer_fields.specs.Names.{party_of_name}
 use Rattle.offer_fields.proofs.Chains.{each_all, each_length}
 use Rattle.offer_fields.proofs.Ranges.{number_within_ok, party_below, within_ok}
 use Rattle.offer_moves.specs.Limits.{kept, parse_locks, bounded_number, optional_locks, optional_most, parse_sig}
-use Rattle.offer_moves.specs.Moves.{parse_arc, parse_claim, parse_craft, key_of, parse_move, optional_arc, make_publish, parse_refund, parse_replay}
+use Rattle.offer_moves.specs.Moves.{parse_arc, parse_claim, parse_craft, checked_hashkey, parse_move, optional_arc, make_publish, parse_refund, parse_replay}
 use Rattle.offer_moves.specs.Moves.{parse_transfer}
 use Rattle.offer_moves.specs.Moves.{parse_unlock, parse_wait}
 use Rattle.offer_moves.specs.declared.moves.Sizes.{Sizes}
@@ -114,8 +114,8 @@ AreMany count ds = (length ds ≡ count) × All IsDigest ds
 locks_in : (line count : ℕ) (texts ds : List (List ℕ)) → count ≤ 8 → parse_locks line count texts ≡ Ok ds → AreMany count ds
 unfolding parse_locks
 locks_in line count texts ds few =
-    onward (within line (codes "locks") count count (length texts)) _ (AreMany count) (λ u w.
-    onward (each_of (to_digest line (codes "locks")) texts) _ (AreMany count) (λ digests e.
+    onward (check_range line (codes "locks") count count (length texts)) _ (AreMany count) (λ u w.
+    onward (collected_results (to_digest line (codes "locks")) texts) _ (AreMany count) (λ digests e.
     let size : length digests ≡ length texts = each_length (to_digest line (codes "locks")) texts digests e in
     let range = within_ok line (codes "locks") count count (length texts) u w in
     let same : kept digests ≡ digests = kept_all digests (omega (arith, size, range.1, few)) in
@@ -156,10 +156,10 @@ module _ (s : Sizes) (small : IsSmall s) (names : List (List ℕ)) (line : ℕ) 
   read_craft : (n : ℕ) (k : RawCraft) (mv : Move) → parse_craft s names line n k ≡ Ok mv → IsRead mv
   unfolding parse_craft
   read_craft n k =
-      onward (each_of (party_of_name line names) k.via) _ IsRead (λ via a.
+      onward (collected_results (party_of_name line names) k.via) _ IsRead (λ via a.
       onward (parse_arc s line (codes "arc") n) _ IsRead (λ arc b.
       onward (bounded_number line (codes "lock") s.locks k.lock) _ IsRead (λ lock c.
-      onward (within line (codes "via") 1 s.path (length k.via)) _ IsRead (λ u w.
+      onward (check_range line (codes "via") 1 s.path (length k.via)) _ IsRead (λ u w.
       onward (optional_arc s line (codes "onto") k.onto) _ IsRead (λ onto f.
       let size : length via ≡ length k.via = each_length (party_of_name line names) k.via via a in
       let range = within_ok line (codes "via") 1 s.path (length k.via) u w in
@@ -185,15 +185,15 @@ module _ (s : Sizes) (small : IsSmall s) (names : List (List ℕ)) (line : ℕ) 
       ))))
 
   fetch_key : (path : List ℕ) (k : RawKey) → length path ≡ length k.path → All (λ p. p < length names) path → (key : Hashkey)
-      → key_of s line path k ≡ Ok key → IsKey s (length names) key
-  unfolding key_of
+      → checked_hashkey s line path k ≡ Ok key → IsKey s (length names) key
+  unfolding checked_hashkey
   fetch_key path k long below =
       let P = IsKey s (length names) in
       onward (bounded_number line (codes "lock") s.locks k.lock) _ P (λ lock a.
       onward (to_digest line (codes "secret") k.secret) _ P (λ secret b.
-      onward (within line (codes "path") 0 s.path (length k.path)) _ P (λ u w.
-      onward (within line (codes "sigs") 0 s.path (length k.sigs)) _ P (λ v x.
-      onward (each_of (parse_sig line) k.sigs) _ P (λ sigs f.
+      onward (check_range line (codes "path") 0 s.path (length k.path)) _ P (λ u w.
+      onward (check_range line (codes "sigs") 0 s.path (length k.sigs)) _ P (λ v x.
+      onward (collected_results (parse_sig line) k.sigs) _ P (λ sigs f.
       let size : length sigs ≡ length k.sigs = each_length (parse_sig line) k.sigs sigs f in
       let few = within_ok line (codes "path") 0 s.path (length k.path) u w in
       let many = within_ok line (codes "sigs") 0 s.path (length k.sigs) v x in
@@ -209,9 +209,9 @@ module _ (s : Sizes) (small : IsSmall s) (names : List (List ℕ)) (line : ℕ) 
   unlock_key : (n : ℕ) (k : RawKey) (mv : Move) → parse_unlock s names line n k ≡ Ok mv → IsRead mv
   unfolding parse_unlock
   unlock_key n k =
-      onward (each_of (party_of_name line names) k.path) _ IsRead (λ path a.
+      onward (collected_results (party_of_name line names) k.path) _ IsRead (λ path a.
       onward (parse_arc s line (codes "arc") n) _ IsRead (λ arc b.
-      onward (key_of s line path k) _ IsRead (λ key c.
+      onward (checked_hashkey s line path k) _ IsRead (λ key c.
       landed (Raw arc key) IsRead (
         read_clear_arc s line (codes "arc") n arc b,
         fetch_key path k (each_length (party_of_name line names) k.path path a)
@@ -270,7 +270,7 @@ most_back : (line : ℕ) (field : List ℕ) (high : ℕ) (o : Option ℕ) → Is
 most_back line field high None k = refl
 most_back line field high (Some n) k = step _ n _ (number_back line field 0 high n (omega arith) k)
 
-digests_back : (line : ℕ) (field : List ℕ) (ds : List (List ℕ)) → All IsDigest ds → each_of (to_digest line field) (map encode_lower ds) ≡ Ok ds
+digests_back : (line : ℕ) (field : List ℕ) (ds : List (List ℕ)) → All IsDigest ds → collected_results (to_digest line field) (map encode_lower ds) ≡ Ok ds
 digests_back line field ds all =
     each_back (to_digest line field) encode_lower (λ x. x) ds (λ x i. digest_back line field x (all_in IsDigest ds x all i))
     ∙ ap (λ (l : List (List ℕ)). Ok l) (map_self ds)
@@ -296,7 +296,7 @@ module _ (s : Sizes) (small : IsSmall s) (names : List (List ℕ)) (line : ℕ)
   lock_back : (i : ℕ) → i < s.locks → bounded_number line (codes "lock") s.locks i ≡ Ok i
   lock_back i lt = let few = small.locks in below_back line (codes "lock") s.locks i lt (omega (arith, few))
 
-  parties_back : (ps : List ℕ) → All (λ p. p < length names) ps → each_of (party_of_name line names) (map (party_label names) ps) ≡ Ok ps
+  parties_back : (ps : List ℕ) → All (λ p. p < length names) ps → collected_results (party_of_name line names) (map (party_label names) ps) ≡ Ok ps
   parties_back ps all =
       each_back (party_of_name line names) (party_label names) (λ p. p) ps (λ p i. number p (all_in (λ q. q < length names) ps p all i))
       ∙ ap (λ (l : List ℕ). Ok l) (map_self ps)
@@ -336,13 +336,13 @@ module _ (s : Sizes) (small : IsSmall s) (names : List (List ℕ)) (line : ℕ)
       ∙ step _ lock _ (lock_back lock l)
       ∙ step _ onto _ (arc_back (codes "onto") onto o)
 
-  sigs_back : (sigs : List Sig) → All IsOfBytes sigs → each_of (parse_sig line) (map digits_of sigs) ≡ Ok sigs
+  sigs_back : (sigs : List Sig) → All IsOfBytes sigs → collected_results (parse_sig line) (map digits_of sigs) ≡ Ok sigs
   sigs_back sigs all =
       each_back (parse_sig line) digits_of (λ x. x) sigs (λ x i. sig_back line x (all_in IsOfBytes sigs x all i))
       ∙ ap (λ (l : List Sig). Ok l) (map_self sigs)
 
-  key_back : (key : Hashkey) → IsKey s (length names) key → key_of s line key.path (raw_key names key) ≡ Ok key
-  unfolding key_of
+  key_back : (key : Hashkey) → IsKey s (length names) key → checked_hashkey s line key.path (raw_key names key) ≡ Ok key
+  unfolding checked_hashkey
   key_back key k =
       let path : length (map (party_label names) key.path) ≡ length key.path = length-map key.path (party_label names) in
       let sigs : length (map digits_of key.sigs) ≡ length key.sigs = length-map key.sigs digits_of in

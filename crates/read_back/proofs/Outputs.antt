@@ -10,14 +10,14 @@ use Rattle.swap_job.specs.declared.job.Purpose.{Purpose}
 use Rattle.swap_job.specs.declared.job.Purpose.TheVariants.{Make, Run}
 use Rattle.offer_fields.proofs.Chains.{went}
 use Rattle.offer_text.specs.HeaderLine.{header_line, made_header}
-use Rattle.swap_offer.specs.Job.{counted, parse_job_events, parse_events, events_unless, job_header_of, parse_job, job_of_lines}
+use Rattle.swap_offer.specs.Job.{counted, parse_job_events, parse_events, events_unless, parse_header_job, parse_job, job_of_lines}
 use Rattle.command_input.specs.Lines.{filled_lines, is_blank, collect_lines}
 use Rattle.swap_gen.specs.Made.{made}
-use Rattle.made_jobs.specs.Making.{made_of, made_output, made_text, written_line}
+use Rattle.made_jobs.specs.Making.{made_lines_output, made_output, made_text, written_line}
 use Rattle.read_back.proofs.Onward.{ok_is}
 use Rattle.read_back.proofs.Steps.{step}
 use Rattle.transcript_lines.specs.Between.{ended}
-use Rattle.read_back.specs.Made.{further_lines, numbered_from, reads_jobs, told_job, with_job, HasTexts, IsOneLine}
+use Rattle.read_back.specs.Made.{further_lines, numbered_lines, reads_jobs, told_job, with_job, HasTexts, IsOneLine}
 use Rattle.read_back.specs.Made.{MadeHeaderIsOneLine, MadeHeaderIsReadBack, MadeHeaderReads, MadeOutputIsReadBack, MadeTextIsReadBack}
 use Rattle.read_back.proofs.HeaderTexts as texts
 use Rattle.read_back.proofs.MadeLimited.{not_plain}
@@ -38,11 +38,11 @@ module _ (has : List ℕ → Bool) (plain : Job) (k : IsPlainJob has plain) wher
   plain_header_is_one = texts.header_line_is_one has (told_job Run plain) (made_is_told has plain k Run refl)
 
   pub plain_text_back : (purpose : Purpose) → reads_jobs purpose ≡ true → (number : ℕ) (again : List ℕ) → is_utf8 again ≡ true
-      → read again ≡ Some (made_header (made plain)) → job_header_of has purpose number again ≡ Ok (told_job purpose plain)
+      → read again ≡ Some (made_header (made plain)) → parse_header_job has purpose number again ≡ Ok (told_job purpose plain)
   plain_text_back purpose reads number again utf8 same = job_back has (told_job purpose plain) (made_is_told has plain k purpose reads) number again utf8 same
 
   pub plain_header_back : (purpose : Purpose) → reads_jobs purpose ≡ true → (number : ℕ)
-      → job_header_of has purpose number (header_line (made plain)) ≡ Ok (told_job purpose plain)
+      → parse_header_job has purpose number (header_line (made plain)) ≡ Ok (told_job purpose plain)
   plain_header_back purpose reads number =
       plain_text_back purpose reads number (header_line (made plain)) plain_header_reads.0 plain_header_reads.1
 
@@ -55,19 +55,19 @@ module _ (has : List ℕ → Bool) (plain : Job) (k : IsPlainJob has plain) wher
 
   -- the lines of a text of the header line and others are these, and none of them is blank
   pub text_lines : (ls : List (List ℕ)) → AreLines ls
-      → filled_lines 1 (collect_lines (ended (header_line (made plain) ∷ ls))) ≡ (1, header_line (made plain)) ∷ numbered_from 2 ls
+      → filled_lines 1 (collect_lines (ended (header_line (made plain) ∷ ls))) ≡ (1, header_line (made plain)) ∷ numbered_lines 2 ls
   text_lines ls h =
       ap (filled_lines 1) (lines_back (header_line (made plain) ∷ ls) (plain_header_is_one, not_blank, h))
       ∙ all_filled 1 (header_line (made plain) ∷ ls) (plain_header_is_one, not_blank, h)
 
   pub text_back : (purpose : Purpose) → reads_jobs purpose ≡ true → (ls : List (List ℕ)) → AreLines ls
       → parse_job has purpose (ended (header_line (made plain) ∷ ls))
-      ≡ with_job (told_job purpose plain) (parse_events (told_job purpose plain) 0 (numbered_from 2 ls))
+      ≡ with_job (told_job purpose plain) (parse_events (told_job purpose plain) 0 (numbered_lines 2 ls))
   unfolding parse_job
   text_back purpose reads ls h =
       ap (job_of_lines has purpose) (text_lines ls h)
       ∙ step _ (told_job purpose plain) _ (plain_header_back purpose reads 1)
-      ∙ ap (λ (b : Bool). with_job (told_job purpose plain) (events_unless b (told_job purpose plain) (numbered_from 2 ls))) (not_plain purpose reads)
+      ∙ ap (λ (b : Bool). with_job (told_job purpose plain) (events_unless b (told_job purpose plain) (numbered_lines 2 ls))) (not_plain purpose reads)
 
   pub made_is_text : (ls : List (ℕ × List ℕ)) → made_text plain ls ≡ ended (header_line (made plain) ∷ map (λ x. x.1) ls)
   unfolding made_text written_line
@@ -106,11 +106,11 @@ by_parts has l ls plain events j output good none same read written =
       written = ap (λ (x : Job × List Event). made_text x.0 ls) joint ∙ written;
     }
 
-party_made : (has : List ℕ → Bool) → HasTexts has → (lines : List (ℕ × List ℕ)) (output : List ℕ) → made_of has lines ≡ Ok output → IsMadeOf has lines output
+party_made : (has : List ℕ → Bool) → HasTexts has → (lines : List (ℕ × List ℕ)) (output : List ℕ) → made_lines_output has lines ≡ Ok output → IsMadeOf has lines output
 party_made has t [] output e = absurd (cc e)
 party_made has t (l ∷ ls) output e =
     let whole = went (job_of_lines has Make (l ∷ ls)) _ output e in
-    let header = went (job_header_of has Make l.0 l.1) _ whole.0 whole.1 in
+    let header = went (parse_header_job has Make l.0 l.1) _ whole.0 whole.1 in
     let events = went (parse_job_events Make header.0 ls) _ whole.0 header.2 in
     let count = went (steps counted 0 ls) _ events.0 events.1 in
     by_parts has l ls header.0 events.0 whole.0 output (read_is_plain has t l.0 l.1 header.0 header.1) (ok_is [] events.0 count.2)

@@ -7,7 +7,7 @@ use Rattle.std.proofs.lemmas.List.{length-map}
 use Rattle.std.proofs.lemmas.List.Elements.{All-map, All-nil}
 use Rattle.sha2.specs.Sha256.{sha256}
 use Rattle.sha2.proofs.Facts256.{length-sha256}
-use Rattle.swap_base.specs.Lists.{first_of, IsIn}
+use Rattle.swap_base.specs.Lists.{first_given_answer, IsElement}
 use Rattle.swap_base.proofs.Lists.{from_range}
 use Rattle.swap_digraph.specs.Deal.{locks}
 use Rattle.swap_digraph.specs.declared.deal.Deal.{Deal}
@@ -27,13 +27,13 @@ use Rattle.proposed_deal.specs.Proposed.{HaveSeeds, IsProposed}
 use Rattle.offer_header.specs.Names.{is_name}
 use Rattle.offer_header.specs.Scripts.{roles_placed}
 use Rattle.offer_text.specs.HeaderLine.{is_make}
-use Rattle.swap_gen.specs.Made.{all_keys, hashlock_from, seed_keys, made_deal, read_seed}
+use Rattle.swap_gen.specs.Made.{all_keys, seed_hashlock, seed_keys, made_deal, seed_or_zeros}
 use Rattle.swap_gen.specs.Owned.{OwnsKeys}
 use Rattle.swap_gen.proofs.Accepting.{made_is_accepted}
 use Rattle.swap_gen.proofs.Owning.{made_is_owned}
 use Rattle.swap_offer.specs.Checks.{unless_wrong}
 use Rattle.swap_offer.specs.Job.{provided}
-use Rattle.swap_offer.specs.Wallets.{fitting, needs_seed, no_seed, party_seed, seeded, walleted, walleted_for, wrong_seed, wrong_wallet, party_conforms}
+use Rattle.swap_offer.specs.Wallets.{fitting, needs_seed, no_seed, party_seed, seeded, walleted, fitting_wallets, wrong_seed, wrong_wallet, party_conforms}
 use Rattle.typed_books.specs.Typed.{IsDigest}
 use Rattle.read_back.specs.Headers.{IsShowable}
 use Rattle.read_back.proofs.Steps.{step}
@@ -64,7 +64,7 @@ unfolding derive_public_key
 key_is seed party lock = hash_is _
 
 row_is : (seeds : List (Option (List ℕ))) (d : Deal) (p : ℕ) → All IsDigest (seed_keys seeds d p)
-row_is seeds d p = All-map IsDigest (derive_public_key (read_seed seeds p) p) (locks d) (λ i e lt. key_is (read_seed seeds p) p _)
+row_is seeds d p = All-map IsDigest (derive_public_key (seed_or_zeros seeds p) p) (locks d) (λ i e lt. key_is (seed_or_zeros seeds p) p _)
 
 keys_are : (m : Mode) (seeds : List (Option (List ℕ))) (d : Deal) → All (All IsDigest) (all_keys m seeds d)
 keys_are Timelocks seeds d = All-nil (All IsDigest)
@@ -72,7 +72,7 @@ keys_are Hashkeys seeds d = All-map (All IsDigest) (seed_keys seeds d) (range_wi
 
 -- ---- seeds are there, and fit
 
-pub none_given : {A B : Type 0} (f : A → Option B) (xs : List A) → ((x : A) → IsIn x xs → f x ≡ None) → first_of f xs ≡ None
+pub none_given : {A B : Type 0} (f : A → Option B) (xs : List A) → ((x : A) → IsElement x xs → f x ≡ None) → first_given_answer f xs ≡ None
 none_given f [] h = refl
 none_given f (x ∷ xs) h = rw (h x (inl refl)) (none_given f xs (λ y i. h y (inr i)))
 
@@ -90,7 +90,7 @@ abbrev OwnAll : Job → Type 0
 OwnAll job = (p : ℕ) → p < job.deal.graph.n → OwnsKeys job p
 
 module _ (job : Job) (own : OwnAll job) where
-  all_seeded : first_of (no_seed job) (range_with_len 0 job.deal.graph.n) ≡ None
+  all_seeded : first_given_answer (no_seed job) (range_with_len 0 job.deal.graph.n) ≡ None
   all_seeded =
       none_given (no_seed job) (range_with_len 0 job.deal.graph.n) (λ p i.
       let o = own p (from_range p job.deal.graph.n i) in
@@ -103,7 +103,7 @@ module _ (job : Job) (own : OwnAll job) where
       let o = own p (from_range p job.deal.graph.n i) in
       no_wrong job p (party_conforms job p) (party_seed job p) o.seed o.there o.fits))
 
-  for_purpose : (purpose : Purpose) → reads_jobs purpose ≡ true → walleted_for purpose job ≡ Ok tt
+  for_purpose : (purpose : Purpose) → reads_jobs purpose ≡ true → fitting_wallets purpose job ≡ Ok tt
   for_purpose Check e = all_fit
   for_purpose Run e = all_fit
   for_purpose Race e = all_fit
@@ -138,7 +138,7 @@ module _ (has : List ℕ → Bool) (job : Job) (k : IsPlainJob has job) (purpose
         conforming = conforming;
         names = k.names;
         apart = k.apart;
-        hashlocks = All-map IsDigest (hashlock_from job.seeds) job.deal.leaders (λ i e lt. hash_is _);
+        hashlocks = All-map IsDigest (seed_hashlock job.seeds) job.deal.leaders (λ i e lt. hash_is _);
         keys = keys_are job.deal.mode job.seeds job.deal;
       }
 

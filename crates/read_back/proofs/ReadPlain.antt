@@ -14,16 +14,16 @@ use Rattle.swap_job.specs.declared.job.Purpose.TheVariants.{Make}
 use Rattle.swap_job.specs.declared.job.Role.{Role}
 use Rattle.swap_job.specs.declared.job.Role.TheVariants as kinds
 use Rattle.offer_fields.specs.Fields.{parse_data}
-use Rattle.offer_fields.specs.Limits.{within}
-use Rattle.offer_fields.specs.Lists.{each_of}
+use Rattle.offer_fields.specs.Limits.{check_range}
+use Rattle.offer_fields.specs.Lists.{collected_results}
 use Rattle.offer_fields.proofs.Chains.{each_all, each_length, went}
 use Rattle.offer_moves.specs.Moves.{parse_move}
 use Rattle.offer_moves.specs.declared.moves.Sizes.{Sizes}
-use Rattle.offer_header.specs.Header.{parse_whole_header, IsHeaderWithin}
-use Rattle.offer_header.specs.Limits.{parse_acting, arc_ends, limited_of, count_parties, checked_role, script_role, checked_seed, seed_or_none}
+use Rattle.offer_header.specs.Header.{parse_whole_header, IsHeaderInLimits}
+use Rattle.offer_header.specs.Limits.{parse_acting, arc_ends, limited_value, count_parties, checked_role, script_role, checked_seed, seed_or_none}
 use Rattle.offer_header.specs.Limits.{header_sizes, HoldsEach}
-use Rattle.offer_header.specs.Names.{numbered_of, IsNumbered}
-use Rattle.offer_header.specs.Raw.{raw_of}
+use Rattle.offer_header.specs.Names.{numbered_header, IsNumbered}
+use Rattle.offer_header.specs.Raw.{object_header}
 use Rattle.offer_header.specs.Scripts.{roles_placed, scripts_placed}
 use Rattle.offer_header.specs.declared.header.Header.{Header}
 use Rattle.offer_header.specs.declared.limits.Acting.{Acting}
@@ -38,9 +38,9 @@ use Rattle.offer_header.proofs.Numbered.{is_numbered}
 use Rattle.offer_fields.specs.Limits.{to_digest}
 use Rattle.offer_fields.proofs.Ranges.{within_ok}
 use Rattle.proposed_deal.specs.Proposed.{IsProposed}
-use Rattle.swap_offer.specs.Checks.{admitted, header_deal, header_digraph, assemble_job, IsAcceptedFor}
-use Rattle.swap_offer.specs.Job.{accepted_entries, job_header_of, provided}
-use Rattle.swap_offer.specs.Wallets.{seeded, walleted, HaveSeedsFor}
+use Rattle.swap_offer.specs.Checks.{admitted, header_deal, header_digraph, assemble_job, IsAcceptedOrProposed}
+use Rattle.swap_offer.specs.Job.{accepted_entries, parse_header_job, provided}
+use Rattle.swap_offer.specs.Wallets.{seeded, walleted, HaveRequiredSeeds}
 use Rattle.swap_offer.proofs.Admitted.{admitted_is_accepted}
 use Rattle.swap_offer.proofs.Seeds.{seeds_on}
 use Rattle.read_back.proofs.Onward.{landed, onward}
@@ -72,8 +72,8 @@ module _ (s : Sizes) (small : IsSmall s) (names : List (List ℕ)) (line : ℕ) 
   role_is Conforming = landed kinds.Conforming (IsScriptIn s (length names)) tt
   role_is Manual = landed kinds.Manual (IsScriptIn s (length names)) tt
   role_is (Script raws) =
-      onward (within line (codes "script") 0 1000 (length raws)) _ (IsScriptIn s (length names)) (λ u w.
-      onward (each_of (parse_move s names line) raws) _ (IsScriptIn s (length names)) (λ moves e.
+      onward (check_range line (codes "script") 0 1000 (length raws)) _ (IsScriptIn s (length names)) (λ u w.
+      onward (collected_results (parse_move s names line) raws) _ (IsScriptIn s (length names)) (λ moves e.
       let size : length moves ≡ length raws = each_length (parse_move s names line) raws moves e in
       let few = (within_ok line (codes "script") 0 1000 (length raws) u w).1 in
       landed (kinds.Script moves) (IsScriptIn s (length names)) (
@@ -93,7 +93,7 @@ module _ (s : Sizes) (small : IsSmall s) (names : List (List ℕ)) (line : ℕ) 
       → All (IsActingIn s (length names)) acting
   unfolding count_parties
   all_acting v ps =
-      onward (within line (codes "parties") 2 (most_parties v) (length ps)) _ (All (IsActingIn s (length names))) (λ u w acting e.
+      onward (check_range line (codes "parties") 2 (most_parties v) (length ps)) _ (All (IsActingIn s (length names))) (λ u w acting e.
       each_all (IsActingIn s (length names)) (parse_acting s names line) acting_is ps acting e)
 
 -- ---- the header
@@ -105,7 +105,7 @@ sizes_of_header h = record { arcs = length h.arcs; locks = length h.leaders; pat
 -- What is known of a header that is read for making.
 record IsReadToMake (has : List ℕ → Bool) (h : Header) : Type 0 where
   purpose : h.purpose ≡ Make
-  within : IsHeaderWithin h
+  within : IsHeaderInLimits h
   names : All IsGood h.names
   digests : All MayBeDigest h.seeds
   scripts : All (IsScriptIn (sizes_of_header h) (length h.names)) h.roles
@@ -118,8 +118,8 @@ sizes_are line raw n h k o =
     (sym k.arcs ∙ sym (length-map n.arcs arc_ends)) (sym k.leaders)
     ∙ ap (λ (x : Header). sizes_of_header x) o.same
 
-limited_is : (has : List ℕ → Bool) (line : ℕ) (raw : RawHeader) (n : Numbered) (h : Header) (u : Unit {0}) → IsFit raw → numbered_of has line raw ≡ Ok n
-    → limited_of Make line raw n ≡ Ok h → scripts_placed line h ≡ Ok u → IsReadToMake has h
+limited_is : (has : List ℕ → Bool) (line : ℕ) (raw : RawHeader) (n : Numbered) (h : Header) (u : Unit {0}) → IsFit raw → numbered_header has line raw ≡ Ok n
+    → limited_value Make line raw n ≡ Ok h → scripts_placed line h ≡ Ok u → IsReadToMake has h
 unfolding scripts_placed
 limited_is has line raw n h u fit m l s =
     let numbered = is_numbered has line raw n m in
@@ -146,9 +146,9 @@ header_is : (has : List ℕ → Bool) (line : ℕ) (text : List ℕ) (h : Header
 unfolding parse_whole_header
 header_is has line text =
     onward (parse_data line text) _ (IsReadToMake has) (λ d o.
-    onward (raw_of Make line d) _ (IsReadToMake has) (λ raw r.
-    onward (numbered_of has line raw) _ (IsReadToMake has) (λ n m.
-    onward (limited_of Make line raw n) _ (IsReadToMake has) (λ h l.
+    onward (object_header Make line d) _ (IsReadToMake has) (λ raw r.
+    onward (numbered_header has line raw) _ (IsReadToMake has) (λ n m.
+    onward (limited_value Make line raw n) _ (IsReadToMake has) (λ h l.
     onward (scripts_placed line h) _ (IsReadToMake has) (λ u s.
     landed h (IsReadToMake has) (limited_is has line raw n h u (raw_fits Make line d raw r) m l s))))))
 
@@ -166,7 +166,7 @@ module _ (has : List ℕ → Bool) (texts : HasTexts has) (h : Header) (k : IsRe
 
   is_proposed : IsProposed (header_deal h (header_digraph h))
   is_proposed =
-      subst (λ (p : Purpose). IsAcceptedFor p (header_deal h (header_digraph h))) k.purpose ((admitted_is_accepted h k.within).0 made)
+      subst (λ (p : Purpose). IsAcceptedOrProposed p (header_deal h (header_digraph h))) k.purpose ((admitted_is_accepted h k.within).0 made)
 
   all_said : All (IsToldRole has (sizes_of_header h) (length h.names)) h.roles
   all_said i d lt = role_said has (sizes_of_header h) (length h.names) texts _ (k.scripts i d lt) (k.held i d lt)
@@ -183,7 +183,7 @@ module _ (has : List ℕ → Bool) (texts : HasTexts has) (h : Header) (k : IsRe
     digests = k.digests;
     said = all_said;
     placed = k.placed;
-    have = subst (λ (p : Purpose). HaveSeedsFor p job) k.purpose (seeds_on {X = Unit {0}} job u (Ok tt) s);
+    have = subst (λ (p : Purpose). HaveRequiredSeeds p job) k.purpose (seeds_on {X = Unit {0}} job u (Ok tt) s);
   }
 
   is_plain_job : (u : Unit {0}) → provided job ≡ Ok u → IsPlainJob has job
@@ -204,8 +204,8 @@ accepted_is has texts h k =
     onward (admitted h) _ (IsPlainJob has) (λ g a.
     onward (provided (assemble_job h g)) _ (IsPlainJob has) (λ u p. landed (assemble_job h g) (IsPlainJob has) (plain_by has texts h k g a u p)))
 
-pub read_is_plain : (has : List ℕ → Bool) → HasTexts has → (line : ℕ) (text : List ℕ) (job : Job) → job_header_of has Make line text ≡ Ok job
+pub read_is_plain : (has : List ℕ → Bool) → HasTexts has → (line : ℕ) (text : List ℕ) (job : Job) → parse_header_job has Make line text ≡ Ok job
     → IsPlainJob has job
-unfolding job_header_of
+unfolding parse_header_job
 read_is_plain has texts line text =
     onward (parse_whole_header has Make line text) _ (IsPlainJob has) (λ h e. accepted_is has texts h (header_is has line text h e))

@@ -5,7 +5,7 @@ use Rattle.std.specs.Prelude.{All}
 use Rattle.std.specs.Str.{bytes_eq}
 use Rattle.std.proofs.lemmas.Bool.{eqb-false}
 use Rattle.std.proofs.lemmas.Iterator.Adapters.{position_from-zero}
-use Rattle.swap_base.specs.Lists.{IsIn}
+use Rattle.swap_base.specs.Lists.{IsElement}
 use Rattle.hashkey_path.proofs.Validity.{bytes_eq-true, bytes_eq_self}
 use Rattle.swap_digraph.specs.declared.arc_ends.ArcEnds.{ArcEnds}
 use Rattle.swap_digraph.specs.Graph.{resolve_all_ends, is_listed}
@@ -20,7 +20,7 @@ use Rattle.swap_clear.specs.Led.{own, own_leaders, IsLed}
 use Rattle.swap_clear.specs.Ready.{own_amounts, IsReady}
 use Rattle.swap_clear.specs.Together.{IsGroup}
 use Rattle.swap_clear.proofs.Places.{stands}
-use Rattle.clear_line.specs.Limits.{AreWishesWithin}
+use Rattle.clear_line.specs.Limits.{AreWishesInLimits}
 use Rattle.clear_line.specs.declared.limits.Wishes.{Wishes}
 use Rattle.clear_line.specs.ClearedText.{proposal}
 use Rattle.read_back.specs.ClearedJobs.{wished_name, wished_graph}
@@ -31,7 +31,7 @@ IsGood name = is_name name ≡ true
 
 -- A group that is cleared of wishes within their limits.
 pub record IsClear (w : Wishes) (group : Group) : Type 0 where
-  pub within : AreWishesWithin w
+  pub within : AreWishesInLimits w
   pub names : All IsGood w.names
   pub one : IsGroup (wished_graph w) group
   pub led : IsLed (wished_graph w) group
@@ -51,15 +51,15 @@ ends_are (p ∷ arcs) (suc a) = ends_are arcs a
 module _ (w : Wishes) (group : Group) (k : IsClear w group) (line : ℕ) where
   -- ---- parties
 
-  pub is_party : (p : ℕ) → IsIn p group.parties → p < length w.names
+  pub is_party : (p : ℕ) → IsElement p group.parties → p < length w.names
   is_party p i = k.one.parties p (in-is_listed p group.parties i)
 
-  pub from_in : (a : ℕ) → IsIn a group.arcs → is_listed (proposal w.arcs a).from group.parties ≡ true
+  pub from_in : (a : ℕ) → IsElement a group.arcs → is_listed (proposal w.arcs a).from group.parties ≡ true
   from_in a i =
       let among = in-is_listed a group.arcs i in
       subst (λ (e : ArcEnds). is_listed e.from group.parties ≡ true) (ends_are w.arcs a) ((k.one.arcs a (k.one.arc a among)).0 among).0
 
-  pub to_in : (a : ℕ) → IsIn a group.arcs → is_listed (proposal w.arcs a).to group.parties ≡ true
+  pub to_in : (a : ℕ) → IsElement a group.arcs → is_listed (proposal w.arcs a).to group.parties ≡ true
   to_in a i =
       let among = in-is_listed a group.arcs i in
       subst (λ (e : ArcEnds). is_listed e.to group.parties ≡ true) (ends_are w.arcs a) ((k.one.arcs a (k.one.arc a among)).0 among).1

@@ -22,16 +22,16 @@ use Rattle.swap_job.specs.declared.job.Purpose.TheVariants.{Check, Run, Race, Ma
 use Rattle.refusals.specs.declared.reason.Reason.{Reason}
 use Rattle.refusals.specs.declared.reason.Reason.TheVariants.{BadName, Duplicate}
 use Rattle.swap_rules.specs.Accepted.{IsAccepted}
-use Rattle.offer_fields.specs.Fields.{list_at, number_at, parse_data, only}
-use Rattle.offer_fields.specs.Limits.{decoded, to_digest, within}
-use Rattle.offer_fields.specs.Lists.{each_of}
+use Rattle.offer_fields.specs.Fields.{field_list, field_number, parse_data, only}
+use Rattle.offer_fields.specs.Limits.{decoded, to_digest, check_range}
+use Rattle.offer_fields.specs.Lists.{collected_results}
 use Rattle.offer_fields.proofs.Chains.{each_all}
-use Rattle.offer_header.specs.Raw.{raw_arc_of, finish_at, header_fields, is_plain, keys_at, raw_leader_of, mode_at, parse_party, raw_of, states_keys}
-use Rattle.offer_header.specs.Raw.{version_at}
+use Rattle.offer_header.specs.Raw.{object_arc, finish_member, header_fields, is_plain, keys_member, object_leader, mode_member, parse_party, object_header, states_keys}
+use Rattle.offer_header.specs.Raw.{version_member}
 use Rattle.offer_header.specs.Raw.{IsVersionMode, IsUntimed}
-use Rattle.offer_header.specs.Names.{actor_known, named_ends, is_name, leader_step, name_added, name_step, names_stated, numbered_of}
-use Rattle.offer_header.specs.Limits.{lock_hashlock, hashlocks_of, key_digest, derived_keys, limited_of, party_keys_of, stated_keys_of}
-use Rattle.offer_header.specs.Header.{parse_whole_header, IsHeaderWithin}
+use Rattle.offer_header.specs.Names.{actor_known, named_ends, is_name, leader_step, name_added, name_step, names_stated, numbered_header}
+use Rattle.offer_header.specs.Limits.{lock_hashlock, leader_hashlocks, key_digest, derived_keys, limited_value, party_key_row, stated_keys}
+use Rattle.offer_header.specs.Header.{parse_whole_header, IsHeaderInLimits}
 use Rattle.offer_header.specs.Scripts.{scripts_placed}
 use Rattle.offer_header.specs.declared.raw.RawHeader.{RawHeader}
 use Rattle.offer_header.specs.declared.raw.RawLeader.{RawLeader}
@@ -46,7 +46,7 @@ use Rattle.offer_header.proofs.Untimed.{arcs_untimed}
 use Rattle.offer_header.proofs.Walked.{steps_keep}
 use Rattle.offer_text.specs.HeaderLine.{is_make}
 use Rattle.swap_offer.specs.Checks.{admitted, by_arcs, checked, header_deal, header_digraph, build_graph, assemble_job, IsAcceptedUnless}
-use Rattle.swap_offer.specs.Job.{accepted_entries, job_header_of, provided}
+use Rattle.swap_offer.specs.Job.{accepted_entries, parse_header_job, provided}
 use Rattle.swap_offer.proofs.Admitted.{admitted_is_accepted}
 use Rattle.swap_offer.proofs.Size.{is_whole}
 use Rattle.typed_books.specs.Typed.{IsDigest}
@@ -79,27 +79,27 @@ hashlock_is : (line : ℕ) (l : RawLeader) (xs : List ℕ) → lock_hashlock lin
 unfolding lock_hashlock
 hashlock_is line l xs e = digest_is line (codes "hashlock") l.hashlock xs e
 
-hashlocks_are : (line : ℕ) (leaders : List RawLeader) (hashlocks : List (List ℕ)) → hashlocks_of false line leaders ≡ Ok hashlocks → All IsDigest hashlocks
-unfolding hashlocks_of
+hashlocks_are : (line : ℕ) (leaders : List RawLeader) (hashlocks : List (List ℕ)) → leader_hashlocks false line leaders ≡ Ok hashlocks → All IsDigest hashlocks
+unfolding leader_hashlocks
 hashlocks_are line leaders =
-    onward (within line (codes "leaders") 1 8 (length leaders)) _ (All IsDigest)
+    onward (check_range line (codes "leaders") 1 8 (length leaders)) _ (All IsDigest)
     (λ u w hashlocks e. each_all IsDigest (lock_hashlock line) (hashlock_is line) leaders hashlocks e)
 
 key_is : (line : ℕ) (w xs : List ℕ) → key_digest line w ≡ Ok xs → IsDigest xs
 unfolding key_digest
 key_is line w xs e = digest_is line (codes "keys") w xs e
 
-row_is : (locks line : ℕ) (row : RawRow) (keys : List (List ℕ)) → party_keys_of locks line row ≡ Ok keys → All IsDigest keys
-unfolding party_keys_of
+row_is : (locks line : ℕ) (row : RawRow) (keys : List (List ℕ)) → party_key_row locks line row ≡ Ok keys → All IsDigest keys
+unfolding party_key_row
 row_is locks line row =
-    onward (within line (codes "keys") locks locks (length row.texts)) _ (All IsDigest)
+    onward (check_range line (codes "keys") locks locks (length row.texts)) _ (All IsDigest)
     (λ u w keys e. each_all IsDigest (key_digest line) (key_is line) row.texts keys e)
 
-rows_are : (line : ℕ) (h : RawHeader) (keys : List (List (List ℕ))) → stated_keys_of line h ≡ Ok keys → All (All IsDigest) keys
-unfolding stated_keys_of
+rows_are : (line : ℕ) (h : RawHeader) (keys : List (List (List ℕ))) → stated_keys line h ≡ Ok keys → All (All IsDigest) keys
+unfolding stated_keys
 rows_are line h =
-    onward (within line (codes "keys") (length h.parties) (length h.parties) (length h.keys)) _ (All (All IsDigest))
-    (λ u w keys e. each_all (All IsDigest) (party_keys_of (length h.leaders) line) (row_is (length h.leaders) line) h.keys keys e)
+    onward (check_range line (codes "keys") (length h.parties) (length h.parties) (length h.keys)) _ (All (All IsDigest))
+    (λ u w keys e. each_all (All IsDigest) (party_key_row (length h.leaders) line) (row_is (length h.leaders) line) h.keys keys e)
 
 no_rows : (keys : List (List (List ℕ))) → [] ≡ keys → All (All IsDigest) keys
 no_rows keys e = subst (All (All IsDigest)) e (All-nil (All IsDigest))
@@ -136,11 +136,11 @@ good_step has line all seen p t good =
     onward (name_added line seen p) _ (All IsGood) (λ names n.
     onward (actor_known has line all p.actor) _ (All IsGood) (λ u k. landed names (All IsGood) (good_added line seen p names good n))) t
 
-pub good_names : (has : List ℕ → Bool) (line : ℕ) (raw : RawHeader) (n : Numbered) → numbered_of has line raw ≡ Ok n → All IsGood n.names
-unfolding numbered_of
+pub good_names : (has : List ℕ → Bool) (line : ℕ) (raw : RawHeader) (n : Numbered) → numbered_header has line raw ≡ Ok n → All IsGood n.names
+unfolding numbered_header
 good_names has line raw =
     onward (steps (name_step has line (names_stated raw.parties)) [] raw.parties) _ (λ (n : Numbered). All IsGood n.names) (λ names e.
-    onward (each_of (named_ends line names) raw.arcs) _ (λ (n : Numbered). All IsGood n.names) (λ arcs a.
+    onward (collected_results (named_ends line names) raw.arcs) _ (λ (n : Numbered). All IsGood n.names) (λ arcs a.
     onward (steps (leader_step line names) [] raw.leaders) _ (λ (n : Numbered). All IsGood n.names) (λ leaders l.
     landed (record { names = names; arcs = arcs; leaders = leaders }) (λ (n : Numbered). All IsGood n.names)
     (steps_keep (All IsGood) (name_step has line (names_stated raw.parties)) (good_step has line (names_stated raw.parties)) [] raw.parties names
@@ -151,19 +151,19 @@ good_names has line raw =
 abbrev pub IsFit : RawHeader → Type 0
 IsFit raw = IsVersionMode raw.version raw.mode × IsUntimed raw
 
-pub raw_fits : (purpose : Purpose) (line : ℕ) (d : Data) (raw : RawHeader) → raw_of purpose line d ≡ Ok raw → IsFit raw
-unfolding raw_of
+pub raw_fits : (purpose : Purpose) (line : ℕ) (d : Data) (raw : RawHeader) → object_header purpose line d ≡ Ok raw → IsFit raw
+unfolding object_header
 raw_fits purpose line d =
-    onward (version_at line d) _ IsFit (λ version v.
-    onward (mode_at line version d) _ IsFit (λ mode m.
-    onward (number_at line (codes "start") d) _ IsFit (λ start s.
-    onward (number_at line (codes "delta") d) _ IsFit (λ delta t.
-    onward (number_at line (codes "bound") d) _ IsFit (λ bound b.
-    onward (list_at line (codes "parties") (parse_party (record { purpose = purpose; mode = mode }) line) d) _ IsFit (λ parties p.
-    onward (list_at line (codes "arcs") (raw_arc_of (record { purpose = purpose; mode = mode }) line) d) _ IsFit (λ arcs a.
-    onward (list_at line (codes "leaders") (raw_leader_of (record { purpose = purpose; mode = mode }) line) d) _ IsFit (λ leaders l.
-    onward (keys_at line (states_keys purpose mode) d) _ IsFit (λ keys k.
-    onward (finish_at line purpose d) _ IsFit (λ finish f.
+    onward (version_member line d) _ IsFit (λ version v.
+    onward (mode_member line version d) _ IsFit (λ mode m.
+    onward (field_number line (codes "start") d) _ IsFit (λ start s.
+    onward (field_number line (codes "delta") d) _ IsFit (λ delta t.
+    onward (field_number line (codes "bound") d) _ IsFit (λ bound b.
+    onward (field_list line (codes "parties") (parse_party (record { purpose = purpose; mode = mode }) line) d) _ IsFit (λ parties p.
+    onward (field_list line (codes "arcs") (object_arc (record { purpose = purpose; mode = mode }) line) d) _ IsFit (λ arcs a.
+    onward (field_list line (codes "leaders") (object_leader (record { purpose = purpose; mode = mode }) line) d) _ IsFit (λ leaders l.
+    onward (keys_member line (states_keys purpose mode) d) _ IsFit (λ keys k.
+    onward (finish_member line purpose d) _ IsFit (λ finish f.
     onward (only line (header_fields purpose (states_keys purpose mode)) d) _ IsFit (λ u o.
     landed _ IsFit (
       is_mode_of line version d mode m,
@@ -175,18 +175,18 @@ raw_fits purpose line d =
 -- What is known of a header that a line gives for a purpose.
 record IsStatedBy (purpose : Purpose) (h : Header) : Type 0 where
   purpose_is : h.purpose ≡ purpose
-  within : IsHeaderWithin h
+  within : IsHeaderInLimits h
   names : All IsGood h.names
   hashlocks : All IsDigest h.hashlocks
   keys : All (All IsDigest) h.keys
 
 limited_is : (purpose : Purpose) (line : ℕ) (raw : RawHeader) (n : Numbered) (h : Header) → is_plain purpose ≡ false → IsFit raw
-    → All IsGood n.names → ((x : Header) → limited_of purpose line raw n ≡ Ok x → IsHeaderWithin x) → limited_of purpose line raw n ≡ Ok h
+    → All IsGood n.names → ((x : Header) → limited_value purpose line raw n ≡ Ok x → IsHeaderInLimits x) → limited_value purpose line raw n ≡ Ok h
     → IsStatedBy purpose h
 limited_is purpose line raw n h stated fit good within e =
     let o = opened line purpose raw n h e in
-    let hashlocks : hashlocks_of false line raw.leaders ≡ Ok o.hashlocks =
-    subst (λ (b : Bool). hashlocks_of b line raw.leaders ≡ Ok o.hashlocks) stated o.hashlocks_are in
+    let hashlocks : leader_hashlocks false line raw.leaders ≡ Ok o.hashlocks =
+    subst (λ (b : Bool). leader_hashlocks b line raw.leaders ≡ Ok o.hashlocks) stated o.hashlocks_are in
     let keys : derived_keys raw.mode false line raw ≡ Ok o.keys = subst (λ (b : Bool). derived_keys raw.mode b line raw ≡ Ok o.keys) stated o.keys_are in
     record {
       purpose_is = sym (ap (λ (x : Header). x.purpose) o.same);
@@ -201,9 +201,9 @@ header_is : (has : List ℕ → Bool) (purpose : Purpose) (line : ℕ) (text : L
 unfolding parse_whole_header
 header_is has purpose line text h stated =
     onward (parse_data line text) _ (IsStatedBy purpose) (λ d o.
-    onward (raw_of purpose line d) _ (IsStatedBy purpose) (λ raw r.
-    onward (numbered_of has line raw) _ (IsStatedBy purpose) (λ n m.
-    onward (limited_of purpose line raw n) _ (IsStatedBy purpose) (λ x l.
+    onward (object_header purpose line d) _ (IsStatedBy purpose) (λ raw r.
+    onward (numbered_header has line raw) _ (IsStatedBy purpose) (λ n m.
+    onward (limited_value purpose line raw n) _ (IsStatedBy purpose) (λ x l.
     onward (scripts_placed line x) _ (IsStatedBy purpose) (λ u s.
     landed x (IsStatedBy purpose)
     (let fit = raw_fits purpose line d raw r in
@@ -266,7 +266,7 @@ accepted_is purpose h job stated k =
     onward (provided (assemble_job h g)) _ IsShowable (λ u p. landed (assemble_job h g) IsShowable (showable_with purpose h g stated k a))) job
 
 pub read_is_showable : ReadIsShowable
-unfolding job_header_of
+unfolding parse_header_job
 read_is_showable has purpose line text job stated =
     onward (parse_whole_header has purpose line text) _ IsShowable (λ h e j a.
     accepted_is purpose h j stated (header_is has purpose line text h stated e) a) job

@@ -5,11 +5,11 @@ use Rattle.std.specs.Prelude.{slice_index_or}
 use Rattle.std.proofs.Math.Seq.{get_or-append_seam}
 use Rattle.std.specs.List.{range_with_len}
 use Rattle.swap_base.specs.Fault.{◌>>=◌}
-use Rattle.swap_base.specs.Lists.{IsIn}
+use Rattle.swap_base.specs.Lists.{IsElement}
 use Rattle.serde_json.specs.Data.{Data}
 use Rattle.serde_json.specs.View.{items_of}
 use Rattle.refusals.specs.declared.reason.Reason.{Reason}
-use Rattle.offer_fields.specs.Lists.{each_of}
+use Rattle.offer_fields.specs.Lists.{collected_results}
 use Rattle.offer_fields.specs.Fields.{each}
 
 -- the step was read
@@ -17,18 +17,18 @@ pub step : {A B : Type 0} (r : Result A Reason) (x : A) (f : A → Result B Reas
 step r x f e = ap (λ (q : Result _ Reason). q >>= f) e
 
 -- each of the list is read
-pub each_back : {A B C : Type 0} (f : A → Result B Reason) (g : C → A) (h : C → B) (xs : List C) → ((x : C) → IsIn x xs → f (g x) ≡ Ok (h x))
-    → each_of f (map g xs) ≡ Ok (map h xs)
-unfolding each_of
+pub each_back : {A B C : Type 0} (f : A → Result B Reason) (g : C → A) (h : C → B) (xs : List C) → ((x : C) → IsElement x xs → f (g x) ≡ Ok (h x))
+    → collected_results f (map g xs) ≡ Ok (map h xs)
+unfolding collected_results
 each_back f g h [] one = refl
 each_back f g h (x ∷ xs) one =
-    step (f (g x)) (h x) (λ y. each_of f (map g xs) >>= λ ys. Ok (y ∷ ys)) (one x (inl refl))
-    ∙ step (each_of f (map g xs)) (map h xs) (λ ys. Ok (h x ∷ ys)) (each_back f g h xs (λ y i. one y (inr i)))
+    step (f (g x)) (h x) (λ y. collected_results f (map g xs) >>= λ ys. Ok (y ∷ ys)) (one x (inl refl))
+    ∙ step (collected_results f (map g xs)) (map h xs) (λ ys. Ok (h x ∷ ys)) (each_back f g h xs (λ y i. one y (inr i)))
 
 -- each of the items of a list of JSON
-pub items_back : {B C : Type 0} (f : Data → Result B Reason) (g : C → Data) (h : C → B) (xs : List C) → ((x : C) → IsIn x xs → f (g x) ≡ Ok (h x))
+pub items_back : {B C : Type 0} (f : Data → Result B Reason) (g : C → Data) (h : C → B) (xs : List C) → ((x : C) → IsElement x xs → f (g x) ≡ Ok (h x))
     → each f (items_of (map g xs)) ≡ Ok (map h xs)
-unfolding each each_of
+unfolding each collected_results
 items_back f g h [] one = refl
 items_back f g h (x ∷ xs) one =
     step (f (g x)) (h x) (λ y. each f (items_of (map g xs)) >>= λ ys. Ok (y ∷ ys)) (one x (inl refl))

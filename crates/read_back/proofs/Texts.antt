@@ -1,4 +1,5 @@
--- Values of JSON whose text is read back: numbers, texts, lists, and objects whose fields stand in the order of their bytes.
+-- Values of JSON whose text is read back: numbers, texts, lists, and objects whose fields stand in
+-- the order of their bytes.
 use Rattle.std.proofs.Common.{◌≡◌, inl, inr, ◌&&◌, ◌^◌, ◌≤◌, ◌<◌, ℕ, suc, Bool, true, false, List, [], ◌∷◌, ◌++◌, map, decimal, Option, Some}
 use Rattle.std.proofs.Common.{refl, sym, ap, ◌∙◌, arith, append-nil}
 use Rattle.std.specs.Ordering.{match_ordering, nat_cmp}
@@ -23,11 +24,12 @@ use Rattle.serde_json.specs.View.{items_of}
 use Rattle.serde_json.specs.Written.{comma_if, compact_text, items_outline, items_text, members_outline, members_text, outline}
 use Rattle.serde_json.proofs.Numbers.{number_of-decimal}
 use Rattle.serde_json.proofs.Texts.{print-outline}
-use Rattle.swap_base.specs.Lists.{IsIn}
+use Rattle.swap_base.specs.Lists.{IsElement}
 use Rattle.swap_base.proofs.Lists.{and_parts}
 use Rattle.offer_text.specs.Words.{list_data, number_data}
 
--- A value that is written as text, and as what it is read again; lists and objects nest at most k deep in it.
+-- A value that is written as text, and as what it is read again; lists and objects nest at most k
+-- deep in it.
 pub record IsRead (k : ℕ) (d : Data) : Type 0 where
   pub of : of_json (outline d) ≡ Some d
   pub numbers : tree.HasNumbers (outline d)
@@ -70,27 +72,27 @@ comma false = IsUtf8-nil
 -- ---- lists
 
 module _ {A : Type 0} (k : ℕ) (f : A → Data) where
-  items_back : (xs : List A) → ((x : A) → IsIn x xs → IsRead k (f x)) → of_items (items_outline (items_of (map f xs))) ≡ Some (items_of (map f xs))
+  items_back : (xs : List A) → ((x : A) → IsElement x xs → IsRead k (f x)) → of_items (items_outline (items_of (map f xs))) ≡ Some (items_of (map f xs))
   items_back [] h = refl
   items_back (x ∷ xs) h =
       some_step (of_json (outline (f x))) (f x) (λ d. option_map (item d) (of_items (items_outline (items_of (map f xs))))) (h x (inl refl)).of
       ∙ ap (option_map (item (f x))) (items_back xs (λ y i. h y (inr i)))
 
-  items_numbers : (xs : List A) → ((x : A) → IsIn x xs → IsRead k (f x)) → tree.ItemsHaveNumbers (items_outline (items_of (map f xs)))
+  items_numbers : (xs : List A) → ((x : A) → IsElement x xs → IsRead k (f x)) → tree.ItemsHaveNumbers (items_outline (items_of (map f xs)))
   items_numbers [] h = tt
   items_numbers (x ∷ xs) h = ((h x (inl refl)).numbers, items_numbers xs (λ y i. h y (inr i)))
 
-  items_low : (xs : List A) → ((x : A) → IsIn x xs → IsRead k (f x)) → tree.items_depth (items_outline (items_of (map f xs))) ≤ k
+  items_low : (xs : List A) → ((x : A) → IsElement x xs → IsRead k (f x)) → tree.items_depth (items_outline (items_of (map f xs))) ≤ k
   items_low [] h = omega arith
   items_low (x ∷ xs) h = let one = (h x (inl refl)).low in let rest = items_low xs (λ y i. h y (inr i)) in omega arith
 
-  items_are_text : (later : Bool) (xs : List A) → ((x : A) → IsIn x xs → IsRead k (f x)) → IsUtf8 (items_text later (items_of (map f xs)))
+  items_are_text : (later : Bool) (xs : List A) → ((x : A) → IsElement x xs → IsRead k (f x)) → IsUtf8 (items_text later (items_of (map f xs)))
   items_are_text later [] h = IsUtf8-are_ascii (93 ∷ []) refl
   items_are_text later (x ∷ xs) h =
       IsUtf8-append (comma_if later) (compact_text (f x) ++ items_text true (items_of (map f xs))) (comma later)
       (IsUtf8-append (compact_text (f x)) (items_text true (items_of (map f xs))) (h x (inl refl)).text (items_are_text true xs (λ y i. h y (inr i))))
 
-  pub list_is : (xs : List A) → ((x : A) → IsIn x xs → IsRead k (f x)) → IsRead (suc k) (list_data f xs)
+  pub list_is : (xs : List A) → ((x : A) → IsElement x xs → IsRead k (f x)) → IsRead (suc k) (list_data f xs)
   list_is xs h = record {
     of = ap (option_map array) (items_back xs h);
     numbers = items_numbers xs h;

@@ -1,4 +1,5 @@
--- The line of each group that is cleared of a line of wishes, with a seed for each party, is a plain job.
+-- The line of each group that is cleared of a line of wishes, with a seed for each party, is a
+-- plain job.
 use Rattle.std.specs.Prelude.{◌≡◌, ◌==◌, ◌++◌, not, ℕ, Bool, true, List, [], codes, length, map, replicate, slice_index_or, zip, Some, Result, Ok}
 use Rattle.std.specs.Str.{is_utf8}
 use Rattle.std.specs.List.{list_all}
@@ -7,7 +8,7 @@ use Rattle.hex.specs.declared.error.FromHexError.{FromHexError}
 use Rattle.serde_json.specs.Data.{Data, string, object, no_members, member}
 use Rattle.serde_json.specs.Read.{read}
 use Rattle.serde_json.specs.Written.{compact_text}
-use Rattle.swap_base.specs.Lists.{IsIn}
+use Rattle.swap_base.specs.Lists.{IsElement}
 use Rattle.swap_digraph.specs.Value.{Graph}
 use Rattle.swap_digraph.specs.declared.deal.Deal.{Deal}
 use Rattle.swap_digraph.specs.declared.deal.Mode.TheVariants.{Hashkeys}
@@ -19,7 +20,7 @@ use Rattle.swap_job.specs.declared.job.Finish.TheVariants.{Stop}
 use Rattle.swap_job.specs.declared.job.Role.TheVariants.{Conforming}
 use Rattle.offer_text.specs.Words.{list_data, name_data, number_data}
 use Rattle.offer_header.specs.Limits.{no_digest}
-use Rattle.swap_offer.specs.Job.{job_header_of, parse_job}
+use Rattle.swap_offer.specs.Job.{parse_header_job, parse_job}
 use Rattle.swap_gen.specs.Made.{made}
 use Rattle.made_jobs.specs.Making.{made_output, written_line}
 use Rattle.swap_clear.specs.declared.answer.Group.{Group}
@@ -63,7 +64,7 @@ pub record IsSeeded (c : Cleared) (group : Group) (texts seeds : List (List ℕ)
   pub line : ℕ
   pub text : List ℕ
   pub is_cleared : parse_cleared line text ≡ Ok c
-  pub is_one : IsIn group c.clearing.groups
+  pub is_one : IsElement group c.clearing.groups
   pub one_each : length texts ≡ length group.parties
   pub digits : AreDigitTexts texts seeds
 
@@ -137,13 +138,14 @@ abbrev pub SeededTextIsPlainJob : Type 0
 SeededTextIsPlainJob =
     (c : Cleared) (group : Group) (texts seeds : List (List ℕ)) → IsSeeded c group texts seeds
     → (has : List ℕ → Bool) (line : ℕ) (text : List ℕ) → is_utf8 text ≡ true → read text ≡ Some (seeded_data c.wishes group texts)
-    → job_header_of has Make line text ≡ Ok (cleared_job c.wishes group seeds)
+    → parse_header_job has Make line text ≡ Ok (cleared_job c.wishes group seeds)
 
--- The line of each group that is cleared, with a seed for each party, is a plain job, that of the group.
+-- The line of each group that is cleared, with a seed for each party, is a plain job, that of the
+-- group.
 abbrev pub ClearedGroupsArePlainJobs : Type 0
 ClearedGroupsArePlainJobs =
     (c : Cleared) (group : Group) (texts seeds : List (List ℕ)) → IsSeeded c group texts seeds → (has : List ℕ → Bool) (line : ℕ)
-    → job_header_of has Make line (seeded_line c.wishes group texts) ≡ Ok (cleared_job c.wishes group seeds)
+    → parse_header_job has Make line (seeded_line c.wishes group texts) ≡ Ok (cleared_job c.wishes group seeds)
 
 -- That line alone is an input of `make`: it gives the plain job, and no event.
 abbrev pub ClearedGroupsArePlainOffers : Type 0

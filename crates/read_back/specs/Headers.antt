@@ -13,7 +13,7 @@ use Rattle.offer_header.specs.Header.{simple_role}
 use Rattle.offer_header.specs.Names.{is_name}
 use Rattle.offer_header.specs.Raw.{is_plain}
 use Rattle.offer_text.specs.HeaderLine.{header_line, is_make, shown_header}
-use Rattle.swap_offer.specs.Job.{job_header_of}
+use Rattle.swap_offer.specs.Job.{parse_header_job}
 use Rattle.typed_books.specs.Typed.{IsDigest}
 
 -- A job that a transcript can show. Its deal is accepted, the digests of the deal have 32 bytes
@@ -29,7 +29,8 @@ pub record IsShowable (job : Job) : Type 0 where
   pub hashlocks : All IsDigest job.deal.hashlocks
   pub keys : All (All IsDigest) job.deal.keys
 
--- the job as an auditor knows it: without seeds and finish, and with every party that doesn't conform acting by its own calls alone
+-- the job as an auditor knows it: without seeds and finish, and with every party that doesn't
+-- conform acting by its own calls alone
 abbrev pub audited_job : Job → Job
 audited_job job = record {
   purpose = Audit;
@@ -45,7 +46,7 @@ audited_job job = record {
 abbrev pub HeaderIsReadBack : Type 0
 HeaderIsReadBack =
     (has : List ℕ → Bool) (job : Job) (line : ℕ) (text : List ℕ) → IsShowable job → is_utf8 text ≡ true → read text ≡ Some (shown_header job)
-    → job_header_of has Audit line text ≡ Ok (audited_job job)
+    → parse_header_job has Audit line text ≡ Ok (audited_job job)
 
 -- The header line of a job is text, and is read as the header that is shown.
 abbrev pub HeaderReads : Type 0
@@ -59,4 +60,4 @@ HeaderIsOneLine = (job : Job) → IsShowable job → list_all (λ x. not (x == 1
 abbrev pub ReadIsShowable : Type 0
 ReadIsShowable =
     (has : List ℕ → Bool) (purpose : Purpose) (line : ℕ) (text : List ℕ) (job : Job) → is_plain purpose ≡ false
-    → job_header_of has purpose line text ≡ Ok job → IsShowable job
+    → parse_header_job has purpose line text ≡ Ok job → IsShowable job

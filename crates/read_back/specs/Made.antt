@@ -17,7 +17,7 @@ use Rattle.swap_run.specs.Fair.{finish}
 use Rattle.swap_run.specs.Run.{run, Cast}
 use Rattle.swap_world.specs.Cast.{job_cast}
 use Rattle.command_input.specs.Lines.{filled_lines, collect_lines}
-use Rattle.swap_offer.specs.Job.{parse_events, job_header_of, parse_job}
+use Rattle.swap_offer.specs.Job.{parse_events, parse_header_job, parse_job}
 use Rattle.swap_gen.specs.Drawn.{plain_job}
 use Rattle.swap_gen.specs.Events.{generated_events}
 use Rattle.swap_gen.specs.Made.{made}
@@ -37,7 +37,8 @@ reads_jobs Run = true
 reads_jobs Race = true
 reads_jobs _ = false
 
--- the job that is made of a plain one, as it is read for a purpose: deal, names, roles, seeds and finish are those of the made job
+-- the job that is made of a plain one, as it is read for a purpose: deal, names, roles, seeds and
+-- finish are those of the made job
 abbrev pub told_job : Purpose → Job → Job
 told_job purpose plain = record (made plain) { purpose = purpose }
 
@@ -56,9 +57,9 @@ abbrev pub IsOneLine : List ℕ → Type 0
 IsOneLine l = list_all (λ x. not (x == 10)) l ≡ true
 
 -- lines with their numbers, from n on
-abbrev pub numbered_from : ℕ → List (List ℕ) → List (ℕ × List ℕ)
-numbered_from n [] = []
-numbered_from n (l ∷ ls) = (n, l) ∷ numbered_from (n + 1) ls
+abbrev pub numbered_lines : ℕ → List (List ℕ) → List (ℕ × List ℕ)
+numbered_lines n [] = []
+numbered_lines n (l ∷ ls) = (n, l) ∷ numbered_lines (n + 1) ls
 
 -- the lines of an input after its header, without those that are blank
 abbrev pub further_lines : List ℕ → List (List ℕ)
@@ -83,30 +84,31 @@ WholeTextHasOneStory =
     → ended ls ≡ ended ms
     → (job ≡ other) × (b ≡ c)
 
--- The header line of a job that is made of a plain one is text, and is read as the header that is written.
+-- The header line of a job that is made of a plain one is text, and is read as the header that is
+-- written.
 abbrev pub MadeHeaderReads : Type 0
 MadeHeaderReads =
-    (has : List ℕ → Bool) (line : ℕ) (text : List ℕ) (plain : Job) → HasTexts has → job_header_of has Make line text ≡ Ok plain
+    (has : List ℕ → Bool) (line : ℕ) (text : List ℕ) (plain : Job) → HasTexts has → parse_header_job has Make line text ≡ Ok plain
     → (is_utf8 (header_line (made plain)) ≡ true) × (read (header_line (made plain)) ≡ Some (made_header (made plain)))
 
 -- It holds no line feed.
 abbrev pub MadeHeaderIsOneLine : Type 0
 MadeHeaderIsOneLine =
-    (has : List ℕ → Bool) (line : ℕ) (text : List ℕ) (plain : Job) → HasTexts has → job_header_of has Make line text ≡ Ok plain
+    (has : List ℕ → Bool) (line : ℕ) (text : List ℕ) (plain : Job) → HasTexts has → parse_header_job has Make line text ≡ Ok plain
     → IsOneLine (header_line (made plain))
 
 -- Whatever text reads as that header gives the job that was made, for a check, a run and a race.
 abbrev pub MadeTextIsReadBack : Type 0
 MadeTextIsReadBack =
-    (has : List ℕ → Bool) (line : ℕ) (text : List ℕ) (plain : Job) → HasTexts has → job_header_of has Make line text ≡ Ok plain
+    (has : List ℕ → Bool) (line : ℕ) (text : List ℕ) (plain : Job) → HasTexts has → parse_header_job has Make line text ≡ Ok plain
     → (purpose : Purpose) → reads_jobs purpose ≡ true → (number : ℕ) (again : List ℕ) → is_utf8 again ≡ true
-    → read again ≡ Some (made_header (made plain)) → job_header_of has purpose number again ≡ Ok (told_job purpose plain)
+    → read again ≡ Some (made_header (made plain)) → parse_header_job has purpose number again ≡ Ok (told_job purpose plain)
 
 -- So its header line gives that job.
 abbrev pub MadeHeaderIsReadBack : Type 0
 MadeHeaderIsReadBack =
-    (has : List ℕ → Bool) (line : ℕ) (text : List ℕ) (plain : Job) → HasTexts has → job_header_of has Make line text ≡ Ok plain
-    → (purpose : Purpose) → reads_jobs purpose ≡ true → (number : ℕ) → job_header_of has purpose number (header_line (made plain)) ≡ Ok (told_job purpose plain)
+    (has : List ℕ → Bool) (line : ℕ) (text : List ℕ) (plain : Job) → HasTexts has → parse_header_job has Make line text ≡ Ok plain
+    → (purpose : Purpose) → reads_jobs purpose ≡ true → (number : ℕ) → parse_header_job has purpose number (header_line (made plain)) ≡ Ok (told_job purpose plain)
 
 -- a job with its events, or the first reason against one of them
 abbrev pub with_job : Job → Result (List Event) Reason → Result (Job × List Event) Reason
@@ -118,7 +120,7 @@ pub record IsReadBack (has : List ℕ → Bool) (purpose : Purpose) (input outpu
   pub plain : Job
   pub is_plain : parse_job has Make input ≡ Ok (plain, [])
   pub is_made : parse_job has purpose output
-      ≡ with_job (told_job purpose plain) (parse_events (told_job purpose plain) 0 (numbered_from 2 (further_lines input)))
+      ≡ with_job (told_job purpose plain) (parse_events (told_job purpose plain) 0 (numbered_lines 2 (further_lines input)))
 
 -- What `make` writes is read as the job that it made.
 abbrev pub MadeOutputIsReadBack : Type 0
@@ -127,15 +129,16 @@ MadeOutputIsReadBack =
     → IsReadBack has purpose input output
 
 -- events stand in a job for a check and a run alone: for a race there are none
-abbrev pub HasEventsFor : Purpose → ℕ → Type 0
-HasEventsFor Race events = events ≡ 0
-HasEventsFor _ events = Unit {0}
+abbrev pub HasAllowedEvents : Purpose → ℕ → Type 0
+HasAllowedEvents Race events = events ≡ 0
+HasAllowedEvents _ events = Unit {0}
 
--- What `gen` writes of a number, with at most 200,000 events, is read as the number's job with the number's events.
+-- What `gen` writes of a number, with at most 200,000 events, is read as the number's job with the
+-- number's events.
 abbrev pub GeneratedTextIsReadBack : Type 0
 GeneratedTextIsReadBack =
     (has : List ℕ → Bool) (seed parties events : ℕ) → 2 ≤ parties → parties ≤ 24 → events ≤ 200000 → (purpose : Purpose) → reads_jobs purpose ≡ true
-    → HasEventsFor purpose events
+    → HasAllowedEvents purpose events
     → parse_job has purpose (generated_text seed parties events) ≡ Ok (told_job purpose (plain_job seed parties), generated_events seed parties events)
 
 -- Its run, with the fair finish that the job asks for, is the one of which the number's summary

@@ -23,7 +23,8 @@ pub fn seeded_text_is_plain_job()
     ensures { SeededTextIsPlainJob }
 {}
 
-/// The line of each group that is cleared, with a seed for each party, is a plain job that `make` takes.
+/// The line of each group that is cleared, with a seed for each party, is a plain job that `make`
+/// takes.
 pub fn cleared_groups_are_plain_jobs()
     ensures { ClearedGroupsArePlainJobs }
 {}

@@ -1,5 +1,5 @@
-//! What is written of a job is read back as that job: its header line, the text of a job that is made, with its events, and the plain job of a group
-//! that is cleared of wishes.
+//! What is written of a job is read back as that job: its header line, the text of a job that is
+//! made, with its events, and the plain job of a group that is cleared of wishes.
 //!
 //! Read `specs/Headers.antt` first, then `specs/Made.antt` and `specs/ClearedJobs.antt`.
 #![tactic(auto)]

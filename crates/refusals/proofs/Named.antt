@@ -4,11 +4,11 @@ use Rattle.swap_base.specs.Fault.{Fails}
 use Rattle.swap_base.specs.declared.fault.Fault.{Fault}
 use Rattle.swap_base.specs.declared.fault.Fault.TheVariants.{Refused, NoMemory}
 use Rattle.refusals.specs.declared.reason.Reason.{Reason}
-use Rattle.refusals.specs.Refusal.{fault_with, named, refusal}
+use Rattle.refusals.specs.Refusal.{fault_with_names, named, refusal}
 use Rattle.refusals.specs.declared.refusal.Refusal.{Refusal}
 
 pub fails : {A : Type 0} (names : List (List ℕ)) (fault : Fault Reason) (read : Result A Reason) → Fails fault read
-    → Fails (fault_with names fault) (named names read)
+    → Fails (fault_with_names names fault) (named names read)
 fails names NoMemory read e = tt
 fails names (Refused reason) read e = rw e refl
 

@@ -77,5 +77,5 @@ reason_text names (Overdrawn chain name have wanted) =
 reason_text names (NotConforming line) = numbered (codes "NotConforming") line
 
 -- the line of a refusal, without a line feed
-unfoldable pub line_of : List (List ℕ) → Reason → List ℕ
-line_of names reason = joined (codes "swap: refused: " ∷ reason_text names reason ∷ [])
+unfoldable pub refusal_line_text : List (List ℕ) → Reason → List ℕ
+refusal_line_text names reason = joined (codes "swap: refused: " ∷ reason_text names reason ∷ [])

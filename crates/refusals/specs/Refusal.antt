@@ -8,9 +8,9 @@ use Rattle.refusals.specs.declared.refusal.Refusal.{Refusal}
 abbrev pub refusal : List (List ℕ) → Reason → Refusal
 refusal names reason = record { reason = reason; names = names }
 
-abbrev pub fault_with : List (List ℕ) → Fault Reason → Fault Refusal
-fault_with names (Refused reason) = Refused (refusal names reason)
-fault_with names NoMemory = NoMemory
+abbrev pub fault_with_names : List (List ℕ) → Fault Reason → Fault Refusal
+fault_with_names names (Refused reason) = Refused (refusal names reason)
+fault_with_names names NoMemory = NoMemory
 
 -- what was read, or the reason against it with the names
 abbrev pub named : {A : Type 0} → List (List ℕ) → Result A Reason → Result A Refusal

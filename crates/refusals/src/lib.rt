@@ -1,4 +1,5 @@
-//! Why an input is refused: the reason, the names of the parties that it may speak of, and the line that tells it.
+//! Why an input is refused: the reason, the names of the parties that it may speak of, and the line
+//! that tells it.
 //!
 //! Read `specs/Line.antt` first: the line of each reason.
 #![tactic(auto)]

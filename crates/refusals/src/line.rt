@@ -3,7 +3,7 @@
 ghost use Rattle.std.specs.Prelude.{◌≡◌, ◌++◌, IfOk, OnOk, OnErr};
 ghost use Rattle.swap_base.specs.Text.{lines};
 ghost use Rattle.refusals.specs.declared.reason.Reason.TheVariants.{OverLimit, WrongWallet, WrongTimelock, BadReply, Overdrawn};
-ghost use Rattle.refusals.specs.Line.{numbered, numbered_twice, lined, comma_named, all_named, of_party, of_parties, reason_text, line_of};
+ghost use Rattle.refusals.specs.Line.{numbered, numbered_twice, lined, comma_named, all_named, of_party, of_parties, reason_text, refusal_line_text};
 
 use crate::escaped::put_escaped;
 use crate::reason::Reason;
@@ -29,7 +29,8 @@ fn put_further(out: &mut Vec<u8>, names: &[ByteText], parties: &[PartyId]) -> Re
     Ok(())
 }
 
-/// Appends the names of parties, joined by commas. After want of memory a part of them stands there.
+/// Appends the names of parties, joined by commas. After want of memory a part of them stands
+/// there.
 #[tactic(auto, unfolding(crate::specs::Line::all_named))]
 fn put_joined(out: &mut Vec<u8>, names: &[ByteText], parties: &[PartyId]) -> Result<(), NoMemory>
     ensures { OnOk result (out.new.items ≡ out.old.items ++ all_named names.now parties.now) }
@@ -242,13 +243,13 @@ fn put_reason(out: &mut Vec<u8>, names: &[ByteText], reason: &Reason) -> Result<
 }
 
 /// The line that tells the reason, with the parties by their names, and without a line feed.
-#[tactic(auto, unfolding(crate::specs::Line::line_of))]
+#[tactic(auto, unfolding(crate::specs::Line::refusal_line_text))]
 pub fn refusal_line(
     alloc: Global,
     reason: &Reason,
     names: &[ByteText],
 ) -> Result<ByteText, NoMemory>
-    ensures text { IfOk result (λ t. t ≡ line_of names.now reason.now) }
+    ensures text { IfOk result (λ t. t ≡ refusal_line_text names.now reason.now) }
 {
     let mut out = Vec::new(alloc);
     put(&mut out, &[Piece::Text("swap: refused: ")])?;

@@ -4,7 +4,8 @@ use escrow_core::Reply;
 use swap_base::{ArcId, ByteText, Fault, LockId, PartyId};
 use swap_digraph::PathList;
 
-/// Why an input is refused. A line is counted from 1; a field goes by its own name, without its place.
+/// Why an input is refused. A line is counted from 1; a field goes by its own name, without its
+/// place.
 #[derive(Debug, Drop)]
 pub enum Reason {
     /// The line is no JSON, or no object.
@@ -44,7 +45,8 @@ pub enum Reason {
     TooManyLeaders(u32, u32),
     /// The swap and its arc one of whose parties has no account on the arc's chain.
     NoAccount(u8, ArcId),
-    /// The chain and the name of its account, the units that this has, and those that are wanted of it.
+    /// The chain and the name of its account, the units that this has, and those that are wanted of
+    /// it.
     Overdrawn(u8, ByteText, u64, u64),
     /// A crash is of a party that doesn't conform.
     NotConforming(u32),

@@ -122,8 +122,8 @@ fn write_lines<K: Sink>(
     Ok(())
 }
 
-/// Writes the report of a job's book: each ledger's calls with their replies, each party's outcome, and the findings. After want of memory a prefix of
-/// it was written.
+/// Writes the report of a job's book: each ledger's calls with their replies, each party's outcome,
+/// and the findings. After want of memory a prefix of it was written.
 pub fn write_report<K: Sink>(
     alloc: Global,
     sink: &mut K,

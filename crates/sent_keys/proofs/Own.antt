@@ -3,7 +3,7 @@ use Rattle.std.proofs.Common.{◌≡◌, ℕ, zero, suc, ◌+◌, ◌<◌, Bool,
 use Rattle.std.proofs.Common.{ap, ◌∙◌, arith, eqb-true}
 use Rattle.std.specs.List.{cons_option, flat_map, range_with_len, AllByRecursion}
 use Rattle.std.proofs.lemmas.Bool.{false≢true}
-use Rattle.swap_base.specs.Lists.{moments_after}
+use Rattle.swap_base.specs.Lists.{moments_after_past}
 use Rattle.swap_digraph.specs.declared.deal.Deal.{Deal}
 use Rattle.escrow_core.specs.declared.reply.Reply.{Reply}
 use Rattle.ledger_core.specs.declared.entry.Sender.{Sender}
@@ -11,13 +11,13 @@ use Rattle.ledger_core.specs.declared.entry.Sender.TheVariants.{Party, Clock}
 use Rattle.ledger_core.specs.declared.entry.What.{What}
 use Rattle.ledger_core.specs.declared.entry.What.TheVariants.{Call as Made, Tick}
 use Rattle.ledger_core.specs.declared.entry.Entry.{Entry}
-use Rattle.ledger_core.specs.History.{is_sender, IsLegalEntry, IsLegalMoment, read_raw_call}
+use Rattle.ledger_core.specs.History.{is_sender, IsLegalEntry, IsLegalMoment, made_call}
 use Rattle.ledger_core.specs.Book.{Histories, history, IsLegalBook}
 use Rattle.swap_digraph.specs.Deal.{touches}
 use Rattle.sent_keys.specs.Sent.{unlock_key, lock_unlocks, party_unlocks}
 
 pub unsent : (d : Deal) (a v : ℕ) (past : List Entry) (s : Sender) (w : What) (at : ℕ) (r : Reply) → IsLegalEntry d a past s w at r
-    → touches d v a ≡ false → cond (is_sender v s) (read_raw_call w) None ≡ None
+    → touches d v a ≡ false → cond (is_sender v s) (made_call w) None ≡ None
 unsent d a v past Clock w at r l t = refl
 unsent d a v past (Party p) (Tick k) at r l t = absurd l
 unsent d a v past (Party p) (Made c) at r l t = by_sender (p == v) refl
@@ -26,7 +26,7 @@ unsent d a v past (Party p) (Made c) at r l t = by_sender (p == v) refl
     by_sender false e = refl
     by_sender true e = absurd (false≢true (sym t ∙ (ap (λ z. touches d z a) (sym (eqb-true p v e)) ∙ l.of_the_two)))
 
-none_after : (d : Deal) (a v : ℕ) (past h : List Entry) → AllByRecursion (IsLegalMoment d a) (moments_after past h) → touches d v a ≡ false
+none_after : (d : Deal) (a v : ℕ) (past h : List Entry) → AllByRecursion (IsLegalMoment d a) (moments_after_past past h) → touches d v a ≡ false
     → lock_unlocks h v ≡ []
 none_after d a v past [] l t = refl
 none_after d a v past (e ∷ h) l t =

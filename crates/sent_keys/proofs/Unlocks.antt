@@ -5,18 +5,18 @@ use denote.Ref.{Bor}
 use Rattle.std.specs.List.{list_any, flat_map, cons_option}
 use Rattle.std.proofs.lemmas.List.{take_more, map_push}
 use Rattle.std.proofs.lemmas.List.Elements.{filter_map-append}
-use Rattle.swap_base.specs.Lists.{or_else, first_of}
-use Rattle.swap_base.proofs.Lists.{first_of-append}
+use Rattle.swap_base.specs.Lists.{or_else, first_given_answer}
+use Rattle.swap_base.proofs.Lists.{first_given_answer-append}
 use Rattle.hashkey_path.specs.declared.hashkey.Hashkey.{Hashkey}
 use Rattle.ledger_core.specs.declared.entry.Call.{Call}
 use Rattle.ledger_core.specs.declared.entry.Call.TheVariants.{Publish, Unlock, Claim, Refund, Transfer}
 use Rattle.ledger_core.specs.declared.entry.What.TheVariants.{Tick}
 use Rattle.ledger_core.specs.declared.entry.Entry.{Entry}
-use Rattle.ledger_core.specs.History.{is_sender, read_raw_call}
+use Rattle.ledger_core.specs.History.{is_sender, made_call}
 use Rattle.ledger_core.specs.Book.{Histories}
-use Rattle.swap_rules.specs.Party.{pick_call, fetch_key, first_key}
+use Rattle.swap_rules.specs.Party.{pick_call, unlock_hashkey, first_key}
 use Rattle.history_index.specs.declared.made.Made.{Made}
-use Rattle.history_index.specs.Made.{made_in}
+use Rattle.history_index.specs.Made.{history_calls}
 use Rattle.history_index.proofs.Calls.{filter_map_made}
 use Rattle.sent_keys.specs.Sent.{unlock_key, lock_unlocks, unlocks_made, party_unlocks, shown}
 
@@ -48,23 +48,23 @@ sent_none now new o e k = ap shown e ∙ (sym (append-nil (shown now)) ∙ ap (�
 -- The calls alone hold the unlocks.
 
 pub sent_of_tick : (v : ℕ) (e : Entry) (k : ℕ) → e.what ≡ Tick k → pick_call v e ≡ None
-sent_of_tick v e k is = ap (λ w. cond (is_sender v e.sender) (read_raw_call w) None) is ∙ none_either (is_sender v e.sender)
+sent_of_tick v e k is = ap (λ w. cond (is_sender v e.sender) (made_call w) None) is ∙ none_either (is_sender v e.sender)
   where
     none_either : (b : Bool) → ◌≡◌ {A = Option Call} (cond b None None) None
     none_either true = refl
     none_either false = refl
 
-pub made_unlocks : (v : ℕ) (h : List Entry) → unlocks_made (made_in h) v ≡ lock_unlocks h v
+pub made_unlocks : (v : ℕ) (h : List Entry) → unlocks_made (history_calls h) v ≡ lock_unlocks h v
 made_unlocks v h = sym (filter_map_made (λ e. unlock_key (pick_call v e)) h (λ e k is. ap unlock_key (sent_of_tick v e k is)))
 
 -- The first for a lock.
 
-first_refs : {A B : Type 0} (f : A → Option B) (rs : List (Bor A)) → first_of (λ r. f r.now) rs ≡ first_of f (shown rs)
+first_refs : {A B : Type 0} (f : A → Option B) (rs : List (Bor A)) → first_given_answer (λ r. f r.now) rs ≡ first_given_answer f (shown rs)
 first_refs f [] = refl
 first_refs f (r ∷ rs) = ap (or_else (f r.now)) (first_refs f rs)
 
-first_head : (i : ℕ) (o : Option Call) (r : Option Hashkey) (ks : List Hashkey) → r ≡ first_of (if_lock i) ks
-    → or_else (fetch_key i o) r ≡ first_of (if_lock i) (cons_option (unlock_key o) ks)
+first_head : (i : ℕ) (o : Option Call) (r : Option Hashkey) (ks : List Hashkey) → r ≡ first_given_answer (if_lock i) ks
+    → or_else (unlock_hashkey i o) r ≡ first_given_answer (if_lock i) (cons_option (unlock_key o) ks)
 first_head i None r ks e = e
 first_head i (Some (Publish t)) r ks e = e
 first_head i (Some (Unlock key)) r ks e = ap (or_else (if_lock i key)) e
@@ -72,21 +72,21 @@ first_head i (Some Claim) r ks e = e
 first_head i (Some Refund) r ks e = e
 first_head i (Some (Transfer to units)) r ks e = e
 
-first_unlock : (i v : ℕ) (h : List Entry) → first_of (λ e. fetch_key i (pick_call v e)) h ≡ first_of (if_lock i) (lock_unlocks h v)
+first_unlock : (i v : ℕ) (h : List Entry) → first_given_answer (λ e. unlock_hashkey i (pick_call v e)) h ≡ first_given_answer (if_lock i) (lock_unlocks h v)
 first_unlock i v [] = refl
-first_unlock i v (e ∷ h) = first_head i (pick_call v e) (first_of (λ e. fetch_key i (pick_call v e)) h) (lock_unlocks h v) (first_unlock i v h)
+first_unlock i v (e ∷ h) = first_head i (pick_call v e) (first_given_answer (λ e. unlock_hashkey i (pick_call v e)) h) (lock_unlocks h v) (first_unlock i v h)
 
-first_in_book : (i v : ℕ) (b : Histories) → first_of (λ e. fetch_key i (pick_call v e)) (flat_map (λ h. h) b) ≡ first_of (if_lock i) (party_unlocks b v)
+first_in_book : (i v : ℕ) (b : Histories) → first_given_answer (λ e. unlock_hashkey i (pick_call v e)) (flat_map (λ h. h) b) ≡ first_given_answer (if_lock i) (party_unlocks b v)
 first_in_book i v [] = refl
 first_in_book i v (h ∷ b) =
-    first_of-append (λ e. fetch_key i (pick_call v e)) h (flat_map (λ h. h) b)
-    ∙ (ap (λ o. or_else o (first_of (λ e. fetch_key i (pick_call v e)) (flat_map (λ h. h) b))) (first_unlock i v h)
-    ∙ (ap (or_else (first_of (if_lock i) (lock_unlocks h v))) (first_in_book i v b) ∙ sym (first_of-append (if_lock i) (lock_unlocks h v) (party_unlocks b v))))
+    first_given_answer-append (λ e. unlock_hashkey i (pick_call v e)) h (flat_map (λ h. h) b)
+    ∙ (ap (λ o. or_else o (first_given_answer (λ e. unlock_hashkey i (pick_call v e)) (flat_map (λ h. h) b))) (first_unlock i v h)
+    ∙ (ap (or_else (first_given_answer (if_lock i) (lock_unlocks h v))) (first_in_book i v b) ∙ sym (first_given_answer-append (if_lock i) (lock_unlocks h v) (party_unlocks b v))))
 
 -- the first hashkey for a lock is found among those that were sent
-pub first_sent : (i v : ℕ) (b : Histories) (rs : List (Bor Hashkey)) → shown rs ≡ party_unlocks b v → first_of (for_lock i) rs ≡ first_key b v i
+pub first_sent : (i v : ℕ) (b : Histories) (rs : List (Bor Hashkey)) → shown rs ≡ party_unlocks b v → first_given_answer (for_lock i) rs ≡ first_key b v i
 unfolding first_key
-first_sent i v b rs e = first_refs (if_lock i) rs ∙ (ap (first_of (if_lock i)) e ∙ sym (first_in_book i v b))
+first_sent i v b rs e = first_refs (if_lock i) rs ∙ (ap (first_given_answer (if_lock i)) e ∙ sym (first_in_book i v b))
 
 -- Tests of all.
 

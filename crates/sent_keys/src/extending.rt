@@ -1,7 +1,7 @@
 //! Hashkeys that a party extends.
 
 ghost use Rattle.std.specs.Prelude.{◌≡◌, option_copied};
-ghost use Rattle.swap_rules.specs.Conduct.{extends, extends_without};
+ghost use Rattle.swap_rules.specs.Conduct.{extends, extends_without_party};
 
 use crate::keys::has_parts;
 use hashkey_path::Hashkey;
@@ -25,8 +25,8 @@ pub fn extends(party: PartyId, key: &Hashkey, call: Option<&Call>) -> bool
 
 /// Whether the call is an unlock with an inner hashkey: this one extends it by the party, and its
 /// path lacks the party.
-pub fn extends_without(party: PartyId, key: &Hashkey, call: Option<&Call>) -> bool
-    ensures { result ≡ extends_without party key.now (option_copied call.entry) }
+pub fn extends_without_party(party: PartyId, key: &Hashkey, call: Option<&Call>) -> bool
+    ensures { result ≡ extends_without_party party key.now (option_copied call.entry) }
 {
     match call {
         Some(Call::Unlock(inner)) => {

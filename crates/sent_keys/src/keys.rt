@@ -96,7 +96,8 @@ fn put_arc_unlocks<'a>(
     put_unlocks(keys, index.made(), party)
 }
 
-/// Adds the hashkeys of the party's unlock calls on the arc. There is none where the arc isn't the party's.
+/// Adds the hashkeys of the party's unlock calls on the arc. There is none where the arc isn't the
+/// party's.
 fn put_own_unlocks<'a>(
     keys: &mut Vec<&'a Hashkey>,
     deal: &Deal,
@@ -115,7 +116,8 @@ fn put_own_unlocks<'a>(
     Ok(())
 }
 
-/// The hashkeys of the party's unlock calls, in order of arc and entry. They are read from the arcs that are the party's: in a legal book it has calls on no other.
+/// The hashkeys of the party's unlock calls, in order of arc and entry. They are read from the arcs
+/// that are the party's: in a legal book it has calls on no other.
 pub fn unlocks_on_own_arcs<'a>(
     alloc: Global,
     deal: &Deal,
@@ -134,7 +136,8 @@ pub fn unlocks_on_own_arcs<'a>(
     Ok(keys)
 }
 
-/// The hashkey of the first unlock call for the lock, where these are the hashkeys that the party sent.
+/// The hashkey of the first unlock call for the lock, where these are the hashkeys that the party
+/// sent.
 #[tactic(auto, unfolding(swap_rules::specs::Party::first_key))]
 pub fn first_key<'a>(
     known: &[Index],

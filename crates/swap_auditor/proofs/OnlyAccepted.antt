@@ -21,12 +21,12 @@ use Rattle.ledger_core.specs.declared.entry.What.{What}
 use Rattle.ledger_core.specs.declared.entry.What.TheVariants.{Call as Made, Tick}
 use Rattle.ledger_core.specs.declared.entry.Entry.{Entry}
 use Rattle.ledger_core.specs.History.{entry_ticks, accepted, accepted_call, height, Publication, publication, published, opening, opened}
-use Rattle.ledger_core.specs.History.{settling, settled, is_open, triggered, parse_terms, accounts, moved, balance, held, is_full, is_clock_full, rows}
+use Rattle.ledger_core.specs.History.{settling, settled, is_open, triggered, publication_terms, accounts, moved, balance, held, is_full, is_clock_full, rows}
 use Rattle.ledger_core.specs.History.{history_reply, reply_to_tick, IsLegal, IsLegalEntry, IsLegalMoment}
 use Rattle.ledger_core.specs.Book.{Histories, history, IsLegalBook}
 use Rattle.ledger_core.proofs.Bounds.{total_calls, run_ticks, calls-push, ticks-push, height-push, room_of, tick_room}
 use Rattle.ledger_core.proofs.Units.{accounts-push}
-use Rattle.swap_base.proofs.Lists.{first_of-append}
+use Rattle.swap_base.proofs.Lists.{first_given_answer-append}
 use Rattle.swap_base.specs.Lists.{or_else}
 use Rattle.swap_digraph.specs.Graph.{entering, leaving}
 use Rattle.swap_rules.specs.declared.outcome.Outcome.{Outcome}
@@ -53,9 +53,9 @@ balance_in d a b p = cond (p == party d a) b.party b.counterparty
 abbrev further_rows : Deal → ℕ → Accounts → Option Publication → (ℕ → Bool) → Option Settlement → (at p : ℕ) → Call → List (Bool × Reply)
 further_rows d a b o is_open s at p (Publish terms) =
     (not (p == party d a), NotParty) ∷ (is_some o, AlreadyPublished) ∷ (nat_lt (balance_in d a b p) terms.amount, NoFunds (balance_in d a b p)) ∷ []
-further_rows d a b o is_open s at p (Unlock key) = (is_none o, NoContract) ∷ unlock_rows d a (parse_terms o) is_open (is_some s) at p key
+further_rows d a b o is_open s at p (Unlock key) = (is_none o, NoContract) ∷ unlock_rows d a (publication_terms o) is_open (is_some s) at p key
 further_rows d a b o is_open s at p Claim = (is_none o, NoContract) ∷ claim_rows d a is_open (is_some s) p
-further_rows d a b o is_open s at p Refund = (is_none o, NoContract) ∷ refund_rows d a (parse_terms o) is_open (is_some s) at p
+further_rows d a b o is_open s at p Refund = (is_none o, NoContract) ∷ refund_rows d a (publication_terms o) is_open (is_some s) at p
 further_rows d a b o is_open s at p (Transfer to units) = (nat_lt (balance_in d a b p) units, NoFunds (balance_in d a b p)) ∷ []
 
 abbrev further : Deal → ℕ → List Entry → ℕ → Call → List (Bool × Reply)
@@ -110,16 +110,16 @@ same_more d a h k e s = record {
   height = height-push k e ∙ ap (λ n. n + entry_ticks e.what) s.height ∙ sym (height-push h e);
   accounts = accounts-push d a k e ∙ ap (λ b. moved d a b e.sender (accepted e)) s.accounts ∙ sym (accounts-push d a h e);
   published =
-      first_of-append (λ x. publication x.height (accepted x)) k (e ∷ [])
+      first_given_answer-append (λ x. publication x.height (accepted x)) k (e ∷ [])
       ∙ ap (λ o. or_else o (or_else (publication e.height (accepted e)) None)) s.published
-      ∙ sym (first_of-append (λ x. publication x.height (accepted x)) h (e ∷ []));
+      ∙ sym (first_given_answer-append (λ x. publication x.height (accepted x)) h (e ∷ []));
   opened =
-      λ i. first_of-append (λ x. opening i x.height (accepted x)) k (e ∷ [])
+      λ i. first_given_answer-append (λ x. opening i x.height (accepted x)) k (e ∷ [])
       ∙ ap (λ o. or_else o (or_else (opening i e.height (accepted e)) None)) (s.opened i)
-      ∙ sym (first_of-append (λ x. opening i x.height (accepted x)) h (e ∷ []));
+      ∙ sym (first_given_answer-append (λ x. opening i x.height (accepted x)) h (e ∷ []));
   settled =
-      first_of-append (λ x. settling (accepted x)) k (e ∷ []) ∙ ap (λ o. or_else o (or_else (settling (accepted e)) None)) s.settled
-      ∙ sym (first_of-append (λ x. settling (accepted x)) h (e ∷ []));
+      first_given_answer-append (λ x. settling (accepted x)) k (e ∷ []) ∙ ap (λ o. or_else o (or_else (settling (accepted e)) None)) s.settled
+      ∙ sym (first_given_answer-append (λ x. settling (accepted x)) h (e ∷ []));
   calls = λ p. let few = s.calls p in omega (arith, calls-push k e p, calls-push h e p);
   ticks = let few = s.ticks in omega (arith, ticks-push k e, ticks-push h e);
 }
@@ -129,13 +129,13 @@ same_without d a h k e none still s = record {
   height = s.height ∙ sym (height-push h e ∙ ap (λ n. height h + n) still ∙ (let z : ◌≡◌ {A = ℕ} (height h + 0) (height h) = omega arith in z));
   accounts = s.accounts ∙ sym (accounts-push d a h e ∙ ap (moved d a (accounts d a h) e.sender) none);
   published =
-      s.published ∙ sym (first_of-append (λ x. publication x.height (accepted x)) h (e ∷ [])
+      s.published ∙ sym (first_given_answer-append (λ x. publication x.height (accepted x)) h (e ∷ [])
       ∙ ap (λ o. or_else (published h) (or_else (publication e.height o) None)) none ∙ or_else-none (published h));
   opened =
-      λ i. s.opened i ∙ sym (first_of-append (λ x. opening i x.height (accepted x)) h (e ∷ [])
+      λ i. s.opened i ∙ sym (first_given_answer-append (λ x. opening i x.height (accepted x)) h (e ∷ [])
       ∙ ap (λ o. or_else (opened h i) (or_else (opening i e.height o) None)) none ∙ or_else-none (opened h i));
   settled =
-      s.settled ∙ sym (first_of-append (λ x. settling (accepted x)) h (e ∷ []) ∙ ap (λ o. or_else (settled h) (or_else (settling o) None)) none
+      s.settled ∙ sym (first_given_answer-append (λ x. settling (accepted x)) h (e ∷ []) ∙ ap (λ o. or_else (settled h) (or_else (settling o) None)) none
       ∙ or_else-none (settled h));
   calls = λ p. let few = s.calls p in omega (arith, calls-push h e p);
   ticks = let few = s.ticks in omega (arith, ticks-push h e);
@@ -288,6 +288,6 @@ module _ (d : Deal) (b : Histories) (l : IsLegalBook d b) where
   holds_the_same = record {
     heights = λ a. ap height (history_is b a) ∙ (find_same_key a).height;
     balances = λ a p. ap (λ h. balance d a h p) (history_is b a) ∙ ap (λ (x : Accounts). balance_in d a x p) (find_same_key a).accounts;
-    held = λ a. ap held (history_is b a) ∙ ap₂ (λ s o. cond (is_some s) 0 (parse_terms o).amount) (find_same_key a).settled (find_same_key a).published;
+    held = λ a. ap held (history_is b a) ∙ ap₂ (λ s o. cond (is_some s) 0 (publication_terms o).amount) (find_same_key a).settled (find_same_key a).published;
     outcomes = λ v. same_outcome d b (accepted_only b) v same_trigger same_got;
   }

@@ -23,7 +23,7 @@ use Rattle.ledger_core.proofs.Bounds.{bounds}
 use Rattle.ledger_core.proofs.Units.{units}
 use Rattle.swap_auditor.specs.declared.replay.BadReply.{BadReply}
 use Rattle.swap_auditor.specs.Replies.{same_reply}
-use Rattle.ledger_core.specs.WellFormed.{written_height, IsFormedCall, IsFormedTick, IsFormedWhat, IsFormedEntry, IsFormed, IsWellFormed, GoesOn}
+use Rattle.ledger_core.specs.WellFormed.{written_height, IsFormedCall, IsFormedTick, IsFormedWhat, IsFormedEntry, IsFormed, IsWellFormed, IsFormedContinuation}
 use Rattle.swap_auditor.specs.Audit.{replayed, with_entry, replay, replay_histories, AreUnitsConserved}
 
 -- Entries.
@@ -110,12 +110,12 @@ entry_kept d a past new e k = taken (same_reply e.reply (replayed d a past e.sen
 next : (xs : List Entry) (i : ℕ) (x : Entry) → i < length xs → x ≡ get_or xs i x → drop i xs ≡ x ∷ drop (i + 1) xs
 next xs i x lt is = rw (add-one, drop-cons xs i x, ← is) refl
 
-pub formed_now : (d : Deal) (a : ℕ) (past xs : List Entry) (i : ℕ) (x : Entry) → i < length xs → x ≡ get_or xs i x → GoesOn d a past (drop i xs)
+pub formed_now : (d : Deal) (a : ℕ) (past xs : List Entry) (i : ℕ) (x : Entry) → i < length xs → x ≡ get_or xs i x → IsFormedContinuation d a past (drop i xs)
     → IsFormedEntry d a past x
 formed_now d a past xs i x lt is g = (rw (next xs i x lt is) at g).0
 
 pub formed_on : (d : Deal) (a : ℕ) (past new xs : List Entry) (i : ℕ) (x : Entry) → i < length xs → x ≡ get_or xs i x → new ≡ past ++ x ∷ []
-    → GoesOn d a past (drop i xs) → GoesOn d a new (drop (i + 1) xs)
+    → IsFormedContinuation d a past (drop i xs) → IsFormedContinuation d a new (drop (i + 1) xs)
 formed_on d a past new xs i x lt is e g = rw e ((rw (next xs i x lt is) at g).1)
 
 pub past_on : (past new xs : List Entry) (i : ℕ) (x : Entry) → i < length xs → x ≡ get_or xs i x → new ≡ past ++ x ∷ [] → past ≡ take i xs

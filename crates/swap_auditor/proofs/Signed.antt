@@ -11,7 +11,7 @@ use Rattle.hashkey_path.proofs.Known.{valid_is_known}
 use Rattle.escrow_core.specs.declared.reply.Reply.{Reply}
 use Rattle.escrow_core.specs.declared.reply.Reply.TheVariants.{Accepted, Settled, NotCounterparty, AlreadyUnlocked, WrongSecret, WrongPath}
 use Rattle.escrow_core.specs.declared.reply.Reply.TheVariants.{WrongSignature, TooLate, NoContract, SenderFull}
-use Rattle.escrow_core.specs.Terms.{read_hashlock, last_unlock}
+use Rattle.escrow_core.specs.Terms.{terms_hashlock, last_unlock}
 use Rattle.ledger_core.specs.declared.entry.Call.{Call}
 use Rattle.ledger_core.specs.declared.entry.Call.TheVariants.{Publish, Unlock, Claim, Refund, Transfer}
 use Rattle.ledger_core.specs.declared.entry.Entry.{Entry}
@@ -57,7 +57,7 @@ validity_flags secret path signature a b c = rw (a, b, c) refl
 signed_by : (d : Deal) (a : ℕ) (past : List Entry) (p : ℕ) (key : Hashkey) → is_after_check (history_reply d a past p (Unlock key)) ≡ true → IsSigned d key
 unfolding rows
 signed_by d a past p key e n =
-    let hashlock = read_hashlock (the_terms past) key.lock in
+    let hashlock = terms_hashlock (the_terms past) key.lock in
     let parts = passed (is_full past p) (is_none (published past)) (is_some (settled past)) (not (p == counterparty d a)) (is_open past key.lock)
     (is_wrong_secret hashlock key) (is_wrong_path d a d.mode key) (is_wrong_signature d d.mode key)
     (nat_lt (last_unlock d.mode (the_terms past) key) (height past)) (last_unlock d.mode (the_terms past) key) e in

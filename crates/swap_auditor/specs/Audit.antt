@@ -18,7 +18,8 @@ use Rattle.outcome_rules.specs.Report.{build_report}
 use Rattle.swap_auditor.specs.declared.replay.BadReply.{BadReply}
 use Rattle.swap_auditor.specs.Replies.{same_reply}
 
--- the reply that the table gives to an entry of arc a, over the entries before it; in a well-formed history a party calls and the clock ticks
+-- the reply that the table gives to an entry of arc a, over the entries before it; in a well-formed
+-- history a party calls and the clock ticks
 abbrev pub replayed : Deal → ℕ → List Entry → Sender → What → Reply
 replayed d a past (Party p) (Made c) = history_reply d a past p c
 replayed d a past Clock (Tick k) = reply_to_tick past k

@@ -26,7 +26,8 @@ same_reply SenderFull SenderFull = true
 same_reply ClockFull ClockFull = true
 same_reply _ _ = false
 
--- whether the reply to an unlock tells that the hashkey's signatures are valid: what comes after their row in the table
+-- whether the reply to an unlock tells that the hashkey's signatures are valid: what comes after
+-- their row in the table
 abbrev pub is_after_check : Reply → Bool
 is_after_check Accepted = true
 is_after_check (TooLate last) = true

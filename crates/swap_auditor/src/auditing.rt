@@ -7,7 +7,7 @@ ghost use Rattle.ledger_core.specs.Book.{IsLegalBook};
 ghost use Rattle.swap_rules.specs.Accepted.{IsAccepted};
 ghost use Rattle.swap_rules.specs.Laws.{FindsNothing, IsTransferred};
 ghost use Rattle.outcome_rules.specs.Promises.{AllAreConforming, AllAreWhole, AllHaveRefunds, NoneIsUnderwater, shown_outcome};
-ghost use Rattle.outcome_rules.specs.Report.{conforms_in};
+ghost use Rattle.outcome_rules.specs.Report.{is_conforming_party};
 ghost use Rattle.swap_auditor.specs.Audit.{audited, replay_histories, AreUnitsConserved};
 ghost use Rattle.ledger_core.specs.WellFormed.{IsWellFormed};
 
@@ -33,7 +33,8 @@ fn replay_all(alloc: Global, deal: &Shared<Deal>, book: &Book) -> Result<(), Aud
     Ok(())
 }
 
-/// Replays each history of a book: every stated reply has to be the ledger's. Each signature is verified once.
+/// Replays each history of a book: every stated reply has to be the ledger's. Each signature is
+/// verified once.
 pub fn replay_book(alloc: Global, deal: &Deal, book: &Book) -> Result<(), AuditFault>
     requires sized { IsWellSized deal.now }
     requires formed { IsWellFormed deal.now book.now.histories }
@@ -63,7 +64,7 @@ pub fn audit_book(
     ensures transfer { IfOk result (λ r. (k : IsAccepted deal.now) → AllAreConforming deal.now conforming.now → r.findings ≡ []
         → IsTransferred deal.now book.now.histories k) }
     ensures whole { IfOk result (λ r. AllAreConforming deal.now conforming.now → r.findings ≡ [] → AllAreWhole deal.now r) }
-    ensures nothing_found { IfOk result (λ r. r.findings ≡ [] → FindsNothing deal.now (conforms_in conforming.now) book.now.histories) }
+    ensures nothing_found { IfOk result (λ r. r.findings ≡ [] → FindsNothing deal.now (is_conforming_party conforming.now) book.now.histories) }
 {
     replay_book(alloc, deal, book)?;
     let report = build_report(alloc, deal, conforming, book)?;

@@ -107,8 +107,9 @@ impl Found {
         most
     }
 
-    /// How many of the last signatures of the hashkey that the call presents, if it does, were found valid.
-    pub(crate) fn known_in(&self, call: &Call) -> usize
+    /// How many of the last signatures of the hashkey that the call presents, if it does, were
+    /// found valid.
+    pub(crate) fn known_signature_count(&self, call: &Call) -> usize
         ensures { IsTrue (is_known_call result self.now call.now) }
     {
         match call {

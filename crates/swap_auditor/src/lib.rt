@@ -1,9 +1,12 @@
-//! The auditor of a finished swap: every ledger is replayed, and a book is either legal, with its report, or has a first reply that isn't the table's.
+//! The auditor of a finished swap: every ledger is replayed, and a book is either legal, with its
+//! report, or has a first reply that isn't the table's.
 //!
-//! Anyone can check a swap so: nothing that a book states is taken as it is but the calls and ticks themselves.
+//! Anyone can check a swap so: nothing that a book states is taken as it is but the calls and ticks
+//! themselves.
 //!
-//! Read `WellFormed` of `ledger_core` first: the books that are audited; then `specs/Audit.antt`: what an audit answers; and `specs/Accepted.antt`: a book
-//! without its refused calls. The report is that of `outcome_rules`.
+//! Read `WellFormed` of `ledger_core` first: the books that are audited; then `specs/Audit.antt`:
+//! what an audit answers; and `specs/Accepted.antt`: a book without its refused calls. The report
+//! is that of `outcome_rules`.
 #![tactic(auto)]
 
 mod accepted;

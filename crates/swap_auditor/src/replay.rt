@@ -48,7 +48,7 @@ fn call_again(
     ensures found { found.new ≡ found.old }
 {
     ledger.reserve()?;
-    let known = found.known_in(call);
+    let known = found.known_signature_count(call);
     let reply = ledger.apply(sender, call.copy()?, known);
     found.note(call, reply, known)?;
     Ok(reply)
@@ -88,8 +88,8 @@ fn reply_again(ledger: &mut Ledger, found: &mut Found, entry: &Entry) -> Result<
     }
 }
 
-/// Replays an entry. The stated reply has to be the ledger's: where it isn't, the ledger stands behind
-/// the entry all the same, with the reply that it gives.
+/// Replays an entry. The stated reply has to be the ledger's: where it isn't, the ledger stands
+/// behind the entry all the same, with the reply that it gives.
 pub fn replay_entry(ledger: &mut Ledger, found: &mut Found, entry: &Entry) -> Result<(), AuditFault>
     requires found { found.old ≡ ledger.old.deal }
     requires formed { IsFormedEntry ledger.old.deal ledger.old.arc ledger.old.history entry.now }

@@ -1,7 +1,8 @@
-//! What every crate of the swap stands on: lists and texts that contracts see as lists, want of memory, faults with a reason, and texts put together
-//! from pieces.
+//! What every crate of the swap stands on: lists and texts that contracts see as lists, want of
+//! memory, faults with a reason, and texts put together from pieces.
 //!
-//! Read `specs/Fault.antt` first: `Gives` says that a call answers what a definition answers, unless memory runs out.
+//! Read `specs/Fault.antt` first: `Gives` says that a call answers what a definition answers,
+//! unless memory runs out.
 #![tactic(auto)]
 
 mod copy;

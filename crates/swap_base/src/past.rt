@@ -7,7 +7,8 @@ use std::fmt;
 use std::fmt::{Debug, Formatter, Write};
 use std::marker::{Model, PhantomData};
 
-/// The items that were told to it, oldest first. It takes no memory, and its methods do nothing when the program runs: clauses read the list as `items`.
+/// The items that were told to it, oldest first. It takes no memory, and its methods do nothing
+/// when the program runs: clauses read the list as `items`.
 #[derive(Drop)]
 pub struct Past<T> {
     of: PhantomData<T>,

@@ -1,7 +1,7 @@
 -- What is left out are the arcs that lie on no cycle.
 use Rattle.std.proofs.Common.{◌≡◌, ℕ, suc, ◌<◌, Bool, true, false, not, List, [], ◌∷◌, length, filter, map, refl, sym, ap, ◌∙◌, subst, inl, inr}
 use Rattle.std.specs.List.Sorted.{IsStrictlyIncreasing}
-use Rattle.swap_base.specs.Lists.{IsIn}
+use Rattle.swap_base.specs.Lists.{IsElement}
 use Rattle.swap_base.proofs.Lists.{from_filter, from_range}
 use Rattle.swap_digraph.specs.Value.{Graph}
 use Rattle.swap_digraph.specs.Graph.{arcs, ends, is_listed, HasEnds}
@@ -45,12 +45,12 @@ arc_on g u b has lt lb e =
 
 -- Lists made for each.
 
-pub from_map : {A B : Type 0} (f : A → B) (xs : List A) (y : B) → IsIn y (map f xs) → (x : A) × IsIn x xs × (y ≡ f x)
+pub from_map : {A B : Type 0} (f : A → B) (xs : List A) (y : B) → IsElement y (map f xs) → (x : A) × IsElement x xs × (y ≡ f x)
 from_map f [] y i = absurd i
 from_map f (x ∷ xs) y (inl e) = (x, inl refl, e)
 from_map f (x ∷ xs) y (inr i) = let r = from_map f xs y i in (r.0, inr r.1, r.2)
 
-pub map_back : {A B : Type 0} (f : A → B) (h : B → A) (xs : List A) → ((x : A) → IsIn x xs → h (f x) ≡ x) → map h (map f xs) ≡ xs
+pub map_back : {A B : Type 0} (f : A → B) (h : B → A) (xs : List A) → ((x : A) → IsElement x xs → h (f x) ≡ x) → map h (map f xs) ≡ xs
 map_back f h [] e = refl
 map_back {A = A} f h (x ∷ xs) e =
     ap (λ (y : A). y ∷ map h (map f xs)) (e x (inl refl)) ∙ ap (λ (ys : List A). x ∷ ys) (map_back f h xs (λ y i. e y (inr i)))

@@ -4,7 +4,7 @@ use Rattle.std.proofs.lemmas.List.{get_or-map, length-map}
 use Rattle.swap_base.proofs.Lists.{in_place}
 use Rattle.swap_digraph.specs.Graph.{HasEnds}
 use Rattle.time_bounds.specs.Times.{need}
-use Rattle.leader_check.specs.Levels.{latest_height}
+use Rattle.leader_check.specs.Levels.{greatest_level}
 use Rattle.leader_check.proofs.Heights.{is_height}
 use Rattle.swap_clear.specs.declared.proposed.Proposed.{Proposed}
 use Rattle.swap_clear.specs.Proposals.{resolve_arc_ends, proposed_graph}
@@ -53,13 +53,13 @@ makes_a_deal n arcs small short amounts has v party head few start delta d s =
       leader = λ i lt. lead_in o (get_or (choose_leaders o) i 0) (in_place (choose_leaders o) i 0 lt);
       apart = λ i j li lj e. apart (choose_leaders o) (own_up g has v party head few) i j li lj e;
       feedback = lead_feedback o;
-      height = latest_height o (choose_leaders o);
+      height = greatest_level o (choose_leaders o);
       is_height = is_height o (choose_leaders o) (lead_feedback o);
       delta = d;
       start = s;
       bound = (
         same_low _ _ refl,
-        within_64 (length (strong_component g v)) (length (choose_leaders o)) (latest_height o (choose_leaders o)) (omega
+        within_64 (length (strong_component g v)) (length (choose_leaders o)) (greatest_level o (choose_leaders o)) (omega
             (arith, size, small)),
       );
       one_amount_each = length-map (arcs_with g v) (proposed_amount arcs) ∙ sym own_arcs;

@@ -2,7 +2,7 @@
 use Rattle.std.proofs.Common.{◌≡◌, ℕ, ◌≤◌, ◌==◌, Bool, true, false, not, cond, ◌&&◌, nat_lt, List, [], ◌∷◌, ◌++◌, length, filter, map, Option, Some, None}
 use Rattle.std.proofs.Common.{Result, Ok, Err, refl, sym, ap, ◌∙◌, subst, inl, inr, append_assoc, append-nil}
 use Rattle.std.proofs.lemmas.Bool.{ltb-false}
-use Rattle.swap_base.specs.Lists.{IsIn}
+use Rattle.swap_base.specs.Lists.{IsElement}
 use Rattle.swap_base.specs.Fault.{◌>>=◌, steps}
 use Rattle.swap_digraph.specs.Value.{Graph}
 use Rattle.swap_digraph.specs.Graph.{parties, first_is}
@@ -52,7 +52,7 @@ many_is g k v e = rw e refl
 
 pub record Gathered (g : Graph) (before : List Group) (vs : List ℕ) (groups : List Group) : Type 0 where
   pub list : groups ≡ before ++ map (the_group g) (filter (is_head g) vs)
-  pub few : (v : ℕ) → IsIn v vs → is_head g v ≡ true → length (choose_leaders (own_with g v)) ≤ 8
+  pub few : (v : ℕ) → IsElement v vs → is_head g v ≡ true → length (choose_leaders (own_with g v)) ≤ 8
 
 one_more : (g : Graph) (before : List Group) (v : ℕ) (vs : List ℕ) (groups : List Group) (head : Bool) → is_head g v ≡ head
     → (head ≡ true → length (choose_leaders (own_with g v)) ≤ 8)

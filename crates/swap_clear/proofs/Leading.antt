@@ -3,7 +3,7 @@ use Rattle.std.proofs.Common.{◌≡◌, ◌≢◌, ℕ, zero, suc, ◌+◌, ◌
 use Rattle.std.proofs.Common.{Option, Some, unwrap_or, refl, sym, ap, ◌∙◌, subst, arith, eqb-true, get_or}
 use Rattle.std.proofs.lemmas.List.{get_or-map, length-map}
 use Rattle.std.specs.List.Sorted.{IsStrictlyIncreasing}
-use Rattle.swap_base.specs.Lists.{IsIn}
+use Rattle.swap_base.specs.Lists.{IsElement}
 use Rattle.swap_base.proofs.Lists.{in_filter, from_range, in_place, list_all-in, list_all-from}
 use Rattle.swap_digraph.specs.Value.{Graph}
 use Rattle.swap_digraph.specs.Graph.{parties, ends, has_arc, is_listed, are_followers, HasEnds, IsFeedback, IsHeight, IsConnectingPath}
@@ -12,13 +12,13 @@ use Rattle.digraph_check.specs.Reach.{reaches}
 use Rattle.digraph_check.proofs.Paths.{reaches_path}
 use Rattle.digraph_check.proofs.Walks.{arc_json, arc_number}
 use Rattle.digraph_check.proofs.ListTests.{where_ascends}
-use Rattle.leader_check.specs.Cycles.{traced_cycle, IsCycleThrough}
-use Rattle.leader_check.specs.Levels.{latest_height}
+use Rattle.leader_check.specs.Cycles.{traced_cycle, IsShortestFollowerCycle}
+use Rattle.leader_check.specs.Levels.{greatest_level}
 use Rattle.leader_check.proofs.Walks.{through}
 use Rattle.leader_check.proofs.Heights.{is_height}
 use Rattle.time_bounds.specs.Times.{need}
 use Rattle.swap_clear.specs.Groups.{strong_component, place, find_party}
-use Rattle.swap_clear.specs.Leaders.{order, without, choose_leaders, party_cycle}
+use Rattle.swap_clear.specs.Leaders.{order, other_leaders, choose_leaders, party_cycle}
 use Rattle.swap_clear.specs.Led.{own_leaders, Remain, IsLed, HasCycles, NoFewerLead, IsBound}
 use Rattle.swap_clear.proofs.Cyclic.{true_false, not_it, never, from_map, map_back}
 use Rattle.swap_clear.proofs.Gathered.{arcs_with, own_with, the_group, is_head}
@@ -29,7 +29,7 @@ use Rattle.swap_clear.proofs.Remaining.{is_order, all_lead, remaining_in, remain
 -- The leaders of a digraph.
 
 module _ (g : Graph) where
-  pub lead_in : (v : ℕ) → IsIn v (choose_leaders g) → v < g.n
+  pub lead_in : (v : ℕ) → IsElement v (choose_leaders g) → v < g.n
   unfolding choose_leaders
   lead_in v i = from_range v g.n (remaining_in g (order g) (parties g) v i)
 
@@ -45,13 +45,13 @@ module _ (g : Graph) where
   unfolding choose_leaders
   lead_remain = remain_of g (order g) (parties g)
 
-  pub lead_needed : HasEnds g → (v : ℕ) → IsIn v (choose_leaders g) → IsFeedback g (without v (choose_leaders g)) → ⊥
+  pub lead_needed : HasEnds g → (v : ℕ) → IsElement v (choose_leaders g) → IsFeedback g (other_leaders v (choose_leaders g)) → ⊥
   unfolding choose_leaders
   lead_needed has v i f =
       let tried = ((is_order g has).parties v).1 (from_range v g.n (remaining_in g (order g) (parties g) v i)) in
       needed g (order g) (parties g) v (is_listed-true v (order g) tried) i f
 
-  pub lead_cycle : HasEnds g → (v : ℕ) → IsIn v (choose_leaders g) → (c : List ℕ) × (traced_cycle g (without v (choose_leaders g)) v ≡ Some c)
+  pub lead_cycle : HasEnds g → (v : ℕ) → IsElement v (choose_leaders g) → (c : List ℕ) × (traced_cycle g (other_leaders v (choose_leaders g)) v ≡ Some c)
   lead_cycle has v i = has_cycle g v (choose_leaders g) lead_feedback (lead_needed has v i)
 
   all_follow : (p : List ℕ) → are_followers [] p ≡ true
@@ -127,7 +127,7 @@ module _ (g : Graph) (has : HasEnds g) (v : ℕ) (party : v < g.n) (head : is_he
   pub own_up : IsStrictlyIncreasing (choose_leaders (own_with g v))
   own_up = lead_rises (own_with g v) (range_up (length (strong_component g v)))
 
-  named_rises : (xs : List ℕ) → IsStrictlyIncreasing xs → ((k : ℕ) → IsIn k xs → k < length (strong_component g v))
+  named_rises : (xs : List ℕ) → IsStrictlyIncreasing xs → ((k : ℕ) → IsElement k xs → k < length (strong_component g v))
       → IsStrictlyIncreasing (map (find_party (strong_component g v)) xs)
   named_rises xs up below k lt =
       let l : length (map (find_party (strong_component g v)) xs) ≡ length xs = length-map xs (find_party (strong_component g v)) in
@@ -144,7 +144,7 @@ module _ (g : Graph) (has : HasEnds g) (v : ℕ) (party : v < g.n) (head : is_he
         let m =
         from_map (find_party (strong_component g v)) (choose_leaders (own_with g v)) w
         (is_listed-true w (map (find_party (strong_component g v)) (choose_leaders (own_with g v))) i) in
-        in-is_listed w (strong_component g v) (subst (λ (x : ℕ). IsIn x (strong_component g v)) (sym m.2)
+        in-is_listed w (strong_component g v) (subst (λ (x : ℕ). IsElement x (strong_component g v)) (sym m.2)
         (in_place (strong_component g v) m.0 0 (lead_in (own_with g v) m.0 m.1)));
     order = order (own_with g v);
     is_order = is_order (own_with g v) (own_has_ends g has v party);
@@ -159,14 +159,14 @@ module _ (g : Graph) (has : HasEnds g) (v : ℕ) (party : v < g.n) (head : is_he
 
   -- The cycles.
 
-  pub cycle_is : (k : ℕ) → IsIn k (choose_leaders (own_with g v))
-      → IsCycleThrough (own_with g v) (without k (choose_leaders (own_with g v))) k (party_cycle (own_with g v) (choose_leaders (own_with g v)) k)
+  pub cycle_is : (k : ℕ) → IsElement k (choose_leaders (own_with g v))
+      → IsShortestFollowerCycle (own_with g v) (other_leaders k (choose_leaders (own_with g v))) k (party_cycle (own_with g v) (choose_leaders (own_with g v)) k)
   cycle_is k i =
       let c = lead_cycle (own_with g v) (own_has_ends g has v party) k i in
-      subst (λ (xs : List ℕ). IsCycleThrough (own_with g v) (without k (choose_leaders (own_with g v))) k xs)
-      (sym (ap (λ (o : Option (List ℕ)). unwrap_or o []) c.1)) (through (own_with g v) (without k (choose_leaders (own_with g v))) k c.0 c.1)
+      subst (λ (xs : List ℕ). IsShortestFollowerCycle (own_with g v) (other_leaders k (choose_leaders (own_with g v))) k xs)
+      (sym (ap (λ (o : Option (List ℕ)). unwrap_or o []) c.1)) (through (own_with g v) (other_leaders k (choose_leaders (own_with g v))) k c.0 c.1)
 
-  cycle_below : (k x : ℕ) → IsIn k (choose_leaders (own_with g v)) → IsIn x (party_cycle (own_with g v) (choose_leaders (own_with g v)) k)
+  cycle_below : (k x : ℕ) → IsElement k (choose_leaders (own_with g v)) → IsElement x (party_cycle (own_with g v) (choose_leaders (own_with g v)) k)
       → x < length (strong_component g v)
   cycle_below k x i j = path_below (own_with g v) (party_cycle (own_with g v) (choose_leaders (own_with g v)) k) x (cycle_is k i).path.0 j
 
@@ -179,8 +179,8 @@ module _ (g : Graph) (has : HasEnds g) (v : ℕ) (party : v < g.n) (head : is_he
         let m = from_map (λ k. map (find_party (strong_component g v)) (party_cycle (own_with g v) (choose_leaders (own_with g v)) k)) (choose_leaders
         (own_with g v)) list i in
         let n = from_map (find_party (strong_component g v)) (party_cycle (own_with g v) (choose_leaders (own_with g v)) m.0) w
-        (subst (λ (xs : List ℕ). IsIn w xs) m.2 (is_listed-true w list j)) in
-        in-is_listed w (strong_component g v) (subst (λ (x : ℕ). IsIn x (strong_component g v)) (sym n.2)
+        (subst (λ (xs : List ℕ). IsElement w xs) m.2 (is_listed-true w list j)) in
+        in-is_listed w (strong_component g v) (subst (λ (x : ℕ). IsElement x (strong_component g v)) (sym n.2)
         (in_place (strong_component g v) n.0 0 (cycle_below m.0 n.0 m.1 n.1)));
     cycle = λ i lt.
         let l : length (map (find_party (strong_component g v)) (choose_leaders (own_with g v))) ≡ length (choose_leaders (own_with g v)) =
@@ -190,7 +190,7 @@ module _ (g : Graph) (has : HasEnds g) (v : ℕ) (party : v < g.n) (head : is_he
   }
     where
       at_place : (i : ℕ) → i < length (choose_leaders (own_with g v))
-          → IsCycleThrough (own_with g v) (without (get_or (own_leaders (the_group g v)) i 0) (own_leaders (the_group g v)))
+          → IsShortestFollowerCycle (own_with g v) (other_leaders (get_or (own_leaders (the_group g v)) i 0) (own_leaders (the_group g v)))
           (get_or (own_leaders (the_group g v)) i 0) (map (place (strong_component g v)) (get_or (the_group g v).cycles i []))
       at_place i low =
           let k = get_or (choose_leaders (own_with g v)) i 0 in
@@ -201,9 +201,9 @@ module _ (g : Graph) (has : HasEnds g) (v : ℕ) (party : v < g.n) (head : is_he
           (choose_leaders (own_with g v)) i 0 [] low)
           ∙ map_back (find_party (strong_component g v)) (place (strong_component g v)) (party_cycle (own_with g v) (choose_leaders (own_with g v)) k) (λ x j.
           place_back (strong_component g v) set_rises x (cycle_below k x stands j)) in
-          subst (λ (xs : List ℕ). IsCycleThrough (own_with g v) (without (get_or xs i 0) xs) (get_or xs i 0)
+          subst (λ (xs : List ℕ). IsShortestFollowerCycle (own_with g v) (other_leaders (get_or xs i 0) xs) (get_or xs i 0)
           (map (place (strong_component g v)) (get_or (the_group g v).cycles i []))) (sym own_places)
-          (subst (λ (c : List ℕ). IsCycleThrough (own_with g v) (without k (choose_leaders (own_with g v))) k c) (sym back) (cycle_is k stands))
+          (subst (λ (c : List ℕ). IsShortestFollowerCycle (own_with g v) (other_leaders k (choose_leaders (own_with g v))) k c) (sym back) (cycle_is k stands))
 
   -- No fewer lead.
 
@@ -222,10 +222,10 @@ module _ (g : Graph) (has : HasEnds g) (v : ℕ) (party : v < g.n) (head : is_he
               let c = cycle_is w (is_listed-true w (choose_leaders (own_with g v)) i) in
               let o = list_all-from (λ x. not (is_listed x part)) (party_cycle (own_with g v) (choose_leaders (own_with g v)) w) (λ x j.
               ap not (never (is_listed x part) (λ h.
-              not_it (is_listed x (without w (choose_leaders (own_with g v))))
-              (list_all-in (λ y. not (is_listed y (without w (choose_leaders (own_with g v)))))
+              not_it (is_listed x (other_leaders w (choose_leaders (own_with g v))))
+              (list_all-in (λ y. not (is_listed y (other_leaders w (choose_leaders (own_with g v)))))
               (party_cycle (own_with g v) (choose_leaders (own_with g v)) w) x c.followers j)
-              (in-is_listed x (without w (choose_leaders (own_with g v)))
+              (in-is_listed x (other_leaders w (choose_leaders (own_with g v)))
               (in_filter (λ y. not (y == w)) x (choose_leaders (own_with g v)) (is_listed-true x (choose_leaders (own_with g v)) (within x h))
               (ap not (never (x == w) (λ s. true_false (is_listed w part) (subst (λ (z : ℕ). is_listed z part ≡ true) (eqb-true x w s) h) e)))))))) in
               absurd (true_false (has_arc (own_with g v) c.last w) c.closes
@@ -235,10 +235,10 @@ module _ (g : Graph) (has : HasEnds g) (v : ℕ) (party : v < g.n) (head : is_he
 
   pub is_bound : IsBound g (the_group g v)
   is_bound = record {
-    height = latest_height (own_with g v) (choose_leaders (own_with g v));
+    height = greatest_level (own_with g v) (choose_leaders (own_with g v));
     is_height =
-        subst (λ (xs : List ℕ). IsHeight (own_with g v) xs (latest_height (own_with g v) (choose_leaders (own_with g v)))) (sym own_places)
+        subst (λ (xs : List ℕ). IsHeight (own_with g v) xs (greatest_level (own_with g v) (choose_leaders (own_with g v)))) (sym own_places)
         (is_height (own_with g v) (choose_leaders (own_with g v)) (lead_feedback (own_with g v)));
-    need = ap (λ (n : ℕ). need (length (strong_component g v)) n (latest_height (own_with g v) (choose_leaders (own_with g v))))
+    need = ap (λ (n : ℕ). need (length (strong_component g v)) n (greatest_level (own_with g v) (choose_leaders (own_with g v))))
         (sym (length-map (choose_leaders (own_with g v)) (find_party (strong_component g v))));
   }

@@ -5,13 +5,13 @@ use Rattle.std.proofs.lemmas.List.{get_or-map, length-map}
 use Rattle.std.proofs.lemmas.List.Quantifiers.{position-Some}
 use Rattle.std.specs.List.{position_or_len, range_with_len}
 use Rattle.std.specs.List.Sorted.{IsStrictlyIncreasing}
-use Rattle.swap_base.specs.Lists.{IsIn}
+use Rattle.swap_base.specs.Lists.{IsElement}
 use Rattle.swap_base.proofs.Lists.{and_parts, and_both, in_place, in_map}
 use Rattle.swap_digraph.specs.declared.arc_ends.ArcEnds.{ArcEnds}
 use Rattle.swap_digraph.specs.Value.{Graph}
 use Rattle.swap_digraph.specs.Graph.{ends, has_arc, is_listed, HasEnds, IsStronglyConnected}
 use Rattle.swap_digraph.proofs.Paths.{is_listed-true, in-is_listed}
-use Rattle.digraph_check.specs.Reach.{reaches_in, reaches}
+use Rattle.digraph_check.specs.Reach.{reaches_in_arcs, reaches}
 use Rattle.digraph_check.proofs.Walks.{Along, goes_on, is_there, at_once, along, arc_number}
 use Rattle.digraph_check.proofs.ListTests.{among_where, where_among, where_ascends}
 use Rattle.digraph_check.proofs.Paths.{reaches_path, walk_reaches}
@@ -71,7 +71,7 @@ found set w (Some k) e n =
       is = ap (λ (m : ℕ). get_or set m 0) here ∙ eqb-true (get_or set k 0) w p.1;
     }
 
-short : (set : List ℕ) (w : ℕ) → IsIn w set → position_or_len (λ x. x == w) set < length set
+short : (set : List ℕ) (w : ℕ) → IsElement w set → position_or_len (λ x. x == w) set < length set
 short [] w i = absurd i
 short (x ∷ set) w (inl e) = go (x == w) (eq-eqb x w (sym e)) refl
   where
@@ -142,15 +142,15 @@ module _ (g : Graph) (has : HasEnds g) (v : ℕ) (party : v < g.n) where
       (strong_component g v)) a.to)
 
   -- a walk between parties of the group stays in it
-  own_walk : (k u w : ℕ) → is_listed u (strong_component g v) ≡ true → is_listed w (strong_component g v) ≡ true → reaches_in g k u w ≡ true
-      → reaches_in (own_with g v) k (place (strong_component g v) u) (place (strong_component g v) w) ≡ true
+  own_walk : (k u w : ℕ) → is_listed u (strong_component g v) ≡ true → is_listed w (strong_component g v) ≡ true → reaches_in_arcs g k u w ≡ true
+      → reaches_in_arcs (own_with g v) k (place (strong_component g v) u) (place (strong_component g v) w) ≡ true
   own_walk zero u w iu iw r = is_there (own_with g v) 0 _ _ (ap (place (strong_component g v)) (at_once g u w r))
   own_walk (suc k) u w iu iw r = go (goes_on g k u w r) (λ x. own_walk k x w)
     where
       go : (u ≡ w) ⊎ Along g k u w
-          → ((x : ℕ) → is_listed x (strong_component g v) ≡ true → is_listed w (strong_component g v) ≡ true → reaches_in g k x w ≡ true
-          → reaches_in (own_with g v) k (place (strong_component g v) x) (place (strong_component g v) w) ≡ true)
-          → reaches_in (own_with g v) (suc k) (place (strong_component g v) u) (place (strong_component g v) w) ≡ true
+          → ((x : ℕ) → is_listed x (strong_component g v) ≡ true → is_listed w (strong_component g v) ≡ true → reaches_in_arcs g k x w ≡ true
+          → reaches_in_arcs (own_with g v) k (place (strong_component g v) x) (place (strong_component g v) w) ≡ true)
+          → reaches_in_arcs (own_with g v) (suc k) (place (strong_component g v) u) (place (strong_component g v) w) ≡ true
       go (inl e) rest = is_there (own_with g v) (suc k) _ _ (ap (place (strong_component g v)) e)
       go (inr a) rest =
           let mu = from_group g v u iu in
@@ -180,8 +180,8 @@ module _ (g : Graph) (has : HasEnds g) (v : ℕ) (party : v < g.n) where
       let pi = place_back (strong_component g v) up i li in
       let pj = place_back (strong_component g v) up j lj in
       walk_reaches (own_with g v) g.n i j li
-      (subst (λ (y : ℕ). reaches_in (own_with g v) g.n i y ≡ true) pj
-      (subst (λ (x : ℕ). reaches_in (own_with g v) g.n x (place (strong_component g v) (find_party (strong_component g v) j)) ≡ true) pi walk))
+      (subst (λ (y : ℕ). reaches_in_arcs (own_with g v) g.n i y ≡ true) pj
+      (subst (λ (x : ℕ). reaches_in_arcs (own_with g v) g.n x (place (strong_component g v) (find_party (strong_component g v) j)) ≡ true) pi walk))
 
   pub own_strong : IsStronglyConnected (own_with g v)
   own_strong i j li lj differ = let r = reaches_path (own_with g v) i j li (own_reaches i j li lj) in (r.vertices, r.between)

@@ -4,7 +4,7 @@ use Rattle.std.proofs.Common.{filter, flat_map, Option, Some, None, is_some, ref
 use Rattle.std.proofs.lemmas.List.Kept.{IsStrictlyIncreasing-filter}
 use Rattle.std.specs.List.{range_with_len}
 use Rattle.std.specs.List.Sorted.{IsStrictlyIncreasing}
-use Rattle.swap_base.specs.Lists.{IsIn}
+use Rattle.swap_base.specs.Lists.{IsElement}
 use Rattle.swap_base.proofs.Lists.{and_parts, from_filter, in_filter, from_range, from_range_from, in_range, in_flat_map, from_append, list_all-in}
 use Rattle.swap_base.proofs.Lists.{list_all-from}
 use Rattle.swap_base.proofs.Lists.{none_of, not-mono, length-range}
@@ -13,8 +13,8 @@ use Rattle.swap_digraph.specs.Graph.{parties, arcs, ends, has_arc, is_listed, ar
 use Rattle.swap_digraph.proofs.Paths.{is_listed-true, in-is_listed, path_below}
 use Rattle.leader_check.specs.Cycles.{follower_cycle, traced_cycle}
 use Rattle.leader_check.proofs.Walks.{none_feedback, feedback_none, none_meets}
-use Rattle.swap_clear.specs.Leaders.{touching, touched_arcs, order, without, breaks, tried, remaining}
-use Rattle.swap_clear.specs.Led.{IsBefore, IsInOrder, IsOrder, Remain}
+use Rattle.swap_clear.specs.Leaders.{touching, touched_arcs, order, other_leaders, breaks, tried, remaining}
+use Rattle.swap_clear.specs.Led.{IsTriedEarlier, IsInOrder, IsOrder, Remain}
 use Rattle.swap_clear.proofs.Cyclic.{true_false, not_it, never}
 
 pub filter_short : (p : ℕ → Bool) (xs : List ℕ) → length (filter p xs) ≤ length xs
@@ -26,7 +26,7 @@ filter_short p (x ∷ xs) = go (p x) (filter_short p xs)
     go false r = omega (arith, r)
 
 -- two tests of which none passes both
-two_filters : (p q : ℕ → Bool) (xs : List ℕ) → ((x : ℕ) → IsIn x xs → p x ≡ true → q x ≡ true → ⊥) → length (filter p xs) + length (filter q xs) ≤ length xs
+two_filters : (p q : ℕ → Bool) (xs : List ℕ) → ((x : ℕ) → IsElement x xs → p x ≡ true → q x ≡ true → ⊥) → length (filter p xs) + length (filter q xs) ≤ length xs
 two_filters p q [] h = omega arith
 two_filters p q (x ∷ xs) h = go (p x) (q x) refl refl (two_filters p q xs (λ y i. h y (inr i)))
   where
@@ -37,11 +37,11 @@ two_filters p q (x ∷ xs) h = go (p x) (q x) refl refl (two_filters p q xs (λ 
     go false true e f r = omega (arith, r)
     go false false e f r = omega (arith, r)
 
-from_flat : (f : ℕ → List ℕ) (xs : List ℕ) (y : ℕ) → IsIn y (flat_map f xs) → (x : ℕ) × IsIn x xs × IsIn y (f x)
+from_flat : (f : ℕ → List ℕ) (xs : List ℕ) (y : ℕ) → IsElement y (flat_map f xs) → (x : ℕ) × IsElement x xs × IsElement y (f x)
 from_flat f [] y i = absurd i
 from_flat f (x ∷ xs) y i = go (from_append (f x) (flat_map f xs) y i) (from_flat f xs y)
   where
-    go : IsIn y (f x) ⊎ IsIn y (flat_map f xs) → (IsIn y (flat_map f xs) → (z : ℕ) × IsIn z xs × IsIn y (f z)) → (z : ℕ) × IsIn z (x ∷ xs) × IsIn y (f z)
+    go : IsElement y (f x) ⊎ IsElement y (flat_map f xs) → (IsElement y (flat_map f xs) → (z : ℕ) × IsElement z xs × IsElement y (f z)) → (z : ℕ) × IsElement z (x ∷ xs) × IsElement y (f z)
     go (inl j) rest = (x, inl refl, j)
     go (inr j) rest = let r = rest j in (r.0, inr r.1, r.2)
 
@@ -68,7 +68,7 @@ module _ (g : Graph) where
         r,
       )
 
-  order_append : (xs ys : List ℕ) → IsInOrder g xs → IsInOrder g ys → ((x y : ℕ) → IsIn x xs → IsIn y ys → IsBefore g x y) → IsInOrder g (xs ++ ys)
+  order_append : (xs ys : List ℕ) → IsInOrder g xs → IsInOrder g ys → ((x y : ℕ) → IsElement x xs → IsElement y ys → IsTriedEarlier g x y) → IsInOrder g (xs ++ ys)
   order_append [] ys a b h = b
   order_append (x ∷ xs) ys a b h = (
     λ v i. elim (from_append xs ys v i) [ inl j ↦ a.0 v j | inr j ↦ h x v (inl refl) j ],
@@ -119,7 +119,7 @@ module _ (g : Graph) where
   pub feedback_breaks : (ls : List ℕ) → IsFeedback g ls → breaks g ls ≡ true
   feedback_breaks ls f = ap (λ (o : Option (List ℕ)). not (is_some o)) (feedback_none g ls f)
 
-  pub more_lead : (xs ys : List ℕ) → ((x : ℕ) → IsIn x xs → IsIn x ys) → IsFeedback g xs → IsFeedback g ys
+  pub more_lead : (xs ys : List ℕ) → ((x : ℕ) → IsElement x xs → IsElement x ys) → IsFeedback g xs → IsFeedback g ys
   more_lead xs ys within f u v p b o =
       f u v p b (list_all-from (λ x. not (is_listed x xs)) p (λ x i.
       not-mono (is_listed x xs) (is_listed x ys) (λ e. in-is_listed x ys (within x (is_listed-true x xs e))) (list_all-in (λ y. not (is_listed y ys)) p x o i)))
@@ -132,18 +132,18 @@ module _ (g : Graph) where
 
   -- What remains.
 
-  tried_by : (P : List ℕ → Type 0) (ls : List ℕ) (v : ℕ) → P ls → (breaks g (without v ls) ≡ true → P (without v ls)) → P (tried g ls v)
-  tried_by P ls v stays goes = go (breaks g (without v ls)) refl
+  tried_by : (P : List ℕ → Type 0) (ls : List ℕ) (v : ℕ) → P ls → (breaks g (other_leaders v ls) ≡ true → P (other_leaders v ls)) → P (tried g ls v)
+  tried_by P ls v stays goes = go (breaks g (other_leaders v ls)) refl
     where
-      go : (b : Bool) → breaks g (without v ls) ≡ b → P (cond b (without v ls) ls)
+      go : (b : Bool) → breaks g (other_leaders v ls) ≡ b → P (cond b (other_leaders v ls) ls)
       go true e = goes e
       go false e = stays
 
-  pub remaining_in : (order ls : List ℕ) (x : ℕ) → IsIn x (remaining g ls order) → IsIn x ls
+  pub remaining_in : (order ls : List ℕ) (x : ℕ) → IsElement x (remaining g ls order) → IsElement x ls
   unfolding remaining
   remaining_in [] ls x i = i
   remaining_in (v ∷ order) ls x i =
-      tried_by (λ xs. IsIn x xs → IsIn x ls) ls v (λ j. j) (λ e j. (from_filter (λ w. not (w == v)) x ls j).0) (remaining_in order (tried g ls v) x i)
+      tried_by (λ xs. IsElement x xs → IsElement x ls) ls v (λ j. j) (λ e j. (from_filter (λ w. not (w == v)) x ls j).0) (remaining_in order (tried g ls v) x i)
 
   pub remaining_rises : (order ls : List ℕ) → IsStrictlyIncreasing ls → IsStrictlyIncreasing (remaining g ls order)
   unfolding remaining
@@ -165,59 +165,59 @@ module _ (g : Graph) where
   unfolding remaining
   remaining_feedback [] ls f = f
   remaining_feedback (v ∷ order) ls f =
-      remaining_feedback order (tried g ls v) (tried_by (λ xs. IsFeedback g xs) ls v f (breaks_feedback (without v ls)))
+      remaining_feedback order (tried g ls v) (tried_by (λ xs. IsFeedback g xs) ls v f (breaks_feedback (other_leaders v ls)))
 
   pub remain_of : (order ls : List ℕ) → Remain g ls order (remaining g ls order)
   unfolding remaining
   remain_of [] ls = refl
-  remain_of (v ∷ order) ls = go (breaks g (without v ls)) refl (remain_of order)
+  remain_of (v ∷ order) ls = go (breaks g (other_leaders v ls)) refl (remain_of order)
     where
-      go : (b : Bool) → breaks g (without v ls) ≡ b → ((xs : List ℕ) → Remain g xs order (remaining g xs order))
-          → (IsFeedback g (without v ls) × Remain g (without v ls) order (remaining g (cond b (without v ls) ls) order))
-          ⊎ ((IsFeedback g (without v ls) → ⊥) × Remain g ls order (remaining g (cond b (without v ls) ls) order))
-      go true e rest = inl (breaks_feedback (without v ls) e, rest (without v ls))
-      go false e rest = inr (λ f. true_false (breaks g (without v ls)) (feedback_breaks (without v ls) f) e, rest ls)
+      go : (b : Bool) → breaks g (other_leaders v ls) ≡ b → ((xs : List ℕ) → Remain g xs order (remaining g xs order))
+          → (IsFeedback g (other_leaders v ls) × Remain g (other_leaders v ls) order (remaining g (cond b (other_leaders v ls) ls) order))
+          ⊎ ((IsFeedback g (other_leaders v ls) → ⊥) × Remain g ls order (remaining g (cond b (other_leaders v ls) ls) order))
+      go true e rest = inl (breaks_feedback (other_leaders v ls) e, rest (other_leaders v ls))
+      go false e rest = inr (λ f. true_false (breaks g (other_leaders v ls)) (feedback_breaks (other_leaders v ls) f) e, rest ls)
 
   -- None of those that remain could be dropped.
 
-  gone : (v : ℕ) (ls : List ℕ) → IsIn v (without v ls) → ⊥
+  gone : (v : ℕ) (ls : List ℕ) → IsElement v (other_leaders v ls) → ⊥
   gone v ls i = not_it (v == v) (from_filter (λ w. not (w == v)) v ls i).1 (eq-eqb v v refl)
 
-  pub needed : (order ls : List ℕ) (v : ℕ) → IsIn v order → IsIn v (remaining g ls order) → IsFeedback g (without v (remaining g ls order)) → ⊥
+  pub needed : (order ls : List ℕ) (v : ℕ) → IsElement v order → IsElement v (remaining g ls order) → IsFeedback g (other_leaders v (remaining g ls order)) → ⊥
   unfolding remaining
   needed [] ls v i r f = i
   needed (x ∷ order) ls v (inr i) r f = needed order (tried g ls x) v i r f
-  needed (x ∷ order) ls v (inl s) r f = go (breaks g (without x ls)) refl (remaining_in order (tried g ls x))
+  needed (x ∷ order) ls v (inl s) r f = go (breaks g (other_leaders x ls)) refl (remaining_in order (tried g ls x))
     where
-      read_rest : ((y : ℕ) → IsIn y (remaining g (tried g ls x) order) → IsIn y ls) → (y : ℕ)
-          → IsIn y (without v (remaining g (tried g ls x) order)) → IsIn y (without x ls)
+      read_rest : ((y : ℕ) → IsElement y (remaining g (tried g ls x) order) → IsElement y ls) → (y : ℕ)
+          → IsElement y (other_leaders v (remaining g (tried g ls x) order)) → IsElement y (other_leaders x ls)
       read_rest within y j =
           let k = from_filter (λ w. not (w == v)) y (remaining g (tried g ls x) order) j in
-          subst (λ (z : ℕ). IsIn y (without z ls)) s (in_filter (λ w. not (w == v)) y ls (within y k.0) k.1)
+          subst (λ (z : ℕ). IsElement y (other_leaders z ls)) s (in_filter (λ w. not (w == v)) y ls (within y k.0) k.1)
 
-      go : (b : Bool) → breaks g (without x ls) ≡ b
-          → ((y : ℕ) → IsIn y (remaining g (tried g ls x) order) → IsIn y (cond (breaks g (without x ls)) (without x ls) ls)) → ⊥
+      go : (b : Bool) → breaks g (other_leaders x ls) ≡ b
+          → ((y : ℕ) → IsElement y (remaining g (tried g ls x) order) → IsElement y (cond (breaks g (other_leaders x ls)) (other_leaders x ls) ls)) → ⊥
       go true e within =
-          gone x ls (subst (λ (z : ℕ). IsIn z (without x ls)) s (subst (λ (b : Bool). IsIn v (cond b (without x ls) ls)) e (within v r)))
+          gone x ls (subst (λ (z : ℕ). IsElement z (other_leaders x ls)) s (subst (λ (b : Bool). IsElement v (cond b (other_leaders x ls) ls)) e (within v r)))
       go false e within =
-          true_false (breaks g (without x ls)) (feedback_breaks (without x ls) (more_lead (without v (remaining g (tried g ls x) order)) (without x ls)
-          (read_rest (λ y j. subst (λ (b : Bool). IsIn y (cond b (without x ls) ls)) e (within y j))) f)) e
+          true_false (breaks g (other_leaders x ls)) (feedback_breaks (other_leaders x ls) (more_lead (other_leaders v (remaining g (tried g ls x) order)) (other_leaders x ls)
+          (read_rest (λ y j. subst (λ (b : Bool). IsElement y (cond b (other_leaders x ls) ls)) e (within y j))) f)) e
 
   -- A leader that is needed has a cycle.
 
-  fewer : (v : ℕ) (ls p : List ℕ) → are_followers (without v ls) p ≡ true → (IsIn v p → ⊥) → are_followers ls p ≡ true
+  fewer : (v : ℕ) (ls p : List ℕ) → are_followers (other_leaders v ls) p ≡ true → (IsElement v p → ⊥) → are_followers ls p ≡ true
   fewer v ls p o out =
       list_all-from (λ x. not (is_listed x ls)) p (λ x i.
       ap not (never (is_listed x ls) (λ e.
-      not_it (is_listed x (without v ls)) (list_all-in (λ y. not (is_listed y (without v ls))) p x o i)
-      (in-is_listed x (without v ls) (in_filter (λ w. not (w == v)) x ls (is_listed-true x ls e)
-      (ap not (never (x == v) (λ s. out (subst (λ (z : ℕ). IsIn z p) (eqb-true x v s) i)))))))))
+      not_it (is_listed x (other_leaders v ls)) (list_all-in (λ y. not (is_listed y (other_leaders v ls))) p x o i)
+      (in-is_listed x (other_leaders v ls) (in_filter (λ w. not (w == v)) x ls (is_listed-true x ls e)
+      (ap not (never (x == v) (λ s. out (subst (λ (z : ℕ). IsElement z p) (eqb-true x v s) i)))))))))
 
-  pub has_cycle : (v : ℕ) (ls : List ℕ) → IsFeedback g ls → (IsFeedback g (without v ls) → ⊥) → (c : List ℕ) × (traced_cycle g (without v ls) v ≡ Some c)
-  has_cycle v ls f need = go (traced_cycle g (without v ls) v) refl
+  pub has_cycle : (v : ℕ) (ls : List ℕ) → IsFeedback g ls → (IsFeedback g (other_leaders v ls) → ⊥) → (c : List ℕ) × (traced_cycle g (other_leaders v ls) v ≡ Some c)
+  has_cycle v ls f need = go (traced_cycle g (other_leaders v ls) v) refl
     where
-      go : (o : Option (List ℕ)) → traced_cycle g (without v ls) v ≡ o → (c : List ℕ) × (traced_cycle g (without v ls) v ≡ Some c)
+      go : (o : Option (List ℕ)) → traced_cycle g (other_leaders v ls) v ≡ o → (c : List ℕ) × (traced_cycle g (other_leaders v ls) v ≡ Some c)
       go (Some c) e = (c, e)
       go None e =
           absurd (need (λ u w p b o. never (has_arc g w u) (λ a.
-          true_false (has_arc g w u) a (f u w p b (fewer v ls p o (λ i. none_meets g (without v ls) v u w p e b o a i))))))
+          true_false (has_arc g w u) a (f u w p b (fewer v ls p o (λ i. none_meets g (other_leaders v ls) v u w p e b o a i))))))

@@ -2,7 +2,7 @@
 use Rattle.std.proofs.Common.{◌≡◌, ℕ, zero, suc, ◌+◌, ◌-◌, get_or, ◌<◌, ◌≤◌, ◌==◌, true, false, not, ◌&&◌, List, [], ◌∷◌, length, Option, Some, None}
 use Rattle.std.proofs.Common.{Result, Ok, refl, sym, ap, ◌∙◌}
 use Rattle.std.proofs.Common.{subst, arith, ne_eqb, unwrap_or}
-use Rattle.swap_base.specs.Lists.{IsIn}
+use Rattle.swap_base.specs.Lists.{IsElement}
 use Rattle.swap_base.specs.Fault.{◌>>=◌, Fails, steps}
 use Rattle.swap_base.specs.declared.fault.Fault.{Fault}
 use Rattle.swap_base.specs.declared.fault.Fault.TheVariants.{Refused, NoMemory}
@@ -16,7 +16,7 @@ use Rattle.leader_check.proofs.Walks.{through}
 use Rattle.swap_clear.specs.declared.answer.Group.{Group}
 use Rattle.swap_clear.specs.declared.fault.ClearReason.{ClearReason}
 use Rattle.swap_clear.specs.Groups.{strong_component, inner_arcs, own_graph}
-use Rattle.swap_clear.specs.Leaders.{order, without, choose_leaders, party_cycle}
+use Rattle.swap_clear.specs.Leaders.{order, other_leaders, choose_leaders, party_cycle}
 use Rattle.swap_clear.specs.Clearing.{make_group, some_group, next_group, with_group, add_group}
 use Rattle.swap_clear.proofs.Gathered.{arcs_with, own_with}
 use Rattle.swap_clear.proofs.Together.{is_with, is_inside, in_group, with_itself}
@@ -31,13 +31,13 @@ pub arcs_few : (g : Graph) (set numbers : List ℕ) → numbers ≡ inner_arcs g
 arcs_few g set numbers e =
     let f = filter_short (is_inside g set) (arcs g) in let l = length-range 0 (length g.arcs) in let s = ap length e in omega (arith, f, l, s)
 
-pub parse_arcs : (g : Graph) (set numbers : List ℕ) → numbers ≡ inner_arcs g set → (a : ℕ) → IsIn a numbers → a < length g.arcs
-parse_arcs g set numbers e a i = from_range a (length g.arcs) (from_filter (is_inside g set) a (arcs g) (subst (λ (xs : List ℕ). IsIn a xs) e i)).0
+pub parse_arcs : (g : Graph) (set numbers : List ℕ) → numbers ≡ inner_arcs g set → (a : ℕ) → IsElement a numbers → a < length g.arcs
+parse_arcs g set numbers e a i = from_range a (length g.arcs) (from_filter (is_inside g set) a (arcs g) (subst (λ (xs : List ℕ). IsElement a xs) e i)).0
 
 pub set_some : (g : Graph) (v : ℕ) (set : List ℕ) → set ≡ strong_component g v → v < g.n → 1 ≤ length set
-set_some g v set e lt = go set (subst (λ (xs : List ℕ). IsIn v xs) (sym e) (is_listed-true v (strong_component g v) (in_group g v v lt (with_itself g v))))
+set_some g v set e lt = go set (subst (λ (xs : List ℕ). IsElement v xs) (sym e) (is_listed-true v (strong_component g v) (in_group g v v lt (with_itself g v))))
   where
-    go : (xs : List ℕ) → IsIn v xs → 1 ≤ length xs
+    go : (xs : List ℕ) → IsElement v xs → 1 ≤ length xs
     go [] i = absurd i
     go (x ∷ xs) i = omega arith
 
@@ -68,12 +68,12 @@ pub leaders_few : (g : Graph) → length (choose_leaders g) ≤ g.n
 unfolding choose_leaders
 leaders_few g = let r = remaining_short g (order g) (parties g) in let l = length-range 0 g.n in omega (arith, r, l)
 
-pub cycle_in : (g : Graph) (ls : List ℕ) (v x : ℕ) → IsIn x (party_cycle g ls v) → x < g.n
-cycle_in g ls v x i = go (traced_cycle g (without v ls) v) refl i
+pub cycle_in : (g : Graph) (ls : List ℕ) (v x : ℕ) → IsElement x (party_cycle g ls v) → x < g.n
+cycle_in g ls v x i = go (traced_cycle g (other_leaders v ls) v) refl i
   where
-    go : (o : Option (List ℕ)) → traced_cycle g (without v ls) v ≡ o → IsIn x (unwrap_or o []) → x < g.n
+    go : (o : Option (List ℕ)) → traced_cycle g (other_leaders v ls) v ≡ o → IsElement x (unwrap_or o []) → x < g.n
     go None e j = absurd j
-    go (Some c) e j = path_below g c x (through g (without v ls) v c e).path.0 j
+    go (Some c) e j = path_below g c x (through g (other_leaders v ls) v c e).path.0 j
 
 pub begins : (v : ℕ) (xs : List ℕ) → first_is v xs ≡ (not (length xs == 0) && (get_or xs 0 0 == v))
 begins v [] = refl

@@ -2,7 +2,7 @@
 use Rattle.std.proofs.Common.{◌≡◌, ◌≢◌, ℕ, ◌<◌, ◌==◌, Bool, true, false, not, ◌&&◌, List, [], ◌∷◌, length, filter, map}
 use Rattle.std.proofs.Common.{refl, sym, ap, subst, inl, inr, arith, eqb-true, eq-eqb, ne_eqb, get_or}
 use Rattle.std.specs.List.Sorted.{IsStrictlyIncreasing}
-use Rattle.swap_base.specs.Lists.{IsIn}
+use Rattle.swap_base.specs.Lists.{IsElement}
 use Rattle.swap_base.proofs.Lists.{and_parts, and_both, from_filter, in_filter, from_range, in_range, in_map}
 use Rattle.swap_digraph.specs.Value.{Graph}
 use Rattle.swap_digraph.specs.Graph.{parties, ends, is_listed, first_is, HasEnds}
@@ -94,15 +94,15 @@ module _ (g : Graph) where
   first_get v [] e = absurd (cc e)
   first_get v (x ∷ xs) e = eqb-true x v e
 
-  get_first : (xs : List ℕ) (w : ℕ) → IsIn w xs → first_is (get_or xs 0 0) xs ≡ true
+  get_first : (xs : List ℕ) (w : ℕ) → IsElement w xs → first_is (get_or xs 0 0) xs ≡ true
   get_first [] w i = absurd i
   get_first (x ∷ xs) w i = eq-eqb x x refl
 
-  get_in : (xs : List ℕ) (w : ℕ) → IsIn w xs → IsIn (get_or xs 0 0) xs
+  get_in : (xs : List ℕ) (w : ℕ) → IsElement w xs → IsElement (get_or xs 0 0) xs
   get_in [] w i = absurd i
   get_in (x ∷ xs) w i = inl refl
 
-  some_length : (xs : List ℕ) (x : ℕ) → IsIn x xs → (length xs == 0) ≡ false
+  some_length : (xs : List ℕ) (x : ℕ) → IsElement x xs → (length xs == 0) ≡ false
   some_length [] x i = absurd i
   some_length (y ∷ xs) x i = ne_eqb (length (y ∷ xs)) 0 (λ e. absurd (omega (arith, e)))
 
@@ -141,9 +141,9 @@ module _ (g : Graph) where
     pub is_one : is_head g head ≡ true
     pub is : group ≡ the_group g head
 
-  pub made : (groups : List Group) → Gathered g [] (parties g) groups → (group : Group) → IsIn group groups → Made group
+  pub made : (groups : List Group) → Gathered g [] (parties g) groups → (group : Group) → IsElement group groups → Made group
   made groups k group i =
-      let m = from_map (the_group g) (filter (is_head g) (parties g)) group (subst (λ (xs : List Group). IsIn group xs) k.list i) in
+      let m = from_map (the_group g) (filter (is_head g) (parties g)) group (subst (λ (xs : List Group). IsElement group xs) k.list i) in
       let f = from_filter (is_head g) m.0 (parties g) m.1 in
       record { head = m.0; party = from_range m.0 g.n f.0; is_one = f.1; is = m.2 }
 
@@ -156,7 +156,7 @@ module _ (g : Graph) where
     all = λ a la t.
         let h = headed has a la t in (
           the_group g h.head,
-          subst (λ (xs : List Group). IsIn (the_group g h.head) xs) (sym k.list)
+          subst (λ (xs : List Group). IsElement (the_group g h.head) xs) (sym k.list)
               (in_map (the_group g) (filter (is_head g) (parties g)) h.head (in_filter (is_head g) h.head (parties g) (in_range h.head g.n h.party) h.is_one)),
           h.holds,
         );

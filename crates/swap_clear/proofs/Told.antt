@@ -7,7 +7,7 @@ use Rattle.swap_base.specs.declared.fault.Fault.TheVariants.{Refused, NoMemory}
 use Rattle.swap_clear.specs.declared.fault.ClearReason.{ClearReason}
 use Rattle.swap_clear.specs.Refused.{IfRefused, IsFault}
 use Rattle.swap_clear.proofs.Refusals.{clearing_refused}
-use Rattle.swap_base.specs.Lists.{IsIn}
+use Rattle.swap_base.specs.Lists.{IsElement}
 use Rattle.swap_base.proofs.Lists.{in_range}
 use Rattle.swap_digraph.specs.Graph.{IsStronglyConnected}
 use Rattle.swap_clear.specs.declared.proposed.Proposed.{Proposed}
@@ -58,44 +58,44 @@ module _ (n : ℕ) (arcs : List Proposed) (c : Clearing) (e : cleared_groups n a
     pub few : length (choose_leaders (own_with (proposed_graph n arcs) head)) ≤ 8
     pub is : group ≡ the_group (proposed_graph n arcs) head
 
-  known : (group : Group) → IsIn group c.groups → Known group
+  known : (group : Group) → IsElement group c.groups → Known group
   known group i =
       let k = cleared n arcs c e in
       let gathered = groups_gathered (proposed_graph n arcs) c.groups k.groups in
       let m = made (proposed_graph n arcs) c.groups gathered group i in
       record { head = m.head; party = m.party; is_one = m.is_one; few = gathered.few m.head (in_range m.head n m.party) m.is_one; is = m.is }
 
-  pub strong : (group : Group) → IsIn group c.groups → IsStronglyConnected (own (proposed_graph n arcs) group)
+  pub strong : (group : Group) → IsElement group c.groups → IsStronglyConnected (own (proposed_graph n arcs) group)
   strong group i =
       let k = cleared n arcs c e in
       let m = known group i in
       subst (λ (x : Group). IsStronglyConnected (own (proposed_graph n arcs) x)) (sym m.is) (own_strong (proposed_graph n arcs) k.ends m.head m.party)
 
-  pub leaders : (group : Group) → IsIn group c.groups → IsLed (proposed_graph n arcs) group
+  pub leaders : (group : Group) → IsElement group c.groups → IsLed (proposed_graph n arcs) group
   leaders group i =
       let k = cleared n arcs c e in
       let m = known group i in
       subst (λ (x : Group). IsLed (proposed_graph n arcs) x) (sym m.is) (is_led (proposed_graph n arcs) k.ends m.head m.party m.is_one m.few)
 
-  pub cycles : (group : Group) → IsIn group c.groups → HasCycles (proposed_graph n arcs) group
+  pub cycles : (group : Group) → IsElement group c.groups → HasCycles (proposed_graph n arcs) group
   cycles group i =
       let k = cleared n arcs c e in
       let m = known group i in
       subst (λ (x : Group). HasCycles (proposed_graph n arcs) x) (sym m.is) (has_cycles (proposed_graph n arcs) k.ends m.head m.party m.is_one m.few)
 
-  pub fewer : (group : Group) → IsIn group c.groups → NoFewerLead (proposed_graph n arcs) group
+  pub fewer : (group : Group) → IsElement group c.groups → NoFewerLead (proposed_graph n arcs) group
   fewer group i =
       let k = cleared n arcs c e in
       let m = known group i in
       subst (λ (x : Group). NoFewerLead (proposed_graph n arcs) x) (sym m.is) (no_fewer (proposed_graph n arcs) k.ends m.head m.party m.is_one m.few)
 
-  pub bound : (group : Group) → IsIn group c.groups → IsBound (proposed_graph n arcs) group
+  pub bound : (group : Group) → IsElement group c.groups → IsBound (proposed_graph n arcs) group
   bound group i =
       let k = cleared n arcs c e in
       let m = known group i in
       subst (λ (x : Group). IsBound (proposed_graph n arcs) x) (sym m.is) (is_bound (proposed_graph n arcs) k.ends m.head m.party m.is_one m.few)
 
-  pub ready : n ≤ 32 → length arcs ≤ 128 → AreAmounts arcs → (group : Group) → IsIn group c.groups → MakesADeal (proposed_graph n arcs) arcs group
+  pub ready : n ≤ 32 → length arcs ≤ 128 → AreAmounts arcs → (group : Group) → IsElement group c.groups → MakesADeal (proposed_graph n arcs) arcs group
   ready small short amounts group i =
       let k = cleared n arcs c e in
       let m = known group i in

@@ -4,7 +4,7 @@ use Rattle.swap_base.specs.Fault.{◌>>=◌, steps}
 use Rattle.swap_digraph.specs.Value.{Graph}
 use Rattle.swap_digraph.specs.Graph.{parties, first_is}
 use Rattle.time_bounds.specs.Times.{need}
-use Rattle.leader_check.specs.Levels.{latest_height}
+use Rattle.leader_check.specs.Levels.{greatest_level}
 use Rattle.swap_clear.specs.declared.proposed.Proposed.{Proposed}
 use Rattle.swap_clear.specs.declared.answer.Group.{Group}
 use Rattle.swap_clear.specs.declared.answer.Clearing.{Clearing}
@@ -21,7 +21,7 @@ led_group set numbers own leaders = record {
   arcs = numbers;
   leaders = map (find_party set) leaders;
   cycles = map (λ v. map (find_party set) (party_cycle own leaders v)) leaders;
-  bound = need own.n (length leaders) (latest_height own leaders);
+  bound = need own.n (length leaders) (greatest_level own leaders);
 }
 
 abbrev pub few_enough : ℕ → List ℕ → Group → Result Group ClearReason

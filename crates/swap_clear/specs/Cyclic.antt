@@ -1,7 +1,7 @@
 -- Which arcs lie on a cycle, and what shows that one doesn't.
 use Rattle.std.specs.Prelude.{◌≡◌, ◌↔◌, ℕ, ◌<◌, false, IsTrue, List, length, map}
 use Rattle.std.specs.List.Sorted.{IsStrictlyIncreasing}
-use Rattle.swap_base.specs.Lists.{IsIn}
+use Rattle.swap_base.specs.Lists.{IsElement}
 use Rattle.swap_digraph.specs.Value.{Graph}
 use Rattle.swap_digraph.specs.Graph.{ends, is_listed, IsConnectingPath}
 use Rattle.swap_clear.specs.declared.answer.LeftOut.{LeftOut}
@@ -14,7 +14,8 @@ Reaches g u v = (p : List ℕ) × IsConnectingPath g u v p
 abbrev pub IsCyclic : Graph → ℕ → Type 0
 IsCyclic g a = Reaches g (ends g a).to (ends g a).from
 
--- The arc lies on no cycle; the set is what its counterparty reaches, which no arc leaves and which lacks its party.
+-- The arc lies on no cycle; the set is what its counterparty reaches, which no arc leaves and which
+-- lacks its party.
 pub record IsLeftOut (g : Graph) (l : LeftOut) : Type 0 where
   pub arc : l.arc < length g.arcs
   pub not_cyclic : IsCyclic g l.arc → ⊥
@@ -27,5 +28,5 @@ pub record IsLeftOut (g : Graph) (l : LeftOut) : Type 0 where
 -- The list has exactly the arcs that lie on no cycle, ascending.
 pub record TellsLeftOut (g : Graph) (ls : List LeftOut) : Type 0 where
   pub ascending : IsStrictlyIncreasing (map (λ l. l.arc) ls)
-  pub each : (l : LeftOut) → IsIn l ls → IsLeftOut g l
+  pub each : (l : LeftOut) → IsElement l ls → IsLeftOut g l
   pub all : (a : ℕ) → a < length g.arcs → (IsCyclic g a → ⊥) → IsTrue (is_listed a (map (λ l. l.arc) ls))

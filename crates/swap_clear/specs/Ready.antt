@@ -1,4 +1,5 @@
--- What an accepted deal of version 2 asks of digraph, leaders, times and amounts (`swap_rules`, Accepted), of a group.
+-- What an accepted deal of version 2 asks of digraph, leaders, times and amounts (`swap_rules`,
+-- Accepted), of a group.
 use Rattle.std.specs.Prelude.{◌≡◌, ℕ, ◌<◌, ◌≤◌, ◌^◌, List, length, map, slice_index, slice_index_or}
 use Rattle.time_bounds.specs.Times as times
 use Rattle.swap_digraph.specs.Value.{Graph}

@@ -15,25 +15,26 @@ abbrev pub IsSound : Graph → ℕ → Type 0
 IsSound g a = ((ends g a).from < g.n) × ((ends g a).to < g.n) × ((ends g a).from ≢ (ends g a).to)
 
 -- the own digraph of the group of v
-abbrev pub own_of : Graph → ℕ → Graph
-own_of g v = own_graph g (strong_component g v) (inner_arcs g (strong_component g v))
+abbrev pub own_group_graph : Graph → ℕ → Graph
+own_group_graph g v = own_graph g (strong_component g v) (inner_arcs g (strong_component g v))
 
 -- whether v is the least party of a group that has arcs
 abbrev pub is_least : Graph → ℕ → Bool
 is_least g v = first_is v (strong_component g v) && not (length (inner_arcs g (strong_component g v)) == 0)
 
--- Of the group with that number, by its least party, so many leaders remain when its parties are dropped in order, more than 8; of each group before it at
--- most 8 do.
+-- Of the group with that number, by its least party, so many leaders remain when its parties are
+-- dropped in order, more than 8; of each group before it at most 8 do.
 pub record IsTooMany (g : Graph) (group count : ℕ) : Type 0 where
   pub head : ℕ
   pub party : head < g.n
   pub least : IsTrue (is_least g head)
   pub number : group ≡ length (filter (is_least g) (range_with_len 0 head))
-  pub leaders : SoManyRemain (own_of g head) count
+  pub leaders : SoManyRemain (own_group_graph g head) count
   pub many : 8 < count
-  pub before : (v : ℕ) → v < head → IsTrue (is_least g v) → (few : ℕ) × SoManyRemain (own_of g v) few × (few ≤ 8)
+  pub before : (v : ℕ) → v < head → IsTrue (is_least g v) → (few : ℕ) × SoManyRemain (own_group_graph g v) few × (few ≤ 8)
 
--- The arc has that fault: an end that is no party, or else one party at both ends. Too many leaders are of a digraph whose arcs are sound.
+-- The arc has that fault: an end that is no party, or else one party at both ends. Too many leaders
+-- are of a digraph whose arcs are sound.
 abbrev pub IsFault : Graph → ClearReason → Type 0
 IsFault g (OutOfRange k) = (k < length g.arcs) × ((g.n ≤ (ends g k).from) ⊎ (g.n ≤ (ends g k).to)) × ((a : ℕ) → a < k → IsSound g a)
 IsFault g (SelfArc k) = (k < length g.arcs) × ((ends g k).from < g.n) × ((ends g k).from ≡ (ends g k).to) × ((a : ℕ) → a < k → IsSound g a)

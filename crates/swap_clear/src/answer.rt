@@ -8,7 +8,8 @@ use swap_digraph::PathList;
 pub struct LeftOut {
     /// Its number.
     pub arc: u32,
-    /// The parties that its counterparty reaches, ascending: no arc leaves them, and its party isn't one of them.
+    /// The parties that its counterparty reaches, ascending: no arc leaves them, and its party
+    /// isn't one of them.
     pub closed: PathList,
 }
 

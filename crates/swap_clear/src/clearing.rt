@@ -2,7 +2,7 @@
 
 ghost use Rattle.std.specs.Prelude.{◌<◌, ◌≤◌, length, IfOk, IfErr};
 ghost use Rattle.swap_base.specs.Fault.{Gives};
-ghost use Rattle.swap_base.specs.Lists.{IsIn};
+ghost use Rattle.swap_base.specs.Lists.{IsElement};
 ghost use Rattle.swap_digraph.specs.Graph.{IsStronglyConnected};
 ghost use Rattle.swap_clear.specs.Proposals.{proposed_graph};
 ghost use Rattle.swap_clear.specs.Clearing.{cleared_groups};
@@ -46,12 +46,12 @@ pub fn clear(alloc: Global, n: u8, arcs: &[Proposed]) -> Result<Clearing, ClearF
     ensures exact { Gives (λ c. c) result (cleared_groups n arcs.now) }
     ensures left_out { IfOk result (λ c. TellsLeftOut (proposed_graph n arcs.now) c.left_out) }
     ensures groups { IfOk result (λ c. AreGroups (proposed_graph n arcs.now) c.groups) }
-    ensures strong { IfOk result (λ c. (group : _) → IsIn group c.groups → IsStronglyConnected (own (proposed_graph n arcs.now) group)) }
-    ensures leaders { IfOk result (λ c. (group : _) → IsIn group c.groups → IsLed (proposed_graph n arcs.now) group) }
-    ensures cycles { IfOk result (λ c. (group : _) → IsIn group c.groups → HasCycles (proposed_graph n arcs.now) group) }
-    ensures no_fewer { IfOk result (λ c. (group : _) → IsIn group c.groups → NoFewerLead (proposed_graph n arcs.now) group) }
-    ensures bound { IfOk result (λ c. (group : _) → IsIn group c.groups → IsBound (proposed_graph n arcs.now) group) }
-    ensures ready { IfOk result (λ c. (group : _) → IsIn group c.groups → MakesADeal (proposed_graph n arcs.now) arcs.now group) }
+    ensures strong { IfOk result (λ c. (group : _) → IsElement group c.groups → IsStronglyConnected (own (proposed_graph n arcs.now) group)) }
+    ensures leaders { IfOk result (λ c. (group : _) → IsElement group c.groups → IsLed (proposed_graph n arcs.now) group) }
+    ensures cycles { IfOk result (λ c. (group : _) → IsElement group c.groups → HasCycles (proposed_graph n arcs.now) group) }
+    ensures no_fewer { IfOk result (λ c. (group : _) → IsElement group c.groups → NoFewerLead (proposed_graph n arcs.now) group) }
+    ensures bound { IfOk result (λ c. (group : _) → IsElement group c.groups → IsBound (proposed_graph n arcs.now) group) }
+    ensures ready { IfOk result (λ c. (group : _) → IsElement group c.groups → MakesADeal (proposed_graph n arcs.now) arcs.now group) }
     ensures refused { IfErr result (λ e. IfRefused e (IsFault (proposed_graph n arcs.now))) }
 {
     cleared(alloc, n, arcs)

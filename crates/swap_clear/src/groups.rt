@@ -1,7 +1,7 @@
 //! The groups of parties that reach each other.
 
 ghost use Rattle.std.specs.Prelude.{◌≡◌, ◌<◌, ◌≤◌, ℕ, length, map, IfOk};
-ghost use Rattle.swap_base.specs.Lists.{IsIn};
+ghost use Rattle.swap_base.specs.Lists.{IsElement};
 ghost use Rattle.swap_base.specs.Fault.{Gives};
 ghost use Rattle.swap_digraph.specs.Graph.{HasEnds, first_is};
 ghost use Rattle.swap_clear.specs.Groups.{find_party};
@@ -29,7 +29,7 @@ fn group_cycles(
     requires parties { own.now.n ≤ 32 }
     requires set { length set.now ≡ own.now.n }
     requires ends { HasEnds own.now }
-    requires leaders { (v : ℕ) → IsIn v leaders.now → v < own.now.n }
+    requires leaders { (v : ℕ) → IsElement v leaders.now → v < own.now.n }
     ensures { IfOk result (λ l. l ≡ map (λ v. map (find_party set.now) (party_cycle own.now leaders.now v)) leaders.now) }
 {
     let mut cycles = Vec::new(alloc);
@@ -52,7 +52,7 @@ fn led_group(
     requires set { length set ≡ own.now.n }
     requires ends { HasEnds own.now }
     requires some { (1 ≤ length leaders.now) × (length leaders.now ≤ 8) }
-    requires leaders { (v : ℕ) → IsIn v leaders.now → v < own.now.n }
+    requires leaders { (v : ℕ) → IsElement v leaders.now → v < own.now.n }
     ensures { IfOk result (λ group. group ≡ led_group set numbers own.now leaders.now) }
 {
     let cycles = group_cycles(alloc, set.as_slice(), own, leaders)?;
@@ -89,7 +89,7 @@ fn make_group(
 }
 
 /// Whether v is the first of the set.
-fn begins_with(set: &[PartyId], v: PartyId) -> bool
+fn is_first_party(set: &[PartyId], v: PartyId) -> bool
     ensures { result ≡ first_is v set.now }
 {
     !set.is_empty() && set[0] == v
@@ -111,7 +111,7 @@ fn next_group(
     ensures { Gives (λ next. next) result (next_group graph.now number v) }
 {
     let set = strong_component(alloc, graph, rows, v)?;
-    if !begins_with(set.as_slice(), v) {
+    if !is_first_party(set.as_slice(), v) {
         return Ok(None);
     }
     let numbers = inner_arcs(alloc, graph, set.as_slice())?;

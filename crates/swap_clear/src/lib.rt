@@ -1,8 +1,9 @@
-//! Proposed transfers become swaps: which of them lie on no cycle, and the groups of parties that reach each other, with leaders, a cycle for each
-//! leader, and a bound.
+//! Proposed transfers become swaps: which of them lie on no cycle, and the groups of parties that
+//! reach each other, with leaders, a cycle for each leader, and a bound.
 //!
-//! Read `specs/Proposals.antt`, `specs/Groups.antt` and `specs/Leaders.antt` first: what is answered. `specs/Cyclic.antt`, `specs/Together.antt`,
-//! `specs/Led.antt` and `specs/Ready.antt` say what that means, of all paths and cycles.
+//! Read `specs/Proposals.antt`, `specs/Groups.antt` and `specs/Leaders.antt` first: what is
+//! answered. `specs/Cyclic.antt`, `specs/Together.antt`, `specs/Led.antt` and `specs/Ready.antt`
+//! say what that means, of all paths and cycles.
 #![tactic(auto)]
 
 mod answer;

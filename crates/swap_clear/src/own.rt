@@ -1,7 +1,7 @@
 //! A group's parties and arcs, and its own digraph.
 
 ghost use Rattle.std.specs.Prelude.{◌≡◌, ◌==◌, ◌&&◌, ◌<◌, ◌≤◌, ℕ, length, map, position, IfOk};
-ghost use Rattle.swap_base.specs.Lists.{IsIn};
+ghost use Rattle.swap_base.specs.Lists.{IsElement};
 ghost use Rattle.swap_digraph.specs.Graph.{HasEnds, ends, is_listed};
 ghost use Rattle.leader_check.specs.Cycles.{has_bit};
 ghost use Rattle.swap_clear.specs.Groups.{strong_component, inner_arcs, place, find_party, own_ends, own_graph};
@@ -99,7 +99,7 @@ fn all_own_ends(
     numbers: &[u32],
 ) -> Result<Vec<ArcEnds>, NoMemory>
     requires few { length set.now ≤ 32 }
-    requires numbers { (a : ℕ) → IsIn a numbers.now → a < length graph.now.arcs }
+    requires numbers { (a : ℕ) → IsElement a numbers.now → a < length graph.now.arcs }
     ensures { IfOk result (λ l. l.items ≡ map (λ a. own_ends set.now (ends graph.now a)) numbers.now) }
 {
     let mut list = Vec::new(alloc);
@@ -118,7 +118,7 @@ pub fn own_graph(
 ) -> Result<Digraph, NoMemory>
     requires few { length set.now ≤ 32 }
     requires few_arcs { length numbers.now ≤ 128 }
-    requires numbers { (a : ℕ) → IsIn a numbers.now → a < length graph.now.arcs }
+    requires numbers { (a : ℕ) → IsElement a numbers.now → a < length graph.now.arcs }
     requires ends { HasEnds (own_graph graph.now set.now numbers.now) }
     ensures { IfOk result (λ own. own ≡ own_graph graph.now set.now numbers.now) }
 {
@@ -132,7 +132,7 @@ pub fn own_graph(
 
 /// The parties at those places of the set.
 pub fn named(alloc: Global, set: &[PartyId], places: &[u8]) -> Result<PathList, NoMemory>
-    requires { (k : ℕ) → IsIn k places.now → k < length set.now }
+    requires { (k : ℕ) → IsElement k places.now → k < length set.now }
     ensures { IfOk result (λ l. l ≡ map (find_party set.now) places.now) }
 {
     let mut parties = Vec::new(alloc);

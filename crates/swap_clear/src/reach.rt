@@ -50,7 +50,8 @@ fn first_reach(alloc: Global, n: u8) -> Result<Vec<u32>, NoMemory>
     Ok(row)
 }
 
-/// For each party its own bit, and what the bits in the row of the parties to which it has arcs hold.
+/// For each party its own bit, and what the bits in the row of the parties to which it has arcs
+/// hold.
 fn next_reach(alloc: Global, graph: &Digraph, row: &[u32]) -> Result<Vec<u32>, NoMemory>
     requires parties { graph.now.n ≤ 32 }
     requires ends { HasEnds graph.now }

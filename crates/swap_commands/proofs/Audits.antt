@@ -11,18 +11,18 @@ use Rattle.command_input.specs.declared.status.Status.TheVariants.{Done, Named, 
 use Rattle.command_input.specs.Streams.{streams}
 use Rattle.swap_world.specs.Gone.{MayGive}
 use Rattle.command_input.specs.Written.{IsWrittenWhole, Written}
-use Rattle.swap_commands.specs.Output.{by_reason, names_of, names_told, no_chance, output_by}
+use Rattle.swap_commands.specs.Output.{by_reason, refusal_names, names_told, no_chance, output_given_chance}
 use Rattle.swap_commands.specs.Says.{HasOutput, HasRead, Says}
 use Rattle.swap_commands.specs.Words.{Audit}
 use Rattle.swap_commands.specs.Strategies.{strategies}
 
 module _ (has : List ℕ → Bool) (gives : MayGive) where
-  gives_by : (input : List ℕ) (output : Result Written Refusal) → audit_output input ≡ output → output_by has no_chance Audit input ≡ by_reason output
-  unfolding output_by
+  gives_by : (input : List ℕ) (output : Result Written Refusal) → audit_output input ≡ output → output_given_chance has no_chance Audit input ≡ by_reason output
+  unfolding output_given_chance
   gives_by input output e = ap by_reason e
 
-  named_by : (input : List ℕ) (refusal : Refusal) → audit_output input ≡ Err refusal → refusal.names ≡ names_of has Audit input
-  unfolding names_of
+  named_by : (input : List ℕ) (refusal : Refusal) → audit_output input ≡ Err refusal → refusal.names ≡ refusal_names has Audit input
+  unfolding refusal_names
   named_by input refusal e = sym (ap names_told e)
 
   abbrev read_by : (a b : Option (List ℕ)) (output : Result Written Refusal) → HasAnswer a b output → HasRead has no_chance Audit a b (by_reason output)

@@ -12,8 +12,8 @@ use Rattle.clear_line.specs.ClearedText.{cleared_line, IsClearedLine}
 use Rattle.swap_commands.specs.Cleared.{IsCleared, IsFurther}
 use Rattle.command_input.specs.Faults.{named_fault, of_offer}
 use Rattle.command_input.specs.Input.{At, Desk, Ends, GivesLine, IsLast, IsLine, Stops, Tells, ahead, desk, fresh}
-use Rattle.swap_commands.specs.Output.{alone, clear_output, names_of, no_chance, output_by, plain_text, parse_wish_text}
-use Rattle.swap_commands.specs.Says.{IsAgainst, Says}
+use Rattle.swap_commands.specs.Output.{alone, clear_output, refusal_names, no_chance, output_given_chance, plain_text, wish_lines_output}
+use Rattle.swap_commands.specs.Says.{IsCommandRefusal, Says}
 use Rattle.command_input.specs.declared.fault.InputFault.{InputFault}
 use Rattle.command_input.specs.declared.fault.InputFault.TheVariants.{Refused}
 use Rattle.swap_commands.specs.Words.{Clear}
@@ -28,11 +28,11 @@ use Rattle.command_input.specs.Streams.{streams}
 
 -- ---- what is written, by the lines of an input
 
-by_lines : (bytes : List ℕ) (ls : List (ℕ × List ℕ)) → filled_lines 1 (collect_lines bytes) ≡ ls → clear_output bytes ≡ parse_wish_text ls
+by_lines : (bytes : List ℕ) (ls : List (ℕ × List ℕ)) → filled_lines 1 (collect_lines bytes) ≡ ls → clear_output bytes ≡ wish_lines_output ls
 unfolding clear_output
-by_lines bytes ls e = ap parse_wish_text e
+by_lines bytes ls e = ap wish_lines_output e
 
-line_fails : (n : ℕ) (t : List ℕ) (ls : List (ℕ × List ℕ)) (reason : Reason) → cleared_line n t ≡ Err reason → parse_wish_text ((n, t) ∷ ls) ≡ Err reason
+line_fails : (n : ℕ) (t : List ℕ) (ls : List (ℕ × List ℕ)) (reason : Reason) → cleared_line n t ≡ Err reason → wish_lines_output ((n, t) ∷ ls) ≡ Err reason
 line_fails n t ls reason h = rw h refl
 
 line_clears : (n : ℕ) (t text : List ℕ) → IsClearedLine n t text → cleared_line n t ≡ Ok text
@@ -40,20 +40,20 @@ unfolding cleared_line
 line_clears n t text c = rw (c.is_read, c.shown) refl
 
 further_fails : (n : ℕ) (t text : List ℕ) (ls : List (ℕ × List ℕ)) (reason : Reason) → cleared_line n t ≡ Ok text → alone ls ≡ Err reason
-    → parse_wish_text ((n, t) ∷ ls) ≡ Err reason
+    → wish_lines_output ((n, t) ∷ ls) ≡ Err reason
 further_fails n t text ls reason h e = rw (h, e) refl
 
-line_ends : (n : ℕ) (t text : List ℕ) → cleared_line n t ≡ Ok text → parse_wish_text ((n, t) ∷ []) ≡ Ok (plain_text text)
+line_ends : (n : ℕ) (t text : List ℕ) → cleared_line n t ≡ Ok text → wish_lines_output ((n, t) ∷ []) ≡ Ok (plain_text text)
 line_ends n t text h = rw h refl
 
 module _ (has : List ℕ → Bool) where
   against : (bytes : List ℕ) (ls : List (ℕ × List ℕ)) (reason : Reason) (names : List (List ℕ)) → filled_lines 1 (collect_lines bytes) ≡ ls
-      → parse_wish_text ls ≡ Err reason → names ≡ [] → IsAgainst has Clear bytes (record { reason = reason; names = names })
-  unfolding output_by names_of
+      → wish_lines_output ls ≡ Err reason → names ≡ [] → IsCommandRefusal has Clear bytes (record { reason = reason; names = names })
+  unfolding output_given_chance refusal_names
   against bytes ls reason names e h none = (by_lines bytes ls e ∙ h, none)
 
-  gives_text : (bytes text : List ℕ) → IsCleared bytes text → output_by has no_chance Clear bytes ≡ Ok (plain_text text)
-  unfolding output_by
+  gives_text : (bytes text : List ℕ) → IsCleared bytes text → output_given_chance has no_chance Clear bytes ≡ Ok (plain_text text)
+  unfolding output_given_chance
   gives_text bytes text c = by_lines bytes ((c.line, c.wishes) ∷ []) c.lines ∙ line_ends c.line c.wishes text (line_clears c.line c.wishes text c.cleared)
 
   -- ---- what is said against an input
@@ -61,11 +61,11 @@ module _ (has : List ℕ → Bool) where
   -- it has no line
   pub empty_stops : (more : Bool) (left : Option (List ℕ)) (n : ℕ) (s : At) (now : Desk) (fault : InputFault Refusal) → s ≡ fresh → more ≡ false
       → GivesLine more (desk left n s) now → fault ≡ Refused (record { reason = NotJson 1; names = [] })
-      → Stops (IsAgainst has Clear) (desk left n fresh) now fault
+      → Stops (IsCommandRefusal has Clear) (desk left n fresh) now fault
   empty_stops more left n s now fault first none given is =
       let old : Desk = desk left n fresh in
       let p : IsLast old now = last_run more old now none (subst (λ (x : At). GivesLine more (desk left n x) now) first given) in
-      let t : Tells (λ bytes. IsAgainst has Clear bytes (record { reason = NotJson 1; names = [] })) old now = record {
+      let t : Tells (λ bytes. IsCommandRefusal has Clear bytes (record { reason = NotJson 1; names = [] })) old now = record {
         bytes = p.bytes;
         stands = p.stands;
         can = λ rest can. can_come fresh (p.bytes ++ rest) refl;
@@ -74,12 +74,12 @@ module _ (has : List ℕ → Bool) where
             ∙ ap (λ (xs : List ℕ). filled_lines 1 (collect_lines xs)) (append-nil p.bytes) ∙ p.none in
             against (p.bytes ++ rest) [] (NotJson 1) [] e refl refl;
       } in
-      subst (λ (f : InputFault Refusal). Stops (IsAgainst has Clear) old now f) (sym is) t
+      subst (λ (f : InputFault Refusal). Stops (IsCommandRefusal has Clear) old now f) (sym is) t
 
   -- its first line is refused
   against_line : (left : Option (List ℕ)) (n : ℕ) (now : Desk) (fault : Fault Reason) → IsLine (desk left n fresh) now
       → Fails fault (cleared_line now.at.number now.at.text)
-      → Stops (IsAgainst has Clear) (desk left n fresh) now (named_fault [] (of_offer fault))
+      → Stops (IsCommandRefusal has Clear) (desk left n fresh) now (named_fault [] (of_offer fault))
   against_line left n now offer.NoMemory p fails = no_memory_after (desk left n fresh) now p.bytes p.stands
   against_line left n now (offer.Refused r) p fails = record {
     bytes = p.bytes;
@@ -92,7 +92,7 @@ module _ (has : List ℕ → Bool) where
 
   pub line_stops : (more : Bool) (left : Option (List ℕ)) (n : ℕ) (s : At) (now : Desk) (fault : Fault Reason) (line : ℕ) (text : List ℕ) → s ≡ fresh
       → more ≡ true → GivesLine more (desk left n s) now → line ≡ now.at.number → text ≡ now.at.text → Fails fault (cleared_line line text)
-      → Stops (IsAgainst has Clear) (desk left n fresh) now (named_fault [] (of_offer fault))
+      → Stops (IsCommandRefusal has Clear) (desk left n fresh) now (named_fault [] (of_offer fault))
   line_stops more left n s now fault line text first some given number same fails =
       let p : IsLine (desk left n fresh) now =
       line_of more (desk left n fresh) now some (subst (λ (x : At). GivesLine more (desk left n x) now) first given) in
@@ -102,9 +102,9 @@ module _ (has : List ℕ → Bool) where
   -- a further line is a bad one, after the first was cleared
   pub against_further : (left : Option (List ℕ)) (n : ℕ) (mid now : Desk) (text : List ℕ) → IsClearedLine mid.at.number mid.at.text text
       → IsLine (desk left n fresh) mid → (fault : InputFault Refusal) → Stops (IsFurther mid.at) mid now fault
-      → Stops (IsAgainst has Clear) (desk left n fresh) now fault
+      → Stops (IsCommandRefusal has Clear) (desk left n fresh) now fault
   against_further left n mid now text c p fault s =
-      stops_same (IsFurther mid.at) (IsAgainst has Clear) (desk left n fresh) mid now p.bytes p.stands refl
+      stops_same (IsFurther mid.at) (IsCommandRefusal has Clear) (desk left n fresh) mid now p.bytes p.stands refl
       (λ bytes r can f.
       against (p.bytes ++ bytes) ((mid.at.number, mid.at.text) ∷ ahead mid.at bytes) r.reason r.names (p.first bytes can)
       (further_fails mid.at.number mid.at.text text (ahead mid.at bytes) r.reason (line_clears mid.at.number mid.at.text text c) f.0) f.1)

@@ -1,4 +1,5 @@
--- What several swaps promise of what is shown of them: the laws of their run by the histories of the chains.
+-- What several swaps promise of what is shown of them: the laws of their run by the histories of
+-- the chains.
 use Rattle.std.proofs.Common.{◌≡◌, ◌<◌, ℕ, false, List, [], length, sym, ap, arith, subst}
 use Rattle.std.specs.List.{All}
 use Rattle.ledger_core.specs.Book.{Histories}
@@ -6,7 +7,7 @@ use Rattle.swap_job.specs.declared.job.Finish.{Finish}
 use Rattle.swap_job.specs.declared.job.Finish.TheVariants.{Stop, Fair}
 use Rattle.swap_rules.specs.Findings.{findings}
 use Rattle.swap_rules.specs.Outcome.{IsEnded}
-use Rattle.outcome_rules.specs.Report.{conforms_in, build_report}
+use Rattle.outcome_rules.specs.Report.{is_conforming_party, build_report}
 use Rattle.outcome_rules.specs.Promises.{AllAreConforming}
 use Rattle.swap_run.specs.Asked.{Answers, with_answers}
 use Rattle.swap_run.specs.Run.{Cast, State}
@@ -18,17 +19,17 @@ use Rattle.swap_many.specs.Chains.{Setup, book}
 use Rattle.swap_many.specs.Many.{Run, many_finish, many_start}
 use Rattle.swap_many.specs.Kept.{Kept, kept_finish, kept_run, kept_start}
 use Rattle.swap_many.specs.Laws.{CanCome, Follows, IsReady}
-use Rattle.swap_many.specs.Value.{UnitsArePlacedIn}
+use Rattle.swap_many.specs.Value.{AreUnitsPlaced}
 use Rattle.swap_many.proofs.Follow.{books_are_kept, runs_follow}
 use Rattle.swap_many.proofs.Finish.{many_finishes_end}
 use Rattle.swap_many.proofs.Units.{units_are_placed}
 use Rattle.swap_many.proofs.Dealt.{every_fair_swap_is_dealt}
-use Rattle.many_lines.specs.Places.{job_at}
-use Rattle.many_lines.specs.Setup.{setup_by}
+use Rattle.many_lines.specs.Places.{job_of_swap}
+use Rattle.many_lines.specs.Setup.{setup_with_answers}
 use Rattle.many_lines.specs.Whole.{AreSwaps}
 use Rattle.many_lines.specs.declared.many_job.ManyJob.{ManyJob}
-use Rattle.many_text.specs.ManyText.{swap_book, report_in}
-use Rattle.swap_commands.specs.Many.{ended_by, many_state, run_to}
+use Rattle.many_text.specs.ManyText.{swap_book, kept_report}
+use Rattle.swap_commands.specs.Many.{kept_after_finish, many_state, finished_run}
 use Rattle.swap_commands.specs.Promised.{AreManyPromised}
 use Rattle.swap_commands.proofs.Promises.{is_promised}
 
@@ -36,10 +37,10 @@ use Rattle.swap_commands.proofs.Promises.{is_promised}
 record Holds (m : Setup) (r : Run) (z : Kept) : Type 0 where
   pub follows : Follows m r z
   pub kept : (s : ℕ) → s < m.swaps → IsKept (m.cast s) (book m r.chains s)
-  pub units : UnitsArePlacedIn m r
+  pub units : AreUnitsPlaced m r
 
 module _ (m : Setup) (events : List ManyEvent) (ready : IsReady m) (can : All (CanCome m) events) where
-  all_holds : (finish : Finish) → Holds m (run_to finish m events) (ended_by finish m (kept_run m events))
+  all_holds : (finish : Finish) → Holds m (finished_run finish m events) (kept_after_finish finish m (kept_run m events))
   all_holds Stop = record {
     follows = (runs_follow m events ready can).0;
     kept = λ s l. books_are_kept m events s ready can l;
@@ -47,7 +48,7 @@ module _ (m : Setup) (events : List ManyEvent) (ready : IsReady m) (can : All (C
   }
   all_holds Fair = let f = many_finishes_end m events ready can in record { follows = f.follows; kept = f.kept; units = f.units }
 
-  all_ended : (finish : Finish) → finish ≡ Fair → (s : ℕ) → s < m.swaps → IsEnded (m.cast s).deal (book m (run_to finish m events).chains s)
+  all_ended : (finish : Finish) → finish ≡ Fair → (s : ℕ) → s < m.swaps → IsEnded (m.cast s).deal (book m (finished_run finish m events).chains s)
   all_ended Stop e = absurd (cc e)
   all_ended Fair e = (many_finishes_end m events ready can).ended
 
@@ -59,43 +60,43 @@ without_answers : (c : Cast) (g : Answers) (b : Histories) → IsKept (with_answ
 without_answers c g b k = record { legal = k.legal; conducted = k.conducted }
 
 module _ (many : ManyJob) (g : ℕ → Answers) (places : List (List Place)) (events : List ManyEvent) (swaps : AreSwaps many)
-    (ready : IsReady (setup_by g many places)) (can : All (CanCome (setup_by g many places)) events) (finish : Finish) where
-  pub are_promised : AreManyPromised many (setup_by g many places) (run_to finish (setup_by g many places) events) (many_state g many places finish events)
+    (ready : IsReady (setup_with_answers g many places)) (can : All (CanCome (setup_with_answers g many places)) events) (finish : Finish) where
+  pub are_promised : AreManyPromised many (setup_with_answers g many places) (finished_run finish (setup_with_answers g many places) events) (many_state g many places finish events)
   are_promised =
-      let m : Setup = setup_by g many places in
-      let r : Run = run_to finish m events in
+      let m : Setup = setup_with_answers g many places in
+      let r : Run = finished_run finish m events in
       let z : Kept = many_state g many places finish events in
       let h : Holds m r z = all_holds m events ready can finish in
       record {
         follows = h.follows;
         swaps = λ s l.
-            let job = job_at many.jobs s in
+            let job = job_of_swap many.jobs s in
             is_promised (λ name. false) job (swap_book z s) (swaps.swaps s l).accepted
             (subst (λ (b : Histories). IsKept (job_cast job) b) (book_is m r z s h.follows l)
             (without_answers (job_cast job) (g s) (book m r.chains s) (h.kept s l)));
         units = h.units;
       }
 
-  pub are_ended : finish ≡ Fair → (s : ℕ) → s < length many.jobs → IsEnded (job_at many.jobs s).deal (swap_book (many_state g many places finish events) s)
+  pub are_ended : finish ≡ Fair → (s : ℕ) → s < length many.jobs → IsEnded (job_of_swap many.jobs s).deal (swap_book (many_state g many places finish events) s)
   are_ended fair s l =
-      let m : Setup = setup_by g many places in
-      subst (λ (b : Histories). IsEnded (job_at many.jobs s).deal b)
-      (book_is m (run_to finish m events) (many_state g many places finish events) s (all_holds m events ready can finish).follows l)
+      let m : Setup = setup_with_answers g many places in
+      subst (λ (b : Histories). IsEnded (job_of_swap many.jobs s).deal b)
+      (book_is m (finished_run finish m events) (many_state g many places finish events) s (all_holds m events ready can finish).follows l)
       (all_ended m events ready can finish fair s l)
 
   -- a swap whose parties all conform, where the finish is fair and no event came before it
-  fair_dealt : (s : ℕ) → s < length many.jobs → AllAreConforming (job_at many.jobs s).deal (job_at many.jobs s).conforming
-      → (report_in (many_state g many places Fair []) s (job_at many.jobs s)).findings ≡ []
+  fair_dealt : (s : ℕ) → s < length many.jobs → AllAreConforming (job_of_swap many.jobs s).deal (job_of_swap many.jobs s).conforming
+      → (kept_report (many_state g many places Fair []) s (job_of_swap many.jobs s)).findings ≡ []
   unfolding build_report
   fair_dealt s l all =
-      let m : Setup = setup_by g many places in
-      let job = job_at many.jobs s in
+      let m : Setup = setup_with_answers g many places in
+      let job = job_of_swap many.jobs s in
       let f = many_finishes_end m [] ready (λ i x low. absurd (omega (arith, low))) in
-      subst (λ (b : Histories). findings job.deal (conforms_in job.conforming) b ≡ [])
+      subst (λ (b : Histories). findings job.deal (is_conforming_party job.conforming) b ≡ [])
       (book_is m (many_finish m (many_start m)) (kept_finish m (kept_start m)) s f.follows l) (every_fair_swap_is_dealt m s ready l all).nothing
 
-  pub are_fair : finish ≡ Fair → events ≡ [] → (s : ℕ) → s < length many.jobs → AllAreConforming (job_at many.jobs s).deal (job_at many.jobs s).conforming
-      → (report_in (many_state g many places finish events) s (job_at many.jobs s)).findings ≡ []
+  pub are_fair : finish ≡ Fair → events ≡ [] → (s : ℕ) → s < length many.jobs → AllAreConforming (job_of_swap many.jobs s).deal (job_of_swap many.jobs s).conforming
+      → (kept_report (many_state g many places finish events) s (job_of_swap many.jobs s)).findings ≡ []
   are_fair fair none s l all =
-      subst (λ (x : Finish × List ManyEvent). (report_in (many_state g many places x.0 x.1) s (job_at many.jobs s)).findings ≡ [])
+      subst (λ (x : Finish × List ManyEvent). (kept_report (many_state g many places x.0 x.1) s (job_of_swap many.jobs s)).findings ≡ [])
       (λ i. (sym fair i, sym none i)) (fair_dealt s l all)

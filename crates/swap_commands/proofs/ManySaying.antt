@@ -18,15 +18,15 @@ use Rattle.swap_many.specs.declared.many_event.ManyEvent.{ManyEvent}
 use Rattle.swap_many.specs.declared.place.Place.{Place}
 use Rattle.swap_many.proofs.Gone.{gone_then}
 use Rattle.many_lines.specs.Heading.{HeadingState, finish_told}
-use Rattle.many_lines.specs.Places.{job_at}
+use Rattle.many_lines.specs.Places.{job_of_swap}
 use Rattle.many_lines.specs.Whole.{AreSwaps}
 use Rattle.many_lines.specs.declared.many_job.ManyJob.{ManyJob}
 use Rattle.command_input.specs.Input.{At, CanBeLeft, Desk, Ends, Stops, ahead, desk, fresh}
-use Rattle.swap_commands.specs.Many.{Headed, ended_by, events_told, headed, many_of_lines, many_output, many_state, many_written, opened_places}
-use Rattle.swap_commands.specs.ManyRead.{AreRun, IsHeading, IsManyPlayed, new_worlds, opened_after}
-use Rattle.swap_commands.specs.Output.{AreGiven, by_many, by_reason, names_of, names_told, output_by}
+use Rattle.swap_commands.specs.Many.{Headed, kept_after_finish, events_told, headed, many_of_lines, many_output, many_state, many_written, opened_places}
+use Rattle.swap_commands.specs.ManyRead.{AreRun, IsHeading, IsManyPlayed, new_worlds, places_after_events}
+use Rattle.swap_commands.specs.Output.{AreGiven, by_many, by_reason, refusal_names, names_told, output_given_chance}
 use Rattle.swap_commands.specs.Promised.{IsManyRun}
-use Rattle.swap_commands.specs.Says.{IsAgainst, Says}
+use Rattle.swap_commands.specs.Says.{IsCommandRefusal, Says}
 use Rattle.command_input.specs.declared.fault.InputFault.{InputFault}
 use Rattle.command_input.specs.declared.status.Status.{Status}
 use Rattle.command_input.specs.Streams.{streams}
@@ -55,7 +55,7 @@ module _ (has : List ℕ → Bool) where
   by_heading g bytes r e = ap (λ (x : Result Headed Refusal). x >>= rest_of g) e
 
   -- a refusal of what was read after the heading
-  rest_fails : (g : ℕ → Answers) (h : Headed) (r : Refusal) → opened_after h.many h.lines ≡ Err r → rest_of g h ≡ Err r
+  rest_fails : (g : ℕ → Answers) (h : Headed) (r : Refusal) → places_after_events h.many h.lines ≡ Err r → rest_of g h ≡ Err r
   rest_fails g h r e = go (events_told h.many 0 h.lines) e
     where
       last : (events : List ManyEvent) (x : Result (List (List Place)) Refusal) → x ≡ Err r
@@ -105,32 +105,32 @@ module _ (has : List ℕ → Bool) where
 
   -- What is said against an input.
 
-  against_many : (bytes : List ℕ) (r : Refusal) → many_output has none bytes ≡ Err r → IsAgainst has Many bytes r
-  unfolding output_by names_of
+  against_many : (bytes : List ℕ) (r : Refusal) → many_output has none bytes ≡ Err r → IsCommandRefusal has Many bytes r
+  unfolding output_given_chance refusal_names
   against_many bytes r e = (ap by_reason e, sym (ap names_told e))
 
-  against_heading : (bytes : List ℕ) (r : Refusal) → headed has (ahead fresh bytes) ≡ Err r → IsAgainst has Many bytes r
+  against_heading : (bytes : List ℕ) (r : Refusal) → headed has (ahead fresh bytes) ≡ Err r → IsCommandRefusal has Many bytes r
   against_heading bytes r e = against_many bytes r (by_heading none bytes (Err r) e)
 
   pub heading_stops : (left : Option (List ℕ)) (n : ℕ) (t : Desk) (fault : InputFault Refusal)
-      → Stops (λ bytes r. headed has (ahead fresh bytes) ≡ Err r) (desk left n fresh) t fault → Stops (IsAgainst has Many) (desk left n fresh) t fault
+      → Stops (λ bytes r. headed has (ahead fresh bytes) ≡ Err r) (desk left n fresh) t fault → Stops (IsCommandRefusal has Many) (desk left n fresh) t fault
   heading_stops left n t fault k =
-      stops_as (λ bytes r. headed has (ahead fresh bytes) ≡ Err r) (IsAgainst has Many) against_heading (desk left n fresh) t fault k
+      stops_as (λ bytes r. headed has (ahead fresh bytes) ≡ Err r) (IsCommandRefusal has Many) against_heading (desk left n fresh) t fault k
 
   -- after the lines before the events
   module _ (left : Option (List ℕ)) (n : ℕ) (mid now : Desk) (h : HeadingState) (p : IsHeading has h (desk left n fresh) mid) where
     -- what is said after them is said against the input
-    events_against : (bytes : List ℕ) (r : Refusal) → CanBeLeft mid.at bytes → opened_after h.many (ahead mid.at bytes) ≡ Err r
-        → IsAgainst has Many (p.bytes ++ bytes) r
+    events_against : (bytes : List ℕ) (r : Refusal) → CanBeLeft mid.at bytes → places_after_events h.many (ahead mid.at bytes) ≡ Err r
+        → IsCommandRefusal has Many (p.bytes ++ bytes) r
     events_against bytes r can fails =
         let head : Headed = record { many = h.many; finish = p.finish; lines = ahead mid.at bytes } in
         against_many (p.bytes ++ bytes) r (by_heading none (p.bytes ++ bytes) (Ok head) (p.first bytes can) ∙ rest_fails none head r fails)
 
     pub events_stop : (many : ManyJob) (fault : InputFault Refusal) → many ≡ h.many
-        → Stops (λ bytes r. opened_after many (ahead mid.at bytes) ≡ Err r) mid now fault → Stops (IsAgainst has Many) (desk left n fresh) now fault
+        → Stops (λ bytes r. places_after_events many (ahead mid.at bytes) ≡ Err r) mid now fault → Stops (IsCommandRefusal has Many) (desk left n fresh) now fault
     events_stop many fault same s =
-        stops_same (λ bytes r. opened_after h.many (ahead mid.at bytes) ≡ Err r) (IsAgainst has Many) (desk left n fresh) mid now p.bytes p.stands refl
-        events_against fault (subst (λ (j : ManyJob). Stops (λ bytes r. opened_after j (ahead mid.at bytes) ≡ Err r) mid now fault) same s)
+        stops_same (λ bytes r. places_after_events h.many (ahead mid.at bytes) ≡ Err r) (IsCommandRefusal has Many) (desk left n fresh) mid now p.bytes p.stands refl
+        events_against fault (subst (λ (j : ManyJob). Stops (λ bytes r. places_after_events j (ahead mid.at bytes) ≡ Err r) mid now fault) same s)
 
     finish_is : (finish : Finish) → finish_told h.stage ≡ Some finish → finish ≡ p.finish
     finish_is finish e = let same : ◌≡◌ {A = Option Finish} (Some finish) (Some p.finish) = sym e ∙ ap finish_told p.stage in cc same
@@ -166,15 +166,15 @@ module _ (has : List ℕ → Bool) where
   -- What the command says whose input was read whole.
 
   module _ (gives : MayGive) (bytes : List ℕ) (many : ManyJob) (finish : Finish) (w last : ManyState) (k : IsManyPlayed has gives bytes many finish w)
-      (gone : HasManyGone gives (ended_by finish) w last) where
+      (gone : HasManyGone gives (kept_after_finish finish) w last) where
     -- the answers are those that were given
     abbrev g : ℕ → Answers
     g = λ s. world_answers (nth_world last s)
 
-    whole_way : HasManyGone gives (λ m z. ended_by finish m (fold (kept_step m) z k.events)) (new_worlds many k.begun.places) last
+    whole_way : HasManyGone gives (λ m z. kept_after_finish finish m (fold (kept_step m) z k.events)) (new_worlds many k.begun.places) last
     whole_way =
-        subst (λ (new : ManyState). HasManyGone gives (λ m z. ended_by finish m (fold (kept_step m) z k.events)) new last) k.begun.new
-        (gone_then gives (λ m z. fold (kept_step m) z k.events) (ended_by finish) k.new w last k.gone gone)
+        subst (λ (new : ManyState). HasManyGone gives (λ m z. kept_after_finish finish m (fold (kept_step m) z k.events)) new last) k.begun.new
+        (gone_then gives (λ m z. fold (kept_step m) z k.events) (kept_after_finish finish) k.new w last k.gone gone)
 
     pub last_same : AreSame gives (new_worlds many k.begun.places) last
     last_same = whole_way.same
@@ -182,12 +182,12 @@ module _ (has : List ℕ → Bool) where
     state_is : kept_state last ≡ many_state g many k.begun.places finish k.events
     state_is =
         whole_way.kept g (λ s l i lt. refl)
-        ∙ ap₂ (λ (m : Setup) (z : Kept). ended_by finish m (fold (kept_step m) z k.events)) (new_are_of many k.begun.places g)
+        ∙ ap₂ (λ (m : Setup) (z : Kept). kept_after_finish finish m (fold (kept_step m) z k.events)) (new_are_of many k.begun.places g)
         (kept_before many k.begun.places g k.begun.openable)
 
-    all_given : (s : ℕ) → AreGiven gives (job_at many.jobs s).deal (g s) ((many_state g many k.begun.places finish k.events).swaps s).asked
+    all_given : (s : ℕ) → AreGiven gives (job_of_swap many.jobs s).deal (g s) ((many_state g many k.begun.places finish k.events).swaps s).asked
     all_given s =
-        let job = job_at many.jobs s in
+        let job = job_of_swap many.jobs s in
         let all : HasAsked gives (new_world job) (nth_world last s) =
         subst (λ (v : WorldState). HasAsked gives v (nth_world last s)) (new_at many.jobs s) (whole_way.same.asked s) in
         subst (λ (z : Kept). AreGiven gives job.deal (g s) (z.swaps s).asked) state_is
@@ -211,8 +211,8 @@ module _ (has : List ℕ → Bool) where
           fair = are_fair many g places k.events swaps (k.begun.ready g) can finish;
         }
 
-    pub many_made : output_by has (by_many g) Many bytes ≡ Ok (many_written many (kept_state last))
-    unfolding output_by
+    pub many_made : output_given_chance has (by_many g) Many bytes ≡ Ok (many_written many (kept_state last))
+    unfolding output_given_chance
     many_made =
         ap by_reason
         (gives_many g bytes (record { many = many; finish = finish; lines = k.lines }) k.events k.begun.places k.is_headed k.are_told k.begun.are_placed
@@ -221,7 +221,7 @@ module _ (has : List ℕ → Bool) where
   pub says_many : (gives : MayGive) (left left' : Option (List ℕ)) (n m : ℕ) (taken taken' : Option (List ℕ)) (p q : ℕ) (now : At) (many : ManyJob)
       (finish : Finish) (w last : ManyState) (status : Status)
       (e : Ends (λ bytes. IsManyPlayed has gives bytes many finish w) (desk left n fresh) (desk left' m now))
-      → AreSwaps many → HasManyGone gives (ended_by finish) w last → Writes taken taken' p q (many_written many (kept_state last)) status
+      → AreSwaps many → HasManyGone gives (kept_after_finish finish) w last → Writes taken taken' p q (many_written many (kept_state last)) status
       → Says (strategies has gives) Many (streams left n taken p) (streams left' m taken' q) status
   says_many gives left left' n m taken taken' p q now many finish w last status e swaps gone wrote =
       says_written has gives (by_many (λ s. world_answers (nth_world last s))) Many left left' n m taken taken' p q (many_written many (kept_state last))

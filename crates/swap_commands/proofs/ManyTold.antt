@@ -1,4 +1,5 @@
--- The lines of several swaps tell their chains, their swaps and their events, one line after another.
+-- The lines of several swaps tell their chains, their swaps and their events, one line after
+-- another.
 use Rattle.std.proofs.Common.{◌≡◌, ℕ, ◌+◌, Bool, true, false, List, [], ◌∷◌, ◌++◌, is_some, Result, Ok, Err, refl, sym}
 use Rattle.std.proofs.Common.{ap, ◌∙◌, subst, append_assoc, append-nil, fold, if◌then◌else◌}
 use Rattle.std.specs.List.{All}
@@ -17,7 +18,7 @@ use Rattle.swap_many.specs.Value.{ManyState, kept_state, made_setup}
 use Rattle.swap_many.specs.declared.many_event.ManyEvent.{ManyEvent}
 use Rattle.swap_many.proofs.Gone.{begun, gone_as, gone_then}
 use Rattle.many_lines.specs.Event.{next_told}
-use Rattle.many_lines.specs.Heading.{HeadingState, finish_at, finish_told, line_taken, unread}
+use Rattle.many_lines.specs.Heading.{HeadingState, stage_finish, finish_told, line_taken, unread}
 use Rattle.many_lines.specs.Setup.{MayCome}
 use Rattle.many_lines.specs.declared.many_job.ManyJob.{ManyJob}
 use Rattle.many_lines.specs.declared.stage.Stage.{Stage}
@@ -25,8 +26,8 @@ use Rattle.many_lines.specs.declared.stage.Stage.TheVariants.{First, Words, Head
 use Rattle.command_input.specs.declared.fault.InputFault.{InputFault}
 use Rattle.command_input.specs.declared.fault.InputFault.TheVariants.{Refused}
 use Rattle.command_input.specs.Input.{At, Desk, Ends, Fits, IsLast, IsLine, Stops, Tells, ahead}
-use Rattle.swap_commands.specs.Many.{Headed, events_told, headed, headed_on, left_with, opened_places}
-use Rattle.swap_commands.specs.ManyRead.{HasReplayed, HasStepped, IsHeading, IsReplayed, TellEvents, opened_after}
+use Rattle.swap_commands.specs.Many.{Headed, events_told, headed, headed_lines, finished_heading, opened_places}
+use Rattle.swap_commands.specs.ManyRead.{HasReplayed, HasStepped, IsHeading, IsReplayed, TellEvents, places_after_events}
 use Rattle.command_input.specs.Faults.{of_offer}
 use Rattle.command_input.proofs.Streams.{IsStepAt, Led, led_none, led_on_at, led_to_end, led_to_fault_at, led_to_last, stops_as}
 
@@ -44,18 +45,18 @@ fails_with {A} {B} {E} r f e is = ap (λ (x : Result A E). x >>= f) is
 module _ (has : List ℕ → Bool) where
   -- what the lines say from the next one on, however many came before
   abbrev pub heading_walk : ℕ → HeadingState → List (ℕ × List ℕ) → Result Headed Refusal
-  heading_walk n h ls = headed_on has h ls
+  heading_walk n h ls = headed_lines has h ls
 
   abbrev pub heading_next : ℕ → HeadingState → ℕ → List ℕ → Result HeadingState Refusal
   heading_next n h number text = line_taken has h number text
 
   pub heading_step : (n : ℕ) (h : HeadingState) → is_some (finish_told h.stage) ≡ false → IsStepAt heading_walk heading_next n h
   heading_step n h not_over number text rest =
-      ap (λ (b : Bool). if b then left_with h ((number, text) ∷ rest) else (line_taken has h number text >>= λ t. headed_on has t rest)) not_over
+      ap (λ (b : Bool). if b then finished_heading h ((number, text) ∷ rest) else (line_taken has h number text >>= λ t. headed_lines has t rest)) not_over
 
   -- after the line of the finish
   over_at : (many : ManyJob) (finish : Finish) (ls : List (ℕ × List ℕ))
-      → headed_on has (record { many = many; stage = Over finish }) ls ≡ Ok (record { many = many; finish = finish; lines = ls })
+      → headed_lines has (record { many = many; stage = Over finish }) ls ≡ Ok (record { many = many; finish = finish; lines = ls })
   over_at many finish [] = refl
   over_at many finish (l ∷ ls) = refl
 
@@ -75,12 +76,12 @@ module _ (has : List ℕ → Bool) where
         finish = f.0;
         stage = f.1;
         first = λ rest can.
-            p.leads rest can ∙ (ap (λ (s : Stage). headed_on has (record { many = h.many; stage = s }) (ahead now.at rest)) f.1
+            p.leads rest can ∙ (ap (λ (s : Stage). headed_lines has (record { many = h.many; stage = s }) (ahead now.at rest)) f.1
             ∙ over_at h.many f.0 (ahead now.at rest));
       }
 
   -- the input ends before the line of the finish
-  cut_at : (stage : Stage) → is_some (finish_told stage) ≡ false → finish_at stage ≡ Err (refusal [] CutShort)
+  cut_at : (stage : Stage) → is_some (finish_told stage) ≡ false → stage_finish stage ≡ Err (refusal [] CutShort)
   cut_at First e = refl
   cut_at Words e = refl
   cut_at (Header before chains) e = refl
@@ -91,7 +92,7 @@ module _ (has : List ℕ → Bool) where
       → Stops (λ bytes r. headed has (ahead first.at bytes) ≡ Err r) first t fault
   heading_cut first s t count h fault is not_over p q =
       let P : Result Headed Refusal → Type 0 = λ r. r ≡ Err (refusal [] CutShort) in
-      let says : P (left_with h []) = fails_with (finish_at h.stage) (λ f. Ok (record { many = h.many; finish = f; lines = [] })) (refusal [] CutShort)
+      let says : P (finished_heading h []) = fails_with (stage_finish h.stage) (λ f. Ok (record { many = h.many; finish = f; lines = [] })) (refusal [] CutShort)
       (cut_at h.stage not_over) in
       subst (λ (f : InputFault Refusal). Stops (λ bytes r. headed has (ahead first.at bytes) ≡ Err r) first t f) (sym is)
       (led_to_last heading_walk first unread P s t count h says p q)
@@ -245,15 +246,15 @@ all_told many first s t count on q =
 
 -- What is said of accounts, after what is said of every line.
 
-pub after_events : (many : ManyJob) (ls : List (ℕ × List ℕ)) (r : Refusal) → events_told many 0 ls ≡ Err r → opened_after many ls ≡ Err r
+pub after_events : (many : ManyJob) (ls : List (ℕ × List ℕ)) (r : Refusal) → events_told many 0 ls ≡ Err r → places_after_events many ls ≡ Err r
 after_events many ls r e = fails_with (events_told many 0 ls) (λ events. opened_places many) r e
 
 after_told : (many : ManyJob) (ls : List (ℕ × List ℕ)) (events : List ManyEvent) (r : Refusal) → events_told many 0 ls ≡ Ok events → opened_places many ≡ Err r
-    → opened_after many ls ≡ Err r
+    → places_after_events many ls ≡ Err r
 after_told many ls events r e f = ap (λ (x : Result (List ManyEvent) Refusal). x >>= λ es. opened_places many) e ∙ f
 
 pub refused_after : (many : ManyJob) (s t : Desk) (r : Refusal) → opened_places many ≡ Err r → Tells (TellEvents many s.at) s t
-    → Tells (λ bytes. opened_after many (ahead s.at bytes) ≡ Err r) s t
+    → Tells (λ bytes. places_after_events many (ahead s.at bytes) ≡ Err r) s t
 refused_after many s t r refused k = record {
   bytes = k.bytes;
   stands = k.stands;
@@ -263,7 +264,7 @@ refused_after many s t r refused k = record {
 }
 
 pub stops_after : (many : ManyJob) (s t : Desk) (fault : InputFault Refusal)
-    → Stops (λ bytes r. events_told many 0 (ahead s.at bytes) ≡ Err r) s t fault → Stops (λ bytes r. opened_after many (ahead s.at bytes) ≡ Err r) s t fault
+    → Stops (λ bytes r. events_told many 0 (ahead s.at bytes) ≡ Err r) s t fault → Stops (λ bytes r. places_after_events many (ahead s.at bytes) ≡ Err r) s t fault
 stops_after many s t fault k =
-    stops_as (λ bytes r. events_told many 0 (ahead s.at bytes) ≡ Err r) (λ bytes r. opened_after many (ahead s.at bytes) ≡ Err r)
+    stops_as (λ bytes r. events_told many 0 (ahead s.at bytes) ≡ Err r) (λ bytes r. places_after_events many (ahead s.at bytes) ≡ Err r)
     (λ bytes r e. after_events many (ahead s.at bytes) r e) s t fault k

@@ -1,4 +1,5 @@
--- The worlds of several swaps before any event and after some: whose they are, and that all is ready.
+-- The worlds of several swaps before any event and after some: whose they are, and that all is
+-- ready.
 use Rattle.std.proofs.Common.{◌≡◌, ◌<◌, ◌≤◌, ℕ, zero, suc, ◌+◌, Bool, true, false, cond, List, [], ◌∷◌, ◌++◌, length, map, take, drop, refl}
 use Rattle.std.proofs.Common.{sym, ap, ◌∙◌, subst, Result, Ok, Err, Option, Some, None, slice_index_or, nat_lt, arith}
 use Rattle.std.specs.List.{All, range_with_len}
@@ -7,7 +8,7 @@ use Rattle.std.proofs.lemmas.List.Elements.{All-weaker}
 use Rattle.swap_base.specs.Fault.{◌>>=◌, Fails}
 use Rattle.swap_base.specs.declared.fault.Fault.{Fault}
 use Rattle.swap_base.specs.declared.fault.Fault.TheVariants as offer
-use Rattle.swap_base.specs.Lists.{IsIn}
+use Rattle.swap_base.specs.Lists.{IsElement}
 use Rattle.swap_base.proofs.Lists.{first_at, from_range, in_from_moment}
 use Rattle.refusals.specs.declared.refusal.Refusal.{Refusal}
 use Rattle.swap_job.specs.declared.job.Job.{Job}
@@ -28,7 +29,7 @@ use Rattle.swap_many.specs.declared.place.Place.{Place}
 use Rattle.swap_many.specs.Chains.{Setup, opening, set_aside}
 use Rattle.swap_many.specs.Kept.{kept_start}
 use Rattle.swap_many.specs.Laws.{CanCome, IsReady}
-use Rattle.swap_many.specs.Opened.{lack_of, lack_on, overdrawn}
+use Rattle.swap_many.specs.Opened.{account_lack, chain_lack, overdrawn}
 use Rattle.swap_many.specs.Opening.{AreOpenable, opened, setup_of_worlds}
 use Rattle.swap_many.specs.Ticking.{nth}
 use Rattle.swap_many.specs.Value.{AreAllHeld, AreSame, ManyState, kept_state, world_setup, nth_world}
@@ -38,13 +39,13 @@ use Rattle.swap_many.proofs.Opened.{no_lack_is_covered}
 use Rattle.swap_many.proofs.Starting.{kept_is}
 use Rattle.swap_many.proofs.Values.{same_setup}
 use Rattle.many_lines.specs.Heading.{unread}
-use Rattle.many_lines.specs.Places.{job_at, no_job, find_places}
-use Rattle.many_lines.specs.Setup.{MayCome, setup_by}
+use Rattle.many_lines.specs.Places.{job_of_swap, no_job, find_places}
+use Rattle.many_lines.specs.Setup.{MayCome, setup_with_answers}
 use Rattle.many_lines.specs.Whole.{AreChains, ArePlaced, AreSwaps, HoldsEverySwap, IsSwap}
 use Rattle.many_lines.specs.declared.many_job.ManyJob.{ManyJob}
 use Rattle.many_text.specs.Shown.{AreChainsShown, AreShown}
 use Rattle.swap_commands.specs.Many.{opened_places, unless_lacking}
-use Rattle.swap_commands.specs.ManyRead.{AreWorldsOf, IsLack, IsOpened, new_worlds}
+use Rattle.swap_commands.specs.ManyRead.{AreSwapWorlds, IsLack, IsOpened, new_worlds}
 use Rattle.swap_commands.proofs.Acting.{have_roles}
 use Rattle.swap_commands.proofs.Raced.{have_seeds}
 use Rattle.swap_commands.proofs.Replays.{held, wallets_fit}
@@ -52,12 +53,12 @@ use Rattle.swap_commands.proofs.Replays.{held, wallets_fit}
 -- Whose worlds they are.
 
 -- the world of swap s before any event
-pub new_at : (jobs : List Job) (s : ℕ) → nth (map new_world jobs) s ≡ new_world (job_at jobs s)
+pub new_at : (jobs : List Job) (s : ℕ) → nth (map new_world jobs) s ≡ new_world (job_of_swap jobs s)
 new_at [] s = refl
 new_at (job ∷ jobs) zero = refl
 new_at (job ∷ jobs) (suc s) = new_at jobs s
 
-pub new_are_of : (many : ManyJob) (places : List (List Place)) → AreWorldsOf many (new_worlds many places)
+pub new_are_of : (many : ManyJob) (places : List (List Place)) → AreSwapWorlds many (new_worlds many places)
 new_are_of many places g = λ j. record {
   swaps = length-map many.jobs new_world j;
   cast = λ s. with_answers (world_cast (new_at many.jobs s j)) (g s);
@@ -65,23 +66,23 @@ new_are_of many places g = λ j. record {
   chains = many.units;
 }
 
-pub still_of : (gives : MayGive) (many : ManyJob) (old new : ManyState) → AreSame gives old new → AreWorldsOf many old → AreWorldsOf many new
+pub still_of : (gives : MayGive) (many : ManyJob) (old new : ManyState) → AreSame gives old new → AreSwapWorlds many old → AreSwapWorlds many new
 still_of gives many old new k of g =
-    same_setup gives old new g k ∙ (of g ∙ sym (ap (λ (ps : List (List Place)). setup_by g many ps) k.places))
+    same_setup gives old new g k ∙ (of g ∙ sym (ap (λ (ps : List (List Place)). setup_with_answers g many ps) k.places))
 
 -- what may come of the swaps can come in their worlds
-pub can_of : (many : ManyJob) (w : ManyState) (e : ManyEvent) → AreWorldsOf many w → MayCome many e → CanCome (world_setup w) e
+pub can_of : (many : ManyJob) (w : ManyState) (e : ManyEvent) → AreSwapWorlds many w → MayCome many e → CanCome (world_setup w) e
 can_of many w e of may = subst (λ (m : Setup). CanCome m e) (sym (of (λ s k. None))) (may (λ s k. None) w.places)
 
 pub all_can : (many : ManyJob) (g : ℕ → Answers) (places : List (List Place)) (events : List ManyEvent) → All (MayCome many) events
-    → All (CanCome (setup_by g many places)) events
-all_can many g places events may = All-weaker (MayCome many) (CanCome (setup_by g many places)) (λ e m. m g places) events may
+    → All (CanCome (setup_with_answers g many places)) events
+all_can many g places events may = All-weaker (MayCome many) (CanCome (setup_with_answers g many places)) (λ e m. m g places) events may
 
 -- the strategies of each swap are held in its world
 pub all_held : (has : List ℕ → Bool) (many : ManyJob) (places : List (List Place)) → HoldsEverySwap has many → AreAllHeld has (new_worlds many places)
 all_held has many places holds s l =
     subst (λ (w : WorldState). AreHeld has w.roles) (sym (new_at many.jobs s))
-    (held has (job_at many.jobs s).roles (holds s (subst (λ n. s < n) (length-map many.jobs new_world) l)))
+    (held has (job_of_swap many.jobs s).roles (holds s (subst (λ n. s < n) (length-map many.jobs new_world) l)))
 
 -- All is ready.
 
@@ -94,14 +95,14 @@ ready_with : (c : Cast) (g : Answers) → IsReadyCast c → IsReadyCast (with_an
 ready_with c g k = record { accepted = k.accepted; one_each = k.one_each; roles = k.roles; wallets = k.wallets; scripts = k.scripts }
 
 pub all_is_ready : (many : ManyJob) (places : List (List Place)) → AreSwaps many → ArePlaced many places
-    → overdrawn (setup_by (λ s k. None) many places) ≡ None → (g : ℕ → Answers) → IsReady (setup_by g many places)
+    → overdrawn (setup_with_answers (λ s k. None) many places) ≡ None → (g : ℕ → Answers) → IsReady (setup_with_answers g many places)
 all_is_ready many places swaps placed none g = record {
-  casts = λ s l. ready_with (job_cast (job_at many.jobs s)) (g s)
-      (cast_is_ready (length many.names) (job_at many.jobs s) (slice_index_or many.chains s []) (swaps.swaps s l));
+  casts = λ s l. ready_with (job_cast (job_of_swap many.jobs s)) (g s)
+      (cast_is_ready (length many.names) (job_of_swap many.jobs s) (slice_index_or many.chains s []) (swaps.swaps s l));
   chain = λ s a l k. (placed.known s a l k).chain;
   from = λ s a l k. (placed.known s a l k).from;
   to = λ s a l k. (placed.known s a l k).to;
-  covered = no_lack_is_covered (setup_by g many places) (record {
+  covered = no_lack_is_covered (setup_with_answers g many places) (record {
     chain = λ s a l k. (placed.known s a l k).chain;
     from = λ s a l k. (placed.known s a l k).from;
   }) none;
@@ -109,7 +110,7 @@ all_is_ready many places swaps placed none g = record {
 
 -- what is kept before any event
 pub kept_before : (many : ManyJob) (places : List (List Place)) (g : ℕ → Answers) → AreOpenable many.units (map new_world many.jobs) places
-    → kept_state (new_worlds many places) ≡ kept_start (setup_by g many places)
+    → kept_state (new_worlds many places) ≡ kept_start (setup_with_answers g many places)
 kept_before many places g opening_deadline =
     kept_is many.units (map new_world many.jobs) places opening_deadline g ∙ ap (λ (m : Setup). kept_start m) (new_are_of many places g)
 
@@ -117,28 +118,28 @@ kept_before many places g opening_deadline =
 
 -- what is set aside doesn't hang on what strategies answer
 lacks_as : (many : ManyJob) (places : List (List Place))
-    → overdrawn (setup_of_worlds (map new_world many.jobs) places many.units) ≡ overdrawn (setup_by (λ s k. None) many places)
+    → overdrawn (setup_of_worlds (map new_world many.jobs) places many.units) ≡ overdrawn (setup_with_answers (λ s k. None) many places)
 lacks_as many places = ap overdrawn (new_are_of many places (λ s k. None))
 
 opened_by : (many : ManyJob) (places : List (List Place)) (lack : Option Overdrawn) → find_places many ≡ Ok places
-    → overdrawn (setup_by (λ s k. None) many places) ≡ lack → opened_places many ≡ unless_lacking many lack places
+    → overdrawn (setup_with_answers (λ s k. None) many places) ≡ lack → opened_places many ≡ unless_lacking many lack places
 unfolding opened_places
 opened_by many places lack e none =
-    ap (λ (r : Result (List (List Place)) Refusal). r >>= λ ps. unless_lacking many (overdrawn (setup_by (λ s k. None) many ps)) ps) e
+    ap (λ (r : Result (List (List Place)) Refusal). r >>= λ ps. unless_lacking many (overdrawn (setup_with_answers (λ s k. None) many ps)) ps) e
     ∙ ap (λ (o : Option Overdrawn). unless_lacking many o places) none
 
 -- no account has a place there
 pub places_fail : (many : ManyJob) (refusal : Refusal) → find_places many ≡ Err refusal → opened_places many ≡ Err refusal
 unfolding opened_places
 places_fail many refusal e =
-    ap (λ (r : Result (List (List Place)) Refusal). r >>= λ ps. unless_lacking many (overdrawn (setup_by (λ s k. None) many ps)) ps) e
+    ap (λ (r : Result (List (List Place)) Refusal). r >>= λ ps. unless_lacking many (overdrawn (setup_with_answers (λ s k. None) many ps)) ps) e
 
 pub are_opened : (many : ManyJob) (places : List (List Place)) (w : ManyState) → AreSwaps many → ArePlaced many places → find_places many ≡ Ok places
     → AreOpenable many.units (map new_world many.jobs) places
     → opened many.units (map new_world many.jobs) places ≡ Ok w → IsOpened many w
 are_opened many places w swaps placed e opening_deadline made =
     let k = was_opened (overdrawn (setup_of_worlds (map new_world many.jobs) places many.units)) (new_worlds many places) w made in
-    let none : overdrawn (setup_by (λ s k. None) many places) ≡ None = sym (lacks_as many places) ∙ k.0 in
+    let none : overdrawn (setup_with_answers (λ s k. None) many places) ≡ None = sym (lacks_as many places) ∙ k.0 in
     record {
       places = places;
       are_placed = opened_by many places None e none;
@@ -159,7 +160,7 @@ pub record IsAccount (chains : List (List ℕ)) (l : Overdrawn) : Type 0 where
   pub chain : l.chain < length chains
   pub account : l.account < length (slice_index_or chains l.chain [])
 
-lack_is : (m : Setup) (i x : ℕ) (l : Overdrawn) → lack_of m i x ≡ Some l → (l.chain ≡ i) × (l.account ≡ x)
+lack_is : (m : Setup) (i x : ℕ) (l : Overdrawn) → account_lack m i x ≡ Some l → (l.chain ≡ i) × (l.account ≡ x)
 lack_is m i x l e = go (nat_lt (opening m i x) (set_aside m i x)) e
   where
     go : (b : Bool) → cond {A = Option Overdrawn} b (Some (record { chain = i; account = x; have = opening m i x; wanted = set_aside m i x })) None ≡ Some l
@@ -171,8 +172,8 @@ lack_is m i x l e = go (nat_lt (opening m i x) (set_aside m i x)) e
 
 lack_is_known : (m : Setup) (l : Overdrawn) → overdrawn m ≡ Some l → IsAccount m.chains l
 lack_is_known m l e =
-    let f = first_at (lack_on m) (range_with_len 0 (length m.chains)) l e in
-    let h = first_at (lack_of m f.now) (range_with_len 0 (length (slice_index_or m.chains f.now []))) l f.gives in
+    let f = first_at (chain_lack m) (range_with_len 0 (length m.chains)) l e in
+    let h = first_at (account_lack m f.now) (range_with_len 0 (length (slice_index_or m.chains f.now []))) l f.gives in
     let is = lack_is m f.now h.now l h.gives in
     let low : f.now < length m.chains = from_range f.now (length m.chains) (in_list (range_with_len 0 (length m.chains)) f.past f.now f.stands) in
     let place : h.now < length (slice_index_or m.chains f.now []) =
@@ -184,8 +185,8 @@ lack_is_known m l e =
           (subst (λ x. x < length (slice_index_or m.chains f.now [])) (sym is.1) place);
     }
   where
-    in_list : (xs past : List ℕ) (x : ℕ) → (rest : List ℕ) × (xs ≡ past ++ x ∷ rest) → IsIn x xs
-    in_list xs past x m = subst (λ (ys : List ℕ). IsIn x ys) (sym m.1) (in_from_moment past x m.0)
+    in_list : (xs past : List ℕ) (x : ℕ) → (rest : List ℕ) × (xs ≡ past ++ x ∷ rest) → IsElement x xs
+    in_list xs past x m = subst (λ (ys : List ℕ). IsElement x ys) (sym m.1) (in_from_moment past x m.0)
 
 pub known_lack : (many : ManyJob) (places : List (List Place)) (lack : Overdrawn)
     → opened many.units (map new_world many.jobs) places ≡ Err lack → IsAccount many.units lack
@@ -198,7 +199,7 @@ known_lack many places lack made =
 -- those of the next swap, where so many came before
 pub next_own : (jobs : List Job) (k : ℕ) (own : List (Option WalletState)) (rest : List (List (Option WalletState)))
     → own ∷ rest ≡ map (prepared_wallets Run) (drop k jobs)
-    → (k < length jobs) × (own ≡ prepared_wallets Run (job_at jobs k)) × (rest ≡ map (prepared_wallets Run) (drop (k + 1) jobs))
+    → (k < length jobs) × (own ≡ prepared_wallets Run (job_of_swap jobs k)) × (rest ≡ map (prepared_wallets Run) (drop (k + 1) jobs))
 next_own [] zero own rest e = absurd (cc e)
 next_own [] (suc k) own rest e = absurd (cc e)
 next_own (job ∷ jobs) zero own rest e = (omega arith, cc e, cc e)
@@ -223,8 +224,8 @@ all_made jobs k worlds e so_far = so_far ∙ ap (map new_world) (all_taken jobs 
 
 -- What was opened.
 
-pub opened_are_of : (many : ManyJob) (w : ManyState) → IsOpened many w → AreWorldsOf many w
-opened_are_of many w k = subst (λ (v : ManyState). AreWorldsOf many v) (sym k.new) (new_are_of many k.places)
+pub opened_are_of : (many : ManyJob) (w : ManyState) → IsOpened many w → AreSwapWorlds many w
+opened_are_of many w k = subst (λ (v : ManyState). AreSwapWorlds many v) (sym k.new) (new_are_of many k.places)
 
 pub opened_are_held : (has : List ℕ → Bool) (many : ManyJob) (w : ManyState) → IsOpened many w → HoldsEverySwap has many → AreAllHeld has w
 opened_are_held has many w k holds = subst (λ (v : ManyState). AreAllHeld has v) (sym k.new) (all_held has many k.places holds)
@@ -237,8 +238,8 @@ module _ (gives : MayGive) (many : ManyJob) (places : List (List Place)) (swaps 
   worlds_shown = record {
     one_each = sym (length-map many.jobs new_world) ∙ sym k.swaps;
     swaps = λ s job l is.
-        let same : job ≡ job_at many.jobs s = is ∙ any_default many.jobs s job no_job l in
-        let cast : world_cast (nth_world w s) ≡ job_cast (job_at many.jobs s) = k.casts s ∙ ap world_cast (new_at many.jobs s) in
+        let same : job ≡ job_of_swap many.jobs s = is ∙ any_default many.jobs s job no_job l in
+        let cast : world_cast (nth_world w s) ≡ job_cast (job_of_swap many.jobs s) = k.casts s ∙ ap world_cast (new_at many.jobs s) in
         record {
           deal = ap (λ (c : Cast). c.deal) cast ∙ ap (λ (j : Job). j.deal) (sym same);
           conforming = subst (λ (j : Job). length j.conforming ≡ j.deal.graph.n) (sym same) (swaps.swaps s l).whole.conforming;
@@ -265,7 +266,7 @@ unread_holds has s l = absurd (omega (arith, l))
 -- The next swap, with its wallets and those of the swaps after it.
 pub record IsNext (many : ManyJob) (k : ℕ) (job : Job) (own : List (Option WalletState)) (rest : List (List (Option WalletState))) : Type 0 where
   pub low : k < length many.jobs
-  pub is : job ≡ job_at many.jobs k
+  pub is : job ≡ job_of_swap many.jobs k
   pub swap : IsSwap (length many.names) job (slice_index_or many.chains k [])
   pub made : own ≡ prepared_wallets Run job
   pub others : rest ≡ map (prepared_wallets Run) (drop (k + 1) many.jobs)
@@ -276,7 +277,7 @@ pub next_swap : (many : ManyJob) → AreSwaps many → (worlds : List WorldState
 next_swap many swaps worlds jobs n job own rest e same here is =
     let k = length worlds in
     let r = next_own many.jobs k own rest e in
-    let found : job ≡ job_at many.jobs k =
+    let found : job ≡ job_of_swap many.jobs k =
     is ∙ (ap (λ (xs : List Job). slice_index_or xs n job) same ∙ (ap (λ i. slice_index_or many.jobs i job) here ∙ any_default many.jobs k job no_job r.0)) in
     record {
       low = r.0;
@@ -289,7 +290,7 @@ next_swap many swaps worlds jobs n job own rest e same here is =
 longer : (old new : List WorldState) (w : WorldState) → new ≡ old ++ w ∷ [] → length new ≡ length old + 1
 longer old new w e = ap (λ (xs : List WorldState). length xs) e ∙ length-append old (w ∷ [])
 
-pub one_made : (jobs : List Job) (old new : List WorldState) (w : WorldState) (job : Job) → length old < length jobs → job ≡ job_at jobs (length old)
+pub one_made : (jobs : List Job) (old new : List WorldState) (w : WorldState) (job : Job) → length old < length jobs → job ≡ job_of_swap jobs (length old)
     → w ≡ new_world job → new ≡ old ++ w ∷ [] → old ≡ map new_world (take (length old) jobs) → new ≡ map new_world (take (length new) jobs)
 one_made jobs old new w job low is made more so_far =
     map_next new_world jobs (length old) no_job old new low

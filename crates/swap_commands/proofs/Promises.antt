@@ -19,11 +19,11 @@ use Rattle.swap_run.specs.Laws.{IsKept}
 use Rattle.swap_run.specs.Asked.{Answers}
 use Rattle.swap_world.specs.Cast.{job_cast}
 use Rattle.swap_world.specs.Gone.{MayGive}
-use Rattle.outcome_rules.specs.Report.{conforms_in, deal_outcomes, build_report}
+use Rattle.outcome_rules.specs.Report.{is_conforming_party, deal_outcomes, build_report}
 use Rattle.outcome_rules.specs.Promises.{AllAreConforming}
 use Rattle.outcome_rules.proofs.Promises as laws
 use Rattle.refusals.specs.declared.reason.Reason.{Reason}
-use Rattle.swap_offer.specs.Job.{counted, parse_job_events, parse_events, job_header_of, job_of_lines}
+use Rattle.swap_offer.specs.Job.{counted, parse_job_events, parse_events, parse_header_job, job_of_lines}
 use Rattle.swap_gen.specs.Made.{made}
 use Rattle.made_jobs.specs.Making.{copied, line_step, with_line, written_line, IsMade}
 use Rattle.made_jobs.proofs.Copying.{lines_put}
@@ -33,7 +33,7 @@ use Rattle.swap_commands.specs.Output.{AreGiven, command_cast, run_state, collec
 use Rattle.swap_commands.specs.Recorded.{AreRecorded}
 use Rattle.swap_commands.specs.Promised.{IsPromised, IsRace, IsRun, IsCheck, IsMaking}
 use Rattle.party_threads.specs.Race.{IsRaceBook}
-use Rattle.swap_commands.specs.Replay.{passed_over, replayed}
+use Rattle.swap_commands.specs.Replay.{skipped_event, replayed}
 use Rattle.swap_commands.proofs.Raced.{no_events, none_is_late}
 
 module _ (has : List ℕ → Bool) where
@@ -42,7 +42,7 @@ module _ (has : List ℕ → Bool) where
   pub is_promised : (job : Job) (b : Histories) → IsAccepted job.deal → IsKept (job_cast job) b → IsPromised job b (story_report job b)
   unfolding build_report
   is_promised job b k kept =
-      let found : List Finding = findings job.deal (conforms_in job.conforming) b in
+      let found : List Finding = findings job.deal (is_conforming_party job.conforming) b in
       record {
         accepted = k;
         kept = kept;
@@ -86,7 +86,7 @@ module _ (has : List ℕ → Bool) where
       → output ≡ reported transcript job b → IsAccepted job.deal → IsKept (job_cast job) b
       → AreRecorded (command_cast a job) (run_state a job events)
       → (job.finish ≡ Fair → IsEnded job.deal b) → (job.finish ≡ Fair → events ≡ [] → AllAreConforming job.deal job.conforming
-      → IsDealt job.deal (conforms_in job.conforming) b) → IsRun gives a transcript read output
+      → IsDealt job.deal (is_conforming_party job.conforming) b) → IsRun gives a transcript read output
   unfolding build_report
   world_run gives a transcript job events read b output r given same shown k kept disks ended dealt = record {
     job = job;
@@ -97,22 +97,22 @@ module _ (has : List ℕ → Bool) where
     promised = is_promised job (collected_book a job events) k (subst (λ (b : Histories). IsKept (job_cast job) b) same kept);
     recorded = disks;
     ended = λ fair. subst (λ (b : Histories). IsEnded job.deal b) same (ended fair);
-    fair = λ fair none all. subst (λ (b : Histories). findings job.deal (conforms_in job.conforming) b ≡ []) same (dealt fair none all).nothing;
+    fair = λ fair none all. subst (λ (b : Histories). findings job.deal (is_conforming_party job.conforming) b ≡ []) same (dealt fair none all).nothing;
   }
 
   pub is_run : (gives : MayGive) (a : Answers) (transcript : Bool) (line : ℕ) (text : List ℕ) (ls : List (ℕ × List ℕ)) (job : Job) (s : State)
       (b : Histories) (output : Written)
-      → job_header_of has purposes.Run line text ≡ Ok job → replayed (step (command_cast a job)) job 0 (start (job_cast job)) ls ≡ Ok s
+      → parse_header_job has purposes.Run line text ≡ Ok job → replayed (step (command_cast a job)) job 0 (start (job_cast job)) ls ≡ Ok s
       → AreGiven gives job.deal a (finished job.finish (command_cast a job) s).asked → b ≡ (finished job.finish (command_cast a job) s).book
       → output ≡ reported transcript job b → IsAccepted job.deal → IsKept (job_cast job) b
       → AreRecorded (command_cast a job) (finished job.finish (command_cast a job) s)
       → (job.finish ≡ Fair → IsEnded job.deal b)
-      → (job.finish ≡ Fair → s ≡ start (job_cast job) → AllAreConforming job.deal job.conforming → IsDealt job.deal (conforms_in job.conforming) b)
+      → (job.finish ≡ Fair → s ≡ start (job_cast job) → AllAreConforming job.deal job.conforming → IsDealt job.deal (is_conforming_party job.conforming) b)
       → IsRun gives a transcript (job_of_lines has purposes.Run ((line, text) ∷ ls)) output
   is_run gives a transcript line text ls job s b output h r given same shown k kept disks ended dealt =
       let p = replayed_by (step (command_cast a job)) job (start (job_cast job)) s ls r in
       world_run gives a transcript job p.events (job_of_lines has purposes.Run ((line, text) ∷ ls)) b output
-      (read_of (job_header_of has purposes.Run line text) (λ j. parse_events j 0 ls) job p.events h p.read)
+      (read_of (parse_header_job has purposes.Run line text) (λ j. parse_events j 0 ls) job p.events h p.read)
       (subst (λ (s : State). AreGiven gives job.deal a (finished job.finish (command_cast a job) s).asked) p.leads given)
       (same ∙ ap (λ (s : State). (finished job.finish (command_cast a job) s).book) p.leads) shown k kept
       (subst (λ (s : State). AreRecorded (command_cast a job) (finished job.finish (command_cast a job) s)) p.leads disks) ended
@@ -121,35 +121,35 @@ module _ (has : List ℕ → Bool) where
   -- A race.
 
   pub is_race : (gives : MayGive) (b : Histories) (ticks : ℕ) (transcript : Bool) (line : ℕ) (text : List ℕ) (ls : List (ℕ × List ℕ)) (job : Job)
-      (output : Written) → job_header_of has purposes.Race line text ≡ Ok job → replayed passed_over job 0 tt ls ≡ Ok tt
+      (output : Written) → parse_header_job has purposes.Race line text ≡ Ok job → replayed skipped_event job 0 tt ls ≡ Ok tt
       → output ≡ reported transcript job b → job.purpose ≡ purposes.Race → IsAccepted job.deal → IsRaceBook gives (job_cast job) ticks b
       → IsRace gives b ticks transcript (job_of_lines has purposes.Race ((line, text) ∷ ls)) output
   unfolding build_report
   is_race gives b ticks transcript line text ls job output h r shown purpose k raced =
-      let p = replayed_by passed_over job tt tt ls r in
+      let p = replayed_by skipped_event job tt tt ls r in
       record {
         job = job;
         is_read =
-            read_of (job_header_of has purposes.Race line text) (λ j. parse_events j 0 ls) job [] h
+            read_of (parse_header_job has purposes.Race line text) (λ j. parse_events j 0 ls) job [] h
             (subst (λ (es : List Event). parse_events job 0 ls ≡ Ok es) (no_events job purpose ls p.events p.read) p.read);
         raced = raced;
         shown = shown;
         promised = is_promised job b k (record { legal = raced.legal; conducted = raced.conducted });
-        on_time = λ two v rule a due. none_is_late job.deal (conforms_in job.conforming) b (λ w lt c. raced.on_time two w lt c) v rule a due;
+        on_time = λ two v rule a due. none_is_late job.deal (is_conforming_party job.conforming) b (λ w lt c. raced.on_time two w lt c) v rule a due;
         dealt = λ two all. (raced.dealt two all).nothing;
       }
 
   -- A check.
 
   pub is_check : (line : ℕ) (text : List ℕ) (ls : List (ℕ × List ℕ)) (job : Job) (u : Unit {0}) (output : Written)
-      → job_header_of has purposes.Check line text ≡ Ok job → replayed passed_over job 0 tt ls ≡ Ok u → output ≡ told job → IsAccepted job.deal
+      → parse_header_job has purposes.Check line text ≡ Ok job → replayed skipped_event job 0 tt ls ≡ Ok u → output ≡ told job → IsAccepted job.deal
       → IsCheck (job_of_lines has purposes.Check ((line, text) ∷ ls)) output
   is_check line text ls job u output h r shown k =
-      let p = replayed_by passed_over job tt u ls r in
+      let p = replayed_by skipped_event job tt u ls r in
       record {
         job = job;
         events = p.events;
-        is_read = read_of (job_header_of has purposes.Check line text) (λ j. parse_events j 0 ls) job p.events h p.read;
+        is_read = read_of (parse_header_job has purposes.Check line text) (λ j. parse_events j 0 ls) job p.events h p.read;
         shown = shown;
         accepted = k;
       }
@@ -172,12 +172,12 @@ module _ (has : List ℕ → Bool) where
       rw counts refl
 
   pub is_making : (line : ℕ) (header : List ℕ) (ls : List (ℕ × List ℕ)) (job : Job) (text : List ℕ) (output : Written)
-      → job_header_of has purposes.Make line header ≡ Ok job → copied 0 (written_line (made job)) ls ≡ Ok text → IsMade job
+      → parse_header_job has purposes.Make line header ≡ Ok job → copied 0 (written_line (made job)) ls ≡ Ok text → IsMade job
       → IsMaking (job_of_lines has purposes.Make ((line, header) ∷ ls)) output
   is_making line header ls job text output h c k = record {
     job = job;
     is_read =
-        read_of (job_header_of has purposes.Make line header) (λ j. parse_job_events purposes.Make j ls) job [] h
+        read_of (parse_header_job has purposes.Make line header) (λ j. parse_job_events purposes.Make j ls) job [] h
         (none_read job ls (written_line (made job)) text c);
     made = k;
   }

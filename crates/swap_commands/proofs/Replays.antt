@@ -14,7 +14,7 @@ use Rattle.swap_job.specs.declared.event.Event.{Event}
 use Rattle.swap_job.specs.declared.job.Role.{Role}
 use Rattle.refusals.specs.declared.reason.Reason.{Reason}
 use Rattle.command_input.specs.Lines.{collect_lines, filled_lines}
-use Rattle.swap_offer.specs.Job.{parse_events, limited_event, parse_job, job_header_of, job_of_lines}
+use Rattle.swap_offer.specs.Job.{parse_events, limited_event, parse_job, parse_header_job, job_of_lines}
 use Rattle.swap_digraph.specs.declared.deal.Deal.{Deal}
 use Rattle.swap_run.specs.Asked.{Answers, with_answers}
 use Rattle.swap_run.specs.Run.{Cast, Question, State, step, start}
@@ -32,12 +32,12 @@ use Rattle.swap_commands.specs.Words.{OfJob, JobCommand, Check, Run, Race, Make}
 use Rattle.swap_job.specs.declared.job.Purpose.TheVariants as purposes
 use Rattle.swap_gen.specs.Made.{made}
 use Rattle.made_jobs.specs.Making.{copied, made_text, written_line}
-use Rattle.made_jobs.specs.Generating.{IsOf}
+use Rattle.made_jobs.specs.Generating.{IsJobWorld}
 use Rattle.made_jobs.proofs.Copying.{made_is}
-use Rattle.swap_commands.specs.Output.{AreGiven, Chance, command_cast, command_purpose, finished, collected_book, reported, told, output_by}
+use Rattle.swap_commands.specs.Output.{AreGiven, Chance, command_cast, command_purpose, finished, collected_book, reported, told, output_given_chance}
 use Rattle.swap_commands.specs.Output.{job_output, plain_text}
 use Rattle.swap_commands.specs.Recorded.{AreRecorded}
-use Rattle.swap_commands.specs.Replay.{replayed, next_by, passed_over, IsConcluded, of_run, of_race, of_check, of_lines, of_make}
+use Rattle.swap_commands.specs.Replay.{replayed, replayed_line, skipped_event, IsConcluded, of_run, of_race, of_check, of_lines, of_make}
 
 regroup : {A : Type 0} (f : A → Event → A) (x : A) (next : Result Event Reason) (rest : Result (List Event) Reason) →
     (next >>= λ e. rest >>= λ es. Ok (e ∷ es)) >>= (λ events. Ok (fold f x events)) ≡ (next >>= λ e. Ok (f x e)) >>= λ y. rest >>= λ es. Ok (fold f y es)
@@ -46,8 +46,8 @@ regroup f x (Ok e) (Err r) = refl
 regroup f x (Err r) rest = refl
 
 pub step_of : {A : Type 0} (f : A → Event → A) (job : Job) (n : ℕ) (x : A) (line : ℕ) (text : List ℕ) (rest : List (ℕ × List ℕ))
-    → replayed f job n x ((line, text) ∷ rest) ≡ next_by f job n x line text >>= λ y. replayed f job (n + 1) y rest
-unfolding replayed next_by parse_events
+    → replayed f job n x ((line, text) ∷ rest) ≡ replayed_line f job n x line text >>= λ y. replayed f job (n + 1) y rest
+unfolding replayed replayed_line parse_events
 step_of f job n x line text rest = regroup f x (limited_event job n line text) (parse_events job (n + 1) rest)
 
 pub none_left : {A : Type 0} (f : A → Event → A) (job : Job) (n : ℕ) (x : A) → replayed f job n x [] ≡ Ok x
@@ -82,7 +82,7 @@ of_some_make : (has : List ℕ → Bool) (a : Chance) (l : ℕ × List ℕ) (ls 
     → of_make has l.0 l.1 ls ≡ job_output a Make (l ∷ ls) (job_of_lines has purposes.Make (l ∷ ls))
 unfolding of_make
 of_some_make has a l ls =
-    regroup_make (job_header_of has purposes.Make l.0 l.1) (λ job. copied 0 (written_line (made job)) ls)
+    regroup_make (parse_header_job has purposes.Make l.0 l.1) (λ job. copied 0 (written_line (made job)) ls)
     ∙ ap (λ (r : Result (List ℕ) Reason). r >>= λ t. Ok (plain_text t)) (made_is has l ls)
     ∙ written_make (job_of_lines has purposes.Make (l ∷ ls)) ls
 
@@ -97,20 +97,20 @@ of_some has a command [] = by command
     by Check = refl
     by Make = refl
 of_some has a (Run transcript) (l ∷ ls) =
-    together (job_header_of has purposes.Run l.0 l.1) (λ job. parse_events job 0 ls) (λ job. step (command_cast a.answers job)) (λ job. start (job_cast job))
+    together (parse_header_job has purposes.Run l.0 l.1) (λ job. parse_events job 0 ls) (λ job. step (command_cast a.answers job)) (λ job. start (job_cast job))
     (λ job s. reported transcript job (finished job.finish (command_cast a.answers job) s).book) (λ j. reported transcript j.0
     (collected_book a.answers j.0 j.1))
     (λ job es. refl)
 of_some has a (Race ticks transcript) (l ∷ ls) =
-    together (job_header_of has purposes.Race l.0 l.1) (λ job. parse_events job 0 ls) (λ job. passed_over) (λ job. tt)
+    together (parse_header_job has purposes.Race l.0 l.1) (λ job. parse_events job 0 ls) (λ job. skipped_event) (λ job. tt)
     (λ job u. reported transcript job a.book) (λ j. reported transcript j.0 a.book) (λ job es. refl)
-of_some has a Check (l ∷ ls) = together (job_header_of has (command_purpose Check) l.0 l.1) (λ job. parse_events job 0 ls) (λ job. passed_over) (λ job. tt)
+of_some has a Check (l ∷ ls) = together (parse_header_job has (command_purpose Check) l.0 l.1) (λ job. parse_events job 0 ls) (λ job. skipped_event) (λ job. tt)
     (λ job u. told job) (λ j. told j.0) (λ job es. refl)
 of_some has a Make (l ∷ ls) = of_some_make has a l ls
 
 pub of_input : (has : List ℕ → Bool) (a : Chance) (command : JobCommand) (input : List ℕ)
-    → of_lines has a command (filled_lines 1 (collect_lines input)) ≡ output_by has a (OfJob command) input
-unfolding output_by parse_job
+    → of_lines has a command (filled_lines 1 (collect_lines input)) ≡ output_given_chance has a (OfJob command) input
+unfolding output_given_chance parse_job
 of_input has a (Run transcript) input = of_some has a (Run transcript) (filled_lines 1 (collect_lines input))
 of_input has a (Race ticks transcript) input = of_some has a (Race ticks transcript) (filled_lines 1 (collect_lines input))
 of_input has a Check input = of_some has a Check (filled_lines 1 (collect_lines input))
@@ -118,7 +118,7 @@ of_input has a Make input = of_some has a Make (filled_lines 1 (collect_lines in
 
 -- Worlds.
 
-pub same_cast : (job : Job) (w : WorldState) → IsOf job w → world_cast w ≡ job_cast job
+pub same_cast : (job : Job) (w : WorldState) → IsJobWorld job w → world_cast w ≡ job_cast job
 same_cast job w k = ap₂ (λ (d : Deal) (rs : List Role). made_cast d w.conforming w.seeds rs) k.deal k.roles
     ∙ ap₂ (λ (c : List Bool) (s : List (Option (List ℕ))). made_cast job.deal c s job.roles) k.conforming k.seeds
 
@@ -128,11 +128,11 @@ held has roles all = λ p lt. all p kinds.Manual lt
 
 -- a reason against an event is one whatever is made of the events
 pub replay_fails : {A : Type 0} (f : A → Event → A) (x : A) (job : Job) (ls : List (ℕ × List ℕ)) (reason : Reason)
-    → replayed passed_over job 0 tt ls ≡ Err reason → replayed f job 0 x ls ≡ Err reason
+    → replayed skipped_event job 0 tt ls ≡ Err reason → replayed f job 0 x ls ≡ Err reason
 unfolding replayed
 replay_fails {A = A} f x job ls reason e = by (parse_events job 0 ls) e
   where
-    by : (r : Result (List Event) Reason) → (r >>= λ es. let y : Result (Unit {0}) Reason = Ok (fold passed_over tt es) in y) ≡ Err reason
+    by : (r : Result (List Event) Reason) → (r >>= λ es. let y : Result (Unit {0}) Reason = Ok (fold skipped_event tt es) in y) ≡ Err reason
         → (r >>= λ es. let y : Result A Reason = Ok (fold f x es) in y) ≡ Err reason
     by (Ok es) e = absurd (cc e)
     by (Err r) e =
@@ -157,7 +157,7 @@ are_given gives d more asked given eq ea may = λ i q lt is.
 
 -- Worlds of a job.
 
-pub is_of_new : (job : Job) (w : WorldState) → w ≡ new_world job → IsOf job w
+pub is_of_new : (job : Job) (w : WorldState) → w ≡ new_world job → IsJobWorld job w
 is_of_new job w e = record {
   deal = ap (λ (x : WorldState). x.deal) e;
   conforming = ap (λ (x : WorldState). x.conforming) e;
@@ -170,8 +170,8 @@ stays_finished gives w = stays gives (finished Stop) w (λ a. refl)
 
 -- A world that has gone on.
 
-module _ (gives : MayGive) (job : Job) (w new : WorldState) (k : IsOf job w) where
-  pub is_of_still : (f : Cast → State → State) → HasGone gives f w new → IsOf job new
+module _ (gives : MayGive) (job : Job) (w new : WorldState) (k : IsJobWorld job w) where
+  pub is_of_still : (f : Cast → State → State) → HasGone gives f w new → IsJobWorld job new
   is_of_still f e = record {
     deal = ap (λ (x : WorldState). x.deal) e.same ∙ k.deal;
     conforming = ap (λ (x : WorldState). x.conforming) e.same ∙ k.conforming;
@@ -187,8 +187,8 @@ module _ (gives : MayGive) (job : Job) (w new : WorldState) (k : IsOf job w) whe
 
   -- after the event of a line
   pub stepped : (e : Event) (count line : ℕ) (text : List ℕ) → limited_event job count line text ≡ Ok e → HasGone gives (λ c s. step c s e) w new
-      → (a : Answers) → Continues new a → next_by (step (command_cast a job)) job count w.state line text ≡ Ok new.state
-  unfolding next_by
+      → (a : Answers) → Continues new a → replayed_line (step (command_cast a job)) job count w.state line text ≡ Ok new.state
+  unfolding replayed_line
   stepped e count line text n h a x =
       ap (λ (r : Result Event Reason). r >>= λ f. Ok (step (command_cast a job) w.state f)) n
       ∙ ap (λ (s : State). Ok s) (ap (λ (c : Cast). step c w.state e) (sym (for_job a)) ∙ sym (h.state a x))
@@ -218,7 +218,7 @@ module _ (gives : MayGive) (job : Job) (w new : WorldState) (k : IsOf job w) whe
   concluded_book (Ok b) is asked h kept = concluded b.histories is asked h kept
   concluded_book (Err e) is asked h kept = tt
 
-pub kept_book : {E : Type 0} (job : Job) (w : WorldState) → IsOf job w → (r : Result Book E) → IfOk r (λ b. b.histories ≡ w.state.book)
+pub kept_book : {E : Type 0} (job : Job) (w : WorldState) → IsJobWorld job w → (r : Result Book E) → IfOk r (λ b. b.histories ≡ w.state.book)
     → IsKept (world_cast w) w.state.book → IfOk r (λ b. IsKept (job_cast job) b.histories)
 kept_book job w k (Ok b) is kept = subst (λ (c : Cast). IsKept c b.histories) (same_cast job w k) (subst (IsKept (world_cast w)) (sym is) kept)
 kept_book job w k (Err e) is kept = tt

@@ -18,7 +18,7 @@ use Rattle.swap_run.specs.Asked.{Answers}
 use Rattle.swap_world.specs.Cast.{job_cast}
 use Rattle.swap_world.specs.Gone.{MayGive}
 use Rattle.swap_world.specs.Value.{Continues, WorldState}
-use Rattle.outcome_rules.specs.Report.{conforms_in}
+use Rattle.outcome_rules.specs.Report.{is_conforming_party}
 use Rattle.outcome_rules.specs.Promises.{AllAreConforming}
 use Rattle.made_jobs.specs.Making.{IsMade}
 use Rattle.swap_commands.specs.Entered.{HasEntered}
@@ -28,10 +28,10 @@ use Rattle.command_input.specs.Input.{At, Drains, Ends, HasStopped, IsPart, IsTo
 use Rattle.command_input.specs.declared.fault.InputFault.{InputFault}
 use Rattle.command_input.specs.declared.fault.InputFault.TheVariants as fault
 use Rattle.command_input.proofs.Streams.{calm_unread, has_stopped}
-use Rattle.swap_commands.specs.Output.{AreGiven, Chance, by_answers, by_book, command_cast, finished, no_chance, output_by, reported, told, plain_text}
+use Rattle.swap_commands.specs.Output.{AreGiven, Chance, by_answers, by_book, command_cast, finished, no_chance, output_given_chance, reported, told, plain_text}
 use Rattle.swap_commands.specs.Recorded.{AreRecorded}
 use Rattle.swap_commands.specs.Promised.{AsPromised}
-use Rattle.swap_commands.specs.Says.{HasRead, IsAgainst, Says}
+use Rattle.swap_commands.specs.Says.{HasRead, IsCommandRefusal, Says}
 use Rattle.command_input.specs.Written.{Writes, Written}
 use Rattle.swap_commands.specs.Words.{Command, OfJob, Check, Run, Race, Make}
 use Rattle.command_input.specs.declared.status.Status.{Status}
@@ -75,7 +75,7 @@ module _ (has : List ℕ → Bool) where
 
   pub says_unread : (gives : MayGive) (command : Command) (left left' : Option (List ℕ)) (n m : ℕ) (now : At) (taken taken' : Option (List ℕ)) (p q : ℕ)
       → Keeps taken taken'
-      → (f : InputFault Refusal) → HasStopped (IsAgainst has command) (desk left n fresh) (desk left' m now) f
+      → (f : InputFault Refusal) → HasStopped (IsCommandRefusal has command) (desk left n fresh) (desk left' m now) f
       → Says (strategies has gives) command (streams left n taken p) (streams left' m taken' q) (unread f)
   says_unread gives command left left' n m now taken taken' p q k (fault.Refused r) u = (
     record {
@@ -83,7 +83,7 @@ module _ (has : List ℕ → Bool) where
         input = u.bytes;
         taken = u.stands.took.consumed;
         ended = u.ended;
-        within = set_contains_ends has (λ bytes. IsAgainst has command bytes r) left left' n m now u;
+        within = set_contains_ends has (λ bytes. IsCommandRefusal has command bytes r) left left' n m now u;
         gives = u.told.0;
       };
       named = u.told.1;
@@ -96,19 +96,19 @@ module _ (has : List ℕ → Bool) where
 
   -- the same of a stop that was drained, by the clauses of both calls
   pub says_stopped : (gives : MayGive) (command : Command) (left left' left'' : Option (List ℕ)) (n m k : ℕ) (mid now : At) (taken : Option (List ℕ)) (p : ℕ)
-      (f answer : InputFault Refusal) → Stops (IsAgainst has command) (desk left n fresh) (desk left' m mid) f
+      (f answer : InputFault Refusal) → Stops (IsCommandRefusal has command) (desk left n fresh) (desk left' m mid) f
       → Drains (desk left' m mid) (desk left'' k now) f answer
       → Says (strategies has gives) command (streams left n taken p) (streams left'' k taken p) (unread answer)
   says_stopped gives command left left' left'' n m k mid now taken p f answer s d =
       says_unread gives command left left'' n k now taken taken p p (Keeps-refl taken) answer
-      (has_stopped (IsAgainst has command) (desk left n fresh) (desk left' m mid) (desk left'' k now) f answer s d)
+      (has_stopped (IsCommandRefusal has command) (desk left n fresh) (desk left' m mid) (desk left'' k now) f answer s d)
 
   pub calm_stopped : (command : Command) (left left' left'' : Option (List ℕ)) (n m k : ℕ) (mid now : At)
-      (f answer : InputFault Refusal) → Stops (IsAgainst has command) (desk left n fresh) (desk left' m mid) f
+      (f answer : InputFault Refusal) → Stops (IsCommandRefusal has command) (desk left n fresh) (desk left' m mid) f
       → Drains (desk left' m mid) (desk left'' k now) f answer → ¬ (unread answer ≡ ReadFault) → k ≡ n
   calm_stopped command left left' left'' n m k mid now f answer s d unless =
-      calm_unread (IsAgainst has command) (desk left n fresh) (desk left'' k now) answer
-      (has_stopped (IsAgainst has command) (desk left n fresh) (desk left' m mid) (desk left'' k now) f answer s d) unless
+      calm_unread (IsCommandRefusal has command) (desk left n fresh) (desk left'' k now) answer
+      (has_stopped (IsCommandRefusal has command) (desk left n fresh) (desk left' m mid) (desk left'' k now) f answer s d) unless
 
   pub all_consumed : (P : List ℕ → Type 0) (left left' : Option (List ℕ)) (n m : ℕ) (now : At) → Ends P (desk left n fresh) (desk left' m now)
       → ConsumesAtMost left left' limit
@@ -122,12 +122,12 @@ module _ (has : List ℕ → Bool) where
         → AreGiven gives job.deal a (finished job.finish (command_cast a job) s).asked
         → b ≡ (finished job.finish (command_cast a job) s).book → IsAccepted job.deal → IsKept (job_cast job) b
         → AreRecorded (command_cast a job) (finished job.finish (command_cast a job) s) → (job.finish ≡ Fair → IsEnded job.deal b)
-        → (job.finish ≡ Fair → s ≡ start (job_cast job) → AllAreConforming job.deal job.conforming → IsDealt job.deal (conforms_in job.conforming) b)
+        → (job.finish ≡ Fair → s ≡ start (job_cast job) → AllAreConforming job.deal job.conforming → IsDealt job.deal (is_conforming_party job.conforming) b)
         → Writes taken taken' p q (reported transcript job b) status
         → Says (strategies has gives) (OfJob (Run transcript)) (streams left n taken p) (streams left' m taken' q) status
     says_played a now job s b status e given same k kept disks ended dealt w =
         let out : Written = reported transcript job b in
-        let made : output_by has (by_answers a) (OfJob (Run transcript)) e.bytes ≡ Ok out =
+        let made : output_given_chance has (by_answers a) (OfJob (Run transcript)) e.bytes ≡ Ok out =
         gives_run has a transcript e.bytes job s e.told ∙ ap (λ (x : Histories). Ok (reported transcript job x)) (sym same) in
         says_written gives (by_answers a) (OfJob (Run transcript)) left left' n m taken taken' p q out
         (record {
@@ -148,7 +148,7 @@ module _ (has : List ℕ → Bool) where
         → IsConcluded gives job world b
         → IsAccepted job.deal → IsKept (job_cast job) b → (job.finish ≡ Fair → IsEnded job.deal b)
         → (job.finish ≡ Fair → world.state ≡ start (job_cast job) → AllAreConforming job.deal job.conforming
-        → IsDealt job.deal (conforms_in job.conforming) b)
+        → IsDealt job.deal (is_conforming_party job.conforming) b)
         → Writes taken taken' p q (reported transcript job b) status
         → Says (strategies has gives) (OfJob (Run transcript)) (streams left n taken p) (streams left' m taken' q) status
     says_run now job world b status e c k kept ended dealt w =

@@ -14,10 +14,11 @@ use Rattle.refusals.specs.declared.refusal.Refusal.{Refusal}
 use Rattle.command_input.specs.Input.{At, HasStopped, desk, fresh, limit}
 use Rattle.command_input.specs.declared.fault.InputFault.{InputFault}
 use Rattle.swap_commands.specs.Replay.{IsEntered}
-use Rattle.swap_commands.specs.Says.{IsAgainst}
+use Rattle.swap_commands.specs.Says.{IsCommandRefusal}
 use Rattle.swap_commands.specs.Words.{OfJob, Race}
 
--- The parties of the job can race: those that conform with these wallets, and those that follow strategies of the names that are had.
+-- The parties of the job can race: those that conform with these wallets, and those that follow
+-- strategies of the names that are had.
 pub record CanRace (has : List ℕ → Bool) (job : Job) (wallets : List (Option WalletState)) : Type 0 where
   pub whole : IsWholeJob job
   pub names : AreNames job.names
@@ -41,4 +42,4 @@ pub record HasEntered (has : List ℕ → Bool) (left left' : Option (List ℕ))
 pub record HasNotEntered (has : List ℕ → Bool) (left left' : Option (List ℕ)) (n m : ℕ) (fault : InputFault Refusal) : Type 0 where
   pub now : At
   pub stopped : (ticks : ℕ) (transcript : Bool)
-      → HasStopped (IsAgainst has (OfJob (Race ticks transcript))) (desk left n fresh) (desk left' m now) fault
+      → HasStopped (IsCommandRefusal has (OfJob (Race ticks transcript))) (desk left n fresh) (desk left' m now) fault

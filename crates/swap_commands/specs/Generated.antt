@@ -41,14 +41,15 @@ pub record IsSummary (job : Job) (b : Histories) (r : Request) (output : Written
 abbrev pub AsRequested : Request → Written → Type 0
 AsRequested r output = r.summary ≡ true → IsSummary (generated r.seed r.parties) (generated_book r.seed r.parties r.events) r output
 
--- What a status says of a number's job, by what the sink took and how many of its calls failed. After want of memory no summary was made, and nothing was
--- written where one was asked for.
-pub record IsMadeFor (taken taken' : Option (List ℕ)) (p q : ℕ) (r : Request) (s : Status) : Type 0 where
+-- What a status says of a number's job, by what the sink took and how many of its calls failed.
+-- After want of memory no summary was made, and nothing was written where one was asked for.
+pub record IsRequestStatus (taken taken' : Option (List ℕ)) (p q : ℕ) (r : Request) (s : Status) : Type 0 where
   pub writes : Writes taken taken' p q (generated_output r) s
   pub promised : ¬ (s ≡ NoMemory) → AsRequested r (generated_output r)
   pub silent : s ≡ NoMemory → r.summary ≡ true → Keeps taken taken'
 
--- The words ask for the job of a number, which is accepted; nothing was read, what a summary promises holds, and P tells what was written.
+-- The words ask for the job of a number, which is accepted; nothing was read, what a summary
+-- promises holds, and P tells what was written.
 pub record Generates (P : Written → Type 0) (words : List (List ℕ)) (left left' : Option (List ℕ)) : Type 0 where
   pub request : Request
   pub asks : words_request words ≡ Some request

@@ -19,13 +19,14 @@ use Rattle.swap_many.specs.declared.overdrawn.Overdrawn.{Overdrawn}
 use Rattle.swap_many.specs.declared.place.Place.{Place}
 use Rattle.many_lines.specs.Event.{next_told}
 use Rattle.many_lines.specs.Heading.{HeadingState}
-use Rattle.many_lines.specs.Setup.{MayCome, setup_by}
+use Rattle.many_lines.specs.Setup.{MayCome, setup_with_answers}
 use Rattle.many_lines.specs.declared.many_job.ManyJob.{ManyJob}
 use Rattle.many_lines.specs.declared.stage.Stage.TheVariants.{Over}
 use Rattle.command_input.specs.Input.{At, CanBeLeft, Desk, Ends, Stands, ahead}
-use Rattle.swap_commands.specs.Many.{events_told, headed, opened_places, overdrawn_by}
+use Rattle.swap_commands.specs.Many.{events_told, headed, opened_places, overdrawn_refusal}
 
--- The lines up to that of the finish were read: whatever comes after them are the lines of the events.
+-- The lines up to that of the finish were read: whatever comes after them are the lines of the
+-- events.
 pub record IsHeading (has : List ℕ → Bool) (h : HeadingState) (old new : Desk) : Type 0 where
   pub bytes : List ℕ
   pub stands : Stands old new bytes
@@ -37,24 +38,25 @@ pub record IsHeading (has : List ℕ → Bool) (h : HeadingState) (old new : Des
 -- what is said of the account that lacks units, unless memory runs out
 abbrev pub IsLack : ManyJob → Fault Overdrawn → Fault Refusal → Type 0
 IsLack many lack NoMemory = Unit {0}
-IsLack many (Refused l) (Refused refusal) = refusal ≡ overdrawn_by many l
+IsLack many (Refused l) (Refused refusal) = refusal ≡ overdrawn_refusal many l
 IsLack many NoMemory (Refused refusal) = ⊥
 
 -- the worlds of the swaps before any event
 abbrev pub new_worlds : ManyJob → List (List Place) → ManyState
 new_worlds many places = new_many many.units (map new_world many.jobs) places
 
--- The worlds are those of the swaps before any event, and each account has what is set aside from it.
+-- The worlds are those of the swaps before any event, and each account has what is set aside from
+-- it.
 pub record IsOpened (many : ManyJob) (w : ManyState) : Type 0 where
   pub places : List (List Place)
   pub are_placed : opened_places many ≡ Ok places
   pub openable : AreOpenable many.units (map new_world many.jobs) places
   pub new : w ≡ new_worlds many places
-  pub ready : (g : ℕ → Answers) → IsReady (setup_by g many places)
+  pub ready : (g : ℕ → Answers) → IsReady (setup_with_answers g many places)
 
 -- the worlds are those of the swaps
-abbrev pub AreWorldsOf : ManyJob → ManyState → Type 0
-AreWorldsOf many w = (g : ℕ → Answers) → made_setup w g ≡ setup_by g many w.places
+abbrev pub AreSwapWorlds : ManyJob → ManyState → Type 0
+AreSwapWorlds many w = (g : ℕ → Answers) → made_setup w g ≡ setup_with_answers g many w.places
 
 -- The line told an event, by which the worlds have stepped.
 pub record HasStepped (gives : MayGive) (many : ManyJob) (count line : ℕ) (text : List ℕ) (old new : ManyState) : Type 0 where
@@ -79,8 +81,8 @@ abbrev pub TellEvents : ManyJob → At → List ℕ → Type 0
 TellEvents many first bytes = (events : List ManyEvent) × (events_told many 0 (ahead first bytes) ≡ Ok events)
 
 -- the places of the arcs, once every line told an event
-abbrev pub opened_after : ManyJob → List (ℕ × List ℕ) → Result (List (List Place)) Refusal
-opened_after many ls = events_told many 0 ls >>= λ events. opened_places many
+abbrev pub places_after_events : ManyJob → List (ℕ × List ℕ) → Result (List (List Place)) Refusal
+places_after_events many ls = events_told many 0 ls >>= λ events. opened_places many
 
 -- The worlds were opened, and have come to where the lines ahead lead.
 pub record AreRun (gives : MayGive) (many : ManyJob) (w : ManyState) (first now : Desk) : Type 0 where

@@ -123,13 +123,14 @@ abbrev pub alone : List (ℕ × List ℕ) → Result (Unit {0}) Reason
 alone [] = Ok tt
 alone (l ∷ ls) = Err (BadLine l.0)
 
--- what is written of wishes, by the lines of their input, or the first reason why they are refused: the line's own first, and then a further line
-abbrev pub parse_wish_text : List (ℕ × List ℕ) → Result Written Reason
-parse_wish_text [] = Err (NotJson 1)
-parse_wish_text (l ∷ ls) = cleared_line l.0 l.1 >>= λ text. alone ls >>= λ u. Ok (plain_text text)
+-- what is written of wishes, by the lines of their input, or the first reason why they are refused:
+-- the line's own first, and then a further line
+abbrev pub wish_lines_output : List (ℕ × List ℕ) → Result Written Reason
+wish_lines_output [] = Err (NotJson 1)
+wish_lines_output (l ∷ ls) = cleared_line l.0 l.1 >>= λ text. alone ls >>= λ u. Ok (plain_text text)
 
 unfoldable pub clear_output : List ℕ → Result Written Reason
-clear_output input = parse_wish_text (filled_lines 1 (collect_lines input))
+clear_output input = wish_lines_output (filled_lines 1 (collect_lines input))
 
 -- the reason of a refusal
 abbrev pub by_reason : Result Written Refusal → Result Written Reason
@@ -143,11 +144,11 @@ names_told (Err refusal) = refusal.names
 
 -- what a command writes for an input, or the first reason why the input is refused; `has` tells
 -- which strategies exist, and `chance` has what the input doesn't decide
-unfoldable pub output_by : (List ℕ → Bool) → Chance → Command → List ℕ → Result Written Reason
-output_by has chance (OfJob command) input = job_output chance command (filled_lines 1 (collect_lines input)) (parse_job has (command_purpose command) input)
-output_by has chance Audit input = by_reason (audit_output input)
-output_by has chance Clear input = clear_output input
-output_by has chance Many input = by_reason (many_output has chance.many input)
+unfoldable pub output_given_chance : (List ℕ → Bool) → Chance → Command → List ℕ → Result Written Reason
+output_given_chance has chance (OfJob command) input = job_output chance command (filled_lines 1 (collect_lines input)) (parse_job has (command_purpose command) input)
+output_given_chance has chance Audit input = by_reason (audit_output input)
+output_given_chance has chance Clear input = clear_output input
+output_given_chance has chance Many input = by_reason (many_output has chance.many input)
 
 -- strategies that never call, and a race without a ledger
 abbrev pub no_chance : Chance
@@ -157,13 +158,13 @@ no_chance = by_answers (λ k. None)
 -- the same whatever chance decides. So is a text for which no strategy is asked and nothing is
 -- raced.
 abbrev pub command_output : (List ℕ → Bool) → Command → List ℕ → Result Written Reason
-command_output has command input = output_by has no_chance command input
+command_output has command input = output_given_chance has no_chance command input
 
 -- the names of parties that the reason may mention. For a job they are those of the header, and
 -- none if the header isn't within its limits. For an audit and for several swaps they come with the
 -- refusal. For wishes there are none, since no reason there mentions a party by its number.
-unfoldable pub names_of : (List ℕ → Bool) → Command → List ℕ → List (List ℕ)
-names_of has (OfJob command) input = names_of_offer has (command_purpose command) input
-names_of has Audit input = names_told (audit_output input)
-names_of has Clear input = []
-names_of has Many input = names_told (many_output has (λ s k. None) input)
+unfoldable pub refusal_names : (List ℕ → Bool) → Command → List ℕ → List (List ℕ)
+refusal_names has (OfJob command) input = names_of_offer has (command_purpose command) input
+refusal_names has Audit input = names_told (audit_output input)
+refusal_names has Clear input = []
+refusal_names has Many input = names_told (many_output has (λ s k. None) input)

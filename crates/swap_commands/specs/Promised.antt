@@ -1,6 +1,6 @@
 -- What the program promises of the very histories that a report shows.
 use Rattle.std.specs.Prelude.{◌≡◌, ◌<◌, ◌≤◌, ◌*◌, ℕ, Bool, List, [], length, Result, Ok}
-use Rattle.swap_base.specs.Lists.{IsIn}
+use Rattle.swap_base.specs.Lists.{IsElement}
 use Rattle.ledger_core.specs.Book.{Histories}
 use Rattle.swap_job.specs.declared.event.Event.{Event}
 use Rattle.swap_job.specs.declared.job.Job.{Job}
@@ -15,7 +15,7 @@ use Rattle.swap_run.specs.Asked.{Answers}
 use Rattle.swap_world.specs.Cast.{job_cast}
 use Rattle.swap_world.specs.Gone.{MayGive}
 use Rattle.outcome_rules.specs.declared.report.Report.{Report}
-use Rattle.outcome_rules.specs.Report.{conforms_in}
+use Rattle.outcome_rules.specs.Report.{is_conforming_party}
 use Rattle.outcome_rules.specs.Promises.{AllAreConforming, AllAreWhole, AllHaveRefunds, NoneIsUnderwater, shown_outcome}
 use Rattle.swap_auditor.specs.Audit.{AreUnitsConserved}
 use Rattle.command_input.specs.Written.{Written}
@@ -27,16 +27,16 @@ use Rattle.swap_many.specs.Chains.{Setup}
 use Rattle.swap_many.specs.Many.{Run as ManyRun}
 use Rattle.swap_many.specs.Kept.{Kept}
 use Rattle.swap_many.specs.Laws.{Follows}
-use Rattle.swap_many.specs.Value.{UnitsArePlacedIn}
+use Rattle.swap_many.specs.Value.{AreUnitsPlaced}
 use Rattle.swap_many.specs.declared.many_event.ManyEvent.{ManyEvent}
 use Rattle.swap_many.specs.declared.place.Place.{Place}
-use Rattle.many_lines.specs.Places.{job_at}
-use Rattle.many_lines.specs.Setup.{setup_by}
+use Rattle.many_lines.specs.Places.{job_of_swap}
+use Rattle.many_lines.specs.Setup.{setup_with_answers}
 use Rattle.many_lines.specs.declared.many_job.ManyJob.{ManyJob}
-use Rattle.many_text.specs.ManyText.{swap_book, report_in}
+use Rattle.many_text.specs.ManyText.{swap_book, kept_report}
 use Rattle.party_threads.specs.Race.{IsRaceBook}
 use Rattle.swap_commands.specs.Cleared.{IsClearing}
-use Rattle.swap_commands.specs.Many.{Headed, events_told, headed, many_state, many_written, opened_places, run_to}
+use Rattle.swap_commands.specs.Many.{Headed, events_told, headed, many_state, many_written, opened_places, finished_run}
 use Rattle.swap_commands.specs.Recorded.{AreRecorded}
 use Rattle.swap_commands.specs.Output.{AreGiven, Chance, collected_book, command_cast, run_state, command_purpose, story_report, reported, told}
 use Rattle.made_jobs.specs.Making.{IsMade}
@@ -48,16 +48,20 @@ pub record IsPromised (job : Job) (b : Histories) (r : Report) : Type 0 where
   -- whatever the others do, the book is legal and every conforming party is conducted
   pub kept : IsKept (job_cast job) b
   pub units : AreUnitsConserved job.deal b
-  -- a conforming party that no finding endangers doesn't end underwater, and one that none strands has its refunds
+  -- a conforming party that no finding endangers doesn't end underwater, and one that none strands
+  -- has its refunds
   pub safe : NoneIsUnderwater job.deal job.conforming (shown_outcome r) r.findings
   pub refunds : AllHaveRefunds job.deal job.conforming b r.findings
-  -- where all conform and nothing is found, all is transferred, and the report shows each party with the whole deal
+  -- where all conform and nothing is found, all is transferred, and the report shows each party
+  -- with the whole deal
   pub transfer : AllAreConforming job.deal job.conforming → r.findings ≡ [] → IsTransferred job.deal b accepted
   pub whole : AllAreConforming job.deal job.conforming → r.findings ≡ [] → AllAreWhole job.deal r
-  -- where nothing is found, every ledger has ended, and every conforming party kept what the laws ask for
-  pub nothing : r.findings ≡ [] → FindsNothing job.deal (conforms_in job.conforming) b
+  -- where nothing is found, every ledger has ended, and every conforming party kept what the laws
+  -- ask for
+  pub nothing : r.findings ≡ [] → FindsNothing job.deal (is_conforming_party job.conforming) b
 
--- A run that wrote its output, the report or the transcript, where strategies answered a: its job and its events, as they were read, and what it promises.
+-- A run that wrote its output, the report or the transcript, where strategies answered a: its job
+-- and its events, as they were read, and what it promises.
 pub record IsRun (gives : MayGive) (a : Answers) (transcript : Bool) (read : Result (Job × List Event) Reason) (output : Written) : Type 0 where
   pub job : Job
   pub events : List Event
@@ -66,14 +70,16 @@ pub record IsRun (gives : MayGive) (a : Answers) (transcript : Bool) (read : Res
   pub given : AreGiven gives job.deal a (run_state a job events).asked
   pub shown : output ≡ reported transcript job (collected_book a job events)
   pub promised : IsPromised job (collected_book a job events) (story_report job (collected_book a job events))
-  -- whatever crashes came, the disk of each conforming party has recorded each hashkey that the party presented
+  -- whatever crashes came, the disk of each conforming party has recorded each hashkey that the
+  -- party presented
   pub recorded : AreRecorded (command_cast a job) (run_state a job events)
   -- a fair finish ends every ledger
   pub ended : job.finish ≡ Fair → IsEnded job.deal (collected_book a job events)
   -- and where all conform and no event came before it, nothing is found
   pub fair : job.finish ≡ Fair → events ≡ [] → AllAreConforming job.deal job.conforming → (story_report job (collected_book a job events)).findings ≡ []
 
--- A race that wrote its output, the report or the transcript: its job, as it was read without an event, the book that it came to, and what it promises.
+-- A race that wrote its output, the report or the transcript: its job, as it was read without an
+-- event, the book that it came to, and what it promises.
 pub record IsRace (gives : MayGive) (b : Histories) (ticks : ℕ) (transcript : Bool) (read : Result (Job × List Event) Reason) (output : Written) : Type 0 where
   pub job : Job
   pub is_read : read ≡ Ok (job, [])
@@ -82,11 +88,12 @@ pub record IsRace (gives : MayGive) (b : Histories) (ticks : ℕ) (transcript : 
   pub shown : output ≡ reported transcript job b
   pub promised : IsPromised job b (story_report job b)
   -- nobody is named late where two rounds' ticks fit in delta
-  pub on_time : 2 * ticks ≤ job.deal.delta → (v : ℕ) (rule : Rule) (a due : ℕ) → ¬ IsIn (Late v rule a due) (story_report job b).findings
+  pub on_time : 2 * ticks ≤ job.deal.delta → (v : ℕ) (rule : Rule) (a due : ℕ) → ¬ IsElement (Late v rule a due) (story_report job b).findings
   -- and where all conform besides, nothing is found
   pub dealt : 2 * ticks ≤ job.deal.delta → AllAreConforming job.deal job.conforming → (story_report job b).findings ≡ []
 
--- A check that wrote its output: its job and its events, as they were read, and the deal is accepted.
+-- A check that wrote its output: its job and its events, as they were read, and the deal is
+-- accepted.
 pub record IsCheck (read : Result (Job × List Event) Reason) (output : Written) : Type 0 where
   pub job : Job
   pub events : List Event
@@ -94,23 +101,25 @@ pub record IsCheck (read : Result (Job × List Event) Reason) (output : Written)
   pub shown : output ≡ told job
   pub accepted : IsAccepted job.deal
 
--- A plain job that was made: it was read, and what is made of it is accepted, with each party's own keys.
+-- A plain job that was made: it was read, and what is made of it is accepted, with each party's own
+-- keys.
 pub record IsMaking (read : Result (Job × List Event) Reason) (output : Written) : Type 0 where
   pub job : Job
   pub is_read : read ≡ Ok (job, [])
   pub made : IsMade job
 
--- What several swaps on the chains m promise: r is their run by the histories of the chains, and what z holds is shown.
+-- What several swaps on the chains m promise: r is their run by the histories of the chains, and
+-- what z holds is shown.
 pub record AreManyPromised (many : ManyJob) (m : Setup) (r : ManyRun) (z : Kept) : Type 0 where
   -- the books, the heights, the free accounts and the swept slots are those of the histories
   pub follows : Follows m r z
   -- each swap promises what a run of it alone does
-  pub swaps : (s : ℕ) → s < length many.jobs → IsPromised (job_at many.jobs s) (swap_book z s) (report_in z s (job_at many.jobs s))
+  pub swaps : (s : ℕ) → s < length many.jobs → IsPromised (job_of_swap many.jobs s) (swap_book z s) (kept_report z s (job_of_swap many.jobs s))
   -- on each chain all units are in one place
-  pub units : UnitsArePlacedIn m r
+  pub units : AreUnitsPlaced m r
 
--- A run of several swaps that wrote its output, where the strategies of swap s answered g s: the swaps, their events and places, as they were read, and what
--- they promise.
+-- A run of several swaps that wrote its output, where the strategies of swap s answered g s: the
+-- swaps, their events and places, as they were read, and what they promise.
 pub record IsManyRun (has : List ℕ → Bool) (gives : MayGive) (g : ℕ → Answers) (input : List ℕ) (output : Written) : Type 0 where
   pub head : Headed
   pub events : List ManyEvent
@@ -119,17 +128,17 @@ pub record IsManyRun (has : List ℕ → Bool) (gives : MayGive) (g : ℕ → An
   pub are_told : events_told head.many 0 head.lines ≡ Ok events
   pub are_placed : opened_places head.many ≡ Ok places
   -- each answer is one that its strategy may give to what it was asked
-  pub given : (s : ℕ) → AreGiven gives (job_at head.many.jobs s).deal (g s) ((many_state g head.many places head.finish events).swaps s).asked
+  pub given : (s : ℕ) → AreGiven gives (job_of_swap head.many.jobs s).deal (g s) ((many_state g head.many places head.finish events).swaps s).asked
   pub shown : output ≡ many_written head.many (many_state g head.many places head.finish events)
-  pub promised : AreManyPromised head.many (setup_by g head.many places) (run_to head.finish (setup_by g head.many places) events)
+  pub promised : AreManyPromised head.many (setup_with_answers g head.many places) (finished_run head.finish (setup_with_answers g head.many places) events)
       (many_state g head.many places head.finish events)
   -- a fair finish ends every ledger of every swap
   pub ended : head.finish ≡ Fair → (s : ℕ) → s < length head.many.jobs
-      → IsEnded (job_at head.many.jobs s).deal (swap_book (many_state g head.many places head.finish events) s)
+      → IsEnded (job_of_swap head.many.jobs s).deal (swap_book (many_state g head.many places head.finish events) s)
   -- and of a swap whose parties all conform it finds nothing, where no event came before it
   pub fair : head.finish ≡ Fair → events ≡ [] → (s : ℕ) → s < length head.many.jobs
-      → AllAreConforming (job_at head.many.jobs s).deal (job_at head.many.jobs s).conforming
-      → (report_in (many_state g head.many places head.finish events) s (job_at head.many.jobs s)).findings ≡ []
+      → AllAreConforming (job_of_swap head.many.jobs s).deal (job_of_swap head.many.jobs s).conforming
+      → (kept_report (many_state g head.many places head.finish events) s (job_of_swap head.many.jobs s)).findings ≡ []
 
 -- what the output of a command promises, by what was read of a job
 abbrev pub AsRead : MayGive → Chance → JobCommand → Result (Job × List Event) Reason → Written → Type 0

@@ -7,7 +7,7 @@ use Rattle.swap_job.specs.declared.job.Purpose.{Purpose}
 use Rattle.swap_job.specs.declared.job.Purpose.TheVariants as purposes
 use Rattle.refusals.specs.declared.reason.Reason.{Reason}
 use Rattle.refusals.specs.declared.reason.Reason.TheVariants.{NotJson}
-use Rattle.swap_offer.specs.Job.{parse_events, limited_event, job_header_of}
+use Rattle.swap_offer.specs.Job.{parse_events, limited_event, parse_header_job}
 use Rattle.command_input.specs.Lines.{collect_lines, filled_lines}
 use Rattle.swap_run.specs.Asked.{Answers}
 use Rattle.swap_run.specs.Run.{State, step, start}
@@ -27,11 +27,11 @@ unfoldable pub replayed : {A : Type 0} → (A → Event → A) → Job → ℕ �
 replayed f job count x lines = parse_events job count lines >>= λ events. Ok (fold f x events)
 
 -- what f makes of x by the event of a line
-unfoldable pub next_by : {A : Type 0} → (A → Event → A) → Job → ℕ → A → ℕ → List ℕ → Result A Reason
-next_by f job count x line text = limited_event job count line text >>= λ e. Ok (f x e)
+unfoldable pub replayed_line : {A : Type 0} → (A → Event → A) → Job → ℕ → A → ℕ → List ℕ → Result A Reason
+replayed_line f job count x line text = limited_event job count line text >>= λ e. Ok (f x e)
 
--- The world w was finished with these histories, where strategies answered so, with each answer one that may be given, and the disks have recorded what
--- the conforming parties presented.
+-- The world w was finished with these histories, where strategies answered so, with each answer one
+-- that may be given, and the disks have recorded what the conforming parties presented.
 pub record IsConcluded (gives : MayGive) (job : Job) (w : WorldState) (b : Histories) : Type 0 where
   pub answers : Answers
   pub continues : Continues w answers
@@ -40,17 +40,18 @@ pub record IsConcluded (gives : MayGive) (job : Job) (w : WorldState) (b : Histo
   pub recorded : AreRecorded (command_cast answers job) (finished job.finish (command_cast answers job) w.state)
 
 -- an event is read and passed over
-abbrev pub passed_over : Unit {0} → Event → Unit {0}
-passed_over u e = u
+abbrev pub skipped_event : Unit {0} → Event → Unit {0}
+skipped_event u e = u
 
--- The lines of an input that isn't blank: its header is that of a job, and a walk along the others leads to y.
+-- The lines of an input that isn't blank: its header is that of a job, and a walk along the others
+-- leads to y.
 pub record IsRead {A : Type 0} (has : List ℕ → Bool) (purpose : Purpose) (walk : Job → List (ℕ × List ℕ)
     → Result A Reason) (bytes : List ℕ) (job : Job) (y : A) : Type 0 where
   pub line : ℕ
   pub text : List ℕ
   pub others : List (ℕ × List ℕ)
   pub lines : filled_lines 1 (collect_lines bytes) ≡ (line, text) ∷ others
-  pub header : job_header_of has purpose line text ≡ Ok job
+  pub header : parse_header_job has purpose line text ≡ Ok job
   pub leads : walk job others ≡ Ok y
 
 -- the bytes are a job, and its events lead to the state, where strategies answer a
@@ -59,11 +60,11 @@ IsPlayed has a bytes job s = IsRead has purposes.Run (λ job. replayed (step (co
 
 -- the bytes are a job with its events
 abbrev pub IsChecked : (List ℕ → Bool) → List ℕ → Job → Type 0
-IsChecked has bytes job = IsRead has purposes.Check (λ job. replayed passed_over job 0 tt) bytes job tt
+IsChecked has bytes job = IsRead has purposes.Check (λ job. replayed skipped_event job 0 tt) bytes job tt
 
 -- the bytes are the job of a race, and its further lines were passed over
 abbrev pub IsEntered : (List ℕ → Bool) → List ℕ → Job → Type 0
-IsEntered has bytes job = IsRead has purposes.Race (λ job. replayed passed_over job 0 tt) bytes job tt
+IsEntered has bytes job = IsRead has purposes.Race (λ job. replayed skipped_event job 0 tt) bytes job tt
 
 -- the bytes are a plain job, and its made header and its further lines are the text
 abbrev pub IsCopied : (List ℕ → Bool) → List ℕ → Job → List ℕ → Type 0
@@ -72,28 +73,28 @@ IsCopied has bytes job text = IsRead has purposes.Make (λ job. copied 0 (writte
 -- what a run writes, where strategies answer a
 unfoldable pub of_run : (List ℕ → Bool) → Answers → Bool → ℕ → List ℕ → List (ℕ × List ℕ) → Result Written Reason
 of_run has a transcript line text ls = do
-  job ← job_header_of has purposes.Run line text
+  job ← parse_header_job has purposes.Run line text
   s ← replayed (step (command_cast a job)) job 0 (start (job_cast job)) ls
   Ok (reported transcript job (finished job.finish (command_cast a job) s).book)
 
 -- what a race writes that comes to the book b
 unfoldable pub of_race : (List ℕ → Bool) → Histories → Bool → ℕ → List ℕ → List (ℕ × List ℕ) → Result Written Reason
 of_race has b transcript line text ls = do
-  job ← job_header_of has purposes.Race line text
-  u ← replayed passed_over job 0 tt ls
+  job ← parse_header_job has purposes.Race line text
+  u ← replayed skipped_event job 0 tt ls
   Ok (reported transcript job b)
 
 -- what a check writes
 unfoldable pub of_check : (List ℕ → Bool) → ℕ → List ℕ → List (ℕ × List ℕ) → Result Written Reason
 of_check has line text ls = do
-  job ← job_header_of has purposes.Check line text
-  u ← replayed passed_over job 0 tt ls
+  job ← parse_header_job has purposes.Check line text
+  u ← replayed skipped_event job 0 tt ls
   Ok (told job)
 
 -- what a command that makes a job writes
 unfoldable pub of_make : (List ℕ → Bool) → ℕ → List ℕ → List (ℕ × List ℕ) → Result Written Reason
 of_make has line text ls = do
-  job ← job_header_of has purposes.Make line text
+  job ← parse_header_job has purposes.Make line text
   t ← copied 0 (written_line (made job)) ls
   Ok (plain_text t)
 

@@ -1,4 +1,5 @@
--- What a command's status says, where command_output and names_of tell what the command writes for an input.
+-- What a command's status says, where command_output and refusal_names tell what the command writes
+-- for an input.
 use Rattle.std.specs.Prelude.{◌≡◌, ◌≤◌, ◌+◌, ◌⊎◌, ℕ, Bool, true, false, List, length, Option, Result, Ok, Err}
 use Rattle.std.specs.Io.KnownBytes.{Consumes, IsAtEnd, Keeps}
 use Rattle.swap_io.specs.Causes.{ConsumesAtMost, ConsumesSome, AppendsProperPrefix}
@@ -8,7 +9,7 @@ use Rattle.refusals.specs.declared.refusal.Refusal.{Refusal}
 use Rattle.command_input.specs.Written.{IsWrittenWhole, Written}
 use Rattle.command_input.specs.Input.{limit}
 use Rattle.swap_world.specs.Gone.{MayGive}
-use Rattle.swap_commands.specs.Output.{Chance, output_by, command_output, no_chance, names_of}
+use Rattle.swap_commands.specs.Output.{Chance, output_given_chance, command_output, no_chance, refusal_names}
 use Rattle.swap_commands.specs.Promised.{AsPromised}
 use Rattle.swap_commands.specs.Words.{Command}
 use Rattle.swap_commands.specs.Strategies.{Strategies}
@@ -22,7 +23,7 @@ pub record HasRead (has : List ℕ → Bool) (chance : Chance) (command : Comman
   pub taken : Consumes left left' input
   pub ended : IsAtEnd left'
   pub within : length input ≤ limit
-  pub gives : output_by has chance command input ≡ output
+  pub gives : output_given_chance has chance command input ≡ output
 
 -- The input was read. It has an output by what chance decided, and the output is promised. P tells
 -- what was written of its text.
@@ -36,11 +37,11 @@ pub record HasOutput (has : List ℕ → Bool) (gives : MayGive) (P : Written �
 -- The input was read and is refused for the reason, and these are the names in its header.
 pub record HasReason (has : List ℕ → Bool) (command : Command) (left left' : Option (List ℕ)) (reason : Reason) (names : List (List ℕ)) : Type 0 where
   pub read : HasRead has no_chance command left left' (Err reason)
-  pub named : names ≡ names_of has command read.input
+  pub named : names ≡ refusal_names has command read.input
 
 -- a reason against an input, with the names in its header
-abbrev pub IsAgainst : (List ℕ → Bool) → Command → List ℕ → Refusal → Type 0
-IsAgainst has command input refusal = (command_output has command input ≡ Err refusal.reason) × (refusal.names ≡ names_of has command input)
+abbrev pub IsCommandRefusal : (List ℕ → Bool) → Command → List ℕ → Refusal → Type 0
+IsCommandRefusal has command input refusal = (command_output has command input ≡ Err refusal.reason) × (refusal.names ≡ refusal_names has command input)
 
 -- what a status says, by the source and the sink before and after
 abbrev pub Says : Strategies → Command → Streams → Streams → Status → Type 0

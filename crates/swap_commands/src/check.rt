@@ -9,7 +9,7 @@ ghost use Rattle.command_input.specs.Written.{Writes};
 ghost use Rattle.command_input.specs.Streams.{streams};
 ghost use Rattle.swap_commands.specs.Output.{check_text, told};
 ghost use Rattle.swap_commands.specs.Replay.{IsChecked};
-ghost use Rattle.swap_commands.specs.Says.{IsAgainst, Says};
+ghost use Rattle.swap_commands.specs.Says.{IsCommandRefusal, Says};
 ghost use Rattle.swap_commands.specs.Words.{Check, OfJob};
 ghost use Rattle.swap_commands.specs.Strategies.{strategies};
 
@@ -64,7 +64,7 @@ fn examine<S: Source, A: Strategies>(
     ensures accepted { IfOk result (λ j. IsAccepted j.0.deal) }
     ensures sized { IfOk result (λ j. IsWellSized j.0.deal) }
     ensures need { IfOk result (λ j. j.1 ≡ deal_need j.0.deal) }
-    ensures stops { IfErr result (λ e. Stops (IsAgainst (A.holds staff.now) (OfJob Check))
+    ensures stops { IfErr result (λ e. Stops (IsCommandRefusal (A.holds staff.now) (OfJob Check))
         (desk (S.left source.old) (S.faults source.old) fresh)
         (desk (S.left source.new) (S.faults source.new) input.new) e) }
 {

@@ -5,7 +5,7 @@ ghost use Rattle.clear_line.specs.ClearedText.{IsClearedLine};
 ghost use Rattle.swap_commands.specs.Cleared.{IsCleared, IsFurther};
 ghost use Rattle.command_input.specs.Input.{Ends, Fits, IsLast, IsLine, Stops, desk, fresh};
 ghost use Rattle.command_input.specs.Streams.{streams};
-ghost use Rattle.swap_commands.specs.Says.{IsAgainst, Says};
+ghost use Rattle.swap_commands.specs.Says.{IsCommandRefusal, Says};
 ghost use Rattle.swap_commands.specs.Words.{Clear};
 ghost use Rattle.swap_commands.specs.Strategies.{strategies};
 
@@ -28,7 +28,7 @@ fn first_wishes<S: Source>(
     ensures line { OnOk result (IsLine (desk (S.left source.old) (S.faults source.old) fresh)
         (desk (S.left source.new) (S.faults source.new) input.new)) }
     ensures cleared { IfOk result (λ t. IsClearedLine input.new.number input.new.text t.items) }
-    ensures stops { (has : List ℕ → Bool) → IfErr result (λ e. Stops (IsAgainst has Clear) (desk (S.left source.old) (S.faults source.old) fresh)
+    ensures stops { (has : List ℕ → Bool) → IfErr result (λ e. Stops (IsCommandRefusal has Clear) (desk (S.left source.old) (S.faults source.old) fresh)
         (desk (S.left source.new) (S.faults source.new) input.new) e) }
 {
     if !input.next(source)? {
@@ -62,7 +62,7 @@ fn alone<S: Source>(
 }
 
 /// The text of what is cleared of an input, or what is said against it.
-fn read_wishes<S: Source>(
+fn clear_wishes<S: Source>(
     alloc: Global,
     input: &mut Input,
     source: &mut S,
@@ -70,7 +70,7 @@ fn read_wishes<S: Source>(
     requires { input.old ≡ fresh }
     ensures cleared { IfOk result (λ t. Ends (λ bytes. IsCleared bytes t.items) (desk (S.left source.old) (S.faults source.old) fresh)
         (desk (S.left source.new) (S.faults source.new) input.new)) }
-    ensures stops { (has : List ℕ → Bool) → IfErr result (λ e. Stops (IsAgainst has Clear) (desk (S.left source.old) (S.faults source.old) fresh)
+    ensures stops { (has : List ℕ → Bool) → IfErr result (λ e. Stops (IsCommandRefusal has Clear) (desk (S.left source.old) (S.faults source.old) fresh)
         (desk (S.left source.new) (S.faults source.new) input.new) e) }
 {
     let text = first_wishes(alloc, input, source)?;
@@ -94,7 +94,7 @@ fn clear_input<S: Source, K: Sink, A: Strategies>(
         (streams (S.left source.new) (S.faults source.new) (K.taken sink.new) (K.faults sink.new)) result }
     ensures calm { ¬ (result ≡ Status.ReadFault) → S.faults source.new ≡ S.faults source.old }
 {
-    match read_wishes(alloc, input, source) {
+    match clear_wishes(alloc, input, source) {
         Ok(text) => tell(sink, &text),
         Err(fault) => unread(input.stop(source, fault)),
     }

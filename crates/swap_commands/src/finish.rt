@@ -7,9 +7,9 @@ ghost use Rattle.swap_run.specs.Run.{start};
 ghost use Rattle.swap_world.specs.Cast.{job_cast};
 ghost use Rattle.swap_world.specs.Gone.{HasGone};
 ghost use Rattle.swap_world.specs.Actors.{AreHeld};
-ghost use Rattle.outcome_rules.specs.Report.{conforms_in};
+ghost use Rattle.outcome_rules.specs.Report.{is_conforming_party};
 ghost use Rattle.outcome_rules.specs.Promises.{AllAreConforming};
-ghost use Rattle.made_jobs.specs.Generating.{IsOf};
+ghost use Rattle.made_jobs.specs.Generating.{IsJobWorld};
 ghost use Rattle.swap_commands.specs.Output.{finished};
 
 use deviators::Strategies;
@@ -20,12 +20,12 @@ use swap_world::World;
 /// Finishes the world as its job asks.
 pub(crate) fn finish<A: Strategies>(world: &mut World, staff: &A, job: &Job) -> Result<(), NoMemory>
     requires held { AreHeld (A.holds staff.now) job.now.roles }
-    requires of { IsOf job.now world.old }
+    requires of { IsJobWorld job.now world.old }
     requires goes_on { world.old.stopped ≡ false }
     ensures gone { OnOk result (HasGone (A.gives staff.now) (finished job.now.finish) world.old world.new) }
     ensures ended { OnOk result (job.now.finish ≡ Finish.Fair → IsEnded job.now.deal world.new.state.book) }
     ensures dealt { OnOk result (job.now.finish ≡ Finish.Fair → world.old.state ≡ start (job_cast job.now) → AllAreConforming job.now.deal job.now.conforming
-        → IsDealt job.now.deal (conforms_in job.now.conforming) world.new.state.book) }
+        → IsDealt job.now.deal (is_conforming_party job.now.conforming) world.new.state.book) }
 {
     match job.finish {
         Finish::Stop => Ok(()),

@@ -3,7 +3,7 @@
 ghost use Rattle.std.specs.Prelude.{◌≡◌, ◌≤◌};
 ghost use Rattle.std.specs.Io.KnownBytes.{Keeps};
 ghost use Rattle.command_input.specs.Written.{Writes};
-ghost use Rattle.swap_commands.specs.Generated.{IsMadeFor, IsSummary, summary_output, text_output};
+ghost use Rattle.swap_commands.specs.Generated.{IsRequestStatus, IsSummary, summary_output, text_output};
 ghost use Rattle.swap_gen.specs.Drawn.{generated};
 ghost use Rattle.made_jobs.specs.Generating.{generated_book};
 
@@ -65,7 +65,7 @@ fn write_summary<K: Sink>(alloc: Global, request: Request, sink: &mut K) -> Stat
 pub fn generate<K: Sink>(alloc: Global, request: Request, sink: &mut K) -> Status
     requires low { 2 ≤ request.parties }
     requires high { request.parties ≤ 24 }
-    ensures { IsMadeFor (K.taken sink.old) (K.taken sink.new) (K.faults sink.old) (K.faults sink.new) request result }
+    ensures { IsRequestStatus (K.taken sink.old) (K.taken sink.new) (K.faults sink.old) (K.faults sink.new) request result }
 {
     if request.summary {
         write_summary(alloc, request, sink)

@@ -3,12 +3,12 @@
 ghost use Rattle.std.specs.Prelude.{◌≡◌, Ok, IfOk, IfErr, OnOk};
 ghost use Rattle.offer_header.specs.Limits.{HoldsEach};
 ghost use Rattle.offer_header.specs.Names.{AreNames, has_strategy};
-ghost use Rattle.swap_offer.specs.Checks.{deal_need, IsAcceptedFor};
-ghost use Rattle.swap_offer.specs.Job.{IsWholeJob, job_header_of, names_at};
-ghost use Rattle.swap_offer.specs.Wallets.{HaveScriptsFor, HaveSeedsFor, HaveWalletsFor, prepared_wallets};
+ghost use Rattle.swap_offer.specs.Checks.{deal_need, IsAcceptedOrProposed};
+ghost use Rattle.swap_offer.specs.Job.{IsWholeJob, parse_header_job, header_names};
+ghost use Rattle.swap_offer.specs.Wallets.{HaveRequiredScripts, HaveRequiredSeeds, HaveRequiredWallets, prepared_wallets};
 ghost use Rattle.command_input.specs.Input.{IsLine, Stops, desk, fresh};
 ghost use Rattle.swap_commands.specs.Output.{command_purpose};
-ghost use Rattle.swap_commands.specs.Says.{IsAgainst};
+ghost use Rattle.swap_commands.specs.Says.{IsCommandRefusal};
 ghost use Rattle.swap_commands.specs.Words.{JobCommand, OfJob};
 
 use command_input::{Input, InputFault, no_line};
@@ -31,23 +31,23 @@ fn prepare_first<S: Source>(
     requires { input.old ≡ fresh }
     ensures line { OnOk result (IsLine (desk (S.left source.old) (S.faults source.old) fresh)
         (desk (S.left source.new) (S.faults source.new) input.new)) }
-    ensures header { IfOk result (λ p. job_header_of (has_strategy strategies.now) purpose input.new.number
+    ensures header { IfOk result (λ p. parse_header_job (has_strategy strategies.now) purpose input.new.number
         input.new.text ≡ Ok p.job) }
-    ensures names { IfOk result (λ p. p.job.names ≡ names_at (has_strategy strategies.now) purpose input.new.number
+    ensures names { IfOk result (λ p. p.job.names ≡ header_names (has_strategy strategies.now) purpose input.new.number
         input.new.text) }
     ensures whole { IfOk result (λ p. IsWholeJob p.job) }
     ensures known { IfOk result (λ p. AreNames p.job.names) }
     ensures purpose { IfOk result (λ p. p.job.purpose ≡ purpose) }
-    ensures accepted { IfOk result (λ p. IsAcceptedFor purpose p.job.deal) }
-    ensures seeds { IfOk result (λ p. HaveSeedsFor purpose p.job) }
-    ensures wallets { IfOk result (λ p. HaveWalletsFor purpose p.job) }
+    ensures accepted { IfOk result (λ p. IsAcceptedOrProposed purpose p.job.deal) }
+    ensures seeds { IfOk result (λ p. HaveRequiredSeeds purpose p.job) }
+    ensures wallets { IfOk result (λ p. HaveRequiredWallets purpose p.job) }
     ensures strategies { IfOk result (λ p. HoldsEach (has_strategy strategies.now) p.job.roles) }
-    ensures scripts { IfOk result (λ p. HaveScriptsFor purpose p.job) }
+    ensures scripts { IfOk result (λ p. HaveRequiredScripts purpose p.job) }
     ensures made { IfOk result (λ p. p.wallets.items ≡ prepared_wallets purpose p.job) }
     ensures need { IfOk result (λ p. p.need ≡ deal_need p.job.deal) }
     // Whatever command of that purpose.
     ensures stops { (command : JobCommand) → purpose ≡ command_purpose command
-        → IfErr result (λ e. Stops (IsAgainst (has_strategy strategies.now) (OfJob command)) (desk (S.left source.old) (S.faults source.old) fresh)
+        → IfErr result (λ e. Stops (IsCommandRefusal (has_strategy strategies.now) (OfJob command)) (desk (S.left source.old) (S.faults source.old) fresh)
         (desk (S.left source.new) (S.faults source.new) input.new) e) }
 {
     if !input.next(source)? {
@@ -58,7 +58,8 @@ fn prepare_first<S: Source>(
     Ok(prepared)
 }
 
-/// The job of an input's header, read for the purpose, with the wallets that this needs, or what is said against it.
+/// The job of an input's header, read for the purpose, with the wallets that this needs, or what is
+/// said against it.
 pub(crate) fn first_line<S: Source, A: Strategies>(
     alloc: Global,
     staff: &A,
@@ -69,23 +70,23 @@ pub(crate) fn first_line<S: Source, A: Strategies>(
     requires { input.old ≡ fresh }
     ensures line { OnOk result (IsLine (desk (S.left source.old) (S.faults source.old) fresh)
         (desk (S.left source.new) (S.faults source.new) input.new)) }
-    ensures header { IfOk result (λ p. job_header_of (A.holds staff.now) purpose input.new.number
+    ensures header { IfOk result (λ p. parse_header_job (A.holds staff.now) purpose input.new.number
         input.new.text ≡ Ok p.job) }
-    ensures names { IfOk result (λ p. p.job.names ≡ names_at (A.holds staff.now) purpose input.new.number
+    ensures names { IfOk result (λ p. p.job.names ≡ header_names (A.holds staff.now) purpose input.new.number
         input.new.text) }
     ensures whole { IfOk result (λ p. IsWholeJob p.job) }
     ensures known { IfOk result (λ p. AreNames p.job.names) }
     ensures purpose { IfOk result (λ p. p.job.purpose ≡ purpose) }
-    ensures accepted { IfOk result (λ p. IsAcceptedFor purpose p.job.deal) }
-    ensures seeds { IfOk result (λ p. HaveSeedsFor purpose p.job) }
-    ensures wallets { IfOk result (λ p. HaveWalletsFor purpose p.job) }
+    ensures accepted { IfOk result (λ p. IsAcceptedOrProposed purpose p.job.deal) }
+    ensures seeds { IfOk result (λ p. HaveRequiredSeeds purpose p.job) }
+    ensures wallets { IfOk result (λ p. HaveRequiredWallets purpose p.job) }
     ensures strategies { IfOk result (λ p. HoldsEach (A.holds staff.now) p.job.roles) }
-    ensures scripts { IfOk result (λ p. HaveScriptsFor purpose p.job) }
+    ensures scripts { IfOk result (λ p. HaveRequiredScripts purpose p.job) }
     ensures made { IfOk result (λ p. p.wallets.items ≡ prepared_wallets purpose p.job) }
     ensures need { IfOk result (λ p. p.need ≡ deal_need p.job.deal) }
     // Whatever command of that purpose.
     ensures stops { (command : JobCommand) → purpose ≡ command_purpose command
-        → IfErr result (λ e. Stops (IsAgainst (A.holds staff.now) (OfJob command)) (desk (S.left source.old) (S.faults source.old) fresh)
+        → IfErr result (λ e. Stops (IsCommandRefusal (A.holds staff.now) (OfJob command)) (desk (S.left source.old) (S.faults source.old) fresh)
         (desk (S.left source.new) (S.faults source.new) input.new) e) }
 {
     let strategies = staff.names()?;

@@ -1,8 +1,10 @@
 //! What the program does for each command, over a source and a sink.
 //!
-//! Read `specs/Output.antt` first: what is written for an input (of several swaps, `specs/Many.antt`); then `specs/Promised.antt`: what is promised of the
-//! histories that a report shows; then `specs/Says.antt`: what each status says of a command.
-//! A job is read line by line (`Input.antt` of `command_input`), and each command has a file of its own, whose function says `Says`.
+//! Read `specs/Output.antt` first: what is written for an input (of several swaps,
+//! `specs/Many.antt`); then `specs/Promised.antt`: what is promised of the histories that a report
+//! shows; then `specs/Says.antt`: what each status says of a command. A job is read line by line
+//! (`Input.antt` of `command_input`), and each command has a file of its own, whose function says
+//! `Says`.
 #![tactic(auto)]
 
 mod audit;

@@ -7,7 +7,7 @@ ghost use Rattle.command_input.specs.Written.{Writes};
 ghost use Rattle.command_input.specs.Streams.{streams};
 ghost use Rattle.swap_commands.specs.Output.{plain_text};
 ghost use Rattle.swap_commands.specs.Replay.{IsCopied};
-ghost use Rattle.swap_commands.specs.Says.{IsAgainst, Says};
+ghost use Rattle.swap_commands.specs.Says.{IsCommandRefusal, Says};
 ghost use Rattle.swap_commands.specs.Words.{Make, OfJob};
 ghost use Rattle.swap_commands.specs.Strategies.{strategies};
 
@@ -55,7 +55,7 @@ fn copy<S: Source, A: Strategies>(
         (desk (S.left source.old) (S.faults source.old) fresh)
         (desk (S.left source.new) (S.faults source.new) input.new)) }
     ensures made { IfOk result (λ c. IsMade c.0) }
-    ensures stops { IfErr result (λ e. Stops (IsAgainst (A.holds staff.now) (OfJob Make))
+    ensures stops { IfErr result (λ e. Stops (IsCommandRefusal (A.holds staff.now) (OfJob Make))
         (desk (S.left source.old) (S.faults source.old) fresh)
         (desk (S.left source.new) (S.faults source.new) input.new) e) }
 {

@@ -13,10 +13,10 @@ ghost use Rattle.many_text.specs.Shown.{AreChainsShown, AreShown};
 ghost use Rattle.command_input.specs.Input.{Ends, Fits, Stops, Tells, ahead, desk, fresh};
 ghost use Rattle.command_input.specs.Written.{Writes};
 ghost use Rattle.command_input.specs.Streams.{streams};
-ghost use Rattle.swap_commands.specs.Many.{ended_by, events_told, headed, many_written, opened_places};
-ghost use Rattle.swap_commands.specs.ManyRead.{AreRun, AreWorldsOf, HasStepped, IsHeading, IsLack, IsManyPlayed, IsOpened, IsReplayed};
-ghost use Rattle.swap_commands.specs.ManyRead.{TellEvents, opened_after};
-ghost use Rattle.swap_commands.specs.Says.{IsAgainst, Says};
+ghost use Rattle.swap_commands.specs.Many.{kept_after_finish, events_told, headed, many_written, opened_places};
+ghost use Rattle.swap_commands.specs.ManyRead.{AreRun, AreSwapWorlds, HasStepped, IsHeading, IsLack, IsManyPlayed, IsOpened, IsReplayed};
+ghost use Rattle.swap_commands.specs.ManyRead.{TellEvents, places_after_events};
+ghost use Rattle.swap_commands.specs.Says.{IsCommandRefusal, Says};
 ghost use Rattle.swap_commands.specs.Words.{Many};
 ghost use Rattle.swap_commands.specs.Strategies.{strategies};
 
@@ -171,7 +171,7 @@ fn step_line<A: Strategies>(
 ) -> Result<(), HeaderFault>
     requires chains { AreChains many.now }
     requires swaps { AreSwaps many.now }
-    requires of { AreWorldsOf many.now world.old }
+    requires of { AreSwapWorlds many.now world.old }
     requires held { AreAllHeld (A.holds staff.now) world.old }
     ensures stepped { OnOk result (HasStepped (A.gives staff.now) many.now count line text.now world.old world.new) }
     ensures refused { IfErr result (λ e. Fails e (next_told many.now count line text.now)) }
@@ -192,7 +192,7 @@ fn replay<S: Source, A: Strategies>(
 ) -> Result<(), InputFault<Refusal>>
     requires chains { AreChains many.now }
     requires swaps { AreSwaps many.now }
-    requires of { AreWorldsOf many.now world.old }
+    requires of { AreSwapWorlds many.now world.old }
     requires held { AreAllHeld (A.holds staff.now) world.old }
     requires fits { Fits (S.left source.old) input.old }
     ensures replayed { OnOk result (IsReplayed (A.gives staff.now) many.now world.old world.new (desk (S.left source.old) (S.faults source.old) input.old)
@@ -254,7 +254,7 @@ fn refuse<S: Source>(
     requires swaps { AreSwaps many.now }
     requires refused { opened_places many.now ≡ Err refusal }
     requires fits { Fits (S.left source.old) input.old }
-    ensures stops { Stops (λ bytes r. opened_after many.now (ahead input.old bytes) ≡ Err r) (desk (S.left source.old) (S.faults source.old) input.old)
+    ensures stops { Stops (λ bytes r. places_after_events many.now (ahead input.old bytes) ≡ Err r) (desk (S.left source.old) (S.faults source.old) input.old)
         (desk (S.left source.new) (S.faults source.new) input.new) result }
 {
     match skip_events(alloc, many, input, source) {
@@ -280,7 +280,7 @@ fn run_events<S: Source, A: Strategies>(
     ensures run { IfOk result (λ w. AreRun (A.gives staff.now) many.now w (desk (S.left source.old) (S.faults source.old) input.old)
         (desk (S.left source.new) (S.faults source.new) input.new)) }
     ensures held { IfOk result (AreAllHeld (A.holds staff.now)) }
-    ensures stops { IfErr result (λ e. Stops (λ bytes r. opened_after many.now (ahead input.old bytes) ≡ Err r)
+    ensures stops { IfErr result (λ e. Stops (λ bytes r. places_after_events many.now (ahead input.old bytes) ≡ Err r)
         (desk (S.left source.old) (S.faults source.old) input.old)
         (desk (S.left source.new) (S.faults source.new) input.new) e) }
 {
@@ -308,7 +308,7 @@ fn play<S: Source, A: Strategies>(
     ensures chains { IfOk result (λ p. AreChains p.many) }
     ensures swaps { IfOk result (λ p. AreSwaps p.many) }
     ensures held { IfOk result (λ p. AreAllHeld (A.holds staff.now) p.world) }
-    ensures stops { IfErr result (λ e. Stops (IsAgainst (A.holds staff.now) Many) (desk (S.left source.old) (S.faults source.old) fresh)
+    ensures stops { IfErr result (λ e. Stops (IsCommandRefusal (A.holds staff.now) Many) (desk (S.left source.old) (S.faults source.old) fresh)
         (desk (S.left source.new) (S.faults source.new) input.new) e) }
 {
     let heading = read_heading(alloc, staff, input, source)?;
@@ -331,7 +331,7 @@ fn conclude<A: Strategies>(
     mut world: ManyWorld,
 ) -> Result<ManyWorld, NoMemory>
     requires held { AreAllHeld (A.holds staff.now) world }
-    ensures { IfOk result (λ w. HasManyGone (A.gives staff.now) (ended_by finish) world w) }
+    ensures { IfOk result (λ w. HasManyGone (A.gives staff.now) (kept_after_finish finish) world w) }
 {
     match finish {
         Finish::Stop => Ok(world),

@@ -1,4 +1,5 @@
-//! The command `race`: the parties of a job race, and the report of the book that they come to is written, or the transcript.
+//! The command `race`: the parties of a job race, and the report of the book that they come to is
+//! written, or the transcript.
 
 ghost use Rattle.std.specs.Prelude.{◌≡◌, ◌≤◌, ℕ, Bool, List, Option, IfOk, IfErr, IsErrOf};
 ghost use Rattle.swap_rules.specs.Accepted.{IsAccepted};
@@ -11,7 +12,7 @@ ghost use Rattle.swap_commands.specs.Entered.{CanRace, HasEntered, HasNotEntered
 ghost use Rattle.command_input.specs.Input.{Ends, Stops, desk, fresh};
 ghost use Rattle.command_input.specs.Streams.{streams};
 ghost use Rattle.swap_commands.specs.Replay.{IsEntered};
-ghost use Rattle.swap_commands.specs.Says.{IsAgainst, Says};
+ghost use Rattle.swap_commands.specs.Says.{IsCommandRefusal, Says};
 ghost use Rattle.swap_commands.specs.Words.{OfJob, Race};
 ghost use Rattle.swap_commands.specs.Strategies.{strategies};
 
@@ -51,7 +52,7 @@ fn read_job<S: Source, A: Strategies>(
     ensures made { IfOk result (λ e. e.1.items ≡ new_wallets e.0.deal e.0.conforming e.0.seeds) }
     // The reason depends neither on the race's ticks nor on the text that is asked for.
     ensures stops { (ticks : ℕ) (transcript : Bool) → IfErr result (λ e.
-        Stops (IsAgainst (A.holds staff.now) (OfJob (Race ticks transcript))) (desk (S.left source.old) (S.faults source.old) fresh)
+        Stops (IsCommandRefusal (A.holds staff.now) (OfJob (Race ticks transcript))) (desk (S.left source.old) (S.faults source.old) fresh)
         (desk (S.left source.new) (S.faults source.new) input.new) e) }
 {
     let Prepared { job, wallets, .. } = first_line(alloc, staff, Purpose::Race, input, source)?;

@@ -14,9 +14,9 @@ ghost use Rattle.swap_world.specs.Gone.{HasAsked};
 ghost use Rattle.swap_world.specs.Actors.{AreHeld};
 ghost use Rattle.swap_world.specs.Value.{Continues, new_world};
 ghost use Rattle.command_input.specs.Input.{Ends, Fits, Stops, ahead, desk};
-ghost use Rattle.made_jobs.specs.Generating.{IsOf};
+ghost use Rattle.made_jobs.specs.Generating.{IsJobWorld};
 ghost use Rattle.swap_commands.specs.Output.{command_cast};
-ghost use Rattle.swap_commands.specs.Replay.{replayed, next_by, passed_over};
+ghost use Rattle.swap_commands.specs.Replay.{replayed, replayed_line, skipped_event};
 
 use command_input::{Input, InputFault};
 use deviators::Strategies;
@@ -30,7 +30,7 @@ use swap_offer::next_event;
 use swap_world::World;
 
 /// Steps the world by the event of a line, where so many events came before.
-#[tactic(auto, unfolding(crate::specs::Replay::next_by))]
+#[tactic(auto, unfolding(crate::specs::Replay::replayed_line))]
 fn step_line<A: Strategies>(
     alloc: Global,
     job: &Job,
@@ -42,15 +42,15 @@ fn step_line<A: Strategies>(
 ) -> Result<(), OfferFault>
     requires whole { IsWholeJob job.now }
     requires seeds { needs_seeds job.now.purpose ≡ true }
-    requires of { IsOf job.now world.old }
+    requires of { IsJobWorld job.now world.old }
     requires goes_on { world.old.stopped ≡ false }
     requires held { AreHeld (A.holds staff.now) job.now.roles }
-    ensures passed { Gives (λ u. u) result (next_by passed_over job.now count tt line text.now) }
+    ensures passed { Gives (λ u. u) result (replayed_line skipped_event job.now count tt line text.now) }
     ensures stepped { OnOk result ((a : Answers) → Continues world.new a
-        → next_by (step (command_cast a job.now)) job.now count world.old.state line text.now ≡ Ok world.new.state) }
+        → replayed_line (step (command_cast a job.now)) job.now count world.old.state line text.now ≡ Ok world.new.state) }
     ensures continued { OnOk result ((a : Answers) → Continues world.new a → Continues world.old a) }
     ensures asked { OnOk result (HasAsked (A.gives staff.now) world.old world.new) }
-    ensures of { OnOk result (IsOf job.now world.new) }
+    ensures of { OnOk result (IsJobWorld job.now world.new) }
     ensures goes_on { OnOk result (world.new.stopped ≡ false) }
 {
     let event = next_event(alloc, job, count, line, text)?;
@@ -97,9 +97,9 @@ pub(crate) fn replay<S: Source, A: Strategies>(
         (desk (S.left source.old) (S.faults source.old) input.old)
         (desk (S.left source.new) (S.faults source.new) input.new)) }
     ensures asked { IfOk result (λ w. HasAsked (A.gives staff.now) (new_world job.now) w) }
-    ensures of { IfOk result (λ w. IsOf job.now w) }
+    ensures of { IfOk result (λ w. IsJobWorld job.now w) }
     ensures goes_on { IfOk result (λ w. w.stopped ≡ false) }
-    ensures stops { IfErr result (λ e. Stops (λ bytes reason. replayed passed_over job.now 0 tt (ahead input.old bytes) ≡ Err reason)
+    ensures stops { IfErr result (λ e. Stops (λ bytes reason. replayed skipped_event job.now 0 tt (ahead input.old bytes) ≡ Err reason)
         (desk (S.left source.old) (S.faults source.old) input.old)
         (desk (S.left source.new) (S.faults source.new) input.new) e) }
 {
@@ -121,10 +121,10 @@ pub(crate) fn replay<S: Source, A: Strategies>(
 }
 
 /// Reads the event of a line, where so many events came before.
-#[tactic(auto, unfolding(crate::specs::Replay::next_by))]
+#[tactic(auto, unfolding(crate::specs::Replay::replayed_line))]
 fn pass_line(alloc: Global, job: &Job, count: u32, line: u32, text: &[u8]) -> Result<(), OfferFault>
     requires { IsWholeJob job.now }
-    ensures { Gives (λ u. u) result (next_by passed_over job.now count tt line text.now) }
+    ensures { Gives (λ u. u) result (replayed_line skipped_event job.now count tt line text.now) }
 {
     next_event(alloc, job, count, line, text)?;
     Ok(())
@@ -139,10 +139,10 @@ pub(crate) fn skip_events<S: Source>(
 ) -> Result<(), InputFault<Reason>>
     requires whole { IsWholeJob job.now }
     requires fits { Fits (S.left source.old) input.old }
-    ensures exact { OnOk result (Ends (λ bytes. replayed passed_over job.now 0 tt (ahead input.old bytes) ≡ Ok tt)
+    ensures exact { OnOk result (Ends (λ bytes. replayed skipped_event job.now 0 tt (ahead input.old bytes) ≡ Ok tt)
         (desk (S.left source.old) (S.faults source.old) input.old)
         (desk (S.left source.new) (S.faults source.new) input.new)) }
-    ensures stops { IfErr result (λ e. Stops (λ bytes reason. replayed passed_over job.now 0 tt (ahead input.old bytes) ≡ Err reason)
+    ensures stops { IfErr result (λ e. Stops (λ bytes reason. replayed skipped_event job.now 0 tt (ahead input.old bytes) ≡ Err reason)
         (desk (S.left source.old) (S.faults source.old) input.old)
         (desk (S.left source.new) (S.faults source.new) input.new) e) }
 {

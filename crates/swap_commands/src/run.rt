@@ -1,4 +1,5 @@
-//! The command `run`: the events of a job are replayed, its finish is made, and the report is written, or the transcript.
+//! The command `run`: the events of a job are replayed, its finish is made, and the report is
+//! written, or the transcript.
 
 ghost use Rattle.std.specs.Prelude.{◌≡◌, false, IfOk, IfErr, IsErrOf, OnOk};
 ghost use Rattle.std.specs.Io.KnownBytes.{Appends};
@@ -10,7 +11,7 @@ ghost use Rattle.swap_rules.specs.Laws.{IsDealt};
 ghost use Rattle.ledger_core.specs.Book.{IsLegalBook};
 ghost use Rattle.offer_header.specs.Names.{AreNames};
 ghost use Rattle.offer_text.specs.HeaderLine.{is_make};
-ghost use Rattle.outcome_rules.specs.Report.{conforms_in};
+ghost use Rattle.outcome_rules.specs.Report.{is_conforming_party};
 ghost use Rattle.outcome_rules.specs.Promises.{AllAreConforming};
 ghost use Rattle.swap_run.specs.Run.{start};
 ghost use Rattle.swap_run.specs.Laws.{IsKept};
@@ -23,10 +24,10 @@ ghost use Rattle.swap_offer.specs.Job.{IsWholeJob};
 ghost use Rattle.command_input.specs.Input.{Ends, Stops, desk, fresh};
 ghost use Rattle.command_input.specs.Written.{Writes};
 ghost use Rattle.command_input.specs.Streams.{streams};
-ghost use Rattle.made_jobs.specs.Generating.{IsOf};
+ghost use Rattle.made_jobs.specs.Generating.{IsJobWorld};
 ghost use Rattle.swap_commands.specs.Output.{story_report, reported, run_text};
 ghost use Rattle.swap_commands.specs.Replay.{IsConcluded, IsPlayed};
-ghost use Rattle.swap_commands.specs.Says.{IsAgainst, Says};
+ghost use Rattle.swap_commands.specs.Says.{IsCommandRefusal, Says};
 ghost use Rattle.swap_commands.specs.Words.{OfJob, Run};
 ghost use Rattle.swap_commands.specs.Strategies.{strategies};
 
@@ -67,10 +68,10 @@ fn play<S: Source, A: Strategies>(
     ensures names { IfOk result (λ p. AreNames p.0.names) }
     ensures purpose { IfOk result (λ p. p.0.purpose ≡ Purpose.Run) }
     ensures accepted { IfOk result (λ p. IsAccepted p.0.deal) }
-    ensures of { IfOk result (λ p. IsOf p.0 p.1) }
+    ensures of { IfOk result (λ p. IsJobWorld p.0 p.1) }
     ensures goes_on { IfOk result (λ p. p.1.stopped ≡ false) }
     ensures stops { IfErr result (λ e.
-        Stops (IsAgainst (A.holds staff.now) (OfJob (Run transcript))) (desk (S.left source.old) (S.faults source.old) fresh)
+        Stops (IsCommandRefusal (A.holds staff.now) (OfJob (Run transcript))) (desk (S.left source.old) (S.faults source.old) fresh)
         (desk (S.left source.new) (S.faults source.new) input.new) e) }
 {
     let Prepared { job, wallets, .. } = first_line(alloc, staff, Purpose::Run, input, source)?;
@@ -89,13 +90,13 @@ fn conclude<A: Strategies>(
 ) -> Result<Book, NoMemory>
     requires held { AreHeld (A.holds staff.now) job.now.roles }
     requires asked { HasAsked (A.gives staff.now) (new_world job.now) world }
-    requires of { IsOf job.now world }
+    requires of { IsJobWorld job.now world }
     requires goes_on { world.stopped ≡ false }
     ensures book { IfOk result (λ b. IsConcluded (A.gives staff.now) job.now world b.histories) }
     ensures kept { IfOk result (λ b. IsKept (job_cast job.now) b.histories) }
     ensures ended { IfOk result (λ b. job.now.finish ≡ Finish.Fair → IsEnded job.now.deal b.histories) }
     ensures dealt { IfOk result (λ b. job.now.finish ≡ Finish.Fair → world.state ≡ start (job_cast job.now) → AllAreConforming job.now.deal job.now.conforming
-        → IsDealt job.now.deal (conforms_in job.now.conforming) b.histories) }
+        → IsDealt job.now.deal (is_conforming_party job.now.conforming) b.histories) }
 {
     finish(&mut world, staff, job)?;
     look_at_disks(&world);
@@ -130,7 +131,8 @@ fn write_text<K: Sink>(
     }
 }
 
-/// Writes the report of a job's book, or its transcript, and says whether the report tells of a finding.
+/// Writes the report of a job's book, or its transcript, and says whether the report tells of a
+/// finding.
 pub(crate) fn tell<K: Sink>(
     alloc: Global,
     transcript: bool,

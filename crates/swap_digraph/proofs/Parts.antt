@@ -1,6 +1,6 @@
 -- Paths to the one leader, and the part of such a path up to a follower on it.
 use Rattle.std.proofs.Common.{◌≡◌, ◌⊎◌, ℕ, Bool, true, false, not, List, [], ◌∷◌, refl, sym, ap, ◌∙◌, subst, inl, inr, eqb-true, eq-eqb, lt-ltb}
-use Rattle.swap_base.specs.Lists.{IsIn}
+use Rattle.swap_base.specs.Lists.{IsElement}
 use Rattle.swap_base.proofs.Lists.{and_parts, and_both}
 use Rattle.swap_digraph.specs.Value.{Graph}
 use Rattle.swap_digraph.specs.Graph.{is_path, has_arc, is_listed, first_is, last_is, are_followers}
@@ -13,7 +13,7 @@ leader_among l v e = go (is_listed-true v (l ∷ []) (no_not (is_listed v (l ∷
     no_not true h = refl
     no_not false h = cc h
 
-    go : IsIn v (l ∷ []) → v ≡ l
+    go : IsElement v (l ∷ []) → v ≡ l
     go (inl q) = q
     go (inr i) = absurd i
 
@@ -39,7 +39,7 @@ Meets l p = (last_is l p ≡ true) ⊎ (are_followers (l ∷ []) p ≡ true)
 pub meets_rest : (g : Graph) (l u w : ℕ) (p : List ℕ) → is_path g (u ∷ w ∷ p) ≡ true → Meets l (u ∷ w ∷ p)
     → (not (is_listed u (l ∷ [])) ≡ true) × Meets l (w ∷ p)
 meets_rest g l u w p e (inl last) = (
-  not_leader l u (λ q. (path_step g u w p e).fresh (subst (λ x. IsIn x (w ∷ p)) (sym q) (last_unlock l (w
+  not_leader l u (λ q. (path_step g u w p e).fresh (subst (λ x. IsElement x (w ∷ p)) (sym q) (last_unlock l (w
       ∷ p) last))),
   inl last,
 )
@@ -53,9 +53,9 @@ module _ (g : Graph) (l : ℕ) where
     pub first : first_is u part ≡ true
     pub last : last_is v part ≡ true
     pub followers : are_followers (l ∷ []) part ≡ true
-    pub inside : (x : ℕ) → IsIn x part → IsIn x p
+    pub inside : (x : ℕ) → IsElement x part → IsElement x p
 
-  pub part_to : (u v : ℕ) (p : List ℕ) → is_path g (u ∷ p) ≡ true → Meets l (u ∷ p) → (v ≡ l → ⊥) → IsIn v (u ∷ p) → Part u v (u ∷ p)
+  pub part_to : (u v : ℕ) (p : List ℕ) → is_path g (u ∷ p) ≡ true → Meets l (u ∷ p) → (v ≡ l → ⊥) → IsElement v (u ∷ p) → Part u v (u ∷ p)
   part_to u v p e m n (inl q) = record {
     part = u ∷ [];
     path = lt-ltb u g.n (path_below g (u ∷ p) u e (inl refl));
@@ -74,7 +74,7 @@ module _ (g : Graph) (l : ℕ) where
       go s a r = more r.part r.path r.first r.last r.followers r.inside
         where
           more : (q : List ℕ) → is_path g q ≡ true → first_is w q ≡ true → last_is v q ≡ true → are_followers (l ∷ []) q ≡ true
-              → ((x : ℕ) → IsIn x q → IsIn x (w ∷ p)) → Part u v (u ∷ w ∷ p)
+              → ((x : ℕ) → IsElement x q → IsElement x (w ∷ p)) → Part u v (u ∷ w ∷ p)
           more [] k f t o m = absurd (cc k)
           more (z ∷ q) k f t o m =
               let same : z ≡ w = eqb-true z w f in

@@ -2,29 +2,29 @@
 use Rattle.std.proofs.Common.{◌≡◌, ◌⊎◌, ℕ, suc, ◌<◌, ◌≤◌, ◌==◌, Bool, true, false, cond, not, ◌&&◌, ◌||◌, List, [], ◌∷◌, ◌++◌, length}
 use Rattle.std.proofs.Common.{filter, refl, sym, ap, ◌∙◌, subst, inl, inr, arith, eqb-true, eq-eqb, ltb-true, lt-ltb, nat_lt}
 use Rattle.std.specs.List.{range_with_len}
-use Rattle.swap_base.specs.Lists.{IsIn}
+use Rattle.swap_base.specs.Lists.{IsElement}
 use Rattle.swap_base.proofs.Lists.{and_parts, and_both, list_any-in, from_filter, in_range, from_append, length-range}
 use Rattle.swap_digraph.specs.Value.{Graph}
 use Rattle.swap_digraph.specs.Graph.{is_path, is_listed, has_arc, first_is, last_is, are_followers, IsConnectingPath}
 
-is_listed-head : (v w : ℕ) (vs : List ℕ) (b : Bool) → (w == v) ≡ b → (b || is_listed v vs) ≡ true → (is_listed v vs ≡ true → IsIn v vs) → IsIn v (w ∷ vs)
+is_listed-head : (v w : ℕ) (vs : List ℕ) (b : Bool) → (w == v) ≡ b → (b || is_listed v vs) ≡ true → (is_listed v vs ≡ true → IsElement v vs) → IsElement v (w ∷ vs)
 is_listed-head v w vs true h k rest = inl (sym (eqb-true w v h))
 is_listed-head v w vs false h k rest = inr (rest k)
 
-pub is_listed-true : (v : ℕ) (vs : List ℕ) → is_listed v vs ≡ true → IsIn v vs
+pub is_listed-true : (v : ℕ) (vs : List ℕ) → is_listed v vs ≡ true → IsElement v vs
 is_listed-true v [] e = absurd (cc e)
 is_listed-true v (w ∷ vs) e = is_listed-head v w vs (w == v) refl e (is_listed-true v vs)
 
-pub in-is_listed : (v : ℕ) (vs : List ℕ) → IsIn v vs → is_listed v vs ≡ true
+pub in-is_listed : (v : ℕ) (vs : List ℕ) → IsElement v vs → is_listed v vs ≡ true
 in-is_listed v vs i = list_any-in (λ w. w == v) vs v (eq-eqb v v refl) i
 
 abbrev pub AreDistinct : List ℕ → Type 0
 AreDistinct [] = Unit {0}
-AreDistinct (x ∷ p) = (IsIn x p → ⊥) × AreDistinct p
+AreDistinct (x ∷ p) = (IsElement x p → ⊥) × AreDistinct p
 
 pub record Step (g : Graph) (u v : ℕ) (p : List ℕ) : Type 0 where
   pub below : u < g.n
-  pub fresh : IsIn u (v ∷ p) → ⊥
+  pub fresh : IsElement u (v ∷ p) → ⊥
   pub arc : has_arc g u v ≡ true
   pub rest : is_path g (v ∷ p) ≡ true
 
@@ -39,14 +39,14 @@ path_step g u v p e =
     no_not true h k = cc h
     no_not false h k = cc k
 
-pub not_among : (u : ℕ) (p : List ℕ) → (IsIn u p → ⊥) → not (is_listed u p) ≡ true
+pub not_among : (u : ℕ) (p : List ℕ) → (IsElement u p → ⊥) → not (is_listed u p) ≡ true
 not_among u p h = go (is_listed u p) refl
   where
     go : (b : Bool) → is_listed u p ≡ b → not b ≡ true
     go true e = absurd (h (is_listed-true u p e))
     go false e = refl
 
-pub path_more : (g : Graph) (u v : ℕ) (p : List ℕ) → u < g.n → (IsIn u (v ∷ p) → ⊥) → has_arc g u v ≡ true → is_path g (v ∷ p) ≡ true
+pub path_more : (g : Graph) (u v : ℕ) (p : List ℕ) → u < g.n → (IsElement u (v ∷ p) → ⊥) → has_arc g u v ≡ true → is_path g (v ∷ p) ≡ true
     → is_path g (u ∷ v ∷ p) ≡ true
 path_more g u v p b f a r =
     and_both (nat_lt u g.n && not (is_listed u (v ∷ p)) && has_arc g u v) (is_path g (v ∷ p))
@@ -58,14 +58,14 @@ path_distinct g [] e = tt
 path_distinct g (u ∷ []) e = (λ i. i, tt)
 path_distinct g (u ∷ v ∷ p) e = let s = path_step g u v p e in (s.fresh, path_distinct g (v ∷ p) s.rest)
 
-pub path_below : (g : Graph) (p : List ℕ) (x : ℕ) → is_path g p ≡ true → IsIn x p → x < g.n
+pub path_below : (g : Graph) (p : List ℕ) (x : ℕ) → is_path g p ≡ true → IsElement x p → x < g.n
 path_below g [] x e i = absurd i
 path_below g (u ∷ []) x e (inl q) = rw q (ltb-true u g.n e)
 path_below g (u ∷ []) x e (inr i) = absurd i
 path_below g (u ∷ v ∷ p) x e (inl q) = rw q (path_step g u v p e).below
 path_below g (u ∷ v ∷ p) x e (inr i) = path_below g (v ∷ p) x (path_step g u v p e).rest i
 
-pub last_unlock : (l : ℕ) (p : List ℕ) → last_is l p ≡ true → IsIn l p
+pub last_unlock : (l : ℕ) (p : List ℕ) → last_is l p ≡ true → IsElement l p
 last_unlock l [] e = absurd (cc e)
 last_unlock l (u ∷ []) e = inl (sym (eqb-true u l e))
 last_unlock l (u ∷ w ∷ p) e = inr (last_unlock l (w ∷ p) e)
@@ -76,7 +76,7 @@ alone g v [] e f l = absurd (cc e)
 alone g v (u ∷ []) e f l = refl
 alone g v (u ∷ w ∷ p) e f l =
     let s = path_step g u w p e in
-    absurd (s.fresh (subst (λ x. IsIn x (w ∷ p)) (sym (eqb-true u v f)) (last_unlock v (w ∷ p) l)))
+    absurd (s.fresh (subst (λ x. IsElement x (w ∷ p)) (sym (eqb-true u v f)) (last_unlock v (w ∷ p) l)))
 
 pub some_length : (g : Graph) (p : List ℕ) → is_path g p ≡ true → 0 < length p
 some_length g [] e = absurd (cc e)
@@ -87,20 +87,20 @@ some_length g (u ∷ p) e = omega arith
 pub record Without (x : ℕ) (ls : List ℕ) : Type 0 where
   pub rest : List ℕ
   pub shorter : length ls ≡ suc (length rest)
-  pub others : (y : ℕ) → (y ≡ x → ⊥) → IsIn y ls → IsIn y rest
+  pub others : (y : ℕ) → (y ≡ x → ⊥) → IsElement y ls → IsElement y rest
 
-without : (x : ℕ) (ls : List ℕ) → IsIn x ls → Without x ls
+without : (x : ℕ) (ls : List ℕ) → IsElement x ls → Without x ls
 without x [] i = absurd i
 without x (l ∷ ls) (inl e) = record { rest = ls; shorter = refl; others = λ y n. elim [ inl q ↦ absurd (n (q ∙ sym e)) | inr j ↦ j ] }
 without x (l ∷ ls) (inr i) =
     let w = without x ls i in
     record { rest = l ∷ w.rest; shorter = ap suc w.shorter; others = λ y n. elim [ inl q ↦ inl q | inr j ↦ inr (w.others y n j) ] }
 
-pub subset_length : (p ls : List ℕ) → AreDistinct p → ((x : ℕ) → IsIn x p → IsIn x ls) → length p ≤ length ls
+pub subset_length : (p ls : List ℕ) → AreDistinct p → ((x : ℕ) → IsElement x p → IsElement x ls) → length p ≤ length ls
 subset_length [] ls d h = omega arith
 subset_length (x ∷ p) ls d h =
     let w = without x ls (h x (inl refl)) in
-    let k = subset_length p w.rest d.1 (λ y i. w.others y (λ e. d.0 (subst (λ z. IsIn z p) e i)) (h y (inr i))) in
+    let k = subset_length p w.rest d.1 (λ y i. w.others y (λ e. d.0 (subst (λ z. IsElement z p) e i)) (h y (inr i))) in
     let s = w.shorter in omega arith
 
 pub path_length : (g : Graph) (p : List ℕ) → is_path g p ≡ true → length p ≤ g.n
@@ -118,7 +118,7 @@ distinct_filter f (x ∷ p) d = go (f x) (distinct_filter f p d.1)
 
 -- Paths of followers that go on.
 
-pub path_snoc : (g : Graph) (p : List ℕ) (x u : ℕ) → is_path g p ≡ true → last_is x p ≡ true → has_arc g x u ≡ true → u < g.n → (IsIn u p → ⊥)
+pub path_snoc : (g : Graph) (p : List ℕ) (x u : ℕ) → is_path g p ≡ true → last_is x p ≡ true → has_arc g x u ≡ true → u < g.n → (IsElement u p → ⊥)
     → (is_path g (p ++ u ∷ []) ≡ true) × (last_is u (p ++ u ∷ []) ≡ true)
 path_snoc g [] x u e last a b f = absurd (cc e)
 path_snoc g (w ∷ []) x u e last a b f =
@@ -129,7 +129,7 @@ path_snoc g (w ∷ y ∷ p) x u e last a b f =
     let r = path_snoc g (y ∷ p) x u s.rest last a b (λ j. f (inr j)) in
     (path_more g w y (p ++ u ∷ []) s.below (λ j. apart (from_append (y ∷ p) (u ∷ []) w j) s) s.arc r.0, r.1)
   where
-    apart : IsIn w (y ∷ p) ⊎ IsIn w (u ∷ []) → Step g w y p → ⊥
+    apart : IsElement w (y ∷ p) ⊎ IsElement w (u ∷ []) → Step g w y p → ⊥
     apart (inl j) s = s.fresh j
     apart (inr (inl q)) s = f (inl (sym q))
     apart (inr (inr j)) s = j
@@ -139,7 +139,7 @@ pub record Suffix (g : Graph) (ls : List ℕ) (u x : ℕ) : Type 0 where
   pub between : IsConnectingPath g u x part
   pub followers : are_followers ls part ≡ true
 
-pub suffix_from : (g : Graph) (ls p : List ℕ) (u x : ℕ) → is_path g p ≡ true → last_is x p ≡ true → are_followers ls p ≡ true → IsIn u p → Suffix g ls u x
+pub suffix_from : (g : Graph) (ls p : List ℕ) (u x : ℕ) → is_path g p ≡ true → last_is x p ≡ true → are_followers ls p ≡ true → IsElement u p → Suffix g ls u x
 suffix_from g ls [] u x e last o i = absurd i
 suffix_from g ls (w ∷ p) u x e last o (inl q) = record { part = w ∷ p; between = (e, eq-eqb w u (sym q), last); followers = o }
 suffix_from g ls (w ∷ []) u x e last o (inr i) = absurd i

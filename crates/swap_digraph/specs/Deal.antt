@@ -58,12 +58,14 @@ abbrev pub most_arcs : Version → ℕ
 most_arcs One = 96
 most_arcs Two = 128
 
--- The keys have a row per party and a key per lock in hashkeys mode, and are none in timelocks mode.
+-- The keys have a row per party and a key per lock in hashkeys mode, and are none in timelocks
+-- mode.
 abbrev pub HasKeys : Mode → Deal → Type 0
 HasKeys Timelocks d = d.keys ≡ []
 HasKeys Hashkeys d = (length d.keys ≡ d.graph.n) × ((p : ℕ) → p < d.graph.n → length (slice_index_or d.keys p []) ≡ length d.leaders)
 
--- The lists of a deal are as long as its digraph and its leaders ask, and its numbers are in their ranges.
+-- The lists of a deal are as long as its digraph and its leaders ask, and its numbers are in their
+-- ranges.
 pub record IsWellSized (d : Deal) : Type 0 where
   pub ends : HasEnds d.graph
   pub parties : (2 ≤ d.graph.n) × (d.graph.n ≤ most_parties d.version)

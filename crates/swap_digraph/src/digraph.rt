@@ -14,7 +14,8 @@ use std::alloc::Global;
 use std::marker::Model;
 use swap_base::{ArcId, Fault, Listed, NoMemory, PartyId, TryCopy};
 
-/// A digraph: its parties by number, its arcs, and for each party its entering and leaving arcs, ascending.
+/// A digraph: its parties by number, its arcs, and for each party its entering and leaving arcs,
+/// ascending.
 #[derive(Debug, Drop)]
 pub struct Digraph {
     n: u8,
@@ -126,8 +127,8 @@ fn first_fault(n: u8, version: Version, arcs: &[ArcEnds]) -> Option<ArcFault>
 }
 
 impl Digraph {
-    /// The digraph of n parties with these arcs, or the first fault of the least arc that has one. In version 1 no two arcs have the same ends;
-    /// in version 2 they may.
+    /// The digraph of n parties with these arcs, or the first fault of the least arc that has one.
+    /// In version 1 no two arcs have the same ends; in version 2 they may.
     #[tactic(auto, unfolding(crate::specs::Arcs::build_digraph))]
     pub fn new(
         alloc: Global,

@@ -1,6 +1,7 @@
 //! The digraph of a swap and the deal that its parties agree to (Herlihy 2018, section 2).
 //!
-//! Read `specs/Graph.antt` first: paths, strong connectivity, feedback vertex sets, the longest path of followers, and distances.
+//! Read `specs/Graph.antt` first: paths, strong connectivity, feedback vertex sets, the longest
+//! path of followers, and distances.
 #![tactic(auto)]
 
 mod arc_ends;

@@ -12,12 +12,12 @@ use Rattle.swap_digraph.specs.declared.deal.Mode.{Mode}
 use Rattle.swap_digraph.specs.declared.deal.Mode.TheVariants.{Timelocks, Hashkeys}
 use Rattle.swap_digraph.specs.declared.deal.Version.{Version}
 use Rattle.swap_digraph.specs.declared.deal.Version.TheVariants.{One, Two}
-use Rattle.leader_check.specs.Distance.{dist_of}
+use Rattle.leader_check.specs.Distance.{leader_distance}
 use Rattle.leader_check.proofs.Far.{dist_is, dist_bounded, dist_by_rounds}
 use Rattle.hashkey_path.proofs.Feeding.{any_id}
 use Rattle.swap_rules.specs.Accepted.{IsAccepted, IsOfVersion, IsTimed}
-use Rattle.proposed_deal.specs.Proposed.{IsLedFor, IsProposed}
-use Rattle.swap_gen.specs.Made.{hashlock_from, seed_keys, all_keys, arc_timelock, all_timelocks, filled, made_deal}
+use Rattle.proposed_deal.specs.Proposed.{HasModeLeaders, IsProposed}
+use Rattle.swap_gen.specs.Made.{seed_hashlock, seed_keys, all_keys, arc_timelock, all_timelocks, filled, made_deal}
 
 -- The one leader of a deal with timelocks.
 
@@ -26,7 +26,7 @@ one_of [] e = absurd (omega arith)
 one_of (x ∷ []) e = refl
 one_of (x ∷ y ∷ xs) e = absurd (omega arith)
 
-pub led_by_one : (m : Mode) (d : Deal) → m ≡ Timelocks → IsLedFor m d → length d.leaders ≡ 1
+pub led_by_one : (m : Mode) (d : Deal) → m ≡ Timelocks → HasModeLeaders m d → length d.leaders ≡ 1
 led_by_one Timelocks d e h = h
 led_by_one Hashkeys d e h = absurd (cc e)
 
@@ -43,7 +43,7 @@ module _ (d : Deal) (k : IsProposed d) (one : length d.leaders ≡ 1) where
   pub height_alone : IsHeight d.graph (lock_leader d 0 ∷ []) k.height
   height_alone = subst (λ ls. IsHeight d.graph ls k.height) alone k.is_height
 
-  pub dist_at : (v : ℕ) → v < d.graph.n → IsDist d.graph (lock_leader d 0) v (dist_of d.graph (lock_leader d 0) v)
+  pub dist_at : (v : ℕ) → v < d.graph.n → IsDist d.graph (lock_leader d 0) v (leader_distance d.graph (lock_leader d 0) v)
   dist_at v lt =
       let far = dist_is d.graph (lock_leader d 0) k.ends k.strong leader_below feedback_alone k.height k.height v height_alone (omega arith) lt in
       subst (IsDist d.graph (lock_leader d 0) v) (dist_by_rounds d.graph
@@ -69,22 +69,22 @@ pub timelock_at : (d : Deal) (a : ℕ) → a < length d.graph.arcs → slice_ind
 timelock_at d a lt = get_or-map-range_with_len (arc_timelock d) 0 (length d.graph.arcs) a a 0 lt (omega arith)
 
 -- a distance is at most the bound
-pub dist_low : (d : Deal) (k : IsProposed d) → length d.leaders ≡ 1 → (v : ℕ) → v < d.graph.n → dist_of d.graph (lock_leader d 0) v ≤ 64
+pub dist_low : (d : Deal) (k : IsProposed d) → length d.leaders ≡ 1 → (v : ℕ) → v < d.graph.n → leader_distance d.graph (lock_leader d 0) v ≤ 64
 dist_low d k one v lt =
     let b = dist_bounded d.graph (lock_leader d 0) k.ends k.strong (leader_below d k one) (feedback_alone d k one) k.height v
-    (dist_of d.graph (lock_leader d 0) v) (height_alone d k one) (dist_at d k one v lt) in
+    (leader_distance d.graph (lock_leader d 0) v) (height_alone d k one) (dist_at d k one v lt) in
     let m : times.need d.graph.n 1 k.height ≤ d.bound = subst (λ n. times.need d.graph.n n k.height ≤ d.bound) one k.bound.0 in
     let most = k.bound.1 in
     omega (arith, b, m, most)
 
-timelocks_low : (m : Mode) (d : Deal) → IsProposed d → IsLedFor m d → (a : ℕ) → a < length d.graph.arcs → slice_index (all_timelocks m d) a ≤ 1000000
+timelocks_low : (m : Mode) (d : Deal) → IsProposed d → HasModeLeaders m d → (a : ℕ) → a < length d.graph.arcs → slice_index (all_timelocks m d) a ≤ 1000000
 timelocks_low Timelocks d k one a lt =
     let e = timelock_at d a lt in
     let far = dist_low d k one (counterparty d a) (k.ends.to a lt) in
     let b = k.bound.1 in
     let s = k.start.1 in
     let t = k.delta.1 in
-    let n : d.bound + 1 + dist_of d.graph (lock_leader d 0) (counterparty d a) ≤ 129 = omega (arith, far, b) in
+    let n : d.bound + 1 + leader_distance d.graph (lock_leader d 0) (counterparty d a) ≤ 129 = omega (arith, far, b) in
     let m = mul-le-mul_right d.delta n in
     omega (arith, e, m, s, t)
 timelocks_low Hashkeys d k one a lt = let e = get_or-replicate {A = ℕ} (length d.graph.arcs) a 0 0 lt in omega (arith, e)
@@ -101,7 +101,7 @@ filled_is_sized seeds d k = record {
   bound = k.bound.1;
   amounts = k.one_amount_each;
   amount = λ a lt. (k.amounts a lt).1;
-  hashlocks = length-map d.leaders (hashlock_from seeds);
+  hashlocks = length-map d.leaders (seed_hashlock seeds);
   keys = keys_sized d.mode seeds d (filled seeds d) refl refl refl;
   timelocks = timelocks_sized d.mode d;
   timelock = timelocks_low d.mode d k k.led;
@@ -114,12 +114,12 @@ same_timelocks Hashkeys d hs ks = refl
 
 -- filled in one after another
 pub sized_with : (seeds : List (Option (List ℕ))) (d : Deal) (hs : List (List ℕ)) (ks : List (List (List ℕ))) (ts : List ℕ) → IsProposed d
-    → hs ≡ map (hashlock_from seeds) d.leaders → ks ≡ all_keys d.mode seeds d
+    → hs ≡ map (seed_hashlock seeds) d.leaders → ks ≡ all_keys d.mode seeds d
     → ts ≡ all_timelocks d.mode (record d { hashlocks = hs; keys = ks }) → IsWellSized (record d { hashlocks = hs; keys = ks; timelocks = ts })
 sized_with seeds d hs ks ts k eh ek et =
     subst (λ (x : List (List ℕ)). IsWellSized (record d { hashlocks = x; keys = ks; timelocks = ts })) (sym eh)
-    (subst (λ (x : List (List (List ℕ))). IsWellSized (record d { hashlocks = map (hashlock_from seeds) d.leaders; keys = x; timelocks = ts })) (sym ek)
-    (subst (λ (x : List ℕ). IsWellSized (record d { hashlocks = map (hashlock_from seeds) d.leaders; keys = all_keys d.mode seeds d; timelocks = x }))
+    (subst (λ (x : List (List (List ℕ))). IsWellSized (record d { hashlocks = map (seed_hashlock seeds) d.leaders; keys = x; timelocks = ts })) (sym ek)
+    (subst (λ (x : List ℕ). IsWellSized (record d { hashlocks = map (seed_hashlock seeds) d.leaders; keys = all_keys d.mode seeds d; timelocks = x }))
     (sym (et ∙ same_timelocks d.mode d hs ks)) (filled_is_sized seeds d k)))
 
 -- Acceptance.
@@ -128,13 +128,13 @@ version_kept : (v : Version) (d e : Deal) → e.graph ≡ d.graph → e.mode ≡
 version_kept One d e g m h = subst (λ x. (a b : ℕ) → a < length x.arcs → b < length x.arcs → ends x a ≡ ends x b → a ≡ b) (sym g) h
 version_kept Two d e g m h = m ∙ h
 
-timed_by : (m : Mode) (seeds : List (Option (List ℕ))) (d : Deal) (e : Deal) → IsProposed d → IsLedFor m d → e ≡ made_deal seeds d
+timed_by : (m : Mode) (seeds : List (Option (List ℕ))) (d : Deal) (e : Deal) → IsProposed d → HasModeLeaders m d → e ≡ made_deal seeds d
     → e.timelocks ≡ all_timelocks m d → IsTimed m e
 unfolding made_deal
 timed_by Timelocks seeds d e k one s t = rw s (
   one,
   λ a lt. record {
-    dist = dist_of d.graph (lock_leader d 0) (counterparty d a);
+    dist = leader_distance d.graph (lock_leader d 0) (counterparty d a);
     is_dist = dist_at d k one (counterparty d a) (k.ends.to a lt);
     timelock = ap (λ (ts : List ℕ). slice_index ts a) (ap (λ x. x.timelocks) (sym s) ∙ t) ∙ timelock_at d a lt;
   },

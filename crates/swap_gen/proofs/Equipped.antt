@@ -11,7 +11,7 @@ use Rattle.party_wallet.specs.Value.{WalletState}
 use Rattle.party_wallet.specs.Keys.{new_wallet}
 use Rattle.party_wallet.specs.Wallets.{job_wallet}
 use Rattle.proposed_deal.specs.Proposed.{IsProposed}
-use Rattle.swap_gen.specs.Made.{all_keys, made, made_deal, read_seed}
+use Rattle.swap_gen.specs.Made.{all_keys, made, made_deal, seed_or_zeros}
 use Rattle.swap_gen.specs.Owned.{inside_wallets}
 use Rattle.swap_gen.specs.Drawn.{generated, plain_deal, plain_job}
 use Rattle.swap_gen.proofs.Generated.{generated_is, plain_has_seeds, plain_job_is_proposed}
@@ -37,12 +37,12 @@ plain_parties : (seed n : ℕ) → (plain_job seed n).deal.graph.n ≡ n
 unfolding plain_job plain_deal
 plain_parties seed n = refl
 
-plain_wallets : (seed n : ℕ) → map (λ p. Some (new_wallet (read_seed (plain_job seed n).seeds p) p (plain_job seed n).deal)) (range_with_len 0
+plain_wallets : (seed n : ℕ) → map (λ p. Some (new_wallet (seed_or_zeros (plain_job seed n).seeds p) p (plain_job seed n).deal)) (range_with_len 0
     (plain_job seed n).deal.graph.n)
     ≡ inside_wallets (plain_job seed n)
 plain_wallets seed n =
     let job : Job = plain_job seed n in
-    same_from (λ p. Some (new_wallet (read_seed job.seeds p) p job.deal)) (job_wallet job.deal job.conforming job.seeds) 0 job.deal.graph.n
+    same_from (λ p. Some (new_wallet (seed_or_zeros job.seeds p) p job.deal)) (job_wallet job.deal job.conforming job.seeds) 0 job.deal.graph.n
     (λ p lo hi.
     let lt : p < job.deal.graph.n = omega (arith, hi) in
     wallet_at (slice_index_or job.conforming p false) (slice_index_or job.seeds p None) (replicate 32 0) (λ s. new_wallet s p job.deal)
@@ -79,8 +79,8 @@ module _ (seed n : ℕ) (job : Job) (job_is : job ≡ plain_job seed n) where
       ∙ generated_is seed n
 
   pub has_wallets : (wallets : List (Option WalletState))
-      → wallets ≡ map (λ p. Some (new_wallet (read_seed job.seeds p) p job.deal)) (range_with_len 0 job.deal.graph.n)
+      → wallets ≡ map (λ p. Some (new_wallet (seed_or_zeros job.seeds p) p job.deal)) (range_with_len 0 job.deal.graph.n)
       → wallets ≡ inside_wallets (generated seed n)
   has_wallets wallets e =
-      e ∙ ap (λ (j : Job). map (λ p. Some (new_wallet (read_seed j.seeds p) p j.deal)) (range_with_len 0 j.deal.graph.n)) job_is
+      e ∙ ap (λ (j : Job). map (λ p. Some (new_wallet (seed_or_zeros j.seeds p) p j.deal)) (range_with_len 0 j.deal.graph.n)) job_is
       ∙ plain_wallets seed n ∙ made_wallets (plain_job seed n)

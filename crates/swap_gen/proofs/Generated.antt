@@ -10,7 +10,7 @@ use Rattle.proposed_deal.specs.Proposed.{HaveSeeds, IsProposed}
 use Rattle.swap_gen.specs.Made.{made_deal}
 use Rattle.swap_gen.specs.Owned.{OwnsKeys}
 use Rattle.swap_gen.specs.Drawn.{drawn_graph, plain_deal, plain_job, drawn_seed, generated}
-use Rattle.swap_gen.specs.Events.{event_from}
+use Rattle.swap_gen.specs.Events.{drawn_event}
 use Rattle.swap_gen.proofs.Proposing.{plain_is_proposed}
 use Rattle.swap_gen.proofs.Accepting.{made_is_accepted}
 use Rattle.swap_gen.proofs.Owning.{made_is_owned}
@@ -40,7 +40,7 @@ plain_has_seeds seed n p lt = some_seed seed n p (subst (λ (g : Graph). p < g.n
 pub generated_is_owned : (seed n : ℕ) → (p : ℕ) → p < (generated seed n).deal.graph.n → OwnsKeys (generated seed n) p
 generated_is_owned seed n p lt = made_is_owned (plain_job seed n) (plain_has_seeds seed n) p lt
 
-pub generated_steps : (seed n k : ℕ) → 2 ≤ n → IsJobEvent (generated seed n) (event_from seed (drawn_graph seed n) k).0
+pub generated_steps : (seed n k : ℕ) → 2 ≤ n → IsJobEvent (generated seed n) (drawn_event seed (drawn_graph seed n) k).0
 generated_steps seed n k many =
     let job = generated seed n in event_steps job.deal job.conforming job.seeds seed n many (generated_graph seed n) k
 

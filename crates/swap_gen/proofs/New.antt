@@ -6,7 +6,7 @@ use Rattle.swap_job.specs.declared.job.Job.{Job}
 use Rattle.swap_gen.specs.Word.{DrawState}
 use Rattle.swap_gen.specs.Drawn.{generated}
 use Rattle.swap_gen.specs.Events.{touching, first_place, GeneratorState}
-use Rattle.swap_gen.specs.Inside.{state_in, Holds}
+use Rattle.swap_gen.specs.Inside.{generator_state, Holds}
 use Rattle.swap_gen.specs.declared.generator.Generator.TheInside.{Inside}
 use Rattle.swap_gen.proofs.Generated.{generated_graph}
 
@@ -32,7 +32,7 @@ module _ (seed n : ℕ) (many : 2 ≤ n) (few : n ≤ 24) (draws : DrawState) (j
   abbrev state_with : ℕ → ℕ → ℕ → GeneratorState
   state_with s p k = record { seed = s; parties = p; place = k }
 
-  pub new_shows : state_in inside ≡ record { seed = seed; parties = n; place = first_place seed n }
+  pub new_shows : generator_state inside ≡ record { seed = seed; parties = n; place = first_place seed n }
   new_shows =
       ap (λ (s : DrawState). state_with s.seed job.deal.graph.n s.place) draws_are
       ∙ ap (λ p. state_with seed p (first_place seed n)) parties_are

@@ -14,8 +14,8 @@ use Rattle.swap_job.specs.Step.{IsJobEvent}
 use Rattle.std.proofs.lemmas.List.FromFn.{length-range_with_len}
 use Rattle.swap_gen.specs.Word.{word, next, DrawState}
 use Rattle.swap_gen.specs.Drawn.{drawn_arcs, drawn_graph, generated}
-use Rattle.swap_gen.specs.Events.{touching, picked, event_from, GeneratorState}
-use Rattle.swap_gen.specs.Inside.{state_in, Holds}
+use Rattle.swap_gen.specs.Events.{touching, picked, drawn_event, GeneratorState}
+use Rattle.swap_gen.specs.Inside.{generator_state, Holds}
 use Rattle.swap_gen.specs.declared.generator.Generator.TheInside.{Inside}
 use Rattle.swap_gen.proofs.Rings.{arcs_have_ring}
 use Rattle.swap_gen.proofs.Stepping.{touching_some, length-filter}
@@ -35,12 +35,12 @@ act_of seed g k = (Act (word seed (next k) % g.n), next (next k))
 abbrev by_kind : (seed : ℕ) → Graph → (k : ℕ) → Bool → Bool → Event × ℕ
 by_kind seed g k tick look = cond {A = Event × ℕ} tick (entry_tick seed g k) (cond {A = Event × ℕ} look (look_of seed g k) (act_of seed g k))
 
-tick_comes : (seed : ℕ) (g : Graph) (k : ℕ) → word seed k % 8 ≡ 0 → event_from seed g k ≡ entry_tick seed g k
-unfolding event_from
+tick_comes : (seed : ℕ) (g : Graph) (k : ℕ) → word seed k % 8 ≡ 0 → drawn_event seed g k ≡ entry_tick seed g k
+unfolding drawn_event
 tick_comes seed g k e = ap (λ b. by_kind seed g k b (nat_le (word seed k % 8) 4)) (eq-eqb (word seed k % 8) 0 e)
 
-look_comes : (seed : ℕ) (g : Graph) (k : ℕ) → word seed k % 8 ≢ 0 → word seed k % 8 ≤ 4 → event_from seed g k ≡ look_of seed g k
-unfolding event_from
+look_comes : (seed : ℕ) (g : Graph) (k : ℕ) → word seed k % 8 ≢ 0 → word seed k % 8 ≤ 4 → drawn_event seed g k ≡ look_of seed g k
+unfolding drawn_event
 look_comes seed g k some few =
     ap (λ b. by_kind seed g k b (nat_le (word seed k % 8) 4)) (ne_eqb (word seed k % 8) 0 some)
     ∙ ap (λ b. by_kind seed g k false b) (le-leb (word seed k % 8) 4 few)
@@ -89,14 +89,14 @@ module _ (i : Inside) (h : Holds i) where
       omega (arith, le, e, few)
 
   -- the event that is next, as its callers see it
-  module _ (s : GeneratorState) (view : state_in i ≡ s) where
+  module _ (s : GeneratorState) (view : generator_state i ≡ s) where
     abbrev wanted : Event
-    wanted = (event_from s.seed (drawn_graph s.seed s.parties) s.place).0
+    wanted = (drawn_event s.seed (drawn_graph s.seed s.parties) s.place).0
 
-    wanted_is : (event_from i.draws.seed i.job.deal.graph i.draws.place).0 ≡ wanted
+    wanted_is : (drawn_event i.draws.seed i.job.deal.graph i.draws.place).0 ≡ wanted
     wanted_is =
-        ap (λ (g : Graph). (event_from i.draws.seed g i.draws.place).0) graph_is
-        ∙ ap (λ (t : GeneratorState). (event_from t.seed (drawn_graph t.seed t.parties) t.place).0) view
+        ap (λ (g : Graph). (drawn_event i.draws.seed g i.draws.place).0) graph_is
+        ∙ ap (λ (t : GeneratorState). (drawn_event t.seed (drawn_graph t.seed t.parties) t.place).0) view
 
     pub tick_is : (w0 w1 m : ℕ) (drew : DrawState) → w0 ≡ word i.draws.seed i.draws.place → drew ≡ record i.draws { place = next i.draws.place }
         → w0 % 8 ≡ 0 → m ≡ length i.job.deal.graph.arcs → w1 ≡ word drew.seed drew.place % m → Tick w1 1 ≡ wanted

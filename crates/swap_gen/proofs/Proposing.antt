@@ -7,7 +7,7 @@ use Rattle.swap_digraph.specs.Graph.{ends}
 use Rattle.swap_digraph.specs.Value.{Graph}
 use Rattle.swap_digraph.specs.declared.deal.Version.TheVariants.{One}
 use Rattle.swap_digraph.proofs.Faults.{has_ends}
-use Rattle.leader_check.specs.Levels.{latest_height}
+use Rattle.leader_check.specs.Levels.{greatest_level}
 use Rattle.leader_check.proofs.Heights.{greatest_level_is_height}
 use Rattle.proposed_deal.specs.Proposed.{IsProposed}
 use Rattle.swap_gen.specs.Word.{word}
@@ -52,7 +52,7 @@ plain_is_proposed seed n many few =
       apart = λ i j li lj s. sym (leader_is (leader_count seed n) i (omega (arith, size))) ∙ s ∙ leader_is (leader_count seed n) j (omega (arith, size));
       led = tt;
       feedback = feedback;
-      height = latest_height g (range_with_len 0 (leader_count seed n));
+      height = greatest_level g (range_with_len 0 (leader_count seed n));
       is_height = greatest_level_is_height g (range_with_len 0 (leader_count seed n)) feedback;
       delta = (omega arith, omega arith);
       start = (omega arith, omega arith);

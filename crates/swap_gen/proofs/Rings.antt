@@ -5,7 +5,7 @@ use Rattle.std.specs.List.{list_any, range_with_len}
 use Rattle.std.proofs.Math.Nat.{mod-lt, mod-eq_of_lt, mod_self, min-le_left, min-le_right, le-min}
 use Rattle.std.proofs.lemmas.Bool.{eqb-false, cases_lt, not-true}
 use Rattle.std.proofs.lemmas.List.FromFn.{length-map-range_with_len, map-range_with_len_more}
-use Rattle.swap_base.specs.Lists.{IsIn}
+use Rattle.swap_base.specs.Lists.{IsElement}
 use Rattle.swap_base.proofs.Lists.{and_parts, in_append, in_map, in_range, from_range}
 use Rattle.swap_digraph.specs.Arcs.{same_ends}
 use Rattle.swap_digraph.specs.declared.arc_ends.ArcEnds.{ArcEnds}
@@ -118,7 +118,7 @@ after_sound seed n (suc k) many =
 
 -- The ring's arcs stay, and each draw adds one at most.
 pub record HasRing (n most : ℕ) (xs : List ArcEnds) : Type 0 where
-  pub ring : (i : ℕ) → i < n → IsIn (ring_arc n i) xs
+  pub ring : (i : ℕ) → i < n → IsElement (ring_arc n i) xs
   pub many : n ≤ length xs
   pub few : length xs ≤ most
 

@@ -4,11 +4,11 @@ use Rattle.std.proofs.Common.{ap, ◌∙◌, subst, inl, inr, arith, eqb-true}
 use Rattle.std.specs.List.{list_all, range_with_len}
 use Rattle.std.proofs.Math.Nat.{mod-eq_of_lt, mod_self}
 use Rattle.std.proofs.lemmas.Bool.{false≢true, cases_lt, not-true}
-use Rattle.swap_base.specs.Lists.{IsIn}
+use Rattle.swap_base.specs.Lists.{IsElement}
 use Rattle.swap_base.proofs.Lists.{and_parts, list_all-from, in_range, from_range}
 use Rattle.swap_digraph.specs.Value.{Graph}
 use Rattle.swap_digraph.specs.Graph.{parties, is_path, is_listed, has_arc, last_is, are_followers, IsFeedback, IsStronglyConnected}
-use Rattle.digraph_check.specs.Reach.{reaches_in, reaches}
+use Rattle.digraph_check.specs.Reach.{reaches_in_arcs, reaches}
 use Rattle.digraph_check.proofs.Walks.{stays, along, snoc}
 use Rattle.digraph_check.proofs.Paths.{walk_reaches}
 use Rattle.digraph_check.proofs.ClosedSets.{closed_set-none, connected_of_none}
@@ -19,7 +19,7 @@ use Rattle.swap_gen.proofs.Sound.{AreSound}
 
 -- The ring.
 
-module _ (g : Graph) (some : 0 < g.n) (ring : (i : ℕ) → i < g.n → IsIn (ring_arc g.n i) g.arcs) where
+module _ (g : Graph) (some : 0 < g.n) (ring : (i : ℕ) → i < g.n → IsElement (ring_arc g.n i) g.arcs) where
   ring_step : (i : ℕ) → i + 1 < g.n → has_arc g i (i + 1) ≡ true
   ring_step i lt = arc_from g (ring_arc g.n i) i (i + 1) (ring i (omega arith)) refl (mod-eq_of_lt lt)
 
@@ -27,14 +27,14 @@ module _ (g : Graph) (some : 0 < g.n) (ring : (i : ℕ) → i < g.n → IsIn (ri
   ring_ends i e = arc_from g (ring_arc g.n i) i 0 (ring i (omega arith)) refl (ap (λ k. k % g.n) e ∙ mod_self g.n)
 
   -- party 0 reaches each in as many steps as its number
-  from_zero : (v : ℕ) → v < g.n → reaches_in g v 0 v ≡ true
+  from_zero : (v : ℕ) → v < g.n → reaches_in_arcs g v 0 v ≡ true
   from_zero zero lt = stays g 0 0
   from_zero (suc v) lt =
       let s : v + 1 ≡ suc v = omega arith in
       snoc g v 0 v (suc v) lt (subst (λ w. has_arc g v w ≡ true) s (ring_step v (omega arith))) (from_zero v (omega arith))
 
   -- each reaches party 0 by the rest of the ring
-  to_zero : (k v : ℕ) → v + k + 1 ≡ g.n → reaches_in g (suc k) v 0 ≡ true
+  to_zero : (k v : ℕ) → v + k + 1 ≡ g.n → reaches_in_arcs g (suc k) v 0 ≡ true
   to_zero zero v e = along g 0 v 0 0 some (ring_ends v (omega arith)) (stays g 0 0)
   to_zero (suc k) v e = along g (suc k) v (v + 1) 0 (omega arith) (ring_step v (omega arith)) (to_zero k (v + 1) (omega arith))
 

@@ -6,7 +6,7 @@ use Rattle.std.specs.List.{list_any}
 use Rattle.std.proofs.lemmas.Bool.{false≢true, ne_eqb, cases_lt}
 use Rattle.std.proofs.lemmas.List.{get_or_append_left, get_or-append_right}
 use Rattle.std.proofs.lemmas.List.Quantifiers.{position-Some}
-use Rattle.swap_base.specs.Lists.{IsIn}
+use Rattle.swap_base.specs.Lists.{IsElement}
 use Rattle.swap_base.proofs.Lists.{list_any-in, from_append, in_place, none_both}
 use Rattle.swap_digraph.specs.Arcs.{arc_fault, first_fault, next_arc_fault, same_ends}
 use Rattle.swap_digraph.specs.declared.arc_ends.ArcEnds.{ArcEnds}
@@ -25,7 +25,7 @@ abbrev pub AreApart : List ArcEnds → Type 0
 AreApart xs = (i j : ℕ) → i < length xs → j < length xs → get_or xs i no_arc ≡ get_or xs j no_arc → i ≡ j
 
 pub record AreSound (leaders n : ℕ) (xs : List ArcEnds) : Type 0 where
-  pub each : (a : ArcEnds) → IsIn a xs → IsRising leaders n a
+  pub each : (a : ArcEnds) → IsElement a xs → IsRising leaders n a
   pub apart : AreApart xs
   pub faultless : first_fault n One xs ≡ None
 
@@ -108,7 +108,7 @@ sound_more leaders n xs a h r fresh = record {
   faultless = faultless_more n xs a h.faultless (no_fault_at n xs (length xs) a r.from r.to r.apart fresh);
 }
   where
-    go : (b : ArcEnds) → IsIn b xs ⊎ IsIn b (a ∷ []) → IsRising leaders n b
+    go : (b : ArcEnds) → IsElement b xs ⊎ IsElement b (a ∷ []) → IsRising leaders n b
     go b (inl i) = h.each b i
     go b (inr (inl e)) = subst (IsRising leaders n) (sym e) r
     go b (inr (inr i)) = absurd i

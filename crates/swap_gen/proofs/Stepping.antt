@@ -2,7 +2,7 @@
 use Rattle.std.proofs.Common.{◌≡◌, ℕ, suc, ◌-◌, ◌%◌, ◌<◌, ◌≤◌, ◌==◌, ◌||◌, nat_le, Bool, true, false, cond, List, [], ◌∷◌, length}
 use Rattle.std.proofs.Common.{filter, get_or, sym, ap, subst, inl, inr, arith, eq-eqb}
 use Rattle.std.proofs.Math.Nat.{mod-lt}
-use Rattle.swap_base.specs.Lists.{IsIn}
+use Rattle.swap_base.specs.Lists.{IsElement}
 use Rattle.swap_base.proofs.Lists.{from_filter, in_filter, from_range, in_range, in_place}
 use Rattle.swap_digraph.specs.Graph.{arcs, ends}
 use Rattle.swap_digraph.specs.Value.{Graph}
@@ -15,18 +15,18 @@ use Rattle.swap_job.specs.Step.{CanStep, CanLook}
 use Rattle.digraph_check.proofs.ListTests.{or-left}
 use Rattle.swap_gen.specs.Word.{word, next}
 use Rattle.swap_gen.specs.Drawn.{ring_arc, drawn_arcs, drawn_graph}
-use Rattle.swap_gen.specs.Events.{touching, picked, event_from}
+use Rattle.swap_gen.specs.Events.{touching, picked, drawn_event}
 use Rattle.swap_gen.proofs.Places.{no_arc}
 use Rattle.swap_gen.proofs.Rings.{arcs_have_ring}
 
 -- An element's place.
 
-pub find_place : {A : Type 0} (xs : List A) (x d : A) → IsIn x xs → (i : ℕ) × (i < length xs) × (get_or xs i d ≡ x)
+pub find_place : {A : Type 0} (xs : List A) (x d : A) → IsElement x xs → (i : ℕ) × (i < length xs) × (get_or xs i d ≡ x)
 find_place [] x d i = absurd i
 find_place (y ∷ xs) x d (inl e) = (0, omega arith, sym e)
 find_place (y ∷ xs) x d (inr i) = let r = find_place xs x d i in (suc r.0, omega arith, r.2)
 
-some_in : {A : Type 0} (xs : List A) (x : A) → IsIn x xs → 0 < length xs
+some_in : {A : Type 0} (xs : List A) (x : A) → IsElement x xs → 0 < length xs
 some_in [] x i = absurd i
 some_in (y ∷ xs) x i = omega arith
 
@@ -60,8 +60,8 @@ picked_touches g p w some =
 -- Steps.
 
 module _ (d : Deal) (conforming : List Bool) (seeds : Seeds) (seed n : ℕ) (many : 2 ≤ n) (graph : d.graph ≡ drawn_graph seed n) where
-  pub event_steps : (k : ℕ) → CanStep d conforming seeds (event_from seed (drawn_graph seed n) k).0
-  unfolding event_from
+  pub event_steps : (k : ℕ) → CanStep d conforming seeds (drawn_event seed (drawn_graph seed n) k).0
+  unfolding drawn_event
   event_steps k = by_kind (word seed k % 8 == 0) (nat_le (word seed k % 8) 4)
     where
       g : Graph

@@ -17,8 +17,8 @@ picked xs w = slice_index xs (w % length xs)
 
 -- The event of the words from place k on, and the place after them. The first word chooses the kind
 -- of event, the second its arc or party, and a third the arc at which a party looks.
-unfoldable pub event_from : (seed : ℕ) → Graph → (k : ℕ) → Event × ℕ
-event_from seed g k =
+unfoldable pub drawn_event : (seed : ℕ) → Graph → (k : ℕ) → Event × ℕ
+drawn_event seed g k =
     let kind = word seed k % 8 in
     let w = word seed (next k) in
     let on = next (next k) in
@@ -27,17 +27,18 @@ event_from seed g k =
     else (Act (w % g.n), on)
 
 -- so many events of the words from place k on
-abbrev pub events_from : (seed : ℕ) → Graph → (k count : ℕ) → List Event
-events_from seed g k zero = []
-events_from seed g k (suc count) = (event_from seed g k).0 ∷ events_from seed g (event_from seed g k).1 count
+abbrev pub drawn_events : (seed : ℕ) → Graph → (k count : ℕ) → List Event
+drawn_events seed g k zero = []
+drawn_events seed g k (suc count) = (drawn_event seed g k).0 ∷ drawn_events seed g (drawn_event seed g k).1 count
 
--- the place of the events' first word: after the number of leaders, the ends of arcs and the amounts
+-- the place of the events' first word: after the number of leaders, the ends of arcs and the
+-- amounts
 abbrev pub first_place : (seed n : ℕ) → ℕ
 first_place seed n = 1 + 2 * n + length (drawn_arcs seed n)
 
 -- the first events of the job of a number and so many parties
 unfoldable pub generated_events : (seed n count : ℕ) → List Event
-generated_events seed n count = events_from seed (drawn_graph seed n) (first_place seed n) count
+generated_events seed n count = drawn_events seed (drawn_graph seed n) (first_place seed n) count
 
 -- A job of a number and so many parties, and where its next event is drawn.
 pub record GeneratorState : Type 0 where

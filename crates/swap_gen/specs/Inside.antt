@@ -5,8 +5,8 @@ use Rattle.swap_gen.specs.Drawn.{generated}
 use Rattle.swap_gen.specs.Events.{touching, GeneratorState}
 use Rattle.swap_gen.specs.declared.generator.Generator.TheInside.{Inside}
 
-abbrev pub state_in : Inside → GeneratorState
-state_in g = record { seed = g.draws.seed; parties = g.job.deal.graph.n; place = g.draws.place }
+abbrev pub generator_state : Inside → GeneratorState
+generator_state g = record { seed = g.draws.seed; parties = g.job.deal.graph.n; place = g.draws.place }
 
 -- The job is that of the number, and the lists are those of its arcs.
 pub record Holds (g : Inside) : Type 0 where

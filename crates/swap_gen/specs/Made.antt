@@ -7,23 +7,23 @@ use Rattle.swap_digraph.specs.Deal.{counterparty, lock_leader, locks}
 use Rattle.swap_digraph.specs.declared.deal.Deal.{Deal}
 use Rattle.swap_digraph.specs.declared.deal.Mode.{Mode}
 use Rattle.swap_digraph.specs.declared.deal.Mode.TheVariants.{Timelocks, Hashkeys}
-use Rattle.leader_check.specs.Distance.{dist_of}
+use Rattle.leader_check.specs.Distance.{leader_distance}
 use Rattle.hash_signature.specs.Signature.{hashed_value, derive_secret, derive_public_key}
 use Rattle.hashkey_path.specs.Digest.{deal_id}
 use Rattle.swap_job.specs.declared.job.Job.{Job}
 use Rattle.swap_job.specs.declared.job.Purpose.TheVariants.{Make}
 
 -- the seed of party p, and zeros where it has none
-abbrev pub read_seed : List (Option (List ℕ)) → ℕ → List ℕ
-read_seed seeds p = unwrap_or (slice_index_or seeds p None) (replicate 32 0)
+abbrev pub seed_or_zeros : List (Option (List ℕ)) → ℕ → List ℕ
+seed_or_zeros seeds p = unwrap_or (slice_index_or seeds p None) (replicate 32 0)
 
 -- the hashlock that a leader's seed gives
-abbrev pub hashlock_from : List (Option (List ℕ)) → ℕ → List ℕ
-hashlock_from seeds leader = hashed_value (derive_secret (read_seed seeds leader))
+abbrev pub seed_hashlock : List (Option (List ℕ)) → ℕ → List ℕ
+seed_hashlock seeds leader = hashed_value (derive_secret (seed_or_zeros seeds leader))
 
 -- the public keys of party p, one for each lock
 abbrev pub seed_keys : List (Option (List ℕ)) → Deal → ℕ → List (List ℕ)
-seed_keys seeds d p = map (derive_public_key (read_seed seeds p) p) (locks d)
+seed_keys seeds d p = map (derive_public_key (seed_or_zeros seeds p) p) (locks d)
 
 -- the public keys of each party; none with timelocks
 abbrev pub all_keys : Mode → List (Option (List ℕ)) → Deal → List (List (List ℕ))
@@ -32,7 +32,7 @@ all_keys Hashkeys seeds d = map (seed_keys seeds d) (range_with_len 0 d.graph.n)
 
 -- the timelock of arc a, by the distance of its counterparty from the one leader
 abbrev pub arc_timelock : Deal → ℕ → ℕ
-arc_timelock d a = times.timelock d.start d.delta d.bound (dist_of d.graph (lock_leader d 0) (counterparty d a))
+arc_timelock d a = times.timelock d.start d.delta d.bound (leader_distance d.graph (lock_leader d 0) (counterparty d a))
 
 -- the timelock of each arc; 0 with hashkeys
 abbrev pub all_timelocks : Mode → Deal → List ℕ
@@ -41,7 +41,7 @@ all_timelocks Hashkeys d = replicate (length d.graph.arcs) 0
 
 -- the deal but for its id
 abbrev pub filled : List (Option (List ℕ)) → Deal → Deal
-filled seeds d = record d { hashlocks = map (hashlock_from seeds) d.leaders; keys = all_keys d.mode seeds d; timelocks = all_timelocks d.mode d }
+filled seeds d = record d { hashlocks = map (seed_hashlock seeds) d.leaders; keys = all_keys d.mode seeds d; timelocks = all_timelocks d.mode d }
 
 -- the deal with all that the seeds give, and the digest of what it then says as its id
 unfoldable pub made_deal : List (Option (List ℕ)) → Deal → Deal

@@ -1,4 +1,5 @@
--- The words that are drawn: the key stream of ChaCha20 (RFC 8439), with Bernstein's layout of counter and stream number.
+-- The words that are drawn: the key stream of ChaCha20 (RFC 8439), with Bernstein's layout of
+-- counter and stream number.
 use Rattle.std.specs.Prelude.{ℕ, ◌+◌, ◌%◌, ◌^◌, List, ◌++◌, replicate}
 use Rattle.std.specs.Int.{w64, to_be_bytes}
 use Rattle.rand_chacha.specs.ChaCha.{word_at, key_of}

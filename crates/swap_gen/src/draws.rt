@@ -27,7 +27,7 @@ impl Model for Draws {
     ghost invariant = { λ d. (d.words.key ≡ key_of (key_bytes d.seed)) × (d.words.stream ≡ 0) };
 }
 
-fn key_of(seed: u32) -> [u8; 32]
+fn cipher_key(seed: u32) -> [u8; 32]
     ensures { result ≡ key_bytes seed }
 {
     let mut key = [0; 32];
@@ -41,7 +41,7 @@ impl Draws {
     {
         Draws {
             seed,
-            words: ChaCha20Rng::from_seed(key_of(seed)),
+            words: ChaCha20Rng::from_seed(cipher_key(seed)),
         }
     }
 

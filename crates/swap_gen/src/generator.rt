@@ -6,7 +6,7 @@ ghost use Rattle.swap_digraph.specs.Graph.{arcs};
 ghost use Rattle.swap_job.specs.Step.{IsJobEvent};
 ghost use Rattle.swap_rules.specs.Accepted.{IsAccepted};
 ghost use Rattle.swap_gen.specs.Drawn.{drawn_graph, generated};
-ghost use Rattle.swap_gen.specs.Events.{event_from, first_place, generated_events, picked, touching};
+ghost use Rattle.swap_gen.specs.Events.{drawn_event, first_place, generated_events, picked, touching};
 ghost use Rattle.swap_gen.specs.Word.{next, word};
 ghost use Rattle.swap_gen.specs.Owned.{inside_wallets, OwnsKeys};
 
@@ -33,9 +33,9 @@ impl Model for Generator {
 
     ghost Value = { GeneratorState };
 
-    ghost use Rattle.swap_gen.specs.Inside.{state_in, Holds};
+    ghost use Rattle.swap_gen.specs.Inside.{generator_state, Holds};
 
-    ghost view = { state_in };
+    ghost view = { generator_state };
 
     ghost invariant = { Holds };
 }
@@ -132,12 +132,13 @@ impl Generator {
     }
 
     /// The next event. It takes no memory.
-    // Always inlined, so that an event is made where it is taken: it has the size of its largest kind.
+    // Always inlined, so that an event is made where it is taken: it has the size of its largest
+    // kind.
     #[inline(always)]
-    #[tactic(auto, unfolding(crate::specs::Events::event_from))]
+    #[tactic(auto, unfolding(crate::specs::Events::drawn_event))]
     pub fn next_event(&mut self) -> Event
-        ensures event { result ≡ (event_from self.old.seed (drawn_graph self.old.seed self.old.parties) self.old.place).0 }
-        ensures drawn { self.new ≡ record self.old { place = (event_from self.old.seed (drawn_graph self.old.seed self.old.parties) self.old.place).1 } }
+        ensures event { result ≡ (drawn_event self.old.seed (drawn_graph self.old.seed self.old.parties) self.old.place).0 }
+        ensures drawn { self.new ≡ record self.old { place = (drawn_event self.old.seed (drawn_graph self.old.seed self.old.parties) self.old.place).1 } }
         ensures fits { IsJobEvent (generated self.old.seed self.old.parties) result }
     {
         let kind = self.draws.draw() % 8;

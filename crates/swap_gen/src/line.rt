@@ -55,8 +55,8 @@ fn put_line(out: &mut Vec<u8>, names: &[ByteText], event: &Event) -> Result<(), 
     }
 }
 
-/// Appends the line of an event that can be drawn; a call and a crash can't, and nothing is appended.
-/// Want of memory leaves the text as it was.
+/// Appends the line of an event that can be drawn; a call and a crash can't, and nothing is
+/// appended. Want of memory leaves the text as it was.
 pub fn put_event(out: &mut Vec<u8>, names: &[ByteText], event: &Event) -> Result<(), NoMemory>
     ensures ok { OnOk result (out.new.items ≡ out.old.items ++ event_line names.now event.now) }
     ensures err { OnErr result (out.new.items ≡ out.old.items) }

@@ -4,7 +4,7 @@ ghost use Rattle.std.specs.Prelude.{◌≡◌, ◌≤◌, ◌<◌, ℕ, IfOk, On
 ghost use Rattle.swap_digraph.specs.Deal.{lock_leader};
 ghost use Rattle.swap_digraph.specs.Graph.{arcs};
 ghost use Rattle.swap_digraph.specs.declared.deal.Mode.TheVariants.{Timelocks};
-ghost use Rattle.leader_check.specs.Distance.{dist_of};
+ghost use Rattle.leader_check.specs.Distance.{leader_distance};
 ghost use Rattle.swap_rules.specs.Accepted.{IsAccepted};
 ghost use Rattle.swap_gen.specs.Made.{all_keys, all_timelocks, made, made_deal, arc_timelock};
 ghost use Rattle.proposed_deal.specs.Proposed.{HaveSeeds, IsProposed};
@@ -25,7 +25,7 @@ fn deal_distances(alloc: Global, deal: &Deal) -> Result<Listed<u32>, NoMemory>
     requires mode { deal.now.mode ≡ Timelocks }
     ensures parties { IfOk result (λ l. length l ≡ deal.now.graph.n) }
     ensures dist { IfOk result (λ l. (v : ℕ) → v < deal.now.graph.n
-        → slice_index l v ≡ dist_of deal.now.graph (lock_leader deal.now 0) v) }
+        → slice_index l v ≡ leader_distance deal.now.graph (lock_leader deal.now 0) v) }
     ensures low { IfOk result (λ l. (v : ℕ) → v < deal.now.graph.n → slice_index l v ≤ 64) }
 {
     let leader = deal.leaders.as_slice()[0];
@@ -39,7 +39,7 @@ fn deal_distances(alloc: Global, deal: &Deal) -> Result<Listed<u32>, NoMemory>
 fn derive_timelocks(alloc: Global, deal: &Deal, dists: &[u32]) -> Result<Listed<u32>, NoMemory>
     requires proposed { IsProposed deal.now }
     requires parties { length dists.now ≡ deal.now.graph.n }
-    requires dist { (v : ℕ) → v < deal.now.graph.n → slice_index dists.now v ≡ dist_of deal.now.graph (lock_leader deal.now 0) v }
+    requires dist { (v : ℕ) → v < deal.now.graph.n → slice_index dists.now v ≡ leader_distance deal.now.graph (lock_leader deal.now 0) v }
     requires low { (v : ℕ) → v < deal.now.graph.n → slice_index dists.now v ≤ 64 }
     ensures { IfOk result (λ l. l ≡ map (arc_timelock deal.now) (arcs deal.now.graph)) }
 {
@@ -65,7 +65,8 @@ pub fn all_timelocks(alloc: Global, deal: &Deal) -> Result<Listed<u32>, NoMemory
     }
 }
 
-/// Fills in what the seeds give, where their public keys are at hand. Want of memory may leave a part of it filled in.
+/// Fills in what the seeds give, where their public keys are at hand. Want of memory may leave a
+/// part of it filled in.
 #[tactic(auto, unfolding(crate::specs::Made::made_deal))]
 pub(crate) fn fill(
     alloc: Global,
@@ -95,8 +96,9 @@ fn made_deal(alloc: Global, job: &Job) -> Result<Deal, NoMemory>
     Ok(deal)
 }
 
-/// The job with what its parties' seeds give: each leader's hashlock, with hashkeys each party's public keys, with timelocks each
-/// arc's timelock, and the deal's digest. What stood in their places is left out.
+/// The job with what its parties' seeds give: each leader's hashlock, with hashkeys each party's
+/// public keys, with timelocks each arc's timelock, and the deal's digest. What stood in their
+/// places is left out.
 pub fn make(alloc: Global, job: &Job) -> Result<Job, NoMemory>
     requires proposed { IsProposed job.now.deal }
     requires seeds { HaveSeeds job.now }

@@ -3,7 +3,7 @@
 ghost use Rattle.std.specs.Prelude.{◌≡◌, ◌≤◌, IfOk, length, map};
 ghost use Rattle.std.specs.List.{range_with_len};
 ghost use Rattle.hash_signature.specs.Signature.{derive_public_key};
-ghost use Rattle.swap_gen.specs.Made.{all_keys, hashlock_from, seed_keys, read_seed};
+ghost use Rattle.swap_gen.specs.Made.{all_keys, seed_hashlock, seed_keys, seed_or_zeros};
 
 use hash_signature::{derive_secret, hashed_value, keygen};
 use std::alloc::Global;
@@ -11,8 +11,8 @@ use swap_base::{Digest, Listed, NoMemory, PartyId};
 use swap_digraph::{Deal, Mode};
 
 /// The seed of a party, and zeros where it has none.
-pub(crate) fn read_seed(seeds: &[Option<Digest>], p: PartyId) -> Digest
-    ensures { result ≡ read_seed seeds.now p }
+pub(crate) fn seed_or_zeros(seeds: &[Option<Digest>], p: PartyId) -> Digest
+    ensures { result ≡ seed_or_zeros seeds.now p }
 {
     match seeds.get(p as usize) {
         Some(Some(seed)) => *seed,
@@ -26,11 +26,11 @@ pub(crate) fn seed_hashlocks(
     seeds: &[Option<Digest>],
     leaders: &[PartyId],
 ) -> Result<Listed<Digest>, NoMemory>
-    ensures { IfOk result (λ l. l ≡ map (hashlock_from seeds.now) leaders.now) }
+    ensures { IfOk result (λ l. l ≡ map (seed_hashlock seeds.now) leaders.now) }
 {
     let mut hashlocks = Vec::new(alloc);
     for leader in leaders {
-        hashlocks.push(hashed_value(&derive_secret(&read_seed(seeds, *leader))))?;
+        hashlocks.push(hashed_value(&derive_secret(&seed_or_zeros(seeds, *leader))))?;
     }
     Ok(Listed::new(hashlocks))
 }
@@ -42,9 +42,9 @@ fn seed_keys(
     locks: u8,
     p: PartyId,
 ) -> Result<Listed<Digest>, NoMemory>
-    ensures { IfOk result (λ l. l ≡ map (derive_public_key (read_seed seeds.now p) p) (range_with_len 0 locks)) }
+    ensures { IfOk result (λ l. l ≡ map (derive_public_key (seed_or_zeros seeds.now p) p) (range_with_len 0 locks)) }
 {
-    let seed = read_seed(seeds, p);
+    let seed = seed_or_zeros(seeds, p);
     let mut keys = Vec::new(alloc);
     'locks: for lock in 0..locks {
         let (_, public) = keygen(alloc, &seed, p, lock)?;

@@ -1,11 +1,12 @@
-//! The wallets of a job's parties, made before its deal, which states their public keys: so each key is made once.
+//! The wallets of a job's parties, made before its deal, which states their public keys: so each
+//! key is made once.
 
 ghost use Rattle.std.specs.Prelude.{◌≡◌, ◌≤◌, ◌<◌, ◌++◌, ◌∷◌, IfOk, OnOk, [], Some, length, map};
 ghost use Rattle.std.specs.List.{range_with_len};
 ghost use Rattle.swap_digraph.specs.declared.deal.Mode.TheVariants.{Hashkeys};
 ghost use Rattle.hash_signature.specs.Signature.{derive_public_key};
 ghost use Rattle.party_wallet.specs.Keys.{empty_wallet, new_wallet};
-ghost use Rattle.swap_gen.specs.Made.{all_keys, seed_keys, read_seed};
+ghost use Rattle.swap_gen.specs.Made.{all_keys, seed_keys, seed_or_zeros};
 ghost use Rattle.swap_gen.specs.Owned.{inside_wallets};
 ghost use Rattle.swap_gen.specs.Drawn.{generated};
 ghost use Rattle.swap_gen.specs.Events.{first_place};
@@ -13,7 +14,7 @@ ghost use Rattle.swap_gen.specs.Events.{first_place};
 use crate::draws::Draws;
 use crate::making::fill;
 use crate::plain::plain_job;
-use crate::seeds::read_seed;
+use crate::seeds::seed_or_zeros;
 use party_wallet::Wallet;
 use std::alloc::Global;
 use swap_base::{Digest, Listed, LockId, NoMemory, PartyId};
@@ -34,7 +35,7 @@ pub(crate) struct MadeJob {
 }
 
 /// The public key for a lock of a wallet with which nothing is signed.
-fn fetch_key(wallet: &Wallet, locks: u8, lock: LockId) -> Digest
+fn wallet_public_key(wallet: &Wallet, locks: u8, lock: LockId) -> Digest
     requires new { wallet.now ≡ empty_wallet Hashkeys wallet.now.seed wallet.now.party locks }
     requires lock { lock < locks }
     ensures { result ≡ derive_public_key wallet.now.seed wallet.now.party lock }
@@ -46,13 +47,13 @@ fn fetch_key(wallet: &Wallet, locks: u8, lock: LockId) -> Digest
 }
 
 /// The public keys of such a wallet, one for each lock.
-fn read_keys(alloc: Global, wallet: &Wallet, locks: u8) -> Result<Listed<Digest>, NoMemory>
+fn wallet_public_keys(alloc: Global, wallet: &Wallet, locks: u8) -> Result<Listed<Digest>, NoMemory>
     requires { wallet.now ≡ empty_wallet Hashkeys wallet.now.seed wallet.now.party locks }
     ensures { IfOk result (λ l. l ≡ map (derive_public_key wallet.now.seed wallet.now.party) (range_with_len 0 locks)) }
 {
     let mut keys = Vec::new(alloc);
     'locks: for lock in 0..locks {
-        keys.push(fetch_key(wallet, locks, lock))?;
+        keys.push(wallet_public_key(wallet, locks, lock))?;
     }
     Ok(Listed::new(keys))
 }
@@ -61,13 +62,13 @@ fn read_keys(alloc: Global, wallet: &Wallet, locks: u8) -> Result<Listed<Digest>
 fn add(alloc: Global, made: &mut KeyedWallets, job: &Job, p: PartyId) -> Result<(), NoMemory>
     requires mode { job.now.deal.mode ≡ Hashkeys }
     requires few { length job.now.deal.leaders ≤ 8 }
-    ensures wallets { OnOk result (made.new.wallets.items ≡ made.old.wallets.items ++ Some (new_wallet (read_seed job.now.seeds p) p job.now.deal) ∷ []) }
+    ensures wallets { OnOk result (made.new.wallets.items ≡ made.old.wallets.items ++ Some (new_wallet (seed_or_zeros job.now.seeds p) p job.now.deal) ∷ []) }
     ensures keys { OnOk result (made.new.keys.items ≡ made.old.keys.items ++ seed_keys job.now.seeds job.now.deal p ∷ []) }
 {
-    let seed = read_seed(job.seeds.as_slice(), p);
+    let seed = seed_or_zeros(job.seeds.as_slice(), p);
     let locks = job.deal.leaders.len() as u8;
     let wallet = Wallet::new(alloc, job.deal.mode, &seed, p, locks)?;
-    made.keys.push(read_keys(alloc, &wallet, locks)?)?;
+    made.keys.push(wallet_public_keys(alloc, &wallet, locks)?)?;
     made.wallets.push(Some(wallet))?;
     Ok(())
 }
@@ -77,7 +78,7 @@ fn prepared_wallets(alloc: Global, job: &Job) -> Result<KeyedWallets, NoMemory>
     requires mode { job.now.deal.mode ≡ Hashkeys }
     requires few { length job.now.deal.leaders ≤ 8 }
     ensures wallets { IfOk result (λ m. m.wallets.items
-        ≡ map (λ p. Some (new_wallet (read_seed job.now.seeds p) p job.now.deal)) (range_with_len 0 job.now.deal.graph.n)) }
+        ≡ map (λ p. Some (new_wallet (seed_or_zeros job.now.seeds p) p job.now.deal)) (range_with_len 0 job.now.deal.graph.n)) }
     ensures keys { IfOk result (λ m. m.keys.items ≡ all_keys Hashkeys job.now.seeds job.now.deal) }
 {
     let mut made = KeyedWallets {
@@ -90,7 +91,8 @@ fn prepared_wallets(alloc: Global, job: &Job) -> Result<KeyedWallets, NoMemory>
     Ok(made)
 }
 
-/// The job of a number and so many parties, with their wallets. The draws then stand at the first event.
+/// The job of a number and so many parties, with their wallets. The draws then stand at the first
+/// event.
 pub(crate) fn made_job(
     alloc: Global,
     draws: &mut Draws,

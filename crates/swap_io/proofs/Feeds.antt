@@ -7,7 +7,7 @@ use Rattle.std.proofs.lemmas.Bool.Decides.{nat_tests}
 use Rattle.std.proofs.lemmas.List.{take-append-drop}
 use Rattle.std.proofs.KnownBytes.{Consumes-nil, Consumes-trans}
 use Rattle.memchr.specs.Find.{Nowhere, NoneBefore, Passes, is_byte}
-use Rattle.swap_io.specs.Lines.{Reading, lacks_feed, Took, IsNext, IsCutAt, TakesLine, IsFilled, feed_of, EndsAs}
+use Rattle.swap_io.specs.Lines.{Reading, lacks_feed, Took, IsNext, IsCutAtFeed, TakesLine, IsFilled, line_end_bytes, HasLineEnd}
 use Rattle.swap_io.specs.declared.line_end.LineEnd.{LineEnd}
 use Rattle.swap_io.specs.declared.line_end.LineEnd.TheVariants.{Ended, Rest, End}
 
@@ -31,7 +31,7 @@ ten : (b : ℕ) → (b == 10) ≡ true → b ≡ 10
 ten b e = grind (arith, nat_tests)
 
 pub cut_some : (xs : List ℕ) (k : ℕ) → NoneBefore (Passes (is_byte 10) xs) 0 (length xs) k → Passes (is_byte 10) xs k
-    → IsCutAt xs (take k xs) (drop (k + 1) xs)
+    → IsCutAtFeed xs (take k xs) (drop (k + 1) xs)
 cut_some xs k none is =
     let at : drop k xs ≡ 10 ∷ drop (k + 1) xs = rw (add-one, drop-cons xs k 0 none.high) (ap (λ (b : ℕ). b ∷ drop (suc k) xs) (ten (get_or xs k 0) is)) in
     record {
@@ -134,8 +134,8 @@ nothing : (xs ys : List ℕ) → xs ++ ys ≡ [] → (xs ≡ []) × (ys ≡ [])
 nothing [] ys e = (refl, e)
 nothing (x ∷ xs) ys e = absurd (cc e)
 
-at_end : (xs ys : List ℕ) (s t : Reading) (line bytes : List ℕ) (end : LineEnd) → xs ≡ bytes ++ ys → s.kept ++ bytes ≡ line ++ (feed_of end ++ t.kept)
-    → EndsAs end line (Some ys) t → (end ≡ End) ↔ ((s.kept ≡ []) × (xs ≡ []))
+at_end : (xs ys : List ℕ) (s t : Reading) (line bytes : List ℕ) (end : LineEnd) → xs ≡ bytes ++ ys → s.kept ++ bytes ≡ line ++ (line_end_bytes end ++ t.kept)
+    → HasLineEnd end line (Some ys) t → (end ≡ End) ↔ ((s.kept ≡ []) × (xs ≡ []))
 at_end xs ys s t line bytes Ended told parts ends = (
   λ e. absurd (cc e),
   λ none.

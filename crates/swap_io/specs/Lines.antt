@@ -39,41 +39,42 @@ abbrev pub TookSome : Option (List ℕ) → Option (List ℕ) → Reading → Re
 TookSome left left' old new = (bytes : List ℕ) × Took left left' old new bytes
 
 -- nothing is kept, and nothing is left
-pub record IsOver (left : Option (List ℕ)) (now : Reading) : Type 0 where
+pub record IsReadingOver (left : Option (List ℕ)) (now : Reading) : Type 0 where
   pub kept : now.kept ≡ []
   pub none_left : IsAtEnd left
 
 -- the line feed that ended a line
-abbrev pub feed_of : LineEnd → List ℕ
-feed_of Ended = 10 ∷ []
-feed_of Rest = []
-feed_of End = []
+abbrev pub line_end_bytes : LineEnd → List ℕ
+line_end_bytes Ended = 10 ∷ []
+line_end_bytes Rest = []
+line_end_bytes End = []
 
 -- a line that a line feed ended, bytes at the end that none ended, or no further byte
-abbrev pub EndsAs : LineEnd → List ℕ → Option (List ℕ) → Reading → Type 0
-EndsAs Ended line left now = Unit {0}
-EndsAs Rest line left now = (0 < length line) × IsOver left now
-EndsAs End line left now = (line ≡ []) × IsOver left now
+abbrev pub HasLineEnd : LineEnd → List ℕ → Option (List ℕ) → Reading → Type 0
+HasLineEnd Ended line left now = Unit {0}
+HasLineEnd Rest line left now = (0 < length line) × IsReadingOver left now
+HasLineEnd End line left now = (line ≡ []) × IsReadingOver left now
 
--- What was kept, with the bytes that were taken, is the line with its line feed, if any, and what is kept now.
+-- What was kept, with the bytes that were taken, is the line with its line feed, if any, and what
+-- is kept now.
 pub record IsNext (left left' : Option (List ℕ)) (old new : Reading) (line : List ℕ) (end : LineEnd) : Type 0 where
   pub bytes : List ℕ
   pub took : Took left left' old new bytes
-  pub parts : old.kept ++ bytes ≡ line ++ (feed_of end ++ new.kept)
+  pub parts : old.kept ++ bytes ≡ line ++ (line_end_bytes end ++ new.kept)
   pub one : IsTrue (lacks_feed line)
-  pub ends : EndsAs end line left' new
+  pub ends : HasLineEnd end line left' new
 
 -- The bytes up to the first line feed, and those after it.
-pub record IsCutAt (bytes before after : List ℕ) : Type 0 where
+pub record IsCutAtFeed (bytes before after : List ℕ) : Type 0 where
   pub parts : bytes ≡ before ++ 10 ∷ after
   pub one : IsTrue (lacks_feed before)
 
 -- what was kept up to its first line feed goes to the line, or all of it where it has none
 abbrev pub TakesLine : Bool → Reading → Reading → List ℕ → List ℕ → Type 0
-TakesLine true old new line line' = (more : List ℕ) × IsCutAt old.kept more new.kept × (line' ≡ line ++ more)
+TakesLine true old new line line' = (more : List ℕ) × IsCutAtFeed old.kept more new.kept × (line' ≡ line ++ more)
 TakesLine false old new line line' = (new.kept ≡ []) × IsTrue (lacks_feed old.kept) × (line' ≡ line ++ old.kept)
 
 -- some bytes were taken and are kept, or nothing is left
 abbrev pub IsFilled : Bool → Option (List ℕ) → Option (List ℕ) → Reading → Reading → Type 0
 IsFilled true left left' old new = Took left left' old new new.kept × (0 < length new.kept)
-IsFilled false left left' old new = Took left left' old new [] × IsOver left' new
+IsFilled false left left' old new = Took left left' old new [] × IsReadingOver left' new

@@ -1,4 +1,5 @@
-//! std's reader and writer as a source and a sink, which tell their bytes as far as the reader or the writer does.
+//! std's reader and writer as a source and a sink, which tell their bytes as far as the reader or
+//! the writer does.
 
 ghost use Rattle.std.specs.Prelude.{◌≡◌, ◌<◌, ◌↔◌, [], length, IfOk, IfSome, OnOk, MatchResult};
 ghost use Rattle.std.specs.Io.{ReadsAtMost, WritesAtMost};
@@ -61,7 +62,8 @@ impl<R: Read> Source for ReaderSource<R> {
     }
 }
 
-/// A sink over a writer. Each of its errors, and a nonempty piece of which it takes nothing, is counted and is `Failed`. It never flushes.
+/// A sink over a writer. Each of its errors, and a nonempty piece of which it takes nothing, is
+/// counted and is `Failed`. It never flushes.
 #[derive(Drop)]
 pub struct WriterSink<W: Write> {
     inner: W,

@@ -1,11 +1,12 @@
-//! Where bytes come from and go to: sources and sinks, each with a count of faults, reading to the end or line by line, and writing whole.
+//! Where bytes come from and go to: sources and sinks, each with a count of faults, reading to the
+//! end or line by line, and writing whole.
 //!
 //! A call fails only where the count rose: read `Rose` and `HasCause` in `specs/Causes.antt` first.
-//! `read_all` and `write_all` say what was read or written at each of their answers. `Lines` gives one line after another and keeps little: read
-//! `specs/Lines.antt`.
-//! `flush_waiting` and `flush` hand a text to a sink piece by piece: read `specs/Handed.antt`.
-//! `ReaderSource` and `WriterSink` adapt std's reader and writer, and tell nothing of content. `VecSource` and `VecSink` lie in memory and fail where
-//! they are told to; `TextSink` grows.
+//! `read_all` and `write_all` say what was read or written at each of their answers. `Lines` gives
+//! one line after another and keeps little: read `specs/Lines.antt`. `flush_waiting` and `flush`
+//! hand a text to a sink piece by piece: read `specs/Handed.antt`. `ReaderSource` and `WriterSink`
+//! adapt std's reader and writer, and tell nothing of content. `VecSource` and `VecSink` lie in
+//! memory and fail where they are told to; `TextSink` grows.
 #![tactic(auto)]
 
 mod edge;

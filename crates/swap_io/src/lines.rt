@@ -3,7 +3,7 @@
 ghost use Rattle.std.specs.Prelude.{◌≡◌, ◌<◌, ◌≤◌, ◌+◌, ◌^◌, ◌↔◌, [], length, take, drop, IsTrue, MatchOption, IfOk, IfSome, IsErrOf, OnOk};
 ghost use Rattle.std.specs.Io.KnownBytes.{IsAtEnd};
 ghost use Rattle.swap_io.specs.Causes.{Rose};
-ghost use Rattle.swap_io.specs.Lines.{Reading, feeds, lacks_feed, past_feeds, Took, TookSome, IsNext, IsCutAt, TakesLine, IsFilled};
+ghost use Rattle.swap_io.specs.Lines.{Reading, feeds, lacks_feed, past_feeds, Took, TookSome, IsNext, IsCutAtFeed, TakesLine, IsFilled};
 
 use crate::fault::{DrainFault, LineFault};
 use crate::line_end::LineEnd;
@@ -18,7 +18,7 @@ const ROOM: usize = 8192;
 
 /// What stands before the first line feed and after it, where there is one.
 fn cut(bytes: &[u8]) -> Option<(&[u8], &[u8])>
-    ensures { MatchOption result (IsTrue (lacks_feed bytes.now)) (λ parts. IsCutAt bytes.now parts.0.now parts.1.now) }
+    ensures { MatchOption result (IsTrue (lacks_feed bytes.now)) (λ parts. IsCutAtFeed bytes.now parts.0.now parts.1.now) }
 {
     match memchr(b'\n', bytes) {
         Some(at) => Some((&bytes[..at], &bytes[at + 1..])),
@@ -168,7 +168,8 @@ impl Lines {
         }
     }
 
-    /// Passes over the empty lines that what is kept begins with, and answers how many. It reads nothing.
+    /// Passes over the empty lines that what is kept begins with, and answers how many. It reads
+    /// nothing.
     pub fn pass_feeds(&mut self) -> usize
         ensures count { result ≡ feeds self.old.kept }
         ensures past { self.new ≡ past_feeds self.old }

@@ -123,8 +123,8 @@ impl Model for VecSink {
 }
 
 impl VecSink {
-    /// A sink that takes at most `per_call` bytes at a call and at most `room` in all, with its memory taken at once.
-    /// The calls whose numbers, from 0, are in `failing` fail.
+    /// A sink that takes at most `per_call` bytes at a call and at most `room` in all, with its
+    /// memory taken at once. The calls whose numbers, from 0, are in `failing` fail.
     pub fn new(
         alloc: Global,
         room: usize,

@@ -15,7 +15,8 @@ pub trait Sink {
     // How many calls have failed, held at 2^64 - 1.
     ghost faults: { Self → ℕ };
 
-    /// Takes the first of these bytes, at least one where there is one, and answers how many. None are taken where the call fails.
+    /// Takes the first of these bytes, at least one where there is one, and answers how many. None
+    /// are taken where the call fails.
     fn write(&mut self, bytes: &[u8]) -> Result<usize, Failed>
         ensures bound { WritesAtMost result bytes.now }
         ensures some { IfOk result (λ n. 0 < length bytes.now → 0 < n) }

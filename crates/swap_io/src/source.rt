@@ -16,7 +16,8 @@ pub trait Source {
     // How many calls have failed, held at 2^64 - 1.
     ghost faults: { Self → ℕ };
 
-    /// Gives the first bytes of what is left, and how many. None are given exactly at the end of input, and none where the call fails.
+    /// Gives the first bytes of what is left, and how many. None are given exactly at the end of
+    /// input, and none where the call fails.
     fn read(&mut self, buf: &mut [u8]) -> Result<usize, Failed>
         requires room { 0 < length buf.old }
         ensures bound { ReadsAtMost result buf.new }
@@ -28,7 +29,8 @@ pub trait Source {
 
 const CHUNK: usize = 4096;
 
-/// All bytes up to the end of input, where these are at most `limit`. A longer input is read one byte past the limit.
+/// All bytes up to the end of input, where these are at most `limit`. A longer input is read one
+/// byte past the limit.
 pub fn read_all<S: Source>(
     alloc: Global,
     source: &mut S,

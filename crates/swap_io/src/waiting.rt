@@ -19,7 +19,8 @@ pub fn flush<K: Sink>(sink: &mut K, waiting: &mut Vec<u8>) -> Result<(), TextFau
     Ok(())
 }
 
-/// Writes what waits, where it is more than a page. Called after each line, it keeps what waits short.
+/// Writes what waits, where it is more than a page. Called after each line, it keeps what waits
+/// short.
 pub fn flush_waiting<K: Sink>(sink: &mut K, waiting: &mut Vec<u8>) -> Result<(), TextFault>
     ensures { Hands (K.taken sink.old) (K.taken sink.new) (K.faults sink.old) (K.faults sink.new) waiting.old.items waiting.new.items [] result }
 {

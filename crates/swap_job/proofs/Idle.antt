@@ -10,7 +10,7 @@ use Rattle.ledger_core.specs.declared.entry.Call.{Call}
 use Rattle.ledger_core.specs.declared.entry.Call.TheVariants.{Unlock}
 use Rattle.ledger_core.specs.Facts.{opened_key}
 use Rattle.ledger_core.specs.Book.{Histories, history}
-use Rattle.swap_job.specs.Crafted.{Seeds, prepend_party, crafted, crafted_onto}
+use Rattle.swap_job.specs.Crafted.{Seeds, prepend_party, crafted, crafted_within_limit}
 use Rattle.swap_job.specs.Fitting.{IsFitting}
 use Rattle.swap_job.specs.Resolved.{resolved, is_out_of_reach, is_idle}
 use Rattle.swap_job.specs.declared.moves.Move.{Move}
@@ -31,7 +31,7 @@ unlocks : (a : ℕ) (o : Option Hashkey) → is_some {T = ℕ × Call} (option_m
 unlocks a None = refl
 unlocks a (Some key) = refl
 
-extends : (d : Deal) (seeds : Seeds) (i : ℕ) (via : List ℕ) (o : Option Hashkey) → is_some (crafted_onto d seeds i o via) ≡ not (is_out_of_reach d via o)
+extends : (d : Deal) (seeds : Seeds) (i : ℕ) (via : List ℕ) (o : Option Hashkey) → is_some (crafted_within_limit d seeds i o via) ≡ not (is_out_of_reach d via o)
 extends d seeds i via None = refl
 extends d seeds i via (Some key) = go (nat_le (length via + length key.path) (path_limit d))
   where
@@ -48,7 +48,7 @@ pub resolves_unless_idle : (d : Deal) (seeds : Seeds) (k : Histories) (mv : Move
 resolves_unless_idle d seeds k (Craft a lock via None) f =
     unlocks a (crafted d seeds lock None via) ∙ makes_one d seeds lock (reverse via) (subst (λ n. 1 ≤ n) (sym (length-reverse via)) f.names.1.some)
 resolves_unless_idle d seeds k (Craft a lock via (Some b)) f =
-    unlocks a (crafted_onto d seeds lock (opened_key (history k b) lock) via) ∙ extends d seeds lock via (opened_key (history k b) lock)
+    unlocks a (crafted_within_limit d seeds lock (opened_key (history k b) lock) via) ∙ extends d seeds lock via (opened_key (history k b) lock)
 resolves_unless_idle d seeds k (Replay a lock b) f =
     unlocks a (opened_key (history k b) lock) ∙ doubly (is_some (opened_key (history k b) lock))
 resolves_unless_idle d seeds k (Publish a start delta bound timelock amount locks) f = refl

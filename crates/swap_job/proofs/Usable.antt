@@ -23,7 +23,7 @@ use Rattle.ledger_core.specs.Facts.{opened_key}
 use Rattle.ledger_core.specs.Book.{Histories, history, IsLegalBook}
 use Rattle.ledger_core.proofs.History.{opened_done, of_unlock}
 use Rattle.party_wallet.specs.Keys.{own_key, onto_key}
-use Rattle.swap_job.specs.Crafted.{Seeds, make_seed, prepend_party, crafted, crafted_onto}
+use Rattle.swap_job.specs.Crafted.{Seeds, make_seed, prepend_party, crafted, crafted_within_limit}
 use Rattle.swap_job.specs.Fitting.{is_plain, fits_if, CanCraft, NamesFitting, IsFitting}
 use Rattle.swap_job.specs.Parts.{HasRoom, IsUsable}
 use Rattle.swap_job.specs.Resolved.{move_arc, opening_named, key_opened, plain_call, build_call, call_of_move, resolved}
@@ -128,7 +128,7 @@ usable_range d key u =
     λ x q. subst (λ y. (nat_lt y.lock (length d.leaders) ≡ true) × (list_all (λ v. nat_lt v d.graph.n) y.path ≡ true)) (same_Some key x q) (c.0, a.1)
 
 onto_fits : (d : Deal) (seeds : Seeds) (i : ℕ) (o : Option Hashkey) (via : List ℕ) → i < length d.leaders → CanCraft d seeds via → ForSome o (IsUsable d)
-    → ForSome (option_map Unlock (crafted_onto d seeds i o via)) (λ c. IsTrue (fit d 0 c))
+    → ForSome (option_map Unlock (crafted_within_limit d seeds i o via)) (λ c. IsTrue (fit d 0 c))
 onto_fits d seeds i None via l can u = λ c q. absurd (cc q)
 onto_fits d seeds i (Some key) via l can u = go (nat_le (length via + length key.path) (path_limit d)) refl
   where
@@ -156,7 +156,7 @@ pub call_fits : (d : Deal) (seeds : Seeds) (o : Option Hashkey) (mv : Move) → 
     → ForSome (build_call d seeds o mv) (λ c. IsTrue (fit d (move_arc mv) c))
 call_fits d seeds o (Craft a lock via None) f u =
     any_arc d a (crafted d seeds lock None via) (crafted_fits d seeds lock None via f.names.0 f.names.1 (λ x q. absurd (cc q)) f.names.1.few)
-call_fits d seeds o (Craft a lock via (Some b)) f u = any_arc d a (crafted_onto d seeds lock o via) (onto_fits d seeds lock o via f.names.0 f.names.1 u)
+call_fits d seeds o (Craft a lock via (Some b)) f u = any_arc d a (crafted_within_limit d seeds lock o via) (onto_fits d seeds lock o via f.names.0 f.names.1 u)
 call_fits d seeds o (Replay a lock b) f u = any_arc d a o (replay_fits d o u)
 call_fits d seeds o (Publish a start delta bound timelock amount locks) f u = plain_fits d a _ f.names
 call_fits d seeds o (Raw a key) f u = plain_fits d a _ f.names

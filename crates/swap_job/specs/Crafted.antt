@@ -13,7 +13,8 @@ Seeds = List (Option (List ℕ))
 abbrev pub make_seed : Seeds → ℕ → List ℕ
 make_seed seeds v = unwrap_or (slice_index_or seeds v None) []
 
--- what v makes of a hashkey for lock i: the same with v put before its path; its own hashkey, where there is none
+-- what v makes of a hashkey for lock i: the same with v put before its path; its own hashkey, where
+-- there is none
 abbrev pub prepend_party : Deal → Seeds → ℕ → Option Hashkey → ℕ → Hashkey
 prepend_party d seeds i None v = own_key d.mode d v (make_seed seeds v) i
 prepend_party d seeds i (Some key) v = onto_key d.mode d v (make_seed seeds v) key
@@ -22,7 +23,8 @@ prepend_party d seeds i (Some key) v = onto_key d.mode d v (make_seed seeds v) k
 abbrev pub crafted : Deal → Seeds → ℕ → Option Hashkey → List ℕ → Option Hashkey
 crafted d seeds i start via = fold (λ made v. Some (prepend_party d seeds i made v)) start (reverse via)
 
--- what they make of a hashkey that opened the lock: nothing, where there is none or the path would be too long
-abbrev pub crafted_onto : Deal → Seeds → ℕ → Option Hashkey → List ℕ → Option Hashkey
-crafted_onto d seeds i None via = None
-crafted_onto d seeds i (Some key) via = if nat_le (length via + length key.path) (path_limit d) then crafted d seeds i (Some key) via else None
+-- what they make of a hashkey that opened the lock: nothing, where there is none or the path would
+-- be too long
+abbrev pub crafted_within_limit : Deal → Seeds → ℕ → Option Hashkey → List ℕ → Option Hashkey
+crafted_within_limit d seeds i None via = None
+crafted_within_limit d seeds i (Some key) via = if nat_le (length via + length key.path) (path_limit d) then crafted d seeds i (Some key) via else None

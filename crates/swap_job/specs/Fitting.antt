@@ -49,6 +49,6 @@ abbrev pub is_near : Deal → ℕ → ℕ → Bool
 is_near d v a = (v == party d a) || (v == counterparty d a)
 
 -- The move fits, and stands on an arc that touches party p.
-pub record IsMoveOf (d : Deal) (seeds : Seeds) (p : ℕ) (mv : Move) : Type 0 where
+pub record IsPartyMove (d : Deal) (seeds : Seeds) (p : ℕ) (mv : Move) : Type 0 where
   pub fits : IsFitting d seeds mv
   pub adjacent : IsTrue (is_near d p (move_arc mv))

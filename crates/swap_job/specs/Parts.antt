@@ -9,13 +9,13 @@ use Rattle.ledger_core.specs.declared.entry.Call.TheVariants.{Unlock}
 use Rattle.ledger_core.specs.History.{Opening, opening, accepted, fit}
 use Rattle.ledger_core.specs.declared.runs.Item.{Item}
 use Rattle.ledger_core.specs.declared.runs.Item.TheVariants.{One, Ticks}
-use Rattle.swap_job.specs.Resolved.{terms_with}
+use Rattle.swap_job.specs.Resolved.{overridden_terms}
 use Rattle.swap_job.specs.declared.moves.Move.{Move}
 use Rattle.swap_job.specs.declared.moves.Move.TheVariants.{Publish}
 
 -- the terms that a publish states
 abbrev pub make_publish : Deal → Move → Option Terms
-make_publish d (Publish a start delta bound timelock amount locks) = Some (terms_with (stated_terms d a) start delta bound timelock amount locks)
+make_publish d (Publish a start delta bound timelock amount locks) = Some (overridden_terms (stated_terms d a) start delta bound timelock amount locks)
 make_publish d _ = None
 
 -- n parties can be put before the hashkey; where there is none, the last of them makes its own
@@ -29,6 +29,6 @@ pub record IsUsable (d : Deal) (key : Hashkey) : Type 0 where
   pub paired : length key.sigs ≡ length key.path
 
 -- the opening of lock i that an item is, if it is one
-abbrev pub opening_in : ℕ → Item → Option Opening
-opening_in i (One e) = opening i e.height (accepted e)
-opening_in i (Ticks r) = None
+abbrev pub item_opening : ℕ → Item → Option Opening
+item_opening i (One e) = opening i e.height (accepted e)
+item_opening i (Ticks r) = None

@@ -9,7 +9,7 @@ use Rattle.ledger_core.specs.declared.entry.Call.{Call}
 use Rattle.ledger_core.specs.declared.entry.Call.TheVariants as calls
 use Rattle.ledger_core.specs.Facts.{opened_key}
 use Rattle.ledger_core.specs.Book.{Histories, history}
-use Rattle.swap_job.specs.Crafted.{Seeds, crafted, crafted_onto}
+use Rattle.swap_job.specs.Crafted.{Seeds, crafted, crafted_within_limit}
 use Rattle.swap_job.specs.declared.moves.Move.{Move}
 use Rattle.swap_job.specs.declared.moves.Move.TheVariants.{Publish, Craft, Replay, Raw, Claim, Refund, Transfer, Wait}
 
@@ -25,8 +25,8 @@ move_arc (Transfer a to units) = a
 move_arc (Wait a height) = a
 
 -- the correct terms of arc a, with the given ones in their place
-abbrev pub terms_with : Terms → (start delta bound timelock amount : Option ℕ) → Option (List (List ℕ)) → Terms
-terms_with t start delta bound timelock amount locks = record {
+abbrev pub overridden_terms : Terms → (start delta bound timelock amount : Option ℕ) → Option (List (List ℕ)) → Terms
+overridden_terms t start delta bound timelock amount locks = record {
   locks = unwrap_or locks t.locks;
   start = unwrap_or start t.start;
   delta = unwrap_or delta t.delta;
@@ -37,7 +37,7 @@ terms_with t start delta bound timelock amount locks = record {
 
 -- the call of a move that stands for one by itself
 abbrev pub plain_call : Deal → Move → Option Call
-plain_call d (Publish a start delta bound timelock amount locks) = Some (calls.Publish (terms_with (stated_terms d a) start delta bound timelock amount locks))
+plain_call d (Publish a start delta bound timelock amount locks) = Some (calls.Publish (overridden_terms (stated_terms d a) start delta bound timelock amount locks))
 plain_call d (Raw a key) = Some (calls.Unlock key)
 plain_call d (Claim a) = Some calls.Claim
 plain_call d (Refund a) = Some calls.Refund
@@ -58,7 +58,7 @@ key_opened k (Some x) = opened_key (history k x.0) x.1
 -- the call of a move, where key is the hashkey of the opening that it names
 abbrev pub build_call : Deal → Seeds → Option Hashkey → Move → Option Call
 build_call d seeds key (Craft a lock via None) = option_map calls.Unlock (crafted d seeds lock None via)
-build_call d seeds key (Craft a lock via (Some onto)) = option_map calls.Unlock (crafted_onto d seeds lock key via)
+build_call d seeds key (Craft a lock via (Some onto)) = option_map calls.Unlock (crafted_within_limit d seeds lock key via)
 build_call d seeds key (Replay a lock onto) = option_map calls.Unlock key
 build_call d seeds key mv = plain_call d mv
 
@@ -75,7 +75,8 @@ abbrev pub is_out_of_reach : Deal → List ℕ → Option Hashkey → Bool
 is_out_of_reach d via None = true
 is_out_of_reach d via (Some key) = not (nat_le (length via + length key.path) (path_limit d))
 
--- a move stands for no call: it waits, it names an opening that isn't known, or the path that it crafts would be too long
+-- a move stands for no call: it waits, it names an opening that isn't known, or the path that it
+-- crafts would be too long
 abbrev pub is_idle : Deal → Histories → Move → Bool
 is_idle d k (Wait a height) = true
 is_idle d k (Replay a lock onto) = not (is_some (opened_key (history k onto) lock))

@@ -21,7 +21,8 @@ pub record CanLook (d : Deal) (p a : ℕ) : Type 0 where
   pub arc : a < length d.graph.arcs
   pub adjacent : IsTrue (is_near d p a)
 
--- The party, which doesn't conform, may make the move, which fits and stands on an arc that touches it.
+-- The party, which doesn't conform, may make the move, which fits and stands on an arc that touches
+-- it.
 pub record CanCall (d : Deal) (conforming : List Bool) (seeds : Seeds) (p : ℕ) (mv : Move) : Type 0 where
   pub known : p < d.graph.n
   pub deviates : slice_index_or conforming p false ≡ false

@@ -2,7 +2,7 @@
 
 ghost use Rattle.std.specs.Prelude.{◌≡◌, ◌<◌, IfOk, Some, None, true, is_some, length, slice_index_or};
 ghost use Rattle.std.specs.Option.{ForSome};
-ghost use Rattle.swap_job.specs.Crafted.{prepend_party, crafted, crafted_onto};
+ghost use Rattle.swap_job.specs.Crafted.{prepend_party, crafted, crafted_within_limit};
 ghost use Rattle.swap_job.specs.Fitting.{CanCraft};
 ghost use Rattle.swap_job.specs.Parts.{HasRoom, IsUsable};
 
@@ -12,7 +12,8 @@ use std::alloc::Global;
 use swap_base::{Digest, LockId, NoMemory, PartyId};
 use swap_digraph::{Deal, path_limit};
 
-/// What a party makes of a hashkey: the same with the party put before its path; its own hashkey, where there is none.
+/// What a party makes of a hashkey: the same with the party put before its path; its own hashkey,
+/// where there is none.
 fn prepend_party(
     alloc: Global,
     deal: &Deal,
@@ -57,7 +58,8 @@ pub(crate) fn craft(
     Ok(made)
 }
 
-/// What the parties make of a hashkey that opened the lock: nothing, where there is none or the path would be too long.
+/// What the parties make of a hashkey that opened the lock: nothing, where there is none or the
+/// path would be too long.
 pub(crate) fn extend_craft(
     alloc: Global,
     deal: &Deal,
@@ -68,7 +70,7 @@ pub(crate) fn extend_craft(
 ) -> Result<Option<Hashkey>, NoMemory>
     requires crafters { CanCraft deal.now seeds.now via.now }
     requires inner { ForSome inner (IsUsable deal.now) }
-    ensures { IfOk result (λ o. o ≡ crafted_onto deal.now seeds.now lock inner via.now) }
+    ensures { IfOk result (λ o. o ≡ crafted_within_limit deal.now seeds.now lock inner via.now) }
 {
     match inner {
         None => Ok(None),

@@ -1,6 +1,8 @@
-//! What a job asks for: its deal, its parties and their roles, its events; and the calls that moves stand for.
+//! What a job asks for: its deal, its parties and their roles, its events; and the calls that moves
+//! stand for.
 //!
-//! Read `specs/Resolved.antt` first: the call that a move stands for; then `specs/Step.antt`: the events that a job may have.
+//! Read `specs/Resolved.antt` first: the call that a move stands for; then `specs/Step.antt`: the
+//! events that a job may have.
 #![tactic(auto)]
 
 mod crafted;

@@ -1,10 +1,10 @@
 //! The hashkey that opened a lock, in a list of entries.
 
 ghost use Rattle.std.specs.Prelude.{◌≡◌, option_map, option_copied};
-ghost use Rattle.swap_base.specs.Lists.{first_of};
+ghost use Rattle.swap_base.specs.Lists.{first_given_answer};
 ghost use Rattle.ledger_core.specs.Facts.{opened_key};
 ghost use Rattle.ledger_core.specs.History.{opening, accepted};
-ghost use Rattle.swap_job.specs.Parts.{opening_in};
+ghost use Rattle.swap_job.specs.Parts.{item_opening};
 
 use escrow_core::Reply;
 use hashkey_path::Hashkey;
@@ -12,7 +12,7 @@ use ledger_core::{Call, Entry, EntryList, Item, LedgerHistory, What};
 use swap_base::LockId;
 
 /// The hashkey that an accepted unlock for the lock presents.
-fn key_of(e: &Entry, lock: LockId) -> Option<&Hashkey>
+fn presented_key(e: &Entry, lock: LockId) -> Option<&Hashkey>
     ensures { option_copied result ≡ option_map (λ o. o.key) (opening lock e.now.height (accepted e.now)) }
 {
     match (&e.what, e.reply) {
@@ -24,16 +24,16 @@ fn key_of(e: &Entry, lock: LockId) -> Option<&Hashkey>
 }
 
 fn key_of_item(item: &Item, lock: LockId) -> Option<&Hashkey>
-    ensures { option_copied result ≡ option_map (λ o. o.key) (opening_in lock item.now) }
+    ensures { option_copied result ≡ option_map (λ o. o.key) (item_opening lock item.now) }
 {
     match item {
-        Item::One(entry) => key_of(entry, lock),
+        Item::One(entry) => presented_key(entry, lock),
         Item::Ticks(_) => None,
     }
 }
 
 fn find_key(items: &[Item], lock: LockId) -> Option<&Hashkey>
-    ensures { option_copied result ≡ option_map (λ o. o.key) (first_of (opening_in lock) items.now) }
+    ensures { option_copied result ≡ option_map (λ o. o.key) (first_given_answer (item_opening lock) items.now) }
 {
     for item in items {
         let found = key_of_item(item, lock);

@@ -77,7 +77,7 @@ fn make_unlock(alloc: Global, key: Option<Hashkey>) -> Result<Option<Call>, NoMe
     }
 }
 
-fn copy_of(key: Option<&Hashkey>) -> Result<Option<Hashkey>, NoMemory>
+fn copy_optional_key(key: Option<&Hashkey>) -> Result<Option<Hashkey>, NoMemory>
     ensures { IfOk result (λ o. o ≡ option_copied key.entry) }
 {
     match key {
@@ -132,7 +132,14 @@ fn build_call(
             ..
         } => match onto {
             Some(_) => {
-                let made = extend_craft(alloc, deal, seeds, *lock, copy_of(key)?, via.as_slice())?;
+                let made = extend_craft(
+                    alloc,
+                    deal,
+                    seeds,
+                    *lock,
+                    copy_optional_key(key)?,
+                    via.as_slice(),
+                )?;
                 make_unlock(alloc, made)
             }
             None => make_unlock(
@@ -140,13 +147,14 @@ fn build_call(
                 craft(alloc, deal, seeds, *lock, None, via.as_slice())?,
             ),
         },
-        Move::Replay { .. } => make_unlock(alloc, copy_of(key)?),
+        Move::Replay { .. } => make_unlock(alloc, copy_optional_key(key)?),
         _ => plain_call(alloc, deal, mv),
     }
 }
 
-/// The call of a move with its arc, where `key` is the hashkey of the opening that it names. Nothing comes for a wait, where the
-/// opening isn't there, or where a crafted path would be too long.
+/// The call of a move with its arc, where `key` is the hashkey of the opening that it names.
+/// Nothing comes for a wait, where the opening isn't there, or where a crafted path would be too
+/// long.
 pub fn resolve_keyed_move(
     alloc: Global,
     deal: &Deal,

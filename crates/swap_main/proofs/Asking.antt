@@ -8,7 +8,7 @@ use Rattle.swap_gen.proofs.Generated.{generated_is_accepted}
 use Rattle.program_words.specs.Words.{task_text}
 use Rattle.program_words.specs.declared.task.Order.{Order}
 use Rattle.program_words.specs.declared.task.Order.TheVariants as orders
-use Rattle.swap_commands.specs.Generated.{generated_output, AsRequested, Generates, IsMadeFor}
+use Rattle.swap_commands.specs.Generated.{generated_output, AsRequested, Generates, IsRequestStatus}
 use Rattle.swap_main.specs.Top.{command_status}
 use Rattle.swap_commands.specs.Words.{AsksRace, Command, OfJob, Race as OfRace, task_command, words_command, ordered, task_request, words_request}
 use Rattle.command_input.specs.Written.{IsWrittenWhole, Writes, Written}
@@ -68,7 +68,7 @@ number_is_no_race words request e race = cc (sym (no_command words request (requ
 module _ (words : List (List ℕ)) (before after : Streams) (request : Request) (asks : words_request words ≡ Some request)
     (unread : after.left ≡ before.left) (few : 2 ≤ request.parties) (many : request.parties ≤ 24) where
   abbrev Said : Status → Type 0
-  Said s = IsMadeFor before.taken after.taken before.write_faults after.write_faults request s
+  Said s = IsRequestStatus before.taken after.taken before.write_faults after.write_faults request s
 
   abbrev WrittenSo : Status → Type 0
   WrittenSo s = Writes before.taken after.taken before.write_faults after.write_faults (generated_output request) s

@@ -21,7 +21,7 @@ use Rattle.swap_rules.specs.Machine.{Begins}
 use Rattle.swap_rules.proofs.Prefixes.{begins_more, begins_refl}
 use Rattle.swap_run.specs.Asked.{Answers, Rule, is_strategy, IsByRule}
 use Rattle.swap_run.specs.Run.{Cast, Question, State, conforms, party_role, party_plan, look, make, next_action, act, watch, after_turn, question}
-use Rattle.swap_run.specs.Run.{after_question, answer_for, act_as, step, continued_run, run, start}
+use Rattle.swap_run.specs.Run.{after_question, answered_call, role_act, step, continued_run, run, start}
 use Rattle.swap_run.proofs.Asked.{runs_without_strategies, finishes_without_strategies, rules_decide_runs, rules_decide_finishes, take_asked, make_asked, begins_length}
 use Rattle.swap_run.proofs.Reached.{finish_events}
 use Rattle.swap_world.specs.Cast.{job_cast}
@@ -31,7 +31,7 @@ use Rattle.command_input.specs.Written.{Written}
 use Rattle.swap_main.specs.Laws.{SameWithoutStrategies, RulesDecide}
 use Rattle.swap_main.specs.Known.{by_rule}
 use Rattle.swap_main.proofs.ManyTexts.{one_text}
-use Rattle.swap_commands.specs.Output.{AreGiven, Chance, command_cast, finished, output_by, job_output, reported, run_state}
+use Rattle.swap_commands.specs.Output.{AreGiven, Chance, command_cast, finished, output_given_chance, job_output, reported, run_state}
 use Rattle.swap_commands.specs.Words.{OfJob, Audit, Clear, Many, Check, Run, Race, Make}
 use Rattle.swap_main.proofs.ManyDecided.{as_before}
 
@@ -47,8 +47,8 @@ written_for a b transcript job events read ls is same =
 
 written_same : (has : List ℕ → Bool) (a b : Chance) (transcript : Bool) (input : List ℕ) (job : Job) (events : List Event)
     → parse_job has purposes.Run input ≡ Ok (job, events) → run_state a.answers job events ≡ run_state b.answers job events
-    → output_by has a (OfJob (Run transcript)) input ≡ output_by has b (OfJob (Run transcript)) input
-unfolding output_by
+    → output_given_chance has a (OfJob (Run transcript)) input ≡ output_given_chance has b (OfJob (Run transcript)) input
+unfolding output_given_chance
 written_same has a b transcript input job events is same =
     written_for a b transcript job events (parse_job has purposes.Run input) (filled_lines 1 (collect_lines input)) is same
 
@@ -71,14 +71,14 @@ same_without_strategies has a b transcript input job events is none =
 
 -- What is asked stays in its place.
 
-act_begins : (c : Cast) (s : State) (v : ℕ) (role : Role) → Begins s.asked (act_as c s v role).asked
+act_begins : (c : Cast) (s : State) (v : ℕ) (role : Role) → Begins s.asked (role_act c s v role).asked
 act_begins c s v Conforming = begins_refl s.asked
 act_begins c s v Manual = begins_refl s.asked
 act_begins c s v (Script moves) =
-    as_before s (act_as c s v (Script moves)) (take_asked c (after_turn s v (moves_left (party_plan s v).known (party_plan s v).moves)) v
+    as_before s (role_act c s v (Script moves)) (take_asked c (after_turn s v (moves_left (party_plan s v).known (party_plan s v).moves)) v
     (next_call c.deal c.seeds (party_plan s v).known (party_plan s v).moves))
 act_begins c s v (Strategy name) =
-    (question s v name ∷ [], take_asked c (after_question s v name) v (answer_for c.deal v (c.answers (length s.asked))))
+    (question s v name ∷ [], take_asked c (after_question s v name) v (answered_call c.deal v (c.answers (length s.asked))))
 
 either_begins : (b : Bool) (s t u : State) → Begins s.asked t.asked → Begins s.asked u.asked → Begins s.asked (cond b t u).asked
 either_begins true s t u x y = x
@@ -88,7 +88,7 @@ step_begins : (c : Cast) (s : State) (e : Event) → Begins s.asked (step c s e)
 step_begins c s (Tick a k) = begins_refl s.asked
 step_begins c s (Look v a) = either_begins (conforms c v) s (look s v a) (watch c s v a) (begins_refl s.asked) (begins_refl s.asked)
 step_begins c s (Act v) =
-    either_begins (conforms c v) s (act c s v) (act_as c s v (party_role c v)) (as_before s (act c s v) (make_asked c s v (next_action c s v)))
+    either_begins (conforms c v) s (act c s v) (role_act c s v (party_role c v)) (as_before s (act c s v) (make_asked c s v (next_action c s v)))
     (act_begins c s v (party_role c v))
 step_begins c s (Made v mv) =
     as_before s (step c s (Made v mv)) (take_asked c s v (resolved c.deal c.seeds s.book mv))
@@ -157,7 +157,7 @@ one_run : (rule : List ℕ → Deal → ℕ → ℕ → Histories → Option (�
     (job other : Job) (events others : List Event) → parse_job has purposes.Run input ≡ Ok (job, events) → parse_job has purposes.Run input ≡ Ok (other, others)
     → AreGiven (by_rule rule) job.deal a.answers (run_state a.answers job events).asked
     → AreGiven (by_rule rule) other.deal b.answers (run_state b.answers other others).asked
-    → output_by has a (OfJob (Run transcript)) input ≡ output_by has b (OfJob (Run transcript)) input
+    → output_given_chance has a (OfJob (Run transcript)) input ≡ output_given_chance has b (OfJob (Run transcript)) input
 one_run rule has a b transcript input job other events others is is' given given' =
     let read : ◌≡◌ {A = Result (Job × List Event) Reason} (Ok (other, others)) (Ok (job, events)) = sym is' ∙ is in
     let same : ◌≡◌ {A = Job × List Event} (other, others) (job, events) = cc read in
@@ -170,7 +170,7 @@ as_one : (one other : Written) → ◌≡◌ {A = Result Written Reason} (Ok one
 as_one one other e = cc e
 
 pub rules_decide : RulesDecide
-unfolding output_by
+unfolding output_given_chance
 rules_decide rule has a b (OfJob (Run transcript)) input one other plain e p f q =
     as_one one other (sym e ∙ one_run rule has a b transcript input p.job q.job p.events q.events p.is_read q.is_read p.given q.given ∙ f)
 rules_decide rule has a b (OfJob (Race ticks transcript)) input one other plain e p f q = absurd (cc plain)

@@ -7,9 +7,9 @@ use Rattle.refusals.specs.declared.reason.Reason.{Reason}
 use Rattle.command_input.specs.Input.{limit}
 use Rattle.swap_commands.specs.Words.{words_command, Command}
 use Rattle.command_input.specs.Written.{Written}
-use Rattle.swap_commands.specs.Output.{Chance, no_chance, output_by, command_output, names_of}
+use Rattle.swap_commands.specs.Output.{Chance, no_chance, output_given_chance, command_output, refusal_names}
 use Rattle.swap_commands.specs.Says.{HasRead, Says}
-use Rattle.swap_main.specs.Top.{AsksFairRace, AsksFairRun, Read, IsDone, IsCut, IsRefused, IsShort, IsStatusOf}
+use Rattle.swap_main.specs.Top.{AsksFairRace, AsksFairRun, Read, IsDone, IsCut, IsRefused, IsShort, IsOutputStatus}
 use Rattle.command_input.specs.declared.status.Status.{Status}
 use Rattle.command_input.specs.declared.status.Status.TheVariants.{Done, Named, WrongWords, Refused, ReadFault, WriteFault, NoMemory, TooLong}
 use Rattle.command_input.specs.Streams.{HasReadFault, HasWriteFault, Streams}
@@ -149,10 +149,10 @@ module _ (has : List ℕ → Bool) where
 
     -- what the command gives for the input that the source tells
     given : (a : Chance) (output : Result Written Reason) (r : HasRead has a command before.left after.left output) (other : Command) (input : List ℕ)
-        → words_command words ≡ Some other → before.left ≡ Some input → output_by has a other input ≡ output
+        → words_command words ≡ Some other → before.left ≡ Some input → output_given_chance has a other input ≡ output
     given a output r other input is told =
-        ap (λ (c : Command). output_by has a c input) (sym (same_command other is))
-        ∙ ap (output_by has a command) (sym (same_input a output r input told)) ∙ r.gives
+        ap (λ (c : Command). output_given_chance has a c input) (sym (same_command other is))
+        ∙ ap (output_given_chance has a command) (sym (same_input a output r input told)) ∙ r.gives
 
     -- a promise of what was read is one of what the source tells
     kept : (a : Chance) (output : Written) (r : HasRead has a command before.left after.left (Ok output)) (other : Command) (input : List ℕ)
@@ -164,7 +164,7 @@ module _ (has : List ℕ → Bool) where
 
     pub bad : (s : Status) → Said s → (other : Command) (input : List ℕ) (reason : Reason) → words_command words ≡ Some other → before.left ≡ Some input
         → length input ≤ limit → command_output has other input ≡ Err reason → ¬ HasReadFault before after
-        → (s ≡ Refused reason (names_of has other input)) ⊎ (s ≡ NoMemory)
+        → (s ≡ Refused reason (refusal_names has other input)) ⊎ (s ≡ NoMemory)
     bad Done h other input reason is told within against calm =
         absurd (cc (sym (given h.chance (Ok h.output) h.read other input is told) ∙ fails_by has h.chance other input reason against))
     bad Named h other input reason is told within against calm =
@@ -172,8 +172,8 @@ module _ (has : List ℕ → Bool) where
     bad WrongWords h other input reason is told within against calm = absurd h
     bad (Refused r names) h other input reason is told within against calm =
         let same : r ≡ reason = cc (sym (given no_chance (Err r) h.0.read other input is told) ∙ against) in
-        let called : names ≡ names_of has other input = h.0.named ∙ ap (names_of has command) (same_input no_chance (Err r) h.0.read input told)
-        ∙ ap (λ (c : Command). names_of has c input) (same_command other is) in
+        let called : names ≡ refusal_names has other input = h.0.named ∙ ap (refusal_names has command) (same_input no_chance (Err r) h.0.read input told)
+        ∙ ap (λ (c : Command). refusal_names has c input) (same_command other is) in
         inl (rw (same, called) refl)
     bad ReadFault h other input reason is told within against calm = absurd (calm h.0)
     bad WriteFault h other input reason is told within against calm =
@@ -183,7 +183,7 @@ module _ (has : List ℕ → Bool) where
 
     pub good : (s : Status) → Said s → (other : Command) (input : List ℕ) (output : Written) → words_command words ≡ Some other → before.left ≡ Some input
         → length input ≤ limit → command_output has other input ≡ Ok output → ¬ HasReadFault before after → ¬ HasWriteFault before after
-        → IsStatusOf has gives other input s ⊎ (s ≡ NoMemory)
+        → IsOutputStatus has gives other input s ⊎ (s ≡ NoMemory)
     good Done h other input output is told within made calm still = inl (record {
       chance = h.chance;
       output = h.output;

@@ -16,7 +16,7 @@ use Rattle.swap_run.specs.Asked.{Answers}
 use Rattle.ledger_core.specs.Book.{Histories}
 use Rattle.swap_world.specs.Gone.{MayGive}
 use Rattle.command_input.specs.Lines.{collect_lines, filled_lines}
-use Rattle.swap_commands.specs.Output.{Chance, collected_book, no_chance, output_by, job_output, command_output, story_report, reported}
+use Rattle.swap_commands.specs.Output.{Chance, collected_book, no_chance, output_given_chance, job_output, command_output, story_report, reported}
 use Rattle.swap_commands.specs.Promised.{AsPromised, IsRace, IsRun}
 use Rattle.swap_commands.proofs.ManySaying.{many_fails_by}
 use Rattle.swap_main.specs.Top.{AsksFairRace, AsksFairRun}
@@ -60,7 +60,7 @@ module _ (has : List ℕ → Bool) where
     is_read = ap (λ (xs : List ℕ). parse_job has purposes.Run xs) (all_read left left' a.input items a.told taken end) ∙ a.read
 
     pub is_not_refused : (reason : Reason) → ¬ (command_output has command items ≡ Err reason)
-    unfolding output_by
+    unfolding output_given_chance
     is_not_refused reason e =
         let r : ◌≡◌ {A = Result Written Reason} (job_output no_chance (Run a.transcript) (filled_lines 1 (collect_lines items))
         (parse_job has purposes.Run items)) (Err reason) =
@@ -97,7 +97,7 @@ module _ (has : List ℕ → Bool) where
     is_read_raced = ap (λ (xs : List ℕ). parse_job has purposes.Race xs) (all_read left left' a.input items a.told taken end) ∙ a.read
 
     pub race_is_not_refused : (reason : Reason) → ¬ (command_output has command items ≡ Err reason)
-    unfolding output_by
+    unfolding output_given_chance
     race_is_not_refused reason e =
         let r : ◌≡◌ {A = Result Written Reason} (job_output no_chance (Race a.ticks a.transcript) (filled_lines 1 (collect_lines items))
         (parse_job has purposes.Race items)) (Err reason) =
@@ -129,8 +129,8 @@ module _ (has : List ℕ → Bool) where
   race_fails_by a ticks transcript ls (Err r) reason e = e
 
   pub fails_by : (a : Chance) (command : Command) (input : List ℕ) (reason : Reason) → command_output has command input ≡ Err reason
-      → output_by has a command input ≡ Err reason
-  unfolding output_by
+      → output_given_chance has a command input ≡ Err reason
+  unfolding output_given_chance
   fails_by a (OfJob (Run transcript)) input reason e = run_fails_by a transcript (filled_lines 1 (collect_lines input))
       (parse_job has purposes.Run input) reason e
   fails_by a (OfJob (Race ticks transcript)) input reason e =

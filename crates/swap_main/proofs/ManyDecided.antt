@@ -1,4 +1,5 @@
--- Several swaps whose strategies answer by a rule come to one state: what is kept depends on no other answers than those that are asked.
+-- Several swaps whose strategies answer by a rule come to one state: what is kept depends on no
+-- other answers than those that are asked.
 use Rattle.std.proofs.Common.{◌≡◌, ℕ, zero, suc, ◌+◌, ◌≤◌, ◌<◌, ◌==◌, Bool, true, false, cond, List, [], ◌∷◌, ◌++◌, length, fold, get_or, Option, Some, None}
 use Rattle.std.proofs.Common.{refl, sym, ap, ◌∙◌, subst, arith, length-append}
 use Rattle.std.specs.List.{range_with_len}
@@ -18,10 +19,10 @@ use Rattle.swap_rules.specs.Due.{Action}
 use Rattle.swap_rules.specs.Machine.{Begins}
 use Rattle.swap_rules.proofs.Prefixes.{begins_more, begins_refl}
 use Rattle.swap_run.specs.Asked.{Answers, Rule, with_answers}
-use Rattle.swap_run.specs.Run.{Cast, Question, State, act, act_as, after_question, after_turn, answer_for, conforms, look, make, next_action, party_plan}
+use Rattle.swap_run.specs.Run.{Cast, Question, State, act, role_act, after_question, after_turn, answered_call, conforms, look, make, next_action, party_plan}
 use Rattle.swap_run.specs.Run.{question, party_role, step, take_call, watch}
 use Rattle.swap_run.specs.Fair.{repeat, adjacent_arcs, most_acts}
-use Rattle.swap_run.specs.Called.{Called, by, by_due, called_as, is_barred, noted_to, planned_to, apply_step, turned_as}
+use Rattle.swap_run.specs.Called.{Called, sender_call, by_due, role_call, is_barred, noted_state, planned_state, apply_step, role_turn}
 use Rattle.swap_many.specs.declared.many_event.ManyEvent.{ManyEvent}
 use Rattle.swap_many.specs.declared.many_event.ManyEvent.TheVariants.{Tick, In, Pay, Sweep}
 use Rattle.swap_many.specs.Chains.{Setup, Slot, arc_chain, put, is_done, has_no_tick, paid, slots}
@@ -30,7 +31,7 @@ use Rattle.swap_many.specs.Kept.{Kept, answer_payment, answer_sweep, kept_done, 
 use Rattle.swap_many.specs.Fair.{have_ended, kept_act, kept_acts, kept_looks, kept_round, kept_round_or_rest, kept_rounds, kept_sweeps, kept_ticks, kept_turn}
 use Rattle.swap_many.specs.Fair.{kept_turns, entry_tick}
 use Rattle.swap_many.proofs.Projections.{put_each, put_same}
-use Rattle.swap_commands.specs.Many.{ended_by}
+use Rattle.swap_commands.specs.Many.{kept_after_finish}
 use Rattle.swap_run.proofs.Asked.{begins_length}
 use Rattle.swap_world.proofs.Gone.{either_asked}
 
@@ -41,7 +42,8 @@ AnswersBetween rule g s t = (i : ℕ) (q : Question) → length s.asked ≤ i �
 pub as_before : (s t : State) → t.asked ≡ s.asked → Begins s.asked t.asked
 as_before s t e = ([], e ∙ sym (append-nil s.asked))
 
--- A swap's event, where it is answered by g and where by h: both ask the same, and come to the same where a rule gives both answers.
+-- A swap's event, where it is answered by g and where by h: both ask the same, and come to the same
+-- where a rule gives both answers.
 record AreOne (rule : Question → Option (ℕ × Call)) (g h : Answers) (s t u : State) : Type 0 where
   pub here : Begins s.asked t.asked
   pub there : Begins s.asked u.asked
@@ -58,24 +60,24 @@ quiet rule g h s t u e same = record {
 abbrev landed : (ℕ → Bool) → Cast → State → ℕ → Option (ℕ × Call) → Option Called → State
 landed swept c s v o None = take_call c s v o
 landed swept c s v o (Some x) =
-    cond (is_barred (swept x.arc) (history s.book x.arc) x.call) (planned_to c s x (history s.book x.arc)) (take_call c s v o)
+    cond (is_barred (swept x.arc) (history s.book x.arc) x.call) (planned_state c s x (history s.book x.arc)) (take_call c s v o)
 
-taken_asked : (swept : ℕ → Bool) (c : Cast) (s : State) (v : ℕ) (o : Option (ℕ × Call)) → (landed swept c s v o (by v o)).asked ≡ s.asked
+taken_asked : (swept : ℕ → Bool) (c : Cast) (s : State) (v : ℕ) (o : Option (ℕ × Call)) → (landed swept c s v o (sender_call v o)).asked ≡ s.asked
 taken_asked swept c s v None = refl
 taken_asked swept c s v (Some x) =
-    either_asked (is_barred (swept x.0) (history s.book x.0) x.1) s (planned_to c s (record { sender = v; arc = x.0; call = x.1 }) (history s.book x.0))
+    either_asked (is_barred (swept x.0) (history s.book x.0) x.1) s (planned_state c s (record { sender = v; arc = x.0; call = x.1 }) (history s.book x.0))
     (take_call c s v (Some x)) refl refl
 
 -- a due call that is made
 abbrev made : (ℕ → Bool) → Cast → State → ℕ → Option Action → Option Called → State
 made swept c s v o None = make c.deal s v o
-made swept c s v o (Some x) = cond (is_barred (swept x.arc) (history s.book x.arc) x.call) (noted_to s x (history s.book x.arc)) (make c.deal s v o)
+made swept c s v o (Some x) = cond (is_barred (swept x.arc) (history s.book x.arc) x.call) (noted_state s x (history s.book x.arc)) (make c.deal s v o)
 
 made_asked : (swept : ℕ → Bool) (c : Cast) (s : State) (v : ℕ) (o : Option Action) → (made swept c s v o (by_due v o)).asked ≡ s.asked
 made_asked swept c s v None = refl
 made_asked swept c s v (Some x) =
     either_asked (is_barred (swept x.arc) (history s.book x.arc) x.call) s
-    (noted_to s (record { sender = v; arc = x.arc; call = x.call }) (history s.book x.arc)) (make c.deal s v (Some x)) refl refl
+    (noted_state s (record { sender = v; arc = x.arc; call = x.call }) (history s.book x.arc)) (make c.deal s v (Some x)) refl refl
 
 module _ (rule : Question → Option (ℕ × Call)) (swept : ℕ → Bool) (c : Cast) (g h : Answers) where
   abbrev cast_g : Cast
@@ -84,27 +86,27 @@ module _ (rule : Question → Option (ℕ × Call)) (swept : ℕ → Bool) (c : 
   abbrev cast_h : Cast
   cast_h = with_answers c h
 
-  taken_same : (s : State) (v : ℕ) (o : Option (ℕ × Call)) → landed swept cast_h s v o (by v o) ≡ landed swept cast_g s v o (by v o)
+  taken_same : (s : State) (v : ℕ) (o : Option (ℕ × Call)) → landed swept cast_h s v o (sender_call v o) ≡ landed swept cast_g s v o (sender_call v o)
   taken_same s v None = refl
   taken_same s v (Some x) = refl
 
   -- a call that no strategy answered
   taken : (s q : State) (v : ℕ) (o : Option (ℕ × Call)) → q.asked ≡ s.asked
-      → AreOne rule g h s (landed swept cast_g q v o (by v o)) (landed swept cast_h q v o (by v o))
+      → AreOne rule g h s (landed swept cast_g q v o (sender_call v o)) (landed swept cast_h q v o (sender_call v o))
   taken s q v o e =
-      quiet rule g h s (landed swept cast_g q v o (by v o)) (landed swept cast_h q v o (by v o)) (taken_asked swept cast_g q v o ∙ e) (taken_same q v o)
+      quiet rule g h s (landed swept cast_g q v o (sender_call v o)) (landed swept cast_h q v o (sender_call v o)) (taken_asked swept cast_g q v o ∙ e) (taken_same q v o)
 
   -- what a strategy answered
   answered : (s : State) (v : ℕ) (name : List ℕ)
       → AreOne rule g h s
-      (landed swept cast_g (after_question s v name) v (answer_for c.deal v (g (length s.asked))) (by v (answer_for c.deal v (g (length s.asked)))))
-      (landed swept cast_h (after_question s v name) v (answer_for c.deal v (h (length s.asked))) (by v (answer_for c.deal v (h (length s.asked)))))
+      (landed swept cast_g (after_question s v name) v (answered_call c.deal v (g (length s.asked))) (sender_call v (answered_call c.deal v (g (length s.asked)))))
+      (landed swept cast_h (after_question s v name) v (answered_call c.deal v (h (length s.asked))) (sender_call v (answered_call c.deal v (h (length s.asked)))))
   answered s v name =
       let q : Question = question s v name in
-      let o : Option (ℕ × Call) = answer_for c.deal v (g (length s.asked)) in
-      let p : Option (ℕ × Call) = answer_for c.deal v (h (length s.asked)) in
-      let e : (landed swept cast_g (after_question s v name) v o (by v o)).asked ≡ s.asked ++ q ∷ [] = taken_asked swept cast_g (after_question s v name) v o in
-      let d : (landed swept cast_h (after_question s v name) v p (by v p)).asked ≡ s.asked ++ q ∷ [] = taken_asked swept cast_h (after_question s v name) v p in
+      let o : Option (ℕ × Call) = answered_call c.deal v (g (length s.asked)) in
+      let p : Option (ℕ × Call) = answered_call c.deal v (h (length s.asked)) in
+      let e : (landed swept cast_g (after_question s v name) v o (sender_call v o)).asked ≡ s.asked ++ q ∷ [] = taken_asked swept cast_g (after_question s v name) v o in
+      let d : (landed swept cast_h (after_question s v name) v p (sender_call v p)).asked ≡ s.asked ++ q ∷ [] = taken_asked swept cast_h (after_question s v name) v p in
       let longer : length (s.asked ++ q ∷ []) ≡ length s.asked + 1 = length-append s.asked (q ∷ []) in
       let last : q ≡ get_or (s.asked ++ q ∷ []) (length s.asked) q = sym (get_or_at s.asked q [] q (length s.asked) refl) in
       record {
@@ -116,7 +118,7 @@ module _ (rule : Question → Option (ℕ × Call)) (swept : ℕ → Bool) (c : 
             let other = y (length s.asked) q (omega arith) (subst (λ (qs : List Question). length s.asked < length qs) (sym d) (omega arith))
             (subst (λ (qs : List Question). q ≡ get_or qs (length s.asked) q) (sym d) last) in
             ap (λ (z : Option (ℕ × Call)).
-            landed swept cast_h (after_question s v name) v (answer_for c.deal v z) (by v (answer_for c.deal v z))) (other ∙ sym first)
+            landed swept cast_h (after_question s v name) v (answered_call c.deal v z) (sender_call v (answered_call c.deal v z))) (other ∙ sym first)
             ∙ taken_same (after_question s v name) v o;
       }
 
@@ -127,23 +129,23 @@ module _ (rule : Question → Option (ℕ × Call)) (swept : ℕ → Bool) (c : 
   acted d s v false Manual = s
   acted d s v false (Script moves) =
       let o = next_call d.deal d.seeds (party_plan s v).known (party_plan s v).moves in
-      landed swept d (after_turn s v (moves_left (party_plan s v).known (party_plan s v).moves)) v o (by v o)
+      landed swept d (after_turn s v (moves_left (party_plan s v).known (party_plan s v).moves)) v o (sender_call v o)
   acted d s v false (Strategy name) =
-      let o = answer_for d.deal v (d.answers (length s.asked)) in landed swept d (after_question s v name) v o (by v o)
+      let o = answered_call d.deal v (d.answers (length s.asked)) in landed swept d (after_question s v name) v o (sender_call v o)
 
   -- the same as it is taken apart
   abbrev called_by : Cast → State → ℕ → Bool → Role → Option Called
-  called_by d s v n role = cond n (by_due v (next_action d s v)) (called_as d s v role)
+  called_by d s v n role = cond n (by_due v (next_action d s v)) (role_call d s v role)
 
   abbrev before_by : Cast → State → ℕ → Bool → Role → State
-  before_by d s v n role = cond n s (turned_as d s v role)
+  before_by d s v n role = cond n s (role_turn d s v role)
 
   abbrev act_by : Cast → State → ℕ → Bool → Role → Option Called → State
-  act_by d s v n role None = cond n (act d s v) (act_as d s v role)
+  act_by d s v n role None = cond n (act d s v) (role_act d s v role)
   act_by d s v n role (Some x) =
       cond (is_barred (swept x.arc) (history s.book x.arc) x.call)
-      (cond n (noted_to (before_by d s v n role) x (history s.book x.arc)) (planned_to d (before_by d s v n role) x (history s.book x.arc)))
-      (cond n (act d s v) (act_as d s v role))
+      (cond n (noted_state (before_by d s v n role) x (history s.book x.arc)) (planned_state d (before_by d s v n role) x (history s.book x.arc)))
+      (cond n (act d s v) (role_act d s v role))
 
   act_is : (d : Cast) (s : State) (v : ℕ)
       → apply_step swept d s (events.Act v) ≡ act_by d s v (conforms d v) (party_role d v) (called_by d s v (conforms d v) (party_role d v))
@@ -196,7 +198,8 @@ module _ (rule : Rule) (m : Setup) (g h : ℕ → Answers) where
   abbrev pub ByRule : (ℕ → Answers) → Kept → Kept → Type 0
   ByRule x z t = (s : ℕ) → AnswersBetween (rule (m.cast s).deal) (x s) (z.swaps s) (t.swaps s)
 
-  -- From z the one comes to t and the other to u: to the same, where the rule answers all that each asks.
+  -- From z the one comes to t and the other to u: to the same, where the rule answers all that each
+  -- asks.
   pub record Orderly (z t u : Kept) : Type 0 where
     pub here : (s : ℕ) → Begins (z.swaps s).asked (t.swaps s).asked
     pub there : (s : ℕ) → Begins (z.swaps s).asked (u.swaps s).asked
@@ -338,14 +341,14 @@ module _ (rule : Rule) (m : Setup) (g h : ℕ → Answers) where
       along (λ (z : Kept) (x : Slot). kept_done true a z (Sweep x.swap x.arc)) (λ (z : Kept) (x : Slot). kept_done true b z (Sweep x.swap x.arc)) (slots m)
       (λ z x. done_orderly true (Sweep x.swap x.arc) z)
 
-  finish_orderly : (finish : Finish) (z : Kept) → Orderly z (ended_by finish a z) (ended_by finish b z)
+  finish_orderly : (finish : Finish) (z : Kept) → Orderly z (kept_after_finish finish a z) (kept_after_finish finish b z)
   finish_orderly Stop z = nothing z
   finish_orderly Fair z = and_then z (kept_rounds a z) (kept_rounds b z) (kept_sweeps a) (kept_sweeps b) (rounds_orderly z) sweeps_orderly
 
   -- where the rule answers all, both come to the same
-  pub rule_decides : (finish : Finish) (events : List ManyEvent) → ByRule g (kept_start a) (ended_by finish a (fold (kept_step a) (kept_start a) events))
-      → ByRule h (kept_start a) (ended_by finish b (fold (kept_step b) (kept_start a) events))
-      → ended_by finish b (fold (kept_step b) (kept_start a) events) ≡ ended_by finish a (fold (kept_step a) (kept_start a) events)
+  pub rule_decides : (finish : Finish) (events : List ManyEvent) → ByRule g (kept_start a) (kept_after_finish finish a (fold (kept_step a) (kept_start a) events))
+      → ByRule h (kept_start a) (kept_after_finish finish b (fold (kept_step b) (kept_start a) events))
+      → kept_after_finish finish b (fold (kept_step b) (kept_start a) events) ≡ kept_after_finish finish a (fold (kept_step a) (kept_start a) events)
   rule_decides finish events =
-      (and_then (kept_start a) (fold (kept_step a) (kept_start a) events) (fold (kept_step b) (kept_start a) events) (ended_by finish a) (ended_by finish b)
+      (and_then (kept_start a) (fold (kept_step a) (kept_start a) events) (fold (kept_step b) (kept_start a) events) (kept_after_finish finish a) (kept_after_finish finish b)
       (run_orderly events (kept_start a)) (finish_orderly finish)).same

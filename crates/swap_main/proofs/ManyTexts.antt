@@ -9,8 +9,8 @@ use Rattle.swap_run.specs.Asked.{Answers, Rule}
 use Rattle.swap_many.specs.Kept.{Kept}
 use Rattle.swap_many.specs.declared.many_event.ManyEvent.{ManyEvent}
 use Rattle.swap_many.specs.declared.place.Place.{Place}
-use Rattle.many_lines.specs.Places.{job_at}
-use Rattle.many_lines.specs.Setup.{setup_by}
+use Rattle.many_lines.specs.Places.{job_of_swap}
+use Rattle.many_lines.specs.Setup.{setup_with_answers}
 use Rattle.swap_commands.specs.Many.{Headed, events_told, many_state, many_written, opened_places}
 use Rattle.swap_commands.specs.Output.{AreGiven}
 use Rattle.swap_commands.specs.Promised.{IsManyRun}
@@ -28,13 +28,13 @@ of_question rule d q = rule q.strategy d q.party q.turn q.known
 -- the rule gives each answer
 abbrev AreByRule : NameRule → (ℕ → Answers) → Headed → List ManyEvent → List (List Place) → Type 0
 AreByRule rule g h events places =
-    (s : ℕ) → AreGiven (by_rule rule) (job_at h.many.jobs s).deal (g s) ((many_state g h.many places h.finish events).swaps s).asked
+    (s : ℕ) → AreGiven (by_rule rule) (job_of_swap h.many.jobs s).deal (g s) ((many_state g h.many places h.finish events).swaps s).asked
 
 module _ (rule : NameRule) (g other : ℕ → Answers) where
   one_state : (h : Headed) (events : List ManyEvent) (places : List (List Place)) → AreByRule rule g h events places → AreByRule rule other h events places
       → many_state other h.many places h.finish events ≡ many_state g h.many places h.finish events
   one_state h events places k l =
-      rule_decides (of_question rule) (setup_by (λ s n. None) h.many places) g other h.finish events
+      rule_decides (of_question rule) (setup_with_answers (λ s n. None) h.many places) g other h.finish events
       (λ s i q lo hi is. k s i q hi is) (λ s i q lo hi is. l s i q hi is)
 
   module _ (has : List ℕ → Bool) (input : List ℕ) (one two : Written) (p : IsManyRun has (by_rule rule) g input one)

@@ -15,7 +15,7 @@ use Rattle.command_input.specs.declared.status.Status.{Status}
 use Rattle.command_input.specs.declared.status.Status.TheVariants.{WrongWords, NoMemory}
 use Rattle.command_input.specs.Streams.{Streams, streams}
 use Rattle.command_input.specs.Written.{Writes}
-use Rattle.swap_commands.specs.Generated.{generated_output, Generates, IsMadeFor}
+use Rattle.swap_commands.specs.Generated.{generated_output, Generates, IsRequestStatus}
 use Rattle.swap_commands.specs.Says.{Says}
 use Rattle.swap_commands.specs.Strategies.{Strategies, strategies}
 use Rattle.swap_commands.specs.Words.{Command, OfJob, Race as OfRace, task_command, words_command, ordered, task_request, words_request}
@@ -30,7 +30,7 @@ use Rattle.swap_main.proofs.Ends as ends
 abbrev pub Performs : Strategies → Task → Streams → Streams → Status → Type 0
 Performs who (Input order) before after s = Says who (ordered order) before after s
 Performs who (Race ticks transcript) before after s = Says who (OfJob (OfRace ticks transcript)) before after s
-Performs who (Number request) before after s = (after.left ≡ before.left) × IsMadeFor before.taken after.taken before.write_faults after.write_faults request s
+Performs who (Number request) before after s = (after.left ≡ before.left) × IsRequestStatus before.taken after.taken before.write_faults after.write_faults request s
 
 -- a task that reads an input asks for no job of a number
 pub number_is : (words : List (List ℕ)) (task : Task) (request : Request) → task_text words ≡ Some task → words_request words ≡ Some request
@@ -83,7 +83,7 @@ module _ (who : Strategies) (words : List (List ℕ)) (before after : Streams) w
     no_input command is = cc (sym (no_command words request asked) ∙ is)
 
     -- what is promised of a job of a number
-    pub by_number : (s : Status) → IsMadeFor before.taken after.taken before.write_faults after.write_faults request s → IsAnswer who words before after s
+    pub by_number : (s : Status) → IsRequestStatus before.taken after.taken before.write_faults after.write_faults request s → IsAnswer who words before after s
     by_number s h = record {
       done = λ e. inr (asking.done words before after request asked unread few many s h e);
       named = λ e. inr (asking.named words before after request asked unread few many s h e);
@@ -114,14 +114,15 @@ module _ (who : Strategies) (words : List (List ℕ)) (before after : Streams) w
   answer (Number request) asked s h =
       let w = task_within words (Number request) asked in by_number request (request_is words request asked) h.0 w.0 w.1 s h.1
 
--- Words with a task aren't wrong. Here what is said of the streams stands part by part, so that a call of it need not name them.
+-- Words with a task aren't wrong. Here what is said of the streams stands part by part, so that a
+-- call of it need not name them.
 
 pub said_is_right : (has : List ℕ → Bool) (gives : MayGive) (command : Command) (left left' : Option (List ℕ)) (n m : ℕ) (taken taken' : Option (List ℕ))
     (p q : ℕ) (s : Status) → Says (strategies has gives) command (streams left n taken p) (streams left' m taken' q) s → ¬ (s ≡ WrongWords)
 said_is_right has gives command left left' n m taken taken' p q s h e =
     subst (λ (t : Status). Says (strategies has gives) command (streams left n taken p) (streams left' m taken' q) t) e h
 
-pub made_is_right : (taken taken' : Option (List ℕ)) (p q : ℕ) (request : Request) (s : Status) → IsMadeFor taken taken' p q request s → ¬ (s ≡ WrongWords)
+pub made_is_right : (taken taken' : Option (List ℕ)) (p q : ℕ) (request : Request) (s : Status) → IsRequestStatus taken taken' p q request s → ¬ (s ≡ WrongWords)
 made_is_right taken taken' p q request s h e = subst (λ (t : Status). Writes taken taken' p q (generated_output request) t) e h.writes
 
 pub never_wrong : (words : List (List ℕ)) (task : Task) → task_text words ≡ Some task → (s : Status) → ¬ (s ≡ WrongWords)

@@ -9,14 +9,15 @@ use Rattle.swap_commands.specs.Words.{Command, words_command, words_request}
 use Rattle.program_words.specs.declared.task.Request.{Request}
 use Rattle.command_input.specs.declared.status.Status.{Status}
 use Rattle.command_input.specs.declared.status.Status.TheVariants.{Done, Named, Refused, ReadFault, WriteFault, NoMemory, TooLong}
-use Rattle.swap_commands.specs.Output.{command_output, names_of}
+use Rattle.swap_commands.specs.Output.{command_output, refusal_names}
 use Rattle.swap_commands.specs.Generated.{generated_output, Generates}
 use Rattle.swap_commands.specs.Strategies.{Strategies}
 use Rattle.command_input.specs.Input.{limit}
 use Rattle.command_input.specs.Streams.{HasReadFault, HasWriteFault, Streams}
-use Rattle.swap_main.specs.Top.{AsksFairRace, AsksFairRun, IsDone, IsCut, IsRefused, IsShort, IsStatusOf, command_status}
+use Rattle.swap_main.specs.Top.{AsksFairRace, AsksFairRun, IsDone, IsCut, IsRefused, IsShort, IsOutputStatus, command_status}
 
--- What the program's answer promises, by its words, and by its input and its output before and after.
+-- What the program's answer promises, by its words, and by its input and its output before and
+-- after.
 pub record IsAnswer (who : Strategies) (words : List (List ℕ)) (before after : Streams) (s : Status) : Type 0 where
   -- What each status says: by an input, or without one by a number.
   pub done : s ≡ Done → IsDone who words before after false ⊎ Generates (IsWrittenWhole before.taken after.taken false) words before.left after.left
@@ -40,10 +41,10 @@ pub record IsAnswer (who : Strategies) (words : List (List ℕ)) (before after :
       → (s ≡ TooLong) ⊎ (s ≡ NoMemory)
   pub bad : (command : Command) (input : List ℕ) (reason : Reason) → words_command words ≡ Some command → before.left ≡ Some input → length input ≤ limit
       → command_output who.holds command input ≡ Err reason → ¬ HasReadFault before after
-      → (s ≡ Refused reason (names_of who.holds command input)) ⊎ (s ≡ NoMemory)
+      → (s ≡ Refused reason (refusal_names who.holds command input)) ⊎ (s ≡ NoMemory)
   pub good : (command : Command) (input : List ℕ) (output : Written) → words_command words ≡ Some command → before.left ≡ Some input → length input ≤ limit
       → command_output who.holds command input ≡ Ok output → ¬ HasReadFault before after → ¬ HasWriteFault before after
-      → IsStatusOf who.holds who.gives command input s ⊎ (s ≡ NoMemory)
+      → IsOutputStatus who.holds who.gives command input s ⊎ (s ≡ NoMemory)
   pub fair_run : AsksFairRun who.holds words before.left → ¬ HasReadFault before after → ¬ HasWriteFault before after → (s ≡ Done) ⊎ (s ≡ NoMemory)
   pub fair_race : AsksFairRace who.holds words before.left → ¬ HasReadFault before after → ¬ HasWriteFault before after → (s ≡ Done) ⊎ (s ≡ NoMemory)
   -- The job of a number is made without reading, and no status speaks of an input then.

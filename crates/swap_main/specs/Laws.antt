@@ -10,7 +10,7 @@ use Rattle.swap_job.specs.declared.job.Purpose.TheVariants as purposes
 use Rattle.swap_run.specs.Asked.{is_strategy}
 use Rattle.swap_offer.specs.Job.{parse_job}
 use Rattle.command_input.specs.Written.{Written}
-use Rattle.swap_commands.specs.Output.{Chance, output_by}
+use Rattle.swap_commands.specs.Output.{Chance, output_given_chance}
 use Rattle.swap_commands.specs.Words.{is_race, Command, OfJob, Run}
 use Rattle.swap_commands.specs.Promised.{AsPromised}
 use Rattle.swap_main.specs.Known.{by_rule}
@@ -20,11 +20,12 @@ abbrev pub SameWithoutStrategies : Type 0
 SameWithoutStrategies =
     (has : List ℕ → Bool) (a b : Chance) (transcript : Bool) (input : List ℕ) (job : Job) (events : List Event)
     → parse_job has purposes.Run input ≡ Ok (job, events) → list_any is_strategy job.roles ≡ false
-    → output_by has a (OfJob (Run transcript)) input ≡ output_by has b (OfJob (Run transcript)) input
+    → output_given_chance has a (OfJob (Run transcript)) input ≡ output_given_chance has b (OfJob (Run transcript)) input
 
--- and where a rule gives each answer, the rule decides what is written of all but a race: of two outputs for an input that are promised so, both are one
+-- and where a rule gives each answer, the rule decides what is written of all but a race: of two
+-- outputs for an input that are promised so, both are one
 abbrev pub RulesDecide : Type 0
 RulesDecide =
     (rule : List ℕ → Deal → ℕ → ℕ → Histories → Option (ℕ × Call)) (has : List ℕ → Bool) (a b : Chance) (command : Command) (input : List ℕ)
-    (one other : Written) → is_race command ≡ false → output_by has a command input ≡ Ok one → AsPromised has (by_rule rule) a command input one
-    → output_by has b command input ≡ Ok other → AsPromised has (by_rule rule) b command input other → one ≡ other
+    (one other : Written) → is_race command ≡ false → output_given_chance has a command input ≡ Ok one → AsPromised has (by_rule rule) a command input one
+    → output_given_chance has b command input ≡ Ok other → AsPromised has (by_rule rule) b command input other → one ≡ other

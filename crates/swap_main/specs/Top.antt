@@ -13,14 +13,15 @@ use Rattle.command_input.specs.Written.{Written}
 use Rattle.swap_commands.specs.Words.{words_command, Command, OfJob, Run, Race}
 use Rattle.command_input.specs.Input.{limit}
 use Rattle.swap_world.specs.Gone.{MayGive}
-use Rattle.swap_commands.specs.Output.{Chance, output_by, no_chance, names_of}
+use Rattle.swap_commands.specs.Output.{Chance, output_given_chance, no_chance, refusal_names}
 use Rattle.swap_commands.specs.Promised.{AsPromised}
 use Rattle.swap_commands.specs.Strategies.{Strategies}
 use Rattle.command_input.specs.declared.status.Status.{Status}
 use Rattle.command_input.specs.declared.status.Status.TheVariants.{Done, Named}
 use Rattle.command_input.specs.Streams.{Streams}
 
--- The words are a command, the whole input was read, and this is the command's output for it, where chance decides so.
+-- The words are a command, the whole input was read, and this is the command's output for it, where
+-- chance decides so.
 pub record Read (has : List ℕ → Bool) (chance : Chance) (words : List (List ℕ)) (left left' : Option (List ℕ)) (output : Result Written Reason) : Type 0 where
   pub command : Command
   pub asked : words_command words ≡ Some command
@@ -28,10 +29,11 @@ pub record Read (has : List ℕ → Bool) (chance : Chance) (words : List (List 
   pub taken : Consumes left left' input
   pub ended : IsAtEnd left'
   pub within : length input ≤ limit
-  pub gives : output_by has chance command input ≡ output
+  pub gives : output_given_chance has chance command input ≡ output
 
--- The input was read to its end, its text by what chance decided was written whole, and what the text shows is promised: also that each answer is one that
--- its strategy may give, and that a race came to the book.
+-- The input was read to its end, its text by what chance decided was written whole, and what the
+-- text shows is promised: also that each answer is one that its strategy may give, and that a race
+-- came to the book.
 pub record IsDone (who : Strategies) (words : List (List ℕ)) (before after : Streams) (found : Bool) : Type 0 where
   pub chance : Chance
   pub output : Written
@@ -56,12 +58,14 @@ pub record IsShort (who : Strategies) (words : List (List ℕ)) (before after : 
   pub promised : AsPromised who.holds who.gives chance read.command read.input output
   pub prefix : AppendsPrefix before.taken after.taken output.text
 
--- The input was read to its end and is refused for the reason, and these are the names in its header.
+-- The input was read to its end and is refused for the reason, and these are the names in its
+-- header.
 pub record IsRefused (has : List ℕ → Bool) (words : List (List ℕ)) (left left' : Option (List ℕ)) (reason : Reason) (names : List (List ℕ)) : Type 0 where
   pub read : Read has no_chance words left left' (Err reason)
-  pub named : names ≡ names_of has read.command read.input
+  pub named : names ≡ refusal_names has read.command read.input
 
--- The words ask for a run, and the input is an offer of parties that all conform, with a fair finish and no event before it.
+-- The words ask for a run, and the input is an offer of parties that all conform, with a fair
+-- finish and no event before it.
 pub record AsksFairRun (has : List ℕ → Bool) (words : List (List ℕ)) (left : Option (List ℕ)) : Type 0 where
   pub transcript : Bool
   pub asked : words_command words ≡ Some (OfJob (Run transcript))
@@ -92,9 +96,9 @@ abbrev pub command_status : Bool → Status
 command_status found = if found then Named else Done
 
 -- The status is that of the input's output by what chance decided, which is promised.
-pub record IsStatusOf (has : List ℕ → Bool) (gives : MayGive) (command : Command) (input : List ℕ) (s : Status) : Type 0 where
+pub record IsOutputStatus (has : List ℕ → Bool) (gives : MayGive) (command : Command) (input : List ℕ) (s : Status) : Type 0 where
   pub chance : Chance
   pub output : Written
-  pub made : output_by has chance command input ≡ Ok output
+  pub made : output_given_chance has chance command input ≡ Ok output
   pub promised : AsPromised has gives chance command input output
   pub status : s ≡ command_status output.found

@@ -25,7 +25,8 @@ fn with_wrong_words() -> Exit
     )
 }
 
-/// What the process ends with by its status. A refusal whose line finds no memory ends as want of memory does.
+/// What the process ends with by its status. A refusal whose line finds no memory ends as want of
+/// memory does.
 #[tactic(auto, unfolding(crate::specs::Exit::error_lines))]
 pub fn ending(alloc: Global, status: Status) -> Exit
     ensures exact { IsExit result status ⊎ IsExit result Status.NoMemory }

@@ -1,7 +1,8 @@
 //! The program's one call: words, a source and a sink.
 //!
-//! Read `specs/Answer.antt` first: what each status promises; then `specs/Exit.antt`: what the process ends with. What is written for an
-//! input, and what is promised of it, stands in `swap_commands`, which does what each command asks for.
+//! Read `specs/Answer.antt` first: what each status promises; then `specs/Exit.antt`: what the
+//! process ends with. What is written for an input, and what is promised of it, stands in
+//! `swap_commands`, which does what each command asks for.
 #![tactic(auto)]
 
 mod exit;

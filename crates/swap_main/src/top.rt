@@ -45,8 +45,9 @@ fn perform_race<R: Threads + Wait + Sync, S: Source, K: Sink, G: Gate, A: Strate
     }
 }
 
-/// Runs the program but for races: the words after its name, its standard input and its standard output. The staff answers for strategies. It waits for
-/// nobody, and to words that ask for a race it answers as to wrong ones.
+/// Runs the program but for races: the words after its name, its standard input and its standard
+/// output. The staff answers for strategies. It waits for nobody, and to words that ask for a race
+/// it answers as to wrong ones.
 pub fn swap_plain<S: Source, K: Sink, A: Strategies>(
     alloc: Global,
     words: &Vec<String>,
@@ -82,8 +83,9 @@ pub fn swap_plain<S: Source, K: Sink, A: Strategies>(
     }
 }
 
-/// Runs the program: the words after its name, its standard input and its standard output. The staff answers for strategies, and each turn of a race passes
-/// the gate. Where a race is asked for it waits for the race's threads.
+/// Runs the program: the words after its name, its standard input and its standard output. The
+/// staff answers for strategies, and each turn of a race passes the gate. Where a race is asked for
+/// it waits for the race's threads.
 pub fn swap_top<R: Threads + Wait + Sync, S: Source, K: Sink, G: Gate, A: Strategies + Sync>(
     rt: &R,
     alloc: Global,

@@ -4,7 +4,7 @@ use Rattle.swap_run.specs.Asked.{Answers}
 use Rattle.swap_run.specs.Fair.{repeat}
 use Rattle.swap_world.specs.Gone.{MayGive}
 use Rattle.swap_many.specs.Kept.{Kept}
-use Rattle.swap_many.specs.Fair.{kept_ticks, kept_round, kept_round_or_rest, SkipsTo}
+use Rattle.swap_many.specs.Fair.{kept_ticks, kept_round, kept_round_or_rest, SkipsKeptRounds}
 use Rattle.swap_many.specs.Value.{ManyState, AreReady, made_setup, kept_state, HasManyGone, IsManyStopped}
 use Rattle.swap_many.proofs.Way.{round_steps}
 use Rattle.swap_many.proofs.Gone.{LeadOn, gone_as, gone_then, leads_repeat, stopped_as, stopped_then, stopped_after}
@@ -12,7 +12,7 @@ use Rattle.swap_many.proofs.Turning.{ticks_lead, unless_leads}
 use Rattle.swap_world.proofs.Ways.{repeat_split}
 
 module _ (gives : MayGive) (old mid new : ManyState) (n : ℕ) (ready : AreReady old)
-    (skips : (g : ℕ → Answers) → SkipsTo (made_setup old g) n (kept_state old)) where
+    (skips : (g : ℕ → Answers) → SkipsKeptRounds (made_setup old g) n (kept_state old)) where
   are_rounds : (g : ℕ → Answers) → kept_round (made_setup old g) (repeat n (kept_ticks (made_setup old g)) (kept_state old))
       ≡ repeat (n + 1) (kept_round_or_rest (made_setup old g)) (kept_state old)
   are_rounds g = let e : suc n ≡ n + 1 = omega arith in sym (skips g) ∙ ap (λ k. repeat k (kept_round_or_rest (made_setup old g)) (kept_state old)) e

@@ -4,8 +4,8 @@ use Rattle.std.proofs.Common.{Option, Some, None, refl, sym, ap, ap₂, ◌∙�
 use Rattle.std.specs.List.{range_with_len}
 use Rattle.std.proofs.lemmas.List.{take_more, map-append}
 use Rattle.std.proofs.lemmas.List.Sums.{sum_by_push, sum_by-cons}
-use Rattle.swap_base.specs.Lists.{first_of, or_else}
-use Rattle.swap_base.proofs.Lists.{first_of-append, first_of-front}
+use Rattle.swap_base.specs.Lists.{first_given_answer, or_else}
+use Rattle.swap_base.proofs.Lists.{first_given_answer-append, first_given_answer-front}
 use Rattle.swap_many.specs.declared.overdrawn.Overdrawn.{Overdrawn}
 use Rattle.swap_many.specs.Chains.{Setup, set_aside, opening, first_free}
 use Rattle.std.proofs.Common.{Result, Ok, Err, slice_index_or, ◌^◌}
@@ -13,7 +13,7 @@ use Rattle.std.proofs.lemmas.List.Sums.{sum-map}
 use Rattle.swap_base.specs.Fault.{Fails}
 use Rattle.swap_base.specs.declared.fault.Fault.{Fault}
 use Rattle.swap_base.specs.declared.fault.Fault.TheVariants.{Refused, NoMemory}
-use Rattle.swap_many.specs.Opened.{lack_of, lack_on, overdrawn}
+use Rattle.swap_many.specs.Opened.{account_lack, chain_lack, overdrawn}
 use Rattle.swap_many.specs.Opening.{opened_or}
 use Rattle.swap_many.proofs.Emptied.{list_sum}
 
@@ -47,29 +47,29 @@ sum_below f g (x ∷ xs) h =
 
 -- The first answer along the numbers.
 
-pub first_next : {B : Type 0} (f : ℕ → Option B) (k : ℕ) → first_of f (range_with_len 0 k) ≡ None → f k ≡ None → first_of f (range_with_len 0 (k + 1)) ≡ None
+pub first_next : {B : Type 0} (f : ℕ → Option B) (k : ℕ) → first_given_answer f (range_with_len 0 k) ≡ None → f k ≡ None → first_given_answer f (range_with_len 0 (k + 1)) ≡ None
 first_next f k none e =
-    ap (first_of f) (range_end k) ∙ (first_of-append f (range_with_len 0 k) (k ∷ [])
+    ap (first_given_answer f) (range_end k) ∙ (first_given_answer-append f (range_with_len 0 k) (k ∷ [])
     ∙ (ap (λ o. or_else o (or_else (f k) None)) none ∙ ap (λ o. or_else o None) e))
 
-pub first_here : {B : Type 0} (f : ℕ → Option B) (n k : ℕ) (y : B) → k < n → first_of f (range_with_len 0 k) ≡ None → f k ≡ Some y
-    → first_of f (range_with_len 0 n) ≡ Some y
+pub first_here : {B : Type 0} (f : ℕ → Option B) (n k : ℕ) (y : B) → k < n → first_given_answer f (range_with_len 0 k) ≡ None → f k ≡ Some y
+    → first_given_answer f (range_with_len 0 n) ≡ Some y
 first_here f n k y l none e =
     let z : n ≡ (k + 1) + (n - (k + 1)) = omega arith in
-    ap (λ j. first_of f (range_with_len 0 j)) z ∙ (ap (first_of f) (range_join 0 (k + 1) (n - (k + 1)))
-    ∙ first_of-front f (range_with_len 0 (k + 1)) (range_with_len (0 + (k + 1)) (n - (k + 1))) y
-    (ap (first_of f) (range_end k) ∙ (first_of-append f (range_with_len 0 k) (k ∷ [])
+    ap (λ j. first_given_answer f (range_with_len 0 j)) z ∙ (ap (first_given_answer f) (range_join 0 (k + 1) (n - (k + 1)))
+    ∙ first_given_answer-front f (range_with_len 0 (k + 1)) (range_with_len (0 + (k + 1)) (n - (k + 1))) y
+    (ap (first_given_answer f) (range_end k) ∙ (first_given_answer-append f (range_with_len 0 k) (k ∷ [])
     ∙ (ap (λ o. or_else o (or_else (f k) None)) none ∙ ap (λ o. or_else o None) e))))
 
 -- What an account lacks.
 
 pub lacks : (m : Setup) (i x : ℕ) → opening m i x < set_aside m i x
-    → lack_of m i x ≡ Some (record { chain = i; account = x; have = opening m i x; wanted = set_aside m i x })
+    → account_lack m i x ≡ Some (record { chain = i; account = x; have = opening m i x; wanted = set_aside m i x })
 lacks m i x l =
     ap (λ (b : Bool). cond {A = Option Overdrawn} b (Some (record { chain = i; account = x; have = opening m i x; wanted = set_aside m i x })) None)
     (lt-ltb (opening m i x) (set_aside m i x) l)
 
-pub lacks_none : (m : Setup) (i x : ℕ) → set_aside m i x ≤ opening m i x → lack_of m i x ≡ None
+pub lacks_none : (m : Setup) (i x : ℕ) → set_aside m i x ≤ opening m i x → account_lack m i x ≡ None
 lacks_none m i x l =
     ap (λ (b : Bool). cond {A = Option Overdrawn} b (Some (record { chain = i; account = x; have = opening m i x; wanted = set_aside m i x })) None)
     (le-ltb (opening m i x) (set_aside m i x) l)
@@ -95,10 +95,10 @@ was_refused None x l e = absurd (cc e)
 was_refused (Some k) x l e = cc e
 
 pub fails_on : {A B : Type 0} (m : Setup) (i : ℕ) (x : A) (y : B) (fault : Fault Overdrawn) → i < length m.chains
-    → first_of (lack_on m) (range_with_len 0 i) ≡ None → Fails fault (opened_or (lack_on m i) x) → Fails fault (opened_or (overdrawn m) y)
+    → first_given_answer (chain_lack m) (range_with_len 0 i) ≡ None → Fails fault (opened_or (chain_lack m i) x) → Fails fault (opened_or (overdrawn m) y)
 fails_on m i x y NoMemory l none e = e
 fails_on m i x y (Refused lack) l none e =
-    ap (λ o. opened_or o y) (first_here (lack_on m) (length m.chains) i lack l none (was_refused (lack_on m i) x lack e))
+    ap (λ o. opened_or o y) (first_here (chain_lack m) (length m.chains) i lack l none (was_refused (chain_lack m i) x lack e))
 
 -- what is free is no more than the opening units
 pub free_fits : (m : Setup) (i n : ℕ) (xs : List ℕ) → n ≡ length (slice_index_or m.chains i []) → xs ≡ map (first_free m i) (range_with_len 0 n)

@@ -1,5 +1,6 @@
--- A fair finish of several swaps with no event before it: each round raises each ledger by one height, and every party of a swap in which all conform acts
--- at the height at which the round began; so that swap deals.
+-- A fair finish of several swaps with no event before it: each round raises each ledger by one
+-- height, and every party of a swap in which all conform acts at the height at which the round
+-- began; so that swap deals.
 use Rattle.std.proofs.Common.{◌≡◌, ◌⊎◌, ℕ, suc, zero, ◌+◌, ◌*◌, ◌<◌, ◌≤◌, nat_lt, Bool, true, false, cond, List, [], ◌∷◌, ◌++◌, length, fold}
 use Rattle.std.proofs.Common.{refl, sym, ap, ◌∙◌, subst, inl, inr, arith, ltb-true}
 use Rattle.std.specs.List.{range_with_len}
@@ -18,7 +19,7 @@ use Rattle.swap_rules.proofs.Dealing.{all_dealt}
 use Rattle.swap_run.specs.Run.{Cast, State, conforms}
 use Rattle.swap_run.specs.Laws.{IsGood}
 use Rattle.swap_run.specs.Fair.{repeat, turns, the_horizon}
-use Rattle.swap_run.specs.Called.{turns_on}
+use Rattle.swap_run.specs.Called.{swept_turns}
 use Rattle.swap_run.proofs.Good.{good_is_kept}
 use Rattle.swap_run.proofs.Rounds.{turns_from}
 use Rattle.swap_run.proofs.Swept.{none_swept}
@@ -85,7 +86,7 @@ module _ (m : Setup) (ready : IsReady m) (s : ℕ) (low : s < m.swaps) (all : (v
   turned_is : (z : Kept) → z.swept ≡ (λ s a. false) → (once m z).swaps s ≡ turns c (z.swaps s)
   turned_is z unswept =
       turned_once m z.swept s m.swaps 0 z.swaps (omega arith) (omega (arith, low))
-      ∙ (ap (λ (sw : ℕ → ℕ → Bool). turns_on (sw s) c (z.swaps s)) unswept ∙ (none_swept c (z.swaps s)).1)
+      ∙ (ap (λ (sw : ℕ → ℕ → Bool). swept_turns (sw s) c (z.swaps s)) unswept ∙ (none_swept c (z.swaps s)).1)
 
   round_is : (z : Kept) → z.swept ≡ (λ s a. false) → (kept_round m z).swaps s ≡ with_book (turns c (z.swaps s)) (risen z)
   round_is z unswept =

@@ -23,7 +23,7 @@ use Rattle.swap_many.specs.Kept.{Time, kept_sweep, kept_done, answer_sweep}
 use Rattle.swap_many.specs.Many.{Run}
 use Rattle.swap_many.specs.Laws.{CanSweep}
 use Rattle.swap_many.specs.Sound.{Keeps}
-use Rattle.swap_many.specs.Value.{ManyState, nth_world, nth_chain, swept_at, world_setup, made_setup, kept_state, AreSame, HasManyGone}
+use Rattle.swap_many.specs.Value.{ManyState, nth_world, nth_chain, swept_slots, world_setup, made_setup, kept_state, AreSame, HasManyGone}
 use Rattle.swap_many.specs.Inside.{AreWhole}
 use Rattle.swap_many.proofs.Projections.{put_still, put_each, shown_at}
 use Rattle.swap_many.proofs.Accounts.{set_is_put}
@@ -101,27 +101,27 @@ module _ (w : ManyState) (s a : ℕ) (fair : Bool) (whole : AreWhole w) (on : w.
       (units : account_units x.free
       ≡ returned (account_units (nth_chain w (arc_chain (world_setup w) s a)).free) (place (world_setup w) s a)
       (accounts (nth_world w s).deal a (history (nth_world w s).state.book a)))
-      (count : length x.free ≡ length (nth_chain w (arc_chain (world_setup w) s a)).free) (flag : f ≡ slice_set (swept_at w s) a true) where
+      (count : length x.free ≡ length (nth_chain w (arc_chain (world_setup w) s a)).free) (flag : f ≡ slice_set (swept_slots w s) a true) where
     abbrev pub with_sweep : ManyState
     with_sweep = record w { chains = slice_set w.chains (arc_chain (world_setup w) s a) x; swept = slice_set w.swept s f }
 
     low : s < length w.swept
     low = subst (λ n. s < n) (sym whole.swept) can.swap
 
-    flags_put : (λ t. swept_at with_sweep t) ≡ put (swept_at w) s f
+    flags_put : (λ t. swept_slots with_sweep t) ≡ put (swept_slots w) s f
     flags_put = set_is_put [] w.swept s f low
 
     sweep_same : AreSame gives w with_sweep
     sweep_same =
         let k = all_same gives w in record { swaps = k.swaps; casts = k.casts; asked = k.asked; places = k.places; openings = k.openings }
 
-    swept_now : (λ t c. slice_index_or (swept_at with_sweep t) c false) ≡ put (kept_state w).swept s (put ((kept_state w).swept s) a true)
+    swept_now : (λ t c. slice_index_or (swept_slots with_sweep t) c false) ≡ put (kept_state w).swept s (put ((kept_state w).swept s) a true)
     swept_now =
         ap (λ (h : ℕ → List Bool). let k : ℕ → ℕ → Bool = λ t c. slice_index_or (h t) c false in k) flags_put
-        ∙ (put_map (λ (xs : List Bool). let k : ℕ → Bool = λ c. slice_index_or xs c false in k) (swept_at w) s f
+        ∙ (put_map (λ (xs : List Bool). let k : ℕ → Bool = λ c. slice_index_or xs c false in k) (swept_slots w) s f
         ∙ ap (λ (k : ℕ → Bool). put (kept_state w).swept s k)
         (ap (λ (xs : List Bool). let k : ℕ → Bool = λ c. slice_index_or xs c false in k) flag
-        ∙ set_is_put false (swept_at w s) a true (subst (λ n. a < n) (sym (whole.slots s can.swap)) can.arc)))
+        ∙ set_is_put false (swept_slots w s) a true (subst (λ n. a < n) (sym (whole.slots s can.swap)) can.arc)))
 
     clocks_now : (λ j. (nth_chain with_sweep j).clock) ≡ (kept_state w).clocks
     clocks_now =
@@ -154,11 +154,11 @@ module _ (w : ManyState) (s a : ℕ) (fair : Bool) (whole : AreWhole w) (on : w.
         (length-set w.swept s f) slots whole.on
         (λ q. sound_step gives w with_sweep fair (Sweep s a) whole on (λ g. can_for w g (Sweep s a) can) sweep_gone) whole.kept
       where
-        slots : (t : ℕ) → length (swept_at with_sweep t) ≡ length (swept_at w t)
+        slots : (t : ℕ) → length (swept_slots with_sweep t) ≡ length (swept_slots w t)
         slots t =
             ap (λ (h : ℕ → List Bool). length (h t)) flags_put
-            ∙ put_each (λ t xs. length xs ≡ length (swept_at w t)) (swept_at w) s f
-            (ap (λ (xs : List Bool). length xs) flag ∙ length-set (swept_at w s) a true) (λ t. refl) t
+            ∙ put_each (λ t xs. length xs ≡ length (swept_slots w t)) (swept_slots w) s f
+            (ap (λ (xs : List Bool). length xs) flag ∙ length-set (swept_slots w s) a true) (λ t. refl) t
 
   -- The same by what the code holds: where the arc stands, its chain before and the two balances.
   module _ (p : Place) (y : ChainState) (b : Accounts) (at : p ≡ place (world_setup w) s a) (here : y ≡ nth_chain w p.chain)
@@ -183,7 +183,7 @@ module _ (w : ManyState) (s a : ℕ) (fair : Bool) (whole : AreWhole w) (on : w.
 
     module _ (gives : MayGive) (mid x : ChainState) (f old : List Bool) (one : account_units mid.free ≡ plus (account_units y.free) p.from b.party)
         (two : account_units x.free ≡ plus (account_units mid.free) p.to b.counterparty) (clock_one : mid.clock ≡ y.clock) (clock_two : x.clock ≡ mid.clock)
-        (count_one : length mid.free ≡ length y.free) (count_two : length x.free ≡ length mid.free) (was : old ≡ swept_at w s)
+        (count_one : length mid.free ≡ length y.free) (count_two : length x.free ≡ length mid.free) (was : old ≡ swept_slots w s)
         (flag : f ≡ slice_set old a true) where
       units_back : account_units x.free
           ≡ returned (account_units (nth_chain w (arc_chain (world_setup w) s a)).free) (place (world_setup w) s a)
@@ -200,7 +200,7 @@ module _ (w : ManyState) (s a : ℕ) (fair : Bool) (whole : AreWhole w) (on : w.
       count_back : length x.free ≡ length (nth_chain w (arc_chain (world_setup w) s a)).free
       count_back = count_two ∙ (count_one ∙ ap (λ (y : ChainState). length y.free) chain_is)
 
-      flag_back : f ≡ slice_set (swept_at w s) a true
+      flag_back : f ≡ slice_set (swept_slots w s) a true
       flag_back = flag ∙ ap (λ (xs : List Bool). slice_set xs a true) was
 
       pub back_gone : HasManyGone gives (λ m z. kept_done fair m z (Sweep s a)) w

@@ -2,7 +2,7 @@
 use Rattle.std.proofs.Common.{◌≡◌, ◌≢◌, ◌⊎◌, ℕ, suc, zero, ◌+◌, ◌<◌, ◌≤◌, ◌==◌, ◌||◌, nat_lt, nat_le, Bool, true, false, cond, List, [], ◌∷◌, length, fold, map}
 use Rattle.std.proofs.Common.{refl, sym, ap, ap₂, ◌∙◌, subst, inl, inr, arith, ltb-true, leb-true, le-ltb}
 use Rattle.std.specs.List.{list_all, range_with_len}
-use Rattle.swap_base.specs.Lists.{IsIn}
+use Rattle.swap_base.specs.Lists.{IsElement}
 use Rattle.swap_base.proofs.Lists.{list_all-in, in_range, from_range, from_filter, greatest-in, greatest-below, below_or}
 use Rattle.std.proofs.lemmas.Bool.{false≢true}
 use Rattle.swap_digraph.specs.Deal.{party, counterparty}
@@ -20,7 +20,7 @@ use Rattle.swap_run.proofs.Good.{good_is_kept}
 use Rattle.swap_run.proofs.Ticks.{horizon_low}
 use Rattle.swap_many.specs.declared.many_event.ManyEvent.TheVariants.{Tick, In, Sweep}
 use Rattle.swap_many.specs.Chains.{Setup, Slot, chain_slots, slots, arc_chain, put, chain_height, has_no_tick, book, is_done}
-use Rattle.swap_many.specs.Many.{Run, swap_state, done, last_horizon, looks_in, turn_in, turns_in, many_round, all_ended, round_or_rest, many_run, many_finish}
+use Rattle.swap_many.specs.Many.{Run, swap_state, done, last_horizon, swap_looks, swap_turn, swap_turns, many_round, all_ended, round_or_rest, many_run, many_finish}
 use Rattle.swap_many.specs.Kept.{Kept, Time, later, ticked, kept_tick, kept_sweep, kept_done, kept_run, kept_finish}
 use Rattle.swap_many.specs.Kept.{answer_sweep}
 use Rattle.swap_many.specs.Laws.{IsReady, ManyFinishesEnd}
@@ -29,7 +29,7 @@ use Rattle.swap_many.specs.Sound.{IsTimed, Keeps}
 use Rattle.swap_many.proofs.Clocks.{same_timed}
 use Rattle.swap_many.proofs.Units.{keeps_step, keeps_run, counted_is_placed}
 
-from_map : {A B : Type 0} (f : A → B) (xs : List A) (y : B) → IsIn y (map f xs) → (x : A) × IsIn x xs × (y ≡ f x)
+from_map : {A B : Type 0} (f : A → B) (xs : List A) (y : B) → IsElement y (map f xs) → (x : A) × IsElement x xs × (y ≡ f x)
 from_map f [] y i = absurd i
 from_map f (x ∷ xs) y (inl e) = (x, inl refl, e)
 from_map f (x ∷ xs) y (inr i) = let k = from_map f xs y i in (k.0, inr k.1, k.2)
@@ -44,7 +44,7 @@ kept_height z i = (z.clocks i).height
 
 module _ (m : Setup) (ready : IsReady m) where
   both_fold : {B : Type 0} (f : Run → B → Run) (g : Kept → B → Kept) (xs : List B) (r : Run) (z : Kept)
-      → ((r : Run) (z : Kept) (x : B) → IsIn x xs → Keeps m r z → Keeps m (f r x) (g z x)) → Keeps m r z → Keeps m (fold f r xs) (fold g z xs)
+      → ((r : Run) (z : Kept) (x : B) → IsElement x xs → Keeps m r z → Keeps m (f r x) (g z x)) → Keeps m r z → Keeps m (fold f r xs) (fold g z xs)
   both_fold f g [] r z h k = k
   both_fold f g (x ∷ xs) r z h k = both_fold f g xs (f r x) (g z x) (λ r z y i. h r z y (inr i)) (h r z x (inl refl) k)
 
@@ -54,7 +54,7 @@ module _ (m : Setup) (ready : IsReady m) where
   both_repeat (suc n) f g r z h k = h (repeat n f r) (repeat n g z) (both_repeat n f g r z h k)
 
   both_look : (s v : ℕ) (r : Run) (z : Kept) → s < m.swaps → v < (m.cast s).deal.graph.n → Keeps m r z
-      → Keeps m (looks_in m (done false m) (done true m) run_height s v r) (looks_in m (kept_done false m) (kept_done true m) kept_height s v z)
+      → Keeps m (swap_looks m (done false m) (done true m) run_height s v r) (swap_looks m (kept_done false m) (kept_done true m) kept_height s v z)
   both_look s v r z ls lv k =
       both_fold (λ r a. done false m r (In s (Look v a))) (λ z a. kept_done false m z (In s (Look v a))) (adjacent_arcs (m.cast s).deal v) r z (λ r z a i k.
       let j = from_filter (λ a. (v == party (m.cast s).deal a) || (v == counterparty (m.cast s).deal a)) a (arcs (m.cast s).deal.graph) i in
@@ -69,26 +69,26 @@ module _ (m : Setup) (ready : IsReady m) where
   both_act s v r z ls lv k = keeps_step false m r z (In s (Act v)) ready (record { swap = ls; no_tick = refl; can = lv }) k
 
   both_turn : (s : ℕ) (r : Run) (z : Kept) (v : ℕ) → s < m.swaps → v < (m.cast s).deal.graph.n → Keeps m r z
-      → Keeps m (turn_in m (done false m) (done true m) run_height s r v) (turn_in m (kept_done false m) (kept_done true m) kept_height s z v)
+      → Keeps m (swap_turn m (done false m) (done true m) run_height s r v) (swap_turn m (kept_done false m) (kept_done true m) kept_height s z v)
   both_turn s r z v ls lv k = go (conforms (m.cast s) v)
     where
-      seen : Keeps m (looks_in m (done false m) (done true m) run_height s v r) (looks_in m (kept_done false m) (kept_done true m) kept_height s v z)
+      seen : Keeps m (swap_looks m (done false m) (done true m) run_height s v r) (swap_looks m (kept_done false m) (kept_done true m) kept_height s v z)
       seen = both_look s v r z ls lv k
 
       go : (b : Bool)
           → Keeps m
-          (cond b (repeat (most_acts (m.cast s).deal) (λ r. done false m r (In s (Act v))) (looks_in m (done false m) (done true m) run_height s v r))
-          (done false m (looks_in m (done false m) (done true m) run_height s v r) (In s (Act v))))
+          (cond b (repeat (most_acts (m.cast s).deal) (λ r. done false m r (In s (Act v))) (swap_looks m (done false m) (done true m) run_height s v r))
+          (done false m (swap_looks m (done false m) (done true m) run_height s v r) (In s (Act v))))
           (cond b (repeat (most_acts (m.cast s).deal) (λ z. kept_done false m z (In s (Act v)))
-          (looks_in m (kept_done false m) (kept_done true m) kept_height s v z))
-          (kept_done false m (looks_in m (kept_done false m) (kept_done true m) kept_height s v z) (In s (Act v))))
+          (swap_looks m (kept_done false m) (kept_done true m) kept_height s v z))
+          (kept_done false m (swap_looks m (kept_done false m) (kept_done true m) kept_height s v z) (In s (Act v))))
       go true =
           both_repeat (most_acts (m.cast s).deal) (λ r. done false m r (In s (Act v))) (λ z. kept_done false m z (In s (Act v)))
-          (looks_in m (done false m) (done true m) run_height s v r) (looks_in m (kept_done false m) (kept_done true m) kept_height s v z)
+          (swap_looks m (done false m) (done true m) run_height s v r) (swap_looks m (kept_done false m) (kept_done true m) kept_height s v z)
           (λ r z k. both_act s v r z ls lv k) seen
       go false =
-          both_act s v (looks_in m (done false m) (done true m) run_height s v r)
-          (looks_in m (kept_done false m) (kept_done true m) kept_height s v z) ls lv seen
+          both_act s v (swap_looks m (done false m) (done true m) run_height s v r)
+          (swap_looks m (kept_done false m) (kept_done true m) kept_height s v z) ls lv seen
 
   both_round : (r : Run) (z : Kept) → Keeps m r z
       → Keeps m (many_round m (done false m) (done true m) run_height r) (many_round m (kept_done false m) (kept_done true m) kept_height z)
@@ -99,9 +99,9 @@ module _ (m : Setup) (ready : IsReady m) where
         some = omega arith;
         few = omega arith;
       }) k)
-      (both_fold (turns_in m (done false m) (done true m) run_height) (turns_in m (kept_done false m) (kept_done true m) kept_height)
+      (both_fold (swap_turns m (done false m) (done true m) run_height) (swap_turns m (kept_done false m) (kept_done true m) kept_height)
       (range_with_len 0 m.swaps) r z
-      (λ r z s i k. both_fold (turn_in m (done false m) (done true m) run_height s) (turn_in m (kept_done false m) (kept_done true m) kept_height s)
+      (λ r z s i k. both_fold (swap_turn m (done false m) (done true m) run_height s) (swap_turn m (kept_done false m) (kept_done true m) kept_height s)
       (range_with_len 0 (m.cast s).deal.graph.n) r z
       (λ r z v j k. both_turn s r z v (from_range s m.swaps i) (from_range v (m.cast s).deal.graph.n j) k) k) k)
 
@@ -119,7 +119,7 @@ module _ (m : Setup) (ready : IsReady m) where
       go true = k
       go false = both_round r z k
 
-  pub slot_known : (t : Slot) → IsIn t (slots m) → (t.swap < m.swaps) × (t.arc < length (m.cast t.swap).deal.graph.arcs)
+  pub slot_known : (t : Slot) → IsElement t (slots m) → (t.swap < m.swaps) × (t.arc < length (m.cast t.swap).deal.graph.arcs)
   slot_known t i =
       let k = from_flat_map (chain_slots m) (range_with_len 0 m.swaps) t i in
       let j = from_map (λ (a : ℕ). let t : Slot = record { swap = k.0; arc = a } in t) (arcs (m.cast k.0).deal.graph) t k.2 in
@@ -238,30 +238,30 @@ module _ (m : Setup) (ready : IsReady m) where
   repeat_clocks zero f z h = refl
   repeat_clocks (suc n) f z h = h (repeat n f z) ∙ repeat_clocks n f z h
 
-  looks_clocks : (s v : ℕ) (z : Kept) → (looks_in m (kept_done false m) (kept_done true m) kept_height s v z).clocks ≡ z.clocks
+  looks_clocks : (s v : ℕ) (z : Kept) → (swap_looks m (kept_done false m) (kept_done true m) kept_height s v z).clocks ≡ z.clocks
   looks_clocks s v z = fold_clocks (λ z a. kept_done false m z (In s (Look v a))) (adjacent_arcs (m.cast s).deal v) z (λ z a. refl)
 
-  turn_clocks : (s v : ℕ) (z : Kept) → (turn_in m (kept_done false m) (kept_done true m) kept_height s z v).clocks ≡ z.clocks
+  turn_clocks : (s v : ℕ) (z : Kept) → (swap_turn m (kept_done false m) (kept_done true m) kept_height s z v).clocks ≡ z.clocks
   turn_clocks s v z = go (conforms (m.cast s) v)
     where
       go : (b : Bool)
           → (cond b (repeat (most_acts (m.cast s).deal) (λ z. kept_done false m z (In s (Act v)))
-          (looks_in m (kept_done false m) (kept_done true m) kept_height s v z))
-          (kept_done false m (looks_in m (kept_done false m) (kept_done true m) kept_height s v z) (In s (Act v)))).clocks ≡ z.clocks
+          (swap_looks m (kept_done false m) (kept_done true m) kept_height s v z))
+          (kept_done false m (swap_looks m (kept_done false m) (kept_done true m) kept_height s v z) (In s (Act v)))).clocks ≡ z.clocks
       go true =
           repeat_clocks (most_acts (m.cast s).deal) (λ z. kept_done false m z (In s (Act v)))
-          (looks_in m (kept_done false m) (kept_done true m) kept_height s v z) (λ z. refl) ∙ looks_clocks s v z
+          (swap_looks m (kept_done false m) (kept_done true m) kept_height s v z) (λ z. refl) ∙ looks_clocks s v z
       go false = looks_clocks s v z
 
-  turns_clocks : (z : Kept) → (fold (turns_in m (kept_done false m) (kept_done true m) kept_height) z (range_with_len 0 m.swaps)).clocks ≡ z.clocks
+  turns_clocks : (z : Kept) → (fold (swap_turns m (kept_done false m) (kept_done true m) kept_height) z (range_with_len 0 m.swaps)).clocks ≡ z.clocks
   turns_clocks z =
-      fold_clocks (turns_in m (kept_done false m) (kept_done true m) kept_height) (range_with_len 0 m.swaps) z
-      (λ z s. fold_clocks (turn_in m (kept_done false m) (kept_done true m) kept_height s) (range_with_len 0 (m.cast s).deal.graph.n) z
+      fold_clocks (swap_turns m (kept_done false m) (kept_done true m) kept_height) (range_with_len 0 m.swaps) z
+      (λ z s. fold_clocks (swap_turn m (kept_done false m) (kept_done true m) kept_height s) (range_with_len 0 (m.cast s).deal.graph.n) z
       (λ z v. turn_clocks s v z))
 
   pub round_raised : (z : Kept) → IsTimed z → Raised m 0 (length m.chains) z (many_round m (kept_done false m) (kept_done true m) kept_height z)
   round_raised z t =
-      let mid = fold (turns_in m (kept_done false m) (kept_done true m) kept_height) z (range_with_len 0 m.swaps) in
+      let mid = fold (swap_turns m (kept_done false m) (kept_done true m) kept_height) z (range_with_len 0 m.swaps) in
       let x = tick_all (length m.chains) 0 mid (same_timed z mid (turns_clocks z) t) in
       record {
         timed = x.timed;

@@ -1,4 +1,5 @@
--- What a sweep gives back fits: with the free accounts it is no more than the chain's opening units.
+-- What a sweep gives back fits: with the free accounts it is no more than the chain's opening
+-- units.
 use Rattle.std.proofs.Common.{append-nil, ◌≡◌, ℕ, ◌+◌, ◌<◌, ◌≤◌, false, cond, length, [], refl, sym, ap₂, subst, arith, eq-eqb}
 use Rattle.swap_digraph.specs.Deal.{amount}
 use Rattle.ledger_core.specs.History.{accounts, held, IsLegal}

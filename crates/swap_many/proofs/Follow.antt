@@ -1,4 +1,5 @@
--- What is kept is what the chains' histories give, event by event; and each swap's state stays good.
+-- What is kept is what the chains' histories give, event by event; and each swap's state stays
+-- good.
 use Rattle.std.proofs.Common.{append-nil, ◌≡◌, ◌≢◌, ◌⊎◌, ℕ, suc, ◌+◌, ◌<◌, ◌==◌, ◌&&◌, ◌||◌, Bool, true, false, cond, List, [], ◌∷◌, ◌++◌, length, fold}
 use Rattle.std.proofs.Common.{Option, Some, None, refl, sym, ap, ap₂, ◌∙◌, subst, inl, inr, arith, eq-eqb, eqb-true, slice_set, All}
 use Rattle.std.specs.Prelude.{option_map}
@@ -19,13 +20,13 @@ use Rattle.swap_many.specs.declared.many_event.ManyEvent.{ManyEvent}
 use Rattle.swap_many.specs.declared.many_event.ManyEvent.TheVariants.{Tick, In, Pay, Sweep}
 use Rattle.swap_many.specs.declared.many_reply.ManyReply.{ManyReply}
 use Rattle.swap_many.specs.declared.many_reply.ManyReply.TheVariants.{Plain, Swept}
-use Rattle.swap_run.specs.Called.{Called, called, before_call, is_due_act, noted_to, planned_to, told}
+use Rattle.swap_run.specs.Called.{Called, called, before_call, is_due_act, noted_state, planned_state, told}
 use Rattle.swap_many.specs.Chains.{Setup, arc_chain, place, put, Ticked, Paid, Emptied, ChainEntry, chain_height, chain_ticks, has_no_tick}
 use Rattle.swap_many.specs.Chains.{projection, Chains, book, Units, paid, returned, free, is_done, is_swept, reply_to_call}
-use Rattle.swap_run.specs.Called.{is_barred, landed_on}
+use Rattle.swap_run.specs.Called.{is_barred, landed_event}
 use Rattle.swap_many.specs.Chains.{reply_to_payment, reply_to_sweep, entered}
 use Rattle.swap_many.specs.Many.{Run, swap_state, post_call, posted, heard, done, many_step, many_start, many_run}
-use Rattle.swap_many.specs.Kept.{Kept, later, ticked, is_passed, answer_in, answer_payment, answer_sweep, kept_sweep, kept_done, kept_step}
+use Rattle.swap_many.specs.Kept.{Kept, later, ticked, is_passed, answer_call, answer_payment, answer_sweep, kept_sweep, kept_done, kept_step}
 use Rattle.swap_many.specs.Kept.{kept_start}
 use Rattle.swap_run.specs.CalledLaws.{IsSplit}
 use Rattle.swap_many.specs.Laws.{IsReady, CanHappen, CanSweep, CanCome, Follows, AreGood, StartFollows, StepsFollow}
@@ -48,7 +49,7 @@ with_book z b e = subst (λ b. z ≡ record z { book = b }) e refl
 told_book : (c : Cast) (s : State) (e : Event) (x : Called) (h : List Entry) → IsSplit c s e → (told c s e x h).book ≡ slice_set s.book x.arc h
 told_book c s e x h split = go (is_due_act c e) ∙ ap (λ b. slice_set b x.arc h) split.calm
   where
-    go : (b : Bool) → (cond b (noted_to (before_call c s e) x h) (planned_to c (before_call c s e) x h)).book ≡ slice_set (before_call c s e).book x.arc h
+    go : (b : Bool) → (cond b (noted_state (before_call c s e) x h) (planned_state c (before_call c s e) x h)).book ≡ slice_set (before_call c s e).book x.arc h
     go true = refl
     go false = refl
 
@@ -149,7 +150,7 @@ tick_follows fair m r z i k f =
 -- Events of a swap.
 
 abbrev pub in_swap : Setup → Kept → ℕ → Event → Option Called → State
-in_swap m z s e o = landed_on (z.swept s) (m.cast s) (z.swaps s) e o
+in_swap m z s e o = landed_event (z.swept s) (m.cast s) (z.swaps s) e o
 
 -- the swap whose event it is comes to X, and no other one's book changes
 swaps_follow : (m : Setup) (r : Run) (z : Kept) (s : ℕ) (x y : State) (h : Chains) → ((t : ℕ) → t < m.swaps → z.swaps t ≡ swap_state m r t)
@@ -494,7 +495,7 @@ steps_follow fair m r z e ready can f g = (step_follows fair m r z e ready can f
 -- Replies.
 
 answer_is : (m : Setup) (r : Run) (z : Kept) (s : ℕ) (x : Called) → Follows m r z → s < m.swaps → x.arc < length (m.cast s).deal.graph.arcs
-    → answer_in m z s x ≡ reply_to_call m (r.chains (arc_chain m s x.arc)) s x.arc x.sender x.call
+    → answer_call m z s x ≡ reply_to_call m (r.chains (arc_chain m s x.arc)) s x.arc x.sender x.call
 answer_is m r z s x f ls la =
     ap₂ (λ b h. cond b Swept (Plain (history_reply (m.cast s).deal x.arc h x.sender x.call))) (passed_is m r z s x f ls la)
     (ap (λ t. history t.book x.arc) (f.swaps s ls) ∙ shown_at m r.chains s x.arc la)
@@ -503,10 +504,10 @@ pub replies_follow : RepliesFollow
 replies_follow m r z (Tick i k) ready can f g =
     ap₂ (λ x y. Some (cond (has_no_tick x y k) (Plain ClockFull) (Plain Accepted))) (f.ticks i) (f.heights i)
 replies_follow m r z (In s e) ready can f g =
-    ap (λ t. option_map (answer_in m z s) (called (m.cast s) t e)) (f.swaps s can.swap) ∙ go (called (m.cast s) (swap_state m r s) e) refl
+    ap (λ t. option_map (answer_call m z s) (called (m.cast s) t e)) (f.swaps s can.swap) ∙ go (called (m.cast s) (swap_state m r s) e) refl
   where
     go : (o : Option Called) → called (m.cast s) (swap_state m r s) e ≡ o
-        → option_map (answer_in m z s) o ≡ option_map (λ x. x.entry.reply) (option_map (post_call m r s) o)
+        → option_map (answer_call m z s) o ≡ option_map (λ x. x.entry.reply) (option_map (post_call m r s) o)
     go None q = refl
     go (Some x) q =
         ap Some (answer_is m r z s x f can.swap

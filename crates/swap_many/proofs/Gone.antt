@@ -16,7 +16,7 @@ use Rattle.swap_many.specs.Chains.{Setup}
 use Rattle.swap_many.specs.Kept.{Kept}
 use Rattle.swap_many.specs.Laws.{IsReady}
 use Rattle.swap_many.specs.Way.{Leads}
-use Rattle.swap_many.specs.Value.{ManyState, AreReady, IsOn, IsPartyOf, nth_world, made_setup, kept_state, HasManyGone, IsBetween, IsManyStopped}
+use Rattle.swap_many.specs.Value.{ManyState, AreReady, CanContinue, IsSwapParty, nth_world, made_setup, kept_state, HasManyGone, IsBetween, IsManyStopped}
 use Rattle.swap_many.proofs.Values.{all_same, same_deal, held_same, same_then, same_setup, continue_less}
 use Rattle.swap_many.proofs.Way.{no_step, more_steps}
 use Rattle.swap_world.proofs.Ways.{range_all, repeat_split}
@@ -50,7 +50,7 @@ module _ (gives : MayGive) where
     kept = λ g c. b.kept g c ∙ ap₂ h (same_setup gives old mid g a.same) (a.kept g (continue_less gives mid new g b.same c));
   }
 
-  pub on_gone : (f : Setup → Kept → Kept) (old new : ManyState) (holds : List ℕ → Bool) → HasManyGone gives f old new → IsOn holds old → IsOn holds new
+  pub on_gone : (f : Setup → Kept → Kept) (old new : ManyState) (holds : List ℕ → Bool) → HasManyGone gives f old new → CanContinue holds old → CanContinue holds new
   on_gone f old new holds k on = record {
     goes_on = k.goes_on ∙ on.goes_on;
     ready = λ g. subst IsReady (sym (same_setup gives old new g k.same)) (on.ready g);
@@ -63,7 +63,7 @@ module _ (gives : MayGive) where
   pub deal_gone : (f : Setup → Kept → Kept) (old new : ManyState) (s : ℕ) → HasManyGone gives f old new → (nth_world new s).deal ≡ (nth_world old s).deal
   deal_gone f old new s k = same_deal gives old new s k.same
 
-  pub party_gone : (f : Setup → Kept → Kept) (old new : ManyState) (s p : ℕ) → HasManyGone gives f old new → IsPartyOf old s p → IsPartyOf new s p
+  pub party_gone : (f : Setup → Kept → Kept) (old new : ManyState) (s p : ℕ) → HasManyGone gives f old new → IsSwapParty old s p → IsSwapParty new s p
   party_gone f old new s p k l = record {
     swap = swap_gone f old new s k l.swap;
     party = subst (λ (d : Deal). p < d.graph.n) (sym (deal_gone f old new s k)) l.party;

@@ -16,15 +16,15 @@ use Rattle.swap_world.specs.declared.told.Told.{Told}
 use Rattle.swap_world.specs.declared.told.Told.TheVariants.{Passed, Replied}
 use Rattle.swap_world.specs.Value.{WorldState, world_cast, answering_cast, Continues}
 use Rattle.swap_world.specs.Gone.{MayGive, HasGone}
-use Rattle.swap_world.specs.On.{swept_in, told_of_call, event_told, IsCutOn}
+use Rattle.swap_world.specs.On.{is_slot_swept, told_of_call, event_told, IsCutWithSweeps}
 use Rattle.swap_many.specs.declared.many_event.ManyEvent.TheVariants.{In}
 use Rattle.swap_many.specs.declared.many_reply.ManyReply.{ManyReply}
 use Rattle.swap_many.specs.declared.many_reply.ManyReply.TheVariants.{Plain, Swept}
 use Rattle.swap_many.specs.Chains.{put}
-use Rattle.swap_many.specs.Kept.{Kept, kept_done, kept_reply, answer_in}
+use Rattle.swap_many.specs.Kept.{Kept, kept_done, kept_reply, answer_call}
 use Rattle.swap_many.specs.Laws.{CanHappen, CanCome}
 use Rattle.swap_many.specs.Told.{reply_told, told_result}
-use Rattle.swap_many.specs.Value.{ManyState, nth_world, swept_at, world_setup, made_setup, kept_state, ContinueAll, AreSame, HasManyGone, IsBetween}
+use Rattle.swap_many.specs.Value.{ManyState, nth_world, swept_slots, world_setup, made_setup, kept_state, ContinueAll, AreSame, HasManyGone, IsBetween}
 use Rattle.swap_many.specs.Value.{IsManyStopped}
 use Rattle.swap_many.specs.Inside.{AreWhole}
 use Rattle.swap_many.proofs.Projections.{put_same, put_other}
@@ -33,7 +33,7 @@ use Rattle.swap_many.proofs.Way.{no_step, one_step}
 
 -- What is told is the reply.
 pub told_is : (w : ManyState) (s : ℕ) (e : Event) (g : ℕ → Answers)
-    → reply_told (event_told (swept_in (swept_at w s)) (answering_cast (nth_world w s) (g s)) (nth_world w s).state e)
+    → reply_told (event_told (is_slot_swept (swept_slots w s)) (answering_cast (nth_world w s) (g s)) (nth_world w s).state e)
     ≡ kept_reply false (made_setup w g) (kept_state w) (In s e)
 told_is w s e g = go (called (answering_cast (nth_world w s) (g s)) (nth_world w s).state e)
   where
@@ -42,19 +42,19 @@ told_is w s e g = go (called (answering_cast (nth_world w s) (g s)) (nth_world w
     by false r t e = sym e
 
     go : (o : Option Called)
-        → reply_told (told_of_call (swept_in (swept_at w s)) (answering_cast (nth_world w s) (g s)) (nth_world w s).state o)
-        ≡ option_map (answer_in (made_setup w g) (kept_state w) s) o
+        → reply_told (told_of_call (is_slot_swept (swept_slots w s)) (answering_cast (nth_world w s) (g s)) (nth_world w s).state o)
+        ≡ option_map (answer_call (made_setup w g) (kept_state w) s) o
     go None = refl
     go (Some x) =
         let r = history_reply (nth_world w s).deal x.arc (history (nth_world w s).state.book x.arc) x.sender x.call in
-        by (is_barred (swept_in (swept_at w s) x.arc) (history (nth_world w s).state.book x.arc) x.call) (Plain r) (Replied r) refl
+        by (is_barred (is_slot_swept (swept_slots w s) x.arc) (history (nth_world w s).state.book x.arc) x.call) (Plain r) (Replied r) refl
 
 -- What an event does to its world, and what is told.
 pub record IsTaken {E : Type 0} (gives : MayGive) (swept : List Bool) (e : Event) (old new : WorldState) (r : Result Told E) : Type 0 where
-  pub ok : OnOk r (HasGone gives (λ c s. apply_step (swept_in swept) c s e) old new)
-  pub told : IfOk r (λ t. (g : Answers) → Continues new g → t ≡ event_told (swept_in swept) (answering_cast old g) old.state e)
+  pub ok : OnOk r (HasGone gives (λ c s. apply_step (is_slot_swept swept) c s e) old new)
+  pub told : IfOk r (λ t. (g : Answers) → Continues new g → t ≡ event_told (is_slot_swept swept) (answering_cast old g) old.state e)
   pub err : OnErr r (new.stopped ≡ true)
-  pub cut : OnErr r (IsCutOn gives (swept_in swept) e old new)
+  pub cut : OnErr r (IsCutWithSweeps gives (is_slot_swept swept) e old new)
   pub kept : IsKept (world_cast new) new.state.book
 
 module _ (gives : MayGive) (w : ManyState) (s : ℕ) (e : Event) (x : WorldState) (low : s < length w.worlds) where
@@ -64,7 +64,7 @@ module _ (gives : MayGive) (w : ManyState) (s : ℕ) (e : Event) (x : WorldState
       subst (λ (y : WorldState). Continues y (g s)) (ap (λ (f : ℕ → WorldState). f s) (worlds_put w s x b low) ∙ put_same (nth_world w) s x) k
 
   -- the event was taken
-  pub happened : (b : Bool) → b ≡ w.stopped → HasGone gives (λ c t. apply_step (swept_in (swept_at w s)) c t e) (nth_world w s) x
+  pub happened : (b : Bool) → b ≡ w.stopped → HasGone gives (λ c t. apply_step (is_slot_swept (swept_slots w s)) c t e) (nth_world w s) x
       → HasManyGone gives (λ m z. kept_done false m z (In s e)) w (with_world w s x b low)
   happened b on k = record {
     same = world_same w s x b low gives (ap world_cast k.same) k.asked;
@@ -74,7 +74,7 @@ module _ (gives : MayGive) (w : ManyState) (s : ℕ) (e : Event) (x : WorldState
   }
 
   -- memory ran out: the book is the one before the event or after it
-  pub was_cut : (b : Bool) → b ≡ true → AreWhole w → CanHappen (world_setup w) s e → IsCutOn gives (swept_in (swept_at w s)) e (nth_world w s) x
+  pub was_cut : (b : Bool) → b ≡ true → AreWhole w → CanHappen (world_setup w) s e → IsCutWithSweeps gives (is_slot_swept (swept_slots w s)) e (nth_world w s) x
       → IsManyStopped gives (λ m z. kept_done false m z (In s e)) w (with_world w s x b low)
   was_cut b on whole can k = record {
     stopped = on;
@@ -94,7 +94,7 @@ module _ (gives : MayGive) (w : ManyState) (s : ℕ) (e : Event) (x : WorldState
       way : (g : ℕ → Answers) → ContinueAll (with_world w s x b low) g
           → (x.state.book ≡ (nth_world w s).state.book)
           ⊎ ((g : Answers) → Continues x g
-          → x.state.book ≡ (apply_step (swept_in (swept_at w s)) (answering_cast (nth_world w s) g) (nth_world w s).state e).book)
+          → x.state.book ≡ (apply_step (is_slot_swept (swept_slots w s)) (answering_cast (nth_world w s) g) (nth_world w s).state e).book)
           → IsBetween (made_setup w g) (kept_state w) (kept_done false (made_setup w g) (kept_state w) (In s e)) (with_world w s x b low)
       way g c (inl h) = record {
         there = kept_state w;
@@ -110,9 +110,9 @@ module _ (gives : MayGive) (w : ManyState) (s : ℕ) (e : Event) (x : WorldState
         after = no_step (made_setup w g) (whole.ready g) (after g);
         books = λ t l. each_world w s x b low (λ t y. y.state.book ≡ ((after g).swaps t).book)
             (h (g s) (own b g c) ∙ sym (ap (λ (y : State). y.book) (put_same (kept_state w).swaps s
-            (apply_step (swept_in (swept_at w s)) (answering_cast (nth_world w s) (g s)) (nth_world w s).state e))))
+            (apply_step (is_slot_swept (swept_slots w s)) (answering_cast (nth_world w s) (g s)) (nth_world w s).state e))))
             (λ t n. sym (ap (λ (y : State). y.book) (put_other (kept_state w).swaps s
-            (apply_step (swept_in (swept_at w s)) (answering_cast (nth_world w s) (g s)) (nth_world w s).state e) t n))) t;
+            (apply_step (is_slot_swept (swept_slots w s)) (answering_cast (nth_world w s) (g s)) (nth_world w s).state e) t n))) t;
         clocks = λ i. refl;
         free = λ i. refl;
       }
@@ -138,11 +138,11 @@ module _ (gives : MayGive) (w : ManyState) (s : ℕ) (e : Event) (x : WorldState
         → o ≡ kept_reply false (made_setup w g) (kept_state w) (In s e))
 
   module _ {E : Type 0} (r : Result Told E) (b : Bool) (is : b ≡ is_err r) (on : w.stopped ≡ false) (whole : AreWhole w)
-      (can : CanHappen (world_setup w) s e) (k : IsTaken gives (swept_at w s) e (nth_world w s) x r) where
+      (can : CanHappen (world_setup w) s e) (k : IsTaken gives (swept_slots w s) e (nth_world w s) x r) where
     then_whole : AreWhole (with_world w s x b low)
     then_whole = go r is k
       where
-        go : (r : Result Told E) → b ≡ is_err r → IsTaken gives (swept_at w s) e (nth_world w s) x r → AreWhole (with_world w s x b low)
+        go : (r : Result Told E) → b ≡ is_err r → IsTaken gives (swept_slots w s) e (nth_world w s) x r → AreWhole (with_world w s x b low)
         go (Ok t) is k =
             still_whole b on (λ q. ap (λ (y : WorldState). y.stopped) k.ok.same ∙ whole.on on s low)
             (world_same w s x b low gives (ap world_cast k.ok.same) k.ok.asked) (λ q. happened b (q ∙ sym on) k.ok) whole can k.kept
@@ -153,7 +153,7 @@ module _ (gives : MayGive) (w : ManyState) (s : ℕ) (e : Event) (x : WorldState
     then_ok : OnOk (told_result r) (HasManyGone gives (λ m z. kept_done false m z (In s e)) w (with_world w s x b low))
     then_ok = go r is k
       where
-        go : (r : Result Told E) → b ≡ is_err r → IsTaken gives (swept_at w s) e (nth_world w s) x r
+        go : (r : Result Told E) → b ≡ is_err r → IsTaken gives (swept_slots w s) e (nth_world w s) x r
             → OnOk (told_result r) (HasManyGone gives (λ m z. kept_done false m z (In s e)) w (with_world w s x b low))
         go (Ok t) is k = happened b (is ∙ sym on) k.ok
         go (Err t) is k = tt
@@ -161,7 +161,7 @@ module _ (gives : MayGive) (w : ManyState) (s : ℕ) (e : Event) (x : WorldState
     then_err : OnErr (told_result r) (IsManyStopped gives (λ m z. kept_done false m z (In s e)) w (with_world w s x b low))
     then_err = go r is k
       where
-        go : (r : Result Told E) → b ≡ is_err r → IsTaken gives (swept_at w s) e (nth_world w s) x r
+        go : (r : Result Told E) → b ≡ is_err r → IsTaken gives (swept_slots w s) e (nth_world w s) x r
             → OnErr (told_result r) (IsManyStopped gives (λ m z. kept_done false m z (In s e)) w (with_world w s x b low))
         go (Ok t) is k = tt
         go (Err t) is k = was_cut b is whole can k.cut
@@ -170,7 +170,7 @@ module _ (gives : MayGive) (w : ManyState) (s : ℕ) (e : Event) (x : WorldState
         → o ≡ kept_reply false (made_setup w g) (kept_state w) (In s e))
     then_reply = go r k
       where
-        go : (r : Result Told E) → IsTaken gives (swept_at w s) e (nth_world w s) x r
+        go : (r : Result Told E) → IsTaken gives (swept_slots w s) e (nth_world w s) x r
             → IfOk (told_result r) (λ o. (g : ℕ → Answers) → ContinueAll (with_world w s x b low) g
             → o ≡ kept_reply false (made_setup w g) (kept_state w) (In s e))
         go (Ok t) k = λ g c. ap reply_told (k.told (g s) (own b g c)) ∙ told_is w s e g

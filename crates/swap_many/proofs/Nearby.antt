@@ -6,15 +6,15 @@ use Rattle.swap_world.specs.Gone.{MayGive}
 use Rattle.swap_world.specs.Value.{WorldState}
 use Rattle.swap_many.specs.Chains.{Setup}
 use Rattle.swap_many.specs.Kept.{Kept}
-use Rattle.swap_many.specs.Near.{AreNear, near_in}
+use Rattle.swap_many.specs.Near.{AreNear, swap_adjacent_arcs}
 use Rattle.swap_many.specs.Value.{ManyState, HasManyGone, no_world}
 use Rattle.swap_many.proofs.Gone.{deal_gone}
 use Rattle.swap_many.proofs.Ticked.{map_at}
 
-pub are_near : (ws : List WorldState) (near : List (List (List ℕ))) → near ≡ map near_in ws → AreNear near ws
+pub are_near : (ws : List WorldState) (near : List (List (List ℕ))) → near ≡ map swap_adjacent_arcs ws → AreNear near ws
 are_near ws near e = record {
-  one_each = ap (λ (xs : List (List (List ℕ))). length xs) e ∙ length-map ws near_in;
-  each = λ s l. ap (λ (xs : List (List (List ℕ))). slice_index_or xs s []) e ∙ map_at near_in ws s no_world [] l;
+  one_each = ap (λ (xs : List (List (List ℕ))). length xs) e ∙ length-map ws swap_adjacent_arcs;
+  each = λ s l. ap (λ (xs : List (List (List ℕ))). slice_index_or xs s []) e ∙ map_at swap_adjacent_arcs ws s no_world [] l;
 }
 
 -- while many worlds go on

@@ -6,12 +6,12 @@ use Rattle.swap_job.specs.declared.event.Event.TheVariants.{Look, Act}
 use Rattle.swap_rules.proofs.Prefixes.{same_or_not}
 use Rattle.swap_run.specs.Run.{State, conforms, step}
 use Rattle.swap_run.specs.Fair.{repeat, adjacent_arcs, looks, most_acts}
-use Rattle.swap_run.specs.Called.{apply_step, turn_on}
+use Rattle.swap_run.specs.Called.{apply_step, swept_turn}
 use Rattle.swap_many.specs.declared.many_event.ManyEvent.TheVariants.{In}
 use Rattle.swap_many.specs.Chains.{Setup, put}
-use Rattle.swap_many.specs.Many.{turn_in}
+use Rattle.swap_many.specs.Many.{swap_turn}
 use Rattle.swap_many.specs.Kept.{Kept, kept_done}
-use Rattle.swap_many.specs.Laws.{TurnsAreOn}
+use Rattle.swap_many.specs.Laws.{TurnsStayInSwap}
 use Rattle.swap_many.proofs.Projections.{put_same, put_other, put_still}
 
 -- swap s has come to x
@@ -45,7 +45,7 @@ module _ (m : Setup) (s : ℕ) (z : Kept) where
       ∙ event_on (repeat n (λ x. apply_step (z.swept s) (m.cast s) x (Act v)) x) (Act v)
 
   turn_is_on : (v : ℕ) (x : State)
-      → turn_in m (kept_done false m) (kept_done true m) (λ z i. (z.clocks i).height) s (set_swap s z x) v ≡ set_swap s z (turn_on (z.swept s) (m.cast s) x v)
+      → swap_turn m (kept_done false m) (kept_done true m) (λ z i. (z.clocks i).height) s (set_swap s z x) v ≡ set_swap s z (swept_turn (z.swept s) (m.cast s) x v)
   unfolding looks
   turn_is_on v x = go (conforms (m.cast s) v)
     where
@@ -65,15 +65,15 @@ module _ (m : Setup) (s : ℕ) (z : Kept) where
       go false = ap (λ y. kept_done false m y (In s (Act v))) seen ∙ event_on (looks (m.cast s) v x) (Act v)
 
   turns_on_from : (vs : List ℕ) (x : State)
-      → fold (turn_in m (kept_done false m) (kept_done true m) (λ z i. (z.clocks i).height) s) (set_swap s z x) vs
-      ≡ set_swap s z (fold (turn_on (z.swept s) (m.cast s)) x vs)
+      → fold (swap_turn m (kept_done false m) (kept_done true m) (λ z i. (z.clocks i).height) s) (set_swap s z x) vs
+      ≡ set_swap s z (fold (swept_turn (z.swept s) (m.cast s)) x vs)
   turns_on_from [] x = refl
   turns_on_from (v ∷ vs) x =
-      ap (λ y. fold (turn_in m (kept_done false m) (kept_done true m) (λ z i. (z.clocks i).height) s) y vs) (turn_is_on v x)
-      ∙ turns_on_from vs (turn_on (z.swept s) (m.cast s) x v)
+      ap (λ y. fold (swap_turn m (kept_done false m) (kept_done true m) (λ z i. (z.clocks i).height) s) y vs) (turn_is_on v x)
+      ∙ turns_on_from vs (swept_turn (z.swept s) (m.cast s) x v)
 
-pub turns_are_on : TurnsAreOn
+pub turns_are_on : TurnsStayInSwap
 turns_are_on m s z =
-    ap (λ (f : ℕ → State). fold (turn_in m (kept_done false m) (kept_done true m) (λ z i. (z.clocks i).height) s)
+    ap (λ (f : ℕ → State). fold (swap_turn m (kept_done false m) (kept_done true m) (λ z i. (z.clocks i).height) s)
     (let t : Kept = record z { swaps = f } in t) (range_with_len 0 (m.cast s).deal.graph.n)) (sym (put_still z.swaps s (z.swaps s) refl))
     ∙ turns_on_from m s z (range_with_len 0 (m.cast s).deal.graph.n) (z.swaps s)

@@ -8,8 +8,8 @@ use Rattle.swap_digraph.specs.Graph.{arcs}
 use Rattle.swap_digraph.specs.Deal.{amount}
 use Rattle.ledger_core.proofs.History.{not-true}
 use Rattle.swap_many.specs.declared.overdrawn.Overdrawn.{Overdrawn}
-use Rattle.swap_many.specs.Chains.{Setup, place, arc_chain, pays_for, opening, set_aside}
-use Rattle.swap_many.specs.Opened.{lack_of, lack_on, overdrawn, ArePlaces, NoLackIsCovered}
+use Rattle.swap_many.specs.Chains.{Setup, place, arc_chain, slot_funding, opening, set_aside}
+use Rattle.swap_many.specs.Opened.{account_lack, chain_lack, overdrawn, ArePlaces, NoLackIsCovered}
 use Rattle.swap_many.proofs.Sums.{sum_zero}
 
 module _ (m : Setup) (places : ArePlaces m) where
@@ -17,7 +17,7 @@ module _ (m : Setup) (places : ArePlaces m) where
   none_aside : (i x : ℕ) → ((s a : ℕ) → s < m.swaps → a < length (m.cast s).deal.graph.arcs → arc_chain m s a ≡ i → x ≢ (place m s a).from)
       → set_aside m i x ≡ 0
   none_aside i x apart =
-      sum_zero _ (range_with_len 0 m.swaps) (λ s j. sum_zero (pays_for m i x s) (arcs (m.cast s).deal.graph) (λ a k.
+      sum_zero _ (range_with_len 0 m.swaps) (λ s j. sum_zero (slot_funding m i x s) (arcs (m.cast s).deal.graph) (λ a k.
       one s a (from_range s m.swaps j) (from_range a (length (m.cast s).deal.graph.arcs) k) (arc_chain m s a == i) refl))
     where
       one : (s a : ℕ) → s < m.swaps → a < length (m.cast s).deal.graph.arcs → (b : Bool) → (arc_chain m s a == i) ≡ b
@@ -43,8 +43,8 @@ module _ (m : Setup) (places : ArePlaces m) where
           → (x < length (slice_index_or m.chains i [])) ⊎ (length (slice_index_or m.chains i []) ≤ x) → set_aside m i x ≤ opening m i x
       go (inl li) (inl lx) =
           within (nat_lt (opening m i x) (set_aside m i x)) refl
-          (none_in (lack_of m i) (range_with_len 0 (length (slice_index_or m.chains i []))) x
-          (none_in (lack_on m) (range_with_len 0 (length m.chains)) i none
+          (none_in (account_lack m i) (range_with_len 0 (length (slice_index_or m.chains i []))) x
+          (none_in (chain_lack m) (range_with_len 0 (length m.chains)) i none
           (in_range i (length m.chains) li)) (in_range x (length (slice_index_or m.chains i [])) lx))
       go (inl li) (inr above) =
           low (set_aside m i x) (opening m i x) (none_aside i x (λ s a ls la e q.

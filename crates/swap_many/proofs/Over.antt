@@ -1,8 +1,9 @@
--- What is swept is over: its contract is settled, or nothing was published. So it holds nothing, and accepts nothing.
+-- What is swept is over: its contract is settled, or nothing was published. So it holds nothing,
+-- and accepts nothing.
 use Rattle.std.proofs.Common.{append-nil, ◌≡◌, ◌≢◌, ◌⊎◌, ℕ, ◌+◌, ◌==◌, ◌&&◌, ◌||◌, not, nat_lt, Bool, true, false, cond, List, [], ◌∷◌, ◌++◌}
 use Rattle.std.proofs.Common.{Option, Some, None, is_some, is_none, refl, sym, ap, ap₂, ◌∙◌, subst, inl, inr, eqb-true}
 use Rattle.std.proofs.lemmas.Bool.{false≢true}
-use Rattle.swap_base.proofs.Lists.{first_of-append, first_of-front, or_else-none}
+use Rattle.swap_base.proofs.Lists.{first_given_answer-append, first_given_answer-front, or_else-none}
 use Rattle.swap_digraph.specs.declared.deal.Deal.{Deal}
 use Rattle.escrow_core.specs.declared.reply.Reply.{Reply}
 use Rattle.escrow_core.specs.declared.reply.Reply.TheVariants as replies
@@ -12,7 +13,7 @@ use Rattle.ledger_core.specs.declared.entry.Call.{Call}
 use Rattle.ledger_core.specs.declared.entry.Call.TheVariants.{Publish, Unlock, Claim, Refund, Transfer}
 use Rattle.ledger_core.specs.declared.entry.Entry.{Entry}
 use Rattle.ledger_core.specs.declared.facts.Settlement.{Settlement}
-use Rattle.ledger_core.specs.History.{Publication, publication, published, settling, settled, accepted, held, parse_terms, the_terms, is_open, height}
+use Rattle.ledger_core.specs.History.{Publication, publication, published, settling, settled, accepted, held, publication_terms, the_terms, is_open, height}
 use Rattle.ledger_core.specs.History.{balance, rows, is_full, history_reply}
 use Rattle.ledger_core.specs.Ledger.{call_entry, tick_entry, is_sender_full, after_call}
 use Rattle.ledger_core.proofs.History.{is_some-of, not-true}
@@ -23,7 +24,7 @@ use Rattle.swap_many.specs.declared.many_reply.ManyReply.TheVariants.{Plain, Not
 use Rattle.swap_many.specs.Chains.{Setup, Emptied, Paid, ChainEntry, chain_height, projection, is_done, is_swept, reply_to_call}
 use Rattle.swap_run.specs.Called.{is_barred}
 use Rattle.swap_many.specs.Chains.{reply_to_sweep, entered}
-use Rattle.swap_many.specs.Sound.{Over, SweptIsOver}
+use Rattle.swap_many.specs.Sound.{Over, AreSweptSlotsFinal}
 use Rattle.swap_many.proofs.Projections.{shown_more, swept_more}
 use Rattle.swap_many.proofs.Tick.{entry_tick}
 use Rattle.swap_many.proofs.Landed.{parse_call, call_shown, call_hidden, call_swept}
@@ -38,8 +39,8 @@ none_is None e = refl
 none_is (Some x) e = absurd (cc e)
 
 pub over_held : (h : List Entry) → Over h → held h ≡ 0
-over_held h (inl e) = ap (λ b. cond b 0 (parse_terms (published h)).amount) e
-over_held h (inr e) = ap (λ o. cond (is_some (settled h)) 0 (parse_terms o).amount) (none_is (published h) e) ∙ go (is_some (settled h))
+over_held h (inl e) = ap (λ b. cond b 0 (publication_terms (published h)).amount) e
+over_held h (inr e) = ap (λ o. cond (is_some (settled h)) 0 (publication_terms o).amount) (none_is (published h) e) ∙ go (is_some (settled h))
   where
     go : (b : Bool) → ◌≡◌ {A = ℕ} (cond b 0 0) 0
     go true = refl
@@ -48,12 +49,12 @@ over_held h (inr e) = ap (λ o. cond (is_some (settled h)) 0 (parse_terms o).amo
 settled_more : (h k : List Entry) → Begins h k → is_some (settled h) ≡ true → is_some (settled k) ≡ true
 settled_more h k b e =
     let x = is_some-of (settled h) e in
-    ap is_some (ap settled b.1 ∙ first_of-front (λ e. settling (accepted e)) h b.0 x.0 x.1)
+    ap is_some (ap settled b.1 ∙ first_given_answer-front (λ e. settling (accepted e)) h b.0 x.0 x.1)
 
 over_tick : (h : List Entry) (k t : ℕ) → Over h → Over (h ++ tick_entry k t replies.Accepted ∷ [])
 over_tick h k t (inl e) = inl (settled_more h (h ++ tick_entry k t replies.Accepted ∷ []) (tick_entry k t replies.Accepted ∷ [], refl) e)
 over_tick h k t (inr e) =
-    inr (ap is_none (first_of-append (λ e. publication e.height (accepted e)) h (tick_entry k t replies.Accepted ∷ []) ∙ or_else-none (published h)) ∙ e)
+    inr (ap is_none (first_given_answer-append (λ e. publication e.height (accepted e)) h (tick_entry k t replies.Accepted ∷ []) ∙ or_else-none (published h)) ∙ e)
 
 call_begins : (d : Deal) (a p : ℕ) (c : Call) (h : List Entry) → Begins h (after_call d a p c h)
 unfolding after_call
@@ -84,12 +85,12 @@ other x y n = not-true (x == y) (λ e. n (eqb-true x y e))
 
 -- Chains.
 
-pub over_after_tick : (k : ℕ) (h : List ChainEntry) → SweptIsOver h → SweptIsOver (h ++ entry_tick k h ∷ [])
+pub over_after_tick : (k : ℕ) (h : List ChainEntry) → AreSweptSlotsFinal h → AreSweptSlotsFinal (h ++ entry_tick k h ∷ [])
 over_after_tick k h o s a e =
     subst Over (sym (shown_more s a h (entry_tick k h))) (over_tick (projection s a h) k (chain_height h + k) (o s a (sym (tick_swept s a k h) ∙ e)))
 
-pub over_after_call : (m : Setup) (s a p : ℕ) (c : Call) (h : List ChainEntry) → SweptIsOver h
-    → SweptIsOver (entered h (parse_call s a p c h (reply_to_call m h s a p c)))
+pub over_after_call : (m : Setup) (s a p : ℕ) (c : Call) (h : List ChainEntry) → AreSweptSlotsFinal h
+    → AreSweptSlotsFinal (entered h (parse_call s a p c h (reply_to_call m h s a p c)))
 over_after_call m s a p c h o t b e = go (same_or_not t s) (same_or_not b a)
   where
     was : is_swept t b h ≡ true
@@ -111,8 +112,8 @@ over_after_call m s a p c h o t b e = go (same_or_not t s) (same_or_not b a)
     go (inl q) (inr n) = subst Over (sym (call_hidden t b s a p c h (reply_to_call m h s a p c) (inr n))) (o t b was)
     go (inr n) other = subst Over (sym (call_hidden t b s a p c h (reply_to_call m h s a p c) (inl n))) (o t b was)
 
-pub over_after_payment : (from to units : ℕ) (h : List ChainEntry) (y : ManyReply) → SweptIsOver h
-    → SweptIsOver (h ++ record { height = chain_height h; deed = Paid from to units; reply = y } ∷ [])
+pub over_after_payment : (from to units : ℕ) (h : List ChainEntry) (y : ManyReply) → AreSweptSlotsFinal h
+    → AreSweptSlotsFinal (h ++ record { height = chain_height h; deed = Paid from to units; reply = y } ∷ [])
 over_after_payment from to units h y o s a e =
     subst Over (sym (shown_more s a h (record { height = chain_height h; deed = Paid from to units; reply = y }) ∙ append-nil (projection s a h)))
     (o s a (sym (swept_more s a h (record { height = chain_height h; deed = Paid from to units; reply = y })
@@ -135,8 +136,8 @@ over_swept h e = go (published h) (settled h) e
     go (Some x) (Some y) e = inl refl
     go (Some x) None e = absurd (cc e)
 
-pub over_after_sweep : (fair : Bool) (horizon s a : ℕ) (h : List ChainEntry) → SweptIsOver h
-    → SweptIsOver (h ++ record {
+pub over_after_sweep : (fair : Bool) (horizon s a : ℕ) (h : List ChainEntry) → AreSweptSlotsFinal h
+    → AreSweptSlotsFinal (h ++ record {
       height = chain_height h;
       deed = Emptied s a;
       reply = reply_to_sweep fair horizon (chain_height h) (is_swept s a h) (projection s a h);
@@ -212,7 +213,7 @@ refused d a h p Refund b s q e =
     ∷ refund_rows d a (the_terms h) (is_open h) x (height h) p)) (sym s) ∙ e)
 refused d a h p (Transfer to units) b s q e = absurd (cc b)
 
-pub swept_refuses : (m : Setup) (s a p : ℕ) (c : Call) (h : List ChainEntry) → SweptIsOver h → is_swept s a h ≡ true
+pub swept_refuses : (m : Setup) (s a p : ℕ) (c : Call) (h : List ChainEntry) → AreSweptSlotsFinal h → is_swept s a h ≡ true
     → reply_to_call m h s a p c ≢ Plain replies.Accepted
 swept_refuses m s a p c h o w = go (is_barred (is_swept s a h) (projection s a h) c) refl
   where

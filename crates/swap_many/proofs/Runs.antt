@@ -21,9 +21,9 @@ use Rattle.swap_many.specs.Many.{Run, many_reply, many_start, many_finish}
 use Rattle.swap_many.specs.Kept.{Kept, kept_done, kept_reply, kept_finish}
 use Rattle.swap_many.specs.Laws.{CanCome, Follows}
 use Rattle.swap_many.specs.Sound.{Keeps}
-use Rattle.swap_many.specs.Stages.{Stage, Came, Finished, run_stage, run_by, stages_in}
+use Rattle.swap_many.specs.Stages.{Stage, Came, Finished, run_stage, staged_run, stretch_stages}
 use Rattle.swap_many.specs.Value.{ManyState, AreReady, nth_world, world_setup, made_setup, kept_state, world_run, ContinueAll, AreSame, HasManyGone}
-use Rattle.swap_many.specs.Value.{IsManyStopped, UnitsArePlacedIn}
+use Rattle.swap_many.specs.Value.{IsManyStopped, AreUnitsPlaced}
 use Rattle.swap_many.specs.Inside.{AreWhole}
 use Rattle.swap_many.specs.Along.{IsCutRun}
 use Rattle.swap_many.specs.Whole.{IsOfRun}
@@ -71,25 +71,25 @@ module _ (gives : MayGive) (f : Setup → Kept → Kept) (old new : ManyState) (
 
 -- One more stage.
 
-pub came_more : (xs : List (List ManyEvent)) (es : List ManyEvent) (e : ManyEvent) → stages_in xs (es ++ e ∷ []) ≡ stages_in xs es ++ Came e ∷ []
+pub came_more : (xs : List (List ManyEvent)) (es : List ManyEvent) (e : ManyEvent) → stretch_stages xs (es ++ e ∷ []) ≡ stretch_stages xs es ++ Came e ∷ []
 came_more xs es e =
     let part = flat_map (λ es. map Came es ++ Finished ∷ []) xs in
     ap (λ ys. part ++ ys) (map-append Came es (e ∷ [])) ∙ sym (append_assoc part (map Came es) (Came e ∷ []))
 
-pub finished_more : (xs : List (List ManyEvent)) (es : List ManyEvent) → stages_in (xs ++ es ∷ []) [] ≡ stages_in xs es ++ Finished ∷ []
+pub finished_more : (xs : List (List ManyEvent)) (es : List ManyEvent) → stretch_stages (xs ++ es ∷ []) [] ≡ stretch_stages xs es ++ Finished ∷ []
 finished_more xs es =
     let f : List ManyEvent → List Stage = λ es. map Came es ++ Finished ∷ [] in
     append-nil (flat_map f (xs ++ es ∷ []))
     ∙ (flat_map-append f xs (es ∷ [])
     ∙ (ap (λ ys. flat_map f xs ++ ys) (flat_map-cons f es [] ∙ append-nil (f es)) ∙ sym (append_assoc (flat_map f xs) (map Came es) (Finished ∷ []))))
 
-run_more : (m : Setup) (xs : List Stage) (x : Stage) → run_by m (xs ++ x ∷ []) ≡ run_stage m (run_by m xs) x
+run_more : (m : Setup) (xs : List Stage) (x : Stage) → staged_run m (xs ++ x ∷ []) ≡ run_stage m (staged_run m xs) x
 run_more m xs x = fold-append (run_stage m) (many_start m) xs (x ∷ [])
 
 pub stretch_more : {A : Type 0} (f : A → List ManyEvent) (ps qs : List A) (p : A) (es : List ManyEvent) → qs ≡ ps ++ p ∷ [] → es ≡ []
-    → stages_in (map f qs) es ≡ stages_in (map f ps) (f p) ++ Finished ∷ []
+    → stretch_stages (map f qs) es ≡ stretch_stages (map f ps) (f p) ++ Finished ∷ []
 stretch_more f ps qs p es more none =
-    ap₂ stages_in (ap (map f) more ∙ map-append f ps (p ∷ [])) none ∙ finished_more (map f ps) (f p)
+    ap₂ stretch_stages (ap (map f) more ∙ map-append f ps (p ∷ [])) none ∙ finished_more (map f ps) (f p)
 
 -- f does to what is kept what the stage does to the run
 abbrev pub IsStage : (Setup → Kept → Kept) → Stage → ManyState → Type 0
@@ -114,10 +114,10 @@ module _ (gives : MayGive) (f : Setup → Kept → Kept) (x : Stage) (old new : 
   still_of_run k goes g c =
       let m = made_setup old g in
       let was = runs on g (continue_less gives old new g k.same c) in
-      subst (λ (n : Setup). Keeps n (run_by n new.stages) (kept_state new)) (sym (same_setup gives old new g k.same))
-      (subst (λ (xs : List Stage). Keeps m (run_by m xs) (kept_state new)) (sym more)
+      subst (λ (n : Setup). Keeps n (staged_run n new.stages) (kept_state new)) (sym (same_setup gives old new g k.same))
+      (subst (λ (xs : List Stage). Keeps m (staged_run m xs) (kept_state new)) (sym more)
       (subst (λ (r : Run). Keeps m r (kept_state new)) (sym (run_more m old.stages x))
-      (subst (Keeps m (run_stage m (run_by m old.stages) x)) (sym (k.kept g c)) (stage g (run_by m old.stages) (kept_state old) was))))
+      (subst (Keeps m (run_stage m (staged_run m old.stages) x)) (sym (k.kept g c)) (stage g (staged_run m old.stages) (kept_state old) was))))
 
   pub of_run : {A E : Type 0} (r : Result A E) → OnOk r (HasManyGone gives f old new) → OnErr r (IsManyStopped gives f old new) → IsOfRun new
   of_run (Ok a) ok err = λ goes. still_of_run ok goes
@@ -129,7 +129,7 @@ module _ (gives : MayGive) (f : Setup → Kept → Kept) (x : Stage) (old new : 
   then_follows (Ok a) ok = λ g c. (still_of_run ok (ok.goes_on ∙ on) g c).follows
 
   pub then_placed : {A E : Type 0} (r : Result A E) → OnOk r (HasManyGone gives f old new)
-      → OnOk r ((g : ℕ → Answers) → ContinueAll new g → UnitsArePlacedIn (made_setup new g) (world_run new g))
+      → OnOk r ((g : ℕ → Answers) → ContinueAll new g → AreUnitsPlaced (made_setup new g) (world_run new g))
   then_placed (Err e) ok = tt
   then_placed (Ok a) ok = λ g c i l. counted_is_placed (made_setup new g) (world_run new g) (kept_state new) i l (still_of_run ok (ok.goes_on ∙ on) g c)
 
@@ -141,7 +141,7 @@ pub record HasTaken {A E : Type 0} (gives : MayGive) (f : Setup → Kept → Kep
   pub more : new.stages ≡ old.stages ++ x ∷ []
   pub runs : IsOfRun new
   pub follows : OnOk r ((g : ℕ → Answers) → ContinueAll new g → Follows (made_setup new g) (world_run new g) (kept_state new))
-  pub placed : OnOk r ((g : ℕ → Answers) → ContinueAll new g → UnitsArePlacedIn (made_setup new g) (world_run new g))
+  pub placed : OnOk r ((g : ℕ → Answers) → ContinueAll new g → AreUnitsPlaced (made_setup new g) (world_run new g))
 
 pub has_taken : {A E : Type 0} (gives : MayGive) (f : Setup → Kept → Kept) (x : Stage) (a b : ManyState) (xs ys : List Stage) (r : Result A E)
     → IsStage f x (record a { stages = xs }) → IsOfRun (record a { stages = xs }) → ys ≡ xs ++ x ∷ [] → a.stopped ≡ false

@@ -1,9 +1,10 @@
--- Rounds of many swaps in which nobody makes a call: a round after as many ticks of the chains leads to where all of them lead.
+-- Rounds of many swaps in which nobody makes a call: a round after as many ticks of the chains
+-- leads to where all of them lead.
 use Rattle.std.proofs.Common.{◌≡◌, ◌≢◌, ◌⊎◌, inl, inr, ℕ, zero, suc, ◌+◌, ◌<◌, ◌≤◌, ◌==◌, ◌&&◌, ◌++◌, Bool, true, false, cond, List, [], ◌∷◌, length, fold}
 use Rattle.std.proofs.Common.{refl, sym, ap, ap₂, ◌∙◌, subst, arith, nat_lt, ltb-true, eqb-true, append-nil, append_assoc}
 use Rattle.std.specs.List.{range_with_len}
 use Rattle.std.proofs.lemmas.List.Folds.{list_all-append}
-use Rattle.swap_base.specs.Lists.{IsIn}
+use Rattle.swap_base.specs.Lists.{IsElement}
 use Rattle.swap_base.proofs.Lists.{below_or, from_range, in_range, list_all-in}
 use Rattle.swap_digraph.specs.Graph.{arcs}
 use Rattle.escrow_core.specs.declared.reply.Reply.TheVariants.{Accepted}
@@ -17,7 +18,7 @@ use Rattle.swap_rules.specs.Rest.{is_ticking}
 use Rattle.swap_rules.proofs.Prefixes.{same_or_not}
 use Rattle.swap_run.specs.Asked.{Answers}
 use Rattle.swap_run.specs.Run.{Cast, Notes, State, conforms, party_role, is_planned, state_notes, after_tick}
-use Rattle.swap_run.specs.Called.{turns_on}
+use Rattle.swap_run.specs.Called.{swept_turns}
 use Rattle.swap_run.specs.Fair.{repeat}
 use Rattle.swap_run.specs.Quiet.{IsIdle}
 use Rattle.swap_run.proofs.Entries.{tick_full, tick_room}
@@ -59,7 +60,7 @@ tick_raises h = go (is_clock_full h 1) refl
         let p : height (h ++ t ∷ []) ≡ height h + 1 = height-push h t in
         subst (IsRaised 1 h) (sym (tick_room 1 h e)) (record { more = t ∷ []; ticks = refl; is = refl; high = omega (arith, p) })
 
-not_before : (j k s : ℕ) → s < k → IsIn s (range_with_len k j) → ⊥
+not_before : (j k s : ℕ) → s < k → IsElement s (range_with_len k j) → ⊥
 not_before zero k s l i = i
 not_before (suc j) k s l (inl e) = let q : ◌≡◌ {A = ℕ} s k = e in absurd (omega (arith, l, q))
 not_before (suc j) k s l (inr i) = not_before j (k + 1) s (omega (arith, l)) i
@@ -117,7 +118,7 @@ module _ (m : Setup) where
   -- What the turns of each swap of a list do.
 
   abbrev pub turned : (ℕ → ℕ → Bool) → (ℕ → State) → ℕ → ℕ → State
-  turned sw f x = put f x (turns_on (sw x) (m.cast x) (f x))
+  turned sw f x = put f x (swept_turns (sw x) (m.cast x) (f x))
 
   turns_are : (xs : List ℕ) (z : Kept) → fold (kept_turns m) z xs ≡ record z { swaps = fold (turned z.swept) z.swaps xs }
   turns_are [] z = refl
@@ -125,20 +126,20 @@ module _ (m : Setup) where
       ap (λ (t : Kept). fold (kept_turns m) t xs) (turns_are_on m x z) ∙ turns_are xs (record z { swaps = turned z.swept z.swaps x })
 
   module _ (sw : ℕ → ℕ → Bool) (s : ℕ) where
-    unturned : (xs : List ℕ) (f : ℕ → State) → (IsIn s xs → ⊥) → fold (turned sw) f xs s ≡ f s
+    unturned : (xs : List ℕ) (f : ℕ → State) → (IsElement s xs → ⊥) → fold (turned sw) f xs s ≡ f s
     unturned [] f out = refl
-    unturned (x ∷ xs) f out = unturned xs (turned sw f x) (λ i. out (inr i)) ∙ put_other f x (turns_on (sw x) (m.cast x) (f x)) s (λ e. out (inl e))
+    unturned (x ∷ xs) f out = unturned xs (turned sw f x) (λ i. out (inr i)) ∙ put_other f x (swept_turns (sw x) (m.cast x) (f x)) s (λ e. out (inl e))
 
-    turned_at : (k : ℕ) (rest : List ℕ) (f : ℕ → State) → (s ≡ k) ⊎ (s ≢ k) → (s ≡ k → IsIn s rest → ⊥)
-        → (s ≢ k → fold (turned sw) (turned sw f k) rest s ≡ turns_on (sw s) (m.cast s) (turned sw f k s))
-        → fold (turned sw) (turned sw f k) rest s ≡ turns_on (sw s) (m.cast s) (f s)
+    turned_at : (k : ℕ) (rest : List ℕ) (f : ℕ → State) → (s ≡ k) ⊎ (s ≢ k) → (s ≡ k → IsElement s rest → ⊥)
+        → (s ≢ k → fold (turned sw) (turned sw f k) rest s ≡ swept_turns (sw s) (m.cast s) (turned sw f k s))
+        → fold (turned sw) (turned sw f k) rest s ≡ swept_turns (sw s) (m.cast s) (f s)
     turned_at k rest f (inl e) out more =
         unturned rest (turned sw f k) (out e)
-        ∙ subst (λ z. turned sw f z s ≡ turns_on (sw s) (m.cast s) (f s)) e (put_same f s (turns_on (sw s) (m.cast s) (f s)))
+        ∙ subst (λ z. turned sw f z s ≡ swept_turns (sw s) (m.cast s) (f s)) e (put_same f s (swept_turns (sw s) (m.cast s) (f s)))
     turned_at k rest f (inr n) out more =
-        more n ∙ ap (turns_on (sw s) (m.cast s)) (put_other f k (turns_on (sw k) (m.cast k) (f k)) s n)
+        more n ∙ ap (swept_turns (sw s) (m.cast s)) (put_other f k (swept_turns (sw k) (m.cast k) (f k)) s n)
 
-    pub turned_once : (j k : ℕ) (f : ℕ → State) → k ≤ s → s < k + j → fold (turned sw) f (range_with_len k j) s ≡ turns_on (sw s) (m.cast s) (f s)
+    pub turned_once : (j k : ℕ) (f : ℕ → State) → k ≤ s → s < k + j → fold (turned sw) f (range_with_len k j) s ≡ swept_turns (sw s) (m.cast s) (f s)
     turned_once zero k f lo hi = absurd (omega (arith, lo, hi))
     turned_once (suc j) k f lo hi =
         turned_at k (range_with_len (k + 1) j) f (same_or_not s k)
@@ -182,11 +183,11 @@ module _ (m : Setup) where
         let r = rests l in
         let c = m.cast s in
         turned_once z.swept s m.swaps 0 (λ s. later_book s (fold (turned z.swept) z.swaps all_swaps s)) (omega arith) (omega (arith, l))
-        ∙ (ap (λ (x : State). turns_on (z.swept s) c (later_book s x)) (turned_once z.swept s m.swaps 0 z.swaps (omega arith) (omega (arith, l)))
+        ∙ (ap (λ (x : State). swept_turns (z.swept s) c (later_book s x)) (turned_once z.swept s m.swaps 0 z.swaps (omega arith) (omega (arith, l)))
         ∙ (turns_again (z.swept s) c r.plain (book_ticks z.clocks s all_chains) (z.swaps s) r.noted r.idle
         ∙ sym (turned_once z.swept s m.swaps 0 (λ s. later_book s (z.swaps s)) (omega arith) (omega (arith, l)))))
     swap_again s rests (inr g) =
-        let out : IsIn s all_swaps → ⊥ = λ i. (let l = from_range s m.swaps i in absurd (omega (arith, g, l))) in
+        let out : IsElement s all_swaps → ⊥ = λ i. (let l = from_range s m.swaps i in absurd (omega (arith, g, l))) in
         unturned z.swept s all_swaps (λ s. later_book s (fold (turned z.swept) z.swaps all_swaps s)) out
         ∙ (ap (later_book s) (unturned z.swept s all_swaps z.swaps out) ∙ sym (unturned z.swept s all_swaps (λ s. later_book s (z.swaps s)) out))
 

@@ -20,7 +20,7 @@ use Rattle.swap_many.specs.Sound.{Keeps}
 use Rattle.swap_many.specs.Opened.{overdrawn}
 use Rattle.swap_many.specs.Opening.{AreOpenable, setup_of_worlds, new_chain, none_swept, new_many}
 use Rattle.swap_many.specs.Ticking.{nth}
-use Rattle.swap_many.specs.Value.{ManyState, no_world, no_chain, nth_chain, swept_at, made_setup, kept_state}
+use Rattle.swap_many.specs.Value.{ManyState, no_world, no_chain, nth_chain, swept_slots, made_setup, kept_state}
 use Rattle.swap_many.specs.Inside.{AreWhole}
 use Rattle.swap_many.proofs.Units.{keeps_start}
 use Rattle.swap_many.proofs.Opened.{no_lack_is_covered}
@@ -85,17 +85,17 @@ module _ (chains : List (List ℕ)) (ws : List WorldState) (places : List (List 
       go (inl l) = ap (λ (y : ChainState). y.clock) (inside_chain i l)
       go (inr l) = ap (λ (y : ChainState). y.clock) (chain_out i l)
 
-  flags_in : (s : ℕ) → s < length ws → swept_at new s ≡ none_swept (nth ws s)
+  flags_in : (s : ℕ) → s < length ws → swept_slots new s ≡ none_swept (nth ws s)
   flags_in s l = map_at none_swept ws s no_world [] l
 
-  swept_new : (s a : ℕ) → slice_index_or (swept_at new s) a false ≡ false
+  swept_new : (s a : ℕ) → slice_index_or (swept_slots new s) a false ≡ false
   swept_new s a = go (below_or s (length ws))
     where
       never : (n : ℕ) → (a < n) ⊎ (n ≤ a) → slice_index_or (replicate n false) a false ≡ false
       never n (inl l) = get_or-replicate n a false false l
       never n (inr l) = let e = length-replicate n false in past_end (replicate n false) a false (omega (arith, e, l))
 
-      go : (s < length ws) ⊎ (length ws ≤ s) → slice_index_or (swept_at new s) a false ≡ false
+      go : (s < length ws) ⊎ (length ws ≤ s) → slice_index_or (swept_slots new s) a false ≡ false
       go (inl l) =
           ap (λ (xs : List Bool). slice_index_or xs a false) (flags_in s l)
           ∙ never (length (nth ws s).deal.graph.arcs) (below_or a (length (nth ws s).deal.graph.arcs))

@@ -18,13 +18,13 @@ use Rattle.swap_run.specs.Run.{Cast, State, step}
 use Rattle.swap_run.specs.Laws.{IsKept}
 use Rattle.swap_world.specs.Value.{WorldState, world_cast, answering_cast}
 use Rattle.swap_world.specs.Gone.{MayGive, HasAsked}
-use Rattle.swap_world.specs.On.{tick_at, ticked_on}
+use Rattle.swap_world.specs.On.{tick_arc, tick_arcs}
 use Rattle.swap_world.proofs.Gone.{nothing_asked}
 use Rattle.swap_world.proofs.Ways.{range_all}
 use Rattle.swap_many.specs.declared.many_event.ManyEvent.TheVariants.{Tick}
 use Rattle.swap_many.specs.declared.place.Place.{Place}
 use Rattle.swap_many.specs.Accounts.{ChainState, account_units}
-use Rattle.swap_many.specs.Chains.{Setup, put, has_no_tick, nowhere, Units, is_done, reply_to_tick_of}
+use Rattle.swap_many.specs.Chains.{Setup, put, has_no_tick, nowhere, Units, is_done, chain_tick_reply}
 use Rattle.swap_many.specs.Kept.{Kept, Time, later, tick_ledgers, ticked, kept_done}
 use Rattle.swap_many.specs.Laws.{CanTickChain}
 use Rattle.swap_many.specs.Ticking.{nth, IsTicked, AreTicked, AreTickable, some_stopped}
@@ -38,14 +38,14 @@ use Rattle.swap_many.proofs.Way.{no_step, one_step}
 
 -- the ledgers that are told to tick are those on the chain
 pub ticked_is : (m : Setup) (s i k : ℕ) (w : WorldState) (g : Answers) (ps : List Place) (t : State) → answering_cast w g ≡ m.cast s
-    → ps ≡ slice_index_or m.places s [] → length ps ≡ length w.deal.graph.arcs → ticked_on (stands i ps) k (world_cast w) t ≡ ticked m i k s t
+    → ps ≡ slice_index_or m.places s [] → length ps ≡ length w.deal.graph.arcs → tick_arcs (stands i ps) k (world_cast w) t ≡ ticked m i k s t
 ticked_is m s i k w g ps t is here many =
-    fold_filter (λ a. (slice_index_or ps a nowhere).chain == i) (tick_at k (world_cast w)) t (range_with_len 0 (length ps))
+    fold_filter (λ a. (slice_index_or ps a nowhere).chain == i) (tick_arc k (world_cast w)) t (range_with_len 0 (length ps))
     ∙ (ap (λ n. fold (λ t a. cond ((slice_index_or ps a nowhere).chain == i) (step (world_cast w) t (events.Tick a k)) t) t (range_with_len 0 n)) many
     ∙ ap₂ (λ (c : Cast) (ps : List Place).
     fold (λ t a. cond ((slice_index_or ps a nowhere).chain == i) (step c t (events.Tick a k)) t) t (arcs c.deal.graph)) is here)
 
-asked_ticked : (k : ℕ) (c : Cast) (t : State) (on : List ℕ) → (ticked_on on k c t).asked ≡ t.asked
+asked_ticked : (k : ℕ) (c : Cast) (t : State) (on : List ℕ) → (tick_arcs on k c t).asked ≡ t.asked
 asked_ticked k c t [] = refl
 asked_ticked k c t (a ∷ on) = asked_ticked k c (step c t (events.Tick a k)) on
 
@@ -99,7 +99,7 @@ may_tick w i whole on = record {
     here s l = map_at (stands i) w.places s [] [] (subst (λ n. s < n) (sym whole.places) l)
 
 -- a tick that is accepted has room
-pub has_room : (ticks height k : ℕ) → is_done (reply_to_tick_of ticks height k) ≡ true → has_no_tick ticks height k ≡ false
+pub has_room : (ticks height k : ℕ) → is_done (chain_tick_reply ticks height k) ≡ true → has_no_tick ticks height k ≡ false
 has_room ticks height k e = go (has_no_tick ticks height k) e
   where
     go : (b : Bool) → is_done (cond b (Plain ClockFull) (Plain Accepted)) ≡ true → b ≡ false

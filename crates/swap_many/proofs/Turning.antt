@@ -18,22 +18,22 @@ use Rattle.swap_job.specs.declared.event.Event.TheVariants.{Look, Act}
 use Rattle.swap_run.specs.Asked.{Answers}
 use Rattle.swap_run.specs.Fair.{repeat, adjacent_arcs, most_acts}
 use Rattle.swap_run.specs.Run.{Cast, State, conforms, party_role, next_action}
-use Rattle.swap_run.specs.Called.{called, by_due, called_as, turned_as, landed_on, apply_step}
+use Rattle.swap_run.specs.Called.{called, by_due, role_call, role_turn, landed_event, apply_step}
 use Rattle.swap_run.proofs.Calls.{calls_split}
 use Rattle.swap_world.specs.Value.{world_cast, answering_cast, world_answers}
 use Rattle.swap_world.specs.Gone.{MayGive}
 use Rattle.swap_world.proofs.Finishes.{can_look}
-use Rattle.swap_world.specs.On.{swept_in}
+use Rattle.swap_world.specs.On.{is_slot_swept}
 use Rattle.swap_many.specs.declared.many_event.ManyEvent.TheVariants.{Tick, In, Sweep}
 use Rattle.swap_many.specs.declared.many_reply.ManyReply.{ManyReply}
 use Rattle.swap_many.specs.Chains.{Setup, Slot, slots, chain_slots, put}
 use Rattle.swap_many.specs.Many.{last_horizon}
-use Rattle.swap_many.specs.Kept.{Kept, kept_done, kept_reply, answer_in}
+use Rattle.swap_many.specs.Kept.{Kept, kept_done, kept_reply, answer_call}
 use Rattle.swap_many.specs.Laws.{CanHappen}
 use Rattle.swap_many.specs.Way.{Leads}
-use Rattle.swap_many.specs.Fair.{look_of, kept_looks, kept_act, kept_acts, kept_turn, kept_turns, entry_tick, kept_ticks, kept_round}
-use Rattle.swap_many.specs.Fair.{kept_round_or_rest, kept_rounds, sweeps_of, kept_sweeps, have_ended}
-use Rattle.swap_many.specs.Value.{ManyState, IsPartyOf, AreReady, nth_world, swept_at, world_setup, made_setup, kept_state, ContinueAll, HasManyGone}
+use Rattle.swap_many.specs.Fair.{kept_look, kept_looks, kept_act, kept_acts, kept_turn, kept_turns, entry_tick, kept_ticks, kept_round}
+use Rattle.swap_many.specs.Fair.{kept_round_or_rest, kept_rounds, kept_swap_sweeps, kept_sweeps, have_ended}
+use Rattle.swap_many.specs.Value.{ManyState, IsSwapParty, AreReady, nth_world, swept_slots, world_setup, made_setup, kept_state, ContinueAll, HasManyGone}
 use Rattle.swap_many.specs.Value.{IsManyStopped}
 use Rattle.swap_many.proofs.Projections.{put_still}
 use Rattle.swap_many.proofs.Values.{same_setup}
@@ -73,7 +73,7 @@ near_look : (d : Deal) (p : ℕ) (near : List ℕ) → p < d.graph.n → near �
 near_look d p near l e = All-same (CanLook d p) near (adjacent_arcs d p) e (can_look d p l)
 
 -- a look at an arc of the list of those that touch the party
-pub may_look : (w : ManyState) (s p k a : ℕ) (near : List ℕ) → IsPartyOf w s p → near ≡ adjacent_arcs (nth_world w s).deal p → k < length near
+pub may_look : (w : ManyState) (s p k a : ℕ) (near : List ℕ) → IsSwapParty w s p → near ≡ adjacent_arcs (nth_world w s).deal p → k < length near
     → a ≡ get_or near k a → CanHappen (world_setup w) s (Look p a)
 may_look w s p k a near party e l is = record {
   swap = party.swap;
@@ -86,23 +86,23 @@ may_look w s p k a near party e l is = record {
 -- Steps lead on.
 
 module _ (w : ManyState) (ready : AreReady w) where
-  pub look_leads : (s p : ℕ) (near : List ℕ) → IsPartyOf w s p → near ≡ adjacent_arcs (nth_world w s).deal p → AllLead w (look_of s p) near
+  pub look_leads : (s p : ℕ) (near : List ℕ) → IsSwapParty w s p → near ≡ adjacent_arcs (nth_world w s).deal p → AllLead w (kept_look s p) near
   look_leads s p near k e =
-      All-weaker (CanLook (nth_world w s).deal p) (λ a. LeadOn w (λ m z. look_of s p m z a)) (λ a can g z.
+      All-weaker (CanLook (nth_world w s).deal p) (λ a. LeadOn w (λ m z. kept_look s p m z a)) (λ a can g z.
       one_step (made_setup w g) (ready g) z (record { fair = false; event = In s (Look p a) }) (record { swap = k.swap; no_tick = refl; can = can })) near
       (near_look (nth_world w s).deal p near k.party e)
 
-  pub act_leads : (s p : ℕ) → IsPartyOf w s p → LeadOn w (kept_act s p)
+  pub act_leads : (s p : ℕ) → IsSwapParty w s p → LeadOn w (kept_act s p)
   act_leads s p k g z = act_steps (made_setup w g) (ready g) s p z k.swap k.party
 
-  pub acts_lead : (s p : ℕ) → IsPartyOf w s p → LeadOn w (kept_acts s p)
+  pub acts_lead : (s p : ℕ) → IsSwapParty w s p → LeadOn w (kept_acts s p)
   acts_lead s p k g z =
       repeat_steps (made_setup w g) (ready g) (most_acts (nth_world w s).deal) (kept_act s p (made_setup w g)) z (λ z. act_leads s p k g z)
 
-  pub looks_lead : (s p : ℕ) → IsPartyOf w s p → LeadOn w (kept_looks s p)
+  pub looks_lead : (s p : ℕ) → IsSwapParty w s p → LeadOn w (kept_looks s p)
   looks_lead s p k g z = looks_steps (made_setup w g) (ready g) s p z k.swap k.party
 
-  pub turn_leads : (s p : ℕ) → IsPartyOf w s p → LeadOn w (λ m z. kept_turn s m z p)
+  pub turn_leads : (s p : ℕ) → IsSwapParty w s p → LeadOn w (λ m z. kept_turn s m z p)
   turn_leads s p k g z = turn_steps (made_setup w g) (ready g) s p z k.swap k.party
 
   pub turns_lead : (s : ℕ) → s < length w.worlds → LeadOn w (λ m z. kept_turns m z s)
@@ -136,7 +136,7 @@ module _ (w : ManyState) (s p : ℕ) (c : conforms (world_cast (nth_world w s)) 
       ≡ by_due p (next_action (world_cast (nth_world w s)) (nth_world w s).state p)
   due_is g =
       ap (λ b. cond b (by_due p (next_action (world_cast (nth_world w s)) (nth_world w s).state p))
-      (called_as (answering_cast (nth_world w s) g) (nth_world w s).state p (party_role (world_cast (nth_world w s)) p))) c
+      (role_call (answering_cast (nth_world w s) g) (nth_world w s).state p (party_role (world_cast (nth_world w s)) p))) c
 
   -- where it calls nothing its act changes nothing
   pub idle : (h g : ℕ → Answers) → None ≡ kept_reply false (made_setup w h) (kept_state w) (In s (Act p))
@@ -144,12 +144,12 @@ module _ (w : ManyState) (s p : ℕ) (c : conforms (world_cast (nth_world w s)) 
   idle h g e =
       let x = answering_cast (nth_world w s) (g s) in
       let t = (nth_world w s).state in
-      let sw = swept_in (swept_at w s) in
+      let sw = is_slot_swept (swept_slots w s) in
       let none : called x t (Act p) ≡ None =
-      due_is (g s) ∙ (sym (due_is (h s)) ∙ none_of (answer_in (made_setup w h) (kept_state w) s) (called (answering_cast (nth_world w s) (h s)) t (Act p)) e) in
+      due_is (g s) ∙ (sym (due_is (h s)) ∙ none_of (answer_call (made_setup w h) (kept_state w) s) (called (answering_cast (nth_world w s) (h s)) t (Act p)) e) in
       let rests : apply_step sw x t (Act p) ≡ t =
-      ap (landed_on sw x t (Act p)) none
-      ∙ ((calls_split x t (Act p) refl).alone none ∙ ap (λ b. cond b t (turned_as x t p (party_role x p))) c) in
+      ap (landed_event sw x t (Act p)) none
+      ∙ ((calls_split x t (Act p) refl).alone none ∙ ap (λ b. cond b t (role_turn x t p (party_role x p))) c) in
       ap (λ (y : State). let z : Kept = record (kept_state w) { swaps = put (kept_state w).swaps s y } in z) rests
       ∙ ap (λ (f : ℕ → State). let z : Kept = record (kept_state w) { swaps = f } in z) (put_still (kept_state w).swaps s t refl)
 
@@ -182,7 +182,7 @@ acts_done gives old mid new s p n k o l c none reply so_far act =
 abbrev pub rest_of : ℕ → ℕ → Setup → Kept → Kept
 rest_of s p m z = cond (conforms (m.cast s) p) (kept_acts s p m z) (kept_act s p m z)
 
-module _ (gives : MayGive) (w mid new : ManyState) (s p : ℕ) (ready : AreReady w) (k : IsPartyOf w s p) where
+module _ (gives : MayGive) (w mid new : ManyState) (s p : ℕ) (ready : AreReady w) (k : IsSwapParty w s p) where
   rest_leads : LeadOn w (rest_of s p)
   rest_leads g z = go (conforms (world_cast (nth_world w s)) p)
     where
@@ -234,10 +234,10 @@ rounds_lead w ready = leads_repeat w ready kept_round_or_rest (unless_leads w re
 
 -- Sweeps.
 
-pub sweeps_are : (m : Setup) (z : Kept) → fold (sweeps_of m) z (range_with_len 0 m.swaps) ≡ kept_sweeps m z
+pub sweeps_are : (m : Setup) (z : Kept) → fold (kept_swap_sweeps m) z (range_with_len 0 m.swaps) ≡ kept_sweeps m z
 sweeps_are m z =
     sym (fold_flat (λ z t. kept_done true m z (Sweep t.swap t.arc)) (chain_slots m) z (range_with_len 0 m.swaps)
-    ∙ same_fold (λ z s. fold (λ z t. kept_done true m z (Sweep t.swap t.arc)) z (chain_slots m s)) (sweeps_of m) z (range_with_len 0 m.swaps)
+    ∙ same_fold (λ z s. fold (λ z t. kept_done true m z (Sweep t.swap t.arc)) z (chain_slots m s)) (kept_swap_sweeps m) z (range_with_len 0 m.swaps)
     (λ z s. fold_map (λ z t. kept_done true m z (Sweep t.swap t.arc)) (λ a. (let t : Slot = record { swap = s; arc = a } in t)) z
     (arcs (m.cast s).deal.graph)))
 

@@ -1,4 +1,5 @@
--- All units of a chain are in one place: in a free account, in a balance of a slot that isn't swept, or held by a contract.
+-- All units of a chain are in one place: in a free account, in a balance of a slot that isn't
+-- swept, or held by a contract.
 use Rattle.std.proofs.Common.{append-nil, ◌≡◌, ◌≢◌, ◌⊎◌, ℕ, suc, ◌+◌, ◌-◌, ◌<◌, ◌≤◌, ◌==◌, ◌&&◌, ◌||◌, not, nat_lt, Bool, true, false, cond, List, [], ◌∷◌}
 use Rattle.std.proofs.Common.{◌++◌, length, fold, Option, Some, None, is_some, is_none, refl, sym, ap, ap₂, ◌∙◌, subst, inl, inr, arith, eq-eqb, eqb-true}
 use Rattle.std.proofs.Common.{sum_by}
@@ -23,12 +24,12 @@ use Rattle.swap_many.specs.declared.many_reply.ManyReply.{ManyReply}
 use Rattle.swap_many.specs.declared.many_reply.ManyReply.TheVariants.{Plain}
 use Rattle.swap_run.specs.Called.{Called, called}
 use Rattle.swap_many.specs.Chains.{Setup, place, arc_chain, put, Emptied, Paid, Ticked, ChainEntry, chain_height, chain_ticks, has_no_tick, projection, Chains}
-use Rattle.swap_many.specs.Chains.{total, pays_for, set_aside, opening, Units, plus, paid, returned, is_done, first_free, free, is_swept}
+use Rattle.swap_many.specs.Chains.{total, slot_funding, set_aside, opening, Units, plus, paid, returned, is_done, first_free, free, is_swept}
 use Rattle.swap_many.specs.Chains.{reply_to_call, reply_to_payment, reply_to_sweep, entered, in_accounts, unswept, in_slot, placed}
 use Rattle.swap_many.specs.Many.{Run, swap_state, post_call, posted, done, many_step, many_start, many_run}
 use Rattle.swap_many.specs.Kept.{Kept, kept_done, kept_step, kept_start, kept_run}
 use Rattle.swap_many.specs.Laws.{IsReady, CanPay, CanSweep, CanCome, Follows, AreGood, UnitsArePlaced, SweptAcceptNothing}
-use Rattle.swap_many.specs.Sound.{SweptIsOver, worth, Count, IsSound, Keeps}
+use Rattle.swap_many.specs.Sound.{AreSweptSlotsFinal, worth, Count, IsSound, Keeps}
 use Rattle.swap_many.proofs.Projections.{put_same, put_other, put_each, put_still, free_more, swept_more, shown_at, book_length}
 use Rattle.swap_many.proofs.Tick.{entry_tick}
 use Rattle.swap_many.proofs.Landed.{parse_call, call_free, call_swept}
@@ -80,11 +81,11 @@ start_count m i ready =
     join (in_accounts m i (first_free m i)) (in_accounts m i (set_aside m i)) (total m (worth m i [])) (in_accounts m i (opening m i))
     (sym (sum_plus (first_free m i) (set_aside m i) history_accounts)
     ∙ sum_same (λ x. first_free m i x + set_aside m i x) (opening m i) history_accounts (λ x j. back (opening m i x) (set_aside m i x) (ready.covered i x)))
-    (sum_swap (λ x s. sum_by (pays_for m i x s) (arcs (m.cast s).deal.graph)) history_accounts (range_with_len 0 m.swaps)
-    ∙ (sum_same (λ s. sum_by (λ x. sum_by (pays_for m i x s) (arcs (m.cast s).deal.graph)) history_accounts)
-    (λ s. sum_by (λ a. sum_by (λ x. pays_for m i x s a) history_accounts) (arcs (m.cast s).deal.graph)) (range_with_len 0 m.swaps)
-    (λ s j. sum_swap (λ x a. pays_for m i x s a) history_accounts (arcs (m.cast s).deal.graph))
-    ∙ total_same m (λ s a. sum_by (λ x. pays_for m i x s a) history_accounts) (worth m i []) (λ s a ls la. one s a ls la (same_or_not (arc_chain m s a) i))))
+    (sum_swap (λ x s. sum_by (slot_funding m i x s) (arcs (m.cast s).deal.graph)) history_accounts (range_with_len 0 m.swaps)
+    ∙ (sum_same (λ s. sum_by (λ x. sum_by (slot_funding m i x s) (arcs (m.cast s).deal.graph)) history_accounts)
+    (λ s. sum_by (λ a. sum_by (λ x. slot_funding m i x s a) history_accounts) (arcs (m.cast s).deal.graph)) (range_with_len 0 m.swaps)
+    (λ s j. sum_swap (λ x a. slot_funding m i x s a) history_accounts (arcs (m.cast s).deal.graph))
+    ∙ total_same m (λ s a. sum_by (λ x. slot_funding m i x s a) history_accounts) (worth m i []) (λ s a ls la. one s a ls la (same_or_not (arc_chain m s a) i))))
   where
     history_accounts : List ℕ
     history_accounts = range_with_len 0 (length (slice_index_or m.chains i []))
@@ -280,10 +281,10 @@ shown_legal m r z s a f g ls la =
     subst (IsLegal (m.cast s).deal a) (shown_at m r.chains s a la) (k.legal.legal a (subst (λ n. a < n) (sym (book_length m r.chains s)) la))
 
 -- a chain gets a history that is as sound as its own was
-sound_next : (m : Setup) (h : Chains) (i : ℕ) (new : List ChainEntry) → IsSound m h → SweptIsOver new → (i < length m.chains → Count m i new)
+sound_next : (m : Setup) (h : Chains) (i : ℕ) (new : List ChainEntry) → IsSound m h → AreSweptSlotsFinal new → (i < length m.chains → Count m i new)
     → IsSound m (put h i new)
 sound_next m h i new k o c = record {
-  over = put_each (λ j l. SweptIsOver l) h i new o k.over;
+  over = put_each (λ j l. AreSweptSlotsFinal l) h i new o k.over;
   count = put_each (λ j l. j < length m.chains → Count m j l) h i new c k.count;
 }
 

@@ -21,7 +21,7 @@ use Rattle.swap_many.specs.Many.{Run, done}
 use Rattle.swap_many.specs.Kept.{Kept, Time, kept_done}
 use Rattle.swap_many.specs.Laws.{IsReady, CanCome, CanSweep}
 use Rattle.swap_many.specs.Sound.{Keeps}
-use Rattle.swap_many.specs.Value.{ManyState, no_world, no_chain, nth_world, nth_chain, swept_at, world_setup, made_setup, kept_state, ContinueAll, AreAllHeld}
+use Rattle.swap_many.specs.Value.{ManyState, no_world, no_chain, nth_world, nth_chain, swept_slots, world_setup, made_setup, kept_state, ContinueAll, AreAllHeld}
 use Rattle.swap_many.specs.Value.{AreSame, HasManyGone}
 use Rattle.swap_many.specs.Inside.{AreWhole}
 use Rattle.swap_many.proofs.Projections.{put_same, put_other, put_each}
@@ -89,7 +89,7 @@ module _ (gives : MayGive) where
 
   pub whole_next : (old new : ManyState) → AreWhole old → AreSame gives old new → length new.chains ≡ length old.chains
       → ((i : ℕ) → length (nth_chain new i).free ≡ length (nth_chain old i).free) → length new.swept ≡ length old.swept
-      → ((s : ℕ) → length (swept_at new s) ≡ length (swept_at old s))
+      → ((s : ℕ) → length (swept_slots new s) ≡ length (swept_slots old s))
       → (new.stopped ≡ false → (s : ℕ) → s < length new.worlds → (nth_world new s).stopped ≡ false)
       → (new.stopped ≡ false → (g : ℕ → Answers) → ContinueAll new g → (r : Run) × Keeps (made_setup new g) r (kept_state new))
       → ((s : ℕ) → s < length new.worlds → IsKept (world_cast (nth_world new s)) (nth_world new s).state.book) → AreWhole new
@@ -200,7 +200,7 @@ module _ (w : ManyState) (s a : ℕ) (whole : AreWhole w) (can : CanSweep (world
       subst (λ n. (place (world_setup w) s a).to < n) (sym (whole.accounts (arc_chain (world_setup w) s a)))
       ((whole.ready (λ t k. None)).to s a can.swap can.arc)
 
-  pub flag_low : a < length (swept_at w s)
+  pub flag_low : a < length (swept_slots w s)
   flag_low = subst (λ n. a < n) (sym (whole.slots s can.swap)) can.arc
 
   pub legal_at : IsLegal (nth_world w s).deal a (history (nth_world w s).state.book a)

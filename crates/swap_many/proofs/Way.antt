@@ -4,7 +4,7 @@ use Rattle.std.proofs.Common.{arith}
 use Rattle.std.specs.List.{range_with_len}
 use Rattle.std.proofs.lemmas.List.Elements.{All-nil, All-cons, All-append}
 use Rattle.std.proofs.lemmas.List.Sums.{fold-append}
-use Rattle.swap_base.specs.Lists.{IsIn}
+use Rattle.swap_base.specs.Lists.{IsElement}
 use Rattle.swap_base.proofs.Lists.{from_filter, from_range}
 use Rattle.swap_digraph.specs.Deal.{party, counterparty}
 use Rattle.swap_digraph.specs.Graph.{arcs}
@@ -13,7 +13,7 @@ use Rattle.swap_run.specs.Run.{conforms}
 use Rattle.swap_run.specs.Fair.{repeat, adjacent_arcs, most_acts}
 use Rattle.swap_many.specs.declared.many_event.ManyEvent.TheVariants.{Tick, In, Sweep}
 use Rattle.swap_many.specs.Chains.{Setup, slots}
-use Rattle.swap_many.specs.Many.{last_horizon, looks_in, turn_in, turns_in, many_round, all_ended, round_or_rest}
+use Rattle.swap_many.specs.Many.{last_horizon, swap_looks, swap_turn, swap_turns, many_round, all_ended, round_or_rest}
 use Rattle.swap_many.specs.Kept.{Kept, kept_done, kept_finish}
 use Rattle.swap_many.specs.Laws.{IsReady, CanCome}
 use Rattle.swap_many.specs.Way.{Step, collect_kept, Leads, ManyFinishesAreSteps}
@@ -36,7 +36,7 @@ module _ (m : Setup) (ready : IsReady m) where
     state = y.state ∙ (ap (λ w. fold (collect_kept m) w y.steps) x.state ∙ sym (fold-append (collect_kept m) z x.steps y.steps));
   }
 
-  pub fold_steps : {B : Type 0} (f : Kept → B → Kept) (xs : List B) (z : Kept) → ((z : Kept) (x : B) → IsIn x xs → Leads m z (f z x)) → Leads m z (fold f z xs)
+  pub fold_steps : {B : Type 0} (f : Kept → B → Kept) (xs : List B) (z : Kept) → ((z : Kept) (x : B) → IsElement x xs → Leads m z (f z x)) → Leads m z (fold f z xs)
   fold_steps f [] z h = no_step z
   fold_steps f (x ∷ xs) z h = more_steps z (f z x) (fold f (f z x) xs) (h z x (inl refl)) (fold_steps f xs (f z x) (λ z y i. h z y (inr i)))
 
@@ -50,7 +50,7 @@ module _ (m : Setup) (ready : IsReady m) where
   pub act_steps : (s v : ℕ) (z : Kept) → s < m.swaps → v < (m.cast s).deal.graph.n → Leads m z (kept_done false m z (In s (Act v)))
   act_steps s v z ls lv = one_step z (record { fair = false; event = In s (Act v) }) (record { swap = ls; no_tick = refl; can = lv })
 
-  pub looks_steps : (s v : ℕ) (z : Kept) → s < m.swaps → v < (m.cast s).deal.graph.n → Leads m z (looks_in m (kept_done false m) (kept_done true m) high s v z)
+  pub looks_steps : (s v : ℕ) (z : Kept) → s < m.swaps → v < (m.cast s).deal.graph.n → Leads m z (swap_looks m (kept_done false m) (kept_done true m) high s v z)
   looks_steps s v z ls lv = fold_steps (λ z a. kept_done false m z (In s (Look v a))) (adjacent_arcs (m.cast s).deal v) z (λ z a i.
       let j = from_filter (λ a. (v == party (m.cast s).deal a) || (v == counterparty (m.cast s).deal a)) a (arcs (m.cast s).deal.graph) i in
       one_step z (record { fair = false; event = In s (Look v a) }) (record {
@@ -59,16 +59,16 @@ module _ (m : Setup) (ready : IsReady m) where
         can = record { known = lv; arc = from_range a (length (m.cast s).deal.graph.arcs) j.0; adjacent = j.1 };
       }))
 
-  pub turn_steps : (s v : ℕ) (z : Kept) → s < m.swaps → v < (m.cast s).deal.graph.n → Leads m z (turn_in m (kept_done false m) (kept_done true m) high s z v)
+  pub turn_steps : (s v : ℕ) (z : Kept) → s < m.swaps → v < (m.cast s).deal.graph.n → Leads m z (swap_turn m (kept_done false m) (kept_done true m) high s z v)
   turn_steps s v z ls lv = go (conforms (m.cast s) v)
     where
       seen : Kept
-      seen = looks_in m (kept_done false m) (kept_done true m) high s v z
+      seen = swap_looks m (kept_done false m) (kept_done true m) high s v z
 
       go : (b : Bool)
           → Leads m z (cond b (repeat (most_acts (m.cast s).deal) (λ z. kept_done false m z (In s (Act v)))
-          (looks_in m (kept_done false m) (kept_done true m) high s v z))
-          (kept_done false m (looks_in m (kept_done false m) (kept_done true m) high s v z) (In s (Act v))))
+          (swap_looks m (kept_done false m) (kept_done true m) high s v z))
+          (kept_done false m (swap_looks m (kept_done false m) (kept_done true m) high s v z) (In s (Act v))))
       go true =
           more_steps z seen (repeat (most_acts (m.cast s).deal) (λ z. kept_done false m z (In s (Act v))) seen) (looks_steps s v z ls lv)
           (repeat_steps (most_acts (m.cast s).deal) (λ z. kept_done false m z (In s (Act v))) seen (λ z. act_steps s v z ls lv))
@@ -76,10 +76,10 @@ module _ (m : Setup) (ready : IsReady m) where
 
   pub round_steps : (z : Kept) → Leads m z (many_round m (kept_done false m) (kept_done true m) high z)
   round_steps z =
-      let mid = fold (turns_in m (kept_done false m) (kept_done true m) high) z (range_with_len 0 m.swaps) in
+      let mid = fold (swap_turns m (kept_done false m) (kept_done true m) high) z (range_with_len 0 m.swaps) in
       more_steps z mid (many_round m (kept_done false m) (kept_done true m) high z)
-      (fold_steps (turns_in m (kept_done false m) (kept_done true m) high) (range_with_len 0 m.swaps) z (λ z s i.
-      fold_steps (turn_in m (kept_done false m) (kept_done true m) high s) (range_with_len 0 (m.cast s).deal.graph.n) z
+      (fold_steps (swap_turns m (kept_done false m) (kept_done true m) high) (range_with_len 0 m.swaps) z (λ z s i.
+      fold_steps (swap_turn m (kept_done false m) (kept_done true m) high s) (range_with_len 0 (m.cast s).deal.graph.n) z
       (λ z v j. turn_steps s v z (from_range s m.swaps i) (from_range v (m.cast s).deal.graph.n j))))
       (fold_steps (λ z i. kept_done false m z (Tick i 1)) (range_with_len 0 (length m.chains)) mid (λ z i j.
       one_step z (record { fair = false; event = Tick i 1 }) (record {

@@ -1,5 +1,5 @@
--- Several swaps whose arcs stand on shared chains with shared accounts: the history of a chain, what a swap sees of it, what its accounts hold, and
--- its replies.
+-- Several swaps whose arcs stand on shared chains with shared accounts: the history of a chain,
+-- what a swap sees of it, what its accounts hold, and its replies.
 use Rattle.std.specs.Prelude.{ℕ, ◌+◌, ◌-◌, ◌&&◌, ◌||◌, ◌==◌, Bool, true, false, not, nat_lt, nat_le, List, [], ◌∷◌, ◌++◌, length, map, fold}
 use Rattle.std.specs.Prelude.{count_by, sum_by, slice_index_or, is_some, is_none, if◌then◌else◌}
 use Rattle.std.specs.List.{list_any, flat_map, range_with_len}
@@ -20,7 +20,8 @@ use Rattle.swap_many.specs.declared.place.Place.{Place}
 use Rattle.swap_many.specs.declared.many_reply.ManyReply.{ManyReply}
 use Rattle.swap_many.specs.declared.many_reply.ManyReply.TheVariants.{Plain, NotEnded, Swept, StillHeld, Unpublished}
 
--- What runs: so many swaps with who takes part in each, the place of each of their arcs, and the opening units of each chain's accounts.
+-- What runs: so many swaps with who takes part in each, the place of each of their arcs, and the
+-- opening units of each chain's accounts.
 pub record Setup : Type 0 where
   pub swaps : ℕ
   pub cast : ℕ → Cast
@@ -89,18 +90,19 @@ chain_ticks h = count_by (λ e. is_ticked e.deed) h
 abbrev pub has_no_tick : (ticks height k : ℕ) → Bool
 has_no_tick ticks height k = nat_le 20000 ticks || nat_lt 1000000 (height + k)
 
--- What a slot's history is: the chain's ticks and the calls on the slot, but those on a swept slot that never reached its ledger.
+-- What a slot's history is: the chain's ticks and the calls on the slot, but those on a swept slot
+-- that never reached its ledger.
 
-abbrev pub plain_in : ManyReply → Reply
-plain_in (Plain r) = r
-plain_in _ = Accepted
+abbrev pub ledger_reply : ManyReply → Reply
+ledger_reply (Plain r) = r
+ledger_reply _ = Accepted
 
 abbrev pub entry_if_plain : ManyReply → (Reply → Entry) → List Entry
 entry_if_plain (Plain r) f = f r ∷ []
 entry_if_plain _ f = []
 
 abbrev pub all_entries : (s a at : ℕ) → Deed → ManyReply → List Entry
-all_entries s a at (Ticked k) r = tick_entry k at (plain_in r) ∷ []
+all_entries s a at (Ticked k) r = tick_entry k at (ledger_reply r) ∷ []
 all_entries s a at (Called t b p c) r = if (s == t) && (a == b) then entry_if_plain r (call_entry p at c) else []
 all_entries s a at (Paid from to units) r = []
 all_entries s a at (Emptied t b) r = []
@@ -123,12 +125,12 @@ abbrev pub total : Setup → (ℕ → ℕ → ℕ) → ℕ
 total m f = sum_by (λ s. sum_by (f s) (arcs (m.cast s).deal.graph)) (range_with_len 0 m.swaps)
 
 -- what account x of chain i pays for arc a of swap s
-abbrev pub pays_for : Setup → (i x s a : ℕ) → ℕ
-pays_for m i x s a = if arc_chain m s a == i then (if x == (place m s a).from then amount (m.cast s).deal a else 0) else 0
+abbrev pub slot_funding : Setup → (i x s a : ℕ) → ℕ
+slot_funding m i x s a = if arc_chain m s a == i then (if x == (place m s a).from then amount (m.cast s).deal a else 0) else 0
 
 -- what is set aside from account x of chain i
 abbrev pub set_aside : Setup → ℕ → ℕ → ℕ
-set_aside m i x = total m (pays_for m i x)
+set_aside m i x = total m (slot_funding m i x)
 
 -- the opening units of account x of chain i
 abbrev pub opening : Setup → ℕ → ℕ → ℕ
@@ -155,14 +157,14 @@ is_done (Plain Accepted) = true
 is_done _ = false
 
 -- what an accepted deed does to the free accounts of its chain
-abbrev pub freed_by : Setup → List ChainEntry → Deed → Units → Units
-freed_by m past (Ticked k) f = f
-freed_by m past (Called s a p c) f = f
-freed_by m past (Paid from to units) f = paid f from to units
-freed_by m past (Emptied s a) f = returned f (place m s a) (accounts (m.cast s).deal a (projection s a past))
+abbrev pub freed_accounts : Setup → List ChainEntry → Deed → Units → Units
+freed_accounts m past (Ticked k) f = f
+freed_accounts m past (Called s a p c) f = f
+freed_accounts m past (Paid from to units) f = paid f from to units
+freed_accounts m past (Emptied s a) f = returned f (place m s a) (accounts (m.cast s).deal a (projection s a past))
 
 abbrev pub freed : Setup → Units → Moment ChainEntry → Units
-freed m f z = if is_done z.now.reply then freed_by m z.past z.now.deed f else f
+freed m f z = if is_done z.now.reply then freed_accounts m z.past z.now.deed f else f
 
 -- what is free before anything is done on chain i
 abbrev pub first_free : Setup → ℕ → Units
@@ -186,8 +188,8 @@ abbrev pub reply_to_call : Setup → List ChainEntry → (s a p : ℕ) → Call 
 reply_to_call m h s a p c =
     if is_barred (is_swept s a h) (projection s a h) c then Swept else Plain (history_reply (m.cast s).deal a (projection s a h) p c)
 
-abbrev pub reply_to_tick_of : (ticks height k : ℕ) → ManyReply
-reply_to_tick_of ticks height k = if has_no_tick ticks height k then Plain ClockFull else Plain Accepted
+abbrev pub chain_tick_reply : (ticks height k : ℕ) → ManyReply
+chain_tick_reply ticks height k = if has_no_tick ticks height k then Plain ClockFull else Plain Accepted
 
 abbrev pub reply_to_payment : (have units : ℕ) → ManyReply
 reply_to_payment have units = if nat_lt have units then Plain (NoFunds have) else Plain Accepted
@@ -197,7 +199,8 @@ abbrev pub first_applying : List (Bool × ManyReply) → ManyReply
 first_applying [] = Plain Accepted
 first_applying (row ∷ rows) = if row.0 then row.1 else first_applying rows
 
--- the table of a sweep of a slot, over its chain's height, whether it is swept, and its history; those of a fair finish pass over the last row
+-- the table of a sweep of a slot, over its chain's height, whether it is swept, and its history;
+-- those of a fair finish pass over the last row
 abbrev pub sweep_rows : (fair : Bool) → (horizon height : ℕ) → (swept : Bool) → List Entry → List (Bool × ManyReply)
 sweep_rows fair horizon height swept past =
     (nat_lt height (horizon + 1), NotEnded (horizon + 1)) ∷
@@ -234,7 +237,8 @@ in_accounts m i f = sum_by f (range_with_len 0 (length (slice_index_or m.chains 
 abbrev pub unswept : Bool → Accounts → ℕ
 unswept swept b = if swept then 0 else b.party + b.counterparty
 
--- the units of the slot of arc a of swap s, where it stands on chain i: its balances, unless it is swept, and what its contract holds
+-- the units of the slot of arc a of swap s, where it stands on chain i: its balances, unless it is
+-- swept, and what its contract holds
 abbrev pub in_slot : Setup → ℕ → List ChainEntry → (s a : ℕ) → ℕ
 in_slot m i h s a =
     if arc_chain m s a == i then unswept (is_swept s a h) (accounts (m.cast s).deal a (projection s a h)) + held (projection s a h) else 0

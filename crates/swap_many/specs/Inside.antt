@@ -10,7 +10,7 @@ use Rattle.swap_many.specs.Chains.{nowhere}
 use Rattle.swap_many.specs.Many.{Run}
 use Rattle.swap_many.specs.Laws.{IsReady}
 use Rattle.swap_many.specs.Sound.{Keeps}
-use Rattle.swap_many.specs.Value.{ManyState, nth_world, nth_chain, swept_at, made_setup, kept_state, ContinueAll}
+use Rattle.swap_many.specs.Value.{ManyState, nth_world, nth_chain, swept_slots, made_setup, kept_state, ContinueAll}
 
 abbrev pub inside_worlds : Inside → ManyState
 inside_worlds w = record {
@@ -38,7 +38,7 @@ pub record AreWhole (w : ManyState) : Type 0 where
   pub places : length w.places ≡ length w.worlds
   pub arcs : (s : ℕ) → s < length w.worlds → length (slice_index_or w.places s []) ≡ length (nth_world w s).deal.graph.arcs
   pub swept : length w.swept ≡ length w.worlds
-  pub slots : (s : ℕ) → s < length w.worlds → length (swept_at w s) ≡ length (nth_world w s).deal.graph.arcs
+  pub slots : (s : ℕ) → s < length w.worlds → length (swept_slots w s) ≡ length (nth_world w s).deal.graph.arcs
   pub chains : length w.chains ≡ length w.openings
   pub accounts : (i : ℕ) → length (nth_chain w i).free ≡ length (slice_index_or w.openings i [])
   pub units : (i : ℕ) → sum_by (λ u. u) (slice_index_or w.openings i []) ≤ 10 ^ 18

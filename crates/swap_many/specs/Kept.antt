@@ -1,5 +1,5 @@
--- What a program keeps of many swaps instead of the histories of their chains: the state of each swap, the clock and the free accounts of each
--- chain, and which slots are swept.
+-- What a program keeps of many swaps instead of the histories of their chains: the state of each
+-- swap, the clock and the free accounts of each chain, and which slots are swept.
 use Rattle.std.specs.Prelude.{ℕ, ◌+◌, ◌==◌, Bool, true, false, List, fold, Option, Some, option_map, if◌then◌else◌}
 use Rattle.swap_digraph.specs.Graph.{arcs}
 use Rattle.ledger_core.specs.History.{history_reply, accounts}
@@ -12,9 +12,9 @@ use Rattle.swap_many.specs.declared.many_event.ManyEvent.TheVariants.{Tick, In, 
 use Rattle.swap_many.specs.declared.many_reply.ManyReply.{ManyReply}
 use Rattle.swap_many.specs.declared.many_reply.ManyReply.TheVariants.{Plain, Swept}
 use Rattle.swap_run.specs.Called.{Called, called, is_barred, apply_step}
-use Rattle.swap_many.specs.Chains.{Setup, arc_chain, place, put, Units, first_free, paid, returned, has_no_tick, is_done, reply_to_tick_of}
+use Rattle.swap_many.specs.Chains.{Setup, arc_chain, place, put, Units, first_free, paid, returned, has_no_tick, is_done, chain_tick_reply}
 use Rattle.swap_many.specs.Chains.{reply_to_payment, reply_to_sweep}
-use Rattle.swap_many.specs.Many.{parse_finish}
+use Rattle.swap_many.specs.Many.{swept_finish}
 
 -- A chain's clock: its height and how often it ticked.
 pub record Time : Type 0 where
@@ -51,13 +51,13 @@ kept_tick m z i k =
 abbrev pub is_passed : Kept → ℕ → Called → Bool
 is_passed z s x = is_barred (z.swept s x.arc) (history (z.swaps s).book x.arc) x.call
 
-abbrev pub answer_in : Setup → Kept → ℕ → Called → ManyReply
-answer_in m z s x = if is_passed z s x then Swept else Plain (history_reply (m.cast s).deal x.arc (history (z.swaps s).book x.arc) x.sender x.call)
+abbrev pub answer_call : Setup → Kept → ℕ → Called → ManyReply
+answer_call m z s x = if is_passed z s x then Swept else Plain (history_reply (m.cast s).deal x.arc (history (z.swaps s).book x.arc) x.sender x.call)
 
 -- Ticks, payments and sweeps.
 
 abbrev pub answer_tick : Kept → (i k : ℕ) → ManyReply
-answer_tick z i k = reply_to_tick_of (z.clocks i).ticks (z.clocks i).height k
+answer_tick z i k = chain_tick_reply (z.clocks i).ticks (z.clocks i).height k
 
 abbrev pub answer_payment : Kept → (i from units : ℕ) → ManyReply
 answer_payment z i from units = reply_to_payment (z.free i from) units
@@ -88,7 +88,7 @@ kept_step m z e = kept_done false m z e
 
 abbrev pub kept_reply : (fair : Bool) → Setup → Kept → ManyEvent → Option ManyReply
 kept_reply fair m z (Tick i k) = Some (answer_tick z i k)
-kept_reply fair m z (In s e) = option_map (answer_in m z s) (called (m.cast s) (z.swaps s) e)
+kept_reply fair m z (In s e) = option_map (answer_call m z s) (called (m.cast s) (z.swaps s) e)
 kept_reply fair m z (Pay i from to units) = Some (answer_payment z i from units)
 kept_reply fair m z (Sweep s a) = Some (answer_sweep fair m z s a)
 
@@ -104,4 +104,4 @@ abbrev pub kept_run : Setup → List ManyEvent → Kept
 kept_run m events = fold (kept_step m) (kept_start m) events
 
 abbrev pub kept_finish : Setup → Kept → Kept
-kept_finish m z = parse_finish m (kept_done false m) (kept_done true m) (λ z i. (z.clocks i).height) z
+kept_finish m z = swept_finish m (kept_done false m) (kept_done true m) (λ z i. (z.clocks i).height) z

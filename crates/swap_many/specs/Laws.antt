@@ -9,18 +9,18 @@ use Rattle.swap_job.specs.Step.{CanStep}
 use Rattle.swap_rules.specs.declared.outcome.Outcome.TheVariants.{Underwater}
 use Rattle.swap_rules.specs.Findings.{findings}
 use Rattle.swap_rules.specs.Outcome.{outcome, IsEnded}
-use Rattle.swap_rules.specs.Laws.{is_against, names_party, HasRefunds, IsDealt, IsTransferred}
+use Rattle.swap_rules.specs.Laws.{is_against_party, names_party, HasRefunds, IsDealt, IsTransferred}
 use Rattle.swap_run.specs.Run.{conforms}
 use Rattle.swap_run.specs.Laws.{IsReadyCast, IsGood, IsKept}
 use Rattle.swap_many.specs.declared.many_event.ManyEvent.{ManyEvent}
 use Rattle.swap_many.specs.declared.many_event.ManyEvent.TheVariants.{Tick, In, Pay, Sweep}
 use Rattle.swap_many.specs.declared.many_reply.ManyReply.TheVariants.{Plain}
-use Rattle.swap_run.specs.Called.{turns_on}
+use Rattle.swap_run.specs.Called.{swept_turns}
 use Rattle.swap_run.specs.CalledLaws.{is_no_tick}
 use Rattle.swap_many.specs.Chains.{Setup, place, arc_chain, put, ChainEntry, projection, has_no_tick, chain_height, chain_ticks, book, free, opening}
 use Rattle.swap_many.specs.Chains.{set_aside, is_swept, reply_to_call}
 use Rattle.swap_many.specs.Chains.{in_accounts, placed}
-use Rattle.swap_many.specs.Many.{Run, swap_state, done, many_reply, many_start, many_run, many_finish, turns_in}
+use Rattle.swap_many.specs.Many.{Run, swap_state, done, many_reply, many_start, many_run, many_finish, swap_turns}
 use Rattle.swap_many.specs.Kept.{Kept, kept_done, kept_reply, kept_start, kept_run, kept_finish}
 
 -- What runs is ready: who takes part, the places of the arcs, and what is set aside.
@@ -124,7 +124,8 @@ SweptAcceptNothing =
 
 -- The fair finish.
 
--- What a fair finish from the run r promises: what is kept follows, every swap's book has ended and is kept, and every chain's units are in one place.
+-- What a fair finish from the run r promises: what is kept follows, every swap's book has ended and
+-- is kept, and every chain's units are in one place.
 pub record IsManyFinished (m : Setup) (r : Run) (z : Kept) : Type 0 where
   pub follows : Follows m r z
   pub ended : (s : ℕ) → s < m.swaps → IsEnded (m.cast s).deal (book m r.chains s)
@@ -139,11 +140,11 @@ ManyFinishesEnd =
 -- What a program over the worlds of the swaps stands on.
 
 -- the turns of a swap's parties in a round are its own
-abbrev pub TurnsAreOn : Type 0
-TurnsAreOn =
+abbrev pub TurnsStayInSwap : Type 0
+TurnsStayInSwap =
     (m : Setup) (s : ℕ) (z : Kept)
-    → turns_in m (kept_done false m) (kept_done true m) (λ z i. (z.clocks i).height) z s
-    ≡ record z { swaps = put z.swaps s (turns_on (z.swept s) (m.cast s) (z.swaps s)) }
+    → swap_turns m (kept_done false m) (kept_done true m) (λ z i. (z.clocks i).height) z s
+    ≡ record z { swaps = put z.swaps s (swept_turns (z.swept s) (m.cast s) (z.swaps s)) }
 
 -- what a sweep gives back fits: with the free accounts it is no more than the chain's opening units
 abbrev pub SweepsFit : Type 0
@@ -157,19 +158,20 @@ SweepsFit =
 
 -- Each swap by the laws over books.
 
--- after every list of events and a fair finish: a conforming party against which no finding stands has its refunds, and where none stands in its name it
--- isn't underwater
+-- after every list of events and a fair finish: a conforming party against which no finding stands
+-- has its refunds, and where none stands in its name it isn't underwater
 abbrev pub EverySwapIsSafe : Type 0
 EverySwapIsSafe =
     (m : Setup) (events : List ManyEvent) (s v : ℕ) → IsReady m → All (CanCome m) events → s < m.swaps → v < (m.cast s).deal.graph.n
     → conforms (m.cast s) v ≡ true
-    → list_any (is_against v) (findings (m.cast s).deal (conforms (m.cast s)) (book m (many_finish m (many_run m events)).chains s)) ≡ false
+    → list_any (is_against_party v) (findings (m.cast s).deal (conforms (m.cast s)) (book m (many_finish m (many_run m events)).chains s)) ≡ false
     → (list_any (names_party (m.cast s).deal v)
     (findings (m.cast s).deal (conforms (m.cast s)) (book m (many_finish m (many_run m events)).chains s)) ≡ false
     → outcome (m.cast s).deal (book m (many_finish m (many_run m events)).chains s) v ≢ Underwater)
     × HasRefunds (m.cast s).deal (book m (many_finish m (many_run m events)).chains s) v
 
--- and where all of a swap's parties conform and nothing is found of it, every arc is claimed in time and every outcome is the whole deal
+-- and where all of a swap's parties conform and nothing is found of it, every arc is claimed in
+-- time and every outcome is the whole deal
 abbrev pub EverySwapIsTransferred : Type 0
 EverySwapIsTransferred =
     (m : Setup) (events : List ManyEvent) (s : ℕ) (ready : IsReady m) → All (CanCome m) events → (low : s < m.swaps)
@@ -177,7 +179,8 @@ EverySwapIsTransferred =
     → findings (m.cast s).deal (conforms (m.cast s)) (book m (many_finish m (many_run m events)).chains s) ≡ []
     → IsTransferred (m.cast s).deal (book m (many_finish m (many_run m events)).chains s) (ready.casts s low).accepted
 
--- and where all of a swap's parties conform, a fair finish with no event before it finds nothing of the swap, and every outcome is the whole deal
+-- and where all of a swap's parties conform, a fair finish with no event before it finds nothing of
+-- the swap, and every outcome is the whole deal
 abbrev pub EveryFairSwapIsDealt : Type 0
 EveryFairSwapIsDealt =
     (m : Setup) (s : ℕ) → IsReady m → s < m.swaps → ((v : ℕ) → v < (m.cast s).deal.graph.n → conforms (m.cast s) v ≡ true)

@@ -11,9 +11,10 @@ use Rattle.swap_many.specs.declared.many_event.ManyEvent.TheVariants.{Tick, In, 
 use Rattle.swap_many.specs.declared.many_reply.ManyReply.{ManyReply}
 use Rattle.swap_run.specs.Called.{Called as Call, called, before_call, told}
 use Rattle.swap_many.specs.Chains.{Setup, slots, arc_chain, put, Ticked, Called, Paid, Emptied, ChainEntry, chain_height, chain_ticks, projection}
-use Rattle.swap_many.specs.Chains.{Chains, book, free, is_swept, reply_to_call, reply_to_tick_of, reply_to_payment, reply_to_sweep, entered}
+use Rattle.swap_many.specs.Chains.{Chains, book, free, is_swept, reply_to_call, chain_tick_reply, reply_to_payment, reply_to_sweep, entered}
 
--- The histories of the chains so far; and of each swap what its parties know and plan, and what its strategies were asked.
+-- The histories of the chains so far; and of each swap what its parties know and plan, and what its
+-- strategies were asked.
 pub record Run : Type 0 where
   pub chains : Chains
   pub minds : ℕ → State
@@ -47,7 +48,7 @@ post fair m r (Tick i k) = Some (record {
       record {
         height = chain_height (r.chains i) + k;
         deed = Ticked k;
-        reply = reply_to_tick_of (chain_ticks (r.chains i)) (chain_height (r.chains i)) k;
+        reply = chain_tick_reply (chain_ticks (r.chains i)) (chain_height (r.chains i)) k;
       };
 })
 post fair m r (In s e) = option_map (post_call m r s) (called (m.cast s) (swap_state m r s) e)
@@ -83,13 +84,13 @@ abbrev pub heard : Setup → Run → Chains → ℕ → Event → Option Call �
 heard m r h s e None = before_call (m.cast s) (swap_state m r s) e
 heard m r h s e (Some x) = told (m.cast s) (swap_state m r s) e x (projection s x.arc (h (arc_chain m s x.arc)))
 
-abbrev pub minds_after : Setup → Run → Chains → ManyEvent → ℕ → State
-minds_after m r h (In s e) = put r.minds s (heard m r h s e (called (m.cast s) (swap_state m r s) e))
-minds_after m r h _ = r.minds
+abbrev pub next_minds : Setup → Run → Chains → ManyEvent → ℕ → State
+next_minds m r h (In s e) = put r.minds s (heard m r h s e (called (m.cast s) (swap_state m r s) e))
+next_minds m r h _ = r.minds
 
 -- what an event does; a sweep of a fair finish does also what the last row of its table refuses
 abbrev pub done : (fair : Bool) → Setup → Run → ManyEvent → Run
-done fair m r e = record { chains = posted r.chains (post fair m r e); minds = minds_after m r (posted r.chains (post fair m r e)) e }
+done fair m r e = record { chains = posted r.chains (post fair m r e); minds = next_minds m r (posted r.chains (post fair m r e)) e }
 
 abbrev pub many_step : Setup → Run → ManyEvent → Run
 many_step m r e = done false m r e
@@ -115,23 +116,23 @@ last_horizon m = greatest (λ s. the_horizon (m.cast s).deal) (range_with_len 0 
 -- The words of a fair finish over any kind of state with a step and with heights.
 module _ {S : Type 0} (m : Setup) (step : S → ManyEvent → S) (sweep : S → ManyEvent → S) (height : S → ℕ → ℕ) where
   -- party v of swap s looks at each arc that touches it
-  abbrev pub looks_in : ℕ → ℕ → S → S
-  looks_in s v z = fold (λ z a. step z (In s (Look v a))) z (adjacent_arcs (m.cast s).deal v)
+  abbrev pub swap_looks : ℕ → ℕ → S → S
+  swap_looks s v z = fold (λ z a. step z (In s (Look v a))) z (adjacent_arcs (m.cast s).deal v)
 
   -- and then acts: until nothing is due where it conforms, else once
-  abbrev pub turn_in : ℕ → S → ℕ → S
-  turn_in s z v =
-      if conforms (m.cast s) v then repeat (most_acts (m.cast s).deal) (λ z. step z (In s (Act v))) (looks_in s v z)
-      else step (looks_in s v z) (In s (Act v))
+  abbrev pub swap_turn : ℕ → S → ℕ → S
+  swap_turn s z v =
+      if conforms (m.cast s) v then repeat (most_acts (m.cast s).deal) (λ z. step z (In s (Act v))) (swap_looks s v z)
+      else step (swap_looks s v z) (In s (Act v))
 
   -- the turns of the parties of swap s
-  abbrev pub turns_in : S → ℕ → S
-  turns_in z s = fold (turn_in s) z (range_with_len 0 (m.cast s).deal.graph.n)
+  abbrev pub swap_turns : S → ℕ → S
+  swap_turns z s = fold (swap_turn s) z (range_with_len 0 (m.cast s).deal.graph.n)
 
   -- every swap's turns, and then a tick by 1 of each chain
   abbrev pub many_round : S → S
   many_round z =
-      fold (λ z i. step z (Tick i 1)) (fold turns_in z (range_with_len 0 m.swaps)) (range_with_len 0 (length m.chains))
+      fold (λ z i. step z (Tick i 1)) (fold swap_turns z (range_with_len 0 m.swaps)) (range_with_len 0 (length m.chains))
 
   -- every chain is above every horizon
   abbrev pub all_ended : S → Bool
@@ -140,9 +141,10 @@ module _ {S : Type 0} (m : Setup) (step : S → ManyEvent → S) (sweep : S → 
   abbrev pub round_or_rest : S → S
   round_or_rest z = if all_ended z then z else many_round z
 
-  -- rounds until every chain is above every horizon, for which one more than the greatest are enough, and then a sweep of every slot
-  abbrev pub parse_finish : S → S
-  parse_finish z = fold (λ z t. sweep z (Sweep t.swap t.arc)) (repeat (last_horizon m + 1) round_or_rest z) (slots m)
+  -- rounds until every chain is above every horizon, for which one more than the greatest are
+  -- enough, and then a sweep of every slot
+  abbrev pub swept_finish : S → S
+  swept_finish z = fold (λ z t. sweep z (Sweep t.swap t.arc)) (repeat (last_horizon m + 1) round_or_rest z) (slots m)
 
 abbrev pub many_finish : Setup → Run → Run
-many_finish m r = parse_finish m (done false m) (done true m) (λ r i. chain_height (r.chains i)) r
+many_finish m r = swept_finish m (done false m) (done true m) (λ r i. chain_height (r.chains i)) r

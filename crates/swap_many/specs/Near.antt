@@ -5,10 +5,10 @@ use Rattle.swap_world.specs.Value.{WorldState}
 use Rattle.swap_many.specs.Ticking.{nth}
 
 -- those of a swap, by party
-abbrev pub near_in : WorldState → List (List ℕ)
-near_in w = all_adjacent w.deal
+abbrev pub swap_adjacent_arcs : WorldState → List (List ℕ)
+swap_adjacent_arcs w = all_adjacent w.deal
 
 -- The lists are those of the swaps, by swap and party.
 pub record AreNear (near : List (List (List ℕ))) (ws : List WorldState) : Type 0 where
   pub one_each : length near ≡ length ws
-  pub each : (s : ℕ) → s < length ws → slice_index_or near s [] ≡ near_in (nth ws s)
+  pub each : (s : ℕ) → s < length ws → slice_index_or near s [] ≡ swap_adjacent_arcs (nth ws s)

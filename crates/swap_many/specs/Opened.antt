@@ -1,22 +1,22 @@
 -- What many swaps begin with: places in range, and accounts that have what is set aside.
 use Rattle.std.specs.Prelude.{◌≡◌, ℕ, ◌<◌, ◌≤◌, nat_lt, [], length, Option, Some, None, slice_index_or, if◌then◌else◌}
 use Rattle.std.specs.List.{range_with_len}
-use Rattle.swap_base.specs.Lists.{first_of}
+use Rattle.swap_base.specs.Lists.{first_given_answer}
 use Rattle.swap_many.specs.declared.overdrawn.Overdrawn.{Overdrawn}
 use Rattle.swap_many.specs.Chains.{Setup, place, arc_chain, opening, set_aside}
 
-abbrev pub lack_of : Setup → (i x : ℕ) → Option Overdrawn
-lack_of m i x =
+abbrev pub account_lack : Setup → (i x : ℕ) → Option Overdrawn
+account_lack m i x =
     if nat_lt (opening m i x) (set_aside m i x) then Some (record { chain = i; account = x; have = opening m i x; wanted = set_aside m i x }) else None
 
 -- the least account of chain i that lacks units, where there is one
-abbrev pub lack_on : Setup → ℕ → Option Overdrawn
-lack_on m i = first_of (lack_of m i) (range_with_len 0 (length (slice_index_or m.chains i [])))
+abbrev pub chain_lack : Setup → ℕ → Option Overdrawn
+chain_lack m i = first_given_answer (account_lack m i) (range_with_len 0 (length (slice_index_or m.chains i [])))
 
 -- the least account, by chain and place, that lacks units, where there is one
 abbrev pub overdrawn : Setup → Option Overdrawn
 overdrawn m =
-    first_of (lack_on m) (range_with_len 0 (length m.chains))
+    first_given_answer (chain_lack m) (range_with_len 0 (length m.chains))
 
 -- Each arc's place is a chain and two of its accounts.
 pub record ArePlaces (m : Setup) : Type 0 where

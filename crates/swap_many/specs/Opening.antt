@@ -20,13 +20,13 @@ pub record IsNew (w : WorldState) : Type 0 where
   pub goes_on : w.stopped ≡ false
 
 -- A place is a chain and two of its accounts.
-pub record IsPlaceOn (chains : List (List ℕ)) (p : Place) : Type 0 where
+pub record IsChainPlace (chains : List (List ℕ)) (p : Place) : Type 0 where
   pub chain : p.chain < length chains
   pub from : p.from < length (slice_index_or chains p.chain [])
   pub to : p.to < length (slice_index_or chains p.chain [])
 
 -- Each world has a place per arc.
-pub record ArePlacesOf (ws : List WorldState) (places : List (List Place)) : Type 0 where
+pub record AreWorldPlaces (ws : List WorldState) (places : List (List Place)) : Type 0 where
   pub few : length ws ≤ 8
   pub one_each : length places ≡ length ws
   pub arcs : (s : ℕ) → s < length ws → length (slice_index_or places s []) ≡ length (nth ws s).deal.graph.arcs
@@ -37,15 +37,15 @@ pub record AreOpenable (chains : List (List ℕ)) (ws : List WorldState) (places
   pub accounts : (i : ℕ) → length (slice_index_or chains i []) ≤ 64
   pub units : (i : ℕ) → sum_by (λ u. u) (slice_index_or chains i []) ≤ 10 ^ 18
   pub new : (s : ℕ) → s < length ws → IsNew (nth ws s)
-  pub placed : ArePlacesOf ws places
-  pub known : (s a : ℕ) → s < length ws → a < length (nth ws s).deal.graph.arcs → IsPlaceOn chains (slice_index_or (slice_index_or places s []) a nowhere)
+  pub placed : AreWorldPlaces ws places
+  pub known : (s a : ℕ) → s < length ws → a < length (nth ws s).deal.graph.arcs → IsChainPlace chains (slice_index_or (slice_index_or places s []) a nowhere)
 
 -- what account x of chain i pays for arc a, which stands there
-abbrev pub pays_by : Deal → Place → (i x a : ℕ) → ℕ
-pays_by d p i x a = if p.chain == i then (if x == p.from then amount d a else 0) else 0
+abbrev pub place_funding : Deal → Place → (i x a : ℕ) → ℕ
+place_funding d p i x a = if p.chain == i then (if x == p.from then amount d a else 0) else 0
 
-abbrev pub pays_in : Deal → List Place → (i x a : ℕ) → ℕ
-pays_in d ps i x a = pays_by d (slice_index_or ps a nowhere) i x a
+abbrev pub arc_funding : Deal → List Place → (i x a : ℕ) → ℕ
+arc_funding d ps i x a = place_funding d (slice_index_or ps a nowhere) i x a
 
 -- what runs, but for what strategies answer
 abbrev pub setup_of_worlds : List WorldState → List (List Place) → List (List ℕ) → Setup

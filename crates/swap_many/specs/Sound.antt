@@ -1,4 +1,5 @@
--- What every state of many swaps keeps: it is what the chains' histories give, each swap's state is good, what is swept is over, and units add up.
+-- What every state of many swaps keeps: it is what the chains' histories give, each swap's state is
+-- good, what is swept is over, and units add up.
 use Rattle.std.specs.Prelude.{◌≡◌, ◌⊎◌, ℕ, ◌+◌, ◌==◌, ◌<◌, ◌≤◌, true, List, length, is_some, is_none, if◌then◌else◌}
 use Rattle.swap_digraph.specs.Deal.{amount}
 use Rattle.ledger_core.specs.declared.entry.Entry.{Entry}
@@ -13,8 +14,8 @@ abbrev pub Over : List Entry → Type 0
 Over h = (is_some (settled h) ≡ true) ⊎ (is_none (published h) ≡ true)
 
 -- each swept slot is over
-abbrev pub SweptIsOver : List ChainEntry → Type 0
-SweptIsOver h = (s a : ℕ) → is_swept s a h ≡ true → Over (projection s a h)
+abbrev pub AreSweptSlotsFinal : List ChainEntry → Type 0
+AreSweptSlotsFinal h = (s a : ℕ) → is_swept s a h ≡ true → Over (projection s a h)
 
 -- what a slot on chain i counts for: its amount, until it is swept
 abbrev pub worth : Setup → ℕ → List ChainEntry → ℕ → ℕ → ℕ
@@ -26,7 +27,7 @@ Count m i h = in_accounts m i (free m i h) + total m (worth m i h) ≡ in_accoun
 
 -- What every chain keeps: what is swept is over, and its units add up.
 pub record IsSound (m : Setup) (h : Chains) : Type 0 where
-  pub over : (i : ℕ) → SweptIsOver (h i)
+  pub over : (i : ℕ) → AreSweptSlotsFinal (h i)
   pub count : (i : ℕ) → i < length m.chains → Count m i (h i)
 
 -- no chain ticked more often than it is high

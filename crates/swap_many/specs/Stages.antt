@@ -16,9 +16,9 @@ run_stage m r (Came e) = many_step m r e
 run_stage m r Finished = many_finish m r
 
 -- the run of all stages, by the histories of the chains
-abbrev pub run_by : Setup → List Stage → Run
-run_by m stages = fold (run_stage m) (many_start m) stages
+abbrev pub staged_run : Setup → List Stage → Run
+staged_run m stages = fold (run_stage m) (many_start m) stages
 
 -- the stages of stretches of events, each of which a fair finish ended, and of events after them
-abbrev pub stages_in : List (List ManyEvent) → List ManyEvent → List Stage
-stages_in stretches events = flat_map (λ es. map Came es ++ Finished ∷ []) stretches ++ map Came events
+abbrev pub stretch_stages : List (List ManyEvent) → List ManyEvent → List Stage
+stretch_stages stretches events = flat_map (λ es. map Came es ++ Finished ∷ []) stretches ++ map Came events

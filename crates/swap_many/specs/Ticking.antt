@@ -4,7 +4,7 @@ use Rattle.std.specs.List.{All, list_any}
 use Rattle.std.specs.List.Sorted.{IsStrictlyIncreasing}
 use Rattle.swap_run.specs.Laws.{IsKept}
 use Rattle.swap_world.specs.Value.{WorldState, world_cast}
-use Rattle.swap_world.specs.On.{ticked_on}
+use Rattle.swap_world.specs.On.{tick_arcs}
 use Rattle.swap_many.specs.Value.{no_world}
 
 -- world s of a list
@@ -20,7 +20,7 @@ pub record AreTickable (on : List (List ℕ)) (ws : List WorldState) : Type 0 wh
 
 -- Of a world its ledgers on the chain have ticked.
 pub record IsTicked (on : List ℕ) (k : ℕ) (old new : WorldState) : Type 0 where
-  pub state : new.state ≡ ticked_on on k (world_cast old) old.state
+  pub state : new.state ≡ tick_arcs on k (world_cast old) old.state
   pub same : new ≡ record old { state = new.state; stopped = new.stopped }
   pub kept : IsKept (world_cast new) new.state.book
 

@@ -14,7 +14,7 @@ use Rattle.swap_many.specs.Many.{Run}
 use Rattle.swap_many.specs.Kept.{Kept}
 use Rattle.swap_many.specs.Laws.{IsReady}
 use Rattle.swap_many.specs.Way.{Leads}
-use Rattle.swap_many.specs.Stages.{Stage, run_by}
+use Rattle.swap_many.specs.Stages.{Stage, staged_run}
 
 pub record ManyState : Type 0 where
   -- one world per swap
@@ -70,8 +70,8 @@ abbrev pub nth_chain : ManyState → ℕ → ChainState
 nth_chain w i = slice_index_or w.chains i no_chain
 
 -- the slots of swap s that are swept
-abbrev pub swept_at : ManyState → ℕ → List Bool
-swept_at w s = slice_index_or w.swept s []
+abbrev pub swept_slots : ManyState → ℕ → List Bool
+swept_slots w s = slice_index_or w.swept s []
 
 -- what runs, but for what strategies answer
 abbrev pub world_setup : ManyState → Setup
@@ -87,16 +87,16 @@ kept_state w = record {
   swaps = λ s. (nth_world w s).state;
   clocks = λ i. (nth_chain w i).clock;
   free = λ i. account_units (nth_chain w i).free;
-  swept = λ s a. slice_index_or (swept_at w s) a false;
+  swept = λ s a. slice_index_or (swept_slots w s) a false;
 }
 
 -- the run of all that was done so far, by the histories of the chains
 abbrev pub world_run : ManyState → (ℕ → Answers) → Run
-world_run w g = run_by (made_setup w g) w.stages
+world_run w g = staged_run (made_setup w g) w.stages
 
 -- on each chain all units are in one place
-abbrev pub UnitsArePlacedIn : Setup → Run → Type 0
-UnitsArePlacedIn m r = (i : ℕ) → i < length m.chains → placed m i (r.chains i) ≡ in_accounts m i (opening m i)
+abbrev pub AreUnitsPlaced : Setup → Run → Type 0
+AreUnitsPlaced m r = (i : ℕ) → i < length m.chains → placed m i (r.chains i) ≡ in_accounts m i (opening m i)
 
 -- the answers of each swap's strategies begin with those so far
 abbrev pub ContinueAll : ManyState → (ℕ → Answers) → Type 0
@@ -111,13 +111,13 @@ abbrev pub AreReady : ManyState → Type 0
 AreReady w = (g : ℕ → Answers) → IsReady (made_setup w g)
 
 -- A fair finish may go on: memory never ran out, all is ready, and each strategy is held.
-pub record IsOn (holds : List ℕ → Bool) (w : ManyState) : Type 0 where
+pub record CanContinue (holds : List ℕ → Bool) (w : ManyState) : Type 0 where
   pub goes_on : w.stopped ≡ false
   pub ready : AreReady w
   pub held : AreAllHeld holds w
 
 -- The party is one of the swap.
-pub record IsPartyOf (w : ManyState) (s p : ℕ) : Type 0 where
+pub record IsSwapParty (w : ManyState) (s p : ℕ) : Type 0 where
   pub swap : s < length w.worlds
   pub party : p < (nth_world w s).deal.graph.n
 
@@ -135,7 +135,8 @@ pub record HasManyGone (gives : MayGive) (f : Setup → Kept → Kept) (old new 
   pub goes_on : new.stopped ≡ old.stopped
   pub kept : (g : ℕ → Answers) → ContinueAll new g → kept_state new ≡ f (made_setup old g) (kept_state old)
 
--- The books, the heights and the free accounts are those of a state between z and t, which steps lead to and from.
+-- The books, the heights and the free accounts are those of a state between z and t, which steps
+-- lead to and from.
 pub record IsBetween (m : Setup) (z t : Kept) (w : ManyState) : Type 0 where
   pub there : Kept
   pub before : Leads m z there

@@ -3,12 +3,12 @@ use Rattle.std.specs.Prelude.{◌≡◌, ℕ, false, map}
 use Rattle.swap_run.specs.Asked.{Answers}
 use Rattle.swap_many.specs.declared.many_world.ManyWorld.TheInside.{Inside}
 use Rattle.swap_many.specs.Sound.{Keeps}
-use Rattle.swap_many.specs.Stages.{stages_in}
+use Rattle.swap_many.specs.Stages.{stretch_stages}
 use Rattle.swap_many.specs.Value.{ManyState, made_setup, kept_state, world_run, ContinueAll}
 use Rattle.swap_many.specs.Inside.{AreWhole}
 
 abbrev pub inside_many_job : Inside → ManyState
-inside_many_job w = record w.worlds { stages = stages_in (map (λ p. p.items) w.stretches.items) w.events.items }
+inside_many_job w = record w.worlds { stages = stretch_stages (map (λ p. p.items) w.stretches.items) w.events.items }
 
 -- what is kept is that of the run of all that was done
 abbrev pub IsOfRun : ManyState → Type 0

@@ -2,7 +2,7 @@
 
 ghost use Rattle.std.specs.Prelude.{◌≡◌, ◌≤◌, ◌<◌, ◌+◌, ◌^◌, IsTrue, length, sum_by, false};
 ghost use Rattle.swap_many.specs.Accounts.{ChainState, account_units};
-ghost use Rattle.swap_many.specs.Chains.{has_no_tick, is_done, paid, plus, reply_to_payment, reply_to_tick_of};
+ghost use Rattle.swap_many.specs.Chains.{has_no_tick, is_done, paid, plus, reply_to_payment, chain_tick_reply};
 ghost use Rattle.swap_many.specs.Kept.{later};
 
 use crate::many_reply::ManyReply;
@@ -60,7 +60,7 @@ impl Chain {
     /// Ticks by k heights, unless the clock is full.
     pub(crate) fn tick(&mut self, k: u32) -> ManyReply
         requires below { k ≤ 1000000 }
-        ensures reply { result ≡ reply_to_tick_of self.old.clock.ticks self.old.clock.height k }
+        ensures reply { result ≡ chain_tick_reply self.old.clock.ticks self.old.clock.height k }
         ensures full { IsTrue (has_no_tick self.old.clock.ticks self.old.clock.height k) → self.new ≡ self.old }
         ensures ticked { has_no_tick self.old.clock.ticks self.old.clock.height k ≡ false
             → self.new ≡ record self.old { clock = later self.old.clock k } }

@@ -6,11 +6,11 @@ ghost use Rattle.swap_run.specs.Fair.{adjacent_arcs, repeat};
 ghost use Rattle.swap_run.specs.Run.{conforms};
 ghost use Rattle.swap_world.specs.Value.{world_cast};
 ghost use Rattle.swap_many.specs.Fair.{kept_acts, kept_looks, kept_round, kept_round_or_rest, kept_rounds, kept_sweeps, kept_ticks, kept_turn, kept_turns};
-ghost use Rattle.swap_many.specs.Fair.{have_ended, sweeps_of};
+ghost use Rattle.swap_many.specs.Fair.{have_ended, kept_swap_sweeps};
 ghost use Rattle.swap_many.specs.Kept.{kept_finish};
 ghost use Rattle.swap_many.specs.Many.{last_horizon};
-ghost use Rattle.swap_many.specs.Near.{AreNear, near_in};
-ghost use Rattle.swap_many.specs.Value.{HasManyGone, IsManyStopped, IsOn, IsPartyOf, kept_state, world_setup, nth_world};
+ghost use Rattle.swap_many.specs.Near.{AreNear, swap_adjacent_arcs};
+ghost use Rattle.swap_many.specs.Value.{HasManyGone, IsManyStopped, CanContinue, IsSwapParty, kept_state, world_setup, nth_world};
 
 use crate::worlds::Worlds;
 use deviators::Strategies;
@@ -26,9 +26,9 @@ fn look_around<A: Strategies>(
     p: PartyId,
     near: &[ArcId],
 ) -> Result<(), NoMemory>
-    requires party { IsPartyOf worlds.old swap p }
+    requires party { IsSwapParty worlds.old swap p }
     requires near { near.now ≡ adjacent_arcs (nth_world worlds.old swap).deal p }
-    requires on { IsOn (A.holds staff.now) worlds.old }
+    requires on { CanContinue (A.holds staff.now) worlds.old }
     ensures ok { OnOk result (HasManyGone (A.gives staff.now) (kept_looks swap p) worlds.old worlds.new) }
     ensures err { OnErr result (IsManyStopped (A.gives staff.now) (kept_looks swap p) worlds.old worlds.new) }
 {
@@ -45,9 +45,9 @@ fn act_to_rest<A: Strategies>(
     swap: u8,
     p: PartyId,
 ) -> Result<(), NoMemory>
-    requires party { IsPartyOf worlds.old swap p }
+    requires party { IsSwapParty worlds.old swap p }
     requires conforms { conforms (world_cast (nth_world worlds.old swap)) p ≡ true }
-    requires on { IsOn (A.holds staff.now) worlds.old }
+    requires on { CanContinue (A.holds staff.now) worlds.old }
     ensures ok { OnOk result (HasManyGone (A.gives staff.now) (kept_acts swap p) worlds.old worlds.new) }
     ensures err { OnErr result (IsManyStopped (A.gives staff.now) (kept_acts swap p) worlds.old worlds.new) }
 {
@@ -59,7 +59,8 @@ fn act_to_rest<A: Strategies>(
     Ok(())
 }
 
-/// A party's turn: it looks around, and then acts: until nothing is due where it conforms, else once.
+/// A party's turn: it looks around, and then acts: until nothing is due where it conforms, else
+/// once.
 fn turn<A: Strategies>(
     worlds: &mut Worlds,
     staff: &A,
@@ -67,9 +68,9 @@ fn turn<A: Strategies>(
     p: PartyId,
     near: &[ArcId],
 ) -> Result<(), NoMemory>
-    requires party { IsPartyOf worlds.old swap p }
+    requires party { IsSwapParty worlds.old swap p }
     requires near { near.now ≡ adjacent_arcs (nth_world worlds.old swap).deal p }
-    requires on { IsOn (A.holds staff.now) worlds.old }
+    requires on { CanContinue (A.holds staff.now) worlds.old }
     ensures ok { OnOk result (HasManyGone (A.gives staff.now) (λ m z. kept_turn swap m z p) worlds.old worlds.new) }
     ensures err { OnErr result (IsManyStopped (A.gives staff.now) (λ m z. kept_turn swap m z p) worlds.old worlds.new) }
 {
@@ -89,8 +90,8 @@ fn turns<A: Strategies>(
     near: &[Listed<ArcId>],
 ) -> Result<(), NoMemory>
     requires swap { swap < length worlds.old.worlds }
-    requires near { near.now ≡ near_in (nth_world worlds.old swap) }
-    requires on { IsOn (A.holds staff.now) worlds.old }
+    requires near { near.now ≡ swap_adjacent_arcs (nth_world worlds.old swap) }
+    requires on { CanContinue (A.holds staff.now) worlds.old }
     ensures ok { OnOk result (HasManyGone (A.gives staff.now) (λ m z. kept_turns m z swap) worlds.old worlds.new) }
     ensures err { OnErr result (IsManyStopped (A.gives staff.now) (λ m z. kept_turns m z swap) worlds.old worlds.new) }
 {
@@ -108,7 +109,7 @@ fn all_turns<A: Strategies>(
     near: &[Listed<Listed<ArcId>>],
 ) -> Result<(), NoMemory>
     requires near { AreNear near.now worlds.old.worlds }
-    requires on { IsOn (A.holds staff.now) worlds.old }
+    requires on { CanContinue (A.holds staff.now) worlds.old }
     ensures ok { OnOk result (HasManyGone (A.gives staff.now) (λ m z. fold (kept_turns m) z (range_with_len 0 m.swaps)) worlds.old worlds.new) }
     ensures err { OnErr result (IsManyStopped (A.gives staff.now) (λ m z. fold (kept_turns m) z (range_with_len 0 m.swaps)) worlds.old worlds.new) }
 {
@@ -121,7 +122,7 @@ fn all_turns<A: Strategies>(
 
 /// Each chain ticks by one height.
 fn ticks<A: Strategies>(worlds: &mut Worlds, staff: &A) -> Result<(), NoMemory>
-    requires on { IsOn (A.holds staff.now) worlds.old }
+    requires on { CanContinue (A.holds staff.now) worlds.old }
     ensures ok { OnOk result (HasManyGone (A.gives staff.now) kept_ticks worlds.old worlds.new) }
     ensures err { OnErr result (IsManyStopped (A.gives staff.now) kept_ticks worlds.old worlds.new) }
 {
@@ -138,7 +139,7 @@ fn round<A: Strategies>(
     near: &[Listed<Listed<ArcId>>],
 ) -> Result<(), NoMemory>
     requires near { AreNear near.now worlds.old.worlds }
-    requires on { IsOn (A.holds staff.now) worlds.old }
+    requires on { CanContinue (A.holds staff.now) worlds.old }
     ensures ok { OnOk result (HasManyGone (A.gives staff.now) kept_round worlds.old worlds.new) }
     ensures err { OnErr result (IsManyStopped (A.gives staff.now) kept_round worlds.old worlds.new) }
 {
@@ -161,7 +162,7 @@ fn have_ended(worlds: &Worlds, horizon: u64) -> bool
 
 /// So many ticks of each chain.
 fn pass<A: Strategies>(worlds: &mut Worlds, staff: &A, count: u64) -> Result<(), NoMemory>
-    requires on { IsOn (A.holds staff.now) worlds.old }
+    requires on { CanContinue (A.holds staff.now) worlds.old }
     ensures ok { OnOk result (HasManyGone (A.gives staff.now) (λ m z. repeat count (kept_ticks m) z) worlds.old worlds.new) }
     ensures err { OnErr result (IsManyStopped (A.gives staff.now) (λ m z. repeat count (kept_ticks m) z) worlds.old worlds.new) }
 {
@@ -184,7 +185,7 @@ fn advance<A: Strategies>(
     requires horizon { horizon ≡ last_horizon (world_setup worlds.old) }
     requires low { have_ended (world_setup worlds.old) (kept_state worlds.old) ≡ false }
     requires some { 1 ≤ most }
-    requires on { IsOn (A.holds staff.now) worlds.old }
+    requires on { CanContinue (A.holds staff.now) worlds.old }
     ensures ok { IfOk result (λ n. HasManyGone (A.gives staff.now) (λ m z. repeat n (kept_round_or_rest m) z) worlds.old worlds.new) }
     ensures some { IfOk result (λ n. 1 ≤ n) }
     ensures few { IfOk result (λ n. n ≤ most) }
@@ -204,7 +205,7 @@ fn rounds<A: Strategies>(
     near: &[Listed<Listed<ArcId>>],
 ) -> Result<(), NoMemory>
     requires near { AreNear near.now worlds.old.worlds }
-    requires on { IsOn (A.holds staff.now) worlds.old }
+    requires on { CanContinue (A.holds staff.now) worlds.old }
     ensures ok { OnOk result (HasManyGone (A.gives staff.now) kept_rounds worlds.old worlds.new) }
     ensures err { OnErr result (IsManyStopped (A.gives staff.now) kept_rounds worlds.old worlds.new) }
 {
@@ -223,8 +224,8 @@ fn rounds<A: Strategies>(
 /// Sweeps every slot of a swap.
 fn sweep_all<A: Strategies>(worlds: &mut Worlds, staff: &A, swap: u8)
     requires swap { swap < length worlds.old.worlds }
-    requires on { IsOn (A.holds staff.now) worlds.old }
-    ensures { HasManyGone (A.gives staff.now) (λ m z. sweeps_of m z swap) worlds.old worlds.new }
+    requires on { CanContinue (A.holds staff.now) worlds.old }
+    ensures { HasManyGone (A.gives staff.now) (λ m z. kept_swap_sweeps m z swap) worlds.old worlds.new }
 {
     'arcs: for arc in 0..worlds.deal(swap).graph.arcs().len() as ArcId {
         worlds.sweep(staff, swap, arc, true);
@@ -233,7 +234,7 @@ fn sweep_all<A: Strategies>(worlds: &mut Worlds, staff: &A, swap: u8)
 
 /// Sweeps every slot.
 fn sweeps<A: Strategies>(worlds: &mut Worlds, staff: &A)
-    requires on { IsOn (A.holds staff.now) worlds.old }
+    requires on { CanContinue (A.holds staff.now) worlds.old }
     ensures { HasManyGone (A.gives staff.now) kept_sweeps worlds.old worlds.new }
 {
     'each: for swap in 0..worlds.swaps() {
@@ -243,7 +244,7 @@ fn sweeps<A: Strategies>(worlds: &mut Worlds, staff: &A)
 
 /// The rounds, for which the arcs that touch each party are listed once.
 fn listed_rounds<A: Strategies>(worlds: &mut Worlds, staff: &A) -> Result<(), NoMemory>
-    requires on { IsOn (A.holds staff.now) worlds.old }
+    requires on { CanContinue (A.holds staff.now) worlds.old }
     ensures ok { OnOk result (HasManyGone (A.gives staff.now) kept_rounds worlds.old worlds.new) }
     ensures err { OnErr result (IsManyStopped (A.gives staff.now) kept_rounds worlds.old worlds.new) }
 {
@@ -258,7 +259,7 @@ fn listed_rounds<A: Strategies>(worlds: &mut Worlds, staff: &A) -> Result<(), No
 
 /// The fair finish: rounds, and then a sweep of every slot.
 pub(crate) fn finish<A: Strategies>(worlds: &mut Worlds, staff: &A) -> Result<(), NoMemory>
-    requires on { IsOn (A.holds staff.now) worlds.old }
+    requires on { CanContinue (A.holds staff.now) worlds.old }
     ensures ok { OnOk result (HasManyGone (A.gives staff.now) kept_finish worlds.old worlds.new) }
     ensures err { OnErr result (IsManyStopped (A.gives staff.now) kept_finish worlds.old worlds.new) }
 {

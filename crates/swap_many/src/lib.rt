@@ -1,4 +1,5 @@
-//! Many swaps whose arcs stand on shared chains with shared accounts: the run of a schedule of theirs, as a definition, and its laws.
+//! Many swaps whose arcs stand on shared chains with shared accounts: the run of a schedule of
+//! theirs, as a definition, and its laws.
 //!
 //! Read `specs/Chains.antt` first, then `specs/Many.antt`, `specs/Kept.antt` and `specs/Laws.antt`.
 #![tactic(auto)]
@@ -22,7 +23,7 @@ ghost use Rattle.swap_many.specs.Laws.{UnitsArePlaced, SweptAcceptNothing, ManyF
 ghost use Rattle.swap_many.specs.Opened.{NoLackIsCovered};
 ghost use Rattle.swap_many.specs.Along.{UnitsStayPlaced};
 ghost use Rattle.swap_many.specs.Way.{ManyFinishesAreSteps};
-ghost use Rattle.swap_many.specs.Laws.{EveryFairSwapIsDealt, EverySwapIsSafe, EverySwapIsTransferred, SlotsShowTheClock, SweepsFit, TurnsAreOn};
+ghost use Rattle.swap_many.specs.Laws.{EveryFairSwapIsDealt, EverySwapIsSafe, EverySwapIsTransferred, SlotsShowTheClock, SweepsFit, TurnsStayInSwap};
 
 pub use many_event::ManyEvent;
 pub use many_reply::ManyReply;
@@ -35,8 +36,9 @@ pub fn every_slot_shows_the_clock()
     ensures { SlotsShowTheClock }
 {}
 
-/// After every list of events the states, the clocks, the free accounts and the swept slots are what the chains' histories give, and so are the
-/// replies; each swap's book is legal, and its conforming parties are conducted.
+/// After every list of events the states, the clocks, the free accounts and the swept slots are
+/// what the chains' histories give, and so are the replies; each swap's book is legal, and its
+/// conforming parties are conducted.
 pub fn every_run_follows()
     ensures start { StartFollows }
     ensures steps { StepsFollow }
@@ -45,7 +47,8 @@ pub fn every_run_follows()
     ensures kept { BooksAreKept }
 {}
 
-/// On every chain all units are in one place, after every list of events and after each step of a fair finish; and on a swept slot no call is accepted.
+/// On every chain all units are in one place, after every list of events and after each step of a
+/// fair finish; and on a swept slot no call is accepted.
 pub fn all_units_are_placed()
     ensures placed { UnitsArePlaced }
     ensures stay { UnitsStayPlaced }
@@ -53,7 +56,8 @@ pub fn all_units_are_placed()
     ensures swept { SweptAcceptNothing }
 {}
 
-/// After a fair finish every chain is above every horizon, each swap's book has ended and is kept, and all units are in one place.
+/// After a fair finish every chain is above every horizon, each swap's book has ended and is kept,
+/// and all units are in one place.
 pub fn every_many_finish_ends()
     ensures end { ManyFinishesEnd }
     ensures steps { ManyFinishesAreSteps }
@@ -61,7 +65,7 @@ pub fn every_many_finish_ends()
 
 /// The turns of a swap's parties in a round of a fair finish are those of that swap by itself.
 pub fn every_swap_turns_alone()
-    ensures { TurnsAreOn }
+    ensures { TurnsStayInSwap }
 {}
 
 /// Where no account lacks units, each has what is set aside from it.
@@ -76,7 +80,8 @@ pub fn every_swap_is_safe()
     ensures transferred { EverySwapIsTransferred }
 {}
 
-/// Where every party of a swap conforms and no event comes before, a fair finish deals that swap, whoever takes part in the others.
+/// Where every party of a swap conforms and no event comes before, a fair finish deals that swap,
+/// whoever takes part in the others.
 pub fn every_fair_swap_is_dealt()
     ensures { EveryFairSwapIsDealt }
 {}

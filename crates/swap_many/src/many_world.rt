@@ -14,7 +14,7 @@ ghost use Rattle.swap_many.specs.Many.{many_reply};
 ghost use Rattle.swap_many.specs.Opening.{AreOpenable, opened};
 ghost use Rattle.swap_many.specs.Stages.{Came, Finished};
 ghost use Rattle.swap_many.specs.Along.{IsCutRun};
-ghost use Rattle.swap_many.specs.Value.{AreAllHeld, ContinueAll, HasManyGone, IsManyStopped, UnitsArePlacedIn, nth_chain, kept_state, world_run, made_setup, world_setup};
+ghost use Rattle.swap_many.specs.Value.{AreAllHeld, ContinueAll, HasManyGone, IsManyStopped, AreUnitsPlaced, nth_chain, kept_state, world_run, made_setup, world_setup};
 ghost use Rattle.swap_many.specs.Value.{nth_world};
 
 use crate::fair;
@@ -53,8 +53,8 @@ impl Model for ManyWorld {
 }
 
 impl ManyWorld {
-    /// Swaps before any event, or the first account of a chain that has fewer units than the arcs that it pays for. What each arc moves is set aside from
-    /// its party's account.
+    /// Swaps before any event, or the first account of a chain that has fewer units than the arcs
+    /// that it pays for. What each arc moves is set aside from its party's account.
     pub fn new(
         alloc: Global,
         chains: &[Listed<u64>],
@@ -77,8 +77,9 @@ impl ManyWorld {
         }
     }
 
-    /// Takes one event, where the staff answers for strategies, and answers the reply of its tick, its call, its payment or its sweep, if it makes one.
-    /// After want of memory the books are those before the event or after it, and every later step wants memory too.
+    /// Takes one event, where the staff answers for strategies, and answers the reply of its tick,
+    /// its call, its payment or its sweep, if it makes one. After want of memory the books are
+    /// those before the event or after it, and every later step wants memory too.
     pub fn step<A: Strategies>(
         &mut self,
         staff: &A,
@@ -94,13 +95,14 @@ impl ManyWorld {
         ensures history { OnOk result ((g : ℕ → Answers) → ContinueAll self.new g
             → Follows (made_setup self.new g) (world_run self.new g) (kept_state self.new)) }
         // On every chain all units are in one place.
-        ensures units { OnOk result ((g : ℕ → Answers) → ContinueAll self.new g → UnitsArePlacedIn (made_setup self.new g) (world_run self.new g)) }
+        ensures units { OnOk result ((g : ℕ → Answers) → ContinueAll self.new g → AreUnitsPlaced (made_setup self.new g) (world_run self.new g)) }
         // And so they are where memory ran out in this call.
         ensures cut { OnErr result (self.old.stopped ≡ false → (g : ℕ → Answers) → ContinueAll self.new g
             → IsCutRun (made_setup self.old g) (world_run self.old g) self.new) }
         ensures err { OnErr result (IsManyStopped (A.gives staff.now) (λ m z. kept_done false m z event.now) self.old self.new) }
         ensures stopped { IsTrue self.old.stopped → IsErr result × (self.new ≡ self.old) }
-        // Whatever the others do, and whether memory ran out or not, every swap's book is legal and its conforming parties have kept their conduct.
+        // Whatever the others do, and whether memory ran out or not, every swap's book is legal and
+        // its conforming parties have kept their conduct.
         ensures kept { (s : ℕ) → s < length self.new.worlds → IsKept (world_cast (nth_world self.new s)) (nth_world self.new s).state.book }
     {
         if self.worlds.is_stopped() {
@@ -112,16 +114,18 @@ impl ManyWorld {
         self.worlds.keep();
         done
     }
-    /// The fair finish: rounds until every chain is above every horizon, and then a sweep of every slot. In a round the swaps have their turns, in
-    /// order: each party in its order looks at each arc that touches it and acts, until nothing is due where it conforms, else once. Then each chain ticks
-    /// by one height. After want of memory the books are those after some of its steps, and every later step wants memory too.
+    /// The fair finish: rounds until every chain is above every horizon, and then a sweep of every
+    /// slot. In a round the swaps have their turns, in order: each party in its order looks at each
+    /// arc that touches it and acts, until nothing is due where it conforms, else once. Then each
+    /// chain ticks by one height. After want of memory the books are those after some of its steps,
+    /// and every later step wants memory too.
     pub fn finish_fair<A: Strategies>(&mut self, staff: &A) -> Result<(), NoMemory>
         requires held { AreAllHeld (A.holds staff.now) self.old }
         ensures ok { OnOk result (HasManyGone (A.gives staff.now) kept_finish self.old self.new) }
         ensures stages { OnOk result (self.new.stages ≡ self.old.stages ++ Finished ∷ []) }
         ensures history { OnOk result ((g : ℕ → Answers) → ContinueAll self.new g
             → Follows (made_setup self.new g) (world_run self.new g) (kept_state self.new)) }
-        ensures units { OnOk result ((g : ℕ → Answers) → ContinueAll self.new g → UnitsArePlacedIn (made_setup self.new g) (world_run self.new g)) }
+        ensures units { OnOk result ((g : ℕ → Answers) → ContinueAll self.new g → AreUnitsPlaced (made_setup self.new g) (world_run self.new g)) }
         // And so they are where memory ran out in this call.
         ensures cut { OnErr result (self.old.stopped ≡ false → (g : ℕ → Answers) → ContinueAll self.new g
             → IsCutRun (made_setup self.old g) (world_run self.old g) self.new) }

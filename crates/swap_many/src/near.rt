@@ -1,7 +1,7 @@
 //! The arcs that touch each party of each swap, listed once for all rounds of a fair finish.
 
 ghost use Rattle.std.specs.Prelude.{◌≡◌, IfOk, map};
-ghost use Rattle.swap_many.specs.Near.{near_in};
+ghost use Rattle.swap_many.specs.Near.{swap_adjacent_arcs};
 
 use std::alloc::Global;
 use swap_base::{ArcId, Listed, NoMemory};
@@ -12,7 +12,7 @@ pub(crate) fn arcs_by_swap(
     alloc: Global,
     worlds: &[World],
 ) -> Result<Vec<Listed<Listed<ArcId>>>, NoMemory>
-    ensures { IfOk result (λ v. v.items ≡ map near_in worlds.now) }
+    ensures { IfOk result (λ v. v.items ≡ map swap_adjacent_arcs worlds.now) }
 {
     let mut all = Vec::new(alloc);
     'swaps: for world in worlds {

@@ -9,8 +9,8 @@ ghost use Rattle.swap_run.specs.Laws.{IsReadyCast};
 ghost use Rattle.swap_world.specs.Value.{world_cast};
 ghost use Rattle.swap_many.specs.Chains.{set_aside};
 ghost use Rattle.swap_many.specs.Inside.{standing, stands};
-ghost use Rattle.swap_many.specs.Opened.{lack_on, overdrawn};
-ghost use Rattle.swap_many.specs.Opening.{AreOpenable, ArePlacesOf, new_chain, none_swept, opened_or, pays_by, pays_in, setup_of_worlds};
+ghost use Rattle.swap_many.specs.Opened.{chain_lack, overdrawn};
+ghost use Rattle.swap_many.specs.Opening.{AreOpenable, AreWorldPlaces, new_chain, none_swept, opened_or, place_funding, arc_funding, setup_of_worlds};
 ghost use Rattle.swap_many.specs.Ticking.{nth};
 
 use crate::chain::Chain;
@@ -26,7 +26,7 @@ use swap_world::World;
 fn paid_units(deal: &Deal, place: Place, arc: ArcId, chain: u8, account: u8) -> u64
     requires sized { IsWellSized deal.now }
     requires arc { arc < length deal.now.graph.arcs }
-    ensures value { result ≡ pays_by deal.now place chain account arc }
+    ensures value { result ≡ place_funding deal.now place chain account arc }
     ensures few { result ≤ 10 ^ 12 }
 {
     if place.chain == chain && account == place.from {
@@ -38,7 +38,7 @@ fn paid_units(deal: &Deal, place: Place, arc: ArcId, chain: u8, account: u8) -> 
 /// What an account of a chain pays for the arcs of a swap.
 fn units_aside(world: &World, places: &[Place], chain: u8, account: u8) -> u64
     requires { length places.now ≡ length world.now.deal.graph.arcs }
-    ensures value { result ≡ sum_by (pays_in world.now.deal places.now chain account) (arcs world.now.deal.graph) }
+    ensures value { result ≡ sum_by (arc_funding world.now.deal places.now chain account) (arcs world.now.deal.graph) }
     ensures few { result ≤ 10 ^ 15 }
 {
     let deal = world.deal();
@@ -51,7 +51,7 @@ fn units_aside(world: &World, places: &[Place], chain: u8, account: u8) -> u64
 
 /// What is set aside from an account of a chain.
 fn aside(worlds: &[World], places: &[Listed<Place>], chain: u8, account: u8) -> u64
-    requires { ArePlacesOf worlds.now places.now }
+    requires { AreWorldPlaces worlds.now places.now }
     ensures { result ≡ set_aside (setup_of_worlds worlds.now places.now []) chain account }
 {
     let mut sum = 0;
@@ -71,7 +71,7 @@ fn open_chain(
 ) -> Result<Chain, ManyFault>
     requires all { AreOpenable chains.now worlds.now places.now }
     requires chain { chain < length chains.now }
-    ensures { Gives (λ c. c) result (opened_or (lack_on (setup_of_worlds worlds.now places.now chains.now) chain)
+    ensures { Gives (λ c. c) result (opened_or (chain_lack (setup_of_worlds worlds.now places.now chains.now) chain)
         (new_chain (setup_of_worlds worlds.now places.now chains.now) chain)) }
 {
     let opening = chains[chain as usize].as_slice();
@@ -153,7 +153,7 @@ fn stand(
     places: &[Listed<Place>],
     chain: u8,
 ) -> Result<Listed<Listed<ArcId>>, NoMemory>
-    requires { ArePlacesOf worlds.now places.now }
+    requires { AreWorldPlaces worlds.now places.now }
     ensures { IfOk result (λ l. l ≡ map (stands chain) places.now) }
 {
     let mut on = Vec::new(alloc);
@@ -170,7 +170,7 @@ pub(crate) fn standing(
     places: &[Listed<Place>],
     chains: u8,
 ) -> Result<Listed<Listed<Listed<ArcId>>>, NoMemory>
-    requires { ArePlacesOf worlds.now places.now }
+    requires { AreWorldPlaces worlds.now places.now }
     ensures { IfOk result (λ l. l ≡ standing chains places.now) }
 {
     let mut on = Vec::new(alloc);

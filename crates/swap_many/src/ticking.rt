@@ -6,7 +6,8 @@ ghost use Rattle.swap_many.specs.Ticking.{AreTickable, AreTicked, some_stopped};
 use swap_base::{ArcId, Listed};
 use swap_world::World;
 
-/// Ticks each ledger of each world that stands on the chain by k heights. Those of each swap that do are told.
+/// Ticks each ledger of each world that stands on the chain by k heights. Those of each swap that
+/// do are told.
 pub(crate) fn tick_worlds(worlds: &mut Vec<World>, on: &[Listed<ArcId>], k: u32)
     requires some { 1 ≤ k }
     requires below { k ≤ 1000000 }

@@ -10,7 +10,7 @@ ghost use Rattle.swap_run.specs.Fair.{the_horizon};
 ghost use Rattle.swap_run.specs.Run.{conforms};
 ghost use Rattle.swap_world.specs.Value.{world_cast};
 ghost use Rattle.swap_many.specs.Accounts.{account_units};
-ghost use Rattle.swap_many.specs.Fair.{SkipsTo, have_ended};
+ghost use Rattle.swap_many.specs.Fair.{SkipsKeptRounds, have_ended};
 ghost use Rattle.swap_many.specs.Inside.{AreWhole};
 ghost use Rattle.swap_many.specs.Many.{last_horizon};
 ghost use Rattle.swap_many.specs.Chains.{arc_chain, place};
@@ -165,7 +165,8 @@ impl Worlds {
     {
         self.chains[chain as usize].pay(from, to, units)
     }
-    /// Ticks a chain by k heights, and with it each ledger that stands on it, unless its clock is full.
+    /// Ticks a chain by k heights, and with it each ledger that stands on it, unless its clock is
+    /// full.
     pub(crate) fn tick<A: Strategies>(
         &mut self,
         _staff: &A,
@@ -210,7 +211,7 @@ impl Worlds {
     }
 
     /// The height of the chain of an arc.
-    fn latest_height(&self, swap: u8, arc: ArcId) -> u32
+    fn arc_chain_height(&self, swap: u8, arc: ArcId) -> u32
         requires { CanSweep (world_setup self.now) swap arc }
         ensures { result ≡ ((kept_state self.now).clocks (arc_chain (world_setup self.now) swap arc)).height }
     {
@@ -258,7 +259,7 @@ impl Worlds {
         ensures { result ≡ answer_sweep fair (world_setup self.now) (kept_state self.now) swap arc }
     {
         let horizon = self.horizon(swap);
-        if self.latest_height(swap, arc) as u64 <= horizon {
+        if self.arc_chain_height(swap, arc) as u64 <= horizon {
             return ManyReply::NotEnded(horizon + 1);
         }
         if self.is_swept(swap, arc) {
@@ -423,7 +424,7 @@ impl Worlds {
         requires horizon { horizon ≡ last_horizon (world_setup self.now) }
         requires low { have_ended (world_setup self.now) (kept_state self.now) ≡ false }
         ensures few { result ≤ most }
-        ensures skips { (g : ℕ → Answers) → SkipsTo (made_setup self.now g) result (kept_state self.now) }
+        ensures skips { (g : ℕ → Answers) → SkipsKeptRounds (made_setup self.now g) result (kept_state self.now) }
     {
         let low = horizon_rounds(&self.chains, horizon, most);
         rounds_still(&self.worlds, near, low)

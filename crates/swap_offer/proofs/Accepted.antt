@@ -1,7 +1,7 @@
 -- A deal that passes the checks is an accepted one, or that of a plain job a proposed one.
 use Rattle.std.proofs.Common.{◌≡◌, ℕ, ◌<◌, ◌≤◌, ◌==◌, nat_lt, Bool, true, false, cond, List, [], ◌∷◌, length, get_or, slice_index, Option, Some, None, Result}
 use Rattle.std.proofs.Common.{Ok, Err, refl, sym, ap, ◌∙◌, subst, arith, inl, inr, ltb-false, eqb-true, replicate}
-use Rattle.swap_base.specs.Lists.{or_else, first_of, IsIn}
+use Rattle.swap_base.specs.Lists.{or_else, first_given_answer, IsElement}
 use Rattle.swap_base.proofs.Lists.{in_range}
 use Rattle.time_bounds.specs.Times.{timelock}
 use Rattle.swap_digraph.specs.Value.{Graph}
@@ -18,22 +18,22 @@ use Rattle.hashkey_path.proofs.Feeding.{any_id}
 use Rattle.digraph_check.specs.Reach.{closed_set}
 use Rattle.digraph_check.proofs.ClosedSets.{connected_of_none}
 use Rattle.leader_check.specs.Cycles.{follower_cycle}
-use Rattle.leader_check.specs.Levels.{latest_height}
+use Rattle.leader_check.specs.Levels.{greatest_level}
 use Rattle.leader_check.proofs.Walks as walks
 use Rattle.leader_check.proofs.Heights as heights
-use Rattle.leader_check.specs.Distance.{dist_of}
+use Rattle.leader_check.specs.Distance.{leader_distance}
 use Rattle.leader_check.proofs.Far.{dist_is, dist_by_rounds}
 use Rattle.swap_rules.specs.Accepted.{IsAccepted, IsOfVersion, IsTimed, HasTimelock}
-use Rattle.proposed_deal.specs.Proposed.{IsLedFor, IsProposed}
+use Rattle.proposed_deal.specs.Proposed.{HasModeLeaders, IsProposed}
 use Rattle.proposed_deal.proofs.Proposals as proposals
 use Rattle.refusals.specs.declared.reason.Reason.{Reason}
 use Rattle.refusals.specs.declared.reason.Reason.TheVariants.{BoundTooSmall, StartTooSoon, ManyLeaders, WrongTimelock}
 use Rattle.offer_fields.proofs.Chains.{went}
 use Rattle.offer_header.specs.Raw.{is_plain, IsVersionMode}
 use Rattle.offer_header.specs.declared.header.Header.{Header}
-use Rattle.offer_header.specs.Header.{IsHeaderWithin}
+use Rattle.offer_header.specs.Header.{IsHeaderInLimits}
 use Rattle.swap_offer.specs.Checks.{build_graph, by_arcs, least_bound, connected, unless_closed, one_leader, led, unless_cycle, bounded, started, timed}
-use Rattle.swap_offer.specs.Checks.{unless_wrong, wrong_timelock, timed_unless, checked, unnamed, header_deal, IsAcceptedFor, IsAcceptedUnless}
+use Rattle.swap_offer.specs.Checks.{unless_wrong, wrong_timelock, timed_unless, checked, unnamed, header_deal, IsAcceptedOrProposed, IsAcceptedUnless}
 use Rattle.swap_offer.proofs.Size.{is_sized}
 
 is_connected : (g : Graph) (u : Unit {0}) → connected g ≡ Ok u → IsStronglyConnected g
@@ -70,31 +70,31 @@ has_one leaders u e = ltb-false 1 (length leaders) (not_refused (nat_lt 1 (lengt
 
 -- Timelocks.
 
-none_at : {A B : Type 0} (f : A → Option B) (xs : List A) (x : A) → first_of f xs ≡ None → IsIn x xs → f x ≡ None
+none_at : {A B : Type 0} (f : A → Option B) (xs : List A) (x : A) → first_given_answer f xs ≡ None → IsElement x xs → f x ≡ None
 none_at f [] x e i = absurd i
 none_at {A} {B} f (y ∷ xs) x e i = go (f y) refl e i (none_at f xs x)
   where
-    go : (o : Option B) → f y ≡ o → or_else o (first_of f xs) ≡ None → IsIn x (y ∷ xs) → (first_of f xs ≡ None → IsIn x xs → f x ≡ None) → f x ≡ None
+    go : (o : Option B) → f y ≡ o → or_else o (first_given_answer f xs) ≡ None → IsElement x (y ∷ xs) → (first_given_answer f xs ≡ None → IsElement x xs → f x ≡ None) → f x ≡ None
     go None h k (inl s) rest = ap f s ∙ h
     go None h k (inr j) rest = rest k j
     go (Some z) h k j rest = absurd (cc k)
 
 has_timelock : (h : Header) (g : Graph) (leader a : ℕ) → wrong_timelock h g leader a ≡ None
-    → slice_index h.timelocks a ≡ timelock h.start h.delta h.bound (dist_of g leader (ends g a).to)
-has_timelock h g leader a e = go (slice_index h.timelocks a == timelock h.start h.delta h.bound (dist_of g leader (ends g a).to)) refl e
+    → slice_index h.timelocks a ≡ timelock h.start h.delta h.bound (leader_distance g leader (ends g a).to)
+has_timelock h g leader a e = go (slice_index h.timelocks a == timelock h.start h.delta h.bound (leader_distance g leader (ends g a).to)) refl e
   where
-    go : (t : Bool) → (slice_index h.timelocks a == timelock h.start h.delta h.bound (dist_of g leader (ends g a).to)) ≡ t
-        → cond t None (Some (WrongTimelock a (slice_index h.timelocks a) (timelock h.start h.delta h.bound (dist_of g leader (ends g a).to)))) ≡ None
-        → slice_index h.timelocks a ≡ timelock h.start h.delta h.bound (dist_of g leader (ends g a).to)
-    go true s k = eqb-true (slice_index h.timelocks a) (timelock h.start h.delta h.bound (dist_of g leader (ends g a).to)) s
+    go : (t : Bool) → (slice_index h.timelocks a == timelock h.start h.delta h.bound (leader_distance g leader (ends g a).to)) ≡ t
+        → cond t None (Some (WrongTimelock a (slice_index h.timelocks a) (timelock h.start h.delta h.bound (leader_distance g leader (ends g a).to)))) ≡ None
+        → slice_index h.timelocks a ≡ timelock h.start h.delta h.bound (leader_distance g leader (ends g a).to)
+    go true s k = eqb-true (slice_index h.timelocks a) (timelock h.start h.delta h.bound (leader_distance g leader (ends g a).to)) s
     go false s k = absurd (cc k)
 
 all_timed : (h : Header) (g : Graph) (leader : ℕ) (u : Unit {0}) → timed h g Timelocks (leader ∷ []) ≡ Ok u → (a : ℕ) → a < length g.arcs
     → wrong_timelock h g leader a ≡ None
 unfolding timed
-all_timed h g leader u e a lt = go (first_of (wrong_timelock h g leader) (arcs g)) refl e
+all_timed h g leader u e a lt = go (first_given_answer (wrong_timelock h g leader) (arcs g)) refl e
   where
-    go : (o : Option Reason) → first_of (wrong_timelock h g leader) (arcs g) ≡ o → unless_wrong o ≡ Ok u → wrong_timelock h g leader a ≡ None
+    go : (o : Option Reason) → first_given_answer (wrong_timelock h g leader) (arcs g) ≡ o → unless_wrong o ≡ Ok u → wrong_timelock h g leader a ≡ None
     go None s k = none_at (wrong_timelock h g leader) (arcs g) a s (in_range a (length g.arcs) lt)
     go (Some r) s k = absurd (cc k)
 
@@ -109,7 +109,7 @@ timed_by h g id leader height u e has strong lt feedback tall t = (ap length e, 
         let far = dist_is g leader has strong lt feedback height height v tall (omega arith) (has.to a b) in
         let near = subst (IsDist g leader v) (dist_by_rounds g leader has strong lt feedback height v tall (has.to a b)) far in
         record {
-          dist = dist_of g leader v;
+          dist = leader_distance g leader v;
           is_dist = rw e near;
           timelock = has_timelock h g leader a (all_timed h g leader u t a b);
         }
@@ -119,7 +119,7 @@ one_of [] some few = absurd (omega arith)
 one_of (x ∷ []) some few = refl
 one_of (x ∷ y ∷ xs) some few = absurd (omega arith)
 
-is_timed : (m : Mode) (h : Header) (g : Graph) (id : List ℕ) (u v : Unit {0}) → m ≡ h.mode → IsHeaderWithin h → g.n ≡ length h.names → g.arcs ≡ h.arcs
+is_timed : (m : Mode) (h : Header) (g : Graph) (id : List ℕ) (u v : Unit {0}) → m ≡ h.mode → IsHeaderInLimits h → g.n ≡ length h.names → g.arcs ≡ h.arcs
     → HasEnds g
     → IsStronglyConnected g → IsFeedback g h.leaders
     → one_leader m h.leaders ≡ Ok u → timed h g m h.leaders ≡ Ok v → IsTimed m (unnamed h g id)
@@ -127,7 +127,7 @@ is_timed Timelocks h g id u v m k n a has strong feedback one t =
     let e : h.leaders ≡ get_or h.leaders 0 0 ∷ [] = one_of h.leaders k.leaders.0 (has_one h.leaders u one) in
     let f : IsFeedback g (get_or h.leaders 0 0 ∷ []) = subst (IsFeedback g) e feedback in
     let few = k.leaders.0 in
-    timed_by h g id (get_or h.leaders 0 0) (latest_height g (get_or h.leaders 0 0 ∷ [])) v e has strong (rw n (k.leader.below 0 (omega (arith, few)))) f
+    timed_by h g id (get_or h.leaders 0 0) (greatest_level g (get_or h.leaders 0 0 ∷ [])) v e has strong (rw n (k.leader.below 0 (omega (arith, few)))) f
     (heights.greatest_level_is_height g (get_or h.leaders 0 0 ∷ []) f)
     (subst (λ (ls : List ℕ). timed h g Timelocks ls ≡ Ok v) e t)
 is_timed Hashkeys h g id u v m k n a has strong feedback one t = λ b lt. k.untimed (sym m) b (subst (λ (xs : List ArcEnds). b < length xs) a lt)
@@ -153,7 +153,7 @@ of_version : (v : Version) (h : Header) (g : Graph) → IsVersionMode v h.mode �
 of_version One h g mode arcs f = all_apart g (length h.names) h.arcs arcs f
 of_version Two h g mode arcs f = mode
 
-led_by : (m : Mode) (h : Header) (g : Graph) (id : List ℕ) (u : Unit {0}) → IsHeaderWithin h → one_leader m h.leaders ≡ Ok u → IsLedFor m (unnamed h g id)
+led_by : (m : Mode) (h : Header) (g : Graph) (id : List ℕ) (u : Unit {0}) → IsHeaderInLimits h → one_leader m h.leaders ≡ Ok u → HasModeLeaders m (unnamed h g id)
 led_by Timelocks h g id u k one = let few = has_one h.leaders u one in let some = k.leaders.0 in omega (arith, few, some)
 led_by Hashkeys h g id u k one = tt
 
@@ -183,7 +183,7 @@ passed h g u e =
       timed = (u, s.2);
     }
 
-proposed : (h : Header) (g : Graph) → IsHeaderWithin h → HasEnds g → g.n ≡ length h.names → g.arcs ≡ h.arcs → build_graph h ≡ Ok g → Passed h g
+proposed : (h : Header) (g : Graph) → IsHeaderInLimits h → HasEnds g → g.n ≡ length h.names → g.arcs ≡ h.arcs → build_graph h ≡ Ok g → Passed h g
     → IsProposed (header_deal h g)
 proposed h g k has n arcs made p =
     let sized = is_sized h g (header_deal h g).id k has n arcs in
@@ -199,7 +199,7 @@ proposed h g k has n arcs made p =
       apart = k.leader.apart;
       led = led_by h.mode h g (header_deal h g).id p.one.0 k p.one.1;
       feedback = p.feedback;
-      height = latest_height g h.leaders;
+      height = greatest_level g h.leaders;
       is_height = heights.greatest_level_is_height g h.leaders p.feedback;
       delta = k.delta;
       start = (p.start, k.start.1);
@@ -208,7 +208,7 @@ proposed h g k has n arcs made p =
       amounts = λ a lt. k.amount a (subst (λ (xs : List ArcEnds). a < length xs) arcs lt);
     }
 
-accepted : (h : Header) (g : Graph) → IsHeaderWithin h → HasEnds g → g.n ≡ length h.names → g.arcs ≡ h.arcs → build_graph h ≡ Ok g → Passed h g
+accepted : (h : Header) (g : Graph) → IsHeaderInLimits h → HasEnds g → g.n ≡ length h.names → g.arcs ≡ h.arcs → build_graph h ≡ Ok g → Passed h g
     → is_plain h.purpose ≡ false → IsAccepted (header_deal h g)
 accepted h g k has n arcs made p stated =
     let sized = is_sized h g (header_deal h g).id k has n arcs in
@@ -217,8 +217,8 @@ accepted h g k has n arcs made p stated =
     (is_timed h.mode h g (header_deal h g).id p.one.0 p.timed.0 refl k n arcs has p.strong p.feedback p.one.1 t)
     (sym (any_id (unnamed h g (replicate 32 0)) (header_deal h g).id))
 
-pub accepted_for : (h : Header) (g : Graph) (u : Unit {0}) → IsHeaderWithin h → HasEnds g → g.n ≡ length h.names → g.arcs ≡ h.arcs → build_graph h ≡ Ok g
-    → checked h g ≡ Ok u → IsAcceptedFor h.purpose (header_deal h g)
+pub accepted_for : (h : Header) (g : Graph) (u : Unit {0}) → IsHeaderInLimits h → HasEnds g → g.n ≡ length h.names → g.arcs ≡ h.arcs → build_graph h ≡ Ok g
+    → checked h g ≡ Ok u → IsAcceptedOrProposed h.purpose (header_deal h g)
 accepted_for h g u k has n arcs made e = by (is_plain h.purpose) refl
   where
     by : (plain : Bool) → is_plain h.purpose ≡ plain → IsAcceptedUnless plain (header_deal h g)

@@ -1,4 +1,5 @@
--- A header within its limits passes its checks exactly where its deal is accepted, or that of a plain job proposed.
+-- A header within its limits passes its checks exactly where its deal is accepted, or that of a
+-- plain job proposed.
 use Rattle.std.proofs.Common.{◌≡◌, ◌⊎◌, inl, inr, ℕ, suc, ◌+◌, ◌<◌, ◌≤◌, Bool, true, false, cond, ◌==◌, IsTrue, List, [], ◌∷◌, ◌++◌}
 use Rattle.std.proofs.Common.{length, get_or, take, position}
 use Rattle.std.proofs.Common.{Option, Some, None, Ok, refl, sym, ap, ap₂, ◌∙◌, subst, arith, append-nil, append_assoc, get_or-take, eqb-true}
@@ -7,7 +8,7 @@ use Rattle.std.proofs.lemmas.Bool.{le-ltb, ne_eqb}
 use Rattle.std.proofs.lemmas.List.{length-take}
 use Rattle.std.specs.List.{position_from}
 use Rattle.std.proofs.lemmas.Iterator.Adapters.{position_from-zero}
-use Rattle.swap_base.specs.Lists.{first_of, IsIn}
+use Rattle.swap_base.specs.Lists.{first_given_answer, IsElement}
 use Rattle.swap_base.proofs.Lists.{and_parts, from_range}
 use Rattle.time_bounds.specs.Times.{need, timelock}
 use Rattle.swap_digraph.specs.Value.{Graph}
@@ -21,29 +22,30 @@ use Rattle.swap_digraph.specs.declared.deal.Version.{Version}
 use Rattle.swap_digraph.specs.declared.deal.Version.TheVariants.{One, Two}
 use Rattle.swap_digraph.proofs.Faults.{has_ends}
 use Rattle.digraph_check.proofs.ClosedSets.{none_of_connected}
-use Rattle.leader_check.specs.Levels.{latest_height}
+use Rattle.leader_check.specs.Levels.{greatest_level}
 use Rattle.leader_check.proofs.Walks as walks
 use Rattle.leader_check.proofs.Heights as heights
-use Rattle.leader_check.specs.Distance.{dist_of}
+use Rattle.leader_check.specs.Distance.{leader_distance}
 use Rattle.leader_check.proofs.Far.{dist_is, dist_by_rounds, dist_one}
 use Rattle.swap_rules.specs.Accepted.{IsOfVersion, IsTimed}
-use Rattle.proposed_deal.specs.Proposed.{IsLedFor, IsProposed}
+use Rattle.proposed_deal.specs.Proposed.{HasModeLeaders, IsProposed}
 use Rattle.proposed_deal.proofs.Proposals.{is_proposed}
 use Rattle.refusals.specs.declared.reason.Reason.TheVariants.{WrongTimelock}
 use Rattle.offer_fields.proofs.Chains.{went}
 use Rattle.offer_header.specs.declared.header.Header.{Header}
-use Rattle.offer_header.specs.Header.{IsHeaderWithin}
+use Rattle.offer_header.specs.Header.{IsHeaderInLimits}
 use Rattle.offer_header.specs.Raw.{is_plain}
 use Rattle.swap_offer.specs.Checks.{build_graph, by_arcs, header_digraph, connected, unless_closed, one_leader, led, unless_cycle, least_bound}
 use Rattle.swap_offer.specs.Checks.{bounded, started}
-use Rattle.swap_offer.specs.Checks.{timed, unless_wrong, wrong_timelock, timed_unless, checked, admitted, header_deal, IsAcceptedFor, IsAcceptedUnless}
+use Rattle.swap_offer.specs.Checks.{timed, unless_wrong, wrong_timelock, timed_unless, checked, admitted, header_deal, IsAcceptedOrProposed, IsAcceptedUnless}
 use Rattle.swap_offer.specs.Laws.{AdmittedIsAccepted}
 use Rattle.swap_offer.proofs.Accepted.{no_fault, accepted_for}
 
 abbrev no_arc : ArcEnds
 no_arc = record { from = 0; to = 0 }
 
--- Arcs that lead from one party to another have no fault in version 2; they have none in version 1 where no two of them have the same ends.
+-- Arcs that lead from one party to another have no fault in version 2; they have none in version 1
+-- where no two of them have the same ends.
 
 same_true : (a b : ArcEnds) → same_ends a b ≡ true → a ≡ b
 same_true a b e =
@@ -122,7 +124,7 @@ height_one g leaders h k a b =
     let high = height_least g leaders k h b a in
     omega (arith, low, high)
 
-none_all : {A B : Type 0} (f : A → Option B) (xs : List A) → ((x : A) → IsIn x xs → f x ≡ None) → first_of f xs ≡ None
+none_all : {A B : Type 0} (f : A → Option B) (xs : List A) → ((x : A) → IsElement x xs → f x ≡ None) → first_given_answer f xs ≡ None
 none_all f [] not_one = refl
 none_all f (x ∷ xs) not_one = rw (not_one x (inl refl)) (none_all f xs (λ y i. not_one y (inr i)))
 
@@ -141,15 +143,15 @@ module _ (h : Header) (a : IsProposed (header_deal h (header_digraph h))) where
   unfolding led
   is_led = ap unless_cycle ((walks.no_cycle_is_feedback (header_digraph h) h.leaders).1 a.feedback)
 
-  has_one : (m : Mode) → IsLedFor m (header_deal h (header_digraph h)) → one_leader m h.leaders ≡ Ok tt
+  has_one : (m : Mode) → HasModeLeaders m (header_deal h (header_digraph h)) → one_leader m h.leaders ≡ Ok tt
   unfolding one_leader
   has_one Timelocks e = rw (le-ltb 1 (length h.leaders) (omega (arith, e))) refl
   has_one Hashkeys t = refl
 
   enough : least_bound (header_digraph h) h.leaders ≤ h.bound
   enough =
-      let e : latest_height (header_digraph h) h.leaders ≡ a.height =
-      height_one (header_digraph h) h.leaders (latest_height (header_digraph h) h.leaders) a.height
+      let e : greatest_level (header_digraph h) h.leaders ≡ a.height =
+      height_one (header_digraph h) h.leaders (greatest_level (header_digraph h) h.leaders) a.height
       (heights.greatest_level_is_height (header_digraph h) h.leaders a.feedback) a.is_height in
       subst (λ (k : ℕ). need (length h.names) (length h.leaders) k ≤ h.bound) (sym e) a.bound.0
 
@@ -169,10 +171,10 @@ module _ (h : Header) (a : IsProposed (header_deal h (header_digraph h))) where
   is_feedback : (leader : ℕ) → h.leaders ≡ leader ∷ [] → IsFeedback (header_digraph h) (leader ∷ [])
   is_feedback leader e = subst (IsFeedback (header_digraph h)) e a.feedback
 
-  near : (leader v : ℕ) → h.leaders ≡ leader ∷ [] → v < length h.names → IsDist (header_digraph h) leader v (dist_of (header_digraph h) leader v)
+  near : (leader v : ℕ) → h.leaders ≡ leader ∷ [] → v < length h.names → IsDist (header_digraph h) leader v (leader_distance (header_digraph h) leader v)
   near leader v e lt =
       let g : Graph = header_digraph h in
-      let k : ℕ = latest_height g (leader ∷ []) in
+      let k : ℕ = greatest_level g (leader ∷ []) in
       let feedback = is_feedback leader e in
       let party = is_party leader e in
       let tall = heights.greatest_level_is_height g (leader ∷ []) feedback in
@@ -187,10 +189,10 @@ module _ (h : Header) (a : IsProposed (header_deal h (header_digraph h))) where
       let s = t.1 b lt in
       let same : slice_index h.leaders 0 ≡ leader = ap (λ (ls : List ℕ). get_or ls 0 0) e in
       let own : IsDist g leader v s.dist = subst (λ (l : ℕ). IsDist g l v s.dist) same s.is_dist in
-      let d : s.dist ≡ dist_of g leader v =
-      dist_one g leader a.ends a.strong (is_party leader e) (is_feedback leader e) v s.dist (dist_of g leader v) own (near leader v e (a.ends.to b lt)) in
+      let d : s.dist ≡ leader_distance g leader v =
+      dist_one g leader a.ends a.strong (is_party leader e) (is_feedback leader e) v s.dist (leader_distance g leader v) own (near leader v e (a.ends.to b lt)) in
       let given : ℕ = slice_index h.timelocks b in
-      let wanted : ℕ = timelock h.start h.delta h.bound (dist_of g leader v) in
+      let wanted : ℕ = timelock h.start h.delta h.bound (leader_distance g leader v) in
       let right : given ≡ wanted = s.timelock ∙ ap (timelock h.start h.delta h.bound) d in
       ap (λ (x : Bool). cond x None (Some (WrongTimelock b given wanted))) (eq-eqb given wanted right)
 
@@ -221,7 +223,7 @@ admits h false e a =
     let p = is_proposed (header_deal h (header_digraph h)) a in
     is_admitted h p (subst (λ (b : Bool). timed_unless b h (header_digraph h) ≡ Ok tt) (sym e) (is_in_time h p h.mode a.timed))
 
-passes : (h : Header) → IsHeaderWithin h → admitted h ≡ Ok (header_digraph h) → IsAcceptedFor h.purpose (header_deal h (header_digraph h))
+passes : (h : Header) → IsHeaderInLimits h → admitted h ≡ Ok (header_digraph h) → IsAcceptedOrProposed h.purpose (header_deal h (header_digraph h))
 unfolding admitted
 passes h k e =
     let g = went (build_graph h) _ (header_digraph h) e in

@@ -6,7 +6,7 @@ use Rattle.std.specs.List.{range_with_len}
 use Rattle.swap_base.specs.Fault.{◌>>=◌, Fails, Gives}
 use Rattle.swap_base.specs.declared.fault.Fault.{Fault}
 use Rattle.swap_base.specs.declared.fault.Fault.TheVariants.{Refused, NoMemory}
-use Rattle.swap_base.specs.Lists.{or_else, first_of}
+use Rattle.swap_base.specs.Lists.{or_else, first_given_answer}
 use Rattle.time_bounds.specs.Times.{timelock}
 use Rattle.swap_digraph.specs.Value.{Graph}
 use Rattle.swap_digraph.specs.Graph.{arcs, ends, HasEnds}
@@ -20,7 +20,7 @@ use Rattle.digraph_check.specs.Reach.{closed_set}
 use Rattle.digraph_check.proofs.ClosedSets.{closed_of_set}
 use Rattle.leader_check.specs.Cycles.{follower_cycle}
 use Rattle.leader_check.proofs.Walks as walks
-use Rattle.leader_check.specs.Distance.{dist_of}
+use Rattle.leader_check.specs.Distance.{leader_distance}
 use Rattle.swap_job.specs.declared.job.Job.{Job}
 use Rattle.swap_job.specs.declared.job.Purpose.{Purpose}
 use Rattle.swap_job.specs.declared.job.Purpose.TheVariants.{Check, Run, Race, Make, Audit}
@@ -28,14 +28,14 @@ use Rattle.party_wallet.specs.Fits.{wrong_lock}
 use Rattle.refusals.specs.declared.reason.Reason.{Reason}
 use Rattle.refusals.specs.declared.reason.Reason.TheVariants.{BoundTooSmall, StartTooSoon, ManyLeaders, WrongTimelock, NoSeed, WrongWallet}
 use Rattle.refusals.specs.declared.refusal.Refusal.{Refusal}
-use Rattle.refusals.specs.Refusal.{fault_with, named}
+use Rattle.refusals.specs.Refusal.{fault_with_names, named}
 use Rattle.refusals.proofs.Named.{named_err}
 use Rattle.offer_header.specs.declared.header.Header.{Header}
-use Rattle.offer_header.specs.Header.{IsHeaderWithin}
+use Rattle.offer_header.specs.Header.{IsHeaderInLimits}
 use Rattle.offer_header.specs.Raw.{is_plain}
 use Rattle.swap_offer.specs.Checks.{build_graph, by_arcs, header_digraph, connected, unless_closed, one_leader, led, unless_cycle, least_bound, bounded}
 use Rattle.swap_offer.specs.Checks.{started, timed, unless_wrong, wrong_timelock, timed_unless, checked, admitted, assemble_job}
-use Rattle.swap_offer.specs.Wallets.{party_conforms, party_seed, needs_seed, no_seed, seeded, wrong_seed, wrong_wallet, fitting, walleted_for, walleted}
+use Rattle.swap_offer.specs.Wallets.{party_conforms, party_seed, needs_seed, no_seed, seeded, wrong_seed, wrong_wallet, fitting, fitting_wallets, walleted}
 use Rattle.swap_offer.specs.Job.{provided, accepted_entries}
 use Rattle.swap_offer.specs.Certificates.{IsCertified, Certifies}
 
@@ -57,11 +57,11 @@ if_wrong : (P : Reason → Type 0) (o : Option Reason) → IfThere P o → IfBad
 if_wrong P None bad = tt
 if_wrong P (Some reason) bad = bad
 
-the_first : (P : Reason → Type 0) (f : ℕ → Option Reason) (xs : List ℕ) → ((x : ℕ) → IfThere P (f x)) → IfThere P (first_of f xs)
+the_first : (P : Reason → Type 0) (f : ℕ → Option Reason) (xs : List ℕ) → ((x : ℕ) → IfThere P (f x)) → IfThere P (first_given_answer f xs)
 the_first P f [] each = tt
 the_first P f (x ∷ xs) each = go (f x) (each x) (the_first P f xs each)
   where
-    go : (o : Option Reason) → IfThere P o → IfThere P (first_of f xs) → IfThere P (or_else o (first_of f xs))
+    go : (o : Option Reason) → IfThere P o → IfThere P (first_given_answer f xs) → IfThere P (or_else o (first_given_answer f xs))
     go None one rest = rest
     go (Some reason) one rest = one
 
@@ -77,7 +77,7 @@ if_not : (P : Reason → Type 0) (t : Bool) (reason : Reason) → P reason → I
 if_not P true reason bad = tt
 if_not P false reason bad = bad
 
-module _ (h : Header) (k : IsHeaderWithin h) where
+module _ (h : Header) (k : IsHeaderInLimits h) where
   abbrev Shows : Reason → Type 0
   Shows reason = IsCertified h reason
 
@@ -133,7 +133,7 @@ module _ (h : Header) (k : IsHeaderWithin h) where
   of_timelock : (leader a : ℕ) → IfThere Shows (wrong_timelock h (header_digraph h) leader a)
   of_timelock leader a =
       let given : ℕ = slice_index h.timelocks a in
-      let wanted : ℕ = timelock h.start h.delta h.bound (dist_of (header_digraph h) leader (ends (header_digraph h) a).to) in
+      let wanted : ℕ = timelock h.start h.delta h.bound (leader_distance (header_digraph h) leader (ends (header_digraph h) a).to) in
       if_not (IsCertified h) (given == wanted) (WrongTimelock a given wanted) tt
 
   of_timed : (m : Mode) (leaders : List ℕ) → IfBad Shows (timed h (header_digraph h) m leaders)
@@ -141,7 +141,7 @@ module _ (h : Header) (k : IsHeaderWithin h) where
   of_timed Hashkeys leaders = tt
   of_timed Timelocks [] = tt
   of_timed Timelocks (leader ∷ []) =
-      if_wrong (IsCertified h) (first_of (wrong_timelock h (header_digraph h) leader) (arcs (header_digraph h)))
+      if_wrong (IsCertified h) (first_given_answer (wrong_timelock h (header_digraph h) leader) (arcs (header_digraph h)))
       (the_first (IsCertified h) (wrong_timelock h (header_digraph h) leader) (arcs (header_digraph h)) (of_timelock leader))
   of_timed Timelocks (x ∷ y ∷ leaders) = tt
 
@@ -173,7 +173,7 @@ module _ (h : Header) (k : IsHeaderWithin h) where
   of_seeded : (job : Job) → IfBad Shows (seeded job)
   unfolding seeded
   of_seeded job =
-      if_wrong (IsCertified h) (first_of (no_seed job) (range_with_len 0 job.deal.graph.n))
+      if_wrong (IsCertified h) (first_given_answer (no_seed job) (range_with_len 0 job.deal.graph.n))
       (the_first (IsCertified h) (no_seed job) (range_with_len 0 job.deal.graph.n) (of_seed job))
 
   of_wallet : (job : Job) (p : ℕ) → IfThere Shows (wrong_wallet job p)
@@ -191,14 +191,14 @@ module _ (h : Header) (k : IsHeaderWithin h) where
   of_fitting : (job : Job) → IfBad Shows (fitting job)
   unfolding fitting
   of_fitting job =
-      if_wrong (IsCertified h) (first_of (wrong_wallet job) (range_with_len 0 job.deal.graph.n))
+      if_wrong (IsCertified h) (first_given_answer (wrong_wallet job) (range_with_len 0 job.deal.graph.n))
       (the_first (IsCertified h) (wrong_wallet job) (range_with_len 0 job.deal.graph.n) (of_wallet job))
 
   of_walleted : (job : Job) → IfBad Shows (walleted job)
   unfolding walleted
   of_walleted job = go job.purpose
     where
-      go : (purpose : Purpose) → IfBad (IsCertified h) (walleted_for purpose job)
+      go : (purpose : Purpose) → IfBad (IsCertified h) (fitting_wallets purpose job)
       go Check = of_fitting job
       go Run = of_fitting job
       go Race = of_fitting job
@@ -224,7 +224,7 @@ module _ (h : Header) (k : IsHeaderWithin h) where
 
 -- where the reader fails before there is a header, nothing is shown of one
 pub no_header : (X : Type 0) (names : List (List ℕ)) (fault : Fault Reason) (read : Result Header Reason) (h : Header) → Fails fault read → read ≡ Ok h
-    → Certifies {X = X} h (Err (fault_with names fault))
+    → Certifies {X = X} h (Err (fault_with_names names fault))
 no_header X names NoMemory read h f e = tt
 no_header X names (Refused reason) read h f e = absurd (cc (sym e ∙ f))
 

@@ -3,7 +3,7 @@ use Rattle.std.proofs.Common.{◌≤◌, length, arith}
 use Rattle.swap_digraph.specs.Deal.{most_arcs, most_parties}
 use Rattle.swap_digraph.specs.declared.deal.Version.{Version}
 use Rattle.swap_digraph.specs.declared.deal.Version.TheVariants.{One, Two}
-use Rattle.offer_header.specs.Header.{IsHeaderWithin}
+use Rattle.offer_header.specs.Header.{IsHeaderInLimits}
 use Rattle.offer_header.specs.declared.header.Header.{Header}
 
 count_parties : (v : Version) → most_parties v ≤ 32
@@ -14,8 +14,8 @@ listed_arcs : (v : Version) → most_arcs v ≤ 128
 listed_arcs One = omega arith
 listed_arcs Two = omega arith
 
-pub few_names : (h : Header) → IsHeaderWithin h → length h.names ≤ 32
+pub few_names : (h : Header) → IsHeaderInLimits h → length h.names ≤ 32
 few_names h k = let few = k.parties.1 in let most = count_parties h.version in omega (arith, few, most)
 
-pub few_arcs : (h : Header) → IsHeaderWithin h → length h.arcs ≤ 128
+pub few_arcs : (h : Header) → IsHeaderInLimits h → length h.arcs ≤ 128
 few_arcs h k = let few = k.arcs.1 in let most = listed_arcs h.version in omega (arith, few, most)

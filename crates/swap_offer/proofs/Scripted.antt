@@ -4,14 +4,14 @@ use Rattle.std.proofs.Common.{is_some, slice_index_or, Result, Ok, refl, sym, ap
 use Rattle.std.specs.List.{All}
 use Rattle.std.proofs.lemmas.List.Elements.{All-get_or, All-from_get_or}
 use Rattle.swap_base.specs.Fault.{steps}
-use Rattle.swap_base.specs.Lists.{IsIn}
+use Rattle.swap_base.specs.Lists.{IsElement}
 use Rattle.swap_base.proofs.Lists.{in_place, list_all-in, list_all-from, list_any-in}
 use Rattle.swap_digraph.specs.Value.{Graph}
 use Rattle.swap_digraph.specs.Graph.{HasEnds}
 use Rattle.swap_digraph.specs.Deal.{IsWellSized, version_path_limit}
 use Rattle.swap_digraph.specs.declared.deal.Version.{Version}
 use Rattle.swap_digraph.specs.declared.arc_ends.ArcEnds.{ArcEnds}
-use Rattle.swap_job.specs.Fitting.{IsMoveOf}
+use Rattle.swap_job.specs.Fitting.{IsPartyMove}
 use Rattle.swap_job.specs.Roles.{job_role, role_script}
 use Rattle.swap_job.specs.declared.job.Job.{Job}
 use Rattle.swap_job.specs.declared.job.Purpose.{Purpose}
@@ -25,11 +25,11 @@ use Rattle.offer_moves.specs.Kept.{AreBoundedCrafters, AreSeeded, IsMade}
 use Rattle.offer_moves.specs.Placed.{placed}
 use Rattle.offer_moves.proofs.Made.{placed_fits}
 use Rattle.offer_fields.proofs.Chains.{went}
-use Rattle.offer_header.specs.Header.{IsHeaderWithin}
+use Rattle.offer_header.specs.Header.{IsHeaderInLimits}
 use Rattle.offer_header.specs.Scripts.{role_placed, roles_placed, scripts_placed, AreMade}
 use Rattle.offer_header.specs.declared.header.Header.{Header}
 use Rattle.swap_offer.specs.Checks.{header_deal, assemble_job}
-use Rattle.swap_offer.specs.Wallets.{crafts, role_crafts, seeded, HaveScripts, HaveScriptsFor}
+use Rattle.swap_offer.specs.Wallets.{crafts, role_crafts, seeded, HaveScripts, HaveRequiredScripts}
 use Rattle.swap_offer.proofs.Seeds.{crafters_seeded, asks_in_run, asks_in_race, asks_to_make, AsksCrafters}
 use Rattle.swap_offer.proofs.Size.{is_sized}
 
@@ -66,7 +66,7 @@ module _ (arcs : List ArcEnds) (conforming : List Bool) (line : ℕ) where
 -- The parties that craft have seeds.
 
 module _ (job : Job) (u : Unit {0}) (asks : AsksCrafters job) (have : seeded job ≡ Ok u) where
-  seeds_there : (role : Role) (mv : Move) → IsIn role job.roles → IsIn mv (role_script role) → AreBoundedCrafters job.deal.graph.n mv → AreSeeded job.seeds mv
+  seeds_there : (role : Role) (mv : Move) → IsElement role job.roles → IsElement mv (role_script role) → AreBoundedCrafters job.deal.graph.n mv → AreSeeded job.seeds mv
   seeds_there role (Craft a lock via onto) among within below =
       list_all-from (λ v. is_some (slice_index_or job.seeds v None)) via (λ v i.
       let one : crafts v (Craft a lock via onto) ≡ true = list_any-in (nat_eq v) via v (eq-eqb v v refl) i in
@@ -84,7 +84,7 @@ module _ (job : Job) (u : Unit {0}) (asks : AsksCrafters job) (have : seeded job
 sized : ℕ → ℕ → Version → Sizes
 sized a l v = record { arcs = a; locks = l; path = version_path_limit v }
 
-fit : (h : Header) (g : Graph) (line : ℕ) (u : Unit {0}) → IsHeaderWithin h → HasEnds g → g.n ≡ length h.names → g.arcs ≡ h.arcs → AreMade line h
+fit : (h : Header) (g : Graph) (line : ℕ) (u : Unit {0}) → IsHeaderInLimits h → HasEnds g → g.n ≡ length h.names → g.arcs ≡ h.arcs → AreMade line h
     → scripts_placed line h ≡ Ok tt → AsksCrafters (assemble_job h g) → seeded (assemble_job h g) ≡ Ok u → HaveScripts (assemble_job h g)
 unfolding scripts_placed sized
 fit h g line u k has n arcs made are asks have p lt =
@@ -96,7 +96,7 @@ fit h g line u k has n arcs made are asks have p lt =
     let z : 0 + p ≡ p = omega arith in
     let here = subst (λ (q : ℕ). role_placed h.arcs h.conforming line q role ≡ Ok tt) z
     (each_role h.arcs h.conforming line 0 h.roles are p kinds.Manual below) in
-    All-from_get_or (IsMoveOf d h.seeds p) (role_script role) (Claim 0) (λ i l.
+    All-from_get_or (IsPartyMove d h.seeds p) (role_script role) (Claim 0) (λ i l.
     let mv = get_or (role_script role) i (Claim 0) in
     let m = All-get_or (IsMade d h.seeds line) (role_script role) i (Claim 0) l
     (All-get_or (λ (r : Role). All (IsMade d h.seeds line) (role_script r)) h.roles p kinds.Manual below own) in
@@ -106,11 +106,11 @@ fit h g line u k has n arcs made are asks have p lt =
     (subst (λ (xs : List ArcEnds). placed xs h.conforming line p mv ≡ Ok tt) (sym arcs) (in_role h.arcs h.conforming line p role here i (Claim 0) l)) in
     record { fits = f.0; adjacent = f.1 })
 
-pub scripts_for : (h : Header) (g : Graph) (line : ℕ) (u : Unit {0}) → IsHeaderWithin h → HasEnds g → g.n ≡ length h.names → g.arcs ≡ h.arcs → AreMade line h
-    → scripts_placed line h ≡ Ok tt → seeded (assemble_job h g) ≡ Ok u → HaveScriptsFor h.purpose (assemble_job h g)
+pub scripts_for : (h : Header) (g : Graph) (line : ℕ) (u : Unit {0}) → IsHeaderInLimits h → HasEnds g → g.n ≡ length h.names → g.arcs ≡ h.arcs → AreMade line h
+    → scripts_placed line h ≡ Ok tt → seeded (assemble_job h g) ≡ Ok u → HaveRequiredScripts h.purpose (assemble_job h g)
 scripts_for h g line u k has n arcs made are have = by h.purpose refl
   where
-    by : (purpose : Purpose) → h.purpose ≡ purpose → HaveScriptsFor purpose (assemble_job h g)
+    by : (purpose : Purpose) → h.purpose ≡ purpose → HaveRequiredScripts purpose (assemble_job h g)
     by Check e = tt
     by Run e = fit h g line u k has n arcs made are (asks_in_run (assemble_job h g) e) have
     by Race e = fit h g line u k has n arcs made are (asks_in_race (assemble_job h g) e) have

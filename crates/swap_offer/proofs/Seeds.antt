@@ -3,7 +3,7 @@ use Rattle.std.proofs.Common.{◌≡◌, ℕ, ◌<◌, ◌&&◌, ◌||◌, Bool,
 use Rattle.std.proofs.Common.{is_some, refl, sym, ap, subst}
 use Rattle.std.specs.List.{range_with_len}
 use Rattle.swap_base.specs.Fault.{Gives}
-use Rattle.swap_base.specs.Lists.{first_of}
+use Rattle.swap_base.specs.Lists.{first_given_answer}
 use Rattle.swap_base.specs.declared.fault.Fault.{Fault}
 use Rattle.swap_base.proofs.Lists.{in_range, none_in, or-right}
 use Rattle.swap_job.specs.declared.job.Job.{Job}
@@ -13,9 +13,9 @@ use Rattle.refusals.specs.declared.reason.Reason.{Reason}
 use Rattle.refusals.specs.declared.reason.Reason.TheVariants.{NoSeed, WrongWallet}
 use Rattle.party_wallet.specs.Fits.{wrong_lock}
 use Rattle.swap_offer.specs.Checks.{unless_wrong}
-use Rattle.swap_offer.specs.Wallets.{party_conforms, party_seed, is_crafter, needs_seed, no_seed, seeded, wrong_seed, wrong_wallet, fitting, walleted_for}
+use Rattle.swap_offer.specs.Wallets.{party_conforms, party_seed, is_crafter, needs_seed, no_seed, seeded, wrong_seed, wrong_wallet, fitting, fitting_wallets}
 use Rattle.swap_offer.specs.Wallets.{walleted}
-use Rattle.swap_offer.specs.Wallets.{HaveWallets, HaveWalletsFor, HaveSeedsFor}
+use Rattle.swap_offer.specs.Wallets.{HaveWallets, HaveRequiredWallets, HaveRequiredSeeds}
 
 passed : (o : Option Reason) (u : Unit {0}) → unless_wrong o ≡ Ok u → o ≡ None
 passed None u e = refl
@@ -39,8 +39,8 @@ fits_is job p seed true (Some given) t s e =
     subst (λ x. wrong_lock job.deal p x ≡ None) same (no_lock p (wrong_lock job.deal p given) e)
 
 have : (job : Job) → ((p : ℕ) → party_conforms job p ≡ true → needs_seed job.purpose job p ≡ true)
-    → first_of (no_seed job) (range_with_len 0 job.deal.graph.n) ≡ None
-    → first_of (wrong_wallet job) (range_with_len 0 job.deal.graph.n) ≡ None → HaveWallets job
+    → first_given_answer (no_seed job) (range_with_len 0 job.deal.graph.n) ≡ None
+    → first_given_answer (wrong_wallet job) (range_with_len 0 job.deal.graph.n) ≡ None → HaveWallets job
 have job needs none wrong p lt c =
     let k = in_range p job.deal.graph.n lt in
     let absent = none_in (no_seed job) (range_with_len 0 job.deal.graph.n) p none k in
@@ -57,11 +57,11 @@ needs_as job purpose p e c = subst (λ (x : Purpose). needs_seed x job p ≡ tru
 either : (a b : Bool) → a ≡ true → (a || b) ≡ true
 either a b e = ap (λ (x : Bool). x || b) e
 
-have_for : (job : Job) (u w : Unit {0}) → seeded job ≡ Ok u → walleted job ≡ Ok w → HaveWalletsFor job.purpose job
+have_for : (job : Job) (u w : Unit {0}) → seeded job ≡ Ok u → walleted job ≡ Ok w → HaveRequiredWallets job.purpose job
 unfolding seeded walleted fitting
 have_for job u w s f = by job.purpose refl f
   where
-    by : (purpose : Purpose) → job.purpose ≡ purpose → walleted_for purpose job ≡ Ok w → HaveWalletsFor purpose job
+    by : (purpose : Purpose) → job.purpose ≡ purpose → fitting_wallets purpose job ≡ Ok w → HaveRequiredWallets purpose job
     by Check e k = tt
     by Run e k = have job (λ p c. needs_as job Run p e (either (party_conforms job p) (is_crafter job p) c)) (passed _ u s) (passed _ w k)
     by Race e k = have job (λ p c. needs_as job Race p e (either (party_conforms job p) (is_crafter job p) c)) (passed _ u s) (passed _ w k)
@@ -69,7 +69,7 @@ have_for job u w s f = by job.purpose refl f
     by Audit e k = tt
 
 pub have_on : {X : Type 0} (job : Job) (u : Unit {0}) (result : Result X (Fault Reason)) → seeded job ≡ Ok u → Gives (λ _. tt) result (walleted job)
-    → OnOk result (HaveWalletsFor job.purpose job)
+    → OnOk result (HaveRequiredWallets job.purpose job)
 have_on job u (Ok x) s f = have_for job u tt s f
 have_on job u (Err e) s f = tt
 
@@ -79,11 +79,11 @@ some_is : (o : Option (List ℕ)) (seed : List ℕ) → o ≡ Some seed → IsSo
 some_is None seed e = absurd (cc e)
 some_is (Some x) seed e = refl
 
-seeds_for : (job : Job) (u : Unit {0}) → seeded job ≡ Ok u → HaveSeedsFor job.purpose job
+seeds_for : (job : Job) (u : Unit {0}) → seeded job ≡ Ok u → HaveRequiredSeeds job.purpose job
 unfolding seeded
 seeds_for job u s = by job.purpose refl
   where
-    by : (purpose : Purpose) → job.purpose ≡ purpose → HaveSeedsFor purpose job
+    by : (purpose : Purpose) → job.purpose ≡ purpose → HaveRequiredSeeds purpose job
     by Check e = tt
     by Run e = tt
     by Race e = tt
@@ -93,7 +93,7 @@ seeds_for job u s = by job.purpose refl
         some_is (party_seed job p) there.0 there.1
     by Audit e = tt
 
-pub seeds_on : {X : Type 0} (job : Job) (u : Unit {0}) (result : Result X (Fault Reason)) → seeded job ≡ Ok u → OnOk result (HaveSeedsFor job.purpose job)
+pub seeds_on : {X : Type 0} (job : Job) (u : Unit {0}) (result : Result X (Fault Reason)) → seeded job ≡ Ok u → OnOk result (HaveRequiredSeeds job.purpose job)
 seeds_on job u (Ok x) s = seeds_for job u s
 seeds_on job u (Err e) s = tt
 
@@ -116,7 +116,7 @@ asks_in_race job e p c = needs_as job Race p e (or-right (party_conforms job p) 
 pub asks_to_make : (job : Job) → job.purpose ≡ Make → AsksCrafters job
 asks_to_make job e p c = needs_as job Make p e refl
 
-crafter_seed : (job : Job) (p : ℕ) → AsksCrafters job → first_of (no_seed job) (range_with_len 0 job.deal.graph.n) ≡ None
+crafter_seed : (job : Job) (p : ℕ) → AsksCrafters job → first_given_answer (no_seed job) (range_with_len 0 job.deal.graph.n) ≡ None
     → p < job.deal.graph.n → is_crafter job p ≡ true → is_some (party_seed job p) ≡ true
 crafter_seed job p asks none lt c =
     let absent = none_in (no_seed job) (range_with_len 0 job.deal.graph.n) p none (in_range p job.deal.graph.n lt) in

@@ -10,17 +10,17 @@ use Rattle.offer_header.specs.declared.header.Header.{Header}
 use Rattle.swap_job.specs.Roles.{is_conforming}
 use Rattle.swap_job.specs.declared.job.Purpose.{Purpose}
 use Rattle.swap_job.specs.declared.job.Purpose.TheVariants.{Check, Run, Race, Make, Audit}
-use Rattle.offer_header.specs.Header.{AreSimpleFor, IsHeaderWithin, IsUntoldFor, HasKeysFor}
+use Rattle.offer_header.specs.Header.{HasSimpleRoles, IsHeaderInLimits, IsUntoldHeader, AreSizedKeys}
 use Rattle.swap_offer.specs.Checks.{unnamed, header_deal, assemble_job}
 use Rattle.swap_offer.specs.Job.{IsWholeJob}
 use Rattle.swap_offer.specs.Wallets.{AreSimpleRoles, IsUntoldJob}
 
-derived_keys : (m : Mode) (h : Header) (g : Graph) (id : List ℕ) → g.n ≡ length h.names → HasKeysFor m (length h.names) (length h.leaders) h.keys
+derived_keys : (m : Mode) (h : Header) (g : Graph) (id : List ℕ) → g.n ≡ length h.names → AreSizedKeys m (length h.names) (length h.leaders) h.keys
     → HasKeys m (unnamed h g id)
 derived_keys Timelocks h g id n k = k
 derived_keys Hashkeys h g id n k = (k.0 ∙ sym n, λ p lt. k.1 p (rw n at lt))
 
-pub is_sized : (h : Header) (g : Graph) (id : List ℕ) → IsHeaderWithin h → HasEnds g → g.n ≡ length h.names → g.arcs ≡ h.arcs → IsWellSized (unnamed h g id)
+pub is_sized : (h : Header) (g : Graph) (id : List ℕ) → IsHeaderInLimits h → HasEnds g → g.n ≡ length h.names → g.arcs ≡ h.arcs → IsWellSized (unnamed h g id)
 is_sized h g id k e n a =
     let arcs : length g.arcs ≡ length h.arcs = ap length a in
     record {
@@ -40,7 +40,7 @@ is_sized h g id k e n a =
       timelock = λ i lt. k.timelock i (rw arcs at lt);
     }
 
-pub is_whole : (h : Header) (g : Graph) → IsHeaderWithin h → HasEnds g → g.n ≡ length h.names → g.arcs ≡ h.arcs → IsWholeJob (assemble_job h g)
+pub is_whole : (h : Header) (g : Graph) → IsHeaderInLimits h → HasEnds g → g.n ≡ length h.names → g.arcs ≡ h.arcs → IsWholeJob (assemble_job h g)
 is_whole h g k e n a = record {
   sized = is_sized h g (header_deal h g).id k e n a;
   names = sym n;
@@ -50,22 +50,22 @@ is_whole h g k e n a = record {
   seeds = k.seeds ∙ sym n;
 }
 
-untold_by : (purpose : Purpose) (h : Header) (g : Graph) → IsUntoldFor purpose h → IsUntoldJob purpose (assemble_job h g)
+untold_by : (purpose : Purpose) (h : Header) (g : Graph) → IsUntoldHeader purpose h → IsUntoldJob purpose (assemble_job h g)
 untold_by Audit h g u = u
 untold_by Check h g u = tt
 untold_by Run h g u = tt
 untold_by Race h g u = tt
 untold_by Make h g u = tt
 
-pub is_untold : (h : Header) (g : Graph) → IsUntoldFor h.purpose h → IsUntoldJob h.purpose (assemble_job h g)
+pub is_untold : (h : Header) (g : Graph) → IsUntoldHeader h.purpose h → IsUntoldJob h.purpose (assemble_job h g)
 is_untold h g u = untold_by h.purpose h g u
 
-simple_by : (purpose : Purpose) (h : Header) (g : Graph) → AreSimpleFor purpose h → AreSimpleRoles purpose (assemble_job h g)
+simple_by : (purpose : Purpose) (h : Header) (g : Graph) → HasSimpleRoles purpose h → AreSimpleRoles purpose (assemble_job h g)
 simple_by Make h g u = tt
 simple_by Check h g u = tt
 simple_by Run h g u = tt
 simple_by Race h g u = tt
 simple_by Audit h g u = u
 
-pub are_simple : (h : Header) (g : Graph) → AreSimpleFor h.purpose h → AreSimpleRoles h.purpose (assemble_job h g)
+pub are_simple : (h : Header) (g : Graph) → HasSimpleRoles h.purpose h → AreSimpleRoles h.purpose (assemble_job h g)
 are_simple h g u = simple_by h.purpose h g u

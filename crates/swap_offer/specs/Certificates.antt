@@ -10,7 +10,8 @@ use Rattle.refusals.specs.declared.refusal.Refusal.{Refusal}
 use Rattle.offer_header.specs.declared.header.Header.{Header}
 use Rattle.swap_offer.specs.Checks.{header_digraph}
 
--- a set that is named is closed: some of the parties, but not all, and no arc leaves them; a cycle that is named is one of distinct followers
+-- a set that is named is closed: some of the parties, but not all, and no arc leaves them; a cycle
+-- that is named is one of distinct followers
 abbrev pub IsCertified : Header → Reason → Type 0
 IsCertified h (NotStrong set) = IsClosedSet (header_digraph h) set
 IsCertified h (NotFeedback cycle) = IsFollowerCycle (header_digraph h) h.leaders cycle

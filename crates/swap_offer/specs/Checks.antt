@@ -2,9 +2,9 @@
 use Rattle.std.specs.Prelude.{ℕ, ◌==◌, Bool, true, false, nat_lt, List, [], ◌∷◌, length, slice_index, replicate, Option, Some, None, Result, Ok, Err}
 use Rattle.std.specs.Prelude.{if◌then◌else◌}
 use Rattle.swap_base.specs.Fault.{◌>>=◌}
-use Rattle.swap_base.specs.Lists.{first_of}
+use Rattle.swap_base.specs.Lists.{first_given_answer}
 use Rattle.time_bounds.specs.Times.{need, timelock}
-use Rattle.leader_check.specs.Distance.{dist_of}
+use Rattle.leader_check.specs.Distance.{leader_distance}
 use Rattle.swap_digraph.specs.Graph.{arcs, ends}
 use Rattle.swap_digraph.specs.Value.{Graph}
 use Rattle.swap_digraph.specs.Arcs.{build_digraph}
@@ -16,7 +16,7 @@ use Rattle.swap_digraph.specs.declared.deal.Mode.TheVariants.{Timelocks, Hashkey
 use Rattle.hashkey_path.specs.Digest.{deal_id}
 use Rattle.digraph_check.specs.Reach.{closed_set}
 use Rattle.leader_check.specs.Cycles.{follower_cycle}
-use Rattle.leader_check.specs.Levels.{latest_height}
+use Rattle.leader_check.specs.Levels.{greatest_level}
 use Rattle.swap_job.specs.declared.job.Job.{Job}
 use Rattle.swap_job.specs.declared.job.Purpose.{Purpose}
 use Rattle.refusals.specs.declared.reason.Reason.{Reason}
@@ -68,7 +68,7 @@ led g leaders = unless_cycle (follower_cycle g leaders)
 
 -- the least bound: no path that ends in a leader has more arcs
 abbrev pub least_bound : Graph → List ℕ → ℕ
-least_bound g leaders = need g.n (length leaders) (latest_height g leaders)
+least_bound g leaders = need g.n (length leaders) (greatest_level g leaders)
 
 -- the least bound of a deal
 abbrev pub deal_need : Deal → ℕ
@@ -82,11 +82,12 @@ bounded bound needed = if nat_lt bound needed then Err (BoundTooSmall bound need
 unfoldable pub started : (start delta : ℕ) → Result (Unit {0}) Reason
 started start delta = if nat_lt start delta then Err (StartTooSoon start delta) else Ok tt
 
--- the reason against the timelock of arc a, if any: it goes by the distance of the arc's counterparty from the leader
+-- the reason against the timelock of arc a, if any: it goes by the distance of the arc's
+-- counterparty from the leader
 abbrev pub wrong_timelock : Header → Graph → ℕ → ℕ → Option Reason
 wrong_timelock h g leader a =
     let given = slice_index h.timelocks a in
-    let wanted = timelock h.start h.delta h.bound (dist_of g leader (ends g a).to) in
+    let wanted = timelock h.start h.delta h.bound (leader_distance g leader (ends g a).to) in
     if given == wanted then None else Some (WrongTimelock a given wanted)
 
 abbrev pub unless_wrong : Option Reason → Result (Unit {0}) Reason
@@ -95,7 +96,7 @@ unless_wrong (Some reason) = Err reason
 
 -- with timelocks each arc has its timelock
 unfoldable pub timed : Header → Graph → Mode → List ℕ → Result (Unit {0}) Reason
-timed h g Timelocks (leader ∷ []) = unless_wrong (first_of (wrong_timelock h g leader) (arcs g))
+timed h g Timelocks (leader ∷ []) = unless_wrong (first_given_answer (wrong_timelock h g leader) (arcs g))
 timed h g _ _ = Ok tt
 
 -- a plain job states no timelocks
@@ -157,5 +158,5 @@ IsAcceptedUnless true d = IsProposed d
 IsAcceptedUnless false d = IsAccepted d
 
 -- a deal is accepted; that of a plain job is proposed, and lacks what its parties' seeds give
-abbrev pub IsAcceptedFor : Purpose → Deal → Type 0
-IsAcceptedFor purpose d = IsAcceptedUnless (is_plain purpose) d
+abbrev pub IsAcceptedOrProposed : Purpose → Deal → Type 0
+IsAcceptedOrProposed purpose d = IsAcceptedUnless (is_plain purpose) d

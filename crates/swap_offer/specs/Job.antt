@@ -22,7 +22,8 @@ provided job = do
   u ← seeded job
   walleted job
 
--- the job of a header, or the first reason against it: its digraph, its leaders and times, and the seeds of its conforming parties
+-- the job of a header, or the first reason against it: its digraph, its leaders and times, and the
+-- seeds of its conforming parties
 unfoldable pub accepted_entries : Header → Result Job Reason
 accepted_entries h = do
   g ← admitted h
@@ -30,8 +31,8 @@ accepted_entries h = do
   Ok (assemble_job h g)
 
 -- the job of a header line; `has` tells which strategies exist
-unfoldable pub job_header_of : (List ℕ → Bool) → Purpose → ℕ → List ℕ → Result Job Reason
-job_header_of has purpose line text = do
+unfoldable pub parse_header_job : (List ℕ → Bool) → Purpose → ℕ → List ℕ → Result Job Reason
+parse_header_job has purpose line text = do
   h ← parse_whole_header has purpose line text
   accepted_entries h
 
@@ -40,13 +41,13 @@ names_or_none (Ok h) = h.names
 names_or_none (Err reason) = []
 
 -- the names of the parties in a header line; none where it has no header within its limits
-unfoldable pub names_at : (List ℕ → Bool) → Purpose → ℕ → List ℕ → List (List ℕ)
-names_at has purpose line text = names_or_none (parse_whole_header has purpose line text)
+unfoldable pub header_names : (List ℕ → Bool) → Purpose → ℕ → List ℕ → List (List ℕ)
+header_names has purpose line text = names_or_none (parse_whole_header has purpose line text)
 
 -- the names of the parties that an offer's lines speak of
-abbrev pub names_in : (List ℕ → Bool) → Purpose → List (ℕ × List ℕ) → List (List ℕ)
-names_in has purpose [] = []
-names_in has purpose (l ∷ ls) = names_at has purpose l.0 l.1
+abbrev pub offer_line_names : (List ℕ → Bool) → Purpose → List (ℕ × List ℕ) → List (List ℕ)
+offer_line_names has purpose [] = []
+offer_line_names has purpose (l ∷ ls) = header_names has purpose l.0 l.1
 
 -- the event of a line, where so many events came before
 unfoldable pub limited_event : Job → ℕ → ℕ → List ℕ → Result Event Reason
@@ -71,11 +72,11 @@ parse_job_events purpose job ls = events_unless (is_plain purpose) job ls
 
 abbrev pub job_of_lines : (List ℕ → Bool) → Purpose → List (ℕ × List ℕ) → Result (Job × List Event) Reason
 job_of_lines has purpose [] = Err (NotJson 1)
-job_of_lines has purpose (l ∷ ls) = job_header_of has purpose l.0 l.1 >>= λ job. parse_job_events purpose job ls >>= λ events. Ok (job, events)
+job_of_lines has purpose (l ∷ ls) = parse_header_job has purpose l.0 l.1 >>= λ job. parse_job_events purpose job ls >>= λ events. Ok (job, events)
 
 -- the names of the parties that an offer's bytes speak of
 abbrev pub names_of_offer : (List ℕ → Bool) → Purpose → List ℕ → List (List ℕ)
-names_of_offer has purpose bytes = names_in has purpose (filled_lines 1 (collect_lines bytes))
+names_of_offer has purpose bytes = offer_line_names has purpose (filled_lines 1 (collect_lines bytes))
 
 -- the job and the events of an offer's bytes
 unfoldable pub parse_job : (List ℕ → Bool) → Purpose → List ℕ → Result (Job × List Event) Reason

@@ -2,9 +2,9 @@
 use Rattle.std.specs.Prelude.{◌≡◌, ℕ, ◌<◌, ◌&&◌, ◌||◌, nat_eq, All, Bool, true, false, List, [], map, is_none, slice_index_or, option_map}
 use Rattle.std.specs.Prelude.{if◌then◌else◌, Option, Some, None, Result, Ok}
 use Rattle.std.specs.List.{list_any, range_with_len}
-use Rattle.swap_base.specs.Lists.{first_of}
+use Rattle.swap_base.specs.Lists.{first_given_answer}
 use Rattle.swap_job.specs.declared.job.Job.{Job}
-use Rattle.swap_job.specs.Fitting.{IsMoveOf}
+use Rattle.swap_job.specs.Fitting.{IsPartyMove}
 use Rattle.swap_job.specs.Roles.{job_role, role_script}
 use Rattle.swap_job.specs.declared.moves.Move.{Move}
 use Rattle.swap_job.specs.declared.moves.Move.TheVariants.{Craft}
@@ -41,7 +41,8 @@ role_crafts p role = list_any (crafts p) (role_script role)
 abbrev pub is_crafter : Job → ℕ → Bool
 is_crafter job p = list_any (role_crafts p) job.roles
 
--- the parties whose seeds a purpose needs: for a run and a race those that conform or craft in a script, for making all
+-- the parties whose seeds a purpose needs: for a run and a race those that conform or craft in a
+-- script, for making all
 abbrev pub needs_seed : Purpose → Job → ℕ → Bool
 needs_seed Run job p = party_conforms job p || is_crafter job p
 needs_seed Race job p = party_conforms job p || is_crafter job p
@@ -54,7 +55,7 @@ no_seed job p = if needs_seed job.purpose job p && is_none (party_seed job p) th
 
 -- the seeds that the job's purpose needs are there
 unfoldable pub seeded : Job → Result (Unit {0}) Reason
-seeded job = unless_wrong (first_of (no_seed job) (range_with_len 0 job.deal.graph.n))
+seeded job = unless_wrong (first_given_answer (no_seed job) (range_with_len 0 job.deal.graph.n))
 
 -- the reason against a seed of party p, by the least lock for which it lacks what the deal states
 abbrev pub wrong_seed : Job → ℕ → Option (List ℕ) → Option Reason
@@ -67,17 +68,17 @@ wrong_wallet job p = if party_conforms job p then wrong_seed job p (party_seed j
 
 -- the seeds of conforming parties that are there are those of the deal
 unfoldable pub fitting : Job → Result (Unit {0}) Reason
-fitting job = unless_wrong (first_of (wrong_wallet job) (range_with_len 0 job.deal.graph.n))
+fitting job = unless_wrong (first_given_answer (wrong_wallet job) (range_with_len 0 job.deal.graph.n))
 
 -- a plain job's deal states nothing that seeds give, and a transcript tells no seed
-abbrev pub walleted_for : Purpose → Job → Result (Unit {0}) Reason
-walleted_for Make job = Ok tt
-walleted_for Audit job = Ok tt
-walleted_for _ job = fitting job
+abbrev pub fitting_wallets : Purpose → Job → Result (Unit {0}) Reason
+fitting_wallets Make job = Ok tt
+fitting_wallets Audit job = Ok tt
+fitting_wallets _ job = fitting job
 
 -- the seeds give what the deal states of them
 unfoldable pub walleted : Job → Result (Unit {0}) Reason
-walleted job = walleted_for job.purpose job
+walleted job = fitting_wallets job.purpose job
 
 -- the wallets that a purpose needs: for a run and a race those of the parties
 abbrev pub prepared_wallets : Purpose → Job → List (Option WalletState)
@@ -96,15 +97,15 @@ abbrev pub HaveWallets : Job → Type 0
 HaveWallets job = (p : ℕ) → p < job.deal.graph.n → party_conforms job p ≡ true → HasWallet job p
 
 -- for a run and a race each conforming party has its wallet
-abbrev pub HaveWalletsFor : Purpose → Job → Type 0
-HaveWalletsFor Run job = HaveWallets job
-HaveWalletsFor Race job = HaveWallets job
-HaveWalletsFor _ job = Unit {0}
+abbrev pub HaveRequiredWallets : Purpose → Job → Type 0
+HaveRequiredWallets Run job = HaveWallets job
+HaveRequiredWallets Race job = HaveWallets job
+HaveRequiredWallets _ job = Unit {0}
 
 -- a plain job has the seed of each party
-abbrev pub HaveSeedsFor : Purpose → Job → Type 0
-HaveSeedsFor Make job = HaveSeeds job
-HaveSeedsFor _ job = Unit {0}
+abbrev pub HaveRequiredSeeds : Purpose → Job → Type 0
+HaveRequiredSeeds Make job = HaveSeeds job
+HaveRequiredSeeds _ job = Unit {0}
 
 -- a transcript tells no seed, and nothing is done after its last entry
 abbrev pub IsUntoldJob : Purpose → Job → Type 0
@@ -113,14 +114,14 @@ IsUntoldJob _ job = Unit {0}
 
 -- each move of a script fits, and stands on an arc that touches its party
 abbrev pub HaveScripts : Job → Type 0
-HaveScripts job = (p : ℕ) → p < job.deal.graph.n → All (IsMoveOf job.deal job.seeds p) (role_script (job_role job p))
+HaveScripts job = (p : ℕ) → p < job.deal.graph.n → All (IsPartyMove job.deal job.seeds p) (role_script (job_role job p))
 
 -- for a run and a race, and of a plain job
-abbrev pub HaveScriptsFor : Purpose → Job → Type 0
-HaveScriptsFor Run job = HaveScripts job
-HaveScriptsFor Race job = HaveScripts job
-HaveScriptsFor Make job = HaveScripts job
-HaveScriptsFor _ job = Unit {0}
+abbrev pub HaveRequiredScripts : Purpose → Job → Type 0
+HaveRequiredScripts Run job = HaveScripts job
+HaveRequiredScripts Race job = HaveScripts job
+HaveRequiredScripts Make job = HaveScripts job
+HaveRequiredScripts _ job = Unit {0}
 
 -- in a transcript each role is simple
 abbrev pub AreSimpleRoles : Purpose → Job → Type 0

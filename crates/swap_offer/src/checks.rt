@@ -1,12 +1,12 @@
 //! The checks that make a header's deal an accepted one.
 
 ghost use Rattle.std.specs.Prelude.{◌≡◌, ◌≤◌, ◌<◌, ℕ, length, slice_index, IfOk, OnOk};
-ghost use Rattle.swap_base.specs.Lists.{first_of};
+ghost use Rattle.swap_base.specs.Lists.{first_given_answer};
 ghost use Rattle.swap_base.specs.Fault.{Gives};
 ghost use Rattle.swap_digraph.specs.Graph.{HasEnds, IsStronglyConnected, IsFeedback, IsHeight, arcs};
-ghost use Rattle.leader_check.specs.Levels.{latest_height};
-ghost use Rattle.leader_check.specs.Distance.{dist_of};
-ghost use Rattle.offer_header.specs.Header.{IsHeaderWithin};
+ghost use Rattle.leader_check.specs.Levels.{greatest_level};
+ghost use Rattle.leader_check.specs.Distance.{leader_distance};
+ghost use Rattle.offer_header.specs.Header.{IsHeaderInLimits};
 ghost use Rattle.offer_header.specs.Raw.{is_plain};
 ghost use Rattle.swap_offer.specs.Checks.{arc_reason, build_graph, connected, one_leader, led, least_bound, bounded, started, wrong_timelock, timed};
 ghost use Rattle.swap_offer.specs.Checks.{timed_unless, checked};
@@ -33,7 +33,7 @@ fn arc_reason(fault: ArcFault) -> Reason
 /// The digraph of the header's arcs, or the first fault of the least arc that has one.
 #[tactic(auto, using(crate::proofs::Few::few_names, crate::proofs::Few::few_arcs), unfolding(crate::specs::Checks::build_graph))]
 pub(crate) fn header_graph(alloc: Global, header: &Header) -> Result<Digraph, OfferFault>
-    requires { IsHeaderWithin header.now }
+    requires { IsHeaderInLimits header.now }
     ensures exact { Gives (λ g. g) result (build_graph header.now) }
     ensures parts { IfOk result (λ g. (g.n ≡ length header.now.names) × (g.arcs ≡ header.now.arcs)) }
     ensures ends { IfOk result (λ g. HasEnds g) }
@@ -85,7 +85,7 @@ fn check_leaders(alloc: Global, graph: &Digraph, leaders: &[PartyId]) -> Result<
     ensures exact { Gives (λ _. tt) result (led graph.now leaders.now) }
     ensures feedback { OnOk result (IsFeedback graph.now leaders.now) }
     ensures height { IfOk result (λ l. IsHeight graph.now leaders.now l.h) }
-    ensures greatest { IfOk result (λ l. l.h ≡ latest_height graph.now leaders.now) }
+    ensures greatest { IfOk result (λ l. l.h ≡ greatest_level graph.now leaders.now) }
 {
     match levels(alloc, graph, leaders)? {
         LeaderAnswer::Levels(levels) => Ok(levels),
@@ -122,13 +122,13 @@ fn wrong_timelock(
     dists: &[u32],
     arc: ArcId,
 ) -> Option<Reason>
-    requires within { IsHeaderWithin header.now }
+    requires within { IsHeaderInLimits header.now }
     requires parts { graph.now.arcs ≡ header.now.arcs }
     requires ends { HasEnds graph.now }
     requires arc { arc < length graph.now.arcs }
     requires parties { length dists.now ≡ graph.now.n }
     requires low { (v : ℕ) → v < graph.now.n → slice_index dists.now v ≤ 1000000 }
-    requires dists { (v : ℕ) → v < graph.now.n → slice_index dists.now v ≡ dist_of graph.now leader v }
+    requires dists { (v : ℕ) → v < graph.now.n → slice_index dists.now v ≡ leader_distance graph.now leader v }
     ensures { result ≡ wrong_timelock header.now graph.now leader arc }
 {
     let given = header.timelocks.as_slice()[arc as usize] as u64;
@@ -149,13 +149,13 @@ fn first_wrong_timelock(
     leader: PartyId,
     dists: &[u32],
 ) -> Option<Reason>
-    requires within { IsHeaderWithin header.now }
+    requires within { IsHeaderInLimits header.now }
     requires parts { graph.now.arcs ≡ header.now.arcs }
     requires ends { HasEnds graph.now }
     requires parties { length dists.now ≡ graph.now.n }
     requires low { (v : ℕ) → v < graph.now.n → slice_index dists.now v ≤ 1000000 }
-    requires dists { (v : ℕ) → v < graph.now.n → slice_index dists.now v ≡ dist_of graph.now leader v }
-    ensures { result ≡ first_of (wrong_timelock header.now graph.now leader) (arcs graph.now) }
+    requires dists { (v : ℕ) → v < graph.now.n → slice_index dists.now v ≡ leader_distance graph.now leader v }
+    ensures { result ≡ first_given_answer (wrong_timelock header.now graph.now leader) (arcs graph.now) }
 {
     for arc in 0..graph.arcs().len() as ArcId {
         let reason = wrong_timelock(header, graph, leader, dists, arc);
@@ -173,7 +173,7 @@ fn check_timelocks(
     graph: &Digraph,
     levels: &Levels,
 ) -> Result<(), OfferFault>
-    requires within { IsHeaderWithin header.now }
+    requires within { IsHeaderInLimits header.now }
     requires parts { graph.now.arcs ≡ header.now.arcs }
     requires parties { graph.now.n ≡ length header.now.names }
     requires ends { HasEnds graph.now }
@@ -201,7 +201,7 @@ fn check_times(
     graph: &Digraph,
     levels: &Levels,
 ) -> Result<(), OfferFault>
-    requires within { IsHeaderWithin header.now }
+    requires within { IsHeaderInLimits header.now }
     requires parts { graph.now.arcs ≡ header.now.arcs }
     requires parties { graph.now.n ≡ length header.now.names }
     requires ends { HasEnds graph.now }
@@ -224,7 +224,7 @@ pub(crate) fn check_header(
     header: &Header,
     graph: &Digraph,
 ) -> Result<u32, OfferFault>
-    requires within { IsHeaderWithin header.now }
+    requires within { IsHeaderInLimits header.now }
     requires parts { graph.now.arcs ≡ header.now.arcs }
     requires parties { graph.now.n ≡ length header.now.names }
     requires ends { HasEnds graph.now }

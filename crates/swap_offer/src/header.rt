@@ -6,14 +6,14 @@ ghost use Rattle.swap_digraph.specs.Deal.{IsWellSized};
 ghost use Rattle.swap_digraph.specs.Graph.{HasEnds};
 ghost use Rattle.refusals.specs.Refusal.{named};
 ghost use Rattle.offer_header.specs.declared.header.Header.{Header};
-ghost use Rattle.offer_header.specs.Header.{parse_whole_header, AreSimpleFor, IsUntoldFor, IsHeaderWithin};
+ghost use Rattle.offer_header.specs.Header.{parse_whole_header, HasSimpleRoles, IsUntoldHeader, IsHeaderInLimits};
 ghost use Rattle.offer_header.specs.Limits.{HoldsEach};
 ghost use Rattle.offer_header.specs.Names.{has_strategy, AreNames};
 ghost use Rattle.offer_header.specs.Scripts.{scripts_placed, AreMade};
-ghost use Rattle.swap_offer.specs.Checks.{admitted, header_deal, assemble_job, least_bound, deal_need, unnamed, IsAcceptedFor};
+ghost use Rattle.swap_offer.specs.Checks.{admitted, header_deal, assemble_job, least_bound, deal_need, unnamed, IsAcceptedOrProposed};
 ghost use Rattle.swap_offer.specs.Certificates.{Certifies};
-ghost use Rattle.swap_offer.specs.Wallets.{seeded, AreSimpleRoles, HaveScriptsFor, HaveSeedsFor, HaveWalletsFor, IsUntoldJob, prepared_wallets};
-ghost use Rattle.swap_offer.specs.Job.{accepted_entries, job_header_of, names_at, provided, IsWholeJob};
+ghost use Rattle.swap_offer.specs.Wallets.{seeded, AreSimpleRoles, HaveRequiredScripts, HaveRequiredSeeds, HaveRequiredWallets, IsUntoldJob, prepared_wallets};
+ghost use Rattle.swap_offer.specs.Job.{accepted_entries, parse_header_job, header_names, provided, IsWholeJob};
 
 use crate::checks::{check_header, header_graph};
 use crate::prepared::Prepared;
@@ -61,11 +61,11 @@ pub fn assemble_job(header: Header, graph: Digraph) -> Job
 /// The digraph of a header whose digraph, leaders and times pass their checks, and the least bound.
 #[tactic(auto, unfolding(crate::specs::Checks::admitted))]
 pub fn admit(alloc: Global, header: &Header) -> Result<(Digraph, u32), OfferFault>
-    requires { IsHeaderWithin header.now }
+    requires { IsHeaderInLimits header.now }
     ensures exact { Gives (λ a. a.0) result (admitted header.now) }
     ensures parts { IfOk result (λ a. (a.0.n ≡ length header.now.names) × (a.0.arcs ≡ header.now.arcs)) }
     ensures ends { IfOk result (λ a. HasEnds a.0) }
-    ensures accepted { IfOk result (λ a. IsAcceptedFor header.now.purpose (header_deal header.now a.0)) }
+    ensures accepted { IfOk result (λ a. IsAcceptedOrProposed header.now.purpose (header_deal header.now a.0)) }
     ensures need { IfOk result (λ a. a.1 ≡ least_bound a.0 header.now.leaders) }
 {
     let graph = header_graph(alloc, header)?;
@@ -79,20 +79,21 @@ fn provide(alloc: Global, job: &Job) -> Result<Vec<Option<Wallet>>, OfferFault>
     requires whole { IsWholeJob job.now }
     ensures exact { Gives (λ _. tt) result (provided job.now) }
     ensures seeded { OnOk result (seeded job.now ≡ Ok tt) }
-    ensures wallets { OnOk result (HaveWalletsFor job.now.purpose job.now) }
-    ensures seeds { OnOk result (HaveSeedsFor job.now.purpose job.now) }
+    ensures wallets { OnOk result (HaveRequiredWallets job.now.purpose job.now) }
+    ensures seeds { OnOk result (HaveRequiredSeeds job.now.purpose job.now) }
     ensures made { IfOk result (λ v. v.items ≡ prepared_wallets job.now.purpose job.now) }
 {
     check_seeds(job)?;
     prepared_wallets(alloc, job)
 }
 
-/// The job of a header within its limits, with its wallets. A reason against it takes the header's names.
+/// The job of a header within its limits, with its wallets. A reason against it takes the header's
+/// names.
 #[tactic(auto, using(crate::proofs::Size::is_whole, crate::proofs::Size::is_sized, refusals::proofs::Named::fails), unfolding(crate::specs::Job::accepted_entries))]
 fn accept(alloc: Global, line: u32, header: Header) -> Result<Prepared, HeaderFault>
-    requires within { IsHeaderWithin header }
-    requires untold { IsUntoldFor header.purpose header }
-    requires simple { AreSimpleFor header.purpose header }
+    requires within { IsHeaderInLimits header }
+    requires untold { IsUntoldHeader header.purpose header }
+    requires simple { HasSimpleRoles header.purpose header }
     requires placed { scripts_placed line header ≡ Ok tt }
     requires made { AreMade line header }
     ensures exact { Gives (λ p. p.job) result (named header.names (accepted_entries header)) }
@@ -100,12 +101,12 @@ fn accept(alloc: Global, line: u32, header: Header) -> Result<Prepared, HeaderFa
     ensures known { IfOk result (λ p. AreNames p.job.names) }
     ensures purpose { IfOk result (λ p. p.job.purpose ≡ header.purpose) }
     ensures whole { IfOk result (λ p. IsWholeJob p.job) }
-    ensures accepted { IfOk result (λ p. IsAcceptedFor header.purpose p.job.deal) }
-    ensures wallets { IfOk result (λ p. HaveWalletsFor header.purpose p.job) }
-    ensures seeds { IfOk result (λ p. HaveSeedsFor header.purpose p.job) }
+    ensures accepted { IfOk result (λ p. IsAcceptedOrProposed header.purpose p.job.deal) }
+    ensures wallets { IfOk result (λ p. HaveRequiredWallets header.purpose p.job) }
+    ensures seeds { IfOk result (λ p. HaveRequiredSeeds header.purpose p.job) }
     ensures roles { IfOk result (λ p. AreSimpleRoles header.purpose p.job) }
     ensures acting { IfOk result (λ p. p.job.roles ≡ header.roles) }
-    ensures scripts { IfOk result (λ p. HaveScriptsFor header.purpose p.job) }
+    ensures scripts { IfOk result (λ p. HaveRequiredScripts header.purpose p.job) }
     ensures untold { IfOk result (λ p. IsUntoldJob header.purpose p.job) }
     ensures made { IfOk result (λ p. p.wallets.items ≡ prepared_wallets header.purpose p.job) }
     ensures need { IfOk result (λ p. p.need ≡ deal_need p.job.deal) }
@@ -121,13 +122,14 @@ fn accept(alloc: Global, line: u32, header: Header) -> Result<Prepared, HeaderFa
     }
 }
 
-/// The job of a header line with the wallets that its purpose needs, or the first reason against it with the names in the header. Lines are counted from 1.
+/// The job of a header line with the wallets that its purpose needs, or the first reason against it
+/// with the names in the header. Lines are counted from 1.
 ///
-/// For a run and a race there is one place per party: the wallet of a party that conforms and has a seed. For
-/// any other purpose there is none: for a check each wallet is let go once it was examined, and a plain job and
-/// a transcript have nothing to examine. A role names one of the strategies. A reason against a later line takes
-/// the names of the job.
-#[tactic(auto, using(refusals::proofs::Named::fails), unfolding(crate::specs::Job::job_header_of, crate::specs::Job::names_at))]
+/// For a run and a race there is one place per party: the wallet of a party that conforms and has a
+/// seed. For any other purpose there is none: for a check each wallet is let go once it was
+/// examined, and a plain job and a transcript have nothing to examine. A role names one of the
+/// strategies. A reason against a later line takes the names of the job.
+#[tactic(auto, using(refusals::proofs::Named::fails), unfolding(crate::specs::Job::parse_header_job, crate::specs::Job::header_names))]
 pub fn read_header(
     alloc: Global,
     line: u32,
@@ -135,18 +137,18 @@ pub fn read_header(
     purpose: Purpose,
     strategies: &[ByteText],
 ) -> Result<Prepared, HeaderFault>
-    ensures exact { Gives (λ p. p.job) result (named (names_at (has_strategy strategies.now) purpose line text.now)
-        (job_header_of (has_strategy strategies.now) purpose line text.now)) }
-    ensures names { IfOk result (λ p. p.job.names ≡ names_at (has_strategy strategies.now) purpose line text.now) }
+    ensures exact { Gives (λ p. p.job) result (named (header_names (has_strategy strategies.now) purpose line text.now)
+        (parse_header_job (has_strategy strategies.now) purpose line text.now)) }
+    ensures names { IfOk result (λ p. p.job.names ≡ header_names (has_strategy strategies.now) purpose line text.now) }
     ensures known { IfOk result (λ p. AreNames p.job.names) }
     ensures purpose { IfOk result (λ p. p.job.purpose ≡ purpose) }
     ensures whole { IfOk result (λ p. IsWholeJob p.job) }
-    ensures accepted { IfOk result (λ p. IsAcceptedFor purpose p.job.deal) }
-    ensures wallets { IfOk result (λ p. HaveWalletsFor purpose p.job) }
-    ensures seeds { IfOk result (λ p. HaveSeedsFor purpose p.job) }
+    ensures accepted { IfOk result (λ p. IsAcceptedOrProposed purpose p.job.deal) }
+    ensures wallets { IfOk result (λ p. HaveRequiredWallets purpose p.job) }
+    ensures seeds { IfOk result (λ p. HaveRequiredSeeds purpose p.job) }
     ensures roles { IfOk result (λ p. AreSimpleRoles purpose p.job) }
     ensures strategies { IfOk result (λ p. HoldsEach (has_strategy strategies.now) p.job.roles) }
-    ensures scripts { IfOk result (λ p. HaveScriptsFor purpose p.job) }
+    ensures scripts { IfOk result (λ p. HaveRequiredScripts purpose p.job) }
     ensures untold { IfOk result (λ p. IsUntoldJob purpose p.job) }
     ensures made { IfOk result (λ p. p.wallets.items ≡ prepared_wallets purpose p.job) }
     ensures need { IfOk result (λ p. p.need ≡ deal_need p.job.deal) }

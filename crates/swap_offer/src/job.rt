@@ -8,9 +8,9 @@ ghost use Rattle.refusals.specs.Refusal.{named};
 ghost use Rattle.offer_header.specs.Limits.{HoldsEach};
 ghost use Rattle.offer_header.specs.Names.{AreNames, has_strategy};
 ghost use Rattle.offer_header.specs.Raw.{is_plain};
-ghost use Rattle.swap_offer.specs.Checks.{IsAcceptedFor};
-ghost use Rattle.swap_offer.specs.Job.{limited_event, counted, parse_events, parse_job_events, job_of_lines, parse_job, names_at, names_in, names_of_offer, IsWholeJob};
-ghost use Rattle.swap_offer.specs.Wallets.{AreSimpleRoles, HaveScriptsFor, HaveSeedsFor, HaveWalletsFor, IsUntoldJob};
+ghost use Rattle.swap_offer.specs.Checks.{IsAcceptedOrProposed};
+ghost use Rattle.swap_offer.specs.Job.{limited_event, counted, parse_events, parse_job_events, job_of_lines, parse_job, header_names, offer_line_names, names_of_offer, IsWholeJob};
+ghost use Rattle.swap_offer.specs.Wallets.{AreSimpleRoles, HaveRequiredScripts, HaveRequiredSeeds, HaveRequiredWallets, IsUntoldJob};
 
 use crate::header::read_header;
 use crate::prepared::Prepared;
@@ -83,7 +83,8 @@ fn count_events(alloc: Global, lines: &[(u32, &[u8])]) -> Result<u32, OfferFault
     Ok(count)
 }
 
-/// The events of the further lines of a job; those of a plain job are counted, and no event is read.
+/// The events of the further lines of a job; those of a plain job are counted, and no event is
+/// read.
 fn read_further(
     alloc: Global,
     purpose: Purpose,
@@ -114,17 +115,17 @@ fn read_source(
     further: &[(u32, &[u8])],
 ) -> Result<(Job, Vec<Event>), HeaderFault>
     requires few { length further.now < 2 ^ 31 }
-    ensures exact { Gives (λ j. (j.0, j.1.items)) result (named (names_at (has_strategy strategies.now) purpose line text.now)
+    ensures exact { Gives (λ j. (j.0, j.1.items)) result (named (header_names (has_strategy strategies.now) purpose line text.now)
         (job_of_lines (has_strategy strategies.now) purpose ((line, text.now) ∷ map (λ l. (l.0, l.1.now)) further.now))) }
     ensures whole { IfOk result (λ j. IsWholeJob j.0) }
-    ensures accepted { IfOk result (λ j. IsAcceptedFor purpose j.0.deal) }
+    ensures accepted { IfOk result (λ j. IsAcceptedOrProposed purpose j.0.deal) }
     ensures known { IfOk result (λ j. AreNames j.0.names) }
     ensures purpose { IfOk result (λ j. j.0.purpose ≡ purpose) }
-    ensures wallets { IfOk result (λ j. HaveWalletsFor purpose j.0) }
-    ensures seeds { IfOk result (λ j. HaveSeedsFor purpose j.0) }
+    ensures wallets { IfOk result (λ j. HaveRequiredWallets purpose j.0) }
+    ensures seeds { IfOk result (λ j. HaveRequiredSeeds purpose j.0) }
     ensures roles { IfOk result (λ j. AreSimpleRoles purpose j.0) }
     ensures strategies { IfOk result (λ j. HoldsEach (has_strategy strategies.now) j.0.roles) }
-    ensures scripts { IfOk result (λ j. HaveScriptsFor purpose j.0) }
+    ensures scripts { IfOk result (λ j. HaveRequiredScripts purpose j.0) }
     ensures untold { IfOk result (λ j. IsUntoldJob purpose j.0) }
     ensures fit { IfOk result (λ j. needs_seeds purpose ≡ true → All (IsJobEvent j.0) j.1.items) }
 {
@@ -143,17 +144,17 @@ fn read_lines(
 ) -> Result<(Job, Vec<Event>), HeaderFault>
     requires few { length lines.now < 2 ^ 31 }
     ensures exact { Gives (λ j. (j.0, j.1.items)) result (named
-        (names_in (has_strategy strategies.now) purpose (map (λ l. (l.0, l.1.now)) lines.now))
+        (offer_line_names (has_strategy strategies.now) purpose (map (λ l. (l.0, l.1.now)) lines.now))
         (job_of_lines (has_strategy strategies.now) purpose (map (λ l. (l.0, l.1.now)) lines.now))) }
     ensures whole { IfOk result (λ j. IsWholeJob j.0) }
-    ensures accepted { IfOk result (λ j. IsAcceptedFor purpose j.0.deal) }
+    ensures accepted { IfOk result (λ j. IsAcceptedOrProposed purpose j.0.deal) }
     ensures known { IfOk result (λ j. AreNames j.0.names) }
     ensures purpose { IfOk result (λ j. j.0.purpose ≡ purpose) }
-    ensures wallets { IfOk result (λ j. HaveWalletsFor purpose j.0) }
-    ensures seeds { IfOk result (λ j. HaveSeedsFor purpose j.0) }
+    ensures wallets { IfOk result (λ j. HaveRequiredWallets purpose j.0) }
+    ensures seeds { IfOk result (λ j. HaveRequiredSeeds purpose j.0) }
     ensures roles { IfOk result (λ j. AreSimpleRoles purpose j.0) }
     ensures strategies { IfOk result (λ j. HoldsEach (has_strategy strategies.now) j.0.roles) }
-    ensures scripts { IfOk result (λ j. HaveScriptsFor purpose j.0) }
+    ensures scripts { IfOk result (λ j. HaveRequiredScripts purpose j.0) }
     ensures untold { IfOk result (λ j. IsUntoldJob purpose j.0) }
     ensures fit { IfOk result (λ j. needs_seeds purpose ≡ true → All (IsJobEvent j.0) j.1.items) }
 {
@@ -178,14 +179,14 @@ pub fn read_job(
     ensures exact { Gives (λ j. (j.0, j.1.items)) result (named (names_of_offer (has_strategy strategies.now) purpose bytes.now)
         (parse_job (has_strategy strategies.now) purpose bytes.now)) }
     ensures whole { IfOk result (λ j. IsWholeJob j.0) }
-    ensures accepted { IfOk result (λ j. IsAcceptedFor purpose j.0.deal) }
+    ensures accepted { IfOk result (λ j. IsAcceptedOrProposed purpose j.0.deal) }
     ensures known { IfOk result (λ j. AreNames j.0.names) }
     ensures purpose { IfOk result (λ j. j.0.purpose ≡ purpose) }
-    ensures wallets { IfOk result (λ j. HaveWalletsFor purpose j.0) }
-    ensures seeds { IfOk result (λ j. HaveSeedsFor purpose j.0) }
+    ensures wallets { IfOk result (λ j. HaveRequiredWallets purpose j.0) }
+    ensures seeds { IfOk result (λ j. HaveRequiredSeeds purpose j.0) }
     ensures roles { IfOk result (λ j. AreSimpleRoles purpose j.0) }
     ensures strategies { IfOk result (λ j. HoldsEach (has_strategy strategies.now) j.0.roles) }
-    ensures scripts { IfOk result (λ j. HaveScriptsFor purpose j.0) }
+    ensures scripts { IfOk result (λ j. HaveRequiredScripts purpose j.0) }
     ensures untold { IfOk result (λ j. IsUntoldJob purpose j.0) }
     ensures fit { IfOk result (λ j. needs_seeds purpose ≡ true → All (IsJobEvent j.0) j.1.items) }
 {

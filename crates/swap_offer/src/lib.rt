@@ -1,6 +1,7 @@
 //! Reads an offer: its header as an accepted deal, and its events.
 //!
-//! Read `specs/Job.antt` first: `parse_job` says what the bytes of an offer are, or the first reason against them.
+//! Read `specs/Job.antt` first: `parse_job` says what the bytes of an offer are, or the first
+//! reason against them.
 #![tactic(auto)]
 
 mod checks;

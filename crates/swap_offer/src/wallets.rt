@@ -2,7 +2,7 @@
 
 ghost use Rattle.std.specs.Prelude.{◌≡◌, ◌<◌, IfOk, nat_eq, option_map};
 ghost use Rattle.std.specs.List.{list_any, range_with_len};
-ghost use Rattle.swap_base.specs.Lists.{first_of};
+ghost use Rattle.swap_base.specs.Lists.{first_given_answer};
 ghost use Rattle.swap_base.specs.Fault.{Gives};
 ghost use Rattle.swap_digraph.specs.Deal.{IsWellSized};
 ghost use Rattle.refusals.specs.declared.reason.Reason.TheVariants.{WrongWallet};
@@ -100,7 +100,7 @@ fn no_seed(job: &Job, p: PartyId) -> Option<Reason>
 /// The reason against the first party whose seed is needed and isn't there.
 fn first_without_seed(job: &Job) -> Option<Reason>
     requires whole { IsWholeJob job.now }
-    ensures { result ≡ first_of (no_seed job.now) (range_with_len 0 job.now.deal.graph.n) }
+    ensures { result ≡ first_given_answer (no_seed job.now) (range_with_len 0 job.now.deal.graph.n) }
 {
     for p in 0..job.deal.graph.n() {
         let reason = no_seed(job, p);

@@ -6,7 +6,7 @@ use Rattle.swap_job.specs.declared.job.Purpose.TheVariants.{Audit}
 use Rattle.refusals.specs.declared.refusal.Refusal.{Refusal}
 use Rattle.refusals.specs.Refusal.{named}
 use Rattle.offer_header.specs.Names.{no_strategy}
-use Rattle.swap_offer.specs.Job.{job_header_of, names_at}
+use Rattle.swap_offer.specs.Job.{parse_header_job, header_names}
 use Rattle.party_answer.specs.declared.given.Answer.{Answer}
 use Rattle.party_answer.specs.declared.reason.AnswerReason.{AnswerReason}
 use Rattle.party_answer.specs.Promised.{IsAnswer}
@@ -16,8 +16,8 @@ use Rattle.party_main.specs.declared.reason.PartyReason.TheVariants.{Header, Dea
 use Rattle.party_main.specs.Reasons.{reason_line}
 use Rattle.swap_party.specs.declared.said.Said.{Said}
 
--- A text is put at the buffer's beginning where there is room for all of it, with that status. Else the status is 1 and the buffer stays as it was.
--- Either way the length is the text's.
+-- A text is put at the buffer's beginning where there is room for all of it, with that status. Else
+-- the status is 1 and the buffer stays as it was. Either way the length is the text's.
 pub record IsSaid (status : ℕ) (text old new : List ℕ) (said : Said) : Type 0 where
   pub size : said.length ≡ length text
   pub fits : length text ≤ length old → (said.status ≡ status) × (new ≡ text ++ drop (length text) old)
@@ -55,8 +55,8 @@ abbrev pub answer_status : Bool → ℕ
 answer_status true = 2
 answer_status false = 0
 
--- status 0, or 2 where it warns, with the answer, which is promised; or 3 with the line of the first
--- reason against the text
+-- status 0, or 2 where it warns, with the answer, which is promised; or 3 with the line of the
+-- first reason against the text
 abbrev pub IsAnswerSaid : Asked → Result Answer AnswerReason → List ℕ → List ℕ → Said → Type 0
 IsAnswerSaid q (Ok answer) old new said = IsAnswer 2 q.name q.seed q.text answer × IsSaid (answer_status answer.warns) answer.text old new said
 IsAnswerSaid q (Err reason) old new said = IsSaid 3 (reason_line (Next reason)) old new said
@@ -65,9 +65,10 @@ IsAnswerSaid q (Err reason) old new said = IsSaid 3 (reason_line (Next reason)) 
 
 -- the job of a header line as a transcript has it, or the first reason against it
 unfoldable pub header_said : List ℕ → Result Job Refusal
-header_said line = named (names_at no_strategy Audit 1 line) (job_header_of no_strategy Audit 1 line)
+header_said line = named (header_names no_strategy Audit 1 line) (parse_header_job no_strategy Audit 1 line)
 
--- status 0 with the id of its deal, which is an accepted one, or 3 with the line of the first reason against it
+-- status 0 with the id of its deal, which is an accepted one, or 3 with the line of the first
+-- reason against it
 abbrev pub IsCheckSaid : Result Job Refusal → List ℕ → List ℕ → Said → Type 0
 IsCheckSaid (Ok job) old new said = IsAccepted job.deal × IsSaid 0 job.deal.id old new said
 IsCheckSaid (Err refusal) old new said = IsSaid 3 (reason_line (Header refusal)) old new said

@@ -24,7 +24,8 @@ fn read_job(alloc: Global, line: &[u8]) -> Result<Job, HeaderFault>
     Ok(prepared.job)
 }
 
-/// Reads an offer's header, as a transcript has it, and answers its deal's id, which is 32 bytes, or the first reason against it.
+/// Reads an offer's header, as a transcript has it, and answers its deal's id, which is 32 bytes,
+/// or the first reason against it.
 #[unsafe(no_mangle)]
 pub extern "C" fn swap_party_check(alloc: Global, header: &[u8], out: &mut [u8]) -> Said
     ensures long { short_limit < length header.now → IsNothing 7 out.old out.new result }

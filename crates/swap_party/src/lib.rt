@@ -1,8 +1,8 @@
 //! The party's own wallet for programs in C, and for whatever calls C: bytes in, bytes and a number
 //! out. Nothing is kept between calls.
 //!
-//! Each call puts a text into the caller's buffer, whole or not at all, and answers a status with the
-//! text's length. What C sees stands in `swap_party.h`.
+//! Each call puts a text into the caller's buffer, whole or not at all, and answers a status with
+//! the text's length. What C sees stands in `swap_party.h`.
 //!
 //! Read `specs/Said.antt` first: what the calls say.
 #![tactic(auto)]

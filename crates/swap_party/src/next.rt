@@ -18,8 +18,8 @@ fn answer_status(warns: bool) -> u32
     if warns { WARNED } else { DONE }
 }
 
-/// Answers all that is due for the party of that name with that seed, as `party next` does: what its
-/// wallet wrote down and a transcript of each ledger as far as it is known go in, without the
+/// Answers all that is due for the party of that name with that seed, as `party next` does: what
+/// its wallet wrote down and a transcript of each ledger as far as it is known go in, without the
 /// program's line of the seed. Lines are counted as the program counts them, from that line.
 #[unsafe(no_mangle)]
 pub extern "C" fn swap_party_next(

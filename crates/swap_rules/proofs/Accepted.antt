@@ -3,7 +3,7 @@ use Rattle.std.proofs.Common.{◌≡◌, ℕ, suc, zero, ◌+◌, ◌*◌, ◌<�
 use Rattle.std.proofs.Common.{subst, inl, inr, arith, eq-eqb, mul-le-mul_right}
 use Rattle.std.proofs.lemmas.Bool.{false≢true}
 use Rattle.std.proofs.lemmas.List.{get_or_default}
-use Rattle.swap_base.specs.Lists.{IsIn}
+use Rattle.swap_base.specs.Lists.{IsElement}
 use Rattle.swap_base.proofs.Lists.{list_any-in, and_both}
 use Rattle.swap_digraph.specs.Value.{Graph}
 use Rattle.swap_digraph.specs.declared.deal.Deal.{Deal}
@@ -19,7 +19,7 @@ use Rattle.swap_rules.proofs.Graph.{dist_falls}
 use Rattle.swap_rules.specs.Laws.{AcceptedIsWellSized}
 use Rattle.time_bounds.specs.Times as times
 
-pub get_in : {A : Type 0} (xs : List A) (i : ℕ) (z : A) → i < length xs → IsIn (get_or xs i z) xs
+pub get_in : {A : Type 0} (xs : List A) (i : ℕ) (z : A) → i < length xs → IsElement (get_or xs i z) xs
 get_in [] i z l = absurd (omega arith)
 get_in (x ∷ xs) zero z l = inl refl
 get_in (x ∷ xs) (suc i) z l = inr (get_in xs i z (omega arith))
@@ -29,7 +29,7 @@ arc_has g c u v l e f =
     list_any-in (λ a. (a.from == u) && (a.to == v)) g.arcs (ends g c)
     (and_both ((ends g c).from == u) ((ends g c).to == v) (eq-eqb _ _ e) (eq-eqb _ _ f)) (get_in g.arcs c (record { from = 0; to = 0 }) l)
 
-leader_in : (d : Deal) (i : ℕ) → i < length d.leaders → IsIn (lock_leader d i) d.leaders
+leader_in : (d : Deal) (i : ℕ) → i < length d.leaders → IsElement (lock_leader d i) d.leaders
 leader_in d i l = get_in d.leaders i 0 l
 
 pub bounded_path : (d : Deal) → IsAccepted d → (p : List ℕ) (i : ℕ) → i < length d.leaders → is_path d.graph p ≡ true → last_is (lock_leader d i) p ≡ true

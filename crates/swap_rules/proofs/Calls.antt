@@ -3,7 +3,7 @@ use Rattle.std.proofs.Common.{◌≡◌, ℕ, ◌+◌, ◌<◌, ◌≤◌, ◌==
 use Rattle.std.proofs.Common.{is_some, refl, sym, ap, ◌∙◌, eqb-true, lt-ltb, leb-true}
 use Rattle.std.specs.List.{flat_map}
 use Rattle.std.proofs.lemmas.Option.{same_Some}
-use Rattle.swap_base.specs.Lists.{IsIn, moments, IsMoment}
+use Rattle.swap_base.specs.Lists.{IsElement, moments, IsMoment}
 use Rattle.swap_base.proofs.Lists.{at_moment, all_from_list_all, any_at, and_parts, moment_from_in, from_whole}
 use Rattle.swap_digraph.specs.declared.deal.Deal.{Deal}
 use Rattle.swap_digraph.specs.Graph.{leaving}
@@ -20,7 +20,7 @@ use Rattle.swap_rules.specs.declared.finding.Rule.TheVariants.{Publish as ToPubl
 use Rattle.swap_rules.specs.Party.{is_arc_correct, is_correct, is_ready, leads_one, pick_call, first_key}
 use Rattle.swap_rules.specs.Conduct.{is_first_key, keeps, keeps_entry, IsConducted}
 use Rattle.swap_rules.specs.Due.{is_claiming}
-use Rattle.swap_rules.specs.Late.{ref_of, counts, is_done, late_at, is_late}
+use Rattle.swap_rules.specs.Late.{reference_height, counts, is_done, is_past_due, is_late}
 use Rattle.swap_rules.proofs.Words.{and_three, and_five, same_terms-true, leaves, pick_call-act}
 use Rattle.ledger_core.proofs.History.{published_done, of_publish, published-past}
 
@@ -41,7 +41,7 @@ module _ (d : Deal) (b : Histories) (v : ℕ) (conducted : IsConducted d b v) wh
       pub may : (leads_one d v || is_ready d b v) ≡ true
 
     -- what v published on an arc that leaves it is correct, and v led or was ready
-    pub own_publish : (a : ℕ) (p : Publication) → IsIn a (leaving d.graph v) → published (history b a) ≡ Some p → OwnPublish a p.terms
+    pub own_publish : (a : ℕ) (p : Publication) → IsElement a (leaving d.graph v) → published (history b a) ≡ Some p → OwnPublish a p.terms
     unfolding keeps
     own_publish a p i e =
         let l = leaves d v a i in
@@ -56,7 +56,7 @@ module _ (d : Deal) (b : Histories) (v : ℕ) (conducted : IsConducted d b v) wh
     or-left_false false y h k = k
 
     -- an unlock call of v anywhere shows that v is ready
-    pub unlock_ready : (e : Entry) (key : Hashkey) → IsIn e (flat_map (λ h. h) b) → pick_call v e ≡ Some (Unlock key) → is_ready d b v ≡ true
+    pub unlock_ready : (e : Entry) (key : Hashkey) → IsElement e (flat_map (λ h. h) b) → pick_call v e ≡ Some (Unlock key) → is_ready d b v ≡ true
     unfolding keeps
     unlock_ready e key i k =
         let w = from_whole b e i in
@@ -86,12 +86,13 @@ module _ (d : Deal) (b : Histories) (v : ℕ) (conducted : IsConducted d b v) wh
     late_parts true false e h = absurd (cc e)
     late_parts false false e h = absurd (cc h)
 
-    -- an enabled action whose due height the ledger has passed, and which isn't late, was done in time
-    pub done_in_time : (rule : Rule) (a : ℕ) → is_late d b v rule a ≡ false → (r : ℕ) → ref_of d b v rule a ≡ Some r
+    -- an enabled action whose due height the ledger has passed, and which isn't late, was done in
+    -- time
+    pub done_in_time : (rule : Rule) (a : ℕ) → is_late d b v rule a ≡ false → (r : ℕ) → reference_height d b v rule a ≡ Some r
         → r + d.delta < height (history b a) → DoneInTime a rule (r + d.delta)
     done_in_time rule a on_time r enabled passed =
         let e : (nat_lt (r + d.delta) (height (history b a)) && not (is_done d b v rule a (r + d.delta))) ≡ false =
-        ap (late_at d b v rule a) (sym enabled) ∙ on_time in
+        ap (is_past_due d b v rule a) (sym enabled) ∙ on_time in
         let k : is_done d b v rule a (r + d.delta) ≡ true = late_parts (nat_lt (r + d.delta) (height (history b a))) _ e (lt-ltb _ _ passed) in
         let f = any_at (λ e. counts d b v rule a e.height (pick_call v e) && nat_le e.height (r + d.delta)) (history b a) k in
         let parts = and_parts (counts d b v rule a f.now.height (pick_call v f.now)) (nat_le f.now.height (r + d.delta)) f.passes in

@@ -7,8 +7,8 @@ use Rattle.std.proofs.lemmas.Bool.{false≢true}
 use Rattle.std.proofs.lemmas.Option.{same_Some}
 use Rattle.std.proofs.lemmas.List.{get_or-set_same, get_or-set_other, length-set}
 use Rattle.std.proofs.lemmas.List.Sums.{sum_by-append, sum_by-cons}
-use Rattle.swap_base.specs.Lists.{first_of, IsIn, Moment, moments, IsMoment, moments_after}
-use Rattle.swap_base.proofs.Lists.{first_at, first_of-in, all_moments_push, list_all-from, list_any-at, and_both, in_from_moment}
+use Rattle.swap_base.specs.Lists.{first_given_answer, IsElement, Moment, moments, IsMoment, moments_after_past}
+use Rattle.swap_base.proofs.Lists.{first_at, first_given_answer-in, all_moments_push, list_all-from, list_any-at, and_both, in_from_moment}
 use Rattle.swap_base.proofs.Lists.{moment_from_in, in_whole, from_whole}
 use Rattle.swap_digraph.specs.declared.deal.Deal.{Deal}
 use Rattle.swap_digraph.specs.Deal.{lock_hashlock, touches}
@@ -22,12 +22,12 @@ use Rattle.ledger_core.specs.declared.entry.Sender.TheVariants.{Party}
 use Rattle.ledger_core.specs.declared.entry.What.{What}
 use Rattle.ledger_core.specs.declared.entry.What.TheVariants.{Call as Made}
 use Rattle.ledger_core.specs.declared.entry.Entry.{Entry}
-use Rattle.ledger_core.specs.History.{height, published, history_reply, fit, IsLegal, IsLegalMoment, is_sender, read_raw_call}
+use Rattle.ledger_core.specs.History.{height, published, history_reply, fit, IsLegal, IsLegalMoment, is_sender, made_call}
 use Rattle.ledger_core.specs.Book.{Histories, history, IsLegalBook}
-use Rattle.swap_rules.specs.Party.{has_expired, is_ready, pick_call, fetch_key, first_key}
+use Rattle.swap_rules.specs.Party.{has_expired, is_ready, pick_call, unlock_hashkey, first_key}
 use Rattle.swap_rules.specs.Conduct.{is_publish, is_first_key, keeps, keeps_entry, IsConducted}
 use Rattle.ledger_core.specs.Ledger.{after_call, is_sender_full}
-use Rattle.swap_rules.specs.Machine.{KeepsOwn, KeepsKey, KeepsRules, Begins, Knows, entry_of}
+use Rattle.swap_rules.specs.Machine.{KeepsOwn, KeepsKey, KeepsRules, Begins, Knows, appended_entry}
 use Rattle.swap_rules.proofs.Words.{past_end, call_of_parts, act_of, key_parts, same_key-refl}
 use Rattle.ledger_core.proofs.History.{is_some-of}
 use Rattle.swap_rules.proofs.Prefixes.{begins_refl, not_any-in, same_or_not, at_end}
@@ -35,7 +35,7 @@ use Rattle.swap_rules.proofs.Growth.{Grows, is_ready-more, may-more, has_origin-
 
 -- Moments.
 
-from_moments_after : {A : Type 0} (before xs : List A) (m : Moment A) → IsIn m (moments_after before xs)
+from_moments_after : {A : Type 0} (before xs : List A) (m : Moment A) → IsElement m (moments_after_past before xs)
     → (p : List A) × (m.past ≡ before ++ p) × IsMoment xs p m.now
 from_moments_after before [] m i = absurd i
 from_moments_after before (x ∷ xs) m (inl e) = ([], ap (λ z. z.past) e ∙ sym (append-nil before), (xs, ap (λ z. z ∷ xs) (sym (ap (λ z. z.now) e))))
@@ -43,7 +43,7 @@ from_moments_after before (x ∷ xs) m (inr i) =
     let r = from_moments_after (before ++ x ∷ []) xs m i in
     (x ∷ r.0, r.1 ∙ append_assoc before (x ∷ []) r.0, (r.2.0, ap (λ l. x ∷ l) r.2.1))
 
-pub from_moments : {A : Type 0} (xs : List A) (m : Moment A) → IsIn m (moments xs) → IsMoment xs m.past m.now
+pub from_moments : {A : Type 0} (xs : List A) (m : Moment A) → IsElement m (moments xs) → IsMoment xs m.past m.now
 from_moments xs m i = let r = from_moments_after [] xs m i in subst (λ p. IsMoment xs p m.now) (sym r.1) r.2
 
 -- an entry of a book stands on one of its arcs
@@ -59,7 +59,7 @@ below_of b a past e m = go (nat_lt a (length b)) refl
     go false h = absurd (no (sym m.1 ∙ past_end b a (λ l. false≢true (sym h ∙ lt-ltb a (length b) l))) past refl)
 
 -- where one that passes has none before it, and each has none before it, there is one
-count_none : {A : Type 0} (p : A → Bool) (xs : List A) → ((x : A) → IsIn x xs → p x ≡ false) → count_by p xs ≡ 0
+count_none : {A : Type 0} (p : A → Bool) (xs : List A) → ((x : A) → IsElement x xs → p x ≡ false) → count_by p xs ≡ 0
 count_none p [] h = refl
 count_none p (x ∷ xs) h =
     let e1 : count_by p (x ∷ xs) ≡ cond (p x) 1 0 + count_by p xs = sum_by-cons (λ z. cond (p z) 1 0) x xs in
@@ -78,7 +78,7 @@ count_single p xs past x m px none =
     let e6 : count_by p m.0 ≡ 0 = count_none p m.0 (λ y i. after y i (p y) refl) in
     omega arith
   where
-    after : (y : _) → IsIn y m.0 → (t : Bool) → p y ≡ t → p y ≡ false
+    after : (y : _) → IsElement y m.0 → (t : Bool) → p y ≡ t → p y ≡ false
     after y i false e = e
     after y i true e =
         let n = moment_from_in m.0 y i in
@@ -94,15 +94,15 @@ module _ (b : Histories) (v : ℕ) (signed : ℕ → Option Hashkey)
       → is_first_key (first_key b v key.lock) key ≡ true
   unfolding first_key
   first_signed key a past e m k =
-      let key_is : fetch_key key.lock (pick_call v e) ≡ Some key = ap (fetch_key key.lock) k
+      let key_is : unlock_hashkey key.lock (pick_call v e) ≡ Some key = ap (unlock_hashkey key.lock) k
       ∙ ap (λ x. cond x (Some key) None) (eq-eqb key.lock key.lock refl) in
-      let stands : IsIn e (flat_map (λ h. h) b) = in_whole b a e (subst (IsIn e) (sym m.1) (in_from_moment past e m.0)) in
+      let stands : IsElement e (flat_map (λ h. h) b) = in_whole b a e (subst (IsElement e) (sym m.1) (in_from_moment past e m.0)) in
       let s =
-      is_some-of (first_of (λ e. fetch_key key.lock (pick_call v e)) (flat_map (λ h. h) b))
-      (first_of-in (λ e. fetch_key key.lock (pick_call v e)) (flat_map (λ h. h) b) e key stands key_is) in
-      let f = first_at (λ e. fetch_key key.lock (pick_call v e)) (flat_map (λ h. h) b) s.0 s.1 in
+      is_some-of (first_given_answer (λ e. unlock_hashkey key.lock (pick_call v e)) (flat_map (λ h. h) b))
+      (first_given_answer-in (λ e. unlock_hashkey key.lock (pick_call v e)) (flat_map (λ h. h) b) e key stands key_is) in
+      let f = first_at (λ e. unlock_hashkey key.lock (pick_call v e)) (flat_map (λ h. h) b) s.0 s.1 in
       let p = key_parts key.lock (pick_call v f.now) s.0 f.gives in
-      let w = from_whole b f.now (subst (IsIn f.now) (sym f.stands.1) (in_from_moment f.past f.now f.stands.0)) in
+      let w = from_whole b f.now (subst (IsElement f.now) (sym f.stands.1) (in_from_moment f.past f.now f.stands.0)) in
       let n = moment_from_in (history b w.0) f.now w.2 in
       let r1 = one_key w.0 n.0 f.now s.0 n.1 p.0 in
       let r2 = one_key a past e key m k in
@@ -169,9 +169,9 @@ pub next_call : (d : Deal) (a : ℕ) (h : List Entry) (p : ℕ) (c : Call) → I
 unfolding after_call
 next_call d a h p c two fits = go (is_sender_full (history_reply d a h p c)) refl
   where
-    go : (x : Bool) → is_sender_full (history_reply d a h p c) ≡ x → Next d a h (cond x h (h ++ entry_of d a h p c ∷ [])) (Party p) (Made c)
+    go : (x : Bool) → is_sender_full (history_reply d a h p c) ≡ x → Next d a h (cond x h (h ++ appended_entry d a h p c ∷ [])) (Party p) (Made c)
     go true e = Still refl
-    go false e = Pushed (entry_of d a h p c) refl refl refl
+    go false e = Pushed (appended_entry d a h p c) refl refl refl
         (record { of_the_two = two; fits = fits; height = refl; reply = refl; room = λ q. false≢true (sym e ∙ ap is_sender_full q) })
 
 -- The book after it.
@@ -229,7 +229,7 @@ key_more d b c v i key g k = record { below = k.below; good = k.good; origin = h
 pub rules_next : (d : Deal) (b : Histories) (a : ℕ) (k : List Entry) (s : Sender) (w : What) (signed more : ℕ → Option Hashkey) (v : ℕ) → a < length b
     → Next d a (history b a) k s w → KeepsRules d b signed v
     → ((i : ℕ) (key : Hashkey) → signed i ≡ Some key → more i ≡ Some key) → ((i : ℕ) (key : Hashkey) → more i ≡ Some key → KeepsKey d b v i key)
-    → ((c : Call) → is_sender v s ≡ true → read_raw_call w ≡ Some c → KeepsOwn d b more v a (history b a) c) → KeepsRules d (set b a k) more v
+    → ((c : Call) → is_sender v s ≡ true → made_call w ≡ Some c → KeepsOwn d b more v a (history b a) c) → KeepsRules d (set b a k) more v
 rules_next d b a k s w signed more v below n r keep keys own = record {
   own =
       λ c past e call m q. own_more d b (set b a k) more more v c past call (next_grows d b a k s w below n) (λ i key z.
@@ -249,7 +249,7 @@ rules_next d b a k s w signed more v below n r keep keys own = record {
         new (inl i) = old a past e call i q
         new (inr p) =
             let parts = call_of_parts v x call (ap (pick_call v) (sym p.1) ∙ q) in
-            subst (λ l. KeepsOwn d b more v a l call) (sym p.0) (own call (ap (is_sender v) (sym es) ∙ parts.0) (ap read_raw_call (sym ew) ∙ parts.1))
+            subst (λ l. KeepsOwn d b more v a l call) (sym p.0) (own call (ap (is_sender v) (sym es) ∙ parts.0) (ap made_call (sym ew) ∙ parts.1))
 
     at : (c : ℕ) (past : List Entry) (e : Entry) (call : Call) → IsMoment (history (set b a k) c) past e → pick_call v e ≡ Some call → (c ≡ a) ⊎ (c ≢ a)
         → KeepsOwn d b more v c past call

@@ -3,16 +3,16 @@ use Rattle.std.proofs.Common.{◌≡◌, ℕ, ◌+◌, ◌<◌, ◌≤◌, nat_l
 use Rattle.std.proofs.Common.{ap, ◌∙◌, inl, inr, arith, lt-ltb, ◌*◌}
 use Rattle.std.specs.List.{list_all, range_with_len, flat_map, cons_option}
 use Rattle.std.specs.Prelude.{filter_map}
-use Rattle.swap_base.specs.Lists.{IsIn, Moment, moments}
+use Rattle.swap_base.specs.Lists.{IsElement, Moment, moments}
 use Rattle.swap_base.proofs.Lists.{list_all-from, in_range, from_range, and_parts}
 use Rattle.swap_digraph.specs.Graph.{arcs}
 use Rattle.ledger_core.specs.declared.entry.Entry.{Entry}
 use Rattle.ledger_core.specs.History.{height}
 use Rattle.ledger_core.specs.Book.{history}
 use Rattle.swap_rules.specs.Conduct.{keeps_entry}
-use Rattle.swap_rules.specs.Late.{ref_of}
+use Rattle.swap_rules.specs.Late.{reference_height}
 use Rattle.swap_rules.specs.Forged.{is_forged}
-use Rattle.swap_rules.specs.Findings.{or_zero, deal_rules, failing, broken, late_on, lates, forgeries, party_findings, unfinished}
+use Rattle.swap_rules.specs.Findings.{or_zero, deal_rules, failing, broken, arc_late_findings, lates, forgeries, party_findings, unfinished}
 use Rattle.swap_rules.specs.declared.finding.Finding.{Finding}
 use Rattle.swap_rules.specs.declared.finding.Finding.TheVariants.{Broke, Late, Forged, Unfinished}
 use Rattle.swap_rules.specs.Laws.{RacesAreDealt, AllIsDealt}
@@ -27,7 +27,7 @@ use Rattle.time_bounds.specs.Times as times
 append_both : {A : Type 0} (xs ys : List A) → xs ≡ [] → ys ≡ [] → xs ++ ys ≡ []
 append_both xs ys e f = ap (λ l. l ++ ys) e ∙ f
 
-flat_map_empty : {A B : Type 0} (f : A → List B) (xs : List A) → ((x : A) → IsIn x xs → f x ≡ []) → flat_map f xs ≡ []
+flat_map_empty : {A B : Type 0} (f : A → List B) (xs : List A) → ((x : A) → IsElement x xs → f x ≡ []) → flat_map f xs ≡ []
 flat_map_empty f [] h = refl
 flat_map_empty f (x ∷ xs) h = append_both (f x) (flat_map f xs) (h x (inl refl)) (flat_map_empty f xs (λ y i. h y (inr i)))
 
@@ -60,9 +60,9 @@ all_dealt d conforming b k legal ended conducted on_time = record {
         (append_both (broken d b v) (lates d b v)
         (flat_map_empty (λ a. failing (Broke v a) (keeps_entry d b v a) (history b a)) (arcs d.graph) (λ a i.
         failing_none (λ m. Broke v a (length m.past)) (keeps_entry d b v a) (moments (history b a)) (conducted v l a)))
-        (flat_map_empty (λ rule. flat_map (late_on d b v rule) (arcs d.graph)) (deal_rules d) (λ rule i.
-        flat_map_empty (late_on d b v rule) (arcs d.graph) (λ a z.
-        ap (λ t. cond t (Late v rule a (or_zero (ref_of d b v rule a) + d.delta) ∷ []) []) (on_time v l rule a i z)))))
+        (flat_map_empty (λ rule. flat_map (arc_late_findings d b v rule) (arcs d.graph)) (deal_rules d) (λ rule i.
+        flat_map_empty (arc_late_findings d b v rule) (arcs d.graph) (λ a z.
+        ap (λ t. cond t (Late v rule a (or_zero (reference_height d b v rule a) + d.delta) ∷ []) []) (on_time v l rule a i z)))))
         (flat_map_empty (λ a. failing (Forged v a) (λ m. not (is_forged d b v m.now)) (history b a)) (arcs d.graph) (λ a i.
         failing_none (λ m. Forged v a (length m.past)) (λ m. not (is_forged d b v m.now)) (moments (history b a))
         (list_all-from (λ m. not (is_forged d b v m.now)) (moments (history b a)) (λ m z.

@@ -2,7 +2,7 @@
 use Rattle.std.proofs.Common.{◌≡◌, ◌⊎◌, ℕ, ◌<◌, ◌==◌, Bool, true, false, cond, not, ◌||◌, IsTrue, List, length, Option, Some, None, is_some}
 use Rattle.std.proofs.Common.{is_none, refl, sym, ap, ◌∙◌, subst, inl, inr, arith, eqb-true, eq-eqb}
 use Rattle.std.proofs.lemmas.Option.{same_Some}
-use Rattle.swap_base.specs.Lists.{IsIn}
+use Rattle.swap_base.specs.Lists.{IsElement}
 use Rattle.swap_base.proofs.Lists.{or-right, and_parts, from_append}
 use Rattle.swap_digraph.specs.declared.deal.Deal.{Deal}
 use Rattle.swap_digraph.specs.Graph.{leaving, entering}
@@ -38,7 +38,7 @@ use Rattle.swap_rules.proofs.Growth.{Grows, triggered-more, is_published-more, c
 
 pub record IsDue (d : Deal) (v : ℕ) (w : Wallet) (signed : ℕ → Option Hashkey) (b known : Histories) (a : ℕ) (c : Call) : Type 0 where
   pub slot : Rule
-  pub slot_in : IsIn slot (deal_rules d)
+  pub slot_in : IsElement slot (deal_rules d)
   pub passes : rule_test slot (Some c) ≡ true
   pub fresh : has_called v (rule_test slot) (history known a) ≡ false
   pub below : a < length d.graph.arcs
@@ -60,9 +60,9 @@ due_is_valid d v w signed b known a (Transfer to units) i = refl
 -- whatever v called on a ledger, it knows of
 pub knows_call : (v : ℕ) (test : Option Call → Bool) (k h : List Entry) → test None ≡ false → Knows v k h → has_called v test k ≡ false
     → has_called v test h ≡ false
-knows_call v test k h n kn e = list_any-none (λ x. test (pick_call v x)) h (λ x i. go x (from_append k kn.rest x (subst (IsIn x) kn.whole i)))
+knows_call v test k h n kn e = list_any-none (λ x. test (pick_call v x)) h (λ x i. go x (from_append k kn.rest x (subst (IsElement x) kn.whole i)))
   where
-    go : (x : Entry) → IsIn x k ⊎ IsIn x kn.rest → test (pick_call v x) ≡ false
+    go : (x : Entry) → IsElement x k ⊎ IsElement x kn.rest → test (pick_call v x) ≡ false
     go x (inl i) = not_any-in (λ x. test (pick_call v x)) k x e i
     go x (inr i) = ap test (none_called v x (kn.others x i)) ∙ n
 
@@ -75,10 +75,10 @@ module _ (d : Deal) (v : ℕ) (w : Wallet) (signed : ℕ → Option Hashkey) (b 
   legal_on : (a : ℕ) → a < length d.graph.arcs → IsLegal d a (history b a)
   legal_on a l = legal.legal a (rw legal.one_each l)
 
-  leaving_two : (a : ℕ) → IsIn a (leaving d.graph v) → IsTrue (touches d v a)
+  leaving_two : (a : ℕ) → IsElement a (leaving d.graph v) → IsTrue (touches d v a)
   leaving_two a i = or-left (v == party d a) _ (eq-eqb v (party d a) (sym (leaves d v a i).1))
 
-  entering_two : (a : ℕ) → IsIn a (entering d.graph v) → IsTrue (touches d v a)
+  entering_two : (a : ℕ) → IsElement a (entering d.graph v) → IsTrue (touches d v a)
   entering_two a i = or-right (v == party d a) _ (eq-eqb v (counterparty d a) (sym (enters d v a i).1))
 
   -- what v published on a leaving arc is correct
@@ -94,7 +94,7 @@ module _ (d : Deal) (v : ℕ) (w : Wallet) (signed : ℕ → Option Hashkey) (b 
   key_due : (i : ℕ) (key : Hashkey) → i < length d.leaders → due_key d v w (signed i) known i ≡ Some key → KeepsKey d b v i key
   key_due i key below e = key_rule d v w b legal wallet own_terms signed known rules.keys grows i key below e
 
-  publish_due : (a : ℕ) → IsIn a (leaving d.graph v) → is_due_publish d v known a ≡ true → IsDue d v w signed b known a (Publish (stated_terms d a))
+  publish_due : (a : ℕ) → IsElement a (leaving d.graph v) → is_due_publish d v known a ≡ true → IsDue d v w signed b known a (Publish (stated_terms d a))
   unfolding is_due_publish
   publish_due a i e =
       let k = and_parts (leads_one d v || is_ready d known v) (not (has_called v is_publish (history known a))) e in
@@ -115,7 +115,7 @@ module _ (d : Deal) (v : ℕ) (w : Wallet) (signed : ℕ → Option Hashkey) (b 
         keys = rules.keys;
       }
 
-  claim_due : (a : ℕ) → IsIn a (entering d.graph v) → is_due_claim d v known a ≡ true → IsDue d v w signed b known a Claim
+  claim_due : (a : ℕ) → IsElement a (entering d.graph v) → is_due_claim d v known a ≡ true → IsDue d v w signed b known a Claim
   unfolding is_due_claim
   claim_due a i e =
       let k = and_three (is_correct d known a) (is_triggered d known a) (not (has_called v is_claiming (history known a))) e in
@@ -135,7 +135,7 @@ module _ (d : Deal) (v : ℕ) (w : Wallet) (signed : ℕ → Option Hashkey) (b 
         keys = rules.keys;
       }
 
-  refund_due : (a : ℕ) → IsIn a (leaving d.graph v) → is_due_refund d v known a ≡ true → IsDue d v w signed b known a Refund
+  refund_due : (a : ℕ) → IsElement a (leaving d.graph v) → is_due_refund d v known a ≡ true → IsDue d v w signed b known a Refund
   unfolding is_due_refund
   refund_due a i e =
       let k =
@@ -159,7 +159,7 @@ module _ (d : Deal) (v : ℕ) (w : Wallet) (signed : ℕ → Option Hashkey) (b 
         keys = rules.keys;
       }
 
-  unlock_due : (a i : ℕ) (key : Hashkey) → IsIn a (entering d.graph v) → i < length d.leaders → may_unlock d v known i a ≡ true
+  unlock_due : (a i : ℕ) (key : Hashkey) → IsElement a (entering d.graph v) → i < length d.leaders → may_unlock d v known i a ≡ true
       → due_key d v w (signed i) known i ≡ Some key → IsDue d v w signed b known a (Unlock key)
   unfolding due_key
   unlock_due a i key w_in below may e =
@@ -206,7 +206,7 @@ module _ (d : Deal) (v : ℕ) (w : Wallet) (signed : ℕ → Option Hashkey) (b 
       at j new false h q = rules.keys j new q
 
   -- each due action keeps the rules
-  pub is_due : (x : Action) → IsIn x (due d v w signed known) → IsDue d v w signed b known x.arc x.call
+  pub is_due : (x : Action) → IsElement x (due d v w signed known) → IsDue d v w signed b known x.arc x.call
   is_due x i = go (case_of d v w signed known x i)
     where
       at : (c : Call) → x.call ≡ c → IsDue d v w signed b known x.arc c → IsDue d v w signed b known x.arc x.call

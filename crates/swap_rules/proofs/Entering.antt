@@ -1,8 +1,9 @@
--- A party that is ready and conducted opens every arc that enters it, where its unlock calls come while their hashkeys are accepted.
+-- A party that is ready and conducted opens every arc that enters it, where its unlock calls come
+-- while their hashkeys are accepted.
 use Rattle.std.proofs.Common.{◌≡◌, ℕ, ◌+◌, ◌<◌, ◌≤◌, true, false, not, ◌-◌, if◌then◌else◌, max, ◌&&◌, List, length, Option, Some, None, is_some, refl}
 use Rattle.std.proofs.Common.{sym, ap, ◌∙◌, subst, inl, inr, arith, leb-true}
 use Rattle.std.proofs.lemmas.Bool.{false≢true}
-use Rattle.swap_base.specs.Lists.{IsIn, IsMoment}
+use Rattle.swap_base.specs.Lists.{IsElement, IsMoment}
 use Rattle.swap_base.proofs.Lists.{any_at, Order, moments_in_order, list_all-in, list_all-from, in_range, from_range, and_parts, and_both, greatest-below}
 use Rattle.swap_base.proofs.Lists.{Earlier, Same, Later}
 use Rattle.swap_digraph.specs.declared.deal.Deal.{Deal}
@@ -10,7 +11,7 @@ use Rattle.swap_digraph.specs.Graph.{arcs, entering, is_listed}
 use Rattle.swap_digraph.specs.Deal.{counterparty, locks, leads, lock_hashlock}
 use Rattle.hashkey_path.specs.declared.hashkey.Hashkey.{Hashkey}
 use Rattle.hashkey_path.specs.Hashkey.{is_wrong_secret, is_wrong_path, is_wrong_signature, is_valid}
-use Rattle.escrow_core.specs.Terms.{stated_terms, last_unlock, read_hashlock, refund_expiry}
+use Rattle.escrow_core.specs.Terms.{stated_terms, last_unlock, terms_hashlock, refund_expiry}
 use Rattle.ledger_core.specs.declared.entry.Call.TheVariants.{Unlock, Claim, Refund}
 use Rattle.ledger_core.specs.declared.entry.Entry.{Entry}
 use Rattle.ledger_core.specs.History.{height, accepted, published, Opening, opened, settled, is_open, triggered}
@@ -19,7 +20,7 @@ use Rattle.ledger_core.specs.Book.{Histories, history, IsLegalBook}
 use Rattle.swap_rules.specs.declared.finding.Rule.TheVariants.{Unlock as ToUnlock, Claim as ToClaim}
 use Rattle.swap_rules.specs.Party.{is_correct, publication_height, is_good, is_ready, ready_height, is_triggered, expiry, pick_call, first_key, least_expiry}
 use Rattle.swap_rules.specs.Conduct.{is_first_key, keeps, IsConducted}
-use Rattle.swap_rules.specs.Late.{height_of_opening, unlock_base, trigger_height, when, ref_of, is_late}
+use Rattle.swap_rules.specs.Late.{height_of_opening, unlock_base, trigger_height, when, reference_height, is_late}
 use Rattle.swap_rules.specs.Outcome.{is_claim, is_got, IsEnded}
 use Rattle.swap_digraph.proofs.Paths.{in-is_listed}
 use Rattle.swap_rules.proofs.Words.{and_five, unlock_rule, enters, act_of}
@@ -30,7 +31,7 @@ use Rattle.ledger_core.proofs.History.{legal-past, is_some-of, lock-below}
 use Rattle.swap_rules.proofs.Openings.{IsOpenBy, open_by_more, is_open_by, unlock_opens_by, Expired, expired_lock, least-expired, moment_within}
 use Rattle.swap_rules.specs.Due.{is_claiming}
 use Rattle.swap_rules.specs.Laws.{IsOnTime}
-use Rattle.swap_rules.specs.Walking.{UnlocksOn, ClaimsAll}
+use Rattle.swap_rules.specs.Walking.{UnlocksArc, ClaimsAll}
 use Rattle.swap_rules.proofs.Calls.{kept, legal_at, correct, done_in_time, counted_unlock, claiming_is, correct_past}
 use Rattle.time_bounds.specs.Times as times
 
@@ -38,20 +39,21 @@ use Rattle.time_bounds.specs.Times as times
 pub record DueUnlock (d : Deal) (b : Histories) (v a i : ℕ) : Type 0 where
   pub within : i < length d.leaders
   pub ref : ℕ
-  pub enabled : ref_of d b v (ToUnlock i) a ≡ Some ref
+  pub enabled : reference_height d b v (ToUnlock i) a ≡ Some ref
   pub value : ref ≡ (if leads d v i then ready_height d b v else max (ready_height d b v) (unlock_base d.mode d b v i (first_key b v i)))
   pub ends : ref + d.delta ≤ times.horizon d.start d.delta d.bound
   pub early : (key : Hashkey) → is_valid d a (lock_hashlock d key.lock) key ≡ true → is_first_key (first_key b v i) key ≡ true
       → ref + d.delta ≤ last_unlock d.mode (stated_terms d a) key
 
 pub valid_of_unlock : (d : Deal) (a : ℕ) (past : List Entry) (by : ℕ) (key : Hashkey) (u : OfUnlock d a past by key)
-    → is_valid d a (read_hashlock u.contract.terms key.lock) key ≡ true
+    → is_valid d a (terms_hashlock u.contract.terms key.lock) key ≡ true
 valid_of_unlock d a past by key u =
-    and_both (not (is_wrong_secret (read_hashlock u.contract.terms key.lock) key) && not (is_wrong_path d a d.mode key)) (not (is_wrong_signature d d.mode key))
-    (and_both (not (is_wrong_secret (read_hashlock u.contract.terms key.lock) key)) (not (is_wrong_path d a d.mode key)) (ap not u.secret) (ap not u.path))
+    and_both (not (is_wrong_secret (terms_hashlock u.contract.terms key.lock) key) && not (is_wrong_path d a d.mode key)) (not (is_wrong_signature d d.mode key))
+    (and_both (not (is_wrong_secret (terms_hashlock u.contract.terms key.lock) key)) (not (is_wrong_path d a d.mode key)) (ap not u.secret) (ap not u.path))
     (ap not u.signature)
 
--- An unlock call of v for lock i on arc a, at a height of at most t at which its hashkey is accepted.
+-- An unlock call of v for lock i on arc a, at a height of at most t at which its hashkey is
+-- accepted.
 pub record UnlockCall (d : Deal) (b : Histories) (v a i t : ℕ) : Type 0 where
   pub past : List Entry
   pub now : Entry
@@ -62,7 +64,7 @@ pub record UnlockCall (d : Deal) (b : Histories) (v a i t : ℕ) : Type 0 where
   pub in_time : now.height ≤ t
   pub last : now.height ≤ last_unlock d.mode (stated_terms d a) key
 
-pub parse_call : (d : Deal) (b : Histories) (v i a : ℕ) → UnlocksOn d b v i a → (t : ℕ) × UnlockCall d b v a i t
+pub parse_call : (d : Deal) (b : Histories) (v i a : ℕ) → UnlocksArc d b v i a → (t : ℕ) × UnlockCall d b v a i t
 parse_call d b v i a u = (
   u.now.height,
   record {
@@ -79,14 +81,14 @@ parse_call d b v i a u = (
 
 -- v is nowhere late with an unlock
 abbrev pub UnlocksInTime : Deal → Histories → ℕ → Type 0
-UnlocksInTime d b v = (i a : ℕ) → i < length d.leaders → IsIn a (arcs d.graph) → is_late d b v (ToUnlock i) a ≡ false
+UnlocksInTime d b v = (i a : ℕ) → i < length d.leaders → IsElement a (arcs d.graph) → is_late d b v (ToUnlock i) a ≡ false
 
 pub unlocks_in_time : (d : Deal) (b : Histories) (v : ℕ) → IsOnTime d b v → UnlocksInTime d b v
 unlocks_in_time d b v on_time i a below j = on_time (ToUnlock i) a (unlock_rule d i below) j
 
 -- an unlock that is due, and isn't late, is called by its due height
 pub call_due : (d : Deal) (b : Histories) (v : ℕ) → IsLegalBook d b → IsEnded d b → IsConducted d b v → UnlocksInTime d b v → (a i : ℕ)
-    → IsIn a (entering d.graph v) → (due : DueUnlock d b v a i) → UnlockCall d b v a i (due.ref + d.delta)
+    → IsElement a (entering d.graph v) → (due : DueUnlock d b v a i) → UnlockCall d b v a i (due.ref + d.delta)
 unfolding keeps
 call_due d b v legal ended conducted unlocks a i w due =
     let in_arc = enters d v a w in
@@ -133,7 +135,7 @@ pub record Unlocked (d : Deal) (b : Histories) (v a i t : ℕ) : Type 0 where
 
 module _ (d : Deal) (b : Histories) (v : ℕ) (legal : IsLegalBook d b) (conducted : IsConducted d b v) (law : TimesLaw d) where
   -- a lock of an entering arc was opened at most at its expiry
-  pub opened_by_expiry : (a i : ℕ) → IsIn a (entering d.graph v) → is_correct d b a ≡ true → height_of_opening (opened (history b a) i) ≤ expiry d a i
+  pub opened_by_expiry : (a i : ℕ) → IsElement a (entering d.graph v) → is_correct d b a ≡ true → height_of_opening (opened (history b a) i) ≤ expiry d a i
   opened_by_expiry a i w right = go (opened (history b a) i) refl
     where
       go : (o : Option Opening) → opened (history b a) i ≡ o → height_of_opening o ≤ expiry d a i
@@ -145,7 +147,7 @@ module _ (d : Deal) (b : Histories) (v : ℕ) (legal : IsLegalBook d b) (conduct
           let terms : of_u.contract.terms ≡ stated_terms d a =
           correct_past d b a u.0.past u.0.now of_u.contract (correct d b a right) u.0.stands of_u.published in
           let valid : is_valid d a (lock_hashlock d o.key.lock) o.key ≡ true =
-          subst (λ t. is_valid d a (read_hashlock t o.key.lock) o.key ≡ true) terms (valid_of_unlock d a u.0.past u.0.act.by o.key of_u) in
+          subst (λ t. is_valid d a (terms_hashlock t o.key.lock) o.key ≡ true) terms (valid_of_unlock d a u.0.past u.0.act.by o.key of_u) in
           let last : last_unlock d.mode (stated_terms d a) o.key ≤ expiry d a i =
           subst (λ j. last_unlock d.mode (stated_terms d a) o.key ≤ expiry d a j) u.1 (law.last a o.key in_arc.0 (lock-below d a o.key u.0.act.fits) valid)
           in
@@ -154,13 +156,13 @@ module _ (d : Deal) (b : Histories) (v : ℕ) (legal : IsLegalBook d b) (conduct
           let at : o.height ≡ height u.0.past = u.0.at in
           omega arith
 
-  pub claim_enabled : (a : ℕ) → IsIn a (entering d.graph v) → is_correct d b a ≡ true → is_triggered d b a ≡ true → ref_of d b v ToClaim a ≡ Some (trigger_height d (history b a))
-  unfolding ref_of
+  pub claim_enabled : (a : ℕ) → IsElement a (entering d.graph v) → is_correct d b a ≡ true → is_triggered d b a ≡ true → reference_height d b v ToClaim a ≡ Some (trigger_height d (history b a))
+  unfolding reference_height
   claim_enabled a w right t = ap (λ x. when x (trigger_height d (history b a)))
       (and_both (is_listed a (entering d.graph v) && is_correct d b a) (is_triggered d b a)
       (and_both (is_listed a (entering d.graph v)) (is_correct d b a) (in-is_listed a (entering d.graph v) w) right) t)
 
-  pub trigger_ends : (a : ℕ) → IsIn a (entering d.graph v) → is_correct d b a ≡ true → trigger_height d (history b a) + d.delta ≤ times.horizon d.start d.delta d.bound
+  pub trigger_ends : (a : ℕ) → IsElement a (entering d.graph v) → is_correct d b a ≡ true → trigger_height d (history b a) + d.delta ≤ times.horizon d.start d.delta d.bound
   trigger_ends a w right =
       let in_arc = enters d v a w in
       let some = law.ends a 0 in_arc.0 in
@@ -173,11 +175,11 @@ module _ (d : Deal) (b : Histories) (v : ℕ) (legal : IsLegalBook d b) (conduct
 
 module _ (d : Deal) (b : Histories) (v : ℕ) (legal : IsLegalBook d b) (conducted : IsConducted d b v) (law : TimesLaw d)
     (ready : is_ready d b v ≡ true) where
-  pub good_entering : (a : ℕ) → IsIn a (entering d.graph v) → is_good d b a ≡ true
+  pub good_entering : (a : ℕ) → IsElement a (entering d.graph v) → is_good d b a ≡ true
   unfolding is_ready
   good_entering a i = list_all-in (is_good d b) (entering d.graph v) a ready i
 
-  pub correct_entering : (a : ℕ) → IsIn a (entering d.graph v) → is_correct d b a ≡ true
+  pub correct_entering : (a : ℕ) → IsElement a (entering d.graph v) → is_correct d b a ≡ true
   correct_entering a i = (and_parts (is_correct d b a) _ (good_entering a i)).0
 
   pub ready_below : ready_height d b v ≤ times.opening_deadline d.start d.delta d.bound
@@ -193,7 +195,7 @@ module _ (d : Deal) (b : Histories) (v : ℕ) (legal : IsLegalBook d b) (conduct
     pub took : accepted now ≡ Some Refund
     pub expired : Expired d a before (height before)
 
-  pub read_refund : (a : ℕ) (past : List Entry) (e : Entry) → IsIn a (entering d.graph v) → IsMoment (history b a) past e → settled past ≡ Some Refunded
+  pub read_refund : (a : ℕ) (past : List Entry) (e : Entry) → IsElement a (entering d.graph v) → IsMoment (history b a) past e → settled past ≡ Some Refunded
       → RefundIn a past
   read_refund a past e w m s =
       let in_arc = enters d v a w in
@@ -212,7 +214,7 @@ module _ (d : Deal) (b : Histories) (v : ℕ) (legal : IsLegalBook d b) (conduct
       }
 
   -- an entering arc that is triggered was claimed
-  pub claims : ClaimsAll d b v → (a : ℕ) → IsIn a (entering d.graph v) → is_triggered d b a ≡ true → is_got d b a ≡ true
+  pub claims : ClaimsAll d b v → (a : ℕ) → IsElement a (entering d.graph v) → is_triggered d b a ≡ true → is_got d b a ≡ true
   unfolding keeps
   claims claimed a w t =
       let in_arc = enters d v a w in
@@ -230,7 +232,7 @@ module _ (d : Deal) (b : Histories) (v : ℕ) (legal : IsLegalBook d b) (conduct
       (ap is_claim (claim_claims d a (history b a) done.past done.now of_u.contract l done.stands act.0 by pub_past all_open))
 
   -- an unlock call opens its lock, where no refund came before it
-  pub opens_unless : (a i t : ℕ) → IsIn a (entering d.graph v) → (call : UnlockCall d b v a i t)
+  pub opens_unless : (a i t : ℕ) → IsElement a (entering d.graph v) → (call : UnlockCall d b v a i t)
       → ((past : List Entry) (e : Entry) → IsMoment (history b a) past e → IsTaken d a i call.key (height past) → RefundIn a past → ⊥)
       → Unlocked d b v a i t
   unfolding keeps
@@ -254,7 +256,7 @@ module _ (d : Deal) (b : Histories) (v : ℕ) (legal : IsLegalBook d b) (conduct
       let t1 : height call.past ≤ last_unlock d.mode (stated_terms d a) call.key = omega arith in
       let t2 : height call.past ≤ expiry d a i = omega arith in
       let o = unlock_opens_by d a (history b a) call.past call.now call.key p.0 l call.stands act.0 by p.1
-      (subst (λ t. is_valid d a (read_hashlock t call.key.lock) call.key ≡ true) (sym terms) k.3)
+      (subst (λ t. is_valid d a (terms_hashlock t call.key.lock) call.key ≡ true) (sym terms) k.3)
       (subst (λ t. height call.past ≤ last_unlock d.mode t call.key) (sym terms) t1)
       (λ s. unrefunded call.past call.now call.stands (record { below = below; valid = k.3; last = t1; expiry = t2 })
       (read_refund a call.past call.now w call.stands s)) in
@@ -267,7 +269,7 @@ module _ (d : Deal) (b : Histories) (v : ℕ) (legal : IsLegalBook d b) (conduct
       }
 
   -- v's own lock is opened before any lock expires
-  pub opens_own : (a i t : ℕ) → IsIn a (entering d.graph v) → leads d v i ≡ true → UnlockCall d b v a i t → Unlocked d b v a i t
+  pub opens_own : (a i t : ℕ) → IsElement a (entering d.graph v) → leads d v i ≡ true → UnlockCall d b v a i t → Unlocked d b v a i t
   opens_own a i t w lead call = opens_unless a i t w call (λ past e m taken r.
       let in_arc = enters d v a w in
       let own : leads d (counterparty d a) call.key.lock ≡ true =
@@ -278,8 +280,9 @@ module _ (d : Deal) (b : Histories) (v : ℕ) (legal : IsLegalBook d b) (conduct
       let q = taken.last in
       absurd (omega arith))
 
-  -- an unlock call opens its lock: no refund comes before it, since v opened its own locks before these expired
-  pub opens : (a i t : ℕ) → IsIn a (entering d.graph v) → ((j : ℕ) → j < length d.leaders → leads d v j ≡ true → (s : ℕ) × UnlockCall d b v a j s)
+  -- an unlock call opens its lock: no refund comes before it, since v opened its own locks before
+  -- these expired
+  pub opens : (a i t : ℕ) → IsElement a (entering d.graph v) → ((j : ℕ) → j < length d.leaders → leads d v j ≡ true → (s : ℕ) × UnlockCall d b v a j s)
       → UnlockCall d b v a i t → Unlocked d b v a i t
   opens a i t w owns call = opens_unless a i t w call (λ past e m taken r.
       let in_arc = enters d v a w in
@@ -312,8 +315,8 @@ module _ (d : Deal) (b : Histories) (v : ℕ) (legal : IsLegalBook d b) (conduct
       in_order a past r key e u l (Later n) = let z = height-past u.past r.before r.now n in absurd (omega arith)
 
   -- where v makes its unlock calls on every entering arc, it gets them all
-  pub gets_all : ClaimsAll d b v → ((a i : ℕ) → IsIn a (entering d.graph v) → IsIn i (locks d) → (t : ℕ) × UnlockCall d b v a i t) → (a : ℕ)
-      → IsIn a (entering d.graph v) → is_got d b a ≡ true
+  pub gets_all : ClaimsAll d b v → ((a i : ℕ) → IsElement a (entering d.graph v) → IsElement i (locks d) → (t : ℕ) × UnlockCall d b v a i t) → (a : ℕ)
+      → IsElement a (entering d.graph v) → is_got d b a ≡ true
   gets_all claimed calls a w =
       claims claimed a w (list_all-from (is_open (history b a)) (locks d) (λ i z.
       let c = calls a i w z in

@@ -3,7 +3,7 @@ use Rattle.std.proofs.Common.{◌≡◌, ℕ, ◌<◌, ◌≤◌, true, false, L
 use Rattle.std.proofs.lemmas.Bool.{false≢true}
 use Rattle.swap_digraph.specs.declared.deal.Deal.{Deal}
 use Rattle.hashkey_path.specs.Hashkey.{is_valid}
-use Rattle.escrow_core.specs.Terms.{read_hashlock, stated_terms, last_unlock}
+use Rattle.escrow_core.specs.Terms.{terms_hashlock, stated_terms, last_unlock}
 use Rattle.ledger_core.specs.declared.entry.Entry.{Entry}
 use Rattle.ledger_core.specs.History.{height, Publication, published, Opening, opened, is_open, IsLegal}
 use Rattle.swap_digraph.specs.Deal.{lock_hashlock}
@@ -27,7 +27,7 @@ module _ (d : Deal) (law : TimesLaw d) (a : ℕ) (l : a < length d.graph.arcs) (
           let terms : of_u.contract.terms ≡ stated_terms d a = right of_u.contract
           (published-past h u.0.past u.0.now of_u.contract u.0.stands of_u.published) in
           let valid : is_valid d a (lock_hashlock d w.key.lock) w.key ≡ true =
-          subst (λ t. is_valid d a (read_hashlock t w.key.lock) w.key ≡ true) terms (valid_of_unlock d a u.0.past u.0.act.by w.key of_u) in
+          subst (λ t. is_valid d a (terms_hashlock t w.key.lock) w.key ≡ true) terms (valid_of_unlock d a u.0.past u.0.act.by w.key of_u) in
           let last : last_unlock d.mode (stated_terms d a) w.key ≤ expiry d a i =
           subst (λ j. last_unlock d.mode (stated_terms d a) w.key ≤ expiry d a j) u.1 (law.last a w.key l (lock-below d a w.key u.0.act.fits) valid) in
           let in_time : height u.0.past ≤ last_unlock d.mode (stated_terms d a) w.key = subst

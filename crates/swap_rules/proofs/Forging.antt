@@ -5,7 +5,7 @@ use Rattle.std.specs.List.{list_any, flat_map}
 use Rattle.std.proofs.lemmas.Bool.{false≢true}
 use Rattle.std.proofs.lemmas.List.{get_or_default}
 use Rattle.std.specs.Str.{bytes_eq}
-use Rattle.swap_base.specs.Lists.{IsIn, IsMoment, same_list}
+use Rattle.swap_base.specs.Lists.{IsElement, IsMoment, same_list}
 use Rattle.swap_base.proofs.Lists.{list_any-in, and_parts, and_both, same_list-true, in_from_moment, moment_from_in, in_whole}
 use Rattle.swap_digraph.specs.declared.deal.Mode.{Mode}
 use Rattle.swap_digraph.specs.declared.deal.Mode.TheVariants.{Timelocks, Hashkeys}
@@ -21,8 +21,8 @@ use Rattle.ledger_core.specs.declared.entry.Call.TheVariants.{Publish, Unlock, C
 use Rattle.ledger_core.specs.declared.entry.Entry.{Entry}
 use Rattle.ledger_core.specs.History.{accepted, published}
 use Rattle.ledger_core.specs.Book.{Histories, history, IsLegalBook}
-use Rattle.swap_rules.specs.Party.{is_ready, pick_call, fetch_key, first_key}
-use Rattle.swap_rules.specs.Conduct.{is_first_key, has_origin, carries, keeps, IsConducted, extends_without, is_alone}
+use Rattle.swap_rules.specs.Party.{is_ready, pick_call, unlock_hashkey, first_key}
+use Rattle.swap_rules.specs.Conduct.{is_first_key, has_origin, carries, keeps, IsConducted, extends_without_party, is_alone}
 use Rattle.swap_rules.specs.Forged.{forges, has_made, has_forged_suffix}
 use Rattle.swap_rules.specs.Accepted.{IsAccepted, IsTimed}
 use Rattle.swap_rules.proofs.Words.{bytes_eq-true, bytes_eq-refl, same_key-true, same_key-refl, and_three, and_five, leaves, pick_call-act}
@@ -54,10 +54,11 @@ pub record Taker (d : Deal) (b : Histories) (key : Hashkey) (t : Taken d b key) 
 abbrev with_path : Hashkey → List ℕ → List Sig → Hashkey
 with_path key path sigs = record { lock = key.lock; secret = key.secret; path = path; sigs = sigs }
 
--- whence the hashkey came to v with hashkeys: it is v's own where v leads the lock, and extends one that was taken else
+-- whence the hashkey came to v with hashkeys: it is v's own where v leads the lock, and extends one
+-- that was taken else
 abbrev origin_as : Deal → Histories → ℕ → Hashkey → Bool → Bool
 origin_as d b v key led =
-    cond led (is_alone v key.path) (list_any (λ a. list_any (λ e. extends_without v key (accepted e)) (history b a)) (leaving d.graph v))
+    cond led (is_alone v key.path) (list_any (λ a. list_any (λ e. extends_without_party v key (accepted e)) (history b a)) (leaving d.graph v))
 
 pub revealed : (secret : List ℕ) (o : Option Call) → carries secret o ≡ true → (key : Hashkey) × (o ≡ Some (Unlock key)) × (bytes_eq key.secret secret ≡ true)
 revealed secret (Some (Unlock key)) e = (key, refl, e)
@@ -81,16 +82,16 @@ module _ (d : Deal) (b : Histories) (k : IsAccepted d) (legal : IsLegalBook d b)
       (kept d b (counterparty d t.arc) (all (counterparty d t.arc) (k.ends.to t.arc t.below)) t.arc t.past t.now (Unlock key) t.stands called) in
       record { called = called; path = u.path; origin = q.4; lock = lock-below d t.arc key c.0.fits }
 
-  entry_in : (key : Hashkey) (t : Taken d b key) → IsIn t.now (flat_map (λ h. h) b)
-  entry_in key t = in_whole b t.arc t.now (subst (IsIn t.now) (sym t.stands.1) (in_from_moment t.past t.now t.stands.0))
+  entry_in : (key : Hashkey) (t : Taken d b key) → IsElement t.now (flat_map (λ h. h) b)
+  entry_in key t = in_whole b t.arc t.now (subst (IsElement t.now) (sym t.stands.1) (in_from_moment t.past t.now t.stands.0))
 
   -- Hashkeys.
 
   made : (key : Hashkey) (t : Taken d b key) → has_made b (counterparty d t.arc) key ≡ true
   made key t =
       let r = taker key t in
-      list_any-in (λ e. is_first_key (fetch_key key.lock (pick_call (counterparty d t.arc) e)) key) (flat_map (λ h. h) b) t.now
-      (ap (λ o. is_first_key (fetch_key key.lock o) key) r.called
+      list_any-in (λ e. is_first_key (unlock_hashkey key.lock (pick_call (counterparty d t.arc) e)) key) (flat_map (λ h. h) b) t.now
+      (ap (λ o. is_first_key (unlock_hashkey key.lock o) key) r.called
       ∙ (ap (λ z. is_first_key (cond z (Some key) None) key) (eq-eqb key.lock key.lock refl) ∙ same_key-refl key)) (entry_in key t)
 
   first_of_path : (key : Hashkey) (t : Taken d b key) → d.mode ≡ Hashkeys → first_is (counterparty d t.arc) key.path ≡ true
@@ -106,11 +107,11 @@ module _ (d : Deal) (b : Histories) (k : IsAccepted d) (legal : IsLegalBook d b)
 
   -- the hashkey that an extension extends was taken too
   inner_taken : (u x : ℕ) (p : List ℕ) (s : Sig) (sigs : List Sig) (key : Hashkey)
-      → list_any (λ a. list_any (λ e. extends_without u (with_path key (x ∷ p) (s ∷ sigs)) (accepted e)) (history b a)) (leaving d.graph u) ≡ true
+      → list_any (λ a. list_any (λ e. extends_without_party u (with_path key (x ∷ p) (s ∷ sigs)) (accepted e)) (history b a)) (leaving d.graph u) ≡ true
       → Taken d b (with_path key p sigs)
   inner_taken u x p s sigs key e =
-      let y = in_any (λ a. list_any (λ e. extends_without u (with_path key (x ∷ p) (s ∷ sigs)) (accepted e)) (history b a)) (leaving d.graph u) e in
-      let z = in_any (λ e. extends_without u (with_path key (x ∷ p) (s ∷ sigs)) (accepted e)) (history b y.0) y.2 in
+      let y = in_any (λ a. list_any (λ e. extends_without_party u (with_path key (x ∷ p) (s ∷ sigs)) (accepted e)) (history b a)) (leaving d.graph u) e in
+      let z = in_any (λ e. extends_without_party u (with_path key (x ∷ p) (s ∷ sigs)) (accepted e)) (history b y.0) y.2 in
       let i = extended_without u (with_path key (x ∷ p) (s ∷ sigs)) (accepted z.0) z.2 in
       let q = and_parts (x == u) (same_key i.0 (with_path key p sigs)) i.3 in
       let m = moment_from_in (history b y.0) z.0 z.1 in
@@ -210,7 +211,7 @@ module _ (d : Deal) (b : Histories) (k : IsAccepted d) (legal : IsLegalBook d b)
             → has_arc d.graph (counterparty d t.arc) (counterparty d y.arc) ≡ true → Again m → IsShown
         next inner y sy arc again = go (leads d (counterparty d y.arc) 0) refl
           where
-            apart : IsIn (counterparty d y.arc) p → ⊥
+            apart : IsElement (counterparty d y.arc) p → ⊥
             apart i =
                 let z = suffix_from d.graph d.leaders p (counterparty d y.arc) (counterparty d t.arc) path last fs i in
                 false≢true (sym (k.feedback (counterparty d y.arc) (counterparty d t.arc) z.part z.between z.followers) ∙ arc)

@@ -4,23 +4,23 @@ use Rattle.std.proofs.Common.{◌++◌, length, Some, None, refl, sym, ap, ◌�
 use Rattle.std.specs.List.{list_any, list_all, range_with_len, flat_map, cons_option}
 use Rattle.std.proofs.lemmas.Bool.{false≢true}
 use Rattle.std.specs.Prelude.{filter_map}
-use Rattle.swap_base.specs.Lists.{IsIn, moments}
+use Rattle.swap_base.specs.Lists.{IsElement, moments}
 use Rattle.swap_base.proofs.Lists.{list_any-in, list_all-from, and_both, in_append, at_moment, all_from_list_all, in_range, in_flat_map}
 use Rattle.swap_digraph.specs.Deal.{party}
 use Rattle.swap_digraph.specs.declared.deal.Deal.{Deal}
 use Rattle.swap_digraph.specs.Graph.{arcs}
 use Rattle.ledger_core.specs.History.{height}
 use Rattle.ledger_core.specs.Book.{Histories, history, IsLegalBook}
-use Rattle.swap_rules.specs.Findings.{findings, or_zero, failing, broken, deal_rules, late_on, lates, forgeries, party_findings, unfinished}
+use Rattle.swap_rules.specs.Findings.{findings, or_zero, failing, broken, deal_rules, arc_late_findings, lates, forgeries, party_findings, unfinished}
 use Rattle.swap_rules.specs.Conduct.{IsConducted, keeps_entry}
-use Rattle.swap_rules.specs.Late.{ref_of, is_late}
+use Rattle.swap_rules.specs.Late.{reference_height, is_late}
 use Rattle.swap_rules.specs.Forged.{is_forged}
 use Rattle.swap_rules.specs.Outcome.{IsEnded}
 use Rattle.swap_rules.specs.declared.finding.Rule.{Rule}
 use Rattle.swap_rules.specs.declared.finding.Rule.TheVariants.{Publish as ToPublish, Unlock as ToUnlock, Claim as ToClaim, Refund as ToRefund}
 use Rattle.swap_rules.specs.declared.finding.Finding.{Finding}
 use Rattle.swap_rules.specs.declared.finding.Finding.TheVariants.{Broke, Late, Forged, Unfinished}
-use Rattle.swap_rules.specs.Laws.{UnnamedIsSafe, is_against, names_party, IsUnforged, WithoutFindingsAllIsTransferred, Conforms, NothingFound}
+use Rattle.swap_rules.specs.Laws.{UnnamedIsSafe, is_against_party, names_party, IsUnforged, WithoutFindingsAllIsTransferred, Conforms, NothingFound}
 use Rattle.swap_rules.proofs.Refunds.{every_book_is_safe, safe_by, unlocks_all, claims_all, has_refunds, on_time_asks}
 use Rattle.swap_rules.proofs.Entering.{UnlocksInTime}
 use Rattle.swap_rules.proofs.Accepted.{times_law}
@@ -69,9 +69,9 @@ nothing_of_party d b v legal e =
             (flat_map_none (λ a. failing (Broke v a) (keeps_entry d b v a) (history b a)) (arcs d.graph) a k2.0 (in_range a (length d.graph.arcs) l))
         | inr n ↦ ap (λ h. list_all (keeps_entry d b v a) (moments h)) (past_end b a (λ l. n (subst (λ z. a < z) legal.one_each l)))
       ];
-      on_time = λ rule a r i. late_none (is_late d b v rule a) (Late v rule a (or_zero (ref_of d b v rule a) + d.delta))
-          (flat_map_none (late_on d b v rule) (arcs d.graph) a (flat_map_none (λ rule.
-          flat_map (late_on d b v rule) (arcs d.graph)) (deal_rules d) rule k2.1 r) i);
+      on_time = λ rule a r i. late_none (is_late d b v rule a) (Late v rule a (or_zero (reference_height d b v rule a) + d.delta))
+          (flat_map_none (arc_late_findings d b v rule) (arcs d.graph) a (flat_map_none (λ rule.
+          flat_map (arc_late_findings d b v rule) (arcs d.graph)) (deal_rules d) rule k2.1 r) i);
       unforged = λ a past x w m.
           let out = leaves d v a w in
           let q =
@@ -105,17 +105,17 @@ nothing_found d conforming b legal e =
 
 -- What is found of a party stands in the list.
 
-failing_in : {A : Type 0} (say : A → Finding) (test : A → Bool) (xs : List A) (x : A) → IsIn x xs → test x ≡ false
-    → IsIn (say x) (filter_map (λ m. if test m then None else Some (say m)) xs)
+failing_in : {A : Type 0} (say : A → Finding) (test : A → Bool) (xs : List A) (x : A) → IsElement x xs → test x ≡ false
+    → IsElement (say x) (filter_map (λ m. if test m then None else Some (say m)) xs)
 failing_in say test [] x i e = absurd i
 failing_in say test (y ∷ xs) x (inl q) e =
     let f : test y ≡ false = ap test (sym q) ∙ e in
-    subst (λ o. IsIn (say x) (cons_option o (filter_map (λ m. if test m then None else Some (say m)) xs)))
+    subst (λ o. IsElement (say x) (cons_option o (filter_map (λ m. if test m then None else Some (say m)) xs)))
     (sym (ap (λ t. cond t None (Some (say y))) f)) (inl (ap say q))
 failing_in say test (y ∷ xs) x (inr i) e = later (if test y then None else Some (say y)) (failing_in say test xs x i e)
   where
-    later : (o : Option Finding) → IsIn (say x) (filter_map (λ m. if test m then None else Some (say m)) xs)
-        → IsIn (say x) (cons_option o (filter_map (λ m. if test m then None else Some (say m)) xs))
+    later : (o : Option Finding) → IsElement (say x) (filter_map (λ m. if test m then None else Some (say m)) xs)
+        → IsElement (say x) (cons_option o (filter_map (λ m. if test m then None else Some (say m)) xs))
     later None j = j
     later (Some z) j = inr j
 
@@ -124,12 +124,12 @@ split_test true h = refl
 split_test false h = absurd (h refl)
 
 module _ (d : Deal) (conforming : ℕ → Bool) (b : Histories) (v : ℕ) (legal : IsLegalBook d b) (below : v < d.graph.n) (c : conforming v ≡ true) where
-  of_party : (x : Finding) → IsIn x (party_findings d b v) → IsIn x (findings d conforming b)
+  of_party : (x : Finding) → IsElement x (party_findings d b v) → IsElement x (findings d conforming b)
   of_party x i = in_append (flat_map (λ v. if conforming v then party_findings d b v else []) (range_with_len 0 d.graph.n)) (unfinished d b) x (inl
       (in_flat_map (λ v. if conforming v then party_findings d b v else []) (range_with_len 0 d.graph.n) v x (in_range v d.graph.n below)
-      (subst (λ t. IsIn x (cond t (party_findings d b v) [])) (sym c) i)))
+      (subst (λ t. IsElement x (cond t (party_findings d b v) [])) (sym c) i)))
 
-  clean : (t : Finding → Bool) (x : Finding) → list_any t (findings d conforming b) ≡ false → IsIn x (party_findings d b v) → t x ≡ true → ⊥
+  clean : (t : Finding → Bool) (x : Finding) → list_any t (findings d conforming b) ≡ false → IsElement x (party_findings d b v) → t x ≡ true → ⊥
   clean t x none i p = false≢true (sym none ∙ list_any-in t (findings d conforming b) x p (of_party x i))
 
   -- What no finding of a kind says.
@@ -147,20 +147,20 @@ module _ (d : Deal) (conforming : ℕ → Bool) (b : Histories) (v : ℕ) (legal
       | inr n ↦ ap (λ h. list_all (keeps_entry d b v a) (moments h)) (past_end b a (λ l. n (subst (λ z. a < z) legal.one_each l)))
     ]
 
-    not_late_by : (rule : Rule) (a : ℕ) → ((due : ℕ) → t (Late v rule a due) ≡ true) → IsIn rule (deal_rules d) → IsIn a (arcs d.graph)
+    not_late_by : (rule : Rule) (a : ℕ) → ((due : ℕ) → t (Late v rule a due) ≡ true) → IsElement rule (deal_rules d) → IsElement a (arcs d.graph)
         → is_late d b v rule a ≡ false
     not_late_by rule a said r i = go (is_late d b v rule a) refl
       where
         go : (x : Bool) → is_late d b v rule a ≡ x → is_late d b v rule a ≡ false
         go false e = e
-        go true e = absurd (clean t (Late v rule a (or_zero (ref_of d b v rule a) + d.delta)) none
-            (in_append (broken d b v ++ lates d b v) (forgeries d b v) (Late v rule a (or_zero (ref_of d b v rule a) + d.delta))
-            (inl (in_append (broken d b v) (lates d b v) (Late v rule a (or_zero (ref_of d b v rule a) + d.delta)) (inr
-            (in_flat_map (λ rule. flat_map (late_on d b v rule) (arcs d.graph)) (deal_rules d) rule (Late v rule a (or_zero (ref_of d b v rule a) + d.delta)) r
-            (in_flat_map (late_on d b v rule) (arcs d.graph) a (Late v rule a (or_zero (ref_of d b v rule a) + d.delta)) i
-            (subst (λ t. IsIn (Late v rule a (or_zero (ref_of d b v rule a) + d.delta))
-            (cond t (Late v rule a (or_zero (ref_of d b v rule a) + d.delta) ∷ []) [])) (sym e) (inl refl))))))))
-            (said (or_zero (ref_of d b v rule a) + d.delta)))
+        go true e = absurd (clean t (Late v rule a (or_zero (reference_height d b v rule a) + d.delta)) none
+            (in_append (broken d b v ++ lates d b v) (forgeries d b v) (Late v rule a (or_zero (reference_height d b v rule a) + d.delta))
+            (inl (in_append (broken d b v) (lates d b v) (Late v rule a (or_zero (reference_height d b v rule a) + d.delta)) (inr
+            (in_flat_map (λ rule. flat_map (arc_late_findings d b v rule) (arcs d.graph)) (deal_rules d) rule (Late v rule a (or_zero (reference_height d b v rule a) + d.delta)) r
+            (in_flat_map (arc_late_findings d b v rule) (arcs d.graph) a (Late v rule a (or_zero (reference_height d b v rule a) + d.delta)) i
+            (subst (λ t. IsElement (Late v rule a (or_zero (reference_height d b v rule a) + d.delta))
+            (cond t (Late v rule a (or_zero (reference_height d b v rule a) + d.delta) ∷ []) [])) (sym e) (inl refl))))))))
+            (said (or_zero (reference_height d b v rule a) + d.delta)))
 
     ended_by : ((a n : ℕ) → t (Unfinished a n) ≡ true) → IsEnded d b
     ended_by said a l =
@@ -170,7 +170,7 @@ module _ (d : Deal) (conforming : ℕ → Bool) (b : Histories) (v : ℕ) (legal
         (Unfinished a (height (history b a))) (inr
         (in_flat_map (λ a. if nat_lt (times.horizon d.start d.delta d.bound) (height (history b a)) then [] else Unfinished a (height (history b a))
         ∷ []) (arcs d.graph) a (Unfinished a (height (history b a))) (in_range a (length d.graph.arcs) l)
-        (subst (λ t. IsIn (Unfinished a (height (history b a))) (cond t [] (Unfinished a (height (history b a)) ∷ []))) (sym e) (inl refl))))))))
+        (subst (λ t. IsElement (Unfinished a (height (history b a))) (cond t [] (Unfinished a (height (history b a)) ∷ []))) (sym e) (inl refl))))))))
 
   is_unforged : list_any (names_party d v) (findings d conforming b) ≡ false → IsUnforged d b v
   is_unforged none a past x w m =
@@ -189,9 +189,9 @@ module _ (d : Deal) (conforming : ℕ → Bool) (b : Histories) (v : ℕ) (legal
 pub unnamed_is_safe : UnnamedIsSafe
 unnamed_is_safe d conforming b v k legal below c none =
     let s =
-    every_book_is_safe d b v k legal (ended_by d conforming b v legal below c (is_against v) none (λ a n. refl))
-    (conducted_by d conforming b v legal below c (is_against v) none (λ a e. eq-eqb v v refl))
-    (λ rule a r i. not_late_by d conforming b v legal below c (is_against v) none rule a (λ due. eq-eqb v v refl) r i) in
+    every_book_is_safe d b v k legal (ended_by d conforming b v legal below c (is_against_party v) none (λ a n. refl))
+    (conducted_by d conforming b v legal below c (is_against_party v) none (λ a e. eq-eqb v v refl))
+    (λ rule a r i. not_late_by d conforming b v legal below c (is_against_party v) none rule a (λ due. eq-eqb v v refl) r i) in
     (λ unforged. s.safe (is_unforged d conforming b v legal below c unforged), s.refunds)
 
 -- A party whose publishes and refunds alone were late isn't underwater.
@@ -209,7 +209,7 @@ late_publish_is_safe d conforming b v k legal below c none unnamed =
     unlocks : UnlocksInTime d b v
     unlocks i a l j = not_late_by d conforming b v legal below c (endangers v) none (ToUnlock i) a (λ due. eq-eqb v v refl) (unlock_rule d i l) j
 
-    claimed : (a : ℕ) → IsIn a (arcs d.graph) → is_late d b v ToClaim a ≡ false
+    claimed : (a : ℕ) → IsElement a (arcs d.graph) → is_late d b v ToClaim a ≡ false
     claimed a j = not_late_by d conforming b v legal below c (endangers v) none ToClaim a (λ due. eq-eqb v v refl) (claim_rule d) j
 
 -- A party whose unlocks and claims alone were late has its refunds.
@@ -223,10 +223,10 @@ late_unlock_has_refunds d conforming b v k legal below c none =
     conducted : IsConducted d b v
     conducted = conducted_by d conforming b v legal below c (strands v) none (λ a e. eq-eqb v v refl)
 
-    published : (a : ℕ) → IsIn a (arcs d.graph) → is_late d b v ToPublish a ≡ false
+    published : (a : ℕ) → IsElement a (arcs d.graph) → is_late d b v ToPublish a ≡ false
     published a j = not_late_by d conforming b v legal below c (strands v) none ToPublish a (λ due. eq-eqb v v refl) (publish_rule d) j
 
-    asked : (a : ℕ) → IsIn a (arcs d.graph) → is_late d b v ToRefund a ≡ false
+    asked : (a : ℕ) → IsElement a (arcs d.graph) → is_late d b v ToRefund a ≡ false
     asked a j = not_late_by d conforming b v legal below c (strands v) none ToRefund a (λ due. eq-eqb v v refl) (refund_rule d) j
 
 pub without_findings_all_is_transferred : WithoutFindingsAllIsTransferred

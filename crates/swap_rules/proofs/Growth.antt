@@ -1,8 +1,8 @@
 -- What a book keeps when it grows.
 use Rattle.std.proofs.Common.{◌≡◌, ℕ, nat_le, Bool, true, false, cond, ◌||◌, List, Option, Some, None, is_some, refl, sym, ap, ◌∙◌}
 use Rattle.std.specs.List.{list_any}
-use Rattle.swap_base.specs.Lists.{IsIn}
-use Rattle.swap_base.proofs.Lists.{first_of-front, list_all-in, list_all-from, list_any-in, and_parts, and_both}
+use Rattle.swap_base.specs.Lists.{IsElement}
+use Rattle.swap_base.proofs.Lists.{first_given_answer-front, list_all-in, list_all-from, list_any-in, and_parts, and_both}
 use Rattle.swap_digraph.specs.declared.deal.Mode.{Mode}
 use Rattle.swap_digraph.specs.declared.deal.Mode.TheVariants.{Timelocks, Hashkeys}
 use Rattle.swap_digraph.specs.declared.deal.Deal.{Deal}
@@ -13,7 +13,7 @@ use Rattle.ledger_core.specs.declared.entry.Entry.{Entry}
 use Rattle.ledger_core.specs.History.{accepted, Publication, publication, published, Opening, opening, opened, is_open, triggered}
 use Rattle.ledger_core.specs.Book.{Histories, history}
 use Rattle.swap_rules.specs.Party.{is_arc_correct, is_correct, publication_height, is_good, is_ready, leads_one}
-use Rattle.swap_rules.specs.Conduct.{has_seen, has_origin, carries, extends_without, is_alone}
+use Rattle.swap_rules.specs.Conduct.{has_seen, has_origin, carries, extends_without_party, is_alone}
 use Rattle.ledger_core.proofs.History.{is_some-of}
 use Rattle.swap_rules.proofs.Prefixes.{list_any-more, in_any}
 use Rattle.swap_rules.specs.Machine.{Begins}
@@ -23,10 +23,10 @@ abbrev pub Grows : Histories → Histories → Type 0
 Grows b c = (a : ℕ) → Begins (history b a) (history c a)
 
 pub published-more : (k h : List Entry) (p : Publication) → Begins k h → published k ≡ Some p → published h ≡ Some p
-published-more k h p b e = ap published b.1 ∙ first_of-front (λ e. publication e.height (accepted e)) k b.0 p e
+published-more k h p b e = ap published b.1 ∙ first_given_answer-front (λ e. publication e.height (accepted e)) k b.0 p e
 
 pub opened-more : (k h : List Entry) (i : ℕ) (o : Opening) → Begins k h → opened k i ≡ Some o → opened h i ≡ Some o
-opened-more k h i o b e = ap (λ l. opened l i) b.1 ∙ first_of-front (λ e. opening i e.height (accepted e)) k b.0 o e
+opened-more k h i o b e = ap (λ l. opened l i) b.1 ∙ first_given_answer-front (λ e. opening i e.height (accepted e)) k b.0 o e
 
 pub is_open-more : (k h : List Entry) (i : ℕ) → Begins k h → is_open k i ≡ true → is_open h i ≡ true
 is_open-more k h i b e = let o = is_some-of (opened k i) e in ap is_some (opened-more k h i o.0 b o.1)
@@ -64,7 +64,7 @@ unfolding is_ready
 is_ready-more d b c v g e =
     list_all-from (is_good d c) (entering d.graph v) (λ a w. is_good-more d b c a g (list_all-in (is_good d b) (entering d.graph v) a e w))
 
-pub ready_good : (d : Deal) (b : Histories) (v a : ℕ) → is_ready d b v ≡ true → IsIn a (entering d.graph v) → is_good d b a ≡ true
+pub ready_good : (d : Deal) (b : Histories) (v a : ℕ) → is_ready d b v ≡ true → IsElement a (entering d.graph v) → is_good d b a ≡ true
 unfolding is_ready
 ready_good d b v a e w = list_all-in (is_good d b) (entering d.graph v) a e w
 
@@ -89,10 +89,10 @@ origin-more Timelocks d b c v key g e = go (leads d v key.lock) e
     go false e = any-more b c (λ e. carries key.secret (accepted e)) (leaving d.graph v) g e
 origin-more Hashkeys d b c v key g e = go (leads d v key.lock) e
   where
-    go : (x : Bool) → cond x (is_alone v key.path) (has_seen d b v (extends_without v key)) ≡ true
-        → cond x (is_alone v key.path) (has_seen d c v (extends_without v key)) ≡ true
+    go : (x : Bool) → cond x (is_alone v key.path) (has_seen d b v (extends_without_party v key)) ≡ true
+        → cond x (is_alone v key.path) (has_seen d c v (extends_without_party v key)) ≡ true
     go true e = e
-    go false e = any-more b c (λ e. extends_without v key (accepted e)) (leaving d.graph v) g e
+    go false e = any-more b c (λ e. extends_without_party v key (accepted e)) (leaving d.graph v) g e
 
 pub has_origin-more : (d : Deal) (b c : Histories) (v : ℕ) (key : Hashkey) → Grows b c → has_origin d.mode d b v key ≡ true → has_origin d.mode d c v key ≡ true
 has_origin-more d b c v key g e = origin-more d.mode d b c v key g e

@@ -1,8 +1,9 @@
--- A party's own knowledge as its book: what holds of its calls there holds in every book that has no further call of it.
+-- A party's own knowledge as its book: what holds of its calls there holds in every book that has
+-- no further call of it.
 use Rattle.std.proofs.Common.{append_assoc, ◌≡◌, ◌≢◌, ◌⊎◌, ℕ, ◌<◌, List, [], ◌∷◌, ◌++◌, length, Option, Some, sym, ap, ◌∙◌, subst, inl, inr, set}
 use Rattle.std.proofs.lemmas.Option.{same_Some}
 use Rattle.std.proofs.lemmas.List.{length-set}
-use Rattle.swap_base.specs.Lists.{IsIn, IsMoment}
+use Rattle.swap_base.specs.Lists.{IsElement, IsMoment}
 use Rattle.swap_base.proofs.Lists.{in_from_moment}
 use Rattle.swap_digraph.specs.declared.deal.Deal.{Deal}
 use Rattle.hashkey_path.specs.declared.hashkey.Hashkey.{Hashkey}
@@ -34,7 +35,7 @@ own_known v k h past e c kn m q = go (split k kn.rest past e m.0 (sym kn.whole �
     go (inr b) =
         let rest : kn.rest ≡ b.0 ++ e ∷ m.0 =
         cancel k kn.rest (b.0 ++ e ∷ m.0) (sym kn.whole ∙ (m.1 ∙ (ap (λ l. l ++ e ∷ m.0) b.1 ∙ append_assoc k b.0 (e ∷ m.0)))) in
-        let none = none_called v e (kn.others e (subst (IsIn e) (sym rest) (in_from_moment b.0 e m.0))) in
+        let none = none_called v e (kn.others e (subst (IsElement e) (sym rest) (in_from_moment b.0 e m.0))) in
         absurd (cc (sym none ∙ q))
 
 -- The transfer: from v's knowledge to every book that holds it and no further call of v.
@@ -80,7 +81,8 @@ learn_sound d known signed v a more below others legal s = record {
         })
     knows c (inr n) = subst (Knows v (history known c)) (sym (history_other known a c (history known a ++ more) n)) (knows_all v (history known c))
 
--- v makes a call that was due over what it knew; before its entry it learns the entries of others that came between
+-- v makes a call that was due over what it knew; before its entry it learns the entries of others
+-- that came between
 pub call_sound : DueIsSound
 call_sound d v w known signed x fresh wallet fits i below others legal s =
     let s1 = learn_sound d known signed v x.arc fresh below others legal s in

@@ -4,15 +4,15 @@ use Rattle.std.proofs.Common.{sym, ap, ◌∙◌, subst, inl, inr, arith, ltb-tr
 use Rattle.std.proofs.lemmas.Bool.{false≢true}
 use Rattle.std.proofs.lemmas.List.Sums.{sum_by_push}
 use Rattle.std.specs.Prelude.{map}
-use Rattle.swap_base.specs.Lists.{IsIn, IsMoment}
+use Rattle.swap_base.specs.Lists.{IsElement, IsMoment}
 use Rattle.swap_base.proofs.Lists.{Order, moments_in_order, any_at, list_any-in, in_filter, from_filter, some_fails_all, and_parts, and_both}
-use Rattle.swap_base.proofs.Lists.{in_from_moment, all_moments_front, first_of-front, Earlier, Same, Later, in_map}
+use Rattle.swap_base.proofs.Lists.{in_from_moment, all_moments_front, first_given_answer-front, Earlier, Same, Later, in_map}
 use Rattle.swap_digraph.specs.declared.deal.Deal.{Deal}
 use Rattle.swap_digraph.specs.Deal.{counterparty, locks}
 use Rattle.hashkey_path.specs.declared.hashkey.Hashkey.{Hashkey}
 use Rattle.hashkey_path.specs.Hashkey.{is_valid}
 use Rattle.escrow_core.specs.declared.terms.Terms.{Terms}
-use Rattle.escrow_core.specs.Terms.{stated_terms, lock_expiry, last_unlock, read_hashlock, least, closed_locks, refund_expiry}
+use Rattle.escrow_core.specs.Terms.{stated_terms, lock_expiry, last_unlock, terms_hashlock, least, closed_locks, refund_expiry}
 use Rattle.escrow_core.specs.Table.{are_open}
 use Rattle.ledger_core.specs.declared.entry.Call.TheVariants.{Unlock, Claim}
 use Rattle.ledger_core.specs.declared.entry.Entry.{Entry}
@@ -20,7 +20,7 @@ use Rattle.ledger_core.specs.History.{entry_ticks, height, accepted, Publication
 use Rattle.ledger_core.specs.History.{IsLegal, IsLegalMoment}
 use Rattle.ledger_core.specs.declared.facts.Settlement.TheVariants.{Refunded}
 use Rattle.swap_rules.specs.Party.{expiry, has_expired, least_expiry}
-use Rattle.swap_rules.specs.Laws.{IsClaimedBy}
+use Rattle.swap_rules.specs.Laws.{IsClaimedInTime}
 use Rattle.swap_rules.proofs.Effects.{unlock_opens, claim_claims}
 use Rattle.ledger_core.proofs.History.{not-true-of, Act, Done, opened_done, claimed_done, of_unlock, height-past, opened-now, is_some-of}
 
@@ -39,7 +39,7 @@ is_open_by h i t o = ap is_some o.opened
 -- An unlock in time with a valid hashkey leaves its lock open by then.
 pub unlock_opens_by : (d : Deal) (a : ℕ) (h past : List Entry) (e : Entry) (key : Hashkey) (p : Publication) → IsLegal d a h → (m : IsMoment h past e)
     → (act : Act d a past e (Unlock key))
-    → act.by ≡ counterparty d a → published past ≡ Some p → is_valid d a (read_hashlock p.terms key.lock) key ≡ true
+    → act.by ≡ counterparty d a → published past ≡ Some p → is_valid d a (terms_hashlock p.terms key.lock) key ≡ true
     → height past ≤ last_unlock d.mode p.terms key → (settled past ≡ Some Refunded → ⊥) → IsOpenBy h key.lock (height past)
 unlock_opens_by d a h past e key p l m act by pub_past valid in_time unrefunded =
     let whole : h ≡ (past ++ e ∷ []) ++ m.0 = m.1 ∙ sym append_assoc_at in
@@ -55,7 +55,7 @@ unlock_opens_by d a h past e key p l m act by pub_past valid in_time unrefunded 
     record {
       opening = o.0;
       opened = ap (λ x. opened x key.lock) whole
-          ∙ first_of-front (λ x. opening key.lock x.height (accepted x)) (past ++ e ∷ []) m.0 o.0 o.1;
+          ∙ first_given_answer-front (λ x. opening key.lock x.height (accepted x)) (past ++ e ∷ []) m.0 o.0 o.1;
       early = omega arith;
     }
   where
@@ -65,7 +65,7 @@ unlock_opens_by d a h past e key p l m act by pub_past valid in_time unrefunded 
 -- A claim behind open locks leaves the arc claimed by then.
 pub claim_claims_by : (d : Deal) (a : ℕ) (h past : List Entry) (e : Entry) (p : Publication) → IsLegal d a h → (m : IsMoment h past e)
     → (act : Act d a past e Claim)
-    → act.by ≡ counterparty d a → published past ≡ Some p → triggered d past ≡ true → IsClaimedBy h (height past)
+    → act.by ≡ counterparty d a → published past ≡ Some p → triggered d past ≡ true → IsClaimedInTime h (height past)
 claim_claims_by d a h past e p l m act by pub_past all_open =
     let whole : h ≡ (past ++ e ∷ []) ++ m.0 = m.1 ∙ sym append_assoc_at in
     let l1 : IsLegal d a (past ++ e ∷ []) = all_moments_front (IsLegalMoment d a) (past ++ e ∷ []) m.0 (subst (IsLegal d a) whole l) in
@@ -103,21 +103,21 @@ opened_once d a h i t key o l done e q =
 
 -- The least expiry of a closed lock.
 
-least-in : (x : ℕ) (xs : List ℕ) → IsIn (least (x ∷ xs)) (x ∷ xs)
+least-in : (x : ℕ) (xs : List ℕ) → IsElement (least (x ∷ xs)) (x ∷ xs)
 least-in x [] = inl refl
-least-in x (y ∷ xs) = elim (min_cases x (least (y ∷ xs))) [ inl e ↦ inl e | inr e ↦ inr (subst (λ z. IsIn z (y ∷ xs)) (sym e) (least-in y xs)) ]
+least-in x (y ∷ xs) = elim (min_cases x (least (y ∷ xs))) [ inl e ↦ inl e | inr e ↦ inr (subst (λ z. IsElement z (y ∷ xs)) (sym e) (least-in y xs)) ]
   where
     min_cases : (m n : ℕ) → (min m n ≡ m) ⊎ (min m n ≡ n)
     min_cases m n = grind arith
 
-pub least-below : (xs : List ℕ) (x : ℕ) → IsIn x xs → least xs ≤ x
+pub least-below : (xs : List ℕ) (x : ℕ) → IsElement x xs → least xs ≤ x
 least-below [] x i = absurd i
 least-below (y ∷ []) x (inl e) = omega arith
 least-below (y ∷ []) x (inr i) = absurd i
 least-below (y ∷ z ∷ xs) x (inl e) = omega arith
 least-below (y ∷ z ∷ xs) x (inr i) = let h = least-below (z ∷ xs) x i in omega arith
 
-from_map : {A B : Type 0} (f : A → B) (xs : List A) (y : B) → IsIn y (map f xs) → (x : A) × IsIn x xs × (f x ≡ y)
+from_map : {A B : Type 0} (f : A → B) (xs : List A) (y : B) → IsElement y (map f xs) → (x : A) × IsElement x xs × (f x ≡ y)
 from_map f [] y i = absurd i
 from_map f (x ∷ xs) y (inl e) = (x, inl refl, sym e)
 from_map f (x ∷ xs) y (inr i) = let r = from_map f xs y i in (r.0, inr r.1, r.2)
@@ -125,7 +125,7 @@ from_map f (x ∷ xs) y (inr i) = let r = from_map f xs y i in (r.0, inr r.1, r.
 -- the closed lock with the least expiry
 pub record FirstExpiry (d : Deal) (a : ℕ) (t : Terms) (o : ℕ → Bool) : Type 0 where
   pub lock : ℕ
-  pub within : IsIn lock (locks d)
+  pub within : IsElement lock (locks d)
   pub closed : o lock ≡ false
   pub height : lock_expiry d.mode d a t lock ≡ refund_expiry d a t o
 
@@ -134,15 +134,15 @@ first_expiry d a t o h =
     let shut = some_fails_all o (locks d) h in
     go shut.0 (closed_locks d o) refl (in_filter (λ i. not (o i)) shut.0 (locks d) shut.1 (ap not shut.2))
   where
-    go : (x : ℕ) (xs : List ℕ) → closed_locks d o ≡ xs → IsIn x xs → FirstExpiry d a t o
+    go : (x : ℕ) (xs : List ℕ) → closed_locks d o ≡ xs → IsElement x xs → FirstExpiry d a t o
     go x [] e i = absurd i
     go x (y ∷ ys) e i =
         let m = least-in (lock_expiry d.mode d a t y) (map (lock_expiry d.mode d a t) ys) in
         let r = from_map (lock_expiry d.mode d a t) (y ∷ ys) (least (map (lock_expiry d.mode d a t) (y ∷ ys))) m in
-        let q = from_filter (λ i. not (o i)) r.0 (locks d) (subst (IsIn r.0) (sym e) r.1) in
+        let q = from_filter (λ i. not (o i)) r.0 (locks d) (subst (IsElement r.0) (sym e) r.1) in
         record { lock = r.0; within = q.0; closed = not-true-of (o r.0) q.1; height = r.2 ∙ ap (λ z. least (map (lock_expiry d.mode d a t) z)) (sym e) }
 
-pub refund_expiry-low : (d : Deal) (a : ℕ) (t : Terms) (o : ℕ → Bool) (i : ℕ) → IsIn i (locks d) → o i ≡ false
+pub refund_expiry-low : (d : Deal) (a : ℕ) (t : Terms) (o : ℕ → Bool) (i : ℕ) → IsElement i (locks d) → o i ≡ false
     → refund_expiry d a t o ≤ lock_expiry d.mode d a t i
 refund_expiry-low d a t o i w h =
     least-below (map (lock_expiry d.mode d a t) (closed_locks d o)) (lock_expiry d.mode d a t i)
@@ -151,7 +151,7 @@ refund_expiry-low d a t o i w h =
 -- a closed lock that is expired at a height
 pub record Expired (d : Deal) (a : ℕ) (h : List Entry) (at : ℕ) : Type 0 where
   pub lock : ℕ
-  pub within : IsIn lock (locks d)
+  pub within : IsElement lock (locks d)
   pub closed : is_open h lock ≡ false
   pub above : expiry d a lock < at
 
@@ -161,12 +161,12 @@ expired_lock d a h at e =
     let k = and_parts (not (is_open h f.now)) (nat_lt (expiry d a f.now) at) f.passes in
     record {
       lock = f.now;
-      within = subst (IsIn f.now) (sym f.stands.1) (in_from_moment f.past f.now f.stands.0);
+      within = subst (IsElement f.now) (sym f.stands.1) (in_from_moment f.past f.now f.stands.0);
       closed = not-true-of (is_open h f.now) k.0;
       above = ltb-true (expiry d a f.now) at k.1;
     }
 
-pub has_expired-lock : (d : Deal) (a : ℕ) (h : List Entry) (at i : ℕ) → IsIn i (locks d) → is_open h i ≡ false → expiry d a i < at → has_expired d a h at ≡ true
+pub has_expired-lock : (d : Deal) (a : ℕ) (h : List Entry) (at i : ℕ) → IsElement i (locks d) → is_open h i ≡ false → expiry d a i < at → has_expired d a h at ≡ true
 has_expired-lock d a h at i w c l =
     list_any-in (λ i. not (is_open h i) && nat_lt (expiry d a i) at) (locks d) i
     (and_both (not (is_open h i)) (nat_lt (expiry d a i) at) (ap not c) (lt-ltb (expiry d a i) at l)) w

@@ -3,16 +3,16 @@ use Rattle.std.proofs.Common.{append_assoc, length-append, ◌≡◌, ◌≢◌,
 use Rattle.std.proofs.Common.{None, refl, sym, ap, ◌∙◌, subst, inl, inr, arith, eqb-true, eq-eqb, append-nil}
 use Rattle.std.specs.List.{list_any, flat_map}
 use Rattle.std.proofs.lemmas.Bool.{false≢true}
-use Rattle.swap_base.specs.Lists.{IsIn, IsMoment}
+use Rattle.swap_base.specs.Lists.{IsElement, IsMoment}
 use Rattle.swap_base.proofs.Lists.{Order, moments_in_order, Earlier, Same, Later, any_at, list_any-in, in_from_moment, in_append, from_append}
 use Rattle.ledger_core.specs.declared.entry.Entry.{Entry}
-use Rattle.ledger_core.specs.History.{height, is_sender, read_raw_call}
+use Rattle.ledger_core.specs.History.{height, is_sender, made_call}
 use Rattle.swap_rules.specs.Party.{pick_call}
 use Rattle.ledger_core.proofs.History.{height_append, not-true}
 use Rattle.swap_rules.specs.Machine.{Begins}
 
 -- what stands in the whole stands in a piece
-pub from_flat_map : {A B : Type 0} (f : A → List B) (xs : List A) (y : B) → IsIn y (flat_map f xs) → (x : A) × IsIn x xs × IsIn y (f x)
+pub from_flat_map : {A B : Type 0} (f : A → List B) (xs : List A) (y : B) → IsElement y (flat_map f xs) → (x : A) × IsElement x xs × IsElement y (f x)
 from_flat_map f [] y i = absurd i
 from_flat_map f (x ∷ xs) y i =
     elim (from_append (f x) (flat_map f xs) y i) [ inl j ↦ (x, inl refl, j) | inr j ↦ (let r = from_flat_map f xs y j in (r.0, inr r.1, r.2)) ]
@@ -74,20 +74,20 @@ at_end h y past x m = go (moments_in_order (h ++ y ∷ []) past h x y m ([], ref
 pub list_any-more : {A : Type 0} (p : A → Bool) (xs ys : List A) → list_any p xs ≡ true → list_any p (xs ++ ys) ≡ true
 list_any-more p xs ys e =
     let f = any_at p xs e in
-    list_any-in p (xs ++ ys) f.now f.passes (in_append xs ys f.now (inl (subst (IsIn f.now) (sym f.stands.1) (in_from_moment f.past f.now f.stands.0))))
+    list_any-in p (xs ++ ys) f.now f.passes (in_append xs ys f.now (inl (subst (IsElement f.now) (sym f.stands.1) (in_from_moment f.past f.now f.stands.0))))
 
-pub list_any-none : {A : Type 0} (p : A → Bool) (xs : List A) → ((x : A) → IsIn x xs → p x ≡ false) → list_any p xs ≡ false
+pub list_any-none : {A : Type 0} (p : A → Bool) (xs : List A) → ((x : A) → IsElement x xs → p x ≡ false) → list_any p xs ≡ false
 list_any-none p xs h =
     not-true (list_any p xs) (λ e. let f = any_at p xs e in
-    false≢true (sym (h f.now (subst (IsIn f.now) (sym f.stands.1) (in_from_moment f.past f.now f.stands.0))) ∙ f.passes))
+    false≢true (sym (h f.now (subst (IsElement f.now) (sym f.stands.1) (in_from_moment f.past f.now f.stands.0))) ∙ f.passes))
 
-pub in_any : {A : Type 0} (p : A → Bool) (xs : List A) → list_any p xs ≡ true → (x : A) × IsIn x xs × (p x ≡ true)
-in_any p xs e = let f = any_at p xs e in (f.now, subst (IsIn f.now) (sym f.stands.1) (in_from_moment f.past f.now f.stands.0), f.passes)
+pub in_any : {A : Type 0} (p : A → Bool) (xs : List A) → list_any p xs ≡ true → (x : A) × IsElement x xs × (p x ≡ true)
+in_any p xs e = let f = any_at p xs e in (f.now, subst (IsElement f.now) (sym f.stands.1) (in_from_moment f.past f.now f.stands.0), f.passes)
 
-pub not_any-in : {A : Type 0} (p : A → Bool) (xs : List A) (x : A) → list_any p xs ≡ false → IsIn x xs → p x ≡ false
+pub not_any-in : {A : Type 0} (p : A → Bool) (xs : List A) (x : A) → list_any p xs ≡ false → IsElement x xs → p x ≡ false
 not_any-in p xs x e i = not-true (p x) (λ q. false≢true (sym e ∙ list_any-in p xs x q i))
 
 -- Calls of v.
 
 pub none_called : (v : ℕ) (e : Entry) → is_sender v e.sender ≡ false → pick_call v e ≡ None
-none_called v e s = ap (λ b. cond b (read_raw_call e.what) None) s
+none_called v e s = ap (λ b. cond b (made_call e.what) None) s

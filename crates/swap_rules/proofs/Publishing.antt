@@ -3,8 +3,8 @@ use Rattle.std.proofs.Common.{le-leb, length-append, count_by, ◌≡◌, ℕ, s
 use Rattle.std.proofs.Common.{not, if◌then◌else◌, ◌&&◌, ◌||◌, List, [], ◌∷◌, ◌++◌, length, Option, Some, None, is_some, refl, sym, ap, ◌∙◌, subst, inl}
 use Rattle.std.proofs.Common.{inr, arith, eq-eqb, lt-ltb, le-ltb, mul-le-mul_right, ◌*◌}
 use Rattle.std.proofs.lemmas.Bool.{false≢true}
-use Rattle.swap_base.specs.Lists.{or_else, IsIn, IsMoment}
-use Rattle.swap_base.proofs.Lists.{list_all-from, in_range, in_filter, and_both, greatest-below, first_of-append, in_append, bool_or}
+use Rattle.swap_base.specs.Lists.{or_else, IsElement, IsMoment}
+use Rattle.swap_base.proofs.Lists.{list_all-from, in_range, in_filter, and_both, greatest-below, first_given_answer-append, in_append, bool_or}
 use Rattle.swap_digraph.specs.declared.deal.Deal.{Deal}
 use Rattle.swap_digraph.specs.Graph.{is_path, last_is, ends, arcs, leaving, entering, is_listed, are_followers}
 use Rattle.swap_digraph.specs.Deal.{party, counterparty, lock_leader, amount}
@@ -13,12 +13,12 @@ use Rattle.escrow_core.specs.Terms.{stated_terms, same_terms}
 use Rattle.ledger_core.specs.declared.entry.Call.TheVariants.{Publish}
 use Rattle.ledger_core.specs.declared.entry.Entry.{Entry}
 use Rattle.ledger_core.specs.History.{height, accepted, Publication, publication, published, settled, rows, IsLegal, accounts, held, balance, the_terms}
-use Rattle.ledger_core.specs.History.{parse_terms}
+use Rattle.ledger_core.specs.History.{publication_terms}
 use Rattle.ledger_core.specs.Book.{Histories, history, IsLegalBook}
 use Rattle.swap_rules.specs.declared.finding.Rule.TheVariants.{Publish as ToPublish}
 use Rattle.swap_rules.specs.Party.{is_arc_correct, is_correct, publication_height, is_good, is_ready, ready_height, leads_one, pick_call}
 use Rattle.swap_rules.specs.Conduct.{is_publish, keeps}
-use Rattle.swap_rules.specs.Late.{when, ref_of}
+use Rattle.swap_rules.specs.Late.{when, reference_height}
 use Rattle.swap_rules.specs.Outcome.{is_claim, IsEnded}
 use Rattle.swap_rules.specs.Accepted.{IsAccepted}
 use Rattle.swap_rules.proofs.Words.{same_terms-refl, publish_rule, same_terms-true, enters, act_of, and_three, leaves}
@@ -59,11 +59,11 @@ publish_takes d a h past e t l m act by same_amount own = go (published past) re
     go None q =
         let s : settled past ≡ None = settled-published d a past l0 q in
         let z : (accounts d a past).counterparty ≡ 0 =
-        counterparty_empty d a past l0 (λ x to units i. own x to units (subst (IsIn x) (sym m.1) (in_append past (e ∷ m.0) x (inl i))))
+        counterparty_empty d a past l0 (λ x to units i. own x to units (subst (IsElement x) (sym m.1) (in_append past (e ∷ m.0) x (inl i))))
         (ap is_claim s) in
         let u = units d a past l0 in
         let total = u.total in
-        let nothing : held past ≡ 0 = ap (λ x. cond (is_some x) 0 (the_terms past).amount) s ∙ ap (λ x. (parse_terms x).amount) q in
+        let nothing : held past ≡ 0 = ap (λ x. cond (is_some x) 0 (the_terms past).amount) s ∙ ap (λ x. (publication_terms x).amount) q in
         let has : t.amount ≤ (accounts d a past).party = omega arith in
         let funds : nat_lt (balance d a past act.by) t.amount ≡ false =
         ap (λ x. nat_lt (cond x (accounts d a past).party (accounts d a past).counterparty) t.amount) (eq-eqb act.by (party d a) by)
@@ -72,7 +72,7 @@ publish_takes d a h past e t l m act by same_amount own = go (published past) re
         (not-full d a past e (Publish t) act, (ap not (eq-eqb act.by (party d a) by), (ap is_some q, (funds, tt))))) in
         let new : Publication = record { height = e.height; terms = t } in
         let whole : published h ≡ Some new =
-        ap published m.1 ∙ (first_of-append (λ x. publication x.height (accepted x)) past (e ∷ m.0)
+        ap published m.1 ∙ (first_given_answer-append (λ x. publication x.height (accepted x)) past (e ∷ m.0)
         ∙ (ap (λ x. or_else x (published (e ∷ m.0))) q ∙ ap (λ x. or_else (publication e.height x) (published m.0)) took)) in
         let at : e.height ≡ height past = act.at in
         (new, whole, omega arith)
@@ -84,14 +84,14 @@ module _ (d : Deal) (b : Histories) (k : IsAccepted d) (legal : IsLegalBook d b)
   pub from_below : (a : ℕ) → a < length d.graph.arcs → party d a < d.graph.n
   from_below a l = (k.ends.from a l)
 
-  pub leaves_own : (a : ℕ) → a < length d.graph.arcs → IsIn a (leaving d.graph (party d a))
+  pub leaves_own : (a : ℕ) → a < length d.graph.arcs → IsElement a (leaving d.graph (party d a))
   leaves_own a l = in_filter (λ x. (ends d.graph x).from == party d a) a (arcs d.graph) (in_range a (length d.graph.arcs) l) (eq-eqb _ _ refl)
 
-  pub enters_own : (a : ℕ) → a < length d.graph.arcs → IsIn a (entering d.graph (counterparty d a))
+  pub enters_own : (a : ℕ) → a < length d.graph.arcs → IsElement a (entering d.graph (counterparty d a))
   enters_own a l = in_filter (λ x. (ends d.graph x).to == counterparty d a) a (arcs d.graph) (in_range a (length d.graph.arcs) l) (eq-eqb _ _ refl)
 
   -- a party that may publish does so in time
-  published_by : (u : ℕ) → u < d.graph.n → (a : ℕ) → IsIn a (leaving d.graph u) → (r : ℕ) → ref_of d b u ToPublish a ≡ Some r
+  published_by : (u : ℕ) → u < d.graph.n → (a : ℕ) → IsElement a (leaving d.graph u) → (r : ℕ) → reference_height d b u ToPublish a ≡ Some r
       → r ≤ times.opening_deadline d.start d.delta d.bound → IsGoodBy d b a (r + d.delta)
   unfolding keeps
   published_by u below a w r enabled low =
@@ -135,7 +135,7 @@ module _ (d : Deal) (b : Histories) (k : IsAccepted d) (legal : IsLegalBook d b)
       → Reach m x
   reach_back m x u c l e f lead below r p path followers last =
       let arc = arc_has d.graph c x u l e f in
-      let fresh : IsIn u p → ⊥ = λ i.
+      let fresh : IsElement u p → ⊥ = λ i.
       let s = suffix_from d.graph d.leaders p u x path last followers i in
       false≢true (sym (k.feedback u x s.part s.between s.followers) ∙ arc) in
       let more = path_snoc d.graph p x u path last arc below fresh in
@@ -145,7 +145,7 @@ module _ (d : Deal) (b : Histories) (k : IsAccepted d) (legal : IsLegalBook d b)
 
   height_bound : k.height ≤ d.bound
   height_bound =
-      let first : IsIn (lock_leader d 0) d.leaders = get_in d.leaders 0 0 k.leaders.0 in
+      let first : IsElement (lock_leader d 0) d.leaders = get_in d.leaders 0 0 k.leaders.0 in
       let n = height_below d.graph d.leaders (lock_leader d 0) k.height first (k.leader 0 k.leaders.0) k.is_height in
       let some : 1 * (k.height + 1) ≤ length d.leaders * (k.height + 1) = mul-le-mul_right (k.height + 1) k.leaders.0 in
       let m = k.bound.0 in omega arith
@@ -157,8 +157,8 @@ module _ (d : Deal) (b : Histories) (k : IsAccepted d) (legal : IsLegalBook d b)
       let g : m * d.delta ≤ d.bound * d.delta = mul-le-mul_right d.delta f in
       let s = k.start.0 in omega arith
 
-  leader_by : (m u : ℕ) → u < d.graph.n → leads_one d u ≡ true → (a : ℕ) → IsIn a (leaving d.graph u) → IsGoodBy d b a ((m + 1) * d.delta)
-  unfolding ref_of
+  leader_by : (m u : ℕ) → u < d.graph.n → leads_one d u ≡ true → (a : ℕ) → IsElement a (leaving d.graph u) → IsGoodBy d b a ((m + 1) * d.delta)
+  unfolding reference_height
   leader_by m u below lead a w =
       let on : (is_listed a (leaving d.graph u) && (leads_one d u || is_ready d b u)) ≡ true =
       and_both (is_listed a (leaving d.graph u)) _ (in-is_listed a (leaving d.graph u) w) (ap (λ x. x || is_ready d b u) lead) in
@@ -170,8 +170,8 @@ module _ (d : Deal) (b : Histories) (k : IsAccepted d) (legal : IsLegalBook d b)
 
   -- a follower whose entering arcs are good by t publishes by t + delta
   follower_by : (t u : ℕ) → t ≤ times.opening_deadline d.start d.delta d.bound → u < d.graph.n → leads_one d u ≡ false
-      → ((c : ℕ) → IsIn c (entering d.graph u) → IsGoodBy d b c t) → (a : ℕ) → IsIn a (leaving d.graph u) → IsGoodBy d b a (t + d.delta)
-  unfolding ref_of ready_height is_ready
+      → ((c : ℕ) → IsElement c (entering d.graph u) → IsGoodBy d b c t) → (a : ℕ) → IsElement a (leaving d.graph u) → IsGoodBy d b a (t + d.delta)
+  unfolding reference_height ready_height is_ready
   follower_by t u low below lead goods a w =
       let ready : is_ready d b u ≡ true = list_all-from (is_good d b) (entering d.graph u) (λ c i. good_of c t low (goods c i)) in
       let g_low : ready_height d b u ≤ t = greatest-below (λ c. publication_height (published (history b c))) (entering d.graph u) t
@@ -184,7 +184,7 @@ module _ (d : Deal) (b : Histories) (k : IsAccepted d) (legal : IsLegalBook d b)
       let early = g.early in
       record { contract = g.contract; published = g.published; correct = g.correct; early = omega arith }
 
-  good_by : (m : ℕ) → m ≤ k.height → (u : ℕ) → u < d.graph.n → Reach m u → (a : ℕ) → IsIn a (leaving d.graph u) → IsGoodBy d b a ((m + 1) * d.delta)
+  good_by : (m : ℕ) → m ≤ k.height → (u : ℕ) → u < d.graph.n → Reach m u → (a : ℕ) → IsElement a (leaving d.graph u) → IsGoodBy d b a ((m + 1) * d.delta)
   good_by zero h u below r a w =
       elim (bool_or (leads_one d u)) [
         | inl lead ↦ leader_by zero u below lead a w

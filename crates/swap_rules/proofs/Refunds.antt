@@ -1,13 +1,14 @@
--- Each party that is conducted and asks back what it published has its refunds; one that is never late does.
+-- Each party that is conducted and asks back what it published has its refunds; one that is never
+-- late does.
 use Rattle.std.proofs.Common.{count_by, ◌≡◌, ◌≢◌, ℕ, ◌+◌, ◌<◌, ◌≤◌, ◌==◌, nat_lt, Bool, true, false, cond, not, if◌then◌else◌, ◌&&◌, ◌||◌, List, []}
 use Rattle.std.proofs.Common.{◌∷◌, ◌++◌, length, Option, Some, None, is_some, is_none, refl, sym, ap, ◌∙◌, subst, inl, inr, arith, eqb-true, eq-eqb}
 use Rattle.std.proofs.Common.{ltb-true, le-ltb}
 use Rattle.std.proofs.lemmas.Bool.{false≢true}
 use Rattle.std.proofs.lemmas.Option.{same_Some}
 use Rattle.std.proofs.lemmas.List.Sums.{sum_by-append, sum_by-cons}
-use Rattle.swap_base.specs.Lists.{or_else, IsIn, IsMoment}
-use Rattle.swap_base.proofs.Lists.{first_of-now, Order, moments_in_order, in_range, and_both, moment_from_in, grow, all_moments_front, first_of-append}
-use Rattle.swap_base.proofs.Lists.{first_of-front, in_append, in_from_moment, list_any-in, Earlier, Same, Later}
+use Rattle.swap_base.specs.Lists.{or_else, IsElement, IsMoment}
+use Rattle.swap_base.proofs.Lists.{first_given_answer-now, Order, moments_in_order, in_range, and_both, moment_from_in, grow, all_moments_front, first_given_answer-append}
+use Rattle.swap_base.proofs.Lists.{first_given_answer-front, in_append, in_from_moment, list_any-in, Earlier, Same, Later}
 use Rattle.swap_digraph.specs.declared.deal.Deal.{Deal}
 use Rattle.swap_digraph.specs.Graph.{arcs, leaving, is_listed}
 use Rattle.swap_digraph.specs.Deal.{party}
@@ -19,7 +20,7 @@ use Rattle.ledger_core.specs.declared.entry.Sender.{Sender}
 use Rattle.ledger_core.specs.declared.entry.Sender.TheVariants.{Party}
 use Rattle.ledger_core.specs.declared.entry.Entry.{Entry}
 use Rattle.ledger_core.specs.History.{height, accepted, Publication, publication, published, settling, settled, is_open, triggered, rows, IsLegal}
-use Rattle.ledger_core.specs.History.{accounts, held, IsLegalMoment, the_terms, parse_terms, moved, transferred}
+use Rattle.ledger_core.specs.History.{accounts, held, IsLegalMoment, the_terms, publication_terms, moved, transferred}
 use Rattle.ledger_core.specs.declared.facts.Settlement.{Settlement}
 use Rattle.ledger_core.specs.declared.facts.Settlement.TheVariants.{Claimed, Refunded}
 use Rattle.ledger_core.specs.Book.{Histories, history, IsLegalBook}
@@ -28,7 +29,7 @@ use Rattle.swap_rules.specs.declared.finding.Rule.TheVariants.{Publish as ToPubl
 use Rattle.swap_rules.specs.declared.outcome.Outcome.TheVariants.{Underwater}
 use Rattle.swap_rules.specs.Party.{is_ready, ready_height, is_triggered, leads_one, pick_call, least_expiry, has_expired}
 use Rattle.swap_rules.specs.Conduct.{is_publish, keeps, IsConducted}
-use Rattle.swap_rules.specs.Late.{trigger_height, when, ref_of, counts, is_late}
+use Rattle.swap_rules.specs.Late.{trigger_height, when, reference_height, counts, is_late}
 use Rattle.swap_rules.specs.Outcome.{is_claim, outcome, IsEnded}
 use Rattle.swap_rules.specs.Accepted.{IsAccepted}
 use Rattle.swap_rules.specs.Laws.{IsOnTime, IsUnforged, HasRefunds, EveryBookIsSafe}
@@ -55,7 +56,7 @@ use Rattle.time_bounds.specs.Times as times
 module _ (d : Deal) (a : ℕ) where
   -- no call of the arc's party is a transfer
   abbrev pub NoOwnTransfer : List Entry → Type 0
-  NoOwnTransfer h = (e : Entry) (to units : ℕ) → IsIn e h → pick_call (party d a) e ≡ Some (Transfer to units) → ⊥
+  NoOwnTransfer h = (e : Entry) (to units : ℕ) → IsElement e h → pick_call (party d a) e ≡ Some (Transfer to units) → ⊥
 
   abbrev pub Empty : List Entry → Type 0
   Empty h = IsLegal d a h → NoOwnTransfer h → is_claim (settled h) ≡ false → (accounts d a h).counterparty ≡ 0
@@ -66,7 +67,7 @@ module _ (d : Deal) (a : ℕ) where
       go : (s : Option Settlement) → settled h ≡ s → is_claim (settled h) ≡ false
       go None q = ap is_claim q
       go (Some Refunded) q = ap is_claim q
-      go (Some Claimed) q = absurd (false≢true (sym k ∙ ap is_claim (first_of-front (λ e. settling (accepted e)) h (e ∷ []) Claimed q)))
+      go (Some Claimed) q = absurd (false≢true (sym k ∙ ap is_claim (first_given_answer-front (λ e. settling (accepted e)) h (e ∷ []) Claimed q)))
 
   pub from_moved : (h : List Entry) (e : Entry) (s : Sender) (o : Option Call) → e.sender ≡ s → accepted e ≡ o
       → (moved d a (accounts d a h) s o).counterparty ≡ 0 → (accounts d a (h ++ e ∷ [])).counterparty ≡ 0
@@ -82,7 +83,7 @@ module _ (d : Deal) (a : ℕ) where
       let q = clear_at d a (h ++ e ∷ []) h e Claim l ([], refl) k in
       let u = (of_claim d a h q.0.by q.1).unsettled in
       let s : settled (h ++ e ∷ []) ≡ Some Claimed =
-      first_of-append (λ e. settling (accepted e)) h (e ∷ [])
+      first_given_answer-append (λ e. settling (accepted e)) h (e ∷ [])
       ∙ (ap (λ x. or_else x (or_else (settling (accepted e)) None)) u ∙ ap (λ x. or_else (settling x) None) k) in
       absurd (false≢true (sym c ∙ ap is_claim s))
   empty_step h e (Some (Transfer to units)) k l n c z =
@@ -105,7 +106,8 @@ module _ (d : Deal) (a : ℕ) where
       empty_step xs x (accepted x) refl l n c (rest (all_moments_front (IsLegalMoment d a) xs (x ∷ []) l) (λ e to units i.
       n e to units (in_append xs (x ∷ []) e (inl i))) (unclaimed-front xs x c)))
 
--- A refund of an untriggered arc above the expiry of a lock that stays closed leaves the arc settled.
+-- A refund of an untriggered arc above the expiry of a lock that stays closed leaves the arc
+-- settled.
 refund_settles : (d : Deal) (a : ℕ) (h past : List Entry) (e : Entry) (p : Publication) → IsLegal d a h → (m : IsMoment h past e)
     → (act : Act d a past e Refund)
     → act.by ≡ party d a → published past ≡ Some p → triggered d h ≡ false → refund_expiry d a p.terms (is_open h) < height past → is_some (settled h) ≡ true
@@ -113,7 +115,7 @@ unfolding rows
 refund_settles d a h past e p l m act by pub_past shut expired = go (settled past) refl
   where
     same : the_terms past ≡ p.terms
-    same = ap parse_terms pub_past
+    same = ap publication_terms pub_past
 
     closed : triggered d past ≡ false
     closed = not-true (triggered d past) (λ t. false≢true (sym shut ∙ triggered-past d h past e m t))
@@ -175,7 +177,7 @@ count_one p xs q r x y c m n px py = go (moments_in_order xs q r x y m n)
     go (Later k) = let a1 = count_past p q r y k py in let a2 = count_past p xs q x m px in absurd (omega arith)
 
 module _ (d : Deal) (b : Histories) (v : ℕ) (legal : IsLegalBook d b) (conducted : IsConducted d b v) where
-  pub no_own_transfer : (a : ℕ) → IsIn a (leaving d.graph v) → NoOwnTransfer d a (history b a)
+  pub no_own_transfer : (a : ℕ) → IsElement a (leaving d.graph v) → NoOwnTransfer d a (history b a)
   unfolding keeps
   no_own_transfer a w e to units i k =
       let out = leaves d v a w in
@@ -183,8 +185,9 @@ module _ (d : Deal) (b : Histories) (v : ℕ) (legal : IsLegalBook d b) (conduct
       false≢true (kept d b v conducted a m.0 e (Transfer to units) m.1 (ap (λ x. pick_call x e) (sym out.1) ∙ k))
 
 module _ (d : Deal) (b : Histories) (v : ℕ) (legal : IsLegalBook d b) (conducted : IsConducted d b v) (law : TimesLaw d) (asks : AsksAllBack d b v) where
-  -- what was published and wasn't triggered was settled, since it was asked back above the expiry of a lock that stays closed
-  unsettled-never : (a : ℕ) (p : Publication) → IsIn a (leaving d.graph v) → is_triggered d b a ≡ false → published (history b a) ≡ Some p
+  -- what was published and wasn't triggered was settled, since it was asked back above the expiry
+  -- of a lock that stays closed
+  unsettled-never : (a : ℕ) (p : Publication) → IsElement a (leaving d.graph v) → is_triggered d b a ≡ false → published (history b a) ≡ Some p
       → settled (history b a) ≡ None → ⊥
   unfolding keeps
   unsettled-never a p w shut e s =
@@ -226,7 +229,7 @@ module _ (d : Deal) (b : Histories) (v : ℕ) (legal : IsLegalBook d b) (conduct
 
       held_none : (s : Option Settlement) (p : Option Publication) → settled (history b a) ≡ s → published (history b a) ≡ p → held (history b a) ≡ 0
       held_none (Some s) p e f = ap (λ x. cond (is_some x) 0 (the_terms (history b a)).amount) e
-      held_none None None e f = ap (λ x. cond (is_some x) 0 (the_terms (history b a)).amount) e ∙ ap (λ q. (parse_terms q).amount) f
+      held_none None None e f = ap (λ x. cond (is_some x) 0 (the_terms (history b a)).amount) e ∙ ap (λ q. (publication_terms q).amount) f
       held_none None (Some p) e f = absurd (unsettled-never a p w shut f e)
 
 -- A party that is nowhere late is watchful.
@@ -241,7 +244,7 @@ unlocks_all d b v k legal ended conducted unlocks = go (time_law d k)
 
 -- where no claim is late each triggered arc that enters v was claimed
 pub claims_all : (d : Deal) (b : Histories) (v : ℕ) → IsLegalBook d b → IsEnded d b → IsConducted d b v → TimesLaw d
-    → ((a : ℕ) → IsIn a (arcs d.graph) → is_late d b v ToClaim a ≡ false) → ClaimsAll d b v
+    → ((a : ℕ) → IsElement a (arcs d.graph) → is_late d b v ToClaim a ≡ false) → ClaimsAll d b v
 claims_all d b v legal ended conducted law in_time a w right t =
     let in_arc = enters d v a w in
     let now_ended : times.horizon d.start d.delta d.bound < height (history b a) = ended a in_arc.0 in
@@ -252,30 +255,30 @@ claims_all d b v legal ended conducted law in_time a w right t =
     (claim_enabled d b v legal conducted law a w right t) passed in
     list_any-in (λ e. is_claiming (pick_call v e)) (history b a) done.now
     (ap is_claiming (done.called ∙ ap Some (counted_claim d b v a done.now.height done.call done.counted)))
-    (subst (IsIn done.now) (sym done.stands.1) (in_from_moment done.past done.now done.stands.0))
+    (subst (IsElement done.now) (sym done.stands.1) (in_from_moment done.past done.now done.stands.0))
 
 pub on_time_claims : (d : Deal) (b : Histories) (v : ℕ) → IsLegalBook d b → IsEnded d b → IsConducted d b v → TimesLaw d → IsOnTime d b v → ClaimsAll d b v
 on_time_claims d b v legal ended conducted law on_time =
     claims_all d b v legal ended conducted law (λ a i. on_time ToClaim a (claim_rule d) i)
 
 module _ (d : Deal) (b : Histories) (v : ℕ) (legal : IsLegalBook d b) (ended : IsEnded d b) (conducted : IsConducted d b v)
-    (publishes : (a : ℕ) → IsIn a (arcs d.graph) → is_late d b v ToPublish a ≡ false)
-    (refunds : (a : ℕ) → IsIn a (arcs d.graph) → is_late d b v ToRefund a ≡ false) (law : TimesLaw d) where
+    (publishes : (a : ℕ) → IsElement a (arcs d.graph) → is_late d b v ToPublish a ≡ false)
+    (refunds : (a : ℕ) → IsElement a (arcs d.graph) → is_late d b v ToRefund a ≡ false) (law : TimesLaw d) where
   pub ready_low : is_ready d b v ≡ true → ready_height d b v ≤ times.opening_deadline d.start d.delta d.bound
   ready_low ready = ready_below d b v legal conducted law ready
 
-  pub publish_ref : (a : ℕ) → IsIn a (leaving d.graph v) → (leads_one d v || is_ready d b v) ≡ true
-      → (r : ℕ) × (ref_of d b v ToPublish a ≡ Some r) × (r ≤ times.opening_deadline d.start d.delta d.bound)
-  unfolding ref_of
+  pub publish_ref : (a : ℕ) → IsElement a (leaving d.graph v) → (leads_one d v || is_ready d b v) ≡ true
+      → (r : ℕ) × (reference_height d b v ToPublish a ≡ Some r) × (r ≤ times.opening_deadline d.start d.delta d.bound)
+  unfolding reference_height
   publish_ref a w may = go (leads_one d v) refl
     where
       on : (is_listed a (leaving d.graph v) && (leads_one d v || is_ready d b v)) ≡ true
       on = and_both (is_listed a (leaving d.graph v)) _ (in-is_listed a (leaving d.graph v) w) may
 
-      is_at : (r : ℕ) → (if leads_one d v then 0 else ready_height d b v) ≡ r → ref_of d b v ToPublish a ≡ Some r
+      is_at : (r : ℕ) → (if leads_one d v then 0 else ready_height d b v) ≡ r → reference_height d b v ToPublish a ≡ Some r
       is_at r e = ap (λ x. when x (if leads_one d v then 0 else ready_height d b v)) on ∙ ap Some e
 
-      go : (x : Bool) → leads_one d v ≡ x → (r : ℕ) × (ref_of d b v ToPublish a ≡ Some r) × (r ≤ times.opening_deadline d.start d.delta d.bound)
+      go : (x : Bool) → leads_one d v ≡ x → (r : ℕ) × (reference_height d b v ToPublish a ≡ Some r) × (r ≤ times.opening_deadline d.start d.delta d.bound)
       go true e = (0, is_at 0 (ap (λ x. cond x 0 (ready_height d b v)) e), omega arith)
       go false e = (
         ready_height d b v,
@@ -285,7 +288,7 @@ module _ (d : Deal) (b : Histories) (v : ℕ) (legal : IsLegalBook d b) (ended :
       )
 
   -- what v published was published before any lock expires
-  published_early : (a : ℕ) (p : Publication) → IsIn a (leaving d.graph v) → published (history b a) ≡ Some p
+  published_early : (a : ℕ) (p : Publication) → IsElement a (leaving d.graph v) → published (history b a) ≡ Some p
       → p.height ≤ times.opening_deadline d.start d.delta d.bound + d.delta
   unfolding keeps
   published_early a p w e =
@@ -315,9 +318,10 @@ module _ (d : Deal) (b : Histories) (v : ℕ) (legal : IsLegalBook d b) (ended :
       let t7 : x.now.height ≤ r.0 + d.delta = x.in_time in
       omega arith
 
-  -- each arc that leaves v and wasn't triggered was asked back after its publish, which came before any lock expires
+  -- each arc that leaves v and wasn't triggered was asked back after its publish, which came before
+  -- any lock expires
   pub on_time_asks : AsksAllBack d b v
-  unfolding ref_of
+  unfolding reference_height
   on_time_asks a w shown shut =
       let p = is_some-of (published (history b a)) shown in
       let out = leaves d v a w in
@@ -351,7 +355,7 @@ module _ (d : Deal) (b : Histories) (v : ℕ) (legal : IsLegalBook d b) (ended :
       go p done past now stands called apart (Later m) = let z = height-past done.past past now m in absurd (omega arith)
       go p done past now stands called apart (Earlier m) =
           let shown =
-          first_of-now (λ e. publication e.height (accepted e)) past done.past done.now (record {
+          first_given_answer-now (λ e. publication e.height (accepted e)) past done.past done.now (record {
             height = done.now.height;
             terms =
                 p.terms;

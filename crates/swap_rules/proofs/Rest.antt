@@ -4,8 +4,8 @@ use Rattle.std.proofs.Common.{set, Option, Some, None, is_some, is_none, refl, s
 use Rattle.std.specs.List.{list_any, list_all, flat_map}
 use Rattle.std.proofs.lemmas.Bool.{false≢true}
 use Rattle.std.proofs.lemmas.List.{set_past}
-use Rattle.swap_base.specs.Lists.{or_else, first_of, IsIn}
-use Rattle.swap_base.proofs.Lists.{first_of-append, and_parts, in_filter, or_else-none, in_map}
+use Rattle.swap_base.specs.Lists.{or_else, first_given_answer, IsElement}
+use Rattle.swap_base.proofs.Lists.{first_given_answer-append, and_parts, in_filter, or_else-none, in_map}
 use Rattle.swap_digraph.specs.declared.deal.Deal.{Deal}
 use Rattle.swap_digraph.specs.Graph.{leaving, entering}
 use Rattle.swap_digraph.specs.Deal.{locks, leads}
@@ -19,9 +19,9 @@ use Rattle.ledger_core.specs.declared.entry.What.TheVariants.{Call as Made, Tick
 use Rattle.ledger_core.specs.declared.entry.Entry.{Entry}
 use Rattle.ledger_core.specs.History.{height, accepted, accepted_call, publication, published, opening, opened, settling, settled, triggered, is_sender}
 use Rattle.ledger_core.specs.Book.{Histories, history}
-use Rattle.ledger_core.specs.History.{read_raw_call}
+use Rattle.ledger_core.specs.History.{made_call}
 use Rattle.swap_rules.specs.Party.{is_arc_correct, publication_height, is_ready, is_triggered, least_expiry, has_expired, leads_one, pick_call}
-use Rattle.swap_rules.specs.Party.{key_without, first_seen_key}
+use Rattle.swap_rules.specs.Party.{key_without_party, first_seen_key}
 use Rattle.swap_rules.specs.Conduct.{is_publish}
 use Rattle.swap_rules.specs.Due.{Wallet, unlocks_lock, is_claiming, is_refunding, has_called, is_due_publish, seen_key, extended, due_key, presented}
 use Rattle.swap_rules.specs.Due.{due_arc_unlock, is_due_claim, is_due_refund, when_due, due_publishes, due_unlocks, due_claims, due_refunds, due}
@@ -44,21 +44,21 @@ no_call (Tick k) x t = refl
 pub not_called : (v : ℕ) (e : Entry) → is_ticking e.what ≡ true → pick_call v e ≡ None
 not_called v e t = go (is_sender v e.sender) e.what t
   where
-    go : (b : Bool) (w : What) → is_ticking w ≡ true → cond b (read_raw_call w) None ≡ None
+    go : (b : Bool) (w : What) → is_ticking w ≡ true → cond b (made_call w) None ≡ None
     go true (Made c) t = absurd (false≢true t)
     go true (Tick k) t = refl
     go false w t = refl
 
 none_first : {B : Type 0} (f : Entry → Option B) → ((e : Entry) → is_ticking e.what ≡ true → f e ≡ None) → (more : List Entry) → are_ticks more ≡ true
-    → first_of f more ≡ None
+    → first_given_answer f more ≡ None
 none_first f h [] t = refl
 none_first f h (e ∷ more) t = let p =
-    and_parts (is_ticking e.what) (are_ticks more) t in ap (λ o. or_else o (first_of f more)) (h e p.0) ∙ none_first f h more p.1
+    and_parts (is_ticking e.what) (are_ticks more) t in ap (λ o. or_else o (first_given_answer f more)) (h e p.0) ∙ none_first f h more p.1
 
 -- a first answer that no tick gives is the same
 pub first_past : {B : Type 0} (f : Entry → Option B) → ((e : Entry) → is_ticking e.what ≡ true → f e ≡ None) → (h more : List Entry)
-    → are_ticks more ≡ true → first_of f (h ++ more) ≡ first_of f h
-first_past f n h more t = first_of-append f h more ∙ (ap (or_else (first_of f h)) (none_first f n more t) ∙ or_else-none (first_of f h))
+    → are_ticks more ≡ true → first_given_answer f (h ++ more) ≡ first_given_answer f h
+first_past f n h more t = first_given_answer-append f h more ∙ (ap (or_else (first_given_answer f h)) (none_first f n more t) ∙ or_else-none (first_given_answer f h))
 
 any_past : (p : Entry → Bool) → ((e : Entry) → is_ticking e.what ≡ true → p e ≡ false) → (h more : List Entry) → are_ticks more ≡ true
     → list_any p (h ++ more) ≡ list_any p h
@@ -110,7 +110,7 @@ module _ (d : Deal) (v : ℕ) (b c : Histories) (same : (a : ℕ) → ReadsSame 
       (entering d.graph v)
 
   first_seen_arc : (i : ℕ) → first_seen_key d c v i ≡ first_seen_key d b v i
-  first_seen_arc i = λ j. first_of (λ a. key_without v (opened_on a i j)) (leaving d.graph v)
+  first_seen_arc i = λ j. first_given_answer (λ a. key_without_party v (opened_on a i j)) (leaving d.graph v)
 
   pub same_publish : (a : ℕ) → is_due_publish d v c a ≡ is_due_publish d v b a
   unfolding is_due_publish
@@ -182,7 +182,8 @@ module _ (d : Deal) (v : ℕ) (k : Histories) (a : ℕ) where
       unexpired carries unsettled closed expired unasked (not-true expired (λ x. let above = expired-least d a (history k a) (height (history k a)) x in
       omega arith))
 
-  -- no refund is due on an arc on which v doesn't wait, or whose ledger isn't above the least expiry
+  -- no refund is due on an arc on which v doesn't wait, or whose ledger isn't above the least
+  -- expiry
   no_refund : IsLow → is_due_refund d v k a ≡ false
   unfolding is_due_refund
   no_refund low = by_wait (is_waiting d v k a) refl low
@@ -193,19 +194,19 @@ same_refund d v b c a e =
     λ j. is_some (published (e j)) && is_none (settled (e j)) && not (triggered d (e j)) && has_expired d a (e j) (height (e j))
     && not (has_called v is_refunding (e j))
 
-no_refunds : (test : ℕ → Bool) (arcs : List ℕ) → ((a : ℕ) → IsIn a arcs → test a ≡ false) → flat_map (λ a. when_due (test a) a Refund) arcs ≡ []
+no_refunds : (test : ℕ → Bool) (arcs : List ℕ) → ((a : ℕ) → IsElement a arcs → test a ≡ false) → flat_map (λ a. when_due (test a) a Refund) arcs ≡ []
 no_refunds test [] h = refl
 no_refunds test (a ∷ arcs) h =
     ap (λ b. when_due b a Refund ++ flat_map (λ a. when_due (test a) a Refund) arcs) (h a (inl refl)) ∙ no_refunds test arcs (λ c i. h c (inr i))
 
 -- The height of rest.
 
-least_below : (xs : List ℕ) (x : ℕ) → IsIn x xs → (t : ℕ) × (least_number xs ≡ Some t) × (t ≤ x)
+least_below : (xs : List ℕ) (x : ℕ) → IsElement x xs → (t : ℕ) × (least_number xs ≡ Some t) × (t ≤ x)
 least_below [] x i = absurd i
 least_below (y ∷ ys) x i = (least (y ∷ ys), refl, least-below (y ∷ ys) x i)
 
 -- where v waits, it rests at most up to the least expiry
-pub rests_below : (d : Deal) (v : ℕ) (k : Histories) (a : ℕ) → IsIn a (leaving d.graph v) → is_waiting d v k a ≡ true
+pub rests_below : (d : Deal) (v : ℕ) (k : Histories) (a : ℕ) → IsElement a (leaving d.graph v) → is_waiting d v k a ≡ true
     → (t : ℕ) × (rest_deadline d v k ≡ Some t) × (t ≤ least_expiry d a (history k a))
 rests_below d v k a i w =
     let expiries = λ (c : ℕ). least_expiry d c (history k c) in
@@ -247,10 +248,10 @@ module _ (d : Deal) (v : ℕ) (w : Wallet) (signed : ℕ → Option Hashkey) (k 
   pub none_refunded : due_refunds d v k ≡ [] → StaysLow d v k a more → due_refunds d v after ≡ []
   none_refunded none low = no_refunds (is_due_refund d v after) (leaving d.graph v) (λ c i. go c i (which c))
     where
-      go : (c : ℕ) → IsIn c (leaving d.graph v) → Which c → is_due_refund d v after c ≡ false
+      go : (c : ℕ) → IsElement c (leaving d.graph v) → Which c → is_due_refund d v after c ≡ false
       go c i (inl e) = same_refund d v k after c e ∙ refund_none d v k none c i
       go c i (inr e) = no_refund d v after c (λ waits.
-          let here : IsIn a (leaving d.graph v) = subst (λ z. IsIn z (leaving d.graph v)) e.0 i in
+          let here : IsElement a (leaving d.graph v) = subst (λ z. IsElement z (leaving d.graph v)) e.0 i in
           let waited : is_waiting d v k a ≡ true = ap (is_waiting d v k) (sym e.0) ∙ (sym (same_waiting d v k after reads c) ∙ waits) in
           let high : height (history after c) ≡ height (history k a ++ more) = ap height e.1 in
           let same : least_expiry d c (history after c) ≡ least_expiry d a (history k a) =

@@ -2,7 +2,7 @@
 use Rattle.std.proofs.Common.{length-append, count_by, ◌≡◌, ℕ, suc, ◌+◌, ◌≤◌, Bool, true, false, cond, not, List, [], ◌∷◌, ◌++◌, length}
 use Rattle.std.proofs.Common.{Option, Some, None, refl, ap, ◌∙◌, inl, inr, arith, eq-eqb, leb-true, map}
 use Rattle.std.proofs.lemmas.List.Sums.{sum_by-append, sum_by-cons}
-use Rattle.swap_base.specs.Lists.{IsIn, IsMoment}
+use Rattle.swap_base.specs.Lists.{IsElement, IsMoment}
 use Rattle.swap_base.proofs.Lists.{at_moment, list_any-in, in_append, grow, length-range}
 use Rattle.swap_base.proofs.Lists.{bit_le, count_le, count_less, not-mono}
 use Rattle.swap_digraph.specs.declared.deal.Deal.{Deal}
@@ -16,7 +16,7 @@ use Rattle.ledger_core.specs.declared.entry.Sender.TheVariants.{Party, Clock}
 use Rattle.ledger_core.specs.declared.entry.What.{What}
 use Rattle.ledger_core.specs.declared.entry.What.TheVariants.{Call as Made, Tick}
 use Rattle.ledger_core.specs.declared.entry.Entry.{Entry}
-use Rattle.ledger_core.specs.History.{is_full, IsLegalMoment, IsLegalEntry, is_sender, read_raw_call}
+use Rattle.ledger_core.specs.History.{is_full, IsLegalMoment, IsLegalEntry, is_sender, made_call}
 use Rattle.ledger_core.specs.Book.{Histories, history, IsLegalBook}
 use Rattle.swap_rules.specs.declared.finding.Rule.{Rule}
 use Rattle.swap_rules.specs.declared.finding.Rule.TheVariants.{Publish as ToPublish, Unlock as ToUnlock, Claim as ToClaim, Refund as ToRefund}
@@ -54,7 +54,7 @@ count_push p xs x =
 abbrev Fresh : Deal → ℕ → List Entry → Type 0
 Fresh d v h =
     (past : List Entry) (e : Entry) → IsMoment h past e → is_sender v e.sender ≡ true
-    → (r : Rule) × IsIn r (deal_rules d) × (rule_test r (pick_call v e) ≡ true) × (has_called v (rule_test r) past ≡ false)
+    → (r : Rule) × IsElement r (deal_rules d) × (rule_test r (pick_call v e) ≡ true) × (has_called v (rule_test r) past ≡ false)
 
 abbrev waits : ℕ → List Entry → Rule → Bool
 waits v h r = not (has_called v (rule_test r) h)
@@ -96,7 +96,7 @@ own_count d v h f = grow (λ h. Fresh d v h
             omega arith
 
 own_call : (d : Deal) (a : ℕ) (past : List Entry) (v : ℕ) (s : Sender) (w : What) (at : ℕ) (r : Reply) → IsLegalEntry d a past s w at r
-    → is_sender v s ≡ true → (c : Call) × (read_raw_call w ≡ Some c)
+    → is_sender v s ≡ true → (c : Call) × (made_call w ≡ Some c)
 own_call d a past v (Party p) (Made c) at r l e = (c, refl)
 own_call d a past v (Party p) (Tick k) at r l e = absurd l
 own_call d a past v Clock w at r l e = absurd (cc e)
@@ -121,11 +121,11 @@ module _ (d : Deal) (b : Histories) (signed : ℕ → Option Hashkey) (v : ℕ) 
       let c =
       own_call d a past v e.sender e.what e.height e.reply
       (at_moment (IsLegalMoment d a) (history b a) past e (legal.legal a (below_of b a past e m)) m) s in
-      let q : pick_call v e ≡ Some c.0 = ap (λ z. cond z (read_raw_call e.what) None) s ∙ c.1 in
+      let q : pick_call v e ≡ Some c.0 = ap (λ z. cond z (made_call e.what) None) s ∙ c.1 in
       go c.0 q (rules.own a past e c.0 m q)
     where
       go : (c : Call) → pick_call v e ≡ Some c → KeepsOwn d b signed v a past c
-          → (r : Rule) × IsIn r (deal_rules d) × (rule_test r (pick_call v e) ≡ true) × (has_called v (rule_test r) past ≡ false)
+          → (r : Rule) × IsElement r (deal_rules d) × (rule_test r (pick_call v e) ≡ true) × (has_called v (rule_test r) past ≡ false)
       go (Publish t) q r = (ToPublish, publish_rule d, ap is_publish q, r.2)
       go (Unlock key) q r =
           let low = (rules.keys key.lock key r.2).below in

@@ -5,8 +5,8 @@ use Rattle.std.proofs.Common.{subst, inl, inr, arith, eqb-true, ltb-true, ltb-fa
 use Rattle.std.specs.List.{list_any, list_all, flat_map}
 use Rattle.std.proofs.lemmas.Bool.{false≢true}
 use Rattle.std.proofs.lemmas.Option.{same_Some}
-use Rattle.swap_base.specs.Lists.{or_else, IsIn, IsMoment, greatest}
-use Rattle.swap_base.proofs.Lists.{first_at, first_of-now, first_of-in, all_moments_front, Order, moments_in_order, Earlier, Same, Later, AnyAt, any_at}
+use Rattle.swap_base.specs.Lists.{or_else, IsElement, IsMoment, greatest}
+use Rattle.swap_base.proofs.Lists.{first_at, first_given_answer-now, first_given_answer-in, all_moments_front, Order, moments_in_order, Earlier, Same, Later, AnyAt, any_at}
 use Rattle.swap_base.proofs.Lists.{list_all-in, list_all-from, list_any-in, or-right, in_range, from_range, and_parts, and_both, greatest-in}
 use Rattle.swap_base.proofs.Lists.{greatest-below, in_from_moment, moment_from_in, from_append, from_whole, bool_or}
 use Rattle.swap_digraph.specs.declared.deal.Mode.{Mode}
@@ -27,10 +27,10 @@ use Rattle.ledger_core.specs.declared.facts.Settlement.{Settlement}
 use Rattle.ledger_core.specs.declared.facts.Settlement.TheVariants.{Claimed, Refunded}
 use Rattle.ledger_core.specs.Book.{Histories, history, IsLegalBook}
 use Rattle.swap_rules.specs.Party.{has_expired, least_expiry, is_arc_correct, is_correct, publication_height, is_good, is_ready, ready_height, is_triggered}
-use Rattle.swap_rules.specs.Party.{leads_one, pick_call, fetch_key, first_key, first_seen_key, key_without, opens_without}
-use Rattle.swap_rules.specs.Conduct.{is_publish, is_first_key, has_origin, carries, keeps, IsConducted, extends, extends_without, is_alone}
-use Rattle.swap_rules.specs.Late.{is_carried, is_used, greatest_used, height_of_opening, unlock_base, trigger_height, when, ref_of, counts, is_done}
-use Rattle.swap_rules.specs.Late.{is_late, late_at}
+use Rattle.swap_rules.specs.Party.{leads_one, pick_call, unlock_hashkey, first_key, first_seen_key, key_without_party, opens_without_party}
+use Rattle.swap_rules.specs.Conduct.{is_publish, is_first_key, has_origin, carries, keeps, IsConducted, extends, extends_without_party, is_alone}
+use Rattle.swap_rules.specs.Late.{is_carried, is_used, greatest_used, height_of_opening, unlock_base, trigger_height, when, reference_height, counts, is_done}
+use Rattle.swap_rules.specs.Late.{is_late, is_past_due}
 use Rattle.swap_rules.specs.declared.finding.Rule.{Rule}
 use Rattle.swap_rules.specs.declared.finding.Rule.TheVariants.{Publish as ToPublish, Unlock as ToUnlock, Claim as ToClaim, Refund as ToRefund}
 use Rattle.swap_rules.specs.Findings.{deal_rules}
@@ -56,7 +56,7 @@ use Rattle.swap_rules.proofs.Refunds.{count_one}
 use Rattle.swap_rules.proofs.Prefixes.{begins_refl, begins_more, moment_more, begins_height, in_front, in_any}
 use Rattle.swap_rules.specs.Laws.{RoundsAreInTime, RoundsAreOnTime, RacesAreInTime}
 use Rattle.swap_rules.specs.Machine.{Begins}
-use Rattle.swap_rules.specs.Rounds.{IsNear, IsRounds, IsDoneBy, IsRaceTurn, AreRaceBooks, round_book}
+use Rattle.swap_rules.specs.Rounds.{IsNear, IsRounds, IsDoneInTime, IsRaceTurn, AreRaceBooks, round_book}
 use Rattle.time_bounds.specs.Times as times
 use Rattle.swap_rules.proofs.Forging.{revealed}
 
@@ -73,30 +73,30 @@ present_none false a o e t = absurd (false≢true t)
 
 -- Nothing is due but perhaps publishes, and unlocks for locks that are held back.
 pub record NothingElseDue (d : Deal) (v : ℕ) (signed : ℕ → Option Hashkey) (w : Wallet) (k : Histories) (held : ℕ → Bool) : Type 0 where
-  pub unlock : (i a : ℕ) → i < length d.leaders → IsIn a (entering d.graph v) → may_unlock d v k i a ≡ true → held i ≡ false
+  pub unlock : (i a : ℕ) → i < length d.leaders → IsElement a (entering d.graph v) → may_unlock d v k i a ≡ true → held i ≡ false
       → due_key d v w (signed i) k i ≡ None
-  pub claim : (a : ℕ) → IsIn a (entering d.graph v) → is_due_claim d v k a ≡ false
-  pub refund : (a : ℕ) → IsIn a (leaving d.graph v) → is_due_refund d v k a ≡ false
+  pub claim : (a : ℕ) → IsElement a (entering d.graph v) → is_due_claim d v k a ≡ false
+  pub refund : (a : ℕ) → IsElement a (leaving d.graph v) → is_due_refund d v k a ≡ false
 
 pub record NothingDue (d : Deal) (v : ℕ) (signed : ℕ → Option Hashkey) (w : Wallet) (k : Histories) : Type 0 where
-  pub publish : (a : ℕ) → IsIn a (leaving d.graph v) → is_due_publish d v k a ≡ false
-  pub unlock : (i a : ℕ) → i < length d.leaders → IsIn a (entering d.graph v) → may_unlock d v k i a ≡ true → due_key d v w (signed i) k i ≡ None
-  pub claim : (a : ℕ) → IsIn a (entering d.graph v) → is_due_claim d v k a ≡ false
-  pub refund : (a : ℕ) → IsIn a (leaving d.graph v) → is_due_refund d v k a ≡ false
+  pub publish : (a : ℕ) → IsElement a (leaving d.graph v) → is_due_publish d v k a ≡ false
+  pub unlock : (i a : ℕ) → i < length d.leaders → IsElement a (entering d.graph v) → may_unlock d v k i a ≡ true → due_key d v w (signed i) k i ≡ None
+  pub claim : (a : ℕ) → IsElement a (entering d.graph v) → is_due_claim d v k a ≡ false
+  pub refund : (a : ℕ) → IsElement a (leaving d.graph v) → is_due_refund d v k a ≡ false
 
 unlock_none : (d : Deal) (v : ℕ) (w : Wallet) (signed : ℕ → Option Hashkey) (k : Histories) (i a : ℕ)
-    → flat_map (due_arc_unlock d v w (signed i) k i) (entering d.graph v) ≡ [] → IsIn a (entering d.graph v) → may_unlock d v k i a ≡ true
+    → flat_map (due_arc_unlock d v w (signed i) k i) (entering d.graph v) ≡ [] → IsElement a (entering d.graph v) → may_unlock d v k i a ≡ true
     → due_key d v w (signed i) k i ≡ None
 unfolding due_arc_unlock
 unlock_none d v w signed k i a e j t =
     present_none (may_unlock d v k i a) a (due_key d v w (signed i) k i)
     (flat_map_none (due_arc_unlock d v w (signed i) k i) (entering d.graph v) a e j) t
 
-claim_none : (d : Deal) (v : ℕ) (k : Histories) → due_claims d v k ≡ [] → (a : ℕ) → IsIn a (entering d.graph v) → is_due_claim d v k a ≡ false
+claim_none : (d : Deal) (v : ℕ) (k : Histories) → due_claims d v k ≡ [] → (a : ℕ) → IsElement a (entering d.graph v) → is_due_claim d v k a ≡ false
 claim_none d v k c a i =
     when_due_none (is_due_claim d v k a) a Claim (flat_map_none (λ a. when_due (is_due_claim d v k a) a Claim) (entering d.graph v) a c i)
 
-pub refund_none : (d : Deal) (v : ℕ) (k : Histories) → due_refunds d v k ≡ [] → (a : ℕ) → IsIn a (leaving d.graph v) → is_due_refund d v k a ≡ false
+pub refund_none : (d : Deal) (v : ℕ) (k : Histories) → due_refunds d v k ≡ [] → (a : ℕ) → IsElement a (leaving d.graph v) → is_due_refund d v k a ≡ false
 refund_none d v k r a i =
     when_due_none (is_due_refund d v k a) a Refund (flat_map_none (λ a. when_due (is_due_refund d v k a) a Refund) (leaving d.graph v) a r i)
 
@@ -135,7 +135,8 @@ and_false : (z : Bool) → (z && false) ≡ false
 and_false true = refl
 and_false false = refl
 
--- no lock is withheld over knowledge of which nothing is more than delta above a height by which contracts open
+-- no lock is withheld over knowledge of which nothing is more than delta above a height by which
+-- contracts open
 pub not_withheld : (d : Deal) (v : ℕ) (k : Histories) (i t : ℕ) → ((a : ℕ) → height (history k a) ≤ t + d.delta)
     → (leads d v i ≡ true → t ≤ times.opening_deadline d.start d.delta d.bound) → is_withheld d v k i ≡ false
 not_withheld d v k i t low early = go (leads d v i) refl
@@ -175,12 +176,12 @@ when_some : (t : Bool) (n r : ℕ) → when t n ≡ Some r → (t ≡ true) × (
 when_some true n r e = (refl, same_Some n r e)
 when_some false n r e = absurd (cc e)
 
-in_map : {A B : Type 0} (f : A → B) (xs : List A) (y : B) → IsIn y (map f xs) → (x : A) × IsIn x xs × (y ≡ f x)
+in_map : {A B : Type 0} (f : A → B) (xs : List A) (y : B) → IsElement y (map f xs) → (x : A) × IsElement x xs × (y ≡ f x)
 in_map f [] y i = absurd i
 in_map f (x ∷ xs) y (inl e) = (x, inl refl, e)
 in_map f (x ∷ xs) y (inr i) = let r = in_map f xs y i in (r.0, inr r.1, r.2)
 
-lock_of_rule : (d : Deal) (l : ℕ) → IsIn (ToUnlock l) (deal_rules d) → l < length d.leaders
+lock_of_rule : (d : Deal) (l : ℕ) → IsElement (ToUnlock l) (deal_rules d) → l < length d.leaders
 lock_of_rule d l (inl e) = absurd (cc e)
 lock_of_rule d l (inr i) = elim (from_append (map ToUnlock (locks d)) (ToClaim ∷ ToRefund ∷ []) (ToUnlock l) i) [
   | inl j ↦ (let r = in_map ToUnlock (locks d) (ToUnlock l) j in let same : l ≡ r.0 = lock_is l r.0 r.2 in
@@ -191,7 +192,7 @@ lock_of_rule d l (inr i) = elim (from_append (map ToUnlock (locks d)) (ToClaim �
     lock_is : (x y : ℕ) → ToUnlock x ≡ ToUnlock y → x ≡ y
     lock_is x y e = cc
 
-    other : IsIn (ToUnlock l) (ToClaim ∷ ToRefund ∷ []) → ⊥
+    other : IsElement (ToUnlock l) (ToClaim ∷ ToRefund ∷ []) → ⊥
     other (inl e) = cc e
     other (inr (inl e)) = cc e
     other (inr (inr e)) = e
@@ -231,8 +232,8 @@ opened_key d a h i t key o l done e q =
     go x y cx cy s (Earlier m) = absurd (false≢true (sym cy ∙ (ap (is_open y.past) s ∙ opened-now y.past x.past x.now key m x.took)))
     go x y cx cy s (Later m) = absurd (false≢true (sym cx ∙ (ap (is_open x.past) (sym s) ∙ opened-now x.past y.past y.now o.key m y.took)))
 
--- A party's knowledge k of the book b, in which everything of b at a height of at most ref stands, and over which nothing is due but perhaps publishes, and
--- unlocks for locks that are held back.
+-- A party's knowledge k of the book b, in which everything of b at a height of at most ref stands,
+-- and over which nothing is due but perhaps publishes, and unlocks for locks that are held back.
 pub record Told (d : Deal) (b : Histories) (v : ℕ) (w : Wallet) (ref due : ℕ) : Type 0 where
   pub known : Histories
   pub signed : ℕ → Option Hashkey
@@ -270,7 +271,7 @@ module _ (d : Deal) (b : Histories) (v : ℕ) (w : Wallet) (ref due : ℕ) (k : 
       let at : p.height ≡ height done.past = done.at in
       let m = in_known a done.past done.now l done.stands (omega arith) in
       let s =
-      first_of-now (λ e. publication e.height (accepted e)) (history x.known a) done.past done.now (record {
+      first_given_answer-now (λ e. publication e.height (accepted e)) (history x.known a) done.past done.now (record {
         height = done.now.height;
         terms =
             p.terms;
@@ -311,15 +312,15 @@ module _ (d : Deal) (b : Histories) (v : ℕ) (w : Wallet) (ref due : ℕ) (k : 
       let h2 = x.high a in
       list_any-in (λ e. counts d b v rule a e.height (pick_call v e) && nat_le e.height due) (history b a) e
       (and_both (counts d b v rule a e.height (pick_call v e)) _ (ap (counts d b v rule a e.height) called ∙ counted) (le-leb e.height due (omega arith)))
-      (subst (IsIn e) (sym m2.1) (in_from_moment past e m2.0))
+      (subst (IsElement e) (sym m2.1) (in_from_moment past e m2.0))
 
   -- Publish.
 
   -- no publish is due either
   abbrev NoPublish : Type 0
-  NoPublish = (a : ℕ) → IsIn a (leaving d.graph v) → is_due_publish d v x.known a ≡ false
+  NoPublish = (a : ℕ) → IsElement a (leaving d.graph v) → is_due_publish d v x.known a ≡ false
 
-  publish_known : NoPublish → (a : ℕ) → IsIn a (leaving d.graph v) → (leads_one d v || is_ready d b v) ≡ true → (leads_one d v ≡ false → ready_height d b v ≤ ref)
+  publish_known : NoPublish → (a : ℕ) → IsElement a (leaving d.graph v) → (leads_one d v || is_ready d b v) ≡ true → (leads_one d v ≡ false → ready_height d b v ≤ ref)
       → has_called v is_publish (history x.known a) ≡ true
   unfolding is_due_publish
   publish_known none a i may low =
@@ -336,8 +337,8 @@ module _ (d : Deal) (b : Histories) (v : ℕ) (w : Wallet) (ref due : ℕ) (k : 
   publish_is Refund e = absurd (cc e)
   publish_is (Transfer to units) e = absurd (cc e)
 
-  publish_done : NoPublish → (a : ℕ) → ref_of d b v ToPublish a ≡ Some ref → is_done d b v ToPublish a due ≡ true
-  unfolding ref_of counts
+  publish_done : NoPublish → (a : ℕ) → reference_height d b v ToPublish a ≡ Some ref → is_done d b v ToPublish a due ≡ true
+  unfolding reference_height counts
   publish_done none a e =
       let s = when_some (is_listed a (leaving d.graph v) && (leads_one d v || is_ready d b v)) (if leads_one d v then 0 else ready_height d b v) ref e in
       let p = and_parts (is_listed a (leaving d.graph v)) (leads_one d v || is_ready d b v) s.0 in
@@ -374,8 +375,8 @@ module _ (d : Deal) (b : Histories) (v : ℕ) (w : Wallet) (ref due : ℕ) (k : 
   claim_is Refund e = absurd (cc e)
   claim_is (Transfer to units) e = absurd (cc e)
 
-  pub claim_done : (a : ℕ) → ref_of d b v ToClaim a ≡ Some ref → is_done d b v ToClaim a due ≡ true
-  unfolding ref_of counts is_due_claim
+  pub claim_done : (a : ℕ) → reference_height d b v ToClaim a ≡ Some ref → is_done d b v ToClaim a due ≡ true
+  unfolding reference_height counts is_due_claim
   claim_done a e =
       let s = when_some (is_listed a (entering d.graph v) && is_correct d b a && is_triggered d b a) (trigger_height d (history b a)) ref e in
       let p = and_three (is_listed a (entering d.graph v)) (is_correct d b a) (is_triggered d b a) s.0 in
@@ -400,7 +401,7 @@ module _ (d : Deal) (b : Histories) (v : ℕ) (w : Wallet) (ref due : ℕ) (k : 
   refund_is (Transfer to units) e = absurd (cc e)
 
   -- a refund call of v counts: the lock that was closed and expired then stays closed
-  refund_counts : (a : ℕ) (past : List Entry) (e : Entry) → IsIn a (leaving d.graph v) → IsMoment (history x.known a) past e → pick_call v e ≡ Some Refund
+  refund_counts : (a : ℕ) (past : List Entry) (e : Entry) → IsElement a (leaving d.graph v) → IsMoment (history x.known a) past e → pick_call v e ≡ Some Refund
       → is_done d b v ToRefund a due ≡ true
   unfolding counts keeps
   refund_counts a past e i m called =
@@ -414,7 +415,7 @@ module _ (d : Deal) (b : Histories) (v : ℕ) (w : Wallet) (ref due : ℕ) (k : 
       done_by ToRefund a past e Refund l m called (lt-ltb (least_expiry d a (history b a)) e.height (expired-least d a (history b a) e.height still))
 
   -- v's accepted publish on a leaving arc is known, where ref is late enough
-  own_known : NoPublish → (a : ℕ) (p : Publication) → IsIn a (leaving d.graph v) → times.opening_deadline d.start d.delta d.bound ≤ ref
+  own_known : NoPublish → (a : ℕ) (p : Publication) → IsElement a (leaving d.graph v) → times.opening_deadline d.start d.delta d.bound ≤ ref
       → published (history b a) ≡ Some p
       → is_some (published (history x.known a)) ≡ true
   unfolding keeps ready_height
@@ -436,14 +437,14 @@ module _ (d : Deal) (b : Histories) (v : ℕ) (w : Wallet) (ref due : ℕ) (k : 
       count_one (λ e. is_publish (pick_call v e)) (history b a) done.past c.past done.now c.now (eqb-true _ 1 r.1) done.stands
       (moment_more (history x.known a) (history b a) c.past c.now (x.grows a) c.stands) (ap is_publish called) (ap is_publish c.called
       ∙ c.passes) in
-      first_of-now (λ e. publication e.height (accepted e)) (history x.known a) c.past c.now (record {
+      first_given_answer-now (λ e. publication e.height (accepted e)) (history x.known a) c.past c.now (record {
         height = c.now.height;
         terms =
             p.terms;
       }) c.stands (ap (publication c.now.height) (ap accepted (sym one.1) ∙ done.took))
 
-  refund_done : NoPublish → (a : ℕ) → ref_of d b v ToRefund a ≡ Some ref → is_done d b v ToRefund a due ≡ true
-  unfolding ref_of is_due_refund
+  refund_done : NoPublish → (a : ℕ) → reference_height d b v ToRefund a ≡ Some ref → is_done d b v ToRefund a due ≡ true
+  unfolding reference_height is_due_refund
   refund_done none a e =
       let s =
       when_some (is_listed a (leaving d.graph v) && is_some (published (history b a)) && not (is_triggered d b a)) (least_expiry d a (history b a))
@@ -465,7 +466,7 @@ module _ (d : Deal) (b : Histories) (v : ℕ) (w : Wallet) (ref due : ℕ) (k : 
       go i l shown shut (has_expired-lock d a (history x.known a) (height (history x.known a)) first.lock first.within closed (omega arith))
       (settled (history x.known a)) refl
     where
-      go : IsIn a (leaving d.graph v) → (l : a < length d.graph.arcs) → is_some (published (history x.known a)) ≡ true
+      go : IsElement a (leaving d.graph v) → (l : a < length d.graph.arcs) → is_some (published (history x.known a)) ≡ true
           → triggered d (history x.known a) ≡ false → has_expired d a (history x.known a) (height (history x.known a)) ≡ true → (z : Option Settlement)
           → settled (history x.known a) ≡ z → is_done d b v ToRefund a due ≡ true
       go i l shown shut late None z =
@@ -494,7 +495,7 @@ module _ (d : Deal) (b : Histories) (v : ℕ) (w : Wallet) (ref due : ℕ) (k : 
   -- a leaving arc on which a known hashkey opened lock i, without v on its path
   record Seen (i : ℕ) : Type 0 where
     arc : ℕ
-    leaves : IsIn arc (leaving d.graph v)
+    leaves : IsElement arc (leaving d.graph v)
     opening : Opening
     opened : opened (history b arc) i ≡ Some opening
     without : is_listed v opening.key.path ≡ false
@@ -504,10 +505,10 @@ module _ (d : Deal) (b : Histories) (v : ℕ) (w : Wallet) (ref due : ℕ) (k : 
   unfolding seen_key
   seen_key_some i s =
       let o = opened_known s.arc i s.opening (inl s.leaves) s.opened s.early in
-      first_of-in (λ a. key_without v (opened (history x.known a) i)) (leaving d.graph v) s.arc s.opening.key s.leaves
-      (ap (key_without v) o ∙ ap (λ z. cond z None (Some s.opening.key)) s.without)
+      first_given_answer-in (λ a. key_without_party v (opened (history x.known a) i)) (leaving d.graph v) s.arc s.opening.key s.leaves
+      (ap (key_without_party v) o ∙ ap (λ z. cond z None (Some s.opening.key)) s.without)
 
-  opens_without_parts : (o : Option Opening) → opens_without v o ≡ true → (z : Opening) × (o ≡ Some z) × (is_listed v z.key.path ≡ false)
+  opens_without_parts : (o : Option Opening) → opens_without_party v o ≡ true → (z : Opening) × (o ≡ Some z) × (is_listed v z.key.path ≡ false)
   opens_without_parts None e = absurd (cc e)
   opens_without_parts (Some z) e = (z, refl, not-true-of _ e)
 
@@ -515,9 +516,9 @@ module _ (d : Deal) (b : Histories) (v : ℕ) (w : Wallet) (ref due : ℕ) (k : 
   first_rules : (i : ℕ) (key : Hashkey) → first_key b v i ≡ Some key → (key.lock ≡ i) × (has_origin d.mode d b v key ≡ true)
   unfolding first_key keeps
   first_rules i key e =
-      let f = first_at (λ e. fetch_key i (pick_call v e)) (flat_map (λ h. h) b) key e in
+      let f = first_at (λ e. unlock_hashkey i (pick_call v e)) (flat_map (λ h. h) b) key e in
       let parts = key_parts i (pick_call v f.now) key f.gives in
-      let y = from_whole b f.now (subst (IsIn f.now) (sym f.stands.1) (in_from_moment f.past f.now f.stands.0)) in
+      let y = from_whole b f.now (subst (IsElement f.now) (sym f.stands.1) (in_from_moment f.past f.now f.stands.0)) in
       let m = moment_from_in (history b y.0) f.now y.2 in
       let q =
       and_five (is_some (published m.0)) (is_ready d b v) (is_first_key (first_key b v key.lock) key) (is_valid d y.0 (lock_hashlock d key.lock) key)
@@ -548,11 +549,11 @@ module _ (d : Deal) (b : Histories) (v : ℕ) (w : Wallet) (ref due : ℕ) (k : 
 
   -- the hashkey that v extended
   by_extended : (i : ℕ) (key : Hashkey) → key.lock ≡ i
-      → list_any (λ a. list_any (λ e. extends_without v key (accepted e)) (history b a)) (leaving d.graph v) ≡ true
+      → list_any (λ a. list_any (λ e. extends_without_party v key (accepted e)) (history b a)) (leaving d.graph v) ≡ true
       → greatest_used d b v (is_used d b v i (Some key)) ≤ ref → Seen i
   by_extended i key lock e low =
-      let y = in_any (λ a. list_any (λ e. extends_without v key (accepted e)) (history b a)) (leaving d.graph v) e in
-      let z = in_any (λ e. extends_without v key (accepted e)) (history b y.0) y.2 in
+      let y = in_any (λ a. list_any (λ e. extends_without_party v key (accepted e)) (history b a)) (leaving d.graph v) e in
+      let z = in_any (λ e. extends_without_party v key (accepted e)) (history b y.0) y.2 in
       let m = moment_from_in (history b y.0) z.0 z.1 in
       let p = extended_without v key (accepted z.0) z.2 in
       let used : is_used d b v i (Some key) z.0 ≡ true = ap (extends v key) p.1 ∙ p.3 in
@@ -562,23 +563,23 @@ module _ (d : Deal) (b : Histories) (v : ℕ) (w : Wallet) (ref due : ℕ) (k : 
       seen_extended i z.0.height key lock extended p.2 (omega arith)
 
   -- the hashkey that v would extend
-  by_without : (i : ℕ) → list_any (λ c. opens_without v (opened (history b c) i)) (leaving d.graph v) ≡ true
+  by_without : (i : ℕ) → list_any (λ c. opens_without_party v (opened (history b c) i)) (leaving d.graph v) ≡ true
       → greatest_used d b v (is_used d b v i None) ≤ ref → Seen i
   by_without i e low =
-      let y = in_any (λ c. opens_without v (opened (history b c) i)) (leaving d.graph v) e in
+      let y = in_any (λ c. opens_without_party v (opened (history b c) i)) (leaving d.graph v) e in
       let o = opens_without_parts (opened (history b y.0) i) y.2 in
       let s =
-      is_some-of (first_seen_key d b v i) (first_of-in (λ a. key_without v (opened (history b a) i)) (leaving d.graph v) y.0 o.0.key y.1
-      (ap (key_without v) o.1 ∙ ap (λ z. cond z None (Some o.0.key)) o.2)) in
-      let f = first_at (λ a. key_without v (opened (history b a) i)) (leaving d.graph v) s.0 s.1 in
-      let w = subst (IsIn f.now) (sym f.stands.1) (in_from_moment f.past f.now f.stands.0) in
+      is_some-of (first_seen_key d b v i) (first_given_answer-in (λ a. key_without_party v (opened (history b a) i)) (leaving d.graph v) y.0 o.0.key y.1
+      (ap (key_without_party v) o.1 ∙ ap (λ z. cond z None (Some o.0.key)) o.2)) in
+      let f = first_at (λ a. key_without_party v (opened (history b a) i)) (leaving d.graph v) s.0 s.1 in
+      let w = subst (IsElement f.now) (sym f.stands.1) (in_from_moment f.past f.now f.stands.0) in
       let p = key_without_parts v (opened (history b f.now) i) s.0 f.gives in
       let u = opened_done d f.now (history b f.now) i p.0 (legal_on f.now (leaves d v f.now w).0) p.1 in
       let carried : is_used d b v i None u.0.now ≡ true =
       ap (λ o. is_carried o (accepted u.0.now)) s.1 ∙ (ap (is_carried (Some s.0)) u.0.took
       ∙ (ap (λ x. same_key x p.0.key) (sym p.2) ∙ same_key-refl p.0.key)) in
       let h =
-      used_in d b v (is_used d b v i None) f.now u.0.now w (subst (IsIn u.0.now) (sym u.0.stands.1) (in_from_moment u.0.past u.0.now u.0.stands.0))
+      used_in d b v (is_used d b v i None) f.now u.0.now w (subst (IsElement u.0.now) (sym u.0.stands.1) (in_from_moment u.0.past u.0.now u.0.stands.0))
       carried in
       let at : p.0.height ≡ height u.0.past = u.0.at in
       let at2 : u.0.now.height ≡ height u.0.past = u.0.act.at in
@@ -586,7 +587,7 @@ module _ (d : Deal) (b : Histories) (v : ℕ) (w : Wallet) (ref due : ℕ) (k : 
 
   -- Timelocks.
 
-  seen_open : (c i : ℕ) → d.mode ≡ Timelocks → IsIn c (leaving d.graph v) → is_open (history b c) i ≡ true
+  seen_open : (c i : ℕ) → d.mode ≡ Timelocks → IsElement c (leaving d.graph v) → is_open (history b c) i ≡ true
       → greatest (λ a. height_of_opening (opened (history b a) i)) (leaving d.graph v) ≤ ref → Seen i
   seen_open c i mode z e low =
       let o = is_some-of (opened (history b c) i) e in
@@ -599,7 +600,7 @@ module _ (d : Deal) (b : Histories) (v : ℕ) (w : Wallet) (ref due : ℕ) (k : 
 
   open_revealed : (i : ℕ) (key : Hashkey) → i < length d.leaders → length d.leaders ≡ 1
       → list_any (λ a. list_any (λ e. carries key.secret (accepted e)) (history b a)) (leaving d.graph v) ≡ true
-      → (c : ℕ) × IsIn c (leaving d.graph v) × (is_open (history b c) i ≡ true)
+      → (c : ℕ) × IsElement c (leaving d.graph v) × (is_open (history b c) i ≡ true)
   open_revealed i key below one e =
       let y = in_any (λ a. list_any (λ e. carries key.secret (accepted e)) (history b a)) (leaving d.graph v) e in
       let z = in_any (λ e. carries key.secret (accepted e)) (history b y.0) y.2 in
@@ -610,15 +611,15 @@ module _ (d : Deal) (b : Histories) (v : ℕ) (w : Wallet) (ref due : ℕ) (k : 
       let same : r.0.lock ≡ i = omega arith in
       (y.0, y.1, subst (λ j. is_open (history b y.0) j ≡ true) same (opened-now (history b y.0) m.0 z.0 r.0 m.1 r.1))
 
-  open_without : (i : ℕ) → list_any (λ c. opens_without v (opened (history b c) i)) (leaving d.graph v) ≡ true
-      → (c : ℕ) × IsIn c (leaving d.graph v) × (is_open (history b c) i ≡ true)
+  open_without : (i : ℕ) → list_any (λ c. opens_without_party v (opened (history b c) i)) (leaving d.graph v) ≡ true
+      → (c : ℕ) × IsElement c (leaving d.graph v) × (is_open (history b c) i ≡ true)
   open_without i e =
-      let y = in_any (λ c. opens_without v (opened (history b c) i)) (leaving d.graph v) e in
+      let y = in_any (λ c. opens_without_party v (opened (history b c) i)) (leaving d.graph v) e in
       (y.0, y.1, ap is_some (opens_without_parts (opened (history b y.0) i) y.2).1)
 
   -- what an enabled unlock of a lock that v doesn't lead extends is known
   seen : (i : ℕ) → i < length d.leaders → leads d v i ≡ false
-      → (is_some (first_key b v i) || list_any (λ c. opens_without v (opened (history b c) i)) (leaving d.graph v)) ≡ true
+      → (is_some (first_key b v i) || list_any (λ c. opens_without_party v (opened (history b c) i)) (leaving d.graph v)) ≡ true
       → unlock_base d.mode d b v i (first_key b v i) ≤ ref → Seen i
   seen i below f enabled low = go d.mode refl (first_key b v i) refl
     where
@@ -628,14 +629,14 @@ module _ (d : Deal) (b : Histories) (v : ℕ) (w : Wallet) (ref due : ℕ) (k : 
       go : (m : Mode) → d.mode ≡ m → (o : Option Hashkey) → first_key b v i ≡ o → Seen i
       go Hashkeys em (Some key) eo =
           let r = first_rules i key eo in
-          let origin : list_any (λ a. list_any (λ e. extends_without v key (accepted e)) (history b a)) (leaving d.graph v) ≡ true =
-          ap (λ z. cond z (is_alone v key.path) (list_any (λ a. list_any (λ e. extends_without v key (accepted e)) (history b a)) (leaving d.graph v)))
+          let origin : list_any (λ a. list_any (λ e. extends_without_party v key (accepted e)) (history b a)) (leaving d.graph v) ≡ true =
+          ap (λ z. cond z (is_alone v key.path) (list_any (λ a. list_any (λ e. extends_without_party v key (accepted e)) (history b a)) (leaving d.graph v)))
           (sym (ap (leads d v) r.0 ∙ f)) ∙ (ap (λ m. has_origin m d b v key) (sym em) ∙ r.1) in
           by_extended i key r.0 origin
           (subst (λ n. n ≤ ref) (ap (λ m. unlock_base m d b v i (first_key b v i)) em ∙ ap (unlock_base Hashkeys d b v i) eo) low)
       go Hashkeys em None eo =
-          let open_at : list_any (λ c. opens_without v (opened (history b c) i)) (leaving d.graph v) ≡ true =
-          ap (λ o. is_some o || list_any (λ c. opens_without v (opened (history b c) i)) (leaving d.graph v)) (sym eo) ∙ enabled in
+          let open_at : list_any (λ c. opens_without_party v (opened (history b c) i)) (leaving d.graph v) ≡ true =
+          ap (λ o. is_some o || list_any (λ c. opens_without_party v (opened (history b c) i)) (leaving d.graph v)) (sym eo) ∙ enabled in
           by_without i open_at
           (subst (λ n. n ≤ ref) (ap (λ m. unlock_base m d b v i (first_key b v i)) em ∙ ap (unlock_base Hashkeys d b v i) eo) low)
       go Timelocks em (Some key) eo =
@@ -646,8 +647,8 @@ module _ (d : Deal) (b : Histories) (v : ℕ) (w : Wallet) (ref due : ℕ) (k : 
           let c = open_revealed i key below (timed em) origin in
           seen_open c.0 i em c.1 c.2 (subst (λ n. n ≤ ref) (ap (λ m. unlock_base m d b v i (first_key b v i)) em) low)
       go Timelocks em None eo =
-          let open_at : list_any (λ c. opens_without v (opened (history b c) i)) (leaving d.graph v) ≡ true =
-          ap (λ o. is_some o || list_any (λ c. opens_without v (opened (history b c) i)) (leaving d.graph v)) (sym eo) ∙ enabled in
+          let open_at : list_any (λ c. opens_without_party v (opened (history b c) i)) (leaving d.graph v) ≡ true =
+          ap (λ o. is_some o || list_any (λ c. opens_without_party v (opened (history b c) i)) (leaving d.graph v)) (sym eo) ∙ enabled in
           let c = open_without i open_at in
           seen_open c.0 i em c.1 c.2 (subst (λ n. n ≤ ref) (ap (λ m. unlock_base m d b v i (first_key b v i)) em) low)
 
@@ -668,7 +669,7 @@ module _ (d : Deal) (b : Histories) (v : ℕ) (w : Wallet) (ref due : ℕ) (k : 
   unlock_is i Refund e = absurd (cc e)
   unlock_is i (Transfer to units) e = absurd (cc e)
 
-  unlock_called : (i a : ℕ) → IsIn a (entering d.graph v) → has_called v (unlocks_lock i) (history x.known a) ≡ true → is_done d b v (ToUnlock i) a due ≡ true
+  unlock_called : (i a : ℕ) → IsElement a (entering d.graph v) → has_called v (unlocks_lock i) (history x.known a) ≡ true → is_done d b v (ToUnlock i) a due ≡ true
   unfolding counts keeps
   unlock_called i a z h =
       let l = (enters d v a z).0 in
@@ -690,19 +691,19 @@ module _ (d : Deal) (b : Histories) (v : ℕ) (w : Wallet) (ref due : ℕ) (k : 
 
   -- an enabled unlock is done, where its lock isn't held back
   pub unlock_done : (i a : ℕ) → i < length d.leaders → ((leads d v i ≡ true → ref ≤ times.opening_deadline d.start d.delta d.bound) → x.held i ≡ false)
-      → ref_of d b v (ToUnlock i) a ≡ Some ref → is_done d b v (ToUnlock i) a due ≡ true
-  unfolding ref_of
+      → reference_height d b v (ToUnlock i) a ≡ Some ref → is_done d b v (ToUnlock i) a due ≡ true
+  unfolding reference_height
   unlock_done i a below free e =
       let s =
       when_some (is_listed a (entering d.graph v) && is_ready d b v
-      && (leads d v i || is_some (first_key b v i) || list_any (λ c. opens_without v (opened (history b c) i)) (leaving d.graph v)))
+      && (leads d v i || is_some (first_key b v i) || list_any (λ c. opens_without_party v (opened (history b c) i)) (leaving d.graph v)))
       (if leads d v i then ready_height d b v else max (ready_height d b v) (unlock_base d.mode d b v i (first_key b v i))) ref e in
       let p = and_three (is_listed a (entering d.graph v)) (is_ready d b v) _ s.0 in
       let z = is_listed-true a (entering d.graph v) p.0 in
       go z p.1 p.2 s.1 (bool_or (has_called v (unlocks_lock i) (history x.known a))) (leads d v i) refl
     where
-      go : IsIn a (entering d.graph v) → is_ready d b v ≡ true
-          → (leads d v i || is_some (first_key b v i) || list_any (λ c. opens_without v (opened (history b c) i)) (leaving d.graph v)) ≡ true
+      go : IsElement a (entering d.graph v) → is_ready d b v ≡ true
+          → (leads d v i || is_some (first_key b v i) || list_any (λ c. opens_without_party v (opened (history b c) i)) (leaving d.graph v)) ≡ true
           → (if leads d v i then ready_height d b v else max (ready_height d b v) (unlock_base d.mode d b v i (first_key b v i))) ≡ ref
           → (has_called v (unlocks_lock i) (history x.known a) ≡ true) ⊎ (has_called v (unlocks_lock i) (history x.known a) ≡ false)
           → (y : Bool) → leads d v i ≡ y → is_done d b v (ToUnlock i) a due ≡ true
@@ -718,7 +719,7 @@ module _ (d : Deal) (b : Histories) (v : ℕ) (w : Wallet) (ref due : ℕ) (k : 
           ap (λ y. cond y (ready_height d b v) (max (ready_height d b v) (unlock_base d.mode d b v i (first_key b v i)))) (sym f) ∙ same in
           let may = and_both (is_ready d x.known v) _ (ready_known ready (omega arith)) (ap not h) in
           let known =
-          seen i below f (ap (λ y. y || is_some (first_key b v i) || list_any (λ c. opens_without v (opened (history b c) i)) (leaving d.graph v))
+          seen i below f (ap (λ y. y || is_some (first_key b v i) || list_any (λ c. opens_without_party v (opened (history b c) i)) (leaving d.graph v))
           (sym f) ∙ enabled) (omega arith) in
           absurd (due_key_some i (or-right (leads d v i) _ (seen_key_some i known)) (x.idle.unlock i a below z may (free (λ q. absurd (false≢true (sym f ∙ q))))))
 
@@ -736,7 +737,7 @@ module _ (d : Deal) (b : Histories) (v : ℕ) (w : Wallet) (ref due : ℕ) (k : 
   }
 
   -- an enabled action is done
-  pub informed_done : (rule : Rule) (a : ℕ) → IsIn rule (deal_rules d) → ref_of d b v rule a ≡ Some ref → is_done d b v rule a due ≡ true
+  pub informed_done : (rule : Rule) (a : ℕ) → IsElement rule (deal_rules d) → reference_height d b v rule a ≡ Some ref → is_done d b v rule a due ≡ true
   unfolding told
   informed_done ToPublish a i e = publish_done d b v w ref due k legal conducted told x.idle.publish a e
   informed_done (ToUnlock l) a i e = unlock_done d b v w ref due k legal conducted told l a (lock_of_rule d l i) (λ q. refl) e
@@ -773,13 +774,13 @@ module _ (d : Deal) (v : ℕ) (w : Wallet) (ticks slack rounds : ℕ) (books : �
         high = λ a. let h = t.top a in omega arith;
       }
 
-  in_time : (rule : Rule) (a ref : ℕ) → IsIn rule (deal_rules d) → IsIn a (arcs d.graph) → ref_of d (books rounds) v rule a ≡ Some ref
-      → IsDoneBy d (books rounds) v rule a (ref + ticks + slack)
+  in_time : (rule : Rule) (a ref : ℕ) → IsElement rule (deal_rules d) → IsElement a (arcs d.graph) → reference_height d (books rounds) v rule a ≡ Some ref
+      → IsDoneInTime d (books rounds) v rule a (ref + ticks + slack)
   in_time rule a ref i j e =
       let q = next_round ticks some ref in
       go q.0 q.1 q.2 (nat_lt q.0 rounds) refl
     where
-      go : (q : ℕ) → ref < q * ticks → q * ticks ≤ ref + ticks → (y : Bool) → nat_lt q rounds ≡ y → IsDoneBy d (books rounds) v rule a (ref + ticks + slack)
+      go : (q : ℕ) → ref < q * ticks → q * ticks ≤ ref + ticks → (y : Bool) → nat_lt q rounds ≡ y → IsDoneInTime d (books rounds) v rule a (ref + ticks + slack)
       go q low high true h =
           inl (informed_done d (books rounds) v w ref (ref + ticks + slack) k (x.legal rounds (omega arith)) x.conducted
           (informed ref q low high (ltb-true q rounds h)) rule a i e)
@@ -802,10 +803,10 @@ done_more d b v rule a s t l h =
 
 -- an action that is done within delta isn't late
 pub done_not_late : (d : Deal) (b : Histories) (v n : ℕ) → n ≤ d.delta → (rule : Rule) (a : ℕ)
-    → ((ref : ℕ) → ref_of d b v rule a ≡ Some ref → IsDoneBy d b v rule a (ref + n)) → is_late d b v rule a ≡ false
-done_not_late d b v n fast rule a by = go (ref_of d b v rule a) refl
+    → ((ref : ℕ) → reference_height d b v rule a ≡ Some ref → IsDoneInTime d b v rule a (ref + n)) → is_late d b v rule a ≡ false
+done_not_late d b v n fast rule a by = go (reference_height d b v rule a) refl
   where
-    go : (o : Option ℕ) → ref_of d b v rule a ≡ o → late_at d b v rule a o ≡ false
+    go : (o : Option ℕ) → reference_height d b v rule a ≡ o → is_past_due d b v rule a o ≡ false
     go None e = refl
     go (Some ref) e = elim (by ref e) [
       | inl h ↦ ap (λ z. nat_lt (ref + d.delta) (height (history b a)) && not z) (done_more d b v rule a (ref + n) (ref + d.delta) (omega arith) h)
@@ -815,7 +816,7 @@ done_not_late d b v n fast rule a by = go (ref_of d b v rule a) refl
 
 pub rounds_on_time : RoundsAreOnTime
 rounds_on_time d v w ticks slack rounds books k some fast x rule a i j = done_not_late d (books rounds) v (ticks + slack) fast rule a (λ ref e.
-    subst (λ n. IsDoneBy d (books rounds) v rule a n) (omega arith) (in_time d v w ticks slack rounds books k some x rule a ref i j e))
+    subst (λ n. IsDoneInTime d (books rounds) v rule a n) (omega arith) (in_time d v w ticks slack rounds books k some x rule a ref i j e))
 
 -- Races.
 
@@ -858,7 +859,7 @@ rounds_of_race d v w ticks rounds books x = record {
 pub races_in_time : RacesAreInTime
 races_in_time d v w ticks rounds books k some x =
     let y = rounds_of_race d v w ticks rounds books x in (
-      λ rule a ref i j e. subst (λ n. IsDoneBy d (round_book books rounds) v rule a n) (omega arith)
+      λ rule a ref i j e. subst (λ n. IsDoneInTime d (round_book books rounds) v rule a n) (omega arith)
           (in_time d v w ticks ticks rounds (round_book books) k some y rule a ref i j e),
       λ fast. rounds_on_time d v w ticks ticks rounds (round_book books) k some (omega arith) y,
     )

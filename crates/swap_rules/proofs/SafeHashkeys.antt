@@ -1,10 +1,11 @@
--- With hashkeys, no conducted party that unlocks and claims, and in whose name nothing is forged, ends underwater.
+-- With hashkeys, no conducted party that unlocks and claims, and in whose name nothing is forged,
+-- ends underwater.
 use Rattle.std.proofs.Common.{◌≡◌, ◌≢◌, ℕ, suc, ◌+◌, ◌<◌, ◌≤◌, ◌==◌, Bool, true, false, cond, not, ◌-◌, if◌then◌else◌, max, ◌&&◌, ◌||◌, List, [], ◌∷◌}
 use Rattle.std.proofs.Common.{length, Option, Some, None, is_some, refl, sym, ap, ◌∙◌, subst, arith, eq-eqb}
 use Rattle.std.specs.List.{flat_map}
 use Rattle.std.proofs.lemmas.Bool.{false≢true}
-use Rattle.swap_base.specs.Lists.{IsIn, IsMoment, greatest}
-use Rattle.swap_base.proofs.Lists.{first_of-in, any_at, list_all-in, list_any-in, or-right, from_range, and_parts, and_both, greatest-in}
+use Rattle.swap_base.specs.Lists.{IsElement, IsMoment, greatest}
+use Rattle.swap_base.proofs.Lists.{first_given_answer-in, any_at, list_all-in, list_any-in, or-right, from_range, and_parts, and_both, greatest-in}
 use Rattle.swap_base.proofs.Lists.{greatest-below, in_from_moment, moment_from_in}
 use Rattle.swap_digraph.specs.declared.deal.Deal.{Deal}
 use Rattle.swap_digraph.specs.declared.deal.Mode.TheVariants.{Hashkeys}
@@ -19,9 +20,9 @@ use Rattle.ledger_core.specs.declared.entry.Entry.{Entry}
 use Rattle.ledger_core.specs.History.{height, accepted, Opening, opened, is_open}
 use Rattle.ledger_core.specs.Book.{Histories, history, IsLegalBook}
 use Rattle.swap_rules.specs.declared.outcome.Outcome.TheVariants.{Underwater}
-use Rattle.swap_rules.specs.Party.{is_ready, ready_height, is_triggered, pick_call, fetch_key, first_key, opens_without, first_seen_key}
-use Rattle.swap_rules.specs.Conduct.{is_first_key, IsConducted, extends, extends_with, extends_without}
-use Rattle.swap_rules.specs.Late.{is_carried, is_used, height_if, greatest_used, unlock_base, when, ref_of}
+use Rattle.swap_rules.specs.Party.{is_ready, ready_height, is_triggered, pick_call, unlock_hashkey, first_key, opens_without_party, first_seen_key}
+use Rattle.swap_rules.specs.Conduct.{is_first_key, IsConducted, extends, extends_inner_key, extends_without_party}
+use Rattle.swap_rules.specs.Late.{is_carried, is_used, height_if, greatest_used, unlock_base, when, reference_height}
 use Rattle.swap_rules.specs.Forged.{forges, has_made, has_forged_suffix}
 use Rattle.swap_rules.specs.Outcome.{outcome, IsEnded}
 use Rattle.swap_rules.proofs.Entering.{DueUnlock, UnlocksInTime, parse_call, call_due, ready_below, gets_all}
@@ -39,16 +40,16 @@ use Rattle.time_bounds.specs.Times as times
 pub record MadeFor (b : Histories) (v i : ℕ) : Type 0 where
   pub entry : Entry
   pub key : Hashkey
-  pub stands : IsIn entry (flat_map (λ h. h) b)
+  pub stands : IsElement entry (flat_map (λ h. h) b)
   pub called : pick_call v entry ≡ Some (Unlock key)
   pub lock : key.lock ≡ i
 
 renewed_wallet : (b : Histories) (v : ℕ) (key : Hashkey) → has_made b v key ≡ true → MadeFor b v key.lock
 renewed_wallet b v key h =
-    let e = any_at (λ e. is_first_key (fetch_key key.lock (pick_call v e)) key) (flat_map (λ h. h) b) h in
-    go e.now (subst (IsIn e.now) (sym e.stands.1) (in_from_moment e.past e.now e.stands.0)) (fetch_key key.lock (pick_call v e.now)) refl e.passes
+    let e = any_at (λ e. is_first_key (unlock_hashkey key.lock (pick_call v e)) key) (flat_map (λ h. h) b) h in
+    go e.now (subst (IsElement e.now) (sym e.stands.1) (in_from_moment e.past e.now e.stands.0)) (unlock_hashkey key.lock (pick_call v e.now)) refl e.passes
   where
-    go : (e : Entry) → IsIn e (flat_map (λ h. h) b) → (o : Option Hashkey) → fetch_key key.lock (pick_call v e) ≡ o → is_first_key o key ≡ true
+    go : (e : Entry) → IsElement e (flat_map (λ h. h) b) → (o : Option Hashkey) → unlock_hashkey key.lock (pick_call v e) ≡ o → is_first_key o key ≡ true
         → MadeFor b v key.lock
     go e i None k q = absurd (cc q)
     go e i (Some k') k q = let parts = key_parts key.lock (pick_call v e) k' k in record { entry = e; key = k'; stands = i; called = parts.0; lock = parts.1 }
@@ -77,17 +78,17 @@ forges_hashkeys b d v key h = h
 -- what v extended was accepted on a leaving arc, in time for one more arc
 pub record Extended (d : Deal) (b : Histories) (v : ℕ) (key : Hashkey) (t : ℕ) : Type 0 where
   pub arc : ℕ
-  pub leaves : IsIn arc (leaving d.graph v)
+  pub leaves : IsElement arc (leaving d.graph v)
   pub past : List Entry
   pub now : Entry
   pub stands : IsMoment (history b arc) past now
   pub inner : Hashkey
   pub took : accepted now ≡ Some (Unlock inner)
   pub height : now.height ≡ t
-  pub extends : extends_with v inner key.path key.sigs key ≡ true
+  pub extends : extends_inner_key v inner key.path key.sigs key ≡ true
 
 pub extended_key : (v : ℕ) (key : Hashkey) (o : Option Call) → extends v key o ≡ true
-    → (inner : Hashkey) × (o ≡ Some (Unlock inner)) × (extends_with v inner key.path key.sigs key ≡ true)
+    → (inner : Hashkey) × (o ≡ Some (Unlock inner)) × (extends_inner_key v inner key.path key.sigs key ≡ true)
 extended_key v key (Some (Unlock inner)) e = (inner, refl, e)
 extended_key v key None e = absurd (cc e)
 extended_key v key (Some (Publish t)) e = absurd (cc e)
@@ -96,10 +97,10 @@ extended_key v key (Some Refund) e = absurd (cc e)
 extended_key v key (Some (Transfer to units)) e = absurd (cc e)
 
 -- what an extension of a hashkey without v says of that hashkey
-pub extended_without : (v : ℕ) (key : Hashkey) (o : Option Call) → extends_without v key o ≡ true
-    → (inner : Hashkey) × (o ≡ Some (Unlock inner)) × (is_listed v inner.path ≡ false) × (extends_with v inner key.path key.sigs key ≡ true)
+pub extended_without : (v : ℕ) (key : Hashkey) (o : Option Call) → extends_without_party v key o ≡ true
+    → (inner : Hashkey) × (o ≡ Some (Unlock inner)) × (is_listed v inner.path ≡ false) × (extends_inner_key v inner key.path key.sigs key ≡ true)
 extended_without v key (Some (Unlock inner)) e =
-    let k = and_parts (not (is_listed v inner.path)) (extends_with v inner key.path key.sigs key) e in
+    let k = and_parts (not (is_listed v inner.path)) (extends_inner_key v inner key.path key.sigs key) e in
     (inner, refl, not-true-of _ k.0, k.1)
 extended_without v key None e = absurd (cc e)
 extended_without v key (Some (Publish t)) e = absurd (cc e)
@@ -108,7 +109,7 @@ extended_without v key (Some Refund) e = absurd (cc e)
 extended_without v key (Some (Transfer to units)) e = absurd (cc e)
 
 pub used_below : (d : Deal) (b : Histories) (v : ℕ) (test : Entry → Bool) (n : ℕ)
-    → ((a : ℕ) (past : List Entry) (e : Entry) → IsIn a (leaving d.graph v) → IsMoment (history b a) past e → test e ≡ true → e.height ≤ n)
+    → ((a : ℕ) (past : List Entry) (e : Entry) → IsElement a (leaving d.graph v) → IsMoment (history b a) past e → test e ≡ true → e.height ≤ n)
     → greatest_used d b v test ≤ n
 used_below d b v test n h = greatest-below (λ a. greatest (λ e. height_if (test e) e.height) (history b a)) (leaving d.graph v) n
     (λ a w. greatest-below (λ e. height_if (test e) e.height) (history b a) n (λ e i. let m = moment_from_in (history b a) e i in
@@ -118,7 +119,7 @@ used_below d b v test n h = greatest-below (λ a. greatest (λ e. height_if (tes
     go true e f = f refl
     go false e f = omega arith
 
-pub used_in : (d : Deal) (b : Histories) (v : ℕ) (test : Entry → Bool) (a : ℕ) (e : Entry) → IsIn a (leaving d.graph v) → IsIn e (history b a)
+pub used_in : (d : Deal) (b : Histories) (v : ℕ) (test : Entry → Bool) (a : ℕ) (e : Entry) → IsElement a (leaving d.graph v) → IsElement e (history b a)
     → test e ≡ true → e.height ≤ greatest_used d b v test
 used_in d b v test a e w i t =
     let h1 = greatest-in (λ a. greatest (λ e. height_if (test e) e.height) (history b a)) (leaving d.graph v) a w in
@@ -126,7 +127,7 @@ used_in d b v test a e w i t =
     let h3 : ◌≡◌ {A = ℕ} (height_if (test e) e.height) e.height = ap (λ x. height_if x e.height) t in
     omega arith
 
-pub extended_of : (d : Deal) (b : Histories) (v : ℕ) (key : Hashkey) (a : ℕ) (past : List Entry) (e : Entry) → IsIn a (leaving d.graph v)
+pub extended_of : (d : Deal) (b : Histories) (v : ℕ) (key : Hashkey) (a : ℕ) (past : List Entry) (e : Entry) → IsElement a (leaving d.graph v)
     → IsMoment (history b a) past e → extends v key (accepted e) ≡ true → Extended d b v key e.height
 extended_of d b v key a past e w m h =
     let k = extended_key v key (accepted e) h in
@@ -142,7 +143,7 @@ carried_key (Some inner) (Some (Transfer to units)) e = absurd (cc e)
 carried_key None c e = absurd (cc e)
 
 -- an extension's path has one arc more
-pub longer : (g : Hashkey) (v : ℕ) (inner : Hashkey) (p : List ℕ) (sigs : List Sig) (key : Hashkey) → extends_with v inner p sigs key ≡ true
+pub longer : (g : Hashkey) (v : ℕ) (inner : Hashkey) (p : List ℕ) (sigs : List Sig) (key : Hashkey) → extends_inner_key v inner p sigs key ≡ true
     → (length p ≡ suc (length inner.path)) × (inner.lock ≡ key.lock)
 longer g v inner [] sigs key e = absurd (cc e)
 longer g v inner (u ∷ p) [] key e = absurd (cc e)
@@ -174,7 +175,7 @@ module _ (d : Deal) (b : Histories) (v : ℕ) (legal : IsLegalBook d b) (conduct
         }
 
     -- an unlock that was accepted on a leaving arc was in time
-    taken_in_time : (a : ℕ) (past : List Entry) (e : Entry) (key : Hashkey) → IsIn a (leaving d.graph v) → IsMoment (history b a) past e
+    taken_in_time : (a : ℕ) (past : List Entry) (e : Entry) (key : Hashkey) → IsElement a (leaving d.graph v) → IsMoment (history b a) past e
         → accepted e ≡ Some (Unlock key)
         → (e.height ≤ times.deadline d.start d.delta d.bound (listed_arcs key.path)) × (listed_arcs key.path ≤ d.bound) × (0 < length key.path)
     taken_in_time a past e key w m took =
@@ -190,7 +191,7 @@ module _ (d : Deal) (b : Histories) (v : ℕ) (legal : IsLegalBook d b) (conduct
         let e3 : e.height ≡ height done.past = done.at in
         (omega arith, k, some_length d.graph key.path p.path)
 
-    taken_ends : (a : ℕ) (past : List Entry) (e : Entry) (key : Hashkey) → IsIn a (leaving d.graph v) → IsMoment (history b a) past e
+    taken_ends : (a : ℕ) (past : List Entry) (e : Entry) (key : Hashkey) → IsElement a (leaving d.graph v) → IsMoment (history b a) past e
         → accepted e ≡ Some (Unlock key) → e.height ≤ times.last_expiry d.start d.delta d.bound
     taken_ends a past e key w m took =
         let t = taken_in_time a past e key w m took in
@@ -240,8 +241,8 @@ module _ (d : Deal) (b : Histories) (v : ℕ) (legal : IsLegalBook d b) (conduct
         let e2 = y.ends in
         record { ends = omega arith; early = λ key f. let e3 = x.early key f in let e4 = y.early key f in omega arith }
 
-    due_known_hashkeys : (a i : ℕ) → IsIn a (entering d.graph v) → i < length d.leaders → is_known d b v i ≡ true → DueUnlock d b v a i
-    unfolding ref_of
+    due_known_hashkeys : (a i : ℕ) → IsElement a (entering d.graph v) → i < length d.leaders → is_known d b v i ≡ true → DueUnlock d b v a i
+    unfolding reference_height
     due_known_hashkeys a i w below known = go (leads d v i) refl
       where
         on : (is_listed a (entering d.graph v) && is_ready d b v && is_known d b v i) ≡ true
@@ -275,7 +276,7 @@ module _ (d : Deal) (b : Histories) (v : ℕ) (legal : IsLegalBook d b) (conduct
 
   module _ (unforged : IsUnforged d b v) where
     -- v's calls that an open lock of a leaving arc shows
-    made_of : (a i : ℕ) → IsIn a (leaving d.graph v) → (o : Opening) → Opener d b v legal conducted law.lock a i o → is_listed v o.key.path ≡ true
+    made_of : (a i : ℕ) → IsElement a (leaving d.graph v) → (o : Opening) → Opener d b v legal conducted law.lock a i o → is_listed v o.key.path ≡ true
         → MadeFor b v i
     made_of a i w o u among =
         let f : forges Hashkeys d b v (Some (Unlock o.key)) ≡ false =
@@ -284,30 +285,30 @@ module _ (d : Deal) (b : Histories) (v : ℕ) (legal : IsLegalBook d b) (conduct
         subst (λ j. MadeFor b v j) u.lock (suffix_made b v o.key o.key.path o.key.sigs (forges_hashkeys b d v o.key f) p.lengths among)
 
     -- v's call for a lock of its own, which an open lock of a leaving arc shows
-    own_made : (a i : ℕ) → i < length d.leaders → IsIn a (leaving d.graph v) → leads d v i ≡ true → (o : Opening)
+    own_made : (a i : ℕ) → i < length d.leaders → IsElement a (leaving d.graph v) → leads d v i ≡ true → (o : Opening)
         → Opener d b v legal conducted law.lock a i o → MadeFor b v i
     own_made a i below w l o u =
         let p = make_path d a o.key law.mode u.path in
         let last : last_is v o.key.path ≡ true = subst (λ x. last_is x o.key.path ≡ true) (ap (lock_leader d) u.lock ∙ leader_reads d v i below l) p.last in
         made_of a i w o u (in-is_listed v o.key.path (end_in v o.key.path last))
 
-    shown_hashkeys : (a i : ℕ) → i < length d.leaders → IsIn a (leaving d.graph v) → leads d v i ≡ true → (o : Opening)
+    shown_hashkeys : (a i : ℕ) → i < length d.leaders → IsElement a (leaving d.graph v) → leads d v i ≡ true → (o : Opening)
         → Opener d b v legal conducted law.lock a i o → Shown b v
     shown_hashkeys a i below w l o u =
         let m = own_made a i below w l o u in
         record { entry = m.entry; key = m.key; stands = m.stands; called = m.called }
 
     -- a leader that presented no hashkey for its lock has lost nothing
-    unrevealed_hashkeys : IsUnrevealed d b v → (a : ℕ) → IsIn a (leaving d.graph v) → is_triggered d b a ≡ true → ⊥
+    unrevealed_hashkeys : IsUnrevealed d b v → (a : ℕ) → IsElement a (leaving d.graph v) → is_triggered d b a ≡ true → ⊥
     unrevealed_hashkeys n a w t =
         let o = opener d b v legal conducted law.lock a n.lock w t n.below in
         let m = own_made a n.lock n.below w n.own o.0 o.1 in
         false≢true (sym (ap is_some n.none) ∙ presents b v n.lock m.entry m.key m.stands m.called m.lock)
 
-    ready_hashkeys : (a : ℕ) → IsIn a (leaving d.graph v) → is_triggered d b a ≡ true → is_ready d b v ≡ true
+    ready_hashkeys : (a : ℕ) → IsElement a (leaving d.graph v) → is_triggered d b a ≡ true → is_ready d b v ≡ true
     ready_hashkeys = triggered_ready d b v legal conducted law.lock shown_hashkeys
 
-    known_open_hashkeys : (c i : ℕ) → IsIn c (leaving d.graph v) → is_open (history b c) i ≡ true → is_known d b v i ≡ true
+    known_open_hashkeys : (c i : ℕ) → IsElement c (leaving d.graph v) → is_open (history b c) i ≡ true → is_known d b v i ≡ true
     unfolding first_key
     known_open_hashkeys c i z t = go (is_listed v o.0.key.path) refl
       where
@@ -320,13 +321,13 @@ module _ (d : Deal) (b : Histories) (v : ℕ) (legal : IsLegalBook d b) (conduct
         go : (x : Bool) → is_listed v o.0.key.path ≡ x → is_known d b v i ≡ true
         go true e =
             let m = made_of c i z o.0 u e in
-            let key_is : fetch_key i (pick_call v m.entry) ≡ Some m.key = ap (fetch_key i) m.called
+            let key_is : unlock_hashkey i (pick_call v m.entry) ≡ Some m.key = ap (unlock_hashkey i) m.called
             ∙ ap (λ x. cond x (Some m.key) None) (eq-eqb m.key.lock i m.lock) in
             or-first (leads d v i) (is_some (first_key b v i)) _
-            (or-left (is_some (first_key b v i)) _ (first_of-in (λ e. fetch_key i (pick_call v e)) (flat_map (λ h. h) b) m.entry m.key m.stands key_is))
+            (or-left (is_some (first_key b v i)) _ (first_given_answer-in (λ e. unlock_hashkey i (pick_call v e)) (flat_map (λ h. h) b) m.entry m.key m.stands key_is))
         go false e =
             or-right (leads d v i || is_some (first_key b v i)) _ (list_any-in (λ c.
-            opens_without v (opened (history b c) i)) (leaving d.graph v) c (ap (opens_without v) o.1 ∙ ap not e) z)
+            opens_without_party v (opened (history b c) i)) (leaving d.graph v) c (ap (opens_without_party v) o.1 ∙ ap not e) z)
 
     pub passing_hashkeys : Passing d b v
     passing_hashkeys = record { ready = ready_hashkeys; known = known_open_hashkeys; due = due_known_hashkeys }
@@ -357,5 +358,5 @@ pub hashkeys_are_safe : (d : Deal) (b : Histories) (v : ℕ) → HashkeyLaw d �
 hashkeys_are_safe d b v law legal conducted unlocks claims unforged = safety_hashkeys d b v legal conducted law unforged unlocks claims
 
 pub hashkeys_unrevealed : (d : Deal) (b : Histories) (v : ℕ) → HashkeyLaw d → IsLegalBook d b → IsConducted d b v → IsUnforged d b v → IsUnrevealed d b v
-    → (a : ℕ) → IsIn a (leaving d.graph v) → is_triggered d b a ≡ true → ⊥
+    → (a : ℕ) → IsElement a (leaving d.graph v) → is_triggered d b a ≡ true → ⊥
 hashkeys_unrevealed d b v law legal conducted unforged n = unrevealed_hashkeys d b v legal conducted law unforged n

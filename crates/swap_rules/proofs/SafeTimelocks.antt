@@ -1,8 +1,9 @@
--- With timelocks, no conducted party that unlocks and claims, and in whose name nothing is forged, ends underwater.
+-- With timelocks, no conducted party that unlocks and claims, and in whose name nothing is forged,
+-- ends underwater.
 use Rattle.std.proofs.Common.{◌≡◌, ◌≢◌, ℕ, ◌+◌, ◌<◌, ◌≤◌, Bool, true, false, cond, not, slice_index, ◌-◌, if◌then◌else◌, max, ◌&&◌, ◌||◌, length}
 use Rattle.std.proofs.Common.{Option, Some, None, is_some, refl, sym, ap, ◌∙◌, subst, arith}
 use Rattle.std.proofs.lemmas.Bool.{false≢true}
-use Rattle.swap_base.specs.Lists.{IsIn, greatest}
+use Rattle.swap_base.specs.Lists.{IsElement, greatest}
 use Rattle.swap_base.proofs.Lists.{from_whole, moment_from_in, list_all-in, list_any-in, or-right, from_range, and_both, greatest-below}
 use Rattle.swap_digraph.specs.declared.deal.Deal.{Deal}
 use Rattle.swap_digraph.specs.declared.deal.Mode.TheVariants.{Timelocks}
@@ -14,9 +15,9 @@ use Rattle.ledger_core.specs.declared.entry.Call.TheVariants.{Unlock}
 use Rattle.ledger_core.specs.History.{Opening, opened, is_open}
 use Rattle.ledger_core.specs.Book.{Histories, history, IsLegalBook}
 use Rattle.swap_rules.specs.declared.outcome.Outcome.TheVariants.{Underwater}
-use Rattle.swap_rules.specs.Party.{is_ready, ready_height, is_triggered, first_key, opens_without}
+use Rattle.swap_rules.specs.Party.{is_ready, ready_height, is_triggered, first_key, opens_without_party}
 use Rattle.swap_rules.specs.Conduct.{IsConducted}
-use Rattle.swap_rules.specs.Late.{height_of_opening, unlock_base, when, ref_of}
+use Rattle.swap_rules.specs.Late.{height_of_opening, unlock_base, when, reference_height}
 use Rattle.swap_rules.specs.Forged.{forges}
 use Rattle.swap_rules.specs.Outcome.{outcome, IsEnded}
 use Rattle.swap_rules.proofs.Entering.{DueUnlock, UnlocksInTime, parse_call, call_due, ready_below, gets_all}
@@ -39,7 +40,7 @@ module _ (d : Deal) (b : Histories) (v : ℕ) (legal : IsLegalBook d b) (conduct
     g_low = ready_below d b v legal conducted (times_of_timelocks d law) ready
 
     -- what was opened on a leaving arc can be passed on in time
-    base_low : (a : ℕ) → IsIn a (entering d.graph v) → leads d v 0 ≡ false → (o : Option Hashkey)
+    base_low : (a : ℕ) → IsElement a (entering d.graph v) → leads d v 0 ≡ false → (o : Option Hashkey)
         → unlock_base d.mode d b v 0 o + d.delta ≤ slice_index d.timelocks a
     base_low a w l o =
         let early : times.opening_deadline d.start d.delta d.bound + d.delta ≤ slice_index d.timelocks a = law.opens a (enters d v a w).0 in
@@ -50,7 +51,7 @@ module _ (d : Deal) (b : Histories) (v : ℕ) (legal : IsLegalBook d b) (conduct
         go c z (opened (history b c) 0) refl) in
         omega arith
       where
-        go : (c : ℕ) → IsIn c (leaving d.graph v) → (o : Option Opening) → opened (history b c) 0 ≡ o
+        go : (c : ℕ) → IsElement c (leaving d.graph v) → (o : Option Opening) → opened (history b c) 0 ≡ o
             → height_of_opening o ≤ slice_index d.timelocks a - d.delta
         go c z None e = omega arith
         go c z (Some x) e =
@@ -61,8 +62,8 @@ module _ (d : Deal) (b : Histories) (v : ℕ) (legal : IsLegalBook d b) (conduct
             omega arith
 
     -- a known lock makes the unlock of every entering arc due
-    due_known_zero : (a : ℕ) → IsIn a (entering d.graph v) → is_known d b v 0 ≡ true → DueUnlock d b v a 0
-    unfolding ref_of
+    due_known_zero : (a : ℕ) → IsElement a (entering d.graph v) → is_known d b v 0 ≡ true → DueUnlock d b v a 0
+    unfolding reference_height
     due_known_zero a w known = go (leads d v 0) refl
       where
         on : (is_listed a (entering d.graph v) && is_ready d b v && is_known d b v 0) ≡ true
@@ -100,33 +101,33 @@ module _ (d : Deal) (b : Histories) (v : ℕ) (legal : IsLegalBook d b) (conduct
             due_at (max (ready_height d b v) (unlock_base d.mode d b v 0 (first_key b v 0)))
             (ap (λ x. cond x (ready_height d b v) (max (ready_height d b v) (unlock_base d.mode d b v 0 (first_key b v 0)))) e) (omega arith)
 
-    due_known : (a i : ℕ) → IsIn a (entering d.graph v) → i < length d.leaders → is_known d b v i ≡ true → DueUnlock d b v a i
+    due_known : (a i : ℕ) → IsElement a (entering d.graph v) → i < length d.leaders → is_known d b v i ≡ true → DueUnlock d b v a i
     due_known a i w below known =
         let one : length d.leaders ≡ 1 = law.one in
         let first : i ≡ 0 = omega arith in
         subst (λ j. DueUnlock d b v a j) (sym first) (due_known_zero a w (subst (λ j. is_known d b v j ≡ true) first known))
 
   -- an opened leaving arc makes its lock known
-  known_open : (c i : ℕ) → IsIn c (leaving d.graph v) → is_open (history b c) i ≡ true → is_known d b v i ≡ true
+  known_open : (c i : ℕ) → IsElement c (leaving d.graph v) → is_open (history b c) i ≡ true → is_known d b v i ≡ true
   known_open c i z t =
       let o = is_some-of (opened (history b c) i) t in
       let u = opener_at d b v legal conducted some_lock c i z o.0 o.1 in
-      or-right (leads d v i || is_some (first_key b v i)) _ (list_any-in (λ c. opens_without v (opened (history b c) i)) (leaving d.graph v) c
-      (ap (opens_without v) o.1 ∙ ap (λ p. not (is_listed v p)) (no_path d c o.0.key law.mode u.path)) z)
+      or-right (leads d v i || is_some (first_key b v i)) _ (list_any-in (λ c. opens_without_party v (opened (history b c) i)) (leaving d.graph v) c
+      (ap (opens_without_party v) o.1 ∙ ap (λ p. not (is_listed v p)) (no_path d c o.0.key law.mode u.path)) z)
 
   module _ (unforged : IsUnforged d b v) where
-    shown : (a i : ℕ) → i < length d.leaders → IsIn a (leaving d.graph v) → leads d v i ≡ true → (o : Opening)
+    shown : (a i : ℕ) → i < length d.leaders → IsElement a (leaving d.graph v) → leads d v i ≡ true → (o : Opening)
         → Opener d b v legal conducted some_lock a i o → Shown b v
     shown a i below w l o u =
         let f : forges Timelocks d b v (Some (Unlock o.key)) ≡ false =
         ap (λ m. forges m d b v (Some (Unlock o.key))) (sym law.mode) ∙ (ap (forges d.mode d b v) (sym u.took) ∙ unforged a u.past u.now w u.stands) in
         shown_timelocks d b v o.key f u.secret (ap (leads d v) u.lock ∙ l)
 
-    ready_once : (a : ℕ) → IsIn a (leaving d.graph v) → is_triggered d b a ≡ true → is_ready d b v ≡ true
+    ready_once : (a : ℕ) → IsElement a (leaving d.graph v) → is_triggered d b a ≡ true → is_ready d b v ≡ true
     ready_once = triggered_ready d b v legal conducted some_lock shown
 
     -- a leader that presented no hashkey for its lock has lost nothing
-    unrevealed_timelocks : IsUnrevealed d b v → (a : ℕ) → IsIn a (leaving d.graph v) → is_triggered d b a ≡ true → ⊥
+    unrevealed_timelocks : IsUnrevealed d b v → (a : ℕ) → IsElement a (leaving d.graph v) → is_triggered d b a ≡ true → ⊥
     unrevealed_timelocks n a w t =
         let o = opener d b v legal conducted some_lock a n.lock w t n.below in
         let s = shown a n.lock n.below w n.own o.0 o.1 in
@@ -142,7 +143,8 @@ module _ (d : Deal) (b : Histories) (v : ℕ) (legal : IsLegalBook d b) (conduct
     pub passing_timelocks : Passing d b v
     passing_timelocks = record { ready = ready_once; known = known_open; due = due_known }
 
-    -- A conducted party that unlocks and claims, and is not forged on a leaving arc, never ends underwater.
+    -- A conducted party that unlocks and claims, and is not forged on a leaving arc, never ends
+    -- underwater.
     safety_timelocks : (HasLost d b v → UnlocksAll d b v) → (HasLost d b v → ClaimsAll d b v) → outcome d b v ≢ Underwater
     safety_timelocks unlocks claims e =
         let lost = underwater_lost d b v e in
@@ -169,5 +171,5 @@ pub timelocks_are_safe : (d : Deal) (b : Histories) (v : ℕ) → TimelockLaw d 
 timelocks_are_safe d b v law legal conducted unlocks claims unforged = safety_timelocks d b v legal conducted law unforged unlocks claims
 
 pub timelocks_unrevealed : (d : Deal) (b : Histories) (v : ℕ) → TimelockLaw d → IsLegalBook d b → IsConducted d b v → IsUnforged d b v → IsUnrevealed d b v
-    → (a : ℕ) → IsIn a (leaving d.graph v) → is_triggered d b a ≡ true → ⊥
+    → (a : ℕ) → IsElement a (leaving d.graph v) → is_triggered d b a ≡ true → ⊥
 timelocks_unrevealed d b v law legal conducted unforged n = unrevealed_timelocks d b v legal conducted law unforged n

@@ -2,7 +2,7 @@
 use Rattle.std.proofs.Common.{◌≡◌, ◌⊎◌, ℕ, ◌+◌, ◌<◌, ◌≤◌, ◌==◌, Bool, true, false, not, slice_index, if◌then◌else◌, ◌&&◌, List, [], length, refl, sym}
 use Rattle.std.proofs.Common.{ap, ◌∙◌, subst, inl, inr, arith, eqb-true, mul-le-mul_right, ◌*◌}
 use Rattle.std.proofs.lemmas.List.{nil_from_length}
-use Rattle.swap_base.specs.Lists.{IsIn}
+use Rattle.swap_base.specs.Lists.{IsElement}
 use Rattle.swap_base.proofs.Lists.{and_parts}
 use Rattle.swap_digraph.specs.declared.deal.Version.{Version}
 use Rattle.swap_digraph.specs.declared.deal.Version.TheVariants.{One, Two}
@@ -26,10 +26,11 @@ pub record TimelockLaw (d : Deal) : Type 0 where
   pub one : length d.leaders ≡ 1
   pub opens : (a : ℕ) → a < length d.graph.arcs → times.opening_deadline d.start d.delta d.bound + d.delta ≤ slice_index d.timelocks a
   pub ends : (a : ℕ) → a < length d.graph.arcs → slice_index d.timelocks a ≤ times.last_expiry d.start d.delta d.bound
-  pub steps : (v a c : ℕ) → IsIn a (entering d.graph v) → IsIn c (leaving d.graph v) → leads d v 0 ≡ false
+  pub steps : (v a c : ℕ) → IsElement a (entering d.graph v) → IsElement c (leaving d.graph v) → leads d v 0 ≡ false
       → slice_index d.timelocks c + d.delta ≤ slice_index d.timelocks a
 
--- What an accepted deal in hashkeys mode says of its times: no path to a leader has more arcs than the bound.
+-- What an accepted deal in hashkeys mode says of its times: no path to a leader has more arcs than
+-- the bound.
 pub record HashkeyLaw (d : Deal) : Type 0 where
   pub mode : d.mode ≡ Hashkeys
   pub lock : 0 < length d.leaders

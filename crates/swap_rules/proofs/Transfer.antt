@@ -8,9 +8,9 @@ use Rattle.std.proofs.lemmas.List.{get_or_default}
 use Rattle.std.proofs.lemmas.Option.{same_Some}
 use Rattle.std.proofs.lemmas.Bool.Decides.{nat_tests}
 use Rattle.std.proofs.lemmas.List.Sums.{sum_by-cons}
-use Rattle.swap_base.specs.Lists.{or_else, IsIn, IsMoment, greatest}
+use Rattle.swap_base.specs.Lists.{or_else, IsElement, IsMoment, greatest}
 use Rattle.swap_base.proofs.Lists.{first_at, any_at, list_all-in, list_all-from, in_range, from_range, and_parts, greatest-below, in_from_moment}
-use Rattle.swap_base.proofs.Lists.{moment_from_in, from_whole, grow, all_moments_front, first_of-append, first_of-front, in_append}
+use Rattle.swap_base.proofs.Lists.{moment_from_in, from_whole, grow, all_moments_front, first_given_answer-append, first_given_answer-front, in_append}
 use Rattle.time_bounds.specs.Times.{need}
 use Rattle.swap_digraph.specs.declared.deal.Mode.{Mode}
 use Rattle.swap_digraph.specs.declared.deal.Deal.{Deal}
@@ -24,18 +24,18 @@ use Rattle.ledger_core.specs.declared.entry.Call.{Call}
 use Rattle.ledger_core.specs.declared.entry.Call.TheVariants.{Publish, Unlock, Claim, Refund, Transfer}
 use Rattle.ledger_core.specs.declared.entry.Entry.{Entry}
 use Rattle.ledger_core.specs.History.{height, accepted, Publication, publication, published, opened, settling, settled, is_open, triggered, IsLegal}
-use Rattle.ledger_core.specs.History.{accounts, held, balance, IsLegalMoment, the_terms, parse_terms}
+use Rattle.ledger_core.specs.History.{accounts, held, balance, IsLegalMoment, the_terms, publication_terms}
 use Rattle.ledger_core.specs.declared.facts.Settlement.TheVariants.{Refunded}
 use Rattle.ledger_core.specs.Book.{Histories, history, IsLegalBook}
 use Rattle.swap_rules.specs.declared.finding.Rule.TheVariants.{Claim as ToClaim}
 use Rattle.swap_rules.specs.declared.outcome.Outcome.TheVariants.{NoDeal, FreeRide, Underwater, Deal as WholeDeal, Discount}
-use Rattle.swap_rules.specs.Party.{is_correct, publication_height, is_good, is_ready, ready_height, is_triggered, pick_call, fetch_key, first_key}
-use Rattle.swap_rules.specs.Party.{opens_without}
+use Rattle.swap_rules.specs.Party.{is_correct, publication_height, is_good, is_ready, ready_height, is_triggered, pick_call, unlock_hashkey, first_key}
+use Rattle.swap_rules.specs.Party.{opens_without_party}
 use Rattle.swap_rules.specs.Conduct.{is_first_key, keeps, IsConducted}
 use Rattle.swap_rules.specs.Late.{is_used, height_of_opening, unlock_base, trigger_height}
 use Rattle.swap_rules.specs.Outcome.{is_claim, is_got, got, lost, outcome, IsEnded}
 use Rattle.swap_rules.specs.Accepted.{IsAccepted, HasTimelock, IsTimed}
-use Rattle.swap_rules.specs.Laws.{IsOnTime, AllConform, IsClaimedBy, AllIsTransferred}
+use Rattle.swap_rules.specs.Laws.{IsOnTime, AllConform, IsClaimedInTime, AllIsTransferred}
 use Rattle.swap_rules.proofs.Times.{TimeLaw, OfTimelocks, OfHashkeys, make_path, path_of_valid, PathOf, TimesLaw}
 use Rattle.swap_rules.proofs.Accepted.{times_law, time_law, arc_has, get_in, one_leader}
 use Rattle.swap_rules.proofs.Entering.{opens, Unlocked, trigger_ends, claims, DueUnlock, claim_enabled, correct_entering, call_due, unlocks_in_time}
@@ -84,7 +84,7 @@ parse_arc g u v e =
 module _ (d : Deal) (b : Histories) (v : ℕ) (legal : IsLegalBook d b) (ended : IsEnded d b) (conducted : IsConducted d b v) (on_time : IsOnTime d b v)
     (law : TimesLaw d) (ready : is_ready d b v ≡ true) where
   -- a claim that is due is made by then
-  claims_by : (a t : ℕ) → IsIn a (entering d.graph v) → is_triggered d b a ≡ true → trigger_height d (history b a) ≤ t → IsClaimedBy (history b a) (t + d.delta)
+  claims_by : (a t : ℕ) → IsElement a (entering d.graph v) → is_triggered d b a ≡ true → trigger_height d (history b a) ≤ t → IsClaimedInTime (history b a) (t + d.delta)
   unfolding keeps
   claims_by a t w open_all early =
       let in_arc = enters d v a w in
@@ -116,7 +116,7 @@ leads_zero d v i l e = eq-eqb _ v (get_or_default d.leaders i d.graph.n 0 l ∙ 
 -- What a claim pays stays.
 module _ (d : Deal) (a : ℕ) where
   abbrev NoTransfer : List Entry → Type 0
-  NoTransfer h = (e : Entry) (to units : ℕ) → IsIn e h → accepted e ≡ Some (Transfer to units) → ⊥
+  NoTransfer h = (e : Entry) (to units : ℕ) → IsElement e h → accepted e ≡ Some (Transfer to units) → ⊥
 
   abbrev IsPaid : List Entry → Type 0
   IsPaid h =
@@ -124,7 +124,7 @@ module _ (d : Deal) (a : ℕ) where
       → is_claim (settled h) ≡ true → (accounts d a h).counterparty ≡ amount d a
 
   settled-push : (h : List Entry) (e : Entry) (o : Option Call) → accepted e ≡ o → settled (h ++ e ∷ []) ≡ or_else (settled h) (or_else (settling o) None)
-  settled-push h e o q = first_of-append (λ e. settling (accepted e)) h (e ∷ []) ∙ ap (λ o. or_else (settled h) (or_else (settling o) None)) q
+  settled-push h e o q = first_given_answer-append (λ e. settling (accepted e)) h (e ∷ []) ∙ ap (λ o. or_else (settled h) (or_else (settling o) None)) q
 
   or_none : {B : Type 0} (o : Option B) → or_else o None ≡ o
   or_none None = refl
@@ -154,7 +154,7 @@ module _ (d : Deal) (a : ℕ) where
       let u = units d a h l0 in
       let same = u.same in
       let held_is : held h ≡ of_c.contract.terms.amount =
-      ap (λ x. cond (is_some x) 0 (the_terms h).amount) of_c.unsettled ∙ ap (λ x. (parse_terms x).amount) of_c.published in
+      ap (λ x. cond (is_some x) 0 (the_terms h).amount) of_c.unsettled ∙ ap (λ x. (publication_terms x).amount) of_c.published in
       let is_amount = right of_c.contract of_c.published in
       ap (λ x. x.counterparty) (after d a h e e.sender (Some Claim) refl q) ∙ omega arith
   paid_step h e (Some (Transfer to units)) q l l0 own n right c rest = absurd (n e to units (in_append h (e ∷ []) e (inr (inl refl))) q)
@@ -162,11 +162,11 @@ module _ (d : Deal) (a : ℕ) where
   is_paid : (h : List Entry) → IsPaid h
   is_paid h = grow IsPaid h (λ l own n right c. absurd (false≢true c)) (λ xs x rest l own n right c.
       let l0 = all_moments_front (IsLegalMoment d a) xs (x ∷ []) l in
-      let own0 = λ (e : Entry) (to units : ℕ) (i : IsIn e xs). own e to units (in_append xs (x ∷ []) e (inl i)) in
-      let right0 = λ (p : Publication) (f : published xs ≡ Some p). right p (first_of-front (λ x. publication x.height (accepted x)) xs (x ∷ []) p f) in
+      let own0 = λ (e : Entry) (to units : ℕ) (i : IsElement e xs). own e to units (in_append xs (x ∷ []) e (inl i)) in
+      let right0 = λ (p : Publication) (f : published xs ≡ Some p). right p (first_given_answer-front (λ x. publication x.height (accepted x)) xs (x ∷ []) p f) in
       paid_step xs x (accepted x) refl l l0 own0 n right0 c (λ c0. rest l0 own0 (λ e to units i. n e to units (in_append xs (x ∷ []) e (inl i))) right0 c0))
 
-count_all : {A : Type 0} (p : A → Bool) (xs : List A) → ((x : A) → IsIn x xs → p x ≡ true) → count_by p xs ≡ length xs
+count_all : {A : Type 0} (p : A → Bool) (xs : List A) → ((x : A) → IsElement x xs → p x ≡ true) → count_by p xs ≡ length xs
 count_all p [] h = refl
 count_all p (x ∷ xs) h =
     let e : count_by p (x ∷ xs) ≡ cond (p x) 1 0 + count_by p xs = sum_by-cons (λ z. cond (p z) 1 0) x xs in
@@ -174,7 +174,7 @@ count_all p (x ∷ xs) h =
     let g = count_all p xs (λ y i. h y (inr i)) in
     omega arith
 
-in_length : {A : Type 0} (x : A) (xs : List A) → IsIn x xs → 0 < length xs
+in_length : {A : Type 0} (x : A) (xs : List A) → IsElement x xs → 0 < length xs
 in_length x [] i = absurd i
 in_length x (y ∷ xs) i = omega arith
 
@@ -201,7 +201,7 @@ module _ (d : Deal) (b : Histories) (k : IsAccepted d) (legal : IsLegalBook d b)
       go (OfTimelocks law) = let c = all v below in passing_timelocks d b v legal c.conducted law c.unforged
       go (OfHashkeys law) = let c = all v below in passing_hashkeys d b v legal c.conducted law c.unforged
 
-  unlocked : (v : ℕ) → v < d.graph.n → (a i : ℕ) → IsIn a (entering d.graph v) → i < length d.leaders → is_known d b v i ≡ true
+  unlocked : (v : ℕ) → v < d.graph.n → (a i : ℕ) → IsElement a (entering d.graph v) → i < length d.leaders → is_known d b v i ≡ true
       → (due : DueUnlock d b v a i) × Unlocked d b v a i (due.ref + d.delta)
   unlocked v below a i w l known =
       let c = all v below in
@@ -210,19 +210,19 @@ module _ (d : Deal) (b : Histories) (k : IsAccepted d) (legal : IsLegalBook d b)
         opens d b v legal c.conducted (times_law d k) (all_ready v) a i (due.ref + d.delta) w
             (λ j m e.
             let own = (passing v below).due (all_ready v) a j w m
-            (ap (λ x. x || is_some (first_key b v j) || list_any (λ c. opens_without v (opened (history b c) j)) (leaving d.graph v)) e) in
+            (ap (λ x. x || is_some (first_key b v j) || list_any (λ c. opens_without_party v (opened (history b c) j)) (leaving d.graph v)) e) in
             (own.ref + d.delta, call_due d b v legal ended c.conducted (unlocks_in_time d b v c.on_time) a j w own))
             (call_due d b v legal ended c.conducted (unlocks_in_time d b v c.on_time) a i w due),
       )
 
   -- Along a path to the leader every entering arc is opened.
   opens_along : (p : List ℕ) (v : ℕ) → v < d.graph.n → (i : ℕ) → i < length d.leaders → IsConnectingPath d.graph v (lock_leader d i) p → (a : ℕ)
-      → IsIn a (entering d.graph v) → is_open (history b a) i ≡ true
+      → IsElement a (entering d.graph v) → is_open (history b a) i ≡ true
   opens_along [] v below i l path a w = absurd (cc path.0)
   opens_along (u ∷ []) v below i l path a w =
       let lead : leads d v i ≡ true = leads_zero d v i l (sym (eqb-true u _ path.2) ∙ eqb-true u v path.1) in
       let known : is_known d b v i ≡ true =
-      ap (λ x. x || is_some (first_key b v i) || list_any (λ c. opens_without v (opened (history b c) i)) (leaving d.graph v)) lead in
+      ap (λ x. x || is_some (first_key b v i) || list_any (λ c. opens_without_party v (opened (history b c) i)) (leaving d.graph v)) lead in
       let r = unlocked v below a i w l known in
       ap is_some r.1.opening_deadline.opened
   opens_along (u ∷ y ∷ p) v below i l path a w =
@@ -230,9 +230,9 @@ module _ (d : Deal) (b : Histories) (k : IsAccepted d) (legal : IsLegalBook d b)
       let arc = parse_arc d.graph u y s.arc in
       let from : party d arc.arc ≡ v = arc.from ∙ eqb-true u v path.1 in
       let open_there = opens_along (y ∷ p) y (subst (λ z. z < d.graph.n) arc.to (to_below arc.arc arc.below)) i l (s.rest, eq-eqb y y refl, path.2) arc.arc
-      (subst (λ z. IsIn arc.arc (entering d.graph z)) arc.to (enters_own d b k legal ended all arc.arc arc.below)) in
+      (subst (λ z. IsElement arc.arc (entering d.graph z)) arc.to (enters_own d b k legal ended all arc.arc arc.below)) in
       let known =
-      (passing v below).known arc.arc i (subst (λ z. IsIn arc.arc (leaving d.graph z)) from (leaves_own d b k legal ended all arc.arc arc.below))
+      (passing v below).known arc.arc i (subst (λ z. IsElement arc.arc (leaving d.graph z)) from (leaves_own d b k legal ended all arc.arc arc.below))
       open_there in
       ap is_some (unlocked v below a i w l known).1.opening_deadline.opened
 
@@ -259,16 +259,16 @@ module _ (d : Deal) (b : Histories) (k : IsAccepted d) (legal : IsLegalBook d b)
       go [] path = absurd (cc path.0)
       go (u ∷ []) path =
           let lead : leads d v i ≡ true = leads_zero d v i l (sym (eqb-true u _ path.2) ∙ eqb-true u v path.1) in
-          ap (λ x. x || is_some (first_key b v i) || list_any (λ c. opens_without v (opened (history b c) i)) (leaving d.graph v)) lead
+          ap (λ x. x || is_some (first_key b v i) || list_any (λ c. opens_without_party v (opened (history b c) i)) (leaving d.graph v)) lead
       go (u ∷ y ∷ p) path =
           let s = path_step d.graph u y p path.0 in
           let arc = parse_arc d.graph u y s.arc in
           let from : party d arc.arc ≡ v = arc.from ∙ eqb-true u v path.1 in
-          (passing v below).known arc.arc i (subst (λ z. IsIn arc.arc (leaving d.graph z)) from (leaves_own d b k legal ended all arc.arc arc.below))
+          (passing v below).known arc.arc i (subst (λ z. IsElement arc.arc (leaving d.graph z)) from (leaves_own d b k legal ended all arc.arc arc.below))
           (opens_everywhere arc.arc i arc.below l)
 
   -- where v's ref height is low, v's entering arcs are opened by then
-  opened_by_ref : (v : ℕ) → v < d.graph.n → (a i t : ℕ) → IsIn a (entering d.graph v) → i < length d.leaders
+  opened_by_ref : (v : ℕ) → v < d.graph.n → (a i t : ℕ) → IsElement a (entering d.graph v) → i < length d.leaders
       → (leads d v i ≡ true → ready_height d b v ≤ t) → (leads d v i ≡ false → max (ready_height d b v) (unlock_base d.mode d b v i (first_key b v i)) ≤ t)
       → IsOpenBy (history b a) i (t + d.delta)
   opened_by_ref v below a i t w l if_lead if_not =
@@ -301,7 +301,7 @@ module _ (d : Deal) (b : Histories) (k : IsAccepted d) (legal : IsLegalBook d b)
   by_g : (v m : ℕ) → ready_height d b v ≤ by_height m
   by_g v m = let e = g_by v in let f = by_mono 0 m (omega arith) in let z : by_height 0 ≡ (k.height + 1) * d.delta = omega arith in omega arith
 
-  base_max : d.mode ≡ Timelocks → (v t : ℕ) → ready_height d b v ≤ t → ((c : ℕ) → IsIn c (leaving d.graph v) → IsOpenBy (history b c) 0 t)
+  base_max : d.mode ≡ Timelocks → (v t : ℕ) → ready_height d b v ≤ t → ((c : ℕ) → IsElement c (leaving d.graph v) → IsOpenBy (history b c) 0 t)
       → max (ready_height d b v) (unlock_base d.mode d b v 0 (first_key b v 0)) ≤ t
   base_max mode v t g opens =
       let e : unlock_base d.mode d b v 0 (first_key b v 0) ≡ greatest (λ a. height_of_opening (opened (history b a) 0)) (leaving d.graph v) =
@@ -345,9 +345,9 @@ module _ (d : Deal) (b : Histories) (k : IsAccepted d) (legal : IsLegalBook d b)
   unfolding first_key keeps
   first_key_path mode v below i key e =
       let c = all v below in
-      let f = first_at (λ e. fetch_key i (pick_call v e)) (flat_map (λ h. h) b) key e in
+      let f = first_at (λ e. unlock_hashkey i (pick_call v e)) (flat_map (λ h. h) b) key e in
       let parts = key_parts i (pick_call v f.now) key f.gives in
-      let w = from_whole b f.now (subst (IsIn f.now) (sym f.stands.1) (in_from_moment f.past f.now f.stands.0)) in
+      let w = from_whole b f.now (subst (IsElement f.now) (sym f.stands.1) (in_from_moment f.past f.now f.stands.0)) in
       let m = moment_from_in (history b w.0) f.now w.2 in
       let q =
       and_five (is_some (published m.0)) (is_ready d b v) (is_first_key (first_key b v key.lock) key) (is_valid d w.0 (lock_hashlock d key.lock) key)
@@ -367,7 +367,7 @@ module _ (d : Deal) (b : Histories) (k : IsAccepted d) (legal : IsLegalBook d b)
   some_first (Some first) key e = (first, refl, e)
 
   by_key : d.mode ≡ Hashkeys → (m : ℕ) → (v : ℕ) → v < d.graph.n → (i : ℕ) → i < length d.leaders → (key : Hashkey) → first_key b v i ≡ Some key
-      → length key.path ≤ m → (a : ℕ) → IsIn a (entering d.graph v) → IsOpenBy (history b a) i (by_height m)
+      → length key.path ≤ m → (a : ℕ) → IsElement a (entering d.graph v) → IsOpenBy (history b a) i (by_height m)
   by_key mode zero v below i l key e short a w =
       let p = first_key_path mode v below i key e in
       let some = some_length d.graph key.path p.1.path in absurd (omega arith)
@@ -381,7 +381,7 @@ module _ (d : Deal) (b : Histories) (k : IsAccepted d) (legal : IsLegalBook d b)
       omega arith))
     where
       base : (t : ℕ) → Extended d b v key t
-          → ((x : ℕ) → x < d.graph.n → (key : Hashkey) → first_key b x i ≡ Some key → length key.path ≤ m → (a : ℕ) → IsIn a (entering d.graph x)
+          → ((x : ℕ) → x < d.graph.n → (key : Hashkey) → first_key b x i ≡ Some key → length key.path ≤ m → (a : ℕ) → IsElement a (entering d.graph x)
           → IsOpenBy (history b a) i (by_height m)) → t ≤ by_height m
       base t x rest =
           let c = all v below in
@@ -437,7 +437,7 @@ module _ (d : Deal) (b : Histories) (k : IsAccepted d) (legal : IsLegalBook d b)
   all_triggered : (a : ℕ) → a < length d.graph.arcs → is_triggered d b a ≡ true
   all_triggered a la = list_all-from (is_open (history b a)) (locks d) (λ i z. opens_everywhere a i la (from_range i (length d.leaders) z))
 
-  claimed_in_time : (a : ℕ) → a < length d.graph.arcs → IsClaimedBy (history b a) ((k.height + span + 3) * d.delta)
+  claimed_in_time : (a : ℕ) → a < length d.graph.arcs → IsClaimedInTime (history b a) ((k.height + span + 3) * d.delta)
   claimed_in_time a la =
       let c = all (counterparty d a) (to_below a la) in
       let low : trigger_height d (history b a) ≤ by_height (suc span) =
@@ -467,7 +467,7 @@ module _ (d : Deal) (b : Histories) (k : IsAccepted d) (legal : IsLegalBook d b)
           go true e h = rw (eqb-true p (party d a) e) (from_below d b k legal ended all a la)
           go false e h = rw (eqb-true p (counterparty d a) h) (to_below a la)
 
-  gets : (v : ℕ) → v < d.graph.n → (a : ℕ) → IsIn a (entering d.graph v) → is_got d b a ≡ true
+  gets : (v : ℕ) → v < d.graph.n → (a : ℕ) → IsElement a (entering d.graph v) → is_got d b a ≡ true
   gets v below a w = let c =
       all v below in claims d b v legal c.conducted (times_law d k) (all_ready v)
       (on_time_claims d b v legal ended c.conducted (times_law d k) c.on_time) a w (all_triggered a (enters d v a w).0)
@@ -508,7 +508,7 @@ module _ (d : Deal) (b : Histories) (k : IsAccepted d) (legal : IsLegalBook d b)
       go u (x ∷ []) path n = absurd (false≢true (sym n ∙ (ap (λ z. z == u) (sym (eqb-true x v path.1)) ∙ path.2)))
       go u (x ∷ y ∷ p) path n =
           let arc = parse_arc d.graph x y (path_step d.graph x y p path.0).arc in
-          in_length arc.arc (leaving d.graph v) (subst (λ z. IsIn arc.arc (leaving d.graph z)) (arc.from
+          in_length arc.arc (leaving d.graph v) (subst (λ z. IsElement arc.arc (leaving d.graph z)) (arc.from
           ∙ eqb-true x v path.1) (leaves_own d b k legal ended all arc.arc arc.below))
 
   whole : (v : ℕ) → v < d.graph.n → outcome d b v ≡ WholeDeal

@@ -3,8 +3,8 @@ use Rattle.std.proofs.Common.{◌≡◌, ◌⊎◌, ℕ, suc, zero, ◌≤◌, �
 use Rattle.std.proofs.Common.{set, Option, Some, None, is_some, is_none, refl, sym, ap, ap₂, ◌∙◌, subst, inl, inr, arith, leb-true, le-leb}
 use Rattle.std.specs.List.{list_any, list_all, flat_map}
 use Rattle.std.proofs.lemmas.Bool.{false≢true}
-use Rattle.swap_base.specs.Lists.{or_else, first_of, IsIn}
-use Rattle.swap_base.proofs.Lists.{first_of-append, from_append, in_append, in_flat_map, and_parts, and_both, list_all-in, list_all-from}
+use Rattle.swap_base.specs.Lists.{or_else, first_given_answer, IsElement}
+use Rattle.swap_base.proofs.Lists.{first_given_answer-append, from_append, in_append, in_flat_map, and_parts, and_both, list_all-in, list_all-from}
 use Rattle.swap_digraph.specs.declared.deal.Deal.{Deal}
 use Rattle.swap_digraph.specs.Graph.{leaving, entering}
 use Rattle.swap_digraph.specs.Deal.{locks, leads}
@@ -15,7 +15,7 @@ use Rattle.ledger_core.specs.declared.entry.Call.TheVariants.{Publish, Unlock, C
 use Rattle.ledger_core.specs.declared.entry.Entry.{Entry}
 use Rattle.ledger_core.specs.History.{height}
 use Rattle.ledger_core.specs.Book.{Histories, history}
-use Rattle.swap_rules.specs.Party.{pick_call, fetch_key, first_key}
+use Rattle.swap_rules.specs.Party.{pick_call, unlock_hashkey, first_key}
 use Rattle.swap_rules.specs.Due.{Wallet, Action, unlocks_lock, has_called, is_due_publish, due_arc_unlock, when_due, due_publishes, due_unlocks}
 use Rattle.swap_rules.specs.Due.{due_claims, due_refunds, due}
 use Rattle.swap_rules.specs.Rest.{is_ticking, are_ticks, StaysLow}
@@ -30,22 +30,22 @@ use Rattle.time_bounds.specs.Times as times
 
 -- Calls under a further test.
 
-fewer : (p q : Bool) (a : ℕ) (c : Call) (x : Action) → IsIn x (when_due (p && q) a c) → IsIn x (when_due p a c)
+fewer : (p q : Bool) (a : ℕ) (c : Call) (x : Action) → IsElement x (when_due (p && q) a c) → IsElement x (when_due p a c)
 fewer true true a c x i = i
 fewer true false a c x i = absurd i
 fewer false q a c x i = absurd i
 
-kept_or : (p q : Bool) (a : ℕ) (c : Call) (x : Action) → IsIn x (when_due p a c) → IsIn x (when_due (p && q) a c) ⊎ ((q ≡ false) × (x.arc ≡ a) × (x.call ≡ c))
+kept_or : (p q : Bool) (a : ℕ) (c : Call) (x : Action) → IsElement x (when_due p a c) → IsElement x (when_due (p && q) a c) ⊎ ((q ≡ false) × (x.arc ≡ a) × (x.call ≡ c))
 kept_or true true a c x i = inl i
 kept_or true false a c x (inl e) = inr (refl, ap (λ y. y.arc) e, ap (λ y. y.call) e)
 kept_or true false a c x (inr i) = absurd i
 kept_or false q a c x i = absurd i
 
-unless_in : (held : Bool) (xs : List Action) (x : Action) → IsIn x (cond held [] xs) → IsIn x xs
+unless_in : (held : Bool) (xs : List Action) (x : Action) → IsElement x (cond held [] xs) → IsElement x xs
 unless_in true xs x i = absurd i
 unless_in false xs x i = i
 
-unless_or : (held : Bool) (xs : List Action) (x : Action) → IsIn x xs → IsIn x (cond held [] xs) ⊎ (held ≡ true)
+unless_or : (held : Bool) (xs : List Action) (x : Action) → IsElement x xs → IsElement x (cond held [] xs) ⊎ (held ≡ true)
 unless_or true xs x i = inr refl
 unless_or false xs x i = inl i
 
@@ -59,68 +59,68 @@ module _ (d : Deal) (v : ℕ) (w : Wallet) (signed : ℕ → Option Hashkey) (k 
   abbrev unlocks_at : ℕ → List Action
   unlocks_at i = flat_map (due_arc_unlock d v w (signed i) k i) (entering d.graph v)
 
-  publish_is_due : (x : Action) → IsIn x (useful_publishes d v k) → IsIn x (due_publishes d v k)
+  publish_is_due : (x : Action) → IsElement x (useful_publishes d v k) → IsElement x (due_publishes d v k)
   publish_is_due x i =
       let f = from_flat_map early_at (leaving d.graph v) x i in
       in_flat_map publish_at (leaving d.graph v) f.0 x f.1
       (fewer (is_due_publish d v k f.0) (opens_in_time d k f.0) f.0 (Publish (stated_terms d f.0)) x f.2)
 
-  unlock_is_due : (x : Action) → IsIn x (useful_unlocks d v w signed k) → IsIn x (due_unlocks d v w signed k)
+  unlock_is_due : (x : Action) → IsElement x (useful_unlocks d v w signed k) → IsElement x (due_unlocks d v w signed k)
   unlock_is_due x i =
       let f = from_flat_map (pressing_unlocks d v w signed k) (locks d) x i in
       in_flat_map unlocks_at (locks d) f.0 x f.1 (unless_in (is_withheld d v k f.0) (unlocks_at f.0) x f.2)
 
-  pub is_due : (x : Action) → IsIn x (useful d v w signed k) → IsIn x (due d v w signed k)
+  pub is_due : (x : Action) → IsElement x (useful d v w signed k) → IsElement x (due d v w signed k)
   unfolding useful due
   is_due x i = outer (from_append (useful_publishes d v k ++ useful_unlocks d v w signed k ++ due_claims d v k) (due_refunds d v k) x i)
     where
-      inner : IsIn x (useful_publishes d v k) ⊎ IsIn x (useful_unlocks d v w signed k) → IsIn x (due_publishes d v k ++ due_unlocks d v w signed k)
+      inner : IsElement x (useful_publishes d v k) ⊎ IsElement x (useful_unlocks d v w signed k) → IsElement x (due_publishes d v k ++ due_unlocks d v w signed k)
       inner (inl j) = in_append (due_publishes d v k) (due_unlocks d v w signed k) x (inl (publish_is_due x j))
       inner (inr j) = in_append (due_publishes d v k) (due_unlocks d v w signed k) x (inr (unlock_is_due x j))
 
-      middle : IsIn x (useful_publishes d v k ++ useful_unlocks d v w signed k) ⊎ IsIn x (due_claims d v k)
-          → IsIn x (due_publishes d v k ++ due_unlocks d v w signed k ++ due_claims d v k)
+      middle : IsElement x (useful_publishes d v k ++ useful_unlocks d v w signed k) ⊎ IsElement x (due_claims d v k)
+          → IsElement x (due_publishes d v k ++ due_unlocks d v w signed k ++ due_claims d v k)
       middle (inl j) =
           in_append (due_publishes d v k ++ due_unlocks d v w signed k) (due_claims d v k) x
           (inl (inner (from_append (useful_publishes d v k) (useful_unlocks d v w signed k) x j)))
       middle (inr j) = in_append (due_publishes d v k ++ due_unlocks d v w signed k) (due_claims d v k) x (inr j)
 
-      outer : IsIn x (useful_publishes d v k ++ useful_unlocks d v w signed k ++ due_claims d v k) ⊎ IsIn x (due_refunds d v k)
-          → IsIn x (due_publishes d v k ++ due_unlocks d v w signed k ++ due_claims d v k ++ due_refunds d v k)
+      outer : IsElement x (useful_publishes d v k ++ useful_unlocks d v w signed k ++ due_claims d v k) ⊎ IsElement x (due_refunds d v k)
+          → IsElement x (due_publishes d v k ++ due_unlocks d v w signed k ++ due_claims d v k ++ due_refunds d v k)
       outer (inl j) =
           in_append (due_publishes d v k ++ due_unlocks d v w signed k ++ due_claims d v k) (due_refunds d v k) x
           (inl (middle (from_append (useful_publishes d v k ++ useful_unlocks d v w signed k) (due_claims d v k) x j)))
       outer (inr j) = in_append (due_publishes d v k ++ due_unlocks d v w signed k ++ due_claims d v k) (due_refunds d v k) x (inr j)
 
   abbrev IsUsefulOrHarms : Action → Type 0
-  IsUsefulOrHarms x = IsIn x (useful d v w signed k) ⊎ IsHarmful d v w signed k x
+  IsUsefulOrHarms x = IsElement x (useful d v w signed k) ⊎ IsHarmful d v w signed k x
 
-  pub left_out : (x : Action) → IsIn x (due d v w signed k) → IsUsefulOrHarms x
+  pub left_out : (x : Action) → IsElement x (due d v w signed k) → IsUsefulOrHarms x
   unfolding useful due
   left_out x i = outer (from_append (due_publishes d v k ++ due_unlocks d v w signed k ++ due_claims d v k) (due_refunds d v k) x i)
     where
-      with_refunds : IsIn x (useful_publishes d v k ++ useful_unlocks d v w signed k ++ due_claims d v k) → IsUsefulOrHarms x
+      with_refunds : IsElement x (useful_publishes d v k ++ useful_unlocks d v w signed k ++ due_claims d v k) → IsUsefulOrHarms x
       with_refunds j = inl (in_append (useful_publishes d v k ++ useful_unlocks d v w signed k ++ due_claims d v k) (due_refunds d v k) x (inl j))
 
-      with_claims : IsIn x (useful_publishes d v k ++ useful_unlocks d v w signed k) → IsUsefulOrHarms x
+      with_claims : IsElement x (useful_publishes d v k ++ useful_unlocks d v w signed k) → IsUsefulOrHarms x
       with_claims j = with_refunds (in_append (useful_publishes d v k ++ useful_unlocks d v w signed k) (due_claims d v k) x (inl j))
 
-      on_arc : (a : ℕ) → IsIn a (leaving d.graph v)
-          → IsIn x (early_at a) ⊎ ((opens_in_time d k a ≡ false) × (x.arc ≡ a) × (x.call ≡ Publish (stated_terms d a))) → IsUsefulOrHarms x
+      on_arc : (a : ℕ) → IsElement a (leaving d.graph v)
+          → IsElement x (early_at a) ⊎ ((opens_in_time d k a ≡ false) × (x.arc ≡ a) × (x.call ≡ Publish (stated_terms d a))) → IsUsefulOrHarms x
       on_arc a j (inl t) =
           with_claims (in_append (useful_publishes d v k) (useful_unlocks d v w signed k) x
           (inl (in_flat_map early_at (leaving d.graph v) a x j t)))
       on_arc a j (inr t) =
           inr (PublishesLate (t.2 ∙ ap (λ c. Publish (stated_terms d c)) (sym t.1)) (ap (opens_in_time d k) t.1 ∙ t.0))
 
-      on_lock : (l : ℕ) → IsIn l (locks d) → IsIn x (unlocks_at l) → IsIn x (pressing_unlocks d v w signed k l) ⊎ (is_withheld d v k l ≡ true)
+      on_lock : (l : ℕ) → IsElement l (locks d) → IsElement x (unlocks_at l) → IsElement x (pressing_unlocks d v w signed k l) ⊎ (is_withheld d v k l ≡ true)
           → IsUsefulOrHarms x
       on_lock l j t (inl u) =
           with_claims (in_append (useful_publishes d v k) (useful_unlocks d v w signed k) x
           (inr (in_flat_map (pressing_unlocks d v w signed k) (locks d) l x j u)))
       on_lock l j t (inr held) = inr (RevealsLate l t held)
 
-      inner : IsIn x (due_publishes d v k) ⊎ IsIn x (due_unlocks d v w signed k) → IsUsefulOrHarms x
+      inner : IsElement x (due_publishes d v k) ⊎ IsElement x (due_unlocks d v w signed k) → IsUsefulOrHarms x
       inner (inl j) =
           let f = from_flat_map publish_at (leaving d.graph v) x j in
           on_arc f.0 f.1 (kept_or (is_due_publish d v k f.0) (opens_in_time d k f.0) f.0 (Publish (stated_terms d f.0)) x f.2)
@@ -128,11 +128,11 @@ module _ (d : Deal) (v : ℕ) (w : Wallet) (signed : ℕ → Option Hashkey) (k 
           let f = from_flat_map unlocks_at (locks d) x j in
           on_lock f.0 f.1 f.2 (unless_or (is_withheld d v k f.0) (unlocks_at f.0) x f.2)
 
-      middle : IsIn x (due_publishes d v k ++ due_unlocks d v w signed k) ⊎ IsIn x (due_claims d v k) → IsUsefulOrHarms x
+      middle : IsElement x (due_publishes d v k ++ due_unlocks d v w signed k) ⊎ IsElement x (due_claims d v k) → IsUsefulOrHarms x
       middle (inl j) = inner (from_append (due_publishes d v k) (due_unlocks d v w signed k) x j)
       middle (inr j) = with_refunds (in_append (useful_publishes d v k ++ useful_unlocks d v w signed k) (due_claims d v k) x (inr j))
 
-      outer : IsIn x (due_publishes d v k ++ due_unlocks d v w signed k ++ due_claims d v k) ⊎ IsIn x (due_refunds d v k) → IsUsefulOrHarms x
+      outer : IsElement x (due_publishes d v k ++ due_unlocks d v w signed k ++ due_claims d v k) ⊎ IsElement x (due_refunds d v k) → IsUsefulOrHarms x
       outer (inl j) = middle (from_append (due_publishes d v k ++ due_unlocks d v w signed k) (due_claims d v k) x j)
       outer (inr j) = inl (in_append (useful_publishes d v k ++ useful_unlocks d v w signed k ++ due_claims d v k) (due_refunds d v k) x (inr j))
 
@@ -155,7 +155,7 @@ nothing_useful_presses d v w signed k e = nothing_presses d v w signed k e
 
 -- Early knowledge.
 
-same_flat : {A B : Type 0} (f g : A → List B) (xs : List A) → ((x : A) → IsIn x xs → f x ≡ g x) → flat_map f xs ≡ flat_map g xs
+same_flat : {A B : Type 0} (f g : A → List B) (xs : List A) → ((x : A) → IsElement x xs → f x ≡ g x) → flat_map f xs ≡ flat_map g xs
 same_flat f g [] h = refl
 same_flat f g (x ∷ xs) h = ap₂ (λ ys zs. ys ++ zs) (h x (inl refl)) (same_flat f g xs (λ y i. h y (inr i)))
 
@@ -196,7 +196,7 @@ none_if : (b : Bool) (key : Hashkey) → is_none (cond b (Some key) None) ≡ no
 none_if true key = refl
 none_if false key = refl
 
-none_key : (i : ℕ) (o : Option Call) → is_none (fetch_key i o) ≡ not (unlocks_lock i o)
+none_key : (i : ℕ) (o : Option Call) → is_none (unlock_hashkey i o) ≡ not (unlocks_lock i o)
 none_key i None = refl
 none_key i (Some (Publish t)) = refl
 none_key i (Some (Unlock key)) = none_if (key.lock == i) key
@@ -212,10 +212,10 @@ not_or : (a b : Bool) → (not a && not b) ≡ not (a || b)
 not_or true b = refl
 not_or false b = refl
 
-none_called : (v i : ℕ) (h : List Entry) → is_none (first_of (λ e. fetch_key i (pick_call v e)) h) ≡ not (has_called v (unlocks_lock i) h)
+none_called : (v i : ℕ) (h : List Entry) → is_none (first_given_answer (λ e. unlock_hashkey i (pick_call v e)) h) ≡ not (has_called v (unlocks_lock i) h)
 none_called v i [] = refl
 none_called v i (e ∷ h) =
-    none_or (fetch_key i (pick_call v e)) (first_of (λ e. fetch_key i (pick_call v e)) h)
+    none_or (unlock_hashkey i (pick_call v e)) (first_given_answer (λ e. unlock_hashkey i (pick_call v e)) h)
     ∙ (ap₂ (λ a b. a && b) (none_key i (pick_call v e)) (none_called v i h)
     ∙ not_or (unlocks_lock i (pick_call v e)) (has_called v (unlocks_lock i) h))
 
@@ -224,8 +224,8 @@ pub unrevealed : (v i : ℕ) (k : Histories) → is_none (first_key k v i) ≡ n
 unfolding first_key
 unrevealed v i [] = refl
 unrevealed v i (h ∷ k) =
-    ap is_none (first_of-append (λ e. fetch_key i (pick_call v e)) h (flat_map (λ h. h) k))
-    ∙ (none_or (first_of (λ e. fetch_key i (pick_call v e)) h) (first_of (λ e. fetch_key i (pick_call v e)) (flat_map (λ h. h) k))
+    ap is_none (first_given_answer-append (λ e. unlock_hashkey i (pick_call v e)) h (flat_map (λ h. h) k))
+    ∙ (none_or (first_given_answer (λ e. unlock_hashkey i (pick_call v e)) h) (first_given_answer (λ e. unlock_hashkey i (pick_call v e)) (flat_map (λ h. h) k))
     ∙ (ap₂ (λ a b. a && b) (none_called v i h) (unrevealed v i k)
     ∙ not_or (has_called v (unlocks_lock i) h) (list_any (has_called v (unlocks_lock i)) k)))
 
@@ -240,18 +240,18 @@ none_pressing d v w signed k i e = go (is_withheld d v k i)
 
 -- Ticks.
 
-ticking_key : (v i : ℕ) (e : Entry) → is_ticking e.what ≡ true → fetch_key i (pick_call v e) ≡ None
-ticking_key v i e t = ap (fetch_key i) (not_called v e t)
+ticking_key : (v i : ℕ) (e : Entry) → is_ticking e.what ≡ true → unlock_hashkey i (pick_call v e) ≡ None
+ticking_key v i e t = ap (unlock_hashkey i) (not_called v e t)
 
 first_in_book : (f : Entry → Option Hashkey) → ((e : Entry) → is_ticking e.what ≡ true → f e ≡ None) → (k : Histories) (a : ℕ) (more : List Entry)
-    → are_ticks more ≡ true → first_of f (flat_map (λ h. h) (set k a (history k a ++ more))) ≡ first_of f (flat_map (λ h. h) k)
+    → are_ticks more ≡ true → first_given_answer f (flat_map (λ h. h) (set k a (history k a ++ more))) ≡ first_given_answer f (flat_map (λ h. h) k)
 first_in_book f n [] a more t = refl
 first_in_book f n (h ∷ k) zero more t =
-    first_of-append f (h ++ more) (flat_map (λ h. h) k)
-    ∙ (ap (λ o. or_else o (first_of f (flat_map (λ h. h) k))) (first_past f n h more t) ∙ sym (first_of-append f h (flat_map (λ h. h) k)))
+    first_given_answer-append f (h ++ more) (flat_map (λ h. h) k)
+    ∙ (ap (λ o. or_else o (first_given_answer f (flat_map (λ h. h) k))) (first_past f n h more t) ∙ sym (first_given_answer-append f h (flat_map (λ h. h) k)))
 first_in_book f n (h ∷ k) (suc a) more t =
-    first_of-append f h (flat_map (λ h. h) (set k a (history k a ++ more)))
-    ∙ (ap (or_else (first_of f h)) (first_in_book f n k a more t) ∙ sym (first_of-append f h (flat_map (λ h. h) k)))
+    first_given_answer-append f h (flat_map (λ h. h) (set k a (history k a ++ more)))
+    ∙ (ap (or_else (first_given_answer f h)) (first_in_book f n k a more t) ∙ sym (first_given_answer-append f h (flat_map (λ h. h) k)))
 
 fewer_none : (p q r : Bool) (a : ℕ) (c : Call) → (r ≡ true → q ≡ true) → when_due (p && q) a c ≡ [] → when_due (p && r) a c ≡ []
 fewer_none p q false a c h e = ap (λ b. when_due b a c) (and_false p false refl)
@@ -263,7 +263,7 @@ held_none held true xs h e = refl
 held_none true false xs h e = absurd (false≢true (h refl))
 held_none false false xs h e = e
 
-none_flat : {A B : Type 0} (f : A → List B) (xs : List A) → ((x : A) → IsIn x xs → f x ≡ []) → flat_map f xs ≡ []
+none_flat : {A B : Type 0} (f : A → List B) (xs : List A) → ((x : A) → IsElement x xs → f x ≡ []) → flat_map f xs ≡ []
 none_flat f [] h = refl
 none_flat f (x ∷ xs) h = ap₂ (λ ys zs. ys ++ zs) (h x (inl refl)) (none_flat f xs (λ y i. h y (inr i)))
 
@@ -287,7 +287,7 @@ module _ (d : Deal) (v : ℕ) (w : Wallet) (signed : ℕ → Option Hashkey) (k 
 
   same_key : (i : ℕ) → first_key after v i ≡ first_key k v i
   unfolding first_key
-  same_key i = first_in_book (λ e. fetch_key i (pick_call v e)) (ticking_key v i) k a more ticks
+  same_key i = first_in_book (λ e. unlock_hashkey i (pick_call v e)) (ticking_key v i) k a more ticks
 
   low_at : Histories → ℕ → Bool
   low_at h c = nat_le (height (history h c)) (times.opening_deadline d.start d.delta d.bound + d.delta)

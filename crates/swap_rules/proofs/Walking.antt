@@ -1,11 +1,12 @@
--- A party that has published nothing loses nothing, a publish that comes too late opens nothing, and a party may stop publishing at any time.
+-- A party that has published nothing loses nothing, a publish that comes too late opens nothing,
+-- and a party may stop publishing at any time.
 use Rattle.std.proofs.Common.{count_by, ◌≡◌, ℕ, suc, zero, ◌+◌, ◌*◌, ◌<◌, ◌≤◌, ◌-◌, ◌==◌, nat_lt, nat_le, Bool, true, false, cond, not, ◌&&◌}
 use Rattle.std.proofs.Common.{List, [], length, Option, Some, None, is_some, is_none, refl, sym, ap, ◌∙◌, subst, inl, inr, arith}
 use Rattle.std.proofs.Common.{eq-eqb, leb-true, ltb-true, ltb-false, mul-le-mul_right}
 use Rattle.std.proofs.lemmas.Bool.{false≢true}
-use Rattle.swap_base.specs.Lists.{IsIn, IsMoment, greatest}
+use Rattle.swap_base.specs.Lists.{IsElement, IsMoment, greatest}
 use Rattle.swap_base.proofs.Lists.{list_all-in, list_any-in, in_range, in_filter, and_parts, and_both, some_passes, below_or, moment_from_in}
-use Rattle.swap_base.proofs.Lists.{greatest-in, greatest-below, in_place, in_from_moment, from_append, first_of-in, all_moments_front}
+use Rattle.swap_base.proofs.Lists.{greatest-in, greatest-below, in_place, in_from_moment, from_append, first_given_answer-in, all_moments_front}
 use Rattle.swap_digraph.specs.declared.deal.Deal.{Deal}
 use Rattle.swap_digraph.specs.Graph.{ends, arcs, leaving, entering}
 use Rattle.swap_digraph.specs.Deal.{amount, party, counterparty, locks, leads}
@@ -16,7 +17,7 @@ use Rattle.ledger_core.specs.declared.entry.Call.TheVariants.{Publish, Unlock, C
 use Rattle.ledger_core.specs.declared.entry.Entry.{Entry}
 use Rattle.ledger_core.specs.declared.facts.Settlement.{Settlement}
 use Rattle.ledger_core.specs.declared.facts.Settlement.TheVariants.{Claimed, Refunded}
-use Rattle.ledger_core.specs.History.{height, accepted, accounts, balance, held, the_terms, parse_terms, Publication, publication, published, Opening, opened}
+use Rattle.ledger_core.specs.History.{height, accepted, accounts, balance, held, the_terms, publication_terms, Publication, publication, published, Opening, opened}
 use Rattle.ledger_core.specs.History.{settled, is_open, triggered, IsLegal, IsLegalMoment}
 use Rattle.ledger_core.specs.Book.{Histories, history, IsLegalBook}
 use Rattle.swap_rules.specs.declared.finding.Rule.{Rule}
@@ -29,7 +30,7 @@ use Rattle.swap_rules.specs.Late.{height_of_opening, trigger_height, counts, is_
 use Rattle.swap_rules.specs.Due.{Wallet, is_claiming, is_refunding, is_due_refund}
 use Rattle.swap_rules.specs.Outcome.{is_claim, is_got, got, lost, outcome, IsEnded}
 use Rattle.swap_rules.specs.Machine.{Begins, Knows}
-use Rattle.swap_rules.specs.Rounds.{IsNear, IsDoneBy}
+use Rattle.swap_rules.specs.Rounds.{IsNear, IsDoneInTime}
 use Rattle.swap_rules.specs.Walking.{ClaimsAll, AsksBack, AsksAllBack, IsWatchful, HasPublishedNothing, GivesNothing, IsSilent, LosesNothing}
 use Rattle.swap_rules.specs.Walking.{UnpublishedLosesNothing, SilentLosesNothing, UnrevealedLosesNothing, LatePublishIsIdle, is_withheld, IsPastExpiries, IsFreeTurn, AreFreeRounds, MayStopPublishing}
 use Rattle.swap_rules.proofs.Accepted.{times_law, time_law}
@@ -63,7 +64,7 @@ refunding_is (Unlock key) e = absurd (cc e)
 refunding_is Claim e = absurd (cc e)
 refunding_is (Transfer to units) e = absurd (cc e)
 
-count_none : {A : Type 0} (p : A → Bool) (xs : List A) → ((x : A) → IsIn x xs → p x ≡ true → ⊥) → count_by p xs ≡ 0
+count_none : {A : Type 0} (p : A → Bool) (xs : List A) → ((x : A) → IsElement x xs → p x ≡ true → ⊥) → count_by p xs ≡ 0
 count_none p xs n = elim (below_or 0 (count_by p xs)) [
   | inl l ↦ (let y = some_passes p xs l in absurd (n y.0 y.1 y.2))
   | inr l ↦ omega arith
@@ -77,7 +78,7 @@ module _ (d : Deal) (b : Histories) (v : ℕ) (k : IsAccepted d) (legal : IsLega
 
   module _ (none : HasPublishedNothing d b v) where
     -- no lock is opened where nothing was published
-    unopened : (a i : ℕ) → IsIn a (leaving d.graph v) → is_open (history b a) i ≡ true → ⊥
+    unopened : (a i : ℕ) → IsElement a (leaving d.graph v) → is_open (history b a) i ≡ true → ⊥
     unopened a i w t =
         let l = legal_of a (leaves d v a w).0 in
         let o = is_some-of (opened (history b a) i) t in
@@ -85,13 +86,13 @@ module _ (d : Deal) (b : Histories) (v : ℕ) (k : IsAccepted d) (legal : IsLega
         let of_u = of_unlock d a u.0.past u.0.act.by o.0.key u.0.clear in
         none_some of_u.contract (sym (none a w) ∙ published-past (history b a) u.0.past u.0.now of_u.contract u.0.stands of_u.published)
 
-    untriggered : (a : ℕ) → IsIn a (leaving d.graph v) → is_triggered d b a ≡ true → ⊥
+    untriggered : (a : ℕ) → IsElement a (leaving d.graph v) → is_triggered d b a ≡ true → ⊥
     untriggered a w t = unopened a 0 w (list_all-in (is_open (history b a)) (locks d) 0 t (in_range 0 (length d.leaders) k.leaders.0))
 
     nothing_lost : lost d b v ≡ 0
     nothing_lost = count_none (is_triggered d b) (leaving d.graph v) untriggered
 
-    keeps_all : GivesNothing d b v → (a : ℕ) → IsIn a (leaving d.graph v) → balance d a (history b a) v ≡ amount d a
+    keeps_all : GivesNothing d b v → (a : ℕ) → IsElement a (leaving d.graph v) → balance d a (history b a) v ≡ amount d a
     keeps_all gives a w =
         let out = leaves d v a w in
         let l = legal_of a out.0 in
@@ -102,7 +103,7 @@ module _ (d : Deal) (b : Histories) (v : ℕ) (k : IsAccepted d) (legal : IsLega
         let u = units d a (history b a) l in
         let total = u.total in
         let none_held : held (history b a) ≡ 0 =
-        ap (λ x. cond (is_some x) 0 (the_terms (history b a)).amount) s ∙ ap (λ q. (parse_terms q).amount) (none a w) in
+        ap (λ x. cond (is_some x) 0 (the_terms (history b a)).amount) s ∙ ap (λ q. (publication_terms q).amount) (none a w) in
         ap (λ x. cond x (accounts d a (history b a)).party (accounts d a (history b a)).counterparty) (eq-eqb v (party d a) (sym out.1)) ∙ omega arith
 
     loses_nothing : GivesNothing d b v → LosesNothing d b v
@@ -125,7 +126,7 @@ module _ (d : Deal) (b : Histories) (v : ℕ) (k : IsAccepted d) (legal : IsLega
             absurd (none_some (Publish p.terms) (sym (silent a done.past done.now done.stands)
             ∙ pick_call-act d a done.past done.now (Publish p.terms) v done.act by))
 
-    silent_claims : (a : ℕ) → IsIn a (entering d.graph v) → is_got d b a ≡ true → ⊥
+    silent_claims : (a : ℕ) → IsElement a (entering d.graph v) → is_got d b a ≡ true → ⊥
     silent_claims a w g = go (settled (history b a)) refl (and_parts (is_correct d b a) _ g).1
       where
         go : (s : Option Settlement) → settled (history b a) ≡ s → is_claim (settled (history b a)) ≡ true → ⊥
@@ -163,10 +164,10 @@ unrevealed_loses_nothing d b v k legal conducted unforged n = (
   λ asks. has_refunds d b v legal conducted (times_law d k) asks,
 )
   where
-    untouched : (a : ℕ) → IsIn a (leaving d.graph v) → is_triggered d b a ≡ true → ⊥
+    untouched : (a : ℕ) → IsElement a (leaving d.graph v) → is_triggered d b a ≡ true → ⊥
     untouched = go (time_law d k)
       where
-        go : TimeLaw d → (a : ℕ) → IsIn a (leaving d.graph v) → is_triggered d b a ≡ true → ⊥
+        go : TimeLaw d → (a : ℕ) → IsElement a (leaving d.graph v) → is_triggered d b a ≡ true → ⊥
         go (OfTimelocks law) = timelocks_unrevealed d b v law legal conducted unforged n
         go (OfHashkeys law) = hashkeys_unrevealed d b v law legal conducted unforged n
 
@@ -181,7 +182,7 @@ late_publish_is_idle d b a p legal l e late = (unready, λ conducted i. unlocked
 
     unready : is_ready d b u ≡ false
     unready = not-true (is_ready d b u) (λ ready.
-        let w : IsIn a (entering d.graph u) = in_filter (λ x. (ends d.graph x).to == u) a (arcs d.graph) (in_range a (length d.graph.arcs) l) (eq-eqb u u refl) in
+        let w : IsElement a (entering d.graph u) = in_filter (λ x. (ends d.graph x).to == u) a (arcs d.graph) (in_range a (length d.graph.arcs) l) (eq-eqb u u refl) in
         let g = and_parts (is_correct d b a) _ (list_all-in (is_good d b) (entering d.graph u) a ready w) in
         let low : publication_height (published (history b a)) ≤ times.opening_deadline d.start d.delta d.bound = leb-true _ _ g.1 in
         let same : publication_height (published (history b a)) ≡ p.height = ap publication_height e in
@@ -203,7 +204,8 @@ late_publish_is_idle d b a p legal l e late = (unready, λ conducted i. unlocked
 horizon_above : (s b x : ℕ) → times.last_expiry s x b + x ≡ times.horizon s x b
 horizon_above s b x = omega arith
 
--- The last knowledge of v: it holds every call of v, it reaches past every expiry, and nothing presses over it.
+-- The last knowledge of v: it holds every call of v, it reaches past every expiry, and nothing
+-- presses over it.
 pub record Last (d : Deal) (b : Histories) (v : ℕ) (w : Wallet) : Type 0 where
   pub known : Histories
   pub signed : ℕ → Option Hashkey
@@ -258,15 +260,15 @@ module _ (d : Deal) (b : Histories) (v : ℕ) (w : Wallet) (k : IsAccepted d) (l
       list_any-in (λ e. is_claiming (pick_call v e)) (history b a) y.0 (ap is_claiming (c.1 ∙ ap Some claim)) y.1
 
   -- what v called is known
-  known_call : (a : ℕ) (e : Entry) (c : Call) → IsIn e (history b a) → pick_call v e ≡ Some c → IsIn e (history x.known a)
+  known_call : (a : ℕ) (e : Entry) (c : Call) → IsElement e (history b a) → pick_call v e ≡ Some c → IsElement e (history x.known a)
   known_call a e c i called =
       let n = x.knows a in
-      elim (from_append (history x.known a) n.rest e (subst (IsIn e) n.whole i)) [
+      elim (from_append (history x.known a) n.rest e (subst (IsElement e) n.whole i)) [
         | inl j ↦ j
         | inr j ↦ absurd (none_some c (sym (none_called v e (n.others e j)) ∙ called))
       ]
 
-  module _ (asks : (a : ℕ) (past : List Entry) (e : Entry) → IsIn a (leaving d.graph v) → IsMoment (history b a) past e → pick_call v e ≡ Some Refund
+  module _ (asks : (a : ℕ) (past : List Entry) (e : Entry) → IsElement a (leaving d.graph v) → IsMoment (history b a) past e → pick_call v e ≡ Some Refund
       → is_some (published past) ≡ true) where
     pub last_refunds : AsksAllBack d b v
     unfolding is_due_refund
@@ -278,9 +280,9 @@ module _ (d : Deal) (b : Histories) (v : ℕ) (w : Wallet) (k : IsAccepted d) (l
         let by : done.act.by ≡ v = (of_publish d a done.past done.act.by p.0.terms done.clear).party ∙ out.1 in
         let called = pick_call-act d a done.past done.now (Publish p.0.terms) v done.act by in
         let known =
-        known_call a done.now (Publish p.0.terms) (subst (IsIn done.now) (sym done.stands.1) (in_from_moment done.past done.now done.stands.0)) called in
+        known_call a done.now (Publish p.0.terms) (subst (IsElement done.now) (sym done.stands.1) (in_from_moment done.past done.now done.stands.0)) called in
         let shown_known : is_some (published (history x.known a)) ≡ true =
-        first_of-in (λ e. publication e.height (accepted e)) (history x.known a) done.now (record {
+        first_given_answer-in (λ e. publication e.height (accepted e)) (history x.known a) done.now (record {
           height = done.now.height;
           terms =
               p.0.terms;
@@ -370,14 +372,14 @@ module _ (d : Deal) (v : ℕ) (w : Wallet) (ticks slack rounds : ℕ) (books : �
         high = λ a. let h = t.top a in omega arith;
       }
 
-  by_round : (rule : Rule) (a ref : ℕ) → IsIn a (arcs d.graph)
+  by_round : (rule : Rule) (a ref : ℕ) → IsElement a (arcs d.graph)
       → ((t : Told d (books rounds) v w ref (ref + ticks + slack))
       → ((i : ℕ) → (leads d v i ≡ true → ref ≤ times.opening_deadline d.start d.delta d.bound) → t.held i ≡ false)
-      → is_done d (books rounds) v rule a (ref + ticks + slack) ≡ true) → IsDoneBy d (books rounds) v rule a (ref + ticks + slack)
+      → is_done d (books rounds) v rule a (ref + ticks + slack) ≡ true) → IsDoneInTime d (books rounds) v rule a (ref + ticks + slack)
   unfolding told_swap
   by_round rule a ref j does = let q = next_round ticks some ref in go q.0 q.1 q.2 (nat_lt q.0 rounds) refl
     where
-      go : (q : ℕ) → ref < q * ticks → q * ticks ≤ ref + ticks → (y : Bool) → nat_lt q rounds ≡ y → IsDoneBy d (books rounds) v rule a (ref + ticks + slack)
+      go : (q : ℕ) → ref < q * ticks → q * ticks ≤ ref + ticks → (y : Bool) → nat_lt q rounds ≡ y → IsDoneInTime d (books rounds) v rule a (ref + ticks + slack)
       go q low high true h =
           let inside = ltb-true q rounds h in
           inl (does (told_swap ref q low high inside) (λ i early.
@@ -390,7 +392,7 @@ module _ (d : Deal) (v : ℕ) (w : Wallet) (ticks slack rounds : ℕ) (books : �
 
   free_unlocks : UnlocksInTime d (books rounds) v
   free_unlocks i a below j = done_not_late d (books rounds) v (ticks + slack) fast (ToUnlock i) a (λ ref e.
-      subst (λ n. IsDoneBy d (books rounds) v (ToUnlock i) a n) (omega arith) (by_round (ToUnlock i) a ref j (λ t free.
+      subst (λ n. IsDoneInTime d (books rounds) v (ToUnlock i) a n) (omega arith) (by_round (ToUnlock i) a ref j (λ t free.
       unlock_done d (books rounds) v w ref (ref + ticks + slack) k legal_end x.conducted t i a below (free i) e)))
 
   last_known : Last d (books rounds) v w

@@ -9,7 +9,7 @@ use Rattle.std.specs.Str.{bytes_eq}
 use Rattle.std.specs.Prelude.{map}
 use Rattle.swap_base.proofs.Lists.{same_list-refl, same_list-true, and_parts, in_range, from_range, from_filter, in_append}
 use Rattle.swap_base.proofs.Lists.{in_map}
-use Rattle.swap_base.specs.Lists.{IsIn, IsMoment, same_list}
+use Rattle.swap_base.specs.Lists.{IsElement, IsMoment, same_list}
 use Rattle.swap_digraph.specs.declared.deal.Deal.{Deal}
 use Rattle.swap_digraph.specs.Graph.{ends, arcs, leaving, entering, is_listed}
 use Rattle.swap_digraph.specs.Deal.{party, counterparty, locks, leads, lock_leader}
@@ -18,12 +18,12 @@ use Rattle.hashkey_path.specs.declared.hashkey.Hashkey.{Hashkey}
 use Rattle.hashkey_path.specs.Hashkey.{same_key}
 use Rattle.escrow_core.specs.declared.terms.Terms.{Terms}
 use Rattle.escrow_core.specs.Terms.{same_terms}
-use Rattle.ledger_core.specs.History.{Opening, IsLegal, is_sender, read_raw_call}
+use Rattle.ledger_core.specs.History.{Opening, IsLegal, is_sender, made_call}
 use Rattle.ledger_core.specs.declared.entry.Call.{Call}
 use Rattle.ledger_core.specs.declared.entry.Call.TheVariants.{Publish, Unlock, Claim, Refund, Transfer}
 use Rattle.ledger_core.specs.declared.entry.Entry.{Entry}
 use Rattle.swap_rules.specs.declared.finding.Rule.TheVariants.{Publish as ToPublish, Unlock as ToUnlock, Claim as ToClaim, Refund as ToRefund}
-use Rattle.swap_rules.specs.Party.{pick_call, fetch_key, key_without}
+use Rattle.swap_rules.specs.Party.{pick_call, unlock_hashkey, key_without_party}
 use Rattle.swap_rules.specs.Findings.{deal_rules}
 use Rattle.ledger_core.proofs.History.{Act, act_at}
 
@@ -65,39 +65,39 @@ same_terms-true t u e =
 
 -- The rules of a deal.
 
-pub publish_rule : (d : Deal) → IsIn ToPublish (deal_rules d)
+pub publish_rule : (d : Deal) → IsElement ToPublish (deal_rules d)
 publish_rule d = inl refl
 
-pub unlock_rule : (d : Deal) (i : ℕ) → i < length d.leaders → IsIn (ToUnlock i) (deal_rules d)
+pub unlock_rule : (d : Deal) (i : ℕ) → i < length d.leaders → IsElement (ToUnlock i) (deal_rules d)
 unlock_rule d i l =
     inr (in_append (map ToUnlock (locks d)) (ToClaim ∷ ToRefund ∷ []) (ToUnlock i)
     (inl (in_map ToUnlock (locks d) i (in_range i (length d.leaders) l))))
 
-pub claim_rule : (d : Deal) → IsIn ToClaim (deal_rules d)
+pub claim_rule : (d : Deal) → IsElement ToClaim (deal_rules d)
 claim_rule d = inr (in_append (map ToUnlock (locks d)) (ToClaim ∷ ToRefund ∷ []) ToClaim (inr (inl refl)))
 
-pub refund_rule : (d : Deal) → IsIn ToRefund (deal_rules d)
+pub refund_rule : (d : Deal) → IsElement ToRefund (deal_rules d)
 refund_rule d = inr (in_append (map ToUnlock (locks d)) (ToClaim ∷ ToRefund ∷ []) ToRefund (inr (inr (inl refl))))
 
 -- A book, its parties and their calls.
 
-pub enters : (d : Deal) (v a : ℕ) → IsIn a (entering d.graph v) → (a < length d.graph.arcs) × (counterparty d a ≡ v)
+pub enters : (d : Deal) (v a : ℕ) → IsElement a (entering d.graph v) → (a < length d.graph.arcs) × (counterparty d a ≡ v)
 enters d v a i = let k =
     from_filter (λ a. (ends d.graph a).to == v) a (arcs d.graph) i in (from_range a (length d.graph.arcs) k.0, eqb-true (ends d.graph a).to v k.1)
 
-pub leaves : (d : Deal) (v a : ℕ) → IsIn a (leaving d.graph v) → (a < length d.graph.arcs) × (party d a ≡ v)
+pub leaves : (d : Deal) (v a : ℕ) → IsElement a (leaving d.graph v) → (a < length d.graph.arcs) × (party d a ≡ v)
 leaves d v a i = let k =
     from_filter (λ a. (ends d.graph a).from == v) a (arcs d.graph) i in (from_range a (length d.graph.arcs) k.0, eqb-true (ends d.graph a).from v k.1)
 
 pub pick_call-act : (d : Deal) (a : ℕ) (past : List Entry) (e : Entry) (c : Call) (v : ℕ) (act : Act d a past e c) → act.by ≡ v → pick_call v e ≡ Some c
 pick_call-act d a past e c v act by =
-    ap (λ s. cond (is_sender v s) (read_raw_call e.what) None) act.sender ∙ (ap (λ b. cond b (read_raw_call e.what) None) (eq-eqb act.by v by)
-    ∙ ap read_raw_call act.what)
+    ap (λ s. cond (is_sender v s) (made_call e.what) None) act.sender ∙ (ap (λ b. cond b (made_call e.what) None) (eq-eqb act.by v by)
+    ∙ ap made_call act.what)
 
-pub call_of_parts : (v : ℕ) (e : Entry) (c : Call) → pick_call v e ≡ Some c → (is_sender v e.sender ≡ true) × (read_raw_call e.what ≡ Some c)
+pub call_of_parts : (v : ℕ) (e : Entry) (c : Call) → pick_call v e ≡ Some c → (is_sender v e.sender ≡ true) × (made_call e.what ≡ Some c)
 call_of_parts v e c k = go (is_sender v e.sender) refl k
   where
-    go : (b : Bool) → is_sender v e.sender ≡ b → cond b (read_raw_call e.what) None ≡ Some c → (is_sender v e.sender ≡ true) × (read_raw_call e.what ≡ Some c)
+    go : (b : Bool) → is_sender v e.sender ≡ b → cond b (made_call e.what) None ≡ Some c → (is_sender v e.sender ≡ true) × (made_call e.what ≡ Some c)
     go true h k = (h, k)
     go false h k = absurd (cc k)
 
@@ -117,7 +117,7 @@ pub or-first : (x y z : Bool) → (y || z) ≡ true → ((x || y) || z) ≡ true
 or-first true y z h = refl
 or-first false y z h = h
 
-pub key_parts : (i : ℕ) (o : Option Call) (key : Hashkey) → fetch_key i o ≡ Some key → (o ≡ Some (Unlock key)) × (key.lock ≡ i)
+pub key_parts : (i : ℕ) (o : Option Call) (key : Hashkey) → unlock_hashkey i o ≡ Some key → (o ≡ Some (Unlock key)) × (key.lock ≡ i)
 key_parts i (Some (Unlock k)) key e = go (k.lock == i) refl e
   where
     go : (x : Bool) → (k.lock == i) ≡ x → cond x (Some k) None ≡ Some key → (Some (Unlock k) ≡ Some (Unlock key)) × (key.lock ≡ i)
@@ -183,12 +183,12 @@ append_empty [] ys e = (refl, e)
 append_empty (x ∷ xs) ys e = absurd (cc e)
 
 -- the pieces of an empty whole are empty
-pub flat_map_none : {A B : Type 0} (f : A → List B) (xs : List A) (x : A) → flat_map f xs ≡ [] → IsIn x xs → f x ≡ []
+pub flat_map_none : {A B : Type 0} (f : A → List B) (xs : List A) (x : A) → flat_map f xs ≡ [] → IsElement x xs → f x ≡ []
 flat_map_none f [] x e i = absurd i
 flat_map_none f (y ∷ xs) x e (inl q) = ap f q ∙ (append_empty (f y) (flat_map f xs) e).0
 flat_map_none f (y ∷ xs) x e (inr i) = flat_map_none f xs x (append_empty (f y) (flat_map f xs) e).1 i
 
-pub key_without_parts : (v : ℕ) (o : Option Opening) (key : Hashkey) → key_without v o ≡ Some key
+pub key_without_parts : (v : ℕ) (o : Option Opening) (key : Hashkey) → key_without_party v o ≡ Some key
     → (w : Opening) × (o ≡ Some w) × (w.key ≡ key) × (is_listed v w.key.path ≡ false)
 key_without_parts v None key e = absurd (cc e)
 key_without_parts v (Some w) key e = go (is_listed v w.key.path) refl e

@@ -10,13 +10,15 @@ use Rattle.swap_digraph.specs.declared.deal.Version.TheVariants.{One, Two}
 use Rattle.swap_digraph.specs.Deal.{counterparty, lock_leader, amount, most_parties, most_arcs, HasKeys}
 use Rattle.hashkey_path.specs.Digest.{deal_id}
 
--- The timelock of arc a goes by the greatest number of arcs on a path from its counterparty to the leader.
+-- The timelock of arc a goes by the greatest number of arcs on a path from its counterparty to the
+-- leader.
 pub record HasTimelock (d : Deal) (a : ℕ) : Type 0 where
   pub dist : ℕ
   pub is_dist : IsDist d.graph (lock_leader d 0) (counterparty d a) dist
   pub timelock : slice_index d.timelocks a ≡ times.timelock d.start d.delta d.bound dist
 
--- With timelocks there is one leader, and each arc has its timelock; with hashkeys all timelocks are 0.
+-- With timelocks there is one leader, and each arc has its timelock; with hashkeys all timelocks
+-- are 0.
 abbrev pub IsTimed : Mode → Deal → Type 0
 IsTimed Timelocks d = (length d.leaders ≡ 1) × ((a : ℕ) → a < length d.graph.arcs → HasTimelock d a)
 IsTimed Hashkeys d = (a : ℕ) → a < length d.graph.arcs → slice_index d.timelocks a ≡ 0

@@ -34,20 +34,21 @@ abbrev pub carries : List ℕ → Option Call → Bool
 carries secret (Some (Unlock key)) = bytes_eq key.secret secret
 carries secret _ = false
 
--- the hashkey, whose path and signatures are these, is v and v's signature put before the inner hashkey
-abbrev pub extends_with : ℕ → Hashkey → List ℕ → List Sig → Hashkey → Bool
-extends_with v inner (u ∷ p) (s ∷ sigs) key = (u == v) && same_key inner (record { lock = key.lock; secret = key.secret; path = p; sigs = sigs })
-extends_with v inner _ _ key = false
+-- the hashkey, whose path and signatures are these, is v and v's signature put before the inner
+-- hashkey
+abbrev pub extends_inner_key : ℕ → Hashkey → List ℕ → List Sig → Hashkey → Bool
+extends_inner_key v inner (u ∷ p) (s ∷ sigs) key = (u == v) && same_key inner (record { lock = key.lock; secret = key.secret; path = p; sigs = sigs })
+extends_inner_key v inner _ _ key = false
 
 -- the call is an unlock with a hashkey that this one extends by v
 abbrev pub extends : ℕ → Hashkey → Option Call → Bool
-extends v key (Some (Unlock inner)) = extends_with v inner key.path key.sigs key
+extends v key (Some (Unlock inner)) = extends_inner_key v inner key.path key.sigs key
 extends v key _ = false
 
 -- the call is an unlock with an inner hashkey: this one extends it by v, and its path lacks v
-abbrev pub extends_without : ℕ → Hashkey → Option Call → Bool
-extends_without v key (Some (Unlock inner)) = not (is_listed v inner.path) && extends_with v inner key.path key.sigs key
-extends_without v key _ = false
+abbrev pub extends_without_party : ℕ → Hashkey → Option Call → Bool
+extends_without_party v key (Some (Unlock inner)) = not (is_listed v inner.path) && extends_inner_key v inner key.path key.sigs key
+extends_without_party v key _ = false
 
 -- the path is v alone
 abbrev pub is_alone : ℕ → List ℕ → Bool
@@ -57,10 +58,11 @@ is_alone v p = same_list (λ x y. x == y) p (v ∷ [])
 abbrev pub has_seen : Deal → Histories → ℕ → (Option Call → Bool) → Bool
 has_seen d b v test = list_any (λ a. list_any (λ e. test (accepted e)) (history b a)) (leaving d.graph v)
 
--- where the hashkey of an unlock comes from: from v where it leads the lock, else from an arc that leaves v, and there from a path without v
+-- where the hashkey of an unlock comes from: from v where it leads the lock, else from an arc that
+-- leaves v, and there from a path without v
 abbrev pub has_origin : Mode → Deal → Histories → ℕ → Hashkey → Bool
 has_origin Timelocks d b v key = leads d v key.lock || has_seen d b v (carries key.secret)
-has_origin Hashkeys d b v key = if leads d v key.lock then is_alone v key.path else has_seen d b v (extends_without v key)
+has_origin Hashkeys d b v key = if leads d v key.lock then is_alone v key.path else has_seen d b v (extends_without_party v key)
 
 -- the rules of conduct: for a call of v on arc a, made at a height after the entries before it
 unfoldable pub keeps : Deal → Histories → ℕ → ℕ → List Entry → ℕ → Option Call → Bool

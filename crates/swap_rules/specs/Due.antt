@@ -16,7 +16,8 @@ use Rattle.ledger_core.specs.Book.{Histories, history}
 use Rattle.swap_rules.specs.Party.{is_ready, is_correct, is_triggered, has_expired, leads_one, pick_call, first_seen_key}
 use Rattle.swap_rules.specs.Conduct.{is_publish}
 
--- What a party signs with: a hashkey of its own for a lock that it leads, and one put before a hashkey that it saw.
+-- What a party signs with: a hashkey of its own for a lock that it leads, and one put before a
+-- hashkey that it saw.
 pub record Wallet : Type 0 where
   pub first : ℕ → Hashkey
   pub onto : Hashkey → Hashkey
@@ -58,7 +59,8 @@ abbrev pub extended : Wallet → Option Hashkey → Option Hashkey
 extended w None = None
 extended w (Some inner) = Some (w.onto inner)
 
--- the hashkey for lock i: the one that v signed before, else its own where it leads the lock, else an extension
+-- the hashkey for lock i: the one that v signed before, else its own where it leads the lock, else
+-- an extension
 unfoldable pub due_key : Deal → ℕ → Wallet → Option Hashkey → Histories → ℕ → Option Hashkey
 due_key d v w signed k i = or_else signed (if leads d v i then Some (w.first i) else extended w (seen_key d v k i))
 
@@ -79,7 +81,8 @@ due_arc_unlock d v w signed k i a = if may_unlock d v k i a then presented a (du
 unfoldable pub is_due_claim : Deal → ℕ → Histories → ℕ → Bool
 is_due_claim d v k a = is_correct d k a && is_triggered d k a && not (has_called v is_claiming (history k a))
 
--- arc a carries an accepted publish, is neither settled nor triggered, is above the expiry of a closed lock, and v has no refund entry there
+-- arc a carries an accepted publish, is neither settled nor triggered, is above the expiry of a
+-- closed lock, and v has no refund entry there
 unfoldable pub is_due_refund : Deal → ℕ → Histories → ℕ → Bool
 is_due_refund d v k a =
     is_some (published (history k a)) && is_none (settled (history k a)) && not (is_triggered d k a)

@@ -14,7 +14,7 @@ use Rattle.swap_rules.specs.declared.finding.Rule.TheVariants.{Publish as ToPubl
 use Rattle.swap_rules.specs.declared.finding.Finding.{Finding}
 use Rattle.swap_rules.specs.declared.finding.Finding.TheVariants.{Broke, Late, Forged, Unfinished}
 use Rattle.swap_rules.specs.Conduct.{keeps_entry}
-use Rattle.swap_rules.specs.Late.{is_late, ref_of}
+use Rattle.swap_rules.specs.Late.{is_late, reference_height}
 use Rattle.swap_rules.specs.Forged.{is_forged}
 
 -- what is said of each entry that fails the test, by its number
@@ -35,12 +35,12 @@ or_zero None = 0
 or_zero (Some n) = n
 
 -- whether v is late by the rule on arc a, with the height at which the action was due
-abbrev pub late_on : Deal → Histories → ℕ → Rule → ℕ → List Finding
-late_on d b v rule a = if is_late d b v rule a then Late v rule a (or_zero (ref_of d b v rule a) + d.delta) ∷ [] else []
+abbrev pub arc_late_findings : Deal → Histories → ℕ → Rule → ℕ → List Finding
+arc_late_findings d b v rule a = if is_late d b v rule a then Late v rule a (or_zero (reference_height d b v rule a) + d.delta) ∷ [] else []
 
 -- where v is late, by rule, lock and arc
 abbrev pub lates : Deal → Histories → ℕ → List Finding
-lates d b v = flat_map (λ rule. flat_map (late_on d b v rule) (arcs d.graph)) (deal_rules d)
+lates d b v = flat_map (λ rule. flat_map (arc_late_findings d b v rule) (arcs d.graph)) (deal_rules d)
 
 -- where an entry is forged in v's name, by arc and entry
 abbrev pub forgeries : Deal → Histories → ℕ → List Finding

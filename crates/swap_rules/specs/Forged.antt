@@ -14,12 +14,12 @@ use Rattle.ledger_core.specs.declared.entry.Call.TheVariants.{Unlock}
 use Rattle.ledger_core.specs.declared.entry.Entry.{Entry}
 use Rattle.ledger_core.specs.History.{accepted}
 use Rattle.ledger_core.specs.Book.{Histories}
-use Rattle.swap_rules.specs.Party.{pick_call, fetch_key}
+use Rattle.swap_rules.specs.Party.{pick_call, unlock_hashkey}
 use Rattle.swap_rules.specs.Conduct.{is_first_key, carries}
 
 -- whether an unlock call of v carries this hashkey
 abbrev pub has_made : Histories → ℕ → Hashkey → Bool
-has_made b v key = list_any (λ e. is_first_key (fetch_key key.lock (pick_call v e)) key) (flat_map (λ h. h) b)
+has_made b v key = list_any (λ e. is_first_key (unlock_hashkey key.lock (pick_call v e)) key) (flat_map (λ h. h) b)
 
 -- whether a suffix of the hashkey begins with v although no unlock call of v carries that suffix;
 -- the path and the signatures are the hashkey's from some place on
@@ -29,7 +29,8 @@ has_forged_suffix b v key (u ∷ p) (s ∷ sigs) =
     || has_forged_suffix b v key p sigs
 has_forged_suffix b v key _ _ = false
 
--- whether an accepted call is forged in v's name: with hashkeys by a suffix, with timelocks by the secret of a lock that v leads
+-- whether an accepted call is forged in v's name: with hashkeys by a suffix, with timelocks by the
+-- secret of a lock that v leads
 unfoldable pub forges : Mode → Deal → Histories → ℕ → Option Call → Bool
 forges Timelocks d b v (Some (Unlock key)) =
     bytes_eq (hashed_value key.secret) (lock_hashlock d key.lock)

@@ -18,7 +18,7 @@ use Rattle.ledger_core.specs.Book.{Histories, history}
 use Rattle.swap_rules.specs.declared.finding.Rule.{Rule}
 use Rattle.swap_rules.specs.declared.finding.Rule.TheVariants.{Publish as ToPublish, Unlock as ToUnlock, Claim as ToClaim, Refund as ToRefund}
 use Rattle.swap_rules.specs.Party.{is_correct, is_ready, ready_height, is_triggered, least_expiry, leads_one, pick_call, first_key, first_seen_key}
-use Rattle.swap_rules.specs.Party.{opens_without}
+use Rattle.swap_rules.specs.Party.{opens_without_party}
 use Rattle.swap_rules.specs.Conduct.{is_first_key, extends}
 
 -- the height at which a lock was opened, or 0 if it wasn't
@@ -31,8 +31,9 @@ abbrev pub is_carried : Option Hashkey → Option Call → Bool
 is_carried (Some inner) (Some (Unlock key)) = same_key inner key
 is_carried _ _ = false
 
--- whether an entry was accepted with the used hashkey of v for lock i: one that v's first unlock call extends, or else the one that v would extend;
--- whether v stands on its path is a question of conduct, and isn't asked here
+-- whether an entry was accepted with the used hashkey of v for lock i: one that v's first unlock
+-- call extends, or else the one that v would extend; whether v stands on its path is a question of
+-- conduct, and isn't asked here
 abbrev pub is_used : Deal → Histories → ℕ → ℕ → Option Hashkey → Entry → Bool
 is_used d b v i (Some key) e = extends v key (accepted e)
 is_used d b v i None e = is_carried (first_seen_key d b v i) (accepted e)
@@ -59,15 +60,16 @@ trigger_height d h = greatest (λ i. height_of_opening (opened h i)) (locks d)
 abbrev pub when : Bool → ℕ → Option ℕ
 when test n = if test then Some n else None
 
--- the height from which the rule's action of v on arc a is to be done within delta, where it is enabled
-unfoldable pub ref_of : Deal → Histories → ℕ → Rule → ℕ → Option ℕ
-ref_of d b v ToPublish a = when (is_listed a (leaving d.graph v) && (leads_one d v || is_ready d b v)) (if leads_one d v then 0 else ready_height d b v)
-ref_of d b v (ToUnlock i) a =
+-- the height from which the rule's action of v on arc a is to be done within delta, where it is
+-- enabled
+unfoldable pub reference_height : Deal → Histories → ℕ → Rule → ℕ → Option ℕ
+reference_height d b v ToPublish a = when (is_listed a (leaving d.graph v) && (leads_one d v || is_ready d b v)) (if leads_one d v then 0 else ready_height d b v)
+reference_height d b v (ToUnlock i) a =
     when (is_listed a (entering d.graph v) && is_ready d b v
-    && (leads d v i || is_some (first_key b v i) || list_any (λ c. opens_without v (opened (history b c) i)) (leaving d.graph v)))
+    && (leads d v i || is_some (first_key b v i) || list_any (λ c. opens_without_party v (opened (history b c) i)) (leaving d.graph v)))
     (if leads d v i then ready_height d b v else max (ready_height d b v) (unlock_base d.mode d b v i (first_key b v i)))
-ref_of d b v ToClaim a = when (is_listed a (entering d.graph v) && is_correct d b a && is_triggered d b a) (trigger_height d (history b a))
-ref_of d b v ToRefund a =
+reference_height d b v ToClaim a = when (is_listed a (entering d.graph v) && is_correct d b a && is_triggered d b a) (trigger_height d (history b a))
+reference_height d b v ToRefund a =
     when (is_listed a (leaving d.graph v) && is_some (published (history b a)) && not (is_triggered d b a)) (least_expiry d a (history b a))
 
 -- whether a call of v on arc a, made at a height, counts for the rule
@@ -82,11 +84,12 @@ counts d b v _ a at _ = false
 abbrev pub is_done : Deal → Histories → ℕ → Rule → ℕ → ℕ → Bool
 is_done d b v rule a due = list_any (λ e. counts d b v rule a e.height (pick_call v e) && nat_le e.height due) (history b a)
 
--- whether the ledger of arc a stands above the due height, which is delta above ref, and nothing was done by then
-abbrev pub late_at : Deal → Histories → ℕ → Rule → ℕ → Option ℕ → Bool
-late_at d b v rule a None = false
-late_at d b v rule a (Some ref) = nat_lt (ref + d.delta) (height (history b a)) && not (is_done d b v rule a (ref + d.delta))
+-- whether the ledger of arc a stands above the due height, which is delta above ref, and nothing
+-- was done by then
+abbrev pub is_past_due : Deal → Histories → ℕ → Rule → ℕ → Option ℕ → Bool
+is_past_due d b v rule a None = false
+is_past_due d b v rule a (Some ref) = nat_lt (ref + d.delta) (height (history b a)) && not (is_done d b v rule a (ref + d.delta))
 
 -- v is late by the rule on arc a
 abbrev pub is_late : Deal → Histories → ℕ → Rule → ℕ → Bool
-is_late d b v rule a = late_at d b v rule a (ref_of d b v rule a)
+is_late d b v rule a = is_past_due d b v rule a (reference_height d b v rule a)

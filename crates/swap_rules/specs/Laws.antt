@@ -1,7 +1,7 @@
 -- The laws of a book, as the contracts state them.
 use Rattle.std.specs.Prelude.{◌≡◌, ◌≢◌, ℕ, ◌+◌, ◌*◌, ◌<◌, ◌≤◌, Bool, true, false, ◌&&◌, ◌==◌, Option, Some, List, [], ◌++◌, length, set}
 use Rattle.std.specs.List.{list_any}
-use Rattle.swap_base.specs.Lists.{IsIn, IsMoment}
+use Rattle.swap_base.specs.Lists.{IsElement, IsMoment}
 use Rattle.time_bounds.specs.Times as times
 use Rattle.swap_digraph.specs.Graph.{arcs, leaving}
 use Rattle.swap_digraph.specs.Deal.{amount, party, counterparty, IsWellSized}
@@ -18,14 +18,14 @@ use Rattle.swap_rules.specs.declared.outcome.Outcome.TheVariants.{Underwater, De
 use Rattle.swap_rules.specs.Accepted.{IsAccepted}
 use Rattle.swap_rules.specs.Party.{is_triggered}
 use Rattle.swap_rules.specs.Conduct.{IsConducted}
-use Rattle.swap_rules.specs.Late.{ref_of, is_late}
+use Rattle.swap_rules.specs.Late.{reference_height, is_late}
 use Rattle.swap_rules.specs.Forged.{is_forged}
 use Rattle.swap_rules.specs.Due.{Wallet, Action, due}
 use Rattle.swap_rules.specs.Findings.{findings, deal_rules}
 use Rattle.swap_rules.specs.Outcome.{outcome, IsEnded}
 use Rattle.ledger_core.specs.Ledger.{after_call}
 use Rattle.swap_rules.specs.Machine.{Knows, IsWallet, KeepsRules, IsSound, noted}
-use Rattle.swap_rules.specs.Rounds.{IsRounds, IsDoneBy, AreRaceBooks, round_book}
+use Rattle.swap_rules.specs.Rounds.{IsRounds, IsDoneInTime, AreRaceBooks, round_book}
 
 -- the balances and the held amount add up to the amount of arc a
 abbrev pub AddsUp : Deal → ℕ → List Entry → Type 0
@@ -35,28 +35,31 @@ AddsUp d a h = (accounts d a h).party + (accounts d a h).counterparty + held h �
 abbrev pub UnitsAreKept : Type 0
 UnitsAreKept = (d : Deal) (a : ℕ) (h rest : List Entry) → IsLegal d a (h ++ rest) → AddsUp d a h
 
--- an accepted deal's lists are as long as its digraph and its leaders ask, and its numbers are in their ranges
+-- an accepted deal's lists are as long as its digraph and its leaders ask, and its numbers are in
+-- their ranges
 abbrev pub AcceptedIsWellSized : Type 0
 AcceptedIsWellSized = (d : Deal) → IsAccepted d → IsWellSized d
 
 -- v is late by no rule on no arc of the deal
 abbrev pub IsOnTime : Deal → Histories → ℕ → Type 0
-IsOnTime d b v = (rule : Rule) (a : ℕ) → IsIn rule (deal_rules d) → IsIn a (arcs d.graph) → is_late d b v rule a ≡ false
+IsOnTime d b v = (rule : Rule) (a : ℕ) → IsElement rule (deal_rules d) → IsElement a (arcs d.graph) → is_late d b v rule a ≡ false
 
 -- no entry of an arc that leaves v is forged in its name
 abbrev pub IsUnforged : Deal → Histories → ℕ → Type 0
-IsUnforged d b v = (a : ℕ) (past : List Entry) (e : Entry) → IsIn a (leaving d.graph v) → IsMoment (history b a) past e → is_forged d b v e ≡ false
+IsUnforged d b v = (a : ℕ) (past : List Entry) (e : Entry) → IsElement a (leaving d.graph v) → IsMoment (history b a) past e → is_forged d b v e ≡ false
 
 -- every arc that leaves v and isn't triggered has its whole amount in v's balance
 abbrev pub HasRefunds : Deal → Histories → ℕ → Type 0
-HasRefunds d b v = (a : ℕ) → IsIn a (leaving d.graph v) → is_triggered d b a ≡ false → balance d a (history b a) v ≡ amount d a
+HasRefunds d b v = (a : ℕ) → IsElement a (leaving d.graph v) → is_triggered d b a ≡ false → balance d a (history b a) v ≡ amount d a
 
--- What a book promises a party: it isn't underwater where nothing is forged in its name, and it has its refunds.
+-- What a book promises a party: it isn't underwater where nothing is forged in its name, and it has
+-- its refunds.
 pub record IsSafe (d : Deal) (b : Histories) (v : ℕ) : Type 0 where
   pub safe : IsUnforged d b v → outcome d b v ≢ Underwater
   pub refunds : HasRefunds d b v
 
--- in every legal and ended book of an accepted deal a party that is conducted and nowhere late is safe
+-- in every legal and ended book of an accepted deal a party that is conducted and nowhere late is
+-- safe
 abbrev pub EveryBookIsSafe : Type 0
 EveryBookIsSafe = (d : Deal) (b : Histories) (v : ℕ) → IsAccepted d → IsLegalBook d b → IsEnded d b → IsConducted d b v → IsOnTime d b v → IsSafe d b v
 
@@ -71,7 +74,7 @@ abbrev pub AllConform : Deal → Histories → Type 0
 AllConform d b = (v : ℕ) → v < d.graph.n → Conforms d b v
 
 -- An accepted claim at a height of at most t.
-pub record IsClaimedBy (h : List Entry) (t : ℕ) : Type 0 where
+pub record IsClaimedInTime (h : List Entry) (t : ℕ) : Type 0 where
   pub past : List Entry
   pub now : Entry
   pub stands : IsMoment h past now
@@ -80,7 +83,7 @@ pub record IsClaimedBy (h : List Entry) (t : ℕ) : Type 0 where
 
 -- Every arc is claimed in time, every counterparty is paid, and every outcome is the whole deal.
 pub record IsTransferred (d : Deal) (b : Histories) (k : IsAccepted d) : Type 0 where
-  pub claimed : (a : ℕ) → a < length d.graph.arcs → IsClaimedBy (history b a) ((k.height + times.need d.graph.n (length d.leaders) k.height + 3) * d.delta)
+  pub claimed : (a : ℕ) → a < length d.graph.arcs → IsClaimedInTime (history b a) ((k.height + times.need d.graph.n (length d.leaders) k.height + 3) * d.delta)
   pub paid : (a : ℕ) → a < length d.graph.arcs → balance d a (history b a) (counterparty d a) ≡ amount d a
   pub whole : (v : ℕ) → v < d.graph.n → outcome d b v ≡ WholeDeal
 
@@ -93,22 +96,24 @@ pub record FindsNothing (d : Deal) (conforming : ℕ → Bool) (b : Histories) :
   pub ended : IsEnded d b
   pub conforms : (v : ℕ) → v < d.graph.n → conforming v ≡ true → Conforms d b v
 
--- where nothing is found of a legal book, it has ended and every conforming party kept what the laws ask for
+-- where nothing is found of a legal book, it has ended and every conforming party kept what the
+-- laws ask for
 abbrev pub NothingFound : Type 0
 NothingFound = (d : Deal) (conforming : ℕ → Bool) (b : Histories) → IsLegalBook d b → findings d conforming b ≡ [] → FindsNothing d conforming b
 
--- where all parties conform and nothing is found of a legal book of an accepted deal, all is transferred
+-- where all parties conform and nothing is found of a legal book of an accepted deal, all is
+-- transferred
 abbrev pub WithoutFindingsAllIsTransferred : Type 0
 WithoutFindingsAllIsTransferred =
     (d : Deal) (conforming : ℕ → Bool) (b : Histories) (k : IsAccepted d) → IsLegalBook d b → ((v : ℕ) → v < d.graph.n → conforming v ≡ true)
     → findings d conforming b ≡ [] → IsTransferred d b k
 
 -- the finding says that v broke a rule of conduct or was late, or that a ledger is unfinished
-abbrev pub is_against : ℕ → Finding → Bool
-is_against v (Broke u a e) = u == v
-is_against v (Late u rule a due) = u == v
-is_against v (Forged u a e) = false
-is_against v (Unfinished a h) = true
+abbrev pub is_against_party : ℕ → Finding → Bool
+is_against_party v (Broke u a e) = u == v
+is_against_party v (Late u rule a due) = u == v
+is_against_party v (Forged u a e) = false
+is_against_party v (Unfinished a h) = true
 
 -- the finding says that an entry of an arc that leaves v is forged in v's name
 abbrev pub names_party : Deal → ℕ → Finding → Bool
@@ -117,20 +122,22 @@ names_party d v (Broke u a e) = false
 names_party d v (Late u rule a due) = false
 names_party d v (Unfinished a h) = false
 
--- of a legal book of an accepted deal: a conforming party against which no finding stands has its refunds, and where none stands in its name it isn't
--- underwater
+-- of a legal book of an accepted deal: a conforming party against which no finding stands has its
+-- refunds, and where none stands in its name it isn't underwater
 abbrev pub UnnamedIsSafe : Type 0
 UnnamedIsSafe =
     (d : Deal) (conforming : ℕ → Bool) (b : Histories) (v : ℕ) → IsAccepted d → IsLegalBook d b → v < d.graph.n → conforming v ≡ true
-    → list_any (is_against v) (findings d conforming b) ≡ false
+    → list_any (is_against_party v) (findings d conforming b) ≡ false
     → (list_any (names_party d v) (findings d conforming b) ≡ false → outcome d b v ≢ Underwater) × HasRefunds d b v
 
--- in a legal book of an accepted deal in which every party is conducted, no entry is forged in anybody's name
+-- in a legal book of an accepted deal in which every party is conducted, no entry is forged in
+-- anybody's name
 abbrev pub NothingIsForged : Type 0
 NothingIsForged = (d : Deal) (b : Histories) → IsAccepted d → IsLegalBook d b → ((v : ℕ) → v < d.graph.n → IsConducted d b v)
     → (v a : ℕ) (past : List Entry) (e : Entry) → a < length d.graph.arcs → IsMoment (history b a) past e → is_forged d b v e ≡ false
 
--- conduct in a legal book from a party's knowledge alone, where the book holds it and no further call of the party
+-- conduct in a legal book from a party's knowledge alone, where the book holds it and no further
+-- call of the party
 abbrev pub KnowledgeConducts : Type 0
 KnowledgeConducts =
     (d : Deal) (known b : Histories) (signed : ℕ → Option Hashkey) (v : ℕ) → IsLegalBook d b → ((a : ℕ) → Knows v (history known a) (history b a))
@@ -140,15 +147,16 @@ KnowledgeConducts =
 abbrev pub LearningIsSound : Type 0
 LearningIsSound =
     (d : Deal) (known : Histories) (signed : ℕ → Option Hashkey) (v a : ℕ) (more : List Entry) → a < length known
-    → ((e : Entry) → IsIn e more → is_sender v e.sender ≡ false) → IsLegal d a (history known a ++ more)
+    → ((e : Entry) → IsElement e more → is_sender v e.sender ≡ false) → IsLegal d a (history known a ++ more)
     → IsSound d known signed v → IsSound d (set known a (history known a ++ more)) signed v
 
--- a machine that makes a due call stays sound, where entries of others may come before the call's entry
+-- a machine that makes a due call stays sound, where entries of others may come before the call's
+-- entry
 abbrev pub DueIsSound : Type 0
 DueIsSound =
     (d : Deal) (v : ℕ) (w : Wallet) (known : Histories) (signed : ℕ → Option Hashkey) (x : Action) (fresh : List Entry) → IsWallet d v w → IsAccepted d
-    → IsIn x (due d v w signed known)
-    → x.arc < length known → ((e : Entry) → IsIn e fresh → is_sender v e.sender ≡ false) → IsLegal d x.arc (history known x.arc ++ fresh)
+    → IsElement x (due d v w signed known)
+    → x.arc < length known → ((e : Entry) → IsElement e fresh → is_sender v e.sender ≡ false) → IsLegal d x.arc (history known x.arc ++ fresh)
     → IsSound d known signed v
     → IsSound d (set (set known x.arc (history known x.arc ++ fresh)) x.arc (after_call d x.arc v x.call (history known x.arc ++ fresh)))
     (noted signed x.call) v
@@ -165,8 +173,8 @@ abbrev pub RoundsAreInTime : Type 0
 RoundsAreInTime =
     (d : Deal) (v : ℕ) (w : Wallet) (ticks slack rounds : ℕ) (books : ℕ → Histories) → IsAccepted d → 1 ≤ ticks
     → IsRounds d v w ticks slack rounds books
-    → (rule : Rule) (a ref : ℕ) → IsIn rule (deal_rules d) → IsIn a (arcs d.graph) → ref_of d (books rounds) v rule a ≡ Some ref
-    → IsDoneBy d (books rounds) v rule a (ref + ticks + slack)
+    → (rule : Rule) (a ref : ℕ) → IsElement rule (deal_rules d) → IsElement a (arcs d.graph) → reference_height d (books rounds) v rule a ≡ Some ref
+    → IsDoneInTime d (books rounds) v rule a (ref + ticks + slack)
 
 -- where that is within delta, v is nowhere late
 abbrev pub RoundsAreOnTime : Type 0
@@ -175,11 +183,12 @@ RoundsAreOnTime =
     → IsRounds d v w ticks slack rounds books
     → IsOnTime d (books rounds) v
 
--- in a race an enabled action is done within two rounds' ticks, so that with two ticks within delta nobody conforming is late
+-- in a race an enabled action is done within two rounds' ticks, so that with two ticks within delta
+-- nobody conforming is late
 abbrev pub RacesAreInTime : Type 0
 RacesAreInTime = (d : Deal) (v : ℕ) (w : Wallet) (ticks rounds : ℕ) (books : List Histories) → IsAccepted d → 1 ≤ ticks → AreRaceBooks d v w ticks rounds books
-    → ((rule : Rule) (a ref : ℕ) → IsIn rule (deal_rules d) → IsIn a (arcs d.graph) → ref_of d (round_book books rounds) v rule a ≡ Some ref
-    → IsDoneBy d (round_book books rounds) v rule a (ref + 2 * ticks))
+    → ((rule : Rule) (a ref : ℕ) → IsElement rule (deal_rules d) → IsElement a (arcs d.graph) → reference_height d (round_book books rounds) v rule a ≡ Some ref
+    → IsDoneInTime d (round_book books rounds) v rule a (ref + 2 * ticks))
     × (2 * ticks ≤ d.delta → IsOnTime d (round_book books rounds) v)
 
 -- Nothing is found, and every outcome is the whole deal.
@@ -187,13 +196,15 @@ pub record IsDealt (d : Deal) (conforming : ℕ → Bool) (b : Histories) : Type
   pub nothing : findings d conforming b ≡ []
   pub whole : (v : ℕ) → v < d.graph.n → outcome d b v ≡ WholeDeal
 
--- a legal and ended book of an accepted deal, whose parties are all conducted and nowhere late, is dealt
+-- a legal and ended book of an accepted deal, whose parties are all conducted and nowhere late, is
+-- dealt
 abbrev pub AllIsDealt : Type 0
 AllIsDealt =
     (d : Deal) (conforming : ℕ → Bool) (b : Histories) → IsAccepted d → IsLegalBook d b → IsEnded d b → ((v : ℕ) → v < d.graph.n → IsConducted d b v)
     → ((v : ℕ) → v < d.graph.n → IsOnTime d b v) → IsDealt d conforming b
 
--- a race of parties that all conform is dealt, where two rounds' ticks are within delta and its rounds pass the horizon
+-- a race of parties that all conform is dealt, where two rounds' ticks are within delta and its
+-- rounds pass the horizon
 abbrev pub RacesAreDealt : Type 0
 RacesAreDealt =
     (d : Deal) (conforming : ℕ → Bool) (ticks rounds : ℕ) (books : List Histories) → IsAccepted d → 1 ≤ ticks → 2 * ticks ≤ d.delta

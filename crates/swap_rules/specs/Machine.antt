@@ -1,7 +1,8 @@
--- A party that acts on what it knows: its knowledge, its wallet, and the rules that each of its calls keeps as it is made.
+-- A party that acts on what it knows: its knowledge, its wallet, and the rules that each of its
+-- calls keeps as it is made.
 use Rattle.std.specs.Prelude.{◌≡◌, ℕ, ◌<◌, Bool, true, false, ◌||◌, ◌==◌, IsTrue, List, ◌++◌, length, Option, Some, is_some, if◌then◌else◌}
 use Rattle.std.specs.Str.{bytes_eq}
-use Rattle.swap_base.specs.Lists.{IsIn, IsMoment}
+use Rattle.swap_base.specs.Lists.{IsElement, IsMoment}
 use Rattle.swap_digraph.specs.Graph.{leaving, entering, is_listed}
 use Rattle.swap_digraph.specs.declared.deal.Mode.{Mode}
 use Rattle.swap_digraph.specs.declared.deal.Mode.TheVariants.{Timelocks, Hashkeys}
@@ -19,7 +20,7 @@ use Rattle.ledger_core.specs.Book.{Histories, history, IsLegalBook}
 use Rattle.swap_rules.specs.declared.finding.Rule.{Rule}
 use Rattle.swap_rules.specs.declared.finding.Rule.TheVariants.{Publish as ToPublish, Unlock as ToUnlock, Claim as ToClaim, Refund as ToRefund}
 use Rattle.swap_rules.specs.Party.{is_ready, has_expired, leads_one, pick_call}
-use Rattle.swap_rules.specs.Conduct.{is_publish, is_alone, extends_without, has_origin}
+use Rattle.swap_rules.specs.Conduct.{is_publish, is_alone, extends_without_party, has_origin}
 use Rattle.swap_rules.specs.Due.{Wallet, unlocks_lock, is_claiming, is_refunding, has_called}
 
 -- Knowledge.
@@ -32,13 +33,14 @@ Begins {A} k h = (rest : List A) × (h ≡ k ++ rest)
 pub record Knows (v : ℕ) (k h : List Entry) : Type 0 where
   pub rest : List Entry
   pub whole : h ≡ k ++ rest
-  pub others : (e : Entry) → IsIn e rest → is_sender v e.sender ≡ false
+  pub others : (e : Entry) → IsElement e rest → is_sender v e.sender ≡ false
 
 -- the entry of a call of p at the end of the history
-abbrev pub entry_of : Deal → ℕ → List Entry → ℕ → Call → Entry
-entry_of d a h p c = call_entry p (height h) c (history_reply d a h p c)
+abbrev pub appended_entry : Deal → ℕ → List Entry → ℕ → Call → Entry
+appended_entry d a h p c = call_entry p (height h) c (history_reply d a h p c)
 
--- What a wallet of v signs: hashkeys that are valid on every arc that enters v, with the origin that conduct asks for.
+-- What a wallet of v signs: hashkeys that are valid on every arc that enters v, with the origin
+-- that conduct asks for.
 
 -- v's own hashkey: with hashkeys, its path is v alone
 abbrev pub IsOwnKey : Mode → ℕ → Hashkey → Type 0
@@ -47,29 +49,30 @@ IsOwnKey Hashkeys v key = IsTrue (is_alone v key.path)
 
 -- a hashkey made from another. With hashkeys it extends the other by v, and the other's path lacks
 -- v. With timelocks it has the other's secret.
-abbrev pub IsOnto : Mode → ℕ → Hashkey → Hashkey → Type 0
-IsOnto Timelocks v inner key = IsTrue (bytes_eq inner.secret key.secret)
-IsOnto Hashkeys v inner key = IsTrue (extends_without v key (Some (Unlock inner)))
+abbrev pub IsDerivedHashkey : Mode → ℕ → Hashkey → Hashkey → Type 0
+IsDerivedHashkey Timelocks v inner key = IsTrue (bytes_eq inner.secret key.secret)
+IsDerivedHashkey Hashkeys v inner key = IsTrue (extends_without_party v key (Some (Unlock inner)))
 
 -- A hashkey for lock i that opens it on every arc that enters v.
 pub record IsGoodKey (d : Deal) (v i : ℕ) (key : Hashkey) : Type 0 where
   pub lock : key.lock ≡ i
-  pub valid : (a : ℕ) → IsIn a (entering d.graph v) → is_valid d a (lock_hashlock d key.lock) key ≡ true
+  pub valid : (a : ℕ) → IsElement a (entering d.graph v) → is_valid d a (lock_hashlock d key.lock) key ≡ true
 
 -- A wallet of v: its own hashkeys for the locks that v leads, and hashkeys made from valid ones
 -- with a path without v.
 pub record IsWallet (d : Deal) (v : ℕ) (w : Wallet) : Type 0 where
   pub first : (i : ℕ) → i < length d.leaders → leads d v i ≡ true → IsGoodKey d v i (w.first i) × IsOwnKey d.mode v (w.first i)
-  pub onto : (c : ℕ) (inner : Hashkey) → IsIn c (leaving d.graph v) → inner.lock < length d.leaders
+  pub onto : (c : ℕ) (inner : Hashkey) → IsElement c (leaving d.graph v) → inner.lock < length d.leaders
       → is_valid d c (lock_hashlock d inner.lock) inner ≡ true → is_listed v inner.path ≡ false
-      → IsGoodKey d v inner.lock (w.onto inner) × IsOnto d.mode v inner (w.onto inner)
+      → IsGoodKey d v inner.lock (w.onto inner) × IsDerivedHashkey d.mode v inner (w.onto inner)
 
 -- the hashkeys that were signed, after a call
 abbrev pub noted : (ℕ → Option Hashkey) → Call → ℕ → Option Hashkey
 noted signed (Unlock key) i = if i == key.lock then Some key else signed i
 noted signed _ i = signed i
 
--- The rules that a machine keeps call by call. Conduct follows from them in every book that holds its knowledge and no further call of it.
+-- The rules that a machine keeps call by call. Conduct follows from them in every book that holds
+-- its knowledge and no further call of it.
 
 -- whether a call is one that the rule speaks of
 abbrev pub rule_test : Rule → Option Call → Bool
@@ -78,12 +81,13 @@ rule_test (ToUnlock i) = unlocks_lock i
 rule_test ToClaim = is_claiming
 rule_test ToRefund = is_refunding
 
--- what a call of v on arc a keeps, over the book, the entries before it and what v has signed: it is allowed, and the first of its kind
+-- what a call of v on arc a keeps, over the book, the entries before it and what v has signed: it
+-- is allowed, and the first of its kind
 abbrev pub KeepsOwn : Deal → Histories → (ℕ → Option Hashkey) → ℕ → ℕ → List Entry → Call → Type 0
 KeepsOwn d b signed v a past (Publish t) =
     (same_terms t (stated_terms d a) ≡ true) × ((leads_one d v || is_ready d b v) ≡ true) × (has_called v is_publish past ≡ false)
 KeepsOwn d b signed v a past (Unlock key) =
-    (is_some (published past) ≡ true) × (is_ready d b v ≡ true) × (signed key.lock ≡ Some key) × IsIn a (entering d.graph v)
+    (is_some (published past) ≡ true) × (is_ready d b v ≡ true) × (signed key.lock ≡ Some key) × IsElement a (entering d.graph v)
     × (has_called v (unlocks_lock key.lock) past ≡ false)
 KeepsOwn d b signed v a past Claim = (triggered d past ≡ true) × (has_called v is_claiming past ≡ false)
 KeepsOwn d b signed v a past Refund = (has_expired d a past (height past) ≡ true) × (has_called v is_refunding past ≡ false)

@@ -1,7 +1,7 @@
 -- What a party reads in a book, or in what it knows of one: one list of entries per arc.
 use Rattle.std.specs.Prelude.{ℕ, Bool, false, not, ◌&&◌, ◌==◌, nat_lt, nat_le, List, Option, Some, None, if◌then◌else◌}
 use Rattle.std.specs.List.{list_any, list_all, flat_map}
-use Rattle.swap_base.specs.Lists.{first_of, greatest}
+use Rattle.swap_base.specs.Lists.{first_given_answer, greatest}
 use Rattle.time_bounds.specs.Times as times
 use Rattle.swap_digraph.specs.Graph.{leaving, entering, is_listed}
 use Rattle.swap_digraph.specs.declared.deal.Deal.{Deal}
@@ -11,7 +11,7 @@ use Rattle.escrow_core.specs.Terms.{stated_terms, same_terms, lock_expiry, refun
 use Rattle.ledger_core.specs.declared.entry.Call.{Call}
 use Rattle.ledger_core.specs.declared.entry.Call.TheVariants.{Unlock}
 use Rattle.ledger_core.specs.declared.entry.Entry.{Entry}
-use Rattle.ledger_core.specs.History.{Publication, published, Opening, opened, is_open, triggered, is_sender, read_raw_call}
+use Rattle.ledger_core.specs.History.{Publication, published, Opening, opened, is_open, triggered, is_sender, made_call}
 use Rattle.ledger_core.specs.Book.{Histories, history}
 
 -- whether an accepted publish has the correct terms of arc a
@@ -62,27 +62,27 @@ leads_one d v = is_listed v d.leaders
 
 -- the call of v that an entry is, whatever its reply
 abbrev pub pick_call : ℕ → Entry → Option Call
-pick_call v e = if is_sender v e.sender then read_raw_call e.what else None
+pick_call v e = if is_sender v e.sender then made_call e.what else None
 
 -- the hashkey of an unlock call for lock i
-abbrev pub fetch_key : ℕ → Option Call → Option Hashkey
-fetch_key i (Some (Unlock key)) = if key.lock == i then Some key else None
-fetch_key i _ = None
+abbrev pub unlock_hashkey : ℕ → Option Call → Option Hashkey
+unlock_hashkey i (Some (Unlock key)) = if key.lock == i then Some key else None
+unlock_hashkey i _ = None
 
 -- the hashkey of v's first unlock call for lock i, in order of arc and entry
 unfoldable pub first_key : Histories → ℕ → ℕ → Option Hashkey
-first_key b v i = first_of (λ e. fetch_key i (pick_call v e)) (flat_map (λ h. h) b)
+first_key b v i = first_given_answer (λ e. unlock_hashkey i (pick_call v e)) (flat_map (λ h. h) b)
 
 -- the lock was opened by a path without v
-abbrev pub opens_without : ℕ → Option Opening → Bool
-opens_without v None = false
-opens_without v (Some o) = not (is_listed v o.key.path)
+abbrev pub opens_without_party : ℕ → Option Opening → Bool
+opens_without_party v None = false
+opens_without_party v (Some o) = not (is_listed v o.key.path)
 
 -- the hashkey that opened the lock, where its path lacks v
-abbrev pub key_without : ℕ → Option Opening → Option Hashkey
-key_without v None = None
-key_without v (Some o) = if is_listed v o.key.path then None else Some o.key
+abbrev pub key_without_party : ℕ → Option Opening → Option Hashkey
+key_without_party v None = None
+key_without_party v (Some o) = if is_listed v o.key.path then None else Some o.key
 
 -- the hashkey that opened lock i by a path without v, on the least-numbered such arc that leaves v
 abbrev pub first_seen_key : Deal → Histories → ℕ → ℕ → Option Hashkey
-first_seen_key d b v i = first_of (λ a. key_without v (opened (history b a) i)) (leaving d.graph v)
+first_seen_key d b v i = first_given_answer (λ a. key_without_party v (opened (history b a) i)) (leaving d.graph v)

@@ -2,7 +2,7 @@
 use Rattle.std.specs.Prelude.{◌≡◌, ℕ, ◌≤◌, Bool, true, false, not, ◌&&◌, List, [], ◌∷◌, ◌++◌, map, filter, set}
 use Rattle.std.specs.Prelude.{Option, Some, None, is_some, is_none}
 use Rattle.std.specs.List.{list_all}
-use Rattle.swap_base.specs.Lists.{IsIn}
+use Rattle.swap_base.specs.Lists.{IsElement}
 use Rattle.swap_digraph.specs.declared.deal.Deal.{Deal}
 use Rattle.swap_digraph.specs.Graph.{leaving}
 use Rattle.hashkey_path.specs.declared.hashkey.Hashkey.{Hashkey}
@@ -24,7 +24,8 @@ is_ticking (Tick k) = true
 abbrev pub are_ticks : List Entry → Bool
 are_ticks more = list_all (λ e. is_ticking e.what) more
 
--- v, which arc a leaves, waits for a refund there: the arc carries an accepted publish, is neither settled nor triggered, and v has no refund entry there
+-- v, which arc a leaves, waits for a refund there: the arc carries an accepted publish, is neither
+-- settled nor triggered, and v has no refund entry there
 abbrev pub is_waiting : Deal → ℕ → Histories → ℕ → Bool
 is_waiting d v k a =
     is_some (published (history k a)) && is_none (settled (history k a)) && not (is_triggered d k a) && not (has_called v is_refunding (history k a))
@@ -34,15 +35,18 @@ abbrev pub least_number : List ℕ → Option ℕ
 least_number [] = None
 least_number (n ∷ ns) = Some (least (n ∷ ns))
 
--- the height up to which v may rest: the least of the least expiries of the leaving arcs on which it waits for a refund, none where it waits nowhere
+-- the height up to which v may rest: the least of the least expiries of the leaving arcs on which
+-- it waits for a refund, none where it waits nowhere
 abbrev pub rest_deadline : Deal → ℕ → Histories → Option ℕ
 rest_deadline d v k = least_number (map (λ a. least_expiry d a (history k a)) (filter (is_waiting d v k) (leaving d.graph v)))
 
--- where v waits for a refund on arc a, more entries don't bring its ledger above the least expiry there
+-- where v waits for a refund on arc a, more entries don't bring its ledger above the least expiry
+-- there
 abbrev pub StaysLow : Deal → ℕ → Histories → ℕ → List Entry → Type 0
-StaysLow d v k a more = IsIn a (leaving d.graph v) → is_waiting d v k a ≡ true → height (history k a ++ more) ≤ least_expiry d a (history k a)
+StaysLow d v k a more = IsElement a (leaving d.graph v) → is_waiting d v k a ≡ true → height (history k a ++ more) ≤ least_expiry d a (history k a)
 
--- where nothing is due for v, ticks on arc a that don't bring its ledger above an expiry that v waits for make nothing due
+-- where nothing is due for v, ticks on arc a that don't bring its ledger above an expiry that v
+-- waits for make nothing due
 abbrev pub TicksMakeNothingDue : Type 0
 TicksMakeNothingDue = (d : Deal) (v : ℕ) (w : Wallet) (signed : ℕ → Option Hashkey) (k : Histories) (a : ℕ) (more : List Entry)
     → are_ticks more ≡ true → due d v w signed k ≡ [] → StaysLow d v k a more → due d v w signed (set k a (history k a ++ more)) ≡ []

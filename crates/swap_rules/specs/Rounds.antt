@@ -1,6 +1,6 @@
 -- Rounds: books at their ends, and a party's knowledge at the end of its turns.
 use Rattle.std.specs.Prelude.{◌≡◌, ◌⊎◌, ℕ, ◌+◌, ◌*◌, ◌<◌, ◌≤◌, true, List, [], length, get_or, Option}
-use Rattle.swap_base.specs.Lists.{IsIn}
+use Rattle.swap_base.specs.Lists.{IsElement}
 use Rattle.swap_digraph.specs.Graph.{arcs, leaving, entering}
 use Rattle.swap_digraph.specs.declared.deal.Deal.{Deal}
 use Rattle.hashkey_path.specs.declared.hashkey.Hashkey.{Hashkey}
@@ -15,7 +15,7 @@ use Rattle.swap_rules.specs.Machine.{Begins, Knows}
 
 -- the ledger of arc a is next to v
 abbrev pub IsNear : Deal → ℕ → ℕ → Type 0
-IsNear d v a = IsIn a (leaving d.graph v) ⊎ IsIn a (entering d.graph v)
+IsNear d v a = IsElement a (leaving d.graph v) ⊎ IsElement a (entering d.graph v)
 
 -- A turn of v in a round from the book `old` to the book `new`. At its end v has a knowledge over
 -- which nothing is due, with no entry above the height `most`.
@@ -33,14 +33,16 @@ pub record IsRounds (d : Deal) (v : ℕ) (w : Wallet) (ticks slack rounds : ℕ)
   pub legal : (r : ℕ) → r ≤ rounds → IsLegalBook d (books r)
   pub conducted : IsConducted d (books rounds) v
   pub grows : (r a : ℕ) → r < rounds → Begins (history (books r) a) (history (books (r + 1)) a)
-  pub at : (r a : ℕ) → r ≤ rounds → IsIn a (arcs d.graph) → height (history (books r) a) ≡ r * ticks
+  pub at : (r a : ℕ) → r ≤ rounds → IsElement a (arcs d.graph) → height (history (books r) a) ≡ r * ticks
   pub turn : (r : ℕ) → r < rounds → IsTurn d v w (books r) (books (r + 1)) (r * ticks + slack)
 
--- a call of v that counts stands on arc a at a height of at most due, or the ledger isn't past that height
-abbrev pub IsDoneBy : Deal → Histories → ℕ → Rule → ℕ → ℕ → Type 0
-IsDoneBy d b v rule a due = (is_done d b v rule a due ≡ true) ⊎ (height (history b a) ≤ due)
+-- a call of v that counts stands on arc a at a height of at most due, or the ledger isn't past that
+-- height
+abbrev pub IsDoneInTime : Deal → Histories → ℕ → Rule → ℕ → ℕ → Type 0
+IsDoneInTime d b v rule a due = (is_done d b v rule a due ≡ true) ⊎ (height (history b a) ≤ due)
 
--- A turn of v in a round of a race: it ends with a knowledge over which nothing is due, and which holds what v saw as the round began.
+-- A turn of v in a round of a race: it ends with a knowledge over which nothing is due, and which
+-- holds what v saw as the round began.
 pub record IsRaceTurn (d : Deal) (v : ℕ) (w : Wallet) (old new : Histories) : Type 0 where
   pub known : Histories
   pub seen : (a : ℕ) → IsNear d v a → Begins (history old a) (history known a)
@@ -58,5 +60,5 @@ pub record AreRaceBooks (d : Deal) (v : ℕ) (w : Wallet) (ticks rounds : ℕ) (
   pub conducted : IsConducted d (round_book books rounds) v
   pub empty : (a : ℕ) → history (round_book books 0) a ≡ []
   pub grows : (r a : ℕ) → r < rounds → Begins (history (round_book books r) a) (history (round_book books (r + 1)) a)
-  pub at : (r a : ℕ) → r ≤ rounds → IsIn a (arcs d.graph) → height (history (round_book books r) a) ≡ r * ticks
+  pub at : (r a : ℕ) → r ≤ rounds → IsElement a (arcs d.graph) → height (history (round_book books r) a) ≡ r * ticks
   pub turn : (r : ℕ) → r < rounds → IsRaceTurn d v w (round_book books r) (round_book books (r + 1))

@@ -1,7 +1,8 @@
--- What is useful of what is due: all of it but the calls that can only hurt the party that makes them.
+-- What is useful of what is due: all of it but the calls that can only hurt the party that makes
+-- them.
 use Rattle.std.specs.Prelude.{◌≡◌, ◌⊎◌, ℕ, ◌&&◌, nat_le, Bool, true, false, List, [], ◌++◌, set, Option}
 use Rattle.std.specs.List.{flat_map}
-use Rattle.swap_base.specs.Lists.{IsIn}
+use Rattle.swap_base.specs.Lists.{IsElement}
 use Rattle.time_bounds.specs.Times as times
 use Rattle.swap_digraph.specs.Graph.{leaving, entering}
 use Rattle.swap_digraph.specs.Deal.{locks}
@@ -38,22 +39,23 @@ useful d v w signed k = useful_publishes d v k ++ useful_unlocks d v w signed k 
 -- by which contracts open, or it presents a hashkey for a withheld lock.
 pub data IsHarmful (d : Deal) (v : ℕ) (w : Wallet) (signed : ℕ → Option Hashkey) (k : Histories) (x : Action) : Type 0 where
   PublishesLate : x.call ≡ Publish (stated_terms d x.arc) → opens_in_time d k x.arc ≡ false → IsHarmful d v w signed k x
-  RevealsLate : (i : ℕ) → IsIn x (flat_map (due_arc_unlock d v w (signed i) k i) (entering d.graph v)) → is_withheld d v k i ≡ true
+  RevealsLate : (i : ℕ) → IsElement x (flat_map (due_arc_unlock d v w (signed i) k i) (entering d.graph v)) → is_withheld d v k i ≡ true
       → IsHarmful d v w signed k x
 
 -- all that is useful is due
 abbrev pub UsefulIsDue : Type 0
 UsefulIsDue =
-    (d : Deal) (v : ℕ) (w : Wallet) (signed : ℕ → Option Hashkey) (k : Histories) (x : Action) → IsIn x (useful d v w signed k)
-    → IsIn x (due d v w signed k)
+    (d : Deal) (v : ℕ) (w : Wallet) (signed : ℕ → Option Hashkey) (k : Histories) (x : Action) → IsElement x (useful d v w signed k)
+    → IsElement x (due d v w signed k)
 
 -- what is due and not useful can only hurt
 abbrev pub OnlyHarmIsLeftOut : Type 0
 OnlyHarmIsLeftOut =
-    (d : Deal) (v : ℕ) (w : Wallet) (signed : ℕ → Option Hashkey) (k : Histories) (x : Action) → IsIn x (due d v w signed k)
-    → IsIn x (useful d v w signed k) ⊎ IsHarmful d v w signed k x
+    (d : Deal) (v : ℕ) (w : Wallet) (signed : ℕ → Option Hashkey) (k : Histories) (x : Action) → IsElement x (due d v w signed k)
+    → IsElement x (useful d v w signed k) ⊎ IsHarmful d v w signed k x
 
--- as long as no ledger next to v is above the height by which contracts open, all that is due is useful
+-- as long as no ledger next to v is above the height by which contracts open, all that is due is
+-- useful
 abbrev pub EarlyIsUseful : Type 0
 EarlyIsUseful =
     (d : Deal) (v : ℕ) (w : Wallet) (signed : ℕ → Option Hashkey) (k : Histories) → ((a : ℕ) → IsNear d v a → opens_in_time d k a ≡ true)
@@ -64,7 +66,8 @@ abbrev pub NothingUsefulPresses : Type 0
 NothingUsefulPresses =
     (d : Deal) (v : ℕ) (w : Wallet) (signed : ℕ → Option Hashkey) (k : Histories) → useful d v w signed k ≡ [] → pressing d v w signed k ≡ []
 
--- where nothing is useful to v, ticks on arc a that don't bring its ledger above an expiry that v waits for make nothing useful
+-- where nothing is useful to v, ticks on arc a that don't bring its ledger above an expiry that v
+-- waits for make nothing useful
 abbrev pub TicksMakeNothingUseful : Type 0
 TicksMakeNothingUseful = (d : Deal) (v : ℕ) (w : Wallet) (signed : ℕ → Option Hashkey) (k : Histories) (a : ℕ) (more : List Entry)
     → are_ticks more ≡ true → useful d v w signed k ≡ [] → StaysLow d v k a more → useful d v w signed (set k a (history k a ++ more)) ≡ []

@@ -3,7 +3,7 @@
 use Rattle.std.specs.Prelude.{◌≡◌, ◌≢◌, ◌==◌, ℕ, Bool, ◌+◌, ◌*◌, ◌<◌, ◌≤◌, nat_le, true, false, not, ◌&&◌, List, [], ◌++◌, length, Option, Some, None, is_some}
 use Rattle.std.specs.Prelude.{is_none, if◌then◌else◌}
 use Rattle.std.specs.List.{list_any, list_all, flat_map}
-use Rattle.swap_base.specs.Lists.{IsIn, IsMoment}
+use Rattle.swap_base.specs.Lists.{IsElement, IsMoment}
 use Rattle.time_bounds.specs.Times as times
 use Rattle.swap_digraph.specs.Graph.{arcs, leaving, entering}
 use Rattle.swap_digraph.specs.Deal.{amount, counterparty, locks, leads}
@@ -22,7 +22,7 @@ use Rattle.swap_rules.specs.declared.outcome.Outcome.TheVariants.{NoDeal, Underw
 use Rattle.swap_rules.specs.Accepted.{IsAccepted}
 use Rattle.swap_rules.specs.Party.{is_correct, is_ready, is_triggered, pick_call, first_key}
 use Rattle.swap_rules.specs.Conduct.{IsConducted}
-use Rattle.swap_rules.specs.Late.{ref_of}
+use Rattle.swap_rules.specs.Late.{reference_height}
 use Rattle.swap_rules.specs.Due.{Wallet, Action, is_claiming, has_called, due_arc_unlock, due_claims, due_refunds}
 use Rattle.swap_rules.specs.Outcome.{lost, outcome, IsEnded}
 use Rattle.swap_rules.specs.Machine.{Begins, Knows}
@@ -32,7 +32,7 @@ use Rattle.swap_rules.specs.Laws.{IsOnTime, IsUnforged, IsSafe, HasRefunds, name
 -- What a party has to see to.
 
 -- An unlock call of v for lock i on arc a, at a height at which its hashkey is still accepted.
-pub record UnlocksOn (d : Deal) (b : Histories) (v i a : ℕ) : Type 0 where
+pub record UnlocksArc (d : Deal) (b : Histories) (v i a : ℕ) : Type 0 where
   pub past : List Entry
   pub now : Entry
   pub key : Hashkey
@@ -43,12 +43,12 @@ pub record UnlocksOn (d : Deal) (b : Histories) (v i a : ℕ) : Type 0 where
 
 -- v makes each unlock that is enabled, while its hashkey is accepted
 abbrev pub UnlocksAll : Deal → Histories → ℕ → Type 0
-UnlocksAll d b v = (i a ref : ℕ) → i < length d.leaders → ref_of d b v (ToUnlock i) a ≡ Some ref → UnlocksOn d b v i a
+UnlocksAll d b v = (i a ref : ℕ) → i < length d.leaders → reference_height d b v (ToUnlock i) a ≡ Some ref → UnlocksArc d b v i a
 
 -- on each correct and triggered arc that enters v stands a claim call of v, at whatever height
 abbrev pub ClaimsAll : Deal → Histories → ℕ → Type 0
 ClaimsAll d b v =
-    (a : ℕ) → IsIn a (entering d.graph v) → is_correct d b a ≡ true → is_triggered d b a ≡ true → has_called v is_claiming (history b a) ≡ true
+    (a : ℕ) → IsElement a (entering d.graph v) → is_correct d b a ≡ true → is_triggered d b a ≡ true → has_called v is_claiming (history b a) ≡ true
 
 -- A refund call of v on arc a that comes after the arc's accepted publish, at whatever height.
 pub record AsksBack (b : Histories) (v a : ℕ) : Type 0 where
@@ -61,21 +61,23 @@ pub record AsksBack (b : Histories) (v a : ℕ) : Type 0 where
 -- v asks back what it published on each arc that wasn't triggered
 abbrev pub AsksAllBack : Deal → Histories → ℕ → Type 0
 AsksAllBack d b v =
-    (a : ℕ) → IsIn a (leaving d.graph v) → is_some (published (history b a)) ≡ true → is_triggered d b a ≡ false → AsksBack b v a
+    (a : ℕ) → IsElement a (leaving d.graph v) → is_some (published (history b a)) ≡ true → is_triggered d b a ≡ false → AsksBack b v a
 
 -- an arc that leaves v is triggered
 abbrev pub HasLost : Deal → Histories → ℕ → Type 0
 HasLost d b v = list_any (is_triggered d b) (leaving d.graph v) ≡ true
 
--- A watchful party: where an arc that leaves it is triggered it makes each enabled unlock while its hashkey is accepted, and claims; and it asks back what
--- it published and wasn't triggered. Nothing is asked of when or whether it publishes, of when it claims or asks back, nor of any unlock as long as no arc
--- that leaves it is triggered.
+-- A watchful party: where an arc that leaves it is triggered it makes each enabled unlock while its
+-- hashkey is accepted, and claims; and it asks back what it published and wasn't triggered. Nothing
+-- is asked of when or whether it publishes, of when it claims or asks back, nor of any unlock as
+-- long as no arc that leaves it is triggered.
 pub record IsWatchful (d : Deal) (b : Histories) (v : ℕ) : Type 0 where
   pub unlocks : HasLost d b v → UnlocksAll d b v
   pub claims : HasLost d b v → ClaimsAll d b v
   pub refunds : AsksAllBack d b v
 
--- in every legal book of an accepted deal a party that is conducted and watchful is safe, whatever it publishes or leaves out
+-- in every legal book of an accepted deal a party that is conducted and watchful is safe, whatever
+-- it publishes or leaves out
 abbrev pub WatchfulIsSafe : Type 0
 WatchfulIsSafe = (d : Deal) (b : Histories) (v : ℕ) → IsAccepted d → IsLegalBook d b → IsConducted d b v → IsWatchful d b v → IsSafe d b v
 
@@ -84,7 +86,8 @@ abbrev pub OnTimeIsWatchful : Type 0
 OnTimeIsWatchful =
     (d : Deal) (b : Histories) (v : ℕ) → IsAccepted d → IsLegalBook d b → IsEnded d b → IsConducted d b v → IsOnTime d b v → IsWatchful d b v
 
--- the finding says that v broke a rule of conduct or was late with an unlock or a claim, or that a ledger is unfinished
+-- the finding says that v broke a rule of conduct or was late with an unlock or a claim, or that a
+-- ledger is unfinished
 abbrev pub endangers : ℕ → Finding → Bool
 endangers v (Broke u a e) = u == v
 endangers v (Late u ToPublish a due) = false
@@ -94,15 +97,16 @@ endangers v (Late u ToRefund a due) = false
 endangers v (Forged u a e) = false
 endangers v (Unfinished a h) = true
 
--- of a legal book of an accepted deal: a conforming party that no finding endangers, and in whose name none stands, isn't underwater, however late it
--- published, if it did
+-- of a legal book of an accepted deal: a conforming party that no finding endangers, and in whose
+-- name none stands, isn't underwater, however late it published, if it did
 abbrev pub LatePublishIsSafe : Type 0
 LatePublishIsSafe =
     (d : Deal) (conforming : ℕ → Bool) (b : Histories) (v : ℕ) → IsAccepted d → IsLegalBook d b → v < d.graph.n → conforming v ≡ true
     → list_any (endangers v) (findings d conforming b) ≡ false → list_any (names_party d v) (findings d conforming b) ≡ false
     → outcome d b v ≢ Underwater
 
--- the finding says that v broke a rule of conduct or was late with a publish or a refund, or that a ledger is unfinished
+-- the finding says that v broke a rule of conduct or was late with a publish or a refund, or that a
+-- ledger is unfinished
 abbrev pub strands : ℕ → Finding → Bool
 strands v (Broke u a e) = u == v
 strands v (Late u ToPublish a due) = u == v
@@ -112,7 +116,8 @@ strands v (Late u ToRefund a due) = u == v
 strands v (Forged u a e) = false
 strands v (Unfinished a h) = true
 
--- of a legal book of an accepted deal: a conforming party that no finding strands has its refunds, however late it unlocked or claimed
+-- of a legal book of an accepted deal: a conforming party that no finding strands has its refunds,
+-- however late it unlocked or claimed
 abbrev pub LateUnlockHasRefunds : Type 0
 LateUnlockHasRefunds =
     (d : Deal) (conforming : ℕ → Bool) (b : Histories) (v : ℕ) → IsAccepted d → IsLegalBook d b → v < d.graph.n → conforming v ≡ true
@@ -122,23 +127,24 @@ LateUnlockHasRefunds =
 
 -- no accepted publish stands on an arc that leaves v
 abbrev pub HasPublishedNothing : Deal → Histories → ℕ → Type 0
-HasPublishedNothing d b v = (a : ℕ) → IsIn a (leaving d.graph v) → published (history b a) ≡ None
+HasPublishedNothing d b v = (a : ℕ) → IsElement a (leaving d.graph v) → published (history b a) ≡ None
 
 -- v transfers nothing on an arc that leaves it
 abbrev pub GivesNothing : Deal → Histories → ℕ → Type 0
 GivesNothing d b v =
-    (a : ℕ) (past : List Entry) (e : Entry) (to units : ℕ) → IsIn a (leaving d.graph v) → IsMoment (history b a) past e
+    (a : ℕ) (past : List Entry) (e : Entry) (to units : ℕ) → IsElement a (leaving d.graph v) → IsMoment (history b a) past e
     → pick_call v e ≡ Some (Transfer to units) → ⊥
 
 -- v makes no call at all
 abbrev pub IsSilent : Histories → ℕ → Type 0
 IsSilent b v = (a : ℕ) (past : List Entry) (e : Entry) → IsMoment (history b a) past e → pick_call v e ≡ None
 
--- Nothing is lost: no arc that leaves v is triggered, v isn't underwater, and it has the whole amount of each arc that leaves it.
+-- Nothing is lost: no arc that leaves v is triggered, v isn't underwater, and it has the whole
+-- amount of each arc that leaves it.
 pub record LosesNothing (d : Deal) (b : Histories) (v : ℕ) : Type 0 where
   pub none : lost d b v ≡ 0
   pub safe : outcome d b v ≢ Underwater
-  pub keeps : (a : ℕ) → IsIn a (leaving d.graph v) → balance d a (history b a) v ≡ amount d a
+  pub keeps : (a : ℕ) → IsElement a (leaving d.graph v) → balance d a (history b a) v ≡ amount d a
 
 -- In every legal book of an accepted deal, ended or not, a party that has published and transferred
 -- nothing has lost nothing. It may have done anything else, and so may the others, forgery
@@ -171,8 +177,8 @@ UnrevealedLosesNothing =
 
 -- A publish that comes too late.
 
--- an arc that was published above the height by which contracts open leaves its counterparty unready for good, and a conducted counterparty opens no lock
--- of it
+-- an arc that was published above the height by which contracts open leaves its counterparty
+-- unready for good, and a conducted counterparty opens no lock of it
 abbrev pub LatePublishIsIdle : Type 0
 LatePublishIsIdle =
     (d : Deal) (b : Histories) (a : ℕ) (p : Publication) → IsLegalBook d b → a < length d.graph.arcs → published (history b a) ≡ Some p
@@ -216,10 +222,10 @@ pub record AreFreeRounds (d : Deal) (v : ℕ) (w : Wallet) (ticks slack rounds :
   pub legal : (r : ℕ) → r ≤ rounds → IsLegalBook d (books r)
   pub conducted : IsConducted d (books rounds) v
   pub grows : (r a : ℕ) → r < rounds → Begins (history (books r) a) (history (books (r + 1)) a)
-  pub at : (r a : ℕ) → r ≤ rounds → IsIn a (arcs d.graph) → height (history (books r) a) ≡ r * ticks
+  pub at : (r a : ℕ) → r ≤ rounds → IsElement a (arcs d.graph) → height (history (books r) a) ≡ r * ticks
   pub turn : (r : ℕ) → r < rounds → IsFreeTurn d v w (books r) (books (r + 1)) (r * ticks + slack)
   -- a refund is asked for only where a publish was accepted, as one that is due
-  pub asks : (a : ℕ) (past : List Entry) (e : Entry) → IsIn a (leaving d.graph v) → IsMoment (history (books rounds) a) past e
+  pub asks : (a : ℕ) (past : List Entry) (e : Entry) → IsElement a (leaving d.graph v) → IsMoment (history (books rounds) a) past e
       → pick_call v e ≡ Some Refund → is_some (published past) ≡ true
 
 -- A party may stop publishing at any time. If a round's ticks and the slack are within delta, it is

@@ -9,7 +9,8 @@ ghost use Rattle.swap_rules.specs.Walking.{WatchfulIsSafe, OnTimeIsWatchful, Unp
 ghost use Rattle.swap_rules.specs.Useful.{UsefulIsDue, OnlyHarmIsLeftOut, EarlyIsUseful, NothingUsefulPresses, TicksMakeNothingUseful};
 ghost use Rattle.swap_rules.specs.Walking.{LatePublishIsSafe, LateUnlockHasRefunds, MayStopPublishing, UnrevealedLosesNothing};
 
-/// At every prefix of a legal history each unit stands in one place: in the party's balance, the counterparty's or the contract.
+/// At every prefix of a legal history each unit stands in one place: in the party's balance, the
+/// counterparty's or the contract.
 pub fn units_are_kept()
     ensures { UnitsAreKept }
 {}
@@ -46,13 +47,14 @@ pub fn unpublished_loses_nothing()
     ensures unrevealed { UnrevealedLosesNothing }
 {}
 
-/// A publish above the height by which contracts open makes nobody ready, and no conducted party unlocks it.
+/// A publish above the height by which contracts open makes nobody ready, and no conducted party
+/// unlocks it.
 pub fn late_publish_is_idle()
     ensures { LatePublishIsIdle }
 {}
 
-/// Where all parties conform, nobody is late and nothing is forged, every arc is claimed in time, every counterparty has the arc's amount, and every
-/// outcome is the whole deal.
+/// Where all parties conform, nobody is late and nothing is forged, every arc is claimed in time,
+/// every counterparty has the arc's amount, and every outcome is the whole deal.
 pub fn all_is_transferred()
     ensures conforms { AllIsTransferred }
     ensures found { WithoutFindingsAllIsTransferred }
@@ -74,8 +76,8 @@ pub fn nothing_is_forged()
     ensures { NothingIsForged }
 {}
 
-/// A party that acts on what it knows is conducted in every book that holds its knowledge and no further call of it; learning and due calls keep it so,
-/// and its entries never fill a ledger.
+/// A party that acts on what it knows is conducted in every book that holds its knowledge and no
+/// further call of it; learning and due calls keep it so, and its entries never fill a ledger.
 pub fn knowledge_conducts()
     ensures conducts { KnowledgeConducts }
     ensures learns { LearningIsSound }
@@ -91,18 +93,21 @@ pub fn rounds_are_in_time()
     ensures races { RacesAreInTime }
 {}
 
-/// Where all parties are conducted and none is late, nothing is found and every outcome is the whole deal.
+/// Where all parties are conducted and none is late, nothing is found and every outcome is the
+/// whole deal.
 pub fn all_is_dealt()
     ensures books { AllIsDealt }
     ensures races { RacesAreDealt }
 {}
 
-/// A party for which nothing is due may rest: ticks make nothing due for it up to the least expiry of a refund that it waits for.
+/// A party for which nothing is due may rest: ticks make nothing due for it up to the least expiry
+/// of a refund that it waits for.
 pub fn ticks_make_nothing_due()
     ensures { TicksMakeNothingDue }
 {}
 
-/// Of what is due a wallet leaves out only what can hurt its party, and nothing at all as long as contracts may open.
+/// Of what is due a wallet leaves out only what can hurt its party, and nothing at all as long as
+/// contracts may open.
 pub fn only_harm_is_left_out()
     ensures due { UsefulIsDue }
     ensures harm { OnlyHarmIsLeftOut }

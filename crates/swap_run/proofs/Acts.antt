@@ -2,19 +2,19 @@
 -- that it may make is enough.
 use Rattle.std.proofs.Common.{◌≡◌, ◌⊎◌, ℕ, suc, zero, ◌+◌, ◌<◌, ◌≤◌, true, false, cond, List, [], ◌∷◌, ◌++◌, length, Option, Some, None, refl, sym, ap}
 use Rattle.std.proofs.Common.{◌∙◌, subst, inl, inr, arith, eq-eqb, set}
-use Rattle.swap_base.specs.Lists.{IsIn}
+use Rattle.swap_base.specs.Lists.{IsElement}
 use Rattle.ledger_core.specs.History.{is_full}
 use Rattle.ledger_core.specs.Book.{Histories, history}
 use Rattle.std.proofs.lemmas.Bool.{false≢true}
 use Rattle.swap_job.specs.declared.event.Event.TheVariants.{Act}
 use Rattle.swap_rules.specs.Due.{Action, due, first}
-use Rattle.swap_rules.specs.Machine.{entry_of, rule_test}
+use Rattle.swap_rules.specs.Machine.{appended_entry, rule_test}
 use Rattle.swap_rules.proofs.Machines.{rules_transfer}
 use Rattle.swap_rules.proofs.Room.{rules_leave_room}
 use Rattle.swap_rules.proofs.Conducting.{history_same}
 use Rattle.ledger_core.specs.Ledger.{is_sender_full, after_call}
-use Rattle.party_wallet.specs.Value.{signed_in}
-use Rattle.swap_run.specs.Run.{Cast, State, conforms, party_role, state_notes, signed_after, make, next_action, act, act_as, step}
+use Rattle.party_wallet.specs.Value.{signed_hashkey}
+use Rattle.swap_run.specs.Run.{Cast, State, conforms, party_role, state_notes, signed_through_call, make, next_action, act, role_act, step}
 use Rattle.swap_run.specs.Laws.{IsReadyCast, IsGood, CanBeMade, DueCallsCanBeMade}
 use Rattle.swap_run.specs.Fair.{acts, most_acts}
 use Rattle.swap_run.specs.FairLaws.{ActsComeToRest, ActsAreEnough}
@@ -34,10 +34,10 @@ module _ (c : Cast) (ready : IsReadyCast c) (v : ℕ) (lv : v < c.deal.graph.n) 
   known s = (state_notes s v).known
 
   abbrev pub all_due : State → List Action
-  all_due s = due c.deal v (c.wallet v) (signed_in (state_notes s v).signed) (state_notes s v).known
+  all_due s = due c.deal v (c.wallet v) (signed_hashkey (state_notes s v).signed) (state_notes s v).known
 
   pub act_is : (s : State) → step c s (Act v) ≡ act c s v
-  act_is s = ap (λ z. cond z (act c s v) (act_as c s v (party_role c v))) cv
+  act_is s = ap (λ z. cond z (act c s v) (role_act c s v (party_role c v))) cv
 
   -- where nothing is due, an act changes nothing
   pub act_rests : (s : State) → next_action c s v ≡ None → step c s (Act v) ≡ s
@@ -51,8 +51,8 @@ module _ (c : Cast) (ready : IsReadyCast c) (v : ℕ) (lv : v < c.deal.graph.n) 
   has_space : (s : State) (a : ℕ) → IsGood c s → is_full (history s.book a) v ≡ false
   has_space s a g =
       let hv = holds c s v (g.notes v lv cv) in
-      rules_leave_room c.deal s.book (signed_in (state_notes s v).signed) v a ready.accepted g.legal
-      (rules_transfer c.deal (known s) s.book (signed_in (state_notes s v).signed) v hv.knows hv.sound.rules)
+      rules_leave_room c.deal s.book (signed_hashkey (state_notes s v).signed) v a ready.accepted g.legal
+      (rules_transfer c.deal (known s) s.book (signed_hashkey (state_notes s v).signed) v hv.knows hv.sound.rules)
 
   made : (s : State) (x : Action) → IsGood c s → next_action c s v ≡ Some x → CanBeMade c s v x
   made s x g e =
@@ -67,27 +67,27 @@ module _ (c : Cast) (ready : IsReadyCast c) (v : ℕ) (lv : v < c.deal.graph.n) 
       }
 
   -- a due call leaves one slot less
-  made_less : (s : State) (x : Action) → IsGood c s → IsIn x (all_due s) → left c.deal v (known (make c.deal s v (Some x))) + 1 ≤ left c.deal v (known s)
+  made_less : (s : State) (x : Action) → IsGood c s → IsElement x (all_due s) → left c.deal v (known (make c.deal s v (Some x))) + 1 ≤ left c.deal v (known s)
   made_less s x g i =
       let hv = holds c s v (g.notes v lv cv) in
       let is = due_now c.deal s.book (state_notes s v) v (c.wallet v) x (ready.wallets v lv cv) ready.accepted i hv in
       let below : x.arc < length (known s) = subst (λ m. x.arc < m) (sym hv.one_each) is.below in
       let kn = hv.knows x.arc in
       let room = has_space s x.arc g in
-      let new : after_call c.deal x.arc v x.call (history s.book x.arc) ≡ history s.book x.arc ++ entry_of c.deal x.arc (history s.book x.arc) v x.call ∷ [] =
+      let new : after_call c.deal x.arc v x.call (history s.book x.arc) ≡ history s.book x.arc ++ appended_entry c.deal x.arc (history s.book x.arc) v x.call ∷ [] =
       call_pushes c.deal x.arc (history s.book x.arc) v x.call room in
       let there : history (set (known s) x.arc (after_call c.deal x.arc v x.call (history s.book x.arc))) x.arc ≡ history s.book x.arc
-      ++ entry_of c.deal x.arc (history s.book x.arc) v x.call ∷ [] =
+      ++ appended_entry c.deal x.arc (history s.book x.arc) v x.call ∷ [] =
       history_same (known s) x.arc (after_call c.deal x.arc v x.call (history s.book x.arc)) below ∙ new in
       subst (λ n. left c.deal v n.known + 1 ≤ left c.deal v (known s))
       (sym (note_same s (set s.book x.arc (after_call c.deal x.arc v x.call (history s.book x.arc))) v (record {
         known =
             set (known s) x.arc (after_call c.deal x.arc v x.call (history s.book x.arc));
         signed =
-            signed_after (state_notes s v).signed x.call;
+            signed_through_call (state_notes s v).signed x.call;
       }) (subst (λ m. v < m) (sym g.one_each) lv)))
       (left_less c.deal v (known s) (after_call c.deal x.arc v x.call (history s.book x.arc)) (history s.book x.arc) x.arc
-      (entry_of c.deal x.arc (history s.book x.arc) v x.call) is.slot there (kn.rest, kn.whole) is.slot_in is.below is.fresh
+      (appended_entry c.deal x.arc (history s.book x.arc) v x.call) is.slot there (kn.rest, kn.whole) is.slot_in is.below is.fresh
       (ap (rule_test is.slot) (ap (λ z. cond z (Some x.call) None) (eq-eqb v v refl)) ∙ is.passes))
 
   -- an act makes a call, or nothing is due

@@ -7,7 +7,7 @@ use Rattle.std.proofs.lemmas.List.{take-append-le}
 use Rattle.std.proofs.lemmas.List.Folds.{fold-map}
 use Rattle.std.proofs.lemmas.List.Sums.{fold-append}
 use Rattle.std.proofs.lemmas.List.Elements.{All-nil, All-cons, All-append, All-replicate, All-take}
-use Rattle.swap_base.specs.Lists.{IsIn}
+use Rattle.swap_base.specs.Lists.{IsElement}
 use Rattle.swap_base.proofs.Lists.{from_filter, from_range}
 use Rattle.swap_digraph.specs.Deal.{party, counterparty}
 use Rattle.swap_digraph.specs.Graph.{arcs}
@@ -236,7 +236,7 @@ module _ (c : Cast) where
   abbrev Can : Event → Type 0
   Can = CanStep c.deal c.conforming c.seeds
 
-  looks_can : (v : ℕ) (js : List ℕ) → ((a : ℕ) → IsIn a js → Can (Look v a)) → All Can (map (λ a. Look v a) js)
+  looks_can : (v : ℕ) (js : List ℕ) → ((a : ℕ) → IsElement a js → Can (Look v a)) → All Can (map (λ a. Look v a) js)
   looks_can v [] can = All-nil Can
   looks_can v (a ∷ js) can = All-cons Can (Look v a) (map (λ z. Look v z) js) (can a (inl refl)) (looks_can v js (λ z i. can z (inr i)))
 
@@ -252,12 +252,12 @@ module _ (c : Cast) where
       go true = All-replicate Can (most_acts c.deal) (Act v) l
       go false = All-cons Can (Act v) [] l (All-nil Can)
 
-  turns_can : (xs : List ℕ) → ((v : ℕ) → IsIn v xs → v < c.deal.graph.n) → All Can (flat_map (turn_steps c) xs)
+  turns_can : (xs : List ℕ) → ((v : ℕ) → IsElement v xs → v < c.deal.graph.n) → All Can (flat_map (turn_steps c) xs)
   turns_can [] low = All-nil Can
   turns_can (x ∷ xs) low =
       All-append Can (turn_steps c x) (flat_map (turn_steps c) xs) (turn_can x (low x (inl refl))) (turns_can xs (λ v i. low v (inr i)))
 
-  low_can : (js : List ℕ) (b : Histories) → ((a : ℕ) → IsIn a js → a < length c.deal.graph.arcs) → All Can (low_steps c.deal b js)
+  low_can : (js : List ℕ) (b : Histories) → ((a : ℕ) → IsElement a js → a < length c.deal.graph.arcs) → All Can (low_steps c.deal b js)
   low_can [] b low = All-nil Can
   low_can (a ∷ js) b low =
       All-append Can (low_step c.deal b a) (low_steps c.deal (after_low c.deal b a) js) (go (nat_le (height (history b a)) (the_horizon c.deal)))

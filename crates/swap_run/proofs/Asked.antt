@@ -1,4 +1,5 @@
--- Strategies are asked in order: what a run comes to depends on the answers that it asked and on no other.
+-- Strategies are asked in order: what a run comes to depends on the answers that it asked and on no
+-- other.
 use Rattle.std.proofs.Common.{◌≡◌, ℕ, zero, suc, ◌+◌, ◌≤◌, ◌<◌, nat_le, Bool, true, false, cond, ◌||◌, List, [], ◌∷◌, ◌++◌, length, fold, get_or, Option}
 use Rattle.std.proofs.Common.{Some, None, refl, sym, ap, ◌∙◌, subst, arith}
 use Rattle.std.specs.List.{range_with_len, list_any}
@@ -18,7 +19,7 @@ use Rattle.swap_rules.specs.Due.{Action}
 use Rattle.swap_rules.specs.Machine.{Begins}
 use Rattle.swap_rules.proofs.Prefixes.{begins_more}
 use Rattle.swap_run.specs.Run.{Cast, Question, State, conforms, party_role, party_plan, look, make, next_action, act, watch, take_call, after_turn, question}
-use Rattle.swap_run.specs.Run.{after_question, answer_for, act_as, step}
+use Rattle.swap_run.specs.Run.{after_question, answered_call, role_act, step}
 use Rattle.swap_run.specs.Fair.{repeat, adjacent_arcs, looks, acts, most_acts, turn, turns, the_horizon, tick_low, ticks, round, has_ended}
 use Rattle.swap_run.specs.Fair.{round_unless_ended, finish}
 use Rattle.swap_run.specs.Asked.{Answers, with_answers, Agree, is_strategy, RunsAskInOrder, FinishesAskInOrder, RunsWithoutStrategies}
@@ -34,13 +35,13 @@ pub make_asked : (c : Cast) (s : State) (v : ℕ) (o : Option Action) → (make 
 make_asked c s v None = refl
 make_asked c s v (Some x) = refl
 
-follow_asked : (c : Cast) (s : State) (v : ℕ) (moves : List Move) → (act_as c s v (Script moves)).asked ≡ s.asked
+follow_asked : (c : Cast) (s : State) (v : ℕ) (moves : List Move) → (role_act c s v (Script moves)).asked ≡ s.asked
 follow_asked c s v moves =
     take_asked c (after_turn s v (moves_left (party_plan s v).known (party_plan s v).moves)) v
     (next_call c.deal c.seeds (party_plan s v).known (party_plan s v).moves)
 
-ask_asked : (c : Cast) (s : State) (v : ℕ) (name : List ℕ) → (act_as c s v (Strategy name)).asked ≡ s.asked ++ question s v name ∷ []
-ask_asked c s v name = take_asked c (after_question s v name) v (answer_for c.deal v (c.answers (length s.asked)))
+ask_asked : (c : Cast) (s : State) (v : ℕ) (name : List ℕ) → (role_act c s v (Strategy name)).asked ≡ s.asked ++ question s v name ∷ []
+ask_asked c s v name = take_asked c (after_question s v name) v (answered_call c.deal v (c.answers (length s.asked)))
 
 -- What is said of each answer that is asked from the state s to the state t.
 abbrev Between : (ℕ → Question → Type 0) → State → State → Type 0
@@ -64,7 +65,8 @@ module _
   abbrev w : Cast
   w = with_answers c answers
 
-  -- From the state s the one comes to t and the other to u: to the same, where all that each asks is answered as is said of it.
+  -- From the state s the one comes to t and the other to u: to the same, where all that each asks
+  -- is answered as is said of it.
   record Orderly (s t u : State) : Type 0 where
     pub here : Begins s.asked t.asked
     pub there : Begins s.asked u.asked
@@ -106,7 +108,7 @@ module _
   take_same s v None = refl
   take_same s v (Some x) = refl
 
-  ask_orderly : (s : State) (v : ℕ) (name : List ℕ) → Orderly s (act_as c s v (Strategy name)) (act_as w s v (Strategy name))
+  ask_orderly : (s : State) (v : ℕ) (name : List ℕ) → Orderly s (role_act c s v (Strategy name)) (role_act w s v (Strategy name))
   ask_orderly s v name =
       let e = ask_asked c s v name in
       let d = ask_asked w s v name in
@@ -121,15 +123,15 @@ module _
             (subst (λ qs. q ≡ get_or qs (length s.asked) q) (sym e) last) in
             let r = b (length s.asked) q (omega arith) (subst (λ qs. length s.asked < length qs) (sym d) (omega arith))
             (subst (λ qs. q ≡ get_or qs (length s.asked) q) (sym d) last) in
-            ap (λ o. take_call w (after_question s v name) v (answer_for c.deal v o)) (meet (length s.asked) q p r)
-            ∙ take_same (after_question s v name) v (answer_for c.deal v (c.answers (length s.asked)));
+            ap (λ o. take_call w (after_question s v name) v (answered_call c.deal v o)) (meet (length s.asked) q p r)
+            ∙ take_same (after_question s v name) v (answered_call c.deal v (c.answers (length s.asked)));
       }
 
-  act_orderly : (s : State) (v : ℕ) (role : Role) → Orderly s (act_as c s v role) (act_as w s v role)
+  act_orderly : (s : State) (v : ℕ) (role : Role) → Orderly s (role_act c s v role) (role_act w s v role)
   act_orderly s v Conforming = at_once s s s refl refl
   act_orderly s v Manual = at_once s s s refl refl
   act_orderly s v (Script moves) =
-      at_once s (act_as c s v (Script moves)) (act_as w s v (Script moves)) (follow_asked c s v moves)
+      at_once s (role_act c s v (Script moves)) (role_act w s v (Script moves)) (follow_asked c s v moves)
       (take_same (after_turn s v (moves_left (party_plan s v).known (party_plan s v).moves)) v (next_call c.deal c.seeds (party_plan s v).known
       (party_plan s v).moves))
   act_orderly s v (Strategy name) = ask_orderly s v name
@@ -140,7 +142,7 @@ module _
       either (conforms c v) s (look s v a) (look s v a) (watch c s v a) (watch w s v a)
       (at_once s (look s v a) (look s v a) refl refl) (at_once s (watch c s v a) (watch w s v a) refl refl)
   step_orderly (Act v) s =
-      either (conforms c v) s (act c s v) (act w s v) (act_as c s v (party_role c v)) (act_as w s v (party_role c v))
+      either (conforms c v) s (act c s v) (act w s v) (role_act c s v (party_role c v)) (role_act w s v (party_role c v))
       (at_once s (act c s v) (act w s v) (make_asked c s v (next_action c s v)) refl) (act_orderly s v (party_role c v))
   step_orderly (Made v mv) s =
       at_once s (step c s (Made v mv)) (step w s (Made v mv)) (take_asked c s v (resolved c.deal c.seeds s.book mv))
@@ -214,7 +216,7 @@ module _ (c : Cast) (none : list_any is_strategy c.roles ≡ false) where
   among (r ∷ roles) zero e = (or_parts (is_strategy r) (list_any is_strategy roles) e).0
   among (r ∷ roles) (suc v) e = among roles v (or_parts (is_strategy r) (list_any is_strategy roles) e).1
 
-  quiet_act : (s : State) (v : ℕ) (role : Role) → is_strategy role ≡ false → (act_as c s v role).asked ≡ s.asked
+  quiet_act : (s : State) (v : ℕ) (role : Role) → is_strategy role ≡ false → (role_act c s v role).asked ≡ s.asked
   quiet_act s v Conforming e = refl
   quiet_act s v Manual e = refl
   quiet_act s v (Script moves) e = follow_asked c s v moves
@@ -237,7 +239,7 @@ module _ (c : Cast) (none : list_any is_strategy c.roles ≡ false) where
   quiet_step (Tick a k) s = refl
   quiet_step (Look v a) s = quiet_either (conforms c v) s (look s v a) (watch c s v a) refl refl
   quiet_step (Act v) s =
-      quiet_either (conforms c v) s (act c s v) (act_as c s v (party_role c v)) (make_asked c s v (next_action c s v))
+      quiet_either (conforms c v) s (act c s v) (role_act c s v (party_role c v)) (make_asked c s v (next_action c s v))
       (quiet_act s v (party_role c v) (among c.roles v none))
   quiet_step (Made v mv) s = take_asked c s v (resolved c.deal c.seeds s.book mv)
   quiet_step (Crash v k image) s = refl

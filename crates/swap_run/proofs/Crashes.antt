@@ -5,14 +5,14 @@ use Rattle.std.proofs.Common.{◌∙◌, subst, inl, inr, arith, eq-eqb}
 use Rattle.std.proofs.lemmas.Bool.{cases_lt}
 use Rattle.std.proofs.lemmas.List.FromFn.{get_or-map-range_with_len, length-map-range_with_len}
 use Rattle.std.proofs.Math.ListN.{get_or-eq_default}
-use Rattle.swap_base.specs.Lists.{IsIn}
+use Rattle.swap_base.specs.Lists.{IsElement}
 use Rattle.swap_digraph.specs.declared.deal.Deal.{Deal}
 use Rattle.hashkey_path.specs.declared.hashkey.Hashkey.{Hashkey}
 use Rattle.ledger_core.specs.declared.entry.Call.TheVariants.{Unlock}
 use Rattle.ledger_core.specs.History.{IsLegal}
 use Rattle.ledger_core.specs.Book.{Histories, history, IsLegalBook}
 use Rattle.swap_job.specs.Fitting.{is_near}
-use Rattle.party_wallet.specs.Value.{signed_in}
+use Rattle.party_wallet.specs.Value.{signed_hashkey}
 use Rattle.swap_rules.specs.Accepted.{IsAccepted}
 use Rattle.swap_rules.specs.Due.{Wallet, Action, due}
 use Rattle.swap_rules.specs.Machine.{IsWallet, IsSound, KeepsRules, Knows, noted}
@@ -20,7 +20,7 @@ use Rattle.swap_rules.proofs.Prefixes.{begins_refl}
 use Rattle.swap_rules.proofs.Due.{IsDue, is_due}
 use Rattle.swap_rules.proofs.Conducting.{own_more, knows_all}
 use Rattle.swap_rules.proofs.Machines.{rules_transfer}
-use Rattle.swap_run.specs.Run.{Notes, signed_after, relearnt}
+use Rattle.swap_run.specs.Run.{Notes, signed_through_call, relearnt}
 use Rattle.swap_run.proofs.Noted.{Holds, due_now, signed_is, signed_length}
 
 module _ (d : Deal) (v : ℕ) (known after : Histories) (signed : ℕ → Option Hashkey) (legal : IsLegalBook d after)
@@ -30,7 +30,7 @@ module _ (d : Deal) (v : ℕ) (known after : Histories) (signed : ℕ → Option
   restart_sound = record { legal = legal; rules = rules_transfer d known after signed v knows rules }
 
   -- the hashkey of a due call was recorded, and the call wasn't made
-  signing_sound : (w : Wallet) (x : Action) → IsWallet d v w → IsAccepted d → IsIn x (due d v w signed known) → IsSound d after (noted signed x.call) v
+  signing_sound : (w : Wallet) (x : Action) → IsWallet d v w → IsAccepted d → IsElement x (due d v w signed known) → IsSound d after (noted signed x.call) v
   signing_sound w x wallet fits i =
       let here = rules_transfer d known after signed v knows rules in
       let is = is_due d v w signed after known legal here knows wallet fits x i in
@@ -111,12 +111,12 @@ module _ (d : Deal) (b : Histories) (n : Notes) (v : ℕ) (legal : IsLegalBook d
     places = h.places;
     knows = knows_book;
     far = far_after;
-    sound = restart_sound d v n.known (relearnt d v b) (signed_in n.signed) after_legal knows_more h.sound.rules;
+    sound = restart_sound d v n.known (relearnt d v b) (signed_hashkey n.signed) after_legal knows_more h.sound.rules;
   }
 
   -- and the hashkey of the act
-  pub hold_recorded : (w : Wallet) (x : Action) → IsWallet d v w → IsAccepted d → IsIn x (due d v w (signed_in n.signed) n.known)
-      → Holds d b (record { known = relearnt d v b; signed = signed_after n.signed x.call }) v
+  pub hold_recorded : (w : Wallet) (x : Action) → IsWallet d v w → IsAccepted d → IsElement x (due d v w (signed_hashkey n.signed) n.known)
+      → Holds d b (record { known = relearnt d v b; signed = signed_through_call n.signed x.call }) v
   hold_recorded w x wallet fits i = record {
     one_each = after_length;
     places = signed_length n.signed x.call ∙ h.places;
@@ -124,12 +124,12 @@ module _ (d : Deal) (b : Histories) (n : Notes) (v : ℕ) (legal : IsLegalBook d
     far = far_after;
     sound =
         subst (λ f. IsSound d (relearnt d v b) f v) (sym (signed_is n.signed x.call (low (due_now d b n v w x wallet fits i h))))
-        (signing_sound d v n.known (relearnt d v b) (signed_in n.signed) after_legal knows_more h.sound.rules w x wallet fits i);
+        (signing_sound d v n.known (relearnt d v b) (signed_hashkey n.signed) after_legal knows_more h.sound.rules w x wallet fits i);
   }
     where
-      low : IsDue d v w (signed_in n.signed) n.known n.known x.arc x.call → (key : Hashkey) → x.call ≡ Unlock key → key.lock < length n.signed
+      low : IsDue d v w (signed_hashkey n.signed) n.known n.known x.arc x.call → (key : Hashkey) → x.call ≡ Unlock key → key.lock < length n.signed
       low is key e =
-          let has : noted (signed_in n.signed) x.call key.lock ≡ Some key =
-          ap (λ c. noted (signed_in n.signed) c key.lock) e
-          ∙ ap (λ z. cond z (Some key) (signed_in n.signed key.lock)) (eq-eqb key.lock key.lock refl) in
+          let has : noted (signed_hashkey n.signed) x.call key.lock ≡ Some key =
+          ap (λ c. noted (signed_hashkey n.signed) c key.lock) e
+          ∙ ap (λ z. cond z (Some key) (signed_hashkey n.signed key.lock)) (eq-eqb key.lock key.lock refl) in
           subst (λ m. key.lock < m) (sym h.places) (is.keys key.lock key has).below

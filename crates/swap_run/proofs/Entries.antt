@@ -1,4 +1,5 @@
--- A history after a tick or a call is as before, or has one legal entry more; a call leaves what the laws of machines say.
+-- A history after a tick or a call is as before, or has one legal entry more; a call leaves what
+-- the laws of machines say.
 use Rattle.std.proofs.Common.{◌≡◌, ℕ, ◌+◌, ◌≤◌, Bool, true, false, cond, not, List, [], ◌∷◌, ◌++◌, refl, sym}
 use Rattle.std.proofs.Common.{ap}
 use Rattle.std.specs.List.{list_all}
@@ -14,7 +15,7 @@ use Rattle.ledger_core.specs.declared.entry.What.TheVariants.{Tick}
 use Rattle.ledger_core.specs.declared.entry.Entry.{Entry}
 use Rattle.ledger_core.specs.History.{height, rows, history_reply, is_full, is_clock_full}
 use Rattle.ledger_core.specs.Ledger.{tick_entry, is_sender_full, after_call}
-use Rattle.swap_rules.specs.Machine.{entry_of}
+use Rattle.swap_rules.specs.Machine.{appended_entry}
 use Rattle.ledger_core.proofs.History.{not-true-of}
 use Rattle.swap_rules.proofs.Conducting.{Next, Still, Pushed}
 use Rattle.swap_run.specs.Run.{is_clock_full_reply, after_tick}
@@ -68,6 +69,6 @@ has_room d a past p Refund f = rw f (first_row-not (tail (rows d a past p Refund
 has_room d a past p (Transfer to units) f = rw f (first_row-not (tail (rows d a past p (Transfer to units))) refl)
 
 -- a call of a sender that has room leaves an entry
-pub call_pushes : (d : Deal) (a : ℕ) (h : List Entry) (p : ℕ) (c : Call) → is_full h p ≡ false → after_call d a p c h ≡ h ++ entry_of d a h p c ∷ []
+pub call_pushes : (d : Deal) (a : ℕ) (h : List Entry) (p : ℕ) (c : Call) → is_full h p ≡ false → after_call d a p c h ≡ h ++ appended_entry d a h p c ∷ []
 unfolding after_call
-call_pushes d a h p c f = ap (λ x. cond x h (h ++ entry_of d a h p c ∷ [])) (has_room d a h p c f)
+call_pushes d a h p c f = ap (λ x. cond x h (h ++ appended_entry d a h p c ∷ [])) (has_room d a h p c f)

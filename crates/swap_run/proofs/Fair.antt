@@ -18,7 +18,7 @@ use Rattle.swap_rules.proofs.Prefixes.{begins_more, begins_height, same_or_not}
 use Rattle.swap_rules.proofs.Growth.{Grows}
 use Rattle.swap_rules.proofs.Rounds.{rounds_on_time}
 use Rattle.swap_rules.proofs.Dealing.{all_dealt}
-use Rattle.party_wallet.specs.Value.{signed_in}
+use Rattle.party_wallet.specs.Value.{signed_hashkey}
 use Rattle.swap_run.specs.Run.{Cast, State, conforms, state_notes, next_action, start}
 use Rattle.swap_run.specs.Laws.{IsReadyCast, IsGood}
 use Rattle.swap_run.specs.Fair.{repeat, turn, turns, the_horizon, raised, round, has_ended, round_unless_ended, finish}
@@ -132,10 +132,10 @@ module _ (c : Cast) (ready : IsReadyCast c) (all : (v : ℕ) → v < c.deal.grap
             let old = m.good.notes v lv (all v lv) in
             record {
               known = (state_notes m.mid v).known;
-              signed = signed_in (state_notes m.mid v).signed;
+              signed = signed_hashkey (state_notes m.mid v).signed;
               seen = m.seen;
               knows = λ a. subst (λ n. Knows v (history n.known a) (history (round c s).book a)) known_is (new.knows a);
-              done = first_none (due c.deal v (c.wallet v) (signed_in (state_notes m.mid v).signed) (state_notes m.mid v).known) m.rest;
+              done = first_none (due c.deal v (c.wallet v) (signed_hashkey (state_notes m.mid v).signed) (state_notes m.mid v).known) m.rest;
               top = λ a. known_low r s m.mid v a x m.calm (old.knows a);
             };
       }

@@ -1,5 +1,5 @@
--- A fair finish ends with each ledger above the horizon, and keeps what every run keeps; it is rounds until that holds, and leaves no ledger higher
--- than it must.
+-- A fair finish ends with each ledger above the horizon, and keeps what every run keeps; it is
+-- rounds until that holds, and leaves no ledger higher than it must.
 use Rattle.std.proofs.Common.{◌≡◌, ℕ, suc, zero, ◌+◌, ◌<◌, ◌≤◌, nat_lt, nat_le, Bool, true, false, cond, length, refl, sym, ap, ◌∙◌, arith, leb-true}
 use Rattle.std.proofs.Common.{leb-false, ltb-true, lt-ltb}
 use Rattle.swap_base.proofs.Lists.{list_all-in, list_all-from, in_range, from_range}

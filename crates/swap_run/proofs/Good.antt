@@ -1,10 +1,11 @@
--- A run begins in a good state, each event leaves the state good, and in a good state the book is legal and every conforming party is conducted.
+-- A run begins in a good state, each event leaves the state good, and in a good state the book is
+-- legal and every conforming party is conducted.
 use Rattle.std.proofs.Common.{if◌then◌else◌, ◌≡◌, ◌≢◌, ◌⊎◌, ℕ, suc, ◌<◌, ◌≤◌, ◌==◌, nat_lt, Bool, true, false, cond, List, [], ◌∷◌, ◌++◌, length, fold, Option}
 use Rattle.std.proofs.Common.{Some, None, refl, sym, ap, ◌∙◌, subst, inl, inr, arith, eqb-true, ltb-true, ltb-false, set, slice_set, replicate, get_or, All}
 use Rattle.std.proofs.lemmas.Bool.{false≢true}
 use Rattle.std.proofs.lemmas.List.{get_or-set_same, get_or-set_other, get_or-map, length-map, length-set, length-replicate, get_or-replicate}
 use Rattle.std.proofs.Math.ListN.{get_or-eq_default}
-use Rattle.swap_base.specs.Lists.{IsIn, IsMoment}
+use Rattle.swap_base.specs.Lists.{IsElement, IsMoment}
 use Rattle.swap_digraph.specs.declared.deal.Deal.{Deal}
 use Rattle.ledger_core.specs.declared.entry.Call.{Call}
 use Rattle.ledger_core.specs.declared.entry.Call.TheVariants.{Unlock}
@@ -21,7 +22,7 @@ use Rattle.swap_job.specs.declared.event.Event.TheVariants.{Tick, Look, Act, Cal
 use Rattle.swap_job.specs.Step.{CanStep, CanTick, CanCall}
 use Rattle.swap_job.specs.Resolved.{resolved}
 use Rattle.deviators.specs.Script.{next_call, moves_left}
-use Rattle.deviators.specs.View.{IsAnswerOf, MayAnswer}
+use Rattle.deviators.specs.View.{IsPartyAnswer, MayAnswer}
 use Rattle.swap_job.specs.declared.job.Role.{Role}
 use Rattle.swap_job.specs.declared.job.Role.TheVariants.{Conforming, Manual, Script, Strategy}
 use Rattle.deviators.proofs.Scripts.{may_resolve, next_may, left_fit}
@@ -30,14 +31,14 @@ use Rattle.ledger_core.proofs.History.{not-true}
 use Rattle.swap_rules.proofs.Prefixes.{begins_refl, same_or_not}
 use Rattle.swap_rules.proofs.Machines.{knowledge_conducts, rules_transfer}
 use Rattle.swap_rules.proofs.Conducting.{Next, next_call as next_of_call, next_legal, next_grows, knows_all, history_same}
-use Rattle.party_wallet.specs.Value.{signed_in}
-use Rattle.swap_run.specs.Run.{Cast, Notes, State, conforms, party_role, state_notes, party_plan, signed_after, after_tick, known_up_to, look, make}
+use Rattle.party_wallet.specs.Value.{signed_hashkey}
+use Rattle.swap_run.specs.Run.{Cast, Notes, State, conforms, party_role, state_notes, party_plan, signed_through_call, after_tick, notes_with_ledger, look, make}
 use Rattle.swap_run.specs.Run.{next_action}
-use Rattle.swap_run.specs.Run.{is_recorded, recorded_after, relearnt, crash}
-use Rattle.swap_run.specs.Run.{act, watch, take_call, after_turn, follow, question, after_question, ask, answer_for, act_as}
+use Rattle.swap_run.specs.Run.{is_recorded, recorded_hashkeys, relearnt, crash}
+use Rattle.swap_run.specs.Run.{act, watch, take_call, after_turn, follow, question, after_question, ask, answered_call, role_act}
 use Rattle.swap_run.specs.Run.{step, no_histories, no_notes, first_plan, start, run}
 use Rattle.ledger_core.specs.Ledger.{after_call}
-use Rattle.swap_job.specs.Fitting.{is_near, IsMoveOf}
+use Rattle.swap_job.specs.Fitting.{is_near, IsPartyMove}
 use Rattle.swap_run.specs.Laws.{IsReadyCast, AreGoodNotes, IsGoodPlan, IsGood, StartIsGood, StepsAreGood, GoodIsKept, RunsAreKept, UnlocksAreSigned}
 use Rattle.swap_run.proofs.Entries.{next_tick}
 use Rattle.swap_run.proofs.Noted.{Holds, hold_other, hold_look, hold_act, due_now}
@@ -95,7 +96,7 @@ good_take : (c : Cast) (s : State) (v : ℕ) (o : Option (ℕ × Call)) → v < 
     → IsGood c (take_call c s v o)
 good_take c s v None lv out may g = g
 good_take c s v (Some x) lv out may g =
-    let is : IsAnswerOf c.deal v x = may x refl in
+    let is : IsPartyAnswer c.deal v x = may x refl in
     let n = next_of_call c.deal x.0 (history s.book x.0) v x.1 is.near is.fits in
     let g1 = good_other c s x.0 (after_call c.deal x.0 v x.1 (history s.book x.0)) (Party v) (Made x.1) is.arc n
     (λ u cu. not-true (v == u) (λ e. false≢true (sym out ∙ (ap (conforms c) (eqb-true v u e) ∙ cu)))) g in
@@ -126,16 +127,16 @@ good_follow c s v lv out g =
     (next_call c.deal c.seeds (party_plan s v).known (party_plan s v).moves) lv out
     (script_may c s v lv g)
     (good_turn c s v (moves_left (party_plan s v).known (party_plan s v).moves) lv
-    (left_fit (IsMoveOf c.deal c.seeds v) (party_plan s v).known (party_plan s v).moves p.moves) g)
+    (left_fit (IsPartyMove c.deal c.seeds v) (party_plan s v).known (party_plan s v).moves p.moves) g)
 
 good_ask : (c : Cast) (s : State) (v : ℕ) (name : List ℕ) → v < c.deal.graph.n → conforms c v ≡ false → IsGood c s → IsGood c (ask c s v name)
 good_ask c s v name lv out g =
-    good_take c (after_question s v name) v (answer_for c.deal v (c.answers (length s.asked))) lv out (answer_may c.deal v (c.answers (length s.asked)))
+    good_take c (after_question s v name) v (answered_call c.deal v (c.answers (length s.asked))) lv out (answer_may c.deal v (c.answers (length s.asked)))
     (good_asked c (after_turn s v (party_plan s v).moves) (s.asked ++ question s v name ∷ [])
     (good_turn c s v (party_plan s v).moves lv (g.plans v lv).moves g))
 
 -- an act of a party that doesn't conform
-good_deviate : (c : Cast) (s : State) (v : ℕ) (role : Role) → v < c.deal.graph.n → conforms c v ≡ false → IsGood c s → IsGood c (act_as c s v role)
+good_deviate : (c : Cast) (s : State) (v : ℕ) (role : Role) → v < c.deal.graph.n → conforms c v ≡ false → IsGood c s → IsGood c (role_act c s v role)
 good_deviate c s v Conforming lv out g = g
 good_deviate c s v Manual lv out g = g
 good_deviate c s v (Script moves) lv out g = good_follow c s v lv out g
@@ -145,7 +146,7 @@ pub good_look : (c : Cast) (s : State) (v a : ℕ) → v < c.deal.graph.n → a 
     → IsGood c (look s v a)
 good_look c s v a lv below near g = record {
   legal = g.legal;
-  one_each = length-set s.notes v (known_up_to (state_notes s v) a (history s.book a)) ∙ g.one_each;
+  one_each = length-set s.notes v (notes_with_ledger (state_notes s v) a (history s.book a)) ∙ g.one_each;
   notes = λ u l cu. go u l cu (same_or_not u v);
   plan_each = g.plan_each;
   plans = g.plans;
@@ -153,16 +154,16 @@ good_look c s v a lv below near g = record {
   where
     go : (u : ℕ) → u < c.deal.graph.n → conforms c u ≡ true → (u ≡ v) ⊎ (u ≢ v) → AreGoodNotes c (look s v a) u
     go u l cu (inl e) = subst (AreGoodNotes c (look s v a)) (sym e)
-        (good_notes c (look s v a) v (known_up_to (state_notes s v) a (history s.book a))
-        (note_same s s.book v (known_up_to (state_notes s v) a (history s.book a)) (subst (λ m. v < m) (sym g.one_each) lv))
+        (good_notes c (look s v a) v (notes_with_ledger (state_notes s v) a (history s.book a))
+        (note_same s s.book v (notes_with_ledger (state_notes s v) a (history s.book a)) (subst (λ m. v < m) (sym g.one_each) lv))
         (hold_look c.deal s.book (state_notes s v) v a below near g.legal (holds c s v (g.notes v lv (ap (conforms c) (sym e) ∙ cu)))))
     go u l cu (inr n) =
-        good_notes c (look s v a) u (state_notes s u) (note_other s s.book v u (known_up_to (state_notes s v) a (history s.book a)) n)
+        good_notes c (look s v a) u (state_notes s u) (note_other s s.book v u (notes_with_ledger (state_notes s v) a (history s.book a)) n)
         (holds c s u (g.notes u l cu))
 
 -- a due call of v
 pub good_make : (c : Cast) (s : State) (v : ℕ) (x : Action) → IsReadyCast c → v < c.deal.graph.n → conforms c v ≡ true
-    → IsIn x (due c.deal v (c.wallet v) (signed_in (state_notes s v).signed) (state_notes s v).known) → IsGood c s → IsGood c (make c.deal s v (Some x))
+    → IsElement x (due c.deal v (c.wallet v) (signed_hashkey (state_notes s v).signed) (state_notes s v).known) → IsGood c s → IsGood c (make c.deal s v (Some x))
 good_make c s v x ready lv cv i g =
     let hv = holds c s v (g.notes v lv cv) in
     let is = due_now c.deal s.book (state_notes s v) v (c.wallet v) x (ready.wallets v lv cv) ready.accepted i hv in
@@ -185,7 +186,7 @@ good_make c s v x ready lv cv i g =
           known =
               set (state_notes s v).known x.arc (after_call c.deal x.arc v x.call (history s.book x.arc));
           signed =
-              signed_after (state_notes s v).signed x.call;
+              signed_through_call (state_notes s v).signed x.call;
         })
         (note_same s (set s.book x.arc (after_call c.deal x.arc v x.call (history s.book x.arc))) v _ (subst (λ m. v < m) (sym g.one_each) lv))
         (hold_act c.deal s.book (state_notes s v) v (c.wallet v) x (ready.wallets v lv cv) ready.accepted g.legal i (holds c s v (g.notes v lv cv))))
@@ -200,7 +201,7 @@ good_act c s v ready lv cv g = go (next_action c s v) refl
   where
     go : (o : Option Action) → next_action c s v ≡ o → IsGood c (make c.deal s v o)
     go None e = g
-    go (Some x) e = good_make c s v x ready lv cv (first_in (due c.deal v (c.wallet v) (signed_in (state_notes s v).signed) (state_notes s v).known) x e) g
+    go (Some x) e = good_make c s v x ready lv cv (first_in (due c.deal v (c.wallet v) (signed_hashkey (state_notes s v).signed) (state_notes s v).known) x e) g
 
 -- A crash leaves a run good.
 module _ (c : Cast) (s : State) (v k image : ℕ) (ready : IsReadyCast c) (lv : v < c.deal.graph.n) (cv : conforms c v ≡ true) (g : IsGood c s) where
@@ -208,17 +209,17 @@ module _ (c : Cast) (s : State) (v k image : ℕ) (ready : IsReadyCast c) (lv : 
   hv = holds c s v (g.notes v lv cv)
 
   hold_crash : (o : Option Action) → next_action c s v ≡ o
-      → Holds c.deal s.book (record { known = relearnt c.deal v s.book; signed = recorded_after (state_notes s v).signed o k image }) v
+      → Holds c.deal s.book (record { known = relearnt c.deal v s.book; signed = recorded_hashkeys (state_notes s v).signed o k image }) v
   hold_crash None e = hold_restart c.deal s.book (state_notes s v) v g.legal hv
   hold_crash (Some x) e = kept (is_recorded k image)
     where
       kept : (y : Bool) → Holds c.deal s.book (record {
         known = relearnt c.deal v s.book;
-        signed = if y then signed_after (state_notes s v).signed x.call else (state_notes s v).signed;
+        signed = if y then signed_through_call (state_notes s v).signed x.call else (state_notes s v).signed;
       }) v
       kept true =
           hold_recorded c.deal s.book (state_notes s v) v g.legal hv (c.wallet v) x (ready.wallets v lv cv) ready.accepted
-          (first_in (due c.deal v (c.wallet v) (signed_in (state_notes s v).signed) (state_notes s v).known) x e)
+          (first_in (due c.deal v (c.wallet v) (signed_hashkey (state_notes s v).signed) (state_notes s v).known) x e)
       kept false = hold_restart c.deal s.book (state_notes s v) v g.legal hv
 
   pub crash_is_good : IsGood c (crash c s v k image)
@@ -231,7 +232,7 @@ module _ (c : Cast) (s : State) (v k image : ℕ) (ready : IsReadyCast c) (lv : 
   }
     where
       new : Notes
-      new = record { known = relearnt c.deal v s.book; signed = recorded_after (state_notes s v).signed (next_action c s v) k image }
+      new = record { known = relearnt c.deal v s.book; signed = recorded_hashkeys (state_notes s v).signed (next_action c s v) k image }
 
       go : (u : ℕ) → u < c.deal.graph.n → conforms c u ≡ true → (u ≡ v) ⊎ (u ≢ v) → AreGoodNotes c (crash c s v k image) u
       go u l cu (inl e) =
@@ -249,7 +250,7 @@ steps_are_good c s (Look v a) ready can g = go (conforms c v)
     go false = good_watch c s v a can.known can.arc can.adjacent g
 steps_are_good c s (Act v) ready can g = go (conforms c v) refl
   where
-    go : (x : Bool) → conforms c v ≡ x → IsGood c (cond x (act c s v) (act_as c s v (party_role c v)))
+    go : (x : Bool) → conforms c v ≡ x → IsGood c (cond x (act c s v) (role_act c s v (party_role c v)))
     go true e = good_act c s v ready can e g
     go false e = good_deviate c s v (party_role c v) can e g
 steps_are_good c s (Calls p mv) ready can g = good_call c s p mv can g
@@ -306,7 +307,7 @@ start_is_good c ready = record {
       });
 }
   where
-    none : (i : ℕ) (key : _) → signed_in (no_notes c.deal).signed i ≡ Some key → ⊥
+    none : (i : ℕ) (key : _) → signed_hashkey (no_notes c.deal).signed i ≡ Some key → ⊥
     none i key q = cc (sym (replicated (length c.deal.leaders) i None) ∙ q)
 
 -- Runs.
@@ -315,13 +316,13 @@ pub good_is_kept : GoodIsKept
 good_is_kept c s ready g = record {
   legal = g.legal;
   conducted = λ v l cv. let n =
-      g.notes v l cv in knowledge_conducts c.deal (state_notes s v).known s.book (signed_in (state_notes s v).signed) v g.legal n.knows n.sound.rules;
+      g.notes v l cv in knowledge_conducts c.deal (state_notes s v).known s.book (signed_hashkey (state_notes s v).signed) v g.legal n.knows n.sound.rules;
 }
 
 pub unlocks_are_signed : UnlocksAreSigned
 unlocks_are_signed c s v a past e key g lv cv m q =
     let n = g.notes v lv cv in
-    ((rules_transfer c.deal (state_notes s v).known s.book (signed_in (state_notes s v).signed) v n.knows n.sound.rules).own a past e (Unlock key) m q).2
+    ((rules_transfer c.deal (state_notes s v).known s.book (signed_hashkey (state_notes s v).signed) v n.knows n.sound.rules).own a past e (Unlock key) m q).2
 
 pub runs_are_good : (c : Cast) (events : List Event) (s : State) → IsReadyCast c → All (CanStep c.deal c.conforming c.seeds) events → IsGood c s
     → IsGood c (fold (step c) s events)

@@ -1,11 +1,12 @@
--- What a conforming party has noted stays right: after entries of others, a look of its own, and a due call of its own.
+-- What a conforming party has noted stays right: after entries of others, a look of its own, and a
+-- due call of its own.
 use Rattle.std.proofs.Common.{append_assoc, ◌≡◌, ◌≢◌, ◌⊎◌, ℕ, ◌<◌, ◌≤◌, ◌==◌, nat_lt, Bool, true, false, cond, List, [], ◌∷◌, ◌++◌, length, Option}
 use Rattle.std.proofs.Common.{Some, None, refl, sym, ap, ◌∙◌, subst, inl, inr, eqb-true, eq-eqb, ltb-true, ltb-false, arith, zero-add, set}
 use Rattle.std.proofs.lemmas.List.{length-set, set-set}
 use Rattle.std.proofs.lemmas.List.FromFn.{get_or-map-range_with_len, length-map-range_with_len}
 use Rattle.std.proofs.lemmas.Bool.{false≢true}
 use Rattle.std.proofs.Math.ListN.{get_or-eq_default}
-use Rattle.swap_base.specs.Lists.{IsIn}
+use Rattle.swap_base.specs.Lists.{IsElement}
 use Rattle.swap_base.proofs.Lists.{from_append}
 use Rattle.swap_digraph.specs.declared.deal.Deal.{Deal}
 use Rattle.hashkey_path.specs.declared.hashkey.Hashkey.{Hashkey}
@@ -26,40 +27,40 @@ use Rattle.swap_rules.proofs.Machines.{learn_sound, call_sound}
 use Rattle.swap_rules.proofs.Due.{IsDue, is_due}
 use Rattle.swap_rules.proofs.Conducting.{Next, Still, Pushed, history_same, history_other, knows_all}
 use Rattle.ledger_core.specs.Ledger.{after_call}
-use Rattle.party_wallet.specs.Value.{signed_in}
-use Rattle.swap_run.specs.Run.{Notes, signed_after, known_up_to}
+use Rattle.party_wallet.specs.Value.{signed_hashkey}
+use Rattle.swap_run.specs.Run.{Notes, signed_through_call, notes_with_ledger}
 
 -- The hashkeys that a call signs, in a list and as a function.
 
-pub signed_below : (signed : List (Option Hashkey)) (c : Call) (i : ℕ) → i < length signed → signed_in (signed_after signed c) i ≡ noted (signed_in signed) c i
-signed_below signed c i lt = get_or-map-range_with_len (noted (signed_in signed) c) 0 (length signed) i i None lt (zero-add i)
+pub signed_below : (signed : List (Option Hashkey)) (c : Call) (i : ℕ) → i < length signed → signed_hashkey (signed_through_call signed c) i ≡ noted (signed_hashkey signed) c i
+signed_below signed c i lt = get_or-map-range_with_len (noted (signed_hashkey signed) c) 0 (length signed) i i None lt (zero-add i)
 
-pub signed_length : (signed : List (Option Hashkey)) (c : Call) → length (signed_after signed c) ≡ length signed
-signed_length signed c = length-map-range_with_len (noted (signed_in signed) c) 0 (length signed)
+pub signed_length : (signed : List (Option Hashkey)) (c : Call) → length (signed_through_call signed c) ≡ length signed
+signed_length signed c = length-map-range_with_len (noted (signed_hashkey signed) c) 0 (length signed)
 
 none_above : (signed : List (Option Hashkey)) (c : Call) → ((key : Hashkey) → c ≡ Unlock key → key.lock < length signed) → (i : ℕ) → length signed ≤ i
-    → noted (signed_in signed) c i ≡ None
+    → noted (signed_hashkey signed) c i ≡ None
 none_above signed (Publish t) below i le = get_or-eq_default signed None le
 none_above signed (Unlock key) below i le =
     let lt : key.lock < length signed = below key refl in
     let apart : i ≢ key.lock = λ q. absurd (omega (arith, q, lt, le)) in
-    ap (λ b. cond b (Some key) (signed_in signed i)) (not-true (i == key.lock) (λ t. apart (eqb-true i key.lock t))) ∙ get_or-eq_default signed None le
+    ap (λ b. cond b (Some key) (signed_hashkey signed i)) (not-true (i == key.lock) (λ t. apart (eqb-true i key.lock t))) ∙ get_or-eq_default signed None le
 none_above signed Claim below i le = get_or-eq_default signed None le
 none_above signed Refund below i le = get_or-eq_default signed None le
 none_above signed (Transfer to units) below i le = get_or-eq_default signed None le
 
 signed_at : (signed : List (Option Hashkey)) (c : Call) → ((key : Hashkey) → c ≡ Unlock key → key.lock < length signed) → (i : ℕ)
-    → signed_in (signed_after signed c) i ≡ noted (signed_in signed) c i
+    → signed_hashkey (signed_through_call signed c) i ≡ noted (signed_hashkey signed) c i
 signed_at signed c below i = go (nat_lt i (length signed)) refl
   where
-    go : (b : Bool) → nat_lt i (length signed) ≡ b → signed_in (signed_after signed c) i ≡ noted (signed_in signed) c i
+    go : (b : Bool) → nat_lt i (length signed) ≡ b → signed_hashkey (signed_through_call signed c) i ≡ noted (signed_hashkey signed) c i
     go true e = signed_below signed c i (ltb-true i (length signed) e)
     go false e =
         let le : length signed ≤ i = ltb-false i (length signed) e in
-        get_or-eq_default (signed_after signed c) None (subst (λ m. m ≤ i) (sym (signed_length signed c)) le) ∙ sym (none_above signed c below i le)
+        get_or-eq_default (signed_through_call signed c) None (subst (λ m. m ≤ i) (sym (signed_length signed c)) le) ∙ sym (none_above signed c below i le)
 
 pub signed_is : (signed : List (Option Hashkey)) (c : Call) → ((key : Hashkey) → c ≡ Unlock key → key.lock < length signed)
-    → signed_in (signed_after signed c) ≡ noted (signed_in signed) c
+    → signed_hashkey (signed_through_call signed c) ≡ noted (signed_hashkey signed) c
 signed_is signed c below = λ j i. signed_at signed c below i j
 
 -- Notes of v that are right over a book.
@@ -68,7 +69,7 @@ pub record Holds (d : Deal) (b : Histories) (n : Notes) (v : ℕ) : Type 0 where
   pub places : length n.signed ≡ length d.leaders
   pub knows : (a : ℕ) → Knows v (history n.known a) (history b a)
   pub far : (a : ℕ) → a < length d.graph.arcs → is_near d v a ≡ false → history n.known a ≡ []
-  pub sound : IsSound d n.known (signed_in n.signed) v
+  pub sound : IsSound d n.known (signed_hashkey n.signed) v
 
 -- Entries of others.
 
@@ -80,7 +81,7 @@ knows_on d v a k h g s w kn (Pushed e q es ew le) other = record {
   others = λ x i. at x (from_append kn.rest (e ∷ []) x i);
 }
   where
-    at : (x : Entry) → IsIn x kn.rest ⊎ IsIn x (e ∷ []) → is_sender v x.sender ≡ false
+    at : (x : Entry) → IsElement x kn.rest ⊎ IsElement x (e ∷ []) → is_sender v x.sender ≡ false
     at x (inl j) = kn.others x j
     at x (inr (inl z)) = ap (λ y. is_sender v y.sender) z ∙ (ap (is_sender v) es ∙ other)
     at x (inr (inr z)) = absurd z
@@ -126,7 +127,7 @@ still_far d n v a k near none z lz far = away (same_or_not z a)
     away (inr apart) = history_other n.known a z k apart ∙ none z lz far
 
 pub hold_look : (d : Deal) (b : Histories) (n : Notes) (v a : ℕ) → a < length d.graph.arcs → is_near d v a ≡ true → IsLegalBook d b → Holds d b n v
-    → Holds d b (known_up_to n a (history b a)) v
+    → Holds d b (notes_with_ledger n a (history b a)) v
 hold_look d b n v a below near legal h =
     let kn = h.knows a in
     let here : a < length n.known = subst (λ m. a < m) (sym h.one_each) below in
@@ -137,23 +138,23 @@ hold_look d b n v a below near legal h =
       knows = knows_end v b n.known b a (history b a) here refl (λ z e. h.knows z);
       far = still_far d n v a (history b a) near h.far;
       sound =
-          subst (λ l. IsSound d (set n.known a l) (signed_in n.signed) v) (sym kn.whole)
-          (learn_sound d n.known (signed_in n.signed) v a kn.rest here kn.others (subst (IsLegal d a) kn.whole (legal.legal a there)) h.sound);
+          subst (λ l. IsSound d (set n.known a l) (signed_hashkey n.signed) v) (sym kn.whole)
+          (learn_sound d n.known (signed_hashkey n.signed) v a kn.rest here kn.others (subst (IsLegal d a) kn.whole (legal.legal a there)) h.sound);
     }
 
 -- A due call.
 
 pub due_now : (d : Deal) (b : Histories) (n : Notes) (v : ℕ) (w : Wallet) (x : Action) → IsWallet d v w → IsAccepted d
-    → IsIn x (due d v w (signed_in n.signed) n.known) → Holds d b n v → IsDue d v w (signed_in n.signed) n.known n.known x.arc x.call
+    → IsElement x (due d v w (signed_hashkey n.signed) n.known) → Holds d b n v → IsDue d v w (signed_hashkey n.signed) n.known n.known x.arc x.call
 due_now d b n v w x wallet accepted i h =
-    is_due d v w (signed_in n.signed) n.known n.known h.sound.legal h.sound.rules (λ a. knows_all v (history n.known a)) wallet accepted x i
+    is_due d v w (signed_hashkey n.signed) n.known n.known h.sound.legal h.sound.rules (λ a. knows_all v (history n.known a)) wallet accepted x i
 
 pub hold_act : (d : Deal) (b : Histories) (n : Notes) (v : ℕ) (w : Wallet) (x : Action) → IsWallet d v w → IsAccepted d → IsLegalBook d b
-    → IsIn x (due d v w (signed_in n.signed) n.known) → Holds d b n v
+    → IsElement x (due d v w (signed_hashkey n.signed) n.known) → Holds d b n v
     → Holds d (set b x.arc (after_call d x.arc v x.call (history b x.arc))) (record {
       known =
           set n.known x.arc (after_call d x.arc v x.call (history b x.arc));
-      signed = signed_after n.signed x.call;
+      signed = signed_through_call n.signed x.call;
     }) v
 hold_act d b n v w x wallet accepted legal i h =
     let is = due_now d b n v w x wallet accepted i h in
@@ -161,13 +162,13 @@ hold_act d b n v w x wallet accepted legal i h =
     let here : x.arc < length n.known = subst (λ m. x.arc < m) (sym h.one_each) is.below in
     let there : x.arc < length b = subst (λ m. x.arc < m) (sym legal.one_each) is.below in
     let sound =
-    call_sound d v w n.known (signed_in n.signed) x kn.rest wallet accepted i here kn.others
+    call_sound d v w n.known (signed_hashkey n.signed) x kn.rest wallet accepted i here kn.others
     (subst (IsLegal d x.arc) kn.whole (legal.legal x.arc there)) h.sound in
-    let one : IsSound d (set n.known x.arc (after_call d x.arc v x.call (history n.known x.arc ++ kn.rest))) (noted (signed_in n.signed) x.call) v =
-    subst (λ l. IsSound d l (noted (signed_in n.signed) x.call) v)
+    let one : IsSound d (set n.known x.arc (after_call d x.arc v x.call (history n.known x.arc ++ kn.rest))) (noted (signed_hashkey n.signed) x.call) v =
+    subst (λ l. IsSound d l (noted (signed_hashkey n.signed) x.call) v)
     (set-set n.known x.arc (history n.known x.arc ++ kn.rest) (after_call d x.arc v x.call (history n.known x.arc ++ kn.rest))) sound in
-    let two : IsSound d (set n.known x.arc (after_call d x.arc v x.call (history b x.arc))) (noted (signed_in n.signed) x.call) v =
-    subst (λ l. IsSound d (set n.known x.arc (after_call d x.arc v x.call l)) (noted (signed_in n.signed) x.call) v) (sym kn.whole) one in
+    let two : IsSound d (set n.known x.arc (after_call d x.arc v x.call (history b x.arc))) (noted (signed_hashkey n.signed) x.call) v =
+    subst (λ l. IsSound d (set n.known x.arc (after_call d x.arc v x.call l)) (noted (signed_hashkey n.signed) x.call) v) (sym kn.whole) one in
     record {
       one_each = length-set n.known x.arc (after_call d x.arc v x.call (history b x.arc)) ∙ h.one_each;
       places = signed_length n.signed x.call ∙ h.places;
@@ -179,9 +180,9 @@ hold_act d b n v w x wallet accepted legal i h =
       sound = subst (λ f. IsSound d (set n.known x.arc (after_call d x.arc v x.call (history b x.arc))) f v) (sym (signed_is n.signed x.call (low is))) two;
     }
   where
-    low : IsDue d v w (signed_in n.signed) n.known n.known x.arc x.call → (key : Hashkey) → x.call ≡ Unlock key → key.lock < length n.signed
+    low : IsDue d v w (signed_hashkey n.signed) n.known n.known x.arc x.call → (key : Hashkey) → x.call ≡ Unlock key → key.lock < length n.signed
     low is key e =
-        let has : noted (signed_in n.signed) x.call key.lock ≡ Some key =
-        ap (λ c. noted (signed_in n.signed) c key.lock) e
-        ∙ ap (λ z. cond z (Some key) (signed_in n.signed key.lock)) (eq-eqb key.lock key.lock refl) in
+        let has : noted (signed_hashkey n.signed) x.call key.lock ≡ Some key =
+        ap (λ c. noted (signed_hashkey n.signed) c key.lock) e
+        ∙ ap (λ z. cond z (Some key) (signed_hashkey n.signed key.lock)) (eq-eqb key.lock key.lock refl) in
         subst (λ m. key.lock < m) (sym h.places) (is.keys key.lock key has).below

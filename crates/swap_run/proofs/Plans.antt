@@ -14,13 +14,13 @@ use Rattle.ledger_core.specs.History.{fit, IsLegal, IsLegalMoment}
 use Rattle.ledger_core.specs.Book.{Histories, history, IsLegalBook}
 use Rattle.swap_job.specs.declared.moves.Move.{Move}
 use Rattle.swap_job.specs.Crafted.{Seeds}
-use Rattle.swap_job.specs.Fitting.{IsMoveOf, is_near}
-use Rattle.deviators.specs.View.{IsView, IsAnswerOf, MayAnswer}
+use Rattle.swap_job.specs.Fitting.{IsPartyMove, is_near}
+use Rattle.deviators.specs.View.{IsView, IsPartyAnswer, MayAnswer}
 use Rattle.swap_rules.specs.Machine.{Begins}
 use Rattle.swap_rules.proofs.Growth.{Grows}
 use Rattle.swap_rules.proofs.Prefixes.{begins_refl, begins_more, same_or_not}
 use Rattle.swap_rules.proofs.Conducting.{history_same, history_other}
-use Rattle.swap_run.specs.Run.{Cast, Plan, Question, State, party_role, party_plan, plan_up_to, plans_seen, after_turn, is_planned, is_party_answer, answer_for}
+use Rattle.swap_run.specs.Run.{Cast, Plan, Question, State, party_role, party_plan, plan_with_ledger, plans_seen, after_turn, is_planned, is_party_answer, answered_call}
 use Rattle.swap_run.specs.Laws.{IsGoodPlan, IsGood}
 
 -- Plans among plans.
@@ -36,7 +36,7 @@ plan_grown d seeds v b c n grows g = record {
 
 -- A plan that knows a ledger up to its end.
 plan_seen : (d : Deal) (seeds : Seeds) (v a : ℕ) (b : Histories) (n : Plan) (h : List Entry) → a < length d.graph.arcs → is_near d v a ≡ true
-    → history b a ≡ h → IsGoodPlan d seeds v b n → IsGoodPlan d seeds v b (plan_up_to n a h)
+    → history b a ≡ h → IsGoodPlan d seeds v b n → IsGoodPlan d seeds v b (plan_with_ledger n a h)
 plan_seen d seeds v a b n h la near e g = record {
   one_each = length-set n.known a h ∙ g.one_each;
   begins = λ z. begins z (same_or_not z a);
@@ -92,11 +92,11 @@ pub good_seen : (c : Cast) (s : State) (v a : ℕ) (h : List Entry) → v < c.de
     → history s.book a ≡ h → IsGood c s → IsGood c (record s { plans = plans_seen c s v a h })
 good_seen c s v a h lv la near e g = go (is_planned (party_role c v))
   where
-    go : (b : Bool) → IsGood c (record s { plans = cond b (set s.plans v (plan_up_to (party_plan s v) a h)) s.plans })
-    go true = with_plan c s v (plan_up_to (party_plan s v) a h) lv (plan_seen c.deal c.seeds v a s.book (party_plan s v) h la near e (g.plans v lv)) g
+    go : (b : Bool) → IsGood c (record s { plans = cond b (set s.plans v (plan_with_ledger (party_plan s v) a h)) s.plans })
+    go true = with_plan c s v (plan_with_ledger (party_plan s v) a h) lv (plan_seen c.deal c.seeds v a s.book (party_plan s v) h la near e (g.plans v lv)) g
     go false = with_plans c s s.plans g.plan_each g.plans g
 
-pub good_turn : (c : Cast) (s : State) (v : ℕ) (moves : List Move) → v < c.deal.graph.n → All (IsMoveOf c.deal c.seeds v) moves → IsGood c s
+pub good_turn : (c : Cast) (s : State) (v : ℕ) (moves : List Move) → v < c.deal.graph.n → All (IsPartyMove c.deal c.seeds v) moves → IsGood c s
     → IsGood c (after_turn s v moves)
 good_turn c s v moves lv all g =
     let p = g.plans v lv in
@@ -134,7 +134,7 @@ pub plan_view : (d : Deal) (seeds : Seeds) (v : ℕ) (b : Histories) (n : Plan) 
 plan_view d seeds v b n sized lv legal g = record { sized = sized; party = lv; legal = plan_legal d seeds v b n legal g; far = g.far }
 
 -- an answer that passes the test may be made
-pub answer_may : (d : Deal) (v : ℕ) (o : Option (ℕ × Call)) → MayAnswer d v (answer_for d v o)
+pub answer_may : (d : Deal) (v : ℕ) (o : Option (ℕ × Call)) → MayAnswer d v (answered_call d v o)
 answer_may d v None = λ x q. absurd (cc q)
 answer_may d v (Some x) = go (is_party_answer d v x) refl
   where
@@ -143,4 +143,4 @@ answer_may d v (Some x) = go (is_party_answer d v x) refl
     go true e = λ y q.
         let k = and_parts (nat_lt x.0 (length d.graph.arcs) && is_near d v x.0) (fit d x.0 x.1) e in
         let j = and_parts (nat_lt x.0 (length d.graph.arcs)) (is_near d v x.0) k.0 in
-        subst (IsAnswerOf d v) (same_Some x y q) (record { arc = ltb-true x.0 (length d.graph.arcs) j.0; near = j.1; fits = k.1 })
+        subst (IsPartyAnswer d v) (same_Some x y q) (record { arc = ltb-true x.0 (length d.graph.arcs) j.0; near = j.1; fits = k.1 })

@@ -6,7 +6,7 @@ use Rattle.std.specs.List.{range_with_len}
 use Rattle.std.proofs.lemmas.List.Folds.{list_all-append}
 use Rattle.ledger_core.proofs.History.{not-true}
 use Rattle.std.proofs.lemmas.List.{set-set, set_comm, set-get_or, length-set, get_or-set_same, get_or-set_other}
-use Rattle.swap_base.specs.Lists.{IsIn}
+use Rattle.swap_base.specs.Lists.{IsElement}
 use Rattle.swap_base.proofs.Lists.{from_range, in_range, list_all-in}
 use Rattle.swap_digraph.specs.Graph.{arcs}
 use Rattle.hashkey_path.specs.declared.hashkey.Hashkey.{Hashkey}
@@ -17,15 +17,15 @@ use Rattle.ledger_core.specs.History.{height, is_clock_full}
 use Rattle.ledger_core.proofs.Bounds.{height-push}
 use Rattle.ledger_core.specs.Book.{Histories, history}
 use Rattle.swap_job.specs.declared.event.Event.TheVariants.{Look, Act, Tick}
-use Rattle.party_wallet.specs.Value.{signed_in}
+use Rattle.party_wallet.specs.Value.{signed_hashkey}
 use Rattle.swap_rules.specs.Due.{Action, due, first}
 use Rattle.swap_rules.specs.Rest.{are_ticks, is_ticking}
 use Rattle.swap_rules.proofs.Prefixes.{same_or_not}
 use Rattle.swap_rules.proofs.Conducting.{history_same, history_other}
-use Rattle.swap_run.specs.Run.{Cast, Notes, State, conforms, party_role, is_planned, state_notes, known_up_to, signed_after, after_tick, look}
-use Rattle.swap_run.specs.Run.{watch, make, act, act_as, next_action, step}
+use Rattle.swap_run.specs.Run.{Cast, Notes, State, conforms, party_role, is_planned, state_notes, notes_with_ledger, signed_through_call, after_tick, look}
+use Rattle.swap_run.specs.Run.{watch, make, act, role_act, next_action, step}
 use Rattle.swap_run.specs.Fair.{repeat, adjacent_arcs, looks, acts, most_acts, turn, turns, the_horizon, tick_low, ticks, round, has_ended, round_unless_ended}
-use Rattle.swap_run.specs.Quiet.{over, looked, IsIdle}
+use Rattle.swap_run.specs.Quiet.{overlaid_histories, looked, IsIdle}
 use Rattle.swap_run.proofs.Entries.{tick_full, tick_room}
 use Rattle.swap_run.proofs.Repeats.{repeat_fixed}
 use Rattle.swap_run.proofs.Turns.{others_rest}
@@ -33,20 +33,20 @@ use Rattle.swap_run.proofs.Finish.{round_goes_on}
 
 -- What stands at the arcs of a list is replaced.
 
-replaced : (b : Histories) (a c : ℕ) (x : List Entry) (js : List ℕ) (k : Histories) → (c ≡ a) ⊎ (c ≢ a) → (a ≡ c) ⊎ IsIn a js
-    → (IsIn a js → over b js (set (set k c (history b c)) a x) ≡ over b js (set k c (history b c)))
-    → over b js (set (set k a x) c (history b c)) ≡ over b js (set k c (history b c))
-replaced b a c x js k (inl e) i rest = ap (over b js) (subst (λ z. set (set k z x) c (history b c) ≡ set k c (history b c)) e (set-set k c x (history b c)))
+replaced : (b : Histories) (a c : ℕ) (x : List Entry) (js : List ℕ) (k : Histories) → (c ≡ a) ⊎ (c ≢ a) → (a ≡ c) ⊎ IsElement a js
+    → (IsElement a js → overlaid_histories b js (set (set k c (history b c)) a x) ≡ overlaid_histories b js (set k c (history b c)))
+    → overlaid_histories b js (set (set k a x) c (history b c)) ≡ overlaid_histories b js (set k c (history b c))
+replaced b a c x js k (inl e) i rest = ap (overlaid_histories b js) (subst (λ z. set (set k z x) c (history b c) ≡ set k c (history b c)) e (set-set k c x (history b c)))
 replaced b a c x js k (inr n) (inl e) rest = absurd (n (sym e))
-replaced b a c x js k (inr n) (inr i) rest = ap (over b js) (set_comm k a c x (history b c) (λ e. n (sym e))) ∙ rest i
+replaced b a c x js k (inr n) (inr i) rest = ap (overlaid_histories b js) (set_comm k a c x (history b c) (λ e. n (sym e))) ∙ rest i
 
 -- what is set at an arc of the list
-absorbed : (b : Histories) (a : ℕ) (x : List Entry) (js : List ℕ) (k : Histories) → IsIn a js → over b js (set k a x) ≡ over b js k
+absorbed : (b : Histories) (a : ℕ) (x : List Entry) (js : List ℕ) (k : Histories) → IsElement a js → overlaid_histories b js (set k a x) ≡ overlaid_histories b js k
 absorbed b a x [] k i = absurd i
 absorbed b a x (c ∷ js) k i = replaced b a c x js k (same_or_not c a) i (absorbed b a x js (set k c (history b c)))
 
 -- what was set at its arcs before
-again : (b before : Histories) (js more : List ℕ) (k : Histories) → ((a : ℕ) → IsIn a more → IsIn a js) → over b js (over before more k) ≡ over b js k
+again : (b before : Histories) (js more : List ℕ) (k : Histories) → ((a : ℕ) → IsElement a more → IsElement a js) → overlaid_histories b js (overlaid_histories before more k) ≡ overlaid_histories b js k
 again b before js [] k h = refl
 again b before js (a ∷ more) k h =
     again b before js more (set k a (history before a)) (λ x i. h x (inr i)) ∙ absorbed b a (history before a) js k (h a (inl refl))
@@ -110,15 +110,15 @@ module _ (c : Cast) where
   -- Looks.
 
   looks_at : (v : ℕ) (js : List ℕ) (s : State) → conforms c v ≡ true → v < length s.notes
-      → fold (λ s a. step c s (Look v a)) s js ≡ with_note s v (record (state_notes s v) { known = over s.book js (state_notes s v).known })
+      → fold (λ s a. step c s (Look v a)) s js ≡ with_note s v (record (state_notes s v) { known = overlaid_histories s.book js (state_notes s v).known })
   looks_at v [] s cv l = sym (own_note s v)
   looks_at v (a ∷ js) s cv l =
-      let n = known_up_to (state_notes s v) a (history s.book a) in
+      let n = notes_with_ledger (state_notes s v) a (history s.book a) in
       let e : step c s (Look v a) ≡ with_note s v n = ap (λ (b : Bool). cond b (look s v a) (watch c s v a)) cv in
       let lower : v < length (set s.notes v n) = rw (length-set s.notes v n) l in
       ap (λ (t : State). fold (λ s a. step c s (Look v a)) t js) e ∙ looks_at v js (with_note s v n) cv lower
-      ∙ ap (λ (m : Notes). with_note (with_note s v n) v (record m { known = over s.book js m.known })) (its_note s v n l)
-      ∙ note_twice s v n (record n { known = over s.book js n.known })
+      ∙ ap (λ (m : Notes). with_note (with_note s v n) v (record m { known = overlaid_histories s.book js m.known })) (its_note s v n l)
+      ∙ note_twice s v n (record n { known = overlaid_histories s.book js n.known })
 
   looks_note : (v : ℕ) (s : State) → conforms c v ≡ true → v < length s.notes → looks c v s ≡ with_note s v (looked c.deal s.book v (state_notes s v))
   unfolding looks
@@ -127,7 +127,7 @@ module _ (c : Cast) where
   -- Another party's turn leaves a party's notes.
 
   acts_now : (s : State) (v : ℕ) → conforms c v ≡ true → step c s (Act v) ≡ act c s v
-  acts_now s v cv = ap (λ (b : Bool). cond b (act c s v) (act_as c s v (party_role c v))) cv
+  acts_now s v cv = ap (λ (b : Bool). cond b (act c s v) (role_act c s v (party_role c v))) cv
 
   abbrev known_after : Notes → ℕ → List Entry → List (Option Hashkey) → Notes
   known_after m a h signed = record { known = set m.known a h; signed = signed }
@@ -136,7 +136,7 @@ module _ (c : Cast) where
   make_other s u v n None apart = refl
   make_other s u v n (Some x) apart =
       let h = after_call c.deal x.arc v x.call (history s.book x.arc) in
-      let after = λ (m : Notes). known_after m x.arc h (signed_after m.signed x.call) in
+      let after = λ (m : Notes). known_after m x.arc h (signed_through_call m.signed x.call) in
       ap (λ (m : Notes). record s { book = set s.book x.arc h; notes = set (set s.notes u n) v (after m) }) (other_note s u v n (λ e. apart (sym e)))
       ∙ ap (λ (ns : List Notes). record s { book = set s.book x.arc h; notes = ns }) (set_comm s.notes u v n (after (state_notes s v)) apart)
 
@@ -144,7 +144,7 @@ module _ (c : Cast) where
   act_other s u v n apart cv =
       let same : state_notes (with_note s u n) v ≡ state_notes s v = other_note s u v n (λ e. apart (sym e)) in
       let call : next_action c (with_note s u n) v ≡ next_action c s v
-      = ap (λ (m : Notes). first (due c.deal v (c.wallet v) (signed_in m.signed) m.known)) same in
+      = ap (λ (m : Notes). first (due c.deal v (c.wallet v) (signed_hashkey m.signed) m.known)) same in
       acts_now (with_note s u n) v cv ∙ ap (make c.deal (with_note s u n) v) call ∙ make_other s u v n (next_action c s v) apart
       ∙ ap (λ (t : State). with_note t u n) (sym (acts_now s v cv))
 
@@ -197,7 +197,7 @@ module _ (c : Cast) where
   -- n is what party u notes in s, but for what stands at those arcs
   pub record IsStale (s : State) (u : ℕ) (n : Notes) : Type 0 where
     pub signed : n.signed ≡ (state_notes s u).signed
-    pub known : (b : Histories) → over b (adjacent_arcs c.deal u) n.known ≡ over b (adjacent_arcs c.deal u) (state_notes s u).known
+    pub known : (b : Histories) → overlaid_histories b (adjacent_arcs c.deal u) n.known ≡ overlaid_histories b (adjacent_arcs c.deal u) (state_notes s u).known
 
   pub looks_forget : (s : State) (u : ℕ) (n : Notes) → conforms c u ≡ true → u < length s.notes → IsStale s u n
       → looks c u (with_note s u n) ≡ looks c u s
@@ -362,9 +362,9 @@ module _ (c : Cast) where
         ap (λ (t : State). state_notes (turn c t v) u) (sym (own_note s u)) ∙ ap (λ (t : State). state_notes t u) (turn_other s u v n lv apart l)
         ∙ its_note (turn c s v) u n lower
 
-    forgets_first : (x u : ℕ) (xs : List ℕ) (s : State) (n : Notes) → (x ≡ u) ⊎ (x ≢ u) → (u ≡ x) ⊎ IsIn u xs → conforms c u ≡ true
+    forgets_first : (x u : ℕ) (xs : List ℕ) (s : State) (n : Notes) → (x ≡ u) ⊎ (x ≢ u) → (u ≡ x) ⊎ IsElement u xs → conforms c u ≡ true
         → x < c.deal.graph.n → x < length s.notes → u < length s.notes → IsStale s u n
-        → (IsIn u xs → IsStale (turn c s x) u n → fold (turn c) (with_note (turn c s x) u n) xs ≡ fold (turn c) (turn c s x) xs)
+        → (IsElement u xs → IsStale (turn c s x) u n → fold (turn c) (with_note (turn c s x) u n) xs ≡ fold (turn c) (turn c s x) xs)
         → fold (turn c) (turn c (with_note s u n) x) xs ≡ fold (turn c) (turn c s x) xs
     forgets_first x u xs s n (inl e) i cu lx l lu stale rest =
         ap (λ (t : State). fold (turn c) t xs) (subst (λ z. turn c (with_note s u n) z ≡ turn c s z) (sym e) (turn_forgets s u n cu lu stale))
@@ -374,12 +374,12 @@ module _ (c : Cast) where
         ap (λ (t : State). fold (turn c) t xs) (turn_other s u x n lx (λ e. apart (sym e)) l)
         ∙ rest i (record {
           signed = stale.signed ∙ ap (λ (m : Notes). m.signed) (sym same);
-          known = λ b. stale.known b ∙ ap (λ (m : Notes). over b (adjacent_arcs c.deal u) m.known) (sym same);
+          known = λ b. stale.known b ∙ ap (λ (m : Notes). overlaid_histories b (adjacent_arcs c.deal u) m.known) (sym same);
         })
 
     -- once u has its turn
-    forgets : (u : ℕ) (xs : List ℕ) (s : State) (n : Notes) → IsIn u xs → conforms c u ≡ true → u < c.deal.graph.n → length s.notes ≡ c.deal.graph.n
-        → ((x : ℕ) → IsIn x xs → x < c.deal.graph.n) → IsStale s u n → fold (turn c) (with_note s u n) xs ≡ fold (turn c) s xs
+    forgets : (u : ℕ) (xs : List ℕ) (s : State) (n : Notes) → IsElement u xs → conforms c u ≡ true → u < c.deal.graph.n → length s.notes ≡ c.deal.graph.n
+        → ((x : ℕ) → IsElement x xs → x < c.deal.graph.n) → IsStale s u n → fold (turn c) (with_note s u n) xs ≡ fold (turn c) s xs
     forgets u [] s n i cu lu many low stale = absurd i
     forgets u (x ∷ xs) s n i cu lu many low stale =
         let lx : x < c.deal.graph.n = low x (inl refl) in
@@ -400,7 +400,7 @@ module _ (c : Cast) where
     quiet_turn s v cv l idle =
         let n = looked c.deal s.book v (state_notes s v) in
         let t = with_note s v n in
-        let none : next_action c t v ≡ None = ap (λ (m : Notes). first (due c.deal v (c.wallet v) (signed_in m.signed) m.known)) (its_note s v n l) ∙ idle in
+        let none : next_action c t v ≡ None = ap (λ (m : Notes). first (due c.deal v (c.wallet v) (signed_hashkey m.signed) m.known)) (its_note s v n l) ∙ idle in
         turn_of s v cv ∙ ap (acts c v (most_acts c.deal)) (looks_note v s cv l)
         ∙ repeat_fixed (most_acts c.deal) (λ t. step c t (Act v)) t (acts_now t v cv ∙ ap (make c.deal t v) none)
 
@@ -416,9 +416,9 @@ module _ (c : Cast) where
         let n = looked c.deal s.book v (state_notes s v) in
         let near = adjacent_arcs c.deal v in
         let k = (state_notes s v).known in
-        let twice : over s.book near (over s.book near k) ≡ over s.book near k = again s.book s.book near near k (λ a i. i) in
+        let twice : overlaid_histories s.book near (overlaid_histories s.book near k) ≡ overlaid_histories s.book near k = again s.book s.book near near k (λ a i. i) in
         let now : IsIdle c s.book v n
-        = ap (λ (h : Histories). first (due c.deal v (c.wallet v) (signed_in (state_notes s v).signed) h)) twice ∙ idle in
+        = ap (λ (h : Histories). first (due c.deal v (c.wallet v) (signed_hashkey (state_notes s v).signed) h)) twice ∙ idle in
         subst (λ z. IsIdle c s.book v (state_notes (with_note s z (looked c.deal s.book z (state_notes s z))) v)) e
         (subst (IsIdle c s.book v) (sym (its_note s v n l)) now)
 
@@ -445,10 +445,10 @@ module _ (c : Cast) where
           (subst P (sym (ticks_other s x n)) (forgets_here x (ticks c s) n cx lx (ap length (ticks_notes s) ∙ many) (record {
             signed = ap (λ (m : Notes). m.signed) (sym same);
             known = λ b. again b s.book (adjacent_arcs c.deal x) (adjacent_arcs c.deal x) (state_notes s x).known (λ a i. i)
-                ∙ ap (λ (m : Notes). over b (adjacent_arcs c.deal x) m.known) (sym same);
+                ∙ ap (λ (m : Notes). overlaid_histories b (adjacent_arcs c.deal x) m.known) (sym same);
           }) h)))
 
-      pub skips_for : (xs : List ℕ) (s : State) → ((x : ℕ) → IsIn x xs → x < c.deal.graph.n) → length s.notes ≡ c.deal.graph.n → AllIdle s
+      pub skips_for : (xs : List ℕ) (s : State) → ((x : ℕ) → IsElement x xs → x < c.deal.graph.n) → length s.notes ≡ c.deal.graph.n → AllIdle s
           → P (ticks c s) → P (ticks c (fold (turn c) s xs))
       skips_for [] s low many idle h = h
       skips_for (x ∷ xs) s low many idle h =
@@ -478,7 +478,7 @@ module _ (c : Cast) where
         ap (λ (u : State). (fold (turn c) u xs).book) (quiet_turn s x cx (rw many lx) (idle x lx cx))
         ∙ rest (with_note s x n) (length-set s.notes x n ∙ many) (λ v lv cv. idle_still_by s x v (same_or_not v x) (rw many lv) (idle v lv cv))
 
-    calm : (xs : List ℕ) (s : State) → ((x : ℕ) → IsIn x xs → x < c.deal.graph.n) → length s.notes ≡ c.deal.graph.n → AllIdle s
+    calm : (xs : List ℕ) (s : State) → ((x : ℕ) → IsElement x xs → x < c.deal.graph.n) → length s.notes ≡ c.deal.graph.n → AllIdle s
         → (fold (turn c) s xs).book ≡ s.book
     calm [] s low many idle = refl
     calm (x ∷ xs) s low many idle =

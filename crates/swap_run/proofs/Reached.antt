@@ -4,7 +4,7 @@ use Rattle.std.proofs.Common.{◌∙◌, inl, inr, arith}
 use Rattle.std.specs.List.{range_with_len}
 use Rattle.std.proofs.lemmas.List.Elements.{All-nil, All-cons, All-append}
 use Rattle.std.proofs.lemmas.List.Sums.{fold-append}
-use Rattle.swap_base.specs.Lists.{IsIn}
+use Rattle.swap_base.specs.Lists.{IsElement}
 use Rattle.swap_base.proofs.Lists.{from_filter, from_range}
 use Rattle.swap_digraph.specs.Deal.{party, counterparty}
 use Rattle.swap_digraph.specs.Graph.{arcs}
@@ -38,7 +38,7 @@ module _ (c : Cast) where
     state = y.state ∙ (ap (λ z. fold (step c) z y.events) x.state ∙ sym (fold-append (step c) s x.events y.events));
   }
 
-  pub fold_events : (f : State → ℕ → State) (xs : List ℕ) (s : State) → ((s : State) (x : ℕ) → IsIn x xs → IsReached c s (f s x)) → IsReached c s (fold f s xs)
+  pub fold_events : (f : State → ℕ → State) (xs : List ℕ) (s : State) → ((s : State) (x : ℕ) → IsElement x xs → IsReached c s (f s x)) → IsReached c s (fold f s xs)
   fold_events f [] s h = no_event s
   fold_events f (x ∷ xs) s h = more_events s (f s x) (fold f (f s x) xs) (h s x (inl refl)) (fold_events f xs (f s x) (λ s y i. h s y (inr i)))
 

@@ -1,8 +1,9 @@
--- A round raises each ledger that isn't above the horizon by one height, so that the rounds that are left count down.
+-- A round raises each ledger that isn't above the horizon by one height, so that the rounds that
+-- are left count down.
 use Rattle.std.proofs.Common.{◌≡◌, ℕ, suc, zero, ◌+◌, ◌-◌, ◌<◌, ◌≤◌, nat_lt, nat_le, max, Bool, true, false, cond, List, [], ◌∷◌, length, fold, refl}
 use Rattle.std.proofs.Common.{ap, ap₂, ◌∙◌, inl, inr, arith, leb-false, ltb-false}
 use Rattle.std.specs.List.{range_with_len}
-use Rattle.swap_base.specs.Lists.{IsIn, greatest}
+use Rattle.swap_base.specs.Lists.{IsElement, greatest}
 use Rattle.swap_base.proofs.Lists.{greatest-in, some_fails_all, from_range}
 use Rattle.swap_digraph.specs.declared.deal.Deal.{Deal}
 use Rattle.swap_digraph.specs.Graph.{arcs}
@@ -65,7 +66,7 @@ rounds_raise c s a ready g l = (rounded c ready s g).raises a l
 max_less : (m n : ℕ) → max (m - 1) (n - 1) ≡ max m n - 1
 max_less m n = omega arith
 
-greatest_less : {A : Type 0} (f g : A → ℕ) (xs : List A) → ((x : A) → IsIn x xs → g x ≡ f x - 1) → greatest g xs ≡ greatest f xs - 1
+greatest_less : {A : Type 0} (f g : A → ℕ) (xs : List A) → ((x : A) → IsElement x xs → g x ≡ f x - 1) → greatest g xs ≡ greatest f xs - 1
 greatest_less f g [] h = refl
 greatest_less f g (x ∷ xs) h = ap₂ max (h x (inl refl)) (greatest_less f g xs (λ y i. h y (inr i))) ∙ max_less (f x) (greatest f xs)
 

@@ -1,9 +1,10 @@
--- Rounds in which nobody makes a call: on the way of as many ticks and a round there are no histories but those on the way of the rounds.
+-- Rounds in which nobody makes a call: on the way of as many ticks and a round there are no
+-- histories but those on the way of the rounds.
 use Rattle.std.proofs.Common.{◌≡◌, ◌≢◌, ◌⊎◌, inl, inr, ℕ, zero, suc, ◌<◌, ◌≤◌, Bool, true, false, cond, List, [], ◌∷◌, ◌++◌, length, map, replicate, take}
 use Rattle.std.proofs.Common.{refl, sym, ap, ◌∙◌, subst, arith}
 use Rattle.std.specs.List.{flat_map, range_with_len, take-map}
 use Rattle.std.proofs.lemmas.List.{take-replicate, length-replicate}
-use Rattle.swap_base.specs.Lists.{IsIn}
+use Rattle.swap_base.specs.Lists.{IsElement}
 use Rattle.swap_base.proofs.Lists.{from_range}
 use Rattle.ledger_core.specs.Book.{Histories}
 use Rattle.swap_job.specs.declared.event.Event.{Event}
@@ -11,9 +12,9 @@ use Rattle.swap_job.specs.declared.event.Event.TheVariants.{Look, Act}
 use Rattle.swap_job.specs.declared.job.Role.{Role}
 use Rattle.swap_job.specs.declared.job.Role.TheVariants.{Conforming, Manual, Script, Strategy}
 use Rattle.swap_rules.proofs.Prefixes.{same_or_not}
-use Rattle.swap_run.specs.Run.{Cast, Notes, State, conforms, party_role, is_planned, state_notes, act, act_as, look, watch, continued_run, step}
+use Rattle.swap_run.specs.Run.{Cast, Notes, State, conforms, party_role, is_planned, state_notes, act, role_act, look, watch, continued_run, step}
 use Rattle.swap_run.specs.Fair.{repeat, adjacent_arcs, looks, acts, most_acts, turn, turns, ticks, round, has_ended, round_unless_ended}
-use Rattle.swap_run.specs.Quiet.{over}
+use Rattle.swap_run.specs.Quiet.{overlaid_histories}
 use Rattle.swap_run.specs.Steps.{act_steps, look_steps, pass_steps, round_steps, rounds_steps, tick_steps, turn_steps, turns_steps, unless_steps}
 use Rattle.swap_run.specs.Steps.{IsAlong, IsSkipped}
 use Rattle.swap_run.proofs.Along.{along_start, along_more, along_after, along_split, along_none, along_one, looks_run, acts_run, turn_run, turns_run}
@@ -55,9 +56,9 @@ module _ (c : Cast) where
 
   -- an act of a party that neither conforms nor plans
   act_rests : (v : ℕ) (s : State) → conforms c v ≡ false → is_planned (party_role c v) ≡ false → step c s (Act v) ≡ s
-  act_rests v s out none = ap (λ (b : Bool). cond b (act c s v) (act_as c s v (party_role c v))) out ∙ by (party_role c v) none
+  act_rests v s out none = ap (λ (b : Bool). cond b (act c s v) (role_act c s v (party_role c v))) out ∙ by (party_role c v) none
     where
-      by : (role : Role) → is_planned role ≡ false → act_as c s v role ≡ s
+      by : (role : Role) → is_planned role ≡ false → role_act c s v role ≡ s
       by Conforming e = refl
       by Manual e = refl
       by (Script moves) e = absurd (cc e)
@@ -104,7 +105,7 @@ module _ (c : Cast) where
             acts_part (conforms c x) x u s n b refl lx l lu cu stale (same_or_not x u)
             (subst (λ (t : State). IsAlong c t (act_steps c x) b) (looks_run c x s) i)
 
-    turns_part : (xs : List ℕ) (u : ℕ) (s : State) (n : Notes) (b : Histories) → ((x : ℕ) → IsIn x xs → x < c.deal.graph.n)
+    turns_part : (xs : List ℕ) (u : ℕ) (s : State) (n : Notes) (b : Histories) → ((x : ℕ) → IsElement x xs → x < c.deal.graph.n)
         → length s.notes ≡ c.deal.graph.n → u < c.deal.graph.n → conforms c u ≡ true → IsStale c s u n → IsAlong c s (flat_map (turn_steps c) xs) b
         → IsAlong c (with_note s u n) (flat_map (turn_steps c) xs) b
     turns_part [] u s n b low many lu cu stale k = along_start c (with_note s u n) [] b (along_none c s b k)
@@ -133,7 +134,7 @@ module _ (c : Cast) where
             subst (λ (t : State). IsAlong c t (flat_map (turn_steps c) xs) b) (sym (turn_other c plain s u x n lx (λ e. apart (sym e)) l))
             (rest (turn c s x) (turn_many c plain s x lx l ∙ many) (record {
               signed = stale.signed ∙ ap (λ (m : Notes). m.signed) (sym kept);
-              known = λ h. stale.known h ∙ ap (λ (m : Notes). over h (adjacent_arcs c.deal u) m.known) (sym kept);
+              known = λ h. stale.known h ∙ ap (λ (m : Notes). overlaid_histories h (adjacent_arcs c.deal u) m.known) (sym kept);
             }) i)
 
         go : ((t : State) → length t.notes ≡ c.deal.graph.n → IsStale c t u n → IsAlong c t (flat_map (turn_steps c) xs) b

@@ -1,10 +1,11 @@
--- What a conforming party may still call: at most one call of each rule on each arc, and each due call uses one.
+-- What a conforming party may still call: at most one call of each rule on each arc, and each due
+-- call uses one.
 use Rattle.std.proofs.Common.{append_assoc, length-append, count_by, ◌≡◌, ◌≢◌, ◌⊎◌, ℕ, suc, ◌+◌, ◌*◌, ◌<◌, ◌≤◌, Bool, true, false, not, List, [], ◌∷◌}
 use Rattle.std.proofs.Common.{◌++◌, length, refl, sym, ap, ◌∙◌, inl, inr, arith, map, set, subst}
 use Rattle.std.specs.List.{flat_map}
 use Rattle.std.proofs.lemmas.List.FromFn.{length-map-range_with_len}
 use Rattle.std.proofs.lemmas.List.Sums.{count_by-le-length}
-use Rattle.swap_base.specs.Lists.{IsIn}
+use Rattle.swap_base.specs.Lists.{IsElement}
 use Rattle.swap_base.proofs.Lists.{list_any-in, in_append, in_range}
 use Rattle.swap_digraph.specs.declared.deal.Deal.{Deal}
 use Rattle.swap_digraph.specs.Graph.{arcs}
@@ -61,14 +62,14 @@ left d v known = count_by (open_slot v known) (slots d)
 pub left_most : (d : Deal) (v : ℕ) (known : Histories) → left d v known ≤ most_acts d
 left_most d v known = subst (λ n. left d v known ≤ n) (number_of_slots d) (count_by-le-length (open_slot v known) (slots d))
 
-slot_in : (d : Deal) (r : Rule) (a : ℕ) → IsIn r (deal_rules d) → a < length d.graph.arcs → IsIn (record { rule = r; arc = a }) (slots d)
+slot_in : (d : Deal) (r : Rule) (a : ℕ) → IsElement r (deal_rules d) → a < length d.graph.arcs → IsElement (record { rule = r; arc = a }) (slots d)
 slot_in d r a i l =
     in_flat_map (chain_slots d) (deal_rules d) r (record { rule = r; arc = a }) i (in_map (λ (a : ℕ). let s : Slot = record { rule = r; arc = a } in
     s) (arcs d.graph) a (in_range a (length d.graph.arcs) l))
 
 -- a call that is the first of its rule leaves one slot less
 pub left_less : (d : Deal) (v : ℕ) (known : Histories) (h book : List Entry) (a : ℕ) (e : Entry) (r : Rule) → history (set known a h) a ≡ book ++ e ∷ []
-    → Begins (history known a) book → IsIn r (deal_rules d) → a < length d.graph.arcs
+    → Begins (history known a) book → IsElement r (deal_rules d) → a < length d.graph.arcs
     → has_called v (rule_test r) (history known a) ≡ false → rule_test r (pick_call v e) ≡ true → left d v (set known a h) + 1 ≤ left d v known
 left_less d v known h book a e r there b i l f p = count_less (open_slot v known) (open_slot v (set known a h)) (slots d)
     (λ z q. not-mono (has_called v (rule_test z.rule) (history known z.arc)) (has_called v (rule_test z.rule) (history (set known a h) z.arc)) (λ y.

@@ -10,7 +10,7 @@ use Rattle.swap_job.specs.declared.event.Event.TheVariants.{Act}
 use Rattle.swap_run.specs.Run.{Cast, State, conforms, step}
 use Rattle.swap_run.specs.Laws.{IsGood}
 use Rattle.swap_run.specs.Fair.{repeat, looks, acts, most_acts, turn, turns}
-use Rattle.swap_run.specs.Called.{Called, called, told, is_barred, landed_on, apply_step, turn_on}
+use Rattle.swap_run.specs.Called.{Called, called, told, is_barred, landed_event, apply_step, swept_turn}
 use Rattle.swap_run.specs.CalledLaws.{NoneSwept, StepsOnAreGood}
 use Rattle.swap_run.proofs.Good.{steps_are_good}
 use Rattle.swap_run.proofs.Calls.{passed_is_good}
@@ -27,7 +27,7 @@ open_slot h (Transfer to units) = refl
 step_is : (c : Cast) (s : State) (e : Event) → apply_step (λ a. false) c s e ≡ step c s e
 step_is c s e = go (called c s e)
   where
-    go : (o : Option Called) → landed_on (λ a. false) c s e o ≡ step c s e
+    go : (o : Option Called) → landed_event (λ a. false) c s e o ≡ step c s e
     go None = refl
     go (Some x) = ap (λ b. cond b (told c s e x (history s.book x.arc)) (step c s e)) (open_slot (history s.book x.arc) x.call)
 
@@ -39,7 +39,7 @@ fold_same : {A B : Type 0} (f g : A → B → A) (x : A) (ys : List B) → ((x :
 fold_same f g x [] h = refl
 fold_same f g x (y ∷ ys) h = ap (λ z. fold f z ys) (h x y) ∙ fold_same f g (g x y) ys h
 
-turn_is : (c : Cast) (s : State) (v : ℕ) → turn_on (λ a. false) c s v ≡ turn c s v
+turn_is : (c : Cast) (s : State) (v : ℕ) → swept_turn (λ a. false) c s v ≡ turn c s v
 unfolding turn
 turn_is c s v = go (conforms c v)
   where
@@ -51,7 +51,7 @@ turn_is c s v = go (conforms c v)
 
 pub none_swept : NoneSwept
 unfolding turns
-none_swept c s = (λ e. step_is c s e, fold_same (turn_on (λ a. false) c) (turn c) s (range_with_len 0 c.deal.graph.n) (turn_is c))
+none_swept c s = (λ e. step_is c s e, fold_same (swept_turn (λ a. false) c) (turn c) s (range_with_len 0 c.deal.graph.n) (turn_is c))
 
 -- A step leaves a good state good, whatever is swept.
 
@@ -66,7 +66,7 @@ barred_swept false h (Transfer to units) e = absurd (cc e)
 pub steps_on_are_good : StepsOnAreGood
 steps_on_are_good swept c s e ready can g = go (called c s e) refl
   where
-    go : (o : Option Called) → called c s e ≡ o → IsGood c (landed_on swept c s e o)
+    go : (o : Option Called) → called c s e ≡ o → IsGood c (landed_event swept c s e o)
     go None q = steps_are_good c s e ready can g
     go (Some x) q = at (is_barred (swept x.arc) (history s.book x.arc) x.call) refl
       where

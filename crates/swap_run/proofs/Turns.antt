@@ -1,8 +1,9 @@
--- What a turn leaves: no ledger ticks, the others' notes stay, and a conforming party has seen each arc that touches it and has nothing due.
+-- What a turn leaves: no ledger ticks, the others' notes stay, and a conforming party has seen each
+-- arc that touches it and has nothing due.
 use Rattle.std.proofs.Common.{◌≡◌, ◌≢◌, ◌⊎◌, ℕ, suc, zero, ◌+◌, ◌<◌, ◌==◌, Bool, true, false, cond, ◌||◌, List, [], ◌∷◌, ◌++◌, length, fold, Option}
 use Rattle.std.proofs.Common.{Some, None, refl, sym, ap, ◌∙◌, subst, inl, inr, arith, eq-eqb, set, slice_index_or}
 use Rattle.std.proofs.lemmas.List.Sums.{sum_by-cons}
-use Rattle.swap_base.specs.Lists.{IsIn}
+use Rattle.swap_base.specs.Lists.{IsElement}
 use Rattle.swap_base.proofs.Lists.{in_filter, from_filter, from_range, or-right}
 use Rattle.swap_digraph.specs.declared.deal.Deal.{Deal}
 use Rattle.swap_digraph.specs.Deal.{party, counterparty}
@@ -18,7 +19,7 @@ use Rattle.swap_job.specs.declared.job.Role.{Role}
 use Rattle.swap_job.specs.declared.job.Role.TheVariants.{Conforming, Manual, Script, Strategy}
 use Rattle.deviators.specs.Script.{next_call, moves_left}
 use Rattle.swap_job.specs.Step.{CanLook}
-use Rattle.deviators.specs.View.{IsAnswerOf, MayAnswer}
+use Rattle.deviators.specs.View.{IsPartyAnswer, MayAnswer}
 use Rattle.deviators.proofs.Scripts.{left_fit}
 use Rattle.swap_rules.specs.Due.{Action}
 use Rattle.swap_rules.specs.Machine.{Begins}
@@ -28,10 +29,10 @@ use Rattle.swap_rules.proofs.Words.{enters, leaves, or-left}
 use Rattle.swap_rules.proofs.Prefixes.{begins_refl, begins_more, same_or_not}
 use Rattle.swap_rules.proofs.Growth.{Grows}
 use Rattle.swap_rules.proofs.Conducting.{Next, next_call as next_of_call, Still, Pushed, next_grows, history_same, history_other}
-use Rattle.swap_run.specs.Run.{Cast, State, conforms, party_role, state_notes, party_plan, plan_up_to, is_planned, signed_after, known_up_to, look, make}
-use Rattle.swap_run.specs.Run.{next_action, act, watch, take_call, after_turn, question, after_question, answer_for, act_as, step}
+use Rattle.swap_run.specs.Run.{Cast, State, conforms, party_role, state_notes, party_plan, plan_with_ledger, is_planned, signed_through_call, notes_with_ledger, look, make}
+use Rattle.swap_run.specs.Run.{next_action, act, watch, take_call, after_turn, question, after_question, answered_call, role_act, step}
 use Rattle.ledger_core.specs.Ledger.{after_call}
-use Rattle.swap_job.specs.Fitting.{is_near, IsMoveOf}
+use Rattle.swap_job.specs.Fitting.{is_near, IsPartyMove}
 use Rattle.swap_run.specs.Laws.{IsReadyCast, IsGood}
 use Rattle.swap_run.specs.Fair.{adjacent_arcs, looks, acts, most_acts, turn}
 use Rattle.swap_run.specs.FairLaws.{OthersRest, TurnsAreGood}
@@ -81,7 +82,7 @@ calm_next d b a k v c below n = record { grows = next_grows d b a k (Party v) (M
 
 -- Arcs that touch v.
 
-near_in : (d : Deal) (v a : ℕ) → IsNear d v a → IsIn a (adjacent_arcs d v)
+near_in : (d : Deal) (v a : ℕ) → IsNear d v a → IsElement a (adjacent_arcs d v)
 near_in d v a (inl i) =
     let k = from_filter (λ a. party d a == v) a (arcs d.graph) i in
     in_filter (λ a. (v == party d a) || (v == counterparty d a)) a (arcs d.graph) k.0
@@ -91,7 +92,7 @@ near_in d v a (inr i) =
     in_filter (λ a. (v == party d a) || (v == counterparty d a)) a (arcs d.graph) k.0
     (or-right (v == party d a) _ (eq-eqb v (counterparty d a) (sym (enters d v a i).1)))
 
-near_below : (d : Deal) (v a : ℕ) → IsIn a (adjacent_arcs d v) → (a < length d.graph.arcs) × (is_near d v a ≡ true)
+near_below : (d : Deal) (v a : ℕ) → IsElement a (adjacent_arcs d v) → (a < length d.graph.arcs) × (is_near d v a ≡ true)
 near_below d v a i =
     let k = from_filter (λ a. (v == party d a) || (v == counterparty d a)) a (arcs d.graph) i in
     (from_range a (length d.graph.arcs) k.0, k.1)
@@ -124,7 +125,7 @@ module _ (c : Cast) (ready : IsReadyCast c) (v : ℕ) (lv : v < c.deal.graph.n) 
   look_good : (s : State) (a : ℕ) → Touches a → IsGood c s → IsGood c (step c s (Look v a))
   look_good s a l g = subst (IsGood c) (sym (look_is s a)) (good_look c s v a lv l.0 l.1 g)
 
-  looks_good : (xs : List ℕ) (s : State) → ((a : ℕ) → IsIn a xs → Touches a) → IsGood c s → IsGood c (fold look_at s xs)
+  looks_good : (xs : List ℕ) (s : State) → ((a : ℕ) → IsElement a xs → Touches a) → IsGood c s → IsGood c (fold look_at s xs)
   looks_good [] s h g = g
   looks_good (x ∷ xs) s h g = looks_good xs (look_at s x) (λ a i. h a (inr i)) (look_good s x (h x (inl refl)) g)
 
@@ -136,14 +137,14 @@ module _ (c : Cast) (ready : IsReadyCast c) (v : ℕ) (lv : v < c.deal.graph.n) 
   looks_others [] s u n = refl
   looks_others (x ∷ xs) s u n =
       looks_others xs (look_at s x) u n ∙ (ap (λ t. state_notes t u) (look_is s x)
-      ∙ note_other s s.book v u (known_up_to (state_notes s v) x (history s.book x)) n)
+      ∙ note_other s s.book v u (notes_with_ledger (state_notes s v) x (history s.book x)) n)
 
   -- v knows the ledger of a as it stands
   abbrev Sees : ℕ → State → Type 0
   Sees a s = history (state_notes s v).known a ≡ history s.book a
 
-  noted_look : (s : State) (x : ℕ) → IsGood c s → state_notes (look s v x) v ≡ known_up_to (state_notes s v) x (history s.book x)
-  noted_look s x g = note_same s s.book v (known_up_to (state_notes s v) x (history s.book x)) (subst (λ m. v < m) (sym g.one_each) lv)
+  noted_look : (s : State) (x : ℕ) → IsGood c s → state_notes (look s v x) v ≡ notes_with_ledger (state_notes s v) x (history s.book x)
+  noted_look s x g = note_same s s.book v (notes_with_ledger (state_notes s v) x (history s.book x)) (subst (λ m. v < m) (sym g.one_each) lv)
 
   look_here : (x a : ℕ) (s : State) → x < length c.deal.graph.arcs → IsGood c s → a ≡ x → Sees a (look s v x)
   look_here x a s l g e =
@@ -161,7 +162,7 @@ module _ (c : Cast) (ready : IsReadyCast c) (v : ℕ) (lv : v < c.deal.graph.n) 
           subst (Sees a) (sym (look_is s x)) (ap (λ n. history n.known a) (noted_look s x g)
           ∙ (history_other (state_notes s v).known x a (history s.book x) n ∙ h))
 
-  looks_see : (xs : List ℕ) (s : State) (a : ℕ) → ((a : ℕ) → IsIn a xs → Touches a) → IsGood c s → Sees a s ⊎ IsIn a xs
+  looks_see : (xs : List ℕ) (s : State) (a : ℕ) → ((a : ℕ) → IsElement a xs → Touches a) → IsGood c s → Sees a s ⊎ IsElement a xs
       → Sees a (fold look_at s xs)
   looks_see [] s a h g (inl e) = e
   looks_see [] s a h g (inr i) = absurd i
@@ -181,7 +182,7 @@ module _ (c : Cast) (ready : IsReadyCast c) (v : ℕ) (lv : v < c.deal.graph.n) 
   acted_refl : (s : State) → Acted s s
   acted_refl s = record { calm = calm_refl s.book; others = λ u n. refl; own = λ a. begins_refl (history (state_notes s v).known a) }
 
-  made_acted : (s : State) (x : Action) → IsGood c s → IsIn x (all_due c ready v lv cv s) → Acted s (make c.deal s v (Some x))
+  made_acted : (s : State) (x : Action) → IsGood c s → IsElement x (all_due c ready v lv cv s) → Acted s (make c.deal s v (Some x))
   made_acted s x g i =
       let hv = holds c s v (g.notes v lv cv) in
       let is = due_now c.deal s.book (state_notes s v) v (c.wallet v) x (ready.wallets v lv cv) ready.accepted i hv in
@@ -193,14 +194,14 @@ module _ (c : Cast) (ready : IsReadyCast c) (v : ℕ) (lv : v < c.deal.graph.n) 
             λ u m. note_other s (set s.book x.arc after) v u (record {
               known = set (state_notes s v).known x.arc after;
               signed =
-                  signed_after (state_notes s v).signed x.call;
+                  signed_through_call (state_notes s v).signed x.call;
             }) m;
         own =
             λ a. subst (λ n. Begins (history (state_notes s v).known a) (history n.known a))
             (sym (note_same s (set s.book x.arc after) v (record {
               known = set (state_notes s v).known x.arc after;
               signed =
-                  signed_after (state_notes s v).signed x.call;
+                  signed_through_call (state_notes s v).signed x.call;
             }) (subst (λ m. v < m) (sym g.one_each) lv)))
             (at a (subst (λ m. x.arc < m) (sym hv.one_each) is.below) below n (hv.knows a).rest (hv.knows a).whole (same_or_not a x.arc));
       }
@@ -254,7 +255,7 @@ module _ (c : Cast) (ready : IsReadyCast c) (v : ℕ) (lv : v < c.deal.graph.n) 
   rested s g =
       subst (Rests c v s) (sym (turn_is s)) (
       let xs = adjacent_arcs c.deal v in
-      let low : (a : ℕ) → IsIn a (adjacent_arcs c.deal v) → Touches a = near_below c.deal v in
+      let low : (a : ℕ) → IsElement a (adjacent_arcs c.deal v) → Touches a = near_below c.deal v in
       let g1 = looks_good (adjacent_arcs c.deal v) s low g in
       let x = acts_acted (most_acts c.deal) (looks c v s) g1 in
       record {
@@ -280,7 +281,7 @@ module _ (c : Cast) (ready : IsReadyCast c) (v : ℕ) (lv : v < c.deal.graph.n) 
   watch_is : (s : State) (a : ℕ) → step c s (Look v a) ≡ watch c s v a
   watch_is s a = ap (λ b. cond b (look s v a) (watch c s v a)) out
 
-  watched : (xs : List ℕ) (s : State) → ((a : ℕ) → IsIn a xs → CanLook c.deal v a) → IsGood c s → Deviated s (fold (λ s a. step c s (Look v a)) s xs)
+  watched : (xs : List ℕ) (s : State) → ((a : ℕ) → IsElement a xs → CanLook c.deal v a) → IsGood c s → Deviated s (fold (λ s a. step c s (Look v a)) s xs)
   watched [] s can g = record { good = g; calm = calm_refl s.book; notes = refl }
   watched (x ∷ xs) s can g =
       let w = watch_is s x in
@@ -301,7 +302,7 @@ module _ (c : Cast) (ready : IsReadyCast c) (v : ℕ) (lv : v < c.deal.graph.n) 
   take_calm : (s : State) (o : Option (ℕ × Call)) → MayAnswer c.deal v o → IsGood c s → Calm s.book (take_call c s v o).book
   take_calm s None may g = calm_refl s.book
   take_calm s (Some x) may g =
-      let is : IsAnswerOf c.deal v x = may x refl in
+      let is : IsPartyAnswer c.deal v x = may x refl in
       calm_next c.deal s.book x.0 (after_call c.deal x.0 v x.1 (history s.book x.0)) v x.1 (in_book c s x.0 g is.arc)
       (next_of_call c.deal x.0 (history s.book x.0) v x.1 is.near is.fits)
 
@@ -309,7 +310,7 @@ module _ (c : Cast) (ready : IsReadyCast c) (v : ℕ) (lv : v < c.deal.graph.n) 
   take_notes s None = refl
   take_notes s (Some x) = refl
 
-  act_calm : (s : State) (role : Role) → IsGood c s → Calm s.book (act_as c s v role).book
+  act_calm : (s : State) (role : Role) → IsGood c s → Calm s.book (role_act c s v role).book
   act_calm s Conforming g = calm_refl s.book
   act_calm s Manual g = calm_refl s.book
   act_calm s (Script moves) g =
@@ -318,22 +319,22 @@ module _ (c : Cast) (ready : IsReadyCast c) (v : ℕ) (lv : v < c.deal.graph.n) 
       (party_plan s v).moves)
       (script_may c s v lv g)
       (good_turn c s v (moves_left (party_plan s v).known (party_plan s v).moves) lv
-      (left_fit (IsMoveOf c.deal c.seeds v) (party_plan s v).known (party_plan s v).moves p.moves) g)
+      (left_fit (IsPartyMove c.deal c.seeds v) (party_plan s v).known (party_plan s v).moves p.moves) g)
   act_calm s (Strategy name) g =
-      take_calm (after_question s v name) (answer_for c.deal v (c.answers (length s.asked))) (answer_may c.deal v (c.answers (length s.asked)))
+      take_calm (after_question s v name) (answered_call c.deal v (c.answers (length s.asked))) (answer_may c.deal v (c.answers (length s.asked)))
       (good_asked c (after_turn s v (party_plan s v).moves) (s.asked ++ question s v name ∷ [])
       (good_turn c s v (party_plan s v).moves lv (g.plans v lv).moves g))
 
-  act_notes : (s : State) (role : Role) → (act_as c s v role).notes ≡ s.notes
+  act_notes : (s : State) (role : Role) → (role_act c s v role).notes ≡ s.notes
   act_notes s Conforming = refl
   act_notes s Manual = refl
   act_notes s (Script moves) =
       take_notes (after_turn s v (moves_left (party_plan s v).known (party_plan s v).moves))
       (next_call c.deal c.seeds (party_plan s v).known (party_plan s v).moves)
-  act_notes s (Strategy name) = take_notes (after_question s v name) (answer_for c.deal v (c.answers (length s.asked)))
+  act_notes s (Strategy name) = take_notes (after_question s v name) (answered_call c.deal v (c.answers (length s.asked)))
 
-  act_is_as : (s : State) → step c s (Act v) ≡ act_as c s v (party_role c v)
-  act_is_as s = ap (λ b. cond b (act c s v) (act_as c s v (party_role c v))) out
+  act_is_as : (s : State) → step c s (Act v) ≡ role_act c s v (party_role c v)
+  act_is_as s = ap (λ b. cond b (act c s v) (role_act c s v (party_role c v))) out
 
   pub deviated : (s : State) → IsGood c s → Turned c v s (turn c s v)
   unfolding turn
@@ -354,14 +355,14 @@ unfolding turn looks
 others_rest c s v out none =
     ap (λ b. cond b (acts c v (most_acts c.deal) (looks c v s)) (step c (looks c v s) (Act v))) out
     ∙ (ap (λ t. step c t (Act v)) (fold_fixed (λ s a. step c s (Look v a)) s (adjacent_arcs c.deal v) look_rests)
-    ∙ (ap (λ b. cond b (act c s v) (act_as c s v (party_role c v))) out ∙ act_rests (party_role c v) none))
+    ∙ (ap (λ b. cond b (act c s v) (role_act c s v (party_role c v))) out ∙ act_rests (party_role c v) none))
   where
     look_rests : (a : ℕ) → step c s (Look v a) ≡ s
     look_rests a =
         ap (λ b. cond b (look s v a) (watch c s v a)) out
-        ∙ ap (λ b. record s { plans = cond b (set s.plans v (plan_up_to (party_plan s v) a (history s.book a))) s.plans }) none
+        ∙ ap (λ b. record s { plans = cond b (set s.plans v (plan_with_ledger (party_plan s v) a (history s.book a))) s.plans }) none
 
-    act_rests : (role : Role) → is_planned role ≡ false → act_as c s v role ≡ s
+    act_rests : (role : Role) → is_planned role ≡ false → role_act c s v role ≡ s
     act_rests Conforming e = refl
     act_rests Manual e = refl
     act_rests (Script moves) e = absurd (cc e)

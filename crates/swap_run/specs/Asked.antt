@@ -21,7 +21,8 @@ with_answers c answers = record c { answers = answers }
 abbrev pub Agree : State → State → Answers → Answers → Type 0
 Agree s t f g = (i : ℕ) → length s.asked ≤ i → i < length t.asked → f i ≡ g i
 
--- a run asks its answers in order and looks at no other: others that agree with those that it asked lead to the same state
+-- a run asks its answers in order and looks at no other: others that agree with those that it asked
+-- lead to the same state
 abbrev pub RunsAskInOrder : Type 0
 RunsAskInOrder =
     (c : Cast) (answers : Answers) (s : State) (events : List Event) → Agree s (continued_run c s events) answers c.answers

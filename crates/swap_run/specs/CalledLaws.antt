@@ -8,7 +8,7 @@ use Rattle.swap_job.specs.Step.{CanStep}
 use Rattle.swap_run.specs.Run.{Cast, State, step}
 use Rattle.swap_run.specs.Fair.{turns}
 use Rattle.swap_run.specs.Laws.{IsReadyCast, IsGood}
-use Rattle.swap_run.specs.Called.{Called, called, before_call, told, is_barred, apply_step, turns_on}
+use Rattle.swap_run.specs.Called.{Called, called, before_call, told, is_barred, apply_step, swept_turns}
 
 -- the event is no tick
 abbrev pub is_no_tick : Event → Bool
@@ -42,7 +42,7 @@ PassedIsGood =
 
 -- where no slot is swept, steps and turns are those of a run
 abbrev pub NoneSwept : Type 0
-NoneSwept = (c : Cast) (s : State) → ((e : Event) → apply_step (λ a. false) c s e ≡ step c s e) × (turns_on (λ a. false) c s ≡ turns c s)
+NoneSwept = (c : Cast) (s : State) → ((e : Event) → apply_step (λ a. false) c s e ≡ step c s e) × (swept_turns (λ a. false) c s ≡ turns c s)
 
 -- a step leaves a good state good, whatever is swept
 abbrev pub StepsOnAreGood : Type 0

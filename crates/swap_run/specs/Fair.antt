@@ -1,4 +1,5 @@
--- The fair finish: rounds until each ledger is above the horizon. It takes the steps of a run and no others.
+-- The fair finish: rounds until each ledger is above the horizon. It takes the steps of a run and
+-- no others.
 use Rattle.std.specs.Prelude.{ℕ, suc, zero, ◌+◌, ◌*◌, ◌-◌, Bool, ◌||◌, ◌==◌, nat_lt, nat_le, List, length, filter, fold, if◌then◌else◌}
 use Rattle.std.specs.List.{list_all, range_with_len}
 use Rattle.swap_base.specs.Lists.{greatest}
@@ -30,7 +31,8 @@ looks c v s = fold (λ s a. step c s (Look v a)) s (adjacent_arcs c.deal v)
 abbrev pub acts : Cast → ℕ → ℕ → State → State
 acts c v n s = repeat n (λ s. step c s (Act v)) s
 
--- the most calls of a party that conforms: on each arc a publish, a claim, a refund and an unlock for each lock
+-- the most calls of a party that conforms: on each arc a publish, a claim, a refund and an unlock
+-- for each lock
 abbrev pub most_acts : Deal → ℕ
 most_acts d = (length d.leaders + 3) * length d.graph.arcs
 
@@ -52,9 +54,10 @@ the_horizon d = times.horizon d.start d.delta d.bound
 abbrev pub raised : Deal → ℕ → ℕ
 raised d t = if nat_le t (the_horizon d) then t + 1 else t
 
--- the height that a finish leaves: the first above the horizon, or the same where the ledger was above it
-abbrev pub ended_at : Deal → ℕ → ℕ
-ended_at d t = if nat_le t (the_horizon d) then the_horizon d + 1 else t
+-- the height that a finish leaves: the first above the horizon, or the same where the ledger was
+-- above it
+abbrev pub end_height : Deal → ℕ → ℕ
+end_height d t = if nat_le t (the_horizon d) then the_horizon d + 1 else t
 
 -- the ledger of arc a ticks by 1, where it isn't above the horizon
 abbrev pub tick_low : Cast → State → ℕ → State

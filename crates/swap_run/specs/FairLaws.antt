@@ -8,7 +8,7 @@ use Rattle.swap_rules.specs.Outcome.{IsEnded}
 use Rattle.swap_rules.specs.Laws.{IsDealt}
 use Rattle.swap_run.specs.Run.{Cast, State, conforms, party_role, is_planned, next_action, start, continued_run, run}
 use Rattle.swap_run.specs.Laws.{IsReadyCast, IsGood, IsKept}
-use Rattle.swap_run.specs.Fair.{acts, most_acts, turn, raised, ended_at, round, has_ended, rounds_left, finish}
+use Rattle.swap_run.specs.Fair.{acts, most_acts, turn, raised, end_height, round, has_ended, rounds_left, finish}
 
 -- The state t is reached from the state s by events of a run.
 pub record IsReached (c : Cast) (s t : State) : Type 0 where
@@ -25,7 +25,8 @@ pub record IsFinished (c : Cast) (b : Histories) : Type 0 where
   pub ended : IsEnded c.deal b
   pub kept : IsKept c b
 
--- after every list of events and a fair finish each ledger is above the horizon, the book is legal and every conforming party is conducted
+-- after every list of events and a fair finish each ledger is above the horizon, the book is legal
+-- and every conforming party is conducted
 abbrev pub FinishesEnd : Type 0
 FinishesEnd = (c : Cast) (events : List Event) → IsReadyCast c → All (CanStep c.deal c.conforming c.seeds) events → IsFinished c (finish c (run c events)).book
 
@@ -37,9 +38,10 @@ FinishesAreGood = (c : Cast) (s : State) → IsReadyCast c → IsGood c s → Is
 abbrev pub FinishHeights : Type 0
 FinishHeights =
     (c : Cast) (s : State) (a : ℕ) → IsReadyCast c → IsGood c s → a < length c.deal.graph.arcs
-    → height (history (finish c s).book a) ≡ ended_at c.deal (height (history s.book a))
+    → height (history (finish c s).book a) ≡ end_height c.deal (height (history s.book a))
 
--- where every party conforms, a fair finish with no events before it finds nothing, and every outcome is the whole deal
+-- where every party conforms, a fair finish with no events before it finds nothing, and every
+-- outcome is the whole deal
 abbrev pub FairIsDealt : Type 0
 FairIsDealt = (c : Cast) → IsReadyCast c → ((v : ℕ) → v < c.deal.graph.n → conforms c v ≡ true) → IsDealt c.deal (conforms c) (finish c (start c)).book
 

@@ -13,22 +13,23 @@ use Rattle.ledger_core.specs.Book.{Histories, history, IsLegalBook}
 use Rattle.swap_job.specs.declared.event.Event.{Event}
 use Rattle.swap_job.specs.Step.{CanStep}
 use Rattle.swap_job.specs.Crafted.{Seeds}
-use Rattle.swap_job.specs.Fitting.{IsMoveOf, is_near}
+use Rattle.swap_job.specs.Fitting.{IsPartyMove, is_near}
 use Rattle.swap_job.specs.Roles.{role_script}
 use Rattle.swap_digraph.specs.declared.deal.Deal.{Deal}
 use Rattle.swap_rules.specs.Accepted.{IsAccepted}
 use Rattle.swap_rules.specs.Conduct.{IsConducted}
 use Rattle.swap_rules.specs.Machine.{Begins, IsWallet, IsSound, Knows}
-use Rattle.party_wallet.specs.Value.{signed_in}
+use Rattle.party_wallet.specs.Value.{signed_hashkey}
 use Rattle.swap_run.specs.Run.{Cast, Plan, State, conforms, party_role, state_notes, party_plan, next_action, step, start, run}
 
--- What a run asks of its cast: the deal is accepted, each conforming party has a wallet of its own, and each script's moves are its party's.
+-- What a run asks of its cast: the deal is accepted, each conforming party has a wallet of its own,
+-- and each script's moves are its party's.
 pub record IsReadyCast (c : Cast) : Type 0 where
   pub accepted : IsAccepted c.deal
   pub one_each : length c.conforming ≡ c.deal.graph.n
   pub roles : length c.roles ≡ c.deal.graph.n
   pub wallets : (v : ℕ) → v < c.deal.graph.n → conforms c v ≡ true → IsWallet c.deal v (c.wallet v)
-  pub scripts : (v : ℕ) → v < c.deal.graph.n → All (IsMoveOf c.deal c.seeds v) (role_script (party_role c v))
+  pub scripts : (v : ℕ) → v < c.deal.graph.n → All (IsPartyMove c.deal c.seeds v) (role_script (party_role c v))
 
 -- What a conforming party's notes keep. Of each ledger that touches it they have a beginning with
 -- all its own calls, and nothing of other ledgers. Its calls keep its rules.
@@ -37,15 +38,15 @@ pub record AreGoodNotes (c : Cast) (s : State) (v : ℕ) : Type 0 where
   pub places : length (state_notes s v).signed ≡ length c.deal.leaders
   pub knows : (a : ℕ) → Knows v (history (state_notes s v).known a) (history s.book a)
   pub far : (a : ℕ) → a < length c.deal.graph.arcs → is_near c.deal v a ≡ false → history (state_notes s v).known a ≡ []
-  pub sound : IsSound c.deal (state_notes s v).known (signed_in (state_notes s v).signed) v
+  pub sound : IsSound c.deal (state_notes s v).known (signed_hashkey (state_notes s v).signed) v
 
--- What the plan of party v keeps over a book: what it knows is of this book, up to some entry of each ledger, and nothing of those that don't touch v;
--- its moves are its party's.
+-- What the plan of party v keeps over a book: what it knows is of this book, up to some entry of
+-- each ledger, and nothing of those that don't touch v; its moves are its party's.
 pub record IsGoodPlan (d : Deal) (seeds : Seeds) (v : ℕ) (b : Histories) (n : Plan) : Type 0 where
   pub one_each : length n.known ≡ length d.graph.arcs
   pub begins : (a : ℕ) → Begins (history n.known a) (history b a)
   pub far : (a : ℕ) → a < length d.graph.arcs → is_near d v a ≡ false → history n.known a ≡ []
-  pub moves : All (IsMoveOf d seeds v) n.moves
+  pub moves : All (IsPartyMove d seeds v) n.moves
 
 -- What every state of a run keeps.
 pub record IsGood (c : Cast) (s : State) : Type 0 where
@@ -89,8 +90,9 @@ GoodIsKept = (c : Cast) (s : State) → IsReadyCast c → IsGood c s → IsKept 
 abbrev pub RunsAreKept : Type 0
 RunsAreKept = (c : Cast) (events : List Event) → IsReadyCast c → All (CanStep c.deal c.conforming c.seeds) events → IsKept c (run c events).book
 
--- in a good state each unlock call of a conforming party, on whatever arc, carries the hashkey that the party signed for its lock
+-- in a good state each unlock call of a conforming party, on whatever arc, carries the hashkey that
+-- the party signed for its lock
 abbrev pub UnlocksAreSigned : Type 0
 UnlocksAreSigned =
     (c : Cast) (s : State) (v a : ℕ) (past : List Entry) (e : Entry) (key : Hashkey) → IsGood c s → v < c.deal.graph.n → conforms c v ≡ true
-    → IsMoment (history s.book a) past e → pick_call v e ≡ Some (Unlock key) → signed_in (state_notes s v).signed key.lock ≡ Some key
+    → IsMoment (history s.book a) past e → pick_call v e ≡ Some (Unlock key) → signed_hashkey (state_notes s v).signed key.lock ≡ Some key

@@ -6,7 +6,7 @@ use Rattle.std.specs.List.{range_with_len}
 use Rattle.swap_digraph.specs.declared.deal.Deal.{Deal}
 use Rattle.swap_digraph.specs.Graph.{arcs}
 use Rattle.hashkey_path.specs.declared.hashkey.Hashkey.{Hashkey}
-use Rattle.party_wallet.specs.Value.{signed_in}
+use Rattle.party_wallet.specs.Value.{signed_hashkey}
 use Rattle.escrow_core.specs.declared.reply.Reply.{Reply}
 use Rattle.escrow_core.specs.declared.reply.Reply.TheVariants.{ClockFull}
 use Rattle.ledger_core.specs.declared.entry.Call.{Call}
@@ -37,26 +37,30 @@ pub record Cast : Type 0 where
   pub roles : List Role
   pub answers : ℕ → Option (ℕ × Call)
 
--- What a conforming party has noted: what it knows of each ledger, and the hashkey that it signed for each lock, if any.
+-- What a conforming party has noted: what it knows of each ledger, and the hashkey that it signed
+-- for each lock, if any.
 pub record Notes : Type 0 where
   pub known : Histories
   pub signed : List (Option Hashkey)
 
--- What a party plans that follows a script or a strategy: what it knows of each ledger, the moves that are left of its script, and how often it acted.
+-- What a party plans that follows a script or a strategy: what it knows of each ledger, the moves
+-- that are left of its script, and how often it acted.
 pub record Plan : Type 0 where
   pub known : Histories
   pub moves : List Move
   pub turns : ℕ
 
--- What a strategy is asked: its name, the party that follows it, how often that party acted before, and what it knows of each ledger.
+-- What a strategy is asked: its name, the party that follows it, how often that party acted before,
+-- and what it knows of each ledger.
 pub record Question : Type 0 where
   pub strategy : List ℕ
   pub party : ℕ
   pub turn : ℕ
   pub known : Histories
 
--- The histories so far, the notes and the plan of each party, and what strategies were asked, in order.
--- The notes of a party that doesn't conform stay empty, and the plan of one that follows no script or strategy stays as it was.
+-- The histories so far, the notes and the plan of each party, and what strategies were asked, in
+-- order. The notes of a party that doesn't conform stay empty, and the plan of one that follows no
+-- script or strategy stays as it was.
 pub record State : Type 0 where
   pub book : Histories
   pub notes : List Notes
@@ -80,8 +84,8 @@ abbrev pub party_plan : State → ℕ → Plan
 party_plan s v = slice_index_or s.plans v (record { known = []; moves = []; turns = 0 })
 
 -- the hashkeys that were signed, lock by lock, after a call
-abbrev pub signed_after : List (Option Hashkey) → Call → List (Option Hashkey)
-signed_after signed c = map (noted (signed_in signed) c) (range_with_len 0 (length signed))
+abbrev pub signed_through_call : List (Option Hashkey) → Call → List (Option Hashkey)
+signed_through_call signed c = map (noted (signed_hashkey signed) c) (range_with_len 0 (length signed))
 
 -- What calls and ticks do to a history.
 
@@ -97,12 +101,12 @@ after_tick k h = if is_clock_full_reply (reply_to_tick h k) then h else h ++ tic
 -- What conforming parties do.
 
 -- v knows the ledger of arc a up to its end
-abbrev pub known_up_to : Notes → ℕ → List Entry → Notes
-known_up_to n a h = record n { known = slice_set n.known a h }
+abbrev pub notes_with_ledger : Notes → ℕ → List Entry → Notes
+notes_with_ledger n a h = record n { known = slice_set n.known a h }
 
 -- v looks at the ledger of arc a
 abbrev pub look : State → ℕ → ℕ → State
-look s v a = record s { notes = slice_set s.notes v (known_up_to (state_notes s v) a (history s.book a)) }
+look s v a = record s { notes = slice_set s.notes v (notes_with_ledger (state_notes s v) a (history s.book a)) }
 
 -- v makes a call, notes what it signed, and then knows the ledger up to its end
 abbrev pub make : Deal → State → ℕ → Option Action → State
@@ -111,12 +115,12 @@ make d s v (Some x) =
     let h = after_call d x.arc v x.call (history s.book x.arc) in
     record s {
       book = slice_set s.book x.arc h;
-      notes = slice_set s.notes v (record { known = slice_set (state_notes s v).known x.arc h; signed = signed_after (state_notes s v).signed x.call });
+      notes = slice_set s.notes v (record { known = slice_set (state_notes s v).known x.arc h; signed = signed_through_call (state_notes s v).signed x.call });
     }
 
 -- the first of what is due for v over what it knows, if anything
 abbrev pub next_action : Cast → State → ℕ → Option Action
-next_action c s v = first (due c.deal v (c.wallet v) (signed_in (state_notes s v).signed) (state_notes s v).known)
+next_action c s v = first (due c.deal v (c.wallet v) (signed_hashkey (state_notes s v).signed) (state_notes s v).known)
 
 -- v makes the first due call
 abbrev pub act : Cast → State → ℕ → State
@@ -131,12 +135,12 @@ is_planned (Strategy name) = true
 is_planned _ = false
 
 -- the plan of a party that knows the ledger of arc a up to its end
-abbrev pub plan_up_to : Plan → ℕ → List Entry → Plan
-plan_up_to n a h = record n { known = slice_set n.known a h }
+abbrev pub plan_with_ledger : Plan → ℕ → List Entry → Plan
+plan_with_ledger n a h = record n { known = slice_set n.known a h }
 
 -- the plans after v has seen the ledger of arc a up to its end, if v keeps one
 abbrev pub plans_seen : Cast → State → ℕ → ℕ → List Entry → List Plan
-plans_seen c s v a h = if is_planned (party_role c v) then slice_set s.plans v (plan_up_to (party_plan s v) a h) else s.plans
+plans_seen c s v a h = if is_planned (party_role c v) then slice_set s.plans v (plan_with_ledger (party_plan s v) a h) else s.plans
 
 -- v looks at the ledger of arc a
 abbrev pub watch : Cast → State → ℕ → ℕ → State
@@ -164,9 +168,9 @@ abbrev pub is_party_answer : Deal → ℕ → ℕ × Call → Bool
 is_party_answer d v x = nat_lt x.0 (length d.graph.arcs) && is_near d v x.0 && fit d x.0 x.1
 
 -- the call of an answer, where v can make it
-abbrev pub answer_for : Deal → ℕ → Option (ℕ × Call) → Option (ℕ × Call)
-answer_for d v None = None
-answer_for d v (Some x) = if is_party_answer d v x then Some x else None
+abbrev pub answered_call : Deal → ℕ → Option (ℕ × Call) → Option (ℕ × Call)
+answered_call d v None = None
+answered_call d v (Some x) = if is_party_answer d v x then Some x else None
 
 -- what v asks the strategy that it follows
 abbrev pub question : State → ℕ → List ℕ → Question
@@ -178,39 +182,40 @@ after_question s v name = record (after_turn s v (party_plan s v).moves) { asked
 
 -- v asks its strategy and makes the call that comes as the next answer
 abbrev pub ask : Cast → State → ℕ → List ℕ → State
-ask c s v name = take_call c (after_question s v name) v (answer_for c.deal v (c.answers (length s.asked)))
+ask c s v name = take_call c (after_question s v name) v (answered_call c.deal v (c.answers (length s.asked)))
 
 -- what an act of v does, which doesn't conform
-abbrev pub act_as : Cast → State → ℕ → Role → State
-act_as c s v Conforming = s
-act_as c s v Manual = s
-act_as c s v (Script moves) = follow c s v
-act_as c s v (Strategy name) = ask c s v name
+abbrev pub role_act : Cast → State → ℕ → Role → State
+role_act c s v Conforming = s
+role_act c s v Manual = s
+role_act c s v (Script moves) = follow c s v
+role_act c s v (Strategy name) = ask c s v name
 
 -- Crashes.
 
--- An act that is stopped within the disk call after k of them, of the four that record a hashkey, has it recorded after the crash: its gate was written,
--- and what isn't synced holds its new bytes.
+-- An act that is stopped within the disk call after k of them, of the four that record a hashkey,
+-- has it recorded after the crash: its gate was written, and what isn't synced holds its new bytes.
 abbrev pub is_recorded : (k image : ℕ) → Bool
 is_recorded k image = nat_le 2 k && (image == 1)
 
 -- the hashkeys that are recorded after the act was stopped
-abbrev pub recorded_after : List (Option Hashkey) → Option Action → (k image : ℕ) → List (Option Hashkey)
-recorded_after signed None k image = signed
-recorded_after signed (Some x) k image = if is_recorded k image then signed_after signed x.call else signed
+abbrev pub recorded_hashkeys : List (Option Hashkey) → Option Action → (k image : ℕ) → List (Option Hashkey)
+recorded_hashkeys signed None k image = signed
+recorded_hashkeys signed (Some x) k image = if is_recorded k image then signed_through_call signed x.call else signed
 
 -- what v knows that has learnt the history of each ledger that touches it to its end
 abbrev pub relearnt : Deal → ℕ → Histories → Histories
 relearnt d v b = map (λ a. if is_near d v a then history b a else []) (arcs d.graph)
 
--- v begins its act, is stopped within the disk call after k of them, and restarts with what a crash leaves of its disk
+-- v begins its act, is stopped within the disk call after k of them, and restarts with what a crash
+-- leaves of its disk
 abbrev pub crash : Cast → State → ℕ → (k image : ℕ) → State
 crash c s v k image =
     record s {
       notes =
           slice_set s.notes v (record {
             known = relearnt c.deal v s.book;
-            signed = recorded_after (state_notes s v).signed (next_action c s v) k image;
+            signed = recorded_hashkeys (state_notes s v).signed (next_action c s v) k image;
           });
     }
 
@@ -220,7 +225,7 @@ crash c s v k image =
 abbrev pub step : Cast → State → Event → State
 step c s (Tick a k) = record s { book = slice_set s.book a (after_tick k (history s.book a)) }
 step c s (Look v a) = if conforms c v then look s v a else watch c s v a
-step c s (Act v) = if conforms c v then act c s v else act_as c s v (party_role c v)
+step c s (Act v) = if conforms c v then act c s v else role_act c s v (party_role c v)
 step c s (Made v mv) = take_call c s v (resolved c.deal c.seeds s.book mv)
 step c s (Crash v k image) = crash c s v k image
 

@@ -3,11 +3,11 @@ use Rattle.std.specs.Prelude.{ℕ}
 use Rattle.std.specs.List.{All}
 use Rattle.swap_digraph.specs.declared.deal.Deal.{Deal}
 use Rattle.swap_job.specs.Crafted.{Seeds}
-use Rattle.swap_job.specs.Fitting.{IsMoveOf}
+use Rattle.swap_job.specs.Fitting.{IsPartyMove}
 use Rattle.deviators.specs.View.{IsView}
 use Rattle.swap_run.specs.Run.{Plan}
 
 -- What the plan of party v knows is a view of it, and the moves that are left are its own.
 pub record IsShown (d : Deal) (seeds : Seeds) (v : ℕ) (n : Plan) : Type 0 where
   pub view : IsView d v n.known
-  pub moves : All (IsMoveOf d seeds v) n.moves
+  pub moves : All (IsPartyMove d seeds v) n.moves

@@ -9,7 +9,7 @@ use Rattle.swap_job.specs.declared.event.Event.{Event}
 use Rattle.swap_job.specs.declared.event.Event.TheVariants.{Tick, Look, Act}
 use Rattle.swap_run.specs.Run.{Cast, State, conforms, after_tick, continued_run}
 use Rattle.swap_run.specs.Fair.{repeat, adjacent_arcs, most_acts, turns, the_horizon, ticks, has_ended, round_unless_ended, finish}
-use Rattle.swap_run.specs.Quiet.{SkipsTo}
+use Rattle.swap_run.specs.Quiet.{SkipsQuietRounds}
 
 -- The histories b are those after the first so many of these events.
 pub record IsAlong (c : Cast) (s : State) (events : List Event) (b : Histories) : Type 0 where
@@ -21,7 +21,8 @@ pub record IsAlong (c : Cast) (s : State) (events : List Event) (b : Histories) 
 abbrev pub look_steps : Deal → ℕ → List Event
 look_steps d v = map (λ a. Look v a) (adjacent_arcs d v)
 
--- v acts as often as it may where it conforms (an act with nothing due changes nothing), and else once
+-- v acts as often as it may where it conforms (an act with nothing due changes nothing), and else
+-- once
 abbrev pub act_steps : Cast → ℕ → List Event
 act_steps c v = if conforms c v then replicate (most_acts c.deal) (Act v) else Act v ∷ []
 
@@ -79,6 +80,6 @@ pass_steps (suc n) c s = pass_steps n c s ++ tick_steps c.deal (repeat n (ticks 
 -- The ticks of n rounds and then one round lead to the same state as n + 1 rounds, through no other
 -- histories than those of the rounds.
 pub record IsSkipped (c : Cast) (n : ℕ) (s : State) : Type 0 where
-  pub skips : SkipsTo c n s
+  pub skips : SkipsQuietRounds c n s
   pub pass : (b : Histories) → IsAlong c s (pass_steps n c s) b → IsAlong c s (rounds_steps (suc n) c s) b
   pub last : (b : Histories) → IsAlong c (repeat n (ticks c) s) (round_steps c (repeat n (ticks c) s)) b → IsAlong c s (rounds_steps (suc n) c s) b

@@ -4,7 +4,7 @@ ghost use Rattle.std.specs.Prelude.{◌≡◌, ◌<◌, ◌+◌, ◌++◌, true,
 ghost use Rattle.ledger_core.specs.Book.{history};
 ghost use Rattle.deviators.specs.Script.{next_call, moves_left};
 ghost use Rattle.deviators.specs.View.{IsView, MayAnswer};
-ghost use Rattle.swap_run.specs.Run.{no_histories, plan_up_to};
+ghost use Rattle.swap_run.specs.Run.{no_histories, plan_with_ledger};
 ghost use Rattle.swap_run.specs.Shown.{IsShown};
 
 use deviators::{Script, Strategies};
@@ -16,7 +16,8 @@ use swap_base::{ArcId, ByteText, Digest, Listed, NoMemory, PartyId};
 use swap_digraph::Deal;
 use swap_job::MoveList;
 
-/// What a party knows of each ledger, the moves that are left of its script, and how often it acted.
+/// What a party knows of each ledger, the moves that are left of its script, and how often it
+/// acted.
 #[derive(Drop)]
 pub struct Planner {
     known: Book,
@@ -57,10 +58,11 @@ impl Planner {
         })
     }
 
-    /// Adds entries to what the party knows of a ledger, by taking them over. Want of memory leaves everything as it was.
+    /// Adds entries to what the party knows of a ledger, by taking them over. Want of memory leaves
+    /// everything as it was.
     pub fn learn(&mut self, arc: ArcId, fresh: EntryList) -> Result<(), NoMemory>
         requires { arc < length self.old.known }
-        ensures ok { OnOk result (self.new ≡ plan_up_to self.old arc (history self.old.known arc ++ fresh)) }
+        ensures ok { OnOk result (self.new ≡ plan_with_ledger self.old arc (history self.old.known arc ++ fresh)) }
         ensures err { OnErr result (self.new ≡ self.old) }
     {
         let alloc = self.known.histories.allocator();
@@ -81,7 +83,8 @@ impl Planner {
         self.known.histories.as_slice()[arc as usize].len()
     }
 
-    /// The next call of the party's script, if any. The party has acted once more; after want of memory everything is as it was.
+    /// The next call of the party's script, if any. The party has acted once more; after want of
+    /// memory everything is as it was.
     pub fn follow(
         &mut self,
         deal: &Deal,
@@ -102,7 +105,8 @@ impl Planner {
         Ok(call)
     }
 
-    /// The call that the party's strategy answers, if any. The party has acted once more; after want of memory everything is as it was.
+    /// The call that the party's strategy answers, if any. The party has acted once more; after
+    /// want of memory everything is as it was.
     pub fn ask<A: Strategies>(
         &mut self,
         staff: &A,

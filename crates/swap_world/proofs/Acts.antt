@@ -8,8 +8,8 @@ use Rattle.ledger_core.specs.Value.{LedgerState}
 use Rattle.ledger_core.specs.Book.{Histories, history}
 use Rattle.swap_rules.specs.Machine.{noted}
 use Rattle.swap_rules.specs.Due.{Action}
-use Rattle.party_wallet.specs.Value.{signed_in}
-use Rattle.party_machine.specs.Machine.{MachineState, IsOfSame, due_action, next_due, noted_for}
+use Rattle.party_wallet.specs.Value.{signed_hashkey}
+use Rattle.party_machine.specs.Machine.{MachineState, IsOfSame, due_action, next_due, noted_if_called}
 use Rattle.swap_world.specs.declared.told.Told.{Told}
 use Rattle.swap_world.specs.On.{call_told}
 use Rattle.swap_world.specs.Acting.{histories, landed, next_book, next_machine, build_told}
@@ -33,9 +33,9 @@ same_machine : (n : MachineState) (d : Deal) (v : ℕ) (z : List ℕ) (k : Histo
 same_machine n d v z k g e1 e2 e3 e4 e5 = rw (sym e1, sym e2, sym e3, sym e4, sym e5) refl
 
 pub still : (sw : ℕ → Bool) (m n : MachineState) (o : Option (ℕ × Call)) (b : Histories) → o ≡ None → option_map due_action o ≡ next_due m → IsOfSame m n
-    → ((i : ℕ) → signed_in n.signed i ≡ noted_for (signed_in m.signed) o i) → n ≡ next_machine sw m (next_due m) b
+    → ((i : ℕ) → signed_hashkey n.signed i ≡ noted_if_called (signed_hashkey m.signed) o i) → n ≡ next_machine sw m (next_due m) b
 still sw m n o b e f k g =
-    let none : (i : ℕ) → signed_in n.signed i ≡ signed_in m.signed i = λ i. g i ∙ ap (λ x. noted_for (signed_in m.signed) x i) e in
+    let none : (i : ℕ) → signed_hashkey n.signed i ≡ signed_hashkey m.signed i = λ i. g i ∙ ap (λ x. noted_if_called (signed_hashkey m.signed) x i) e in
     same_machine n m.deal m.me m.seed m.known m.signed k.deal k.me k.seed k.known (signed_still n.signed m.signed k.places none)
     ∙ sym (ap (λ x. next_machine sw m x b) (silent m o e f))
 
@@ -48,7 +48,7 @@ module _ (sw : ℕ → Bool) (m n : MachineState) (ls : List LedgerState) (a : �
       → histories (set ls a new) ≡ next_book sw m (next_due m) (histories ls)
   book_is new e = book_ok ls a l new (landed (sw a) m.deal a m.me c) below is (e ∙ called) ∙ sym (ap (λ o. next_book sw m o (histories ls)) next)
 
-  pub machine_is : (new : MachineState) → ((i : ℕ) → signed_in n.signed i ≡ noted (signed_in m.signed) c i)
+  pub machine_is : (new : MachineState) → ((i : ℕ) → signed_hashkey n.signed i ≡ noted (signed_hashkey m.signed) c i)
       → new ≡ record { deal = n.deal; me = n.me; seed = n.seed; known = set n.known a (landed (sw a) n.deal a n.me c l.history); signed = n.signed }
       → new ≡ next_machine sw m (next_due m) (histories ls)
   machine_is new g e =
@@ -68,7 +68,7 @@ module _ (sw : ℕ → Bool) (m n : MachineState) (ls : List LedgerState) (a : �
       ∙ sym (ap (λ o. next_machine sw m o (histories ls)) next))
 
   -- the hashkeys alone
-  pub signed_is : ((i : ℕ) → signed_in n.signed i ≡ noted (signed_in m.signed) c i) → n.signed ≡ (next_machine sw m (next_due m) (histories ls)).signed
+  pub signed_is : ((i : ℕ) → signed_hashkey n.signed i ≡ noted (signed_hashkey m.signed) c i) → n.signed ≡ (next_machine sw m (next_due m) (histories ls)).signed
   signed_is g = signed_by n.signed m.signed c same.places g ∙ sym (ap (λ o. (next_machine sw m o (histories ls)).signed) next)
 
   pub told_is : (t : Told) → t ≡ call_told (sw a) n.deal a n.me c l.history → t ≡ build_told sw m (next_due m) (histories ls)

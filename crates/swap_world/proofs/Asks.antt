@@ -20,11 +20,11 @@ use Rattle.swap_run.specs.Called.{apply_step}
 use Rattle.swap_run.specs.Laws.{IsReadyCast, IsGood, IsKept}
 use Rattle.swap_world.specs.Cast.{made_cast}
 use Rattle.swap_world.specs.Value.{WorldState}
-use Rattle.swap_world.specs.Acting.{histories, taken, seen, told_to, asked_once, answer_question}
+use Rattle.swap_world.specs.Acting.{histories, taken, seen, party_told, asked_once, answer_question}
 use Rattle.swap_world.specs.Gone.{MayGive, Answered, MayBeGiven, HasAsked, HasGone}
-use Rattle.swap_world.specs.On.{IsCutOn, event_told}
+use Rattle.swap_world.specs.On.{IsCutWithSweeps, event_told}
 use Rattle.swap_world.specs.declared.told.Told.{Told}
-use Rattle.swap_world.specs.Inside.{name_in, questions_in, AreActorsOf}
+use Rattle.swap_world.specs.Inside.{strategy_name, asked_questions, ArePartyActors}
 use Rattle.swap_world.specs.declared.actor.Actor.{Actor}
 use Rattle.swap_world.specs.declared.actor.Actor.TheVariants.{Planned}
 use Rattle.swap_world.proofs.States.{IsPlanAt, answered, answered_told, plan_notes, state}
@@ -33,19 +33,19 @@ use Rattle.swap_world.proofs.Worlds.{good_step, kept_step, world}
 use Rattle.swap_job.specs.Crafted.{Seeds}
 
 -- as many questions as parties that asked
-pub questions_each : (roles : List Role) (ps : List ℕ) (ns : List Plan) → length ps ≡ length ns → length (questions_in roles ps ns) ≡ length ps
+pub questions_each : (roles : List Role) (ps : List ℕ) (ns : List Plan) → length ps ≡ length ns → length (asked_questions roles ps ns) ≡ length ps
 questions_each roles [] ns e = refl
 questions_each roles (p ∷ ps) [] e = absurd (cc e)
 questions_each roles (p ∷ ps) (n ∷ ns) e = let l = questions_each roles ps ns (omega (arith, e)) in omega (arith, l)
 
 -- one more question
 pub questions_more : (roles : List Role) (ps : List ℕ) (ns : List Plan) (p : ℕ) (n : Plan) → length ps ≡ length ns
-    → questions_in roles (ps ++ p ∷ []) (ns ++ n ∷ []) ≡ questions_in roles ps ns ++ answer_question (name_in (get_or roles p kinds.Manual)) p n ∷ []
+    → asked_questions roles (ps ++ p ∷ []) (ns ++ n ∷ []) ≡ asked_questions roles ps ns ++ answer_question (strategy_name (get_or roles p kinds.Manual)) p n ∷ []
 questions_more roles [] [] p n e = refl
 questions_more roles [] (m ∷ ns) p n e = absurd (cc e)
 questions_more roles (q ∷ ps) [] p n e = absurd (cc e)
 questions_more roles (q ∷ ps) (m ∷ ns) p n e =
-    ap (λ (qs : List Question). answer_question (name_in (get_or roles q kinds.Manual)) q m ∷ qs) (questions_more roles ps ns p n (omega (arith, e)))
+    ap (λ (qs : List Question). answer_question (strategy_name (get_or roles q kinds.Manual)) q m ∷ qs) (questions_more roles ps ns p n (omega (arith, e)))
 
 -- Party p, which plans n, has asked the strategy of that name, and o was answered.
 pub record IsAsking (gives : MayGive) (d : Deal) (conforming : List Bool) (seeds : Seeds) (roles : List Role) (ps : List ℕ) (ns : List Plan)
@@ -53,7 +53,7 @@ pub record IsAsking (gives : MayGive) (d : Deal) (conforming : List Bool) (seeds
     (ps' : List ℕ) (ns' : List Plan) (os' : List (Option (ℕ × Call))) : Type 0 where
   pub askers : length ps ≡ length os
   pub told : length ns ≡ length os
-  pub place : IsPlanAt d conforming seeds roles (questions_in roles ps ns) ls xs p n
+  pub place : IsPlanAt d conforming seeds roles (asked_questions roles ps ns) ls xs p n
   pub role : get_or roles p kinds.Manual ≡ kinds.Strategy name
   pub may : MayAnswer d p o
   pub given : gives name d p n.turns n.known o
@@ -69,19 +69,19 @@ module _ {gives : MayGive} {d : Deal} {conforming : List Bool} {seeds : Seeds} {
   c = made_cast d conforming seeds roles
 
   abbrev before : List Question
-  before = questions_in roles ps ns
+  before = asked_questions roles ps ns
 
   abbrev after : List Question
-  after = questions_in roles ps' ns'
+  after = asked_questions roles ps' ns'
 
   abbrev s : State
   s = state d before xs (histories ls)
 
   asks_more : after ≡ before ++ answer_question name p n ∷ []
   asks_more =
-      ap₂ (λ (x : List ℕ) (y : List Plan). questions_in roles x y) k.asker k.plan
+      ap₂ (λ (x : List ℕ) (y : List Plan). asked_questions roles x y) k.asker k.plan
       ∙ (questions_more roles ps ns p n (k.askers ∙ sym k.told)
-      ∙ ap (λ (x : List ℕ). before ++ answer_question x p n ∷ []) (ap name_in k.role))
+      ∙ ap (λ (x : List ℕ). before ++ answer_question x p n ∷ []) (ap strategy_name k.role))
 
   -- the answers go on so
   abbrev pub Follows : Answers → Type 0
@@ -135,15 +135,15 @@ module _ {gives : MayGive} {d : Deal} {conforming : List Bool} {seeds : Seeds} {
   has_gone (Err u) x y new b is on eb en = tt
 
   pub is_cut : {A E : Type 0} (r : Result A E) (x y : Bool) (new : Plan) (b : Histories) → b ≡ taken sw d p o (histories ls)
-      → OnErr r (IsCutOn gives sw (Act p) (old x) (now y new b))
+      → OnErr r (IsCutWithSweeps gives sw (Act p) (old x) (now y new b))
   is_cut (Ok u) x y new b eb = tt
   is_cut (Err u) x y new b eb = record { cast = refl; asked = has_asked x y new b; book = inr (λ g e. eb ∙ stepped_book g e) }
 
   -- what the party is told
-  told_asked : (g : Answers) → Follows g → told_to sw d p o (histories ls) ≡ event_told sw (with_answers c g) s (Act p)
+  told_asked : (g : Answers) → Follows g → party_told sw d p o (histories ls) ≡ event_told sw (with_answers c g) s (Act p)
   told_asked g e = answered_told d conforming seeds roles before ls xs sw g p n name o k.place k.role (now_is g e) k.may
 
-  pub has_told : {E : Type 0} (r : Result Told E) → IfOk r (λ t. t ≡ told_to sw d p o (histories ls))
+  pub has_told : {E : Type 0} (r : Result Told E) → IfOk r (λ t. t ≡ party_told sw d p o (histories ls))
       → IfOk r (λ t. (g : Answers) → Follows g → t ≡ event_told sw (with_answers c g) s (Act p))
   has_told (Ok t) e = λ g f. e ∙ told_asked g f
   has_told (Err u) e = tt
@@ -164,7 +164,7 @@ module _ {gives : MayGive} {d : Deal} {conforming : List Bool} {seeds : Seeds} {
       subst (IsKept c) (sym (eb ∙ stepped_book so_far (λ i l. refl))) (kept_step c so_far sw s (Act p) ready can good)
 
   -- what machines signed, over the histories after the call that was answered
-  pub signed_asked : (b : Histories) → b ≡ taken sw d p o (histories ls) → AreActorsOf d conforming seeds roles xs → IsReadyCast c → p < d.graph.n
+  pub signed_asked : (b : Histories) → b ≡ taken sw d p o (histories ls) → ArePartyActors d conforming seeds roles xs → IsReadyCast c → p < d.graph.n
       → IsGood c s → HaveSigned d b xs
   signed_asked b eb actors ready can good =
       let is = stepped so_far (λ i l. refl) (seen sw d p o (histories ls) (asked_once n)) (taken sw d p o (histories ls)) refl refl in

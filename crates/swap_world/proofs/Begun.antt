@@ -19,8 +19,8 @@ use Rattle.swap_world.specs.Cast.{made_cast, job_cast}
 use Rattle.swap_world.specs.Value.{new_world}
 use Rattle.swap_world.specs.Actors.{team, AllFit, HaveRoles, ConformingHaveSeeds}
 use Rattle.swap_world.specs.Acting.{histories}
-use Rattle.swap_world.specs.Journals.{IsFirstJournal, IsSomeJournal, AreFirstJournals, AreJournalsOf}
-use Rattle.swap_world.specs.Inside.{notes_in, plan_in, AreNewLedgers, HaveRoom, AreLedgersOf, AreActorsOf}
+use Rattle.swap_world.specs.Journals.{IsFirstJournal, IsSomeJournal, AreFirstJournals, AreMachineJournals}
+use Rattle.swap_world.specs.Inside.{actor_notes, actor_plan, AreNewLedgers, HaveRoom, AreArcLedgers, ArePartyActors}
 use Rattle.swap_world.specs.declared.actor.Actor.{Actor}
 use Rattle.swap_world.specs.declared.actor.Actor.TheVariants.{Conforming}
 use Rattle.swap_world.proofs.Rooms.{new_histories, new_ledgers_of, new_room}
@@ -39,7 +39,7 @@ module _ (job : Job) (d : Deal) (conforming : List Bool) (seeds : Seeds) (roles 
     state_is : state d [] ys (histories ls) ≡ start (job_cast job)
     state_is =
         ap₂ (λ (e : Deal) (xs : List Actor). state e [] xs (histories ls)) ed ea
-        ∙ (ap₂ (λ (b : Histories) (ns : List Notes). parts b ns (map (plan_in job.deal) (team job))) (new_histories job.deal ls el)
+        ∙ (ap₂ (λ (b : Histories) (ns : List Notes). parts b ns (map (actor_plan job.deal) (team job))) (new_histories job.deal ls el)
         (no_notes_yet job have act fit)
         ∙ ap (λ (ps : List Plan). record (start (job_cast job)) { plans = ps }) (first_plans job have act fit))
 
@@ -57,10 +57,10 @@ module _ (job : Job) (d : Deal) (conforming : List Bool) (seeds : Seeds) (roles 
     pub ready : IsAccepted job.deal → IsReadyCast (made_cast d conforming seeds roles)
     ready accepted = subst IsReadyCast (sym cast_is) (is_ready job accepted have act fit)
 
-    pub actors : AreActorsOf d conforming seeds roles ys
+    pub actors : ArePartyActors d conforming seeds roles ys
     actors = rw (ed, ec, es, er, ea) (are_actors job have act fit)
 
-    pub ledgers : AreLedgersOf d ls
+    pub ledgers : AreArcLedgers d ls
     ledgers = new_ledgers_of job.deal d ls ed el
 
     pub room : HaveRoom ls
@@ -71,18 +71,18 @@ module _ (job : Job) (d : Deal) (conforming : List Bool) (seeds : Seeds) (roles 
         subst (λ (c : Cast). IsGood c (state d [] ys (histories ls))) (sym cast_is)
         (subst (IsGood (job_cast job)) (sym state_is) (start_is_good (job_cast job) (is_ready job accepted have act fit)))
 
-    its : AreActorsOf job.deal job.conforming job.seeds job.roles ys
-    its = subst (AreActorsOf job.deal job.conforming job.seeds job.roles) (sym ea) (are_actors job have act fit)
+    its : ArePartyActors job.deal job.conforming job.seeds job.roles ys
+    its = subst (ArePartyActors job.deal job.conforming job.seeds job.roles) (sym ea) (are_actors job have act fit)
 
     signed_none : (v : ℕ) (m : MachineState) → v < length ys → Conforming m ≡ get_or ys v (Conforming m) → m.signed ≡ replicate (length job.deal.leaders) None
     signed_none v m lt here =
         let none : Notes = record { known = []; signed = [] } in
-        ap (λ (x : Notes). x.signed) (ap (notes_in job.deal) here ∙ sym (get_or-map (notes_in job.deal) ys v (Conforming m) none lt)
-        ∙ ap (λ (ns : List Notes). get_or ns v none) (ap (map (notes_in job.deal)) ea ∙ no_notes_yet job have act fit)
+        ap (λ (x : Notes). x.signed) (ap (actor_notes job.deal) here ∙ sym (get_or-map (actor_notes job.deal) ys v (Conforming m) none lt)
+        ∙ ap (λ (ns : List Notes). get_or ns v none) (ap (map (actor_notes job.deal)) ea ∙ no_notes_yet job have act fit)
         ∙ get_or-replicate job.deal.graph.n v (no_notes job.deal) none (subst (λ n. v < n) its.one_each lt))
 
-    pub journals : (js : List (Option (JournalState DiskState))) → AreFirstJournals job.deal job.conforming job.deal.graph.n js → AreJournalsOf d ys js
-    journals js k = subst (λ (x : Deal). AreJournalsOf x ys js) (sym ed) (record {
+    pub journals : (js : List (Option (JournalState DiskState))) → AreFirstJournals job.deal job.conforming job.deal.graph.n js → AreMachineJournals d ys js
+    journals js k = subst (λ (x : Deal). AreMachineJournals x ys js) (sym ed) (record {
       one_each = k.one_each ∙ sym its.one_each;
       each = λ v m o lt here q.
           let is : slice_index_or job.conforming v false ≡ true = (its.each v (Conforming m) lt here).0 in

@@ -18,13 +18,13 @@ use Rattle.swap_job.specs.Step.{CanStep}
 use Rattle.swap_base.specs.Lists.{IsMoment}
 use Rattle.swap_rules.specs.Party.{pick_call}
 use Rattle.swap_rules.proofs.Prefixes.{same_or_not}
-use Rattle.party_wallet.specs.Value.{signed_in}
+use Rattle.party_wallet.specs.Value.{signed_hashkey}
 use Rattle.party_machine.specs.Machine.{MachineState, next_due}
 use Rattle.swap_rules.specs.Due.{Action}
 use Rattle.party_machine.specs.Recording.{MayHave}
 use Rattle.party_machine.proofs.Recorded.{below}
-use Rattle.wallet_journal.specs.Held.{Held, Leaves, read_bytes}
-use Rattle.wallet_journal.specs.Journal.{JournalState, signed_at}
+use Rattle.wallet_journal.specs.Held.{Held, Leaves, visible_bytes}
+use Rattle.wallet_journal.specs.Journal.{JournalState, listed_hashkey}
 use Rattle.wallet_journal.specs.Layout.{recorded}
 use Rattle.wallet_journal.specs.Memory.{DiskState}
 use Rattle.wallet_journal.specs.Stopped.{IsWrittenUp, ShowsAll}
@@ -35,8 +35,8 @@ use Rattle.swap_run.proofs.Good.{unlocks_are_signed}
 use Rattle.swap_run.proofs.Swept.{steps_on_are_good}
 use Rattle.swap_world.specs.Acting.{next_book, histories, next_machine, IsSameOwner}
 use Rattle.swap_world.specs.Cast.{made_cast}
-use Rattle.swap_world.specs.Inside.{notes_in, state_in, AreActorsOf, Holds, IsActorOf}
-use Rattle.swap_world.specs.Journals.{AreDisksOf, AreJournalsOf, IsBetween, IsDiskOf, IsSomeDisk, IsSomeJournal}
+use Rattle.swap_world.specs.Inside.{actor_notes, inside_run_state, ArePartyActors, Holds, IsPartyActor}
+use Rattle.swap_world.specs.Journals.{AreMachineDisks, AreMachineJournals, IsBetween, IsMachineDisk, IsSomeDisk, IsSomeJournal}
 use Rattle.swap_world.specs.declared.actor.Actor.{Actor}
 use Rattle.swap_world.specs.declared.actor.Actor.TheVariants.{Conforming, Planned, Manual}
 use Rattle.swap_world.specs.declared.world.World.TheInside.{Inside}
@@ -45,11 +45,12 @@ use Rattle.swap_world.proofs.States.{actor_set, acted, c, s, state, notes_at, Is
 use Rattle.swap_world.proofs.Worlds.{owned}
 use Rattle.swap_job.specs.Crafted.{Seeds}
 
--- What a machine signed, over a book: each unlock call of its party carries the hashkey that is signed for its lock.
+-- What a machine signed, over a book: each unlock call of its party carries the hashkey that is
+-- signed for its lock.
 pub record IsSigned (d : Deal) (v : ℕ) (b : Histories) (signed : List (Option Hashkey)) : Type 0 where
   pub places : length signed ≡ length d.leaders
   pub calls : (a : ℕ) (past : List Entry) (e : Entry) (key : Hashkey) → IsMoment (history b a) past e → pick_call v e ≡ Some (Unlock key)
-      → signed_in signed key.lock ≡ Some key
+      → signed_hashkey signed key.lock ≡ Some key
 
 -- the same of each machine
 abbrev pub HaveSigned : Deal → Histories → List Actor → Type 0
@@ -63,7 +64,7 @@ OthersSigned d b xs p =
 -- Disks between what was signed and what is.
 
 pub between_disk : (d : Deal) (v : ℕ) (b : Histories) (before after : List (Option Hashkey)) (h : Held) → IsBetween before after h → IsSigned d v b before
-    → IsDiskOf d v b after h
+    → IsMachineDisk d v b after h
 between_disk d v b before after h k signed = record {
   places = k.places ∙ signed.places;
   only = λ i key lt c left is. only i key c is (k.each i lt c left);
@@ -73,13 +74,13 @@ between_disk d v b before after h k signed = record {
       has key c mine (k.each key.lock lt c left);
 }
   where
-    only : (i : ℕ) (key : Hashkey) (c : List ℕ) → recorded c i ≡ Some key → (recorded c i ≡ signed_in before i) ⊎ (recorded c i ≡ signed_in after i)
-        → signed_in after i ≡ Some key
+    only : (i : ℕ) (key : Hashkey) (c : List ℕ) → recorded c i ≡ Some key → (recorded c i ≡ signed_hashkey before i) ⊎ (recorded c i ≡ signed_hashkey after i)
+        → signed_hashkey after i ≡ Some key
     only i key c is (inl e) = k.stays i key (sym e ∙ is)
     only i key c is (inr e) = sym e ∙ is
 
-    has : (key : Hashkey) (c : List ℕ) → signed_in before key.lock ≡ Some key
-        → (recorded c key.lock ≡ signed_in before key.lock) ⊎ (recorded c key.lock ≡ signed_in after key.lock) → recorded c key.lock ≡ Some key
+    has : (key : Hashkey) (c : List ℕ) → signed_hashkey before key.lock ≡ Some key
+        → (recorded c key.lock ≡ signed_hashkey before key.lock) ⊎ (recorded c key.lock ≡ signed_hashkey after key.lock) → recorded c key.lock ≡ Some key
     has key c mine (inl e) = e ∙ mine
     has key c mine (inr e) = e ∙ k.stays key.lock key mine
 
@@ -93,7 +94,7 @@ exact_between signed shown h same shows = record {
 
 -- the same, of which some was signed since
 pub signed_between : (before after shown : List (Option Hashkey)) (h : Held) → length after ≡ length before
-    → ((i : ℕ) (key : Hashkey) → signed_in before i ≡ Some key → signed_in after i ≡ Some key) → shown ≡ after → ShowsAll shown h → IsBetween before after h
+    → ((i : ℕ) (key : Hashkey) → signed_hashkey before i ≡ Some key → signed_hashkey after i ≡ Some key) → shown ≡ after → ShowsAll shown h → IsBetween before after h
 signed_between before after shown h places stays same shows = record {
   places = places;
   each = λ i lt c left. inr (subst (λ (l : List (Option Hashkey)). ShowsAll l h) same shows i lt c left);
@@ -102,7 +103,7 @@ signed_between before after shown h places stays same shows = record {
 
 -- a disk of which a crash leaves nothing new
 pub unwritten_between : (before after shown : List (Option Hashkey)) (h h' : Held) → length after ≡ length before
-    → ((i : ℕ) (key : Hashkey) → signed_in before i ≡ Some key → signed_in after i ≡ Some key) → shown ≡ before → ShowsAll shown h
+    → ((i : ℕ) (key : Hashkey) → signed_hashkey before i ≡ Some key → signed_hashkey after i ≡ Some key) → shown ≡ before → ShowsAll shown h
     → ((c : List ℕ) → Leaves h' c → Leaves h c) → IsBetween before after h'
 unwritten_between before after shown h h' places stays same shows fewer = record {
   places = places;
@@ -116,17 +117,17 @@ fewer_between before after h h' k fewer = record { places = k.places; each = λ 
 
 -- while a hashkey is recorded
 module _ (before after : List (Option Hashkey)) (d : DiskState) (h : Held) (next : Option Hashkey) (up : IsWrittenUp d before) (few : length before ≤ 8)
-    (places : length after ≡ length before) (stays : (i : ℕ) (key : Hashkey) → signed_in before i ≡ Some key → signed_in after i ≡ Some key)
-    (whole : (c : List ℕ) → Leaves h c → Leaves d.held c ⊎ MayHave (read_bytes d.held) next c)
-    (kept : (key : Hashkey) → next ≡ Some key → signed_in after key.lock ≡ Some key) where
+    (places : length after ≡ length before) (stays : (i : ℕ) (key : Hashkey) → signed_hashkey before i ≡ Some key → signed_hashkey after i ≡ Some key)
+    (whole : (c : List ℕ) → Leaves h c → Leaves d.held c ⊎ MayHave (visible_bytes d.held) next c)
+    (kept : (key : Hashkey) → next ≡ Some key → signed_hashkey after key.lock ≡ Some key) where
   there : (i : ℕ) (c : List ℕ) (key : Hashkey) → i < length before → next ≡ Some key
-      → (recorded c i ≡ recorded (read_bytes d.held) i) ⊎ ((i ≡ key.lock) × (recorded c i ≡ Some key))
-      → (recorded c i ≡ signed_in before i) ⊎ (recorded c i ≡ signed_in after i)
-  there i c key lt is (inl same) = inl (same ∙ up.shown i lt (read_bytes d.held) (seen_left d.held up.settled))
-  there i c key lt is (inr new) = inr (new.1 ∙ sym (ap (signed_in after) new.0 ∙ kept key is))
+      → (recorded c i ≡ recorded (visible_bytes d.held) i) ⊎ ((i ≡ key.lock) × (recorded c i ≡ Some key))
+      → (recorded c i ≡ signed_hashkey before i) ⊎ (recorded c i ≡ signed_hashkey after i)
+  there i c key lt is (inl same) = inl (same ∙ up.shown i lt (visible_bytes d.held) (seen_left d.held up.settled))
+  there i c key lt is (inr new) = inr (new.1 ∙ sym (ap (signed_hashkey after) new.0 ∙ kept key is))
 
-  may : (o : Option Hashkey) → next ≡ o → (i : ℕ) (c : List ℕ) → i < length before → Leaves d.held c ⊎ MayHave (read_bytes d.held) o c
-      → (recorded c i ≡ signed_in before i) ⊎ (recorded c i ≡ signed_in after i)
+  may : (o : Option Hashkey) → next ≡ o → (i : ℕ) (c : List ℕ) → i < length before → Leaves d.held c ⊎ MayHave (visible_bytes d.held) o c
+      → (recorded c i ≡ signed_hashkey before i) ⊎ (recorded c i ≡ signed_hashkey after i)
   may o is i c lt (inl was) = inl (up.shown i lt c was)
   may None is i c lt (inr new) = absurd new
   may (Some key) is i c lt (inr new) = there i c key lt is (new i (omega (arith, lt, few)))
@@ -140,8 +141,8 @@ module _ (before after : List (Option Hashkey)) (d : DiskState) (h : Held) (next
 
 -- after a crash, whose disk the journal shows
 module _ (before after shown : List (Option Hashkey)) (h h' : Held) (bytes : List ℕ) (k : IsBetween before after h) (left : Leaves h bytes)
-    (places : length shown ≡ length after) (is : (i : ℕ) → i < length shown → signed_at shown i ≡ recorded bytes i) (shows : ShowsAll shown h') where
-  read : (i : ℕ) → i < length after → (recorded bytes i ≡ signed_in before i) ⊎ (recorded bytes i ≡ signed_in after i)
+    (places : length shown ≡ length after) (is : (i : ℕ) → i < length shown → listed_hashkey shown i ≡ recorded bytes i) (shows : ShowsAll shown h') where
+  read : (i : ℕ) → i < length after → (recorded bytes i ≡ signed_hashkey before i) ⊎ (recorded bytes i ≡ signed_hashkey after i)
   read i lt = k.each i lt bytes left
 
   all : (i : ℕ) → i < length after → (c : List ℕ) → Leaves h' c → recorded c i ≡ recorded bytes i
@@ -150,8 +151,8 @@ module _ (before after shown : List (Option Hashkey)) (h h' : Held) (bytes : Lis
   pub crashed_between : IsBetween before after h'
   crashed_between = record { places = k.places; each = λ i lt c l. by i c (all i lt c l) (read i lt); stays = k.stays }
     where
-      by : (i : ℕ) (c : List ℕ) → recorded c i ≡ recorded bytes i → (recorded bytes i ≡ signed_in before i) ⊎ (recorded bytes i ≡ signed_in after i)
-          → (recorded c i ≡ signed_in before i) ⊎ (recorded c i ≡ signed_in after i)
+      by : (i : ℕ) (c : List ℕ) → recorded c i ≡ recorded bytes i → (recorded bytes i ≡ signed_hashkey before i) ⊎ (recorded bytes i ≡ signed_hashkey after i)
+          → (recorded c i ≡ signed_hashkey before i) ⊎ (recorded c i ≡ signed_hashkey after i)
       by i c e (inl x) = inl (e ∙ x)
       by i c e (inr x) = inr (e ∙ x)
 
@@ -159,39 +160,39 @@ module _ (before after shown : List (Option Hashkey)) (h h' : Held) (bytes : Lis
   pub resumed_between : (now : List (Option Hashkey)) → now ≡ shown → IsBetween before now h'
   resumed_between now same = signed_between before now shown h' (ap (λ (l : List (Option Hashkey)). length l) same ∙ (places ∙ k.places)) stays (sym same) shows
     where
-      by : (i : ℕ) (key : Hashkey) → signed_in before i ≡ Some key → (recorded bytes i ≡ signed_in before i) ⊎ (recorded bytes i ≡ signed_in after i)
+      by : (i : ℕ) (key : Hashkey) → signed_hashkey before i ≡ Some key → (recorded bytes i ≡ signed_hashkey before i) ⊎ (recorded bytes i ≡ signed_hashkey after i)
           → recorded bytes i ≡ Some key
       by i key e (inl x) = x ∙ e
       by i key e (inr x) = x ∙ k.stays i key e
 
-      stays : (i : ℕ) (key : Hashkey) → signed_in before i ≡ Some key → signed_in now i ≡ Some key
+      stays : (i : ℕ) (key : Hashkey) → signed_hashkey before i ≡ Some key → signed_hashkey now i ≡ Some key
       stays i key e =
           let lt : i < length after = subst (λ n. i < n) (sym k.places) (below before i key e) in
-          ap (λ (l : List (Option Hashkey)). signed_in l i) same ∙ (is i (subst (λ n. i < n) (sym places) lt) ∙ by i key e (read i lt))
+          ap (λ (l : List (Option Hashkey)). signed_hashkey l i) same ∙ (is i (subst (λ n. i < n) (sym places) lt) ∙ by i key e (read i lt))
 
 -- Books of good states.
 
 pub have_signed : (d : Deal) (conforming : List Bool) (seeds : Seeds) (roles : List Role) (t : State) (ys : List Actor)
-    → AreActorsOf d conforming seeds roles ys
-    → IsGood (made_cast d conforming seeds roles) t → t.notes ≡ map (notes_in d) ys → HaveSigned d t.book ys
+    → ArePartyActors d conforming seeds roles ys
+    → IsGood (made_cast d conforming seeds roles) t → t.notes ≡ map (actor_notes d) ys → HaveSigned d t.book ys
 have_signed d conforming seeds roles t ys actors good notes v m lt here =
     let is = actors.each v (Conforming m) lt here in
     let none : Notes = record { known = []; signed = [] } in
     let lv : v < d.graph.n = subst (λ n. v < n) actors.one_each lt in
     let same : state_notes t v ≡ record { known = m.known; signed = m.signed } =
     ap (λ (ns : List Notes). get_or ns v none) notes
-    ∙ (get_or-map (notes_in d) ys v (Conforming m) none lt ∙ ap (notes_in d) (sym here)) in
+    ∙ (get_or-map (actor_notes d) ys v (Conforming m) none lt ∙ ap (actor_notes d) (sym here)) in
     record {
       places = ap (λ (n : Notes). length n.signed) (sym same) ∙ (good.notes v lv is.0).places;
-      calls = λ a past e key mo q. ap (λ (n : Notes). signed_in n.signed key.lock) (sym same)
+      calls = λ a past e key mo q. ap (λ (n : Notes). signed_hashkey n.signed key.lock) (sym same)
           ∙ unlocks_are_signed (made_cast d conforming seeds roles) t v a past e key good lv is.0 mo q;
     }
 
 -- before an event that no machine notes, or after it
 pub have_either : (d : Deal) (conforming : List Bool) (seeds : Seeds) (roles : List Role) (qs : List Question) (ls : List LedgerState) (xs : List Actor)
-    (sw : ℕ → Bool) (e : Event) (b : Histories) → AreActorsOf d conforming seeds roles xs → IsReadyCast (c d conforming seeds roles qs ls xs)
+    (sw : ℕ → Bool) (e : Event) (b : Histories) → ArePartyActors d conforming seeds roles xs → IsReadyCast (c d conforming seeds roles qs ls xs)
     → CanStep d conforming seeds e → IsGood (c d conforming seeds roles qs ls xs) (s d conforming seeds roles qs ls xs)
-    → (apply_step sw (c d conforming seeds roles qs ls xs) (s d conforming seeds roles qs ls xs) e).notes ≡ map (notes_in d) xs
+    → (apply_step sw (c d conforming seeds roles qs ls xs) (s d conforming seeds roles qs ls xs) e).notes ≡ map (actor_notes d) xs
     → (b ≡ histories ls) ⊎ (b ≡ (apply_step sw (c d conforming seeds roles qs ls xs) (s d conforming seeds roles qs ls xs) e).book) → HaveSigned d b xs
 have_either d conforming seeds roles qs ls xs sw e b actors ready can good notes (inl q) =
     subst (λ (h : Histories). HaveSigned d h xs) (sym q) (have_signed d conforming seeds roles (s d conforming seeds roles qs ls xs) xs actors good refl)
@@ -203,8 +204,8 @@ have_either d conforming seeds roles qs ls xs sw e b actors ready can good notes
 
 -- The disks of a world.
 
-pub disks_stay : (d : Deal) (b : Histories) (xs : List Actor) (js : List (Option (JournalState DiskState))) → AreJournalsOf d xs js → HaveSigned d b xs
-    → AreDisksOf d b xs js
+pub disks_stay : (d : Deal) (b : Histories) (xs : List Actor) (js : List (Option (JournalState DiskState))) → AreMachineJournals d xs js → HaveSigned d b xs
+    → AreMachineDisks d b xs js
 disks_stay d b xs js k signed = record { one_each = k.one_each; each = λ v m o lt here q. some v m o (signed v m lt here) (k.each v m o lt here q) }
   where
     some : (v : ℕ) (m : MachineState) (o : Option (JournalState DiskState)) → IsSigned d v b m.signed → IsSomeJournal d v m.signed o
@@ -234,8 +235,8 @@ others_signed d b xs p x signed v m apart lt here =
 
 -- a machine and its journal stand in the place of party p
 pub disks_set : (d : Deal) (b : Histories) (xs : List Actor) (js : List (Option (JournalState DiskState))) (p : ℕ) (new : MachineState)
-    (j : JournalState DiskState) → AreJournalsOf d xs js → OthersSigned d b xs p → p < length xs → IsDiskOf d p b new.signed j.disk.held
-    → AreDisksOf d b (set xs p (Conforming new)) (set js p (Some j))
+    (j : JournalState DiskState) → AreMachineJournals d xs js → OthersSigned d b xs p → p < length xs → IsMachineDisk d p b new.signed j.disk.held
+    → AreMachineDisks d b (set xs p (Conforming new)) (set js p (Some j))
 disks_set d b xs js p new j k others lt here = record {
   one_each = length-set js p (Some j) ∙ (k.one_each ∙ sym (length-set xs p (Conforming new)));
   each = λ v m o l e q. at v m o (subst (λ n. v < n) (length-set xs p (Conforming new)) l) e q (same_or_not v p);
@@ -257,7 +258,7 @@ disks_set d b xs js p new j k others lt here = record {
         let it : Conforming m ≡ Conforming new =
         e ∙ (ap (λ u. get_or (set xs p (Conforming new)) u (Conforming m)) w ∙ get_or-set_same xs p (Conforming new) (Conforming m) lt) in
         subst (λ u. IsSomeDisk d u b m.signed o) (sym w) (subst (IsSomeDisk d p b m.signed) (sym is)
-        (subst (λ (l : List (Option Hashkey)). IsDiskOf d p b l j.disk.held) (sym (ap signed_by it)) here))
+        (subst (λ (l : List (Option Hashkey)). IsMachineDisk d p b l j.disk.held) (sym (ap signed_by it)) here))
     at v m o l e q (inr apart) =
         let x = e ∙ get_or-set_other xs p v (Conforming new) (Conforming m) apart in
         some v m o (others v m apart l x) (k.each v m o l x (q ∙ get_or-set_other js p v (Some j) o apart))
@@ -275,9 +276,9 @@ err_unless (Err e) stopped is on h = h
 -- memory ran out in a conforming party's crash
 pub crashed_disks : (d : Deal) (conforming : List Bool) (seeds : Seeds) (roles : List Role) (qs : List Question) (ls : List LedgerState) (xs : List Actor)
     (js : List (Option (JournalState DiskState))) (p : ℕ) (m new : MachineState) (j : JournalState DiskState)
-    → IsAt d conforming seeds roles qs ls xs p m → AreActorsOf d conforming seeds roles xs
-    → IsGood (c d conforming seeds roles qs ls xs) (s d conforming seeds roles qs ls xs) → AreJournalsOf d xs js
-    → IsBetween m.signed new.signed j.disk.held → AreDisksOf d (histories ls) (set xs p (Conforming new)) (set js p (Some j))
+    → IsAt d conforming seeds roles qs ls xs p m → ArePartyActors d conforming seeds roles xs
+    → IsGood (c d conforming seeds roles qs ls xs) (s d conforming seeds roles qs ls xs) → AreMachineJournals d xs js
+    → IsBetween m.signed new.signed j.disk.held → AreMachineDisks d (histories ls) (set xs p (Conforming new)) (set js p (Some j))
 crashed_disks d conforming seeds roles qs ls xs js p m new j place actors good k between =
     let signed = have_signed d conforming seeds roles (s d conforming seeds roles qs ls xs) xs actors good refl in
     disks_set d (histories ls) xs js p new j k (λ v l apart lt here. signed v l lt here) place.below
@@ -286,9 +287,9 @@ crashed_disks d conforming seeds roles qs ls xs js p m new j place actors good k
 -- memory ran out in its act: before its call, or after it
 module _ (d : Deal) (conforming : List Bool) (seeds : Seeds) (roles : List Role) (qs : List Question) (ls : List LedgerState) (xs : List Actor)
     (js : List (Option (JournalState DiskState))) (sw : ℕ → Bool) (p : ℕ) (m new : MachineState) (b : Histories) (j : JournalState DiskState)
-    (place : IsAt d conforming seeds roles qs ls xs p m) (actors : AreActorsOf d conforming seeds roles xs)
+    (place : IsAt d conforming seeds roles qs ls xs p m) (actors : ArePartyActors d conforming seeds roles xs)
     (ready : IsReadyCast (c d conforming seeds roles qs ls xs)) (known : p < d.graph.n)
-    (good : IsGood (c d conforming seeds roles qs ls xs) (s d conforming seeds roles qs ls xs)) (k : AreJournalsOf d xs js) where
+    (good : IsGood (c d conforming seeds roles qs ls xs) (s d conforming seeds roles qs ls xs)) (k : AreMachineJournals d xs js) where
   abbrev after : MachineState
   after = next_machine sw m (next_due m) (histories ls)
 
@@ -306,8 +307,8 @@ module _ (d : Deal) (conforming : List Bool) (seeds : Seeds) (roles : List Role)
       same None = record { deal = refl; me = refl; seed = refl }
       same (Some x) = record { deal = refl; me = refl; seed = refl }
 
-      owner_after : IsActorOf d (get_or conforming p false) (get_or seeds p None) (get_or roles p kinds.Manual) p (Conforming m)
-          → IsActorOf d (get_or conforming p false) (get_or seeds p None) (get_or roles p kinds.Manual) p (Conforming after)
+      owner_after : IsPartyActor d (get_or conforming p false) (get_or seeds p None) (get_or roles p kinds.Manual) p (Conforming m)
+          → IsPartyActor d (get_or conforming p false) (get_or seeds p None) (get_or roles p kinds.Manual) p (Conforming after)
       owner_after is =
           owned d (get_or conforming p false) (get_or seeds p None) (get_or roles p kinds.Manual) p m after (same (next_due m)) is
 
@@ -316,34 +317,34 @@ module _ (d : Deal) (conforming : List Bool) (seeds : Seeds) (roles : List Role)
       after_signed p after (subst (λ n. p < n) (sym (length-set xs p (Conforming after))) place.below)
       (sym (get_or-set_same xs p (Conforming after) (Conforming after) place.below))
 
-  made_disks : (b ≡ called) × (new.signed ≡ after.signed) × ShowsAll new.signed j.disk.held → AreDisksOf d b (set xs p (Conforming new)) (set js p (Some j))
+  made_disks : (b ≡ called) × (new.signed ≡ after.signed) × ShowsAll new.signed j.disk.held → AreMachineDisks d b (set xs p (Conforming new)) (set js p (Some j))
   made_disks e =
-      subst (λ (h : Histories). AreDisksOf d h (set xs p (Conforming new)) (set js p (Some j))) (sym e.0)
+      subst (λ (h : Histories). AreMachineDisks d h (set xs p (Conforming new)) (set js p (Some j))) (sym e.0)
       (disks_set d called xs js p new j k (others_signed d called xs p (Conforming after) after_signed) place.below
       (between_disk d p called new.signed new.signed j.disk.held (exact_between new.signed new.signed j.disk.held refl e.2)
       (subst (λ (l : List (Option Hashkey)). IsSigned d p called l) (sym e.1) here_signed)))
 
   pub stopped_disks : {A E : Type 0} (r : Result A E) → OnErr r (IsBetween m.signed new.signed j.disk.held)
       → OnErr r ((b ≡ histories ls) ⊎ ((b ≡ called) × (new.signed ≡ after.signed) × ShowsAll new.signed j.disk.held))
-      → OnErr r (AreDisksOf d b (set xs p (Conforming new)) (set js p (Some j)))
+      → OnErr r (AreMachineDisks d b (set xs p (Conforming new)) (set js p (Some j)))
   stopped_disks (Ok x) between made = tt
   stopped_disks (Err e) between (inl is) =
-      subst (λ (h : Histories). AreDisksOf d h (set xs p (Conforming new)) (set js p (Some j))) (sym is)
+      subst (λ (h : Histories). AreMachineDisks d h (set xs p (Conforming new)) (set js p (Some j))) (sym is)
       (crashed_disks d conforming seeds roles qs ls xs js p m new j place actors good k between)
   stopped_disks (Err e) between (inr is) = made_disks is
 
-pub all_disks : (w : Inside) → Holds w → AreDisksOf w.deal (histories w.ledgers.items) w.actors.items w.journals.items
+pub all_disks : (w : Inside) → Holds w → AreMachineDisks w.deal (histories w.ledgers.items) w.actors.items w.journals.items
 all_disks w k = go w.stopped refl
   where
-    go : (b : Bool) → w.stopped ≡ b → AreDisksOf w.deal (histories w.ledgers.items) w.actors.items w.journals.items
+    go : (b : Bool) → w.stopped ≡ b → AreMachineDisks w.deal (histories w.ledgers.items) w.actors.items w.journals.items
     go true e = k.disks e
     go false e =
         disks_stay w.deal (histories w.ledgers.items) w.actors.items w.journals.items (k.journals e)
-        (have_signed w.deal w.conforming w.seeds w.roles (state_in w) w.actors.items k.actors (k.good e) refl)
+        (have_signed w.deal w.conforming w.seeds w.roles (inside_run_state w) w.actors.items k.actors (k.good e) refl)
 
 -- The disk of a conforming party.
 module _ (d : Deal) (conforming : List Bool) (seeds : List (Option (List ℕ))) (roles : List Role) (qs : List Question) (ls : List LedgerState) (xs : List Actor)
-    (js : List (Option (JournalState DiskState))) (actors : AreActorsOf d conforming seeds roles xs) (b : Histories) (k : AreDisksOf d b xs js) (p : ℕ)
+    (js : List (Option (JournalState DiskState))) (actors : ArePartyActors d conforming seeds roles xs) (b : Histories) (k : AreMachineDisks d b xs js) (p : ℕ)
     (known : p < d.graph.n) (conforms : get_or conforming p false ≡ true) (o : Option (JournalState DiskState)) (here : o ≡ get_or js p o) where
   low : p < length xs
   low = subst (λ n. p < n) (sym actors.one_each) known

@@ -17,13 +17,13 @@ use Rattle.swap_job.specs.declared.moves.Move.{Move}
 use Rattle.swap_rules.specs.Due.{Action}
 use Rattle.swap_run.specs.Asked.{Answers, with_answers, is_strategy}
 use Rattle.swap_run.specs.Run.{Cast, Question, State, conforms, party_role, party_plan, look, next_action, watch, after_turn, continued_run, step}
-use Rattle.swap_run.specs.Called.{Called, by_due, called_as, apply_step}
+use Rattle.swap_run.specs.Called.{Called, by_due, role_call, apply_step}
 use Rattle.swap_run.specs.Steps.{IsAlong}
 use Rattle.swap_run.proofs.Along.{along_start, along_more, along_after, along_step}
 use Rattle.swap_world.specs.Cast.{asks}
 use Rattle.swap_world.specs.Value.{WorldState, world_cast, answering_cast, Continues}
 use Rattle.swap_world.specs.Actors.{AreHeld}
-use Rattle.swap_world.specs.Gone.{MayGive, Answered, MayBeGiven, HasAsked, HasGone, IsCutBy, IsCut}
+use Rattle.swap_world.specs.Gone.{MayGive, Answered, MayBeGiven, HasAsked, HasGone, IsCutMidway, IsCut}
 use Rattle.swap_world.specs.On.{event_told, told_of_call}
 use Rattle.swap_world.specs.declared.told.Told.{Told}
 use Rattle.swap_world.specs.Stopped.{IsStopped}
@@ -267,7 +267,7 @@ quiet_rests f c s k e g = k.same g ∙ e
 -- What is told where nothing is asked.
 
 told_as : (sw : ℕ → Bool) (c : Cast) (s : State) (v : ℕ) (role : Role) (g : Answers) → is_strategy role ≡ false
-    → called_as (with_answers c g) s v role ≡ called_as c s v role
+    → role_call (with_answers c g) s v role ≡ role_call c s v role
 told_as sw c s v Conforming g e = refl
 told_as sw c s v Manual g e = refl
 told_as sw c s v (Script moves) g e = refl
@@ -277,8 +277,8 @@ own_told : (sw : ℕ → Bool) (c : Cast) (s : State) (v : ℕ) (b : Bool) (g : 
     → cond b false (is_strategy (party_role c v)) ≡ false → event_told sw (with_answers c g) s (Act v) ≡ event_told sw c s (Act v)
 own_told sw c s v true g e alone =
     let due : Option Called = by_due v (next_action c s v) in
-    ap (λ (b : Bool). told_of_call sw c s (cond b due (called_as (with_answers c g) s v (party_role c v)))) e
-    ∙ sym (ap (λ (b : Bool). told_of_call sw c s (cond b due (called_as c s v (party_role c v)))) e)
+    ap (λ (b : Bool). told_of_call sw c s (cond b due (role_call (with_answers c g) s v (party_role c v)))) e
+    ∙ sym (ap (λ (b : Bool). told_of_call sw c s (cond b due (role_call c s v (party_role c v)))) e)
 own_told sw c s v false g e alone =
     ap (λ (o : Option Called). told_of_call sw c s (cond (conforms c v) (by_due v (next_action c s v)) o)) (told_as sw c s v (party_role c v) g alone)
 
@@ -336,7 +336,7 @@ went (Err x) gives f old new quiet is = tt
 
 -- and one in which memory ran out, with nothing changed
 pub unmoved : {A E : Type 0} (r : Result A E) (gives : MayGive) (f : Cast → State → State) (old new : WorldState) → OnErr r (new ≡ old)
-    → OnErr r (IsCutBy gives f old new)
+    → OnErr r (IsCutMidway gives f old new)
 unmoved (Ok x) gives f old new is = tt
 unmoved (Err x) gives f old new is = record {
   cast = ap world_cast is;
@@ -347,7 +347,7 @@ unmoved (Err x) gives f old new is = record {
 -- or after the call
 pub cut_to : (gives : MayGive) (f : Cast → State → State) (old new : WorldState) → IsQuiet f (world_cast old) old.state → world_cast new ≡ world_cast old
     → new.state.asked ≡ old.state.asked → new.answers ≡ old.answers
-    → (new.state.book ≡ old.state.book) ⊎ (new.state.book ≡ (f (world_cast old) old.state).book) → IsCutBy gives f old new
+    → (new.state.book ≡ old.state.book) ⊎ (new.state.book ≡ (f (world_cast old) old.state).book) → IsCutMidway gives f old new
 cut_to gives f old new quiet cast asked answers book = record { cast = cast; asked = nothing_asked gives old new asked answers; book = by book }
   where
     by : (new.state.book ≡ old.state.book) ⊎ (new.state.book ≡ (f (world_cast old) old.state).book)
@@ -357,13 +357,13 @@ cut_to gives f old new quiet cast asked answers book = record { cast = cast; ask
 
 pub cut : {A E : Type 0} (r : Result A E) (gives : MayGive) (f : Cast → State → State) (old new : WorldState) → IsQuiet f (world_cast old) old.state
     → OnErr r (world_cast new ≡ world_cast old) → OnErr r (new.state.asked ≡ old.state.asked) → OnErr r (new.answers ≡ old.answers)
-    → OnErr r ((new.state.book ≡ old.state.book) ⊎ (new.state.book ≡ (f (world_cast old) old.state).book)) → OnErr r (IsCutBy gives f old new)
+    → OnErr r ((new.state.book ≡ old.state.book) ⊎ (new.state.book ≡ (f (world_cast old) old.state).book)) → OnErr r (IsCutMidway gives f old new)
 cut (Ok x) gives f old new quiet cast asked answers book = tt
 cut (Err x) gives f old new quiet cast asked answers book = cut_to gives f old new quiet cast asked answers book
 
 -- a cut world that stops
 pub cut_still : (gives : MayGive) (f : Cast → State → State) (old mid new : WorldState) → world_cast new ≡ world_cast mid → new.answers ≡ mid.answers
-    → new.state ≡ mid.state → IsCutBy gives f old mid → IsCutBy gives f old new
+    → new.state ≡ mid.state → IsCutMidway gives f old mid → IsCutMidway gives f old new
 cut_still gives f old mid new cast answers state k = record {
   cast = cast ∙ k.cast;
   asked = record {
@@ -383,7 +383,7 @@ cut_still gives f old mid new cast answers state k = record {
 
 -- a cut by a function that is the same
 pub cut_as : (gives : MayGive) (f h : Cast → State → State) (old new : WorldState)
-    → ((g : Answers) → f (answering_cast old g) old.state ≡ h (answering_cast old g) old.state) → IsCutBy gives f old new → IsCutBy gives h old new
+    → ((g : Answers) → f (answering_cast old g) old.state ≡ h (answering_cast old g) old.state) → IsCutMidway gives f old new → IsCutMidway gives h old new
 cut_as gives f h old new e k = record { cast = k.cast; asked = k.asked; book = by k.book }
   where
     by : (new.state.book ≡ old.state.book) ⊎ ((g : Answers) → Continues new g → new.state.book ≡ (f (answering_cast old g) old.state).book)

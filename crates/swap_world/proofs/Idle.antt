@@ -1,4 +1,5 @@
--- Rounds in which nobody makes a call: what rests goes on resting, and ticks alone lead to where they lead once a round follows.
+-- Rounds in which nobody makes a call: what rests goes on resting, and ticks alone lead to where
+-- they lead once a round follows.
 use Rattle.std.proofs.Common.{◌≡◌, ◌≢◌, ◌⊎◌, inl, inr, ℕ, zero, suc, ◌+◌, ◌<◌, ◌≤◌, arith, Bool, true, false, ◌&&◌, List, [], ◌∷◌, ◌++◌, length, get_or}
 use Rattle.std.proofs.Common.{set, drop, slice_index_or, Option, Some, None, refl, sym, ap, ap₂, ◌∙◌, subst, append-nil, append_assoc, length-append}
 use Rattle.std.specs.List.{All}
@@ -6,7 +7,7 @@ use Rattle.std.proofs.lemmas.Bool.{false≢true}
 use Rattle.std.proofs.lemmas.List.{length-set}
 use Rattle.std.proofs.lemmas.List.Elements.{All-head, All-tail, All-weaker}
 use Rattle.std.proofs.lemmas.List.Folds.{list_all-append}
-use Rattle.swap_base.specs.Lists.{IsIn}
+use Rattle.swap_base.specs.Lists.{IsElement}
 use Rattle.swap_digraph.specs.declared.deal.Deal.{Deal}
 use Rattle.ledger_core.specs.declared.entry.Entry.{Entry}
 use Rattle.ledger_core.specs.Value.{LedgerState}
@@ -14,7 +15,7 @@ use Rattle.ledger_core.specs.History.{height}
 use Rattle.ledger_core.specs.Book.{Histories, history}
 use Rattle.swap_job.specs.declared.job.Role.{Role}
 use Rattle.swap_job.specs.declared.job.Role.TheVariants as kinds
-use Rattle.party_wallet.specs.Value.{signed_in}
+use Rattle.party_wallet.specs.Value.{signed_hashkey}
 use Rattle.swap_rules.specs.Due.{Wallet, due, first}
 use Rattle.swap_rules.specs.Machine.{Begins}
 use Rattle.swap_rules.specs.Rest.{are_ticks, is_ticking}
@@ -27,14 +28,14 @@ use Rattle.party_machine.proofs.Resting.{still}
 use Rattle.swap_run.specs.Asked.{Answers, with_answers}
 use Rattle.swap_run.specs.Run.{Cast, Notes, Question, State, conforms, party_role, is_planned, state_notes}
 use Rattle.swap_run.specs.Fair.{repeat, adjacent_arcs, the_horizon, ticks, has_ended}
-use Rattle.swap_run.specs.Quiet.{over, IsIdle}
+use Rattle.swap_run.specs.Quiet.{overlaid_histories, IsIdle}
 use Rattle.swap_run.specs.Steps.{IsSkipped}
 use Rattle.swap_run.specs.Laws.{IsReadyCast, IsGood}
 use Rattle.swap_run.proofs.Quiet.{Risen, rises, stays_low, notes_kept}
 use Rattle.swap_run.proofs.Skipped.{is_skipped, none_skipped}
-use Rattle.swap_world.specs.Cast.{wallet_with}
+use Rattle.swap_world.specs.Cast.{signing_wallet}
 use Rattle.swap_world.specs.Acting.{histories}
-use Rattle.swap_world.specs.Inside.{IsActorOf, AreActorsOf, AreLedgersOf}
+use Rattle.swap_world.specs.Inside.{IsPartyActor, ArePartyActors, AreArcLedgers}
 use Rattle.swap_world.specs.Quiet.{IsRaised, AreRaised, IsStill, IsLow, IsCalm, IsCalmActor, IsReadyActor, HaveArcs}
 use Rattle.swap_world.specs.declared.actor.Actor.{Actor}
 use Rattle.swap_world.specs.declared.actor.Actor.TheVariants.{Conforming, Planned, Manual}
@@ -103,8 +104,8 @@ abbrev knowing : MachineState → Histories → MachineState
 knowing m k = record { deal = m.deal; me = m.me; seed = m.seed; known = k; signed = m.signed }
 
 rests_over : (t : ℕ) (m : MachineState) (b k : Histories) (js : List ℕ) → IsAtRest (Some t) (knowing m k)
-    → ((x : ℕ) → IsIn x js → IsFresh k x t (history b x)) → ((x : ℕ) → IsIn x js → x < length k)
-    → IsAtRest (Some t) (knowing m (over b js k))
+    → ((x : ℕ) → IsElement x js → IsFresh k x t (history b x)) → ((x : ℕ) → IsElement x js → x < length k)
+    → IsAtRest (Some t) (knowing m (overlaid_histories b js k))
 rests_over t m b k [] r f l = r
 rests_over t m b k (a ∷ js) r f l =
     let here = f a (inl refl) in
@@ -115,7 +116,7 @@ rests_over t m b k (a ∷ js) r f l =
     rests_over t m b (set k a (history b a)) js (subst (λ (z : Histories). IsAtRest (Some t) (knowing m z)) (sym is) rest)
     (λ x i. fresh_after k b a x t (same_or_not x a) (l x (inr i)) (f x (inr i))) (λ x i. rw (length-set k a (history b a)) (l x (inr i)))
 
-all_in : {A : Type 0} (P : A → Type 0) (xs : List A) (x : A) → All P xs → IsIn x xs → P x
+all_in : {A : Type 0} (P : A → Type 0) (xs : List A) (x : A) → All P xs → IsElement x xs → P x
 all_in P [] x h i = absurd i
 all_in P (y ∷ xs) x h (inl e) = subst P (sym e) (All-head P y xs h)
 all_in P (y ∷ xs) x h (inr i) = all_in P xs x (All-tail P y xs h) i
@@ -141,7 +142,7 @@ module _ (d : Deal) (conforming : List Bool) (seeds : List (Option (List ℕ))) 
       let noted : state_notes now p ≡ record { known = k; signed = m.signed } = notes_at d conforming seeds roles qs ls xs p m at in
       let long : length k ≡ length d.graph.arcs = ap (λ (z : Notes). length z.known) (sym noted) ∙ (good.notes p lp at.is.0).one_each in
       let low : All (λ a. a < length d.graph.arcs) near = near_low d p in
-      let fresh = λ (x : ℕ) (j : IsIn x near).
+      let fresh = λ (x : ℕ) (j : IsElement x near).
       let b = begins d conforming seeds roles qs ls xs ready good p lp m at x in
       let quiet = all_in (λ a. IsLow (length (history k a)) calm.until n (history book a)) near x calm.low j in
       let lx : x < length d.graph.arcs = all_in (λ a. a < length d.graph.arcs) near x low j in
@@ -150,10 +151,10 @@ module _ (d : Deal) (conforming : List Bool) (seeds : List (Option (List ℕ))) 
       let rests = rests_over calm.until m after k near calm.rests fresh
       (λ x j. subst (λ z. x < z) (sym long) (all_in (λ a. a < length d.graph.arcs) near x low j)) in
       let w : cast.wallet p ≡ seed_wallet m.seed m.me m.deal
-      = ap (λ (o : Option (List ℕ)). wallet_with o p d) at.is.3 ∙ ap₂ (λ (v : ℕ) (e : Deal). seed_wallet m.seed v e) (sym at.is.2) (sym at.is.1) in
-      let none : first (due d p (cast.wallet p) (signed_in m.signed) (over after near k)) ≡ None
-      = ap (λ (w : Wallet). first (due d p w (signed_in m.signed) (over after near k))) w
-      ∙ ap₂ (λ (v : ℕ) (e : Deal). first (due e v (seed_wallet m.seed m.me m.deal) (signed_in m.signed) (over after near k))) (sym at.is.2)
+      = ap (λ (o : Option (List ℕ)). signing_wallet o p d) at.is.3 ∙ ap₂ (λ (v : ℕ) (e : Deal). seed_wallet m.seed v e) (sym at.is.2) (sym at.is.1) in
+      let none : first (due d p (cast.wallet p) (signed_hashkey m.signed) (overlaid_histories after near k)) ≡ None
+      = ap (λ (w : Wallet). first (due d p w (signed_hashkey m.signed) (overlaid_histories after near k))) w
+      ∙ ap₂ (λ (v : ℕ) (e : Deal). first (due e v (seed_wallet m.seed m.me m.deal) (signed_hashkey m.signed) (overlaid_histories after near k))) (sym at.is.2)
       (sym at.is.1)
       ∙ rests.nothing in
       subst (IsIdle cast after p) (sym noted) none
@@ -172,7 +173,7 @@ module _ (d : Deal) (conforming : List Bool) (seeds : List (Option (List ℕ))) 
           }
 
   idles_by : (n i : ℕ) (p : ℕ) (x : Actor) (after : Histories) → i < n → p < d.graph.n → p < length xs → x ≡ get_or xs p x
-      → IsActorOf d (slice_index_or conforming p false) (slice_index_or seeds p None) (slice_index_or roles p kinds.Manual) p x
+      → IsPartyActor d (slice_index_or conforming p false) (slice_index_or seeds p None) (slice_index_or roles p kinds.Manual) p x
       → conforms cast p ≡ true → IsCalmActor n book (adjacent_arcs d p) x → AreRaised i book after → IsIdle cast after p (state_notes now p)
   idles_by n i p (Conforming m) after l lp lx here is cp calm raised =
       machine_idles n i p m after l lp (record { below = lx; here = here; is = is }) calm raised
@@ -180,14 +181,14 @@ module _ (d : Deal) (conforming : List Bool) (seeds : List (Option (List ℕ))) 
   idles_by n i p Manual after l lp lx here is cp calm raised = absurd (false≢true (sym is.0 ∙ cp))
 
   plain_by : (n p : ℕ) (x : Actor)
-      → IsActorOf d (slice_index_or conforming p false) (slice_index_or seeds p None) (slice_index_or roles p kinds.Manual) p x
+      → IsPartyActor d (slice_index_or conforming p false) (slice_index_or seeds p None) (slice_index_or roles p kinds.Manual) p x
       → conforms cast p ≡ false → IsCalmActor n book (adjacent_arcs d p) x → is_planned (party_role cast p) ≡ false
   plain_by n p (Conforming m) is cp calm = absurd (false≢true (sym cp ∙ is.0))
   plain_by n p (Planned x) is cp calm = absurd calm
   plain_by n p Manual is cp calm = is.1
 
   -- rounds in which nobody makes a call
-  pub rests : (n : ℕ) → AreActorsOf d conforming seeds roles xs
+  pub rests : (n : ℕ) → ArePartyActors d conforming seeds roles xs
       → ((v : ℕ) (x : Actor) → v < length xs → IsCalmActor n book (adjacent_arcs d v) (slice_index_or xs v x)) → IsStill cast n now
   rests n actors calm =
       let at = λ (v : ℕ) (lv : v < d.graph.n). subst (λ z. v < z) (sym actors.one_each) lv in
@@ -200,8 +201,8 @@ module _ (d : Deal) (conforming : List Bool) (seeds : List (Option (List ℕ))) 
             idles_by n i v (x v) after l lv (at v lv) (here v lv) (actors.each v (x v) (at v lv) (here v lv)) cv (calm v Manual (at v lv)) raised;
       }
 
-  ready_by : (p : ℕ) (x : Actor) → AreLedgersOf d ls → p < d.graph.n → p < length xs → x ≡ get_or xs p x
-      → IsActorOf d (slice_index_or conforming p false) (slice_index_or seeds p None) (slice_index_or roles p kinds.Manual) p x
+  ready_by : (p : ℕ) (x : Actor) → AreArcLedgers d ls → p < d.graph.n → p < length xs → x ≡ get_or xs p x
+      → IsPartyActor d (slice_index_or conforming p false) (slice_index_or seeds p None) (slice_index_or roles p kinds.Manual) p x
       → IsReadyActor (length ls) book (adjacent_arcs d p) x
   ready_by p (Conforming m) ledgers lp lx here is =
       let at : IsAt d conforming seeds roles qs ls xs p m = record { below = lx; here = here; is = is } in
@@ -214,7 +215,7 @@ module _ (d : Deal) (conforming : List Bool) (seeds : List (Option (List ℕ))) 
   ready_by p Manual ledgers lp lx here is = tt
 
   -- what is asked before
-  pub are_ready : AreLedgersOf d ls → AreActorsOf d conforming seeds roles xs → (v : ℕ) (x : Actor) → v < length xs
+  pub are_ready : AreArcLedgers d ls → ArePartyActors d conforming seeds roles xs → (v : ℕ) (x : Actor) → v < length xs
       → IsReadyActor (length ls) book (adjacent_arcs d v) (slice_index_or xs v x)
   are_ready ledgers actors v x l =
       let y = get_or xs v x in

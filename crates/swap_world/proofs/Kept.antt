@@ -15,20 +15,20 @@ use Rattle.swap_rules.proofs.Prefixes.{same_or_not}
 use Rattle.party_machine.specs.Machine.{MachineState}
 use Rattle.wallet_journal.specs.Journal.{JournalState}
 use Rattle.wallet_journal.specs.Memory.{DiskState}
-use Rattle.swap_world.specs.Journals.{IsJournalOf, IsSomeJournal, AreJournalsOf, IsFirstJournal, AreFirstJournals}
+use Rattle.swap_world.specs.Journals.{IsMachineJournal, IsSomeJournal, AreMachineJournals, IsFirstJournal, AreFirstJournals}
 use Rattle.swap_world.specs.declared.actor.Actor.{Actor}
 use Rattle.swap_world.specs.declared.actor.Actor.TheVariants.{Conforming, Planned, Manual}
 use Rattle.swap_world.specs.Acting.{histories}
-use Rattle.swap_world.specs.Inside.{AreActorsOf}
+use Rattle.swap_world.specs.Inside.{ArePartyActors}
 use Rattle.swap_world.proofs.States.{state, notes_at}
 
-module _ (d : Deal) (xs : List Actor) (js : List (Option (JournalState DiskState))) (p : ℕ) (x : Actor) (k : AreJournalsOf d xs js) (lt : p < length xs) where
+module _ (d : Deal) (xs : List Actor) (js : List (Option (JournalState DiskState))) (p : ℕ) (x : Actor) (k : AreMachineJournals d xs js) (lt : p < length xs) where
   is_at : (m : MachineState) (v : ℕ) → v ≡ p → Conforming m ≡ get_or (set xs p x) v (Conforming m) → x ≡ Conforming m
   is_at m v s e = sym (e ∙ (ap (λ u. get_or (set xs p x) u (Conforming m)) s ∙ get_or-set_same xs p x (Conforming m) lt))
 
   -- the actor's journal stays
   pub journals_stay : ((m : MachineState) (o : Option (JournalState DiskState)) → x ≡ Conforming m → o ≡ get_or js p o → IsSomeJournal d p m.signed o)
-      → AreJournalsOf d (set xs p x) js
+      → AreMachineJournals d (set xs p x) js
   journals_stay here = record {
     one_each = k.one_each ∙ sym (length-set xs p x);
     each = λ v m o l e q. at v m o (subst (λ n. v < n) (length-set xs p x) l) e q (same_or_not v p);
@@ -42,7 +42,7 @@ module _ (d : Deal) (xs : List Actor) (js : List (Option (JournalState DiskState
 
   -- the actor's journal is another
   pub journals_set : (r : Option (JournalState DiskState)) → ((m : MachineState) → x ≡ Conforming m → IsSomeJournal d p m.signed r)
-      → AreJournalsOf d (set xs p x) (set js p r)
+      → AreMachineJournals d (set xs p x) (set js p r)
   journals_set r here = record {
     one_each = length-set js p r ∙ (k.one_each ∙ sym (length-set xs p x));
     each = λ v m o l e q. at v m o (subst (λ n. v < n) (length-set xs p x) l) e q (same_or_not v p);
@@ -57,8 +57,8 @@ module _ (d : Deal) (xs : List Actor) (js : List (Option (JournalState DiskState
           k.each v m o l (e ∙ get_or-set_other xs p v x (Conforming m) n) (q ∙ get_or-set_other js p v r o n)
 
 -- of one that follows a script or a strategy there is none
-pub journals_planned : (d : Deal) (xs : List Actor) (js : List (Option (JournalState DiskState))) (p : ℕ) (n : Plan) → AreJournalsOf d xs js → p < length xs
-    → AreJournalsOf d (set xs p (Planned n)) js
+pub journals_planned : (d : Deal) (xs : List Actor) (js : List (Option (JournalState DiskState))) (p : ℕ) (n : Plan) → AreMachineJournals d xs js → p < length xs
+    → AreMachineJournals d (set xs p (Planned n)) js
 journals_planned d xs js p n k lt = journals_stay d xs js p (Planned n) k lt (λ m o e q. absurd (cc e))
 
 abbrev signed_by : Actor → List (Option Hashkey)
@@ -66,18 +66,18 @@ signed_by (Conforming m) = m.signed
 signed_by _ = []
 
 -- a machine that learns signs nothing
-pub journals_learnt : (d : Deal) (xs : List Actor) (js : List (Option (JournalState DiskState))) (p : ℕ) (m new : MachineState) → AreJournalsOf d xs js
-    → p < length xs → Conforming m ≡ get_or xs p (Conforming m) → new.signed ≡ m.signed → AreJournalsOf d (set xs p (Conforming new)) js
+pub journals_learnt : (d : Deal) (xs : List Actor) (js : List (Option (JournalState DiskState))) (p : ℕ) (m new : MachineState) → AreMachineJournals d xs js
+    → p < length xs → Conforming m ≡ get_or xs p (Conforming m) → new.signed ≡ m.signed → AreMachineJournals d (set xs p (Conforming new)) js
 journals_learnt d xs js p m new k lt here same =
     journals_stay d xs js p (Conforming new) k lt
     (λ l o e q. subst (λ (s : List (Option Hashkey)). IsSomeJournal d p s o) (sym same ∙ ap signed_by e) (k.each p m o lt here q))
 
 -- a machine that has signed has its journal
 pub journals_act : (d : Deal) (xs : List Actor) (js : List (Option (JournalState DiskState))) (p : ℕ) (new : MachineState) (j : JournalState DiskState)
-    → AreJournalsOf d xs js → p < length xs → IsJournalOf d p new.signed j → AreJournalsOf d (set xs p (Conforming new)) (set js p (Some j))
+    → AreMachineJournals d xs js → p < length xs → IsMachineJournal d p new.signed j → AreMachineJournals d (set xs p (Conforming new)) (set js p (Some j))
 journals_act d xs js p new j k lt is =
     journals_set d xs js p (Conforming new) k lt (Some j)
-    (λ l e. subst (λ (s : List (Option Hashkey)). IsJournalOf d p s j) (ap signed_by e) is)
+    (λ l e. subst (λ (s : List (Option Hashkey)). IsMachineJournal d p s j) (ap signed_by e) is)
 
 -- what a machine signed, after it learnt or where memory ran out
 pub still_signed : {A E : Type 0} (r : Result A E) (m new : MachineState) (k : Histories)
@@ -116,7 +116,7 @@ first_more d conforming n js y k i = record {
 
 -- The journal of a conforming party.
 module _ (d : Deal) (conforming : List Bool) (seeds : List (Option (List ℕ))) (roles : List Role) (qs : List Question) (ls : List LedgerState) (xs : List Actor)
-    (js : List (Option (JournalState DiskState))) (actors : AreActorsOf d conforming seeds roles xs) (k : AreJournalsOf d xs js) (p : ℕ) (known : p < d.graph.n)
+    (js : List (Option (JournalState DiskState))) (actors : ArePartyActors d conforming seeds roles xs) (k : AreMachineJournals d xs js) (p : ℕ) (known : p < d.graph.n)
     (conforms : get_or conforming p false ≡ true) (o : Option (JournalState DiskState)) (here : o ≡ get_or js p o) where
   low : p < length xs
   low = subst (λ n. p < n) (sym actors.one_each) known

@@ -13,7 +13,7 @@ use Rattle.ledger_core.specs.History.{IsLegal}
 use Rattle.std.specs.List.{range_with_len}
 use Rattle.swap_run.specs.Run.{no_histories}
 use Rattle.swap_world.specs.Acting.{histories}
-use Rattle.swap_world.specs.Inside.{AreLedgersOf, IsLedgerOf, new_ledger, new_ledgers}
+use Rattle.swap_world.specs.Inside.{AreArcLedgers, IsArcLedger, new_ledger, new_ledgers}
 
 pub on_ok : {A E : Type 0} {P Q : Type 0} (r : Result A E) → (P → Q) → OnOk r P → OnOk r Q
 on_ok (Ok x) f h = f h
@@ -40,13 +40,13 @@ pub unchanged : (ls : List LedgerState) (a : ℕ) (old new : LedgerState) → ol
     → histories (set ls a new) ≡ histories ls
 unchanged ls a old new is e = map-set_same (λ (x : LedgerState). x.history) ls a new old (e ∙ ap (λ (x : LedgerState). x.history) is)
 
-legal_at : (d : Deal) (ls : List LedgerState) (a : ℕ) → AreLedgersOf d ls → a < length ls → IsLegal d a (history (histories ls) a)
+legal_at : (d : Deal) (ls : List LedgerState) (a : ℕ) → AreArcLedgers d ls → a < length ls → IsLegal d a (history (histories ls) a)
 legal_at d [] a k lt = absurd (omega arith)
 legal_at d (x ∷ ls) a k lt =
     let here : get_or (x ∷ ls) a x ≡ get_or (x ∷ ls) a (get_or (x ∷ ls) a x) = get_or_default (x ∷ ls) a x (get_or (x ∷ ls) a x) lt in
     rw (history_at (x ∷ ls) a (get_or (x ∷ ls) a x) lt here) ((k.each a (get_or (x ∷ ls) a x) lt here).legal)
 
-pub legal_book : (d : Deal) (ls : List LedgerState) → AreLedgersOf d ls → IsLegalBook d (histories ls)
+pub legal_book : (d : Deal) (ls : List LedgerState) → AreArcLedgers d ls → IsLegalBook d (histories ls)
 legal_book d ls k = record {
   one_each = length-map ls (λ (x : LedgerState). x.history) ∙ k.one_each;
   legal = λ a lt. let n = length-map ls (λ (x : LedgerState). x.history) in legal_at d ls a k (omega arith);
@@ -70,24 +70,24 @@ book_err ls a old new is e = unchanged ls a old new is e
 
 -- A ledger in the place of another.
 
-pub moved : (d : Deal) (a : ℕ) (old new : LedgerState) → IsLedgerOf d a old → new.deal ≡ old.deal → new.arc ≡ old.arc
-    → IsLegal new.deal new.arc new.history → IsLedgerOf d a new
+pub moved : (d : Deal) (a : ℕ) (old new : LedgerState) → IsArcLedger d a old → new.deal ≡ old.deal → new.arc ≡ old.arc
+    → IsLegal new.deal new.arc new.history → IsArcLedger d a new
 moved d a old new k ed ea legal = record {
   deal = ed ∙ k.deal;
   arc = ea ∙ k.arc;
   legal = subst (λ (x : Deal). IsLegal x a new.history) (ed ∙ k.deal) (subst (λ (y : ℕ). IsLegal new.deal y new.history) (ea ∙ k.arc) legal);
 }
 
-pub ledger_set : (d : Deal) (ls : List LedgerState) (a : ℕ) (y : LedgerState) → AreLedgersOf d ls → a < length ls → IsLedgerOf d a y
-    → AreLedgersOf d (set ls a y)
+pub ledger_set : (d : Deal) (ls : List LedgerState) (a : ℕ) (y : LedgerState) → AreArcLedgers d ls → a < length ls → IsArcLedger d a y
+    → AreArcLedgers d (set ls a y)
 ledger_set d ls a y k lt i = record {
   one_each = length-set ls a y ∙ k.one_each;
   each = λ b x l e. at b x (subst (λ n. b < n) (length-set ls a y) l) e (same_or_not b a);
 }
   where
-    at : (b : ℕ) (x : LedgerState) → b < length ls → x ≡ get_or (set ls a y) b x → (b ≡ a) ⊎ (b ≢ a) → IsLedgerOf d b x
+    at : (b : ℕ) (x : LedgerState) → b < length ls → x ≡ get_or (set ls a y) b x → (b ≡ a) ⊎ (b ≢ a) → IsArcLedger d b x
     at b x l e (inl s) =
-        subst (λ u. IsLedgerOf d u x) (sym s) (subst (IsLedgerOf d a) (sym (e ∙ (ap (λ u. get_or (set ls a y) u x) s ∙ get_or-set_same ls a y x lt))) i)
+        subst (λ u. IsArcLedger d u x) (sym s) (subst (IsArcLedger d a) (sym (e ∙ (ap (λ u. get_or (set ls a y) u x) s ∙ get_or-set_same ls a y x lt))) i)
     at b x l e (inr n) = k.each b x l (e ∙ get_or-set_other ls a b y x n)
 
 -- one more history

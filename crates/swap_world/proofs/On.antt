@@ -16,16 +16,16 @@ use Rattle.swap_job.specs.declared.moves.Move.{Move}
 use Rattle.swap_rules.specs.Machine.{Begins}
 use Rattle.swap_rules.proofs.Prefixes.{begins_refl}
 use Rattle.swap_rules.specs.Due.{Action}
-use Rattle.swap_run.specs.Run.{Cast, State, conforms, party_role, state_notes, party_plan, signed_after, plans_seen, next_action, after_turn, after_question}
-use Rattle.swap_run.specs.Run.{answer_for, step}
-use Rattle.swap_run.specs.Called.{Called, by, by_due, called, called_as, turned_as, before_call, is_due_act, noted_to, planned_to, told, is_barred}
-use Rattle.swap_run.specs.Called.{landed_on, apply_step}
+use Rattle.swap_run.specs.Run.{Cast, State, conforms, party_role, state_notes, party_plan, signed_through_call, plans_seen, next_action, after_turn, after_question}
+use Rattle.swap_run.specs.Run.{answered_call, step}
+use Rattle.swap_run.specs.Called.{Called, sender_call, by_due, called, role_call, role_turn, before_call, is_due_act, noted_state, planned_state, told, is_barred}
+use Rattle.swap_run.specs.Called.{landed_event, apply_step}
 use Rattle.swap_run.specs.CalledLaws.{is_no_tick}
 use Rattle.swap_run.proofs.Calls.{calls_split}
 use Rattle.swap_run.proofs.Swept.{none_swept}
 use Rattle.party_machine.specs.Machine.{MachineState}
-use Rattle.swap_world.specs.Acting.{landed, build_told, told_to}
-use Rattle.swap_world.specs.Inside.{IsLedgerOf}
+use Rattle.swap_world.specs.Acting.{landed, build_told, party_told}
+use Rattle.swap_world.specs.Inside.{IsArcLedger}
 use Rattle.swap_world.specs.On.{call_told, told_of_call, event_told}
 use Rattle.swap_world.specs.declared.told.Told.{Told}
 use Rattle.swap_world.proofs.Turns.{call_begins}
@@ -46,13 +46,13 @@ landed_begins w d a p c h = go (is_barred w h c)
     go false = call_begins d a p c h
 
 -- what a call makes of the ledger of arc a
-pub landed_called : (w : Bool) (d : Deal) (a p : ℕ) (c : Call) (old new : LedgerState) → IsLedgerOf d a old
+pub landed_called : (w : Bool) (d : Deal) (a p : ℕ) (c : Call) (old new : LedgerState) → IsArcLedger d a old
     → new.history ≡ landed w old.deal old.arc p c old.history → new.history ≡ landed w d a p c old.history
 landed_called w d a p c old new k e =
     e ∙ ap (λ (x : Deal). landed w x old.arc p c old.history) k.deal ∙ ap (λ (x : ℕ). landed w d x p c old.history) k.arc
 
 -- and what its party is told
-pub told_called : (w : Bool) (d : Deal) (a p : ℕ) (c : Call) (old : LedgerState) (t : Told) → IsLedgerOf d a old
+pub told_called : (w : Bool) (d : Deal) (a p : ℕ) (c : Call) (old : LedgerState) (t : Told) → IsArcLedger d a old
     → t ≡ call_told w old.deal old.arc p c old.history → t ≡ call_told w d a p c old.history
 told_called w d a p c old t k e =
     e ∙ ap (λ (x : Deal). call_told w x old.arc p c old.history) k.deal ∙ ap (λ (x : ℕ). call_told w d x p c old.history) k.arc
@@ -70,7 +70,7 @@ make_on sw d s v (Some x) =
     let h = landed (sw x.arc) d x.arc v x.call (history s.book x.arc) in
     record s {
       book = slice_set s.book x.arc h;
-      notes = slice_set s.notes v (record { known = slice_set (state_notes s v).known x.arc h; signed = signed_after (state_notes s v).signed x.call });
+      notes = slice_set s.notes v (record { known = slice_set (state_notes s v).known x.arc h; signed = signed_through_call (state_notes s v).signed x.call });
     }
 
 -- v, which doesn't conform, makes a call, if any, and then knows the ledger up to its end
@@ -87,17 +87,17 @@ act_on sw c s v Manual = s
 act_on sw c s v (Script moves) =
     take_on sw c (after_turn s v (moves_left (party_plan s v).known (party_plan s v).moves)) v
     (next_call c.deal c.seeds (party_plan s v).known (party_plan s v).moves)
-act_on sw c s v (Strategy name) = take_on sw c (after_question s v name) v (answer_for c.deal v (c.answers (length s.asked)))
+act_on sw c s v (Strategy name) = take_on sw c (after_question s v name) v (answered_call c.deal v (c.answers (length s.asked)))
 
 module _ (sw : ℕ → Bool) (c : Cast) (s : State) where
   -- without a call
   alone_on : (e : Event) → is_no_tick e ≡ true → called c s e ≡ None → apply_step sw c s e ≡ before_call c s e
-  alone_on e calm q = ap (landed_on sw c s e) q ∙ (calls_split c s e calm).alone q
+  alone_on e calm q = ap (landed_event sw c s e) q ∙ (calls_split c s e calm).alone q
 
   -- with one, whether it is barred or not
   call_on : (e : Event) (x : Called) → is_no_tick e ≡ true → called c s e ≡ Some x
       → apply_step sw c s e ≡ told c s e x (landed (sw x.arc) c.deal x.arc x.sender x.call (history s.book x.arc))
-  call_on e x calm q = ap (landed_on sw c s e) q ∙ go (is_barred (sw x.arc) (history s.book x.arc) x.call)
+  call_on e x calm q = ap (landed_event sw c s e) q ∙ go (is_barred (sw x.arc) (history s.book x.arc) x.call)
     where
       go : (b : Bool) → cond b (told c s e x (history s.book x.arc)) (step c s e)
           ≡ told c s e x (cond b (history s.book x.arc) (after_call c.deal x.arc x.sender x.call (history s.book x.arc)))
@@ -106,31 +106,31 @@ module _ (sw : ℕ → Bool) (c : Cast) (s : State) where
 
   -- of a party that conforms
   made_calls : (v : ℕ) (o : Option Action) → conforms c v ≡ true → called c s (Act v) ≡ by_due v o → apply_step sw c s (Act v) ≡ make_on sw c.deal s v o
-  made_calls v None cv q = alone_on (Act v) refl q ∙ ap (λ b. cond b s (turned_as c s v (party_role c v))) cv
+  made_calls v None cv q = alone_on (Act v) refl q ∙ ap (λ b. cond b s (role_turn c s v (party_role c v))) cv
   made_calls v (Some y) cv q =
       let x : Called = record { sender = v; arc = y.arc; call = y.call } in
       let h : List Entry = landed (sw y.arc) c.deal y.arc v y.call (history s.book y.arc) in
       call_on (Act v) x refl q
-      ∙ ap (λ b. cond b (noted_to (cond b s (turned_as c s v (party_role c v))) x h) (planned_to c (cond b s (turned_as c s v (party_role c v))) x h)) cv
+      ∙ ap (λ b. cond b (noted_state (cond b s (role_turn c s v (party_role c v))) x h) (planned_state c (cond b s (role_turn c s v (party_role c v))) x h)) cv
 
   -- of one that doesn't, which is at t before its call
-  plan_on : (e : Event) (t : State) (v : ℕ) (o : Option (ℕ × Call)) → is_no_tick e ≡ true → is_due_act c e ≡ false → called c s e ≡ by v o
+  plan_on : (e : Event) (t : State) (v : ℕ) (o : Option (ℕ × Call)) → is_no_tick e ≡ true → is_due_act c e ≡ false → called c s e ≡ sender_call v o
       → before_call c s e ≡ t → t.book ≡ s.book → apply_step sw c s e ≡ take_on sw c t v o
   plan_on e t v None calm due q b same = alone_on e calm q ∙ b
   plan_on e t v (Some y) calm due q b same =
       let x : Called = record { sender = v; arc = y.0; call = y.1 } in
       let h : List Entry = landed (sw y.0) c.deal y.0 v y.1 (history s.book y.0) in
       call_on e x calm q
-      ∙ (ap (λ z. cond z (noted_to (before_call c s e) x h) (planned_to c (before_call c s e) x h)) due
-      ∙ (ap (λ (u : State). planned_to c u x h) b
-      ∙ ap (λ (k : Histories). planned_to c t x (landed (sw y.0) c.deal y.0 v y.1 (history k y.0))) (sym same)))
+      ∙ (ap (λ z. cond z (noted_state (before_call c s e) x h) (planned_state c (before_call c s e) x h)) due
+      ∙ (ap (λ (u : State). planned_state c u x h) b
+      ∙ ap (λ (k : Histories). planned_state c t x (landed (sw y.0) c.deal y.0 v y.1 (history k y.0))) (sym same)))
 
-  called_by : (v : ℕ) (role : Role) → conforms c v ≡ false → party_role c v ≡ role → called c s (Act v) ≡ called_as c s v role
+  called_by : (v : ℕ) (role : Role) → conforms c v ≡ false → party_role c v ≡ role → called c s (Act v) ≡ role_call c s v role
   called_by v role cv r =
-      ap (λ b. cond b (by_due v (next_action c s v)) (called_as c s v (party_role c v))) cv ∙ ap (λ (x : Role). called_as c s v x) r
+      ap (λ b. cond b (by_due v (next_action c s v)) (role_call c s v (party_role c v))) cv ∙ ap (λ (x : Role). role_call c s v x) r
 
-  before_by : (v : ℕ) (role : Role) → conforms c v ≡ false → party_role c v ≡ role → before_call c s (Act v) ≡ turned_as c s v role
-  before_by v role cv r = ap (λ b. cond b s (turned_as c s v (party_role c v))) cv ∙ ap (λ (x : Role). turned_as c s v x) r
+  before_by : (v : ℕ) (role : Role) → conforms c v ≡ false → party_role c v ≡ role → before_call c s (Act v) ≡ role_turn c s v role
+  before_by v role cv r = ap (λ b. cond b s (role_turn c s v (party_role c v))) cv ∙ ap (λ (x : Role). role_turn c s v x) r
 
   acts_as : (v : ℕ) (role : Role) → conforms c v ≡ false → party_role c v ≡ role → apply_step sw c s (Act v) ≡ act_on sw c s v role
   acts_as v Conforming cv r = alone_on (Act v) refl (called_by v Conforming cv r) ∙ before_by v Conforming cv r
@@ -139,7 +139,7 @@ module _ (sw : ℕ → Bool) (c : Cast) (s : State) where
       plan_on (Act v) (after_turn s v (moves_left (party_plan s v).known (party_plan s v).moves)) v
       (next_call c.deal c.seeds (party_plan s v).known (party_plan s v).moves) refl cv (called_by v (Script moves) cv r) (before_by v (Script moves) cv r) refl
   acts_as v (Strategy name) cv r =
-      plan_on (Act v) (after_question s v name) v (answer_for c.deal v (c.answers (length s.asked))) refl cv (called_by v (Strategy name) cv r)
+      plan_on (Act v) (after_question s v name) v (answered_call c.deal v (c.answers (length s.asked))) refl cv (called_by v (Strategy name) cv r)
       (before_by v (Strategy name) cv r) refl
 
   -- an act
@@ -148,7 +148,7 @@ module _ (sw : ℕ → Bool) (c : Cast) (s : State) where
     where
       go : (b : Bool) → conforms c v ≡ b
           → apply_step sw c s (Act v) ≡ cond b (make_on sw c.deal s v (next_action c s v)) (act_on sw c s v (party_role c v))
-      go true cv = made_calls v (next_action c s v) cv (ap (λ b. cond b (by_due v (next_action c s v)) (called_as c s v (party_role c v))) cv)
+      go true cv = made_calls v (next_action c s v) cv (ap (λ b. cond b (by_due v (next_action c s v)) (role_call c s v (party_role c v))) cv)
       go false cv = acts_as v (party_role c v) cv refl
 
   -- a call by hand
@@ -157,7 +157,7 @@ module _ (sw : ℕ → Bool) (c : Cast) (s : State) where
 
   -- What is told.
 
-  told_by_plan : (v : ℕ) (o : Option (ℕ × Call)) → told_of_call sw c s (by v o) ≡ told_to sw c.deal v o s.book
+  told_by_plan : (v : ℕ) (o : Option (ℕ × Call)) → told_of_call sw c s (sender_call v o) ≡ party_told sw c.deal v o s.book
   told_by_plan v None = refl
   told_by_plan v (Some x) = refl
 
@@ -173,24 +173,24 @@ module _ (sw : ℕ → Bool) (c : Cast) (s : State) where
       → build_told sw m (next_action c s v) s.book ≡ event_told sw c s (Act v)
   told_due m v cv ed em =
       told_by_machine m v (next_action c s v) ed em
-      ∙ sym (ap (λ b. told_of_call sw c s (cond b (by_due v (next_action c s v)) (called_as c s v (party_role c v)))) cv)
+      ∙ sym (ap (λ b. told_of_call sw c s (cond b (by_due v (next_action c s v)) (role_call c s v (party_role c v)))) cv)
 
   -- of the call of a party that doesn't conform
-  pub told_act : (v : ℕ) (role : Role) → conforms c v ≡ false → party_role c v ≡ role → event_told sw c s (Act v) ≡ told_of_call sw c s (called_as c s v role)
+  pub told_act : (v : ℕ) (role : Role) → conforms c v ≡ false → party_role c v ≡ role → event_told sw c s (Act v) ≡ told_of_call sw c s (role_call c s v role)
   told_act v role cv r = ap (told_of_call sw c s) (called_by v role cv r)
 
-  pub told_call : (v : ℕ) (mv : Move) → event_told sw c s (Made v mv) ≡ told_to sw c.deal v (resolved c.deal c.seeds s.book mv) s.book
+  pub told_call : (v : ℕ) (mv : Move) → event_told sw c s (Made v mv) ≡ party_told sw c.deal v (resolved c.deal c.seeds s.book mv) s.book
   told_call v mv = told_by_plan v (resolved c.deal c.seeds s.book mv)
 
   pub told_script : (v : ℕ) (moves : List Move) → conforms c v ≡ false → party_role c v ≡ Script moves
-      → event_told sw c s (Act v) ≡ told_to sw c.deal v (next_call c.deal c.seeds (party_plan s v).known (party_plan s v).moves) s.book
+      → event_told sw c s (Act v) ≡ party_told sw c.deal v (next_call c.deal c.seeds (party_plan s v).known (party_plan s v).moves) s.book
   told_script v moves cv r =
       told_act v (Script moves) cv r ∙ told_by_plan v (next_call c.deal c.seeds (party_plan s v).known (party_plan s v).moves)
 
   pub told_strategy : (v : ℕ) (name : List ℕ) → conforms c v ≡ false → party_role c v ≡ Strategy name
-      → event_told sw c s (Act v) ≡ told_to sw c.deal v (answer_for c.deal v (c.answers (length s.asked))) s.book
+      → event_told sw c s (Act v) ≡ party_told sw c.deal v (answered_call c.deal v (c.answers (length s.asked))) s.book
   told_strategy v name cv r =
-      told_act v (Strategy name) cv r ∙ told_by_plan v (answer_for c.deal v (c.answers (length s.asked)))
+      told_act v (Strategy name) cv r ∙ told_by_plan v (answered_call c.deal v (c.answers (length s.asked)))
 
 -- where nothing is swept it is a run's step
 pub plainly : (e : Event) → ◌≡◌ {A = Cast → State → State} (λ c s. apply_step (λ a. false) c s e) (λ c s. step c s e)

@@ -7,7 +7,7 @@ use Rattle.swap_run.specs.Run.{Plan}
 use Rattle.swap_run.specs.Shown.{IsShown}
 use Rattle.party_machine.specs.Machine.{MachineState, next_due}
 use Rattle.swap_world.specs.Acting.{IsMakable, histories}
-use Rattle.swap_world.specs.Inside.{asked_in, Holds}
+use Rattle.swap_world.specs.Inside.{inside_questions, Holds}
 use Rattle.swap_world.specs.declared.actor.Actor.{Actor}
 use Rattle.swap_world.specs.declared.actor.Actor.TheVariants.{Conforming, Planned}
 use Rattle.swap_world.specs.declared.world.World.TheInside.{Inside}
@@ -17,38 +17,38 @@ use Rattle.swap_world.proofs.Worlds.{placed, plan_placed, knows_each, plan_begin
 
 -- party p plans n
 abbrev pub IsPlanOf : Inside → ℕ → Plan → Type 0
-IsPlanOf i p n = IsPlanAt i.deal i.conforming i.seeds i.roles (asked_in i) i.ledgers.items i.actors.items p n
+IsPlanOf i p n = IsPlanAt i.deal i.conforming i.seeds i.roles (inside_questions i) i.ledgers.items i.actors.items p n
 
 -- m is the machine of party p
 abbrev pub IsMachineOf : Inside → ℕ → MachineState → Type 0
-IsMachineOf i p m = IsAt i.deal i.conforming i.seeds i.roles (asked_in i) i.ledgers.items i.actors.items p m
+IsMachineOf i p m = IsAt i.deal i.conforming i.seeds i.roles (inside_questions i) i.ledgers.items i.actors.items p m
 
 -- What was found at the place of party p.
 module _ (i : Inside) (h : Holds i) (p : ℕ) (known : p < i.deal.graph.n) (x : Actor) (here : x ≡ get_or i.actors.items p x) where
   pub plan_found : (n : Plan) → x ≡ Planned n → IsPlanOf i p n
-  plan_found n e = plan_placed i.deal i.conforming i.seeds i.roles (asked_in i) i.ledgers.items i.actors.items p x n h.actors known e here
+  plan_found n e = plan_placed i.deal i.conforming i.seeds i.roles (inside_questions i) i.ledgers.items i.actors.items p x n h.actors known e here
 
   pub machine_found : (m : MachineState) → x ≡ Conforming m → IsMachineOf i p m
-  machine_found m e = placed i.deal i.conforming i.seeds i.roles (asked_in i) i.ledgers.items i.actors.items p x m h.actors known e here
+  machine_found m e = placed i.deal i.conforming i.seeds i.roles (inside_questions i) i.ledgers.items i.actors.items p x m h.actors known e here
 
 -- What is known of a party that plans.
 module _ (i : Inside) (h : Holds i) (goes_on : i.stopped ≡ false) (p : ℕ) (known : p < i.deal.graph.n) (n : Plan) (k : IsPlanOf i p n) where
   pub plan_each : length n.known ≡ length i.deal.graph.arcs
-  plan_each = knows_each i.deal i.conforming i.seeds i.roles (asked_in i) i.ledgers.items i.actors.items h.ready (h.good goes_on) p known n k
+  plan_each = knows_each i.deal i.conforming i.seeds i.roles (inside_questions i) i.ledgers.items i.actors.items h.ready (h.good goes_on) p known n k
 
   pub plan_before : (a : ℕ) → Begins (history n.known a) (history (histories i.ledgers.items) a)
-  plan_before a = plan_begins i.deal i.conforming i.seeds i.roles (asked_in i) i.ledgers.items i.actors.items h.ready (h.good goes_on) p known n k a
+  plan_before a = plan_begins i.deal i.conforming i.seeds i.roles (inside_questions i) i.ledgers.items i.actors.items h.ready (h.good goes_on) p known n k a
 
   pub plan_shown : IsShown i.deal i.seeds p n
-  plan_shown = shown i.deal i.conforming i.seeds i.roles (asked_in i) i.ledgers.items i.actors.items h.ready (h.good goes_on) p known n k
+  plan_shown = shown i.deal i.conforming i.seeds i.roles (inside_questions i) i.ledgers.items i.actors.items h.ready (h.good goes_on) p known n k
 
 -- What is known of a party that conforms.
 module _ (i : Inside) (h : Holds i) (goes_on : i.stopped ≡ false) (p : ℕ) (known : p < i.deal.graph.n) (m : MachineState) (k : IsMachineOf i p m) where
   pub machine_before : (a : ℕ) → Begins (history m.known a) (history (histories i.ledgers.items) a)
-  machine_before a = begins i.deal i.conforming i.seeds i.roles (asked_in i) i.ledgers.items i.actors.items h.ready (h.good goes_on) p known m k a
+  machine_before a = begins i.deal i.conforming i.seeds i.roles (inside_questions i) i.ledgers.items i.actors.items h.ready (h.good goes_on) p known m k a
 
   pub machine_makable : (x : Action) → next_due m ≡ Some x → IsMakable m.deal m.me x
-  machine_makable = makable i.deal i.conforming i.seeds i.roles (asked_in i) i.ledgers.items i.actors.items h.ready (h.good goes_on) p known m k
+  machine_makable = makable i.deal i.conforming i.seeds i.roles (inside_questions i) i.ledgers.items i.actors.items h.ready (h.good goes_on) p known m k
 
 -- Where memory ran out, no more is asked of a world.
 pub stopped_holds : (i : Inside) → Holds i → Holds (record i { stopped = true })

@@ -1,4 +1,5 @@
--- What parties do that don't conform, where slots may be swept: those that plan nothing rest, and those that follow a script or a strategy call and know.
+-- What parties do that don't conform, where slots may be swept: those that plan nothing rest, and
+-- those that follow a script or a strategy call and know.
 use Rattle.std.proofs.Common.{◌≡◌, ℕ, ◌<◌, Bool, true, false, cond, List, [], length, set, slice_index_or, Option, Some, None, refl, sym, subst}
 use Rattle.std.proofs.Common.{ap, ◌∙◌, ◌∷◌, ◌++◌, nat_lt, lt-ltb, length-set, set-set}
 use Rattle.swap_base.proofs.Lists.{and_both}
@@ -14,12 +15,12 @@ use Rattle.swap_job.specs.declared.moves.Move.{Move}
 use Rattle.swap_job.specs.declared.job.Role.{Role}
 use Rattle.swap_job.specs.declared.job.Role.TheVariants.{Conforming, Manual, Script, Strategy}
 use Rattle.swap_job.specs.declared.event.Event.TheVariants.{Look, Act}
-use Rattle.swap_run.specs.Run.{Cast, Plan, State, party_role, party_plan, plan_up_to, is_planned, look, next_action, watch, step, answer_for, is_party_answer}
-use Rattle.swap_run.specs.Called.{called_as, apply_step}
+use Rattle.swap_run.specs.Run.{Cast, Plan, State, party_role, party_plan, plan_with_ledger, is_planned, look, next_action, watch, step, answered_call, is_party_answer}
+use Rattle.swap_run.specs.Called.{role_call, apply_step}
 use Rattle.swap_run.specs.Asked.{Answers, with_answers, is_strategy}
 use Rattle.swap_world.specs.Cast.{made_cast}
 use Rattle.swap_world.specs.Acting.{landed, taken, seen, turned, asked_once, answer_question}
-use Rattle.swap_world.specs.Inside.{name_in}
+use Rattle.swap_world.specs.Inside.{strategy_name}
 use Rattle.swap_world.specs.On.{told_of_call, event_told}
 use Rattle.swap_world.specs.declared.told.Told.TheVariants.{Nothing}
 use Rattle.swap_world.proofs.On.{make_on, take_on, act_on, act_is, told_act}
@@ -36,7 +37,7 @@ scripted (Script moves) e f = (moves, refl)
 scripted (Strategy name) e f = absurd (cc f)
 
 -- a role that is a strategy
-pub named : (role : Role) → is_strategy role ≡ true → role ≡ Strategy (name_in role)
+pub named : (role : Role) → is_strategy role ≡ true → role ≡ Strategy (strategy_name role)
 named Conforming e = absurd (cc e)
 named Manual e = absurd (cc e)
 named (Script moves) e = absurd (cc e)
@@ -49,7 +50,7 @@ keep_if true x e = refl
 keep_if false x e = absurd (cc e)
 
 -- an answer that the party may make is made
-pub answer_is : (d : Deal) (v : ℕ) (o : Option (ℕ × Call)) → MayAnswer d v o → answer_for d v o ≡ o
+pub answer_is : (d : Deal) (v : ℕ) (o : Option (ℕ × Call)) → MayAnswer d v o → answered_call d v o ≡ o
 answer_is d v None may = refl
 answer_is d v (Some x) may =
     let k = may x refl in
@@ -73,7 +74,7 @@ module _ (d : Deal) (conforming : List Bool) (seeds : Seeds) (roles : List Role)
   -- Parties that plan nothing.
 
   watch_rests : (s : State) (v a : ℕ) → is_planned (party_role c v) ≡ false → watch c s v a ≡ s
-  watch_rests s v a r = ap (λ b. record s { plans = cond b (set s.plans v (plan_up_to (party_plan s v) a (history s.book a))) s.plans }) r
+  watch_rests s v a r = ap (λ b. record s { plans = cond b (set s.plans v (plan_with_ledger (party_plan s v) a (history s.book a))) s.plans }) r
 
   as_planned : (sw : ℕ → Bool) (s : State) (v : ℕ) (role : Role) → is_planned role ≡ false → act_on sw c s v role ≡ s
   as_planned sw s v Conforming e = refl
@@ -95,7 +96,7 @@ module _ (d : Deal) (conforming : List Bool) (seeds : Seeds) (roles : List Role)
       → apply_step sw c s (Act v) ≡ s
   other_act sw s v e r = by_role sw (λ k. None) s v e ∙ as_planned sw s v (party_role c v) r
 
-  silent_as : (sw : ℕ → Bool) (s : State) (v : ℕ) (role : Role) → is_planned role ≡ false → told_of_call sw c s (called_as c s v role) ≡ Nothing
+  silent_as : (sw : ℕ → Bool) (s : State) (v : ℕ) (role : Role) → is_planned role ≡ false → told_of_call sw c s (role_call c s v role) ≡ Nothing
   silent_as sw s v Conforming e = refl
   silent_as sw s v Manual e = refl
   silent_as sw s v (Script moves) e = absurd (cc e)
@@ -111,7 +112,7 @@ module _ (d : Deal) (conforming : List Bool) (seeds : Seeds) (roles : List Role)
   take_is sw s v None r = refl
   take_is sw s v (Some x) r =
       let h : List Entry = landed (sw x.0) d x.0 v x.1 (history s.book x.0) in
-      ap (λ b. record s { book = set s.book x.0 h; plans = cond b (set s.plans v (plan_up_to (party_plan s v) x.0 h)) s.plans }) r
+      ap (λ b. record s { book = set s.book x.0 h; plans = cond b (set s.plans v (plan_with_ledger (party_plan s v) x.0 h)) s.plans }) r
 
   -- Parties that follow a script.
 
@@ -120,11 +121,11 @@ module _ (d : Deal) (conforming : List Bool) (seeds : Seeds) (roles : List Role)
   Plans s v n = (v < length s.plans) × (party_plan s v ≡ n)
 
   pub planned_look : (s : State) (v a : ℕ) (n : Plan) → slice_index_or conforming v false ≡ false → is_planned (party_role c v) ≡ true → Plans s v n
-      → step c s (Look v a) ≡ record s { plans = set s.plans v (plan_up_to n a (history s.book a)) }
+      → step c s (Look v a) ≡ record s { plans = set s.plans v (plan_with_ledger n a (history s.book a)) }
   planned_look s v a n e r k =
       ap (λ b. cond b (look s v a) (watch c s v a)) e
-      ∙ (ap (λ b. record s { plans = cond b (set s.plans v (plan_up_to (party_plan s v) a (history s.book a))) s.plans }) r
-      ∙ ap (λ (m : Plan). record s { plans = set s.plans v (plan_up_to m a (history s.book a)) }) k.1)
+      ∙ (ap (λ b. record s { plans = cond b (set s.plans v (plan_with_ledger (party_plan s v) a (history s.book a))) s.plans }) r
+      ∙ ap (λ (m : Plan). record s { plans = set s.plans v (plan_with_ledger m a (history s.book a)) }) k.1)
 
   -- a call that v makes is known to it
   pub planned_call : (sw : ℕ → Bool) (s : State) (v : ℕ) (n : Plan) (o : Option (ℕ × Call)) → is_planned (party_role c v) ≡ true → Plans s v n
@@ -134,8 +135,8 @@ module _ (d : Deal) (conforming : List Bool) (seeds : Seeds) (roles : List Role)
       (sym (ap (λ (m : Plan). set s.plans v m) (sym k.1) ∙ set-get_or s.plans v absent))
   planned_call sw s v n (Some x) r k =
       let h : List Entry = landed (sw x.0) d x.0 v x.1 (history s.book x.0) in
-      ap (λ b. record s { book = set s.book x.0 h; plans = cond b (set s.plans v (plan_up_to (party_plan s v) x.0 h)) s.plans }) r
-      ∙ ap (λ (m : Plan). record s { book = set s.book x.0 h; plans = set s.plans v (plan_up_to m x.0 h) }) k.1
+      ap (λ b. record s { book = set s.book x.0 h; plans = cond b (set s.plans v (plan_with_ledger (party_plan s v) x.0 h)) s.plans }) r
+      ∙ ap (λ (m : Plan). record s { book = set s.book x.0 h; plans = set s.plans v (plan_with_ledger m x.0 h) }) k.1
 
   -- the call that v's script makes next
   abbrev pub due_call : Plan → Option (ℕ × Call)
@@ -185,8 +186,8 @@ module _ (d : Deal) (conforming : List Bool) (seeds : Seeds) (roles : List Role)
       let t : State = asked_with s v name n in
       let there : v < length t.plans = subst (λ l. v < l) (sym (length-set s.plans v (asked_once n))) k.0 in
       let now : party_plan t v ≡ asked_once n = get_or-set_same s.plans v (asked_once n) absent k.0 in
-      ap (λ (m : Plan). take_on sw (with_answers c g) (asked_with s v name m) v (answer_for d v (g (length s.asked)))) k.1
-      ∙ (ap (λ (x : Option (ℕ × Call)). take_on sw (with_answers c g) t v (answer_for d v x)) at
+      ap (λ (m : Plan). take_on sw (with_answers c g) (asked_with s v name m) v (answered_call d v (g (length s.asked)))) k.1
+      ∙ (ap (λ (x : Option (ℕ × Call)). take_on sw (with_answers c g) t v (answered_call d v x)) at
       ∙ (ap (λ (x : Option (ℕ × Call)). take_on sw (with_answers c g) t v x) (answer_is d v o may)
       ∙ (take_same sw c g t v o ∙ (planned_call sw t v (asked_once n) o r (there, now)
       ∙ ap (λ (ps : List Plan). record t { book = taken sw d v o s.book; plans = ps })

@@ -1,4 +1,5 @@
--- Room for a further entry: in new ledgers, in a ledger in the place of another, and after a tick of the ledgers that stand on a chain.
+-- Room for a further entry: in new ledgers, in a ledger in the place of another, and after a tick
+-- of the ledgers that stand on a chain.
 use Rattle.std.proofs.Common.{◌≡◌, ◌≢◌, ◌⊎◌, inl, inr, Result, Ok, Err, OnOk, ℕ, ◌+◌, ◌<◌, ◌≤◌, Bool, true, false, not, List, [], ◌∷◌, ◌++◌}
 use Rattle.std.proofs.Common.{length, get_or, set, take, fold, refl, sym, ap, ◌∙◌, subst, arith, length-append}
 use Rattle.std.specs.Result.{is_err}
@@ -21,8 +22,8 @@ use Rattle.swap_run.specs.Run.{Cast, State, after_tick, no_histories, step}
 use Rattle.swap_run.specs.Laws.{IsReadyCast, IsGood}
 use Rattle.swap_run.proofs.Good.{steps_are_good}
 use Rattle.swap_world.specs.Acting.{histories, tick_book}
-use Rattle.swap_world.specs.On.{ticked_on}
-use Rattle.swap_world.specs.Inside.{AreLedgersOf, IsLedgerOf, new_ledger, IsNewLedger, AreNewLedgers, HaveRoom}
+use Rattle.swap_world.specs.On.{tick_arcs}
+use Rattle.swap_world.specs.Inside.{AreArcLedgers, IsArcLedger, new_ledger, IsNewLedger, AreNewLedgers, HaveRoom}
 use Rattle.swap_world.proofs.Ledgers.{book_ok, moved, ledger_set}
 
 pub on_from : (b : Bool) → not b ≡ false → b ≡ true
@@ -77,12 +78,12 @@ new_more d n ls y k i = record {
         let low : a < length ls = omega (arith, lt, m, o, q) in
         k.each a l low (e ∙ get_or_append_left ls (y ∷ []) l a low)
 
-new_is : (d : Deal) (a : ℕ) (l : LedgerState) → IsNewLedger d a l → IsLedgerOf d a l
+new_is : (d : Deal) (a : ℕ) (l : LedgerState) → IsNewLedger d a l → IsArcLedger d a l
 new_is d a l k = record { deal = k.deal; arc = k.arc; legal = subst (IsLegal d a) (sym k.history) tt }
 
-pub new_ledgers_of : (d d' : Deal) (ls : List LedgerState) → d' ≡ d → AreNewLedgers d (length d.graph.arcs) ls → AreLedgersOf d' ls
+pub new_ledgers_of : (d d' : Deal) (ls : List LedgerState) → d' ≡ d → AreNewLedgers d (length d.graph.arcs) ls → AreArcLedgers d' ls
 new_ledgers_of d d' ls e k =
-    subst (λ x. AreLedgersOf x ls) (sym e) (record { one_each = k.one_each; each = λ a l lt is. new_is d a l (k.each a l lt is) })
+    subst (λ x. AreArcLedgers x ls) (sym e) (record { one_each = k.one_each; each = λ a l lt is. new_is d a l (k.each a l lt is) })
 
 pub new_room : (d : Deal) (n : ℕ) (ls : List LedgerState) → AreNewLedgers d n ls → HaveRoom ls
 new_room d n ls k a l lt e = (k.each a l lt e).room
@@ -101,15 +102,16 @@ new_histories d ls k =
 
 -- A tick of the ledgers that stand on a chain.
 
--- The first i ledgers of a list have ticked, and the others are as they were. Where all are ready each has room again.
+-- The first i ledgers of a list have ticked, and the others are as they were. Where all are ready
+-- each has room again.
 pub record AreTicked (d : Deal) (on : List ℕ) (k : ℕ) (ready : Bool) (old new : List LedgerState) (i : ℕ) : Type 0 where
-  pub ledgers : AreLedgersOf d new
+  pub ledgers : AreArcLedgers d new
   pub one_each : length new ≡ length old
   pub book : histories new ≡ fold (tick_book k) (histories old) (take i on)
   pub room : (a : ℕ) (l : LedgerState) → a < length new → l ≡ get_or new a l → ((j : ℕ) → j < i → get_or on j a ≡ a → ready ≡ true) → 0 < l.spare
 
 module _ (d : Deal) (on : List ℕ) (k : ℕ) (old : List LedgerState) where
-  pub none_ticked : AreLedgersOf d old → HaveRoom old → AreTicked d on k true old old 0
+  pub none_ticked : AreArcLedgers d old → HaveRoom old → AreTicked d on k true old old 0
   none_ticked g h = record { ledgers = g; one_each = refl; book = refl; room = λ a l lt e q. h a l lt e }
 
   -- the next ledger of an ascending list is none of those before it
@@ -156,13 +158,13 @@ module _ (d : Deal) (on : List ℕ) (k : ℕ) (old : List LedgerState) where
 
 module _ (k : ℕ) (c : Cast) where
   -- ticks change the histories alone
-  pub ticked_state : (s : State) (on : List ℕ) → ticked_on on k c s ≡ record s { book = fold (tick_book k) s.book on }
+  pub ticked_state : (s : State) (on : List ℕ) → tick_arcs on k c s ≡ record s { book = fold (tick_book k) s.book on }
   ticked_state s [] = refl
   ticked_state s (a ∷ on) = ticked_state (step c s (Tick a k)) on
 
   -- and leave a good state good
   pub ticked_good : (s : State) (on : List ℕ) → 1 ≤ k → k ≤ 1000000 → All (λ a. a < length c.deal.graph.arcs) on → IsReadyCast c → IsGood c s
-      → IsGood c (ticked_on on k c s)
+      → IsGood c (tick_arcs on k c s)
   ticked_good s [] some few low ready g = g
   ticked_good s (a ∷ on) some few low ready g =
       ticked_good (step c s (Tick a k)) on some few (All-tail (λ a. a < length c.deal.graph.arcs) a on low) ready

@@ -1,4 +1,5 @@
--- The state that ledgers and actors show, after a look, an act and a call, where slots may be swept.
+-- The state that ledgers and actors show, after a look, an act and a call, where slots may be
+-- swept.
 use Rattle.std.proofs.Common.{◌≡◌, ◌≢◌, ◌⊎◌, inl, inr, ℕ, ◌<◌, Bool, true, false, cond, List, [], ◌∷◌, ◌++◌, length, get_or, set, slice_index_or, map, Option}
 use Rattle.std.proofs.Common.{Some, None, refl, sym, ap, ap₂, ◌∙◌, subst}
 use Rattle.std.proofs.Math.Seq.{map-set_same}
@@ -17,36 +18,36 @@ use Rattle.swap_job.specs.declared.job.Role.{Role}
 use Rattle.swap_job.specs.declared.job.Role.TheVariants as kinds
 use Rattle.swap_job.specs.declared.moves.Move.{Move}
 use Rattle.swap_rules.specs.Due.{Wallet, Action, due, first}
-use Rattle.party_wallet.specs.Value.{signed_in}
-use Rattle.swap_run.specs.Run.{Cast, Notes, Plan, State, conforms, party_role, state_notes, party_plan, plan_up_to, signed_after, known_up_to, look}
+use Rattle.party_wallet.specs.Value.{signed_hashkey}
+use Rattle.swap_run.specs.Run.{Cast, Notes, Plan, State, conforms, party_role, state_notes, party_plan, plan_with_ledger, signed_through_call, notes_with_ledger, look}
 use Rattle.swap_run.specs.Run.{next_action}
-use Rattle.swap_run.specs.Run.{Question, watch, step, answer_for, relearnt, recorded_after}
+use Rattle.swap_run.specs.Run.{Question, watch, step, answered_call, relearnt, recorded_hashkeys}
 use Rattle.swap_run.specs.Called.{apply_step}
 use Rattle.swap_run.specs.Asked.{Answers, with_answers}
 use Rattle.party_machine.specs.Wallet.{seed_wallet}
 use Rattle.party_machine.specs.Machine.{MachineState, next_due}
 use Rattle.swap_world.proofs.Plans.{IsScript, absent, due_call, answer_is, planned_look, planned_call, planned_act, planned_ask}
-use Rattle.swap_world.specs.Cast.{made_cast, wallet_with}
-use Rattle.swap_world.specs.Acting.{histories, landed, next_book, next_machine, build_told, taken, seen, told_to, turned, asked_once, answer_question}
+use Rattle.swap_world.specs.Cast.{made_cast, signing_wallet}
+use Rattle.swap_world.specs.Acting.{histories, landed, next_book, next_machine, build_told, taken, seen, party_told, turned, asked_once, answer_question}
 use Rattle.swap_world.specs.On.{event_told}
 use Rattle.swap_world.proofs.On.{make_on, act_on, act_is, call_is, told_due, told_call, told_script, told_strategy}
-use Rattle.swap_world.specs.Inside.{notes_in, plan_in, IsActorOf, AreActorsOf}
+use Rattle.swap_world.specs.Inside.{actor_notes, actor_plan, IsPartyActor, ArePartyActors}
 use Rattle.swap_world.specs.declared.actor.Actor.{Actor}
 use Rattle.swap_world.specs.declared.actor.Actor.TheVariants.{Conforming, Planned}
 
 -- An actor in the place of another.
 
 pub actor_set : (d : Deal) (conforming : List Bool) (seeds : List (Option (List ℕ))) (roles : List Role) (xs : List Actor) (p : ℕ) (y : Actor)
-    → AreActorsOf d conforming seeds roles xs → p < length xs
-    → IsActorOf d (slice_index_or conforming p false) (slice_index_or seeds p None) (slice_index_or roles p kinds.Manual) p y
-    → AreActorsOf d conforming seeds roles (set xs p y)
+    → ArePartyActors d conforming seeds roles xs → p < length xs
+    → IsPartyActor d (slice_index_or conforming p false) (slice_index_or seeds p None) (slice_index_or roles p kinds.Manual) p y
+    → ArePartyActors d conforming seeds roles (set xs p y)
 actor_set d conforming seeds roles xs p y k lt i = record {
   one_each = length-set xs p y ∙ k.one_each;
   each = λ v x l e. at v x (subst (λ n. v < n) (length-set xs p y) l) e (same_or_not v p);
 }
   where
     Is : ℕ → Actor → Type 0
-    Is v x = IsActorOf d (slice_index_or conforming v false) (slice_index_or seeds v None) (slice_index_or roles v kinds.Manual) v x
+    Is v x = IsPartyActor d (slice_index_or conforming v false) (slice_index_or seeds v None) (slice_index_or roles v kinds.Manual) v x
 
     at : (v : ℕ) (x : Actor) → v < length xs → x ≡ get_or (set xs p y) v x → (v ≡ p) ⊎ (v ≢ p) → Is v x
     at v x l e (inl s) = subst (λ u. Is u x) (sym s) (subst (Is p) (sym (e ∙ (ap (λ u. get_or (set xs p y) u x) s ∙ get_or-set_same xs p y x lt))) i)
@@ -59,12 +60,12 @@ crashed_machine d m k image b = record {
   me = m.me;
   seed = m.seed;
   known = relearnt d m.me b;
-  signed = recorded_after m.signed (next_due m) k image;
+  signed = recorded_hashkeys m.signed (next_due m) k image;
 }
 
 -- the state of those questions, actors and histories
 abbrev pub state : Deal → List Question → List Actor → Histories → State
-state d qs ys b = record { book = b; notes = map (notes_in d) ys; plans = map (plan_in d) ys; asked = qs }
+state d qs ys b = record { book = b; notes = map (actor_notes d) ys; plans = map (actor_plan d) ys; asked = qs }
 
 module _ (d : Deal) (conforming : List Bool) (seeds : List (Option (List ℕ))) (roles : List Role) (qs : List Question) (ls : List LedgerState)
     (xs : List Actor) where
@@ -101,18 +102,18 @@ module _ (d : Deal) (conforming : List Bool) (seeds : List (Option (List ℕ))) 
   pub record IsAt (p : ℕ) (m : MachineState) : Type 0 where
     pub below : p < length xs
     pub here : Conforming m ≡ get_or xs p (Conforming m)
-    pub is : IsActorOf d (slice_index_or conforming p false) (slice_index_or seeds p None) (slice_index_or roles p kinds.Manual) p (Conforming m)
+    pub is : IsPartyActor d (slice_index_or conforming p false) (slice_index_or seeds p None) (slice_index_or roles p kinds.Manual) p (Conforming m)
 
   pub notes_at : (p : ℕ) (m : MachineState) → IsAt p m → state_notes s p ≡ record { known = m.known; signed = m.signed }
-  notes_at p m i = get_or-map (notes_in d) xs p (Conforming m) (record { known = []; signed = [] }) i.below ∙ ap (notes_in d) (sym i.here)
+  notes_at p m i = get_or-map (actor_notes d) xs p (Conforming m) (record { known = []; signed = [] }) i.below ∙ ap (actor_notes d) (sym i.here)
 
   -- a machine plans nothing
-  plans_still : (p : ℕ) (m new : MachineState) → IsAt p m → map (plan_in d) (set xs p (Conforming new)) ≡ map (plan_in d) xs
-  plans_still p m new i = map-set_same (plan_in d) xs p (Conforming new) (Conforming m) (ap (plan_in d) i.here)
+  plans_still : (p : ℕ) (m new : MachineState) → IsAt p m → map (actor_plan d) (set xs p (Conforming new)) ≡ map (actor_plan d) xs
+  plans_still p m new i = map-set_same (actor_plan d) xs p (Conforming new) (Conforming m) (ap (actor_plan d) i.here)
 
-  noted : (p : ℕ) (m : MachineState) (n : Notes) → notes_in d (Conforming m) ≡ n
-      → map (notes_in d) (set xs p (Conforming m)) ≡ set (map (notes_in d) xs) p n
-  noted p m n e = map-set (notes_in d) xs p (Conforming m) ∙ ap (λ (x : Notes). set (map (notes_in d) xs) p x) e
+  noted : (p : ℕ) (m : MachineState) (n : Notes) → actor_notes d (Conforming m) ≡ n
+      → map (actor_notes d) (set xs p (Conforming m)) ≡ set (map (actor_notes d) xs) p n
+  noted p m n e = map-set (actor_notes d) xs p (Conforming m) ∙ ap (λ (x : Notes). set (map (actor_notes d) xs) p x) e
 
   pub looked : (p a : ℕ) (m new : MachineState) → IsAt p m → new ≡ record {
     deal = m.deal;
@@ -124,17 +125,17 @@ module _ (d : Deal) (conforming : List Bool) (seeds : List (Option (List ℕ))) 
   }
       → replaced p (Conforming new) (histories ls) ≡ step c s (Look p a)
   looked p a m new i e =
-      let n : notes_in d (Conforming new) ≡ known_up_to (state_notes s p) a (history (histories ls) a)
-      = ap (λ (x : MachineState). notes_in d (Conforming x)) e ∙ ap (λ (x : Notes). known_up_to x a (history (histories ls) a)) (sym (notes_at p m i)) in
+      let n : actor_notes d (Conforming new) ≡ notes_with_ledger (state_notes s p) a (history (histories ls) a)
+      = ap (λ (x : MachineState). actor_notes d (Conforming x)) e ∙ ap (λ (x : Notes). notes_with_ledger x a (history (histories ls) a)) (sym (notes_at p m i)) in
       same_parts _ _ _ _ _ _ refl (noted p new _ n) (plans_still p m new i) ∙ where_it_conforms p (look s p a) (watch c s p a) i.is.0
 
   pub next_is : (p : ℕ) (m : MachineState) → IsAt p m → next_action c s p ≡ next_due m
   next_is p m i =
       let w : c.wallet p ≡ seed_wallet m.seed m.me m.deal
-      = ap (λ (o : Option (List ℕ)). wallet_with o p d) i.is.3 ∙ ap₂ (λ (v : ℕ) (e : Deal). seed_wallet m.seed v e) (sym i.is.2) (sym i.is.1) in
-      ap (λ (n : Notes). first (due d p (c.wallet p) (signed_in n.signed) n.known)) (notes_at p m i)
-      ∙ (ap (λ (w : Wallet). first (due d p w (signed_in m.signed) m.known)) w
-      ∙ ap₂ (λ (v : ℕ) (e : Deal). first (due e v (seed_wallet m.seed m.me m.deal) (signed_in m.signed) m.known)) (sym i.is.2) (sym i.is.1))
+      = ap (λ (o : Option (List ℕ)). signing_wallet o p d) i.is.3 ∙ ap₂ (λ (v : ℕ) (e : Deal). seed_wallet m.seed v e) (sym i.is.2) (sym i.is.1) in
+      ap (λ (n : Notes). first (due d p (c.wallet p) (signed_hashkey n.signed) n.known)) (notes_at p m i)
+      ∙ (ap (λ (w : Wallet). first (due d p w (signed_hashkey m.signed) m.known)) w
+      ∙ ap₂ (λ (v : ℕ) (e : Deal). first (due e v (seed_wallet m.seed m.me m.deal) (signed_hashkey m.signed) m.known)) (sym i.is.2) (sym i.is.1))
 
   made : (sw : ℕ → Bool) (p : ℕ) (m new : MachineState) (b : Histories) (o : Option Action) → IsAt p m → b ≡ next_book sw m o (histories ls)
       → new ≡ next_machine sw m o (histories ls)
@@ -145,15 +146,15 @@ module _ (d : Deal) (conforming : List Bool) (seeds : List (Option (List ℕ))) 
       let h : landed (sw x.arc) m.deal x.arc m.me x.call (history (histories ls) x.arc)
       ≡ landed (sw x.arc) d x.arc p x.call (history (histories ls) x.arc)
       = ap₂ (λ (e : Deal) (v : ℕ). landed (sw x.arc) e x.arc v x.call (history (histories ls) x.arc)) i.is.1 i.is.2 in
-      let n : notes_in d (Conforming new) ≡ record {
+      let n : actor_notes d (Conforming new) ≡ record {
         known =
             set (state_notes s p).known x.arc (landed (sw x.arc) d x.arc p x.call (history (histories ls) x.arc));
         signed =
-            signed_after (state_notes s p).signed x.call;
+            signed_through_call (state_notes s p).signed x.call;
       }
-      = ap (λ (y : MachineState). notes_in d (Conforming y)) en
-      ∙ (ap (λ (k : List Entry). note (set m.known x.arc k) (signed_after m.signed x.call)) h
-      ∙ ap (λ (z : Notes). note (set z.known x.arc (landed (sw x.arc) d x.arc p x.call (history (histories ls) x.arc))) (signed_after z.signed x.call))
+      = ap (λ (y : MachineState). actor_notes d (Conforming y)) en
+      ∙ (ap (λ (k : List Entry). note (set m.known x.arc k) (signed_through_call m.signed x.call)) h
+      ∙ ap (λ (z : Notes). note (set z.known x.arc (landed (sw x.arc) d x.arc p x.call (history (histories ls) x.arc))) (signed_through_call z.signed x.call))
       (sym (notes_at p m i))) in
       same_parts _ _ _ _ _ _ (eb ∙ ap (λ (k : List Entry). set (histories ls) x.arc k) h) (noted p new _ n) (plans_still p m new i)
     where
@@ -172,12 +173,12 @@ module _ (d : Deal) (conforming : List Bool) (seeds : List (Option (List ℕ))) 
       → replaced p (Conforming new) (histories ls) ≡ step c s (Crash p k image)
   crashed p k image m new i e =
       let was : (state_notes s p).signed ≡ m.signed = ap (λ (n : Notes). n.signed) (notes_at p m i) in
-      let n : notes_in d (Conforming new) ≡ record {
+      let n : actor_notes d (Conforming new) ≡ record {
         known = relearnt d p (histories ls);
-        signed = recorded_after (state_notes s p).signed (next_action c s p) k image;
+        signed = recorded_hashkeys (state_notes s p).signed (next_action c s p) k image;
       }
-      = ap (λ (x : MachineState). notes_in d (Conforming x)) e
-      ∙ (λ j. record { known = relearnt d (i.is.2 j) (histories ls); signed = recorded_after (sym was j) (sym (next_is p m i) j) k image }) in
+      = ap (λ (x : MachineState). actor_notes d (Conforming x)) e
+      ∙ (λ j. record { known = relearnt d (i.is.2 j) (histories ls); signed = recorded_hashkeys (sym was j) (sym (next_is p m i) j) k image }) in
       same_parts _ _ _ _ _ _ refl (noted p new _ n) (plans_still p m new i)
 
   -- the histories after it, whatever became of the machine
@@ -199,25 +200,25 @@ module _ (d : Deal) (conforming : List Bool) (seeds : List (Option (List ℕ))) 
   pub record IsPlanAt (p : ℕ) (n : Plan) : Type 0 where
     pub below : p < length xs
     pub here : Planned n ≡ get_or xs p (Planned n)
-    pub is : IsActorOf d (slice_index_or conforming p false) (slice_index_or seeds p None) (slice_index_or roles p kinds.Manual) p (Planned n)
+    pub is : IsPartyActor d (slice_index_or conforming p false) (slice_index_or seeds p None) (slice_index_or roles p kinds.Manual) p (Planned n)
 
   pub plan_at : (p : ℕ) (n : Plan) → IsPlanAt p n → party_plan s p ≡ n
-  plan_at p n i = get_or-map (plan_in d) xs p (Planned n) absent i.below ∙ ap (plan_in d) (sym i.here)
+  plan_at p n i = get_or-map (actor_plan d) xs p (Planned n) absent i.below ∙ ap (actor_plan d) (sym i.here)
 
   has_plan : (p : ℕ) (n : Plan) → IsPlanAt p n → (p < length s.plans) × (party_plan s p ≡ n)
-  has_plan p n i = (subst (λ l. p < l) (sym (length-map xs (plan_in d))) i.below, plan_at p n i)
+  has_plan p n i = (subst (λ l. p < l) (sym (length-map xs (actor_plan d))) i.below, plan_at p n i)
 
   -- what party p plans is all that another plan in its place changes
   planned : (p : ℕ) (n new : Plan) (b : Histories) → IsPlanAt p n → replaced p (Planned new) b ≡ st b s.notes (set s.plans p new)
   planned p n new b i =
-      same_parts _ _ _ _ _ _ refl (map-set_same (notes_in d) xs p (Planned new) (Planned n) (ap (notes_in d) i.here))
-      (map-set (plan_in d) xs p (Planned new))
+      same_parts _ _ _ _ _ _ refl (map-set_same (actor_notes d) xs p (Planned new) (Planned n) (ap (actor_notes d) i.here))
+      (map-set (actor_plan d) xs p (Planned new))
 
   -- a plan in the place of another notes nothing
-  pub plan_notes : (p : ℕ) (n new : Plan) → IsPlanAt p n → map (notes_in d) (set xs p (Planned new)) ≡ map (notes_in d) xs
-  plan_notes p n new i = map-set_same (notes_in d) xs p (Planned new) (Planned n) (ap (notes_in d) i.here)
+  pub plan_notes : (p : ℕ) (n new : Plan) → IsPlanAt p n → map (actor_notes d) (set xs p (Planned new)) ≡ map (actor_notes d) xs
+  plan_notes p n new i = map-set_same (actor_notes d) xs p (Planned new) (Planned n) (ap (actor_notes d) i.here)
 
-  pub watched : (p a : ℕ) (n new : Plan) → IsPlanAt p n → new ≡ plan_up_to n a (history (histories ls) a)
+  pub watched : (p a : ℕ) (n new : Plan) → IsPlanAt p n → new ≡ plan_with_ledger n a (history (histories ls) a)
       → replaced p (Planned new) (histories ls) ≡ step c s (Look p a)
   watched p a n new i e =
       planned p n new (histories ls) i ∙ (ap (λ (m : Plan). st (histories ls) s.notes (set s.plans p m)) e
@@ -234,13 +235,13 @@ module _ (d : Deal) (conforming : List Bool) (seeds : List (Option (List ℕ))) 
       → taken sw d p (due_call d conforming seeds roles n) (histories ls) ≡ (apply_step sw c s (Act p)).book
   followed_book sw p n i script = ap (λ (t : State). t.book) (followed sw p n _ _ i script refl refl)
 
-  pub followed_notes : (sw : ℕ → Bool) (p : ℕ) (n : Plan) → IsPlanAt p n → IsScript (party_role c p) → (apply_step sw c s (Act p)).notes ≡ map (notes_in d) xs
+  pub followed_notes : (sw : ℕ → Bool) (p : ℕ) (n : Plan) → IsPlanAt p n → IsScript (party_role c p) → (apply_step sw c s (Act p)).notes ≡ map (actor_notes d) xs
   followed_notes sw p n i script = sym (ap (λ (t : State). t.notes) (followed sw p n _ _ i script refl refl)) ∙ plan_notes p n _ i
 
   pub followed_told : (sw : ℕ → Bool) (p : ℕ) (n : Plan) → IsPlanAt p n → IsScript (party_role c p)
-      → told_to sw d p (due_call d conforming seeds roles n) (histories ls) ≡ event_told sw c s (Act p)
+      → party_told sw d p (due_call d conforming seeds roles n) (histories ls) ≡ event_told sw c s (Act p)
   followed_told sw p n i script =
-      ap (λ (m : Plan). told_to sw d p (due_call d conforming seeds roles m) (histories ls)) (sym (plan_at p n i))
+      ap (λ (m : Plan). party_told sw d p (due_call d conforming seeds roles m) (histories ls)) (sym (plan_at p n i))
       ∙ sym (told_script sw c s p script.0 i.is.0 script.1)
 
   -- the party has asked its strategy, and made the call that was answered
@@ -255,11 +256,11 @@ module _ (d : Deal) (conforming : List Bool) (seeds : List (Option (List ℕ))) 
 
   pub answered_told : (sw : ℕ → Bool) (g : Answers) (p : ℕ) (n : Plan) (name : List ℕ) (o : Option (ℕ × Call)) → IsPlanAt p n
       → party_role c p ≡ kinds.Strategy name → g (length qs) ≡ o → MayAnswer d p o
-      → told_to sw d p o (histories ls) ≡ event_told sw (with_answers c g) s (Act p)
+      → party_told sw d p o (histories ls) ≡ event_told sw (with_answers c g) s (Act p)
   answered_told sw g p n name o i role at may =
       sym (told_strategy sw (with_answers c g) s p name i.is.0 role
-      ∙ (ap (λ (x : Option (ℕ × Call)). told_to sw d p (answer_for d p x) (histories ls)) at
-      ∙ ap (λ (x : Option (ℕ × Call)). told_to sw d p x (histories ls)) (answer_is d p o may)))
+      ∙ (ap (λ (x : Option (ℕ × Call)). party_told sw d p (answered_call d p x) (histories ls)) at
+      ∙ ap (λ (x : Option (ℕ × Call)). party_told sw d p x (histories ls)) (answer_is d p o may)))
 
   pub made_by_hand : (sw : ℕ → Bool) (p : ℕ) (mv : Move) (n new : Plan) (b : Histories) → IsPlanAt p n
       → b ≡ taken sw d p (resolved d seeds (histories ls) mv) (histories ls)
@@ -272,8 +273,8 @@ module _ (d : Deal) (conforming : List Bool) (seeds : List (Option (List ℕ))) 
       → taken sw d p (resolved d seeds (histories ls) mv) (histories ls) ≡ (apply_step sw c s (Made p mv)).book
   made_book sw p mv n i = ap (λ (t : State). t.book) (made_by_hand sw p mv n _ _ i refl refl)
 
-  pub made_notes : (sw : ℕ → Bool) (p : ℕ) (mv : Move) (n : Plan) → IsPlanAt p n → (apply_step sw c s (Made p mv)).notes ≡ map (notes_in d) xs
+  pub made_notes : (sw : ℕ → Bool) (p : ℕ) (mv : Move) (n : Plan) → IsPlanAt p n → (apply_step sw c s (Made p mv)).notes ≡ map (actor_notes d) xs
   made_notes sw p mv n i = sym (ap (λ (t : State). t.notes) (made_by_hand sw p mv n _ _ i refl refl)) ∙ plan_notes p n _ i
 
-  pub made_told : (sw : ℕ → Bool) (p : ℕ) (mv : Move) → told_to sw d p (resolved d seeds (histories ls) mv) (histories ls) ≡ event_told sw c s (Made p mv)
+  pub made_told : (sw : ℕ → Bool) (p : ℕ) (mv : Move) → party_told sw d p (resolved d seeds (histories ls) mv) (histories ls) ≡ event_told sw c s (Made p mv)
   made_told sw p mv = sym (told_call sw c s p mv)

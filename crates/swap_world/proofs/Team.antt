@@ -13,16 +13,16 @@ use Rattle.swap_rules.specs.Machine.{IsWallet}
 use Rattle.swap_run.specs.Asked.{is_strategy}
 use Rattle.swap_run.specs.Run.{Notes, Plan, no_notes, first_plan, is_planned}
 use Rattle.swap_digraph.specs.declared.deal.Deal.{Deal}
-use Rattle.swap_job.specs.Fitting.{IsMoveOf}
+use Rattle.swap_job.specs.Fitting.{IsPartyMove}
 use Rattle.swap_job.specs.Roles.{IsHeld, job_role, is_conforming, role_script}
 use Rattle.swap_job.specs.declared.job.Role.{Role}
 use Rattle.swap_job.specs.declared.job.Role.TheVariants as kinds
 use Rattle.swap_run.specs.Laws.{IsReadyCast}
 use Rattle.party_wallet.specs.Fits.{wrong_lock}
 use Rattle.party_machine.proofs.Good.{fitting_is_good}
-use Rattle.swap_world.specs.Cast.{job_cast, wallet_with}
-use Rattle.swap_world.specs.Actors.{by_role, role_actor, job_actor, team, wrong_with, AllFit, AreHeld, HaveRoles, ConformingHaveSeeds}
-use Rattle.swap_world.specs.Inside.{notes_in, plan_in, IsActorOf, AreActorsOf}
+use Rattle.swap_world.specs.Cast.{job_cast, signing_wallet}
+use Rattle.swap_world.specs.Actors.{by_role, role_actor, job_actor, team, wrong_lock_if_seeded, AllFit, AreHeld, HaveRoles, ConformingHaveSeeds}
+use Rattle.swap_world.specs.Inside.{actor_notes, actor_plan, IsPartyActor, ArePartyActors}
 use Rattle.swap_world.specs.declared.actor.Actor.{Actor}
 use Rattle.swap_world.specs.declared.actor.Actor.TheVariants.{Manual}
 
@@ -38,9 +38,9 @@ team_at job p lt = get_or-map-range_with_len (job_actor job) 0 job.deal.graph.n 
 
 -- what is known of the actor of party p
 pub record IsOwn (job : Job) (p : ℕ) (x : Actor) : Type 0 where
-  pub is : IsActorOf job.deal (slice_index_or job.conforming p false) (slice_index_or job.seeds p None) (job_role job p) p x
-  pub notes : notes_in job.deal x ≡ no_notes job.deal
-  pub plan : plan_in job.deal x ≡ first_plan job.deal (job_role job p)
+  pub is : IsPartyActor job.deal (slice_index_or job.conforming p false) (slice_index_or job.seeds p None) (job_role job p) p x
+  pub notes : actor_notes job.deal x ≡ no_notes job.deal
+  pub plan : actor_plan job.deal x ≡ first_plan job.deal (job_role job p)
   pub fits : slice_index_or job.conforming p false ≡ true → (seed : List ℕ) × (slice_index_or job.seeds p None ≡ Some seed)
       × (wrong_lock job.deal p seed ≡ None)
 
@@ -48,19 +48,19 @@ by_itself : (job : Job) (p : ℕ) (role : Role) → slice_index_or job.conformin
 by_itself job p role ec er = record { is = kind role er; notes = no_note role; plan = first role er; fits = λ t. absurd (false≢true (sym ec ∙ t)) }
   where
     kind : (r : Role) → job_role job p ≡ r
-        → IsActorOf job.deal (slice_index_or job.conforming p false) (slice_index_or job.seeds p None) (job_role job p) p (by_role job.deal r)
+        → IsPartyActor job.deal (slice_index_or job.conforming p false) (slice_index_or job.seeds p None) (job_role job p) p (by_role job.deal r)
     kind kinds.Conforming e = (ec, ap is_planned e)
     kind kinds.Manual e = (ec, ap is_planned e)
     kind (kinds.Script moves) e = (ec, ap is_planned e)
     kind (kinds.Strategy name) e = (ec, ap is_planned e)
 
-    no_note : (r : Role) → notes_in job.deal (by_role job.deal r) ≡ no_notes job.deal
+    no_note : (r : Role) → actor_notes job.deal (by_role job.deal r) ≡ no_notes job.deal
     no_note kinds.Conforming = refl
     no_note kinds.Manual = refl
     no_note (kinds.Script moves) = refl
     no_note (kinds.Strategy name) = refl
 
-    first : (r : Role) → job_role job p ≡ r → plan_in job.deal (by_role job.deal r) ≡ first_plan job.deal (job_role job p)
+    first : (r : Role) → job_role job p ≡ r → actor_plan job.deal (by_role job.deal r) ≡ first_plan job.deal (job_role job p)
     first kinds.Conforming e = sym (ap (first_plan job.deal) e)
     first kinds.Manual e = sym (ap (first_plan job.deal) e)
     first (kinds.Script moves) e = sym (ap (first_plan job.deal) e)
@@ -74,7 +74,7 @@ no_moves d (kinds.Script moves) e = absurd (cc e)
 no_moves d (kinds.Strategy name) e = absurd (cc e)
 
 own : (job : Job) (p : ℕ) (b : Bool) (o : Option (List ℕ)) → slice_index_or job.conforming p false ≡ b → slice_index_or job.seeds p None ≡ o
-    → b ≡ is_conforming (job_role job p) → (b ≡ true → is_some o ≡ true) → cond b (wrong_with job.deal p o) None ≡ None
+    → b ≡ is_conforming (job_role job p) → (b ≡ true → is_some o ≡ true) → cond b (wrong_lock_if_seeded job.deal p o) None ≡ None
     → IsOwn job p (cond b (role_actor job.deal (job_role job p) p o) (by_role job.deal (job_role job p)))
 own job p false o eb eo role some right = by_itself job p (job_role job p) eb refl
 own job p true None eb eo role some right = absurd (false≢true (some refl))
@@ -100,40 +100,40 @@ is_own job p seeds roles fit lt =
     own job p (slice_index_or job.conforming p false) (slice_index_or job.seeds p None) refl refl (role_of_its job p seeds roles lt) (seeds.there p lt)
     (fit p lt)
 
-pub are_actors : (job : Job) → ConformingHaveSeeds job → HaveRoles job → AllFit job → AreActorsOf job.deal job.conforming job.seeds job.roles (team job)
+pub are_actors : (job : Job) → ConformingHaveSeeds job → HaveRoles job → AllFit job → ArePartyActors job.deal job.conforming job.seeds job.roles (team job)
 are_actors job seeds roles fit = record {
   one_each = team_length job;
   each = λ v x l is.
       let lt : v < job.deal.graph.n = subst (λ n. v < n) (team_length job) l in
-      subst (IsActorOf job.deal (slice_index_or job.conforming v false) (slice_index_or job.seeds v None) (job_role job v) v)
+      subst (IsPartyActor job.deal (slice_index_or job.conforming v false) (slice_index_or job.seeds v None) (job_role job v) v)
       (sym (team_at job v lt) ∙ (get_or_default (team job) v Manual x l ∙ sym is)) (is_own job v seeds roles fit lt).is;
 }
 
 pub no_notes_yet : (job : Job) → ConformingHaveSeeds job → HaveRoles job → AllFit job
-    → map (notes_in job.deal) (team job) ≡ replicate job.deal.graph.n (no_notes job.deal)
+    → map (actor_notes job.deal) (team job) ≡ replicate job.deal.graph.n (no_notes job.deal)
 no_notes_yet job seeds roles fit =
-    same_lists (map (notes_in job.deal) (team job)) (replicate job.deal.graph.n (no_notes job.deal))
-    (length-map (team job) (notes_in job.deal) ∙ (team_length job ∙ sym (length-replicate job.deal.graph.n (no_notes job.deal))))
-    (λ k d lt. at k d (subst (λ n. k < n) (length-map (team job) (notes_in job.deal)) lt))
+    same_lists (map (actor_notes job.deal) (team job)) (replicate job.deal.graph.n (no_notes job.deal))
+    (length-map (team job) (actor_notes job.deal) ∙ (team_length job ∙ sym (length-replicate job.deal.graph.n (no_notes job.deal))))
+    (λ k d lt. at k d (subst (λ n. k < n) (length-map (team job) (actor_notes job.deal)) lt))
   where
     at : (k : ℕ) (d : Notes) → k < length (team job)
-        → get_or (map (notes_in job.deal) (team job)) k d ≡ get_or (replicate job.deal.graph.n (no_notes job.deal)) k d
+        → get_or (map (actor_notes job.deal) (team job)) k d ≡ get_or (replicate job.deal.graph.n (no_notes job.deal)) k d
     at k d lt =
         let below = subst (λ z. k < z) (team_length job) lt in
-        get_or-map (notes_in job.deal) (team job) k Manual d lt ∙ (ap (notes_in job.deal) (team_at job k below)
+        get_or-map (actor_notes job.deal) (team job) k Manual d lt ∙ (ap (actor_notes job.deal) (team_at job k below)
         ∙ ((is_own job k seeds roles fit below).notes ∙ sym (get_or-replicate job.deal.graph.n k (no_notes job.deal) d below)))
 
-pub first_plans : (job : Job) → ConformingHaveSeeds job → HaveRoles job → AllFit job → map (plan_in job.deal) (team job) ≡ map (first_plan job.deal) job.roles
+pub first_plans : (job : Job) → ConformingHaveSeeds job → HaveRoles job → AllFit job → map (actor_plan job.deal) (team job) ≡ map (first_plan job.deal) job.roles
 first_plans job seeds roles fit =
-    same_lists (map (plan_in job.deal) (team job)) (map (first_plan job.deal) job.roles)
-    (length-map (team job) (plan_in job.deal) ∙ (team_length job ∙ sym (length-map job.roles (first_plan job.deal) ∙ role_each job seeds roles)))
-    (λ k d lt. at k d (subst (λ n. k < n) (length-map (team job) (plan_in job.deal)) lt))
+    same_lists (map (actor_plan job.deal) (team job)) (map (first_plan job.deal) job.roles)
+    (length-map (team job) (actor_plan job.deal) ∙ (team_length job ∙ sym (length-map job.roles (first_plan job.deal) ∙ role_each job seeds roles)))
+    (λ k d lt. at k d (subst (λ n. k < n) (length-map (team job) (actor_plan job.deal)) lt))
   where
     at : (k : ℕ) (d : Plan) → k < length (team job)
-        → get_or (map (plan_in job.deal) (team job)) k d ≡ get_or (map (first_plan job.deal) job.roles) k d
+        → get_or (map (actor_plan job.deal) (team job)) k d ≡ get_or (map (first_plan job.deal) job.roles) k d
     at k d lt =
         let below = subst (λ z. k < z) (team_length job) lt in
-        get_or-map (plan_in job.deal) (team job) k Manual d lt ∙ (ap (plan_in job.deal) (team_at job k below) ∙ ((is_own job k seeds roles fit below).plan
+        get_or-map (actor_plan job.deal) (team job) k Manual d lt ∙ (ap (actor_plan job.deal) (team_at job k below) ∙ ((is_own job k seeds roles fit below).plan
         ∙ sym (get_or-map (first_plan job.deal) job.roles k kinds.Manual d (subst (λ z. k < z) (sym (role_each job seeds roles)) below))))
 
 pub is_ready : (job : Job) → IsAccepted job.deal → ConformingHaveSeeds job → HaveRoles job → AllFit job → IsReadyCast (job_cast job)
@@ -143,7 +143,7 @@ is_ready job accepted seeds roles fit = record {
   roles = role_each job seeds roles;
   wallets = λ v lt t. let f =
       (is_own job v seeds roles fit lt).fits t in
-      subst (λ o. IsWallet job.deal v (wallet_with o v job.deal)) (sym f.1) (fitting_is_good job.deal v f.0 accepted lt f.2);
+      subst (λ o. IsWallet job.deal v (signing_wallet o v job.deal)) (sym f.1) (fitting_is_good job.deal v f.0 accepted lt f.2);
   scripts = roles.scripts;
 }
 
@@ -152,9 +152,9 @@ pub all_fit : (job : Job) → ((p : ℕ) → p < job.deal.graph.n → slice_inde
     → (seed : List ℕ) × (slice_index_or job.seeds p None ≡ Some seed) × (wrong_lock job.deal p seed ≡ None)) → AllFit job
 all_fit job have p lt = by (slice_index_or job.conforming p false) refl
   where
-    by : (b : Bool) → slice_index_or job.conforming p false ≡ b → cond b (wrong_with job.deal p (slice_index_or job.seeds p None)) None ≡ None
+    by : (b : Bool) → slice_index_or job.conforming p false ≡ b → cond b (wrong_lock_if_seeded job.deal p (slice_index_or job.seeds p None)) None ≡ None
     by false c = refl
-    by true c = let h = have p lt c in ap (wrong_with job.deal p) h.1 ∙ h.2
+    by true c = let h = have p lt c in ap (wrong_lock_if_seeded job.deal p) h.1 ∙ h.2
 
 -- A job in which nobody follows a script or a strategy.
 
@@ -192,7 +192,7 @@ module _ (f : Bool → Role) (same : (b : Bool) → is_conforming (f b) ≡ b) (
         = ap (λ (rs : List Role). role_script (get_or rs p kinds.Manual)) e
         ∙ no_script (get_or (map f job.conforming) p kinds.Manual) (plain_at job.conforming p)
         in
-        subst (All (IsMoveOf job.deal job.seeds p)) (sym none) (All-nil (IsMoveOf job.deal job.seeds p));
+        subst (All (IsPartyMove job.deal job.seeds p)) (sym none) (All-nil (IsPartyMove job.deal job.seeds p));
   }
 
 -- where nobody follows a strategy, every staff will do

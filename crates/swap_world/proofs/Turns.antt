@@ -9,7 +9,7 @@ use Rattle.ledger_core.specs.Value.{LedgerState}
 use Rattle.swap_rules.specs.Machine.{Begins}
 use Rattle.swap_rules.proofs.Prefixes.{begins_refl}
 use Rattle.ledger_core.specs.History.{height, history_reply}
-use Rattle.ledger_core.specs.Ledger.{IsAfter, call_entry, is_sender_full, after_call}
+use Rattle.ledger_core.specs.Ledger.{HasEntryAdded, call_entry, is_sender_full, after_call}
 
 full_or_kept : (r : Reply) (h h' : List Entry) (e : Entry) → (r ≡ SenderFull → h' ≡ h) → (r ≢ SenderFull → h' ≡ h ++ e ∷ [])
     → h' ≡ cond (is_sender_full r) h (h ++ e ∷ [])
@@ -27,7 +27,7 @@ pub record IsCalled (old new : LedgerState) (p : ℕ) (c : Call) : Type 0 where
   pub history : new.history ≡ after_call old.deal old.arc p c old.history
 
 pub called : (old new : LedgerState) (p : ℕ) (c : Call) (r : Reply) → r ≡ history_reply old.deal old.arc old.history p c → (r ≡ SenderFull → new ≡ old)
-    → (r ≢ SenderFull → IsAfter old (call_entry p (height old.history) c r) new) → IsCalled old new p c
+    → (r ≢ SenderFull → HasEntryAdded old (call_entry p (height old.history) c r) new) → IsCalled old new p c
 unfolding after_call
 called old new p c r reply full kept = record {
   deal = full_or r (λ k. ap (λ (l : LedgerState). l.deal) (full k)) (λ k. (kept k).deal);

@@ -22,7 +22,7 @@ use Rattle.swap_run.specs.Run.{Cast, Plan, Question, State, state_notes, next_ac
 use Rattle.swap_run.specs.Laws.{AreGoodNotes, IsReadyCast, IsGood, IsGoodPlan, IsKept}
 use Rattle.swap_run.specs.FairLaws.{IsReached}
 use Rattle.swap_run.proofs.Along.{along_reached}
-use Rattle.party_wallet.specs.Value.{signed_in}
+use Rattle.party_wallet.specs.Value.{signed_hashkey}
 use Rattle.swap_rules.proofs.Due.{due_is_valid}
 use Rattle.swap_run.proofs.Noted.{due_now}
 use Rattle.swap_run.specs.Called.{apply_step}
@@ -32,9 +32,9 @@ use Rattle.swap_run.proofs.Plans.{plan_view}
 use Rattle.party_machine.specs.Machine.{MachineState, next_due}
 use Rattle.swap_world.specs.Value.{WorldState, world_answers, world_cast, answering_cast, Continues}
 use Rattle.swap_world.specs.Gone.{MayGive, HasGone}
-use Rattle.swap_world.specs.On.{IsCutOn}
+use Rattle.swap_world.specs.On.{IsCutWithSweeps}
 use Rattle.swap_world.specs.Stopped.{IsStopped}
-use Rattle.swap_world.specs.Inside.{IsActorOf, AreActorsOf}
+use Rattle.swap_world.specs.Inside.{IsPartyActor, ArePartyActors}
 use Rattle.swap_world.specs.Acting.{IsMakable, IsSameOwner, histories}
 use Rattle.swap_world.specs.declared.actor.Actor.{Actor}
 use Rattle.swap_world.specs.declared.actor.Actor.TheVariants.{Conforming, Planned}
@@ -66,7 +66,7 @@ found_plan xs p x n e h = subst (λ y. y ≡ get_or xs p y) e h
 -- an actor that was found is in its place
 pub placed : (d : Deal) (conforming : List Bool) (seeds : Seeds) (roles : List Role) (qs : List Question) (ls : List LedgerState)
     (xs : List Actor) (p : ℕ) (x : Actor) (m : MachineState)
-    → AreActorsOf d conforming seeds roles xs → p < d.graph.n → x ≡ Conforming m → x ≡ get_or xs p x → IsAt d conforming seeds roles qs ls xs p m
+    → ArePartyActors d conforming seeds roles xs → p < d.graph.n → x ≡ Conforming m → x ≡ get_or xs p x → IsAt d conforming seeds roles qs ls xs p m
 placed d conforming seeds roles qs ls xs p x m actors lt e h =
     let low = subst (λ n. p < n) (sym actors.one_each) lt in
     let here = found xs p x m e h in
@@ -74,7 +74,7 @@ placed d conforming seeds roles qs ls xs p x m actors lt e h =
 
 pub plan_placed : (d : Deal) (conforming : List Bool) (seeds : Seeds) (roles : List Role) (qs : List Question) (ls : List LedgerState)
     (xs : List Actor) (p : ℕ) (x : Actor) (n : Plan)
-    → AreActorsOf d conforming seeds roles xs → p < d.graph.n → x ≡ Planned n → x ≡ get_or xs p x → IsPlanAt d conforming seeds roles qs ls xs p n
+    → ArePartyActors d conforming seeds roles xs → p < d.graph.n → x ≡ Planned n → x ≡ get_or xs p x → IsPlanAt d conforming seeds roles qs ls xs p n
 plan_placed d conforming seeds roles qs ls xs p x n actors lt e h =
     let low = subst (λ l. p < l) (sym actors.one_each) lt in
     let here = found_plan xs p x n e h in
@@ -96,7 +96,7 @@ same_owner (Ok x) m new k ok err = record { deal = ap (λ y. y.deal) ok; me = ap
 same_owner (Err e) m new k ok err = record { deal = ap (λ y. y.deal) err; me = ap (λ y. y.me) err; seed = ap (λ y. y.seed) err }
 
 pub owned : (d : Deal) (conforms : Bool) (seed : Option (List ℕ)) (role : Role) (p : ℕ) (m new : MachineState) → IsSameOwner m new
-    → IsActorOf d conforms seed role p (Conforming m) → IsActorOf d conforms seed role p (Conforming new)
+    → IsPartyActor d conforms seed role p (Conforming m) → IsPartyActor d conforms seed role p (Conforming new)
 owned d conforms seed role p m new k i = (i.0, k.deal ∙ i.1, k.me ∙ i.2, i.3 ∙ ap (λ (z : List ℕ). Some z) (sym k.seed))
 
 -- the state after an event, or as before where memory ran out, is good
@@ -167,7 +167,7 @@ module _ (c : Cast) (g : Answers) where
 -- the same of a world after a step
 pub collect_kept : {A E : Type 0} (r : Result A E) (gives : MayGive) (sw : ℕ → Bool) (old new : WorldState) (e : Event)
     → OnOk r (HasGone gives (λ c s. apply_step sw c s e) old new)
-    → OnErr r (IsCutOn gives sw e old new) → IsReadyCast (world_cast old) → CanStep old.deal old.conforming old.seeds e → IsGood (world_cast old) old.state
+    → OnErr r (IsCutWithSweeps gives sw e old new) → IsReadyCast (world_cast old) → CanStep old.deal old.conforming old.seeds e → IsGood (world_cast old) old.state
     → IsKept (world_cast new) new.state.book
 collect_kept (Ok x) gives sw old new e ok cut ready can k =
     subst (λ c. IsKept c new.state.book) (sym (ap world_cast ok.same))
@@ -275,7 +275,7 @@ module _ (d : Deal) (conforming : List Bool) (seeds : List (Option (List ℕ))) 
       let next : next_action cast before p ≡ Some x = next_is d conforming seeds roles qs ls xs p m i ∙ e in
       let is =
       due_now d before.book (state_notes before p) p (cast.wallet p) x (ready.wallets p below i.is.0) ready.accepted
-      (first_in (due d p (cast.wallet p) (signed_in (state_notes before p).signed) (state_notes before p).known) x next)
+      (first_in (due d p (cast.wallet p) (signed_hashkey (state_notes before p).signed) (state_notes before p).known) x next)
       (holds cast before p (good.notes p below i.is.0)) in
       subst (λ e. IsMakable e m.me x) (sym i.is.1) (subst (λ v. IsMakable d v x) (sym i.is.2) (record {
         arc = is.below;

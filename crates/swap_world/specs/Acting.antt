@@ -1,4 +1,5 @@
--- What the act of a machine makes of the histories and of the machine, and a call of the others of theirs, where slots may be swept.
+-- What the act of a machine makes of the histories and of the machine, and a call of the others of
+-- theirs, where slots may be swept.
 use Rattle.std.specs.Prelude.{◌≡◌, ◌==◌, ◌||◌, ◌<◌, ℕ, ◌+◌, Bool, true, IsTrue, List, length, map, slice_set, Option, Some, None, if◌then◌else◌}
 use Rattle.swap_digraph.specs.declared.deal.Deal.{Deal}
 use Rattle.swap_digraph.specs.Deal.{party, counterparty}
@@ -11,7 +12,7 @@ use Rattle.ledger_core.specs.Book.{Histories, history}
 use Rattle.deviators.specs.Script.{moves_left}
 use Rattle.swap_rules.specs.Due.{Action}
 use Rattle.ledger_core.specs.Ledger.{after_call}
-use Rattle.swap_run.specs.Run.{Plan, Question, plan_up_to, signed_after, after_tick}
+use Rattle.swap_run.specs.Run.{Plan, Question, plan_with_ledger, signed_through_call, after_tick}
 use Rattle.swap_run.specs.Called.{is_barred}
 use Rattle.party_machine.specs.Machine.{MachineState}
 use Rattle.swap_world.specs.On.{call_told}
@@ -52,7 +53,7 @@ next_machine swept m (Some x) b = record {
   me = m.me;
   seed = m.seed;
   known = slice_set m.known x.arc (landed (swept x.arc) m.deal x.arc m.me x.call (history b x.arc));
-  signed = signed_after m.signed x.call;
+  signed = signed_through_call m.signed x.call;
 }
 
 -- what the machine's party is told
@@ -68,12 +69,12 @@ taken swept d v (Some x) b = slice_set b x.0 (landed (swept x.0) d x.0 v x.1 (hi
 -- the plan of party v after its call, if any: it knows the ledger up to its end
 abbrev pub seen : (ℕ → Bool) → Deal → ℕ → Option (ℕ × Call) → Histories → Plan → Plan
 seen swept d v None b n = n
-seen swept d v (Some x) b n = plan_up_to n x.0 (landed (swept x.0) d x.0 v x.1 (history b x.0))
+seen swept d v (Some x) b n = plan_with_ledger n x.0 (landed (swept x.0) d x.0 v x.1 (history b x.0))
 
 -- what party v is told
-abbrev pub told_to : (ℕ → Bool) → Deal → ℕ → Option (ℕ × Call) → Histories → Told
-told_to swept d v None b = Nothing
-told_to swept d v (Some x) b = call_told (swept x.0) d x.0 v x.1 (history b x.0)
+abbrev pub party_told : (ℕ → Bool) → Deal → ℕ → Option (ℕ × Call) → Histories → Told
+party_told swept d v None b = Nothing
+party_told swept d v (Some x) b = call_told (swept x.0) d x.0 v x.1 (history b x.0)
 
 -- the plan of a party that has asked its strategy once more
 abbrev pub asked_once : Plan → Plan

@@ -5,7 +5,7 @@ use Rattle.std.specs.List.{range_with_len}
 use Rattle.swap_base.specs.declared.fault.Fault.{Fault}
 use Rattle.swap_base.specs.declared.fault.Fault.TheVariants.{Refused, NoMemory}
 use Rattle.swap_digraph.specs.declared.deal.Deal.{Deal}
-use Rattle.swap_job.specs.Fitting.{IsMoveOf}
+use Rattle.swap_job.specs.Fitting.{IsPartyMove}
 use Rattle.swap_job.specs.Roles.{IsHeld, job_role, is_conforming, role_script}
 use Rattle.swap_job.specs.declared.job.Job.{Job}
 use Rattle.swap_job.specs.declared.job.Role.{Role}
@@ -17,16 +17,18 @@ use Rattle.swap_world.specs.declared.actor.Actor.{Actor}
 use Rattle.swap_world.specs.declared.actor.Actor.TheVariants.{Conforming, Planned, Manual}
 use Rattle.swap_world.specs.declared.actors.WrongWallet.{WrongWallet}
 
--- There is a seed or none, and whether it conforms, for each party, and a seed for each that conforms.
+-- There is a seed or none, and whether it conforms, for each party, and a seed for each that
+-- conforms.
 pub record ConformingHaveSeeds (job : Job) : Type 0 where
   pub conforming : length job.conforming ≡ job.deal.graph.n
   pub seeds : length job.seeds ≡ job.deal.graph.n
   pub there : (p : ℕ) → p < job.deal.graph.n → slice_index_or job.conforming p false ≡ true → is_some (slice_index_or job.seeds p None) ≡ true
 
--- Each party has a role, that of a conforming one exactly where it conforms, and the moves of a script are its party's.
+-- Each party has a role, that of a conforming one exactly where it conforms, and the moves of a
+-- script are its party's.
 pub record HaveRoles (job : Job) : Type 0 where
   pub conforming : job.conforming ≡ map is_conforming job.roles
-  pub scripts : (p : ℕ) → p < job.deal.graph.n → All (IsMoveOf job.deal job.seeds p) (role_script (job_role job p))
+  pub scripts : (p : ℕ) → p < job.deal.graph.n → All (IsPartyMove job.deal job.seeds p) (role_script (job_role job p))
 
 -- each strategy that a role follows is held
 abbrev pub AreHeld : (List ℕ → Bool) → List Role → Type 0
@@ -53,13 +55,13 @@ job_actor job p =
 abbrev pub team : Job → List Actor
 team job = map (job_actor job) (range_with_len 0 job.deal.graph.n)
 
-abbrev pub wrong_with : Deal → ℕ → Option (List ℕ) → Option ℕ
-wrong_with d p None = None
-wrong_with d p (Some seed) = wrong_lock d p seed
+abbrev pub wrong_lock_if_seeded : Deal → ℕ → Option (List ℕ) → Option ℕ
+wrong_lock_if_seeded d p None = None
+wrong_lock_if_seeded d p (Some seed) = wrong_lock d p seed
 
 -- the least lock for which the seed of party p lacks what the deal states, where p conforms
 abbrev pub mismatched_lock : Job → ℕ → Option ℕ
-mismatched_lock job p = if slice_index_or job.conforming p false then wrong_with job.deal p (slice_index_or job.seeds p None) else None
+mismatched_lock job p = if slice_index_or job.conforming p false then wrong_lock_if_seeded job.deal p (slice_index_or job.seeds p None) else None
 
 -- every wallet is right
 abbrev pub AllFit : Job → Type 0
@@ -72,6 +74,6 @@ pub record IsFirstWrong (job : Job) (w : WrongWallet) : Type 0 where
   pub before : (p : ℕ) → p < w.party → mismatched_lock job p ≡ None
 
 -- what is told of the first wallet that is wrong
-abbrev pub IsFirstOf : Job → Fault WrongWallet → Type 0
-IsFirstOf job NoMemory = Unit {0}
-IsFirstOf job (Refused w) = IsFirstWrong job w
+abbrev pub IsFirstWrongFault : Job → Fault WrongWallet → Type 0
+IsFirstWrongFault job NoMemory = Unit {0}
+IsFirstWrongFault job (Refused w) = IsFirstWrong job w

@@ -10,16 +10,16 @@ use Rattle.swap_run.specs.Run.{Cast, conforms, party_role}
 use Rattle.swap_run.specs.Asked.{is_strategy}
 
 -- what party v signs with; that of a party without a seed is never used
-abbrev pub wallet_with : Option (List ℕ) → ℕ → Deal → Wallet
-wallet_with (Some seed) v d = seed_wallet seed v d
-wallet_with None v d = seed_wallet [] v d
+abbrev pub signing_wallet : Option (List ℕ) → ℕ → Deal → Wallet
+signing_wallet (Some seed) v d = seed_wallet seed v d
+signing_wallet None v d = seed_wallet [] v d
 
 -- the parties that conform sign with their seeds
 abbrev pub made_cast : Deal → List Bool → Seeds → List Role → Cast
 made_cast d conforming seeds roles = record {
   deal = d;
   conforming = conforming;
-  wallet = λ v. wallet_with (slice_index_or seeds v None) v d;
+  wallet = λ v. signing_wallet (slice_index_or seeds v None) v d;
   seeds = seeds;
   roles = roles;
   answers = λ k. None;

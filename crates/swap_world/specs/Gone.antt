@@ -37,11 +37,11 @@ pub record HasGone (gives : MayGive) (f : Cast → State → State) (old new : W
   pub state : (g : Answers) → Continues new g → new.state ≡ f (answering_cast old g) old.state
 
 -- Memory ran out on the way to where f leads: the histories are those before it or after it.
-pub record IsCutBy (gives : MayGive) (f : Cast → State → State) (old new : WorldState) : Type 0 where
+pub record IsCutMidway (gives : MayGive) (f : Cast → State → State) (old new : WorldState) : Type 0 where
   pub cast : world_cast new ≡ world_cast old
   pub asked : HasAsked gives old new
   pub book : (new.state.book ≡ old.state.book) ⊎ ((g : Answers) → Continues new g → new.state.book ≡ (f (answering_cast old g) old.state).book)
 
 -- memory ran out in an event: the histories are those before it or after it
 abbrev pub IsCut : MayGive → Event → (old new : WorldState) → Type 0
-IsCut gives event old new = IsCutBy gives (λ c s. step c s event) old new
+IsCut gives event old new = IsCutMidway gives (λ c s. step c s event) old new

@@ -10,45 +10,45 @@ use Rattle.swap_run.specs.Run.{Cast, Notes, Plan, Question, State, no_notes, fir
 use Rattle.swap_run.specs.Laws.{IsReadyCast, IsGood, IsKept}
 use Rattle.swap_world.specs.Cast.{made_cast}
 use Rattle.swap_world.specs.Acting.{answer_question}
-use Rattle.swap_world.specs.Journals.{AreDisksOf, AreJournalsOf}
+use Rattle.swap_world.specs.Journals.{AreMachineDisks, AreMachineJournals}
 use Rattle.swap_world.specs.Value.{WorldState}
 use Rattle.swap_world.specs.declared.actor.Actor.{Actor}
 use Rattle.swap_world.specs.declared.actor.Actor.TheVariants.{Conforming, Planned, Manual}
 use Rattle.swap_world.specs.declared.world.World.TheInside.{Inside}
 
 -- what the party has noted, where it conforms
-abbrev pub notes_in : Deal → Actor → Notes
-notes_in d (Conforming m) = record { known = m.known; signed = m.signed }
-notes_in d _ = no_notes d
+abbrev pub actor_notes : Deal → Actor → Notes
+actor_notes d (Conforming m) = record { known = m.known; signed = m.signed }
+actor_notes d _ = no_notes d
 
 -- what the party plans, where it follows a script or a strategy
-abbrev pub plan_in : Deal → Actor → Plan
-plan_in d (Planned n) = n
-plan_in d _ = first_plan d kinds.Manual
+abbrev pub actor_plan : Deal → Actor → Plan
+actor_plan d (Planned n) = n
+actor_plan d _ = first_plan d kinds.Manual
 
 -- the name of the strategy that a role follows, empty for the others
-abbrev pub name_in : Role → List ℕ
-name_in (kinds.Strategy name) = name
-name_in _ = []
+abbrev pub strategy_name : Role → List ℕ
+strategy_name (kinds.Strategy name) = name
+strategy_name _ = []
 
 -- what these parties asked, one after another, each with what it planned then
-abbrev pub questions_in : List Role → List ℕ → List Plan → List Question
-questions_in roles [] ns = []
-questions_in roles (p ∷ ps) [] = []
-questions_in roles (p ∷ ps) (n ∷ ns) = answer_question (name_in (slice_index_or roles p kinds.Manual)) p n ∷ questions_in roles ps ns
+abbrev pub asked_questions : List Role → List ℕ → List Plan → List Question
+asked_questions roles [] ns = []
+asked_questions roles (p ∷ ps) [] = []
+asked_questions roles (p ∷ ps) (n ∷ ns) = answer_question (strategy_name (slice_index_or roles p kinds.Manual)) p n ∷ asked_questions roles ps ns
 
 abbrev pub inside_cast : Inside → Cast
 inside_cast w = made_cast w.deal w.conforming w.seeds w.roles
 
-abbrev pub asked_in : Inside → List Question
-asked_in w = questions_in w.roles w.askers.items w.told.items
+abbrev pub inside_questions : Inside → List Question
+inside_questions w = asked_questions w.roles w.askers.items w.told.items
 
-abbrev pub state_in : Inside → State
-state_in w = record {
+abbrev pub inside_run_state : Inside → State
+inside_run_state w = record {
   book = map (λ l. l.history) w.ledgers.items;
-  notes = map (notes_in w.deal) w.actors.items;
-  plans = map (plan_in w.deal) w.actors.items;
-  asked = asked_in w;
+  notes = map (actor_notes w.deal) w.actors.items;
+  plans = map (actor_plan w.deal) w.actors.items;
+  asked = inside_questions w;
 }
 
 abbrev pub inside_world : Inside → WorldState
@@ -58,7 +58,7 @@ inside_world w = record {
   seeds = w.seeds;
   roles = w.roles;
   answers = w.answers.items;
-  state = state_in w;
+  state = inside_run_state w;
   stopped = w.stopped;
 }
 
@@ -70,7 +70,7 @@ abbrev pub new_ledgers : Deal → List LedgerState
 new_ledgers d = map (new_ledger d) (arcs d.graph)
 
 -- The ledger is that of arc a, and its history is legal.
-pub record IsLedgerOf (d : Deal) (a : ℕ) (l : LedgerState) : Type 0 where
+pub record IsArcLedger (d : Deal) (a : ℕ) (l : LedgerState) : Type 0 where
   pub deal : l.deal ≡ d
   pub arc : l.arc ≡ a
   pub legal : IsLegal d a l.history
@@ -92,32 +92,32 @@ abbrev pub HaveRoom : List LedgerState → Type 0
 HaveRoom ls = (a : ℕ) (l : LedgerState) → a < length ls → l ≡ slice_index_or ls a l → 0 < l.spare
 
 -- There is one ledger per arc, in order.
-pub record AreLedgersOf (d : Deal) (ls : List LedgerState) : Type 0 where
+pub record AreArcLedgers (d : Deal) (ls : List LedgerState) : Type 0 where
   pub one_each : length ls ≡ length d.graph.arcs
-  pub each : (a : ℕ) (l : LedgerState) → a < length ls → l ≡ slice_index_or ls a l → IsLedgerOf d a l
+  pub each : (a : ℕ) (l : LedgerState) → a < length ls → l ≡ slice_index_or ls a l → IsArcLedger d a l
 
 -- The actor is the one of party v of the deal. The party conforms or not, as `conforms` tells, and
 -- has this seed and this role.
-abbrev pub IsActorOf : Deal → Bool → Option (List ℕ) → Role → ℕ → Actor → Type 0
-IsActorOf d conforms seed role v (Conforming m) = (conforms ≡ true) × (m.deal ≡ d) × (m.me ≡ v) × (seed ≡ Some m.seed)
-IsActorOf d conforms seed role v (Planned n) = (conforms ≡ false) × (is_planned role ≡ true)
-IsActorOf d conforms seed role v Manual = (conforms ≡ false) × (is_planned role ≡ false)
+abbrev pub IsPartyActor : Deal → Bool → Option (List ℕ) → Role → ℕ → Actor → Type 0
+IsPartyActor d conforms seed role v (Conforming m) = (conforms ≡ true) × (m.deal ≡ d) × (m.me ≡ v) × (seed ≡ Some m.seed)
+IsPartyActor d conforms seed role v (Planned n) = (conforms ≡ false) × (is_planned role ≡ true)
+IsPartyActor d conforms seed role v Manual = (conforms ≡ false) × (is_planned role ≡ false)
 
 -- There is one actor per party, in order.
-pub record AreActorsOf (d : Deal) (conforming : List Bool) (seeds : List (Option (List ℕ))) (roles : List Role) (xs : List Actor) : Type 0 where
+pub record ArePartyActors (d : Deal) (conforming : List Bool) (seeds : List (Option (List ℕ))) (roles : List Role) (xs : List Actor) : Type 0 where
   pub one_each : length xs ≡ d.graph.n
   pub each : (v : ℕ) (x : Actor) → v < length xs → x ≡ slice_index_or xs v x
-      → IsActorOf d (slice_index_or conforming v false) (slice_index_or seeds v None) (slice_index_or roles v kinds.Manual) v x
+      → IsPartyActor d (slice_index_or conforming v false) (slice_index_or seeds v None) (slice_index_or roles v kinds.Manual) v x
 
 pub record Holds (w : Inside) : Type 0 where
   pub ready : IsReadyCast (inside_cast w)
-  pub ledgers : AreLedgersOf w.deal w.ledgers.items
-  pub actors : AreActorsOf w.deal w.conforming w.seeds w.roles w.actors.items
+  pub ledgers : AreArcLedgers w.deal w.ledgers.items
+  pub actors : ArePartyActors w.deal w.conforming w.seeds w.roles w.actors.items
   pub askers : length w.askers.items ≡ length w.answers.items
   pub told : length w.told.items ≡ length w.answers.items
-  pub good : w.stopped ≡ false → IsGood (inside_cast w) (state_in w)
+  pub good : w.stopped ≡ false → IsGood (inside_cast w) (inside_run_state w)
   pub room : w.stopped ≡ false → HaveRoom w.ledgers.items
-  pub journals : w.stopped ≡ false → AreJournalsOf w.deal w.actors.items w.journals.items
-  pub disks : w.stopped ≡ true → AreDisksOf w.deal (state_in w).book w.actors.items w.journals.items
+  pub journals : w.stopped ≡ false → AreMachineJournals w.deal w.actors.items w.journals.items
+  pub disks : w.stopped ≡ true → AreMachineDisks w.deal (inside_run_state w).book w.actors.items w.journals.items
   -- also where memory ran out
-  pub kept : IsKept (inside_cast w) (state_in w).book
+  pub kept : IsKept (inside_cast w) (inside_run_state w).book

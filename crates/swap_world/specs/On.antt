@@ -1,4 +1,5 @@
--- Where slots are swept: what the party of a call is told, what want of memory leaves of a world, and the tick of a chain.
+-- Where slots are swept: what the party of a call is told, what want of memory leaves of a world,
+-- and the tick of a chain.
 use Rattle.std.specs.Prelude.{ℕ, Bool, false, List, fold, slice_index_or, Option, Some, None, if◌then◌else◌}
 use Rattle.swap_digraph.specs.declared.deal.Deal.{Deal}
 use Rattle.ledger_core.specs.declared.entry.Call.{Call}
@@ -10,13 +11,13 @@ use Rattle.swap_job.specs.declared.event.Event.TheVariants.{Tick}
 use Rattle.swap_run.specs.Run.{Cast, State, step}
 use Rattle.swap_run.specs.Called.{Called, called, is_barred, apply_step}
 use Rattle.swap_world.specs.Value.{WorldState}
-use Rattle.swap_world.specs.Gone.{MayGive, IsCutBy}
+use Rattle.swap_world.specs.Gone.{MayGive, IsCutMidway}
 use Rattle.swap_world.specs.declared.told.Told.{Told}
 use Rattle.swap_world.specs.declared.told.Told.TheVariants.{Nothing, Passed, Replied}
 
 -- whether the slot of arc a is swept, by a list that is empty where none is
-abbrev pub swept_in : List Bool → ℕ → Bool
-swept_in swept a = slice_index_or swept a false
+abbrev pub is_slot_swept : List Bool → ℕ → Bool
+is_slot_swept swept a = slice_index_or swept a false
 
 -- what party p is told of its call on arc a, over that history
 abbrev pub call_told : (swept : Bool) → Deal → (a p : ℕ) → Call → List Entry → Told
@@ -32,13 +33,13 @@ abbrev pub event_told : (ℕ → Bool) → Cast → State → Event → Told
 event_told swept c s e = told_of_call swept c s (called c s e)
 
 -- Memory ran out in an event: the histories are those before it or after it.
-abbrev pub IsCutOn : MayGive → (swept : ℕ → Bool) → Event → (old new : WorldState) → Type 0
-IsCutOn gives swept event old new = IsCutBy gives (λ c s. apply_step swept c s event) old new
+abbrev pub IsCutWithSweeps : MayGive → (swept : ℕ → Bool) → Event → (old new : WorldState) → Type 0
+IsCutWithSweeps gives swept event old new = IsCutMidway gives (λ c s. apply_step swept c s event) old new
 
 -- the ledger of arc a ticks by k
-abbrev pub tick_at : ℕ → Cast → State → ℕ → State
-tick_at k c s a = step c s (Tick a k)
+abbrev pub tick_arc : ℕ → Cast → State → ℕ → State
+tick_arc k c s a = step c s (Tick a k)
 
 -- each ledger of these arcs ticks, in order
-abbrev pub ticked_on : List ℕ → ℕ → Cast → State → State
-ticked_on on k c s = fold (tick_at k c) s on
+abbrev pub tick_arcs : List ℕ → ℕ → Cast → State → State
+tick_arcs on k c s = fold (tick_arc k c) s on

@@ -25,14 +25,16 @@ pub record IsRaised (n : ℕ) (h after : List Entry) : Type 0 where
 abbrev pub AreRaised : ℕ → (b after : Histories) → Type 0
 AreRaised n b after = (a : ℕ) → a < length b → IsRaised n (history b a) (history after a)
 
--- Nobody makes a call in the next n rounds, where ticks alone come between them, which raise each ledger by at most one height a round.
+-- Nobody makes a call in the next n rounds, where ticks alone come between them, which raise each
+-- ledger by at most one height a round.
 pub record IsStill (c : Cast) (n : ℕ) (s : State) : Type 0 where
   pub noted : length s.notes ≡ c.deal.graph.n
   pub plain : (v : ℕ) → v < c.deal.graph.n → conforms c v ≡ false → is_planned (party_role c v) ≡ false
   pub idle : (i : ℕ) (b : Histories) → i < n → AreRaised i s.book b → (v : ℕ) → v < c.deal.graph.n → conforms c v ≡ true
       → IsIdle c b v (state_notes s v)
 
--- of the entries after those that were seen all are ticks, and n further ticks by 1 don't bring the ledger above that height
+-- of the entries after those that were seen all are ticks, and n further ticks by 1 don't bring the
+-- ledger above that height
 pub record IsLow (seen until n : ℕ) (h : List Entry) : Type 0 where
   pub ticks : are_ticks (drop seen h) ≡ true
   pub low : height h + n ≤ until

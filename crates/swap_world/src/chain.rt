@@ -5,7 +5,7 @@ ghost use Rattle.std.specs.List.Sorted.{IsStrictlyIncreasing};
 ghost use Rattle.ledger_core.specs.History.{IsLegal};
 ghost use Rattle.swap_run.specs.Run.{after_tick};
 ghost use Rattle.swap_world.specs.Acting.{histories, tick_book};
-ghost use Rattle.swap_world.specs.Inside.{AreLedgersOf, HaveRoom};
+ghost use Rattle.swap_world.specs.Inside.{AreArcLedgers, HaveRoom};
 
 use ledger_core::Ledger;
 use swap_base::ArcId;
@@ -28,16 +28,17 @@ fn tick_one(ledger: &mut Ledger, k: u32) -> bool
     ledger.reserve().is_ok()
 }
 
-/// Ticks each ledger of these arcs, and answers whether each has room for a further entry. It makes all ticks.
+/// Ticks each ledger of these arcs, and answers whether each has room for a further entry. It makes
+/// all ticks.
 pub(crate) fn tick_all(ledgers: &mut Vec<Ledger>, _deal: &Deal, on: &[ArcId], k: u32) -> bool
     requires some { 1 ≤ k }
     requires below { k ≤ 1000000 }
     requires arcs { All (λ a. a < length ledgers.old.items) on.now }
     requires ascending { IsStrictlyIncreasing on.now }
-    requires ledgers { AreLedgersOf _deal.now ledgers.old.items }
+    requires ledgers { AreArcLedgers _deal.now ledgers.old.items }
     requires room { HaveRoom ledgers.old.items }
     ensures ticked { histories ledgers.new.items ≡ fold (tick_book k) (histories ledgers.old.items) on.now }
-    ensures ledgers { AreLedgersOf _deal.now ledgers.new.items }
+    ensures ledgers { AreArcLedgers _deal.now ledgers.new.items }
     ensures room { result ≡ true → HaveRoom ledgers.new.items }
 {
     let mut ready = true;

@@ -63,7 +63,8 @@ fn act_to_rest<A: Strategies>(world: &mut World, _staff: &A, p: PartyId) -> Resu
     Ok(())
 }
 
-/// A party's turn: it looks around, and then acts: until nothing is due where it conforms, else once.
+/// A party's turn: it looks around, and then acts: until nothing is due where it conforms, else
+/// once.
 fn turn<A: Strategies>(
     world: &mut World,
     staff: &A,

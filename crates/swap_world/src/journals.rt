@@ -5,16 +5,16 @@ ghost use Rattle.ledger_core.specs.Book.{history};
 ghost use Rattle.swap_digraph.specs.Deal.{IsWellSized};
 ghost use Rattle.hashkey_path.specs.declared.hashkey.Hashkey.{Hashkey};
 ghost use Rattle.swap_rules.specs.Due.{Action};
-ghost use Rattle.wallet_journal.specs.Held.{Leaves, read_bytes};
+ghost use Rattle.wallet_journal.specs.Held.{Leaves, visible_bytes};
 ghost use Rattle.wallet_journal.specs.Layout.{recorded};
 ghost use Rattle.wallet_journal.specs.Own.{IsOwn};
 ghost use Rattle.wallet_journal.specs.Stopped.{bytes_left, kept_key, IsWrittenUp};
 ghost use Rattle.party_machine.specs.Machine.{next_due, resumed_machine, IsOfSame};
 ghost use Rattle.party_machine.specs.Recording.{signs_next, MayHave};
-ghost use Rattle.swap_run.specs.Run.{recorded_after, relearnt, signed_after};
+ghost use Rattle.swap_run.specs.Run.{recorded_hashkeys, relearnt, signed_through_call};
 ghost use Rattle.swap_world.specs.Acting.{histories, IsSameOwner};
-ghost use Rattle.swap_world.specs.Inside.{AreLedgersOf};
-ghost use Rattle.swap_world.specs.Journals.{near_known, AreFirstJournals, IsBetween, IsFirstJournal, IsJournalOf};
+ghost use Rattle.swap_world.specs.Inside.{AreArcLedgers};
+ghost use Rattle.swap_world.specs.Journals.{near_known, AreFirstJournals, IsBetween, IsFirstJournal, IsMachineJournal};
 
 use crate::turn::learn;
 use ledger_core::{Ledger, is_adjacent};
@@ -58,7 +58,8 @@ pub(crate) fn new_journals(
     Ok(journals)
 }
 
-/// A party begins its act on a disk that stops within the call after k of them; it comes to no call of its own.
+/// A party begins its act on a disk that stops within the call after k of them; it comes to no call
+/// of its own.
 fn begin(machine: &mut Machine, journal: &mut Journal<MemoryDisk>, _k: u8) -> Result<(), NoMemory>
     requires few { _k ≤ 3 }
     requires locks { length machine.old.signed ≤ 8 }
@@ -70,9 +71,9 @@ fn begin(machine: &mut Machine, journal: &mut Journal<MemoryDisk>, _k: u8) -> Re
     ensures left { OnOk result ((image : ℕ) (key : Hashkey) → signs_next machine.old ≡ Some key
         → recorded (bytes_left image journal.new.disk.held.synced journal.new.disk.held.loose) key.lock ≡ kept_key key _k image) }
     ensures calm { OnOk result (signs_next machine.old ≡ None → (x : Action) → next_due machine.old ≡ Some x
-        → signed_after machine.old.signed x.call ≡ machine.old.signed) }
+        → signed_through_call machine.old.signed x.call ≡ machine.old.signed) }
     ensures whole { (c : List ℕ) → Leaves journal.new.disk.held c
-        → Leaves journal.old.disk.held c ⊎ MayHave (read_bytes journal.old.disk.held) (signs_next machine.old) c }
+        → Leaves journal.old.disk.held c ⊎ MayHave (visible_bytes journal.old.disk.held) (signs_next machine.old) c }
     ensures own { ((c : List ℕ) → Leaves journal.old.disk.held c → IsOwn machine.old.deal journal.old.me c)
         → (c : List ℕ) → Leaves journal.new.disk.held c → IsOwn machine.old.deal journal.old.me c }
     ensures same { IsOfSame machine.old machine.new }
@@ -100,11 +101,11 @@ fn restart(
     requires same { machine.old.deal ≡ deal.now }
     requires few { k ≤ 3 }
     requires places { length machine.old.signed ≡ length deal.now.leaders }
-    requires journal { IsJournalOf deal.now machine.old.me machine.old.signed journal.old }
+    requires journal { IsMachineJournal deal.now machine.old.me machine.old.signed journal.old }
     ensures ok { OnOk result (machine.new
-        ≡ resumed_machine machine.old.deal machine.old.me machine.old.seed (recorded_after machine.old.signed (next_due machine.old) k image)) }
+        ≡ resumed_machine machine.old.deal machine.old.me machine.old.seed (recorded_hashkeys machine.old.signed (next_due machine.old) k image)) }
     ensures owner { IsSameOwner machine.old machine.new }
-    ensures journal { OnOk result (IsJournalOf deal.now machine.old.me machine.new.signed journal.new) }
+    ensures journal { OnOk result (IsMachineJournal deal.now machine.old.me machine.new.signed journal.new) }
     ensures between { IsBetween machine.old.signed machine.new.signed journal.new.disk.held }
 {
     journal.limit_calls(k);
@@ -122,7 +123,7 @@ fn learn_near(
 ) -> Result<(), NoMemory>
     requires arc { arc < length deal.now.graph.arcs }
     requires same { machine.old.deal ≡ deal.now }
-    requires ledgers { AreLedgersOf deal.now ledgers.now }
+    requires ledgers { AreArcLedgers deal.now ledgers.now }
     requires none { history machine.old.known arc ≡ [] }
     ensures ok { OnOk result (machine.new ≡ record machine.old {
       known =
@@ -141,7 +142,7 @@ fn learn_near(
 fn relearn(machine: &mut Machine, deal: &Deal, ledgers: &[Ledger]) -> Result<(), NoMemory>
     requires sized { IsWellSized deal.now }
     requires same { machine.old.deal ≡ deal.now }
-    requires ledgers { AreLedgersOf deal.now ledgers.now }
+    requires ledgers { AreArcLedgers deal.now ledgers.now }
     requires none { machine.old.known ≡ replicate (length deal.now.graph.arcs) [] }
     ensures ok { OnOk result (machine.new ≡ record machine.old { known = relearnt deal.now machine.old.me (histories ledgers.now) }) }
     ensures owner { IsSameOwner machine.old machine.new }
@@ -153,7 +154,8 @@ fn relearn(machine: &mut Machine, deal: &Deal, ledgers: &[Ledger]) -> Result<(),
     Ok(())
 }
 
-/// A party crashes within its act and restarts: it then knows each ledger that touches it to its end.
+/// A party crashes within its act and restarts: it then knows each ledger that touches it to its
+/// end.
 pub(crate) fn crash(
     alloc: Global,
     machine: &mut Machine,
@@ -167,14 +169,14 @@ pub(crate) fn crash(
     requires same { machine.old.deal ≡ deal.now }
     requires few { k ≤ 3 }
     requires places { length machine.old.signed ≡ length deal.now.leaders }
-    requires ledgers { AreLedgersOf deal.now ledgers.now }
-    requires journal { IsJournalOf deal.now machine.old.me machine.old.signed journal.old }
+    requires ledgers { AreArcLedgers deal.now ledgers.now }
+    requires journal { IsMachineJournal deal.now machine.old.me machine.old.signed journal.old }
     ensures ok { OnOk result (machine.new ≡ record machine.old {
       known = relearnt deal.now machine.old.me (histories ledgers.now);
-      signed = recorded_after machine.old.signed (next_due machine.old) k image;
+      signed = recorded_hashkeys machine.old.signed (next_due machine.old) k image;
     }) }
     ensures owner { IsSameOwner machine.old machine.new }
-    ensures journal { OnOk result (IsJournalOf deal.now machine.old.me machine.new.signed journal.new) }
+    ensures journal { OnOk result (IsMachineJournal deal.now machine.old.me machine.new.signed journal.new) }
     ensures between { OnErr result (IsBetween machine.old.signed machine.new.signed journal.new.disk.held) }
 {
     restart(alloc, machine, journal, deal, k, image)?;

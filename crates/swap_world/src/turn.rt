@@ -1,4 +1,5 @@
-//! What an event does to one ledger, whose slot may be swept, and to the machine or the plan of a party beside it.
+//! What an event does to one ledger, whose slot may be swept, and to the machine or the plan of a
+//! party beside it.
 
 ghost use Rattle.std.specs.Prelude.{◌≡◌, ◌==◌, ◌||◌, ◌<◌, ◌≤◌, ◌+◌, ◌-◌, ◌⊎◌, ℕ, Some, None, false, IsTrue, OnOk};
 ghost use Rattle.std.specs.Prelude.{OnErr, IfOk, IfSome, length, drop, slice_set, option_copied, option_map};
@@ -15,15 +16,15 @@ ghost use Rattle.deviators.specs.View.{MayAnswer};
 ghost use Rattle.swap_run.specs.Shown.{IsShown};
 ghost use Rattle.swap_rules.specs.Machine.{Begins};
 ghost use Rattle.swap_rules.specs.Due.{Action};
-ghost use Rattle.swap_run.specs.Run.{after_tick, plan_up_to};
+ghost use Rattle.swap_run.specs.Run.{after_tick, plan_with_ledger};
 ghost use Rattle.swap_run.specs.Called.{is_barred};
-ghost use Rattle.party_wallet.specs.Value.{signed_in};
-ghost use Rattle.party_machine.specs.Machine.{due_action, next_due, noted_for, IsOfSame};
+ghost use Rattle.party_wallet.specs.Value.{signed_hashkey};
+ghost use Rattle.party_machine.specs.Machine.{due_action, next_due, noted_if_called, IsOfSame};
 ghost use Rattle.wallet_journal.specs.Stopped.{ShowsAll};
-ghost use Rattle.swap_world.specs.Journals.{IsBetween, IsJournalOf};
-ghost use Rattle.swap_world.specs.Acting.{IsMakable, IsSameOwner, histories, landed, next_book, next_machine, build_told, seen, taken, told_to, turned};
-ghost use Rattle.swap_world.specs.On.{swept_in, call_told};
-ghost use Rattle.swap_world.specs.Inside.{AreLedgersOf, IsLedgerOf, HaveRoom};
+ghost use Rattle.swap_world.specs.Journals.{IsBetween, IsMachineJournal};
+ghost use Rattle.swap_world.specs.Acting.{IsMakable, IsSameOwner, histories, landed, next_book, next_machine, build_told, seen, taken, party_told, turned};
+ghost use Rattle.swap_world.specs.On.{is_slot_swept, call_told};
+ghost use Rattle.swap_world.specs.Inside.{AreArcLedgers, IsArcLedger, HaveRoom};
 
 use crate::told::Told;
 use hashkey_path::Hashkey;
@@ -56,7 +57,8 @@ pub(crate) fn tick(ledger: &mut Ledger, k: u32) -> Result<(), NoMemory>
     ledger.reserve()
 }
 
-/// Whether a call is answered before its ledger's rows: on a swept slot a transfer, and every call where nothing was published.
+/// Whether a call is answered before its ledger's rows: on a swept slot a transfer, and every call
+/// where nothing was published.
 fn is_barred(ledger: &Ledger, call: &Call, swept: bool) -> bool
     ensures { result ≡ is_barred swept ledger.now.history call.now }
 {
@@ -100,7 +102,7 @@ fn call(
 
 /// Whether the slot of an arc is swept, by a list that is empty where none is.
 fn is_swept(swept: &[bool], arc: ArcId) -> bool
-    ensures { result ≡ swept_in swept.now arc }
+    ensures { result ≡ is_slot_swept swept.now arc }
 {
     match swept.get(arc as usize) {
         Some(is) => *is,
@@ -128,7 +130,7 @@ fn resolve_move(
     mv: &Move,
 ) -> Result<Option<(ArcId, Call)>, NoMemory>
     requires sized { IsWellSized deal.now }
-    requires ledgers { AreLedgersOf deal.now ledgers.now }
+    requires ledgers { AreArcLedgers deal.now ledgers.now }
     requires fits { IsFitting deal.now seeds.now mv.now }
     ensures exact { IfOk result (λ o. o ≡ resolved deal.now seeds.now (histories ledgers.now) mv.now) }
     ensures fits { IfOk result (λ o. ForSome o (λ x. IsTrue (fit deal.now x.0 x.1))) }
@@ -136,7 +138,8 @@ fn resolve_move(
     resolve_keyed_move(alloc, deal, seeds, mv, key_named(ledgers, mv))
 }
 
-/// Makes the call that a move stands for, if any, over the ledgers as they stand, and answers what its party is told.
+/// Makes the call that a move stands for, if any, over the ledgers as they stand, and answers what
+/// its party is told.
 pub(crate) fn make(
     ledgers: &mut Vec<Ledger>,
     deal: &Deal,
@@ -146,18 +149,18 @@ pub(crate) fn make(
     swept: &[bool],
 ) -> Result<Told, NoMemory>
     requires sized { IsWellSized deal.now }
-    requires ledgers { AreLedgersOf deal.now ledgers.old.items }
+    requires ledgers { AreArcLedgers deal.now ledgers.old.items }
     requires fits { IsFitting deal.now seeds.now mv.now }
     requires near { IsTrue (is_near deal.now sender (move_arc mv.now)) }
     requires room { HaveRoom ledgers.old.items }
     ensures ok { OnOk result (histories ledgers.new.items
-        ≡ taken (swept_in swept.now) deal.now sender (resolved deal.now seeds.now (histories ledgers.old.items) mv.now) (histories ledgers.old.items)) }
+        ≡ taken (is_slot_swept swept.now) deal.now sender (resolved deal.now seeds.now (histories ledgers.old.items) mv.now) (histories ledgers.old.items)) }
     ensures told { IfOk result (λ r.
-        r ≡ told_to (swept_in swept.now) deal.now sender (resolved deal.now seeds.now (histories ledgers.old.items) mv.now) (histories ledgers.old.items)) }
+        r ≡ party_told (is_slot_swept swept.now) deal.now sender (resolved deal.now seeds.now (histories ledgers.old.items) mv.now) (histories ledgers.old.items)) }
     ensures err { OnErr result ((histories ledgers.new.items ≡ histories ledgers.old.items)
         ⊎ (histories ledgers.new.items
-        ≡ taken (swept_in swept.now) deal.now sender (resolved deal.now seeds.now (histories ledgers.old.items) mv.now) (histories ledgers.old.items))) }
-    ensures ledgers { AreLedgersOf deal.now ledgers.new.items }
+        ≡ taken (is_slot_swept swept.now) deal.now sender (resolved deal.now seeds.now (histories ledgers.old.items) mv.now) (histories ledgers.old.items))) }
+    ensures ledgers { AreArcLedgers deal.now ledgers.new.items }
     ensures room { OnOk result (HaveRoom ledgers.new.items) }
 {
     let alloc = *ledgers.allocator();
@@ -221,7 +224,8 @@ fn learn_copied<L: Counted>(
     machine.learn(arc, fresh, steps)
 }
 
-/// Lets a machine know a ledger up to its end, in as many steps as there are entries that it doesn't know.
+/// Lets a machine know a ledger up to its end, in as many steps as there are entries that it
+/// doesn't know.
 fn learn_entries<L: Counted>(
     machine: &mut Machine,
     ledger: &Ledger,
@@ -276,7 +280,8 @@ pub(crate) fn learn(machine: &mut Machine, ledger: &Ledger) -> Result<(), NoMemo
     learn_counted::<Brand>(machine, ledger, Blank::new(1))
 }
 
-/// Makes a call of a machine, which then knows the ledger up to its end. It verifies none of its signatures.
+/// Makes a call of a machine, which then knows the ledger up to its end. It verifies none of its
+/// signatures.
 #[tactic(auto, using(ledger_core::proofs::Known::valid_is_known_in))]
 fn make_due(
     machine: &mut Machine,
@@ -285,7 +290,7 @@ fn make_due(
     due: Call,
     swept: bool,
 ) -> Result<Told, NoMemory>
-    requires ledger { IsLedgerOf machine.old.deal arc ledger.old }
+    requires ledger { IsArcLedger machine.old.deal arc ledger.old }
     requires makable { IsMakable machine.old.deal machine.old.me (record { arc = arc; call = due }) }
     requires begins { Begins (history machine.old.known arc) ledger.old.history }
     requires room { 0 < ledger.old.spare }
@@ -297,7 +302,7 @@ fn make_due(
           slice_set machine.old.known arc (landed swept machine.old.deal arc machine.old.me due ledger.old.history);
     }) }
     ensures signed { machine.new.signed ≡ machine.old.signed }
-    ensures ledger { IsLedgerOf machine.old.deal arc ledger.new }
+    ensures ledger { IsArcLedger machine.old.deal arc ledger.new }
     ensures owner { IsSameOwner machine.old machine.new }
 {
     let told = call(ledger, machine.me(), due, usize::MAX, swept)?;
@@ -311,11 +316,11 @@ fn next(
     machine: &mut Machine,
     journal: &mut Journal<MemoryDisk>,
 ) -> Result<Option<(ArcId, Call)>, NoMemory>
-    requires journal { IsJournalOf machine.old.deal machine.old.me machine.old.signed journal.old }
+    requires journal { IsMachineJournal machine.old.deal machine.old.me machine.old.signed journal.old }
     ensures due { IfOk result (λ o. option_map due_action o ≡ next_due machine.old) }
-    ensures signed { IfOk result (λ o. signed_in machine.new.signed ≡ noted_for (signed_in machine.old.signed) o) }
+    ensures signed { IfOk result (λ o. signed_hashkey machine.new.signed ≡ noted_if_called (signed_hashkey machine.old.signed) o) }
     ensures same { IsOfSame machine.old machine.new }
-    ensures journal { OnOk result (IsJournalOf machine.old.deal machine.old.me machine.new.signed journal.new) }
+    ensures journal { OnOk result (IsMachineJournal machine.old.deal machine.old.me machine.new.signed journal.new) }
     ensures between { IsBetween machine.old.signed machine.new.signed journal.new.disk.held }
 {
     match machine.next_recorded(journal) {
@@ -328,32 +333,33 @@ fn next(
     }
 }
 
-/// Makes the first call that is due for a machine, if any, and answers what its party is told. A hashkey that it signs is recorded before.
+/// Makes the first call that is due for a machine, if any, and answers what its party is told. A
+/// hashkey that it signs is recorded before.
 pub(crate) fn act(
     machine: &mut Machine,
     journal: &mut Journal<MemoryDisk>,
     ledgers: &mut Vec<Ledger>,
     swept: &[bool],
 ) -> Result<Told, NoMemory>
-    requires journal { IsJournalOf machine.old.deal machine.old.me machine.old.signed journal.old }
-    requires ledgers { AreLedgersOf machine.old.deal ledgers.old.items }
+    requires journal { IsMachineJournal machine.old.deal machine.old.me machine.old.signed journal.old }
+    requires ledgers { AreArcLedgers machine.old.deal ledgers.old.items }
     requires makable { (x : Action) → next_due machine.old ≡ Some x → IsMakable machine.old.deal machine.old.me x }
     requires begins { (a : ℕ) → Begins (history machine.old.known a) (history (histories ledgers.old.items) a) }
     requires room { HaveRoom ledgers.old.items }
     ensures ok { OnOk result (histories ledgers.new.items
-        ≡ next_book (swept_in swept.now) machine.old (next_due machine.old) (histories ledgers.old.items)) }
-    ensures knows { OnOk result (machine.new ≡ next_machine (swept_in swept.now) machine.old (next_due machine.old) (histories ledgers.old.items)) }
-    ensures told { IfOk result (λ r. r ≡ build_told (swept_in swept.now) machine.old (next_due machine.old) (histories ledgers.old.items)) }
+        ≡ next_book (is_slot_swept swept.now) machine.old (next_due machine.old) (histories ledgers.old.items)) }
+    ensures knows { OnOk result (machine.new ≡ next_machine (is_slot_swept swept.now) machine.old (next_due machine.old) (histories ledgers.old.items)) }
+    ensures told { IfOk result (λ r. r ≡ build_told (is_slot_swept swept.now) machine.old (next_due machine.old) (histories ledgers.old.items)) }
     ensures err { OnErr result ((histories ledgers.new.items ≡ histories ledgers.old.items)
-        ⊎ (histories ledgers.new.items ≡ next_book (swept_in swept.now) machine.old (next_due machine.old) (histories ledgers.old.items))) }
-    ensures ledgers { AreLedgersOf machine.old.deal ledgers.new.items }
+        ⊎ (histories ledgers.new.items ≡ next_book (is_slot_swept swept.now) machine.old (next_due machine.old) (histories ledgers.old.items))) }
+    ensures ledgers { AreArcLedgers machine.old.deal ledgers.new.items }
     ensures room { OnOk result (HaveRoom ledgers.new.items) }
     ensures owner { IsSameOwner machine.old machine.new }
-    ensures journal { OnOk result (IsJournalOf machine.old.deal machine.old.me machine.new.signed journal.new) }
+    ensures journal { OnOk result (IsMachineJournal machine.old.deal machine.old.me machine.new.signed journal.new) }
     ensures between { OnErr result (IsBetween machine.old.signed machine.new.signed journal.new.disk.held) }
     ensures made { OnErr result ((histories ledgers.new.items ≡ histories ledgers.old.items)
-        ⊎ ((histories ledgers.new.items ≡ next_book (swept_in swept.now) machine.old (next_due machine.old) (histories ledgers.old.items))
-        × (machine.new.signed ≡ (next_machine (swept_in swept.now) machine.old (next_due machine.old) (histories ledgers.old.items)).signed)
+        ⊎ ((histories ledgers.new.items ≡ next_book (is_slot_swept swept.now) machine.old (next_due machine.old) (histories ledgers.old.items))
+        × (machine.new.signed ≡ (next_machine (is_slot_swept swept.now) machine.old (next_due machine.old) (histories ledgers.old.items)).signed)
         × ShowsAll machine.new.signed journal.new.disk.held)) }
 {
     match next(machine, journal)? {
@@ -366,18 +372,20 @@ pub(crate) fn act(
     }
 }
 
-/// Lets a party that follows a script or a strategy know a ledger up to its end, by a copy of what is fresh.
+/// Lets a party that follows a script or a strategy know a ledger up to its end, by a copy of what
+/// is fresh.
 pub(crate) fn watch(planner: &mut Planner, ledger: &Ledger, arc: ArcId) -> Result<(), NoMemory>
     requires arc { arc < length planner.old.known }
     requires begins { Begins (history planner.old.known arc) ledger.now.history }
-    ensures ok { OnOk result (planner.new ≡ plan_up_to planner.old arc ledger.now.history) }
+    ensures ok { OnOk result (planner.new ≡ plan_with_ledger planner.old arc ledger.now.history) }
     ensures err { OnErr result (planner.new ≡ planner.old) }
 {
     let fresh = ledger.copy_tail(planner.count(arc))?;
     planner.learn(arc, fresh)
 }
 
-/// Makes a call of a party that follows a script or a strategy, which then knows the ledger up to its end.
+/// Makes a call of a party that follows a script or a strategy, which then knows the ledger up to
+/// its end.
 fn make_planned(
     planner: &mut Planner,
     ledger: &mut Ledger,
@@ -396,7 +404,7 @@ fn make_planned(
     ensures told { IfOk result (λ r. r ≡ call_told swept ledger.old.deal ledger.old.arc sender made ledger.old.history) }
     ensures room { OnOk result (0 < ledger.new.spare) }
     ensures knows { OnOk result (planner.new
-        ≡ plan_up_to planner.old arc (landed swept ledger.old.deal ledger.old.arc sender made ledger.old.history)) }
+        ≡ plan_with_ledger planner.old arc (landed swept ledger.old.deal ledger.old.arc sender made ledger.old.history)) }
     ensures deal { ledger.new.deal ≡ ledger.old.deal }
     ensures arc { ledger.new.arc ≡ ledger.old.arc }
     ensures legal { IsLegal ledger.new.deal ledger.new.arc ledger.new.history }
@@ -406,7 +414,8 @@ fn make_planned(
     Ok(told)
 }
 
-/// Makes a call, if there is one, of a party that follows a script or a strategy, and answers what the party is told.
+/// Makes a call, if there is one, of a party that follows a script or a strategy, and answers what
+/// the party is told.
 pub(crate) fn take(
     planner: &mut Planner,
     ledgers: &mut Vec<Ledger>,
@@ -415,15 +424,15 @@ pub(crate) fn take(
     made: Option<(ArcId, Call)>,
     swept: &[bool],
 ) -> Result<Told, NoMemory>
-    requires ledgers { AreLedgersOf deal.now ledgers.old.items }
+    requires ledgers { AreArcLedgers deal.now ledgers.old.items }
     requires known { length planner.old.known ≡ length deal.now.graph.arcs }
     requires begins { (a : ℕ) → Begins (history planner.old.known a) (history (histories ledgers.old.items) a) }
     requires may { MayAnswer deal.now sender made }
     requires room { HaveRoom ledgers.old.items }
-    ensures leaves { histories ledgers.new.items ≡ taken (swept_in swept.now) deal.now sender made (histories ledgers.old.items) }
-    ensures told { IfOk result (λ r. r ≡ told_to (swept_in swept.now) deal.now sender made (histories ledgers.old.items)) }
-    ensures knows { OnOk result (planner.new ≡ seen (swept_in swept.now) deal.now sender made (histories ledgers.old.items) planner.old) }
-    ensures ledgers { AreLedgersOf deal.now ledgers.new.items }
+    ensures leaves { histories ledgers.new.items ≡ taken (is_slot_swept swept.now) deal.now sender made (histories ledgers.old.items) }
+    ensures told { IfOk result (λ r. r ≡ party_told (is_slot_swept swept.now) deal.now sender made (histories ledgers.old.items)) }
+    ensures knows { OnOk result (planner.new ≡ seen (is_slot_swept swept.now) deal.now sender made (histories ledgers.old.items) planner.old) }
+    ensures ledgers { AreArcLedgers deal.now ledgers.new.items }
     ensures room { OnOk result (HaveRoom ledgers.new.items) }
 {
     match made {
@@ -446,22 +455,22 @@ pub(crate) fn make_by_hand(
     swept: &[bool],
 ) -> Result<Told, NoMemory>
     requires sized { IsWellSized deal.now }
-    requires ledgers { AreLedgersOf deal.now ledgers.old.items }
+    requires ledgers { AreArcLedgers deal.now ledgers.old.items }
     requires known { length planner.old.known ≡ length deal.now.graph.arcs }
     requires begins { (a : ℕ) → Begins (history planner.old.known a) (history (histories ledgers.old.items) a) }
     requires fits { IsFitting deal.now seeds.now mv.now }
     requires near { IsTrue (is_near deal.now sender (move_arc mv.now)) }
     requires room { HaveRoom ledgers.old.items }
     ensures ok { OnOk result (histories ledgers.new.items
-        ≡ taken (swept_in swept.now) deal.now sender (resolved deal.now seeds.now (histories ledgers.old.items) mv.now) (histories ledgers.old.items)) }
+        ≡ taken (is_slot_swept swept.now) deal.now sender (resolved deal.now seeds.now (histories ledgers.old.items) mv.now) (histories ledgers.old.items)) }
     ensures told { IfOk result (λ r.
-        r ≡ told_to (swept_in swept.now) deal.now sender (resolved deal.now seeds.now (histories ledgers.old.items) mv.now) (histories ledgers.old.items)) }
-    ensures knows { OnOk result (planner.new ≡ seen (swept_in swept.now) deal.now sender
+        r ≡ party_told (is_slot_swept swept.now) deal.now sender (resolved deal.now seeds.now (histories ledgers.old.items) mv.now) (histories ledgers.old.items)) }
+    ensures knows { OnOk result (planner.new ≡ seen (is_slot_swept swept.now) deal.now sender
         (resolved deal.now seeds.now (histories ledgers.old.items) mv.now) (histories ledgers.old.items) planner.old) }
     ensures err { OnErr result ((histories ledgers.new.items ≡ histories ledgers.old.items)
         ⊎ (histories ledgers.new.items
-        ≡ taken (swept_in swept.now) deal.now sender (resolved deal.now seeds.now (histories ledgers.old.items) mv.now) (histories ledgers.old.items))) }
-    ensures ledgers { AreLedgersOf deal.now ledgers.new.items }
+        ≡ taken (is_slot_swept swept.now) deal.now sender (resolved deal.now seeds.now (histories ledgers.old.items) mv.now) (histories ledgers.old.items))) }
+    ensures ledgers { AreArcLedgers deal.now ledgers.new.items }
     ensures room { OnOk result (HaveRoom ledgers.new.items) }
 {
     let alloc = *ledgers.allocator();
@@ -478,21 +487,21 @@ pub(crate) fn follow(
     me: PartyId,
     swept: &[bool],
 ) -> Result<Told, NoMemory>
-    requires ledgers { AreLedgersOf deal.now ledgers.old.items }
+    requires ledgers { AreArcLedgers deal.now ledgers.old.items }
     requires known { length planner.old.known ≡ length deal.now.graph.arcs }
     requires begins { (a : ℕ) → Begins (history planner.old.known a) (history (histories ledgers.old.items) a) }
     requires shown { IsShown deal.now seeds.now me planner.old }
     requires room { HaveRoom ledgers.old.items }
     ensures ok { OnOk result (histories ledgers.new.items
-        ≡ taken (swept_in swept.now) deal.now me (next_call deal.now seeds.now planner.old.known planner.old.moves) (histories ledgers.old.items)) }
+        ≡ taken (is_slot_swept swept.now) deal.now me (next_call deal.now seeds.now planner.old.known planner.old.moves) (histories ledgers.old.items)) }
     ensures told { IfOk result (λ r.
-        r ≡ told_to (swept_in swept.now) deal.now me (next_call deal.now seeds.now planner.old.known planner.old.moves) (histories ledgers.old.items)) }
-    ensures knows { OnOk result (planner.new ≡ seen (swept_in swept.now) deal.now me (next_call deal.now seeds.now planner.old.known planner.old.moves)
+        r ≡ party_told (is_slot_swept swept.now) deal.now me (next_call deal.now seeds.now planner.old.known planner.old.moves) (histories ledgers.old.items)) }
+    ensures knows { OnOk result (planner.new ≡ seen (is_slot_swept swept.now) deal.now me (next_call deal.now seeds.now planner.old.known planner.old.moves)
         (histories ledgers.old.items) (turned planner.old)) }
     ensures err { OnErr result ((histories ledgers.new.items ≡ histories ledgers.old.items)
         ⊎ (histories ledgers.new.items
-        ≡ taken (swept_in swept.now) deal.now me (next_call deal.now seeds.now planner.old.known planner.old.moves) (histories ledgers.old.items))) }
-    ensures ledgers { AreLedgersOf deal.now ledgers.new.items }
+        ≡ taken (is_slot_swept swept.now) deal.now me (next_call deal.now seeds.now planner.old.known planner.old.moves) (histories ledgers.old.items))) }
+    ensures ledgers { AreArcLedgers deal.now ledgers.new.items }
     ensures room { OnOk result (HaveRoom ledgers.new.items) }
 {
     let made = planner.follow(deal, me, seeds)?;

@@ -3,9 +3,9 @@
 ghost use Rattle.std.specs.Prelude.{◌≡◌, ◌<◌, ◌≤◌, ◌⊎◌, ◌&&◌, IsTrue, OnOk, OnErr, IfOk, IfErr, IsErr, false, true, is_some, is_none};
 ghost use Rattle.std.specs.Prelude.{ℕ, List, Some, length, map, All};
 ghost use Rattle.std.specs.List.Sorted.{IsStrictlyIncreasing};
-ghost use Rattle.wallet_journal.specs.Held.{Leaves, read_bytes};
+ghost use Rattle.wallet_journal.specs.Held.{Leaves, visible_bytes};
 ghost use Rattle.wallet_journal.specs.Layout.{recorded};
-ghost use Rattle.party_wallet.specs.Value.{signed_in};
+ghost use Rattle.party_wallet.specs.Value.{signed_hashkey};
 ghost use Rattle.swap_digraph.specs.Deal.{IsWellSized};
 ghost use Rattle.swap_base.specs.Lists.{IsMoment};
 ghost use Rattle.hashkey_path.specs.declared.hashkey.Hashkey.{Hashkey};
@@ -32,8 +32,8 @@ ghost use Rattle.swap_world.specs.Value.{world_cast, answering_cast, new_world, 
 ghost use Rattle.swap_world.specs.Near.{all_adjacent};
 ghost use Rattle.swap_world.specs.Quiet.{IsStill};
 ghost use Rattle.swap_world.specs.Gone.{HasGone, IsCut};
-ghost use Rattle.swap_world.specs.On.{swept_in, event_told, ticked_on, IsCutOn};
-ghost use Rattle.swap_world.specs.Actors.{AllFit, AreHeld, HaveRoles, ConformingHaveSeeds, IsFirstOf};
+ghost use Rattle.swap_world.specs.On.{is_slot_swept, event_told, tick_arcs, IsCutWithSweeps};
+ghost use Rattle.swap_world.specs.Actors.{AllFit, AreHeld, HaveRoles, ConformingHaveSeeds, IsFirstWrongFault};
 ghost use Rattle.swap_world.specs.Inside.{AreNewLedgers};
 
 use crate::actor::Actor;
@@ -120,7 +120,8 @@ fn ledger_copies(alloc: Global, ledgers: &[Ledger]) -> Result<Listed<EntryList>,
 }
 
 impl World {
-    /// A world before any event, where every wallet is right. Each conforming party signs with its wallet, and each script stands at its first move.
+    /// A world before any event, where every wallet is right. Each conforming party signs with its
+    /// wallet, and each script stands at its first move.
     pub fn fitting(
         alloc: Global,
         job: &Job,
@@ -158,7 +159,7 @@ impl World {
         requires wallets { wallets.items ≡ new_wallets job.now.deal job.now.conforming job.now.seeds }
         ensures new { IfOk result (λ w. w ≡ new_world job.now) }
         ensures fit { OnOk result (AllFit job.now) }
-        ensures wrong { IfErr result (IsFirstOf job.now) }
+        ensures wrong { IfErr result (IsFirstWrongFault job.now) }
     {
         match wrong_wallet(job, &wallets) {
             Some(wrong) => Err(Fault::Refused(wrong)),
@@ -182,7 +183,8 @@ impl World {
         done
     }
 
-    /// Lets a party look that doesn't conform: one that follows a script or a strategy knows the ledger up to its end.
+    /// Lets a party look that doesn't conform: one that follows a script or a strategy knows the
+    /// ledger up to its end.
     fn watch(&mut self, p: PartyId, arc: ArcId) -> Result<(), NoMemory>
         requires event { CanLook self.old.deal p arc }
         requires deviates { conforms (world_cast self.old) p ≡ false }
@@ -222,14 +224,14 @@ impl World {
         requires conforms { conforms (world_cast self.old) p ≡ true }
         requires goes_on { self.old.stopped ≡ false }
         ensures ok { OnOk result (self.new
-            ≡ record self.old { state = apply_step (swept_in swept.now) (world_cast self.old) self.old.state (Event.Act p) }) }
-        ensures told { IfOk result (λ r. r ≡ event_told (swept_in swept.now) (world_cast self.old) self.old.state (Event.Act p)) }
+            ≡ record self.old { state = apply_step (is_slot_swept swept.now) (world_cast self.old) self.old.state (Event.Act p) }) }
+        ensures told { IfOk result (λ r. r ≡ event_told (is_slot_swept swept.now) (world_cast self.old) self.old.state (Event.Act p)) }
         ensures stopped { OnErr result (self.new.stopped ≡ true) }
         ensures cast { OnErr result (world_cast self.new ≡ world_cast self.old) }
         ensures asked { OnErr result (self.new.state.asked ≡ self.old.state.asked) }
         ensures answers { OnErr result (self.new.answers ≡ self.old.answers) }
         ensures book { OnErr result ((self.new.state.book ≡ self.old.state.book)
-            ⊎ (self.new.state.book ≡ (apply_step (swept_in swept.now) (world_cast self.old) self.old.state (Event.Act p)).book)) }
+            ⊎ (self.new.state.book ≡ (apply_step (is_slot_swept swept.now) (world_cast self.old) self.old.state (Event.Act p)).book)) }
     {
         let Actor::Conforming(machine) = &mut self.actors[p as usize] else {
             unreachable!();
@@ -286,21 +288,22 @@ impl World {
         self.has_strategy(p)
     }
 
-    /// Lets a party act that neither conforms nor follows a strategy: one that follows a script makes its next call.
+    /// Lets a party act that neither conforms nor follows a strategy: one that follows a script
+    /// makes its next call.
     fn follow(&mut self, p: PartyId, swept: &[bool]) -> Result<Told, NoMemory>
         requires party { p < self.old.deal.graph.n }
         requires deviates { conforms (world_cast self.old) p ≡ false }
         requires alone { asks (world_cast self.old) p ≡ false }
         requires goes_on { self.old.stopped ≡ false }
         ensures ok { OnOk result (self.new
-            ≡ record self.old { state = apply_step (swept_in swept.now) (world_cast self.old) self.old.state (Event.Act p) }) }
-        ensures told { IfOk result (λ r. r ≡ event_told (swept_in swept.now) (world_cast self.old) self.old.state (Event.Act p)) }
+            ≡ record self.old { state = apply_step (is_slot_swept swept.now) (world_cast self.old) self.old.state (Event.Act p) }) }
+        ensures told { IfOk result (λ r. r ≡ event_told (is_slot_swept swept.now) (world_cast self.old) self.old.state (Event.Act p)) }
         ensures stopped { OnErr result (self.new.stopped ≡ true) }
         ensures cast { OnErr result (world_cast self.new ≡ world_cast self.old) }
         ensures asked { OnErr result (self.new.state.asked ≡ self.old.state.asked) }
         ensures answers { OnErr result (self.new.answers ≡ self.old.answers) }
         ensures book { OnErr result ((self.new.state.book ≡ self.old.state.book)
-            ⊎ (self.new.state.book ≡ (apply_step (swept_in swept.now) (world_cast self.old) self.old.state (Event.Act p)).book)) }
+            ⊎ (self.new.state.book ≡ (apply_step (is_slot_swept swept.now) (world_cast self.old) self.old.state (Event.Act p)).book)) }
     {
         let Actor::Planned(planner) = &mut self.actors[p as usize] else {
             return Ok(Told::Nothing);
@@ -323,13 +326,13 @@ impl World {
         requires alone { asks (world_cast self.old) p ≡ false }
         requires goes_on { self.old.stopped ≡ false }
         ensures ok { OnOk result (self.new
-            ≡ record self.old { state = apply_step (swept_in swept.now) (world_cast self.old) self.old.state (Event.Act p) }) }
-        ensures told { IfOk result (λ r. r ≡ event_told (swept_in swept.now) (world_cast self.old) self.old.state (Event.Act p)) }
+            ≡ record self.old { state = apply_step (is_slot_swept swept.now) (world_cast self.old) self.old.state (Event.Act p) }) }
+        ensures told { IfOk result (λ r. r ≡ event_told (is_slot_swept swept.now) (world_cast self.old) self.old.state (Event.Act p)) }
         ensures cast { OnErr result (world_cast self.new ≡ world_cast self.old) }
         ensures asked { OnErr result (self.new.state.asked ≡ self.old.state.asked) }
         ensures answers { OnErr result (self.new.answers ≡ self.old.answers) }
         ensures book { OnErr result ((self.new.state.book ≡ self.old.state.book)
-            ⊎ (self.new.state.book ≡ (apply_step (swept_in swept.now) (world_cast self.old) self.old.state (Event.Act p)).book)) }
+            ⊎ (self.new.state.book ≡ (apply_step (is_slot_swept swept.now) (world_cast self.old) self.old.state (Event.Act p)).book)) }
     {
         if !self.conforms(p) {
             return self.follow(p, swept);
@@ -348,10 +351,10 @@ impl World {
         requires asks { asks (world_cast self.old) p ≡ true }
         requires goes_on { self.old.stopped ≡ false }
         requires held { AreHeld (A.holds staff.now) self.old.roles }
-        ensures ok { OnOk result (HasGone (A.gives staff.now) (λ c s. apply_step (swept_in swept.now) c s (Event.Act p)) self.old self.new) }
+        ensures ok { OnOk result (HasGone (A.gives staff.now) (λ c s. apply_step (is_slot_swept swept.now) c s (Event.Act p)) self.old self.new) }
         ensures told { IfOk result (λ r. (g : Answers) → Continues self.new g
-            → r ≡ event_told (swept_in swept.now) (answering_cast self.old g) self.old.state (Event.Act p)) }
-        ensures cut { OnErr result (IsCutOn (A.gives staff.now) (swept_in swept.now) (Event.Act p) self.old self.new) }
+            → r ≡ event_told (is_slot_swept swept.now) (answering_cast self.old g) self.old.state (Event.Act p)) }
+        ensures cut { OnErr result (IsCutWithSweeps (A.gives staff.now) (is_slot_swept swept.now) (Event.Act p) self.old self.new) }
     {
         let Role::Strategy(name) = &self.roles.as_slice()[p as usize] else {
             unreachable!();
@@ -380,10 +383,10 @@ impl World {
         requires party { p < self.old.deal.graph.n }
         requires goes_on { self.old.stopped ≡ false }
         requires held { AreHeld (A.holds staff.now) self.old.roles }
-        ensures ok { OnOk result (HasGone (A.gives staff.now) (λ c s. apply_step (swept_in swept.now) c s (Event.Act p)) self.old self.new) }
+        ensures ok { OnOk result (HasGone (A.gives staff.now) (λ c s. apply_step (is_slot_swept swept.now) c s (Event.Act p)) self.old self.new) }
         ensures told { IfOk result (λ r. (g : Answers) → Continues self.new g
-            → r ≡ event_told (swept_in swept.now) (answering_cast self.old g) self.old.state (Event.Act p)) }
-        ensures cut { OnErr result (IsCutOn (A.gives staff.now) (swept_in swept.now) (Event.Act p) self.old self.new) }
+            → r ≡ event_told (is_slot_swept swept.now) (answering_cast self.old g) self.old.state (Event.Act p)) }
+        ensures cut { OnErr result (IsCutWithSweeps (A.gives staff.now) (is_slot_swept swept.now) (Event.Act p) self.old self.new) }
     {
         if self.asks(p) {
             return self.ask(staff, p, swept);
@@ -397,13 +400,13 @@ impl World {
         requires plain { is_planned (party_role (world_cast self.old) sender) ≡ false }
         requires goes_on { self.old.stopped ≡ false }
         ensures ok { OnOk result (self.new
-            ≡ record self.old { state = apply_step (swept_in swept.now) (world_cast self.old) self.old.state (Event.Call sender mv.now) }) }
-        ensures told { IfOk result (λ r. r ≡ event_told (swept_in swept.now) (world_cast self.old) self.old.state (Event.Call sender mv.now)) }
+            ≡ record self.old { state = apply_step (is_slot_swept swept.now) (world_cast self.old) self.old.state (Event.Call sender mv.now) }) }
+        ensures told { IfOk result (λ r. r ≡ event_told (is_slot_swept swept.now) (world_cast self.old) self.old.state (Event.Call sender mv.now)) }
         ensures cast { OnErr result (world_cast self.new ≡ world_cast self.old) }
         ensures asked { OnErr result (self.new.state.asked ≡ self.old.state.asked) }
         ensures answers { OnErr result (self.new.answers ≡ self.old.answers) }
         ensures book { OnErr result ((self.new.state.book ≡ self.old.state.book)
-            ⊎ (self.new.state.book ≡ (apply_step (swept_in swept.now) (world_cast self.old) self.old.state (Event.Call sender mv.now)).book)) }
+            ⊎ (self.new.state.book ≡ (apply_step (is_slot_swept swept.now) (world_cast self.old) self.old.state (Event.Call sender mv.now)).book)) }
     {
         let done = turn::make(
             &mut self.ledgers,
@@ -421,13 +424,13 @@ impl World {
         requires event { CanCall self.old.deal self.old.conforming self.old.seeds sender mv.now }
         requires goes_on { self.old.stopped ≡ false }
         ensures ok { OnOk result (self.new
-            ≡ record self.old { state = apply_step (swept_in swept.now) (world_cast self.old) self.old.state (Event.Call sender mv.now) }) }
-        ensures told { IfOk result (λ r. r ≡ event_told (swept_in swept.now) (world_cast self.old) self.old.state (Event.Call sender mv.now)) }
+            ≡ record self.old { state = apply_step (is_slot_swept swept.now) (world_cast self.old) self.old.state (Event.Call sender mv.now) }) }
+        ensures told { IfOk result (λ r. r ≡ event_told (is_slot_swept swept.now) (world_cast self.old) self.old.state (Event.Call sender mv.now)) }
         ensures cast { OnErr result (world_cast self.new ≡ world_cast self.old) }
         ensures asked { OnErr result (self.new.state.asked ≡ self.old.state.asked) }
         ensures answers { OnErr result (self.new.answers ≡ self.old.answers) }
         ensures book { OnErr result ((self.new.state.book ≡ self.old.state.book)
-            ⊎ (self.new.state.book ≡ (apply_step (swept_in swept.now) (world_cast self.old) self.old.state (Event.Call sender mv.now)).book)) }
+            ⊎ (self.new.state.book ≡ (apply_step (is_slot_swept swept.now) (world_cast self.old) self.old.state (Event.Call sender mv.now)).book)) }
     {
         let Actor::Planned(planner) = &mut self.actors[sender as usize] else {
             return self.make_plain(sender, mv, swept);
@@ -477,10 +480,10 @@ impl World {
         requires event { CanStep self.old.deal self.old.conforming self.old.seeds event.now }
         requires goes_on { self.old.stopped ≡ false }
         requires held { AreHeld (A.holds staff.now) self.old.roles }
-        ensures ok { OnOk result (HasGone (A.gives staff.now) (λ c s. apply_step (swept_in swept.now) c s event.now) self.old self.new) }
+        ensures ok { OnOk result (HasGone (A.gives staff.now) (λ c s. apply_step (is_slot_swept swept.now) c s event.now) self.old self.new) }
         ensures told { IfOk result (λ r. (g : Answers) → Continues self.new g
-            → r ≡ event_told (swept_in swept.now) (answering_cast self.old g) self.old.state event.now) }
-        ensures cut { OnErr result (IsCutOn (A.gives staff.now) (swept_in swept.now) event.now self.old self.new) }
+            → r ≡ event_told (is_slot_swept swept.now) (answering_cast self.old g) self.old.state event.now) }
+        ensures cut { OnErr result (IsCutWithSweeps (A.gives staff.now) (is_slot_swept swept.now) event.now self.old self.new) }
     {
         match event {
             Event::Tick(arc, k) => {
@@ -510,11 +513,11 @@ impl World {
         requires event { CanStep self.old.deal self.old.conforming self.old.seeds event.now }
         requires goes_on { self.old.stopped ≡ false }
         requires held { AreHeld (A.holds staff.now) self.old.roles }
-        ensures ok { OnOk result (HasGone (A.gives staff.now) (λ c s. apply_step (swept_in swept.now) c s event.now) self.old self.new) }
+        ensures ok { OnOk result (HasGone (A.gives staff.now) (λ c s. apply_step (is_slot_swept swept.now) c s event.now) self.old self.new) }
         ensures told { IfOk result (λ r. (g : Answers) → Continues self.new g
-            → r ≡ event_told (swept_in swept.now) (answering_cast self.old g) self.old.state event.now) }
+            → r ≡ event_told (is_slot_swept swept.now) (answering_cast self.old g) self.old.state event.now) }
         ensures err { OnErr result (self.new.stopped ≡ true) }
-        ensures cut { OnErr result (IsCutOn (A.gives staff.now) (swept_in swept.now) event.now self.old self.new) }
+        ensures cut { OnErr result (IsCutWithSweeps (A.gives staff.now) (is_slot_swept swept.now) event.now self.old self.new) }
     {
         match self.happen(staff, event, swept) {
             Ok(told) => Ok(told),
@@ -560,8 +563,9 @@ impl World {
         self.stopped = true;
     }
 
-    /// Takes one event, where some slots may be swept (an empty list: none is), and answers what its party is told of its call. After want of memory
-    /// the histories are those before the event or after it, and every later step wants memory too.
+    /// Takes one event, where some slots may be swept (an empty list: none is), and answers what
+    /// its party is told of its call. After want of memory the histories are those before the event
+    /// or after it, and every later step wants memory too.
     pub fn apply_step<A: Strategies>(
         &mut self,
         staff: &A,
@@ -570,13 +574,14 @@ impl World {
     ) -> Result<Told, NoMemory>
         requires event { CanStep self.old.deal self.old.conforming self.old.seeds event.now }
         requires held { AreHeld (A.holds staff.now) self.old.roles }
-        ensures ok { OnOk result (HasGone (A.gives staff.now) (λ c s. apply_step (swept_in swept.now) c s event.now) self.old self.new) }
+        ensures ok { OnOk result (HasGone (A.gives staff.now) (λ c s. apply_step (is_slot_swept swept.now) c s event.now) self.old self.new) }
         ensures told { IfOk result (λ r. (g : Answers) → Continues self.new g
-            → r ≡ event_told (swept_in swept.now) (answering_cast self.old g) self.old.state event.now) }
+            → r ≡ event_told (is_slot_swept swept.now) (answering_cast self.old g) self.old.state event.now) }
         ensures err { OnErr result (self.new.stopped ≡ true) }
-        ensures cut { OnErr result (IsCutOn (A.gives staff.now) (swept_in swept.now) event.now self.old self.new) }
+        ensures cut { OnErr result (IsCutWithSweeps (A.gives staff.now) (is_slot_swept swept.now) event.now self.old self.new) }
         ensures stopped { IsTrue self.old.stopped → IsErr result × (self.new.state.book ≡ self.old.state.book) }
-        // Whatever the others do, and whether memory ran out or not, every conforming party has kept its conduct.
+        // Whatever the others do, and whether memory ran out or not, every conforming party has
+        // kept its conduct.
         ensures kept { IsKept (world_cast self.new) self.new.state.book }
     {
         if self.stopped {
@@ -585,8 +590,8 @@ impl World {
         self.take(staff, event, swept)
     }
 
-    /// Takes one event, where the staff answers for strategies. After want of memory the histories are those before the event or after it, and
-    /// every later step wants memory too.
+    /// Takes one event, where the staff answers for strategies. After want of memory the histories
+    /// are those before the event or after it, and every later step wants memory too.
     pub fn step<A: Strategies>(&mut self, staff: &A, event: &Event) -> Result<(), NoMemory>
         requires event { CanStep self.old.deal self.old.conforming self.old.seeds event.now }
         requires held { AreHeld (A.holds staff.now) self.old.roles }
@@ -594,7 +599,8 @@ impl World {
         ensures err { OnErr result (self.new.stopped ≡ true) }
         ensures cut { OnErr result (IsCut (A.gives staff.now) event.now self.old self.new) }
         ensures stopped { IsTrue self.old.stopped → IsErr result × (self.new.state.book ≡ self.old.state.book) }
-        // Whatever the others do, and whether memory ran out or not, every conforming party has kept its conduct.
+        // Whatever the others do, and whether memory ran out or not, every conforming party has
+        // kept its conduct.
         ensures kept { IsKept (world_cast self.new) self.new.state.book }
     {
         match self.apply_step(staff, event, &[]) {
@@ -619,9 +625,10 @@ impl World {
         many::run(self, staff, events)
     }
 
-    /// The fair finish: rounds until each ledger is above the horizon. In a round each party in its order looks at each arc that touches it and acts:
-    /// until nothing is due where it conforms, else once. Then each ledger that isn't above the horizon ticks by one height. After want of memory every
-    /// later step wants memory too.
+    /// The fair finish: rounds until each ledger is above the horizon. In a round each party in its
+    /// order looks at each arc that touches it and acts: until nothing is due where it conforms,
+    /// else once. Then each ledger that isn't above the horizon ticks by one height. After want of
+    /// memory every later step wants memory too.
     pub fn finish_fair<A: Strategies>(&mut self, staff: &A) -> Result<(), NoMemory>
         requires held { AreHeld (A.holds staff.now) self.old.roles }
         ensures ok { OnOk result (HasGone (A.gives staff.now) finish self.old self.new) }
@@ -656,15 +663,15 @@ impl World {
         self.ledgers[arc as usize].height()
     }
 
-    /// Ticks each ledger of these arcs, those that stand on a chain, by k heights. It makes all ticks; where there is no memory for a further entry
-    /// then, the world is stopped.
+    /// Ticks each ledger of these arcs, those that stand on a chain, by k heights. It makes all
+    /// ticks; where there is no memory for a further entry then, the world is stopped.
     pub fn tick_ledgers(&mut self, on: &[ArcId], k: u32)
         requires some { 1 ≤ k }
         requires below { k ≤ 1000000 }
         requires arcs { All (λ a. a < length self.old.deal.graph.arcs) on.now }
         requires ascending { IsStrictlyIncreasing on.now }
         requires goes_on { self.old.stopped ≡ false }
-        ensures ticked { self.new.state ≡ ticked_on on.now k (world_cast self.old) self.old.state }
+        ensures ticked { self.new.state ≡ tick_arcs on.now k (world_cast self.old) self.old.state }
         ensures same { self.new ≡ record self.old { state = self.new.state; stopped = self.new.stopped } }
         // Every conforming party has kept its conduct.
         ensures kept { IsKept (world_cast self.new) self.new.state.book }
@@ -686,19 +693,20 @@ impl World {
         requires conforms { conforms (world_cast self.now) p ≡ true }
 
         // What a read gives is among what a crash may leave.
-        ensures read { Leaves result.now.held (read_bytes result.now.held) }
+        ensures read { Leaves result.now.held (visible_bytes result.now.held) }
 
-        // Each crash leaves the hashkey of each unlock call that the party made, on whatever arc, recorded for its lock; and so does a read.
+        // Each crash leaves the hashkey of each unlock call that the party made, on whatever arc,
+        // recorded for its lock; and so does a read.
         ensures calls { (a : ℕ) (past : List Entry) (e : Entry) (key : Hashkey) → IsMoment (history self.now.state.book a) past e
             → pick_call p e ≡ Some (Unlock key) → (c : List ℕ) → Leaves result.now.held c → recorded c key.lock ≡ Some key }
 
         // It leaves no hashkey recorded that the party didn't sign.
         ensures only { (i : ℕ) (key : Hashkey) → i < length self.now.deal.leaders → (c : List ℕ) → Leaves result.now.held c
-            → recorded c i ≡ Some key → signed_in (state_notes self.now.state p).signed i ≡ Some key }
+            → recorded c i ≡ Some key → signed_hashkey (state_notes self.now.state p).signed i ≡ Some key }
 
         // And just those that it signed, unless memory ran out between signing and recording.
         ensures durable { self.now.stopped ≡ false → (i : ℕ) → i < length self.now.deal.leaders → (c : List ℕ) → Leaves result.now.held c
-            → recorded c i ≡ signed_in (state_notes self.now.state p).signed i }
+            → recorded c i ≡ signed_hashkey (state_notes self.now.state p).signed i }
     {
         let Some(journal) = &self.journals[p as usize] else {
             unreachable!();

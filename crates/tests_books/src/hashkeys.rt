@@ -217,7 +217,8 @@ fn finds_the_faults(rt: &impl Abort, alloc: Global, deal: &Deal, key: &Hashkey) 
     is_answered(rt, deal, 1, key, HashkeyAnswer::WrongPath);
     finds_the_path(rt, alloc, deal, key)?;
     finds(rt, deal, key, 3, HashkeyAnswer::WrongPath)?;
-    // The wrong signature at the least place is found; a signature is part of what the one before it signs.
+    // The wrong signature at the least place is found; a signature is part of what the one before
+    // it signs.
     finds(rt, deal, key, 0, HashkeyAnswer::WrongSignature(0))?;
     finds(rt, deal, key, 1, HashkeyAnswer::WrongSignature(0))?;
     finds(rt, deal, key, 2, HashkeyAnswer::WrongSignature(1))
@@ -249,7 +250,8 @@ fn has_digest(rt: &impl Abort, alloc: Global, header: &str, text: &str) -> Resul
     Ok(())
 }
 
-/// The digest of the deal of three parties with hashkeys is that of the text, where the offer has that version.
+/// The digest of the deal of three parties with hashkeys is that of the text, where the offer has
+/// that version.
 fn has_text_digest(rt: &impl Abort, alloc: Global, version: &str, text: &str) -> Result<(), Fail> {
     let header = jobs::THREE.replacen(alloc, "\"swap\":1", version, 1)?;
     has_digest(rt, alloc, header.as_str(), text)

@@ -1,4 +1,5 @@
-//! Tests of hashkeys, of the digests of deals, and of calls of libraries that the program never makes.
+//! Tests of hashkeys, of the digests of deals, and of calls of libraries that the program never
+//! makes.
 #![tactic(auto)]
 
 #[cfg(test)]

@@ -1,4 +1,5 @@
-//! Headers of rings: party 0 leads, each pays the next 1,000,000 units, and the keys are those of the seeds of 32 bytes 0, 1, 2 and so on.
+//! Headers of rings: party 0 leads, each pays the next 1,000,000 units, and the keys are those of
+//! the seeds of 32 bytes 0, 1, 2 and so on.
 
 /// Three parties.
 pub(crate) fn three() -> &'static str {

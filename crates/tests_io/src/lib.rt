@@ -1,4 +1,5 @@
-//! Tests of sources and sinks, read and written whole, and line by line; and of the words after the program's name.
+//! Tests of sources and sinks, read and written whole, and line by line; and of the words after the
+//! program's name.
 #![tactic(auto)]
 
 #[cfg(test)]

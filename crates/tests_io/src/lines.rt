@@ -7,7 +7,7 @@ use std::test::Fail;
 use swap_io::{LineEnd, LineFault, Lines, VecSource};
 
 /// Reads a line and appends it with a mark behind it, `|` for a line feed; none at the end.
-fn line_of(
+fn append_marked_line(
     lines: &mut Lines,
     source: &mut VecSource,
     line: &mut Vec<u8>,
@@ -32,7 +32,7 @@ fn collect_lines(
     most: usize,
 ) -> Result<(), LineFault> {
     for _ in 0..most {
-        if !line_of(lines, source, line, all)? {
+        if !append_marked_line(lines, source, line, all)? {
             return Ok(());
         }
     }
@@ -53,7 +53,12 @@ fn read_lines(
 }
 
 /// The lines of an input, each with its mark.
-fn read_back(alloc: Global, input: &[u8], per_call: usize, limit: u32) -> Result<Vec<u8>, Fail> {
+fn read_marked_lines(
+    alloc: Global,
+    input: &[u8],
+    per_call: usize,
+    limit: u32,
+) -> Result<Vec<u8>, Fail> {
     let mut all = Vec::new(alloc);
     let mut source = make_source(alloc, input, per_call, &[])?;
     read_lines(alloc, &mut source, limit, input.len() + 2, &mut all)?;
@@ -80,7 +85,7 @@ fn gives_lines(
     per_call: usize,
     limit: u32,
 ) -> Result<(), Fail> {
-    let lines = read_back(alloc, input, per_call, limit)?;
+    let lines = read_marked_lines(alloc, input, per_call, limit)?;
     if lines.as_slice() != wanted {
         let bytes = input.len();
         return Err(Fail::new(format_args!("{bytes} bytes, {per_call} a call")));

@@ -9,12 +9,7 @@ use std::alloc::Global;
 use std::test::Fail;
 
 /// The answer to a word with a number, where the calls of these numbers fail.
-fn computed_answer(
-    alloc: Global,
-    word: &str,
-    most: usize,
-    failing: &[u64],
-) -> Result<String, Fail> {
+fn word_answer(alloc: Global, word: &str, most: usize, failing: &[u64]) -> Result<String, Fail> {
     match word {
         "read" => vec_read(alloc, most, failing),
         "reader" => reader_read(alloc, most),
@@ -31,8 +26,8 @@ fn computed_answer(
 fn told(alloc: Global, asked: &str) -> Result<String, Fail> {
     let (word, numbers) = asked.split_once(" ").ok_or("no number")?;
     match numbers.split_once(" ") {
-        Some((most, call)) => computed_answer(alloc, word, most.parse()?, &[call.parse()?]),
-        None => computed_answer(alloc, word, numbers.parse()?, &[]),
+        Some((most, call)) => word_answer(alloc, word, most.parse()?, &[call.parse()?]),
+        None => word_answer(alloc, word, numbers.parse()?, &[]),
     }
 }
 
@@ -53,7 +48,8 @@ fn is_answered(alloc: Global, about: &str, row: &str) -> Result<(), Fail> {
     Ok(())
 }
 
-/// Each row is what is asked and the answer: `ASKED => ANSWER`. What is asked are words of the program, or a word of `computed_answer` with its numbers.
+/// Each row is what is asked and the answer: `ASKED => ANSWER`. What is asked are words of the
+/// program, or a word of `word_answer` with its numbers.
 pub(crate) fn answers(alloc: Global, about: &str, table: &str) -> Result<(), Fail> {
     for row in table.lines() {
         is_answered(alloc, about, row)?;

@@ -99,7 +99,8 @@ pub(crate) fn full_writer(alloc: Global) -> Result<String, Fail> {
     taken_text(alloc, &room, done)
 }
 
-/// How many bytes wait behind a call with those that wait, and behind one with one byte more; then all are written.
+/// How many bytes wait behind a call with those that wait, and behind one with one byte more; then
+/// all are written.
 fn waits(sink: &mut TextSink, waiting: &mut Vec<u8>) -> Result<(usize, usize), Fail> {
     flush_waiting(sink, waiting)?;
     let first = waiting.len();
@@ -110,20 +111,22 @@ fn waits(sink: &mut TextSink, waiting: &mut Vec<u8>) -> Result<(usize, usize), F
     Ok((first, then))
 }
 
-fn read_counts(alloc: Global, first: usize, then: usize, text: &ByteText) -> Result<String, Fail> {
+fn counts_text(alloc: Global, first: usize, then: usize, text: &ByteText) -> Result<String, Fail> {
     let written = text.as_slice().len();
     Ok(format!(in alloc; "{first} {then} {written}")?)
 }
 
-/// So many bytes to a text that grows, and one more: how many wait after each, and how many were written at the end.
+/// So many bytes to a text that grows, and one more: how many wait after each, and how many were
+/// written at the end.
 pub(crate) fn grown(alloc: Global, bytes: usize) -> Result<String, Fail> {
     let mut waiting = vec![in alloc; b'x'; bytes]?;
     let mut sink = TextSink::new(alloc);
     let (first, then) = waits(&mut sink, &mut waiting)?;
-    read_counts(alloc, first, then, &sink.into_text())
+    counts_text(alloc, first, then, &sink.into_text())
 }
 
-/// A number is the most bytes that are read, the room, or how many bytes are written; one behind it is that of a call that fails.
+/// A number is the most bytes that are read, the room, or how many bytes are written; one behind it
+/// is that of a call that fails.
 const TABLE: &str = "\
 read 5 => hello
 read 6 => hello

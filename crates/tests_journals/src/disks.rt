@@ -3,7 +3,7 @@
 ghost use Rattle.std.specs.Prelude.{◌≤◌, ◌<◌, ◌+◌, length};
 ghost use Rattle.swap_digraph.specs.Deal.{IsWellSized};
 
-use crate::rows::{answers, number_of, numbers, parted};
+use crate::rows::{answers, numbers, parted, word_number};
 use crate::shown::{paths_told, refusal};
 use std::alloc::{AllocError, Global};
 use std::test::Fail;
@@ -24,12 +24,13 @@ fn put(disk: &mut MemoryDisk, at: u32, bytes: &[u8])
 fn put_head(disk: &mut MemoryDisk, head: &str) {
     let (mark, rest) = parted(head, " ");
     let (id, party) = parted(rest, " ");
-    put(disk, 0, &[number_of(mark)]);
-    put(disk, 1, &[number_of(id); 32]);
-    put(disk, 33, &[number_of(party)]);
+    put(disk, 0, &[word_number(mark)]);
+    put(disk, 1, &[word_number(id); 32]);
+    put(disk, 33, &[word_number(party)]);
 }
 
-/// Writes a lock's gate, and the number of vertices and the vertices of its body, which are 0 where none are given.
+/// Writes a lock's gate, and the number of vertices and the vertices of its body, which are 0 where
+/// none are given.
 fn put_body(disk: &mut MemoryDisk, lock: u32, body: &[u8])
     requires { lock < 8 }
 {
@@ -71,8 +72,8 @@ pub(crate) fn disk_told(alloc: Global, deal: &Deal, asked: &str) -> Result<Strin
     }
 }
 
-/// The mark, the bytes of the id and the party; then for a lock each its gate, the number of its vertices, and the vertices: what is shown for the locks
-/// 0 and 1.
+/// The mark, the bytes of the id and the party; then for a lock each its gate, the number of its
+/// vertices, and the vertices: what is shown for the locks 0 and 1.
 const DISKS: &str = "\
 0 0 0 => None None
 0 9 9; 1 1 2; 1 1 0 => None None

@@ -3,7 +3,7 @@
 ghost use Rattle.std.specs.Prelude.{◌≡◌, true};
 ghost use Rattle.swap_digraph.specs.Deal.{IsWellSized};
 
-use crate::rows::{answers, number_of, parted};
+use crate::rows::{answers, parted, word_number};
 use crate::shown::{key_told, refusal};
 use hashkey_path::Hashkey;
 use std::alloc::{AllocError, Global};
@@ -75,7 +75,8 @@ fn stopped(
     }
 }
 
-/// What is answered where the record's disk stops after some calls, and what is shown after a crash.
+/// What is answered where the record's disk stops after some calls, and what is shown after a
+/// crash.
 pub(crate) fn stop_told(
     alloc: Global,
     deal: &Deal,
@@ -85,7 +86,7 @@ pub(crate) fn stop_told(
     requires { IsWellSized deal.now }
 {
     let (calls, image) = parted(asked, " ");
-    let (answer, shown) = stopped(alloc, deal, key, number_of(calls), number_of(image));
+    let (answer, shown) = stopped(alloc, deal, key, word_number(calls), word_number(image));
     format!(in alloc; "{answer}, {shown}")
 }
 
@@ -103,7 +104,8 @@ fn recorded_outcome(
     (answer, opened_again(alloc, deal, key, journal.into_disk()))
 }
 
-/// What is answered where one call of the disk fails, and what a journal shows that is opened on the same disk again.
+/// What is answered where one call of the disk fails, and what a journal shows that is opened on
+/// the same disk again.
 fn failed(
     alloc: Global,
     deal: &Deal,
@@ -135,14 +137,15 @@ pub(crate) fn fault_told(
 ) -> Result<String, AllocError>
     requires { IsWellSized deal.now }
 {
-    let Ok(disk) = failing_disk(alloc, number_of(asked)) else {
+    let Ok(disk) = failing_disk(alloc, word_number(asked)) else {
         return String::from_str(alloc, "NoMemory");
     };
     let (answer, shown) = failed(alloc, deal, key, disk);
     format!(in alloc; "{answer}, {shown}")
 }
 
-/// How many calls of a record pass, and the number that a crash gives to what isn't synced: what is answered, and what is shown after the crash.
+/// How many calls of a record pass, and the number that a crash gives to what isn't synced: what is
+/// answered, and what is shown after the crash.
 const EARLY_STOPS: &str = "\
 0 0 => DiskFault, no key
 0 1 => DiskFault, no key
@@ -172,8 +175,9 @@ const NO_STOPS: &str = "\
 4 255 => Ok, the key
 5 0 => Ok, the key";
 
-/// The number of the call that fails: what is answered, and what is shown then. The first six calls make the journal, the next four record, and three
-/// open it again: they sync, read the head, and read all.
+/// The number of the call that fails: what is answered, and what is shown then. The first six calls
+/// make the journal, the next four record, and three open it again: they sync, read the head, and
+/// read all.
 const FAULTS: &str = "\
 0 => DiskFault, no key
 1 => DiskFault, no key

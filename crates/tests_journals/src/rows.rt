@@ -17,7 +17,7 @@ pub(crate) fn parted<'a>(text: &'a str, mark: &str) -> (&'a str, &'a str) {
 }
 
 /// The number of a word, and 99 for a word that is none.
-pub(crate) fn number_of(word: &str) -> u8 {
+pub(crate) fn word_number(word: &str) -> u8 {
     word.parse().unwrap_or(99)
 }
 
@@ -25,12 +25,12 @@ pub(crate) fn number_of(word: &str) -> u8 {
 pub(crate) fn numbers(alloc: Global, text: &str) -> Result<Vec<u8>, NoMemory> {
     let mut numbers = Vec::new(alloc);
     for word in text.split(" ") {
-        numbers.push(number_of(word))?;
+        numbers.push(word_number(word))?;
     }
     Ok(numbers)
 }
 
-fn computed_answer(
+fn journal_answer(
     alloc: Global,
     deal: &Deal,
     key: &Shared<Hashkey>,
@@ -56,7 +56,7 @@ fn is_answered(
     requires { IsWellSized deal.now }
 {
     let (asked, wanted) = parted(row, " => ");
-    let answer = computed_answer(alloc, deal, key, about, asked)?;
+    let answer = journal_answer(alloc, deal, key, about, asked)?;
     if answer.as_str() != wanted {
         return Err(Fail::new(format_args!("{row} but {answer}")));
     }

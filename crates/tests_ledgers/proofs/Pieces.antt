@@ -6,12 +6,12 @@ use Rattle.std.proofs.lemmas.List.{get_or-set_same}
 use Rattle.swap_digraph.specs.declared.deal.Deal.{Deal}
 use Rattle.ledger_core.specs.declared.entry.Entry.{Entry}
 use Rattle.ledger_core.specs.Book.{history}
-use Rattle.ledger_core.specs.Ledger.{IsAfter}
+use Rattle.ledger_core.specs.Ledger.{HasEntryAdded}
 use Rattle.ledger_core.specs.Value.{LedgerState}
 use Rattle.swap_rules.specs.Machine.{Begins}
 use Rattle.swap_rules.proofs.Prefixes.{begins_refl, begins_more}
 use Rattle.party_machine.specs.Machine.{MachineState, new_machine, learnt}
-use Rattle.tests_ledgers.specs.UpTo.{IsLonger, IsUpTo}
+use Rattle.tests_ledgers.specs.UpTo.{IsLonger, KnowsFirstEntries}
 
 -- what is known, and the entries after as many, are the whole
 pub whole : {A : Type 0} (k h : List A) → Begins k h → k ++ drop (length k) h ≡ h
@@ -25,12 +25,12 @@ longer_more k l m a b =
     record { deal = b.deal ∙ a.deal; arc = b.arc ∙ a.arc; begins = begins_more k.history l.history m.history a.begins b.begins }
 
 -- after room was made, and an entry put in
-pub one_longer : (k l m : LedgerState) (e : Entry) → l.deal ≡ k.deal → l.arc ≡ k.arc → l.history ≡ k.history → IsAfter l e m → IsLonger k m
+pub one_longer : (k l m : LedgerState) (e : Entry) → l.deal ≡ k.deal → l.arc ≡ k.arc → l.history ≡ k.history → HasEntryAdded l e m → IsLonger k m
 one_longer k l m e d a h s =
     record { deal = s.deal ∙ d; arc = s.arc ∙ a; begins = (e ∷ [], s.history ∙ ap (λ (x : List Entry). x ++ e ∷ []) h) }
 
 -- a ledger that has gone on
-pub still_up_to : (m : MachineState) (l k : LedgerState) (steps : ℕ) → IsUpTo m l steps → IsLonger l k → IsUpTo m k steps
+pub still_up_to : (m : MachineState) (l k : LedgerState) (steps : ℕ) → KnowsFirstEntries m l steps → IsLonger l k → KnowsFirstEntries m k steps
 still_up_to m l k steps u g = record {
   deal = g.deal ∙ u.deal;
   place = subst (λ a. a < length m.known) (sym g.arc) u.place;
@@ -40,8 +40,8 @@ still_up_to m l k steps u g = record {
 }
 
 -- a machine that has learnt all of the ledger
-pub all_learnt : (m n : MachineState) (l : LedgerState) (fresh : List Entry) (before after : ℕ) → IsUpTo m l before
-    → fresh ≡ drop (length (history m.known l.arc)) l.history → n ≡ learnt m l.arc fresh → after ≡ before + length fresh → IsUpTo n l after
+pub all_learnt : (m n : MachineState) (l : LedgerState) (fresh : List Entry) (before after : ℕ) → KnowsFirstEntries m l before
+    → fresh ≡ drop (length (history m.known l.arc)) l.history → n ≡ learnt m l.arc fresh → after ≡ before + length fresh → KnowsFirstEntries n l after
 all_learnt m n l fresh before after u f e s =
     let k = history m.known l.arc in
     let is : history n.known l.arc ≡ k ++ fresh =
@@ -65,10 +65,10 @@ some_place (suc n) lt = omega arith
 
 -- a new machine and a new ledger
 pub up_to_nothing : (d : Deal) (v : ℕ) (seed : List ℕ) (m : MachineState) (l : LedgerState) → m ≡ new_machine d v seed
-    → l ≡ record { deal = d; arc = 0; history = []; spare = 0 } → 0 < length d.graph.arcs → IsUpTo m l 0
+    → l ≡ record { deal = d; arc = 0; history = []; spare = 0 } → 0 < length d.graph.arcs → KnowsFirstEntries m l 0
 up_to_nothing d v seed m l me le lt =
-    subst (λ (x : MachineState). IsUpTo x l 0) (sym me)
-    (subst (λ (x : LedgerState). IsUpTo (new_machine d v seed) x 0) (sym le) (record {
+    subst (λ (x : MachineState). KnowsFirstEntries x l 0) (sym me)
+    (subst (λ (x : LedgerState). KnowsFirstEntries (new_machine d v seed) x 0) (sym le) (record {
       deal = refl;
       place = some_place (length d.graph.arcs) lt;
       begins = subst (λ (h : List Entry). Begins h []) (sym (nothing (length d.graph.arcs))) ([], refl);

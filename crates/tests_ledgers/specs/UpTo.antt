@@ -12,7 +12,7 @@ pub record IsLonger (old new : LedgerState) : Type 0 where
   pub begins : Begins old.history new.history
 
 -- The machine knows the ledger's first entries, each of them in one step.
-pub record IsUpTo (m : MachineState) (l : LedgerState) (steps : ℕ) : Type 0 where
+pub record KnowsFirstEntries (m : MachineState) (l : LedgerState) (steps : ℕ) : Type 0 where
   pub deal : l.deal ≡ m.deal
   pub place : l.arc < length m.known
   pub begins : Begins (history m.known l.arc) l.history

@@ -90,7 +90,8 @@ fn are_in_runs(list: EntryList) -> Result<(bool, bool), NoMemory> {
     Ok((of_copy, is_in_runs(list)))
 }
 
-/// The ticks of a ledger are runs where its entries are put into a list anew, and in a copy of that.
+/// The ticks of a ledger are runs where its entries are put into a list anew, and in a copy of
+/// that.
 fn are_runs(rt: &impl Abort, alloc: Global, ledger: &Ledger) -> Result<(), Fail> {
     let (of_copy, of_list) = are_in_runs(put_again(alloc, ledger)?)?;
     assert!(rt; of_copy, "a copy");

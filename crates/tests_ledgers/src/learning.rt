@@ -3,7 +3,7 @@
 ghost use Rattle.std.specs.Prelude.{◌≡◌, ◌<◌, [], true, length, OnOk, IfOk};
 ghost use Rattle.swap_digraph.specs.Deal.{IsWellSized};
 ghost use Rattle.party_machine.specs.Machine.{new_machine};
-ghost use Rattle.tests_ledgers.specs.UpTo.{IsLonger, IsUpTo};
+ghost use Rattle.tests_ledgers.specs.UpTo.{IsLonger, KnowsFirstEntries};
 
 use escrow_core::Reply;
 use history_index::{Index, Steps};
@@ -44,8 +44,8 @@ fn look<L: Counted>(
     ledger: &Ledger,
     steps: &mut Steps<L>,
 ) -> Result<(), Fail>
-    requires { IsUpTo machine.old ledger.now steps.old }
-    ensures { OnOk result (IsUpTo machine.new ledger.now steps.new) }
+    requires { KnowsFirstEntries machine.old ledger.now steps.old }
+    ensures { OnOk result (KnowsFirstEntries machine.new ledger.now steps.new) }
 {
     let arc = ledger.arc();
     let _history = ledger.history();
@@ -61,7 +61,8 @@ fn are_ticks(index: &Index) -> bool
     index.count() == 10_000 && index.height() == 10_000 && index.made().is_empty()
 }
 
-/// Lets a machine learn ticks in pieces of so many, until there are 10,000, which are as many steps.
+/// Lets a machine learn ticks in pieces of so many, until there are 10,000, which are as many
+/// steps.
 fn learn_in_pieces<L: Counted>(
     rt: &impl Abort,
     machine: &mut Machine,
@@ -70,7 +71,7 @@ fn learn_in_pieces<L: Counted>(
     steps: &mut Steps<L>,
 ) -> Result<(), Fail>
     requires some { 0 < piece }
-    requires up_to { IsUpTo machine.old ledger.old steps.old }
+    requires up_to { KnowsFirstEntries machine.old ledger.old steps.old }
     ensures { OnOk result (steps.new ≡ 10000) }
 {
     'looks: for _ in 0..10_000 / piece {

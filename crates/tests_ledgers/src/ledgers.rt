@@ -187,8 +187,8 @@ fn are_read(rt: &impl Abort, ledger: &Ledger) -> Result<bool, Fail> {
     Ok(read == accounts(rt, ledger))
 }
 
-/// Lets a ledger follow the rows. Each says what is asked, the reply, and the units of the arc's party, those of its counterparty,
-/// and those held: `TIMES times ACT => REPLY UNITS UNITS UNITS`.
+/// Lets a ledger follow the rows. Each says what is asked, the reply, and the units of the arc's
+/// party, those of its counterparty, and those held: `TIMES times ACT => REPLY UNITS UNITS UNITS`.
 pub(crate) fn follow(
     rt: &impl Abort,
     alloc: Global,

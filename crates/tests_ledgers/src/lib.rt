@@ -1,4 +1,5 @@
-//! Tests of single ledgers, their entries and the indexes over them, and of what a party learns, most as tables.
+//! Tests of single ledgers, their entries and the indexes over them, and of what a party learns,
+//! most as tables.
 #![tactic(auto)]
 
 #[cfg(test)]

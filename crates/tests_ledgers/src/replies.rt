@@ -6,7 +6,8 @@ use std::alloc::Global;
 use std::process::Abort;
 use std::test::Fail;
 
-/// Ledgers of their own, parted by empty lines, each with its height and the number of its entries at the end. To trace is to unlock with a path.
+/// Ledgers of their own, parted by empty lines, each with its height and the number of its entries
+/// at the end. To trace is to unlock with a path.
 const LEDGERS: &str = "\
 a refund => NoContract 100 0 0
 b publish 100 => NotParty 100 0 0

@@ -24,7 +24,8 @@ fn bare(alloc: Global, lock: LockId) -> Result<Shared<Hashkey>, NoMemory> {
     Ok(Shared::new(alloc, key)?)
 }
 
-/// Records a hashkey, where the journal has a place for it and none there, on a disk that never fails.
+/// Records a hashkey, where the journal has a place for it and none there, on a disk that never
+/// fails.
 fn record(journal: &mut Journal<MemoryDisk>, key: &Shared<Hashkey>)
     requires sound { journal.old.sound ≡ true }
     requires never { (journal.old.disk.failing ≡ []) × (journal.old.disk.left ≡ None) }
@@ -57,7 +58,8 @@ fn told(made: Result<Machine, MachineFault>) -> &'static str {
     }
 }
 
-/// What is told of a party's machine that is made of its journal, on which a hashkey for a lock is recorded, if there is such a lock.
+/// What is told of a party's machine that is made of its journal, on which a hashkey for a lock is
+/// recorded, if there is such a lock.
 fn resumed(
     alloc: Global,
     deal: &Deal,

@@ -59,8 +59,8 @@ fn payments(alloc: Global) -> Result<(Listed<u64>, Listed<u32>), Fail>
     Ok((amounts, timelocks))
 }
 
-/// Party a, whose number is 0, and party b pay each other 100 and 5 units, until the heights 50 and 40. Party a leads two locks,
-/// whose secrets are 32 bytes 0 and 32 bytes 1.
+/// Party a, whose number is 0, and party b pay each other 100 and 5 units, until the heights 50 and
+/// 40. Party a leads two locks, whose secrets are 32 bytes 0 and 32 bytes 1.
 pub fn small_deal(alloc: Global) -> Result<Deal, Fail>
     ensures sized { IfOk result (λ d. IsWellSized d) }
     ensures arcs { IfOk result (λ d. length d.graph.arcs ≡ 2) }

@@ -3,7 +3,7 @@
 ghost use Rattle.std.specs.Prelude.{◌≤◌, IfSome, length};
 ghost use Rattle.swap_digraph.specs.Graph.{HasEnds};
 
-use crate::rows::{number_of, parted};
+use crate::rows::{parted, word_number};
 use std::alloc::Global;
 use swap_base::{NoMemory, TryCopy};
 use swap_digraph::{ArcEnds, Digraph, Version};
@@ -23,7 +23,8 @@ fn onward(alloc: Global, n: u8, few: u8) -> Result<Vec<ArcEnds>, NoMemory>
     Ok(arcs)
 }
 
-/// A ring of 24 parties with chords of up to four places, none of which jumps over party 0, and with longer ones from it: 96 arcs.
+/// A ring of 24 parties with chords of up to four places, none of which jumps over party 0, and
+/// with longer ones from it: 96 arcs.
 fn chorded(alloc: Global) -> Result<Vec<ArcEnds>, NoMemory> {
     let mut arcs = Vec::new(alloc);
     for from in 0..24u8 {
@@ -37,12 +38,13 @@ fn chorded(alloc: Global) -> Result<Vec<ArcEnds>, NoMemory> {
     Ok(arcs)
 }
 
-/// The arc of a word, such as `0>1`. A word that is none stands for party 255, which no digraph has.
+/// The arc of a word, such as `0>1`. A word that is none stands for party 255, which no digraph
+/// has.
 fn parse_arc(word: &str) -> ArcEnds {
     let (from, to) = parted(word, ">");
     ArcEnds {
-        from: number_of(from),
-        to: number_of(to),
+        from: word_number(from),
+        to: word_number(to),
     }
 }
 

@@ -1,4 +1,5 @@
-//! Tests of digraphs, signatures and lists, as tables; and the deal of two parties on which tests of ledgers run, by one thread and by several.
+//! Tests of digraphs, signatures and lists, as tables; and the deal of two parties on which tests
+//! of ledgers run, by one thread and by several.
 #![tactic(auto)]
 
 mod deals;

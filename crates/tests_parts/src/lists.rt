@@ -10,7 +10,7 @@ fn to_text(alloc: Global, bytes: &[u8]) -> Result<String, AllocError> {
 }
 
 /// A copy of a list of one text.
-fn copy_of(alloc: Global) -> Result<Listed<ByteText>, NoMemory> {
+fn copied_list(alloc: Global) -> Result<Listed<ByteText>, NoMemory> {
     let mut list = Listed::empty(alloc);
     list.push(ByteText::from_slice(alloc, b"swap")?)?;
     list.copy()
@@ -25,7 +25,7 @@ fn only_text(list: &Listed<ByteText>) -> &[u8] {
 }
 
 fn copied(alloc: Global) -> Result<String, AllocError> {
-    match copy_of(alloc) {
+    match copied_list(alloc) {
         Ok(other) => to_text(alloc, only_text(&other)),
         Err(_) => no_memory(alloc),
     }

@@ -13,7 +13,7 @@ pub(crate) fn parted<'a>(text: &'a str, mark: &str) -> (&'a str, &'a str) {
 }
 
 /// The number of a word, and 255 for a word that is none.
-pub(crate) fn number_of(word: &str) -> u8 {
+pub(crate) fn word_number(word: &str) -> u8 {
     word.parse().unwrap_or(255)
 }
 
@@ -31,7 +31,7 @@ fn graph_told(alloc: Global, asked: &str) -> Result<String, AllocError> {
     }
 }
 
-fn computed_answer(alloc: Global, about: &str, asked: &str) -> Result<String, AllocError> {
+fn actual_answer(alloc: Global, about: &str, asked: &str) -> Result<String, AllocError> {
     match about {
         "digraphs" => graph_told(alloc, asked),
         "signatures" => list_digests(alloc, asked),
@@ -41,7 +41,7 @@ fn computed_answer(alloc: Global, about: &str, asked: &str) -> Result<String, Al
 
 fn is_answered(alloc: Global, about: &str, row: &str) -> Result<(), Fail> {
     let (asked, wanted) = parted(row, " => ");
-    let answer = computed_answer(alloc, about, asked)?;
+    let answer = actual_answer(alloc, about, asked)?;
     if answer.as_str() != wanted {
         return Err(Fail::new(format_args!("{row} but {answer}")));
     }

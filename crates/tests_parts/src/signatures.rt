@@ -1,8 +1,9 @@
-//! Keys, signatures, secrets and hashlocks, against what an independent program gives, and changed ones.
+//! Keys, signatures, secrets and hashlocks, against what an independent program gives, and changed
+//! ones.
 
 ghost use Rattle.std.specs.Prelude.{◌<◌};
 
-use crate::rows::{answers, number_of, parted};
+use crate::rows::{answers, parted, word_number};
 use hash_signature::{LockId, PartyId, Sig, derive_secret, hashed_value, keygen, verify};
 use hex::FromHex;
 use sha2::{Digest as Hasher, Sha256};
@@ -28,7 +29,8 @@ fn is_copied(sig: &Sig) -> bool {
     }
 }
 
-/// The digest of the bytes of a signature that holds, comes back from its bytes, and equals a copy; zeros for another.
+/// The digest of the bytes of a signature that holds, comes back from its bytes, and equals a copy;
+/// zeros for another.
 fn to_digest(public: &Digest, message: &Digest, sig: &Sig) -> Digest {
     if verify(public, message, sig) && is_in_bytes(sig) && is_copied(sig) {
         Sha256::digest(sig.to_bytes())
@@ -58,8 +60,8 @@ fn parse_signed(alloc: Global, words: &str) -> Result<(Digest, Digest), NoMemory
     signed(
         alloc,
         &digest(seed),
-        number_of(party),
-        number_of(lock),
+        word_number(party),
+        word_number(lock),
         &digest(message),
     )
 }
@@ -92,8 +94,9 @@ pub(crate) fn list_digests(alloc: Global, asked: &str) -> Result<String, AllocEr
     }
 }
 
-/// A key's seed, party and lock, and a message, and what an independent program gives for them: the public key and the digest of the signature's
-/// bytes. The checksum's digits of the four messages are 3, 12, 0; 0, 0, 0; 1, 13, 14; and 1, 13, 12.
+/// A key's seed, party and lock, and a message, and what an independent program gives for them: the
+/// public key and the digest of the signature's bytes. The checksum's digits of the four messages
+/// are 3, 12, 0; 0, 0, 0; 1, 13, 14; and 1, 13, 12.
 const SIGNATURES: &str = "\
 signed 0000000000000000000000000000000000000000000000000000000000000000 0 0 0000000000000000000000000000000000000000000000000000000000000000 => \
     6d38fd065055be89fda3637d7feeb578084b27021313f045a9ef5a58c4e7f1e0 b21be770c1399fd22497599a417b4530836c555acd72b690913c3812a696d8ac
@@ -154,7 +157,8 @@ fn signature_matches(
     Ok(verify(&public, message, sig))
 }
 
-/// Whether only the message that was signed, by the seed, party and lock that signed it, is the signature's.
+/// Whether only the message that was signed, by the seed, party and lock that signed it, is the
+/// signature's.
 fn is_of_one(alloc: Global, message: &Digest, sig: &Sig) -> Result<bool, NoMemory> {
     let mut other = *message;
     other[31] = 0x5b;

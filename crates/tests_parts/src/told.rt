@@ -1,9 +1,10 @@
-//! What is told of digraphs and their leaders: a closed set, trees, levels, a cycle of followers, distances.
+//! What is told of digraphs and their leaders: a closed set, trees, levels, a cycle of followers,
+//! distances.
 
 ghost use Rattle.std.specs.Prelude.{◌≡◌, ◌≤◌, ◌<◌, true, length};
 ghost use Rattle.swap_digraph.specs.Graph.{HasEnds, IsStronglyConnected};
 
-use crate::rows::{answers, no_memory, number_of, parted};
+use crate::rows::{answers, no_memory, parted, word_number};
 use digraph_check::{Strength, Trees, strong};
 use leader_check::{LeaderAnswer, Levels, dist, levels};
 use std::alloc::{AllocError, Global};
@@ -84,7 +85,7 @@ fn distances(alloc: Global, graph: &Digraph, leader: u8) -> Result<String, Alloc
 fn numbers(alloc: Global, text: &str) -> Result<Vec<u8>, NoMemory> {
     let mut numbers = Vec::new(alloc);
     for word in text.split(" ") {
-        numbers.push(number_of(word))?;
+        numbers.push(word_number(word))?;
     }
     Ok(numbers)
 }

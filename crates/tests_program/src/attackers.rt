@@ -1,4 +1,5 @@
-//! What attackers answer that the program's strategies don't. A call is looked at before it is answered, so that each may be made.
+//! What attackers answer that the program's strategies don't. A call is looked at before it is
+//! answered, so that each may be made.
 
 ghost use Rattle.std.specs.Prelude.{◌<◌, IfOk};
 ghost use Rattle.swap_digraph.specs.Deal.{IsWellSized};
@@ -32,7 +33,8 @@ pub(crate) enum Attacker {
     Mover,
     /// Claims, refunds and moves one unit away, in turn on each of its arcs.
     Taker,
-    /// In its first turns publishes as the starter does, and then presents every known hashkey on each entering arc.
+    /// In its first turns publishes as the starter does, and then presents every known hashkey on
+    /// each entering arc.
     Presenter,
 }
 
@@ -94,7 +96,8 @@ fn move_away(deal: &Deal, me: PartyId, at: u32) -> Option<(ArcId, Call)>
     Some((arc, Call::Transfer(other_end(deal, me, arc), terms.amount)))
 }
 
-/// The arc in that place, counted round and round, first of those that leave the party and then of those that enter it.
+/// The arc in that place, counted round and round, first of those that leave the party and then of
+/// those that enter it.
 fn arc_around(deal: &Deal, me: PartyId, at: u32) -> Option<ArcId>
     requires party { me < deal.now.graph.n }
 {
@@ -143,7 +146,8 @@ fn keys_known(alloc: Global, known: &Book) -> Result<Vec<&Hashkey>, NoMemory> {
     Ok(keys)
 }
 
-/// Of all pairs of an entering arc and a known hashkey presents the one in that place, counted round and round.
+/// Of all pairs of an entering arc and a known hashkey presents the one in that place, counted
+/// round and round.
 fn present(alloc: Global, deal: &Deal, me: PartyId, at: usize, known: &Book) -> Answered
     requires party { me < deal.now.graph.n }
 {

@@ -44,7 +44,8 @@ fn runs_so<R: Threads + Wait + Sync>(
     asks(answered.as_str() == wanted, "run", answered.as_str())
 }
 
-/// An audit of a race of the job gets the same answer behind that word, but for the heights of entries.
+/// An audit of a race of the job gets the same answer behind that word, but for the heights of
+/// entries.
 fn races_so<R: Threads + Wait + Sync>(
     rt: &R,
     alloc: Global,
@@ -76,8 +77,8 @@ fn comes_so<R: Threads + Wait + Sync>(
     races_so(rt, alloc, kit, job.as_str(), wanted, word)
 }
 
-/// The deal in which the strategy `attacker` goes by that attacker's rule. A case has a line with edits of the deal, and the answer to a run, to which
-/// that of a race is compared from a word on.
+/// The deal in which the strategy `attacker` goes by that attacker's rule. A case has a line with
+/// edits of the deal, and the answer to a run, to which that of a race is compared from a word on.
 pub(crate) fn attack<R: Threads + Wait + Sync>(
     rt: &R,
     alloc: Global,

@@ -1,4 +1,5 @@
-//! The deals of three parties on which the tests run. Each pays the next one: alice 100, bob 5 and carol 1 unit, and alice leads.
+//! The deals of three parties on which the tests run. Each pays the next one: alice 100, bob 5 and
+//! carol 1 unit, and alice leads.
 
 use crate::runs::asks;
 use std::alloc::Global;
@@ -31,7 +32,8 @@ pub(crate) const TIMELOCKS: &str = concat!(
 "#,
 );
 
-/// The text with each edit made in it. Edits are parted by ` && `, and each is `FROM => TO`, where FROM stands in the text.
+/// The text with each edit made in it. Edits are parted by ` && `, and each is `FROM => TO`, where
+/// FROM stands in the text.
 pub(crate) fn edited(alloc: Global, text: &str, edits: &str) -> Result<String, Fail> {
     let mut edited = String::from_str(alloc, text)?;
     for edit in edits.split(" && ") {

@@ -104,7 +104,8 @@ fn gate(rt: HostRuntime) -> Result<(), Fail> {
     Ok(())
 }
 
-/// Whether a race ends without a deal in which every party comes to the others in its first turn, and never calls.
+/// Whether a race ends without a deal in which every party comes to the others in its first turn,
+/// and never calls.
 fn race_of_meeting<R: Threads + Wait + Sync>(
     rt: &R,
     alloc: Global,

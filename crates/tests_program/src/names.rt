@@ -1,6 +1,6 @@
 //! What is told of parties by their names.
 
-use crate::runs::{asks, line_of};
+use crate::runs::{asks, refusal_string};
 use refusals::Reason;
 use std::alloc::Global;
 use std::test::Fail;
@@ -18,7 +18,7 @@ fn names(alloc: Global) -> Result<Vec<ByteText>, Fail> {
 /// The line of a cycle of parties, one of whom has no name.
 fn line_of_cycle(alloc: Global, names: &[ByteText]) -> Result<String, Fail> {
     let cycle = Vec::from_slice(alloc, &[1, 0, 9])?;
-    line_of(alloc, &Reason::NotFeedback(Listed::new(cycle)), names)
+    refusal_string(alloc, &Reason::NotFeedback(Listed::new(cycle)), names)
 }
 
 #[test]

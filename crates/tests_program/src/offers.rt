@@ -9,7 +9,7 @@ use swap_job::{Event, Job, Purpose};
 use swap_offer::read_job;
 
 /// How many names are told, and how many events where the job is read.
-fn read_counts(read: &Result<(Job, Vec<Event>), Fault<Refusal>>) -> (usize, Option<usize>) {
+fn job_counts(read: &Result<(Job, Vec<Event>), Fault<Refusal>>) -> (usize, Option<usize>) {
     match read {
         Ok((job, events)) => (job.names.len(), Some(events.len())),
         Err(Fault::Refused(refusal)) => (refusal.names.len(), None),
@@ -23,7 +23,7 @@ fn counts(alloc: Global, text: &str) -> (usize, Option<usize>) {
         return (0, None);
     }
     let read = read_job(alloc, text.as_bytes(), Purpose::Run, &[]);
-    read_counts(&read)
+    job_counts(&read)
 }
 
 /// Of the deal with such lines behind it.

@@ -20,7 +20,8 @@ use swap_digraph::Deal;
 /// The rounds of a race whose ledgers end at the height 71.
 const ROUNDS: u64 = 71;
 
-/// How often each party passed, and the clock, how often a strategy was asked, and what was out of order.
+/// How often each party passed, and the clock, how often a strategy was asked, and what was out of
+/// order.
 #[derive(Drop)]
 struct Tally {
     alice: AtomicU64,
@@ -45,7 +46,7 @@ impl Tally {
         }
     }
 
-    fn of(&self, actor: u8) -> &AtomicU64 {
+    fn actor_counter(&self, actor: u8) -> &AtomicU64 {
         match actor {
             0 => &self.alice,
             1 => &self.bob,
@@ -63,21 +64,23 @@ impl Tally {
 
     /// Each round of an actor comes once, and after those before.
     fn pass(&self, actor: u8, round: u32) {
-        let before = self.of(actor).fetch_add(1, SeqCst);
+        let before = self.actor_counter(actor).fetch_add(1, SeqCst);
         self.hold(before == round as u64);
     }
 
-    /// A strategy is asked in its party's turn, once it has passed; and what it is shown has no tick of a turn for which the clock hasn't passed.
+    /// A strategy is asked in its party's turn, once it has passed; and what it is shown has no
+    /// tick of a turn for which the clock hasn't passed.
     fn ask(&self, me: PartyId, turn: u32, known: &Book) {
         self.asked.fetch_add(1, SeqCst);
-        self.hold(self.of(me).load(SeqCst) == turn as u64 + 1);
+        self.hold(self.actor_counter(me).load(SeqCst) == turn as u64 + 1);
         for history in known.histories.as_slice() {
             let ticks = self.clock.load(SeqCst);
             self.hold(history.len() as u64 <= ticks.saturating_add(history.calls() as u64));
         }
     }
 
-    /// Whether each passed once in each round and each party was asked once in each, and nothing was out of order.
+    /// Whether each passed once in each round and each party was asked once in each, and nothing
+    /// was out of order.
     fn is_right(&self) -> bool {
         self.alice.load(SeqCst) == ROUNDS
             && self.bob.load(SeqCst) == ROUNDS
@@ -130,7 +133,8 @@ fn race_counted<R: Threads + Wait + Sync>(
     raced(rt, alloc, job.as_str(), gate, &kit)
 }
 
-/// Each turn of each party, and each of the clock, passes the gate first, by its number and its round; and a view is asked once.
+/// Each turn of each party, and each of the clock, passes the gate first, by its number and its
+/// round; and a view is asked once.
 #[test]
 fn every_turn_passes(rt: HostRuntime) -> Result<(), Fail> {
     let tally = Shared::new(rt.alloc(), Tally::new())?;

@@ -136,7 +136,8 @@ party carol conforming: Deal
 findings 0
 "#;
 
-/// With timelocks the secret is all of a hashkey, and opens every contract: bob presents it and claims nothing.
+/// With timelocks the secret is all of a hashkey, and opens every contract: bob presents it and
+/// claims nothing.
 const OF_BOB_WITH_TIMELOCKS: &str =
     r#""bob", => "bob","actor":{"strategy":"attacker"}, && {"swap":1, => {"finish":"fair","swap":1,
 done
@@ -193,7 +194,8 @@ party carol conforming: Deal
 findings 0
 "#;
 
-/// C presents both hashkeys that opened its contract. In a race b may open its own by them in either order, so that entries may differ.
+/// C presents both hashkeys that opened its contract. In a race b may open its own by them in
+/// either order, so that entries may differ.
 const OF_TWO: &str = r#""c", => "c","actor":{"strategy":"attacker"},
 done
 swap report 1

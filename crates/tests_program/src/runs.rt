@@ -24,7 +24,8 @@ impl Gate for Open {
     fn pass<R: Wait>(&self, _rt: &R, _actor: u8, _round: u32) {}
 }
 
-/// A kit with that one strategy. Who makes the rule hands it on: a function that gave away what holds it would be one that hides.
+/// A kit with that one strategy. Who makes the rule hands it on: a function that gave away what
+/// holds it would be one that hides.
 pub(crate) fn rule_kit(alloc: Global, name: &str, rule: Rule) -> Result<Kit, Fail>
     requires callable { (d : _) (p t : ℕ) (k : _) → IsView d.now p k.now.histories → Rule.pre rule d p t k }
     requires fits { (d : _) (p t : ℕ) (k : _) (r : _) → IsView d.now p k.now.histories → Rule.post rule d p t k r → IfOk r (MayAnswer d.now p) }
@@ -36,7 +37,11 @@ pub(crate) fn rule_kit(alloc: Global, name: &str, rule: Rule) -> Result<Kit, Fai
 }
 
 /// A refusal's line.
-pub(crate) fn line_of(alloc: Global, reason: &Reason, names: &[ByteText]) -> Result<String, Fail> {
+pub(crate) fn refusal_string(
+    alloc: Global,
+    reason: &Reason,
+    names: &[ByteText],
+) -> Result<String, Fail> {
     let line = refusal_line(alloc, reason, names)?;
     let text = str::from_utf8(line.as_slice()).unwrap_or("no text");
     Ok(String::from_str(alloc, text)?)
@@ -47,7 +52,7 @@ fn told(alloc: Global, status: &Status, written: &[u8]) -> Result<String, Fail> 
     let word = match status {
         Status::Done => "done",
         Status::Named => "named",
-        Status::Refused(reason, names) => return line_of(alloc, reason, names.as_slice()),
+        Status::Refused(reason, names) => return refusal_string(alloc, reason, names.as_slice()),
         _ => "at fault",
     };
     let text = str::from_utf8(written).unwrap_or("no text");
@@ -63,7 +68,8 @@ pub(crate) fn collect_words(alloc: Global, command: &str) -> Result<Vec<String>,
     Ok(words)
 }
 
-/// The program's status. What its contract says of it stays here: it would be carried along by whatever comes after.
+/// The program's status. What its contract says of it stays here: it would be carried along by
+/// whatever comes after.
 fn command_status<R: Threads + Wait + Sync, G: Gate>(
     rt: &R,
     alloc: Global,

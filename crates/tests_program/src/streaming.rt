@@ -1,4 +1,5 @@
-//! An input is replayed as it comes: its first event is over before much of what follows is asked for.
+//! An input is replayed as it comes: its first event is over before much of what follows is asked
+//! for.
 
 ghost use Rattle.std.specs.Prelude.{IfOk, Some};
 ghost use Rattle.deviators.specs.View.{IsView, MayAnswer};
@@ -68,7 +69,8 @@ fn names_findings(alloc: Global, words: &Vec<String>, source: &mut Watched, kit:
     )
 }
 
-/// Whether a run of what the source gives names findings, where the strategy `watcher` makes no call, and notes that the first flag is down.
+/// Whether a run of what the source gives names findings, where the strategy `watcher` makes no
+/// call, and notes that the first flag is down.
 fn is_named_early(
     alloc: Global,
     far: Shared<AtomicBool>,

@@ -8,7 +8,8 @@ use std::sync::Wait;
 use std::test::Fail;
 use std::thread::Threads;
 
-/// Bob asks for what he may not have, and gives away what he was to lock: what stands on the ledgers then, and who was found.
+/// Bob asks for what he may not have, and gives away what he was to lock: what stands on the
+/// ledgers then, and who was found.
 const TAKEN: &str = r#"ledger 0 alice -> bob amount 100
 0 alice publish correct: accepted
 3 bob claim: StillLocked 0

@@ -1,4 +1,5 @@
-//! Tests of shared ledgers: a look, full senders, two ledgers at once, and threads against a ledger of one thread.
+//! Tests of shared ledgers: a look, full senders, two ledgers at once, and threads against a ledger
+//! of one thread.
 #![tactic(auto)]
 
 #[cfg(test)]

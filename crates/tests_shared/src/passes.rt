@@ -2,7 +2,7 @@
 
 ghost use Rattle.std.specs.Prelude.{◌≡◌, ◌≤◌, IfOk};
 ghost use Rattle.swap_digraph.specs.Deal.{IsWellSized};
-ghost use Rattle.ledger_shared.specs.Value.{IsFirstAt, IsSecondAt};
+ghost use Rattle.ledger_shared.specs.Value.{IsPartyPass, IsCounterpartyPass};
 ghost use Rattle.tests_shared.specs.Stays.{Stays};
 
 use escrow_core::{Reply, stated_terms};
@@ -23,8 +23,8 @@ pub(crate) fn shared_ledger<R: Wait>(
     deal: &Deal,
 ) -> Result<(SharedLedger, Pass, Pass, ClockPass), Fail>
     requires { IsWellSized deal.now }
-    ensures first { IfOk result (λ s. IsFirstAt s.0.lock s.1 × (s.1.deal ≡ deal.now) × (s.1.arc ≡ 0)) }
-    ensures second { IfOk result (λ s. IsSecondAt s.0.lock s.2 × (s.2.deal ≡ deal.now) × (s.2.arc ≡ 0)) }
+    ensures first { IfOk result (λ s. IsPartyPass s.0.lock s.1 × (s.1.deal ≡ deal.now) × (s.1.arc ≡ 0)) }
+    ensures second { IfOk result (λ s. IsCounterpartyPass s.0.lock s.2 × (s.2.deal ≡ deal.now) × (s.2.arc ≡ 0)) }
     ensures clock { IfOk result (λ s. s.3.lock ≡ s.0.lock) }
 {
     let held = share_deal(alloc, deal)?;
@@ -169,7 +169,8 @@ fn shows_publish<R: Wait>(
     Ok(is_publish(&shown))
 }
 
-/// Whether the second of two ticks finds the clock full, and the pass has then seen so many entries.
+/// Whether the second of two ticks finds the clock full, and the pass has then seen so many
+/// entries.
 fn fills_clock<R: Wait>(rt: &R, ledger: &SharedLedger, pass: &mut ClockPass, seen: u32) -> bool
     requires { pass.old.lock ≡ ledger.now.lock }
 {
@@ -178,7 +179,8 @@ fn fills_clock<R: Wait>(rt: &R, ledger: &SharedLedger, pass: &mut ClockPass, see
     first == Some(Reply::Accepted) && second == Some(Reply::ClockFull) && pass.seen() == seen
 }
 
-/// Whether a claim finds its sender full, and the pass has then seen so many entries, the last alone by this call.
+/// Whether a claim finds its sender full, and the pass has then seen so many entries, the last
+/// alone by this call.
 fn is_full<R: Wait>(rt: &R, ledger: &SharedLedger, pass: &mut Pass, seen: u32) -> bool
     requires { pass.old.lock ≡ ledger.now.lock }
 {
@@ -190,8 +192,8 @@ fn is_full<R: Wait>(rt: &R, ledger: &SharedLedger, pass: &mut Pass, seen: u32) -
     }
 }
 
-/// A publish through one pass is accepted, and a look through the other shows it. After 31 further calls their sender is full, and the
-/// clock after one tick: neither adds anything then.
+/// A publish through one pass is accepted, and a look through the other shows it. After 31 further
+/// calls their sender is full, and the clock after one tick: neither adds anything then.
 fn shows_and_fills<R: Wait + Abort>(
     rt: &R,
     alloc: Global,
@@ -214,7 +216,11 @@ fn shows_and_fills<R: Wait + Abort>(
     Ok(())
 }
 
-fn shows_and_fills_of<R: Wait + Abort>(rt: &R, alloc: Global, deal: &Deal) -> Result<(), Fail>
+fn shows_and_fills_new_ledger<R: Wait + Abort>(
+    rt: &R,
+    alloc: Global,
+    deal: &Deal,
+) -> Result<(), Fail>
     requires { IsWellSized deal.now }
 {
     let (ledger, mut first, mut second, mut clock) = shared_ledger(rt, alloc, deal)?;
@@ -232,5 +238,5 @@ fn shows_and_fills_of<R: Wait + Abort>(rt: &R, alloc: Global, deal: &Deal) -> Re
 #[test]
 fn a_look_shows_a_publish_and_what_is_full_adds_nothing(rt: HostRuntime) -> Result<(), Fail> {
     let deal = small_deal(rt.alloc())?;
-    shows_and_fills_of(&rt, rt.alloc(), &deal)
+    shows_and_fills_new_ledger(&rt, rt.alloc(), &deal)
 }

@@ -2,7 +2,7 @@
 
 ghost use Rattle.std.specs.Prelude.{◌≡◌};
 ghost use Rattle.swap_digraph.specs.Deal.{IsWellSized};
-ghost use Rattle.ledger_shared.specs.Value.{IsFirstAt, IsSecondAt};
+ghost use Rattle.ledger_shared.specs.Value.{IsPartyPass, IsCounterpartyPass};
 ghost use Rattle.tests_shared.specs.Stays.{Stays};
 
 use crate::passes::{make_all, shared_ledger, tick_all};
@@ -55,8 +55,8 @@ fn raced<R: Threads + Wait + Sync>(
     clock: ClockPass,
 ) -> Box<Ledger>
     requires sized { IsWellSized deal.now }
-    requires first { IsFirstAt ledger.lock first × (first.deal ≡ deal.now) × (first.arc ≡ 0) }
-    requires second { IsSecondAt ledger.lock second × (second.deal ≡ deal.now) × (second.arc ≡ 0) }
+    requires first { IsPartyPass ledger.lock first × (first.deal ≡ deal.now) × (first.arc ≡ 0) }
+    requires second { IsCounterpartyPass ledger.lock second × (second.deal ≡ deal.now) × (second.arc ≡ 0) }
     requires clock { clock.lock ≡ ledger.lock }
 {
     let shared = &ledger;

@@ -3,7 +3,7 @@ use Rattle.std.proofs.Common.{◌≡◌, ◌⊎◌, ℕ, ◌+◌, ◌==◌, max,
 use Rattle.std.proofs.Common.{filter, count_by, Option, Some, None, is_some, refl, sym, ap, ap₂, ◌∙◌, subst, inl, inr}
 use Rattle.std.specs.List.{list_any, list_all, flat_map}
 use Rattle.std.specs.Str.{bytes_eq}
-use Rattle.swap_base.specs.Lists.{first_of, greatest, IsIn, IsMoment, Moment, moments, moments_after}
+use Rattle.swap_base.specs.Lists.{first_given_answer, greatest, IsElement, IsMoment, Moment, moments, moments_after_past}
 use Rattle.swap_base.proofs.Lists.{and_both}
 use Rattle.swap_digraph.specs.declared.deal.Mode.{Mode}
 use Rattle.swap_digraph.specs.declared.deal.Mode.TheVariants.{Timelocks, Hashkeys}
@@ -26,16 +26,16 @@ use Rattle.ledger_core.proofs.History.{not-true}
 use Rattle.swap_rules.specs.declared.finding.Rule.{Rule}
 use Rattle.swap_rules.specs.declared.finding.Rule.TheVariants.{Publish as ToPublish, Unlock as ToUnlock, Claim as ToClaim, Refund as ToRefund}
 use Rattle.swap_rules.specs.Party.{is_correct, is_arc_correct, is_ready, ready_height, is_triggered, expiry, least_expiry, leads_one, pick_call}
-use Rattle.swap_rules.specs.Party.{fetch_key, first_key, first_seen_key, opens_without}
-use Rattle.swap_rules.specs.Conduct.{is_publish, is_first_key, carries, extends, extends_without, is_alone, has_seen, has_origin, keeps, keeps_entry}
-use Rattle.swap_rules.specs.Late.{height_of_opening, is_carried, is_used, height_if, unlock_base, trigger_height, when, ref_of, counts, is_done}
-use Rattle.swap_rules.specs.Late.{late_at, is_late}
+use Rattle.swap_rules.specs.Party.{unlock_hashkey, first_key, first_seen_key, opens_without_party}
+use Rattle.swap_rules.specs.Conduct.{is_publish, is_first_key, carries, extends, extends_without_party, is_alone, has_seen, has_origin, keeps, keeps_entry}
+use Rattle.swap_rules.specs.Late.{height_of_opening, is_carried, is_used, height_if, unlock_base, trigger_height, when, reference_height, counts, is_done}
+use Rattle.swap_rules.specs.Late.{is_past_due, is_late}
 use Rattle.swap_rules.specs.Forged.{has_made, has_forged_suffix, forges, is_forged}
 use Rattle.swap_rules.specs.Due.{has_called}
 use Rattle.swap_rules.specs.Laws.{IsUnforged}
 use Rattle.swap_rules.proofs.Prefixes.{list_any-none, begins_refl}
 use Rattle.told_books.specs.Told.{is_of_contract, is_told, telling, is_useless, is_needed, SaysTheSame, AreUseless, SayEnough}
-use Rattle.told_books.proofs.Filters.{first_of-filter, list_any-filter, sum_by-filter, greatest-filter, all_moments-filter, moment-filter, moment_unfilter}
+use Rattle.told_books.proofs.Filters.{first_given_answer-filter, list_any-filter, sum_by-filter, greatest-filter, all_moments-filter, moment-filter, moment_unfilter}
 use Rattle.told_books.proofs.Filters.{any-same, greatest-same, first_each, any_each}
 use Rattle.told_books.proofs.Telling.{noise, no_call, no_unlock, says_telling}
 use Rattle.told_books.proofs.Needed.{not_called, same_called, same_height, useless, silent_in, told_swap, says_enough}
@@ -58,10 +58,10 @@ no_counts d v b ToRefund a at = refl
 
 silent_moments : (v : ℕ) (Q : Moment Entry → Bool) (before h : List Entry)
     → ((past : List Entry) (e : Entry) → pick_call v e ≡ None → Q (record { past = past; now = e }) ≡ true)
-    → ((e : Entry) → IsIn e h → pick_call v e ≡ None) → list_all Q (moments_after before h) ≡ true
+    → ((e : Entry) → IsElement e h → pick_call v e ≡ None) → list_all Q (moments_after_past before h) ≡ true
 silent_moments v Q before [] q n = refl
 silent_moments v Q before (e ∷ h) q n =
-    and_both (Q (record { past = before; now = e })) (list_all Q (moments_after (before ++ e ∷ []) h)) (q before e (n e (inl refl)))
+    and_both (Q (record { past = before; now = e })) (list_all Q (moments_after_past (before ++ e ∷ []) h)) (q before e (n e (inl refl)))
     (silent_moments v Q (before ++ e ∷ []) h q (λ x i. n x (inr i)))
 
 silent_keeps : (d : Deal) (v a : ℕ) (b : Histories) (h : List Entry) → has_called v is_some h ≡ false → list_all (keeps_entry d b v a) (moments h) ≡ true
@@ -105,7 +105,7 @@ module _ (d : Deal) (v : ℕ) (u : ℕ → Bool) (b c : Histories) (is_part : (a
   enough_said = says_enough d v u b idle c b is_part (λ a. begins_refl (history b a))
 
   -- of an arc that leaves v all is told
-  pub leaving_told : (a : ℕ) → IsIn a (leaving d.graph v) → u a ≡ false
+  pub leaving_told : (a : ℕ) → IsElement a (leaving d.graph v) → u a ≡ false
   leaving_told a i = not-true (u a) (λ t. (useless d v a (history b a) (idle a t)).apart i)
 
   pub all_at : (a : ℕ) → u a ≡ false → history c a ≡ telling v (history b a)
@@ -126,15 +126,15 @@ module _ (d : Deal) (v : ℕ) (u : ℕ → Bool) (b c : Histories) (is_part : (a
   same_ready : is_ready d c v ≡ is_ready d b v
   same_ready = enough.same_ready d v c b enough_said
 
-  pub says_leaving : (a : ℕ) → IsIn a (leaving d.graph v) → SaysTheSame v (history c a) (history b a)
+  pub says_leaving : (a : ℕ) → IsElement a (leaving d.graph v) → SaysTheSame v (history c a) (history b a)
   says_leaving a i = says_at a (leaving_told a i)
 
   same_first : (i : ℕ) → first_key c v i ≡ first_key b v i
   unfolding first_key
   same_first i =
-      first_each (λ e. fetch_key i (pick_call v e)) c b
-      (λ a. ap (first_of (λ e. fetch_key i (pick_call v e))) (is_part a)
-      ∙ first_of-filter (is_needed (u a) v) (λ e. fetch_key i (pick_call v e)) (history b a) (λ e t. ap (fetch_key i) (not_called (u a) v e t)))
+      first_each (λ e. unlock_hashkey i (pick_call v e)) c b
+      (λ a. ap (first_given_answer (λ e. unlock_hashkey i (pick_call v e))) (is_part a)
+      ∙ first_given_answer-filter (is_needed (u a) v) (λ e. unlock_hashkey i (pick_call v e)) (history b a) (λ e t. ap (unlock_hashkey i) (not_called (u a) v e t)))
 
   -- Conduct.
 
@@ -147,7 +147,7 @@ module _ (d : Deal) (v : ℕ) (u : ℕ → Bool) (b c : Histories) (is_part : (a
 
   same_origin : (m : Mode) (key : Hashkey) → has_origin m d c v key ≡ has_origin m d b v key
   same_origin Timelocks key = ap (λ x. leads d v key.lock || x) (same_has_seen (carries key.secret) refl (λ to units. refl))
-  same_origin Hashkeys key = ap (λ x. cond (leads d v key.lock) (is_alone v key.path) x) (same_has_seen (extends_without v key) refl (λ to units. refl))
+  same_origin Hashkeys key = ap (λ x. cond (leads d v key.lock) (is_alone v key.path) x) (same_has_seen (extends_without_party v key) refl (λ to units. refl))
 
   same_count : (a : ℕ) → count_by (λ e. is_publish (pick_call v e)) (history c a) ≡ count_by (λ e. is_publish (pick_call v e)) (history b a)
   same_count a =
@@ -195,7 +195,7 @@ module _ (d : Deal) (v : ℕ) (u : ℕ → Bool) (b c : Histories) (is_part : (a
   same_used i None e = ap (λ s. is_carried s (accepted e)) (enough.same_seen d v c b enough_said i)
   same_used i (Some key) e = refl
 
-  used_at : (i : ℕ) (o : Option Hashkey) (a : ℕ) → IsIn a (leaving d.graph v)
+  used_at : (i : ℕ) (o : Option Hashkey) (a : ℕ) → IsElement a (leaving d.graph v)
       → greatest (λ e. height_if (is_used d c v i o e) e.height) (history c a) ≡ greatest (λ e. height_if (is_used d b v i o e) e.height) (history b a)
   used_at i o a l =
       ap₂ (λ (f : Entry → Bool) (h : List Entry). greatest (λ e. height_if (f e) e.height) h) (λ j e. same_used i o e j) (all_at a (leaving_told a l))
@@ -209,18 +209,18 @@ module _ (d : Deal) (v : ℕ) (u : ℕ → Bool) (b c : Histories) (is_part : (a
       greatest-same (λ a. greatest (λ e. height_if (is_used d c v i o e) e.height) (history c a))
       (λ a. greatest (λ e. height_if (is_used d b v i o e) e.height) (history b a)) (leaving d.graph v) (used_at i o)
 
-  same_others : (i : ℕ) → list_any (λ a. opens_without v (opened (history c a) i)) (leaving d.graph v)
-      ≡ list_any (λ a. opens_without v (opened (history b a) i)) (leaving d.graph v)
+  same_others : (i : ℕ) → list_any (λ a. opens_without_party v (opened (history c a) i)) (leaving d.graph v)
+      ≡ list_any (λ a. opens_without_party v (opened (history b a) i)) (leaving d.graph v)
   same_others i =
-      any-same (λ a. opens_without v (opened (history c a) i)) (λ a. opens_without v (opened (history b a) i)) (leaving d.graph v)
-      (λ a l. ap (opens_without v) ((says_leaving a l).opened i))
+      any-same (λ a. opens_without_party v (opened (history c a) i)) (λ a. opens_without_party v (opened (history b a) i)) (leaving d.graph v)
+      (λ a l. ap (opens_without_party v) ((says_leaving a l).opened i))
 
   same_ready_height : is_ready d b v ≡ true → ready_height d c v ≡ ready_height d b v
   same_ready_height r = enough.same_ready_height d v c b enough_said r
 
   -- the test and the number of an unlock
   abbrev may_open : Histories → ℕ → Bool
-  may_open x i = leads d v i || is_some (first_key x v i) || list_any (λ y. opens_without v (opened (history x y) i)) (leaving d.graph v)
+  may_open x i = leads d v i || is_some (first_key x v i) || list_any (λ y. opens_without_party v (opened (history x y) i)) (leaving d.graph v)
 
   same_may_open : (i : ℕ) → may_open c i ≡ may_open b i
   same_may_open i = ap₂ (λ k o. leads d v i || is_some k || o) (same_first i) (same_others i)
@@ -232,8 +232,8 @@ module _ (d : Deal) (v : ℕ) (u : ℕ → Bool) (b c : Histories) (is_part : (a
   same_open_height i r =
       ap₂ (λ n m. cond (leads d v i) n (max n m)) (same_ready_height r) (ap (unlock_base d.mode d c v i) (same_first i) ∙ same_base d.mode i (first_key b v i))
 
-  claim_told : (a : ℕ) → SaysTheSame v (history c a) (history b a) → ref_of d c v ToClaim a ≡ ref_of d b v ToClaim a
-  unfolding ref_of
+  claim_told : (a : ℕ) → SaysTheSame v (history c a) (history b a) → reference_height d c v ToClaim a ≡ reference_height d b v ToClaim a
+  unfolding reference_height
   claim_told a s =
       let same_open : is_open (history c a) ≡ is_open (history b a) = λ j i. is_some (s.opened i j) in
       ap₂ (λ x (f : ℕ → Bool). when (is_listed a (entering d.graph v) && is_arc_correct d a x && are_open d f) (trigger_height d (history c a)))
@@ -241,15 +241,15 @@ module _ (d : Deal) (v : ℕ) (u : ℕ → Bool) (b c : Histories) (is_part : (a
       ∙ ap (λ (f : ℕ → ℕ). when (is_listed a (entering d.graph v) && is_correct d b a && is_triggered d b a) (greatest f (locks d)))
       (λ j i. height_of_opening (s.opened i j))
 
-  refund_told : (a : ℕ) → SaysTheSame v (history c a) (history b a) → ref_of d c v ToRefund a ≡ ref_of d b v ToRefund a
-  unfolding ref_of
+  refund_told : (a : ℕ) → SaysTheSame v (history c a) (history b a) → reference_height d c v ToRefund a ≡ reference_height d b v ToRefund a
+  unfolding reference_height
   refund_told a s =
       let same_open : is_open (history c a) ≡ is_open (history b a) = λ j i. is_some (s.opened i j) in
       ap₂ (λ x (f : ℕ → Bool). when (is_listed a (leaving d.graph v) && is_some x && not (are_open d f)) (refund_expiry d a (stated_terms d a) f))
       s.published same_open
 
-  pub same_ref : (rule : Rule) (a : ℕ) → ref_of d c v rule a ≡ ref_of d b v rule a
-  unfolding ref_of
+  pub same_ref : (rule : Rule) (a : ℕ) → reference_height d c v rule a ≡ reference_height d b v rule a
+  unfolding reference_height
   same_ref ToPublish a =
       ap (λ r. when (is_listed a (leaving d.graph v) && (leads_one d v || r)) (cond (leads_one d v) 0 (ready_height d c v))) same_ready
       ∙ where_last (is_listed a (leaving d.graph v)) (leads_one d v) (is_ready d b v) (ready_height d c v) (ready_height d b v) same_ready_height
@@ -258,14 +258,14 @@ module _ (d : Deal) (v : ℕ) (u : ℕ → Bool) (b c : Histories) (is_part : (a
       ∙ where_middle (is_listed a (entering d.graph v)) (is_ready d b v) (may_open b i) (open_height c i) (open_height b i) (same_open_height i)
   same_ref ToClaim a = go (enough_said a)
     where
-      go : SaysTheSame v (history c a) (history b a) ⊎ AreUseless d v a (history c a) (history b a) → ref_of d c v ToClaim a ≡ ref_of d b v ToClaim a
+      go : SaysTheSame v (history c a) (history b a) ⊎ AreUseless d v a (history c a) (history b a) → reference_height d c v ToClaim a ≡ reference_height d b v ToClaim a
       go (inl s) = claim_told a s
       go (inr s) =
           middle_false (is_listed a (entering d.graph v)) (is_correct d c a) (is_triggered d c a) (trigger_height d (history c a)) s.one
           ∙ sym (middle_false (is_listed a (entering d.graph v)) (is_correct d b a) (is_triggered d b a) (trigger_height d (history b a)) s.other)
   same_ref ToRefund a = go (is_listed a (leaving d.graph v)) refl
     where
-      go : (l : Bool) → is_listed a (leaving d.graph v) ≡ l → ref_of d c v ToRefund a ≡ ref_of d b v ToRefund a
+      go : (l : Bool) → is_listed a (leaving d.graph v) ≡ l → reference_height d c v ToRefund a ≡ reference_height d b v ToRefund a
       go true l = refund_told a (says_leaving a (is_listed-true a (leaving d.graph v) l))
       go false l =
           first_false (is_listed a (leaving d.graph v)) (is_some (published (history c a))) (not (is_triggered d c a)) (least_expiry d a (history c a)) l
@@ -303,12 +303,12 @@ module _ (d : Deal) (v : ℕ) (u : ℕ → Bool) (b c : Histories) (is_part : (a
           silent_done d v a c rule by (history c a) (calls_at a is_some refl ∙ silent_at a e)
           ∙ sym (silent_done d v a b rule by (history b a) (silent_at a e))
 
-  same_late_at : (rule : Rule) (a : ℕ) (o : Option ℕ) → late_at d c v rule a o ≡ late_at d b v rule a o
+  same_late_at : (rule : Rule) (a : ℕ) (o : Option ℕ) → is_past_due d c v rule a o ≡ is_past_due d b v rule a o
   same_late_at rule a None = refl
   same_late_at rule a (Some ref) = ap₂ (λ n x. nat_lt (ref + d.delta) n && not x) (heights_at a) (same_done rule a (ref + d.delta))
 
   pub same_late : (rule : Rule) (a : ℕ) → is_late d c v rule a ≡ is_late d b v rule a
-  same_late rule a = ap (late_at d c v rule a) (same_ref rule a) ∙ same_late_at rule a (ref_of d b v rule a)
+  same_late rule a = ap (is_past_due d c v rule a) (same_ref rule a) ∙ same_late_at rule a (reference_height d b v rule a)
 
   -- Forgeries.
 
@@ -317,7 +317,7 @@ module _ (d : Deal) (v : ℕ) (u : ℕ → Bool) (b c : Histories) (is_part : (a
   same_any test n = any_each (λ e. test (pick_call v e)) c b (λ a. calls_at a test n)
 
   same_made : (key : Hashkey) → has_made c v key ≡ has_made b v key
-  same_made key = same_any (λ o. is_first_key (fetch_key key.lock o) key) refl
+  same_made key = same_any (λ o. is_first_key (unlock_hashkey key.lock o) key) refl
 
   same_suffix : (key : Hashkey) (p : List ℕ) (s : List Sig) → has_forged_suffix c v key p s ≡ has_forged_suffix b v key p s
   same_suffix key (u ∷ p) (s ∷ sigs) =

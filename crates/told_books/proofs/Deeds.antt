@@ -1,10 +1,11 @@
--- What an accepted call shows of the entries before it, by the table without its first row; and that few of them are another's.
+-- What an accepted call shows of the entries before it, by the table without its first row; and
+-- that few of them are another's.
 use Rattle.std.proofs.Common.{◌≡◌, ◌≢◌, ℕ, ◌+◌, ◌≤◌, ◌==◌, Bool, true, false, cond, ◌||◌, List, [], ◌∷◌, ◌++◌, length, count_by, drop}
 use Rattle.std.proofs.Common.{Option, Some, None, is_some, is_none, refl, sym, ap, ◌∙◌, subst, arith, eqb-true, eq-eqb, ltb-false}
 use Rattle.std.specs.Prelude.{IsTrue}
 use Rattle.std.proofs.lemmas.List.Sums.{sum_by-cons}
-use Rattle.swap_base.specs.Lists.{or_else, first_of}
-use Rattle.swap_base.proofs.Lists.{first_of-append, first_of-now, or_else-stays, bit_le, count_le, count_less, in_range, length-range, grow, at_moment}
+use Rattle.swap_base.specs.Lists.{or_else, first_given_answer}
+use Rattle.swap_base.proofs.Lists.{first_given_answer-append, first_given_answer-now, or_else-stays, bit_le, count_le, count_less, in_range, length-range, grow, at_moment}
 use Rattle.swap_base.proofs.Lists.{all_moments_front}
 use Rattle.swap_digraph.specs.declared.deal.Deal.{Deal}
 use Rattle.swap_digraph.specs.Deal.{party, locks}
@@ -21,7 +22,7 @@ use Rattle.ledger_core.specs.declared.entry.What.TheVariants.{Call as Made, Tick
 use Rattle.ledger_core.specs.declared.entry.Entry.{Entry}
 use Rattle.ledger_core.specs.declared.facts.Settlement.{Settlement}
 use Rattle.ledger_core.specs.declared.facts.Settlement.TheVariants.{Claimed, Refunded}
-use Rattle.ledger_core.specs.History.{accepted, accepted_call, read_raw_call, publication, published, opening, settling, settled, is_open, balance, fit, rows}
+use Rattle.ledger_core.specs.History.{accepted, accepted_call, made_call, publication, published, opening, settling, settled, is_open, balance, fit, rows}
 use Rattle.ledger_core.specs.History.{is_sender}
 use Rattle.ledger_core.proofs.Bounds.{total_calls, calls-push}
 use Rattle.ledger_core.proofs.History.{clear, AreClear, not-true, not-false, lock-below}
@@ -67,12 +68,12 @@ pub record Deed (d : Deal) (a : ℕ) (past : List Entry) (s : Sender) (c : Call)
   pub fits : IsTrue (fit d a c)
   pub clear : AreClear (drop 1 (rows d a past by c))
 
-accepted_parts : (w : What) (r : Reply) (c : Call) → accepted_call w r ≡ Some c → (read_raw_call w ≡ Some c) × (r ≡ Accepted)
+accepted_parts : (w : What) (r : Reply) (c : Call) → accepted_call w r ≡ Some c → (made_call w ≡ Some c) × (r ≡ Accepted)
 accepted_parts (Made c') Accepted c e = (e, refl)
 accepted_parts _ _ c e = absurd (cc e)
 
 deed_of : (d : Deal) (a : ℕ) (past : List Entry) (s : Sender) (w : What) (at : ℕ) (r : Reply) (c : Call) → IsTrueEntry d a past s w at r
-    → read_raw_call w ≡ Some c → r ≡ Accepted → Deed d a past s c
+    → made_call w ≡ Some c → r ≡ Accepted → Deed d a past s c
 deed_of d a past (Party p) (Made c') at r c t k q =
     let same : c' ≡ c = cc k in
     record {
@@ -106,11 +107,11 @@ bit b = cond {A = ℕ} b 1 0
 abbrev pub progress : Deal → List Entry → ℕ
 progress d h = bit (is_some (published h)) + count_by (is_open h) (locks d) + bit (is_some (settled h))
 
-some_more : {B : Type 0} (f : Entry → Option B) (h : List Entry) (x : Entry) → is_some (first_of f h) ≡ true → is_some (first_of f (h ++ x ∷ [])) ≡ true
-some_more f h x e = ap is_some (first_of-append f h (x ∷ []) ∙ or_else-stays (first_of f h) (or_else (f x) None) e) ∙ e
+some_more : {B : Type 0} (f : Entry → Option B) (h : List Entry) (x : Entry) → is_some (first_given_answer f h) ≡ true → is_some (first_given_answer f (h ++ x ∷ [])) ≡ true
+some_more f h x e = ap is_some (first_given_answer-append f h (x ∷ []) ∙ or_else-stays (first_given_answer f h) (or_else (f x) None) e) ∙ e
 
-some_now : {B : Type 0} (f : Entry → Option B) (h : List Entry) (x : Entry) (y : B) → f x ≡ Some y → is_some (first_of f (h ++ x ∷ [])) ≡ true
-some_now f h x y e = first_of-now f (h ++ x ∷ []) h x y ([], refl) e
+some_now : {B : Type 0} (f : Entry → Option B) (h : List Entry) (x : Entry) (y : B) → f x ≡ Some y → is_some (first_given_answer f (h ++ x ∷ [])) ≡ true
+some_now f h x y e = first_given_answer-now f (h ++ x ∷ []) h x y ([], refl) e
 
 module _ (d : Deal) where
   published_more : (h : List Entry) (x : Entry) → is_some (published h) ≡ true → is_some (published (h ++ x ∷ [])) ≡ true

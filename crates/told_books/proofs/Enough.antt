@@ -3,7 +3,7 @@ use Rattle.std.proofs.Common.{◌≡◌, ℕ, ◌+◌, ◌==◌, nat_le, nat_lt,
 use Rattle.std.proofs.Common.{map, filter, None, is_some, is_none, refl, sym, ap, ap₂, ◌∙◌, ◌⊎◌, inl, inr}
 use Rattle.std.specs.List.{list_any, list_all, flat_map}
 use Rattle.std.proofs.lemmas.Bool.{false≢true}
-use Rattle.swap_base.specs.Lists.{or_else, first_of, IsIn}
+use Rattle.swap_base.specs.Lists.{or_else, first_given_answer, IsElement}
 use Rattle.swap_base.proofs.Lists.{and_parts, from_filter}
 use Rattle.time_bounds.specs.Times as times
 use Rattle.swap_digraph.specs.declared.deal.Deal.{Deal}
@@ -19,7 +19,7 @@ use Rattle.ledger_core.specs.Book.{Histories, history}
 use Rattle.swap_rules.specs.declared.outcome.Outcome.TheVariants.{NoDeal, FreeRide, Underwater, Deal as WholeDeal, Discount}
 use Rattle.swap_rules.specs.Party.{is_correct, is_arc_correct, is_good, publication_height, is_ready, ready_height, is_triggered, expiry, least_expiry}
 use Rattle.swap_rules.specs.Party.{has_expired}
-use Rattle.swap_rules.specs.Party.{leads_one, pick_call, fetch_key, first_key, key_without, first_seen_key}
+use Rattle.swap_rules.specs.Party.{leads_one, pick_call, unlock_hashkey, first_key, key_without_party, first_seen_key}
 use Rattle.swap_rules.specs.Conduct.{is_publish}
 use Rattle.swap_rules.specs.Due.{Wallet, Action, unlocks_lock, is_claiming, is_refunding, has_called, is_due_publish, seen_key, extended, due_key}
 use Rattle.swap_rules.specs.Due.{presented, may_unlock, due_arc_unlock, is_due_claim, is_due_refund, when_due, due_publishes, due_unlocks, due_claims}
@@ -38,13 +38,13 @@ none_head : {B : Type 0} (o r : Option B) (b : Bool) → is_none r ≡ not b →
 none_head None r b e = e
 none_head (Some y) r b e = refl
 
-none_any : {A B : Type 0} (f : A → Option B) (xs : List A) → is_none (first_of f xs) ≡ not (list_any (λ x. is_some (f x)) xs)
+none_any : {A B : Type 0} (f : A → Option B) (xs : List A) → is_none (first_given_answer f xs) ≡ not (list_any (λ x. is_some (f x)) xs)
 none_any f [] = refl
-none_any f (x ∷ xs) = none_head (f x) (first_of f xs) (list_any (λ y. is_some (f y)) xs) (none_any f xs)
+none_any f (x ∷ xs) = none_head (f x) (first_given_answer f xs) (list_any (λ y. is_some (f y)) xs) (none_any f xs)
 
 module _ (d : Deal) (v : ℕ) (k h : Histories) (s : SayEnough d v k h) where
   -- of an arc that leaves v the same is said
-  pub leaving_same : (a : ℕ) → IsIn a (leaving d.graph v) → SaysTheSame v (history k a) (history h a)
+  pub leaving_same : (a : ℕ) → IsElement a (leaving d.graph v) → SaysTheSame v (history k a) (history h a)
   leaving_same a i = go (s a)
     where
       go : SaysTheSame v (history k a) (history h a) ⊎ AreUseless d v a (history k a) (history h a) → SaysTheSame v (history k a) (history h a)
@@ -86,8 +86,8 @@ module _ (d : Deal) (v : ℕ) (k h : Histories) (s : SayEnough d v k h) where
 
   pub same_seen : (i : ℕ) → first_seen_key d k v i ≡ first_seen_key d h v i
   same_seen i =
-      first-same (λ a. key_without v (opened (history k a) i)) (λ a. key_without v (opened (history h a) i)) (leaving d.graph v)
-      (λ a j. ap (key_without v) ((leaving_same a j).opened i))
+      first-same (λ a. key_without_party v (opened (history k a) i)) (λ a. key_without_party v (opened (history h a) i)) (leaving d.graph v)
+      (λ a j. ap (key_without_party v) ((leaving_same a j).opened i))
 
   same_due_publish : (a : ℕ) → is_due_publish d v k a ≡ is_due_publish d v h a
   unfolding is_due_publish
@@ -220,9 +220,9 @@ module _ (d : Deal) (v : ℕ) (k h : Histories) (s : SayEnough d v k h) where
   same_presented : (i : ℕ) → is_none (first_key k v i) ≡ is_none (first_key h v i)
   unfolding first_key
   same_presented i =
-      none_any (λ e. fetch_key i (pick_call v e)) (flat_map (λ l. l) k)
-      ∙ (ap not (any_each (λ e. is_some (fetch_key i (pick_call v e))) k h (λ a. same_calls a (λ o. is_some (fetch_key i o)) refl))
-      ∙ sym (none_any (λ e. fetch_key i (pick_call v e)) (flat_map (λ l. l) h)))
+      none_any (λ e. unlock_hashkey i (pick_call v e)) (flat_map (λ l. l) k)
+      ∙ (ap not (any_each (λ e. is_some (unlock_hashkey i (pick_call v e))) k h (λ a. same_calls a (λ o. is_some (unlock_hashkey i o)) refl))
+      ∙ sym (none_any (λ e. unlock_hashkey i (pick_call v e)) (flat_map (λ l. l) h)))
 
   -- who isn't ready unlocks nothing
   unready : (b : Histories) → is_ready d b v ≡ false → (w : Wallet) (o : Option Hashkey) (i : ℕ) (xs : List ℕ)

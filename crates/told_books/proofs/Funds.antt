@@ -3,7 +3,7 @@ use Rattle.std.proofs.Common.{◌≡◌, ◌⊎◌, ℕ, ◌+◌, ◌-◌, ◌�
 use Rattle.std.proofs.Common.{refl, sym, ap, ap₂, ◌∙◌, subst, inl, inr, arith}
 use Rattle.std.proofs.lemmas.Bool.{false≢true}
 use Rattle.swap_base.specs.Lists.{or_else}
-use Rattle.swap_base.proofs.Lists.{first_of-append, or_else-none, none_both, grow, at_moment, all_moments_front}
+use Rattle.swap_base.proofs.Lists.{first_given_answer-append, or_else-none, none_both, grow, at_moment, all_moments_front}
 use Rattle.swap_digraph.specs.declared.deal.Deal.{Deal}
 use Rattle.swap_digraph.specs.Deal.{party, amount}
 use Rattle.escrow_core.specs.declared.reply.Reply.{Reply}
@@ -18,7 +18,7 @@ use Rattle.ledger_core.specs.declared.entry.Entry.{Entry}
 use Rattle.ledger_core.specs.declared.accounts.Accounts.{Accounts}
 use Rattle.ledger_core.specs.declared.facts.Settlement.{Settlement}
 use Rattle.ledger_core.specs.declared.facts.Settlement.TheVariants.{Claimed, Refunded}
-use Rattle.ledger_core.specs.History.{read_raw_call, accepted, accepted_call, publication, published, settling, settled, opening_accounts, transferred}
+use Rattle.ledger_core.specs.History.{made_call, accepted, accepted_call, publication, published, settling, settled, opening_accounts, transferred}
 use Rattle.ledger_core.specs.History.{is_party}
 use Rattle.ledger_core.specs.History.{moved, accounts, is_sender}
 use Rattle.ledger_core.proofs.Units.{accounts-push}
@@ -34,14 +34,14 @@ use Rattle.told_books.proofs.Deeds.{deed, told_if, of_claim, of_refund}
 
 -- Transfers.
 
-ticks_accept_none : (w : What) (r : Reply) (c : Call) → accepted_call w r ≡ Some c → (is_ticking w ≡ false) × (read_raw_call w ≡ Some c)
+ticks_accept_none : (w : What) (r : Reply) (c : Call) → accepted_call w r ≡ Some c → (is_ticking w ≡ false) × (made_call w ≡ Some c)
 ticks_accept_none (Made c') Accepted c e = (refl, e)
 ticks_accept_none _ _ c e = absurd (cc e)
 
 -- an accepted transfer isn't v's, where v makes none
 pub not_mine : (v : ℕ) (e : Entry) (to units : ℕ) → accepted e ≡ Some (Transfer to units) → is_transfer (pick_call v e) ≡ false → is_sender v e.sender ≡ false
 not_mine v e to units k calm =
-    not-true (is_sender v e.sender) (λ t. false≢true (sym calm ∙ ap is_transfer (ap (λ b. cond b (read_raw_call e.what) None) t
+    not-true (is_sender v e.sender) (λ t. false≢true (sym calm ∙ ap is_transfer (ap (λ b. cond b (made_call e.what) None) t
     ∙ (ticks_accept_none e.what e.reply (Transfer to units) k).1)))
 
 -- and is noise
@@ -78,11 +78,12 @@ some_of (Some x) h e = cc e
 publishes_none : (h : List Entry) (x : Entry) → published (h ++ x ∷ []) ≡ None → (published h ≡ None) × (publication x.height (accepted x) ≡ None)
 publishes_none h x n =
     let k = none_both (published h) (or_else (publication x.height (accepted x)) None)
-    (sym (first_of-append (λ e. publication e.height (accepted e)) h (x ∷ [])) ∙ n) in
+    (sym (first_given_answer-append (λ e. publication e.height (accepted e)) h (x ∷ [])) ∙ n) in
     (k.0, sym (or_else-none (publication x.height (accepted x))) ∙ k.1)
 
 module _ (d : Deal) (v a : ℕ) where
-  -- Before anything is published, what is told moved nothing, and the whole moved only what its two balances held.
+  -- Before anything is published, what is told moved nothing, and the whole moved only what its two
+  -- balances held.
   pub record Funds (h : List Entry) : Type 0 where
     pub fresh : published h ≡ None → accounts d a (telling v h) ≡ opening_accounts d a
     pub total : published h ≡ None → (accounts d a h).party + (accounts d a h).counterparty ≡ amount d a
@@ -143,7 +144,8 @@ module _ (d : Deal) (v a : ℕ) where
             ∙ (nothing_moves (accounts d a h) (to == party d a) units zero few ∙ before));
       }
 
-  -- Where v is the arc's party, and nothing is claimed, the balances are those that are told, and the counterparty has nothing.
+  -- Where v is the arc's party, and nothing is claimed, the balances are those that are told, and
+  -- the counterparty has nothing.
   record Same (h : List Entry) : Type 0 where
     same : accounts d a h ≡ accounts d a (telling v h)
     zero : (accounts d a h).counterparty ≡ 0
@@ -152,7 +154,7 @@ module _ (d : Deal) (v a : ℕ) where
   Unclaimed h = is_claim (settled h) ≡ false → Same h
 
   unclaimed_past : (h : List Entry) (x : Entry) → is_claim (settled (h ++ x ∷ [])) ≡ false → is_claim (settled h) ≡ false
-  unclaimed_past h x e = go (settled h) (sym (ap is_claim (first_of-append (λ y. settling (accepted y)) h (x ∷ []))) ∙ e)
+  unclaimed_past h x e = go (settled h) (sym (ap is_claim (first_given_answer-append (λ y. settling (accepted y)) h (x ∷ []))) ∙ e)
     where
       go : (s : Option Settlement) → is_claim (or_else s (or_else (settling (accepted x)) None)) ≡ false → is_claim s ≡ false
       go None e = refl
@@ -196,7 +198,7 @@ module _ (d : Deal) (v a : ℕ) where
       let g = deed d v a h x Claim m (told_if v x Claim k refl) k in
       absurd (claimed (settled h) (of_claim d a h g.by g.clear).1
       (ap (λ o. is_claim (or_else (settled h) (or_else (settling o) None))) (sym k)
-      ∙ (sym (ap is_claim (first_of-append (λ y. settling (accepted y)) h (x ∷ []))) ∙ u)))
+      ∙ (sym (ap is_claim (first_given_answer-append (λ y. settling (accepted y)) h (x ∷ []))) ∙ u)))
     where
       claimed : (s : Option Settlement) → is_some s ≡ false → is_claim (or_else s (Some Claimed)) ≡ false → ⊥
       claimed None n e = cc e

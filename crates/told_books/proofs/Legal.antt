@@ -20,8 +20,8 @@ use Rattle.ledger_core.specs.declared.entry.What.TheVariants.{Call as Made, Tick
 use Rattle.ledger_core.specs.declared.entry.Entry.{Entry}
 use Rattle.ledger_core.specs.declared.accounts.Accounts.{Accounts}
 use Rattle.ledger_core.specs.declared.facts.Settlement.{Settlement}
-use Rattle.ledger_core.specs.History.{entry_ticks, height, read_raw_call, accepted, accepted_call, Publication, published, settled, is_open}
-use Rattle.ledger_core.specs.History.{parse_terms, accounts, balance}
+use Rattle.ledger_core.specs.History.{entry_ticks, height, made_call, accepted, accepted_call, Publication, published, settled, is_open}
+use Rattle.ledger_core.specs.History.{publication_terms, accounts, balance}
 use Rattle.ledger_core.specs.History.{is_party, is_sender, is_tick, is_full, is_clock_full, rows, history_reply}
 use Rattle.ledger_core.specs.History.{IsLegal, IsLegalEntry, IsLegalMoment}
 use Rattle.ledger_core.proofs.Bounds.{total_calls, run_ticks, calls-push, ticks-push, height-push}
@@ -29,7 +29,7 @@ use Rattle.ledger_core.proofs.History.{of_transfer, clear_at}
 use Rattle.swap_rules.specs.Rest.{is_ticking}
 use Rattle.told_books.specs.Told.{is_of_contract, is_told, telling, SaysTheSame, reply_without_limit, IsTrueEntry, IsPaid, IsTrueMoment, IsChain}
 use Rattle.told_books.specs.Told.{is_transfer}
-use Rattle.told_books.specs.Laws.{LegalIsChain, IsWithin, TellingIsLegal}
+use Rattle.told_books.specs.Laws.{LegalIsChain, KeepsLedgerLimits, TellingIsLegal}
 use Rattle.told_books.proofs.Filters.{filter-on, filter-off, sum_by-part}
 use Rattle.told_books.proofs.Telling.{says_telling}
 use Rattle.told_books.proofs.Deeds.{clear_of, of_publish, few_calls}
@@ -69,9 +69,9 @@ room_left d a h p (Transfer to units) = never_full (drop 1 (rows d a h p (Transf
 -- The replies that speak of no balance.
 
 abbrev contract_rows : Deal → ℕ → Option Publication → (ℕ → Bool) → Option Settlement → (at p : ℕ) → Call → List (Bool × Reply)
-contract_rows d a o is_open s at p (Unlock key) = (is_none o, NoContract) ∷ unlock_rows d a (parse_terms o) is_open (is_some s) at p key
+contract_rows d a o is_open s at p (Unlock key) = (is_none o, NoContract) ∷ unlock_rows d a (publication_terms o) is_open (is_some s) at p key
 contract_rows d a o is_open s at p Claim = (is_none o, NoContract) ∷ claim_rows d a is_open (is_some s) p
-contract_rows d a o is_open s at p Refund = (is_none o, NoContract) ∷ refund_rows d a (parse_terms o) is_open (is_some s) at p
+contract_rows d a o is_open s at p Refund = (is_none o, NoContract) ∷ refund_rows d a (publication_terms o) is_open (is_some s) at p
 contract_rows d a o is_open s at p (Publish t) = []
 contract_rows d a o is_open s at p (Transfer to units) = []
 
@@ -169,7 +169,7 @@ module _ (d : Deal) (v a : ℕ) (leaders : length d.leaders ≤ 8) where
   -- the entry that is told is legal after what is told
   told_entry : (h : List Entry) (s : Sender) (w : What) (at : ℕ) (r : Reply) → IsTrueEntry d a h s w at r
       → (is_ticking w || is_sender v s || is_of_contract (accepted_call w r)) ≡ true
-      → is_transfer (cond (is_sender v s) (read_raw_call w) None) ≡ false → IsChain d v a h → Funds d v a h
+      → is_transfer (cond (is_sender v s) (made_call w) None) ≡ false → IsChain d v a h → Funds d v a h
       → total_calls v h + cond (is_sender v s) 1 0 ≤ 32 → run_ticks h + cond (is_tick s) 1 0 ≤ 20000 → height h + entry_ticks w ≤ 1000000
       → IsLegalEntry d a (telling v h) s w at r
   told_entry h (Party p) (Made c) at r t told calm l f calls ticks low = record {
@@ -220,10 +220,10 @@ module _ (d : Deal) (v a : ℕ) (leaders : length d.leaders ≤ 8) where
   told_entry h Clock (Made c) at r t told calm l f calls ticks low = absurd t
 
   abbrev Stays : List Entry → Type 0
-  Stays h = IsChain d v a h → IsWithin v h → IsLegal d a (telling v h)
+  Stays h = IsChain d v a h → KeepsLedgerLimits v h → IsLegal d a (telling v h)
 
   step : (h : List Entry) (x : Entry) (b : Bool) → is_told v x ≡ b → IsTrueMoment d v a (record { past = h; now = x }) → IsChain d v a h
-      → IsWithin v (h ++ x ∷ []) → IsLegal d a (telling v h) → IsLegal d a (telling v (h ++ x ∷ []))
+      → KeepsLedgerLimits v (h ++ x ∷ []) → IsLegal d a (telling v h) → IsLegal d a (telling v (h ++ x ∷ []))
   step h x true t m l in_bounds legal =
       let calls = in_bounds.calls in
       let ticks = in_bounds.ticks in
@@ -235,7 +235,7 @@ module _ (d : Deal) (v a : ℕ) (leaders : length d.leaders ≤ 8) where
       (omega (arith, height-push h x))))
   step h x false t m l in_bounds legal = subst (IsLegal d a) (sym (filter-off (is_told v) h x t)) legal
 
-  within_past : (h : List Entry) (x : Entry) → IsWithin v (h ++ x ∷ []) → IsWithin v h
+  within_past : (h : List Entry) (x : Entry) → KeepsLedgerLimits v (h ++ x ∷ []) → KeepsLedgerLimits v h
   within_past h x w =
       let calls = w.calls in
       let ticks = w.ticks in

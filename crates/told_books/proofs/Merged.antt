@@ -4,8 +4,8 @@ use Rattle.std.proofs.Common.{Option, None, is_some, is_none, refl, sym, ap, ap�
 use Rattle.std.specs.List.{AllByRecursion}
 use Rattle.std.proofs.lemmas.Bool.{lt-leb}
 use Rattle.std.proofs.lemmas.List.Sums.{sum_by-cons}
-use Rattle.swap_base.specs.Lists.{or_else, first_of, moments_after}
-use Rattle.swap_base.proofs.Lists.{first_of-append, or_else-none, and_parts, and_both}
+use Rattle.swap_base.specs.Lists.{or_else, first_given_answer, moments_after_past}
+use Rattle.swap_base.proofs.Lists.{first_given_answer-append, or_else-none, and_parts, and_both}
 use Rattle.swap_digraph.specs.declared.deal.Deal.{Deal}
 use Rattle.swap_digraph.specs.Deal.{party}
 use Rattle.escrow_core.specs.declared.reply.Reply.{Reply}
@@ -21,7 +21,7 @@ use Rattle.ledger_core.specs.declared.entry.Entry.{Entry}
 use Rattle.ledger_core.specs.declared.accounts.Accounts.{Accounts}
 use Rattle.ledger_core.specs.declared.facts.Settlement.{Settlement}
 use Rattle.ledger_core.specs.History.{entry_ticks, height, accepted, accepted_call, Publication, publication, published, opening, opened, settling, settled}
-use Rattle.ledger_core.specs.History.{is_open, parse_terms, accounts, moved, is_clock_full, is_sender, is_tick, rows, history_reply, reply_to_tick}
+use Rattle.ledger_core.specs.History.{is_open, publication_terms, accounts, moved, is_clock_full, is_sender, is_tick, rows, history_reply, reply_to_tick}
 use Rattle.ledger_core.specs.History.{IsLegalTick, IsLegalEntry, IsLegalMoment}
 use Rattle.ledger_core.proofs.Bounds.{total_calls, run_ticks, calls-push, ticks-push, height-push, tick_room}
 use Rattle.ledger_core.proofs.Units.{accounts-push}
@@ -49,10 +49,10 @@ all_rows d a b o is_open s full at p (Publish terms) =
     (full, SenderFull) ∷ (not (p == party d a), NotParty) ∷ (is_some o, AlreadyPublished)
     ∷ (nat_lt (balance_in d a b p) terms.amount, NoFunds (balance_in d a b p)) ∷ []
 all_rows d a b o is_open s full at p (Unlock key) =
-    (full, SenderFull) ∷ (is_none o, NoContract) ∷ unlock_rows d a (parse_terms o) is_open (is_some s) at p key
+    (full, SenderFull) ∷ (is_none o, NoContract) ∷ unlock_rows d a (publication_terms o) is_open (is_some s) at p key
 all_rows d a b o is_open s full at p Claim = (full, SenderFull) ∷ (is_none o, NoContract) ∷ claim_rows d a is_open (is_some s) p
 all_rows d a b o is_open s full at p Refund =
-    (full, SenderFull) ∷ (is_none o, NoContract) ∷ refund_rows d a (parse_terms o) is_open (is_some s) at p
+    (full, SenderFull) ∷ (is_none o, NoContract) ∷ refund_rows d a (publication_terms o) is_open (is_some s) at p
 all_rows d a b o is_open s full at p (Transfer to units) =
     (full, SenderFull) ∷ (nat_lt (balance_in d a b p) units, NoFunds (balance_in d a b p)) ∷ []
 
@@ -118,23 +118,23 @@ alike_more d a h k e s = record {
   height = height-push k e ∙ (ap (λ n. n + entry_ticks e.what) s.height ∙ sym (height-push h e));
   accounts = accounts-push d a k e ∙ (ap (λ b. moved d a b e.sender (accepted e)) s.accounts ∙ sym (accounts-push d a h e));
   published =
-      first_of-append (λ x. publication x.height (accepted x)) k (e ∷ [])
+      first_given_answer-append (λ x. publication x.height (accepted x)) k (e ∷ [])
       ∙ (ap (λ o. or_else o (or_else (publication e.height (accepted e)) None)) s.published
-      ∙ sym (first_of-append (λ x. publication x.height (accepted x)) h (e ∷ [])));
+      ∙ sym (first_given_answer-append (λ x. publication x.height (accepted x)) h (e ∷ [])));
   opened =
-      λ i. first_of-append (λ x. opening i x.height (accepted x)) k (e ∷ [])
+      λ i. first_given_answer-append (λ x. opening i x.height (accepted x)) k (e ∷ [])
       ∙ (ap (λ o. or_else o (or_else (opening i e.height (accepted e)) None)) (s.opened i)
-      ∙ sym (first_of-append (λ x. opening i x.height (accepted x)) h (e ∷ [])));
+      ∙ sym (first_given_answer-append (λ x. opening i x.height (accepted x)) h (e ∷ [])));
   settled =
-      first_of-append (λ x. settling (accepted x)) k (e ∷ []) ∙ (ap (λ o. or_else o (or_else (settling (accepted e)) None)) s.settled
-      ∙ sym (first_of-append (λ x. settling (accepted x)) h (e ∷ [])));
+      first_given_answer-append (λ x. settling (accepted x)) k (e ∷ []) ∙ (ap (λ o. or_else o (or_else (settling (accepted e)) None)) s.settled
+      ∙ sym (first_given_answer-append (λ x. settling (accepted x)) h (e ∷ [])));
   calls = λ p. calls-push k e p ∙ (ap (λ n. n + cond (is_sender p e.sender) 1 0) (s.calls p) ∙ sym (calls-push h e p));
   ticks = let few = s.ticks in omega (arith, ticks-push k e, ticks-push h e);
 }
 
 -- what is legal after the one is legal after the other
-legal_after : (d : Deal) (a : ℕ) (h k m : List Entry) → Alike d a h k → AllByRecursion (IsLegalMoment d a) (moments_after h m)
-    → AllByRecursion (IsLegalMoment d a) (moments_after k m)
+legal_after : (d : Deal) (a : ℕ) (h k m : List Entry) → Alike d a h k → AllByRecursion (IsLegalMoment d a) (moments_after_past h m)
+    → AllByRecursion (IsLegalMoment d a) (moments_after_past k m)
 legal_after d a h k [] s l = tt
 legal_after d a h k (e ∷ m) s l =
     (still_legal d a h k e.sender e.what e.height e.reply s l.0, legal_after d a (h ++ e ∷ []) (k ++ e ∷ []) m (alike_more d a h k e s) l.1)
@@ -144,11 +144,11 @@ legal_after d a h k (e ∷ m) s l =
 idle : (x : Entry) (k : ℕ) → x.what ≡ Tick k → accepted x ≡ None
 idle x k w = ap (λ z. accepted_call z x.reply) w
 
-skip : {B : Type 0} (q : Entry → Option B) (h : List Entry) (x : Entry) → q x ≡ None → first_of q (h ++ x ∷ []) ≡ first_of q h
-skip q h x o = first_of-append q h (x ∷ []) ∙ (ap (λ z. or_else (first_of q h) (or_else z None)) o ∙ or_else-none (first_of q h))
+skip : {B : Type 0} (q : Entry → Option B) (h : List Entry) (x : Entry) → q x ≡ None → first_given_answer q (h ++ x ∷ []) ≡ first_given_answer q h
+skip q h x o = first_given_answer-append q h (x ∷ []) ∙ (ap (λ z. or_else (first_given_answer q h) (or_else z None)) o ∙ or_else-none (first_given_answer q h))
 
 skip_two : {B : Type 0} (q : Entry → Option B) (h : List Entry) (e f g : Entry) → q e ≡ None → q f ≡ None → q g ≡ None
-    → first_of q (h ++ g ∷ []) ≡ first_of q ((h ++ e ∷ []) ++ f ∷ [])
+    → first_given_answer q (h ++ g ∷ []) ≡ first_given_answer q ((h ++ e ∷ []) ++ f ∷ [])
 skip_two q h e f g oe of og = skip q h g og ∙ sym (skip q (h ++ e ∷ []) f of ∙ skip q h e oe)
 
 module _ (d : Deal) (a : ℕ) where
@@ -226,7 +226,7 @@ module _ (d : Deal) (a : ℕ) where
       })
 
   abbrev Stands : List Entry → List Entry → Type 0
-  Stands h m = AllByRecursion (IsLegalMoment d a) (moments_after h m)
+  Stands h m = AllByRecursion (IsLegalMoment d a) (moments_after_past h m)
 
   joined : (h : List Entry) (e : Entry) (m : List Entry) → IsLegalEntry d a h e.sender e.what e.height e.reply → Stands (h ++ e ∷ []) m → Stands h (join e m)
   joined h e [] l s = (l, tt)

@@ -2,7 +2,7 @@
 use Rattle.std.proofs.Common.{◌≡◌, ◌⊎◌, ℕ, zero, suc, Bool, true, false, cond, not, ◌&&◌, ◌||◌, List, [], ◌∷◌, length, filter, Option, Some, None, is_some}
 use Rattle.std.proofs.Common.{refl, sym, ap, ◌∙◌, subst, inl, inr}
 use Rattle.std.proofs.lemmas.Bool.{false≢true}
-use Rattle.swap_base.specs.Lists.{IsIn}
+use Rattle.swap_base.specs.Lists.{IsElement}
 use Rattle.swap_base.proofs.Lists.{and_parts, or_neither, none_of, from_filter}
 use Rattle.swap_digraph.specs.declared.deal.Deal.{Deal}
 use Rattle.swap_digraph.specs.Graph.{leaving, entering, is_listed}
@@ -11,7 +11,7 @@ use Rattle.ledger_core.specs.declared.entry.Call.{Call}
 use Rattle.ledger_core.specs.declared.entry.What.{What}
 use Rattle.ledger_core.specs.declared.entry.What.TheVariants.{Call as Made, Tick}
 use Rattle.ledger_core.specs.declared.entry.Entry.{Entry}
-use Rattle.ledger_core.specs.History.{entry_ticks, height, read_raw_call, accepted, Publication, publication, published, is_sender}
+use Rattle.ledger_core.specs.History.{entry_ticks, height, made_call, accepted, Publication, publication, published, is_sender}
 use Rattle.ledger_core.specs.Book.{Histories, history}
 use Rattle.ledger_core.proofs.History.{not-true, not-true-of}
 use Rattle.swap_rules.specs.Party.{is_arc_correct, pick_call}
@@ -60,8 +60,8 @@ all_told v h = filter-same (is_needed false v) (is_told v) h (λ e i. refl)
 -- Useless arcs.
 
 pub record Useless (d : Deal) (v a : ℕ) (h : List Entry) : Type 0 where
-  pub enters : IsIn a (entering d.graph v)
-  pub apart : IsIn a (leaving d.graph v) → ⊥
+  pub enters : IsElement a (entering d.graph v)
+  pub apart : IsElement a (leaving d.graph v) → ⊥
   pub wrong : is_arc_correct d a (published h) ≡ false
   pub silent : has_called v is_some h ≡ false
 
@@ -82,13 +82,13 @@ useless d v a h u =
     }
 
 -- v made none of the calls
-pub silent_in : (v : ℕ) (h : List Entry) → has_called v is_some h ≡ false → (e : Entry) → IsIn e h → pick_call v e ≡ None
+pub silent_in : (v : ℕ) (h : List Entry) → has_called v is_some h ≡ false → (e : Entry) → IsElement e h → pick_call v e ≡ None
 silent_in v h n e i = none_of (pick_call v e) (not_any-in (λ x. is_some (pick_call v x)) h e n i)
 
 needed_tick : (v : ℕ) (e : Entry) → pick_call v e ≡ None → is_needed true v e ≡ is_ticking e.what
 needed_tick v e n = go (is_sender v e.sender) e.what n
   where
-    go : (s : Bool) (w : What) → cond s (read_raw_call w) None ≡ None → (is_ticking w || s) ≡ is_ticking w
+    go : (s : Bool) (w : What) → cond s (made_call w) None ≡ None → (is_ticking w || s) ≡ is_ticking w
     go s (Tick k) n = refl
     go false (Made c) n = refl
     go true (Made c) n = absurd (cc n)

@@ -2,7 +2,7 @@
 use Rattle.std.proofs.Common.{◌≡◌, ℕ, nat_le, nat_lt, Bool, cond, not, ◌&&◌, ◌||◌, List, [], ◌++◌, Option, Some, is_some, is_none, map, filter}
 use Rattle.std.proofs.Common.{refl, ap, ap₂, ◌∙◌}
 use Rattle.std.specs.List.{list_any, list_all, flat_map}
-use Rattle.swap_base.specs.Lists.{or_else, first_of, greatest}
+use Rattle.swap_base.specs.Lists.{or_else, first_given_answer, greatest}
 use Rattle.time_bounds.specs.Times as times
 use Rattle.swap_digraph.specs.declared.deal.Deal.{Deal}
 use Rattle.swap_digraph.specs.Graph.{leaving, entering}
@@ -15,7 +15,7 @@ use Rattle.ledger_core.specs.History.{height, published, settled, is_open}
 use Rattle.ledger_core.specs.Book.{Histories, history}
 use Rattle.swap_rules.specs.Party.{is_correct, is_arc_correct, is_good, publication_height, is_ready, ready_height, is_triggered, expiry, least_expiry}
 use Rattle.swap_rules.specs.Party.{has_expired}
-use Rattle.swap_rules.specs.Party.{leads_one, key_without, first_seen_key}
+use Rattle.swap_rules.specs.Party.{leads_one, key_without_party, first_seen_key}
 use Rattle.swap_rules.specs.Conduct.{is_publish}
 use Rattle.swap_rules.specs.Due.{Wallet, Action, unlocks_lock, is_claiming, is_refunding, has_called, is_due_publish, seen_key, extended, due_key}
 use Rattle.swap_rules.specs.Due.{presented, may_unlock, due_arc_unlock, is_due_claim, is_due_refund, when_due, due_publishes, due_unlocks, due_claims}
@@ -54,7 +54,7 @@ module _ (d : Deal) (v : ℕ) (k h : Histories) (s : SayTheSame v k h) where
   same_expired a = same_expired_at a (height (history k a)) ∙ ap (λ n. has_expired d a (history h a) n) (s a).height
 
   pub same_seen : (u i : ℕ) → first_seen_key d k u i ≡ first_seen_key d h u i
-  same_seen u i = ap (λ (f : ℕ → Option Hashkey). first_of f (leaving d.graph u)) (λ j a. key_without u ((s a).opened i j))
+  same_seen u i = ap (λ (f : ℕ → Option Hashkey). first_given_answer f (leaving d.graph u)) (λ j a. key_without_party u ((s a).opened i j))
 
   same_due_publish : (a : ℕ) → is_due_publish d v k a ≡ is_due_publish d v h a
   unfolding is_due_publish

@@ -8,12 +8,12 @@ use Rattle.ledger_core.specs.declared.entry.Call.TheVariants.{Publish, Unlock, C
 use Rattle.ledger_core.specs.declared.entry.What.{What}
 use Rattle.ledger_core.specs.declared.entry.What.TheVariants.{Call as Made, Tick}
 use Rattle.ledger_core.specs.declared.entry.Entry.{Entry}
-use Rattle.ledger_core.specs.History.{entry_ticks, read_raw_call, accepted, publication, opening, settling, is_sender}
+use Rattle.ledger_core.specs.History.{entry_ticks, made_call, accepted, publication, opening, settling, is_sender}
 use Rattle.ledger_core.specs.Book.{Histories, history}
 use Rattle.swap_rules.specs.Party.{pick_call}
 use Rattle.swap_rules.specs.Rest.{is_ticking}
 use Rattle.told_books.specs.Told.{is_of_contract, is_told, telling, tellings, SaysTheSame, SayTheSame}
-use Rattle.told_books.proofs.Filters.{first_of-filter, list_any-filter, sum_by-filter, flat-filter}
+use Rattle.told_books.proofs.Filters.{first_given_answer-filter, list_any-filter, sum_by-filter, flat-filter}
 
 -- What noise is.
 pub record IsNoise (v : ℕ) (e : Entry) : Type 0 where
@@ -56,7 +56,7 @@ no_settling (Some Refund) e = absurd (cc e)
 no_settling (Some (Transfer to units)) e = refl
 
 pub no_call : (v : ℕ) (e : Entry) → is_sender v e.sender ≡ false → pick_call v e ≡ None
-no_call v e n = ap (λ b. cond b (read_raw_call e.what) None) n
+no_call v e n = ap (λ b. cond b (made_call e.what) None) n
 
 -- a test that only unlocks pass is passed by no noise
 pub no_unlock : (test : Option Call → Bool) → test None ≡ false → ((to units : ℕ) → test (Some (Transfer to units)) ≡ false) → (o : Option Call)
@@ -72,10 +72,10 @@ pub says_telling : (v : ℕ) (h : List Entry) → SaysTheSame v (telling v h) h
 says_telling v h = record {
   height = sum_by-filter (is_told v) (λ e. entry_ticks e.what) h (λ e t. no_ticks e.what (noise v e t).call);
   published =
-      first_of-filter (is_told v) (λ e. publication e.height (accepted e)) h (λ e t. no_publication e.height (accepted e) (noise v e t).idle);
+      first_given_answer-filter (is_told v) (λ e. publication e.height (accepted e)) h (λ e t. no_publication e.height (accepted e) (noise v e t).idle);
   opened =
-      λ i. first_of-filter (is_told v) (λ e. opening i e.height (accepted e)) h (λ e t. no_opening i e.height (accepted e) (noise v e t).idle);
-  settled = first_of-filter (is_told v) (λ e. settling (accepted e)) h (λ e t. no_settling (accepted e) (noise v e t).idle);
+      λ i. first_given_answer-filter (is_told v) (λ e. opening i e.height (accepted e)) h (λ e t. no_opening i e.height (accepted e) (noise v e t).idle);
+  settled = first_given_answer-filter (is_told v) (λ e. settling (accepted e)) h (λ e t. no_settling (accepted e) (noise v e t).idle);
   calls =
       λ test n. list_any-filter (is_told v) (λ e. test (pick_call v e)) h (λ e t. ap test (no_call v e (noise v e t).others) ∙ n);
 }

@@ -5,7 +5,7 @@ use Rattle.std.proofs.Math.ListN.{get_or-map as get_or-map_at}
 use Rattle.std.proofs.lemmas.Bool.{lt-leb}
 use Rattle.std.proofs.lemmas.List.{length-map, get_or_past}
 use Rattle.std.proofs.lemmas.List.Sums.{sum_by-cons}
-use Rattle.swap_base.specs.Lists.{IsIn, IsMoment, Moment}
+use Rattle.swap_base.specs.Lists.{IsElement, IsMoment, Moment}
 use Rattle.swap_base.proofs.Lists.{grow, at_moment, all_moments_front, all_moments_push, from_filter}
 use Rattle.swap_digraph.specs.declared.deal.Deal.{Deal}
 use Rattle.escrow_core.specs.declared.reply.Reply.{Reply}
@@ -26,7 +26,7 @@ use Rattle.swap_rules.proofs.Prefixes.{begins_refl}
 use Rattle.told_books.specs.Told.{is_of_contract, is_told, is_useless, is_needed, needed, needs, all_needed, merged, call_count, SaysTheSame}
 use Rattle.told_books.specs.Told.{AreUseless, SayEnough}
 use Rattle.told_books.specs.Told.{IsTrueEntry, IsTrueMoment, IsChain, IsTrueClock, HasTrueClock, IsNeededChain, IsNeededBook}
-use Rattle.told_books.specs.Laws.{IsWithin, MergedSaysEnough, ChainIsNeeded, NeededIsLegal, NeededIsShort, NeededCanBeTold}
+use Rattle.told_books.specs.Laws.{KeepsLedgerLimits, MergedSaysEnough, ChainIsNeeded, NeededIsLegal, NeededIsShort, NeededCanBeTold}
 use Rattle.told_books.proofs.Filters.{filter-on, filter-off, sum_by-filter, sum_by-part}
 use Rattle.told_books.proofs.Telling.{no_ticks}
 use Rattle.told_books.proofs.Needed.{part_is, length-parts, all_told, ticks, useless_is_ticks, needed_says_enough}
@@ -84,7 +84,7 @@ needed_is_legal d v a h few chain w = go (is_useless d v a h) refl
 
 -- And short.
 
-no_calls : (h : List Entry) → ((e : Entry) → IsIn e h → is_ticking e.what ≡ true) → call_count h ≡ 0
+no_calls : (h : List Entry) → ((e : Entry) → IsElement e h → is_ticking e.what ≡ true) → call_count h ≡ 0
 no_calls [] t = refl
 no_calls (e ∷ h) t =
     let c : call_count (e ∷ h) ≡ cond (not (is_ticking e.what)) 1 0 + call_count h = sum_by-cons (λ x. cond (not (is_ticking x.what)) 1 0) e h in
@@ -143,7 +143,7 @@ merged_says_enough d v k h s a =
     subst (λ l. SaysTheSame v l (history h a) ⊎ AreUseless d v a l (history h a)) (sym (is_merged k a))
     (enough_on d v a (merged (history k a)) (history k a) (history h a) (says_merged v (history k a)) (s a))
 
-module _ (d : Deal) (v : ℕ) (b : Histories) (few : length d.leaders ≤ 8) (book : IsNeededBook d v b) (within : (a : ℕ) → IsWithin v (history b a)) where
+module _ (d : Deal) (v : ℕ) (b : Histories) (few : length d.leaders ≤ 8) (book : IsNeededBook d v b) (within : (a : ℕ) → KeepsLedgerLimits v (history b a)) where
   nth_chain : (a : ℕ) → IsNeededChain d v a (history b a)
   nth_chain a = by (nat_lt a (length b)) refl
     where

@@ -6,12 +6,12 @@ use Rattle.swap_digraph.specs.declared.deal.Deal.{Deal}
 use Rattle.ledger_core.specs.History.{IsLegal}
 use Rattle.ledger_core.specs.Book.{Histories, history, IsLegalBook}
 use Rattle.told_books.specs.Told.{telling, tellings, merged, SaysTheSame, SayTheSame, IsChain, IsChainBook}
-use Rattle.told_books.specs.Laws.{IsWithin, BookCanBeTold}
+use Rattle.told_books.specs.Laws.{KeepsLedgerLimits, BookCanBeTold}
 use Rattle.told_books.proofs.Telling.{says_telling, history_is}
 use Rattle.told_books.proofs.Legal.{telling_is_legal}
 use Rattle.told_books.proofs.Merged.{merged_is_legal, says_on}
 
-module _ (d : Deal) (v : ℕ) (b : Histories) (few : length d.leaders ≤ 8) (chain : IsChainBook d v b) (within : (a : ℕ) → IsWithin v (history b a)) where
+module _ (d : Deal) (v : ℕ) (b : Histories) (few : length d.leaders ≤ 8) (chain : IsChainBook d v b) (within : (a : ℕ) → KeepsLedgerLimits v (history b a)) where
   nth_chain : (a : ℕ) → IsChain d v a (history b a)
   nth_chain a = by (nat_lt a (length b)) refl
     where

@@ -1,7 +1,7 @@
 -- Who was watchful in a book was so in what is told of it, and the other way round.
 use Rattle.std.proofs.Common.{◌≡◌, ℕ, ◌<◌, Bool, true, false, ◌||◌, List, [], ◌∷◌, length, filter, Option, Some, is_some, refl, sym, ap, ◌∙◌, subst}
 use Rattle.std.specs.List.{list_any}
-use Rattle.swap_base.specs.Lists.{IsIn, IsMoment}
+use Rattle.swap_base.specs.Lists.{IsElement, IsMoment}
 use Rattle.swap_base.proofs.Lists.{or-right}
 use Rattle.swap_digraph.specs.declared.deal.Deal.{Deal}
 use Rattle.swap_digraph.specs.Graph.{leaving}
@@ -11,11 +11,11 @@ use Rattle.ledger_core.specs.declared.entry.Entry.{Entry}
 use Rattle.ledger_core.specs.History.{accepted, is_sender, published}
 use Rattle.ledger_core.specs.Book.{Histories, history}
 use Rattle.swap_rules.specs.declared.finding.Rule.TheVariants.{Unlock as ToUnlock}
-use Rattle.swap_rules.specs.Late.{ref_of}
+use Rattle.swap_rules.specs.Late.{reference_height}
 use Rattle.swap_rules.specs.Party.{is_correct, is_triggered, pick_call}
 use Rattle.swap_rules.specs.Due.{is_claiming}
 use Rattle.swap_rules.specs.Rest.{is_ticking}
-use Rattle.swap_rules.specs.Walking.{UnlocksOn, ClaimsAll, UnlocksAll, AsksBack, AsksAllBack, HasLost, IsWatchful}
+use Rattle.swap_rules.specs.Walking.{UnlocksArc, ClaimsAll, UnlocksAll, AsksBack, AsksAllBack, HasLost, IsWatchful}
 use Rattle.swap_rules.proofs.Words.{call_of_parts, or-left, or-first}
 use Rattle.told_books.specs.Told.{is_of_contract, is_useless, is_needed}
 use Rattle.told_books.proofs.Filters.{any-same, moment-filter, moment_unfilter}
@@ -43,7 +43,7 @@ module _ (d : Deal) (v : ℕ) (u : ℕ → Bool) (b c : Histories) (is_part : (a
       → (whole : List Entry) × IsMoment (history b a) whole e × (filter (is_needed (u a) v) whole ≡ past)
   back a past e m = moment_unfilter (is_needed (u a) v) (history b a) past e (subst (λ h. IsMoment h past e) (is_part a) m)
 
-  trigger_at : (a : ℕ) → IsIn a (leaving d.graph v) → is_triggered d c a ≡ is_triggered d b a
+  trigger_at : (a : ℕ) → IsElement a (leaving d.graph v) → is_triggered d c a ≡ is_triggered d b a
   trigger_at a i = enough.same_trigger d v c b (books.enough_said d v u b c is_part idle) a (books.says_leaving d v u b c is_part idle a i)
 
   pub same_stake : list_any (is_triggered d c) (leaving d.graph v) ≡ list_any (is_triggered d b) (leaving d.graph v)
@@ -51,7 +51,7 @@ module _ (d : Deal) (v : ℕ) (u : ℕ → Bool) (b c : Histories) (is_part : (a
 
   -- Unlocks.
 
-  unlock_told : (i a : ℕ) → UnlocksOn d b v i a → UnlocksOn d c v i a
+  unlock_told : (i a : ℕ) → UnlocksArc d b v i a → UnlocksArc d c v i a
   unlock_told i a k = record {
     past = filter (is_needed (u a) v) k.past;
     now = k.now;
@@ -62,19 +62,19 @@ module _ (d : Deal) (v : ℕ) (u : ℕ → Bool) (b c : Histories) (is_part : (a
     in_time = k.in_time;
   }
 
-  unlock_whole : (i a : ℕ) → UnlocksOn d c v i a → UnlocksOn d b v i a
+  unlock_whole : (i a : ℕ) → UnlocksArc d c v i a → UnlocksArc d b v i a
   unlock_whole i a k =
       let w = back a k.past k.now k.stands in
       record { past = w.0; now = k.now; key = k.key; stands = w.1; called = k.called; lock = k.lock; in_time = k.in_time }
 
   -- Refunds.
 
-  published_at : (a : ℕ) (past : List Entry) → IsIn a (leaving d.graph v) → published (filter (is_needed (u a) v) past) ≡ published past
+  published_at : (a : ℕ) (past : List Entry) → IsElement a (leaving d.graph v) → published (filter (is_needed (u a) v) past) ≡ published past
   published_at a past i =
       ap (λ t. published (filter (is_needed t v) past)) (books.leaving_told d v u b c is_part idle a i)
       ∙ (ap published (all_told v past) ∙ (says_telling v past).published)
 
-  refund_told : (a : ℕ) → IsIn a (leaving d.graph v) → AsksBack b v a → AsksBack c v a
+  refund_told : (a : ℕ) → IsElement a (leaving d.graph v) → AsksBack b v a → AsksBack c v a
   refund_told a i k = record {
     past = filter (is_needed (u a) v) k.past;
     now = k.now;
@@ -83,7 +83,7 @@ module _ (d : Deal) (v : ℕ) (u : ℕ → Bool) (b c : Histories) (is_part : (a
     after = ap (λ o. is_some o) (published_at a k.past i) ∙ k.after;
   }
 
-  refund_whole : (a : ℕ) → IsIn a (leaving d.graph v) → AsksBack c v a → AsksBack b v a
+  refund_whole : (a : ℕ) → IsElement a (leaving d.graph v) → AsksBack c v a → AsksBack b v a
   refund_whole a i k =
       let w = back a k.past k.now k.stands in
       record {
@@ -113,10 +113,10 @@ module _ (d : Deal) (v : ℕ) (u : ℕ → Bool) (b c : Histories) (is_part : (a
   claims_whole k a i y t =
       sym (books.calls_at d v u b c is_part idle a is_claiming refl) ∙ k a i (correct_at a ∙ y) (trigger_correct a y ∙ t)
 
-  ref_at : (i a : ℕ) → ref_of d c v (ToUnlock i) a ≡ ref_of d b v (ToUnlock i) a
+  ref_at : (i a : ℕ) → reference_height d c v (ToUnlock i) a ≡ reference_height d b v (ToUnlock i) a
   ref_at i a = books.same_ref d v u b c is_part idle (ToUnlock i) a
 
-  published_leaving : (a : ℕ) → IsIn a (leaving d.graph v) → is_some (published (history c a)) ≡ is_some (published (history b a))
+  published_leaving : (a : ℕ) → IsElement a (leaving d.graph v) → is_some (published (history c a)) ≡ is_some (published (history b a))
   published_leaving a i = ap (λ o. is_some o) (books.says_leaving d v u b c is_part idle a i).published
 
   pub told : IsWatchful d b v → IsWatchful d c v

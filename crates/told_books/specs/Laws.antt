@@ -8,7 +8,7 @@ use Rattle.ledger_core.specs.History.{height, settled, balance, is_sender, is_ti
 use Rattle.ledger_core.specs.Book.{Histories, history, IsLegalBook}
 use Rattle.swap_rules.specs.declared.finding.Rule.{Rule}
 use Rattle.swap_rules.specs.Conduct.{IsConducted}
-use Rattle.swap_rules.specs.Late.{ref_of, is_late}
+use Rattle.swap_rules.specs.Late.{reference_height, is_late}
 use Rattle.swap_rules.specs.Due.{Wallet, due}
 use Rattle.swap_rules.specs.Outcome.{outcome, is_claim, IsEnded}
 use Rattle.swap_rules.specs.Rest.{is_ticking, are_ticks, rest_deadline}
@@ -24,7 +24,8 @@ abbrev pub WhatIsSaidIsDue : Type 0
 WhatIsSaidIsDue =
     (d : Deal) (v : ℕ) (w : Wallet) (signed : ℕ → Option Hashkey) (k h : Histories) → SayTheSame v k h → due d v w signed k ≡ due d v w signed h
 
--- and so it is where of contracts with wrong terms, on arcs that enter v, other things are said, or nothing
+-- and so it is where of contracts with wrong terms, on arcs that enter v, other things are said, or
+-- nothing
 abbrev pub EnoughIsDue : Type 0
 EnoughIsDue =
     (d : Deal) (v : ℕ) (w : Wallet) (signed : ℕ → Option Hashkey) (k h : Histories) → SayEnough d v k h → due d v w signed k ≡ due d v w signed h
@@ -73,7 +74,7 @@ UselessIsTicks = (d : Deal) (v a : ℕ) (h : List Entry) → is_useless d v a h 
 -- What v did in book b, and its effect for v, is the same as in book c, which is what is told of b.
 pub record HoldsAsTold (d : Deal) (v : ℕ) (c b : Histories) : Type 0 where
   pub conduct : IsConducted d c v ↔ IsConducted d b v
-  pub refs : (rule : Rule) (a : ℕ) → ref_of d c v rule a ≡ ref_of d b v rule a
+  pub refs : (rule : Rule) (a : ℕ) → reference_height d c v rule a ≡ reference_height d b v rule a
   pub late : (rule : Rule) (a : ℕ) → is_late d c v rule a ≡ is_late d b v rule a
   pub watchful : IsWatchful d c v ↔ IsWatchful d b v
   pub unforged : IsUnforged d c v ↔ IsUnforged d b v
@@ -97,16 +98,17 @@ abbrev pub LegalIsChain : Type 0
 LegalIsChain = (d : Deal) (v a : ℕ) (h : List Entry) → IsLegal d a h → IsChain d v a h
 
 -- What v does and the clock keep within the limits of a ledger.
-pub record IsWithin (v : ℕ) (h : List Entry) : Type 0 where
+pub record KeepsLedgerLimits (v : ℕ) (h : List Entry) : Type 0 where
   pub calls : count_by (λ e. is_sender v e.sender) h ≤ 32
   pub ticks : count_by (λ e. is_tick e.sender) h ≤ 20000
   pub height : height h ≤ 1000000
   pub transfers : MakesNoTransfer v h
 
--- what is told of a chain without limits is legal, with the replies as they stood, whatever the noise
+-- what is told of a chain without limits is legal, with the replies as they stood, whatever the
+-- noise
 abbrev pub TellingIsLegal : Type 0
 TellingIsLegal =
-    (d : Deal) (v a : ℕ) (h : List Entry) → length d.leaders ≤ 8 → IsChain d v a h → IsWithin v h → IsLegal d a (telling v h)
+    (d : Deal) (v a : ℕ) (h : List Entry) → length d.leaders ≤ 8 → IsChain d v a h → KeepsLedgerLimits v h → IsLegal d a (telling v h)
 
 -- of another it tells few calls
 abbrev pub OthersAreFew : Type 0
@@ -123,7 +125,8 @@ BalancesAreTold =
 abbrev pub MergedIsLegal : Type 0
 MergedIsLegal = (d : Deal) (v a : ℕ) (h : List Entry) → IsLegal d a h → IsLegal d a (merged h) × SaysTheSame v (merged h) h
 
--- what is to be told of a ledger is short, however much others do: two entries for each of the contract's accepted calls and v's calls, and one
+-- what is to be told of a ledger is short, however much others do: two entries for each of the
+-- contract's accepted calls and v's calls, and one
 abbrev pub TellingIsShort : Type 0
 TellingIsShort =
     (d : Deal) (v a : ℕ) (h : List Entry) → IsChain d v a h
@@ -132,7 +135,7 @@ TellingIsShort =
 -- so each book of a chain without limits can be told: legal, in few entries, and saying the same
 abbrev pub BookCanBeTold : Type 0
 BookCanBeTold =
-    (d : Deal) (v : ℕ) (b : Histories) → length d.leaders ≤ 8 → IsChainBook d v b → ((a : ℕ) → IsWithin v (history b a))
+    (d : Deal) (v : ℕ) (b : Histories) → length d.leaders ≤ 8 → IsChainBook d v b → ((a : ℕ) → KeepsLedgerLimits v (history b a))
     → IsLegalBook d (map merged (tellings v b)) × SayTheSame v (map merged (tellings v b)) b
 
 -- What v needs of a history.
@@ -145,7 +148,7 @@ ChainIsNeeded = (d : Deal) (v : ℕ) (b : Histories) → IsChainBook d v b → I
 -- is useless to v may hold anything
 abbrev pub NeededIsLegal : Type 0
 NeededIsLegal =
-    (d : Deal) (v a : ℕ) (h : List Entry) → length d.leaders ≤ 8 → IsNeededChain d v a h → IsWithin v h → IsLegal d a (needed d v a h)
+    (d : Deal) (v a : ℕ) (h : List Entry) → length d.leaders ≤ 8 → IsNeededChain d v a h → KeepsLedgerLimits v h → IsLegal d a (needed d v a h)
 
 -- and short
 abbrev pub NeededIsShort : Type 0
@@ -156,5 +159,5 @@ NeededIsShort =
 -- so each such book can be told: legal, in few entries, and saying enough
 abbrev pub NeededCanBeTold : Type 0
 NeededCanBeTold =
-    (d : Deal) (v : ℕ) (b : Histories) → length d.leaders ≤ 8 → IsNeededBook d v b → ((a : ℕ) → IsWithin v (history b a))
+    (d : Deal) (v : ℕ) (b : Histories) → length d.leaders ≤ 8 → IsNeededBook d v b → ((a : ℕ) → KeepsLedgerLimits v (history b a))
     → IsLegalBook d (map merged (all_needed d v b)) × SayEnough d v (map merged (all_needed d v b)) b

@@ -1,8 +1,9 @@
--- What is told of a history to one party: everything but noise, which is the refused calls of others, and their transfers.
+-- What is told of a history to one party: everything but noise, which is the refused calls of
+-- others, and their transfers.
 use Rattle.std.specs.Prelude.{◌≡◌, ◌⊎◌, ℕ, suc, ◌+◌, ◌<◌, ◌≤◌, Bool, true, false, IsTrue, not, ◌&&◌, ◌||◌, List, [], ◌∷◌, count_by, drop, filter, length}
 use Rattle.std.specs.Prelude.{map, Option, Some, None, is_some, if◌then◌else◌}
 use Rattle.std.specs.List.{AllByRecursion}
-use Rattle.swap_base.specs.Lists.{IsIn, IsMoment, Moment, moments}
+use Rattle.swap_base.specs.Lists.{IsElement, IsMoment, Moment, moments}
 use Rattle.swap_digraph.specs.declared.deal.Deal.{Deal}
 use Rattle.swap_digraph.specs.Graph.{leaving, entering, is_listed}
 use Rattle.swap_digraph.specs.Deal.{touches}
@@ -22,7 +23,8 @@ use Rattle.swap_rules.specs.Party.{is_arc_correct, pick_call}
 use Rattle.swap_rules.specs.Due.{has_called}
 use Rattle.swap_rules.specs.Rest.{is_ticking}
 
--- an accepted call is one of the contract: a publish, an unlock, a claim or a refund, and no transfer
+-- an accepted call is one of the contract: a publish, an unlock, a claim or a refund, and no
+-- transfer
 abbrev pub is_of_contract : Option Call → Bool
 is_of_contract (Some (Publish t)) = true
 is_of_contract (Some (Unlock key)) = true
@@ -58,23 +60,26 @@ SayTheSame v k h = (a : ℕ) → SaysTheSame v (history k a) (history h a)
 -- Two lists of entries of an arc that doesn't leave v, with the same calls of v. Neither has an
 -- accepted publish of the correct terms.
 pub record AreUseless (d : Deal) (v a : ℕ) (k h : List Entry) : Type 0 where
-  pub enters : IsIn a (leaving d.graph v) → ⊥
+  pub enters : IsElement a (leaving d.graph v) → ⊥
   pub one : is_arc_correct d a (published k) ≡ false
   pub other : is_arc_correct d a (published h) ≡ false
   pub calls : (test : Option Call → Bool) → test None ≡ false → has_called v test k ≡ has_called v test h
 
--- two books say enough to v: of a contract on an arc that enters it whose terms are wrong nothing need be said
+-- two books say enough to v: of a contract on an arc that enters it whose terms are wrong nothing
+-- need be said
 abbrev pub SayEnough : Deal → ℕ → Histories → Histories → Type 0
 SayEnough d v k h = (a : ℕ) → SaysTheSame v (history k a) (history h a) ⊎ AreUseless d v a (history k a) (history h a)
 
 -- Arcs of which a party need be told the ticks alone.
 
--- arc a is useless to v: it enters v and doesn't leave it, no publish of the correct terms was accepted there, and v made no call there
+-- arc a is useless to v: it enters v and doesn't leave it, no publish of the correct terms was
+-- accepted there, and v made no call there
 abbrev pub is_useless : Deal → ℕ → ℕ → List Entry → Bool
 is_useless d v a h =
     is_listed a (entering d.graph v) && not (is_listed a (leaving d.graph v)) && not (is_arc_correct d a (published h)) && not (has_called v is_some h)
 
--- v needs an entry: of a useless arc each tick, and each call of v, of which there is none; of another arc each entry that is told
+-- v needs an entry: of a useless arc each tick, and each call of v, of which there is none; of
+-- another arc each entry that is told
 abbrev pub is_needed : (useless : Bool) → ℕ → Entry → Bool
 is_needed true v e = is_ticking e.what || is_sender v e.sender
 is_needed false v e = is_told v e

@@ -1,4 +1,5 @@
-//! What a party needs to be told of each ledger: all but noise, and of a useless arc the ticks alone.
+//! What a party needs to be told of each ledger: all but noise, and of a useless arc the ticks
+//! alone.
 //!
 //! Read `specs/Told.antt` first, then `specs/Laws.antt`.
 #![tactic(auto)]
@@ -8,7 +9,8 @@ ghost use Rattle.told_books.specs.Laws.{WhatIsSaidRests, TellingsSayTheSame, Tic
 ghost use Rattle.told_books.specs.Laws.{LegalIsChain, TellingIsLegal, OthersAreFew, BalancesAreTold, MergedIsLegal, TellingIsShort, BookCanBeTold};
 ghost use Rattle.told_books.specs.Laws.{ChainIsNeeded, NeededIsLegal, NeededIsShort, NeededCanBeTold};
 
-/// The same is due over books that say the same; a history says what is told of it, and ticks may be told as one.
+/// The same is due over books that say the same; a history says what is told of it, and ticks may
+/// be told as one.
 pub fn noise_is_nothing()
     ensures due { WhatIsSaidIsDue }
     ensures rests { WhatIsSaidRests }
@@ -16,7 +18,8 @@ pub fn noise_is_nothing()
     ensures ticks { TicksMayBeMerged }
 {}
 
-/// The same is due over books that say enough: an arc that enters the party, without a publish of the correct terms, may be told as its ticks alone.
+/// The same is due over books that say enough: an arc that enters the party, without a publish of
+/// the correct terms, may be told as its ticks alone.
 pub fn enough_is_told()
     ensures due { EnoughIsDue }
     ensures useful { EnoughIsUseful }
@@ -27,7 +30,8 @@ pub fn enough_is_told()
     ensures useless { UselessIsTicks }
 {}
 
-/// A party's conduct, lateness, forgeries and outcome are the same in a book and in what is told of it, or in what it needs of it.
+/// A party's conduct, lateness, forgeries and outcome are the same in a book and in what is told of
+/// it, or in what it needs of it.
 pub fn book_is_told()
     ensures told { AllHoldsAsTold }
     ensures outcomes { AllOutcomesAreTold }
@@ -46,7 +50,8 @@ pub fn telling_is_legal()
     ensures book { BookCanBeTold }
 {}
 
-/// What a party needs of a history is legal and short, whatever stands in the contract of a useless arc.
+/// What a party needs of a history is legal and short, whatever stands in the contract of a useless
+/// arc.
 pub fn needed_is_legal()
     ensures chain { ChainIsNeeded }
     ensures legal { NeededIsLegal }

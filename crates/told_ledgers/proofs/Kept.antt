@@ -12,7 +12,7 @@ use Rattle.told_ledgers.specs.declared.one_ledger.Heard.{Heard}
 use Rattle.told_ledgers.specs.declared.one_ledger.Heard.TheVariants.{More, Bad}
 use Rattle.told_ledgers.specs.SoFar.{LedgerSoFar}
 use Rattle.told_ledgers.specs.Ledger.{is_first_publish, is_passed, line_heard, line_read, own_unlock, publishes, replied, stated_entry, with_stated}
-use Rattle.told_ledgers.specs.Inside.{IsHeardOf, IsOf}
+use Rattle.told_ledgers.specs.Inside.{IsHeardLedgerForParty, IsLedgerForParty}
 
 -- the same ledger, read for the same party
 pub record IsSame (s t : LedgerSoFar) : Type 0 where
@@ -48,7 +48,7 @@ module _ (n : ℕ) (s : LedgerSoFar) where
   pub heard_same : (kind : Kind) (line : List ℕ) → HeardSame s (line_heard n s kind line)
   heard_same kind line = passed_same (is_passed s.is_closed kind) kind (stated_entry s line)
 
-still_of : (d : Deal) (v : ℕ) (s : LedgerSoFar) (h : Heard) → IsOf d v s → HeardSame s h → IsHeardOf d v h
+still_of : (d : Deal) (v : ℕ) (s : LedgerSoFar) (h : Heard) → IsLedgerForParty d v s → HeardSame s h → IsHeardLedgerForParty d v h
 still_of d v s (More t) k same = record {
   deal = same.deal ∙ k.deal;
   me = same.me ∙ k.me;
@@ -57,7 +57,7 @@ still_of d v s (More t) k same = record {
 still_of d v s (Bad t) k same = tt
 
 -- so the ledger at hand stays one of the deal's, read for v
-pub heard_of : (d : Deal) (v n : ℕ) (s : LedgerSoFar) (kind : Kind) (line : List ℕ) → IsOf d v s → IsHeardOf d v (line_heard n s kind line)
+pub heard_of : (d : Deal) (v n : ℕ) (s : LedgerSoFar) (kind : Kind) (line : List ℕ) → IsLedgerForParty d v s → IsHeardLedgerForParty d v (line_heard n s kind line)
 heard_of d v n s kind line k = still_of d v s (line_heard n s kind line) k (heard_same n s kind line)
 
 -- an entry that was replayed as it is stated

@@ -16,8 +16,8 @@ use Rattle.ledger_core.specs.Book.{history, IsLegalBook}
 use Rattle.ledger_core.specs.WellFormed.{IsFormedEntry, written_height}
 use Rattle.refusals.specs.declared.reason.Reason.{Reason}
 use Rattle.transcript_lines.specs.declared.said.Misspelling.{Misspelling}
-use Rattle.transcript_lines.specs.Between.{parts_at}
-use Rattle.transcript_book.specs.Entries.{parse_entry, entry_of}
+use Rattle.transcript_lines.specs.Between.{separated_parts}
+use Rattle.transcript_book.specs.Entries.{parse_entry, parse_next_entry}
 use Rattle.transcript_book.proofs.Placed.{entry_is}
 use Rattle.told_ledgers.specs.declared.told.ToldLedger.{ToldLedger}
 use Rattle.told_ledgers.specs.declared.heading.Heading.{Heading}
@@ -27,28 +27,28 @@ use Rattle.told_ledgers.specs.declared.stage.Stage.{Stage}
 use Rattle.told_ledgers.specs.declared.stage.Stage.TheVariants.{Between, Over, Passing, Reading}
 use Rattle.told_ledgers.specs.SoFar.{LedgerSoFar}
 use Rattle.told_ledgers.specs.Words.{line_kind}
-use Rattle.told_ledgers.specs.Ledger.{line_heard, nothing_read, read_whole, untold}
-use Rattle.told_ledgers.specs.Telling.{Telling, begun, frame_told, gone_on, heading_said, line_at, line_told, next_number, numbered, one_less, passing, reading}
-use Rattle.told_ledgers.specs.Telling.{told_book, told_from}
+use Rattle.told_ledgers.specs.Ledger.{line_heard, nothing_read, whole_told_ledger, untold}
+use Rattle.told_ledgers.specs.Telling.{Telling, begun, frame_told, with_heard, heading_said, line_told_at_stage, line_told, next_number, numbered, one_less, passing, reading}
+use Rattle.told_ledgers.specs.Telling.{told_book, further_lines_told}
 use Rattle.told_ledgers.specs.Inside.{AreLegal}
 
 -- ---- the lines, one after another
 
 module _ (n : ℕ) (s : Telling) (line : List ℕ) (ls rest : List (List ℕ)) (total : Result (List ToldLedger) Reason) (is : ls ≡ line ∷ rest)
-    (so_far : told_from n s ls ≡ total) where
-  pub told_more : (t : Telling) → numbered n (line_told s line) ≡ Ok t → told_from (next_number n) t rest ≡ total
+    (so_far : further_lines_told n s ls ≡ total) where
+  pub told_more : (t : Telling) → numbered n (line_told s line) ≡ Ok t → further_lines_told (next_number n) t rest ≡ total
   told_more t e =
-      sym (ap (told_from n s) is ∙ ap (λ (r : Result Telling Reason). r >>= λ u. told_from (next_number n) u rest) e) ∙ so_far
+      sym (ap (further_lines_told n s) is ∙ ap (λ (r : Result Telling Reason). r >>= λ u. further_lines_told (next_number n) u rest) e) ∙ so_far
 
   pub told_fault : (fault : Fault Reason) → Fails fault (numbered n (line_told s line)) → Fails fault total
   told_fault NoMemory f = tt
   told_fault (Refused reason) f =
-      sym so_far ∙ ap (told_from n s) is ∙ ap (λ (r : Result Telling Reason). r >>= λ u. told_from (next_number n) u rest) f
+      sym so_far ∙ ap (further_lines_told n s) is ∙ ap (λ (r : Result Telling Reason). r >>= λ u. further_lines_told (next_number n) u rest) f
 
 -- the line between two ledgers says the same whatever stage one is at
 pub between_told : (s : Telling) (g : Stage) (line : List ℕ) → s.stage ≡ Between → frame_told (record s { stage = g }) line ≡ line_told s line
 unfolding frame_told
-between_told s g line e = sym (ap (λ (x : Stage). line_at x s line) e)
+between_told s g line e = sym (ap (λ (x : Stage). line_told_at_stage x s line) e)
 
 -- what is given of one reading is given of another that is the same
 pub given_there : (f : Unit {0} → Telling) (r : Result (Unit {0}) (Fault Misspelling)) (p q : Result Telling Misspelling) → p ≡ q → Gives f r p → Gives f r q
@@ -63,11 +63,11 @@ KeepsDeal s (Err e) = Unit {0}
 reading_deal : (l : LedgerSoFar) (s : Telling) → (reading l s).deal ≡ s.deal
 reading_deal l s = by (s.more == 0)
   where
-    by : (t : Bool) → (cond t (record s { ledgers = slice_set s.ledgers l.arc (read_whole l); stage = Between }) (record s { stage = Reading l })).deal ≡ s.deal
+    by : (t : Bool) → (cond t (record s { ledgers = slice_set s.ledgers l.arc (whole_told_ledger l); stage = Between }) (record s { stage = Reading l })).deal ≡ s.deal
     by true = refl
     by false = refl
 
-gone_deal : (a : ℕ) (h : Heard) (s : Telling) → (gone_on a h s).deal ≡ s.deal
+gone_deal : (a : ℕ) (h : Heard) (s : Telling) → (with_heard a h s).deal ≡ s.deal
 gone_deal a (More l) s = reading_deal l s
 gone_deal a (Bad t) s = refl
 
@@ -90,11 +90,11 @@ frame_deal s line = by (bytes_eq line (codes "end")) (heading_said s.least (leng
     by false (Ok h) = begun_deal h s
     by false (Err e) = tt
 
-line_deal : (g : Stage) (s : Telling) (line : List ℕ) → KeepsDeal s (line_at g s line)
+line_deal : (g : Stage) (s : Telling) (line : List ℕ) → KeepsDeal s (line_told_at_stage g s line)
 line_deal Between s line = frame_deal s line
 line_deal Passing s line = refl
 line_deal (Reading l) s line =
-    gone_deal l.arc (line_heard (s.count - s.more) l (line_kind s.me (parts_at 32 line)) line) (one_less s)
+    gone_deal l.arc (line_heard (s.count - s.more) l (line_kind s.me (separated_parts 32 line)) line) (one_less s)
 line_deal Over s line = tt
 
 pub deal_stays : (n : ℕ) (s t : Telling) (line : List ℕ) → numbered n (line_told s line) ≡ Ok t → t.deal ≡ s.deal
@@ -109,7 +109,7 @@ deal_stays n s t line e = by (line_told s line) (line_deal s.stage s line) e
 module _ (d : Deal) (a : ℕ) (past : List Entry) (line : List ℕ) (r : Result Entry (Fault Misspelling)) where
   -- a height that a ledger can have is written as it is
   pub stated_there : (h : List Entry) (n : ℕ) → h ≡ past → n ≡ height h → n ≤ 1000000 → Gives (λ e. e) r (parse_entry d a n line)
-      → Gives (λ e. e) r (entry_of d a past line)
+      → Gives (λ e. e) r (parse_next_entry d a past line)
   stated_there h n same is low g =
       let at : n ≡ written_height n = omega arith in
       let there : n ≡ written_height (height past) = at ∙ ap written_height (is ∙ ap height same) in
@@ -117,7 +117,7 @@ module _ (d : Deal) (a : ℕ) (past : List Entry) (line : List ℕ) (r : Result 
 
 -- what is stated of a ledger is an entry that goes on it
 pub formed_of : (d : Deal) (a : ℕ) (past : List Entry) (line : List ℕ) (r : Result Entry (Fault Misspelling))
-    → Gives (λ e. e) r (entry_of d a past line) → IfOk r (λ e. IsFormedEntry d a past e)
+    → Gives (λ e. e) r (parse_next_entry d a past line) → IfOk r (λ e. IsFormedEntry d a past e)
 formed_of d a past line (Ok e) g = (entry_is d a past line e g).formed
 formed_of d a past line (Err f) g = tt
 

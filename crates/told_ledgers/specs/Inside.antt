@@ -50,19 +50,19 @@ telling r = record {
 }
 
 -- the ledger at hand is one of the deal's, and is read for the party
-pub record IsOf (d : Deal) (v : ℕ) (l : LedgerSoFar) : Type 0 where
+pub record IsLedgerForParty (d : Deal) (v : ℕ) (l : LedgerSoFar) : Type 0 where
   pub deal : l.deal ≡ d
   pub me : l.me ≡ v
   pub arc : l.arc < length d.graph.arcs
 
 -- and so it is behind a line of it
-abbrev pub IsHeardOf : Deal → ℕ → Heard → Type 0
-IsHeardOf d v (More l) = IsOf d v l
-IsHeardOf d v (Bad t) = Unit {0}
+abbrev pub IsHeardLedgerForParty : Deal → ℕ → Heard → Type 0
+IsHeardLedgerForParty d v (More l) = IsLedgerForParty d v l
+IsHeardLedgerForParty d v (Bad t) = Unit {0}
 
-abbrev pub IsStageOf : Deal → ℕ → Stage → Type 0
-IsStageOf d v (Reading l) = IsOf d v l
-IsStageOf d v _ = Unit {0}
+abbrev pub IsStageForParty : Deal → ℕ → Stage → Type 0
+IsStageForParty d v (Reading l) = IsLedgerForParty d v l
+IsStageForParty d v _ = Unit {0}
 
 -- what is told of each arc is legal
 abbrev pub AreLegal : Deal → List ToldLedger → Type 0
@@ -75,4 +75,4 @@ pub record IsTelling (r : reader.Inside) : Type 0 where
   pub found : r.found ≡ r.deal
   pub one_each : length r.ledgers.items ≡ length r.deal.graph.arcs
   pub legal : AreLegal r.deal r.ledgers.items
-  pub stage : IsStageOf r.deal r.me r.stage
+  pub stage : IsStageForParty r.deal r.me r.stage

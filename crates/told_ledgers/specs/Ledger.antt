@@ -15,7 +15,7 @@ use Rattle.swap_rules.specs.Party.{pick_call}
 use Rattle.swap_auditor.specs.declared.replay.BadReply.{BadReply}
 use Rattle.swap_auditor.specs.Audit.{with_entry}
 use Rattle.transcript_lines.specs.declared.said.Misspelling.{Misspelling}
-use Rattle.transcript_book.specs.Entries.{entry_of}
+use Rattle.transcript_book.specs.Entries.{parse_next_entry}
 use Rattle.told_ledgers.specs.declared.kind.Kind.{Kind}
 use Rattle.told_ledgers.specs.declared.kind.Kind.TheVariants.{Read, Noise, Publish as PublishLine, Accepted}
 use Rattle.told_ledgers.specs.declared.told.Replies.{Replies}
@@ -58,7 +58,7 @@ publishes s (Err w) = false
 
 -- the entry that a line states
 abbrev pub stated_entry : LedgerSoFar → List ℕ → Result Entry Misspelling
-stated_entry s line = entry_of s.deal s.arc s.past line
+stated_entry s line = parse_next_entry s.deal s.arc s.past line
 
 -- the party's unlock, if the call is one, with the number of its line
 abbrev pub own_unlock : ℕ → Option Call → List OwnUnlock
@@ -97,5 +97,5 @@ abbrev pub nothing_read : Deal → (v a : ℕ) → LedgerSoFar
 nothing_read d v a = record { deal = d; me = v; arc = a; past = []; unlocks = []; is_closed = false }
 
 -- all that its lines tell, where none was bad
-abbrev pub read_whole : LedgerSoFar → ToldLedger
-read_whole s = record { history = s.past; bad = None; unlocks = s.unlocks }
+abbrev pub whole_told_ledger : LedgerSoFar → ToldLedger
+whole_told_ledger s = record { history = s.past; bad = None; unlocks = s.unlocks }

@@ -10,8 +10,8 @@ use Rattle.ledger_core.specs.Book.{Histories}
 use Rattle.refusals.specs.declared.reason.Reason.{Reason}
 use Rattle.refusals.specs.declared.reason.Reason.TheVariants.{BadLine, CutShort}
 use Rattle.transcript_lines.specs.declared.said.Misspelling.{Misspelling}
-use Rattle.transcript_lines.specs.Between.{parts_at}
-use Rattle.transcript_lines.specs.Reading.{field_of, misspelt, nothing_more, bounded_number, number_of}
+use Rattle.transcript_lines.specs.Between.{separated_parts}
+use Rattle.transcript_lines.specs.Reading.{parse_first_field, misspelt, nothing_more, bounded_number, decimal_number}
 use Rattle.transcript_book.specs.Counts.{ledger_word}
 use Rattle.told_ledgers.specs.declared.told.ToldLedger.{ToldLedger}
 use Rattle.told_ledgers.specs.declared.one_ledger.Heard.{Heard}
@@ -21,25 +21,25 @@ use Rattle.told_ledgers.specs.declared.stage.Stage.TheVariants.{Between, Passing
 use Rattle.told_ledgers.specs.declared.heading.Heading.{Heading}
 use Rattle.told_ledgers.specs.SoFar.{LedgerSoFar}
 use Rattle.told_ledgers.specs.Words.{line_kind}
-use Rattle.told_ledgers.specs.Ledger.{line_heard, nothing_read, read_whole, untold}
+use Rattle.told_ledgers.specs.Ledger.{line_heard, nothing_read, whole_told_ledger, untold}
 
 -- ---- the line before those of a ledger
 
 -- the number of an arc, from least on, of so many arcs
 abbrev pub arc_said : (least arcs : ℕ) → List ℕ → Result ℕ Misspelling
-arc_said least arcs w = number_of w >>= λ a. if nat_le least a && nat_lt a arcs then Ok a else misspelt
+arc_said least arcs w = decimal_number w >>= λ a. if nat_le least a && nat_lt a arcs then Ok a else misspelt
 
 unfoldable pub heading_words : (least arcs : ℕ) → List (List ℕ) → Result Heading Misspelling
 heading_words least arcs ws = do
-  word ← field_of ledger_word ws
-  arc ← field_of (arc_said least arcs) word.1
-  count ← field_of (bounded_number (2 ^ 32)) arc.1
+  word ← parse_first_field ledger_word ws
+  arc ← parse_first_field (arc_said least arcs) word.1
+  count ← parse_first_field (bounded_number (2 ^ 32)) arc.1
   u ← nothing_more count.1
   Ok (record { arc = arc.0; count = count.0 })
 
 -- the arc and the number of lines that a line before those of a ledger tells
 unfoldable pub heading_said : (least arcs : ℕ) → List ℕ → Result Heading Misspelling
-heading_said least arcs line = heading_words least arcs (parts_at 32 line)
+heading_said least arcs line = heading_words least arcs (separated_parts 32 line)
 
 -- ---- which line stands next
 
@@ -72,7 +72,7 @@ nothing_told d v = record {
 -- further lines of the ledger are read, if any is to come
 abbrev pub reading : LedgerSoFar → Telling → Telling
 reading l s =
-    if s.more == 0 then record s { ledgers = slice_set s.ledgers l.arc (read_whole l); stage = Between }
+    if s.more == 0 then record s { ledgers = slice_set s.ledgers l.arc (whole_told_ledger l); stage = Between }
     else record s { stage = Reading l }
 
 -- further lines of the ledger are passed over, if any is to come
@@ -84,16 +84,16 @@ abbrev pub one_less : Telling → Telling
 one_less s = record s { more = s.more - 1 }
 
 -- the ledger that touches the party is read, and any other passed over
-abbrev pub begun_at : ℕ → Telling → Telling
-begun_at a s = if touches s.deal s.me a then reading (nothing_read s.deal s.me a) s else passing s
+abbrev pub begun_ledger : ℕ → Telling → Telling
+begun_ledger a s = if touches s.deal s.me a then reading (nothing_read s.deal s.me a) s else passing s
 
 abbrev pub begun : Heading → Telling → Telling
-begun h s = begun_at h.arc (record s { least = h.arc + 1; count = h.count; more = h.count })
+begun h s = begun_ledger h.arc (record s { least = h.arc + 1; count = h.count; more = h.count })
 
 -- what stands behind a bad entry is passed over
-abbrev pub gone_on : ℕ → Heard → Telling → Telling
-gone_on a (More l) s = reading l s
-gone_on a (Bad t) s = passing (record s { ledgers = slice_set s.ledgers a t })
+abbrev pub with_heard : ℕ → Heard → Telling → Telling
+with_heard a (More l) s = reading l s
+with_heard a (Bad t) s = passing (record s { ledgers = slice_set s.ledgers a t })
 
 -- the line between two ledgers, or the last line
 unfoldable pub frame_told : Telling → List ℕ → Result Telling Misspelling
@@ -103,17 +103,17 @@ frame_told s line =
 
 -- a line of the ledger
 abbrev pub ledger_told : LedgerSoFar → Telling → List ℕ → Telling
-ledger_told l s line = gone_on l.arc (line_heard (s.count - s.more) l (line_kind s.me (parts_at 32 line)) line) (one_less s)
+ledger_told l s line = with_heard l.arc (line_heard (s.count - s.more) l (line_kind s.me (separated_parts 32 line)) line) (one_less s)
 
-abbrev pub line_at : Stage → Telling → List ℕ → Result Telling Misspelling
-line_at Between s line = frame_told s line
-line_at Passing s line = Ok (passing (one_less s))
-line_at (Reading l) s line = Ok (ledger_told l s line)
-line_at Over s line = misspelt
+abbrev pub line_told_at_stage : Stage → Telling → List ℕ → Result Telling Misspelling
+line_told_at_stage Between s line = frame_told s line
+line_told_at_stage Passing s line = Ok (passing (one_less s))
+line_told_at_stage (Reading l) s line = Ok (ledger_told l s line)
+line_told_at_stage Over s line = misspelt
 
 -- what the next line makes of what was read; behind the last line each line is bad
 abbrev pub line_told : Telling → List ℕ → Result Telling Misspelling
-line_told s line = line_at s.stage s line
+line_told s line = line_told_at_stage s.stage s line
 
 -- ---- all lines
 
@@ -131,13 +131,13 @@ all_told Over ledgers = Ok ledgers
 all_told _ ledgers = Err CutShort
 
 -- what further lines tell, the first of which has that number
-abbrev pub told_from : ℕ → Telling → List (List ℕ) → Result (List ToldLedger) Reason
-told_from n s [] = all_told s.stage s.ledgers
-told_from n s (l ∷ ls) = numbered n (line_told s l) >>= λ t. told_from (next_number n) t ls
+abbrev pub further_lines_told : ℕ → Telling → List (List ℕ) → Result (List ToldLedger) Reason
+further_lines_told n s [] = all_told s.stage s.ledgers
+further_lines_told n s (l ∷ ls) = numbered n (line_told s l) >>= λ t. further_lines_told (next_number n) t ls
 
 -- what is told to v of each arc's ledger by lines, the first of which has that number
 unfoldable pub ledgers_told : Deal → (v first : ℕ) → List (List ℕ) → Result (List ToldLedger) Reason
-ledgers_told d v first ls = told_from first (nothing_told d v) ls
+ledgers_told d v first ls = further_lines_told first (nothing_told d v) ls
 
 -- the book that is told
 abbrev pub told_book : List ToldLedger → Histories

@@ -2,13 +2,13 @@
 
 ghost use Rattle.std.specs.Prelude.{◌<◌, ◌≤◌, IfOk};
 ghost use Rattle.swap_base.specs.Fault.{Gives};
-ghost use Rattle.transcript_lines.specs.Reading.{field_of};
+ghost use Rattle.transcript_lines.specs.Reading.{parse_first_field};
 ghost use Rattle.transcript_book.specs.Taking.{Takes};
 ghost use Rattle.told_ledgers.specs.Telling.{arc_said, heading_said, heading_words};
 
 use swap_base::ArcId;
 use transcript_book::{
-    Parts, WordFault, ledger_field, misspelt, nothing_more, number_of, small_field, word,
+    Parts, WordFault, decimal_number, ledger_field, misspelt, nothing_more, small_field, word,
 };
 
 /// What the line before those of a ledger tells.
@@ -24,7 +24,7 @@ fn arc_said(least: u64, arcs: u64, word: &[u8]) -> Result<ArcId, WordFault>
     ensures exact { Gives (λ a. a) result (arc_said least arcs word.now) }
     ensures below { IfOk result (λ a. a < arcs) }
 {
-    let arc = number_of(word)?;
+    let arc = decimal_number(word)?;
     if least <= arc && arc < arcs {
         Ok(arc as ArcId)
     } else {
@@ -32,10 +32,10 @@ fn arc_said(least: u64, arcs: u64, word: &[u8]) -> Result<ArcId, WordFault>
     }
 }
 
-#[tactic(auto, unfolding(transcript_lines::specs::Reading::field_of))]
+#[tactic(auto, unfolding(transcript_lines::specs::Reading::parse_first_field))]
 fn arc_field(least: u64, arcs: u64, fields: &mut Parts<'_>) -> Result<ArcId, WordFault>
     requires { arcs ≤ 128 }
-    ensures exact { Takes (λ a. a) result fields.new (field_of (arc_said least arcs) fields.old) }
+    ensures exact { Takes (λ a. a) result fields.new (parse_first_field (arc_said least arcs) fields.old) }
     ensures below { IfOk result (λ a. a < arcs) }
 {
     arc_said(least, arcs, word(fields)?)

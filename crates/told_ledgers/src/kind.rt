@@ -1,7 +1,7 @@
 //! What a line of a ledger is, by its words alone.
 
 ghost use Rattle.std.specs.Prelude.{◌≡◌, [], ℕ, decimal, drop, slice_index_or};
-ghost use Rattle.transcript_lines.specs.Between.{parts_at};
+ghost use Rattle.transcript_lines.specs.Between.{separated_parts};
 ghost use Rattle.told_ledgers.specs.Words.{ends_accepted, foreign_kind, is_foreign, line_kind, nth_word};
 
 use transcript_book::Parts;
@@ -32,7 +32,7 @@ fn next_word<'a>(words: &mut Parts<'a>) -> &'a [u8]
 
 /// Whether the last two words say that a call was accepted.
 fn ends_accepted(line: &[u8]) -> bool
-    ensures { result ≡ ends_accepted (parts_at 32 line.now) }
+    ensures { result ≡ ends_accepted (separated_parts 32 line.now) }
 {
     let mut words = Parts::new(b' ', line);
     let mut is_sign = false;
@@ -46,8 +46,8 @@ fn ends_accepted(line: &[u8]) -> bool
 
 /// What a call of somebody else is, whose third word is given.
 fn foreign_kind(call: &[u8], line: &[u8]) -> Kind
-    requires { call.now ≡ nth_word 2 (parts_at 32 line.now) }
-    ensures { result ≡ foreign_kind (parts_at 32 line.now) }
+    requires { call.now ≡ nth_word 2 (separated_parts 32 line.now) }
+    ensures { result ≡ foreign_kind (separated_parts 32 line.now) }
 {
     if !ends_accepted(line) || call == b"transfer".as_slice() {
         Kind::Noise
@@ -61,7 +61,7 @@ fn foreign_kind(call: &[u8], line: &[u8]) -> Kind
 /// What the line is to the party whose number is `own`, in decimal.
 #[tactic(auto, using(crate::proofs::Words::nth_next))]
 pub(crate) fn line_kind(own: &[u8], line: &[u8]) -> Kind
-    ensures { (v : ℕ) → own.now ≡ decimal v → result ≡ line_kind v (parts_at 32 line.now) }
+    ensures { (v : ℕ) → own.now ≡ decimal v → result ≡ line_kind v (separated_parts 32 line.now) }
 {
     let mut words = Parts::new(b' ', line);
     let first = next_word(&mut words);

@@ -7,7 +7,7 @@ ghost use Rattle.ledger_core.specs.History.{IsLegal};
 ghost use Rattle.ledger_core.specs.WellFormed.{IsFormedEntry};
 ghost use Rattle.swap_rules.specs.Party.{pick_call};
 ghost use Rattle.told_ledgers.specs.Inside.{IsLegalHeard};
-ghost use Rattle.told_ledgers.specs.Ledger.{is_correct_publish, is_first_publish, is_passed, line_heard, line_read, nothing_read, own_unlock, publishes_terms, read_whole};
+ghost use Rattle.told_ledgers.specs.Ledger.{is_correct_publish, is_first_publish, is_passed, line_heard, line_read, nothing_read, own_unlock, publishes_terms, whole_told_ledger};
 ghost use Rattle.told_ledgers.specs.Ledger.{stated_entry, with_stated};
 
 use crate::kind::Kind;
@@ -157,7 +157,7 @@ impl OneLedger {
 
     /// All that was told, where no line was bad.
     pub(crate) fn into_told(self) -> ToldLedger
-        ensures exact { result ≡ read_whole self }
+        ensures exact { result ≡ whole_told_ledger self }
         ensures legal { IsLegal self.deal self.arc result.history }
     {
         ToldLedger {

@@ -5,9 +5,9 @@ ghost use Rattle.swap_base.specs.Fault.{Gives};
 ghost use Rattle.swap_digraph.specs.Deal.{IsWellSized};
 ghost use Rattle.ledger_core.specs.Book.{IsLegalBook};
 ghost use Rattle.ledger_core.specs.History.{IsLegal};
-ghost use Rattle.told_ledgers.specs.Inside.{IsHeardOf, IsLegalHeard, IsOf};
+ghost use Rattle.told_ledgers.specs.Inside.{IsHeardLedgerForParty, IsLegalHeard, IsLedgerForParty};
 ghost use Rattle.told_ledgers.specs.Ledger.{untold};
-ghost use Rattle.told_ledgers.specs.Telling.{all_told, begun, begun_at, frame_told, gone_on, ledger_told, line_told, nothing_told, one_less, passing, reading, told_book};
+ghost use Rattle.told_ledgers.specs.Telling.{all_told, begun, begun_ledger, frame_told, with_heard, ledger_told, line_told, nothing_told, one_less, passing, reading, told_book};
 
 use crate::heading::{Heading, heading_said};
 use crate::kind::line_kind;
@@ -111,8 +111,8 @@ impl LedgersReader {
     }
 
     /// Goes on with further lines of a ledger, if any is to come.
-    fn read_more(&mut self, one: OneLedger)
-        requires { IsOf self.old.deal self.old.me one }
+    fn continue_ledger(&mut self, one: OneLedger)
+        requires { IsLedgerForParty self.old.deal self.old.me one }
         ensures { self.new ≡ reading one self.old }
     {
         if self.more == 0 {
@@ -146,7 +146,7 @@ impl LedgersReader {
         self.more = heading.count;
         if is_adjacent(&self.deal, heading.arc, self.me) {
             let one = OneLedger::new(self.alloc, &self.deal, self.me, heading.arc)?;
-            self.read_more(one);
+            self.continue_ledger(one);
         } else {
             self.pass_more();
         }
@@ -169,14 +169,14 @@ impl LedgersReader {
     }
 
     /// Goes on by what a line of a ledger made of it.
-    fn go_on(&mut self, arc: ArcId, heard: Heard)
+    fn apply_heard(&mut self, arc: ArcId, heard: Heard)
         requires arc { arc < length self.old.deal.graph.arcs }
-        requires of { IsHeardOf self.old.deal self.old.me heard }
+        requires of { IsHeardLedgerForParty self.old.deal self.old.me heard }
         requires legal { IsLegalHeard self.old.deal arc heard }
-        ensures { self.new ≡ gone_on arc heard self.old }
+        ensures { self.new ≡ with_heard arc heard self.old }
     {
         match heard {
-            Heard::More(one) => self.read_more(one),
+            Heard::More(one) => self.continue_ledger(one),
             Heard::Bad(told) => {
                 self.keep(arc, told);
                 self.pass_more();
@@ -186,7 +186,7 @@ impl LedgersReader {
 
     /// Reads a line of a ledger.
     fn read_entry(&mut self, one: OneLedger, line: &[u8]) -> Result<(), NoMemory>
-        requires { IsOf self.old.deal self.old.me one }
+        requires { IsLedgerForParty self.old.deal self.old.me one }
         ensures { OnOk result (self.new ≡ ledger_told one self.old line.now) }
     {
         let arc = one.arc();
@@ -194,7 +194,7 @@ impl LedgersReader {
         let number = self.count.saturating_sub(self.more);
         let heard = one.into_heard(self.alloc, &mut self.found, kind, number, line)?;
         self.more = self.more.saturating_sub(1);
-        self.go_on(arc, heard);
+        self.apply_heard(arc, heard);
         Ok(())
     }
 

@@ -3,7 +3,7 @@ use Rattle.std.proofs.Common.{◌≡◌, ℕ, ◌+◌, ◌<◌, ◌≤◌, nat_l
 use Rattle.std.proofs.Common.{refl, sym, ap, ap₂, ◌∙◌, subst, inl, inr}
 use Rattle.std.proofs.lemmas.Bool.{false≢true}
 use Rattle.std.proofs.lemmas.List.Elements.{filter-append}
-use Rattle.swap_base.specs.Lists.{IsIn, IsMoment}
+use Rattle.swap_base.specs.Lists.{IsElement, IsMoment}
 use Rattle.swap_base.proofs.Lists.{in_map, and_parts, and_both, from_filter, moment_from_in}
 use Rattle.time_bounds.specs.Times as times
 use Rattle.swap_digraph.specs.declared.deal.Deal.{Deal}
@@ -33,7 +33,7 @@ use Rattle.swap_rules.proofs.Prefixes.{begins_refl, list_any-none}
 use Rattle.swap_rules.proofs.Words.{and_three, leaves}
 use Rattle.told_books.specs.Told.{telling, tellings, is_useless, is_needed, parts, needs, all_needed, SaysTheSame, SayEnough, IsChain, IsNeededBook}
 use Rattle.told_books.specs.Told.{is_transfer, MakesNoTransfer}
-use Rattle.told_books.specs.Laws.{IsWithin, HoldsAsTold}
+use Rattle.told_books.specs.Laws.{KeepsLedgerLimits, HoldsAsTold}
 use Rattle.told_books.proofs.Filters.{any-same}
 use Rattle.told_books.proofs.Telling.{history_is}
 use Rattle.told_books.proofs.Needed.{part_is, all_told, useless, same_called, same_height, says_enough, needed_says_enough}
@@ -43,12 +43,12 @@ use Rattle.told_books.proofs.Holding.{needed_holds_as_told}
 use Rattle.told_books.proofs.Merged.{says_refl}
 use Rattle.told_books.proofs.Ticks.{needed_legal}
 use Rattle.told_books.proofs.Funds.{balances_are_told}
-use Rattle.wallet_promise.specs.Life.{Asking, nothing_kept, answer_for, MayGo, MayKeep, IsKeptAfter, IsJournal, IsLife, HasRested, HasSeenTo, HasFinished}
+use Rattle.wallet_promise.specs.Life.{Asking, nothing_kept, action_answer, MayGo, MayKeep, IsKeepingStep, IsJournal, IsLife, HasRested, HasActedOnTime, HasFinished}
 use Rattle.wallet_promise.specs.Life.{IsMindful}
-use Rattle.wallet_promise.specs.Answers.{answers_for}
+use Rattle.wallet_promise.specs.Answers.{action_answers}
 use Rattle.wallet_promise.proofs.Living.{life_conducts, life_is_safe, attentive_is_safe}
 use Rattle.wallet_promise.proofs.Walking.{watchful_life_is_safe, mindful_is_safe}
-use Rattle.told_lives.specs.ToldLife.{Hearing, whole, as_needed, IsHeardFor, IsToldLife, CameToRest, IsToldAttentive, HadSeenTo, HadFinished, IsToldMindful}
+use Rattle.told_lives.specs.ToldLife.{Hearing, whole, as_needed, IsToldAnswered, IsToldLife, CameToRest, IsToldAttentive, HadActedOnTime, HadFinished, IsToldMindful}
 use Rattle.told_lives.specs.Laws.{AnswersAreTold, BeginningsAreHeard, ToldLifeIsLife, ToldLifeIsToldLife, ToldLifeIsNeededLife, NothingIsGiven}
 use Rattle.told_lives.specs.Laws.{NothingIsCalledThere, IsWithinLimits, ToldIsLegal, ToldLifeConducts, ToldLifeIsSafe, ToldAttentiveIsSafe}
 use Rattle.told_lives.specs.Laws.{ToldWatchfulIsSafe, ToldMindfulIsSafe}
@@ -59,7 +59,7 @@ pub answers_are_told : AnswersAreTold
 answers_are_told d v w q r sent s k =
     let same : useful d v w q.kept q.known ≡ useful d v w r.kept r.known =
     enough.same_useful d v q.known r.known s w q.kept ∙ ap (λ f. useful d v w f r.known) k in
-    (ap₂ (λ f x. answer_for f (first x)) k same, ap₂ (λ f x. answers_for f sent x) k same)
+    (ap₂ (λ f x. action_answer f (first x)) k same, ap₂ (λ f x. action_answers f sent x) k same)
 
 pub beginnings_are_heard : BeginningsAreHeard
 beginnings_are_heard d v k b kept begins = (
@@ -76,22 +76,22 @@ module _ (d : Deal) (v : ℕ) (w : Wallet) (to : Hearing → Histories) where
   Says h = (signed : ℕ → Option Hashkey) → due d v w signed h.asking.known ≡ due d v w signed (to h)
 
   may_go : (h : Hearing) (x : Action) → Says h → MayGo d v w h.asking x → MayGo d v w (said h) x
-  may_go h x s m = record { is_due = subst (IsIn x) (s h.asking.kept) m.is_due; was_kept = m.was_kept }
+  may_go h x s m = record { is_due = subst (IsElement x) (s h.asking.kept) m.is_due; was_kept = m.was_kept }
 
   may_keep : (h : Hearing) (key : Hashkey) → Says h → MayKeep d v w h.asking key → MayKeep d v w (said h) key
-  may_keep h key s m = record { unlock = m.unlock; is_due = subst (IsIn m.unlock) (s h.asking.kept) m.is_due; asks = m.asks }
+  may_keep h key s m = record { unlock = m.unlock; is_due = subst (IsElement m.unlock) (s h.asking.kept) m.is_due; asks = m.asks }
 
-  kept_after : (before next : ℕ → Option Hashkey) (h : Hearing) → Says h → IsKeptAfter d v w before h.asking next → IsKeptAfter d v w before (said h) next
+  kept_after : (before next : ℕ → Option Hashkey) (h : Hearing) → Says h → IsKeepingStep d v w before h.asking next → IsKeepingStep d v w before (said h) next
   kept_after before next h s (inl e) = inl e
   kept_after before next h s (inr k) = inr (k.0, may_keep h k.0 s k.1, k.2, k.3)
 
-  journal_as : (before : ℕ → Option Hashkey) (hs : List Hearing) (after : ℕ → Option Hashkey) → ((h : Hearing) → IsIn h hs → Says h)
+  journal_as : (before : ℕ → Option Hashkey) (hs : List Hearing) (after : ℕ → Option Hashkey) → ((h : Hearing) → IsElement h hs → Says h)
       → IsJournal d v w before (map (λ h. h.asking) hs) after → IsJournal d v w before (map said hs) after
   journal_as before [] after says j = j
   journal_as before (h ∷ hs) after says j =
       (j.0, j.1, kept_after before j.1 h (says h (inl refl)) j.2, journal_as j.1 hs after (λ x i. says x (inr i)) j.3)
 
-  from_map : (hs : List Hearing) (q : Asking) → IsIn q (map said hs) → (h : Hearing) × IsIn h hs × (q ≡ said h)
+  from_map : (hs : List Hearing) (q : Asking) → IsElement q (map said hs) → (h : Hearing) × IsElement h hs × (q ≡ said h)
   from_map [] q i = absurd i
   from_map (h ∷ hs) q (inl e) = (h, inl refl, e)
   from_map (h ∷ hs) q (inr i) = let r = from_map hs q i in (r.0, inr r.1, r.2)
@@ -99,7 +99,7 @@ module _ (d : Deal) (v : ℕ) (w : Wallet) (to : Hearing → Histories) where
 -- The life that is told all.
 
 module _ (d : Deal) (v : ℕ) (w : Wallet) (b : Histories) (hs : List Hearing) (kept : ℕ → Option Hashkey) (life : IsToldLife d v w b hs kept) where
-  same_behind : (h : Hearing) → IsIn h hs → (signed : ℕ → Option Hashkey) → due d v w signed h.asking.known ≡ due d v w signed h.behind
+  same_behind : (h : Hearing) → IsElement h hs → (signed : ℕ → Option Hashkey) → due d v w signed h.asking.known ≡ due d v w signed h.behind
   same_behind h i signed = enough.same_due d v h.asking.known h.behind (life.told h i).says w signed
 
   pub whole_life : IsLife d v w b (map whole hs) kept
@@ -120,10 +120,10 @@ module _ (d : Deal) (v : ℕ) (w : Wallet) (b : Histories) (hs : List Hearing) (
   }
 
   -- why a call was due over what the ledgers had done
-  case_at : (a : ℕ) (past : List Entry) (c : Call) (i : IsHeardFor d v w hs a past c) → Case d v w i.hearing.asking.kept i.hearing.behind a c
+  case_at : (a : ℕ) (past : List Entry) (c : Call) (i : IsToldAnswered d v w hs a past c) → Case d v w i.hearing.asking.kept i.hearing.behind a c
   case_at a past c i =
       case_of d v w i.hearing.asking.kept i.hearing.behind (record { arc = a; call = c })
-      (subst (IsIn (record { arc = a; call = c })) (same_behind i.hearing i.heard i.hearing.asking.kept) i.may.is_due)
+      (subst (IsElement (record { arc = a; call = c })) (same_behind i.hearing i.heard i.hearing.asking.kept) i.may.is_due)
 
   -- v makes no transfer
   pub no_transfer : (a : ℕ) → MakesNoTransfer v (history b a)
@@ -140,12 +140,12 @@ module _ (d : Deal) (v : ℕ) (w : Wallet) (b : Histories) (hs : List Hearing) (
       go (Some c) k = due_none c (case_at a past c (life.calls a past e c m k))
 
   -- an arc that was correct when it was heard of is correct in the end
-  still_correct : (h : Hearing) → IsIn h hs → (a : ℕ) → is_correct d h.behind a ≡ true → is_correct d b a ≡ true
+  still_correct : (h : Hearing) → IsElement h hs → (a : ℕ) → is_correct d h.behind a ≡ true → is_correct d b a ≡ true
   still_correct h i a c = is_correct-more d h.behind b a (life.told h i).begins c
 
   -- v makes no call on an arc that doesn't leave it and isn't correct
-  module _ (a : ℕ) (apart : IsIn a (leaving d.graph v) → ⊥) (wrong : is_correct d b a ≡ false) where
-    not_due : (h : Hearing) → IsIn h hs → (s : ℕ → Option Hashkey) (c : Call) → Case d v w s h.behind a c → ⊥
+  module _ (a : ℕ) (apart : IsElement a (leaving d.graph v) → ⊥) (wrong : is_correct d b a ≡ false) where
+    not_due : (h : Hearing) → IsElement h hs → (s : ℕ → Option Hashkey) (c : Call) → Case d v w s h.behind a c → ⊥
     unfolding is_due_claim
     not_due h i s c (ToPublish j t q) = apart j
     not_due h i s c (ToUnlock j key l en may t q) =
@@ -173,7 +173,7 @@ module _ (d : Deal) (v : ℕ) (w : Wallet) (b : Histories) (hs : List Hearing) (
         list_any-none (λ e. is_some (pick_call v e)) (history b a)
         (λ e i. let m = moment_from_in (history b a) e i in ap (λ o. is_some o) (not_called m.0 e m.1))
 
-    pub is_idle : IsIn a (entering d.graph v) → is_useless d v a (history b a) ≡ true
+    pub is_idle : IsElement a (entering d.graph v) → is_useless d v a (history b a) ≡ true
     is_idle en =
         let enters : Bool = is_listed a (entering d.graph v) in
         let not_leaving : Bool = not (is_listed a (leaving d.graph v)) in
@@ -196,10 +196,10 @@ module _ (d : Deal) (v : ℕ) (w : Wallet) (b : Histories) (hs : List Hearing) (
   abbrev heard_as : Hearing → Asking
   heard_as h = record { known = tell h.behind; kept = h.asking.kept }
 
-  pub told_enough : (h : Hearing) → IsIn h hs → SayEnough d v (tell h.behind) h.behind
+  pub told_enough : (h : Hearing) → IsElement h hs → SayEnough d v (tell h.behind) h.behind
   told_enough h i = says_enough d v u b idle (tell h.behind) h.behind (is_part h.behind) (life.told h i).begins
 
-  pub same_told : (h : Hearing) → IsIn h hs → (signed : ℕ → Option Hashkey) → due d v w signed h.asking.known ≡ due d v w signed (tell h.behind)
+  pub same_told : (h : Hearing) → IsElement h hs → (signed : ℕ → Option Hashkey) → due d v w signed h.asking.known ≡ due d v w signed (tell h.behind)
   same_told h i signed =
       same_behind d v w b hs kept life h i signed ∙ sym (enough.same_due d v (tell h.behind) h.behind (told_enough h i) w signed)
 
@@ -255,14 +255,14 @@ module _ (d : Deal) (v : ℕ) (w : Wallet) (b : Histories) (hs : List Hearing) (
   said_needed : SayEnough d v c b
   said_needed = needed_says_enough d v b b (λ a. begins_refl (history b a))
 
-  says_behind : (h : Hearing) → IsIn h hs → SayEnough d v (tell h.behind) h.behind
+  says_behind : (h : Hearing) → IsElement h hs → SayEnough d v (tell h.behind) h.behind
   says_behind h i = told_enough d v w b hs kept life u tell (part_is (needs d v b)) (λ a e. e) h i
 
   heights : (k : Histories) (a : ℕ) → height (history (tell k) a) ≡ height (history k a)
   heights k a = ap height (part_is (needs d v b) k a) ∙ same_height (u a) v (history k a)
 
   module _ (acc : IsAccepted d) (book : IsNeededBook d v b) (limits : IsWithinLimits v b) (wallet : IsWallet d v w) where
-    within : (a : ℕ) → IsWithin v (history b a)
+    within : (a : ℕ) → KeepsLedgerLimits v (history b a)
     within a = record {
       calls = limits.calls a;
       ticks = limits.ticks a;
@@ -277,24 +277,24 @@ module _ (d : Deal) (v : ℕ) (w : Wallet) (b : Histories) (hs : List Hearing) (
     conducted = holds.conduct.0 (life_conducts d v w c (map (as_needed d v b) hs) kept acc legal wallet needed_life)
 
     -- of an arc that leaves v all is told
-    leaving_told : (a : ℕ) → IsIn a (leaving d.graph v) → u a ≡ false
+    leaving_told : (a : ℕ) → IsElement a (leaving d.graph v) → u a ≡ false
     leaving_told a i = not-true (u a) (λ t. (useless d v a (history b a) t).apart i)
 
-    leaving_is : (a : ℕ) → IsIn a (leaving d.graph v) → history c a ≡ telling v (history b a)
+    leaving_is : (a : ℕ) → IsElement a (leaving d.graph v) → history c a ≡ telling v (history b a)
     leaving_is a i =
         part_is (needs d v b) b a ∙ (ap (λ t. filter (is_needed t v) (history b a)) (leaving_told a i) ∙ all_told v (history b a))
 
-    says_leaving : (a : ℕ) → IsIn a (leaving d.graph v) → SaysTheSame v (history c a) (history b a)
+    says_leaving : (a : ℕ) → IsElement a (leaving d.graph v) → SaysTheSame v (history c a) (history b a)
     says_leaving a i = enough.leaving_same d v c b said_needed a i
 
-    trigger_leaving : (a : ℕ) → IsIn a (leaving d.graph v) → is_triggered d c a ≡ is_triggered d b a
+    trigger_leaving : (a : ℕ) → IsElement a (leaving d.graph v) → is_triggered d c a ≡ is_triggered d b a
     trigger_leaving a i = enough.same_trigger d v c b said_needed a (says_leaving a i)
 
-    chain_leaving : (a : ℕ) → IsIn a (leaving d.graph v) → IsChain d v a (history b a)
+    chain_leaving : (a : ℕ) → IsElement a (leaving d.graph v) → IsChain d v a (history b a)
     chain_leaving a i = (book.chain a (rw book.one_each (leaves d v a i).0)).contract (leaving_told a i)
 
     -- an arc that isn't triggered isn't claimed
-    unclaimed : (a : ℕ) → IsIn a (leaving d.graph v) → is_triggered d b a ≡ false → is_claim (settled (history b a)) ≡ false
+    unclaimed : (a : ℕ) → IsElement a (leaving d.graph v) → is_triggered d b a ≡ false → is_claim (settled (history b a)) ≡ false
     unclaimed a i n = go (settled (history c a)) refl
       where
         same : settled (history c a) ≡ settled (history b a)
@@ -346,13 +346,13 @@ module _ (d : Deal) (v : ℕ) (w : Wallet) (b : Histories) (hs : List Hearing) (
 
     -- A mindful wallet.
 
-    same_presses : (h : Hearing) → IsIn h hs → (signed : ℕ → Option Hashkey)
+    same_presses : (h : Hearing) → IsElement h hs → (signed : ℕ → Option Hashkey)
         → pressing d v w signed (tell h.behind) ≡ pressing d v w signed h.asking.known
     same_presses h i signed =
         enough.same_pressing d v (tell h.behind) h.behind (says_behind h i) w signed
         ∙ sym (enough.same_pressing d v h.asking.known h.behind (life.told h i).says w signed)
 
-    seen_to : (at by : ℕ) → HadSeenTo d v w hs at by → HasSeenTo d v w (map (as_needed d v b) hs) at by
+    seen_to : (at by : ℕ) → HadActedOnTime d v w hs at by → HasActedOnTime d v w (map (as_needed d v b) hs) at by
     seen_to at by r = record {
       asking = as_needed d v b r.hearing;
       asked = in_map (as_needed d v b) hs r.hearing r.heard;

@@ -1,6 +1,7 @@
--- What the life of a wallet promises that is told no noise, and of useless arcs no more than the ticks.
+-- What the life of a wallet promises that is told no noise, and of useless arcs no more than the
+-- ticks.
 use Rattle.std.specs.Prelude.{◌≡◌, ℕ, ◌≤◌, Bool, true, false, List, map, count_by, Option, None}
-use Rattle.swap_base.specs.Lists.{IsIn, IsMoment}
+use Rattle.swap_base.specs.Lists.{IsElement, IsMoment}
 use Rattle.swap_digraph.specs.Graph.{leaving, entering}
 use Rattle.swap_digraph.specs.declared.deal.Deal.{Deal}
 use Rattle.hashkey_path.specs.declared.hashkey.Hashkey.{Hashkey}
@@ -33,7 +34,8 @@ BeginningsAreHeard =
     → IsHeard d v b (record { asking = record { known = k; kept = kept }; behind = k })
     × IsHeard d v b (record { asking = record { known = all_needed d v k; kept = kept }; behind = k })
 
--- a told life is a life that is told all, in the same book: what holds of every life in a legal book holds of it
+-- a told life is a life that is told all, in the same book: what holds of every life in a legal
+-- book holds of it
 abbrev pub ToldLifeIsLife : Type 0
 ToldLifeIsLife =
     (d : Deal) (v : ℕ) (w : Wallet) (b : Histories) (hearings : List Hearing) (kept : ℕ → Option Hashkey) → IsToldLife d v w b hearings kept
@@ -57,21 +59,23 @@ NothingIsGiven =
     (d : Deal) (v : ℕ) (w : Wallet) (b : Histories) (hearings : List Hearing) (kept : ℕ → Option Hashkey) → IsToldLife d v w b hearings kept
     → (a : ℕ) → MakesNoTransfer v (history b a)
 
--- and no call on an arc that enters it, doesn't leave it, and in the end has no accepted publish of the correct terms: the arc is useless, so of its
--- ledger nothing is needed but the ticks
+-- and no call on an arc that enters it, doesn't leave it, and in the end has no accepted publish of
+-- the correct terms: the arc is useless, so of its ledger nothing is needed but the ticks
 abbrev pub NothingIsCalledThere : Type 0
 NothingIsCalledThere =
     (d : Deal) (v : ℕ) (w : Wallet) (b : Histories) (hearings : List Hearing) (kept : ℕ → Option Hashkey) (a : ℕ) → IsToldLife d v w b hearings kept
-    → IsIn a (entering d.graph v) → (IsIn a (leaving d.graph v) → ⊥) → is_correct d b a ≡ false
+    → IsElement a (entering d.graph v) → (IsElement a (leaving d.graph v) → ⊥) → is_correct d b a ≡ false
     → ((past : List Entry) (e : Entry) → IsMoment (history b a) past e → pick_call v e ≡ None) × (is_useless d v a (history b a) ≡ true)
 
--- The party's own entries, and the clock's, are within the limits of a ledger on each arc; those of others may be any number.
+-- The party's own entries, and the clock's, are within the limits of a ledger on each arc; those of
+-- others may be any number.
 pub record IsWithinLimits (v : ℕ) (b : Histories) : Type 0 where
   pub calls : (a : ℕ) → count_by (λ e. is_sender v e.sender) (history b a) ≤ 32
   pub ticks : (a : ℕ) → count_by (λ e. is_tick e.sender) (history b a) ≤ 20000
   pub heights : (a : ℕ) → height (history b a) ≤ 1000000
 
--- A law of every told life on a chain without limits. Of a contract on an arc that is useless to the party nothing is asked.
+-- A law of every told life on a chain without limits. Of a contract on an arc that is useless to
+-- the party nothing is asked.
 abbrev pub OfEveryToldLife : (Deal → ℕ → Wallet → Histories → List Hearing → Type 0) → Type 0
 OfEveryToldLife P =
     (d : Deal) (v : ℕ) (w : Wallet) (b : Histories) (hearings : List Hearing) (kept : ℕ → Option Hashkey) → IsAccepted d → IsNeededBook d v b

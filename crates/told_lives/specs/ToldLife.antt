@@ -1,6 +1,6 @@
 -- A wallet's life in a book of which it tells no noise, and of useless arcs no more than the ticks.
 use Rattle.std.specs.Prelude.{◌≡◌, ℕ, ◌<◌, ◌+◌, ◌≤◌, true, false, List, [], length, map, Option, Some}
-use Rattle.swap_base.specs.Lists.{IsIn, IsMoment}
+use Rattle.swap_base.specs.Lists.{IsElement, IsMoment}
 use Rattle.swap_digraph.specs.Graph.{arcs}
 use Rattle.swap_digraph.specs.declared.deal.Deal.{Deal}
 use Rattle.hashkey_path.specs.declared.hashkey.Hashkey.{Hashkey}
@@ -12,7 +12,7 @@ use Rattle.swap_rules.specs.declared.finding.Rule.{Rule}
 use Rattle.swap_rules.specs.declared.finding.Rule.TheVariants.{Unlock as ToUnlock}
 use Rattle.swap_rules.specs.Party.{pick_call}
 use Rattle.swap_rules.specs.Conduct.{is_publish}
-use Rattle.swap_rules.specs.Late.{ref_of}
+use Rattle.swap_rules.specs.Late.{reference_height}
 use Rattle.swap_rules.specs.Findings.{deal_rules}
 use Rattle.swap_rules.specs.Due.{Wallet, has_called, due}
 use Rattle.swap_rules.specs.Machine.{Begins, Knows}
@@ -46,9 +46,9 @@ pub record IsHeard (d : Deal) (v : ℕ) (b : Histories) (h : Hearing) : Type 0 w
 
 -- A call on arc a after these entries that one of the askings allows. When the call came, the
 -- ledger had made every entry behind what the asking was told.
-pub record IsHeardFor (d : Deal) (v : ℕ) (w : Wallet) (hearings : List Hearing) (a : ℕ) (past : List Entry) (c : Call) : Type 0 where
+pub record IsToldAnswered (d : Deal) (v : ℕ) (w : Wallet) (hearings : List Hearing) (a : ℕ) (past : List Entry) (c : Call) : Type 0 where
   pub hearing : Hearing
-  pub heard : IsIn hearing hearings
+  pub heard : IsElement hearing hearings
   pub may : MayGo d v w hearing.asking (record { arc = a; call = c })
   pub later : Begins (history hearing.behind a) past
 
@@ -56,9 +56,9 @@ pub record IsHeardFor (d : Deal) (v : ℕ) (w : Wallet) (hearings : List Hearing
 -- useless arcs, and may join or split ticks.
 pub record IsToldLife (d : Deal) (v : ℕ) (w : Wallet) (b : Histories) (hearings : List Hearing) (kept : ℕ → Option Hashkey) : Type 0 where
   pub journal : IsJournal d v w nothing_kept (map (λ h. h.asking) hearings) kept
-  pub told : (h : Hearing) → IsIn h hearings → IsHeard d v b h
+  pub told : (h : Hearing) → IsElement h hearings → IsHeard d v b h
   pub calls : (a : ℕ) (past : List Entry) (e : Entry) (c : Call) → IsMoment (history b a) past e → pick_call v e ≡ Some c
-      → IsHeardFor d v w hearings a past c
+      → IsToldAnswered d v w hearings a past c
   pub once : (a : ℕ) (past : List Entry) (e : Entry) → IsMoment (history b a) past e → is_publish (pick_call v e) ≡ true → has_called v is_publish past ≡ false
 
 -- What a wallet does in time. Heights are those of the ledgers behind what is told.
@@ -67,7 +67,7 @@ pub record IsToldLife (d : Deal) (v : ℕ) (w : Wallet) (b : Histories) (hearing
 -- was told. Every ledger next to the party was past `at` then, and none was past `by`.
 pub record CameToRest (d : Deal) (v : ℕ) (w : Wallet) (hearings : List Hearing) (at by : ℕ) : Type 0 where
   pub hearing : Hearing
-  pub heard : IsIn hearing hearings
+  pub heard : IsElement hearing hearings
   pub rests : due d v w hearing.asking.kept hearing.asking.known ≡ []
   pub past : (a : ℕ) → IsNear d v a → at < height (history hearing.behind a)
   pub soon : (a : ℕ) → height (history hearing.behind a) ≤ by
@@ -75,14 +75,14 @@ pub record CameToRest (d : Deal) (v : ℕ) (w : Wallet) (hearings : List Hearing
 -- the wallet comes to rest within delta of whatever its party has to do
 abbrev pub IsToldAttentive : Deal → ℕ → Wallet → Histories → List Hearing → Type 0
 IsToldAttentive d v w b hearings =
-    (rule : Rule) (a ref : ℕ) → IsIn rule (deal_rules d) → IsIn a (arcs d.graph) → ref_of d b v rule a ≡ Some ref → ref + d.delta < height (history b a)
+    (rule : Rule) (a ref : ℕ) → IsElement rule (deal_rules d) → IsElement a (arcs d.graph) → reference_height d b v rule a ≡ Some ref → ref + d.delta < height (history b a)
     → CameToRest d v w hearings ref (ref + d.delta)
 
 -- The wallet did what presses on time for the height `at`. Nothing pressed over what one of its
 -- askings was told. Every ledger next to the party was past `at` then, and none was past `by`.
-pub record HadSeenTo (d : Deal) (v : ℕ) (w : Wallet) (hearings : List Hearing) (at by : ℕ) : Type 0 where
+pub record HadActedOnTime (d : Deal) (v : ℕ) (w : Wallet) (hearings : List Hearing) (at by : ℕ) : Type 0 where
   pub hearing : Hearing
-  pub heard : IsIn hearing hearings
+  pub heard : IsElement hearing hearings
   pub done : pressing d v w hearing.asking.kept hearing.asking.known ≡ []
   pub past : (a : ℕ) → IsNear d v a → at < height (history hearing.behind a)
   pub soon : (a : ℕ) → height (history hearing.behind a) ≤ by
@@ -91,14 +91,15 @@ pub record HadSeenTo (d : Deal) (v : ℕ) (w : Wallet) (hearings : List Hearing)
 -- Every ledger next to the party was past every expiry then, and had all calls of the party.
 pub record HadFinished (d : Deal) (v : ℕ) (w : Wallet) (b : Histories) (hearings : List Hearing) : Type 0 where
   pub hearing : Hearing
-  pub heard : IsIn hearing hearings
+  pub heard : IsElement hearing hearings
   pub done : pressing d v w hearing.asking.kept hearing.asking.known ≡ []
   pub past : IsPastExpiries d v hearing.behind
   pub all : (a : ℕ) → Knows v (history hearing.behind a) (history b a)
 
--- A mindful wallet: where an arc that leaves the party is triggered, it saw within delta to each unlock that was enabled; and it saw to what presses at the
--- end. When or whether it publishes isn't asked.
+-- A mindful wallet: where an arc that leaves the party is triggered, it saw within delta to each
+-- unlock that was enabled; and it saw to what presses at the end. When or whether it publishes
+-- isn't asked.
 pub record IsToldMindful (d : Deal) (v : ℕ) (w : Wallet) (b : Histories) (hearings : List Hearing) : Type 0 where
-  pub unlocks : HasLost d b v → (i a ref : ℕ) → i < length d.leaders → IsIn a (arcs d.graph) → ref_of d b v (ToUnlock i) a ≡ Some ref
-      → ref + d.delta < height (history b a) → HadSeenTo d v w hearings ref (ref + d.delta)
+  pub unlocks : HasLost d b v → (i a ref : ℕ) → i < length d.leaders → IsElement a (arcs d.graph) → reference_height d b v (ToUnlock i) a ≡ Some ref
+      → ref + d.delta < height (history b a) → HadActedOnTime d v w hearings ref (ref + d.delta)
   pub finished : HadFinished d v w b hearings

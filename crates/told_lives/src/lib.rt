@@ -1,4 +1,5 @@
-//! What a wallet is promised that is told no noise, and of useless arcs the ticks alone, on ledgers without limits.
+//! What a wallet is promised that is told no noise, and of useless arcs the ticks alone, on ledgers
+//! without limits.
 //!
 //! Read `specs/ToldLife.antt` first, then `specs/Laws.antt`.
 #![tactic(auto)]
@@ -7,7 +8,8 @@ ghost use Rattle.told_lives.specs.Laws.{AnswersAreTold, BeginningsAreHeard, Told
 ghost use Rattle.told_lives.specs.Laws.{NothingIsGiven, NothingIsCalledThere, ToldIsLegal, ToldLifeConducts, ToldLifeIsSafe, ToldAttentiveIsSafe};
 ghost use Rattle.told_lives.specs.Laws.{ToldWatchfulIsSafe, ToldMindfulIsSafe};
 
-/// What is answered goes by what is said: a wallet that leaves out noise, and all but the ticks of useless arcs, lives a life that is told all.
+/// What is answered goes by what is said: a wallet that leaves out noise, and all but the ticks of
+/// useless arcs, lives a life that is told all.
 pub fn answers_are_told()
     ensures same { AnswersAreTold }
     ensures heard { BeginningsAreHeard }
@@ -18,8 +20,9 @@ pub fn answers_are_told()
     ensures useless { NothingIsCalledThere }
 {}
 
-/// On a chain without limits, with any noise of others, and with anything in the contracts of useless arcs, a told life conducts its party. The party is
-/// safe where it was on time and the book has ended, and where it was watchful.
+/// On a chain without limits, with any noise of others, and with anything in the contracts of
+/// useless arcs, a told life conducts its party. The party is safe where it was on time and the
+/// book has ended, and where it was watchful.
 pub fn told_life_conducts()
     ensures legal { ToldIsLegal }
     ensures conducts { ToldLifeConducts }

@@ -8,8 +8,8 @@ use Rattle.swap_base.proofs.Lists.{and_both}
 use Rattle.swap_digraph.specs.declared.deal.Deal.{Deal}
 use Rattle.swap_digraph.specs.Deal.{touches}
 use Rattle.transcript_lines.specs.declared.said.Misspelling.{Misspelling}
-use Rattle.transcript_lines.specs.Between.{parts_at}
-use Rattle.transcript_lines.specs.Reading.{misspelt, bounded_number, number_of}
+use Rattle.transcript_lines.specs.Between.{separated_parts}
+use Rattle.transcript_lines.specs.Reading.{misspelt, bounded_number, decimal_number}
 use Rattle.transcript_lines.proofs.Numbers.{below_back, high_number, number_back}
 use Rattle.transcript_lines.proofs.Parts.{high_too, parts_between}
 use Rattle.transcript_lines.proofs.Spelling.{field_back}
@@ -23,9 +23,9 @@ use Rattle.told_ledgers.specs.declared.stage.Stage.{Stage}
 use Rattle.told_ledgers.specs.declared.stage.Stage.TheVariants.{Between, Reading, Passing}
 use Rattle.told_ledgers.specs.SoFar.{LedgerSoFar}
 use Rattle.told_ledgers.specs.Words.{line_kind}
-use Rattle.told_ledgers.specs.Ledger.{line_heard, nothing_read, read_whole, untold}
-use Rattle.told_ledgers.specs.Telling.{Telling, arc_said, begun, frame_told, gone_on, heading_said, heading_words, ledgers_told, next_number}
-use Rattle.told_ledgers.specs.Telling.{numbered, passing, reading, told_from}
+use Rattle.told_ledgers.specs.Ledger.{line_heard, nothing_read, whole_told_ledger, untold}
+use Rattle.told_ledgers.specs.Telling.{Telling, arc_said, begun, frame_told, with_heard, heading_said, heading_words, ledgers_told, next_number}
+use Rattle.told_ledgers.specs.Telling.{numbered, passing, reading, further_lines_told}
 use Rattle.told_ledgers.proofs.Kept.{HeardSame, IsSame, heard_same}
 use Rattle.told_readings.specs.Apart.{AreAscending, EachIsToldAlone, LedgerLines, all_heard, all_lines, heading_line, heard_ledger, ledger_alone, then_heard}
 use Rattle.told_readings.specs.Apart.{with_ledger}
@@ -54,13 +54,13 @@ module _ (d : Deal) (v : ℕ) where
 
   -- which are passed over
   passed_over : (n : ℕ) (ts : List ToldLedger) (least count : ℕ) (stage : Stage) (ls rest : List (List ℕ))
-      → told_from n (passing (at_hand ts least count (length ls) stage)) (ls ++ rest)
-      ≡ told_from (after n (length ls)) (at_hand ts least count 0 Between) rest
+      → further_lines_told n (passing (at_hand ts least count (length ls) stage)) (ls ++ rest)
+      ≡ further_lines_told (after n (length ls)) (at_hand ts least count 0 Between) rest
   passed_over n ts least count stage [] rest = refl
   passed_over n ts least count stage (l ∷ ls) rest =
       let less : ◌≡◌ {A = ℕ} (suc (length ls) - 1) (length ls) = omega arith in
-      ap (λ t. told_from n (at_hand ts least count (suc (length ls)) (cond t Between Passing)) (l ∷ (ls ++ rest))) (not_none (length ls))
-      ∙ ap (λ m. told_from (next_number n) (passing (at_hand ts least count m Passing)) (ls ++ rest)) less
+      ap (λ t. further_lines_told n (at_hand ts least count (suc (length ls)) (cond t Between Passing)) (l ∷ (ls ++ rest))) (not_none (length ls))
+      ∙ ap (λ m. further_lines_told (next_number n) (passing (at_hand ts least count m Passing)) (ls ++ rest)) less
       ∙ passed_over (next_number n) ts least count Passing ls rest
 
   -- what is then told of all arcs
@@ -72,32 +72,32 @@ module _ (d : Deal) (v : ℕ) where
 
   -- which are read
   read_on : (n at : ℕ) (ts : List ToldLedger) (least count a : ℕ) (l : LedgerSoFar) (ls rest : List (List ℕ)) (h : Heard) → l.arc ≡ a → HeardSame l h
-      → ((t : LedgerSoFar) → IsSame l t → told_from (next_number n) (reading t (at_hand ts least count (length ls) (Reading l))) (ls ++ rest)
-      ≡ told_from (after (next_number n) (length ls)) (at_hand (heard_all ts a (all_heard (at + 1) t ls)) least count 0 Between) rest)
-      → told_from (next_number n) (gone_on l.arc h (at_hand ts least count (length ls) (Reading l))) (ls ++ rest)
-      ≡ told_from (after (next_number n) (length ls)) (at_hand (heard_all ts a (then_heard h (λ t. all_heard (at + 1) t ls))) least count 0 Between) rest
+      → ((t : LedgerSoFar) → IsSame l t → further_lines_told (next_number n) (reading t (at_hand ts least count (length ls) (Reading l))) (ls ++ rest)
+      ≡ further_lines_told (after (next_number n) (length ls)) (at_hand (heard_all ts a (all_heard (at + 1) t ls)) least count 0 Between) rest)
+      → further_lines_told (next_number n) (with_heard l.arc h (at_hand ts least count (length ls) (Reading l))) (ls ++ rest)
+      ≡ further_lines_told (after (next_number n) (length ls)) (at_hand (heard_all ts a (then_heard h (λ t. all_heard (at + 1) t ls))) least count 0 Between) rest
   read_on n at ts least count a l ls rest (More t) is same more = more t same
   read_on n at ts least count a l ls rest (Bad t) is same more =
       passed_over (next_number n) (set ts l.arc t) least count (Reading l) ls rest
-      ∙ ap (λ (c : ℕ). told_from (after (next_number n) (length ls)) (at_hand (set ts c t) least count 0 Between) rest) is
+      ∙ ap (λ (c : ℕ). further_lines_told (after (next_number n) (length ls)) (at_hand (set ts c t) least count 0 Between) rest) is
 
   read_over : (n at : ℕ) (ts : List ToldLedger) (least count a : ℕ) (stage : Stage) (l : LedgerSoFar) (ls rest : List (List ℕ)) → l.me ≡ v → l.arc ≡ a
       → at + length ls ≡ count
-      → told_from n (reading l (at_hand ts least count (length ls) stage)) (ls ++ rest)
-      ≡ told_from (after n (length ls)) (at_hand (heard_all ts a (all_heard at l ls)) least count 0 Between) rest
+      → further_lines_told n (reading l (at_hand ts least count (length ls) stage)) (ls ++ rest)
+      ≡ further_lines_told (after n (length ls)) (at_hand (heard_all ts a (all_heard at l ls)) least count 0 Between) rest
   read_over n at ts least count a stage l [] rest me is sum =
-      ap (λ (c : ℕ). told_from n (at_hand (set ts c (heard_ledger (More l))) least count 0 Between) rest) is
+      ap (λ (c : ℕ). further_lines_told n (at_hand (set ts c (heard_ledger (More l))) least count 0 Between) rest) is
   read_over n at ts least count a stage l (x ∷ ls) rest me is sum =
       let here : ◌≡◌ {A = ℕ} (count - suc (length ls)) at = omega arith in
       let less : ◌≡◌ {A = ℕ} (suc (length ls) - 1) (length ls) = omega arith in
-      let ws = parts_at 32 x in
-      ap (λ t. told_from n (cond t (at_hand (set ts l.arc (read_whole l)) least count (suc (length ls)) Between)
+      let ws = separated_parts 32 x in
+      ap (λ t. further_lines_told n (cond t (at_hand (set ts l.arc (whole_told_ledger l)) least count (suc (length ls)) Between)
       (at_hand ts least count (suc (length ls)) (Reading l))) (x ∷ (ls ++ rest))) (not_none (length ls))
-      ∙ ap (λ (m : ℕ). told_from (next_number n) (gone_on l.arc (line_heard (count - suc (length ls)) l (line_kind v ws) x)
+      ∙ ap (λ (m : ℕ). further_lines_told (next_number n) (with_heard l.arc (line_heard (count - suc (length ls)) l (line_kind v ws) x)
       (at_hand ts least count m (Reading l))) (ls ++ rest)) less
-      ∙ ap (λ (j : ℕ). told_from (next_number n) (gone_on l.arc (line_heard j l (line_kind v ws) x) (at_hand ts least count (length ls) (Reading l)))
+      ∙ ap (λ (j : ℕ). further_lines_told (next_number n) (with_heard l.arc (line_heard j l (line_kind v ws) x) (at_hand ts least count (length ls) (Reading l)))
       (ls ++ rest)) here
-      ∙ ap (λ (u : ℕ). told_from (next_number n) (gone_on l.arc (line_heard at l (line_kind u ws) x) (at_hand ts least count (length ls) (Reading l)))
+      ∙ ap (λ (u : ℕ). further_lines_told (next_number n) (with_heard l.arc (line_heard at l (line_kind u ws) x) (at_hand ts least count (length ls) (Reading l)))
       (ls ++ rest)) (sym me)
       ∙ read_on n at ts least count a l ls rest (line_heard at l (line_kind l.me ws) x) is (heard_same at l (line_kind l.me ws) x) (λ t same.
       read_over (next_number n) (at + 1) ts least count a (Reading l) t ls rest (same.me ∙ me) (same.arc ∙ is) (omega arith))
@@ -106,7 +106,7 @@ module _ (d : Deal) (v : ℕ) where
 
   arc_back : (least arcs a : ℕ) → least ≤ a → a < arcs → a < 2 ^ 64 → arc_said least arcs (decimal a) ≡ Ok a
   arc_back least arcs a low high small =
-      stepped (number_of (decimal a)) a _ (number_back a small)
+      stepped (decimal_number (decimal a)) a _ (number_back a small)
       ∙ ap (λ t. cond t (Ok a) misspelt) (and_both (nat_le least a) (nat_lt a arcs) (le-leb least a low) (lt-ltb a arcs high))
 
   heading_back : (least arcs a n : ℕ) → least ≤ a → a < arcs → arcs < 2 ^ 64 → n < 2 ^ 32
@@ -137,32 +137,32 @@ module _ (d : Deal) (v : ℕ) where
   untold_still ts least a t low u c le = get_or-set_other ts a c t untold (λ e. absurd (omega arith)) ∙ u c (omega arith)
 
   begun_is : (n : ℕ) (ts : List ToldLedger) (least m c : ℕ) (b : LedgerLines) (rest : List (List ℕ)) → AreUntold ts least → least ≤ b.arc
-      → told_from n (begun (record { arc = b.arc; count = length b.lines }) (at_hand ts least c m Between)) (b.lines ++ rest)
-      ≡ told_from (after n (length b.lines)) (at_hand (with_ledger d v ts b) (b.arc + 1) (length b.lines) 0 Between) rest
+      → further_lines_told n (begun (record { arc = b.arc; count = length b.lines }) (at_hand ts least c m Between)) (b.lines ++ rest)
+      ≡ further_lines_told (after n (length b.lines)) (at_hand (with_ledger d v ts b) (b.arc + 1) (length b.lines) 0 Between) rest
   begun_is n ts least m c b rest u low = by (touches d v b.arc)
     where
       by : (t : Bool)
-          → told_from n (cond t (reading (nothing_read d v b.arc) (at_hand ts (b.arc + 1) (length b.lines) (length b.lines) Between))
+          → further_lines_told n (cond t (reading (nothing_read d v b.arc) (at_hand ts (b.arc + 1) (length b.lines) (length b.lines) Between))
           (passing (at_hand ts (b.arc + 1) (length b.lines) (length b.lines) Between))) (b.lines ++ rest)
-          ≡ told_from (after n (length b.lines)) (at_hand (set ts b.arc (cond t (heard_ledger (all_heard 0 (nothing_read d v b.arc) b.lines)) untold))
+          ≡ further_lines_told (after n (length b.lines)) (at_hand (set ts b.arc (cond t (heard_ledger (all_heard 0 (nothing_read d v b.arc) b.lines)) untold))
           (b.arc + 1) (length b.lines) 0 Between) rest
       by true = read_over n 0 ts (b.arc + 1) (length b.lines) b.arc Between (nothing_read d v b.arc) b.lines rest refl refl (omega arith)
       by false =
           passed_over n ts (b.arc + 1) (length b.lines) Between b.lines rest
-          ∙ ap (λ (us : List ToldLedger). told_from (after n (length b.lines)) (at_hand us (b.arc + 1) (length b.lines) 0 Between) rest)
+          ∙ ap (λ (us : List ToldLedger). further_lines_told (after n (length b.lines)) (at_hand us (b.arc + 1) (length b.lines) 0 Between) rest)
           (sym (ap (set ts b.arc) (sym (u b.arc low)) ∙ set-get_or ts b.arc untold))
 
   heading_read : (n : ℕ) (ts : List ToldLedger) (least c m : ℕ) (b : LedgerLines) (rest : List (List ℕ)) → least ≤ b.arc → b.arc < length d.graph.arcs
       → length d.graph.arcs < 2 ^ 64 → length b.lines < 2 ^ 32
-      → told_from n (at_hand ts least c m Between) (heading_line b ∷ rest)
-      ≡ told_from (next_number n) (begun (record { arc = b.arc; count = length b.lines }) (at_hand ts least c m Between)) rest
+      → further_lines_told n (at_hand ts least c m Between) (heading_line b ∷ rest)
+      ≡ further_lines_told (next_number n) (begun (record { arc = b.arc; count = length b.lines }) (at_hand ts least c m Between)) rest
   unfolding frame_told
   heading_read n ts least c m b rest low high small few =
-      ap (λ (r : Result Heading Misspelling). numbered n (r >>= λ h. Ok (begun h (at_hand ts least c m Between))) >>= λ t. told_from (next_number n) t rest)
+      ap (λ (r : Result Heading Misspelling). numbered n (r >>= λ h. Ok (begun h (at_hand ts least c m Between))) >>= λ t. further_lines_told (next_number n) t rest)
       (heading_is least (length d.graph.arcs) b low high small few)
 
   all_read : (n : ℕ) (ts : List ToldLedger) (least c m : ℕ) (bs : List LedgerLines) → AreUntold ts least → length d.graph.arcs < 2 ^ 64
-      → AreAscending least (length d.graph.arcs) bs → told_from n (at_hand ts least c m Between) (all_lines bs) ≡ Ok (fold (with_ledger d v) ts bs)
+      → AreAscending least (length d.graph.arcs) bs → further_lines_told n (at_hand ts least c m Between) (all_lines bs) ≡ Ok (fold (with_ledger d v) ts bs)
   unfolding frame_told
   all_read n ts least c m [] u small k = refl
   all_read n ts least c m (b ∷ bs) u small k =

@@ -25,7 +25,7 @@ use Rattle.ledger_core.specs.declared.entry.Entry.{Entry}
 use Rattle.ledger_core.specs.Book.{Histories}
 use Rattle.typed_books.specs.Typed.{IsDigest, IsSignature, IsTypedCall, IsTypedReply, IsTypedSender, IsTypedWhat}
 use Rattle.transcript_lines.specs.Between.{between, ended, spaced}
-use Rattle.transcript_lines.specs.Lines.{entry_line, ledger_line, ledger_lines, lines_from}
+use Rattle.transcript_lines.specs.Lines.{entry_line, ledger_line, ledger_lines, lines_from_arc}
 use Rattle.transcript_lines.specs.Words.{call_words, entry_words, list_word, reply_words, signature_word}
 use Rattle.told_readings.specs.Written.{IsMade}
 use Rattle.told_readings.specs.Bounded.{BriefIsBounded, IsBrief, IsShortCall, IsShortEntry, IsShortWhat, is_unlocking}
@@ -248,10 +248,10 @@ ledger_short a h la k =
     let heading = heading_short a h la (omega arith) in
     omega arith
 
-book_short : (a : ℕ) (k : Histories) → a + length k ≤ 128 → AllByRecursion IsBrief k → length (ended (lines_from a k)) ≤ 1153330 * length k + 4
+book_short : (a : ℕ) (k : Histories) → a + length k ≤ 128 → AllByRecursion IsBrief k → length (ended (lines_from_arc a k)) ≤ 1153330 * length k + 4
 book_short a [] le b = omega arith
 book_short a (h ∷ k) le b =
-    let whole = ended_all (ledger_lines a h) (lines_from (a + 1) k) in
+    let whole = ended_all (ledger_lines a h) (lines_from_arc (a + 1) k) in
     let one = ledger_short a h (omega arith) b.0 in
     let rest = book_short (a + 1) k (omega arith) b.1 in
     omega arith

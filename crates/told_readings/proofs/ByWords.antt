@@ -14,8 +14,8 @@ use Rattle.ledger_core.specs.declared.entry.Sender.TheVariants.{Party, Clock}
 use Rattle.ledger_core.specs.declared.entry.What.TheVariants.{Call as Made, Tick}
 use Rattle.typed_books.specs.Typed.{IsTypedCall, IsTypedReply}
 use Rattle.transcript_lines.specs.declared.said.Misspelling.{Misspelling}
-use Rattle.transcript_lines.specs.Between.{parts_at, spaced}
-use Rattle.transcript_lines.specs.Reading.{is_word, number_of}
+use Rattle.transcript_lines.specs.Between.{separated_parts, spaced}
+use Rattle.transcript_lines.specs.Reading.{is_word, decimal_number}
 use Rattle.transcript_lines.specs.Words.{call_words, entry_words, reply_words}
 use Rattle.transcript_lines.proofs.Numbers.{high_number, number_back}
 use Rattle.transcript_lines.proofs.Parts.{all_append, high_too, parts_between}
@@ -28,14 +28,14 @@ use Rattle.told_readings.specs.Enough.{call_kind, is_accepted}
 -- ---- the words
 
 pub call_parts : (p : ℕ) (c : Call) (r : Reply) → p < 256 → IsTypedCall c → IsTypedReply r
-    → parts_at 32 (spaced (entry_words (Party p) (Made c) r)) ≡ entry_words (Party p) (Made c) r
+    → separated_parts 32 (spaced (entry_words (Party p) (Made c) r)) ≡ entry_words (Party p) (Made c) r
 call_parts p c r lt k kr =
     parts_between 32 33 (codes "c") (decimal p ∷ (call_words c ++ codes "=" ∷ reply_words r)) (omega arith) refl (
       high_too 33 48 (decimal p) (omega arith) (high_number p (omega arith)),
       all_append 33 (call_words c) (codes "=" ∷ reply_words r) (high_call c k) (refl, high_reply r kr),
     )
 
-pub tick_parts : (n : ℕ) (r : Reply) → n < 2 ^ 32 → parts_at 32 (spaced (entry_words Clock (Tick n) r)) ≡ entry_words Clock (Tick n) r
+pub tick_parts : (n : ℕ) (r : Reply) → n < 2 ^ 32 → separated_parts 32 (spaced (entry_words Clock (Tick n) r)) ≡ entry_words Clock (Tick n) r
 tick_parts n r lt =
     parts_between 32 33 (codes "t") (decimal n ∷ []) (omega arith) refl (high_too 33 48 (decimal n) (omega arith) (high_number n (omega arith)), tt)
 
@@ -104,7 +104,7 @@ foreign_is p (Transfer to units) r =
     ap (λ x. cond (not x || true) Noise (cond false PublishLine AcceptedLine)) (ends_words (codes "c" ∷ decimal p ∷ call_words (Transfer to units)) r)
 
 same_number : (p v : ℕ) → p < 256 → v < 256 → decimal p ≡ decimal v → p ≡ v
-same_number p v lp lv e = same p v (sym (number_back p (omega arith)) ∙ ap number_of e ∙ number_back v (omega arith))
+same_number p v lp lv e = same p v (sym (number_back p (omega arith)) ∙ ap decimal_number e ∙ number_back v (omega arith))
   where
     same : (x y : ℕ) → ◌≡◌ {A = Result ℕ Misspelling} (Ok x) (Ok y) → x ≡ y
     same x y q = cc

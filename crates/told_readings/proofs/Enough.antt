@@ -5,7 +5,7 @@ use Rattle.std.specs.Prelude.{All}
 use Rattle.std.specs.List.{AllByRecursion, range_with_len}
 use Rattle.std.proofs.lemmas.Bool.{false≢true}
 use Rattle.std.proofs.lemmas.List.{get_or-set_same, get_or-set_other, get_or_past, length-replicate, length-set}
-use Rattle.swap_base.specs.Lists.{IsIn, IsMoment}
+use Rattle.swap_base.specs.Lists.{IsElement, IsMoment}
 use Rattle.swap_base.proofs.Lists.{and_both, at_moment, from_filter, in_filter, in_range, below_or}
 use Rattle.swap_digraph.specs.declared.deal.Deal.{Deal}
 use Rattle.swap_digraph.specs.declared.deal.Version.{Version}
@@ -45,12 +45,12 @@ use Rattle.told_readings.proofs.Needed.{IsNeededHere, all_told}
 
 -- ---- what holds of each of a list
 
-pub each_in : {A : Type 0} (P : A → Type 0) (xs : List A) → AllByRecursion P xs → (x : A) → IsIn x xs → P x
+pub each_in : {A : Type 0} (P : A → Type 0) (xs : List A) → AllByRecursion P xs → (x : A) → IsElement x xs → P x
 each_in P [] h x i = absurd i
 each_in P (y ∷ xs) h x (inl e) = subst P (sym e) h.0
 each_in P (y ∷ xs) h x (inr i) = each_in P xs h.1 x i
 
-all_from_in : {A : Type 0} (P : A → Type 0) (xs : List A) → ((x : A) → IsIn x xs → P x) → All P xs
+all_from_in : {A : Type 0} (P : A → Type 0) (xs : List A) → ((x : A) → IsElement x xs → P x) → All P xs
 all_from_in P [] h i d lt = absurd (omega arith)
 all_from_in P (x ∷ xs) h zero d lt = h x (inl refl)
 all_from_in P (x ∷ xs) h (suc i) d lt = all_from_in P xs (λ y j. h y (inr j)) i d (omega arith)
@@ -94,7 +94,7 @@ pub record IsToldHere (d : Deal) (v a : ℕ) (h : List Entry) (t : ToldLedger) :
 
 module _ (d : Deal) (v a : ℕ) (sized : IsWellSized d) (party_of : v < d.graph.n) (h : List Entry) (ls : List (List ℕ)) (lt : a < length d.graph.arcs)
     (k : IsTellable d v a h) where
-  typed_here : (e : Entry) → IsIn e h → IsTyped e
+  typed_here : (e : Entry) → IsElement e h → IsTyped e
   typed_here = each_in IsTyped h k.typed
 
   ticks_by : (past : List Entry) (e : Entry) (s : Sender) (w : What) → e.sender ≡ s → e.what ≡ w → is_ticking w ≡ true
@@ -120,10 +120,10 @@ module _ (d : Deal) (v a : ℕ) (sized : IsWellSized d) (party_of : v < d.graph.
       }) x.apart s
 
   -- another: there a publish of the correct terms was accepted, if it enters v
-  not_leaving : counterparty d a ≡ v → IsIn a (leaving d.graph v) → ⊥
+  not_leaving : counterparty d a ≡ v → IsElement a (leaving d.graph v) → ⊥
   not_leaving e i = sized.ends.apart a lt ((leaves d v a i).1 ∙ sym e)
 
-  is_entering : counterparty d a ≡ v → IsIn a (entering d.graph v)
+  is_entering : counterparty d a ≡ v → IsElement a (entering d.graph v)
   is_entering e =
       in_filter (λ x. (ends d.graph x).to == v) a (arcs d.graph) (in_range a (length d.graph.arcs) lt) (eq-eqb (counterparty d a) v e)
 

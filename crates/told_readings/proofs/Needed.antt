@@ -8,7 +8,7 @@ use Rattle.std.proofs.lemmas.Bool.{false≢true}
 use Rattle.std.proofs.lemmas.List.{get_or-append_right}
 use Rattle.swap_base.specs.Fault.{◌>>=◌}
 use Rattle.swap_base.specs.Lists.{or_else, IsMoment}
-use Rattle.swap_base.proofs.Lists.{and_both, at_moment, first_of-front, none_of}
+use Rattle.swap_base.proofs.Lists.{and_both, at_moment, first_given_answer-front, none_of}
 use Rattle.swap_digraph.specs.declared.deal.Deal.{Deal}
 use Rattle.swap_digraph.specs.Deal.{counterparty, party}
 use Rattle.escrow_core.specs.declared.reply.Reply.{Reply}
@@ -35,10 +35,10 @@ use Rattle.told_books.specs.Told.{is_of_contract, is_told, telling}
 use Rattle.told_books.proofs.Filters.{filter-off, filter-on, moment-filter}
 use Rattle.told_books.proofs.Telling.{says_telling}
 use Rattle.typed_books.specs.Typed.{IsTypedSender, IsTypedWhat}
-use Rattle.transcript_lines.specs.Between.{parts_at, spaced}
+use Rattle.transcript_lines.specs.Between.{separated_parts, spaced}
 use Rattle.transcript_lines.specs.Lines.{IsStatable, entry_line}
 use Rattle.transcript_lines.specs.Words.{entry_words}
-use Rattle.transcript_book.specs.Entries.{entry_of}
+use Rattle.transcript_book.specs.Entries.{parse_next_entry}
 use Rattle.transcript_book.proofs.Complete.{entry_back}
 use Rattle.told_ledgers.specs.declared.kind.Kind.{Kind}
 use Rattle.told_ledgers.specs.declared.kind.Kind.TheVariants.{Read, Noise, Publish as PublishLine, Accepted as AcceptedLine}
@@ -148,7 +148,7 @@ module _ (d : Deal) (v a : ℕ) (small : v < 256) (h : List Entry) (u : IsNeeded
     statable_here = all_moments IsStatable (telling v h) (telling v past) e u.statable moment
 
     read : stated_entry (now (telling v past) us) line ≡ Ok e
-    read = ap (entry_of d a (telling v past)) own ∙ entry_back d a (telling v past) e formed_here statable_here
+    read = ap (parse_next_entry d a (telling v past)) own ∙ entry_back d a (telling v past) e formed_here statable_here
 
     taken : with_stated n (now (telling v past) us) (Ok e) ≡ More (now (telling v (past ++ e ∷ [])) (us ++ own_unlock n (pick_call v e)))
     taken =
@@ -176,7 +176,7 @@ module _ (d : Deal) (v a : ℕ) (small : v < 256) (h : List Entry) (u : IsNeeded
         published_more past e ∙ ap (λ (o : Option Publication). or_else o (or_else (publication e.height (accepted e)) None)) before
         ∙ ap (λ (o : Option Publication). or_else o None) y.publication in
         let whole = is ∙ sym (append_assoc past (e ∷ []) more) in
-        let all = ap published whole ∙ first_of-front (λ x. publication x.height (accepted x)) (past ++ e ∷ []) more _ at in
+        let all = ap published whole ∙ first_given_answer-front (λ x. publication x.height (accepted x)) (past ++ e ∷ []) more _ at in
         let terms : same_terms y.terms (stated_terms d a) ≡ true = sym (ap (is_arc_correct d a) all) ∙ u.correct mine in
         let legal = subst (λ (w : What). IsLegalEntry d a (telling v past) (Party p) w e.height e.reply) y.what
         (subst (λ (s : Sender). IsLegalEntry d a (telling v past) s e.what e.height e.reply) es legal_here) in
@@ -207,8 +207,8 @@ module _ (d : Deal) (v a : ℕ) (small : v < 256) (h : List Entry) (u : IsNeeded
     of_call p c PublishLine es ew k other = by_kind PublishLine refl (publish_kind p c es ew k)
 
     of_party : (p : ℕ) (c : Call) (t : Bool) → (p == v) ≡ t → e.sender ≡ Party p → e.what ≡ Made c → p < 256
-        → line_kind v (parts_at 32 line) ≡ line_kind v (entry_words (Party p) (Made c) e.reply)
-        → HeardAll (past ++ e ∷ []) (line_heard n (now (telling v past) us) (line_kind v (parts_at 32 line)) line)
+        → line_kind v (separated_parts 32 line) ≡ line_kind v (entry_words (Party p) (Made c) e.reply)
+        → HeardAll (past ++ e ∷ []) (line_heard n (now (telling v past) us) (line_kind v (separated_parts 32 line)) line)
     of_party p c true q es ew lp k =
         subst (λ (x : Kind). HeardAll (past ++ e ∷ []) (line_heard n (now (telling v past) us) x line))
         (sym (k ∙ ap (λ z. line_kind v (entry_words (Party z) (Made c) e.reply)) (eqb-true p v q) ∙ own_kind v c e.reply)) (by_kind Read refl refl)
@@ -222,24 +222,24 @@ module _ (d : Deal) (v a : ℕ) (small : v < 256) (h : List Entry) (u : IsNeeded
         (of_call p c (call_kind c e.reply) es ew refl (not_noise c e.reply contract))
 
     of_entry : (s : Sender) (w : What) → e.sender ≡ s → e.what ≡ w → IsTypedSender s → IsTypedWhat w → IsFormedWhat d a (telling v past) s w e.height
-        → HeardAll (past ++ e ∷ []) (line_heard n (now (telling v past) us) (line_kind v (parts_at 32 line)) line)
+        → HeardAll (past ++ e ∷ []) (line_heard n (now (telling v past) us) (line_kind v (separated_parts 32 line)) line)
     of_entry (Party p) (Made c) es ew ts tw f =
-        of_party p c (p == v) refl es ew ts (ap (λ (l : List ℕ). line_kind v (parts_at 32 l)) (own
+        of_party p c (p == v) refl es ew ts (ap (λ (l : List ℕ). line_kind v (separated_parts 32 l)) (own
         ∙ ap (λ (s : Sender). spaced (entry_words s e.what e.reply)) es ∙ ap (λ (w : What). spaced (entry_words (Party p) w e.reply)) ew)
         ∙ ap (line_kind v) (call_parts p c e.reply ts tw statable_here.reply))
     of_entry Clock (Tick j) es ew ts tw f =
         subst (λ (x : Kind). HeardAll (past ++ e ∷ []) (line_heard n (now (telling v past) us) x line))
-        (sym (ap (λ (l : List ℕ). line_kind v (parts_at 32 l)) (own
+        (sym (ap (λ (l : List ℕ). line_kind v (separated_parts 32 l)) (own
         ∙ ap (λ (s : Sender). spaced (entry_words s e.what e.reply)) es ∙ ap (λ (w : What). spaced (entry_words Clock w e.reply)) ew)
         ∙ ap (line_kind v) (tick_parts j e.reply tw) ∙ tick_kind v j e.reply)) (by_kind Read refl refl)
     of_entry (Party p) (Tick j) es ew ts tw f = absurd f
     of_entry Clock (Made c) es ew ts tw f = absurd f
 
-    told_step : HeardAll (past ++ e ∷ []) (line_heard n (now (telling v past) us) (line_kind v (parts_at 32 line)) line)
+    told_step : HeardAll (past ++ e ∷ []) (line_heard n (now (telling v past) us) (line_kind v (separated_parts 32 line)) line)
     told_step = of_entry e.sender e.what refl refl statable_here.sender statable_here.what formed_here.what
 
   step : (n : ℕ) (past more : List Entry) (us : List OwnUnlock) (e : Entry) (line : List ℕ) (t : Bool) → h ≡ past ++ e ∷ more → is_told v e ≡ t
-      → SaysEntry false d v a e line → HeardAll (past ++ e ∷ []) (line_heard n (now (telling v past) us) (line_kind v (parts_at 32 line)) line)
+      → SaysEntry false d v a e line → HeardAll (past ++ e ∷ []) (line_heard n (now (telling v past) us) (line_kind v (separated_parts 32 line)) line)
   step n past more us e line true is told s = told_step n past more us e line is told (s.0 told)
   step n past more us e line false is told s = (
     us,
@@ -258,6 +258,6 @@ module _ (d : Deal) (v a : ℕ) (small : v < 256) (h : List Entry) (u : IsNeeded
   all_told n past [] us (l ∷ ls) is s = absurd s
   all_told n past (e ∷ rest) us [] is s = absurd s
   all_told n past (e ∷ rest) us (l ∷ ls) is s =
-      then_all n ls (past ++ e ∷ []) (line_heard n (now (telling v past) us) (line_kind v (parts_at 32 l)) l)
+      then_all n ls (past ++ e ∷ []) (line_heard n (now (telling v past) us) (line_kind v (separated_parts 32 l)) l)
       (step n past rest us e l (is_told v e) is refl s.0)
       (λ ws. all_told (n + 1) (past ++ e ∷ []) rest ws ls (is ∙ sym (append_assoc past (e ∷ []) rest)) s.1)

@@ -3,8 +3,8 @@ use Rattle.std.proofs.Common.{◌≡◌, ◌⊎◌, ◌&&◌, ◌||◌, ◌==◌
 use Rattle.std.proofs.Common.{Result, Ok, Err, refl, sym, ap, ◌∙◌, subst, inl, inr, append_assoc, eqb-true, eq-eqb}
 use Rattle.std.specs.Prelude.{codes}
 use Rattle.std.proofs.lemmas.Bool.{false≢true}
-use Rattle.swap_base.specs.Lists.{or_else, IsIn, IsMoment}
-use Rattle.swap_base.proofs.Lists.{first_of-append, first_of-front, and_both, in_from_moment, none_of, or_else-none}
+use Rattle.swap_base.specs.Lists.{or_else, IsElement, IsMoment}
+use Rattle.swap_base.proofs.Lists.{first_given_answer-append, first_given_answer-front, and_both, in_from_moment, none_of, or_else-none}
 use Rattle.swap_digraph.specs.declared.deal.Deal.{Deal}
 use Rattle.swap_digraph.specs.Deal.{counterparty, party}
 use Rattle.swap_digraph.specs.Graph.{leaving}
@@ -19,7 +19,7 @@ use Rattle.ledger_core.specs.declared.entry.Sender.TheVariants.{Party, Clock}
 use Rattle.ledger_core.specs.declared.entry.What.{What}
 use Rattle.ledger_core.specs.declared.entry.What.TheVariants.{Call as Made, Tick}
 use Rattle.ledger_core.specs.declared.entry.Entry.{Entry}
-use Rattle.ledger_core.specs.History.{accepted, accepted_call, is_sender, publication, published, read_raw_call, Publication}
+use Rattle.ledger_core.specs.History.{accepted, accepted_call, is_sender, publication, published, made_call, Publication}
 use Rattle.swap_rules.specs.Party.{is_arc_correct, pick_call}
 use Rattle.swap_rules.specs.Due.{has_called}
 use Rattle.swap_rules.specs.Rest.{is_ticking}
@@ -31,7 +31,7 @@ use Rattle.told_books.proofs.Filters.{any-append}
 use Rattle.told_books.proofs.Merging.{no_accepted}
 use Rattle.typed_books.specs.Typed.{IsTypedReply, IsTypedSender, IsTypedWhat}
 use Rattle.transcript_lines.specs.declared.said.Misspelling.{Misspelling}
-use Rattle.transcript_lines.specs.Between.{parts_at, spaced}
+use Rattle.transcript_lines.specs.Between.{separated_parts, spaced}
 use Rattle.transcript_lines.specs.Reading.{is_word}
 use Rattle.transcript_lines.specs.Words.{entry_words}
 use Rattle.transcript_lines.specs.Lines.{IsStatable, entry_line}
@@ -65,7 +65,7 @@ pub record IsQuiet (v : ℕ) (x : Entry) : Type 0 where
   pub call : pick_call v x ≡ None
 
 pub published_more : (k : List Entry) (x : Entry) → published (k ++ x ∷ []) ≡ or_else (published k) (or_else (publication x.height (accepted x)) None)
-published_more k x = first_of-append (λ e. publication e.height (accepted e)) k (x ∷ [])
+published_more k x = first_given_answer-append (λ e. publication e.height (accepted e)) k (x ∷ [])
 
 pub published_still : (k : List Entry) (x : Entry) → publication x.height (accepted x) ≡ None → published (k ++ x ∷ []) ≡ published k
 published_still k x none =
@@ -141,12 +141,12 @@ module _ (v : ℕ) (small : v < 256) where
     unpublished = ap (λ (w : What). publication x.height (accepted_call w x.reply)) ew ∙ unpublishing x.height c x.reply
         (accepted_only c x.reply (not (is_accepted x.reply) || is_transfer_call c) (is_publish_call c) refl
         (sym (other_kind v p c x.reply lp small (λ q. false≢true (sym e ∙ eq-eqb p v q))) ∙ k));
-    call = ap (λ (s : Sender). cond (is_sender v s) (read_raw_call x.what) None) es ∙ ap (λ t. cond t (read_raw_call x.what) None) e;
+    call = ap (λ (s : Sender). cond (is_sender v s) (made_call x.what) None) es ∙ ap (λ t. cond t (made_call x.what) None) e;
   }
 
   -- the line of an accepted call of somebody else that is no publish
   foreign_by : (x : Entry) (s : Sender) (w : What) → x.sender ≡ s → x.what ≡ w → IsTypedSender s → IsTypedWhat w → IsTypedReply x.reply
-      → line_kind v (parts_at 32 (spaced (entry_words s w x.reply))) ≡ AcceptedLine → IsQuiet v x
+      → line_kind v (separated_parts 32 (spaced (entry_words s w x.reply))) ≡ AcceptedLine → IsQuiet v x
   foreign_by x (Party p) (Made c) es ew ts tw tr k =
       call_quiet x p c (p == v) es ew ts refl (sym (ap (line_kind v) (call_parts p c x.reply ts tw tr)) ∙ k)
   foreign_by x Clock (Tick n) es ew ts tw tr k =
@@ -154,17 +154,17 @@ module _ (v : ℕ) (small : v < 256) where
   foreign_by x (Party p) (Tick n) es ew ts tw tr k = absurd (read_not k)
   foreign_by x Clock (Made c) es ew ts tw tr k = absurd (read_not k)
 
-  pub foreign_quiet : (x : Entry) (line : List ℕ) → line ≡ entry_line x → IsStatable x → line_kind v (parts_at 32 line) ≡ AcceptedLine → IsQuiet v x
+  pub foreign_quiet : (x : Entry) (line : List ℕ) → line ≡ entry_line x → IsStatable x → line_kind v (separated_parts 32 line) ≡ AcceptedLine → IsQuiet v x
   foreign_quiet x line is st k =
-      foreign_by x x.sender x.what refl refl st.sender st.what st.reply (sym (ap (λ (l : List ℕ). line_kind v (parts_at 32 l)) is) ∙ k)
+      foreign_by x x.sender x.what refl refl st.sender st.what st.reply (sym (ap (λ (l : List ℕ). line_kind v (separated_parts 32 l)) is) ∙ k)
 
   -- the line of a tick
   tick_by : (x : Entry) (n : ℕ) (r : Reply) (s : Sender) (w : What) → x.sender ≡ s → x.what ≡ w → IsTypedSender s → IsTypedWhat w → IsTypedReply x.reply
-      → entry_words Clock (Tick n) r ≡ parts_at 32 (spaced (entry_words s w x.reply)) → IsQuiet v x
+      → entry_words Clock (Tick n) r ≡ separated_parts 32 (spaced (entry_words s w x.reply)) → IsQuiet v x
   tick_by x n r (Party p) (Made c) es ew ts tw tr e = absurd (tick_word n r p c x.reply (e ∙ call_parts p c x.reply ts tw tr))
   tick_by x n r Clock (Tick k) es ew ts tw tr e = record {
     unpublished = ap (publication x.height) (no_accepted x.what x.reply (ap (λ (w : What). is_ticking w) ew));
-    call = ap (λ (s : Sender). cond (is_sender v s) (read_raw_call x.what) None) es;
+    call = ap (λ (s : Sender). cond (is_sender v s) (made_call x.what) None) es;
   }
   tick_by x n r (Party p) (Tick k) es ew ts tw tr e = absurd (no_words e)
     where
@@ -178,7 +178,7 @@ module _ (v : ℕ) (small : v < 256) where
   pub tick_quiet : (x : Entry) (n : ℕ) (r : Reply) (line : List ℕ) → n < 2 ^ 32 → line ≡ spaced (entry_words Clock (Tick n) r) → line ≡ entry_line x
       → IsStatable x → IsQuiet v x
   tick_quiet x n r line lt tick is st =
-      tick_by x n r x.sender x.what refl refl st.sender st.what st.reply (sym (tick_parts n r lt) ∙ ap (parts_at 32) (sym tick ∙ is))
+      tick_by x n r x.sender x.what refl refl st.sender st.what st.reply (sym (tick_parts n r lt) ∙ ap (separated_parts 32) (sym tick ∙ is))
 
 -- ---- a line of a useless arc
 
@@ -234,13 +234,13 @@ module _ (d : Deal) (v a : ℕ) (small : v < 256) (n : ℕ) (k : List Entry) (us
       (i, refl)
 
   pub tick_on : (b : Bool) (m : ℕ) (r : Reply) → m < 2 ^ 32 → line ≡ spaced (entry_words Clock (Tick m) r)
-      → StaysIdle v b (line_heard n (at b) (line_kind v (parts_at 32 line)) line)
+      → StaysIdle v b (line_heard n (at b) (line_kind v (separated_parts 32 line)) line)
   tick_on b m r lt is =
       subst (λ (kind : Kind). StaysIdle v b (line_heard n (at b) kind line))
-      (sym (ap (λ (l : List ℕ). line_kind v (parts_at 32 l)) is ∙ ap (line_kind v) (tick_parts m r lt) ∙ tick_kind v m r))
+      (sym (ap (λ (l : List ℕ). line_kind v (separated_parts 32 l)) is ∙ ap (line_kind v) (tick_parts m r lt) ∙ tick_kind v m r))
       (read_on b Read refl refl (λ x e. let p = entry_is d a k line x e in tick_quiet v small x m r line lt is p.line_is p.statable))
 
-  accepted_on : (b : Bool) → line_kind v (parts_at 32 line) ≡ AcceptedLine → StaysIdle v b (line_heard n (at b) AcceptedLine line)
+  accepted_on : (b : Bool) → line_kind v (separated_parts 32 line) ≡ AcceptedLine → StaysIdle v b (line_heard n (at b) AcceptedLine line)
   accepted_on true e = passed_on true AcceptedLine refl
   accepted_on false e =
       read_on false AcceptedLine refl refl (λ x q. let p = entry_is d a k line x q in foreign_quiet v small x line p.line_is p.statable e)
@@ -251,7 +251,7 @@ module _ (d : Deal) (v a : ℕ) (small : v < 256) (n : ℕ) (k : List Entry) (us
   wrong_on (Err f) e w = refl
 
   -- what somebody else's call makes of the ledger, by its kind
-  pub by_kind : (b c : Bool) (kind : Kind) → line_kind v (parts_at 32 line) ≡ kind → (kind ≡ Read → ⊥)
+  pub by_kind : (b c : Bool) (kind : Kind) → line_kind v (separated_parts 32 line) ≡ kind → (kind ≡ Read → ⊥)
       → (kind ≡ Noise → c ≡ b) → (kind ≡ AcceptedLine → c ≡ b) → (kind ≡ PublishLine → c ≡ true)
       → (kind ≡ PublishLine → b ≡ false → (v == counterparty d a) ≡ true)
       → (kind ≡ PublishLine → b ≡ false → (x : Entry) → IsStatable x → line ≡ entry_line x → is_correct_publish d a x.sender x.what ≡ false)
@@ -328,7 +328,7 @@ first_wrong d a h past more e is wrong none p =
     let now : published (past ++ e ∷ []) ≡ Some (record { height = e.height; terms = p.terms }) =
     published_more past e ∙ ap (λ (o : Option Publication). or_else o (or_else (publication e.height (accepted e)) None)) none
     ∙ ap (λ (o : Option Publication). or_else o None) p.publication in
-    let all = ap published is ∙ first_of-front (λ x. publication x.height (accepted x)) (past ++ e ∷ []) more _ now in
+    let all = ap published is ∙ first_given_answer-front (λ x. publication x.height (accepted x)) (past ++ e ∷ []) more _ now in
     ap (is_correct_publish d a e.sender) p.what ∙ wrong_terms d a e.sender p.terms (sym (ap (is_arc_correct d a) all) ∙ wrong)
 
 -- ---- a useless history
@@ -345,9 +345,9 @@ same_state s d v a b ed ev ea eb =
 pub record IsUselessHere (d : Deal) (v a : ℕ) (h : List Entry) : Type 0 where
   pub mine : (v == counterparty d a) ≡ true
   pub wrong : is_arc_correct d a (published h) ≡ false
-  pub silent : (e : Entry) → IsIn e h → pick_call v e ≡ None
+  pub silent : (e : Entry) → IsElement e h → pick_call v e ≡ None
   pub clock : (past : List Entry) (e : Entry) → IsMoment h past e → is_ticking e.what ≡ true → e.sender ≡ Clock
-  pub typed : (e : Entry) → IsIn e h → IsTyped e
+  pub typed : (e : Entry) → IsElement e h → IsTyped e
 
 module _ (d : Deal) (v a : ℕ) (small : v < 256) (h : List Entry) (u : IsUselessHere d v a h) where
   abbrev now : List Entry → List OwnUnlock → Bool → LedgerSoFar
@@ -359,13 +359,13 @@ module _ (d : Deal) (v a : ℕ) (small : v < 256) (h : List Entry) (u : IsUseles
   -- one entry
   tick_step : (n : ℕ) (past more k : List Entry) (us : List OwnUnlock) (e : Entry) (line : List ℕ) (j : ℕ) → h ≡ past ++ e ∷ more → IsIdle v k
       → e.what ≡ Tick j → line ≡ entry_line e
-      → StaysIdle v (is_past (past ++ e ∷ [])) (line_heard n (now k us (is_past past)) (line_kind v (parts_at 32 line)) line)
+      → StaysIdle v (is_past (past ++ e ∷ [])) (line_heard n (now k us (is_past past)) (line_kind v (separated_parts 32 line)) line)
   tick_step n past more k us e line j is i ew own =
-      let t = u.typed e (subst (IsIn e) (sym is) (in_from_moment past e more)) in
+      let t = u.typed e (subst (IsElement e) (sym is) (in_from_moment past e more)) in
       let sender = u.clock past e (more, is) (ap (λ (w : What). is_ticking w) ew) in
       let small_tick : j < 2 ^ 32 = subst IsTypedWhat ew t.what in
       let same = published_still past e (ap (publication e.height) (no_accepted e.what e.reply (ap (λ (w : What). is_ticking w) ew))) in
-      subst (λ b. StaysIdle v b (line_heard n (now k us (is_past past)) (line_kind v (parts_at 32 line)) line))
+      subst (λ b. StaysIdle v b (line_heard n (now k us (is_past past)) (line_kind v (separated_parts 32 line)) line))
       (sym (ap (λ (o : Option Publication). is_some o) same))
       (tick_on d v a small n k us i line (is_past past) j e.reply small_tick
       (own ∙ ap (λ (s : Sender). spaced (entry_words s e.what e.reply)) sender ∙ ap (λ (w : What). spaced (entry_words Clock w e.reply)) ew))
@@ -385,9 +385,9 @@ module _ (d : Deal) (v a : ℕ) (small : v < 256) (h : List Entry) (u : IsUseles
 
   call_step : (n : ℕ) (past more k : List Entry) (us : List OwnUnlock) (e : Entry) (line : List ℕ) (c : Call) → h ≡ past ++ e ∷ more → IsIdle v k
       → e.what ≡ Made c → IsForeignLine d v a e line
-      → StaysIdle v (is_past (past ++ e ∷ [])) (line_heard n (now k us (is_past past)) (line_kind v (parts_at 32 line)) line)
+      → StaysIdle v (is_past (past ++ e ∷ [])) (line_heard n (now k us (is_past past)) (line_kind v (separated_parts 32 line)) line)
   call_step n past more k us e line c is i ew f =
-      let kind : line_kind v (parts_at 32 line) ≡ call_kind c e.reply = subst (λ (w : What). IsKindOfCall v w e.reply line) ew f.kind in
+      let kind : line_kind v (separated_parts 32 line) ≡ call_kind c e.reply = subst (λ (w : What). IsKindOfCall v w e.reply line) ew f.kind in
       let whole = is ∙ sym (append_assoc past (e ∷ []) more) in
       let still : publication e.height (accepted_call (Made c) e.reply) ≡ None → is_past (past ++ e ∷ []) ≡ is_past past =
       λ q. ap (λ (o : Option Publication). is_some o) (published_still past e
@@ -403,7 +403,7 @@ module _ (d : Deal) (v a : ℕ) (small : v < 256) (h : List Entry) (u : IsUseles
 
   entry_step : (n : ℕ) (past more k : List Entry) (us : List OwnUnlock) (e : Entry) (line : List ℕ) (w : What) → h ≡ past ++ e ∷ more → IsIdle v k
       → e.what ≡ w → SaysEntry true d v a e line
-      → StaysIdle v (is_past (past ++ e ∷ [])) (line_heard n (now k us (is_past past)) (line_kind v (parts_at 32 line)) line)
+      → StaysIdle v (is_past (past ++ e ∷ [])) (line_heard n (now k us (is_past past)) (line_kind v (separated_parts 32 line)) line)
   entry_step n past more k us e line (Tick j) is i ew s = tick_step n past more k us e line j is i ew (s.0 (ap (λ (x : What). is_ticking x) ew))
   entry_step n past more k us e line (Made c) is i ew s = call_step n past more k us e line c is i ew (s.1 (ap (λ (x : What). is_ticking x) ew))
 
@@ -423,12 +423,12 @@ module _ (d : Deal) (v a : ℕ) (small : v < 256) (h : List Entry) (u : IsUseles
   idle_rest n past (e ∷ rest) k us [] is i s = absurd s
   idle_rest n past (e ∷ rest) k us (l ∷ ls) is i s =
       then_idle n ls (now k us (is_past past)) (is_past (past ++ e ∷ []))
-      (line_heard n (now k us (is_past past)) (line_kind v (parts_at 32 l)) l) refl refl refl
-      (heard_same n (now k us (is_past past)) (line_kind v (parts_at 32 l)) l) (entry_step n past rest k us e l e.what is i refl s.0)
+      (line_heard n (now k us (is_past past)) (line_kind v (separated_parts 32 l)) l) refl refl refl
+      (heard_same n (now k us (is_past past)) (line_kind v (separated_parts 32 l)) l) (entry_step n past rest k us e l e.what is i refl s.0)
       (λ x ws j. idle_rest (n + 1) (past ++ e ∷ []) rest x ws ls (is ∙ sym (append_assoc past (e ∷ []) rest)) j s.1)
 
 -- no call is called
-no_calls : (v : ℕ) (test : Option Call → Bool) → test None ≡ false → (h : List Entry) → ((e : Entry) → IsIn e h → pick_call v e ≡ None)
+no_calls : (v : ℕ) (test : Option Call → Bool) → test None ≡ false → (h : List Entry) → ((e : Entry) → IsElement e h → pick_call v e ≡ None)
     → has_called v test h ≡ false
 no_calls v test n [] s = refl
 no_calls v test n (e ∷ h) s =
@@ -436,7 +436,7 @@ no_calls v test n (e ∷ h) s =
     ∙ no_calls v test n h (λ x i. s x (inr i))
 
 -- what is told of a useless arc is useless too
-pub useless_told : (d : Deal) (v a : ℕ) (small : v < 256) (h : List Entry) (ls : List (List ℕ)) → IsUselessHere d v a h → (IsIn a (leaving d.graph v) → ⊥)
+pub useless_told : (d : Deal) (v a : ℕ) (small : v < 256) (h : List Entry) (ls : List (List ℕ)) → IsUselessHere d v a h → (IsElement a (leaving d.graph v) → ⊥)
     → SayEntries true d v a h ls → AreUseless d v a (heard_ledger (all_heard 0 (nothing_read d v a) ls)).history h
 useless_told d v a small h ls u apart s =
     let i = idle_rest d v a small h u 0 [] h [] [] ls refl (idle_first v) s in record {

@@ -20,14 +20,14 @@ use Rattle.ledger_core.specs.declared.entry.Sender.TheVariants.{Party, Clock}
 use Rattle.ledger_core.specs.declared.entry.What.{What}
 use Rattle.ledger_core.specs.declared.entry.What.TheVariants.{Call as Made, Tick}
 use Rattle.ledger_core.specs.declared.entry.Entry.{Entry}
-use Rattle.ledger_core.specs.History.{accepted_call, is_sender, read_raw_call}
+use Rattle.ledger_core.specs.History.{accepted_call, is_sender, made_call}
 use Rattle.swap_rules.specs.Party.{pick_call}
 use Rattle.swap_rules.specs.Rest.{is_ticking}
 use Rattle.told_books.specs.Told.{is_of_contract, is_told}
 use Rattle.typed_books.specs.Typed.{IsTypedCall, IsTypedReply, IsTypedSender, IsTypedWhat}
 use Rattle.transcript_lines.specs.declared.said.Said.{Said}
 use Rattle.transcript_lines.specs.declared.said.Misspelling.{Misspelling}
-use Rattle.transcript_lines.specs.Between.{parts_at, spaced}
+use Rattle.transcript_lines.specs.Between.{separated_parts, spaced}
 use Rattle.transcript_lines.specs.Lines.{entry_line}
 use Rattle.transcript_lines.specs.Reading.{is_word, line_said}
 use Rattle.transcript_lines.specs.Words.{call_words, entry_words}
@@ -58,14 +58,14 @@ idle_noise Refund r true q k = absurd (cc (sym (ap (λ x. is_of_contract (accept
 module _ (v : ℕ) (small : v < 256) where
   -- the kind of somebody else's call
   kind_here : (e : Entry) (p : ℕ) (c : Call) → e.sender ≡ Party p → e.what ≡ Made c → p < 256 → IsTypedCall c → IsTypedReply e.reply → (p == v) ≡ false
-      → line_kind v (parts_at 32 (entry_line e)) ≡ call_kind c e.reply
+      → line_kind v (separated_parts 32 (entry_line e)) ≡ call_kind c e.reply
   kind_here e p c es ew lp kc kr other =
-      ap (λ (s : Sender). line_kind v (parts_at 32 (spaced (entry_words s e.what e.reply)))) es
-      ∙ ap (λ (w : What). line_kind v (parts_at 32 (spaced (entry_words (Party p) w e.reply)))) ew
+      ap (λ (s : Sender). line_kind v (separated_parts 32 (spaced (entry_words s e.what e.reply)))) es
+      ∙ ap (λ (w : What). line_kind v (separated_parts 32 (spaced (entry_words (Party p) w e.reply)))) ew
       ∙ ap (line_kind v) (call_parts p c e.reply lp kc kr) ∙ other_kind v p c e.reply lp small (λ q. false≢true (sym other ∙ eq-eqb p v q))
 
   noise_by : (e : Entry) (s : Sender) (w : What) → e.sender ≡ s → e.what ≡ w → IsMade s w → IsTypedSender s → IsTypedWhat w → IsTypedReply e.reply
-      → is_told v e ≡ false → line_kind v (parts_at 32 (entry_line e)) ≡ Noise
+      → is_told v e ≡ false → line_kind v (separated_parts 32 (entry_line e)) ≡ Noise
   noise_by e (Party p) (Made c) es ew m ts tw tr t =
       let parts = or_neither (is_ticking e.what || is_sender v e.sender) (is_of_contract (accepted_call e.what e.reply)) t in
       let both = or_neither (is_ticking e.what) (is_sender v e.sender) parts.0 in
@@ -162,7 +162,7 @@ module _ (d : Deal) (a : ℕ) (sized : IsWellSized d) where
       let theirs : entry_line x ≡ spaced (entry_words (Party y) (Made (Publish t)) x.reply) =
       ap (λ (z : Sender). spaced (entry_words z x.what x.reply)) xs ∙ ap (λ (z : What). spaced (entry_words (Party y) z x.reply)) xw in
       let lines = sym mine ∙ same ∙ theirs in
-      let words = sym (call_parts p c Accepted lp kc tt) ∙ ap (parts_at 32) lines ∙ call_parts y (Publish t) x.reply ts tw tr in
+      let words = sym (call_parts p c Accepted lp kc tt) ∙ ap (separated_parts 32) lines ∙ call_parts y (Publish t) x.reply ts tw tr in
       let taken : x.reply ≡ Accepted = accepted_here x.reply (sym (same_reply_too p y c (Publish t) Accepted x.reply words)) in
       let publish = publish_word p y c Accepted x.reply t words in
       let lines_too : spaced (entry_words (Party p) (Made (Publish publish.0)) Accepted) ≡ spaced (entry_words (Party y) (Made (Publish t)) Accepted) =
@@ -198,7 +198,7 @@ module _ (d : Deal) (a : ℕ) (sized : IsWellSized d) where
       → IsTypedReply e.reply → pick_call v e ≡ None → is_ticking e.what ≡ false → IsForeignLine d v a e (entry_line e)
   useless_by v small e (Party p) (Made c) es ew m ts tw tr none t =
       foreign_by v small e p c es ew ts tw tr (other (p == v) refl
-      (sym (ap (λ (s : Sender). cond (is_sender v s) (read_raw_call e.what) None) es ∙ ap (λ (w : What). cond (p == v) (read_raw_call w) None) ew) ∙ none))
+      (sym (ap (λ (s : Sender). cond (is_sender v s) (made_call e.what) None) es ∙ ap (λ (w : What). cond (p == v) (made_call w) None) ew) ∙ none))
     where
       other : (b : Bool) → (p == v) ≡ b → cond (p == v) (Some c) None ≡ None → (p == v) ≡ false
       other false q k = q

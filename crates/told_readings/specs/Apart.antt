@@ -3,13 +3,13 @@ use Rattle.std.specs.Prelude.{◌≡◌, ◌<◌, ◌≤◌, ◌+◌, ◌++◌, 
 use Rattle.std.specs.Prelude.{if◌then◌else◌}
 use Rattle.swap_digraph.specs.declared.deal.Deal.{Deal}
 use Rattle.swap_digraph.specs.Deal.{touches, IsWellSized}
-use Rattle.transcript_lines.specs.Between.{parts_at, spaced}
+use Rattle.transcript_lines.specs.Between.{separated_parts, spaced}
 use Rattle.told_ledgers.specs.declared.told.ToldLedger.{ToldLedger}
 use Rattle.told_ledgers.specs.declared.one_ledger.Heard.{Heard}
 use Rattle.told_ledgers.specs.declared.one_ledger.Heard.TheVariants.{More, Bad}
 use Rattle.told_ledgers.specs.SoFar.{LedgerSoFar}
 use Rattle.told_ledgers.specs.Words.{line_kind}
-use Rattle.told_ledgers.specs.Ledger.{line_heard, nothing_read, read_whole, untold}
+use Rattle.told_ledgers.specs.Ledger.{line_heard, nothing_read, whole_told_ledger, untold}
 use Rattle.told_ledgers.specs.Telling.{ledgers_told}
 
 -- ---- one ledger
@@ -22,10 +22,10 @@ then_heard (Bad t) f = Bad t
 -- is read
 abbrev pub all_heard : ℕ → LedgerSoFar → List (List ℕ) → Heard
 all_heard n s [] = More s
-all_heard n s (l ∷ ls) = then_heard (line_heard n s (line_kind s.me (parts_at 32 l)) l) (λ t. all_heard (n + 1) t ls)
+all_heard n s (l ∷ ls) = then_heard (line_heard n s (line_kind s.me (separated_parts 32 l)) l) (λ t. all_heard (n + 1) t ls)
 
 abbrev pub heard_ledger : Heard → ToldLedger
-heard_ledger (More s) = read_whole s
+heard_ledger (More s) = whole_told_ledger s
 heard_ledger (Bad t) = t
 
 -- what is told to v of the ledger of arc a by its lines alone

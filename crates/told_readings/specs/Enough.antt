@@ -2,7 +2,7 @@
 use Rattle.std.specs.Prelude.{◌≡◌, ◌<◌, ◌^◌, ◌||◌, not, ℕ, Bool, true, false, List, [], ◌∷◌, length, map, None, Ok, is_some, slice_index_or}
 use Rattle.std.specs.Prelude.{if◌then◌else◌}
 use Rattle.std.specs.List.{AllByRecursion}
-use Rattle.swap_base.specs.Lists.{IsIn}
+use Rattle.swap_base.specs.Lists.{IsElement}
 use Rattle.swap_digraph.specs.Graph.{arcs, leaving}
 use Rattle.swap_digraph.specs.declared.deal.Deal.{Deal}
 use Rattle.swap_digraph.specs.Deal.{touches, IsWellSized}
@@ -19,8 +19,8 @@ use Rattle.swap_rules.specs.Party.{is_arc_correct}
 use Rattle.swap_rules.specs.Due.{has_called}
 use Rattle.swap_rules.specs.Rest.{is_ticking}
 use Rattle.told_books.specs.Told.{is_told, is_useless, IsNeededChain, SayEnough}
-use Rattle.told_books.specs.Laws.{IsWithin}
-use Rattle.transcript_lines.specs.Between.{parts_at}
+use Rattle.told_books.specs.Laws.{KeepsLedgerLimits}
+use Rattle.transcript_lines.specs.Between.{separated_parts}
 use Rattle.transcript_lines.specs.Lines.{IsStatable, entry_line}
 use Rattle.transcript_book.specs.Stated.{IsTyped}
 use Rattle.told_ledgers.specs.declared.kind.Kind.{Kind}
@@ -50,7 +50,7 @@ abbrev pub call_kind : Call → Reply → Kind
 call_kind c reply = if not (is_accepted reply) || is_transfer_call c then Noise else if is_publish_call c then PublishLine else AcceptedLine
 
 abbrev pub IsKindOfCall : ℕ → What → Reply → List ℕ → Type 0
-IsKindOfCall v (Made c) reply line = line_kind v (parts_at 32 line) ≡ call_kind c reply
+IsKindOfCall v (Made c) reply line = line_kind v (separated_parts 32 line) ≡ call_kind c reply
 IsKindOfCall v (Tick k) reply line = ⊥
 
 -- The line tells somebody else's call in whatever words. The line of an accepted call that isn't a
@@ -64,7 +64,7 @@ pub record IsForeignLine (d : Deal) (v a : ℕ) (e : Entry) (line : List ℕ) : 
 -- tells one of its kind; of another arc an entry has its line, but noise any line of noise.
 abbrev pub SaysEntry : (useless : Bool) → Deal → (v a : ℕ) → Entry → List ℕ → Type 0
 SaysEntry true d v a e line = (is_ticking e.what ≡ true → line ≡ entry_line e) × (is_ticking e.what ≡ false → IsForeignLine d v a e line)
-SaysEntry false d v a e line = (is_told v e ≡ true → line ≡ entry_line e) × (is_told v e ≡ false → line_kind v (parts_at 32 line) ≡ Noise)
+SaysEntry false d v a e line = (is_told v e ≡ true → line ≡ entry_line e) × (is_told v e ≡ false → line_kind v (separated_parts 32 line) ≡ Noise)
 
 abbrev pub SayEntries : (useless : Bool) → Deal → (v a : ℕ) → List Entry → List (List ℕ) → Type 0
 SayEntries useless d v a [] [] = Unit {0}
@@ -78,9 +78,9 @@ SayEntries useless d v a _ _ = ⊥
 -- a publish of the correct terms.
 pub record IsTellable (d : Deal) (v a : ℕ) (h : List Entry) : Type 0 where
   pub chain : IsNeededChain d v a h
-  pub within : IsWithin v h
+  pub within : KeepsLedgerLimits v h
   pub typed : AllByRecursion IsTyped h
-  pub silent : (IsIn a (leaving d.graph v) → ⊥) → is_arc_correct d a (published h) ≡ false → has_called v is_some h ≡ false
+  pub silent : (IsElement a (leaving d.graph v) → ⊥) → is_arc_correct d a (published h) ≡ false → has_called v is_some h ≡ false
 
 -- A book of what each ledger had done, with the lines that say it: nothing stands on an arc that
 -- doesn't touch v.
@@ -92,8 +92,8 @@ pub record IsToldBook (d : Deal) (v : ℕ) (k : Histories) (lines : ℕ → List
   pub says : (a : ℕ) → a < length k → SayEntries (is_useless d v a (history k a)) d v a (history k a) (lines a)
 
 -- the ledgers of all arcs, with these lines
-abbrev pub ledgers_with : Deal → (ℕ → List (List ℕ)) → List LedgerLines
-ledgers_with d lines = map (λ a. record { arc = a; lines = lines a }) (arcs d.graph)
+abbrev pub deal_ledger_lines : Deal → (ℕ → List (List ℕ)) → List LedgerLines
+deal_ledger_lines d lines = map (λ a. record { arc = a; lines = lines a }) (arcs d.graph)
 
 -- What is told says enough of the book, and no entry of an arc that isn't useless is bad.
 pub record IsToldEnough (d : Deal) (v : ℕ) (k : Histories) (ts : List ToldLedger) : Type 0 where
@@ -105,4 +105,4 @@ pub record IsToldEnough (d : Deal) (v : ℕ) (k : Histories) (ts : List ToldLedg
 abbrev pub LinesSayEnough : Type 0
 LinesSayEnough =
     (d : Deal) (v first : ℕ) (k : Histories) (lines : ℕ → List (List ℕ)) → IsWellSized d → v < d.graph.n → IsToldBook d v k lines
-    → (ts : List ToldLedger) × (ledgers_told d v first (all_lines (ledgers_with d lines)) ≡ Ok ts) × IsToldEnough d v k ts
+    → (ts : List ToldLedger) × (ledgers_told d v first (all_lines (deal_ledger_lines d lines)) ≡ Ok ts) × IsToldEnough d v k ts

@@ -17,7 +17,7 @@ use Rattle.transcript_book.specs.Stated.{IsTyped}
 use Rattle.told_ledgers.specs.declared.told.ToldLedger.{ToldLedger}
 use Rattle.told_ledgers.specs.Telling.{ledgers_told, told_book}
 use Rattle.told_readings.specs.Apart.{all_lines}
-use Rattle.told_readings.specs.Enough.{IsToldBook, SaysEntry, ledgers_with}
+use Rattle.told_readings.specs.Enough.{IsToldBook, SaysEntry, deal_ledger_lines}
 
 -- a party calls, and the clock ticks
 abbrev pub IsMade : Sender → What → Type 0
@@ -43,5 +43,5 @@ abbrev pub LinesAreHeard : Type 0
 LinesAreHeard =
     (d : Deal) (v first : ℕ) (b k : Histories) (lines : ℕ → List (List ℕ)) (kept : ℕ → Option Hashkey) → IsWellSized d → v < d.graph.n
     → IsToldBook d v k lines → ((a : ℕ) → Begins (history k a) (history b a))
-    → (ts : List ToldLedger) × (ledgers_told d v first (all_lines (ledgers_with d lines)) ≡ Ok ts)
+    → (ts : List ToldLedger) × (ledgers_told d v first (all_lines (deal_ledger_lines d lines)) ≡ Ok ts)
     × IsHeard d v b (record { asking = record { known = told_book ts; kept = kept }; behind = k })

@@ -19,17 +19,17 @@ use Rattle.ledger_core.specs.History.{height, fit}
 use Rattle.ledger_core.specs.Ledger.{call_entry, tick_entry}
 use Rattle.ledger_core.specs.Book.{Histories}
 use Rattle.swap_job.specs.declared.job.Job.{Job}
-use Rattle.ledger_core.specs.WellFormed.{GoesOn, IsFormedWhat, IsFormedEntry, written_height}
+use Rattle.ledger_core.specs.WellFormed.{IsFormedContinuation, IsFormedWhat, IsFormedEntry, written_height}
 use Rattle.transcript_lines.specs.declared.said.Misspelling.{Misspelling}
-use Rattle.transcript_lines.specs.Lines.{IsStatable, IsStated, entry_line, ledger_lines, lines_from}
-use Rattle.transcript_lines.specs.Reading.{field_of, line_said, misspelt, bounded_number, number_of}
+use Rattle.transcript_lines.specs.Lines.{IsStatable, IsStated, entry_line, ledger_lines, lines_from_arc}
+use Rattle.transcript_lines.specs.Reading.{parse_first_field, line_said, misspelt, bounded_number, decimal_number}
 use Rattle.transcript_lines.proofs.Numbers.{below_back, high_number, number_back}
 use Rattle.transcript_lines.proofs.Parts.{high_too, parts_between}
 use Rattle.transcript_lines.proofs.Spelling.{field_back}
 use Rattle.transcript_lines.proofs.Stories.{entry_says, inside_said}
 use Rattle.transcript_book.specs.Counts.{parse_limited_count, just, ledger_word, words_count}
-use Rattle.transcript_book.specs.Entries.{parse_entry, entry_of, placed_as}
-use Rattle.transcript_book.specs.Stages.{BookSoFar, begun, ended, entry_read, gone_on, ledger_read, line_read}
+use Rattle.transcript_book.specs.Entries.{parse_entry, parse_next_entry, placed_entry}
+use Rattle.transcript_book.specs.Stages.{BookSoFar, begun, ended, entry_read, with_next_entry, ledger_read, line_read}
 use Rattle.transcript_book.specs.Books.{WholeIsRead, whole}
 use Rattle.transcript_book.proofs.Heights.{held_again}
 use Rattle.transcript_book.proofs.Placed.{count_line}
@@ -41,11 +41,11 @@ stepped r x f e = ap (λ (q : Result _ Misspelling). q >>= f) e
 
 -- ---- the line before the entries of an arc
 
-word_back : (ws : List (List ℕ)) → field_of ledger_word (codes "ledger" ∷ ws) ≡ Ok (tt, ws)
+word_back : (ws : List (List ℕ)) → parse_first_field ledger_word (codes "ledger" ∷ ws) ≡ Ok (tt, ws)
 word_back ws = field_back ledger_word (codes "ledger") tt ws refl
 
 just_back : (a : ℕ) → a < 2 ^ 64 → just a (decimal a) ≡ Ok tt
-just_back a lt = stepped (number_of (decimal a)) a (λ n. cond (n == a) (Ok tt) misspelt) (number_back a lt)
+just_back a lt = stepped (decimal_number (decimal a)) a (λ n. cond (n == a) (Ok tt) misspelt) (number_back a lt)
     ∙ ap (λ t. cond t (Ok tt) misspelt) (eq-eqb a a refl)
 
 words_back : (a n : ℕ) → a < 2 ^ 64 → n ≤ 20064 → words_count a (codes "ledger" ∷ decimal a ∷ decimal n ∷ []) ≡ Ok n
@@ -68,7 +68,7 @@ count_back a n lt le =
 
 -- an entry that has the form is placed as it is
 pub placed_back : (d : Deal) (a : ℕ) (past : List Entry) (s : Sender) (w : What) (reply : Reply) (at : ℕ) → IsFormedWhat d a past s w at
-    → placed_as d a (written_height (height past)) reply s w ≡ Ok (record { sender = s; height = at; what = w; reply = reply })
+    → placed_entry d a (written_height (height past)) reply s w ≡ Ok (record { sender = s; height = at; what = w; reply = reply })
 placed_back d a past (Party p) (Made c) reply at f =
     ap (λ t. cond t (Ok (call_entry p (written_height (height past)) c reply)) misspelt) (and_both (touches d p a) (fit d a c) f.of_the_two f.fits)
     ∙ ap (λ (h : ℕ). Ok (call_entry p h c reply)) (sym f.height)
@@ -80,7 +80,7 @@ placed_back d a past (Party p) (Tick k) reply at f = absurd f
 placed_back d a past Clock (Made c) reply at f = absurd f
 
 -- an entry is read from its line
-pub entry_back : (d : Deal) (a : ℕ) (past : List Entry) (e : Entry) → IsFormedEntry d a past e → IsStatable e → entry_of d a past (entry_line e) ≡ Ok e
+pub entry_back : (d : Deal) (a : ℕ) (past : List Entry) (e : Entry) → IsFormedEntry d a past e → IsStatable e → parse_next_entry d a past (entry_line e) ≡ Ok e
 unfolding parse_entry
 entry_back d a past e f k =
     stepped (line_said (length d.leaders) (entry_line e)) (inside_said e) _ (entry_says d a past e f k)
@@ -92,16 +92,16 @@ rest_of : (e : Entry) (h : List Entry) → All IsStatable (e ∷ h) → All IsSt
 rest_of e h k i d lt = k (suc i) d (omega arith)
 
 -- the entries of a ledger, at least one
-entries_back : (job : Job) (b : Histories) (h : List Entry) (e : Entry) (more : List Entry) (ls : List (List ℕ)) → GoesOn job.deal (length b) h (e ∷ more)
+entries_back : (job : Job) (b : Histories) (h : List Entry) (e : Entry) (more : List Entry) (ls : List (List ℕ)) → IsFormedContinuation job.deal (length b) h (e ∷ more)
     → All IsStatable (e ∷ more)
     → steps line_read (in_ledger job b h (suc (length more))) (map entry_line (e ∷ more) ++ ls) ≡ steps line_read (at_ledger job (b ++ (h ++ e ∷ more) ∷ [])) ls
 unfolding steps entry_read
 entries_back job b h e [] ls f k =
-    stepped _ (gone_on (in_ledger job b h 1) e) _
-    (stepped (entry_of job.deal (length b) h (entry_line e)) e _ (entry_back job.deal (length b) h e f.0 (k 0 e (omega arith))))
+    stepped _ (with_next_entry (in_ledger job b h 1) e) _
+    (stepped (parse_next_entry job.deal (length b) h (entry_line e)) e _ (entry_back job.deal (length b) h e f.0 (k 0 e (omega arith))))
 entries_back job b h e (x ∷ more) ls f k =
-    stepped _ (gone_on (in_ledger job b h (suc (suc (length more)))) e) _
-    (stepped (entry_of job.deal (length b) h (entry_line e)) e _ (entry_back job.deal (length b) h e f.0 (k 0 e (omega arith))))
+    stepped _ (with_next_entry (in_ledger job b h (suc (suc (length more)))) e) _
+    (stepped (parse_next_entry job.deal (length b) h (entry_line e)) e _ (entry_back job.deal (length b) h e f.0 (k 0 e (omega arith))))
     ∙ ap (λ (s : BookSoFar). steps line_read s (map entry_line (x ∷ more) ++ ls)) (one_left job b h (length more) e)
     ∙ entries_back job b (h ++ e ∷ []) x more ls f.1 (rest_of e (x ∷ more) k)
     ∙ ap (λ (l : List Entry). steps line_read (at_ledger job (b ++ l ∷ [])) ls) (append_assoc h (e ∷ []) (x ∷ more))
@@ -117,7 +117,7 @@ ledger_begun job b n ls lt small le =
     ∙ stepped (parse_limited_count (length b) (count_line (length b) n)) n _ (count_back (length b) n small le))
 
 ledger_back : (job : Job) (b : Histories) (h : List Entry) (ls : List (List ℕ)) → length b < length job.deal.graph.arcs → length b < 2 ^ 64
-    → GoesOn job.deal (length b) [] h → All IsStatable h → length h ≤ 20064
+    → IsFormedContinuation job.deal (length b) [] h → All IsStatable h → length h ≤ 20064
     → steps line_read (at_ledger job b) (ledger_lines (length b) h ++ ls) ≡ steps line_read (at_ledger job (b ++ h ∷ [])) ls
 ledger_back job b [] ls lt small f k few = ledger_begun job b 0 ls lt small few
 ledger_back job b (e ∷ h) ls lt small f k few =
@@ -136,24 +136,24 @@ end_back job b all =
     not_less e = le-ltb (length b) (length job.deal.graph.arcs) (omega arith)
 
 book_back : (job : Job) (b rest : Histories) → length b + length rest ≡ length job.deal.graph.arcs → length job.deal.graph.arcs < 2 ^ 64
-    → AreFrom job.deal (length b) rest → steps line_read (at_ledger job b) (lines_from (length b) rest) ≡ Ok (whole job (b ++ rest))
+    → AreFrom job.deal (length b) rest → steps line_read (at_ledger job b) (lines_from_arc (length b) rest) ≡ Ok (whole job (b ++ rest))
 book_back job b [] all small k = end_back job b (omega arith) ∙ ap (λ (c : Histories). Ok (whole job c)) (sym (append-nil b))
 book_back job b (h ∷ rest) all small k =
     let long : length (b ++ h ∷ []) ≡ length b + 1 = length-append b (h ∷ []) in
-    ledger_back job b h (lines_from (length b + 1) rest) (omega arith) (omega arith) k.0 k.1 k.2
-    ∙ ap (λ (a : ℕ). steps line_read (at_ledger job (b ++ h ∷ [])) (lines_from a rest)) (sym long)
+    ledger_back job b h (lines_from_arc (length b + 1) rest) (omega arith) (omega arith) k.0 k.1 k.2
+    ∙ ap (λ (a : ℕ). steps line_read (at_ledger job (b ++ h ∷ [])) (lines_from_arc a rest)) (sym long)
     ∙ book_back job (b ++ h ∷ []) rest (omega arith) small (subst (λ (a : ℕ). AreFrom job.deal a rest) (sym long) k.3)
     ∙ ap (λ (c : Histories). Ok (whole job c)) (append_assoc b (h ∷ []) rest)
 
-are_from : (d : Deal) (a : ℕ) (b : Histories) → ((i : ℕ) → i < length b → GoesOn d (a + i) [] (get_or b i []))
+are_from : (d : Deal) (a : ℕ) (b : Histories) → ((i : ℕ) → i < length b → IsFormedContinuation d (a + i) [] (get_or b i []))
     → ((i : ℕ) → i < length b → All IsStatable (get_or b i [])) → ((i : ℕ) → i < length b → length (get_or b i []) ≤ 20064) → AreFrom d a b
 are_from d a [] f k l = tt
 are_from d a (h ∷ b) f k l = (
-  (let z : ◌≡◌ {A = ℕ} (a + 0) a = omega arith in subst (λ (j : ℕ). GoesOn d j [] h) z (f 0 (omega arith))),
+  (let z : ◌≡◌ {A = ℕ} (a + 0) a = omega arith in subst (λ (j : ℕ). IsFormedContinuation d j [] h) z (f 0 (omega arith))),
   k 0 (omega arith),
   l 0 (omega arith),
   are_from d (a + 1) b (λ i lt. let z : ◌≡◌ {A = ℕ} (a + suc i) (a + 1 + i) = omega arith in
-      subst (λ (j : ℕ). GoesOn d j [] (get_or b i [])) z (f (suc i) (omega arith))) (λ i lt. k (suc i) (omega arith)) (λ i lt. l (suc i) (omega arith)),
+      subst (λ (j : ℕ). IsFormedContinuation d j [] (get_or b i [])) z (f (suc i) (omega arith))) (λ i lt. k (suc i) (omega arith)) (λ i lt. l (suc i) (omega arith)),
 )
 
 pub few_arcs : (d : Deal) → IsWellSized d → length d.graph.arcs < 2 ^ 64
@@ -165,8 +165,8 @@ few_arcs d k = by d.version k.arcs.1
 
 pub stated_from : (d : Deal) (b : Histories) → IsStated d b → AreFrom d 0 b
 stated_from d b k =
-    let formed : (i : ℕ) → i < length b → GoesOn d (0 + i) [] (get_or b i []) =
-    λ i lt. let z : ◌≡◌ {A = ℕ} i (0 + i) = omega arith in subst (λ (j : ℕ). GoesOn d j [] (get_or b i [])) z (k.formed.formed i lt) in
+    let formed : (i : ℕ) → i < length b → IsFormedContinuation d (0 + i) [] (get_or b i []) =
+    λ i lt. let z : ◌≡◌ {A = ℕ} i (0 + i) = omega arith in subst (λ (j : ℕ). IsFormedContinuation d j [] (get_or b i [])) z (k.formed.formed i lt) in
     are_from d 0 b formed k.statable k.few
 
 pub whole_is_read : WholeIsRead

@@ -6,9 +6,9 @@ use Rattle.ledger_core.specs.declared.entry.Sender.TheVariants.{Party, Clock}
 use Rattle.ledger_core.specs.declared.entry.What.TheVariants.{Call as Made, Tick}
 use Rattle.hashkey_path.proofs.Validity.{bytes_eq-true}
 use Rattle.transcript_lines.specs.declared.said.Said.{Said}
-use Rattle.transcript_lines.specs.Between.{between, spaced, parts_at}
+use Rattle.transcript_lines.specs.Between.{between, spaced, separated_parts}
 use Rattle.transcript_lines.specs.Words.{entry_words, call_words}
-use Rattle.transcript_lines.specs.Reading.{bounded_number, field_of, parse_call, make_reply, equals, nothing_more, call_said, tick_said, words_said}
+use Rattle.transcript_lines.specs.Reading.{bounded_number, parse_first_field, parse_call, make_reply, equals, nothing_more, call_said, tick_said, words_said}
 use Rattle.transcript_lines.specs.Reading.{line_said}
 use Rattle.transcript_book.specs.Spelling.{IsSpelling, OneSpelling}
 use Rattle.transcript_book.proofs.Exact.{IsExact, went, ok_is, if_ok, below_is, parts_whole}
@@ -25,9 +25,9 @@ equals_is w u e = let p = if_ok _ (Ok tt) u e in (bytes_eq-true w (codes "=") p.
 call_said_is : (locks : ℕ) (ws : List (List ℕ)) (s : Said) → call_said locks ws ≡ Ok s → IsSaidBy locks (codes "c" ∷ ws) s
 unfolding call_said
 call_said_is locks ws s e =
-    let a = went (field_of (bounded_number 256) ws) _ s e in
+    let a = went (parse_first_field (bounded_number 256) ws) _ s e in
     let b = went (parse_call locks a.0.1) _ s a.2 in
-    let d = went (field_of equals b.0.1) _ s b.2 in
+    let d = went (parse_first_field equals b.0.1) _ s b.2 in
     let f = went (make_reply d.0.1) _ s d.2 in
     let t : Said = record { sender = Party a.0.0; what = Made b.0.0; reply = f.0 } in
     let same : t ≡ s = ok_is t s f.2 in
@@ -57,7 +57,7 @@ none_more (w ∷ ws) u e = absurd (cc e)
 tick_said_is : (locks : ℕ) (ws : List (List ℕ)) (s : Said) → tick_said ws ≡ Ok s → IsSaidBy locks (codes "t" ∷ ws) s
 unfolding tick_said
 tick_said_is locks ws s e =
-    let a = went (field_of (bounded_number (2 ^ 32)) ws) _ s e in
+    let a = went (parse_first_field (bounded_number (2 ^ 32)) ws) _ s e in
     let b = went (nothing_more a.0.1) _ s a.2 in
     let t : Said = record { sender = Clock; what = Tick a.0.0; reply = Accepted } in
     let same : t ≡ s = ok_is t s b.2 in
@@ -90,5 +90,5 @@ words_said_is locks (w ∷ ws) s e =
 pub one_spelling : OneSpelling
 unfolding line_said
 one_spelling locks line s e =
-    let k = words_said_is locks (parts_at 32 line) s e in
+    let k = words_said_is locks (separated_parts 32 line) s e in
     subst (λ (l : List ℕ). IsSpelling locks l s) (sym (ap (between 32) k.words) ∙ parts_whole 32 line) k.said

@@ -14,16 +14,16 @@ use Rattle.hex.specs.Hex.{IsBytes, encode_lower, decode_sized}
 use Rattle.swap_base.specs.Fault.{◌>>=◌}
 use Rattle.swap_base.specs.Text.{joined}
 use Rattle.swap_base.proofs.Lists.{and_parts}
-use Rattle.hash_signature.specs.Signature.{for_chains, value_at, text_values}
+use Rattle.hash_signature.specs.Signature.{for_chains, signature_value, text_values}
 use Rattle.hash_signature.proofs.Chains.{get_or-for_chains}
 use Rattle.hash_signature.proofs.Values.{joined-text_values}
 use Rattle.hashkey_path.proofs.Validity.{bytes_eq-true}
 use Rattle.transcript_lines.specs.declared.said.Misspelling.{Misspelling}
-use Rattle.transcript_lines.specs.Between.{between, longer_first, parts_at}
+use Rattle.transcript_lines.specs.Between.{between, longer_first, separated_parts}
 use Rattle.typed_books.specs.Typed.{IsDigest, IsSignature}
 use Rattle.transcript_lines.specs.Words.{list_word, signature_word}
-use Rattle.transcript_lines.specs.Reading.{misspelt, continue_reading, number_of, bounded_number, is_lower_digit, decoded, bytes_of, to_digest}
-use Rattle.transcript_lines.specs.Reading.{parse_signature, each_of}
+use Rattle.transcript_lines.specs.Reading.{misspelt, continue_reading, decimal_number, bounded_number, is_lower_digit, decoded, lower_hex_bytes, to_digest}
+use Rattle.transcript_lines.specs.Reading.{parse_signature, parse_each_word}
 use Rattle.transcript_lines.specs.Reading.{inside_entries}
 use Rattle.transcript_book.proofs.HexDigits.{digits_are}
 
@@ -76,7 +76,7 @@ first_is b bs n other e =
     let rest = read_is (0 * 10 + (b - 48)) bs n (omega arith) (omega arith) p.1 in
     (ap (λ (l : List ℕ). l ++ bs) (sym one) ∙ rest.0, rest.1)
 
-pub number_is : IsExact number_of decimal (λ n. n < 2 ^ 64)
+pub number_is : IsExact decimal_number decimal (λ n. n < 2 ^ 64)
 number_is [] n e = absurd (cc e)
 number_is (b ∷ bs) n e = by (b == 48) refl e
   where
@@ -90,7 +90,7 @@ number_is (b ∷ bs) n e = by (b == 48) refl e
 
 pub below_is : (limit : ℕ) → IsExact (bounded_number limit) decimal (λ n. n < limit)
 below_is limit w n e =
-    let p = went (number_of w) (λ m. cond (nat_lt m limit) (Ok m) misspelt) n e in
+    let p = went (decimal_number w) (λ m. cond (nat_lt m limit) (Ok m) misspelt) n e in
     let q = if_ok (nat_lt p.0 limit) (Ok p.0) n p.2 in
     let same : p.0 ≡ n = ok_is p.0 n q.1 in
     ((number_is w p.0 p.1).0 ∙ ap decimal same, subst (λ m. m < limit) same (ltb-true p.0 limit q.0))
@@ -101,7 +101,7 @@ decoded_ok : (r : Result (List ℕ) FromHexError) (xs : List ℕ) → decoded r 
 decoded_ok (Ok ys) xs e = ap (λ (l : List ℕ). Ok l) (ok_is ys xs e)
 decoded_ok (Err f) xs e = absurd (cc e)
 
-bytes_are : (n : ℕ) (w xs : List ℕ) → bytes_of n w ≡ Ok xs → (w ≡ encode_lower xs) × (length xs ≡ n) × IsBytes xs
+bytes_are : (n : ℕ) (w xs : List ℕ) → lower_hex_bytes n w ≡ Ok xs → (w ≡ encode_lower xs) × (length xs ≡ n) × IsBytes xs
 bytes_are n w xs e =
     let p = if_ok (list_all is_lower_digit w) (decoded (decode_sized w n)) xs e in
     digits_are n w xs p.0 (decoded_ok (decode_sized w n) xs p.1)
@@ -123,7 +123,7 @@ bytes_take zero xs h = λ i. omega arith
 bytes_take (suc n) [] h = h
 bytes_take (suc n) (x ∷ xs) h = bytes_cons x (take n xs) (h 0) (bytes_take n xs (λ i. h (suc i)))
 
-value_is : (bytes : List ℕ) (j : ℕ) → length bytes ≡ 2144 → IsBytes bytes → j < 67 → IsDigest (value_at bytes j)
+value_is : (bytes : List ℕ) (j : ℕ) → length bytes ≡ 2144 → IsBytes bytes → j < 67 → IsDigest (signature_value bytes j)
 value_is bytes j size h lt = record {
   size = length-take-le 32 (drop (32 * j) bytes) (omega (arith, length-drop (32 * j) bytes));
   bytes = bytes_take 32 (drop (32 * j) bytes) (bytes_drop (32 * j) bytes h);
@@ -131,17 +131,17 @@ value_is bytes j size h lt = record {
 
 pub many_values : (bytes : List ℕ) → length (text_values bytes) ≡ 67
 unfolding text_values for_chains
-many_values bytes = length-map-range_with_len (value_at bytes) 0 67
+many_values bytes = length-map-range_with_len (signature_value bytes) 0 67
 
 pub each_value : (bytes : List ℕ) → length bytes ≡ 2144 → IsBytes bytes → All IsDigest (text_values bytes)
 unfolding text_values
 each_value bytes size h j d lt =
     let below : j < 67 = omega (arith, many_values bytes) in
-    subst IsDigest (sym (get_or-for_chains (value_at bytes) j d below)) (value_is bytes j size h below)
+    subst IsDigest (sym (get_or-for_chains (signature_value bytes) j d below)) (value_is bytes j size h below)
 
 pub signature_is : IsExact parse_signature signature_word IsSignature
 signature_is w s e =
-    let p = went (bytes_of 2144 w) (λ bytes. Ok (text_values bytes)) s e in
+    let p = went (lower_hex_bytes 2144 w) (λ bytes. Ok (text_values bytes)) s e in
     let k = bytes_are 2144 w p.0 p.1 in
     let same : text_values p.0 ≡ s = ok_is (text_values p.0) s p.2 in
     let back : joined s ≡ p.0 = ap joined (sym same) ∙ joined-text_values p.0 k.1 in
@@ -155,9 +155,9 @@ longer_between b x (w ∷ []) = refl
 longer_between b x (w ∷ v ∷ ws) = refl
 
 -- some part stands before those after the first byte b
-pub parts_some : (b : ℕ) (xs : List ℕ) → 0 < length (parts_at b xs)
+pub parts_some : (b : ℕ) (xs : List ℕ) → 0 < length (separated_parts b xs)
 parts_some b [] = omega arith
-parts_some b (x ∷ xs) = by (x == b) (parts_at b xs) (parts_some b xs)
+parts_some b (x ∷ xs) = by (x == b) (separated_parts b xs) (parts_some b xs)
   where
     by : (t : Bool) (ws : List (List ℕ)) → 0 < length ws → 0 < length (cond t ([] ∷ ws) (longer_first x ws))
     by true ws some = omega arith
@@ -169,14 +169,14 @@ between_after b [] some = absurd (omega arith)
 between_after b (w ∷ ws) some = refl
 
 -- the text is its parts, with the byte between each two of them
-pub parts_whole : (b : ℕ) (xs : List ℕ) → between b (parts_at b xs) ≡ xs
+pub parts_whole : (b : ℕ) (xs : List ℕ) → between b (separated_parts b xs) ≡ xs
 parts_whole b [] = refl
 parts_whole b (x ∷ xs) = by (x == b) refl (parts_whole b xs)
   where
-    by : (t : Bool) → (x == b) ≡ t → between b (parts_at b xs) ≡ xs
-        → between b (cond t ([] ∷ parts_at b xs) (longer_first x (parts_at b xs))) ≡ x ∷ xs
-    by true e rest = between_after b (parts_at b xs) (parts_some b xs) ∙ ap₂ (λ (y : ℕ) (l : List ℕ). y ∷ l) (sym (eqb-true x b e)) rest
-    by false e rest = longer_between b x (parts_at b xs) ∙ ap (λ (l : List ℕ). x ∷ l) rest
+    by : (t : Bool) → (x == b) ≡ t → between b (separated_parts b xs) ≡ xs
+        → between b (cond t ([] ∷ separated_parts b xs) (longer_first x (separated_parts b xs))) ≡ x ∷ xs
+    by true e rest = between_after b (separated_parts b xs) (parts_some b xs) ∙ ap₂ (λ (y : ℕ) (l : List ℕ). y ∷ l) (sym (eqb-true x b e)) rest
+    by false e rest = longer_between b x (separated_parts b xs) ∙ ap (λ (l : List ℕ). x ∷ l) rest
 
 -- ---- lists
 
@@ -188,11 +188,11 @@ module _ {A : Type 0} (f : List ℕ → Result A Misspelling) (word : A → List
   none_all : All P []
   none_all i d lt = absurd (omega arith)
 
-  each_is : (ws : List (List ℕ)) (xs : List A) → each_of f ws ≡ Ok xs → (ws ≡ map word xs) × All P xs
+  each_is : (ws : List (List ℕ)) (xs : List A) → parse_each_word f ws ≡ Ok xs → (ws ≡ map word xs) × All P xs
   each_is [] xs e = let same : [] ≡ xs = ok_is [] xs e in (ap (map word) same, subst (λ (l : List A). All P l) same none_all)
   each_is (w ∷ ws) xs e =
       let p = went (f w) _ xs e in
-      let q = went (each_of f ws) _ xs p.2 in
+      let q = went (parse_each_word f ws) _ xs p.2 in
       let same : p.0 ∷ q.0 ≡ xs = ok_is (p.0 ∷ q.0) xs q.2 in
       let one = exact w p.0 p.1 in
       let rest = each_is ws q.0 q.1 in (
@@ -207,12 +207,12 @@ module _ {A : Type 0} (f : List ℕ → Result A Misspelling) (word : A → List
   pub list_is : IsExact (inside_entries f) (λ xs. list_word (map word xs)) (All P)
   list_is w xs e = by (bytes_eq w (codes "-")) refl e
     where
-      by : (t : Bool) → bytes_eq w (codes "-") ≡ t → cond t (Ok []) (each_of f (parts_at 44 w)) ≡ Ok xs → (w ≡ list_word (map word xs)) × All P xs
+      by : (t : Bool) → bytes_eq w (codes "-") ≡ t → cond t (Ok []) (parse_each_word f (separated_parts 44 w)) ≡ Ok xs → (w ≡ list_word (map word xs)) × All P xs
       by true q k =
           let same : [] ≡ xs = ok_is [] xs k in (
             bytes_eq-true w (codes "-") q ∙ ap (λ (l : List A). list_word (map word l)) same,
             subst (λ (l : List A). All P l) same none_all,
           )
       by false q k =
-          let h = each_is (parts_at 44 w) xs k in
-          (sym (parts_whole 44 w) ∙ some_word (parts_at 44 w) xs (parts_some 44 w) h.0, h.1)
+          let h = each_is (separated_parts 44 w) xs k in
+          (sym (parts_whole 44 w) ∙ some_word (separated_parts 44 w) xs (parts_some 44 w) h.0, h.1)

@@ -16,8 +16,8 @@ use Rattle.ledger_core.specs.declared.entry.Call.TheVariants.{Publish, Unlock, C
 use Rattle.transcript_lines.specs.declared.said.Misspelling.{Misspelling}
 use Rattle.typed_books.specs.Typed.{IsDigest, IsSignature, IsTypedCall, IsTypedReply}
 use Rattle.transcript_lines.specs.Words.{list_word, signature_word, call_words, reply_words}
-use Rattle.transcript_lines.specs.Reading.{number_of, bounded_number, to_digest, parse_signature, inside_entries, is_word, field_of, parse_locks}
-use Rattle.transcript_lines.specs.Reading.{stated_terms, key_of, read_units, pick_call, parse_call, plain_reply, numbered_reply, make_reply}
+use Rattle.transcript_lines.specs.Reading.{decimal_number, bounded_number, to_digest, parse_signature, inside_entries, is_word, parse_first_field, parse_locks}
+use Rattle.transcript_lines.specs.Reading.{stated_terms, parse_unlock_fields, read_units, pick_call, parse_call, plain_reply, numbered_reply, make_reply}
 use Rattle.transcript_book.specs.Spelling.{HasLocks}
 use Rattle.transcript_book.proofs.Exact.{IsExact, went, ok_is, number_is, below_is, digest_is, signature_is, list_is}
 
@@ -25,8 +25,8 @@ use Rattle.transcript_book.proofs.Exact.{IsExact, went, ok_is, number_is, below_
 
 -- a field, and those after it
 pub field_is : {A : Type 0} (f : List ℕ → Result A Misspelling) (word : A → List ℕ) (P : A → Type 0) → IsExact f word P
-    → (ws : List (List ℕ)) (x : A) (rest : List (List ℕ)) → field_of f ws ≡ Ok (x, rest) → (ws ≡ word x ∷ rest) × P x
-unfolding field_of
+    → (ws : List (List ℕ)) (x : A) (rest : List (List ℕ)) → parse_first_field f ws ≡ Ok (x, rest) → (ws ≡ word x ∷ rest) × P x
+unfolding parse_first_field
 field_is f word P exact [] x rest e = absurd (cc e)
 field_is {A = A} f word P exact (w ∷ ws) x rest e =
     let p = went (f w) (λ y. Ok (y, ws)) (x, rest) e in
@@ -36,14 +36,14 @@ field_is {A = A} f word P exact (w ∷ ws) x rest e =
     let k = exact w p.0 p.1 in
     (ap₂ (λ (v : List ℕ) (vs : List (List ℕ)). v ∷ vs) (k.0 ∙ ap word one) more, subst P one k.1)
 
-small_is : (ws : List (List ℕ)) (x : ℕ) (rest : List (List ℕ)) → field_of (bounded_number (2 ^ 32)) ws ≡ Ok (x, rest) → (ws ≡ decimal x ∷ rest) × (x < 2 ^ 32)
+small_is : (ws : List (List ℕ)) (x : ℕ) (rest : List (List ℕ)) → parse_first_field (bounded_number (2 ^ 32)) ws ≡ Ok (x, rest) → (ws ≡ decimal x ∷ rest) × (x < 2 ^ 32)
 small_is ws x rest e = field_is (bounded_number (2 ^ 32)) decimal (λ n. n < 2 ^ 32) (below_is (2 ^ 32)) ws x rest e
 
-pub byte_is : (ws : List (List ℕ)) (x : ℕ) (rest : List (List ℕ)) → field_of (bounded_number 256) ws ≡ Ok (x, rest) → (ws ≡ decimal x ∷ rest) × (x < 256)
+pub byte_is : (ws : List (List ℕ)) (x : ℕ) (rest : List (List ℕ)) → parse_first_field (bounded_number 256) ws ≡ Ok (x, rest) → (ws ≡ decimal x ∷ rest) × (x < 256)
 byte_is ws x rest e = field_is (bounded_number 256) decimal (λ n. n < 256) (below_is 256) ws x rest e
 
-wide_is : (ws : List (List ℕ)) (x : ℕ) (rest : List (List ℕ)) → field_of number_of ws ≡ Ok (x, rest) → (ws ≡ decimal x ∷ rest) × (x < 2 ^ 64)
-wide_is ws x rest e = field_is number_of decimal (λ n. n < 2 ^ 64) number_is ws x rest e
+wide_is : (ws : List (List ℕ)) (x : ℕ) (rest : List (List ℕ)) → parse_first_field decimal_number ws ≡ Ok (x, rest) → (ws ≡ decimal x ∷ rest) × (x < 2 ^ 64)
+wide_is ws x rest e = field_is decimal_number decimal (λ n. n < 2 ^ 64) number_is ws x rest e
 
 all_cons : {A : Type 0} (P : A → Type 0) (x : A) (xs : List A) → P x → All P xs → All P (x ∷ xs)
 all_cons P x xs p h zero d lt = p
@@ -60,7 +60,7 @@ locks_are zero ws xs rest e =
     let same : ◌≡◌ {A = List (List ℕ) × List (List ℕ)} ([], ws) (xs, rest) = ok_is ([], ws) (xs, rest) e in
     subst (λ (q : List (List ℕ) × List (List ℕ)). AreLocks 0 ws q.0 q.1) same (record { words = refl; count = refl; each = λ i d lt. absurd (omega arith) })
 locks_are (suc n) ws xs rest e =
-    let p = went (field_of to_digest ws) _ (xs, rest) e in
+    let p = went (parse_first_field to_digest ws) _ (xs, rest) e in
     let q = went (parse_locks n p.0.1) _ (xs, rest) p.2 in
     let same : ◌≡◌ {A = List (List ℕ) × List (List ℕ)} (p.0.0 ∷ q.0.0, q.0.1) (xs, rest) = ok_is (p.0.0 ∷ q.0.0, q.0.1) (xs, rest) q.2 in
     let one = field_is to_digest encode_lower IsDigest digest_is ws p.0.0 p.0.1 p.1 in
@@ -93,11 +93,11 @@ terms_are : (locks : ℕ) (ws : List (List ℕ)) (c : Call) (rest : List (List �
     → IsSaidAfter locks (codes "publish") ws c rest
 unfolding stated_terms
 terms_are locks ws c rest e =
-    let a = went (field_of (bounded_number (2 ^ 32)) ws) _ (c, rest) e in
-    let b = went (field_of (bounded_number (2 ^ 32)) a.0.1) _ (c, rest) a.2 in
-    let d = went (field_of (bounded_number (2 ^ 32)) b.0.1) _ (c, rest) b.2 in
-    let f = went (field_of (bounded_number (2 ^ 32)) d.0.1) _ (c, rest) d.2 in
-    let g = went (field_of number_of f.0.1) _ (c, rest) f.2 in
+    let a = went (parse_first_field (bounded_number (2 ^ 32)) ws) _ (c, rest) e in
+    let b = went (parse_first_field (bounded_number (2 ^ 32)) a.0.1) _ (c, rest) a.2 in
+    let d = went (parse_first_field (bounded_number (2 ^ 32)) b.0.1) _ (c, rest) b.2 in
+    let f = went (parse_first_field (bounded_number (2 ^ 32)) d.0.1) _ (c, rest) d.2 in
+    let g = went (parse_first_field decimal_number f.0.1) _ (c, rest) f.2 in
     let h = went (parse_locks locks g.0.1) _ (c, rest) g.2 in
     let t : Terms = record { locks = h.0.0; start = a.0.0; delta = b.0.0; bound = d.0.0; timelock = f.0.0; amount = g.0.0 } in
     let same : ◌≡◌ {A = Call × Rest} (Publish t, h.0.1) (c, rest) = ok_is (Publish t, h.0.1) (c, rest) h.2 in
@@ -114,13 +114,13 @@ terms_are locks ws c rest e =
       typed = record { start = ka.1; delta = kb.1; bound = kd.1; timelock = kf.1; amount = kg.1; locks = kh.each };
     })
 
-key_is : (locks : ℕ) (ws : List (List ℕ)) (c : Call) (rest : List (List ℕ)) → key_of ws ≡ Ok (c, rest) → IsSaidAfter locks (codes "unlock") ws c rest
-unfolding key_of
+key_is : (locks : ℕ) (ws : List (List ℕ)) (c : Call) (rest : List (List ℕ)) → parse_unlock_fields ws ≡ Ok (c, rest) → IsSaidAfter locks (codes "unlock") ws c rest
+unfolding parse_unlock_fields
 key_is locks ws c rest e =
-    let a = went (field_of (bounded_number 256) ws) _ (c, rest) e in
-    let b = went (field_of to_digest a.0.1) _ (c, rest) a.2 in
-    let d = went (field_of (inside_entries (bounded_number 256)) b.0.1) _ (c, rest) b.2 in
-    let f = went (field_of (inside_entries parse_signature) d.0.1) _ (c, rest) d.2 in
+    let a = went (parse_first_field (bounded_number 256) ws) _ (c, rest) e in
+    let b = went (parse_first_field to_digest a.0.1) _ (c, rest) a.2 in
+    let d = went (parse_first_field (inside_entries (bounded_number 256)) b.0.1) _ (c, rest) b.2 in
+    let f = went (parse_first_field (inside_entries parse_signature) d.0.1) _ (c, rest) d.2 in
     let key : Hashkey = record { lock = a.0.0; secret = b.0.0; path = d.0.0; sigs = f.0.0 } in
     let same : ◌≡◌ {A = Call × Rest} (Unlock key, f.0.1) (c, rest) = ok_is (Unlock key, f.0.1) (c, rest) f.2 in
     let ka = byte_is ws a.0.0 a.0.1 a.1 in
@@ -139,8 +139,8 @@ key_is locks ws c rest e =
 units_are : (locks : ℕ) (ws : List (List ℕ)) (c : Call) (rest : List (List ℕ)) → read_units ws ≡ Ok (c, rest) → IsSaidAfter locks (codes "transfer") ws c rest
 unfolding read_units
 units_are locks ws c rest e =
-    let a = went (field_of (bounded_number 256) ws) _ (c, rest) e in
-    let b = went (field_of number_of a.0.1) _ (c, rest) a.2 in
+    let a = went (parse_first_field (bounded_number 256) ws) _ (c, rest) e in
+    let b = went (parse_first_field decimal_number a.0.1) _ (c, rest) a.2 in
     let same : ◌≡◌ {A = Call × Rest} (Transfer a.0.0 b.0.0, b.0.1) (c, rest) = ok_is (Transfer a.0.0 b.0.0, b.0.1) (c, rest) b.2 in
     let ka = byte_is ws a.0.0 a.0.1 a.1 in
     let kb = wide_is a.0.1 b.0.0 b.0.1 b.1 in
@@ -244,13 +244,13 @@ numbered limit read w word n make r exact words typed s c is e =
 numbered_is : (w n : List ℕ) (r : Reply) → numbered_reply w n ≡ Ok r → IsSaidReply (w ∷ n ∷ []) r
 numbered_is w n r e =
     let P = IsSaidReply (w ∷ n ∷ []) r in
-    if_word P w (codes "TooLate") _ _ r e (numbered (2 ^ 64) number_of w (codes "TooLate") n TooLate r number_is (λ m. refl) (λ m lt. lt) (λ m q.
+    if_word P w (codes "TooLate") _ _ r e (numbered (2 ^ 64) decimal_number w (codes "TooLate") n TooLate r number_is (λ m. refl) (λ m lt. lt) (λ m q.
     absurd (cc q)) (λ m q. absurd (cc q))) (λ e1.
     if_word P w (codes "StillLocked") _ _ r e1 (numbered 256 (bounded_number 256) w (codes "StillLocked") n StillLocked r (below_is 256) (λ m. refl) (λ m lt.
     lt) (λ m q. absurd (cc q)) (λ m q. absurd (cc q))) (λ e2.
-    if_word P w (codes "NotExpired") _ _ r e2 (numbered (2 ^ 64) number_of w (codes "NotExpired") n NotExpired r number_is (λ m. refl) (λ m lt. lt) (λ m q.
+    if_word P w (codes "NotExpired") _ _ r e2 (numbered (2 ^ 64) decimal_number w (codes "NotExpired") n NotExpired r number_is (λ m. refl) (λ m lt. lt) (λ m q.
     absurd (cc q)) (λ m q. absurd (cc q))) (λ e3.
-    if_word P w (codes "NoFunds") _ _ r e3 (numbered (2 ^ 64) number_of w (codes "NoFunds") n NoFunds r number_is (λ m. refl) (λ m lt. lt) (λ m q.
+    if_word P w (codes "NoFunds") _ _ r e3 (numbered (2 ^ 64) decimal_number w (codes "NoFunds") n NoFunds r number_is (λ m. refl) (λ m lt. lt) (λ m q.
     absurd (cc q)) (λ m q. absurd (cc q))) (λ e4. absurd (cc e4)))))
 
 pub reply_is : (ws : List (List ℕ)) (r : Reply) → make_reply ws ≡ Ok r → IsSaidReply ws r

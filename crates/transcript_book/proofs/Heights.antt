@@ -18,7 +18,7 @@ use Rattle.ledger_core.specs.WellFormed.{written_height}
 use Rattle.transcript_lines.specs.declared.said.Said.{Said}
 use Rattle.transcript_lines.specs.declared.said.Misspelling.{Misspelling}
 use Rattle.transcript_lines.specs.Reading.{line_said, misspelt}
-use Rattle.transcript_book.specs.Entries.{parse_entry, placed, placed_as}
+use Rattle.transcript_book.specs.Entries.{parse_entry, placed, placed_entry}
 
 -- a height that is held, and then more
 pub held_again : (n k : ℕ) → written_height (written_height n + k) ≡ written_height (n + k)
@@ -47,7 +47,7 @@ tick_height past k at reply is =
     ap (λ n. written_height (n + k)) is ∙ held_again (height past) k ∙ ap written_height same
 
 placed_height : (d : Deal) (a : ℕ) (past : List Entry) (at : ℕ) (reply : Reply) (s : Sender) (w : What) (e : Entry) → at ≡ written_height (height past)
-    → placed_as d a at reply s w ≡ Ok e → IsHeightOf past e
+    → placed_entry d a at reply s w ≡ Ok e → IsHeightOf past e
 placed_height d a past at reply (Party p) (Made c) e is k =
     if_placed past (touches d p a && fit d a c) (call_entry p at c reply) e (call_height past p at c reply is) k
 placed_height d a past at reply Clock (Tick n) e is k =

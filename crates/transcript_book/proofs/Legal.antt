@@ -1,10 +1,11 @@
--- A legal book can be stated: it is well formed, its ticks were accepted, and its histories aren't too long.
+-- A legal book can be stated: it is well formed, its ticks were accepted, and its histories aren't
+-- too long.
 use Rattle.std.proofs.Common.{◌≡◌, ◌≢◌, ◌+◌, ◌≤◌, ℕ, zero, suc, Bool, true, false, cond, List, [], ◌∷◌, ◌++◌, length, sym, ◌∙◌, refl, ap}
 use Rattle.std.proofs.Common.{arith}
 use Rattle.std.specs.Prelude.{All}
 use Rattle.std.specs.List.{AllByRecursion, list_all}
 use Rattle.std.proofs.lemmas.Bool.{false≢true}
-use Rattle.swap_base.specs.Lists.{Moment, moments_after}
+use Rattle.swap_base.specs.Lists.{Moment, moments_after_past}
 use Rattle.swap_base.proofs.Lists.{all_moments_push, and_parts}
 use Rattle.swap_digraph.specs.declared.deal.Deal.{Deal}
 use Rattle.escrow_core.specs.declared.reply.Reply.{Reply}
@@ -93,23 +94,23 @@ abbrev IsFineMoment : Deal → ℕ → Moment Entry → Type 0
 IsFineMoment d a m = IsFine d a m.past m.now.sender m.now.what m.now.height m.now.reply
 
 module _ (d : Deal) (a : ℕ) where
-  fine_moments : (past h : List Entry) → IsLegal d a past → AllByRecursion (IsLegalMoment d a) (moments_after past h)
-      → AllByRecursion (IsFineMoment d a) (moments_after past h)
+  fine_moments : (past h : List Entry) → IsLegal d a past → AllByRecursion (IsLegalMoment d a) (moments_after_past past h)
+      → AllByRecursion (IsFineMoment d a) (moments_after_past past h)
   fine_moments past [] before l = tt
   fine_moments past (e ∷ h) before l = (
     fine d a past e.sender e.what e.height e.reply before l.0,
     fine_moments (past ++ e ∷ []) h (all_moments_push (IsLegalMoment d a) past e before l.0) l.1,
   )
 
-  formed_moments : (past h : List Entry) → AllByRecursion (IsFineMoment d a) (moments_after past h)
-      → AllByRecursion (IsFormedMoment d a) (moments_after past h)
+  formed_moments : (past h : List Entry) → AllByRecursion (IsFineMoment d a) (moments_after_past past h)
+      → AllByRecursion (IsFormedMoment d a) (moments_after_past past h)
   formed_moments past [] f = tt
   formed_moments past (e ∷ h) f = (
     record { what = f.0.formed; sender_not_full = f.0.sender_not_full; clock_not_full = f.0.clock_not_full },
     formed_moments (past ++ e ∷ []) h f.1,
   )
 
-  statable_all : (past h : List Entry) → AllByRecursion (IsFineMoment d a) (moments_after past h) → All IsTyped h → All IsStatable h
+  statable_all : (past h : List Entry) → AllByRecursion (IsFineMoment d a) (moments_after_past past h) → All IsTyped h → All IsStatable h
   statable_all past [] f t i x lt = absurd (omega arith)
   statable_all past (e ∷ h) f t zero x lt =
       let k = t 0 x (omega arith) in record { sender = k.sender; what = k.what; reply = k.reply; tick = f.0.stated }

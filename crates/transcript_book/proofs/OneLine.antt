@@ -16,7 +16,7 @@ use Rattle.ledger_core.specs.Book.{Histories}
 use Rattle.transcript_lines.specs.Between.{spaced}
 use Rattle.typed_books.specs.Typed.{IsTypedReply, IsTypedSender, IsTypedWhat}
 use Rattle.transcript_lines.specs.Words.{call_words, entry_words, reply_words}
-use Rattle.transcript_lines.specs.Lines.{IsStatable, entry_line, lines_from}
+use Rattle.transcript_lines.specs.Lines.{IsStatable, entry_line, lines_from_arc}
 use Rattle.transcript_lines.proofs.Numbers.{high_number}
 use Rattle.transcript_lines.proofs.Parts.{IsHigh, all_append, high_between, high_too}
 use Rattle.transcript_lines.proofs.Spelling.{high_call, high_reply}
@@ -64,11 +64,11 @@ entries_lines (e ∷ h) more k l =
     let first = k 0 e (omega arith) in
     (words_line e.sender e.what e.reply first.sender first.what first.reply, entries_lines h more (λ i d lt. k (suc i) d (omega arith)) l)
 
-pub book_lines : (d : Deal) (a : ℕ) (b : Histories) → AreFrom d a b → a + length b < 2 ^ 64 → AllByRecursion IsOneLine (lines_from a b)
+pub book_lines : (d : Deal) (a : ℕ) (b : Histories) → AreFrom d a b → a + length b < 2 ^ 64 → AllByRecursion IsOneLine (lines_from_arc a b)
 book_lines d a [] k small = (refl, tt)
 book_lines d a (h ∷ b) k small =
     let few = k.2 in (
       spaced_line (codes "ledger") (decimal a ∷ decimal (length h) ∷ []) refl
           (high_decimal a (omega arith), (high_decimal (length h) (omega arith), tt)),
-      entries_lines h (lines_from (a + 1) b) k.1 (book_lines d (a + 1) b k.3 (omega arith)),
+      entries_lines h (lines_from_arc (a + 1) b) k.1 (book_lines d (a + 1) b k.3 (omega arith)),
     )

@@ -17,13 +17,13 @@ use Rattle.ledger_core.specs.History.{height, fit}
 use Rattle.ledger_core.specs.Ledger.{call_entry, tick_entry}
 use Rattle.ledger_core.specs.WellFormed.{IsFormedWhat, IsFormedEntry, written_height}
 use Rattle.transcript_lines.specs.declared.said.Said.{Said}
-use Rattle.transcript_lines.specs.Between.{between, parts_at, spaced}
+use Rattle.transcript_lines.specs.Between.{between, separated_parts, spaced}
 use Rattle.typed_books.specs.Typed.{IsTypedReply, IsTypedSender, IsTypedWhat}
 use Rattle.transcript_lines.specs.Words.{entry_words}
 use Rattle.transcript_lines.specs.Lines.{IsStatable, IsStatedWhat, entry_line}
-use Rattle.transcript_lines.specs.Reading.{field_of, is_word, line_said, misspelt, nothing_more, bounded_number, number_of}
+use Rattle.transcript_lines.specs.Reading.{parse_first_field, is_word, line_said, misspelt, nothing_more, bounded_number, decimal_number}
 use Rattle.transcript_book.specs.Counts.{parse_limited_count, just, ledger_word, words_count}
-use Rattle.transcript_book.specs.Entries.{parse_entry, entry_of, placed_as}
+use Rattle.transcript_book.specs.Entries.{parse_entry, parse_next_entry, placed_entry}
 use Rattle.transcript_book.proofs.Heights.{held_again}
 use Rattle.transcript_book.specs.Spelling.{IsSpelling}
 use Rattle.transcript_book.proofs.Exact.{IsExact, went, ok_is, if_ok, below_is, number_is, parts_whole}
@@ -40,7 +40,7 @@ record IsPlaced (d : Deal) (a : ℕ) (past : List Entry) (s : Sender) (w : What)
   formed : IsFormedWhat d a past e.sender e.what e.height
 
 placed_is : (d : Deal) (a : ℕ) (past : List Entry) (s : Sender) (w : What) (reply : Reply) (e : Entry)
-    → placed_as d a (written_height (height past)) reply s w ≡ Ok e → IsPlaced d a past s w reply e
+    → placed_entry d a (written_height (height past)) reply s w ≡ Ok e → IsPlaced d a past s w reply e
 placed_is d a past (Party p) (Made c) reply e is =
     let q = if_ok (touches d p a && fit d a c) (Ok (call_entry p (written_height (height past)) c reply)) e is in
     let both = and_parts (touches d p a) (fit d a c) q.0 in
@@ -89,7 +89,7 @@ stated_by d a past line s e k p = record {
   };
 }
 
-pub entry_is : (d : Deal) (a : ℕ) (past : List Entry) (line : List ℕ) (e : Entry) → entry_of d a past line ≡ Ok e → IsEntryLine d a past line e
+pub entry_is : (d : Deal) (a : ℕ) (past : List Entry) (line : List ℕ) (e : Entry) → parse_next_entry d a past line ≡ Ok e → IsEntryLine d a past line e
 unfolding parse_entry
 entry_is d a past line e is =
     let p = went (line_said (length d.leaders) line) _ e is in
@@ -106,16 +106,16 @@ word_is w u e = let p = if_ok (is_word w (codes "ledger")) (Ok tt) u e in (bytes
 
 just_is : (a : ℕ) → IsExact (just a) (λ u. decimal a) (λ u. Unit {0})
 just_is a w u e =
-    let p = went (number_of w) (λ n. cond (n == a) (Ok tt) misspelt) u e in
+    let p = went (decimal_number w) (λ n. cond (n == a) (Ok tt) misspelt) u e in
     let q = if_ok (p.0 == a) (Ok tt) u p.2 in
     ((number_is w p.0 p.1).0 ∙ ap decimal (eqb-true p.0 a q.0), tt)
 
 words_are : (a : ℕ) (ws : List (List ℕ)) (n : ℕ) → words_count a ws ≡ Ok n → (ws ≡ codes "ledger" ∷ decimal a ∷ decimal n ∷ []) × (n ≤ 20064)
 unfolding words_count
 words_are a ws n e =
-    let p = went (field_of ledger_word ws) _ n e in
-    let q = went (field_of (just a) p.0.1) _ n p.2 in
-    let r = went (field_of (bounded_number 20065) q.0.1) _ n q.2 in
+    let p = went (parse_first_field ledger_word ws) _ n e in
+    let q = went (parse_first_field (just a) p.0.1) _ n p.2 in
+    let r = went (parse_first_field (bounded_number 20065) q.0.1) _ n q.2 in
     let s = went (nothing_more r.0.1) _ n r.2 in
     let same : r.0.0 ≡ n = ok_is r.0.0 n s.2 in
     let kp = field_is ledger_word (λ u. codes "ledger") (λ u. Unit {0}) word_is ws p.0.0 p.0.1 p.1 in
@@ -130,5 +130,5 @@ words_are a ws n e =
 pub count_is : (a : ℕ) (line : List ℕ) (n : ℕ) → parse_limited_count a line ≡ Ok n → (line ≡ count_line a n) × (n ≤ 20064)
 unfolding parse_limited_count
 count_is a line n e =
-    let k = words_are a (parts_at 32 line) n e in
+    let k = words_are a (separated_parts 32 line) n e in
     (sym (parts_whole 32 line) ∙ ap (between 32) k.0, k.1)

@@ -10,12 +10,12 @@ use Rattle.hashkey_path.proofs.Validity.{bytes_eq-true}
 use Rattle.ledger_core.specs.declared.entry.Entry.{Entry}
 use Rattle.ledger_core.specs.Book.{Histories}
 use Rattle.swap_job.specs.declared.job.Job.{Job}
-use Rattle.ledger_core.specs.WellFormed.{GoesOn}
-use Rattle.transcript_lines.specs.Lines.{IsStatable, IsStated, entry_line, lines_from}
+use Rattle.ledger_core.specs.WellFormed.{IsFormedContinuation}
+use Rattle.transcript_lines.specs.Lines.{IsStatable, IsStated, entry_line, lines_from_arc}
 use Rattle.transcript_book.specs.Counts.{parse_limited_count}
 use Rattle.transcript_book.specs.declared.place.Place.TheVariants.{Ledger, Entries, Over}
-use Rattle.transcript_book.specs.Entries.{entry_of}
-use Rattle.transcript_book.specs.Stages.{BookSoFar, begun, ended, entry_read, gone_on, ledger_read, line_read, with_whole}
+use Rattle.transcript_book.specs.Entries.{parse_next_entry}
+use Rattle.transcript_book.specs.Stages.{BookSoFar, begun, ended, entry_read, with_next_entry, ledger_read, line_read, with_whole}
 use Rattle.transcript_book.specs.Books.{ReadIsWhole, whole}
 use Rattle.transcript_book.proofs.Exact.{went, ok_is, if_ok}
 use Rattle.transcript_book.proofs.Placed.{count_is, count_line, entry_is}
@@ -24,14 +24,14 @@ use Rattle.transcript_book.proofs.Placed.{count_is, count_line, entry_is}
 
 abbrev pub AreFrom : Deal → ℕ → Histories → Type 0
 AreFrom d a [] = Unit {0}
-AreFrom d a (h ∷ b) = GoesOn d a [] h × All IsStatable h × (length h ≤ 20064) × AreFrom d (a + 1) b
+AreFrom d a (h ∷ b) = IsFormedContinuation d a [] h × All IsStatable h × (length h ≤ 20064) × AreFrom d (a + 1) b
 
-formed_at : (d : Deal) (a : ℕ) (b : Histories) (i : ℕ) → AreFrom d a b → i < length b → GoesOn d (a + i) [] (get_or b i [])
+formed_at : (d : Deal) (a : ℕ) (b : Histories) (i : ℕ) → AreFrom d a b → i < length b → IsFormedContinuation d (a + i) [] (get_or b i [])
 formed_at d a [] i k lt = absurd (omega arith)
-formed_at d a (h ∷ b) zero k lt = let z : ◌≡◌ {A = ℕ} a (a + 0) = omega arith in subst (λ (j : ℕ). GoesOn d j [] h) z k.0
+formed_at d a (h ∷ b) zero k lt = let z : ◌≡◌ {A = ℕ} a (a + 0) = omega arith in subst (λ (j : ℕ). IsFormedContinuation d j [] h) z k.0
 formed_at d a (h ∷ b) (suc i) k lt =
     let z : ◌≡◌ {A = ℕ} (a + 1 + i) (a + suc i) = omega arith in
-    subst (λ (j : ℕ). GoesOn d j [] (get_or b i [])) z (formed_at d (a + 1) b i k.3 (omega arith))
+    subst (λ (j : ℕ). IsFormedContinuation d j [] (get_or b i [])) z (formed_at d (a + 1) b i k.3 (omega arith))
 
 statable_at : (d : Deal) (a : ℕ) (b : Histories) (i : ℕ) → AreFrom d a b → i < length b → All IsStatable (get_or b i [])
 statable_at d a [] i k lt = absurd (omega arith)
@@ -47,7 +47,7 @@ are_stated : (d : Deal) (b : Histories) → length b ≡ length d.graph.arcs →
 are_stated d b count k = record {
   formed = record {
     one_each = count;
-    formed = λ i lt. let z : ◌≡◌ {A = ℕ} (0 + i) i = omega arith in subst (λ (j : ℕ). GoesOn d j [] (get_or b i [])) z (formed_at d 0 b i k lt);
+    formed = λ i lt. let z : ◌≡◌ {A = ℕ} (0 + i) i = omega arith in subst (λ (j : ℕ). IsFormedContinuation d j [] (get_or b i [])) z (formed_at d 0 b i k lt);
   };
   statable = λ i lt. statable_at d 0 b i k lt;
   few = λ i lt. few_at d 0 b i k lt;
@@ -70,7 +70,7 @@ at_place job b h (suc more) = in_ledger job b h (suc more)
 record FromLedger (job : Job) (b : Histories) (ls : List (List ℕ)) (t : BookSoFar) : Type 0 where
   rest : Histories
   read : t ≡ whole job (b ++ rest)
-  lines : ls ≡ lines_from (length b) rest
+  lines : ls ≡ lines_from_arc (length b) rest
   stated : AreFrom job.deal (length b) rest
   count : length b + length rest ≡ length job.deal.graph.arcs
 
@@ -79,9 +79,9 @@ record FromEntries (job : Job) (b : Histories) (h : List Entry) (more : ℕ) (ls
   entries : List Entry
   rest : Histories
   read : t ≡ whole job (b ++ (h ++ entries) ∷ rest)
-  lines : ls ≡ map entry_line entries ++ lines_from (length b + 1) rest
+  lines : ls ≡ map entry_line entries ++ lines_from_arc (length b + 1) rest
   many : length entries ≡ more
-  formed : GoesOn job.deal (length b) h entries
+  formed : IsFormedContinuation job.deal (length b) h entries
   statable : All IsStatable entries
   stated : AreFrom job.deal (length b + 1) rest
   count : length b + (1 + length rest) ≡ length job.deal.graph.arcs
@@ -102,21 +102,21 @@ none_all i d lt = absurd (omega arith)
 
 -- a ledger with no entries, or whose last entry was read, and then the next ones
 ledger_ends : (job : Job) (b : Histories) (h : List Entry) (ls : List (List ℕ)) (t : BookSoFar) → FromLedger job (b ++ h ∷ []) ls t
-    → (rest : Histories) × (t ≡ whole job (b ++ h ∷ rest)) × (ls ≡ lines_from (length b + 1) rest) × AreFrom job.deal (length b + 1) rest
+    → (rest : Histories) × (t ≡ whole job (b ++ h ∷ rest)) × (ls ≡ lines_from_arc (length b + 1) rest) × AreFrom job.deal (length b + 1) rest
     × (length b + (1 + length rest) ≡ length job.deal.graph.arcs)
 ledger_ends job b h ls t k =
     let long = push_length b h in
     let count = k.count in (
       k.rest,
       k.read ∙ ap (whole job) (append_assoc b (h ∷ []) k.rest),
-      k.lines ∙ ap (λ (a : ℕ). lines_from a k.rest) long,
+      k.lines ∙ ap (λ (a : ℕ). lines_from_arc a k.rest) long,
       subst (λ (a : ℕ). AreFrom job.deal a k.rest) long k.stated,
       omega arith,
     )
 
 -- one entry before those that were read
 entry_before : (job : Job) (b : Histories) (h : List Entry) (e : Entry) (more : ℕ) (l : List ℕ) (ls : List (List ℕ)) (t : BookSoFar)
-    → entry_of job.deal (length b) h l ≡ Ok e → FromEntries job b (h ++ e ∷ []) more ls t → FromEntries job b h (suc more) (l ∷ ls) t
+    → parse_next_entry job.deal (length b) h l ≡ Ok e → FromEntries job b (h ++ e ∷ []) more ls t → FromEntries job b h (suc more) (l ∷ ls) t
 entry_before job b h e more l ls t is k =
     let one = entry_is job.deal (length b) h l e is in
     let many = k.many in record {
@@ -178,7 +178,7 @@ pub begun_some : (job : Job) (b : Histories) (m : ℕ) → begun (at_ledger job 
 begun_some job b m = still m (in_ledger job b [] (suc m))
 
 pub one_left : (job : Job) (b : Histories) (h : List Entry) (m : ℕ) (x : Entry)
-    → gone_on (in_ledger job b h (suc (suc m))) x ≡ in_ledger job b (h ++ x ∷ []) (suc m)
+    → with_next_entry (in_ledger job b h (suc (suc m))) x ≡ in_ledger job b (h ++ x ∷ []) (suc m)
 one_left job b h m x =
     let one : ◌≡◌ {A = ℕ} (suc (suc m) - 1) (suc m) = omega arith in
     ap (λ n. with_whole (n == 0) (in_ledger job b (h ++ x ∷ []) n)) one ∙ still m (in_ledger job b (h ++ x ∷ []) (suc m))
@@ -195,7 +195,7 @@ begins job b ls t (suc m) some none k = some m (ap (λ (s : BookSoFar). steps li
 goes_on : (job : Job) (b : Histories) (h : List Entry) (ls : List (List ℕ)) (t : BookSoFar) (x : Entry) (more : ℕ)
     → ((m : ℕ) → steps line_read (in_ledger job b (h ++ x ∷ []) (suc m)) ls ≡ Ok t → FromEntries job b (h ++ x ∷ []) (suc m) ls t)
     → (steps line_read (at_ledger job (b ++ (h ++ x ∷ []) ∷ [])) ls ≡ Ok t → FromLedger job (b ++ (h ++ x ∷ []) ∷ []) ls t)
-    → steps line_read (gone_on (in_ledger job b h (suc more)) x) ls ≡ Ok t → FromEntries job b (h ++ x ∷ []) more ls t
+    → steps line_read (with_next_entry (in_ledger job b h (suc more)) x) ls ≡ Ok t → FromEntries job b (h ++ x ∷ []) more ls t
 goes_on job b h ls t x zero some none k = none_come job b (h ++ x ∷ []) ls t (none k)
 goes_on job b h ls t x (suc m) some none k = some m (ap (λ (s : BookSoFar). steps line_read s ls) (sym (one_left job b h m x)) ∙ k)
 
@@ -244,9 +244,9 @@ entry_on : (job : Job) (b : Histories) (h : List Entry) (more : ℕ) (l : List �
 unfolding entry_read
 entry_on job b h more l ls t some none e =
     let s = in_ledger job b h (suc more) in
-    let p = went (entry_of job.deal (length b) h l >>= λ x. Ok (gone_on s x)) (λ u. steps line_read u ls) t e in
-    let r = went (entry_of job.deal (length b) h l) (λ x. Ok (gone_on s x)) p.0 p.1 in
-    let same : gone_on s r.0 ≡ p.0 = ok_is (gone_on s r.0) p.0 r.2 in
+    let p = went (parse_next_entry job.deal (length b) h l >>= λ x. Ok (with_next_entry s x)) (λ u. steps line_read u ls) t e in
+    let r = went (parse_next_entry job.deal (length b) h l) (λ x. Ok (with_next_entry s x)) p.0 p.1 in
+    let same : with_next_entry s r.0 ≡ p.0 = ok_is (with_next_entry s r.0) p.0 r.2 in
     entry_before job b h r.0 more l ls t r.1
     (goes_on job b h ls t r.0 more (some r.0) (none r.0) (ap (λ (u : BookSoFar). steps line_read u ls) same ∙ p.2))
 
@@ -276,6 +276,6 @@ read_is_whole job ls t e over =
     let book : t.book ≡ k.rest = ap (λ (s : BookSoFar). s.book) k.read in
     let count = k.count in record {
       read = k.read ∙ ap (whole job) (sym book);
-      lines = k.lines ∙ ap (lines_from 0) (sym book);
+      lines = k.lines ∙ ap (lines_from_arc 0) (sym book);
       stated = subst (IsStated job.deal) (sym book) (are_stated job.deal k.rest (omega arith) k.stated);
     }

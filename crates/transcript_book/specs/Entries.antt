@@ -16,19 +16,20 @@ use Rattle.transcript_lines.specs.declared.said.Said.{Said}
 use Rattle.transcript_lines.specs.declared.said.Misspelling.{Misspelling}
 use Rattle.transcript_lines.specs.Reading.{line_said, misspelt}
 
--- the entry at a height of arc a, where it is a fitting call of one of the arc's parties or a tick by 1 to 1,000,000
-abbrev pub placed_as : Deal → (a at : ℕ) → Reply → Sender → What → Result Entry Misspelling
-placed_as d a at reply (Party p) (Made c) = if touches d p a && fit d a c then Ok (call_entry p at c reply) else misspelt
-placed_as d a at reply Clock (Tick k) = if nat_le 1 k && nat_le k 1000000 then Ok (tick_entry k (written_height (at + k)) reply) else misspelt
-placed_as d a at reply _ _ = misspelt
+-- the entry at a height of arc a, where it is a fitting call of one of the arc's parties or a tick
+-- by 1 to 1,000,000
+abbrev pub placed_entry : Deal → (a at : ℕ) → Reply → Sender → What → Result Entry Misspelling
+placed_entry d a at reply (Party p) (Made c) = if touches d p a && fit d a c then Ok (call_entry p at c reply) else misspelt
+placed_entry d a at reply Clock (Tick k) = if nat_le 1 k && nat_le k 1000000 then Ok (tick_entry k (written_height (at + k)) reply) else misspelt
+placed_entry d a at reply _ _ = misspelt
 
 abbrev pub placed : Deal → (a at : ℕ) → Said → Result Entry Misspelling
-placed d a at s = placed_as d a at s.reply s.sender s.what
+placed d a at s = placed_entry d a at s.reply s.sender s.what
 
 -- the entry of arc a that a line states at a height
 unfoldable pub parse_entry : Deal → (a at : ℕ) → List ℕ → Result Entry Misspelling
 parse_entry d a at line = line_said (length d.leaders) line >>= λ s. placed d a at s
 
 -- the entry of arc a that a line states after those before it
-abbrev pub entry_of : Deal → ℕ → List Entry → List ℕ → Result Entry Misspelling
-entry_of d a past line = parse_entry d a (written_height (height past)) line
+abbrev pub parse_next_entry : Deal → ℕ → List Entry → List ℕ → Result Entry Misspelling
+parse_next_entry d a past line = parse_entry d a (written_height (height past)) line

@@ -10,7 +10,8 @@ use Rattle.transcript_book.specs.Stages.{BookSoFar}
 abbrev pub so_far : Inside → BookSoFar
 so_far r = record { job = r.job; book = r.histories.items; entries = r.entries; more = r.more; place = r.place }
 
--- The height is that of the entries; there is room for one history per arc, and for the one that is read.
+-- The height is that of the entries; there is room for one history per arc, and for the one that is
+-- read.
 pub record IsReading (r : Inside) : Type 0 where
   pub sized : IsWellSized r.job.deal
   pub height : r.height ≡ written_height (height r.entries)

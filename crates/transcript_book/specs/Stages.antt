@@ -11,7 +11,7 @@ use Rattle.transcript_lines.specs.Reading.{misspelt}
 use Rattle.transcript_book.specs.Counts.{parse_limited_count}
 use Rattle.transcript_book.specs.declared.place.Place.{Place}
 use Rattle.transcript_book.specs.declared.place.Place.TheVariants.{Ledger, Entries, Over}
-use Rattle.transcript_book.specs.Entries.{entry_of}
+use Rattle.transcript_book.specs.Entries.{parse_next_entry}
 
 pub record BookSoFar : Type 0 where
   pub job : Job
@@ -40,8 +40,8 @@ abbrev pub begun : BookSoFar → ℕ → BookSoFar
 begun s count = settled (record { job = s.job; book = s.book; entries = []; more = count; place = Entries })
 
 -- one more entry of the ledger
-abbrev pub gone_on : BookSoFar → Entry → BookSoFar
-gone_on s e = settled (record { job = s.job; book = s.book; entries = s.entries ++ e ∷ []; more = s.more - 1; place = Entries })
+abbrev pub with_next_entry : BookSoFar → Entry → BookSoFar
+with_next_entry s e = settled (record { job = s.job; book = s.book; entries = s.entries ++ e ∷ []; more = s.more - 1; place = Entries })
 
 -- the last line
 abbrev pub ended : BookSoFar → List ℕ → Result BookSoFar Misspelling
@@ -56,22 +56,23 @@ ledger_read s line =
 
 -- the line of an entry
 unfoldable pub entry_read : BookSoFar → List ℕ → Result BookSoFar Misspelling
-entry_read s line = entry_of s.job.deal (length s.book) s.entries line >>= λ e. Ok (gone_on s e)
+entry_read s line = parse_next_entry s.job.deal (length s.book) s.entries line >>= λ e. Ok (with_next_entry s e)
 
-abbrev pub read_at : Place → BookSoFar → List ℕ → Result BookSoFar Misspelling
-read_at Ledger s line = ledger_read s line
-read_at Entries s line = entry_read s line
-read_at Over s line = misspelt
+abbrev pub line_read_at_place : Place → BookSoFar → List ℕ → Result BookSoFar Misspelling
+line_read_at_place Ledger s line = ledger_read s line
+line_read_at_place Entries s line = entry_read s line
+line_read_at_place Over s line = misspelt
 
 -- what the next line makes of it; after the last line each line is bad
 abbrev pub line_read : BookSoFar → List ℕ → Result BookSoFar Misspelling
-line_read s line = read_at s.place s line
+line_read s line = line_read_at_place s.place s line
 
 abbrev pub is_finished : Place → Bool
 is_finished Over = true
 is_finished _ = false
 
--- A call that reads a line answers so: after a line that isn't bad all is as it is read, and after any other answer as it was.
+-- A call that reads a line answers so: after a line that isn't bad all is as it is read, and after
+-- any other answer as it was.
 abbrev pub Reads : {T : Type 0} → Result T (Fault Misspelling) → BookSoFar → BookSoFar → Result BookSoFar Misspelling → Type 0
 Reads (Ok x) old new read = read ≡ Ok new
 Reads (Err e) old new read = Fails e read × (new ≡ old)

@@ -1,7 +1,7 @@
 //! The call of an entry's line.
 
 ghost use Rattle.std.specs.Prelude.{◌≤◌};
-ghost use Rattle.transcript_lines.specs.Reading.{pick_call, parse_call, key_of, parse_locks, stated_terms, read_units};
+ghost use Rattle.transcript_lines.specs.Reading.{pick_call, parse_call, parse_unlock_fields, parse_locks, stated_terms, read_units};
 ghost use Rattle.transcript_book.specs.Taking.{Takes};
 
 use crate::field::{
@@ -50,9 +50,9 @@ fn stated_terms(alloc: Global, count: usize, fields: &mut Parts<'_>) -> Result<C
 }
 
 /// The unlock whose hashkey the next fields say.
-#[tactic(auto, unfolding(transcript_lines::specs::Reading::key_of))]
-pub fn key_of(alloc: Global, fields: &mut Parts<'_>) -> Result<Call, WordFault>
-    ensures { Takes (λ c. c) result fields.new (key_of fields.old) }
+#[tactic(auto, unfolding(transcript_lines::specs::Reading::parse_unlock_fields))]
+pub fn parse_unlock_fields(alloc: Global, fields: &mut Parts<'_>) -> Result<Call, WordFault>
+    ensures { Takes (λ c. c) result fields.new (parse_unlock_fields fields.old) }
 {
     let lock = byte_field(fields)?;
     let secret = digest_field(fields)?;
@@ -88,7 +88,7 @@ fn pick_call(
     if first == b"publish".as_slice() {
         stated_terms(alloc, count, fields)
     } else if first == b"unlock".as_slice() {
-        key_of(alloc, fields)
+        parse_unlock_fields(alloc, fields)
     } else if first == b"claim".as_slice() {
         Ok(Call::Claim)
     } else if first == b"refund".as_slice() {

@@ -1,12 +1,12 @@
 //! The line before the entries of an arc.
 
 ghost use Rattle.swap_base.specs.Fault.{Gives};
-ghost use Rattle.transcript_lines.specs.Reading.{field_of, bounded_number};
+ghost use Rattle.transcript_lines.specs.Reading.{parse_first_field, bounded_number};
 ghost use Rattle.transcript_book.specs.Counts.{parse_limited_count, just, ledger_word, words_count};
 ghost use Rattle.transcript_book.specs.Taking.{Takes};
 
 use crate::field::{nothing_more, word};
-use crate::number::{WordFault, misspelt, number_of, read_bounded};
+use crate::number::{WordFault, decimal_number, misspelt, read_bounded};
 use crate::parts::Parts;
 use swap_base::ArcId;
 
@@ -21,9 +21,9 @@ fn ledger_word(word: &[u8]) -> Result<(), WordFault>
 }
 
 /// The word before the arc of a ledger.
-#[tactic(auto, unfolding(transcript_lines::specs::Reading::field_of))]
+#[tactic(auto, unfolding(transcript_lines::specs::Reading::parse_first_field))]
 pub fn ledger_field(fields: &mut Parts<'_>) -> Result<(), WordFault>
-    ensures { Takes (λ u. u) result fields.new (field_of ledger_word fields.old) }
+    ensures { Takes (λ u. u) result fields.new (parse_first_field ledger_word fields.old) }
 {
     ledger_word(word(fields)?)
 }
@@ -31,13 +31,13 @@ pub fn ledger_field(fields: &mut Parts<'_>) -> Result<(), WordFault>
 fn just(number: u64, word: &[u8]) -> Result<(), WordFault>
     ensures { Gives (λ u. u) result (just number word.now) }
 {
-    let n = number_of(word)?;
+    let n = decimal_number(word)?;
     if n == number { Ok(()) } else { Err(misspelt()) }
 }
 
-#[tactic(auto, unfolding(transcript_lines::specs::Reading::field_of))]
+#[tactic(auto, unfolding(transcript_lines::specs::Reading::parse_first_field))]
 fn arc_field(arc: ArcId, fields: &mut Parts<'_>) -> Result<(), WordFault>
-    ensures { Takes (λ u. u) result fields.new (field_of (just arc) fields.old) }
+    ensures { Takes (λ u. u) result fields.new (parse_first_field (just arc) fields.old) }
 {
     just(arc as u64, word(fields)?)
 }
@@ -48,9 +48,9 @@ fn parse_count(word: &[u8]) -> Result<u32, WordFault>
     Ok(read_bounded(20_065, word)? as u32)
 }
 
-#[tactic(auto, unfolding(transcript_lines::specs::Reading::field_of))]
+#[tactic(auto, unfolding(transcript_lines::specs::Reading::parse_first_field))]
 fn count_field(fields: &mut Parts<'_>) -> Result<u32, WordFault>
-    ensures { Takes (λ n. n) result fields.new (field_of (bounded_number 20065) fields.old) }
+    ensures { Takes (λ n. n) result fields.new (parse_first_field (bounded_number 20065) fields.old) }
 {
     parse_count(word(fields)?)
 }

@@ -17,7 +17,8 @@ fn is_lower_digit(byte: u8) -> bool
     (b'0' <= byte && byte <= b'9') || (b'a' <= byte && byte <= b'f')
 }
 
-/// Whether all bytes are digits of lower case. It goes on behind one that isn't, since many are then told at once.
+/// Whether all bytes are digits of lower case. It goes on behind one that isn't, since many are
+/// then told at once.
 fn are_lower_digits(word: &[u8]) -> bool
     ensures { result ≡ list_all is_lower_digit word.now }
 {
@@ -41,7 +42,8 @@ pub fn to_digest(word: &[u8]) -> Result<Digest, WordFault>
     }
 }
 
-/// The value of a digit of lower case. Which of the two it is can't be foreseen, so it is better chosen than branched on.
+/// The value of a digit of lower case. Which of the two it is can't be foreseen, so it is better
+/// chosen than branched on.
 #[tactic(auto, using(crate::proofs::Lower::value_is, crate::proofs::Lower::lower_low, crate::proofs::Lower::lower_high))]
 fn value(digit: u8) -> u8
     requires { is_lower_digit digit ≡ true }

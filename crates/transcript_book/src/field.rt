@@ -2,12 +2,12 @@
 
 ghost use Rattle.std.specs.Prelude.{◌<◌, ◌≤◌, ◌^◌, IfOk};
 ghost use Rattle.swap_base.specs.Fault.{Gives};
-ghost use Rattle.transcript_lines.specs.Reading.{to_digest, equals, field_of, first_field, inside_entries, nothing_more, bounded_number, number_of, parse_signature};
+ghost use Rattle.transcript_lines.specs.Reading.{to_digest, equals, parse_first_field, first_field, inside_entries, nothing_more, bounded_number, decimal_number, parse_signature};
 ghost use Rattle.transcript_book.specs.Taking.{Takes};
 
 use crate::digits::to_digest;
 use crate::lists::{make_path, parse_signatures};
-use crate::number::{WordFault, misspelt, number_of, parse_byte, parse_small, read_bounded};
+use crate::number::{WordFault, decimal_number, misspelt, parse_byte, parse_small, read_bounded};
 use crate::parts::Parts;
 use hashkey_path::SigList;
 use std::alloc::Global;
@@ -25,34 +25,34 @@ pub fn word<'a>(fields: &mut Parts<'a>) -> Result<&'a [u8], WordFault>
 }
 
 /// A number below 2^64.
-#[tactic(auto, unfolding(transcript_lines::specs::Reading::field_of))]
+#[tactic(auto, unfolding(transcript_lines::specs::Reading::parse_first_field))]
 pub fn number_field(fields: &mut Parts<'_>) -> Result<u64, WordFault>
-    ensures { Takes (λ n. n) result fields.new (field_of number_of fields.old) }
+    ensures { Takes (λ n. n) result fields.new (parse_first_field decimal_number fields.old) }
 {
-    number_of(word(fields)?)
+    decimal_number(word(fields)?)
 }
 
 /// A number below 2^32.
-#[tactic(auto, unfolding(transcript_lines::specs::Reading::field_of))]
+#[tactic(auto, unfolding(transcript_lines::specs::Reading::parse_first_field))]
 pub fn small_field(fields: &mut Parts<'_>) -> Result<u32, WordFault>
-    ensures { Takes (λ n. n) result fields.new (field_of (bounded_number (2 ^ 32)) fields.old) }
+    ensures { Takes (λ n. n) result fields.new (parse_first_field (bounded_number (2 ^ 32)) fields.old) }
 {
     parse_small(word(fields)?)
 }
 
 /// A number below 256.
-#[tactic(auto, unfolding(transcript_lines::specs::Reading::field_of))]
+#[tactic(auto, unfolding(transcript_lines::specs::Reading::parse_first_field))]
 pub fn byte_field(fields: &mut Parts<'_>) -> Result<u8, WordFault>
-    ensures { Takes (λ n. n) result fields.new (field_of (bounded_number 256) fields.old) }
+    ensures { Takes (λ n. n) result fields.new (parse_first_field (bounded_number 256) fields.old) }
 {
     parse_byte(word(fields)?)
 }
 
 /// A number below a limit that a byte can say.
-#[tactic(auto, unfolding(transcript_lines::specs::Reading::field_of))]
+#[tactic(auto, unfolding(transcript_lines::specs::Reading::parse_first_field))]
 pub fn bounded_field(limit: usize, fields: &mut Parts<'_>) -> Result<u8, WordFault>
     requires { limit ≤ 256 }
-    ensures exact { Takes (λ n. n) result fields.new (field_of (bounded_number limit) fields.old) }
+    ensures exact { Takes (λ n. n) result fields.new (parse_first_field (bounded_number limit) fields.old) }
     ensures below { IfOk result (λ n. n < limit) }
 {
     let n = read_bounded(limit as u64, word(fields)?)?;
@@ -60,25 +60,25 @@ pub fn bounded_field(limit: usize, fields: &mut Parts<'_>) -> Result<u8, WordFau
 }
 
 /// A digest.
-#[tactic(auto, unfolding(transcript_lines::specs::Reading::field_of))]
+#[tactic(auto, unfolding(transcript_lines::specs::Reading::parse_first_field))]
 pub fn digest_field(fields: &mut Parts<'_>) -> Result<Digest, WordFault>
-    ensures { Takes (λ d. d) result fields.new (field_of to_digest fields.old) }
+    ensures { Takes (λ d. d) result fields.new (parse_first_field to_digest fields.old) }
 {
     to_digest(word(fields)?)
 }
 
 /// A path.
-#[tactic(auto, unfolding(transcript_lines::specs::Reading::field_of))]
+#[tactic(auto, unfolding(transcript_lines::specs::Reading::parse_first_field))]
 pub fn path_field(alloc: Global, fields: &mut Parts<'_>) -> Result<PathList, WordFault>
-    ensures { Takes (λ l. l) result fields.new (field_of (inside_entries (bounded_number 256)) fields.old) }
+    ensures { Takes (λ l. l) result fields.new (parse_first_field (inside_entries (bounded_number 256)) fields.old) }
 {
     make_path(alloc, word(fields)?)
 }
 
 /// Signatures, in one field.
-#[tactic(auto, unfolding(transcript_lines::specs::Reading::field_of))]
+#[tactic(auto, unfolding(transcript_lines::specs::Reading::parse_first_field))]
 pub fn signatures_field(alloc: Global, fields: &mut Parts<'_>) -> Result<SigList, WordFault>
-    ensures { Takes (λ l. l) result fields.new (field_of (inside_entries parse_signature) fields.old) }
+    ensures { Takes (λ l. l) result fields.new (parse_first_field (inside_entries parse_signature) fields.old) }
 {
     parse_signatures(alloc, word(fields)?)
 }
@@ -94,9 +94,9 @@ fn equals(word: &[u8]) -> Result<(), WordFault>
 }
 
 /// The sign between a call and its reply.
-#[tactic(auto, unfolding(transcript_lines::specs::Reading::field_of))]
+#[tactic(auto, unfolding(transcript_lines::specs::Reading::parse_first_field))]
 pub(crate) fn sign_field(fields: &mut Parts<'_>) -> Result<(), WordFault>
-    ensures { Takes (λ u. u) result fields.new (field_of equals fields.old) }
+    ensures { Takes (λ u. u) result fields.new (parse_first_field equals fields.old) }
 {
     equals(word(fields)?)
 }

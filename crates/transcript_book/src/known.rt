@@ -1,5 +1,5 @@
-//! The hashkeys that were read. A party presents one on each ledger of an arc that enters it, and each has 2 KB for every party of its path; so one that
-//! was read before is held once.
+//! The hashkeys that were read. A party presents one on each ledger of an arc that enters it, and
+//! each has 2 KB for every party of its path; so one that was read before is held once.
 
 ghost use Rattle.std.specs.Prelude.{◌≡◌, IfOk, IfSome, true};
 

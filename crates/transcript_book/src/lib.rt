@@ -1,9 +1,11 @@
-//! The lines after the header line of a transcript: each read field by field, in its one spelling, and all of them into a book.
+//! The lines after the header line of a transcript: each read field by field, in its one spelling,
+//! and all of them into a book.
 //!
-//! Read `specs/Stages.antt` first: which line stands next, and what it makes of what was read; then `specs/Entries.antt`, and `specs/Reading.antt`
-//! of `transcript_lines`: what `read_entry` answers.
+//! Read `specs/Stages.antt` first: which line stands next, and what it makes of what was read; then
+//! `specs/Entries.antt`, and `specs/Reading.antt` of `transcript_lines`: what `read_entry` answers.
 //!
-//! `specs/Books.antt` has the laws: lines are read as a book exactly where they are that book's; then `specs/Spelling.antt` and `specs/Stated.antt`.
+//! `specs/Books.antt` has the laws: lines are read as a book exactly where they are that book's;
+//! then `specs/Spelling.antt` and `specs/Stated.antt`.
 #![tactic(auto)]
 
 mod call;
@@ -21,7 +23,7 @@ mod reader;
 mod reply;
 mod stated;
 
-pub use call::key_of;
+pub use call::parse_unlock_fields;
 pub use count::ledger_field;
 pub use digits::to_digest;
 pub use field::{
@@ -30,7 +32,7 @@ pub use field::{
 };
 pub use known::{Known, none_known, with_known};
 pub use laws::{legal_is_stated, one_spelling, read_is_whole, whole_is_read};
-pub use number::{WordFault, misspelt, number_of, read_bounded};
+pub use number::{WordFault, decimal_number, misspelt, read_bounded};
 pub use parts::Parts;
 pub use place::Place;
 pub use reader::BookReader;

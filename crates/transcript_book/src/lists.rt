@@ -1,7 +1,7 @@
 //! Lists in one field.
 
 ghost use Rattle.swap_base.specs.Fault.{Gives};
-ghost use Rattle.transcript_lines.specs.Reading.{each_of, inside_entries, bounded_number, parse_signature};
+ghost use Rattle.transcript_lines.specs.Reading.{parse_each_word, inside_entries, bounded_number, parse_signature};
 
 use crate::digits::parse_signature;
 use crate::number::{WordFault, parse_byte};
@@ -13,7 +13,7 @@ use swap_base::Listed;
 use swap_digraph::PathList;
 
 fn each_party(alloc: Global, parts: &mut Parts<'_>) -> Result<PathList, WordFault>
-    ensures { Gives (λ l. l) result (each_of (bounded_number 256) parts.old) }
+    ensures { Gives (λ l. l) result (parse_each_word (bounded_number 256) parts.old) }
 {
     let mut list = Vec::new(alloc);
     while let Some(word) = parts.next() {
@@ -34,7 +34,7 @@ pub(crate) fn make_path(alloc: Global, word: &[u8]) -> Result<PathList, WordFaul
 
 /// It takes memory for so many at once, as each is 2 KB.
 fn each_signature(alloc: Global, count: usize, parts: &mut Parts<'_>) -> Result<SigList, WordFault>
-    ensures { Gives (λ l. l) result (each_of parse_signature parts.old) }
+    ensures { Gives (λ l. l) result (parse_each_word parse_signature parts.old) }
 {
     let mut list = Vec::with_capacity(alloc, count)?;
     while let Some(word) = parts.next() {

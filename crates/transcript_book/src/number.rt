@@ -2,7 +2,7 @@
 
 ghost use Rattle.std.specs.Prelude.{◌≡◌, ◌<◌, ◌^◌, IfOk};
 ghost use Rattle.swap_base.specs.Fault.{Gives};
-ghost use Rattle.transcript_lines.specs.Reading.{number_of, bounded_number, continue_reading};
+ghost use Rattle.transcript_lines.specs.Reading.{decimal_number, bounded_number, continue_reading};
 ghost use Rattle.transcript_book.specs.Taking.{append_digit};
 
 use swap_base::Fault;
@@ -42,8 +42,8 @@ fn continue_reading(digits: &[u8]) -> Result<u64, WordFault>
 }
 
 /// The number that a field says, below 2^64.
-pub fn number_of(word: &[u8]) -> Result<u64, WordFault>
-    ensures { Gives (λ n. n) result (number_of word.now) }
+pub fn decimal_number(word: &[u8]) -> Result<u64, WordFault>
+    ensures { Gives (λ n. n) result (decimal_number word.now) }
 {
     match word {
         [] => Err(misspelt()),
@@ -58,7 +58,7 @@ pub fn read_bounded(limit: u64, word: &[u8]) -> Result<u64, WordFault>
     ensures exact { Gives (λ n. n) result (bounded_number limit word.now) }
     ensures below { IfOk result (λ n. n < limit) }
 {
-    let n = number_of(word)?;
+    let n = decimal_number(word)?;
     if n < limit { Ok(n) } else { Err(misspelt()) }
 }
 

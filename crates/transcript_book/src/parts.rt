@@ -1,7 +1,7 @@
 //! The parts of a text, one after another.
 
 ghost use Rattle.std.specs.Prelude.{◌≡◌, ◌∷◌, [], MatchOption, drop};
-ghost use Rattle.transcript_lines.specs.Between.{parts_at};
+ghost use Rattle.transcript_lines.specs.Between.{separated_parts};
 
 use memchr::memchr;
 use std::marker::Model;
@@ -20,17 +20,17 @@ impl<'a> Model for Parts<'a> {
 
     ghost Value = { List (List ℕ) };
 
-    ghost use Rattle.transcript_book.specs.Cursor.{parts_left, IsWithin};
+    ghost use Rattle.transcript_book.specs.Cursor.{parts_left, IsCursorInText};
 
     ghost view = { parts_left };
 
-    ghost invariant = { IsWithin };
+    ghost invariant = { IsCursorInText };
 }
 
 impl<'a> Parts<'a> {
     /// All parts of a text: always one more than it has such bytes.
     pub fn new(by: u8, text: &'a [u8]) -> Parts<'a>
-        ensures { result ≡ parts_at by text.now }
+        ensures { result ≡ separated_parts by text.now }
     {
         Parts {
             text,

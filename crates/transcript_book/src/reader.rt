@@ -17,7 +17,8 @@ use std::mem;
 use swap_base::{ArcId, Listed, NoMemory};
 use swap_job::Job;
 
-/// Reads the lines after the header line of a job's transcript, up to the last one. It keeps the book that they state, and none of their text.
+/// Reads the lines after the header line of a job's transcript, up to the last one. It keeps the
+/// book that they state, and none of their text.
 #[derive(Debug, Drop)]
 pub struct BookReader {
     job: Job,

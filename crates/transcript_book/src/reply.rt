@@ -4,7 +4,7 @@ ghost use Rattle.swap_base.specs.Fault.{Gives};
 ghost use Rattle.transcript_lines.specs.Reading.{numbered_reply, plain_reply, make_reply};
 
 use crate::field::{nothing_more, word};
-use crate::number::{WordFault, misspelt, number_of, parse_byte};
+use crate::number::{WordFault, decimal_number, misspelt, parse_byte};
 use crate::parts::Parts;
 use escrow_core::Reply;
 
@@ -42,13 +42,13 @@ fn numbered_reply(word: &[u8], number: &[u8]) -> Result<Reply, WordFault>
     ensures { Gives (λ r. r) result (numbered_reply word.now number.now) }
 {
     if word == b"TooLate".as_slice() {
-        Ok(Reply::TooLate(number_of(number)?))
+        Ok(Reply::TooLate(decimal_number(number)?))
     } else if word == b"StillLocked".as_slice() {
         Ok(Reply::StillLocked(parse_byte(number)?))
     } else if word == b"NotExpired".as_slice() {
-        Ok(Reply::NotExpired(number_of(number)?))
+        Ok(Reply::NotExpired(decimal_number(number)?))
     } else if word == b"NoFunds".as_slice() {
-        Ok(Reply::NoFunds(number_of(number)?))
+        Ok(Reply::NoFunds(decimal_number(number)?))
     } else {
         Err(misspelt())
     }

@@ -5,7 +5,7 @@ ghost use Rattle.swap_base.specs.Fault.{Gives};
 ghost use Rattle.swap_digraph.specs.Deal.{IsWellSized};
 ghost use Rattle.ledger_core.specs.declared.entry.Sender.TheVariants.{Party, Clock};
 ghost use Rattle.ledger_core.specs.declared.entry.What.TheVariants.{Call as Made, Tick};
-ghost use Rattle.transcript_book.specs.Entries.{parse_entry, placed, placed_as};
+ghost use Rattle.transcript_book.specs.Entries.{parse_entry, placed, placed_entry};
 
 use crate::entry::read_entry;
 use crate::number::{WordFault, misspelt};
@@ -25,7 +25,7 @@ fn place_call(
     reply: Reply,
 ) -> Result<Entry, WordFault>
     requires { arc < length deal.now.graph.arcs }
-    ensures { Gives (λ e. e) result (placed_as deal.now arc height reply (Party p) (Made call)) }
+    ensures { Gives (λ e. e) result (placed_entry deal.now arc height reply (Party p) (Made call)) }
 {
     if is_adjacent(deal, arc, p) && fits(deal, arc, &call) {
         Ok(Entry {
@@ -46,7 +46,7 @@ fn place_tick(
     by: u32,
     reply: Reply,
 ) -> Result<Entry, WordFault>
-    ensures { Gives (λ e. e) result (placed_as deal.now arc height reply Clock (Tick by)) }
+    ensures { Gives (λ e. e) result (placed_entry deal.now arc height reply Clock (Tick by)) }
 {
     if 1 <= by && by <= 1_000_000 {
         Ok(Entry {

@@ -6,7 +6,7 @@ use Rattle.std.proofs.lemmas.Fmt.{decimal_digit, decimal_by_steps, decimal_nonem
 use Rattle.swap_base.specs.Fault.{◌>>=◌}
 use Rattle.swap_base.proofs.Lists.{and_both}
 use Rattle.transcript_lines.specs.declared.said.Misspelling.{Misspelling}
-use Rattle.transcript_lines.specs.Reading.{misspelt, continue_reading, number_of, bounded_number}
+use Rattle.transcript_lines.specs.Reading.{misspelt, continue_reading, decimal_number, bounded_number}
 use Rattle.transcript_lines.proofs.Parts.{IsHigh, high_append}
 
 -- one more digit
@@ -41,7 +41,7 @@ reads_more n ds le front small =
     read_append 0 ds ((48 + n % 10) ∷ []) ∙ ap (λ (r : Result ℕ Misspelling). r >>= λ m. continue_reading m ((48 + n % 10) ∷ [])) (front before)
     ∙ one_digit (n / 10) (n % 10) (omega arith) (omega arith) ∙ ap (λ (m : ℕ). Ok m) parts
 
-other_first : (ds : List ℕ) → 0 < length ds → 48 < get_or ds 0 0 → number_of ds ≡ continue_reading 0 ds
+other_first : (ds : List ℕ) → 0 < length ds → 48 < get_or ds 0 0 → decimal_number ds ≡ continue_reading 0 ds
 other_first [] some first = absurd (omega arith)
 other_first (b ∷ bs) some first = by (b == 48) refl
   where
@@ -49,10 +49,10 @@ other_first (b ∷ bs) some first = by (b == 48) refl
     by true e = let same : b ≡ 48 = eqb-true b 48 e in absurd (omega arith)
     by false e = ap (λ t. cond t (cond (length bs == 0) (Ok 0) misspelt) (continue_reading 0 (b ∷ bs))) e
 
-pub number_back : (n : ℕ) → n < 2 ^ 64 → number_of (decimal n) ≡ Ok n
+pub number_back : (n : ℕ) → n < 2 ^ 64 → decimal_number (decimal n) ≡ Ok n
 number_back n small = by (nat_lt 0 n) refl
   where
-    by : (t : Bool) → nat_lt 0 n ≡ t → number_of (decimal n) ≡ Ok n
+    by : (t : Bool) → nat_lt 0 n ≡ t → decimal_number (decimal n) ≡ Ok n
     by true e =
         let some : 0 < n = ltb-true 0 n e in
         other_first (decimal n) (decimal_nonempty n small) (first_decimal n some small) ∙ decimal_by_steps IsRead reads_one reads_more n small small

@@ -1,10 +1,11 @@
--- A text falls into the parts that it was put together from, where none of them holds the byte between them.
+-- A text falls into the parts that it was put together from, where none of them holds the byte
+-- between them.
 use Rattle.std.proofs.Common.{◌≡◌, ◌==◌, ℕ, ◌≤◌, ◌<◌, nat_le, Bool, true, false, cond, List, [], ◌∷◌, ◌++◌, refl, ap}
 use Rattle.std.proofs.Common.{◌∙◌, arith, eqb-true, eq-eqb}
 use Rattle.std.specs.List.{list_all, AllByRecursion}
 use Rattle.std.proofs.lemmas.Bool.{leb-true, le-leb}
 use Rattle.swap_base.proofs.Lists.{and_parts, and_both}
-use Rattle.transcript_lines.specs.Between.{between, longer_first, parts_at}
+use Rattle.transcript_lines.specs.Between.{between, longer_first, separated_parts}
 
 -- every byte of the word is at least n
 abbrev pub IsHigh : ℕ → List ℕ → Type 0
@@ -31,23 +32,23 @@ high_too m n (x ∷ w) le h = let p =
     and_parts (nat_le n x) (list_all (λ y. nat_le n y) w) h in
     and_both (nat_le m x) (list_all (λ y. nat_le m y) w) (higher m n x le p.0) (high_too m n w le p.1)
 
-parts_alone : (b n : ℕ) (w : List ℕ) → b < n → IsHigh n w → parts_at b w ≡ w ∷ []
+parts_alone : (b n : ℕ) (w : List ℕ) → b < n → IsHigh n w → separated_parts b w ≡ w ∷ []
 parts_alone b n [] lt h = refl
 parts_alone b n (x ∷ w) lt h =
     let p = and_parts (nat_le n x) (list_all (λ y. nat_le n y) w) h in
-    ap (λ t. cond t ([] ∷ parts_at b w) (longer_first x (parts_at b w))) (other_byte b n x lt p.0) ∙ ap (longer_first x) (parts_alone b n w lt p.1)
+    ap (λ t. cond t ([] ∷ separated_parts b w) (longer_first x (separated_parts b w))) (other_byte b n x lt p.0) ∙ ap (longer_first x) (parts_alone b n w lt p.1)
 
 self_byte : (b : ℕ) → (b == b) ≡ true
 self_byte b = eq-eqb b b refl
 
-parts_first : (b n : ℕ) (w rest : List ℕ) → b < n → IsHigh n w → parts_at b (w ++ b ∷ rest) ≡ w ∷ parts_at b rest
-parts_first b n [] rest lt h = ap (λ t. cond t ([] ∷ parts_at b rest) (longer_first b (parts_at b rest))) (self_byte b)
+parts_first : (b n : ℕ) (w rest : List ℕ) → b < n → IsHigh n w → separated_parts b (w ++ b ∷ rest) ≡ w ∷ separated_parts b rest
+parts_first b n [] rest lt h = ap (λ t. cond t ([] ∷ separated_parts b rest) (longer_first b (separated_parts b rest))) (self_byte b)
 parts_first b n (x ∷ w) rest lt h =
     let p = and_parts (nat_le n x) (list_all (λ y. nat_le n y) w) h in
-    ap (λ t. cond t ([] ∷ parts_at b (w ++ b ∷ rest)) (longer_first x (parts_at b (w ++ b ∷ rest)))) (other_byte b n x lt p.0)
+    ap (λ t. cond t ([] ∷ separated_parts b (w ++ b ∷ rest)) (longer_first x (separated_parts b (w ++ b ∷ rest)))) (other_byte b n x lt p.0)
     ∙ ap (longer_first x) (parts_first b n w rest lt p.1)
 
-pub parts_between : (b n : ℕ) (w : List ℕ) (ws : List (List ℕ)) → b < n → IsHigh n w → AllByRecursion (IsHigh n) ws → parts_at b (between b (w ∷ ws)) ≡ w ∷ ws
+pub parts_between : (b n : ℕ) (w : List ℕ) (ws : List (List ℕ)) → b < n → IsHigh n w → AllByRecursion (IsHigh n) ws → separated_parts b (between b (w ∷ ws)) ≡ w ∷ ws
 parts_between b n w [] lt h k = parts_alone b n w lt h
 parts_between b n w (v ∷ ws) lt h k = parts_first b n w (between b (v ∷ ws)) lt h ∙ ap (λ (l : List (List ℕ)). w ∷ l) (parts_between b n v ws lt k.0 k.1)
 

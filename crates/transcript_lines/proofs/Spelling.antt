@@ -25,11 +25,11 @@ use Rattle.ledger_core.specs.declared.entry.What.{What}
 use Rattle.ledger_core.specs.declared.entry.What.TheVariants.{Call as Made, Tick}
 use Rattle.transcript_lines.specs.declared.said.Said.{Said}
 use Rattle.transcript_lines.specs.declared.said.Misspelling.{Misspelling}
-use Rattle.transcript_lines.specs.Between.{between, spaced, parts_at}
+use Rattle.transcript_lines.specs.Between.{between, spaced, separated_parts}
 use Rattle.typed_books.specs.Typed.{IsDigest, IsSignature, IsTerms, IsHashkey, IsTypedCall, IsTypedReply, IsTypedSender, IsTypedWhat}
 use Rattle.transcript_lines.specs.Words.{list_word, signature_word, terms_words, key_words, call_words, reply_words, entry_words}
-use Rattle.transcript_lines.specs.Reading.{number_of, bounded_number, to_digest, parse_signature, each_of, inside_entries, field_of, parse_locks, stated_terms}
-use Rattle.transcript_lines.specs.Reading.{key_of, read_units, parse_call, make_reply, equals, call_said, tick_said, words_said, line_said}
+use Rattle.transcript_lines.specs.Reading.{decimal_number, bounded_number, to_digest, parse_signature, parse_each_word, inside_entries, parse_first_field, parse_locks, stated_terms}
+use Rattle.transcript_lines.specs.Reading.{parse_unlock_fields, read_units, parse_call, make_reply, equals, call_said, tick_said, words_said, line_said}
 use Rattle.transcript_lines.proofs.Parts.{IsHigh, high_too, parts_between, high_between, all_append}
 use Rattle.transcript_lines.proofs.Numbers.{number_back, below_back, high_number}
 use Rattle.transcript_lines.proofs.Hex.{digest_back, signature_back, high_hex, high_signature, some_signature}
@@ -50,11 +50,11 @@ first_of_all P x xs h = h 0 x (omega arith)
 
 module _ {A : Type 0} (P : A → Type 0) (word : A → List ℕ) (f : List ℕ → Result A Misspelling) (back : (x : A) → P x
     → f (word x) ≡ Ok x) (high : (x : A) → P x → IsHigh 48 (word x)) (some : (x : A) → P x → 0 < length (word x)) where
-  each_back : (xs : List A) → All P xs → each_of f (map word xs) ≡ Ok xs
+  each_back : (xs : List A) → All P xs → parse_each_word f (map word xs) ≡ Ok xs
   each_back [] h = refl
   each_back (x ∷ xs) h =
-      went (f (word x)) x (λ y. each_of f (map word xs) >>= λ ys. Ok (y ∷ ys)) (back x (first_of_all P x xs h))
-      ∙ went (each_of f (map word xs)) xs (λ ys. Ok (x ∷ ys)) (each_back xs (rest_of P x xs h))
+      went (f (word x)) x (λ y. parse_each_word f (map word xs) >>= λ ys. Ok (y ∷ ys)) (back x (first_of_all P x xs h))
+      ∙ went (parse_each_word f (map word xs)) xs (λ ys. Ok (x ∷ ys)) (each_back xs (rest_of P x xs h))
 
   all_high : (xs : List A) → All P xs → AllByRecursion (IsHigh 48) (map word xs)
   all_high [] h = tt
@@ -77,8 +77,8 @@ module _ {A : Type 0} (P : A → Type 0) (word : A → List ℕ) (f : List ℕ �
   list_back [] h = refl
   list_back (x ∷ xs) h =
       let px = first_of_all P x xs h in
-      ap (λ t. cond t (Ok []) (each_of f (parts_at 44 (between 44 (word x ∷ map word xs))))) (not_dash (word x) (map word xs) (high x px) (some x px))
-      ∙ ap (each_of f) (parts_between 44 48 (word x) (map word xs) (omega arith) (high x px) (all_high xs (rest_of P x xs h)))
+      ap (λ t. cond t (Ok []) (parse_each_word f (separated_parts 44 (between 44 (word x ∷ map word xs))))) (not_dash (word x) (map word xs) (high x px) (some x px))
+      ∙ ap (parse_each_word f) (parts_between 44 48 (word x) (map word xs) (omega arith) (high x px) (all_high xs (rest_of P x xs h)))
       ∙ each_back (x ∷ xs) h
 
   pub high_list : (xs : List A) → All P xs → IsHigh 44 (list_word (map word xs))
@@ -113,14 +113,14 @@ high_sigs : (xs : List Sig) → All IsSignature xs → IsHigh 44 (list_word (map
 high_sigs xs h = high_list IsSignature signature_word parse_signature signature_back high_signature some_signature xs h
 
 pub field_back : {A : Type 0} (f : List ℕ → Result A Misspelling) (w : List ℕ) (x : A) (rest : List (List ℕ)) → f w ≡ Ok x
-    → field_of f (w ∷ rest) ≡ Ok (x, rest)
-unfolding field_of
+    → parse_first_field f (w ∷ rest) ≡ Ok (x, rest)
+unfolding parse_first_field
 field_back f w x rest e = went (f w) x (λ y. Ok (y, rest)) e
 
 locks_back : (xs : List (List ℕ)) (rest : List (List ℕ)) → All IsDigest xs → parse_locks (length xs) (map encode_lower xs ++ rest) ≡ Ok (xs, rest)
 locks_back [] rest h = refl
 locks_back (x ∷ xs) rest h =
-    went (field_of to_digest (encode_lower x ∷ (map encode_lower xs ++ rest))) (x, map encode_lower xs ++ rest) (λ y. parse_locks (length xs) y.1 >>= λ r.
+    went (parse_first_field to_digest (encode_lower x ∷ (map encode_lower xs ++ rest))) (x, map encode_lower xs ++ rest) (λ y. parse_locks (length xs) y.1 >>= λ r.
     Ok (y.0 ∷ r.0, r.1))
     (field_back to_digest (encode_lower x) x (map encode_lower xs ++ rest) (digest_back x (first_of_all IsDigest x xs h)))
     ∙ went (parse_locks (length xs) (map encode_lower xs ++ rest)) (xs, rest) (λ r. Ok (x ∷ r.0, r.1)) (locks_back xs rest (rest_of IsDigest x xs h))
@@ -130,14 +130,14 @@ locks_back (x ∷ xs) rest h =
 small_back : (n : ℕ) → n < 2 ^ 32 → bounded_number (2 ^ 32) (decimal n) ≡ Ok n
 small_back n lt = below_back (2 ^ 32) n lt (omega arith)
 
-small_field : (n : ℕ) (rest : List (List ℕ)) → n < 2 ^ 32 → field_of (bounded_number (2 ^ 32)) (decimal n ∷ rest) ≡ Ok (n, rest)
+small_field : (n : ℕ) (rest : List (List ℕ)) → n < 2 ^ 32 → parse_first_field (bounded_number (2 ^ 32)) (decimal n ∷ rest) ≡ Ok (n, rest)
 small_field n rest lt = field_back (bounded_number (2 ^ 32)) (decimal n) n rest (small_back n lt)
 
-byte_field : (n : ℕ) (rest : List (List ℕ)) → n < 256 → field_of (bounded_number 256) (decimal n ∷ rest) ≡ Ok (n, rest)
+byte_field : (n : ℕ) (rest : List (List ℕ)) → n < 256 → parse_first_field (bounded_number 256) (decimal n ∷ rest) ≡ Ok (n, rest)
 byte_field n rest lt = field_back (bounded_number 256) (decimal n) n rest (below_back 256 n lt (omega arith))
 
-number_field : (n : ℕ) (rest : List (List ℕ)) → n < 2 ^ 64 → field_of number_of (decimal n ∷ rest) ≡ Ok (n, rest)
-number_field n rest lt = field_back number_of (decimal n) n rest (number_back n lt)
+number_field : (n : ℕ) (rest : List (List ℕ)) → n < 2 ^ 64 → parse_first_field decimal_number (decimal n ∷ rest) ≡ Ok (n, rest)
+number_field n rest lt = field_back decimal_number (decimal n) n rest (number_back n lt)
 
 terms_back : (t : Terms) (rest : List (List ℕ)) → IsTerms t → stated_terms (length t.locks) (terms_words t ++ rest) ≡ Ok (Publish t, rest)
 unfolding stated_terms
@@ -150,8 +150,8 @@ terms_back t rest k =
     ∙ went _ (t.amount, locks) _ (number_field t.amount _ k.amount)
     ∙ went _ (t.locks, rest) _ (locks_back t.locks rest k.locks)
 
-key_back : (key : Hashkey) (rest : List (List ℕ)) → IsHashkey key → key_of (key_words key ++ rest) ≡ Ok (Unlock key, rest)
-unfolding key_of
+key_back : (key : Hashkey) (rest : List (List ℕ)) → IsHashkey key → parse_unlock_fields (key_words key ++ rest) ≡ Ok (Unlock key, rest)
+unfolding parse_unlock_fields
 key_back key rest k =
     let sigs = list_word (map signature_word key.sigs) ∷ rest in
     let path = list_word (map decimal key.path) ∷ sigs in
@@ -193,10 +193,10 @@ reply_back WrongSignature s c k = refl
 reply_back NothingLocked s c k = refl
 reply_back NoContract s c k = refl
 reply_back AlreadyPublished s c k = refl
-reply_back (TooLate n) s c k = went (number_of (decimal n)) n (λ m. Ok (TooLate m)) (number_back n k)
+reply_back (TooLate n) s c k = went (decimal_number (decimal n)) n (λ m. Ok (TooLate m)) (number_back n k)
 reply_back (StillLocked n) s c k = went (bounded_number 256 (decimal n)) n (λ m. Ok (StillLocked m)) (below_back 256 n k (omega arith))
-reply_back (NotExpired n) s c k = went (number_of (decimal n)) n (λ m. Ok (NotExpired m)) (number_back n k)
-reply_back (NoFunds n) s c k = went (number_of (decimal n)) n (λ m. Ok (NoFunds m)) (number_back n k)
+reply_back (NotExpired n) s c k = went (decimal_number (decimal n)) n (λ m. Ok (NotExpired m)) (number_back n k)
+reply_back (NoFunds n) s c k = went (decimal_number (decimal n)) n (λ m. Ok (NoFunds m)) (number_back n k)
 reply_back SenderFull s c k = absurd (s refl)
 reply_back ClockFull s c k = absurd (c refl)
 

@@ -17,14 +17,14 @@ use Rattle.ledger_core.specs.declared.entry.Entry.{Entry}
 use Rattle.ledger_core.specs.History.{entry_ticks, height, fit}
 use Rattle.ledger_core.specs.Book.{Histories}
 use Rattle.swap_job.specs.declared.job.Job.{Job}
-use Rattle.ledger_core.specs.WellFormed.{written_height, IsFormedWhat, IsFormedEntry, GoesOn}
+use Rattle.ledger_core.specs.WellFormed.{written_height, IsFormedWhat, IsFormedEntry, IsFormedContinuation}
 use Rattle.transcript_lines.specs.declared.said.Said.{Said}
 use Rattle.transcript_lines.specs.declared.said.Misspelling.{Misspelling}
 use Rattle.transcript_lines.specs.Between.{spaced}
 use Rattle.typed_books.specs.Typed.{IsTypedSender, IsTypedWhat}
 use Rattle.transcript_lines.specs.Words.{entry_words}
 use Rattle.transcript_lines.specs.Reading.{line_said}
-use Rattle.transcript_lines.specs.Lines.{entry_line, ledger_line, lines_from, IsStatedWhat, IsStatable, IsStated}
+use Rattle.transcript_lines.specs.Lines.{entry_line, ledger_line, lines_from_arc, IsStatedWhat, IsStatable, IsStated}
 use Rattle.transcript_lines.specs.Laws.{OneStory}
 use Rattle.transcript_lines.proofs.Spelling.{HasLocks, call_line_back, tick_line_back}
 
@@ -107,7 +107,7 @@ head_is x y xs ys e = (cc, cc)
 rest_of : {A : Type 0} (P : A → Type 0) (x : A) (xs : List A) → All P (x ∷ xs) → All P xs
 rest_of P x xs h k d lt = h (suc k) d (omega arith)
 
-same_history : (d : Deal) (a : ℕ) (past h o : List Entry) (r s : List (List ℕ)) → GoesOn d a past h → GoesOn d a past o → All IsStatable h
+same_history : (d : Deal) (a : ℕ) (past h o : List Entry) (r s : List (List ℕ)) → IsFormedContinuation d a past h → IsFormedContinuation d a past o → All IsStatable h
     → All IsStatable o → length h ≡ length o → map entry_line h ++ r ≡ map entry_line o ++ s → (h ≡ o) × (r ≡ s)
 same_history d a past [] [] r s f g k l long e = (refl, e)
 same_history d a past [] (y ∷ o) r s f g k l long e = absurd (omega arith)
@@ -116,7 +116,7 @@ same_history d a past (x ∷ h) (y ∷ o) r s f g k l long e =
     let both = head_is (entry_line x) (entry_line y) (map entry_line h ++ r) (map entry_line o ++ s) e in
     let one : x ≡ y = same_entry d a past x y f.0 g.0 (k 0 x (omega arith)) (l 0 y (omega arith)) both.0 in
     let rest =
-    same_history d a (past ++ x ∷ []) h o r s f.1 (subst (λ (z : Entry). GoesOn d a (past ++ z ∷ []) o) (sym one) g.1) (rest_of IsStatable x h k)
+    same_history d a (past ++ x ∷ []) h o r s f.1 (subst (λ (z : Entry). IsFormedContinuation d a (past ++ z ∷ []) o) (sym one) g.1) (rest_of IsStatable x h k)
     (rest_of IsStatable y o l) (omega arith) both.1 in
     (ap₂ (λ (z : Entry) (zs : List Entry). z ∷ zs) one rest.0, rest.1)
 
@@ -130,38 +130,38 @@ same_count a m n lm ln e =
 
 -- Books: what is asked of the histories from arc a on.
 record AreStated (d : Deal) (a : ℕ) (b : Histories) : Type 0 where
-  formed : (i : ℕ) → i < length b → GoesOn d (a + i) [] (get_or b i [])
+  formed : (i : ℕ) → i < length b → IsFormedContinuation d (a + i) [] (get_or b i [])
   statable : (i : ℕ) → i < length b → All IsStatable (get_or b i [])
   few : (i : ℕ) → i < length b → length (get_or b i []) ≤ 20064
 
 later : (d : Deal) (a : ℕ) (h : List Entry) (b : Histories) → AreStated d a (h ∷ b) → AreStated d (a + 1) b
 later d a h b k = record {
   formed = λ i lt. let z : ◌≡◌ {A = ℕ} (a + suc i) (a + 1 + i) =
-      omega arith in subst (λ (j : ℕ). GoesOn d j [] (get_or b i [])) z (k.formed (suc i) (omega arith));
+      omega arith in subst (λ (j : ℕ). IsFormedContinuation d j [] (get_or b i [])) z (k.formed (suc i) (omega arith));
   statable = λ i lt. k.statable (suc i) (omega arith);
   few = λ i lt. k.few (suc i) (omega arith);
 }
 
-now : (d : Deal) (a : ℕ) (h : List Entry) (b : Histories) → AreStated d a (h ∷ b) → GoesOn d a [] h
-now d a h b k = let z : ◌≡◌ {A = ℕ} (a + 0) a = omega arith in subst (λ (j : ℕ). GoesOn d j [] h) z (k.formed 0 (omega arith))
+now : (d : Deal) (a : ℕ) (h : List Entry) (b : Histories) → AreStated d a (h ∷ b) → IsFormedContinuation d a [] h
+now d a h b k = let z : ◌≡◌ {A = ℕ} (a + 0) a = omega arith in subst (λ (j : ℕ). IsFormedContinuation d j [] h) z (k.formed 0 (omega arith))
 
-same_books : (d : Deal) (a : ℕ) (b c : Histories) → AreStated d a b → AreStated d a c → length b ≡ length c → lines_from a b ≡ lines_from a c → b ≡ c
+same_books : (d : Deal) (a : ℕ) (b c : Histories) → AreStated d a b → AreStated d a c → length b ≡ length c → lines_from_arc a b ≡ lines_from_arc a c → b ≡ c
 same_books d a [] [] k l long e = refl
 same_books d a [] (o ∷ c) k l long e = absurd (omega arith)
 same_books d a (h ∷ b) [] k l long e = absurd (omega arith)
 same_books d a (h ∷ b) (o ∷ c) k l long e =
-    let both = head_is (ledger_line a h) (ledger_line a o) (map entry_line h ++ lines_from (a + 1) b) (map entry_line o ++ lines_from (a + 1) c) e in
+    let both = head_is (ledger_line a h) (ledger_line a o) (map entry_line h ++ lines_from_arc (a + 1) b) (map entry_line o ++ lines_from_arc (a + 1) c) e in
     let few = k.few 0 (omega arith) in
     let few_too = l.few 0 (omega arith) in
     let many = same_count a (length h) (length o) (omega arith) (omega arith) both.0 in
     let one =
-    same_history d a [] h o (lines_from (a + 1) b) (lines_from (a + 1) c) (now d a h b k) (now d a o c l) (k.statable 0 (omega arith))
+    same_history d a [] h o (lines_from_arc (a + 1) b) (lines_from_arc (a + 1) c) (now d a h b k) (now d a o c l) (k.statable 0 (omega arith))
     (l.statable 0 (omega arith)) many both.1 in
     ap₂ (λ (x : List Entry) (xs : Histories). x ∷ xs) one.0 (same_books d (a + 1) b c (later d a h b k) (later d a o c l) (omega arith) one.1)
 
 are_stated : (d : Deal) (b : Histories) → IsStated d b → AreStated d 0 b
 are_stated d b k = record {
-  formed = λ i lt. let z : ◌≡◌ {A = ℕ} i (0 + i) = omega arith in subst (λ (j : ℕ). GoesOn d j [] (get_or b i [])) z (k.formed.formed i lt);
+  formed = λ i lt. let z : ◌≡◌ {A = ℕ} i (0 + i) = omega arith in subst (λ (j : ℕ). IsFormedContinuation d j [] (get_or b i [])) z (k.formed.formed i lt);
   statable = k.statable;
   few = k.few;
 }
@@ -172,8 +172,8 @@ ok_job x y e = cc
 pub one_story : OneStory
 one_story parse_whole_header ls job other b c k l =
     let same = sym k.lines ∙ l.lines in
-    let after = head_is (codes "swap transcript 1") (codes "swap transcript 1") (k.header ∷ lines_from 0 b) (l.header ∷ lines_from 0 c) same in
-    let both = head_is k.header l.header (lines_from 0 b) (lines_from 0 c) after.1 in
+    let after = head_is (codes "swap transcript 1") (codes "swap transcript 1") (k.header ∷ lines_from_arc 0 b) (l.header ∷ lines_from_arc 0 c) same in
+    let both = head_is k.header l.header (lines_from_arc 0 b) (lines_from_arc 0 c) after.1 in
     let job_is : job ≡ other = ok_job job other (sym k.gives ∙ ap parse_whole_header both.0 ∙ l.gives) in
     let stated : IsStated job.deal c = subst (λ (j : Job). IsStated j.deal c) (sym job_is) l.stated in (
       job_is,

@@ -22,6 +22,6 @@ longer_first x [] = (x ∷ []) ∷ []
 longer_first x (w ∷ ws) = (x ∷ w) ∷ ws
 
 -- what stands between the bytes b of a text: always one part more than there are such bytes
-abbrev pub parts_at : ℕ → List ℕ → List (List ℕ)
-parts_at b [] = [] ∷ []
-parts_at b (x ∷ xs) = if x == b then [] ∷ parts_at b xs else longer_first x (parts_at b xs)
+abbrev pub separated_parts : ℕ → List ℕ → List (List ℕ)
+separated_parts b [] = [] ∷ []
+separated_parts b (x ∷ xs) = if x == b then [] ∷ separated_parts b xs else longer_first x (separated_parts b xs)

@@ -26,13 +26,13 @@ abbrev pub ledger_lines : ℕ → List Entry → List (List ℕ)
 ledger_lines a h = ledger_line a h ∷ map entry_line h
 
 -- the lines of the ledgers from arc a on, and the last line
-abbrev pub lines_from : ℕ → Histories → List (List ℕ)
-lines_from a [] = codes "end" ∷ []
-lines_from a (h ∷ b) = ledger_lines a h ++ lines_from (a + 1) b
+abbrev pub lines_from_arc : ℕ → Histories → List (List ℕ)
+lines_from_arc a [] = codes "end" ∷ []
+lines_from_arc a (h ∷ b) = ledger_lines a h ++ lines_from_arc (a + 1) b
 
 -- the lines of a transcript with this header line
 abbrev pub transcript_lines : List ℕ → Histories → List (List ℕ)
-transcript_lines header b = codes "swap transcript 1" ∷ header ∷ lines_from 0 b
+transcript_lines header b = codes "swap transcript 1" ∷ header ∷ lines_from_arc 0 b
 
 -- the transcript of a job's book
 unfoldable pub transcript : Job → Histories → List ℕ
@@ -51,14 +51,16 @@ pub record IsStatable (e : Entry) : Type 0 where
   pub reply : IsTypedReply e.reply
   pub tick : IsStatedWhat e.what e.reply
 
--- A book that a transcript can state of a deal: it is well formed, its ticks were accepted, and its histories aren't too long.
+-- A book that a transcript can state of a deal: it is well formed, its ticks were accepted, and its
+-- histories aren't too long.
 pub record IsStated (d : Deal) (b : Histories) : Type 0 where
   pub formed : IsWellFormed d b
   pub statable : (a : ℕ) → a < length b → All IsStatable (history b a)
   pub few : (a : ℕ) → a < length b → length (history b a) ≤ 20064
 
--- The lines are a whole transcript of the job and the book, where parse_whole_header says which job a header line gives, if any. A header line counts by what it
--- reads as; every other line has one spelling.
+-- The lines are a whole transcript of the job and the book, where parse_whole_header says which job
+-- a header line gives, if any. A header line counts by what it reads as; every other line has one
+-- spelling.
 pub record IsWholeTranscript (parse_whole_header : List ℕ → Option Job) (ls : List (List ℕ)) (job : Job) (b : Histories) : Type 0 where
   pub header : List ℕ
   pub gives : parse_whole_header header ≡ Some job

@@ -19,7 +19,7 @@ use Rattle.ledger_core.specs.declared.entry.What.TheVariants.{Call as Made, Tick
 use Rattle.transcript_lines.specs.declared.said.Said.{Said}
 use Rattle.transcript_lines.specs.declared.said.Misspelling.{Misspelling}
 use Rattle.transcript_lines.specs.declared.said.Misspelling.TheVariants.{Misspelt}
-use Rattle.transcript_lines.specs.Between.{parts_at}
+use Rattle.transcript_lines.specs.Between.{separated_parts}
 
 abbrev pub misspelt : {A : Type 0} → Result A Misspelling
 misspelt = Err Misspelt
@@ -32,13 +32,13 @@ continue_reading n [] = Ok n
 continue_reading n (b ∷ bs) = if nat_le 48 b && nat_le b 57 && nat_lt (n * 10 + (b - 48)) (2 ^ 64) then continue_reading (n * 10 + (b - 48)) bs else misspelt
 
 -- a number without leading zeros
-abbrev pub number_of : List ℕ → Result ℕ Misspelling
-number_of [] = misspelt
-number_of (b ∷ bs) = if b == 48 then (if length bs == 0 then Ok 0 else misspelt) else continue_reading 0 (b ∷ bs)
+abbrev pub decimal_number : List ℕ → Result ℕ Misspelling
+decimal_number [] = misspelt
+decimal_number (b ∷ bs) = if b == 48 then (if length bs == 0 then Ok 0 else misspelt) else continue_reading 0 (b ∷ bs)
 
 -- a number below a limit
 abbrev pub bounded_number : ℕ → List ℕ → Result ℕ Misspelling
-bounded_number limit w = number_of w >>= λ n. if nat_lt n limit then Ok n else misspelt
+bounded_number limit w = decimal_number w >>= λ n. if nat_lt n limit then Ok n else misspelt
 
 -- ---- digests and signatures
 
@@ -50,24 +50,24 @@ decoded (Ok bytes) = Ok bytes
 decoded (Err e) = misspelt
 
 -- so many bytes, in hexadecimal digits of lower case
-abbrev pub bytes_of : ℕ → List ℕ → Result (List ℕ) Misspelling
-bytes_of n w = if list_all is_lower_digit w then decoded (decode_sized w n) else misspelt
+abbrev pub lower_hex_bytes : ℕ → List ℕ → Result (List ℕ) Misspelling
+lower_hex_bytes n w = if list_all is_lower_digit w then decoded (decode_sized w n) else misspelt
 
 abbrev pub to_digest : List ℕ → Result (List ℕ) Misspelling
-to_digest w = bytes_of 32 w
+to_digest w = lower_hex_bytes 32 w
 
 abbrev pub parse_signature : List ℕ → Result Sig Misspelling
-parse_signature w = bytes_of 2144 w >>= λ bytes. Ok (text_values bytes)
+parse_signature w = lower_hex_bytes 2144 w >>= λ bytes. Ok (text_values bytes)
 
 -- ---- lists
 
-abbrev pub each_of : {A : Type 0} → (List ℕ → Result A Misspelling) → List (List ℕ) → Result (List A) Misspelling
-each_of f [] = Ok []
-each_of f (w ∷ ws) = f w >>= λ x. each_of f ws >>= λ xs. Ok (x ∷ xs)
+abbrev pub parse_each_word : {A : Type 0} → (List ℕ → Result A Misspelling) → List (List ℕ) → Result (List A) Misspelling
+parse_each_word f [] = Ok []
+parse_each_word f (w ∷ ws) = f w >>= λ x. parse_each_word f ws >>= λ xs. Ok (x ∷ xs)
 
 -- a list in one field
 abbrev pub inside_entries : {A : Type 0} → (List ℕ → Result A Misspelling) → List ℕ → Result (List A) Misspelling
-inside_entries f w = if bytes_eq w (codes "-") then Ok [] else each_of f (parts_at 44 w)
+inside_entries f w = if bytes_eq w (codes "-") then Ok [] else parse_each_word f (separated_parts 44 w)
 
 -- ---- calls, each with the fields that follow it
 
@@ -80,8 +80,8 @@ first_field [] = misspelt
 first_field (w ∷ ws) = Ok (w, ws)
 
 -- what a field says, and the fields after it
-unfoldable pub field_of : {A : Type 0} → (List ℕ → Result A Misspelling) → List (List ℕ) → Result (A × List (List ℕ)) Misspelling
-field_of f ws = do
+unfoldable pub parse_first_field : {A : Type 0} → (List ℕ → Result A Misspelling) → List (List ℕ) → Result (A × List (List ℕ)) Misspelling
+parse_first_field f ws = do
   first ← first_field ws
   x ← f first.0
   Ok (x, first.1)
@@ -89,36 +89,36 @@ field_of f ws = do
 -- so many digests, and the fields after them
 abbrev pub parse_locks : ℕ → List (List ℕ) → Result (List (List ℕ) × List (List ℕ)) Misspelling
 parse_locks zero ws = Ok ([], ws)
-parse_locks (suc n) ws = field_of to_digest ws >>= λ first. parse_locks n first.1 >>= λ r. Ok (first.0 ∷ r.0, r.1)
+parse_locks (suc n) ws = parse_first_field to_digest ws >>= λ first. parse_locks n first.1 >>= λ r. Ok (first.0 ∷ r.0, r.1)
 
 unfoldable pub stated_terms : ℕ → List (List ℕ) → Result (Call × List (List ℕ)) Misspelling
 stated_terms count ws = do
-  start ← field_of (bounded_number (2 ^ 32)) ws
-  delta ← field_of (bounded_number (2 ^ 32)) start.1
-  bound ← field_of (bounded_number (2 ^ 32)) delta.1
-  timelock ← field_of (bounded_number (2 ^ 32)) bound.1
-  amount ← field_of number_of timelock.1
+  start ← parse_first_field (bounded_number (2 ^ 32)) ws
+  delta ← parse_first_field (bounded_number (2 ^ 32)) start.1
+  bound ← parse_first_field (bounded_number (2 ^ 32)) delta.1
+  timelock ← parse_first_field (bounded_number (2 ^ 32)) bound.1
+  amount ← parse_first_field decimal_number timelock.1
   locks ← parse_locks count amount.1
   Ok (Publish (record { locks = locks.0; start = start.0; delta = delta.0; bound = bound.0; timelock = timelock.0; amount = amount.0 }), locks.1)
 
-unfoldable pub key_of : List (List ℕ) → Result (Call × List (List ℕ)) Misspelling
-key_of ws = do
-  lock ← field_of (bounded_number 256) ws
-  secret ← field_of to_digest lock.1
-  path ← field_of (inside_entries (bounded_number 256)) secret.1
-  sigs ← field_of (inside_entries parse_signature) path.1
+unfoldable pub parse_unlock_fields : List (List ℕ) → Result (Call × List (List ℕ)) Misspelling
+parse_unlock_fields ws = do
+  lock ← parse_first_field (bounded_number 256) ws
+  secret ← parse_first_field to_digest lock.1
+  path ← parse_first_field (inside_entries (bounded_number 256)) secret.1
+  sigs ← parse_first_field (inside_entries parse_signature) path.1
   Ok (Unlock (record { lock = lock.0; secret = secret.0; path = path.0; sigs = sigs.0 }), sigs.1)
 
 unfoldable pub read_units : List (List ℕ) → Result (Call × List (List ℕ)) Misspelling
 read_units ws = do
-  to ← field_of (bounded_number 256) ws
-  units ← field_of number_of to.1
+  to ← parse_first_field (bounded_number 256) ws
+  units ← parse_first_field decimal_number to.1
   Ok (Transfer to.0 units.0, units.1)
 
 abbrev pub pick_call : ℕ → List ℕ → List (List ℕ) → Result (Call × List (List ℕ)) Misspelling
 pick_call locks w ws =
     if is_word w (codes "publish") then stated_terms locks ws
-    else if is_word w (codes "unlock") then key_of ws
+    else if is_word w (codes "unlock") then parse_unlock_fields ws
     else if is_word w (codes "claim") then Ok (Claim, ws)
     else if is_word w (codes "refund") then Ok (Refund, ws)
     else if is_word w (codes "transfer") then read_units ws
@@ -148,10 +148,10 @@ plain_reply w =
 
 abbrev pub numbered_reply : List ℕ → List ℕ → Result Reply Misspelling
 numbered_reply w n =
-    if is_word w (codes "TooLate") then (number_of n >>= λ last. Ok (TooLate last))
+    if is_word w (codes "TooLate") then (decimal_number n >>= λ last. Ok (TooLate last))
     else if is_word w (codes "StillLocked") then (bounded_number 256 n >>= λ i. Ok (StillLocked i))
-    else if is_word w (codes "NotExpired") then (number_of n >>= λ first. Ok (NotExpired first))
-    else if is_word w (codes "NoFunds") then (number_of n >>= λ have. Ok (NoFunds have))
+    else if is_word w (codes "NotExpired") then (decimal_number n >>= λ first. Ok (NotExpired first))
+    else if is_word w (codes "NoFunds") then (decimal_number n >>= λ have. Ok (NoFunds have))
     else misspelt
 
 abbrev pub make_reply : List (List ℕ) → Result Reply Misspelling
@@ -166,9 +166,9 @@ equals w = if is_word w (codes "=") then Ok tt else misspelt
 
 unfoldable pub call_said : ℕ → List (List ℕ) → Result Said Misspelling
 call_said locks ws = do
-  party ← field_of (bounded_number 256) ws
+  party ← parse_first_field (bounded_number 256) ws
   call ← parse_call locks party.1
-  sign ← field_of equals call.1
+  sign ← parse_first_field equals call.1
   reply ← make_reply sign.1
   Ok (record { sender = Party party.0; what = Made call.0; reply = reply })
 
@@ -178,7 +178,7 @@ nothing_more (w ∷ ws) = misspelt
 
 unfoldable pub tick_said : List (List ℕ) → Result Said Misspelling
 tick_said ws = do
-  by ← field_of (bounded_number (2 ^ 32)) ws
+  by ← parse_first_field (bounded_number (2 ^ 32)) ws
   u ← nothing_more by.1
   Ok (record { sender = Clock; what = Tick by.0; reply = Accepted })
 
@@ -196,4 +196,4 @@ words_said locks ws = do
 
 -- what a line says
 unfoldable pub line_said : ℕ → List ℕ → Result Said Misspelling
-line_said locks line = words_said locks (parts_at 32 line)
+line_said locks line = words_said locks (separated_parts 32 line)

@@ -1,4 +1,5 @@
--- The fields of an entry's line. Numbers are in decimal, digests in hexadecimal digits of lower case.
+-- The fields of an entry's line. Numbers are in decimal, digests in hexadecimal digits of lower
+-- case.
 use Rattle.std.specs.Prelude.{ℕ, List, [], ◌∷◌, ◌++◌, map, codes, decimal}
 use Rattle.hex.specs.Hex.{encode_lower}
 use Rattle.swap_base.specs.Text.{joined}

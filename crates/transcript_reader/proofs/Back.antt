@@ -9,8 +9,8 @@ use Rattle.ledger_core.specs.Book.{Histories}
 use Rattle.swap_job.specs.declared.job.Job.{Job}
 use Rattle.refusals.specs.declared.refusal.Refusal.{Refusal}
 use Rattle.transcript_lines.specs.declared.said.Misspelling.{Misspelling}
-use Rattle.transcript_lines.specs.Between.{ended, longer_first, parts_at}
-use Rattle.transcript_lines.specs.Lines.{lines_from}
+use Rattle.transcript_lines.specs.Between.{ended, longer_first, separated_parts}
+use Rattle.transcript_lines.specs.Lines.{lines_from_arc}
 use Rattle.transcript_book.specs.Stages.{BookSoFar, line_read, no_ledgers}
 use Rattle.transcript_book.specs.Books.{whole}
 use Rattle.transcript_book.proofs.Complete.{few_arcs, stated_from, whole_is_read}
@@ -19,9 +19,9 @@ use Rattle.command_input.specs.Input.{limit}
 use Rattle.transcript_reader.specs.declared.reason.TranscriptReason.{TranscriptReason}
 use Rattle.transcript_reader.specs.declared.reason.TranscriptReason.TheVariants.{TooLong}
 use Rattle.transcript_reader.specs.declared.stage.Stage.TheVariants.{Header, Ledgers}
-use Rattle.transcript_reader.specs.Stages.{Progress, gone_on, headed, more_bytes, next_line, no_lines, next_stage, with_line}
+use Rattle.transcript_reader.specs.Stages.{Progress, ledgers_stage, headed, more_bytes, next_line, no_lines, next_stage, with_line}
 use Rattle.transcript_reader.specs.Reading.{Story, finished, parts_read, transcript_read}
-use Rattle.transcript_reader.specs.Laws.{WholeIsRead, ok_of}
+use Rattle.transcript_reader.specs.Laws.{WholeIsRead, job_or_none}
 use Rattle.transcript_reader.proofs.Whole.{at_stage}
 
 -- the parts of lines, each with its line feed
@@ -30,17 +30,17 @@ pub not_feed : (t : Bool) → not t ≡ true → t ≡ false
 not_feed true e = absurd (cc e)
 not_feed false e = refl
 
-part_of_line : (l rest : List ℕ) → IsOneLine l → parts_at 10 (l ++ 10 ∷ rest) ≡ l ∷ parts_at 10 rest
+part_of_line : (l rest : List ℕ) → IsOneLine l → separated_parts 10 (l ++ 10 ∷ rest) ≡ l ∷ separated_parts 10 rest
 part_of_line [] rest h = refl
 part_of_line (x ∷ l) rest h =
     let p = and_parts (not (x == 10)) (list_all (λ y. not (y == 10)) l) h in
-    ap (λ t. cond t ([] ∷ parts_at 10 (l ++ 10 ∷ rest)) (longer_first x (parts_at 10 (l ++ 10 ∷ rest)))) (not_feed (x == 10) p.0)
+    ap (λ t. cond t ([] ∷ separated_parts 10 (l ++ 10 ∷ rest)) (longer_first x (separated_parts 10 (l ++ 10 ∷ rest)))) (not_feed (x == 10) p.0)
     ∙ ap (longer_first x) (part_of_line l rest p.1)
 
-pub parts_of_lines : (ls : List (List ℕ)) → AllByRecursion IsOneLine ls → parts_at 10 (ended ls) ≡ ls ++ [] ∷ []
+pub parts_of_lines : (ls : List (List ℕ)) → AllByRecursion IsOneLine ls → separated_parts 10 (ended ls) ≡ ls ++ [] ∷ []
 parts_of_lines [] h = refl
 parts_of_lines (l ∷ ls) h =
-    ap (parts_at 10) (append_assoc l (10 ∷ []) (ended ls)) ∙ part_of_line l (ended ls) h.0 ∙ ap (λ (ps : List (List ℕ)). l ∷ ps) (parts_of_lines ls h.1)
+    ap (separated_parts 10) (append_assoc l (10 ∷ []) (ended ls)) ∙ part_of_line l (ended ls) h.0 ∙ ap (λ (ps : List (List ℕ)). l ∷ ps) (parts_of_lines ls h.1)
 
 -- ---- the bytes that were counted
 
@@ -82,14 +82,14 @@ ledgers_back header s n m (l ∷ ls) job b e le = by (line_read s l) refl e (λ 
         → parts_read header (at_stage (Ledgers s) n m) (l ∷ (ls ++ [] ∷ [])) ≡ Ok (story job b)
     by (Ok u) q k more =
         read_after header (at_stage (Ledgers s) n m) l ls
-        ∙ ap (λ (r : Result BookSoFar Misspelling). parts_read header (at_stage (gone_on (next_line n) r) (next_line n) (more_bytes m (length l + 1)))
+        ∙ ap (λ (r : Result BookSoFar Misspelling). parts_read header (at_stage (ledgers_stage (next_line n) r) (next_line n) (more_bytes m (length l + 1)))
         (ls ++ [] ∷ [])) q
         ∙ more u k (let c = counted m (length l + 1) in omega (arith, ended_length l ls))
     by (Err f) q k more = absurd (cc k)
 
 -- ---- the whole
 
-ok_job : (r : Result Job Refusal) (job : Job) → ok_of r ≡ Some job → r ≡ Ok job
+ok_job : (r : Result Job Refusal) (job : Job) → job_or_none r ≡ Some job → r ≡ Ok job
 ok_job (Ok j) job e = ap (λ (x : Job). Ok x) (some_is j job e)
   where
     some_is : (x y : Job) → Some x ≡ Some y → x ≡ y
@@ -111,12 +111,12 @@ lines_back header line ls job b gives e le =
 pub whole_text_is_read : WholeIsRead
 unfolding transcript_read
 whole_text_is_read header all job b w sized feedless le =
-    let ls = lines_from 0 b in
+    let ls = lines_from_arc 0 b in
     let few = few_arcs job.deal sized in
     let count = w.stated.formed.one_each in
     let one_lines : AllByRecursion IsOneLine (codes "swap transcript 1" ∷ w.header ∷ ls) =
     (refl, (feedless, book_lines job.deal 0 b (stated_from job.deal b w.stated) (omega arith))) in
-    ap (λ (x : List (List ℕ)). parts_read header no_lines (parts_at 10 (ended x))) w.lines
+    ap (λ (x : List (List ℕ)). parts_read header no_lines (separated_parts 10 (ended x))) w.lines
     ∙ ap (parts_read header no_lines) (parts_of_lines (codes "swap transcript 1" ∷ w.header ∷ ls) one_lines)
     ∙ lines_back header w.header ls job b (ok_job (header w.header) job w.gives) (whole_is_read job b sized w.stated)
     (subst (λ (x : List (List ℕ)). length (ended x) ≤ limit) w.lines le)

@@ -9,7 +9,7 @@ use Rattle.swap_base.specs.declared.fault.Fault.TheVariants.{Refused, NoMemory}
 use Rattle.ledger_core.specs.declared.entry.Book.{Book}
 use Rattle.swap_job.specs.declared.job.Job.{Job}
 use Rattle.refusals.specs.declared.refusal.Refusal.{Refusal}
-use Rattle.transcript_lines.specs.Between.{parts_at}
+use Rattle.transcript_lines.specs.Between.{separated_parts}
 use Rattle.transcript_book.proofs.Falls.{next_found, next_none}
 use Rattle.transcript_book.proofs.Exact.{parts_some}
 use Rattle.transcript_reader.specs.declared.reason.TranscriptReason.{TranscriptReason}
@@ -28,9 +28,9 @@ module _ (header : List ℕ → Result Job Refusal) where
   line_first p line (next ∷ ps) some = refl
 
   -- a line that a line feed ends, and the bytes after it
-  pub line_on : (p : Progress) (line rest : List ℕ) (bytes : List ℕ) → parts_at 10 bytes ≡ line ∷ parts_at 10 rest
-      → parts_read header p (parts_at 10 bytes) ≡ parts_read header (with_line header p line) (parts_at 10 rest)
-  line_on p line rest bytes is = ap (parts_read header p) is ∙ line_first p line (parts_at 10 rest) (parts_some 10 rest)
+  pub line_on : (p : Progress) (line rest : List ℕ) (bytes : List ℕ) → separated_parts 10 bytes ≡ line ∷ separated_parts 10 rest
+      → parts_read header p (separated_parts 10 bytes) ≡ parts_read header (with_line header p line) (separated_parts 10 rest)
+  line_on p line rest bytes is = ap (parts_read header p) is ∙ line_first p line (separated_parts 10 rest) (parts_some 10 rest)
 
   stage_bad : (s : Stage) (n m : ℕ) (reason : TranscriptReason) (ps : List (List ℕ)) → so_far s ≡ Err reason
       → parts_read header (at_stage s n m) ps ≡ Err reason
@@ -49,7 +49,7 @@ module _ (header : List ℕ → Result Job Refusal) where
   -- Text that was read up to a place: what is told of the whole is what is told from there on.
   pub record IsLed (bytes : List ℕ) (at : ℕ) (p : Progress) : Type 0 where
     pub within : at ≤ length bytes
-    pub led : transcript_read header bytes ≡ parts_read header p (parts_at 10 (drop at bytes))
+    pub led : transcript_read header bytes ≡ parts_read header p (separated_parts 10 (drop at bytes))
 
   pub led_first : (bytes : List ℕ) → IsLed bytes 0 no_lines
   unfolding transcript_read
@@ -57,7 +57,7 @@ module _ (header : List ℕ → Result Job Refusal) where
 
   -- the next line
   next_parts : (bytes : List ℕ) (at end : ℕ) (rest : List ℕ) → rest ≡ drop at bytes → NoneBefore (Passes (is_byte 10) rest) 0 (length rest) end
-      → Passes (is_byte 10) rest end → parts_at 10 (drop at bytes) ≡ take end rest ∷ parts_at 10 (drop (at + (end + 1)) bytes)
+      → Passes (is_byte 10) rest end → separated_parts 10 (drop at bytes) ≡ take end rest ∷ separated_parts 10 (drop (at + (end + 1)) bytes)
   next_parts bytes at end rest is before here = next_found 10 at end bytes rest false refl is before here
 
   -- the line as a slice of the text
@@ -72,7 +72,7 @@ module _ (header : List ℕ → Result Job Refusal) where
       let line = line_is bytes at end n rest is same in record {
         within = omega (arith, ap (length {A = ℕ}) is, length-drop at bytes);
         led = k.led ∙ line_on p (take end rest) (drop (at + (end + 1)) bytes) (drop at bytes) (next_parts bytes at end rest is before here)
-            ∙ ap (λ (x : Progress). parts_read header x (parts_at 10 (drop (at + (end + 1)) bytes)))
+            ∙ ap (λ (x : Progress). parts_read header x (separated_parts 10 (drop (at + (end + 1)) bytes)))
             (sym (e ∙ ap (with_line header p) line));
       }
 
@@ -84,9 +84,9 @@ module _ (header : List ℕ → Result Job Refusal) where
   led_fault bytes at end n p q rest NoMemory k is before here h same = tt
   led_fault bytes at end n p q rest (Refused reason) k is before here h same =
       k.led ∙ line_on p (take end rest) (drop (at + (end + 1)) bytes) (drop at bytes) (next_parts bytes at end rest is before here)
-      ∙ ap (λ (l : List ℕ). parts_read header (with_line header p l) (parts_at 10 (drop (at + (end + 1)) bytes)))
+      ∙ ap (λ (l : List ℕ). parts_read header (with_line header p l) (separated_parts 10 (drop (at + (end + 1)) bytes)))
       (sym (line_is bytes at end n rest is same))
-      ∙ bad_reads (with_line header p (take n (drop at bytes))) reason (parts_at 10 (drop (at + (end + 1)) bytes)) h.1
+      ∙ bad_reads (with_line header p (take n (drop at bytes))) reason (separated_parts 10 (drop (at + (end + 1)) bytes)) h.1
 
   -- what stands after the last line feed
   pub led_to_end : (bytes : List ℕ) (at : ℕ) (p : Progress) (rest : List ℕ) → IsLed bytes at p → rest ≡ drop at bytes

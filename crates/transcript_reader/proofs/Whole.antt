@@ -9,8 +9,8 @@ use Rattle.hashkey_path.proofs.Validity.{bytes_eq-true}
 use Rattle.swap_job.specs.declared.job.Job.{Job}
 use Rattle.refusals.specs.declared.refusal.Refusal.{Refusal}
 use Rattle.transcript_lines.specs.declared.said.Misspelling.{Misspelling}
-use Rattle.transcript_lines.specs.Between.{between, ended, parts_at}
-use Rattle.transcript_lines.specs.Lines.{IsStated, lines_from}
+use Rattle.transcript_lines.specs.Between.{between, ended, separated_parts}
+use Rattle.transcript_lines.specs.Lines.{IsStated, lines_from_arc}
 use Rattle.transcript_book.specs.declared.place.Place.{Place}
 use Rattle.transcript_book.specs.declared.place.Place.TheVariants.{Ledger, Entries, Over}
 use Rattle.transcript_book.specs.Stages.{BookSoFar, is_finished, line_read, no_ledgers}
@@ -22,9 +22,9 @@ use Rattle.transcript_reader.specs.declared.reason.TranscriptReason.{TranscriptR
 use Rattle.transcript_reader.specs.declared.reason.TranscriptReason.TheVariants.{BadLine, TooLong, CutShort, Header as BadHeader}
 use Rattle.transcript_reader.specs.declared.stage.Stage.{Stage}
 use Rattle.transcript_reader.specs.declared.stage.Stage.TheVariants.{Header, Ledgers, Bad}
-use Rattle.transcript_reader.specs.Stages.{Progress, gone_on, headed, more_bytes, next_line, no_lines, next_stage}
+use Rattle.transcript_reader.specs.Stages.{Progress, ledgers_stage, headed, more_bytes, next_line, no_lines, next_stage}
 use Rattle.transcript_reader.specs.Reading.{Story, ledgers_told, parts_read, story_so_far, transcript_read, unless_long}
-use Rattle.transcript_reader.specs.Laws.{IsWholeText, ReadIsWhole, ok_of}
+use Rattle.transcript_reader.specs.Laws.{IsWholeText, ReadIsWhole, job_or_none}
 
 abbrev pub at_stage : Stage → (lines bytes : ℕ) → Progress
 at_stage stage lines bytes = record { stage = stage; lines = lines; bytes = bytes }
@@ -98,7 +98,7 @@ ledgers_are header s n m (l ∷ next ∷ ps) t some e =
   where
     by : (r : Result BookSoFar Misspelling) → line_read s l ≡ r
         → ((u : BookSoFar) → parts_read header (at_stage (Ledgers u) (next_line n) (more_bytes m (length l + 1))) (next ∷ ps) ≡ Ok t → AreLines u (next ∷ ps) t)
-        → parts_read header (at_stage (gone_on (next_line n) r) (next_line n) (more_bytes m (length l + 1))) (next ∷ ps) ≡ Ok t → AreLines s (l ∷ next ∷ ps) t
+        → parts_read header (at_stage (ledgers_stage (next_line n) r) (next_line n) (more_bytes m (length l + 1))) (next ∷ ps) ≡ Ok t → AreLines s (l ∷ next ∷ ps) t
     by (Ok u) q more k =
         let rest = more u k in record {
           lines = l ∷ rest.lines;
@@ -123,7 +123,7 @@ ended_between (l ∷ ls) = by ls (ended_between ls)
     by (k ∷ ks) e = ap (λ (x : List ℕ). l ++ 10 ∷ x) e ∙ sym (append_assoc l (10 ∷ []) (ended (k ∷ ks)))
 
 whole_text : (header : List ℕ → Result Job Refusal) (bytes line : List ℕ) (ps : List (List ℕ)) (job : Job) (t : Story) → header line ≡ Ok job
-    → parts_at 10 bytes ≡ codes "swap transcript 1" ∷ line ∷ ps → AreLines (no_ledgers job) ps t → IsWholeText header bytes t
+    → separated_parts 10 bytes ≡ codes "swap transcript 1" ∷ line ∷ ps → AreLines (no_ledgers job) ps t → IsWholeText header bytes t
 whole_text header bytes line ps job t gives parts k =
     let w = read_is_whole job k.lines k.last k.read k.over in
     let job_is : t.job ≡ job = k.job_is ∙ ap (λ (s : BookSoFar). s.job) w.read in
@@ -133,14 +133,14 @@ whole_text header bytes line ps job t gives parts k =
           ∙ ended_between all;
       whole = record {
         header = line;
-        gives = ap ok_of gives ∙ ap (λ (j : Job). Some j) (sym job_is);
-        lines = ap (λ (x : List (List ℕ)). codes "swap transcript 1" ∷ line ∷ x) (w.lines ∙ ap (lines_from 0) (sym k.book_is));
+        gives = ap job_or_none gives ∙ ap (λ (j : Job). Some j) (sym job_is);
+        lines = ap (λ (x : List (List ℕ)). codes "swap transcript 1" ∷ line ∷ x) (w.lines ∙ ap (lines_from_arc 0) (sym k.book_is));
         stated = subst (λ (j : Job). IsStated j.deal t.book) (sym job_is) (subst (IsStated job.deal) (sym k.book_is) w.stated);
       };
     }
 
 after_header : (header : List ℕ → Result Job Refusal) (bytes line next : List ℕ) (ps : List (List ℕ)) (t : Story) (n m : ℕ)
-    → parts_at 10 bytes ≡ codes "swap transcript 1" ∷ line ∷ next ∷ ps → parts_read header (at_stage (headed (header line)) n m) (next ∷ ps) ≡ Ok t
+    → separated_parts 10 bytes ≡ codes "swap transcript 1" ∷ line ∷ next ∷ ps → parts_read header (at_stage (headed (header line)) n m) (next ∷ ps) ≡ Ok t
     → IsWholeText header bytes t
 after_header header bytes line next ps t n m parts e = by (header line) refl e
   where
@@ -149,13 +149,13 @@ after_header header bytes line next ps t n m parts e = by (header line) refl e
     by (Err refusal) q k = absurd (cc (sym (bad_stands header (BadHeader refusal) n m (next ∷ ps)) ∙ k))
 
 after_first : (header : List ℕ → Result Job Refusal) (bytes : List ℕ) (ps : List (List ℕ)) (t : Story) (n m : ℕ) → 0 < length ps
-    → parts_at 10 bytes ≡ codes "swap transcript 1" ∷ ps → parts_read header (at_stage Header n m) ps ≡ Ok t → IsWholeText header bytes t
+    → separated_parts 10 bytes ≡ codes "swap transcript 1" ∷ ps → parts_read header (at_stage Header n m) ps ≡ Ok t → IsWholeText header bytes t
 unfolding next_stage
 after_first header bytes [] t n m some parts e = absurd (omega arith)
 after_first header bytes (line ∷ []) t n m some parts e = cut_off (more_bytes m (length line)) t e
 after_first header bytes (line ∷ next ∷ ps) t n m some parts e = after_header header bytes line next ps t (next_line n) (more_bytes m (length line + 1)) parts e
 
-from_parts : (header : List ℕ → Result Job Refusal) (bytes : List ℕ) (ps : List (List ℕ)) (t : Story) → 0 < length ps → parts_at 10 bytes ≡ ps
+from_parts : (header : List ℕ → Result Job Refusal) (bytes : List ℕ) (ps : List (List ℕ)) (t : Story) → 0 < length ps → separated_parts 10 bytes ≡ ps
     → parts_read header no_lines ps ≡ Ok t → IsWholeText header bytes t
 unfolding next_stage
 from_parts header bytes [] t some parts e = absurd (omega arith)
@@ -172,4 +172,4 @@ from_parts header bytes (l ∷ next ∷ ps) t some parts e = by (bytes_eq l (cod
 
 pub text_is_whole : ReadIsWhole
 unfolding transcript_read
-text_is_whole header bytes t e = from_parts header bytes (parts_at 10 bytes) t (parts_some 10 bytes) refl e
+text_is_whole header bytes t e = from_parts header bytes (separated_parts 10 bytes) t (parts_some 10 bytes) refl e

@@ -9,15 +9,17 @@ use Rattle.offer_header.specs.Names.{no_strategy, AreNames}
 use Rattle.refusals.specs.declared.refusal.Refusal.{Refusal}
 use Rattle.refusals.specs.Refusal.{named}
 use Rattle.swap_offer.specs.Wallets.{party_seed}
-use Rattle.swap_offer.specs.Job.{job_header_of, names_at, IsWholeJob}
+use Rattle.swap_offer.specs.Job.{parse_header_job, header_names, IsWholeJob}
 use Rattle.transcript_reader.specs.declared.stage.Stage.{Stage}
 use Rattle.transcript_reader.specs.declared.stage.Stage.TheVariants.{Ledgers}
 
--- the job of a header line, or the first reason against it; it is the second line, and states no strategy
+-- the job of a header line, or the first reason against it; it is the second line, and states no
+-- strategy
 unfoldable pub header_read : List ℕ → Result Job Refusal
-header_read line = named (names_at no_strategy Audit 2 line) (job_header_of no_strategy Audit 2 line)
+header_read line = named (header_names no_strategy Audit 2 line) (parse_header_job no_strategy Audit 2 line)
 
--- A job as a transcript tells it: its deal is accepted, its parties are named, nobody's seed is there, and nothing is done after its last entry.
+-- A job as a transcript tells it: its deal is accepted, its parties are named, nobody's seed is
+-- there, and nothing is done after its last entry.
 pub record IsTold (job : Job) : Type 0 where
   pub purpose : job.purpose ≡ Audit
   pub accepted : IsAccepted job.deal
@@ -28,6 +30,6 @@ pub record IsTold (job : Job) : Type 0 where
   pub finish : job.finish ≡ Stop
 
 -- the job with the ledgers that are read is one of which a transcript tells
-abbrev pub IsToldAt : Stage → Type 0
-IsToldAt (Ledgers s) = IsTold s.job
-IsToldAt _ = Unit {0}
+abbrev pub IsToldStage : Stage → Type 0
+IsToldStage (Ledgers s) = IsTold s.job
+IsToldStage _ = Unit {0}

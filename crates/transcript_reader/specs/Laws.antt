@@ -10,13 +10,13 @@ use Rattle.transcript_lines.specs.Lines.{IsWholeTranscript}
 use Rattle.command_input.specs.Input.{limit}
 use Rattle.transcript_reader.specs.Reading.{Story, transcript_read}
 
-abbrev pub ok_of : Result Job Refusal → Option Job
-ok_of (Ok job) = Some job
-ok_of (Err refusal) = None
+abbrev pub job_or_none : Result Job Refusal → Option Job
+job_or_none (Ok job) = Some job
+job_or_none (Err refusal) = None
 
 -- the job that a header line gives, if any
 abbrev pub header_job : (List ℕ → Result Job Refusal) → List ℕ → Option Job
-header_job header line = ok_of (header line)
+header_job header line = job_or_none (header line)
 
 -- The lines of the bytes are a whole transcript.
 pub record IsWholeText (header : List ℕ → Result Job Refusal) (bytes : List ℕ) (t : Story) : Type 0 where
@@ -28,7 +28,8 @@ pub record IsWholeText (header : List ℕ → Result Job Refusal) (bytes : List 
 abbrev pub ReadIsWhole : Type 0
 ReadIsWhole = (header : List ℕ → Result Job Refusal) (bytes : List ℕ) (t : Story) → transcript_read header bytes ≡ Ok t → IsWholeText header bytes t
 
--- A whole transcript of no more bytes than an input may have, whose header line holds no line feed, gives its job and its book.
+-- A whole transcript of no more bytes than an input may have, whose header line holds no line feed,
+-- gives its job and its book.
 abbrev pub WholeIsRead : Type 0
 WholeIsRead =
     (header : List ℕ → Result Job Refusal) (ls : List (List ℕ)) (job : Job) (b : Histories) (whole : IsWholeTranscript (header_job header) ls job b)

@@ -6,7 +6,7 @@ use Rattle.ledger_core.specs.Book.{Histories}
 use Rattle.ledger_core.specs.declared.entry.Book.{Book}
 use Rattle.swap_job.specs.declared.job.Job.{Job}
 use Rattle.refusals.specs.declared.refusal.Refusal.{Refusal}
-use Rattle.transcript_lines.specs.Between.{parts_at}
+use Rattle.transcript_lines.specs.Between.{separated_parts}
 use Rattle.transcript_book.specs.Stages.{BookSoFar, is_finished}
 use Rattle.command_input.specs.Input.{limit}
 use Rattle.transcript_reader.specs.declared.reason.TranscriptReason.{TranscriptReason}
@@ -40,14 +40,14 @@ told s = if is_finished s.place then Ok (story_so_far s) else Err CutShort
 abbrev pub ledgers_told : (lines bytes : ℕ) → BookSoFar → List ℕ → Result Story TranscriptReason
 ledgers_told lines bytes s rest = if is_finished s.place && nat_lt 0 (length rest) then Err (BadLine (next_line lines)) else unless_long bytes (told s)
 
-abbrev pub answer_at : Stage → Progress → List ℕ → Result Story TranscriptReason
-answer_at (Bad reason) p rest = Err reason
-answer_at (Ledgers s) p rest = ledgers_told p.lines (more_bytes p.bytes (length rest)) s rest
-answer_at _ p rest = unless_long (more_bytes p.bytes (length rest)) (Err CutShort)
+abbrev pub stage_answer : Stage → Progress → List ℕ → Result Story TranscriptReason
+stage_answer (Bad reason) p rest = Err reason
+stage_answer (Ledgers s) p rest = ledgers_told p.lines (more_bytes p.bytes (length rest)) s rest
+stage_answer _ p rest = unless_long (more_bytes p.bytes (length rest)) (Err CutShort)
 
 -- what is answered at the end, after bytes that no line feed ended
 abbrev pub finished : Progress → List ℕ → Result Story TranscriptReason
-finished p rest = answer_at p.stage p rest
+finished p rest = stage_answer p.stage p rest
 
 -- the lines are read, and what stands after the last line feed ends them
 abbrev pub parts_read : (List ℕ → Result Job Refusal) → Progress → List (List ℕ) → Result Story TranscriptReason
@@ -57,7 +57,7 @@ parts_read header p (line ∷ next ∷ parts) = parts_read header (with_line hea
 
 -- what bytes give, where header says what a header line gives
 unfoldable pub transcript_read : (List ℕ → Result Job Refusal) → List ℕ → Result Story TranscriptReason
-transcript_read header bytes = parts_read header no_lines (parts_at 10 bytes)
+transcript_read header bytes = parts_read header no_lines (separated_parts 10 bytes)
 
 -- the story of a job and its book
 abbrev pub job_story : Job × Book → Story

@@ -14,15 +14,16 @@ abbrev pub headed : Result Job Refusal → Stage
 headed (Ok job) = Ledgers (no_ledgers job)
 headed (Err refusal) = Bad (BadHeader refusal)
 
-abbrev pub gone_on : ℕ → Result BookSoFar Misspelling → Stage
-gone_on n (Ok s) = Ledgers s
-gone_on n (Err e) = Bad (BadLine n)
+abbrev pub ledgers_stage : ℕ → Result BookSoFar Misspelling → Stage
+ledgers_stage n (Ok s) = Ledgers s
+ledgers_stage n (Err e) = Bad (BadLine n)
 
--- what the line of number n makes of a stage, where header says what a header line gives; the first bad line stands
+-- what the line of number n makes of a stage, where header says what a header line gives; the first
+-- bad line stands
 unfoldable pub next_stage : (List ℕ → Result Job Refusal) → ℕ → Stage → List ℕ → Stage
 next_stage header n First line = if bytes_eq line (codes "swap transcript 1") then Header else Bad (BadLine n)
 next_stage header n Header line = headed (header line)
-next_stage header n (Ledgers s) line = gone_on n (line_read s line)
+next_stage header n (Ledgers s) line = ledgers_stage n (line_read s line)
 next_stage header n (Bad reason) line = Bad reason
 
 -- What was read.

@@ -1,6 +1,8 @@
-//! The reader of transcripts: line by line, it keeps the book that the lines state and none of their text.
+//! The reader of transcripts: line by line, it keeps the book that the lines state and none of
+//! their text.
 //!
-//! Read `specs/Stages.antt` first: which line stands next, and when it is bad; then `specs/Reading.antt`: what is answered at the end.
+//! Read `specs/Stages.antt` first: which line stands next, and when it is bad; then
+//! `specs/Reading.antt`: what is answered at the end.
 #![tactic(auto)]
 
 ghost use Rattle.transcript_reader.specs.Laws.{ReadIsWhole, WholeIsRead};

@@ -32,9 +32,9 @@ impl Model for TranscriptReader {
 
     ghost view = { λ r. record { stage = r.stage; lines = r.lines; bytes = r.bytes } };
 
-    ghost use Rattle.transcript_reader.specs.Header.{IsToldAt};
+    ghost use Rattle.transcript_reader.specs.Header.{IsToldStage};
 
-    ghost invariant = { λ r. IsToldAt r.stage };
+    ghost invariant = { λ r. IsToldStage r.stage };
 }
 
 impl TranscriptReader {
@@ -50,7 +50,8 @@ impl TranscriptReader {
         }
     }
 
-    /// Reads a line, which a line feed ended. After a refusal each later line gives the same one; want of memory changes nothing.
+    /// Reads a line, which a line feed ended. After a refusal each later line gives the same one;
+    /// want of memory changes nothing.
     pub fn push(&mut self, line: &[u8]) -> Result<(), TranscriptFault>
         ensures { ReadsLine result self.old self.new (with_line header_read self.old line.now) }
     {
@@ -68,7 +69,8 @@ impl TranscriptReader {
         answer
     }
 
-    /// The job and the book that the transcript states, where these bytes stand after the last line feed.
+    /// The job and the book that the transcript states, where these bytes stand after the last line
+    /// feed.
     pub fn finish(self, rest: &[u8]) -> Result<(Job, Book), TranscriptFault>
         ensures exact { Gives job_story result (finished self rest.now) }
         ensures told { IfOk result (λ p. IsTold p.0) }

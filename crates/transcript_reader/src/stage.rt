@@ -3,9 +3,9 @@
 ghost use Rattle.std.specs.Prelude.{◌≡◌, IfOk};
 ghost use Rattle.transcript_book.specs.Stages.{line_read};
 ghost use Rattle.transcript_reader.specs.declared.stage.Stage.TheVariants.{Ledgers};
-ghost use Rattle.transcript_reader.specs.Header.{header_read, IsToldAt};
+ghost use Rattle.transcript_reader.specs.Header.{header_read, IsToldStage};
 ghost use Rattle.transcript_reader.specs.Reading.{Heads, Turns};
-ghost use Rattle.transcript_reader.specs.Stages.{gone_on, next_stage};
+ghost use Rattle.transcript_reader.specs.Stages.{ledgers_stage, next_stage};
 
 use crate::header::read_job;
 use crate::reason::{TranscriptFault, TranscriptReason};
@@ -35,7 +35,7 @@ fn bad_line(number: u32) -> TranscriptFault
 /// What stands next after a job's header line.
 fn after_header(alloc: Global, line: &[u8]) -> Result<Stage, TranscriptFault>
     ensures heads { Heads result (header_read line.now) }
-    ensures told { IfOk result IsToldAt }
+    ensures told { IfOk result IsToldStage }
 {
     match read_job(alloc, line) {
         Ok(job) => Ok(Stage::Ledgers(BookReader::new(alloc, job)?)),
@@ -50,7 +50,7 @@ fn continue_reading(
     number: u32,
     line: &[u8],
 ) -> Result<(), TranscriptFault>
-    ensures turns { Turns result (Ledgers reader.old) (Ledgers reader.new) (gone_on number (line_read reader.old line.now)) }
+    ensures turns { Turns result (Ledgers reader.old) (Ledgers reader.new) (ledgers_stage number (line_read reader.old line.now)) }
     ensures job { reader.new.job ≡ reader.old.job }
 {
     match reader.push(line) {
@@ -61,7 +61,8 @@ fn continue_reading(
 }
 
 impl Stage {
-    /// Reads the line of that number. A line that is bad, or for which memory runs out, changes nothing.
+    /// Reads the line of that number. A line that is bad, or for which memory runs out, changes
+    /// nothing.
     #[tactic(auto, unfolding(crate::specs::Stages::next_stage))]
     pub(crate) fn read(
         &mut self,
@@ -70,7 +71,7 @@ impl Stage {
         line: &[u8],
     ) -> Result<(), TranscriptFault>
         ensures turns { Turns result self.old self.new (next_stage header_read number self.old line.now) }
-        ensures told { IsToldAt self.old → IsToldAt self.new }
+        ensures told { IsToldStage self.old → IsToldStage self.new }
     {
         match self {
             Stage::First => {

@@ -17,7 +17,7 @@ use Rattle.ledger_core.specs.declared.entry.Call.TheVariants.{Publish, Unlock, C
 use Rattle.refusals.specs.Words.{reply_text}
 use Rattle.transcript_lines.specs.Between.{between, spaced}
 use Rattle.transcript_lines.specs.Words.{list_word, signature_word, terms_words, key_words, call_words, reply_words}
-use Rattle.transcript_writer.specs.Texts.{lock_after, party_after, signature_words, numbers_text}
+use Rattle.transcript_writer.specs.Texts.{digest_after_space, party_after_comma, signature_words, numbers_text}
 
 -- parts after the first one are each after the byte
 between_lines : {A : Type 0} (b : ℕ) (word : A → List ℕ) (n : ℕ) (w : List ℕ) (xs : List A)
@@ -38,17 +38,17 @@ pub put_both : {T E : Type 0} (r : Result T E) (a b c x y text : List ℕ) → b
 put_both (Ok t) a b c x y text p e q = appended a b c x y p q ∙ ap (λ (l : List ℕ). a ++ l) (sym e)
 put_both (Err f) a b c x y text p e q = tt
 
-pub path_after : (p : ℕ) (xs : List ℕ) → list_word (map decimal (p ∷ xs)) ≡ decimal p ++ lines party_after 0 xs
+pub path_after : (p : ℕ) (xs : List ℕ) → list_word (map decimal (p ∷ xs)) ≡ decimal p ++ lines party_after_comma 0 xs
 path_after p xs = between_lines 44 decimal 0 (decimal p) xs
 
 pub signatures_after : (s : Sig) (xs : List Sig) → list_word (map signature_word (s ∷ xs)) ≡ signature_word s ++ lines signature_words 0 xs
 signatures_after s xs = between_lines 44 signature_word 0 (signature_word s) xs
 
 -- a publish: its numbers, and then its digests
-pub terms_text : (t : Terms) → spaced (codes "publish" ∷ terms_words t) ≡ numbers_text t ++ lines lock_after 0 t.locks
+pub terms_text : (t : Terms) → spaced (codes "publish" ∷ terms_words t) ≡ numbers_text t ++ lines digest_after_space 0 t.locks
 unfolding numbers_text
 terms_text t =
-    let rest = lines lock_after 0 t.locks in
+    let rest = lines digest_after_space 0 t.locks in
     let a = decimal t.start in
     let b = decimal t.delta in
     let c = decimal t.bound in

@@ -8,7 +8,7 @@ use Rattle.ledger_core.specs.Book.{Histories}
 use Rattle.ledger_core.specs.Runs.{ledger_entries, expand}
 use Rattle.swap_job.specs.declared.job.Job.{Job}
 use Rattle.transcript_lines.specs.Between.{ended}
-use Rattle.transcript_lines.specs.Lines.{entry_line, ledger_lines, lines_from, transcript}
+use Rattle.transcript_lines.specs.Lines.{entry_line, ledger_lines, lines_from_arc, transcript}
 use Rattle.transcript_writer.specs.Texts.{count_text, entries_text, entry_text, head_text, item_text, ledger_text}
 
 -- ---- entries
@@ -53,11 +53,11 @@ ended_ledger : (a : ℕ) (h : List Entry) → ended (ledger_lines a h) ≡ ledge
 unfolding ledger_text
 ended_ledger a h = ap (λ (l : List ℕ). count_text a h ++ l) (ended_entries h)
 
-ended_book : (a : ℕ) (b : Histories) → ended (lines_from a b) ≡ lines ledger_text a b ++ codes "end\n"
+ended_book : (a : ℕ) (b : Histories) → ended (lines_from_arc a b) ≡ lines ledger_text a b ++ codes "end\n"
 unfolding lines
 ended_book a [] = refl
 ended_book a (h ∷ b) =
-    flat_map-append (λ (l : List ℕ). l ++ 10 ∷ []) (ledger_lines a h) (lines_from (a + 1) b)
+    flat_map-append (λ (l : List ℕ). l ++ 10 ∷ []) (ledger_lines a h) (lines_from_arc (a + 1) b)
     ∙ ap₂ (λ (x y : List ℕ). x ++ y) (ended_ledger a h) (ended_book (a + 1) b)
     ∙ sym (append_assoc (ledger_text a h) (lines ledger_text (a + 1) b) (codes "end\n"))
 

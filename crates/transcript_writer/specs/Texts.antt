@@ -15,12 +15,12 @@ use Rattle.transcript_lines.specs.Lines.{entry_line, ledger_line}
 -- ---- fields of a line
 
 -- a digest after a space
-abbrev pub lock_after : ℕ → List ℕ → List ℕ
-lock_after number x = 32 ∷ encode_lower x
+abbrev pub digest_after_space : ℕ → List ℕ → List ℕ
+digest_after_space number x = 32 ∷ encode_lower x
 
 -- a party's number after a comma
-abbrev pub party_after : ℕ → ℕ → List ℕ
-party_after number p = 44 ∷ decimal p
+abbrev pub party_after_comma : ℕ → ℕ → List ℕ
+party_after_comma number p = 44 ∷ decimal p
 
 -- a signature after a comma
 abbrev pub signature_words : ℕ → Sig → List ℕ

@@ -59,8 +59,8 @@ fn write_lines<K: Sink>(
     Ok(())
 }
 
-/// Writes the transcript of a job's book line by line: its header, each ledger's entries with their replies, and the last line. After want of memory a
-/// prefix of it was written.
+/// Writes the transcript of a job's book line by line: its header, each ledger's entries with their
+/// replies, and the last line. After want of memory a prefix of it was written.
 pub fn write_transcript<K: Sink>(
     alloc: Global,
     sink: &mut K,

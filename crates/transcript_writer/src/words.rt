@@ -4,7 +4,7 @@ ghost use Rattle.std.specs.Prelude.{◌≡◌, ◌∷◌, ◌++◌, OnOk, decima
 ghost use Rattle.hex.specs.Hex.{encode_lower};
 ghost use Rattle.swap_base.specs.Text.{lines};
 ghost use Rattle.transcript_lines.specs.Words.{list_word, signature_word};
-ghost use Rattle.transcript_writer.specs.Texts.{lock_after, party_after, signature_words};
+ghost use Rattle.transcript_writer.specs.Texts.{digest_after_space, party_after_comma, signature_words};
 
 use escrow_core::LockList;
 use hash_signature::Sig;
@@ -20,7 +20,7 @@ pub fn put_digits(out: &mut Vec<u8>, bytes: &[u8]) -> Result<(), NoMemory>
 }
 
 fn put_next_lock(out: &mut Vec<u8>, lock: &Digest) -> Result<(), NoMemory>
-    ensures { OnOk result (out.new.items ≡ out.old.items ++ lock_after 0 lock.now) }
+    ensures { OnOk result (out.new.items ≡ out.old.items ++ digest_after_space 0 lock.now) }
 {
     put(out, &[Piece::Text(" ")])?;
     put_digits(out, lock.as_slice())
@@ -28,7 +28,7 @@ fn put_next_lock(out: &mut Vec<u8>, lock: &Digest) -> Result<(), NoMemory>
 
 /// Appends digests, each after a space.
 pub(crate) fn put_locks(out: &mut Vec<u8>, locks: &LockList) -> Result<(), NoMemory>
-    ensures { OnOk result (out.new.items ≡ out.old.items ++ lines lock_after 0 locks.now) }
+    ensures { OnOk result (out.new.items ≡ out.old.items ++ lines digest_after_space 0 locks.now) }
 {
     for lock in 0..locks.len() {
         put_next_lock(out, &locks.get(lock))?;
@@ -43,13 +43,13 @@ fn put_party(out: &mut Vec<u8>, p: PartyId) -> Result<(), NoMemory>
 }
 
 fn put_next_party(out: &mut Vec<u8>, p: PartyId) -> Result<(), NoMemory>
-    ensures { OnOk result (out.new.items ≡ out.old.items ++ party_after 0 p) }
+    ensures { OnOk result (out.new.items ≡ out.old.items ++ party_after_comma 0 p) }
 {
     put(out, &[Piece::Text(","), Piece::Number(p as u64)])
 }
 
 fn put_further_parties(out: &mut Vec<u8>, path: &[PartyId]) -> Result<(), NoMemory>
-    ensures { OnOk result (out.new.items ≡ out.old.items ++ lines party_after 0 path.now) }
+    ensures { OnOk result (out.new.items ≡ out.old.items ++ lines party_after_comma 0 path.now) }
 {
     for p in path {
         put_next_party(out, *p)?;

@@ -3,7 +3,7 @@ use Rattle.std.proofs.Common.{◌≡◌, Bool, true, false, cond, List, [], ◌�
 use Rattle.swap_base.specs.Fault.{◌>>=◌, steps}
 use Rattle.refusals.specs.declared.reason.Reason.{Reason}
 use Rattle.refusals.specs.declared.reason.Reason.TheVariants.{NotFeedback, NotStrong}
-use Rattle.offer_fields.specs.Lists.{each_of}
+use Rattle.offer_fields.specs.Lists.{collected_results}
 
 -- the reason shows neither
 abbrev pub IsBare : Reason → Type 0
@@ -32,10 +32,10 @@ pub choose : {A : Type 0} (t : Bool) (a b : Result A Reason) → Bare a → Bare
 choose true a b p q = p
 choose false a b p q = q
 
-pub each_of_bare : {A B : Type 0} (f : A → Result B Reason) → ((x : A) → Bare (f x)) → (xs : List A) → Bare (each_of f xs)
-unfolding each_of
+pub each_of_bare : {A B : Type 0} (f : A → Result B Reason) → ((x : A) → Bare (f x)) → (xs : List A) → Bare (collected_results f xs)
+unfolding collected_results
 each_of_bare f h [] = landed []
-each_of_bare f h (x ∷ xs) = onward (f x) _ (h x) (λ y. onward (each_of f xs) _ (each_of_bare f h xs) (λ ys. landed _))
+each_of_bare f h (x ∷ xs) = onward (f x) _ (h x) (λ y. onward (collected_results f xs) _ (each_of_bare f h xs) (λ ys. landed _))
 
 pub steps_bare : {S A : Type 0} (f : S → A → Result S Reason) → ((s : S) (x : A) → Bare (f s x)) → (s : S) (xs : List A) → Bare (steps f s xs)
 unfolding steps

@@ -3,8 +3,8 @@ use Rattle.std.proofs.Common.{Bool, List, None, Option, [], codes, false, is_som
 use Rattle.serde_json.specs.Data.{Data}
 use Rattle.serde_json.specs.Find.{get}
 use Rattle.refusals.specs.declared.reason.Reason.TheVariants.{Missing, NoSeed, EventInRace, NotConforming}
-use Rattle.offer_fields.specs.Fields.{needed, number_at, text_at, optional_number_at, object_at, only, parse_data}
-use Rattle.offer_moves.specs.Reading.{move_at}
+use Rattle.offer_fields.specs.Fields.{needed, field_number, field_text, optional_field_number, required_object, only, parse_data}
+use Rattle.offer_moves.specs.Reading.{stated_raw_move}
 use Rattle.offer_events.specs.declared.raw.RawEvent.{RawEvent}
 use Rattle.swap_digraph.specs.declared.deal.Deal.{Deal}
 use Rattle.swap_job.specs.declared.job.Job.{Job}
@@ -18,7 +18,7 @@ use Rattle.offer_fields.specs.Names.{party_of_name}
 use Rattle.offer_moves.specs.declared.raw.RawMove.{RawMove}
 use Rattle.offer_moves.specs.Moves.{deal_sizes, parse_arc, parse_move}
 use Rattle.offer_moves.specs.Placed.{deviating, adjacent, placed}
-use Rattle.offer_events.specs.Reading.{event_at, tick_at, look_at, act_at, submit_call, crash_at}
+use Rattle.offer_events.specs.Reading.{raw_event, raw_tick_event, raw_look_event, raw_act_event, submit_call, raw_crash_event}
 use Rattle.offer_events.specs.Event.{event_of_tick, event_of_look, event_of_act, each_seeded, needs_seeds, crafted_with_seeds, permitted, event_of_call}
 use Rattle.offer_events.specs.Event.{conforming_crash, event_of_crash}
 use Rattle.swap_job.specs.declared.event.Event.{Event}
@@ -34,46 +34,46 @@ use Rattle.true_refusals.proofs.Reading.{move_at_bare}
 use Rattle.true_refusals.proofs.Moves.{arc_of_bare, move_of_bare}
 use Rattle.true_refusals.proofs.Placed.{deviating_bare, adjacent_bare, placed_bare}
 
-pub tick_at_bare : (line : ℕ) (d : Data) → Bare (tick_at line d)
-unfolding tick_at
+pub tick_at_bare : (line : ℕ) (d : Data) → Bare (raw_tick_event line d)
+unfolding raw_tick_event
 tick_at_bare line d =
-    onward (number_at line (codes "tick") d) _ (number_at_bare line (codes "tick") d)
-    (λ arc. onward (optional_number_at line (codes "by") d) _ (optional_number_at_bare line (codes "by") d)
+    onward (field_number line (codes "tick") d) _ (number_at_bare line (codes "tick") d)
+    (λ arc. onward (optional_field_number line (codes "by") d) _ (optional_number_at_bare line (codes "by") d)
     (λ by. onward (only line (codes "by" ∷ codes "tick" ∷ []) d) _ (only_bare line (codes "by" ∷ codes "tick" ∷ []) d) (λ u. landed _)))
 
-pub look_at_bare : (line : ℕ) (d : Data) → Bare (look_at line d)
-unfolding look_at
+pub look_at_bare : (line : ℕ) (d : Data) → Bare (raw_look_event line d)
+unfolding raw_look_event
 look_at_bare line d =
-    onward (text_at line (codes "look") d) _ (text_at_bare line (codes "look") d)
-    (λ name. onward (number_at line (codes "arc") d) _ (number_at_bare line (codes "arc") d)
+    onward (field_text line (codes "look") d) _ (text_at_bare line (codes "look") d)
+    (λ name. onward (field_number line (codes "arc") d) _ (number_at_bare line (codes "arc") d)
     (λ arc. onward (only line (codes "arc" ∷ codes "look" ∷ []) d) _ (only_bare line (codes "arc" ∷ codes "look" ∷ []) d) (λ u. landed _)))
 
-pub act_at_bare : (line : ℕ) (d : Data) → Bare (act_at line d)
-unfolding act_at
+pub act_at_bare : (line : ℕ) (d : Data) → Bare (raw_act_event line d)
+unfolding raw_act_event
 act_at_bare line d =
-    onward (text_at line (codes "act") d) _ (text_at_bare line (codes "act") d)
+    onward (field_text line (codes "act") d) _ (text_at_bare line (codes "act") d)
     (λ name. onward (only line (codes "act" ∷ []) d) _ (only_bare line (codes "act" ∷ []) d) (λ u. landed _))
 
 pub call_at_bare : (line : ℕ) (d : Data) → Bare (submit_call line d)
 unfolding submit_call
 call_at_bare line d =
-    onward (text_at line (codes "call") d) _ (text_at_bare line (codes "call") d)
+    onward (field_text line (codes "call") d) _ (text_at_bare line (codes "call") d)
     (λ name. onward (needed line (codes "move") d) _ (needed_bare line (codes "move") d)
-    (λ value. onward (object_at line (codes "move") value) _ (object_at_bare line (codes "move") value)
-    (λ o. onward (move_at line false value) _ (move_at_bare line false value)
+    (λ value. onward (required_object line (codes "move") value) _ (object_at_bare line (codes "move") value)
+    (λ o. onward (stated_raw_move line false value) _ (move_at_bare line false value)
     (λ mv. onward (only line (codes "call" ∷ codes "move" ∷ []) d) _ (only_bare line (codes "call" ∷ codes "move" ∷ []) d) (λ u. landed _)))))
 
-pub crash_at_bare : (line : ℕ) (d : Data) → Bare (crash_at line d)
-unfolding crash_at
+pub crash_at_bare : (line : ℕ) (d : Data) → Bare (raw_crash_event line d)
+unfolding raw_crash_event
 crash_at_bare line d =
-    onward (text_at line (codes "crash") d) _ (text_at_bare line (codes "crash") d)
-    (λ name. onward (number_at line (codes "after") d) _ (number_at_bare line (codes "after") d)
-    (λ after. onward (number_at line (codes "image") d) _ (number_at_bare line (codes "image") d)
+    onward (field_text line (codes "crash") d) _ (text_at_bare line (codes "crash") d)
+    (λ name. onward (field_number line (codes "after") d) _ (number_at_bare line (codes "after") d)
+    (λ after. onward (field_number line (codes "image") d) _ (number_at_bare line (codes "image") d)
     (λ image. onward (only line (codes "after" ∷ codes "crash" ∷ codes "image" ∷ []) d) _
     (only_bare line (codes "after" ∷ codes "crash" ∷ codes "image" ∷ []) d) (λ u. landed _))))
 
-pub event_at_bare : (line : ℕ) (d : Data) → Bare (event_at line d)
-unfolding event_at
+pub event_at_bare : (line : ℕ) (d : Data) → Bare (raw_event line d)
+unfolding raw_event
 event_at_bare line d =
     choose (is_some (get (codes "tick") d)) _ _ (tick_at_bare line d)
     (choose (is_some (get (codes "look") d)) _ _ (look_at_bare line d)
@@ -167,4 +167,4 @@ pub event_of_bare : (job : Job) (line : ℕ) (text : List ℕ) → Bare (parse_e
 unfolding parse_event
 event_of_bare job line text =
     onward (parse_data line text) _ (object_of_bare line text)
-    (λ d. onward (event_at line d) _ (event_at_bare line d) (λ raw. asked_bare job line raw))
+    (λ d. onward (raw_event line d) _ (event_at_bare line d) (λ raw. asked_bare job line raw))

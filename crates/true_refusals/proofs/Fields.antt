@@ -8,10 +8,10 @@ use Rattle.refusals.specs.declared.reason.Reason.{Reason}
 use Rattle.refusals.specs.declared.reason.Reason.TheVariants.{NotJson, Missing, WrongKind, UnknownField, OverLimit, WrongHex, Unknown}
 use Rattle.hex.specs.Hex.{decode_sized}
 use Rattle.hex.specs.declared.error.FromHexError.{FromHexError}
-use Rattle.offer_fields.specs.Fields.{object_or, parse_data, kind, present, needed, number_at, text_at, word_at, optional_number, optional_number_at}
-use Rattle.offer_fields.specs.Fields.{first_unknown, no_unknown, only, listed, each, read_array_field, list_at, object_at, optional_text, optional_text_at}
-use Rattle.offer_fields.specs.Fields.{member_text_of}
-use Rattle.offer_fields.specs.Limits.{within, ranged_number, decoded, to_digest}
+use Rattle.offer_fields.specs.Fields.{object_or, parse_data, kind, present, needed, field_number, field_text, field_word, optional_number, optional_field_number}
+use Rattle.offer_fields.specs.Fields.{first_unknown, no_unknown, only, listed, each, read_array_field, field_list, required_object, optional_text, optional_field_text}
+use Rattle.offer_fields.specs.Fields.{text_member}
+use Rattle.offer_fields.specs.Limits.{check_range, ranged_number, decoded, to_digest}
 use Rattle.offer_fields.specs.Names.{found, party_of_name}
 use Rattle.true_refusals.proofs.Bare.{Bare, onward, landed, refused, choose, each_of_bare}
 
@@ -35,25 +35,25 @@ pub needed_bare : (line : ℕ) (field : List ℕ) (d : Data) → Bare (needed li
 unfolding needed
 needed_bare line field d = present_bare line field (get field d)
 
-pub number_at_bare : (line : ℕ) (field : List ℕ) (d : Data) → Bare (number_at line field d)
-unfolding number_at
+pub number_at_bare : (line : ℕ) (field : List ℕ) (d : Data) → Bare (field_number line field d)
+unfolding field_number
 number_at_bare line field d =
     onward (needed line field d) _ (needed_bare line field d) (λ value. kind_bare line field (option_and_then as_u64 (as_number value)))
 
-pub text_at_bare : (line : ℕ) (field : List ℕ) (d : Data) → Bare (text_at line field d)
-unfolding text_at
+pub text_at_bare : (line : ℕ) (field : List ℕ) (d : Data) → Bare (field_text line field d)
+unfolding field_text
 text_at_bare line field d = onward (needed line field d) _ (needed_bare line field d) (λ value. kind_bare line field (as_str value))
 
-pub word_at_bare : {A : Type 0} (line : ℕ) (field : List ℕ) (choice_word : List ℕ → Option A) (d : Data) → Bare (word_at line field choice_word d)
-word_at_bare line field choice_word d = onward (text_at line field d) _ (text_at_bare line field d) (λ word. kind_bare line field (choice_word word))
+pub word_at_bare : {A : Type 0} (line : ℕ) (field : List ℕ) (choice_word : List ℕ → Option A) (d : Data) → Bare (field_word line field choice_word d)
+word_at_bare line field choice_word d = onward (field_text line field d) _ (text_at_bare line field d) (λ word. kind_bare line field (choice_word word))
 
 pub optional_number_bare : (line : ℕ) (field : List ℕ) (x2 : Option Data) → Bare (optional_number line field x2)
 optional_number_bare line field None = landed _
 optional_number_bare line field (Some d) =
     onward (kind line field (option_and_then as_u64 (as_number d))) _ (kind_bare line field (option_and_then as_u64 (as_number d))) (λ n. landed _)
 
-pub optional_number_at_bare : (line : ℕ) (field : List ℕ) (d : Data) → Bare (optional_number_at line field d)
-unfolding optional_number_at
+pub optional_number_at_bare : (line : ℕ) (field : List ℕ) (d : Data) → Bare (optional_field_number line field d)
+unfolding optional_field_number
 optional_number_at_bare line field d = optional_number_bare line field (get field d)
 
 pub no_unknown_bare : (line : ℕ) (x1 : Option (List ℕ)) → Bare (no_unknown line x1)
@@ -68,29 +68,29 @@ pub array_at_bare : (line : ℕ) (field : List ℕ) (d : Data) → Bare (read_ar
 unfolding read_array_field
 array_at_bare line field d = onward (needed line field d) _ (needed_bare line field d) (λ value. kind_bare line field (as_array value))
 
-pub object_at_bare : (line : ℕ) (field : List ℕ) (d : Data) → Bare (object_at line field d)
-unfolding object_at
+pub object_at_bare : (line : ℕ) (field : List ℕ) (d : Data) → Bare (required_object line field d)
+unfolding required_object
 object_at_bare line field d = choose (is_some (as_object d)) _ _ (landed _) (refused (WrongKind line field) tt)
 
 pub optional_text_bare : (line : ℕ) (field : List ℕ) (x2 : Option Data) → Bare (optional_text line field x2)
 optional_text_bare line field None = landed _
 optional_text_bare line field (Some d) = onward (kind line field (as_str d)) _ (kind_bare line field (as_str d)) (λ s. landed _)
 
-pub optional_text_at_bare : (line : ℕ) (field : List ℕ) (d : Data) → Bare (optional_text_at line field d)
-unfolding optional_text_at
+pub optional_text_at_bare : (line : ℕ) (field : List ℕ) (d : Data) → Bare (optional_field_text line field d)
+unfolding optional_field_text
 optional_text_at_bare line field d = optional_text_bare line field (get field d)
 
-pub member_text_of_bare : (line : ℕ) (field : List ℕ) (d : Data) → Bare (member_text_of line field d)
-unfolding member_text_of
+pub member_text_of_bare : (line : ℕ) (field : List ℕ) (d : Data) → Bare (text_member line field d)
+unfolding text_member
 member_text_of_bare line field d = kind_bare line field (as_str d)
 
-pub within_bare : (line : ℕ) (field : List ℕ) (low : ℕ) (high : ℕ) (n : ℕ) → Bare (within line field low high n)
-unfolding within
+pub within_bare : (line : ℕ) (field : List ℕ) (low : ℕ) (high : ℕ) (n : ℕ) → Bare (check_range line field low high n)
+unfolding check_range
 within_bare line field low high n = choose (nat_le low n && nat_le n high) _ _ (landed _) (refused (OverLimit line field n) tt)
 
 pub number_within_bare : (line : ℕ) (field : List ℕ) (low : ℕ) (high : ℕ) (n : ℕ) → Bare (ranged_number line field low high n)
 unfolding ranged_number
-number_within_bare line field low high n = onward (within line field low high n) _ (within_bare line field low high n) (λ u. landed _)
+number_within_bare line field low high n = onward (check_range line field low high n) _ (within_bare line field low high n) (λ u. landed _)
 
 pub decoded_bare : (line : ℕ) (field : List ℕ) (x2 : Result (List ℕ) FromHexError) → Bare (decoded line field x2)
 decoded_bare line field (Ok bytes) = landed _
@@ -113,6 +113,6 @@ unfolding each
 each_bare f h ds = each_of_bare f h (listed ds)
 
 pub list_at_bare : {A : Type 0} (line : ℕ) (field : List ℕ) (f : Data → Result A Reason) → ((d : Data) → Bare (f d)) → (d : Data)
-    → Bare (list_at line field f d)
-unfolding list_at
+    → Bare (field_list line field f d)
+unfolding field_list
 list_at_bare line field f h d = onward (read_array_field line field d) _ (array_at_bare line field d) (λ items. each_bare f h items)

@@ -2,8 +2,8 @@
 use Rattle.std.proofs.Common.{List, None, Option, Some, codes, length, nat_lt, ℕ}
 use Rattle.hex.specs.Hex.{decode_sized}
 use Rattle.refusals.specs.declared.reason.Reason.TheVariants.{OverLimit}
-use Rattle.offer_fields.specs.Limits.{ranged_number, within, decoded, to_digest}
-use Rattle.offer_fields.specs.Lists.{each_of}
+use Rattle.offer_fields.specs.Limits.{ranged_number, check_range, decoded, to_digest}
+use Rattle.offer_fields.specs.Lists.{collected_results}
 use Rattle.offer_fields.specs.Names.{party_of_name}
 use Rattle.offer_moves.specs.declared.moves.Sizes.{Sizes}
 use Rattle.offer_moves.specs.declared.raw.RawTerms.{RawTerms}
@@ -11,7 +11,7 @@ use Rattle.offer_moves.specs.declared.raw.RawKey.{RawKey}
 use Rattle.offer_moves.specs.declared.raw.RawCraft.{RawCraft}
 use Rattle.offer_moves.specs.declared.raw.RawMove.{RawMove}
 use Rattle.offer_moves.specs.Limits.{bounded_number, optional_most, optional_locks, parse_sig, parse_locks}
-use Rattle.offer_moves.specs.Moves.{parse_arc, make_publish, optional_arc, parse_craft, parse_replay, key_of, parse_unlock, parse_claim, parse_refund}
+use Rattle.offer_moves.specs.Moves.{parse_arc, make_publish, optional_arc, parse_craft, parse_replay, checked_hashkey, parse_unlock, parse_claim, parse_refund}
 use Rattle.offer_moves.specs.Moves.{parse_transfer, parse_wait}
 use Rattle.offer_moves.specs.Moves.{parse_move}
 use Rattle.offer_moves.specs.declared.raw.RawMove.TheVariants as raws
@@ -29,8 +29,8 @@ optional_most_bare line field high (Some n) = onward (ranged_number line field 0
 pub locks_of_bare : (line : ℕ) (count : ℕ) (texts : List (List ℕ)) → Bare (parse_locks line count texts)
 unfolding parse_locks
 locks_of_bare line count texts =
-    onward (within line (codes "locks") count count (length texts)) _ (within_bare line (codes "locks") count count (length texts))
-    (λ u. onward (each_of (to_digest line (codes "locks")) texts)
+    onward (check_range line (codes "locks") count count (length texts)) _ (within_bare line (codes "locks") count count (length texts))
+    (λ u. onward (collected_results (to_digest line (codes "locks")) texts)
     _ (each_of_bare (to_digest line (codes "locks")) (digest_of_bare line (codes "locks")) texts) (λ digests. landed _))
 
 pub optional_locks_bare : (line : ℕ) (count : ℕ) (x2 : Option (List (List ℕ))) → Bare (optional_locks line count x2)
@@ -64,10 +64,10 @@ optional_arc_bare s line field (Some n) = onward (parse_arc s line field n) _ (a
 pub craft_of_bare : (s : Sizes) (names : List (List ℕ)) (line : ℕ) (n : ℕ) (k : RawCraft) → Bare (parse_craft s names line n k)
 unfolding parse_craft
 craft_of_bare s names line n k =
-    onward (each_of (party_of_name line names) k.via) _ (each_of_bare (party_of_name line names) (party_of_name_bare line names) k.via)
+    onward (collected_results (party_of_name line names) k.via) _ (each_of_bare (party_of_name line names) (party_of_name_bare line names) k.via)
     (λ via. onward (parse_arc s line (codes "arc") n) _ (arc_of_bare s line (codes "arc") n)
     (λ arc. onward (bounded_number line (codes "lock") s.locks k.lock) _ (number_below_bare line (codes "lock") s.locks k.lock)
-    (λ lock. onward (within line (codes "via") 1 s.path (length k.via)) _ (within_bare line (codes "via") 1 s.path (length k.via))
+    (λ lock. onward (check_range line (codes "via") 1 s.path (length k.via)) _ (within_bare line (codes "via") 1 s.path (length k.via))
     (λ u. onward (optional_arc s line (codes "onto") k.onto) _ (optional_arc_bare s line (codes "onto") k.onto) (λ onto. landed _)))))
 
 pub replay_of_bare : (s : Sizes) (line : ℕ) (n : ℕ) (m : ℕ) (k : ℕ) → Bare (parse_replay s line n m k)
@@ -77,21 +77,21 @@ replay_of_bare s line n m k =
     (λ arc. onward (bounded_number line (codes "lock") s.locks m) _ (number_below_bare line (codes "lock") s.locks m)
     (λ lock. onward (parse_arc s line (codes "onto") k) _ (arc_of_bare s line (codes "onto") k) (λ onto. landed _)))
 
-pub key_of_bare : (s : Sizes) (line : ℕ) (path : List ℕ) (k : RawKey) → Bare (key_of s line path k)
-unfolding key_of
+pub key_of_bare : (s : Sizes) (line : ℕ) (path : List ℕ) (k : RawKey) → Bare (checked_hashkey s line path k)
+unfolding checked_hashkey
 key_of_bare s line path k =
     onward (bounded_number line (codes "lock") s.locks k.lock) _ (number_below_bare line (codes "lock") s.locks k.lock)
     (λ lock. onward (to_digest line (codes "secret") k.secret) _ (digest_of_bare line (codes "secret") k.secret)
-    (λ secret. onward (within line (codes "path") 0 s.path (length k.path)) _ (within_bare line (codes "path") 0 s.path (length k.path))
-    (λ u. onward (within line (codes "sigs") 0 s.path (length k.sigs)) _ (within_bare line (codes "sigs") 0 s.path (length k.sigs))
-    (λ w. onward (each_of (parse_sig line) k.sigs) _ (each_of_bare (parse_sig line) (sig_of_bare line) k.sigs) (λ sigs. landed _)))))
+    (λ secret. onward (check_range line (codes "path") 0 s.path (length k.path)) _ (within_bare line (codes "path") 0 s.path (length k.path))
+    (λ u. onward (check_range line (codes "sigs") 0 s.path (length k.sigs)) _ (within_bare line (codes "sigs") 0 s.path (length k.sigs))
+    (λ w. onward (collected_results (parse_sig line) k.sigs) _ (each_of_bare (parse_sig line) (sig_of_bare line) k.sigs) (λ sigs. landed _)))))
 
 pub unlock_of_bare : (s : Sizes) (names : List (List ℕ)) (line : ℕ) (n : ℕ) (k : RawKey) → Bare (parse_unlock s names line n k)
 unfolding parse_unlock
 unlock_of_bare s names line n k =
-    onward (each_of (party_of_name line names) k.path) _ (each_of_bare (party_of_name line names) (party_of_name_bare line names) k.path)
+    onward (collected_results (party_of_name line names) k.path) _ (each_of_bare (party_of_name line names) (party_of_name_bare line names) k.path)
     (λ path. onward (parse_arc s line (codes "arc") n) _ (arc_of_bare s line (codes "arc") n)
-    (λ arc. onward (key_of s line path k) _ (key_of_bare s line path k) (λ key. landed _)))
+    (λ arc. onward (checked_hashkey s line path k) _ (key_of_bare s line path k) (λ key. landed _)))
 
 pub claim_of_bare : (s : Sizes) (line : ℕ) (n : ℕ) → Bare (parse_claim s line n)
 unfolding parse_claim

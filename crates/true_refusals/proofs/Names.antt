@@ -4,7 +4,7 @@ use Rattle.std.specs.Str.{bytes_eq}
 use Rattle.std.specs.List.{list_any}
 use Rattle.swap_base.specs.Fault.{steps}
 use Rattle.refusals.specs.declared.reason.Reason.TheVariants.{BadName, Duplicate, Unknown}
-use Rattle.offer_fields.specs.Lists.{each_of}
+use Rattle.offer_fields.specs.Lists.{collected_results}
 use Rattle.offer_fields.specs.Names.{party_of_name}
 use Rattle.offer_moves.specs.declared.raw.RawMove.{RawMove}
 use Rattle.offer_moves.specs.declared.raw.RawMove.TheVariants.{Craft, Raw, Transfer}
@@ -15,7 +15,7 @@ use Rattle.offer_header.specs.declared.raw.RawArc.{RawArc}
 use Rattle.offer_header.specs.declared.raw.RawLeader.{RawLeader}
 use Rattle.offer_header.specs.declared.raw.RawHeader.{RawHeader}
 use Rattle.offer_header.specs.Names.{is_name, known, all_known, move_known, strategy_known, actor_known, name_added, name_step, names_stated, named_ends}
-use Rattle.offer_header.specs.Names.{leader_step, resolve_numbers, assign_checked_numbers, numbered_of}
+use Rattle.offer_header.specs.Names.{leader_step, resolve_numbers, assign_checked_numbers, numbered_header}
 use Rattle.offer_moves.specs.declared.raw.RawMove.TheVariants as raw_kinds
 use Rattle.offer_header.specs.declared.raw.RawActor.TheVariants as actor_kinds
 use Rattle.true_refusals.proofs.Bare.{Bare, onward, landed, refused, choose, each_of_bare, steps_bare}
@@ -74,7 +74,7 @@ leader_step_bare line names seen l =
 
 pub numbered_by_bare : (line : ℕ) (names : List (List ℕ)) (h : RawHeader) → Bare (resolve_numbers line names h)
 numbered_by_bare line names h =
-    onward (each_of (named_ends line names) h.arcs) _ (each_of_bare (named_ends line names) (ends_of_bare line names) h.arcs)
+    onward (collected_results (named_ends line names) h.arcs) _ (each_of_bare (named_ends line names) (ends_of_bare line names) h.arcs)
     (λ arcs. onward (steps (leader_step line names) [] h.leaders)
     _ (steps_bare (leader_step line names) (leader_step_bare line names) [] h.leaders) (λ leaders. landed _))
 
@@ -83,6 +83,6 @@ numbered_among_bare has line all h =
     onward (steps (name_step has line all) [] h.parties)
     _ (steps_bare (name_step has line all) (name_step_bare has line all) [] h.parties) (λ names. numbered_by_bare line names h)
 
-pub numbered_of_bare : (has : List ℕ → Bool) (line : ℕ) (h : RawHeader) → Bare (numbered_of has line h)
-unfolding numbered_of
+pub numbered_of_bare : (has : List ℕ → Bool) (line : ℕ) (h : RawHeader) → Bare (numbered_header has line h)
+unfolding numbered_header
 numbered_of_bare has line h = numbered_among_bare has line (names_stated h.parties) h

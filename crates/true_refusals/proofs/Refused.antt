@@ -1,4 +1,5 @@
--- A refusal that shows a set or a cycle is one of the checks of a header, and these show what they say.
+-- A refusal that shows a set or a cycle is one of the checks of a header, and these show what they
+-- say.
 use Rattle.std.proofs.Common.{◌≡◌, ◌==◌, ◌+◌, ℕ, Bool, true, false, List, [], ◌∷◌, codes, drop, Result, Ok, Err, refl, ap, ◌∙◌}
 use Rattle.swap_base.specs.Fault.{◌>>=◌, steps}
 use Rattle.swap_base.specs.declared.fault.Fault.TheVariants as fault
@@ -10,18 +11,18 @@ use Rattle.refusals.specs.declared.reason.Reason.{Reason}
 use Rattle.refusals.specs.declared.reason.Reason.TheVariants.{NotFeedback, NotJson, NotStrong, OverLimit}
 use Rattle.offer_fields.specs.Fields.{parse_data}
 use Rattle.offer_fields.proofs.Chains.{went}
-use Rattle.offer_header.specs.Header.{resolve_header, parse_whole_header, IsHeaderWithin}
-use Rattle.offer_header.specs.Raw.{is_plain, raw_of}
+use Rattle.offer_header.specs.Header.{resolve_header, parse_whole_header, IsHeaderInLimits}
+use Rattle.offer_header.specs.Raw.{is_plain, object_header}
 use Rattle.offer_header.specs.declared.header.Header.{Header}
 use Rattle.offer_header.proofs.Fitting.{read_so}
 use Rattle.swap_offer.specs.Certificates.{IsCertified}
-use Rattle.swap_offer.specs.Job.{accepted_entries, counted, parse_job_events, parse_events, events_unless, job_header_of, parse_job, limited_event}
+use Rattle.swap_offer.specs.Job.{accepted_entries, counted, parse_job_events, parse_events, events_unless, parse_header_job, parse_job, limited_event}
 use Rattle.swap_offer.specs.Job.{job_of_lines}
 use Rattle.command_input.specs.Lines.{filled_lines, collect_lines}
 use Rattle.swap_offer.proofs.Certified.{certifies}
 use Rattle.command_input.specs.Written.{Written}
 use Rattle.made_jobs.specs.Making.{made_text}
-use Rattle.swap_commands.specs.Output.{collected_book, output_by, job_output, plain_text, command_purpose, reported, told, Chance}
+use Rattle.swap_commands.specs.Output.{collected_book, output_given_chance, job_output, plain_text, command_purpose, reported, told, Chance}
 use Rattle.swap_commands.specs.Words.{OfJob, JobCommand, Check, Make, Race, Run}
 use Rattle.true_refusals.specs.Laws.{NamedCyclesAreOfFollowers, NamedSetsAreClosed, Proposes}
 use Rattle.true_refusals.proofs.Bare.{choose, landed, onward, refused, steps_bare, Bare, IsBare}
@@ -52,14 +53,14 @@ events_unless_bare false job ls = events_of_bare job 0 ls
 -- What is said against a header that was read.
 
 set_contains_ends : (has : List ℕ → Bool) (purpose : Purpose) (line : ℕ) (text : List ℕ) (h : Header) → parse_whole_header has purpose line text ≡ Ok h
-    → IsHeaderWithin h
+    → IsHeaderInLimits h
 unfolding parse_whole_header
 set_contains_ends has purpose line text h e =
-    let d = went (parse_data line text) (λ d. raw_of purpose line d >>= λ raw. resolve_header has purpose line raw) h e in
-    let raw = went (raw_of purpose line d.0) (λ raw. resolve_header has purpose line raw) h d.2 in
-    read_so has purpose line d.0 raw.0 (Ok h) IsHeaderWithin raw.1 raw.2 (λ x k. k.within)
+    let d = went (parse_data line text) (λ d. object_header purpose line d >>= λ raw. resolve_header has purpose line raw) h e in
+    let raw = went (object_header purpose line d.0) (λ raw. resolve_header has purpose line raw) h d.2 in
+    read_so has purpose line d.0 raw.0 (Ok h) IsHeaderInLimits raw.1 raw.2 (λ x k. k.within)
 
-certified : (h : Header) → IsHeaderWithin h → (reason : Reason) → accepted_entries h ≡ Err reason → IsCertified h reason
+certified : (h : Header) → IsHeaderInLimits h → (reason : Reason) → accepted_entries h ≡ Err reason → IsCertified h reason
 certified h k reason e =
     certifies h k (λ (j : Job). j) [] (Err (fault.Refused (refusal [] reason))) (ap (λ (r : Result Job Reason). named [] r) e)
 
@@ -85,15 +86,15 @@ module _ (has : List ℕ → Bool) (purpose : Purpose) (input : List ℕ) (reaso
       absurd (shows (header_of_bare has purpose line text reason (is ∙ err_is {A = Job} {B = Header} k reason e)))
 
   of_first : (line : ℕ) (text : List ℕ) (others : List (ℕ × List ℕ)) → filled_lines 1 (collect_lines input) ≡ (line, text) ∷ others
-      → job_header_of has purpose line text ≡ Err reason → Shown
-  unfolding job_header_of
+      → parse_header_job has purpose line text ≡ Err reason → Shown
+  unfolding parse_header_job
   of_first line text others first e = of_header line text others first (parse_whole_header has purpose line text) refl e
 
   abbrev with_events : Job → List Event → Result (Job × List Event) Reason
   with_events job events = Ok (job, events)
 
   of_read : (line : ℕ) (text : List ℕ) (others : List (ℕ × List ℕ)) → filled_lines 1 (collect_lines input) ≡ (line, text) ∷ others
-      → (read : Result Job Reason) → job_header_of has purpose line text ≡ read
+      → (read : Result Job Reason) → parse_header_job has purpose line text ≡ read
       → (read >>= λ job. parse_job_events purpose job others >>= λ events. with_events job events) ≡ Err reason → Shown
   of_read line text others first (Ok job) is e =
       absurd (shows (onward (parse_job_events purpose job others) (with_events job) (events_unless_bare (is_plain purpose) job others) (λ events. landed _)
@@ -103,7 +104,7 @@ module _ (has : List ℕ → Bool) (purpose : Purpose) (input : List ℕ) (reaso
 
   of_all : (ls : List (ℕ × List ℕ)) → filled_lines 1 (collect_lines input) ≡ ls → job_of_lines has purpose ls ≡ Err reason → Shown
   of_all [] first e = absurd (shows (refused {A = Job × List Event} (NotJson 1) tt reason e))
-  of_all (l ∷ ls) first e = of_read l.0 l.1 ls first (job_header_of has purpose l.0 l.1) refl e
+  of_all (l ∷ ls) first e = of_read l.0 l.1 ls first (parse_header_job has purpose l.0 l.1) refl e
 
   pub of_offer : parse_job has purpose input ≡ Err reason → Shown
   unfolding parse_job
@@ -124,8 +125,8 @@ from_output chance Check ls read reason e = from_read (λ j. told j.0) read reas
 from_output chance Make ls read reason e = from_read (λ j. plain_text (made_text j.0 (drop 1 ls))) read reason e
 
 offer_refused : (has : List ℕ → Bool) (chance : Chance) (command : JobCommand) (input : List ℕ) (reason : Reason)
-    → output_by has chance (OfJob command) input ≡ Err reason → parse_job has (command_purpose command) input ≡ Err reason
-unfolding output_by
+    → output_given_chance has chance (OfJob command) input ≡ Err reason → parse_job has (command_purpose command) input ≡ Err reason
+unfolding output_given_chance
 offer_refused has chance command input reason e =
     from_output chance command (filled_lines 1 (collect_lines input)) (parse_job has (command_purpose command) input) reason e
 

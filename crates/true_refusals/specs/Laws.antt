@@ -8,7 +8,7 @@ use Rattle.offer_header.specs.Header.{parse_whole_header}
 use Rattle.offer_header.specs.declared.header.Header.{Header}
 use Rattle.swap_offer.specs.Checks.{header_digraph}
 use Rattle.command_input.specs.Lines.{filled_lines, collect_lines}
-use Rattle.swap_commands.specs.Output.{output_by, command_purpose, Chance}
+use Rattle.swap_commands.specs.Output.{output_given_chance, command_purpose, Chance}
 use Rattle.swap_commands.specs.Words.{OfJob, JobCommand}
 
 -- The input's first line that isn't blank reads as a header, and P tells of it.
@@ -26,13 +26,13 @@ pub record Proposes (has : List ℕ → Bool) (purpose : Purpose) (input : List 
 abbrev pub NamedSetsAreClosed : Type 0
 NamedSetsAreClosed =
     (has : List ℕ → Bool) (chance : Chance) (command : JobCommand) (input set : List ℕ)
-    → output_by has chance (OfJob command) input ≡ Err (NotStrong set)
+    → output_given_chance has chance (OfJob command) input ≡ Err (NotStrong set)
     → Proposes has (command_purpose command) input (λ h. IsClosedSet (header_digraph h) set)
 
--- One that is refused since the leaders are no feedback vertex set names a cycle of distinct followers, each with an arc to the next, and the last to the
--- first.
+-- One that is refused since the leaders are no feedback vertex set names a cycle of distinct
+-- followers, each with an arc to the next, and the last to the first.
 abbrev pub NamedCyclesAreOfFollowers : Type 0
 NamedCyclesAreOfFollowers =
     (has : List ℕ → Bool) (chance : Chance) (command : JobCommand) (input cycle : List ℕ)
-    → output_by has chance (OfJob command) input ≡ Err (NotFeedback cycle)
+    → output_given_chance has chance (OfJob command) input ≡ Err (NotFeedback cycle)
     → Proposes has (command_purpose command) input (λ h. IsFollowerCycle (header_digraph h) h.leaders cycle)

@@ -16,9 +16,9 @@ use Rattle.atomic_table.proofs.Lists.{at_set, set_again, set_here, set_else, at_
 use Rattle.atomic_table.specs.Seated.{TableId}
 use Rattle.atomic_table.specs.declared.shared.Seat.{Seat}
 use Rattle.turn_lock.specs.declared.view.View.{View}
-use Rattle.turn_lock.specs.Parts.{entries_by, IsContinuedBy, AreBelow, IsOnceEach, Part, has_number, known_in, Covers}
-use Rattle.turn_lock.specs.Turns.{Phase, early, home, out, mark, turn_word, slot_in, fresh, spent, resting, turning, opening_with, both_of, IsOwn, Knows, Stands, IsKept, Sat}
-use Rattle.turn_lock.specs.Turns.{idle, Claims, ClaimsFirst, Takes, Asks, Gives, SeatsFrom}
+use Rattle.turn_lock.specs.Parts.{author_entries, IsContinuedByAuthor, AreBelow, IsOnceEach, Part, has_number, first_part_history, Covers}
+use Rattle.turn_lock.specs.Turns.{Phase, early, home, out, mark, turn_word, phase_slot, fresh, spent, resting, turning, joined_opening, joined_view, IsOwn, Knows, Stands, IsKept, Sat}
+use Rattle.turn_lock.specs.Turns.{idle, Claims, ClaimsFirst, Takes, Asks, Gives, AreNumberedSeats}
 use Rattle.turn_lock.proofs.Histories.{prefix_self, prefix_trans, all_map, all_append, others_stay, none_above}
 
 off : false ≡ true → ⊥
@@ -83,7 +83,7 @@ in_neither k (p ∷ ps) qs a b =
 
 -- of two views that keep one opening, the view of both keeps it
 keep_opening : {E : Type 0} (start o p : List E) (ps qs : List (Part E)) → (ps ≢ [] → o ≡ start) → (qs ≢ [] → p ≡ start) → ps ++ qs ≢ []
-    → opening_with ps o p ≡ start
+    → joined_opening ps o p ≡ start
 keep_opening start o p [] qs first second some = second some
 keep_opening start o p (x ∷ xs) qs first second some = first (some_part x xs)
 
@@ -259,7 +259,7 @@ module _ {T E : Type 0} (history : T → List E) (author : E → ℕ) (start : L
           → (w : View E) × (a : Act (Option T)) × Valid s.homes [] a × Rule (stepped s 0 next id [] w a)
           × Takes history author (step slots 0 word next core.none) (idle o k h) (get_or s.words 0 0) (w, carried_after [] a)
       hit is p = let x : T = p.0 in let w : View E = turning o k r.current in
-          let homes : s.homes ≡ core.some (Some x) ∷ [] = r.homes ∙ ap (λ q. slot_in q ∷ []) p.1 in
+          let homes : s.homes ≡ core.some (Some x) ∷ [] = r.homes ∙ ap (λ q. phase_slot q ∷ []) p.1 in
           let stands : Stands history author start seats r.current r.claimed s.views (home x) =
           subst (Stands history author start seats r.current r.claimed s.views) p.1 r.stands in
           let count : 4 * length r.current ≡ word = sym (word_0 s r ∙ ap (λ (q : Phase T). turn_word q r.waited (length r.current)) p.1) ∙ is in
@@ -316,7 +316,7 @@ module _ {T E : Type 0} (history : T → List E) (author : E → ℕ) (start : L
       subst (λ (x : Sat T E). Allows Rule slots id x 0 (λ n. either (n == word) next n) (Takes history author (step slots 0 word next core.none) x))
       (sym e) (takes_turn slots id k word next waited o h free more)
 
-  others_own : (id j : ℕ) → j ≢ id → (k : ℕ) (current new : List E) (owner : ℕ → ℕ) (claimed : ℕ) → owner k ≡ id → IsContinuedBy author k current new
+  others_own : (id j : ℕ) → j ≢ id → (k : ℕ) (current new : List E) (owner : ℕ → ℕ) (claimed : ℕ) → owner k ≡ id → IsContinuedByAuthor author k current new
       → (p : Part E) → Own owner current claimed j p → Own owner new claimed j p
   others_own id j apart k current new owner claimed mine further p o = let other : p.0 ≢ k = λ e. apart (sym o.place ∙ (ap owner e ∙ mine)) in record {
     place = o.place;
@@ -326,18 +326,18 @@ module _ {T E : Type 0} (history : T → List E) (author : E → ℕ) (start : L
     covered = (prefix_trans p.1 current new o.covered.0 (further.0, further.1), others_stay author p.0 k other current new further ∙ o.covered.1);
   }
 
-  pub gives_turn : (slots id k word : ℕ) (o h : List E) (x : T) → word ≡ 4 * length (history x) → IsContinuedBy author k h (history x)
+  pub gives_turn : (slots id k word : ℕ) (o h : List E) (x : T) → word ≡ 4 * length (history x) → IsContinuedByAuthor author k h (history x)
       → Allows Rule slots id (turning o k h, (0, Some x) ∷ []) 0 (λ _. word) (Gives history (step slots 0 word 0 core.none)
       (turning o k h, (0, Some x) ∷ []))
   gives_turn slots id k word o h x word_is further s r _ at _ =
       let turn = (r.views id (turning o k h) at).turn refl in
-      let known : h ≡ r.current = ap known_in turn.1.1 in
-      let homes : s.homes ≡ core.none ∷ [] = r.homes ∙ ap (λ q. slot_in q ∷ []) turn.0 in
+      let known : h ≡ r.current = ap first_part_history turn.1.1 in
+      let homes : s.homes ≡ core.none ∷ [] = r.homes ∙ ap (λ q. phase_slot q ∷ []) turn.0 in
       let stands : Stands history author start seats r.current r.claimed s.views (out id) =
       subst (Stands history author start seats r.current r.claimed s.views) turn.0 r.stands in
       let mine = (r.views id (turning o k h) at).own.0 in
       let new : List E = history x in
-      let go : IsContinuedBy author k r.current new = subst (λ c. IsContinuedBy author k c new) known further in
+      let go : IsContinuedByAuthor author k r.current new = subst (λ c. IsContinuedByAuthor author k c new) known further in
       let w : View E = resting o k new in (
         w,
         gives,
@@ -380,7 +380,7 @@ module _ {T E : Type 0} (history : T → List E) (author : E → ℕ) (start : L
       )
 
   pub gives_turn_at : (slots id k word : ℕ) (o h : List E) (x : T) (m : Sat T E) → m ≡ (turning o k h, (0, Some x) ∷ [])
-      → word ≡ 4 * length (history x) → IsContinuedBy author k h (history x)
+      → word ≡ 4 * length (history x) → IsContinuedByAuthor author k h (history x)
       → Allows Rule slots id m 0 (λ _. word) (Gives history (step slots 0 word 0 core.none) m)
   gives_turn_at slots id k word o h x m e word_is further =
       subst (λ (z : Sat T E). Allows Rule slots id z 0 (λ _. word) (Gives history (step slots 0 word 0 core.none) z)) (sym e)
@@ -403,8 +403,8 @@ module _ {T E : Type 0} (history : T → List E) (author : E → ℕ) (start : L
 
   -- what a claim leaves of the rule, whatever it does with the turn
   still_unclaimed : (current : List E) (claimed mask k : ℕ) → k < 64 → mask ≡ 1 * 2 ^ k % 2 ^ 64 → ((j : ℕ) → bit_at claimed j ≡ 0
-      → entries_by author j current ≡ entries_by author j start)
-      → (j : ℕ) → bit_at (bit_or claimed mask) j ≡ 0 → entries_by author j current ≡ entries_by author j start
+      → author_entries author j current ≡ author_entries author j start)
+      → (j : ℕ) → bit_at (bit_or claimed mask) j ≡ 0 → author_entries author j current ≡ author_entries author j start
   still_unclaimed current claimed mask k small is f j e = dite (ℕ_discrete j k)
       (λ (same : j ≡ k). absurd (one_or_none (sym (bit_at_set_same w64 claimed k small)
       ∙ (ap (λ (x : ℕ × ℕ). bit_at (bit_or claimed x.0) x.1) (λ i. (sym is i, sym same i)) ∙ e))))
@@ -510,7 +510,7 @@ module _ {T E : Type 0} (history : T → List E) (author : E → ℕ) (start : L
   claims_1 s r id below at free p = let w : View E = turning start 0 start in let claimed : ℕ = bit_or r.claimed 1 in let owner : ℕ → ℕ =
       claimed_by r.owner 0 id in
       let small : 0 < 64 = omega arith in
-      let homes : s.homes ≡ core.some None ∷ [] = r.homes ∙ ap (λ q. slot_in q ∷ []) p in
+      let homes : s.homes ≡ core.some None ∷ [] = r.homes ∙ ap (λ q. phase_slot q ∷ []) p in
       let stands : Stands history author start seats r.current r.claimed s.views early =
       subst (Stands history author start seats r.current r.claimed s.views) p r.stands in
       let bit_0 : bit_at claimed 0 ≡ 1 = bit_at_set_same w64 r.claimed 0 small in record {
@@ -555,7 +555,7 @@ module _ {T E : Type 0} (history : T → List E) (author : E → ℕ) (start : L
           (λ free. let p : r.phase ≡ early = free_at_early s r free in (
             turning start 0 start,
             takes 0 None,
-            ap (λ hs. get_elem? hs 0) (r.homes ∙ ap (λ q. slot_in q ∷ []) p),
+            ap (λ hs. get_elem? hs 0) (r.homes ∙ ap (λ q. phase_slot q ∷ []) p),
             claims_1 s r id below at free p,
             ((λ _. refl), (λ taken. absurd (taken (ap (λ (n : ℕ). bit_at n 0) (word_1 s r) ∙ free)))),
           ))
@@ -609,10 +609,10 @@ module _ {T E : Type 0} (history : T → List E) (author : E → ℕ) (start : L
     once_both owner current claimed id other apart ps qs own.1 theirs first.1 second,
   )
 
-  pub joins : (id other : ℕ) (v w : View E) → v.holds ≡ false → w.holds ≡ false → Joins Rule id v other w (both_of v w) spent
+  pub joins : (id other : ℕ) (v w : View E) → v.holds ≡ false → w.holds ≡ false → Joins Rule id v other w (joined_view v w) spent
   joins id other v w v_idle w_idle s r at apart there =
-      let there' : get_elem? s.views other ≡ core.some w = sym (set_else s.views id other (both_of v w) apart) ∙ there in
-      let b : View E = both_of v w in
+      let there' : get_elem? s.views other ≡ core.some w = sym (set_else s.views id other (joined_view v w) apart) ∙ there in
+      let b : View E = joined_view v w in
       let owner : ℕ → ℕ = handed r.owner other id in
       let vs : List (View E) = set s.views id b in record {
         phase = r.phase;
@@ -672,7 +672,7 @@ module _ {T E : Type 0} (history : T → List E) (author : E → ℕ) (start : L
           absurd (one_or_none (sym (ap (λ n. bit_at f.1.0.claimed n) (sym o.1) ∙ o.2.claim) ∙ stands.1))
       go (home x) is = let stands = subst (Stands history author start seats f.1.0.current f.1.0.claimed f.0.views) is f.1.0.stands in (
         x,
-        f.4 0 (Some x) (ap (λ hs. get_elem? hs 0) (f.1.0.homes ∙ ap (λ q. slot_in q ∷ []) is)),
+        f.4 0 (Some x) (ap (λ hs. get_elem? hs 0) (f.1.0.homes ∙ ap (λ q. phase_slot q ∷ []) is)),
         all_map (Own f.1.0.owner f.1.0.current f.1.0.claimed id) (Covers author (history x)) (λ p o. subst (λ (c : List E). Covers author c p)
             (sym stands.0) o.covered) v.parts (f.1.0.views id v f.1.1).own,
       )
@@ -685,7 +685,7 @@ module _ {T E : Type 0} (history : T → List E) (author : E → ℕ) (start : L
           absurd (holder_apart f.0.views id j v w f.1.1 idle stands.0.1 stands.0.2 (sym o.place ∙ (ap f.1.0.owner (sym mine.1) ∙ mine.2.place)))
 
 pub seats_snoc : {T E : Type 0} (lock : TableId) (start : List E) (k : ℕ) (ss : List (Seat (Option T) (View E))) (s : Seat (Option T) (View E))
-    → SeatsFrom lock start k ss → s.table_id ≡ lock → s.me ≡ idle start (k + length ss) start → SeatsFrom lock start k (ss ++ s ∷ [])
+    → AreNumberedSeats lock start k ss → s.table_id ≡ lock → s.me ≡ idle start (k + length ss) start → AreNumberedSeats lock start k (ss ++ s ∷ [])
 seats_snoc lock start k [] s h id me = ((id, me ∙ ap (λ (n : ℕ). idle start n start) (let n : k + 0 ≡ k = omega arith in n)), tt)
 seats_snoc lock start k (x ∷ xs) s h id me = (
   h.0,

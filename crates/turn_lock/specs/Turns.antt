@@ -10,15 +10,17 @@ use Rattle.atomic_table.specs.Table.{State, Me, Step}
 use Rattle.atomic_table.specs.Seated.{TableId}
 use Rattle.atomic_table.specs.declared.shared.Seat.{Seat}
 use Rattle.turn_lock.specs.declared.view.View.{View}
-use Rattle.turn_lock.specs.Parts.{entries_by, number_in, known_in, Part, IsOnceEach, Covers}
+use Rattle.turn_lock.specs.Parts.{author_entries, first_part_number, first_part_history, Part, IsOnceEach, Covers}
 
--- where the value is: the lock is being made, or the value is at home, or out with the seat at that place
+-- where the value is: the lock is being made, or the value is at home, or out with the seat at that
+-- place
 pub data Phase (T : Type 0) : Type 0 where
   early : Phase T
   home : T → Phase T
   out : ℕ → Phase T
 
--- what the first word has beside four times the length of the history, where the turn is out: 3 where a seat said that it waits
+-- what the first word has beside four times the length of the history, where the turn is out: 3
+-- where a seat said that it waits
 abbrev pub mark : Bool → ℕ
 mark waited = if waited then 3 else 1
 
@@ -27,10 +29,10 @@ turn_word early waited c = 4 * c + mark waited
 turn_word (home x) waited c = 4 * c
 turn_word (out j) waited c = 4 * c + mark waited
 
-abbrev pub slot_in : {T : Type 0} → Phase T → core.Option (Option T)
-slot_in early = core.some None
-slot_in (home x) = core.some (Some x)
-slot_in (out j) = core.none
+abbrev pub phase_slot : {T : Type 0} → Phase T → core.Option (Option T)
+phase_slot early = core.some None
+phase_slot (home x) = core.some (Some x)
+phase_slot (out j) = core.none
 
 module _ {E : Type 0} where
   -- with no number yet
@@ -47,12 +49,12 @@ module _ {E : Type 0} where
   turning o k h = record { holds = true; opening = o; parts = (k, h) ∷ [] }
 
   -- the opening of the first of two views, where that has a number
-  abbrev pub opening_with : List (Part E) → List E → List E → List E
-  opening_with [] first second = second
-  opening_with (p ∷ ps) first second = first
+  abbrev pub joined_opening : List (Part E) → List E → List E → List E
+  joined_opening [] first second = second
+  joined_opening (p ∷ ps) first second = first
 
-  abbrev pub both_of : View E → View E → View E
-  both_of v w = record { holds = false; opening = opening_with v.parts v.opening w.opening; parts = v.parts ++ w.parts }
+  abbrev pub joined_view : View E → View E → View E
+  joined_view v w = record { holds = false; opening = joined_opening v.parts v.opening w.opening; parts = v.parts ++ w.parts }
 
 module _ {T E : Type 0} (history : T → List E) (author : E → ℕ) (start : List E) (seats : ℕ) where
   -- of one number in the view of the seat at the place id
@@ -83,11 +85,11 @@ module _ {T E : Type 0} (history : T → List E) (author : E → ℕ) (start : L
     -- whether a seat said that it waits, since the turn went out
     pub waited : Bool
     pub words : s.words ≡ turn_word phase waited (length current) ∷ claimed ∷ []
-    pub homes : s.homes ≡ slot_in phase ∷ []
+    pub homes : s.homes ≡ phase_slot phase ∷ []
     pub stands : Stands current claimed s.views phase
     pub started : IsPrefix start current
-    pub unclaimed : (k : ℕ) → bit_at claimed k ≡ 0 → entries_by author k current ≡ entries_by author k start
-    pub authors : (k : ℕ) → seats ≤ k → entries_by author k current ≡ []
+    pub unclaimed : (k : ℕ) → bit_at claimed k ≡ 0 → author_entries author k current ≡ author_entries author k start
+    pub authors : (k : ℕ) → seats ≤ k → author_entries author k current ≡ []
     pub views : (id : ℕ) (v : View E) → get_elem? s.views id ≡ core.some v → Knows owner phase current claimed id v
 
 abbrev pub Sat : Type 0 → Type 0 → Type 0
@@ -108,20 +110,20 @@ module _ {T E : Type 0} where
   key_opening m = m.0.opening
 
   -- the seat's one number
-  abbrev pub number_of : Sat T E → ℕ
-  number_of m = number_in m.0.parts
+  abbrev pub seat_number : Sat T E → ℕ
+  seat_number m = first_part_number m.0.parts
 
   -- the history that the seat knows
   abbrev pub known_key : Sat T E → List E
-  known_key m = known_in m.0.parts
+  known_key m = first_part_history m.0.parts
 
   -- it has one number, and no turn
   abbrev pub IsIdle : Sat T E → Type 0
-  IsIdle m = m ≡ idle (key_opening m) (number_of m) (known_key m)
+  IsIdle m = m ≡ idle (key_opening m) (seat_number m) (known_key m)
 
   -- it has one number, and the turn, whose value is out
   abbrev pub IsBusy : Sat T E → Type 0
-  IsBusy m = m ≡ busy (key_opening m) (number_of m) (known_key m)
+  IsBusy m = m ≡ busy (key_opening m) (seat_number m) (known_key m)
 
   -- it has no turn
   abbrev pub IsResting : Sat T E → Type 0
@@ -141,8 +143,8 @@ module _ {T E : Type 0} where
   -- the turn was free, and the seat has it with the value that stood there; or nothing changed
   abbrev pub Takes : (T → List E) → (E → ℕ) → Step (Option T) → Sat T E → ℕ → Sat T E → Type 0
   Takes history author st m r m' =
-      (r ≡ st.first → (x : T) × (m' ≡ (turning m.0.opening (number_in m.0.parts) (history x), (0, Some x) ∷ []))
-      × Covers author (history x) (number_in m.0.parts, known_in m.0.parts))
+      (r ≡ st.first → (x : T) × (m' ≡ (turning m.0.opening (first_part_number m.0.parts) (history x), (0, Some x) ∷ []))
+      × Covers author (history x) (first_part_number m.0.parts, first_part_history m.0.parts))
       × (r ≢ st.first → m' ≡ m)
 
   -- a seat says that it waits, which changes nothing that it knows
@@ -150,9 +152,9 @@ module _ {T E : Type 0} where
   Asks st m r m' = m' ≡ m
 
   abbrev pub Gives : (T → List E) → Step (Option T) → Sat T E → ℕ → Sat T E → Type 0
-  Gives history st m r m' = (x : T) → m.1 ≡ (0, Some x) ∷ [] → m' ≡ idle m.0.opening (number_in m.0.parts) (history x)
+  Gives history st m r m' = (x : T) → m.1 ≡ (0, Some x) ∷ [] → m' ≡ idle m.0.opening (first_part_number m.0.parts) (history x)
 
 -- the seats of a new lock, numbered from k on
-abbrev pub SeatsFrom : {T E : Type 0} → TableId → List E → ℕ → List (Seat (Option T) (View E)) → Type 0
-SeatsFrom lock start k [] = Unit {0}
-SeatsFrom lock start k (s ∷ ss) = ((s.table_id ≡ lock) × (s.me ≡ idle start k start)) × SeatsFrom lock start (k + 1) ss
+abbrev pub AreNumberedSeats : {T E : Type 0} → TableId → List E → ℕ → List (Seat (Option T) (View E)) → Type 0
+AreNumberedSeats lock start k [] = Unit {0}
+AreNumberedSeats lock start k (s ∷ ss) = ((s.table_id ≡ lock) × (s.me ≡ idle start k start)) × AreNumberedSeats lock start (k + 1) ss

@@ -2,8 +2,8 @@
 
 ghost use Rattle.std.specs.Prelude.{◌≡◌, ℕ, ◌+◌, ◌<◌, ◌≤◌, [], ◌∷◌, ◌++◌, length, vec_len, vec_capacity, false, IfOk, IfErr, IsTrue};
 ghost use Rattle.std.specs.List.{AllByRecursion};
-ghost use Rattle.turn_lock.specs.Parts.{AreBelow, IsContinuedBy, has_number, Covers};
-ghost use Rattle.turn_lock.specs.Turns.{idle, busy, both_of, key_opening, number_of, known_key, IsIdle, IsBusy, IsResting, SeatsFrom};
+ghost use Rattle.turn_lock.specs.Parts.{AreBelow, IsContinuedByAuthor, has_number, Covers};
+ghost use Rattle.turn_lock.specs.Turns.{idle, busy, joined_view, key_opening, seat_number, known_key, IsIdle, IsBusy, IsResting, AreNumberedSeats};
 
 use crate::journal::Journal;
 use crate::plays::{Glue, Take};
@@ -39,7 +39,8 @@ pub struct ValueBack<T> {
 }
 
 impl<T: Journal> TurnLock<T> {
-    /// A lock round the value, and a seat for each number below `seats`. It waits where a number can't be claimed, which no run meets.
+    /// A lock round the value, and a seat for each number below `seats`. It waits where a number
+    /// can't be claimed, which no run meets.
     pub fn new<R: Wait>(
         rt: &R,
         alloc: Global,
@@ -50,7 +51,7 @@ impl<T: Journal> TurnLock<T> {
         requires authors { AreBelow T.author seats (T.history value) }
         ensures lock { IfOk result (λ r. r.0.seats ≡ seats) }
         ensures count { IfOk result (λ r. length r.1.items ≡ seats) }
-        ensures seats { IfOk result (λ r. SeatsFrom r.0.lock (T.history value) 0 r.1.items) }
+        ensures seats { IfOk result (λ r. AreNumberedSeats r.0.lock (T.history value) 0 r.1.items) }
         ensures back { IfErr result (λ b. b.value ≡ value) }
     {
         let Ok(mut all) = Vec::with_capacity(alloc, seats as usize) else {
@@ -70,16 +71,18 @@ impl<T: Journal> TurnLock<T> {
         Ok((TurnLock { table, seats }, all))
     }
 
-    /// Waits for the turn, and gives the value. Its history goes on from what the seat knew, and has no further entry of the seat's number.
+    /// Waits for the turn, and gives the value. Its history goes on from what the seat knew, and
+    /// has no further entry of the seat's number.
     pub fn take<R: Wait>(&self, rt: &R, seat: &mut TurnSeat<T>) -> T
         requires lock { seat.old.table_id ≡ self.now.lock }
         requires idle { IsIdle seat.old.me }
         ensures lock { seat.new.table_id ≡ seat.old.table_id }
-        ensures turn { seat.new.me ≡ busy (key_opening seat.old.me) (number_of seat.old.me) (T.history result) }
-        ensures further { Covers T.author (T.history result) (number_of seat.old.me, known_key seat.old.me) }
+        ensures turn { seat.new.me ≡ busy (key_opening seat.old.me) (seat_number seat.old.me) (T.history result) }
+        ensures further { Covers T.author (T.history result) (seat_number seat.old.me, known_key seat.old.me) }
     {
         let shared = &self.table.shared;
-        // Who slept can't know whether others sleep still, and takes the turn as one for which somebody waits.
+        // Who slept can't know whether others sleep still, and takes the turn as one for which
+        // somebody waits.
         let mut waited = false;
         for _ in rt.forever() {
             let word = shared.peek(0);
@@ -101,24 +104,26 @@ impl<T: Journal> TurnLock<T> {
         unreachable!()
     }
 
-    /// Gives the turn back, and waits for nobody. Each entry past those that were taken has the seat's number.
+    /// Gives the turn back, and waits for nobody. Each entry past those that were taken has the
+    /// seat's number.
     pub fn give(&self, seat: &mut TurnSeat<T>, value: T)
         requires lock { seat.old.table_id ≡ self.now.lock }
         requires turn { IsBusy seat.old.me }
-        requires further { IsContinuedBy T.author (number_of seat.old.me) (known_key seat.old.me) (T.history value) }
+        requires further { IsContinuedByAuthor T.author (seat_number seat.old.me) (known_key seat.old.me) (T.history value) }
         ensures lock { seat.new.table_id ≡ seat.old.table_id }
-        ensures idle { seat.new.me ≡ idle (key_opening seat.old.me) (number_of seat.old.me) (T.history value) }
+        ensures idle { seat.new.me ≡ idle (key_opening seat.old.me) (seat_number seat.old.me) (T.history value) }
     {
         give_back(&self.table, seat, value);
     }
 
-    /// The seat has the numbers of both, each with what its seat knew. It takes no memory and waits for nobody.
+    /// The seat has the numbers of both, each with what its seat knew. It takes no memory and waits
+    /// for nobody.
     pub fn join(&self, seat: &mut TurnSeat<T>, other: TurnSeat<T>)
         requires lock { (seat.old.table_id ≡ self.now.lock) × (other.table_id ≡ self.now.lock) }
         requires idle { IsResting seat.old.me }
         requires other { IsResting other.me }
         ensures lock { seat.new.table_id ≡ seat.old.table_id }
-        ensures both { seat.new.me ≡ (both_of seat.old.me.0 other.me.0, []) }
+        ensures both { seat.new.me ≡ (joined_view seat.old.me.0 other.me.0, []) }
     {
         self.table.shared.join_seat::<Glue>(seat, other);
     }

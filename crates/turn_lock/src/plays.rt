@@ -17,9 +17,9 @@ impl<E> Split<View<E>> for Same {
 pub(crate) struct Glue;
 
 impl<E> Join<View<E>> for Glue {
-    ghost use Rattle.turn_lock.specs.Turns.{both_of, spent};
+    ghost use Rattle.turn_lock.specs.Turns.{joined_view, spent};
 
-    ghost both = { both_of };
+    ghost both = { joined_view };
 
     ghost spent = { spent };
 }

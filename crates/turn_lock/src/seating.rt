@@ -1,8 +1,8 @@
 //! How a lock gets its seats: each is split from the maker's, and claims its number.
 
 ghost use Rattle.std.specs.Prelude.{◌≡◌, ◌+◌, ◌*◌, ◌%◌, ◌<◌, [], IfSome};
-ghost use Rattle.turn_lock.specs.Parts.{AreBelow, IsContinuedBy};
-ghost use Rattle.turn_lock.specs.Turns.{fresh, idle, busy, mark, key_opening, number_of, known_key, IsBusy};
+ghost use Rattle.turn_lock.specs.Parts.{AreBelow, IsContinuedByAuthor};
+ghost use Rattle.turn_lock.specs.Turns.{fresh, idle, busy, mark, key_opening, seat_number, known_key, IsBusy};
 
 use crate::journal::Journal;
 use crate::plays::{Ask, Claim, ClaimFirst, Give, Same};
@@ -86,14 +86,15 @@ pub(crate) fn ask<T: Journal>(table: &TurnTable<T>, seat: &mut TurnSeat<T>, word
     }
 }
 
-/// Gives the turn back, with the value, whose further entries have the seat's number. It wakes one that sleeps, where a seat said that it waits.
+/// Gives the turn back, with the value, whose further entries have the seat's number. It wakes one
+/// that sleeps, where a seat said that it waits.
 pub(crate) fn give_back<T: Journal>(table: &TurnTable<T>, seat: &mut TurnSeat<T>, value: T)
     requires table { seat.old.table_id ≡ table.now.shared.table_id }
     requires shape { (table.now.shared.table_id.words ≡ 2) × (table.now.shared.table_id.slots ≡ 1) }
     requires turn { IsBusy seat.old.me }
-    requires further { IsContinuedBy T.author (number_of seat.old.me) (known_key seat.old.me) (T.history value) }
+    requires further { IsContinuedByAuthor T.author (seat_number seat.old.me) (known_key seat.old.me) (T.history value) }
     ensures table { seat.new.table_id ≡ seat.old.table_id }
-    ensures idle { seat.new.me ≡ idle (key_opening seat.old.me) (number_of seat.old.me) (T.history value) }
+    ensures idle { seat.new.me ≡ idle (key_opening seat.old.me) (seat_number seat.old.me) (T.history value) }
 {
     let shared = &table.shared;
     let count = value.count();

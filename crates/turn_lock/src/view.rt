@@ -6,8 +6,8 @@ use std::alloc::Global;
 use std::collections::LinkedList;
 use std::snapshot::Snapshot;
 
-/// What a seat knows: whether it has the turn, the history that the lock was made with, and its numbers, each with the history that was seen. No value of it
-/// is made.
+/// What a seat knows: whether it has the turn, the history that the lock was made with, and its
+/// numbers, each with the history that was seen. No value of it is made.
 pub struct View<E> {
     pub holds: bool,
     pub opening: LinkedList<E>,
@@ -21,8 +21,9 @@ pub(crate) struct Start<T> {
     pub seats: u32,
 }
 
-/// The rule of the table: of its two words the first counts the history, and says whether a turn is out and whether a seat waits for it; the second says
-/// which numbers were claimed. Its one slot has the value.
+/// The rule of the table: of its two words the first counts the history, and says whether a turn is
+/// out and whether a seat waits for it; the second says which numbers were claimed. Its one slot
+/// has the value.
 pub(crate) struct Turns;
 
 impl<T: Journal> TableRule<Option<T>, View<T::Entry>, Start<T>> for Turns {

@@ -9,7 +9,7 @@ use hashkey_path::Hashkey;
 use ledger_core::Call;
 use swap_base::{Digest, PartyId};
 
-fn read_digest(digest: &Digest)
+fn visit_digest(digest: &Digest)
     ensures { IsDigest digest.now }
 {
     'bytes: for byte in digest {
@@ -17,30 +17,30 @@ fn read_digest(digest: &Digest)
     }
 }
 
-fn read_values(values: &[Digest; CHAINS])
+fn visit_values(values: &[Digest; CHAINS])
     ensures size { length values.now ≡ 67 }
     ensures values { All IsDigest values.now }
 {
     'values: for value in values {
-        read_digest(value);
+        visit_digest(value);
     }
 }
 
-fn read_signature(sig: &Sig)
+fn visit_signature(sig: &Sig)
     ensures { IsSignature sig.now }
 {
-    read_values(sig.values());
+    visit_values(sig.values());
 }
 
-fn read_signatures(sigs: &[Sig])
+fn visit_signatures(sigs: &[Sig])
     ensures { All IsSignature sigs.now }
 {
     'sigs: for sig in sigs {
-        read_signature(sig);
+        visit_signature(sig);
     }
 }
 
-fn read_path(path: &[PartyId])
+fn visit_path(path: &[PartyId])
     ensures { All (λ p. p < 256) path.now }
 {
     'parties: for party in path {
@@ -48,24 +48,24 @@ fn read_path(path: &[PartyId])
     }
 }
 
-fn read_hashkey(key: &Hashkey)
+fn visit_hashkey(key: &Hashkey)
     ensures { IsHashkey key.now }
 {
     let _lock = key.lock;
-    read_digest(&key.secret);
-    read_path(key.path.as_slice());
-    read_signatures(key.sigs.as_slice());
+    visit_digest(&key.secret);
+    visit_path(key.path.as_slice());
+    visit_signatures(key.sigs.as_slice());
 }
 
-fn read_locks(locks: &LockList)
+fn visit_locks(locks: &LockList)
     ensures { All IsDigest locks.now }
 {
     'locks: for lock in 0..locks.len() {
-        read_digest(&locks.get(lock));
+        visit_digest(&locks.get(lock));
     }
 }
 
-fn read_terms(terms: &Terms)
+fn visit_terms(terms: &Terms)
     ensures { IsTerms terms.now }
 {
     let _start = terms.start;
@@ -73,15 +73,15 @@ fn read_terms(terms: &Terms)
     let _bound = terms.bound;
     let _timelock = terms.timelock;
     let _amount = terms.amount;
-    read_locks(&terms.locks);
+    visit_locks(&terms.locks);
 }
 
-pub(crate) fn read_call(call: &Call)
+pub(crate) fn visit_call(call: &Call)
     ensures { IsTypedCall call.now }
 {
     match call {
-        Call::Publish(terms) => read_terms(terms),
-        Call::Unlock(key) => read_hashkey(key),
+        Call::Publish(terms) => visit_terms(terms),
+        Call::Unlock(key) => visit_hashkey(key),
         Call::Claim => {}
         Call::Refund => {}
         Call::Transfer(to, units) => {

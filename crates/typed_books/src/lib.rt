@@ -1,6 +1,8 @@
-//! What the program's own types say of a book: its numbers have so many bits, its digests 32 bytes and its signatures 67 digests, whoever made the call.
+//! What the program's own types say of a book: its numbers have so many bits, its digests 32 bytes
+//! and its signatures 67 digests, whoever made the call.
 //!
-//! A type's bounds are known of a value once it is read, so a book is read from end to end; nothing is changed or answered.
+//! A type's bounds are known of a value once it is read, so a book is read from end to end; nothing
+//! is changed or answered.
 //!
 //! Read `specs/Books.antt` first.
 #![tactic(auto)]
@@ -8,4 +10,4 @@
 mod book;
 mod call;
 
-pub use book::read_book;
+pub use book::visit_book;

@@ -6,9 +6,9 @@ use Rattle.std.proofs.lemmas.List.{get_or-drop}
 use Rattle.std.proofs.lemmas.Option.{same_Some}
 use Rattle.hashkey_path.specs.declared.hashkey.Hashkey.{Hashkey}
 use Rattle.wallet_journal.specs.Device.{written, Torn}
-use Rattle.wallet_journal.specs.Layout.{byte, is_made, is_open, id_in, party_in, gate_at, body_position, body, fetch_key, is_recorded, recorded, encoded_body}
+use Rattle.wallet_journal.specs.Layout.{byte, is_made, is_open, journal_deal_id, journal_party, gate_position, body_position, body, body_hashkey, is_recorded, recorded, encoded_body}
 use Rattle.wallet_journal.specs.Layout.{are_bounded, is_bad, is_damaged, IsTold}
-use Rattle.wallet_journal.specs.Journal.{IsBeforeOrAfter, KeepsRecorded, Gains}
+use Rattle.wallet_journal.specs.Journal.{MayHaveRecorded, KeepsRecorded, Gains}
 use Rattle.wallet_journal.specs.Opening.{is_damaged_contents}
 use Rattle.wallet_journal.specs.Own.{IsOwn, FitsDeal, IsInRecord}
 use Rattle.swap_digraph.specs.declared.deal.Deal.{Deal}
@@ -18,9 +18,9 @@ use Rattle.wallet_journal.proofs.Tells.{body_size, parts, path_is, round_trip}
 
 -- what is recorded, by its parts
 abbrev shown : Bool → Bool → ℕ → List ℕ → Option Hashkey
-shown made opened i b = if made && opened then Some (fetch_key i b) else None
+shown made opened i b = if made && opened then Some (body_hashkey i b) else None
 
-pub same : (old new : List ℕ) (i : ℕ) → byte new 0 ≡ byte old 0 → byte new (gate_at i) ≡ byte old (gate_at i) → body i new ≡ body i old
+pub same : (old new : List ℕ) (i : ℕ) → byte new 0 ≡ byte old 0 → byte new (gate_position i) ≡ byte old (gate_position i) → body i new ≡ body i old
     → recorded new i ≡ recorded old i
 same old new i made gate b = λ j. shown (made j == 1) (gate j == 1) i (b j)
 
@@ -45,7 +45,7 @@ none_parts true true i b d h = absurd (cc h)
 lock_parts : (made opened : Bool) (i : ℕ) (b : List ℕ) (k : Hashkey) → shown made opened i b ≡ Some k → k.lock ≡ i
 lock_parts false opened i b k h = absurd (cc h)
 lock_parts true false i b k h = absurd (cc h)
-lock_parts true true i b k h = sym (ap (λ (x : Hashkey). x.lock) (same_Some (fetch_key i b) k h))
+lock_parts true true i b k h = sym (ap (λ (x : Hashkey). x.lock) (same_Some (body_hashkey i b) k h))
 
 -- what is recorded for a lock is a hashkey for it
 pub recorded_lock : (bytes : List ℕ) (i : ℕ) (k : Hashkey) → recorded bytes i ≡ Some k → k.lock ≡ i
@@ -67,11 +67,11 @@ and_false : (b : Bool) → (b && false) ≡ false
 and_false true = refl
 and_false false = refl
 
-same_damage : (limit n : ℕ) (old new : List ℕ) (i : ℕ) → byte new 0 ≡ byte old 0 → byte new (gate_at i) ≡ byte old (gate_at i) → body i new ≡ body i old
+same_damage : (limit n : ℕ) (old new : List ℕ) (i : ℕ) → byte new 0 ≡ byte old 0 → byte new (gate_position i) ≡ byte old (gate_position i) → body i new ≡ body i old
     → is_damaged limit n new i ≡ is_damaged limit n old i
 same_damage limit n old new i made gate b = λ j. ((made j == 1) && (gate j == 1)) && is_bad limit n (b j)
 
-either_parts : (made opened : Bool) (i : ℕ) (b : List ℕ) (k : Hashkey) → fetch_key i b ≡ k → (shown made opened i b ≡ None) ⊎ (shown made opened i b ≡ Some k)
+either_parts : (made opened : Bool) (i : ℕ) (b : List ℕ) (k : Hashkey) → body_hashkey i b ≡ k → (shown made opened i b ≡ None) ⊎ (shown made opened i b ≡ Some k)
 either_parts false opened i b k h = inl refl
 either_parts true false i b k h = inl refl
 either_parts true true i b k h = inr (ap (λ (x : Hashkey). Some x) h)
@@ -81,13 +81,13 @@ module _ (l n : ℕ) (lt : l < 8) (few : n ≤ 68673) (old new : List ℕ) (torn
   body_made : byte new 0 ≡ byte old 0
   body_made = byte_before (body_position l) n old new torn 0 (omega arith)
 
-  body_gate : (i : ℕ) → i < 8 → byte new (gate_at i) ≡ byte old (gate_at i)
-  body_gate i lt_i = byte_before (body_position l) n old new torn (gate_at i) (omega (arith, lt_i))
+  body_gate : (i : ℕ) → i < 8 → byte new (gate_position i) ≡ byte old (gate_position i)
+  body_gate i lt_i = byte_before (body_position l) n old new torn (gate_position i) (omega (arith, lt_i))
 
-  pub body_id : id_in new ≡ id_in old
+  pub body_id : journal_deal_id new ≡ journal_deal_id old
   body_id = slice_before (body_position l) n old new torn 1 32 (omega arith)
 
-  pub body_party : party_in new ≡ party_in old
+  pub body_party : journal_party new ≡ journal_party old
   body_party = byte_before (body_position l) n old new torn 33 (omega arith)
 
   pub body_is_made : is_made new ≡ is_made old
@@ -126,37 +126,37 @@ module _ (l n : ℕ) (lt : l < 8) (few : n ≤ 68673) (old new : List ℕ) (torn
   }
 
 -- A gate is written.
-module _ (l : ℕ) (lt : l < 8) (old new : List ℕ) (torn : Torn (gate_at l) 1 old new) where
+module _ (l : ℕ) (lt : l < 8) (old new : List ℕ) (torn : Torn (gate_position l) 1 old new) where
   gate_made : byte new 0 ≡ byte old 0
-  gate_made = byte_before (gate_at l) 1 old new torn 0 (omega arith)
+  gate_made = byte_before (gate_position l) 1 old new torn 0 (omega arith)
 
-  pub gate_id : id_in new ≡ id_in old
-  gate_id = slice_before (gate_at l) 1 old new torn 1 32 (omega arith)
+  pub gate_id : journal_deal_id new ≡ journal_deal_id old
+  gate_id = slice_before (gate_position l) 1 old new torn 1 32 (omega arith)
 
-  pub gate_party : party_in new ≡ party_in old
-  gate_party = byte_before (gate_at l) 1 old new torn 33 (omega arith)
+  pub gate_party : journal_party new ≡ journal_party old
+  gate_party = byte_before (gate_position l) 1 old new torn 33 (omega arith)
 
   pub gate_is_made : is_made new ≡ is_made old
   gate_is_made = ap (λ (b : ℕ). b == 1) gate_made
 
   pub gate_body : (i : ℕ) → body i new ≡ body i old
-  gate_body i = slice_after (gate_at l) 1 old new torn (body_position i) 68673 (omega (arith, lt))
+  gate_body i = slice_after (gate_position l) 1 old new torn (body_position i) 68673 (omega (arith, lt))
 
-  gate_other : (i : ℕ) → i ≢ l → byte new (gate_at i) ≡ byte old (gate_at i)
+  gate_other : (i : ℕ) → i ≢ l → byte new (gate_position i) ≡ byte old (gate_position i)
   gate_other i apart = elim (cases_lt i l) [
-    | inl less ↦ byte_before (gate_at l) 1 old new torn (gate_at i) (omega (arith, less))
-    | inr more ↦ byte_after (gate_at l) 1 old new torn (gate_at i) (omega (arith, more, apart))
+    | inl less ↦ byte_before (gate_position l) 1 old new torn (gate_position i) (omega (arith, less))
+    | inr more ↦ byte_after (gate_position l) 1 old new torn (gate_position i) (omega (arith, more, apart))
   ]
 
   -- it leaves what is recorded, or records what the body tells
-  pub gate_torn : (k : Hashkey) → l ≡ k.lock → recorded old l ≡ None → fetch_key l (body l old) ≡ k → IsBeforeOrAfter old k new
+  pub gate_torn : (k : Hashkey) → l ≡ k.lock → recorded old l ≡ None → body_hashkey l (body l old) ≡ k → MayHaveRecorded old k new
   gate_torn k is_lock none tells i lt_i = elim (cases_eq i l) [
     | inl here ↦ at_l here
     | inr apart ↦ inl (same old new i gate_made (gate_other i apart) (gate_body i))
   ]
     where
       at_l : i ≡ l → (recorded new i ≡ recorded old i) ⊎ ((i ≡ k.lock) × (recorded new i ≡ Some k))
-      at_l here = elim (either_parts (is_made new) (is_open new l) l (body l new) k (ap (fetch_key l) (gate_body l) ∙ tells)) [
+      at_l here = elim (either_parts (is_made new) (is_open new l) l (body l new) k (ap (body_hashkey l) (gate_body l) ∙ tells)) [
         | inl still ↦ inl (ap (recorded new) here ∙ still ∙ sym none ∙ ap (recorded old) (sym here))
         | inr now ↦ inr (here ∙ is_lock, ap (recorded new) here ∙ now)
       ]
@@ -208,13 +208,13 @@ not_bad k paired told rest limit n few below =
 -- A body that was written tells its hashkey.
 pub tells_written : (k : Hashkey) (l : ℕ) (old new : List ℕ) → length old ≡ 549426 → l < 8 → l ≡ k.lock → length k.path ≤ 32 → length k.sigs ≡ length k.path
     → IsTold k
-    → new ≡ written old (body_position l) (encoded_body k) → fetch_key l (body l new) ≡ k
+    → new ≡ written old (body_position l) (encoded_body k) → body_hashkey l (body l new) ≡ k
 tells_written k l old new sized lt is_lock few paired told is =
-    ap (fetch_key l) (body_there k l old new sized lt few paired told is)
+    ap (body_hashkey l) (body_there k l old new sized lt few paired told is)
     ∙ round_trip k paired told l is_lock (take (68673 - length (encoded_body k)) (drop (body_position l + length (encoded_body k)) old))
 
 -- where a crash left what stands there, what is recorded in all that it left is kept
-pub keeps : (outcomes : List ℕ → Type 0) (old c : List ℕ) (k : Hashkey) → outcomes old → recorded old k.lock ≡ None → IsBeforeOrAfter old k c
+pub keeps : (outcomes : List ℕ → Type 0) (old c : List ℕ) (k : Hashkey) → outcomes old → recorded old k.lock ≡ None → MayHaveRecorded old k c
     → KeepsRecorded outcomes c
 keeps outcomes old c k among none h i x lt all = elim (h i lt) [
   | inl was ↦ was ∙ all old among
@@ -239,7 +239,7 @@ module _ (k : Hashkey) (old : List ℕ) (sized : length old ≡ 549426) (made : 
   mid_none : recorded mid k.lock ≡ None
   mid_none = body_torn k.lock (length (encoded_body k)) lt body_fits old mid mid_torn none k.lock lt ∙ none
 
-  mid_tells : fetch_key k.lock (body k.lock mid) ≡ k
+  mid_tells : body_hashkey k.lock (body k.lock mid) ≡ k
   mid_tells = tells_written k k.lock old mid sized lt refl few paired told refl
 
   -- a crash in the first
@@ -249,7 +249,7 @@ module _ (k : Hashkey) (old : List ℕ) (sized : length old ≡ 549426) (made : 
     own = λ d me fits own. body_own k.lock (length (encoded_body k)) lt body_fits old c torn none d me own;
   }
 
-  second_own : (c : List ℕ) → Torn (gate_at k.lock) 1 mid c → (d : Deal) (me : ℕ) → FitsDeal d k → IsOwn d me old → IsOwn d me c
+  second_own : (c : List ℕ) → Torn (gate_position k.lock) 1 mid c → (d : Deal) (me : ℕ) → FitsDeal d k → IsOwn d me old → IsOwn d me c
   second_own c torn d me fits own =
       let rest = take (68673 - length (encoded_body k)) (drop (body_position k.lock + length (encoded_body k)) old) in
       let good : is_bad (path_limit d) d.graph.n (body k.lock mid) ≡ false =
@@ -257,24 +257,24 @@ module _ (k : Hashkey) (old : List ℕ) (sized : length old ≡ 549426) (made : 
       ∙ not_bad k paired told rest (path_limit d) d.graph.n fits.few fits.parties in
       gate_own k.lock lt mid c torn d me good (body_own k.lock (length (encoded_body k)) lt body_fits old mid mid_torn none d me own)
 
-  second_whole : (c : List ℕ) → Torn (gate_at k.lock) 1 mid c → IsBeforeOrAfter old k c
+  second_whole : (c : List ℕ) → Torn (gate_position k.lock) 1 mid c → MayHaveRecorded old k c
   second_whole c torn i lt_i = elim (gate_torn k.lock lt mid c torn k refl mid_none mid_tells i lt_i) [
     | inl was ↦ inl (was ∙ body_torn k.lock (length (encoded_body k)) lt body_fits old mid mid_torn none i lt_i)
     | inr new ↦ inr new
   ]
 
   -- a crash in the second
-  pub second_write : (c : List ℕ) → Torn (gate_at k.lock) 1 mid c → IsInRecord old k c
+  pub second_write : (c : List ℕ) → Torn (gate_position k.lock) 1 mid c → IsInRecord old k c
   second_write c torn = record { whole = second_whole c torn; own = λ d me fits own. second_own c torn d me fits own }
 
   -- after both
-  pub stored : Gains old k (written mid (gate_at k.lock) (1 ∷ []))
+  pub stored : Gains old k (written mid (gate_position k.lock) (1 ∷ []))
   stored =
-      let end = written mid (gate_at k.lock) (1 ∷ []) in
-      let fits : gate_at k.lock + 1 ≤ length mid = omega (arith, mid_torn.as_long, sized, lt) in
-      let torn : Torn (gate_at k.lock) 1 mid end = written_torn mid (gate_at k.lock) (1 ∷ []) fits in
-      let gate : byte end (gate_at k.lock) ≡ 1 =
-      byte_at_start end (gate_at k.lock) ∙ ap (λ (l : List ℕ). get_or l 0 0) (drop_written mid (gate_at k.lock) (1 ∷ []) fits) in
+      let end = written mid (gate_position k.lock) (1 ∷ []) in
+      let fits : gate_position k.lock + 1 ≤ length mid = omega (arith, mid_torn.as_long, sized, lt) in
+      let torn : Torn (gate_position k.lock) 1 mid end = written_torn mid (gate_position k.lock) (1 ∷ []) fits in
+      let gate : byte end (gate_position k.lock) ≡ 1 =
+      byte_at_start end (gate_position k.lock) ∙ ap (λ (l : List ℕ). get_or l 0 0) (drop_written mid (gate_position k.lock) (1 ∷ []) fits) in
       let still_made = gate_is_made k.lock lt mid end torn ∙ body_is_made k.lock (length (encoded_body k)) lt body_fits old mid mid_torn in
       record {
         made = still_made;
@@ -282,7 +282,7 @@ module _ (k : Hashkey) (old : List ℕ) (sized : length old ≡ 549426) (made : 
         party = gate_party k.lock lt mid end torn ∙ body_party k.lock (length (encoded_body k)) lt body_fits old mid mid_torn;
         here =
             (λ j. shown ((still_made ∙ made) j) (gate j == 1) k.lock (body k.lock end))
-            ∙ ap (λ (x : Hashkey). Some x) (ap (fetch_key k.lock) (gate_body k.lock lt mid end torn k.lock) ∙ mid_tells);
+            ∙ ap (λ (x : Hashkey). Some x) (ap (body_hashkey k.lock) (gate_body k.lock lt mid end torn k.lock) ∙ mid_tells);
         others = λ i lt_i apart. gate_others k.lock lt mid end torn i apart
             ∙ body_torn k.lock (length (encoded_body k)) lt body_fits old mid mid_torn none i lt_i;
       }

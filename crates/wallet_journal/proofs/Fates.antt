@@ -3,7 +3,7 @@ use Rattle.std.proofs.Common.{◌≡◌, ℕ, zero, suc, ◌<◌, List, [], ◌�
 use Rattle.std.proofs.Common.{Result, Ok, Err, IsOk, IsErr, OnOk, ◌∙◌, ap, arith, append_assoc}
 use Rattle.hashkey_path.specs.declared.hashkey.Hashkey.{Hashkey}
 use Rattle.wallet_journal.specs.Device.{Write, AreStopped, IsSettled}
-use Rattle.wallet_journal.specs.Recording.{body_write, gate_write, IsStoppedAt, IsWritten}
+use Rattle.wallet_journal.specs.Recording.{body_write, gate_write, IsStoppedRecording, IsWritten}
 
 pub not_both : {T E : Type 0} {X : Type 0} (r : Result T E) → IsOk r → IsErr r → X
 not_both (Ok x) ok err = absurd (cc err)
@@ -21,7 +21,7 @@ passed (Err e) s l new new' ok h = absurd (cc ok)
 module _ (k : Hashkey) (synced loose : List Write) (body : Write) (none : loose ≡ []) (is_body : body ≡ body_write k) where
   -- where a record's first write or sync failed
   pub stopped_first : {A B : Type 0} (n : ℕ) (r : Result A B) (stops : ℕ → Type 0) (new new' : List Write) → IsErr r → AreStopped n r stops
-      → IsSettled r synced (loose ++ body ∷ []) new new' → IsStoppedAt n k synced new new'
+      → IsSettled r synced (loose ++ body ∷ []) new new' → IsStoppedRecording n k synced new new'
   stopped_first zero r stops new new' err h writes =
       let was = failed r synced (loose ++ body ∷ []) new new' err writes in
       (was.0, was.1 ∙ (λ i. none i ++ is_body i ∷ []))
@@ -53,7 +53,7 @@ module _ (k : Hashkey) (synced loose : List Write) (body : Write) (none : loose 
   pub stopped_second : {A B T E : Type 0} (n : ℕ) → n < 4 → (r : Result A B) (s : Result T E) (mid stops : ℕ → Type 0) (at at' new new' : List Write)
       → IsOk r → AreStopped n r mid
       → IsSettled r synced (loose ++ body ∷ []) at at' → ((m : ℕ) → mid m → AreStopped m s stops) → IsSettled s at (at' ++ gate_write k ∷ []) new new'
-      → IsErr s × IsStoppedAt n k synced new new'
+      → IsErr s × IsStoppedRecording n k synced new new'
   stopped_second zero lt r s mid stops at at' new new' ok h first next writes = not_both r ok h
   stopped_second (suc zero) lt r s mid stops at at' new new' ok h first next writes = not_both r ok h
   stopped_second (suc (suc zero)) lt r s mid stops at at' new new' ok h first next writes = at_gate r s at at' new new' ok (next 0 h.1) first writes

@@ -6,9 +6,9 @@ use Rattle.swap_digraph.specs.declared.deal.Deal.{Deal}
 use Rattle.swap_digraph.specs.Deal.{path_limit}
 use Rattle.hashkey_path.specs.declared.hashkey.Hashkey.{Hashkey}
 use Rattle.wallet_journal.specs.Device.{Write, IsStill, slice}
-use Rattle.wallet_journal.specs.Layout.{is_made, id_in, party_in, recorded}
-use Rattle.wallet_journal.specs.Journal.{KeepsRecorded, IsKeptOn, IsUnused, signed_at}
-use Rattle.wallet_journal.specs.Opening.{is_damaged_contents, IsLeastDamaged, IsOf, IsFit, IsUnfit, IsOpenFault, IsOpened}
+use Rattle.wallet_journal.specs.Layout.{is_made, journal_deal_id, journal_party, recorded}
+use Rattle.wallet_journal.specs.Journal.{KeepsRecorded, IsKeptJournal, IsUnused, listed_hashkey}
+use Rattle.wallet_journal.specs.Opening.{is_damaged_contents, IsLeastDamaged, IsPartyJournal, IsFit, IsUnfit, IsOpenFault, IsOpened}
 use Rattle.wallet_journal.specs.Own.{IsOwn, IsInOpening}
 use Rattle.wallet_journal.specs.declared.fault.Unopened.{Unopened}
 use Rattle.wallet_journal.specs.declared.fault.Unopened.TheVariants.{DiskFault, Foreign, Damaged, NoMemory}
@@ -17,14 +17,14 @@ use Rattle.wallet_journal.proofs.Head.{byte_in}
 use Rattle.wallet_journal.proofs.Crash.{unmade, undamaged}
 use Rattle.wallet_journal.proofs.Locks.{shown_of, shown_length}
 
-pub unfit : (d : Deal) (me : ℕ) (bytes : List ℕ) (e : Unopened) → IsOf d me bytes → IsLeastDamaged (path_limit d) d.graph.n bytes (length d.leaders) e
+pub unfit : (d : Deal) (me : ℕ) (bytes : List ℕ) (e : Unopened) → IsPartyJournal d me bytes → IsLeastDamaged (path_limit d) d.graph.n bytes (length d.leaders) e
     → IsUnfit d me bytes e
 unfit d me bytes DiskFault own h = h
 unfit d me bytes NoMemory own h = tt
 unfit d me bytes Foreign own h = absurd h
 unfit d me bytes (Damaged j) own h = (own, h.0, h.1, h.2)
 
-pub fit_of : (d : Deal) (me : ℕ) (b bytes : List ℕ) → b ≡ bytes → IsOf d me bytes → ((i : ℕ) → i < length d.leaders → is_damaged_contents d b i ≡ false)
+pub fit_of : (d : Deal) (me : ℕ) (b bytes : List ℕ) → b ≡ bytes → IsPartyJournal d me bytes → ((i : ℕ) → i < length d.leaders → is_damaged_contents d b i ≡ false)
     → IsFit d me bytes
 fit_of d me b bytes is own sound = record { own = own; sound = λ i lt. ap (λ (c : List ℕ). is_damaged_contents d c i) (sym is) ∙ sound i lt }
 
@@ -37,7 +37,7 @@ unfit_fault d me bytes before now (Damaged j) made h = (made, h)
 
 -- a body's fault, of bytes that were read
 pub damage_fault : {T : Type 0} (d : Deal) (me : ℕ) (b bytes : List ℕ) (before now : ℕ) (r : Result T Unopened) → b ≡ bytes → is_made bytes ≡ true
-    → IsOf d me bytes
+    → IsPartyJournal d me bytes
     → IfErr r (IsLeastDamaged (path_limit d) d.graph.n b (length d.leaders)) → IfErr r (IsOpenFault d me bytes before now)
 damage_fault d me b bytes before now (Ok x) is made own h = tt
 damage_fault d me b bytes before now (Err e) is made own h =
@@ -47,7 +47,7 @@ damage_fault d me b bytes before now (Err e) is made own h =
 -- a journal that was found
 pub found_kept : (d : Deal) (me : ℕ) (bytes : List ℕ) (may_leave : List ℕ → Type 0) (loose : List Write) (s : List (Option Hashkey))
     → IsStill bytes may_leave loose → is_made bytes ≡ true → IsFit d me bytes
-    → length d.leaders ≤ 8 → s ≡ map (recorded bytes) (range_with_len 0 (length d.leaders)) → IsKeptOn bytes may_leave loose d.id me s
+    → length d.leaders ≤ 8 → s ≡ map (recorded bytes) (range_with_len 0 (length d.leaders)) → IsKeptJournal bytes may_leave loose d.id me s
 found_kept d me bytes may_leave loose s still made fit few is =
     let n = length d.leaders in
     let long : length s ≡ n = ap length is ∙ shown_length bytes n in
@@ -56,7 +56,7 @@ found_kept d me bytes may_leave loose s still made fit few is =
       made = made;
       id_there = fit.own.0;
       party_there = fit.own.1;
-      shown = λ i lt. ap (λ (l : List (Option Hashkey)). signed_at l i) is ∙ shown_of bytes n i (omega (arith, lt, long));
+      shown = λ i lt. ap (λ (l : List (Option Hashkey)). listed_hashkey l i) is ∙ shown_of bytes n i (omega (arith, lt, long));
       few = omega (arith, long, few);
     }
 
@@ -68,7 +68,7 @@ found_opened d me bytes s fit is =
     record {
       fit = λ made. fit;
       locks = long;
-      shown = λ i lt. ap (λ (l : List (Option Hashkey)). signed_at l i) is ∙ shown_of bytes n i (omega (arith, lt, long));
+      shown = λ i lt. ap (λ (l : List (Option Hashkey)). listed_hashkey l i) is ∙ shown_of bytes n i (omega (arith, lt, long));
     }
 
 -- what a head says is what the disk says
@@ -76,16 +76,16 @@ module _ (bytes head : List ℕ) (is : head ≡ slice 0 42 bytes) where
   pub head_made : is_made head ≡ is_made bytes
   head_made = ap is_made is ∙ ap (λ (b : ℕ). b == 1) (sym (byte_in bytes 0 42 0 (omega arith)))
 
-  pub head_id : id_in head ≡ id_in bytes
-  head_id = ap id_in is ∙ front 1 32 42 bytes (omega arith)
+  pub head_id : journal_deal_id head ≡ journal_deal_id bytes
+  head_id = ap journal_deal_id is ∙ front 1 32 42 bytes (omega arith)
 
-  pub head_party : party_in head ≡ party_in bytes
-  head_party = ap party_in is ∙ sym (byte_in bytes 0 42 33 (omega arith))
+  pub head_party : journal_party head ≡ journal_party bytes
+  head_party = ap journal_party is ∙ sym (byte_in bytes 0 42 33 (omega arith))
 
-  pub head_of_deal : (d : Deal) (me : ℕ) → IsOf d me head → IsOf d me bytes
+  pub head_of_deal : (d : Deal) (me : ℕ) → IsPartyJournal d me head → IsPartyJournal d me bytes
   head_of_deal d me own = (sym head_id ∙ own.0, sym head_party ∙ own.1)
 
-  pub head_foreign : (d : Deal) (me : ℕ) → ¬ IsOf d me head → ¬ IsOf d me bytes
+  pub head_foreign : (d : Deal) (me : ℕ) → ¬ IsPartyJournal d me head → ¬ IsPartyJournal d me bytes
   head_foreign d me no_head own = no_head (head_id ∙ own.0, head_party ∙ own.1)
 
 -- where nothing was recorded, all that was is kept

@@ -5,9 +5,9 @@ use Rattle.std.proofs.Common.{ap, ◌∙◌, subst, arith}
 use Rattle.std.proofs.lemmas.Bool.{false≢true}
 use Rattle.swap_digraph.specs.declared.deal.Deal.{Deal}
 use Rattle.hashkey_path.specs.declared.hashkey.Hashkey.{Hashkey}
-use Rattle.wallet_journal.specs.Layout.{is_made, is_open, is_bad, body, fetch_key, recorded}
+use Rattle.wallet_journal.specs.Layout.{is_made, is_open, is_bad, body, body_hashkey, recorded}
 use Rattle.swap_digraph.specs.Deal.{path_limit}
-use Rattle.wallet_journal.specs.Journal.{signed_at}
+use Rattle.wallet_journal.specs.Journal.{listed_hashkey}
 use Rattle.wallet_journal.specs.Held.{disk_size, no_bytes}
 use Rattle.wallet_journal.specs.Own.{IsOwn}
 
@@ -20,7 +20,7 @@ none_made : is_made no_bytes ≡ false
 none_made = ap (λ (b : ℕ). b == 1) (all_zero disk_size 0)
 
 pub none_recorded : (i : ℕ) → recorded no_bytes i ≡ None
-none_recorded i = ap (λ (b : Bool). cond (b && is_open no_bytes i) (Some (fetch_key i (body i no_bytes))) None) none_made
+none_recorded i = ap (λ (b : Bool). cond (b && is_open no_bytes i) (Some (body_hashkey i (body i no_bytes))) None) none_made
 
 pub none_own : (d : Deal) (me : ℕ) (c : List ℕ) → c ≡ no_bytes → IsOwn d me c
 none_own d me c is = subst (IsOwn d me) (sym is) (record {
@@ -29,7 +29,7 @@ none_own d me c is = subst (IsOwn d me) (sym is) (record {
 })
 
 -- where nothing is recorded at any lock, the list has nothing
-pub none_signed : (signed : List (Option Hashkey)) (n : ℕ) → length signed ≡ n → ((i : ℕ) → i < length signed → signed_at signed i ≡ None)
+pub none_signed : (signed : List (Option Hashkey)) (n : ℕ) → length signed ≡ n → ((i : ℕ) → i < length signed → listed_hashkey signed i ≡ None)
     → signed ≡ replicate n None
 none_signed [] n l none = ap (λ (m : ℕ). replicate m None) l
 none_signed (x ∷ xs) zero l none = absurd (cc l)

@@ -3,7 +3,7 @@ use Rattle.std.proofs.Common.{◌≡◌, ℕ, suc, ◌+◌, ◌-◌, ◌++◌, s
 use Rattle.std.proofs.Common.{take, drop, get_or, None, sym, ◌∙◌, ap, arith}
 use Rattle.std.proofs.lemmas.List.{take-take, get_or-take, get_or-drop, set_at, take_at, get_or_at, get_or-append_right, get_or-replicate}
 use Rattle.wallet_journal.specs.Device.{slice, written, Torn}
-use Rattle.wallet_journal.specs.Layout.{byte, is_made, id_in, party_in, gate_at, recorded}
+use Rattle.wallet_journal.specs.Layout.{byte, is_made, journal_deal_id, journal_party, gate_position, recorded}
 use Rattle.wallet_journal.specs.Journal.{IsUnused, IsNew, IsHead}
 use Rattle.wallet_journal.proofs.Bytes.{slice_after, byte_before, byte_after, slice_written, drop_written, written_torn}
 use Rattle.wallet_journal.proofs.Crash.{unmade, shut}
@@ -34,26 +34,26 @@ module _ (old head id : List ℕ) (me : ℕ) (sized : length old ≡ 549426) (no
   head_there : slice 1 41 mid ≡ head
   head_there = ap (λ (n : ℕ). slice 1 n mid) (sym is_head.size) ∙ slice_written old 1 head fits
 
-  mid_id : id_in mid ≡ id
+  mid_id : journal_deal_id mid ≡ id
   mid_id = sym (take-take 32 41 (drop 1 mid) (omega arith)) ∙ ap (λ (l : List ℕ). take 32 l) head_there ∙ is_head.id_first
 
-  mid_party : party_in mid ≡ me
+  mid_party : journal_party mid ≡ me
   mid_party = byte_in mid 1 41 32 (omega arith) ∙ ap (λ (l : List ℕ). get_or l 32 0) head_there ∙ is_head.then_party
 
-  mid_gate : (i : ℕ) → i < 8 → byte mid (gate_at i) ≡ 0
+  mid_gate : (i : ℕ) → i < 8 → byte mid (gate_position i) ≡ 0
   mid_gate i lt =
-      let place : gate_at i ≡ 1 + (33 + i) = omega arith in
+      let place : gate_position i ≡ 1 + (33 + i) = omega arith in
       ap (byte mid) place ∙ byte_in mid 1 41 (33 + i) (omega (arith, lt)) ∙ ap (λ (l : List ℕ). get_or l (33 + i) 0) head_there ∙ is_head.gates i lt
 
   module _ (c : List ℕ) (torn : Torn 0 1 mid c) where
-    same_id : id_in c ≡ id
+    same_id : journal_deal_id c ≡ id
     same_id = slice_after 0 1 mid c torn 1 32 (omega arith) ∙ mid_id
 
-    same_party : party_in c ≡ me
+    same_party : journal_party c ≡ me
     same_party = byte_after 0 1 mid c torn 33 (omega arith) ∙ mid_party
 
     closed : (i : ℕ) → i < 8 → recorded c i ≡ None
-    closed i lt = shut c i (ap (λ (b : ℕ). b == 1) (byte_after 0 1 mid c torn (gate_at i) (omega arith) ∙ mid_gate i lt))
+    closed i lt = shut c i (ap (λ (b : ℕ). b == 1) (byte_after 0 1 mid c torn (gate_position i) (omega arith) ∙ mid_gate i lt))
 
     -- a crash in the second
     pub second_write : IsUnused id me c

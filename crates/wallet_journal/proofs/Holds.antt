@@ -4,7 +4,7 @@ use Rattle.std.proofs.Common.{refl, sym, ◌∙◌, ap, subst, arith}
 use Rattle.std.specs.List.{AllByRecursion}
 use Rattle.std.proofs.lemmas.List.{length-replicate}
 use Rattle.wallet_journal.specs.Device.{Write, written, Torn, Elapses}
-use Rattle.wallet_journal.specs.Held.{Held, disk_size, no_bytes, after_writes, synced_bytes, read_bytes, MayBeLeft, Leaves, IsOnDisk, AreOnDisk}
+use Rattle.wallet_journal.specs.Held.{Held, disk_size, no_bytes, after_writes, synced_bytes, visible_bytes, MayBeLeft, Leaves, IsOnDisk, AreOnDisk}
 use Rattle.wallet_journal.specs.Memory.{with_write, settled, filled, crashed}
 use Rattle.wallet_journal.proofs.Bytes.{written_torn}
 use Rattle.wallet_journal.proofs.Writes.{after_push, after_both, left_push}
@@ -32,10 +32,10 @@ pub both_on : (ws vs : List Write) → AllByRecursion IsOnDisk ws → AllByRecur
 both_on [] vs all more = more
 both_on (w ∷ ws) vs all more = (all.0, both_on ws vs all.1 more)
 
-pub sized : (h : Held) → AreOnDisk h → length (read_bytes h) ≡ 549426
+pub sized : (h : Held) → AreOnDisk h → length (visible_bytes h) ≡ 549426
 sized h on = writes_size (synced_bytes h) h.loose (writes_size no_bytes h.synced none_size on.0) on.1
 
-pub among : (h : Held) → AreOnDisk h → Leaves h (read_bytes h)
+pub among : (h : Held) → AreOnDisk h → Leaves h (visible_bytes h)
 among h on = left_among (synced_bytes h) h.loose (writes_size no_bytes h.synced none_size on.0) on.1
 
 module _ (h h' : Held) where
@@ -49,18 +49,18 @@ module _ (h h' : Held) where
     pub append_items : AreOnDisk h → at + length bytes ≤ 549426 → AreOnDisk h'
     append_items on range = subst AreOnDisk (sym is) (on.0, both_on h.loose (record { at = at; bytes = bytes } ∷ []) on.1 (range, tt))
 
-    pub put_written : read_bytes h' ≡ written (read_bytes h) at bytes
-    put_written = ap read_bytes is ∙ after_push (synced_bytes h) h.loose (record { at = at; bytes = bytes })
+    pub put_written : visible_bytes h' ≡ written (visible_bytes h) at bytes
+    put_written = ap visible_bytes is ∙ after_push (synced_bytes h) h.loose (record { at = at; bytes = bytes })
 
     pub put_left : (c : List ℕ) → Leaves h' c → (x : List ℕ) × Leaves h x × Torn at (length bytes) x c
     put_left c left = left_push (synced_bytes h) h.loose (record { at = at; bytes = bytes }) c (subst (λ (g : Held). Leaves g c) is left)
 
   -- after a sync
   module _ (is : h' ≡ settled h) where
-    pub settled_bytes : read_bytes h' ≡ read_bytes h
-    settled_bytes = ap read_bytes is ∙ after_both no_bytes h.synced h.loose
+    pub settled_bytes : visible_bytes h' ≡ visible_bytes h
+    settled_bytes = ap visible_bytes is ∙ after_both no_bytes h.synced h.loose
 
-    pub settled_only : (c : List ℕ) → Leaves h' c → c ≡ read_bytes h
+    pub settled_only : (c : List ℕ) → Leaves h' c → c ≡ visible_bytes h
     settled_only c left = subst (λ (g : Held). Leaves g c) is left ∙ after_both no_bytes h.synced h.loose
 
     pub settled_left : AreOnDisk h → (c : List ℕ) → Leaves h' c → Leaves h c
@@ -94,7 +94,7 @@ filled_on v [] all = tt
 filled_on v (w ∷ ws) all = (omega (arith, length-replicate (length w.bytes) v, all.0), filled_on v ws all.1)
 
 -- what it leaves is one of what it may
-pub crash_left : (image : ℕ) (h : Held) → AreOnDisk h → Leaves h (read_bytes (crashed image h))
+pub crash_left : (image : ℕ) (h : Held) → AreOnDisk h → Leaves h (visible_bytes (crashed image h))
 crash_left zero h on = unchanged (synced_bytes h) h.loose
 crash_left (suc zero) h on = subst (Leaves h) (sym (after_both no_bytes h.synced h.loose)) (among h on)
 crash_left (suc (suc n)) h on =

@@ -7,8 +7,8 @@ use Rattle.std.proofs.lemmas.List.{get_or-take, get_or-drop, get_or_append_left,
 use Rattle.std.proofs.lemmas.List.{take-append-drop, take_all}
 use Rattle.wallet_journal.specs.Device.{Write, slice, written, Torn}
 use Rattle.wallet_journal.specs.Layout.{byte}
-use Rattle.wallet_journal.specs.Held.{disk_size, no_bytes, after_writes, read_bytes, IsOnDisk}
-use Rattle.wallet_journal.specs.Memory.{writes_in, total}
+use Rattle.wallet_journal.specs.Held.{disk_size, no_bytes, after_writes, visible_bytes, IsOnDisk}
+use Rattle.wallet_journal.specs.Memory.{span_writes, total}
 use Rattle.wallet_journal.specs.declared.contents.Span.{Span}
 use Rattle.wallet_journal.proofs.Bytes.{byte_before, byte_after, drop_written, written_torn}
 use Rattle.wallet_journal.proofs.Writes.{after_push, after_both, length-writes, shown}
@@ -30,7 +30,8 @@ written_in old bytes at p fits le lt =
     ∙ ap (λ (l : List ℕ). get_or l (p - at) 0) (drop_written old at bytes fits)
     ∙ get_or_append_left bytes (drop (at + length bytes) old) 0 (p - at) (omega (arith, le, lt))
 
--- a list that has the bytes of a write where it reaches, and else those from before, is the slice after the write
+-- a list that has the bytes of a write where it reaches, and else those from before, is the slice
+-- after the write
 overlaid : (new old bytes : List ℕ) (at n place : ℕ) → length new ≡ n → at + n ≤ length old → place + length bytes ≤ length old
     → ((i : ℕ) → i < n → at + i < place → byte new i ≡ byte old (at + i))
     → ((i : ℕ) → i < n → place ≤ at + i → at + i < place + length bytes → byte new i ≡ byte bytes (at + i - place))
@@ -107,7 +108,7 @@ cleared at n buf le is = is ∙ sym (zeros at n disk_size (omega (arith, le, siz
 
 -- the write of a span, in the list of all
 write_of : (bytes : List ℕ) (spans : List Span) (i : ℕ) (s : Span) (d : Write) → i < length spans → s ≡ get_or spans i s
-    → get_or (writes_in bytes spans) i d ≡ record { at = s.at; bytes = take s.len (drop (total (take i spans)) bytes) }
+    → get_or (span_writes bytes spans) i d ≡ record { at = s.at; bytes = take s.len (drop (total (take i spans)) bytes) }
 write_of bytes [] i s d lt is = absurd (omega (arith, lt))
 write_of bytes (t ∷ spans) zero s d lt is = ap (λ (x : Span). record { at = x.at; bytes = take x.len bytes }) (sym is)
 write_of bytes (t ∷ spans) (suc i) s d lt is =
@@ -143,50 +144,50 @@ on_at zero (v ∷ ws) w lt is all = subst IsOnDisk (sym is) all.0
 on_at (suc i) (v ∷ ws) w lt is all = on_at i ws w (omega (arith, lt)) is all.1
 
 module _ (bytes : List ℕ) (spans : List Span) (i start : ℕ) (s : Span) (lt : i < length spans) (is : s ≡ get_or spans i s)
-    (at : start ≡ total (take i spans)) (all : AllByRecursion IsOnDisk (writes_in bytes spans)) where
+    (at : start ≡ total (take i spans)) (all : AllByRecursion IsOnDisk (span_writes bytes spans)) where
   abbrev part : List ℕ
   part = take s.len (drop start bytes)
 
-  write_is : record { at = s.at; bytes = take s.len (drop start bytes) } ≡ get_or (writes_in bytes spans) i
+  write_is : record { at = s.at; bytes = take s.len (drop start bytes) } ≡ get_or (span_writes bytes spans) i
       (record { at = s.at; bytes = take s.len (drop start bytes) })
   write_is =
       ap (λ (n : ℕ). record { at = s.at; bytes = take s.len (drop n bytes) }) at
       ∙ sym (write_of bytes spans i s (record { at = s.at; bytes = take s.len (drop start bytes) }) lt is)
 
-  longer : i < length (writes_in bytes spans)
+  longer : i < length (span_writes bytes spans)
   longer = omega (arith, lt, length-writes bytes spans)
 
   pub span_on : s.at + length (take s.len (drop start bytes)) ≤ 549426
-  span_on = on_at i (writes_in bytes spans) (record { at = s.at; bytes = take s.len (drop start bytes) }) longer write_is all
+  span_on = on_at i (span_writes bytes spans) (record { at = s.at; bytes = take s.len (drop start bytes) }) longer write_is all
 
   -- the writes up to this one
-  pub writes_more : after_writes no_bytes (take (i + 1) (writes_in bytes spans)) ≡ written (after_writes no_bytes (take i (writes_in bytes spans))) s.at
+  pub writes_more : after_writes no_bytes (take (i + 1) (span_writes bytes spans)) ≡ written (after_writes no_bytes (take i (span_writes bytes spans))) s.at
       (take s.len (drop start bytes))
   writes_more =
-      ap (after_writes no_bytes) (take_more (writes_in bytes spans) i (record { at = s.at; bytes = take s.len (drop start bytes) }) longer
-      ∙ ap (λ (w : Write). take i (writes_in bytes spans) ++ w ∷ []) (sym write_is))
-      ∙ after_push no_bytes (take i (writes_in bytes spans)) (record { at = s.at; bytes = take s.len (drop start bytes) })
+      ap (after_writes no_bytes) (take_more (span_writes bytes spans) i (record { at = s.at; bytes = take s.len (drop start bytes) }) longer
+      ∙ ap (λ (w : Write). take i (span_writes bytes spans) ++ w ∷ []) (sym write_is))
+      ∙ after_push no_bytes (take i (span_writes bytes spans)) (record { at = s.at; bytes = take s.len (drop start bytes) })
 
-  pub so_far_size : length (after_writes no_bytes (take i (writes_in bytes spans))) ≡ 549426
-  so_far_size = writes_size no_bytes (take i (writes_in bytes spans)) none_size (on_front i (writes_in bytes spans) all)
+  pub so_far_size : length (after_writes no_bytes (take i (span_writes bytes spans))) ≡ 549426
+  so_far_size = writes_size no_bytes (take i (span_writes bytes spans)) none_size (on_front i (span_writes bytes spans) all)
 
   pub start_more : start + s.len ≡ total (take (i + 1) spans)
   start_more = omega (arith, at, total_more spans i s lt is)
 
 pub all_read : (bytes : List ℕ) (spans : List Span) (i : ℕ) → length spans ≤ i
-    → after_writes no_bytes (take i (writes_in bytes spans)) ≡ after_writes no_bytes (writes_in bytes spans)
-all_read bytes spans i le = ap (after_writes no_bytes) (take_all i (writes_in bytes spans) (omega (arith, le, length-writes bytes spans)))
+    → after_writes no_bytes (take i (span_writes bytes spans)) ≡ after_writes no_bytes (span_writes bytes spans)
+all_read bytes spans i le = ap (after_writes no_bytes) (take_all i (span_writes bytes spans) (omega (arith, le, length-writes bytes spans)))
 
 -- all writes, synced and loose
 pub read_whole : (bytes : List ℕ) (spans : List Span) (synced spare : ℕ)
-    → after_writes no_bytes (writes_in bytes spans) ≡ read_bytes (shown bytes spans synced spare)
+    → after_writes no_bytes (span_writes bytes spans) ≡ visible_bytes (shown bytes spans synced spare)
 read_whole bytes spans synced spare =
-    ap (after_writes no_bytes) (sym (take-append-drop synced (writes_in bytes spans)))
-    ∙ after_both no_bytes (take synced (writes_in bytes spans)) (drop synced (writes_in bytes spans))
+    ap (after_writes no_bytes) (sym (take-append-drop synced (span_writes bytes spans)))
+    ∙ after_both no_bytes (take synced (span_writes bytes spans)) (drop synced (span_writes bytes spans))
 
-pub on_whole : (bytes : List ℕ) (spans : List Span) (synced : ℕ) → AllByRecursion IsOnDisk (take synced (writes_in bytes spans))
-    → AllByRecursion IsOnDisk (drop synced (writes_in bytes spans))
-    → AllByRecursion IsOnDisk (writes_in bytes spans)
+pub on_whole : (bytes : List ℕ) (spans : List Span) (synced : ℕ) → AllByRecursion IsOnDisk (take synced (span_writes bytes spans))
+    → AllByRecursion IsOnDisk (drop synced (span_writes bytes spans))
+    → AllByRecursion IsOnDisk (span_writes bytes spans)
 on_whole bytes spans synced front back =
-    subst (AllByRecursion IsOnDisk) (take-append-drop synced (writes_in bytes spans))
-    (both_on (take synced (writes_in bytes spans)) (drop synced (writes_in bytes spans)) front back)
+    subst (AllByRecursion IsOnDisk) (take-append-drop synced (span_writes bytes spans))
+    (both_on (take synced (span_writes bytes spans)) (drop synced (span_writes bytes spans)) front back)

@@ -1,5 +1,6 @@
--- A record that is stopped within one of its four calls of a disk in memory, which then crashes: the hashkey is recorded exactly where the gate was
--- written and what isn't synced holds its new bytes.
+-- A record that is stopped within one of its four calls of a disk in memory, which then crashes:
+-- the hashkey is recorded exactly where the gate was written and what isn't synced holds its new
+-- bytes.
 use Rattle.std.proofs.Common.{◌≡◌, ℕ, zero, suc, ◌+◌, ◌≤◌, ◌<◌, Bool, true, false, cond, ◌==◌, ◌&&◌, nat_le, List, [], ◌∷◌}
 use Rattle.std.proofs.Common.{◌++◌, length, get_or, Some, None, refl, sym, ◌∙◌, ap, arith}
 use Rattle.std.specs.Prelude.{Result, Ok, Err, IfErr}
@@ -8,10 +9,10 @@ use Rattle.std.proofs.lemmas.List.{get_or-drop}
 use Rattle.std.proofs.lemmas.Bool.Decides.{nat_tests}
 use Rattle.hashkey_path.specs.declared.hashkey.Hashkey.{Hashkey}
 use Rattle.wallet_journal.specs.Device.{Write, written}
-use Rattle.wallet_journal.specs.Layout.{byte, is_made, recorded, gate_at, body_position, encoded_body, IsTold}
-use Rattle.wallet_journal.specs.Held.{Held, no_bytes, after_writes, read_bytes, IsOnDisk}
+use Rattle.wallet_journal.specs.Layout.{byte, is_made, recorded, gate_position, body_position, encoded_body, IsTold}
+use Rattle.wallet_journal.specs.Held.{Held, no_bytes, after_writes, visible_bytes, IsOnDisk}
 use Rattle.wallet_journal.specs.Memory.{crashed}
-use Rattle.wallet_journal.specs.Recording.{body_write, gate_write, IsStoppedAt}
+use Rattle.wallet_journal.specs.Recording.{body_write, gate_write, IsStoppedRecording}
 use Rattle.wallet_journal.specs.Stopped.{bytes_left, is_kept, kept_key, IsOfWrites}
 use Rattle.wallet_journal.proofs.Bytes.{drop_written, written_torn}
 use Rattle.wallet_journal.proofs.Tells.{body_size}
@@ -38,7 +39,7 @@ module _ (k : Hashkey) (ws : List Write) (spare : ℕ) (on : AllByRecursion IsOn
   fits : body_position k.lock + length (encoded_body k) ≤ 549426
   fits = omega (arith, body_size k paired told, few, lt)
 
-  pub early_none : (image : ℕ) → recorded (read_bytes (crashed image early)) k.lock ≡ None
+  pub early_none : (image : ℕ) → recorded (visible_bytes (crashed image early)) k.lock ≡ None
   early_none image =
       let left = crash_left image early (on, (fits, tt)) in
       let small : length (encoded_body k) ≤ 68673 = omega (arith, body_size k paired told, few) in
@@ -61,28 +62,28 @@ module _ (k : Hashkey) (ws : List Write) (spare : ℕ) (on : AllByRecursion IsOn
       (arith, fits, sized))) none k.lock lt
       ∙ none
 
-  pub late_one : recorded (read_bytes (crashed 1 late)) k.lock ≡ Some k
+  pub late_one : recorded (visible_bytes (crashed 1 late)) k.lock ≡ Some k
   late_one =
       ap (λ (c : List ℕ). recorded c k.lock) (after_push no_bytes (ws ++ body_write k ∷ []) (gate_write k)
-      ∙ ap (λ (b : List ℕ). written b (gate_at k.lock) (1 ∷ [])) is_staged)
+      ∙ ap (λ (b : List ℕ). written b (gate_position k.lock) (1 ∷ [])) is_staged)
       ∙ (stored k old sized made lt none few paired told).here
 
-  pub late_zero : recorded (read_bytes (crashed 0 late)) k.lock ≡ None
+  pub late_zero : recorded (visible_bytes (crashed 0 late)) k.lock ≡ None
   late_zero = ap (λ (c : List ℕ). recorded c k.lock) is_staged ∙ staged_none
 
-  pub late_other : (n : ℕ) → recorded (read_bytes (crashed (suc (suc n)) late)) k.lock ≡ None
+  pub late_other : (n : ℕ) → recorded (visible_bytes (crashed (suc (suc n)) late)) k.lock ≡ None
   late_other n =
       let image = suc (suc n) in
-      let end = written staged (gate_at k.lock) (suc (suc n) ∷ []) in
+      let end = written staged (gate_position k.lock) (suc (suc n) ∷ []) in
       let closed : (suc (suc n) == 1) ≡ false = grind (arith, nat_tests) in
-      let room : gate_at k.lock + 1 ≤ length staged = omega (arith, staged_size, lt) in
-      let gate : byte (written staged (gate_at k.lock) (suc (suc n) ∷ [])) (gate_at k.lock) ≡ suc (suc n) =
-      sym (get_or-drop (gate_at k.lock) (written staged (gate_at k.lock) (suc (suc n) ∷ [])) 0 0
-      ∙ ap (λ (m : ℕ). get_or (written staged (gate_at k.lock) (suc (suc n) ∷ [])) m 0) (omega arith))
-      ∙ ap (λ (l : List ℕ). get_or l 0 0) (drop_written staged (gate_at k.lock) (suc (suc n) ∷ []) room) in
-      ap (λ (c : List ℕ). recorded c k.lock) (after_push no_bytes (ws ++ body_write k ∷ []) (record { at = gate_at k.lock; bytes = suc (suc n) ∷ [] })
-      ∙ ap (λ (b : List ℕ). written b (gate_at k.lock) (suc (suc n) ∷ [])) is_staged)
-      ∙ shut (written staged (gate_at k.lock) (suc (suc n) ∷ [])) k.lock (ap (λ (b : ℕ). b == 1) gate ∙ closed)
+      let room : gate_position k.lock + 1 ≤ length staged = omega (arith, staged_size, lt) in
+      let gate : byte (written staged (gate_position k.lock) (suc (suc n) ∷ [])) (gate_position k.lock) ≡ suc (suc n) =
+      sym (get_or-drop (gate_position k.lock) (written staged (gate_position k.lock) (suc (suc n) ∷ [])) 0 0
+      ∙ ap (λ (m : ℕ). get_or (written staged (gate_position k.lock) (suc (suc n) ∷ [])) m 0) (omega arith))
+      ∙ ap (λ (l : List ℕ). get_or l 0 0) (drop_written staged (gate_position k.lock) (suc (suc n) ∷ []) room) in
+      ap (λ (c : List ℕ). recorded c k.lock) (after_push no_bytes (ws ++ body_write k ∷ []) (record { at = gate_position k.lock; bytes = suc (suc n) ∷ [] })
+      ∙ ap (λ (b : List ℕ). written b (gate_position k.lock) (suc (suc n) ∷ [])) is_staged)
+      ∙ shut (written staged (gate_position k.lock) (suc (suc n) ∷ [])) k.lock (ap (λ (b : ℕ). b == 1) gate ∙ closed)
 
 and_false : (b : Bool) → (b && false) ≡ false
 and_false true = refl
@@ -119,7 +120,7 @@ module _ (k : Hashkey) (ws : List Write) (bytes : List ℕ) (of : IsOfWrites byt
       late_other k ws 0 of.on made_of lt none_of few paired told image
       ∙ sym (ap (λ (b : Bool). cond b (Some k) None) (ap (λ (b : Bool). nat_le 2 (suc (suc n)) && b) closed ∙ and_false (nat_le 2 (suc (suc n)))))
 
-  pub left_as : (n image : ℕ) (ws' loose' : List Write) → IsStoppedAt n k ws ws' loose' → recorded (bytes_left image ws' loose') k.lock ≡ kept_key k n image
+  pub left_as : (n image : ℕ) (ws' loose' : List Write) → IsStoppedRecording n k ws ws' loose' → recorded (bytes_left image ws' loose') k.lock ≡ kept_key k n image
   left_as zero image ws' loose' h = at_first 0 image ws' loose' refl h.0 h.1
   left_as (suc zero) image ws' loose' h = at_first 1 image ws' loose' refl h.0 h.1
   left_as (suc (suc n)) image ws' loose' h = (λ i. recorded (bytes_left image (h.0 i) (h.1 i)) k.lock) ∙ at_last image n

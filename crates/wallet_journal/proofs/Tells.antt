@@ -9,26 +9,26 @@ use Rattle.hash_signature.specs.declared.sig.Sig.{Sig}
 use Rattle.hash_signature.specs.Signature.{text_values}
 use Rattle.hashkey_path.specs.declared.hashkey.Hashkey.{Hashkey}
 use Rattle.wallet_journal.specs.Device.{slice}
-use Rattle.wallet_journal.specs.Layout.{sigs_in, fetch_key, encoded_body, IsWholeSig, IsTold}
+use Rattle.wallet_journal.specs.Layout.{body_signatures, body_hashkey, encoded_body, IsWholeSig, IsTold}
 
 -- one more signature at the end
-pub sigs_more : (j : ℕ) (bytes : List ℕ) → sigs_in (j + 1) bytes ≡ sigs_in j bytes ++ text_values (take 2144 (drop (2144 * j) bytes)) ∷ []
+pub sigs_more : (j : ℕ) (bytes : List ℕ) → body_signatures (j + 1) bytes ≡ body_signatures j bytes ++ text_values (take 2144 (drop (2144 * j) bytes)) ∷ []
 sigs_more zero bytes = refl
 sigs_more (suc j) bytes =
     let n : suc j + 1 ≡ suc (j + 1) = omega arith in
     let at : 2144 + 2144 * j ≡ 2144 * suc j = omega arith in
-    ap (λ (m : ℕ). sigs_in m bytes) n
+    ap (λ (m : ℕ). body_signatures m bytes) n
     ∙ ap (λ (l : List Sig). text_values (take 2144 bytes) ∷ l) (sigs_more j (drop 2144 bytes))
-    ∙ ap (λ (l : List ℕ). text_values (take 2144 bytes) ∷ (sigs_in j (drop 2144 bytes) ++ text_values (take 2144 l) ∷ []))
+    ∙ ap (λ (l : List ℕ). text_values (take 2144 bytes) ∷ (body_signatures j (drop 2144 bytes) ++ text_values (take 2144 l) ∷ []))
     (drop-drop (2144 * j) 2144 bytes ∙ ap (λ (m : ℕ). drop m bytes) at)
 
 -- bytes of signatures tell them, whatever follows
-told_sigs : (sigs : List Sig) (rest : List ℕ) → AllByRecursion IsWholeSig sigs → sigs_in (length sigs) (flat_map joined sigs ++ rest) ≡ sigs
+told_sigs : (sigs : List Sig) (rest : List ℕ) → AllByRecursion IsWholeSig sigs → body_signatures (length sigs) (flat_map joined sigs ++ rest) ≡ sigs
 told_sigs [] rest all = refl
 told_sigs (s ∷ sigs) rest all =
     let parts : flat_map joined (s ∷ sigs) ++ rest ≡ joined s ++ (flat_map joined sigs ++ rest) = append_assoc (joined s) (flat_map joined sigs) rest in
-    ap (λ (l : List ℕ). text_values (take 2144 l) ∷ sigs_in (length sigs) (drop 2144 l)) parts
-    ∙ (λ i. text_values (take_at (joined s) (flat_map joined sigs ++ rest) 2144 all.0.bytes i) ∷ sigs_in (length sigs)
+    ap (λ (l : List ℕ). text_values (take 2144 l) ∷ body_signatures (length sigs) (drop 2144 l)) parts
+    ∙ (λ i. text_values (take_at (joined s) (flat_map joined sigs ++ rest) 2144 all.0.bytes i) ∷ body_signatures (length sigs)
     (drop_at (joined s) (flat_map joined sigs ++ rest) 2144 all.0.bytes i))
     ∙ (λ i. all.0.values i ∷ told_sigs sigs rest all.1 i)
 
@@ -71,19 +71,19 @@ module _ (k : Hashkey) (paired : length k.sigs ≡ length k.path) (told : IsTold
     pub path_is : slice 33 (length k.path) (length k.path ∷ (k.secret ++ (k.path ++ (flat_map joined k.sigs ++ rest)))) ≡ k.path
     path_is = ap (λ (l : List ℕ). take (length k.path) l) behind_secret ∙ take_at k.path (flat_map joined k.sigs ++ rest) (length k.path) refl
 
-    sigs_are : sigs_in (length k.path) (drop (33 + length k.path) (length k.path ∷ (k.secret ++ (k.path ++ (flat_map joined k.sigs ++ rest))))) ≡ k.sigs
+    sigs_are : body_signatures (length k.path) (drop (33 + length k.path) (length k.path ∷ (k.secret ++ (k.path ++ (flat_map joined k.sigs ++ rest))))) ≡ k.sigs
     sigs_are =
-        ap (λ (l : List ℕ). sigs_in (length k.path) l) (
+        ap (λ (l : List ℕ). body_signatures (length k.path) l) (
         sym (drop-drop (length k.path) 33 (length k.path ∷ (k.secret ++ (k.path ++ (flat_map joined k.sigs ++ rest)))))
         ∙ ap (λ (l : List ℕ). drop (length k.path) l) behind_secret
         ∙ drop_at k.path (flat_map joined k.sigs ++ rest) (length k.path) refl
         )
-        ∙ ap (λ (n : ℕ). sigs_in n (flat_map joined k.sigs ++ rest)) (sym paired)
+        ∙ ap (λ (n : ℕ). body_signatures n (flat_map joined k.sigs ++ rest)) (sym paired)
         ∙ told_sigs k.sigs rest whole
 
     -- a body tells its hashkey, whatever follows
-    pub round_trip : fetch_key i (encoded_body k ++ rest) ≡ k
-    round_trip = ap (fetch_key i) (parts rest) ∙ (λ j. record { lock = is_lock j; secret = secret_is j; path = path_is j; sigs = sigs_are j })
+    pub round_trip : body_hashkey i (encoded_body k ++ rest) ≡ k
+    round_trip = ap (body_hashkey i) (parts rest) ∙ (λ j. record { lock = is_lock j; secret = secret_is j; path = path_is j; sigs = sigs_are j })
 
 -- one more signature is put
 pub put_more : (old mid new bytes : List ℕ) (sigs : List Sig) (i : ℕ) (s : Sig) → i < length sigs → s ≡ get_or sigs i s

@@ -3,12 +3,12 @@ use Rattle.std.proofs.Common.{◌≡◌, ◌≢◌, ℕ, zero, suc, ◌+◌, ◌
 use Rattle.std.proofs.lemmas.List.{length-take-le, take-append-drop, take-take, take_all, drop_all, take-append-le, drop-append-le, length-drop}
 use Rattle.wallet_journal.specs.Device.{Write, written, Torn}
 use Rattle.wallet_journal.specs.Held.{Held, after_writes, MayBeLeft}
-use Rattle.wallet_journal.specs.Memory.{writes_in, total, with_write, settled, filled, left_of, crashed}
+use Rattle.wallet_journal.specs.Memory.{span_writes, total, with_write, settled, filled, crash_writes, crashed}
 use Rattle.wallet_journal.specs.declared.contents.Span.{Span}
 
 -- one span more, with its bytes behind all others
 pub writes_push : (bytes more : List ℕ) (spans : List Span) (s : Span) → total spans ≡ length bytes → s.len ≡ length more
-    → writes_in (bytes ++ more) (spans ++ s ∷ []) ≡ writes_in bytes spans ++ record { at = s.at; bytes = more } ∷ []
+    → span_writes (bytes ++ more) (spans ++ s ∷ []) ≡ span_writes bytes spans ++ record { at = s.at; bytes = more } ∷ []
 writes_push bytes more [] s all len =
     let none : bytes ≡ [] = empty bytes (omega (arith, all)) in
     ap (λ (l : List ℕ). record { at = s.at; bytes = take s.len (l ++ more) } ∷ []) none
@@ -19,7 +19,7 @@ writes_push bytes more [] s all len =
     empty (x ∷ xs) e = absurd (omega (arith, e))
 writes_push bytes more (t ∷ spans) s all len =
     let fits : t.len ≤ length bytes = omega (arith, all) in
-    (λ i. record { at = t.at; bytes = take-append-le t.len bytes more fits i } ∷ writes_in (drop-append-le t.len bytes more fits i) (spans ++ s ∷ []))
+    (λ i. record { at = t.at; bytes = take-append-le t.len bytes more fits i } ∷ span_writes (drop-append-le t.len bytes more fits i) (spans ++ s ∷ []))
     ∙ ap (λ (ws : List Write). record { at = t.at; bytes = take t.len bytes } ∷ ws)
     (writes_push (drop t.len bytes) more spans s (omega (arith, all, length-drop t.len bytes)) len)
 
@@ -27,7 +27,7 @@ pub total_push : (spans : List Span) (s : Span) → total (spans ++ s ∷ []) �
 total_push [] s = omega arith
 total_push (t ∷ spans) s = omega (arith, total_push spans s)
 
-pub length-writes : (bytes : List ℕ) (spans : List Span) → length (writes_in bytes spans) ≡ length spans
+pub length-writes : (bytes : List ℕ) (spans : List Span) → length (span_writes bytes spans) ≡ length spans
 length-writes bytes [] = refl
 length-writes bytes (s ∷ spans) = ap suc (length-writes (drop s.len bytes) spans)
 
@@ -51,14 +51,14 @@ left_push bytes (v ∷ ws) w c left =
 
 -- what a disk's contents show, by their parts
 abbrev pub shown : List ℕ → List Span → ℕ → ℕ → Held
-shown bytes spans synced spare = record { synced = take synced (writes_in bytes spans); loose = drop synced (writes_in bytes spans); spare = spare }
+shown bytes spans synced spare = record { synced = take synced (span_writes bytes spans); loose = drop synced (span_writes bytes spans); spare = spare }
 
 pub put_shown : (bytes more : List ℕ) (spans : List Span) (s : Span) (synced spare : ℕ) (bytes' : List ℕ) (spans' : List Span) → bytes' ≡ bytes ++ more
     → spans' ≡ spans ++ s ∷ []
     → total spans ≡ length bytes → s.len ≡ length more → synced ≤ length spans
     → shown bytes' spans' synced spare ≡ with_write (shown bytes spans synced spare) s.at more spare
 put_shown bytes more spans s synced spare bytes' spans' is is' all len le =
-    let fits : synced ≤ length (writes_in bytes spans) = omega (arith, le, length-writes bytes spans) in
+    let fits : synced ≤ length (span_writes bytes spans) = omega (arith, le, length-writes bytes spans) in
     let w : Write = record { at = s.at; bytes = more } in
     (λ i. shown (is i) (is' i) synced spare)
     ∙ (λ i. record {
@@ -67,8 +67,8 @@ put_shown bytes more spans s synced spare bytes' spans' is is' all len le =
       spare = spare;
     })
     ∙ (λ i. record {
-      synced = take-append-le synced (writes_in bytes spans) (w ∷ []) fits i;
-      loose = drop-append-le synced (writes_in bytes spans) (w ∷ [])
+      synced = take-append-le synced (span_writes bytes spans) (w ∷ []) fits i;
+      loose = drop-append-le synced (span_writes bytes spans) (w ∷ [])
           fits i;
       spare = spare;
     })
@@ -76,12 +76,12 @@ put_shown bytes more spans s synced spare bytes' spans' is is' all len le =
 pub settle_shown : (bytes : List ℕ) (spans : List Span) (synced n spare : ℕ) → n ≡ length spans
     → shown bytes spans n spare ≡ settled (shown bytes spans synced spare)
 settle_shown bytes spans synced n spare is =
-    let w = writes_in bytes spans in
-    let whole : length (writes_in bytes spans) ≤ n = omega (arith, is, length-writes bytes spans) in
+    let w = span_writes bytes spans in
+    let whole : length (span_writes bytes spans) ≤ n = omega (arith, is, length-writes bytes spans) in
     (λ i. record {
-      synced = (take_all n (writes_in bytes spans) whole ∙ sym (take-append-drop synced (writes_in bytes spans))) i;
+      synced = (take_all n (span_writes bytes spans) whole ∙ sym (take-append-drop synced (span_writes bytes spans))) i;
       loose = drop_all n
-          (writes_in bytes spans) whole i;
+          (span_writes bytes spans) whole i;
       spare = spare;
     })
 
@@ -107,12 +107,12 @@ total_front (t ∷ spans) zero = omega arith
 total_front (t ∷ spans) (suc i) = omega (arith, total_front spans i)
 
 -- the first spans, with their bytes
-pub writes_front : (bytes : List ℕ) (spans : List Span) (n : ℕ) → writes_in (take (total (take n spans)) bytes) (take n spans) ≡ take n (writes_in bytes spans)
+pub writes_front : (bytes : List ℕ) (spans : List Span) (n : ℕ) → span_writes (take (total (take n spans)) bytes) (take n spans) ≡ take n (span_writes bytes spans)
 writes_front bytes spans zero = refl
 writes_front bytes [] (suc n) = refl
 writes_front bytes (s ∷ spans) (suc n) =
     let le : s.len ≤ s.len + total (take n spans) = omega arith in
-    (λ i. record { at = s.at; bytes = take-take s.len (s.len + total (take n spans)) bytes le i } ∷ writes_in (drop_front s.len (total (take n spans)) bytes
+    (λ i. record { at = s.at; bytes = take-take s.len (s.len + total (take n spans)) bytes le i } ∷ span_writes (drop_front s.len (total (take n spans)) bytes
     i) (take n spans))
     ∙ ap (λ (ws : List Write). record { at = s.at; bytes = take s.len bytes } ∷ ws) (writes_front (drop s.len bytes) spans n)
 
@@ -128,7 +128,7 @@ take_within (suc n) (suc m) v le = ap (λ (l : List ℕ). v ∷ l) (take_within 
 
 -- where each byte is one value
 pub writes_filled : (bytes : List ℕ) (spans : List Span) (v : ℕ) → total spans ≡ length bytes
-    → writes_in (replicate (length bytes) v) spans ≡ map (filled v) (writes_in bytes spans)
+    → span_writes (replicate (length bytes) v) spans ≡ map (filled v) (span_writes bytes spans)
 writes_filled bytes [] v all = refl
 writes_filled bytes (s ∷ spans) v all =
     let le : s.len ≤ length bytes = omega (arith, all) in
@@ -137,15 +137,15 @@ writes_filled bytes (s ∷ spans) v all =
     (λ i. record {
       at = s.at;
       bytes = (take_within s.len (length bytes) v le ∙ ap (λ (k : ℕ). replicate k v) own) i;
-    } ∷ writes_in ((drop_within s.len (length bytes) v le ∙ ap (λ (k : ℕ). replicate k v) rest) i) spans)
+    } ∷ span_writes ((drop_within s.len (length bytes) v le ∙ ap (λ (k : ℕ). replicate k v) rest) i) spans)
     ∙ ap (λ (ws : List Write). record { at = s.at; bytes = replicate (length (take s.len bytes)) v } ∷ ws)
     (writes_filled (drop s.len bytes) spans v (omega (arith, all, length-drop s.len bytes)))
 
 -- where each byte behind the first spans is one value
 pub writes_lost : (bytes : List ℕ) (spans : List Span) (n v : ℕ) → total spans ≡ length bytes → n ≤ length spans
-    → writes_in (take (total (take n spans)) bytes ++ replicate (length bytes - total (take n spans)) v) spans ≡ take n (writes_in bytes spans) ++ map
-    (filled v) (drop n (writes_in bytes spans))
-writes_lost bytes spans zero v all le = ap (λ (k : ℕ). writes_in (replicate k v) spans) (omega arith) ∙ writes_filled bytes spans v all
+    → span_writes (take (total (take n spans)) bytes ++ replicate (length bytes - total (take n spans)) v) spans ≡ take n (span_writes bytes spans) ++ map
+    (filled v) (drop n (span_writes bytes spans))
+writes_lost bytes spans zero v all le = ap (λ (k : ℕ). span_writes (replicate k v) spans) (omega arith) ∙ writes_filled bytes spans v all
 writes_lost bytes [] (suc n) v all le = absurd (omega (arith, le))
 writes_lost bytes (s ∷ spans) (suc n) v all le =
     let t = total (take n spans) in
@@ -162,20 +162,20 @@ writes_lost bytes (s ∷ spans) (suc n) v all le =
     (total (take n spans)) (drop s.len bytes) ++ replicate (length (drop s.len bytes) - total (take n spans)) v =
     drop-append-le s.len (take (s.len + total (take n spans)) bytes) (replicate (length bytes - (s.len + total (take n spans))) v) long
     ∙ (λ i. drop_front s.len (total (take n spans)) bytes i ++ replicate (left i) v) in
-    (λ i. record { at = s.at; bytes = own i } ∷ writes_in (rest i) spans)
+    (λ i. record { at = s.at; bytes = own i } ∷ span_writes (rest i) spans)
     ∙ ap (λ (ws : List Write). record { at = s.at; bytes = take s.len bytes } ∷ ws)
     (writes_lost (drop s.len bytes) spans n v (omega (arith, all, length-drop s.len bytes)) (omega (arith, le)))
 
-pub left_other : (n : ℕ) (synced loose : List Write) → n ≢ 0 → n ≢ 1 → left_of n synced loose ≡ synced ++ map (filled n) loose
+pub left_other : (n : ℕ) (synced loose : List Write) → n ≢ 0 → n ≢ 1 → crash_writes n synced loose ≡ synced ++ map (filled n) loose
 left_other zero synced loose not_0 not_1 = absurd (not_0 refl)
 left_other (suc zero) synced loose not_0 not_1 = absurd (not_1 refl)
 left_other (suc (suc n)) synced loose not_0 not_1 = refl
 
 pub crash_shown : (bytes : List ℕ) (spans : List Span) (synced spare : ℕ) (h : Held) (bytes' : List ℕ) (spans' : List Span) (n image : ℕ)
     → shown bytes spans synced spare ≡ h → n ≡ length spans'
-    → writes_in bytes' spans' ≡ left_of image (take synced (writes_in bytes spans)) (drop synced (writes_in bytes spans))
+    → span_writes bytes' spans' ≡ crash_writes image (take synced (span_writes bytes spans)) (drop synced (span_writes bytes spans))
     → shown bytes' spans' n 0 ≡ crashed image h
 crash_shown bytes spans synced spare h bytes' spans' n image is all left =
-    let whole : length (writes_in bytes' spans') ≤ n = omega (arith, all, length-writes bytes' spans') in
-    (λ i. record { synced = (take_all n (writes_in bytes' spans') whole ∙ left) i; loose = drop_all n (writes_in bytes' spans') whole i; spare = 0 })
+    let whole : length (span_writes bytes' spans') ≤ n = omega (arith, all, length-writes bytes' spans') in
+    (λ i. record { synced = (take_all n (span_writes bytes' spans') whole ∙ left) i; loose = drop_all n (span_writes bytes' spans') whole i; spare = 0 })
     ∙ ap (crashed image) is

@@ -37,7 +37,8 @@ pub record IsUntouched (old new : List ℕ) (was now : List ℕ → Type 0) : Ty
   pub seen : new ≡ old
   pub crash : AddsNone was now
 
--- Time goes on: a crash since t might have left what it might have left before, or what it may leave now.
+-- Time goes on: a crash since t might have left what it might have left before, or what it may
+-- leave now.
 pub record Elapses (before now : ℕ) (past since : ℕ → List ℕ → Type 0) (may_leave : List ℕ → Type 0) : Type 0 where
   pub later : before ≤ now
   pub nothing_else : (t : ℕ) (c : List ℕ) → t ≤ before → since t c → past t c ⊎ may_leave c
@@ -50,7 +51,8 @@ pub record LeavesOnly {D : Type 0} (moment : D → ℕ) (left_since : D → ℕ 
   -- for a run that began earlier
   pub before : (t : ℕ) (c : List ℕ) → t ≤ moment old → left_since new t c → left_since old t c ⊎ P c
 
--- The disk has its size, what it reads as is all that a crash leaves, and no write waits for a sync.
+-- The disk has its size, what it reads as is all that a crash leaves, and no write waits for a
+-- sync.
 pub record IsStill (bytes : List ℕ) (may_leave : List ℕ → Type 0) (loose : List Write) : Type 0 where
   pub sized : length bytes ≡ 549426
   pub only : Only bytes may_leave

@@ -4,7 +4,8 @@ use mathlib.Core.Logic.{inl, inr}
 use Rattle.std.specs.List.{AllByRecursion}
 use Rattle.wallet_journal.specs.Device.{Write, written, Torn}
 
--- the writes that a sync made last and those since, each oldest first, and how many calls have their memory
+-- the writes that a sync made last and those since, each oldest first, and how many calls have
+-- their memory
 pub record Held : Type 0 where
   pub synced : List Write
   pub loose : List Write
@@ -28,8 +29,8 @@ abbrev pub synced_bytes : Held → List ℕ
 synced_bytes h = after_writes no_bytes h.synced
 
 -- the bytes that a read gives
-abbrev pub read_bytes : Held → List ℕ
-read_bytes h = after_writes (synced_bytes h) h.loose
+abbrev pub visible_bytes : Held → List ℕ
+visible_bytes h = after_writes (synced_bytes h) h.loose
 
 -- each range that was written may hold any bytes
 abbrev pub MayBeLeft : List ℕ → List Write → List ℕ → Type 0

@@ -2,7 +2,7 @@
 use Rattle.std.specs.Prelude.{◌≡◌, ◌≢◌, ◌⊎◌, ℕ, ◌<◌, ◌≤◌, ◌+◌, Bool, true, List, length, take, get_or, slice_index_or, Option, Some, None}
 use Rattle.hashkey_path.specs.declared.hashkey.Hashkey.{Hashkey}
 use Rattle.wallet_journal.specs.Device.{Write, IsStill}
-use Rattle.wallet_journal.specs.Layout.{is_made, id_in, party_in, recorded}
+use Rattle.wallet_journal.specs.Layout.{is_made, journal_deal_id, journal_party, recorded}
 
 -- What callers see of a journal.
 pub record JournalState (D : Type 0) : Type 0 where
@@ -16,43 +16,43 @@ pub record JournalState (D : Type 0) : Type 0 where
   pub sound : Bool
 
 -- the hashkey of lock i in a list by locks
-abbrev pub signed_at : List (Option Hashkey) → ℕ → Option Hashkey
-signed_at signed i = slice_index_or signed i None
+abbrev pub listed_hashkey : List (Option Hashkey) → ℕ → Option Hashkey
+listed_hashkey signed i = slice_index_or signed i None
 
 -- A hashkey that each of the outcomes has recorded for a lock is recorded there in this one.
 abbrev pub KeepsRecorded : (List ℕ → Type 0) → List ℕ → Type 0
 KeepsRecorded outcomes c = (i : ℕ) (k : Hashkey) → i < 8 → ((e : List ℕ) → outcomes e → recorded e i ≡ Some k) → recorded c i ≡ Some k
 
 -- each lock's hashkey is as it was, but that the new one may be recorded
-abbrev pub IsBeforeOrAfter : List ℕ → Hashkey → List ℕ → Type 0
-IsBeforeOrAfter old key c = (i : ℕ) → i < 8 → (recorded c i ≡ recorded old i) ⊎ ((i ≡ key.lock) × (recorded c i ≡ Some key))
+abbrev pub MayHaveRecorded : List ℕ → Hashkey → List ℕ → Type 0
+MayHaveRecorded old key c = (i : ℕ) → i < 8 → (recorded c i ≡ recorded old i) ⊎ ((i ≡ key.lock) × (recorded c i ≡ Some key))
 
 -- The journal stands on the disk, which is still, and shows what is recorded there.
-pub record IsKeptOn (bytes : List ℕ) (may_leave : List ℕ → Type 0) (loose : List Write) (id : List ℕ) (me : ℕ) (signed : List (Option Hashkey)) : Type 0 where
+pub record IsKeptJournal (bytes : List ℕ) (may_leave : List ℕ → Type 0) (loose : List Write) (id : List ℕ) (me : ℕ) (signed : List (Option Hashkey)) : Type 0 where
   pub still : IsStill bytes may_leave loose
   pub made : is_made bytes ≡ true
-  pub id_there : id_in bytes ≡ id
-  pub party_there : party_in bytes ≡ me
-  pub shown : (i : ℕ) → i < length signed → signed_at signed i ≡ recorded bytes i
+  pub id_there : journal_deal_id bytes ≡ id
+  pub party_there : journal_party bytes ≡ me
+  pub shown : (i : ℕ) → i < length signed → listed_hashkey signed i ≡ recorded bytes i
   pub few : length signed ≤ 8
 
 -- The hashkey is recorded, and all else that the journal says is as it was.
 pub record Gains (old : List ℕ) (key : Hashkey) (new : List ℕ) : Type 0 where
   pub made : is_made new ≡ is_made old
-  pub id : id_in new ≡ id_in old
-  pub party : party_in new ≡ party_in old
+  pub id : journal_deal_id new ≡ journal_deal_id old
+  pub party : journal_party new ≡ journal_party old
   pub here : recorded new key.lock ≡ Some key
   pub others : (i : ℕ) → i < 8 → i ≢ key.lock → recorded new i ≡ recorded old i
 
 -- The journal of this deal and party is made.
-pub record IsMadeFor (id : List ℕ) (me : ℕ) (bytes : List ℕ) : Type 0 where
+pub record IsMadePartyJournal (id : List ℕ) (me : ℕ) (bytes : List ℕ) : Type 0 where
   pub made : is_made bytes ≡ true
-  pub id_there : id_in bytes ≡ id
-  pub party_there : party_in bytes ≡ me
+  pub id_there : journal_deal_id bytes ≡ id
+  pub party_there : journal_party bytes ≡ me
 
 -- Where a journal is made, it is of this deal and party.
 abbrev pub IsPartys : List ℕ → ℕ → List ℕ → Type 0
-IsPartys id me bytes = is_made bytes ≡ true → (id_in bytes ≡ id) × (party_in bytes ≡ me)
+IsPartys id me bytes = is_made bytes ≡ true → (journal_deal_id bytes ≡ id) × (journal_party bytes ≡ me)
 
 -- Nothing is recorded, and a journal that is made is of this deal and party.
 pub record IsUnused (id : List ℕ) (me : ℕ) (bytes : List ℕ) : Type 0 where
@@ -62,8 +62,8 @@ pub record IsUnused (id : List ℕ) (me : ℕ) (bytes : List ℕ) : Type 0 where
 -- A new journal.
 pub record IsNew (id : List ℕ) (me : ℕ) (bytes : List ℕ) : Type 0 where
   pub made : is_made bytes ≡ true
-  pub id_there : id_in bytes ≡ id
-  pub party_there : party_in bytes ≡ me
+  pub id_there : journal_deal_id bytes ≡ id
+  pub party_there : journal_party bytes ≡ me
   pub none : (i : ℕ) → i < 8 → recorded bytes i ≡ None
 
 -- The bytes of a head, behind byte 0: the id, the party, and eight closed gates.

@@ -17,16 +17,16 @@ abbrev pub is_made : List ℕ → Bool
 is_made bytes = byte bytes 0 == 1
 
 -- the deal's id
-abbrev pub id_in : List ℕ → List ℕ
-id_in bytes = slice 1 32 bytes
+abbrev pub journal_deal_id : List ℕ → List ℕ
+journal_deal_id bytes = slice 1 32 bytes
 
 -- the party
-abbrev pub party_in : List ℕ → ℕ
-party_in bytes = byte bytes 33
+abbrev pub journal_party : List ℕ → ℕ
+journal_party bytes = byte bytes 33
 
 -- where the gate of lock i stands
-abbrev pub gate_at : ℕ → ℕ
-gate_at i = 34 + i
+abbrev pub gate_position : ℕ → ℕ
+gate_position i = 34 + i
 
 -- where the body of lock i begins
 abbrev pub body_position : ℕ → ℕ
@@ -38,32 +38,32 @@ body i bytes = slice (body_position i) 68673 bytes
 
 -- the gate of lock i is open
 abbrev pub is_open : List ℕ → ℕ → Bool
-is_open bytes i = byte bytes (gate_at i) == 1
+is_open bytes i = byte bytes (gate_position i) == 1
 
 -- lock i is recorded
 abbrev pub is_recorded : List ℕ → ℕ → Bool
 is_recorded bytes i = is_made bytes && is_open bytes i
 
 -- the signatures that n times 2,144 bytes hold
-abbrev pub sigs_in : ℕ → List ℕ → List Sig
-sigs_in zero bytes = []
-sigs_in (suc n) bytes = text_values (take 2144 bytes) ∷ sigs_in n (drop 2144 bytes)
+abbrev pub body_signatures : ℕ → List ℕ → List Sig
+body_signatures zero bytes = []
+body_signatures (suc n) bytes = text_values (take 2144 bytes) ∷ body_signatures n (drop 2144 bytes)
 
 -- how many vertices a body has
 abbrev pub parse_count : List ℕ → ℕ
 parse_count b = byte b 0
 
 -- the vertices of a body
-abbrev pub path_in : List ℕ → List ℕ
-path_in b = slice 33 (parse_count b) b
+abbrev pub body_path : List ℕ → List ℕ
+body_path b = slice 33 (parse_count b) b
 
 -- the hashkey of a body: the number of vertices, the secret, the vertices and their signatures
-abbrev pub fetch_key : ℕ → List ℕ → Hashkey
-fetch_key i b = record { lock = i; secret = slice 1 32 b; path = path_in b; sigs = sigs_in (parse_count b) (drop (33 + parse_count b) b) }
+abbrev pub body_hashkey : ℕ → List ℕ → Hashkey
+body_hashkey i b = record { lock = i; secret = slice 1 32 b; path = body_path b; sigs = body_signatures (parse_count b) (drop (33 + parse_count b) b) }
 
 -- the hashkey that is recorded for lock i, if any
 abbrev pub recorded : List ℕ → ℕ → Option Hashkey
-recorded bytes i = if is_recorded bytes i then Some (fetch_key i (body i bytes)) else None
+recorded bytes i = if is_recorded bytes i then Some (body_hashkey i (body i bytes)) else None
 
 -- the body of a hashkey
 abbrev pub encoded_body : Hashkey → List ℕ
@@ -85,7 +85,7 @@ are_bounded n xs = list_all (λ v. nat_lt v n) xs
 
 -- a body has more vertices than the limit or one that is no party's
 abbrev pub is_bad : ℕ → ℕ → List ℕ → Bool
-is_bad limit n b = nat_lt limit (parse_count b) || not (are_bounded n (path_in b))
+is_bad limit n b = nat_lt limit (parse_count b) || not (are_bounded n (body_path b))
 
 -- lock i is recorded with a bad body
 abbrev pub is_damaged : ℕ → ℕ → List ℕ → ℕ → Bool

@@ -19,9 +19,9 @@ pub record DiskState : Type 0 where
   pub faults : ℕ
 
 -- the writes whose bytes follow each other in one list
-abbrev pub writes_in : List ℕ → List Span → List Write
-writes_in bytes [] = []
-writes_in bytes (s ∷ ss) = record { at = s.at; bytes = take s.len bytes } ∷ writes_in (drop s.len bytes) ss
+abbrev pub span_writes : List ℕ → List Span → List Write
+span_writes bytes [] = []
+span_writes bytes (s ∷ ss) = record { at = s.at; bytes = take s.len bytes } ∷ span_writes (drop s.len bytes) ss
 
 -- how many bytes the spans have
 abbrev pub total : List Span → ℕ
@@ -40,12 +40,12 @@ settled h = record { synced = h.synced ++ h.loose; loose = []; spare = h.spare }
 abbrev pub filled : ℕ → Write → Write
 filled n w = record { at = w.at; bytes = replicate (length w.bytes) n }
 
--- the writes after a crash, of those that were synced and those that weren't: what isn't synced holds its old bytes for 0, its new ones for 1,
--- and else that value
-abbrev pub left_of : ℕ → List Write → List Write → List Write
-left_of zero synced loose = synced
-left_of (suc zero) synced loose = synced ++ loose
-left_of (suc (suc n)) synced loose = synced ++ map (filled (suc (suc n))) loose
+-- the writes after a crash, of those that were synced and those that weren't: what isn't synced
+-- holds its old bytes for 0, its new ones for 1, and else that value
+abbrev pub crash_writes : ℕ → List Write → List Write → List Write
+crash_writes zero synced loose = synced
+crash_writes (suc zero) synced loose = synced ++ loose
+crash_writes (suc (suc n)) synced loose = synced ++ map (filled (suc (suc n))) loose
 
 abbrev pub crashed : ℕ → Held → Held
-crashed n h = record { synced = left_of n h.synced h.loose; loose = []; spare = 0 }
+crashed n h = record { synced = crash_writes n h.synced h.loose; loose = []; spare = 0 }

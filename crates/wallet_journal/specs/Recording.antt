@@ -3,7 +3,7 @@ use Rattle.std.specs.Prelude.{◌≡◌, ℕ, zero, suc, List, [], ◌∷◌, �
 use Rattle.hashkey_path.specs.declared.hashkey.Hashkey.{Hashkey}
 use Rattle.swap_io.specs.Causes.{Rose}
 use Rattle.wallet_journal.specs.Device.{Write, IsStill}
-use Rattle.wallet_journal.specs.Layout.{body_position, gate_at, encoded_body}
+use Rattle.wallet_journal.specs.Layout.{body_position, gate_position, encoded_body}
 use Rattle.wallet_journal.specs.declared.fault.RecordFault.{RecordFault}
 use Rattle.wallet_journal.specs.declared.fault.RecordFault.TheVariants.{DiskFault, NoMemory}
 
@@ -23,7 +23,7 @@ body_write k = record { at = body_position k.lock; bytes = encoded_body k }
 
 -- the write that opens its gate
 abbrev pub gate_write : Hashkey → Write
-gate_write k = record { at = gate_at k.lock; bytes = 1 ∷ [] }
+gate_write k = record { at = gate_position k.lock; bytes = 1 ∷ [] }
 
 -- a record's writes came to their end, and are synced
 abbrev pub IsWritten : Hashkey → List Write → List Write → List Write → Type 0
@@ -31,13 +31,14 @@ IsWritten k synced synced' loose' = (synced' ≡ synced ++ body_write k ∷ gate
 
 -- the synced writes and the others of a record that stops within call n, counted from 0, of its
 -- four calls
-abbrev pub IsStoppedAt : ℕ → Hashkey → List Write → List Write → List Write → Type 0
-IsStoppedAt zero k synced synced' loose' = (synced' ≡ synced) × (loose' ≡ body_write k ∷ [])
-IsStoppedAt (suc zero) k synced synced' loose' = (synced' ≡ synced) × (loose' ≡ body_write k ∷ [])
-IsStoppedAt (suc (suc n)) k synced synced' loose' = (synced' ≡ synced ++ body_write k ∷ []) × (loose' ≡ gate_write k ∷ [])
+abbrev pub IsStoppedRecording : ℕ → Hashkey → List Write → List Write → List Write → Type 0
+IsStoppedRecording zero k synced synced' loose' = (synced' ≡ synced) × (loose' ≡ body_write k ∷ [])
+IsStoppedRecording (suc zero) k synced synced' loose' = (synced' ≡ synced) × (loose' ≡ body_write k ∷ [])
+IsStoppedRecording (suc (suc n)) k synced synced' loose' = (synced' ≡ synced ++ body_write k ∷ []) × (loose' ≡ gate_write k ∷ [])
 
--- the same for what a record answers: it doesn't come to its end, and wants memory only before it has written
+-- the same for what a record answers: it doesn't come to its end, and wants memory only before it
+-- has written
 abbrev pub IsStoppedRecord : ℕ → Hashkey → List Write → List Write → List Write → Result (Unit {0}) RecordFault → Type 0
 IsStoppedRecord n k synced synced' loose' (Ok x) = ⊥
-IsStoppedRecord n k synced synced' loose' (Err DiskFault) = IsStoppedAt n k synced synced' loose'
+IsStoppedRecord n k synced synced' loose' (Err DiskFault) = IsStoppedRecording n k synced synced' loose'
 IsStoppedRecord n k synced synced' loose' (Err NoMemory) = (synced' ≡ synced) × (loose' ≡ [])

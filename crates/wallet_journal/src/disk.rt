@@ -69,7 +69,8 @@ pub trait Disk {
         ensures cause { HasCause (faults self.old) (faults self.new) result }
         ensures fate { IsFated (never_fails self.old) (never_fails self.new) (stops_after self.old) (stops_after self.new) result };
 
-    /// Writes over what stands at a place. Until a sync succeeds, a crash may leave any bytes in the range, also where the write fails.
+    /// Writes over what stands at a place. Until a sync succeeds, a crash may leave any bytes in
+    /// the range, also where the write fails.
     fn write_at(&mut self, at: u32, bytes: &[u8]) -> Result<(), Failed>
         requires range { at + length bytes.now ≤ 549426 }
         requires few { length bytes.now ≤ 68673 }
@@ -83,7 +84,8 @@ pub trait Disk {
         ensures cause { HasCause (faults self.old) (faults self.new) result }
         ensures fate { IsFated (never_fails self.old) (never_fails self.new) (stops_after self.old) (stops_after self.new) result };
 
-    /// After it a crash leaves what a read gives. After one that fails it leaves nothing that it couldn't leave before.
+    /// After it a crash leaves what a read gives. After one that fails it leaves nothing that it
+    /// couldn't leave before.
     fn sync(&mut self) -> Result<(), Failed>
         requires spare { 0 < spare self.old }
         ensures durable { OnOk result (Only (seen self.old) (may_leave self.new)) }

@@ -5,13 +5,13 @@ ghost use Rattle.std.specs.Prelude.{MatchOption, MatchResult, IfOk, IfErr, OnErr
 ghost use Rattle.swap_digraph.specs.Deal.{IsWellSized};
 ghost use Rattle.wallet_journal.specs.Device.{LeavesOnly, IsUntouched};
 ghost use Rattle.wallet_journal.specs.Layout.{recorded};
-ghost use Rattle.wallet_journal.specs.Journal.{IsBeforeOrAfter, IsKeptOn, IsMadeFor, KeepsRecorded, signed_at};
+ghost use Rattle.wallet_journal.specs.Journal.{MayHaveRecorded, IsKeptJournal, IsMadePartyJournal, KeepsRecorded, listed_hashkey};
 ghost use Rattle.wallet_journal.specs.Opening.{IsOpenFault, IsOpened};
 ghost use Rattle.wallet_journal.specs.Own.{IsInRecord, IsOwn, IsOwnFault, FitsDeal};
 ghost use Rattle.wallet_journal.specs.Recording.{IsRecordFault, IsRefused, IsStoppedRecord, IsWritten};
 ghost use Rattle.swap_digraph.specs.declared.deal.Deal.{Deal as AnyDeal};
 ghost use Rattle.hashkey_path.specs.declared.hashkey.Hashkey.{Hashkey as AnyKey};
-ghost use Rattle.wallet_journal.specs.Held.{Leaves, read_bytes};
+ghost use Rattle.wallet_journal.specs.Held.{Leaves, visible_bytes};
 ghost use Rattle.wallet_journal.specs.Stopped.{bytes_left, kept_key, IsOfWrites, IsOwnDisk, IsWrittenUp, ShowsAll};
 ghost use Rattle.wallet_journal.specs.declared.fault.Unopened.TheVariants.{DiskFault as Failing};
 ghost use Rattle.wallet_journal.specs.declared.fault.RecordFault.TheVariants.{DiskFault as Stopped, NoMemory as Wanting};
@@ -41,13 +41,13 @@ pub struct Journal<D: Disk> {
 
 impl<D: Disk> Model for Journal<D> {
     ghost use Rattle.std.specs.Prelude.{◌≡◌, true};
-    ghost use Rattle.wallet_journal.specs.Journal.{JournalState, IsKeptOn};
+    ghost use Rattle.wallet_journal.specs.Journal.{JournalState, IsKeptJournal};
 
     ghost Value = { JournalState D };
 
     ghost view = { λ j. record { disk = j.disk; id = j.id; me = j.me; signed = j.signed; sound = j.sound } };
 
-    ghost invariant = { λ j. j.sound ≡ true → IsKeptOn (D.seen j.disk) (D.may_leave j.disk) (D.loose j.disk) j.id j.me j.signed };
+    ghost invariant = { λ j. j.sound ≡ true → IsKeptJournal (D.seen j.disk) (D.may_leave j.disk) (D.loose j.disk) j.id j.me j.signed };
 }
 
 /// Notes the hashkey that is recorded for a lock. It takes no memory.
@@ -69,12 +69,12 @@ fn record_key<D: Disk>(
     signed: &mut SignedKeys,
     key: &Shared<Hashkey>,
 ) -> Result<(), RecordFault>
-    requires kept { IsKeptOn (D.seen disk.old) (D.may_leave disk.old) (D.loose disk.old) id.now me signed.old }
+    requires kept { IsKeptJournal (D.seen disk.old) (D.may_leave disk.old) (D.loose disk.old) id.now me signed.old }
     requires lock { key.now.lock < length signed.old }
-    requires unrecorded { signed_at signed.old key.now.lock ≡ None }
+    requires unrecorded { listed_hashkey signed.old key.now.lock ≡ None }
     requires few { length key.now.path ≤ 32 }
     requires paired { length key.now.sigs ≡ length key.now.path }
-    ensures kept { OnOk result (IsKeptOn (D.seen disk.new) (D.may_leave disk.new) (D.loose disk.new) id.now me signed.new) }
+    ensures kept { OnOk result (IsKeptJournal (D.seen disk.new) (D.may_leave disk.new) (D.loose disk.new) id.now me signed.new) }
     ensures noted { OnOk result (signed.new ≡ slice_set signed.old key.now.lock (Some key.now)) }
     ensures recorded { OnOk result (recorded (D.seen disk.new) key.now.lock ≡ Some key.now) }
     ensures any_moment { LeavesOnly D.moment D.left_since disk.old disk.new (IsInRecord (D.seen disk.old) key.now) }
@@ -110,9 +110,10 @@ impl<D: Disk> Journal<D> {
             × IsOpened deal.now me (D.seen disk) j.signed) }
 
         // A crash leaves just what is recorded.
-        ensures durable { IfOk result (λ j. (i : ℕ) → i < length j.signed → (c : List ℕ) → D.may_leave j.disk c → recorded c i ≡ signed_at j.signed i) }
+        ensures durable { IfOk result (λ j. (i : ℕ) → i < length j.signed → (c : List ℕ) → D.may_leave j.disk c → recorded c i ≡ listed_hashkey j.signed i) }
 
-        // What is recorded on each device that a crash could have left is recorded on each that one leaves during the call or after it.
+        // What is recorded on each device that a crash could have left is recorded on each that one
+        // leaves during the call or after it.
         ensures any_moment { MatchResult result (λ j. LeavesOnly D.moment D.left_since disk j.disk (KeepsRecorded (D.may_leave disk)))
             (λ e. LeavesOnly D.moment D.left_since disk e.disk (KeepsRecorded (D.may_leave disk))) }
         ensures fault { IfErr result (λ e. IsOpenFault deal.now me (D.seen disk) (D.faults disk) (D.faults e.disk) e.why) }
@@ -121,7 +122,8 @@ impl<D: Disk> Journal<D> {
         // A refusal leaves the disk as it was, and so does want of memory.
         ensures untouched { IfErr result (λ e. e.why ≢ Failing → IsUntouched (D.seen disk) (D.seen e.disk) (D.may_leave disk) (D.may_leave e.disk)) }
 
-        // Where each device that a crash could have left is of this deal's and party's journals, so is each that one leaves, and it isn't refused.
+        // Where each device that a crash could have left is of this deal's and party's journals, so
+        // is each that one leaves, and it isn't refused.
         ensures own { ((c : List ℕ) → D.may_leave disk c → IsOwn deal.now me c) → MatchResult result
             (λ j. LeavesOnly D.moment D.left_since disk j.disk (IsOwn deal.now me)) (λ e. LeavesOnly D.moment D.left_since disk e.disk (IsOwn deal.now me)) }
         ensures own_fault { ((c : List ℕ) → D.may_leave disk c → IsOwn deal.now me c) → IfErr result (λ e. IsOwnFault e.why) }
@@ -143,11 +145,12 @@ impl<D: Disk> Journal<D> {
         }
     }
 
-    /// Records a hashkey. After a fault of the disk the journal is to be opened again; where memory runs out, it is as it was.
+    /// Records a hashkey. After a fault of the disk the journal is to be opened again; where memory
+    /// runs out, it is as it was.
     pub fn record(&mut self, key: &Shared<Hashkey>) -> Result<(), RecordFault>
         requires sound { self.old.sound ≡ true }
         requires lock { key.now.lock < length self.old.signed }
-        requires unrecorded { signed_at self.old.signed key.now.lock ≡ None }
+        requires unrecorded { listed_hashkey self.old.signed key.now.lock ≡ None }
         requires few { length key.now.path ≤ 32 }
         requires paired { length key.now.sigs ≡ length key.now.path }
         ensures ok { OnOk result ((self.new.sound ≡ true) × (self.new.signed ≡ slice_set self.old.signed key.now.lock (Some key.now))) }
@@ -158,13 +161,15 @@ impl<D: Disk> Journal<D> {
         // The writes were those of its body and of its gate, and no more.
         ensures written { OnOk result (IsWritten key.now (D.synced self.old.disk) (D.synced self.new.disk) (D.loose self.new.disk)) }
 
-        // A crash at any moment leaves it recorded whole or not at all, and each other lock as it was.
-        ensures whole { LeavesOnly D.moment D.left_since self.old.disk self.new.disk (IsBeforeOrAfter (D.seen self.old.disk) key.now) }
+        // A crash at any moment leaves it recorded whole or not at all, and each other lock as it
+        // was.
+        ensures whole { LeavesOnly D.moment D.left_since self.old.disk self.new.disk (MayHaveRecorded (D.seen self.old.disk) key.now) }
         ensures any_moment { LeavesOnly D.moment D.left_since self.old.disk self.new.disk (KeepsRecorded (D.may_leave self.old.disk)) }
         ensures own { (d : AnyDeal) → FitsDeal d key.now → ((c : List ℕ) → D.may_leave self.old.disk c → IsOwn d self.old.me c)
             → LeavesOnly D.moment D.left_since self.old.disk self.new.disk (IsOwn d self.old.me) }
 
-        // A disk that never fails stays one, and gives no fault. One that stops within the four calls has the writes of those so far.
+        // A disk that never fails stays one, and gives no fault. One that stops within the four
+        // calls has the writes of those so far.
         ensures never { D.never_fails self.old.disk → D.never_fails self.new.disk }
         ensures passes { D.never_fails self.old.disk → IfErr result (λ e. e ≡ Wanting) }
         ensures stops { (n : ℕ) → n < 4 → D.stops_after self.old.disk n
@@ -194,12 +199,12 @@ impl<D: Disk> Journal<D> {
     /// The hashkey that is recorded for a lock, if any.
     pub fn signed(&self, lock: LockId) -> Option<&Hashkey>
         requires lock { lock < length self.now.signed }
-        ensures value { MatchOption result (signed_at self.now.signed lock ≡ None) (λ k. signed_at self.now.signed lock ≡ Some k.now) }
+        ensures value { MatchOption result (listed_hashkey self.now.signed lock ≡ None) (λ k. listed_hashkey self.now.signed lock ≡ Some k.now) }
 
         // As long as no call answers that the disk failed, the disk has recorded the same for the
         // lock, at once and after each crash.
-        ensures shown { self.now.sound ≡ true → recorded (D.seen self.now.disk) lock ≡ signed_at self.now.signed lock }
-        ensures durable { self.now.sound ≡ true → (c : List ℕ) → D.may_leave self.now.disk c → recorded c lock ≡ signed_at self.now.signed lock }
+        ensures shown { self.now.sound ≡ true → recorded (D.seen self.now.disk) lock ≡ listed_hashkey self.now.signed lock }
+        ensures durable { self.now.sound ≡ true → (c : List ℕ) → D.may_leave self.now.disk c → recorded c lock ≡ listed_hashkey self.now.signed lock }
     {
         match &self.signed.as_slice()[lock as usize] {
             Some(key) => Some(key),
@@ -210,18 +215,19 @@ impl<D: Disk> Journal<D> {
     /// For each lock the hashkey that is recorded, if any.
     pub fn keys(&self) -> &SignedKeys
         ensures value { result.now ≡ self.now.signed }
-        ensures locks { self.now.sound ≡ true → (i : ℕ) (k : AnyKey) → i < length self.now.signed → signed_at self.now.signed i ≡ Some k → k.lock ≡ i }
+        ensures locks { self.now.sound ≡ true → (i : ℕ) (k : AnyKey) → i < length self.now.signed → listed_hashkey self.now.signed i ≡ Some k → k.lock ≡ i }
     {
         &self.signed
     }
 
-    /// The disk. Where no call answered that it failed, each crash leaves the journal of this deal and party there, with the hashkeys that it shows.
+    /// The disk. Where no call answered that it failed, each crash leaves the journal of this deal
+    /// and party there, with the hashkeys that it shows.
     pub fn disk(&self) -> &D
         ensures value { result.now ≡ self.now.disk }
-        ensures shown { self.now.sound ≡ true → (i : ℕ) → i < length self.now.signed → recorded (D.seen self.now.disk) i ≡ signed_at self.now.signed i }
+        ensures shown { self.now.sound ≡ true → (i : ℕ) → i < length self.now.signed → recorded (D.seen self.now.disk) i ≡ listed_hashkey self.now.signed i }
         ensures durable { self.now.sound ≡ true → (i : ℕ) → i < length self.now.signed → (c : List ℕ) → D.may_leave self.now.disk c
-            → recorded c i ≡ signed_at self.now.signed i }
-        ensures made { self.now.sound ≡ true → (c : List ℕ) → D.may_leave self.now.disk c → IsMadeFor self.now.id self.now.me c }
+            → recorded c i ≡ listed_hashkey self.now.signed i }
+        ensures made { self.now.sound ≡ true → (c : List ℕ) → D.may_leave self.now.disk c → IsMadePartyJournal self.now.id self.now.me c }
     {
         &self.disk
     }
@@ -229,7 +235,7 @@ impl<D: Disk> Journal<D> {
     /// The disk, without taking memory.
     pub fn into_disk(self) -> D
         ensures value { result ≡ self.disk }
-        ensures made { self.sound ≡ true → (c : List ℕ) → D.may_leave self.disk c → IsMadeFor self.id self.me c }
+        ensures made { self.sound ≡ true → (c : List ℕ) → D.may_leave self.disk c → IsMadePartyJournal self.id self.me c }
     {
         self.disk
     }
@@ -258,7 +264,7 @@ impl Journal<MemoryDisk> {
     /// The disk, where it is one in memory: what a read gives is among what a crash may leave.
     pub fn memory(&self) -> &MemoryDisk
         ensures value { result.now ≡ self.now.disk }
-        ensures among { Leaves result.now.held (read_bytes result.now.held) }
+        ensures among { Leaves result.now.held (visible_bytes result.now.held) }
     {
         self.disk.as_read()
     }
@@ -271,14 +277,15 @@ impl Journal<MemoryDisk> {
         self.disk.limit_calls(k);
     }
 
-    /// The disk crashes with an image, and the journal is opened again. Where memory runs out, it is to be opened again.
+    /// The disk crashes with an image, and the journal is opened again. Where memory runs out, it
+    /// is to be opened again.
     pub fn crash(&mut self, alloc: Global, deal: &Deal, image: u8) -> Result<(), NoMemory>
         requires sized { IsWellSized deal.now }
         requires own { (c : List ℕ) → Leaves self.old.disk.held c → IsOwn deal.now self.old.me c }
         ensures opened { OnOk result ((self.new.id ≡ deal.now.id) × (self.new.me ≡ self.old.me) × (self.new.sound ≡ true)) }
         ensures places { OnOk result (length self.new.signed ≡ length deal.now.leaders) }
         ensures shown { OnOk result ((i : ℕ) → i < length self.new.signed
-            → signed_at self.new.signed i ≡ recorded (bytes_left image self.old.disk.held.synced self.old.disk.held.loose) i) }
+            → listed_hashkey self.new.signed i ≡ recorded (bytes_left image self.old.disk.held.synced self.old.disk.held.loose) i) }
         ensures left { Leaves self.old.disk.held (bytes_left image self.old.disk.held.synced self.old.disk.held.loose) }
         ensures own { OnOk result (IsOwnDisk deal.now self.old.me self.new.disk) }
         ensures durable { OnOk result (ShowsAll self.new.signed self.new.disk.held) }

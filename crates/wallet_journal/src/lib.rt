@@ -1,6 +1,7 @@
 //! A journal of the hashkeys that a party signed, on a disk that may lose what isn't synced.
 //!
-//! Read `specs/Device.antt` first: what a crash may leave. `specs/Layout.antt` says what is recorded, `specs/Journal.antt` what the calls keep.
+//! Read `specs/Device.antt` first: what a crash may leave. `specs/Layout.antt` says what is
+//! recorded, `specs/Journal.antt` what the calls keep.
 #![tactic(auto)]
 
 mod bodies;

@@ -2,7 +2,7 @@
 
 ghost use Rattle.std.specs.Prelude.{◌≡◌, ◌⊎◌, ◌<◌, [], length, drop, Some, None};
 ghost use Rattle.wallet_journal.specs.Device.{written};
-ghost use Rattle.wallet_journal.specs.Held.{AreOnDisk, Leaves, HadLeft, read_bytes, only_held};
+ghost use Rattle.wallet_journal.specs.Held.{AreOnDisk, Leaves, HadLeft, visible_bytes, only_held};
 ghost use Rattle.wallet_journal.specs.Memory.{DiskState, crashed};
 ghost use Rattle.wallet_journal.specs.Layout.{byte};
 ghost use Rattle.std.proofs.Common.{inl};
@@ -42,7 +42,8 @@ impl Model for MemoryDisk {
 }
 
 impl MemoryDisk {
-    /// A disk on which nothing was written. The calls whose numbers, from 0, are in `failing` fail; `ready` isn't counted.
+    /// A disk on which nothing was written. The calls whose numbers, from 0, are in `failing` fail;
+    /// `ready` isn't counted.
     pub fn new(alloc: Global, failing: Vec<u64>) -> MemoryDisk
         ensures value { result ≡ record {
           held = record { synced = []; loose = []; spare = 0 };
@@ -76,7 +77,7 @@ impl MemoryDisk {
     /// The same disk: what a read gives is among what a crash may leave.
     pub(crate) fn as_read(&self) -> &MemoryDisk
         ensures value { result.now ≡ self.now }
-        ensures among { Leaves self.now.held (read_bytes self.now.held) }
+        ensures among { Leaves self.now.held (visible_bytes self.now.held) }
     {
         let _held = &self.contents;
         self
@@ -85,18 +86,18 @@ impl MemoryDisk {
     /// The byte that a read gives at a place. It takes no memory.
     pub fn byte(&self, at: u32) -> u8
         requires range { at < 549426 }
-        ensures value { result ≡ byte (read_bytes self.now.held) at }
+        ensures value { result ≡ byte (visible_bytes self.now.held) at }
     {
         let mut one = [0u8; 1];
         self.contents.read(at, &mut one);
         one[0]
     }
 
-    /// The disk that a crash leaves, all of it synced, which fails no more: what isn't synced holds its old bytes for 0, its new ones for 1, and else
-    /// that value. It takes no memory.
+    /// The disk that a crash leaves, all of it synced, which fails no more: what isn't synced holds
+    /// its old bytes for 0, its new ones for 1, and else that value. It takes no memory.
     pub fn crash(self, image: u8) -> MemoryDisk
         ensures value { result ≡ record { held = crashed image self.held; past = []; failing = []; calls = 0; left = None; faults = 0 } }
-        ensures left { Leaves self.held (read_bytes result.held) }
+        ensures left { Leaves self.held (visible_bytes result.held) }
     {
         let alloc = *self.failures.failing.allocator();
         MemoryDisk {
@@ -113,7 +114,7 @@ impl MemoryDisk {
 }
 
 impl Disk for MemoryDisk {
-    ghost seen = { λ d. read_bytes d.held };
+    ghost seen = { λ d. visible_bytes d.held };
 
     ghost may_leave = { λ d c. Leaves d.held c };
 

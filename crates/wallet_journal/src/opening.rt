@@ -6,8 +6,8 @@ ghost use Rattle.swap_digraph.specs.Deal.{IsWellSized, path_limit};
 ghost use Rattle.swap_io.specs.Causes.{HasCause};
 ghost use Rattle.wallet_journal.specs.Device.{AddsNone, IsStill, IsUntouched, LeavesOnly, slice};
 ghost use Rattle.wallet_journal.specs.Layout.{is_made, recorded};
-ghost use Rattle.wallet_journal.specs.Journal.{IsUnused, IsKeptOn};
-ghost use Rattle.wallet_journal.specs.Opening.{IsReadFault, IsLeastDamaged, IsOf, IsOpenFault, IsOpened, is_damaged_contents};
+ghost use Rattle.wallet_journal.specs.Journal.{IsUnused, IsKeptJournal};
+ghost use Rattle.wallet_journal.specs.Opening.{IsReadFault, IsLeastDamaged, IsPartyJournal, IsOpenFault, IsOpened, is_damaged_contents};
 ghost use Rattle.wallet_journal.specs.Own.{IsInOpening};
 ghost use Rattle.wallet_journal.specs.declared.fault.Unopened.TheVariants.{DiskFault as Failing};
 
@@ -20,7 +20,8 @@ use swap_base::{Digest, Listed, NoMemory, PartyId};
 use swap_digraph::{Deal, path_limit};
 use swap_io::Failed;
 
-/// The bytes in front of the bodies: the mark that a journal is made, the deal's id, the party, and the gates.
+/// The bytes in front of the bodies: the mark that a journal is made, the deal's id, the party, and
+/// the gates.
 const HEAD_BYTES: usize = 42;
 
 fn zeros(alloc: Global, n: usize) -> Result<Vec<u8>, NoMemory>
@@ -115,12 +116,13 @@ fn is_made(head: &[u8]) -> bool
 /// Whether a head is of a party's journal of a deal.
 fn head_matches(head: &[u8], deal: &Deal, me: PartyId) -> bool
     requires { length head.now ≡ 42 }
-    ensures { (result ≡ true) ↔ IsOf deal.now me head.now }
+    ensures { (result ≡ true) ↔ IsPartyJournal deal.now me head.now }
 {
     is_id(&head[1..33], &deal.id) && head[33] == me
 }
 
-/// What bytes have recorded for each lock of a deal, or the least lock whose body can't be one of the deal's.
+/// What bytes have recorded for each lock of a deal, or the least lock whose body can't be one of
+/// the deal's.
 fn sound_keys(alloc: Global, bytes: &[u8], deal: &Deal) -> Result<SignedKeys, Unopened>
     requires sized { IsWellSized deal.now }
     requires size { length bytes.now ≡ 549426 }
@@ -145,7 +147,7 @@ fn found<D: Disk>(
     requires head { head.now ≡ slice 0 42 (D.seen disk.old) }
     requires made { is_made (D.seen disk.old) ≡ true }
     requires spare { 0 < D.spare disk.old }
-    ensures kept { IfOk result (IsKeptOn (D.seen disk.new) (D.may_leave disk.new) (D.loose disk.new) deal.now.id me) }
+    ensures kept { IfOk result (IsKeptJournal (D.seen disk.new) (D.may_leave disk.new) (D.loose disk.new) deal.now.id me) }
     ensures shown { IfOk result (IsOpened deal.now me (D.seen disk.old)) }
     ensures untouched { IsUntouched (D.seen disk.old) (D.seen disk.new) (D.may_leave disk.old) (D.may_leave disk.new) }
     ensures left { LeavesOnly D.moment D.left_since disk.old disk.new (D.may_leave disk.old) }
@@ -172,7 +174,7 @@ fn begun<D: Disk>(
     requires still { IsStill (D.seen disk.old) (D.may_leave disk.old) (D.loose disk.old) }
     requires unmade { is_made (D.seen disk.old) ≡ false }
     requires spare { 4 ≤ D.spare disk.old }
-    ensures kept { IfOk result (IsKeptOn (D.seen disk.new) (D.may_leave disk.new) (D.loose disk.new) deal.now.id me) }
+    ensures kept { IfOk result (IsKeptJournal (D.seen disk.new) (D.may_leave disk.new) (D.loose disk.new) deal.now.id me) }
     ensures value { IfOk result (λ s. s ≡ replicate (length deal.now.leaders) None) }
     ensures any_moment { LeavesOnly D.moment D.left_since disk.old disk.new (IsUnused deal.now.id me) }
     ensures untouched { IfErr result (λ e. e ≢ Failing → IsUntouched (D.seen disk.old) (D.seen disk.new) (D.may_leave disk.old) (D.may_leave disk.new)) }
@@ -186,7 +188,8 @@ fn begun<D: Disk>(
     Ok(signed)
 }
 
-/// What a disk has recorded of a party's journal of a deal, which is made there where there is none.
+/// What a disk has recorded of a party's journal of a deal, which is made there where there is
+/// none.
 pub(crate) fn opened<D: Disk>(
     alloc: Global,
     disk: &mut D,
@@ -194,7 +197,7 @@ pub(crate) fn opened<D: Disk>(
     me: PartyId,
 ) -> Result<SignedKeys, Unopened>
     requires sized { IsWellSized deal.now }
-    ensures kept { IfOk result (IsKeptOn (D.seen disk.new) (D.may_leave disk.new) (D.loose disk.new) deal.now.id me) }
+    ensures kept { IfOk result (IsKeptJournal (D.seen disk.new) (D.may_leave disk.new) (D.loose disk.new) deal.now.id me) }
     ensures shown { IfOk result (IsOpened deal.now me (D.seen disk.old)) }
     ensures any_moment { LeavesOnly D.moment D.left_since disk.old disk.new (IsInOpening deal.now me (D.may_leave disk.old)) }
     ensures among { D.may_leave disk.old (D.seen disk.old) }

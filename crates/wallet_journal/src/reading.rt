@@ -5,7 +5,7 @@ ghost use Rattle.std.specs.List.{range_with_len};
 ghost use Rattle.wallet_journal.specs.Layout.{are_bounded, is_bad, is_damaged, is_recorded, body, parse_count, recorded};
 ghost use Rattle.wallet_journal.specs.Opening.{IsLeastDamaged, IsDamage};
 
-use crate::bodies::key_of;
+use crate::bodies::read_body_hashkey;
 use crate::fault::Unopened;
 use hashkey_path::Hashkey;
 use std::alloc::Global;
@@ -75,11 +75,12 @@ fn read_record(
     let Some(count) = sound_count(body, limit, parties) else {
         return Err(Unopened::Damaged(lock));
     };
-    let key = key_of(alloc, lock, body, count)?;
+    let key = read_body_hashkey(alloc, lock, body, count)?;
     Ok(Some(Shared::new(alloc, key)?))
 }
 
-/// What is recorded for each lock of a deal, or the least lock whose body can't be one of the deal's.
+/// What is recorded for each lock of a deal, or the least lock whose body can't be one of the
+/// deal's.
 pub(crate) fn recorded_keys(
     alloc: Global,
     bytes: &[u8],

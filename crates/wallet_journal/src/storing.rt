@@ -6,7 +6,7 @@ ghost use Rattle.wallet_journal.specs.Device.{LeavesOnly, IsStill, IsUntouched};
 ghost use Rattle.wallet_journal.specs.Layout.{IsTold, encoded_body, is_made, recorded};
 ghost use Rattle.wallet_journal.specs.Journal.{Gains};
 ghost use Rattle.wallet_journal.specs.Own.{IsInRecord};
-ghost use Rattle.wallet_journal.specs.Recording.{IsRecordFault, IsStoppedAt, IsStoppedRecord, IsWritten};
+ghost use Rattle.wallet_journal.specs.Recording.{IsRecordFault, IsStoppedRecording, IsStoppedRecord, IsWritten};
 ghost use Rattle.wallet_journal.specs.Stopped.{bytes_left, kept_key, IsOfWrites};
 ghost use Rattle.wallet_journal.specs.declared.fault.RecordFault.TheVariants.{DiskFault as Failing, NoMemory as Wanting};
 
@@ -35,7 +35,7 @@ pub(crate) fn store<D: Disk>(disk: &mut D, key: &Hashkey, body: &[u8]) -> Result
     ensures written { OnOk result (IsWritten key.now (D.synced disk.old) (D.synced disk.new) (D.loose disk.new)) }
     ensures never { D.never_fails disk.old → IsOk result × D.never_fails disk.new }
     ensures stops { (n : ℕ) → n < 4 → D.stops_after disk.old n
-        → IsErr result × IsStoppedAt n key.now (D.synced disk.old) (D.synced disk.new) (D.loose disk.new) }
+        → IsErr result × IsStoppedRecording n key.now (D.synced disk.old) (D.synced disk.new) (D.loose disk.new) }
     ensures cause { HasCause (D.faults disk.old) (D.faults disk.new) result }
 {
     let lock = key.lock as u32;

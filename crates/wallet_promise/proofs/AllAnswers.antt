@@ -2,7 +2,7 @@
 use Rattle.std.proofs.Common.{◌≡◌, ◌⊎◌, ℕ, ◌==◌, ◌&&◌, not, Bool, true, false, cond, List, [], ◌∷◌, map, Option, Some, None, refl, sym, ap}
 use Rattle.std.proofs.Common.{◌∙◌, subst, inl, inr, eqb-true}
 use Rattle.std.proofs.lemmas.Bool.{false≢true, not-true}
-use Rattle.swap_base.specs.Lists.{IsIn}
+use Rattle.swap_base.specs.Lists.{IsElement}
 use Rattle.swap_base.proofs.Lists.{in_filter, from_filter, in_map}
 use Rattle.swap_digraph.specs.declared.deal.Deal.{Deal}
 use Rattle.hashkey_path.specs.declared.hashkey.Hashkey.{Hashkey}
@@ -12,26 +12,26 @@ use Rattle.swap_rules.specs.Conduct.{is_publish}
 use Rattle.swap_rules.specs.Due.{Wallet, Action, first}
 use Rattle.swap_rules.specs.Useful.{useful, IsHarmful}
 use Rattle.swap_rules.proofs.Useful.{useful_is_due, only_harm_is_left_out}
-use Rattle.wallet_promise.specs.Life.{Asking, Answer, Rest, Make, Keep, kept_note, make_if, is_kept, answer_for, MayGo, MayKeep}
+use Rattle.wallet_promise.specs.Life.{Asking, Answer, Rest, Make, Keep, kept_note, make_if, is_kept, action_answer, MayGo, MayKeep}
 use Rattle.wallet_promise.specs.Answers.{was_sent, is_asked, once, unsent, answers, AllMayGo, AllMayBeKept, NoneIsSentTwice, NothingIsLeftOut}
 use Rattle.wallet_promise.specs.Answers.{EachKeyIsAsked, AllIsUseful, RestIsNothing}
 use Rattle.wallet_promise.proofs.Keys.{made_of, kept_state}
 
 -- Lists.
 
-from_map : {A B : Type 0} (f : A → B) (xs : List A) (y : B) → IsIn y (map f xs) → (x : A) × IsIn x xs × (f x ≡ y)
+from_map : {A B : Type 0} (f : A → B) (xs : List A) (y : B) → IsElement y (map f xs) → (x : A) × IsElement x xs × (f x ≡ y)
 from_map f [] y i = absurd i
 from_map f (x ∷ xs) y (inl e) = (x, inl refl, sym e)
 from_map f (x ∷ xs) y (inr i) = let r = from_map f xs y i in (r.0, inr r.1, r.2)
 
 -- what is asked for once was asked for
-in_cond : (b : Bool) (y z : Answer) (xs ys zs : List Answer) → (IsIn y xs → IsIn y zs) → (IsIn y ys → IsIn y zs) → IsIn y (cond b xs (z ∷ ys))
-    → IsIn y (z ∷ zs)
+in_cond : (b : Bool) (y z : Answer) (xs ys zs : List Answer) → (IsElement y xs → IsElement y zs) → (IsElement y ys → IsElement y zs) → IsElement y (cond b xs (z ∷ ys))
+    → IsElement y (z ∷ zs)
 in_cond true y z xs ys zs f g i = inr (f i)
 in_cond false y z xs ys zs f g (inl e) = inl e
 in_cond false y z xs ys zs f g (inr i) = inr (g i)
 
-from_once : (asked : Option ℕ) (xs : List Answer) (y : Answer) → IsIn y (once asked xs) → IsIn y xs
+from_once : (asked : Option ℕ) (xs : List Answer) (y : Answer) → IsElement y (once asked xs) → IsElement y xs
 from_once asked [] y i = i
 from_once asked (Rest ∷ xs) y i = inr (from_once asked xs y i)
 from_once asked (Make x ∷ xs) y (inl e) = inl e
@@ -40,11 +40,11 @@ from_once asked (Keep key ∷ xs) y i =
     in_cond (is_asked asked key.lock) y (Keep key) (once asked xs) (once (Some key.lock) xs) xs (from_once asked xs y) (from_once (Some key.lock) xs y) i
 
 -- every call stays
-to_cond : (b : Bool) (y z : Answer) (xs ys : List Answer) → IsIn y xs → IsIn y ys → IsIn y (cond b xs (z ∷ ys))
+to_cond : (b : Bool) (y z : Answer) (xs ys : List Answer) → IsElement y xs → IsElement y ys → IsElement y (cond b xs (z ∷ ys))
 to_cond true y z xs ys i j = i
 to_cond false y z xs ys i j = inr j
 
-make_once : (asked : Option ℕ) (xs : List Answer) (x : Action) → IsIn (Make x) xs → IsIn (Make x) (once asked xs)
+make_once : (asked : Option ℕ) (xs : List Answer) (x : Action) → IsElement (Make x) xs → IsElement (Make x) (once asked xs)
 make_once asked [] x i = i
 make_once asked (Rest ∷ xs) x (inl e) = absurd (cc e)
 make_once asked (Rest ∷ xs) x (inr i) = make_once asked xs x i
@@ -57,7 +57,7 @@ make_once asked (Keep key ∷ xs) x (inr i) =
 
 -- A hashkey is asked for that is for the lock.
 abbrev AsksFor : ℕ → List Answer → Type 0
-AsksFor i xs = (k : Hashkey) × IsIn (Keep k) xs × (k.lock ≡ i)
+AsksFor i xs = (k : Hashkey) × IsElement (Keep k) xs × (k.lock ≡ i)
 
 after : (i : ℕ) (x : Answer) (xs : List Answer) → AsksFor i xs → AsksFor i (x ∷ xs)
 after i x xs a = (a.0, inr a.1, a.2)
@@ -76,7 +76,7 @@ further head key true xs ys a o = a
 further head key false xs ys a (inl same) = (head, inl refl, same)
 further head key false xs ys a (inr b) = after key.lock (Keep head) ys b
 
-asks_once : (asked : Option ℕ) (xs : List Answer) (key : Hashkey) → is_asked asked key.lock ≡ false → IsIn (Keep key) xs → AsksFor key.lock (once asked xs)
+asks_once : (asked : Option ℕ) (xs : List Answer) (key : Hashkey) → is_asked asked key.lock ≡ false → IsElement (Keep key) xs → AsksFor key.lock (once asked xs)
 asks_once asked [] key none i = absurd i
 asks_once asked (Rest ∷ xs) key none (inl e) = absurd (cc e)
 asks_once asked (Rest ∷ xs) key none (inr i) = asks_once asked xs key none i
@@ -98,13 +98,13 @@ asks_once asked (Keep head ∷ xs) key none (inr i) =
 
 -- what is answered for each call by itself
 abbrev each : (ℕ → Option Hashkey) → (ℕ → Bool) → List Action → List Answer
-each kept sent xs = map (λ x. answer_for kept (Some x)) (unsent sent xs)
+each kept sent xs = map (λ x. action_answer kept (Some x)) (unsent sent xs)
 
-from_answers : (d : Deal) (v : ℕ) (w : Wallet) (q : Asking) (sent : ℕ → Bool) (y : Answer) → IsIn y (answers d v w q sent)
-    → (x : Action) × IsIn x (useful d v w q.kept q.known) × (was_sent sent x ≡ false) × (answer_for q.kept (Some x) ≡ y)
+from_answers : (d : Deal) (v : ℕ) (w : Wallet) (q : Asking) (sent : ℕ → Bool) (y : Answer) → IsElement y (answers d v w q sent)
+    → (x : Action) × IsElement x (useful d v w q.kept q.known) × (was_sent sent x ≡ false) × (action_answer q.kept (Some x) ≡ y)
 from_answers d v w q sent y i =
     let xs = useful d v w q.kept q.known in
-    let m = from_map (λ x. answer_for q.kept (Some x)) (unsent sent xs) y (from_once None (each q.kept sent xs) y i) in
+    let m = from_map (λ x. action_answer q.kept (Some x)) (unsent sent xs) y (from_once None (each q.kept sent xs) y i) in
     let f = from_filter (λ x. not (was_sent sent x)) m.0 xs m.1 in
     (m.0, f.0, not-true (was_sent sent m.0) f.1, m.2)
 
@@ -115,12 +115,12 @@ pub all_may_go : AllMayGo
 all_may_go d v w q sent x i =
     let f = from_answers d v w q sent (Make x) i in
     let m = made_of q.kept (Some f.0) x f.3 in
-    record { is_due = useful_is_due d v w q.kept q.known x (subst (λ y. IsIn y (useful d v w q.kept q.known)) (some_same f.0 x m.0) f.1); was_kept = m.1 }
+    record { is_due = useful_is_due d v w q.kept q.known x (subst (λ y. IsElement y (useful d v w q.kept q.known)) (some_same f.0 x m.0) f.1); was_kept = m.1 }
 
 pub all_is_useful : AllIsUseful
 all_is_useful d v w q sent x i =
     let f = from_answers d v w q sent (Make x) i in
-    subst (λ y. IsIn y (useful d v w q.kept q.known)) (some_same f.0 x (made_of q.kept (Some f.0) x f.3).0) f.1
+    subst (λ y. IsElement y (useful d v w q.kept q.known)) (some_same f.0 x (made_of q.kept (Some f.0) x f.3).0) f.1
 
 pub all_may_be_kept : AllMayBeKept
 all_may_be_kept d v w q sent key i =
@@ -132,17 +132,17 @@ none_is_sent_twice d v w q sent x i =
     let f = from_answers d v w q sent (Make x) i in
     subst (λ y. was_sent sent y ≡ false) (some_same f.0 x (made_of q.kept (Some f.0) x f.3).0) f.2
 
-to_each : (kept : ℕ → Option Hashkey) (sent : ℕ → Bool) (xs : List Action) (x : Action) (y : Answer) → IsIn x xs → was_sent sent x ≡ false
-    → answer_for kept (Some x) ≡ y → IsIn y (each kept sent xs)
+to_each : (kept : ℕ → Option Hashkey) (sent : ℕ → Bool) (xs : List Action) (x : Action) (y : Answer) → IsElement x xs → was_sent sent x ≡ false
+    → action_answer kept (Some x) ≡ y → IsElement y (each kept sent xs)
 to_each kept sent xs x y i s e =
     let f = in_filter (λ z. not (was_sent sent z)) x xs i (ap not s) in
-    subst (λ z. IsIn z (each kept sent xs)) e (in_map (λ z. answer_for kept (Some z)) (unsent sent xs) x f)
+    subst (λ z. IsElement z (each kept sent xs)) e (in_map (λ z. action_answer kept (Some z)) (unsent sent xs) x f)
 
 pub nothing_is_left_out : NothingIsLeftOut
 nothing_is_left_out d v w q sent x may s = go (only_harm_is_left_out d v w q.kept q.known x may.is_due)
   where
-    go : IsIn x (useful d v w q.kept q.known) ⊎ IsHarmful d v w q.kept q.known x
-        → IsIn (Make x) (answers d v w q sent) ⊎ IsHarmful d v w q.kept q.known x
+    go : IsElement x (useful d v w q.kept q.known) ⊎ IsHarmful d v w q.kept q.known x
+        → IsElement (Make x) (answers d v w q sent) ⊎ IsHarmful d v w q.kept q.known x
     go (inl i) =
         let xs = useful d v w q.kept q.known in
         inl (make_once None (each q.kept sent xs) x (to_each q.kept sent xs x (Make x) i s (ap (λ b. make_if b x) (MayGo.was_kept may))))
@@ -151,7 +151,7 @@ nothing_is_left_out d v w q sent x may s = go (only_harm_is_left_out d v w q.kep
 pub each_key_is_asked : EachKeyIsAsked
 each_key_is_asked d v w q sent key may = go (only_harm_is_left_out d v w q.kept q.known may.unlock may.is_due)
   where
-    go : IsIn (MayKeep.unlock may) (useful d v w q.kept q.known) ⊎ IsHarmful d v w q.kept q.known (MayKeep.unlock may)
+    go : IsElement (MayKeep.unlock may) (useful d v w q.kept q.known) ⊎ IsHarmful d v w q.kept q.known (MayKeep.unlock may)
         → AsksFor key.lock (answers d v w q sent) ⊎ IsHarmful d v w q.kept q.known (MayKeep.unlock may)
     go (inl i) =
         let xs = useful d v w q.kept q.known in
@@ -169,9 +169,9 @@ never_rest kept Claim x false call e r = false≢true (sym e)
 never_rest kept Refund x false call e r = false≢true (sym e)
 never_rest kept (Transfer to units) x false call e r = false≢true (sym e)
 
-only_nothing : (kept : ℕ → Option Hashkey) (xs : List Action) → answer_for kept (first xs) ≡ Rest → xs ≡ []
+only_nothing : (kept : ℕ → Option Hashkey) (xs : List Action) → action_answer kept (first xs) ≡ Rest → xs ≡ []
 only_nothing kept [] e = refl
 only_nothing kept (x ∷ xs) e = absurd (never_rest kept x.call x (is_kept kept x.call) refl refl e)
 
 pub rest_is_nothing : RestIsNothing
-rest_is_nothing d v w q sent = (only_nothing q.kept (useful d v w q.kept q.known), λ e. ap (λ xs. answer_for q.kept (first xs)) e)
+rest_is_nothing d v w q sent = (only_nothing q.kept (useful d v w q.kept q.known), λ e. ap (λ xs. action_answer q.kept (first xs)) e)

@@ -3,7 +3,7 @@ use Rattle.std.proofs.Common.{◌≡◌, ◌⊎◌, ℕ, ◌==◌, Bool, true, f
 use Rattle.std.proofs.Common.{refl, sym, ap, ◌∙◌, subst, inl, inr, eqb-true}
 use Rattle.std.proofs.lemmas.Bool.{false≢true}
 use Rattle.std.proofs.lemmas.Option.{same_Some}
-use Rattle.swap_base.specs.Lists.{IsIn}
+use Rattle.swap_base.specs.Lists.{IsElement}
 use Rattle.swap_digraph.specs.declared.deal.Deal.{Deal}
 use Rattle.hashkey_path.specs.declared.hashkey.Hashkey.{Hashkey}
 use Rattle.ledger_core.specs.declared.entry.Call.{Call}
@@ -15,7 +15,7 @@ use Rattle.swap_rules.specs.Machine.{KeepsKey, IsWallet}
 use Rattle.swap_rules.proofs.Words.{same_key-refl}
 use Rattle.swap_rules.proofs.Cases.{Case, ToPublish, ToUnlock, ToClaim, ToRefund, case_of}
 use Rattle.swap_rules.proofs.DueKeys.{AreGood, OwnTerms, key_rule}
-use Rattle.wallet_promise.specs.Life.{Asking, is_kept, Make, Keep, kept_note, make_if, answer_for, IsPart, IsKeptAfter, MayKeep}
+use Rattle.wallet_promise.specs.Life.{Asking, is_kept, Make, Keep, kept_note, make_if, action_answer, IsPart, IsKeepingStep, MayKeep}
 use Rattle.wallet_promise.specs.Life.{IsJournal, IsTold}
 
 -- a hashkey that was kept is the one that is due
@@ -38,7 +38,7 @@ make_of false x y e = absurd (none y.call e)
     none Refund q = cc q
     none (Transfer u z) q = cc q
 
-pub made_of : (kept : ℕ → Option Hashkey) (o : Option Action) (x : Action) → answer_for kept o ≡ Make x → (o ≡ Some x) × (is_kept kept x.call ≡ true)
+pub made_of : (kept : ℕ → Option Hashkey) (o : Option Action) (x : Action) → action_answer kept o ≡ Make x → (o ≡ Some x) × (is_kept kept x.call ≡ true)
 made_of kept None x e = absurd (cc e)
 made_of kept (Some y) x e = let m = make_of (is_kept kept y.call) x y e in (ap (λ z. Some z) m.1, subst (λ z. is_kept kept z.call ≡ true) m.1 m.0)
 
@@ -53,12 +53,12 @@ keep_if false y key e = (refl, go y.call e)
     go Refund q = absurd (cc q)
     go (Transfer u z) q = absurd (cc q)
 
-pub kept_state : (kept : ℕ → Option Hashkey) (x : Action) (key : Hashkey) → answer_for kept (Some x) ≡ Keep key
+pub kept_state : (kept : ℕ → Option Hashkey) (x : Action) (key : Hashkey) → action_answer kept (Some x) ≡ Keep key
     → (x.call ≡ Unlock key) × (is_first_key (kept key.lock) key ≡ false)
 kept_state kept x key e = let m = keep_if (is_kept kept x.call) x key e in (m.1, subst (λ c. is_kept kept c ≡ false) m.1 m.0)
 
-pub keep_first : (kept : ℕ → Option Hashkey) (o : Option Action) (key : Hashkey) → answer_for kept o ≡ Keep key
-    → (x : Action) × (o ≡ Some x) × (answer_for kept (Some x) ≡ Keep key)
+pub keep_first : (kept : ℕ → Option Hashkey) (o : Option Action) (key : Hashkey) → action_answer kept o ≡ Keep key
+    → (x : Action) × (o ≡ Some x) × (action_answer kept (Some x) ≡ Keep key)
 keep_first kept None key e = absurd (cc e)
 keep_first kept (Some x) key e = (x, refl, e)
 
@@ -96,7 +96,7 @@ module _ (d : Deal) (v : ℕ) (w : Wallet) (b : Histories) (legal : IsLegalBook 
 
   -- what is kept next is good, and holds what was kept
   next_good : (before : ℕ → Option Hashkey) (q : Asking) (next : ℕ → Option Hashkey) → IsTold b q → AreGood d b v before → IsPart q.kept before
-      → IsKeptAfter d v w before q next → AreGood d b v next × IsPart before next
+      → IsKeepingStep d v w before q next → AreGood d b v next × IsPart before next
   next_good before q next told good part (inl e) = (subst (AreGood d b v) (sym e) good, λ i key z. ap (λ f. f i) e ∙ z)
   next_good before q next told good part (inr k) =
       let n = is_new q k.0 told (λ i key z. good i key (part i key z)) k.1 in (
@@ -117,10 +117,10 @@ module _ (d : Deal) (v : ℕ) (w : Wallet) (b : Histories) (legal : IsLegalBook 
   pub record Keeps (before : ℕ → Option Hashkey) (askings : List Asking) (after : ℕ → Option Hashkey) : Type 0 where
     pub good : AreGood d b v after
     pub grows : IsPart before after
-    pub each : (q : Asking) → IsIn q askings → AreGood d b v q.kept
-    pub lasts : (q : Asking) → IsIn q askings → IsPart q.kept after
+    pub each : (q : Asking) → IsElement q askings → AreGood d b v q.kept
+    pub lasts : (q : Asking) → IsElement q askings → IsPart q.kept after
 
-  pub journal_keeps : (before : ℕ → Option Hashkey) (askings : List Asking) (after : ℕ → Option Hashkey) → ((q : Asking) → IsIn q askings → IsTold b q)
+  pub journal_keeps : (before : ℕ → Option Hashkey) (askings : List Asking) (after : ℕ → Option Hashkey) → ((q : Asking) → IsElement q askings → IsTold b q)
       → AreGood d b v before → IsJournal d v w before askings after → Keeps before askings after
   journal_keeps before [] after told good e = record {
     good = subst (AreGood d b v) (sym e) good;
@@ -138,10 +138,10 @@ module _ (d : Deal) (v : ℕ) (w : Wallet) (b : Histories) (legal : IsLegalBook 
         lasts = λ p i. lasts n.1 r p i;
       }
     where
-      each : Keeps j.1 qs after → (p : Asking) → (p ≡ q) ⊎ IsIn p qs → AreGood d b v p.kept
+      each : Keeps j.1 qs after → (p : Asking) → (p ≡ q) ⊎ IsElement p qs → AreGood d b v p.kept
       each r p (inl e) = subst (λ z. AreGood d b v z.kept) (sym e) (λ i key z. good i key (j.0 i key z))
       each r p (inr i) = r.each p i
 
-      lasts : IsPart before j.1 → Keeps j.1 qs after → (p : Asking) → (p ≡ q) ⊎ IsIn p qs → IsPart p.kept after
+      lasts : IsPart before j.1 → Keeps j.1 qs after → (p : Asking) → (p ≡ q) ⊎ IsElement p qs → IsPart p.kept after
       lasts n r p (inl e) i key z = r.grows i key (n i key (j.0 i key (ap (λ y. y.kept i) (sym e) ∙ z)))
       lasts n r p (inr k) i key z = r.lasts p k i key z

@@ -4,8 +4,8 @@ use Rattle.std.proofs.Common.{length, Option, Some, None, is_some, is_none, refl
 use Rattle.std.specs.List.{flat_map}
 use Rattle.std.proofs.lemmas.Bool.{false≢true}
 use Rattle.std.proofs.lemmas.List.Sums.{sum_by-append, sum_by-cons}
-use Rattle.swap_base.specs.Lists.{first_of, IsIn, moments, IsMoment}
-use Rattle.swap_base.proofs.Lists.{first_at, first_of-front, all_moments_front, list_all-from, and_parts, and_both, in_flat_map}
+use Rattle.swap_base.specs.Lists.{first_given_answer, IsElement, moments, IsMoment}
+use Rattle.swap_base.proofs.Lists.{first_at, first_given_answer-front, all_moments_front, list_all-from, and_parts, and_both, in_flat_map}
 use Rattle.swap_base.proofs.Lists.{in_append, in_range}
 use Rattle.swap_base.proofs.Lists.{in_from_moment, moment_from_in, from_whole, at_moment, all_from_list_all}
 use Rattle.swap_digraph.specs.declared.deal.Deal.{Deal}
@@ -21,13 +21,13 @@ use Rattle.ledger_core.specs.History.{height, accepted, publication, published, 
 use Rattle.ledger_core.specs.Book.{Histories, history, IsLegalBook}
 use Rattle.ledger_core.proofs.History.{published_done, of_publish, not-true-of}
 use Rattle.swap_rules.specs.Accepted.{IsAccepted}
-use Rattle.swap_rules.specs.Party.{has_expired, is_correct, is_ready, is_triggered, leads_one, pick_call, fetch_key, first_key}
+use Rattle.swap_rules.specs.Party.{has_expired, is_correct, is_ready, is_triggered, leads_one, pick_call, unlock_hashkey, first_key}
 use Rattle.swap_rules.specs.Conduct.{is_publish, is_first_key, keeps, keeps_entry, IsConducted}
 use Rattle.swap_rules.specs.Due.{Wallet, has_called, unlocks_lock, is_claiming, is_due_publish, may_unlock, is_due_claim, is_due_refund, due, first}
 use Rattle.swap_rules.specs.Due.{is_refunding, due_arc_unlock, due_key, presented, due_unlocks, due_publishes, due_claims, due_refunds}
 use Rattle.swap_rules.specs.declared.finding.Rule.{Rule}
 use Rattle.swap_rules.specs.declared.finding.Rule.TheVariants.{Publish as OfPublish, Unlock as OfUnlock, Claim as OfClaim, Refund as OfRefund}
-use Rattle.swap_rules.specs.Late.{ref_of, late_at, is_done}
+use Rattle.swap_rules.specs.Late.{reference_height, is_past_due, is_done}
 use Rattle.swap_rules.specs.Machine.{Begins, Knows, KeepsOwn, KeepsRules, IsWallet, rule_test, noted}
 use Rattle.swap_rules.proofs.Room.{rules_leave_room}
 use Rattle.swap_rules.proofs.Rounds.{Informed, informed_done, nothing_due}
@@ -94,10 +94,10 @@ module _ (d : Deal) (v : ℕ) (w : Wallet) (b : Histories) (askings : List Askin
       there None t = absurd (cc t)
       there (Some old) t = (old, refl)
 
-  pub new_one : (q : Asking) (key : Hashkey) → IsIn q askings → MayKeep d v w q key → q.kept key.lock ≡ None
+  pub new_one : (q : Asking) (key : Hashkey) → IsElement q askings → MayKeep d v w q key → q.kept key.lock ≡ None
   new_one q key i e = (is_new d v w b legal wallet own_terms q key (life.told q i) (keeping.each q i) e).free
 
-  pub last_one : (q : Asking) (i : ℕ) (key : Hashkey) → IsIn q askings → q.kept i ≡ Some key → kept i ≡ Some key
+  pub last_one : (q : Asking) (i : ℕ) (key : Hashkey) → IsElement q askings → q.kept i ≡ Some key → kept i ≡ Some key
   last_one q i key j e = keeping.lasts q j i key e
 
   publish_kept : (a : ℕ) (past : List Entry) (e : Entry) (known : Histories) → IsMoment (history b a) past e → pick_call v e ≡ Some (Publish (stated_terms d a))
@@ -110,7 +110,7 @@ module _ (d : Deal) (v : ℕ) (w : Wallet) (b : Histories) (askings : List Askin
       (and_both (same_terms (stated_terms d a) (stated_terms d a)) _ (same_terms-refl (stated_terms d a)) (eq-eqb _ 1 one)) (may-more d known b v grows r.0)
 
   unlock_kept : (a : ℕ) (past : List Entry) (e : Entry) (known : Histories) (i : ℕ) (key : Hashkey) → IsMoment (history b a) past e
-      → pick_call v e ≡ Some (Unlock key) → Grows known b → Begins (history known a) past → IsIn a (entering d.graph v) → may_unlock d v known i a ≡ true
+      → pick_call v e ≡ Some (Unlock key) → Grows known b → Begins (history known a) past → IsElement a (entering d.graph v) → may_unlock d v known i a ≡ true
       → keeps d b v a past e.height (Some (Unlock key)) ≡ true
   unfolding keeps
   unlock_kept a past e known i key m k grows later en may =
@@ -134,7 +134,7 @@ module _ (d : Deal) (v : ℕ) (w : Wallet) (b : Histories) (askings : List Askin
       triggered-more d (history known a) past later k.1
 
   refund_kept : (a : ℕ) (past : List Entry) (e : Entry) (known : Histories) → IsMoment (history b a) past e → pick_call v e ≡ Some Refund
-      → Begins (history known a) past → IsIn a (leaving d.graph v) → is_due_refund d v known a ≡ true
+      → Begins (history known a) past → IsElement a (leaving d.graph v) → is_due_refund d v known a ≡ true
       → keeps d b v a past e.height (Some Refund) ≡ true
   unfolding keeps is_due_refund
   refund_kept a past e known m q later out t =
@@ -148,7 +148,7 @@ module _ (d : Deal) (v : ℕ) (w : Wallet) (b : Histories) (askings : List Askin
       let up = begins_height (history known a) past later in
       let r =
       still_expired d (times_law d acc) a l.0 (history known a) past past_legal later
-      (λ p z. own_terms a p out (ap published m.1 ∙ first_of-front (λ e. publication e.height (accepted e)) past (e ∷ m.0) p z))
+      (λ p z. own_terms a p out (ap published m.1 ∙ first_given_answer-front (λ e. publication e.height (accepted e)) past (e ∷ m.0) p z))
       (height (history known a)) (height past) k.3 (omega arith) up in
       subst (λ n. has_expired d a past n ≡ true) (sym at) r
 
@@ -178,7 +178,8 @@ module _ (d : Deal) (v : ℕ) (w : Wallet) (b : Histories) (askings : List Askin
   conducts a = list_all-from (keeps_entry d b v a) (moments (history b a)) (λ m i. keep_at a m.past m.now (from_moments (history b a) m i)
       (pick_call v m.now) refl)
 
-  -- A call is the first of its kind, where what was told of its ledger holds what stands there before it.
+  -- A call is the first of its kind, where what was told of its ledger holds what stands there
+  -- before it.
   pub patient_first : (a : ℕ) (past : List Entry) (c : Call) (i : IsAnswered d v w askings a past c) → Knows v (history i.asking.known a) past → (r : Rule)
       → rule_test r (Some c) ≡ true → has_called v (rule_test r) past ≡ false
   unfolding is_due_publish is_due_claim is_due_refund
@@ -222,7 +223,7 @@ module _ (d : Deal) (v : ℕ) (w : Wallet) (b : Histories) (askings : List Askin
           knows_call v is_refunding (history i.asking.known a) past refl kn (not-true-of _ k.4)
 
   -- An unlock whose hashkey was kept is due as before.
-  pub goes : (q : Asking) (key : Hashkey) → IsIn q askings → (k : MayKeep d v w q key)
+  pub goes : (q : Asking) (key : Hashkey) → IsElement q askings → (k : MayKeep d v w q key)
       → MayGo d v w (record { known = q.known; kept = noted q.kept (Unlock key) }) k.unlock
   unfolding due due_arc_unlock due_key
   goes q key j k =
@@ -234,7 +235,7 @@ module _ (d : Deal) (v : ℕ) (w : Wallet) (b : Histories) (askings : List Askin
       first_kept : is_first_key (noted q.kept (Unlock key) key.lock) key ≡ true
       first_kept = ap (λ x. is_first_key (cond x (Some key) (q.kept key.lock)) key) (eq-eqb key.lock key.lock refl) ∙ same_key-refl key
 
-      again : Case d v w q.kept q.known k.unlock.arc k.unlock.call → IsIn k.unlock (due d v w (noted q.kept (Unlock key)) q.known)
+      again : Case d v w q.kept q.known k.unlock.arc k.unlock.call → IsElement k.unlock (due d v w (noted q.kept (Unlock key)) q.known)
       again (ToPublish i t z) = absurd (cc (sym call ∙ z))
       again (ToClaim i t z) = absurd (cc (sym call ∙ z))
       again (ToRefund i t z) = absurd (cc (sym call ∙ z))
@@ -244,12 +245,12 @@ module _ (d : Deal) (v : ℕ) (w : Wallet) (b : Histories) (askings : List Askin
           let lock : key.lock ≡ i =
           (key_rule d v w b legal wallet own_terms q.kept q.known (keeping.each q j) (life.told q j) i key low t2).good.lock in
           let now : noted q.kept (Unlock key) i ≡ Some key = ap (λ x. cond x (Some key) (q.kept i)) (eq-eqb i key.lock (sym lock)) in
-          let here : IsIn k.unlock (due_arc_unlock d v w (noted q.kept (Unlock key) i) q.known i k.unlock.arc) =
-          subst (λ s. IsIn k.unlock (due_arc_unlock d v w s q.known i k.unlock.arc)) (sym now)
-          (subst (λ x. IsIn k.unlock (cond x (presented k.unlock.arc (Some key)) [])) (sym may) (inl (ap (λ c. record { arc = k.unlock.arc; call = c }) call)))
+          let here : IsElement k.unlock (due_arc_unlock d v w (noted q.kept (Unlock key) i) q.known i k.unlock.arc) =
+          subst (λ s. IsElement k.unlock (due_arc_unlock d v w s q.known i k.unlock.arc)) (sym now)
+          (subst (λ x. IsElement k.unlock (cond x (presented k.unlock.arc (Some key)) [])) (sym may) (inl (ap (λ c. record { arc = k.unlock.arc; call = c }) call)))
           in
           let inner = in_flat_map (due_arc_unlock d v w (noted q.kept (Unlock key) i) q.known i) (entering d.graph v) k.unlock.arc k.unlock en here in
-          let all : IsIn k.unlock (due_unlocks d v w (noted q.kept (Unlock key)) q.known) =
+          let all : IsElement k.unlock (due_unlocks d v w (noted q.kept (Unlock key)) q.known) =
           in_flat_map (λ i. flat_map (due_arc_unlock d v w (noted q.kept (Unlock key) i) q.known i) (entering d.graph v)) (locks d) i k.unlock
           (in_range i (length d.leaders) low) inner in
           let two = in_append (due_publishes d v q.known) (due_unlocks d v w (noted q.kept (Unlock key)) q.known) k.unlock (inr all) in
@@ -261,7 +262,7 @@ module _ (d : Deal) (v : ℕ) (w : Wallet) (b : Histories) (askings : List Askin
   -- Where each call is the first of its kind.
   module _ (first_one : (a : ℕ) (past : List Entry) (e : Entry) (c : Call) → IsMoment (history b a) past e → pick_call v e ≡ Some c
       → (r : Rule) → rule_test r (Some c) ≡ true → has_called v (rule_test r) past ≡ false) where
-    enters_at : {s : ℕ → Option Hashkey} {n : Histories} (a : ℕ) (key : Hashkey) → Case d v w s n a (Unlock key) → IsIn a (entering d.graph v)
+    enters_at : {s : ℕ → Option Hashkey} {n : Histories} (a : ℕ) (key : Hashkey) → Case d v w s n a (Unlock key) → IsElement a (entering d.graph v)
     enters_at a key (ToPublish j t q) = absurd (cc q)
     enters_at a key (ToUnlock j k l en may t q) = en
     enters_at a key (ToClaim j t q) = absurd (cc q)
@@ -333,25 +334,25 @@ attentive_is_safe d v w b askings kept acc legal wallet life attends = (on_time,
     }
 
     on_time : IsOnTime d b v
-    on_time rule a i j = go (ref_of d b v rule a) refl
+    on_time rule a i j = go (reference_height d b v rule a) refl
       where
-        at : (ref : ℕ) → ref_of d b v rule a ≡ Some ref → (x : Bool) → nat_lt (ref + d.delta) (height (history b a)) ≡ x
+        at : (ref : ℕ) → reference_height d b v rule a ≡ Some ref → (x : Bool) → nat_lt (ref + d.delta) (height (history b a)) ≡ x
             → (x && not (is_done d b v rule a (ref + d.delta))) ≡ false
         at ref e false h = refl
         at ref e true h =
             ap not (informed_done d b v w ref (ref + d.delta) acc legal conducted
             (informed ref (attends rule a ref i j e (ltb-true (ref + d.delta) (height (history b a)) h))) rule a i e)
 
-        go : (o : Option ℕ) → ref_of d b v rule a ≡ o → late_at d b v rule a o ≡ false
+        go : (o : Option ℕ) → reference_height d b v rule a ≡ o → is_past_due d b v rule a o ≡ false
         go None e = refl
         go (Some ref) e = at ref e (nat_lt (ref + d.delta) (height (history b a))) refl
 
 pub ledgers_hold_keys : LedgersHoldKeys
 unfolding first_key
 ledgers_hold_keys d v w b askings kept acc legal wallet life known i key grows e =
-    let f = first_at (λ e. fetch_key i (pick_call v e)) (flat_map (λ h. h) known) key e in
+    let f = first_at (λ e. unlock_hashkey i (pick_call v e)) (flat_map (λ h. h) known) key e in
     let p = key_parts i (pick_call v f.now) key f.gives in
-    let x = from_whole known f.now (subst (IsIn f.now) (sym f.stands.1) (in_from_moment f.past f.now f.stands.0)) in
+    let x = from_whole known f.now (subst (IsElement f.now) (sym f.stands.1) (in_from_moment f.past f.now f.stands.0)) in
     let n = moment_from_in (history known x.0) f.now x.2 in
     let m = moment_more (history known x.0) (history b x.0) n.0 f.now (grows x.0) n.1 in
     subst (λ j. kept j ≡ Some key) p.1 (one_key d v w b askings kept acc legal wallet life x.0 n.0 f.now key m p.0)
@@ -399,7 +400,7 @@ told_is_once d v w askings a past c i kn t =
 
 -- Two publishes are two.
 
-count_some : {A : Type 0} (p : A → Bool) (xs : List A) (x : A) → IsIn x xs → p x ≡ true → (count_by p xs ≡ 0) → ⊥
+count_some : {A : Type 0} (p : A → Bool) (xs : List A) (x : A) → IsElement x xs → p x ≡ true → (count_by p xs ≡ 0) → ⊥
 count_some p [] x i t z = absurd i
 count_some p (y ∷ ys) x (inl e) t z =
     let e1 : count_by p (y ∷ ys) ≡ cond (p y) 1 0 + count_by p ys = sum_by-cons (λ z. cond (p z) 1 0) y ys in

@@ -1,7 +1,7 @@
 -- The life of a wallet that publishes as it likes.
 use Rattle.std.proofs.Common.{refl, ◌≡◌, ℕ, ◌+◌, nat_lt, Bool, true, false, not, List, Option, Some, is_some, is_none, inl, inr, arith}
 use Rattle.std.proofs.Common.{ltb-true, ltb-false}
-use Rattle.swap_base.specs.Lists.{IsIn, IsMoment}
+use Rattle.swap_base.specs.Lists.{IsElement, IsMoment}
 use Rattle.swap_digraph.specs.declared.deal.Deal.{Deal}
 use Rattle.swap_digraph.specs.Graph.{leaving}
 use Rattle.hashkey_path.specs.declared.hashkey.Hashkey.{Hashkey}
@@ -14,10 +14,10 @@ use Rattle.swap_rules.specs.Accepted.{IsAccepted}
 use Rattle.swap_rules.specs.Party.{is_triggered, has_expired, pick_call}
 use Rattle.swap_rules.specs.Conduct.{IsConducted}
 use Rattle.swap_rules.specs.Due.{Wallet, is_due_refund}
-use Rattle.swap_rules.specs.Late.{ref_of}
+use Rattle.swap_rules.specs.Late.{reference_height}
 use Rattle.swap_rules.specs.Machine.{IsWallet}
 use Rattle.swap_rules.specs.Outcome.{IsEnded}
-use Rattle.swap_rules.specs.Rounds.{IsDoneBy}
+use Rattle.swap_rules.specs.Rounds.{IsDoneInTime}
 use Rattle.swap_rules.specs.Walking.{HasLost, IsWatchful, is_withheld}
 use Rattle.swap_rules.proofs.Cases.{Case, ToPublish, ToUnlock, ToClaim, ToRefund, case_of}
 use Rattle.swap_rules.proofs.Entering.{UnlocksInTime}
@@ -26,7 +26,7 @@ use Rattle.swap_rules.proofs.Refunds.{unlocks_all, watchful_is_safe}
 use Rattle.swap_rules.proofs.Rounds.{Told, nothing_presses, not_withheld, unlock_done, done_not_late}
 use Rattle.swap_rules.proofs.Walking.{Last, last_claims, last_refunds}
 use Rattle.swap_rules.proofs.Words.{and_five}
-use Rattle.wallet_promise.specs.Life.{Asking, IsAnswered, HasSeenTo, IsLife, IsMindful}
+use Rattle.wallet_promise.specs.Life.{Asking, IsAnswered, HasActedOnTime, IsLife, IsMindful}
 use Rattle.wallet_promise.specs.Laws.{WatchfulLifeIsSafe, MindfulIsSafe}
 use Rattle.wallet_promise.proofs.Living.{life_conducts}
 
@@ -37,7 +37,7 @@ watchful_life_is_safe d v w b askings kept acc legal wallet life watchful =
 module _ (d : Deal) (v : ℕ) (w : Wallet) (b : Histories) (askings : List Asking) (kept : ℕ → Option Hashkey) (acc : IsAccepted d) (legal : IsLegalBook d b)
     (wallet : IsWallet d v w) (life : IsLife d v w b askings kept) where
   -- a wallet asks back only what was published
-  asks : (a : ℕ) (past : List Entry) (e : Entry) → IsIn a (leaving d.graph v) → IsMoment (history b a) past e → pick_call v e ≡ Some Refund
+  asks : (a : ℕ) (past : List Entry) (e : Entry) → IsElement a (leaving d.graph v) → IsMoment (history b a) past e → pick_call v e ≡ Some Refund
       → is_some (published past) ≡ true
   unfolding is_due_refund
   asks a past e i m k =
@@ -58,7 +58,7 @@ module _ (d : Deal) (v : ℕ) (w : Wallet) (b : Histories) (askings : List Askin
     conducted : IsConducted d b v
     conducted = life_conducts d v w b askings kept acc legal wallet life
 
-    told : (ref : ℕ) → HasSeenTo d v w askings ref (ref + d.delta) → Told d b v w ref (ref + d.delta)
+    told : (ref : ℕ) → HasActedOnTime d v w askings ref (ref + d.delta) → Told d b v w ref (ref + d.delta)
     told ref t = record {
       known = t.asking.known;
       signed = t.asking.kept;
@@ -74,12 +74,12 @@ module _ (d : Deal) (v : ℕ) (w : Wallet) (b : Histories) (askings : List Askin
     in_time stake i a below j = done_not_late d b v d.delta (omega arith) (RuleUnlock i) a (λ ref e.
         go ref e (nat_lt (ref + d.delta) (height (history b a))) refl)
       where
-        go : (ref : ℕ) → ref_of d b v (RuleUnlock i) a ≡ Some ref → (x : Bool) → nat_lt (ref + d.delta) (height (history b a)) ≡ x
-            → IsDoneBy d b v (RuleUnlock i) a (ref + d.delta)
+        go : (ref : ℕ) → reference_height d b v (RuleUnlock i) a ≡ Some ref → (x : Bool) → nat_lt (ref + d.delta) (height (history b a)) ≡ x
+            → IsDoneInTime d b v (RuleUnlock i) a (ref + d.delta)
         go ref e true h =
             let t = mindful.unlocks stake i a ref below j e (ltb-true (ref + d.delta) (height (history b a)) h) in
             inl (unlock_done d b v w ref (ref + d.delta) acc legal conducted (told ref t) i a below (λ early.
-            not_withheld d v (HasSeenTo.asking t).known i ref (HasSeenTo.soon t) early) e)
+            not_withheld d v (HasActedOnTime.asking t).known i ref (HasActedOnTime.soon t) early) e)
         go ref e false h = inr (ltb-false (ref + d.delta) (height (history b a)) h)
 
     last : Last d b v w

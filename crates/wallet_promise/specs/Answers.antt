@@ -1,14 +1,15 @@
 -- All that is answered at once: every call that is useful, in its order, and not the first alone.
 use Rattle.std.specs.Prelude.{◌≡◌, ◌⊎◌, ◌==◌, ◌&&◌, not, ℕ, Bool, false, List, [], ◌∷◌, map, filter, Option, Some, None, if◌then◌else◌}
-use Rattle.swap_base.specs.Lists.{IsIn}
+use Rattle.swap_base.specs.Lists.{IsElement}
 use Rattle.swap_digraph.specs.declared.deal.Deal.{Deal}
 use Rattle.hashkey_path.specs.declared.hashkey.Hashkey.{Hashkey}
 use Rattle.swap_rules.specs.Conduct.{is_publish}
 use Rattle.swap_rules.specs.Due.{Wallet, Action}
 use Rattle.swap_rules.specs.Useful.{useful, IsHarmful}
-use Rattle.wallet_promise.specs.Life.{Asking, Answer, Rest, Make, Keep, answer, answer_for, MayGo, MayKeep}
+use Rattle.wallet_promise.specs.Life.{Asking, Answer, Rest, Make, Keep, answer, action_answer, MayGo, MayKeep}
 
--- whether the call is a publish, and one was written down as sent on its arc: it may have gone out, so it never goes again
+-- whether the call is a publish, and one was written down as sent on its arc: it may have gone out,
+-- so it never goes again
 abbrev pub was_sent : (ℕ → Bool) → Action → Bool
 was_sent sent x = is_publish (Some x.call) && sent x.arc
 
@@ -17,7 +18,8 @@ abbrev pub is_asked : Option ℕ → ℕ → Bool
 is_asked None i = false
 is_asked (Some j) i = j == i
 
--- the answers with each hashkey asked for once: unlocks for one lock that are due stand together, and carry one
+-- the answers with each hashkey asked for once: unlocks for one lock that are due stand together,
+-- and carry one
 abbrev pub once : Option ℕ → List Answer → List Answer
 once asked [] = []
 once asked (Rest ∷ xs) = once asked xs
@@ -29,12 +31,12 @@ abbrev pub unsent : (ℕ → Bool) → List Action → List Action
 unsent sent xs = filter (λ x. not (was_sent sent x)) xs
 
 -- what is answered for these calls
-abbrev pub answers_for : (ℕ → Option Hashkey) → (ℕ → Bool) → List Action → List Answer
-answers_for kept sent xs = once None (map (λ x. answer_for kept (Some x)) (unsent sent xs))
+abbrev pub action_answers : (ℕ → Option Hashkey) → (ℕ → Bool) → List Action → List Answer
+action_answers kept sent xs = once None (map (λ x. action_answer kept (Some x)) (unsent sent xs))
 
 -- all that is answered to an asking
 abbrev pub answers : Deal → ℕ → Wallet → Asking → (ℕ → Bool) → List Answer
-answers d v w q sent = answers_for q.kept sent (useful d v w q.kept q.known)
+answers d v w q sent = action_answers q.kept sent (useful d v w q.kept q.known)
 
 -- A law of all answers to an asking.
 abbrev pub OfAllAnswers : (Deal → ℕ → Wallet → Asking → (ℕ → Bool) → Type 0) → Type 0
@@ -42,30 +44,31 @@ OfAllAnswers P = (d : Deal) (v : ℕ) (w : Wallet) (q : Asking) (sent : ℕ → 
 
 -- each call that is answered may go out, and each hashkey that is answered may be kept
 abbrev pub AllMayGo : Type 0
-AllMayGo = OfAllAnswers (λ d v w q sent. (x : Action) → IsIn (Make x) (answers d v w q sent) → MayGo d v w q x)
+AllMayGo = OfAllAnswers (λ d v w q sent. (x : Action) → IsElement (Make x) (answers d v w q sent) → MayGo d v w q x)
 
 abbrev pub AllMayBeKept : Type 0
-AllMayBeKept = OfAllAnswers (λ d v w q sent. (key : Hashkey) → IsIn (Keep key) (answers d v w q sent) → MayKeep d v w q key)
+AllMayBeKept = OfAllAnswers (λ d v w q sent. (key : Hashkey) → IsElement (Keep key) (answers d v w q sent) → MayKeep d v w q key)
 
 -- no publish goes out that was sent
 abbrev pub NoneIsSentTwice : Type 0
-NoneIsSentTwice = OfAllAnswers (λ d v w q sent. (x : Action) → IsIn (Make x) (answers d v w q sent) → was_sent sent x ≡ false)
+NoneIsSentTwice = OfAllAnswers (λ d v w q sent. (x : Action) → IsElement (Make x) (answers d v w q sent) → was_sent sent x ≡ false)
 
 -- whatever may go out is answered, unless it was sent or can only hurt
 abbrev pub NothingIsLeftOut : Type 0
 NothingIsLeftOut =
     OfAllAnswers (λ d v w q sent. (x : Action) → MayGo d v w q x → was_sent sent x ≡ false
-    → IsIn (Make x) (answers d v w q sent) ⊎ IsHarmful d v w q.kept q.known x)
+    → IsElement (Make x) (answers d v w q sent) ⊎ IsHarmful d v w q.kept q.known x)
 
--- for each lock for which a hashkey may be kept one is asked for, unless presenting it can only hurt
+-- for each lock for which a hashkey may be kept one is asked for, unless presenting it can only
+-- hurt
 abbrev pub EachKeyIsAsked : Type 0
 EachKeyIsAsked =
     OfAllAnswers (λ d v w q sent. (key : Hashkey) (may : MayKeep d v w q key)
-    → ((asked : Hashkey) × IsIn (Keep asked) (answers d v w q sent) × (asked.lock ≡ key.lock)) ⊎ IsHarmful d v w q.kept q.known may.unlock)
+    → ((asked : Hashkey) × IsElement (Keep asked) (answers d v w q sent) × (asked.lock ≡ key.lock)) ⊎ IsHarmful d v w q.kept q.known may.unlock)
 
 -- every call that is answered is useful
 abbrev pub AllIsUseful : Type 0
-AllIsUseful = OfAllAnswers (λ d v w q sent. (x : Action) → IsIn (Make x) (answers d v w q sent) → IsIn x (useful d v w q.kept q.known))
+AllIsUseful = OfAllAnswers (λ d v w q sent. (x : Action) → IsElement (Make x) (answers d v w q sent) → IsElement x (useful d v w q.kept q.known))
 
 -- a wallet rests exactly where nothing is useful; then nothing is answered
 abbrev pub RestIsNothing : Type 0

@@ -1,6 +1,7 @@
 //! What a wallet is promised that asks for each of its calls anew, and keeps nothing but hashkeys.
 //!
-//! Read `specs/Life.antt` first, then `specs/Laws.antt`, then `specs/Answers.antt`: all that is answered at once.
+//! Read `specs/Life.antt` first, then `specs/Laws.antt`, then `specs/Answers.antt`: all that is
+//! answered at once.
 #![tactic(auto)]
 
 ghost use Rattle.wallet_promise.specs.Laws.{LifeConducts, LifeIsSafe, OneHashkey, AskedIsNotKept, KeptMayGo};
@@ -29,7 +30,8 @@ pub fn walking_away_is_safe()
     ensures mindful { MindfulIsSafe }
 {}
 
-/// All unlock calls for a lock carry one hashkey, which was kept before it went out; none is kept for a lock that has one, and none is lost.
+/// All unlock calls for a lock carry one hashkey, which was kept before it went out; none is kept
+/// for a lock that has one, and none is lost.
 pub fn one_hashkey()
     ensures one { OneHashkey }
     ensures asked { AskedIsNotKept }
@@ -38,8 +40,8 @@ pub fn one_hashkey()
     ensures shown { LedgersHoldKeys }
 {}
 
-/// What is answered may go out, and is new where what was told holds what landed before it; a publish that lands twice breaks conduct,
-/// and so do two hashkeys for a lock.
+/// What is answered may go out, and is new where what was told holds what landed before it; a
+/// publish that lands twice breaks conduct, and so do two hashkeys for a lock.
 pub fn answers_may_go()
     ensures go { AnswersMayGo }
     ensures keep { AnswersMayBeKept }
@@ -48,7 +50,8 @@ pub fn answers_may_go()
     ensures keys { TwoKeysAreBroken }
 {}
 
-/// A life begins with nothing and goes on by entries of others, askings and calls that land: all that a wallet does is such a life.
+/// A life begins with nothing and goes on by entries of others, askings and calls that land: all
+/// that a wallet does is such a life.
 pub fn life_continues()
     ensures begins { LifeBegins }
     ensures others { OthersContinue }
@@ -56,8 +59,8 @@ pub fn life_continues()
     ensures lands { CallsLand }
 {}
 
-/// Of all that is answered at once each call may go out and each hashkey may be kept; nothing that may is left out
-/// but a publish that was sent, and what can only hurt.
+/// Of all that is answered at once each call may go out and each hashkey may be kept; nothing that
+/// may is left out but a publish that was sent, and what can only hurt.
 pub fn answers_are_whole()
     ensures go { AllMayGo }
     ensures keep { AllMayBeKept }

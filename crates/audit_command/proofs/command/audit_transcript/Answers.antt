@@ -2,7 +2,7 @@ use Rattle.std.proofs.Common.{inl}
 use Rattle.std.proofs.KnownBytes.{Keeps-refl}
 use Rattle.command_input.specs.Input.{desk, fresh}
 use Rattle.command_input.proofs.Streams.{calm_unread}
-use Rattle.audit_command.specs.Reading.{IsAgainst}
+use Rattle.audit_command.specs.Reading.{IsStoryRefusal}
 use Rattle.transcript_reader.specs.Reading.{job_story}
 use Rattle.audit_command.proofs.Ends.{all_consumed}
 use Rattle.audit_command.proofs.Told.{is_formed, says_refused, says_unread, says_written}
@@ -35,7 +35,7 @@ pub returns-in-Err-clause-calm : goal.returns-in-Err-clause-calm
 returns-in-Err-clause-calm g c =
     let s = c.in-Err.ensures.stops in
     rw c.unread.ensures
-    (calm_unread IsAgainst (desk (g.S.Source.left c.args.source.now) (g.S.Source.faults c.args.source.now) fresh)
+    (calm_unread IsStoryRefusal (desk (g.S.Source.left c.args.source.now) (g.S.Source.faults c.args.source.now) fresh)
     (desk (g.S.Source.left c.read_story.new.source) (g.S.Source.faults c.read_story.new.source) s.now) c.in-Err.fault s.why)
 
 pub returns-in-Ok-judge-clause-calm : goal.returns-in-Ok-judge-clause-calm

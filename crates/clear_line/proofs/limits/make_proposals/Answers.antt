@@ -5,5 +5,5 @@ use Rattle.clear_line.proofs.limits.make_proposals.Goals as goal
 
 pub each_proposed-requires : goal.each_proposed-requires
 each_proposed-requires c =
-    let k = within_ok _ _ 2 32 _ _ c.in_ok-within.ensures in
+    let k = within_ok _ _ 2 32 _ _ c.in_ok-check_range.ensures in
     rw c.as_slice.ensures (small_ends c.args.numbered.now (omega (arith, k.1, c.len.ensures)) c.requires)

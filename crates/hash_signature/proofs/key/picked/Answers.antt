@@ -1,6 +1,6 @@
 use Rattle.std.proofs.Common.{arith, rules, ◌∙◌}
 use Rattle.std.proofs.Math.ListN.{length-set}
-use Rattle.hash_signature.specs.Signature.{signed_value, parse_signature}
+use Rattle.hash_signature.specs.Signature.{signed_value, made_signature}
 use Rattle.hash_signature.proofs.Chains.{filled_more, filled_all}
 use Rattle.hash_signature.proofs.key.picked.Goals as goal
 
@@ -13,7 +13,7 @@ chains-preserved c = record {
 }
 
 pub returns : goal.returns
-unfolding parse_signature
+unfolding made_signature
 returns c =
     filled_all (signed_value c.args.chains.now.seed c.args.chains.now.party c.args.chains.now.lock c.args.message.now) c.chains.values c.chains.j
     c.chains.invariant.width (omega arith) c.chains.invariant.filled

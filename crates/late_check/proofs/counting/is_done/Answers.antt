@@ -3,7 +3,7 @@ use Rattle.std.specs.List.{list_any}
 use Rattle.history_index.specs.Value.{IndexState}
 use Rattle.history_index.specs.declared.made.Made.{Made}
 use Rattle.due_calls.proofs.Known.{history_at}
-use Rattle.late_check.specs.Parts.{counts_entry, is_done_in}
+use Rattle.late_check.specs.Parts.{counts_entry, has_counted_call}
 use Rattle.late_check.proofs.Made.{done_made}
 use Rattle.late_check.proofs.counting.is_done.Goals as goal
 
@@ -13,4 +13,4 @@ returns-in-Some c =
     let counted = c.args.counted.now in
     c.any_counts.ensures ∙ ap (list_any (λ (m : Made). counts_entry counted c.args.party c.args.due m.entry)) c.made.ensures.value
     ∙ sym (done_made counted c.args.party c.args.due c.in-Some.index.now.entries)
-    ∙ ap (is_done_in counted c.args.party c.args.due) (history_at (λ (x : IndexState). x.entries) c.args.known.now c.args.arc c.in-Some.index.now l.3.0 l.1)
+    ∙ ap (has_counted_call counted c.args.party c.args.due) (history_at (λ (x : IndexState). x.entries) c.args.known.now c.args.arc c.in-Some.index.now l.3.0 l.1)

@@ -2,8 +2,8 @@ use Rattle.std.proofs.Common.{◌≡◌, ◌++◌}
 use Rattle.std.specs.List.{flat_map, range_with_len}
 use Rattle.history_index.specs.Indexes.{all_entries}
 use Rattle.swap_rules.specs.declared.finding.Rule.TheVariants.{Unlock}
-use Rattle.late_check.specs.Parts.{lates_by}
+use Rattle.late_check.specs.Parts.{rule_late_findings}
 use Rattle.late_check.proofs.lates.put_late_unlocks.Given as goal
 
 abbrev pub invariant-loop-lock : goal.invariant-loop-lock
-invariant-loop-lock l = l.out.items ≡ l.initial.out.items ++ flat_map (λ i. lates_by l.deal (all_entries l.known) l.party (Unlock i)) (range_with_len 0 l.lock)
+invariant-loop-lock l = l.out.items ≡ l.initial.out.items ++ flat_map (λ i. rule_late_findings l.deal (all_entries l.known) l.party (Unlock i)) (range_with_len 0 l.lock)

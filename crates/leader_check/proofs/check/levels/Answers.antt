@@ -1,5 +1,5 @@
 use Rattle.std.proofs.Common.{◌≡◌, ◌∙◌, sym}
-use Rattle.leader_check.specs.Levels.{party_level, latest_height}
+use Rattle.leader_check.specs.Levels.{party_level, greatest_level}
 use Rattle.leader_check.proofs.Heights.{is_level, is_height}
 use Rattle.leader_check.proofs.Walks.{cycle_is, cycle_no_feedback, none_feedback}
 use Rattle.leader_check.proofs.Bounds as bounds
@@ -39,7 +39,7 @@ returns-in-None-clause-greatest c = c.with_greatest.ensures.height ∙ height_is
 
 pub returns-in-None-clause-height : goal.returns-in-None-clause-height
 returns-in-None-clause-height c =
-    let e : c.with_greatest.result.h ≡ latest_height c.args.graph.now c.args.leaders.now =
+    let e : c.with_greatest.result.h ≡ greatest_level c.args.graph.now c.args.leaders.now =
     c.with_greatest.ensures.height ∙ height_is c.args.graph.now c.args.leaders.now _ c.in_ok-row.ensures in
     rw e (is_height c.args.graph.now c.args.leaders.now (none_feedback c.args.graph.now c.args.leaders.now (sym c.in_ok-cycle.ensures ∙ c.in-None.is)))
 

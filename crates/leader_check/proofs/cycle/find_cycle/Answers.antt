@@ -1,6 +1,6 @@
 use Rattle.std.proofs.Common.{◌≡◌, ◌∙◌, sym, subst, ℕ, List, Option, Some, None, Result, Ok, Err, IfOk, IfSome, IfNone}
 use Rattle.swap_digraph.specs.Value.{Graph}
-use Rattle.leader_check.specs.Cycles.{traced_cycle, TellAllWalks, IsCycleThrough}
+use Rattle.leader_check.specs.Cycles.{traced_cycle, TellAllWalks, IsShortestFollowerCycle}
 use Rattle.leader_check.proofs.Rows.{cycle_is_from}
 use Rattle.leader_check.proofs.Walks.{through, none_through}
 use Rattle.leader_check.proofs.cycle.find_cycle.Goals as goal
@@ -15,23 +15,23 @@ returns-clause-exact c =
     if_ok _ (λ o. o ≡ traced_cycle c.args.graph.now c.args.leaders.now c.args.v) c.traced_cycle.result c.traced_cycle.ensures
     (λ o e. e ∙ cycle_is_from c.args.graph.now c.args.leaders.now c.deref.result.now c.args.v tell)
 
-some_through : (g : Graph) (ls : List ℕ) (v : ℕ) (o : Option (List ℕ)) → o ≡ traced_cycle g ls v → IfSome o (λ list. IsCycleThrough g ls v list)
+some_through : (g : Graph) (ls : List ℕ) (v : ℕ) (o : Option (List ℕ)) → o ≡ traced_cycle g ls v → IfSome o (λ list. IsShortestFollowerCycle g ls v list)
 some_through g ls v (Some list) e = through g ls v list (sym e)
 some_through g ls v None e = tt
 
 pub returns-clause-cycle : goal.returns-clause-cycle
 returns-clause-cycle c =
     if_ok (λ o. o ≡ traced_cycle c.args.graph.now c.args.leaders.now c.args.v)
-    (λ o. IfSome o (λ list. IsCycleThrough c.args.graph.now c.args.leaders.now c.args.v list)) c.traced_cycle.result
+    (λ o. IfSome o (λ list. IsShortestFollowerCycle c.args.graph.now c.args.leaders.now c.args.v list)) c.traced_cycle.result
     (returns-clause-exact c) (some_through c.args.graph.now c.args.leaders.now c.args.v)
 
 is_none_through : (g : Graph) (ls : List ℕ) (v : ℕ) (o : Option (List ℕ)) → o ≡ traced_cycle g ls v
-    → IfNone o ((list : List ℕ) → IsCycleThrough g ls v list → ⊥)
+    → IfNone o ((list : List ℕ) → IsShortestFollowerCycle g ls v list → ⊥)
 is_none_through g ls v (Some list) e = tt
 is_none_through g ls v None e = λ list h. none_through g ls v h.last list (sym e) h.path h.followers h.closes
 
 pub returns-clause-none : goal.returns-clause-none
 returns-clause-none c =
     if_ok (λ o. o ≡ traced_cycle c.args.graph.now c.args.leaders.now c.args.v)
-    (λ o. IfNone o ((list : List ℕ) → IsCycleThrough c.args.graph.now c.args.leaders.now c.args.v list → ⊥)) c.traced_cycle.result
+    (λ o. IfNone o ((list : List ℕ) → IsShortestFollowerCycle c.args.graph.now c.args.leaders.now c.args.v list → ⊥)) c.traced_cycle.result
     (returns-clause-exact c) (is_none_through c.args.graph.now c.args.leaders.now c.args.v)

@@ -5,7 +5,7 @@ use Rattle.std.proofs.lemmas.Grind.{common_steps, get_or_default_zero}
 use Rattle.std.proofs.lemmas.List.{length-set}
 use Rattle.leader_check.proofs.Passes.{raise, from_below}
 use Rattle.leader_check.proofs.Loops.{greatest_is_all}
-use Rattle.leader_check.specs.Distance.{most_after}
+use Rattle.leader_check.specs.Distance.{greatest_next_value}
 use Rattle.leader_check.proofs.distances.most_after_each.Goals as goal
 
 pub loop-arc-preserved : goal.loop-arc-preserved
@@ -29,7 +29,7 @@ loop-arc-preserved c =
     }
 
 pub returns-clause-most : goal.returns-clause-most
-unfolding most_after
+unfolding greatest_next_value
 returns-clause-most c v lt =
     greatest_is_all (λ a. cond (a.from == v) (slice_index c.args.row.now a.to) 0) c.arcs-arc-items.result.now c.loop-arc.arc-index
     (slice_index c.loop-arc.most.items v) _ c.loop-arc-test.false (c.loop-arc.invariant.most v)

@@ -3,7 +3,7 @@ use Rattle.std.proofs.lemmas.Grind.{common_steps, get_or_default_zero}
 use Rattle.std.proofs.lemmas.List.{length-set}
 use Rattle.swap_base.specs.Lists.{greatest}
 use Rattle.swap_digraph.specs.declared.arc_ends.ArcEnds.{ArcEnds}
-use Rattle.leader_check.specs.Levels.{most_before}
+use Rattle.leader_check.specs.Levels.{greatest_prior_value}
 use Rattle.leader_check.proofs.Loops.{greatest_is_all}
 use Rattle.leader_check.proofs.Passes.{raise, to_below}
 use Rattle.leader_check.proofs.rounds.most_before_each.Goals as goal
@@ -29,7 +29,7 @@ loop-arc-preserved c =
     }
 
 pub returns-clause-most : goal.returns-clause-most
-unfolding most_before
+unfolding greatest_prior_value
 returns-clause-most c v lt =
     greatest_is_all (λ a. cond (a.to == v) (slice_index c.args.row.now a.from) 0) c.arcs-arc-items.result.now c.loop-arc.arc-index
     (slice_index c.loop-arc.most.items v) _ c.loop-arc-test.false (c.loop-arc.invariant.most v)

@@ -6,7 +6,7 @@ use Rattle.swap_io.specs.declared.fault.TextFault.TheVariants.{NoMemory}
 use Rattle.swap_io.proofs.Handing.{handed_on, handed_put, handed_was, hands_err, hands_ok, lost_before, lost_then, lost_was, rose_was}
 use Rattle.swap_many.specs.Value.{kept_state}
 use Rattle.report_text.specs.Report.{count_line}
-use Rattle.many_text.specs.ManyText.{chain_text_in, findings_from, swap_text_in}
+use Rattle.many_text.specs.ManyText.{kept_chain_text, finding_count, kept_swap_text}
 use Rattle.many_text.proofs.Handing.{of_many}
 use Rattle.report_text.proofs.Parts.{all_three}
 use Rattle.many_text.proofs.text.hand_many.Goals as goal
@@ -14,9 +14,9 @@ use Rattle.many_text.proofs.text.hand_many.Goals as goal
 pub returns-in_err-count-clause-hands : goal.returns-in_err-count-clause-hands
 returns-in_err-count-clause-hands g c =
     let z = kept_state c.args.world.now in
-    let t1 = lines (swap_text_in z) 0 c.args.jobs.now in
-    let t2 = lines (chain_text_in z) 0 c.args.names.now in
-    let t3 = count_line (findings_from z 0 c.args.jobs.now) in
+    let t1 = lines (kept_swap_text z) 0 c.args.jobs.now in
+    let t2 = lines (kept_chain_text z) 0 c.args.names.now in
+    let t3 = count_line (finding_count z 0 c.args.jobs.now) in
     let p = err_from_is_err_and c.from_residual.result c.from_residual.ensures.1 in
     let e = c.in_err-count.field-0.0 in
     let h = c.write_swaps.ensures.hands in
@@ -28,9 +28,9 @@ returns-in_err-count-clause-hands g c =
 pub returns-in_err-put_chains-clause-hands : goal.returns-in_err-put_chains-clause-hands
 returns-in_err-put_chains-clause-hands g c =
     let z = kept_state c.args.world.now in
-    let t1 = lines (swap_text_in z) 0 c.args.jobs.now in
-    let t2 = lines (chain_text_in z) 0 c.args.names.now in
-    let t3 = count_line (findings_from z 0 c.args.jobs.now) in
+    let t1 = lines (kept_swap_text z) 0 c.args.jobs.now in
+    let t2 = lines (kept_chain_text z) 0 c.args.names.now in
+    let t3 = count_line (finding_count z 0 c.args.jobs.now) in
     let p = err_from_is_err_and c.from_residual-in_err-put_chains.result c.from_residual-in_err-put_chains.ensures.1 in
     let h = c.write_swaps.ensures.hands in
     hands_err NoMemory _ _ _ _ _ _ _ _ (p.1 ∙ ap Err p.2)
@@ -40,9 +40,9 @@ returns-in_err-put_chains-clause-hands g c =
 pub returns-in_err-put_count-clause-hands : goal.returns-in_err-put_count-clause-hands
 returns-in_err-put_count-clause-hands g c =
     let z = kept_state c.args.world.now in
-    let t1 = lines (swap_text_in z) 0 c.args.jobs.now in
-    let t2 = lines (chain_text_in z) 0 c.args.names.now in
-    let t3 = count_line (findings_from z 0 c.args.jobs.now) in
+    let t1 = lines (kept_swap_text z) 0 c.args.jobs.now in
+    let t2 = lines (kept_chain_text z) 0 c.args.names.now in
+    let t3 = count_line (finding_count z 0 c.args.jobs.now) in
     let p = err_from_is_err_and c.from_residual-in_err-put_count.result c.from_residual-in_err-put_count.ensures.1 in
     let h = c.write_swaps.ensures.hands in
     hands_err NoMemory _ _ _ _ _ _ _ _ (p.1 ∙ ap Err p.2)
@@ -53,9 +53,9 @@ returns-in_err-put_count-clause-hands g c =
 pub returns-clause-hands : goal.returns-clause-hands
 returns-clause-hands g c =
     let z = kept_state c.args.world.now in
-    let t1 = lines (swap_text_in z) 0 c.args.jobs.now in
-    let t2 = lines (chain_text_in z) 0 c.args.names.now in
-    let t3 = count_line (findings_from z 0 c.args.jobs.now) in
+    let t1 = lines (kept_swap_text z) 0 c.args.jobs.now in
+    let t2 = lines (kept_chain_text z) 0 c.args.names.now in
+    let t3 = count_line (finding_count z 0 c.args.jobs.now) in
     let h = c.write_swaps.ensures.hands in
     hands_ok _ _ _ _ _ _ _ _ _ refl (subst (λ (t : List ℕ). Handed (g.K.Sink.taken c.args.sink.now) c.args.out.now.items
     (g.K.Sink.taken c.write_swaps.new.sink) c.put_count.new.out.items t) (all_three t1 t2 t3 ∙ of_many c.args.jobs.now c.args.names.now z)

@@ -1,9 +1,9 @@
 use Rattle.std.proofs.Common.{◌≡◌, drop}
-use Rattle.offer_fields.specs.Lists.{each_of}
+use Rattle.offer_fields.specs.Lists.{collected_results}
 use Rattle.offer_fields.proofs.Lists.{with_front}
 use Rattle.offer_header.specs.Limits.{parse_acting}
 use Rattle.offer_header.proofs.limits.each_acting.Given as goal
 
 abbrev pub invariant-loop-party : goal.invariant-loop-party
-invariant-loop-party l = with_front l.list.items (each_of (parse_acting l.sizes l.names l.line) (drop l.party-index l.parties))
-    ≡ each_of (parse_acting l.sizes l.names l.line) l.parties
+invariant-loop-party l = with_front l.list.items (collected_results (parse_acting l.sizes l.names l.line) (drop l.party-index l.parties))
+    ≡ collected_results (parse_acting l.sizes l.names l.line) l.parties

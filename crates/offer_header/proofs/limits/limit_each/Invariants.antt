@@ -1,8 +1,8 @@
 use Rattle.std.proofs.Common.{◌≡◌, drop}
-use Rattle.offer_fields.specs.Lists.{each_of}
+use Rattle.offer_fields.specs.Lists.{collected_results}
 use Rattle.offer_fields.proofs.Lists.{with_front}
 use Rattle.offer_header.proofs.limits.limit_each.Given as goal
 
 abbrev pub invariant-loop-part : goal.invariant-loop-part
-invariant-loop-part g l = with_front l.list.items (each_of (g.T.Limited.limited_of l.context l.line) (drop l.part-index l.parts)) ≡ each_of
-    (g.T.Limited.limited_of l.context l.line) l.parts
+invariant-loop-part g l = with_front l.list.items (collected_results (g.T.Limited.limited_value l.context l.line) (drop l.part-index l.parts)) ≡ collected_results
+    (g.T.Limited.limited_value l.context l.line) l.parts

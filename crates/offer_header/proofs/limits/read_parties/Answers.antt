@@ -9,5 +9,5 @@ pub each_acting-requires : goal.each_acting-requires
 each_acting-requires c =
     let most = few_parties c.args.version in
     let r = within_ok c.args.line (codes "parties") 2 (most_parties c.args.version) (length c.args.parties.now) _
-    (rw c.most_parties-most.ensures at c.in_ok-within.ensures) in
+    (rw c.most_parties-most.ensures at c.in_ok-check_range.ensures) in
     record { names = omega (arith, most, r.1, c.requires.names) }

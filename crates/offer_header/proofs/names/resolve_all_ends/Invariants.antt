@@ -1,9 +1,9 @@
 use Rattle.std.proofs.Common.{◌≡◌, map, drop}
-use Rattle.offer_fields.specs.Lists.{each_of}
+use Rattle.offer_fields.specs.Lists.{collected_results}
 use Rattle.offer_header.specs.Names.{named_ends}
 use Rattle.offer_fields.proofs.Lists.{with_front}
 use Rattle.offer_header.proofs.names.resolve_all_ends.Given as goal
 
 abbrev pub invariant-loop-arc : goal.invariant-loop-arc
-invariant-loop-arc l = with_front l.list.items (each_of (named_ends l.line (map (λ k. k.now) l.names.keys)) (drop l.arc-index l.arcs)) ≡ each_of
+invariant-loop-arc l = with_front l.list.items (collected_results (named_ends l.line (map (λ k. k.now) l.names.keys)) (drop l.arc-index l.arcs)) ≡ collected_results
     (named_ends l.line (map (λ k. k.now) l.names.keys)) l.arcs

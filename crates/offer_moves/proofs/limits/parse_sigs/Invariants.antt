@@ -1,8 +1,8 @@
 use Rattle.std.proofs.Common.{◌≡◌, drop}
-use Rattle.offer_fields.specs.Lists.{each_of}
+use Rattle.offer_fields.specs.Lists.{collected_results}
 use Rattle.offer_moves.specs.Limits.{parse_sig}
 use Rattle.offer_fields.proofs.Lists.{with_front}
 use Rattle.offer_moves.proofs.limits.parse_sigs.Given as goal
 
 abbrev pub invariant-loop-text : goal.invariant-loop-text
-invariant-loop-text l = with_front l.sigs.items (each_of (parse_sig l.line) (drop l.text-index l.texts)) ≡ each_of (parse_sig l.line) l.texts
+invariant-loop-text l = with_front l.sigs.items (collected_results (parse_sig l.line) (drop l.text-index l.texts)) ≡ collected_results (parse_sig l.line) l.texts

@@ -2,12 +2,12 @@ use Rattle.std.proofs.Common.{◌≡◌, IfOk, ap, ◌∙◌, subst}
 use Rattle.ledger_core.specs.Book.{Histories}
 use Rattle.history_index.specs.Indexes.{all_entries}
 use Rattle.swap_rules.specs.Findings.{findings}
-use Rattle.outcome_rules.specs.Report.{conforms_in}
+use Rattle.outcome_rules.specs.Report.{is_conforming_party}
 use Rattle.outcome_rules.proofs.listing.findings.Goals as goal
 
 pub returns-clause-exact : goal.returns-clause-exact
 returns-clause-exact c =
-    subst (λ (b : Histories). IfOk c.findings_indexed.result (λ l. l ≡ findings c.args.deal.now (conforms_in c.args.conforming.now) b))
+    subst (λ (b : Histories). IfOk c.findings_indexed.result (λ l. l ≡ findings c.args.deal.now (is_conforming_party c.args.conforming.now) b))
     (ap all_entries c.deref.ensures.value ∙ c.in_ok-known.ensures.entries) c.findings_indexed.ensures.exact
 
 pub returns-clause-safe : goal.returns-clause-safe

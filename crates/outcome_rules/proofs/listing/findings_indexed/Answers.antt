@@ -1,6 +1,6 @@
 use Rattle.std.proofs.Common.{rules, [], if◌then◌else◌}
 use Rattle.swap_rules.specs.Findings.{party_findings}
-use Rattle.outcome_rules.specs.Report.{conforms_in}
+use Rattle.outcome_rules.specs.Report.{is_conforming_party}
 use Rattle.history_index.specs.Indexes.{all_entries}
 use Rattle.sent_keys.proofs.Loops.{flat_more}
 use Rattle.outcome_rules.proofs.Promises as promises
@@ -8,7 +8,7 @@ use Rattle.outcome_rules.proofs.listing.findings_indexed.Goals as goal
 
 pub loop-party-preserved : goal.loop-party-preserved
 loop-party-preserved c =
-    flat_more (λ v. if conforms_in c.args.conforming.now v then party_findings c.args.deal.now (all_entries c.args.known.now) v else []) []
+    flat_more (λ v. if is_conforming_party c.args.conforming.now v then party_findings c.args.deal.now (all_entries c.args.known.now) v else []) []
     c.loop-party.list.items c.put_party_findings.new.out.items c.loop-party.party c.loop-party.invariant c.in_ok-put_party_findings.ensures
 
 pub returns-clause-exact : goal.returns-clause-exact

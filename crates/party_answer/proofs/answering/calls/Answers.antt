@@ -2,7 +2,7 @@ use Rattle.std.proofs.Common.{ap, sym, subst, ◌∙◌}
 use Rattle.swap_digraph.specs.declared.deal.Deal.{Deal}
 use Rattle.history_index.specs.Indexes.{all_entries}
 use Rattle.swap_rules.specs.Useful.{useful}
-use Rattle.party_wallet.specs.Value.{signed_in}
+use Rattle.party_wallet.specs.Value.{signed_hashkey}
 use Rattle.party_machine.specs.Wallet.{seed_wallet}
 use Rattle.party_due.specs.Actions.{actions}
 use Rattle.party_answer.specs.Inside.{AreMeasured}
@@ -15,4 +15,4 @@ answered_calls-requires-clause-measured c =
     (measured c.args.seed.now c.args.asked.now (all_entries c.args.known.now) _ c.requires.asked c.requires.entries
     (ap actions c.deref-3.ensures.value ∙ (c.in_ok-useful.ensures.useful
     ∙ ap (λ (d : Deal). useful d c.args.asked.now.me (seed_wallet c.args.seed.now c.args.asked.now.me d)
-    (signed_in c.args.asked.now.kept.signed.keys) (all_entries c.args.known.now)) c.deref.ensures)))
+    (signed_hashkey c.args.asked.now.kept.signed.keys) (all_entries c.args.known.now)) c.deref.ensures)))

@@ -4,7 +4,7 @@ use Rattle.std.specs.List.{flat_map}
 use Rattle.swap_digraph.specs.Graph.{entering}
 use Rattle.history_index.specs.Indexes.{all_entries}
 use Rattle.swap_rules.specs.Due.{Action, due_arc_unlock}
-use Rattle.party_wallet.specs.Value.{signed_in}
+use Rattle.party_wallet.specs.Value.{signed_hashkey}
 use Rattle.party_machine.specs.Wallet.{seed_wallet}
 use Rattle.party_due.specs.Actions.{actions}
 use Rattle.party_due.proofs.Based.{all_called, nothing_more, with_key, without_key}
@@ -14,7 +14,7 @@ pub returns-then-has_unlocked_all : goal.returns-then-has_unlocked_all
 returns-then-has_unlocked_all c =
     let d = c.args.deal.now in
     let w = seed_wallet c.args.seed.now c.args.me d in
-    let signed = signed_in c.args.kept.now.keys c.args.lock in
+    let signed = signed_hashkey c.args.kept.now.keys c.args.lock in
     let known = all_entries c.args.known.now in
     let arcs = entering d.graph c.args.me in
     let old = actions c.args.calls.now.items in
@@ -25,7 +25,7 @@ pub returns-in-Some : goal.returns-in-Some
 returns-in-Some c =
     let d = c.args.deal.now in
     let w = seed_wallet c.args.seed.now c.args.me d in
-    let signed = signed_in c.args.kept.now.keys c.args.lock in
+    let signed = signed_hashkey c.args.kept.now.keys c.args.lock in
     let known = all_entries c.args.known.now in
     subst (λ (xs : List Action).
     OnOk c.put_key_unlocks.result (actions c.put_key_unlocks.new.calls.items ≡ actions c.args.calls.now.items ++ xs))
@@ -36,7 +36,7 @@ pub returns-in-None : goal.returns-in-None
 returns-in-None c =
     let d = c.args.deal.now in
     let w = seed_wallet c.args.seed.now c.args.me d in
-    let signed = signed_in c.args.kept.now.keys c.args.lock in
+    let signed = signed_hashkey c.args.kept.now.keys c.args.lock in
     let known = all_entries c.args.known.now in
     let arcs = entering d.graph c.args.me in
     let old = actions c.args.calls.now.items in

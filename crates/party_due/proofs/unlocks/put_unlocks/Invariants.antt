@@ -2,7 +2,7 @@ use Rattle.std.proofs.Common.{◌≡◌, ◌++◌}
 use Rattle.std.specs.List.{flat_map, range_with_len}
 use Rattle.history_index.specs.Indexes.{all_entries}
 use Rattle.swap_rules.specs.Walking.{pressing_unlocks}
-use Rattle.party_wallet.specs.Value.{signed_in}
+use Rattle.party_wallet.specs.Value.{signed_hashkey}
 use Rattle.party_machine.specs.Wallet.{seed_wallet}
 use Rattle.party_due.specs.Actions.{actions}
 use Rattle.party_due.proofs.unlocks.put_unlocks.Given as goal
@@ -11,4 +11,4 @@ abbrev pub invariant-loop-lock : goal.invariant-loop-lock
 invariant-loop-lock l =
     actions l.calls.items
     ≡ actions l.initial.calls.items
-    ++ flat_map (pressing_unlocks l.deal l.me (seed_wallet l.seed l.me l.deal) (signed_in l.kept.keys) (all_entries l.known)) (range_with_len 0 l.lock)
+    ++ flat_map (pressing_unlocks l.deal l.me (seed_wallet l.seed l.me l.deal) (signed_hashkey l.kept.keys) (all_entries l.known)) (range_with_len 0 l.lock)

@@ -1,6 +1,6 @@
 use Rattle.std.proofs.Common.{◌<◌, length, sym, ◌∙◌, subst, None}
-use Rattle.swap_run.specs.Run.{plan_up_to}
-use Rattle.party_threads.specs.Later.{pass_in}
+use Rattle.swap_run.specs.Run.{plan_with_ledger}
+use Rattle.party_threads.specs.Later.{arc_pass}
 use Rattle.party_threads.specs.Tracks.{LookedIf}
 use Rattle.party_threads.specs.Played.{party_planner}
 use Rattle.party_threads.proofs.Passes.{any_default}
@@ -20,15 +20,15 @@ arcs-preserved g c =
     let q = c.look_if.new.place in
     let i = c.arcs.invariant in
     let below : a < length qs = subst (λ z. a < z) (sym (i.looking.tracks.places ∙ sym c.requires.tracks.places)) c.arcs-test.true in
-    let looked : LookedIf (party_planner d v n) (plan_up_to n a) a n (pass_in qs a) m q =
-    subst (λ o. LookedIf (party_planner d v n) (plan_up_to n a) a n o m q) (any_default qs a c.index-passes-arc.result None below)
+    let looked : LookedIf (party_planner d v n) (plan_with_ledger n a) a n (arc_pass qs a) m q =
+    subst (λ o. LookedIf (party_planner d v n) (plan_with_ledger n a) a n o m q) (any_default qs a c.index-passes-arc.result None below)
     c.in_ok-look_if.ensures.looked in
-    let rest = rest_after d v n m a (pass_in qs a) q looked in
+    let rest = rest_after d v n m a (arc_pass qs a) q looked in
     record {
       looking =
           looks_on c.args.ledgers.now (party_planner d v c.args.planner.now) c.args.passes.now a (party_planner d v n)
           (party_planner d v m) qs i.looking below q
-          (look_as (party_planner d v) (party_planner d v n) (plan_up_to n a) a n (pass_in qs a) m q looked);
+          (look_as (party_planner d v) (party_planner d v n) (plan_with_ledger n a) a n (arc_pass qs a) m q looked);
       moves = rest.0 ∙ i.moves;
       turns = rest.1 ∙ i.turns;
     }

@@ -49,4 +49,4 @@ returns g c =
     (races_are_kept (g.A.Strategies.gives c.args.staff.now) (job_cast c.args.job.now) c.args.ticks
     (race_state c.args.job.now c.run_rounds.new.ledgers c.run_rounds.new.turns)
     (cast c.args.job.now c.in_ok-turns.turns.items c.requires.accepted c.requires.seeds c.requires.roles c.requires.fit c.in_ok-turns.ensures)
-    c.requires.some c.in_ok-run_rounds.ensures.raced (subst IsTypedBook is c.read_book.ensures))
+    c.requires.some c.in_ok-run_rounds.ensures.raced (subst IsTypedBook is c.visit_book.ensures))

@@ -1,6 +1,6 @@
 use Rattle.std.proofs.Common.{◌∙◌, ◌^◌, ap₂, Bool, ℕ, [], ◌∷◌, arith, refl}
 use Rattle.program_words.specs.Tables.{choices}
-use Rattle.program_words.specs.Words.{is_given, number_of}
+use Rattle.program_words.specs.Words.{is_given, option_number}
 use Rattle.program_words.specs.declared.choice.Choice.TheVariants.{Seed, Parties, Events, Summary}
 use Rattle.program_words.specs.declared.task.Task.{Task}
 use Rattle.program_words.specs.declared.task.Task.TheVariants.{Number}
@@ -23,12 +23,12 @@ returns c = λ words whole read.
     let two = rest_read Seed (Parties ∷ Events ∷ Summary ∷ []) words m read in
     let three = rest_read Parties (Events ∷ Summary ∷ []) words m two in
     let four = rest_read Events (Summary ∷ []) words m three in
-    let seed = c.unwrap_or.ensures ∙ number_is Seed (0, 4294967295) (2 ^ 32) (choices Gen) words _ c.number_in.result 0 refl ok (omega arith)
-    (first_read Seed (Parties ∷ Events ∷ Summary ∷ []) words m read) seed_on.0 c.number_in.ensures.number in
-    let parties = c.unwrap_or-2.ensures ∙ number_is Parties (2, 24) (2 ^ 8) (choices Gen) words _ c.read_small_number.result 0 refl ok (omega arith)
-    (first_read Parties (Events ∷ Summary ∷ []) words m two) parties_on.0 c.read_small_number.ensures.number in
-    let events = c.unwrap_or-3.ensures ∙ number_is Events (0, 200000) (2 ^ 32) (choices Gen) words _ c.number_in-2.result 0 refl ok (omega arith)
-    (first_read Events (Summary ∷ []) words m three) events_on.0 c.number_in-2.ensures.number in
+    let seed = c.unwrap_or.ensures ∙ number_is Seed (0, 4294967295) (2 ^ 32) (choices Gen) words _ c.given_number.result 0 refl ok (omega arith)
+    (first_read Seed (Parties ∷ Events ∷ Summary ∷ []) words m read) seed_on.0 c.given_number.ensures.number in
+    let parties = c.unwrap_or-2.ensures ∙ number_is Parties (2, 24) (2 ^ 8) (choices Gen) words _ c.given_small_number.result 0 refl ok (omega arith)
+    (first_read Parties (Events ∷ Summary ∷ []) words m two) parties_on.0 c.given_small_number.ensures.number in
+    let events = c.unwrap_or-3.ensures ∙ number_is Events (0, 200000) (2 ^ 32) (choices Gen) words _ c.given_number-2.result 0 refl ok (omega arith)
+    (first_read Events (Summary ∷ []) words m three) events_on.0 c.given_number-2.ensures.number in
     let summary = flag_is Summary words _ c.get_flag.result (first_read Summary [] words m four) c.get_flag.ensures.value c.get_flag.ensures.other in
     ap₂ (λ (s p : ℕ). asking s p c.unwrap_or-3.result c.get_flag.result) seed parties
-    ∙ ap₂ (λ (e : ℕ) (b : Bool). asking (number_of Seed words) (number_of Parties words) e b) events summary
+    ∙ ap₂ (λ (e : ℕ) (b : Bool). asking (option_number Seed words) (option_number Parties words) e b) events summary

@@ -13,6 +13,6 @@ returns c = λ words whole read.
     let ok = (both _ _ whole).0 in
     let later = rest_read Ticks (Transcript ∷ []) words c.args.matches.now read in
     ap₂ (λ (t : ℕ) (b : Bool). task.Race t b)
-    (c.unwrap_or.ensures ∙ ticks_is (choices Race) words _ c.number_in.result ok (first_read Ticks (Transcript ∷ []) words c.args.matches.now read)
-    c.number_in.ensures.none c.number_in.ensures.number)
+    (c.unwrap_or.ensures ∙ ticks_is (choices Race) words _ c.given_number.result ok (first_read Ticks (Transcript ∷ []) words c.args.matches.now read)
+    c.given_number.ensures.none c.given_number.ensures.number)
     (flag_is Transcript words _ c.get_flag.result (first_read Transcript [] words c.args.matches.now later) c.get_flag.ensures.value c.get_flag.ensures.other)

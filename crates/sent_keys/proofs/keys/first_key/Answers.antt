@@ -1,7 +1,7 @@
 use Rattle.std.proofs.Common.{Some, None, cond, sym, ap, ◌∙◌, refl, arith}
 use Rattle.std.proofs.lemmas.Bool.{eq-eqb, ne_eqb}
 use Rattle.std.proofs.lemmas.List.{take_all}
-use Rattle.swap_base.specs.Lists.{first_of}
+use Rattle.swap_base.specs.Lists.{first_given_answer}
 use Rattle.ledger_core.proofs.FirstAnswer.{found_first, none_first}
 use Rattle.history_index.specs.Indexes.{all_entries}
 use Rattle.sent_keys.proofs.Unlocks.{for_lock, first_sent}
@@ -22,5 +22,5 @@ loop-key-preserved c =
 
 pub returns : goal.returns
 returns c =
-    sym c.loop-key.invariant ∙ (ap (first_of (for_lock c.args.lock)) (take_all c.loop-key.key-index c.args.keys.now (omega (arith, c.loop-key-test.false)))
+    sym c.loop-key.invariant ∙ (ap (first_given_answer (for_lock c.args.lock)) (take_all c.loop-key.key-index c.args.keys.now (omega (arith, c.loop-key-test.false)))
     ∙ first_sent c.args.lock c.args.party (all_entries c.args.known.now) c.args.keys.now c.requires.keys)

@@ -1,5 +1,5 @@
 use Rattle.std.proofs.Common.{◌∙◌, ◌<◌, ℕ, List, subst, sym}
-use Rattle.swap_base.specs.Lists.{IsIn}
+use Rattle.swap_base.specs.Lists.{IsElement}
 use Rattle.swap_base.proofs.Lists.{in_place}
 use Rattle.swap_clear.proofs.Sizes.{cycle_in}
 use Rattle.swap_clear.proofs.groups.group_cycles.Goals as goal
@@ -10,4 +10,4 @@ party_cycle-requires-clause-v c = c.requires.leaders _ (in_place c.args.leaders.
 pub named-requires : goal.named-requires
 named-requires c k i =
     subst (λ (n : ℕ). k < n) (sym c.requires.set)
-    (cycle_in c.args.own.now c.args.leaders.now _ k (subst (λ (xs : List ℕ). IsIn k xs) (c.as_slice.ensures ∙ c.in_ok-cycle.ensures) i))
+    (cycle_in c.args.own.now c.args.leaders.now _ k (subst (λ (xs : List ℕ). IsElement k xs) (c.as_slice.ensures ∙ c.in_ok-cycle.ensures) i))

@@ -1,5 +1,5 @@
 use Rattle.std.proofs.Common.{◌∙◌, ℕ, List, length, subst, ap, arith}
-use Rattle.swap_base.specs.Lists.{IsIn}
+use Rattle.swap_base.specs.Lists.{IsElement}
 use Rattle.swap_clear.proofs.Leading.{lead_in}
 use Rattle.swap_clear.proofs.Sizes.{leaders_few}
 use Rattle.swap_clear.proofs.groups.make_group.Goals as goal
@@ -13,4 +13,4 @@ overflow_cast-result c =
 
 pub led_group-requires-clause-leaders : goal.led_group-requires-clause-leaders
 led_group-requires-clause-leaders c v i =
-    lead_in c.args.own.now v (subst (λ (xs : List ℕ). IsIn v xs) (c.deref.ensures.value ∙ c.in_ok-leaders.ensures) i)
+    lead_in c.args.own.now v (subst (λ (xs : List ℕ). IsElement v xs) (c.deref.ensures.value ∙ c.in_ok-leaders.ensures) i)

@@ -6,16 +6,16 @@ use Rattle.swap_clear.specs.Leaders.{choose_leaders}
 use Rattle.swap_clear.proofs.Sizes.{set_few, arcs_few, parse_arcs, set_some, own_ends_hold, own_led, next_none, next_empty, next_some, next_fails}
 use Rattle.swap_clear.proofs.groups.next_group.Goals as goal
 
-pub returns-then-not-begins_with : goal.returns-then-not-begins_with
-returns-then-not-begins_with c =
+pub returns-then-not-is_first_party : goal.returns-then-not-is_first_party
+returns-then-not-is_first_party c =
     next_none c.args.graph.now c.args.number c.args.v c.in_ok-set.set c.in_ok-set.ensures
-    (sym (c.begins_with.ensures ∙ ap (first_is c.args.v) c.as_slice.ensures) ∙ c.if-not-begins_with.true)
+    (sym (c.is_first_party.ensures ∙ ap (first_is c.args.v) c.as_slice.ensures) ∙ c.if-not-is_first_party.true)
 
 pub returns-then-is_empty : goal.returns-then-is_empty
 returns-then-is_empty c =
     next_empty c.args.graph.now c.args.number c.args.v c.in_ok-set.set c.in_ok-numbers.numbers c.in_ok-set.ensures
     (c.in_ok-numbers.ensures ∙ ap (inner_arcs c.args.graph.now) c.as_slice-2.ensures)
-    (sym (c.begins_with.ensures ∙ ap (first_is c.args.v) c.as_slice.ensures) ∙ c.if-not-begins_with.false)
+    (sym (c.is_first_party.ensures ∙ ap (first_is c.args.v) c.as_slice.ensures) ∙ c.if-not-is_first_party.false)
     (sym c.is_empty.ensures ∙ c.if-is_empty.true)
 
 pub own_graph-requires-clause-few : goal.own_graph-requires-clause-few
@@ -67,7 +67,7 @@ returns-in-Ok c =
     next_some c.args.graph.now c.args.number c.args.v c.in_ok-set.set c.in_ok-numbers.numbers c.in_ok-own.own c.in-Ok.group c.in_ok-set.ensures
     (c.in_ok-numbers.ensures ∙ ap (inner_arcs c.args.graph.now) c.as_slice-2.ensures)
     (c.in_ok-own.ensures ∙ ap₂ (own_graph c.args.graph.now) c.as_slice-3.ensures c.as_slice-4.ensures)
-    (sym (c.begins_with.ensures ∙ ap (first_is c.args.v) c.as_slice.ensures) ∙ c.if-not-begins_with.false)
+    (sym (c.is_first_party.ensures ∙ ap (first_is c.args.v) c.as_slice.ensures) ∙ c.if-not-is_first_party.false)
     (sym c.is_empty.ensures ∙ c.if-is_empty.false) c.in-Ok.ensures
 
 pub returns : goal.returns
@@ -75,5 +75,5 @@ returns c =
     next_fails c.in-Err.fault c.args.graph.now c.args.number c.args.v c.in_ok-set.set c.in_ok-numbers.numbers c.in_ok-own.own c.in_ok-set.ensures
     (c.in_ok-numbers.ensures ∙ ap (inner_arcs c.args.graph.now) c.as_slice-2.ensures)
     (c.in_ok-own.ensures ∙ ap₂ (own_graph c.args.graph.now) c.as_slice-3.ensures c.as_slice-4.ensures)
-    (sym (c.begins_with.ensures ∙ ap (first_is c.args.v) c.as_slice.ensures) ∙ c.if-not-begins_with.false)
+    (sym (c.is_first_party.ensures ∙ ap (first_is c.args.v) c.as_slice.ensures) ∙ c.if-not-is_first_party.false)
     (sym c.is_empty.ensures ∙ c.if-is_empty.false) c.in-Err.ensures

@@ -1,5 +1,5 @@
 use Rattle.std.proofs.Common.{◌≡◌, ◌∙◌, sym, subst, ◌<◌, ℕ, List, arith, length}
-use Rattle.swap_clear.specs.Rows.{TellsWithin}
+use Rattle.swap_clear.specs.Rows.{TellsBoundedReach}
 use Rattle.swap_clear.proofs.Rounds.{rows_first, rows_next, rows_all}
 use Rattle.swap_clear.proofs.reach.reach_rows.Goals as goal
 
@@ -15,7 +15,7 @@ next_reach-requires-clause-row c =
 pub loop-round-preserved : goal.loop-round-preserved
 loop-round-preserved c =
     rows_next c.args.graph.now c.loop-round._round c.deref.result.now c.in_ok-row-2.row.items c.requires.ends
-    (subst (λ (xs : List ℕ). TellsWithin c.args.graph.now c.loop-round._round xs) (sym c.deref.ensures.value) c.loop-round.invariant)
+    (subst (λ (xs : List ℕ). TellsBoundedReach c.args.graph.now c.loop-round._round xs) (sym c.deref.ensures.value) c.loop-round.invariant)
     c.in_ok-row-2.ensures.parties c.in_ok-row-2.ensures.leads
 
 pub returns : goal.returns

@@ -1,6 +1,6 @@
 use Rattle.std.proofs.lemmas.Result.{err_from_is_err_and}
 use Rattle.command_input.specs.Input.{desk}
-use Rattle.swap_commands.specs.Says.{IsAgainst}
+use Rattle.swap_commands.specs.Says.{IsCommandRefusal}
 use Rattle.swap_commands.specs.Words.{OfJob}
 use Rattle.swap_commands.proofs.Reading.{empty_stops, header_stops}
 use Rattle.command_input.proofs.Streams.{first_stops, fits_fresh, line_of}
@@ -14,7 +14,7 @@ returns-in_err-next-clause-stops g c = λ command asked.
     let now = desk (g.S.Source.left c.next.new.source) (g.S.Source.faults c.next.new.source) c.next.new.self in
     let p = err_from_is_err_and c.from_residual.result c.from_residual.ensures.1 in
     rw (p.1, p.2)
-    (first_stops (IsAgainst _ (OfJob command)) (g.S.Source.left c.args.source.now) (g.S.Source.faults c.args.source.now) c.args.input.now now c.requires
+    (first_stops (IsCommandRefusal _ (OfJob command)) (g.S.Source.left c.args.source.now) (g.S.Source.faults c.args.source.now) c.args.input.now now c.requires
     c.in_err-next.field-0.0 c.in_err-next.ensures.fails)
 
 pub returns-then-not-branch-clause-stops : goal.returns-then-not-branch-clause-stops

@@ -1,7 +1,7 @@
 use Rattle.std.proofs.Common.{false}
 use Rattle.command_input.specs.Input.{desk, fresh}
 use Rattle.command_input.proofs.Streams.{calm_of, has_stopped}
-use Rattle.swap_commands.specs.Says.{IsAgainst}
+use Rattle.swap_commands.specs.Says.{IsCommandRefusal}
 use Rattle.swap_commands.specs.Words.{OfJob, Race}
 use Rattle.swap_commands.proofs.Saying.{has_entered}
 use Rattle.swap_commands.proofs.racing.enter_input.Goals as goal
@@ -29,7 +29,7 @@ returns-in-Err-clause-stopped g c =
     record {
       now = c.stop.new.self;
       stopped = λ ticks transcript.
-          has_stopped (IsAgainst _ (OfJob (Race ticks transcript))) first mid now c.in-Err.fault c.stop.result (c.in-Err.ensures.stops ticks transcript)
+          has_stopped (IsCommandRefusal _ (OfJob (Race ticks transcript))) first mid now c.in-Err.fault c.stop.result (c.in-Err.ensures.stops ticks transcript)
           c.stop.ensures;
     }
 
@@ -40,10 +40,10 @@ returns-in-Ok-clause-calm g c = λ unless. c.in-Ok.ensures.entered.stands.calm
 
 pub returns-in-Err-clause-calm : goal.returns-in-Err-clause-calm
 returns-in-Err-clause-calm g c = λ unless.
-    calm_of (IsAgainst (g.A.Strategies.holds c.args.staff.now) (OfJob (Race 1 false)))
+    calm_of (IsCommandRefusal (g.A.Strategies.holds c.args.staff.now) (OfJob (Race 1 false)))
     (desk (g.S.Source.left c.args.source.now) (g.S.Source.faults c.args.source.now) fresh)
     (desk (g.S.Source.left c.stop.new.source) (g.S.Source.faults c.stop.new.source) c.stop.new.self) c.stop.result
-    (has_stopped (IsAgainst (g.A.Strategies.holds c.args.staff.now) (OfJob (Race 1 false)))
+    (has_stopped (IsCommandRefusal (g.A.Strategies.holds c.args.staff.now) (OfJob (Race 1 false)))
     (desk (g.S.Source.left c.args.source.now) (g.S.Source.faults c.args.source.now) fresh)
     (desk (g.S.Source.left c.read_job.new.source) (g.S.Source.faults c.read_job.new.source) c.read_job.new.input)
     (desk (g.S.Source.left c.stop.new.source) (g.S.Source.faults c.stop.new.source) c.stop.new.self) c.in-Err.fault c.stop.result

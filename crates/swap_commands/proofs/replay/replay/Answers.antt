@@ -7,7 +7,7 @@ use Rattle.swap_world.specs.Gone.{HasAsked}
 use Rattle.swap_world.proofs.Gone.{more_asked, nothing_asked}
 use Rattle.command_input.specs.Input.{ahead, desk}
 use Rattle.swap_commands.specs.Output.{command_cast}
-use Rattle.swap_commands.specs.Replay.{next_by, passed_over, replayed}
+use Rattle.swap_commands.specs.Replay.{replayed_line, skipped_event, replayed}
 use Rattle.command_input.proofs.Ahead.{stands_none}
 use Rattle.swap_commands.proofs.Replays.{is_of_new, none_left, step_of}
 use Rattle.command_input.proofs.Streams.{Led, last_run, led_none, led_on, led_stops, led_to_end, led_to_fault, line_of, no_memory_after}
@@ -22,7 +22,7 @@ lines-init g c =
     record {
       led = λ a x. subst (λ (w : WorldState). Led (replayed (step (command_cast a job)) job) first (start (job_cast job)) first 0 w.state) (sym new)
           (led_none (replayed (step (command_cast a job)) job) first (start (job_cast job)) c.requires.fits);
-      passed = led_none (replayed passed_over job) first tt c.requires.fits;
+      passed = led_none (replayed skipped_event job) first tt c.requires.fits;
       asked = subst (λ (w : WorldState). HasAsked gives w c.in_ok-world.world) new (nothing_asked gives c.in_ok-world.world c.in_ok-world.world refl refl);
       head_matches = is_of_new job c.in_ok-world.world new;
       goes_on = ap (λ (w : WorldState). w.stopped) new;
@@ -44,7 +44,7 @@ returns-in_err-next-clause-stops g c =
     let job = c.args.job.now in
     let p = err_from_is_err_and c.from_residual-in_err-next.result c.from_residual-in_err-next.ensures.1 in
     rw (p.1, p.2)
-    (led_stops _ _ _ (λ bytes reason. replayed passed_over job 0 tt (ahead c.args.input.now bytes) ≡ Err reason)
+    (led_stops _ _ _ (λ bytes reason. replayed skipped_event job 0 tt (ahead c.args.input.now bytes) ≡ Err reason)
     _ now _ _ c.lines.invariant.passed c.in_err-next.field-0.0 c.in_err-next.ensures.fails)
 
 pub returns-in_err-step_line-clause-stops : goal.returns-in_err-step_line-clause-stops
@@ -53,7 +53,7 @@ returns-in_err-step_line-clause-stops g c =
     let job = c.args.job.now in
     let p = err_from_is_err_and c.from_residual-in_err-step_line.result c.from_residual-in_err-step_line.ensures.1 in
     rw (p.1, p.2)
-    (led_to_fault _ _ _ (next_by passed_over job) (step_of passed_over job) _ now _ _ c.in_err-step_line.field-0.0
+    (led_to_fault _ _ _ (replayed_line skipped_event job) (step_of skipped_event job) _ now _ _ c.in_err-step_line.field-0.0
     c.lines.invariant.passed
     (line_of _ _ _ c.if-branch.true c.in_ok-next.ensures.gives)
     (rw (c.number.ensures, c.text.ensures) at c.in_err-step_line.ensures.passed))
@@ -65,9 +65,9 @@ lines-preserved g c =
     let e = c.in_ok-step_line.ensures in
     let line = line_of _ _ _ c.if-branch.true c.in_ok-next.ensures.gives in
     record {
-      led = λ a x. led_on _ _ _ (next_by (step (command_cast a job)) job) (step_of (step (command_cast a job)) job) _ _ _ _ _ (i.led a (e.continued a x)) line
+      led = λ a x. led_on _ _ _ (replayed_line (step (command_cast a job)) job) (step_of (step (command_cast a job)) job) _ _ _ _ _ (i.led a (e.continued a x)) line
           (rw (c.number.ensures, c.text.ensures) at e.stepped a x);
-      passed = led_on _ _ _ (next_by passed_over job) (step_of passed_over job) _ _ _ _ _ i.passed line
+      passed = led_on _ _ _ (replayed_line skipped_event job) (step_of skipped_event job) _ _ _ _ _ i.passed line
           (rw (c.number.ensures, c.text.ensures) at e.passed);
       asked = more_asked (g.A.Strategies.gives c.args.staff.now) _ c.lines.world c.step_line.new.world i.asked i.head_matches.deal e.asked;
       head_matches = e.of;

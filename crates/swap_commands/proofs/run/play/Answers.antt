@@ -6,7 +6,7 @@ use Rattle.swap_world.specs.Cast.{job_cast}
 use Rattle.swap_job.specs.declared.job.Purpose.TheVariants as purposes
 use Rattle.swap_commands.specs.Words.{Run}
 use Rattle.swap_commands.specs.Output.{command_cast}
-use Rattle.swap_commands.specs.Replay.{passed_over, replayed}
+use Rattle.swap_commands.specs.Replay.{skipped_event, replayed}
 use Rattle.swap_commands.proofs.Reading.{against_event, is_read, run_says}
 use Rattle.swap_commands.proofs.Replays.{held}
 use Rattle.swap_commands.proofs.run.play.Goals as goal
@@ -36,6 +36,6 @@ returns-in-Err-clause-stops g c =
     let mid = desk (g.S.Source.left c.first_line.new.source) (g.S.Source.faults c.first_line.new.source) c.first_line.new.input in
     let now = desk (g.S.Source.left c.replay.new.source) (g.S.Source.faults c.replay.new.source) c.replay.new.input in
     rw c.with_names.ensures
-    (against_event _ (replayed passed_over job 0 tt) (Run c.args.transcript) (g.S.Source.left c.args.source.now)
+    (against_event _ (replayed skipped_event job 0 tt) (Run c.args.transcript) (g.S.Source.left c.args.source.now)
     (g.S.Source.faults c.args.source.now) mid now job.names
     (run_says _ c.args.transcript _ _ job c.in_ok-job.ensures.header) c.in_ok-job.ensures.names c.in_ok-job.ensures.line c.in-Err.fault c.in-Err.ensures.stops)

@@ -1,6 +1,6 @@
 use Rattle.std.proofs.Common.{◌<◌, ◌≤◌, length, fold, refl}
 use Rattle.std.specs.List.{range_with_len}
-use Rattle.swap_many.specs.Fair.{swept_kept, sweeps_of}
+use Rattle.swap_many.specs.Fair.{swept_kept, kept_swap_sweeps}
 use Rattle.swap_many.specs.Value.{nth_world}
 use Rattle.swap_many.proofs.Gone.{gone_as}
 use Rattle.swap_many.proofs.Gone.{range_on, range_done}
@@ -21,5 +21,5 @@ returns g c =
     let w = c.args.worlds.now in
     let l : length (nth_world w c.args.swap).deal.graph.arcs ≤ c.arcs.arc = rw (← c.deal.ensures.value, ← c.arcs-2.ensures) c.arcs-test.false in
     gone_as gives (λ m z. fold (swept_kept c.args.swap m) z (range_with_len 0 (length (nth_world w c.args.swap).deal.graph.arcs)))
-    (λ m z. sweeps_of m z c.args.swap) w c.arcs.worlds (λ a. refl)
+    (λ m z. kept_swap_sweeps m z c.args.swap) w c.arcs.worlds (λ a. refl)
     (range_done gives (swept_kept c.args.swap) w c.arcs.worlds (length (nth_world w c.args.swap).deal.graph.arcs) c.arcs.arc l c.arcs.invariant)

@@ -1,6 +1,6 @@
 use Rattle.std.proofs.Common.{◌≡◌, ℕ, List, ◌++◌, ◌∷◌, [], ap, ◌∙◌}
 use Rattle.swap_world.specs.Near.{all_adjacent}
-use Rattle.swap_many.specs.Near.{near_in}
+use Rattle.swap_many.specs.Near.{swap_adjacent_arcs}
 use Rattle.swap_many.specs.Ticking.{nth}
 use Rattle.swap_many.specs.Value.{no_world}
 use Rattle.swap_many.proofs.Values.{item_is}
@@ -12,7 +12,7 @@ swaps-preserved c =
     let k = c.swaps.world-index in
     let ws = c.args.worlds.now in
     let here = item_is ws k no_world c.world-item.result c.swaps-test.true c.world-item.is in
-    let lists : c.new.result ≡ near_in (nth ws k) =
-    c.new.ensures ∙ (c.in_ok-arcs_by_party.ensures ∙ (ap all_adjacent c.deal.ensures.value ∙ ap near_in here)) in
-    map_next near_in ws k no_world c.swaps.all.items c.push.new.self.items c.swaps-test.true
+    let lists : c.new.result ≡ swap_adjacent_arcs (nth ws k) =
+    c.new.ensures ∙ (c.in_ok-arcs_by_party.ensures ∙ (ap all_adjacent c.deal.ensures.value ∙ ap swap_adjacent_arcs here)) in
+    map_next swap_adjacent_arcs ws k no_world c.swaps.all.items c.push.new.self.items c.swaps-test.true
     (c.in_ok-push.ensures.items ∙ ap (λ (x : List (List ℕ)). c.swaps.all.items ++ x ∷ []) lists) c.swaps.invariant

@@ -2,7 +2,7 @@ use Rattle.std.proofs.Common.{◌≡◌, ◌<◌, ◌≤◌, ◌-◌, ◌++◌, 
 use Rattle.swap_digraph.proofs.Ranges.{map_more}
 use Rattle.swap_many.specs.declared.overdrawn.Overdrawn.{Overdrawn}
 use Rattle.swap_many.specs.Chains.{opening, set_aside, first_free}
-use Rattle.swap_many.specs.Opened.{lack_of}
+use Rattle.swap_many.specs.Opened.{account_lack}
 use Rattle.swap_many.specs.Opening.{setup_of_worlds, new_chain, opened_or}
 use Rattle.swap_many.proofs.Values.{item_is}
 use Rattle.swap_many.proofs.Begun.{first_here, first_next, lacks, lacks_none, free_fits}
@@ -19,7 +19,7 @@ returns-then-have-wanted c =
     let have : slice_index_or c.as_slice-opening.result.now x 0 ≡ opening m i x = ap (λ (xs : List ℕ). slice_index_or xs x 0) units in
     let l : x < length (slice_index_or c.args.chains.now i []) = subst (λ (xs : List ℕ). x < length xs) units c.accounts-test.true in
     let less : opening m i x < set_aside m i x = rw (← have, ← c.aside-wanted.ensures) c.if-have-wanted.true in
-    ap (λ o. opened_or o (new_chain m i)) (first_here (lack_of m i) (length (slice_index_or c.args.chains.now i [])) x _ l inv.0 (lacks m i x less))
+    ap (λ o. opened_or o (new_chain m i)) (first_here (account_lack m i) (length (slice_index_or c.args.chains.now i [])) x _ l inv.0 (lacks m i x less))
     ∙ ap₂ (λ h k. Err (let y : Overdrawn = record { chain = i; account = x; have = h; wanted = k } in y)) (sym have) (sym c.aside-wanted.ensures)
 
 pub accounts-preserved : goal.accounts-preserved
@@ -32,7 +32,7 @@ accounts-preserved c =
     c.as_slice-opening.ensures ∙ item_is c.args.chains.now i [] c.index-chains-chain.result c.requires.chain c.index-chains-chain.is in
     let have : slice_index_or c.as_slice-opening.result.now x 0 ≡ opening m i x = ap (λ (xs : List ℕ). slice_index_or xs x 0) units in
     let enough : set_aside m i x ≤ opening m i x = rw (← have, ← c.aside-wanted.ensures) c.if-have-wanted.false in (
-      first_next (lack_of m i) x inv.0 (lacks_none m i x enough),
+      first_next (account_lack m i) x inv.0 (lacks_none m i x enough),
       map_more (first_free m i) x c.accounts.free.items c.push.new.self.items
           (c.in_ok-push.ensures.items ∙ ap₂ (λ (h k : ℕ). c.accounts.free.items ++ (h - k) ∷ []) have c.aside-wanted.ensures) inv.1,
     )

@@ -5,7 +5,7 @@ use Rattle.swap_base.specs.declared.fault.Fault.TheVariants.{Refused, NoMemory}
 use Rattle.refusals.specs.declared.reason.Reason.{Reason}
 use Rattle.refusals.proofs.Named.{fails, named_ok}
 use Rattle.offer_header.specs.Names.{has_strategy}
-use Rattle.swap_offer.specs.Job.{parse_job_events, job_header_of, names_at, job_of_lines}
+use Rattle.swap_offer.specs.Job.{parse_job_events, parse_header_job, header_names, job_of_lines}
 use Rattle.swap_offer.proofs.job.read_source.Goals as goal
 
 -- what fails makes all that goes on from it fail
@@ -22,11 +22,11 @@ pub returns-in-Err-clause-exact : goal.returns-in-Err-clause-exact
 returns-in-Err-clause-exact c =
     let lines = map (λ l. (l.0, l.1.now)) c.args.further.now in
     let has = has_strategy c.args.strategies.now in
-    let read = job_header_of has c.args.purpose c.args.line c.args.text.now in
+    let read = parse_header_job has c.args.purpose c.args.line c.args.text.now in
     let job = c.in_ok-job.field-0.job in
-    let was : read ≡ Ok job = named_ok (names_at has c.args.purpose c.args.line c.args.text.now) read job c.in_ok-job.ensures.exact in
+    let was : read ≡ Ok job = named_ok (header_names has c.args.purpose c.args.line c.args.text.now) read job c.in_ok-job.ensures.exact in
     rw c.with_names.ensures
     (rw c.in_ok-job.ensures.names
-    (fails (names_at has c.args.purpose c.args.line c.args.text.now) c.in-Err.fault (job_of_lines has c.args.purpose ((c.args.line, c.args.text.now) ∷ lines))
+    (fails (header_names has c.args.purpose c.args.line c.args.text.now) c.in-Err.fault (job_of_lines has c.args.purpose ((c.args.line, c.args.text.now) ∷ lines))
     (fails_after c.in-Err.fault read job (λ j. parse_job_events c.args.purpose j lines >>= λ events. Ok (j, events)) was
     (fails_on c.in-Err.fault (parse_job_events c.args.purpose job lines) (λ events. Ok (job, events)) c.in-Err.ensures.exact))))

@@ -2,11 +2,11 @@ use Rattle.std.proofs.Common.{◌≡◌, ◌⊎◌, ◌≤◌, ◌∙◌, length
 use Rattle.swap_digraph.specs.declared.deal.Deal.{Deal}
 use Rattle.party_machine.specs.Machine.{next_due, resumed_machine, MachineState}
 use Rattle.wallet_journal.specs.Journal.{JournalState}
-use Rattle.wallet_journal.specs.Held.{Leaves, read_bytes}
+use Rattle.wallet_journal.specs.Held.{Leaves, visible_bytes}
 use Rattle.wallet_journal.specs.Memory.{DiskState}
 use Rattle.wallet_journal.specs.Stopped.{bytes_left, IsWrittenUp}
 use Rattle.party_machine.specs.Recording.{signs_next, MayHave}
-use Rattle.swap_run.specs.Run.{recorded_after}
+use Rattle.swap_run.specs.Run.{recorded_hashkeys}
 use Rattle.swap_world.proofs.Ledgers.{on_err, on_ok}
 use Rattle.swap_world.proofs.Disks.{any_result, crashed_between, resumed_between}
 use Rattle.swap_world.specs.Journals.{IsBetween}
@@ -35,10 +35,10 @@ returns-clause-ok c =
     let up : IsWrittenUp c.args.journal.now.disk c.args.machine.now.signed =
     subst (IsWrittenUp c.args.journal.now.disk) c.requires.journal.has (c.limit_calls.ensures.ready c.requires.journal.sound) in
     let few : length c.args.machine.now.signed ≤ 8 = omega (arith, c.requires.places, c.requires.sized.leaders.1) in
-    let signed : c.crash.new.self.signed ≡ recorded_after c.args.machine.now.signed (next_due c.args.machine.now) c.args.k c.args.image =
+    let signed : c.crash.new.self.signed ≡ recorded_hashkeys c.args.machine.now.signed (next_due c.args.machine.now) c.args.k c.args.image =
     recorded_as m c.crash.new.self.signed j.disk c.args.k c.args.image bytes up (c.in_ok-crash.ensures.places ∙ sym c.requires.places) few
     c.in_ok-crash.ensures.shown
-    (subst (λ (x : JournalState DiskState). Leaves x.disk.held bytes ⊎ MayHave (read_bytes x.disk.held) (signs_next m) bytes) c.limit_calls.ensures.left
+    (subst (λ (x : JournalState DiskState). Leaves x.disk.held bytes ⊎ MayHave (visible_bytes x.disk.held) (signs_next m) bytes) c.limit_calls.ensures.left
     (c.begin.ensures.whole bytes c.crash.ensures.left))
     (c.in_ok-begin.ensures.left c.args.image) c.in_ok-begin.ensures.calm (next_due m) refl in
     on_ok c.restart.result (λ e. e ∙ (λ t.

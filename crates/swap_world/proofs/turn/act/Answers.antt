@@ -2,10 +2,10 @@ use Rattle.std.proofs.Common.{◌<◌, ℕ, List, length, Option, arith, inr, sy
 use Rattle.wallet_journal.specs.Stopped.{ShowsAll}
 use Rattle.swap_world.specs.Journals.{IsBetween}
 use Rattle.hashkey_path.specs.declared.hashkey.Hashkey.{Hashkey}
-use Rattle.swap_world.specs.Inside.{IsLedgerOf}
+use Rattle.swap_world.specs.Inside.{IsArcLedger}
 use Rattle.swap_world.proofs.Ledgers.{history_at}
 use Rattle.swap_world.proofs.Ways.{if_err}
-use Rattle.swap_world.specs.On.{swept_in}
+use Rattle.swap_world.specs.On.{is_slot_swept}
 use Rattle.swap_world.proofs.Rooms.{room_set}
 use Rattle.swap_world.proofs.Acts.{action, answered, still, book_is, machine_is, signed_is, told_is}
 use Rattle.swap_world.proofs.turn.act.Goals as goal
@@ -23,7 +23,7 @@ make_due-requires-clause-ledger c =
     c.requires.makable (action c.in-Some.arc c.in-Some.due)
     (answered c.args.machine.now c.in_ok-next.field-0 c.in-Some.arc c.in-Some.due c.in-Some.is c.in_ok-next.ensures.due) in
     let below = subst (λ n. c.in-Some.arc < n) (sym c.requires.ledgers.one_each) k.arc in
-    subst (λ d. IsLedgerOf d c.in-Some.arc c.index_mut.result.now) (sym c.in_ok-next.ensures.same.deal)
+    subst (λ d. IsArcLedger d c.in-Some.arc c.index_mut.result.now) (sym c.in_ok-next.ensures.same.deal)
     (c.requires.ledgers.each c.in-Some.arc c.index_mut.result.now below c.index_mut.ensures.value)
 
 pub make_due-requires-clause-makable : goal.make_due-requires-clause-makable
@@ -44,14 +44,14 @@ make_due-requires-clause-begins c =
 
 pub returns-in-None-clause-knows : goal.returns-in-None-clause-knows
 returns-in-None-clause-knows c =
-    still (swept_in c.args.swept.now) c.args.machine.now c.next.new.machine c.in_ok-next.field-0 _ c.in-None.is c.in_ok-next.ensures.due
+    still (is_slot_swept c.args.swept.now) c.args.machine.now c.next.new.machine c.in_ok-next.field-0 _ c.in-None.is c.in_ok-next.ensures.due
     c.in_ok-next.ensures.same (λ i. ap (λ (f : ℕ → Option Hashkey). f i) c.in_ok-next.ensures.signed)
 
 pub returns-in_ok-told-in-Some-clause-ok : goal.returns-in_ok-told-in-Some-clause-ok
 returns-in_ok-told-in-Some-clause-ok c =
     let next = answered c.args.machine.now c.in_ok-next.field-0 c.in-Some.arc c.in-Some.due c.in-Some.is c.in_ok-next.ensures.due in
     let below = subst (λ n. c.in-Some.arc < n) (sym c.requires.ledgers.one_each) (c.requires.makable (action c.in-Some.arc c.in-Some.due) next).arc in
-    book_is (swept_in c.args.swept.now) c.args.machine.now c.next.new.machine c.args.ledgers.now.items c.in-Some.arc c.in-Some.due c.index_mut.result.now
+    book_is (is_slot_swept c.args.swept.now) c.args.machine.now c.next.new.machine c.args.ledgers.now.items c.in-Some.arc c.in-Some.due c.index_mut.result.now
     c.in_ok-next.ensures.same below c.index_mut.ensures.value next
     c.make_due.new.ledger (rw c.is_swept-is.ensures at c.make_due.ensures.leaves)
 
@@ -59,7 +59,7 @@ pub returns-in_ok-told-in-Some-clause-knows : goal.returns-in_ok-told-in-Some-cl
 returns-in_ok-told-in-Some-clause-knows c =
     let next = answered c.args.machine.now c.in_ok-next.field-0 c.in-Some.arc c.in-Some.due c.in-Some.is c.in_ok-next.ensures.due in
     let below = subst (λ n. c.in-Some.arc < n) (sym c.requires.ledgers.one_each) (c.requires.makable (action c.in-Some.arc c.in-Some.due) next).arc in
-    machine_is (swept_in c.args.swept.now) c.args.machine.now c.next.new.machine c.args.ledgers.now.items c.in-Some.arc c.in-Some.due c.index_mut.result.now
+    machine_is (is_slot_swept c.args.swept.now) c.args.machine.now c.next.new.machine c.args.ledgers.now.items c.in-Some.arc c.in-Some.due c.index_mut.result.now
     c.in_ok-next.ensures.same below c.index_mut.ensures.value next
     c.make_due.new.machine (λ i. ap (λ (f : ℕ → Option Hashkey). f i) (rw c.in-Some.is at c.in_ok-next.ensures.signed))
     (rw c.is_swept-is.ensures at c.in_ok-told-in-Some.ensures.knows)
@@ -69,7 +69,7 @@ returns-in_err-told-in-Some-clause-err c =
     let next = answered c.args.machine.now c.in_ok-next.field-0 c.in-Some.arc c.in-Some.due c.in-Some.is c.in_ok-next.ensures.due in
     let below = subst (λ n. c.in-Some.arc < n) (sym c.requires.ledgers.one_each) (c.requires.makable (action c.in-Some.arc c.in-Some.due) next).arc in
     if_err _ (inr (
-    book_is (swept_in c.args.swept.now) c.args.machine.now c.next.new.machine c.args.ledgers.now.items c.in-Some.arc c.in-Some.due c.index_mut.result.now
+    book_is (is_slot_swept c.args.swept.now) c.args.machine.now c.next.new.machine c.args.ledgers.now.items c.in-Some.arc c.in-Some.due c.index_mut.result.now
     c.in_ok-next.ensures.same below c.index_mut.ensures.value next
     c.make_due.new.ledger (rw c.is_swept-is.ensures at c.make_due.ensures.leaves)))
 
@@ -77,7 +77,7 @@ pub returns-in_ok-told-in-Some-clause-told : goal.returns-in_ok-told-in-Some-cla
 returns-in_ok-told-in-Some-clause-told c =
     let next = answered c.args.machine.now c.in_ok-next.field-0 c.in-Some.arc c.in-Some.due c.in-Some.is c.in_ok-next.ensures.due in
     let below = subst (λ n. c.in-Some.arc < n) (sym c.requires.ledgers.one_each) (c.requires.makable (action c.in-Some.arc c.in-Some.due) next).arc in
-    told_is (swept_in c.args.swept.now) c.args.machine.now c.next.new.machine c.args.ledgers.now.items c.in-Some.arc c.in-Some.due c.index_mut.result.now
+    told_is (is_slot_swept c.args.swept.now) c.args.machine.now c.next.new.machine c.args.ledgers.now.items c.in-Some.arc c.in-Some.due c.index_mut.result.now
     c.in_ok-next.ensures.same below c.index_mut.ensures.value next
     c.in_ok-told-in-Some.told (rw c.is_swept-is.ensures at c.in_ok-told-in-Some.ensures.told)
 
@@ -98,10 +98,10 @@ returns-in_err-told-in-Some-clause-made c =
     let below = subst (λ n. c.in-Some.arc < n) (sym c.requires.ledgers.one_each) (c.requires.makable (action c.in-Some.arc c.in-Some.due) next).arc in
     let same = c.make_due.ensures.signed in
     if_err _ (inr (
-      book_is (swept_in c.args.swept.now) c.args.machine.now c.next.new.machine c.args.ledgers.now.items c.in-Some.arc c.in-Some.due c.index_mut.result.now
+      book_is (is_slot_swept c.args.swept.now) c.args.machine.now c.next.new.machine c.args.ledgers.now.items c.in-Some.arc c.in-Some.due c.index_mut.result.now
           c.in_ok-next.ensures.same below c.index_mut.ensures.value next
           c.make_due.new.ledger (rw c.is_swept-is.ensures at c.make_due.ensures.leaves),
-      same ∙ signed_is (swept_in c.args.swept.now) c.args.machine.now c.next.new.machine c.args.ledgers.now.items c.in-Some.arc c.in-Some.due
+      same ∙ signed_is (is_slot_swept c.args.swept.now) c.args.machine.now c.next.new.machine c.args.ledgers.now.items c.in-Some.arc c.in-Some.due
           c.index_mut.result.now c.in_ok-next.ensures.same below c.index_mut.ensures.value next
           (λ i. ap (λ (f : ℕ → Option Hashkey). f i) (rw c.in-Some.is at c.in_ok-next.ensures.signed)),
       subst (λ (l : List (Option Hashkey)). ShowsAll l c.next.new.journal.disk.held) (c.in_ok-next.ensures.journal.has ∙ sym same)

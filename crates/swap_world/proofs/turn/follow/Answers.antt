@@ -4,7 +4,7 @@ use Rattle.ledger_core.specs.Book.{history}
 use Rattle.swap_rules.specs.Machine.{Begins}
 use Rattle.swap_run.specs.Run.{Plan}
 use Rattle.swap_world.specs.Acting.{histories, taken}
-use Rattle.swap_world.specs.On.{swept_in}
+use Rattle.swap_world.specs.On.{is_slot_swept}
 use Rattle.swap_world.proofs.Ways.{if_ok, if_err}
 use Rattle.swap_world.proofs.turn.follow.Goals as goal
 
@@ -16,7 +16,7 @@ pub returns-clause-ok : goal.returns-clause-ok
 returns-clause-ok c =
     let is =
     c.take.ensures.leaves
-    ∙ ap (λ (o : Option (ℕ × Call)). taken (swept_in c.args.swept.now) c.args.deal.now c.args.me o (histories c.args.ledgers.now.items))
+    ∙ ap (λ (o : Option (ℕ × Call)). taken (is_slot_swept c.args.swept.now) c.args.deal.now c.args.me o (histories c.args.ledgers.now.items))
     c.in_ok-made.ensures.exact in
     if_ok c.take.result is
 
@@ -24,6 +24,6 @@ pub returns-clause-err : goal.returns-clause-err
 returns-clause-err c =
     let is =
     c.take.ensures.leaves
-    ∙ ap (λ (o : Option (ℕ × Call)). taken (swept_in c.args.swept.now) c.args.deal.now c.args.me o (histories c.args.ledgers.now.items))
+    ∙ ap (λ (o : Option (ℕ × Call)). taken (is_slot_swept c.args.swept.now) c.args.deal.now c.args.me o (histories c.args.ledgers.now.items))
     c.in_ok-made.ensures.exact in
     if_err c.take.result (inr is)

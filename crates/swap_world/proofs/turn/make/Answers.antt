@@ -3,11 +3,11 @@ use Rattle.std.specs.Prelude.{IsTrue}
 use Rattle.ledger_core.specs.declared.entry.Call.{Call}
 use Rattle.ledger_core.specs.History.{fit}
 use Rattle.swap_job.specs.Resolved.{resolved}
-use Rattle.deviators.specs.View.{IsAnswerOf}
+use Rattle.deviators.specs.View.{IsPartyAnswer}
 use Rattle.deviators.proofs.Scripts.{may_resolve}
-use Rattle.swap_world.specs.Acting.{histories, landed, taken, told_to}
-use Rattle.swap_world.specs.Inside.{IsLedgerOf}
-use Rattle.swap_world.specs.On.{swept_in, call_told}
+use Rattle.swap_world.specs.Acting.{histories, landed, taken, party_told}
+use Rattle.swap_world.specs.Inside.{IsArcLedger}
+use Rattle.swap_world.specs.On.{is_slot_swept, call_told}
 use Rattle.swap_world.proofs.Ledgers.{legal_book, history_at, book_ok}
 use Rattle.swap_world.proofs.Rooms.{room_on}
 use Rattle.swap_world.proofs.Ways.{if_ok, if_err}
@@ -22,7 +22,7 @@ module _ (c : goal.After-index_mut) where
       ap (λ xs. resolved c.args.deal.now c.args.seeds.now (histories xs) c.args.mv.now) (sym c.deref.ensures.value)
       ∙ (sym c.in_ok-arc.ensures.exact ∙ c.in-Some.is)
 
-  may : IsAnswerOf c.args.deal.now c.args.sender (c.in-Some.arc, c.in-Some.made)
+  may : IsPartyAnswer c.args.deal.now c.args.sender (c.in-Some.arc, c.in-Some.made)
   may = may_resolve c.args.deal.now c.args.seeds.now c.args.sender (histories c.args.ledgers.now.items) c.args.mv.now
       (legal_book c.args.deal.now c.args.ledgers.now.items c.requires.ledgers) (record { fits = c.requires.fits; adjacent = c.requires.near })
       (c.in-Some.arc, c.in-Some.made) comes
@@ -30,7 +30,7 @@ module _ (c : goal.After-index_mut) where
   below : c.in-Some.arc < length c.args.ledgers.now.items
   below = subst (λ n. c.in-Some.arc < n) (sym c.requires.ledgers.one_each) may.arc
 
-  its : IsLedgerOf c.args.deal.now c.in-Some.arc c.index_mut.result.now
+  its : IsArcLedger c.args.deal.now c.in-Some.arc c.index_mut.result.now
   its = c.requires.ledgers.each c.in-Some.arc c.index_mut.result.now below c.index_mut.ensures.value
 
 pub call-requires-clause-fits : goal.call-requires-clause-fits
@@ -51,19 +51,19 @@ returns-in-Some-clause-room c =
 -- The histories behind the call.
 module _ (c : goal.After-call) (r : resolved c.args.deal.now c.args.seeds.now (histories c.args.ledgers.now.items) c.args.mv.now
     ≡ Some (c.in-Some.arc, c.in-Some.made)) (low : c.in-Some.arc < length c.args.ledgers.now.items)
-    (k : IsLedgerOf c.args.deal.now c.in-Some.arc c.index_mut.result.now)
+    (k : IsArcLedger c.args.deal.now c.in-Some.arc c.index_mut.result.now)
   where
     gone : histories (set c.args.ledgers.now.items c.in-Some.arc c.call.new.ledger)
-        ≡ taken (swept_in c.args.swept.now) c.args.deal.now c.args.sender
+        ≡ taken (is_slot_swept c.args.swept.now) c.args.deal.now c.args.sender
         (resolved c.args.deal.now c.args.seeds.now (histories c.args.ledgers.now.items) c.args.mv.now) (histories c.args.ledgers.now.items)
     gone =
         let d = c.args.deal.now in
         let ls = c.args.ledgers.now.items in
-        let w = swept_in c.args.swept.now c.in-Some.arc in
+        let w = is_slot_swept c.args.swept.now c.in-Some.arc in
         book_ok ls c.in-Some.arc c.index_mut.result.now c.call.new.ledger (landed w d c.in-Some.arc c.args.sender c.in-Some.made) low
         c.index_mut.ensures.value (landed_called w d c.in-Some.arc c.args.sender c.in-Some.made c.index_mut.result.now c.call.new.ledger k
         (rw c.is_swept-is.ensures at c.call.ensures.leaves))
-        ∙ ap (λ (o : Option (ℕ × Call)). taken (swept_in c.args.swept.now) d c.args.sender o (histories ls)) (sym r)
+        ∙ ap (λ (o : Option (ℕ × Call)). taken (is_slot_swept c.args.swept.now) d c.args.sender o (histories ls)) (sym r)
 
 pub returns-in-Some-clause-ok : goal.returns-in-Some-clause-ok
 returns-in-Some-clause-ok c =
@@ -83,9 +83,9 @@ returns-in-Some-clause-told c =
     let d = c.args.deal.now in
     let ls = c.args.ledgers.now.items in
     let l = c.index_mut.result.now in
-    let w = swept_in c.args.swept.now c.in-Some.arc in
+    let w = is_slot_swept c.args.swept.now c.in-Some.arc in
     if_told c.call.result (λ t e.
     told_called w d c.in-Some.arc c.args.sender c.in-Some.made l t (its o) e
     ∙ (ap (call_told w d c.in-Some.arc c.args.sender c.in-Some.made) (sym (history_at ls c.in-Some.arc l (below o) c.index_mut.ensures.value))
-    ∙ ap (λ (o : Option (ℕ × Call)). told_to (swept_in c.args.swept.now) d c.args.sender o (histories ls)) (sym (comes o))))
+    ∙ ap (λ (o : Option (ℕ × Call)). party_told (is_slot_swept c.args.swept.now) d c.args.sender o (histories ls)) (sym (comes o))))
     (rw c.is_swept-is.ensures at c.call.ensures.told)

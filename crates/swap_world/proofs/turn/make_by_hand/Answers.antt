@@ -3,7 +3,7 @@ use Rattle.ledger_core.specs.declared.entry.Call.{Call}
 use Rattle.swap_job.specs.Resolved.{resolved}
 use Rattle.deviators.proofs.Scripts.{may_resolve}
 use Rattle.swap_world.specs.Acting.{histories, taken}
-use Rattle.swap_world.specs.On.{swept_in}
+use Rattle.swap_world.specs.On.{is_slot_swept}
 use Rattle.swap_world.proofs.Ways.{if_ok, if_err}
 use Rattle.swap_world.proofs.Ledgers.{legal_book}
 use Rattle.swap_world.proofs.turn.make_by_hand.Goals as goal
@@ -22,7 +22,7 @@ returns-clause-ok c =
     let ls = c.args.ledgers.now.items in
     let is =
     c.take.ensures.leaves
-    ∙ ap (λ (o : Option (ℕ × Call)). taken (swept_in c.args.swept.now) d c.args.sender o (histories ls))
+    ∙ ap (λ (o : Option (ℕ × Call)). taken (is_slot_swept c.args.swept.now) d c.args.sender o (histories ls))
     (c.in_ok-made.ensures.exact ∙ ap (λ xs. resolved d c.args.seeds.now (histories xs) c.args.mv.now) c.deref.ensures.value) in
     if_ok c.take.result is
 
@@ -32,6 +32,6 @@ returns-clause-err c =
     let ls = c.args.ledgers.now.items in
     let is =
     c.take.ensures.leaves
-    ∙ ap (λ (o : Option (ℕ × Call)). taken (swept_in c.args.swept.now) d c.args.sender o (histories ls))
+    ∙ ap (λ (o : Option (ℕ × Call)). taken (is_slot_swept c.args.swept.now) d c.args.sender o (histories ls))
     (c.in_ok-made.ensures.exact ∙ ap (λ xs. resolved d c.args.seeds.now (histories xs) c.args.mv.now) c.deref.ensures.value) in
     if_err c.take.result (inr is)

@@ -5,11 +5,11 @@ use Rattle.swap_digraph.specs.Deal.{party, counterparty}
 use Rattle.ledger_core.specs.Book.{history}
 use Rattle.ledger_core.specs.History.{IsLegal, fit}
 use Rattle.swap_rules.specs.Machine.{Begins}
-use Rattle.deviators.specs.View.{IsAnswerOf}
-use Rattle.swap_run.specs.Run.{plan_up_to}
-use Rattle.swap_world.specs.Acting.{histories, landed, taken, seen, told_to}
-use Rattle.swap_world.specs.Inside.{IsLedgerOf}
-use Rattle.swap_world.specs.On.{swept_in, call_told}
+use Rattle.deviators.specs.View.{IsPartyAnswer}
+use Rattle.swap_run.specs.Run.{plan_with_ledger}
+use Rattle.swap_world.specs.Acting.{histories, landed, taken, seen, party_told}
+use Rattle.swap_world.specs.Inside.{IsArcLedger}
+use Rattle.swap_world.specs.On.{is_slot_swept, call_told}
 use Rattle.swap_world.proofs.Ledgers.{on_ok, history_at, book_ok}
 use Rattle.swap_world.proofs.Rooms.{room_on}
 use Rattle.swap_world.proofs.On.{landed_called, told_called, if_told}
@@ -23,13 +23,13 @@ index_mut-requires c =
 
 -- The call and its ledger.
 module _ (c : goal.After-index_mut) where
-  may : IsAnswerOf c.args.deal.now c.args.sender (c.in-Some.arc, c.in-Some.due)
+  may : IsPartyAnswer c.args.deal.now c.args.sender (c.in-Some.arc, c.in-Some.due)
   may = c.requires.may (c.in-Some.arc, c.in-Some.due) c.in-Some.is
 
   below : c.in-Some.arc < length c.args.ledgers.now.items
   below = subst (λ n. c.in-Some.arc < n) (sym c.requires.ledgers.one_each) may.arc
 
-  its : IsLedgerOf c.args.deal.now c.in-Some.arc c.index_mut.result.now
+  its : IsArcLedger c.args.deal.now c.in-Some.arc c.index_mut.result.now
   its = c.requires.ledgers.each c.in-Some.arc c.index_mut.result.now below c.index_mut.ensures.value
 
 pub make_planned-requires-clause-arc : goal.make_planned-requires-clause-arc
@@ -67,7 +67,7 @@ returns-in-Some-clause-leaves c =
     let d = c.args.deal.now in
     let ls = c.args.ledgers.now.items in
     let l = c.index_mut.result.now in
-    let sw = swept_in c.args.swept.now in
+    let sw = is_slot_swept c.args.swept.now in
     let w = sw c.in-Some.arc in
     book_ok ls c.in-Some.arc l c.make_planned.new.ledger (landed w d c.in-Some.arc c.args.sender c.in-Some.due) (below o) c.index_mut.ensures.value
     (landed_called w d c.in-Some.arc c.args.sender c.in-Some.due l c.make_planned.new.ledger (its o)
@@ -80,7 +80,7 @@ returns-in-Some-clause-knows c =
     let d = c.args.deal.now in
     let ls = c.args.ledgers.now.items in
     let l = c.index_mut.result.now in
-    let sw = swept_in c.args.swept.now in
+    let sw = is_slot_swept c.args.swept.now in
     let w = sw c.in-Some.arc in
     let n = c.args.planner.now in
     let same =
@@ -88,7 +88,7 @@ returns-in-Some-clause-knows c =
     ∙ ap (λ x. landed w d x c.args.sender c.in-Some.due l.history) (its o).arc
     ∙ ap (λ h. landed w d c.in-Some.arc c.args.sender c.in-Some.due h) (sym (history_at ls c.in-Some.arc l (below o) c.index_mut.ensures.value)) in
     on_ok c.make_planned.result (λ e.
-    e ∙ ap (λ h. plan_up_to n c.in-Some.arc h) same ∙ ap (λ (o : Option (ℕ × Call)). seen sw d c.args.sender o (histories ls) n) (sym c.in-Some.is))
+    e ∙ ap (λ h. plan_with_ledger n c.in-Some.arc h) same ∙ ap (λ (o : Option (ℕ × Call)). seen sw d c.args.sender o (histories ls) n) (sym c.in-Some.is))
     (rw c.is_swept-is.ensures at c.make_planned.ensures.knows)
 
 pub returns-in-Some-clause-told : goal.returns-in-Some-clause-told
@@ -97,11 +97,11 @@ returns-in-Some-clause-told c =
     let d = c.args.deal.now in
     let ls = c.args.ledgers.now.items in
     let l = c.index_mut.result.now in
-    let w = swept_in c.args.swept.now c.in-Some.arc in
+    let w = is_slot_swept c.args.swept.now c.in-Some.arc in
     if_told c.make_planned.result (λ t e.
     told_called w d c.in-Some.arc c.args.sender c.in-Some.due l t (its o) e
     ∙ (ap (call_told w d c.in-Some.arc c.args.sender c.in-Some.due) (sym (history_at ls c.in-Some.arc l (below o) c.index_mut.ensures.value))
-    ∙ ap (λ (o : Option (ℕ × Call)). told_to (swept_in c.args.swept.now) d c.args.sender o (histories ls)) (sym c.in-Some.is)))
+    ∙ ap (λ (o : Option (ℕ × Call)). party_told (is_slot_swept c.args.swept.now) d c.args.sender o (histories ls)) (sym c.in-Some.is)))
     (rw c.is_swept-is.ensures at c.make_planned.ensures.told)
 
 pub make_planned-requires-clause-room : goal.make_planned-requires-clause-room

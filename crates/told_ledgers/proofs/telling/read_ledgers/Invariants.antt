@@ -1,10 +1,10 @@
 use Rattle.std.proofs.Common.{◌≡◌, length}
-use Rattle.told_ledgers.specs.Telling.{nothing_told, told_from}
+use Rattle.told_ledgers.specs.Telling.{nothing_told, further_lines_told}
 use Rattle.told_ledgers.proofs.telling.read_ledgers.Given as goal
 
 abbrev pub invariant-lines : goal.invariant-lines
 invariant-lines l = record {
-  so_far : told_from l.number l.reader l.lines ≡ told_from l.first (nothing_told l.deal l.me) l.fn.lines;
+  so_far : further_lines_told l.number l.reader l.lines ≡ further_lines_told l.first (nothing_told l.deal l.me) l.fn.lines;
   deal : l.reader.deal ≡ l.deal;
 }
 

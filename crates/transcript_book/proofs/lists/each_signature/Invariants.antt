@@ -1,10 +1,10 @@
 use Rattle.std.proofs.Common.{◌≡◌, length}
-use Rattle.transcript_lines.specs.Reading.{each_of, parse_signature}
+use Rattle.transcript_lines.specs.Reading.{parse_each_word, parse_signature}
 use Rattle.transcript_book.proofs.Members.{with_front}
 use Rattle.transcript_book.proofs.lists.each_signature.Given as goal
 
 abbrev pub invariant-loop-word : goal.invariant-loop-word
-invariant-loop-word l = with_front l.list.items (each_of parse_signature l.parts) ≡ each_of parse_signature l.fn.parts
+invariant-loop-word l = with_front l.list.items (parse_each_word parse_signature l.parts) ≡ parse_each_word parse_signature l.fn.parts
 
 abbrev pub decreases-loop-word : goal.decreases-loop-word
 decreases-loop-word l = length l.parts

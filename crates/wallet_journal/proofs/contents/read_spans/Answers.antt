@@ -2,7 +2,7 @@ use Rattle.std.proofs.Common.{◌≡◌, ◌∙◌, ℕ, List, length, take, get
 use Rattle.std.proofs.lemmas.List.{get_or_default, length-replicate}
 use Rattle.wallet_journal.specs.Device.{slice, written}
 use Rattle.wallet_journal.specs.Held.{after_writes, no_bytes}
-use Rattle.wallet_journal.specs.Memory.{writes_in}
+use Rattle.wallet_journal.specs.Memory.{span_writes}
 use Rattle.wallet_journal.specs.declared.contents.Span.{Span}
 use Rattle.wallet_journal.proofs.Overlay.{cleared, ends_within, span_on, writes_more, so_far_size, start_more, all_read}
 use Rattle.wallet_journal.proofs.contents.read_spans.Goals as goal
@@ -38,7 +38,7 @@ spans-preserved c =
     let none : Span = record { at = 0; len = 0 } in
     let s = get_or c.args.spans.now c.spans.span-index none in
     let is = get_or_default c.args.spans.now c.spans.span-index none s c.spans-test.true in
-    let before = after_writes no_bytes (take c.spans.span-index (writes_in c.args.bytes.now c.args.spans.now)) in
+    let before = after_writes no_bytes (take c.spans.span-index (span_writes c.args.bytes.now c.args.spans.now)) in
     let inv = c.spans.invariant in
     let same : c.spans.buf ≡ slice c.args.at (length c.spans.buf) before = inv.read ∙ ap (λ (n : ℕ). slice c.args.at n before) (sym inv.size) in
     let kept : length c.overlay.new.buf ≡ length c.spans.buf = search rules in

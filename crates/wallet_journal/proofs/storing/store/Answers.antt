@@ -1,7 +1,7 @@
 use Rattle.std.proofs.Common.{◌≡◌, ℕ, List, [], ◌∷◌, length, is_ok, is_err, rules, sym, ◌∙◌, ap, subst, arith}
 use Rattle.std.proofs.lemmas.Result.{on_ok_weaker}
 use Rattle.wallet_journal.specs.Device.{Torn, written}
-use Rattle.wallet_journal.specs.Layout.{gate_at, body_position}
+use Rattle.wallet_journal.specs.Layout.{gate_position, body_position}
 use Rattle.wallet_journal.specs.Journal.{Gains}
 use Rattle.wallet_journal.specs.Own.{IsInRecord}
 use Rattle.wallet_journal.proofs.Moments.{weaker, both}
@@ -42,7 +42,7 @@ returns-clause-any_moment g c =
     (subst (λ (b : List ℕ). Torn (body_position k.lock) (length b) old e) r.body torn)))
     (weaker g.D.Disk.moment g.D.Disk.left_since c.write_synced.new.disk c.write_synced-2.new.disk _ _ c.write_synced-2.ensures.torn
     (λ e torn. second_write k old r.still.sized r.made r.lock r.unrecorded r.few r.paired r.told e
-    (subst (λ (b : List ℕ). Torn (gate_at k.lock) 1 b e) is_mid torn)))
+    (subst (λ (b : List ℕ). Torn (gate_position k.lock) 1 b e) is_mid torn)))
 
 pub returns-clause-gains : goal.returns-clause-gains
 returns-clause-gains g c =
@@ -52,7 +52,7 @@ returns-clause-gains g c =
     let is_mid : g.D.Disk.seen c.write_synced.new.disk ≡ mid k old r.still.sized r.made r.lock r.unrecorded r.few r.paired r.told =
     c.in_ok-write_synced.ensures.written ∙ ap (λ (b : List ℕ). written old (body_position k.lock) b) r.body in
     on_ok_weaker c.write_synced-2.result (λ is.
-    subst (Gains old k) (sym (is ∙ ap (λ (b : List ℕ). written b (gate_at k.lock) (1 ∷ [])) is_mid))
+    subst (Gains old k) (sym (is ∙ ap (λ (b : List ℕ). written b (gate_position k.lock) (1 ∷ [])) is_mid))
     (stored k old r.still.sized r.made r.lock r.unrecorded r.few r.paired r.told)) c.write_synced-2.ensures.written
 
 pub returns-in_err-write_synced-clause-never : goal.returns-in_err-write_synced-clause-never

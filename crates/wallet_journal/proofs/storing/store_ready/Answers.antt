@@ -1,6 +1,6 @@
 use Rattle.std.proofs.Common.{ℕ, List, subst}
 use Rattle.wallet_journal.specs.Device.{Write, LeavesOnly}
-use Rattle.wallet_journal.specs.Recording.{IsStoppedAt}
+use Rattle.wallet_journal.specs.Recording.{IsStoppedRecording}
 use Rattle.wallet_journal.specs.Own.{IsInRecord}
 use Rattle.wallet_journal.proofs.Moments.{both}
 use Rattle.wallet_journal.proofs.Stays.{stays, untouched}
@@ -48,4 +48,4 @@ returns-in_err-store-clause-left g c n image lt stops of =
     every_err c.from_residual-in_err-store.result (λ e failing.
     left_as k (g.D.Disk.synced c.args.disk.now) (g.D.Disk.seen c.args.disk.now) of q.made q.lock q.unrecorded q.few q.paired c.in_ok-body.ensures.told n
     image (g.D.Disk.synced c.store.new.disk) (g.D.Disk.loose c.store.new.disk)
-    (subst (λ (ws : List Write). IsStoppedAt n k ws (g.D.Disk.synced c.store.new.disk) (g.D.Disk.loose c.store.new.disk)) c.ready.ensures.writes.0 stopped))
+    (subst (λ (ws : List Write). IsStoppedRecording n k ws (g.D.Disk.synced c.store.new.disk) (g.D.Disk.loose c.store.new.disk)) c.ready.ensures.writes.0 stopped))

@@ -1,5 +1,5 @@
 use Rattle.std.proofs.Common.{sym, ◌∙◌}
-use Rattle.swap_job.specs.Fitting.{IsMoveOf}
+use Rattle.swap_job.specs.Fitting.{IsPartyMove}
 use Rattle.deviators.proofs.Scripts.{low_heights, may_resolve, move_from}
 use Rattle.deviators.proofs.script.Script.next.Goals as goal
 
@@ -9,7 +9,7 @@ after_waits-at-requires-clause-low c = low_heights c.args.deal.now c.args.known.
 pub resolve-requires-clause-fits : goal.resolve-requires-clause-fits
 resolve-requires-clause-fits c =
     let l = c.in-Some.ensures.lookup in
-    (move_from (IsMoveOf c.args.deal.now c.args.seeds.now c.args.me) c.self.inside.moves c.as_slice-2.result.now c.self.inside.made
+    (move_from (IsPartyMove c.args.deal.now c.args.seeds.now c.args.me) c.self.inside.moves c.as_slice-2.result.now c.self.inside.made
     c.after_waits-at.result c.in-Some.mv.now c.as_slice-2.ensures (rw (← c.self.view_is) at c.requires.moves) c.after_waits-at.ensures.later
     l.3.0 l.1).fits
 
@@ -17,6 +17,6 @@ pub returns-clause-fits : goal.returns-clause-fits
 returns-clause-fits c =
     let l = c.in-Some.ensures.lookup in
     λ x q. may_resolve c.args.deal.now c.args.seeds.now c.args.me c.args.known.now.histories c.in-Some.mv.now c.requires.view.legal
-    (move_from (IsMoveOf c.args.deal.now c.args.seeds.now c.args.me) c.self.inside.moves c.as_slice-2.result.now c.self.inside.made
+    (move_from (IsPartyMove c.args.deal.now c.args.seeds.now c.args.me) c.self.inside.moves c.as_slice-2.result.now c.self.inside.made
     c.after_waits-at.result c.in-Some.mv.now c.as_slice-2.ensures (rw (← c.self.view_is) at c.requires.moves) c.after_waits-at.ensures.later
     l.3.0 l.1) x (sym c.in_ok-call.ensures.exact ∙ q)

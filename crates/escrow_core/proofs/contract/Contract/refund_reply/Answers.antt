@@ -19,13 +19,13 @@ is_none-not (Some i) = refl
 
 pub returns-then-is_none : goal.returns-then-is_none
 returns-then-is_none c =
-    nothing_locked _ _ _ _ _ c.if-is_settled.ensures (eq-eqb _ _ (c.if-sender-from.false ∙ c.from.ensures ∙ c.requires.of_the_deal.from))
+    nothing_locked _ _ _ _ _ c.if-is_settled.ensures (eq-eqb _ _ (c.if-sender-party_id.false ∙ c.party_id.ensures ∙ c.requires.of_the_deal.from))
     (tested _ c.args.self.now.opened c.opened.result.now c.requires.of_the_deal.opened c.opened.ensures.opened
     ∙ ap is_none (sym c.first_closed.ensures.exact) ∙ is_none-not c.first_closed.result ∙ ap not c.if-is_none.ensures)
 
 pub returns-then-height-first : goal.returns-then-height-first
 returns-then-height-first c =
-    not_expired _ _ _ _ _ _ c.if-is_settled.ensures (eq-eqb _ _ (c.if-sender-from.false ∙ c.from.ensures ∙ c.requires.of_the_deal.from))
+    not_expired _ _ _ _ _ _ c.if-is_settled.ensures (eq-eqb _ _ (c.if-sender-party_id.false ∙ c.party_id.ensures ∙ c.requires.of_the_deal.from))
     (tested _ c.args.self.now.opened c.opened.result.now c.requires.of_the_deal.opened c.opened.ensures.opened
     ∙ ap is_none (sym c.first_closed.ensures.exact) ∙ is_none-not c.first_closed.result ∙ ap not c.if-is_none.ensures)
     (c.refund_expiry-first.ensures.exact
@@ -36,7 +36,7 @@ returns-then-height-first c =
 
 pub returns : goal.returns
 returns c =
-    has_expired _ _ _ _ c.refund_expiry-first.result _ c.if-is_settled.ensures (eq-eqb _ _ (c.if-sender-from.false ∙ c.from.ensures
+    has_expired _ _ _ _ c.refund_expiry-first.result _ c.if-is_settled.ensures (eq-eqb _ _ (c.if-sender-party_id.false ∙ c.party_id.ensures
     ∙ c.requires.of_the_deal.from))
     (tested _ c.args.self.now.opened c.opened.result.now c.requires.of_the_deal.opened c.opened.ensures.opened
     ∙ ap is_none (sym c.first_closed.ensures.exact) ∙ is_none-not c.first_closed.result ∙ ap not c.if-is_none.ensures)

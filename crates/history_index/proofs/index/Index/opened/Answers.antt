@@ -1,5 +1,5 @@
 use Rattle.std.proofs.Common.{not, is_some, sym, ap, ◌∙◌}
-use Rattle.swap_base.specs.Lists.{first_of}
+use Rattle.swap_base.specs.Lists.{first_given_answer}
 use Rattle.ledger_core.specs.History.{opening, accepted}
 use Rattle.ledger_core.specs.Runs.{expand}
 use Rattle.history_index.proofs.Calls.{opened_made, not_opened}
@@ -15,5 +15,5 @@ pub returns : goal.returns
 returns c =
     rw (← c.self.view_is)
     (c.find_opened.ensures
-    ∙ (ap (first_of (λ m. opening c.args.lock m.entry.height (accepted m.entry))) (c.deref.ensures.value ∙ c.self.invariant.made)
+    ∙ (ap (first_given_answer (λ m. opening c.args.lock m.entry.height (accepted m.entry))) (c.deref.ensures.value ∙ c.self.invariant.made)
     ∙ sym (opened_made (expand c.self.inside.past.items) c.args.lock)))

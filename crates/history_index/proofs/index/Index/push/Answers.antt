@@ -6,7 +6,7 @@ use Rattle.ledger_core.specs.History.{is_sender}
 use Rattle.ledger_core.specs.Runs.{expand}
 use Rattle.history_index.specs.declared.made.Made.{Made}
 use Rattle.ledger_core.specs.Facts.{is_call}
-use Rattle.history_index.specs.Made.{made_after}
+use Rattle.history_index.specs.Made.{updated_calls}
 use Rattle.history_index.specs.Numbers.{IsIndexable}
 use Rattle.history_index.proofs.Push.{last_lock, last_sent, expand_push, answers_kept, calls_kept, made_kept, indexable_kept, room_kept}
 use Rattle.history_index.proofs.index.Index.push.Goals as goal
@@ -31,7 +31,7 @@ invariant_of-self g c =
     let items : xs ≡ h ++ e ∷ [] =
     ap expand c.with_entry-past.ensures.past ∙ expand_push i.past.items (One c.args.entry) ∙ ap (λ x. h ++ x ∷ []) (sym same) in
     let lock = last_lock i.from.party i.to.party h e fits in
-    let made : c.keep.new.made.items ≡ made_after i.count e i.made.items = c.keep.ensures.made in
+    let made : c.keep.new.made.items ≡ updated_calls i.count e i.made.items = c.keep.ensures.made in
     let room : i.room - c.call_count.result ≡ i.room - cond (is_call e.what) 1 0 = ap (λ n. i.room - n) c.call_count.ensures in
     record {
       locks = k.locks;

@@ -23,7 +23,7 @@ invariant_of-self g c =
           called_ready i.deal i.wallet i.known.items c.args.arc c.index_mut-index.result.now c.extend-added.new.self c.args.entries
           c.extend-added.result c.self.invariant.ready r.arc c.index_mut-index.ensures.value c.extend-added.ensures.arc r.legal
           c.extend-added.ensures.ok c.extend-added.ensures.err;
-      rests = subst (λ z. MayRest z (shown i.deal i.wallet (set i.known.items c.args.arc c.extend-added.new.self))) (sym c.after-self-inside.ensures)
+      rests = subst (λ z. MayRest z (shown i.deal i.wallet (set i.known.items c.args.arc c.extend-added.new.self))) (sym c.remaining_rest-self-inside.ensures)
           (learns i.rest i.deal i.wallet i.known.items c.args.arc c.index_mut-index.result.now c.extend-added.new.self c.args.entries
           c.extend-added.result c.are_ticks-ticks.result c.height-height.result c.self.invariant.ready c.self.invariant.rests r.arc
           c.index_mut-index.ensures.value c.extend-added.ensures.ok c.extend-added.ensures.err c.are_ticks-ticks.ensures c.height-height.ensures);

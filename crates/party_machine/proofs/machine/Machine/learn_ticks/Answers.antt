@@ -29,7 +29,7 @@ invariant_of-self g c =
       ready =
           called_ready {A = Unit {0}} {E = Unit {0}} i.deal i.wallet i.known.items c.args.arc x y more (Ok tt) c.self.invariant.ready r.arc
           c.index_mut-index.ensures.value c.push_ticks.ensures.arc r.legal c.push_ticks.ensures.entries tt;
-      rests = subst (λ z. MayRest z (shown i.deal i.wallet (set i.known.items c.args.arc y))) (sym c.after-self-inside.ensures)
+      rests = subst (λ z. MayRest z (shown i.deal i.wallet (set i.known.items c.args.arc y))) (sym c.remaining_rest-self-inside.ensures)
           (learns {A = Unit {0}} {E = Unit {0}} i.rest i.deal i.wallet i.known.items c.args.arc x y more (Ok tt) true c.height-height.result
           c.self.invariant.ready c.self.invariant.rests r.arc c.index_mut-index.ensures.value c.push_ticks.ensures.entries tt
           (sym (are_all_ticks c.args.run)) c.height-height.ensures);

@@ -3,7 +3,7 @@ use Rattle.hashkey_path.specs.declared.hashkey.Hashkey.{Hashkey}
 use Rattle.ledger_core.specs.declared.entry.Call.TheVariants.{Unlock}
 use Rattle.swap_rules.specs.Rest.{rest_deadline}
 use Rattle.swap_rules.specs.Machine.{noted}
-use Rattle.party_wallet.specs.Value.{signed_in}
+use Rattle.party_wallet.specs.Value.{signed_hashkey}
 use Rattle.history_index.specs.Value.{IndexState}
 use Rattle.party_machine.specs.Machine.{MachineState, next_due}
 use Rattle.party_machine.specs.Within.{all_entries}
@@ -33,7 +33,7 @@ returns-then-is_some-clause-due c =
     ∙ ap next_due c.self.view_is
 
 pub returns-then-is_some-clause-signed : goal.returns-then-is_some-clause-signed
-returns-then-is_some-clause-signed c = sym (c.in_ok-first.ensures.no_key (signed_in c.args.self.now.signed))
+returns-then-is_some-clause-signed c = sym (c.in_ok-first.ensures.no_key (signed_hashkey c.args.self.now.signed))
 
 pub chosen_hashkey-requires-clause-from : goal.chosen_hashkey-requires-clause-from
 chosen_hashkey-requires-clause-from c =
@@ -87,7 +87,7 @@ returns-in-Some-clause-signed c =
     c.deref-in-Some.ensures.value c.in_ok-key-in-Some.ensures.value in
     noted_as i.deal i.wallet i.known.items c.self.invariant.ready c.in-Some.due c.in_ok-key-in-Some.key c.chosen_hashkey.new.wallet c.in-Some.ensures.lock
     seen value c.in_ok-key-in-Some.ensures.kept
-    ∙ ap (λ (s : MachineState). noted (signed_in s.signed) (Unlock c.in_ok-key-in-Some.key)) c.self.view_is
+    ∙ ap (λ (s : MachineState). noted (signed_hashkey s.signed) (Unlock c.in_ok-key-in-Some.key)) c.self.view_is
 
 pub invariant_of-self-then-is_none : goal.invariant_of-self-then-is_none
 invariant_of-self-then-is_none c =
@@ -119,7 +119,7 @@ returns-clause-due c =
 pub returns-clause-signed : goal.returns-clause-signed
 returns-clause-signed c =
     let kept : c.if-is_none.self ≡ c.args.self.now = elim c.if-is_none.branch [ then-is_none w ↦ w.self-is ∙ c.self.view_is | else-is_none w ↦ w.self-is ] in
-    ap (λ (s : MachineState). signed_in s.signed) kept ∙ sym (c.due_last-last.ensures.no_key (signed_in c.args.self.now.signed))
+    ap (λ (s : MachineState). signed_hashkey s.signed) kept ∙ sym (c.due_last-last.ensures.no_key (signed_hashkey c.args.self.now.signed))
 
 pub returns-then-is_some-clause-whole : goal.returns-then-is_some-clause-whole
 returns-then-is_some-clause-whole c =

@@ -1,6 +1,6 @@
 use Rattle.std.proofs.Common.{◌≡◌, ◌∙◌, List, Option, Some, None, option_map, refl, sym, ap, subst}
 use Rattle.std.proofs.lemmas.Option.{same_Some}
-use Rattle.party_wallet.specs.Value.{signed_in}
+use Rattle.party_wallet.specs.Value.{signed_hashkey}
 use Rattle.hashkey_path.specs.declared.hashkey.Hashkey.{Hashkey}
 use Rattle.wallet_journal.specs.declared.fault.RecordFault.{RecordFault}
 use Rattle.wallet_journal.specs.declared.fault.RecordFault.TheVariants.{DiskFault}
@@ -45,8 +45,8 @@ returns-in_err-record-clause-kept g c =
     let mine =
     answer_signed c.args.self.now.signed c.args.journal.now.signed c.next.new.self.signed c.in_ok-answer.answer c.requires.recorded
     c.in_ok-answer.ensures.signed c.in_ok-answer.ensures.once c.in_ok-answer.ensures.same.places c.in-Some.key.now c.in-Some.ensures.key in
-    of_any {P = λ (e : RecordFault). e ≡ DiskFault → (k : Hashkey) → signs_next c.args.self.now ≡ Some k → signed_in c.next.new.self.signed k.lock ≡ Some k} _
-    (λ e stopped k next. subst (λ (x : Hashkey). signed_in c.next.new.self.signed x.lock ≡ Some x)
+    of_any {P = λ (e : RecordFault). e ≡ DiskFault → (k : Hashkey) → signs_next c.args.self.now ≡ Some k → signed_hashkey c.next.new.self.signed k.lock ≡ Some k} _
+    (λ e stopped k next. subst (λ (x : Hashkey). signed_hashkey c.next.new.self.signed x.lock ≡ Some x)
     (same_Some c.in-Some.key.now k (sym is ∙ next)) mine)
 
 pub returns-clause-noted : goal.returns-clause-noted

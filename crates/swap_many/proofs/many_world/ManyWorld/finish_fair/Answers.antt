@@ -1,7 +1,7 @@
 use Rattle.std.proofs.Common.{◌≡◌, true, map, sym, ◌∙◌}
 use Rattle.std.proofs.lemmas.Bool.{false≢true}
 use Rattle.swap_many.specs.Kept.{kept_finish}
-use Rattle.swap_many.specs.Stages.{Finished, stages_in}
+use Rattle.swap_many.specs.Stages.{Finished, stretch_stages}
 use Rattle.swap_many.specs.Whole.{inside_many_job}
 use Rattle.swap_many.proofs.Gone.{on_ok, stopped_before}
 use Rattle.swap_many.proofs.Runs as lemmas
@@ -12,13 +12,13 @@ use Rattle.swap_many.proofs.many_world.ManyWorld.finish_fair.Goals.{After-finish
 -- the worlds after the fair finish, and what came before it
 taken : (g : given.Over) (c : goal.After-finish-done g)
     → lemmas.HasTaken (g.A.Strategies.gives c.args.staff.now) kept_finish Finished (inside_many_job c.self.inside)
-    (record c.finish-done.new.worlds { stages = stages_in (map (λ p. p.items) c.and-stretches.result.items) c.new-self-inside.result.items })
+    (record c.finish-done.new.worlds { stages = stretch_stages (map (λ p. p.items) c.and-stretches.result.items) c.new-self-inside.result.items })
     c.finish-done.result
 taken g c =
     let i = c.self.inside in
     let w = inside_many_job i in
     lemmas.has_taken (g.A.Strategies.gives c.args.staff.now) kept_finish Finished i.worlds c.finish-done.new.worlds w.stages
-    (stages_in (map (λ p. p.items) c.and-stretches.result.items) c.new-self-inside.result.items) c.finish-done.result
+    (stretch_stages (map (λ p. p.items) c.and-stretches.result.items) c.new-self-inside.result.items) c.finish-done.result
     (lemmas.finish_is_stage w c.self.invariant.whole.ready) c.self.invariant.runs
     (lemmas.stretch_more _ i.stretches.items c.and-stretches.result.items i.events c.new-self-inside.result.items c.and-stretches.ensures
     c.new-self-inside.ensures) (sym c.is_stopped.ensures ∙ c.if-is_stopped.false) c.finish-done.ensures.ok c.finish-done.ensures.err

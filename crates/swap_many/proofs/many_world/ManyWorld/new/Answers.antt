@@ -4,7 +4,7 @@ use Rattle.swap_many.specs.Laws.{IsReady}
 use Rattle.swap_many.specs.Sound.{Keeps}
 use Rattle.swap_many.specs.Opened.{overdrawn}
 use Rattle.swap_many.specs.Opening.{setup_of_worlds, new_many, opened}
-use Rattle.swap_many.specs.Stages.{Stage, stages_in, run_by}
+use Rattle.swap_many.specs.Stages.{Stage, stretch_stages, staged_run}
 use Rattle.swap_many.specs.Value.{ManyState, made_setup, kept_state}
 use Rattle.swap_many.proofs.Begun.{was_opened}
 use Rattle.swap_many.proofs.Starting.{start_keeps}
@@ -19,12 +19,12 @@ invariant_of-result c =
     let made = c.in-Ok.worlds in
     let e : opened cs ws ps ≡ Ok made = c.in-Ok.ensures in
     let k = was_opened (overdrawn (setup_of_worlds ws ps cs)) (new_many cs ws ps) made e in
-    let ys : List Stage = stages_in (map (λ p. p.items) c.new-in-Ok.result.items) c.new-in-Ok-2.result.items in
-    let none : ys ≡ [] = ap₂ (λ xs es. stages_in (map (λ p. p.items) xs) es) c.new-in-Ok.ensures c.new-in-Ok-2.ensures in
+    let ys : List Stage = stretch_stages (map (λ p. p.items) c.new-in-Ok.result.items) c.new-in-Ok-2.result.items in
+    let none : ys ≡ [] = ap₂ (λ xs es. stretch_stages (map (λ p. p.items) xs) es) c.new-in-Ok.ensures c.new-in-Ok-2.ensures in
     record {
       whole = whole_staged made ys c.keep.ensures;
       runs =
-          λ on g more. subst (λ (xs : List Stage). Keeps (made_setup made g) (run_by (made_setup made g) xs) (kept_state made)) (sym none)
+          λ on g more. subst (λ (xs : List Stage). Keeps (made_setup made g) (staged_run (made_setup made g) xs) (kept_state made)) (sym none)
           (subst (λ (v : ManyState). Keeps (made_setup v g) (many_start (made_setup v g)) (kept_state v)) (sym k.1)
           (start_keeps cs ws ps c.requires g (subst (λ (v : ManyState). IsReady (made_setup v g)) k.1 (c.keep.ensures.ready g))));
     }

@@ -3,7 +3,7 @@ use Rattle.std.proofs.lemmas.Bool.{false≢true}
 use Rattle.swap_many.specs.declared.many_event.ManyEvent.{ManyEvent}
 use Rattle.swap_many.specs.Kept.{kept_done}
 use Rattle.swap_many.specs.Laws.{CanCome}
-use Rattle.swap_many.specs.Stages.{Came, stages_in}
+use Rattle.swap_many.specs.Stages.{Came, stretch_stages}
 use Rattle.swap_many.specs.Value.{world_setup}
 use Rattle.swap_many.specs.Whole.{inside_many_job}
 use Rattle.swap_many.proofs.Gone.{stopped_before}
@@ -16,7 +16,7 @@ use Rattle.swap_many.proofs.many_world.ManyWorld.step.Goals.{After-step-done}
 taken : (g : given.Over) (c : goal.After-step-done g)
     → lemmas.HasTaken (g.A.Strategies.gives c.args.staff.now) (λ m z. kept_done false m z c.args.event.now) (Came c.args.event.now)
     (inside_many_job c.self.inside)
-    (record c.step-done.new.self { stages = stages_in (map (λ p. p.items) c.self.inside.stretches.items) c.and-events.result.items }) c.step-done.result
+    (record c.step-done.new.self { stages = stretch_stages (map (λ p. p.items) c.self.inside.stretches.items) c.and-events.result.items }) c.step-done.result
 taken g c =
     let i = c.self.inside in
     let w = inside_many_job i in
@@ -24,8 +24,8 @@ taken g c =
     let can : CanCome (world_setup w) e = rw (← c.self.view_is) at c.requires.event in
     let xs : List (List ManyEvent) = map (λ p. p.items) i.stretches.items in
     lemmas.has_taken (g.A.Strategies.gives c.args.staff.now) (λ m z. kept_done false m z e) (Came e) i.worlds c.step-done.new.self w.stages
-    (stages_in xs c.and-events.result.items) c.step-done.result (lemmas.step_is_stage w e c.self.invariant.whole.ready can) c.self.invariant.runs
-    (ap (stages_in xs) c.and-events.ensures ∙ lemmas.came_more xs i.events.items e) (sym c.is_stopped.ensures ∙ c.if-is_stopped.false)
+    (stretch_stages xs c.and-events.result.items) c.step-done.result (lemmas.step_is_stage w e c.self.invariant.whole.ready can) c.self.invariant.runs
+    (ap (stretch_stages xs) c.and-events.ensures ∙ lemmas.came_more xs i.events.items e) (sym c.is_stopped.ensures ∙ c.if-is_stopped.false)
     c.step-done.ensures.ok c.step-done.ensures.err
 
 pub returns-then-is_stopped-clause-err : goal.returns-then-is_stopped-clause-err

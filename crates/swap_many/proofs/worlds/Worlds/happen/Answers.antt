@@ -1,7 +1,7 @@
 use Rattle.std.proofs.Common.{◌≡◌, ◌<◌, false, [], sym, ◌∙◌, subst}
 use Rattle.swap_world.specs.Value.{WorldState}
 use Rattle.swap_many.specs.Laws.{CanHappen}
-use Rattle.swap_many.specs.Value.{no_world, world_setup, nth_world, swept_at}
+use Rattle.swap_many.specs.Value.{no_world, world_setup, nth_world, swept_slots}
 use Rattle.swap_many.specs.Inside.{inside_worlds}
 use Rattle.swap_many.proofs.Values.{item_is}
 use Rattle.swap_many.proofs.Happened.{IsTaken, HasHappened, has_happened}
@@ -24,8 +24,8 @@ happened g c =
     let on : w.stopped ≡ false = rw (← c.self.view_is) at c.requires.goes_on in
     let here = item_is w.worlds s no_world c.index_mut.result.now may.swap c.index_mut.ensures.value in
     let flags = item_is w.swept s [] c.index.result.now (subst (λ n. s < n) (sym c.self.invariant.whole.swept) may.swap) c.index.ensures in
-    let taken : IsTaken gives (swept_at w s) c.args.event.now (nth_world w s) c.apply_step-told.new.self c.apply_step-told.result =
-    subst (λ (y : WorldState). IsTaken gives (swept_at w s) c.args.event.now y c.apply_step-told.new.self c.apply_step-told.result) here
+    let taken : IsTaken gives (swept_slots w s) c.args.event.now (nth_world w s) c.apply_step-told.new.self c.apply_step-told.result =
+    subst (λ (y : WorldState). IsTaken gives (swept_slots w s) c.args.event.now y c.apply_step-told.new.self c.apply_step-told.result) here
     (subst (λ f. IsTaken gives f c.args.event.now c.index_mut.result.now c.apply_step-told.new.self c.apply_step-told.result) (c.as_slice.ensures ∙ flags)
     (record {
       ok = c.apply_step-told.ensures.ok;

@@ -1,7 +1,7 @@
 use Rattle.std.proofs.Common.{◌≡◌, ◌<◌, ℕ, false, arith, refl, subst}
 use Rattle.swap_run.specs.Asked.{Answers}
 use Rattle.swap_world.specs.Value.{world_answers}
-use Rattle.swap_many.specs.Fair.{have_ended, SkipsTo}
+use Rattle.swap_many.specs.Fair.{have_ended, SkipsKeptRounds}
 use Rattle.swap_many.specs.Many.{last_horizon}
 use Rattle.swap_many.specs.Value.{ManyState, kept_state, world_setup, made_setup, nth_world}
 use Rattle.swap_many.specs.Inside.{inside_worlds}
@@ -27,7 +27,7 @@ returns-clause-skips c =
     let low = rw c.deref.ensures.value at c.horizon_rounds-low.ensures.low in
     let still = rw c.deref-2.ensures.value at c.rounds_still.ensures.still in
     let r = c.self.invariant.whole.sound goes_on (λ t. world_answers (nth_world w t)) (λ t l i lt. refl) in
-    subst (λ (w : ManyState). (g : ℕ → Answers) → SkipsTo (made_setup w g) n (kept_state w)) c.self.view_is (λ g.
+    subst (λ (w : ManyState). (g : ℕ → Answers) → SkipsKeptRounds (made_setup w g) n (kept_state w)) c.self.view_is (λ g.
     many_skip w g n (λ s l. (r.1.good s l).legal.one_each) on (λ more.
     let q = low (omega (arith, more, less)) in
     let high = q.2 in (

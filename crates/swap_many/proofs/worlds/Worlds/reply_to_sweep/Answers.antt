@@ -13,7 +13,7 @@ returns-then-is_unsettled c =
     let s = c.args.swap in
     let a = c.args.arc in
     let l : the_horizon (nth_world w s).deal < ((kept_state w).clocks (arc_chain (world_setup w) s a)).height =
-    rw (← c.latest_height.ensures, ← c.horizon-horizon.ensures.value) c.if-latest_height-horizon.false in
+    rw (← c.arc_chain_height.ensures, ← c.horizon-horizon.ensures.value) c.if-arc_chain_height-horizon.false in
     ap StillHeld c.accounts.ensures.held
     ∙ still_held c.args.fair (the_horizon (nth_world w s).deal) ((kept_state w).clocks (arc_chain (world_setup w) s a)).height ((kept_state w).swept s a)
     (history (nth_world w s).state.book a) l (sym c.is_swept.ensures ∙ c.if-is_swept.false) (sym c.is_unsettled.ensures ∙ c.if-is_unsettled.true)

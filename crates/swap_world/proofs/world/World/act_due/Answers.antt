@@ -8,9 +8,9 @@ use Rattle.swap_run.specs.Called.{apply_step}
 use Rattle.swap_run.specs.Run.{State}
 use Rattle.party_machine.specs.Machine.{MachineState}
 use Rattle.swap_world.specs.Acting.{histories}
-use Rattle.swap_world.specs.Inside.{asked_in, inside_cast, state_in, AreLedgersOf}
-use Rattle.swap_world.specs.Journals.{IsJournalOf, IsSomeJournal}
-use Rattle.swap_world.specs.On.{swept_in}
+use Rattle.swap_world.specs.Inside.{inside_questions, inside_cast, inside_run_state, AreArcLedgers}
+use Rattle.swap_world.specs.Journals.{IsMachineJournal, IsSomeJournal}
+use Rattle.swap_world.specs.On.{is_slot_swept}
 use Rattle.swap_world.specs.declared.actor.Actor.TheVariants.{Conforming}
 use Rattle.swap_world.specs.declared.world.World.TheInside.{Inside}
 use Rattle.swap_world.proofs.States.{actor_set, state, acted, acted_book, acted_told}
@@ -59,10 +59,10 @@ act-done-requires-clause-journal c =
     let i = c.self.inside in
     let m = c.in-Conforming.machine in
     let place = found o in
-    let is : IsJournalOf i.deal c.args.p m.signed c.in-Some.journal =
+    let is : IsMachineJournal i.deal c.args.p m.signed c.in-Some.journal =
     subst (IsSomeJournal i.deal c.args.p m.signed) c.in-Some.is
     ((c.self.invariant.journals (asked o)).each c.args.p m c.index_mut-2.result.now place.below place.here c.index_mut-2.ensures.value) in
-    subst (λ (x : Deal × ℕ). IsJournalOf x.0 x.1 m.signed c.in-Some.journal) (λ j. (sym place.is.1 j, sym place.is.2 j)) is
+    subst (λ (x : Deal × ℕ). IsMachineJournal x.0 x.1 m.signed c.in-Some.journal) (λ j. (sym place.is.1 j, sym place.is.2 j)) is
 
 pub act-done-requires-clause-room : goal.act-done-requires-clause-room
 act-done-requires-clause-room c = c.self.invariant.room (rw (← c.self.view_is) at c.requires.goes_on)
@@ -73,7 +73,7 @@ module _ (c : goal.After-is_err-self-inside) where
   i = c.self.inside
 
   abbrev sw : ℕ → Bool
-  sw = swept_in c.args.swept.now
+  sw = is_slot_swept c.args.swept.now
 
   abbrev m : MachineState
   m = c.in-Conforming.machine
@@ -85,7 +85,7 @@ module _ (c : goal.After-is_err-self-inside) where
   b = histories c.act-done.new.ledgers.items
 
   abbrev after : State
-  after = state i.deal (asked_in i) (set i.actors.items c.args.p (Conforming new)) b
+  after = state i.deal (inside_questions i) (set i.actors.items c.args.p (Conforming new)) b
 
   goes_on : i.stopped ≡ false
   goes_on = rw (← c.self.view_is) at c.requires.goes_on
@@ -96,15 +96,15 @@ module _ (c : goal.After-is_err-self-inside) where
   place : IsMachineOf i c.args.p m
   place = machine_found i c.self.invariant c.args.p known c.index_mut.result.now c.index_mut.ensures.value m c.in-Conforming.is
 
-  done : OnOk c.act-done.result (after ≡ apply_step sw (inside_cast i) (state_in i) (Act c.args.p))
+  done : OnOk c.act-done.result (after ≡ apply_step sw (inside_cast i) (inside_run_state i) (Act c.args.p))
   done =
-      both c.act-done.result (acted i.deal i.conforming i.seeds i.roles (asked_in i) i.ledgers.items i.actors.items sw c.args.p m new b place)
+      both c.act-done.result (acted i.deal i.conforming i.seeds i.roles (inside_questions i) i.ledgers.items i.actors.items sw c.args.p m new b place)
       c.act-done.ensures.ok c.act-done.ensures.knows
 
-  cut : OnErr c.act-done.result ((b ≡ (state_in i).book) ⊎ (b ≡ (apply_step sw (inside_cast i) (state_in i) (Act c.args.p)).book))
+  cut : OnErr c.act-done.result ((b ≡ (inside_run_state i).book) ⊎ (b ≡ (apply_step sw (inside_cast i) (inside_run_state i) (Act c.args.p)).book))
   cut =
       on_err c.act-done.result (either (λ e. e)
-      (λ e. e ∙ acted_book i.deal i.conforming i.seeds i.roles (asked_in i) i.ledgers.items i.actors.items sw c.args.p m place)) c.act-done.ensures.err
+      (λ e. e ∙ acted_book i.deal i.conforming i.seeds i.roles (inside_questions i) i.ledgers.items i.actors.items sw c.args.p m place)) c.act-done.ensures.err
 
 pub invariant_of-self : goal.invariant_of-self
 invariant_of-self c =
@@ -117,14 +117,14 @@ invariant_of-self c =
     let good = c.self.invariant.good (goes_on o) in
     record {
       ready = c.self.invariant.ready;
-      ledgers = subst (λ d. AreLedgersOf d c.act-done.new.ledgers.items) here.is.1 c.act-done.ensures.ledgers;
+      ledgers = subst (λ d. AreArcLedgers d c.act-done.new.ledgers.items) here.is.1 c.act-done.ensures.ledgers;
       actors = actor_set i.deal i.conforming i.seeds i.roles xs c.args.p (Conforming new) c.self.invariant.actors here.below
           (owned i.deal (slice_index_or i.conforming c.args.p false) (slice_index_or i.seeds c.args.p None) (slice_index_or i.roles c.args.p kinds.Manual)
           c.args.p m new c.act-done.ensures.owner here.is);
       askers = c.self.invariant.askers;
       told = c.self.invariant.told;
       good =
-          λ g. good_unless c.act-done.result c.is_err-self-inside.result (sw o) (inside_cast i) (state_in i) (after o) (Act c.args.p)
+          λ g. good_unless c.act-done.result c.is_err-self-inside.result (sw o) (inside_cast i) (inside_run_state i) (after o) (Act c.args.p)
           c.is_err-self-inside.ensures.value g (done o) c.self.invariant.ready (known o) good;
       room =
           λ on. room_unless c.act-done.result c.is_err-self-inside.result c.act-done.new.ledgers.items c.is_err-self-inside.ensures.value on
@@ -132,15 +132,15 @@ invariant_of-self c =
       journals =
           λ on. journals_act i.deal xs i.journals.items c.args.p new c.act-done.new.journal (c.self.invariant.journals (goes_on o)) here.below
           (journal_unless c.act-done.result c.is_err-self-inside.result c.is_err-self-inside.ensures.value on
-          (subst (λ (x : Deal × ℕ). OnOk c.act-done.result (IsJournalOf x.0 x.1 new.signed c.act-done.new.journal)) (λ j. (here.is.1 j, here.is.2 j))
+          (subst (λ (x : Deal × ℕ). OnOk c.act-done.result (IsMachineJournal x.0 x.1 new.signed c.act-done.new.journal)) (λ j. (here.is.1 j, here.is.2 j))
           c.act-done.ensures.journal));
       disks =
           λ on. err_unless c.act-done.result c.is_err-self-inside.result c.is_err-self-inside.ensures.value on
-          (stopped_disks i.deal i.conforming i.seeds i.roles (asked_in i) i.ledgers.items xs i.journals.items (sw o) c.args.p m new (b o)
+          (stopped_disks i.deal i.conforming i.seeds i.roles (inside_questions i) i.ledgers.items xs i.journals.items (sw o) c.args.p m new (b o)
           c.act-done.new.journal here c.self.invariant.actors c.self.invariant.ready (known o) good (c.self.invariant.journals (goes_on o))
           c.act-done.result c.act-done.ensures.between c.act-done.ensures.made);
       kept =
-          kept_on c.act-done.result (sw o) (inside_cast i) (state_in i) (after o) (Act c.args.p) (done o) (cut o) c.self.invariant.ready (known o) good;
+          kept_on c.act-done.result (sw o) (inside_cast i) (inside_run_state i) (after o) (Act c.args.p) (done o) (cut o) c.self.invariant.ready (known o) good;
     }
 
 pub returns-clause-ok : goal.returns-clause-ok
@@ -157,7 +157,7 @@ returns-clause-told c =
     let i = c.self.inside in
     rw (← c.self.view_is)
     (if_told c.act-done.result
-    (λ t e. e ∙ acted_told i.deal i.conforming i.seeds i.roles (asked_in i) i.ledgers.items i.actors.items (sw o) c.args.p c.in-Conforming.machine (place o))
+    (λ t e. e ∙ acted_told i.deal i.conforming i.seeds i.roles (inside_questions i) i.ledgers.items i.actors.items (sw o) c.args.p c.in-Conforming.machine (place o))
     c.act-done.ensures.told)
 
 pub returns-clause-book : goal.returns-clause-book

@@ -1,5 +1,5 @@
 use Rattle.std.proofs.Common.{refl, inl}
-use Rattle.swap_world.specs.On.{swept_in}
+use Rattle.swap_world.specs.On.{is_slot_swept}
 use Rattle.swap_world.proofs.Gone.{nothing_asked}
 use Rattle.swap_world.proofs.Worlds.{collect_kept}
 use Rattle.swap_world.proofs.world.World.apply_step.Goals as goal
@@ -14,6 +14,6 @@ returns-then-self-clause-kept g c = rw (← c.self.view_is) c.self.invariant.kep
 
 pub returns-clause-kept : goal.returns-clause-kept
 returns-clause-kept g c =
-    collect_kept c.take.result (g.A.Strategies.gives c.args.staff.now) (swept_in c.args.swept.now) c.args.self.now c.take.new.self c.args.event.now
+    collect_kept c.take.result (g.A.Strategies.gives c.args.staff.now) (is_slot_swept c.args.swept.now) c.args.self.now c.take.new.self c.args.event.now
     c.take.ensures.ok c.take.ensures.cut
     (rw (← c.self.view_is) c.self.invariant.ready) c.requires.event (rw (← c.self.view_is) (c.self.invariant.good c.if-self.false))

@@ -7,7 +7,7 @@ use Rattle.swap_job.specs.declared.job.Role.{Role}
 use Rattle.swap_job.specs.declared.job.Role.TheVariants as kinds
 use Rattle.swap_run.specs.Run.{Plan}
 use Rattle.swap_world.specs.Acting.{histories, seen, asked_once}
-use Rattle.swap_world.specs.On.{swept_in}
+use Rattle.swap_world.specs.On.{is_slot_swept}
 use Rattle.swap_world.specs.declared.actor.Actor.TheVariants.{Planned}
 use Rattle.swap_world.specs.declared.world.World.TheInside.{Inside}
 use Rattle.swap_world.proofs.Kept.{journals_planned}
@@ -55,7 +55,7 @@ module _ (g : given.Over) (c : goal.After-is_err-self-inside g) where
   i = c.self.inside
 
   abbrev sw : ℕ → Bool
-  sw = swept_in c.args.swept.now
+  sw = is_slot_swept c.args.swept.now
 
   abbrev n : Plan
   n = c.in-Planned.planner

@@ -8,8 +8,8 @@ use Rattle.swap_rules.proofs.Accepted.{accepted_is_well_sized}
 use Rattle.swap_run.specs.Run.{State, step}
 use Rattle.party_machine.specs.Machine.{MachineState}
 use Rattle.swap_world.specs.Acting.{histories}
-use Rattle.swap_world.specs.Inside.{asked_in, inside_cast, state_in}
-use Rattle.swap_world.specs.Journals.{IsJournalOf, IsSomeJournal}
+use Rattle.swap_world.specs.Inside.{inside_questions, inside_cast, inside_run_state}
+use Rattle.swap_world.specs.Journals.{IsMachineJournal, IsSomeJournal}
 use Rattle.swap_world.specs.declared.actor.Actor.TheVariants.{Conforming}
 use Rattle.swap_world.specs.declared.world.World.TheInside.{Inside}
 use Rattle.swap_world.proofs.States.{actor_set, state, crashed, crashed_machine}
@@ -48,10 +48,10 @@ pub crash-done-requires-clause-journal : goal.crash-done-requires-clause-journal
 crash-done-requires-clause-journal c =
     let o = (goal.at.crash-done-requires-clause-journal c).In-Conforming in
     let m = c.in-Conforming.machine in
-    let is : IsJournalOf c.self.inside.deal c.args.p m.signed c.in-Some.journal =
+    let is : IsMachineJournal c.self.inside.deal c.args.p m.signed c.in-Some.journal =
     subst (IsSomeJournal c.self.inside.deal c.args.p m.signed) c.in-Some.is
     ((c.self.invariant.journals (asked o)).each c.args.p m c.index_mut-2.result.now (found o).below (found o).here c.index_mut-2.ensures.value) in
-    subst (λ (v : ℕ). IsJournalOf c.self.inside.deal v m.signed c.in-Some.journal) (sym (found o).is.2) is
+    subst (λ (v : ℕ). IsMachineJournal c.self.inside.deal v m.signed c.in-Some.journal) (sym (found o).is.2) is
 
 -- The world behind the crash.
 module _ (c : goal.After-is_err-self-inside) where
@@ -65,7 +65,7 @@ module _ (c : goal.After-is_err-self-inside) where
   new = c.crash-done.new.machine
 
   abbrev after : State
-  after = state i.deal (asked_in i) (set i.actors.items c.args.p (Conforming new)) (histories i.ledgers.items)
+  after = state i.deal (inside_questions i) (set i.actors.items c.args.p (Conforming new)) (histories i.ledgers.items)
 
   goes_on : i.stopped ≡ false
   goes_on = rw (← c.self.view_is) at c.requires.goes_on
@@ -76,10 +76,10 @@ module _ (c : goal.After-is_err-self-inside) where
   place : IsMachineOf i c.args.p m
   place = machine_found i c.self.invariant c.args.p can.known c.index_mut.result.now c.index_mut.ensures.value m c.in-Conforming.is
 
-  done : OnOk c.crash-done.result (after ≡ step (inside_cast i) (state_in i) (Crash c.args.p c.args.k c.args.image))
+  done : OnOk c.crash-done.result (after ≡ step (inside_cast i) (inside_run_state i) (Crash c.args.p c.args.k c.args.image))
   done =
       on_ok c.crash-done.result (λ (e : new ≡ crashed_machine i.deal m c.args.k c.args.image (histories c.deref.result.now)).
-      crashed i.deal i.conforming i.seeds i.roles (asked_in i) i.ledgers.items i.actors.items c.args.p c.args.k c.args.image m new place
+      crashed i.deal i.conforming i.seeds i.roles (inside_questions i) i.ledgers.items i.actors.items c.args.p c.args.k c.args.image m new place
       (e ∙ ap (λ (l : List LedgerState). crashed_machine i.deal m c.args.k c.args.image (histories l)) c.deref.ensures.value)) c.crash-done.ensures.ok
 
 pub invariant_of-self : goal.invariant_of-self
@@ -99,17 +99,17 @@ invariant_of-self c =
       askers = c.self.invariant.askers;
       told = c.self.invariant.told;
       good =
-          λ g. good_unless c.crash-done.result c.is_err-self-inside.result (λ a. false) (inside_cast i) (state_in i) (after o)
+          λ g. good_unless c.crash-done.result c.is_err-self-inside.result (λ a. false) (inside_cast i) (inside_run_state i) (after o)
           (Crash c.args.p c.args.k c.args.image) c.is_err-self-inside.ensures.value g (done o) c.self.invariant.ready (can o)
           (c.self.invariant.good (goes_on o));
       room = λ on. c.self.invariant.room (goes_on o);
       journals =
           λ on. journals_act i.deal xs i.journals.items c.args.p new c.crash-done.new.journal (c.self.invariant.journals (goes_on o)) here.below
           (journal_unless c.crash-done.result c.is_err-self-inside.result c.is_err-self-inside.ensures.value on
-          (subst (λ (v : ℕ). OnOk c.crash-done.result (IsJournalOf i.deal v new.signed c.crash-done.new.journal)) here.is.2 c.crash-done.ensures.journal));
+          (subst (λ (v : ℕ). OnOk c.crash-done.result (IsMachineJournal i.deal v new.signed c.crash-done.new.journal)) here.is.2 c.crash-done.ensures.journal));
       disks =
           λ on. err_unless c.crash-done.result c.is_err-self-inside.result c.is_err-self-inside.ensures.value on (on_err c.crash-done.result
-          (λ between. crashed_disks i.deal i.conforming i.seeds i.roles (asked_in i) i.ledgers.items xs i.journals.items c.args.p m new
+          (λ between. crashed_disks i.deal i.conforming i.seeds i.roles (inside_questions i) i.ledgers.items xs i.journals.items c.args.p m new
           c.crash-done.new.journal here c.self.invariant.actors (c.self.invariant.good (goes_on o)) (c.self.invariant.journals (goes_on o)) between)
           c.crash-done.ensures.between);
       kept = c.self.invariant.kept;

@@ -1,6 +1,6 @@
 use Rattle.std.proofs.Common.{◌≡◌, ◌<◌, ◌∙◌, ℕ, List, length, Option, Some, true, false, slice_index_or, sym, ap, subst}
 use Rattle.hashkey_path.specs.declared.hashkey.Hashkey.{Hashkey}
-use Rattle.party_wallet.specs.Value.{signed_in}
+use Rattle.party_wallet.specs.Value.{signed_hashkey}
 use Rattle.wallet_journal.specs.Held.{Leaves}
 use Rattle.wallet_journal.specs.Layout.{recorded}
 use Rattle.wallet_journal.specs.Memory.{DiskState}
@@ -11,8 +11,8 @@ use Rattle.ledger_core.specs.Book.{history}
 use Rattle.swap_rules.specs.Party.{pick_call}
 use Rattle.swap_run.specs.Run.{state_notes}
 use Rattle.swap_world.specs.Acting.{histories}
-use Rattle.swap_world.specs.Inside.{asked_in, state_in}
-use Rattle.swap_world.specs.Journals.{IsDiskOf, IsJournalOf, IsSomeDisk, IsSomeJournal}
+use Rattle.swap_world.specs.Inside.{inside_questions, inside_run_state}
+use Rattle.swap_world.specs.Journals.{IsMachineDisk, IsMachineJournal, IsSomeDisk, IsSomeJournal}
 use Rattle.swap_world.specs.Value.{WorldState}
 use Rattle.swap_world.proofs.Disks.{all_disks, disk_at}
 use Rattle.swap_world.proofs.Kept.{journal_at}
@@ -24,9 +24,9 @@ unreachable-requires c =
     let known : c.args.p < i.deal.graph.n = rw (← c.self.view_is) at c.requires.party in
     let conform : slice_index_or i.conforming c.args.p false ≡ true = rw (← c.self.view_is) at c.requires.conforms in
     let at =
-    disk_at i.deal i.conforming i.seeds i.roles (asked_in i) i.ledgers.items i.actors.items i.journals.items c.self.invariant.actors
+    disk_at i.deal i.conforming i.seeds i.roles (inside_questions i) i.ledgers.items i.actors.items i.journals.items c.self.invariant.actors
     (histories i.ledgers.items) (all_disks i c.self.invariant) c.args.p known conform c.index.result.now c.index.ensures in
-    subst (IsSomeDisk i.deal c.args.p (histories i.ledgers.items) (state_notes (state_in i) c.args.p).signed) c.in_default.is at
+    subst (IsSomeDisk i.deal c.args.p (histories i.ledgers.items) (state_notes (inside_run_state i) c.args.p).signed) c.in_default.is at
 
 pub returns-clause-calls : goal.returns-clause-calls
 returns-clause-calls c =
@@ -34,10 +34,10 @@ returns-clause-calls c =
     let known : c.args.p < i.deal.graph.n = rw (← c.self.view_is) at c.requires.party in
     let conform : slice_index_or i.conforming c.args.p false ≡ true = rw (← c.self.view_is) at c.requires.conforms in
     let at =
-    disk_at i.deal i.conforming i.seeds i.roles (asked_in i) i.ledgers.items i.actors.items i.journals.items c.self.invariant.actors
+    disk_at i.deal i.conforming i.seeds i.roles (inside_questions i) i.ledgers.items i.actors.items i.journals.items c.self.invariant.actors
     (histories i.ledgers.items) (all_disks i c.self.invariant) c.args.p known conform c.index.result.now c.index.ensures in
-    let is : IsDiskOf i.deal c.args.p (histories i.ledgers.items) (state_notes (state_in i) c.args.p).signed c.in-Some.journal.disk.held =
-    subst (IsSomeDisk i.deal c.args.p (histories i.ledgers.items) (state_notes (state_in i) c.args.p).signed) c.in-Some.is at in
+    let is : IsMachineDisk i.deal c.args.p (histories i.ledgers.items) (state_notes (inside_run_state i) c.args.p).signed c.in-Some.journal.disk.held =
+    subst (IsSomeDisk i.deal c.args.p (histories i.ledgers.items) (state_notes (inside_run_state i) c.args.p).signed) c.in-Some.is at in
     subst (λ (w : WorldState). (a : ℕ) (past : List Entry) (e : Entry) (key : Hashkey) → IsMoment (history w.state.book a) past e
     → pick_call c.args.p e ≡ Some (Unlock key) → (b : List ℕ) → Leaves c.memory.result.now.held b → recorded b key.lock ≡ Some key) c.self.view_is
     (λ a past e key m q b left. is.calls a past e key m q b (subst (λ (d : DiskState). Leaves d.held b) c.memory.ensures.value left))
@@ -48,12 +48,12 @@ returns-clause-only c =
     let known : c.args.p < i.deal.graph.n = rw (← c.self.view_is) at c.requires.party in
     let conform : slice_index_or i.conforming c.args.p false ≡ true = rw (← c.self.view_is) at c.requires.conforms in
     let at =
-    disk_at i.deal i.conforming i.seeds i.roles (asked_in i) i.ledgers.items i.actors.items i.journals.items c.self.invariant.actors
+    disk_at i.deal i.conforming i.seeds i.roles (inside_questions i) i.ledgers.items i.actors.items i.journals.items c.self.invariant.actors
     (histories i.ledgers.items) (all_disks i c.self.invariant) c.args.p known conform c.index.result.now c.index.ensures in
-    let is : IsDiskOf i.deal c.args.p (histories i.ledgers.items) (state_notes (state_in i) c.args.p).signed c.in-Some.journal.disk.held =
-    subst (IsSomeDisk i.deal c.args.p (histories i.ledgers.items) (state_notes (state_in i) c.args.p).signed) c.in-Some.is at in
+    let is : IsMachineDisk i.deal c.args.p (histories i.ledgers.items) (state_notes (inside_run_state i) c.args.p).signed c.in-Some.journal.disk.held =
+    subst (IsSomeDisk i.deal c.args.p (histories i.ledgers.items) (state_notes (inside_run_state i) c.args.p).signed) c.in-Some.is at in
     subst (λ (w : WorldState). (n : ℕ) (key : Hashkey) → n < length w.deal.leaders → (b : List ℕ) → Leaves c.memory.result.now.held b
-    → recorded b n ≡ Some key → signed_in (state_notes w.state c.args.p).signed n ≡ Some key) c.self.view_is
+    → recorded b n ≡ Some key → signed_hashkey (state_notes w.state c.args.p).signed n ≡ Some key) c.self.view_is
     (λ n key lt b left e. is.only n key (subst (λ l. n < l) (sym is.places) lt) b (subst (λ (d : DiskState). Leaves d.held b) c.memory.ensures.value left) e)
 
 pub returns-clause-durable : goal.returns-clause-durable
@@ -61,15 +61,15 @@ returns-clause-durable c =
     let i = c.self.inside in
     let known : c.args.p < i.deal.graph.n = rw (← c.self.view_is) at c.requires.party in
     let conform : slice_index_or i.conforming c.args.p false ≡ true = rw (← c.self.view_is) at c.requires.conforms in
-    let signed = (state_notes (state_in i) c.args.p).signed in
+    let signed = (state_notes (inside_run_state i) c.args.p).signed in
     subst (λ (w : WorldState). w.stopped ≡ false → (n : ℕ) → n < length w.deal.leaders → (b : List ℕ) → Leaves c.memory.result.now.held b
-    → recorded b n ≡ signed_in (state_notes w.state c.args.p).signed n) c.self.view_is (λ goes_on n lt b left.
+    → recorded b n ≡ signed_hashkey (state_notes w.state c.args.p).signed n) c.self.view_is (λ goes_on n lt b left.
     let at =
-    journal_at i.deal i.conforming i.seeds i.roles (asked_in i) i.ledgers.items i.actors.items i.journals.items c.self.invariant.actors
+    journal_at i.deal i.conforming i.seeds i.roles (inside_questions i) i.ledgers.items i.actors.items i.journals.items c.self.invariant.actors
     (c.self.invariant.journals goes_on) c.args.p known conform c.index.result.now c.index.ensures in
-    let is : IsJournalOf i.deal c.args.p (state_notes (state_in i) c.args.p).signed c.in-Some.journal =
-    subst (IsSomeJournal i.deal c.args.p (state_notes (state_in i) c.args.p).signed) c.in-Some.is at in
+    let is : IsMachineJournal i.deal c.args.p (state_notes (inside_run_state i) c.args.p).signed c.in-Some.journal =
+    subst (IsSomeJournal i.deal c.args.p (state_notes (inside_run_state i) c.args.p).signed) c.in-Some.is at in
     let many : length c.in-Some.journal.signed ≡ length i.deal.leaders =
     ap (λ (l : List (Option Hashkey)). length l) is.has ∙ ((c.self.invariant.good goes_on).notes c.args.p known conform).places in
     is.shows n (subst (λ l. n < l) (sym many) lt) b (subst (λ (d : DiskState). Leaves d.held b) c.memory.ensures.value left)
-    ∙ ap (λ (l : List (Option Hashkey)). signed_in l n) is.has)
+    ∙ ap (λ (l : List (Option Hashkey)). signed_hashkey l n) is.has)

@@ -6,9 +6,9 @@ use Rattle.swap_job.specs.declared.job.Role.TheVariants as kinds
 use Rattle.swap_run.specs.Called.{apply_step}
 use Rattle.swap_run.specs.Run.{Plan, State, party_role}
 use Rattle.swap_run.specs.Shown.{IsShown}
-use Rattle.swap_world.specs.Acting.{histories, taken, seen, told_to, turned}
-use Rattle.swap_world.specs.On.{swept_in}
-use Rattle.swap_world.specs.Inside.{asked_in, inside_cast, state_in}
+use Rattle.swap_world.specs.Acting.{histories, taken, seen, party_told, turned}
+use Rattle.swap_world.specs.On.{is_slot_swept}
+use Rattle.swap_world.specs.Inside.{inside_questions, inside_cast, inside_run_state}
 use Rattle.swap_world.specs.declared.actor.Actor.TheVariants.{Planned}
 use Rattle.swap_world.specs.declared.world.World.TheInside.{Inside}
 use Rattle.swap_world.proofs.Kept.{journals_planned}
@@ -57,7 +57,7 @@ module _ (c : goal.After-is_err-self-inside) where
   i = c.self.inside
 
   abbrev sw : ℕ → Bool
-  sw = swept_in c.args.swept.now
+  sw = is_slot_swept c.args.swept.now
 
   abbrev n : Plan
   n = c.in-Planned.planner
@@ -69,7 +69,7 @@ module _ (c : goal.After-is_err-self-inside) where
   b = histories c.follow-done.new.ledgers.items
 
   abbrev after : State
-  after = state i.deal (asked_in i) (set i.actors.items c.args.p (Planned new)) b
+  after = state i.deal (inside_questions i) (set i.actors.items c.args.p (Planned new)) b
 
   goes_on : i.stopped ≡ false
   goes_on = rw (← c.self.view_is) at c.requires.goes_on
@@ -85,20 +85,20 @@ module _ (c : goal.After-is_err-self-inside) where
       scripted (slice_index_or i.roles c.args.p kinds.Manual) place.is.1
       (not_asking (inside_cast i) c.args.p (rw (← c.self.view_is) at c.requires.deviates) (rw (← c.self.view_is) at c.requires.alone))
 
-  done : OnOk c.follow-done.result (after ≡ apply_step sw (inside_cast i) (state_in i) (Act c.args.p))
+  done : OnOk c.follow-done.result (after ≡ apply_step sw (inside_cast i) (inside_run_state i) (Act c.args.p))
   done =
       both c.follow-done.result
-      (followed i.deal i.conforming i.seeds i.roles (asked_in i) i.ledgers.items i.actors.items sw c.args.p n new b place script)
+      (followed i.deal i.conforming i.seeds i.roles (inside_questions i) i.ledgers.items i.actors.items sw c.args.p n new b place script)
       (subst (λ ss. OnOk c.follow-done.result (b ≡ taken sw i.deal c.args.p (next_call i.deal ss n.known n.moves) (histories i.ledgers.items)))
       c.as_slice.ensures c.follow-done.ensures.ok)
       (subst (λ ss. OnOk c.follow-done.result
       (new ≡ seen sw i.deal c.args.p (next_call i.deal ss n.known n.moves) (histories i.ledgers.items) (turned n)))
       c.as_slice.ensures c.follow-done.ensures.knows)
 
-  cut : OnErr c.follow-done.result ((b ≡ (state_in i).book) ⊎ (b ≡ (apply_step sw (inside_cast i) (state_in i) (Act c.args.p)).book))
+  cut : OnErr c.follow-done.result ((b ≡ (inside_run_state i).book) ⊎ (b ≡ (apply_step sw (inside_cast i) (inside_run_state i) (Act c.args.p)).book))
   cut =
       on_err c.follow-done.result (either (λ e. e)
-      (λ e. e ∙ followed_book i.deal i.conforming i.seeds i.roles (asked_in i) i.ledgers.items i.actors.items sw c.args.p n place script))
+      (λ e. e ∙ followed_book i.deal i.conforming i.seeds i.roles (inside_questions i) i.ledgers.items i.actors.items sw c.args.p n place script))
       (subst (λ ss. OnErr c.follow-done.result ((b ≡ histories i.ledgers.items)
       ⊎ (b ≡ taken sw i.deal c.args.p (next_call i.deal ss n.known n.moves) (histories i.ledgers.items))))
       c.as_slice.ensures c.follow-done.ensures.err)
@@ -116,7 +116,7 @@ invariant_of-self-2 c =
       actors = actor_set i.deal i.conforming i.seeds i.roles xs c.args.p (Planned new) c.self.invariant.actors (place o).below (place o).is;
       askers = c.self.invariant.askers;
       told = c.self.invariant.told;
-      good = λ g. good_unless c.follow-done.result c.is_err-self-inside.result (sw o) (inside_cast i) (state_in i) (after o) (Act c.args.p)
+      good = λ g. good_unless c.follow-done.result c.is_err-self-inside.result (sw o) (inside_cast i) (inside_run_state i) (after o) (Act c.args.p)
           c.is_err-self-inside.ensures.value g (done o) c.self.invariant.ready (known o) (c.self.invariant.good (goes_on o));
       room =
           λ on. room_unless c.follow-done.result c.is_err-self-inside.result c.follow-done.new.ledgers.items c.is_err-self-inside.ensures.value on
@@ -126,10 +126,10 @@ invariant_of-self-2 c =
           λ on. err_unless c.follow-done.result c.is_err-self-inside.result c.is_err-self-inside.ensures.value on (on_err c.follow-done.result
           (λ two. disks_stay i.deal (b o) (set xs c.args.p (Planned new)) i.journals.items journals
           (planned_signed i.deal (b o) xs c.args.p new (place o).below
-          (have_either i.deal i.conforming i.seeds i.roles (asked_in i) i.ledgers.items xs (sw o) (Act c.args.p) (b o) c.self.invariant.actors
+          (have_either i.deal i.conforming i.seeds i.roles (inside_questions i) i.ledgers.items xs (sw o) (Act c.args.p) (b o) c.self.invariant.actors
           c.self.invariant.ready (known o) (c.self.invariant.good (goes_on o))
-          (followed_notes i.deal i.conforming i.seeds i.roles (asked_in i) i.ledgers.items xs (sw o) c.args.p (n o) (place o) (script o)) two))) (cut o));
-      kept = kept_on c.follow-done.result (sw o) (inside_cast i) (state_in i) (after o) (Act c.args.p) (done o) (cut o)
+          (followed_notes i.deal i.conforming i.seeds i.roles (inside_questions i) i.ledgers.items xs (sw o) c.args.p (n o) (place o) (script o)) two))) (cut o));
+      kept = kept_on c.follow-done.result (sw o) (inside_cast i) (inside_run_state i) (after o) (Act c.args.p) (done o) (cut o)
           c.self.invariant.ready (known o) (c.self.invariant.good (goes_on o));
     }
 
@@ -151,11 +151,11 @@ returns-clause-told c =
     let ls = i.ledgers.items in
     let n = c.in-Planned.planner in
     let told =
-    subst (λ ss. IfOk c.follow-done.result (λ r. r ≡ told_to (sw o) i.deal c.args.p (next_call i.deal ss n.known n.moves) (histories ls))) c.as_slice.ensures
+    subst (λ ss. IfOk c.follow-done.result (λ r. r ≡ party_told (sw o) i.deal c.args.p (next_call i.deal ss n.known n.moves) (histories ls))) c.as_slice.ensures
     c.follow-done.ensures.told in
     rw (← c.self.view_is)
     (if_told c.follow-done.result
-    (λ t e. e ∙ followed_told i.deal i.conforming i.seeds i.roles (asked_in i) ls i.actors.items (sw o) c.args.p n (place o) (script o)) told)
+    (λ t e. e ∙ followed_told i.deal i.conforming i.seeds i.roles (inside_questions i) ls i.actors.items (sw o) c.args.p n (place o) (script o)) told)
 
 pub follow-done-requires-clause-room : goal.follow-done-requires-clause-room
 follow-done-requires-clause-room c = c.self.invariant.room (rw (← c.self.view_is) at c.requires.goes_on)

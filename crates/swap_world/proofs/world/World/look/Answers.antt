@@ -10,7 +10,7 @@ use Rattle.swap_rules.specs.Machine.{Begins}
 use Rattle.swap_run.specs.Run.{State, step}
 use Rattle.party_machine.specs.Machine.{MachineState}
 use Rattle.swap_world.specs.Acting.{histories}
-use Rattle.swap_world.specs.Inside.{asked_in, inside_cast, state_in, IsLedgerOf}
+use Rattle.swap_world.specs.Inside.{inside_questions, inside_cast, inside_run_state, IsArcLedger}
 use Rattle.swap_world.specs.declared.actor.Actor.TheVariants.{Conforming}
 use Rattle.swap_world.specs.declared.world.World.TheInside.{Inside}
 use Rattle.swap_world.proofs.Kept.{journals_learnt, still_signed}
@@ -47,7 +47,7 @@ module _ (c : goal.After-learn) where
   new = c.learn.new.machine
 
   abbrev after : State
-  after = state i.deal (asked_in i) (set i.actors.items c.args.p (Conforming new)) (histories i.ledgers.items)
+  after = state i.deal (inside_questions i) (set i.actors.items c.args.p (Conforming new)) (histories i.ledgers.items)
 
   -- what the machine is that knows the ledger up to its end
   abbrev knowing : MachineState
@@ -72,17 +72,17 @@ module _ (c : goal.After-learn) where
   knows =
       let below = subst (λ n. c.args.arc < n) (sym c.self.invariant.ledgers.one_each) can.arc in
       let l : LedgerState = c.index.result.now in
-      let k : IsLedgerOf i.deal c.args.arc l = c.self.invariant.ledgers.each c.args.arc l below c.index.ensures in
+      let k : IsArcLedger i.deal c.args.arc l = c.self.invariant.ledgers.each c.args.arc l below c.index.ensures in
       on_ok c.learn.result (know m new i.ledgers.items c.args.arc l k.arc below c.index.ensures) c.learn.ensures.ok
 
-  saw : OnOk c.learn.result (after ≡ step (inside_cast i) (state_in i) (Look c.args.p c.args.arc))
+  saw : OnOk c.learn.result (after ≡ step (inside_cast i) (inside_run_state i) (Look c.args.p c.args.arc))
   saw =
       on_ok c.learn.result
-      (looked i.deal i.conforming i.seeds i.roles (asked_in i) i.ledgers.items i.actors.items c.args.p c.args.arc m new place) knows
+      (looked i.deal i.conforming i.seeds i.roles (inside_questions i) i.ledgers.items i.actors.items c.args.p c.args.arc m new place) knows
 
-  same : OnErr c.learn.result (after ≡ state_in i)
+  same : OnErr c.learn.result (after ≡ inside_run_state i)
   same =
-      on_err c.learn.result (λ (e : new ≡ m). same_actor i.deal i.conforming i.seeds i.roles (asked_in i) i.ledgers.items i.actors.items c.args.p
+      on_err c.learn.result (λ (e : new ≡ m). same_actor i.deal i.conforming i.seeds i.roles (inside_questions i) i.ledgers.items i.actors.items c.args.p
       (Conforming m) (Conforming new) (histories i.ledgers.items) place.here (ap (λ x. Conforming x) e)) c.learn.ensures.err
 
 pub invariant_of-self-2 : goal.invariant_of-self-2
@@ -101,7 +101,7 @@ invariant_of-self-2 c =
           (slice_index_or i.roles c.args.p kinds.Manual) c.args.p m new (same_owner c.learn.result m new k (knows o) c.learn.ensures.err) (place o).is);
       askers = c.self.invariant.askers;
       told = c.self.invariant.told;
-      good = λ g. good_on c.learn.result (λ a. false) (inside_cast i) (state_in i) (after o) (Look c.args.p c.args.arc) (saw o) (same o)
+      good = λ g. good_on c.learn.result (λ a. false) (inside_cast i) (inside_run_state i) (after o) (Look c.args.p c.args.arc) (saw o) (same o)
           c.self.invariant.ready (can o) (c.self.invariant.good g);
       room = c.self.invariant.room;
       journals = λ on. journals_learnt i.deal xs i.journals.items c.args.p m new (c.self.invariant.journals on) (place o).below (place o).here

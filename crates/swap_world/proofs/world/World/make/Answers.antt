@@ -6,9 +6,9 @@ use Rattle.swap_job.specs.declared.event.Event.TheVariants.{Call as Made}
 use Rattle.swap_rules.proofs.Accepted.{accepted_is_well_sized}
 use Rattle.swap_run.specs.Called.{apply_step}
 use Rattle.swap_run.specs.Run.{Plan, State}
-use Rattle.swap_world.specs.Acting.{histories, taken, seen, told_to}
-use Rattle.swap_world.specs.On.{swept_in}
-use Rattle.swap_world.specs.Inside.{asked_in, inside_cast, state_in}
+use Rattle.swap_world.specs.Acting.{histories, taken, seen, party_told}
+use Rattle.swap_world.specs.On.{is_slot_swept}
+use Rattle.swap_world.specs.Inside.{inside_questions, inside_cast, inside_run_state}
 use Rattle.swap_world.specs.declared.actor.Actor.TheVariants.{Planned}
 use Rattle.swap_world.specs.declared.world.World.TheInside.{Inside}
 use Rattle.swap_world.proofs.Kept.{journals_planned}
@@ -54,7 +54,7 @@ module _ (c : goal.After-is_err-self-inside) where
   i = c.self.inside
 
   abbrev sw : ℕ → Bool
-  sw = swept_in c.args.swept.now
+  sw = is_slot_swept c.args.swept.now
 
   abbrev n : Plan
   n = c.in-Planned.planner
@@ -66,7 +66,7 @@ module _ (c : goal.After-is_err-self-inside) where
   b = histories c.make_by_hand-done.new.ledgers.items
 
   abbrev after : State
-  after = state i.deal (asked_in i) (set i.actors.items c.args.sender (Planned new)) b
+  after = state i.deal (inside_questions i) (set i.actors.items c.args.sender (Planned new)) b
 
   goes_on : i.stopped ≡ false
   goes_on = rw (← c.self.view_is) at c.requires.goes_on
@@ -77,10 +77,10 @@ module _ (c : goal.After-is_err-self-inside) where
   place : IsPlanOf i c.args.sender n
   place = plan_found i c.self.invariant c.args.sender can.known c.index_mut.result.now c.index_mut.ensures.value n c.in-Planned.is
 
-  done : OnOk c.make_by_hand-done.result (after ≡ apply_step sw (inside_cast i) (state_in i) (Made c.args.sender c.args.mv.now))
+  done : OnOk c.make_by_hand-done.result (after ≡ apply_step sw (inside_cast i) (inside_run_state i) (Made c.args.sender c.args.mv.now))
   done =
       both c.make_by_hand-done.result
-      (made_by_hand i.deal i.conforming i.seeds i.roles (asked_in i) i.ledgers.items i.actors.items sw c.args.sender c.args.mv.now n new b place)
+      (made_by_hand i.deal i.conforming i.seeds i.roles (inside_questions i) i.ledgers.items i.actors.items sw c.args.sender c.args.mv.now n new b place)
       (subst (λ ss. OnOk c.make_by_hand-done.result
       (b ≡ taken sw i.deal c.args.sender (resolved i.deal ss (histories i.ledgers.items) c.args.mv.now) (histories i.ledgers.items)))
       c.as_slice.ensures c.make_by_hand-done.ensures.ok)
@@ -89,10 +89,10 @@ module _ (c : goal.After-is_err-self-inside) where
       c.as_slice.ensures c.make_by_hand-done.ensures.knows)
 
   cut : OnErr c.make_by_hand-done.result
-      ((b ≡ (state_in i).book) ⊎ (b ≡ (apply_step sw (inside_cast i) (state_in i) (Made c.args.sender c.args.mv.now)).book))
+      ((b ≡ (inside_run_state i).book) ⊎ (b ≡ (apply_step sw (inside_cast i) (inside_run_state i) (Made c.args.sender c.args.mv.now)).book))
   cut =
       on_err c.make_by_hand-done.result (either (λ e. e)
-      (λ e. e ∙ made_book i.deal i.conforming i.seeds i.roles (asked_in i) i.ledgers.items i.actors.items sw c.args.sender c.args.mv.now n place))
+      (λ e. e ∙ made_book i.deal i.conforming i.seeds i.roles (inside_questions i) i.ledgers.items i.actors.items sw c.args.sender c.args.mv.now n place))
       (subst (λ ss. OnErr c.make_by_hand-done.result ((b ≡ histories i.ledgers.items)
       ⊎ (b ≡ taken sw i.deal c.args.sender (resolved i.deal ss (histories i.ledgers.items) c.args.mv.now) (histories i.ledgers.items))))
       c.as_slice.ensures c.make_by_hand-done.ensures.err)
@@ -110,7 +110,7 @@ invariant_of-self-2 c =
       actors = actor_set i.deal i.conforming i.seeds i.roles xs c.args.sender (Planned new) c.self.invariant.actors (place o).below (place o).is;
       askers = c.self.invariant.askers;
       told = c.self.invariant.told;
-      good = λ g. good_unless c.make_by_hand-done.result c.is_err-self-inside.result (sw o) (inside_cast i) (state_in i) (after o)
+      good = λ g. good_unless c.make_by_hand-done.result c.is_err-self-inside.result (sw o) (inside_cast i) (inside_run_state i) (after o)
           (Made c.args.sender c.args.mv.now) c.is_err-self-inside.ensures.value g (done o)
           c.self.invariant.ready (can o) (c.self.invariant.good (goes_on o));
       room =
@@ -121,10 +121,10 @@ invariant_of-self-2 c =
           λ on. err_unless c.make_by_hand-done.result c.is_err-self-inside.result c.is_err-self-inside.ensures.value on
           (on_err c.make_by_hand-done.result (λ two. disks_stay i.deal (b o) (set xs c.args.sender (Planned new)) i.journals.items journals
           (planned_signed i.deal (b o) xs c.args.sender new (place o).below
-          (have_either i.deal i.conforming i.seeds i.roles (asked_in i) i.ledgers.items xs (sw o) (Made c.args.sender c.args.mv.now) (b o)
+          (have_either i.deal i.conforming i.seeds i.roles (inside_questions i) i.ledgers.items xs (sw o) (Made c.args.sender c.args.mv.now) (b o)
           c.self.invariant.actors c.self.invariant.ready (can o) (c.self.invariant.good (goes_on o))
-          (made_notes i.deal i.conforming i.seeds i.roles (asked_in i) i.ledgers.items xs (sw o) c.args.sender c.args.mv.now (n o) (place o)) two))) (cut o));
-      kept = kept_on c.make_by_hand-done.result (sw o) (inside_cast i) (state_in i) (after o) (Made c.args.sender c.args.mv.now) (done o) (cut o)
+          (made_notes i.deal i.conforming i.seeds i.roles (inside_questions i) i.ledgers.items xs (sw o) c.args.sender c.args.mv.now (n o) (place o)) two))) (cut o));
+      kept = kept_on c.make_by_hand-done.result (sw o) (inside_cast i) (inside_run_state i) (after o) (Made c.args.sender c.args.mv.now) (done o) (cut o)
           c.self.invariant.ready (can o) (c.self.invariant.good (goes_on o));
     }
 
@@ -142,15 +142,15 @@ returns-clause-book c = rw (← c.self.view_is) (cut (goal.at.returns-clause-boo
 pub returns-clause-told : goal.returns-clause-told
 returns-clause-told c =
     let i = c.self.inside in
-    let sw = swept_in c.args.swept.now in
+    let sw = is_slot_swept c.args.swept.now in
     let ls = i.ledgers.items in
     let xs = i.actors.items in
     let told =
-    subst (λ ss. IfOk c.make_by_hand-done.result (λ r. r ≡ told_to sw i.deal c.args.sender (resolved i.deal ss (histories ls) c.args.mv.now) (histories ls)))
+    subst (λ ss. IfOk c.make_by_hand-done.result (λ r. r ≡ party_told sw i.deal c.args.sender (resolved i.deal ss (histories ls) c.args.mv.now) (histories ls)))
     c.as_slice.ensures c.make_by_hand-done.ensures.told in
     rw (← c.self.view_is)
     (if_told c.make_by_hand-done.result
-    (λ t e. e ∙ made_told i.deal i.conforming i.seeds i.roles (asked_in i) ls xs sw c.args.sender c.args.mv.now) told)
+    (λ t e. e ∙ made_told i.deal i.conforming i.seeds i.roles (inside_questions i) ls xs sw c.args.sender c.args.mv.now) told)
 
 pub make_by_hand-done-requires-clause-room : goal.make_by_hand-done-requires-clause-room
 make_by_hand-done-requires-clause-room c = c.self.invariant.room (rw (← c.self.view_is) at c.requires.goes_on)

@@ -6,9 +6,9 @@ use Rattle.swap_job.specs.Resolved.{resolved}
 use Rattle.swap_rules.proofs.Accepted.{accepted_is_well_sized}
 use Rattle.swap_run.specs.Called.{apply_step}
 use Rattle.swap_run.specs.Run.{State}
-use Rattle.swap_world.specs.Acting.{histories, taken, told_to}
-use Rattle.swap_world.specs.On.{swept_in}
-use Rattle.swap_world.specs.Inside.{asked_in, inside_cast, state_in}
+use Rattle.swap_world.specs.Acting.{histories, taken, party_told}
+use Rattle.swap_world.specs.On.{is_slot_swept}
+use Rattle.swap_world.specs.Inside.{inside_questions, inside_cast, inside_run_state}
 use Rattle.swap_world.specs.declared.world.World.TheInside.{Inside}
 use Rattle.swap_world.proofs.Plans.{take_is}
 use Rattle.swap_world.proofs.On.{call_is, if_told}
@@ -32,13 +32,13 @@ module _ (c : goal.After-is_err-self-inside) where
   i = c.self.inside
 
   abbrev sw : ℕ → Bool
-  sw = swept_in c.args.swept.now
+  sw = is_slot_swept c.args.swept.now
 
   abbrev b : Histories
   b = histories c.make-done.new.ledgers.items
 
   abbrev after : State
-  after = state i.deal (asked_in i) i.actors.items b
+  after = state i.deal (inside_questions i) i.actors.items b
 
   -- the histories after the call
   abbrev called : Histories
@@ -50,20 +50,20 @@ module _ (c : goal.After-is_err-self-inside) where
   can : CanCall i.deal i.conforming i.seeds c.args.sender c.args.mv.now
   can = rw (← c.self.view_is) at c.requires.event
 
-  to : state i.deal (asked_in i) i.actors.items called ≡ apply_step sw (inside_cast i) (state_in i) (Made c.args.sender c.args.mv.now)
+  to : state i.deal (inside_questions i) i.actors.items called ≡ apply_step sw (inside_cast i) (inside_run_state i) (Made c.args.sender c.args.mv.now)
   to =
-      sym (call_is sw (inside_cast i) (state_in i) c.args.sender c.args.mv.now
-      ∙ take_is i.deal i.conforming i.seeds i.roles sw (state_in i) c.args.sender (resolved i.deal i.seeds (histories i.ledgers.items) c.args.mv.now)
+      sym (call_is sw (inside_cast i) (inside_run_state i) c.args.sender c.args.mv.now
+      ∙ take_is i.deal i.conforming i.seeds i.roles sw (inside_run_state i) c.args.sender (resolved i.deal i.seeds (histories i.ledgers.items) c.args.mv.now)
       (rw (← c.self.view_is) at c.requires.plain))
 
-  done : OnOk c.make-done.result (after ≡ apply_step sw (inside_cast i) (state_in i) (Made c.args.sender c.args.mv.now))
+  done : OnOk c.make-done.result (after ≡ apply_step sw (inside_cast i) (inside_run_state i) (Made c.args.sender c.args.mv.now))
   done =
-      on_ok c.make-done.result (λ (e : b ≡ called). ap (λ (x : Histories). state i.deal (asked_in i) i.actors.items x) e ∙ to)
+      on_ok c.make-done.result (λ (e : b ≡ called). ap (λ (x : Histories). state i.deal (inside_questions i) i.actors.items x) e ∙ to)
       (subst (λ ss. OnOk c.make-done.result
       (b ≡ taken sw i.deal c.args.sender (resolved i.deal ss (histories i.ledgers.items) c.args.mv.now) (histories i.ledgers.items)))
       c.as_slice.ensures c.make-done.ensures.ok)
 
-  cut : OnErr c.make-done.result ((b ≡ (state_in i).book) ⊎ (b ≡ (apply_step sw (inside_cast i) (state_in i) (Made c.args.sender c.args.mv.now)).book))
+  cut : OnErr c.make-done.result ((b ≡ (inside_run_state i).book) ⊎ (b ≡ (apply_step sw (inside_cast i) (inside_run_state i) (Made c.args.sender c.args.mv.now)).book))
   cut =
       on_err c.make-done.result (either (λ e. e) (λ e. e ∙ ap (λ (t : State). t.book) to))
       (subst (λ ss. OnErr c.make-done.result ((b ≡ histories i.ledgers.items)
@@ -81,7 +81,7 @@ invariant_of-self c =
       actors = c.self.invariant.actors;
       askers = c.self.invariant.askers;
       told = c.self.invariant.told;
-      good = λ on. good_unless c.make-done.result c.is_err-self-inside.result (sw o) (inside_cast i) (state_in i) (after o) (Made c.args.sender c.args.mv.now)
+      good = λ on. good_unless c.make-done.result c.is_err-self-inside.result (sw o) (inside_cast i) (inside_run_state i) (after o) (Made c.args.sender c.args.mv.now)
           c.is_err-self-inside.ensures.value on (done o) c.self.invariant.ready (can o) good;
       room =
           λ on. room_unless c.make-done.result c.is_err-self-inside.result c.make-done.new.ledgers.items c.is_err-self-inside.ensures.value on
@@ -90,9 +90,9 @@ invariant_of-self c =
       disks =
           λ on. err_unless c.make-done.result c.is_err-self-inside.result c.is_err-self-inside.ensures.value on (on_err c.make-done.result
           (λ two. disks_stay i.deal (b o) i.actors.items i.journals.items (c.self.invariant.journals (goes_on o))
-          (have_either i.deal i.conforming i.seeds i.roles (asked_in i) i.ledgers.items i.actors.items (sw o) (Made c.args.sender c.args.mv.now) (b o)
+          (have_either i.deal i.conforming i.seeds i.roles (inside_questions i) i.ledgers.items i.actors.items (sw o) (Made c.args.sender c.args.mv.now) (b o)
           c.self.invariant.actors c.self.invariant.ready (can o) good (sym (ap (λ (t : State). t.notes) (to o))) two)) (cut o));
-      kept = kept_on c.make-done.result (sw o) (inside_cast i) (state_in i) (after o) (Made c.args.sender c.args.mv.now) (done o) (cut o)
+      kept = kept_on c.make-done.result (sw o) (inside_cast i) (inside_run_state i) (after o) (Made c.args.sender c.args.mv.now) (done o) (cut o)
           c.self.invariant.ready (can o) good;
     }
 
@@ -110,11 +110,11 @@ returns-clause-book c = rw (← c.self.view_is) (cut (goal.at.returns-clause-boo
 pub returns-clause-told : goal.returns-clause-told
 returns-clause-told c =
     let i = c.self.inside in
-    let sw = swept_in c.args.swept.now in
+    let sw = is_slot_swept c.args.swept.now in
     let told =
     subst (λ ss. IfOk c.make-done.result
-    (λ r. r ≡ told_to sw i.deal c.args.sender (resolved i.deal ss (histories i.ledgers.items) c.args.mv.now) (histories i.ledgers.items)))
+    (λ r. r ≡ party_told sw i.deal c.args.sender (resolved i.deal ss (histories i.ledgers.items) c.args.mv.now) (histories i.ledgers.items)))
     c.as_slice.ensures c.make-done.ensures.told in
     rw (← c.self.view_is)
     (if_told c.make-done.result
-    (λ t e. e ∙ made_told i.deal i.conforming i.seeds i.roles (asked_in i) i.ledgers.items i.actors.items sw c.args.sender c.args.mv.now) told)
+    (λ t e. e ∙ made_told i.deal i.conforming i.seeds i.roles (inside_questions i) i.ledgers.items i.actors.items sw c.args.sender c.args.mv.now) told)

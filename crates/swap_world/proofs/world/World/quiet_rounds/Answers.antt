@@ -8,7 +8,7 @@ use Rattle.swap_run.specs.Fair.{has_ended}
 use Rattle.swap_run.specs.Steps.{IsSkipped}
 use Rattle.swap_world.specs.Value.{WorldState, answering_cast}
 use Rattle.swap_world.specs.Acting.{histories}
-use Rattle.swap_world.specs.Inside.{inside_cast, state_in}
+use Rattle.swap_world.specs.Inside.{inside_cast, inside_run_state}
 use Rattle.swap_world.proofs.Idle.{skips}
 use Rattle.swap_world.proofs.world.World.quiet_rounds.Goals as goal
 
@@ -29,6 +29,6 @@ returns-clause-skips c =
     → height (history (histories ks) 0) + c.horizon_rounds-low.result ≤ c.deal_horizon.result) c.deref.ensures.value c.horizon_rounds-low.ensures.low in
     let still = rw (← c.self.view_is) at c.rest_rounds.ensures.still in
     subst (λ (w : WorldState). (a : Answers) → IsSkipped (answering_cast w a) n w.state) c.self.view_is (λ a.
-    skips (inside_cast i) n (state_in i) a c.self.invariant.ready (c.self.invariant.good goes_on) on
+    skips (inside_cast i) n (inside_run_state i) a c.self.invariant.ready (c.self.invariant.good goes_on) on
     (λ more. subst (λ z. 0 < z) c.self.invariant.ledgers.one_each (below (omega (arith, more, less))))
     (λ more. let h = high (omega (arith, more, less)) in let z = c.deal_horizon.ensures in omega (arith, h, z, less)) still)

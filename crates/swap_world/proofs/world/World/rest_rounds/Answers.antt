@@ -3,7 +3,7 @@ use Rattle.ledger_core.specs.Value.{LedgerState}
 use Rattle.swap_run.specs.Fair.{adjacent_arcs}
 use Rattle.swap_world.specs.Value.{WorldState, world_cast}
 use Rattle.swap_world.specs.Acting.{histories}
-use Rattle.swap_world.specs.Inside.{asked_in}
+use Rattle.swap_world.specs.Inside.{inside_questions}
 use Rattle.swap_world.specs.Quiet.{IsCalmActor, IsReadyActor, IsStill}
 use Rattle.swap_world.specs.declared.actor.Actor.{Actor}
 use Rattle.swap_world.proofs.Idle.{are_ready, rests}
@@ -19,7 +19,7 @@ pub rounds-requires-clause-ready : goal.rounds-requires-clause-ready
 rounds-requires-clause-ready c =
     let i = c.self.inside in
     let goes_on : i.stopped ≡ false = rw (← c.self.view_is) at c.requires.goes_on in
-    let all = are_ready i.deal i.conforming i.seeds i.roles (asked_in i) i.ledgers.items i.actors.items c.self.invariant.ready
+    let all = are_ready i.deal i.conforming i.seeds i.roles (inside_questions i) i.ledgers.items i.actors.items c.self.invariant.ready
     (c.self.invariant.good goes_on) c.self.invariant.ledgers c.self.invariant.actors in
     subst (λ (ls : List LedgerState). (v : ℕ) (x : Actor) → v < length c.deref-2.result.now
     → IsReadyActor (length ls) (histories ls) (adjacent_arcs i.deal v) (slice_index_or c.deref-2.result.now v x)) (sym c.deref.ensures.value)
@@ -39,5 +39,5 @@ returns-clause-still c =
     (subst (λ (ys : List Actor). 0 < n → (v : ℕ) (x : Actor) → v < length ys
     → IsCalmActor n (histories c.deref.result.now) (adjacent_arcs d v) (slice_index_or ys v x)) c.deref-2.ensures.value c.rounds.ensures.calm) in
     subst (λ (w : WorldState). 0 < n → IsStill (world_cast w) n w.state) c.self.view_is (λ more.
-    rests d i.conforming i.seeds i.roles (asked_in i) ls xs c.self.invariant.ready (c.self.invariant.good goes_on) n c.self.invariant.actors
+    rests d i.conforming i.seeds i.roles (inside_questions i) ls xs c.self.invariant.ready (c.self.invariant.good goes_on) n c.self.invariant.actors
     (calm more))

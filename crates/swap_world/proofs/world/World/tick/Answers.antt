@@ -6,7 +6,7 @@ use Rattle.swap_run.specs.Run.{State, after_tick, step}
 use Rattle.swap_run.specs.Laws.{IsGood}
 use Rattle.swap_run.proofs.Good.{good_is_kept, steps_are_good}
 use Rattle.swap_world.specs.Acting.{histories}
-use Rattle.swap_world.specs.Inside.{asked_in, inside_cast, state_in}
+use Rattle.swap_world.specs.Inside.{inside_questions, inside_cast, inside_run_state}
 use Rattle.swap_world.specs.declared.world.World.TheInside.{Inside}
 use Rattle.swap_world.proofs.Disks.{disks_stay, have_signed}
 use Rattle.swap_world.proofs.Ledgers.{book_ok, moved, ledger_set}
@@ -29,7 +29,7 @@ module _ (c : goal.After-is_err-self-inside) where
   i = c.self.inside
 
   abbrev after : State
-  after = state i.deal (asked_in i) i.actors.items (histories (set i.ledgers.items c.args.arc c.tick-done.new.ledger))
+  after = state i.deal (inside_questions i) i.actors.items (histories (set i.ledgers.items c.args.arc c.tick-done.new.ledger))
 
   can : CanTick i.deal c.args.arc c.args.k
   can = rw (← c.self.view_is) at c.requires.event
@@ -40,9 +40,9 @@ module _ (c : goal.After-is_err-self-inside) where
   below : c.args.arc < length i.ledgers.items
   below = subst (λ n. c.args.arc < n) (sym c.self.invariant.ledgers.one_each) can.arc
 
-  to : after ≡ step (inside_cast i) (state_in i) (Tick c.args.arc c.args.k)
+  to : after ≡ step (inside_cast i) (inside_run_state i) (Tick c.args.arc c.args.k)
   to =
-      ap (λ (b : Histories). state i.deal (asked_in i) i.actors.items b)
+      ap (λ (b : Histories). state i.deal (inside_questions i) i.actors.items b)
       (book_ok i.ledgers.items c.args.arc c.index_mut-ledger.result.now c.tick-done.new.ledger (after_tick c.args.k) below c.index_mut-ledger.ensures.value
       c.tick-done.ensures.ticked)
 
@@ -54,7 +54,7 @@ invariant_of-self c =
     let new = c.tick-done.new.ledger in
     let good : IsGood (inside_cast i) (after o) =
     subst (IsGood (inside_cast i)) (sym (to o))
-    (steps_are_good (inside_cast i) (state_in i) (Tick c.args.arc c.args.k) c.self.invariant.ready (can o) (c.self.invariant.good (goes_on o))) in
+    (steps_are_good (inside_cast i) (inside_run_state i) (Tick c.args.arc c.args.k) c.self.invariant.ready (can o) (c.self.invariant.good (goes_on o))) in
     record {
       ready = c.self.invariant.ready;
       ledgers = ledger_set i.deal i.ledgers.items c.args.arc new c.self.invariant.ledgers (below o)

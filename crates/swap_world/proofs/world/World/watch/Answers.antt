@@ -5,9 +5,9 @@ use Rattle.ledger_core.specs.Book.{history}
 use Rattle.swap_rules.specs.Machine.{Begins}
 use Rattle.swap_job.specs.Step.{CanLook}
 use Rattle.swap_job.specs.declared.event.Event.TheVariants.{Look}
-use Rattle.swap_run.specs.Run.{Plan, State, plan_up_to, step}
+use Rattle.swap_run.specs.Run.{Plan, State, plan_with_ledger, step}
 use Rattle.swap_world.specs.Acting.{histories}
-use Rattle.swap_world.specs.Inside.{asked_in, inside_cast, state_in}
+use Rattle.swap_world.specs.Inside.{inside_questions, inside_cast, inside_run_state}
 use Rattle.swap_world.specs.declared.actor.Actor.TheVariants.{Planned}
 use Rattle.swap_world.specs.declared.world.World.TheInside.{Inside}
 use Rattle.swap_world.proofs.Kept.{journals_planned}
@@ -44,7 +44,7 @@ module _ (c : goal.After-watch) where
   new = c.watch.new.planner
 
   abbrev after : State
-  after = state i.deal (asked_in i) (set i.actors.items c.args.p (Planned new)) (histories i.ledgers.items)
+  after = state i.deal (inside_questions i) (set i.actors.items c.args.p (Planned new)) (histories i.ledgers.items)
 
   goes_on : i.stopped ≡ false
   goes_on = rw (← c.self.view_is) at c.requires.goes_on
@@ -55,16 +55,16 @@ module _ (c : goal.After-watch) where
   place : IsPlanOf i c.args.p n
   place = plan_found i c.self.invariant c.args.p can.known c.index_mut.result.now c.index_mut.ensures.value n c.in-Planned.is
 
-  saw : OnOk c.watch.result (after ≡ step (inside_cast i) (state_in i) (Look c.args.p c.args.arc))
+  saw : OnOk c.watch.result (after ≡ step (inside_cast i) (inside_run_state i) (Look c.args.p c.args.arc))
   saw =
       let below = subst (λ k. c.args.arc < k) (sym c.self.invariant.ledgers.one_each) can.arc in
-      on_ok c.watch.result (λ (e : new ≡ plan_up_to n c.args.arc c.index.result.now.history). watched i.deal i.conforming i.seeds i.roles (asked_in i)
+      on_ok c.watch.result (λ (e : new ≡ plan_with_ledger n c.args.arc c.index.result.now.history). watched i.deal i.conforming i.seeds i.roles (inside_questions i)
       i.ledgers.items i.actors.items c.args.p c.args.arc n new place
-      (e ∙ ap (λ h. plan_up_to n c.args.arc h) (sym (history_at i.ledgers.items c.args.arc c.index.result.now below c.index.ensures)))) c.watch.ensures.ok
+      (e ∙ ap (λ h. plan_with_ledger n c.args.arc h) (sym (history_at i.ledgers.items c.args.arc c.index.result.now below c.index.ensures)))) c.watch.ensures.ok
 
-  same : OnErr c.watch.result (after ≡ state_in i)
+  same : OnErr c.watch.result (after ≡ inside_run_state i)
   same =
-      on_err c.watch.result (λ (e : new ≡ n). same_actor i.deal i.conforming i.seeds i.roles (asked_in i) i.ledgers.items i.actors.items c.args.p (Planned n)
+      on_err c.watch.result (λ (e : new ≡ n). same_actor i.deal i.conforming i.seeds i.roles (inside_questions i) i.ledgers.items i.actors.items c.args.p (Planned n)
       (Planned new) (histories i.ledgers.items) place.here (ap (λ x. Planned x) e)) c.watch.ensures.err
 
 pub invariant_of-self-2 : goal.invariant_of-self-2
@@ -78,7 +78,7 @@ invariant_of-self-2 c =
       actors = actor_set i.deal i.conforming i.seeds i.roles i.actors.items c.args.p (Planned new) c.self.invariant.actors (place o).below (place o).is;
       askers = c.self.invariant.askers;
       told = c.self.invariant.told;
-      good = λ g. good_on c.watch.result (λ a. false) (inside_cast i) (state_in i) (after o) (Look c.args.p c.args.arc) (saw o) (same o)
+      good = λ g. good_on c.watch.result (λ a. false) (inside_cast i) (inside_run_state i) (after o) (Look c.args.p c.args.arc) (saw o) (same o)
           c.self.invariant.ready (can o) (c.self.invariant.good g);
       room = c.self.invariant.room;
       journals = λ on. journals_planned i.deal i.actors.items i.journals.items c.args.p new (c.self.invariant.journals on) (place o).below;

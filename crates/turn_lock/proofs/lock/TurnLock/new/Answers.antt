@@ -1,5 +1,5 @@
 use Rattle.std.proofs.Common.{rules, ◌≤◌, length, ◌∷◌, [], sym, ap, ◌∙◌, arith, subst, length-append, zero-add, vec_capacity}
-use Rattle.turn_lock.specs.Turns.{idle, SeatsFrom}
+use Rattle.turn_lock.specs.Turns.{idle, AreNumberedSeats}
 use Rattle.turn_lock.proofs.Keeps.{seats_snoc}
 use Rattle.turn_lock.proofs.lock.TurnLock.new.Goals as goal
 
@@ -18,5 +18,5 @@ loop-k-preserved g c =
       omega (arith, ap length added.items, length-append c.loop-k.all.items (c.next_seat-seat.result ∷ []), i.2),
       (let a : c.args.seats ≤ vec_capacity c.loop-k.all = i.3 in let b : vec_capacity c.loop-k.all ≤ vec_capacity c.add-in-loop-k.new.all =
           added.capacity in omega arith),
-      subst (λ xs. SeatsFrom c.in-Some.table.shared.table_id (g.T.Journal.history c.args.value) 0 xs) (sym added.items) all,
+      subst (λ xs. AreNumberedSeats c.in-Some.table.shared.table_id (g.T.Journal.history c.args.value) 0 xs) (sym added.items) all,
     )

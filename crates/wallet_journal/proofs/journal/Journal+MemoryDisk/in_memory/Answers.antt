@@ -1,5 +1,5 @@
 use Rattle.std.proofs.Common.{◌∙◌, inl, ap, subst}
-use Rattle.wallet_journal.specs.Held.{Leaves, read_bytes}
+use Rattle.wallet_journal.specs.Held.{Leaves, visible_bytes}
 use Rattle.wallet_journal.specs.Layout.{recorded}
 use Rattle.wallet_journal.specs.Memory.{DiskState}
 use Rattle.wallet_journal.proofs.First.{none_recorded, none_own, none_signed}
@@ -9,7 +9,7 @@ pub returns-in-Ok-clause-none : goal.returns-in-Ok-clause-none
 returns-in-Ok-clause-none c =
     let is = c.in-Ok.ensures.opened.3 in
     none_signed c.in-Ok.journal.signed _ is.locks
-    (λ i lt. is.shown i lt ∙ ap (λ (d : DiskState). recorded (read_bytes d.held) i) c.new-disk.ensures.value ∙ none_recorded i)
+    (λ i lt. is.shown i lt ∙ ap (λ (d : DiskState). recorded (visible_bytes d.held) i) c.new-disk.ensures.value ∙ none_recorded i)
 
 pub returns-in-Ok-clause-own : goal.returns-in-Ok-clause-own
 returns-in-Ok-clause-own c = record {

@@ -1,6 +1,6 @@
 use Rattle.std.proofs.Common.{◌∷◌, [], ◌++◌, ◌-◌, ◌∙◌, List, ℕ, length, ap, subst}
 use Rattle.wallet_journal.specs.Device.{written, Torn}
-use Rattle.wallet_journal.specs.Held.{Leaves, read_bytes}
+use Rattle.wallet_journal.specs.Held.{Leaves, visible_bytes}
 use Rattle.wallet_journal.specs.Memory.{DiskState}
 use Rattle.wallet_journal.proofs.Holds.{among, append_items, put_written, put_left, elapses_to}
 use Rattle.wallet_journal.proofs.memory.MemoryDiskDisk.write_at.Goals as goal
@@ -23,7 +23,7 @@ returns-then-next-clause-time c =
 pub returns-clause-written : goal.returns-clause-written
 returns-clause-written c =
     put_written c.self.inside.contents c.put.new.self c.args.at c.args.bytes.now (c.self.inside.contents.spare - 1) c.put.ensures
-    ∙ ap (λ (d : DiskState). written (read_bytes d.held) c.args.at c.args.bytes.now) c.self.view_is
+    ∙ ap (λ (d : DiskState). written (visible_bytes d.held) c.args.at c.args.bytes.now) c.self.view_is
 
 pub returns-clause-among : goal.returns-clause-among
 returns-clause-among c =

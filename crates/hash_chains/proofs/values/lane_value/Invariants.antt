@@ -1,0 +1,7 @@
+use Rattle.std.proofs.Common.{◌≡◌, ◌*◌, length, take}
+use Rattle.sha2.specs.Sha256.{digest_bytes}
+use Rattle.hash_chains.specs.Lanes.{lane}
+use Rattle.hash_chains.proofs.values.lane_value.Given as goal
+
+abbrev pub invariant-words : goal.invariant-words
+invariant-words l = (length l.out ≡ 32) × (take (4 * l.i) l.out ≡ digest_bytes (lane l.words l.j) l.i)

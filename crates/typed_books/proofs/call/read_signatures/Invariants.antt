@@ -1,6 +1,0 @@
-use Rattle.std.proofs.Common.{All, take}
-use Rattle.typed_books.specs.Typed.{IsSignature}
-use Rattle.typed_books.proofs.call.read_signatures.Given as goal
-
-abbrev pub invariant-sigs : goal.invariant-sigs
-invariant-sigs l = All IsSignature (take l.sig-index l.sigs)
