@@ -9,13 +9,14 @@ use Rattle.swap_commands.specs.Words.{words_command, Command}
 use Rattle.command_input.specs.Written.{Written}
 use Rattle.swap_commands.specs.Output.{Chance, no_chance, output_given_chance, command_output, refusal_names}
 use Rattle.swap_commands.specs.Says.{HasRead, Says}
-use Rattle.swap_main.specs.Top.{AsksFairRace, AsksFairRun, Read, IsDone, IsCut, IsRefused, IsShort, IsOutputStatus}
+use Rattle.swap_main.specs.Top.{AsksFairMany, AsksFairRace, AsksFairRun, Read, IsDone, IsCut, IsRefused, IsShort, IsOutputStatus}
 use Rattle.command_input.specs.declared.status.Status.{Status}
 use Rattle.command_input.specs.declared.status.Status.TheVariants.{Done, Named, WrongWords, Refused, ReadFault, WriteFault, NoMemory, TooLong}
 use Rattle.command_input.specs.Streams.{HasReadFault, HasWriteFault, Streams}
 use Rattle.swap_world.specs.Gone.{MayGive}
 use Rattle.swap_commands.specs.Promised.{AsPromised}
 use Rattle.swap_commands.specs.Strategies.{strategies}
+use Rattle.swap_main.proofs.FairMany.{many_is_not_named, many_is_not_refused}
 use Rattle.swap_main.proofs.Fairly.{all_read, fails_by, is_not_named, is_not_refused, race_is_not_named, race_is_not_refused}
 
 module _ (has : List ℕ → Bool) where
@@ -235,3 +236,17 @@ module _ (has : List ℕ → Bool) where
     fair_race WriteFault h a calm still = absurd (still h.0)
     fair_race NoMemory h a calm still = inr refl
     fair_race TooLong h a calm still = absurd (past_all before.left after.left a.input (limit + 1) a.told (omega (arith, a.within)) h.0)
+
+    pub fair_many : (s : Status) → Said s → AsksFairMany has words before.left → ¬ HasReadFault before after → ¬ HasWriteFault before after
+        → (s ≡ Done) ⊎ (s ≡ NoMemory)
+    fair_many Done h a calm still = inl refl
+    fair_many Named h a calm still =
+        absurd (cc (sym h.written.1 ∙ many_is_not_named has words before.left after.left command h.read.input asked h.read.taken h.read.ended a gives h.chance
+        h.output h.promised))
+    fair_many WrongWords h a calm still = absurd h
+    fair_many (Refused reason names) h a calm still =
+        absurd (many_is_not_refused has words before.left after.left command h.0.read.input asked h.0.read.taken h.0.read.ended a reason h.0.read.gives)
+    fair_many ReadFault h a calm still = absurd (calm h.0)
+    fair_many WriteFault h a calm still = absurd (still h.0)
+    fair_many NoMemory h a calm still = inr refl
+    fair_many TooLong h a calm still = absurd (past_all before.left after.left a.input (limit + 1) a.told (omega (arith, a.within)) h.0)

@@ -2,6 +2,7 @@ pub mod ManyDecided
 pub mod ManyTexts
 pub mod Decided
 pub mod Fairly
+pub mod FairMany
 pub mod Ends
 pub mod Asking
 pub mod Performing

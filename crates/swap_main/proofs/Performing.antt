@@ -72,6 +72,7 @@ module _ (who : Strategies) (words : List (List ℕ)) (before after : Streams) w
       good = ends.good who.holds who.gives words before after command asked s h;
       fair_run = ends.fair who.holds who.gives words before after command asked s h;
       fair_race = ends.fair_race who.holds who.gives words before after command asked s h;
+      fair_many = ends.fair_many who.holds who.gives words before after command asked s h;
       no_read_fault = λ request is. absurd (no_number request is);
       not_too_long = λ request is. absurd (no_number request is);
       generated = λ request is still. absurd (no_number request is);
@@ -100,6 +101,7 @@ module _ (who : Strategies) (words : List (List ℕ)) (before after : Streams) w
       good = λ command input output is. absurd (no_input command is);
       fair_run = λ a. absurd (no_input _ a.asked);
       fair_race = λ a. absurd (no_input _ a.asked);
+      fair_many = λ a. absurd (no_input _ a.asked);
       no_read_fault = λ other is. asking.no_read_fault words before after request asked unread few many s h;
       not_too_long = λ other is. asking.not_too_long words before after request asked unread few many s h;
       generated = asking.good words before after request asked unread few many s h;
@@ -148,6 +150,7 @@ module _ (who : Strategies) (words : List (List ℕ)) (now : Streams) where
     good = λ command input output is told within made calm still. inr refl;
     fair_run = λ a calm still. inr refl;
     fair_race = λ a calm still. inr refl;
+    fair_many = λ a calm still. inr refl;
     no_read_fault = λ request is e. absurd (cc e);
     not_too_long = λ request is e. absurd (cc e);
     generated = λ request is still. inr refl;
@@ -176,6 +179,7 @@ module _ (who : Strategies) (words : List (List ℕ)) (now : Streams) where
     good = λ command input output is told within made calm still. absurd (cc (sym (no_command_of none) ∙ is));
     fair_run = λ a calm still. absurd (cc (sym (no_command_of none) ∙ a.asked));
     fair_race = λ a calm still. absurd (cc (sym (no_command_of none) ∙ a.asked));
+    fair_many = λ a calm still. absurd (cc (sym (no_command_of none) ∙ a.asked));
     no_read_fault = λ request is e. absurd (cc e);
     not_too_long = λ request is e. absurd (cc e);
     generated = λ request is still. absurd (cc (sym (no_request_of none) ∙ is));

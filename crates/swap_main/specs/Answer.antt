@@ -14,7 +14,7 @@ use Rattle.swap_commands.specs.Generated.{generated_output, Generates}
 use Rattle.swap_commands.specs.Strategies.{Strategies}
 use Rattle.command_input.specs.Input.{limit}
 use Rattle.command_input.specs.Streams.{HasReadFault, HasWriteFault, Streams}
-use Rattle.swap_main.specs.Top.{AsksFairRace, AsksFairRun, IsDone, IsCut, IsRefused, IsShort, IsOutputStatus, command_status}
+use Rattle.swap_main.specs.Top.{AsksFairMany, AsksFairRace, AsksFairRun, IsDone, IsCut, IsRefused, IsShort, IsOutputStatus, command_status}
 
 -- What the program's answer promises, by its words, and by its input and its output before and
 -- after.
@@ -47,6 +47,7 @@ pub record IsAnswer (who : Strategies) (words : List (List ℕ)) (before after :
       → IsOutputStatus who.holds who.gives command input s ⊎ (s ≡ NoMemory)
   pub fair_run : AsksFairRun who.holds words before.left → ¬ HasReadFault before after → ¬ HasWriteFault before after → (s ≡ Done) ⊎ (s ≡ NoMemory)
   pub fair_race : AsksFairRace who.holds words before.left → ¬ HasReadFault before after → ¬ HasWriteFault before after → (s ≡ Done) ⊎ (s ≡ NoMemory)
+  pub fair_many : AsksFairMany who.holds words before.left → ¬ HasReadFault before after → ¬ HasWriteFault before after → (s ≡ Done) ⊎ (s ≡ NoMemory)
   -- The job of a number is made without reading, and no status speaks of an input then.
   pub no_read_fault : (request : Request) → words_request words ≡ Some request → ¬ (s ≡ ReadFault)
   pub not_too_long : (request : Request) → words_request words ≡ Some request → ¬ (s ≡ TooLong)

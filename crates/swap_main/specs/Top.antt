@@ -1,5 +1,5 @@
 -- What each status of the program says.
-use Rattle.std.specs.Prelude.{◌≡◌, ◌≤◌, ◌*◌, ℕ, Bool, List, [], length, Option, Some, Result, Ok, Err, if◌then◌else◌}
+use Rattle.std.specs.Prelude.{◌≡◌, ◌<◌, ◌≤◌, ◌*◌, ℕ, Bool, List, [], length, Option, Some, Result, Ok, Err, if◌then◌else◌}
 use Rattle.std.specs.Io.KnownBytes.{Appends, Consumes, IsAtEnd}
 use Rattle.swap_io.specs.Causes.{AppendsProperPrefix}
 use Rattle.swap_io.specs.Handed.{AppendsPrefix}
@@ -10,8 +10,12 @@ use Rattle.swap_job.specs.declared.job.Finish.TheVariants.{Fair}
 use Rattle.outcome_rules.specs.Promises.{AllAreConforming}
 use Rattle.swap_offer.specs.Job.{parse_job}
 use Rattle.command_input.specs.Written.{Written}
-use Rattle.swap_commands.specs.Words.{words_command, Command, OfJob, Run, Race}
+use Rattle.swap_commands.specs.Words.{words_command, Command, OfJob, Many, Run, Race}
 use Rattle.command_input.specs.Input.{limit}
+use Rattle.command_input.specs.Lines.{collect_lines, filled_lines}
+use Rattle.many_lines.specs.Places.{job_of_swap}
+use Rattle.swap_many.specs.declared.place.Place.{Place}
+use Rattle.swap_commands.specs.Many.{Headed, events_told, headed, opened_places}
 use Rattle.swap_world.specs.Gone.{MayGive}
 use Rattle.swap_commands.specs.Output.{Chance, output_given_chance, no_chance, refusal_names}
 use Rattle.swap_commands.specs.Promised.{AsPromised}
@@ -90,6 +94,21 @@ pub record AsksFairRace (has : List ℕ → Bool) (words : List (List ℕ)) (lef
   pub read : parse_job has purposes.Race input ≡ Ok (job, [])
   pub fits : 2 * ticks ≤ job.deal.delta
   pub conforming : AllAreConforming job.deal job.conforming
+
+-- The words ask for several swaps, and the input tells of swaps whose parties all conform, with a
+-- fair finish and no event before it, on chains whose accounts have what is set aside from them.
+pub record AsksFairMany (has : List ℕ → Bool) (words : List (List ℕ)) (left : Option (List ℕ)) : Type 0 where
+  pub asked : words_command words ≡ Some Many
+  pub input : List ℕ
+  pub told : left ≡ Some input
+  pub within : length input ≤ limit
+  pub head : Headed
+  pub read : headed has (filled_lines 1 (collect_lines input)) ≡ Ok head
+  pub none : events_told head.many 0 head.lines ≡ Ok []
+  pub places : List (List Place)
+  pub placed : opened_places head.many ≡ Ok places
+  pub finish : head.finish ≡ Fair
+  pub conforming : (s : ℕ) → s < length head.many.jobs → AllAreConforming (job_of_swap head.many.jobs s).deal (job_of_swap head.many.jobs s).conforming
 
 -- the status of a run that isn't stopped, by whether something was found
 abbrev pub command_status : Bool → Status
