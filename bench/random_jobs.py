@@ -1,14 +1,23 @@
 """Random jobs with their events, from a generator of numbers, and random edits of the texts that
 the program reads."""
+from __future__ import annotations
+
 import json
-import os
 import re
 import sys
 from itertools import permutations
+from pathlib import Path
+from random import Random
+from typing import Any, Iterable, Iterator, Mapping, Optional, Sequence
 
 sys.dont_write_bytecode = True
-sys.path.insert(1, os.path.join(os.path.dirname(os.path.abspath(__file__)), "..", "tests"))
-from signer import deal_id, hashkey, public_key, digest, secret_of
+sys.path.insert(1, str(Path(__file__).resolve().parent.parent / "tests"))
+from signer import deal_id, digest, hashkey, public_key, secret_of
+
+# A header or an event, as a line has it; and the arcs of a digraph, each with its two parties
+Header = dict[str, Any]
+Event = dict[str, Any]
+Arcs = list[tuple[int, int]]
 
 # (few, so that their keys are made once)
 SEEDS = [digest(b"seed of a random job", bytes([it])) for it in range(8)]
@@ -17,26 +26,27 @@ REPLIES = (b"accepted", b"NoContract", b"Settled", b"NotCounterparty", b"NotPart
            b"WrongSecret", b"WrongPath", b"WrongSignature", b"TooLate 40", b"StillLocked 0", b"NothingLocked", b"NotExpired 61", b"SenderFull")
 
 
-def line_of(value, **more):
+def line_of(value: object, sort_keys: bool = False) -> bytes:
     """A value as a line of compact JSON."""
-    return json.dumps(value, separators=(",", ":"), **more).encode() + b"\n"
+    return json.dumps(value, separators=(",", ":"), sort_keys=sort_keys).encode() + b"\n"
 
 
-def digraph(rng, parties, parallel):
+def digraph(rng: Random, parties: int, parallel: bool) -> Arcs:
     """A ring over the parties in random order, and some arcs more; where parallel, several may have
     the same ends."""
     order = rng.sample(range(parties), parties)
     arcs = [(order[at], order[(at + 1) % parties]) for at in range(parties)]
     for _ in range(rng.choice((0, 0, 1, 2, parties))):
-        arc = tuple(rng.sample(range(parties), 2))
-        if parallel or arc not in arcs:
-            arcs.append(arc)
+        payer, paid = rng.sample(range(parties), 2)
+        if parallel or (payer, paid) not in arcs:
+            arcs.append((payer, paid))
     rng.shuffle(arcs)
     return arcs
 
 
-def is_acyclic(arcs, left):
-    left = set(left)
+def is_acyclic(arcs: Arcs, parties: Iterable[int]) -> bool:
+    """Whether no cycle leads through these parties alone."""
+    left = set(parties)
     while left:
         ends = {party for party in left if not any(a == party and b in left for a, b in arcs)}
         if not ends:
@@ -45,20 +55,20 @@ def is_acyclic(arcs, left):
     return True
 
 
-def leaders_of(rng, parties, arcs, most):
-    """Parties without which no cycle is left, or None where more than most would be needed."""
-    chosen = []
+def leaders_of(rng: Random, parties: int, arcs: Arcs, most: int) -> list[int]:
+    """Parties without which no cycle is left, or none where more than most would be needed."""
+    chosen: list[int] = []
     for party in rng.sample(range(parties), parties):
         if is_acyclic(arcs, set(range(parties)) - set(chosen)):
             break
         chosen.append(party)
     while len(chosen) < most and rng.random() < 0.1 and len(chosen) < parties:
         chosen.append(rng.choice([it for it in range(parties) if it not in chosen]))
-    return chosen if 1 <= len(chosen) <= most else None
+    return chosen if len(chosen) <= most else []
 
 
-def distance(arcs, party, leader, seen=()):
-    """The most arcs on a path from a party to the leader."""
+def distance(arcs: Arcs, party: int, leader: int, seen: tuple[int, ...] = ()) -> Optional[int]:
+    """The most arcs on a path from a party to the leader, if there is one."""
     if party == leader:
         return 0
     ways = [distance(arcs, b, leader, (*seen, party)) for a, b in arcs if a == party and b not in seen]
@@ -66,10 +76,14 @@ def distance(arcs, party, leader, seen=()):
 
 
 class Job:
-    def __init__(self, rng, parties=(2, 2, 3, 3, 3, 4, 5, 6), events=(0, 0, 5, 20, 60)):
-        self.rng, self.parties, self.leaders = rng, rng.choice(parties), None
+    """A job of a few parties, and its events."""
+
+    def __init__(self, rng: Random, parties: Sequence[int] = (2, 2, 3, 3, 3, 4, 5, 6), events: Sequence[int] = (0, 0, 5, 20, 60)) -> None:
+        self.rng, self.parties = rng, rng.choice(parties)
         self.keyed = rng.random() < 0.6
         self.version = rng.choice((1, 1, 2)) if self.keyed else 1
+        self.arcs: Arcs = []
+        self.leaders: list[int] = []
         while not self.leaders:
             self.arcs = digraph(rng, self.parties, self.version == 2)
             self.leaders = leaders_of(rng, self.parties, self.arcs, min(8, self.parties) if self.keyed else 1)
@@ -86,11 +100,11 @@ class Job:
         self.events = [self.event() for _ in range(rng.choice(events))]
         self.text = b"".join(map(line_of, [self.header, *self.events]))
 
-    def made_header(self):
+    def made_header(self) -> Header:
         rng = self.rng
         delta = rng.choice((1, 2, 5, 10))
-        header = {"swap": self.version, "mode": "hashkeys" if self.keyed else "timelocks", "start": delta + rng.choice((0, 1, 10)), "delta": delta,
-                  "bound": self.parties - 1 + rng.choice((0, 0, 1)), "finish": rng.choice(("stop", "fair", "fair"))}
+        header: Header = {"swap": self.version, "mode": "hashkeys" if self.keyed else "timelocks", "start": delta + rng.choice((0, 1, 10)), "delta": delta,
+                          "bound": self.parties - 1 + rng.choice((0, 0, 1)), "finish": rng.choice(("stop", "fair", "fair"))}
         header["parties"] = [self.party(it) for it in range(self.parties)]
         header["arcs"] = [self.arc(header, a, b) for a, b in self.arcs]
         header["leaders"] = [{"party": self.names[it], "hashlock": digest(secret_of(self.seeds[it])).hex()} for it in self.leaders]
@@ -99,25 +113,25 @@ class Job:
             header["keys"] = [[public_key(self.seeds[party], party, lock).hex() for lock in locks] for party in range(self.parties)]
         return header
 
-    def seeded_header(self):
+    def seeded_header(self) -> Header:
         """The header with the seed of each party."""
         parties = [{**party, "seed": seed.hex()} for party, seed in zip(self.header["parties"], self.seeds)]
         return {**self.header, "parties": parties}
 
-    def plain_text(self):
+    def plain_text(self) -> bytes:
         """The same job before it is made."""
         plain = {**self.seeded_header(), "leaders": [{"party": it["party"]} for it in self.header["leaders"]]}
         plain["arcs"] = [{field: arc[field] for field in ("from", "to", "amount")} for arc in self.header["arcs"]]
         plain.pop("keys", None)
         return b"".join(map(line_of, [plain, *self.events]))
 
-    def party(self, number):
-        party = {"name": self.names[number], "actor": "conforming" if self.conforming[number] else "manual"}
+    def party(self, number: int) -> dict[str, Any]:
+        party: dict[str, Any] = {"name": self.names[number], "actor": "conforming" if self.conforming[number] else "manual"}
         if self.conforming[number] or self.seeded[number]:
             party["seed"] = self.seeds[number].hex()
         return party
 
-    def actor(self, number):
+    def actor(self, number: int) -> object:
         """What acts for a party that doesn't conform."""
         rng = self.rng
         kind = rng.choice(("manual", "script", "strategy"))
@@ -125,24 +139,28 @@ class Job:
             return {"script": [self.scripted(number) for _ in range(rng.choice((0, 1, 3, 8)))]}
         return {"strategy": rng.choice(STRATEGIES)} if kind == "strategy" else kind
 
-    def scripted(self, number):
+    def scripted(self, number: int) -> Event:
         if self.rng.random() < 0.2:
             height = self.rng.choice((0, self.header["start"], self.header["start"] + self.header["delta"], 1000000))
             return {"do": "wait", "arc": self.rng.choice(self.beside(number)), "height": height}
         return self.move(number)
 
-    def arc(self, header, a, b):
+    def arc(self, header: Header, a: int, b: int) -> dict[str, Any]:
         arc = {"from": self.names[a], "to": self.names[b], "amount": self.rng.choice((1, 5, 100, 10**12))}
         if not self.keyed:
-            arc["timelock"] = header["start"] + (header["bound"] + 1 + distance(self.arcs, b, self.leaders[0])) * header["delta"]
+            far = distance(self.arcs, b, self.leaders[0])
+            # (each party is on the ring)
+            assert far is not None
+            arc["timelock"] = header["start"] + (header["bound"] + 1 + far) * header["delta"]
         return arc
 
     # ---- events
 
-    def beside(self, party):
+    def beside(self, party: int) -> list[int]:
+        """The arcs that touch a party."""
         return [at for at, ends in enumerate(self.arcs) if party in ends]
 
-    def path_from(self, party, leader):
+    def path_from(self, party: int, leader: int) -> Optional[list[int]]:
         """A random path from a party to a leader along arcs, or None."""
         path = [party]
         while path[-1] != leader:
@@ -152,7 +170,7 @@ class Job:
             path.append(self.rng.choice(ways))
         return path
 
-    def presented(self, arc):
+    def presented(self, arc: int) -> dict[str, Any]:
         """A hashkey for an arc, right or wrong in one place."""
         rng = self.rng
         lock = rng.randrange(len(self.leaders))
@@ -168,14 +186,14 @@ class Job:
             sigs[at] = sigs[at][:-1] + bytes([sigs[at][-1] ^ 1])
         return {"lock": lock, "secret": secret.hex(), "path": [self.names[it] for it in path], "sigs": [it.hex() for it in sigs]}
 
-    def move(self, party):
+    def move(self, party: int) -> Event:
         rng = self.rng
         arc = rng.choice(self.beside(party))
         kind = rng.choice(("publish", "publish", "raw", "raw", "craft", "replay", "claim", "refund", "transfer"))
         crafters = [it for it in range(self.parties) if self.seeded[it]]
         if kind == "craft" and not crafters:
             kind = "replay"
-        move = {"do": kind, "arc": arc}
+        move: Event = {"do": kind, "arc": arc}
         if kind == "publish" and rng.random() < 0.2:
             move[rng.choice(("start", "delta", "bound", "amount"))] = rng.choice((0, 1, 7, 100))
         if kind == "raw":
@@ -190,7 +208,7 @@ class Job:
             move |= {"to": self.names[rng.choice(self.arcs[arc])], "units": rng.choice((0, 1, 5, 100))}
         return move
 
-    def event(self):
+    def event(self) -> Event:
         rng = self.rng
         party = rng.randrange(self.parties)
         roll = rng.random()
@@ -212,7 +230,7 @@ class Many:
     """A few swaps on a few chains. Most accounts have the units that are set aside of them; some
     have more, and a few have less or are missing."""
 
-    def __init__(self, rng, alone=None):
+    def __init__(self, rng: Random, alone: Optional[Job] = None) -> None:
         """Of swaps and their events, or of one job alone without any."""
         self.rng = rng
         self.jobs = [alone] if alone else [Job(rng, (2, 2, 3, 3, 4, 5), (0,)) for _ in range(rng.choice((1, 2, 2, 3, 4)))]
@@ -226,7 +244,7 @@ class Many:
         if not alone and rng.random() < 0.4:
             self.events += [*self.ending(), *(self.event() for _ in range(rng.choice((5, 20, 60))))]
 
-    def ending(self):
+    def ending(self) -> Iterator[bytes]:
         """Events after which most slots are swept: every chain is above each horizon, and who
         conforms has looked around and acted."""
         yield from (b"tick %d 200" % chain for chain in range(len(self.chains)))
@@ -236,16 +254,17 @@ class Many:
                 yield from (b"%d %s" % (swap, line_of(act).rstrip(b"\n")) for act in acts)
         yield from (b"sweep %d %d" % (swap, arc) for swap, job in enumerate(self.jobs) for arc in range(len(job.arcs)))
 
-    def standing(self, chain):
+    def standing(self, chain: int) -> Iterator[tuple[str, str, int]]:
         """Each arc that stands on a chain: its two names, and its amount."""
         for job, places in zip(self.jobs, self.places):
             for arc, place in zip(job.header["arcs"], places):
                 if place == chain:
                     yield arc["from"], arc["to"], arc["amount"]
 
-    def accounts(self, chain):
+    def accounts(self, chain: int) -> dict[str, int]:
         """The accounts of a chain, in random order, with their units."""
-        rng, units = self.rng, {}
+        rng = self.rng
+        units: dict[str, int] = {}
         for party, counterparty, amount in self.standing(chain):
             units[party] = units.get(party, 0) + amount
             units.setdefault(counterparty, 0)
@@ -256,7 +275,7 @@ class Many:
         names = rng.sample(list(units), len(units))
         return {name: units[name] for name in names[1 if len(names) > 2 and rng.random() < 0.01 else 0 :]}
 
-    def event(self):
+    def event(self) -> bytes:
         """An event line: of a chain, of two accounts, of a slot, or of a swap."""
         rng, swap, chain = self.rng, self.rng.randrange(len(self.jobs)), self.rng.randrange(len(self.chains))
         roll = rng.random()
@@ -269,23 +288,32 @@ class Many:
             return b"sweep %d %d" % (swap, rng.randrange(len(self.jobs[swap].arcs)))
         return b"%d %s" % (swap, line_of(self.untimed(swap)).rstrip(b"\n"))
 
-    def untimed(self, swap):
+    def untimed(self, swap: int) -> Event:
         """An event of a swap, nearly always one that is neither a tick nor a crash."""
         while {"tick", "crash"} & (event := self.jobs[swap].event()).keys() and self.rng.random() < 0.999:
             pass
         return event
 
-    def text(self):
-        lines = [b"swap many 1"]
-        for units in self.chains:
-            lines.append(b"chain " + b" ".join(b"%s %d" % (name.encode(), units[name]) for name in units))
-        for job, places in zip(self.jobs, self.places):
-            header = {field: value for field, value in job.header.items() if field != "finish"}
-            lines += [b"swap " + b" ".join(b"%d" % place for place in places), line_of(header).rstrip(b"\n")]
-        return b"\n".join([*lines, b"finish fair" if self.is_fair else b"finish stop", *self.events]) + b"\n"
+    def text(self) -> bytes:
+        headers = [job.header for job in self.jobs]
+        return swaps_text(self.chains, headers, self.places, "fair" if self.is_fair else "stop", self.events)
 
 
-def respelled(rng, text):
+def swaps_text(
+    chains: Iterable[Mapping[str, int]], headers: Iterable[Header], places: Iterable[Iterable[int]], finish: str, events: Iterable[bytes] = ()
+) -> bytes:
+    """The text of swaps on chains: the accounts of each chain, the header of each swap with the
+    chain of each arc, and the event lines."""
+    lines = [b"swap many 1"]
+    for units in chains:
+        lines.append(b"chain " + b" ".join(b"%s %d" % (name.encode(), count) for name, count in units.items()))
+    for header, chains_of_arcs in zip(headers, places):
+        rest = {field: value for field, value in header.items() if field != "finish"}
+        lines += [b"swap " + b" ".join(b"%d" % chain for chain in chains_of_arcs), line_of(rest).rstrip(b"\n")]
+    return b"\n".join([*lines, b"finish " + finish.encode(), *events]) + b"\n"
+
+
+def respelled(rng: Random, text: bytes) -> bytes:
     """Many swaps with a fault, mostly: lines that are left out, repeated, moved or joined, and
     edits of those that are words."""
     lines = text.split(b"\n")[:-1]
@@ -307,7 +335,7 @@ def respelled(rng, text):
     return b"\n".join(lines) + rng.choice((b"", b"\n"))
 
 
-def many_text(rng):
+def many_text(rng: Random) -> bytes:
     """The text of many swaps, some with a fault."""
     text = Many(rng).text()
     roll = rng.random()
@@ -319,21 +347,21 @@ def many_text(rng):
 LETTERS = "abcdefghijklmnopqrstuvwxyzABCDEF"
 # (values of another kind, out of their ranges, or of a name that is ill-formed or no party's)
 BAD_NAMES = ("", "a b", "a\u0085", "\u00e4", "a-name_of-17chars", "a")
-MISSTATED = (0, 0, 1, 100, 101, 1000, 1001, 10**12 + 1, 1 << 64, -1, 1.5, True, None, *BAD_NAMES, [], ["a"], ["a", "b", 1], {}, [{}])
+MISSTATED: tuple[object, ...] = (0, 0, 1, 100, 101, 1000, 1001, 10**12 + 1, 1 << 64, -1, 1.5, True, None, *BAD_NAMES, [], ["a"], ["a", "b", 1], {}, [{}])
 
 
-def wished(rng, names, most):
+def wished(rng: Random, names: Sequence[str], most: int) -> list[list[str]]:
     return [rng.sample(names, 2) for _ in range(rng.randint(1, most))]
 
 
-def crowded(rng, names, most):
+def crowded(rng: Random, names: Sequence[str], most: int) -> list[list[str]]:
     """Nearly each of some parties wishes for a transfer to each other, which may take more leaders
     than are allowed; the others for some."""
     crowd, others = names[:most], names[most:]
     return [list(ends) for ends in permutations(crowd, 2) if rng.random() > 0.01] + wished(rng, rng.choice((names, others)), 10)
 
 
-def wishes(rng):
+def wishes(rng: Random) -> dict[str, Any]:
     """Wishes, mostly of few parties; some have a fault."""
     names, roll = rng.sample(LETTERS, rng.choice((2, 3, 4, 4, 5, 6, 7, 8))), rng.random()
     pairs = wished(rng, names, 20)
@@ -344,12 +372,12 @@ def wishes(rng):
         names = rng.sample(LETTERS, rng.randint(9, 32))
         pairs = wished(rng, names, rng.choice((60, 129)))
     names, delta = sorted(names, key=lambda _: rng.random()), rng.choice((1, 2, 10, 100))
-    line = {"clear": 1, "start": delta + rng.choice((0, 1, 10, 900)), "delta": delta, "parties": names}
+    line: dict[str, Any] = {"clear": 1, "start": delta + rng.choice((0, 1, 10, 900)), "delta": delta, "parties": names}
     line["arcs"] = [{"from": a, "to": b, "amount": rng.choice((1, 5, 100, 10**12))} for a, b in rng.sample(pairs, len(pairs))]
     return misstated(rng, line) if rng.random() < 0.2 else line
 
 
-def misstated(rng, line):
+def misstated(rng: Random, line: dict[str, Any]) -> dict[str, Any]:
     """The wishes with some fields, of the line or of an arc, that are left out, added, or have a
     value that may be wrong."""
     pieces, names = [line, line, *line["arcs"]], line["parties"]
@@ -357,7 +385,8 @@ def misstated(rng, line):
         piece = rng.choice(pieces)
         field = rng.choice((*piece, *piece, *piece, "seed", "bound", "from"))
         values = [*MISSTATED, *piece.values(), *piece.values(), [*names, rng.choice((*BAD_NAMES, *names))]]
-        alike = [it for it in values if type(it) is type(piece.get(field))] or values
+        kind = type(piece.get(field))
+        alike = [it for it in values if type(it) is kind] or values
         if rng.random() < 0.1:
             piece.pop(field, None)
         else:
@@ -365,7 +394,7 @@ def misstated(rng, line):
     return line
 
 
-def wishes_text(rng):
+def wishes_text(rng: Random) -> bytes:
     """The text of wishes, some with lines before or behind them, or with edited bytes."""
     text = line_of(wishes(rng))
     if rng.random() < 0.1:
@@ -376,9 +405,9 @@ def wishes_text(rng):
 # ---- edits
 
 
-def edited(rng, text):
+def edited(rng: Random, given: bytes) -> bytes:
     """The text with some bytes changed, left out or repeated."""
-    text = bytearray(text)
+    text = bytearray(given)
     for _ in range(rng.choice((1, 1, 2, 5))):
         at = rng.randrange(len(text))
         kind = rng.randrange(5)
@@ -397,7 +426,7 @@ def edited(rng, text):
     return bytes(text)
 
 
-def renumbered(rng, line):
+def renumbered(rng: Random, line: bytes) -> bytes:
     """The line with one of its numbers changed, if it has one."""
     numbers = list(re.finditer(rb"(?<= )\d{1,7}(?= |$)", line))
     if not numbers:
@@ -407,7 +436,7 @@ def renumbered(rng, line):
     return line[: found.start()] + b"%d" % number + line[found.end() :]
 
 
-def restated(rng, text):
+def restated(rng: Random, text: bytes) -> bytes:
     """The transcript with some lines that state something else, and the numbers of entries as they
     then are."""
     lines = text.split(b"\n")[:-1]
@@ -428,7 +457,7 @@ def restated(rng, text):
     return b"\n".join(counted(lines)) + b"\n"
 
 
-def counted(lines):
+def counted(lines: list[bytes]) -> list[bytes]:
     """The lines with the number of entries that each ledger has."""
     heads = [at for at, line in enumerate(lines) if line.startswith((b"ledger ", b"end"))]
     for head, after in zip(heads, heads[1:]):

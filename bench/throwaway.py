@@ -1,52 +1,68 @@
-"""Builds a small program in a throw-away copy of the repository, and gives what it prints.
+"""Runs small programs in a throw-away copy of the repository, of which nothing stays.
 
-Only a proved program is built as users run it, so the copy proves the program and what it stands
-on; `rt` takes over what it has kept of the libraries on this machine, and nothing of the copy
-stays.
+Only a proved program is built as users run it, so `output` proves the program and what it stands
+on; `rt` takes over what it has kept of the libraries on this machine. In the folder of `copied`
+anything else may be run.
 """
-import os
+from __future__ import annotations
+
 import shutil
 import subprocess
 import sys
 import tempfile
+from contextlib import contextmanager
+from pathlib import Path
+from typing import Iterator, Mapping
 
-ROOT = os.path.join(os.path.dirname(os.path.abspath(__file__)), "..")
+TOP = Path(__file__).resolve().parent.parent
 
 
-def below(name, lines):
-    """The crates that the crate stands on, and itself, with their lines of crates.txt."""
-    used, ways = {}, [name]
+def listed() -> dict[str, list[str]]:
+    """The crates of crates.txt, each with its line: its name with what is said of it, and the names
+    of the libraries that it stands on."""
+    lines = (TOP / "crates.txt").read_text().splitlines()
+    parts = [line.split(":") for line in lines if line.strip() and line[0] != "#"]
+    return {name.split()[0]: [name, *libraries.split()] for name, libraries in parts}
+
+
+def below(name: str, crates: Mapping[str, list[str]]) -> dict[str, str]:
+    """The lines of the crates that the crate stands on, and its own."""
+    used: dict[str, str] = {}
+    ways = [name]
     while ways:
         crate = ways.pop()
-        if crate in lines and crate not in used:
-            used[crate] = lines[crate]
-            ways += lines[crate].split(":")[1].split()
+        if crate in crates and crate not in used:
+            head, *libraries = crates[crate]
+            used[crate] = f"{head}: {' '.join(libraries)}\n"
+            ways += libraries
     return used
 
 
-def output(name, libraries, files):
-    """What the program prints: its crate has these files, and uses these libraries."""
-    with open(os.path.join(ROOT, "crates.txt")) as file:
-        lines = {line.split(":")[0].split()[0]: line.strip() for line in file if line.strip() and line[0] != "#"}
-    lines[name] = "%s: %s" % (name, libraries)
-    used = below(name, lines)
-    with tempfile.TemporaryDirectory(prefix="swap-bench-") as top:
+@contextmanager
+def copied(name: str, libraries: str, files: Mapping[str, str]) -> Iterator[Path]:
+    """The folder of a crate that has these files and uses these libraries, beside a copy of each
+    crate that it stands on."""
+    used = below(name, {**listed(), name: [name, *libraries.split()]})
+    with tempfile.TemporaryDirectory(prefix="swap-bench-") as folder:
+        top = Path(folder)
         for crate in used:
             if crate != name:
                 skip = shutil.ignore_patterns("out", "must-fail")
-                shutil.copytree(os.path.join(ROOT, "crates", crate), os.path.join(top, "crates", crate), ignore=skip)
-        shutil.copy(os.path.join(ROOT, "HANDLES"), top)
-        with open(os.path.join(top, "crates.txt"), "w") as file:
-            file.write("\n".join(used.values()) + "\n")
+                shutil.copytree(TOP / "crates" / crate, top / "crates" / crate, ignore=skip)
+        shutil.copy(TOP / "HANDLES", top)
+        (top / "crates.txt").write_text("".join(used.values()))
+        own = top / "crates" / name
         for path, text in files.items():
-            path = os.path.join(top, "crates", name, path)
-            os.makedirs(os.path.dirname(path), exist_ok=True)
-            with open(path, "w") as file:
-                file.write(text)
+            (own / path).parent.mkdir(parents=True, exist_ok=True)
+            (own / path).write_text(text)
         subprocess.run(["git", "init", "-q", top], check=True)
-        crate = os.path.join(top, "crates", name)
+        yield own
+
+
+def output(name: str, libraries: str, files: Mapping[str, str]) -> str:
+    """What the program prints, whose crate has these files and uses these libraries."""
+    with copied(name, libraries, files) as crate:
         built = subprocess.run(["rt", "run"], cwd=crate, stdin=subprocess.DEVNULL, capture_output=True, text=True)
         if built.returncode != 0:
             sys.exit(built.stdout + built.stderr)
-        run = subprocess.run([os.path.join(crate, "out", name)], capture_output=True, text=True, check=True)
-        return run.stdout
+        return subprocess.run([crate / "out" / name], capture_output=True, text=True, check=True).stdout
