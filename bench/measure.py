@@ -8,6 +8,7 @@ import os
 import resource
 import subprocess
 import sys
+import tempfile
 import time
 from pathlib import Path
 from typing import NamedTuple, Optional, Sequence, Union
@@ -122,9 +123,12 @@ def seconds(program: Path, words: Sequence[str], text: bytes, rounds: int = 9) -
 
 
 def peak(program: Path, words: Sequence[str], text: bytes) -> float:
-    """The peak memory of a run in megabytes, by time(1), which has few of its own: a child of this
-    process begins with as many as this one has."""
-    run = once(["/usr/bin/time", "-f", "%M", program, *words], text).run
+    """The peak memory in megabytes of a run whose input is a file, by time(1), which has few of its
+    own: a child of this process begins with as many as this one has."""
+    with tempfile.TemporaryFile() as file:
+        file.write(text)
+        file.seek(0)
+        run = subprocess.run(["/usr/bin/time", "-f", "%M", program, *words], stdin=file, capture_output=True)
     return int(run.stderr.split()[-1]) / 1024
 
 

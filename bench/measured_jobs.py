@@ -45,7 +45,7 @@ def nobody(job: bytes) -> bytes:
 
 
 def timelocks_header(arcs: Arcs, amount: int, hashlock: str, said: Iterable[Said]) -> Header:
-    """Of 24 parties, of which party 0 leads: without it no arc leads to a party of a lower number."""
+    """24 parties, led by party 0. Each arc between others leads to the higher number."""
     far = {0: 0}
     for party in reversed(range(1, PARTIES)):
         far[party] = 1 + max(far[to] for payer, to in arcs if payer == party)

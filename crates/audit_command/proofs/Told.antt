@@ -14,13 +14,13 @@ use Rattle.command_input.specs.declared.fault.InputFault.TheVariants as stopped
 use Rattle.command_input.specs.declared.status.Status.{Status}
 use Rattle.command_input.specs.declared.status.Status.TheVariants.{Done, Named, WrongWords, Refused, ReadFault, WriteFault, NoMemory, TooLong}
 use Rattle.command_input.specs.Faults.{unread}
-use Rattle.command_input.specs.Input.{At, Ends, desk, fresh}
+use Rattle.command_input.specs.Input.{At, Ends, HasStopped, desk, fresh}
 use Rattle.command_input.specs.Streams.{streams}
 use Rattle.audit_command.proofs.Ends.{is_consumed, too_long}
 use Rattle.command_input.specs.Written.{Writes, Written}
 use Rattle.audit_command.specs.Output.{audit_output, by_text, judged, story_output, input_story, told}
 use Rattle.audit_command.specs.Promised.{IsSound}
-use Rattle.audit_command.specs.Reading.{HasRead, IsStoryRefusal, IsStory, Stopped}
+use Rattle.audit_command.specs.Reading.{IsStoryRefusal, IsStory}
 use Rattle.audit_command.specs.Says.{HasAnswer, HasAuditOutput, AuditSays}
 
 -- an answer to an input that was read
@@ -39,29 +39,29 @@ refused_input : (input : List ℕ) (refusal : Refusal) → input_story input ≡
 unfolding audit_output
 refused_input input refusal e = ap (λ (r : Result Story Refusal). r >>= told) e
 
-pub says_unread : (a b : Option (List ℕ)) (n m : ℕ) (taken : Option (List ℕ)) (p : ℕ) (f : InputFault Refusal) → Stopped a b n m f
-    → AuditSays (streams a n taken p) (streams b m taken p) (unread f)
-says_unread a b n m taken p (stopped.Refused refusal) s =
-    (answered (λ input. IsStoryRefusal input refusal) a b n m s.now (Err refusal) s.why (refused_input s.why.bytes refusal s.why.told), Keeps-refl taken)
-says_unread a b n m taken p stopped.ReadFault s = (s.why.0, Keeps-refl taken, is_consumed a b n m s.now s.why.1)
-says_unread a b n m taken p stopped.TooLong s = (too_long a b n m s.now s.why.1, Keeps-refl taken)
-says_unread a b n m taken p stopped.NoMemory s = inl (Keeps-refl taken, is_consumed a b n m s.now s.why.1)
+pub says_unread : (a b : Option (List ℕ)) (n m : ℕ) (now : At) (taken : Option (List ℕ)) (p : ℕ) (f : InputFault Refusal)
+    → HasStopped IsStoryRefusal (desk a n fresh) (desk b m now) f → AuditSays (streams a n taken p) (streams b m taken p) (unread f)
+says_unread a b n m now taken p (stopped.Refused refusal) k =
+    (answered (λ input. IsStoryRefusal input refusal) a b n m now (Err refusal) k (refused_input k.bytes refusal k.told), Keeps-refl taken)
+says_unread a b n m now taken p stopped.ReadFault k = (k.0, Keeps-refl taken, is_consumed a b n m now k.1)
+says_unread a b n m now taken p stopped.TooLong k = (too_long a b n m now k.1, Keeps-refl taken)
+says_unread a b n m now taken p stopped.NoMemory k = inl (Keeps-refl taken, is_consumed a b n m now k.1)
 
 -- a story
-module _ (a b : Option (List ℕ)) (n m : ℕ) (t : Story) (k : HasRead (IsStory t) a b n m) where
+module _ (a b : Option (List ℕ)) (n m : ℕ) (now : At) (t : Story) (k : Ends (IsStory t) (desk a n fresh) (desk b m now)) where
   -- what is read is well formed
   pub is_formed : IsWellFormed t.job.deal t.book
-  is_formed = (text_is_whole header_read k.ends.bytes t k.ends.told).whole.stated.formed
+  is_formed = (text_is_whole header_read k.bytes t k.told).whole.stated.formed
 
-  of_story : audit_output k.ends.bytes ≡ told t
+  of_story : audit_output k.bytes ≡ told t
   unfolding audit_output input_story
-  of_story = ap (λ (r : Result Story TranscriptReason). by_text r >>= told) k.ends.told
+  of_story = ap (λ (r : Result Story TranscriptReason). by_text r >>= told) k.told
 
   pub says_refused : (taken : Option (List ℕ)) (p : ℕ) (refusal : Refusal) → judged t ≡ Err refusal
       → AuditSays (streams a n taken p) (streams b m taken p) (Refused refusal.reason refusal.names)
   unfolding told
   says_refused taken p refusal e = (
-    answered (IsStory t) a b n m k.now (Err refusal) k.ends
+    answered (IsStory t) a b n m now (Err refusal) k
         (of_story ∙ ap (λ (r : Result Report Refusal). r >>= λ x. Ok (story_output t x)) e),
     Keeps-refl taken,
   )
@@ -70,12 +70,12 @@ module _ (a b : Option (List ℕ)) (n m : ℕ) (t : Story) (k : HasRead (IsStory
   unfolding told answered
   output_is P r job e sound w = record {
     output = story_output t r;
-    read = answered (IsStory t) a b n m k.now (Ok (story_output t r)) k.ends
+    read = answered (IsStory t) a b n m now (Ok (story_output t r)) k
         (of_story ∙ ap (λ (x : Result Report Refusal). x >>= λ y. Ok (story_output t y)) e);
     promised = record {
       story = t;
-      read = k.ends.told;
-      whole = text_is_whole header_read k.ends.bytes t k.ends.told;
+      read = k.told;
+      whole = text_is_whole header_read k.bytes t k.told;
       job = job;
       report = r;
       shown = refl;

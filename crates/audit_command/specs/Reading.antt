@@ -1,5 +1,5 @@
 -- How the reading of an input ended.
-use Rattle.std.specs.Prelude.{◌≡◌, ℕ, List, Option, Result, Ok, Err}
+use Rattle.std.specs.Prelude.{◌≡◌, ℕ, List, Result, Ok, Err}
 use Rattle.ledger_core.specs.declared.entry.Book.{Book}
 use Rattle.swap_job.specs.declared.job.Job.{Job}
 use Rattle.refusals.specs.declared.refusal.Refusal.{Refusal}
@@ -9,7 +9,6 @@ use Rattle.transcript_reader.specs.Stages.{Progress}
 use Rattle.transcript_reader.specs.Reading.{Story, finished, job_story, transcript_read}
 use Rattle.command_input.specs.declared.fault.InputFault.{InputFault}
 use Rattle.command_input.specs.declared.fault.InputFault.TheVariants.{Refused, ReadFault, TooLong, NoMemory}
-use Rattle.command_input.specs.Input.{At, Ends, HasStopped, desk, fresh}
 use Rattle.audit_command.specs.Output.{by_text, input_story}
 
 -- what is said against the bytes of a transcript
@@ -28,16 +27,6 @@ IsRead p rest bytes = transcript_read header_read bytes ≡ finished p rest
 -- the bytes state the job and the book
 abbrev pub IsStory : Story → List ℕ → Type 0
 IsStory t bytes = transcript_read header_read bytes ≡ Ok t
-
--- The whole input was read, and P tells of its bytes.
-pub record HasRead (P : List ℕ → Type 0) (left left' : Option (List ℕ)) (n m : ℕ) : Type 0 where
-  pub now : At
-  pub ends : Ends P (desk left n fresh) (desk left' m now)
-
--- Why an input gave no story.
-pub record Stopped (left left' : Option (List ℕ)) (n m : ℕ) (fault : InputFault Refusal) : Type 0 where
-  pub now : At
-  pub why : HasStopped IsStoryRefusal (desk left n fresh) (desk left' m now) fault
 
 -- what is concluded from what the reader of all lines tells
 abbrev pub Concludes : Result (Job × Book) (InputFault Refusal) → Result Story TranscriptReason → Type 0

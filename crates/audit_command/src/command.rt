@@ -1,6 +1,7 @@
 //! The command `audit`: a transcript is read, its ledgers are replayed, and the report is written.
 
 ghost use Rattle.std.specs.Prelude.{◌≡◌};
+ghost use Rattle.command_input.specs.Input.{fresh};
 ghost use Rattle.command_input.specs.Streams.{streams};
 ghost use Rattle.command_input.specs.Written.{Writes};
 ghost use Rattle.audit_command.specs.Output.{story_output, story};
@@ -10,7 +11,7 @@ ghost use Rattle.transcript_reader.specs.Header.{IsTold};
 
 use crate::judged::judge;
 use crate::story::read_story;
-use command_input::{Status, unread};
+use command_input::{Input, Status, unread};
 use ledger_core::Book;
 use outcome_rules::Report;
 use report_text::write_report;
@@ -41,12 +42,18 @@ fn tell<K: Sink>(alloc: Global, sink: &mut K, job: &Job, book: &Book, report: &R
 
 /// Audits a transcript. The source is read to its end before anything is written; the book that its
 /// lines state is kept, and none of their text.
-pub fn audit_transcript<S: Source, K: Sink>(alloc: Global, source: &mut S, sink: &mut K) -> Status
+pub fn audit_transcript<S: Source, K: Sink>(
+    alloc: Global,
+    input: &mut Input,
+    source: &mut S,
+    sink: &mut K,
+) -> Status
+    requires { input.old ≡ fresh }
     ensures says { AuditSays (streams (S.left source.old) (S.faults source.old) (K.taken sink.old) (K.faults sink.old))
         (streams (S.left source.new) (S.faults source.new) (K.taken sink.new) (K.faults sink.new)) result }
     ensures calm { ¬ (result ≡ Status.ReadFault) → S.faults source.new ≡ S.faults source.old }
 {
-    let (job, book) = match read_story(alloc, source) {
+    let (job, book) = match read_story(alloc, input, source) {
         Ok(story) => story,
         Err(fault) => return unread(fault),
     };

@@ -4,8 +4,9 @@ ghost use Rattle.std.specs.Prelude.{◌≡◌, IfOk, IfErr};
 ghost use Rattle.transcript_reader.specs.Header.{IsTold};
 ghost use Rattle.transcript_reader.specs.Reading.{finished, job_story};
 ghost use Rattle.audit_command.specs.Output.{to_refusal};
-ghost use Rattle.audit_command.specs.Reading.{Concludes, HasRead, IsStory, Stopped};
 ghost use Rattle.command_input.specs.Faults.{retold};
+ghost use Rattle.command_input.specs.Input.{Ends, HasStopped, desk, fresh};
+ghost use Rattle.audit_command.specs.Reading.{Concludes, IsStory, IsStoryRefusal};
 
 use crate::input::read_lines;
 use command_input::{Input, InputFault};
@@ -60,15 +61,18 @@ fn refused(alloc: Global, fault: InputFault<TranscriptReason>) -> InputFault<Ref
 /// The job and the book that an input's lines state.
 pub(crate) fn read_story<S: Source>(
     alloc: Global,
+    input: &mut Input,
     source: &mut S,
 ) -> Result<(Job, Book), InputFault<Refusal>>
-    ensures read { IfOk result (λ p. HasRead (IsStory (job_story p)) (S.left source.old) (S.left source.new) (S.faults source.old) (S.faults source.new)) }
+    requires { input.old ≡ fresh }
+    ensures read { IfOk result (λ p. Ends (IsStory (job_story p)) (desk (S.left source.old) (S.faults source.old) fresh)
+        (desk (S.left source.new) (S.faults source.new) input.new)) }
     ensures told { IfOk result (λ p. IsTold p.0) }
-    ensures stops { IfErr result (Stopped (S.left source.old) (S.left source.new) (S.faults source.old) (S.faults source.new)) }
+    ensures stops { IfErr result (HasStopped IsStoryRefusal (desk (S.left source.old) (S.faults source.old) fresh)
+        (desk (S.left source.new) (S.faults source.new) input.new)) }
 {
-    let mut input = Input::new(alloc)?;
     let mut reader = TranscriptReader::new(alloc);
-    match read_lines(&mut input, source, &mut reader) {
+    match read_lines(input, source, &mut reader) {
         Ok(()) => conclude(alloc, reader, input.text()),
         Err(fault) => Err(refused(alloc, input.stop(source, fault))),
     }

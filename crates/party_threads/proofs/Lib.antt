@@ -15,6 +15,7 @@ pub mod Crossing
 pub mod Passes
 pub mod Looks
 pub mod Looking
+pub mod Submitting
 pub mod Calls
 pub mod Machines
 pub mod Acting

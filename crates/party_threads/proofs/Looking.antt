@@ -1,46 +1,19 @@
 -- A party that looks around: what holds once so many of its ledgers were looked at.
-use Rattle.std.proofs.Common.{◌≡◌, ◌≢◌, ◌⊎◌, ℕ, ◌+◌, ◌<◌, ◌≤◌, ◌++◌, List, [], ◌∷◌, zero, suc, length, set, Option, Some, None, append-nil, append_assoc, refl}
+use Rattle.std.proofs.Common.{◌≡◌, ◌≢◌, ◌⊎◌, ℕ, ◌+◌, ◌<◌, ◌++◌, List, [], ◌∷◌, zero, suc, length, set, Option, Some, None, append_assoc, refl}
 use Rattle.std.proofs.Common.{sym, ap, ◌∙◌, subst, inl, inr, arith}
-use Rattle.std.proofs.lemmas.List.{length-set}
 use Rattle.std.proofs.lemmas.List.Elements.{filter-append}
 use Rattle.std.proofs.lemmas.Option.{none-some}
 use mathlib.Core.List.{IsPrefix}
+use Rattle.swap_digraph.specs.declared.deal.Deal.{Deal}
 use Rattle.ledger_core.specs.declared.entry.Entry.{Entry}
 use Rattle.ledger_core.specs.History.{is_sender, IsLegal}
-use Rattle.ledger_core.specs.Book.{history}
+use Rattle.ledger_core.specs.Book.{Histories, history, IsLegalBook}
 use Rattle.ledger_shared.specs.Value.{PassState, SharedState, party_made}
 use Rattle.swap_rules.proofs.Prefixes.{same_or_not}
 use Rattle.swap_rules.proofs.Conducting.{history_same, history_other}
-use Rattle.party_threads.specs.Later.{arc_pass, Advanced, HaveAdvanced}
-use Rattle.party_threads.specs.Tracks.{Watcher, knowing, Tracks, HaveSeenAll, IsSameElsewhere, HasLooked, LookedIf}
-use Rattle.party_threads.specs.Played.{IsFresh, HaveFresh}
-use Rattle.party_threads.proofs.Passes.{one_went, none_went, tracks_on, HaveSeenBelow, first_seen_arc, elsewhere_on}
-
-pub record IsLooking (ledgers : List SharedState) (w : Watcher) (ps : List (Option PassState)) (k : ℕ) (x : Watcher) (qs : List (Option PassState))
-    : Type 0 where
-  pub deal : x.deal ≡ w.deal
-  pub me : x.me ≡ w.me
-  pub arcs : length x.known ≡ length x.deal.graph.arcs
-  pub tracks : Tracks ledgers x qs
-  pub gone_on : HaveAdvanced ps qs
-  pub seen : HaveSeenBelow k qs
-  pub fresh : HaveFresh w.me w.known x.known
-  pub legal : (a : ℕ) → IsLegal w.deal a (history w.known a) → IsLegal w.deal a (history x.known a)
-  pub elsewhere : IsSameElsewhere ps w.known x.known
-
-pub looks_begin : (ledgers : List SharedState) (w : Watcher) (ps : List (Option PassState)) (k : ℕ) → k ≡ 0 → length w.known ≡ length w.deal.graph.arcs
-    → Tracks ledgers w ps → IsLooking ledgers w ps k w ps
-looks_begin ledgers w ps k e arcs tracks = record {
-  deal = refl;
-  me = refl;
-  arcs = arcs;
-  tracks = tracks;
-  gone_on = none_went ps;
-  seen = λ a p lt is. absurd (omega (arith, lt, e));
-  fresh = λ a. ([], sym (append-nil (history w.known a)), refl);
-  legal = λ a l. l;
-  elsewhere = λ a none. refl;
-}
+use Rattle.party_threads.specs.Later.{arc_pass, Advanced}
+use Rattle.party_threads.specs.Tracks.{Watcher, knowing, IsFresh, HasLooked, LookedIf, HaveLooked}
+use Rattle.party_threads.proofs.Passes.{one_went, watching_on, first_seen_arc, elsewhere_on}
 
 -- More entries of others are fresh.
 fresh_more : (v : ℕ) (k h g : List Entry) (more : List Entry) → IsFresh v k h → g ≡ h ++ more → party_made v more ≡ [] → IsFresh v k g
@@ -57,11 +30,11 @@ set_none (p ∷ ps) zero e = ap (λ x. x ∷ ps) (sym e)
 set_none (p ∷ ps) (suc a) e = ap (λ xs. p ∷ xs) (set_none ps a e)
 
 module _ (ledgers : List SharedState) (w : Watcher) (ps : List (Option PassState)) (k : ℕ) (x y : Watcher) (qs : List (Option PassState))
-    (h : IsLooking ledgers w ps k x qs) (below : k < length qs) where
+    (h : HaveLooked ledgers w ps k x qs) (below : k < length qs) where
   known : k < length x.known
-  known = subst (λ z. k < z) (h.tracks.places ∙ sym h.arcs) below
+  known = subst (λ z. k < z) (h.watching.tracks.places ∙ sym h.watching.known) below
 
-  module _ (p q : PassState) (here : arc_pass qs k ≡ Some p) (l : HasLooked x (knowing x k) k p y q) where
+  module _ (p q : PassState) (here : arc_pass qs k ≡ Some p) (l : HasLooked x k p y q) where
     abbrev now : List Entry
     now = history x.known k ++ l.fresh
 
@@ -79,12 +52,11 @@ module _ (ledgers : List SharedState) (w : Watcher) (ps : List (Option PassState
         (subst (IsLegal w.deal k) (sym (history_same x.known k now known)) (subst (λ d. IsLegal d k now) h.deal l.legal))
     legal_now a (inr apart) before = subst (IsLegal w.deal a) (sym (history_other x.known k a now apart)) (h.legal a before)
 
-    seen_on_here : IsLooking ledgers w ps (k + 1) (knowing x k now) (set qs k (Some q))
+    seen_on_here : HaveLooked ledgers w ps (k + 1) (knowing x k now) (set qs k (Some q))
     seen_on_here = record {
       deal = h.deal;
       me = h.me;
-      arcs = length-set x.known k now ∙ h.arcs;
-      tracks = tracks_on ledgers x qs k p q now h.tracks below known here (l.fresh, l.pass) l.seen;
+      watching = watching_on ledgers x qs k p q now h.watching below here (l.fresh, l.pass) l.seen;
       gone_on = one_went ps qs k (Some q) below h.gone_on (subst (λ o. Advanced o (Some q)) (sym here) (q, refl, (l.fresh, l.pass)));
       seen = first_seen_arc k qs q below h.seen l.whole;
       fresh = λ a. fresh_now a (same_or_not a k);
@@ -93,12 +65,11 @@ module _ (ledgers : List SharedState) (w : Watcher) (ps : List (Option PassState
     }
 
   -- where there is no pass nothing is looked at
-  past : arc_pass qs k ≡ None → IsLooking ledgers w ps (k + 1) x qs
+  past : arc_pass qs k ≡ None → HaveLooked ledgers w ps (k + 1) x qs
   past none = record {
     deal = h.deal;
     me = h.me;
-    arcs = h.arcs;
-    tracks = h.tracks;
+    watching = h.watching;
     gone_on = h.gone_on;
     seen = λ a p lt is. at a p lt is (same_or_not a k);
     fresh = h.fresh;
@@ -111,19 +82,22 @@ module _ (ledgers : List SharedState) (w : Watcher) (ps : List (Option PassState
       at a p lt is (inr apart) = h.seen a p (omega (arith, lt, apart)) is
 
   -- one more ledger was looked at, if there is a pass to it
-  pub looks_on : (q : Option PassState) → LookedIf x (knowing x k) k x (arc_pass qs k) y q → IsLooking ledgers w ps (k + 1) y (set qs k q)
+  pub looks_on : (q : Option PassState) → LookedIf x k (arc_pass qs k) y q → HaveLooked ledgers w ps (k + 1) y (set qs k q)
   looks_on q l = go (arc_pass qs k) refl l
     where
-      go : (o : Option PassState) → arc_pass qs k ≡ o → LookedIf x (knowing x k) k x o y q → IsLooking ledgers w ps (k + 1) y (set qs k q)
+      go : (o : Option PassState) → arc_pass qs k ≡ o → LookedIf x k o y q → HaveLooked ledgers w ps (k + 1) y (set qs k q)
       go None none l0 =
-          subst (λ z. IsLooking ledgers w ps (k + 1) y (set qs k z)) (sym l0.1)
-          (subst (λ zs. IsLooking ledgers w ps (k + 1) y zs) (sym (set_none qs k none))
-          (subst (λ z. IsLooking ledgers w ps (k + 1) z qs) (sym l0.0) (past none)))
+          subst (λ z. HaveLooked ledgers w ps (k + 1) y (set qs k z)) (sym l0.1)
+          (subst (λ zs. HaveLooked ledgers w ps (k + 1) y zs) (sym (set_none qs k none))
+          (subst (λ z. HaveLooked ledgers w ps (k + 1) z qs) (sym l0.0) (past none)))
       go (Some p) here l0 =
-          subst (λ z. IsLooking ledgers w ps (k + 1) y (set qs k z)) (sym l0.1)
-          (subst (λ z. IsLooking ledgers w ps (k + 1) z (set qs k (Some l0.0))) (sym l0.2.knows) (seen_on_here p l0.0 here l0.2))
+          subst (λ z. HaveLooked ledgers w ps (k + 1) y (set qs k z)) (sym l0.1)
+          (subst (λ z. HaveLooked ledgers w ps (k + 1) z (set qs k (Some l0.0))) (sym l0.2.knows) (seen_on_here p l0.0 here l0.2))
 
--- all of them were looked at
-pub looked_all : (ledgers : List SharedState) (w : Watcher) (ps : List (Option PassState)) (k : ℕ) (x : Watcher) (qs : List (Option PassState))
-    → IsLooking ledgers w ps k x qs → length qs ≤ k → HaveSeenAll qs
-looked_all ledgers w ps k x qs h le a p lt e = h.seen a p (omega (arith, lt, le)) e
+-- a book of longer histories is legal where these are
+pub legal_after : (d : Deal) (k h : Histories) → length h ≡ length d.graph.arcs → ((a : ℕ) → IsLegal d a (history k a) → IsLegal d a (history h a))
+    → IsLegalBook d k → IsLegalBook d h
+legal_after d k h many legal l = record {
+  one_each = many;
+  legal = λ a lt. legal a (l.legal a (subst (λ z. a < z) (many ∙ sym l.one_each) lt));
+}

@@ -1,6 +1,5 @@
--- What a look and a call through a pass leave of what its party knows.
-use Rattle.std.proofs.Common.{◌≡◌, ℕ, ◌++◌, List, [], ◌∷◌, Option, Some, None, append-nil, append_assoc, refl, sym, ap, ◌∙◌, subst, if◌then◌else◌}
-use Rattle.std.specs.Prelude.{Result, Ok, Err, OnOk}
+-- What a call through a pass leaves of what its party knows.
+use Rattle.std.proofs.Common.{◌≡◌, ℕ, ◌++◌, List, [], ◌∷◌, append-nil, append_assoc, refl, sym, ap, ◌∙◌, subst, if◌then◌else◌}
 use mathlib.Core.List.{IsPrefix}
 use Rattle.atomic_table.specs.Seated.{TableId}
 use Rattle.swap_base.proofs.Lists.{all_moments_front}
@@ -13,15 +12,7 @@ use Rattle.ledger_core.specs.History.{height, history_reply, IsLegal, IsLegalMom
 use Rattle.ledger_core.specs.Ledger.{after_call, call_entry, is_sender_full}
 use Rattle.ledger_core.specs.Book.{history}
 use Rattle.ledger_shared.specs.Value.{PassState, party_made, with_seen, added_by_call, HasCalled}
-use Rattle.party_threads.specs.Tracks.{Watcher, IsWatcherPass, HasLooked, HasMade, LookedIf}
-
--- Where memory was enough.
-
-pub on_both : {A E : Type 0} {P Q R : Type 0} (r : Result A E) → (P → Q → R) → OnOk r P → OnOk r Q → OnOk r R
-on_both (Ok x) f g h = f g h
-on_both (Err e) f g h = tt
-
--- A look.
+use Rattle.party_threads.specs.Tracks.{Watcher, knowing, knowing_more, IsWatcherPass, HasMade}
 
 -- what the pass has then seen is what its party is to know
 pub legal_of : (w : Watcher) (lock : TableId) (a : ℕ) (p q : PassState) (fresh : List Entry) → IsWatcherPass w lock a p → q ≡ with_seen p fresh
@@ -37,39 +28,6 @@ foreign_of w lock a p fresh k none = subst (λ v. party_made v fresh ≡ []) k.p
 
 pub whole_of : (p q : PassState) (fresh : List Entry) → q ≡ with_seen p fresh → IsPrefix p.shared q.seen → IsPrefix q.shared q.seen
 whole_of p q fresh is whole = subst (λ s. IsPrefix s q.seen) (sym (ap (λ (s : PassState). s.shared) is)) whole
-
-pub has_looked : {S : Type 0} (w : Watcher) (after : List Entry → S) (lock : TableId) (a : ℕ) (p : PassState) (n : S) (q : PassState) (fresh : List Entry)
-    → IsWatcherPass w lock a p → q ≡ with_seen p fresh → party_made p.party fresh ≡ [] → IsLegal p.deal p.arc q.seen → IsPrefix p.shared q.seen
-    → n ≡ after (history w.known a ++ fresh) → HasLooked w after a p n q
-has_looked {S} w after lock a p n q fresh k is none legal whole knows = record {
-  fresh = fresh;
-  knows = knows;
-  pass = is;
-  seen = ap (λ (s : PassState). s.seen) is ∙ ap (λ h. h ++ fresh) k.seen;
-  foreign = foreign_of w lock a p fresh k none;
-  legal = legal_of w lock a p q fresh k is legal;
-  whole = whole_of p q fresh is whole;
-}
-
--- the same in other words
-looked_as : {S T : Type 0} (g : S → T) (w : Watcher) (after : List Entry → S) (a : ℕ) (p : PassState) (n : S) (q : PassState) → HasLooked w after a p n q
-    → HasLooked w (λ h. g (after h)) a p (g n) q
-looked_as {S} {T} g w after a p n q l = record {
-  fresh = l.fresh;
-  knows = ap g l.knows;
-  pass = l.pass;
-  seen = l.seen;
-  foreign = l.foreign;
-  legal = l.legal;
-  whole = l.whole;
-}
-
-pub look_as : {S T : Type 0} (g : S → T) (w : Watcher) (after : List Entry → S) (a : ℕ) (m : S) (o : Option PassState) (n : S) (q : Option PassState)
-    → LookedIf w after a m o n q → LookedIf w (λ h. g (after h)) a (g m) o (g n) q
-look_as {S} {T} g w after a m None n q l = (ap g l.0, l.1)
-look_as {S} {T} g w after a m (Some p) n q l = (l.0, l.1, looked_as g w after a p n l.0 l.2)
-
--- A call.
 
 added_with : (h : List Entry) (v t : ℕ) (c : Call) (r : Reply)
     → h ++ added_by_call r (call_entry v t c r) ≡ (if is_sender_full r then h else h ++ call_entry v t c r ∷ [])
@@ -104,20 +62,22 @@ made_is w lock a p c h others k e =
     (subst (λ v. h ≡ after_call w.deal a v c (p.seen ++ others)) k.party
     (subst (λ x. h ≡ after_call w.deal x p.party c (p.seen ++ others)) k.arc (subst (λ d. h ≡ after_call d p.arc p.party c (p.seen ++ others)) k.deal e)))
 
-pub has_made : {S : Type 0} (w : Watcher) (after : List Entry → S) (lock : TableId) (a : ℕ) (c : Call) (p : PassState) (n : S) (q : PassState) (r : Reply)
-    (fresh : List Entry) → IsWatcherPass w lock a p → HasCalled p c r fresh → q ≡ with_seen p fresh → IsLegal p.deal p.arc q.seen → IsPrefix p.shared q.seen
-    → n ≡ after (history w.known a ++ fresh) → HasMade w after a c p n q
-has_made {S} w after lock a c p n q r fresh k called is legal whole knows =
+pub has_made : (w : Watcher) (lock : TableId) (a : ℕ) (c : Call) (p : PassState) (x : Watcher) (q : PassState) (r : Reply) (fresh : List Entry)
+    → IsWatcherPass w lock a p → HasCalled p c r fresh → q ≡ with_seen p fresh → IsLegal p.deal p.arc q.seen → IsPrefix p.shared q.seen
+    → x ≡ knowing_more w a fresh → HasMade w a c p x q
+has_made w lock a c p x q r fresh k called is legal whole knows =
     let seen : q.seen ≡ p.seen ++ fresh = ap (λ (s : PassState). s.seen) is in
     let made : p.seen ++ fresh ≡ after_call w.deal a w.me c (history w.known a ++ called.others) =
     made_is w lock a p c (p.seen ++ fresh) called.others k (called_is p c r fresh called) in
     let grown : history w.known a ++ fresh ≡ after_call w.deal a w.me c (history w.known a ++ called.others) =
     ap (λ h. h ++ fresh) (sym k.seen) ∙ made in
     record {
-      others = called.others;
-      foreign = foreign_of w lock a p called.others k called.foreign;
-      legal = legal_before w.deal a (history w.known a) called.others fresh _ (legal_of w lock a p q fresh k is legal) called.entries;
-      knows = knows ∙ ap after grown;
+      learnt = record {
+        others = called.others;
+        foreign = foreign_of w lock a p called.others k called.foreign;
+        legal = legal_before w.deal a (history w.known a) called.others fresh _ (legal_of w lock a p q fresh k is legal) called.entries;
+        knows = knows ∙ ap (knowing w a) grown;
+      };
       seen = seen ∙ made;
       pass = (fresh, is);
       whole = whole_of p q fresh is whole;

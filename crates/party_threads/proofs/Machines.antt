@@ -3,18 +3,19 @@ use Rattle.std.proofs.Common.{◌≡◌, ℕ, ◌+◌, ◌<◌, ◌≤◌, ◌++
 use Rattle.std.proofs.Common.{arith, eq-eqb}
 use Rattle.std.proofs.lemmas.List.{length-set, set-set}
 use Rattle.swap_base.specs.Lists.{IsElement}
+use Rattle.swap_digraph.specs.declared.deal.Deal.{Deal}
 use Rattle.hashkey_path.specs.declared.hashkey.Hashkey.{Hashkey}
 use Rattle.ledger_core.specs.declared.entry.Entry.{Entry}
 use Rattle.ledger_core.specs.History.{is_sender, is_full, IsLegal}
 use Rattle.ledger_core.specs.Ledger.{after_call}
-use Rattle.ledger_core.specs.Book.{history}
-use Rattle.ledger_shared.specs.Value.{PassState, party_made}
+use Rattle.ledger_core.specs.Book.{Histories, history}
+use Rattle.ledger_shared.specs.Value.{PassState, SharedState, party_made}
 use Rattle.party_wallet.specs.Value.{signed_hashkey}
 use Rattle.party_machine.specs.Wallet.{seed_wallet}
 use Rattle.party_machine.specs.Machine.{MachineState, next_due}
 use Rattle.swap_rules.specs.Due.{Action, first}
 use Rattle.swap_rules.specs.Machine.{IsSound, noted, appended_entry, rule_test}
-use Rattle.swap_rules.proofs.Machines.{learn_sound, call_sound}
+use Rattle.swap_rules.proofs.Machines.{rules_transfer, learn_sound, call_sound}
 use Rattle.swap_rules.proofs.Due.{IsDue, is_due, due_is_valid}
 use Rattle.swap_rules.proofs.Conducting.{knows_all, history_same}
 use Rattle.swap_rules.proofs.Prefixes.{begins_refl}
@@ -22,39 +23,47 @@ use Rattle.swap_rules.proofs.Room.{rules_leave_room}
 use Rattle.swap_run.proofs.Entries.{call_pushes}
 use Rattle.swap_run.proofs.Slots.{left, left_less}
 use Rattle.swap_world.specs.Acting.{IsMakable, IsSameOwner}
-use Rattle.party_threads.specs.Able.{watcher, informed_machine, IsAble}
-use Rattle.party_threads.specs.Tracks.{HasLooked, LookedIf}
+use Rattle.party_threads.specs.Able.{watcher, machine_rest, IsAble}
+use Rattle.party_threads.specs.Tracks.{HaveFresh, HaveLooked}
+use Rattle.party_threads.proofs.Looking.{legal_after}
 use Rattle.party_threads.proofs.Calls.{none_passes}
 
 -- A look.
 
-able_looked : (m n : MachineState) (a : ℕ) (p q : PassState) → a < length m.deal.graph.arcs → IsAble m → HasLooked (watcher m) (informed_machine m a) a p n q
-    → IsAble n
-able_looked m n a p q below k l = subst IsAble (sym l.knows) (record {
-  accepted = k.accepted;
-  wallet = k.wallet;
-  party = k.party;
-  arcs = length-set m.known a (history m.known a ++ l.fresh) ∙ k.arcs;
-  signs = k.signs;
-  sound =
-      learn_sound m.deal m.known (signed_hashkey m.signed) m.me a l.fresh (subst (λ z. a < z) (sym k.arcs) below)
-      (none_passes (λ (e : Entry). is_sender m.me e.sender) l.fresh l.foreign) l.legal k.sound;
-})
+-- the machine that knows this
+abbrev with_known : MachineState → Histories → MachineState
+with_known m k = record { deal = m.deal; me = m.me; seed = m.seed; known = k; signed = m.signed }
 
-pub able_after : (m n : MachineState) (a : ℕ) (o q : Option PassState) → a < length m.deal.graph.arcs → IsAble m
-    → LookedIf (watcher m) (informed_machine m a) a m o n q → IsAble n
-able_after m n a None q below k l = subst IsAble (sym l.0) k
-able_after m n a (Some p) q below k l = able_looked m n a p l.0 below k l.2
+able_with : (m : MachineState) (k : Histories) → IsAble m → length k ≡ length m.deal.graph.arcs → HaveFresh m.me m.known k
+    → ((a : ℕ) → IsLegal m.deal a (history m.known a) → IsLegal m.deal a (history k a)) → IsAble (with_known m k)
+able_with m k able many fresh legal = record {
+  accepted = able.accepted;
+  wallet = able.wallet;
+  party = able.party;
+  arcs = many;
+  signs = able.signs;
+  sound = record {
+    legal = legal_after m.deal m.known k many legal able.sound.legal;
+    rules =
+        rules_transfer m.deal m.known k (signed_hashkey m.signed) m.me (λ a. record {
+          rest = (fresh a).0;
+          whole = (fresh a).1;
+          others = none_passes (λ (e : Entry). is_sender m.me e.sender) (fresh a).0 (fresh a).2;
+        }) able.sound.rules;
+  };
+}
 
-pub owner_self : (m : MachineState) → IsSameOwner m m
-owner_self m = record { deal = refl; me = refl; seed = refl }
+-- what the looks leave can act
+pub able_looked : (ledgers : List SharedState) (m n : MachineState) (ps qs : List (Option PassState)) (k : ℕ) → IsAble m
+    → HaveLooked ledgers (watcher m) ps k (watcher n) qs → machine_rest n ≡ machine_rest m → IsAble n
+able_looked ledgers m n ps qs k able h rest =
+    let same : n ≡ with_known m n.known =
+    λ i. record { deal = (rest i).deal; me = (rest i).me; seed = (rest i).seed; known = n.known; signed = (rest i).signed } in
+    let many : length n.known ≡ length m.deal.graph.arcs = h.watching.known ∙ ap (λ (d : Deal). length d.graph.arcs) h.deal in
+    subst IsAble (sym same) (able_with m n.known able many h.fresh h.legal)
 
 pub owner_more : (l m n : MachineState) → IsSameOwner l m → IsSameOwner m n → IsSameOwner l n
 owner_more l m n a b = record { deal = b.deal ∙ a.deal; me = b.me ∙ a.me; seed = b.seed ∙ a.seed }
-
-pub owner_after : (m n : MachineState) (a : ℕ) (o q : Option PassState) → LookedIf (watcher m) (informed_machine m a) a m o n q → IsSameOwner m n
-owner_after m n a None q l = subst (IsSameOwner m) (sym l.0) (owner_self m)
-owner_after m n a (Some p) q l = subst (IsSameOwner m) (sym l.2.knows) (record { deal = refl; me = refl; seed = refl })
 
 -- A due call.
 

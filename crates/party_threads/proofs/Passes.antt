@@ -4,14 +4,14 @@ use Rattle.std.proofs.Common.{append_assoc, refl, sym, ap, ◌∙◌, subst, inl
 use Rattle.std.proofs.lemmas.List.{length-set, get_or-set_same, get_or-set_other}
 use Rattle.std.proofs.lemmas.Option.{none-some, same_Some}
 use mathlib.Core.List.{IsPrefix}
-use Rattle.atomic_table.specs.Seated.{TableId}
+use Rattle.swap_digraph.specs.declared.deal.Deal.{Deal}
 use Rattle.ledger_core.specs.declared.entry.Entry.{Entry}
 use Rattle.ledger_core.specs.Book.{Histories, history}
 use Rattle.ledger_shared.specs.Value.{PassState, SharedState, with_seen}
 use Rattle.swap_rules.proofs.Prefixes.{same_or_not}
 use Rattle.swap_rules.proofs.Conducting.{history_same, history_other}
 use Rattle.party_threads.specs.Later.{IsLater, arc_pass, Advanced, HaveAdvanced}
-use Rattle.party_threads.specs.Tracks.{Watcher, knowing, IsWatcherPass, Tracks, HaveSeenAll, IsSameElsewhere, IsWatcherPlace}
+use Rattle.party_threads.specs.Tracks.{Watcher, knowing, IsWatcherPass, Tracks, HasItsPasses, IsWatching, HaveSeenBelow, HaveSeenAll, IsSameElsewhere, IsWatcherPlace}
 
 -- Later.
 
@@ -70,13 +70,14 @@ one_went ps qs a q below all here b = go (same_or_not b a)
 
 -- What a party's passes have seen.
 
-pass_place : (w : Watcher) (lock : TableId) (a : ℕ) (p : Option PassState) → ((r : PassState) → p ≡ Some r → IsWatcherPass w lock a r) → IsWatcherPlace w lock a p
-pass_place w lock a None h = tt
-pass_place w lock a (Some r) h = h r refl
+pass_place : (ledgers : List SharedState) (w : Watcher) (a : ℕ) (p : Option PassState)
+    → ((s : SharedState) (r : PassState) → s ≡ slice_index_or ledgers a s → p ≡ Some r → IsWatcherPass w s.lock a r) → IsWatcherPlace ledgers w a p
+pass_place ledgers w a None h = tt
+pass_place ledgers w a (Some r) h = λ s is. h s r is refl
 
-pub find_place : (ledgers : List SharedState) (w : Watcher) (ps : List (Option PassState)) (a : ℕ) (s : SharedState) → Tracks ledgers w ps → a < length ps
-    → s ≡ slice_index_or ledgers a s → IsWatcherPlace w s.lock a (arc_pass ps a)
-find_place ledgers w ps a s t l is = pass_place w s.lock a (arc_pass ps a) (λ r e. t.each a s r l is e)
+pub find_place : (ledgers : List SharedState) (w : Watcher) (ps : List (Option PassState)) (a : ℕ) → Tracks ledgers w ps → a < length ps
+    → IsWatcherPlace ledgers w a (arc_pass ps a)
+find_place ledgers w ps a t l = pass_place ledgers w a (arc_pass ps a) (λ s r is e. t.each a s r l is e)
 
 shared_at : (ledgers : List SharedState) (a : ℕ) → a < length ledgers → (s : SharedState) × (s ≡ slice_index_or ledgers a s)
 shared_at [] a lt = absurd (omega (arith, lt))
@@ -114,16 +115,34 @@ module _ (ledgers : List SharedState) (w : Watcher) (ps : List (Option PassState
       (subst (IsWatcherPass (knowing w a h) s.lock a) (put_is ps a b q r below same e) (new_pass s (subst (λ z. s ≡ slice_index_or ledgers z s) same is)))
   each_pass b s r lt is e (inr apart) = far_pass b s r apart (tracks.each b s r lt is (sym (pass_other ps a b (Some q) apart) ∙ e))
 
-  pub tracks_on : Tracks ledgers (knowing w a h) (set ps a (Some q))
+  tracks_on : Tracks ledgers (knowing w a h) (set ps a (Some q))
   tracks_on = record {
     places = length-set ps a (Some q) ∙ tracks.places;
     shared = tracks.shared;
     each = λ b s r lt is e. each_pass b s r (subst (λ z. b < z) (length-set ps a (Some q)) lt) is e (same_or_not b a);
   }
 
--- the first k passes have seen all that was shared
-abbrev pub HaveSeenBelow : ℕ → List (Option PassState) → Type 0
-HaveSeenBelow k ps = (a : ℕ) (p : PassState) → a < k → arc_pass ps a ≡ Some p → IsPrefix p.shared p.seen
+-- passes that went on are at the same places
+stay : (d : Deal) (v : ℕ) (ps qs : List (Option PassState)) → HaveAdvanced ps qs → length qs ≡ length ps → HasItsPasses d v ps → HasItsPasses d v qs
+stay d v ps qs gone same h = record {
+  near = λ a lt t. there a (arc_pass ps a) (gone a) (h.near a (subst (λ z. a < z) same lt) t);
+  far = λ a lt t. subst (λ o. Advanced o (arc_pass qs a)) (h.far a (subst (λ z. a < z) same lt) t) (gone a);
+}
+  where
+    there : (a : ℕ) (o : Option PassState) → Advanced o (arc_pass qs a) → (p : PassState) × (o ≡ Some p) → (p : PassState) × (arc_pass qs a ≡ Some p)
+    there a None w h0 = absurd (none-some h0.0 h0.1)
+    there a (Some p) w h0 = (w.0, w.1)
+
+-- the party watches on
+pub watching_on : (ledgers : List SharedState) (w : Watcher) (ps : List (Option PassState)) (a : ℕ) (p q : PassState) (h : List Entry) → IsWatching ledgers w ps
+    → a < length ps → arc_pass ps a ≡ Some p → IsLater p q → q.seen ≡ h → IsWatching ledgers (knowing w a h) (set ps a (Some q))
+watching_on ledgers w ps a p q h i below here later seen = record {
+  known = length-set w.known a h ∙ i.known;
+  tracks = tracks_on ledgers w ps a p q h i.tracks below (subst (λ n. a < n) (i.tracks.places ∙ sym i.known) below) here later seen;
+  passes =
+      stay w.deal w.me ps (set ps a (Some q))
+      (one_went ps ps a (Some q) below (none_went ps) (subst (λ o. Advanced o (Some q)) (sym here) (q, refl, later))) (length-set ps a (Some q)) i.passes;
+}
 
 seen_count : (k : ℕ) (ps : List (Option PassState)) (a b : ℕ) (q r : PassState) → a < length ps → IsPrefix q.shared q.seen
     → ((b ≢ a) → HaveSeenBelow k ps × (b < k)) → arc_pass (set ps a (Some q)) b ≡ Some r → (b ≡ a) ⊎ (b ≢ a) → IsPrefix r.shared r.seen
@@ -141,6 +160,11 @@ pub seen_again : (ps : List (Option PassState)) (a : ℕ) (q : PassState) → a 
 seen_again ps a q below all whole b r lt e =
     let lt1 : b < length ps = subst (λ z. b < z) (length-set ps a (Some q)) lt in
     seen_count (length ps) ps a b q r below whole (λ apart. (all, lt1)) e (same_or_not b a)
+
+-- elsewhere nothing changed, and then nothing again
+pub elsewhere_more : (ps qs : List (Option PassState)) (first second third : Histories) → HaveAdvanced ps qs → IsSameElsewhere ps first second
+    → IsSameElsewhere qs second third → IsSameElsewhere ps first third
+elsewhere_more ps qs first second third gone before after a none = after a (subst (λ o. Advanced o (arc_pass qs a)) none (gone a)) ∙ before a none
 
 -- what is known of the arc of a pass changes nothing elsewhere
 pub elsewhere_on : (ps qs : List (Option PassState)) (old new : Histories) (a : ℕ) (p : PassState) (h : List Entry) → HaveAdvanced ps qs → arc_pass qs a ≡ Some p

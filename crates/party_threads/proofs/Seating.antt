@@ -34,7 +34,7 @@ use Rattle.swap_world.specs.Actors.{AreHeld}
 use Rattle.party_threads.specs.declared.turn.Actor.{Actor}
 use Rattle.party_threads.specs.declared.turn.Actor.TheVariants.{Conforming, Planned, Manual, Clock}
 use Rattle.party_threads.specs.declared.turn.Turn.{Turn}
-use Rattle.party_threads.specs.Tracks.{Watcher, IsWatcherPass}
+use Rattle.party_threads.specs.Tracks.{Watcher, IsWatcherPass, IsWatching}
 use Rattle.party_threads.specs.Able.{watcher, IsAble}
 use Rattle.party_threads.specs.Ticks.{HaveRoom, AreLedgerClocks}
 use Rattle.party_threads.specs.Played.{party_planner}
@@ -209,49 +209,45 @@ module _ (job : Job) (ls : List (Option LedgerState)) (first ts : List Turn) (sh
       dealt_pass w a (started (turn_actor ts v) t.0.arc t.0.history) t.0 x p ed t.1 (known t.0.arc t.0.history ∙ ap (λ b. history w.known b) t.1.arc)
       (ap (λ u. party_pass x.lock t.0 u (started (turn_actor ts v) t.0.arc t.0.history)) ev ∙ t.2)
 
-  seated_machine : (v : ℕ) (m : MachineState) → v < e.graph.n → turn_actor ts v ≡ Conforming m → IsMachineSeated shared m (held_passes (slice_get ts v))
-  seated_machine v m lv is =
-      let who : IsJobActor job v (Conforming m) = subst (IsJobActor job v) (sym (actors v) ∙ is) (s.actors v lv) in
-      let arcs : length m.deal.graph.arcs ≡ length e.graph.arcs = ap (λ x. length x.graph.arcs) who.1 in
-      let wide : length (held_passes (slice_get ts v)) ≡ length e.graph.arcs = places.passes v lv in
+  watching_at : (w : Watcher) (v : ℕ) → v < e.graph.n → w.deal ≡ e → w.me ≡ v → ((b : ℕ) (h : List Entry) → started (turn_actor ts v) b h ≡ history w.known b)
+      → length w.known ≡ length w.deal.graph.arcs → IsWatching shared w (held_passes (slice_get ts v))
+  watching_at w v lv ed ev known wide =
+      let arcs : length w.deal.graph.arcs ≡ length e.graph.arcs = ap (λ (d : Deal). length d.graph.arcs) ed in
+      let within : length (held_passes (slice_get ts v)) ≡ length e.graph.arcs = places.passes v lv in
       record {
-        able = able_at job ls first s v m lv (sym (actors v) ∙ is);
+        known = wide;
         tracks = record {
-          places = wide ∙ sym arcs;
+          places = within ∙ sym arcs;
           shared = many ∙ sym arcs;
-          each = λ a x p lt ix held.
-              pass_is (watcher m) v a x p lv who.1 who.2 (λ b h. ap (λ y. started y b h) is) (subst (λ n. a < n) wide lt) ix held;
+          each = λ a x p lt ix held. pass_is w v a x p lv ed ev known (subst (λ n. a < n) within lt) ix held;
         };
         passes = record {
           near = λ a lt near.
-              near_is v a lv (subst (λ n. a < n) wide lt) (subst (λ w. touches e w a ≡ true) who.2 (subst (λ x. touches x m.me a ≡ true) who.1 near));
+              near_is v a lv (subst (λ n. a < n) within lt) (subst (λ u. touches e u a ≡ true) ev (subst (λ d. touches d w.me a ≡ true) ed near));
           far = λ a lt far.
-              far_is v a lv (subst (λ n. a < n) wide lt) (subst (λ w. touches e w a ≡ false) who.2 (subst (λ x. touches x m.me a ≡ false) who.1 far));
+              far_is v a lv (subst (λ n. a < n) within lt) (subst (λ u. touches e u a ≡ false) ev (subst (λ d. touches d w.me a ≡ false) ed far));
         };
       }
+
+  seated_machine : (v : ℕ) (m : MachineState) → v < e.graph.n → turn_actor ts v ≡ Conforming m → IsMachineSeated shared m (held_passes (slice_get ts v))
+  seated_machine v m lv is =
+      let who : IsJobActor job v (Conforming m) = subst (IsJobActor job v) (sym (actors v) ∙ is) (s.actors v lv) in
+      let able = able_at job ls first s v m lv (sym (actors v) ∙ is) in
+      record { able = able; watching = watching_at (watcher m) v lv who.1 who.2 (λ b h. ap (λ y. started y b h) is) able.arcs }
 
   module _ (holds : List ℕ → Bool) (held : AreHeld holds job.roles) where
     seated_planner : (v : ℕ) (n : Plan) → v < e.graph.n → turn_actor ts v ≡ Planned n → IsPlannerSeated holds job shared v n (held_passes (slice_get ts v))
     seated_planner v n lv is =
         let before : turn_actor first v ≡ Planned n = sym (actors v) ∙ is in
         let who : IsJobActor job v (Planned n) = subst (IsJobActor job v) before (s.actors v lv) in
-        let wide : length (held_passes (slice_get ts v)) ≡ length e.graph.arcs = places.passes v lv in
         let place : v < length job.roles = subst (λ k. v < k) (sym s.cast.roles) lv in
+        let shown = plan_shown job ls first s v n lv before in
         record {
           place = place;
-          shown = plan_shown job ls first s v n lv before;
+          shown = shown;
           planned = who.1;
           held = held v place;
-          tracks = record {
-            places = wide;
-            shared = many;
-            each = λ a x p lt ix at.
-                pass_is (party_planner e v n) v a x p lv refl refl (λ b h. ap (λ y. started y b h) is) (subst (λ k. a < k) wide lt) ix at;
-          };
-          passes = record {
-            near = λ a lt near. near_is v a lv (subst (λ k. a < k) wide lt) near;
-            far = λ a lt far. far_is v a lv (subst (λ k. a < k) wide lt) far;
-          };
+          watching = watching_at (party_planner e v n) v lv refl refl (λ b h. ap (λ y. started y b h) is) shown.view.legal.one_each;
         }
 
     module _ (ticks : ℕ) (room : AllHaveRoom ticks job.deal (race_book ls)) where

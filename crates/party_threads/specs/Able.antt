@@ -1,7 +1,5 @@
 -- A machine that acts through passes.
-use Rattle.std.specs.Prelude.{◌≡◌, ◌<◌, ℕ, List, length, set}
-use Rattle.swap_digraph.specs.Deal.{party}
-use Rattle.ledger_core.specs.declared.entry.Entry.{Entry}
+use Rattle.std.specs.Prelude.{◌≡◌, ◌<◌, [], length}
 use Rattle.party_wallet.specs.Value.{signed_hashkey}
 use Rattle.party_machine.specs.Machine.{MachineState}
 use Rattle.party_machine.specs.Wallet.{seed_wallet}
@@ -13,9 +11,9 @@ use Rattle.party_threads.specs.Tracks.{Watcher}
 abbrev pub watcher : MachineState → Watcher
 watcher m = record { deal = m.deal; me = m.me; known = m.known }
 
--- the machine, once it knows the history h of arc a
-abbrev pub informed_machine : MachineState → ℕ → List Entry → MachineState
-informed_machine m a h = record { deal = m.deal; me = m.me; seed = m.seed; known = set m.known a h; signed = m.signed }
+-- all of the machine but what it knows
+abbrev pub machine_rest : MachineState → MachineState
+machine_rest m = record m { known = [] }
 
 -- The machine can act: its deal is accepted, its wallet is good, and its calls so far kept its
 -- rules.

@@ -6,7 +6,7 @@ use Rattle.swap_digraph.specs.declared.deal.Deal.{Deal}
 use Rattle.ledger_core.specs.declared.entry.Call.{Call}
 use Rattle.ledger_core.specs.declared.entry.Entry.{Entry}
 use Rattle.ledger_core.specs.Book.{Histories, history}
-use Rattle.ledger_shared.specs.Value.{PassState, party_made}
+use Rattle.ledger_shared.specs.Value.{PassState}
 use Rattle.swap_job.specs.declared.job.Role.{Role}
 use Rattle.swap_job.specs.declared.job.Role.TheVariants.{Conforming, Manual, Script, Strategy}
 use Rattle.swap_job.specs.Crafted.{Seeds}
@@ -23,14 +23,11 @@ use Rattle.party_threads.specs.Tracks.{Watcher}
 abbrev pub party_planner : Deal → ℕ → Plan → Watcher
 party_planner d v n = record { deal = d; me = v; known = n.known }
 
+-- all of the plan but what its party knows
+abbrev pub plan_rest : Plan → Plan
+plan_rest n = record n { known = [] }
+
 -- What a party has come to know.
-
--- the history h is k with fresh entries of others than v
-abbrev pub IsFresh : ℕ → List Entry → List Entry → Type 0
-IsFresh v k h = (fresh : List Entry) × (h ≡ k ++ fresh) × (party_made v fresh ≡ [])
-
-abbrev pub HaveFresh : ℕ → Histories → Histories → Type 0
-HaveFresh v old new = (a : ℕ) → IsFresh v (history old a) (history new a)
 
 -- each history begins with what was known of it
 abbrev pub HaveGrown : Histories → Histories → Type 0
@@ -62,6 +59,12 @@ IsAnswered gives d seeds v view answer n m Manual = Unit {0}
 -- of the answer the call is made, unless the ledger had 32 of the party
 abbrev pub HasMadeCall : Deal → ℕ → Option (ℕ × Call) → Histories → Histories → Type 0
 HasMadeCall d v answer old new = (a : ℕ) → a < length d.graph.arcs → sender_calls v (history new a) ≡ take 32 (sender_calls v (history old a) ++ arc_answer a answer)
+
+-- What a call of an answer, if any, leaves of what its party knows.
+pub record HasDone (d : Deal) (v : ℕ) (answer : Option (ℕ × Call)) (old new : Histories) : Type 0 where
+  pub view : IsView d v new
+  pub grown : HaveGrown old new
+  pub called : HasMadeCall d v answer old new
 
 -- The party with the plan n was shown a view. The view has all that was shared, and no call of the
 -- party that it didn't know. The party made the call of the answer, if any, unless the ledger had

@@ -13,7 +13,7 @@ use Rattle.party_threads.specs.declared.turn.Actor.{Actor}
 use Rattle.party_threads.specs.declared.turn.Actor.TheVariants.{Conforming, Planned, Manual, Clock}
 use Rattle.party_threads.specs.declared.turn.Turn.{Turn}
 use Rattle.party_threads.specs.Later.{arc_pass, HaveAdvanced}
-use Rattle.party_threads.specs.Tracks.{Tracks, HasItsPasses, HaveSeenAll, IsSameElsewhere}
+use Rattle.party_threads.specs.Tracks.{IsWatching, HaveSeenAll, IsSameElsewhere}
 use Rattle.party_threads.specs.Able.{watcher, IsAble}
 use Rattle.party_threads.specs.Ticks.{AreLedgerClocks, HaveClocksAdvanced, HaveTicked}
 use Rattle.party_threads.specs.Played.{party_planner, HasPlayed}
@@ -21,8 +21,7 @@ use Rattle.party_threads.specs.Played.{party_planner, HasPlayed}
 -- A machine can act, and knows what its passes have seen.
 pub record IsMachineSeated (ledgers : List SharedState) (m : MachineState) (ps : List (Option PassState)) : Type 0 where
   pub able : IsAble m
-  pub tracks : Tracks ledgers (watcher m) ps
-  pub passes : HasItsPasses m.deal m.me ps
+  pub watching : IsWatching ledgers (watcher m) ps
 
 -- A party that follows a script or a strategy can act, and knows what its passes have seen.
 pub record IsPlannerSeated (holds : List ℕ → Bool) (job : Job) (ledgers : List SharedState) (v : ℕ) (n : Plan) (ps : List (Option PassState)) : Type 0 where
@@ -30,8 +29,7 @@ pub record IsPlannerSeated (holds : List ℕ → Bool) (job : Job) (ledgers : Li
   pub shown : IsShown job.deal job.seeds v n
   pub planned : is_planned (job_role job v) ≡ true
   pub held : IsHeld holds (job_role job v)
-  pub tracks : Tracks ledgers (party_planner job.deal v n) ps
-  pub passes : HasItsPasses job.deal v ps
+  pub watching : IsWatching ledgers (party_planner job.deal v n) ps
 
 -- the actor has its passes
 abbrev pub IsActorSeated : (List ℕ → Bool) → Job → List SharedState → ℕ → ℕ → List (Option PassState) → List (Option ClockState) → Actor → Type 0

@@ -1,16 +1,17 @@
 -- Who looks and calls through passes: what it knows of each ledger, and what its passes have seen.
-use Rattle.std.specs.Prelude.{◌≡◌, ℕ, ◌<◌, ◌++◌, true, false, List, [], length, set, slice_index_or, Option, Some, None}
+use Rattle.std.specs.Prelude.{◌≡◌, ℕ, ◌<◌, ◌++◌, true, false, IsTrue, List, [], length, set, slice_index_or, Option, Some, None}
 use mathlib.Core.List.{IsPrefix}
 use Rattle.atomic_table.specs.Seated.{TableId}
 use Rattle.swap_digraph.specs.declared.deal.Deal.{Deal}
 use Rattle.swap_digraph.specs.Deal.{touches}
 use Rattle.ledger_core.specs.declared.entry.Call.{Call}
 use Rattle.ledger_core.specs.declared.entry.Entry.{Entry}
-use Rattle.ledger_core.specs.History.{IsLegal}
+use Rattle.ledger_core.specs.History.{fit, IsLegal}
+use Rattle.ledger_core.specs.Known.{is_known_call}
 use Rattle.ledger_core.specs.Ledger.{after_call}
 use Rattle.ledger_core.specs.Book.{Histories, history}
 use Rattle.ledger_shared.specs.Value.{PassState, SharedState, party_made, with_seen}
-use Rattle.party_threads.specs.Later.{IsLater, arc_pass}
+use Rattle.party_threads.specs.Later.{IsLater, arc_pass, HaveAdvanced}
 
 -- A party of a deal, with what it knows of each ledger.
 pub record Watcher : Type 0 where
@@ -21,6 +22,20 @@ pub record Watcher : Type 0 where
 -- the same party, once it knows the history h of arc a
 abbrev pub knowing : Watcher → ℕ → List Entry → Watcher
 knowing w a h = record { deal = w.deal; me = w.me; known = set w.known a h }
+
+-- the same party, once it has learnt entries of arc a
+abbrev pub knowing_more : Watcher → ℕ → List Entry → Watcher
+knowing_more w a entries = knowing w a (history w.known a ++ entries)
+
+-- The arc is one of the deal's, of which the party knows something.
+pub record KnowsArc (w : Watcher) (a : ℕ) : Type 0 where
+  pub deal : a < length w.deal.graph.arcs
+  pub known : a < length w.known
+
+-- The party can learn entries of the arc: what it then knows of the arc is legal.
+pub record CanLearn (w : Watcher) (a : ℕ) (entries : List Entry) : Type 0 where
+  pub arc : KnowsArc w a
+  pub legal : IsLegal w.deal a (history w.known a ++ entries)
 
 -- The pass is that of the party at the ledger of arc a, and has seen what the party knows.
 pub record IsWatcherPass (w : Watcher) (table : TableId) (a : ℕ) (p : PassState) : Type 0 where
@@ -41,47 +56,98 @@ pub record HasItsPasses (d : Deal) (me : ℕ) (ps : List (Option PassState)) : T
   pub near : (a : ℕ) → a < length ps → touches d me a ≡ true → (p : PassState) × (arc_pass ps a ≡ Some p)
   pub far : (a : ℕ) → a < length ps → touches d me a ≡ false → arc_pass ps a ≡ None
 
+-- The party has its passes, knows of each arc of its deal, and knows what its passes have seen.
+pub record IsWatching (ledgers : List SharedState) (w : Watcher) (ps : List (Option PassState)) : Type 0 where
+  pub known : length w.known ≡ length w.deal.graph.arcs
+  pub tracks : Tracks ledgers w ps
+  pub passes : HasItsPasses w.deal w.me ps
+
+-- the passes at the first k arcs have seen all that was shared
+abbrev pub HaveSeenBelow : ℕ → List (Option PassState) → Type 0
+HaveSeenBelow k ps = (a : ℕ) (p : PassState) → a < k → arc_pass ps a ≡ Some p → IsPrefix p.shared p.seen
+
 -- each pass has seen all that was shared
 abbrev pub HaveSeenAll : List (Option PassState) → Type 0
-HaveSeenAll ps = (a : ℕ) (p : PassState) → a < length ps → arc_pass ps a ≡ Some p → IsPrefix p.shared p.seen
+HaveSeenAll ps = HaveSeenBelow (length ps) ps
 
 -- what is known of an arc without a pass stays
 abbrev pub IsSameElsewhere : List (Option PassState) → Histories → Histories → Type 0
 IsSameElsewhere ps old new = (a : ℕ) → arc_pass ps a ≡ None → history new a ≡ history old a
 
--- A look showed entries of others, which the party then knows, and all that was shared. `after h`
--- is the party once it knows the history h of arc a.
-pub record HasLooked {S : Type 0} (w : Watcher) (after : List Entry → S) (a : ℕ) (p : PassState) (n : S) (q : PassState) : Type 0 where
+-- the history h is k with fresh entries of others than v
+abbrev pub IsFresh : ℕ → List Entry → List Entry → Type 0
+IsFresh v k h = (fresh : List Entry) × (h ≡ k ++ fresh) × (party_made v fresh ≡ [])
+
+abbrev pub HaveFresh : ℕ → Histories → Histories → Type 0
+HaveFresh v old new = (a : ℕ) → IsFresh v (history old a) (history new a)
+
+-- A look.
+
+-- A look showed entries of others, which the party then knows, and all that was shared.
+pub record HasLooked (w : Watcher) (a : ℕ) (p : PassState) (x : Watcher) (q : PassState) : Type 0 where
   pub fresh : List Entry
-  pub knows : n ≡ after (history w.known a ++ fresh)
+  pub knows : x ≡ knowing_more w a fresh
   pub pass : q ≡ with_seen p fresh
   pub seen : q.seen ≡ history w.known a ++ fresh
   pub foreign : party_made w.me fresh ≡ []
   pub legal : IsLegal w.deal a (history w.known a ++ fresh)
   pub whole : IsPrefix q.shared q.seen
 
+-- the pass is the party's at the ledger of arc a, where there may be none
+abbrev pub IsWatcherPlace : List SharedState → Watcher → ℕ → Option PassState → Type 0
+IsWatcherPlace ledgers w a None = Unit {0}
+IsWatcherPlace ledgers w a (Some p) = (s : SharedState) → s ≡ slice_index_or ledgers a s → IsWatcherPass w s.lock a p
+
+-- the same as HasLooked through the pass at a place, where nothing is looked at without one
+abbrev pub LookedIf : Watcher → ℕ → Option PassState → Watcher → Option PassState → Type 0
+LookedIf w a None x q = (x ≡ w) × (q ≡ None)
+LookedIf w a (Some p) x q = (r : PassState) × (q ≡ Some r) × HasLooked w a p x r
+
+-- The party looked at the ledgers of the first k arcs, and knows all that was shared there. What it
+-- learnt are entries of others.
+pub record HaveLooked (ledgers : List SharedState) (w : Watcher) (ps : List (Option PassState)) (k : ℕ) (x : Watcher) (qs : List (Option PassState))
+    : Type 0 where
+  pub deal : x.deal ≡ w.deal
+  pub me : x.me ≡ w.me
+  pub watching : IsWatching ledgers x qs
+  pub gone_on : HaveAdvanced ps qs
+  pub seen : HaveSeenBelow k qs
+  pub fresh : HaveFresh w.me w.known x.known
+  pub legal : (a : ℕ) → IsLegal w.deal a (history w.known a) → IsLegal w.deal a (history x.known a)
+  pub elsewhere : IsSameElsewhere ps w.known x.known
+
+-- A call.
+
+-- The call stands on an arc that touches the party, and fits, and its last `known` signatures are
+-- valid.
+pub record CanCall (w : Watcher) (a : ℕ) (call : Call) (known : ℕ) : Type 0 where
+  pub arc : a < length w.deal.graph.arcs
+  pub near : touches w.deal w.me a ≡ true
+  pub fits : IsTrue (fit w.deal a call)
+  pub valid : IsTrue (is_known_call known w.deal call)
+
 -- The call stands at the end of what the party then knows, after entries of others.
-pub record HasMade {S : Type 0} (w : Watcher) (after : List Entry → S) (a : ℕ) (call : Call) (p : PassState) (n : S) (q : PassState) : Type 0 where
+pub record HasLearntCall (w : Watcher) (a : ℕ) (call : Call) (x : Watcher) : Type 0 where
   pub others : List Entry
   pub foreign : party_made w.me others ≡ []
   pub legal : IsLegal w.deal a (history w.known a ++ others)
-  pub knows : n ≡ after (after_call w.deal a w.me call (history w.known a ++ others))
-  pub seen : q.seen ≡ after_call w.deal a w.me call (history w.known a ++ others)
+  pub knows : x ≡ knowing w a (after_call w.deal a w.me call (history w.known a ++ others))
+
+-- The same by a pass, which has then seen it.
+pub record HasMade (w : Watcher) (a : ℕ) (call : Call) (p : PassState) (x : Watcher) (q : PassState) : Type 0 where
+  pub learnt : HasLearntCall w a call x
+  pub seen : q.seen ≡ after_call w.deal a w.me call (history w.known a ++ learnt.others)
   pub pass : IsLater p q
   pub whole : IsPrefix q.shared q.seen
 
--- Where there may be no pass.
+-- the same through the pass at a place that has one
+abbrev pub MadeIf : Watcher → ℕ → Call → Option PassState → Watcher → Option PassState → Type 0
+MadeIf w a call None x q = ⊥
+MadeIf w a call (Some p) x q = (r : PassState) × (q ≡ Some r) × HasMade w a call p x r
 
-abbrev pub IsWatcherPlace : Watcher → TableId → ℕ → Option PassState → Type 0
-IsWatcherPlace w lock a None = Unit {0}
-IsWatcherPlace w lock a (Some p) = IsWatcherPass w lock a p
-
--- the same as HasLooked through the pass at a place, where nothing is looked at without one
-abbrev pub LookedIf : {S : Type 0} → Watcher → (List Entry → S) → ℕ → S → Option PassState → S → Option PassState → Type 0
-LookedIf w after a m None n q = (n ≡ m) × (q ≡ None)
-LookedIf w after a m (Some p) n q = (r : PassState) × (q ≡ Some r) × HasLooked w after a p n r
-
--- the same as HasMade through the pass at a place that has one
-abbrev pub MadeIf : {S : Type 0} → Watcher → (List Entry → S) → ℕ → Call → Option PassState → S → Option PassState → Type 0
-MadeIf w after a call None n q = ⊥
-MadeIf w after a call (Some p) n q = (r : PassState) × (q ≡ Some r) × HasMade w after a call p n r
+-- The same by one of all passes of the party, which watches on.
+pub record HasSubmitted (ledgers : List SharedState) (w : Watcher) (a : ℕ) (call : Call) (ps : List (Option PassState)) (x : Watcher)
+    (qs : List (Option PassState)) : Type 0 where
+  pub learnt : HasLearntCall w a call x
+  pub watching : IsWatching ledgers x qs
+  pub seen : HaveSeenAll ps → HaveSeenAll qs

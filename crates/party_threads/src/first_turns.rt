@@ -7,7 +7,6 @@ ghost use Rattle.swap_world.specs.Actors.{AllFit};
 ghost use Rattle.party_threads.specs.FirstTurns.{racing_actor, IsNewTurn, HasNewTurn, AreNew};
 
 use crate::turn::{Actor, Turn};
-use ledger_shared::{ClockPass, Pass};
 use party_wallet::Wallet;
 use std::alloc::Global;
 use swap_base::NoMemory;
@@ -15,17 +14,8 @@ use swap_digraph::Deal;
 use swap_job::Job;
 use swap_world::{Actor as Party, new_actors};
 
-fn no_passes(alloc: Global, deal: &Deal) -> Result<Vec<Option<Pass>>, NoMemory>
-    ensures { IfOk result (λ v. v.items ≡ replicate (length deal.now.graph.arcs) None) }
-{
-    let mut places = Vec::new(alloc);
-    'arcs: for _arc in 0..deal.graph.arcs().len() {
-        places.push(None)?;
-    }
-    Ok(places)
-}
-
-fn no_clocks(alloc: Global, deal: &Deal) -> Result<Vec<Option<ClockPass>>, NoMemory>
+/// A place for each arc, with nothing in it.
+fn no_places<P: Drop>(alloc: Global, deal: &Deal) -> Result<Vec<Option<P>>, NoMemory>
     ensures { IfOk result (λ v. v.items ≡ replicate (length deal.now.graph.arcs) None) }
 {
     let mut places = Vec::new(alloc);
@@ -41,8 +31,8 @@ fn new_turn(alloc: Global, deal: &Deal, actor: Actor) -> Result<Turn, NoMemory>
 {
     Ok(Turn {
         actor,
-        passes: no_passes(alloc, deal)?,
-        clocks: no_clocks(alloc, deal)?,
+        passes: no_places(alloc, deal)?,
+        clocks: no_places(alloc, deal)?,
         failed: false,
     })
 }

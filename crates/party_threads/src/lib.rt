@@ -25,7 +25,10 @@ mod machine_turn;
 mod planner_turn;
 mod round;
 mod rounds;
+mod setting;
+mod side;
 mod turn;
+mod watching;
 
 pub use gate::Gate;
 pub use laws::rest_shows_in_calls;

@@ -1,100 +1,35 @@
 //! The turn of a party that follows a script or a strategy: it looks at each of its ledgers, and
 //! then makes the call that answers what it was shown.
 
-ghost use Rattle.std.specs.Prelude.{◌≡◌, ◌≢◌, ◌<◌, ◌+◌, true, None, OnOk, OnErr, IfOk, IsTrue, All, length};
-ghost use Rattle.ledger_core.specs.History.{fit};
+ghost use Rattle.std.specs.Prelude.{◌≡◌, ◌<◌, ◌+◌, true, OnOk, IfOk, All, length};
 ghost use Rattle.swap_job.specs.Fitting.{IsPartyMove};
 ghost use Rattle.swap_job.specs.Roles.{IsHeld, job_role};
 ghost use Rattle.deviators.specs.View.{IsView, MayAnswer};
 ghost use Rattle.swap_run.specs.Shown.{IsShown};
-ghost use Rattle.swap_run.specs.Run.{is_planned, plan_with_ledger};
-ghost use Rattle.party_threads.specs.Later.{IsLater, Advanced, HaveAdvanced};
-ghost use Rattle.party_threads.specs.Tracks.{IsWatcherPass, Tracks, HaveSeenAll, HasItsPasses, HasLooked, HasMade, IsWatcherPlace, LookedIf, MadeIf};
-ghost use Rattle.party_threads.specs.Played.{party_planner, HaveFresh, HaveGrown, IsAnswered, HasMadeCall, HasPlayed};
+ghost use Rattle.swap_run.specs.Run.{is_planned};
+ghost use Rattle.party_threads.specs.Later.{HaveAdvanced};
+ghost use Rattle.party_threads.specs.Tracks.{IsWatching};
+ghost use Rattle.party_threads.specs.Played.{party_planner, plan_rest, IsAnswered, HasDone};
+ghost use Rattle.party_threads.specs.Took.{IsPlannerSeated, HasPlanned};
 
+use crate::side::Side;
+use crate::watching::{Learner, look_round, submit};
 use deviators::Strategies;
-use ledger_core::Call;
-use ledger_shared::{Pass, SharedLedger};
+use ledger_core::{Call, EntryList};
+use ledger_shared::Pass;
 use std::sync::Wait;
 use swap_base::{ArcId, NoMemory, PartyId};
-use swap_digraph::Deal;
 use swap_job::{Job, Role};
 use swap_run::Planner;
 
-/// Looks at the ledger of an arc, and lets the party know what is fresh.
-fn look<R: Wait>(
-    rt: &R,
-    ledger: &SharedLedger,
-    deal: &Deal,
-    me: PartyId,
-    arc: ArcId,
-    planner: &mut Planner,
-    pass: &mut Pass,
-) -> Result<(), NoMemory>
-    requires arc { arc < length planner.old.known }
-    requires pass { IsWatcherPass (party_planner deal.now me planner.old) ledger.now.lock arc pass.old }
-    ensures later { IsLater pass.old pass.new }
-    ensures looked { OnOk result (HasLooked (party_planner deal.now me planner.old) (plan_with_ledger planner.old arc) arc pass.old planner.new pass.new) }
-    ensures err { OnErr result (planner.new ≡ planner.old) }
-{
-    let fresh = ledger.look(rt, pass)?;
-    planner.learn(arc, fresh)
-}
+impl Learner for Planner {
+    ghost watcher = { λ s n. party_planner s.job.now.deal s.me n };
 
-/// The same where there is a pass.
-fn look_if<R: Wait>(
-    rt: &R,
-    ledger: &SharedLedger,
-    deal: &Deal,
-    me: PartyId,
-    arc: ArcId,
-    planner: &mut Planner,
-    place: &mut Option<Pass>,
-) -> Result<(), NoMemory>
-    requires arc { arc < length planner.old.known }
-    requires pass { IsWatcherPlace (party_planner deal.now me planner.old) ledger.now.lock arc place.old }
-    ensures later { Advanced place.old place.new }
-    ensures looked { OnOk result (LookedIf (party_planner deal.now me planner.old) (plan_with_ledger planner.old arc) arc planner.old place.old planner.new place.new) }
-    ensures err { OnErr result (planner.new ≡ planner.old) }
-{
-    match place {
-        Some(pass) => look(rt, ledger, deal, me, arc, planner, pass),
-        None => Ok(()),
-    }
-}
+    ghost rest = { plan_rest };
 
-/// Looks at each ledger in arc order.
-fn look_round<R: Wait>(
-    rt: &R,
-    ledgers: &[SharedLedger],
-    deal: &Deal,
-    me: PartyId,
-    planner: &mut Planner,
-    passes: &mut [Option<Pass>],
-) -> Result<(), NoMemory>
-    requires view { IsView deal.now me planner.old.known }
-    requires tracks { Tracks ledgers.now (party_planner deal.now me planner.old) passes.old }
-    requires passes { HasItsPasses deal.now me passes.old }
-    ensures gone_on { HaveAdvanced passes.old passes.new }
-    ensures tracks { OnOk result (Tracks ledgers.now (party_planner deal.now me planner.new) passes.new) }
-    ensures view { OnOk result (IsView deal.now me planner.new.known) }
-    ensures whole { OnOk result (HaveSeenAll passes.new) }
-    ensures fresh { OnOk result (HaveFresh me planner.old.known planner.new.known) }
-    ensures moves { planner.new.moves ≡ planner.old.moves }
-    ensures turns { planner.new.turns ≡ planner.old.turns }
-{
-    'arcs: for arc in 0..passes.len() {
-        look_if(
-            rt,
-            &ledgers[arc],
-            deal,
-            me,
-            arc as ArcId,
-            planner,
-            &mut passes[arc],
-        )?;
+    fn learn(&mut self, arc: ArcId, entries: EntryList) -> Result<(), NoMemory> {
+        Planner::learn(self, arc, entries)
     }
-    Ok(())
 }
 
 /// The call that answers what the party knows, if any. The party has acted once more.
@@ -122,117 +57,42 @@ fn answer<A: Strategies>(
     }
 }
 
-/// Makes a call on the ledger of an arc, and lets the party know what is fresh.
-fn call<R: Wait>(
-    rt: &R,
-    ledger: &SharedLedger,
-    deal: &Deal,
-    me: PartyId,
-    arc: ArcId,
-    planner: &mut Planner,
-    pass: &mut Pass,
-    made: Call,
-) -> Result<(), NoMemory>
-    requires arc { arc < length planner.old.known }
-    requires fits { IsTrue (fit deal.now arc made) }
-    requires pass { IsWatcherPass (party_planner deal.now me planner.old) ledger.now.lock arc pass.old }
-    ensures later { IsLater pass.old pass.new }
-    ensures made { OnOk result (HasMade (party_planner deal.now me planner.old) (plan_with_ledger planner.old arc) arc made pass.old planner.new pass.new) }
-    ensures err { OnErr result (planner.new ≡ planner.old) }
-{
-    match ledger.call(rt, pass, made) {
-        Ok(called) => planner.learn(arc, called.fresh),
-        Err(_) => Err(NoMemory),
-    }
-}
-
-/// The same through the pass at a place that has one.
-fn submit_call<R: Wait>(
-    rt: &R,
-    ledger: &SharedLedger,
-    deal: &Deal,
-    me: PartyId,
-    arc: ArcId,
-    planner: &mut Planner,
-    place: &mut Option<Pass>,
-    made: Call,
-) -> Result<(), NoMemory>
-    requires arc { arc < length planner.old.known }
-    requires fits { IsTrue (fit deal.now arc made) }
-    requires pass { IsWatcherPlace (party_planner deal.now me planner.old) ledger.now.lock arc place.old }
-    requires there { place.old ≢ None }
-    ensures later { Advanced place.old place.new }
-    ensures made { OnOk result (MadeIf (party_planner deal.now me planner.old) (plan_with_ledger planner.old arc) arc made place.old planner.new place.new) }
-    ensures err { OnErr result (planner.new ≡ planner.old) }
-{
-    match place {
-        Some(pass) => call(rt, ledger, deal, me, arc, planner, pass, made),
-        None => unreachable!(),
-    }
-}
-
 /// Makes the call of an answer, if any.
 fn make<R: Wait>(
     rt: &R,
-    ledgers: &[SharedLedger],
-    deal: &Deal,
-    me: PartyId,
+    side: &Side<'_>,
     planner: &mut Planner,
     passes: &mut [Option<Pass>],
     answer: Option<(ArcId, Call)>,
 ) -> Result<(), NoMemory>
-    requires may { MayAnswer deal.now me answer }
-    requires view { IsView deal.now me planner.old.known }
-    requires tracks { Tracks ledgers.now (party_planner deal.now me planner.old) passes.old }
-    requires passes { HasItsPasses deal.now me passes.old }
+    requires may { MayAnswer side.now.job.now.deal side.now.me answer }
+    requires view { IsView side.now.job.now.deal side.now.me planner.old.known }
+    requires watching { IsWatching side.now.ledgers.now (party_planner side.now.job.now.deal side.now.me planner.old) passes.old }
     ensures gone_on { HaveAdvanced passes.old passes.new }
-    ensures tracks { OnOk result (Tracks ledgers.now (party_planner deal.now me planner.new) passes.new) }
-    ensures view { OnOk result (IsView deal.now me planner.new.known) }
-    ensures grown { OnOk result (HaveGrown planner.old.known planner.new.known) }
-    ensures called { OnOk result (HasMadeCall deal.now me answer planner.old.known planner.new.known) }
+    ensures watching { OnOk result (IsWatching side.now.ledgers.now (party_planner side.now.job.now.deal side.now.me planner.new) passes.new) }
+    ensures done { OnOk result (HasDone side.now.job.now.deal side.now.me answer planner.old.known planner.new.known) }
     ensures moves { planner.new.moves ≡ planner.old.moves }
     ensures turns { planner.new.turns ≡ planner.old.turns }
 {
     match answer {
         None => Ok(()),
-        Some((arc, made)) => {
-            let place = arc as usize;
-            submit_call(
-                rt,
-                &ledgers[place],
-                deal,
-                me,
-                arc,
-                planner,
-                &mut passes[place],
-                made,
-            )
-        }
+        Some(due) => submit(rt, side, planner, passes, due, 0),
     }
 }
 
 /// The turn of a party that follows a script or a strategy.
-pub fn take_planner_turn<R: Wait, A: Strategies>(
+pub(crate) fn take_planner_turn<R: Wait, A: Strategies>(
     rt: &R,
-    ledgers: &[SharedLedger],
+    side: &Side<'_>,
     staff: &A,
-    job: &Job,
-    me: PartyId,
     planner: &mut Planner,
     passes: &mut [Option<Pass>],
 ) -> Result<(), NoMemory>
-    requires role { me < length job.now.roles }
-    requires planned { is_planned (job_role job.now me) ≡ true }
-    requires held { IsHeld (A.holds staff.now) (job_role job.now me) }
-    requires shown { IsShown job.now.deal job.now.seeds me planner.old }
-    requires tracks { Tracks ledgers.now (party_planner job.now.deal me planner.old) passes.old }
-    requires passes { HasItsPasses job.now.deal me passes.old }
+    requires seated { IsPlannerSeated (A.holds staff.now) side.now.job.now side.now.ledgers.now side.now.me planner.old passes.old }
     ensures gone_on { HaveAdvanced passes.old passes.new }
-    ensures tracks { OnOk result (Tracks ledgers.now (party_planner job.now.deal me planner.new) passes.new) }
-    ensures shown { OnOk result (IsShown job.now.deal job.now.seeds me planner.new) }
-    ensures played { OnOk result (HasPlayed (A.gives staff.now) job.now.deal job.now.seeds (job_role job.now me) me passes.old planner.old planner.new) }
+    ensures planned { OnOk result (HasPlanned (A.gives staff.now) side.now.job.now side.now.me planner.old passes.old planner.new passes.new) }
 {
-    look_round(rt, ledgers, &job.deal, me, planner, passes)?;
-    let call = answer(staff, job, me, planner)?;
-    make(rt, ledgers, &job.deal, me, planner, passes, call)
+    look_round(rt, side, planner, passes)?;
+    let call = answer(staff, side.job, side.me, planner)?;
+    make(rt, side, planner, passes, call)
 }

@@ -16,88 +16,85 @@ use crate::handing::{close, hand_out};
 use crate::home::Home;
 use crate::machine_turn::take_machine_turn;
 use crate::planner_turn::take_planner_turn;
+use crate::setting::Setting;
+use crate::side::Side;
 use crate::turn::{Actor, Turn};
 use deviators::Strategies;
 use ledger_shared::SharedLedger;
-use std::alloc::Global;
 use std::sync::Wait;
 use std::thread;
 use std::thread::Threads;
 use swap_base::{NoMemory, PartyId};
-use swap_job::Job;
 
-/// What the actor with the number v does in its turn.
+/// What the actor of a side does in its turn.
 fn play<R: Wait, A: Strategies>(
     rt: &R,
-    job: &Job,
+    side: &Side<'_>,
     staff: &A,
-    ledgers: &[SharedLedger],
     ticks: u32,
-    v: PartyId,
     turn: &mut Turn,
 ) -> Result<(), NoMemory>
     requires some { 1 ≤ ticks }
     requires below { ticks ≤ 1000 }
-    requires seated { IsSeated (A.holds staff.now) job.now ledgers.now ticks v turn.old }
+    requires seated { IsSeated (A.holds staff.now) side.now.job.now side.now.ledgers.now ticks side.now.me turn.old }
     ensures actor { IsSameActor turn.old.actor turn.new.actor }
     ensures passes { HaveAdvanced turn.old.passes.items turn.new.passes.items }
     ensures clocks { HaveClocksAdvanced turn.old.clocks.items turn.new.clocks.items }
     ensures places { length turn.new.passes.items ≡ length turn.old.passes.items }
     ensures clock_places { length turn.new.clocks.items ≡ length turn.old.clocks.items }
-    ensures did { OnOk result (DidInTurn (A.gives staff.now) job.now ticks v turn.old turn.new) }
+    ensures did { OnOk result (DidInTurn (A.gives staff.now) side.now.job.now ticks side.now.me turn.old turn.new) }
 {
     match &mut turn.actor {
         Actor::Conforming(machine) => {
-            take_machine_turn(rt, ledgers, machine, turn.passes.as_mut_slice())
+            take_machine_turn(rt, side, machine, turn.passes.as_mut_slice())
         }
         Actor::Planned(planner) => {
-            let passes = turn.passes.as_mut_slice();
-            take_planner_turn(rt, ledgers, staff, job, v, planner, passes)
+            take_planner_turn(rt, side, staff, planner, turn.passes.as_mut_slice())
         }
         Actor::Manual => Ok(()),
-        Actor::Clock => take_clock_turn(rt, ledgers, turn.clocks.as_mut_slice(), ticks),
+        Actor::Clock => take_clock_turn(rt, side.ledgers, turn.clocks.as_mut_slice(), ticks),
     }
 }
 
 fn take_turn<R: Wait, A: Strategies>(
     rt: &R,
-    job: &Job,
+    side: &Side<'_>,
     staff: &A,
-    ledgers: &[SharedLedger],
     ticks: u32,
-    v: PartyId,
     turn: &mut Turn,
 )
     requires some { 1 ≤ ticks }
     requires below { ticks ≤ 1000 }
-    requires seated { IsSeated (A.holds staff.now) job.now ledgers.now ticks v turn.old }
-    ensures { Took (A.gives staff.now) job.now ticks v turn.old turn.new }
+    requires seated { IsSeated (A.holds staff.now) side.now.job.now side.now.ledgers.now ticks side.now.me turn.old }
+    ensures { Took (A.gives staff.now) side.now.job.now ticks side.now.me turn.old turn.new }
 {
-    turn.failed = play(rt, job, staff, ledgers, ticks, v, turn).is_err();
+    turn.failed = play(rt, side, staff, ticks, turn).is_err();
 }
 
 /// Every actor's turn, on at most so many threads: each takes some that follow one another. One is
 /// this thread.
 fn take_turns<R: Threads + Wait + Sync, A: Strategies + Sync, G: Gate>(
     rt: &R,
-    job: &Job,
-    staff: &A,
-    gate: &G,
+    setting: &Setting<'_, A, G>,
     round: u32,
     ledgers: &[SharedLedger],
-    ticks: u32,
     threads: usize,
     turns: &mut [Turn],
 )
     requires threads { 0 < threads }
     requires few { length turns.old ≤ 256 }
-    requires some { 1 ≤ ticks }
-    requires below { ticks ≤ 1000 }
-    requires seated { (i : ℕ) (t : Turn) → i < length turns.old → IsSeated (A.holds staff.now) job.now ledgers.now ticks i (slice_index_or turns.old i t) }
+    requires some { 1 ≤ setting.now.ticks }
+    requires below { setting.now.ticks ≤ 1000 }
+    requires seated { (i : ℕ) (t : Turn) → i < length turns.old
+        → IsSeated (A.holds setting.now.staff.now) setting.now.job.now ledgers.now setting.now.ticks i (slice_index_or turns.old i t) }
     ensures took { (i : ℕ) (t : Turn) → i < length turns.old
-        → Took (A.gives staff.now) job.now ticks i (slice_index_or turns.old i t) (slice_index_or turns.new i t) }
+        → Took (A.gives setting.now.staff.now) setting.now.job.now setting.now.ticks i (slice_index_or turns.old i t) (slice_index_or turns.new i t) }
     ensures number { length turns.new ≡ length turns.old }
 {
+    let job = setting.job;
+    let staff = setting.staff;
+    let gate = setting.gate;
+    let ticks = setting.ticks;
     thread::for_each_mut(
         rt,
         turns,
@@ -107,7 +104,12 @@ fn take_turns<R: Threads + Wait + Sync, A: Strategies + Sync, G: Gate>(
             ensures { Took (A.gives staff.entry.now) job.entry.now ticks i turn.entry.now turn.exit.now }
         {
             gate.pass(rt, i as PartyId, round);
-            take_turn(rt, job, staff, ledgers, ticks, i as PartyId, turn)
+            let side = Side {
+                ledgers,
+                job,
+                me: i as PartyId,
+            };
+            take_turn(rt, &side, staff, ticks, turn)
         },
     );
 }
@@ -123,39 +125,26 @@ fn all_done(turns: &[Turn]) -> bool
 /// is closed.
 pub(crate) fn round<R: Threads + Wait + Sync, A: Strategies + Sync, G: Gate>(
     rt: &R,
-    alloc: Global,
-    job: &Job,
-    staff: &A,
-    gate: &G,
+    setting: &Setting<'_, A, G>,
     number: u32,
-    ticks: u32,
     threads: usize,
     ledgers: &mut [Option<Home>],
     turns: &mut [Turn],
 ) -> Result<(), NoMemory>
     requires threads { 0 < threads }
-    requires some { 1 ≤ ticks }
-    requires below { ticks ≤ 1000 }
-    requires stands { Stands job.now ledgers.old turns.old }
-    requires held { AreHeld (A.holds staff.now) job.now.roles }
-    requires room { AllHaveRoom ticks job.now.deal (race_book ledgers.old) }
-    ensures stands { OnOk result (Stands job.now ledgers.new turns.new) }
-    ensures round { OnOk result (IsRound (A.gives staff.now) (job_cast job.now) ticks (race_state job.now ledgers.old turns.old)
-        (race_state job.now ledgers.new turns.new)) }
+    requires some { 1 ≤ setting.now.ticks }
+    requires below { setting.now.ticks ≤ 1000 }
+    requires stands { Stands setting.now.job.now ledgers.old turns.old }
+    requires held { AreHeld (A.holds setting.now.staff.now) setting.now.job.now.roles }
+    requires room { AllHaveRoom setting.now.ticks setting.now.job.now.deal (race_book ledgers.old) }
+    ensures stands { OnOk result (Stands setting.now.job.now ledgers.new turns.new) }
+    ensures round { OnOk result (IsRound (A.gives setting.now.staff.now) (job_cast setting.now.job.now) setting.now.ticks
+        (race_state setting.now.job.now ledgers.old turns.old) (race_state setting.now.job.now ledgers.new turns.new)) }
 {
-    let shared = hand_out(rt, alloc, &job.deal, ledgers, turns)?;
-    take_turns(
-        rt,
-        job,
-        staff,
-        gate,
-        number,
-        shared.as_slice(),
-        ticks,
-        threads,
-        turns,
-    );
+    let deal = &setting.job.deal;
+    let shared = hand_out(rt, setting.alloc, deal, ledgers, turns)?;
+    take_turns(rt, setting, number, shared.as_slice(), threads, turns);
     let done = all_done(turns);
-    close(&job.deal, shared, ledgers, turns);
+    close(deal, shared, ledgers, turns);
     if done { Ok(()) } else { Err(NoMemory) }
 }

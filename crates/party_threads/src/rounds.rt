@@ -15,6 +15,7 @@ use crate::first_turns::new_turns;
 use crate::gate::Gate;
 use crate::home::Home;
 use crate::round::round;
+use crate::setting::Setting;
 use crate::turn::Turn;
 use deviators::Strategies;
 use ledger_core::{Book, EntryList, Ledger, share_deal};
@@ -108,29 +109,24 @@ fn thread_count(calls: usize) -> usize
 /// Rounds until each ledger is above the horizon.
 fn run_rounds<R: Threads + Wait + Sync, A: Strategies + Sync, G: Gate>(
     rt: &R,
-    alloc: Global,
-    job: &Job,
-    staff: &A,
-    gate: &G,
-    ticks: u32,
+    setting: &Setting<'_, A, G>,
     ledgers: &mut [Option<Home>],
     turns: &mut [Turn],
 ) -> Result<(), NoMemory>
-    requires some { 1 ≤ ticks }
-    requires below { ticks ≤ 1000 }
-    requires stands { Stands job.now ledgers.old turns.old }
-    requires held { AreHeld (A.holds staff.now) job.now.roles }
-    requires first { race_state job.now ledgers.old turns.old ≡ start (job_cast job.now) }
-    ensures raced { OnOk result (IsRaced (A.gives staff.now) (job_cast job.now) ticks (needed_rounds job.now.deal ticks) (race_state job.now ledgers.new turns.new)) }
+    requires some { 1 ≤ setting.now.ticks }
+    requires below { setting.now.ticks ≤ 1000 }
+    requires stands { Stands setting.now.job.now ledgers.old turns.old }
+    requires held { AreHeld (A.holds setting.now.staff.now) setting.now.job.now.roles }
+    requires first { race_state setting.now.job.now ledgers.old turns.old ≡ start (job_cast setting.now.job.now) }
+    ensures raced { OnOk result (IsRaced (A.gives setting.now.staff.now) (job_cast setting.now.job.now) setting.now.ticks
+        (needed_rounds setting.now.job.now.deal setting.now.ticks) (race_state setting.now.job.now ledgers.new turns.new)) }
 {
     // In the first round everybody may have something to do.
     let mut calls = usize::MAX;
-    'rounds: for number in 0..needed_rounds(&job.deal, ticks) {
+    'rounds: for number in 0..needed_rounds(&setting.job.deal, setting.ticks) {
         let threads = thread_count(calls);
         let before = all_entries(ledgers).saturating_add(ledgers.len());
-        round(
-            rt, alloc, job, staff, gate, number, ticks, threads, ledgers, turns,
-        )?;
+        round(rt, setting, number, threads, ledgers, turns)?;
         calls = all_entries(ledgers).saturating_sub(before);
     }
     Ok(())
@@ -160,16 +156,14 @@ pub fn race_fitting<R: Threads + Wait + Sync, A: Strategies + Sync, G: Gate>(
 {
     let mut turns = new_turns(alloc, job, wallets)?;
     let mut ledgers = make_ledgers(alloc, &job.deal)?;
-    run_rounds(
-        rt,
+    let setting = Setting {
         alloc,
         job,
         staff,
         gate,
         ticks,
-        ledgers.as_mut_slice(),
-        turns.as_mut_slice(),
-    )?;
+    };
+    run_rounds(rt, &setting, ledgers.as_mut_slice(), turns.as_mut_slice())?;
     let book = collected_book(alloc, ledgers)?;
     visit_book(&book);
     Ok(book)

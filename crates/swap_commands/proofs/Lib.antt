@@ -1,3 +1,4 @@
+pub mod Walks
 pub mod Recorded
 pub mod Replays
 pub mod Reports

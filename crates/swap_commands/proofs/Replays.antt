@@ -1,7 +1,7 @@
 -- A replay steps a world line by line.
 use Rattle.std.proofs.Common.{◌≡◌, ◌<◌, ℕ, ◌+◌, List, [], ◌∷◌, length, get_or, map, Result, Ok, Err, Option, None, Bool, false, refl, sym, ap, ap₂}
 use Rattle.std.proofs.Common.{◌∙◌, subst, fold}
-use Rattle.std.specs.List.{All}
+use Rattle.std.specs.List.{All, FoldsTo}
 use Rattle.std.proofs.lemmas.List.{get_or-map, length-map}
 use Rattle.ledger_core.specs.declared.entry.Call.{Call}
 use Rattle.std.specs.Prelude.{IfOk}
@@ -24,7 +24,7 @@ use Rattle.swap_world.specs.Actors.{AllFit, AreHeld}
 use Rattle.offer_header.specs.Limits.{HoldsEach}
 use Rattle.swap_job.specs.declared.job.Role.TheVariants as kinds
 use Rattle.swap_job.specs.declared.job.Finish.TheVariants.{Stop}
-use Rattle.swap_world.proofs.Gone.{continues_less, more_asked, stays}
+use Rattle.swap_world.proofs.Gone.{begun, continues_less, gone_then, more_asked, stays}
 use Rattle.swap_world.proofs.Team.{all_fit}
 use Rattle.swap_world.specs.Gone.{Answered, MayGive, HasAsked, HasGone, MayBeGiven}
 use Rattle.swap_world.specs.Value.{WorldState, world_answers, world_cast, answering_cast, Continues, new_world}
@@ -37,22 +37,37 @@ use Rattle.made_jobs.proofs.Copying.{made_is}
 use Rattle.swap_commands.specs.Output.{AreGiven, Chance, command_cast, command_purpose, finished, collected_book, reported, told, output_given_chance}
 use Rattle.swap_commands.specs.Output.{job_output, plain_text}
 use Rattle.swap_commands.specs.Recorded.{AreRecorded}
-use Rattle.swap_commands.specs.Replay.{replayed, replayed_line, skipped_event, IsConcluded, of_run, of_race, of_check, of_lines, of_make}
+use Rattle.swap_commands.specs.Walk.{lines_told}
+use Rattle.swap_commands.specs.Replay.{replayed, skipped_event, IsConcluded, of_run, of_race, of_check, of_lines, of_make}
 
-regroup : {A : Type 0} (f : A → Event → A) (x : A) (next : Result Event Reason) (rest : Result (List Event) Reason) →
-    (next >>= λ e. rest >>= λ es. Ok (e ∷ es)) >>= (λ events. Ok (fold f x events)) ≡ (next >>= λ e. Ok (f x e)) >>= λ y. rest >>= λ es. Ok (fold f y es)
-regroup f x (Ok e) (Ok es) = refl
-regroup f x (Ok e) (Err r) = refl
-regroup f x (Err r) rest = refl
+-- Events as a walk along their lines tells them.
 
-pub step_of : {A : Type 0} (f : A → Event → A) (job : Job) (n : ℕ) (x : A) (line : ℕ) (text : List ℕ) (rest : List (ℕ × List ℕ))
-    → replayed f job n x ((line, text) ∷ rest) ≡ replayed_line f job n x line text >>= λ y. replayed f job (n + 1) y rest
-unfolding replayed replayed_line parse_events
-step_of f job n x line text rest = regroup f x (limited_event job n line text) (parse_events job (n + 1) rest)
+told_events : (job : Job) (n : ℕ) (ls : List (ℕ × List ℕ)) → parse_events job n ls ≡ lines_told (limited_event job) n ls
+unfolding parse_events lines_told
+told_events job n [] = refl
+told_events job n (l ∷ ls) =
+    ap (λ (r : Result (List Event) Reason). limited_event job n l.0 l.1 >>= λ e. r >>= λ es. let t : Result (List Event) Reason = Ok (e ∷ es) in t)
+    (told_events job (n + 1) ls)
 
-pub none_left : {A : Type 0} (f : A → Event → A) (job : Job) (n : ℕ) (x : A) → replayed f job n x [] ≡ Ok x
-unfolding replayed parse_events
-none_left f job n x = refl
+pub replayed_told : {A : Type 0} (f : A → Event → A) (job : Job) (x : A) (ls : List (ℕ × List ℕ)) (events : List Event)
+    → lines_told (limited_event job) 0 ls ≡ Ok events → replayed f job 0 x ls ≡ Ok (fold f x events)
+unfolding replayed
+replayed_told {A} f job x ls events e =
+    ap (λ (r : Result (List Event) Reason). r >>= λ es. let t : Result A Reason = Ok (fold f x es) in t) (told_events job 0 ls ∙ e)
+
+pub replayed_refused : {A : Type 0} (f : A → Event → A) (job : Job) (x : A) (ls : List (ℕ × List ℕ)) (reason : Reason)
+    → lines_told (limited_event job) 0 ls ≡ Err reason → replayed f job 0 x ls ≡ Err reason
+unfolding replayed
+replayed_refused {A} f job x ls reason e =
+    ap (λ (r : Result (List Event) Reason). r >>= λ es. let t : Result A Reason = Ok (fold f x es) in t) (told_events job 0 ls ∙ e)
+
+skipped : (events : List Event) → fold skipped_event tt events ≡ tt
+skipped [] = refl
+skipped (e ∷ es) = skipped es
+
+pub skipped_told : (job : Job) (ls : List (ℕ × List ℕ)) (events : List Event) → lines_told (limited_event job) 0 ls ≡ Ok events
+    → replayed skipped_event job 0 tt ls ≡ Ok tt
+skipped_told job ls events e = replayed_told skipped_event job tt ls events e ∙ ap (λ (u : Unit {0}). Ok u) (skipped events)
 
 -- The lines of an input.
 
@@ -185,14 +200,6 @@ module _ (gives : MayGive) (job : Job) (w new : WorldState) (k : IsJobWorld job 
   for_job : (a : Answers) → answering_cast w a ≡ command_cast a job
   for_job a = ap (λ (c : Cast). with_answers c a) (same_cast job w k)
 
-  -- after the event of a line
-  pub stepped : (e : Event) (count line : ℕ) (text : List ℕ) → limited_event job count line text ≡ Ok e → HasGone gives (λ c s. step c s e) w new
-      → (a : Answers) → Continues new a → replayed_line (step (command_cast a job)) job count w.state line text ≡ Ok new.state
-  unfolding replayed_line
-  stepped e count line text n h a x =
-      ap (λ (r : Result Event Reason). r >>= λ f. Ok (step (command_cast a job) w.state f)) n
-      ∙ ap (λ (s : State). Ok s) (ap (λ (c : Cast). step c w.state e) (sym (for_job a)) ∙ sym (h.state a x))
-
   -- after the job's finish
   pub concluded : (b : Histories) → b ≡ new.state.book → HasAsked gives (new_world job) w → HasGone gives (finished job.finish) w new
       → AreRecorded (world_cast new) new.state → IsConcluded gives job w b
@@ -217,6 +224,29 @@ module _ (gives : MayGive) (job : Job) (w new : WorldState) (k : IsJobWorld job 
       → HasGone gives (finished job.finish) w new → AreRecorded (world_cast new) new.state → IfOk r (λ b. IsConcluded gives job w b.histories)
   concluded_book (Ok b) is asked h kept = concluded b.histories is asked h kept
   concluded_book (Err e) is asked h kept = tt
+
+-- A world that has stepped by events.
+
+abbrev pub StepsBy : MayGive → WorldState → Event → WorldState → Type 0
+StepsBy gives w e v = HasGone gives (λ c s. step c s e) w v
+
+has_stepped : (gives : MayGive) (w v : WorldState) (events : List Event) → FoldsTo (StepsBy gives) w events v
+    → HasGone gives (λ c s. fold (step c) s events) w v
+has_stepped gives w v [] p = subst (λ (x : WorldState). HasGone gives (λ c s. s) w x) p (begun gives w)
+has_stepped gives w v (e ∷ es) p = gone_then gives (λ c s. step c s e) (λ c s. fold (step c) s es) w p.0 v p.1 (has_stepped gives p.0 v es p.2)
+
+module _ (gives : MayGive) (job : Job) (new w : WorldState) (is : new ≡ new_world job) (events : List Event) (way : FoldsTo (StepsBy gives) new events w) where
+  pub has_asked : HasAsked gives (new_world job) w
+  has_asked = subst (λ (x : WorldState). HasAsked gives x w) is (has_stepped gives new w events way).asked
+
+  -- the state is the one to which the events of the lines lead
+  pub leads_to : (a : Answers) → Continues w a → (ls : List (ℕ × List ℕ)) → lines_told (limited_event job) 0 ls ≡ Ok events
+      → replayed (step (command_cast a job)) job 0 (start (job_cast job)) ls ≡ Ok w.state
+  leads_to a x ls e =
+      let state : w.state ≡ fold (step (command_cast a job)) (start (job_cast job)) events =
+      (has_stepped gives new w events way).state a x
+      ∙ ap₂ (λ (c : Cast) (s : State). fold (step c) s events) (for_job gives job new new (is_of_new job new is) a) (ap (λ (x : WorldState). x.state) is) in
+      replayed_told (step (command_cast a job)) job (start (job_cast job)) ls events e ∙ ap (λ (s : State). Ok s) (sym state)
 
 pub kept_book : {E : Type 0} (job : Job) (w : WorldState) → IsJobWorld job w → (r : Result Book E) → IfOk r (λ b. b.histories ≡ w.state.book)
     → IsKept (world_cast w) w.state.book → IfOk r (λ b. IsKept (job_cast job) b.histories)

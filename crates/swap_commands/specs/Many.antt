@@ -1,6 +1,6 @@
 -- What is written of several swaps on shared chains, or the first reason why their input is
 -- refused.
-use Rattle.std.specs.Prelude.{ℕ, ◌+◌, List, [], ◌∷◌, is_some, slice_index_or, Option, Some, None, Result, Ok, Err, Bool, if◌then◌else◌}
+use Rattle.std.specs.Prelude.{ℕ, List, [], ◌∷◌, is_some, slice_index_or, Option, Some, None, Result, Ok, Err, Bool, if◌then◌else◌}
 use Rattle.swap_base.specs.Fault.{◌>>=◌}
 use Rattle.swap_job.specs.declared.job.Finish.{Finish}
 use Rattle.swap_job.specs.declared.job.Finish.TheVariants.{Stop, Fair}
@@ -23,6 +23,7 @@ use Rattle.many_lines.specs.Setup.{setup_with_answers}
 use Rattle.many_lines.specs.declared.many_job.ManyJob.{ManyJob}
 use Rattle.many_text.specs.ManyText.{has_finding, many_text}
 use Rattle.command_input.specs.Written.{Written}
+use Rattle.swap_commands.specs.Walk.{lines_told}
 
 -- Several swaps, what is done after the last event, and the lines of the events.
 pub record Headed : Type 0 where
@@ -44,9 +45,8 @@ abbrev pub headed : (List ℕ → Bool) → List (ℕ × List ℕ) → Result He
 headed has ls = headed_lines has unread ls
 
 -- the events of lines, where so many came before
-unfoldable pub events_told : ManyJob → ℕ → List (ℕ × List ℕ) → Result (List ManyEvent) Refusal
-events_told many count [] = Ok []
-events_told many count (l ∷ ls) = next_told many count l.0 l.1 >>= λ event. events_told many (count + 1) ls >>= λ events. Ok (event ∷ events)
+abbrev pub events_told : ManyJob → ℕ → List (ℕ × List ℕ) → Result (List ManyEvent) Refusal
+events_told many = lines_told (next_told many)
 
 -- the name of an account of a chain
 abbrev pub account_name : ManyJob → ℕ → ℕ → List ℕ

@@ -13,16 +13,16 @@ use Rattle.swap_world.specs.Value.{new_world}
 use Rattle.swap_many.specs.Kept.{kept_step}
 use Rattle.swap_many.specs.Laws.{IsReady}
 use Rattle.swap_many.specs.Opening.{AreOpenable, new_many}
-use Rattle.swap_many.specs.Value.{HasManyGone, ManyState, made_setup}
+use Rattle.swap_many.specs.Value.{AreAllHeld, HasManyGone, ManyState, made_setup}
 use Rattle.swap_many.specs.declared.many_event.ManyEvent.{ManyEvent}
 use Rattle.swap_many.specs.declared.overdrawn.Overdrawn.{Overdrawn}
 use Rattle.swap_many.specs.declared.place.Place.{Place}
-use Rattle.many_lines.specs.Event.{next_told}
 use Rattle.many_lines.specs.Heading.{HeadingState}
 use Rattle.many_lines.specs.Setup.{MayCome, setup_with_answers}
+use Rattle.many_lines.specs.Whole.{AreChains, AreSwaps}
 use Rattle.many_lines.specs.declared.many_job.ManyJob.{ManyJob}
 use Rattle.many_lines.specs.declared.stage.Stage.TheVariants.{Over}
-use Rattle.command_input.specs.Input.{At, CanBeLeft, Desk, Ends, Stands, ahead}
+use Rattle.command_input.specs.Input.{CanBeLeft, Desk, Ends, Stands, ahead}
 use Rattle.swap_commands.specs.Many.{events_told, headed, opened_places, overdrawn_refusal}
 
 -- The lines up to that of the finish were read: whatever comes after them are the lines of the
@@ -58,10 +58,16 @@ pub record IsOpened (many : ManyJob) (w : ManyState) : Type 0 where
 abbrev pub AreSwapWorlds : ManyJob → ManyState → Type 0
 AreSwapWorlds many w = (g : ℕ → Answers) → made_setup w g ≡ setup_with_answers g many w.places
 
--- The line told an event, by which the worlds have stepped.
-pub record HasStepped (gives : MayGive) (many : ManyJob) (count line : ℕ) (text : List ℕ) (old new : ManyState) : Type 0 where
-  pub event : ManyEvent
-  pub told : next_told many count line text ≡ Ok event
+-- The worlds are those of the swaps, and can take their next event, where the staff holds these
+-- strategies.
+pub record CanReplayMany (holds : List ℕ → Bool) (many : ManyJob) (w : ManyState) : Type 0 where
+  pub chains : AreChains many
+  pub swaps : AreSwaps many
+  pub are_worlds : AreSwapWorlds many w
+  pub held : AreAllHeld holds w
+
+-- The worlds have stepped by an event that may come.
+pub record HasStepped (gives : MayGive) (many : ManyJob) (old : ManyState) (event : ManyEvent) (new : ManyState) : Type 0 where
   pub gone : HasManyGone gives (λ m z. kept_step m z event) old new
   pub can : MayCome many event
 
@@ -75,10 +81,6 @@ pub record IsReplayed (gives : MayGive) (many : ManyJob) (old new : ManyState) (
   pub told : Ends (λ bytes. events_told many 0 (ahead first.at bytes) ≡ Ok events) first now
   pub gone : HasReplayed gives events old new
   pub can : All (MayCome many) events
-
--- the lines ahead tell events, whatever may still come
-abbrev pub TellEvents : ManyJob → At → List ℕ → Type 0
-TellEvents many first bytes = (events : List ManyEvent) × (events_told many 0 (ahead first bytes) ≡ Ok events)
 
 -- the places of the arcs, once every line told an event
 abbrev pub places_after_events : ManyJob → List (ℕ × List ℕ) → Result (List (List Place)) Refusal

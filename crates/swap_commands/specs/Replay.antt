@@ -1,5 +1,5 @@
 -- A replay: something that steps at each event line.
-use Rattle.std.specs.Prelude.{◌≡◌, ℕ, Bool, List, [], ◌∷◌, fold, Result, Ok, Err}
+use Rattle.std.specs.Prelude.{◌≡◌, ℕ, Bool, true, false, List, [], ◌∷◌, fold, Result, Ok, Err}
 use Rattle.swap_base.specs.Fault.{◌>>=◌}
 use Rattle.swap_job.specs.declared.job.Job.{Job}
 use Rattle.swap_job.specs.declared.event.Event.{Event}
@@ -7,16 +7,19 @@ use Rattle.swap_job.specs.declared.job.Purpose.{Purpose}
 use Rattle.swap_job.specs.declared.job.Purpose.TheVariants as purposes
 use Rattle.refusals.specs.declared.reason.Reason.{Reason}
 use Rattle.refusals.specs.declared.reason.Reason.TheVariants.{NotJson}
-use Rattle.swap_offer.specs.Job.{parse_events, limited_event, parse_header_job}
+use Rattle.offer_events.specs.Event.{needs_seeds}
+use Rattle.swap_offer.specs.Job.{IsWholeJob, parse_events, parse_header_job}
 use Rattle.command_input.specs.Lines.{collect_lines, filled_lines}
 use Rattle.swap_run.specs.Asked.{Answers}
 use Rattle.swap_run.specs.Run.{State, step, start}
 use Rattle.ledger_core.specs.Book.{Histories}
 use Rattle.swap_world.specs.Gone.{MayGive}
+use Rattle.swap_world.specs.Actors.{AreHeld}
 use Rattle.swap_world.specs.Cast.{job_cast}
 use Rattle.swap_world.specs.Value.{Continues, WorldState}
 use Rattle.swap_gen.specs.Made.{made}
 use Rattle.made_jobs.specs.Making.{copied, written_line}
+use Rattle.made_jobs.specs.Generating.{IsJobWorld}
 use Rattle.swap_commands.specs.Output.{AreGiven, Chance, command_cast, finished, plain_text, reported, told}
 use Rattle.swap_commands.specs.Recorded.{AreRecorded}
 use Rattle.command_input.specs.Written.{Written}
@@ -26,9 +29,13 @@ use Rattle.swap_commands.specs.Words.{JobCommand, Check, Run, Race, Make}
 unfoldable pub replayed : {A : Type 0} → (A → Event → A) → Job → ℕ → A → List (ℕ × List ℕ) → Result A Reason
 replayed f job count x lines = parse_events job count lines >>= λ events. Ok (fold f x events)
 
--- what f makes of x by the event of a line
-unfoldable pub replayed_line : {A : Type 0} → (A → Event → A) → Job → ℕ → A → ℕ → List ℕ → Result A Reason
-replayed_line f job count x line text = limited_event job count line text >>= λ e. Ok (f x e)
+-- The world is one of the job, and can take its next event, where the staff holds these strategies.
+pub record CanReplay (holds : List ℕ → Bool) (job : Job) (w : WorldState) : Type 0 where
+  pub whole : IsWholeJob job
+  pub seeds : needs_seeds job.purpose ≡ true
+  pub is_world : IsJobWorld job w
+  pub goes_on : w.stopped ≡ false
+  pub held : AreHeld holds job.roles
 
 -- The world w was finished with these histories, where strategies answered so, with each answer one
 -- that may be given, and the disks have recorded what the conforming parties presented.

@@ -90,8 +90,8 @@ fn tell<K: Sink>(alloc: Global, sink: &mut K, job: &Job, need: u32) -> Status
     }
 }
 
-/// Checks the offer of an input that wasn't read yet.
-fn check_input<S: Source, K: Sink, A: Strategies>(
+/// Checks an offer.
+pub(crate) fn check<S: Source, K: Sink, A: Strategies>(
     alloc: Global,
     staff: &A,
     input: &mut Input,
@@ -107,23 +107,5 @@ fn check_input<S: Source, K: Sink, A: Strategies>(
     match examine(alloc, staff, input, source) {
         Ok((job, need)) => tell(alloc, sink, &job, need),
         Err(fault) => unread(input.stop(source, fault)),
-    }
-}
-
-/// Checks an offer.
-pub(crate) fn check<S: Source, K: Sink, A: Strategies>(
-    alloc: Global,
-    staff: &A,
-    source: &mut S,
-    sink: &mut K,
-) -> Status
-    ensures says { Says (strategies (A.holds staff.now) (A.gives staff.now)) (OfJob Check)
-        (streams (S.left source.old) (S.faults source.old) (K.taken sink.old) (K.faults sink.old))
-        (streams (S.left source.new) (S.faults source.new) (K.taken sink.new) (K.faults sink.new)) result }
-    ensures calm { ¬ (result ≡ Status.ReadFault) → S.faults source.new ≡ S.faults source.old }
-{
-    match Input::new(alloc) {
-        Ok(mut input) => check_input(alloc, staff, &mut input, source, sink),
-        Err(_) => Status::NoMemory,
     }
 }

@@ -80,8 +80,8 @@ fn clear_wishes<S: Source>(
     }
 }
 
-/// Clears the wishes of an input that wasn't read yet.
-fn clear_input<S: Source, K: Sink, A: Strategies>(
+/// Clears wishes, for which no strategy is asked.
+pub(crate) fn clear<S: Source, K: Sink, A: Strategies>(
     alloc: Global,
     _staff: &A,
     input: &mut Input,
@@ -97,23 +97,5 @@ fn clear_input<S: Source, K: Sink, A: Strategies>(
     match clear_wishes(alloc, input, source) {
         Ok(text) => tell(sink, &text),
         Err(fault) => unread(input.stop(source, fault)),
-    }
-}
-
-/// Clears wishes, for which no strategy is asked.
-pub(crate) fn clear<S: Source, K: Sink, A: Strategies>(
-    alloc: Global,
-    _staff: &A,
-    source: &mut S,
-    sink: &mut K,
-) -> Status
-    ensures says { Says (strategies (A.holds _staff.now) (A.gives _staff.now)) Clear
-        (streams (S.left source.old) (S.faults source.old) (K.taken sink.old) (K.faults sink.old))
-        (streams (S.left source.new) (S.faults source.new) (K.taken sink.new) (K.faults sink.new)) result }
-    ensures calm { ¬ (result ≡ Status.ReadFault) → S.faults source.new ≡ S.faults source.old }
-{
-    match Input::new(alloc) {
-        Ok(mut input) => clear_input(alloc, _staff, &mut input, source, sink),
-        Err(_) => Status::NoMemory,
     }
 }

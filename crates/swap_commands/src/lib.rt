@@ -3,11 +3,10 @@
 //! Read `specs/Output.antt` first: what is written for an input (of several swaps,
 //! `specs/Many.antt`); then `specs/Promised.antt`: what is promised of the histories that a report
 //! shows; then `specs/Says.antt`: what each status says of a command. A job is read line by line
-//! (`Input.antt` of `command_input`), and each command has a file of its own, whose function says
-//! `Says`.
+//! (`Input.antt` of `command_input`), its events by one walk (`walk.rt`), and each command but the
+//! audit has a file of its own, whose function says `Says`.
 #![tactic(auto)]
 
-mod audit;
 mod check;
 mod clear;
 mod disks;
@@ -20,6 +19,7 @@ mod orders;
 mod racing;
 mod replay;
 mod run;
+mod walk;
 
 pub use generating::generate;
 pub use orders::obey;

@@ -77,8 +77,8 @@ pub(crate) fn tell<K: Sink>(sink: &mut K, text: &[u8]) -> Status
     }
 }
 
-/// Makes the job of an input that wasn't read yet.
-fn make_input<S: Source, K: Sink, A: Strategies>(
+/// Makes a job.
+pub(crate) fn make<S: Source, K: Sink, A: Strategies>(
     alloc: Global,
     staff: &A,
     input: &mut Input,
@@ -94,23 +94,5 @@ fn make_input<S: Source, K: Sink, A: Strategies>(
     match copy(alloc, staff, input, source) {
         Ok((_, text)) => tell(sink, &text),
         Err(fault) => unread(input.stop(source, fault)),
-    }
-}
-
-/// Makes a job.
-pub(crate) fn make<S: Source, K: Sink, A: Strategies>(
-    alloc: Global,
-    staff: &A,
-    source: &mut S,
-    sink: &mut K,
-) -> Status
-    ensures says { Says (strategies (A.holds staff.now) (A.gives staff.now)) (OfJob Make)
-        (streams (S.left source.old) (S.faults source.old) (K.taken sink.old) (K.faults sink.old))
-        (streams (S.left source.new) (S.faults source.new) (K.taken sink.new) (K.faults sink.new)) result }
-    ensures calm { ¬ (result ≡ Status.ReadFault) → S.faults source.new ≡ S.faults source.old }
-{
-    match Input::new(alloc) {
-        Ok(mut input) => make_input(alloc, staff, &mut input, source, sink),
-        Err(_) => Status::NoMemory,
     }
 }

@@ -10,17 +10,17 @@ ghost use Rattle.many_lines.specs.Heading.{finish_told};
 ghost use Rattle.many_lines.specs.Event.{next_told};
 ghost use Rattle.many_lines.specs.Whole.{AreChains, AreSwaps, HoldsEverySwap};
 ghost use Rattle.many_text.specs.Shown.{AreChainsShown, AreShown};
-ghost use Rattle.command_input.specs.Input.{Ends, Fits, Stops, Tells, ahead, desk, fresh};
+ghost use Rattle.command_input.specs.Input.{Ends, Fits, Stops, ahead, desk, fresh};
 ghost use Rattle.command_input.specs.Written.{Writes};
 ghost use Rattle.command_input.specs.Streams.{streams};
-ghost use Rattle.swap_commands.specs.Many.{kept_after_finish, events_told, headed, many_written, opened_places};
-ghost use Rattle.swap_commands.specs.ManyRead.{AreRun, AreSwapWorlds, HasStepped, IsHeading, IsLack, IsManyPlayed, IsOpened, IsReplayed};
-ghost use Rattle.swap_commands.specs.ManyRead.{TellEvents, places_after_events};
+ghost use Rattle.swap_commands.specs.Many.{kept_after_finish, headed, many_written, opened_places};
+ghost use Rattle.swap_commands.specs.ManyRead.{AreRun, CanReplayMany, HasStepped, IsHeading, IsLack, IsManyPlayed, IsOpened, places_after_events};
 ghost use Rattle.swap_commands.specs.Says.{IsCommandRefusal, Says};
 ghost use Rattle.swap_commands.specs.Words.{Many};
 ghost use Rattle.swap_commands.specs.Strategies.{strategies};
 
 use crate::replay::new_world;
+use crate::walk::{Skip, Walker, walk};
 use command_input::{Input, InputFault, Status, unread};
 use deviators::Strategies;
 use many_lines::{Heading, ManyJob, find_places, next_many};
@@ -31,7 +31,7 @@ use std::alloc::Global;
 use swap_base::{ByteText, Fault, Listed, NoMemory, TryCopy};
 use swap_io::{Sink, Source, TextFault};
 use swap_job::{Finish, Purpose};
-use swap_many::{ManyWorld, Overdrawn};
+use swap_many::{ManyEvent, ManyWorld, Overdrawn};
 use swap_world::World;
 
 /// Several swaps, what is done after their last event, and their worlds after it.
@@ -159,86 +159,52 @@ fn open(
     }
 }
 
-/// Steps the worlds by the event of a line, where so many events came before.
-fn step_line<A: Strategies>(
-    alloc: Global,
-    many: &ManyJob,
-    world: &mut ManyWorld,
-    staff: &A,
-    count: u32,
-    line: u32,
-    text: &[u8],
-) -> Result<(), HeaderFault>
-    requires chains { AreChains many.now }
-    requires swaps { AreSwaps many.now }
-    requires of { AreSwapWorlds many.now world.old }
-    requires held { AreAllHeld (A.holds staff.now) world.old }
-    ensures stepped { OnOk result (HasStepped (A.gives staff.now) many.now count line text.now world.old world.new) }
-    ensures refused { IfErr result (λ e. Fails e (next_told many.now count line text.now)) }
-{
-    let event = next_many(alloc, many, count, line, text)?;
-    world.step(staff, &event)?;
-    Ok(())
+/// The worlds step by the events of the swaps' lines, where the staff answers for strategies.
+impl<'v, A: Strategies> Walker<(&'v ManyJob, &'v A), Refusal> for ManyWorld {
+    type Event = ManyEvent;
+
+    ghost can_take = { λ c w. CanReplayMany (A.holds c.1.now) c.0.now w };
+
+    ghost told = { λ c. next_told c.0.now };
+
+    ghost leads = { λ c. HasStepped (A.gives c.1.now) c.0.now };
+
+    fn take(
+        &mut self,
+        alloc: Global,
+        context: (&'v ManyJob, &'v A),
+        count: u32,
+        line: u32,
+        text: &[u8],
+    ) -> Result<(), HeaderFault> {
+        let (many, staff) = context;
+        let event = next_many(alloc, many, count, line, text)?;
+        self.step(staff, &event)?;
+        Ok(())
+    }
 }
 
-/// Takes the events of the lines ahead.
-fn replay<S: Source, A: Strategies>(
-    alloc: Global,
-    many: &ManyJob,
-    world: &mut ManyWorld,
-    staff: &A,
-    input: &mut Input,
-    source: &mut S,
-) -> Result<(), InputFault<Refusal>>
-    requires chains { AreChains many.now }
-    requires swaps { AreSwaps many.now }
-    requires of { AreSwapWorlds many.now world.old }
-    requires held { AreAllHeld (A.holds staff.now) world.old }
-    requires fits { Fits (S.left source.old) input.old }
-    ensures replayed { OnOk result (IsReplayed (A.gives staff.now) many.now world.old world.new (desk (S.left source.old) (S.faults source.old) input.old)
-        (desk (S.left source.new) (S.faults source.new) input.new)) }
-    ensures stops { IfErr result (λ e. Stops (λ bytes r. events_told many.now 0 (ahead input.old bytes) ≡ Err r)
-        (desk (S.left source.old) (S.faults source.old) input.old)
-        (desk (S.left source.new) (S.faults source.new) input.new) e) }
-{
-    let mut count: u32 = 0;
-    'lines: while input.next(source)? {
-        step_line(
-            alloc,
-            many,
-            world,
-            staff,
-            count,
-            input.number(),
-            input.text(),
-        )?;
-        count += 1;
-    }
-    Ok(())
-}
+/// The events of the swaps' lines are read and passed over.
+impl<'v> Walker<&'v ManyJob, Refusal> for Skip {
+    type Event = ManyEvent;
 
-/// Reads the events of the lines ahead.
-fn skip_events<S: Source>(
-    alloc: Global,
-    many: &ManyJob,
-    input: &mut Input,
-    source: &mut S,
-) -> Result<(), InputFault<Refusal>>
-    requires chains { AreChains many.now }
-    requires swaps { AreSwaps many.now }
-    requires fits { Fits (S.left source.old) input.old }
-    ensures told { OnOk result (Tells (TellEvents many.now input.old) (desk (S.left source.old) (S.faults source.old) input.old)
-        (desk (S.left source.new) (S.faults source.new) input.new)) }
-    ensures stops { IfErr result (λ e. Stops (λ bytes r. events_told many.now 0 (ahead input.old bytes) ≡ Err r)
-        (desk (S.left source.old) (S.faults source.old) input.old)
-        (desk (S.left source.new) (S.faults source.new) input.new) e) }
-{
-    let mut count: u32 = 0;
-    'lines: while input.next(source)? {
-        next_many(alloc, many, count, input.number(), input.text())?;
-        count += 1;
+    ghost can_take = { λ many u. AreChains many.now × AreSwaps many.now };
+
+    ghost told = { λ many. next_told many.now };
+
+    ghost leads = { λ many u e v. Unit };
+
+    fn take(
+        &mut self,
+        alloc: Global,
+        many: &'v ManyJob,
+        count: u32,
+        line: u32,
+        text: &[u8],
+    ) -> Result<(), HeaderFault> {
+        next_many(alloc, many, count, line, text)?;
+        Ok(())
     }
-    Ok(())
 }
 
 /// Reads on to the end of the input and answers why it is refused: by the first faulty line of an
@@ -257,7 +223,7 @@ fn refuse<S: Source>(
     ensures stops { Stops (λ bytes r. places_after_events many.now (ahead input.old bytes) ≡ Err r) (desk (S.left source.old) (S.faults source.old) input.old)
         (desk (S.left source.new) (S.faults source.new) input.new) result }
 {
-    match skip_events(alloc, many, input, source) {
+    match walk(alloc, many, &mut Skip, input, source) {
         Ok(()) => InputFault::Refused(refusal),
         Err(fault) => fault,
     }
@@ -286,7 +252,7 @@ fn run_events<S: Source, A: Strategies>(
 {
     match open(alloc, many, wallets) {
         Ok(mut world) => {
-            replay(alloc, many, &mut world, staff, input, source)?;
+            walk(alloc, (many, staff), &mut world, input, source)?;
             Ok(world)
         }
         Err(Fault::Refused(refusal)) => Err(refuse(alloc, many, refusal, input, source)),
@@ -362,8 +328,8 @@ fn tell<K: Sink>(alloc: Global, sink: &mut K, many: &ManyJob, world: &ManyWorld)
     }
 }
 
-/// Runs the swaps of an input that wasn't read yet.
-fn many_input<S: Source, K: Sink, A: Strategies>(
+/// Runs several swaps on shared chains.
+pub(crate) fn many<S: Source, K: Sink, A: Strategies>(
     alloc: Global,
     staff: &A,
     input: &mut Input,
@@ -388,22 +354,4 @@ fn many_input<S: Source, K: Sink, A: Strategies>(
         return Status::NoMemory;
     };
     tell(alloc, sink, &many, &world)
-}
-
-/// Runs several swaps on shared chains.
-pub(crate) fn many<S: Source, K: Sink, A: Strategies>(
-    alloc: Global,
-    staff: &A,
-    source: &mut S,
-    sink: &mut K,
-) -> Status
-    ensures says { Says (strategies (A.holds staff.now) (A.gives staff.now)) Many
-        (streams (S.left source.old) (S.faults source.old) (K.taken sink.old) (K.faults sink.old))
-        (streams (S.left source.new) (S.faults source.new) (K.taken sink.new) (K.faults sink.new)) result }
-    ensures calm { ¬ (result ≡ Status.ReadFault) → S.faults source.new ≡ S.faults source.old }
-{
-    match Input::new(alloc) {
-        Ok(mut input) => many_input(alloc, staff, &mut input, source, sink),
-        Err(_) => Status::NoMemory,
-    }
 }

@@ -6,13 +6,13 @@ ghost use Rattle.swap_commands.specs.Words.{ordered};
 ghost use Rattle.swap_commands.specs.Says.{Says};
 ghost use Rattle.swap_commands.specs.Strategies.{strategies};
 
-use crate::audit::audit;
 use crate::check::check;
 use crate::clear::clear;
 use crate::make::make;
 use crate::many::many;
 use crate::run::run;
-use command_input::Status;
+use audit_command::audit_transcript;
+use command_input::{Input, Status};
 use deviators::Strategies;
 use program_words::Order;
 use std::alloc::Global;
@@ -32,12 +32,15 @@ pub fn obey<S: Source, K: Sink, A: Strategies>(
     // No read failed, unless the status tells of it.
     ensures calm { ¬ (result ≡ Status.ReadFault) → S.faults source.new ≡ S.faults source.old }
 {
+    let Ok(mut input) = Input::new(alloc) else {
+        return Status::NoMemory;
+    };
     match order {
-        Order::Check => check(alloc, staff, source, sink),
-        Order::Run { transcript } => run(alloc, staff, transcript, source, sink),
-        Order::Make => make(alloc, staff, source, sink),
-        Order::Audit => audit(alloc, staff, source, sink),
-        Order::Clear => clear(alloc, staff, source, sink),
-        Order::Many => many(alloc, staff, source, sink),
+        Order::Check => check(alloc, staff, &mut input, source, sink),
+        Order::Run { transcript } => run(alloc, staff, transcript, &mut input, source, sink),
+        Order::Make => make(alloc, staff, &mut input, source, sink),
+        Order::Audit => audit_transcript(alloc, &mut input, source, sink),
+        Order::Clear => clear(alloc, staff, &mut input, source, sink),
+        Order::Many => many(alloc, staff, &mut input, source, sink),
     }
 }

@@ -2,12 +2,6 @@
 //! written, or the transcript.
 
 ghost use Rattle.std.specs.Prelude.{◌≡◌, ◌≤◌, ℕ, Bool, List, Option, IfOk, IfErr, IsErrOf};
-ghost use Rattle.swap_rules.specs.Accepted.{IsAccepted};
-ghost use Rattle.party_wallet.specs.Wallets.{new_wallets};
-ghost use Rattle.offer_header.specs.Names.{AreNames};
-ghost use Rattle.swap_offer.specs.Job.{IsWholeJob};
-ghost use Rattle.swap_offer.specs.Wallets.{HaveScripts, HaveWallets};
-ghost use Rattle.swap_world.specs.Actors.{AreHeld};
 ghost use Rattle.swap_commands.specs.Entered.{CanRace, HasEntered, HasNotEntered};
 ghost use Rattle.command_input.specs.Input.{Ends, Stops, desk, fresh};
 ghost use Rattle.command_input.specs.Streams.{streams};
@@ -42,14 +36,7 @@ fn read_job<S: Source, A: Strategies>(
     requires { input.old ≡ fresh }
     ensures entered { IfOk result (λ e. Ends (λ bytes. IsEntered (A.holds staff.now) bytes e.0) (desk (S.left source.old) (S.faults source.old) fresh)
         (desk (S.left source.new) (S.faults source.new) input.new)) }
-    ensures held { IfOk result (λ e. AreHeld (A.holds staff.now) e.0.roles) }
-    ensures whole { IfOk result (λ e. IsWholeJob e.0) }
-    ensures names { IfOk result (λ e. AreNames e.0.names) }
-    ensures purpose { IfOk result (λ e. e.0.purpose ≡ Purpose.Race) }
-    ensures accepted { IfOk result (λ e. IsAccepted e.0.deal) }
-    ensures scripts { IfOk result (λ e. HaveScripts e.0) }
-    ensures fit { IfOk result (λ e. HaveWallets e.0) }
-    ensures made { IfOk result (λ e. e.1.items ≡ new_wallets e.0.deal e.0.conforming e.0.seeds) }
+    ensures can { IfOk result (λ e. CanRace (A.holds staff.now) e.0 e.1.items) }
     // The reason depends neither on the race's ticks nor on the text that is asked for.
     ensures stops { (ticks : ℕ) (transcript : Bool) → IfErr result (λ e.
         Stops (IsCommandRefusal (A.holds staff.now) (OfJob (Race ticks transcript))) (desk (S.left source.old) (S.faults source.old) fresh)
@@ -62,27 +49,8 @@ fn read_job<S: Source, A: Strategies>(
     }
 }
 
-/// Reads the job of a race, and reads the whole input before it answers why the input is refused.
-fn enter_input<S: Source, A: Strategies>(
-    alloc: Global,
-    staff: &A,
-    input: &mut Input,
-    source: &mut S,
-) -> Result<(Job, Vec<Option<Wallet>>), InputFault<Refusal>>
-    requires { input.old ≡ fresh }
-    ensures entered { IfOk result (λ e. HasEntered (A.holds staff.now) (S.left source.old) (S.left source.new) e.0) }
-    ensures can { IfOk result (λ e. CanRace (A.holds staff.now) e.0 e.1.items) }
-    ensures stopped { IfErr result (HasNotEntered (A.holds staff.now) (S.left source.old) (S.left source.new)
-        (S.faults source.old) (S.faults source.new)) }
-    ensures calm { ¬ IsErrOf result InputFault.ReadFault → S.faults source.new ≡ S.faults source.old }
-{
-    match read_job(alloc, staff, input, source) {
-        Ok(entered) => Ok(entered),
-        Err(fault) => Err(input.stop(source, fault)),
-    }
-}
-
-/// Reads the job of a race, and the wallets of its conforming parties. No thread is started here.
+/// Reads the job of a race, and the wallets of its conforming parties. The whole input is read
+/// before it is answered why the input is refused. No thread is started here.
 pub fn enter<S: Source, A: Strategies>(
     alloc: Global,
     source: &mut S,
@@ -94,9 +62,10 @@ pub fn enter<S: Source, A: Strategies>(
         (S.faults source.old) (S.faults source.new)) }
     ensures calm { ¬ IsErrOf result InputFault.ReadFault → S.faults source.new ≡ S.faults source.old }
 {
-    match Input::new(alloc) {
-        Ok(mut input) => enter_input(alloc, staff, &mut input, source),
-        Err(_) => Err(InputFault::NoMemory),
+    let mut input = Input::new(alloc)?;
+    match read_job(alloc, staff, &mut input, source) {
+        Ok(entered) => Ok(entered),
+        Err(fault) => Err(input.stop(source, fault)),
     }
 }
 

@@ -1,23 +1,23 @@
 //! The events of an input's lines, one after another.
 
 ghost use Rattle.std.specs.Prelude.{◌≡◌, true, false, Ok, Err, IfOk, IfErr, OnOk};
-ghost use Rattle.swap_base.specs.Fault.{Gives};
 ghost use Rattle.swap_rules.specs.Accepted.{IsAccepted};
 ghost use Rattle.swap_run.specs.Run.{start, step};
 ghost use Rattle.party_wallet.specs.Wallets.{new_wallets};
 ghost use Rattle.offer_events.specs.Event.{needs_seeds};
-ghost use Rattle.swap_offer.specs.Job.{IsWholeJob};
+ghost use Rattle.swap_offer.specs.Job.{IsWholeJob, limited_event};
 ghost use Rattle.swap_offer.specs.Wallets.{HaveScripts, HaveWallets};
 ghost use Rattle.swap_run.specs.Asked.{Answers};
 ghost use Rattle.swap_world.specs.Cast.{job_cast};
-ghost use Rattle.swap_world.specs.Gone.{HasAsked};
+ghost use Rattle.swap_world.specs.Gone.{HasAsked, HasGone};
 ghost use Rattle.swap_world.specs.Actors.{AreHeld};
 ghost use Rattle.swap_world.specs.Value.{Continues, new_world};
 ghost use Rattle.command_input.specs.Input.{Ends, Fits, Stops, ahead, desk};
 ghost use Rattle.made_jobs.specs.Generating.{IsJobWorld};
 ghost use Rattle.swap_commands.specs.Output.{command_cast};
-ghost use Rattle.swap_commands.specs.Replay.{replayed, replayed_line, skipped_event};
+ghost use Rattle.swap_commands.specs.Replay.{CanReplay, replayed, skipped_event};
 
+use crate::walk::{Skip, Walker, walk};
 use command_input::{Input, InputFault};
 use deviators::Strategies;
 use party_wallet::Wallet;
@@ -25,37 +25,56 @@ use refusals::{OfferFault, Reason};
 use std::alloc::Global;
 use swap_base::NoMemory;
 use swap_io::Source;
-use swap_job::Job;
+use swap_job::{Event, Job};
 use swap_offer::next_event;
 use swap_world::World;
 
-/// Steps the world by the event of a line, where so many events came before.
-#[tactic(auto, unfolding(crate::specs::Replay::replayed_line))]
-fn step_line<A: Strategies>(
-    alloc: Global,
-    job: &Job,
-    world: &mut World,
-    staff: &A,
-    count: u32,
-    line: u32,
-    text: &[u8],
-) -> Result<(), OfferFault>
-    requires whole { IsWholeJob job.now }
-    requires seeds { needs_seeds job.now.purpose ≡ true }
-    requires of { IsJobWorld job.now world.old }
-    requires goes_on { world.old.stopped ≡ false }
-    requires held { AreHeld (A.holds staff.now) job.now.roles }
-    ensures passed { Gives (λ u. u) result (replayed_line skipped_event job.now count tt line text.now) }
-    ensures stepped { OnOk result ((a : Answers) → Continues world.new a
-        → replayed_line (step (command_cast a job.now)) job.now count world.old.state line text.now ≡ Ok world.new.state) }
-    ensures continued { OnOk result ((a : Answers) → Continues world.new a → Continues world.old a) }
-    ensures asked { OnOk result (HasAsked (A.gives staff.now) world.old world.new) }
-    ensures of { OnOk result (IsJobWorld job.now world.new) }
-    ensures goes_on { OnOk result (world.new.stopped ≡ false) }
-{
-    let event = next_event(alloc, job, count, line, text)?;
-    world.step(staff, &event)?;
-    Ok(())
+/// A world steps by the events of its job's lines, where the staff answers for strategies.
+impl<'v, A: Strategies> Walker<(&'v Job, &'v A), Reason> for World {
+    type Event = Event;
+
+    ghost can_take = { λ c w. CanReplay (A.holds c.1.now) c.0.now w };
+
+    ghost told = { λ c. limited_event c.0.now };
+
+    ghost leads = { λ c w e v. HasGone (A.gives c.1.now) (λ k s. step k s e) w v };
+
+    fn take(
+        &mut self,
+        alloc: Global,
+        context: (&'v Job, &'v A),
+        count: u32,
+        line: u32,
+        text: &[u8],
+    ) -> Result<(), OfferFault> {
+        let (job, staff) = context;
+        let event = next_event(alloc, job, count, line, text)?;
+        self.step(staff, &event)?;
+        Ok(())
+    }
+}
+
+/// The events of a job's lines are read and passed over.
+impl<'v> Walker<&'v Job, Reason> for Skip {
+    type Event = Event;
+
+    ghost can_take = { λ job u. IsWholeJob job.now };
+
+    ghost told = { λ job. limited_event job.now };
+
+    ghost leads = { λ job u e v. Unit };
+
+    fn take(
+        &mut self,
+        alloc: Global,
+        job: &'v Job,
+        count: u32,
+        line: u32,
+        text: &[u8],
+    ) -> Result<(), OfferFault> {
+        next_event(alloc, job, count, line, text)?;
+        Ok(())
+    }
 }
 
 /// The world of a job whose conforming parties have their wallets.
@@ -104,30 +123,8 @@ pub(crate) fn replay<S: Source, A: Strategies>(
         (desk (S.left source.new) (S.faults source.new) input.new) e) }
 {
     let mut world = new_world(alloc, job, wallets)?;
-    let mut count: u32 = 0;
-    'lines: while input.next(source)? {
-        step_line(
-            alloc,
-            job,
-            &mut world,
-            staff,
-            count,
-            input.number(),
-            input.text(),
-        )?;
-        count += 1;
-    }
+    walk(alloc, (job, staff), &mut world, input, source)?;
     Ok(world)
-}
-
-/// Reads the event of a line, where so many events came before.
-#[tactic(auto, unfolding(crate::specs::Replay::replayed_line))]
-fn pass_line(alloc: Global, job: &Job, count: u32, line: u32, text: &[u8]) -> Result<(), OfferFault>
-    requires { IsWholeJob job.now }
-    ensures { Gives (λ u. u) result (replayed_line skipped_event job.now count tt line text.now) }
-{
-    next_event(alloc, job, count, line, text)?;
-    Ok(())
 }
 
 /// Reads the events of the lines ahead.
@@ -146,10 +143,5 @@ pub(crate) fn skip_events<S: Source>(
         (desk (S.left source.old) (S.faults source.old) input.old)
         (desk (S.left source.new) (S.faults source.new) input.new) e) }
 {
-    let mut count: u32 = 0;
-    'lines: while input.next(source)? {
-        pass_line(alloc, job, count, input.number(), input.text())?;
-        count += 1;
-    }
-    Ok(())
+    walk(alloc, job, &mut Skip, input, source)
 }

@@ -162,8 +162,8 @@ pub(crate) fn tell<K: Sink>(
     }
 }
 
-/// Runs the job of an input that wasn't read yet.
-fn run_input<S: Source, K: Sink, A: Strategies>(
+/// Runs a job.
+pub(crate) fn run<S: Source, K: Sink, A: Strategies>(
     alloc: Global,
     staff: &A,
     transcript: bool,
@@ -185,23 +185,4 @@ fn run_input<S: Source, K: Sink, A: Strategies>(
         return Status::NoMemory;
     };
     tell(alloc, transcript, sink, &job, &book)
-}
-
-/// Runs a job.
-pub(crate) fn run<S: Source, K: Sink, A: Strategies>(
-    alloc: Global,
-    staff: &A,
-    transcript: bool,
-    source: &mut S,
-    sink: &mut K,
-) -> Status
-    ensures says { Says (strategies (A.holds staff.now) (A.gives staff.now)) (OfJob (Run transcript))
-        (streams (S.left source.old) (S.faults source.old) (K.taken sink.old) (K.faults sink.old))
-        (streams (S.left source.new) (S.faults source.new) (K.taken sink.new) (K.faults sink.new)) result }
-    ensures calm { ¬ (result ≡ Status.ReadFault) → S.faults source.new ≡ S.faults source.old }
-{
-    match Input::new(alloc) {
-        Ok(mut input) => run_input(alloc, staff, transcript, &mut input, source, sink),
-        Err(_) => Status::NoMemory,
-    }
 }

@@ -20,7 +20,7 @@ use Rattle.refusals.specs.declared.reason.Reason.{Reason}
 use Rattle.swap_rules.specs.Machine.{Begins}
 use Rattle.swap_rules.proofs.Prefixes.{begins_more, begins_refl}
 use Rattle.swap_run.specs.Asked.{Answers, Rule, is_strategy, IsByRule}
-use Rattle.swap_run.specs.Run.{Cast, Question, State, conforms, party_role, party_plan, look, make, next_action, act, watch, after_turn, question}
+use Rattle.swap_run.specs.Run.{Cast, Question, State, conforms, party_role, party_plan, look, next_action, act, watch, after_turn, question}
 use Rattle.swap_run.specs.Run.{after_question, answered_call, role_act, step, continued_run, run, start}
 use Rattle.swap_run.proofs.Asked.{runs_without_strategies, finishes_without_strategies, rules_decide_runs, rules_decide_finishes, take_asked, make_asked, begins_length}
 use Rattle.swap_run.proofs.Reached.{finish_events}

@@ -6,10 +6,10 @@ use Rattle.swap_io.specs.Causes.{ConsumesAtMost, ConsumesSome}
 use Rattle.refusals.specs.declared.reason.Reason.{Reason}
 use Rattle.command_input.specs.Input.{limit}
 use Rattle.swap_commands.specs.Words.{words_command, Command}
-use Rattle.command_input.specs.Written.{Written}
+use Rattle.command_input.specs.Written.{IsWrittenWhole, Written}
 use Rattle.swap_commands.specs.Output.{Chance, no_chance, output_given_chance, command_output, refusal_names}
-use Rattle.swap_commands.specs.Says.{HasRead, Says}
-use Rattle.swap_main.specs.Top.{AsksFairMany, AsksFairRace, AsksFairRun, Read, IsDone, IsCut, IsRefused, IsShort, IsOutputStatus}
+use Rattle.swap_commands.specs.Says.{HasOutput, HasRead, Says}
+use Rattle.swap_main.specs.Top.{AsksFairMany, AsksFairRace, AsksFairRun, Read, IsDone, IsCut, IsRefused, IsShort, IsOutputStatus, command_status}
 use Rattle.command_input.specs.declared.status.Status.{Status}
 use Rattle.command_input.specs.declared.status.Status.TheVariants.{Done, Named, WrongWords, Refused, ReadFault, WriteFault, NoMemory, TooLong}
 use Rattle.command_input.specs.Streams.{HasReadFault, HasWriteFault, Streams}
@@ -37,29 +37,22 @@ module _ (has : List ℕ → Bool) where
         → Read has a words before.left after.left output
     read_by a output r = record { command = command; asked = asked; input = r.input; taken = r.taken; ended = r.ended; within = r.within; gives = r.gives }
 
+    whole : (found : Bool) → HasOutput has gives (IsWrittenWhole before.taken after.taken found) command before.left after.left
+        → IsDone (strategies has gives) words before after found
+    whole found o = record {
+      chance = o.chance;
+      output = o.output;
+      read = read_by o.chance (Ok o.output) o.read;
+      written = o.written.0;
+      findings = o.written.1;
+      promised = o.promised;
+    }
+
     pub done : (s : Status) → Said s → s ≡ Done → IsDone (strategies has gives) words before after false
-    done s h e =
-        let o = subst Said e h in
-        record {
-          chance = o.chance;
-          output = o.output;
-          read = read_by o.chance (Ok o.output) o.read;
-          written = o.written.0;
-          findings = o.written.1;
-          promised = o.promised;
-        }
+    done s h e = whole false (subst Said e h)
 
     pub named : (s : Status) → Said s → s ≡ Named → IsDone (strategies has gives) words before after true
-    named s h e =
-        let o = subst Said e h in
-        record {
-          chance = o.chance;
-          output = o.output;
-          read = read_by o.chance (Ok o.output) o.read;
-          written = o.written.0;
-          findings = o.written.1;
-          promised = o.promised;
-        }
+    named s h e = whole true (subst Said e h)
 
     pub refused : (s : Status) → Said s → (reason : Reason) (names : List (List ℕ)) → s ≡ Refused reason names
         → IsRefused has words before.left after.left reason names
@@ -182,23 +175,22 @@ module _ (has : List ℕ → Bool) where
     bad NoMemory h other input reason is told within against calm = inr refl
     bad TooLong h other input reason is told within against calm = absurd (past_all before.left after.left input (limit + 1) told (omega (arith, within)) h.0)
 
+    output_status : (found : Bool) → HasOutput has gives (IsWrittenWhole before.taken after.taken found) command before.left after.left
+        → (other : Command) (input : List ℕ) → words_command words ≡ Some other → before.left ≡ Some input
+        → IsOutputStatus has gives other input (command_status found)
+    output_status found o other input is told = record {
+      chance = o.chance;
+      output = o.output;
+      made = given o.chance (Ok o.output) o.read other input is told;
+      promised = kept o.chance o.output o.read other input is told o.promised;
+      status = ap command_status (sym o.written.1);
+    }
+
     pub good : (s : Status) → Said s → (other : Command) (input : List ℕ) (output : Written) → words_command words ≡ Some other → before.left ≡ Some input
         → length input ≤ limit → command_output has other input ≡ Ok output → ¬ HasReadFault before after → ¬ HasWriteFault before after
         → IsOutputStatus has gives other input s ⊎ (s ≡ NoMemory)
-    good Done h other input output is told within made calm still = inl (record {
-      chance = h.chance;
-      output = h.output;
-      made = given h.chance (Ok h.output) h.read other input is told;
-      promised = kept h.chance h.output h.read other input is told h.promised;
-      status = rw h.written.1 refl;
-    })
-    good Named h other input output is told within made calm still = inl (record {
-      chance = h.chance;
-      output = h.output;
-      made = given h.chance (Ok h.output) h.read other input is told;
-      promised = kept h.chance h.output h.read other input is told h.promised;
-      status = rw h.written.1 refl;
-    })
+    good Done h other input output is told within made calm still = inl (output_status false h other input is told)
+    good Named h other input output is told within made calm still = inl (output_status true h other input is told)
     good WrongWords h other input output is told within made calm still = absurd h
     good (Refused r names) h other input output is told within made calm still =
         absurd (cc (sym (given no_chance (Err r) h.0.read other input is told) ∙ made))

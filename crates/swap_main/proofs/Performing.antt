@@ -1,5 +1,5 @@
 -- What the program promises, by what a status says of its task.
-use Rattle.std.proofs.Common.{◌≡◌, ◌≤◌, ◌⊎◌, ◌↔◌, inl, inr, ℕ, Bool, List, Option, Some, None, option_and_then, refl, sym, ap, ◌∙◌, subst}
+use Rattle.std.proofs.Common.{◌≡◌, ◌≤◌, ◌⊎◌, ◌↔◌, inl, inr, ℕ, Bool, List, map, Option, Some, None, option_and_then, refl, sym, ap, ◌∙◌, subst}
 use Rattle.std.specs.Io.KnownBytes.{Keeps}
 use Rattle.std.proofs.KnownBytes.{Keeps-refl}
 use Rattle.swap_io.specs.Causes.{ConsumesAtMost}
@@ -31,6 +31,16 @@ abbrev pub Performs : Strategies → Task → Streams → Streams → Status →
 Performs who (Input order) before after s = Says who (ordered order) before after s
 Performs who (Race ticks transcript) before after s = Says who (OfJob (OfRace ticks transcript)) before after s
 Performs who (Number request) before after s = (after.left ≡ before.left) × IsRequestStatus before.taken after.taken before.write_faults after.write_faults request s
+
+-- the task that was read of words is theirs
+pub asked_as : {X : Type 0} (word : X → List ℕ) (all read : List X) (o : Option Task) (t u : Task) → read ≡ all → o ≡ task_text (map word read) → o ≡ Some t
+    → t ≡ u → task_text (map word all) ≡ Some u
+asked_as {X} word all read o t u same exact is variant =
+    ap (λ (xs : List X). task_text (map word xs)) (sym same) ∙ sym exact ∙ is ∙ ap (λ (x : Task). Some x) variant
+
+pub none_asked : {X : Type 0} (word : X → List ℕ) (all read : List X) (o : Option Task) → read ≡ all → o ≡ task_text (map word read) → o ≡ None
+    → task_text (map word all) ≡ None
+none_asked {X} word all read o same exact is = ap (λ (xs : List X). task_text (map word xs)) (sym same) ∙ sym exact ∙ is
 
 -- a task that reads an input asks for no job of a number
 pub number_is : (words : List (List ℕ)) (task : Task) (request : Request) → task_text words ≡ Some task → words_request words ≡ Some request

@@ -45,15 +45,6 @@ module _ (n : ℕ) (s : Telling) (line : List ℕ) (ls rest : List (List ℕ)) (
   told_fault (Refused reason) f =
       sym so_far ∙ ap (further_lines_told n s) is ∙ ap (λ (r : Result Telling Reason). r >>= λ u. further_lines_told (next_number n) u rest) f
 
--- the line between two ledgers says the same whatever stage one is at
-pub between_told : (s : Telling) (g : Stage) (line : List ℕ) → s.stage ≡ Between → frame_told (record s { stage = g }) line ≡ line_told s line
-unfolding frame_told
-between_told s g line e = sym (ap (λ (x : Stage). line_told_at_stage x s line) e)
-
--- what is given of one reading is given of another that is the same
-pub given_there : (f : Unit {0} → Telling) (r : Result (Unit {0}) (Fault Misspelling)) (p q : Result Telling Misspelling) → p ≡ q → Gives f r p → Gives f r q
-given_there f r p q e g = subst (λ (z : Result Telling Misspelling). Gives f r z) e g
-
 -- ---- the deal stays
 
 abbrev KeepsDeal : Telling → Result Telling Misspelling → Type 0

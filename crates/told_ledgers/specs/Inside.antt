@@ -1,8 +1,15 @@
 -- What readers of ledgers keep.
-use Rattle.std.specs.Prelude.{◌≡◌, ◌<◌, ℕ, List, length, decimal, slice_index_or}
+use Rattle.std.specs.Prelude.{◌≡◌, ◌<◌, ◌+◌, ◌-◌, ◌++◌, ◌∷◌, [], ℕ, List, length, decimal, slice_index_or}
 use Rattle.swap_digraph.specs.declared.deal.Deal.{Deal}
 use Rattle.swap_digraph.specs.Deal.{IsWellSized}
-use Rattle.ledger_core.specs.History.{IsLegal}
+use Rattle.escrow_core.specs.declared.reply.Reply.TheVariants.{Accepted}
+use Rattle.ledger_core.specs.declared.entry.Sender.TheVariants.{Clock}
+use Rattle.ledger_core.specs.declared.entry.What.TheVariants.{Tick}
+use Rattle.ledger_core.specs.History.{IsLegal, height, reply_to_tick}
+use Rattle.ledger_core.specs.Ledger.{tick_entry}
+use Rattle.transcript_lines.specs.Between.{spaced}
+use Rattle.transcript_lines.specs.Words.{entry_words}
+use Rattle.told_ledgers.specs.declared.kind.Kind.{Kind}
 use Rattle.told_ledgers.specs.declared.told.ToldLedger.{ToldLedger}
 use Rattle.told_ledgers.specs.declared.one_ledger.Heard.{Heard}
 use Rattle.told_ledgers.specs.declared.one_ledger.Heard.TheVariants.{More, Bad}
@@ -11,8 +18,8 @@ use Rattle.told_ledgers.specs.declared.stage.Stage.TheVariants.{Reading}
 use Rattle.told_ledgers.specs.declared.one_ledger.OneLedger.TheInside as one_ledger
 use Rattle.told_ledgers.specs.declared.reader.LedgersReader.TheInside as reader
 use Rattle.told_ledgers.specs.SoFar.{LedgerSoFar}
-use Rattle.told_ledgers.specs.Ledger.{untold}
-use Rattle.told_ledgers.specs.Telling.{Telling}
+use Rattle.told_ledgers.specs.Ledger.{line_heard, untold}
+use Rattle.told_ledgers.specs.Telling.{Telling, one_less, with_heard}
 
 -- ---- one ledger
 
@@ -21,20 +28,29 @@ so_far l = record {
   deal = l.ledger.deal;
   me = l.me;
   arc = l.ledger.arc;
-  past = l.past;
+  past = l.past.list;
   unlocks = l.unlocks;
   is_closed = l.is_closed;
 }
 
 -- What was taken is what was replayed, and is legal.
 pub record IsReplayed (l : one_ledger.Inside) : Type 0 where
-  pub replayed : l.ledger.history ≡ l.past
-  pub legal : IsLegal l.ledger.deal l.ledger.arc l.past
+  pub replayed : l.ledger.history ≡ l.past.list
+  pub legal : IsLegal l.ledger.deal l.ledger.arc l.past.list
 
 -- what is told of a ledger with a bad entry is legal
 abbrev pub IsLegalHeard : Deal → ℕ → Heard → Type 0
 IsLegalHeard d a (More l) = Unit {0}
 IsLegalHeard d a (Bad t) = IsLegal d a t.history
+
+-- the line of a tick by k
+abbrev pub tick_line : ℕ → List ℕ
+tick_line k = spaced (entry_words Clock (Tick k) Accepted)
+
+-- the ledger takes a tick by k
+pub record IsTicked (k : ℕ) (old new : LedgerSoFar) : Type 0 where
+  pub accepted : Accepted ≡ reply_to_tick old.past k
+  pub ticked : new ≡ record old { past = old.past ++ tick_entry k (height old.past + k) Accepted ∷ [] }
 
 -- ---- all ledgers
 
@@ -76,3 +92,15 @@ pub record IsTelling (r : reader.Inside) : Type 0 where
   pub one_each : length r.ledgers.items ≡ length r.deal.graph.arcs
   pub legal : AreLegal r.deal r.ledgers.items
   pub stage : IsStageForParty r.deal r.me r.stage
+
+-- ---- a line of the ledger at hand
+
+-- what a line of that kind tells of the ledger
+abbrev pub kind_told : LedgerSoFar → Telling → Kind → List ℕ → Telling
+kind_told l s kind line = with_heard l.arc (line_heard (s.count - s.more) l kind line) (one_less s)
+
+-- The ledger at hand took the line of that kind, and further lines of it are read.
+pub record IsTaken (kind : Kind) (line : List ℕ) (l : LedgerSoFar) (old new : Telling) : Type 0 where
+  pub next : LedgerSoFar
+  pub heard : (n : ℕ) → line_heard n l kind line ≡ More next
+  pub reads : new ≡ record old { stage = Reading next }

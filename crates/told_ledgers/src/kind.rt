@@ -58,18 +58,16 @@ fn foreign_kind(call: &[u8], line: &[u8]) -> Kind
     }
 }
 
-/// What the line is to the party whose number is `own`, in decimal.
+/// What the line is to the party whose number is `own`, in decimal. The line's end is looked at
+/// only where the line is somebody else's call.
 #[tactic(auto, using(crate::proofs::Words::nth_next))]
 pub(crate) fn line_kind(own: &[u8], line: &[u8]) -> Kind
     ensures { (v : ℕ) → own.now ≡ decimal v → result ≡ line_kind v (separated_parts 32 line.now) }
 {
     let mut words = Parts::new(b' ', line);
-    let first = next_word(&mut words);
-    let second = next_word(&mut words);
-    let third = next_word(&mut words);
-    if first == b"c".as_slice() && second != own {
-        foreign_kind(third, line)
-    } else {
-        Kind::Read
+    if next_word(&mut words) != b"c".as_slice() || next_word(&mut words) == own {
+        return Kind::Read;
     }
+    let third = next_word(&mut words);
+    foreign_kind(third, line)
 }

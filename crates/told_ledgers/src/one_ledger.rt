@@ -1,25 +1,26 @@
 //! A ledger that is read: its entries, each replayed.
 
-ghost use Rattle.std.specs.Prelude.{◌≡◌, ◌<◌, ◌++◌, Ok, Err, Some, IfOk, OnOk, length, true};
+ghost use Rattle.std.specs.Prelude.{◌≡◌, ◌<◌, ◌++◌, ◌≤◌, Ok, Err, Some, IfOk, IfSome, OnOk, false, length, true, ℕ};
 ghost use Rattle.swap_base.specs.Fault.{Gives};
 ghost use Rattle.swap_digraph.specs.Deal.{IsWellSized};
 ghost use Rattle.ledger_core.specs.History.{IsLegal};
 ghost use Rattle.ledger_core.specs.WellFormed.{IsFormedEntry};
 ghost use Rattle.swap_rules.specs.Party.{pick_call};
-ghost use Rattle.told_ledgers.specs.Inside.{IsLegalHeard};
+ghost use Rattle.told_ledgers.specs.Inside.{IsLegalHeard, IsTicked, tick_line};
 ghost use Rattle.told_ledgers.specs.Ledger.{is_correct_publish, is_first_publish, is_passed, line_heard, line_read, nothing_read, own_unlock, publishes_terms, whole_told_ledger};
 ghost use Rattle.told_ledgers.specs.Ledger.{stated_entry, with_stated};
+ghost use Rattle.told_ledgers.specs.declared.one_ledger.Heard.TheVariants.{More};
 
 use crate::kind::Kind;
 use crate::told::{BadEntry, OwnUnlock, Replies, ToldLedger};
-use escrow_core::stated_terms;
-use ledger_core::{Call, Entry, EntryList, Ledger, Sender, What};
+use escrow_core::{Reply, stated_terms};
+use ledger_core::{Call, Entry, EntryList, Ledger, LedgerHistory, Sender, What};
 use std::alloc::Global;
 use std::marker::Model;
 use swap_auditor::{Found, replay_entry};
 use swap_base::{ArcId, Fault, Listed, NoMemory, PartyId, Shared, TryCopy};
 use swap_digraph::Deal;
-use transcript_book::{WordFault, parse_entry};
+use transcript_book::{Known, WordFault, parse_entry, read_bounded, with_known};
 use transcript_lines::Misspelling;
 
 /// A ledger that is read, as far as its lines were.
@@ -27,7 +28,7 @@ use transcript_lines::Misspelling;
 pub struct OneLedger {
     me: PartyId,
     ledger: Ledger,
-    past: EntryList,
+    past: LedgerHistory,
     unlocks: Listed<OwnUnlock>,
     is_closed: bool,
 }
@@ -128,6 +129,32 @@ fn push_own(
     }
 }
 
+/// Makes room for a further entry.
+fn make_room(past: &mut LedgerHistory) -> Result<(), NoMemory>
+    ensures room { OnOk result (0 < past.new.spare) }
+    ensures few { OnOk result (length past.new.list < usize.MAX) }
+    ensures list { past.new.list ≡ past.old.list }
+{
+    if past.len() == usize::MAX {
+        return Err(NoMemory);
+    }
+    past.reserve()
+}
+
+/// By how many heights the line ticks, if it is that of a tick.
+#[tactic(auto, using(crate::proofs::Ticks::digits_are))]
+fn line_tick(line: &[u8]) -> Option<u32>
+    ensures line { IfSome result (λ k. line.now ≡ tick_line k) }
+    ensures some { IfSome result (λ k. 1 ≤ k) }
+    ensures below { IfSome result (λ k. k ≤ 1000000) }
+{
+    let digits = line.strip_prefix(b"t ".as_slice())?;
+    match read_bounded(1_000_001, digits) {
+        Ok(k) if k > 0 => Some(k as u32),
+        _ => None,
+    }
+}
+
 impl OneLedger {
     /// No line was read yet.
     pub(crate) fn new(
@@ -143,7 +170,7 @@ impl OneLedger {
         Ok(OneLedger {
             me,
             ledger: Ledger::new(alloc, deal, arc)?,
-            past: EntryList::empty(alloc),
+            past: LedgerHistory::new(alloc),
             unlocks: Listed::empty(alloc),
             is_closed: false,
         })
@@ -161,7 +188,7 @@ impl OneLedger {
         ensures legal { IsLegal self.deal self.arc result.history }
     {
         ToldLedger {
-            history: self.past,
+            history: EntryList::from_history(self.past),
             bad: None,
             unlocks: self.unlocks,
         }
@@ -186,7 +213,7 @@ impl OneLedger {
         ensures legal { IsLegalHeard self.deal self.arc result }
     {
         Heard::Bad(ToldLedger {
-            history: self.past,
+            history: EntryList::from_history(self.past),
             bad: Some(BadEntry {
                 entry: number,
                 replies: None,
@@ -195,14 +222,15 @@ impl OneLedger {
         })
     }
 
-    /// The entry that a line states.
-    fn stated_entry(&self, alloc: Global, line: &[u8]) -> Result<Entry, WordFault>
+    /// The entry that a line states. A hashkey is held once, whichever ledgers it is told of.
+    fn stated_entry(&self, known: &mut Known, line: &[u8]) -> Result<Entry, WordFault>
         ensures exact { Gives (λ e. e) result (stated_entry self.now line.now) }
         ensures formed { IfOk result (λ e. IsFormedEntry self.now.deal self.now.arc self.now.past e) }
     {
         let deal = self.ledger.deal();
         let arc = self.ledger.arc();
-        parse_entry(alloc, deal, arc, self.ledger.height(), line)
+        let entry = parse_entry(*known.allocator(), deal, arc, self.ledger.height(), line)?;
+        Ok(with_known(known, entry)?)
     }
 
     /// Whether a line of that kind tells the first accepted publish on an arc that enters the
@@ -243,7 +271,8 @@ impl OneLedger {
         match replay_entry(&mut ledger, found, &entry) {
             Ok(()) => {
                 push_own(&mut unlocks, me, number, &entry)?;
-                past.push(entry)?;
+                make_room(&mut past)?;
+                past.push(entry);
                 Ok(Heard::More(OneLedger {
                     me,
                     ledger,
@@ -253,7 +282,7 @@ impl OneLedger {
                 }))
             }
             Err(Fault::Refused(bad)) => Ok(Heard::Bad(ToldLedger {
-                history: past,
+                history: EntryList::from_history(past),
                 bad: Some(BadEntry {
                     entry: number,
                     replies: Some(Replies {
@@ -302,11 +331,46 @@ impl OneLedger {
         }
     }
 
+    /// Takes a tick in place. Where the ledger takes no more ticks, nothing changes.
+    #[tactic(auto, using(crate::proofs::Ticks::accepted_tick))]
+    fn take_tick(&mut self, k: u32) -> Result<bool, NoMemory>
+        requires some { 1 ≤ k }
+        requires below { k ≤ 1000000 }
+        ensures taken { IfOk result (λ t. t ≡ true → IsTicked k self.old self.new) }
+        ensures left { IfOk result (λ t. t ≡ false → self.new ≡ self.old) }
+        ensures kept { self.new ≡ record self.old { past = self.new.past } }
+    {
+        make_room(&mut self.past)?;
+        self.ledger.reserve()?;
+        let height = self.ledger.height() + k;
+        if self.ledger.tick(k) == Reply::ClockFull {
+            return Ok(false);
+        }
+        self.past.tick(k, height);
+        Ok(true)
+    }
+
+    /// Takes the line of that kind in place, where it is passed over or is a tick. Whatever else it
+    /// is, nothing changes.
+    pub(crate) fn take(&mut self, kind: Kind, line: &[u8]) -> Result<bool, NoMemory>
+        ensures taken { IfOk result (λ t. t ≡ true → (n : ℕ) → line_heard n self.old kind line.now ≡ More self.new) }
+        ensures left { IfOk result (λ t. t ≡ false → self.new ≡ self.old) }
+        ensures kept { self.new ≡ record self.old { past = self.new.past } }
+    {
+        if is_passed(self.is_closed, kind) {
+            return Ok(true);
+        }
+        match (kind, line_tick(line)) {
+            (Kind::Read, Some(k)) => self.take_tick(k),
+            _ => Ok(false),
+        }
+    }
+
     /// Reads the line of that number and kind.
     pub(crate) fn into_heard(
         self,
-        alloc: Global,
         found: &mut Found,
+        known: &mut Known,
         kind: Kind,
         number: u32,
         line: &[u8],
@@ -319,7 +383,7 @@ impl OneLedger {
         if is_passed(self.is_closed, kind) {
             return Ok(Heard::More(self));
         }
-        match self.stated_entry(alloc, line) {
+        match self.stated_entry(known, line) {
             Ok(entry) => self.into_entered(found, kind, number, entry),
             Err(Fault::Refused(Misspelling::Misspelt)) => Ok(self.into_unread(kind, number)),
             Err(Fault::NoMemory) => Err(NoMemory),

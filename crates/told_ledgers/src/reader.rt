@@ -1,16 +1,18 @@
 //! The reader of the ledgers' lines.
 
-ghost use Rattle.std.specs.Prelude.{◌≡◌, ◌<◌, IfOk, OnOk, decimal, length, replicate, slice_set};
+ghost use Rattle.std.specs.Prelude.{◌≡◌, ◌<◌, IfOk, OnOk, decimal, false, length, replicate, slice_set, true};
 ghost use Rattle.swap_base.specs.Fault.{Gives};
 ghost use Rattle.swap_digraph.specs.Deal.{IsWellSized};
 ghost use Rattle.ledger_core.specs.Book.{IsLegalBook};
 ghost use Rattle.ledger_core.specs.History.{IsLegal};
-ghost use Rattle.told_ledgers.specs.Inside.{IsHeardLedgerForParty, IsLegalHeard, IsLedgerForParty};
+ghost use Rattle.told_ledgers.specs.Inside.{IsHeardLedgerForParty, IsLegalHeard, IsLedgerForParty, IsTaken, kind_told};
+ghost use Rattle.told_ledgers.specs.SoFar.{LedgerSoFar};
+ghost use Rattle.told_ledgers.specs.declared.stage.Stage.TheVariants.{Reading};
 ghost use Rattle.told_ledgers.specs.Ledger.{untold};
 ghost use Rattle.told_ledgers.specs.Telling.{all_told, begun, begun_ledger, frame_told, with_heard, ledger_told, line_told, nothing_told, one_less, passing, reading, told_book};
 
 use crate::heading::{Heading, heading_said};
-use crate::kind::line_kind;
+use crate::kind::{Kind, line_kind};
 use crate::one_ledger::{Heard, OneLedger};
 use crate::stage::Stage;
 use crate::told::ToldLedger;
@@ -22,7 +24,7 @@ use std::mem;
 use swap_auditor::Found;
 use swap_base::{ArcId, ByteText, Fault, Listed, NoMemory, PartyId, Piece, Shared, TryCopy, put};
 use swap_digraph::Deal;
-use transcript_book::{WordFault, misspelt};
+use transcript_book::{Known, WordFault, misspelt, none_known};
 
 /// Reads the lines of ledgers, up to the last line. It keeps what they tell, and none of their
 /// text.
@@ -34,6 +36,7 @@ pub struct LedgersReader {
     /// The party's number as it is written.
     own: ByteText,
     found: Found,
+    known: Known,
     ledgers: Vec<ToldLedger>,
     least: u8,
     count: u32,
@@ -93,6 +96,7 @@ impl LedgersReader {
             me,
             own: written(alloc, me)?,
             found: Found::new(alloc, deal)?,
+            known: none_known(alloc, deal.graph.n() as usize)?,
             ledgers: none_told(alloc, deal.graph.arcs().len())?,
             least: 0,
             count: 0,
@@ -184,18 +188,54 @@ impl LedgersReader {
         }
     }
 
-    /// Reads a line of a ledger.
-    fn read_entry(&mut self, one: OneLedger, line: &[u8]) -> Result<(), NoMemory>
-        requires { IsLedgerForParty self.old.deal self.old.me one }
-        ensures { OnOk result (self.new ≡ ledger_told one self.old line.now) }
+    /// Goes on behind a line that the ledger at hand took.
+    fn finish_line(&mut self)
+        ensures { (l : LedgerSoFar) → self.old.stage ≡ Reading l → self.new ≡ reading l (one_less self.old) }
     {
-        let arc = one.arc();
-        let kind = line_kind(self.own.as_slice(), line);
-        let number = self.count.saturating_sub(self.more);
-        let heard = one.into_heard(self.alloc, &mut self.found, kind, number, line)?;
         self.more = self.more.saturating_sub(1);
-        self.apply_heard(arc, heard);
+        if self.more == 0 {
+            if let Stage::Reading(one) = mem::replace(&mut self.stage, Stage::Between) {
+                self.continue_ledger(one);
+            }
+        }
+    }
+
+    /// Has the ledger at hand take a line of that kind in place, where it can.
+    fn take(&mut self, kind: Kind, line: &[u8]) -> Result<bool, NoMemory>
+        ensures taken { IfOk result (λ t. t ≡ true → (l : LedgerSoFar) → self.old.stage ≡ Reading l → IsTaken kind line.now l self.old self.new) }
+        ensures left { IfOk result (λ t. t ≡ false → self.new ≡ self.old) }
+    {
+        match &mut self.stage {
+            Stage::Reading(one) => one.take(kind, line),
+            _ => Ok(false),
+        }
+    }
+
+    /// Reads a line of that kind, which the ledger at hand can't take in place.
+    fn read_moved(&mut self, kind: Kind, line: &[u8]) -> Result<(), NoMemory>
+        ensures { OnOk result ((l : LedgerSoFar) → self.old.stage ≡ Reading l → self.new ≡ kind_told l self.old kind line.now) }
+    {
+        if let Stage::Reading(one) = mem::replace(&mut self.stage, Stage::Passing) {
+            let arc = one.arc();
+            let number = self.count.saturating_sub(self.more);
+            let heard = one.into_heard(&mut self.found, &mut self.known, kind, number, line)?;
+            self.more = self.more.saturating_sub(1);
+            self.apply_heard(arc, heard);
+        }
         Ok(())
+    }
+
+    /// Reads a line of the ledger at hand.
+    fn read_entry(&mut self, line: &[u8]) -> Result<(), NoMemory>
+        ensures { OnOk result ((l : LedgerSoFar) → self.old.stage ≡ Reading l → self.new ≡ ledger_told l self.old line.now) }
+    {
+        let kind = line_kind(self.own.as_slice(), line);
+        if self.take(kind, line)? {
+            self.finish_line();
+            Ok(())
+        } else {
+            self.read_moved(kind, line)
+        }
     }
 
     /// Passes over a line of a ledger.
@@ -210,14 +250,14 @@ impl LedgersReader {
     pub(crate) fn push(&mut self, line: &[u8]) -> Result<(), WordFault>
         ensures { Gives (λ _. self.new) result (line_told self.old line.now) }
     {
-        match mem::replace(&mut self.stage, Stage::Passing) {
+        match self.stage {
             Stage::Between => self.read_frame(line),
             Stage::Passing => {
                 self.pass_entry();
                 Ok(())
             }
-            Stage::Reading(one) => {
-                self.read_entry(one, line)?;
+            Stage::Reading(_) => {
+                self.read_entry(line)?;
                 Ok(())
             }
             Stage::Over => Err(misspelt()),

@@ -4,16 +4,16 @@ use Rattle.party_threads.proofs.Acting.{acts_begin, acts_on, acts_end}
 use Rattle.party_threads.proofs.machine_turn.act_to_rest.Goals as goal
 
 pub acts-init : goal.acts-init
-acts-init g c = acts_begin c.args.ledgers.now c.args.machine.now c.args.passes.now 0 refl c.requires.able c.requires.tracks c.requires.passes
+acts-init g c = acts_begin c.args.side.now.ledgers.now c.args.machine.now c.args.passes.now 0 refl c.requires.able c.requires.watching
 
 pub acts-preserved : goal.acts-preserved
 acts-preserved g c =
     let e = c.in_ok-act.ensures in
-    acts_on c.args.ledgers.now c.args.machine.now c.acts.machine c.act.new.machine c.args.passes.now c.acts.passes c.act.new.passes c.acts.counter
-    c.acts.invariant e.gone_on e.able e.tracks e.seen e.owner e.elsewhere (e.fewer c.if-not-branch.false)
+    acts_on c.args.side.now.ledgers.now c.args.machine.now c.acts.machine c.act.new.machine c.args.passes.now c.acts.passes c.act.new.passes c.acts.counter
+    c.acts.invariant e.gone_on e.able e.watching e.seen e.owner e.elsewhere (e.fewer c.if-not-branch.false)
 
 pub returns-clause-rests : goal.returns-clause-rests
 returns-clause-rests g c =
     let h : c.most_acts-end.result ≡ most_acts c.args.machine.now.deal = rw c.deal.ensures.value at c.most_acts-end.ensures in
-    acts_end c.args.ledgers.now c.args.machine.now c.args.passes.now c.acts.counter c.acts.machine c.acts.passes c.acts.invariant
+    acts_end c.args.side.now.ledgers.now c.args.machine.now c.args.passes.now c.acts.counter c.acts.machine c.acts.passes c.acts.invariant
     (omega (arith, h, c.acts-test.false))

@@ -2,4 +2,4 @@ use Rattle.party_threads.proofs.Acting.{IsActing}
 use Rattle.party_threads.proofs.machine_turn.act_to_rest.Given as goal
 
 abbrev pub invariant-acts : goal.invariant-acts
-invariant-acts g l = IsActing l.ledgers l.fn.machine l.fn.passes l.counter l.machine l.passes
+invariant-acts g l = IsActing l.side.ledgers.now l.fn.machine l.fn.passes l.counter l.machine l.passes

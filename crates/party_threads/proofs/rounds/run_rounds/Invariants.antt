@@ -5,6 +5,7 @@ use Rattle.party_threads.proofs.rounds.run_rounds.Given as goal
 
 abbrev pub invariant-rounds : goal.invariant-rounds
 invariant-rounds g l = record {
-  stands : Stands l.job l.ledgers l.turns;
-  raced : IsRaced (g.A.Strategies.gives l.staff) (job_cast l.job) l.ticks l.number (race_state l.job l.ledgers l.turns);
+  stands : Stands l.setting.job.now l.ledgers l.turns;
+  raced : IsRaced (g.A.Strategies.gives l.setting.staff.now) (job_cast l.setting.job.now) l.setting.ticks l.number
+      (race_state l.setting.job.now l.ledgers l.turns);
 }

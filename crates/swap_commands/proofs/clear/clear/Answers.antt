@@ -1,10 +1,29 @@
-use Rattle.std.proofs.Common.{inl}
-use Rattle.std.proofs.KnownBytes.{Keeps-refl}
-use Rattle.swap_commands.proofs.Saying.{none_consumed}
+use Rattle.std.proofs.Common.{◌∙◌}
+use Rattle.swap_commands.specs.Words.{Clear}
+use Rattle.swap_commands.proofs.Saying.{calm_stopped, says_stopped}
+use Rattle.swap_commands.proofs.Clearings.{says_clear}
 use Rattle.swap_commands.proofs.clear.clear.Goals as goal
 
 pub returns-in-Ok-clause-says : goal.returns-in-Ok-clause-says
-returns-in-Ok-clause-says g c = c.clear_input.ensures.says
+returns-in-Ok-clause-says g c =
+    says_clear _ _ _ _ _ _ _ _ _ _ c.clear_wishes.new.input _ c.tell.result c.in-Ok.ensures.cleared (rw c.deref.ensures.value at c.tell.ensures)
 
 pub returns-in-Err-clause-says : goal.returns-in-Err-clause-says
-returns-in-Err-clause-says g c = inl (Keeps-refl (g.K.Sink.taken c.args.sink.now), none_consumed (g.S.Source.left c.args.source.now))
+returns-in-Err-clause-says g c =
+    rw c.unread.ensures
+    (says_stopped (g.A.Strategies.holds c.args._staff.now) (g.A.Strategies.gives c.args._staff.now) Clear (g.S.Source.left c.args.source.now)
+    (g.S.Source.left c.clear_wishes.new.source) (g.S.Source.left c.stop.new.source)
+    (g.S.Source.faults c.args.source.now) (g.S.Source.faults c.clear_wishes.new.source) (g.S.Source.faults c.stop.new.source) c.clear_wishes.new.input
+    c.stop.new.self (g.K.Sink.taken c.args.sink.now) (g.K.Sink.faults c.args.sink.now) c.in-Err.fault c.stop.result (c.in-Err.ensures.stops _) c.stop.ensures)
+
+-- No read failed, unless the status tells of it.
+
+pub returns-in-Err-clause-calm : goal.returns-in-Err-clause-calm
+returns-in-Err-clause-calm g c = λ unless.
+    calm_stopped (g.A.Strategies.holds c.args._staff.now) Clear (g.S.Source.left c.args.source.now) (g.S.Source.left c.clear_wishes.new.source)
+    (g.S.Source.left c.stop.new.source) (g.S.Source.faults c.args.source.now) (g.S.Source.faults c.clear_wishes.new.source)
+    (g.S.Source.faults c.stop.new.source) c.clear_wishes.new.input c.stop.new.self c.in-Err.fault c.stop.result (c.in-Err.ensures.stops _) c.stop.ensures
+    (λ e. unless (c.unread.ensures ∙ e))
+
+pub returns-in-Ok-clause-calm : goal.returns-in-Ok-clause-calm
+returns-in-Ok-clause-calm g c = λ unless. c.in-Ok.ensures.cleared.stands.calm

@@ -1,20 +1,31 @@
-use Rattle.swap_many.proofs.Values.{held_same}
 use Rattle.std.proofs.Common.{[]}
 use Rattle.command_input.specs.Input.{desk}
 use Rattle.command_input.proofs.Ahead.{stands_none}
 use Rattle.command_input.proofs.Streams.{no_memory_after}
-use Rattle.swap_commands.proofs.ManyWorlds.{opened_are_held}
+use Rattle.swap_commands.proofs.ManyTold.{is_replayed}
+use Rattle.swap_commands.proofs.ManyWorlds.{opened_are_held, opened_are_of}
 use Rattle.swap_commands.proofs.many.run_events.Goals as goal
 
-pub replay-requires-clause-held : goal.replay-requires-clause-held
-replay-requires-clause-held g c =
-    opened_are_held (g.A.Strategies.holds c.args.staff.now) c.args.many.now c.in-Ok.world c.in-Ok.ensures.opened c.requires.held
+pub walk-requires-clause-can : goal.walk-requires-clause-can
+walk-requires-clause-can g c =
+    let many = c.args.many.now in
+    let opened = c.in-Ok.ensures.opened in
+    record {
+      chains = c.requires.chains;
+      swaps = c.requires.swaps;
+      are_worlds = opened_are_of many c.in-Ok.world opened;
+      held = opened_are_held (g.A.Strategies.holds c.args.staff.now) many c.in-Ok.world opened c.requires.held;
+    }
 
-pub returns-in_ok-replay-in-Ok-clause-held : goal.returns-in_ok-replay-in-Ok-clause-held
-returns-in_ok-replay-in-Ok-clause-held g c =
-    held_same (g.A.Strategies.gives c.args.staff.now) c.in-Ok.world c.replay.new.world (g.A.Strategies.holds c.args.staff.now)
-    c.in_ok-replay-in-Ok.ensures.replayed.gone.same
-    (opened_are_held (g.A.Strategies.holds c.args.staff.now) c.args.many.now c.in-Ok.world c.in-Ok.ensures.opened c.requires.held)
+pub returns-in_ok-walk-in-Ok-clause-run : goal.returns-in_ok-walk-in-Ok-clause-run
+returns-in_ok-walk-in-Ok-clause-run g c = record {
+  new = c.in-Ok.world;
+  begun = c.in-Ok.ensures.opened;
+  replayed = is_replayed (g.A.Strategies.gives c.args.staff.now) c.args.many.now _ _ _ _ c.in_ok-walk-in-Ok.ensures.walked;
+}
+
+pub returns-in_ok-walk-in-Ok-clause-held : goal.returns-in_ok-walk-in-Ok-clause-held
+returns-in_ok-walk-in-Ok-clause-held g c = c.in_ok-walk-in-Ok.ensures.can.held
 
 pub returns-in-Err-NoMemory-clause-stops : goal.returns-in-Err-NoMemory-clause-stops
 returns-in-Err-NoMemory-clause-stops g c =

@@ -21,8 +21,19 @@ returns-in-Ok-clause-entered g c =
     is_read _ purposes.Race (λ job. replayed skipped_event job 0 tt) _ _ _ _ c.in_ok-job.field-0.job tt c.in_ok-job.ensures.line c.in_ok-job.ensures.header
     c.in-Ok.ensures.exact
 
-pub returns-in-Ok-clause-held : goal.returns-in-Ok-clause-held
-returns-in-Ok-clause-held g c = held _ c.in_ok-job.field-0.job.roles c.in_ok-job.ensures.strategies
+pub returns-in-Ok-clause-can : goal.returns-in-Ok-clause-can
+returns-in-Ok-clause-can g c =
+    let e = c.in_ok-job.ensures in
+    record {
+      whole = e.whole;
+      names = e.known;
+      purpose = e.purpose;
+      accepted = e.accepted;
+      held = held _ c.in_ok-job.field-0.job.roles e.strategies;
+      scripts = e.scripts;
+      fit = e.wallets;
+      made = e.made;
+    }
 
 pub returns-in-Err-clause-stops : goal.returns-in-Err-clause-stops
 returns-in-Err-clause-stops g c = λ ticks transcript.

@@ -1,6 +1,4 @@
-use Rattle.std.proofs.Common.{◌≡◌, ◌∙◌, ℕ, List, map, string_bytes, Some, None, refl, sym, ap}
-use Rattle.program_words.specs.Words.{task_text}
-use Rattle.program_words.specs.declared.task.Task.{Task}
+use Rattle.std.proofs.Common.{ℕ, List, map, string_bytes, refl}
 use Rattle.program_words.specs.declared.task.Task.TheVariants.{Input, Race, Number}
 use Rattle.program_words.proofs.Ranges.{task_within}
 use Rattle.swap_main.proofs.Performing as tasks
@@ -10,58 +8,50 @@ pub perform_race-requires-clause-some : goal.perform_race-requires-clause-some
 perform_race-requires-clause-some g c =
     λ κs lives.
     let words : List (List ℕ) = map string_bytes c.args.words.now.items in
-    let asked : task_text words ≡ Some c.in-Some.asked = rw (sym c.deref.ensures.value) (sym c.in-Ok.ensures.exact ∙ c.in-Some.is) in
-    let is = asked ∙ ap (λ (t : Task). Some t) c.in-Race.is in
+    let is = tasks.asked_as _ _ _ _ _ _ c.deref.ensures.value c.in-Ok.ensures.exact c.in-Some.is c.in-Race.is in
     (task_within words (Race c.in-Race.ticks c.in-Race.transcript) is).0
 
 pub perform_race-requires-clause-below : goal.perform_race-requires-clause-below
 perform_race-requires-clause-below g c =
     λ κs lives.
     let words : List (List ℕ) = map string_bytes c.args.words.now.items in
-    let asked : task_text words ≡ Some c.in-Some.asked = rw (sym c.deref.ensures.value) (sym c.in-Ok.ensures.exact ∙ c.in-Some.is) in
-    let is = asked ∙ ap (λ (t : Task). Some t) c.in-Race.is in
+    let is = tasks.asked_as _ _ _ _ _ _ c.deref.ensures.value c.in-Ok.ensures.exact c.in-Some.is c.in-Race.is in
     (task_within words (Race c.in-Race.ticks c.in-Race.transcript) is).1
 
 pub generate-requires-clause-low : goal.generate-requires-clause-low
 generate-requires-clause-low g c =
     let words : List (List ℕ) = map string_bytes c.args.words.now.items in
-    let asked : task_text words ≡ Some c.in-Some.asked = rw (sym c.deref.ensures.value) (sym c.in-Ok.ensures.exact ∙ c.in-Some.is) in
-    let is = asked ∙ ap (λ (t : Task). Some t) c.in-Number.is in
+    let is = tasks.asked_as _ _ _ _ _ _ c.deref.ensures.value c.in-Ok.ensures.exact c.in-Some.is c.in-Number.is in
     (task_within words (Number c.in-Number.request) is).0
 
 pub generate-requires-clause-high : goal.generate-requires-clause-high
 generate-requires-clause-high g c =
     let words : List (List ℕ) = map string_bytes c.args.words.now.items in
-    let asked : task_text words ≡ Some c.in-Some.asked = rw (sym c.deref.ensures.value) (sym c.in-Ok.ensures.exact ∙ c.in-Some.is) in
-    let is = asked ∙ ap (λ (t : Task). Some t) c.in-Number.is in
+    let is = tasks.asked_as _ _ _ _ _ _ c.deref.ensures.value c.in-Ok.ensures.exact c.in-Some.is c.in-Number.is in
     (task_within words (Number c.in-Number.request) is).1
 
 pub returns-in-Input-clause-words : goal.returns-in-Input-clause-words
 returns-in-Input-clause-words g c =
     let words : List (List ℕ) = map string_bytes c.args.words.now.items in
-    let asked : task_text words ≡ Some c.in-Some.asked = rw (sym c.deref.ensures.value) (sym c.in-Ok.ensures.exact ∙ c.in-Some.is) in
-    let is = asked ∙ ap (λ (t : Task). Some t) c.in-Input.is in
+    let is = tasks.asked_as _ _ _ _ _ _ c.deref.ensures.value c.in-Ok.ensures.exact c.in-Some.is c.in-Input.is in
     tasks.never_wrong words (Input c.in-Input.given) is c.obey.result (tasks.said_is_right _ _ _ _ _ _ _ _ _ _ _ c.obey.result c.obey.ensures.says)
 
 pub returns-in-Race-clause-words : goal.returns-in-Race-clause-words
 returns-in-Race-clause-words g c =
     let words : List (List ℕ) = map string_bytes c.args.words.now.items in
-    let asked : task_text words ≡ Some c.in-Some.asked = rw (sym c.deref.ensures.value) (sym c.in-Ok.ensures.exact ∙ c.in-Some.is) in
-    let is = asked ∙ ap (λ (t : Task). Some t) c.in-Race.is in
+    let is = tasks.asked_as _ _ _ _ _ _ c.deref.ensures.value c.in-Ok.ensures.exact c.in-Some.is c.in-Race.is in
     tasks.never_wrong words (Race c.in-Race.ticks c.in-Race.transcript) is c.perform_race.result
     (tasks.said_is_right _ _ _ _ _ _ _ _ _ _ _ c.perform_race.result c.perform_race.ensures.says)
 
 pub returns-in-Number-clause-words : goal.returns-in-Number-clause-words
 returns-in-Number-clause-words g c =
     let words : List (List ℕ) = map string_bytes c.args.words.now.items in
-    let asked : task_text words ≡ Some c.in-Some.asked = rw (sym c.deref.ensures.value) (sym c.in-Ok.ensures.exact ∙ c.in-Some.is) in
-    let is = asked ∙ ap (λ (t : Task). Some t) c.in-Number.is in
+    let is = tasks.asked_as _ _ _ _ _ _ c.deref.ensures.value c.in-Ok.ensures.exact c.in-Some.is c.in-Number.is in
     tasks.never_wrong words (Number c.in-Number.request) is c.generate.result (tasks.made_is_right _ _ _ _ _ c.generate.result c.generate.ensures)
 
 pub returns-in_default-read-clause-words : goal.returns-in_default-read-clause-words
 returns-in_default-read-clause-words g c =
-    let words : List (List ℕ) = map string_bytes c.args.words.now.items in
-    let none : task_text words ≡ None = rw (sym c.deref.ensures.value) (sym c.in-Ok.ensures.exact ∙ c.in_default-read.is) in
+    let none = tasks.none_asked _ _ _ _ c.deref.ensures.value c.in-Ok.ensures.exact c.in_default-read.is in
     (λ e. none, λ e. refl)
 
 pub returns-in-Input-clause-unread : goal.returns-in-Input-clause-unread
@@ -79,42 +69,37 @@ returns-in-Number-clause-unread g c e =
 pub returns-in-Input-clause-unread_by_number : goal.returns-in-Input-clause-unread_by_number
 returns-in-Input-clause-unread_by_number g c request number =
     let words : List (List ℕ) = map string_bytes c.args.words.now.items in
-    let asked : task_text words ≡ Some c.in-Some.asked = rw (sym c.deref.ensures.value) (sym c.in-Ok.ensures.exact ∙ c.in-Some.is) in
-    let is = asked ∙ ap (λ (t : Task). Some t) c.in-Input.is in
+    let is = tasks.asked_as _ _ _ _ _ _ c.deref.ensures.value c.in-Ok.ensures.exact c.in-Some.is c.in-Input.is in
     absurd (cc (tasks.number_is words (Input c.in-Input.given) request is number))
 
 pub returns-in-Race-clause-unread_by_number : goal.returns-in-Race-clause-unread_by_number
 returns-in-Race-clause-unread_by_number g c request number =
     let words : List (List ℕ) = map string_bytes c.args.words.now.items in
-    let asked : task_text words ≡ Some c.in-Some.asked = rw (sym c.deref.ensures.value) (sym c.in-Ok.ensures.exact ∙ c.in-Some.is) in
-    let is = asked ∙ ap (λ (t : Task). Some t) c.in-Race.is in
+    let is = tasks.asked_as _ _ _ _ _ _ c.deref.ensures.value c.in-Ok.ensures.exact c.in-Some.is c.in-Race.is in
     absurd (cc (tasks.number_is words (Race c.in-Race.ticks c.in-Race.transcript) request is number))
 
 pub returns-in-Input-clause-answer : goal.returns-in-Input-clause-answer
 returns-in-Input-clause-answer g c =
     let words : List (List ℕ) = map string_bytes c.args.words.now.items in
-    let asked : task_text words ≡ Some c.in-Some.asked = rw (sym c.deref.ensures.value) (sym c.in-Ok.ensures.exact ∙ c.in-Some.is) in
-    let is = asked ∙ ap (λ (t : Task). Some t) c.in-Input.is in
+    let is = tasks.asked_as _ _ _ _ _ _ c.deref.ensures.value c.in-Ok.ensures.exact c.in-Some.is c.in-Input.is in
     tasks.answer _ words _ _ (Input c.in-Input.given) is c.obey.result c.obey.ensures.says
 
 pub returns-in-Race-clause-answer : goal.returns-in-Race-clause-answer
 returns-in-Race-clause-answer g c =
     let words : List (List ℕ) = map string_bytes c.args.words.now.items in
-    let asked : task_text words ≡ Some c.in-Some.asked = rw (sym c.deref.ensures.value) (sym c.in-Ok.ensures.exact ∙ c.in-Some.is) in
-    let is = asked ∙ ap (λ (t : Task). Some t) c.in-Race.is in
+    let is = tasks.asked_as _ _ _ _ _ _ c.deref.ensures.value c.in-Ok.ensures.exact c.in-Some.is c.in-Race.is in
     tasks.answer _ words _ _ (Race c.in-Race.ticks c.in-Race.transcript) is c.perform_race.result c.perform_race.ensures.says
 
 pub returns-in-Number-clause-answer : goal.returns-in-Number-clause-answer
 returns-in-Number-clause-answer g c =
     let words : List (List ℕ) = map string_bytes c.args.words.now.items in
-    let asked : task_text words ≡ Some c.in-Some.asked = rw (sym c.deref.ensures.value) (sym c.in-Ok.ensures.exact ∙ c.in-Some.is) in
-    let is = asked ∙ ap (λ (t : Task). Some t) c.in-Number.is in
+    let is = tasks.asked_as _ _ _ _ _ _ c.deref.ensures.value c.in-Ok.ensures.exact c.in-Some.is c.in-Number.is in
     tasks.answer _ words _ _ (Number c.in-Number.request) is c.generate.result (refl, c.generate.ensures)
 
 pub returns-in_default-read-clause-answer : goal.returns-in_default-read-clause-answer
 returns-in_default-read-clause-answer g c =
     let words : List (List ℕ) = map string_bytes c.args.words.now.items in
-    let none : task_text words ≡ None = rw (sym c.deref.ensures.value) (sym c.in-Ok.ensures.exact ∙ c.in_default-read.is) in
+    let none = tasks.none_asked _ _ _ _ c.deref.ensures.value c.in-Ok.ensures.exact c.in_default-read.is in
     tasks.with_wrong_words _ words _ none
 
 pub returns-in_default-clause-answer : goal.returns-in_default-clause-answer

@@ -1,4 +1,0 @@
-use Rattle.party_threads.proofs.machine_turn.learn.Given as goal
-
-abbrev pub ghosts-learn_counted : goal.ghosts-learn_counted
-ghosts-learn_counted a = record { name = a.blank.name; parts = a.blank.parts }
