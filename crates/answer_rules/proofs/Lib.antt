@@ -5,5 +5,5 @@ pub mod Until
 pub mod Parts
 pub mod Waiting
 pub mod Ending
-pub mod Loops
 pub mod Measured
+pub mod Stopping

@@ -11,6 +11,7 @@ use Rattle.swap_digraph.specs.Graph.{entering}
 use Rattle.swap_digraph.specs.Deal.{locks, leads}
 use Rattle.hashkey_path.specs.declared.hashkey.Hashkey.{Hashkey}
 use Rattle.ledger_core.specs.declared.entry.Call.{Call}
+use Rattle.ledger_core.specs.declared.entry.Call.TheVariants.{Unlock}
 use Rattle.ledger_core.specs.declared.entry.Entry.{Entry}
 use Rattle.ledger_core.specs.History.{height}
 use Rattle.ledger_core.specs.Book.{Histories, history}
@@ -47,7 +48,7 @@ pub to_cond : (b : Bool) (xs : List Action) (x : Action) → b ≡ false → IsE
 to_cond true xs x e i = absurd (false≢true (sym e))
 to_cond false xs x e i = i
 
-in_if : (b : Bool) (xs : List Action) (x : Action) → IsElement x (cond b xs []) → (b ≡ true) × IsElement x xs
+pub in_if : (b : Bool) (xs : List Action) (x : Action) → IsElement x (cond b xs []) → (b ≡ true) × IsElement x xs
 in_if true xs x i = (refl, i)
 in_if false xs x i = absurd i
 
@@ -55,9 +56,10 @@ to_if : (b : Bool) (xs : List Action) (x : Action) → b ≡ true → IsElement 
 to_if true xs x e i = i
 to_if false xs x e i = absurd (false≢true e)
 
-in_presented : (a : ℕ) (o : Option Hashkey) (x : Action) → IsElement x (presented a o) → (key : Hashkey) × (o ≡ Some key)
+pub in_presented : (a : ℕ) (o : Option Hashkey) (x : Action) → IsElement x (presented a o) → (key : Hashkey) × (o ≡ Some key) × (x.call ≡ Unlock key)
 in_presented a None x i = absurd i
-in_presented a (Some key) x i = (key, refl)
+in_presented a (Some key) x (inl e) = (key, refl, ap (λ y. y.call) e)
+in_presented a (Some key) x (inr i) = absurd i
 
 -- Kind by kind.
 

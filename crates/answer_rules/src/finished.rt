@@ -1,6 +1,6 @@
 //! When a party is done.
 
-ghost use Rattle.std.specs.Prelude.{◌≡◌, ◌<◌, is_some, length, nat_lt, true};
+ghost use Rattle.std.specs.Prelude.{◌≡◌, ◌<◌, ◌^◌, is_some, length, nat_lt, true};
 ghost use Rattle.std.specs.List.{list_all};
 ghost use Rattle.swap_digraph.specs.Deal.{IsWellSized};
 ghost use Rattle.ledger_core.specs.Book.{history};
@@ -16,11 +16,12 @@ use swap_digraph::Deal;
 use time_bounds::opening_deadline;
 
 /// The greatest height up to which a lock of the arc can be opened.
-#[tactic(auto, using(crate::proofs::Loops::greatest_more))]
-fn last_expiry(deal: &Deal, arc: ArcId) -> u64
+#[tactic(auto, using(late_check::proofs::Loops::greatest_more))]
+pub fn last_expiry(deal: &Deal, arc: ArcId) -> u64
     requires sized { IsWellSized deal.now }
     requires arc { arc < length deal.now.graph.arcs }
-    ensures { result ≡ last_expiry deal.now arc }
+    ensures exact { result ≡ last_expiry deal.now arc }
+    ensures small { result < 2 ^ 62 }
 {
     let mut last: u64 = 0;
     'locks: for lock in 0..deal.leaders.len() as u8 {

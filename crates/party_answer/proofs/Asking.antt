@@ -1,5 +1,5 @@
 -- What is asked, and what is answered to it.
-use Rattle.std.proofs.Common.{◌≡◌, ◌≢◌, ◌<◌, ℕ, Bool, true, false, ◌||◌, ◌==◌, not, List, length, ◌++◌, map, None, Result, Ok, Err, refl, sym, ap, ◌∙◌, subst}
+use Rattle.std.proofs.Common.{◌≡◌, ◌≢◌, ◌<◌, ℕ, Bool, true, false, ◌||◌, ◌==◌, not, List, [], ◌∷◌, length, ◌++◌, map, None, Result, Ok, Err, refl, sym, ap, ◌∙◌, subst}
 use Rattle.std.specs.Prelude.{is_some}
 use Rattle.std.specs.List.{flat_map, list_any}
 use Rattle.std.specs.Str.{bytes_eq}
@@ -7,6 +7,7 @@ use Rattle.swap_base.specs.declared.fault.Fault.{Fault}
 use Rattle.swap_base.specs.declared.fault.Fault.TheVariants as faults
 use Rattle.swap_base.specs.Fault.{◌>>=◌, Gives, Fails}
 use Rattle.swap_base.specs.Lists.{IsElement}
+use Rattle.swap_base.proofs.Lists.{from_filter}
 use Rattle.swap_digraph.specs.declared.deal.Deal.{Deal}
 use Rattle.swap_digraph.specs.Deal.{IsWellSized}
 use Rattle.swap_rules.specs.Accepted.{IsAccepted}
@@ -21,8 +22,10 @@ use Rattle.party_machine.specs.Wallet.{seed_wallet}
 use Rattle.party_machine.proofs.Good.{fitting_is_good}
 use Rattle.told_ledgers.specs.Telling.{told_book}
 use Rattle.answer_rules.specs.Laws.{AreGoodKeys}
-use Rattle.answer_rules.specs.Stopped.{unstopped}
+use Rattle.answer_rules.specs.Stopped.{is_stopped, useful_unless_stopped}
 use Rattle.answer_rules.proofs.Measured.{useful_is_short}
+use Rattle.answer_rules.proofs.Stopping.{unstopped_useful}
+use Rattle.party_due.specs.Actions.{is_lock_stopped}
 use Rattle.party_answer.specs.declared.asked.Asked.{Asked}
 use Rattle.party_answer.specs.declared.given.Answer.{Answer}
 use Rattle.party_answer.specs.declared.reason.AnswerReason.{AnswerReason}
@@ -32,9 +35,9 @@ use Rattle.party_answer.specs.declared.unkept.Unkept.{Unkept}
 use Rattle.party_answer.specs.Asked.{Question, SaidState, as_agreed, asked, by_refusal, lines_said, said_asked, text_said, unless_differs}
 use Rattle.party_answer.specs.Faults.{refusal_fault}
 use Rattle.party_answer.specs.Inside.{asked_question, calls_text, AreMeasured, IsAsked}
-use Rattle.party_answer.specs.Unkept.{is_lock_unkept}
+use Rattle.party_answer.specs.Unkept.{is_lock_unkept, stopped_locks}
 use Rattle.party_answer.specs.Lines.{timed}
-use Rattle.party_answer.specs.Text.{answer_told, answered_calls, bad_lines, due_text, question_answer, said_answer, unkept, unkept_text, warning_text, warns}
+use Rattle.party_answer.specs.Text.{answer_told, answered, answered_calls, bad_lines, due_text, question_answer, said_answer, unkept, unkept_text, warning_text, warns}
 use Rattle.party_answer.specs.Promised.{IsPromisedAnswer, NeedsAgreement}
 use Rattle.party_lines.specs.Lines.{ended_lines}
 use Rattle.party_answer.proofs.Answered.{IsSound, holds, seed_signs}
@@ -64,25 +67,42 @@ is_asked seed d a e accepted sized me fits legal places good = record {
   good = subst (λ (x : Deal). AreGoodKeys x a.me (signed_hashkey a.kept.signed.keys)) (sym e) good;
 }
 
--- what is useful is on arcs of the deal
-pub measured : (seed : List ℕ) (a : Asked) (k : Histories) (xs : List Action) → IsAsked seed a → k ≡ told_book a.ledgers
-    → xs ≡ useful a.deal a.me (seed_wallet seed a.me a.deal) (signed_hashkey a.kept.signed.keys) k → AreMeasured a.deal xs
-measured seed a k xs is e f x i =
-    let s = sound seed a is in
-    useful_is_short a.deal a.me (seed_wallet seed a.me a.deal) (signed_hashkey a.kept.signed.keys) (told_book a.ledgers) is.accepted is.legal s.wallet
-    (seed_signs a.deal a.me seed) is.good x
-    (subst (λ b. IsElement x (useful a.deal a.me (seed_wallet seed a.me a.deal) (signed_hashkey a.kept.signed.keys) b)) e (subst (IsElement x) f i))
-
 -- ---- what is answered
 
-pub calls_given : (seed : List ℕ) (a : Asked) (k : Histories) (xs : List Action) (us : List Unkept) (ts : List Timed) → k ≡ told_book a.ledgers
-    → xs ≡ useful a.deal a.me (seed_wallet seed a.me a.deal) (signed_hashkey a.kept.signed.keys) k → us ≡ unkept (asked_question seed a)
-    → ts ≡ map (timed a.deal k a.me) (unstopped (is_lock_unkept us) xs) → ts ≡ answered_calls (asked_question seed a)
-calls_given seed a k xs us ts e f g h =
-    h ∙ (ap (λ ys. map (timed a.deal k a.me) (unstopped (is_lock_unkept us) ys)) f
-    ∙ (ap (λ b. map (timed a.deal b a.me) (unstopped (is_lock_unkept us) (useful a.deal a.me (seed_wallet seed a.me a.deal) (signed_hashkey a.kept.signed.keys) b))) e
-    ∙ ap (λ z. map (timed a.deal (told_book a.ledgers) a.me) (unstopped (is_lock_unkept z)
-    (useful a.deal a.me (seed_wallet seed a.me a.deal) (signed_hashkey a.kept.signed.keys) (told_book a.ledgers)))) g))
+-- the stopped locks are those of unlocks that were never kept
+same_stops : (us : List Unkept) → ◌≡◌ {A = ℕ → Bool} (is_lock_stopped (stopped_locks us)) (is_lock_unkept us)
+same_stops us = λ j i. (each us i) j
+  where
+    each : (us : List Unkept) (i : ℕ) → is_lock_stopped (stopped_locks us) i ≡ is_lock_unkept us i
+    each [] i = refl
+    each (u ∷ us) i = ap (λ b. (u.lock == i) || b) (each us i)
+
+module _ (seed : List ℕ) (a : Asked) (k : Histories) (us : List Unkept) (stopped : List ℕ) (xs : List Action) (is : IsAsked seed a)
+    (e : k ≡ told_book a.ledgers) (f : us ≡ unkept (asked_question seed a)) (g : stopped ≡ stopped_locks us)
+    (h : xs ≡ useful_unless_stopped (is_lock_stopped stopped) a.deal a.me (seed_wallet seed a.me a.deal) (signed_hashkey a.kept.signed.keys) k) where
+  abbrev left : (ℕ → Bool) → Histories → List Action
+  left stops b = useful_unless_stopped stops a.deal a.me (seed_wallet seed a.me a.deal) (signed_hashkey a.kept.signed.keys) b
+
+  -- what is useful and not stopped is what is answered
+  answered_is : xs ≡ answered (asked_question seed a)
+  answered_is =
+      h ∙ ap (λ z. left (is_lock_stopped z) k) g ∙ ap (λ s. left s k) (same_stops us) ∙ ap (left (is_lock_unkept us)) e
+      ∙ ap (λ z. left (is_lock_unkept z) (told_book a.ledgers)) f
+      ∙ unstopped_useful (is_lock_unkept (unkept (asked_question seed a))) a.deal a.me (seed_wallet seed a.me a.deal) (signed_hashkey a.kept.signed.keys)
+      (told_book a.ledgers) is.legal (seed_signs a.deal a.me seed) is.good
+
+  -- it is on arcs of the deal
+  pub measured : AreMeasured a.deal xs
+  measured x i =
+      let s = sound seed a is in
+      let j = from_filter (λ y. not (is_stopped (is_lock_unkept (unkept (asked_question seed a))) y.call)) x
+      (useful a.deal a.me (seed_wallet seed a.me a.deal) (signed_hashkey a.kept.signed.keys) (told_book a.ledgers)) (subst (IsElement x) answered_is i) in
+      useful_is_short a.deal a.me (seed_wallet seed a.me a.deal) (signed_hashkey a.kept.signed.keys) (told_book a.ledgers) is.accepted is.legal s.wallet
+      (seed_signs a.deal a.me seed) is.good x j.0
+
+  pub calls_given : (ts : List Timed) → ts ≡ map (timed a.deal k a.me) xs → ts ≡ answered_calls (asked_question seed a)
+  calls_given ts t =
+      t ∙ ap (map (timed a.deal k a.me)) answered_is ∙ ap (λ b. map (timed a.deal b a.me) (answered (asked_question seed a))) e
 
 pub text_given : (seed : List ℕ) (a : Asked) (k : Histories) (us : List Unkept) (ts : List Timed) (text : List ℕ) → k ≡ told_book a.ledgers
     → us ≡ unkept (asked_question seed a) → ts ≡ answered_calls (asked_question seed a)

@@ -1,5 +1,5 @@
 -- Every hashkey that notes come to opens its lock on each arc that enters the party.
-use Rattle.std.proofs.Common.{◌≡◌, ◌≢◌, ◌⊎◌, ℕ, zero, suc, ◌<◌, ◌==◌, nat_lt, Bool, true, false, cond, not, ◌&&◌, ◌||◌, List, [], ◌∷◌, ◌++◌, length, replicate, get_or, set}
+use Rattle.std.proofs.Common.{◌≡◌, ◌≢◌, ◌⊎◌, ℕ, zero, suc, ◌==◌, nat_lt, Bool, true, false, cond, not, ◌&&◌, ◌||◌, List, [], ◌∷◌, ◌++◌, length, replicate, set}
 use Rattle.std.proofs.Common.{Option, Some, None, is_none, Result, Ok, Err, refl, sym, ap, ◌∙◌, subst, inl, inr, ltb-true, ltb-false}
 use Rattle.std.proofs.lemmas.Bool.{false≢true}
 use Rattle.std.proofs.lemmas.List.{get_or-set_same, get_or-set_other, set_past}
@@ -27,7 +27,7 @@ use Rattle.swap_rules.proofs.Words.{enters, same_key-true}
 use Rattle.party_lines.specs.Lines.{nameless, next_number}
 use Rattle.party_answer.specs.declared.note.Note.{Note}
 use Rattle.party_answer.specs.declared.note.Note.TheVariants.{Keep, Sent}
-use Rattle.party_answer.specs.Kept.{KeptState, is_valid_answer, opens_arc, opens_first, may_be_kept, is_keepable, with_note, with_notes}
+use Rattle.party_answer.specs.Kept.{KeptState, is_valid_answer, opens_first, may_be_kept, is_keepable, with_note, with_notes}
 use Rattle.party_answer.specs.NoteStates.{AreGood}
 
 -- Validity on one arc that enters a party is validity on each.

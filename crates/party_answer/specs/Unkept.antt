@@ -1,6 +1,6 @@
 -- Unlocks of the party with hashkeys that it never kept: somebody else has its seed, or what it
 -- kept is lost.
-use Rattle.std.specs.Prelude.{ℕ, ◌+◌, ◌==◌, ◌&&◌, ◌||◌, Bool, List, [], ◌∷◌, ◌++◌, Option, if◌then◌else◌}
+use Rattle.std.specs.Prelude.{ℕ, ◌+◌, ◌==◌, ◌&&◌, ◌||◌, Bool, List, [], ◌∷◌, ◌++◌, map, Option, if◌then◌else◌}
 use Rattle.std.specs.List.{list_any}
 use Rattle.hashkey_path.specs.declared.hashkey.Hashkey.{Hashkey}
 use Rattle.swap_rules.specs.Conduct.{is_first_key}
@@ -37,3 +37,7 @@ all_unkept kept ts = with_ledgers kept 0 [] ts
 -- one of them is for the lock
 abbrev pub is_lock_unkept : List Unkept → ℕ → Bool
 is_lock_unkept us i = list_any (λ u. u.lock == i) us
+
+-- the locks of these, for which nothing is signed
+abbrev pub stopped_locks : List Unkept → List ℕ
+stopped_locks us = map (λ u. u.lock) us

@@ -13,18 +13,18 @@ ghost use Rattle.party_answer.specs.Text.{answer_told, answered_calls, bad_lines
 ghost use Rattle.party_answer.specs.Promised.{IsAnswer, IsPromisedAnswer, NeedsAgreement};
 
 use crate::asked::{Asked, said_asked};
-use crate::calls::answered_calls;
+use crate::calls::with_heights;
 use crate::given::Answer;
 use crate::line::put_lines;
 use crate::reason::{AnswerFault, refusal_fault};
 use crate::said::{Said, read_said};
 use crate::text::{is_any_bad, put_all_unkept, put_end, put_ledgers};
 use crate::timed::Timed;
-use crate::unkept::{Unkept, all_unkept};
+use crate::unkept::{Unkept, all_unkept, stopped_locks};
 use history_index::Index;
 use ledger_core::Book;
 use outcome_rules::build_indexes;
-use party_due::all_useful;
+use party_due::{Signer, all_useful};
 use party_lines::ended_lines;
 use std::alloc::Global;
 use swap_base::{ByteText, Digest, Listed, NoMemory, TryCopy};
@@ -58,9 +58,14 @@ fn calls(
     requires list { list.now ≡ unkept (asked_question seed.now asked.now) }
     ensures { IfOk result (λ v. v.items ≡ answered_calls (asked_question seed.now asked.now)) }
 {
-    let kept = &asked.kept.signed;
-    let useful = all_useful(alloc, &asked.deal, asked.me, seed, kept, known)?;
-    answered_calls(alloc, &asked.deal, known, asked.me, list, &useful)
+    let stopped = stopped_locks(alloc, list)?;
+    let signer = Signer {
+        seed,
+        kept: &asked.kept.signed,
+        stopped: stopped.as_slice(),
+    };
+    let useful = all_useful(alloc, &asked.deal, asked.me, &signer, known)?;
+    with_heights(alloc, &asked.deal, known, asked.me, &useful)
 }
 
 /// Appends what is wrong.

@@ -1,13 +1,11 @@
 //! Unlocks of a party with hashkeys that it never kept.
 
-ghost use Rattle.std.specs.Prelude.{◌≡◌, ◌≤◌, ◌||◌, IfOk, OnOk, length, option_copied};
+ghost use Rattle.std.specs.Prelude.{◌≡◌, ◌≤◌, IfOk, OnOk, length, option_copied};
 ghost use Rattle.swap_rules.specs.Conduct.{is_first_key as is_first};
-ghost use Rattle.answer_rules.specs.Stopped.{is_stopped as stops_call};
 ghost use Rattle.party_wallet.specs.Value.{signed_hashkey};
-ghost use Rattle.party_answer.specs.Unkept.{all_unkept, has_lock, is_lock_unkept, with_ledgers, with_unlock, with_unlocks};
+ghost use Rattle.party_answer.specs.Unkept.{all_unkept, has_lock, stopped_locks, with_ledgers, with_unlock, with_unlocks};
 
 use hashkey_path::Hashkey;
-use ledger_core::Call;
 use party_wallet::Signed;
 use sent_keys::is_first_key;
 use std::alloc::Global;
@@ -103,19 +101,13 @@ pub(crate) fn all_unkept(
     Ok(list)
 }
 
-/// Whether one of them is for the lock.
-fn is_lock_unkept(list: &[Unkept], lock: LockId) -> bool
-    ensures { result ≡ is_lock_unkept list.now lock }
+/// The locks of these.
+pub(crate) fn stopped_locks(alloc: Global, list: &[Unkept]) -> Result<Vec<LockId>, NoMemory>
+    ensures { IfOk result (λ v. v.items ≡ stopped_locks list.now) }
 {
-    list.iter().any(|unkept| unkept.lock == lock)
-}
-
-/// Whether the call is an unlock for such a lock.
-pub(crate) fn is_stopped(list: &[Unkept], call: &Call) -> bool
-    ensures { result ≡ stops_call (is_lock_unkept list.now) call.now }
-{
-    match call {
-        Call::Unlock(key) => is_lock_unkept(list, key.lock),
-        _ => false,
+    let mut locks = Vec::new(alloc);
+    for unkept in list {
+        locks.push(unkept.lock)?;
     }
+    Ok(locks)
 }

@@ -1,5 +1,5 @@
 -- The hashkeys of due unlocks, and the unlocks with them.
-use Rattle.std.proofs.Common.{◌≡◌, ℕ, ◌<◌, Bool, true, false, cond, not, ◌&&◌, List, [], ◌∷◌, ◌++◌, length, Option, Some, None, option_map}
+use Rattle.std.proofs.Common.{◌≡◌, ℕ, ◌<◌, Bool, true, false, cond, not, ◌&&◌, ◌||◌, List, [], ◌∷◌, ◌++◌, length, Option, Some, None, option_map}
 use Rattle.std.proofs.Common.{refl, sym, ap, ap₂, ◌∙◌, subst, inl, inr, get_or, append-nil}
 use Rattle.std.specs.Prelude.{IsSome}
 use Rattle.std.specs.List.{flat_map, list_all}
@@ -19,8 +19,8 @@ use Rattle.history_index.specs.Value.{IndexState}
 use Rattle.history_index.specs.Indexes.{all_entries, AreIndexes}
 use Rattle.swap_rules.specs.Party.{is_ready, opens_without_party}
 use Rattle.swap_rules.specs.Due.{Wallet, Action, due_key, due_arc_unlock, extended, has_called, unlocks_lock, may_unlock, presented, when_due}
-use Rattle.swap_rules.specs.Walking.{pressing_unlocks}
-use Rattle.swap_rules.specs.Useful.{useful_unlocks}
+use Rattle.swap_rules.specs.Walking.{is_withheld, pressing_unlocks}
+use Rattle.answer_rules.specs.Stopped.{unlocks_unless_stopped}
 use Rattle.swap_rules.proofs.Words.{leaves, flat_map_none}
 use Rattle.swap_rules.proofs.Useful.{none_pressing}
 use Rattle.due_calls.proofs.Unlocking.{not_ready}
@@ -143,10 +143,48 @@ with_key d v w signed k i xs key e ready =
 pub nothing_more : {A : Type 0} (old new xs : List A) → new ≡ old → xs ≡ [] → new ≡ old ++ xs
 nothing_more old new xs e none = e ∙ (sym (append-nil old) ∙ ap (λ ys. old ++ ys) (sym none))
 
+-- Locks that are stopped or withheld.
+
+unless_none : (b : Bool) (xs : List Action) → xs ≡ [] → cond b [] xs ≡ []
+unless_none true xs e = refl
+unless_none false xs e = e
+
 -- nothing is useful for any lock where the party isn't ready
-pub none_useful : (d : Deal) (v : ℕ) (w : Wallet) (signed : ℕ → Option Hashkey) (k : Histories) → is_ready d k v ≡ false
-    → useful_unlocks d v w signed k ≡ []
-none_useful d v w signed k e =
-    empty_flat (pressing_unlocks d v w signed k) (locks d) (λ i j.
-    none_pressing d v w signed k i
-    (flat_map_none (λ i. flat_map (due_arc_unlock d v w (signed i) k i) (entering d.graph v)) (locks d) i (not_ready d v w signed k e) j))
+pub none_unless : (stops : ℕ → Bool) (d : Deal) (v : ℕ) (w : Wallet) (signed : ℕ → Option Hashkey) (k : Histories) → is_ready d k v ≡ false
+    → flat_map (unlocks_unless_stopped stops d v w signed k) (locks d) ≡ []
+none_unless stops d v w signed k e =
+    empty_flat (unlocks_unless_stopped stops d v w signed k) (locks d) (λ i j.
+    unless_none (stops i) (pressing_unlocks d v w signed k i) (none_pressing d v w signed k i
+    (flat_map_none (λ i. flat_map (due_arc_unlock d v w (signed i) k i) (entering d.graph v)) (locks d) i (not_ready d v w signed k e) j)))
+
+module _ (stops : ℕ → Bool) (d : Deal) (v : ℕ) where
+  abbrev is_silent : Histories → ℕ → Bool
+  is_silent k i = stops i || is_withheld d v k i || list_all (λ a. has_called v (unlocks_lock i) (history k a)) (entering d.graph v)
+
+  pub isnt_stopped : (k : Histories) (i : ℕ) → is_silent k i ≡ false → stops i ≡ false
+  isnt_stopped k i e = go (stops i) (is_withheld d v k i) (list_all (λ a. has_called v (unlocks_lock i) (history k a)) (entering d.graph v)) e
+    where
+      go : (b c r : Bool) → (b || c || r) ≡ false → b ≡ false
+      go true c r e = absurd (cc e)
+      go false c r e = refl
+
+  module _ (w : Wallet) (signed : ℕ → Option Hashkey) (k : Histories) (i : ℕ) where
+    abbrev for_lock : List Action
+    for_lock = flat_map (due_arc_unlock d v w (signed i) k i) (entering d.graph v)
+
+    pub silent : is_silent k i ≡ true → unlocks_unless_stopped stops d v w signed k i ≡ []
+    silent e = go (stops i) (is_withheld d v k i) e
+      where
+        go : (b c : Bool) → (b || c || list_all (λ a. has_called v (unlocks_lock i) (history k a)) (entering d.graph v)) ≡ true
+            → cond b [] (cond c [] for_lock) ≡ []
+        go true c e = refl
+        go false true e = refl
+        go false false e = all_called d v w (signed i) k i (entering d.graph v) e
+
+    pub spoken : is_silent k i ≡ false → for_lock ≡ unlocks_unless_stopped stops d v w signed k i
+    spoken e = go (stops i) (is_withheld d v k i) (list_all (λ a. has_called v (unlocks_lock i) (history k a)) (entering d.graph v)) e
+      where
+        go : (b c r : Bool) → (b || c || r) ≡ false → for_lock ≡ cond b [] (cond c [] for_lock)
+        go true c r e = absurd (cc e)
+        go false true r e = absurd (cc e)
+        go false false r e = refl

@@ -1,5 +1,6 @@
 -- Calls that are due.
-use Rattle.std.specs.Prelude.{List, map}
+use Rattle.std.specs.Prelude.{ℕ, Bool, List, map}
+use Rattle.swap_digraph.specs.Graph.{is_listed}
 use Rattle.swap_rules.specs.Due.{Action}
 use Rattle.party_due.specs.declared.due_call.DueCall.{DueCall}
 
@@ -10,3 +11,7 @@ due_action x = record { arc = x.arc; call = x.call }
 -- calls on arcs
 abbrev pub actions : List DueCall → List Action
 actions xs = map due_action xs
+
+-- lock i is one of these, for which nothing is signed
+abbrev pub is_lock_stopped : List ℕ → ℕ → Bool
+is_lock_stopped stopped i = is_listed i stopped

@@ -1,31 +1,31 @@
 //! The unlocks that are useful.
 
-ghost use Rattle.std.specs.Prelude.{◌≡◌, ◌<◌, ◌++◌, true, not, Some, OnOk, length};
+ghost use Rattle.std.specs.Prelude.{◌≡◌, ◌<◌, ◌||◌, ◌++◌, true, not, OnOk, length};
 ghost use Rattle.std.specs.List.{flat_map, list_all};
 ghost use Rattle.swap_digraph.specs.Graph.{entering};
-ghost use Rattle.swap_digraph.specs.Deal.{IsWellSized};
+ghost use Rattle.swap_digraph.specs.Deal.{locks, IsWellSized};
 ghost use Rattle.ledger_core.specs.declared.entry.Call.TheVariants.{Unlock};
 ghost use Rattle.ledger_core.specs.Book.{history, IsLegalBook};
 ghost use Rattle.history_index.specs.Indexes.{all_entries, AreIndexes};
 ghost use Rattle.swap_rules.specs.Party.{is_ready};
-ghost use Rattle.swap_rules.specs.Due.{due_key, due_arc_unlock, has_called, unlocks_lock, when_due};
-ghost use Rattle.swap_rules.specs.Walking.{pressing_unlocks};
-ghost use Rattle.swap_rules.specs.Useful.{useful_unlocks};
+ghost use Rattle.swap_rules.specs.Due.{has_called, unlocks_lock, when_due};
+ghost use Rattle.swap_rules.specs.Walking.{is_withheld};
+ghost use Rattle.answer_rules.specs.Stopped.{unlocks_unless_stopped};
 ghost use Rattle.party_wallet.specs.Value.{signed_hashkey};
 ghost use Rattle.party_machine.specs.Wallet.{seed_wallet};
-ghost use Rattle.party_due.specs.Actions.{actions};
+ghost use Rattle.party_due.specs.Actions.{actions, is_lock_stopped};
 
 use crate::due_call::{DueCall, put_when};
 use crate::due_key::due_key;
+use crate::signer::Signer;
 use crate::withheld::is_withheld;
 use due_calls::is_ready;
 use hashkey_path::Hashkey;
 use history_index::Index;
 use ledger_core::{Call, CallKind, Facts};
-use party_wallet::Signed;
 use std::alloc::Global;
-use swap_base::{ArcId, Digest, LockId, NoMemory, PartyId, Shared, TryCopy};
-use swap_digraph::Deal;
+use swap_base::{ArcId, LockId, NoMemory, PartyId, Shared, TryCopy};
+use swap_digraph::{Deal, is_listed};
 
 /// Whether the party made an unlock for the lock on the arc, whatever the reply.
 fn has_unlocked(me: PartyId, known: &[Index], lock: LockId, arc: ArcId) -> bool
@@ -84,14 +84,27 @@ fn put_key_unlocks(
     Ok(())
 }
 
-/// Adds the unlocks for the lock that are due where the party is ready. Nothing is signed where
-/// there is none.
+/// Whether nothing is presented for the lock: it is stopped or withheld, or the party made an
+/// unlock for it on each entering arc.
+fn is_silent(deal: &Deal, me: PartyId, signer: &Signer<'_>, known: &[Index], lock: LockId) -> bool
+    requires sized { IsWellSized deal.now }
+    requires me { me < deal.now.graph.n }
+    requires known { AreIndexes deal.now known.now }
+    ensures { result ≡ (is_lock_stopped signer.now.stopped.now lock || is_withheld deal.now me (all_entries known.now) lock
+        || list_all (λ a. has_called me (unlocks_lock lock) (history (all_entries known.now) a)) (entering deal.now.graph me)) }
+{
+    is_listed(lock, signer.stopped)
+        || is_withheld(deal, me, known, lock)
+        || has_unlocked_all(deal, me, known, lock)
+}
+
+/// Adds the unlocks for the lock that are useful where the party is ready: none where the lock is
+/// stopped or withheld. Nothing is signed where there is none.
 fn put_lock_unlocks(
     alloc: Global,
     deal: &Deal,
     me: PartyId,
-    seed: &Digest,
-    kept: &Signed,
+    signer: &Signer<'_>,
     known: &[Index],
     lock: LockId,
     calls: &mut Vec<DueCall>,
@@ -101,56 +114,27 @@ fn put_lock_unlocks(
     requires known { AreIndexes deal.now known.now }
     requires legal { IsLegalBook deal.now (all_entries known.now) }
     requires lock { lock < length deal.now.leaders }
-    requires kept { length kept.now.keys ≡ length deal.now.leaders }
+    requires kept { length signer.now.kept.now.keys ≡ length deal.now.leaders }
     requires ready { is_ready deal.now (all_entries known.now) me ≡ true }
     ensures { OnOk result (actions calls.new.items ≡ actions calls.old.items
-        ++ flat_map (due_arc_unlock deal.now me (seed_wallet seed.now me deal.now) (signed_hashkey kept.now.keys lock) (all_entries known.now) lock)
-        (entering deal.now.graph me)) }
+        ++ unlocks_unless_stopped (is_lock_stopped signer.now.stopped.now) deal.now me (seed_wallet signer.now.seed.now me deal.now)
+        (signed_hashkey signer.now.kept.now.keys) (all_entries known.now) lock) }
 {
-    if has_unlocked_all(deal, me, known, lock) {
+    if is_silent(deal, me, signer, known, lock) {
         return Ok(());
     }
-    match due_key(alloc, deal, me, seed, kept, known, lock)? {
+    match due_key(alloc, deal, me, signer, known, lock)? {
         Some(key) => put_key_unlocks(deal, me, known, lock, &key, calls),
         None => Ok(()),
     }
 }
 
-/// Adds the unlocks for the lock that are useful where the party is ready: none where the lock is
-/// withheld.
-fn put_useful_unlocks(
-    alloc: Global,
-    deal: &Deal,
-    me: PartyId,
-    seed: &Digest,
-    kept: &Signed,
-    known: &[Index],
-    lock: LockId,
-    calls: &mut Vec<DueCall>,
-) -> Result<(), NoMemory>
-    requires sized { IsWellSized deal.now }
-    requires me { me < deal.now.graph.n }
-    requires known { AreIndexes deal.now known.now }
-    requires legal { IsLegalBook deal.now (all_entries known.now) }
-    requires lock { lock < length deal.now.leaders }
-    requires kept { length kept.now.keys ≡ length deal.now.leaders }
-    requires ready { is_ready deal.now (all_entries known.now) me ≡ true }
-    ensures { OnOk result (actions calls.new.items ≡ actions calls.old.items
-        ++ pressing_unlocks deal.now me (seed_wallet seed.now me deal.now) (signed_hashkey kept.now.keys) (all_entries known.now) lock) }
-{
-    if is_withheld(deal, me, known, lock) {
-        return Ok(());
-    }
-    put_lock_unlocks(alloc, deal, me, seed, kept, known, lock, calls)
-}
-
-/// Adds the unlocks that are useful, by lock and entering arc.
+/// Adds the unlocks that are useful and for no stopped lock, by lock and entering arc.
 pub(crate) fn put_unlocks(
     alloc: Global,
     deal: &Deal,
     me: PartyId,
-    seed: &Digest,
-    kept: &Signed,
+    signer: &Signer<'_>,
     known: &[Index],
     calls: &mut Vec<DueCall>,
 ) -> Result<(), NoMemory>
@@ -158,15 +142,16 @@ pub(crate) fn put_unlocks(
     requires me { me < deal.now.graph.n }
     requires known { AreIndexes deal.now known.now }
     requires legal { IsLegalBook deal.now (all_entries known.now) }
-    requires kept { length kept.now.keys ≡ length deal.now.leaders }
+    requires kept { length signer.now.kept.now.keys ≡ length deal.now.leaders }
     ensures { OnOk result (actions calls.new.items ≡ actions calls.old.items
-        ++ useful_unlocks deal.now me (seed_wallet seed.now me deal.now) (signed_hashkey kept.now.keys) (all_entries known.now)) }
+        ++ flat_map (unlocks_unless_stopped (is_lock_stopped signer.now.stopped.now) deal.now me (seed_wallet signer.now.seed.now me deal.now)
+        (signed_hashkey signer.now.kept.now.keys) (all_entries known.now)) (locks deal.now)) }
 {
     if !is_ready(deal, me, known) {
         return Ok(());
     }
     for lock in 0..deal.leaders.len() as u8 {
-        put_useful_unlocks(alloc, deal, me, seed, kept, known, lock, calls)?;
+        put_lock_unlocks(alloc, deal, me, signer, known, lock, calls)?;
     }
     Ok(())
 }

@@ -10,7 +10,7 @@ use Rattle.party_main.specs.declared.command.Command.{Command}
 use Rattle.party_main.specs.declared.reason.PartyReason.{PartyReason}
 use Rattle.party_main.specs.declared.top.PartyStatus.{PartyStatus}
 use Rattle.party_main.specs.declared.top.PartyStatus.TheVariants.{Done, Warned, WrongWords, Refused, ReadFault, WriteFault, NoMemory, TooLong}
-use Rattle.party_main.specs.Words.{words_command, words_limit, command_input_limit}
+use Rattle.party_main.specs.Words.{words_command, command_input_limit}
 use Rattle.party_main.specs.Output.{command_output, IsPromised}
 
 -- The words are a command's, the whole input was read, and this is what is written of it.
@@ -29,6 +29,12 @@ pub record HasText (P : Answer → Type 0) (words : List (List ℕ)) (left left'
   pub read : HasAnswer words left left' (Ok what)
   pub promised : IsPromised read.command read.input what
   pub written : P what
+
+-- The words are a command's, and P holds of the most bytes that are read for it.
+pub record HasLimit (words : List (List ℕ)) (P : ℕ → Type 0) : Type 0 where
+  pub command : Command
+  pub asked : words_command words ≡ Some command
+  pub holds : P (command_input_limit command)
 
 -- the status where nothing is written
 abbrev pub of_fault : Fault PartyReason → PartyStatus
@@ -50,8 +56,8 @@ Says words before after Warned = HasText (λ w. (w.warns ≡ true) × Appends be
 Says words before after WrongWords = (words_command words ≡ None) × (after.left ≡ before.left) × Keeps before.taken after.taken
 Says words before after (Refused reason) = HasAnswer words before.left after.left (Err reason) × Keeps before.taken after.taken
 Says words before after ReadFault =
-    HasReadFault before after × ConsumesAtMost before.left after.left (words_limit (words_command words)) × Keeps before.taken after.taken
+    HasReadFault before after × HasLimit words (ConsumesAtMost before.left after.left) × Keeps before.taken after.taken
 Says words before after WriteFault =
     HasWriteFault before after × HasText (λ w. AppendsProperPrefix before.taken after.taken w.text) words before.left after.left
-Says words before after NoMemory = Keeps before.taken after.taken
-Says words before after TooLong = ConsumesSome before.left after.left (words_limit (words_command words) + 1) × Keeps before.taken after.taken
+Says words before after NoMemory = HasLimit words (λ n. ConsumesAtMost before.left after.left (n + 1)) × Keeps before.taken after.taken
+Says words before after TooLong = HasLimit words (λ n. ConsumesSome before.left after.left (n + 1)) × Keeps before.taken after.taken

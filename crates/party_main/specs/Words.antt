@@ -37,8 +37,3 @@ command_input_limit (Keys name) = short_limit
 command_input_limit Deal = short_limit
 command_input_limit (Terms name) = short_limit
 command_input_limit (Next name) = next_limit
-
--- the most bytes that are read for words
-abbrev pub words_limit : Option Command → ℕ
-words_limit None = 0
-words_limit (Some command) = command_input_limit command

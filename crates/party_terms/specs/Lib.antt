@@ -1,5 +1,6 @@
 pub mod Context
 pub mod Times
+pub mod Laws
 pub mod Text
 pub mod Terms
 pub mod Inside

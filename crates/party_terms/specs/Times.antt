@@ -1,10 +1,9 @@
 -- The heights that terms tell of an arc.
 use Rattle.std.specs.Prelude.{ℕ, ◌+◌, Bool, true, false}
-use Rattle.swap_base.specs.Lists.{greatest}
 use Rattle.time_bounds.specs.Times as times
 use Rattle.swap_digraph.specs.declared.deal.Deal.{Deal}
-use Rattle.swap_digraph.specs.Deal.{locks}
-use Rattle.swap_rules.specs.Party.{expiry, leads_one}
+use Rattle.swap_rules.specs.Party.{leads_one}
+use Rattle.answer_rules.specs.Finished.{last_expiry}
 
 abbrev pub publish_height : (leads : Bool) → Deal → ℕ
 publish_height true d = d.delta
@@ -18,4 +17,4 @@ publish_deadline d v = publish_height (leads_one d v) d
 
 -- the height from which what is locked on arc a is refunded, whichever of its locks stay closed
 abbrev pub refund_height : Deal → ℕ → ℕ
-refund_height d a = greatest (expiry d a) (locks d) + 1
+refund_height d a = last_expiry d a + 1

@@ -3,16 +3,18 @@
 //!
 //! Read `specs/Terms.antt` first: `terms_output` says what is written of a header line and its
 //! lines of context, or the first reason against them; then `specs/Context.antt`,
-//! `specs/Times.antt` and `specs/Text.antt`.
+//! `specs/Times.antt` with its laws in `specs/Laws.antt`, and `specs/Text.antt`.
 #![tactic(auto)]
 
 mod agreed;
 mod context;
 mod heights;
+mod laws;
 mod lines;
 mod own_terms;
 mod text;
 
 pub use agreed::{Agreed, read_agreed};
 pub use context::ContextLine;
+pub use laws::heights_hold;
 pub use own_terms::terms;

@@ -13,23 +13,23 @@ use Rattle.party_due.proofs.due_key.make_due_key.Goals as goal
 
 pub copy_kept-requires-clause-kept : goal.copy_kept-requires-clause-kept
 copy_kept-requires-clause-kept c =
-    is_signed c.args.deal.now c.args.me (signed_hashkey c.args.kept.now.keys c.args.lock) (all_entries c.args.known.now) c.args.lock
+    is_signed c.args.deal.now c.args.me (signed_hashkey c.args.signer.now.kept.now.keys c.args.lock) (all_entries c.args.known.now) c.args.lock
     (c.requires.base ∙ ap (λ (b : Base). Some b) c.in-Signed.is)
 
 pub bounds-known-arc : goal.bounds-known-arc
 bounds-known-arc c =
-    seen_below c.args.deal.now c.args.me (signed_hashkey c.args.kept.now.keys c.args.lock) c.args.known.now c.args.lock c.in-Onto.arc c.requires.sized
+    seen_below c.args.deal.now c.args.me (signed_hashkey c.args.signer.now.kept.now.keys c.args.lock) c.args.known.now c.args.lock c.in-Onto.arc c.requires.sized
     c.requires.me c.requires.known c.requires.legal (c.requires.base ∙ ap (λ (b : Base). Some b) c.in-Onto.is)
 
 pub extend_key-requires-clause-lock : goal.extend_key-requires-clause-lock
 extend_key-requires-clause-lock c =
-    seen_lock c.args.deal.now c.args.me (signed_hashkey c.args.kept.now.keys c.args.lock) c.args.known.now c.args.lock c.in-Onto.arc c.requires.sized
+    seen_lock c.args.deal.now c.args.me (signed_hashkey c.args.signer.now.kept.now.keys c.args.lock) c.args.known.now c.args.lock c.in-Onto.arc c.requires.sized
     c.requires.me c.requires.known c.requires.legal (c.requires.base ∙ ap (λ (b : Base). Some b) c.in-Onto.is) c.index-known-arc.result
     c.index-known-arc.is c.requires.lock
 
 pub extend_key-requires-clause-onto : goal.extend_key-requires-clause-onto
 extend_key-requires-clause-onto c =
-    seen_onto c.args.deal.now c.args.me (signed_hashkey c.args.kept.now.keys c.args.lock) c.args.known.now c.args.lock c.in-Onto.arc c.requires.sized
+    seen_onto c.args.deal.now c.args.me (signed_hashkey c.args.signer.now.kept.now.keys c.args.lock) c.args.known.now c.args.lock c.in-Onto.arc c.requires.sized
     c.requires.me c.requires.known c.requires.legal (c.requires.base ∙ ap (λ (b : Base). Some b) c.in-Onto.is) c.index-known-arc.result
     c.index-known-arc.is
 
@@ -37,9 +37,9 @@ pub returns-in-Onto : goal.returns-in-Onto
 returns-in-Onto c =
     let d = c.args.deal.now in
     let known = all_entries c.args.known.now in
-    let w = seed_wallet c.args.seed.now c.args.me d in
+    let w = seed_wallet c.args.signer.now.seed.now c.args.me d in
     let same =
-    seen_entries d c.args.me (signed_hashkey c.args.kept.now.keys c.args.lock) c.args.known.now c.args.lock c.in-Onto.arc c.requires.sized c.requires.me
+    seen_entries d c.args.me (signed_hashkey c.args.signer.now.kept.now.keys c.args.lock) c.args.known.now c.args.lock c.in-Onto.arc c.requires.sized c.requires.me
     c.requires.known c.requires.legal (c.requires.base ∙ ap (λ (b : Base). Some b) c.in-Onto.is) c.index-known-arc.result c.index-known-arc.is in
-    subst (λ (b : Base). IfOk c.extend_key.result (λ k. make_due_key w (signed_hashkey c.args.kept.now.keys) known c.args.lock b ≡ Some k)) (sym c.in-Onto.is)
+    subst (λ (b : Base). IfOk c.extend_key.result (λ k. make_due_key w (signed_hashkey c.args.signer.now.kept.now.keys) known c.args.lock b ≡ Some k)) (sym c.in-Onto.is)
     (subst (λ (h : List Entry). IfOk c.extend_key.result (λ k. extended w (opened_key h c.args.lock) ≡ Some k)) (sym same) c.extend_key.ensures)
