@@ -2,8 +2,6 @@
 """Settles a swap: a chain for each arc, a wallet in a process of its own for each party, and a
 clock that lets the heights rise.
 
-usage: settle.py [--kills] [--seed S] [--late NAME | --twice NAME | --walks NAME] < JOB
-
 The first line of JOB is an offer, or a made one. Where it tells a party's seed, that goes to its
 own wallet's folder and nowhere else, and any other wallet draws one. The wallets make the deal
 themselves. At the end the chains' histories go to `swap audit`, whose report is written. --kills
@@ -15,6 +13,7 @@ sleeps until its first publish is late. --walks NAME has one walk away at some m
 """
 from __future__ import annotations
 
+import argparse
 import json
 import os
 import random
@@ -240,17 +239,26 @@ def build(program: str) -> None:
         raise SystemExit(ended.stderr.strip())
 
 
+def words() -> argparse.Namespace:
+    """What the words ask for; `--help` tells this file's first lines."""
+    parser = argparse.ArgumentParser(usage="settle.py [--kills] [--seed S] [--late NAME | --twice NAME | --walks NAME] < JOB",
+                                     description=__doc__, formatter_class=argparse.RawDescriptionHelpFormatter)
+    parser.add_argument("--kills", action="store_true", help="kill wallets at any moment, and start them again")
+    parser.add_argument("--seed", default="0", help="what chance begins with")
+    one = parser.add_mutually_exclusive_group()
+    one.add_argument("--late", metavar="NAME", help="whose wallet sleeps until its first publish is late")
+    one.add_argument("--twice", metavar="NAME", help="whose wallet presents each call twice")
+    one.add_argument("--walks", metavar="NAME", help="who walks away at some moment")
+    return parser.parse_args()
+
+
 def main() -> int:
-    words = sys.argv[1:]
-
-    def option(name: str) -> str | None:
-        return words[words.index(name) + 1] if name in words else None
-
+    asked = words()
     job = sys.stdin.readline()
     build(wallet.PARTY)
     build(SWAP)
-    chance = random.Random(option("--seed") or "0")
-    status, report, told = settled(job, chance, 6 if "--kills" in words else 0, option("--late"), option("--twice"), option("--walks"))
+    chance = random.Random(asked.seed)
+    status, report, told = settled(job, chance, 6 if asked.kills else 0, asked.late, asked.twice, asked.walks)
     sys.stdout.write(report)
     sys.stderr.write(told)
     return status

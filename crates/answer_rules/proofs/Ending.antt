@@ -34,7 +34,7 @@ use Rattle.swap_rules.proofs.Growth.{opened-more}
 use Rattle.swap_rules.proofs.Machines.{own_known}
 use Rattle.swap_rules.proofs.Prefixes.{from_flat_map, split, begins_height, list_any-more, in_any, none_called}
 use Rattle.swap_rules.proofs.Words.{and_three, and_five, enters, leaves, pick_call-act}
-use Rattle.answer_rules.specs.Finished.{last_expiry, is_shut, is_finished, are_finished, ContinuesWithoutParty}
+use Rattle.answer_rules.specs.Finished.{greatest_expiry, is_shut, is_finished, are_finished, ContinuesWithoutParty}
 use Rattle.answer_rules.specs.Laws.{FinishedStays}
 use Rattle.answer_rules.proofs.Parts.{in_when, to_when, Kind, InPublishes, InUnlocks, InClaims, InRefunds, kind, is_useful, unlocked, in_unlocks, free_before}
 
@@ -183,7 +183,7 @@ module _ (d : Deal) (v : ℕ) (w : Wallet) (kept : ℕ → Option Hashkey) (k h 
       go false q e =
           let p =
           and_three (is_none (published (history k a))) (nat_lt (times.opening_deadline d.start d.delta d.bound) (height (history k a)))
-          (nat_lt (last_expiry d a) (height (history k a))) e in
+          (nat_lt (greatest_expiry d a) (height (history k a))) e in
           IsShut p.0 (ltb-true (times.opening_deadline d.start d.delta d.bound) (height (history k a)) p.1)
 
   why_leaving : (a : ℕ) → IsElement a (leaving d.graph v) → Why a

@@ -16,26 +16,26 @@ use Rattle.swap_rules.specs.Due.{may_unlock, presented, when_due}
 use Rattle.swap_rules.specs.Walking.{is_withheld, pressing_unlocks}
 use Rattle.swap_rules.specs.Useful.{opens_in_time, useful, useful_publishes, useful_unlocks}
 use Rattle.swap_rules.proofs.Prefixes.{from_flat_map}
-use Rattle.answer_rules.specs.Stopped.{is_stopped, unlocks_unless_stopped, unstopped, useful_unless_stopped}
+use Rattle.answer_rules.specs.Stopped.{is_stopped_call, unlocks_unless_stopped, unstopped, useful_unless_stopped}
 use Rattle.answer_rules.specs.Laws.{AreGoodKeys, SignsItsLock}
 use Rattle.answer_rules.proofs.Due.{due_lock, origin}
 use Rattle.answer_rules.proofs.Parts.{in_cond, in_if, in_presented}
 
 -- Calls that stay, and calls that are left out.
 module _ (stops : ℕ → Bool) where
-  all_stay : (xs : List Action) → ((x : Action) → IsElement x xs → is_stopped stops x.call ≡ false) → unstopped stops xs ≡ xs
+  all_stay : (xs : List Action) → ((x : Action) → IsElement x xs → is_stopped_call stops x.call ≡ false) → unstopped stops xs ≡ xs
   all_stay [] h = refl
   all_stay (x ∷ xs) h =
       ap (λ (b : Bool). cond (not b) (x ∷ unstopped stops xs) (unstopped stops xs)) (h x (inl refl))
       ∙ ap (λ (ys : List Action). x ∷ ys) (all_stay xs (λ y i. h y (inr i)))
 
-  none_stays : (xs : List Action) → ((x : Action) → IsElement x xs → is_stopped stops x.call ≡ true) → unstopped stops xs ≡ []
+  none_stays : (xs : List Action) → ((x : Action) → IsElement x xs → is_stopped_call stops x.call ≡ true) → unstopped stops xs ≡ []
   none_stays [] h = refl
   none_stays (x ∷ xs) h =
       ap (λ (b : Bool). cond (not b) (x ∷ unstopped stops xs) (unstopped stops xs)) (h x (inl refl)) ∙ none_stays xs (λ y i. h y (inr i))
 
   both_stay : (xs ys : List Action) → unstopped stops (xs ++ ys) ≡ unstopped stops xs ++ unstopped stops ys
-  both_stay xs ys = filter-append (λ x. not (is_stopped stops x.call)) xs ys
+  both_stay xs ys = filter-append (λ x. not (is_stopped_call stops x.call)) xs ys
 
   joined : (xs ys ps qs : List Action) → unstopped stops xs ≡ ps → unstopped stops ys ≡ qs → unstopped stops (xs ++ ys) ≡ ps ++ qs
   joined xs ys ps qs e f = both_stay xs ys ∙ ap₂ (λ (p q : List Action). p ++ q) e f
@@ -44,21 +44,21 @@ module _ (stops : ℕ → Bool) where
   each_stays f g [] h = refl
   each_stays f g (i ∷ is) h = joined (f i) (flat_map f is) (g i) (flat_map g is) (h i) (each_stays f g is h)
 
-  when_stays : (test : Bool) (a : ℕ) (c : Call) → is_stopped stops c ≡ false → unstopped stops (when_due test a c) ≡ when_due test a c
+  when_stays : (test : Bool) (a : ℕ) (c : Call) → is_stopped_call stops c ≡ false → unstopped stops (when_due test a c) ≡ when_due test a c
   when_stays true a c e = ap (λ (b : Bool). cond (not b) (record { arc = a; call = c } ∷ []) []) e
   when_stays false a c e = refl
 
 module _ (stops : ℕ → Bool) (d : Deal) (v : ℕ) (w : Wallet) (kept : ℕ → Option Hashkey) (k : Histories) (legal : IsLegalBook d k)
     (signs : SignsItsLock w) (good : AreGoodKeys d v kept) where
   -- the unlocks for a lock are stopped with it
-  with_lock : (i : ℕ) (x : Action) → IsElement x (pressing_unlocks d v w kept k i) → is_stopped stops x.call ≡ stops i
+  with_lock : (i : ℕ) (x : Action) → IsElement x (pressing_unlocks d v w kept k i) → is_stopped_call stops x.call ≡ stops i
   unfolding due_arc_unlock
   with_lock i x e =
       let g = in_cond (is_withheld d v k i) (flat_map (due_arc_unlock d v w (kept i) k i) (entering d.graph v)) x e in
       let h = from_flat_map (due_arc_unlock d v w (kept i) k i) (entering d.graph v) x g.1 in
       let t = in_if (may_unlock d v k i h.0) (presented h.0 (due_key d v w (kept i) k i)) x h.2 in
       let p = in_presented h.0 (due_key d v w (kept i) k i) x t.1 in
-      ap (is_stopped stops) p.2 ∙ ap stops (due_lock d v w kept k i p.0 legal signs good (origin d v w kept k i p.0 p.1))
+      ap (is_stopped_call stops) p.2 ∙ ap stops (due_lock d v w kept k i p.0 legal signs good (origin d v w kept k i p.0 p.1))
 
   by_lock : (i : ℕ) → unstopped stops (pressing_unlocks d v w kept k i) ≡ unlocks_unless_stopped stops d v w kept k i
   by_lock i = go (stops i) refl

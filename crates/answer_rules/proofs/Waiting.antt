@@ -19,7 +19,7 @@ use Rattle.swap_rules.specs.Rest.{are_ticks, StaysLow}
 use Rattle.swap_rules.specs.Useful.{opens_in_time, useful_publishes, useful_unlocks, useful}
 use Rattle.swap_rules.proofs.Prefixes.{from_flat_map, begins_height}
 use Rattle.swap_rules.proofs.Rest.{reads, grows_on, same_publish, same_unlock, same_claims, none_refunded}
-use Rattle.answer_rules.specs.Stopped.{is_stopped, unstopped}
+use Rattle.answer_rules.specs.Stopped.{is_stopped_call, unstopped}
 use Rattle.answer_rules.specs.Laws.{TicksLeaveNothing}
 use Rattle.answer_rules.proofs.Parts.{nothing_in, in_when, to_when, Kind, InPublishes, InUnlocks, InClaims, InRefunds, kind, is_useful, unlocked, in_due_unlocks}
 use Rattle.answer_rules.proofs.Parts.{free_before}
@@ -33,10 +33,10 @@ module _ (d : Deal) (v : ℕ) (w : Wallet) (kept : ℕ → Option Hashkey) (stop
   grows c = begins_height (history k c) (history after c) (grows_on d v w kept k a more ticks c)
 
   -- what was useful is stopped
-  stopped : (x : Action) → is_stopped stops x.call ≡ false → IsElement x (useful d v w kept k) → ⊥
+  stopped : (x : Action) → is_stopped_call stops x.call ≡ false → IsElement x (useful d v w kept k) → ⊥
   stopped x free i =
       let j : IsElement x (unstopped stops (useful d v w kept k)) =
-      in_filter (λ y. not (is_stopped stops y.call)) x (useful d v w kept k) i (ap not free) in
+      in_filter (λ y. not (is_stopped_call stops y.call)) x (useful d v w kept k) i (ap not free) in
       subst (IsElement x) none j
 
   publishes : (x : Action) → IsElement x (useful_publishes d v after) → IsElement x (useful_publishes d v k)
@@ -63,15 +63,15 @@ module _ (d : Deal) (v : ℕ) (w : Wallet) (kept : ℕ → Option Hashkey) (stop
   claims : (x : Action) → IsElement x (due_claims d v after) → IsElement x (due_claims d v k)
   claims x i = subst (IsElement x) (same_claims d v k after (reads d v w kept k a more ticks)) i
 
-  refund_free : (x : Action) (b : Histories) → IsElement x (due_refunds d v b) → is_stopped stops x.call ≡ false
+  refund_free : (x : Action) (b : Histories) → IsElement x (due_refunds d v b) → is_stopped_call stops x.call ≡ false
   refund_free x b i =
       let f = from_flat_map (λ c. when_due (is_due_refund d v b c) c Refund) (leaving d.graph v) x i in
-      ap (is_stopped stops) (in_when (is_due_refund d v b f.0) f.0 Refund x f.2).1
+      ap (is_stopped_call stops) (in_when (is_due_refund d v b f.0) f.0 Refund x f.2).1
 
   no_refunds : due_refunds d v k ≡ []
   no_refunds = nothing_in (due_refunds d v k) (λ x i. stopped x (refund_free x k i) (is_useful d v w kept k x (InRefunds i)))
 
-  by_kind : (x : Action) → is_stopped stops x.call ≡ false → Kind d v w kept after x → ⊥
+  by_kind : (x : Action) → is_stopped_call stops x.call ≡ false → Kind d v w kept after x → ⊥
   by_kind x free (InPublishes i) = stopped x free (is_useful d v w kept k x (InPublishes (publishes x i)))
   by_kind x free (InUnlocks i) = stopped x free (is_useful d v w kept k x (InUnlocks (unlocks x i)))
   by_kind x free (InClaims i) = stopped x free (is_useful d v w kept k x (InClaims (claims x i)))
@@ -79,8 +79,8 @@ module _ (d : Deal) (v : ℕ) (w : Wallet) (kept : ℕ → Option Hashkey) (stop
 
   pub nothing_left : unstopped stops (useful d v w kept after) ≡ []
   nothing_left = nothing_in (unstopped stops (useful d v w kept after)) (λ x i.
-      let f = from_filter (λ y. not (is_stopped stops y.call)) x (useful d v w kept after) i in
-      by_kind x (not_stopped (is_stopped stops x.call) f.1) (kind d v w kept after x f.0))
+      let f = from_filter (λ y. not (is_stopped_call stops y.call)) x (useful d v w kept after) i in
+      by_kind x (not_stopped (is_stopped_call stops x.call) f.1) (kind d v w kept after x f.0))
     where
       not_stopped : (b : Bool) → not b ≡ true → b ≡ false
       not_stopped true e = absurd (false≢true e)

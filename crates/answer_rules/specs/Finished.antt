@@ -12,15 +12,15 @@ use Rattle.swap_rules.specs.Party.{expiry}
 use Rattle.swap_rules.specs.Machine.{Knows}
 
 -- the greatest height up to which a lock of arc a can be opened, by the correct terms
-abbrev pub last_expiry : Deal → ℕ → ℕ
-last_expiry d a = greatest (expiry d a) (locks d)
+abbrev pub greatest_expiry : Deal → ℕ → ℕ
+greatest_expiry d a = greatest (expiry d a) (locks d)
 
 -- nothing that helps can begin on arc a: it carries no accepted publish, and its ledger stands
 -- above the height by which contracts open, and above each expiry
 abbrev pub is_shut : Deal → Histories → ℕ → Bool
 is_shut d k a =
     is_none (published (history k a)) && nat_lt (times.opening_deadline d.start d.delta d.bound) (height (history k a))
-    && nat_lt (last_expiry d a) (height (history k a))
+    && nat_lt (greatest_expiry d a) (height (history k a))
 
 -- arc a is finished: its contract is settled, or can't be entered any more
 abbrev pub is_finished : Deal → Histories → ℕ → Bool

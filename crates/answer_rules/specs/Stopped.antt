@@ -12,13 +12,13 @@ use Rattle.swap_rules.specs.Walking.{pressing_unlocks}
 use Rattle.swap_rules.specs.Useful.{useful_publishes}
 
 -- the call is an unlock for a lock that is stopped
-abbrev pub is_stopped : (ℕ → Bool) → Call → Bool
-is_stopped stops (Unlock key) = stops key.lock
-is_stopped stops _ = false
+abbrev pub is_stopped_call : (ℕ → Bool) → Call → Bool
+is_stopped_call stops (Unlock key) = stops key.lock
+is_stopped_call stops _ = false
 
 -- the calls of these that aren't
 abbrev pub unstopped : (ℕ → Bool) → List Action → List Action
-unstopped stops xs = filter (λ x. not (is_stopped stops x.call)) xs
+unstopped stops xs = filter (λ x. not (is_stopped_call stops x.call)) xs
 
 -- the useful unlocks for a lock; none where it is stopped
 abbrev pub unlocks_unless_stopped : (ℕ → Bool) → Deal → ℕ → Wallet → (ℕ → Option Hashkey) → Histories → ℕ → List Action

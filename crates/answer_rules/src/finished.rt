@@ -6,7 +6,7 @@ ghost use Rattle.swap_digraph.specs.Deal.{IsWellSized};
 ghost use Rattle.ledger_core.specs.Book.{history};
 ghost use Rattle.ledger_core.specs.History.{height, published as published_in, settled};
 ghost use Rattle.history_index.specs.Indexes.{all_entries, AreIndexes};
-ghost use Rattle.answer_rules.specs.Finished.{are_finished, is_finished, is_shut, last_expiry};
+ghost use Rattle.answer_rules.specs.Finished.{are_finished, is_finished, is_shut, greatest_expiry};
 
 use due_calls::{expiry, published};
 use history_index::Index;
@@ -17,10 +17,10 @@ use time_bounds::opening_deadline;
 
 /// The greatest height up to which a lock of the arc can be opened.
 #[tactic(auto, using(late_check::proofs::Loops::greatest_more))]
-pub fn last_expiry(deal: &Deal, arc: ArcId) -> u64
+pub fn greatest_expiry(deal: &Deal, arc: ArcId) -> u64
     requires sized { IsWellSized deal.now }
     requires arc { arc < length deal.now.graph.arcs }
-    ensures exact { result ≡ last_expiry deal.now arc }
+    ensures exact { result ≡ greatest_expiry deal.now arc }
     ensures small { result < 2 ^ 62 }
 {
     let mut last: u64 = 0;
@@ -69,7 +69,7 @@ fn is_shut(deal: &Deal, known: &[Index], arc: ArcId) -> bool
     if is_published(deal, known, arc) || !stands_above(known, arc, opens) {
         return false;
     }
-    stands_above(known, arc, last_expiry(deal, arc))
+    stands_above(known, arc, greatest_expiry(deal, arc))
 }
 
 /// Whether the arc's contract is settled, or can't be entered any more.

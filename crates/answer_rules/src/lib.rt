@@ -13,7 +13,7 @@ mod finished;
 mod heights;
 
 pub use accepted::last_accepted;
-pub use finished::{are_finished, last_expiry};
+pub use finished::{are_finished, greatest_expiry};
 pub use heights::last_on_time;
 
 /// Each useful call has the height up to which it is on time, and each useful unlock the last one

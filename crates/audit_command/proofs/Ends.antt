@@ -7,17 +7,17 @@ use Rattle.swap_job.specs.declared.job.Job.{Job}
 use Rattle.refusals.specs.declared.refusal.Refusal.{Refusal}
 use Rattle.transcript_reader.specs.declared.reason.TranscriptReason.{TranscriptReason}
 use Rattle.transcript_reader.specs.Stages.{Progress}
-use Rattle.transcript_reader.specs.Reading.{finished, job_story}
+use Rattle.transcript_reader.specs.Reading.{story_at_end, job_story}
 use Rattle.command_input.specs.Faults.{retold}
 use Rattle.command_input.specs.declared.fault.InputFault.{InputFault}
 use Rattle.command_input.specs.declared.fault.InputFault.TheVariants.{Refused, ReadFault, TooLong, NoMemory}
-use Rattle.command_input.specs.Input.{At, Desk, Ends, HasStopped, IsPart, IsTooLong, desk, fresh, limit}
+use Rattle.command_input.specs.Input.{At, Desk, Ends, HasStopped, TookPart, IsTooLong, desk, fresh, limit}
 use Rattle.command_input.proofs.Streams.{no_memory_after}
 use Rattle.audit_command.specs.Output.{by_text, to_refusal, input_story}
-use Rattle.audit_command.specs.Reading.{Concludes, IsStoryRefusal, IsBad, IsRead, IsStory}
+use Rattle.audit_command.specs.Reading.{Concludes, IsStoryRefusal, IsBad, IsReadByReader, IsStory}
 
 -- a part was read
-pub is_consumed : (a b : Option (List ℕ)) (n m : ℕ) (now : At) → IsPart (desk a n fresh) (desk b m now) → ConsumesAtMost a b limit
+pub is_consumed : (a b : Option (List ℕ)) (n m : ℕ) (now : At) → TookPart (desk a n fresh) (desk b m now) → ConsumesAtMost a b limit
 is_consumed a b n m now t = (t.0.0, omega (arith, t.0.1.counted, t.1), t.0.1.consumed)
 
 pub too_long : (a b : Option (List ℕ)) (n m : ℕ) (now : At) → IsTooLong (desk a n fresh) (desk b m now) → ConsumesSome a b (limit + 1)
@@ -36,12 +36,12 @@ told_stopped old new NoMemory h = h
 
 -- ---- the end was met
 
-module _ (first now : Desk) (p : Progress) (rest : List ℕ) (k : Ends (IsRead p rest) first now) where
-  pub concluded_ok : (r : Result (Job × Book) (InputFault Refusal)) → Concludes r (finished p rest) → IfOk r (λ x. Ends (IsStory (job_story x)) first now)
+module _ (first now : Desk) (p : Progress) (rest : List ℕ) (k : Ends (IsReadByReader p rest) first now) where
+  pub concluded_ok : (r : Result (Job × Book) (InputFault Refusal)) → Concludes r (story_at_end p rest) → IfOk r (λ x. Ends (IsStory (job_story x)) first now)
   concluded_ok (Ok x) e = record { bytes = k.bytes; stands = k.stands; can = k.can; told = k.told ∙ e; ended = k.ended }
   concluded_ok (Err f) e = tt
 
-  pub concluded_err : (r : Result (Job × Book) (InputFault Refusal)) → Concludes r (finished p rest) → IfErr r (HasStopped IsStoryRefusal first now)
+  pub concluded_err : (r : Result (Job × Book) (InputFault Refusal)) → Concludes r (story_at_end p rest) → IfErr r (HasStopped IsStoryRefusal first now)
   unfolding input_story
   concluded_err (Ok x) e = tt
   concluded_err (Err (Refused refusal)) e = record { bytes = k.bytes; stands = k.stands; can = k.can; told = ap by_text k.told ∙ e; ended = k.ended }

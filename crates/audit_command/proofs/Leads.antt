@@ -9,13 +9,13 @@ use Rattle.transcript_lines.specs.Between.{longer_first, separated_parts}
 use Rattle.transcript_reader.specs.declared.reason.TranscriptReason.{TranscriptReason}
 use Rattle.transcript_reader.specs.Header.{header_read}
 use Rattle.transcript_reader.specs.Stages.{Progress, no_lines, with_line}
-use Rattle.transcript_reader.specs.Reading.{ReadsLine, parts_read, transcript_read}
+use Rattle.transcript_reader.specs.Reading.{ReadsTranscriptLine, parts_read, transcript_read}
 use Rattle.transcript_reader.proofs.Steps.{bad_reads, line_on}
 use Rattle.command_input.specs.Faults.{of_offer}
 use Rattle.command_input.specs.Input.{At, Desk, Ends, GivesPart, IsFed, IsRest, Stands, Stops, desk, fresh}
 use Rattle.command_input.proofs.Ahead.{stands_none, stands_on}
 use Rattle.command_input.proofs.Streams.{can_come, fits_fresh, no_memory_after}
-use Rattle.audit_command.specs.Reading.{IsBad, IsRead}
+use Rattle.audit_command.specs.Reading.{IsBad, IsReadByReader}
 use Rattle.transcript_reader.proofs.Back.{not_feed}
 
 -- ---- lines
@@ -80,7 +80,7 @@ led_on first s t p q k l e = record {
 
 -- a line that is bad, or for which memory runs out
 pub led_fault : (left : Option (List ℕ)) (n : ℕ) (s t : Desk) (p q : Progress) (f : Fault TranscriptReason) → Led (desk left n fresh) s p → IsFed s t
-    → ReadsLine {T = Unit {0}} (Err f) p q (with_line header_read p t.at.text) → Stops IsBad (desk left n fresh) t (of_offer f)
+    → ReadsTranscriptLine {T = Unit {0}} (Err f) p q (with_line header_read p t.at.text) → Stops IsBad (desk left n fresh) t (of_offer f)
 led_fault left n s t p q fault.NoMemory k l h =
     no_memory_after (desk left n fresh) t (k.bytes ++ l.bytes) (stands_on (desk left n fresh) s t k.bytes l.bytes k.stands l.stands)
 led_fault left n s t p q (fault.Refused reason) k l h = record {
@@ -93,7 +93,7 @@ led_fault left n s t p q (fault.Refused reason) k l h = record {
 
 -- all lines were read
 pub led_to_end : (left : Option (List ℕ)) (n : ℕ) (s t : Desk) (p : Progress) → Led (desk left n fresh) s p → IsRest s t
-    → Ends (IsRead p t.at.text) (desk left n fresh) t
+    → Ends (IsReadByReader p t.at.text) (desk left n fresh) t
 led_to_end left n s t p k l = record {
   bytes = k.bytes ++ l.bytes;
   stands = stands_on (desk left n fresh) s t k.bytes l.bytes k.stands l.stands;

@@ -6,7 +6,7 @@ use Rattle.refusals.specs.declared.refusal.Refusal.{Refusal}
 use Rattle.outcome_rules.specs.declared.report.Report.{Report}
 use Rattle.ledger_core.specs.WellFormed.{IsWellFormed}
 use Rattle.transcript_reader.specs.declared.reason.TranscriptReason.{TranscriptReason}
-use Rattle.transcript_reader.specs.Header.{header_read, IsTold}
+use Rattle.transcript_reader.specs.Header.{header_read, IsTranscriptJob}
 use Rattle.transcript_reader.specs.Reading.{Story}
 use Rattle.transcript_reader.proofs.Whole.{text_is_whole}
 use Rattle.command_input.specs.declared.fault.InputFault.{InputFault}
@@ -17,15 +17,15 @@ use Rattle.command_input.specs.Faults.{unread}
 use Rattle.command_input.specs.Input.{At, Ends, HasStopped, desk, fresh}
 use Rattle.command_input.specs.Streams.{streams}
 use Rattle.audit_command.proofs.Ends.{is_consumed, too_long}
-use Rattle.command_input.specs.Written.{Writes, Written}
+use Rattle.command_input.specs.Written.{StatusWrites, Written}
 use Rattle.audit_command.specs.Output.{audit_output, by_text, judged, story_output, input_story, told}
-use Rattle.audit_command.specs.Promised.{IsSound}
+use Rattle.audit_command.specs.Promised.{IsSoundAudit}
 use Rattle.audit_command.specs.Reading.{IsStoryRefusal, IsStory}
-use Rattle.audit_command.specs.Says.{HasAnswer, HasAuditOutput, AuditSays}
+use Rattle.audit_command.specs.Says.{HasAuditAnswer, HasAuditOutput, AuditSays}
 
 -- an answer to an input that was read
 answered : (P : List ℕ → Type 0) (a b : Option (List ℕ)) (n m : ℕ) (now : At) (output : Result Written Refusal)
-    (k : Ends P (desk a n fresh) (desk b m now)) → audit_output k.bytes ≡ output → HasAnswer a b output
+    (k : Ends P (desk a n fresh) (desk b m now)) → audit_output k.bytes ≡ output → HasAuditAnswer a b output
 answered P a b n m now output k e = record {
   input = k.bytes;
   taken = k.stands.took.consumed;
@@ -66,7 +66,7 @@ module _ (a b : Option (List ℕ)) (n m : ℕ) (now : At) (t : Story) (k : Ends 
     Keeps-refl taken,
   )
 
-  output_is : (P : Written → Type 0) (r : Report) → IsTold t.job → judged t ≡ Ok r → IsSound t r → P (story_output t r) → HasAuditOutput P a b
+  output_is : (P : Written → Type 0) (r : Report) → IsTranscriptJob t.job → judged t ≡ Ok r → IsSoundAudit t r → P (story_output t r) → HasAuditOutput P a b
   unfolding told answered
   output_is P r job e sound w = record {
     output = story_output t r;
@@ -84,8 +84,8 @@ module _ (a b : Option (List ℕ)) (n m : ℕ) (now : At) (t : Story) (k : Ends 
     written = w;
   }
 
-  pub says_written : (taken taken' : Option (List ℕ)) (p q : ℕ) (r : Report) → IsTold t.job → judged t ≡ Ok r → IsSound t r → (s : Status)
-      → Writes taken taken' p q (story_output t r) s → AuditSays (streams a n taken p) (streams b m taken' q) s
+  pub says_written : (taken taken' : Option (List ℕ)) (p q : ℕ) (r : Report) → IsTranscriptJob t.job → judged t ≡ Ok r → IsSoundAudit t r → (s : Status)
+      → StatusWrites taken taken' p q (story_output t r) s → AuditSays (streams a n taken p) (streams b m taken' q) s
   says_written taken taken' p q r job e sound Done w = output_is _ r job e sound w
   says_written taken taken' p q r job e sound Named w = output_is _ r job e sound w
   says_written taken taken' p q r job e sound WrongWords w = absurd w

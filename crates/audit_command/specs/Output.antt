@@ -22,14 +22,14 @@ abbrev pub story : Job → Histories → Story
 story job b = record { job = job; book = b }
 
 -- a refusal that speaks of no party
-abbrev pub nameless : Reason → Refusal
-nameless reason = refusal [] reason
+abbrev pub unnamed_refusal : Reason → Refusal
+unnamed_refusal reason = refusal [] reason
 
 -- A refusal of a text. Of an input within its limit none is that it is too long.
 abbrev pub to_refusal : TranscriptReason → Refusal
-to_refusal (BadLine line) = nameless (reasons.BadLine line)
-to_refusal TooLong = nameless reasons.CutShort
-to_refusal CutShort = nameless reasons.CutShort
+to_refusal (BadLine line) = unnamed_refusal (reasons.BadLine line)
+to_refusal TooLong = unnamed_refusal reasons.CutShort
+to_refusal CutShort = unnamed_refusal reasons.CutShort
 to_refusal (Header reason) = reason
 
 abbrev pub by_text : Result Story TranscriptReason → Result Story Refusal
@@ -41,7 +41,7 @@ unfoldable pub input_story : List ℕ → Result Story Refusal
 input_story input = by_text (transcript_read header_read input)
 
 abbrev pub refused_reply : BadReply → Refusal
-refused_reply b = nameless (reasons.BadReply b.arc b.entry b.stated b.replayed)
+refused_reply b = unnamed_refusal (reasons.BadReply b.arc b.entry b.stated b.replayed)
 
 abbrev pub by_replies : Result Report BadReply → Result Report Refusal
 by_replies (Ok r) = Ok r

@@ -7,7 +7,7 @@ use Rattle.outcome_rules.specs.declared.report.Report.{Report}
 use Rattle.outcome_rules.specs.Report.{is_conforming_party, build_report}
 use Rattle.outcome_rules.specs.Promises.{AllAreConforming, AllAreWhole, AllHaveRefunds, NoneIsUnderwater, shown_outcome}
 use Rattle.swap_auditor.specs.Audit.{AreUnitsConserved}
-use Rattle.transcript_reader.specs.Header.{header_read, IsTold}
+use Rattle.transcript_reader.specs.Header.{header_read, IsTranscriptJob}
 use Rattle.transcript_reader.specs.Laws.{IsWholeText}
 use Rattle.transcript_reader.specs.Reading.{Story, transcript_read}
 use Rattle.audit_command.specs.Output.{story_output}
@@ -18,7 +18,7 @@ abbrev pub story_report : Story → Report
 story_report t = build_report t.job.deal t.job.conforming t.book
 
 -- What an audit promises of a job and its book, of which r is the report.
-pub record IsSound (t : Story) (r : Report) : Type 0 where
+pub record IsSoundAudit (t : Story) (r : Report) : Type 0 where
   pub report : r ≡ story_report t
   pub accepted : IsAccepted t.job.deal
   -- every reply is the table's, and at every moment each unit is in one place
@@ -41,7 +41,7 @@ pub record IsAudit (input : List ℕ) (output : Written) : Type 0 where
   pub story : Story
   pub read : transcript_read header_read input ≡ Ok story
   pub whole : IsWholeText header_read input story
-  pub job : IsTold story.job
+  pub job : IsTranscriptJob story.job
   pub report : Report
   pub shown : output ≡ story_output story report
-  pub sound : IsSound story report
+  pub sound : IsSoundAudit story report

@@ -6,7 +6,7 @@ use Rattle.refusals.specs.declared.refusal.Refusal.{Refusal}
 use Rattle.transcript_reader.specs.declared.reason.TranscriptReason.{TranscriptReason}
 use Rattle.transcript_reader.specs.Header.{header_read}
 use Rattle.transcript_reader.specs.Stages.{Progress}
-use Rattle.transcript_reader.specs.Reading.{Story, finished, job_story, transcript_read}
+use Rattle.transcript_reader.specs.Reading.{Story, story_at_end, job_story, transcript_read}
 use Rattle.command_input.specs.declared.fault.InputFault.{InputFault}
 use Rattle.command_input.specs.declared.fault.InputFault.TheVariants.{Refused, ReadFault, TooLong, NoMemory}
 use Rattle.audit_command.specs.Output.{by_text, input_story}
@@ -21,8 +21,8 @@ IsStoryRefusal bytes refusal = input_story bytes ≡ Err refusal
 
 -- the bytes give what a reader of all their lines tells, where `rest` stands after the last line
 -- feed
-abbrev pub IsRead : Progress → List ℕ → List ℕ → Type 0
-IsRead p rest bytes = transcript_read header_read bytes ≡ finished p rest
+abbrev pub IsReadByReader : Progress → List ℕ → List ℕ → Type 0
+IsReadByReader p rest bytes = transcript_read header_read bytes ≡ story_at_end p rest
 
 -- the bytes state the job and the book
 abbrev pub IsStory : Story → List ℕ → Type 0

@@ -14,7 +14,7 @@ use Rattle.audit_command.specs.Output.{audit_output}
 use Rattle.audit_command.specs.Promised.{IsAudit}
 
 -- The whole input was read, and this is the audit's output for it.
-pub record HasAnswer (left left' : Option (List ℕ)) (output : Result Written Refusal) : Type 0 where
+pub record HasAuditAnswer (left left' : Option (List ℕ)) (output : Result Written Refusal) : Type 0 where
   pub input : List ℕ
   pub taken : Consumes left left' input
   pub ended : IsAtEnd left'
@@ -25,7 +25,7 @@ pub record HasAnswer (left left' : Option (List ℕ)) (output : Result Written R
 -- text.
 pub record HasAuditOutput (P : Written → Type 0) (left left' : Option (List ℕ)) : Type 0 where
   pub output : Written
-  pub read : HasAnswer left left' (Ok output)
+  pub read : HasAuditAnswer left left' (Ok output)
   pub promised : IsAudit read.input output
   pub written : P output
 
@@ -34,7 +34,7 @@ abbrev pub AuditSays : Streams → Streams → Status → Type 0
 AuditSays before after Done = HasAuditOutput (IsWrittenWhole before.taken after.taken false) before.left after.left
 AuditSays before after Named = HasAuditOutput (IsWrittenWhole before.taken after.taken true) before.left after.left
 AuditSays before after WrongWords = ⊥
-AuditSays before after (Refused reason names) = HasAnswer before.left after.left (Err (refusal names reason)) × Keeps before.taken after.taken
+AuditSays before after (Refused reason names) = HasAuditAnswer before.left after.left (Err (refusal names reason)) × Keeps before.taken after.taken
 AuditSays before after ReadFault =
     HasReadFault before after × Keeps before.taken after.taken × ConsumesAtMost before.left after.left limit
 AuditSays before after WriteFault =

@@ -3,11 +3,11 @@
 ghost use Rattle.std.specs.Prelude.{◌≡◌};
 ghost use Rattle.command_input.specs.Input.{fresh};
 ghost use Rattle.command_input.specs.Streams.{streams};
-ghost use Rattle.command_input.specs.Written.{Writes};
+ghost use Rattle.command_input.specs.Written.{StatusWrites};
 ghost use Rattle.audit_command.specs.Output.{story_output, story};
-ghost use Rattle.audit_command.specs.Promised.{IsSound};
+ghost use Rattle.audit_command.specs.Promised.{IsSoundAudit};
 ghost use Rattle.audit_command.specs.Says.{AuditSays};
-ghost use Rattle.transcript_reader.specs.Header.{IsTold};
+ghost use Rattle.transcript_reader.specs.Header.{IsTranscriptJob};
 
 use crate::judged::judge;
 use crate::story::read_story;
@@ -22,9 +22,9 @@ use swap_job::Job;
 
 /// Writes the report of a job's book.
 fn tell<K: Sink>(alloc: Global, sink: &mut K, job: &Job, book: &Book, report: &Report) -> Status
-    requires told { IsTold job.now }
-    requires sound { IsSound (story job.now book.now.histories) report.now }
-    ensures { Writes (K.taken sink.old) (K.taken sink.new) (K.faults sink.old) (K.faults sink.new) (story_output (story job.now book.now.histories) report.now)
+    requires told { IsTranscriptJob job.now }
+    requires sound { IsSoundAudit (story job.now book.now.histories) report.now }
+    ensures { StatusWrites (K.taken sink.old) (K.taken sink.new) (K.faults sink.old) (K.faults sink.new) (story_output (story job.now book.now.histories) report.now)
         result }
 {
     match write_report(alloc, sink, job, book, report) {

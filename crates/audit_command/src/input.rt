@@ -3,7 +3,7 @@
 ghost use Rattle.std.specs.Prelude.{◌≡◌, IfErr, OnOk};
 ghost use Rattle.transcript_reader.specs.Stages.{no_lines};
 ghost use Rattle.command_input.specs.Input.{Ends, Stops, desk, fresh};
-ghost use Rattle.audit_command.specs.Reading.{IsBad, IsRead};
+ghost use Rattle.audit_command.specs.Reading.{IsBad, IsReadByReader};
 
 use command_input::{Input, InputFault};
 use swap_io::Source;
@@ -18,7 +18,7 @@ pub(crate) fn read_lines<S: Source>(
 ) -> Result<(), InputFault<TranscriptReason>>
     requires fresh { input.old ≡ fresh }
     requires first { reader.old ≡ no_lines }
-    ensures read { OnOk result (Ends (IsRead reader.new input.new.text) (desk (S.left source.old) (S.faults source.old) fresh)
+    ensures read { OnOk result (Ends (IsReadByReader reader.new input.new.text) (desk (S.left source.old) (S.faults source.old) fresh)
         (desk (S.left source.new) (S.faults source.new) input.new)) }
     ensures stops { IfErr result (Stops IsBad (desk (S.left source.old) (S.faults source.old) fresh)
         (desk (S.left source.new) (S.faults source.new) input.new)) }

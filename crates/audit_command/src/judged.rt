@@ -3,9 +3,9 @@
 ghost use Rattle.std.specs.Prelude.{◌≡◌, IfOk};
 ghost use Rattle.swap_base.specs.Fault.{Gives};
 ghost use Rattle.ledger_core.specs.WellFormed.{IsWellFormed};
-ghost use Rattle.transcript_reader.specs.Header.{IsTold};
+ghost use Rattle.transcript_reader.specs.Header.{IsTranscriptJob};
 ghost use Rattle.audit_command.specs.Output.{judged, refused_reply, story};
-ghost use Rattle.audit_command.specs.Promised.{IsSound};
+ghost use Rattle.audit_command.specs.Promised.{IsSoundAudit};
 
 use ledger_core::Book;
 use outcome_rules::Report;
@@ -28,10 +28,10 @@ fn refused_reply(alloc: Global, bad: BadReply) -> Refusal
 /// it doesn't give.
 #[tactic(auto, unfolding(crate::specs::Output::judged))]
 pub(crate) fn judge(alloc: Global, job: &Job, book: &Book) -> Result<Report, Fault<Refusal>>
-    requires told { IsTold job.now }
+    requires told { IsTranscriptJob job.now }
     requires formed { IsWellFormed job.now.deal book.now.histories }
     ensures exact { Gives (λ r. r) result (judged (story job.now book.now.histories)) }
-    ensures sound { IfOk result (IsSound (story job.now book.now.histories)) }
+    ensures sound { IfOk result (IsSoundAudit (story job.now book.now.histories)) }
 {
     match audit_book(alloc, &job.deal, &job.conforming, book) {
         Ok(report) => Ok(report),

@@ -1,8 +1,8 @@
 //! The job and the book that an input states.
 
 ghost use Rattle.std.specs.Prelude.{◌≡◌, IfOk, IfErr};
-ghost use Rattle.transcript_reader.specs.Header.{IsTold};
-ghost use Rattle.transcript_reader.specs.Reading.{finished, job_story};
+ghost use Rattle.transcript_reader.specs.Header.{IsTranscriptJob};
+ghost use Rattle.transcript_reader.specs.Reading.{story_at_end, job_story};
 ghost use Rattle.audit_command.specs.Output.{to_refusal};
 ghost use Rattle.command_input.specs.Faults.{retold};
 ghost use Rattle.command_input.specs.Input.{Ends, HasStopped, desk, fresh};
@@ -36,8 +36,8 @@ fn conclude(
     reader: TranscriptReader,
     rest: &[u8],
 ) -> Result<(Job, Book), InputFault<Refusal>>
-    ensures exact { Concludes result (finished reader rest.now) }
-    ensures told { IfOk result (λ p. IsTold p.0) }
+    ensures exact { Concludes result (story_at_end reader rest.now) }
+    ensures told { IfOk result (λ p. IsTranscriptJob p.0) }
 {
     match reader.finish(rest) {
         Ok(story) => Ok(story),
@@ -67,7 +67,7 @@ pub(crate) fn read_story<S: Source>(
     requires { input.old ≡ fresh }
     ensures read { IfOk result (λ p. Ends (IsStory (job_story p)) (desk (S.left source.old) (S.faults source.old) fresh)
         (desk (S.left source.new) (S.faults source.new) input.new)) }
-    ensures told { IfOk result (λ p. IsTold p.0) }
+    ensures told { IfOk result (λ p. IsTranscriptJob p.0) }
     ensures stops { IfErr result (HasStopped IsStoryRefusal (desk (S.left source.old) (S.faults source.old) fresh)
         (desk (S.left source.new) (S.faults source.new) input.new)) }
 {

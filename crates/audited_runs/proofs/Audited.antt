@@ -30,7 +30,7 @@ use Rattle.command_input.specs.Input.{limit}
 use Rattle.audit_command.specs.Output.{audit_output}
 use Rattle.command_input.specs.Written.{Written}
 use Rattle.command_input.specs.Streams.{Streams}
-use Rattle.swap_commands.specs.Output.{Chance, collected_book, by_reason, output_given_chance, reported}
+use Rattle.swap_commands.specs.Output.{Chance, collected_book, reason_alone, output_given_chance, reported}
 use Rattle.swap_commands.specs.Words.{OfJob, Audit, Run, Race, Command}
 use Rattle.swap_commands.specs.Promised.{AsPromised}
 use Rattle.swap_commands.specs.Strategies.{strategies}
@@ -87,8 +87,8 @@ audit_writes has chance job b output showable legal digests is le =
       digests = digests;
       short = subst (λ (l : List ℕ). length l ≤ limit) text le;
     } in
-    ap (λ (l : List ℕ). by_reason (audit_output l)) text
-    ∙ ap by_reason (same_report job b k)
+    ap (λ (l : List ℕ). reason_alone (audit_output l)) text
+    ∙ ap reason_alone (same_report job b k)
 
 -- ---- what a run and a race write
 

@@ -2,7 +2,7 @@
 use Rattle.std.proofs.Common.{◌≡◌, Ok, Result, refl, ap}
 use Rattle.swap_job.specs.declared.job.Job.{Job}
 use Rattle.swap_job.specs.declared.job.Purpose.TheVariants.{Audit}
-use Rattle.refusals.specs.Refusal.{named}
+use Rattle.refusals.specs.Refusal.{named_result}
 use Rattle.refusals.specs.declared.reason.Reason.{Reason}
 use Rattle.offer_header.specs.Names.{no_strategy}
 use Rattle.offer_text.specs.HeaderLine.{header_line}
@@ -23,7 +23,7 @@ header_gives : (job : Job) → IsShowable job → header_read (header_line job) 
 unfolding header_read
 header_gives job k =
     let line = header_reads job k in
-    ap (λ (r : Result Job Reason). named (header_names no_strategy Audit 2 (header_line job)) r)
+    ap (λ (r : Result Job Reason). named_result (header_names no_strategy Audit 2 (header_line job)) r)
     (header_is_read_back no_strategy job 2 (header_line job) k line.0 line.1)
 
 pub round_trip : RoundTrip

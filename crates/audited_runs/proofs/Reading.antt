@@ -29,14 +29,14 @@ use Rattle.offer_moves.specs.declared.raw.RawKey.{RawKey}
 use Rattle.offer_moves.specs.declared.raw.RawCraft.{RawCraft}
 use Rattle.offer_moves.specs.declared.raw.RawMove.{RawMove}
 use Rattle.offer_moves.specs.declared.raw.RawMove.TheVariants as raws
-use Rattle.offer_moves.specs.Limits.{kept, parse_locks, bounded_number, optional_locks, optional_most, parse_sig}
+use Rattle.offer_moves.specs.Limits.{kept, limited_locks, number_below_count, optional_locks, optional_most, parse_sig}
 use Rattle.offer_moves.specs.Moves.{parse_arc, parse_claim, parse_craft, checked_hashkey, parse_move, optional_arc, make_publish, parse_refund, parse_replay}
 use Rattle.offer_moves.specs.Moves.{deal_sizes, parse_transfer}
 use Rattle.offer_moves.specs.Moves.{parse_unlock, parse_wait}
 use Rattle.offer_moves.specs.Placed.{adjacent, deviating}
 use Rattle.offer_events.specs.declared.raw.RawEvent.{RawEvent}
 use Rattle.offer_events.specs.declared.raw.RawEvent.TheVariants as raw_events
-use Rattle.offer_events.specs.Event.{asked, checked, conforming_crash, parse_event, event_of_act, event_of_call, event_of_crash, event_of_look}
+use Rattle.offer_events.specs.Event.{asked, checked_event, conforming_crash, parse_event, event_of_act, event_of_call, event_of_crash, event_of_look}
 use Rattle.offer_events.specs.Event.{event_of_tick, outside_race, permitted}
 use Rattle.offer_events.specs.Reading.{raw_event}
 use Rattle.offer_header.specs.declared.limits.Acting.{Acting}
@@ -80,8 +80,8 @@ kept_has ds h = by (nat_le (length ds) 8)
     by true = h
     by false = All-nil IsDigest
 
-locks_have : (line count : ℕ) (texts ds : List (List ℕ)) → parse_locks line count texts ≡ Ok ds → All IsDigest ds
-unfolding parse_locks
+locks_have : (line count : ℕ) (texts ds : List (List ℕ)) → limited_locks line count texts ≡ Ok ds → All IsDigest ds
+unfolding limited_locks
 locks_have line count texts =
     onward (check_range line (codes "locks") count count (length texts)) _ (All IsDigest) (λ u w.
     onward (collected_results (to_digest line (codes "locks")) texts) _ (All IsDigest) (λ digests e.
@@ -92,7 +92,7 @@ optional_has : (line count : ℕ) (o : Option (List (List ℕ))) (locks : Option
     → May (All IsDigest) locks
 optional_has line count None = landed None (May (All IsDigest)) tt
 optional_has line count (Some texts) =
-    onward (parse_locks line count texts) _ (May (All IsDigest)) (λ locks l.
+    onward (limited_locks line count texts) _ (May (All IsDigest)) (λ locks l.
     landed (Some locks) (May (All IsDigest)) (locks_have line count texts locks l))
 
 publish_has : (s : Sizes) (line n : ℕ) (t : RawTerms) (mv : Move) → make_publish s line n t ≡ Ok mv → MoveHas mv
@@ -112,7 +112,7 @@ unfolding parse_craft
 craft_has s names line n k =
     onward (collected_results (party_of_name line names) k.via) _ MoveHas (λ via a.
     onward (parse_arc s line (codes "arc") n) _ MoveHas (λ arc b.
-    onward (bounded_number line (codes "lock") s.locks k.lock) _ MoveHas (λ lock c.
+    onward (number_below_count line (codes "lock") s.locks k.lock) _ MoveHas (λ lock c.
     onward (check_range line (codes "via") 1 s.path (length k.via)) _ MoveHas (λ u e.
     onward (optional_arc s line (codes "onto") k.onto) _ MoveHas (λ onto f. landed (Craft arc lock via onto) MoveHas tt)))))
 
@@ -120,13 +120,13 @@ replay_has : (s : Sizes) (line n m k : ℕ) (mv : Move) → parse_replay s line 
 unfolding parse_replay
 replay_has s line n m k =
     onward (parse_arc s line (codes "arc") n) _ MoveHas (λ arc a.
-    onward (bounded_number line (codes "lock") s.locks m) _ MoveHas (λ lock b.
+    onward (number_below_count line (codes "lock") s.locks m) _ MoveHas (λ lock b.
     onward (parse_arc s line (codes "onto") k) _ MoveHas (λ onto c. landed (Replay arc lock onto) MoveHas tt)))
 
 key_has : (s : Sizes) (line : ℕ) (path : List ℕ) (k : RawKey) (key : Hashkey) → checked_hashkey s line path k ≡ Ok key → KeyHas key
 unfolding checked_hashkey
 key_has s line path k =
-    onward (bounded_number line (codes "lock") s.locks k.lock) _ KeyHas (λ lock a.
+    onward (number_below_count line (codes "lock") s.locks k.lock) _ KeyHas (λ lock a.
     onward (to_digest line (codes "secret") k.secret) _ KeyHas (λ secret b.
     onward (check_range line (codes "path") 0 s.path (length k.path)) _ KeyHas (λ u c.
     onward (check_range line (codes "sigs") 0 s.path (length k.sigs)) _ KeyHas (λ w e.
@@ -271,7 +271,7 @@ crash_has job line name n m =
     onward (ranged_number line (codes "after") 0 3 n) _ EventHas (λ k b.
     onward (ranged_number line (codes "image") 0 255 m) _ EventHas (λ image c. landed (Crash p k image) EventHas tt)))
 
-checked_has : (job : Job) (line : ℕ) (raw : RawEvent) (e : Event) → checked job line raw ≡ Ok e → EventHas e
+checked_has : (job : Job) (line : ℕ) (raw : RawEvent) (e : Event) → checked_event job line raw ≡ Ok e → EventHas e
 checked_has job line (raw_events.Tick n by) e k = tick_has job line n by e k
 checked_has job line (raw_events.Look name n) e k = look_has job line name n e k
 checked_has job line (raw_events.Act name) e k = act_has job line name e k
@@ -281,7 +281,7 @@ checked_has job line (raw_events.Crash name after image) e k = crash_has job lin
 asked_has : (job : Job) (line : ℕ) (raw : RawEvent) (e : Event) → asked job line raw ≡ Ok e → EventHas e
 unfolding asked
 asked_has job line raw =
-    onward (checked job line raw) _ EventHas (λ event c.
+    onward (checked_event job line raw) _ EventHas (λ event c.
     onward (outside_race line job.purpose) _ EventHas (λ u o.
     onward (conforming_crash job.conforming line event) _ EventHas (λ w d. landed event EventHas (checked_has job line raw event c))))
 

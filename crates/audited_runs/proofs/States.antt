@@ -30,10 +30,10 @@ use Rattle.deviators.specs.Script.{first_call, is_finished, is_wait, moves_left,
 use Rattle.swap_run.specs.Run.{Cast, Notes, Plan, Question, State, act, role_act, after_question, after_tick, after_turn, answered_call, ask, conforms}
 use Rattle.swap_run.specs.Run.{first_plan, follow, is_party_answer, is_clock_full_reply, is_planned, look, make, next_action, no_histories, no_notes}
 use Rattle.swap_run.specs.Run.{state_notes, party_plan, question, plan_with_ledger, plans_seen, party_role, run, continued_run, signed_through_call, start, step}
-use Rattle.swap_run.specs.Run.{take_call, watch, crash, is_recorded, recorded_hashkeys, relearnt}
-use Rattle.swap_run.specs.Fair.{acts, adjacent_arcs, finish, has_ended, looks, most_acts, repeat, round, round_unless_ended, the_horizon, tick_low, ticks, turn}
+use Rattle.swap_run.specs.Run.{take_call, watch, crash, is_recorded_after_crash, recorded_hashkeys, relearnt}
+use Rattle.swap_run.specs.Fair.{acts, adjacent_arcs, finish, is_above_horizon, looks, most_acts, repeat, round, round_unless_ended, the_horizon, tick_low, ticks, turn}
 use Rattle.swap_run.specs.Fair.{turns}
-use Rattle.swap_commands.specs.Output.{finished}
+use Rattle.swap_commands.specs.Output.{finished_state}
 use Rattle.typed_books.specs.Typed.{IsDigest}
 use Rattle.audited_runs.specs.Digests.{HasDigests}
 use Rattle.audited_runs.proofs.Hashes.{May, KeyHas, WalletHas}
@@ -231,7 +231,7 @@ module _ (c : Cast) (hashlocks : All IsDigest c.deal.hashlocks) (wallets : (v : 
   recorded_has : (signed : List (Option Hashkey)) (o : Option Action) (k image : ℕ) → May ActionHas o → All (May KeyHas) signed
       → All (May KeyHas) (recorded_hashkeys signed o k image)
   recorded_has signed None k image h all = all
-  recorded_has signed (Some x) k image h all = by (is_recorded k image)
+  recorded_has signed (Some x) k image h all = by (is_recorded_after_crash k image)
     where
       by : (t : Bool) → All (May KeyHas) (cond t (signed_through_call signed x.call) signed)
       by true = after_has signed x.call h all
@@ -427,19 +427,19 @@ module _ (c : Cast) (hashlocks : All IsDigest c.deal.hashlocks) (wallets : (v : 
         both (turns c) (ticks c) (each (turn c) (range_with_len 0 c.deal.graph.n) turn_walks) (each (tick_low c) (arcs c.deal.graph) low_walks)
 
     unless_walks : Walks (round_unless_ended c)
-    unless_walks = either (λ s. has_ended c.deal s.book) (λ s. s) (round c) rests round_walks
+    unless_walks = either (λ s. is_above_horizon c.deal s.book) (λ s. s) (round c) rests round_walks
 
     finishing : Walks (finish c)
     unfolding finish
     finishing = again (the_horizon c.deal + 1) (round_unless_ended c) unless_walks
 
-    finished_walks : (f : Finish) → Walks (finished f c)
+    finished_walks : (f : Finish) → Walks (finished_state f c)
     finished_walks Stop = rests
     finished_walks Fair = finishing
 
     -- all states of a run, up to the last question
-    pub whole_has : (f : Finish) (events : List Event) → All EventHas events → total ≡ (finished f c (run c events)).asked
-        → StateHas (finished f c (run c events))
+    pub whole_has : (f : Finish) (events : List Event) → All EventHas events → total ≡ (finished_state f c (run c events)).asked
+        → StateHas (finished_state f c (run c events))
     whole_has f events h e =
-        let w = both (λ s. continued_run c s events) (finished f c) (running events h) (finished_walks f) in
-        w.keeps (start c) ([], e ∙ sym (append-nil (finished f c (run c events)).asked)) start_has
+        let w = both (λ s. continued_run c s events) (finished_state f c) (running events h) (finished_walks f) in
+        w.keeps (start c) ([], e ∙ sym (append-nil (finished_state f c (run c events)).asked)) start_has

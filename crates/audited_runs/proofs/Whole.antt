@@ -16,7 +16,7 @@ use Rattle.swap_main.specs.Known.{by_rule}
 use Rattle.read_back.specs.Headers.{IsShowable}
 use Rattle.read_back.proofs.Onward.{landed, onward}
 use Rattle.read_back.proofs.Showable.{read_is_showable}
-use Rattle.audited_runs.specs.RunDigests.{KeepsDigests, Rule, RunsHoldDigests}
+use Rattle.audited_runs.specs.RunDigests.{KeepsDigests, NamedStrategyRule, RunsHoldDigests}
 use Rattle.audited_runs.proofs.Hashes.{May, WalletHas, onto_has, own_has}
 use Rattle.audited_runs.proofs.Calls.{AnswerHas, BookHas}
 use Rattle.audited_runs.proofs.States.{EventHas, StateHas, whole_has}
@@ -47,7 +47,7 @@ wallet_has : (o : Option (List ℕ)) (v : ℕ) (d : Deal) → WalletHas (signing
 wallet_has (Some seed) v d = record { first = own_has d.mode d v seed; onto = onto_has d.mode d v seed }
 wallet_has None v d = record { first = own_has d.mode d v []; onto = onto_has d.mode d v [] }
 
-module _ (rule : Rule) (keeps : KeepsDigests rule) (answers : Answers) (job : Job) (events : List Event) (k : AreRead (job, events))
+module _ (rule : NamedStrategyRule) (keeps : KeepsDigests rule) (answers : Answers) (job : Job) (events : List Event) (k : AreRead (job, events))
     (given : AreGiven (by_rule rule) job.deal answers (run_state answers job events).asked) where
   wallets : (v : ℕ) → WalletHas ((command_cast answers job).wallet v)
   wallets v = wallet_has (slice_index_or job.seeds v None) v job.deal

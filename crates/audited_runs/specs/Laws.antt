@@ -11,7 +11,7 @@ use Rattle.swap_main.specs.Known.{by_rule, is_known}
 use Rattle.swap_main.specs.Top.{IsDone}
 use Rattle.swap_commands.specs.Words.{Command, OfJob, Audit, Run, Race}
 use Rattle.swap_commands.specs.Strategies.{strategies}
-use Rattle.audited_runs.specs.RunDigests.{KeepsDigests, Rule}
+use Rattle.audited_runs.specs.RunDigests.{KeepsDigests, NamedStrategyRule}
 
 -- What was written of an input is a transcript. Its audit writes what the command writes for that
 -- input, and tells of a finding where the transcript's status did.
@@ -25,7 +25,7 @@ pub record IsAudited (has : List ℕ → Bool) (chance : Chance) (command : Comm
 -- Strategies answer by a rule, and the calls of the rule hold digests.
 abbrev pub RunsAreAudited : Type 0
 RunsAreAudited =
-    (rule : Rule) (has : List ℕ → Bool) (chance : Chance) (input : List ℕ) (output : Written) → KeepsDigests rule
+    (rule : NamedStrategyRule) (has : List ℕ → Bool) (chance : Chance) (input : List ℕ) (output : Written) → KeepsDigests rule
     → AsPromised has (by_rule rule) chance (OfJob (Run true)) input output → length output.text ≤ limit
     → IsAudited has chance (OfJob (Run false)) input output
 
@@ -33,7 +33,7 @@ RunsAreAudited =
 -- book, whatever strategies answer.
 abbrev pub RacesAreAudited : Type 0
 RacesAreAudited =
-    (rule : Rule) (has : List ℕ → Bool) (chance : Chance) (ticks : ℕ) (input : List ℕ) (output : Written)
+    (rule : NamedStrategyRule) (has : List ℕ → Bool) (chance : Chance) (ticks : ℕ) (input : List ℕ) (output : Written)
     → AsPromised has (by_rule rule) chance (OfJob (Race ticks true)) input output → length output.text ≤ limit
     → IsAudited has chance (OfJob (Race ticks false)) input output
 

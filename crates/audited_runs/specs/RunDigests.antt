@@ -15,11 +15,11 @@ use Rattle.typed_books.specs.Typed.{IsDigest}
 use Rattle.audited_runs.specs.Digests.{HasDigests, HoldsDigests}
 
 -- what strategies answer, by name, deal, party, turn number and what the party knows
-abbrev pub Rule : Type 0
-Rule = List ℕ → Deal → ℕ → ℕ → Histories → Option (ℕ × Call)
+abbrev pub NamedStrategyRule : Type 0
+NamedStrategyRule = List ℕ → Deal → ℕ → ℕ → Histories → Option (ℕ × Call)
 
 -- the rule answers calls that hold digests, where those that it is shown do
-abbrev pub KeepsDigests : Rule → Type 0
+abbrev pub KeepsDigests : NamedStrategyRule → Type 0
 KeepsDigests rule =
     (name : List ℕ) (d : Deal) (p t : ℕ) (k : Histories) (x : ℕ × Call) → All IsDigest d.hashlocks → HoldsDigests k → rule name d p t k ≡ Some x
     → HasDigests x.1
@@ -32,6 +32,6 @@ ProgramKeepsDigests = KeepsDigests program_rule
 -- read of it holds them, and what is made of seeds is hashed.
 abbrev pub RunsHoldDigests : Type 0
 RunsHoldDigests =
-    (rule : Rule) (has : List ℕ → Bool) (answers : Answers) (input : List ℕ) (job : Job) (events : List Event) → KeepsDigests rule
+    (rule : NamedStrategyRule) (has : List ℕ → Bool) (answers : Answers) (input : List ℕ) (job : Job) (events : List Event) → KeepsDigests rule
     → parse_job has purposes.Run input ≡ Ok (job, events) → AreGiven (by_rule rule) job.deal answers (run_state answers job events).asked
     → HoldsDigests (collected_book answers job events)

@@ -7,17 +7,17 @@ use Rattle.offer_header.specs.Names.{AreNames, named_ends, name_step, no_strateg
 use Rattle.offer_header.specs.declared.raw.RawArc.{RawArc}
 use Rattle.offer_header.proofs.Numbered.{ends_below, keeps_names}
 use Rattle.offer_header.proofs.Walked.{steps_keep}
-use Rattle.clear_line.specs.Names.{wished_name_step, numbered_arc, party_named, HasBoundedEnds}
+use Rattle.clear_line.specs.Names.{wished_name_step, numbered_arc, header_party, HasBoundedEnds}
 use Rattle.clear_line.specs.declared.names.NumberedArc.{NumberedArc}
 
 -- a step of a header's names
 as_in_header : (line : ℕ) (seen : List (List ℕ)) (name : List ℕ) (t : List (List ℕ)) → wished_name_step line seen name ≡ Ok t
-    → name_step no_strategy line [] seen (party_named name) ≡ Ok t
+    → name_step no_strategy line [] seen (header_party name) ≡ Ok t
 unfolding name_step
 as_in_header line seen name t h = rw h refl
 
 keeps : (line : ℕ) (seen : List (List ℕ)) (name : List ℕ) (t : List (List ℕ)) → AreNames seen → wished_name_step line seen name ≡ Ok t → AreNames t
-keeps line seen name t names h = keeps_names no_strategy line [] seen (party_named name) t names (as_in_header line seen name t h)
+keeps line seen name t names h = keeps_names no_strategy line [] seen (header_party name) t names (as_in_header line seen name t h)
 
 pub names_of : (line : ℕ) (parties names : List (List ℕ)) → steps (wished_name_step line) [] parties ≡ Ok names → AreNames names
 names_of line parties names h = steps_keep (λ l. AreNames l) (wished_name_step line) (keeps line) [] parties names

@@ -10,7 +10,7 @@ use Rattle.offer_header.specs.Names.{AreNames}
 use Rattle.swap_clear.specs.Proposals.{proposed_graph}
 use Rattle.swap_clear.specs.declared.answer.Clearing.{Clearing}
 use Rattle.swap_clear.specs.declared.proposed.Proposed.{Proposed}
-use Rattle.clear_line.specs.Cleared.{IsShown, Shows}
+use Rattle.clear_line.specs.Cleared.{IsShownClearing, Shows}
 use Rattle.clear_line.specs.Limits.{proposed_arc, limited_proposals, limited_times, AreWishesInLimits}
 use Rattle.clear_line.specs.Names.{AreBoundedEnds, HasBoundedEnds}
 use Rattle.clear_line.specs.declared.fields.RawWishes.{RawWishes}
@@ -89,7 +89,7 @@ small_ends n few ends a d lt =
     (omega (arith, few, k.0), omega (arith, few, k.1))
 
 pub shows_of : (w : Wishes) (c : Clearing) (n : ℕ) (arcs : List Proposed) → n ≡ length w.names → arcs ≡ w.arcs
-    → IsShown (proposed_graph n arcs) arcs c → Shows (record { wishes = w; clearing = c })
+    → IsShownClearing (proposed_graph n arcs) arcs c → Shows (record { wishes = w; clearing = c })
 shows_of w c n arcs number same shown =
-    subst (λ (k : ℕ). IsShown (proposed_graph k w.arcs) w.arcs c) number
-    (subst (λ (xs : List Proposed). IsShown (proposed_graph n xs) xs c) same shown)
+    subst (λ (k : ℕ). IsShownClearing (proposed_graph k w.arcs) w.arcs c) number
+    (subst (λ (xs : List Proposed). IsShownClearing (proposed_graph n xs) xs c) same shown)

@@ -36,8 +36,8 @@ unfoldable pub without_self_arcs : List Proposed → Result (Unit {0}) Reason
 without_self_arcs arcs = unless_self (first_self arcs)
 
 -- the start is at least delta
-unfoldable pub started : (start delta : ℕ) → Result (Unit {0}) Reason
-started start delta = if nat_lt start delta then Err (reasons.StartTooSoon start delta) else Ok tt
+unfoldable pub wished_start : (start delta : ℕ) → Result (Unit {0}) Reason
+wished_start start delta = if nat_lt start delta then Err (reasons.StartTooSoon start delta) else Ok tt
 
 -- A reason of the proposals. The ends of a line's arcs are parties, and none leads from a party to
 -- itself, so that the first two never come.
@@ -46,9 +46,9 @@ clear_reason (OutOfRange arc) = reasons.SelfArc arc
 clear_reason (SelfArc arc) = reasons.SelfArc arc
 clear_reason (TooManyLeaders group count) = reasons.TooManyLeaders group count
 
-abbrev pub to_offer_fault : Fault ClearReason → Fault Reason
-to_offer_fault (Refused reason) = Refused (clear_reason reason)
-to_offer_fault NoMemory = NoMemory
+abbrev pub clear_offer_fault : Fault ClearReason → Fault Reason
+clear_offer_fault (Refused reason) = Refused (clear_reason reason)
+clear_offer_fault NoMemory = NoMemory
 
 -- an arc that a reason names has a small number
 abbrev pub small : ClearReason → Type 0
@@ -64,7 +64,7 @@ by_clearing (Err reason) = Err (clear_reason reason)
 unfoldable pub make_clearing : Wishes → Result Clearing Reason
 make_clearing w = do
   u ← without_self_arcs w.arcs
-  v ← started w.start w.delta
+  v ← wished_start w.start w.delta
   by_clearing (cleared_groups (length w.names) w.arcs)
 
 -- what is cleared of a line, or the first reason why it is refused
@@ -76,7 +76,7 @@ parse_cleared line text = do
 
 -- What holds of a clearing of proposals: what is left out lies on no cycle, and each group makes a
 -- deal.
-pub record IsShown (g : Graph) (arcs : List Proposed) (c : Clearing) : Type 0 where
+pub record IsShownClearing (g : Graph) (arcs : List Proposed) (c : Clearing) : Type 0 where
   pub left_out : TellsLeftOut g c.left_out
   pub groups : AreGroups g c.groups
   pub strong : (group : Group) → IsElement group c.groups → IsStronglyConnected (own g group)
@@ -88,4 +88,4 @@ pub record IsShown (g : Graph) (arcs : List Proposed) (c : Clearing) : Type 0 wh
 
 -- what is cleared of wishes shows so
 abbrev pub Shows : Cleared → Type 0
-Shows c = IsShown (proposed_graph (length c.wishes.names) c.wishes.arcs) c.wishes.arcs c.clearing
+Shows c = IsShownClearing (proposed_graph (length c.wishes.names) c.wishes.arcs) c.wishes.arcs c.clearing

@@ -33,8 +33,8 @@ proposal_data names a =
     (member (codes "from") (name_data names a.from)
     (member (codes "to") (name_data names a.to) no_members)))
 
-abbrev pub last_fields : Wishes → Group → Members
-last_fields w group =
+abbrev pub last_cleared_fields : Wishes → Group → Members
+last_cleared_fields w group =
     member (codes "parties") (list_data (named_data (codes "name") w.names) group.parties)
     (member (codes "start") (number_data w.start)
     (member (codes "swap") (number_data 2) no_members))
@@ -43,7 +43,7 @@ abbrev pub members_data : Wishes → Group → Members
 members_data w group =
     member (codes "leaders") (list_data (named_data (codes "party") w.names) group.leaders)
     (member (codes "mode") (string (codes "hashkeys"))
-    (last_fields w group))
+    (last_cleared_fields w group))
 
 abbrev pub group_fields : Wishes → Group → Members → Members
 group_fields w group ms =

@@ -12,12 +12,12 @@ use Rattle.clear_line.specs.declared.names.Numbered.{Numbered}
 use Rattle.clear_line.specs.declared.names.NumberedArc.{NumberedArc}
 
 -- the party of that name in a header
-abbrev pub party_named : List ℕ → RawParty
-party_named name = record { name = name; actor = Conforming; seed = None }
+abbrev pub header_party : List ℕ → RawParty
+header_party name = record { name = name; actor = Conforming; seed = None }
 
 -- one more name, as in a header
 abbrev pub wished_name_step : ℕ → List (List ℕ) → List ℕ → Result (List (List ℕ)) Reason
-wished_name_step line names name = name_added line names (party_named name)
+wished_name_step line names name = name_added line names (header_party name)
 
 -- an arc by its parties' numbers
 unfoldable pub numbered_arc : ℕ → List (List ℕ) → RawArc → Result NumberedArc Reason

@@ -3,7 +3,7 @@
 ghost use Rattle.std.specs.Prelude.{◌≡◌, ◌<◌, ◌≤◌, length, position, IfOk};
 ghost use Rattle.swap_base.specs.Fault.{Gives};
 ghost use Rattle.swap_clear.specs.Refused.{IfRefused};
-ghost use Rattle.clear_line.specs.Cleared.{parse_cleared, make_clearing, to_offer_fault, first_self, small, started, without_self_arcs, Shows};
+ghost use Rattle.clear_line.specs.Cleared.{parse_cleared, make_clearing, clear_offer_fault, first_self, small, wished_start, without_self_arcs, Shows};
 ghost use Rattle.clear_line.specs.Limits.{AreWishesInLimits};
 
 use crate::limits::{Wishes, decode_wishes};
@@ -39,9 +39,9 @@ fn without_self_arcs(arcs: &[Proposed]) -> Result<(), OfferFault>
 }
 
 /// The start is at least delta.
-#[tactic(auto, unfolding(crate::specs::Cleared::started))]
-fn started(start: u32, delta: u32) -> Result<(), OfferFault>
-    ensures { Gives (λ u. u) result (started start delta) }
+#[tactic(auto, unfolding(crate::specs::Cleared::wished_start))]
+fn wished_start(start: u32, delta: u32) -> Result<(), OfferFault>
+    ensures { Gives (λ u. u) result (wished_start start delta) }
 {
     if start < delta {
         return Err(Fault::Refused(Reason::StartTooSoon(start as u64, delta as u64)));
@@ -49,9 +49,9 @@ fn started(start: u32, delta: u32) -> Result<(), OfferFault>
     Ok(())
 }
 
-fn to_offer_fault(fault: ClearFault) -> OfferFault
+fn clear_offer_fault(fault: ClearFault) -> OfferFault
     requires { IfRefused fault small }
-    ensures { result ≡ to_offer_fault fault }
+    ensures { result ≡ clear_offer_fault fault }
 {
     match fault {
         Fault::Refused(ClearReason::OutOfRange(arc)) => Fault::Refused(Reason::SelfArc(
@@ -73,10 +73,10 @@ fn make_clearing(alloc: Global, wishes: &Wishes) -> Result<Clearing, OfferFault>
     ensures shows { IfOk result (λ c. Shows (record { wishes = wishes.now; clearing = c })) }
 {
     without_self_arcs(wishes.arcs.as_slice())?;
-    started(wishes.start, wishes.delta)?;
+    wished_start(wishes.start, wishes.delta)?;
     match clear(alloc, wishes.names.len() as u8, wishes.arcs.as_slice()) {
         Ok(clearing) => Ok(clearing),
-        Err(fault) => Err(to_offer_fault(fault)),
+        Err(fault) => Err(clear_offer_fault(fault)),
     }
 }
 

@@ -5,7 +5,7 @@ ghost use Rattle.serde_json.specs.Data.{no_members};
 ghost use Rattle.serde_json.specs.View.{view, members_view};
 ghost use Rattle.swap_base.specs.Text.{lines};
 ghost use Rattle.offer_text.specs.Words.{AreTexts, IsBelow};
-ghost use Rattle.clear_line.specs.ClearedText.{cycle_line, group_fields, group_data, group_line, group_text, last_fields, members_data};
+ghost use Rattle.clear_line.specs.ClearedText.{cycle_line, group_fields, group_data, group_line, group_text, last_cleared_fields, members_data};
 
 use crate::limits::Wishes;
 use crate::lists::{arc_values, named_values};
@@ -25,7 +25,7 @@ fn put_last_fields(
 ) -> Result<(), NoMemory>
     requires none { members_view fields.old.entries ≡ no_members }
     requires texts { AreTexts wishes.now.names }
-    ensures { OnOk result (members_view fields.new.entries ≡ last_fields wishes.now group.now) }
+    ensures { OnOk result (members_view fields.new.entries ≡ last_cleared_fields wishes.now group.now) }
 {
     put_number(alloc, fields, "swap", 2)?;
     put_number(alloc, fields, "start", wishes.start as u64)?;

@@ -18,7 +18,7 @@ use Rattle.command_input.specs.Lines.{collect_lines, with_first, filled_lines, i
 use Rattle.command_input.proofs.Filled.{one_more}
 use Rattle.swap_io.specs.declared.fault.DrainFault.{DrainFault}
 use Rattle.swap_io.specs.declared.fault.DrainFault.TheVariants as drained
-use Rattle.command_input.specs.Input.{At, Breaks, CanBeLeft, Desk, Faulted, Fits, GivesNoLine, HasFailed, IsCalm, IsFed, IsLast, IsLine, IsPart, IsRest, IsTooLong}
+use Rattle.command_input.specs.Input.{At, Breaks, CanBeLeft, Desk, Faulted, Fits, GivesNoLine, HasFailed, HasNoNewFault, IsFed, IsLast, IsLine, TookPart, IsRest, IsTooLong}
 use Rattle.command_input.specs.Input.{ReadsLine, ReadsNone, Stands, TookBytes, ahead, desk, limit, past_empty, to_go}
 
 not_feed : (t : Bool) → not t ≡ true → t ≡ false
@@ -85,7 +85,7 @@ other_fault e past result most taken differs is long =
     omega arith
 
 is_part : (s t : Desk) (took : TookSome s.left t.left s.at.reading t.at.reading) → t.at.reading.taken ≤ t.at.reading.limit → s.at.reading.limit ≡ limit
-    → IsPart s t
+    → TookPart s t
 is_part s t took low lim = (took, omega (arith, low, took.1.limit, lim))
 
 too_long : (s t : Desk) (took : TookSome s.left t.left s.at.reading t.at.reading) → t.at.reading.limit < t.at.reading.taken
@@ -95,7 +95,7 @@ too_long s t took past most lim = (took, omega (arith, past, most, took.1.limit,
 pub next_fails : {T : Type 0} (s t : Desk) (e : LineFault) (result : Result T LineFault) → result ≡ Err e
     → TookSome s.left t.left s.at.reading t.at.reading → ((result ≡ Err line.TooLong) ↔ (t.at.reading.limit < t.at.reading.taken))
     → t.at.reading.taken ≤ t.at.reading.limit + 1 → s.at.reading.limit ≡ limit → (result ≡ Err line.ReadFault → HasFailed s t)
-    → (¬ (result ≡ Err line.ReadFault) → IsCalm s t) → GivesNoLine s t e
+    → (¬ (result ≡ Err line.ReadFault) → HasNoNewFault s t) → GivesNoLine s t e
 next_fails s t line.ReadFault result is took long most lim rose calm = (
   rose is,
   is_part s t took (other_fault line.ReadFault line.TooLong result t.at.reading.limit t.at.reading.taken (λ e. absurd (cc e)) is long) lim,
@@ -111,7 +111,7 @@ next_fails s t line.NoMemory result is took long most lim rose calm = (
 pub drain_breaks : {T : Type 0} (s t : Desk) (e : DrainFault) (result : Result T DrainFault) → result ≡ Err e
     → TookSome s.left t.left s.at.reading t.at.reading → ((result ≡ Err drained.TooLong) ↔ (t.at.reading.limit < t.at.reading.taken))
     → t.at.reading.taken ≤ t.at.reading.limit + 1 → s.at.reading.limit ≡ limit → (result ≡ Err drained.ReadFault → HasFailed s t)
-    → (¬ (result ≡ Err drained.ReadFault) → IsCalm s t) → Breaks s t e
+    → (¬ (result ≡ Err drained.ReadFault) → HasNoNewFault s t) → Breaks s t e
 drain_breaks s t drained.ReadFault result is took long most lim rose calm = (
   rose is,
   is_part s t took (other_fault drained.ReadFault drained.TooLong result t.at.reading.limit t.at.reading.taken (λ e. absurd (cc e)) is long) lim,
@@ -130,7 +130,7 @@ counts_rest a b s t line n p le = omega (arith, le, p.ends.0, p.took.counted, le
 -- The steps of an input.
 
 -- a line that a line feed ends
-pub reads_ended : (s t : Desk) (line : List ℕ) → IsNext s.left t.left s.at.reading t.at.reading line Ended → IsCalm s t → Fits t.left t.at → t.at.text ≡ line
+pub reads_ended : (s t : Desk) (line : List ℕ) → IsNext s.left t.left s.at.reading t.at.reading line Ended → HasNoNewFault s t → Fits t.left t.at → t.at.text ≡ line
     → t.at.number ≡ s.at.number + 1 → ReadsLine s t
 reads_ended s t line p calm fits text number = record {
   bytes = p.bytes;
@@ -141,7 +141,7 @@ reads_ended s t line p calm fits text number = record {
 }
 
 -- bytes at the end that none ends
-pub reads_rest : (s t : Desk) (line : List ℕ) → IsNext s.left t.left s.at.reading t.at.reading line Rest → IsCalm s t → t.at.reading.taken ≤ limit
+pub reads_rest : (s t : Desk) (line : List ℕ) → IsNext s.left t.left s.at.reading t.at.reading line Rest → HasNoNewFault s t → t.at.reading.taken ≤ limit
     → t.at.text ≡ line → t.at.number ≡ s.at.number + 1 → t.at.over ≡ true → ReadsLine s t
 reads_rest s t line p calm within text number over = record {
   bytes = p.bytes;
@@ -156,7 +156,7 @@ reads_rest s t line p calm within text number over = record {
   counted = number;
 }
 
-pub reads_none : (s t : Desk) (line : List ℕ) → IsNext s.left t.left s.at.reading t.at.reading line End → IsCalm s t → t.at.reading.taken ≤ limit
+pub reads_none : (s t : Desk) (line : List ℕ) → IsNext s.left t.left s.at.reading t.at.reading line End → HasNoNewFault s t → t.at.reading.taken ≤ limit
     → t.at.number ≡ s.at.number → t.at.over ≡ true → ReadsNone s t
 unfolding collect_lines
 reads_none s t line p calm within number over = record {
@@ -179,7 +179,7 @@ fewer a b s t line end going lim within p (inr (still, is)) =
 
 -- The parts of an input between line feeds.
 
-pub is_fed : (s t : Desk) (line : List ℕ) → IsNext s.left t.left s.at.reading t.at.reading line Ended → IsCalm s t → s.at.reading.limit ≡ limit
+pub is_fed : (s t : Desk) (line : List ℕ) → IsNext s.left t.left s.at.reading t.at.reading line Ended → HasNoNewFault s t → s.at.reading.limit ≡ limit
     → t.at.reading.taken ≤ limit → s.at.over ≡ false → t.at.over ≡ false → t.at.text ≡ line → IsFed s t
 is_fed s t line p calm lim within going still text = record {
   bytes = p.bytes;
@@ -191,7 +191,7 @@ is_fed s t line p calm lim within going still text = record {
 }
 
 rest_at : (s t : Desk) (line bytes : List ℕ) → TookBytes s t bytes → s.at.reading.kept ++ bytes ≡ line ++ t.at.reading.kept → IsReadingOver t.left t.at.reading
-    → IsTrue (lacks_feed line) → IsCalm s t → t.at.reading.taken ≤ limit → t.at.over ≡ true → t.at.text ≡ line → IsRest s t
+    → IsTrue (lacks_feed line) → HasNoNewFault s t → t.at.reading.taken ≤ limit → t.at.over ≡ true → t.at.text ≡ line → IsRest s t
 rest_at s t line bytes took parts over one calm within met text = record {
   bytes = bytes;
   stands = record { took = took; calm = calm; fits = record { within = within; ended = λ o. over.none_left } };
@@ -200,11 +200,11 @@ rest_at s t line bytes took parts over one calm within met text = record {
   met = met;
 }
 
-pub rest_is : (s t : Desk) (line : List ℕ) → IsNext s.left t.left s.at.reading t.at.reading line Rest → IsCalm s t → t.at.reading.taken ≤ limit
+pub rest_is : (s t : Desk) (line : List ℕ) → IsNext s.left t.left s.at.reading t.at.reading line Rest → HasNoNewFault s t → t.at.reading.taken ≤ limit
     → t.at.over ≡ true → t.at.text ≡ line → IsRest s t
 rest_is s t line p calm within met text = rest_at s t line p.bytes p.took p.parts p.ends.1 p.one calm within met text
 
-pub end_is : (s t : Desk) (line : List ℕ) → IsNext s.left t.left s.at.reading t.at.reading line End → IsCalm s t → t.at.reading.taken ≤ limit
+pub end_is : (s t : Desk) (line : List ℕ) → IsNext s.left t.left s.at.reading t.at.reading line End → HasNoNewFault s t → t.at.reading.taken ≤ limit
     → t.at.over ≡ true → t.at.text ≡ line → IsRest s t
 end_is s t line p calm within met text = rest_at s t line p.bytes p.took p.parts p.ends.1 p.one calm within met text
 
@@ -221,7 +221,7 @@ stands_on r s t xs ys p q = record {
 }
 
 -- a part behind what was taken
-part_on : (r s t : Desk) (xs : List ℕ) → Stands r s xs → IsPart s t → IsPart r t
+part_on : (r s t : Desk) (xs : List ℕ) → Stands r s xs → TookPart s t → TookPart r t
 part_on r s t xs p q = ((xs ++ q.0.0, took_on r.left s.left t.left r.at.reading s.at.reading t.at.reading xs q.0.0 p.took q.0.1), q.1)
 
 too_long_on : (r s t : Desk) (xs : List ℕ) → Stands r s xs → IsTooLong s t → IsTooLong r t

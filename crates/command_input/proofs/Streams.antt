@@ -15,8 +15,8 @@ use Rattle.command_input.specs.declared.status.Status.TheVariants as status
 use Rattle.refusals.specs.declared.refusal.Refusal.{Refusal}
 use Rattle.command_input.specs.Faults.{of_drain, of_line, of_offer, retold, unread}
 use Rattle.command_input.specs.Input.{At, Breaks, CanBeLeft, Desk, Drains, Ends, Faulted, Fits, GivesLine, GivesNoLine}
-use Rattle.command_input.specs.Input.{HasStopped, IsCalm, IsDrained, IsLast, IsLine}
-use Rattle.command_input.specs.Input.{IsPart, Reads, ReadsLine, ReadsNone, Stands, Stops, Tells, ahead, desk, fresh}
+use Rattle.command_input.specs.Input.{HasStopped, HasNoNewFault, IsDrained, IsLast, IsLine}
+use Rattle.command_input.specs.Input.{TookPart, ReadsLineIf, ReadsLine, ReadsNone, Stands, Stops, Tells, ahead, desk, fresh}
 use Rattle.command_input.proofs.Ahead.{faulted_on, line_faults, stands_none, stands_on}
 
 -- bytes may come before the end
@@ -142,11 +142,11 @@ module _ {A R E : Type 0} (walk : ℕ → A → List (ℕ × List ℕ) → Resul
 
 -- What a call of `read_line` and of `next` gives, by its answer.
 
-pub got_line : (more : Bool) (s t : Desk) → more ≡ true → Reads more s t → ReadsLine s t
+pub got_line : (more : Bool) (s t : Desk) → more ≡ true → ReadsLineIf more s t → ReadsLine s t
 got_line true s t e p = p
 got_line false s t e p = absurd (cc e)
 
-pub got_none : (more : Bool) (s t : Desk) → more ≡ false → Reads more s t → ReadsNone s t
+pub got_none : (more : Bool) (s t : Desk) → more ≡ false → ReadsLineIf more s t → ReadsNone s t
 got_none true s t e p = absurd (cc e)
 got_none false s t e p = p
 
@@ -159,10 +159,10 @@ last_run true s t e p = absurd (cc e)
 last_run false s t e p = p
 
 -- memory ran out behind what was taken
-pub no_memory_after : (s t : Desk) (bytes : List ℕ) → Stands s t bytes → IsCalm s t × IsPart s t
+pub no_memory_after : (s t : Desk) (bytes : List ℕ) → Stands s t bytes → HasNoNewFault s t × TookPart s t
 no_memory_after s t bytes p = (p.calm, ((bytes, p.took), p.fits.within))
 
-pub nothing_read : (left : Option (List ℕ)) (n : ℕ) → IsCalm (desk left n fresh) (desk left n fresh) × IsPart (desk left n fresh) (desk left n fresh)
+pub nothing_read : (left : Option (List ℕ)) (n : ℕ) → HasNoNewFault (desk left n fresh) (desk left n fresh) × TookPart (desk left n fresh) (desk left n fresh)
 nothing_read left n = no_memory_after (desk left n fresh) (desk left n fresh) [] (stands_none (desk left n fresh) (fits_fresh left fresh refl))
 
 -- no line was given
@@ -250,12 +250,12 @@ module _ {R : Type 0} (P : List ℕ → R → Type 0) (first old new : Desk) whe
   has_stopped NoMemory answer s d = same NoMemory answer d s
 
 -- no read failed, unless the fault tells of it, or the status
-pub calm_of : {R : Type 0} (P : List ℕ → R → Type 0) (first now : Desk) (f : InputFault R) → HasStopped P first now f → ¬ (f ≡ ReadFault) → IsCalm first now
+pub calm_of : {R : Type 0} (P : List ℕ → R → Type 0) (first now : Desk) (f : InputFault R) → HasStopped P first now f → ¬ (f ≡ ReadFault) → HasNoNewFault first now
 calm_of P first now (Refused r) h unless = h.stands.calm
 calm_of P first now ReadFault h unless = absurd (unless refl)
 calm_of P first now TooLong h unless = h.0
 calm_of P first now NoMemory h unless = h.0
 
 pub calm_unread : (P : List ℕ → Refusal → Type 0) (first now : Desk) (f : InputFault Refusal) → HasStopped P first now f
-    → ¬ (unread f ≡ status.ReadFault) → IsCalm first now
+    → ¬ (unread f ≡ status.ReadFault) → HasNoNewFault first now
 calm_unread P first now f h unless = calm_of P first now f h (λ e. unless (ap unread e))

@@ -29,8 +29,8 @@ abbrev pub of_offer : {R : Type 0} → Fault R → InputFault R
 of_offer (offer.Refused r) = Refused r
 of_offer offer.NoMemory = NoMemory
 
-abbrev pub IsNoMemory : {R : Type 0} → InputFault R → Type 0
-IsNoMemory e = e ≡ NoMemory
+abbrev pub IsInputNoMemory : {R : Type 0} → InputFault R → Type 0
+IsInputNoMemory e = e ≡ NoMemory
 
 -- what stopped a reading, where what is said against the input is told by another value
 abbrev pub retold : {R E : Type 0} → (R → E) → InputFault R → InputFault E

@@ -2,7 +2,7 @@
 use Rattle.std.specs.Prelude.{◌≡◌, ◌<◌, ◌≤◌, ◌+◌, ◌-◌, ℕ, cond, Bool, true, false, List, [], ◌∷◌, ◌++◌, length, IsTrue, Option}
 use Rattle.std.specs.Io.KnownBytes.{IsAtEnd}
 use Rattle.swap_io.specs.Causes.{Rose}
-use Rattle.swap_io.specs.Lines.{Reading, Took, feeds, lacks_feed, past_feeds}
+use Rattle.swap_io.specs.Lines.{Reading, TookFromSource, feeds, lacks_feed, past_feeds}
 use Rattle.swap_io.specs.declared.fault.LineFault.{LineFault}
 use Rattle.swap_io.specs.declared.fault.DrainFault.{DrainFault}
 use Rattle.command_input.specs.Faults.{of_drain, of_line}
@@ -59,8 +59,8 @@ abbrev pub desk : Option (List ℕ) → ℕ → At → Desk
 desk left faults at = record { left = left; faults = faults; at = at }
 
 -- no call of the source failed in between
-abbrev pub IsCalm : Desk → Desk → Type 0
-IsCalm old new = new.faults ≡ old.faults
+abbrev pub HasNoNewFault : Desk → Desk → Type 0
+HasNoNewFault old new = new.faults ≡ old.faults
 
 -- a call of the source failed in between
 abbrev pub HasFailed : Desk → Desk → Type 0
@@ -68,12 +68,12 @@ HasFailed old new = Rose old.faults new.faults
 
 -- the bytes were taken from the source
 abbrev pub TookBytes : Desk → Desk → List ℕ → Type 0
-TookBytes old new bytes = Took old.left new.left old.at.reading new.at.reading bytes
+TookBytes old new bytes = TookFromSource old.left new.left old.at.reading new.at.reading bytes
 
 -- What stands after a call: the bytes were taken, no read failed, and what is left fits.
 pub record Stands (old new : Desk) (bytes : List ℕ) : Type 0 where
   pub took : TookBytes old new bytes
-  pub calm : IsCalm old new
+  pub calm : HasNoNewFault old new
   pub fits : Fits new.left new.at
 
 -- a measure of the lines that may still come: none after the end
@@ -97,9 +97,9 @@ pub record ReadsNone (old new : Desk) : Type 0 where
   pub kept : new.at.reading.kept ≡ []
   pub met : new.at.over ≡ true
 
-abbrev pub Reads : Bool → Desk → Desk → Type 0
-Reads true old new = ReadsLine old new
-Reads false old new = ReadsNone old new
+abbrev pub ReadsLineIf : Bool → Desk → Desk → Type 0
+ReadsLineIf true old new = ReadsLine old new
+ReadsLineIf false old new = ReadsNone old new
 
 -- The next line that isn't blank: whatever comes after it, the lines ahead were it and those ahead
 -- of it.
@@ -165,15 +165,15 @@ abbrev pub IsTooLong : Desk → Desk → Type 0
 IsTooLong old new = ((bytes : List ℕ) × TookBytes old new bytes) × (new.at.reading.taken ≡ limit + 1)
 
 -- some bytes were taken, no more than an input may have
-abbrev pub IsPart : Desk → Desk → Type 0
-IsPart old new = ((bytes : List ℕ) × TookBytes old new bytes) × (new.at.reading.taken ≤ limit)
+abbrev pub TookPart : Desk → Desk → Type 0
+TookPart old new = ((bytes : List ℕ) × TookBytes old new bytes) × (new.at.reading.taken ≤ limit)
 
 -- Why a reading stopped: what Q tells of what is said against the input, or a fault.
 abbrev pub Faulted : {R : Type 0} → (R → Type 0) → Desk → Desk → InputFault R → Type 0
 Faulted Q old new (Refused r) = Q r
-Faulted Q old new ReadFault = HasFailed old new × IsPart old new
-Faulted Q old new TooLong = IsCalm old new × IsTooLong old new
-Faulted Q old new NoMemory = IsCalm old new × IsPart old new
+Faulted Q old new ReadFault = HasFailed old new × TookPart old new
+Faulted Q old new TooLong = HasNoNewFault old new × IsTooLong old new
+Faulted Q old new NoMemory = HasNoNewFault old new × TookPart old new
 
 -- why the reading of an input stopped; P relates the bytes to the refusal, whatever comes after
 -- them
@@ -204,7 +204,7 @@ pub record IsDrained (old new : Desk) : Type 0 where
   pub bytes : List ℕ
   pub took : TookBytes old new bytes
   pub within : new.at.reading.taken ≤ limit
-  pub calm : IsCalm old new
+  pub calm : HasNoNewFault old new
   pub can : CanBeLeft old.at bytes
   pub ended : (old.at.over ≡ true → IsAtEnd old.left) → IsAtEnd new.left
 

@@ -18,12 +18,12 @@ IsWrittenWhole taken taken' found output = Appends taken taken' output.text × (
 
 -- what a status says of an output that is written, by what the sink took and how many of its calls
 -- failed
-abbrev pub Writes : Option (List ℕ) → Option (List ℕ) → ℕ → ℕ → Written → Status → Type 0
-Writes taken taken' p q output Done = IsWrittenWhole taken taken' false output
-Writes taken taken' p q output Named = IsWrittenWhole taken taken' true output
-Writes taken taken' p q output WriteFault = Rose p q × AppendsProperPrefix taken taken' output.text
-Writes taken taken' p q output NoMemory = AppendsPrefix taken taken' output.text
-Writes taken taken' p q output WrongWords = ⊥
-Writes taken taken' p q output (Refused reason names) = ⊥
-Writes taken taken' p q output ReadFault = ⊥
-Writes taken taken' p q output TooLong = ⊥
+abbrev pub StatusWrites : Option (List ℕ) → Option (List ℕ) → ℕ → ℕ → Written → Status → Type 0
+StatusWrites taken taken' p q output Done = IsWrittenWhole taken taken' false output
+StatusWrites taken taken' p q output Named = IsWrittenWhole taken taken' true output
+StatusWrites taken taken' p q output WriteFault = Rose p q × AppendsProperPrefix taken taken' output.text
+StatusWrites taken taken' p q output NoMemory = AppendsPrefix taken taken' output.text
+StatusWrites taken taken' p q output WrongWords = ⊥
+StatusWrites taken taken' p q output (Refused reason names) = ⊥
+StatusWrites taken taken' p q output ReadFault = ⊥
+StatusWrites taken taken' p q output TooLong = ⊥

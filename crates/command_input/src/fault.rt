@@ -85,9 +85,9 @@ impl<R> From<Fault<R>> for InputFault<R> {
 }
 
 impl<R> From<NoMemory> for InputFault<R> {
-    ghost use Rattle.command_input.specs.Faults.{IsNoMemory};
+    ghost use Rattle.command_input.specs.Faults.{IsInputNoMemory};
 
-    ghost from_gives = { λ _ e. IsNoMemory e };
+    ghost from_gives = { λ _ e. IsInputNoMemory e };
 
     fn from(_e: NoMemory) -> InputFault<R> {
         InputFault::NoMemory

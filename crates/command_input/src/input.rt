@@ -1,7 +1,7 @@
 //! An input that is read line by line.
 
 ghost use Rattle.std.specs.Prelude.{◌≡◌, ◌<◌, ◌≤◌, ◌+◌, [], length, true, false, IfOk, IfErr, OnOk};
-ghost use Rattle.command_input.specs.Input.{At, Breaks, Drains, Fits, GivesNoLine, GivesLine, GivesPart, IsDrained, IsDropped, Reads, desk, fresh, limit, past_empty};
+ghost use Rattle.command_input.specs.Input.{At, Breaks, Drains, Fits, GivesNoLine, GivesLine, GivesPart, IsDrained, IsDropped, ReadsLineIf, desk, fresh, limit, past_empty};
 ghost use Rattle.command_input.specs.Input.{to_go};
 
 use crate::fault::InputFault;
@@ -62,7 +62,7 @@ impl Input {
     /// Reads one line, blank or not, and answers whether there was one.
     fn read_line<S: Source>(&mut self, source: &mut S) -> Result<bool, LineFault>
         requires open_yet { self.old.over ≡ false }
-        ensures reads { IfOk result (λ more. Reads more (desk (S.left source.old) (S.faults source.old) self.old)
+        ensures reads { IfOk result (λ more. ReadsLineIf more (desk (S.left source.old) (S.faults source.old) self.old)
             (desk (S.left source.new) (S.faults source.new) self.new)) }
         ensures few { IfOk result (λ _. self.new.number ≤ limit) }
         ensures shorter { IfOk result (λ _. to_go self.new < to_go self.old) }

@@ -9,7 +9,7 @@ use Rattle.std.proofs.lemmas.Bool.{leb-true}
 use Rattle.swap_base.proofs.Lists.{and_both, and_parts}
 use Rattle.refusals.specs.declared.refusal.Refusal.{Refusal}
 use Rattle.refusals.specs.declared.reason.Reason.TheVariants.{CutShort}
-use Rattle.transcript_lines.specs.Between.{between, ended, longer_first, separated_parts}
+use Rattle.transcript_lines.specs.Between.{between, fed_lines, longer_first, separated_parts}
 use Rattle.transcript_lines.proofs.Parts.{IsHigh}
 use Rattle.party_lines.specs.Lines.{ended_lines, is_ended, nameless}
 
@@ -52,7 +52,7 @@ all_parts l (m ∷ ms) h k = first_part l (between 10 (m ∷ ms)) h ∙ ap (λ r
 abbrev feed : List ℕ
 feed = 10 ∷ []
 
-pub ended_is : (l : List ℕ) (ls : List (List ℕ)) → ended (l ∷ ls) ≡ between 10 (l ∷ ls) ++ 10 ∷ []
+pub ended_is : (l : List ℕ) (ls : List (List ℕ)) → fed_lines (l ∷ ls) ≡ between 10 (l ∷ ls) ++ 10 ∷ []
 ended_is l [] = append-nil (l ++ feed)
 ended_is l (m ∷ ms) =
     ap (λ t. (l ++ feed) ++ t) (ended_is m ms) ∙ append_assoc l feed (between 10 (m ∷ ms) ++ feed)
@@ -65,7 +65,7 @@ is_ended_text : (b : List ℕ) → is_ended (b ++ feed) ≡ true
 is_ended_text b =
     ap (λ n. slice_index_or (b ++ feed) n 0 == 10) (last_place b) ∙ ap (λ x. x == 10) (get_or_push b 10 0 (length b) refl)
 
-pub ended_back : (l : List ℕ) (ls : List (List ℕ)) → HasNoFeed l → AllByRecursion HasNoFeed ls → ended_lines (ended (l ∷ ls)) ≡ Ok (l ∷ ls)
+pub ended_back : (l : List ℕ) (ls : List (List ℕ)) → HasNoFeed l → AllByRecursion HasNoFeed ls → ended_lines (fed_lines (l ∷ ls)) ≡ Ok (l ∷ ls)
 unfolding ended_lines
 ended_back l ls h k =
     let b = between 10 (l ∷ ls) in

@@ -22,14 +22,14 @@ use Rattle.swap_job.specs.declared.job.Job.{Job}
 use Rattle.refusals.specs.declared.refusal.Refusal.{Refusal}
 use Rattle.refusals.specs.declared.reason.Reason.{Reason}
 use Rattle.refusals.specs.declared.reason.Reason.TheVariants.{OverLimit}
-use Rattle.refusals.specs.Refusal.{named}
+use Rattle.refusals.specs.Refusal.{named_result}
 use Rattle.typed_books.specs.Typed.{IsDigest}
 use Rattle.offer_fields.specs.Limits.{check_range}
 use Rattle.offer_header.specs.Names.{is_name}
 use Rattle.swap_gen.specs.Made.{seed_or_zeros}
 use Rattle.transcript_lines.specs.Between.{spaced}
 use Rattle.transcript_lines.proofs.Parts.{IsHigh}
-use Rattle.party_lines.specs.Lines.{next_number, or_bad_line}
+use Rattle.party_lines.specs.Lines.{following_line_number, or_bad_line}
 use Rattle.party_lines.specs.Names.{party_named}
 use Rattle.party_rows.specs.declared.row.Row.{Row}
 use Rattle.party_rows.specs.Laws.{seeded_rows}
@@ -37,7 +37,7 @@ use Rattle.party_rows.specs.Inside.{IsOffered}
 use Rattle.party_rows.specs.Row.{parse_row, row_words, seeded_hashlock, seeded_keys, seeded_row}
 use Rattle.party_rows.specs.Rows.{check_first, count_hashlocks, find_row, hashlocks_wanted, keys_wanted, parse_rows, right_hashlock, right_keys, with_party_row, with_row}
 use Rattle.party_rows.specs.Rows.{with_rows}
-use Rattle.dealt_texts.specs.Texts.{party_name, AreApart, IsOrder}
+use Rattle.dealt_texts.specs.Texts.{job_party_name, AreApart, IsEachPartyOnce}
 use Rattle.dealt_texts.proofs.Named.{finds}
 use Rattle.dealt_texts.proofs.RowBack.{named_row, row_back, row_high, MayBeDigest}
 
@@ -74,11 +74,11 @@ both_true true b x y = y
 both_true false b x y = absurd (cc x)
 
 -- a number is within itself
-within_itself : (line : ℕ) (field : List ℕ) (n m : ℕ) → m ≡ n → named [] (check_range line field n n m) ≡ Ok tt
+within_itself : (line : ℕ) (field : List ℕ) (n m : ℕ) → m ≡ n → named_result [] (check_range line field n n m) ≡ Ok tt
 unfolding check_range
 within_itself line field n m same =
     let over : Result (Unit {0}) Reason = Err (OverLimit line field m) in
-    ap (λ t. named [] (cond t (Ok tt) over))
+    ap (λ t. named_result [] (cond t (Ok tt) over))
     (both_true (nat_le n m) (nat_le m n) (le-leb n m (omega (arith, same))) (le-leb m n (omega (arith, same))))
 
 right_lock : (line : ℕ) (seed : List ℕ) (p : ℕ) (d : Deal) → right_hashlock line (leads_one d p) (seeded_row seed p d) ≡ Ok tt
@@ -97,28 +97,28 @@ module _ (job : Job) (seeds : List (Option (List ℕ))) (k : IsOffered job) (nam
   row p = seeded_row (seed_or_zeros seeds p) p job.deal
 
   abbrev pub row_text : ℕ → List ℕ
-  row_text p = spaced (row_words (party_name job p) (row p))
+  row_text p = spaced (row_words (job_party_name job p) (row p))
 
-  reads : (p : ℕ) → p < length job.names → parse_row (row_text p) ≡ Ok (named_row (party_name job p) (row p))
+  reads : (p : ℕ) → p < length job.names → parse_row (row_text p) ≡ Ok (named_row (job_party_name job p) (row p))
   unfolding seeded_row
   reads p lt =
-      row_back (party_name job p) (row p) (names p [] lt) (hashlock_is (leads_one job.deal p) (seed_or_zeros seeds p))
+      row_back (job_party_name job p) (row p) (names p [] lt) (hashlock_is (leads_one job.deal p) (seed_or_zeros seeds p))
       (keys_are job.deal.mode (seed_or_zeros seeds p) p job.deal)
 
   pub is_high : (p : ℕ) → p < length job.names → IsHigh 32 (row_text p)
   unfolding seeded_row
   is_high p lt =
-      row_high (party_name job p) (row p) (names p [] lt) (hashlock_is (leads_one job.deal p) (seed_or_zeros seeds p))
+      row_high (job_party_name job p) (row p) (names p [] lt) (hashlock_is (leads_one job.deal p) (seed_or_zeros seeds p))
       (keys_are job.deal.mode (seed_or_zeros seeds p) p job.deal)
 
   takes : (line : ℕ) (rows : List (Option Row)) (p : ℕ) → p < length job.names → find_row rows p ≡ None
       → with_row job line rows (row_text p) ≡ Ok (slice_set rows p (Some (row p)))
   unfolding with_row with_party_row
   takes line rows p lt none =
-      let r = named_row (party_name job p) (row p) in
+      let r = named_row (job_party_name job p) (row p) in
       step (or_bad_line line (parse_row (row_text p))) r _ (ap (or_bad_line line) (reads p lt))
-      ∙ step (party_named line job.names (party_name job p)) p _ (finds line job.names p k.names lt)
-      ∙ step (check_first line (party_name job p) (find_row rows p)) tt _ (ap (check_first line (party_name job p)) none)
+      ∙ step (party_named line job.names (job_party_name job p)) p _ (finds line job.names p k.names lt)
+      ∙ step (check_first line (job_party_name job p) (find_row rows p)) tt _ (ap (check_first line (job_party_name job p)) none)
       ∙ step (right_hashlock line (leads_one job.deal p) (row p)) tt _ (right_lock line (seed_or_zeros seeds p) p job.deal)
       ∙ step (right_keys line job.deal (row p)) tt _ (right_count line (seed_or_zeros seeds p) p job.deal)
 
@@ -167,9 +167,9 @@ module _ (job : Job) (seeds : List (Option (List ℕ))) (k : IsOffered job) (nam
       let lt = below p (inl refl) in
       let named_lt : p < length job.names = omega (arith, k.whole.names, lt) in
       step (with_row job line rows (row_text p)) (slice_set rows p (Some (row p))) _ (takes line rows p named_lt (s.missing p (inl refl)))
-      ∙ takes_all (next_number line) ps (slice_set rows p (Some (row p))) (λ q i. below q (inr i)) apart.1 (goes_on p ps rows lt apart.0 s)
+      ∙ takes_all (following_line_number line) ps (slice_set rows p (Some (row p))) (λ q i. below q (inr i)) apart.1 (goes_on p ps rows lt apart.0 s)
 
-  pub rows_back : (line : ℕ) (order : List ℕ) → IsOrder n order → parse_rows job line (map row_text order) ≡ Ok (seeded_rows seeds job.deal)
+  pub rows_back : (line : ℕ) (order : List ℕ) → IsEachPartyOnce n order → parse_rows job line (map row_text order) ≡ Ok (seeded_rows seeds job.deal)
   unfolding parse_rows
   rows_back line order o =
       takes_all line order (replicate n None) o.below o.apart (record {

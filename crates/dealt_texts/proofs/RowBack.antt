@@ -12,7 +12,7 @@ use Rattle.typed_books.specs.Typed.{IsDigest}
 use Rattle.offer_header.specs.Names.{is_name, is_name_byte}
 use Rattle.transcript_lines.specs.declared.said.Misspelling.{Misspelling}
 use Rattle.transcript_lines.specs.Between.{spaced}
-use Rattle.transcript_lines.specs.Reading.{inside_entries, misspelt, to_digest}
+use Rattle.transcript_lines.specs.Reading.{listed_field, misspelt, lower_hex_digest}
 use Rattle.transcript_lines.specs.Words.{list_word}
 use Rattle.transcript_lines.proofs.Parts.{IsHigh, high_between, high_too, parts_between}
 use Rattle.transcript_lines.proofs.Hex.{digest_back, high_hex, some_hex}
@@ -87,7 +87,7 @@ high_hashlock (Some x) k = high_too 33 48 (encode_lower x) (omega arith) (high_d
 
 high_keys : (xs : List (List ℕ)) → All IsDigest xs → IsHigh 33 (list_word (map encode_lower xs))
 high_keys xs k =
-    high_too 33 44 (list_word (map encode_lower xs)) (omega arith) (high_list IsDigest encode_lower to_digest digest_back high_digest some_digest xs k)
+    high_too 33 44 (list_word (map encode_lower xs)) (omega arith) (high_list IsDigest encode_lower lower_hex_digest digest_back high_digest some_digest xs k)
 
 -- ---- each field is read back
 
@@ -103,12 +103,12 @@ not_dash (y ∷ w) h some = by (nat_eq y 45) refl
 hashlock_back : (o : Option (List ℕ)) → MayBeDigest o → hashlock_said (hashlock_word o) ≡ Ok o
 hashlock_back None k = refl
 hashlock_back (Some x) k =
-    let read : Result (Option (List ℕ)) Misspelling = to_digest (encode_lower x) >>= λ hashlock. Ok (Some hashlock) in
+    let read : Result (Option (List ℕ)) Misspelling = lower_hex_digest (encode_lower x) >>= λ hashlock. Ok (Some hashlock) in
     ap (λ t. cond t (Ok None) read) (not_dash (encode_lower x) (high_digest x k) (some_digest x k))
-    ∙ went (to_digest (encode_lower x)) x (λ hashlock. Ok (Some hashlock)) (digest_back x k)
+    ∙ went (lower_hex_digest (encode_lower x)) x (λ hashlock. Ok (Some hashlock)) (digest_back x k)
 
-keys_back : (xs : List (List ℕ)) → All IsDigest xs → inside_entries to_digest (list_word (map encode_lower xs)) ≡ Ok xs
-keys_back xs k = list_back IsDigest encode_lower to_digest digest_back high_digest some_digest xs k
+keys_back : (xs : List (List ℕ)) → All IsDigest xs → listed_field lower_hex_digest (list_word (map encode_lower xs)) ≡ Ok xs
+keys_back xs k = list_back IsDigest encode_lower lower_hex_digest digest_back high_digest some_digest xs k
 
 name_back : (name : List ℕ) → is_name name ≡ true → name_said name ≡ Ok name
 name_back name k = ap (λ t. cond t (Ok name) misspelt) k
@@ -125,7 +125,7 @@ said_back name row n h k =
     went _ (tt, name ∷ hashlock) _ (field_back (this_word (codes "row")) (codes "row") tt (name ∷ hashlock) refl)
     ∙ went _ (name, hashlock) _ (field_back name_said name name hashlock (name_back name n))
     ∙ went _ (row.hashlock, keys) _ (field_back hashlock_said (hashlock_word row.hashlock) row.hashlock keys (hashlock_back row.hashlock h))
-    ∙ went _ (row.keys, []) _ (field_back (inside_entries to_digest) (list_word (map encode_lower row.keys)) row.keys [] (keys_back row.keys k))
+    ∙ went _ (row.keys, []) _ (field_back (listed_field lower_hex_digest) (list_word (map encode_lower row.keys)) row.keys [] (keys_back row.keys k))
 
 pub row_back : (name : List ℕ) (row : Row) → is_name name ≡ true → MayBeDigest row.hashlock → All IsDigest row.keys
     → parse_row (spaced (row_words name row)) ≡ Ok (named_row name row)

@@ -11,8 +11,8 @@ use Rattle.refusals.specs.declared.refusal.Refusal.{Refusal}
 use Rattle.typed_books.specs.Typed.{IsDigest}
 use Rattle.swap_gen.specs.Made.{seed_or_zeros}
 use Rattle.transcript_lines.specs.declared.said.Misspelling.{Misspelling}
-use Rattle.transcript_lines.specs.Between.{ended, spaced}
-use Rattle.transcript_lines.specs.Reading.{to_digest}
+use Rattle.transcript_lines.specs.Between.{fed_lines, spaced}
+use Rattle.transcript_lines.specs.Reading.{lower_hex_digest}
 use Rattle.transcript_lines.proofs.Parts.{high_between, high_too, parts_between}
 use Rattle.transcript_lines.proofs.Hex.{digest_back, high_hex}
 use Rattle.transcript_lines.proofs.Spelling.{field_back}
@@ -20,14 +20,14 @@ use Rattle.party_lines.specs.Digests.{digest_line, digest_told, this_word, told_
 use Rattle.party_lines.specs.Lines.{ended_lines, or_bad_line}
 use Rattle.party_lines.specs.Names.{party_named}
 use Rattle.party_rows.specs.Dealt.{dealt, dealt_line}
-use Rattle.party_rows.specs.Keys.{by_refusal, deal_from_rows, deal_output, keys_from_lines, keys_output, parse_dealing, parse_dealing_lines, row_from_lines, row_of_name}
+use Rattle.party_rows.specs.Keys.{deal_by_refusal, deal_from_rows, deal_output, keys_from_lines, keys_output, parse_dealing, parse_dealing_lines, row_from_lines, row_of_name}
 use Rattle.party_rows.specs.Keys.{unless_missing, DealingState}
 use Rattle.party_rows.specs.Laws.{seeded_rows}
 use Rattle.party_rows.specs.Offer.{parse_offer}
 use Rattle.party_rows.specs.Row.{row_line, seeded_row}
 use Rattle.party_rows.specs.Rows.{first_missing, parse_rows}
 use Rattle.party_rows.proofs.Making.{dealt_line_is_made}
-use Rattle.dealt_texts.specs.Texts.{deal_input, keys_input, party_name, seeded_line, AreSeeds, DealsOfRowsAreMade, IsOfferLine, IsOrder, KeysGiveRows}
+use Rattle.dealt_texts.specs.Texts.{deal_input, keys_input, job_party_name, seeded_row_line, AreSeeds, DealsOfRowsAreMade, IsOfferLine, IsEachPartyOnce, KeysGiveRows}
 use Rattle.dealt_texts.proofs.Ends.{ended_back, no_feed, HasNoFeed}
 use Rattle.dealt_texts.proofs.Named.{finds}
 use Rattle.dealt_texts.proofs.Order.{is_high, row_text, rows_back, step}
@@ -44,7 +44,7 @@ seed_said : (seed : List ℕ) → IsDigest seed → told_digest (codes "seed") (
 unfolding told_digest
 seed_said seed k =
     went _ (tt, encode_lower seed ∷ []) _ (field_back (this_word (codes "seed")) (codes "seed") tt (encode_lower seed ∷ []) refl)
-    ∙ went _ (seed, []) _ (field_back to_digest (encode_lower seed) seed [] (digest_back seed k))
+    ∙ went _ (seed, []) _ (field_back lower_hex_digest (encode_lower seed) seed [] (digest_back seed k))
 
 seed_back : (seed : List ℕ) → IsDigest seed → digest_told (codes "seed") 1 (seed_text seed) ≡ Ok seed
 unfolding digest_told
@@ -65,22 +65,22 @@ module _ (offer : List ℕ) (job : Job) (seeds : List (Option (List ℕ))) (k : 
   named_below p lt = omega (arith, k.offered.whole.names, lt)
 
   row_is : (p : ℕ) → p < job.deal.graph.n
-      → row_from_lines (party_name job p) (seed_or_zeros seeds p) (offer ∷ []) ≡ Ok (seeded_line seeds job p)
+      → row_from_lines (job_party_name job p) (seed_or_zeros seeds p) (offer ∷ []) ≡ Ok (seeded_row_line seeds job p)
   unfolding row_from_lines row_of_name
   row_is p lt =
       step (parse_offer 2 offer) job _ (k.reads 2)
-      ∙ step (party_named 2 job.names (party_name job p)) p _ (finds 2 job.names p k.offered.names (named_below p lt))
+      ∙ step (party_named 2 job.names (job_party_name job p)) p _ (finds 2 job.names p k.offered.names (named_below p lt))
 
   line_is : (p : ℕ) → p < job.deal.graph.n
       → digest_line (codes "seed") 1 (seed_text (seed_or_zeros seeds p) ∷ offer ∷ []) ≡ Ok (seed_or_zeros seeds p, offer ∷ [])
   unfolding digest_line
   line_is p lt = step (digest_told (codes "seed") 1 (seed_text (seed_or_zeros seeds p))) (seed_or_zeros seeds p) _ (seed_back (seed_or_zeros seeds p) (s p lt))
 
-  pub keys_give : (p : ℕ) → p < job.deal.graph.n → keys_output (party_name job p) (keys_input (seed_or_zeros seeds p) offer) ≡ Ok (seeded_line seeds job p)
+  pub keys_give : (p : ℕ) → p < job.deal.graph.n → keys_output (job_party_name job p) (keys_input (seed_or_zeros seeds p) offer) ≡ Ok (seeded_row_line seeds job p)
   unfolding keys_output keys_from_lines
   keys_give p lt =
       let seed = seed_or_zeros seeds p in
-      step (ended_lines (keys_input seed offer)) (seed_text seed ∷ offer ∷ []) (keys_from_lines (party_name job p))
+      step (ended_lines (keys_input seed offer)) (seed_text seed ∷ offer ∷ []) (keys_from_lines (job_party_name job p))
       (ended_back (seed_text seed) (offer ∷ []) (seed_no_feed seed (s p lt)) (k.one_line, tt))
       ∙ step (digest_line (codes "seed") 1 (seed_text seed ∷ offer ∷ [])) (seed, offer ∷ []) _ (line_is p lt)
       ∙ row_is p lt
@@ -90,7 +90,7 @@ module _ (offer : List ℕ) (job : Job) (seeds : List (Option (List ℕ))) (k : 
   abbrev text : ℕ → List ℕ
   text p = row_text job seeds k.offered k.names p
 
-  same_texts : (rows : ℕ → List ℕ) (order : List ℕ) → ((p : ℕ) → IsElement p order → rows p ≡ text p ++ 10 ∷ []) → flat_map rows order ≡ ended (map text order)
+  same_texts : (rows : ℕ → List ℕ) (order : List ℕ) → ((p : ℕ) → IsElement p order → rows p ≡ text p ++ 10 ∷ []) → flat_map rows order ≡ fed_lines (map text order)
   same_texts rows [] same = refl
   same_texts rows (p ∷ ps) same = ap₂ (λ (a b : List ℕ). a ++ b) (same p (inl refl)) (same_texts rows ps (λ q i. same q (inr i)))
 
@@ -102,16 +102,16 @@ module _ (offer : List ℕ) (job : Job) (seeds : List (Option (List ℕ))) (k : 
   abbrev state : DealingState
   state = record { job = job; rows = seeded_rows seeds job.deal }
 
-  dealing_is : (order : List ℕ) → IsOrder job.deal.graph.n order → parse_dealing_lines (offer ∷ map text order) ≡ Ok state
+  dealing_is : (order : List ℕ) → IsEachPartyOnce job.deal.graph.n order → parse_dealing_lines (offer ∷ map text order) ≡ Ok state
   unfolding parse_dealing_lines
   dealing_is order o =
       step (parse_offer 1 offer) job _ (k.reads 1)
       ∙ step (parse_rows job 2 (map text order)) (seeded_rows seeds job.deal) _ (rows_back job seeds k.offered k.names 2 order o)
 
-  whole_is : (order : List ℕ) → IsOrder job.deal.graph.n order → parse_dealing (ended (offer ∷ map text order)) ≡ Ok state
+  whole_is : (order : List ℕ) → IsEachPartyOnce job.deal.graph.n order → parse_dealing (fed_lines (offer ∷ map text order)) ≡ Ok state
   unfolding parse_dealing
   whole_is order o =
-      step (ended_lines (ended (offer ∷ map text order))) (offer ∷ map text order) parse_dealing_lines
+      step (ended_lines (fed_lines (offer ∷ map text order))) (offer ∷ map text order) parse_dealing_lines
       (ended_back offer (map text order) k.one_line (no_feeds order o.below))
       ∙ dealing_is order o
 
@@ -122,23 +122,23 @@ module _ (offer : List ℕ) (job : Job) (seeds : List (Option (List ℕ))) (k : 
   none_missing : first_missing (seeded_rows seeds job.deal) ≡ None
   none_missing = position_from-zero is_none (seeded_rows seeds job.deal) ∙ none_from 0 (range_with_len 0 job.deal.graph.n)
 
-  deal_is : (order : List ℕ) → IsOrder job.deal.graph.n order
-      → deal_output (ended (offer ∷ map text order)) ≡ Ok (dealt_line (dealt (seeded_rows seeds job.deal) job))
+  deal_is : (order : List ℕ) → IsEachPartyOnce job.deal.graph.n order
+      → deal_output (fed_lines (offer ∷ map text order)) ≡ Ok (dealt_line (dealt (seeded_rows seeds job.deal) job))
   unfolding deal_output deal_from_rows
   deal_is order o =
-      ap (λ (r : Result DealingState Refusal). by_refusal r >>= deal_from_rows) (whole_is order o) ∙ ap (unless_missing state) none_missing
+      ap (λ (r : Result DealingState Refusal). deal_by_refusal r >>= deal_from_rows) (whole_is order o) ∙ ap (unless_missing state) none_missing
 
   -- the rows that are written are those that the seeds give
   same_ok : (a b : List ℕ) (r : Result (List ℕ) Refusal) → r ≡ Ok a → r ≡ Ok b → a ≡ b
   same_ok a b r x y = cc (x, y)
 
   row_texts : (rows : ℕ → List ℕ) (p : ℕ) → p < job.deal.graph.n
-      → keys_output (party_name job p) (keys_input (seed_or_zeros seeds p) offer) ≡ Ok (rows p) → rows p ≡ text p ++ 10 ∷ []
+      → keys_output (job_party_name job p) (keys_input (seed_or_zeros seeds p) offer) ≡ Ok (rows p) → rows p ≡ text p ++ 10 ∷ []
   unfolding row_line
-  row_texts rows p lt written = same_ok (rows p) (seeded_line seeds job p) _ written (keys_give p lt)
+  row_texts rows p lt written = same_ok (rows p) (seeded_row_line seeds job p) _ written (keys_give p lt)
 
-  pub deal_of_rows : (order : List ℕ) (rows : ℕ → List ℕ) → IsOrder job.deal.graph.n order
-      → ((p : ℕ) → p < job.deal.graph.n → keys_output (party_name job p) (keys_input (seed_or_zeros seeds p) offer) ≡ Ok (rows p))
+  pub deal_of_rows : (order : List ℕ) (rows : ℕ → List ℕ) → IsEachPartyOnce job.deal.graph.n order
+      → ((p : ℕ) → p < job.deal.graph.n → keys_output (job_party_name job p) (keys_input (seed_or_zeros seeds p) offer) ≡ Ok (rows p))
       → deal_output (deal_input offer rows order) ≡ Ok (dealt_line (dealt (seeded_rows seeds job.deal) job))
   deal_of_rows order rows o written =
       ap (λ (t : List ℕ). deal_output ((offer ++ 10 ∷ []) ++ t)) (same_texts rows order (λ p i. row_texts rows p (o.below p i) (written p (o.below p i))))

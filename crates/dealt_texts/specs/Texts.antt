@@ -8,7 +8,7 @@ use Rattle.swap_job.specs.declared.job.Purpose.TheVariants.{Audit}
 use Rattle.typed_books.specs.Typed.{IsDigest}
 use Rattle.offer_header.specs.Names.{is_name}
 use Rattle.swap_gen.specs.Made.{made_deal, seed_or_zeros}
-use Rattle.transcript_lines.specs.Between.{ended, spaced}
+use Rattle.transcript_lines.specs.Between.{fed_lines, spaced}
 use Rattle.party_rows.specs.Dealt.{dealt_line}
 use Rattle.party_rows.specs.Inside.{IsOffered}
 use Rattle.party_rows.specs.Keys.{deal_output, keys_output}
@@ -28,22 +28,22 @@ abbrev pub AreSeeds : List (Option (List ℕ)) → Job → Type 0
 AreSeeds seeds job = (p : ℕ) → p < job.deal.graph.n → IsDigest (seed_or_zeros seeds p)
 
 -- the name of party p
-abbrev pub party_name : Job → ℕ → List ℕ
-party_name job p = slice_index_or job.names p []
+abbrev pub job_party_name : Job → ℕ → List ℕ
+job_party_name job p = slice_index_or job.names p []
 
 -- the row that its seed gives party p
-abbrev pub seeded_line : List (Option (List ℕ)) → Job → ℕ → List ℕ
-seeded_line seeds job p = row_line (party_name job p) (seeded_row (seed_or_zeros seeds p) p job.deal)
+abbrev pub seeded_row_line : List (Option (List ℕ)) → Job → ℕ → List ℕ
+seeded_row_line seeds job p = row_line (job_party_name job p) (seeded_row (seed_or_zeros seeds p) p job.deal)
 
 -- what is handed over to `keys`: a seed and an offer
 abbrev pub keys_input : List ℕ → List ℕ → List ℕ
-keys_input seed offer = ended (spaced (codes "seed" ∷ encode_lower seed ∷ []) ∷ offer ∷ [])
+keys_input seed offer = fed_lines (spaced (codes "seed" ∷ encode_lower seed ∷ []) ∷ offer ∷ [])
 
 -- Of a seed and an offer `keys` writes the row that the seed gives the party.
 abbrev pub KeysGiveRows : Type 0
 KeysGiveRows =
     (offer : List ℕ) (job : Job) (seeds : List (Option (List ℕ))) (p : ℕ) → IsOfferLine offer job → AreSeeds seeds job → p < job.deal.graph.n
-    → keys_output (party_name job p) (keys_input (seed_or_zeros seeds p) offer) ≡ Ok (seeded_line seeds job p)
+    → keys_output (job_party_name job p) (keys_input (seed_or_zeros seeds p) offer) ≡ Ok (seeded_row_line seeds job p)
 
 -- no party stands twice
 abbrev pub AreApart : List ℕ → Type 0
@@ -51,7 +51,7 @@ AreApart [] = Unit {0}
 AreApart (p ∷ ps) = ¬ IsElement p ps × AreApart ps
 
 -- Each of n parties once, in any order.
-pub record IsOrder (n : ℕ) (order : List ℕ) : Type 0 where
+pub record IsEachPartyOnce (n : ℕ) (order : List ℕ) : Type 0 where
   pub below : (p : ℕ) → IsElement p order → p < n
   pub each : (p : ℕ) → p < n → IsElement p order
   pub apart : AreApart order
@@ -65,6 +65,6 @@ deal_input offer rows order = (offer ++ 10 ∷ []) ++ flat_map rows order
 abbrev pub DealsOfRowsAreMade : Type 0
 DealsOfRowsAreMade =
     (offer : List ℕ) (job : Job) (seeds : List (Option (List ℕ))) (order : List ℕ) (rows : ℕ → List ℕ)
-    → IsOfferLine offer job → AreSeeds seeds job → IsOrder job.deal.graph.n order
-    → ((p : ℕ) → p < job.deal.graph.n → keys_output (party_name job p) (keys_input (seed_or_zeros seeds p) offer) ≡ Ok (rows p))
+    → IsOfferLine offer job → AreSeeds seeds job → IsEachPartyOnce job.deal.graph.n order
+    → ((p : ℕ) → p < job.deal.graph.n → keys_output (job_party_name job p) (keys_input (seed_or_zeros seeds p) offer) ≡ Ok (rows p))
     → deal_output (deal_input offer rows order) ≡ Ok (dealt_line (record (record job { deal = made_deal seeds job.deal }) { purpose = Audit }))

@@ -49,5 +49,5 @@ abbrev pub carried_value : List (List ℕ) → List ℕ → ℕ → List ℕ
 carried_value values counts j = chain_value (slice_index counts j) (slice_index_or values j [])
 
 -- each chain that is done has its end, by f
-abbrev pub IsDone : (ℕ → List ℕ) → List (List ℕ) → List Bool → Type 0
-IsDone f ends done = (j : ℕ) → j < 67 → slice_index_or done j false ≡ true → slice_index_or ends j [] ≡ f j
+abbrev pub AreEndsWhereDone : (ℕ → List ℕ) → List (List ℕ) → List Bool → Type 0
+AreEndsWhereDone f ends done = (j : ℕ) → j < 67 → slice_index_or done j false ≡ true → slice_index_or ends j [] ≡ f j

@@ -15,7 +15,7 @@ use Rattle.swap_digraph.specs.declared.deal.Version.TheVariants.{One, Two}
 use Rattle.swap_digraph.specs.Graph.{arcs, ends}
 use Rattle.swap_digraph.specs.Deal.{party, counterparty, amount, HasKeys, IsWellSized}
 use Rattle.hashkey_path.specs.Digest.{version_byte, mode_byte, head_bytes, arc_bytes, leader_bytes, key_bytes, deal_bytes}
-use Rattle.hashkey_path.specs.Law.{AreDigests, IsWritten, DealBytesTellApart}
+use Rattle.hashkey_path.specs.Law.{AreDigests, IsWrittenDeal, DealBytesTellApart}
 
 -- Fronts of equal lengths.
 
@@ -203,7 +203,7 @@ same_arcs d e count q =
     each (arc_bytes d) (arc_bytes e) 0 (length e.graph.arcs) (after_arcs d) (after_arcs e) (λ a. refl)
     (subst (λ k. flat_map (arc_bytes d) (range_with_len 0 k) ++ after_arcs d ≡ flat_map (arc_bytes e) (arcs e.graph) ++ after_arcs e) count q)
 
-same_parts : (d e : Deal) → IsWritten d → IsWritten e → deal_bytes d ≡ deal_bytes e → AreSame d e
+same_parts : (d e : Deal) → IsWrittenDeal d → IsWrittenDeal e → deal_bytes d ≡ deal_bytes e → AreSame d e
 same_parts d e s t same =
     let q : head_bytes d ++ (flat_map (arc_bytes d) (arcs d.graph) ++ after_arcs d) ≡ head_bytes e ++ (flat_map (arc_bytes e) (arcs e.graph) ++ after_arcs e) =
     sym (written d) ∙ (same ∙ written e) in

@@ -9,11 +9,11 @@ abbrev pub AreDigests : List (List ℕ) → Type 0
 AreDigests = All (λ digest. length digest ≡ 32)
 
 -- The deal's lists and numbers have their sizes, and its hashlocks and keys are digests.
-pub record IsWritten (d : Deal) : Type 0 where
+pub record IsWrittenDeal (d : Deal) : Type 0 where
   pub sized : IsWellSized d
   pub hashlocks : AreDigests d.hashlocks
   pub keys : All AreDigests d.keys
 
 -- two deals of the same bytes are the same but for their ids
 abbrev pub DealBytesTellApart : Type 0
-DealBytesTellApart = (d e : Deal) → IsWritten d → IsWritten e → deal_bytes d ≡ deal_bytes e → (record d { id = e.id }) ≡ e
+DealBytesTellApart = (d e : Deal) → IsWrittenDeal d → IsWrittenDeal e → deal_bytes d ≡ deal_bytes e → (record d { id = e.id }) ≡ e

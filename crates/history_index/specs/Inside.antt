@@ -17,7 +17,7 @@ abbrev pub HasRoom : ℕ → Caller → Type 0
 HasRoom n c = length c.numbers.items + n ≤ vec_capacity c.numbers
 
 -- The entries are indexable, and what is kept of them is what the scans of them give.
-pub record IsKept (i : Inside) : Type 0 where
+pub record IsKeptIndex (i : Inside) : Type 0 where
   pub locks : length i.terms.locks ≤ 8
   pub indexable : IsIndexable i.from.party i.to.party (expand i.past.items)
   pub count : i.count ≡ length (expand i.past.items)

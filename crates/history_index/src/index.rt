@@ -49,11 +49,11 @@ impl Model for Index {
 
     ghost Value = { IndexState };
 
-    ghost use Rattle.history_index.specs.Inside.{build_index, IsKept};
+    ghost use Rattle.history_index.specs.Inside.{build_index, IsKeptIndex};
 
     ghost view = { build_index };
 
-    ghost invariant = { IsKept };
+    ghost invariant = { IsKeptIndex };
 }
 
 impl Index {

@@ -24,7 +24,7 @@ pub record AreScans (d : Deal) (a : ℕ) (h : List Entry) (at : ℕ) (now : Acco
   pub by_counterparty : counterparty_calls ≡ count_by (λ e. is_sender (counterparty d a) e.sender) h
   pub ticks : clock_calls ≡ count_by (λ e. is_tick e.sender) h
 
-pub record IsKept (l : ledger.Inside) : Type 0 where
+pub record IsKeptLedger (l : ledger.Inside) : Type 0 where
   pub sized : IsWellSized l.deal
   pub arc : l.arc < length l.deal.graph.arcs
   pub party : l.party ≡ party l.deal l.arc

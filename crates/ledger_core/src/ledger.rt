@@ -39,11 +39,11 @@ impl Model for Ledger {
 
     ghost Value = { LedgerState };
 
-    ghost use Rattle.ledger_core.specs.Inside.{make_ledger, IsKept};
+    ghost use Rattle.ledger_core.specs.Inside.{make_ledger, IsKeptLedger};
 
     ghost view = { make_ledger };
 
-    ghost invariant = { IsKept };
+    ghost invariant = { IsKeptLedger };
 }
 
 impl Ledger {

@@ -14,7 +14,7 @@ use Rattle.ledger_shared.specs.declared.shelf.Line.{Line}
 use Rattle.ledger_shared.specs.declared.shelf.Line.TheVariants.{Head}
 use Rattle.ledger_shared.specs.declared.shelf.Shelf.{Shelf}
 use Rattle.ledger_shared.specs.Lines.{side_entries, made_lines, lines, line_author}
-use Rattle.ledger_shared.specs.Seat.{SeatState, inside_state, busy_or_idle, HasSeatLines, knowing, new_seat, ContinuesSeat, IsContinued}
+use Rattle.ledger_shared.specs.Seat.{SeatState, table_seat_state, busy_or_idle, HasSeatLines, knowing, new_seat, ContinuesSeat, IsContinued}
 use Rattle.ledger_shared.proofs.Lines.{unmade, made_append, all_made, same_deal, same_arc, goes_longer, goes_on}
 
 abbrev Me : Type 0
@@ -23,23 +23,23 @@ Me = Sat Shelf Line
 -- What a seat whose histories are those lines says of itself.
 
 pub says : (lock : TableId) (d : Deal) (a k : ℕ) (shared h : List Entry) (b : Bool)
-    → inside_state lock (busy_or_idle b (lines d a shared) k (lines d a h)) ≡ record { lock = lock; deal = d; arc = a; number = k; holds = b; shared = shared; known = h }
+    → table_seat_state lock (busy_or_idle b (lines d a shared) k (lines d a h)) ≡ record { lock = lock; deal = d; arc = a; number = k; holds = b; shared = shared; known = h }
 says lock d a k shared h true = λ i. record { lock = lock; deal = d; arc = a; number = k; holds = true; shared = unmade d a shared i; known = unmade d a h i }
 says lock d a k shared h false = λ i. record { lock = lock; deal = d; arc = a; number = k; holds = false; shared = unmade d a shared i; known = unmade d a h i }
 
 pub is_at : (lock : TableId) (d : Deal) (a k : ℕ) (shared h : List Entry) (b : Bool) (m : Me) → m ≡ busy_or_idle b (lines d a shared) k (lines d a h)
-    → HasSeatLines (inside_state lock m) m
+    → HasSeatLines (table_seat_state lock m) m
 is_at lock d a k shared h b m is =
-    subst (λ (x : Me). HasSeatLines (inside_state lock x) x) (sym is) (subst (λ s. HasSeatLines s (busy_or_idle b (lines d a shared) k (lines d a h)))
+    subst (λ (x : Me). HasSeatLines (table_seat_state lock x) x) (sym is) (subst (λ s. HasSeatLines s (busy_or_idle b (lines d a shared) k (lines d a h)))
     (sym (says lock d a k shared h b)) refl)
 
 pub says_of : (lock : TableId) (d : Deal) (a k : ℕ) (shared h : List Entry) (b : Bool) (m : Me) → m ≡ busy_or_idle b (lines d a shared) k (lines d a h)
-    → inside_state lock m ≡ record { lock = lock; deal = d; arc = a; number = k; holds = b; shared = shared; known = h }
-says_of lock d a k shared h b m is = ap (inside_state lock) is ∙ says lock d a k shared h b
+    → table_seat_state lock m ≡ record { lock = lock; deal = d; arc = a; number = k; holds = b; shared = shared; known = h }
+says_of lock d a k shared h b m is = ap (table_seat_state lock) is ∙ says lock d a k shared h b
 
 -- it is the seat s, which knows the history h
 now_knows : (s : SeatState) (lock : TableId) (b : Bool) (h : List Entry) (m : Me) → m ≡ busy_or_idle b (lines s.deal s.arc s.shared) s.number (lines s.deal s.arc h)
-    → lock ≡ s.lock → inside_state lock m ≡ knowing s b h
+    → lock ≡ s.lock → table_seat_state lock m ≡ knowing s b h
 now_knows s lock b h m is same = says_of lock s.deal s.arc s.number s.shared h b m is ∙ (λ i. record {
   lock = same i;
   deal = s.deal;
@@ -120,7 +120,7 @@ continued s m l is held deal arc on = subst (λ (x : Me). IsContinuedByAuthor li
 -- the seat with its turn: it knows the lines of the ledger, and they go on from what it knew
 pub take_step : (s : SeatState) (lock : TableId) (m m' : Me) (l : LedgerState) → HasSeatLines s m → s.holds ≡ false → lock ≡ s.lock
     → Covers line_author (lines l.deal l.arc l.history) (seat_number m, known_key m) → m' ≡ busy (key_opening m) (seat_number m) (lines l.deal l.arc l.history)
-    → HasSeatLines (inside_state lock m') m' × (inside_state lock m' ≡ knowing s true l.history) × ContinuesSeat s l
+    → HasSeatLines (table_seat_state lock m') m' × (table_seat_state lock m' ≡ knowing s true l.history) × ContinuesSeat s l
 take_step s lock m m' l is free same c turn =
     let g = covered s m l is free c in
     let me = taken s m m' l is free g turn in
@@ -128,7 +128,7 @@ take_step s lock m m' l is free same c turn =
 
 pub give_step : (s : SeatState) (lock : TableId) (m m' : Me) (l : LedgerState) → HasSeatLines s m → s.holds ≡ true → lock ≡ s.lock → l.deal ≡ s.deal → l.arc ≡ s.arc
     → m' ≡ idle (key_opening m) (seat_number m) (lines l.deal l.arc l.history)
-    → HasSeatLines (inside_state lock m') m' × (inside_state lock m' ≡ knowing s false l.history)
+    → HasSeatLines (table_seat_state lock m') m' × (table_seat_state lock m' ≡ knowing s false l.history)
 give_step s lock m m' l is held same deal arc turn =
     let me = given s m m' l is held deal arc turn in
     (is_at lock s.deal s.arc s.number s.shared l.history false m' me, now_knows s lock false l.history m' me same)
@@ -145,7 +145,7 @@ pub three_seats : (lock : TableId) (start : List Line) (items : List LockSeat) (
 three_seats lock start items a b c is seats = let all = subst (AreNumberedSeats lock start 0) is seats in (all.0, all.1.0, all.1.1.0)
 
 pub new_step : (l : LedgerState) (lock mine : TableId) (k : ℕ) (m : Me) → (mine ≡ lock)
-    × (m ≡ idle (lines l.deal l.arc l.history) k (lines l.deal l.arc l.history)) → HasSeatLines (inside_state mine m) m × (inside_state mine m ≡ new_seat lock l k)
+    × (m ≡ idle (lines l.deal l.arc l.history) k (lines l.deal l.arc l.history)) → HasSeatLines (table_seat_state mine m) m × (table_seat_state mine m ≡ new_seat lock l k)
 new_step l lock mine k m e = (
   is_at mine l.deal l.arc k l.history l.history false m e.1,
   says_of mine l.deal l.arc k l.history l.history false m e.1 ∙ (λ i. record {

@@ -33,10 +33,10 @@ line_author (Made k e) = k
 
 -- What the lines say.
 
-abbrev pub all_entries : List Line → List Entry
-all_entries [] = []
-all_entries (Head d a ∷ ls) = all_entries ls
-all_entries (Made k e ∷ ls) = e ∷ all_entries ls
+abbrev pub line_entries : List Line → List Entry
+line_entries [] = []
+line_entries (Head d a ∷ ls) = line_entries ls
+line_entries (Made k e ∷ ls) = e ∷ line_entries ls
 
 abbrev pub head_arc : List Line → ℕ
 head_arc (Head d a ∷ ls) = a

@@ -10,7 +10,7 @@ use Rattle.ledger_core.specs.Value.{LedgerState}
 use Rattle.ledger_shared.specs.declared.shelf.Line.{Line}
 use Rattle.ledger_shared.specs.declared.shelf.Shelf.{Shelf}
 use Rattle.ledger_shared.specs.declared.seat.LedgerSeat.TheInside.{Inside}
-use Rattle.ledger_shared.specs.Lines.{lines, all_entries, head_deal, head_arc, sender_side, side_entries}
+use Rattle.ledger_shared.specs.Lines.{lines, line_entries, head_deal, head_arc, sender_side, side_entries}
 
 pub record SeatState : Type 0 where
   pub lock : TableId
@@ -24,20 +24,20 @@ pub record SeatState : Type 0 where
   -- the history that it knows
   pub known : List Entry
 
-abbrev pub inside_state : TableId → Sat Shelf Line → SeatState
-inside_state lock m =
+abbrev pub table_seat_state : TableId → Sat Shelf Line → SeatState
+table_seat_state lock m =
     record {
       lock = lock;
       deal = head_deal (key_opening m);
       arc = head_arc (key_opening m);
       number = seat_number m;
       holds = m.0.holds;
-      shared = all_entries (key_opening m);
-      known = all_entries (known_key m);
+      shared = line_entries (key_opening m);
+      known = line_entries (known_key m);
     }
 
 abbrev pub inside_seat : Inside → SeatState
-inside_seat s = inside_state s.seat.table_id s.seat.me
+inside_seat s = table_seat_state s.seat.table_id s.seat.me
 
 -- with the turn or without
 abbrev pub busy_or_idle : Bool → List Line → ℕ → List Line → Sat Shelf Line

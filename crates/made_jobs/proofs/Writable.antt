@@ -28,7 +28,7 @@ use Rattle.swap_offer.specs.Job.{IsWholeJob}
 use Rattle.swap_offer.specs.Wallets.{HaveScripts}
 use Rattle.swap_gen.specs.Made.{made, made_deal}
 use Rattle.swap_gen.specs.Owned.{OwnsKeys}
-use Rattle.swap_gen.specs.Drawn.{generated, party_label, plain_deal, plain_job, drawn_seed}
+use Rattle.swap_gen.specs.Drawn.{generated, drawn_party_label, plain_deal, plain_job, drawn_seed}
 use Rattle.offer_text.specs.Words.{AreTexts}
 use Rattle.offer_text.specs.Moves.{AreBelow, BoundedNames}
 use Rattle.offer_text.specs.HeaderLine.{AreSayable, IsSayable, IsWritable}
@@ -114,7 +114,7 @@ is_made job m e k own = record {
 
 -- The names of a generated job are text.
 
-name_is_text : (i : ℕ) → i < 256 → IsUtf8 (party_label i)
+name_is_text : (i : ℕ) → i < 256 → IsUtf8 (drawn_party_label i)
 name_is_text i lt =
     let first : IsUtf8 (codes "p") = IsUtf8-from_ascii (codes "p") (below (codes "p") (λ k l. p_is k l)) in
     IsUtf8-append (codes "p") (decimal i) first (IsUtf8-from_ascii (decimal i) (IsAscii-decimal i (omega arith)))
@@ -127,10 +127,10 @@ pub generated_is_writable : (seed n : ℕ) → n ≤ 24 → IsAccepted (generate
 unfolding plain_job plain_deal made_deal
 generated_is_writable seed n few k = record {
   sized = accepted_is_well_sized (generated seed n).deal k;
-  names = length-map-range_with_len party_label 0 n;
+  names = length-map-range_with_len drawn_party_label 0 n;
   texts = λ p d lt.
-      let low : p < n = omega (arith, length-map-range_with_len party_label 0 n, lt) in
-      subst IsUtf8 (sym (get_or-map-range_with_len party_label 0 n p p d low (omega arith))) (name_is_text p (omega (arith, low, few)));
+      let low : p < n = omega (arith, length-map-range_with_len drawn_party_label 0 n, lt) in
+      subst IsUtf8 (sym (get_or-map-range_with_len drawn_party_label 0 n p p d low (omega arith))) (name_is_text p (omega (arith, low, few)));
   conforming = length-replicate n true;
   roles = length-replicate n Conforming;
   seeds = length-map-range_with_len (λ i. Some (drawn_seed seed i)) 0 n;

@@ -8,13 +8,13 @@ use Rattle.ledger_core.specs.Book.{Histories}
 use Rattle.swap_rules.specs.declared.outcome.Outcome.{Outcome}
 use Rattle.swap_rules.specs.declared.outcome.Outcome.TheVariants.{NoDeal, FreeRide, Underwater, Deal, Discount}
 
-abbrev pub is_accepted : Reply → Bool
-is_accepted Accepted = true
-is_accepted _ = false
+abbrev pub is_counted_accepted : Reply → Bool
+is_counted_accepted Accepted = true
+is_counted_accepted _ = false
 
 -- an entry whose reply isn't accepted
 abbrev pub is_refused : Entry → Bool
-is_refused e = not (is_accepted e.reply)
+is_refused e = not (is_counted_accepted e.reply)
 
 -- all entries of a book, ticks too
 abbrev pub entry_count : Histories → ℕ

@@ -19,12 +19,12 @@ unfoldable pub written_line : Job → List ℕ
 written_line job = joined (header_line job ∷ codes "\n" ∷ [])
 
 -- a text with one more line after it, byte for byte, and a line feed
-abbrev pub with_line : List ℕ → ℕ × List ℕ → List ℕ
-with_line text l = text ++ joined (l.1 ∷ codes "\n" ∷ [])
+abbrev pub with_copied_line : List ℕ → ℕ × List ℕ → List ℕ
+with_copied_line text l = text ++ joined (l.1 ∷ codes "\n" ∷ [])
 
 -- what is written of a plain job and the further lines of its input
 unfoldable pub made_text : Job → List (ℕ × List ℕ) → List ℕ
-made_text job further = fold with_line (written_line (made job)) further
+made_text job further = fold with_copied_line (written_line (made job)) further
 
 abbrev pub made_job_text : List (ℕ × List ℕ) → Result (Job × List Event) Reason → Result (List ℕ) Reason
 made_job_text lines read = read >>= λ j. Ok (made_text j.0 (drop 1 lines))
@@ -42,7 +42,7 @@ made_output has input = made_lines_output has (filled_lines 1 (collect_lines inp
 unfoldable pub line_step : ℕ × List ℕ → ℕ × List ℕ → Result (ℕ × List ℕ) Reason
 line_step s l = do
   n ← counted s.0 l
-  Ok (n, with_line s.1 l)
+  Ok (n, with_copied_line s.1 l)
 
 -- a text with further lines after it, where so many were put before, or the reason against one of
 -- them
@@ -52,8 +52,8 @@ copied count text ls = do
   Ok s.1
 
 -- the same of one line
-unfoldable pub next_line : ℕ → List ℕ → ℕ → List ℕ → Result (List ℕ) Reason
-next_line count text number line = do
+unfoldable pub next_made_line : ℕ → List ℕ → ℕ → List ℕ → Result (List ℕ) Reason
+next_made_line count text number line = do
   s ← line_step (count, text) (number, line)
   Ok s.1
 

@@ -3,14 +3,14 @@
 ghost use Rattle.std.specs.Prelude.{◌≡◌, ◌<◌, ◌≤◌, ℕ, length, count_by};
 ghost use Rattle.ledger_core.specs.Book.{history};
 ghost use Rattle.ledger_core.specs.Runs.{ledger_entries, expand};
-ghost use Rattle.made_jobs.specs.Counts.{ended_so, entry_count, is_accepted, is_refused, refused_count, same_outcome};
+ghost use Rattle.made_jobs.specs.Counts.{ended_so, entry_count, is_counted_accepted, is_refused, refused_count, same_outcome};
 
 use escrow_core::Reply;
 use ledger_core::{EntryList, Item};
 use swap_rules::Outcome;
 
-fn is_accepted(reply: Reply) -> bool
-    ensures { result ≡ is_accepted reply }
+fn is_counted_accepted(reply: Reply) -> bool
+    ensures { result ≡ is_counted_accepted reply }
 {
     match reply {
         Reply::Accepted => true,
@@ -25,7 +25,13 @@ fn refused_calls(item: &Item) -> usize
     ensures few { result ≤ 1 }
 {
     match item {
-        Item::One(entry) => { if is_accepted(entry.reply) { 0 } else { 1 } }
+        Item::One(entry) => {
+            if is_counted_accepted(entry.reply) {
+                0
+            } else {
+                1
+            }
+        }
         Item::Ticks(_) => 0,
     }
 }

@@ -10,15 +10,15 @@ use Rattle.many_lines.specs.declared.payment.Payment.{Payment}
 use Rattle.many_lines.specs.Event.{is_slot}
 use Rattle.many_lines.specs.Places.{job_of_swap}
 use Rattle.many_lines.specs.Setup.{IsSwapEvent, MayCome}
-use Rattle.many_lines.specs.Whole.{AreChains}
+use Rattle.many_lines.specs.Whole.{AreBoundedChains}
 use Rattle.many_lines.specs.declared.many_job.ManyJob.{ManyJob}
 
-pub tick_comes : (many : ManyJob) (i k : ℕ) → AreChains many → i < length many.names → 1 ≤ k → k ≤ 1000000 → MayCome many (Tick i k)
+pub tick_comes : (many : ManyJob) (i k : ℕ) → AreBoundedChains many → i < length many.names → 1 ≤ k → k ≤ 1000000 → MayCome many (Tick i k)
 tick_comes many i k chains lt some few =
     let here : i < length many.units = omega (arith, lt, chains.each) in
     λ g places. record { chain = here; some = some; few = few }
 
-pub payment_comes : (many : ManyJob) (p : Payment) → AreChains many → p.chain < length many.names → p.from < length (slice_index_or many.names p.chain [])
+pub payment_comes : (many : ManyJob) (p : Payment) → AreBoundedChains many → p.chain < length many.names → p.from < length (slice_index_or many.names p.chain [])
     → p.to < length (slice_index_or many.names p.chain []) → MayCome many (Pay p.chain p.from p.to p.units)
 payment_comes many p chains lt from to =
     let here : p.chain < length many.units = omega (arith, lt, chains.each) in

@@ -6,13 +6,13 @@ use Rattle.swap_base.specs.declared.fault.Fault.TheVariants.{Refused, NoMemory}
 use Rattle.transcript_lines.specs.declared.said.Misspelling.{Misspelling}
 use Rattle.refusals.specs.declared.reason.Reason.{Reason}
 use Rattle.refusals.specs.declared.refusal.Refusal.{Refusal}
-use Rattle.refusals.specs.Refusal.{named}
+use Rattle.refusals.specs.Refusal.{named_result}
 use Rattle.swap_job.specs.declared.event.Event.{Event}
 use Rattle.swap_job.specs.declared.job.Job.{Job}
 use Rattle.swap_job.specs.declared.job.Purpose.TheVariants.{Run}
 use Rattle.swap_offer.specs.Job.{parse_header_job, header_names}
 use Rattle.many_lines.specs.Event.{IsEventRefusal, is_of_crash, with_reason}
-use Rattle.many_lines.specs.Heading.{bad_line, by_field, by_fields, IsNamed, swap_job, without_finish}
+use Rattle.many_lines.specs.Heading.{bad_many_line, by_field, by_fields, IsNamed, swap_job, without_finish}
 
 pub fails : {A : Type 0} (line : ℕ) (fault : Fault Misspelling) (read : Result A Misspelling) → Fails fault read
     → Fails (by_field line fault) (by_fields line read)
@@ -21,7 +21,7 @@ fails line (Refused reason) read e = rw e refl
 
 -- and an event line with the names, unless it is of a crash
 pub crash_is_bad : (line : ℕ) (names : List (List ℕ)) (fault : Fault Reason) → is_of_crash fault ≡ true
-    → IsEventRefusal line names fault (Refused (bad_line line))
+    → IsEventRefusal line names fault (Refused (bad_many_line line))
 crash_is_bad line names NoMemory is = absurd (cc is)
 crash_is_bad line names (Refused reason) is = rw is refl
 
@@ -39,13 +39,13 @@ against_line line names (Refused reason) (Refused x) read is e = rw e (cc is)
 
 -- a header that states a finish, and one that states none
 pub job_bad : (has : List ℕ → Bool) (line : ℕ) (text : List ℕ) (fault : Fault Refusal) (job : Job)
-    → named (header_names has Run line text) (parse_header_job has Run line text) ≡ Ok job → Fails fault (without_finish line text)
+    → named_result (header_names has Run line text) (parse_header_job has Run line text) ≡ Ok job → Fails fault (without_finish line text)
     → Fails fault (swap_job has line text)
 unfolding swap_job
 job_bad has line text NoMemory job read e = tt
 job_bad has line text (Refused reason) job read e = rw (read, e) refl
 
 pub job_good : (has : List ℕ → Bool) (line : ℕ) (text : List ℕ) (job : Job)
-    → named (header_names has Run line text) (parse_header_job has Run line text) ≡ Ok job → without_finish line text ≡ Ok tt → swap_job has line text ≡ Ok job
+    → named_result (header_names has Run line text) (parse_header_job has Run line text) ≡ Ok job → without_finish line text ≡ Ok tt → swap_job has line text ≡ Ok job
 unfolding swap_job
 job_good has line text job read e = rw (read, e) refl

@@ -7,13 +7,13 @@ use Rattle.std.specs.List.{sum_by}
 use Rattle.std.specs.Prelude.{slice_index_or}
 use Rattle.swap_job.specs.declared.job.Job.{Job}
 use Rattle.swap_world.specs.Value.{WorldState, new_world}
-use Rattle.swap_many.specs.Opening.{AreOpenable, IsNew}
+use Rattle.swap_many.specs.Opening.{AreOpenable, IsNewWorld}
 use Rattle.swap_many.specs.Ticking.{nth}
 use Rattle.swap_many.specs.Value.{no_world}
 use Rattle.swap_many.specs.declared.place.Place.{Place}
 use Rattle.many_lines.specs.Fields.{most_units}
 use Rattle.many_lines.specs.Places.{job_of_swap, no_job}
-use Rattle.many_lines.specs.Whole.{AreChains, ArePlaced, AreSwaps}
+use Rattle.many_lines.specs.Whole.{AreBoundedChains, ArePlaced, AreSwaps}
 use Rattle.many_lines.specs.declared.many_job.ManyJob.{ManyJob}
 
 -- the world of swap s
@@ -23,7 +23,7 @@ world_is jobs s lt = get_or-map new_world jobs s no_job no_world lt
 few_here : (units : List ℕ) → length units ≤ 64 → sum_by (λ u. u) units ≤ length units * most_units → sum_by (λ u. u) units ≤ 10 ^ 18
 few_here units few most = omega (arith, few, most)
 
-module _ (many : ManyJob) (chains : AreChains many) (i : ℕ) where
+module _ (many : ManyJob) (chains : AreBoundedChains many) (i : ℕ) where
   pub few_accounts_of : length (slice_index_or many.units i []) ≤ 64
   few_accounts_of = go (cases_lt i (length many.names))
     where
@@ -40,7 +40,7 @@ module _ (many : ManyJob) (chains : AreChains many) (i : ℕ) where
           few_here units few_accounts_of (sum_by-le (λ u. u) most_units units (chains.chains i lt).low)
       go (inr le) = rw (get_or_past many.units i [] (omega (arith, le, chains.each))) (omega arith)
 
-pub are_openable : (many : ManyJob) (places : List (List Place)) → AreChains many → AreSwaps many → ArePlaced many places
+pub are_openable : (many : ManyJob) (places : List (List Place)) → AreBoundedChains many → AreSwaps many → ArePlaced many places
     → AreOpenable many.units (map new_world many.jobs) places
 are_openable many places chains swaps placed =
     let all : length (map new_world many.jobs) ≡ length many.jobs = length-map many.jobs new_world in
@@ -48,7 +48,7 @@ are_openable many places chains swaps placed =
       few_chains = omega (arith, chains.few, chains.each);
       accounts = few_accounts_of many chains;
       units = few_units_of many chains;
-      new = λ s lt. subst IsNew (sym (world_is many.jobs s (omega (arith, lt, all)))) (record { state = refl; goes_on = refl });
+      new = λ s lt. subst IsNewWorld (sym (world_is many.jobs s (omega (arith, lt, all)))) (record { state = refl; goes_on = refl });
       placed =
           record {
             few = omega (arith, all, swaps.few);

@@ -4,7 +4,7 @@ use Rattle.std.specs.List.{All}
 use Rattle.std.proofs.lemmas.List.Elements.{All-append}
 use Rattle.transcript_lines.specs.declared.said.Misspelling.{Misspelling}
 use Rattle.many_lines.specs.Fields.{account_added, further_accounts, most_units}
-use Rattle.many_lines.specs.Below.{AreBelow, AreLow}
+use Rattle.many_lines.specs.Below.{AreChainsBelow, AreLowUnits}
 use Rattle.many_lines.specs.declared.accounts.ChainAccounts.{ChainAccounts}
 
 -- an account was added
@@ -19,11 +19,11 @@ one : (P : ℕ → Type 0) (x : ℕ) → P x → All P (x ∷ [])
 one P x h zero d lt = h
 one P x h (suc k) d lt = absurd (omega (arith, lt))
 
-pub low_more : (us : List ℕ) (u : ℕ) → AreLow us → u ≤ most_units → AreLow (us ++ u ∷ [])
+pub low_more : (us : List ℕ) (u : ℕ) → AreLowUnits us → u ≤ most_units → AreLowUnits (us ++ u ∷ [])
 low_more us u low le = All-append (λ n. n ≤ most_units) us (u ∷ []) low (one (λ n. n ≤ most_units) u le)
 
-pub below_more : (count : ℕ) (cs : List ℕ) (c : ℕ) → AreBelow count cs → c < count → AreBelow count (cs ++ c ∷ [])
+pub below_more : (count : ℕ) (cs : List ℕ) (c : ℕ) → AreChainsBelow count cs → c < count → AreChainsBelow count (cs ++ c ∷ [])
 below_more count cs c below lt = All-append (λ n. n < count) cs (c ∷ []) below (one (λ n. n < count) c lt)
 
-pub none_above : (count : ℕ) → AreBelow count []
+pub none_above : (count : ℕ) → AreChainsBelow count []
 none_above count k d lt = absurd (omega (arith, lt))

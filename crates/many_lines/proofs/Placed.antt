@@ -11,9 +11,9 @@ use Rattle.swap_job.specs.declared.job.Job.{Job}
 use Rattle.swap_many.specs.Chains.{nowhere}
 use Rattle.swap_many.specs.Opening.{IsChainPlace}
 use Rattle.swap_many.specs.declared.place.Place.{Place}
-use Rattle.many_lines.specs.Below.{AreBelow}
+use Rattle.many_lines.specs.Below.{AreChainsBelow}
 use Rattle.many_lines.specs.Places.{find_account, arc_places, job_of_swap, make_place, find_place, arc_place, place_or, find_places, swap_places}
-use Rattle.many_lines.specs.Whole.{AreChains, ArePlaced, AreSwaps}
+use Rattle.many_lines.specs.Whole.{AreBoundedChains, ArePlaced, AreSwaps}
 use Rattle.many_lines.specs.declared.many_job.ManyJob.{ManyJob}
 
 -- an account that is found is one of them
@@ -36,7 +36,7 @@ is_there : (s a : ℕ) (place : Option Place) (p : Place) → place_or s a place
 is_there s a (Some q) p is = cc is
 is_there s a None p is = absurd (cc is)
 
-module _ (many : ManyJob) (chains : AreChains many) where
+module _ (many : ManyJob) (chains : AreBoundedChains many) where
   place_known : (s : ℕ) (job : Job) (chain a : ℕ) (p : Place) → chain < length many.names → find_place many.names s job chain a ≡ Ok p
       → IsChainPlace many.units p
   place_known s job chain a p lt is =
@@ -47,7 +47,7 @@ module _ (many : ManyJob) (chains : AreChains many) where
       record { chain = omega (arith, t.0, lt, chains.each); from = rw (t.0, same) t.1; to = rw (t.0, same) t.2 }
 
   -- a place for each arc of a swap
-  arcs_placed : (s : ℕ) (job : Job) (a : ℕ) (on : List ℕ) (places : List Place) → AreBelow (length many.names) on
+  arcs_placed : (s : ℕ) (job : Job) (a : ℕ) (on : List ℕ) (places : List Place) → AreChainsBelow (length many.names) on
       → arc_places many.names s job a on ≡ Ok places → (length places ≡ length on) × All (IsChainPlace many.units) places
   arcs_placed s job a [] places below is =
       let e : ◌≡◌ {A = List Place} [] places = cc is in
@@ -72,7 +72,7 @@ module _ (many : ManyJob) (chains : AreChains many) where
   cons_each on more ps others here rest (suc k) lt = rest k (omega (arith, lt))
 
   swaps_placed : (s : ℕ) (rest : List (List ℕ)) (places : List (List Place))
-      → ((k : ℕ) → k < length rest → AreBelow (length many.names) (get_or rest k [])) → swap_places many s rest ≡ Ok places
+      → ((k : ℕ) → k < length rest → AreChainsBelow (length many.names) (get_or rest k [])) → swap_places many s rest ≡ Ok places
       → (length places ≡ length rest)
       × ((k : ℕ) → k < length rest → (length (get_or places k []) ≡ length (get_or rest k [])) × All (IsChainPlace many.units) (get_or places k []))
   swaps_placed s [] places below is =
@@ -90,7 +90,7 @@ module _ (many : ManyJob) (chains : AreChains many) where
             (cons_each on more one.0 two.0 here rest.1),
       )
 
-pub are_placed : (many : ManyJob) (places : List (List Place)) → AreChains many → AreSwaps many → find_places many ≡ Ok places → ArePlaced many places
+pub are_placed : (many : ManyJob) (places : List (List Place)) → AreBoundedChains many → AreSwaps many → find_places many ≡ Ok places → ArePlaced many places
 are_placed many places chains swaps is =
     let t = swaps_placed many chains 0 many.chains places (λ k lt. (swaps.swaps k (omega (arith, lt, swaps.each))).below) is in
     record {

@@ -8,9 +8,9 @@ use Rattle.swap_job.specs.declared.job.Job.{Job}
 use Rattle.swap_job.specs.declared.job.Purpose.TheVariants.{Run}
 use Rattle.offer_header.specs.Limits.{HoldsEach}
 use Rattle.swap_offer.specs.Job.{IsWholeJob}
-use Rattle.many_lines.specs.Below.{AreBelow, IsChain}
+use Rattle.many_lines.specs.Below.{AreChainsBelow, IsBoundedChain}
 use Rattle.many_lines.specs.Places.{job_of_swap, no_job}
-use Rattle.many_lines.specs.Whole.{AreChains, AreSwaps, IsSwap}
+use Rattle.many_lines.specs.Whole.{AreBoundedChains, AreSwaps, IsSwap}
 use Rattle.many_lines.specs.declared.many_job.ManyJob.{ManyJob}
 
 -- what stands there is the job of the swap
@@ -39,7 +39,7 @@ module _ (many : ManyJob) (swaps : AreSwaps many) (s : ℕ) (lt : s < length man
     chains_here =
         subst (λ (cs : List ℕ). (a : ℕ) → a < length cs → slice_index_or cs a 0 < length many.names) same (λ a l. (swaps.swaps s lt).below a 0 l)
 
-pub few_accounts : (many : ManyJob) → AreChains many → (i : ℕ) → i < length many.names → length (slice_index_or many.names i []) ≤ 256
+pub few_accounts : (many : ManyJob) → AreBoundedChains many → (i : ℕ) → i < length many.names → length (slice_index_or many.names i []) ≤ 256
 few_accounts many chains i lt = omega (arith, (chains.chains i lt).few)
 
 -- One more.
@@ -58,12 +58,12 @@ module _ {A B : Type 0} (P : A → B → Type 0) (xs : List A) (ys : List B) (x 
           let two : get_or (ys ++ y ∷ []) i b ≡ y = rw there (get_or-append_seam ys y [] b) in
           rw (one, two) here
 
-pub chains_more : (many : ManyJob) (names : List (List ℕ)) (units : List ℕ) → AreChains many → length many.names < 32 → IsChain names units
-    → AreChains (record { names = many.names ++ names ∷ []; units = many.units ++ units ∷ []; jobs = many.jobs; chains = many.chains })
+pub chains_more : (many : ManyJob) (names : List (List ℕ)) (units : List ℕ) → AreBoundedChains many → length many.names < 32 → IsBoundedChain names units
+    → AreBoundedChains (record { names = many.names ++ names ∷ []; units = many.units ++ units ∷ []; jobs = many.jobs; chains = many.chains })
 chains_more many names units old few here = record {
   few = omega (arith, few, length-append many.names (names ∷ []));
   each = omega (arith, old.each, length-append many.names (names ∷ []), length-append many.units (units ∷ []));
-  chains = one_more IsChain many.names many.units names [] units [] old.each old.chains here;
+  chains = one_more IsBoundedChain many.names many.units names [] units [] old.each old.chains here;
 }
 
 pub swaps_more : (many : ManyJob) (job : Job) (chains : List ℕ) → AreSwaps many → length many.jobs < 8 → IsSwap (length many.names) job chains
@@ -103,7 +103,7 @@ held_after (Err e) has one two three before is = is
 
 -- Once there is a swap there is a chain.
 
-nothing_below_zero : (count : ℕ) (chains : List ℕ) → AreBelow count chains → 1 ≤ length chains → 1 ≤ count
+nothing_below_zero : (count : ℕ) (chains : List ℕ) → AreChainsBelow count chains → 1 ≤ length chains → 1 ≤ count
 nothing_below_zero count chains below some = let one = below 0 0 (omega (arith, some)) in omega (arith, one)
 
 pub some_chain : (many : ManyJob) → AreSwaps many → 1 ≤ length many.jobs → 1 ≤ length many.names

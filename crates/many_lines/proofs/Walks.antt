@@ -30,19 +30,19 @@ module _ (names : List (List (List ℕ))) (s : ℕ) (job : Job) (front : List Pl
   pub arcs_on : (d : ℕ) (place : Place) → i < length chains → find_place names s job (get_or chains i d) i ≡ Ok place
       → with_front front (arc_places names s job i (drop i chains)) ≡ total
       → with_front (front ++ place ∷ []) (arc_places names s job (i + 1) (drop (i + 1) chains)) ≡ total
-  arcs_on d place lt found so_far =
+  arcs_on d place lt found_name so_far =
       let e : drop i chains ≡ get_or chains i d ∷ drop (i + 1) chains = rw (add-one, drop-cons chains i d) refl in
       let one : with_front front (arc_places names s job i (drop i chains))
       ≡ with_front (front ++ place ∷ []) (arc_places names s job (i + 1) (drop (i + 1) chains)) =
-      rw (e, found) (regroup front place (arc_places names s job (i + 1) (drop (i + 1) chains))) in
+      rw (e, found_name) (regroup front place (arc_places names s job (i + 1) (drop (i + 1) chains))) in
       sym one ∙ so_far
 
   pub arcs_fail : (d : ℕ) (fault : Fault Refusal) → i < length chains → Fails fault (find_place names s job (get_or chains i d) i)
       → with_front front (arc_places names s job i (drop i chains)) ≡ total → Fails fault total
-  arcs_fail d NoMemory lt found so_far = tt
-  arcs_fail d (Refused reason) lt found so_far =
+  arcs_fail d NoMemory lt found_name so_far = tt
+  arcs_fail d (Refused reason) lt found_name so_far =
       let e : drop i chains ≡ get_or chains i d ∷ drop (i + 1) chains = rw (add-one, drop-cons chains i d) refl in
-      let one : with_front front (arc_places names s job i (drop i chains)) ≡ Err reason = rw (e, found) refl in
+      let one : with_front front (arc_places names s job i (drop i chains)) ≡ Err reason = rw (e, found_name) refl in
       sym so_far ∙ one
 
   pub arcs_done : length chains ≤ i → with_front front (arc_places names s job i (drop i chains)) ≡ total → total ≡ Ok front
@@ -57,20 +57,20 @@ module _ (many : ManyJob) (front : List (List Place)) (chains : List (List ℕ))
   pub swaps_on : (d : List ℕ) (places : List Place) → i < length chains → arc_places many.names i (job_of_swap many.jobs i) 0 (get_or chains i d) ≡ Ok places
       → with_front front (swap_places many i (drop i chains)) ≡ total
       → with_front (front ++ places ∷ []) (swap_places many (i + 1) (drop (i + 1) chains)) ≡ total
-  swaps_on d places lt found so_far =
+  swaps_on d places lt found_name so_far =
       let e : drop i chains ≡ get_or chains i d ∷ drop (i + 1) chains = rw (add-one, drop-cons chains i d) refl in
       let one : with_front front (swap_places many i (drop i chains))
       ≡ with_front (front ++ places ∷ []) (swap_places many (i + 1) (drop (i + 1) chains)) =
-      rw (e, found) (regroup front places (swap_places many (i + 1) (drop (i + 1) chains))) in
+      rw (e, found_name) (regroup front places (swap_places many (i + 1) (drop (i + 1) chains))) in
       sym one ∙ so_far
 
   pub swaps_fail : (d : List ℕ) (fault : Fault Refusal) → i < length chains
       → Fails fault (arc_places many.names i (job_of_swap many.jobs i) 0 (get_or chains i d))
       → with_front front (swap_places many i (drop i chains)) ≡ total → Fails fault total
-  swaps_fail d NoMemory lt found so_far = tt
-  swaps_fail d (Refused reason) lt found so_far =
+  swaps_fail d NoMemory lt found_name so_far = tt
+  swaps_fail d (Refused reason) lt found_name so_far =
       let e : drop i chains ≡ get_or chains i d ∷ drop (i + 1) chains = rw (add-one, drop-cons chains i d) refl in
-      let one : with_front front (swap_places many i (drop i chains)) ≡ Err reason = rw (e, found) refl in
+      let one : with_front front (swap_places many i (drop i chains)) ≡ Err reason = rw (e, found_name) refl in
       sym so_far ∙ one
 
   pub swaps_done : length chains ≤ i → with_front front (swap_places many i (drop i chains)) ≡ total → total ≡ Ok front

@@ -14,10 +14,10 @@ use Rattle.refusals.specs.Refusal.{refusal}
 use Rattle.offer_events.specs.Event.{parse_event}
 use Rattle.transcript_lines.specs.Between.{separated_parts}
 use Rattle.transcript_lines.specs.Reading.{is_word, bounded_number}
-use Rattle.many_lines.specs.Fields.{parse_payment_fields, parse_sweep_fields, entry_tick}
+use Rattle.many_lines.specs.Fields.{parse_payment_fields, parse_sweep_fields, parse_chain_tick}
 use Rattle.swap_many.specs.declared.many_event.ManyEvent.{ManyEvent}
 use Rattle.swap_many.specs.declared.many_event.ManyEvent.TheVariants.{Tick, In, Pay, Sweep}
-use Rattle.many_lines.specs.Heading.{bad, bad_line, by_fields}
+use Rattle.many_lines.specs.Heading.{bad, bad_many_line, by_fields}
 use Rattle.many_lines.specs.Places.{job_of_swap}
 use Rattle.many_lines.specs.declared.many_job.ManyJob.{ManyJob}
 
@@ -32,7 +32,7 @@ after_space (b ∷ bs) = if b == 32 then bs else after_space bs
 
 unfoldable pub tick_told : ManyJob → ℕ → List ℕ → Result ManyEvent Refusal
 tick_told many line rest = do
-  t ← by_fields line (entry_tick (length many.names) (separated_parts 32 rest))
+  t ← by_fields line (parse_chain_tick (length many.names) (separated_parts 32 rest))
   Ok (Tick t.0 t.1)
 
 unfoldable pub payment_told : ManyJob → ℕ → List ℕ → Result ManyEvent Refusal
@@ -62,7 +62,7 @@ is_of_crash _ = false
 
 -- a crash has no form that may stand in the line, whoever crashes
 abbrev pub against_event : ℕ → List (List ℕ) → Reason → Refusal
-against_event line names reason = if is_of_crash (Refused reason) then bad_line line else refusal names reason
+against_event line names reason = if is_of_crash (Refused reason) then bad_many_line line else refusal names reason
 
 abbrev pub with_reason : ℕ → List (List ℕ) → Result Event Reason → Result Event Refusal
 with_reason line names (Ok e) = Ok e

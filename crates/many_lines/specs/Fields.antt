@@ -54,12 +54,12 @@ parse_chain_list count ws = parse_each_word (bounded_number count) ws
 
 -- ---- the finish
 
-abbrev pub finish_word : List ℕ → Result Finish Misspelling
-finish_word w = if is_word w (codes "stop") then Ok Stop else if is_word w (codes "fair") then Ok Fair else misspelt
+abbrev pub parse_finish_word : List ℕ → Result Finish Misspelling
+parse_finish_word w = if is_word w (codes "stop") then Ok Stop else if is_word w (codes "fair") then Ok Fair else misspelt
 
 unfoldable pub parse_finish_fields : List (List ℕ) → Result Finish Misspelling
 parse_finish_fields ws = do
-  finish ← parse_first_field finish_word ws
+  finish ← parse_first_field parse_finish_word ws
   u ← nothing_more finish.1
   Ok finish.0
 
@@ -70,20 +70,20 @@ abbrev pub parse_heights : List ℕ → Result ℕ Misspelling
 parse_heights word = bounded_number 1000001 word >>= λ n. if nat_le 1 n then Ok n else misspelt
 
 -- a tick of one of so many chains: the chain, and by how many heights
-unfoldable pub entry_tick : ℕ → List (List ℕ) → Result (ℕ × ℕ) Misspelling
-entry_tick chains ws = do
+unfoldable pub parse_chain_tick : ℕ → List (List ℕ) → Result (ℕ × ℕ) Misspelling
+parse_chain_tick chains ws = do
   chain ← parse_first_field (bounded_number chains) ws
   by ← parse_first_field parse_heights chain.1
   u ← nothing_more by.1
   Ok (chain.0, by.0)
 
-abbrev pub found : Option ℕ → Result ℕ Misspelling
-found (Some x) = Ok x
-found None = misspelt
+abbrev pub found_name : Option ℕ → Result ℕ Misspelling
+found_name (Some x) = Ok x
+found_name None = misspelt
 
 -- the place of an account, by its name
 abbrev pub read_account : List (List ℕ) → List ℕ → Result ℕ Misspelling
-read_account names name = found (position (bytes_eq name) names)
+read_account names name = found_name (position (bytes_eq name) names)
 
 -- a payment between two accounts of a chain, by their names
 unfoldable pub parse_payment : ℕ → List (List ℕ) → List (List ℕ) → Result Payment Misspelling

@@ -11,7 +11,7 @@ use Rattle.swap_job.specs.declared.job.Purpose.TheVariants.{Run}
 use Rattle.refusals.specs.declared.reason.Reason.{Reason}
 use Rattle.refusals.specs.declared.reason.Reason.TheVariants.{BadLine, CutShort}
 use Rattle.refusals.specs.declared.refusal.Refusal.{Refusal}
-use Rattle.refusals.specs.Refusal.{fault_with_names, named, refusal}
+use Rattle.refusals.specs.Refusal.{fault_with_names, named_result, refusal}
 use Rattle.offer_fields.specs.Fields.{parse_data}
 use Rattle.transcript_lines.specs.declared.said.Misspelling.{Misspelling}
 use Rattle.transcript_lines.specs.Between.{separated_parts}
@@ -24,15 +24,15 @@ use Rattle.many_lines.specs.declared.stage.Stage.{Stage}
 use Rattle.many_lines.specs.declared.stage.Stage.TheVariants.{First, Words, Header, Over}
 
 -- the line isn't of the form that stands next; the reason speaks of no party
-abbrev pub bad_line : ℕ → Refusal
-bad_line line = refusal [] (BadLine line)
+abbrev pub bad_many_line : ℕ → Refusal
+bad_many_line line = refusal [] (BadLine line)
 
 abbrev pub bad : {A : Type 0} → ℕ → Result A Refusal
-bad line = Err (bad_line line)
+bad line = Err (bad_many_line line)
 
 -- the fault of a line one of whose fields says nothing
 abbrev pub by_field : ℕ → Fault Misspelling → Fault Refusal
-by_field line (Refused e) = Refused (bad_line line)
+by_field line (Refused e) = Refused (bad_many_line line)
 by_field line NoMemory = NoMemory
 
 -- what is read of a line's fields, or that the line has another form
@@ -54,8 +54,8 @@ abbrev pub no_swaps : ManyJob
 no_swaps = record { names = []; units = []; jobs = []; chains = [] }
 
 -- before the first line
-abbrev pub unread : HeadingState
-unread = record { many = no_swaps; stage = First }
+abbrev pub nothing_headed : HeadingState
+nothing_headed = record { many = no_swaps; stage = First }
 
 -- ---- what the next line makes of it
 
@@ -111,12 +111,12 @@ tells_finish line text = parse_data line text >>= λ d. Ok (is_some (get (codes 
 
 -- a header states no finish, since all swaps have one finish
 unfoldable pub without_finish : ℕ → List ℕ → Result (Unit {0}) Refusal
-without_finish line text = named [] (tells_finish line text) >>= λ told. if told then bad line else Ok tt
+without_finish line text = named_result [] (tells_finish line text) >>= λ told. if told then bad line else Ok tt
 
 -- the job of a swap's header, which is read as that of a run
 unfoldable pub swap_job : (List ℕ → Bool) → ℕ → List ℕ → Result Job Refusal
 swap_job has line text = do
-  job ← named (header_names has Run line text) (parse_header_job has Run line text)
+  job ← named_result (header_names has Run line text) (parse_header_job has Run line text)
   u ← without_finish line text
   Ok job
 

@@ -10,7 +10,7 @@ use Rattle.swap_offer.specs.Wallets.{HaveScripts, HaveWallets}
 use Rattle.swap_many.specs.Chains.{nowhere}
 use Rattle.swap_many.specs.Opening.{IsChainPlace}
 use Rattle.swap_many.specs.declared.place.Place.{Place}
-use Rattle.many_lines.specs.Below.{AreBelow, IsChain}
+use Rattle.many_lines.specs.Below.{AreChainsBelow, IsBoundedChain}
 use Rattle.many_lines.specs.Places.{job_of_swap}
 use Rattle.many_lines.specs.declared.many_job.ManyJob.{ManyJob}
 
@@ -23,7 +23,7 @@ pub record IsSwap (count : ℕ) (job : Job) (chains : List ℕ) : Type 0 where
   pub wallets : HaveWallets job
   pub scripts : HaveScripts job
   pub arcs : length chains ≡ length job.deal.graph.arcs
-  pub below : AreBelow count chains
+  pub below : AreChainsBelow count chains
 
 -- At most 8 swaps, and for each the chains of its arcs.
 pub record AreSwaps (many : ManyJob) : Type 0 where
@@ -32,10 +32,10 @@ pub record AreSwaps (many : ManyJob) : Type 0 where
   pub swaps : (s : ℕ) → s < length many.jobs → IsSwap (length many.names) (job_of_swap many.jobs s) (slice_index_or many.chains s [])
 
 -- At most 32 chains.
-pub record AreChains (many : ManyJob) : Type 0 where
+pub record AreBoundedChains (many : ManyJob) : Type 0 where
   pub few : length many.names ≤ 32
   pub each : length many.units ≡ length many.names
-  pub chains : (i : ℕ) → i < length many.names → IsChain (slice_index_or many.names i []) (slice_index_or many.units i [])
+  pub chains : (i : ℕ) → i < length many.names → IsBoundedChain (slice_index_or many.names i []) (slice_index_or many.units i [])
 
 -- the strategies of every swap are had
 abbrev pub HoldsEverySwap : (List ℕ → Bool) → ManyJob → Type 0

@@ -3,7 +3,7 @@
 ghost use Rattle.std.specs.Prelude.{◌≡◌, IfOk, OnOk};
 ghost use Rattle.swap_base.specs.Fault.{Gives};
 ghost use Rattle.many_lines.specs.Fields.{account_added, history_accounts, further_accounts, may_add};
-ghost use Rattle.many_lines.specs.Below.{AreFew, IsChain};
+ghost use Rattle.many_lines.specs.Below.{AreFew, IsBoundedChain};
 
 use crate::number::parse_units;
 use offer_header::{is_known, is_name};
@@ -69,7 +69,7 @@ fn add_accounts(
 #[tactic(auto, unfolding(crate::specs::Fields::history_accounts))]
 pub fn read_accounts(alloc: Global, fields: &mut Parts<'_>) -> Result<ChainAccounts, WordFault>
     ensures exact { Gives (λ a. a) result (history_accounts fields.old) }
-    ensures whole { IfOk result (λ a. IsChain a.names a.units) }
+    ensures whole { IfOk result (λ a. IsBoundedChain a.names a.units) }
 {
     let mut accounts = ChainAccounts {
         names: Listed::empty(alloc),

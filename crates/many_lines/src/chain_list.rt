@@ -4,8 +4,8 @@ ghost use Rattle.std.specs.Prelude.{◌≤◌, IfOk};
 ghost use Rattle.swap_base.specs.Fault.{Gives};
 ghost use Rattle.transcript_book.specs.Taking.{Takes};
 ghost use Rattle.transcript_lines.specs.Reading.{parse_first_field};
-ghost use Rattle.many_lines.specs.Fields.{parse_chain_list, parse_finish_fields, finish_word};
-ghost use Rattle.many_lines.specs.Below.{AreBelow};
+ghost use Rattle.many_lines.specs.Fields.{parse_chain_list, parse_finish_fields, parse_finish_word};
+ghost use Rattle.many_lines.specs.Below.{AreChainsBelow};
 
 use std::alloc::Global;
 use swap_base::Listed;
@@ -21,7 +21,7 @@ pub fn read_chains(
 ) -> Result<Listed<u8>, WordFault>
     requires { count ≤ 256 }
     ensures exact { Gives (λ l. l) result (parse_chain_list count fields.old) }
-    ensures below { IfOk result (λ l. AreBelow count l) }
+    ensures below { IfOk result (λ l. AreChainsBelow count l) }
 {
     let mut list = Vec::new(alloc);
     while let Some(word) = fields.next() {
@@ -30,8 +30,8 @@ pub fn read_chains(
     Ok(Listed::new(list))
 }
 
-fn finish_word(word: &[u8]) -> Result<Finish, WordFault>
-    ensures { Gives (λ f. f) result (finish_word word.now) }
+fn parse_finish_word(word: &[u8]) -> Result<Finish, WordFault>
+    ensures { Gives (λ f. f) result (parse_finish_word word.now) }
 {
     if word == b"stop".as_slice() {
         Ok(Finish::Stop)
@@ -44,9 +44,9 @@ fn finish_word(word: &[u8]) -> Result<Finish, WordFault>
 
 #[tactic(auto, unfolding(transcript_lines::specs::Reading::parse_first_field))]
 fn finish_field(fields: &mut Parts<'_>) -> Result<Finish, WordFault>
-    ensures { Takes (λ f. f) result fields.new (parse_first_field finish_word fields.old) }
+    ensures { Takes (λ f. f) result fields.new (parse_first_field parse_finish_word fields.old) }
 {
-    finish_word(word(fields)?)
+    parse_finish_word(word(fields)?)
 }
 
 /// The finish, by the fields after the first.

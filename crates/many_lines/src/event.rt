@@ -8,7 +8,7 @@ ghost use Rattle.many_lines.specs.Event.{after_space, before_space, read_raw_eve
 ghost use Rattle.many_lines.specs.Event.{IsEventRefusal, is_of_crash, own_event};
 ghost use Rattle.many_lines.specs.Heading.{IsNamed};
 ghost use Rattle.many_lines.specs.Setup.{IsSwapEvent, MayCome};
-ghost use Rattle.many_lines.specs.Whole.{AreChains, AreSwaps};
+ghost use Rattle.many_lines.specs.Whole.{AreBoundedChains, AreSwaps};
 
 use crate::fault::{bad, nameless};
 use crate::many_job::ManyJob;
@@ -44,7 +44,7 @@ fn told_tick(
     line: u32,
     rest: &[u8],
 ) -> Result<ManyEvent, HeaderFault>
-    requires chains { AreChains many.now }
+    requires chains { AreBoundedChains many.now }
     ensures exact { Gives (λ e. e) result (tick_told many.now line rest.now) }
     ensures can { IfOk result (λ e. MayCome many.now e) }
 {
@@ -59,7 +59,7 @@ fn told_payment(
     line: u32,
     rest: &[u8],
 ) -> Result<ManyEvent, HeaderFault>
-    requires chains { AreChains many.now }
+    requires chains { AreBoundedChains many.now }
     ensures exact { Gives (λ e. e) result (payment_told many.now line rest.now) }
     ensures can { IfOk result (λ e. MayCome many.now e) }
 {
@@ -197,7 +197,7 @@ fn parse_told(
     word: &[u8],
     rest: &[u8],
 ) -> Result<ManyEvent, HeaderFault>
-    requires chains { AreChains many.now }
+    requires chains { AreBoundedChains many.now }
     requires swaps { AreSwaps many.now }
     ensures exact { Gives (λ e. e) result (parse_told many.now line word.now rest.now) }
     ensures can { IfOk result (λ e. MayCome many.now e) }
@@ -222,7 +222,7 @@ pub fn next_many(
     line: u32,
     text: &[u8],
 ) -> Result<ManyEvent, HeaderFault>
-    requires chains { AreChains many.now }
+    requires chains { AreBoundedChains many.now }
     requires swaps { AreSwaps many.now }
     ensures exact { Gives (λ e. e) result (next_told many.now count line text.now) }
     ensures can { IfOk result (λ e. MayCome many.now e) }

@@ -2,7 +2,7 @@
 
 ghost use Rattle.std.specs.Prelude.{◌≡◌, []};
 ghost use Rattle.refusals.specs.Refusal.{fault_with_names};
-ghost use Rattle.many_lines.specs.Heading.{bad_line, by_field};
+ghost use Rattle.many_lines.specs.Heading.{bad_many_line, by_field};
 
 use refusals::{HeaderFault, OfferFault, Reason, Refusal, with_names};
 use std::alloc::Global;
@@ -18,7 +18,7 @@ pub(crate) fn nameless(alloc: Global, fault: OfferFault) -> HeaderFault
 
 /// The line isn't of the form that stands next.
 pub(crate) fn bad(alloc: Global, line: u32) -> HeaderFault
-    ensures { result ≡ Fault.Refused (bad_line line) }
+    ensures { result ≡ Fault.Refused (bad_many_line line) }
 {
     Fault::Refused(Refusal {
         reason: Reason::BadLine(line),

@@ -4,10 +4,10 @@ ghost use Rattle.std.specs.Prelude.{◌≡◌, ◌<◌, ◌≤◌, true, is_some
 ghost use Rattle.swap_base.specs.Fault.{Gives};
 ghost use Rattle.offer_header.specs.Names.{has_strategy};
 ghost use Rattle.many_lines.specs.declared.stage.Stage.TheVariants.{Words};
-ghost use Rattle.many_lines.specs.Heading.{chain_taken, fields_taken, finish_taken, first_taken, header_taken, kind_taken, line_taken, swap_taken, unread};
+ghost use Rattle.many_lines.specs.Heading.{chain_taken, fields_taken, finish_taken, first_taken, header_taken, kind_taken, line_taken, swap_taken, nothing_headed};
 ghost use Rattle.many_lines.specs.Heading.{finish_told, with_swap};
-ghost use Rattle.many_lines.specs.Whole.{AreChains, AreSwaps, HoldsEverySwap, IsSwap};
-ghost use Rattle.many_lines.specs.Below.{AreBelow};
+ghost use Rattle.many_lines.specs.Whole.{AreBoundedChains, AreSwaps, HoldsEverySwap, IsSwap};
+ghost use Rattle.many_lines.specs.Below.{AreChainsBelow};
 ghost use Rattle.swap_offer.specs.Wallets.{prepared_wallets};
 
 use crate::fault::{bad, by_field};
@@ -48,17 +48,17 @@ impl Model for Heading {
 
     ghost Value = { HeadingState };
 
-    ghost use Rattle.many_lines.specs.Inside.{inside_heading, IsReading};
+    ghost use Rattle.many_lines.specs.Inside.{inside_heading, IsReadingManyJob};
 
     ghost view = { inside_heading };
 
-    ghost invariant = { IsReading };
+    ghost invariant = { IsReadingManyJob };
 }
 
 impl Heading {
     /// No line was read yet.
     pub fn new(alloc: Global) -> Result<Heading, NoMemory>
-        ensures { IfOk result (λ h. h ≡ unread) }
+        ensures { IfOk result (λ h. h ≡ nothing_headed) }
     {
         Ok(Heading {
             names: Vec::with_capacity(alloc, MOST_CHAINS)?,
@@ -207,7 +207,7 @@ impl Heading {
         text: &[u8],
     ) -> Result<(), HeaderFault>
         requires next { length self.old.many.jobs < 8 }
-        requires below { AreBelow (length self.old.many.names) chains }
+        requires below { AreChainsBelow (length self.old.many.names) chains }
         requires words { self.old.stage ≡ Words }
         ensures exact { Gives (λ _. self.new) result
             (header_taken (has_strategy strategies.now) self.old.many before chains line text.now) }
@@ -260,7 +260,7 @@ impl Heading {
     pub fn into_parts(self) -> (ManyJob, Vec<Vec<Option<Wallet>>>)
         ensures many { result.0 ≡ self.many }
         ensures wallets { map (λ v. v.items) result.1.items ≡ map (prepared_wallets Purpose.Run) self.many.jobs }
-        ensures chains { AreChains self.many }
+        ensures chains { AreBoundedChains self.many }
         ensures swaps { AreSwaps self.many }
         // Once the finish was read there are a swap and a chain.
         ensures some_swap { is_some (finish_told self.stage) ≡ true → 1 ≤ length self.many.jobs }

@@ -4,7 +4,7 @@ ghost use Rattle.std.specs.Prelude.{◌≡◌, ◌<◌, ◌≤◌, [], ℕ, leng
 ghost use Rattle.swap_base.specs.Fault.{Gives};
 ghost use Rattle.transcript_book.specs.Taking.{Takes};
 ghost use Rattle.transcript_lines.specs.Reading.{parse_first_field};
-ghost use Rattle.many_lines.specs.Fields.{read_account, parse_heights, parse_payment_fields, parse_payment, parse_sweep_fields, entry_tick, parse_units};
+ghost use Rattle.many_lines.specs.Fields.{read_account, parse_heights, parse_payment_fields, parse_payment, parse_sweep_fields, parse_chain_tick, parse_units};
 
 use crate::number::parse_units;
 use swap_base::{ByteText, Listed, find_place};
@@ -44,10 +44,10 @@ fn heights_field(fields: &mut Parts<'_>) -> Result<u32, WordFault>
 
 /// A tick of one of so many chains, by the fields after the first: the chain, and by how many
 /// heights.
-#[tactic(auto, unfolding(crate::specs::Fields::entry_tick))]
+#[tactic(auto, unfolding(crate::specs::Fields::parse_chain_tick))]
 pub fn read_tick(chains: usize, fields: &mut Parts<'_>) -> Result<(u8, u32), WordFault>
     requires { chains ≤ 256 }
-    ensures exact { Gives (λ t. t) result (entry_tick chains fields.old) }
+    ensures exact { Gives (λ t. t) result (parse_chain_tick chains fields.old) }
     ensures chain { IfOk result (λ t. t.0 < chains) }
     ensures some { IfOk result (λ t. 1 ≤ t.1) }
     ensures few { IfOk result (λ t. t.1 ≤ 1000000) }

@@ -6,7 +6,7 @@ ghost use Rattle.swap_digraph.specs.Graph.{ends};
 ghost use Rattle.refusals.specs.Words.{party_name};
 ghost use Rattle.swap_offer.specs.Job.{IsWholeJob};
 ghost use Rattle.many_lines.specs.Places.{find_account, arc_places, make_place, find_place, arc_place, find_places};
-ghost use Rattle.many_lines.specs.Whole.{AreChains, ArePlaced, AreSwaps};
+ghost use Rattle.many_lines.specs.Whole.{AreBoundedChains, ArePlaced, AreSwaps};
 
 use crate::many_job::ManyJob;
 use refusals::{HeaderFault, Reason, Refusal, party_name};
@@ -115,7 +115,7 @@ fn arc_places(
 
 /// Where the arcs of all swaps stand, or the least arc one of whose parties has no account there.
 pub fn find_places(alloc: Global, many: &ManyJob) -> Result<Listed<Listed<Place>>, HeaderFault>
-    requires chains { AreChains many.now }
+    requires chains { AreBoundedChains many.now }
     requires swaps { AreSwaps many.now }
     ensures exact { Gives (λ l. l) result (find_places many.now) }
     ensures placed { IfOk result (λ l. ArePlaced many.now l) }

@@ -3,8 +3,8 @@
 ghost use Rattle.std.specs.Prelude.{◌<◌, ◌≤◌, [], ℕ, length, slice_index_or, IfOk};
 ghost use Rattle.swap_base.specs.Fault.{Gives};
 ghost use Rattle.transcript_lines.specs.Reading.{bounded_number};
-ghost use Rattle.many_lines.specs.Fields.{history_accounts, parse_chain_list, parse_finish_fields, parse_payment_fields, parse_sweep_fields, entry_tick};
-ghost use Rattle.many_lines.specs.Below.{AreBelow, IsChain};
+ghost use Rattle.many_lines.specs.Fields.{history_accounts, parse_chain_list, parse_finish_fields, parse_payment_fields, parse_sweep_fields, parse_chain_tick};
+ghost use Rattle.many_lines.specs.Below.{AreChainsBelow, IsBoundedChain};
 ghost use Rattle.many_lines.specs.Heading.{by_fields};
 
 use crate::accounts::{ChainAccounts, read_accounts};
@@ -25,7 +25,7 @@ pub(crate) fn collect_accounts(
     fields: &mut Parts<'_>,
 ) -> Result<ChainAccounts, HeaderFault>
     ensures exact { Gives (λ a. a) result (by_fields line (history_accounts fields.old)) }
-    ensures whole { IfOk result (λ a. IsChain a.names a.units) }
+    ensures whole { IfOk result (λ a. IsBoundedChain a.names a.units) }
 {
     match read_accounts(alloc, fields) {
         Ok(accounts) => Ok(accounts),
@@ -43,7 +43,7 @@ pub(crate) fn parse_chains(
 ) -> Result<Listed<u8>, HeaderFault>
     requires { count ≤ 256 }
     ensures exact { Gives (λ l. l) result (by_fields line (parse_chain_list count fields.old)) }
-    ensures below { IfOk result (λ l. AreBelow count l) }
+    ensures below { IfOk result (λ l. AreChainsBelow count l) }
 {
     match read_chains(alloc, count, fields) {
         Ok(chains) => Ok(chains),
@@ -75,7 +75,7 @@ pub(crate) fn parse_tick(
     fields: &mut Parts<'_>,
 ) -> Result<(u8, u32), HeaderFault>
     requires { chains ≤ 256 }
-    ensures exact { Gives (λ t. t) result (by_fields line (entry_tick chains fields.old)) }
+    ensures exact { Gives (λ t. t) result (by_fields line (parse_chain_tick chains fields.old)) }
     ensures chain { IfOk result (λ t. t.0 < chains) }
     ensures some { IfOk result (λ t. 1 ≤ t.1) }
     ensures few { IfOk result (λ t. t.1 ≤ 1000000) }

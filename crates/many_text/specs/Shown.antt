@@ -4,14 +4,14 @@ use Rattle.swap_job.specs.declared.job.Job.{Job}
 use Rattle.swap_many.specs.Value.{ManyState, nth_world}
 
 -- Swap s of the world is that job.
-pub record IsShown (w : ManyState) (s : ℕ) (job : Job) : Type 0 where
+pub record IsShownSwap (w : ManyState) (s : ℕ) (job : Job) : Type 0 where
   pub deal : (nth_world w s).deal ≡ job.deal
   pub conforming : length job.conforming ≡ job.deal.graph.n
 
 -- The world has these swaps.
 pub record AreShown (w : ManyState) (jobs : List Job) : Type 0 where
   pub one_each : length jobs ≡ length w.worlds
-  pub swaps : (s : ℕ) (job : Job) → s < length jobs → job ≡ slice_index_or jobs s job → IsShown w s job
+  pub swaps : (s : ℕ) (job : Job) → s < length jobs → job ≡ slice_index_or jobs s job → IsShownSwap w s job
 
 -- Chain i of the world has so many accounts.
 pub record IsChainShown (w : ManyState) (i : ℕ) (names : List (List ℕ)) : Type 0 where

@@ -2,7 +2,7 @@
 
 ghost use Rattle.std.specs.Prelude.{◌≡◌, ◌<◌, ◌++◌, OnOk, length};
 ghost use Rattle.swap_base.specs.Text.{lines};
-ghost use Rattle.swap_many.specs.Value.{kept_state};
+ghost use Rattle.swap_many.specs.Value.{many_kept};
 ghost use Rattle.many_text.specs.ManyText.{account_text, kept_chain_text};
 ghost use Rattle.many_text.specs.Shown.{AreChainsShown, IsChainShown};
 
@@ -31,7 +31,7 @@ fn put_accounts(
 ) -> Result<(), NoMemory>
     requires here { chain < length world.now.openings }
     requires shown { IsChainShown world.now chain names.now }
-    ensures { OnOk result (out.new.items ≡ out.old.items ++ lines (account_text ((kept_state world.now).free chain)) 0 names.now) }
+    ensures { OnOk result (out.new.items ≡ out.old.items ++ lines (account_text ((many_kept world.now).free chain)) 0 names.now) }
 {
     'accounts: for account in 0..names.len() as u8 {
         let units = world.free(chain, account);
@@ -49,7 +49,7 @@ fn put_chain(
 ) -> Result<(), NoMemory>
     requires here { chain < length world.now.openings }
     requires shown { IsChainShown world.now chain names.now }
-    ensures { OnOk result (out.new.items ≡ out.old.items ++ kept_chain_text (kept_state world.now) chain names.now) }
+    ensures { OnOk result (out.new.items ≡ out.old.items ++ kept_chain_text (many_kept world.now) chain names.now) }
 {
     put(
         out,
@@ -71,7 +71,7 @@ pub(crate) fn put_chains(
     world: &ManyWorld,
 ) -> Result<(), NoMemory>
     requires shown { AreChainsShown world.now names.now }
-    ensures { OnOk result (out.new.items ≡ out.old.items ++ lines (kept_chain_text (kept_state world.now)) 0 names.now) }
+    ensures { OnOk result (out.new.items ≡ out.old.items ++ lines (kept_chain_text (many_kept world.now)) 0 names.now) }
 {
     let count = world.chains();
     'each: for chain in 0..count {

@@ -7,9 +7,9 @@ ghost use Rattle.ledger_core.specs.Book.{IsLegalBook};
 ghost use Rattle.report_text.specs.Report.{report as to_text};
 ghost use Rattle.outcome_rules.specs.Report.{build_report};
 ghost use Rattle.swap_io.specs.Handed.{Hands};
-ghost use Rattle.swap_many.specs.Value.{kept_state};
+ghost use Rattle.swap_many.specs.Value.{many_kept};
 ghost use Rattle.many_text.specs.ManyText.{swap_book, finding_count, kept_report, swap_line, swap_text, kept_swap_text};
-ghost use Rattle.many_text.specs.Shown.{AreShown, IsShown};
+ghost use Rattle.many_text.specs.Shown.{AreShown, IsShownSwap};
 
 use ledger_core::Book;
 use outcome_rules::{Report, build_report};
@@ -81,9 +81,9 @@ fn told_swap(
     world: &ManyWorld,
 ) -> Result<(Book, Report), NoMemory>
     requires here { number < length world.now.worlds }
-    requires shown { IsShown world.now number job.now }
-    ensures book { IfOk result (λ t. t.0.histories ≡ swap_book (kept_state world.now) number) }
-    ensures report { IfOk result (λ t. t.1 ≡ kept_report (kept_state world.now) number job.now) }
+    requires shown { IsShownSwap world.now number job.now }
+    ensures book { IfOk result (λ t. t.0.histories ≡ swap_book (many_kept world.now) number) }
+    ensures report { IfOk result (λ t. t.1 ≡ kept_report (many_kept world.now) number job.now) }
     ensures sized { IfOk result (λ t. IsWellSized job.now.deal) }
     ensures legal { IfOk result (λ t. IsLegalBook job.now.deal t.0.histories) }
     ensures parties { IfOk result (λ t. length t.1.outcomes ≤ 256) }
@@ -104,10 +104,10 @@ fn write_numbered_swap<K: Sink>(
     world: &ManyWorld,
 ) -> Result<u64, TextFault>
     requires here { number < length world.now.worlds }
-    requires shown { IsShown world.now number job.now }
+    requires shown { IsShownSwap world.now number job.now }
     ensures hands { Hands (K.taken sink.old) (K.taken sink.new) (K.faults sink.old) (K.faults sink.new) out.old.items out.new.items
-        (kept_swap_text (kept_state world.now) number job.now) result }
-    ensures count { IfOk result (λ n. n ≡ length (kept_report (kept_state world.now) number job.now).findings) }
+        (kept_swap_text (many_kept world.now) number job.now) result }
+    ensures count { IfOk result (λ n. n ≡ length (kept_report (many_kept world.now) number job.now).findings) }
 {
     let (book, report) = told_swap(alloc, number, job, world)?;
     write_swap(alloc, sink, out, number as u64, job, &book, &report)?;
@@ -131,8 +131,8 @@ pub(crate) fn write_swaps<K: Sink>(
 ) -> Result<u64, TextFault>
     requires shown { AreShown world.now jobs.now }
     ensures hands { Hands (K.taken sink.old) (K.taken sink.new) (K.faults sink.old) (K.faults sink.new) out.old.items out.new.items
-        (lines (kept_swap_text (kept_state world.now)) 0 jobs.now) result }
-    ensures count { IfOk result (λ n. n ≡ finding_count (kept_state world.now) 0 jobs.now) }
+        (lines (kept_swap_text (many_kept world.now)) 0 jobs.now) result }
+    ensures count { IfOk result (λ n. n ≡ finding_count (many_kept world.now) 0 jobs.now) }
 {
     let mut count: u64 = 0;
     let all = world.swaps();

@@ -4,7 +4,7 @@ ghost use Rattle.std.specs.Prelude.{◌≡◌, ◌++◌, ◌≤◌, IfOk, IsErrO
 ghost use Rattle.std.specs.Io.KnownBytes.{Appends};
 ghost use Rattle.swap_io.specs.Causes.{AppendsProperPrefix, Rose};
 ghost use Rattle.swap_io.specs.Handed.{AppendsPrefix, Hands};
-ghost use Rattle.swap_many.specs.Value.{kept_state};
+ghost use Rattle.swap_many.specs.Value.{many_kept};
 ghost use Rattle.report_text.specs.Report.{count_line};
 ghost use Rattle.many_text.specs.ManyText.{has_finding, many_text};
 ghost use Rattle.many_text.specs.Shown.{AreChainsShown, AreShown};
@@ -43,8 +43,8 @@ fn hand_many<K: Sink>(
     requires shown { AreShown world.now jobs.now }
     requires chains { AreChainsShown world.now names.now }
     ensures hands { Hands (K.taken sink.old) (K.taken sink.new) (K.faults sink.old) (K.faults sink.new) out.old.items out.new.items
-        (many_text jobs.now names.now (kept_state world.now)) result }
-    ensures found { IfOk result (λ f. f ≡ has_finding jobs.now (kept_state world.now)) }
+        (many_text jobs.now names.now (many_kept world.now)) result }
+    ensures found { IfOk result (λ f. f ≡ has_finding jobs.now (many_kept world.now)) }
 {
     let count = write_swaps(alloc, sink, out, jobs, world)?;
     put_chains(out, names, world)?;
@@ -63,12 +63,12 @@ pub fn write_many<K: Sink>(
 ) -> Result<bool, TextFault>
     requires shown { AreShown world.now jobs.now }
     requires chains { AreChainsShown world.now names.now }
-    ensures all { OnOk result (Appends (K.taken sink.old) (K.taken sink.new) (many_text jobs.now names.now (kept_state world.now))) }
-    ensures found { IfOk result (λ f. f ≡ has_finding jobs.now (kept_state world.now)) }
+    ensures all { OnOk result (Appends (K.taken sink.old) (K.taken sink.new) (many_text jobs.now names.now (many_kept world.now))) }
+    ensures found { IfOk result (λ f. f ≡ has_finding jobs.now (many_kept world.now)) }
     ensures write_fault { IsErrOf result TextFault.WriteFault
-        → AppendsProperPrefix (K.taken sink.old) (K.taken sink.new) (many_text jobs.now names.now (kept_state world.now)) }
+        → AppendsProperPrefix (K.taken sink.old) (K.taken sink.new) (many_text jobs.now names.now (many_kept world.now)) }
     ensures no_memory { IsErrOf result TextFault.NoMemory
-        → AppendsPrefix (K.taken sink.old) (K.taken sink.new) (many_text jobs.now names.now (kept_state world.now)) }
+        → AppendsPrefix (K.taken sink.old) (K.taken sink.new) (many_text jobs.now names.now (many_kept world.now)) }
     ensures later { K.faults sink.old ≤ K.faults sink.new }
     ensures failed { IsErrOf result TextFault.WriteFault → Rose (K.faults sink.old) (K.faults sink.new) }
 {

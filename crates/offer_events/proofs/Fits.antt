@@ -22,11 +22,11 @@ use Rattle.offer_fields.specs.Names.{party_of_name}
 use Rattle.offer_moves.specs.declared.raw.RawMove.{RawMove}
 use Rattle.offer_moves.specs.Moves.{deal_sizes, parse_arc, parse_move}
 use Rattle.offer_moves.specs.Placed.{deviating, adjacent, placed}
-use Rattle.offer_moves.specs.Kept.{AreSeeded, IsMade}
+use Rattle.offer_moves.specs.Kept.{AreSeeded, IsMadeMove}
 use Rattle.offer_moves.proofs.Made.{arc_fits, adjacent_fits, move_made, placed_fits}
 use Rattle.offer_events.specs.declared.raw.RawEvent.{RawEvent}
 use Rattle.offer_events.specs.declared.raw.RawEvent.TheVariants as raw_events
-use Rattle.offer_events.specs.Event.{event_of_tick, event_of_look, event_of_act, permitted, event_of_call, event_of_crash, checked}
+use Rattle.offer_events.specs.Event.{event_of_tick, event_of_look, event_of_act, permitted, event_of_call, event_of_crash, checked_event}
 use Rattle.offer_events.specs.Event.{each_seeded, needs_seeds, crafted_with_seeds, conforming_crash}
 use Rattle.offer_fields.proofs.Chains.{went}
 use Rattle.offer_fields.proofs.Ranges.{number_within_ok, party_below}
@@ -52,7 +52,7 @@ seeds_there job (Refund a) u needs e = tt
 seeds_there job (Transfer a to units) u needs e = tt
 seeds_there job (Wait a height) u needs e = tt
 
-permitted_fits : (job : Job) (line p : ℕ) (mv : Move) (u : Unit {0}) → IsMade job.deal job.seeds line mv → needs_seeds job.purpose ≡ true
+permitted_fits : (job : Job) (line p : ℕ) (mv : Move) (u : Unit {0}) → IsMadeMove job.deal job.seeds line mv → needs_seeds job.purpose ≡ true
     → permitted job line p mv ≡ Ok u
     → IsFitting job.deal job.seeds mv × IsTrue ((p == party job.deal (move_arc mv)) || (p == counterparty job.deal (move_arc mv)))
 unfolding permitted
@@ -142,7 +142,7 @@ crash_fits job line name n m event u same e conforming =
     })
 
 pub checked_fits : (job : Job) (line : ℕ) (raw : RawEvent) (event : Event) (u : Unit {0}) → IsWellSized job.deal → length job.names ≡ job.deal.graph.n
-    → needs_seeds job.purpose ≡ true → checked job line raw ≡ Ok event → conforming_crash job.conforming line event ≡ Ok u → IsJobEvent job event
+    → needs_seeds job.purpose ≡ true → checked_event job line raw ≡ Ok event → conforming_crash job.conforming line event ≡ Ok u → IsJobEvent job event
 checked_fits job line (raw_events.Tick n by) event u w same needs e own = tick_fits job.deal job.conforming job.seeds line n by event e
 checked_fits job line (raw_events.Look name n) event u w same needs e own = look_fits job line name n event w same e
 checked_fits job line (raw_events.Act name) event u w same needs e own = act_fits job line name event same e

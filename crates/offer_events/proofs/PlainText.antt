@@ -26,7 +26,7 @@ use Rattle.offer_events.specs.declared.raw.RawEvent.TheVariants.{Tick, Look, Act
 use Rattle.offer_events.specs.Reading.{raw_event, raw_tick_event, raw_look_event, raw_act_event}
 use Rattle.swap_base.proofs.Lists.{and_both}
 use Rattle.offer_events.specs.Event.{asked, parse_event}
-use Rattle.offer_events.specs.Plain.{is_plain_byte, Says}
+use Rattle.offer_events.specs.Plain.{is_plain_byte, SaysRawEvent}
 
 -- the text that a tree of printable tokens is printed as is read as that tree
 reads : (j : json.Json) (text : List ℕ) → HasNumbers j → depth j ≤ max_depth → text ≡ print (json_tokens j) → read text ≡ of_json j
@@ -68,7 +68,7 @@ escape_plain (x ∷ xs) h = let p = and_parts (is_plain_byte x) (list_all is_pla
 
 -- a line of ASCII that reads as an object which says an event
 says : (line : ℕ) (text : List ℕ) (ms : Members) (raw : RawEvent) → are_ascii text ≡ true → read text ≡ Some (object ms)
-    → raw_event line (object ms) ≡ Ok raw → Says line text raw
+    → raw_event line (object ms) ≡ Ok raw → SaysRawEvent line text raw
 unfolding parse_data
 says line text ms raw ascii is fields = record {
   object = object ms;
@@ -111,7 +111,7 @@ act_key = 123 ∷ 34 ∷ 97 ∷ 99 ∷ 116 ∷ 34 ∷ 58 ∷ []
 
 -- ---- the forms
 
-pub tick_alone : (line n : ℕ) (text rest : List ℕ) → n < 2 ^ 64 → text ≡ tick_key ++ (decimal n ++ rest) → rest ≡ 125 ∷ [] → Says line text (Tick n None)
+pub tick_alone : (line n : ℕ) (text rest : List ℕ) → n < 2 ^ 64 → text ≡ tick_key ++ (decimal n ++ rest) → rest ≡ 125 ∷ [] → SaysRawEvent line text (Tick n None)
 unfolding print_from escape_byte raw_event raw_tick_event field_number optional_field_number needed only
 tick_alone line n text rest h same closed =
     let whole : text ≡ tick_key ++ (decimal n ++ 125 ∷ []) = cc in
@@ -121,7 +121,7 @@ tick_alone line n text rest h same closed =
     says line text members (Tick n None) (rw whole (ascii_number n (125 ∷ []) h refl)) is refl
 
 pub tick_then_by : (line n k : ℕ) (text rest end : List ℕ) → n < 2 ^ 64 → k < 2 ^ 64 → text ≡ tick_key ++ (decimal n ++ rest)
-    → rest ≡ next_by_key ++ (decimal k ++ end) → end ≡ 125 ∷ [] → Says line text (Tick n (Some k))
+    → rest ≡ next_by_key ++ (decimal k ++ end) → end ≡ 125 ∷ [] → SaysRawEvent line text (Tick n (Some k))
 unfolding print_from escape_byte raw_event raw_tick_event field_number optional_field_number needed only
 tick_then_by line n k text rest end h g same next closed =
     let whole : text ≡ tick_key ++ (decimal n ++ (next_by_key ++ (decimal k ++ 125 ∷ []))) = cc in
@@ -133,7 +133,7 @@ tick_then_by line n k text rest end h g same next closed =
     says line text members (Tick n (Some k)) (rw whole (ascii_number n (next_by_key ++ (decimal k ++ 125 ∷ [])) h (ascii_number k (125 ∷ []) g refl))) is refl
 
 pub by_then_tick : (line n k : ℕ) (text rest end : List ℕ) → n < 2 ^ 64 → k < 2 ^ 64 → text ≡ by_key ++ (decimal k ++ rest)
-    → rest ≡ next_tick_key ++ (decimal n ++ end) → end ≡ 125 ∷ [] → Says line text (Tick n (Some k))
+    → rest ≡ next_tick_key ++ (decimal n ++ end) → end ≡ 125 ∷ [] → SaysRawEvent line text (Tick n (Some k))
 unfolding print_from escape_byte raw_event raw_tick_event field_number optional_field_number needed only
 by_then_tick line n k text rest end h g same next closed =
     let whole : text ≡ by_key ++ (decimal k ++ (next_tick_key ++ (decimal n ++ 125 ∷ []))) = cc in
@@ -146,7 +146,7 @@ by_then_tick line n k text rest end h g same next closed =
     is refl
 
 pub look_then_arc : (line n : ℕ) (name text rest end : List ℕ) → n < 2 ^ 64 → list_all is_plain_byte name ≡ true → text ≡ look_key ++ (34 ∷ (name ++ 34 ∷ rest))
-    → rest ≡ next_arc_key ++ (decimal n ++ end) → end ≡ 125 ∷ [] → Says line text (Look name n)
+    → rest ≡ next_arc_key ++ (decimal n ++ end) → end ≡ 125 ∷ [] → SaysRawEvent line text (Look name n)
 unfolding print_from escape_byte raw_event raw_look_event field_number field_text needed only
 look_then_arc line n name text rest end h plain same next closed =
     let after : List ℕ = next_arc_key ++ (decimal n ++ 125 ∷ []) in
@@ -159,7 +159,7 @@ look_then_arc line n name text rest end h plain same next closed =
     says line text members (Look name n) (rw whole (ascii_plain name (34 ∷ after) plain (ascii_number n (125 ∷ []) h refl))) is refl
 
 pub arc_then_look : (line n : ℕ) (name text rest end : List ℕ) → n < 2 ^ 64 → list_all is_plain_byte name ≡ true → text ≡ arc_key ++ (decimal n ++ rest)
-    → rest ≡ next_look_key ++ (34 ∷ (name ++ 34 ∷ end)) → end ≡ 125 ∷ [] → Says line text (Look name n)
+    → rest ≡ next_look_key ++ (34 ∷ (name ++ 34 ∷ end)) → end ≡ 125 ∷ [] → SaysRawEvent line text (Look name n)
 unfolding print_from escape_byte raw_event raw_look_event field_number field_text needed only
 arc_then_look line n name text rest end h plain same next closed =
     let after : List ℕ = next_look_key ++ (34 ∷ (name ++ 34 ∷ 125 ∷ [])) in
@@ -173,7 +173,7 @@ arc_then_look line n name text rest end h plain same next closed =
     says line text members (Look name n) (rw whole (ascii_number n after h (ascii_plain name (34 ∷ 125 ∷ []) plain refl))) is refl
 
 pub act_alone : (line : ℕ) (name text end : List ℕ) → list_all is_plain_byte name ≡ true → text ≡ act_key ++ (34 ∷ (name ++ 34 ∷ end)) → end ≡ 125 ∷ []
-    → Says line text (Act name)
+    → SaysRawEvent line text (Act name)
 unfolding print_from escape_byte raw_event raw_act_event field_text needed only
 act_alone line name text end plain same closed =
     let whole : text ≡ act_key ++ (34 ∷ (name ++ 34 ∷ 125 ∷ [])) = cc in
@@ -183,6 +183,6 @@ act_alone line name text end plain same closed =
     let is : read text ≡ Some (object members) = reads tree text (tt, tt) (omega arith) printed ∙ refl in
     says line text members (Act name) (rw whole (ascii_plain name (34 ∷ 125 ∷ []) plain refl)) is refl
 
-pub asked_by : (job : Job) (line : ℕ) (text : List ℕ) (raw : RawEvent) → Says line text raw → parse_event job line text ≡ asked job line raw
+pub asked_by : (job : Job) (line : ℕ) (text : List ℕ) (raw : RawEvent) → SaysRawEvent line text raw → parse_event job line text ≡ asked job line raw
 unfolding parse_event
 asked_by job line text raw said = rw (said.is_object, said.says) refl

@@ -83,12 +83,12 @@ event_of_crash job line name n m = do
   Ok (Crash p k image)
 
 -- the event of what a line says
-abbrev pub checked : Job → ℕ → RawEvent → Result Event Reason
-checked job line (raws.Tick n by) = event_of_tick job.deal line n by
-checked job line (raws.Look name n) = event_of_look job line name n
-checked job line (raws.Act name) = event_of_act job line name
-checked job line (raws.Call name raw) = event_of_call job line name raw
-checked job line (raws.Crash name after image) = event_of_crash job line name after image
+abbrev pub checked_event : Job → ℕ → RawEvent → Result Event Reason
+checked_event job line (raws.Tick n by) = event_of_tick job.deal line n by
+checked_event job line (raws.Look name n) = event_of_look job line name n
+checked_event job line (raws.Act name) = event_of_act job line name
+checked_event job line (raws.Call name raw) = event_of_call job line name raw
+checked_event job line (raws.Crash name after image) = event_of_crash job line name after image
 
 -- a race has no events of its own
 abbrev pub outside_race : ℕ → Purpose → Result (Unit {0}) Reason
@@ -103,7 +103,7 @@ conforming_crash conforming line _ = Ok tt
 -- the event that a line asks for by what it says
 unfoldable pub asked : Job → ℕ → RawEvent → Result Event Reason
 asked job line raw = do
-  event ← checked job line raw
+  event ← checked_event job line raw
   u ← outside_race line job.purpose
   w ← conforming_crash job.conforming line event
   Ok event

@@ -11,7 +11,7 @@ abbrev pub is_plain_byte : ℕ → Bool
 is_plain_byte x = nat_le 32 x && (nat_le x 126 && (not (x == 34) && not (x == 92)))
 
 -- the line is an object, and its fields say that event
-pub record Says (line : ℕ) (text : List ℕ) (raw : RawEvent) : Type 0 where
+pub record SaysRawEvent (line : ℕ) (text : List ℕ) (raw : RawEvent) : Type 0 where
   pub object : Data
   pub is_object : parse_data line text ≡ Ok object
   pub says : raw_event line object ≡ Ok raw

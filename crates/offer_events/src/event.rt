@@ -7,7 +7,7 @@ ghost use Rattle.swap_digraph.specs.Deal.{IsWellSized};
 ghost use Rattle.swap_job.specs.Resolved.{move_arc};
 ghost use Rattle.swap_job.specs.Step.{IsJobEvent};
 ghost use Rattle.offer_moves.specs.Kept.{AreBoundedCrafters};
-ghost use Rattle.offer_events.specs.Event.{event_of_tick, event_of_look, event_of_act, permitted, event_of_call, event_of_crash, checked};
+ghost use Rattle.offer_events.specs.Event.{event_of_tick, event_of_look, event_of_act, permitted, event_of_call, event_of_crash, checked_event};
 ghost use Rattle.offer_events.specs.Event.{outside_race, conforming_crash, asked, parse_event, each_seeded, needs_seeds, crafted_with_seeds};
 
 use crate::plain::plain_event;
@@ -171,7 +171,7 @@ fn check_event(alloc: Global, job: &Job, line: u32, raw: &RawEvent<'_>) -> Resul
     requires names { length job.now.names ≡ job.now.deal.graph.n }
     requires conforming { length job.now.conforming ≡ job.now.deal.graph.n }
     requires seeds { length job.now.seeds ≡ job.now.deal.graph.n }
-    ensures { Gives (λ e. e) result (checked job.now line raw.now) }
+    ensures { Gives (λ e. e) result (checked_event job.now line raw.now) }
 {
     match raw {
         RawEvent::Tick { arc, by } => event_of_tick(alloc, &job.deal, line, *arc, *by),

@@ -2,7 +2,7 @@
 
 ghost use Rattle.std.specs.Prelude.{◌≡◌, ◌≢◌, ◌<◌, ◌≤◌, ◌^◌, ℕ, true, not, List, [], ◌∷◌, ◌++◌, position, decimal, MatchOption, IsTrue};
 ghost use Rattle.std.specs.List.{list_all};
-ghost use Rattle.offer_events.specs.Plain.{is_plain_byte, Says};
+ghost use Rattle.offer_events.specs.Plain.{is_plain_byte, SaysRawEvent};
 
 use crate::raw::RawEvent;
 use offer_fields::TextRef;
@@ -89,7 +89,7 @@ fn split_name<'a>(text: &'a [u8], prefix: &[u8]) -> Option<(&'a [u8], &'a [u8])>
 
 /// `{"tick":N}` and `{"tick":N,"by":N}`.
 fn tick_first(text: &[u8]) -> Option<RawEvent<'_>>
-    ensures { MatchOption result (Unit {0}) (λ e. (line : ℕ) → Says line text.now e) }
+    ensures { MatchOption result (Unit {0}) (λ e. (line : ℕ) → SaysRawEvent line text.now e) }
 {
     let (arc, rest) = split_number(text, b"{\"tick\":")?;
     if is_closed(rest) {
@@ -105,7 +105,7 @@ fn tick_first(text: &[u8]) -> Option<RawEvent<'_>>
 
 /// `{"by":N,"tick":N}`.
 fn by_first(text: &[u8]) -> Option<RawEvent<'_>>
-    ensures { MatchOption result (Unit {0}) (λ e. (line : ℕ) → Says line text.now e) }
+    ensures { MatchOption result (Unit {0}) (λ e. (line : ℕ) → SaysRawEvent line text.now e) }
 {
     let (heights, rest) = split_number(text, b"{\"by\":")?;
     let (arc, end) = split_number(rest, b",\"tick\":")?;
@@ -118,7 +118,7 @@ fn by_first(text: &[u8]) -> Option<RawEvent<'_>>
 
 /// `{"look":"NAME","arc":N}`.
 fn look_first(text: &[u8]) -> Option<RawEvent<'_>>
-    ensures { MatchOption result (Unit {0}) (λ e. (line : ℕ) → Says line text.now e) }
+    ensures { MatchOption result (Unit {0}) (λ e. (line : ℕ) → SaysRawEvent line text.now e) }
 {
     let (name, rest) = split_name(text, b"{\"look\":\"")?;
     let (arc, end) = split_number(rest, b",\"arc\":")?;
@@ -133,7 +133,7 @@ fn look_first(text: &[u8]) -> Option<RawEvent<'_>>
 
 /// `{"arc":N,"look":"NAME"}`.
 fn arc_first(text: &[u8]) -> Option<RawEvent<'_>>
-    ensures { MatchOption result (Unit {0}) (λ e. (line : ℕ) → Says line text.now e) }
+    ensures { MatchOption result (Unit {0}) (λ e. (line : ℕ) → SaysRawEvent line text.now e) }
 {
     let (arc, rest) = split_number(text, b"{\"arc\":")?;
     let (name, end) = split_name(rest, b",\"look\":\"")?;
@@ -148,7 +148,7 @@ fn arc_first(text: &[u8]) -> Option<RawEvent<'_>>
 
 /// `{"act":"NAME"}`.
 fn act_alone(text: &[u8]) -> Option<RawEvent<'_>>
-    ensures { MatchOption result (Unit {0}) (λ e. (line : ℕ) → Says line text.now e) }
+    ensures { MatchOption result (Unit {0}) (λ e. (line : ℕ) → SaysRawEvent line text.now e) }
 {
     let (name, end) = split_name(text, b"{\"act\":\"")?;
     if !is_closed(end) {
@@ -162,7 +162,7 @@ fn act_alone(text: &[u8]) -> Option<RawEvent<'_>>
 /// The event of a line in a plain form: no blanks, no escapes, and numbers of up to 19 digits.
 /// `None` says nothing of the line.
 pub(crate) fn plain_event(text: &[u8]) -> Option<RawEvent<'_>>
-    ensures { MatchOption result (Unit {0}) (λ e. (line : ℕ) → Says line text.now e) }
+    ensures { MatchOption result (Unit {0}) (λ e. (line : ℕ) → SaysRawEvent line text.now e) }
 {
     match text.get(3)? {
         b'i' => tick_first(text),

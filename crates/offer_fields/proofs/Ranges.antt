@@ -7,7 +7,7 @@ use Rattle.std.proofs.lemmas.List.Quantifiers.{position-Some}
 use Rattle.swap_base.proofs.Lists.{and_parts}
 use Rattle.refusals.specs.declared.reason.Reason.TheVariants.{OverLimit}
 use Rattle.offer_fields.specs.Limits.{ranged_number, check_range}
-use Rattle.offer_fields.specs.Names.{found, party_of_name}
+use Rattle.offer_fields.specs.Names.{found_place, party_of_name}
 use Rattle.offer_fields.proofs.Chains.{went}
 
 pub passed : {A R : Type 0} (b : Bool) (x y : A) (d : R) → cond b (Ok x) (Err d) ≡ Ok y → (b ≡ true) × (x ≡ y)
@@ -29,7 +29,7 @@ number_within_ok line field low high n m h =
     let same : n ≡ m = cc (one.2) in
     (omega arith, omega arith, sym same)
 
-found_below : (line : ℕ) (name : List ℕ) (names : List (List ℕ)) (o : Option ℕ) (p : ℕ) → position (bytes_eq name) names ≡ o → found line name o ≡ Ok p
+found_below : (line : ℕ) (name : List ℕ) (names : List (List ℕ)) (o : Option ℕ) (p : ℕ) → position (bytes_eq name) names ≡ o → found_place line name o ≡ Ok p
     → p < length names
 found_below line name names None p h e = absurd (cc e)
 found_below line name names (Some k) p h e =

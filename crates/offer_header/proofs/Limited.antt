@@ -7,8 +7,8 @@ use Rattle.offer_fields.specs.Limits.{ranged_number, check_range}
 use Rattle.offer_fields.specs.Lists.{collected_results}
 use Rattle.offer_header.specs.Names.{AreLeaders, AreEnds, IsNumbered}
 use Rattle.offer_header.specs.Raw.{is_plain, IsVersionMode, IsUntimed}
-use Rattle.offer_header.specs.Limits.{parse_acting, count_parties, header_sizes, stated_terms, limited_terms, arc_ends}
-use Rattle.offer_header.specs.Limits.{lock_hashlock, no_digests, read_hashlocks, leader_hashlocks}
+use Rattle.offer_header.specs.Limits.{parse_acting, count_parties, header_sizes, limited_arc_terms, limited_terms, arc_ends}
+use Rattle.offer_header.specs.Limits.{stated_hashlock, no_digests, read_hashlocks, leader_hashlocks}
 use Rattle.offer_header.specs.Limits.{key_digest, party_key_row, stated_keys, derived_keys, assemble_header, limited_value}
 use Rattle.offer_header.specs.Header.{AreSizedKeys, IsHeaderInLimits}
 use Rattle.offer_header.specs.declared.raw.RawActor.TheVariants.{Manual}
@@ -79,9 +79,9 @@ small_leaders line raw n acting is h =
 
 -- ---- arcs
 
-terms_ok : (line : ℕ) (a : RawArc) (t : ArcTerms) → stated_terms line a ≡ Ok t
+terms_ok : (line : ℕ) (a : RawArc) (t : ArcTerms) → limited_arc_terms line a ≡ Ok t
     → ((1 ≤ t.amount) × (t.amount ≤ 10 ^ 12)) × (t.timelock ≤ 1000000) × (t.timelock ≡ a.timelock)
-unfolding stated_terms
+unfolding limited_arc_terms
 terms_ok line a t h =
     let one = went (check_range line (codes "amount") 1 (10 ^ 12) a.amount) (λ u. ranged_number line (codes "timelock") 0 1000000 a.timelock >>= λ timelock.
     Ok (record { amount = a.amount; timelock = timelock })) t h in
@@ -110,13 +110,13 @@ are_terms : (version : Version) (line : ℕ) (arcs : List RawArc) (terms : List 
     → AreTerms version arcs terms
 unfolding limited_terms
 are_terms version line arcs terms h =
-    let one = went (check_range line (codes "arcs") 2 (most_arcs version) (length arcs)) (λ u. collected_results (stated_terms line) arcs) terms h in
+    let one = went (check_range line (codes "arcs") 2 (most_arcs version) (length arcs)) (λ u. collected_results (limited_arc_terms line) arcs) terms h in
     let r = within_ok line (codes "arcs") 2 (most_arcs version) (length arcs) one.0 one.1 in
-    let l : length terms ≡ length arcs = each_length (stated_terms line) arcs terms one.2 in
+    let l : length terms ≡ length arcs = each_length (limited_arc_terms line) arcs terms one.2 in
     let at : (a : ℕ) → a < length terms → ((1 ≤ (get_or terms a zero_terms).amount) × ((get_or terms a zero_terms).amount ≤ 10 ^ 12))
     × ((get_or terms a zero_terms).timelock ≤ 1000000) × ((get_or terms a zero_terms).timelock ≡ (get_or arcs a zero_arc).timelock) =
     λ a lt. terms_ok line (get_or arcs a zero_arc) (get_or terms a zero_terms)
-    (each_at (stated_terms line) arcs terms zero_arc zero_terms one.2 a (omega arith)) in
+    (each_at (limited_arc_terms line) arcs terms zero_arc zero_terms one.2 a (omega arith)) in
     record {
       few = (omega arith, omega arith);
       each = l;
@@ -132,7 +132,7 @@ by_hashlocks : (plain : Bool) (line : ℕ) (leaders : List RawLeader) (hashlocks
 by_hashlocks true line leaders hashlocks h =
     let same : no_digests leaders ≡ hashlocks = cc h in
     ap length (sym same) ∙ length-map leaders _
-by_hashlocks false line leaders hashlocks h = each_length (lock_hashlock line) leaders hashlocks h
+by_hashlocks false line leaders hashlocks h = each_length (stated_hashlock line) leaders hashlocks h
 
 hashlocks_ok : (plain : Bool) (line : ℕ) (leaders : List RawLeader) (hashlocks : List (List ℕ)) → leader_hashlocks plain line leaders ≡ Ok hashlocks
     → (1 ≤ length leaders) × (length leaders ≤ 8) × (length hashlocks ≡ length leaders)

@@ -21,7 +21,7 @@ use Rattle.offer_fields.specs.Fields.{field_text, required_object, read_array_fi
 use Rattle.offer_fields.specs.Limits.{check_range}
 use Rattle.offer_fields.proofs.Chains.{went, each_all, each_at, each_length}
 use Rattle.offer_moves.specs.declared.moves.Sizes.{Sizes}
-use Rattle.offer_header.specs.Raw.{object_actor, actor_of_word, new_actor, actor_or_conforming, actor_member, seed_member, party_fields, parse_party, IsWord, HasWords}
+use Rattle.offer_header.specs.Raw.{object_actor, actor_of_word, parse_raw_actor, actor_or_conforming, actor_member, seed_member, party_fields, parse_party, IsWord, HasWords}
 use Rattle.offer_header.specs.Limits.{checked_role, checked_seed, parse_acting, count_parties, header_sizes, limited_value}
 use Rattle.offer_header.specs.Header.{simple_role, HasSimpleRoles}
 use Rattle.offer_header.proofs.Limited.{opened}
@@ -45,7 +45,7 @@ word_is line word a e = go (bytes_eq word (codes "conforming")) (bytes_eq word (
 
 -- where no actor is an object
 module _ (purpose : Purpose) (none : (line : ℕ) (d : Data) (a : RawActor) → object_actor line purpose d ≡ Ok a → ⊥) where
-  said_is : (line : ℕ) (v : Data) (a : RawActor) → new_actor line purpose v ≡ Ok a → IsWord a
+  said_is : (line : ℕ) (v : Data) (a : RawActor) → parse_raw_actor line purpose v ≡ Ok a → IsWord a
   said_is line v a e = go (is_some (as_object v)) refl
     where
       go : (b : Bool) → is_some (as_object v) ≡ b → IsWord a

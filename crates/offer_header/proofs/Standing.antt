@@ -20,7 +20,7 @@ use Rattle.refusals.specs.declared.reason.Reason.{Reason}
 use Rattle.offer_fields.specs.Limits.{check_range}
 use Rattle.offer_fields.specs.Lists.{collected_results}
 use Rattle.offer_fields.proofs.Chains.{went, each_all}
-use Rattle.offer_moves.specs.Kept.{CanStand, IsMade}
+use Rattle.offer_moves.specs.Kept.{CanStand, IsMadeMove}
 use Rattle.offer_moves.specs.Moves.{deal_sizes, parse_move}
 use Rattle.offer_moves.specs.declared.raw.RawMove.{RawMove}
 use Rattle.offer_moves.proofs.Made.{move_made}
@@ -139,8 +139,8 @@ all_made line purpose raw n h is e = λ d seeds w sizes many.
     let same : deal_sizes d ≡ header_sizes raw
     = sizes ∙ (ap₂ (λ (a l : ℕ). sized a l h.version) arcs leaders ∙ ap (sized (length raw.arcs) (length raw.leaders)) version) in
     let own : map (λ (a : Acting). a.role) o.acting ≡ h.roles = ap (λ (x : Header). x.roles) o.same in
-    subst (λ (rs : List Role). All (λ (r : Role). All (IsMade d seeds line) (role_script r)) rs) own
-    (parties_keep (IsMade d seeds line) (header_sizes raw) n.names line
+    subst (λ (rs : List Role). All (λ (r : Role). All (IsMadeMove d seeds line) (role_script r)) rs) own
+    (parties_keep (IsMadeMove d seeds line) (header_sizes raw) n.names line
     (λ r mv g. move_made d seeds n.names line r mv w (ap (λ (ns : List (List ℕ)). length ns) names ∙ sym many)
     (subst (λ (s : Sizes). parse_move s n.names line r ≡ Ok mv) (sym same) g)) raw.version raw.parties o.acting o.acting_are)
   where

@@ -75,8 +75,8 @@ header_sizes h = record { arcs = length h.arcs; locks = length h.leaders; path =
 
 -- ---- arcs
 
-unfoldable pub stated_terms : ℕ → RawArc → Result ArcTerms Reason
-stated_terms line a = do
+unfoldable pub limited_arc_terms : ℕ → RawArc → Result ArcTerms Reason
+limited_arc_terms line a = do
   u ← check_range line (codes "amount") 1 (10 ^ 12) a.amount
   timelock ← ranged_number line (codes "timelock") 0 1000000 a.timelock
   Ok (record { amount = a.amount; timelock = timelock })
@@ -84,15 +84,15 @@ stated_terms line a = do
 unfoldable pub limited_terms : Version → ℕ → List RawArc → Result (List ArcTerms) Reason
 limited_terms version line arcs = do
   u ← check_range line (codes "arcs") 2 (most_arcs version) (length arcs)
-  collected_results (stated_terms line) arcs
+  collected_results (limited_arc_terms line) arcs
 
 abbrev pub arc_ends : Ends → ArcEnds
 arc_ends e = record { from = e.from; to = e.to }
 
 -- ---- leaders and keys
 
-unfoldable pub lock_hashlock : ℕ → RawLeader → Result (List ℕ) Reason
-lock_hashlock line l = to_digest line (codes "hashlock") l.hashlock
+unfoldable pub stated_hashlock : ℕ → RawLeader → Result (List ℕ) Reason
+stated_hashlock line l = to_digest line (codes "hashlock") l.hashlock
 
 -- what stands in the place of a hashlock or a key that isn't stated
 abbrev pub no_digest : List ℕ
@@ -104,7 +104,7 @@ no_digests leaders = map (λ l. no_digest) leaders
 
 abbrev pub read_hashlocks : (plain : Bool) → ℕ → List RawLeader → Result (List (List ℕ)) Reason
 read_hashlocks true line leaders = Ok (no_digests leaders)
-read_hashlocks false line leaders = collected_results (lock_hashlock line) leaders
+read_hashlocks false line leaders = collected_results (stated_hashlock line) leaders
 
 unfoldable pub leader_hashlocks : (plain : Bool) → ℕ → List RawLeader → Result (List (List ℕ)) Reason
 leader_hashlocks plain line leaders = do

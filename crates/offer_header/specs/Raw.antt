@@ -76,15 +76,15 @@ actor_of_word line word =
     else if bytes_eq word (codes "manual") then Ok Manual
     else Err (WrongKind line (codes "actor"))
 
-abbrev pub new_actor : ℕ → Purpose → Data → Result RawActor Reason
-new_actor line purpose d =
+abbrev pub parse_raw_actor : ℕ → Purpose → Data → Result RawActor Reason
+parse_raw_actor line purpose d =
     if is_some (as_object d) then object_actor line purpose d
     else text_member line (codes "actor") d >>= λ word. actor_of_word line word
 
 -- an actor that is absent conforms
 abbrev pub actor_or_conforming : ℕ → Purpose → Option Data → Result RawActor Reason
 actor_or_conforming line purpose None = Ok Conforming
-actor_or_conforming line purpose (Some d) = new_actor line purpose d
+actor_or_conforming line purpose (Some d) = parse_raw_actor line purpose d
 
 unfoldable pub actor_member : ℕ → Purpose → Data → Result RawActor Reason
 actor_member line purpose d = actor_or_conforming line purpose (get (codes "actor") d)
@@ -150,14 +150,14 @@ object_leader reading line d = do
   u ← only line (leader_fields (is_plain reading.purpose)) d
   Ok (record { party = party; hashlock = hashlock })
 
-unfoldable pub parse_row : ℕ → Data → Result RawRow Reason
-parse_row line d = do
+unfoldable pub parse_key_row : ℕ → Data → Result RawRow Reason
+parse_key_row line d = do
   items ← kind line (codes "keys") (as_array d)
   texts ← each (text_member line (codes "keys")) items
   Ok (record { texts = texts })
 
 abbrev pub keys_member : ℕ → (stated : Bool) → Data → Result (List RawRow) Reason
-keys_member line stated d = if stated then field_list line (codes "keys") (parse_row line) d else Ok []
+keys_member line stated d = if stated then field_list line (codes "keys") (parse_key_row line) d else Ok []
 
 -- ---- the header
 

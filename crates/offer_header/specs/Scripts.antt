@@ -9,7 +9,7 @@ use Rattle.swap_job.specs.Roles.{role_script}
 use Rattle.swap_job.specs.declared.job.Role.{Role}
 use Rattle.swap_job.specs.declared.job.Role.TheVariants.{Script}
 use Rattle.refusals.specs.declared.reason.Reason.{Reason}
-use Rattle.offer_moves.specs.Kept.{CanStand, IsMade}
+use Rattle.offer_moves.specs.Kept.{CanStand, IsMadeMove}
 use Rattle.offer_moves.specs.Moves.{deal_sizes}
 use Rattle.offer_moves.specs.Placed.{placed}
 use Rattle.offer_header.specs.declared.header.Header.{Header}
@@ -39,4 +39,4 @@ abbrev pub AreMade : ℕ → Header → Type 0
 AreMade line h =
     (d : Deal) (seeds : Seeds) → IsWellSized d
     → deal_sizes d ≡ record { arcs = length h.arcs; locks = length h.leaders; path = version_path_limit h.version }
-    → d.graph.n ≡ length h.names → All (λ r. All (IsMade d seeds line) (role_script r)) h.roles
+    → d.graph.n ≡ length h.names → All (λ r. All (IsMadeMove d seeds line) (role_script r)) h.roles

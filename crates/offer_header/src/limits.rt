@@ -6,8 +6,8 @@ ghost use Rattle.swap_job.specs.Roles.{is_conforming};
 ghost use Rattle.refusals.specs.declared.reason.Reason.{Reason};
 ghost use Rattle.offer_fields.specs.Lists.{collected_results};
 ghost use Rattle.offer_moves.specs.Moves.{parse_move};
-ghost use Rattle.offer_header.specs.Limits.{checked_seed, script_role, checked_role, parse_acting, count_parties, header_sizes, stated_terms, limited_terms, arc_ends};
-ghost use Rattle.offer_header.specs.Limits.{lock_hashlock, no_digests, read_hashlocks};
+ghost use Rattle.offer_header.specs.Limits.{checked_seed, script_role, checked_role, parse_acting, count_parties, header_sizes, limited_arc_terms, limited_terms, arc_ends};
+ghost use Rattle.offer_header.specs.Limits.{stated_hashlock, no_digests, read_hashlocks};
 ghost use Rattle.offer_header.specs.Limits.{leader_hashlocks, key_digest, party_key_row, stated_keys, read_listed_keys, derived_keys, assemble_header, limited_lists, limited_value};
 ghost use Rattle.offer_header.specs.Names.{AreEnds, AreLeaders, IsNumbered};
 
@@ -159,9 +159,9 @@ fn each_acting(
 }
 
 impl<'v> Limited<(), ArcTerms> for RawArc<'v> {
-    ghost limited_value = { λ _. stated_terms };
+    ghost limited_value = { λ _. limited_arc_terms };
 
-    #[tactic(auto, unfolding(crate::specs::Limits::stated_terms))]
+    #[tactic(auto, unfolding(crate::specs::Limits::limited_arc_terms))]
     fn limit(&self, alloc: Global, _context: (), line: u32) -> Result<ArcTerms, OfferFault> {
         check_range(alloc, line, "amount", 1, 1_000_000_000_000, self.amount)?;
         let timelock = ranged_number(alloc, line, "timelock", 0, 1_000_000, self.timelock)?;
@@ -173,9 +173,9 @@ impl<'v> Limited<(), ArcTerms> for RawArc<'v> {
 }
 
 impl<'v> Limited<(), Digest> for RawLeader<'v> {
-    ghost limited_value = { λ _. lock_hashlock };
+    ghost limited_value = { λ _. stated_hashlock };
 
-    #[tactic(auto, unfolding(crate::specs::Limits::lock_hashlock))]
+    #[tactic(auto, unfolding(crate::specs::Limits::stated_hashlock))]
     fn limit(&self, alloc: Global, _context: (), line: u32) -> Result<Digest, OfferFault> {
         parse_digest(alloc, line, "hashlock", self.hashlock.as_slice())
     }

@@ -6,7 +6,7 @@ ghost use Rattle.swap_base.specs.Fault.{Gives};
 ghost use Rattle.offer_fields.specs.Fields.{only, optional_field_text, field_text};
 ghost use Rattle.offer_header.specs.Raw.{script_actor, strategy_actor, planned_actor, object_actor, actor_of_word, actor_member, seed_member, party_fields, parse_party};
 ghost use Rattle.offer_header.specs.Raw.{timelock_member, arc_fields, read_arc, object_arc};
-ghost use Rattle.offer_header.specs.Raw.{hashlock_member, leader_fields, object_leader, parse_row};
+ghost use Rattle.offer_header.specs.Raw.{hashlock_member, leader_fields, object_leader, parse_key_row};
 
 use crate::raw::{RawActor, RawArc, RawLeader, RawParty, RawRow, Reading, is_plain};
 use offer_fields::{
@@ -285,9 +285,9 @@ impl<'v> Member<'v, Reading> for RawLeader<'v> {
 }
 
 impl<'v> Member<'v, Reading> for RawRow<'v> {
-    ghost said = { λ _. parse_row };
+    ghost said = { λ _. parse_key_row };
 
-    #[tactic(auto, unfolding(crate::specs::Raw::parse_row))]
+    #[tactic(auto, unfolding(crate::specs::Raw::parse_key_row))]
     fn read(
         alloc: Global,
         _reading: Reading,

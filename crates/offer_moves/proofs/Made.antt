@@ -23,12 +23,12 @@ use Rattle.offer_moves.specs.declared.raw.RawKey.{RawKey}
 use Rattle.offer_moves.specs.declared.raw.RawCraft.{RawCraft}
 use Rattle.offer_moves.specs.declared.raw.RawMove.{RawMove}
 use Rattle.offer_moves.specs.declared.raw.RawMove.TheVariants as raw_moves
-use Rattle.offer_moves.specs.Limits.{bounded_number, optional_most, kept, parse_locks, optional_locks, parse_sig}
+use Rattle.offer_moves.specs.Limits.{number_below_count, optional_most, kept, limited_locks, optional_locks, parse_sig}
 use Rattle.offer_moves.specs.Moves.{deal_sizes, parse_arc, optional_arc, make_publish, parse_craft, parse_replay, checked_hashkey, parse_unlock, parse_claim}
 use Rattle.offer_moves.specs.Moves.{parse_refund, parse_transfer}
 use Rattle.offer_moves.specs.Moves.{parse_wait, parse_move}
 use Rattle.offer_moves.specs.Placed.{adjacent, crafted_by_others, placed}
-use Rattle.offer_moves.specs.Kept.{AreSeeded, IsMade}
+use Rattle.offer_moves.specs.Kept.{AreSeeded, IsMadeMove}
 use Rattle.offer_fields.proofs.Chains.{went, each_length}
 use Rattle.offer_fields.proofs.Ranges.{passed, within_ok, number_within_ok}
 use Rattle.offer_moves.proofs.Parts.{number_below_ok, each_below}
@@ -48,8 +48,8 @@ optional_fits line field high (Some n) given own e l =
 kept_all : (digests : List (List ℕ)) → length digests ≤ 8 → kept digests ≡ digests
 kept_all digests few = ap (λ (b : Bool). cond b digests []) (le-leb (length digests) 8 few)
 
-locks_length : (line count : ℕ) (texts locks : List (List ℕ)) → count ≤ 8 → parse_locks line count texts ≡ Ok locks → length locks ≡ count
-unfolding parse_locks
+locks_length : (line count : ℕ) (texts locks : List (List ℕ)) → count ≤ 8 → limited_locks line count texts ≡ Ok locks → length locks ≡ count
+unfolding limited_locks
 locks_length line count texts locks few e =
     let p = went (check_range line (codes "locks") count count (length texts)) _ locks e in
     let w = within_ok line (codes "locks") count count (length texts) p.0 p.1 in
@@ -64,7 +64,7 @@ optional_length : (line count : ℕ) (o given : Option (List (List ℕ))) (own :
     → length (unwrap_or given own) ≡ count
 optional_length line count None given own few e l = let s : given ≡ None = cc e in rw s l
 optional_length line count (Some texts) given own few e l =
-    let p = went (parse_locks line count texts) _ given e in
+    let p = went (limited_locks line count texts) _ given e in
     let s : given ≡ Some p.0 = cc (p.2) in
     rw s (locks_length line count texts p.0 few p.1)
 
@@ -75,7 +75,7 @@ and_four : (a b c d : Bool) → a ≡ true → b ≡ true → c ≡ true → d �
 and_four a b c d p q r s = rw (p, q, r, s) refl
 
 publish_made : (d : Deal) (seeds : Seeds) (line n : ℕ) (t : RawTerms) (mv : Move) → IsWellSized d → make_publish (deal_sizes d) line n t ≡ Ok mv
-    → IsMade d seeds line mv
+    → IsMadeMove d seeds line mv
 unfolding make_publish
 publish_made d seeds line n t mv w e =
     let p = went (parse_arc (deal_sizes d) line (codes "arc") n) _ mv e in
@@ -88,7 +88,7 @@ publish_made d seeds line n t mv w e =
     let s : Publish p.0 q.0 r.0 b.0 k.0 m.0 l.0 ≡ mv = cc (l.2) in
     let a : p.0 < length d.graph.arcs = arc_fits d line (codes "arc") n p.0 p.1 in
     let own = stated_terms d p.0 in
-    subst (λ x. IsMade d seeds line x) s (record {
+    subst (λ x. IsMadeMove d seeds line x) s (record {
       arc = a;
       below = tt;
       names = λ u h k'. and_six _ _ _ _ _ _
@@ -110,7 +110,7 @@ record IsKey (d : Deal) (path : List ℕ) (k : RawKey) (key : Hashkey) : Type 0 
 key_fits : (d : Deal) (line : ℕ) (path : List ℕ) (k : RawKey) (key : Hashkey) → checked_hashkey (deal_sizes d) line path k ≡ Ok key → IsKey d path k key
 unfolding checked_hashkey
 key_fits d line path k key e =
-    let p = went (bounded_number line (codes "lock") (length d.leaders) k.lock) _ key e in
+    let p = went (number_below_count line (codes "lock") (length d.leaders) k.lock) _ key e in
     let q = went (to_digest line (codes "secret") k.secret) _ key p.2 in
     let r = went (check_range line (codes "path") 0 (path_limit d) (length k.path)) _ key q.2 in
     let b = went (check_range line (codes "sigs") 0 (path_limit d) (length k.sigs)) _ key r.2 in
@@ -128,7 +128,7 @@ key_fits d line path k key e =
 
 unlock_made : (d : Deal) (seeds : Seeds) (names : List (List ℕ)) (line n : ℕ) (k : RawKey) (mv : Move) → length names ≡ d.graph.n
     → parse_unlock (deal_sizes d) names line n k ≡ Ok mv
-    → IsMade d seeds line mv
+    → IsMadeMove d seeds line mv
 unfolding parse_unlock
 unlock_made d seeds names line n k mv same e =
     let p = went (collected_results (party_of_name line names) k.path) _ mv e in
@@ -138,7 +138,7 @@ unlock_made d seeds names line n k mv same e =
     let key = key_fits d line p.0 k r.0 r.1 in
     let len = each_length (party_of_name line names) k.path p.0 p.1 in
     let all = each_below line d.graph.n names k.path p.0 same p.1 in
-    subst (λ x. IsMade d seeds line x) s (record {
+    subst (λ x. IsMadeMove d seeds line x) s (record {
       arc = arc_fits d line (codes "arc") n q.0 q.1;
       below = tt;
       names = λ u h k'. and_four _ _ _ _
@@ -156,19 +156,19 @@ optional_arc_fits d line field (Some n) given e =
     subst (IsArc d) (sym s) (arc_fits d line field n p.0 p.1)
 
 craft_made : (d : Deal) (seeds : Seeds) (names : List (List ℕ)) (line n : ℕ) (k : RawCraft) (mv : Move) → length names ≡ d.graph.n
-    → parse_craft (deal_sizes d) names line n k ≡ Ok mv → IsMade d seeds line mv
+    → parse_craft (deal_sizes d) names line n k ≡ Ok mv → IsMadeMove d seeds line mv
 unfolding parse_craft
 craft_made d seeds names line n k mv same e =
     let p = went (collected_results (party_of_name line names) k.via) _ mv e in
     let q = went (parse_arc (deal_sizes d) line (codes "arc") n) _ mv p.2 in
-    let l = went (bounded_number line (codes "lock") (length d.leaders) k.lock) _ mv q.2 in
+    let l = went (number_below_count line (codes "lock") (length d.leaders) k.lock) _ mv q.2 in
     let w = went (check_range line (codes "via") 1 (path_limit d) (length k.via)) _ mv l.2 in
     let o = went (optional_arc (deal_sizes d) line (codes "onto") k.onto) _ mv w.2 in
     let s : Craft q.0 l.0 p.0 o.0 ≡ mv = cc (o.2) in
     let len = each_length (party_of_name line names) k.via p.0 p.1 in
     let many = within_ok line (codes "via") 1 (path_limit d) (length k.via) w.0 w.1 in
     let all = each_below line d.graph.n names k.via p.0 same p.1 in
-    subst (λ x. IsMade d seeds line x) s (record {
+    subst (λ x. IsMadeMove d seeds line x) s (record {
       arc = arc_fits d line (codes "arc") n q.0 q.1;
       below = all;
       names = λ u h r. (
@@ -178,32 +178,32 @@ craft_made d seeds names line n k mv same e =
       );
     })
 
-replay_made : (d : Deal) (seeds : Seeds) (line n m k : ℕ) (mv : Move) → parse_replay (deal_sizes d) line n m k ≡ Ok mv → IsMade d seeds line mv
+replay_made : (d : Deal) (seeds : Seeds) (line n m k : ℕ) (mv : Move) → parse_replay (deal_sizes d) line n m k ≡ Ok mv → IsMadeMove d seeds line mv
 unfolding parse_replay
 replay_made d seeds line n m k mv e =
     let p = went (parse_arc (deal_sizes d) line (codes "arc") n) _ mv e in
-    let q = went (bounded_number line (codes "lock") (length d.leaders) m) _ mv p.2 in
+    let q = went (number_below_count line (codes "lock") (length d.leaders) m) _ mv p.2 in
     let r = went (parse_arc (deal_sizes d) line (codes "onto") k) _ mv q.2 in
     let s : Replay p.0 q.0 r.0 ≡ mv = cc (r.2) in
-    subst (λ x. IsMade d seeds line x) s (record {
+    subst (λ x. IsMadeMove d seeds line x) s (record {
       arc = arc_fits d line (codes "arc") n p.0 p.1;
       below = tt;
       names = λ u h y. (number_below_ok line (codes "lock") (length d.leaders) m q.0 q.1, arc_fits d line (codes "onto") k r.0 r.1);
     })
 
-claim_made : (d : Deal) (seeds : Seeds) (line n : ℕ) (mv : Move) → parse_claim (deal_sizes d) line n ≡ Ok mv → IsMade d seeds line mv
+claim_made : (d : Deal) (seeds : Seeds) (line n : ℕ) (mv : Move) → parse_claim (deal_sizes d) line n ≡ Ok mv → IsMadeMove d seeds line mv
 unfolding parse_claim
 claim_made d seeds line n mv e =
     let p = went (parse_arc (deal_sizes d) line (codes "arc") n) _ mv e in
     let s : Claim p.0 ≡ mv = cc (p.2) in
-    subst (λ x. IsMade d seeds line x) s (record { arc = arc_fits d line (codes "arc") n p.0 p.1; below = tt; names = λ u h k. refl })
+    subst (λ x. IsMadeMove d seeds line x) s (record { arc = arc_fits d line (codes "arc") n p.0 p.1; below = tt; names = λ u h k. refl })
 
-refund_made : (d : Deal) (seeds : Seeds) (line n : ℕ) (mv : Move) → parse_refund (deal_sizes d) line n ≡ Ok mv → IsMade d seeds line mv
+refund_made : (d : Deal) (seeds : Seeds) (line n : ℕ) (mv : Move) → parse_refund (deal_sizes d) line n ≡ Ok mv → IsMadeMove d seeds line mv
 unfolding parse_refund
 refund_made d seeds line n mv e =
     let p = went (parse_arc (deal_sizes d) line (codes "arc") n) _ mv e in
     let s : Refund p.0 ≡ mv = cc (p.2) in
-    subst (λ x. IsMade d seeds line x) s (record { arc = arc_fits d line (codes "arc") n p.0 p.1; below = tt; names = λ u h k. refl })
+    subst (λ x. IsMadeMove d seeds line x) s (record { arc = arc_fits d line (codes "arc") n p.0 p.1; below = tt; names = λ u h k. refl })
 
 pub adjacent_fits : (d : Deal) (line p a : ℕ) (u : Unit {0}) → adjacent d.graph.arcs line p a ≡ Ok u → ((p == party d a) || (p == counterparty d a)) ≡ true
 unfolding adjacent
@@ -211,29 +211,29 @@ adjacent_fits d line p a u e = (passed ((p == party d a) || (p == counterparty d
 
 transfer_made : (d : Deal) (seeds : Seeds) (names : List (List ℕ)) (line n : ℕ) (name : List ℕ) (amount : ℕ) (mv : Move)
     → parse_transfer (deal_sizes d) names line n name amount ≡ Ok mv
-    → IsMade d seeds line mv
+    → IsMadeMove d seeds line mv
 unfolding parse_transfer
 transfer_made d seeds names line n name amount mv e =
     let p = went (party_of_name line names name) _ mv e in
     let q = went (parse_arc (deal_sizes d) line (codes "arc") n) _ mv p.2 in
     let r = went (ranged_number line (codes "units") 0 1000000000000 amount) _ mv q.2 in
     let s : Transfer q.0 p.0 r.0 ≡ mv = cc (r.2) in
-    subst (λ x. IsMade d seeds line x) s (record {
+    subst (λ x. IsMadeMove d seeds line x) s (record {
       arc = arc_fits d line (codes "arc") n q.0 q.1;
       below = tt;
       names = λ u h k'. and_both _ _ (adjacent_fits d line p.0 q.0 u h) (le-leb _ _ (number_within_ok line (codes "units") 0 1000000000000 amount r.0 r.1).1);
     })
 
-wait_made : (d : Deal) (seeds : Seeds) (line n height : ℕ) (mv : Move) → parse_wait (deal_sizes d) line n height ≡ Ok mv → IsMade d seeds line mv
+wait_made : (d : Deal) (seeds : Seeds) (line n height : ℕ) (mv : Move) → parse_wait (deal_sizes d) line n height ≡ Ok mv → IsMadeMove d seeds line mv
 unfolding parse_wait
 wait_made d seeds line n height mv e =
     let p = went (parse_arc (deal_sizes d) line (codes "arc") n) _ mv e in
     let q = went (ranged_number line (codes "height") 0 1000000 height) _ mv p.2 in
     let s : Wait p.0 q.0 ≡ mv = cc (q.2) in
-    subst (λ x. IsMade d seeds line x) s (record { arc = arc_fits d line (codes "arc") n p.0 p.1; below = tt; names = λ u h k. refl })
+    subst (λ x. IsMadeMove d seeds line x) s (record { arc = arc_fits d line (codes "arc") n p.0 p.1; below = tt; names = λ u h k. refl })
 
 pub move_made : (d : Deal) (seeds : Seeds) (names : List (List ℕ)) (line : ℕ) (raw : RawMove) (mv : Move) → IsWellSized d → length names ≡ d.graph.n
-    → parse_move (deal_sizes d) names line raw ≡ Ok mv → IsMade d seeds line mv
+    → parse_move (deal_sizes d) names line raw ≡ Ok mv → IsMadeMove d seeds line mv
 move_made d seeds names line (raw_moves.Publish n t) mv w same e = publish_made d seeds line n t mv w e
 move_made d seeds names line (raw_moves.Craft n k) mv w same e = craft_made d seeds names line n k mv same e
 move_made d seeds names line (raw_moves.Replay n lock onto) mv w same e = replay_made d seeds line n lock onto mv e
@@ -244,7 +244,7 @@ move_made d seeds names line (raw_moves.Transfer n to units) mv w same e = trans
 move_made d seeds names line (raw_moves.Wait n height) mv w same e = wait_made d seeds line n height mv e
 
 -- what is placed stands on an arc of its party, and who gets units is one of its two
-pub placed_fits : (d : Deal) (conforming : List Bool) (seeds : Seeds) (line p : ℕ) (mv : Move) (u : Unit {0}) → IsMade d seeds line mv → AreSeeded seeds mv
+pub placed_fits : (d : Deal) (conforming : List Bool) (seeds : Seeds) (line p : ℕ) (mv : Move) (u : Unit {0}) → IsMadeMove d seeds line mv → AreSeeded seeds mv
     → placed d.graph.arcs conforming line p mv ≡ Ok u
     → IsFitting d seeds mv × IsTrue ((p == party d (move_arc mv)) || (p == counterparty d (move_arc mv)))
 unfolding placed

@@ -9,10 +9,10 @@ use Rattle.offer_fields.specs.Lists.{collected_results}
 use Rattle.offer_fields.specs.Names.{party_of_name}
 use Rattle.offer_fields.proofs.Chains.{went}
 use Rattle.offer_fields.proofs.Ranges.{passed, party_below}
-use Rattle.offer_moves.specs.Limits.{bounded_number}
+use Rattle.offer_moves.specs.Limits.{number_below_count}
 
-pub number_below_ok : (line : ℕ) (field : List ℕ) (count n m : ℕ) → bounded_number line field count n ≡ Ok m → m < count
-unfolding bounded_number
+pub number_below_ok : (line : ℕ) (field : List ℕ) (count n m : ℕ) → number_below_count line field count n ≡ Ok m → m < count
+unfolding number_below_count
 number_below_ok line field count n m e =
     let p = passed (nat_lt n count) (n % 256) m (OverLimit line field n) e in
     let b : n < count = ltb-true n count p.0 in

@@ -11,7 +11,7 @@ use Rattle.offer_moves.specs.declared.raw.RawKey.{RawKey}
 use Rattle.offer_moves.specs.declared.raw.RawCraft.{RawCraft}
 use Rattle.offer_moves.specs.declared.raw.RawMove.{RawMove}
 use Rattle.offer_moves.specs.declared.raw.RawMove.TheVariants as raw_moves
-use Rattle.offer_moves.specs.Limits.{bounded_number, optional_most, optional_locks}
+use Rattle.offer_moves.specs.Limits.{number_below_count, optional_most, optional_locks}
 use Rattle.offer_moves.specs.Moves.{parse_arc, optional_arc, make_publish, parse_craft, parse_replay, checked_hashkey, parse_unlock, parse_claim, parse_refund}
 use Rattle.offer_moves.specs.Moves.{parse_transfer, parse_wait}
 use Rattle.offer_moves.specs.Moves.{parse_move}
@@ -42,7 +42,7 @@ unfolding parse_craft
 craft_stands s names line n k mv e =
     let p = went (collected_results (party_of_name line names) k.via) _ mv e in
     let q = went (parse_arc s line (codes "arc") n) _ mv p.2 in
-    let l = went (bounded_number line (codes "lock") s.locks k.lock) _ mv q.2 in
+    let l = went (number_below_count line (codes "lock") s.locks k.lock) _ mv q.2 in
     let w = went (check_range line (codes "via") 1 s.path (length k.via)) _ mv l.2 in
     let o = went (optional_arc s line (codes "onto") k.onto) _ mv w.2 in
     let is : Craft q.0 l.0 p.0 o.0 ≡ mv = cc (o.2) in
@@ -55,7 +55,7 @@ replay_stands : (s : Sizes) (m line n lock onto : ℕ) (mv : Move) → parse_rep
 unfolding parse_replay
 replay_stands s m line n lock onto mv e =
     let p = went (parse_arc s line (codes "arc") n) _ mv e in
-    let q = went (bounded_number line (codes "lock") s.locks lock) _ mv p.2 in
+    let q = went (number_below_count line (codes "lock") s.locks lock) _ mv p.2 in
     let r = went (parse_arc s line (codes "onto") onto) _ mv q.2 in
     let is : Replay p.0 q.0 r.0 ≡ mv = cc (r.2) in
     subst (CanStand s.arcs m) is (record { arc = arc_below s line (codes "arc") n p.0 p.1; crafters = tt })

@@ -25,7 +25,7 @@ AreSeeded seeds (Craft a lock via onto) = IsTrue (list_all (λ v. is_some (slice
 AreSeeded seeds _ = Unit {0}
 
 -- what a move keeps to before it is known where it stands
-pub record IsMade (d : Deal) (seeds : Seeds) (line : ℕ) (mv : Move) : Type 0 where
+pub record IsMadeMove (d : Deal) (seeds : Seeds) (line : ℕ) (mv : Move) : Type 0 where
   pub arc : move_arc mv < length d.graph.arcs
   pub below : AreBoundedCrafters d.graph.n mv
   pub names : (u : Unit {0}) → received d.graph.arcs line mv ≡ Ok u → AreSeeded seeds mv → NamesFitting d seeds mv

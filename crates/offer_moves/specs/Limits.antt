@@ -11,8 +11,8 @@ use Rattle.offer_fields.specs.Lists.{collected_results}
 
 -- a number that is below a count, kept in a byte: where the count is above 256, the header is
 -- refused for that
-unfoldable pub bounded_number : ℕ → List ℕ → ℕ → ℕ → Result ℕ Reason
-bounded_number line field count n = if nat_lt n count then Ok (n % 256) else Err (OverLimit line field n)
+unfoldable pub number_below_count : ℕ → List ℕ → ℕ → ℕ → Result ℕ Reason
+number_below_count line field count n = if nat_lt n count then Ok (n % 256) else Err (OverLimit line field n)
 
 abbrev pub optional_most : ℕ → List ℕ → ℕ → Option ℕ → Result (Option ℕ) Reason
 optional_most line field high None = Ok None
@@ -26,8 +26,8 @@ abbrev pub kept : List (List ℕ) → List (List ℕ)
 kept digests = if nat_le (length digests) 8 then digests else []
 
 -- one digest for each lock
-unfoldable pub parse_locks : ℕ → ℕ → List (List ℕ) → Result (List (List ℕ)) Reason
-parse_locks line count texts = do
+unfoldable pub limited_locks : ℕ → ℕ → List (List ℕ) → Result (List (List ℕ)) Reason
+limited_locks line count texts = do
   u ← check_range line (codes "locks") count count (length texts)
   digests ← collected_results (to_digest line (codes "locks")) texts
   Ok (kept digests)
@@ -35,7 +35,7 @@ parse_locks line count texts = do
 abbrev pub optional_locks : ℕ → ℕ → Option (List (List ℕ)) → Result (Option (List (List ℕ))) Reason
 optional_locks line count None = Ok None
 optional_locks line count (Some texts) = do
-  locks ← parse_locks line count texts
+  locks ← limited_locks line count texts
   Ok (Some locks)
 
 -- a signature, whose 2,144 bytes are its values in order

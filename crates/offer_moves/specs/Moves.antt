@@ -17,7 +17,7 @@ use Rattle.offer_moves.specs.declared.raw.RawKey.{RawKey}
 use Rattle.offer_moves.specs.declared.raw.RawCraft.{RawCraft}
 use Rattle.offer_moves.specs.declared.raw.RawMove.{RawMove}
 use Rattle.offer_moves.specs.declared.raw.RawMove.TheVariants as raws
-use Rattle.offer_moves.specs.Limits.{bounded_number, optional_most, optional_locks, parse_sig}
+use Rattle.offer_moves.specs.Limits.{number_below_count, optional_most, optional_locks, parse_sig}
 
 -- how many arcs and locks a deal has, and the most vertices of a path
 abbrev pub deal_sizes : Deal → Sizes
@@ -25,7 +25,7 @@ deal_sizes d = record { arcs = length d.graph.arcs; locks = length d.leaders; pa
 
 -- the arc of that number
 unfoldable pub parse_arc : Sizes → ℕ → List ℕ → ℕ → Result ℕ Reason
-parse_arc s line field n = bounded_number line field s.arcs n
+parse_arc s line field n = number_below_count line field s.arcs n
 
 unfoldable pub make_publish : Sizes → ℕ → ℕ → RawTerms → Result Move Reason
 make_publish s line n t = do
@@ -49,7 +49,7 @@ unfoldable pub parse_craft : Sizes → List (List ℕ) → ℕ → ℕ → RawCr
 parse_craft s names line n k = do
   via ← collected_results (party_of_name line names) k.via
   arc ← parse_arc s line (codes "arc") n
-  lock ← bounded_number line (codes "lock") s.locks k.lock
+  lock ← number_below_count line (codes "lock") s.locks k.lock
   u ← check_range line (codes "via") 1 s.path (length k.via)
   onto ← optional_arc s line (codes "onto") k.onto
   Ok (Craft arc lock via onto)
@@ -57,13 +57,13 @@ parse_craft s names line n k = do
 unfoldable pub parse_replay : Sizes → ℕ → ℕ → ℕ → ℕ → Result Move Reason
 parse_replay s line n m k = do
   arc ← parse_arc s line (codes "arc") n
-  lock ← bounded_number line (codes "lock") s.locks m
+  lock ← number_below_count line (codes "lock") s.locks m
   onto ← parse_arc s line (codes "onto") k
   Ok (Replay arc lock onto)
 
 unfoldable pub checked_hashkey : Sizes → ℕ → List ℕ → RawKey → Result Hashkey Reason
 checked_hashkey s line path k = do
-  lock ← bounded_number line (codes "lock") s.locks k.lock
+  lock ← number_below_count line (codes "lock") s.locks k.lock
   secret ← to_digest line (codes "secret") k.secret
   u ← check_range line (codes "path") 0 s.path (length k.path)
   w ← check_range line (codes "sigs") 0 s.path (length k.sigs)

@@ -37,8 +37,8 @@ unfoldable pub field_texts : ℕ → List ℕ → Data → Result (List (List �
 field_texts line field d = field_list line field (text_member line field) d
 
 -- a wait is a move in a script alone
-abbrev pub parse_wait : ℕ → (scripted : Bool) → List ℕ → Result MoveKind Reason
-parse_wait line scripted word = if scripted && bytes_eq word (codes "wait") then Ok kinds.Wait else Err (WrongKind line (codes "do"))
+abbrev pub wait_move_kind : ℕ → (scripted : Bool) → List ℕ → Result MoveKind Reason
+wait_move_kind line scripted word = if scripted && bytes_eq word (codes "wait") then Ok kinds.Wait else Err (WrongKind line (codes "do"))
 
 -- the move that a word asks for
 abbrev pub word_move_kind : ℕ → (scripted : Bool) → List ℕ → Result MoveKind Reason
@@ -50,7 +50,7 @@ word_move_kind line scripted word =
     else if bytes_eq word (codes "transfer") then Ok kinds.Transfer
     else if bytes_eq word (codes "craft") then Ok kinds.Craft
     else if bytes_eq word (codes "replay") then Ok kinds.Replay
-    else parse_wait line scripted word
+    else wait_move_kind line scripted word
 
 unfoldable pub move_kind : ℕ → (scripted : Bool) → Data → Result MoveKind Reason
 move_kind line scripted d = do

@@ -4,7 +4,7 @@ ghost use Rattle.std.specs.Prelude.{◌≡◌, ◌<◌, ◌^◌, codes};
 ghost use Rattle.swap_base.specs.Fault.{Gives};
 ghost use Rattle.offer_fields.specs.Limits.{to_digest, ranged_number};
 ghost use Rattle.offer_fields.specs.Lists.{collected_results};
-ghost use Rattle.offer_moves.specs.Limits.{bounded_number, optional_most, kept, parse_locks, optional_locks, parse_sig};
+ghost use Rattle.offer_moves.specs.Limits.{number_below_count, optional_most, kept, limited_locks, optional_locks, parse_sig};
 
 use escrow_core::LockList;
 use hash_signature::Sig;
@@ -16,15 +16,15 @@ use std::alloc::Global;
 use swap_base::{Digest, Listed};
 
 /// A number that is below a count, kept in a byte.
-#[tactic(auto, unfolding(crate::specs::Limits::bounded_number))]
-pub fn bounded_number(
+#[tactic(auto, unfolding(crate::specs::Limits::number_below_count))]
+pub fn number_below_count(
     alloc: Global,
     line: u32,
     field: &str,
     count: usize,
     number: u64,
 ) -> Result<u8, OfferFault>
-    ensures { Gives (λ n. n) result (bounded_number line field.now count number) }
+    ensures { Gives (λ n. n) result (number_below_count line field.now count number) }
 {
     if number < count as u64 {
         return Ok((number % 256) as u8);
@@ -97,14 +97,14 @@ fn kept(digests: &[Digest]) -> LockList
 }
 
 /// One digest for each lock.
-#[tactic(auto, unfolding(crate::specs::Limits::parse_locks))]
-fn parse_locks(
+#[tactic(auto, unfolding(crate::specs::Limits::limited_locks))]
+fn limited_locks(
     alloc: Global,
     line: u32,
     count: usize,
     texts: &[TextRef<'_>],
 ) -> Result<LockList, OfferFault>
-    ensures { Gives (λ l. l) result (parse_locks line count texts.now) }
+    ensures { Gives (λ l. l) result (limited_locks line count texts.now) }
 {
     let count = count as u64;
     check_range(alloc, line, "locks", count, count, texts.len() as u64)?;
@@ -123,7 +123,7 @@ pub fn optional_locks(
 {
     match texts {
         None => Ok(None),
-        Some(texts) => Ok(Some(parse_locks(alloc, line, count, texts.as_slice())?)),
+        Some(texts) => Ok(Some(limited_locks(alloc, line, count, texts.as_slice())?)),
     }
 }
 

@@ -6,7 +6,7 @@ ghost use Rattle.offer_moves.specs.Moves.{parse_arc, optional_arc, make_publish,
 ghost use Rattle.offer_moves.specs.Moves.{deal_sizes, parse_wait, parse_move};
 
 use crate::limits::{
-    bounded_number, optional_locks, optional_most, optional_units, parse_sigs, units,
+    number_below_count, optional_locks, optional_most, optional_units, parse_sigs, units,
 };
 use crate::names::path_numbers;
 use crate::raw::{RawCraft, RawKey, RawMove, RawTerms};
@@ -49,7 +49,7 @@ pub fn parse_arc(
 ) -> Result<ArcId, OfferFault>
     ensures { Gives (λ a. a) result (parse_arc sizes line field.now number) }
 {
-    bounded_number(alloc, line, field, sizes.arcs, number)
+    number_below_count(alloc, line, field, sizes.arcs, number)
 }
 
 #[tactic(auto, unfolding(crate::specs::Moves::make_publish))]
@@ -110,7 +110,7 @@ fn parse_craft(
 {
     let via = path_numbers(alloc, line, names, craft.via.as_slice())?;
     let arc = parse_arc(alloc, sizes, line, "arc", number)?;
-    let lock = bounded_number(alloc, line, "lock", sizes.locks, craft.lock)?;
+    let lock = number_below_count(alloc, line, "lock", sizes.locks, craft.lock)?;
     check_range(alloc, line, "via", 1, sizes.path, craft.via.len() as u64)?;
     let onto = optional_arc(alloc, sizes, line, "onto", craft.onto)?;
     Ok(Move::Craft {
@@ -133,7 +133,7 @@ fn parse_replay(
     ensures { Gives (λ m. m) result (parse_replay sizes line number lock onto) }
 {
     let arc = parse_arc(alloc, sizes, line, "arc", number)?;
-    let lock = bounded_number(alloc, line, "lock", sizes.locks, lock)?;
+    let lock = number_below_count(alloc, line, "lock", sizes.locks, lock)?;
     let onto = parse_arc(alloc, sizes, line, "onto", onto)?;
     Ok(Move::Replay { arc, lock, onto })
 }
@@ -148,7 +148,7 @@ fn checked_hashkey(
 ) -> Result<Hashkey, OfferFault>
     ensures { Gives (λ k. k) result (checked_hashkey sizes line path key.now) }
 {
-    let lock = bounded_number(alloc, line, "lock", sizes.locks, key.lock)?;
+    let lock = number_below_count(alloc, line, "lock", sizes.locks, key.lock)?;
     let secret = parse_digest(alloc, line, "secret", key.secret.as_slice())?;
     check_range(alloc, line, "path", 0, sizes.path, key.path.len() as u64)?;
     check_range(alloc, line, "sigs", 0, sizes.path, key.sigs.len() as u64)?;

@@ -6,7 +6,7 @@ ghost use Rattle.swap_base.specs.Fault.{Gives};
 ghost use Rattle.offer_fields.specs.Fields.{only};
 ghost use Rattle.offer_moves.specs.Reading.{list_texts, optional_field_texts, field_texts, word_move_kind, move_kind, raw_publish_terms, publish_fields, raw_publish_move, raw_hashkey};
 ghost use Rattle.offer_moves.specs.Reading.{raw_fields, raw_unlock_move, raw_claim_move, raw_refund_move, raw_transfer_move, raw_move_of_kind, stated_raw_move, raw_crafting, raw_craft_move, raw_replay_move};
-ghost use Rattle.offer_moves.specs.Reading.{script_move, parse_wait, raw_wait_move};
+ghost use Rattle.offer_moves.specs.Reading.{script_move, wait_move_kind, raw_wait_move};
 
 use crate::raw::{MoveKind, RawCraft, RawKey, RawMove, RawTerms};
 use offer_fields::{
@@ -65,8 +65,13 @@ fn read_texts<'v>(
 }
 
 /// What a word asks for that no other move is: a wait, in a script.
-fn parse_wait(alloc: Global, line: u32, scripted: bool, word: &str) -> Result<MoveKind, OfferFault>
-    ensures { Gives (λ k. k) result (parse_wait line scripted word.now) }
+fn wait_move_kind(
+    alloc: Global,
+    line: u32,
+    scripted: bool,
+    word: &str,
+) -> Result<MoveKind, OfferFault>
+    ensures { Gives (λ k. k) result (wait_move_kind line scripted word.now) }
 {
     if scripted && word == "wait" {
         return Ok(MoveKind::Wait);
@@ -90,7 +95,7 @@ fn word_move_kind(
         "transfer" => Ok(MoveKind::Transfer),
         "craft" => Ok(MoveKind::Craft),
         "replay" => Ok(MoveKind::Replay),
-        _ => parse_wait(alloc, line, scripted, word),
+        _ => wait_move_kind(alloc, line, scripted, word),
     }
 }
 

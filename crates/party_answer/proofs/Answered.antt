@@ -28,7 +28,7 @@ use Rattle.party_wallet.specs.Keys.{own_key, onto_key}
 use Rattle.party_machine.specs.Wallet.{seed_wallet}
 use Rattle.answer_rules.specs.Heights.{HasHeight}
 use Rattle.answer_rules.specs.Finished.{are_finished, ContinuesWithoutParty}
-use Rattle.answer_rules.specs.Stopped.{is_stopped}
+use Rattle.answer_rules.specs.Stopped.{is_stopped_call}
 use Rattle.answer_rules.specs.Laws.{AreGoodKeys, SignsItsLock}
 use Rattle.answer_rules.proofs.OnTime.{useful_has_height}
 use Rattle.answer_rules.proofs.Until.{unlocks_have_last}
@@ -38,11 +38,11 @@ use Rattle.answer_rules.proofs.Parts.{nothing_in}
 use Rattle.party_answer.specs.declared.timed.Timed.{Timed}
 use Rattle.party_answer.specs.declared.given.Answer.{Answer}
 use Rattle.party_answer.specs.declared.reason.AnswerReason.{AnswerReason}
-use Rattle.party_answer.specs.Asked.{Question, known}
+use Rattle.party_answer.specs.Asked.{PartyQuestion, known}
 use Rattle.party_answer.specs.Unkept.{is_lock_unkept}
 use Rattle.party_answer.specs.Lines.{untimed, Line, Present, KeepFirst, Landing}
 use Rattle.party_answer.specs.Text.{answerable, answered, answered_calls, due_text, kept_keys, lines, own_wallet, question_answer, unkept, useful_actions, was_published}
-use Rattle.party_answer.specs.Promised.{MayBeMade, MayBeKept, CanOnlyHurt, IsLockUnkept, IsLeftOut, IsAtRest, HasLastHeight, own_timed, IsPromisedAnswer}
+use Rattle.party_answer.specs.Promised.{MayBeMade, MayBeKept, CanOnlyHurt, IsLockUnkept, IsLeftOutAction, IsWithinRest, HasLastHeight, own_timed, IsPromisedAnswer}
 use Rattle.party_answer.proofs.Members.{from_map, Parts, ToPresent, ToKeep, ToLand, parts, from_lines, to_present, to_keep, never_empty}
 
 -- A seed signs for the lock that it is asked for.
@@ -63,36 +63,36 @@ pub seed_signs : (d : Deal) (v : ℕ) (seed : List ℕ) → SignsItsLock (seed_w
 seed_signs d v seed = record { own = own_lock d.mode d v seed; onto = onto_lock d.mode d v seed; longer = longer d.mode d v seed }
 
 -- What holds of a question that is answered.
-pub record IsSound (q : Question) : Type 0 where
+pub record IsSound (q : PartyQuestion) : Type 0 where
   pub accepted : IsAccepted q.deal
   pub party : q.me < q.deal.graph.n
   pub wallet : IsWallet q.deal q.me (own_wallet q)
   pub legal : IsLegalBook q.deal (known q)
   pub good : AreGoodKeys q.deal q.me (kept_keys q)
 
-stays_low : (d : Deal) (v : ℕ) (k : Histories) (a : ℕ) (more : List Entry) → IsAtRest (rest_deadline d v k) (height (history k a ++ more))
+stays_low : (d : Deal) (v : ℕ) (k : Histories) (a : ℕ) (more : List Entry) → IsWithinRest (rest_deadline d v k) (height (history k a ++ more))
     → StaysLow d v k a more
 stays_low d v k a more low i waits =
     let b = rests_below d v k a i waits in
-    let le : height (history k a ++ more) ≤ b.0 = subst (λ (o : Option ℕ). IsAtRest o (height (history k a ++ more))) b.1 low in
+    let le : height (history k a ++ more) ≤ b.0 = subst (λ (o : Option ℕ). IsWithinRest o (height (history k a ++ more))) b.1 low in
     omega (arith, le, b.2)
 
 not_true : (b : Bool) → not b ≡ true → b ≡ false
 not_true true e = absurd (false≢true e)
 not_true false e = refl
 
-module _ (q : Question) (sound : IsSound q) where
+module _ (q : PartyQuestion) (sound : IsSound q) where
   signs : SignsItsLock (own_wallet q)
   signs = seed_signs q.deal q.me q.seed
 
   -- a call of the answer is useful, and isn't stopped
-  from_answered : (x : Action) → IsElement x (answered q) → IsElement x (useful_actions q (known q)) × (is_stopped (is_lock_unkept (unkept q)) x.call ≡ false)
+  from_answered : (x : Action) → IsElement x (answered q) → IsElement x (useful_actions q (known q)) × (is_stopped_call (is_lock_unkept (unkept q)) x.call ≡ false)
   from_answered x i =
-      let f = from_filter (λ y. not (is_stopped (is_lock_unkept (unkept q)) y.call)) x (useful_actions q (known q)) i in
-      (f.0, not_true (is_stopped (is_lock_unkept (unkept q)) x.call) f.1)
+      let f = from_filter (λ y. not (is_stopped_call (is_lock_unkept (unkept q)) y.call)) x (useful_actions q (known q)) i in
+      (f.0, not_true (is_stopped_call (is_lock_unkept (unkept q)) x.call) f.1)
 
-  to_answered : (x : Action) → IsElement x (useful_actions q (known q)) → is_stopped (is_lock_unkept (unkept q)) x.call ≡ false → IsElement x (answered q)
-  to_answered x i s = in_filter (λ y. not (is_stopped (is_lock_unkept (unkept q)) y.call)) x (useful_actions q (known q)) i (ap not s)
+  to_answered : (x : Action) → IsElement x (useful_actions q (known q)) → is_stopped_call (is_lock_unkept (unkept q)) x.call ≡ false → IsElement x (answered q)
+  to_answered x i s = in_filter (λ y. not (is_stopped_call (is_lock_unkept (unkept q)) y.call)) x (useful_actions q (known q)) i (ap not s)
 
   -- with its heights
   from_calls : (t : Timed) → IsElement t (answered_calls q) → (x : Action) × IsElement x (answered q) × (own_timed q x ≡ t)
@@ -161,36 +161,36 @@ module _ (q : Question) (sound : IsSound q) where
 
   -- ---- nothing is left out
 
-  stopped_or : (x : Action) → IsElement x (useful_actions q (known q)) → (b : Bool) → is_stopped (is_lock_unkept (unkept q)) x.call ≡ b
+  stopped_or : (x : Action) → IsElement x (useful_actions q (known q)) → (b : Bool) → is_stopped_call (is_lock_unkept (unkept q)) x.call ≡ b
       → IsElement x (answered q) ⊎ IsLockUnkept q x
   stopped_or x i true e = inr e
   stopped_or x i false e = inl (to_answered x i e)
 
-  answered_or : (x : Action) → IsElement x (due q.deal q.me (own_wallet q) (kept_keys q) (known q)) → IsElement x (answered q) ⊎ IsLeftOut q x
+  answered_or : (x : Action) → IsElement x (due q.deal q.me (own_wallet q) (kept_keys q) (known q)) → IsElement x (answered q) ⊎ IsLeftOutAction q x
   answered_or x i = go (only_harm_is_left_out q.deal q.me (own_wallet q) (kept_keys q) (known q) x i)
     where
-      by_stop : IsElement x (answered q) ⊎ IsLockUnkept q x → IsElement x (answered q) ⊎ IsLeftOut q x
+      by_stop : IsElement x (answered q) ⊎ IsLockUnkept q x → IsElement x (answered q) ⊎ IsLeftOutAction q x
       by_stop (inl j) = inl j
       by_stop (inr s) = inr (inr s)
 
-      go : IsElement x (useful_actions q (known q)) ⊎ CanOnlyHurt q x → IsElement x (answered q) ⊎ IsLeftOut q x
-      go (inl j) = by_stop (stopped_or x j (is_stopped (is_lock_unkept (unkept q)) x.call) refl)
+      go : IsElement x (useful_actions q (known q)) ⊎ CanOnlyHurt q x → IsElement x (answered q) ⊎ IsLeftOutAction q x
+      go (inl j) = by_stop (stopped_or x j (is_stopped_call (is_lock_unkept (unkept q)) x.call) refl)
       go (inr harm) = inr (inl harm)
 
-  all_made : (x : Action) → MayBeMade q x → was_sent (was_published q) x ≡ false → IsElement (Present (own_timed q x)) (lines q) ⊎ IsLeftOut q x
+  all_made : (x : Action) → MayBeMade q x → was_sent (was_published q) x ≡ false → IsElement (Present (own_timed q x)) (lines q) ⊎ IsLeftOutAction q x
   all_made x may s = go (answered_or x (MayGo.is_due may))
     where
-      go : IsElement x (answered q) ⊎ IsLeftOut q x → IsElement (Present (own_timed q x)) (lines q) ⊎ IsLeftOut q x
+      go : IsElement x (answered q) ⊎ IsLeftOutAction q x → IsElement (Present (own_timed q x)) (lines q) ⊎ IsLeftOutAction q x
       go (inr out) = inr out
       go (inl i) =
           inl (to_present (kept_keys q) (was_published q) (answered_calls q) (own_timed q x) (to_calls x i) s (MayGo.was_kept may))
 
   each_kept : (key : Hashkey) (may : MayBeKept q key)
-      → ((t : Timed) × (other : Hashkey) × IsElement (KeepFirst t other) (lines q) × (other.lock ≡ key.lock)) ⊎ IsLeftOut q (MayKeep.unlock may)
+      → ((t : Timed) × (other : Hashkey) × IsElement (KeepFirst t other) (lines q) × (other.lock ≡ key.lock)) ⊎ IsLeftOutAction q (MayKeep.unlock may)
   each_kept key may = go (answered_or (MayKeep.unlock may) (MayKeep.is_due may))
     where
-      go : IsElement (MayKeep.unlock may) (answered q) ⊎ IsLeftOut q (MayKeep.unlock may)
-          → ((t : Timed) × (other : Hashkey) × IsElement (KeepFirst t other) (lines q) × (other.lock ≡ key.lock)) ⊎ IsLeftOut q (MayKeep.unlock may)
+      go : IsElement (MayKeep.unlock may) (answered q) ⊎ IsLeftOutAction q (MayKeep.unlock may)
+          → ((t : Timed) × (other : Hashkey) × IsElement (KeepFirst t other) (lines q) × (other.lock ≡ key.lock)) ⊎ IsLeftOutAction q (MayKeep.unlock may)
       go (inr out) = inr out
       go (inl i) =
           let unlock = kept_state (kept_keys q) (MayKeep.unlock may) key (MayKeep.asks may) in
@@ -219,12 +219,12 @@ module _ (q : Question) (sound : IsSound q) where
   stays_done : (h : Histories) → answered q ≡ [] → are_finished q.deal (known q) q.me ≡ true → IsLegalBook q.deal h → ContinuesWithoutParty q.me (known q) h
       → answerable q h ≡ []
   stays_done h none fin legal on = nothing_in (answerable q h) (λ x i.
-      let f = from_filter (λ y. not (is_stopped (is_lock_unkept (unkept q)) y.call)) x (useful_actions q h) i in
+      let f = from_filter (λ y. not (is_stopped_call (is_lock_unkept (unkept q)) y.call)) x (useful_actions q h) i in
       let before =
       finished_stays q.deal q.me (own_wallet q) (kept_keys q) (known q) h x sound.accepted sound.legal legal fin on f.0 in
-      subst (IsElement x) none (to_answered x before (not_true (is_stopped (is_lock_unkept (unkept q)) x.call) f.1)))
+      subst (IsElement x) none (to_answered x before (not_true (is_stopped_call (is_lock_unkept (unkept q)) x.call) f.1)))
 
-  pub holds : (asks : Result Question AnswerReason) (a : Answer) → asks ≡ Ok q → a ≡ question_answer q → IsPromisedAnswer asks a
+  pub holds : (asks : Result PartyQuestion AnswerReason) (a : Answer) → asks ≡ Ok q → a ≡ question_answer q → IsPromisedAnswer asks a
   unfolding due_text
   holds asks a e is = record {
     question = q;

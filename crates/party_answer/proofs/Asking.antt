@@ -22,7 +22,7 @@ use Rattle.party_machine.specs.Wallet.{seed_wallet}
 use Rattle.party_machine.proofs.Good.{fitting_is_good}
 use Rattle.told_ledgers.specs.Telling.{told_book}
 use Rattle.answer_rules.specs.Laws.{AreGoodKeys}
-use Rattle.answer_rules.specs.Stopped.{is_stopped, useful_unless_stopped}
+use Rattle.answer_rules.specs.Stopped.{is_stopped_call, useful_unless_stopped}
 use Rattle.answer_rules.proofs.Measured.{useful_is_short}
 use Rattle.answer_rules.proofs.Stopping.{unstopped_useful}
 use Rattle.party_due.specs.Actions.{is_lock_stopped}
@@ -32,9 +32,9 @@ use Rattle.party_answer.specs.declared.reason.AnswerReason.{AnswerReason}
 use Rattle.party_answer.specs.declared.reason.AnswerReason.TheVariants.{NotAgreed}
 use Rattle.party_answer.specs.declared.timed.Timed.{Timed}
 use Rattle.party_answer.specs.declared.unkept.Unkept.{Unkept}
-use Rattle.party_answer.specs.Asked.{Question, SaidState, as_agreed, asked, by_refusal, lines_said, said_asked, text_said, unless_differs}
+use Rattle.party_answer.specs.Asked.{PartyQuestion, SaidState, as_agreed, asked, by_refusal, lines_said, said_asked, text_said, unless_differs}
 use Rattle.party_answer.specs.Faults.{refusal_fault}
-use Rattle.party_answer.specs.Inside.{asked_question, calls_text, AreMeasured, IsAsked}
+use Rattle.party_answer.specs.Inside.{asked_question, calls_text, AreMeasured, IsWellAsked}
 use Rattle.party_answer.specs.Unkept.{is_lock_unkept, stopped_locks}
 use Rattle.party_answer.specs.Lines.{timed}
 use Rattle.party_answer.specs.Text.{answer_told, answered, answered_calls, bad_lines, due_text, question_answer, said_answer, unkept, unkept_text, warning_text, warns}
@@ -45,7 +45,7 @@ use Rattle.party_answer.proofs.Faults.{fails_by_refusal}
 
 -- ---- what is asked is sound
 
-pub sound : (seed : List ℕ) (a : Asked) → IsAsked seed a → IsSound (asked_question seed a)
+pub sound : (seed : List ℕ) (a : Asked) → IsWellAsked seed a → IsSound (asked_question seed a)
 sound seed a is = record {
   accepted = is.accepted;
   party = is.me;
@@ -56,7 +56,7 @@ sound seed a is = record {
 
 pub is_asked : (seed : List ℕ) (d : Deal) (a : Asked) → a.deal ≡ d → IsAccepted d → IsWellSized d → a.me < d.graph.n → wrong_lock d a.me seed ≡ None
     → IsLegalBook a.deal (told_book a.ledgers) → length a.kept.signed.keys ≡ length d.leaders → AreGoodKeys d a.me (signed_hashkey a.kept.signed.keys)
-    → IsAsked seed a
+    → IsWellAsked seed a
 is_asked seed d a e accepted sized me fits legal places good = record {
   accepted = subst IsAccepted (sym e) accepted;
   sized = subst IsWellSized (sym e) sized;
@@ -77,7 +77,7 @@ same_stops us = λ j i. (each us i) j
     each [] i = refl
     each (u ∷ us) i = ap (λ b. (u.lock == i) || b) (each us i)
 
-module _ (seed : List ℕ) (a : Asked) (k : Histories) (us : List Unkept) (stopped : List ℕ) (xs : List Action) (is : IsAsked seed a)
+module _ (seed : List ℕ) (a : Asked) (k : Histories) (us : List Unkept) (stopped : List ℕ) (xs : List Action) (is : IsWellAsked seed a)
     (e : k ≡ told_book a.ledgers) (f : us ≡ unkept (asked_question seed a)) (g : stopped ≡ stopped_locks us)
     (h : xs ≡ useful_unless_stopped (is_lock_stopped stopped) a.deal a.me (seed_wallet seed a.me a.deal) (signed_hashkey a.kept.signed.keys) k) where
   abbrev left : (ℕ → Bool) → Histories → List Action
@@ -95,7 +95,7 @@ module _ (seed : List ℕ) (a : Asked) (k : Histories) (us : List Unkept) (stopp
   pub measured : AreMeasured a.deal xs
   measured x i =
       let s = sound seed a is in
-      let j = from_filter (λ y. not (is_stopped (is_lock_unkept (unkept (asked_question seed a))) y.call)) x
+      let j = from_filter (λ y. not (is_stopped_call (is_lock_unkept (unkept (asked_question seed a))) y.call)) x
       (useful a.deal a.me (seed_wallet seed a.me a.deal) (signed_hashkey a.kept.signed.keys) (told_book a.ledgers)) (subst (IsElement x) answered_is i) in
       useful_is_short a.deal a.me (seed_wallet seed a.me a.deal) (signed_hashkey a.kept.signed.keys) (told_book a.ledgers) is.accepted is.legal s.wallet
       (seed_signs a.deal a.me seed) is.good x j.0
@@ -119,14 +119,14 @@ pub warns_given : (seed : List ℕ) (a : Asked) (us : List Unkept) (b : Bool) �
 unfolding warns
 warns_given seed a us b g is = is ∙ ap (λ z. list_any (λ t. is_some t.bad) a.ledgers || not (length z == 0)) g
 
-pub answer_given : (q : Question) (text : List ℕ) (b : Bool) → text ≡ warning_text q ++ due_text q → b ≡ warns q
+pub answer_given : (q : PartyQuestion) (text : List ℕ) (b : Bool) → text ≡ warning_text q ++ due_text q → b ≡ warns q
     → ◌≡◌ {A = Answer} (record { text = text; warns = b }) (question_answer q)
 unfolding question_answer
 answer_given q text b e f = λ i. record { text = e i; warns = f i }
 
 -- ---- the promise
 
-pub promised : (seed : List ℕ) (a : Asked) (asks : Result Question AnswerReason) (answer : Answer) → IsAsked seed a → asks ≡ Ok (asked_question seed a)
+pub promised : (seed : List ℕ) (a : Asked) (asks : Result PartyQuestion AnswerReason) (answer : Answer) → IsWellAsked seed a → asks ≡ Ok (asked_question seed a)
     → answer ≡ question_answer (asked_question seed a) → IsPromisedAnswer asks answer
 promised seed a asks answer is e f = holds (asked_question seed a) (sound seed a is) asks answer e f
 

@@ -24,11 +24,11 @@ use Rattle.swap_rules.specs.Conduct.{is_first_key}
 use Rattle.swap_rules.specs.Machine.{IsGoodKey}
 use Rattle.swap_rules.proofs.Prefixes.{same_or_not}
 use Rattle.swap_rules.proofs.Words.{enters, same_key-true}
-use Rattle.party_lines.specs.Lines.{nameless, next_number}
+use Rattle.party_lines.specs.Lines.{nameless, following_line_number}
 use Rattle.party_answer.specs.declared.note.Note.{Note}
 use Rattle.party_answer.specs.declared.note.Note.TheVariants.{Keep, Sent}
 use Rattle.party_answer.specs.Kept.{KeptState, is_valid_answer, opens_first, may_be_kept, is_keepable, with_note, with_notes}
-use Rattle.party_answer.specs.NoteStates.{AreGood}
+use Rattle.party_answer.specs.NoteStates.{AreGoodKeptKeys}
 
 -- Validity on one arc that enters a party is validity on each.
 
@@ -48,8 +48,8 @@ says WrongSecret e = absurd (false≢true e)
 says WrongPath e = absurd (false≢true e)
 says (WrongSignature j) e = absurd (false≢true e)
 
-kept_by : {d : Deal} {v : ℕ} {k next : KeptState} → ◌≡◌ {A = Result KeptState Refusal} (Ok k) (Ok next) → AreGood d v k.keys → AreGood d v next.keys
-kept_by {d} {v} {k} {next} e good = let same : k ≡ next = cc e in subst (λ z. AreGood d v z.keys) same good
+kept_by : {d : Deal} {v : ℕ} {k next : KeptState} → ◌≡◌ {A = Result KeptState Refusal} (Ok k) (Ok next) → AreGoodKeptKeys d v k.keys → AreGoodKeptKeys d v next.keys
+kept_by {d} {v} {k} {next} e good = let same : k ≡ next = cc e in subst (λ z. AreGoodKeptKeys d v z.keys) same good
 
 module _ (d : Deal) (v : ℕ) where
   opens_each : (arcs : List ℕ) (key : Hashkey) → ((a : ℕ) → IsElement a arcs → counterparty d a ≡ v) → opens_first d arcs key ≡ true → (c : ℕ) → IsElement c arcs
@@ -72,13 +72,13 @@ module _ (d : Deal) (v : ℕ) where
   good_first (Some z) key good true q e = subst (λ y. IsGoodKey d v key.lock y) (same_key-true z key q) (good z refl)
   good_first before key good false q e = is_good key (and_parts (is_none before) (opens_first d (entering d.graph v) key) e).1
 
-  keepable : (keys : List (Option Hashkey)) (key : Hashkey) → AreGood d v keys → is_keepable d v keys key ≡ true → IsGoodKey d v key.lock key
+  keepable : (keys : List (Option Hashkey)) (key : Hashkey) → AreGoodKeptKeys d v keys → is_keepable d v keys key ≡ true → IsGoodKey d v key.lock key
   keepable keys key good e =
       let p = and_parts (nat_lt key.lock (length d.leaders)) (may_be_kept d v (signed_hashkey keys key.lock) key) e in
       good_first (signed_hashkey keys key.lock) key (λ z q. good key.lock z q) (is_first_key (signed_hashkey keys key.lock) key) refl p.1
 
   -- with one more hashkey
-  set_good : (keys : List (Option Hashkey)) (key : Hashkey) → AreGood d v keys → IsGoodKey d v key.lock key → AreGood d v (set keys key.lock (Some key))
+  set_good : (keys : List (Option Hashkey)) (key : Hashkey) → AreGoodKeptKeys d v keys → IsGoodKey d v key.lock key → AreGoodKeptKeys d v (set keys key.lock (Some key))
   set_good keys key good new i z e = go (same_or_not i key.lock) (nat_lt key.lock (length keys)) refl
     where
       go : (i ≡ key.lock) ⊎ (i ≢ key.lock) → (b : Bool) → nat_lt key.lock (length keys) ≡ b → IsGoodKey d v i z
@@ -90,39 +90,39 @@ module _ (d : Deal) (v : ℕ) where
       go (inl same) false q =
           good i z (ap (λ ks. signed_hashkey ks i) (sym (set_past keys key.lock (Some key) (ltb-false key.lock (length keys) q))) ∙ e)
 
-  after_keep : (n : ℕ) (k next : KeptState) (key : Hashkey) (b : Bool) → AreGood d v k.keys → is_keepable d v k.keys key ≡ b
-      → cond b (Ok (record { keys = set k.keys key.lock (Some key); sent = k.sent })) (Err (nameless (BadLine n))) ≡ Ok next → AreGood d v next.keys
+  after_keep : (n : ℕ) (k next : KeptState) (key : Hashkey) (b : Bool) → AreGoodKeptKeys d v k.keys → is_keepable d v k.keys key ≡ b
+      → cond b (Ok (record { keys = set k.keys key.lock (Some key); sent = k.sent })) (Err (nameless (BadLine n))) ≡ Ok next → AreGoodKeptKeys d v next.keys
   after_keep n k next key true good q e = kept_by e (set_good k.keys key good (keepable k.keys key good q))
   after_keep n k next key false good q e = absurd (cc e)
 
-  after_sent : (n : ℕ) (k next : KeptState) (a : ℕ) (b : Bool) → AreGood d v k.keys
-      → cond b (Ok (record { keys = k.keys; sent = k.sent ++ a ∷ [] })) (Err (nameless (BadLine n))) ≡ Ok next → AreGood d v next.keys
+  after_sent : (n : ℕ) (k next : KeptState) (a : ℕ) (b : Bool) → AreGoodKeptKeys d v k.keys
+      → cond b (Ok (record { keys = k.keys; sent = k.sent ++ a ∷ [] })) (Err (nameless (BadLine n))) ≡ Ok next → AreGoodKeptKeys d v next.keys
   after_sent n k next a true good e = kept_by e good
   after_sent n k next a false good e = absurd (cc e)
 
-  with_good : (n : ℕ) (k next : KeptState) (x : Note) → AreGood d v k.keys → with_note d v n k x ≡ Ok next → AreGood d v next.keys
+  with_good : (n : ℕ) (k next : KeptState) (x : Note) → AreGoodKeptKeys d v k.keys → with_note d v n k x ≡ Ok next → AreGoodKeptKeys d v next.keys
   with_good n k next (Keep key) good e = after_keep n k next key (is_keepable d v k.keys key) good refl e
   with_good n k next (Sent a) good e = after_sent n k next a (is_listed a (leaving d.graph v)) good e
 
-  after_note : (n : ℕ) (k final : KeptState) (x : Note) (xs : List Note) (r : Result KeptState Refusal) → AreGood d v k.keys → with_note d v n k x ≡ r
-      → (r >>= λ next. with_notes d v (next_number n) next xs) ≡ Ok final
-      → ((next : KeptState) → AreGood d v next.keys → with_notes d v (next_number n) next xs ≡ Ok final → AreGood d v final.keys) → AreGood d v final.keys
+  after_note : (n : ℕ) (k final : KeptState) (x : Note) (xs : List Note) (r : Result KeptState Refusal) → AreGoodKeptKeys d v k.keys → with_note d v n k x ≡ r
+      → (r >>= λ next. with_notes d v (following_line_number n) next xs) ≡ Ok final
+      → ((next : KeptState) → AreGoodKeptKeys d v next.keys → with_notes d v (following_line_number n) next xs ≡ Ok final → AreGoodKeptKeys d v final.keys) → AreGoodKeptKeys d v final.keys
   after_note n k final x xs (Ok next) good q e further = further next (with_good n k next x good q) e
   after_note n k final x xs (Err r) good q e further = absurd (cc e)
 
-  all_good : (n : ℕ) (k final : KeptState) (xs : List Note) → AreGood d v k.keys → with_notes d v n k xs ≡ Ok final → AreGood d v final.keys
+  all_good : (n : ℕ) (k final : KeptState) (xs : List Note) → AreGoodKeptKeys d v k.keys → with_notes d v n k xs ≡ Ok final → AreGoodKeptKeys d v final.keys
   all_good n k final [] good e = kept_by e good
   all_good n k final (x ∷ xs) good e =
-      after_note n k final x xs (with_note d v n k x) good refl e (λ next better. all_good (next_number n) next final xs better)
+      after_note n k final x xs (with_note d v n k x) good refl e (λ next better. all_good (following_line_number n) next final xs better)
 
 none_there : (n i : ℕ) (key : Hashkey) → signed_hashkey (replicate n None) i ≡ Some key → ⊥
 none_there zero i key e = cc e
 none_there (suc n) zero key e = cc e
 none_there (suc n) (suc i) key e = none_there n i key e
 
-pub none_good : (d : Deal) (v : ℕ) (keys : List (Option Hashkey)) (n : ℕ) → keys ≡ replicate n None → AreGood d v keys
+pub none_good : (d : Deal) (v : ℕ) (keys : List (Option Hashkey)) (n : ℕ) → keys ≡ replicate n None → AreGoodKeptKeys d v keys
 none_good d v keys n e i key q = absurd (none_there n i key (ap (λ ks. signed_hashkey ks i) (sym e) ∙ q))
 
-pub notes_good : (d : Deal) (v n : ℕ) (k final : KeptState) (notes : List Note) → AreGood d v k.keys → with_notes d v n k notes ≡ Ok final
-    → AreGood d v final.keys
+pub notes_good : (d : Deal) (v n : ℕ) (k final : KeptState) (notes : List Note) → AreGoodKeptKeys d v k.keys → with_notes d v n k notes ≡ Ok final
+    → AreGoodKeptKeys d v final.keys
 notes_good d v n k final notes good e = all_good d v n k final notes good e

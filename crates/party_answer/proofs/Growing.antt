@@ -13,8 +13,8 @@ use Rattle.wallet_promise.specs.Life.{is_kept}
 use Rattle.wallet_promise.specs.Answers.{is_asked, was_sent}
 use Rattle.party_answer.specs.declared.timed.Timed.{Timed}
 use Rattle.party_answer.specs.Lines.{untimed, Line, Present, KeepFirst, Landing, keep_line, kept_line, own_line, each_once, call_lines}
-use Rattle.party_answer.specs.Text.{call_text, keep_text, landing_text, line_text}
-use Rattle.party_answer.specs.Growing.{asking_text, unkept_key, IsLine}
+use Rattle.party_answer.specs.Text.{presented_call_text, keep_text, landing_text, line_text}
+use Rattle.party_answer.specs.Growing.{asking_text, unkept_key, GrowsByLine}
 
 -- The line of a hashkey that has to be kept, unless one for its lock was asked for last.
 
@@ -69,18 +69,18 @@ module _ (v : ℕ) (kept : ℕ → Option Hashkey) (sent : List ℕ) where
 
   -- a publish that was sent
   pub line_landing : (asked : Option ℕ) (old new : List ℕ) (t : Timed) (ts : List Timed) → was_sent was (untimed t) ≡ true
-      → new ≡ old ++ landing_text t.arc → IsLine v kept sent asked asked old new t ts
+      → new ≡ old ++ landing_text t.arc → GrowsByLine v kept sent asked asked old new t ts
   line_landing asked old new t ts s e =
       first_line asked old t (Landing t.arc) ts (ap (λ (b : Bool). cond b (Landing t.arc) (kept_line (is_kept kept t.call) t)) s)
       ∙ grown old new (landing_text t.arc) (texts (call_lines kept was asked ts)) e
 
   -- a call that may be presented
   pub line_going : (asked : Option ℕ) (old new : List ℕ) (t : Timed) (ts : List Timed) → was_sent was (untimed t) ≡ false
-      → None ≡ unkept_key kept t.call → new ≡ old ++ call_text v t → IsLine v kept sent asked asked old new t ts
+      → None ≡ unkept_key kept t.call → new ≡ old ++ presented_call_text v t → GrowsByLine v kept sent asked asked old new t ts
   line_going asked old new t ts s k e =
       first_line asked old t (Present t) ts
       (ap (λ (b : Bool). cond b (Landing t.arc) (kept_line (is_kept kept t.call) t)) s ∙ ap (λ (b : Bool). kept_line b t) (kept_by t.call k))
-      ∙ grown old new (call_text v t) (texts (call_lines kept was asked ts)) e
+      ∙ grown old new (presented_call_text v t) (texts (call_lines kept was asked ts)) e
 
   asked_same : (asked : Option ℕ) (i : ℕ) → is_asked asked i ≡ true → asked ≡ Some i
   asked_same None i e = absurd (cc e)
@@ -95,7 +95,7 @@ module _ (v : ℕ) (kept : ℕ → Option Hashkey) (sent : List ℕ) where
 
   -- a hashkey that has to be kept first
   pub line_asking : (asked : Option ℕ) (old new : List ℕ) (t : Timed) (ts : List Timed) (key : Hashkey) → was_sent was (untimed t) ≡ false
-      → Some key ≡ unkept_key kept t.call → new ≡ old ++ asking_text asked t key → IsLine v kept sent asked (Some key.lock) old new t ts
+      → Some key ≡ unkept_key kept t.call → new ≡ old ++ asking_text asked t key → GrowsByLine v kept sent asked (Some key.lock) old new t ts
   line_asking asked old new t ts key s k e =
       let u = unkept_by t.call key k in
       first_line asked old t (KeepFirst t key) ts
@@ -106,7 +106,7 @@ module _ (v : ℕ) (kept : ℕ → Option Hashkey) (sent : List ℕ) where
   -- Along the calls.
 
   pub lines_on : (all now new : List ℕ) (asked next : Option ℕ) (xs : List Timed) (i : ℕ) (x : Timed) → i < length xs → x ≡ get_or xs i x
-      → all ≡ now ++ texts (call_lines kept was asked (drop i xs)) → ((ys : List Timed) → IsLine v kept sent asked next now new x ys)
+      → all ≡ now ++ texts (call_lines kept was asked (drop i xs)) → ((ys : List Timed) → GrowsByLine v kept sent asked next now new x ys)
       → all ≡ new ++ texts (call_lines kept was next (drop (i + 1) xs))
   lines_on all now new asked next xs i x lt is so_far line =
       let here : drop i xs ≡ x ∷ drop (i + 1) xs = rw (add-one, drop-cons xs i x, ← is) in

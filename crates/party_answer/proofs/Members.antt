@@ -15,7 +15,7 @@ use Rattle.wallet_promise.specs.Life.{is_kept}
 use Rattle.wallet_promise.specs.Answers.{is_asked, was_sent}
 use Rattle.party_answer.specs.declared.timed.Timed.{Timed}
 use Rattle.party_answer.specs.Lines.{untimed, Line, Present, KeepFirst, Landing, keep_line, kept_line, own_line, each_once, call_lines}
-use Rattle.party_answer.specs.Text.{call_text, keep_text, landing_text, line_text, end_text, rest_text, wait_text}
+use Rattle.party_answer.specs.Text.{presented_call_text, keep_text, landing_text, line_text, end_text, rest_text, wait_text}
 use Rattle.answer_rules.specs.Finished.{are_finished}
 use Rattle.swap_rules.specs.Rest.{rest_deadline}
 
@@ -152,7 +152,7 @@ to_keep kept sent ts t key i s k c =
 -- ---- the text is never empty
 
 some_line : (v : ℕ) (x : Line) → line_text v x ≢ []
-unfolding call_text keep_text landing_text
+unfolding presented_call_text keep_text landing_text
 some_line v (Present t) e = cc e
 some_line v (KeepFirst t key) e = cc e
 some_line v (Landing a) e = cc e

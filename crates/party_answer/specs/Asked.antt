@@ -11,7 +11,7 @@ use Rattle.refusals.specs.Refusal.{refusal}
 use Rattle.party_wallet.specs.Fits.{wrong_lock}
 use Rattle.told_ledgers.specs.declared.told.ToldLedger.{ToldLedger}
 use Rattle.told_ledgers.specs.Telling.{ledgers_told, told_book}
-use Rattle.party_lines.specs.Lines.{ended_lines, nameless, next_number}
+use Rattle.party_lines.specs.Lines.{ended_lines, nameless, following_line_number}
 use Rattle.party_lines.specs.Names.{party_named}
 use Rattle.party_lines.specs.Digests.{agreed_line}
 use Rattle.party_answer.specs.Notes.{NotesState, notes_read}
@@ -24,9 +24,9 @@ abbrev pub by_refusal : {A : Type 0} → Result A Refusal → Result A AnswerRea
 by_refusal (Ok x) = Ok x
 by_refusal (Err r) = Err (Refused r)
 
-abbrev pub by_reason : {A : Type 0} → Result A Reason → Result A AnswerReason
-by_reason (Ok x) = Ok x
-by_reason (Err reason) = Err (Refused (nameless reason))
+abbrev pub as_answer_reason : {A : Type 0} → Result A Reason → Result A AnswerReason
+as_answer_reason (Ok x) = Ok x
+as_answer_reason (Err reason) = Err (Refused (nameless reason))
 
 -- What an input says before its first ledger: the digest that was agreed on, the notes, and the
 -- deal with its context and its digest, as they stand there.
@@ -39,7 +39,7 @@ pub record SaidState : Type 0 where
 unfoldable pub lines_said : ℕ → List (List ℕ) → Result (SaidState × List (List ℕ)) Refusal
 lines_said first ls = do
   told ← agreed_line first ls
-  notes ← notes_read (next_number first) told.1
+  notes ← notes_read (following_line_number first) told.1
   agreed ← parse_agreed notes.0.next notes.1
   Ok (record { told = told.0; notes = notes.0; agreed = agreed.0 }, agreed.1)
 
@@ -55,17 +55,17 @@ unless_differs digest false = Err (NotAgreed digest)
 abbrev pub as_agreed : SaidState → Result (Unit {0}) AnswerReason
 as_agreed s = unless_differs s.agreed.digest (bytes_eq s.told s.agreed.digest)
 
-abbrev pub unless_wrong : List (List ℕ) → ℕ → Option ℕ → Result (Unit {0}) Refusal
-unless_wrong names v None = Ok tt
-unless_wrong names v (Some i) = Err (refusal names (WrongWallet v i))
+abbrev pub unless_wrong_lock : List (List ℕ) → ℕ → Option ℕ → Result (Unit {0}) Refusal
+unless_wrong_lock names v None = Ok tt
+unless_wrong_lock names v (Some i) = Err (refusal names (WrongWallet v i))
 
 -- the seed has to have what the deal states of the party
 abbrev pub own_seed : SaidState → ℕ → List ℕ → Result (Unit {0}) Refusal
-own_seed s v seed = unless_wrong s.agreed.job.names v (wrong_lock s.agreed.job.deal v seed)
+own_seed s v seed = unless_wrong_lock s.agreed.job.names v (wrong_lock s.agreed.job.deal v seed)
 
 -- What is asked: the party of a deal, its seed, what is told of each ledger, what the party kept,
 -- and on which arcs it sent a publish.
-pub record Question : Type 0 where
+pub record PartyQuestion : Type 0 where
   pub deal : Deal
   pub me : ℕ
   pub seed : List ℕ
@@ -73,7 +73,7 @@ pub record Question : Type 0 where
   pub kept : KeptState
 
 -- what each ledger did so far
-abbrev pub known : Question → Histories
+abbrev pub known : PartyQuestion → Histories
 known q = told_book q.ledgers
 
 -- the party that is asked for: by its name, with its seed; the first note has that number
@@ -85,17 +85,17 @@ party_asked first name seed s = do
   Ok (me, kept)
 
 -- what is asked by what a text says, whose first line has that number
-unfoldable pub said_asked : ℕ → List ℕ → List ℕ → SaidState × List (List ℕ) → Result Question AnswerReason
+unfoldable pub said_asked : ℕ → List ℕ → List ℕ → SaidState × List (List ℕ) → Result PartyQuestion AnswerReason
 said_asked first name seed s = do
   same ← as_agreed s.0
-  party ← by_refusal (party_asked (next_number first) name seed s.0)
-  ledgers ← by_reason (ledgers_told s.0.agreed.job.deal party.0 s.0.agreed.next s.1)
+  party ← by_refusal (party_asked (following_line_number first) name seed s.0)
+  ledgers ← as_answer_reason (ledgers_told s.0.agreed.job.deal party.0 s.0.agreed.next s.1)
   Ok (record { deal = s.0.agreed.job.deal; me = party.0; seed = seed; ledgers = ledgers; kept = party.1 })
 
 -- what a text asks whose first line has that number
-unfoldable pub asked : ℕ → List ℕ → List ℕ → List ℕ → Result Question AnswerReason
+unfoldable pub asked : ℕ → List ℕ → List ℕ → List ℕ → Result PartyQuestion AnswerReason
 asked first name seed text = by_refusal (text_said first text) >>= said_asked first name seed
 
 -- the same of lines, the first of which has that number
-abbrev pub lines_asked : ℕ → List ℕ → List ℕ → List (List ℕ) → Result Question AnswerReason
+abbrev pub lines_asked : ℕ → List ℕ → List ℕ → List (List ℕ) → Result PartyQuestion AnswerReason
 lines_asked first name seed ls = by_refusal (lines_said first ls) >>= said_asked first name seed

@@ -22,7 +22,7 @@ asking_text asked t key = if is_asked asked key.lock then [] else keep_text t ke
 
 -- From old to new the text grows by the line of the first of these calls: with those of the others
 -- it is the text of all.
-abbrev pub IsLine : ℕ → (ℕ → Option Hashkey) → List ℕ → Option ℕ → Option ℕ → List ℕ → List ℕ → Timed → List Timed → Type 0
-IsLine v kept sent asked next old new t ts =
+abbrev pub GrowsByLine : ℕ → (ℕ → Option Hashkey) → List ℕ → Option ℕ → Option ℕ → List ℕ → List ℕ → Timed → List Timed → Type 0
+GrowsByLine v kept sent asked next old new t ts =
     old ++ flat_map (line_text v) (call_lines kept (λ a. is_listed a sent) asked (t ∷ ts))
     ≡ new ++ flat_map (line_text v) (call_lines kept (λ a. is_listed a sent) next ts)

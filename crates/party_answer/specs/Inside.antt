@@ -18,7 +18,7 @@ use Rattle.told_ledgers.specs.Telling.{told_book}
 use Rattle.party_answer.specs.declared.said.Said.{Said}
 use Rattle.party_answer.specs.declared.asked.Asked.{Asked}
 use Rattle.party_answer.specs.declared.timed.Timed.{Timed}
-use Rattle.party_answer.specs.Asked.{SaidState, Question}
+use Rattle.party_answer.specs.Asked.{SaidState, PartyQuestion}
 use Rattle.party_answer.specs.Lines.{call_lines}
 use Rattle.party_answer.specs.Text.{end_text, line_text}
 
@@ -26,7 +26,7 @@ abbrev pub said_state : Said → SaidState
 said_state s = record { told = s.told; notes = notes_state s.notes; agreed = inside_agreed s.agreed }
 
 -- what is asked, with that seed
-abbrev pub asked_question : List ℕ → Asked → Question
+abbrev pub asked_question : List ℕ → Asked → PartyQuestion
 asked_question seed a = record { deal = a.deal; me = a.me; seed = seed; ledgers = a.ledgers; kept = kept_state a.kept }
 
 -- the text of these calls over what is known, or that there is none
@@ -40,7 +40,7 @@ AreMeasured d xs = (x : Action) → IsElement x xs → (x.arc < length d.graph.a
 
 -- What is asked is of a party of an accepted deal whose seed it is, over ledgers that did what is
 -- told of them; and every hashkey that was kept opens its lock.
-pub record IsAsked (seed : List ℕ) (a : Asked) : Type 0 where
+pub record IsWellAsked (seed : List ℕ) (a : Asked) : Type 0 where
   pub accepted : IsAccepted a.deal
   pub sized : IsWellSized a.deal
   pub me : a.me < a.deal.graph.n

@@ -13,7 +13,7 @@ use Rattle.refusals.specs.declared.reason.Reason.TheVariants.{BadLine}
 use Rattle.refusals.specs.declared.refusal.Refusal.{Refusal}
 use Rattle.party_wallet.specs.Value.{signed_hashkey}
 use Rattle.swap_rules.specs.Conduct.{is_first_key}
-use Rattle.party_lines.specs.Lines.{nameless, next_number}
+use Rattle.party_lines.specs.Lines.{nameless, following_line_number}
 use Rattle.party_answer.specs.declared.note.Note.{Note}
 use Rattle.party_answer.specs.declared.note.Note.TheVariants.{Keep, Sent}
 
@@ -24,8 +24,8 @@ pub record KeptState : Type 0 where
   -- the arcs on which a publish was sent, or may have been; one may stand here twice
   pub sent : List ℕ
 
-abbrev pub nothing_kept : Deal → KeptState
-nothing_kept d = record { keys = replicate (length d.leaders) None; sent = [] }
+abbrev pub no_notes_kept : Deal → KeptState
+no_notes_kept d = record { keys = replicate (length d.leaders) None; sent = [] }
 
 abbrev pub is_valid_answer : HashkeyAnswer → Bool
 is_valid_answer Valid = true
@@ -59,8 +59,8 @@ with_note d v n k (Sent a) = if is_listed a (leaving d.graph v) then Ok (record 
 -- with these notes, the first of which is line n
 abbrev pub with_notes : Deal → ℕ → ℕ → KeptState → List Note → Result KeptState Refusal
 with_notes d v n k [] = Ok k
-with_notes d v n k (x ∷ xs) = with_note d v n k x >>= λ next. with_notes d v (next_number n) next xs
+with_notes d v n k (x ∷ xs) = with_note d v n k x >>= λ next. with_notes d v (following_line_number n) next xs
 
 -- what the notes come to, the first of which is line n
 unfoldable pub notes_kept : Deal → ℕ → ℕ → List Note → Result KeptState Refusal
-notes_kept d v n notes = with_notes d v n (nothing_kept d) notes
+notes_kept d v n notes = with_notes d v n (no_notes_kept d) notes

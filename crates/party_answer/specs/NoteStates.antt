@@ -20,9 +20,9 @@ no_note [] = true
 no_note (l ∷ ls) = not (is_note l)
 
 -- The first of these lines, if there is one, is no note.
-abbrev pub IsBehind : List (List ℕ) → Type 0
-IsBehind ls = no_note ls ≡ true
+abbrev pub IsBehindNotes : List (List ℕ) → Type 0
+IsBehindNotes ls = no_note ls ≡ true
 
 -- Each hashkey that was kept opens its lock on every arc that enters v.
-abbrev pub AreGood : Deal → ℕ → List (Option Hashkey) → Type 0
-AreGood d v keys = (i : ℕ) (key : Hashkey) → signed_hashkey keys i ≡ Some key → IsGoodKey d v i key
+abbrev pub AreGoodKeptKeys : Deal → ℕ → List (Option Hashkey) → Type 0
+AreGoodKeptKeys d v keys = (i : ℕ) (key : Hashkey) → signed_hashkey keys i ≡ Some key → IsGoodKey d v i key

@@ -5,9 +5,9 @@ use Rattle.swap_base.specs.Fault.{◌>>=◌}
 use Rattle.refusals.specs.declared.refusal.Refusal.{Refusal}
 use Rattle.transcript_lines.specs.declared.said.Misspelling.{Misspelling}
 use Rattle.transcript_lines.specs.Between.{separated_parts}
-use Rattle.transcript_lines.specs.Reading.{misspelt, bounded_number, decimal_number, to_digest, parse_signature, inside_entries, parse_first_field, first_field}
+use Rattle.transcript_lines.specs.Reading.{misspelt, bounded_number, decimal_number, lower_hex_digest, parse_signature, listed_field, parse_first_field, first_field}
 use Rattle.transcript_lines.specs.Reading.{is_word, nothing_more}
-use Rattle.party_lines.specs.Lines.{next_number, or_bad_line}
+use Rattle.party_lines.specs.Lines.{following_line_number, or_bad_line}
 use Rattle.party_lines.specs.Digests.{this_word}
 use Rattle.party_answer.specs.declared.note.Note.{Note}
 use Rattle.party_answer.specs.declared.note.Note.TheVariants.{Keep, Sent}
@@ -26,9 +26,9 @@ unfoldable pub keep_noted : List (List ℕ) → Result Note Misspelling
 keep_noted ws = do
   lock ← parse_first_field (bounded_number 256) ws
   heights ← heights_told lock.1
-  secret ← parse_first_field to_digest heights.1
-  path ← parse_first_field (inside_entries (bounded_number 256)) secret.1
-  sigs ← parse_first_field (inside_entries parse_signature) path.1
+  secret ← parse_first_field lower_hex_digest heights.1
+  path ← parse_first_field (listed_field (bounded_number 256)) secret.1
+  sigs ← parse_first_field (listed_field parse_signature) path.1
   u ← nothing_more sigs.1
   Ok (Keep (record { lock = lock.0; secret = secret.0; path = path.0; sigs = sigs.0 }))
 
@@ -73,7 +73,7 @@ notes_behind n list ls = Ok (record { list = list; next = n }, ls)
 abbrev pub with_lines : ℕ → List Note → List (List ℕ) → Result (NotesState × List (List ℕ)) Refusal
 with_lines n list [] = notes_behind n list []
 with_lines n list (l ∷ ls) =
-    if is_note l then (line_noted n l >>= λ x. with_lines (next_number n) (list ++ x ∷ []) ls) else notes_behind n list (l ∷ ls)
+    if is_note l then (line_noted n l >>= λ x. with_lines (following_line_number n) (list ++ x ∷ []) ls) else notes_behind n list (l ∷ ls)
 
 -- the notes that stand first among lines, of which the first has the number n, and the lines behind
 -- them

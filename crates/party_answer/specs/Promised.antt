@@ -18,62 +18,62 @@ use Rattle.wallet_promise.specs.Answers.{was_sent}
 use Rattle.told_books.specs.Told.{SayEnough}
 use Rattle.answer_rules.specs.Heights.{HasHeight}
 use Rattle.answer_rules.specs.Finished.{are_finished, ContinuesWithoutParty}
-use Rattle.answer_rules.specs.Stopped.{is_stopped}
+use Rattle.answer_rules.specs.Stopped.{is_stopped_call}
 use Rattle.answer_rules.specs.Laws.{IsLastHeight}
 use Rattle.party_answer.specs.declared.reason.AnswerReason.{AnswerReason}
 use Rattle.party_answer.specs.declared.reason.AnswerReason.TheVariants.{NotAgreed}
 use Rattle.party_answer.specs.declared.given.Answer.{Answer}
-use Rattle.party_answer.specs.Asked.{Question, SaidState, asked, known, text_said}
+use Rattle.party_answer.specs.Asked.{PartyQuestion, SaidState, asked, known, text_said}
 use Rattle.party_answer.specs.Unkept.{is_lock_unkept}
 use Rattle.party_answer.specs.declared.timed.Timed.{Timed}
 use Rattle.party_answer.specs.Lines.{Present, KeepFirst, Landing, timed, untimed}
 use Rattle.party_answer.specs.Text.{answerable, answered, answered_calls, due_text, kept_keys, lines, own_wallet, question_answer, unkept, useful_actions, was_published}
 
 -- what the wallet hands over
-abbrev pub own_asking : Question → Asking
+abbrev pub own_asking : PartyQuestion → Asking
 own_asking q = record { known = known q; kept = kept_keys q }
 
 -- the call may go out
-abbrev pub MayBeMade : Question → Action → Type 0
+abbrev pub MayBeMade : PartyQuestion → Action → Type 0
 MayBeMade q x = MayGo q.deal q.me (own_wallet q) (own_asking q) x
 
 -- the hashkey may be kept
-abbrev pub MayBeKept : Question → Hashkey → Type 0
+abbrev pub MayBeKept : PartyQuestion → Hashkey → Type 0
 MayBeKept q key = MayKeep q.deal q.me (own_wallet q) (own_asking q) key
 
 -- Why a call is left out: it can only hurt the party, or it is an unlock for a lock with an unlock
 -- in the party's name that it never made.
 
-abbrev pub CanOnlyHurt : Question → Action → Type 0
+abbrev pub CanOnlyHurt : PartyQuestion → Action → Type 0
 CanOnlyHurt q x = IsHarmful q.deal q.me (own_wallet q) (kept_keys q) (known q) x
 
-abbrev pub IsLockUnkept : Question → Action → Type 0
-IsLockUnkept q x = is_stopped (is_lock_unkept (unkept q)) x.call ≡ true
+abbrev pub IsLockUnkept : PartyQuestion → Action → Type 0
+IsLockUnkept q x = is_stopped_call (is_lock_unkept (unkept q)) x.call ≡ true
 
-abbrev pub IsLeftOut : Question → Action → Type 0
-IsLeftOut q x = CanOnlyHurt q x ⊎ IsLockUnkept q x
+abbrev pub IsLeftOutAction : PartyQuestion → Action → Type 0
+IsLeftOutAction q x = CanOnlyHurt q x ⊎ IsLockUnkept q x
 
 -- the height isn't above that at which rest ends, if it ends at one
-abbrev pub IsAtRest : Option ℕ → ℕ → Type 0
-IsAtRest None at = Unit {0}
-IsAtRest (Some end) at = at ≤ end
+abbrev pub IsWithinRest : Option ℕ → ℕ → Type 0
+IsWithinRest None at = Unit {0}
+IsWithinRest (Some end) at = at ≤ end
 
 -- the ledger of arc a with more entries
-abbrev pub with_more : Question → ℕ → List Entry → Histories
+abbrev pub with_more : PartyQuestion → ℕ → List Entry → Histories
 with_more q a more = set (known q) a (history (known q) a ++ more)
 
 -- up to which height the contract accepts the hashkey of an unlock
-abbrev pub HasLastHeight : Question → Timed → Hashkey → Type 0
+abbrev pub HasLastHeight : PartyQuestion → Timed → Hashkey → Type 0
 HasLastHeight q t key = (last : ℕ) × (t.until ≡ Some last) × IsLastHeight q.deal (known q) q.me t.arc key last
 
 -- a call with its heights
-abbrev pub own_timed : Question → Action → Timed
+abbrev pub own_timed : PartyQuestion → Action → Timed
 own_timed q x = timed q.deal (known q) q.me x
 
 -- The answer is that to what is asked: of an accepted deal, over ledgers that did what is told of
 -- them, for a party whose seed it is.
-pub record IsPromisedAnswer (asks : Result Question AnswerReason) (answer : Answer) : Type 0 where
-  pub question : Question
+pub record IsPromisedAnswer (asks : Result PartyQuestion AnswerReason) (answer : Answer) : Type 0 where
+  pub question : PartyQuestion
   pub asked : asks ≡ Ok question
   pub is : answer ≡ question_answer question
   pub accepted : IsAccepted question.deal
@@ -93,19 +93,19 @@ pub record IsPromisedAnswer (asks : Result Question AnswerReason) (answer : Answ
   -- and unlocks for a lock with an unlock in its name that it never made; of another lock for which
   -- a hashkey may be kept it has one
   pub all : (x : Action) → MayBeMade question x → was_sent (was_published question) x ≡ false
-      → IsElement (Present (own_timed question x)) (lines question) ⊎ IsLeftOut question x
+      → IsElement (Present (own_timed question x)) (lines question) ⊎ IsLeftOutAction question x
   pub each : (key : Hashkey) (may : MayBeKept question key)
-      → ((t : Timed) × (other : Hashkey) × IsElement (KeepFirst t other) (lines question) × (other.lock ≡ key.lock)) ⊎ IsLeftOut question (MayKeep.unlock may)
+      → ((t : Timed) × (other : Hashkey) × IsElement (KeepFirst t other) (lines question) × (other.lock ≡ key.lock)) ⊎ IsLeftOutAction question (MayKeep.unlock may)
   -- the same is useful over any histories of which what is told says enough, so noise may be left
   -- out
   pub heard : (h : Histories) → SayEnough question.deal question.me (known question) h → useful_actions question h ≡ useful_actions question (known question)
   -- where nothing is useful, or nothing is answered, that stays so as a ledger ticks on, up to the
   -- height at which rest ends
   pub rest : (a : ℕ) (more : List Entry) → useful_actions question (known question) ≡ [] → are_ticks more ≡ true
-      → IsAtRest (rest_deadline question.deal question.me (known question)) (height (history (known question) a ++ more))
+      → IsWithinRest (rest_deadline question.deal question.me (known question)) (height (history (known question) a ++ more))
       → useful_actions question (with_more question a more) ≡ []
   pub wait : (a : ℕ) (more : List Entry) → answered question ≡ [] → are_ticks more ≡ true
-      → IsAtRest (rest_deadline question.deal question.me (known question)) (height (history (known question) a ++ more))
+      → IsWithinRest (rest_deadline question.deal question.me (known question)) (height (history (known question) a ++ more))
       → answerable question (with_more question a more) ≡ []
   -- where the party is done nothing is answered, whatever lands on any ledger without calls of the
   -- party
@@ -120,8 +120,8 @@ pub record IsPromisedAnswer (asks : Result Question AnswerReason) (answer : Answ
 
 -- The answer is that to a text whose first line has that number, for the party of that name with
 -- that seed.
-abbrev pub IsAnswer : ℕ → List ℕ → List ℕ → List ℕ → Answer → Type 0
-IsAnswer first name seed text answer = IsPromisedAnswer (asked first name seed text) answer
+abbrev pub IsTextAnswer : ℕ → List ℕ → List ℕ → List ℕ → Answer → Type 0
+IsTextAnswer first name seed text answer = IsPromisedAnswer (asked first name seed text) answer
 
 -- where what stands in the text isn't what was agreed on, nothing is answered but that
 abbrev pub NeedsAgreement : ℕ → List ℕ → Result Answer (Fault AnswerReason) → Type 0

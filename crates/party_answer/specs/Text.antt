@@ -24,7 +24,7 @@ use Rattle.told_ledgers.specs.declared.told.ToldLedger.{ToldLedger}
 use Rattle.party_answer.specs.declared.reason.AnswerReason.{AnswerReason}
 use Rattle.party_answer.specs.declared.given.Answer.{Answer}
 use Rattle.party_answer.specs.declared.unkept.Unkept.{Unkept}
-use Rattle.party_answer.specs.Asked.{Question, SaidState, asked, by_refusal, known, lines_said, said_asked}
+use Rattle.party_answer.specs.Asked.{PartyQuestion, SaidState, asked, by_refusal, known, lines_said, said_asked}
 use Rattle.party_answer.specs.Unkept.{all_unkept, is_lock_unkept}
 use Rattle.party_answer.specs.declared.timed.Timed.{Timed}
 use Rattle.party_answer.specs.Lines.{Line, Present, KeepFirst, Landing, call_lines, timed}
@@ -32,40 +32,40 @@ use Rattle.party_answer.specs.Lines.{Line, Present, KeepFirst, Landing, call_lin
 -- ---- what goes by a question
 
 -- the hashkey that was kept for a lock
-abbrev pub kept_keys : Question → ℕ → Option Hashkey
+abbrev pub kept_keys : PartyQuestion → ℕ → Option Hashkey
 kept_keys q = signed_hashkey q.kept.keys
 
 -- whether a publish was sent on the arc
-abbrev pub was_published : Question → ℕ → Bool
+abbrev pub was_published : PartyQuestion → ℕ → Bool
 was_published q a = is_listed a q.kept.sent
 
 -- what the seed signs
-abbrev pub own_wallet : Question → Wallet
+abbrev pub own_wallet : PartyQuestion → Wallet
 own_wallet q = seed_wallet q.seed q.me q.deal
 
 -- all that is useful over other ledgers
-abbrev pub useful_actions : Question → Histories → List Action
+abbrev pub useful_actions : PartyQuestion → Histories → List Action
 useful_actions q k = useful q.deal q.me (own_wallet q) (kept_keys q) k
 
 -- the unlocks in the party's name that it never made
-abbrev pub unkept : Question → List Unkept
+abbrev pub unkept : PartyQuestion → List Unkept
 unkept q = all_unkept (kept_keys q) q.ledgers
 
 -- what is useful over other ledgers, without unlocks for a lock with an unlock in the party's name
 -- that it never made
-abbrev pub answerable : Question → Histories → List Action
+abbrev pub answerable : PartyQuestion → Histories → List Action
 answerable q k = unstopped (is_lock_unkept (unkept q)) (useful_actions q k)
 
 -- what is answered
-abbrev pub answered : Question → List Action
+abbrev pub answered : PartyQuestion → List Action
 answered q = answerable q (known q)
 
 -- with its heights
-abbrev pub answered_calls : Question → List Timed
+abbrev pub answered_calls : PartyQuestion → List Timed
 answered_calls q = map (timed q.deal (known q) q.me) (answered q)
 
 -- line by line
-abbrev pub lines : Question → List Line
+abbrev pub lines : PartyQuestion → List Line
 lines q = call_lines (kept_keys q) (was_published q) None (answered_calls q)
 
 -- ---- of ledgers that can't be told on
@@ -78,14 +78,14 @@ replies_text (Some r) = joined (codes " " ∷ reply_text r.stated ∷ codes " " 
 unfoldable pub bad_text : ℕ → BadEntry → List ℕ
 bad_text a b = joined (codes "bad " ∷ decimal a ∷ codes " " ∷ decimal b.entry ∷ replies_text b.replies ∷ codes "\n" ∷ [])
 
-abbrev pub bad_line : ℕ → Option BadEntry → List ℕ
-bad_line a None = []
-bad_line a (Some b) = bad_text a b
+abbrev pub bad_entry_line : ℕ → Option BadEntry → List ℕ
+bad_entry_line a None = []
+bad_entry_line a (Some b) = bad_text a b
 
 -- the bad entries of ledgers, the first of which is that of arc a
 abbrev pub bad_lines : ℕ → List ToldLedger → List ℕ
 bad_lines a [] = []
-bad_lines a (t ∷ ts) = bad_line a t.bad ++ bad_lines (a + 1) ts
+bad_lines a (t ∷ ts) = bad_entry_line a t.bad ++ bad_lines (a + 1) ts
 
 -- an unlock in the party's name that it never made
 unfoldable pub unkept_text : Unkept → List ℕ
@@ -98,8 +98,8 @@ until_text None = []
 until_text (Some last) = joined (codes " until " ∷ decimal last ∷ [])
 
 -- a call of party v that may be presented
-unfoldable pub call_text : ℕ → Timed → List ℕ
-call_text v t =
+unfoldable pub presented_call_text : ℕ → Timed → List ℕ
+presented_call_text v t =
     joined (codes "call " ∷ decimal t.arc ∷ codes " " ∷ decimal v ∷ codes " by " ∷ decimal t.last ∷ until_text t.until ∷ codes " " ∷
     spaced (call_words t.call) ∷ codes "\n" ∷ [])
 
@@ -118,7 +118,7 @@ unfoldable pub landing_text : ℕ → List ℕ
 landing_text a = joined (codes "landing " ∷ decimal a ∷ codes "\n" ∷ [])
 
 abbrev pub line_text : ℕ → Line → List ℕ
-line_text v (Present t) = call_text v t
+line_text v (Present t) = presented_call_text v t
 line_text v (KeepFirst t key) = keep_text t key
 line_text v (Landing a) = landing_text a
 
@@ -141,19 +141,19 @@ end_text d k v (t ∷ ts) = []
 -- ---- the whole
 
 -- what stands before the calls: what is wrong
-unfoldable pub warning_text : Question → List ℕ
+unfoldable pub warning_text : PartyQuestion → List ℕ
 warning_text q = bad_lines 0 q.ledgers ++ flat_map unkept_text (unkept q)
 
 -- the calls, or that there is none
-unfoldable pub due_text : Question → List ℕ
+unfoldable pub due_text : PartyQuestion → List ℕ
 due_text q = flat_map (line_text q.me) (lines q) ++ end_text q.deal (known q) q.me (answered_calls q)
 
 -- a ledger has a bad entry, or an unlock stands in the party's name that it never made
-unfoldable pub warns : Question → Bool
+unfoldable pub warns : PartyQuestion → Bool
 warns q = list_any (λ t. is_some t.bad) q.ledgers || not (length (unkept q) == 0)
 
 -- the answer to a question
-unfoldable pub question_answer : Question → Answer
+unfoldable pub question_answer : PartyQuestion → Answer
 question_answer q = record { text = warning_text q ++ due_text q; warns = warns q }
 
 -- the answer to what a text says, whose first line has that number

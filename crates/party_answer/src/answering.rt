@@ -6,11 +6,11 @@ ghost use Rattle.swap_base.specs.Fault.{Gives};
 ghost use Rattle.swap_digraph.specs.Deal.{IsWellSized};
 ghost use Rattle.history_index.specs.Indexes.{all_entries, AreIndexes};
 ghost use Rattle.told_ledgers.specs.Telling.{told_book};
-ghost use Rattle.party_terms.specs.Inside.{IsTold};
+ghost use Rattle.party_terms.specs.Inside.{IsAgreedJob};
 ghost use Rattle.party_answer.specs.Asked.{lines_asked, said_asked};
-ghost use Rattle.party_answer.specs.Inside.{asked_question, calls_text, said_state, IsAsked};
+ghost use Rattle.party_answer.specs.Inside.{asked_question, calls_text, said_state, IsWellAsked};
 ghost use Rattle.party_answer.specs.Text.{answer_told, answered_calls, bad_lines, lines_answer, question_answer, said_answer, unkept, unkept_text};
-ghost use Rattle.party_answer.specs.Promised.{IsAnswer, IsPromisedAnswer, NeedsAgreement};
+ghost use Rattle.party_answer.specs.Promised.{IsTextAnswer, IsPromisedAnswer, NeedsAgreement};
 
 use crate::asked::{Asked, said_asked};
 use crate::calls::with_heights;
@@ -52,7 +52,7 @@ fn calls(
     known: &[Index],
     list: &[Unkept],
 ) -> Result<Vec<Timed>, NoMemory>
-    requires asked { IsAsked seed.now asked.now }
+    requires asked { IsWellAsked seed.now asked.now }
     requires known { AreIndexes asked.now.deal known.now }
     requires entries { all_entries known.now ≡ told_book asked.now.ledgers }
     requires list { list.now ≡ unkept (asked_question seed.now asked.now) }
@@ -129,7 +129,7 @@ fn answer_known(
     asked: &Asked,
     known: &[Index],
 ) -> Result<Answer, NoMemory>
-    requires asked { IsAsked seed.now asked.now }
+    requires asked { IsWellAsked seed.now asked.now }
     requires known { AreIndexes asked.now.deal known.now }
     requires entries { all_entries known.now ≡ told_book asked.now.ledgers }
     ensures { IfOk result (λ a. a ≡ question_answer (asked_question seed.now asked.now)) }
@@ -143,7 +143,7 @@ fn answer_known(
 
 /// The answer to what is asked.
 fn answer_asked(alloc: Global, seed: &Digest, asked: &Asked) -> Result<Answer, NoMemory>
-    requires { IsAsked seed.now asked.now }
+    requires { IsWellAsked seed.now asked.now }
     ensures { IfOk result (λ a. a ≡ question_answer (asked_question seed.now asked.now)) }
 {
     let book = told_book(alloc, asked.ledgers.as_slice())?;
@@ -160,7 +160,7 @@ fn answer_said(
     said: &Said,
     lines: &mut Parts<'_>,
 ) -> Result<Answer, AnswerFault>
-    requires { IsTold said.now.agreed.job }
+    requires { IsAgreedJob said.now.agreed.job }
     ensures exact { Gives (λ a. a) result (said_answer first name.now seed.now (said_state said.now, lines.old)) }
     ensures promised { IfOk result (IsPromisedAnswer (said_asked first name.now seed.now (said_state said.now, lines.old))) }
 {
@@ -196,7 +196,7 @@ pub fn answer(
     text: &[u8],
 ) -> Result<Answer, AnswerFault>
     ensures exact { Gives (λ a. a) result (answer_told first name.now seed.now text.now) }
-    ensures promised { IfOk result (IsAnswer first name.now seed.now text.now) }
+    ensures promised { IfOk result (IsTextAnswer first name.now seed.now text.now) }
     ensures agreed { NeedsAgreement first text.now result }
 {
     match ended_lines(alloc, text) {

@@ -9,10 +9,10 @@ ghost use Rattle.party_wallet.specs.Fits.{wrong_lock as least_wrong};
 ghost use Rattle.party_wallet.specs.Value.{signed_hashkey};
 ghost use Rattle.answer_rules.specs.Laws.{AreGoodKeys};
 ghost use Rattle.told_ledgers.specs.Telling.{ledgers_told, told_book};
-ghost use Rattle.party_terms.specs.Inside.{IsTold};
+ghost use Rattle.party_terms.specs.Inside.{IsAgreedJob};
 ghost use Rattle.party_answer.specs.NoteStates.{kept_state};
-ghost use Rattle.party_answer.specs.Asked.{as_agreed, by_reason, by_refusal, own_seed, party_asked, said_asked};
-ghost use Rattle.party_answer.specs.Inside.{asked_question, said_state, IsAsked};
+ghost use Rattle.party_answer.specs.Asked.{as_agreed, as_answer_reason, by_refusal, own_seed, party_asked, said_asked};
+ghost use Rattle.party_answer.specs.Inside.{asked_question, said_state, IsWellAsked};
 
 use crate::kept::{Kept, notes_kept};
 use crate::reason::{AnswerFault, AnswerReason, reason_fault, refusal_fault};
@@ -72,7 +72,7 @@ fn wrong_lock(
 
 /// The seed has to be the party's.
 fn own_seed(alloc: Global, said: &Said, me: PartyId, seed: &Digest) -> Result<(), HeaderFault>
-    requires told { IsTold said.now.agreed.job }
+    requires told { IsAgreedJob said.now.agreed.job }
     requires me { me < said.now.agreed.job.deal.graph.n }
     ensures exact { Gives (λ u. u) result (own_seed (said_state said.now) me seed.now) }
     ensures fits { OnOk result (least_wrong said.now.agreed.job.deal me seed.now ≡ None) }
@@ -97,7 +97,7 @@ fn party_asked(
     seed: &Digest,
     said: &Said,
 ) -> Result<(PartyId, Kept), HeaderFault>
-    requires { IsTold said.now.agreed.job }
+    requires { IsAgreedJob said.now.agreed.job }
     ensures exact { Gives (λ p. (p.0, kept_state p.1)) result (party_asked first name.now seed.now (said_state said.now)) }
     ensures party { IfOk result (λ p. p.0 < said.now.agreed.job.deal.graph.n) }
     ensures fits { IfOk result (λ p. least_wrong said.now.agreed.job.deal p.0 seed.now ≡ None) }
@@ -119,7 +119,7 @@ fn party(
     seed: &Digest,
     said: &Said,
 ) -> Result<(PartyId, Kept), AnswerFault>
-    requires { IsTold said.now.agreed.job }
+    requires { IsAgreedJob said.now.agreed.job }
     ensures exact { Gives (λ p. (p.0, kept_state p.1)) result (by_refusal (party_asked first name.now seed.now (said_state said.now))) }
     ensures party { IfOk result (λ p. p.0 < said.now.agreed.job.deal.graph.n) }
     ensures fits { IfOk result (λ p. least_wrong said.now.agreed.job.deal p.0 seed.now ≡ None) }
@@ -141,7 +141,7 @@ fn ledgers(
     lines: &mut Parts<'_>,
 ) -> Result<Listed<ToldLedger>, AnswerFault>
     requires { IsWellSized deal.now }
-    ensures exact { Gives (λ t. t) result (by_reason (ledgers_told deal.now me first lines.old)) }
+    ensures exact { Gives (λ t. t) result (as_answer_reason (ledgers_told deal.now me first lines.old)) }
     ensures legal { IfOk result (λ t. IsLegalBook deal.now (told_book t)) }
 {
     match read_ledgers(alloc, deal, me, first, lines) {
@@ -160,9 +160,9 @@ pub(crate) fn said_asked(
     said: &Said,
     lines: &mut Parts<'_>,
 ) -> Result<Asked, AnswerFault>
-    requires { IsTold said.now.agreed.job }
+    requires { IsAgreedJob said.now.agreed.job }
     ensures exact { Gives (asked_question seed.now) result (said_asked first name.now seed.now (said_state said.now, lines.old)) }
-    ensures asked { IfOk result (IsAsked seed.now) }
+    ensures asked { IfOk result (IsWellAsked seed.now) }
 {
     as_agreed(said)?;
     let (me, kept) = party(alloc, first.saturating_add(1), name, seed, said)?;

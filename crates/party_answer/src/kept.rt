@@ -7,7 +7,7 @@ ghost use Rattle.swap_digraph.specs.Graph.{entering, is_listed, leaving};
 ghost use Rattle.refusals.specs.declared.reason.Reason.TheVariants.{BadLine};
 ghost use Rattle.party_wallet.specs.Value.{signed_hashkey};
 ghost use Rattle.party_lines.specs.Lines.{nameless};
-ghost use Rattle.party_answer.specs.NoteStates.{kept_state, AreGood};
+ghost use Rattle.party_answer.specs.NoteStates.{kept_state, AreGoodKeptKeys};
 ghost use Rattle.party_answer.specs.Kept.{is_keepable, may_be_kept, notes_kept, opens_arc, opens_first, with_note, with_notes};
 
 use crate::note::Note;
@@ -178,7 +178,7 @@ pub fn notes_kept(
     requires me { me < deal.now.graph.n }
     ensures exact { Gives kept_state result (notes_kept deal.now me first notes.now) }
     ensures places { IfOk result (λ k. length k.signed.keys ≡ length deal.now.leaders) }
-    ensures good { IfOk result (λ k. AreGood deal.now me k.signed.keys) }
+    ensures good { IfOk result (λ k. AreGoodKeptKeys deal.now me k.signed.keys) }
 {
     let mut keys = none_kept(alloc, deal.leaders.len() as u8)?;
     let mut sent = Vec::new(alloc);

@@ -6,8 +6,8 @@ ghost use Rattle.swap_digraph.specs.Graph.{is_listed as is_listed_arc};
 ghost use Rattle.party_wallet.specs.Value.{signed_hashkey};
 ghost use Rattle.wallet_promise.specs.Answers.{is_asked, was_sent};
 ghost use Rattle.party_answer.specs.Lines.{call_lines, untimed};
-ghost use Rattle.party_answer.specs.Text.{call_text, keep_text, key_text, landing_text, line_text, until_text};
-ghost use Rattle.party_answer.specs.Growing.{asking_text, unkept_key, IsLine};
+ghost use Rattle.party_answer.specs.Text.{presented_call_text, keep_text, key_text, landing_text, line_text, until_text};
+ghost use Rattle.party_answer.specs.Growing.{asking_text, unkept_key, GrowsByLine};
 
 use crate::kept::Kept;
 use crate::timed::Timed;
@@ -31,9 +31,9 @@ fn put_last_height(out: &mut Vec<u8>, until: Option<u64>) -> Result<(), NoMemory
 }
 
 /// Appends the line of a call that may be presented.
-#[tactic(auto, unfolding(crate::specs::Text::call_text))]
+#[tactic(auto, unfolding(crate::specs::Text::presented_call_text))]
 fn put_present(out: &mut Vec<u8>, me: PartyId, timed: &Timed) -> Result<(), NoMemory>
-    ensures { OnOk result (out.new.items ≡ out.old.items ++ call_text me timed.now) }
+    ensures { OnOk result (out.new.items ≡ out.old.items ++ presented_call_text me timed.now) }
 {
     put(
         out,
@@ -157,7 +157,7 @@ fn put_line(
     asked: Option<LockId>,
     timed: &Timed,
 ) -> Result<Option<LockId>, NoMemory>
-    ensures { IfOk result (λ next. (ts : List Timed) → IsLine me (signed_hashkey kept.now.signed.keys) kept.now.sent asked next out.old.items out.new.items timed.now ts) }
+    ensures { IfOk result (λ next. (ts : List Timed) → GrowsByLine me (signed_hashkey kept.now.signed.keys) kept.now.sent asked next out.old.items out.new.items timed.now ts) }
 {
     if was_sent(kept, timed) {
         put_landing(out, timed.arc)?;

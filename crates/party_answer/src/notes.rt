@@ -1,8 +1,8 @@
 //! The notes that stand first among lines.
 
 ghost use Rattle.std.specs.Prelude.{◌≡◌, ◌∷◌, MatchOption, true};
-ghost use Rattle.party_lines.specs.Lines.{TakesLine};
-ghost use Rattle.party_answer.specs.NoteStates.{notes_state, IsBehind};
+ghost use Rattle.party_lines.specs.Lines.{TakesFirstLine};
+ghost use Rattle.party_answer.specs.NoteStates.{notes_state, IsBehindNotes};
 ghost use Rattle.party_answer.specs.Notes.{is_note as is_note_line, notes_read};
 
 use crate::note::{Note, is_note, line_noted};
@@ -21,7 +21,7 @@ pub struct Notes {
 
 /// Takes the next line where it is a note.
 fn next_note<'a>(lines: &mut Parts<'a>) -> Option<&'a [u8]>
-    ensures { MatchOption result (IsBehind lines.old × (lines.new ≡ lines.old)) (λ l. (lines.old ≡ l.now ∷ lines.new) × (is_note_line l.now ≡ true)) }
+    ensures { MatchOption result (IsBehindNotes lines.old × (lines.new ≡ lines.old)) (λ l. (lines.old ≡ l.now ∷ lines.new) × (is_note_line l.now ≡ true)) }
 {
     match lines.peek() {
         Some(line) if is_note(line) => {
@@ -36,7 +36,7 @@ fn next_note<'a>(lines: &mut Parts<'a>) -> Option<&'a [u8]>
 /// stay.
 #[tactic(auto, unfolding(crate::specs::Notes::notes_read))]
 pub fn read_notes(alloc: Global, first: u32, lines: &mut Parts<'_>) -> Result<Notes, HeaderFault>
-    ensures { TakesLine notes_state result lines.new (notes_read first lines.old) }
+    ensures { TakesFirstLine notes_state result lines.new (notes_read first lines.old) }
 {
     let mut list = Vec::new(alloc);
     let mut number = first;

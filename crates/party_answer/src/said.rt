@@ -1,8 +1,8 @@
 //! What an input says before its first ledger.
 
 ghost use Rattle.std.specs.Prelude.{IfOk};
-ghost use Rattle.party_lines.specs.Lines.{TakesLine};
-ghost use Rattle.party_terms.specs.Inside.{IsTold};
+ghost use Rattle.party_lines.specs.Lines.{TakesFirstLine};
+ghost use Rattle.party_terms.specs.Inside.{IsAgreedJob};
 ghost use Rattle.party_answer.specs.Asked.{lines_said};
 ghost use Rattle.party_answer.specs.Inside.{said_state};
 
@@ -30,8 +30,8 @@ pub(crate) fn read_said(
     first: u32,
     lines: &mut Parts<'_>,
 ) -> Result<Said, HeaderFault>
-    ensures exact { TakesLine said_state result lines.new (lines_said first lines.old) }
-    ensures told { IfOk result (λ s. IsTold s.agreed.job) }
+    ensures exact { TakesFirstLine said_state result lines.new (lines_said first lines.old) }
+    ensures told { IfOk result (λ s. IsAgreedJob s.agreed.job) }
 {
     let told = agreed_line(alloc, first, lines)?;
     let notes = read_notes(alloc, first.saturating_add(1), lines)?;

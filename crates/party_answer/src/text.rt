@@ -4,7 +4,7 @@ ghost use Rattle.std.specs.Prelude.{◌≡◌, ◌<◌, ◌≤◌, ◌++◌, IfO
 ghost use Rattle.std.specs.List.{flat_map, list_any};
 ghost use Rattle.swap_digraph.specs.Deal.{IsWellSized};
 ghost use Rattle.history_index.specs.Indexes.{all_entries, AreIndexes};
-ghost use Rattle.party_answer.specs.Text.{bad_line, bad_lines, bad_text, end_text, replies_text, rest_text, unkept_text, wait_text};
+ghost use Rattle.party_answer.specs.Text.{bad_entry_line, bad_lines, bad_text, end_text, replies_text, rest_text, unkept_text, wait_text};
 
 use crate::timed::Timed;
 use crate::unkept::Unkept;
@@ -52,7 +52,7 @@ fn put_bad(out: &mut Vec<u8>, arc: ArcId, bad: &BadEntry) -> Result<(), NoMemory
 
 /// Appends the line of the arc's bad entry, if it has one.
 fn put_ledger(out: &mut Vec<u8>, arc: ArcId, ledger: &ToldLedger) -> Result<(), NoMemory>
-    ensures { OnOk result (out.new.items ≡ out.old.items ++ bad_line arc ledger.now.bad) }
+    ensures { OnOk result (out.new.items ≡ out.old.items ++ bad_entry_line arc ledger.now.bad) }
 {
     match &ledger.bad {
         Some(bad) => put_bad(out, arc, bad),

@@ -4,7 +4,7 @@ ghost use Rattle.std.specs.Prelude.{◌≡◌, ◌<◌, IfOk, length};
 ghost use Rattle.swap_digraph.specs.Deal.{IsWellSized};
 ghost use Rattle.history_index.specs.Indexes.{all_entries, AreIndexes};
 ghost use Rattle.sent_keys.specs.Sent.{party_unlocks, shown};
-ghost use Rattle.party_due.specs.Actions.{due_action};
+ghost use Rattle.party_due.specs.Actions.{due_call_action};
 ghost use Rattle.answer_rules.specs.Heights.{IsShort};
 ghost use Rattle.party_answer.specs.Lines.{timed};
 
@@ -41,7 +41,7 @@ pub(crate) fn time_call(
     requires keys { shown keys.now ≡ party_unlocks (all_entries known.now) me }
     requires arc { due.now.arc < length deal.now.graph.arcs }
     requires path { IsShort due.now.call }
-    ensures { IfOk result (λ t. t ≡ timed deal.now (all_entries known.now) me (due_action due.now)) }
+    ensures { IfOk result (λ t. t ≡ timed deal.now (all_entries known.now) me (due_call_action due.now)) }
 {
     let last = last_on_time(deal, known, me, keys, due.arc, &due.call);
     let until = last_accepted(deal, due.arc, &due.call);

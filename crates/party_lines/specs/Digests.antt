@@ -4,7 +4,7 @@ use Rattle.swap_base.specs.Fault.{◌>>=◌}
 use Rattle.refusals.specs.declared.refusal.Refusal.{Refusal}
 use Rattle.transcript_lines.specs.declared.said.Misspelling.{Misspelling}
 use Rattle.transcript_lines.specs.Between.{separated_parts}
-use Rattle.transcript_lines.specs.Reading.{misspelt, to_digest, parse_first_field, is_word, nothing_more}
+use Rattle.transcript_lines.specs.Reading.{misspelt, lower_hex_digest, parse_first_field, is_word, nothing_more}
 use Rattle.party_lines.specs.Lines.{first_line, or_bad_line}
 
 -- the field is that word
@@ -15,7 +15,7 @@ this_word word w = if is_word w word then Ok tt else misspelt
 unfoldable pub told_digest : List ℕ → List (List ℕ) → Result (List ℕ) Misspelling
 told_digest word ws = do
   first ← parse_first_field (this_word word) ws
-  digest ← parse_first_field to_digest first.1
+  digest ← parse_first_field lower_hex_digest first.1
   u ← nothing_more digest.1
   Ok digest.0
 

@@ -6,7 +6,7 @@ use Rattle.swap_base.specs.declared.fault.Fault.{Fault}
 use Rattle.refusals.specs.declared.reason.Reason.{Reason}
 use Rattle.refusals.specs.declared.reason.Reason.TheVariants.{BadLine, CutShort}
 use Rattle.refusals.specs.declared.refusal.Refusal.{Refusal}
-use Rattle.refusals.specs.Refusal.{named, refusal}
+use Rattle.refusals.specs.Refusal.{named_result, refusal}
 use Rattle.offer_fields.specs.Limits.{check_range}
 use Rattle.transcript_lines.specs.declared.said.Misspelling.{Misspelling}
 use Rattle.transcript_lines.specs.Between.{separated_parts}
@@ -43,15 +43,15 @@ no_line n [] = Ok tt
 no_line n (l ∷ ls) = Err (nameless (BadLine n))
 
 -- the number of the line behind one
-abbrev pub next_number : ℕ → ℕ
-next_number n = min (n + 1) (2 ^ 32 - 1)
+abbrev pub following_line_number : ℕ → ℕ
+following_line_number n = min (n + 1) (2 ^ 32 - 1)
 
 -- A header line has at most 65,536 bytes: the longest that is written of a deal has fewer than half
 -- as many.
 unfoldable pub short_header : ℕ → List ℕ → Result (Unit {0}) Refusal
-short_header line text = named [] (check_range line (codes "header") 0 65536 (length text))
+short_header line text = named_result [] (check_range line (codes "header") 0 65536 (length text))
 
 -- what is read of the first of these lines, and the lines that are then to come
-abbrev pub TakesLine : {X Y R : Type 0} → (X → Y) → Result X (Fault R) → List (List ℕ) → Result (Y × List (List ℕ)) R → Type 0
-TakesLine view (Ok x) rest read = read ≡ Ok (view x, rest)
-TakesLine view (Err e) rest read = Fails e read
+abbrev pub TakesFirstLine : {X Y R : Type 0} → (X → Y) → Result X (Fault R) → List (List ℕ) → Result (Y × List (List ℕ)) R → Type 0
+TakesFirstLine view (Ok x) rest read = read ≡ Ok (view x, rest)
+TakesFirstLine view (Err e) rest read = Fails e read

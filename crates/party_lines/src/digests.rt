@@ -5,7 +5,7 @@ ghost use Rattle.transcript_book.specs.Taking.{Takes};
 ghost use Rattle.transcript_lines.specs.Between.{separated_parts};
 ghost use Rattle.transcript_lines.specs.Reading.{parse_first_field};
 ghost use Rattle.party_lines.specs.Digests.{agreed_line, digest_line, digest_told, seed_line, read_seed_line, this_word, told_digest};
-ghost use Rattle.party_lines.specs.Lines.{TakesLine};
+ghost use Rattle.party_lines.specs.Lines.{TakesFirstLine};
 
 use crate::lines::{first_line, refused};
 use refusals::{HeaderFault, Reason};
@@ -65,7 +65,7 @@ fn digest_line(
     number: u32,
     lines: &mut Parts<'_>,
 ) -> Result<Digest, HeaderFault>
-    ensures { TakesLine (λ d. d) result lines.new (digest_line word.now number lines.old) }
+    ensures { TakesFirstLine (λ d. d) result lines.new (digest_line word.now number lines.old) }
 {
     let line = first_line(alloc, lines)?;
     digest_told(alloc, word, number, line)
@@ -80,14 +80,14 @@ pub fn read_seed_line(alloc: Global, number: u32, line: &[u8]) -> Result<Digest,
 
 /// Takes the line of that number, which tells a seed.
 pub fn seed_line(alloc: Global, number: u32, lines: &mut Parts<'_>) -> Result<Digest, HeaderFault>
-    ensures { TakesLine (λ d. d) result lines.new (seed_line number lines.old) }
+    ensures { TakesFirstLine (λ d. d) result lines.new (seed_line number lines.old) }
 {
     digest_line(alloc, b"seed".as_slice(), number, lines)
 }
 
 /// Takes the line of that number, which tells the digest that was agreed on.
 pub fn agreed_line(alloc: Global, number: u32, lines: &mut Parts<'_>) -> Result<Digest, HeaderFault>
-    ensures { TakesLine (λ d. d) result lines.new (agreed_line number lines.old) }
+    ensures { TakesFirstLine (λ d. d) result lines.new (agreed_line number lines.old) }
 {
     digest_line(alloc, b"agreed".as_slice(), number, lines)
 }

@@ -2,7 +2,7 @@
 
 ghost use Rattle.std.specs.Prelude.{◌≡◌};
 ghost use Rattle.swap_base.specs.Fault.{Gives};
-ghost use Rattle.party_lines.specs.Lines.{first_line, ended_lines, nameless, no_line, short_header, TakesLine};
+ghost use Rattle.party_lines.specs.Lines.{first_line, ended_lines, nameless, no_line, short_header, TakesFirstLine};
 
 use offer_fields::check_range;
 use refusals::{HeaderFault, Reason, nameless, with_names};
@@ -38,7 +38,7 @@ pub fn ended_lines<'a>(alloc: Global, text: &'a [u8]) -> Result<Parts<'a>, Heade
 
 /// Takes the first of the lines that are to come.
 pub fn first_line<'a>(alloc: Global, lines: &mut Parts<'a>) -> Result<&'a [u8], HeaderFault>
-    ensures { TakesLine (λ l. l.now) result lines.new (first_line lines.old) }
+    ensures { TakesFirstLine (λ l. l.now) result lines.new (first_line lines.old) }
 {
     match lines.next() {
         Some(line) => Ok(line),

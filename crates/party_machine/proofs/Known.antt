@@ -27,7 +27,7 @@ use Rattle.party_wallet.specs.Keys.{new_wallet, with_recorded}
 use Rattle.party_machine.specs.Wallet.{seed_wallet}
 use Rattle.party_wallet.specs.Fits.{find_wrong_lock, wrong_lock}
 use Rattle.party_machine.specs.Machine.{MachineState, new_machine, machine_or, fresh_machine, resumed_machine, learnt}
-use Rattle.party_machine.specs.Within.{all_entries, inside_machine, AreIndexes, IsPartys, IsReady, IsKept}
+use Rattle.party_machine.specs.Within.{all_entries, inside_machine, AreIndexes, IsPartyWallet, IsReadyWallet, IsKeptMachine}
 use Rattle.party_machine.specs.declared.machine.Machine.TheInside.{Inside}
 use Rattle.party_machine.proofs.Good.{fitting_is_good}
 
@@ -36,19 +36,19 @@ use Rattle.party_machine.proofs.Good.{fitting_is_good}
 abbrev pub IsGoodFor : MachineState → Type 0
 IsGoodFor s = IsAccepted s.deal → IsWallet s.deal s.me (seed_wallet s.seed s.me s.deal)
 
-pub is_good : (m : Inside) (s : MachineState) → inside_machine m ≡ s → IsKept m → IsGoodFor s
+pub is_good : (m : Inside) (s : MachineState) → inside_machine m ≡ s → IsKeptMachine m → IsGoodFor s
 is_good m s e r = subst IsGoodFor e (λ accepted. fitting_is_good m.deal m.wallet.party m.wallet.seed accepted r.ready.partys.party r.ready.partys.fits)
 
-pub legal_at : (d : Deal) (w : WalletState) (known : List IndexState) (a : ℕ) → IsReady d w known → a < length d.graph.arcs
+pub legal_at : (d : Deal) (w : WalletState) (known : List IndexState) (a : ℕ) → IsReadyWallet d w known → a < length d.graph.arcs
     → IsLegal d a (history (all_entries known) a)
 legal_at d w known a r lt = r.legal.legal a (rw r.legal.one_each lt)
 
-pub is_legal : (m : Inside) (s : MachineState) (a : ℕ) → inside_machine m ≡ s → IsKept m → a < length s.deal.graph.arcs → IsLegal s.deal a (history s.known a)
+pub is_legal : (m : Inside) (s : MachineState) (a : ℕ) → inside_machine m ≡ s → IsKeptMachine m → a < length s.deal.graph.arcs → IsLegal s.deal a (history s.known a)
 is_legal m s a e r lt =
     subst (λ (x : MachineState). a < length x.deal.graph.arcs
     → IsLegal x.deal a (history x.known a)) e (legal_at m.deal m.wallet m.known.items a r.ready) lt
 
-pub one_each : (d : Deal) (w : WalletState) (known : List IndexState) → IsReady d w known → length known ≡ length d.graph.arcs
+pub one_each : (d : Deal) (w : WalletState) (known : List IndexState) → IsReadyWallet d w known → length known ≡ length d.graph.arcs
 one_each d w known r = sym (length-map known (λ x. x.entries)) ∙ r.legal.one_each
 
 -- the entries of an index are the history of its arc
@@ -56,7 +56,7 @@ pub released_history : (known : List IndexState) (a : ℕ) (x : IndexState) → 
 released_history known a x lt e = get_or-map (λ y. y.entries) known a x [] lt ∙ ap (λ (y : IndexState). y.entries) (sym e)
 
 -- what holds of each index, at its place
-find_place : (d : Deal) (w : WalletState) (known : List IndexState) (a : ℕ) (x : IndexState) → IsReady d w known → a < length d.graph.arcs
+find_place : (d : Deal) (w : WalletState) (known : List IndexState) (a : ℕ) (x : IndexState) → IsReadyWallet d w known → a < length d.graph.arcs
     → x ≡ get_or known a x
     → {B : Type 0} (g : IndexState → B) (of : ℕ → B) → map g known ≡ map of (arcs d.graph) → g x ≡ of a
 find_place d w known a x ready lt e {B} g of made =
@@ -70,7 +70,7 @@ same_numbers [] = refl
 same_numbers (x ∷ xs) = ap (λ (ys : List ℕ). x ∷ ys) (same_numbers xs)
 
 -- it was made for its arc
-pub renewed_wallet : (d : Deal) (w : WalletState) (known : List IndexState) (a : ℕ) (x : IndexState) → IsReady d w known → a < length d.graph.arcs
+pub renewed_wallet : (d : Deal) (w : WalletState) (known : List IndexState) (a : ℕ) (x : IndexState) → IsReadyWallet d w known → a < length d.graph.arcs
     → x ≡ get_or known a x
     → IsSameArc (new_index d a) x
 renewed_wallet d w known a x ready lt e =
@@ -112,7 +112,7 @@ indexes_new d = record {
   to = map-map (λ x. x.to) (new_index d) (arcs d.graph);
 }
 
-partys_new : (d : Deal) (v : ℕ) (seed : List ℕ) → v < d.graph.n → wrong_lock d v seed ≡ None → IsPartys d (new_wallet seed v d)
+partys_new : (d : Deal) (v : ℕ) (seed : List ℕ) → v < d.graph.n → wrong_lock d v seed ≡ None → IsPartyWallet d (new_wallet seed v d)
 partys_new d v seed lt fits = record {
   party = lt;
   mode = refl;
@@ -122,11 +122,11 @@ partys_new d v seed lt fits = record {
 }
 
 pub new_ready : (c d : Deal) (v : ℕ) (w : WalletState) (known : List IndexState) → c ≡ d → w ≡ new_wallet w.seed v d
-    → known ≡ map (new_index d) (arcs d.graph) → IsWellSized d → v < d.graph.n → wrong_lock d v w.seed ≡ None → IsReady c w known
+    → known ≡ map (new_index d) (arcs d.graph) → IsWellSized d → v < d.graph.n → wrong_lock d v w.seed ≡ None → IsReadyWallet c w known
 new_ready c d v w known ec ew ek sized lt fits =
-    subst (λ (x : Deal). IsReady x w known) (sym ec) (record {
+    subst (λ (x : Deal). IsReadyWallet x w known) (sym ec) (record {
       sized = sized;
-      partys = subst (IsPartys d) (sym ew) (partys_new d v w.seed lt fits);
+      partys = subst (IsPartyWallet d) (sym ew) (partys_new d v w.seed lt fits);
       indexes = subst (AreIndexes d) (sym ek) (indexes_new d);
       arcs = ap (map (λ x. x.arc)) ek ∙ arcs_from d 0 (length d.graph.arcs);
       legal = subst (IsLegalBook d) (sym (entries_new d known ek)) (legal_new d);
@@ -157,9 +157,9 @@ fitting_shows d v w f m is e fits =
     ap (machine_or d v w.seed) fits ∙ ap (λ (x : MachineState). Ok x) (sym (e ∙ ap (new_machine d v) (make_seed d v w.seed f is)))
 
 -- a party's wallet with recorded hashkeys
-partys_recorded : (d : Deal) (w w' : WalletState) (recorded : List (Option Hashkey)) → IsPartys d w → w' ≡ with_recorded w recorded
-    → length recorded ≡ length d.leaders → ((i : ℕ) (k : Hashkey) → signed_hashkey recorded i ≡ Some k → k.lock ≡ i) → IsPartys d w'
-partys_recorded d w w' recorded r ew places locks = subst (IsPartys d) (sym ew) (record {
+partys_recorded : (d : Deal) (w w' : WalletState) (recorded : List (Option Hashkey)) → IsPartyWallet d w → w' ≡ with_recorded w recorded
+    → length recorded ≡ length d.leaders → ((i : ℕ) (k : Hashkey) → signed_hashkey recorded i ≡ Some k → k.lock ≡ i) → IsPartyWallet d w'
+partys_recorded d w w' recorded r ew places locks = subst (IsPartyWallet d) (sym ew) (record {
   party = r.party;
   mode = r.mode;
   places = places;
@@ -168,9 +168,9 @@ partys_recorded d w w' recorded r ew places locks = subst (IsPartys d) (sym ew) 
 })
 
 -- the same machine with recorded hashkeys in its wallet
-pub restored_ready : (d : Deal) (w w' : WalletState) (known : List IndexState) (recorded : List (Option Hashkey)) → IsReady d w known
+pub restored_ready : (d : Deal) (w w' : WalletState) (known : List IndexState) (recorded : List (Option Hashkey)) → IsReadyWallet d w known
     → w' ≡ with_recorded w recorded → length recorded ≡ length d.leaders
-    → ((i : ℕ) (k : Hashkey) → signed_hashkey recorded i ≡ Some k → k.lock ≡ i) → IsReady d w' known
+    → ((i : ℕ) (k : Hashkey) → signed_hashkey recorded i ≡ Some k → k.lock ≡ i) → IsReadyWallet d w' known
 restored_ready d w w' known recorded r ew places locks = record {
   sized = r.sized;
   partys = partys_recorded d w w' recorded r.partys ew places locks;
@@ -180,9 +180,9 @@ restored_ready d w w' known recorded r ew places locks = record {
 }
 
 -- a machine that knows nothing, with recorded hashkeys in its wallet
-pub restarted_ready : (d : Deal) (w w' : WalletState) (old known : List IndexState) (recorded : List (Option Hashkey)) → IsReady d w old
+pub restarted_ready : (d : Deal) (w w' : WalletState) (old known : List IndexState) (recorded : List (Option Hashkey)) → IsReadyWallet d w old
     → known ≡ map (new_index d) (arcs d.graph) → w' ≡ with_recorded w recorded → length recorded ≡ length d.leaders
-    → ((i : ℕ) (k : Hashkey) → signed_hashkey recorded i ≡ Some k → k.lock ≡ i) → IsReady d w' known
+    → ((i : ℕ) (k : Hashkey) → signed_hashkey recorded i ≡ Some k → k.lock ≡ i) → IsReadyWallet d w' known
 restarted_ready d w w' old known recorded r ek ew places locks = record {
   sized = r.sized;
   partys = partys_recorded d w w' recorded r.partys ew places locks;
@@ -206,8 +206,8 @@ restarted_is d w w' known recorded ek ew =
 -- More entries of an arc.
 
 -- an index in the place of one of the same arc
-pub learnt_ready : (d : Deal) (w : WalletState) (known : List IndexState) (a : ℕ) (x y : IndexState) → IsReady d w known → a < length d.graph.arcs
-    → x ≡ get_or known a x → IsSameArc x y → IsLegal d a y.entries → IsReady d w (set known a y)
+pub learnt_ready : (d : Deal) (w : WalletState) (known : List IndexState) (a : ℕ) (x y : IndexState) → IsReadyWallet d w known → a < length d.graph.arcs
+    → x ≡ get_or known a x → IsSameArc x y → IsLegal d a y.entries → IsReadyWallet d w (set known a y)
 learnt_ready d w known a x y r lt e same legal = record {
   sized = r.sized;
   partys = r.partys;
@@ -239,8 +239,8 @@ legal_by d a x y more (Ok u) before after ok err = subst (IsLegal d a) (sym ok) 
 legal_by d a x y more (Err u) before after ok err = subst (λ (z : IndexState). IsLegal d a z.entries) (sym err) before
 
 pub called_ready : {A E : Type 0} (d : Deal) (w : WalletState) (known : List IndexState) (a : ℕ) (x y : IndexState) (more : List Entry) (r : Result A E)
-    → IsReady d w known → a < length d.graph.arcs → x ≡ get_or known a x → IsSameArc x y → IsLegal d a (history (all_entries known) a ++ more)
-    → OnOk r (y.entries ≡ x.entries ++ more) → OnErr r (y ≡ x) → IsReady d w (set known a y)
+    → IsReadyWallet d w known → a < length d.graph.arcs → x ≡ get_or known a x → IsSameArc x y → IsLegal d a (history (all_entries known) a ++ more)
+    → OnOk r (y.entries ≡ x.entries ++ more) → OnErr r (y ≡ x) → IsReadyWallet d w (set known a y)
 called_ready d w known a x y more r ready lt e same legal ok err =
     let h : history (all_entries known) a ≡ x.entries = released_history known a x (rw (one_each d w known ready) lt) e in
     let before : IsLegal d a x.entries = subst (IsLegal d a) h (legal_at d w known a ready lt) in
@@ -248,7 +248,7 @@ called_ready d w known a x y more r ready lt e same legal ok err =
     learnt_ready d w known a x y ready lt e same (legal_by d a x y more r before after ok err)
 
 pub called_shows : {A E : Type 0} (d : Deal) (w : WalletState) (known : List IndexState) (a : ℕ) (x y : IndexState) (more : List Entry) (r : Result A E)
-    → IsReady d w known → a < length d.graph.arcs → x ≡ get_or known a x → OnOk r (y.entries ≡ x.entries ++ more)
+    → IsReadyWallet d w known → a < length d.graph.arcs → x ≡ get_or known a x → OnOk r (y.entries ≡ x.entries ++ more)
     → OnOk r (◌≡◌ {A = MachineState} (record {
       deal = d;
       me = w.party;
@@ -265,7 +265,7 @@ called_shows d w known a x y more (Ok u) ready lt e ok =
     ap (λ (b : Histories). record { deal = d; me = w.party; seed = w.seed; known = b; signed = w.signed }) k
 
 -- all that comes is indexable
-pub fronts : (d : Deal) (w : WalletState) (known : List IndexState) (a : ℕ) (x : IndexState) (more : List Entry) → IsReady d w known
+pub fronts : (d : Deal) (w : WalletState) (known : List IndexState) (a : ℕ) (x : IndexState) (more : List Entry) → IsReadyWallet d w known
     → a < length d.graph.arcs → x ≡ get_or known a x → IsLegal d a (history (all_entries known) a ++ more)
     → (front rest : List Entry) → x.entries ++ more ≡ front ++ rest → IsIndexable x.from x.to front
 fronts d w known a x more ready lt e legal front rest q =

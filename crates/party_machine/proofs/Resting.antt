@@ -32,7 +32,7 @@ use Rattle.party_wallet.specs.Value.{WalletState}
 use Rattle.party_machine.specs.Wallet.{seed_wallet}
 use Rattle.party_machine.specs.Machine.{MachineState, due_action, learnt, next_due}
 use Rattle.party_machine.specs.Rest.{rest_end_height, remaining_rest, EndsByExpiry, IsAtRest, MayRest}
-use Rattle.party_machine.specs.Within.{all_entries, IsReady}
+use Rattle.party_machine.specs.Within.{all_entries, IsReadyWallet}
 use Rattle.party_machine.specs.declared.rest.Rest.{Rest}
 use Rattle.party_machine.specs.declared.rest.Rest.TheVariants.{Awake, Until}
 use Rattle.party_machine.proofs.Known.{one_each, released_history, called_shows}
@@ -147,7 +147,7 @@ shown d w known = record { deal = d; me = w.party; seed = w.seed; known = all_en
 
 pub learns : {A E : Type 0} (rest : Rest) (d : Deal) (w : WalletState) (known : List IndexState) (a : ℕ) (x y : IndexState) (more : List Entry)
     (r : Result A E) (ticks : Bool) (at : ℕ)
-    → IsReady d w known → MayRest rest (shown d w known) → a < length d.graph.arcs → x ≡ get_or known a x → OnOk r (y.entries ≡ x.entries ++ more)
+    → IsReadyWallet d w known → MayRest rest (shown d w known) → a < length d.graph.arcs → x ≡ get_or known a x → OnOk r (y.entries ≡ x.entries ++ more)
     → OnErr r (y ≡ x)
     → ticks ≡ are_ticks more → at ≡ height y.entries → MayRest (remaining_rest rest ticks at) (shown d w (set known a y))
 learns {A = A} {E = E} rest d w known a x y more (Ok u) ticks at ready m lt e ok err t h =

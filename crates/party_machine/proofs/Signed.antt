@@ -14,7 +14,7 @@ use Rattle.swap_rules.proofs.Prefixes.{same_or_not}
 use Rattle.party_wallet.specs.Value.{signed_hashkey}
 use Rattle.party_wallet.specs.Value.{WalletState}
 use Rattle.party_wallet.specs.Keys.{with_signed}
-use Rattle.party_machine.specs.Within.{IsReady}
+use Rattle.party_machine.specs.Within.{IsReadyWallet}
 
 same_place : (s : List (Option Hashkey)) (i : ℕ) (k : Hashkey) → i < length s → signed_hashkey (set s i (Some k)) i ≡ Some k
 same_place s i k lt = get_or-set_same s i (Some k) None lt
@@ -49,8 +49,8 @@ stays s i k o lt e j l h = go (same_or_not j i)
         ap (signed_hashkey (set s i (Some k))) q ∙ (same_place s i k lt ∙ sym same)
     go (inr n) = other_place s i j k n ∙ h
 
-pub signed_ready : (d : Deal) (w : WalletState) (known : List IndexState) (i : ℕ) (k : Hashkey) → IsReady d w known → i < length d.leaders → k.lock ≡ i
-    → IsReady d (with_signed w i k) known
+pub signed_ready : (d : Deal) (w : WalletState) (known : List IndexState) (i : ℕ) (k : Hashkey) → IsReadyWallet d w known → i < length d.leaders → k.lock ≡ i
+    → IsReadyWallet d (with_signed w i k) known
 signed_ready d w known i k r lt e = record {
   sized = r.sized;
   partys = record {

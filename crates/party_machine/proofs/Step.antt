@@ -22,7 +22,7 @@ use Rattle.party_wallet.specs.Value.{WalletState}
 use Rattle.party_wallet.specs.Keys.{own_key, onto_key, with_signed}
 use Rattle.party_machine.specs.Wallet.{seed_wallet}
 use Rattle.party_machine.specs.Machine.{MachineState, due_action, next_due}
-use Rattle.party_machine.specs.Within.{all_entries, IsReady}
+use Rattle.party_machine.specs.Within.{all_entries, IsReadyWallet}
 use Rattle.party_machine.specs.Unlocking.{IsSignable, base_key, due_hashkey}
 use Rattle.party_machine.proofs.Known.{legal_at}
 use Rattle.party_machine.proofs.Onto.{can_put_onto}
@@ -55,7 +55,7 @@ or_lock (Some l) r k i p q e = p k e
 some_is : (o : Option Hashkey) (k : Hashkey) → o ≡ Some k → IsSome o
 some_is o k e = subst IsSome (sym e) (search Rattle.std.proofs.Common.rules)
 
-module _ (d : Deal) (w : WalletState) (known : List IndexState) (ready : IsReady d w known) where
+module _ (d : Deal) (w : WalletState) (known : List IndexState) (ready : IsReadyWallet d w known) where
   abbrev state : MachineState
   state = record { deal = d; me = w.party; seed = w.seed; known = all_entries known; signed = w.signed }
 
@@ -77,11 +77,11 @@ module _ (d : Deal) (w : WalletState) (known : List IndexState) (ready : IsReady
   -- after the hashkey of a due unlock was answered, or not
   pub answered_ready : {E : Type 0} (u : UnlockDue) (r : Result Hashkey E) (after : WalletState) (xs : List IndexState) → xs ≡ known
       → u.lock < length d.leaders → IsSeenBase d w.party (all_entries known) u.lock u.base → IfOk r (λ k. due_hashkey d w (all_entries xs) u ≡ Some k)
-      → IfOk r (λ k. after ≡ with_signed w u.lock k) → OnErr r (after ≡ w) → IsReady d after known
+      → IfOk r (λ k. after ≡ with_signed w u.lock k) → OnErr r (after ≡ w) → IsReadyWallet d after known
   answered_ready u (Ok k) after xs ek lt s value kept err =
       let v : due_hashkey d w (all_entries known) u ≡ Some k = subst (λ (ys : List IndexState). due_hashkey d w (all_entries ys) u ≡ Some k) ek value in
-      subst (λ (x : WalletState). IsReady d x known) (sym kept) (signed_ready d w known u.lock k ready lt (due_lock u k s v))
-  answered_ready u (Err e) after xs ek lt s value kept err = subst (λ (x : WalletState). IsReady d x known) (sym err) ready
+      subst (λ (x : WalletState). IsReadyWallet d x known) (sym kept) (signed_ready d w known u.lock k ready lt (due_lock u k s v))
+  answered_ready u (Err e) after xs ek lt s value kept err = subst (λ (x : WalletState). IsReadyWallet d x known) (sym err) ready
 
   pub noted_as : (u : UnlockDue) (k : Hashkey) (after : WalletState) → u.lock < length d.leaders → IsSeenBase d w.party (all_entries known) u.lock u.base
       → due_hashkey d w (all_entries known) u ≡ Some k → after ≡ with_signed w u.lock k → signed_hashkey after.signed ≡ noted (signed_hashkey w.signed) (Unlock k)

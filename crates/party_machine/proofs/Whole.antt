@@ -24,7 +24,7 @@ use Rattle.due_calls.specs.declared.unlock_due.UnlockDue.{UnlockDue}
 use Rattle.wallet_journal.specs.Layout.{are_bounded}
 use Rattle.party_machine.specs.Wallet.{seed_wallet}
 use Rattle.party_machine.specs.Machine.{due_action, noted_if_called}
-use Rattle.party_machine.specs.Within.{all_entries, IsReady}
+use Rattle.party_machine.specs.Within.{all_entries, IsReadyWallet}
 use Rattle.party_machine.specs.Unlocking.{IsSignable, base_key, due_hashkey}
 use Rattle.party_machine.specs.Recording.{new_key, unsigned_key, IsWholeKey}
 use Rattle.party_machine.proofs.Known.{legal_at}
@@ -67,7 +67,7 @@ pub fresh : (o : Option Hashkey) (key k : Hashkey) → cond (is_some o) None (So
 fresh None key k e = (refl, same_Some key k e)
 fresh (Some l) key k e = absurd (cc e)
 
-module _ (d : Deal) (w : WalletState) (known : List IndexState) (ready : IsReady d w known) where
+module _ (d : Deal) (w : WalletState) (known : List IndexState) (ready : IsReadyWallet d w known) where
   base_whole : (u : UnlockDue) (b : Base) → IsSeenBase d w.party (all_entries known) u.lock b → signed_hashkey w.signed u.lock ≡ None → (key : Hashkey)
       → make_due_key (seed_wallet w.seed w.party d) (signed_hashkey w.signed) (all_entries known) u.lock b ≡ Some key → IsWholeKey d key
   base_whole u Signed s none key e = absurd (cc (sym none ∙ e))

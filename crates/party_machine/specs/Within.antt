@@ -19,7 +19,7 @@ abbrev pub inside_machine : Inside → MachineState
 inside_machine m = record { deal = m.deal; me = m.wallet.party; seed = m.wallet.seed; known = all_entries m.known.items; signed = m.wallet.signed }
 
 -- The wallet has what the deal states of its party, and each hashkey in it is for its lock.
-pub record IsPartys (d : Deal) (w : WalletState) : Type 0 where
+pub record IsPartyWallet (d : Deal) (w : WalletState) : Type 0 where
   pub party : w.party < d.graph.n
   pub mode : w.mode ≡ d.mode
   pub places : length w.signed ≡ length d.leaders
@@ -27,14 +27,14 @@ pub record IsPartys (d : Deal) (w : WalletState) : Type 0 where
   pub locks : (i : ℕ) (k : Hashkey) → signed_hashkey w.signed i ≡ Some k → k.lock ≡ i
 
 -- The wallet is the party's, and what is known is a legal book.
-pub record IsReady (d : Deal) (w : WalletState) (known : List IndexState) : Type 0 where
+pub record IsReadyWallet (d : Deal) (w : WalletState) (known : List IndexState) : Type 0 where
   pub sized : IsWellSized d
-  pub partys : IsPartys d w
+  pub partys : IsPartyWallet d w
   pub indexes : AreIndexes d known
   pub arcs : map (λ x. x.arc) known ≡ arcs d.graph
   pub legal : IsLegalBook d (all_entries known)
 
 -- The machine is ready, and where it rests, it may.
-pub record IsKept (m : Inside) : Type 0 where
-  pub ready : IsReady m.deal m.wallet m.known.items
+pub record IsKeptMachine (m : Inside) : Type 0 where
+  pub ready : IsReadyWallet m.deal m.wallet m.known.items
   pub rests : MayRest m.rest (inside_machine m)

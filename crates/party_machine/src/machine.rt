@@ -20,7 +20,7 @@ ghost use Rattle.party_machine.specs.Rest.{rest_end_height, IsAtRest};
 ghost use Rattle.wallet_journal.specs.Device.{LeavesOnly, IsUntouched};
 ghost use Rattle.wallet_journal.specs.Journal.{KeepsRecorded};
 ghost use Rattle.wallet_journal.specs.Own.{IsOwn};
-ghost use Rattle.wallet_journal.specs.Recording.{IsRefused, IsWritten};
+ghost use Rattle.wallet_journal.specs.Recording.{IsRefusedRecord, IsWritten};
 ghost use Rattle.wallet_journal.specs.Layout.{recorded};
 ghost use Rattle.wallet_journal.specs.Stopped.{bytes_left, kept_key, IsOfWrites};
 ghost use Rattle.wallet_journal.specs.declared.fault.RecordFault.TheVariants.{DiskFault as Stopped, NoMemory as Wanting};
@@ -60,11 +60,11 @@ impl Model for Machine {
 
     ghost Value = { MachineState };
 
-    ghost use Rattle.party_machine.specs.Within.{inside_machine, IsKept};
+    ghost use Rattle.party_machine.specs.Within.{inside_machine, IsKeptMachine};
 
     ghost view = { inside_machine };
 
-    ghost invariant = { IsKept };
+    ghost invariant = { IsKeptMachine };
 }
 
 /// The height that stands for rest up to that height, if any: the greatest, where no tick ends the
@@ -317,7 +317,7 @@ impl Machine {
         ensures later { D.faults journal.old.disk ≤ D.faults journal.new.disk }
         ensures untouched { IfErr result (λ e. e ≡ Wanting
             → IsUntouched (D.seen journal.old.disk) (D.seen journal.new.disk) (D.may_leave journal.old.disk) (D.may_leave journal.new.disk)) }
-        ensures fault { IfErr result (λ e. IsRefused (D.faults journal.old.disk) (D.faults journal.new.disk) e journal.old.signed journal.new.signed
+        ensures fault { IfErr result (λ e. IsRefusedRecord (D.faults journal.old.disk) (D.faults journal.new.disk) e journal.old.signed journal.new.signed
             journal.new.sound) }
     {
         let answer = self.next()?;

@@ -4,7 +4,7 @@ ghost use Rattle.std.specs.Prelude.{◌≡◌, ◌<◌, None, length, IfOk, OnEr
 ghost use Rattle.party_wallet.specs.Value.{signed_hashkey};
 ghost use Rattle.due_calls.specs.Unlocks.{IsSeenBase};
 ghost use Rattle.party_wallet.specs.Keys.{with_signed};
-ghost use Rattle.party_machine.specs.Within.{all_entries, IsReady};
+ghost use Rattle.party_machine.specs.Within.{all_entries, IsReadyWallet};
 ghost use Rattle.party_machine.specs.Unlocking.{base_key, due_hashkey, IsSignable};
 ghost use Rattle.std.specs.Prelude.{Some};
 ghost use Rattle.ledger_core.specs.Facts.{opened_key};
@@ -55,7 +55,7 @@ fn sign_new(
     known: &[Index],
     due: UnlockDue,
 ) -> Result<Shared<Hashkey>, NoMemory>
-    requires ready { IsReady deal.now wallet.old known.now }
+    requires ready { IsReadyWallet deal.now wallet.old known.now }
     requires lock { due.lock < length deal.now.leaders }
     requires base { IsSeenBase deal.now wallet.old.party (all_entries known.now) due.lock due.base }
     requires from { IsSome (base_key deal.now wallet.old (all_entries known.now) due) }
@@ -80,7 +80,7 @@ pub(crate) fn chosen_hashkey(
     known: &[Index],
     due: UnlockDue,
 ) -> Result<Shared<Hashkey>, NoMemory>
-    requires ready { IsReady deal.now wallet.old known.now }
+    requires ready { IsReadyWallet deal.now wallet.old known.now }
     requires lock { due.lock < length deal.now.leaders }
     requires base { IsSeenBase deal.now wallet.old.party (all_entries known.now) due.lock due.base }
     requires from { IsSome (base_key deal.now wallet.old (all_entries known.now) due) }

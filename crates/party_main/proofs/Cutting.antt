@@ -8,8 +8,8 @@ use Rattle.swap_base.specs.declared.fault.Fault.TheVariants.{Refused}
 use Rattle.swap_base.specs.Fault.{◌>>=◌, Fails, Gives}
 use Rattle.party_answer.specs.declared.given.Answer.{Answer}
 use Rattle.party_answer.specs.declared.reason.AnswerReason.{AnswerReason}
-use Rattle.party_answer.specs.Promised.{IsAnswer}
-use Rattle.party_main.specs.Next.{Cut, answer_parts, cut, cut_short, ended_output, read_seed_line, IsInputAnswer, IsPartsAnswer}
+use Rattle.party_answer.specs.Promised.{IsTextAnswer}
+use Rattle.party_main.specs.Next.{Cut, answer_parts, cut, cut_short, ended_output, read_first_seed_line, IsInputAnswer, IsPartsAnswer}
 
 not_true : (t : Bool) → ¬ (t ≡ true) → t ≡ false
 not_true true h = absurd (h refl)
@@ -71,8 +71,8 @@ module _ (name input line rest : List ℕ) (end : ℕ) (before : NoneBefore (Pas
   pub promised_cut : IfOk r (λ t. IsPartsAnswer name parts t) → IfOk r (λ t. IsInputAnswer name input t)
   promised_cut p = on_ok r (λ t. IsPartsAnswer name parts t) (λ t. IsInputAnswer name input t) (λ t k. record { parts = parts; cut = is_cut; is = k }) p
 
-pub seed_answer : (name line rest seed : List ℕ) (r : Result Answer (Fault AnswerReason)) → read_seed_line line ≡ Ok seed
-    → IfOk r (λ t. IsAnswer 2 name seed rest t) → IfOk r (λ t. IsPartsAnswer name (record { line = line; rest = rest }) t)
+pub seed_answer : (name line rest seed : List ℕ) (r : Result Answer (Fault AnswerReason)) → read_first_seed_line line ≡ Ok seed
+    → IfOk r (λ t. IsTextAnswer 2 name seed rest t) → IfOk r (λ t. IsPartsAnswer name (record { line = line; rest = rest }) t)
 seed_answer name line rest seed r told p =
-    on_ok r (λ t. IsAnswer 2 name seed rest t) (λ t. IsPartsAnswer name (record { line = line; rest = rest }) t)
+    on_ok r (λ t. IsTextAnswer 2 name seed rest t) (λ t. IsPartsAnswer name (record { line = line; rest = rest }) t)
     (λ t k. record { seed = seed; told = told; is = k }) p

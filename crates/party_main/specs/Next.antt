@@ -9,16 +9,16 @@ use Rattle.party_lines.specs.Lines.{is_ended, nameless}
 use Rattle.party_answer.specs.declared.given.Answer.{Answer}
 use Rattle.party_answer.specs.declared.reason.AnswerReason.{AnswerReason}
 use Rattle.party_answer.specs.declared.reason.AnswerReason.TheVariants.{Refused}
-use Rattle.party_answer.specs.Promised.{IsAnswer}
+use Rattle.party_answer.specs.Promised.{IsTextAnswer}
 use Rattle.party_answer.specs.Text.{answer_told}
 
-abbrev pub by_refusal : Result (List ℕ) Refusal → Result (List ℕ) AnswerReason
-by_refusal (Ok seed) = Ok seed
-by_refusal (Err refusal) = Err (Refused refusal)
+abbrev pub answer_by_refusal : Result (List ℕ) Refusal → Result (List ℕ) AnswerReason
+answer_by_refusal (Ok seed) = Ok seed
+answer_by_refusal (Err refusal) = Err (Refused refusal)
 
 -- the seed that the first line tells
-abbrev pub read_seed_line : List ℕ → Result (List ℕ) AnswerReason
-read_seed_line line = by_refusal (digests.read_seed_line 1 line)
+abbrev pub read_first_seed_line : List ℕ → Result (List ℕ) AnswerReason
+read_first_seed_line line = answer_by_refusal (digests.read_seed_line 1 line)
 
 -- The bytes before the first line feed, and those behind it.
 pub record Cut : Type 0 where
@@ -37,7 +37,7 @@ cut (x ∷ xs) = if x == 10 then Ok (record { line = []; rest = xs }) else cut x
 -- what is answered to a text behind the line that tells the seed
 unfoldable pub answer_parts : List ℕ → Cut → Result Answer AnswerReason
 answer_parts name c = do
-  seed ← read_seed_line c.line
+  seed ← read_first_seed_line c.line
   answer_told 2 name seed c.rest
 
 -- what is answered to an input that ends with a line feed
@@ -51,8 +51,8 @@ next_output name input = if is_ended input then ended_output name input else Err
 -- The answer is that to the bytes behind a line that tells the seed.
 pub record IsPartsAnswer (name : List ℕ) (parts : Cut) (answer : Answer) : Type 0 where
   pub seed : List ℕ
-  pub told : read_seed_line parts.line ≡ Ok seed
-  pub is : IsAnswer 2 name seed parts.rest answer
+  pub told : read_first_seed_line parts.line ≡ Ok seed
+  pub is : IsTextAnswer 2 name seed parts.rest answer
 
 -- The answer is that to an input: to what stands behind its first line, with the seed that this
 -- line tells.

@@ -2,7 +2,7 @@
 use Rattle.std.specs.Prelude.{ℕ, false, List, Result, Ok, Err}
 use Rattle.refusals.specs.declared.refusal.Refusal.{Refusal}
 use Rattle.party_rows.specs.declared.reason.DealReason.{DealReason}
-use Rattle.party_rows.specs.Dealt.{IsDealt}
+use Rattle.party_rows.specs.Dealt.{IsDealtText}
 use Rattle.party_rows.specs.Keys.{deal_output, keys_output}
 use Rattle.party_terms.specs.Terms.{terms_output}
 use Rattle.party_answer.specs.declared.given.Answer.{Answer}
@@ -30,16 +30,16 @@ by_answer (Ok answer) = Ok answer
 by_answer (Err reason) = Err (reasons.Next reason)
 
 -- what is written of an input for a command
-abbrev pub command_output : Command → List ℕ → Result Answer PartyReason
-command_output (Keys name) input = by_header (keys_output name input)
-command_output Deal input = by_deal (deal_output input)
-command_output (Terms name) input = by_header (terms_output name input)
-command_output (Next name) input = by_answer (next_output name input)
+abbrev pub party_output : Command → List ℕ → Result Answer PartyReason
+party_output (Keys name) input = by_header (keys_output name input)
+party_output Deal input = by_deal (deal_output input)
+party_output (Terms name) input = by_header (terms_output name input)
+party_output (Next name) input = by_answer (next_output name input)
 
 -- What holds of what is written of an input beside: a deal's line is that of an accepted deal, and
 -- an answer is promised.
-abbrev pub IsPromised : Command → List ℕ → Answer → Type 0
-IsPromised (Keys name) input answer = Unit {0}
-IsPromised Deal input answer = IsDealt answer.text
-IsPromised (Terms name) input answer = Unit {0}
-IsPromised (Next name) input answer = IsInputAnswer name input answer
+abbrev pub IsPromisedOutput : Command → List ℕ → Answer → Type 0
+IsPromisedOutput (Keys name) input answer = Unit {0}
+IsPromisedOutput Deal input answer = IsDealtText answer.text
+IsPromisedOutput (Terms name) input answer = Unit {0}
+IsPromisedOutput (Next name) input answer = IsInputAnswer name input answer

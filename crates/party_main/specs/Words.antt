@@ -5,23 +5,23 @@ use Rattle.party_main.specs.declared.command.Command.{Command}
 use Rattle.party_main.specs.declared.command.Command.TheVariants.{Keys, Deal, Terms, Next}
 
 -- the command that has no name
-abbrev pub alone : List ℕ → Option Command
-alone word = if bytes_eq word (codes "deal") then Some Deal else None
+abbrev pub nameless_command : List ℕ → Option Command
+nameless_command word = if bytes_eq word (codes "deal") then Some Deal else None
 
 -- the commands that have a party's name
-abbrev pub named : List ℕ → List ℕ → Option Command
-named word name =
+abbrev pub named_command : List ℕ → List ℕ → Option Command
+named_command word name =
     if bytes_eq word (codes "keys") then Some (Keys name)
     else if bytes_eq word (codes "terms") then Some (Terms name)
     else if bytes_eq word (codes "next") then Some (Next name)
     else None
 
 -- what words ask for, if they are a command's
-abbrev pub words_command : List (List ℕ) → Option Command
-words_command [] = None
-words_command (word ∷ []) = alone word
-words_command (word ∷ name ∷ []) = named word name
-words_command (word ∷ name ∷ further ∷ more) = None
+abbrev pub words_party_command : List (List ℕ) → Option Command
+words_party_command [] = None
+words_party_command (word ∷ []) = nameless_command word
+words_party_command (word ∷ name ∷ []) = named_command word name
+words_party_command (word ∷ name ∷ further ∷ more) = None
 
 -- the most bytes of an input of `keys`, `deal` or `terms`
 abbrev pub short_limit : ℕ

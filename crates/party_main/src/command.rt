@@ -1,7 +1,7 @@
 //! What the words of the program `party` ask for.
 
 ghost use Rattle.std.specs.Prelude.{◌≡◌, map, string_bytes};
-ghost use Rattle.party_main.specs.Words.{alone, words_command, command_input_limit, named};
+ghost use Rattle.party_main.specs.Words.{nameless_command, words_party_command, command_input_limit, named_command};
 
 use offer_fields::TextRef;
 
@@ -33,8 +33,8 @@ pub enum Command<'a> {
     Next(TextRef<'a>),
 }
 
-fn alone<'a>(word: &[u8]) -> Option<Command<'a>>
-    ensures { result ≡ alone word.now }
+fn nameless_command<'a>(word: &[u8]) -> Option<Command<'a>>
+    ensures { result ≡ nameless_command word.now }
 {
     if word == b"deal".as_slice() {
         Some(Command::Deal)
@@ -43,8 +43,8 @@ fn alone<'a>(word: &[u8]) -> Option<Command<'a>>
     }
 }
 
-fn named<'a>(word: &[u8], name: &'a [u8]) -> Option<Command<'a>>
-    ensures { result ≡ named word.now name.now }
+fn named_command<'a>(word: &[u8], name: &'a [u8]) -> Option<Command<'a>>
+    ensures { result ≡ named_command word.now name.now }
 {
     if word == b"keys".as_slice() {
         Some(Command::Keys(TextRef::new(name)))
@@ -58,12 +58,12 @@ fn named<'a>(word: &[u8], name: &'a [u8]) -> Option<Command<'a>>
 }
 
 /// What the words ask for, if they are a command's.
-pub(crate) fn words_command<'a>(words: &'a [String]) -> Option<Command<'a>>
-    ensures { result ≡ words_command (map string_bytes words.now) }
+pub(crate) fn words_party_command<'a>(words: &'a [String]) -> Option<Command<'a>>
+    ensures { result ≡ words_party_command (map string_bytes words.now) }
 {
     match words {
-        [word] => alone(word.as_bytes()),
-        [word, name] => named(word.as_bytes(), name.as_bytes()),
+        [word] => nameless_command(word.as_bytes()),
+        [word, name] => named_command(word.as_bytes(), name.as_bytes()),
         _ => None,
     }
 }

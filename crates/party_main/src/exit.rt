@@ -1,7 +1,7 @@
 //! How the program `party` ends: the number of its status, and what it tells on standard error.
 
 ghost use Rattle.std.specs.Prelude.{◌≡◌, ◌⊎◌};
-ghost use Rattle.party_main.specs.Exit.{IsExit};
+ghost use Rattle.party_main.specs.Exit.{IsPartyExit};
 
 use crate::reason::{PartyReason, reason_line};
 use crate::top::PartyStatus;
@@ -10,10 +10,10 @@ use std::alloc::Global;
 
 /// What the process ends with by its status. A refusal whose line finds no memory ends as want of
 /// memory does.
-#[tactic(auto, unfolding(crate::specs::Exit::error_lines))]
+#[tactic(auto, unfolding(crate::specs::Exit::party_error_lines))]
 pub fn ending(alloc: Global, status: PartyStatus) -> Exit
-    ensures exact { IsExit result status ⊎ IsExit result PartyStatus.NoMemory }
-    ensures plain { ((reason : PartyReason) → ¬ (status ≡ PartyStatus.Refused reason)) → IsExit result status }
+    ensures exact { IsPartyExit result status ⊎ IsPartyExit result PartyStatus.NoMemory }
+    ensures plain { ((reason : PartyReason) → ¬ (status ≡ PartyStatus.Refused reason)) → IsPartyExit result status }
 {
     match status {
         PartyStatus::Done => Exit::of_words(0, ""),

@@ -4,7 +4,7 @@
 ghost use Rattle.std.specs.Prelude.{◌≡◌, IfOk};
 ghost use Rattle.swap_base.specs.Fault.{Gives};
 ghost use Rattle.party_lines.specs.Lines.{is_ended};
-ghost use Rattle.party_main.specs.Next.{answer_parts, cut_short, ended_output, next_output, read_seed_line, IsPartsAnswer, IsInputAnswer};
+ghost use Rattle.party_main.specs.Next.{answer_parts, cut_short, ended_output, next_output, read_first_seed_line, IsPartsAnswer, IsInputAnswer};
 
 use memchr::memchr;
 use party_answer::{Answer, AnswerFault, AnswerReason, answer};
@@ -19,8 +19,8 @@ fn cut_short(alloc: Global) -> AnswerFault
 }
 
 /// The seed that the first line tells.
-fn read_seed_line(alloc: Global, line: &[u8]) -> Result<Digest, AnswerFault>
-    ensures { Gives (λ d. d) result (read_seed_line line.now) }
+fn read_first_seed_line(alloc: Global, line: &[u8]) -> Result<Digest, AnswerFault>
+    ensures { Gives (λ d. d) result (read_first_seed_line line.now) }
 {
     match party_lines::read_seed_line(alloc, 1, line) {
         Ok(seed) => Ok(seed),
@@ -35,7 +35,7 @@ fn answer_parts(alloc: Global, name: &[u8], line: &[u8], rest: &[u8]) -> Result<
     ensures exact { Gives (λ a. a) result (answer_parts name.now (record { line = line.now; rest = rest.now })) }
     ensures promised { IfOk result (λ a. IsPartsAnswer name.now (record { line = line.now; rest = rest.now }) a) }
 {
-    let seed = read_seed_line(alloc, line)?;
+    let seed = read_first_seed_line(alloc, line)?;
     answer(alloc, 2, name, &seed, rest)
 }
 

@@ -2,11 +2,11 @@
 
 ghost use Rattle.std.specs.Prelude.{IfOk};
 ghost use Rattle.swap_base.specs.Fault.{Gives};
-ghost use Rattle.party_rows.specs.Dealt.{IsDealt};
+ghost use Rattle.party_rows.specs.Dealt.{IsDealtText};
 ghost use Rattle.party_rows.specs.Keys.{deal_output, keys_output};
 ghost use Rattle.party_terms.specs.Terms.{terms_output};
 ghost use Rattle.party_main.specs.Next.{next_output, IsInputAnswer};
-ghost use Rattle.party_main.specs.Output.{by_answer, by_deal, by_header, command_output, IsPromised};
+ghost use Rattle.party_main.specs.Output.{by_answer, by_deal, by_header, party_output, IsPromisedOutput};
 
 use crate::command::Command;
 use crate::next::next;
@@ -27,7 +27,7 @@ fn keys_written(alloc: Global, name: &[u8], input: &[u8]) -> Result<Answer, Part
 
 fn deal_written(alloc: Global, input: &[u8]) -> Result<Answer, PartyFault>
     ensures exact { Gives (λ a. a) result (by_deal (deal_output input.now)) }
-    ensures dealt { IfOk result (λ a. IsDealt a.text) }
+    ensures dealt { IfOk result (λ a. IsDealtText a.text) }
 {
     match deal(alloc, input) {
         Ok(text) => Ok(Answer { text, warns: false }),
@@ -56,13 +56,13 @@ fn next_written(alloc: Global, name: &[u8], input: &[u8]) -> Result<Answer, Part
 
 /// What is written of an input for a command. It warns where a line of it tells of something that
 /// should not be.
-pub(crate) fn command_output(
+pub(crate) fn party_output(
     alloc: Global,
     command: &Command<'_>,
     input: &[u8],
 ) -> Result<Answer, PartyFault>
-    ensures exact { Gives (λ a. a) result (command_output command.now input.now) }
-    ensures promised { IfOk result (λ a. IsPromised command.now input.now a) }
+    ensures exact { Gives (λ a. a) result (party_output command.now input.now) }
+    ensures promised { IfOk result (λ a. IsPromisedOutput command.now input.now a) }
 {
     match command {
         Command::Keys(name) => keys_written(alloc, name.as_slice(), input),

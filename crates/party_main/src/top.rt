@@ -2,11 +2,11 @@
 
 ghost use Rattle.std.specs.Prelude.{◌≡◌, ℕ, List, Some, map, string_bytes};
 ghost use Rattle.command_input.specs.Streams.{streams};
-ghost use Rattle.party_main.specs.Says.{of_fault, Says, Writes};
-ghost use Rattle.party_main.specs.Words.{words_command};
+ghost use Rattle.party_main.specs.Says.{of_fault, PartyStatusSays, PartyStatusWrites};
+ghost use Rattle.party_main.specs.Words.{words_party_command};
 
-use crate::command::{Command, command_input_limit, words_command};
-use crate::output::command_output;
+use crate::command::{Command, command_input_limit, words_party_command};
+use crate::output::party_output;
 use crate::reason::{PartyFault, PartyReason};
 use party_answer::Answer;
 use std::alloc::Global;
@@ -39,7 +39,7 @@ fn of_fault(fault: PartyFault) -> PartyStatus
 }
 
 fn write_text<K: Sink>(sink: &mut K, what: &Answer) -> PartyStatus
-    ensures { Writes (K.taken sink.old) (K.taken sink.new) (K.faults sink.old) (K.faults sink.new) what.now result }
+    ensures { PartyStatusWrites (K.taken sink.old) (K.taken sink.new) (K.faults sink.old) (K.faults sink.new) what.now result }
 {
     match write_all(sink, what.text.as_slice()) {
         Ok(()) if what.warns => PartyStatus::Warned,
@@ -55,8 +55,8 @@ fn obey<S: Source, K: Sink>(
     source: &mut S,
     sink: &mut K,
 ) -> PartyStatus
-    ensures { (words : List (List ℕ)) → words_command words ≡ Some command.now
-        → Says words (streams (S.left source.old) (S.faults source.old) (K.taken sink.old) (K.faults sink.old))
+    ensures { (words : List (List ℕ)) → words_party_command words ≡ Some command.now
+        → PartyStatusSays words (streams (S.left source.old) (S.faults source.old) (K.taken sink.old) (K.faults sink.old))
         (streams (S.left source.new) (S.faults source.new) (K.taken sink.new) (K.faults sink.new)) result }
 {
     let input = match read_all(alloc, source, command_input_limit(command)) {
@@ -65,7 +65,7 @@ fn obey<S: Source, K: Sink>(
         Err(ReadAllFault::TooLong) => return PartyStatus::TooLong,
         Err(ReadAllFault::NoMemory) => return PartyStatus::NoMemory,
     };
-    match command_output(alloc, command, &input) {
+    match party_output(alloc, command, &input) {
         Ok(what) => write_text(sink, &what),
         Err(fault) => of_fault(fault),
     }
@@ -79,10 +79,10 @@ pub fn party_top<S: Source, K: Sink>(
     source: &mut S,
     sink: &mut K,
 ) -> PartyStatus
-    ensures { Says (map string_bytes words.now) (streams (S.left source.old) (S.faults source.old) (K.taken sink.old) (K.faults sink.old))
+    ensures { PartyStatusSays (map string_bytes words.now) (streams (S.left source.old) (S.faults source.old) (K.taken sink.old) (K.faults sink.old))
         (streams (S.left source.new) (S.faults source.new) (K.taken sink.new) (K.faults sink.new)) result }
 {
-    match words_command(words) {
+    match words_party_command(words) {
         Some(command) => obey(alloc, &command, source, sink),
         None => PartyStatus::WrongWords,
     }

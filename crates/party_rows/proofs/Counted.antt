@@ -7,7 +7,7 @@ use Rattle.std.proofs.lemmas.Grind.{get_or-set_at}
 use Rattle.swap_digraph.specs.declared.deal.Deal.{Deal}
 use Rattle.refusals.specs.declared.reason.Reason.{Reason}
 use Rattle.refusals.specs.declared.reason.Reason.TheVariants.{OverLimit}
-use Rattle.refusals.specs.Refusal.{named}
+use Rattle.refusals.specs.Refusal.{named_result}
 use Rattle.offer_fields.specs.Limits.{check_range}
 use Rattle.party_rows.specs.declared.row.Row.{Row}
 use Rattle.party_rows.specs.Rows.{keys_wanted, right_keys, find_row, AreDealRows}
@@ -26,7 +26,7 @@ keys_right line d row u e = go (nat_le wanted n) (nat_le n wanted) refl refl e
     over : Result (Unit {0}) Reason
     over = Err (OverLimit line (codes "keys") n)
 
-    go : (a b : Bool) → nat_le wanted n ≡ a → nat_le n wanted ≡ b → named [] (cond (a && b) (Ok tt) over) ≡ Ok u → n ≡ wanted
+    go : (a b : Bool) → nat_le wanted n ≡ a → nat_le n wanted ≡ b → named_result [] (cond (a && b) (Ok tt) over) ≡ Ok u → n ≡ wanted
     go true true p q k = let x : wanted ≤ n = leb-true wanted n p in let y : n ≤ wanted = leb-true n wanted q in omega arith
     go true false p q k = absurd (cc k)
     go false b p q k = absurd (cc k)

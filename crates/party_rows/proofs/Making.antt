@@ -12,7 +12,7 @@ use Rattle.swap_rules.specs.Party.{leads_one}
 use Rattle.swap_job.specs.declared.job.Purpose.TheVariants.{Audit}
 use Rattle.proposed_deal.specs.Proposed.{IsProposed}
 use Rattle.hashkey_path.specs.Digest.{deal_id}
-use Rattle.swap_gen.specs.Made.{all_keys, all_timelocks, filled, seed_hashlock, seed_keys, made_deal, seed_or_zeros}
+use Rattle.swap_gen.specs.Made.{all_keys, all_timelocks, seed_filled_deal, seed_hashlock, seed_keys, made_deal, seed_or_zeros}
 use Rattle.party_rows.specs.declared.row.Row.{Row}
 use Rattle.party_rows.specs.Row.{seeded_hashlock, seeded_keys, seeded_row}
 use Rattle.party_rows.specs.Rows.{find_row}
@@ -54,7 +54,7 @@ module _ (seeds : List (Option (List ℕ))) (d : Deal) (k : IsProposed d) where
   all_are Hashkeys e =
       map_in (told_keys (seeded_rows seeds d)) (seed_keys seeds d) (range_with_len 0 d.graph.n) (λ p i. keys_are p (from_range p d.graph.n i) e)
 
-  filled_is : filled_deal (seeded_rows seeds d) d ≡ filled seeds d
+  filled_is : filled_deal (seeded_rows seeds d) d ≡ seed_filled_deal seeds d
   filled_is =
       ap₂ (λ (hs : List (List ℕ)) (ks : List (List (List ℕ))). record d { hashlocks = hs; keys = ks; timelocks = all_timelocks d.mode d })
       (map_in (told_hashlock (seeded_rows seeds d)) (seed_hashlock seeds) d.leaders hashlock_is) (all_are d.mode refl)

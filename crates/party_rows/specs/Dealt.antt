@@ -52,7 +52,7 @@ unfoldable pub dealt_line : Job → List ℕ
 dealt_line job = joined (header_line job ∷ codes "\n" ∷ [])
 
 -- A text is the header line of a job whose deal is accepted.
-pub record IsDealt (text : List ℕ) : Type 0 where
+pub record IsDealtText (text : List ℕ) : Type 0 where
   pub job : Job
   pub is : text ≡ dealt_line job
   pub accepted : IsAccepted job.deal

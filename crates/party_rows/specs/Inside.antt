@@ -29,9 +29,9 @@ pub record IsDealing (s : Dealing) : Type 0 where
   pub offered : IsOffered s.job
   pub rows : AreDealRows s.job.deal s.rows
 
-abbrev pub deal_fault : Fault Refusal → Fault DealReason
-deal_fault (Refused refusal) = Refused (reasons.Refused refusal)
-deal_fault NoMemory = NoMemory
+abbrev pub deal_fault_by_refusal : Fault Refusal → Fault DealReason
+deal_fault_by_refusal (Refused refusal) = Refused (reasons.Refused refusal)
+deal_fault_by_refusal NoMemory = NoMemory
 
 -- a digest in a list, behind the comma that parts it from the one before it
 abbrev pub comma_digest : ℕ → List ℕ → List ℕ

@@ -62,9 +62,9 @@ parse_dealing_lines ls = do
 unfoldable pub parse_dealing : List ℕ → Result DealingState Refusal
 parse_dealing text = ended_lines text >>= parse_dealing_lines
 
-abbrev pub by_refusal : {A : Type 0} → Result A Refusal → Result A DealReason
-by_refusal (Ok x) = Ok x
-by_refusal (Err refusal) = Err (Refused refusal)
+abbrev pub deal_by_refusal : {A : Type 0} → Result A Refusal → Result A DealReason
+deal_by_refusal (Ok x) = Ok x
+deal_by_refusal (Err refusal) = Err (Refused refusal)
 
 abbrev pub unless_missing : DealingState → Option ℕ → Result (List ℕ) DealReason
 unless_missing s None = Ok (dealt_line (dealt s.rows s.job))
@@ -76,4 +76,4 @@ deal_from_rows s = unless_missing s (first_missing s.rows)
 
 -- what `deal` writes
 unfoldable pub deal_output : List ℕ → Result (List ℕ) DealReason
-deal_output text = by_refusal (parse_dealing text) >>= deal_from_rows
+deal_output text = deal_by_refusal (parse_dealing text) >>= deal_from_rows

@@ -8,7 +8,7 @@ use Rattle.swap_job.specs.declared.job.Purpose.TheVariants.{Make}
 use Rattle.refusals.specs.declared.reason.Reason.{Reason}
 use Rattle.refusals.specs.declared.reason.Reason.TheVariants.{UnknownField}
 use Rattle.refusals.specs.declared.refusal.Refusal.{Refusal}
-use Rattle.refusals.specs.Refusal.{named}
+use Rattle.refusals.specs.Refusal.{named_result}
 use Rattle.offer_header.specs.declared.header.Header.{Header}
 use Rattle.offer_header.specs.Header.{parse_whole_header}
 use Rattle.offer_header.specs.Names.{no_strategy}
@@ -17,14 +17,14 @@ use Rattle.swap_offer.specs.Job.{header_names}
 use Rattle.party_lines.specs.Lines.{short_header}
 
 -- no party's seed is told
-unfoldable pub untold : ℕ → List (Option (List ℕ)) → Result (Unit {0}) Reason
-untold line seeds = if list_all is_none seeds then Ok tt else Err (UnknownField line (codes "seed"))
+unfoldable pub no_seed_told : ℕ → List (Option (List ℕ)) → Result (Unit {0}) Reason
+no_seed_told line seeds = if list_all is_none seeds then Ok tt else Err (UnknownField line (codes "seed"))
 
 -- the digraph of a header that passes its checks and tells nobody's seed
 unfoldable pub examined : ℕ → Header → Result Graph Reason
 examined line h = do
   g ← admitted h
-  u ← untold line h.seeds
+  u ← no_seed_told line h.seeds
   Ok g
 
 -- the job that a header proposes
@@ -42,4 +42,4 @@ parse_plain line text = parse_whole_header no_strategy Make line text >>= propos
 unfoldable pub parse_offer : ℕ → List ℕ → Result Job Refusal
 parse_offer line text = do
   u ← short_header line text
-  named (header_names no_strategy Make line text) (parse_plain line text)
+  named_result (header_names no_strategy Make line text) (parse_plain line text)

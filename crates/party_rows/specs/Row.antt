@@ -11,7 +11,7 @@ use Rattle.swap_rules.specs.Party.{leads_one}
 use Rattle.offer_header.specs.Names.{is_name}
 use Rattle.transcript_lines.specs.declared.said.Misspelling.{Misspelling}
 use Rattle.transcript_lines.specs.Between.{separated_parts, spaced}
-use Rattle.transcript_lines.specs.Reading.{misspelt, to_digest, parse_first_field, is_word, inside_entries, nothing_more}
+use Rattle.transcript_lines.specs.Reading.{misspelt, lower_hex_digest, parse_first_field, is_word, listed_field, nothing_more}
 use Rattle.transcript_lines.specs.Words.{list_word}
 use Rattle.party_lines.specs.Digests.{this_word}
 use Rattle.party_rows.specs.declared.row.Row.{Row}
@@ -53,7 +53,7 @@ abbrev pub name_said : List ℕ → Result (List ℕ) Misspelling
 name_said w = if is_name w then Ok w else misspelt
 
 abbrev pub hashlock_said : List ℕ → Result (Option (List ℕ)) Misspelling
-hashlock_said w = if is_word w (codes "-") then Ok None else (to_digest w >>= λ hashlock. Ok (Some hashlock))
+hashlock_said w = if is_word w (codes "-") then Ok None else (lower_hex_digest w >>= λ hashlock. Ok (Some hashlock))
 
 -- the name and its row that the fields of a line say
 unfoldable pub row_said : List (List ℕ) → Result NamedRow Misspelling
@@ -61,7 +61,7 @@ row_said ws = do
   word ← parse_first_field (this_word (codes "row")) ws
   name ← parse_first_field name_said word.1
   hashlock ← parse_first_field hashlock_said name.1
-  keys ← parse_first_field (inside_entries to_digest) hashlock.1
+  keys ← parse_first_field (listed_field lower_hex_digest) hashlock.1
   u ← nothing_more keys.1
   Ok (record { name = name.0; row = record { hashlock = hashlock.0; keys = keys.0 } })
 

@@ -9,9 +9,9 @@ use Rattle.swap_rules.specs.Party.{leads_one}
 use Rattle.swap_job.specs.declared.job.Job.{Job}
 use Rattle.refusals.specs.declared.reason.Reason.TheVariants.{Duplicate}
 use Rattle.refusals.specs.declared.refusal.Refusal.{Refusal}
-use Rattle.refusals.specs.Refusal.{named}
+use Rattle.refusals.specs.Refusal.{named_result}
 use Rattle.offer_fields.specs.Limits.{check_range}
-use Rattle.party_lines.specs.Lines.{nameless, next_number, or_bad_line}
+use Rattle.party_lines.specs.Lines.{nameless, following_line_number, or_bad_line}
 use Rattle.party_lines.specs.Names.{party_named}
 use Rattle.party_rows.specs.declared.row.Row.{Row}
 use Rattle.party_rows.specs.declared.row.NamedRow.{NamedRow}
@@ -43,11 +43,11 @@ check_first line name (Some row) = Err (nameless (Duplicate line name))
 -- the row has a hashlock exactly where the party leads
 unfoldable pub right_hashlock : ℕ → (leads : Bool) → Row → Result (Unit {0}) Refusal
 right_hashlock line leads row =
-    named [] (check_range line (codes "hashlock") (hashlocks_wanted leads) (hashlocks_wanted leads) (count_hashlocks row.hashlock))
+    named_result [] (check_range line (codes "hashlock") (hashlocks_wanted leads) (hashlocks_wanted leads) (count_hashlocks row.hashlock))
 
 -- it has a key for each lock, with timelocks none
 unfoldable pub right_keys : ℕ → Deal → Row → Result (Unit {0}) Refusal
-right_keys line d row = named [] (check_range line (codes "keys") (keys_wanted d.mode d) (keys_wanted d.mode d) (length row.keys))
+right_keys line d row = named_result [] (check_range line (codes "keys") (keys_wanted d.mode d) (keys_wanted d.mode d) (length row.keys))
 
 -- with the row of party p, which the line of that number gives
 unfoldable pub with_party_row : Job → ℕ → List (Option Row) → ℕ → NamedRow → Result (List (Option Row)) Refusal
@@ -67,7 +67,7 @@ with_row job line rows text = do
 -- with the rows that lines give, the first of which has that number
 abbrev pub with_rows : Job → ℕ → List (Option Row) → List (List ℕ) → Result (List (Option Row)) Refusal
 with_rows job line rows [] = Ok rows
-with_rows job line rows (l ∷ ls) = with_row job line rows l >>= λ more. with_rows job (next_number line) more ls
+with_rows job line rows (l ∷ ls) = with_row job line rows l >>= λ more. with_rows job (following_line_number line) more ls
 
 -- the rows that lines give, a place for each party
 unfoldable pub parse_rows : Job → ℕ → List (List ℕ) → Result (List (Option Row)) Refusal

@@ -2,14 +2,14 @@
 
 ghost use Rattle.std.specs.Prelude.{◌≡◌, ◌<◌, IfOk, IfSome, length, slice_index_or, []};
 ghost use Rattle.swap_base.specs.Fault.{Gives};
-ghost use Rattle.party_rows.specs.Dealt.{IsDealt};
+ghost use Rattle.party_rows.specs.Dealt.{IsDealtText};
 ghost use Rattle.party_rows.specs.Inside.{inside_dealing, IsDealing};
 ghost use Rattle.party_rows.specs.Keys.{deal_output, parse_dealing_lines, parse_dealing, deal_from_rows};
 ghost use Rattle.party_rows.specs.Rows.{first_missing};
 
 use crate::dealt::dealt_text;
 use crate::offer::offer;
-use crate::reason::{DealFault, DealReason, deal_fault};
+use crate::reason::{DealFault, DealReason, deal_fault_by_refusal};
 use crate::row::Row;
 use crate::rows::parse_rows;
 use party_lines::{ended_lines, first_line};
@@ -60,7 +60,7 @@ fn first_missing(rows: &[Option<Row>]) -> Option<usize>
 fn deal_from_rows(alloc: Global, said: Dealing) -> Result<ByteText, DealFault>
     requires { IsDealing said }
     ensures exact { Gives (λ t. t) result (deal_from_rows (inside_dealing said)) }
-    ensures dealt { IfOk result IsDealt }
+    ensures dealt { IfOk result IsDealtText }
 {
     let Dealing { job, rows } = said;
     match first_missing(rows.as_slice()) {
@@ -78,10 +78,10 @@ fn deal_from_rows(alloc: Global, said: Dealing) -> Result<ByteText, DealFault>
 #[tactic(auto, unfolding(crate::specs::Keys::deal_output))]
 pub fn deal(alloc: Global, text: &[u8]) -> Result<ByteText, DealFault>
     ensures exact { Gives (λ t. t) result (deal_output text.now) }
-    ensures dealt { IfOk result IsDealt }
+    ensures dealt { IfOk result IsDealtText }
 {
     match parse_dealing(alloc, text) {
         Ok(said) => deal_from_rows(alloc, said),
-        Err(fault) => Err(deal_fault(fault)),
+        Err(fault) => Err(deal_fault_by_refusal(fault)),
     }
 }

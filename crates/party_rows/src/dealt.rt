@@ -4,7 +4,7 @@ ghost use Rattle.std.specs.Prelude.{◌≡◌, IfOk, None, map};
 ghost use Rattle.std.specs.List.{range_with_len};
 ghost use Rattle.swap_rules.specs.Accepted.{IsAccepted};
 ghost use Rattle.proposed_deal.specs.Proposed.{IsProposed};
-ghost use Rattle.party_rows.specs.Dealt.{all_told_keys, dealt, dealt_deal, dealt_line, told_hashlock, told_keys, IsDealt};
+ghost use Rattle.party_rows.specs.Dealt.{all_told_keys, dealt, dealt_deal, dealt_line, told_hashlock, told_keys, IsDealtText};
 ghost use Rattle.party_rows.specs.Inside.{IsOffered};
 ghost use Rattle.party_rows.specs.Rows.{first_missing, AreDealRows};
 
@@ -133,7 +133,7 @@ pub(crate) fn dealt_text(
     requires rows { AreDealRows job.deal rows.now }
     requires all { first_missing rows.now ≡ None }
     ensures exact { IfOk result (λ t. t ≡ dealt_line (dealt rows.now job)) }
-    ensures dealt { IfOk result IsDealt }
+    ensures dealt { IfOk result IsDealtText }
 {
     let made = dealt(alloc, rows, job)?;
     let line = write_deal(alloc, &made)?;

@@ -4,13 +4,13 @@ ghost use Rattle.std.specs.Prelude.{◌≡◌, IfOk, is_none, length};
 ghost use Rattle.std.specs.List.{list_all};
 ghost use Rattle.swap_base.specs.Fault.{Gives};
 ghost use Rattle.swap_digraph.specs.Graph.{HasEnds};
-ghost use Rattle.refusals.specs.Refusal.{named};
+ghost use Rattle.refusals.specs.Refusal.{named_result};
 ghost use Rattle.offer_header.specs.Header.{IsHeaderInLimits};
 ghost use Rattle.offer_header.specs.Names.{no_strategy};
 ghost use Rattle.swap_offer.specs.Checks.{header_deal, IsAcceptedOrProposed};
 ghost use Rattle.swap_offer.specs.Job.{header_names};
 ghost use Rattle.party_rows.specs.Inside.{IsOffered};
-ghost use Rattle.party_rows.specs.Offer.{examined, parse_offer, parse_plain, proposed_job, untold};
+ghost use Rattle.party_rows.specs.Offer.{examined, parse_offer, parse_plain, proposed_job, no_seed_told};
 
 use offer_header::{Header, parse_header};
 use party_lines::short_header;
@@ -28,9 +28,9 @@ fn tells_none(seeds: &[Option<Digest>]) -> bool
 }
 
 /// No party's seed is told.
-#[tactic(auto, unfolding(crate::specs::Offer::untold))]
-fn untold(alloc: Global, line: u32, seeds: &[Option<Digest>]) -> Result<(), OfferFault>
-    ensures { Gives (λ u. u) result (untold line seeds.now) }
+#[tactic(auto, unfolding(crate::specs::Offer::no_seed_told))]
+fn no_seed_told(alloc: Global, line: u32, seeds: &[Option<Digest>]) -> Result<(), OfferFault>
+    ensures { Gives (λ u. u) result (no_seed_told line seeds.now) }
 {
     if tells_none(seeds) {
         Ok(())
@@ -49,7 +49,7 @@ fn examined(alloc: Global, line: u32, header: &Header) -> Result<Digraph, OfferF
     ensures accepted { IfOk result (λ g. IsAcceptedOrProposed header.now.purpose (header_deal header.now g)) }
 {
     let (graph, _) = admit(alloc, header)?;
-    untold(alloc, line, header.seeds.as_slice())?;
+    no_seed_told(alloc, line, header.seeds.as_slice())?;
     Ok(graph)
 }
 
@@ -58,7 +58,7 @@ fn examined(alloc: Global, line: u32, header: &Header) -> Result<Digraph, OfferF
 fn proposed(alloc: Global, line: u32, header: Header) -> Result<Job, HeaderFault>
     requires within { IsHeaderInLimits header }
     requires plain { header.purpose ≡ Purpose.Make }
-    ensures exact { Gives (λ j. j) result (named header.names (proposed_job line header)) }
+    ensures exact { Gives (λ j. j) result (named_result header.names (proposed_job line header)) }
     ensures offered { IfOk result IsOffered }
 {
     match examined(alloc, line, &header) {
@@ -70,7 +70,7 @@ fn proposed(alloc: Global, line: u32, header: Header) -> Result<Job, HeaderFault
 /// The job that a line proposes.
 #[tactic(auto, using(refusals::proofs::Named::fails), unfolding(crate::specs::Offer::parse_plain, swap_offer::specs::Job::header_names))]
 fn plain(alloc: Global, line: u32, text: &[u8]) -> Result<Job, HeaderFault>
-    ensures exact { Gives (λ j. j) result (named (header_names no_strategy Purpose.Make line text.now) (parse_plain line text.now)) }
+    ensures exact { Gives (λ j. j) result (named_result (header_names no_strategy Purpose.Make line text.now) (parse_plain line text.now)) }
     ensures offered { IfOk result IsOffered }
 {
     let header = match parse_header(alloc, &[], Purpose::Make, line, text) {

@@ -1,7 +1,7 @@
 //! Why no deal is made.
 
 ghost use Rattle.std.specs.Prelude.{◌≡◌};
-ghost use Rattle.party_rows.specs.Inside.{deal_fault};
+ghost use Rattle.party_rows.specs.Inside.{deal_fault_by_refusal};
 
 use refusals::{HeaderFault, Refusal};
 use swap_base::{ByteText, Fault};
@@ -19,8 +19,8 @@ pub enum DealReason {
 pub type DealFault = Fault<DealReason>;
 
 /// The fault of a refusal.
-pub(crate) fn deal_fault(fault: HeaderFault) -> DealFault
-    ensures { result ≡ deal_fault fault }
+pub(crate) fn deal_fault_by_refusal(fault: HeaderFault) -> DealFault
+    ensures { result ≡ deal_fault_by_refusal fault }
 {
     match fault {
         Fault::Refused(refusal) => Fault::Refused(DealReason::Refused(refusal)),

@@ -6,7 +6,7 @@ ghost use Rattle.swap_base.specs.Fault.{Gives};
 ghost use Rattle.hash_signature.specs.Signature.{derive_public_key};
 ghost use Rattle.transcript_book.specs.Taking.{Takes};
 ghost use Rattle.transcript_lines.specs.Between.{separated_parts};
-ghost use Rattle.transcript_lines.specs.Reading.{to_digest, parse_each_word, parse_first_field, inside_entries};
+ghost use Rattle.transcript_lines.specs.Reading.{lower_hex_digest, parse_each_word, parse_first_field, listed_field};
 ghost use Rattle.party_rows.specs.Row.{seeded_hashlock, hashlock_said, seeded_keys, name_said, seeded_row, parse_row, row_said};
 
 use due_calls::leads_one;
@@ -16,7 +16,7 @@ use party_lines::this_word;
 use std::alloc::Global;
 use swap_base::{ByteText, Digest, Listed, NoMemory, PartyId};
 use swap_digraph::{Deal, Mode};
-use transcript_book::{Parts, WordFault, misspelt, nothing_more, to_digest, word};
+use transcript_book::{Parts, WordFault, lower_hex_digest, misspelt, nothing_more, word};
 
 /// What a party's seed gives a deal.
 #[derive(Debug, Drop)]
@@ -120,7 +120,7 @@ fn hashlock_said(word: &[u8]) -> Result<Option<Digest>, WordFault>
     if word == b"-".as_slice() {
         return Ok(None);
     }
-    Ok(Some(to_digest(word)?))
+    Ok(Some(lower_hex_digest(word)?))
 }
 
 #[tactic(auto, unfolding(transcript_lines::specs::Reading::parse_first_field))]
@@ -131,18 +131,18 @@ fn hashlock_field(fields: &mut Parts<'_>) -> Result<Option<Digest>, WordFault>
 }
 
 fn each_digest(alloc: Global, parts: &mut Parts<'_>) -> Result<Listed<Digest>, WordFault>
-    ensures { Gives (λ l. l) result (parse_each_word to_digest parts.old) }
+    ensures { Gives (λ l. l) result (parse_each_word lower_hex_digest parts.old) }
 {
     let mut list = Vec::new(alloc);
     while let Some(word) = parts.next() {
-        list.push(to_digest(word)?)?;
+        list.push(lower_hex_digest(word)?)?;
     }
     Ok(Listed::new(list))
 }
 
 /// The digests that a word says, with commas between them.
 fn parse_digests(alloc: Global, word: &[u8]) -> Result<Listed<Digest>, WordFault>
-    ensures { Gives (λ l. l) result (inside_entries to_digest word.now) }
+    ensures { Gives (λ l. l) result (listed_field lower_hex_digest word.now) }
 {
     if word == b"-".as_slice() {
         return Ok(Listed::empty(alloc));
@@ -152,7 +152,7 @@ fn parse_digests(alloc: Global, word: &[u8]) -> Result<Listed<Digest>, WordFault
 
 #[tactic(auto, unfolding(transcript_lines::specs::Reading::parse_first_field))]
 fn digests_field(alloc: Global, fields: &mut Parts<'_>) -> Result<Listed<Digest>, WordFault>
-    ensures { Takes (λ l. l) result fields.new (parse_first_field (inside_entries to_digest) fields.old) }
+    ensures { Takes (λ l. l) result fields.new (parse_first_field (listed_field lower_hex_digest) fields.old) }
 {
     parse_digests(alloc, word(fields)?)
 }

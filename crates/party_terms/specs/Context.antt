@@ -9,7 +9,7 @@ use Rattle.transcript_lines.specs.declared.said.Misspelling.{Misspelling}
 use Rattle.transcript_lines.specs.Between.{separated_parts}
 use Rattle.transcript_lines.specs.Reading.{misspelt, parse_first_field, first_field, is_word, bounded_number}
 use Rattle.party_lines.specs.Digests.{this_word}
-use Rattle.party_lines.specs.Lines.{nameless, next_number, or_bad_line}
+use Rattle.party_lines.specs.Lines.{nameless, following_line_number, or_bad_line}
 use Rattle.party_terms.specs.declared.context.ContextLine.{ContextLine}
 use Rattle.party_terms.specs.declared.context.Context.{Context}
 
@@ -22,20 +22,20 @@ abbrev pub is_plain_line : List ℕ → Bool
 is_plain_line line = nat_le (length line) 256 && list_all is_printable line
 
 -- a text begins with a word
-abbrev pub begun : List ℕ → Result (Unit {0}) Misspelling
-begun w = if length w == 0 then misspelt else Ok tt
+abbrev pub nonempty_word : List ℕ → Result (Unit {0}) Misspelling
+nonempty_word w = if length w == 0 then misspelt else Ok tt
 
 -- the arc of which the fields of a line tell something, of a deal with so many arcs
-unfoldable pub arc_said : ℕ → List (List ℕ) → Result ℕ Misspelling
-arc_said arcs ws = do
+unfoldable pub context_arc : ℕ → List (List ℕ) → Result ℕ Misspelling
+context_arc arcs ws = do
   word ← parse_first_field (this_word (codes "about")) ws
   arc ← parse_first_field (bounded_number arcs) word.1
-  text ← parse_first_field begun arc.1
+  text ← parse_first_field nonempty_word arc.1
   Ok arc.0
 
 -- the arc of which a line tells something
 unfoldable pub parse_context_line : ℕ → List ℕ → Result ℕ Misspelling
-parse_context_line arcs line = if is_plain_line line then arc_said arcs (separated_parts 32 line) else misspelt
+parse_context_line arcs line = if is_plain_line line then context_arc arcs (separated_parts 32 line) else misspelt
 
 -- there are at most 1,024 lines of context
 abbrev pub check_room : ℕ → List ContextLine → Result (Unit {0}) Refusal
@@ -64,7 +64,7 @@ context_end number list ls = Ok (record { list = list; next = number }, ls)
 abbrev pub with_context_lines : ℕ → ℕ → List ContextLine → List (List ℕ) → Result (Context × List (List ℕ)) Refusal
 with_context_lines arcs number list [] = context_end number list []
 with_context_lines arcs number list (l ∷ ls) =
-    if is_context_line l then (with_context_line arcs number list l >>= λ more. with_context_lines arcs (next_number number) more ls) else context_end number list (l ∷ ls)
+    if is_context_line l then (with_context_line arcs number list l >>= λ more. with_context_lines arcs (following_line_number number) more ls) else context_end number list (l ∷ ls)
 
 -- the lines of context that stand first among lines, and the lines behind them; the first has that
 -- number

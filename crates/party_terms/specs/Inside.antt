@@ -15,10 +15,10 @@ begins_behind [] = true
 begins_behind (l ∷ ls) = not (is_context_line l)
 
 -- The first of these lines, if there is one, is none of context.
-abbrev pub IsBehind : List (List ℕ) → Type 0
-IsBehind ls = begins_behind ls ≡ true
+abbrev pub IsBehindContext : List (List ℕ) → Type 0
+IsBehindContext ls = begins_behind ls ≡ true
 
 -- A job of an accepted deal, whose lists are whole.
-pub record IsTold (job : Job) : Type 0 where
+pub record IsAgreedJob (job : Job) : Type 0 where
   pub accepted : IsAccepted job.deal
   pub whole : IsWholeJob job

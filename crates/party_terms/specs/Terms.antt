@@ -6,10 +6,10 @@ use Rattle.swap_base.specs.Fault.{◌>>=◌}
 use Rattle.swap_job.specs.declared.job.Job.{Job}
 use Rattle.swap_job.specs.declared.job.Purpose.TheVariants.{Audit}
 use Rattle.refusals.specs.declared.refusal.Refusal.{Refusal}
-use Rattle.refusals.specs.Refusal.{named}
+use Rattle.refusals.specs.Refusal.{named_result}
 use Rattle.offer_header.specs.Names.{no_strategy}
 use Rattle.swap_offer.specs.Job.{parse_header_job, header_names}
-use Rattle.party_lines.specs.Lines.{first_line, ended_lines, next_number, no_line, short_header}
+use Rattle.party_lines.specs.Lines.{first_line, ended_lines, following_line_number, no_line, short_header}
 use Rattle.party_lines.specs.Names.{party_named}
 use Rattle.party_terms.specs.declared.context.ContextLine.{ContextLine}
 use Rattle.party_terms.specs.Context.{parse_context}
@@ -19,7 +19,7 @@ use Rattle.party_terms.specs.Text.{terms_text}
 unfoldable pub parse_header_line : ℕ → List ℕ → Result Job Refusal
 parse_header_line line text = do
   u ← short_header line text
-  named (header_names no_strategy Audit line text) (parse_header_job no_strategy Audit line text)
+  named_result (header_names no_strategy Audit line text) (parse_header_job no_strategy Audit line text)
 
 -- What wallets agree on: a deal, what they say of its arcs, and the digest of both. The line behind
 -- has that number.
@@ -43,7 +43,7 @@ unfoldable pub parse_agreed : ℕ → List (List ℕ) → Result (AgreedState ×
 parse_agreed number ls = do
   header ← first_line ls
   job ← parse_header_line number header.0
-  context ← parse_context (length job.deal.graph.arcs) (next_number number) header.1
+  context ← parse_context (length job.deal.graph.arcs) (following_line_number number) header.1
   Ok (record { job = job; context = context.0.list; digest = agreed_digest header.0 context.0.list; next = context.0.next }, context.1)
 
 -- the terms of the party of that name, by what was agreed on

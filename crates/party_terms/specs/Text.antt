@@ -19,8 +19,8 @@ told_name names p = slice_index_or names p []
 -- ---- of the deal
 
 -- the party by name and number, and how many there are
-unfoldable pub party_line : List (List ℕ) → ℕ → List ℕ
-party_line names v =
+unfoldable pub terms_party_line : List (List ℕ) → ℕ → List ℕ
+terms_party_line names v =
     joined (codes "terms " ∷ told_name names v ∷ codes " " ∷ decimal v ∷ codes " of " ∷ decimal (length names) ∷ codes "\n" ∷ [])
 
 -- the deal's id, and the digest to agree on
@@ -80,11 +80,11 @@ leads_line d v i = lead_line_if (leads d v i) i
 -- ---- the whole
 
 -- what stands before the arcs
-unfoldable pub head_text : List (List ℕ) → Deal → List ℕ → ℕ → List ℕ
-head_text names d agreed v = party_line names v ++ digest_lines d.id agreed ++ times_line d
+unfoldable pub terms_head_text : List (List ℕ) → Deal → List ℕ → ℕ → List ℕ
+terms_head_text names d agreed v = terms_party_line names v ++ digest_lines d.id agreed ++ times_line d
 
 -- the terms of party v, where the digest to agree on is this
 unfoldable pub terms_text : List (List ℕ) → Deal → List ContextLine → List ℕ → ℕ → List ℕ
 terms_text names d context agreed v =
-    head_text names d agreed v ++ flat_map (paid_lines names d context) (leaving d.graph v) ++ flat_map (got_lines names d context) (entering d.graph v) ++
+    terms_head_text names d agreed v ++ flat_map (paid_lines names d context) (leaving d.graph v) ++ flat_map (got_lines names d context) (entering d.graph v) ++
     flat_map (leads_line d v) (locks d)

@@ -3,7 +3,7 @@ use Rattle.std.specs.Prelude.{ℕ, ◌+◌, Bool, true, false}
 use Rattle.time_bounds.specs.Times as times
 use Rattle.swap_digraph.specs.declared.deal.Deal.{Deal}
 use Rattle.swap_rules.specs.Party.{leads_one}
-use Rattle.answer_rules.specs.Finished.{last_expiry}
+use Rattle.answer_rules.specs.Finished.{greatest_expiry}
 
 abbrev pub publish_height : (leads : Bool) → Deal → ℕ
 publish_height true d = d.delta
@@ -17,4 +17,4 @@ publish_deadline d v = publish_height (leads_one d v) d
 
 -- the height from which what is locked on arc a is refunded, whichever of its locks stay closed
 abbrev pub refund_height : Deal → ℕ → ℕ
-refund_height d a = last_expiry d a + 1
+refund_height d a = greatest_expiry d a + 1

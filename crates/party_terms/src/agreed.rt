@@ -4,8 +4,8 @@ ghost use Rattle.std.specs.Prelude.{◌≡◌, ◌++◌, ◌∷◌, [], IfOk};
 ghost use Rattle.std.specs.List.{flat_map};
 ghost use Rattle.swap_base.specs.Fault.{Gives};
 ghost use Rattle.hashkey_path.specs.Digest.{Feeds};
-ghost use Rattle.party_lines.specs.Lines.{TakesLine};
-ghost use Rattle.party_terms.specs.Inside.{inside_agreed, IsTold};
+ghost use Rattle.party_lines.specs.Lines.{TakesFirstLine};
+ghost use Rattle.party_terms.specs.Inside.{inside_agreed, IsAgreedJob};
 ghost use Rattle.party_terms.specs.Terms.{parse_agreed, agreed_digest, parse_header_line};
 
 use crate::context::{ContextLine, read_context};
@@ -59,7 +59,7 @@ fn agreed_digest(header: &[u8], context: &[ContextLine]) -> Digest
 #[tactic(auto, unfolding(crate::specs::Terms::parse_header_line))]
 fn parse_header_line(alloc: Global, line: u32, text: &[u8]) -> Result<Job, HeaderFault>
     ensures exact { Gives (λ j. j) result (parse_header_line line text.now) }
-    ensures told { IfOk result IsTold }
+    ensures told { IfOk result IsAgreedJob }
 {
     short_header(alloc, line, text)?;
     let prepared = read_header(alloc, line, text, Purpose::Audit, &[])?;
@@ -70,8 +70,8 @@ fn parse_header_line(alloc: Global, line: u32, text: &[u8]) -> Result<Job, Heade
 /// up to the first line whose first word isn't `about`.
 #[tactic(auto, unfolding(crate::specs::Terms::parse_agreed))]
 pub fn read_agreed(alloc: Global, number: u32, lines: &mut Parts<'_>) -> Result<Agreed, HeaderFault>
-    ensures exact { TakesLine inside_agreed result lines.new (parse_agreed number lines.old) }
-    ensures told { IfOk result (λ s. IsTold s.job) }
+    ensures exact { TakesFirstLine inside_agreed result lines.new (parse_agreed number lines.old) }
+    ensures told { IfOk result (λ s. IsAgreedJob s.job) }
 {
     let header = first_line(alloc, lines)?;
     let job = parse_header_line(alloc, number, header)?;

@@ -6,9 +6,9 @@ ghost use Rattle.swap_base.specs.Fault.{Gives};
 ghost use Rattle.transcript_book.specs.Taking.{Takes};
 ghost use Rattle.transcript_lines.specs.Between.{separated_parts};
 ghost use Rattle.transcript_lines.specs.Reading.{parse_first_field};
-ghost use Rattle.party_lines.specs.Lines.{or_bad_line, TakesLine};
-ghost use Rattle.party_terms.specs.Context.{parse_context_line, arc_said, begun, parse_context, is_context_line, is_plain_line, is_printable, check_room, with_context_line};
-ghost use Rattle.party_terms.specs.Inside.{IsBehind};
+ghost use Rattle.party_lines.specs.Lines.{or_bad_line, TakesFirstLine};
+ghost use Rattle.party_terms.specs.Context.{parse_context_line, context_arc, nonempty_word, parse_context, is_context_line, is_plain_line, is_printable, check_room, with_context_line};
+ghost use Rattle.party_terms.specs.Inside.{IsBehindContext};
 
 use party_lines::{refused, this_word};
 use refusals::{HeaderFault, Reason};
@@ -52,8 +52,8 @@ fn is_plain_line(line: &[u8]) -> bool
     line.len() <= 256 && are_printable(line)
 }
 
-fn begun(word: &[u8]) -> Result<(), WordFault>
-    ensures { Gives (λ u. u) result (begun word.now) }
+fn nonempty_word(word: &[u8]) -> Result<(), WordFault>
+    ensures { Gives (λ u. u) result (nonempty_word word.now) }
 {
     if word.is_empty() {
         Err(misspelt())
@@ -64,15 +64,15 @@ fn begun(word: &[u8]) -> Result<(), WordFault>
 
 #[tactic(auto, unfolding(transcript_lines::specs::Reading::parse_first_field))]
 fn text_field(fields: &mut Parts<'_>) -> Result<(), WordFault>
-    ensures { Takes (λ u. u) result fields.new (parse_first_field begun fields.old) }
+    ensures { Takes (λ u. u) result fields.new (parse_first_field nonempty_word fields.old) }
 {
-    begun(word(fields)?)
+    nonempty_word(word(fields)?)
 }
 
-#[tactic(auto, unfolding(crate::specs::Context::arc_said))]
-fn arc_said(arcs: usize, fields: &mut Parts<'_>) -> Result<ArcId, WordFault>
+#[tactic(auto, unfolding(crate::specs::Context::context_arc))]
+fn context_arc(arcs: usize, fields: &mut Parts<'_>) -> Result<ArcId, WordFault>
     requires { arcs ≤ 256 }
-    ensures { Gives (λ a. a) result (arc_said arcs fields.old) }
+    ensures { Gives (λ a. a) result (context_arc arcs fields.old) }
 {
     this_word(b"about".as_slice(), fields)?;
     let arc = bounded_field(arcs, fields)?;
@@ -87,7 +87,7 @@ fn parse_context_line(arcs: usize, line: &[u8]) -> Result<ArcId, WordFault>
     ensures { Gives (λ a. a) result (parse_context_line arcs line.now) }
 {
     if is_plain_line(line) {
-        arc_said(arcs, &mut Parts::new(b' ', line))
+        context_arc(arcs, &mut Parts::new(b' ', line))
     } else {
         Err(misspelt())
     }
@@ -147,7 +147,7 @@ fn is_context_line(line: &[u8]) -> bool
 
 /// Takes the next line where it is one of context.
 fn next_context_line<'a>(lines: &mut Parts<'a>) -> Option<&'a [u8]>
-    ensures { MatchOption result (IsBehind lines.old × (lines.new ≡ lines.old)) (λ l. (lines.old ≡ l.now ∷ lines.new) × (is_context_line l.now ≡ true)) }
+    ensures { MatchOption result (IsBehindContext lines.old × (lines.new ≡ lines.old)) (λ l. (lines.old ≡ l.now ∷ lines.new) × (is_context_line l.now ≡ true)) }
 {
     match lines.peek() {
         Some(line) if is_context_line(line) => {
@@ -168,7 +168,7 @@ pub(crate) fn read_context(
     lines: &mut Parts<'_>,
 ) -> Result<Context, HeaderFault>
     requires { arcs ≤ 256 }
-    ensures { TakesLine (λ c. c) result lines.new (parse_context arcs first lines.old) }
+    ensures { TakesFirstLine (λ c. c) result lines.new (parse_context arcs first lines.old) }
 {
     let mut list = Vec::new(alloc);
     let mut number = first;

@@ -4,7 +4,7 @@ ghost use Rattle.std.specs.Prelude.{◌≡◌, ◌<◌, length};
 ghost use Rattle.swap_digraph.specs.Deal.{IsWellSized};
 ghost use Rattle.party_terms.specs.Times.{refund_height, publish_deadline};
 
-use answer_rules::last_expiry;
+use answer_rules::greatest_expiry;
 use due_calls::leads_one;
 use swap_base::{ArcId, PartyId};
 use swap_digraph::Deal;
@@ -28,5 +28,5 @@ pub(crate) fn refund_height(deal: &Deal, arc: ArcId) -> u64
     requires arc { arc < length deal.now.graph.arcs }
     ensures { result ≡ refund_height deal.now arc }
 {
-    last_expiry(deal, arc) + 1
+    greatest_expiry(deal, arc) + 1
 }

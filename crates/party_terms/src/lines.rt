@@ -2,8 +2,8 @@
 
 ghost use Rattle.std.specs.Prelude.{◌≡◌, ◌<◌, ◌++◌, OnOk, length};
 ghost use Rattle.swap_digraph.specs.Deal.{IsWellSized};
-ghost use Rattle.party_terms.specs.Text.{context_line_if, arc_context, digest_lines, gets_line, got_lines, head_text, leads_line, mode_word, paid_lines};
-ghost use Rattle.party_terms.specs.Text.{party_line, pays_line, times_line};
+ghost use Rattle.party_terms.specs.Text.{context_line_if, arc_context, digest_lines, gets_line, got_lines, terms_head_text, leads_line, mode_word, paid_lines};
+ghost use Rattle.party_terms.specs.Text.{terms_party_line, pays_line, times_line};
 
 use crate::context::ContextLine;
 use crate::heights::{publish_deadline, refund_height};
@@ -14,9 +14,9 @@ use swap_digraph::{Deal, Mode};
 use time_bounds::horizon;
 use transcript_writer::put_digits;
 
-#[tactic(auto, unfolding(crate::specs::Text::party_line))]
+#[tactic(auto, unfolding(crate::specs::Text::terms_party_line))]
 fn put_party(out: &mut Vec<u8>, names: &[ByteText], party: PartyId) -> Result<(), NoMemory>
-    ensures { OnOk result (out.new.items ≡ out.old.items ++ party_line names.now party) }
+    ensures { OnOk result (out.new.items ≡ out.old.items ++ terms_party_line names.now party) }
 {
     put(
         out,
@@ -76,7 +76,7 @@ fn put_times(out: &mut Vec<u8>, deal: &Deal) -> Result<(), NoMemory>
 }
 
 /// Appends what stands before the arcs.
-#[tactic(auto, unfolding(crate::specs::Text::head_text))]
+#[tactic(auto, unfolding(crate::specs::Text::terms_head_text))]
 pub(crate) fn put_head(
     out: &mut Vec<u8>,
     names: &[ByteText],
@@ -85,7 +85,7 @@ pub(crate) fn put_head(
     party: PartyId,
 ) -> Result<(), NoMemory>
     requires { IsWellSized deal.now }
-    ensures { OnOk result (out.new.items ≡ out.old.items ++ head_text names.now deal.now agreed.now party) }
+    ensures { OnOk result (out.new.items ≡ out.old.items ++ terms_head_text names.now deal.now agreed.now party) }
 {
     put_party(out, names, party)?;
     put_digests(out, &deal.id, agreed)?;

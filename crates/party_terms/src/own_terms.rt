@@ -1,7 +1,7 @@
 //! What `terms` writes.
 
 ghost use Rattle.swap_base.specs.Fault.{Gives};
-ghost use Rattle.party_terms.specs.Inside.{inside_agreed, IsTold};
+ghost use Rattle.party_terms.specs.Inside.{inside_agreed, IsAgreedJob};
 ghost use Rattle.party_terms.specs.Terms.{terms_from_lines, named_terms, terms_output};
 
 use crate::agreed::{Agreed, read_agreed};
@@ -15,7 +15,7 @@ use transcript_book::Parts;
 /// The terms of the party of that name, by what was agreed on.
 #[tactic(auto, unfolding(crate::specs::Terms::named_terms))]
 fn named_terms(alloc: Global, name: &[u8], agreed: &Agreed) -> Result<ByteText, HeaderFault>
-    requires { IsTold agreed.now.job }
+    requires { IsAgreedJob agreed.now.job }
     ensures { Gives (λ t. t) result (named_terms name.now (inside_agreed agreed.now)) }
 {
     let names = agreed.job.names.as_slice();

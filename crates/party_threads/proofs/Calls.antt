@@ -23,7 +23,7 @@ use Rattle.ledger_core.proofs.History.{full_reply}
 use Rattle.ledger_core.proofs.Scans.{has_room}
 use Rattle.ledger_shared.specs.Value.{party_made}
 use Rattle.swap_rules.specs.Party.{pick_call}
-use Rattle.party_threads.specs.Played.{with_call, sender_calls}
+use Rattle.party_threads.specs.Played.{with_optional_call, sender_calls}
 
 -- what a filter leaves nothing of passes nowhere
 pub none_passes : {A : Type 0} (p : A → Bool) (xs : List A) → filter p xs ≡ [] → (x : A) → IsElement x xs → p x ≡ false
@@ -33,18 +33,18 @@ none_passes {A} p xs none x i = go (p x) refl
     go true e = absurd (subst (IsElement x) none (in_filter p x xs i e))
     go false e = refl
 
-with_append : (o : Option Call) (cs ds : List Call) → with_call o (cs ++ ds) ≡ with_call o cs ++ ds
+with_append : (o : Option Call) (cs ds : List Call) → with_optional_call o (cs ++ ds) ≡ with_optional_call o cs ++ ds
 with_append None cs ds = refl
 with_append (Some c) cs ds = refl
 
 pub calls_append : (v : ℕ) (xs ys : List Entry) → sender_calls v (xs ++ ys) ≡ sender_calls v xs ++ sender_calls v ys
 calls_append v [] ys = refl
-calls_append v (e ∷ es) ys = ap (with_call (pick_call v e)) (calls_append v es ys) ∙ with_append (pick_call v e) (sender_calls v es) (sender_calls v ys)
+calls_append v (e ∷ es) ys = ap (with_optional_call (pick_call v e)) (calls_append v es ys) ∙ with_append (pick_call v e) (sender_calls v es) (sender_calls v ys)
 
 none_called : (v : ℕ) (xs : List Entry) → ((e : Entry) → IsElement e xs → is_sender v e.sender ≡ false) → sender_calls v xs ≡ []
 none_called v [] f = refl
 none_called v (e ∷ es) f =
-    ap (λ b. with_call (if b then made_call e.what else None) (sender_calls v es)) (f e (inl refl)) ∙ none_called v es (λ x i. f x (inr i))
+    ap (λ b. with_optional_call (if b then made_call e.what else None) (sender_calls v es)) (f e (inl refl)) ∙ none_called v es (λ x i. f x (inr i))
 
 -- entries of others add no call
 pub others_add_none : (v : ℕ) (k others : List Entry) → party_made v others ≡ [] → sender_calls v (k ++ others) ≡ sender_calls v k
@@ -66,14 +66,14 @@ counted_by v (e ∷ es) f = go (counted_by v es (λ x i. f x (inr i))) (is_sende
     go rest true is =
         let c = f e (inl refl) is in
         let call : pick_call v e ≡ Some c.0 = ap (λ b. if b then made_call e.what else None) is ∙ c.1 in
-        let long : length (sender_calls v (e ∷ es)) ≡ suc (length (sender_calls v es)) = ap (λ o. length (with_call o (sender_calls v es))) call in
+        let long : length (sender_calls v (e ∷ es)) ≡ suc (length (sender_calls v es)) = ap (λ o. length (with_optional_call o (sender_calls v es))) call in
         let one : ◌≡◌ {A = ℕ} (cond (is_sender v e.sender) 1 0) 1 = ap (λ z. cond {A = ℕ} z 1 0) is in
         let r : length (sender_calls v es) ≡ total_calls v es = rest in
         let n : ◌≡◌ {A = ℕ} (total_calls v (e ∷ es)) (cond (is_sender v e.sender) 1 0 + total_calls v es) = count in
         omega arith
     go rest false is =
         let call : pick_call v e ≡ None = ap (λ b. if b then made_call e.what else None) is in
-        let long : length (sender_calls v (e ∷ es)) ≡ length (sender_calls v es) = ap (λ o. length (with_call o (sender_calls v es))) call in
+        let long : length (sender_calls v (e ∷ es)) ≡ length (sender_calls v es) = ap (λ o. length (with_optional_call o (sender_calls v es))) call in
         let one : ◌≡◌ {A = ℕ} (cond (is_sender v e.sender) 1 0) 0 = ap (λ z. cond {A = ℕ} z 1 0) is in
         let r : length (sender_calls v es) ≡ total_calls v es = rest in
         let n : ◌≡◌ {A = ℕ} (total_calls v (e ∷ es)) (cond (is_sender v e.sender) 1 0 + total_calls v es) = count in
@@ -147,7 +147,7 @@ module _ (d : Deal) (a v : ℕ) (c : Call) (k others : List Entry) (legal : IsLe
       let entry : Entry = call_entry v (height g) c (history_reply d a g v c) in
       let h_is : after_call d a v c g ≡ g ++ entry ∷ [] =
       ap (λ b. if b then g else g ++ call_entry v (height g) c (history_reply d a g v c) ∷ []) (not_sender_full (history_reply d a g v c) room) in
-      let one : sender_calls v (entry ∷ []) ≡ c ∷ [] = ap (λ b. with_call (if b then Some c else None) []) (eq-eqb v v refl) in
+      let one : sender_calls v (entry ∷ []) ≡ c ∷ [] = ap (λ b. with_optional_call (if b then Some c else None) []) (eq-eqb v v refl) in
       let n : length (sender_calls v k) ≡ total_calls v g = count in
       let less : total_calls v g < 32 = room_of d a g v c (history_reply d a g v c) refl room in
       let long : length (sender_calls v k ++ c ∷ []) ≡ length (sender_calls v k) + 1 = length-append (sender_calls v k) (c ∷ []) in

@@ -23,7 +23,7 @@ use Rattle.ledger_core.specs.History.{height, entry_ticks, is_tick, is_clock_ful
 use Rattle.ledger_core.specs.Ledger.{tick_entry}
 use Rattle.ledger_shared.specs.Value.{ClockState, SharedState, ticks_in_order, clock_mine, added_by_tick, HasTicked}
 use Rattle.party_threads.specs.Later.{IsClockLater, arc_clock}
-use Rattle.party_threads.specs.Ticks.{HaveRoom, HasTickedOnce, ClockAdvanced, HaveClocksAdvanced, Ticked, HaveTicked}
+use Rattle.party_threads.specs.Ticks.{HasRoomForTicks, HasTickedOnce, ClockAdvanced, HaveClocksAdvanced, Ticked, HaveTicked}
 
 -- The height of a legal history is that of its ticks.
 
@@ -69,7 +69,7 @@ pub accepts : (h : List Entry) (k : ℕ) → is_clock_full h k ≡ false → rep
 accepts h k e = ap (λ b. first_row ((b, ClockFull) ∷ [])) e
 
 -- A tick that has room is one more tick.
-module _ (d : Deal) (a k : ℕ) (p q : ClockState) (r : Reply) (room : HaveRoom k p) (ticked : HasTicked p k r q) (legal : IsLegal d a q.seen)
+module _ (d : Deal) (a k : ℕ) (p q : ClockState) (r : Reply) (room : HasRoomForTicks k p) (ticked : HasTicked p k r q) (legal : IsLegal d a q.seen)
     (whole : IsPrefix p.shared q.seen) where
   abbrev h : List Entry
   h = p.seen ++ ticked.others

@@ -12,7 +12,7 @@ use Rattle.ledger_shared.specs.Value.{PassState, SharedState, party_made}
 use Rattle.swap_rules.proofs.Prefixes.{same_or_not}
 use Rattle.swap_rules.proofs.Conducting.{history_same, history_other}
 use Rattle.party_threads.specs.Later.{arc_pass, Advanced}
-use Rattle.party_threads.specs.Tracks.{Watcher, knowing, IsFresh, HasLooked, LookedIf, HaveLooked}
+use Rattle.party_threads.specs.Tracks.{Watcher, watcher_knowing, IsFresh, HasLooked, LookedIf, HaveLooked}
 use Rattle.party_threads.proofs.Passes.{one_went, watching_on, first_seen_arc, elsewhere_on}
 
 -- More entries of others are fresh.
@@ -52,7 +52,7 @@ module _ (ledgers : List SharedState) (w : Watcher) (ps : List (Option PassState
         (subst (IsLegal w.deal k) (sym (history_same x.known k now known)) (subst (λ d. IsLegal d k now) h.deal l.legal))
     legal_now a (inr apart) before = subst (IsLegal w.deal a) (sym (history_other x.known k a now apart)) (h.legal a before)
 
-    seen_on_here : HaveLooked ledgers w ps (k + 1) (knowing x k now) (set qs k (Some q))
+    seen_on_here : HaveLooked ledgers w ps (k + 1) (watcher_knowing x k now) (set qs k (Some q))
     seen_on_here = record {
       deal = h.deal;
       me = h.me;

@@ -12,7 +12,7 @@ use Rattle.ledger_core.specs.History.{height, history_reply, IsLegal, IsLegalMom
 use Rattle.ledger_core.specs.Ledger.{after_call, call_entry, is_sender_full}
 use Rattle.ledger_core.specs.Book.{history}
 use Rattle.ledger_shared.specs.Value.{PassState, party_made, with_seen, added_by_call, HasCalled}
-use Rattle.party_threads.specs.Tracks.{Watcher, knowing, knowing_more, IsWatcherPass, HasMade}
+use Rattle.party_threads.specs.Tracks.{Watcher, watcher_knowing, knowing_more, IsWatcherPass, HasMade}
 
 -- what the pass has then seen is what its party is to know
 pub legal_of : (w : Watcher) (lock : TableId) (a : ℕ) (p q : PassState) (fresh : List Entry) → IsWatcherPass w lock a p → q ≡ with_seen p fresh
@@ -76,7 +76,7 @@ has_made w lock a c p x q r fresh k called is legal whole knows =
         others = called.others;
         foreign = foreign_of w lock a p called.others k called.foreign;
         legal = legal_before w.deal a (history w.known a) called.others fresh _ (legal_of w lock a p q fresh k is legal) called.entries;
-        knows = knows ∙ ap (knowing w a) grown;
+        knows = knows ∙ ap (watcher_knowing w a) grown;
       };
       seen = seen ∙ made;
       pass = (fresh, is);

@@ -11,7 +11,7 @@ use Rattle.ledger_shared.specs.Value.{PassState, SharedState, with_seen}
 use Rattle.swap_rules.proofs.Prefixes.{same_or_not}
 use Rattle.swap_rules.proofs.Conducting.{history_same, history_other}
 use Rattle.party_threads.specs.Later.{IsLater, arc_pass, Advanced, HaveAdvanced}
-use Rattle.party_threads.specs.Tracks.{Watcher, knowing, IsWatcherPass, Tracks, HasItsPasses, IsWatching, HaveSeenBelow, HaveSeenAll, IsSameElsewhere, IsWatcherPlace}
+use Rattle.party_threads.specs.Tracks.{Watcher, watcher_knowing, IsWatcherPass, Tracks, HasItsPasses, IsWatching, HaveSeenBelow, HaveSeenAll, IsSameElsewhere, IsWatcherPlace}
 
 -- Later.
 
@@ -94,7 +94,7 @@ seen_of ledgers w ps a p t lt e =
 -- The history of arc a, of which the pass there has seen all, has come to be known.
 module _ (ledgers : List SharedState) (w : Watcher) (ps : List (Option PassState)) (a : ℕ) (p q : PassState) (h : List Entry) (tracks : Tracks ledgers w ps)
     (below : a < length ps) (known : a < length w.known) (here : arc_pass ps a ≡ Some p) (later : IsLater p q) (seen : q.seen ≡ h) where
-  new_pass : (s : SharedState) → s ≡ slice_index_or ledgers a s → IsWatcherPass (knowing w a h) s.lock a q
+  new_pass : (s : SharedState) → s ≡ slice_index_or ledgers a s → IsWatcherPass (watcher_knowing w a h) s.lock a q
   new_pass s is =
       let old = tracks.each a s p below is here in
       record {
@@ -105,17 +105,17 @@ module _ (ledgers : List SharedState) (w : Watcher) (ps : List (Option PassState
         seen = seen ∙ sym (history_same w.known a h known);
       }
 
-  far_pass : (b : ℕ) (s : SharedState) (r : PassState) → b ≢ a → IsWatcherPass w s.lock b r → IsWatcherPass (knowing w a h) s.lock b r
+  far_pass : (b : ℕ) (s : SharedState) (r : PassState) → b ≢ a → IsWatcherPass w s.lock b r → IsWatcherPass (watcher_knowing w a h) s.lock b r
   far_pass b s r apart k = record { lock = k.lock; deal = k.deal; arc = k.arc; party = k.party; seen = k.seen ∙ sym (history_other w.known a b h apart) }
 
   each_pass : (b : ℕ) (s : SharedState) (r : PassState) → b < length ps → s ≡ slice_index_or ledgers b s → arc_pass (set ps a (Some q)) b ≡ Some r
-      → (b ≡ a) ⊎ (b ≢ a) → IsWatcherPass (knowing w a h) s.lock b r
+      → (b ≡ a) ⊎ (b ≢ a) → IsWatcherPass (watcher_knowing w a h) s.lock b r
   each_pass b s r lt is e (inl same) =
-      subst (λ z. IsWatcherPass (knowing w a h) s.lock z r) (sym same)
-      (subst (IsWatcherPass (knowing w a h) s.lock a) (put_is ps a b q r below same e) (new_pass s (subst (λ z. s ≡ slice_index_or ledgers z s) same is)))
+      subst (λ z. IsWatcherPass (watcher_knowing w a h) s.lock z r) (sym same)
+      (subst (IsWatcherPass (watcher_knowing w a h) s.lock a) (put_is ps a b q r below same e) (new_pass s (subst (λ z. s ≡ slice_index_or ledgers z s) same is)))
   each_pass b s r lt is e (inr apart) = far_pass b s r apart (tracks.each b s r lt is (sym (pass_other ps a b (Some q) apart) ∙ e))
 
-  tracks_on : Tracks ledgers (knowing w a h) (set ps a (Some q))
+  tracks_on : Tracks ledgers (watcher_knowing w a h) (set ps a (Some q))
   tracks_on = record {
     places = length-set ps a (Some q) ∙ tracks.places;
     shared = tracks.shared;
@@ -135,7 +135,7 @@ stay d v ps qs gone same h = record {
 
 -- the party watches on
 pub watching_on : (ledgers : List SharedState) (w : Watcher) (ps : List (Option PassState)) (a : ℕ) (p q : PassState) (h : List Entry) → IsWatching ledgers w ps
-    → a < length ps → arc_pass ps a ≡ Some p → IsLater p q → q.seen ≡ h → IsWatching ledgers (knowing w a h) (set ps a (Some q))
+    → a < length ps → arc_pass ps a ≡ Some p → IsLater p q → q.seen ≡ h → IsWatching ledgers (watcher_knowing w a h) (set ps a (Some q))
 watching_on ledgers w ps a p q h i below here later seen = record {
   known = length-set w.known a h ∙ i.known;
   tracks = tracks_on ledgers w ps a p q h i.tracks below (subst (λ n. a < n) (i.tracks.places ∙ sym i.known) below) here later seen;

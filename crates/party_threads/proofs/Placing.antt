@@ -18,7 +18,7 @@ use Rattle.swap_world.specs.Inside.{IsArcLedger}
 use Rattle.party_threads.specs.declared.turn.Actor.{Actor}
 use Rattle.party_threads.specs.declared.turn.Turn.{Turn}
 use Rattle.party_threads.specs.Later.{arc_pass, arc_clock}
-use Rattle.party_threads.specs.Turns.{new_actor, held_passes, held_clocks, turn_actor, held_pass, held_clock, arc_ledger, started, IsBehind, AreBehind, AreHome}
+use Rattle.party_threads.specs.Turns.{numbered_actor, held_passes, held_clocks, turn_actor, held_pass, held_clock, arc_ledger, pass_start, IsBehind, AreBehind, AreHome}
 use Rattle.party_threads.specs.Turns.{IsArcFree, AreFree, dealt_party_pass, dealt_shared_pass, dealt_clock, AreDealt, IsArcPass, IsSet, AreSet, IsClosed, IsShut, IsSameShape}
 use Rattle.party_threads.specs.Turns.{IsPut, IsClockPut, IsSameBut}
 use Rattle.party_threads.proofs.Sharing.{home_at, dealt_near, dealt_far}
@@ -79,17 +79,17 @@ drop_known v n k h knows is =
 
 -- One end of an arc, as its ledger is shared: what its pass has seen is what it knows.
 module _ (d : Deal) (a : ℕ) (l : LedgerState) (home : IsArcLedger d a l) (side : Deal → ℕ → ℕ) (x : Actor) (n w : ℕ) where
-  pub share_at : IsBehind x (side d a) a l.history → w ≡ length l.history → ((h : List Entry) → length h ≡ w → n ≡ length (started x a h))
+  pub share_at : IsBehind x (side d a) a l.history → w ≡ length l.history → ((h : List Entry) → length h ≡ w → n ≡ length (pass_start x a h))
       → (n ≤ length l.history) × (party_made (side l.deal l.arc) (drop n l.history) ≡ [])
   share_at behind whole seen =
       subst (λ u. (n ≤ length l.history) × (party_made u (drop n l.history) ≡ [])) (λ i. side (sym home.deal i) (sym home.arc i))
-      (drop_known (side d a) n (started x a l.history) l.history behind (seen l.history (sym whole)))
+      (drop_known (side d a) n (pass_start x a l.history) l.history behind (seen l.history (sym whole)))
 
-  pub pass_as : (lock : TableId) → IsBehind x (side d a) a l.history → w ≡ length l.history → ((h : List Entry) → length h ≡ w → n ≡ length (started x a h))
-      → party_pass lock l (side l.deal l.arc) (take n l.history) ≡ party_pass lock l (side d a) (started x l.arc l.history)
+  pub pass_as : (lock : TableId) → IsBehind x (side d a) a l.history → w ≡ length l.history → ((h : List Entry) → length h ≡ w → n ≡ length (pass_start x a h))
+      → party_pass lock l (side l.deal l.arc) (take n l.history) ≡ party_pass lock l (side d a) (pass_start x l.arc l.history)
   pass_as lock behind whole seen =
-      let known : take n l.history ≡ started x l.arc l.history =
-      take_known (side d a) n (started x a l.history) l.history behind (seen l.history (sym whole)) ∙ ap (λ b. started x b l.history) (sym home.arc) in
+      let known : take n l.history ≡ pass_start x l.arc l.history =
+      take_known (side d a) n (pass_start x a l.history) l.history behind (seen l.history (sym whole)) ∙ ap (λ b. pass_start x b l.history) (sym home.arc) in
       λ i. party_pass lock l (side (home.deal i) (home.arc i)) (known i)
 
 -- One turn of a list is changed in its passes.
@@ -117,7 +117,7 @@ module _ (ts us : List Turn) (v : ℕ) (t u : Turn) (below : v < length ts) (the
   is_put a p actor clocks passes lt = record {
     shape = record {
       number = number;
-      actors = kept new_actor actor;
+      actors = kept numbered_actor actor;
       places = kept (λ o. length (held_passes o)) (ap length passes ∙ length-set t.passes.items a p);
       clock_places = kept (λ o. length (held_clocks o)) (ap length clocks);
     };
@@ -132,7 +132,7 @@ module _ (ts us : List Turn) (v : ℕ) (t u : Turn) (below : v < length ts) (the
   is_clock_put a p actor passes clocks lt = record {
     shape = record {
       number = number;
-      actors = kept new_actor actor;
+      actors = kept numbered_actor actor;
       places = kept (λ o. length (held_passes o)) (ap length passes);
       clock_places = kept (λ o. length (held_clocks o)) (ap length clocks ∙ length-set t.clocks.items a p);
     };
@@ -214,8 +214,8 @@ else_far d v a nu nw = ap (λ b. b || (v == counterparty d a)) (ne_eqb v (party 
 module _ (d : Deal) (a : ℕ) (lock : TableId) (l : LedgerState) (sized : IsWellSized d) (below : a < length d.graph.arcs) (home : IsArcLedger d a l)
     (p q : PassState) (c : ClockState) (t0 t1 t2 t3 : List Turn) (one : IsPut t0 (party d a) a (Some p) t1) (two : IsPut t1 (counterparty d a) a (Some q) t2)
     (three : IsClockPut t2 d.graph.n a (Some c) t3) (free : IsArcFree d t0 a)
-    (first : p ≡ party_pass lock l (party d a) (started (turn_actor t0 (party d a)) l.arc l.history))
-    (second : q ≡ party_pass lock l (counterparty d a) (started (turn_actor t0 (counterparty d a)) l.arc l.history)) where
+    (first : p ≡ party_pass lock l (party d a) (pass_start (turn_actor t0 (party d a)) l.arc l.history))
+    (second : q ≡ party_pass lock l (counterparty d a) (pass_start (turn_actor t0 (counterparty d a)) l.arc l.history)) where
   abbrev IsRight : ℕ → Type 0
   IsRight v = v < d.graph.n → held_pass t3 v a ≡ dealt_party_pass (turn_actor t0 v) v lock l
 

@@ -28,7 +28,7 @@ use Rattle.swap_run.specs.Run.{Plan}
 use Rattle.swap_world.specs.Gone.{MayGive}
 use Rattle.party_threads.specs.Later.{arc_pass, Advanced, HaveAdvanced}
 use Rattle.party_threads.specs.Tracks.{Watcher, Tracks, IsWatching, HaveSeenAll, HaveFresh, HaveLooked, CanCall, HasLearntCall}
-use Rattle.party_threads.specs.Played.{party_planner, plan_rest, sender_calls, arc_answer, HaveGrown, IsAnswered, HasDone, HasPlayed}
+use Rattle.party_threads.specs.Played.{party_planner, plan_rest, sender_calls, arc_answer, HaveGrown, IsPlanAnswer, HasDone, HasPlayed}
 use Rattle.party_threads.specs.Took.{HasPlanned}
 use Rattle.party_threads.proofs.Passes.{seen_of}
 use Rattle.party_threads.proofs.Looking.{legal_after}
@@ -171,8 +171,8 @@ whole_known ledgers w ps qs tracks gone all places a p lt e =
     (subst (IsPrefix went.0.shared) (seen_of ledgers w qs a went.0 tracks lt1 went.1) (all a went.0 lt1 went.1))
 
 answered_as : (gives : MayGive) (d : Deal) (seeds : Seeds) (v : ℕ) (view : Histories) (answer : Option (ℕ × Call)) (n0 n1 n2 n3 : Plan) (role : Role)
-    → n1.moves ≡ n0.moves → n1.turns ≡ n0.turns → n3.moves ≡ n2.moves → IsAnswered gives d seeds v view answer n1 n2 role
-    → IsAnswered gives d seeds v view answer n0 n3 role
+    → n1.moves ≡ n0.moves → n1.turns ≡ n0.turns → n3.moves ≡ n2.moves → IsPlanAnswer gives d seeds v view answer n1 n2 role
+    → IsPlanAnswer gives d seeds v view answer n0 n3 role
 answered_as gives d seeds v view answer n0 n1 n2 n3 (Script moves) m t u h = (h.0 ∙ ap (script_call d seeds view) m, u ∙ (h.1 ∙ ap (moves_left view) m))
 answered_as gives d seeds v view answer n0 n1 n2 n3 (Strategy name) m t u h = subst (λ k. gives name d v k view answer) t h
 answered_as gives d seeds v view answer n0 n1 n2 n3 Conforming m t u h = tt
@@ -181,7 +181,7 @@ answered_as gives d seeds v view answer n0 n1 n2 n3 Manual m t u h = tt
 has_played : (gives : MayGive) (ledgers : List SharedState) (d : Deal) (seeds : Seeds) (role : Role) (v : ℕ) (answer : Option (ℕ × Call))
     (n0 n1 n2 n3 : Plan) (ps qs : List (Option PassState)) → IsWatching ledgers (party_planner d v n0) ps
     → HaveLooked ledgers (party_planner d v n0) ps (length qs) (party_planner d v n1) qs → plan_rest n1 ≡ plan_rest n0 → IsView d v n1.known
-    → IsAnswered gives d seeds v n1.known answer n1 n2 role → MayAnswer d v answer → n2.turns ≡ n1.turns + 1 → n2.known ≡ n1.known
+    → IsPlanAnswer gives d seeds v n1.known answer n1 n2 role → MayAnswer d v answer → n2.turns ≡ n1.turns + 1 → n2.known ≡ n1.known
     → HasDone d v answer n2.known n3.known → n3.moves ≡ n2.moves → n3.turns ≡ n2.turns
     → HasPlayed gives d seeds role v ps n0 n3
 has_played gives ledgers d seeds role v answer n0 n1 n2 n3 ps qs i h rest view answered may once same done moves3 turns3 =
@@ -207,7 +207,7 @@ has_played gives ledgers d seeds role v answer n0 n1 n2 n3 ps qs i h rest view a
 pub has_planned : {A E : Type 0} (gives : MayGive) (ledgers : List SharedState) (job : Job) (v : ℕ) (answer : Option (ℕ × Call)) (n0 n1 n2 n3 : Plan)
     (ps qs rs : List (Option PassState)) (r : Result A E) → IsView job.deal v n0.known → IsWatching ledgers (party_planner job.deal v n0) ps
     → HaveLooked ledgers (party_planner job.deal v n0) ps (length qs) (party_planner job.deal v n1) qs → plan_rest n1 ≡ plan_rest n0
-    → IsAnswered gives job.deal job.seeds v n1.known answer n1 n2 (job_role job v) → MayAnswer job.deal v answer
+    → IsPlanAnswer gives job.deal job.seeds v n1.known answer n1 n2 (job_role job v) → MayAnswer job.deal v answer
     → All (IsPartyMove job.deal job.seeds v) n2.moves → n2.turns ≡ n1.turns + 1 → n2.known ≡ n1.known → n3.moves ≡ n2.moves → n3.turns ≡ n2.turns
     → OnOk r (IsWatching ledgers (party_planner job.deal v n3) rs) → OnOk r (HasDone job.deal v answer n2.known n3.known)
     → OnOk r (HasPlanned gives job v n0 ps n3 rs)

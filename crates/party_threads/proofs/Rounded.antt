@@ -32,8 +32,8 @@ use Rattle.swap_rules.proofs.Prefixes.{begins_refl, begins_more}
 use Rattle.swap_rules.proofs.Growth.{Grows}
 use Rattle.swap_run.specs.Run.{Notes, Plan, State, conforms, is_planned, state_notes, party_plan, next_action}
 use Rattle.swap_job.specs.declared.job.Role.{Role}
-use Rattle.party_threads.specs.Played.{sender_calls, arc_answer, IsAnswered}
-use Rattle.party_threads.specs.Views.{HasPlayed}
+use Rattle.party_threads.specs.Played.{sender_calls, arc_answer, IsPlanAnswer}
+use Rattle.party_threads.specs.Views.{HasPlayedInRound}
 use Rattle.swap_run.specs.Laws.{AreGoodNotes, IsGoodPlan, IsGood}
 use Rattle.swap_run.proofs.Good.{good_notes}
 use Rattle.swap_run.proofs.Plans.{plan_grown}
@@ -48,9 +48,9 @@ use Rattle.party_threads.specs.Later.{arc_pass}
 use Rattle.party_threads.specs.Ticks.{HaveTicked, Ticked}
 use Rattle.party_threads.specs.Took.{IsSameActor, Did, HasActed, HasPlanned}
 use Rattle.party_threads.specs.Race.{IsRound}
-use Rattle.party_threads.specs.Turns.{held_passes, held_clocks, turn_actor, held_pass, held_clock, arc_ledger, started, IsHome, AreHome, HavePlaces, IsArcFree}
+use Rattle.party_threads.specs.Turns.{held_passes, held_clocks, turn_actor, held_pass, held_clock, arc_ledger, pass_start, IsHome, AreHome, HavePlaces, IsArcFree}
 use Rattle.party_threads.specs.Turns.{AreDealt, IsClosed, IsShut, IsSameShape}
-use Rattle.party_threads.specs.Standing.{home_history, actor_notes, turn_notes, actor_plan, turn_plan, race_state, IsPartyActor, IsJobActor, KnowsOwn, Stands}
+use Rattle.party_threads.specs.Standing.{home_history, turn_actor_notes, turn_notes, race_plan, turn_plan, race_state, IsPartyTurnActor, IsJobActor, KnowsOwn, StandsHome}
 use Rattle.party_threads.proofs.Turning.{none_pass, HasTaken, HasDone, places_kept, places_taken}
 use Rattle.party_threads.proofs.Sharing.{home_at, lock_at, held_near, held_far, clock_is, went_from}
 use Rattle.party_threads.proofs.Seating.{notes_are, plans_are, history_is, wallet_is}
@@ -61,7 +61,7 @@ closed_of d ts a None k = absurd k
 closed_of d ts a (Some l) k = (l, refl, k)
 
 -- a conforming party acts by its machine
-make_machine : (d : Deal) (seed : Option (List ℕ)) (role : Role) (v : ℕ) (x : Actor) (b : Bool) → b ≡ true → IsPartyActor d b seed role v x
+make_machine : (d : Deal) (seed : Option (List ℕ)) (role : Role) (v : ℕ) (x : Actor) (b : Bool) → b ≡ true → IsPartyTurnActor d b seed role v x
     → (m : MachineState) × (x ≡ Conforming m)
 make_machine d seed role v (Conforming m) b e k = (m, refl)
 make_machine d seed role v (Planned n) b e k = absurd (false≢true (sym k.0 ∙ e))
@@ -70,7 +70,7 @@ make_machine d seed role v Clock b e k = absurd k
 
 -- a party that follows a script or a strategy acts by its plan
 party_planner : (d : Deal) (seed : Option (List ℕ)) (role : Role) (v : ℕ) (x : Actor) (b : Bool) → b ≡ false → is_planned role ≡ true
-    → IsPartyActor d b seed role v x
+    → IsPartyTurnActor d b seed role v x
     → (n : Plan) × (x ≡ Planned n)
 party_planner d seed role v (Conforming m) b e p k = absurd (false≢true (sym e ∙ k.0))
 party_planner d seed role v (Planned n) b e p k = (n, refl)
@@ -78,7 +78,7 @@ party_planner d seed role v Manual b e p k = absurd (false≢true (sym k.1 ∙ p
 party_planner d seed role v Clock b e p k = absurd k
 
 -- and the others don't act
-manual_of : (d : Deal) (seed : Option (List ℕ)) (role : Role) (v : ℕ) (x : Actor) (b : Bool) → b ≡ false → is_planned role ≡ false → IsPartyActor d b seed role v x
+manual_of : (d : Deal) (seed : Option (List ℕ)) (role : Role) (v : ℕ) (x : Actor) (b : Bool) → b ≡ false → is_planned role ≡ false → IsPartyTurnActor d b seed role v x
     → x ≡ Manual
 manual_of d seed role v (Conforming m) b e p k = absurd (false≢true (sym e ∙ k.0))
 manual_of d seed role v (Planned n) b e p k = absurd (false≢true (sym p ∙ k.1))
@@ -105,7 +105,7 @@ near_touches d v a (inl i) = leaves d v a i
 near_touches d v a (inr i) = enters d v a i
 
 module _ (gives : MayGive) (job : Job) (ticks : ℕ) (ls ls' : List (Option LedgerState)) (ts ts1 ts2 ts3 : List Turn) (locks : List TableId)
-    (s : Stands job ls ts)
+    (s : StandsHome job ls ts)
     (dealt : AreDealt job.deal ts1 locks ls) (many : length locks ≡ length job.deal.graph.arcs) (shape : IsSameShape ts ts1) (number : length ts2 ≡ length ts1)
     (taken : (v : ℕ) → v < length ts1 → HasTaken (slice_get ts1 v) (slice_get ts2 v)) (wide : length ls' ≡ length job.deal.graph.arcs)
     (closed : (a : ℕ) → a < length job.deal.graph.arcs → IsShut job.deal ts2 a (arc_ledger ls' a))
@@ -219,7 +219,7 @@ module _ (gives : MayGive) (job : Job) (ticks : ℕ) (ls ls' : List (Option Ledg
       let before : turn_actor ts1 v ≡ Conforming m.0 = shape.actors v ∙ m.1 in
       let n = same_machine m.0 (turn_actor ts2 v) (subst (λ x. IsSameActor x (turn_actor ts2 v)) before (taken v (below_all v lv)).actor) in
       let g : AreGoodNotes (job_cast job) old v = s.good.notes v lv cv in
-      let note : state_notes old v ≡ record { known = m.0.known; signed = m.0.signed } = notes_are job ls ts v lv ∙ ap (actor_notes d) m.1 in (
+      let note : state_notes old v ≡ record { known = m.0.known; signed = m.0.signed } = notes_are job ls ts v lv ∙ ap (turn_actor_notes d) m.1 in (
         m.0,
         n.0,
         record {
@@ -239,7 +239,7 @@ module _ (gives : MayGive) (job : Job) (ticks : ℕ) (ls ls' : List (Option Ledg
 
   module _ (v : ℕ) (lv : v < d.graph.n) (m n : MachineState) (w : WentFrom v m n) where
     note_now : state_notes new v ≡ record { known = n.known; signed = n.signed }
-    note_now = notes_are job ls' ts3 v lv ∙ ap (actor_notes d) w.now
+    note_now = notes_are job ls' ts3 v lv ∙ ap (turn_actor_notes d) w.now
 
     known_now : length n.known ≡ length d.graph.arcs
     known_now = w.acted.able.arcs ∙ ap (λ x. length x.graph.arcs) w.deal
@@ -336,8 +336,8 @@ module _ (gives : MayGive) (job : Job) (ticks : ℕ) (ls ls' : List (Option Ledg
         record {
           before = before;
           now = after.actors v ∙ m.1;
-          was = plans_are job ls ts v lv ∙ ap (actor_plan d) first;
-          is = plans_are job ls' ts3 v lv ∙ ap (actor_plan d) (after.actors v ∙ m.1);
+          was = plans_are job ls ts v lv ∙ ap (race_plan d) first;
+          is = plans_are job ls' ts3 v lv ∙ ap (race_plan d) (after.actors v ∙ m.1);
           acted =
               subst (λ (w : Actor × Actor). Did gives job ticks v (held_passes (slice_get ts1 v)) (held_passes (slice_get ts2 v)) (held_clocks (slice_get ts1 v))
               (held_clocks (slice_get ts2 v)) w.0 w.1) (λ i. (before i, m.1 i)) (done v (below_all v lv));
@@ -409,7 +409,7 @@ module _ (gives : MayGive) (job : Job) (ticks : ℕ) (ls ls' : List (Option Ledg
     plan_own : (a : ℕ) → sender_calls v (history n.known a) ≡ sender_calls v (history old.book a)
     plan_own a = sym (calls_known v (history n.known a) (history old.book a) (w.knew a))
 
-    plan_played : HasPlayed gives (job_cast job) old new v
+    plan_played : HasPlayedInRound gives (job_cast job) old new v
     plan_played = record {
       view = view;
       answer = w.acted.played.answer;
@@ -426,7 +426,7 @@ module _ (gives : MayGive) (job : Job) (ticks : ℕ) (ls ls' : List (Option Ledg
           calls_known v (history m.known a) (history new.book a) (plan_knows a) ∙ (w.acted.played.called a lt
           ∙ ap (λ cs. take 32 (cs ++ arc_answer a w.acted.played.answer)) (plan_own a));
       answered =
-          subst (λ (x : Plan × Plan). IsAnswered gives d job.seeds v view w.acted.played.answer x.0 x.1 (job_role job v)) (λ i. (sym w.was i, sym w.is i))
+          subst (λ (x : Plan × Plan). IsPlanAnswer gives d job.seeds v view w.acted.played.answer x.0 x.1 (job_role job v)) (λ i. (sym w.was i, sym w.is i))
           w.acted.played.answered;
       may = w.acted.played.may;
       turns = ap (λ (x : Plan). x.turns) w.is ∙ (w.acted.played.turns ∙ ap (λ (x : Plan). x.turns + 1) (sym w.was));
@@ -445,8 +445,8 @@ module _ (gives : MayGive) (job : Job) (ticks : ℕ) (ls ls' : List (Option Ledg
         (held_clocks (slice_get ts2 v)) x
         (turn_actor ts2 v)) (shape.actors v ∙ first) (done v (below_all v lv))
 
-    started_whole : (x : Actor) (a : ℕ) (h : List Entry) → x ≡ Manual → started x a h ≡ h
-    started_whole x a h e = ap (λ y. started y a h) e
+    started_whole : (x : Actor) (a : ℕ) (h : List Entry) → x ≡ Manual → pass_start x a h ≡ h
+    started_whole x a h e = ap (λ y. pass_start y a h) e
 
     made_none : (a : ℕ) (h : List Entry) → IsLegal d a h → touches d v a ≡ false → party_made v h ≡ []
     made_none a h legal far = none_pass (λ (e : Entry). is_sender v e.sender) h (far_from d a v h legal far)
@@ -477,7 +477,7 @@ module _ (gives : MayGive) (job : Job) (ticks : ℕ) (ls ls' : List (Option Ledg
   -- The round.
 
   -- who plans nothing plans nothing later
-  plan_kept : (v : ℕ) → v < d.graph.n → actor_plan d (turn_actor ts v) ≡ actor_plan d (turn_actor ts3 v) → IsGoodPlan d job.seeds v new.book (party_plan new v)
+  plan_kept : (v : ℕ) → v < d.graph.n → race_plan d (turn_actor ts v) ≡ race_plan d (turn_actor ts3 v) → IsGoodPlan d job.seeds v new.book (party_plan new v)
   plan_kept v lv same =
       subst (IsGoodPlan d job.seeds v new.book) (plans_are job ls ts v lv ∙ (same ∙ sym (plans_are job ls' ts3 v lv)))
       (plan_grown d job.seeds v old.book new.book (party_plan old v) grows (s.good.plans v lv))
@@ -496,7 +496,7 @@ module _ (gives : MayGive) (job : Job) (ticks : ℕ) (ls ls' : List (Option Ledg
           let w = went v lv k.0 in
           record {
             actor = subst (IsJobActor job v) (sym w.2.now) (k.0, w.2.deal, w.2.me, w.2.seed);
-            plan = plan_kept v lv (ap (actor_plan d) e ∙ sym (ap (actor_plan d) w.2.now));
+            plan = plan_kept v lv (ap (race_plan d) e ∙ sym (ap (race_plan d) w.2.now));
             own = subst (λ x. KnowsOwn v x new.book) (sym w.2.now) tt;
           }
       go (Planned n) e k =
@@ -510,7 +510,7 @@ module _ (gives : MayGive) (job : Job) (ticks : ℕ) (ls ls' : List (Option Ledg
           let now = stays v lv e in
           record {
             actor = subst (IsJobActor job v) (sym now) k;
-            plan = plan_kept v lv (ap (actor_plan d) e ∙ sym (ap (actor_plan d) now));
+            plan = plan_kept v lv (ap (race_plan d) e ∙ sym (ap (race_plan d) now));
             own = subst (λ x. KnowsOwn v x new.book) (sym now) tt;
           }
       go Clock e k = absurd k
@@ -524,7 +524,7 @@ module _ (gives : MayGive) (job : Job) (ticks : ℕ) (ls ls' : List (Option Ledg
     plans = λ v lv. (stays_in v lv).plan;
   }
 
-  played_now : (v : ℕ) → v < d.graph.n → conforms (job_cast job) v ≡ false → is_planned (job_role job v) ≡ true → HasPlayed gives (job_cast job) old new v
+  played_now : (v : ℕ) → v < d.graph.n → conforms (job_cast job) v ≡ false → is_planned (job_role job v) ≡ true → HasPlayedInRound gives (job_cast job) old new v
   played_now v lv cv p =
       let n =
       party_planner d (slice_index_or job.seeds v None) (job_role job v) v (turn_actor ts v) (slice_index_or job.conforming v false) cv p (s.actors v lv) in
@@ -542,7 +542,7 @@ module _ (gives : MayGive) (job : Job) (ticks : ℕ) (ls ls' : List (Option Ledg
     played = λ v lv cv p. played_now v lv cv p;
   }
 
-  pub stands : Stands job ls' ts3
+  pub stands : StandsHome job ls' ts3
   stands = record {
     cast = s.cast;
     home = new_home;

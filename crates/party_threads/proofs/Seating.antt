@@ -36,13 +36,13 @@ use Rattle.party_threads.specs.declared.turn.Actor.TheVariants.{Conforming, Plan
 use Rattle.party_threads.specs.declared.turn.Turn.{Turn}
 use Rattle.party_threads.specs.Tracks.{Watcher, IsWatcherPass, IsWatching}
 use Rattle.party_threads.specs.Able.{watcher, IsAble}
-use Rattle.party_threads.specs.Ticks.{HaveRoom, AreLedgerClocks}
+use Rattle.party_threads.specs.Ticks.{HasRoomForTicks, AreLedgerClocks}
 use Rattle.party_threads.specs.Played.{party_planner}
 use Rattle.party_threads.specs.Took.{IsMachineSeated, IsPlannerSeated, IsActorSeated, IsSeated}
-use Rattle.party_threads.specs.Turns.{new_actor, held_passes, held_clocks, turn_actor, held_pass, arc_ledger, started, HasArc, IsBehind, AreBehind, HavePlaces}
+use Rattle.party_threads.specs.Turns.{numbered_actor, held_passes, held_clocks, turn_actor, held_pass, arc_ledger, pass_start, HasArc, IsBehind, AreBehind, HavePlaces}
 use Rattle.party_threads.specs.Turns.{AreDealt, IsSameShape}
-use Rattle.party_threads.specs.Standing.{home_history, race_book, actor_notes, turn_notes, actor_plan, turn_plan, race_state, IsJobActor, KnowsOwn, Stands}
-use Rattle.party_threads.specs.Standing.{HasRoom, AllHaveRoom}
+use Rattle.party_threads.specs.Standing.{home_history, race_book, turn_actor_notes, turn_notes, race_plan, turn_plan, race_state, IsJobActor, KnowsOwn, StandsHome}
+use Rattle.party_threads.specs.Standing.{HasTickRoom, AllHaveRoom}
 use Rattle.party_threads.proofs.Clocks.{height_of_ticks}
 use Rattle.party_threads.proofs.Sharing.{home_at, lock_at, held_near, held_far, clock_is}
 
@@ -61,12 +61,12 @@ wallet_is job v m e = ap (λ o. signing_wallet o v job.deal) e
 
 -- the notes of the state are the machine's
 pub notes_are : (job : Job) (ls : List (Option LedgerState)) (ts : List Turn) (v : ℕ) → v < job.deal.graph.n
-    → state_notes (race_state job ls ts) v ≡ actor_notes job.deal (turn_actor ts v)
+    → state_notes (race_state job ls ts) v ≡ turn_actor_notes job.deal (turn_actor ts v)
 notes_are job ls ts v l = get_or-map-range_with_len (turn_notes job.deal ts) 0 job.deal.graph.n v v _ l (zero-add v)
 
 -- the plan of the state is the actor's
 pub plans_are : (job : Job) (ls : List (Option LedgerState)) (ts : List Turn) (v : ℕ) → v < job.deal.graph.n
-    → party_plan (race_state job ls ts) v ≡ actor_plan job.deal (turn_actor ts v)
+    → party_plan (race_state job ls ts) v ≡ race_plan job.deal (turn_actor ts v)
 plans_are job ls ts v l = get_or-map-range_with_len (turn_plan job.deal ts) 0 job.deal.graph.n v v _ l (zero-add v)
 
 -- the history of the state is the ledger's
@@ -77,7 +77,7 @@ few_parties : (v : Version) → most_parties v ≤ 32
 few_parties One = omega arith
 few_parties Two = omega arith
 
-module _ (job : Job) (ls : List (Option LedgerState)) (ts : List Turn) (s : Stands job ls ts) where
+module _ (job : Job) (ls : List (Option LedgerState)) (ts : List Turn) (s : StandsHome job ls ts) where
   abbrev d : Deal
   d = job.deal
 
@@ -86,7 +86,7 @@ module _ (job : Job) (ls : List (Option LedgerState)) (ts : List Turn) (s : Stan
   able_at v m lv e =
       let is : IsJobActor job v (Conforming m) = subst (IsJobActor job v) e (s.actors v lv) in
       let n : AreGoodNotes (job_cast job) (race_state job ls ts) v = s.good.notes v lv is.0 in
-      let note : state_notes (race_state job ls ts) v ≡ record { known = m.known; signed = m.signed } = notes_are job ls ts v lv ∙ ap (actor_notes d) e in
+      let note : state_notes (race_state job ls ts) v ≡ record { known = m.known; signed = m.signed } = notes_are job ls ts v lv ∙ ap (turn_actor_notes d) e in
       subst IsAble (is_named d v m is.1 is.2) (record {
         accepted = s.cast.accepted;
         wallet = subst (IsWallet d v) (wallet_is job v m is.3) (s.cast.wallets v lv is.0);
@@ -98,7 +98,7 @@ module _ (job : Job) (ls : List (Option LedgerState)) (ts : List Turn) (s : Stan
 
   -- what stands of a plan
   pub plan_good : (v : ℕ) (n : Plan) → v < d.graph.n → turn_actor ts v ≡ Planned n → IsGoodPlan d job.seeds v (race_book ls) n
-  plan_good v n lv e = subst (IsGoodPlan d job.seeds v (race_book ls)) (plans_are job ls ts v lv ∙ ap (actor_plan d) e) (s.good.plans v lv)
+  plan_good v n lv e = subst (IsGoodPlan d job.seeds v (race_book ls)) (plans_are job ls ts v lv ∙ ap (race_plan d) e) (s.good.plans v lv)
 
   pub plan_shown : (v : ℕ) (n : Plan) → v < d.graph.n → turn_actor ts v ≡ Planned n → IsShown d job.seeds v n
   plan_shown v n lv e =
@@ -134,14 +134,14 @@ module _ (job : Job) (ls : List (Option LedgerState)) (ts : List Turn) (s : Stan
 
       go : (x : Actor) → turn_actor ts v ≡ x → IsJobActor job v x → IsBehind x v a l.history
       go (Conforming m) e k =
-          let note : state_notes (race_state job ls ts) v ≡ record { known = m.known; signed = m.signed } = notes_are job ls ts v lv ∙ ap (actor_notes d) e in
+          let note : state_notes (race_state job ls ts) v ≡ record { known = m.known; signed = m.signed } = notes_are job ls ts v lv ∙ ap (turn_actor_notes d) e in
           subst (λ (w : Notes × List Entry). Knows v (history w.0.known a) w.1) (λ i. (note i, now i)) ((s.good.notes v lv k.0).knows a)
       go (Planned n) e k = subst (λ h. Knows v (history n.known a) h) now (subst (λ x. KnowsOwn v x (race_book ls)) e (s.own v lv) a)
       go Manual e k = knows_all v l.history
       go Clock e k = knows_all v l.history
 
 -- Each pass is as it was dealt.
-module _ (job : Job) (ls : List (Option LedgerState)) (first ts : List Turn) (shared : List SharedState) (s : Stands job ls first)
+module _ (job : Job) (ls : List (Option LedgerState)) (first ts : List Turn) (shared : List SharedState) (s : StandsHome job ls first)
     (places : HavePlaces job.deal ts)
     (dealt : AreDealt job.deal ts (map (λ (x : SharedState). x.lock) shared) ls) (many : length shared ≡ length job.deal.graph.arcs)
     (actors : (v : ℕ) → turn_actor ts v ≡ turn_actor first v) where
@@ -173,13 +173,13 @@ module _ (job : Job) (ls : List (Option LedgerState)) (first ts : List Turn) (sh
 
   -- the pass that is there is the one that was dealt
   there_is : (v a : ℕ) (x : SharedState) (p : PassState) → v < e.graph.n → a < length e.graph.arcs → x ≡ get_or shared a x → held_pass ts v a ≡ Some p
-      → (l : LedgerState) × IsArcLedger e a l × (party_pass x.lock l v (started (turn_actor ts v) l.arc l.history) ≡ p)
+      → (l : LedgerState) × IsArcLedger e a l × (party_pass x.lock l v (pass_start (turn_actor ts v) l.arc l.history) ≡ p)
   there_is v a x p lv lt ix held =
       let l = home_at e ls a s.home lt in
       go l.0 l.1 l.2 (bool_or (touches e v a))
     where
       go : (l : LedgerState) → arc_ledger ls a ≡ Some l → IsArcLedger e a l → (touches e v a ≡ true) ⊎ (touches e v a ≡ false)
-          → (l : LedgerState) × IsArcLedger e a l × (party_pass x.lock l v (started (turn_actor ts v) l.arc l.history) ≡ p)
+          → (l : LedgerState) × IsArcLedger e a l × (party_pass x.lock l v (pass_start (turn_actor ts v) l.arc l.history) ≡ p)
       go l at k (inl near) = (
         l,
         k,
@@ -193,7 +193,7 @@ module _ (job : Job) (ls : List (Option LedgerState)) (first ts : List Turn) (sh
   near_is v a lv lt near =
       let l = home_at e ls a s.home lt in
       let k = lock_at e ts locks ls s.home dealt all_locks a lt in (
-        party_pass k.0 l.0 v (started (turn_actor ts v) l.0.arc l.0.history),
+        party_pass k.0 l.0 v (pass_start (turn_actor ts v) l.0.arc l.0.history),
         held_near e ts locks ls s.home dealt all_locks v a k.0 l.0 lv lt k.1 l.1 l.2 near,
       )
 
@@ -202,14 +202,14 @@ module _ (job : Job) (ls : List (Option LedgerState)) (first ts : List Turn) (sh
   far_is v a lv lt far = held_far e ts locks ls s.home dealt all_locks v a lv lt far
 
   pass_is : (w : Watcher) (v a : ℕ) (x : SharedState) (p : PassState) → v < e.graph.n → w.deal ≡ e → w.me ≡ v
-      → ((b : ℕ) (h : List Entry) → started (turn_actor ts v) b h ≡ history w.known b) → a < length e.graph.arcs → x ≡ get_or shared a x
+      → ((b : ℕ) (h : List Entry) → pass_start (turn_actor ts v) b h ≡ history w.known b) → a < length e.graph.arcs → x ≡ get_or shared a x
       → held_pass ts v a ≡ Some p → IsWatcherPass w x.lock a p
   pass_is w v a x p lv ed ev known lt ix held =
       let t = there_is v a x p lv lt ix held in
-      dealt_pass w a (started (turn_actor ts v) t.0.arc t.0.history) t.0 x p ed t.1 (known t.0.arc t.0.history ∙ ap (λ b. history w.known b) t.1.arc)
-      (ap (λ u. party_pass x.lock t.0 u (started (turn_actor ts v) t.0.arc t.0.history)) ev ∙ t.2)
+      dealt_pass w a (pass_start (turn_actor ts v) t.0.arc t.0.history) t.0 x p ed t.1 (known t.0.arc t.0.history ∙ ap (λ b. history w.known b) t.1.arc)
+      (ap (λ u. party_pass x.lock t.0 u (pass_start (turn_actor ts v) t.0.arc t.0.history)) ev ∙ t.2)
 
-  watching_at : (w : Watcher) (v : ℕ) → v < e.graph.n → w.deal ≡ e → w.me ≡ v → ((b : ℕ) (h : List Entry) → started (turn_actor ts v) b h ≡ history w.known b)
+  watching_at : (w : Watcher) (v : ℕ) → v < e.graph.n → w.deal ≡ e → w.me ≡ v → ((b : ℕ) (h : List Entry) → pass_start (turn_actor ts v) b h ≡ history w.known b)
       → length w.known ≡ length w.deal.graph.arcs → IsWatching shared w (held_passes (slice_get ts v))
   watching_at w v lv ed ev known wide =
       let arcs : length w.deal.graph.arcs ≡ length e.graph.arcs = ap (λ (d : Deal). length d.graph.arcs) ed in
@@ -233,7 +233,7 @@ module _ (job : Job) (ls : List (Option LedgerState)) (first ts : List Turn) (sh
   seated_machine v m lv is =
       let who : IsJobActor job v (Conforming m) = subst (IsJobActor job v) (sym (actors v) ∙ is) (s.actors v lv) in
       let able = able_at job ls first s v m lv (sym (actors v) ∙ is) in
-      record { able = able; watching = watching_at (watcher m) v lv who.1 who.2 (λ b h. ap (λ y. started y b h) is) able.arcs }
+      record { able = able; watching = watching_at (watcher m) v lv who.1 who.2 (λ b h. ap (λ y. pass_start y b h) is) able.arcs }
 
   module _ (holds : List ℕ → Bool) (held : AreHeld holds job.roles) where
     seated_planner : (v : ℕ) (n : Plan) → v < e.graph.n → turn_actor ts v ≡ Planned n → IsPlannerSeated holds job shared v n (held_passes (slice_get ts v))
@@ -247,18 +247,18 @@ module _ (job : Job) (ls : List (Option LedgerState)) (first ts : List Turn) (sh
           shown = shown;
           planned = who.1;
           held = held v place;
-          watching = watching_at (party_planner e v n) v lv refl refl (λ b h. ap (λ y. started y b h) is) shown.view.legal.one_each;
+          watching = watching_at (party_planner e v n) v lv refl refl (λ b h. ap (λ y. pass_start y b h) is) shown.view.legal.one_each;
         }
 
     module _ (ticks : ℕ) (room : AllHaveRoom ticks job.deal (race_book ls)) where
       clock_room : (a : ℕ) (lock : TableId) (l : LedgerState) (p : ClockState) → a < length e.graph.arcs → arc_ledger ls a ≡ Some l → IsArcLedger e a l
           → table_clock lock l ≡ p
-          → HaveRoom ticks p
+          → HasRoomForTicks ticks p
       clock_room a lock l p lt at k is =
           let h : history (race_book ls) a ≡ l.history = history_is ls a l at (subst (λ n. a < n) (sym s.home.one_each) lt) in
-          let r : HasRoom ticks l.history = subst (HasRoom ticks) h (room a lt) in
+          let r : HasTickRoom ticks l.history = subst (HasTickRoom ticks) h (room a lt) in
           let level : height l.history ≡ height (ticks_in_order l.history) = height_of_ticks e a l.history k.legal in
-          subst (HaveRoom ticks) is (record { few = r.few; low = subst (λ n. n + ticks ≤ 1000000) level r.low })
+          subst (HasRoomForTicks ticks) is (record { few = r.few; low = subst (λ n. n + ticks ≤ 1000000) level r.low })
 
       seated_clock : AreLedgerClocks ticks shared (held_clocks (slice_get ts e.graph.n))
       seated_clock =
@@ -313,4 +313,4 @@ module _ (job : Job) (ls : List (Option LedgerState)) (first ts : List Turn) (sh
       pub seated : (i : ℕ) (t : Turn) → i < length ts → IsSeated holds job shared ticks i (get_or ts i t)
       seated i t lt =
           let there : slice_get ts i ≡ Some (get_or ts i t) = slice_get-get_or ts i t lt in
-          subst (λ o. IsActorSeated holds job shared ticks i (held_passes o) (held_clocks o) (new_actor o)) there (seated_actor i (turn_actor ts i) lt refl)
+          subst (λ o. IsActorSeated holds job shared ticks i (held_passes o) (held_clocks o) (numbered_actor o)) there (seated_actor i (turn_actor ts i) lt refl)

@@ -12,7 +12,7 @@ use Rattle.party_threads.specs.declared.turn.Actor.{Actor}
 use Rattle.party_threads.specs.declared.turn.Turn.{Turn}
 use Rattle.party_threads.specs.Later.{IsLater, IsClockLater, Advanced}
 use Rattle.party_threads.specs.Ticks.{ClockAdvanced}
-use Rattle.party_threads.specs.Turns.{turn_actor, held_pass, held_clock, arc_ledger, started, IsHome, AreHome, HavePlaces, dealt_party_pass, dealt_shared_pass, dealt_clock}
+use Rattle.party_threads.specs.Turns.{turn_actor, held_pass, held_clock, arc_ledger, pass_start, IsHome, AreHome, HavePlaces, dealt_party_pass, dealt_shared_pass, dealt_clock}
 use Rattle.party_threads.specs.Turns.{AreDealt, IsArcPass, AreSet}
 use Rattle.party_threads.proofs.Turning.{get_there, HasTaken}
 
@@ -29,15 +29,15 @@ home_at d ls a h lt = make_ledger d a (arc_ledger ls a) (h.each a lt)
 -- What is dealt at arc a.
 
 pub dealt_near : (d : Deal) (x : Actor) (v a : ℕ) (lock : TableId) (l : LedgerState) → IsArcLedger d a l → touches d v a ≡ true
-    → dealt_party_pass x v lock l ≡ Some (party_pass lock l v (started x l.arc l.history))
+    → dealt_party_pass x v lock l ≡ Some (party_pass lock l v (pass_start x l.arc l.history))
 dealt_near d x v a lock l k near =
     let t : touches l.deal v l.arc ≡ true = subst (λ b. touches l.deal v b ≡ true) (sym k.arc) (subst (λ e. touches e v a ≡ true) (sym k.deal) near) in
-    ap (λ b. if b then Some (party_pass lock l v (started x l.arc l.history)) else None) t
+    ap (λ b. if b then Some (party_pass lock l v (pass_start x l.arc l.history)) else None) t
 
 pub dealt_far : (d : Deal) (x : Actor) (v a : ℕ) (lock : TableId) (l : LedgerState) → IsArcLedger d a l → touches d v a ≡ false → dealt_party_pass x v lock l ≡ None
 dealt_far d x v a lock l k far =
     let t : touches l.deal v l.arc ≡ false = subst (λ b. touches l.deal v b ≡ false) (sym k.arc) (subst (λ e. touches e v a ≡ false) (sym k.deal) far) in
-    ap (λ b. if b then Some (party_pass lock l v (started x l.arc l.history)) else None) t
+    ap (λ b. if b then Some (party_pass lock l v (pass_start x l.arc l.history)) else None) t
 
 module _ (d : Deal) (ts : List Turn) (locks : List TableId) (ls : List (Option LedgerState)) (home : AreHome d ls) (dealt : AreDealt d ts locks ls)
     (many : length locks ≡ length d.graph.arcs) where
@@ -58,7 +58,7 @@ module _ (d : Deal) (ts : List Turn) (locks : List TableId) (ls : List (Option L
 
   pub held_near : (v a : ℕ) (lock : TableId) (l : LedgerState) → v < d.graph.n → a < length d.graph.arcs → slice_get locks a ≡ Some lock
       → arc_ledger ls a ≡ Some l
-      → IsArcLedger d a l → touches d v a ≡ true → held_pass ts v a ≡ Some (party_pass lock l v (started (turn_actor ts v) l.arc l.history))
+      → IsArcLedger d a l → touches d v a ≡ true → held_pass ts v a ≡ Some (party_pass lock l v (pass_start (turn_actor ts v) l.arc l.history))
   held_near v a lock l lv lt at_lock at_ledger k near = held_is v a lock l lv lt at_lock at_ledger ∙ dealt_near d (turn_actor ts v) v a lock l k near
 
   pub held_far : (v a : ℕ) → v < d.graph.n → a < length d.graph.arcs → touches d v a ≡ false → held_pass ts v a ≡ None

@@ -27,8 +27,8 @@ use Rattle.swap_world.proofs.Team.{IsOwn, is_own, is_ready, role_each}
 use Rattle.party_threads.specs.declared.turn.Actor.{Actor}
 use Rattle.party_threads.specs.declared.turn.Actor.TheVariants.{Clock}
 use Rattle.party_threads.specs.declared.turn.Turn.{Turn}
-use Rattle.party_threads.specs.Turns.{new_actor, held_passes, held_clocks, turn_actor, arc_ledger, IsHome}
-use Rattle.party_threads.specs.Standing.{race_book, actor_notes, turn_notes, actor_plan, turn_plan, race_state, IsJobActor, KnowsOwn, Stands}
+use Rattle.party_threads.specs.Turns.{numbered_actor, held_passes, held_clocks, turn_actor, arc_ledger, IsHome}
+use Rattle.party_threads.specs.Standing.{race_book, turn_actor_notes, turn_notes, race_plan, turn_plan, race_state, IsJobActor, KnowsOwn, StandsHome}
 use Rattle.party_threads.specs.FirstTurns.{racing_actor, IsNewTurn, AreNew}
 use Rattle.swap_digraph.proofs.Ranges.{map_more}
 use Rattle.party_threads.proofs.Turning.{get_there}
@@ -51,8 +51,8 @@ one_ledger_more d k ls ls' l so_far is more =
 
 pub record Acts (job : Job) (v : ℕ) (x : Actor) : Type 0 where
   pub is : IsJobActor job v x
-  pub notes : actor_notes job.deal x ≡ no_notes job.deal
-  pub plan : actor_plan job.deal x ≡ first_plan job.deal (job_role job v)
+  pub notes : turn_actor_notes job.deal x ≡ no_notes job.deal
+  pub plan : race_plan job.deal x ≡ first_plan job.deal (job_role job v)
   pub own : KnowsOwn v x (no_histories job.deal)
 
 acts_as : (job : Job) (v : ℕ) (x : Party) → IsOwn job v x → Acts job v (racing_actor x)
@@ -84,7 +84,7 @@ module _ (job : Job) (ts : List Turn) (accepted : IsAccepted job.deal) (seeds : 
   clock_turn = let n = new.number in let t = get_there ts d.graph.n (omega (arith, n)) in (t.0, t.1, new.clock t.0 t.1)
 
   actor_is : (v : ℕ) → v < d.graph.n → turn_actor ts v ≡ racing_actor (job_actor job v)
-  actor_is v lv = let t = turn_at v lv in ap new_actor t.1 ∙ t.2.actor
+  actor_is v lv = let t = turn_at v lv in ap numbered_actor t.1 ∙ t.2.actor
 
   pub cast : IsReadyCast (job_cast job)
   cast = is_ready job accepted seeds roles fit
@@ -98,7 +98,7 @@ module _ (job : Job) (ts : List Turn) (accepted : IsAccepted job.deal) (seeds : 
       at : (k : ℕ) (x : Notes) → k < d.graph.n → get_or (map (turn_notes d ts) (range_with_len 0 d.graph.n)) k x ≡ get_or (replicate d.graph.n (no_notes d)) k x
       at k x lt =
           get_or-map-range_with_len (turn_notes d ts) 0 d.graph.n k k x lt (zero-add k)
-          ∙ (ap (actor_notes d) (actor_is k lt) ∙ ((acts_at k lt).notes ∙ sym (get_or-replicate d.graph.n k (no_notes d) x lt)))
+          ∙ (ap (turn_actor_notes d) (actor_is k lt) ∙ ((acts_at k lt).notes ∙ sym (get_or-replicate d.graph.n k (no_notes d) x lt)))
 
   all_plans : map (turn_plan d ts) (range_with_len 0 d.graph.n) ≡ map (first_plan d) job.roles
   all_plans =
@@ -109,7 +109,7 @@ module _ (job : Job) (ts : List Turn) (accepted : IsAccepted job.deal) (seeds : 
       at : (k : ℕ) (x : Plan) → k < d.graph.n → get_or (map (turn_plan d ts) (range_with_len 0 d.graph.n)) k x ≡ get_or (map (first_plan d) job.roles) k x
       at k x lt =
           get_or-map-range_with_len (turn_plan d ts) 0 d.graph.n k k x lt (zero-add k)
-          ∙ (ap (actor_plan d) (actor_is k lt) ∙ ((acts_at k lt).plan
+          ∙ (ap (race_plan d) (actor_is k lt) ∙ ((acts_at k lt).plan
           ∙ sym (get_or-map (first_plan d) job.roles k kinds.Manual x (subst (λ n. k < n) (sym (role_each job seeds roles)) lt))))
 
   abbrev with_parts : Histories → List Notes → List Plan → State
@@ -127,7 +127,7 @@ module _ (job : Job) (ts : List Turn) (accepted : IsAccepted job.deal) (seeds : 
       (subst (λ n. a < n) (sym (length-map-range_with_len (new_ledger d) 0 (length d.graph.arcs))) lt)
       ∙ ap (λ (l : LedgerState). Some l) (get_or-map-range_with_len (new_ledger d) 0 (length d.graph.arcs) a a (new_ledger d a) lt (zero-add a))
 
-  pub stands_first : Stands job ls ts
+  pub stands_first : StandsHome job ls ts
   stands_first = record {
     cast = cast;
     home = record {
@@ -146,7 +146,7 @@ module _ (job : Job) (ts : List Turn) (accepted : IsAccepted job.deal) (seeds : 
           (ap (λ ps. slice_index_or ps a None) t.2.clocks ∙ replicated (length d.graph.arcs) a None);
     };
     actors = λ v lv. subst (IsJobActor job v) (sym (actor_is v lv)) (acts_at v lv).is;
-    clock = let t = clock_turn in ap new_actor t.1 ∙ t.2.actor;
+    clock = let t = clock_turn in ap numbered_actor t.1 ∙ t.2.actor;
     good = subst (IsGood (job_cast job)) (sym first_state) (start_is_good (job_cast job) cast);
     own = λ v lv. subst (λ (w : Actor × Histories). KnowsOwn v w.0 w.1) (λ i. (sym (actor_is v lv) i, sym first_book i)) (acts_at v lv).own;
   }

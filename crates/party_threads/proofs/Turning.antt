@@ -10,7 +10,7 @@ use Rattle.party_threads.specs.declared.turn.Turn.{Turn}
 use Rattle.party_threads.specs.Later.{HaveAdvanced}
 use Rattle.party_threads.specs.Ticks.{HaveClocksAdvanced}
 use Rattle.party_threads.specs.Took.{IsSameActor, Did, Took}
-use Rattle.party_threads.specs.Turns.{new_actor, held_passes, held_clocks, HavePlaces, IsSameShape}
+use Rattle.party_threads.specs.Turns.{numbered_actor, held_passes, held_clocks, HavePlaces, IsSameShape}
 
 pub get_there : {A : Type 0} (xs : List A) (k : ℕ) → k < length xs → (x : A) × (slice_get xs k ≡ Some x)
 get_there [] k lt = absurd (omega arith)
@@ -25,14 +25,14 @@ none_pass {A} p (x ∷ xs) f =
 
 -- What the turn of an actor took and did, whether memory was enough or not.
 pub record HasTaken (o p : Option Turn) : Type 0 where
-  pub actor : IsSameActor (new_actor o) (new_actor p)
+  pub actor : IsSameActor (numbered_actor o) (numbered_actor p)
   pub passes : HaveAdvanced (held_passes o) (held_passes p)
   pub places : length (held_passes p) ≡ length (held_passes o)
   pub clocks : HaveClocksAdvanced (held_clocks o) (held_clocks p)
   pub clock_places : length (held_clocks p) ≡ length (held_clocks o)
 
 abbrev pub HasDone : MayGive → Job → ℕ → ℕ → Option Turn → Option Turn → Type 0
-HasDone gives job ticks v o p = Did gives job ticks v (held_passes o) (held_passes p) (held_clocks o) (held_clocks p) (new_actor o) (new_actor p)
+HasDone gives job ticks v o p = Did gives job ticks v (held_passes o) (held_passes p) (held_clocks o) (held_clocks p) (numbered_actor o) (numbered_actor p)
 
 module _ (gives : MayGive) (job : Job) (ticks : ℕ) (ts us : List Turn) (same : length us ≡ length ts)
     (took : (i : ℕ) (t : Turn) → i < length ts → Took gives job ticks i (get_or ts i t) (get_or us i t)) where

@@ -20,8 +20,8 @@ use Rattle.swap_run.specs.Run.{Cast, State, Plan, party_plan, party_role, first_
 use Rattle.swap_run.specs.Laws.{IsReadyCast, IsGood}
 use Rattle.swap_run.proofs.Good.{empty_at}
 use Rattle.swap_world.specs.Gone.{MayGive}
-use Rattle.party_threads.specs.Played.{IsAnswered, sender_calls, arc_answer}
-use Rattle.party_threads.specs.Views.{arc_answers, made_calls, moves_after_views, AreAnswered, PlaysByViews, HasPlayed}
+use Rattle.party_threads.specs.Played.{IsPlanAnswer, sender_calls, arc_answer}
+use Rattle.party_threads.specs.Views.{arc_answers, made_calls, moves_after_views, AreAnswered, PlaysByViews, HasPlayedInRound}
 
 -- cutting twice at one place is cutting once
 take_more : {A : Type 0} (n : ℕ) (xs ys : List A) → take n (take n xs ++ ys) ≡ take n (xs ++ ys)
@@ -33,7 +33,7 @@ module _ (gives : MayGive) (c : Cast) (ticks rounds : ℕ) (states : ℕ → Sta
     (first : states 0 ≡ start c) (good : (r : ℕ) → r ≤ rounds → IsGood c (states r))
     (level : (r a : ℕ) → r ≤ rounds → a < length c.deal.graph.arcs → height (history (states r).book a) ≡ r * ticks)
     (grows : (r a : ℕ) → r < rounds → Begins (history (states r).book a) (history (states (r + 1)).book a))
-    (played : (r : ℕ) → r < rounds → HasPlayed gives c (states r) (states (r + 1)) v) where
+    (played : (r : ℕ) → r < rounds → HasPlayedInRound gives c (states r) (states (r + 1)) v) where
   next : (r : ℕ) → r + 1 ≡ suc r
   next r = omega arith
 
@@ -57,14 +57,14 @@ module _ (gives : MayGive) (c : Cast) (ticks rounds : ℕ) (states : ℕ → Sta
     own : (a : ℕ) → a < length c.deal.graph.arcs → sender_calls v (history view a) ≡ sender_calls v (history (states r).book a)
     called : (a : ℕ) → a < length c.deal.graph.arcs
         → sender_calls v (history (states (suc r)).book a) ≡ take 32 (sender_calls v (history (states r).book a) ++ arc_answer a answer)
-    answered : IsAnswered gives c.deal c.seeds v view answer (party_plan (states r) v) (party_plan (states (suc r)) v) (party_role c v)
+    answered : IsPlanAnswer gives c.deal c.seeds v view answer (party_plan (states r) v) (party_plan (states (suc r)) v) (party_role c v)
     may : MayAnswer c.deal v answer
     turns : (party_plan (states (suc r)) v).turns ≡ (party_plan (states r) v).turns + 1
 
   played_next : (r : ℕ) (l : r < rounds) (t : ℕ) → r + 1 ≡ t
-      → (k : HasPlayed gives c (states r) (states t) v) × (k.view ≡ (played r l).view) × (k.answer ≡ (played r l).answer)
+      → (k : HasPlayedInRound gives c (states r) (states t) v) × (k.view ≡ (played r l).view) × (k.answer ≡ (played r l).answer)
   played_next r l t e =
-      subst (λ m. (k : HasPlayed gives c (states r) (states m) v) × (k.view ≡ (played r l).view) × (k.answer ≡ (played r l).answer)) e (played r l, refl, refl)
+      subst (λ m. (k : HasPlayedInRound gives c (states r) (states m) v) × (k.view ≡ (played r l).view) × (k.answer ≡ (played r l).answer)) e (played r l, refl, refl)
 
   is_turn_in : (r : ℕ) → r < rounds → (o : (r < rounds) ⊎ (rounds ≤ r)) → IsTurn r (turn_in r o).0 (turn_in r o).1
   is_turn_in r lt (inl l) =
@@ -115,7 +115,7 @@ module _ (gives : MayGive) (c : Cast) (ticks rounds : ℕ) (states : ℕ → Sta
   moves_so_far zero moves l e z = z
   moves_so_far (suc r) moves l e z =
       let t = is_turn r (omega (arith, l)) in
-      let k = subst (IsAnswered gives c.deal c.seeds v (views r) (answers r) (party_plan (states r) v) (party_plan (states (suc r)) v)) e t.answered in
+      let k = subst (IsPlanAnswer gives c.deal c.seeds v (views r) (answers r) (party_plan (states r) v) (party_plan (states (suc r)) v)) e t.answered in
       k.1 ∙ ap (moves_left (views r)) (moves_so_far r moves (omega (arith, l)) e z)
 
   plan_first : party_plan (states 0) v ≡ first_plan c.deal (party_role c v)
@@ -132,12 +132,12 @@ module _ (gives : MayGive) (c : Cast) (ticks rounds : ℕ) (states : ℕ → Sta
   answered_by : (role : Role) → party_role c v ≡ role → AreAnswered gives c rounds v views answers role
   answered_by (Script moves) e = λ r lt.
       let t = is_turn r lt in
-      let k = subst (IsAnswered gives c.deal c.seeds v (views r) (answers r) (party_plan (states r) v) (party_plan (states (suc r)) v)) e t.answered in
+      let k = subst (IsPlanAnswer gives c.deal c.seeds v (views r) (answers r) (party_plan (states r) v) (party_plan (states (suc r)) v)) e t.answered in
       k.0 ∙ ap (next_call c.deal c.seeds (views r)) (moves_so_far r moves (omega (arith, lt)) e (first_of_role ∙ ap role_script e))
   answered_by (Strategy name) e = λ r lt.
       let t = is_turn r lt in
       subst (λ n. gives name c.deal v n (views r) (answers r)) (turns_so_far r (omega (arith, lt)) no_turns)
-      (subst (IsAnswered gives c.deal c.seeds v (views r) (answers r) (party_plan (states r) v) (party_plan (states (suc r)) v)) e t.answered)
+      (subst (IsPlanAnswer gives c.deal c.seeds v (views r) (answers r) (party_plan (states r) v) (party_plan (states (suc r)) v)) e t.answered)
   answered_by Conforming e = tt
   answered_by Manual e = tt
 

@@ -35,14 +35,14 @@ HaveGrown old new = (a : ℕ) → Begins (history old a) (history new a)
 
 -- The calls of a party.
 
-abbrev pub with_call : Option Call → List Call → List Call
-with_call None cs = cs
-with_call (Some c) cs = c ∷ cs
+abbrev pub with_optional_call : Option Call → List Call → List Call
+with_optional_call None cs = cs
+with_optional_call (Some c) cs = c ∷ cs
 
 -- the calls of v, oldest first
 abbrev pub sender_calls : ℕ → List Entry → List Call
 sender_calls v [] = []
-sender_calls v (e ∷ es) = with_call (pick_call v e) (sender_calls v es)
+sender_calls v (e ∷ es) = with_optional_call (pick_call v e) (sender_calls v es)
 
 -- the call of an answer, where it stands on arc a
 abbrev pub arc_answer : ℕ → Option (ℕ × Call) → List Call
@@ -50,11 +50,11 @@ arc_answer a None = []
 arc_answer a (Some x) = if x.0 == a then x.1 ∷ [] else []
 
 -- the answer to a view, by the plan before it, and the plan after it
-abbrev pub IsAnswered : MayGive → Deal → Seeds → ℕ → Histories → Option (ℕ × Call) → Plan → Plan → Role → Type 0
-IsAnswered gives d seeds v view answer n m (Script moves) = (answer ≡ next_call d seeds view n.moves) × (m.moves ≡ moves_left view n.moves)
-IsAnswered gives d seeds v view answer n m (Strategy name) = gives name d v n.turns view answer
-IsAnswered gives d seeds v view answer n m Conforming = Unit {0}
-IsAnswered gives d seeds v view answer n m Manual = Unit {0}
+abbrev pub IsPlanAnswer : MayGive → Deal → Seeds → ℕ → Histories → Option (ℕ × Call) → Plan → Plan → Role → Type 0
+IsPlanAnswer gives d seeds v view answer n m (Script moves) = (answer ≡ next_call d seeds view n.moves) × (m.moves ≡ moves_left view n.moves)
+IsPlanAnswer gives d seeds v view answer n m (Strategy name) = gives name d v n.turns view answer
+IsPlanAnswer gives d seeds v view answer n m Conforming = Unit {0}
+IsPlanAnswer gives d seeds v view answer n m Manual = Unit {0}
 
 -- of the answer the call is made, unless the ledger had 32 of the party
 abbrev pub HasMadeCall : Deal → ℕ → Option (ℕ × Call) → Histories → Histories → Type 0
@@ -79,6 +79,6 @@ pub record HasPlayed (gives : MayGive) (d : Deal) (seeds : Seeds) (role : Role) 
   pub begins : HaveGrown view m.known
   pub own : (a : ℕ) → sender_calls v (history view a) ≡ sender_calls v (history n.known a)
   pub called : HasMadeCall d v answer n.known m.known
-  pub answered : IsAnswered gives d seeds v view answer n m role
+  pub answered : IsPlanAnswer gives d seeds v view answer n m role
   pub may : MayAnswer d v answer
   pub turns : m.turns ≡ n.turns + 1

@@ -27,7 +27,7 @@ use Rattle.swap_run.specs.Laws.{IsReadyCast, IsGood}
 use Rattle.swap_run.specs.Fair.{the_horizon}
 use Rattle.typed_books.specs.Books.{IsTypedBook}
 use Rattle.swap_world.specs.Gone.{MayGive}
-use Rattle.party_threads.specs.Views.{HasPlayed, PlaysByViews}
+use Rattle.party_threads.specs.Views.{HasPlayedInRound, PlaysByViews}
 
 -- the fewest rounds of so many ticks that pass the horizon
 abbrev pub needed_rounds : Deal → ℕ → ℕ
@@ -46,7 +46,7 @@ pub record IsRound (gives : MayGive) (c : Cast) (ticks : ℕ) (s t : State) : Ty
   pub rests : (v : ℕ) → v < c.deal.graph.n → conforms c v ≡ true → next_action c t v ≡ None
   pub others : (v a : ℕ) → v < c.deal.graph.n → conforms c v ≡ false → is_planned (party_role c v) ≡ false
       → party_made v (history t.book a) ≡ party_made v (history s.book a)
-  pub played : (v : ℕ) → v < c.deal.graph.n → conforms c v ≡ false → is_planned (party_role c v) ≡ true → HasPlayed gives c s t v
+  pub played : (v : ℕ) → v < c.deal.graph.n → conforms c v ≡ false → is_planned (party_role c v) ≡ true → HasPlayedInRound gives c s t v
 
 -- The state after so many rounds from the start, with those between.
 pub record IsRaced (gives : MayGive) (c : Cast) (ticks rounds : ℕ) (t : State) : Type 0 where

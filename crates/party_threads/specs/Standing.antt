@@ -28,20 +28,20 @@ abbrev pub race_book : List (Option LedgerState) → Histories
 race_book ls = map home_history ls
 
 -- what the party has noted, where it conforms
-abbrev pub actor_notes : Deal → Actor → Notes
-actor_notes d (Conforming m) = record { known = m.known; signed = m.signed }
-actor_notes d _ = no_notes d
+abbrev pub turn_actor_notes : Deal → Actor → Notes
+turn_actor_notes d (Conforming m) = record { known = m.known; signed = m.signed }
+turn_actor_notes d _ = no_notes d
 
 abbrev pub turn_notes : Deal → List Turn → ℕ → Notes
-turn_notes d ts v = actor_notes d (turn_actor ts v)
+turn_notes d ts v = turn_actor_notes d (turn_actor ts v)
 
 -- what the party plans, where it follows a script or a strategy
-abbrev pub actor_plan : Deal → Actor → Plan
-actor_plan d (Planned n) = n
-actor_plan d _ = first_plan d kinds.Manual
+abbrev pub race_plan : Deal → Actor → Plan
+race_plan d (Planned n) = n
+race_plan d _ = first_plan d kinds.Manual
 
 abbrev pub turn_plan : Deal → List Turn → ℕ → Plan
-turn_plan d ts v = actor_plan d (turn_actor ts v)
+turn_plan d ts v = race_plan d (turn_actor ts v)
 
 abbrev pub race_state : Job → List (Option LedgerState) → List Turn → State
 race_state job ls ts = record {
@@ -53,15 +53,15 @@ race_state job ls ts = record {
 
 -- The actor is the one of party v of the deal. The party conforms or not, as `conforms` tells, and
 -- has this seed and this role.
-abbrev pub IsPartyActor : Deal → Bool → Option (List ℕ) → Role → ℕ → Actor → Type 0
-IsPartyActor d conforms seed role v (Conforming m) = (conforms ≡ true) × (m.deal ≡ d) × (m.me ≡ v) × (seed ≡ Some m.seed)
-IsPartyActor d conforms seed role v (Planned n) = (conforms ≡ false) × (is_planned role ≡ true)
-IsPartyActor d conforms seed role v Manual = (conforms ≡ false) × (is_planned role ≡ false)
-IsPartyActor d conforms seed role v Clock = ⊥
+abbrev pub IsPartyTurnActor : Deal → Bool → Option (List ℕ) → Role → ℕ → Actor → Type 0
+IsPartyTurnActor d conforms seed role v (Conforming m) = (conforms ≡ true) × (m.deal ≡ d) × (m.me ≡ v) × (seed ≡ Some m.seed)
+IsPartyTurnActor d conforms seed role v (Planned n) = (conforms ≡ false) × (is_planned role ≡ true)
+IsPartyTurnActor d conforms seed role v Manual = (conforms ≡ false) × (is_planned role ≡ false)
+IsPartyTurnActor d conforms seed role v Clock = ⊥
 
 -- The actor of party v of the job.
 abbrev pub IsJobActor : Job → ℕ → Actor → Type 0
-IsJobActor job v x = IsPartyActor job.deal (slice_index_or job.conforming v false) (slice_index_or job.seeds v None) (job_role job v) v x
+IsJobActor job v x = IsPartyTurnActor job.deal (slice_index_or job.conforming v false) (slice_index_or job.seeds v None) (job_role job v) v x
 
 -- what the actor v plans by holds all its calls
 abbrev pub KnowsOwn : ℕ → Actor → Histories → Type 0
@@ -69,7 +69,7 @@ KnowsOwn v (Planned n) b = (a : ℕ) → Knows v (history n.known a) (history b 
 KnowsOwn v _ b = Unit {0}
 
 -- Every ledger is at home, and nobody has a pass; what the parties know and did so far is good.
-pub record Stands (job : Job) (ls : List (Option LedgerState)) (ts : List Turn) : Type 0 where
+pub record StandsHome (job : Job) (ls : List (Option LedgerState)) (ts : List Turn) : Type 0 where
   pub cast : IsReadyCast (job_cast job)
   pub home : AreHome job.deal ls
   pub places : HavePlaces job.deal ts
@@ -80,10 +80,10 @@ pub record Stands (job : Job) (ls : List (Option LedgerState)) (ts : List Turn) 
   pub own : (v : ℕ) → v < job.deal.graph.n → KnowsOwn v (turn_actor ts v) (race_book ls)
 
 -- The history of arc a takes a further tick.
-pub record HasRoom (ticks : ℕ) (h : List Entry) : Type 0 where
+pub record HasTickRoom (ticks : ℕ) (h : List Entry) : Type 0 where
   pub few : length (ticks_in_order h) < 20000
   pub low : height h + ticks ≤ 1000000
 
 -- each ledger takes a further tick
 abbrev pub AllHaveRoom : ℕ → Deal → Histories → Type 0
-AllHaveRoom ticks d b = (a : ℕ) → a < length d.graph.arcs → HasRoom ticks (history b a)
+AllHaveRoom ticks d b = (a : ℕ) → a < length d.graph.arcs → HasTickRoom ticks (history b a)

@@ -8,7 +8,7 @@ use Rattle.ledger_shared.specs.Value.{ClockState, SharedState, clock_mine}
 use Rattle.party_threads.specs.Later.{IsClockLater, arc_clock}
 
 -- the ledger takes a further tick
-pub record HaveRoom (ticks : ℕ) (p : ClockState) : Type 0 where
+pub record HasRoomForTicks (ticks : ℕ) (p : ClockState) : Type 0 where
   pub few : length (clock_mine p) < 20000
   pub low : height (clock_mine p) + ticks ≤ 1000000
 
@@ -22,7 +22,7 @@ pub record HasTickedOnce (ticks : ℕ) (p q : ClockState) : Type 0 where
 pub record AreLedgerClocks (ticks : ℕ) (ledgers : List SharedState) (ps : List (Option ClockState)) : Type 0 where
   pub places : length ps ≡ length ledgers
   pub lock : (a : ℕ) (s : SharedState) (p : ClockState) → a < length ps → s ≡ slice_index_or ledgers a s → arc_clock ps a ≡ Some p → p.lock ≡ s.lock
-  pub room : (a : ℕ) (p : ClockState) → a < length ps → arc_clock ps a ≡ Some p → HaveRoom ticks p
+  pub room : (a : ℕ) (p : ClockState) → a < length ps → arc_clock ps a ≡ Some p → HasRoomForTicks ticks p
 
 -- the pass has gone on, or there is none
 abbrev pub ClockAdvanced : Option ClockState → Option ClockState → Type 0

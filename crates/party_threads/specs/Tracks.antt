@@ -20,12 +20,12 @@ pub record Watcher : Type 0 where
   pub known : Histories
 
 -- the same party, once it knows the history h of arc a
-abbrev pub knowing : Watcher → ℕ → List Entry → Watcher
-knowing w a h = record { deal = w.deal; me = w.me; known = set w.known a h }
+abbrev pub watcher_knowing : Watcher → ℕ → List Entry → Watcher
+watcher_knowing w a h = record { deal = w.deal; me = w.me; known = set w.known a h }
 
 -- the same party, once it has learnt entries of arc a
 abbrev pub knowing_more : Watcher → ℕ → List Entry → Watcher
-knowing_more w a entries = knowing w a (history w.known a ++ entries)
+knowing_more w a entries = watcher_knowing w a (history w.known a ++ entries)
 
 -- The arc is one of the deal's, of which the party knows something.
 pub record KnowsArc (w : Watcher) (a : ℕ) : Type 0 where
@@ -131,7 +131,7 @@ pub record HasLearntCall (w : Watcher) (a : ℕ) (call : Call) (x : Watcher) : T
   pub others : List Entry
   pub foreign : party_made w.me others ≡ []
   pub legal : IsLegal w.deal a (history w.known a ++ others)
-  pub knows : x ≡ knowing w a (after_call w.deal a w.me call (history w.known a ++ others))
+  pub knows : x ≡ watcher_knowing w a (after_call w.deal a w.me call (history w.known a ++ others))
 
 -- The same by a pass, which has then seen it.
 pub record HasMade (w : Watcher) (a : ℕ) (call : Call) (p : PassState) (x : Watcher) (q : PassState) : Type 0 where

@@ -15,9 +15,9 @@ use Rattle.party_threads.specs.declared.turn.Turn.{Turn}
 use Rattle.party_threads.specs.Later.{arc_pass, arc_clock}
 
 -- the actor with the number v; the clock's is the number of parties
-abbrev pub new_actor : Option Turn → Actor
-new_actor (Some t) = t.actor
-new_actor None = Clock
+abbrev pub numbered_actor : Option Turn → Actor
+numbered_actor (Some t) = t.actor
+numbered_actor None = Clock
 
 abbrev pub held_passes : Option Turn → List (Option PassState)
 held_passes (Some t) = t.passes.items
@@ -28,7 +28,7 @@ held_clocks (Some t) = t.clocks.items
 held_clocks None = []
 
 abbrev pub turn_actor : List Turn → ℕ → Actor
-turn_actor ts v = new_actor (slice_get ts v)
+turn_actor ts v = numbered_actor (slice_get ts v)
 
 -- the pass of v at arc a, if any
 abbrev pub held_pass : List Turn → ℕ → ℕ → Option PassState
@@ -42,11 +42,11 @@ abbrev pub arc_ledger : List (Option LedgerState) → ℕ → Option LedgerState
 arc_ledger ls a = slice_index_or ls a None
 
 -- what the pass of an actor has seen as it is dealt: what its party knows, or all
-abbrev pub started : Actor → ℕ → List Entry → List Entry
-started (Conforming m) a h = history m.known a
-started (Planned n) a h = history n.known a
-started Manual a h = h
-started Clock a h = h
+abbrev pub pass_start : Actor → ℕ → List Entry → List Entry
+pass_start (Conforming m) a h = history m.known a
+pass_start (Planned n) a h = history n.known a
+pass_start Manual a h = h
+pass_start Clock a h = h
 
 -- the arc is one of those that the actor knows, where it knows any, and what it knows of it can be
 -- counted
@@ -58,7 +58,7 @@ HasArc Clock a = Unit {0}
 
 -- what the actor v knows of the history of arc a begins it, and holds all calls of v
 abbrev pub IsBehind : Actor → ℕ → ℕ → List Entry → Type 0
-IsBehind x v a h = Knows v (started x a h) h
+IsBehind x v a h = Knows v (pass_start x a h) h
 
 -- each actor is behind the histories of its arcs
 abbrev pub AreBehind : Deal → List Turn → List (Option LedgerState) → Type 0
@@ -89,7 +89,7 @@ AreFree d ts = (a : ℕ) → a < length d.graph.arcs → IsArcFree d ts a
 
 -- the pass that is dealt to the actor v at a ledger, if the ledger is next to v
 abbrev pub dealt_party_pass : Actor → ℕ → TableId → LedgerState → Option PassState
-dealt_party_pass x v lock l = if touches l.deal v l.arc then Some (party_pass lock l v (started x l.arc l.history)) else None
+dealt_party_pass x v lock l = if touches l.deal v l.arc then Some (party_pass lock l v (pass_start x l.arc l.history)) else None
 
 -- the same where the ledger is shared
 abbrev pub dealt_shared_pass : Actor → ℕ → Option TableId → Option LedgerState → Option PassState

@@ -14,7 +14,7 @@ use Rattle.swap_job.specs.Fitting.{is_near}
 use Rattle.swap_rules.specs.Machine.{Begins}
 use Rattle.swap_run.specs.Run.{Cast, State, party_plan, party_role}
 use Rattle.swap_world.specs.Gone.{MayGive}
-use Rattle.party_threads.specs.Played.{sender_calls, arc_answer, IsAnswered}
+use Rattle.party_threads.specs.Played.{sender_calls, arc_answer, IsPlanAnswer}
 
 -- of the answers to the first r views, those that stand on arc a
 abbrev pub arc_answers : ℕ → (ℕ → Option (ℕ × Call)) → ℕ → List Call
@@ -62,7 +62,7 @@ pub record PlaysByViews (gives : MayGive) (c : Cast) (ticks rounds : ℕ) (b : H
 
 -- The party was shown what stood as the round began at least, and of its own calls no others; it
 -- made the call that is the answer, if any, which stands on an arc that touches it and fits.
-pub record HasPlayed (gives : MayGive) (c : Cast) (s t : State) (v : ℕ) : Type 0 where
+pub record HasPlayedInRound (gives : MayGive) (c : Cast) (s t : State) (v : ℕ) : Type 0 where
   pub view : Histories
   pub answer : Option (ℕ × Call)
   pub shown : IsView c.deal v view
@@ -70,6 +70,6 @@ pub record HasPlayed (gives : MayGive) (c : Cast) (s t : State) (v : ℕ) : Type
   pub begins : (a : ℕ) → Begins (history view a) (history t.book a)
   pub own : (a : ℕ) → a < length c.deal.graph.arcs → sender_calls v (history view a) ≡ sender_calls v (history s.book a)
   pub called : (a : ℕ) → a < length c.deal.graph.arcs → sender_calls v (history t.book a) ≡ take 32 (sender_calls v (history s.book a) ++ arc_answer a answer)
-  pub answered : IsAnswered gives c.deal c.seeds v view answer (party_plan s v) (party_plan t v) (party_role c v)
+  pub answered : IsPlanAnswer gives c.deal c.seeds v view answer (party_plan s v) (party_plan t v) (party_role c v)
   pub may : MayAnswer c.deal v answer
   pub turns : (party_plan t v).turns ≡ (party_plan s v).turns + 1

@@ -2,7 +2,7 @@
 
 ghost use Rattle.std.specs.Prelude.{◌≡◌, ◌<◌, ◌≤◌, OnOk};
 ghost use Rattle.party_threads.specs.Later.{IsClockLater};
-ghost use Rattle.party_threads.specs.Ticks.{HaveRoom, HasTickedOnce, HaveTicked, HaveClocksAdvanced, AreLedgerClocks};
+ghost use Rattle.party_threads.specs.Ticks.{HasRoomForTicks, HasTickedOnce, HaveTicked, HaveClocksAdvanced, AreLedgerClocks};
 
 use ledger_shared::{ClockPass, SharedLedger};
 use std::sync::Wait;
@@ -18,7 +18,7 @@ fn tick<R: Wait>(
     requires lock { pass.old.lock ≡ ledger.now.lock }
     requires some { 1 ≤ ticks }
     requires below { ticks ≤ 1000 }
-    requires room { HaveRoom ticks pass.old }
+    requires room { HasRoomForTicks ticks pass.old }
     ensures later { IsClockLater pass.old pass.new }
     ensures ticked { OnOk result (HasTickedOnce ticks pass.old pass.new) }
 {

@@ -9,7 +9,7 @@ ghost use Rattle.swap_run.specs.Shown.{IsShown};
 ghost use Rattle.swap_run.specs.Run.{is_planned};
 ghost use Rattle.party_threads.specs.Later.{HaveAdvanced};
 ghost use Rattle.party_threads.specs.Tracks.{IsWatching};
-ghost use Rattle.party_threads.specs.Played.{party_planner, plan_rest, IsAnswered, HasDone};
+ghost use Rattle.party_threads.specs.Played.{party_planner, plan_rest, IsPlanAnswer, HasDone};
 ghost use Rattle.party_threads.specs.Took.{IsPlannerSeated, HasPlanned};
 
 use crate::side::Side;
@@ -43,7 +43,7 @@ fn answer<A: Strategies>(
     requires planned { is_planned (job_role job.now me) ≡ true }
     requires held { IsHeld (A.holds staff.now) (job_role job.now me) }
     requires shown { IsShown job.now.deal job.now.seeds me planner.old }
-    ensures answered { IfOk result (λ o. IsAnswered (A.gives staff.now) job.now.deal job.now.seeds me planner.old.known o planner.old planner.new
+    ensures answered { IfOk result (λ o. IsPlanAnswer (A.gives staff.now) job.now.deal job.now.seeds me planner.old.known o planner.old planner.new
         (job_role job.now me)) }
     ensures fits { IfOk result (MayAnswer job.now.deal me) }
     ensures moves { OnOk result (All (IsPartyMove job.now.deal job.now.seeds me) planner.new.moves) }

@@ -8,7 +8,7 @@ ghost use Rattle.party_threads.specs.Later.{HaveAdvanced};
 ghost use Rattle.party_threads.specs.Ticks.{HaveClocksAdvanced};
 ghost use Rattle.party_threads.specs.Took.{IsSeated, IsSameActor, DidInTurn, Took};
 ghost use Rattle.party_threads.specs.Race.{IsRound};
-ghost use Rattle.party_threads.specs.Standing.{Stands, AllHaveRoom, race_book, race_state};
+ghost use Rattle.party_threads.specs.Standing.{StandsHome, AllHaveRoom, race_book, race_state};
 
 use crate::clock::take_clock_turn;
 use crate::gate::Gate;
@@ -134,10 +134,10 @@ pub(crate) fn round<R: Threads + Wait + Sync, A: Strategies + Sync, G: Gate>(
     requires threads { 0 < threads }
     requires some { 1 ≤ setting.now.ticks }
     requires below { setting.now.ticks ≤ 1000 }
-    requires stands { Stands setting.now.job.now ledgers.old turns.old }
+    requires stands { StandsHome setting.now.job.now ledgers.old turns.old }
     requires held { AreHeld (A.holds setting.now.staff.now) setting.now.job.now.roles }
     requires room { AllHaveRoom setting.now.ticks setting.now.job.now.deal (race_book ledgers.old) }
-    ensures stands { OnOk result (Stands setting.now.job.now ledgers.new turns.new) }
+    ensures stands { OnOk result (StandsHome setting.now.job.now ledgers.new turns.new) }
     ensures round { OnOk result (IsRound (A.gives setting.now.staff.now) (job_cast setting.now.job.now) setting.now.ticks
         (race_state setting.now.job.now ledgers.old turns.old) (race_state setting.now.job.now ledgers.new turns.new)) }
 {

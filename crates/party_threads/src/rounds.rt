@@ -9,7 +9,7 @@ ghost use Rattle.swap_world.specs.Cast.{job_cast};
 ghost use Rattle.swap_world.specs.Inside.{new_ledgers};
 ghost use Rattle.swap_world.specs.Actors.{AllFit, AreHeld, ConformingHaveSeeds, HaveRoles, IsFirstWrongFault};
 ghost use Rattle.party_threads.specs.Race.{needed_rounds, IsRaced, IsRaceBook};
-ghost use Rattle.party_threads.specs.Standing.{Stands, race_book, home_history, race_state};
+ghost use Rattle.party_threads.specs.Standing.{StandsHome, race_book, home_history, race_state};
 
 use crate::first_turns::new_turns;
 use crate::gate::Gate;
@@ -115,7 +115,7 @@ fn run_rounds<R: Threads + Wait + Sync, A: Strategies + Sync, G: Gate>(
 ) -> Result<(), NoMemory>
     requires some { 1 ≤ setting.now.ticks }
     requires below { setting.now.ticks ≤ 1000 }
-    requires stands { Stands setting.now.job.now ledgers.old turns.old }
+    requires stands { StandsHome setting.now.job.now ledgers.old turns.old }
     requires held { AreHeld (A.holds setting.now.staff.now) setting.now.job.now.roles }
     requires first { race_state setting.now.job.now ledgers.old turns.old ≡ start (job_cast setting.now.job.now) }
     ensures raced { OnOk result (IsRaced (A.gives setting.now.staff.now) (job_cast setting.now.job.now) setting.now.ticks

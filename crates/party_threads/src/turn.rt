@@ -3,7 +3,7 @@
 ghost use Rattle.std.specs.Prelude.{◌≡◌, ◌<◌, List, Some, None, length, slice_get};
 ghost use Rattle.ledger_core.specs.declared.entry.Entry.{Entry};
 ghost use Rattle.ledger_shared.specs.Value.{PassState, ClockState};
-ghost use Rattle.party_threads.specs.Turns.{HasArc, turn_actor, held_passes, held_clocks, held_pass, held_clock, started, IsPut, IsClockPut};
+ghost use Rattle.party_threads.specs.Turns.{HasArc, turn_actor, held_passes, held_clocks, held_pass, held_clock, pass_start, IsPut, IsClockPut};
 
 use ledger_shared::{ClockPass, Pass};
 use party_machine::Machine;
@@ -38,7 +38,7 @@ pub(crate) struct Turn {
 pub(crate) fn seen_count(turns: &[Turn], v: PartyId, arc: ArcId, whole: u32) -> u32
     requires actor { v < length turns.now }
     requires arc { HasArc (turn_actor turns.now v) arc }
-    ensures { (h : List Entry) → length h ≡ whole → result ≡ length (started (turn_actor turns.now v) arc h) }
+    ensures { (h : List Entry) → length h ≡ whole → result ≡ length (pass_start (turn_actor turns.now v) arc h) }
 {
     match &turns[v as usize].actor {
         Actor::Conforming(machine) => machine.known(arc).count(),

@@ -24,6 +24,6 @@ pub record ArePublic (m : Mode) (seed : List ℕ) (v locks : ℕ) (publics : Lis
   pub one_each : length publics ≡ locks
   pub public_at : (i : ℕ) → i < locks → slice_index_or publics i None ≡ party_public m seed v i
 
-pub record IsKept (w : Inside) : Type 0 where
+pub record IsKeptWallet (w : Inside) : Type 0 where
   pub keys : AreSpentOnce w.mode w.seed w.party w.keys.items w.signed.keys
   pub publics : ArePublic w.mode w.seed w.party (length w.signed.keys) w.publics.items

@@ -45,11 +45,11 @@ impl Model for Wallet {
 
     ghost Value = { WalletState };
 
-    ghost use Rattle.party_wallet.specs.Inside.{inside_wallet, IsKept};
+    ghost use Rattle.party_wallet.specs.Inside.{inside_wallet, IsKeptWallet};
 
     ghost view = { inside_wallet };
 
-    ghost invariant = { IsKept };
+    ghost invariant = { IsKeptWallet };
 }
 
 fn derived_keys(

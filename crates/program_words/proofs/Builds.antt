@@ -4,7 +4,7 @@ use Rattle.clap.specs.Walk.{Text}
 use Rattle.clap.specs.Simple.{HasMatchesOf, matches_of}
 use Rattle.clap.specs.Matches.{found_of, one_text}
 use Rattle.clap.specs.declared.parser.matches.ArgMatches.{ArgMatches}
-use Rattle.program_words.specs.Tables.{choices, party_label}
+use Rattle.program_words.specs.Tables.{choices, choice_label}
 use Rattle.program_words.specs.Words.{are_options}
 use Rattle.program_words.specs.Parsed.{AreRead, verb_app, first_word, reading}
 use Rattle.program_words.specs.declared.choice.Choice.{Choice}
@@ -24,12 +24,12 @@ builds Clear = record { is_built = refl; is_simple = refl; has_name = refl; defa
 builds Many = record { is_built = refl; is_simple = refl; has_name = refl; defaults = refl; valid = λ rows. refl }
 
 -- one option more, and one less
-more_read : (c : Choice) (row : List Choice) (words : List Text) (m : ArgMatches) → one_text (found_of m) (party_label c) ≡ reading c words
+more_read : (c : Choice) (row : List Choice) (words : List Text) (m : ArgMatches) → one_text (found_of m) (choice_label c) ≡ reading c words
     → AreRead row words m → AreRead (c ∷ row) words m
 more_read c row words m h k = (h, k)
 
 pub first_read : (c : Choice) (row : List Choice) (words : List Text) (m : ArgMatches) → AreRead (c ∷ row) words m
-    → one_text (found_of m) (party_label c) ≡ reading c words
+    → one_text (found_of m) (choice_label c) ≡ reading c words
 first_read c row words m h = h.0
 
 pub rest_read : (c : Choice) (row : List Choice) (words : List Text) (m : ArgMatches) → AreRead (c ∷ row) words m → AreRead row words m

@@ -6,7 +6,7 @@ use Rattle.std.specs.Str.{bytes_eq}
 use Rattle.std.specs.Char.{is_ascii_digit}
 use Rattle.std.proofs.lemmas.Slice.Eq.{bytes_eq-Decides}
 use Rattle.clap.specs.Lexer.{long_of, short_of}
-use Rattle.program_words.specs.Tables.{party_label, choice_word}
+use Rattle.program_words.specs.Tables.{choice_label, choice_word}
 use Rattle.program_words.specs.Words.{behind, front, is_equals, is_number, names}
 use Rattle.program_words.specs.declared.choice.Choice.{Choice}
 use Rattle.program_words.specs.declared.choice.Choice.TheVariants.{Ticks, Transcript, Seed, Parties, Events, Summary}
@@ -40,7 +40,7 @@ begins x t (y ∷ rest) h = go (is_equals y) refl
         (rest, cc, cc, rw (← same) e)
 
 -- no option has an empty name
-named : (c : Choice) → party_label c ≡ [] → ⊥
+named : (c : Choice) → choice_label c ≡ [] → ⊥
 named Ticks h = cc
 named Transcript h = cc
 named Seed h = cc
@@ -53,18 +53,18 @@ dashes = 45 ∷ 45 ∷ []
 
 -- a word that names an option is a long option to `clap`
 pub record IsLong (word : List ℕ) (c : Choice) : Type 0 where
-  pub front : front word ≡ 45 ∷ 45 ∷ party_label c
-  pub long : long_of word ≡ Some (party_label c, behind word)
+  pub front : front word ≡ 45 ∷ 45 ∷ choice_label c
+  pub long : long_of word ≡ Some (choice_label c, behind word)
   pub no_dashes : bytes_eq word (45 ∷ 45 ∷ []) ≡ false
 
 pub is_long : (word : List ℕ) (c : Choice) → names word c ≡ true → IsLong word c
 is_long word c h =
-    let e : 45 ∷ 45 ∷ party_label c ≡ front word = (bytes_eq-Decides (choice_word c) (front word)).0 h in
-    let one = begins 45 (45 ∷ party_label c) word e in
-    let two = begins 45 (party_label c) one.0 one.2 in
+    let e : 45 ∷ 45 ∷ choice_label c ≡ front word = (bytes_eq-Decides (choice_word c) (front word)).0 h in
+    let one = begins 45 (45 ∷ choice_label c) word e in
+    let two = begins 45 (choice_label c) one.0 one.2 in
     shape two.0 (one.1 ∙ ap (λ (t : List ℕ). 45 ∷ t) two.1) two.2 (sym e)
   where
-    shape : (rest : List ℕ) → word ≡ 45 ∷ 45 ∷ rest → party_label c ≡ front rest → front word ≡ 45 ∷ 45 ∷ party_label c → IsLong word c
+    shape : (rest : List ℕ) → word ≡ 45 ∷ 45 ∷ rest → choice_label c ≡ front rest → front word ≡ 45 ∷ 45 ∷ choice_label c → IsLong word c
     shape [] w f e = absurd (named c f)
     shape (x ∷ rest) w f e =
         record {
@@ -101,7 +101,7 @@ digit_first x rest h =
     none : (c : Choice) (b : Bool) → names (x ∷ rest) c ≡ b → names (x ∷ rest) c ≡ false
     none c true e =
         let long = is_long (x ∷ rest) c e in
-        let one = begins 45 (45 ∷ party_label c) (x ∷ rest) (sym long.front) in
+        let one = begins 45 (45 ∷ choice_label c) (x ∷ rest) (sym long.front) in
         let same : x ≡ 45 = ap (λ (t : List ℕ). get_or t 0 0) one.1 in
         let bad : false ≡ true = rw same at h in
         cc

@@ -8,7 +8,7 @@ use Rattle.clap.specs.Takes.{built_takes, default_passes, entered_passes, level_
 use Rattle.clap.specs.Matches.{found_of, one_text}
 use Rattle.clap.specs.declared.parser.matches.ArgMatches.{ArgMatches}
 use Rattle.clap.proofs.WalkLemmas.{one_text-rows}
-use Rattle.program_words.specs.Tables.{party_label, choice_range}
+use Rattle.program_words.specs.Tables.{choice_label, choice_range}
 use Rattle.program_words.specs.Words.{are_options, is_given, to_text}
 use Rattle.program_words.specs.Parsed.{option_reading, reading}
 use Rattle.program_words.specs.declared.choice.Choice.{Choice}
@@ -62,18 +62,18 @@ taken name row a first words b ok = both_true _ _ b.is_simple
 
 -- and what it finds of an option is its use, or else its default
 pub found : (name : Text) (row : List Choice) (a : App) (first : Text) (words : List Text) → Builds name row a → are_options row None words ≡ true
-    → (c : Choice) → find (has_id (party_label c)) (matches_of a (first ∷ words)) ≡ or_else (expect c None words) (default_in row (party_label c))
+    → (c : Choice) → find (has_id (choice_label c)) (matches_of a (first ∷ words)) ≡ or_else (expect c None words) (default_in row (choice_label c))
 found name row a first words b ok c =
     let g = starts name row words ok in
     let rs : List Rule = map rule row in
-    ap₂ (λ (x : App) (ws : List Text). find (has_id (party_label c)) (rows_after x.top.rules (names_of x) ws)) b.is_built (arguments a first words b.has_name)
-    ∙ defaults_find row (settled rs (fold (walked rs []) (at idle nothing_held) words).held).rows (party_label c)
-    ∙ ap (λ (o : Option Row). or_else o (default_in row (party_label c))) (g.found c)
+    ap₂ (λ (x : App) (ws : List Text). find (has_id (choice_label c)) (rows_after x.top.rules (names_of x) ws)) b.is_built (arguments a first words b.has_name)
+    ∙ defaults_find row (settled rs (fold (walked rs []) (at idle nothing_held) words).held).rows (choice_label c)
+    ∙ ap (λ (o : Option Row). or_else o (default_in row (choice_label c))) (g.found c)
 
 -- the text that is read of an option
-pub read : (m : ArgMatches) (rows : List Row) (c : Choice) (o : Option Row) → rows_of (found_of m) ≡ rows → find (has_id (party_label c)) rows ≡ o
-    → one_text (found_of m) (party_label c) ≡ option_and_then row_text o
-read m rows c o is at = one_text-rows (found_of m) (party_label c) ∙ ap (λ (l : List Row). option_and_then row_text (find (has_id (party_label c)) l)) is
+pub read : (m : ArgMatches) (rows : List Row) (c : Choice) (o : Option Row) → rows_of (found_of m) ≡ rows → find (has_id (choice_label c)) rows ≡ o
+    → one_text (found_of m) (choice_label c) ≡ option_and_then row_text o
+read m rows c o is at = one_text-rows (found_of m) (choice_label c) ∙ ap (λ (l : List Row). option_and_then row_text (find (has_id (choice_label c)) l)) is
     ∙ ap (option_and_then row_text) at
 
 by_kind : (r : Option (ℕ × ℕ)) (id text : Text) (given : Bool)
@@ -85,9 +85,9 @@ by_kind (Some range) id text false = refl
 
 -- an option of the row whose default is its own
 pub one_read : (m : ArgMatches) (row : List Choice) (c : Choice) (words : List Text) (rows : List Row) → rows_of (found_of m) ≡ rows
-    → find (has_id (party_label c)) rows ≡ or_else (expect c None words) (default_in row (party_label c))
-    → default_in row (party_label c) ≡ default_with (choice_range c) (party_label c) → one_text (found_of m) (party_label c) ≡ reading c words
+    → find (has_id (choice_label c)) rows ≡ or_else (expect c None words) (default_in row (choice_label c))
+    → default_in row (choice_label c) ≡ default_with (choice_range c) (choice_label c) → one_text (found_of m) (choice_label c) ≡ reading c words
 one_read m row c words rows is there default =
-    read m rows c (or_else (expect c None words) (default_in row (party_label c))) is there
+    read m rows c (or_else (expect c None words) (default_in row (choice_label c))) is there
     ∙ ap (λ (d : Option Row). option_and_then row_text (or_else (expect c None words) d)) default
-    ∙ by_kind (choice_range c) (party_label c) (to_text c words) (is_given c words)
+    ∙ by_kind (choice_range c) (choice_label c) (to_text c words) (is_given c words)

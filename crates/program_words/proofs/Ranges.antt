@@ -2,7 +2,7 @@
 use Rattle.std.proofs.Common.{◌≡◌, ◌≤◌, ℕ, Bool, true, false, nat_le, List, [], ◌∷◌, Option, Some, None, option_and_then, refl, subst}
 use Rattle.std.proofs.Common.{arith, leb-true}
 use Rattle.program_words.specs.Tables.{choices, choice_range, parse_verb}
-use Rattle.program_words.specs.Words.{are_options, are_well_formed, asked, asked_task, is_given, is_short_numeral, option_number, task_text, to_text, run_ticks}
+use Rattle.program_words.specs.Words.{are_options, are_well_formed, asked, asked_task, is_given, is_short_numeral, option_number, task_text, to_text, asked_ticks}
 use Rattle.program_words.specs.Words.{AreNumbersInRange}
 use Rattle.program_words.specs.declared.choice.Choice.{Choice}
 use Rattle.program_words.specs.declared.choice.Choice.TheVariants.{Ticks, Seed, Parties, Events}
@@ -19,10 +19,10 @@ ranged_number c ends row words range ok given =
     let ends_are = both (nat_le ends.0 (option_number c words)) _ number.1 in
     (leb-true ends.0 (option_number c words) ends_are.0, leb-true (option_number c words) ends.1 ends_are.1)
 
-ticks_within : (row : List Choice) (words : List (List ℕ)) → are_options row None words ≡ true → (1 ≤ run_ticks words) × (run_ticks words ≤ 1000)
+ticks_within : (row : List Choice) (words : List (List ℕ)) → are_options row None words ≡ true → (1 ≤ asked_ticks words) × (asked_ticks words ≤ 1000)
 ticks_within row words ok = go (is_given Ticks words) refl
   where
-    go : (g : Bool) → is_given Ticks words ≡ g → (1 ≤ run_ticks words) × (run_ticks words ≤ 1000)
+    go : (g : Bool) → is_given Ticks words ≡ g → (1 ≤ asked_ticks words) × (asked_ticks words ≤ 1000)
     go true given = rw given (ranged_number Ticks (1, 1000) row words refl ok given)
     go false given = rw given (omega arith, omega arith)
 

@@ -7,7 +7,7 @@ use Rattle.clap.specs.Walk.{Row, Text, at_row, has_row, more_values, used, with_
 use Rattle.clap.specs.Takes.{use_passes}
 use Rattle.clap.specs.declared.builder.value_parser.Reading.TheVariants.{AsWritten}
 use Rattle.clap.specs.declared.parser.matches.ValueSource.TheVariants.{DefaultValue, CommandLine}
-use Rattle.program_words.specs.Tables.{party_label, choice_range}
+use Rattle.program_words.specs.Tables.{choice_label, choice_range}
 use Rattle.program_words.specs.declared.choice.Choice.{Choice}
 use Rattle.program_words.proofs.Rules.{rule, option_rule}
 
@@ -101,12 +101,12 @@ used_joins None id text rows h =
 used_joins (Some range) id text rows h =
     rw (joins id (λ _. []) [] rows h, append-nil) (joins id (more_values CommandLine (text ∷ [])) (given_row (Some range) id text ∷ []) rows h)
 
-pub used_finds : (c : Choice) (text : Text) (rows : List Row) (id : Text) → find (has_id (party_label c)) rows ≡ None
+pub used_finds : (c : Choice) (text : Text) (rows : List Row) (id : Text) → find (has_id (choice_label c)) rows ≡ None
     → find (has_id id) (used (rule c) (values_with (choice_range c) text) rows)
-    ≡ or_else (find (has_id id) rows) (cond (bytes_eq (party_label c) id) (Some (given_row (choice_range c) (party_label c) text)) None)
+    ≡ or_else (find (has_id id) rows) (cond (bytes_eq (choice_label c) id) (Some (given_row (choice_range c) (choice_label c) text)) None)
 used_finds c text rows id h =
-    ap (find (has_id id)) (used_joins (choice_range c) (party_label c) text rows (no_row (party_label c) rows h))
-    ∙ find_push (has_id id) rows (given_row (choice_range c) (party_label c) text)
+    ap (find (has_id id)) (used_joins (choice_range c) (choice_label c) text rows (no_row (choice_label c) rows h))
+    ∙ find_push (has_id id) rows (given_row (choice_range c) (choice_label c) text)
 
 -- and passes
 use_fits : (r : Option (ℕ × ℕ)) (id text : Text) (rows : List Row) → has_row id rows ≡ false
@@ -114,9 +114,9 @@ use_fits : (r : Option (ℕ × ℕ)) (id text : Text) (rows : List Row) → has_
 use_fits None id text rows h = rw h refl
 use_fits (Some range) id text rows h = rw h refl
 
-pub first_use_passes : (c : Choice) (text : Text) (rows : List Row) → find (has_id (party_label c)) rows ≡ None
+pub first_use_passes : (c : Choice) (text : Text) (rows : List Row) → find (has_id (choice_label c)) rows ≡ None
     → use_passes false (rule c) (values_with (choice_range c) text) rows ≡ true
-first_use_passes c text rows h = use_fits (choice_range c) (party_label c) text rows (no_row (party_label c) rows h)
+first_use_passes c text rows h = use_fits (choice_range c) (choice_label c) text rows (no_row (choice_label c) rows h)
 
 -- a default
 abbrev pub default_with : Option (ℕ × ℕ) → Text → Option Row
@@ -153,13 +153,13 @@ default_joins r own rows id = go r (has_row own rows) refl
 
 abbrev pub default_in : List Choice → Text → Option Row
 default_in [] id = None
-default_in (c ∷ row) id = or_else (cond (bytes_eq (party_label c) id) (default_with (choice_range c) (party_label c)) None) (default_in row id)
+default_in (c ∷ row) id = or_else (cond (bytes_eq (choice_label c) id) (default_with (choice_range c) (choice_label c)) None) (default_in row id)
 
 pub defaults_find : (row : List Choice) (rows : List Row) (id : Text)
     → find (has_id id) (fold with_default rows (map rule row)) ≡ or_else (find (has_id id) rows) (default_in row id)
 defaults_find [] rows id = sym (or_none (find (has_id id) rows))
 defaults_find (c ∷ row) rows id =
-    let one : Option Row = cond (bytes_eq (party_label c) id) (default_with (choice_range c) (party_label c)) None in
+    let one : Option Row = cond (bytes_eq (choice_label c) id) (default_with (choice_range c) (choice_label c)) None in
     defaults_find row (with_default rows (rule c)) id
-    ∙ ap (λ (o : Option Row). or_else o (default_in row id)) (default_joins (choice_range c) (party_label c) rows id)
+    ∙ ap (λ (o : Option Row). or_else o (default_in row id)) (default_joins (choice_range c) (choice_label c) rows id)
     ∙ or_assoc (find (has_id id) rows) one (default_in row id)

@@ -7,7 +7,7 @@ use Rattle.clap.specs.Simple.{new_rule, new_shape, Shape}
 use Rattle.clap.specs.declared.builder.action.ArgAction.TheVariants.{Set, SetTrue}
 use Rattle.clap.specs.declared.builder.value_parser.ValueParser.TheVariants as vp
 use Rattle.clap.proofs.WalkLemmas.{find-map}
-use Rattle.program_words.specs.Tables.{party_label, choice_range, choice_word}
+use Rattle.program_words.specs.Tables.{choice_label, choice_range, choice_word}
 use Rattle.program_words.specs.Words.{names}
 use Rattle.program_words.specs.declared.choice.Choice.{Choice}
 use Rattle.program_words.proofs.Names.{IsLong}
@@ -37,7 +37,7 @@ option_rule None id = flag_rule id
 option_rule (Some range) id = number_rule id
 
 abbrev pub rule : Choice → Rule
-rule c = option_rule (choice_range c) (party_label c)
+rule c = option_rule (choice_range c) (choice_label c)
 
 -- a command with these rules, built
 abbrev pub shape : Text → List Rule → Shape
@@ -63,20 +63,20 @@ long_test nm (Some range) id = or_false (bytes_eq id nm)
 
 -- the rule of a name is that of the option that the word names
 same_find : (row : List Choice) (word : Text) (c : Choice) → IsLong word c
-    → find (names word) row ≡ find (λ x. bytes_eq (party_label x) (party_label c)) row
+    → find (names word) row ≡ find (λ x. bytes_eq (choice_label x) (choice_label c)) row
 same_find row word c h = subst (λ (f : Text). find (λ x. bytes_eq (choice_word x) f) row
-    ≡ find (λ x. bytes_eq (party_label x) (party_label c)) row) (sym h.front) refl
+    ≡ find (λ x. bytes_eq (choice_label x) (choice_label c)) row) (sym h.front) refl
 
 pub by_long : (row : List Choice) (word : Text) (c : Choice) → IsLong word c → find (names word) row ≡ Some c
-    → arg_by_long (map rule row) (party_label c) ≡ Some (rule c)
+    → arg_by_long (map rule row) (choice_label c) ≡ Some (rule c)
 by_long row word c h found =
-    sym (find-map (λ a. not (is_some a.index) && has_long a (party_label c)) rule row)
-    ∙ ap (λ (p : Choice → Bool). option_map rule (find p row)) (λ j x. long_test (party_label c) (choice_range x) (party_label x) j)
+    sym (find-map (λ a. not (is_some a.index) && has_long a (choice_label c)) rule row)
+    ∙ ap (λ (p : Choice → Bool). option_map rule (find p row)) (λ j x. long_test (choice_label c) (choice_range x) (choice_label x) j)
     ∙ ap (option_map rule) (sym (same_find row word c h) ∙ found)
 
 pub by_id : (row : List Choice) (word : Text) (c : Choice) → IsLong word c → find (names word) row ≡ Some c
-    → arg_by_id (map rule row) (party_label c) ≡ Some (rule c)
+    → arg_by_id (map rule row) (choice_label c) ≡ Some (rule c)
 by_id row word c h found =
-    sym (find-map (λ a. bytes_eq a.id (party_label c)) rule row)
-    ∙ ap (λ (p : Choice → Bool). option_map rule (find p row)) (λ j x. id_test (party_label c) (choice_range x) (party_label x) j)
+    sym (find-map (λ a. bytes_eq a.id (choice_label c)) rule row)
+    ∙ ap (λ (p : Choice → Bool). option_map rule (find p row)) (λ j x. id_test (choice_label c) (choice_range x) (choice_label x) j)
     ∙ ap (option_map rule) (sym (same_find row word c h) ∙ found)

@@ -1,8 +1,8 @@
 -- The number that a well-formed option is given.
 use Rattle.std.proofs.Common.{◌≡◌, ◌∙◌, ℕ, Bool, true, false, List, [], ◌∷◌, Option, Some, None, refl, sym, subst, find, cond, unwrap_or}
 use Rattle.std.proofs.lemmas.Slice.Eq.{bytes_eq-Decides}
-use Rattle.program_words.specs.Tables.{party_label, choice_range, choice_word}
-use Rattle.program_words.specs.Words.{verdict_continues, are_options, behind, first_or_empty, fits, front, is_given, is_number, names, option_step, step, to_text}
+use Rattle.program_words.specs.Tables.{choice_label, choice_range, choice_word}
+use Rattle.program_words.specs.Words.{verdict_continues, are_options, behind, first_or_empty, fits, front, is_given, is_number, names, option_step, choice_step, to_text}
 use Rattle.program_words.specs.declared.choice.Choice.{Choice}
 use Rattle.program_words.specs.declared.well_formed.Verdict.{Verdict}
 use Rattle.program_words.specs.declared.well_formed.Verdict.TheVariants.{Wrong, Done, Waits}
@@ -71,7 +71,7 @@ named row c ends word words range n ok = rw n (by_option (find (names word) row)
         cc
     by_option (Some own) e =
         let m : names word own ≡ true = find_passes (names word) row own e in
-        let same : 45 ∷ 45 ∷ party_label own ≡ 45 ∷ 45 ∷ party_label c =
+        let same : 45 ∷ 45 ∷ choice_label own ≡ 45 ∷ 45 ∷ choice_label c =
         (bytes_eq-Decides (choice_word own) (front word)).0 m ∙ sym ((bytes_eq-Decides (choice_word c) (front word)).0 n) in
         let one : own ≡ c = one_name own c cc in
         let good : verdict_continues (cond (is_given own words) Wrong (option_step own (choice_range own) (behind word))) (λ next. are_options row next words) ≡ true =
@@ -86,7 +86,7 @@ by_name row c ends word words range ok given rest = go (names word c) refl
   where
     go : (b : Bool) → names word c ≡ b → is_number ends (to_text c (word ∷ words)) ≡ true
     go true n = named row c ends word words range n ok
-    go false n = passed row c ends word words (step row None word words) n ok given rest
+    go false n = passed row c ends word words (choice_step row None word words) n ok given rest
 
 by_number : (row : List Choice) (c : Choice) (ends : ℕ × ℕ) (own : Choice) (word : List ℕ) (words : List (List ℕ))
     → are_options row (Some own) (word ∷ words) ≡ true → is_given c (word ∷ words) ≡ true → Told row c ends words
@@ -100,7 +100,7 @@ by_number row c ends own word words ok given rest = go (fits (choice_range own) 
     go true f =
         let is = fits_number (choice_range own) word f in
         let plain = is_plain is.0 word is.2 in
-        passed row c ends word words (step row (Some own) word words) (plain.nameless c) ok given rest
+        passed row c ends word words (choice_step row (Some own) word words) (plain.nameless c) ok given rest
 
 pub has_number : (row : List Choice) (c : Choice) (ends : ℕ × ℕ) (waits : Option Choice) (words : List (List ℕ)) → choice_range c ≡ Some ends
     → are_options row waits words ≡ true → is_given c words ≡ true → is_number ends (to_text c words) ≡ true

@@ -5,7 +5,7 @@ use Rattle.std.specs.Str.{bytes_eq}
 use Rattle.std.proofs.lemmas.Slice.Eq.{bytes_eq-Decides}
 use Rattle.clap.specs.Walk.{Held, Row, Rule, Text, Waiting, Walk, idle, option, arg_by_id, most_values, reacted, settled, takes_values, used, walked}
 use Rattle.clap.specs.Takes.{react_passes, settle_passes, use_passes, walk_passes}
-use Rattle.program_words.specs.Tables.{party_label, choice_range, choice_word}
+use Rattle.program_words.specs.Tables.{choice_label, choice_range, choice_word}
 use Rattle.program_words.specs.Words.{verdict_continues, are_options, behind, first_or_empty, fits, front, is_given, is_number, names, option_step, to_text}
 use Rattle.program_words.specs.declared.well_formed.Verdict.TheVariants.{Wrong}
 use Rattle.clap.specs.Lexer.{long_of}
@@ -25,7 +25,7 @@ choice_of name = cond (bytes_eq name (codes "ticks")) (Some Ticks)
     (cond (bytes_eq name (codes "parties")) (Some Parties)
     (cond (bytes_eq name (codes "events")) (Some Events) (Some Summary)))))
 
-by_name : (c : Choice) → choice_of (party_label c) ≡ Some c
+by_name : (c : Choice) → choice_of (choice_label c) ≡ Some c
 by_name Ticks = refl
 by_name Transcript = refl
 by_name Seed = refl
@@ -33,20 +33,20 @@ by_name Parties = refl
 by_name Events = refl
 by_name Summary = refl
 
-pub one_name : (c d : Choice) → party_label c ≡ party_label d → c ≡ d
+pub one_name : (c d : Choice) → choice_label c ≡ choice_label d → c ≡ d
 one_name c d h =
     let same : Some c ≡ Some d = sym (by_name c) ∙ ap choice_of h ∙ by_name d in
     cc
 
-decide : (c d : Choice) → (c ≡ d) ⊎ (bytes_eq (party_label c) (party_label d) ≡ false)
-decide c d = go (bytes_eq (party_label c) (party_label d)) refl
+decide : (c d : Choice) → (c ≡ d) ⊎ (bytes_eq (choice_label c) (choice_label d) ≡ false)
+decide c d = go (bytes_eq (choice_label c) (choice_label d)) refl
   where
-    go : (b : Bool) → bytes_eq (party_label c) (party_label d) ≡ b → (c ≡ d) ⊎ (bytes_eq (party_label c) (party_label d) ≡ false)
-    go true e = inl (one_name c d ((bytes_eq-Decides (party_label c) (party_label d)).0 e))
+    go : (b : Bool) → bytes_eq (choice_label c) (choice_label d) ≡ b → (c ≡ d) ⊎ (bytes_eq (choice_label c) (choice_label d) ≡ false)
+    go true e = inl (one_name c d ((bytes_eq-Decides (choice_label c) (choice_label d)).0 e))
     go false e = inr e
 
-own_name : (c : Choice) → bytes_eq (party_label c) (party_label c) ≡ true
-own_name c = (bytes_eq-Decides (party_label c) (party_label c)).1 refl
+own_name : (c : Choice) → bytes_eq (choice_label c) (choice_label c) ≡ true
+own_name c = (bytes_eq-Decides (choice_label c) (choice_label c)).1 refl
 
 id_is : (r : Option (ℕ × ℕ)) (id : Text) → (option_rule r id).id ≡ id
 id_is None id = refl
@@ -87,12 +87,12 @@ or_none_left false b h = h
 -- ---- what is expected, and where the walk stands
 
 abbrev pub expect_idle : Choice → List Text → Option Row
-expect_idle c words = cond (is_given c words) (Some (given_row (choice_range c) (party_label c) (to_text c words))) None
+expect_idle c words = cond (is_given c words) (Some (given_row (choice_range c) (choice_label c) (to_text c words))) None
 
 abbrev pub expect : Choice → Option Choice → List Text → Option Row
 expect c None words = expect_idle c words
 expect c (Some own) words =
-    cond (bytes_eq (party_label own) (party_label c)) (Some (given_row (choice_range c) (party_label c) (first_or_empty words))) (expect_idle c words)
+    cond (bytes_eq (choice_label own) (choice_label c)) (Some (given_row (choice_range c) (choice_label c) (first_or_empty words))) (expect_idle c words)
 
 abbrev pub waiting_of : Option Choice → Waiting
 waiting_of None = idle
@@ -104,8 +104,8 @@ pub record Goes (name : Text) (rs : List Rule) (waiting : Waiting) (h : Held) (w
   pub passes : walk_passes (shape name rs) [] (at waiting h) words ≡ true
   pub stopped : (fold (walked rs []) (at waiting h) words).stopped ≡ None
   pub settles : settle_passes rs false (fold (walked rs []) (at waiting h) words).held ≡ true
-  pub found : (c : Choice) → find (has_id (party_label c)) (settled rs (fold (walked rs []) (at waiting h) words).held).rows
-      ≡ or_else (find (has_id (party_label c)) R) (want c)
+  pub found : (c : Choice) → find (has_id (choice_label c)) (settled rs (fold (walked rs []) (at waiting h) words).held).rows
+      ≡ or_else (find (has_id (choice_label c)) R) (want c)
 
 goes_on : (name : Text) (rs : List Rule) (waiting then : Waiting) (h reached : Held) (word : Text) (words : List Text) (test : Bool) (R : List Row)
     (want : Choice → Option Row) → Leads name rs waiting h word then reached test → test ≡ true → Goes name rs then reached words R want
@@ -115,12 +115,12 @@ goes_on name rs waiting then h reached word words test R want l t g = record {
   passes = and_intro _ _ (l.passes ∙ t) (subst (λ (w : Walk). walk_passes (shape name rs) [] w words ≡ true) (sym l.walks) g.passes);
   stopped = subst (λ (w : Walk). (fold (walked rs []) w words).stopped ≡ None) (sym l.walks) g.stopped;
   settles = subst (λ (w : Walk). settle_passes rs false (fold (walked rs []) w words).held ≡ true) (sym l.walks) g.settles;
-  found = λ c. subst (λ (w : Walk). find (has_id (party_label c)) (settled rs (fold (walked rs []) w words).held).rows
-      ≡ or_else (find (has_id (party_label c)) R) (want c)) (sym l.walks) (g.found c);
+  found = λ c. subst (λ (w : Walk). find (has_id (choice_label c)) (settled rs (fold (walked rs []) w words).held).rows
+      ≡ or_else (find (has_id (choice_label c)) R) (want c)) (sym l.walks) (g.found c);
 }
 
 wanted : (name : Text) (rs : List Rule) (waiting : Waiting) (h : Held) (words : List Text) (R S : List Row) (want wish : Choice → Option Row)
-    → ((c : Choice) → or_else (find (has_id (party_label c)) R) (want c) ≡ or_else (find (has_id (party_label c)) S) (wish c))
+    → ((c : Choice) → or_else (find (has_id (choice_label c)) R) (want c) ≡ or_else (find (has_id (choice_label c)) S) (wish c))
     → Goes name rs waiting h words R want → Goes name rs waiting h words S wish
 wanted name rs waiting h words R S want wish e g = record {
   passes = g.passes;
@@ -131,7 +131,7 @@ wanted name rs waiting h words R S want wish e g = record {
 
 -- no option that the words give has a row yet
 abbrev IsFresh : List Text → List Row → Type 0
-IsFresh words R = (c : Choice) → is_given c words ≡ true → find (has_id (party_label c)) R ≡ None
+IsFresh words R = (c : Choice) → is_given c words ≡ true → find (has_id (choice_label c)) R ≡ None
 
 pub record Idle (rs : List Rule) (words : List Text) (h : Held) (R : List Row) : Type 0 where
   pub settles : settle_passes rs false h ≡ true
@@ -143,7 +143,7 @@ pub record Waits (rs : List Rule) (own : Choice) (words : List Text) (h : Held) 
   pub rows : h.rows ≡ R
   pub by_id : arg_by_id rs (rule own).id ≡ Some (rule own)
   pub once : is_given own words ≡ false
-  pub fresh_own : find (has_id (party_label own)) R ≡ None
+  pub fresh_own : find (has_id (choice_label own)) R ≡ None
   pub fresh : IsFresh words R
 
 abbrev pub Ready : List Rule → Option Choice → List Text → Held → List Row → Type 0
@@ -160,12 +160,12 @@ abbrev rows_after : Choice → Text → List Row → List Row
 rows_after own text R = used (rule own) (values_with (choice_range own) text) R
 
 abbrev own_row : Choice → Text → Option Row
-own_row own text = Some (given_row (choice_range own) (party_label own) text)
+own_row own text = Some (given_row (choice_range own) (choice_label own) text)
 
-still_fresh : (own : Choice) (text : Text) (words : List Text) (R : List Row) → find (has_id (party_label own)) R ≡ None
+still_fresh : (own : Choice) (text : Text) (words : List Text) (R : List Row) → find (has_id (choice_label own)) R ≡ None
     → is_given own words ≡ false → IsFresh words R → IsFresh words (rows_after own text R)
 still_fresh own text words R none once fresh c given =
-    used_finds own text R (party_label c) none ∙ elim (decide own c) [
+    used_finds own text R (choice_label c) none ∙ elim (decide own c) [
       | inl same ↦
           let bad : true ≡ false = sym given ∙ subst (λ (x : Choice). is_given x words ≡ false) same once in
           cc
@@ -173,29 +173,29 @@ still_fresh own text words R none once fresh c given =
     ]
 
 -- where what is wanted of the option is its row, and of the others what is wanted after it
-joined : (own : Choice) (text : Text) (R : List Row) (want wish : Choice → Option Row) → find (has_id (party_label own)) R ≡ None
+joined : (own : Choice) (text : Text) (R : List Row) (want wish : Choice → Option Row) → find (has_id (choice_label own)) R ≡ None
     → wish own ≡ own_row own text
-    → ((c : Choice) → bytes_eq (party_label own) (party_label c) ≡ false → want c ≡ wish c)
-    → (c : Choice) → or_else (find (has_id (party_label c)) (rows_after own text R)) (want c) ≡ or_else (find (has_id (party_label c)) R) (wish c)
+    → ((c : Choice) → bytes_eq (choice_label own) (choice_label c) ≡ false → want c ≡ wish c)
+    → (c : Choice) → or_else (find (has_id (choice_label c)) (rows_after own text R)) (want c) ≡ or_else (find (has_id (choice_label c)) R) (wish c)
 joined own text R want wish none is others c =
-    let row : Option Row = cond (bytes_eq (party_label own) (party_label c)) (own_row own text) None in
-    ap (λ (o : Option Row). or_else o (want c)) (used_finds own text R (party_label c) none)
-    ∙ or_assoc (find (has_id (party_label c)) R) row (want c)
-    ∙ ap (or_else (find (has_id (party_label c)) R)) (elim (decide own c) [
-      | inl same ↦ subst (λ (x : Choice). or_else (cond (bytes_eq (party_label own) (party_label x)) (own_row own text) None) (want x) ≡ wish x) same
+    let row : Option Row = cond (bytes_eq (choice_label own) (choice_label c)) (own_row own text) None in
+    ap (λ (o : Option Row). or_else o (want c)) (used_finds own text R (choice_label c) none)
+    ∙ or_assoc (find (has_id (choice_label c)) R) row (want c)
+    ∙ ap (or_else (find (has_id (choice_label c)) R)) (elim (decide own c) [
+      | inl same ↦ subst (λ (x : Choice). or_else (cond (bytes_eq (choice_label own) (choice_label x)) (own_row own text) None) (want x) ≡ wish x) same
           (rw (own_name own) (sym is))
       | inr other ↦ rw other (others c other)
     ])
 
 -- a word that names one option names no other
-other_name : (own c : Choice) (word : Text) → IsLong word own → bytes_eq (party_label own) (party_label c) ≡ false → names word c ≡ false
+other_name : (own c : Choice) (word : Text) → IsLong word own → bytes_eq (choice_label own) (choice_label c) ≡ false → names word c ≡ false
 other_name own c word long h = go (names word c) refl
   where
     go : (b : Bool) → names word c ≡ b → names word c ≡ false
     go true e =
-        let same : 45 ∷ 45 ∷ party_label c ≡ 45 ∷ 45 ∷ party_label own = (bytes_eq-Decides (choice_word c) (front word)).0 e ∙ long.front in
-        let is : party_label own ≡ party_label c = cc in
-        let bad : true ≡ false = sym ((bytes_eq-Decides (party_label own) (party_label c)).1 is) ∙ h in
+        let same : 45 ∷ 45 ∷ choice_label c ≡ 45 ∷ 45 ∷ choice_label own = (bytes_eq-Decides (choice_word c) (front word)).0 e ∙ long.front in
+        let is : choice_label own ≡ choice_label c = cc in
+        let bad : true ≡ false = sym ((bytes_eq-Decides (choice_label own) (choice_label c)).1 is) ∙ h in
         cc
     go false e = e
 
@@ -216,7 +216,7 @@ number_values : (c : Choice) (range : ℕ × ℕ) (text : Text) → choice_range
 number_values c range text h = rw h refl
 
 use_passes_at : (c : Choice) (values : List Text) (text : Text) (R S : List Row) → values_with (choice_range c) text ≡ values → S ≡ R
-    → find (has_id (party_label c)) R ≡ None → use_passes false (rule c) values S ≡ true
+    → find (has_id (choice_label c)) R ≡ None → use_passes false (rule c) values S ≡ true
 use_passes_at c values text R S v s none =
     ap₂ (λ (vs : List Text) (rows : List Row). use_passes false (rule c) vs rows) (sym v) s ∙ first_use_passes c text R none
 
@@ -231,7 +231,7 @@ used_at_once : (name : Text) (row : List Choice) (own : Choice) (text : Text) (v
     → Goes name (map rule row) idle h (word ∷ words) R (λ c. expect_idle c (word ∷ words))
 used_at_once name row own text values word words h R long n once idle_now v is ok rest lead =
     let rs : List Rule = map rule row in
-    let none : find (has_id (party_label own)) R ≡ None = idle_now.fresh own (or_left _ _ n) in
+    let none : find (has_id (choice_label own)) R ≡ None = idle_now.fresh own (or_left _ _ n) in
     let later : IsFresh words R = λ c given. idle_now.fresh c (or_right _ _ given) in
     let next : Idle rs words (reacted rs (rule own) values h) (rows_after own text R) = record {
       settles = refl;
@@ -264,7 +264,7 @@ used_next name row own word words h R long n bare once idle_now found ok rest le
     } in
     goes_on name rs idle (option (rule own).id) h (awaiting rs (rule own) h) word words _ R (λ c. expect_idle c (word ∷ words)) lead idle_now.settles
     (wanted name rs (option (rule own).id) _ words R R (λ c. expect c (Some own) words) (λ c. expect_idle c (word ∷ words))
-    (λ c. ap (or_else (find (has_id (party_label c)) R)) (same c)) (rest (Some own) (awaiting rs (rule own) h) R ok next))
+    (λ c. ap (or_else (find (has_id (choice_label c)) R)) (same c)) (rest (Some own) (awaiting rs (rule own) h) R ok next))
   where
     same : (c : Choice) → expect c (Some own) words ≡ expect_idle c (word ∷ words)
     same c = elim (decide own c) [
@@ -285,21 +285,21 @@ idle_step name row word words h R ok idle_now rest = by_option (find (names word
     by_parts own e once None range None v good =
         let n : names word own ≡ true = find_passes (names word) row own e in
         let long = is_long word own n in
-        let bare : long_of word ≡ Some (party_label own, None) = long.long ∙ ap (λ (t : Option Text). Some (party_label own, t)) v in
+        let bare : long_of word ≡ Some (choice_label own, None) = long.long ∙ ap (λ (t : Option Text). Some (choice_label own, t)) v in
         used_at_once name row own [] [] word words h R long n once idle_now (flag_values own [] range)
         (takes_own own word words None n v ∙ flag_row own (first_or_empty words) [] range) good rest
-        (flag_leads name (party_label own) (map rule row) (rule own) h word long.no_dashes bare (by_long row word own long e)
-        (takes_is (choice_range own) (party_label own) ∙ ap is_some range))
+        (flag_leads name (choice_label own) (map rule row) (rule own) h word long.no_dashes bare (by_long row word own long e)
+        (takes_is (choice_range own) (choice_label own) ∙ ap is_some range))
     by_parts own e once None range (Some text) v good = cc
     by_parts own e once (Some both_ends) range None v good =
         let n : names word own ≡ true = find_passes (names word) row own e in
         let long = is_long word own n in
-        let bare : long_of word ≡ Some (party_label own, None) = long.long ∙ ap (λ (t : Option Text). Some (party_label own, t)) v in
+        let bare : long_of word ≡ Some (choice_label own, None) = long.long ∙ ap (λ (t : Option Text). Some (choice_label own, t)) v in
         let found : arg_by_id (map rule row) (rule own).id ≡ Some (rule own) =
-        ap (arg_by_id (map rule row)) (id_is (choice_range own) (party_label own)) ∙ by_id row word own long e in
+        ap (arg_by_id (map rule row)) (id_is (choice_range own) (choice_label own)) ∙ by_id row word own long e in
         used_next name row own word words h R long n v once idle_now found good rest
-        (option_leads name (party_label own) (map rule row) (rule own) h word long.no_dashes bare (by_long row word own long e)
-        (takes_is (choice_range own) (party_label own) ∙ ap is_some range))
+        (option_leads name (choice_label own) (map rule row) (rule own) h word long.no_dashes bare (by_long row word own long e)
+        (takes_is (choice_range own) (choice_label own) ∙ ap is_some range))
     by_parts own e once (Some ends) range (Some text) v good = by_number (is_number ends text) refl
       where
         by_number : (b : Bool) → is_number ends text ≡ b → Goes name (map rule row) idle h (word ∷ words) R (λ c. expect_idle c (word ∷ words))
@@ -309,12 +309,12 @@ idle_step name row word words h R ok idle_now rest = by_option (find (names word
         by_number true f =
             let n : names word own ≡ true = find_passes (names word) row own e in
             let long = is_long word own n in
-            let whole : long_of word ≡ Some (party_label own, Some text) = long.long ∙ ap (λ (t : Option Text). Some (party_label own, t)) v in
+            let whole : long_of word ≡ Some (choice_label own, Some text) = long.long ∙ ap (λ (t : Option Text). Some (choice_label own, t)) v in
             let more : are_options row None words ≡ true = rw f at good in
             used_at_once name row own text (text ∷ []) word words h R long n once idle_now (number_values own ends text range)
             (takes_own own word words (Some text) n v) more rest
-            (behind_leads name (party_label own) text (map rule row) (rule own) h word long.no_dashes whole (by_long row word own long e)
-            (takes_is (choice_range own) (party_label own) ∙ ap is_some range))
+            (behind_leads name (choice_label own) text (map rule row) (rule own) h word long.no_dashes whole (by_long row word own long e)
+            (takes_is (choice_range own) (choice_label own) ∙ ap is_some range))
 
     by_once : (own : Choice) → find (names word) row ≡ Some own → (b : Bool) → is_given own words ≡ b
         → verdict_continues (cond b Wrong (option_step own (choice_range own) (behind word))) (λ next. are_options row next words) ≡ true
@@ -347,7 +347,7 @@ waiting_step name row own word words h R ok waits_now rest = go (fits (choice_ra
         let next_held : Held = record h { pending = Some ((rule own).id, word ∷ []) } in
         let same_id : bytes_eq (rule own).id (rule own).id ≡ true = (bytes_eq-Decides (rule own).id (rule own).id).1 refl in
         let lead = number_leads name rs (rule own) h word plain.no_dashes plain.long plain.short waits_now.by_id waits_now.pending
-        (most_is (choice_range own) ends (party_label own) range) same_id in
+        (most_is (choice_range own) ends (choice_label own) range) same_id in
         let v = number_values own ends word range in
         let once : is_given own words ≡ false = or_none_left (names word own) (is_given own words) waits_now.once in
         let later : IsFresh words R = λ c given. waits_now.fresh c (or_right (names word c) (is_given c words) given) in
@@ -382,7 +382,7 @@ walks name row None [] h R ok ready = record {
   passes = refl;
   stopped = refl;
   settles = ready.settles;
-  found = λ c. ap (find (has_id (party_label c))) ready.rows ∙ sym (or_none (find (has_id (party_label c)) R));
+  found = λ c. ap (find (has_id (choice_label c))) ready.rows ∙ sym (or_none (find (has_id (choice_label c)) R));
 }
 walks name row (Some own) [] h R ok ready = cc
 walks name row None (word ∷ words) h R ok ready =

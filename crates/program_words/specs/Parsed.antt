@@ -6,7 +6,7 @@ use Rattle.clap.specs.Simple.{App, Shape, new_rule, new_shape}
 use Rattle.clap.specs.Matches.{found_of, one_text}
 use Rattle.clap.specs.declared.builder.action.ArgAction.TheVariants.{SetTrue}
 use Rattle.clap.specs.declared.parser.matches.ArgMatches.{ArgMatches}
-use Rattle.program_words.specs.Tables.{choices, party_label, choice_range}
+use Rattle.program_words.specs.Tables.{choices, choice_label, choice_range}
 use Rattle.program_words.specs.Words.{is_given, is_number, to_text}
 use Rattle.program_words.specs.declared.choice.Choice.{Choice}
 use Rattle.program_words.specs.declared.verb.Verb.{Verb}
@@ -34,7 +34,7 @@ option_rule None name = flag_rule name
 option_rule (Some range) name = number_rule name
 
 abbrev pub choice_rule : Choice → Rule
-choice_rule choice = option_rule (choice_range choice) (party_label choice)
+choice_rule choice = option_rule (choice_range choice) (choice_label choice)
 
 -- a command with no options yet, and none for help
 abbrev pub bare_shape : Text → Shape
@@ -58,7 +58,7 @@ reading choice words = option_reading (choice_range choice) (is_given choice wor
 
 abbrev pub AreRead : List Choice → List Text → ArgMatches → Type 0
 AreRead [] words m = ⊤
-AreRead (choice ∷ row) words m = (one_text (found_of m) (party_label choice) ≡ reading choice words) × AreRead row words m
+AreRead (choice ∷ row) words m = (one_text (found_of m) (choice_label choice) ≡ reading choice words) × AreRead row words m
 
 -- what a reader of numbers below a bound promises of a text
 abbrev pub Numbers : ℕ → Option (List ℕ) → Option ℕ → Type 0

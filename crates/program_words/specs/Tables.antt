@@ -30,24 +30,24 @@ choices Clear = []
 choices Many = []
 
 -- and those that must
-abbrev pub needed : Verb → List Choice
-needed Check = []
-needed Run = []
-needed Race = []
-needed Audit = []
-needed Make = []
-needed Gen = Seed ∷ Parties ∷ Events ∷ []
-needed Clear = []
-needed Many = []
+abbrev pub needed_choices : Verb → List Choice
+needed_choices Check = []
+needed_choices Run = []
+needed_choices Race = []
+needed_choices Audit = []
+needed_choices Make = []
+needed_choices Gen = Seed ∷ Parties ∷ Events ∷ []
+needed_choices Clear = []
+needed_choices Many = []
 
 -- the options' names
-abbrev pub party_label : Choice → List ℕ
-party_label Ticks = codes "ticks"
-party_label Transcript = codes "transcript"
-party_label Seed = codes "seed"
-party_label Parties = codes "parties"
-party_label Events = codes "events"
-party_label Summary = codes "summary"
+abbrev pub choice_label : Choice → List ℕ
+choice_label Ticks = codes "ticks"
+choice_label Transcript = codes "transcript"
+choice_label Seed = codes "seed"
+choice_label Parties = codes "parties"
+choice_label Events = codes "events"
+choice_label Summary = codes "summary"
 
 -- the least and the greatest number that an option takes, where it takes one
 abbrev pub choice_range : Choice → Option (ℕ × ℕ)
@@ -60,4 +60,4 @@ choice_range Summary = None
 
 -- the word that names an option
 abbrev pub choice_word : Choice → List ℕ
-choice_word choice = codes "--" ++ party_label choice
+choice_word choice = codes "--" ++ choice_label choice

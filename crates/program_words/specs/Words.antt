@@ -5,7 +5,7 @@ use Rattle.std.specs.List.{list_all, list_any, before_first, after_first}
 use Rattle.std.specs.Str.{bytes_eq}
 use Rattle.std.specs.Str.Parse.{digits_value}
 use Rattle.std.specs.Char.{is_ascii_digit}
-use Rattle.program_words.specs.Tables.{choices, needed, choice_range, parse_verb, choice_word}
+use Rattle.program_words.specs.Tables.{choices, needed_choices, choice_range, parse_verb, choice_word}
 use Rattle.program_words.specs.declared.choice.Choice.{Choice}
 use Rattle.program_words.specs.declared.choice.Choice.TheVariants.{Ticks, Transcript, Seed, Parties, Events, Summary}
 use Rattle.program_words.specs.declared.well_formed.Verdict.{Verdict}
@@ -60,9 +60,9 @@ named_step (Some choice) word later =
     if list_any (λ other. names other choice) later then Wrong else option_step choice (choice_range choice) (behind word)
 
 -- a word, where an option waits for its number or none does; `later` are the words that follow
-abbrev pub step : List Choice → Option Choice → List ℕ → List (List ℕ) → Verdict
-step row None word later = named_step (find (names word) row) word later
-step row (Some choice) word later = if fits (choice_range choice) word then Done else Wrong
+abbrev pub choice_step : List Choice → Option Choice → List ℕ → List (List ℕ) → Verdict
+choice_step row None word later = named_step (find (names word) row) word later
+choice_step row (Some choice) word later = if fits (choice_range choice) word then Done else Wrong
 
 abbrev pub verdict_continues : Verdict → (Option Choice → Bool) → Bool
 verdict_continues Wrong next = false
@@ -73,14 +73,14 @@ verdict_continues (Waits choice) next = next (Some choice)
 abbrev pub are_options : List Choice → Option Choice → List (List ℕ) → Bool
 are_options row None [] = true
 are_options row (Some choice) [] = false
-are_options row waiting (word ∷ words) = verdict_continues (step row waiting word words) (λ next. are_options row next words)
+are_options row waiting (word ∷ words) = verdict_continues (choice_step row waiting word words) (λ next. are_options row next words)
 
 -- the words name the option
 abbrev pub is_given : Choice → List (List ℕ) → Bool
 is_given choice words = list_any (λ word. names word choice) words
 
 abbrev pub are_well_formed : Verb → List (List ℕ) → Bool
-are_well_formed verb words = are_options (choices verb) None words && list_all (λ choice. is_given choice words) (needed verb)
+are_well_formed verb words = are_options (choices verb) None words && list_all (λ choice. is_given choice words) (needed_choices verb)
 
 -- ---- what they ask for
 
@@ -96,13 +96,13 @@ to_text choice (word ∷ words) = if names word choice then unwrap_or (behind wo
 abbrev pub option_number : Choice → List (List ℕ) → ℕ
 option_number choice words = digits_value 10 (to_text choice words)
 
-abbrev pub run_ticks : List (List ℕ) → ℕ
-run_ticks words = if is_given Ticks words then option_number Ticks words else 1
+abbrev pub asked_ticks : List (List ℕ) → ℕ
+asked_ticks words = if is_given Ticks words then option_number Ticks words else 1
 
 abbrev pub asked : Verb → List (List ℕ) → Task
 asked Check words = task.Input order.Check
 asked Run words = task.Input (order.Run (is_given Transcript words))
-asked Race words = task.Race (run_ticks words) (is_given Transcript words)
+asked Race words = task.Race (asked_ticks words) (is_given Transcript words)
 asked Audit words = task.Input order.Audit
 asked Make words = task.Input order.Make
 asked Gen words = task.Number (record {

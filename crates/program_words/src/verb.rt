@@ -1,7 +1,7 @@
 //! The first words of the commands.
 
 ghost use Rattle.std.specs.Prelude.{◌≡◌};
-ghost use Rattle.program_words.specs.Tables.{choices, needed, parse_verb};
+ghost use Rattle.program_words.specs.Tables.{choices, needed_choices, parse_verb};
 
 use crate::choice::Choice;
 
@@ -54,8 +54,8 @@ impl Verb {
     }
 
     /// The options that must follow the word.
-    pub(crate) fn needed(self) -> &'static [Choice]
-        ensures { result.now ≡ needed self }
+    pub(crate) fn needed_choices(self) -> &'static [Choice]
+        ensures { result.now ≡ needed_choices self }
     {
         match self {
             Verb::Gen => &[Choice::Seed, Choice::Parties, Choice::Events],

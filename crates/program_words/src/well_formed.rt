@@ -4,7 +4,7 @@ ghost use Rattle.std.specs.Prelude.{◌≡◌, find, map, option_map, string_byt
 ghost use Rattle.std.specs.Char.{is_ascii_digit};
 ghost use Rattle.std.specs.List.{list_all};
 ghost use Rattle.program_words.specs.Words.{are_options, are_well_formed, behind, fits, front, is_given, is_number, is_short_numeral, names};
-ghost use Rattle.program_words.specs.Words.{named_step, option_step, step};
+ghost use Rattle.program_words.specs.Words.{named_step, option_step, choice_step};
 
 use crate::choice::Choice;
 use crate::verb::Verb;
@@ -139,8 +139,8 @@ fn fits(range: Option<(u32, u32)>, word: &str) -> bool
     }
 }
 
-fn step(row: &[Choice], waiting: Option<Choice>, word: &str, later: &[String]) -> Verdict
-    ensures { result ≡ step row.now waiting word.now (map string_bytes later.now) }
+fn choice_step(row: &[Choice], waiting: Option<Choice>, word: &str, later: &[String]) -> Verdict
+    ensures { result ≡ choice_step row.now waiting word.now (map string_bytes later.now) }
 {
     match waiting {
         None => named_step(row, word, later),
@@ -162,7 +162,7 @@ fn are_options(row: &[Choice], waiting: Option<Choice>, words: &[String]) -> boo
 {
     match words {
         [] => waiting.is_none(),
-        [word, later @ ..] => match step(row, waiting, word.as_str(), later) {
+        [word, later @ ..] => match choice_step(row, waiting, word.as_str(), later) {
             Verdict::Wrong => false,
             Verdict::Done => are_options(row, None, later),
             Verdict::Waits(choice) => are_options(row, Some(choice), later),
@@ -175,5 +175,8 @@ pub(crate) fn are_well_formed(verb: Verb, words: &[String]) -> bool
     ensures { result ≡ are_well_formed verb (map string_bytes words.now) }
 {
     are_options(verb.choices(), None, words)
-        && verb.needed().iter().all(|choice| is_given(*choice, words))
+        && verb
+            .needed_choices()
+            .iter()
+            .all(|choice| is_given(*choice, words))
 }

@@ -17,7 +17,7 @@ use Rattle.swap_clear.specs.declared.answer.Clearing.{Clearing}
 use Rattle.swap_clear.specs.declared.fault.ClearReason.{ClearReason}
 use Rattle.swap_clear.specs.Clearing.{cleared_groups}
 use Rattle.swap_clear.proofs.Told as told
-use Rattle.clear_line.specs.Cleared.{by_clearing, parse_cleared, make_clearing, started, without_self_arcs}
+use Rattle.clear_line.specs.Cleared.{by_clearing, parse_cleared, make_clearing, wished_start, without_self_arcs}
 use Rattle.clear_line.specs.Fields.{raw_wishes}
 use Rattle.clear_line.specs.Limits.{limited_proposals, limited_times, parse_wishes, parse_wish_text, AreWishesInLimits}
 use Rattle.clear_line.specs.Names.{wished_name_step, numbered_arc, numbered_wishes, AreBoundedEnds}
@@ -88,8 +88,8 @@ by_start : (b : Bool) (start delta : ℕ) (reason : Reason) (u : Unit {0}) → n
 by_start true start delta reason u e h = absurd (cc h)
 by_start false start delta reason u e h = ltb-false start delta e
 
-late_enough : (start delta : ℕ) (u : Unit {0}) → started start delta ≡ Ok u → delta ≤ start
-unfolding started
+late_enough : (start delta : ℕ) (u : Unit {0}) → wished_start start delta ≡ Ok u → delta ≤ start
+unfolding wished_start
 late_enough start delta u h = by_start (nat_lt start delta) start delta (StartTooSoon start delta) u refl h
 
 clearing_is : (w : Wishes) (c : Clearing) → make_clearing w ≡ Ok c → (w.delta ≤ w.start) × (cleared_groups (length w.names) w.arcs ≡ Ok c)
@@ -97,7 +97,7 @@ unfolding make_clearing
 clearing_is w =
     let P = λ (c : Clearing). (w.delta ≤ w.start) × (cleared_groups (length w.names) w.arcs ≡ Ok c) in
     onward (without_self_arcs w.arcs) _ P (λ u s.
-    onward (started w.start w.delta) _ P (λ v t c e. (late_enough w.start w.delta v t, ok_cleared (cleared_groups (length w.names) w.arcs) c e)))
+    onward (wished_start w.start w.delta) _ P (λ v t c e. (late_enough w.start w.delta v t, ok_cleared (cleared_groups (length w.names) w.arcs) c e)))
 
 group_is : (w : Wishes) (c : Clearing) → AreFine w → make_clearing w ≡ Ok c → (group : Group) → IsElement group c.groups → IsClear w group
 group_is w c fine e group i =

@@ -19,7 +19,7 @@ use Rattle.offer_header.specs.declared.limits.Acting.{Acting}
 use Rattle.offer_header.specs.declared.limits.ArcTerms.{ArcTerms}
 use Rattle.offer_header.specs.declared.header.Header.{Header}
 use Rattle.offer_header.specs.Limits.{parse_acting, limited_terms, leader_hashlocks, assemble_header, limited_value, no_digests, count_parties}
-use Rattle.offer_header.specs.Limits.{checked_seed, header_sizes, stated_terms}
+use Rattle.offer_header.specs.Limits.{checked_seed, header_sizes, limited_arc_terms}
 use Rattle.swap_clear.specs.declared.answer.Group.{Group}
 use Rattle.swap_clear.specs.Led.{own, own_leaders}
 use Rattle.clear_line.specs.declared.limits.Wishes.{Wishes}
@@ -92,8 +92,8 @@ module _ (w : Wishes) (group : Group) (k : IsClear w group) (line : ℕ) (texts 
       (omega (arith, low, size)) (omega (arith, high, size)))
       ∙ seeds_back w sizes names line group.parties texts seeds each digits
 
-  term_back : (a : ℕ) → IsElement a group.arcs → stated_terms line (raw_arc w a) ≡ Ok (terms_at w a)
-  unfolding stated_terms
+  term_back : (a : ℕ) → IsElement a group.arcs → limited_arc_terms line (raw_arc w a) ≡ Ok (terms_at w a)
+  unfolding limited_arc_terms
   term_back a i =
       let low = amount_low w group k a i in
       step _ tt _ (within_back line (codes "amount") 1 (10 ^ 12) (proposal w.arcs a).amount low.0 low.1)
@@ -108,7 +108,7 @@ module _ (w : Wishes) (group : Group) (k : IsClear w group) (line : ℕ) (texts 
       let size : length (map (raw_arc w) group.arcs) ≡ length group.arcs = length-map group.arcs (raw_arc w) in
       step _ tt _ (within_back line (codes "arcs") 2 128 (length (map (raw_arc w) group.arcs))
       (omega (arith, low, size, own_size)) (omega (arith, high, size, own_size)))
-      ∙ each_back (stated_terms line) (raw_arc w) (terms_at w) group.arcs term_back
+      ∙ each_back (limited_arc_terms line) (raw_arc w) (terms_at w) group.arcs term_back
 
   locks_back : leader_hashlocks true line (map (raw_leader w) group.leaders) ≡ Ok (no_digests (map (raw_leader w) group.leaders))
   unfolding leader_hashlocks

@@ -23,7 +23,7 @@ use Rattle.offer_events.specs.Plain.{is_plain_byte}
 use Rattle.offer_header.specs.Names.{is_name}
 use Rattle.offer_header.specs.Scripts.{roles_placed}
 use Rattle.offer_text.specs.HeaderLine.{header_line}
-use Rattle.swap_gen.specs.Drawn.{drawn_graph, generated, party_label, plain_deal, plain_job, drawn_seed}
+use Rattle.swap_gen.specs.Drawn.{drawn_graph, generated, drawn_party_label, plain_deal, plain_job, drawn_seed}
 use Rattle.swap_gen.specs.Events.{drawn_event, drawn_events, first_place, generated_events}
 use Rattle.swap_gen.specs.Made.{made_deal}
 use Rattle.swap_gen.proofs.Generated.{generated_steps, plain_has_seeds, plain_job_is_proposed}
@@ -31,7 +31,7 @@ use Rattle.swap_offer.specs.Job.{parse_events, parse_job}
 use Rattle.made_jobs.specs.Generating.{generated_text}
 use Rattle.made_jobs.specs.Making.{written_line}
 use Rattle.read_back.proofs.HeaderNamed as named
-use Rattle.transcript_lines.specs.Between.{ended}
+use Rattle.transcript_lines.specs.Between.{fed_lines}
 use Rattle.read_back.specs.Made.{numbered_lines, reads_jobs, told_job, with_job, GeneratedTextIsReadBack, HasAllowedEvents}
 use Rattle.read_back.proofs.Events.{drawn_from, event_lines, event_text, events_back, lines_are_text, AreDrawn, HasPlainNames}
 use Rattle.read_back.proofs.Outputs.{text_back}
@@ -42,11 +42,11 @@ use Rattle.read_back.proofs.Told.{few_arcs, sizes_at, IsTold, IsToldRole, MayBeD
 
 abbrev all_good : ℕ → Bool
 all_good zero = true
-all_good (suc n) = is_name (party_label n) && all_good n
+all_good (suc n) = is_name (drawn_party_label n) && all_good n
 
 abbrev all_plain : ℕ → Bool
 all_plain zero = true
-all_plain (suc n) = list_all is_plain_byte (party_label n) && all_plain n
+all_plain (suc n) = list_all is_plain_byte (drawn_party_label n) && all_plain n
 
 below : (P : ℕ → Bool) (p n : ℕ) → (p < suc n → p ≡ n → P p ≡ true) → (p < n → P p ≡ true) → p < suc n → P p ≡ true
 below P p n here before lt = by (p == n) refl
@@ -55,17 +55,17 @@ below P p n here before lt = by (p == n) refl
     by true e = here lt (eqb-true p n e)
     by false e = before (let other = eqb-false p n e in omega (arith, lt, other))
 
-good_at : (n p : ℕ) → all_good n ≡ true → p < n → is_name (party_label p) ≡ true
+good_at : (n p : ℕ) → all_good n ≡ true → p < n → is_name (drawn_party_label p) ≡ true
 good_at zero p e lt = absurd (omega arith)
 good_at (suc n) p e lt =
-    let q = and_parts (is_name (party_label n)) (all_good n) e in
-    below (λ i. is_name (party_label i)) p n (λ l same. ap (λ (i : ℕ). is_name (party_label i)) same ∙ q.0) (good_at n p q.1) lt
+    let q = and_parts (is_name (drawn_party_label n)) (all_good n) e in
+    below (λ i. is_name (drawn_party_label i)) p n (λ l same. ap (λ (i : ℕ). is_name (drawn_party_label i)) same ∙ q.0) (good_at n p q.1) lt
 
-plain_at : (n p : ℕ) → all_plain n ≡ true → p < n → list_all is_plain_byte (party_label p) ≡ true
+plain_at : (n p : ℕ) → all_plain n ≡ true → p < n → list_all is_plain_byte (drawn_party_label p) ≡ true
 plain_at zero p e lt = absurd (omega arith)
 plain_at (suc n) p e lt =
-    let q = and_parts (list_all is_plain_byte (party_label n)) (all_plain n) e in
-    below (λ i. list_all is_plain_byte (party_label i)) p n (λ l same. ap (λ (i : ℕ). list_all is_plain_byte (party_label i)) same ∙ q.0) (plain_at n p q.1) lt
+    let q = and_parts (list_all is_plain_byte (drawn_party_label n)) (all_plain n) e in
+    below (λ i. list_all is_plain_byte (drawn_party_label i)) p n (λ l same. ap (λ (i : ℕ). list_all is_plain_byte (drawn_party_label i)) same ∙ q.0) (plain_at n p q.1) lt
 
 are_good : all_good 24 ≡ true
 unfolding is_name digits
@@ -75,7 +75,7 @@ are_plain : all_plain 24 ≡ true
 unfolding digits
 are_plain = refl
 
-same_number : (p q : ℕ) → p < 24 → q < 24 → party_label p ≡ party_label q → p ≡ q
+same_number : (p q : ℕ) → p < 24 → q < 24 → drawn_party_label p ≡ drawn_party_label q → p ≡ q
 same_number p q lp lq e = decimal_injective p q (omega (arith, lp)) (omega (arith, lq)) (append_cancel_left (codes "p") (decimal p) (decimal q) e)
 
 -- ---- events
@@ -101,27 +101,27 @@ none_placed arcs conforming line p (suc n) = none_placed arcs conforming line (p
 
 module _ (has : List ℕ → Bool) (seed n : ℕ) (many : 2 ≤ n) (few : n ≤ 24) where
   -- the name of party p
-  named_so : (p : ℕ) → p < n → slice_index_or (plain_job seed n).names p [] ≡ party_label p
+  named_so : (p : ℕ) → p < n → slice_index_or (plain_job seed n).names p [] ≡ drawn_party_label p
   unfolding plain_job
-  named_so p lt = get_or-map-range_with_len party_label 0 n p p [] lt (omega arith)
+  named_so p lt = get_or-map-range_with_len drawn_party_label 0 n p p [] lt (omega arith)
 
   names_long : length (plain_job seed n).names ≡ n
   unfolding plain_job
-  names_long = length-map-range_with_len party_label 0 n
+  names_long = length-map-range_with_len drawn_party_label 0 n
 
   names_good : All (λ x. is_name x ≡ true) (plain_job seed n).names
   unfolding plain_job
   names_good i d lt =
-      let size = length-map-range_with_len party_label 0 n in
+      let size = length-map-range_with_len drawn_party_label 0 n in
       let low : i < n = omega (arith, size, lt) in
-      subst (λ (l : List ℕ). is_name l ≡ true) (sym (get_or-map-range_with_len party_label 0 n i i d low (omega arith)))
+      subst (λ (l : List ℕ). is_name l ≡ true) (sym (get_or-map-range_with_len drawn_party_label 0 n i i d low (omega arith)))
       (good_at 24 i are_good (omega (arith, low, few)))
 
   pub generated_is_plain : IsPlainJob has (plain_job seed n)
   unfolding plain_job plain_deal
   generated_is_plain = record {
     proposed = plain_job_is_proposed seed n many few;
-    parties = length-map-range_with_len party_label 0 n;
+    parties = length-map-range_with_len drawn_party_label 0 n;
     names = names_good;
     apart = λ p q lp lq e.
         let size = names_long in
@@ -176,7 +176,7 @@ module _ (has : List ℕ → Bool) (seed n : ℕ) (many : 2 ≤ n) (few : n ≤ 
   checked : HasPlainNames (told_job Check (plain_job seed n))
   checked = has_plain_names Check refl (λ line. refl)
 
-  text_is : (events : ℕ) → generated_text seed n events ≡ ended (header_line (generated seed n) ∷ map (event_text names) (generated_events seed n events))
+  text_is : (events : ℕ) → generated_text seed n events ≡ fed_lines (header_line (generated seed n) ∷ map (event_text names) (generated_events seed n events))
   unfolding generated_text written_line
   text_is events =
       ap (λ (l : List ℕ). (header_line (generated seed n) ++ codes "\n") ++ l)

@@ -23,7 +23,7 @@ use Rattle.offer_header.specs.declared.raw.RawArc.{RawArc}
 use Rattle.offer_header.specs.declared.raw.RawLeader.{RawLeader}
 use Rattle.offer_header.specs.declared.raw.RawRow.{RawRow}
 use Rattle.offer_header.specs.declared.raw.RawHeader.{RawHeader}
-use Rattle.offer_header.specs.Raw.{actor_member, object_arc, header_fields, keys_member, object_leader, mode_member, checked_mode, parse_party, object_header, parse_row}
+use Rattle.offer_header.specs.Raw.{actor_member, object_arc, header_fields, keys_member, object_leader, mode_member, checked_mode, parse_party, object_header, parse_key_row}
 use Rattle.offer_header.specs.Raw.{states_keys}
 use Rattle.offer_header.specs.Raw.{stated_mode, version_member, parse_version, IsVersionMode}
 use Rattle.offer_text.specs.Words.{digest_data, list_data, number_data}
@@ -99,8 +99,8 @@ text_back line key = refl
 abbrev pub raw_row : List (List ℕ) → RawRow
 raw_row keys = record { texts = map encode_lower keys }
 
-pub row_back : (line : ℕ) (keys : List (List ℕ)) → parse_row line (list_data digest_data keys) ≡ Ok (raw_row keys)
-unfolding parse_row
+pub row_back : (line : ℕ) (keys : List (List ℕ)) → parse_key_row line (list_data digest_data keys) ≡ Ok (raw_row keys)
+unfolding parse_key_row
 row_back line keys =
     step _ (map encode_lower keys) _ (items_back (text_member line (codes "keys")) digest_data encode_lower keys (λ key i. text_back line key))
 
@@ -210,7 +210,7 @@ leaders_are Hashkeys line job =
 keys_are : (mode : Mode) (line : ℕ) (job : Job) → keys_member line (states_keys Audit mode) (shown_in mode job) ≡ Ok (raw_keys mode job)
 unfolding field_list read_array_field needed
 keys_are Timelocks line job = refl
-keys_are Hashkeys line job = items_back (parse_row line) (list_data digest_data) raw_row job.deal.keys (λ keys i. row_back line keys)
+keys_are Hashkeys line job = items_back (parse_key_row line) (list_data digest_data) raw_row job.deal.keys (λ keys i. row_back line keys)
 
 no_others : (mode : Mode) (line : ℕ) (job : Job) → only line (header_fields Audit (states_keys Audit mode)) (shown_in mode job) ≡ Ok tt
 unfolding only

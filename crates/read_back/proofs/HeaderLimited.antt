@@ -28,8 +28,8 @@ use Rattle.offer_header.specs.declared.limits.Acting.{Acting}
 use Rattle.offer_header.specs.declared.limits.ArcTerms.{ArcTerms}
 use Rattle.offer_header.specs.declared.header.Header.{Header}
 use Rattle.offer_header.specs.Header.{simple_role}
-use Rattle.offer_header.specs.Limits.{parse_acting, limited_terms, arc_ends, lock_hashlock, leader_hashlocks, key_digest, derived_keys, limited_value, count_parties}
-use Rattle.offer_header.specs.Limits.{party_key_row, checked_role, checked_seed, header_sizes, stated_keys, stated_terms}
+use Rattle.offer_header.specs.Limits.{parse_acting, limited_terms, arc_ends, stated_hashlock, leader_hashlocks, key_digest, derived_keys, limited_value, count_parties}
+use Rattle.offer_header.specs.Limits.{party_key_row, checked_role, checked_seed, header_sizes, stated_keys, limited_arc_terms}
 use Rattle.typed_books.specs.Typed.{IsDigest}
 use Rattle.read_back.specs.Headers.{IsShowable}
 use Rattle.read_back.proofs.Steps.{by_places, each_back, step}
@@ -168,8 +168,8 @@ module _ (job : Job) (k : IsShowable job) (line : ℕ) where
   stated_low Timelocks a lt = k.sized.timelock a lt
   stated_low Hashkeys a lt = omega arith
 
-  term_back : (mode : Mode) (a : ℕ) → a < length job.deal.graph.arcs → stated_terms line (raw_arc mode job a) ≡ Ok (terms_at mode job a)
-  unfolding stated_terms
+  term_back : (mode : Mode) (a : ℕ) → a < length job.deal.graph.arcs → limited_arc_terms line (raw_arc mode job a) ≡ Ok (terms_at mode job a)
+  unfolding limited_arc_terms
   term_back mode a lt =
       step _ tt _ (within_back line (codes "amount") 1 (10 ^ 12) (amount job.deal a) (k.accepted.amounts a lt).0 (k.accepted.amounts a lt).1)
       ∙ step _ (stated mode (slice_index job.deal.timelocks a)) _
@@ -185,7 +185,7 @@ module _ (job : Job) (k : IsShowable job) (line : ℕ) where
       = length-map-range_with_len (raw_arc mode job) 0 (length job.deal.graph.arcs) in
       step _ tt _ (within_back line (codes "arcs") 2 (most_arcs job.deal.version) (length (map (raw_arc mode job) (arcs job.deal.graph)))
       (omega (arith, low, size)) (omega (arith, high, size)))
-      ∙ each_back (stated_terms line) (raw_arc mode job) (terms_at mode job) (arcs job.deal.graph)
+      ∙ each_back (limited_arc_terms line) (raw_arc mode job) (terms_at mode job) (arcs job.deal.graph)
       (λ a i. term_back mode a (from_range a (length job.deal.graph.arcs) i))
 
   pub ends_are : map arc_ends (map (ends_at job) (arcs job.deal.graph)) ≡ job.deal.graph.arcs
@@ -213,8 +213,8 @@ module _ (job : Job) (k : IsShowable job) (line : ℕ) where
 
   -- ---- hashlocks and keys
 
-  hashlock_back : (i : ℕ) → i < length job.deal.leaders → lock_hashlock line (raw_leader job i) ≡ Ok (slice_index_or job.deal.hashlocks i [])
-  unfolding lock_hashlock
+  hashlock_back : (i : ℕ) → i < length job.deal.leaders → stated_hashlock line (raw_leader job i) ≡ Ok (slice_index_or job.deal.hashlocks i [])
+  unfolding stated_hashlock
   hashlock_back i lt =
       let count : length job.deal.hashlocks ≡ length job.deal.leaders = k.accepted.hashlocks in
       digest_back line (codes "hashlock") (slice_index_or job.deal.hashlocks i []) (k.hashlocks i [] (omega (arith, count, lt)))
@@ -228,7 +228,7 @@ module _ (job : Job) (k : IsShowable job) (line : ℕ) where
       = length-map-range_with_len (raw_leader job) 0 (length job.deal.leaders) in
       step _ tt _ (within_back line (codes "leaders") 1 8 (length (map (raw_leader job) (locks job.deal))) (omega (arith, low, size))
       (omega (arith, high, size)))
-      ∙ each_back (lock_hashlock line) (raw_leader job) (λ i. slice_index_or job.deal.hashlocks i []) (locks job.deal)
+      ∙ each_back (stated_hashlock line) (raw_leader job) (λ i. slice_index_or job.deal.hashlocks i []) (locks job.deal)
       (λ i is. hashlock_back i (from_range i (length job.deal.leaders) is))
       ∙ ap (λ (l : List (List ℕ)). Ok l) (placed job.deal.hashlocks [] (length job.deal.leaders) k.accepted.hashlocks)
 

@@ -13,7 +13,7 @@ use Rattle.swap_digraph.specs.Graph.{arcs, ends}
 use Rattle.swap_digraph.specs.declared.deal.Mode.{Mode}
 use Rattle.swap_digraph.specs.Deal.{lock_leader}
 use Rattle.swap_job.specs.declared.job.Job.{Job}
-use Rattle.offer_fields.specs.Names.{found, party_of_name}
+use Rattle.offer_fields.specs.Names.{found_place, party_of_name}
 use Rattle.offer_fields.specs.Lists.{collected_results}
 use Rattle.offer_header.specs.Names.{actor_known, named_ends, is_name, leader_step, name_added, name_step, names_stated, numbered_header}
 use Rattle.offer_header.specs.declared.names.Ends.{Ends}
@@ -77,7 +77,7 @@ module _ (job : Job) (k : IsShowable job) (line : ℕ) where
       let same : p ≡ j = k.apart p j lt (omega (arith, less, lt)) (bytes_eq-true name (get_or job.names j []) t) in
       omega (arith, same, less)) in
       let z : ◌≡◌ {A = ℕ} (0 + p) p = omega arith in
-      ap (found line name) (position_from-zero (bytes_eq name) job.names ∙ first_at (bytes_eq name) job.names [] p 0 lt self other
+      ap (found_place line name) (position_from-zero (bytes_eq name) job.names ∙ first_at (bytes_eq name) job.names [] p 0 lt self other
       ∙ ap (λ (n : ℕ). Some n) z)
 
   -- ---- names, arcs and leaders

@@ -5,8 +5,8 @@ use Rattle.std.specs.List.{list_all, AllByRecursion}
 use Rattle.std.proofs.lemmas.List.Elements.{All-head, All-tail}
 use Rattle.swap_base.proofs.Lists.{and_both, and_parts}
 use Rattle.command_input.specs.Lines.{filled_lines, is_blank, collect_lines, with_first}
-use Rattle.made_jobs.specs.Making.{with_line}
-use Rattle.transcript_lines.specs.Between.{ended}
+use Rattle.made_jobs.specs.Making.{with_copied_line}
+use Rattle.transcript_lines.specs.Between.{fed_lines}
 use Rattle.read_back.specs.Made.{numbered_lines, IsOneLine, TextHasOneStory, TextIsItsLines}
 
 pub not_is : (b : Bool) → not b ≡ true → b ≡ false
@@ -25,16 +25,16 @@ pub text_is_its_lines : TextIsItsLines
 unfolding collect_lines
 text_is_its_lines [] h = refl
 text_is_its_lines (l ∷ ls) h =
-    line_first l (ended ls) (All-head IsOneLine l ls h) ∙ ap (λ (m : List (List ℕ)). l ∷ m) (text_is_its_lines ls (All-tail IsOneLine l ls h))
+    line_first l (fed_lines ls) (All-head IsOneLine l ls h) ∙ ap (λ (m : List (List ℕ)). l ∷ m) (text_is_its_lines ls (All-tail IsOneLine l ls h))
 
 pub text_has_one_story : TextHasOneStory
 text_has_one_story ls ms h k e = sym (text_is_its_lines ls h) ∙ ap collect_lines e ∙ text_is_its_lines ms k
 
 -- the same, where each line is told in turn
-pub ended_lines : (ls : List (List ℕ)) → AllByRecursion IsOneLine ls → collect_lines (ended ls) ≡ ls
+pub ended_lines : (ls : List (List ℕ)) → AllByRecursion IsOneLine ls → collect_lines (fed_lines ls) ≡ ls
 unfolding collect_lines
 ended_lines [] h = refl
-ended_lines (l ∷ ls) h = line_first l (ended ls) h.0 ∙ ap (λ (m : List (List ℕ)). l ∷ m) (ended_lines ls h.1)
+ended_lines (l ∷ ls) h = line_first l (fed_lines ls) h.0 ∙ ap (λ (m : List (List ℕ)). l ∷ m) (ended_lines ls h.1)
 
 -- ---- lines that aren't blank
 
@@ -43,10 +43,10 @@ abbrev pub AreLines : List (List ℕ) → Type 0
 AreLines [] = Unit {0}
 AreLines (l ∷ ls) = IsOneLine l × (is_blank l ≡ false) × AreLines ls
 
-pub lines_back : (ls : List (List ℕ)) → AreLines ls → collect_lines (ended ls) ≡ ls
+pub lines_back : (ls : List (List ℕ)) → AreLines ls → collect_lines (fed_lines ls) ≡ ls
 unfolding collect_lines
 lines_back [] h = refl
-lines_back (l ∷ ls) h = line_first l (ended ls) h.0 ∙ ap (λ (m : List (List ℕ)). l ∷ m) (lines_back ls h.2)
+lines_back (l ∷ ls) h = line_first l (fed_lines ls) h.0 ∙ ap (λ (m : List (List ℕ)). l ∷ m) (lines_back ls h.2)
 
 pub all_filled : (n : ℕ) (ls : List (List ℕ)) → AreLines ls → filled_lines n ls ≡ numbered_lines n ls
 unfolding filled_lines
@@ -88,7 +88,7 @@ input_lines bs = are_filled 1 (collect_lines bs) (are_one_lines bs)
 
 -- ---- what is written line by line
 
-pub written_lines : (text : List ℕ) (ls : List (ℕ × List ℕ)) → fold with_line text ls ≡ text ++ ended (map (λ x. x.1) ls)
+pub written_lines : (text : List ℕ) (ls : List (ℕ × List ℕ)) → fold with_copied_line text ls ≡ text ++ fed_lines (map (λ x. x.1) ls)
 written_lines text [] = sym (append-nil text)
 written_lines text (l ∷ ls) =
-    written_lines (with_line text l) ls ∙ append_assoc text (l.1 ++ codes "\n") (ended (map (λ x. x.1) ls))
+    written_lines (with_copied_line text l) ls ∙ append_assoc text (l.1 ++ codes "\n") (fed_lines (map (λ x. x.1) ls))

@@ -26,7 +26,7 @@ use Rattle.offer_header.specs.declared.raw.RawParty.{RawParty}
 use Rattle.offer_header.specs.declared.raw.RawHeader.{RawHeader}
 use Rattle.offer_header.specs.Raw.{actor_member, object_arc, finish_member, finish_of_word, header_fields, keys_member, object_leader, mode_member, party_fields, parse_party}
 use Rattle.offer_header.specs.Raw.{object_header}
-use Rattle.offer_header.specs.Raw.{parse_row, script_actor, seed_member, stated_finish, stated_mode, states_keys, strategy_actor, version_member, IsVersionMode}
+use Rattle.offer_header.specs.Raw.{parse_key_row, script_actor, seed_member, stated_finish, stated_mode, states_keys, strategy_actor, version_member, IsVersionMode}
 use Rattle.offer_text.specs.Moves.{move_data}
 use Rattle.offer_text.specs.Words.{digest_data, list_data, number_data, with_optional}
 use Rattle.offer_text.specs.HeaderLine.{actor_data, fields_by_mode, finish_word, leader_value, made_header, made_party}
@@ -222,7 +222,7 @@ leaders_are Hashkeys line job =
 keys_are : (mode : Mode) (line : ℕ) (job : Job) → keys_member line (states_keys Check mode) (made_in mode job) ≡ Ok (raw_keys mode job)
 unfolding field_list read_array_field needed
 keys_are Timelocks line job = refl
-keys_are Hashkeys line job = items_back (parse_row line) (list_data digest_data) raw_row job.deal.keys (λ keys i. row_back line keys)
+keys_are Hashkeys line job = items_back (parse_key_row line) (list_data digest_data) raw_row job.deal.keys (λ keys i. row_back line keys)
 
 finish_known : (line : ℕ) (finish : Finish) → finish_of_word line (finish_word finish) ≡ Ok finish
 finish_known line Stop = refl

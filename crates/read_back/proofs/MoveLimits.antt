@@ -13,7 +13,7 @@ use Rattle.offer_fields.specs.Lists.{collected_results}
 use Rattle.offer_fields.specs.Names.{party_of_name}
 use Rattle.offer_fields.proofs.Chains.{each_all, each_length}
 use Rattle.offer_fields.proofs.Ranges.{number_within_ok, party_below, within_ok}
-use Rattle.offer_moves.specs.Limits.{kept, parse_locks, bounded_number, optional_locks, optional_most, parse_sig}
+use Rattle.offer_moves.specs.Limits.{kept, limited_locks, number_below_count, optional_locks, optional_most, parse_sig}
 use Rattle.offer_moves.specs.Moves.{parse_arc, parse_claim, parse_craft, checked_hashkey, parse_move, optional_arc, make_publish, parse_refund, parse_replay}
 use Rattle.offer_moves.specs.Moves.{parse_transfer}
 use Rattle.offer_moves.specs.Moves.{parse_unlock, parse_wait}
@@ -111,8 +111,8 @@ kept_all digests few = ap (λ (b : Bool). cond b digests []) (le-leb (length dig
 abbrev AreMany : ℕ → List (List ℕ) → Type 0
 AreMany count ds = (length ds ≡ count) × All IsDigest ds
 
-locks_in : (line count : ℕ) (texts ds : List (List ℕ)) → count ≤ 8 → parse_locks line count texts ≡ Ok ds → AreMany count ds
-unfolding parse_locks
+locks_in : (line count : ℕ) (texts ds : List (List ℕ)) → count ≤ 8 → limited_locks line count texts ≡ Ok ds → AreMany count ds
+unfolding limited_locks
 locks_in line count texts ds few =
     onward (check_range line (codes "locks") count count (length texts)) _ (AreMany count) (λ u w.
     onward (collected_results (to_digest line (codes "locks")) texts) _ (AreMany count) (λ digests e.
@@ -127,7 +127,7 @@ locks_in line count texts ds few =
 optional_locks_in : (line count : ℕ) (o locks : Option (List (List ℕ))) → count ≤ 8 → optional_locks line count o ≡ Ok locks → AreLocks count locks
 optional_locks_in line count None locks few = landed None (AreLocks count) tt locks
 optional_locks_in line count (Some texts) locks few =
-    onward (parse_locks line count texts) _ (AreLocks count) (λ ds e. landed (Some ds) (AreLocks count) (locks_in line count texts ds few e)) locks
+    onward (limited_locks line count texts) _ (AreLocks count) (λ ds e. landed (Some ds) (AreLocks count) (locks_in line count texts ds few e)) locks
 
 module _ (s : Sizes) (small : IsSmall s) (names : List (List ℕ)) (line : ℕ) where
   abbrev IsRead : Move → Type 0
@@ -158,7 +158,7 @@ module _ (s : Sizes) (small : IsSmall s) (names : List (List ℕ)) (line : ℕ) 
   read_craft n k =
       onward (collected_results (party_of_name line names) k.via) _ IsRead (λ via a.
       onward (parse_arc s line (codes "arc") n) _ IsRead (λ arc b.
-      onward (bounded_number line (codes "lock") s.locks k.lock) _ IsRead (λ lock c.
+      onward (number_below_count line (codes "lock") s.locks k.lock) _ IsRead (λ lock c.
       onward (check_range line (codes "via") 1 s.path (length k.via)) _ IsRead (λ u w.
       onward (optional_arc s line (codes "onto") k.onto) _ IsRead (λ onto f.
       let size : length via ≡ length k.via = each_length (party_of_name line names) k.via via a in
@@ -176,7 +176,7 @@ module _ (s : Sizes) (small : IsSmall s) (names : List (List ℕ)) (line : ℕ) 
   unfolding parse_replay
   read_replay n m k =
       onward (parse_arc s line (codes "arc") n) _ IsRead (λ arc a.
-      onward (bounded_number line (codes "lock") s.locks m) _ IsRead (λ lock b.
+      onward (number_below_count line (codes "lock") s.locks m) _ IsRead (λ lock b.
       onward (parse_arc s line (codes "onto") k) _ IsRead (λ onto c.
       landed (Replay arc lock onto) IsRead (
         read_clear_arc s line (codes "arc") n arc a,
@@ -189,7 +189,7 @@ module _ (s : Sizes) (small : IsSmall s) (names : List (List ℕ)) (line : ℕ) 
   unfolding checked_hashkey
   fetch_key path k long below =
       let P = IsKey s (length names) in
-      onward (bounded_number line (codes "lock") s.locks k.lock) _ P (λ lock a.
+      onward (number_below_count line (codes "lock") s.locks k.lock) _ P (λ lock a.
       onward (to_digest line (codes "secret") k.secret) _ P (λ secret b.
       onward (check_range line (codes "path") 0 s.path (length k.path)) _ P (λ u w.
       onward (check_range line (codes "sigs") 0 s.path (length k.sigs)) _ P (λ v x.
@@ -260,8 +260,8 @@ module _ (s : Sizes) (small : IsSmall s) (names : List (List ℕ)) (line : ℕ) 
 
 -- ---- what keeps them is read back
 
-pub below_back : (line : ℕ) (field : List ℕ) (count n : ℕ) → n < count → count ≤ 128 → bounded_number line field count n ≡ Ok n
-unfolding bounded_number
+pub below_back : (line : ℕ) (field : List ℕ) (count n : ℕ) → n < count → count ≤ 128 → number_below_count line field count n ≡ Ok n
+unfolding number_below_count
 below_back line field count n lt few =
     let same : n % 256 ≡ n = omega (arith, lt, few) in
     rw (lt-ltb n count lt) (ap (λ (m : ℕ). Ok m) same)
@@ -277,11 +277,11 @@ digests_back line field ds all =
 
 locks_back : (line count : ℕ) (o : Option (List (List ℕ))) → count ≤ 8 → AreLocks count o
     → optional_locks line count (option_map (map encode_lower) o) ≡ Ok o
-unfolding parse_locks
+unfolding limited_locks
 locks_back line count None few k = refl
 locks_back line count (Some ds) few k =
     let long : length (map encode_lower ds) ≡ count = length-map ds encode_lower ∙ k.0 in
-    let here : parse_locks line count (map encode_lower ds) ≡ Ok ds =
+    let here : limited_locks line count (map encode_lower ds) ≡ Ok ds =
     step _ tt _ (within_back line (codes "locks") count count (length (map encode_lower ds)) (omega (arith, long)) (omega (arith, long)))
     ∙ step _ ds _ (digests_back line (codes "locks") ds k.1)
     ∙ ap (λ (l : List (List ℕ)). Ok l) (kept_all ds (omega (arith, k.0, few))) in
@@ -293,7 +293,7 @@ module _ (s : Sizes) (small : IsSmall s) (names : List (List ℕ)) (line : ℕ)
   unfolding parse_arc
   arc_back field a lt = below_back line field s.arcs a lt small.arcs
 
-  lock_back : (i : ℕ) → i < s.locks → bounded_number line (codes "lock") s.locks i ≡ Ok i
+  lock_back : (i : ℕ) → i < s.locks → number_below_count line (codes "lock") s.locks i ≡ Ok i
   lock_back i lt = let few = small.locks in below_back line (codes "lock") s.locks i lt (omega (arith, few))
 
   parties_back : (ps : List ℕ) → All (λ p. p < length names) ps → collected_results (party_of_name line names) (map (party_label names) ps) ≡ Ok ps

@@ -16,7 +16,7 @@ use Rattle.swap_gen.specs.Made.{made}
 use Rattle.made_jobs.specs.Making.{made_lines_output, made_output, made_text, written_line}
 use Rattle.read_back.proofs.Onward.{ok_is}
 use Rattle.read_back.proofs.Steps.{step}
-use Rattle.transcript_lines.specs.Between.{ended}
+use Rattle.transcript_lines.specs.Between.{fed_lines}
 use Rattle.read_back.specs.Made.{further_lines, numbered_lines, reads_jobs, told_job, with_job, HasTexts, IsOneLine}
 use Rattle.read_back.specs.Made.{MadeHeaderIsOneLine, MadeHeaderIsReadBack, MadeHeaderReads, MadeOutputIsReadBack, MadeTextIsReadBack}
 use Rattle.read_back.proofs.HeaderTexts as texts
@@ -55,13 +55,13 @@ module _ (has : List ℕ → Bool) (plain : Job) (k : IsPlainJob has plain) wher
 
   -- the lines of a text of the header line and others are these, and none of them is blank
   pub text_lines : (ls : List (List ℕ)) → AreLines ls
-      → filled_lines 1 (collect_lines (ended (header_line (made plain) ∷ ls))) ≡ (1, header_line (made plain)) ∷ numbered_lines 2 ls
+      → filled_lines 1 (collect_lines (fed_lines (header_line (made plain) ∷ ls))) ≡ (1, header_line (made plain)) ∷ numbered_lines 2 ls
   text_lines ls h =
       ap (filled_lines 1) (lines_back (header_line (made plain) ∷ ls) (plain_header_is_one, not_blank, h))
       ∙ all_filled 1 (header_line (made plain) ∷ ls) (plain_header_is_one, not_blank, h)
 
   pub text_back : (purpose : Purpose) → reads_jobs purpose ≡ true → (ls : List (List ℕ)) → AreLines ls
-      → parse_job has purpose (ended (header_line (made plain) ∷ ls))
+      → parse_job has purpose (fed_lines (header_line (made plain) ∷ ls))
       ≡ with_job (told_job purpose plain) (parse_events (told_job purpose plain) 0 (numbered_lines 2 ls))
   unfolding parse_job
   text_back purpose reads ls h =
@@ -69,7 +69,7 @@ module _ (has : List ℕ → Bool) (plain : Job) (k : IsPlainJob has plain) wher
       ∙ step _ (told_job purpose plain) _ (plain_header_back purpose reads 1)
       ∙ ap (λ (b : Bool). with_job (told_job purpose plain) (events_unless b (told_job purpose plain) (numbered_lines 2 ls))) (not_plain purpose reads)
 
-  pub made_is_text : (ls : List (ℕ × List ℕ)) → made_text plain ls ≡ ended (header_line (made plain) ∷ map (λ x. x.1) ls)
+  pub made_is_text : (ls : List (ℕ × List ℕ)) → made_text plain ls ≡ fed_lines (header_line (made plain) ∷ map (λ x. x.1) ls)
   unfolding made_text written_line
   made_is_text ls = written_lines (header_line (made plain) ++ codes "\n") ls
 
@@ -125,7 +125,7 @@ unfolding made_output parse_job
 made_output_is_read_back has input output t e purpose reads =
     let lines = filled_lines 1 (collect_lines input) in
     let m = party_made has t lines output e in
-    let text : made_text m.plain (drop 1 lines) ≡ ended (header_line (made m.plain) ∷ further_lines input) =
+    let text : made_text m.plain (drop 1 lines) ≡ fed_lines (header_line (made m.plain) ∷ further_lines input) =
     made_is_text has m.plain m.good (drop 1 lines) in
     record {
       plain = m.plain;

@@ -10,7 +10,7 @@ use Rattle.hashkey_path.proofs.Validity.{bytes_eq-true, bytes_eq_self}
 use Rattle.swap_digraph.specs.declared.arc_ends.ArcEnds.{ArcEnds}
 use Rattle.swap_digraph.specs.Graph.{resolve_all_ends, is_listed}
 use Rattle.swap_digraph.proofs.Paths.{in-is_listed}
-use Rattle.offer_fields.specs.Names.{found, party_of_name}
+use Rattle.offer_fields.specs.Names.{found_place, party_of_name}
 use Rattle.offer_header.specs.Names.{is_name}
 use Rattle.swap_clear.specs.declared.answer.Group.{Group}
 use Rattle.swap_clear.specs.declared.proposed.Proposed.{Proposed}
@@ -83,7 +83,7 @@ module _ (w : Wishes) (group : Group) (k : IsClear w group) (line : ℕ) where
       → party_of_name line (map (wished_name w) group.parties) (wished_name w p) ≡ Ok (place group.parties p)
   unfolding party_of_name
   number_back p lt among =
-      ap (found line (wished_name w p)) (position_from-zero (bytes_eq (wished_name w p)) (map (wished_name w) group.parties)
+      ap (found_place line (wished_name w p)) (position_from-zero (bytes_eq (wished_name w p)) (map (wished_name w) group.parties)
       ∙ same_position (bytes_eq (wished_name w p)) (wished_name w) (λ q. q == p) group.parties 0 (λ q i. same_name p q lt (is_party q i))
       ∙ sym (position_from-zero (λ q. q == p) group.parties)
       ∙ position_is (λ q. q == p) group.parties among)

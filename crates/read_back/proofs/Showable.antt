@@ -30,7 +30,7 @@ use Rattle.offer_header.specs.Raw.{object_arc, finish_member, header_fields, is_
 use Rattle.offer_header.specs.Raw.{version_member}
 use Rattle.offer_header.specs.Raw.{IsVersionMode, IsUntimed}
 use Rattle.offer_header.specs.Names.{actor_known, named_ends, is_name, leader_step, name_added, name_step, names_stated, numbered_header}
-use Rattle.offer_header.specs.Limits.{lock_hashlock, leader_hashlocks, key_digest, derived_keys, limited_value, party_key_row, stated_keys}
+use Rattle.offer_header.specs.Limits.{stated_hashlock, leader_hashlocks, key_digest, derived_keys, limited_value, party_key_row, stated_keys}
 use Rattle.offer_header.specs.Header.{parse_whole_header, IsHeaderInLimits}
 use Rattle.offer_header.specs.Scripts.{scripts_placed}
 use Rattle.offer_header.specs.declared.raw.RawHeader.{RawHeader}
@@ -45,7 +45,7 @@ use Rattle.offer_header.proofs.Numbered.{is_numbered}
 use Rattle.offer_header.proofs.Untimed.{arcs_untimed}
 use Rattle.offer_header.proofs.Walked.{steps_keep}
 use Rattle.offer_text.specs.HeaderLine.{is_make}
-use Rattle.swap_offer.specs.Checks.{admitted, by_arcs, checked, header_deal, header_digraph, build_graph, assemble_job, IsAcceptedUnless}
+use Rattle.swap_offer.specs.Checks.{admitted, by_arcs, checked_digraph, header_deal, header_digraph, build_graph, assemble_job, IsAcceptedUnless}
 use Rattle.swap_offer.specs.Job.{accepted_entries, parse_header_job, provided}
 use Rattle.swap_offer.proofs.Admitted.{admitted_is_accepted}
 use Rattle.swap_offer.proofs.Size.{is_whole}
@@ -75,15 +75,15 @@ pub digest_is : (line : ℕ) (field w xs : List ℕ) → to_digest line field w 
 unfolding to_digest
 digest_is line field w xs e = let k = decoded_bytes line field 32 w xs e in record { size = k.0; bytes = k.1 }
 
-hashlock_is : (line : ℕ) (l : RawLeader) (xs : List ℕ) → lock_hashlock line l ≡ Ok xs → IsDigest xs
-unfolding lock_hashlock
+hashlock_is : (line : ℕ) (l : RawLeader) (xs : List ℕ) → stated_hashlock line l ≡ Ok xs → IsDigest xs
+unfolding stated_hashlock
 hashlock_is line l xs e = digest_is line (codes "hashlock") l.hashlock xs e
 
 hashlocks_are : (line : ℕ) (leaders : List RawLeader) (hashlocks : List (List ℕ)) → leader_hashlocks false line leaders ≡ Ok hashlocks → All IsDigest hashlocks
 unfolding leader_hashlocks
 hashlocks_are line leaders =
     onward (check_range line (codes "leaders") 1 8 (length leaders)) _ (All IsDigest)
-    (λ u w hashlocks e. each_all IsDigest (lock_hashlock line) (hashlock_is line) leaders hashlocks e)
+    (λ u w hashlocks e. each_all IsDigest (stated_hashlock line) (hashlock_is line) leaders hashlocks e)
 
 key_is : (line : ℕ) (w xs : List ℕ) → key_digest line w ≡ Ok xs → IsDigest xs
 unfolding key_digest
@@ -231,7 +231,7 @@ pub admitted_graph : (h : Header) (g : Graph) → admitted h ≡ Ok g → header
 unfolding admitted
 admitted_graph h =
     onward (build_graph h) _ (λ (g : Graph). header_digraph h ≡ g) (λ x m.
-    onward (checked h x) _ (λ (g : Graph). header_digraph h ≡ g) (λ u c. landed x (λ (g : Graph). header_digraph h ≡ g) (graph_is h x m)))
+    onward (checked_digraph h x) _ (λ (g : Graph). header_digraph h ≡ g) (λ u c. landed x (λ (g : Graph). header_digraph h ≡ g) (graph_is h x m)))
 
 showable : (purpose : Purpose) (h : Header) → is_plain purpose ≡ false → IsStatedBy purpose h → admitted h ≡ Ok (header_digraph h)
     → IsShowable (assemble_job h (header_digraph h))

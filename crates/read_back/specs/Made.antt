@@ -25,7 +25,7 @@ use Rattle.made_jobs.specs.Generating.{generated_book, generated_text}
 use Rattle.made_jobs.specs.Making.{made_output}
 use Rattle.ledger_core.specs.Book.{Histories}
 use Rattle.swap_digraph.specs.Deal.{IsWellSized}
-use Rattle.transcript_lines.specs.Between.{ended}
+use Rattle.transcript_lines.specs.Between.{fed_lines}
 use Rattle.transcript_lines.specs.Lines.{IsWholeTranscript}
 
 -- ---- what is read
@@ -69,11 +69,11 @@ further_lines input = map (λ l. l.1) (drop 1 (filled_lines 1 (collect_lines inp
 
 -- Lines without line feeds that make the same text are the same lines.
 abbrev pub TextHasOneStory : Type 0
-TextHasOneStory = (ls ms : List (List ℕ)) → All IsOneLine ls → All IsOneLine ms → ended ls ≡ ended ms → ls ≡ ms
+TextHasOneStory = (ls ms : List (List ℕ)) → All IsOneLine ls → All IsOneLine ms → fed_lines ls ≡ fed_lines ms → ls ≡ ms
 
 -- They are the lines of that text.
 abbrev pub TextIsItsLines : Type 0
-TextIsItsLines = (ls : List (List ℕ)) → All IsOneLine ls → collect_lines (ended ls) ≡ ls
+TextIsItsLines = (ls : List (List ℕ)) → All IsOneLine ls → collect_lines (fed_lines ls) ≡ ls
 
 -- Two whole transcripts with the same text, byte for byte, tell of one job and one book. Neither
 -- header line holds a line feed.
@@ -81,7 +81,7 @@ abbrev pub WholeTextHasOneStory : Type 0
 WholeTextHasOneStory =
     (parse_whole_header : List ℕ → Option Job) (ls ms : List (List ℕ)) (job other : Job) (b c : Histories) (w : IsWholeTranscript parse_whole_header ls job b)
     (v : IsWholeTranscript parse_whole_header ms other c) → IsWellSized job.deal → IsWellSized other.deal → IsOneLine w.header → IsOneLine v.header
-    → ended ls ≡ ended ms
+    → fed_lines ls ≡ fed_lines ms
     → (job ≡ other) × (b ≡ c)
 
 -- The header line of a job that is made of a plain one is text, and is read as the header that is

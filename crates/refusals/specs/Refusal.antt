@@ -13,6 +13,6 @@ fault_with_names names (Refused reason) = Refused (refusal names reason)
 fault_with_names names NoMemory = NoMemory
 
 -- what was read, or the reason against it with the names
-abbrev pub named : {A : Type 0} → List (List ℕ) → Result A Reason → Result A Refusal
-named names (Ok x) = Ok x
-named names (Err reason) = Err (refusal names reason)
+abbrev pub named_result : {A : Type 0} → List (List ℕ) → Result A Reason → Result A Refusal
+named_result names (Ok x) = Ok x
+named_result names (Err reason) = Err (refusal names reason)

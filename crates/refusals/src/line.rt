@@ -3,7 +3,7 @@
 ghost use Rattle.std.specs.Prelude.{◌≡◌, ◌++◌, IfOk, OnOk, OnErr};
 ghost use Rattle.swap_base.specs.Text.{lines};
 ghost use Rattle.refusals.specs.declared.reason.Reason.TheVariants.{OverLimit, WrongWallet, WrongTimelock, BadReply, Overdrawn};
-ghost use Rattle.refusals.specs.Line.{numbered, numbered_twice, lined, comma_named, all_named, of_party, of_parties, reason_text, refusal_line_text};
+ghost use Rattle.refusals.specs.Line.{numbered_word, numbered_twice, lined, comma_named, all_named, of_party, of_parties, reason_text, refusal_line_text};
 
 use crate::escaped::put_escaped;
 use crate::reason::Reason;
@@ -55,9 +55,9 @@ pub fn put_names(out: &mut Vec<u8>, names: &[ByteText], parties: &[PartyId]) -> 
     Ok(())
 }
 
-#[tactic(auto, unfolding(crate::specs::Line::numbered))]
+#[tactic(auto, unfolding(crate::specs::Line::numbered_word))]
 fn put_numbered(out: &mut Vec<u8>, word: &str, number: u64) -> Result<(), NoMemory>
-    ensures { OnOk result (out.new.items ≡ out.old.items ++ numbered word.now number) }
+    ensures { OnOk result (out.new.items ≡ out.old.items ++ numbered_word word.now number) }
 {
     put(
         out,

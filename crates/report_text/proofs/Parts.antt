@@ -10,17 +10,17 @@ use Rattle.ledger_core.specs.History.{accounts, height}
 use Rattle.ledger_core.specs.Book.{Histories}
 use Rattle.swap_job.specs.declared.job.Job.{Job}
 use Rattle.outcome_rules.specs.declared.report.Report.{Report}
-use Rattle.report_text.specs.Report.{count_line, entry_line, finding_line, head_lines, ledger_end, ledger_head, ledger_lines, party_line, report}
+use Rattle.report_text.specs.Report.{count_line, report_entry_line, finding_line, head_lines, ledger_end, ledger_head, ledger_report_text, party_line, report}
 
 pub of_ledger : (names : List (List ℕ)) (d : Deal) (a : ℕ) (h : List Entry)
-    → ledger_head names a (ends d.graph a) (amount d a) ++ (lines (entry_line names (stated_terms d a)) 0 h ++
+    → ledger_head names a (ends d.graph a) (amount d a) ++ (lines (report_entry_line names (stated_terms d a)) 0 h ++
     (ledger_end names (ends d.graph a) (height h) (accounts d a h) ++ []))
-    ≡ ledger_lines names d a h
-unfolding ledger_lines
+    ≡ ledger_report_text names d a h
+unfolding ledger_report_text
 of_ledger names d a h = refl
 
 pub of_report : (job : Job) (b : Histories) (r : Report)
-    → head_lines job.deal ++ (lines (ledger_lines job.names job.deal) 0 b ++ (lines (party_line job.names job.conforming r.ended) 0 r.outcomes
+    → head_lines job.deal ++ (lines (ledger_report_text job.names job.deal) 0 b ++ (lines (party_line job.names job.conforming r.ended) 0 r.outcomes
     ++ (lines (λ _. finding_line job.names) 0 r.findings ++ (count_line (length r.findings) ++ []))))
     ≡ report job b r
 unfolding report

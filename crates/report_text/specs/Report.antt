@@ -27,8 +27,8 @@ what_line names t e (Made c) = joined (decimal e.height ∷ codes " " ∷ sender
     e.reply ∷ codes "\n" ∷ [])
 what_line names t e (Tick k) = []
 
-abbrev pub entry_line : List (List ℕ) → Terms → ℕ → Entry → List ℕ
-entry_line names t number e = what_line names t e e.what
+abbrev pub report_entry_line : List (List ℕ) → Terms → ℕ → Entry → List ℕ
+report_entry_line names t number e = what_line names t e e.what
 
 unfoldable pub ledger_head : List (List ℕ) → ℕ → ArcEnds → ℕ → List ℕ
 ledger_head names a arc units = joined (codes "ledger " ∷ decimal a ∷ codes " " ∷ party_name names arc.from ∷ codes " -> " ∷ party_name names arc.to ∷ codes
@@ -39,8 +39,8 @@ ledger_end names arc at now = joined (codes "end height " ∷ decimal at ∷ cod
     party_name names arc.to ∷ codes " " ∷ decimal now.counterparty ∷ codes " held " ∷ decimal now.held ∷ codes "\n" ∷ [])
 
 -- the lines of the ledger of arc a
-unfoldable pub ledger_lines : List (List ℕ) → Deal → ℕ → List Entry → List ℕ
-ledger_lines names d a h = joined (ledger_head names a (ends d.graph a) (amount d a) ∷ lines (entry_line names (stated_terms d a)) 0 h ∷ ledger_end names
+unfoldable pub ledger_report_text : List (List ℕ) → Deal → ℕ → List Entry → List ℕ
+ledger_report_text names d a h = joined (ledger_head names a (ends d.graph a) (amount d a) ∷ lines (report_entry_line names (stated_terms d a)) 0 h ∷ ledger_end names
     (ends d.graph a) (height h) (accounts d a h) ∷ [])
 
 unfoldable pub head_lines : Deal → List ℕ
@@ -70,5 +70,5 @@ count_line count = joined (codes "findings " ∷ decimal count ∷ codes "\n" �
 -- the report of a book
 unfoldable pub report : Job → Histories → Report → List ℕ
 report job b r =
-    joined (head_lines job.deal ∷ lines (ledger_lines job.names job.deal) 0 b ∷ lines (party_line job.names job.conforming r.ended) 0 r.outcomes ∷ lines
+    joined (head_lines job.deal ∷ lines (ledger_report_text job.names job.deal) 0 b ∷ lines (party_line job.names job.conforming r.ended) 0 r.outcomes ∷ lines
     (λ _. finding_line job.names) 0 r.findings ∷ count_line (length r.findings) ∷ [])

@@ -6,7 +6,7 @@ ghost use Rattle.swap_io.specs.Handed.{Hands};
 ghost use Rattle.swap_digraph.specs.Deal.{IsWellSized};
 ghost use Rattle.escrow_core.specs.Terms.{stated_terms};
 ghost use Rattle.report_text.specs.Words.{comma_name, path_text, unlock_text, call_text, publish_text, sender_text as sender_of};
-ghost use Rattle.report_text.specs.Report.{what_line, entry_line};
+ghost use Rattle.report_text.specs.Report.{what_line, report_entry_line};
 ghost use Rattle.report_text.specs.Items.{item_line};
 
 use escrow_core::{Terms, stated_terms};
@@ -188,7 +188,7 @@ pub(crate) fn write_entries<K: Sink>(
     requires sized { IsWellSized deal.now }
     requires arc { number < length deal.now.graph.arcs }
     ensures { Hands (K.taken sink.old) (K.taken sink.new) (K.faults sink.old) (K.faults sink.new) out.old.items out.new.items
-        (lines (entry_line names.now (stated_terms deal.now number)) 0 entries.now) result }
+        (lines (report_entry_line names.now (stated_terms deal.now number)) 0 entries.now) result }
 {
     let correct = stated_terms(deal, number);
     let (items, _) = entries.parts();

@@ -7,7 +7,7 @@ ghost use Rattle.swap_digraph.specs.Deal.{IsWellSized, amount};
 ghost use Rattle.swap_digraph.specs.Graph.{ends};
 ghost use Rattle.ledger_core.specs.History.{IsLegal, accounts, height};
 ghost use Rattle.ledger_core.specs.Book.{IsLegalBook};
-ghost use Rattle.report_text.specs.Report.{ledger_head, ledger_end, ledger_lines};
+ghost use Rattle.report_text.specs.Report.{ledger_head, ledger_end, ledger_report_text};
 
 use crate::entries::write_entries;
 use ledger_core::{Accounts, Book, EntryList, history_accounts};
@@ -110,7 +110,7 @@ fn write_ledger<K: Sink>(
     requires arc { number < length deal.now.graph.arcs }
     requires legal { IsLegal deal.now number entries.now }
     ensures { Hands (K.taken sink.old) (K.taken sink.new) (K.faults sink.old) (K.faults sink.new) out.old.items out.new.items
-        (ledger_lines names.now deal.now number entries.now) result }
+        (ledger_report_text names.now deal.now number entries.now) result }
 {
     put_head(out, names, deal, number)?;
     write_entries(sink, out, names, deal, number, entries)?;
@@ -129,7 +129,7 @@ pub(crate) fn write_ledgers<K: Sink>(
     requires sized { IsWellSized deal.now }
     requires legal { IsLegalBook deal.now book.now.histories }
     ensures { Hands (K.taken sink.old) (K.taken sink.new) (K.faults sink.old) (K.faults sink.new) out.old.items out.new.items
-        (lines (ledger_lines names.now deal.now) 0 book.now.histories) result }
+        (lines (ledger_report_text names.now deal.now) 0 book.now.histories) result }
 {
     for (number, entries) in book.histories.as_slice().iter().enumerate() {
         write_ledger(sink, out, names, deal, number as ArcId, entries)?;

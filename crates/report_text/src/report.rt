@@ -8,7 +8,7 @@ ghost use Rattle.swap_io.specs.Handed.{AppendsPrefix, Hands};
 ghost use Rattle.swap_digraph.specs.Deal.{IsWellSized};
 ghost use Rattle.ledger_core.specs.Book.{IsLegalBook};
 ghost use Rattle.report_text.specs.Words.{mode_text as parse_mode};
-ghost use Rattle.report_text.specs.Report.{head_lines, ledger_lines, party_line, finding_line, count_line, report as to_text};
+ghost use Rattle.report_text.specs.Report.{head_lines, ledger_report_text, party_line, finding_line, count_line, report as to_text};
 
 use crate::findings::{put_count, put_parties, write_findings};
 use crate::ledgers::write_ledgers;
@@ -61,7 +61,7 @@ fn write_book<K: Sink>(
     requires sized { IsWellSized job.now.deal }
     requires legal { IsLegalBook job.now.deal book.now.histories }
     ensures { Hands (K.taken sink.old) (K.taken sink.new) (K.faults sink.old) (K.faults sink.new) out.old.items out.new.items
-        (lines (ledger_lines job.now.names job.now.deal) 0 book.now.histories) result }
+        (lines (ledger_report_text job.now.names job.now.deal) 0 book.now.histories) result }
 {
     write_ledgers(sink, out, job.names.as_slice(), &job.deal, book)
 }

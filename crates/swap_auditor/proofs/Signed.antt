@@ -18,7 +18,7 @@ use Rattle.ledger_core.specs.declared.entry.Entry.{Entry}
 use Rattle.ledger_core.specs.History.{height, published, settled, the_terms, is_open, is_full, history_reply, rows}
 use Rattle.ledger_core.specs.Known.{is_known_call}
 use Rattle.swap_auditor.specs.Replies.{is_after_check}
-use Rattle.swap_auditor.specs.Found.{IsSigned, IsTold, SharesLast}
+use Rattle.swap_auditor.specs.Found.{IsSigned, TellsSignatures, SharesLast}
 
 -- what is known of the one is known of the other
 pub shared_is_known : (n : ℕ) (d : Deal) (one other : Hashkey) → SharesLast n one other → IsSigned d other → is_last_signed n d one ≡ true
@@ -65,7 +65,7 @@ signed_by d a past p key e n =
     parts.1 parts.2)
 
 -- the reply of the table tells of the signatures of the hashkey that the call presents
-pub told : (d : Deal) (a : ℕ) (past : List Entry) (p : ℕ) (c : Call) (r : Reply) → r ≡ history_reply d a past p c → IsTold d c r
+pub told : (d : Deal) (a : ℕ) (past : List Entry) (p : ℕ) (c : Call) (r : Reply) → r ≡ history_reply d a past p c → TellsSignatures d c r
 told d a past p (Unlock key) r is = λ after. signed_by d a past p key (ap is_after_check (sym is) ∙ after)
 told d a past p (Publish t) r is = tt
 told d a past p Claim r is = tt

@@ -21,9 +21,9 @@ pub record SharesLast (n : ℕ) (one other : Hashkey) : Type 0 where
   pub sigs : drop (length one.sigs - n) one.sigs ≡ drop (length other.sigs - n) other.sigs
 
 -- the reply to a call that presents a hashkey tells of its signatures
-abbrev pub IsTold : Deal → Call → Reply → Type 0
-IsTold d (Unlock key) reply = is_after_check reply ≡ true → IsSigned d key
-IsTold d _ reply = Unit {0}
+abbrev pub TellsSignatures : Deal → Call → Reply → Type 0
+TellsSignatures d (Unlock key) reply = is_after_check reply ≡ true → IsSigned d key
+TellsSignatures d _ reply = Unit {0}
 
 -- What the object shows: the deal; and what holds of it.
 

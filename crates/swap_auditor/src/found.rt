@@ -4,7 +4,7 @@ ghost use Rattle.std.specs.Prelude.{◌≡◌, ◌≤◌, IsTrue, IfOk, length, 
 ghost use Rattle.swap_digraph.specs.Deal.{IsWellSized};
 ghost use Rattle.hashkey_path.specs.Known.{is_last_signed};
 ghost use Rattle.ledger_core.specs.Known.{is_known_call};
-ghost use Rattle.swap_auditor.specs.Found.{IsSigned, IsTold, SharesLast};
+ghost use Rattle.swap_auditor.specs.Found.{IsSigned, TellsSignatures, SharesLast};
 
 use crate::same_reply::is_after_check;
 use escrow_core::Reply;
@@ -130,7 +130,7 @@ impl Found {
     /// Keeps the hashkey of a call if the reply tells that its signatures are valid. The last
     /// `known` of them were known to be.
     pub(crate) fn note(&mut self, call: &Call, reply: Reply, known: usize) -> Result<(), NoMemory>
-        requires { IsTold self.old call.now reply }
+        requires { TellsSignatures self.old call.now reply }
         ensures { self.new ≡ self.old }
     {
         match call {

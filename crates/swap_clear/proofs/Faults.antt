@@ -15,7 +15,7 @@ use Rattle.swap_digraph.specs.Value.{Graph}
 use Rattle.swap_clear.specs.declared.proposed.Proposed.{Proposed}
 use Rattle.swap_clear.specs.declared.fault.ClearReason.{ClearReason}
 use Rattle.swap_clear.specs.declared.fault.ClearReason.TheVariants.{OutOfRange, SelfArc}
-use Rattle.swap_clear.specs.Proposals.{resolve_arc_ends, proposed_graph, to_offer_fault, first_proposal_fault, graph_unless, build_graph}
+use Rattle.swap_clear.specs.Proposals.{resolve_arc_ends, proposed_graph, proposal_fault, first_proposal_fault, graph_unless, proposals_graph}
 
 -- Sound arcs make a digraph.
 
@@ -59,7 +59,7 @@ tell_or : (o r : Option ArcFault) → tell (or_else o r) ≡ or_else (tell o) (t
 tell_or None r = refl
 tell_or (Some f) r = refl
 
-same_fault : (n : ℕ) (before : List ArcEnds) (k : ℕ) (p : Proposed) → to_offer_fault n k p ≡ tell (arc_fault n Two before k (resolve_arc_ends p))
+same_fault : (n : ℕ) (before : List ArcEnds) (k : ℕ) (p : Proposed) → proposal_fault n k p ≡ tell (arc_fault n Two before k (resolve_arc_ends p))
 unfolding arc_fault
 same_fault n before k p = go (nat_lt p.from n && nat_lt p.to n) (p.from == p.to)
   where
@@ -81,8 +81,8 @@ same_first n before k (p ∷ arcs) e =
     ∙ sym (tell_or (arc_fault n Two before (length before) (resolve_arc_ends p)) (next_arc_fault n Two (before ++ resolve_arc_ends p
     ∷ []) (map resolve_arc_ends arcs)))
 
-pub refused_so : (n : ℕ) (arcs : List Proposed) (f : ArcFault) → build_digraph n Two (map resolve_arc_ends arcs) ≡ Err f → build_graph n arcs ≡ Err (told f)
-unfolding build_graph build_digraph first_fault
+pub refused_so : (n : ℕ) (arcs : List Proposed) (f : ArcFault) → build_digraph n Two (map resolve_arc_ends arcs) ≡ Err f → proposals_graph n arcs ≡ Err (told f)
+unfolding proposals_graph build_digraph first_fault
 refused_so n arcs f e = go (next_arc_fault n Two [] (map resolve_arc_ends arcs)) (same_first n [] 0 arcs refl) e
   where
     go : (o : Option ArcFault) → first_proposal_fault n 0 arcs ≡ tell o → graph_or n (map resolve_arc_ends arcs) o ≡ Err f
@@ -92,8 +92,8 @@ refused_so n arcs f e = go (next_arc_fault n Two [] (map resolve_arc_ends arcs))
         let same : x ≡ f = cc h in
         ap (graph_unless (proposed_graph n arcs)) s ∙ ap (λ (y : ArcFault). Err (told y)) same
 
-pub accepted_so : (n : ℕ) (arcs : List Proposed) (g : Graph) → build_digraph n Two (map resolve_arc_ends arcs) ≡ Ok g → build_graph n arcs ≡ Ok g
-unfolding build_graph build_digraph first_fault
+pub accepted_so : (n : ℕ) (arcs : List Proposed) (g : Graph) → build_digraph n Two (map resolve_arc_ends arcs) ≡ Ok g → proposals_graph n arcs ≡ Ok g
+unfolding proposals_graph build_digraph first_fault
 accepted_so n arcs g e = go (next_arc_fault n Two [] (map resolve_arc_ends arcs)) (same_first n [] 0 arcs refl) e
   where
     go : (o : Option ArcFault) → first_proposal_fault n 0 arcs ≡ tell o → graph_or n (map resolve_arc_ends arcs) o ≡ Ok g

@@ -17,12 +17,12 @@ use Rattle.swap_clear.specs.declared.answer.Group.{Group}
 use Rattle.swap_clear.specs.declared.answer.Clearing.{Clearing}
 use Rattle.swap_clear.specs.declared.fault.ClearReason.{ClearReason}
 use Rattle.swap_clear.specs.declared.fault.ClearReason.TheVariants.{OutOfRange, SelfArc, TooManyLeaders}
-use Rattle.swap_clear.specs.Proposals.{resolve_arc_ends, proposed_graph, to_offer_fault, first_proposal_fault, graph_unless, build_graph}
+use Rattle.swap_clear.specs.Proposals.{resolve_arc_ends, proposed_graph, proposal_fault, first_proposal_fault, graph_unless, proposals_graph}
 use Rattle.swap_clear.specs.Groups.{all_left_out}
 use Rattle.swap_clear.specs.Leaders.{choose_leaders, order}
 use Rattle.swap_clear.specs.Led.{SoManyRemain}
 use Rattle.swap_clear.specs.Clearing.{add_group, cleared_components, cleared_groups}
-use Rattle.swap_clear.specs.Refused.{IsSound, IsFault}
+use Rattle.swap_clear.specs.Refused.{IsSoundArc, IsFault}
 use Rattle.swap_clear.proofs.Cleared.{sound}
 use Rattle.swap_clear.proofs.Leading.{lead_remain}
 use Rattle.swap_clear.proofs.Places.{own_has_ends}
@@ -36,7 +36,7 @@ at_place arcs i = get_or arcs i (record { from = 0; to = 0; amount = 0 })
 abbrev IsFine : ℕ → Proposed → Type 0
 IsFine n p = (p.from < n) × (p.to < n) × (p.from ≢ p.to)
 
-fine_of : (n k : ℕ) (p : Proposed) → to_offer_fault n k p ≡ None → IsFine n p
+fine_of : (n k : ℕ) (p : Proposed) → proposal_fault n k p ≡ None → IsFine n p
 fine_of n k p e = go (nat_lt p.from n) (nat_lt p.to n) (p.from == p.to) refl refl refl e
   where
     go : (f t s : Bool) → nat_lt p.from n ≡ f → nat_lt p.to n ≡ t → (p.from == p.to) ≡ s
@@ -51,7 +51,7 @@ record Faulty (n k : ℕ) (arcs : List Proposed) (reason : ClearReason) : Type 0
   pub place : ℕ
   pub stands : place < length arcs
   pub before : (a : ℕ) → a < place → IsFine n (at_place arcs a)
-  pub is : to_offer_fault n (k + place) (at_place arcs place) ≡ Some reason
+  pub is : proposal_fault n (k + place) (at_place arcs place) ≡ Some reason
 
 faulty_on : (n k : ℕ) (p : Proposed) (arcs : List Proposed) (reason : ClearReason) → IsFine n p → Faulty n (k + 1) arcs reason → Faulty n k (p ∷ arcs) reason
 faulty_on n k p arcs reason fine rest =
@@ -61,7 +61,7 @@ faulty_on n k p arcs reason fine rest =
       place = suc rest.place;
       stands = omega (arith, l);
       before = by_place;
-      is = ap (λ (j : ℕ). to_offer_fault n j (at_place arcs rest.place)) (sym sum) ∙ rest.is;
+      is = ap (λ (j : ℕ). proposal_fault n j (at_place arcs rest.place)) (sym sum) ∙ rest.is;
     }
   where
     by_place : (a : ℕ) → a < suc rest.place → IsFine n (at_place (p ∷ arcs) a)
@@ -71,9 +71,9 @@ faulty_on n k p arcs reason fine rest =
 faulty : (n k : ℕ) (arcs : List Proposed) (reason : ClearReason) → first_proposal_fault n k arcs ≡ Some reason → Faulty n k arcs reason
 unfolding first_proposal_fault
 faulty n k [] reason e = absurd (cc e)
-faulty n k (p ∷ arcs) reason e = go (to_offer_fault n k p) refl e (faulty n (k + 1) arcs reason)
+faulty n k (p ∷ arcs) reason e = go (proposal_fault n k p) refl e (faulty n (k + 1) arcs reason)
   where
-    go : (o : Option ClearReason) → to_offer_fault n k p ≡ o → or_else o (first_proposal_fault n (k + 1) arcs) ≡ Some reason
+    go : (o : Option ClearReason) → proposal_fault n k p ≡ o → or_else o (first_proposal_fault n (k + 1) arcs) ≡ Some reason
         → (first_proposal_fault n (k + 1) arcs ≡ Some reason → Faulty n (k + 1) arcs reason) → Faulty n k (p ∷ arcs) reason
     go None f h rest = faulty_on n k p arcs reason (fine_of n k p f) (rest h)
     go (Some x) f h rest =
@@ -82,12 +82,12 @@ faulty n k (p ∷ arcs) reason e = go (to_offer_fault n k p) refl e (faulty n (k
           place = 0;
           stands = omega arith;
           before = λ a lt. absurd (omega (arith, lt));
-          is = ap (λ (j : ℕ). to_offer_fault n j p) zeroth ∙ f ∙ h;
+          is = ap (λ (j : ℕ). proposal_fault n j p) zeroth ∙ f ∙ h;
         }
 
 arc_fault : (n k : ℕ) (g : Graph) (reason : ClearReason) (p : Proposed) → g.n ≡ n → ends g k ≡ resolve_arc_ends p → k < length g.arcs → ((a : ℕ) → a < k
-    → IsSound g a)
-    → to_offer_fault n k p ≡ Some reason → IsFault g reason
+    → IsSoundArc g a)
+    → proposal_fault n k p ≡ Some reason → IsFault g reason
 arc_fault n k g reason p size same lt before e = go (nat_lt p.from n) (nat_lt p.to n) (p.from == p.to) refl refl refl e
   where
     from : (ends g k).from ≡ p.from
@@ -115,14 +115,14 @@ arc_fault n k g reason p size same lt before e = go (nat_lt p.from n) (nat_lt p.
         let is : OutOfRange k ≡ reason = cc h in
         subst (IsFault g) is (lt, inl (high (ends g k).from p.from n from (ltb-false p.from n a) refl), before)
 
-pub graph_refused : (n : ℕ) (arcs : List Proposed) (reason : ClearReason) → build_graph n arcs ≡ Err reason → IsFault (proposed_graph n arcs) reason
-unfolding build_graph
+pub graph_refused : (n : ℕ) (arcs : List Proposed) (reason : ClearReason) → proposals_graph n arcs ≡ Err reason → IsFault (proposed_graph n arcs) reason
+unfolding proposals_graph
 graph_refused n arcs reason e = go (first_proposal_fault n 0 arcs) refl e
   where
     at_ends : (i : ℕ) → i < length arcs → ends (proposed_graph n arcs) i ≡ resolve_arc_ends (at_place arcs i)
     at_ends i lt = get_or-map resolve_arc_ends arcs i (record { from = 0; to = 0; amount = 0 }) (record { from = 0; to = 0 }) lt
 
-    sound_at : (i : ℕ) → i < length arcs → IsFine n (at_place arcs i) → IsSound (proposed_graph n arcs) i
+    sound_at : (i : ℕ) → i < length arcs → IsFine n (at_place arcs i) → IsSoundArc (proposed_graph n arcs) i
     sound_at i lt fine = subst (λ (x : ArcEnds). (x.from < n) × (x.to < n) × (x.from ≢ x.to)) (sym (at_ends i lt)) fine
 
     go : (o : Option ClearReason) → first_proposal_fault n 0 arcs ≡ o → graph_unless (proposed_graph n arcs) o ≡ Err reason
@@ -135,7 +135,7 @@ graph_refused n arcs reason e = go (first_proposal_fault n 0 arcs) refl e
         let long : length (map resolve_arc_ends arcs) ≡ length arcs = length-map arcs resolve_arc_ends in
         let zeroth : 0 + k.place ≡ k.place = omega arith in
         arc_fault n k.place (proposed_graph n arcs) reason (at_place arcs k.place) refl (at_ends k.place l) (omega (arith, l, long))
-        (λ a lt. sound_at a (omega (arith, lt, l)) (k.before a lt)) (ap (λ (j : ℕ). to_offer_fault n j (at_place arcs k.place)) (sym zeroth) ∙ k.is)
+        (λ a lt. sound_at a (omega (arith, lt, l)) (k.before a lt)) (ap (λ (j : ℕ). proposal_fault n j (at_place arcs k.place)) (sym zeroth) ∙ k.is)
 
 -- The groups are refused for too many leaders alone, at the first group that has them.
 
@@ -268,7 +268,7 @@ groups_refused g reason has e = many_fault g reason has (steps_refused g g.n 0 [
 
 pub clearing_refused : (n : ℕ) (arcs : List Proposed) (reason : ClearReason) → cleared_groups n arcs ≡ Err reason → IsFault (proposed_graph n arcs) reason
 unfolding cleared_groups
-clearing_refused n arcs reason e = by_graph (build_graph n arcs) refl e
+clearing_refused n arcs reason e = by_graph (proposals_graph n arcs) refl e
   where
     by_groups : (g : Graph) → g ≡ proposed_graph n arcs → HasEnds (proposed_graph n arcs) → (r : Result (List Group) ClearReason) → cleared_components g ≡ r
         → ◌≡◌ {A = Result Clearing ClearReason} (r >>= λ groups. Ok (record { left_out = all_left_out g; groups = groups })) (Err reason)
@@ -278,7 +278,7 @@ clearing_refused n arcs reason e = by_graph (build_graph n arcs) refl e
         let same : other ≡ reason = cc h in
         groups_refused (proposed_graph n arcs) reason has (ap cleared_components (sym is) ∙ made ∙ ap (λ (x : ClearReason). Err x) same)
 
-    by_graph : (r : Result Graph ClearReason) → build_graph n arcs ≡ r
+    by_graph : (r : Result Graph ClearReason) → proposals_graph n arcs ≡ r
         → ◌≡◌ {A = Result Clearing ClearReason} (r >>= λ g. cleared_components g >>= λ groups. Ok (record { left_out = all_left_out g; groups = groups }))
         (Err reason)
         → IsFault (proposed_graph n arcs) reason

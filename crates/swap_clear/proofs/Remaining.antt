@@ -13,7 +13,7 @@ use Rattle.swap_digraph.specs.Graph.{parties, arcs, ends, has_arc, is_listed, ar
 use Rattle.swap_digraph.proofs.Paths.{is_listed-true, in-is_listed, path_below}
 use Rattle.leader_check.specs.Cycles.{follower_cycle, traced_cycle}
 use Rattle.leader_check.proofs.Walks.{none_feedback, feedback_none, none_meets}
-use Rattle.swap_clear.specs.Leaders.{touching, touched_arcs, order, other_leaders, breaks, tried, remaining}
+use Rattle.swap_clear.specs.Leaders.{touching_count, touched_arcs, order, other_leaders, breaks, tried, remaining}
 use Rattle.swap_clear.specs.Led.{IsTriedEarlier, IsInOrder, IsOrder, Remain}
 use Rattle.swap_clear.proofs.Cyclic.{true_false, not_it, never}
 
@@ -48,23 +48,23 @@ from_flat f (x ∷ xs) y i = go (from_append (f x) (flat_map f xs) y i) (from_fl
 module _ (g : Graph) where
   -- The order of trying.
 
-  touched_rises : (k a n : ℕ) → IsInOrder g (filter (λ v. touching g v == k) (range_with_len a n))
+  touched_rises : (k a n : ℕ) → IsInOrder g (filter (λ v. touching_count g v == k) (range_with_len a n))
   touched_rises k a zero = tt
-  touched_rises k a (suc n) = go (touching g a == k) refl (touched_rises k (a + 1) n)
+  touched_rises k a (suc n) = go (touching_count g a == k) refl (touched_rises k (a + 1) n)
     where
       rest : List ℕ
-      rest = filter (λ v. touching g v == k) (range_with_len (a + 1) n)
+      rest = filter (λ v. touching_count g v == k) (range_with_len (a + 1) n)
 
-      go : (b : Bool) → (touching g a == k) ≡ b → IsInOrder g (filter (λ v. touching g v == k) (range_with_len (a + 1) n))
-          → IsInOrder g (cond b (a ∷ filter (λ v. touching g v == k) (range_with_len (a + 1) n)) (filter (λ v. touching g v == k) (range_with_len (a + 1) n)))
+      go : (b : Bool) → (touching_count g a == k) ≡ b → IsInOrder g (filter (λ v. touching_count g v == k) (range_with_len (a + 1) n))
+          → IsInOrder g (cond b (a ∷ filter (λ v. touching_count g v == k) (range_with_len (a + 1) n)) (filter (λ v. touching_count g v == k) (range_with_len (a + 1) n)))
       go false e r = r
       go true e r = (
         λ v i.
-            let f = from_filter (λ w. touching g w == k) v (range_with_len (a + 1) n) i in
+            let f = from_filter (λ w. touching_count g w == k) v (range_with_len (a + 1) n) i in
             let m = from_range_from (a + 1) v n f.0 in
             let l = m.0 in
             let above : a < v = omega (arith, l) in
-            inr (eqb-true (touching g a) k e ∙ sym (eqb-true (touching g v) k f.1), above),
+            inr (eqb-true (touching_count g a) k e ∙ sym (eqb-true (touching_count g v) k f.1), above),
         r,
       )
 
@@ -79,16 +79,16 @@ module _ (g : Graph) where
   in_order_of k zero = tt
   in_order_of k (suc m) =
       order_append (touched_arcs g k) (flat_map (touched_arcs g) (range_with_len (k + 1) m)) (touched_rises k 0 g.n) (in_order_of (k + 1) m) (λ x y i j.
-      let f = from_filter (λ w. touching g w == k) x (parties g) i in
+      let f = from_filter (λ w. touching_count g w == k) x (parties g) i in
       let n = from_flat (touched_arcs g) (range_with_len (k + 1) m) y j in
       let r = from_range_from (k + 1) n.0 m n.1 in
-      let h = from_filter (λ w. touching g w == n.0) y (parties g) n.2 in
-      let mine = eqb-true (touching g x) k f.1 in
-      let other = eqb-true (touching g y) n.0 h.1 in
+      let h = from_filter (λ w. touching_count g w == n.0) y (parties g) n.2 in
+      let mine = eqb-true (touching_count g x) k f.1 in
+      let other = eqb-true (touching_count g y) n.0 h.1 in
       let low = r.0 in
       inl (omega (arith, mine, other, low)))
 
-  touching_few : HasEnds g → (v : ℕ) → touching g v ≤ length g.arcs
+  touching_few : HasEnds g → (v : ℕ) → touching_count g v ≤ length g.arcs
   touching_few has v =
       let t = two_filters (λ a. (ends g a).to == v) (λ a. (ends g a).from == v) (arcs g) (λ a i e f.
       has.apart a (from_range a (length g.arcs) i) (eqb-true (ends g a).from v f ∙ sym (eqb-true (ends g a).to v e))) in
@@ -101,12 +101,12 @@ module _ (g : Graph) where
     parties = λ v. (
       λ i.
           let m = from_flat (touched_arcs g) (range_with_len 0 (length g.arcs + 1)) v (is_listed-true v (order g) i) in
-          from_range v g.n (from_filter (λ w. touching g w == m.0) v (parties g) m.2).0,
+          from_range v g.n (from_filter (λ w. touching_count g w == m.0) v (parties g) m.2).0,
       λ lt.
           let few = touching_few has v in
-          in-is_listed v (order g) (in_flat_map (touched_arcs g) (range_with_len 0 (length g.arcs + 1)) (touching g v) v
-          (in_range (touching g v) (length g.arcs + 1) (omega (arith, few)))
-          (in_filter (λ w. touching g w == touching g v) v (parties g) (in_range v g.n lt) (eq-eqb (touching g v) (touching g v) refl))),
+          in-is_listed v (order g) (in_flat_map (touched_arcs g) (range_with_len 0 (length g.arcs + 1)) (touching_count g v) v
+          (in_range (touching_count g v) (length g.arcs + 1) (omega (arith, few)))
+          (in_filter (λ w. touching_count g w == touching_count g v) v (parties g) (in_range v g.n lt) (eq-eqb (touching_count g v) (touching_count g v) refl))),
     );
     in_order = in_order_of 0 (length g.arcs + 1);
   }

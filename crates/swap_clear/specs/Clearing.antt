@@ -10,7 +10,7 @@ use Rattle.swap_clear.specs.declared.answer.Group.{Group}
 use Rattle.swap_clear.specs.declared.answer.Clearing.{Clearing}
 use Rattle.swap_clear.specs.declared.fault.ClearReason.{ClearReason}
 use Rattle.swap_clear.specs.declared.fault.ClearReason.TheVariants.{TooManyLeaders}
-use Rattle.swap_clear.specs.Proposals.{build_graph}
+use Rattle.swap_clear.specs.Proposals.{proposals_graph}
 use Rattle.swap_clear.specs.Groups.{all_left_out, strong_component, inner_arcs, find_party, own_graph}
 use Rattle.swap_clear.specs.Leaders.{choose_leaders, party_cycle}
 
@@ -56,4 +56,4 @@ cleared_components g = steps (add_group g) [] (parties g)
 
 -- what is left out and the groups, or the first reason against the proposals
 unfoldable pub cleared_groups : ℕ → List Proposed → Result Clearing ClearReason
-cleared_groups n arcs = build_graph n arcs >>= λ g. cleared_components g >>= λ groups. Ok (record { left_out = all_left_out g; groups = groups })
+cleared_groups n arcs = proposals_graph n arcs >>= λ g. cleared_components g >>= λ groups. Ok (record { left_out = all_left_out g; groups = groups })

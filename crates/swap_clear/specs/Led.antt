@@ -9,7 +9,7 @@ use Rattle.time_bounds.specs.Times.{need}
 use Rattle.leader_check.specs.Cycles.{IsShortestFollowerCycle}
 use Rattle.swap_clear.specs.declared.answer.Group.{Group}
 use Rattle.swap_clear.specs.Groups.{place, own_graph}
-use Rattle.swap_clear.specs.Leaders.{touching, other_leaders}
+use Rattle.swap_clear.specs.Leaders.{touching_count, other_leaders}
 
 -- the group's own digraph
 abbrev pub own : Graph → Group → Graph
@@ -21,7 +21,7 @@ own_leaders group = map (place group.parties) group.leaders
 
 -- u is tried before v: fewer arcs touch it, or as many and its number is less.
 abbrev pub IsTriedEarlier : Graph → ℕ → ℕ → Type 0
-IsTriedEarlier g u v = (touching g u < touching g v) ⊎ ((touching g u ≡ touching g v) × (u < v))
+IsTriedEarlier g u v = (touching_count g u < touching_count g v) ⊎ ((touching_count g u ≡ touching_count g v) × (u < v))
 
 -- Each of the list is tried before those after it.
 abbrev pub IsInOrder : Graph → List ℕ → Type 0

@@ -15,8 +15,8 @@ abbrev pub proposed_graph : ℕ → List Proposed → Graph
 proposed_graph n arcs = record { n = n; arcs = map resolve_arc_ends arcs }
 
 -- the first fault of proposal k
-abbrev pub to_offer_fault : ℕ → ℕ → Proposed → Option ClearReason
-to_offer_fault n k p =
+abbrev pub proposal_fault : ℕ → ℕ → Proposed → Option ClearReason
+proposal_fault n k p =
     if not (nat_lt p.from n && nat_lt p.to n) then Some (OutOfRange k)
     else if p.from == p.to then Some (SelfArc k)
     else None
@@ -24,11 +24,11 @@ to_offer_fault n k p =
 -- the first fault of the least proposal that has one, by number from k on
 unfoldable pub first_proposal_fault : ℕ → ℕ → List Proposed → Option ClearReason
 first_proposal_fault n k [] = None
-first_proposal_fault n k (p ∷ arcs) = or_else (to_offer_fault n k p) (first_proposal_fault n (k + 1) arcs)
+first_proposal_fault n k (p ∷ arcs) = or_else (proposal_fault n k p) (first_proposal_fault n (k + 1) arcs)
 
 abbrev pub graph_unless : Graph → Option ClearReason → Result Graph ClearReason
 graph_unless g None = Ok g
 graph_unless g (Some reason) = Err reason
 
-unfoldable pub build_graph : ℕ → List Proposed → Result Graph ClearReason
-build_graph n arcs = graph_unless (proposed_graph n arcs) (first_proposal_fault n 0 arcs)
+unfoldable pub proposals_graph : ℕ → List Proposed → Result Graph ClearReason
+proposals_graph n arcs = graph_unless (proposed_graph n arcs) (first_proposal_fault n 0 arcs)

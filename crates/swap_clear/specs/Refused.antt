@@ -11,8 +11,8 @@ use Rattle.swap_clear.specs.declared.fault.ClearReason.{ClearReason}
 use Rattle.swap_clear.specs.declared.fault.ClearReason.TheVariants.{OutOfRange, SelfArc, TooManyLeaders}
 
 -- Both ends of the arc are parties, and it leads from one to another.
-abbrev pub IsSound : Graph → ℕ → Type 0
-IsSound g a = ((ends g a).from < g.n) × ((ends g a).to < g.n) × ((ends g a).from ≢ (ends g a).to)
+abbrev pub IsSoundArc : Graph → ℕ → Type 0
+IsSoundArc g a = ((ends g a).from < g.n) × ((ends g a).to < g.n) × ((ends g a).from ≢ (ends g a).to)
 
 -- the own digraph of the group of v
 abbrev pub own_group_graph : Graph → ℕ → Graph
@@ -36,9 +36,9 @@ pub record IsTooMany (g : Graph) (group count : ℕ) : Type 0 where
 -- The arc has that fault: an end that is no party, or else one party at both ends. Too many leaders
 -- are of a digraph whose arcs are sound.
 abbrev pub IsFault : Graph → ClearReason → Type 0
-IsFault g (OutOfRange k) = (k < length g.arcs) × ((g.n ≤ (ends g k).from) ⊎ (g.n ≤ (ends g k).to)) × ((a : ℕ) → a < k → IsSound g a)
-IsFault g (SelfArc k) = (k < length g.arcs) × ((ends g k).from < g.n) × ((ends g k).from ≡ (ends g k).to) × ((a : ℕ) → a < k → IsSound g a)
-IsFault g (TooManyLeaders group count) = IsTooMany g group count × ((a : ℕ) → a < length g.arcs → IsSound g a)
+IsFault g (OutOfRange k) = (k < length g.arcs) × ((g.n ≤ (ends g k).from) ⊎ (g.n ≤ (ends g k).to)) × ((a : ℕ) → a < k → IsSoundArc g a)
+IsFault g (SelfArc k) = (k < length g.arcs) × ((ends g k).from < g.n) × ((ends g k).from ≡ (ends g k).to) × ((a : ℕ) → a < k → IsSoundArc g a)
+IsFault g (TooManyLeaders group count) = IsTooMany g group count × ((a : ℕ) → a < length g.arcs → IsSoundArc g a)
 
 -- What holds of the reason, where the fault has one.
 abbrev pub IfRefused : Fault ClearReason → (ClearReason → Type 0) → Type 0

@@ -16,7 +16,7 @@ use crate::answer::Clearing;
 use crate::fault::ClearFault;
 use crate::groups::groups;
 use crate::left_out::left_out;
-use crate::proposals::build_graph;
+use crate::proposals::proposals_graph;
 use crate::proposed::Proposed;
 use crate::reach::reach_rows;
 use std::alloc::Global;
@@ -28,7 +28,7 @@ fn cleared(alloc: Global, n: u8, arcs: &[Proposed]) -> Result<Clearing, ClearFau
     requires arcs { length arcs.now ≤ 128 }
     ensures { Gives (λ c. c) result (cleared_groups n arcs.now) }
 {
-    let graph = build_graph(alloc, n, arcs)?;
+    let graph = proposals_graph(alloc, n, arcs)?;
     let rows = reach_rows(alloc, &graph)?;
     let left_out = left_out(alloc, &graph, &rows)?;
     let groups = groups(alloc, &graph, &rows)?;

@@ -3,7 +3,7 @@
 ghost use Rattle.std.specs.Prelude.{◌≡◌, ◌≤◌, length, map, IfOk};
 ghost use Rattle.swap_base.specs.Fault.{Gives};
 ghost use Rattle.swap_digraph.specs.Graph.{HasEnds};
-ghost use Rattle.swap_clear.specs.Proposals.{resolve_arc_ends, proposed_graph, build_graph};
+ghost use Rattle.swap_clear.specs.Proposals.{resolve_arc_ends, proposed_graph, proposals_graph};
 
 use crate::fault::{ClearFault, ClearReason};
 use crate::proposed::Proposed;
@@ -26,9 +26,9 @@ fn all_ends(alloc: Global, arcs: &[Proposed]) -> Result<Vec<ArcEnds>, NoMemory>
 }
 
 /// The digraph of the proposals, or the first fault of the least that has one.
-pub fn build_graph(alloc: Global, n: u8, arcs: &[Proposed]) -> Result<Digraph, ClearFault>
+pub fn proposals_graph(alloc: Global, n: u8, arcs: &[Proposed]) -> Result<Digraph, ClearFault>
     requires few { length arcs.now ≤ 128 }
-    ensures exact { Gives (λ g. g) result (build_graph n arcs.now) }
+    ensures exact { Gives (λ g. g) result (proposals_graph n arcs.now) }
     ensures graph { IfOk result (λ g. (g ≡ proposed_graph n arcs.now) × HasEnds g) }
 {
     let ends = all_ends(alloc, arcs)?;

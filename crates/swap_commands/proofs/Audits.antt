@@ -5,27 +5,27 @@ use Rattle.swap_io.specs.Handed.{AppendsPrefix}
 use Rattle.refusals.specs.declared.refusal.Refusal.{Refusal}
 use Rattle.refusals.specs.Refusal.{refusal}
 use Rattle.audit_command.specs.Output.{audit_output}
-use Rattle.audit_command.specs.Says.{AuditSays, HasAnswer, HasAuditOutput}
+use Rattle.audit_command.specs.Says.{AuditSays, HasAuditAnswer, HasAuditOutput}
 use Rattle.command_input.specs.declared.status.Status.{Status}
 use Rattle.command_input.specs.declared.status.Status.TheVariants.{Done, Named, WrongWords, Refused, ReadFault, WriteFault, NoMemory, TooLong}
 use Rattle.command_input.specs.Streams.{streams}
 use Rattle.swap_world.specs.Gone.{MayGive}
 use Rattle.command_input.specs.Written.{IsWrittenWhole, Written}
-use Rattle.swap_commands.specs.Output.{by_reason, refusal_names, names_told, no_chance, output_given_chance}
-use Rattle.swap_commands.specs.Says.{HasOutput, HasRead, Says}
+use Rattle.swap_commands.specs.Output.{reason_alone, refusal_names, names_told, no_chance, output_given_chance}
+use Rattle.swap_commands.specs.Says.{HasOutput, HasRead, StatusSays}
 use Rattle.swap_commands.specs.Words.{Audit}
 use Rattle.swap_commands.specs.Strategies.{strategies}
 
 module _ (has : List ℕ → Bool) (gives : MayGive) where
-  gives_by : (input : List ℕ) (output : Result Written Refusal) → audit_output input ≡ output → output_given_chance has no_chance Audit input ≡ by_reason output
+  gives_by : (input : List ℕ) (output : Result Written Refusal) → audit_output input ≡ output → output_given_chance has no_chance Audit input ≡ reason_alone output
   unfolding output_given_chance
-  gives_by input output e = ap by_reason e
+  gives_by input output e = ap reason_alone e
 
   named_by : (input : List ℕ) (refusal : Refusal) → audit_output input ≡ Err refusal → refusal.names ≡ refusal_names has Audit input
   unfolding refusal_names
   named_by input refusal e = sym (ap names_told e)
 
-  abbrev read_by : (a b : Option (List ℕ)) (output : Result Written Refusal) → HasAnswer a b output → HasRead has no_chance Audit a b (by_reason output)
+  abbrev read_by : (a b : Option (List ℕ)) (output : Result Written Refusal) → HasAuditAnswer a b output → HasRead has no_chance Audit a b (reason_alone output)
   read_by a b output r = record {
     input = r.input;
     taken = r.taken;
@@ -52,7 +52,7 @@ module _ (has : List ℕ → Bool) (gives : MayGive) where
   short a b taken taken' o = written_by (λ w. AppendsPrefix taken taken' w.text) (λ w. AppendsPrefix taken taken' w.text) (λ w x. x) a b o
 
   pub says_audit : (a b : Option (List ℕ)) (n m : ℕ) (taken taken' : Option (List ℕ)) (p q : ℕ) (s : Status)
-      → AuditSays (streams a n taken p) (streams b m taken' q) s → Says (strategies has gives) Audit (streams a n taken p) (streams b m taken' q) s
+      → AuditSays (streams a n taken p) (streams b m taken' q) s → StatusSays (strategies has gives) Audit (streams a n taken p) (streams b m taken' q) s
   says_audit a b n m taken taken' p q Done s = written_by (IsWrittenWhole taken taken' false) (IsWrittenWhole taken taken' false) (λ w x. x) a b s
   says_audit a b n m taken taken' p q Named s = written_by (IsWrittenWhole taken taken' true) (IsWrittenWhole taken taken' true) (λ w x. x) a b s
   says_audit a b n m taken taken' p q WrongWords s = absurd s

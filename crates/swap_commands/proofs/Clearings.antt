@@ -12,8 +12,8 @@ use Rattle.clear_line.specs.ClearedText.{cleared_line, IsClearedLine}
 use Rattle.swap_commands.specs.Cleared.{IsCleared, IsFurther}
 use Rattle.command_input.specs.Faults.{named_fault, of_offer}
 use Rattle.command_input.specs.Input.{At, Desk, Ends, GivesLine, IsLast, IsLine, Stops, Tells, ahead, desk, fresh}
-use Rattle.swap_commands.specs.Output.{alone, clear_output, refusal_names, no_chance, output_given_chance, plain_text, wish_lines_output}
-use Rattle.swap_commands.specs.Says.{IsCommandRefusal, Says}
+use Rattle.swap_commands.specs.Output.{refuse_further_line, clear_output, refusal_names, no_chance, output_given_chance, plain_text, wish_lines_output}
+use Rattle.swap_commands.specs.Says.{IsCommandRefusal, StatusSays}
 use Rattle.command_input.specs.declared.fault.InputFault.{InputFault}
 use Rattle.command_input.specs.declared.fault.InputFault.TheVariants.{Refused}
 use Rattle.swap_commands.specs.Words.{Clear}
@@ -23,7 +23,7 @@ use Rattle.swap_commands.proofs.Reading.{set_contains_ends}
 use Rattle.swap_commands.proofs.Saying.{says_written}
 use Rattle.swap_commands.specs.Strategies.{strategies}
 use Rattle.command_input.proofs.Streams.{can_come, last_run, line_of, no_memory_after, stops_same}
-use Rattle.command_input.specs.Written.{Writes}
+use Rattle.command_input.specs.Written.{StatusWrites}
 use Rattle.command_input.specs.Streams.{streams}
 
 -- ---- what is written, by the lines of an input
@@ -39,7 +39,7 @@ line_clears : (n : ℕ) (t text : List ℕ) → IsClearedLine n t text → clear
 unfolding cleared_line
 line_clears n t text c = rw (c.is_read, c.shown) refl
 
-further_fails : (n : ℕ) (t text : List ℕ) (ls : List (ℕ × List ℕ)) (reason : Reason) → cleared_line n t ≡ Ok text → alone ls ≡ Err reason
+further_fails : (n : ℕ) (t text : List ℕ) (ls : List (ℕ × List ℕ)) (reason : Reason) → cleared_line n t ≡ Ok text → refuse_further_line ls ≡ Err reason
     → wish_lines_output ((n, t) ∷ ls) ≡ Err reason
 further_fails n t text ls reason h e = rw (h, e) refl
 
@@ -113,8 +113,8 @@ module _ (has : List ℕ → Bool) where
   -- ---- what the command says
 
   pub says_clear : (may : MayGive) (left left' : Option (List ℕ)) (n m : ℕ) (taken taken' : Option (List ℕ)) (p q : ℕ) (now : At) (text : List ℕ)
-      (status : Status) (e : Ends (λ bytes. IsCleared bytes text) (desk left n fresh) (desk left' m now)) → Writes taken taken' p q (plain_text text) status
-      → Says (strategies has may) Clear (streams left n taken p) (streams left' m taken' q) status
+      (status : Status) (e : Ends (λ bytes. IsCleared bytes text) (desk left n fresh) (desk left' m now)) → StatusWrites taken taken' p q (plain_text text) status
+      → StatusSays (strategies has may) Clear (streams left n taken p) (streams left' m taken' q) status
   says_clear may left left' n m taken taken' p q now text status e w =
       says_written has may no_chance Clear left left' n m taken taken' p q (plain_text text)
       (record {
@@ -136,7 +136,7 @@ further_stops more s t fault some given is =
       bytes = p.bytes;
       stands = p.stands;
       can = λ rest can. can_come s.at (p.bytes ++ rest) p.open_yet;
-      told = λ rest can. (ap alone (p.first rest can), refl);
+      told = λ rest can. (ap refuse_further_line (p.first rest can), refl);
     } in
     subst (λ (f : InputFault Refusal). Stops (IsFurther s.at) s t f) (sym is) told
 

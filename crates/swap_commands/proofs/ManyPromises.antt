@@ -18,7 +18,7 @@ use Rattle.swap_many.specs.declared.place.Place.{Place}
 use Rattle.swap_many.specs.Chains.{Setup, book}
 use Rattle.swap_many.specs.Many.{Run, many_finish, many_start}
 use Rattle.swap_many.specs.Kept.{Kept, kept_finish, kept_run, kept_start}
-use Rattle.swap_many.specs.Laws.{CanCome, Follows, IsReady}
+use Rattle.swap_many.specs.Laws.{CanCome, Follows, IsReadySetup}
 use Rattle.swap_many.specs.Value.{AreUnitsPlaced}
 use Rattle.swap_many.proofs.Follow.{books_are_kept, runs_follow}
 use Rattle.swap_many.proofs.Finish.{many_finishes_end}
@@ -39,7 +39,7 @@ record Holds (m : Setup) (r : Run) (z : Kept) : Type 0 where
   pub kept : (s : ℕ) → s < m.swaps → IsKept (m.cast s) (book m r.chains s)
   pub units : AreUnitsPlaced m r
 
-module _ (m : Setup) (events : List ManyEvent) (ready : IsReady m) (can : All (CanCome m) events) where
+module _ (m : Setup) (events : List ManyEvent) (ready : IsReadySetup m) (can : All (CanCome m) events) where
   all_holds : (finish : Finish) → Holds m (finished_run finish m events) (kept_after_finish finish m (kept_run m events))
   all_holds Stop = record {
     follows = (runs_follow m events ready can).0;
@@ -60,7 +60,7 @@ without_answers : (c : Cast) (g : Answers) (b : Histories) → IsKept (with_answ
 without_answers c g b k = record { legal = k.legal; conducted = k.conducted }
 
 module _ (many : ManyJob) (g : ℕ → Answers) (places : List (List Place)) (events : List ManyEvent) (swaps : AreSwaps many)
-    (ready : IsReady (setup_with_answers g many places)) (can : All (CanCome (setup_with_answers g many places)) events) (finish : Finish) where
+    (ready : IsReadySetup (setup_with_answers g many places)) (can : All (CanCome (setup_with_answers g many places)) events) (finish : Finish) where
   pub are_promised : AreManyPromised many (setup_with_answers g many places) (finished_run finish (setup_with_answers g many places) events) (many_state g many places finish events)
   are_promised =
       let m : Setup = setup_with_answers g many places in

@@ -6,14 +6,14 @@ use Rattle.command_input.proofs.Streams.{can_come, stops_as, stops_same}
 use Rattle.swap_job.specs.declared.job.Finish.{Finish}
 use Rattle.refusals.specs.declared.reason.Reason.{Reason}
 use Rattle.refusals.specs.declared.refusal.Refusal.{Refusal}
-use Rattle.command_input.specs.Written.{Writes, Written}
+use Rattle.command_input.specs.Written.{StatusWrites, Written}
 use Rattle.command_input.specs.Lines.{collect_lines, filled_lines}
 use Rattle.swap_run.specs.Asked.{Answers}
 use Rattle.swap_world.specs.Gone.{MayGive, HasAsked}
 use Rattle.swap_world.specs.Value.{WorldState, world_answers, new_world}
 use Rattle.swap_many.specs.Chains.{Setup}
 use Rattle.swap_many.specs.Kept.{Kept, kept_step}
-use Rattle.swap_many.specs.Value.{AreSame, HasManyGone, ManyState, kept_state, nth_world}
+use Rattle.swap_many.specs.Value.{AreSame, HasManyGone, ManyState, many_kept, nth_world}
 use Rattle.swap_many.specs.declared.many_event.ManyEvent.{ManyEvent}
 use Rattle.swap_many.specs.declared.place.Place.{Place}
 use Rattle.swap_many.proofs.Gone.{gone_then}
@@ -24,9 +24,9 @@ use Rattle.many_lines.specs.declared.many_job.ManyJob.{ManyJob}
 use Rattle.command_input.specs.Input.{At, CanBeLeft, Desk, Ends, Stops, ahead, desk, fresh}
 use Rattle.swap_commands.specs.Many.{Headed, kept_after_finish, events_told, headed, many_of_lines, many_output, many_state, many_written, opened_places}
 use Rattle.swap_commands.specs.ManyRead.{AreRun, IsHeading, IsManyPlayed, new_worlds, places_after_events}
-use Rattle.swap_commands.specs.Output.{AreGiven, by_many, by_reason, refusal_names, names_told, output_given_chance}
+use Rattle.swap_commands.specs.Output.{AreGiven, by_many, reason_alone, refusal_names, names_told, output_given_chance}
 use Rattle.swap_commands.specs.Promised.{IsManyRun}
-use Rattle.swap_commands.specs.Says.{IsCommandRefusal, Says}
+use Rattle.swap_commands.specs.Says.{IsCommandRefusal, StatusSays}
 use Rattle.command_input.specs.declared.fault.InputFault.{InputFault}
 use Rattle.command_input.specs.declared.status.Status.{Status}
 use Rattle.command_input.specs.Streams.{streams}
@@ -69,27 +69,27 @@ module _ (has : List ℕ → Bool) where
       go (Err other) is = let same : other ≡ r = cc is in ap (λ (x : Refusal). let w : Result Written Refusal = Err x in w) same
 
   -- a reason doesn't depend on what strategies answer
-  pub many_fails_by : (g : ℕ → Answers) (bytes : List ℕ) (reason : Reason) → by_reason (many_output has none bytes) ≡ Err reason
-      → by_reason (many_output has g bytes) ≡ Err reason
+  pub many_fails_by : (g : ℕ → Answers) (bytes : List ℕ) (reason : Reason) → reason_alone (many_output has none bytes) ≡ Err reason
+      → reason_alone (many_output has g bytes) ≡ Err reason
   many_fails_by g bytes reason e =
       let r = headed has (ahead fresh bytes) in
-      ap by_reason (by_heading g bytes r refl) ∙ go r (sym (ap by_reason (by_heading none bytes r refl)) ∙ e)
+      ap reason_alone (by_heading g bytes r refl) ∙ go r (sym (ap reason_alone (by_heading none bytes r refl)) ∙ e)
     where
       written : (x : ℕ → Answers) → Headed → List ManyEvent → List (List Place) → Result Written Refusal
       written x h events places = Ok (many_written h.many (many_state x h.many places h.finish events))
 
       placed : (h : Headed) (events : List ManyEvent) (x : Result (List (List Place)) Refusal)
-          → by_reason (x >>= λ places. written none h events places) ≡ Err reason → by_reason (x >>= λ places. written g h events places) ≡ Err reason
+          → reason_alone (x >>= λ places. written none h events places) ≡ Err reason → reason_alone (x >>= λ places. written g h events places) ≡ Err reason
       placed h events (Ok places) e = absurd (cc e)
       placed h events (Err r) e = e
 
       told : (h : Headed) (x : Result (List ManyEvent) Refusal)
-          → by_reason (x >>= λ events. opened_places h.many >>= λ places. written none h events places) ≡ Err reason
-          → by_reason (x >>= λ events. opened_places h.many >>= λ places. written g h events places) ≡ Err reason
+          → reason_alone (x >>= λ events. opened_places h.many >>= λ places. written none h events places) ≡ Err reason
+          → reason_alone (x >>= λ events. opened_places h.many >>= λ places. written g h events places) ≡ Err reason
       told h (Ok events) e = placed h events (opened_places h.many) e
       told h (Err r) e = e
 
-      go : (x : Result Headed Refusal) → by_reason (x >>= rest_of none) ≡ Err reason → by_reason (x >>= rest_of g) ≡ Err reason
+      go : (x : Result Headed Refusal) → reason_alone (x >>= rest_of none) ≡ Err reason → reason_alone (x >>= rest_of g) ≡ Err reason
       go (Ok h) e = told h (events_told h.many 0 h.lines) e
       go (Err r) e = e
 
@@ -107,7 +107,7 @@ module _ (has : List ℕ → Bool) where
 
   against_many : (bytes : List ℕ) (r : Refusal) → many_output has none bytes ≡ Err r → IsCommandRefusal has Many bytes r
   unfolding output_given_chance refusal_names
-  against_many bytes r e = (ap by_reason e, sym (ap names_told e))
+  against_many bytes r e = (ap reason_alone e, sym (ap names_told e))
 
   against_heading : (bytes : List ℕ) (r : Refusal) → headed has (ahead fresh bytes) ≡ Err r → IsCommandRefusal has Many bytes r
   against_heading bytes r e = against_many bytes r (by_heading none bytes (Err r) e)
@@ -179,7 +179,7 @@ module _ (has : List ℕ → Bool) where
     pub last_same : AreSame gives (new_worlds many k.begun.places) last
     last_same = whole_way.same
 
-    state_is : kept_state last ≡ many_state g many k.begun.places finish k.events
+    state_is : many_kept last ≡ many_state g many k.begun.places finish k.events
     state_is =
         whole_way.kept g (λ s l i lt. refl)
         ∙ ap₂ (λ (m : Setup) (z : Kept). kept_after_finish finish m (fold (kept_step m) z k.events)) (new_are_of many k.begun.places g)
@@ -193,7 +193,7 @@ module _ (has : List ℕ → Bool) where
         subst (λ (z : Kept). AreGiven gives job.deal (g s) (z.swaps s).asked) state_is
         (are_given gives job.deal all.more (nth_world last s).state.asked (nth_world last s).answers all.questions all.answers all.may)
 
-    pub is_many_run : AreSwaps many → IsManyRun has gives g bytes (many_written many (kept_state last))
+    pub is_many_run : AreSwaps many → IsManyRun has gives g bytes (many_written many (many_kept last))
     is_many_run swaps =
         let places = k.begun.places in
         let can = all_can many g places k.events k.can in
@@ -211,20 +211,20 @@ module _ (has : List ℕ → Bool) where
           fair = are_fair many g places k.events swaps (k.begun.ready g) can finish;
         }
 
-    pub many_made : output_given_chance has (by_many g) Many bytes ≡ Ok (many_written many (kept_state last))
+    pub many_made : output_given_chance has (by_many g) Many bytes ≡ Ok (many_written many (many_kept last))
     unfolding output_given_chance
     many_made =
-        ap by_reason
+        ap reason_alone
         (gives_many g bytes (record { many = many; finish = finish; lines = k.lines }) k.events k.begun.places k.is_headed k.are_told k.begun.are_placed
         ∙ ap (λ (z : Kept). let r : Result Written Refusal = Ok (many_written many z) in r) (sym state_is))
 
   pub says_many : (gives : MayGive) (left left' : Option (List ℕ)) (n m : ℕ) (taken taken' : Option (List ℕ)) (p q : ℕ) (now : At) (many : ManyJob)
       (finish : Finish) (w last : ManyState) (status : Status)
       (e : Ends (λ bytes. IsManyPlayed has gives bytes many finish w) (desk left n fresh) (desk left' m now))
-      → AreSwaps many → HasManyGone gives (kept_after_finish finish) w last → Writes taken taken' p q (many_written many (kept_state last)) status
-      → Says (strategies has gives) Many (streams left n taken p) (streams left' m taken' q) status
+      → AreSwaps many → HasManyGone gives (kept_after_finish finish) w last → StatusWrites taken taken' p q (many_written many (many_kept last)) status
+      → StatusSays (strategies has gives) Many (streams left n taken p) (streams left' m taken' q) status
   says_many gives left left' n m taken taken' p q now many finish w last status e swaps gone wrote =
-      says_written has gives (by_many (λ s. world_answers (nth_world last s))) Many left left' n m taken taken' p q (many_written many (kept_state last))
+      says_written has gives (by_many (λ s. world_answers (nth_world last s))) Many left left' n m taken taken' p q (many_written many (many_kept last))
       (record {
         input = e.bytes;
         taken = e.stands.took.consumed;

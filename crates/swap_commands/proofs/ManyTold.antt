@@ -15,7 +15,7 @@ use Rattle.swap_many.specs.Value.{HasManyGone, ManyState}
 use Rattle.swap_many.specs.declared.many_event.ManyEvent.{ManyEvent}
 use Rattle.swap_many.proofs.Gone.{begun, gone_then}
 use Rattle.many_lines.specs.Event.{next_told}
-use Rattle.many_lines.specs.Heading.{HeadingState, stage_finish, finish_told, line_taken, unread}
+use Rattle.many_lines.specs.Heading.{HeadingState, stage_finish, finish_told, line_taken, nothing_headed}
 use Rattle.many_lines.specs.Setup.{MayCome}
 use Rattle.many_lines.specs.declared.many_job.ManyJob.{ManyJob}
 use Rattle.many_lines.specs.declared.stage.Stage.{Stage}
@@ -24,7 +24,7 @@ use Rattle.command_input.specs.declared.fault.InputFault.{InputFault}
 use Rattle.command_input.specs.declared.fault.InputFault.TheVariants.{Refused}
 use Rattle.command_input.specs.Input.{Desk, IsLast, Stops, Tells, ahead}
 use Rattle.swap_commands.specs.Many.{Headed, events_told, headed, headed_lines, finished_heading, opened_places}
-use Rattle.swap_commands.specs.ManyRead.{HasReplayed, HasStepped, IsHeading, IsReplayed, places_after_events}
+use Rattle.swap_commands.specs.ManyRead.{HasReplayed, HasStepped, IsHeading, HaveReplayed, places_after_events}
 use Rattle.swap_commands.specs.Walk.{IsWalked}
 use Rattle.command_input.proofs.Streams.{IsStepAt, Led, led_to_last, stops_as}
 use Rattle.swap_commands.proofs.Walks.{ends_as, tells_all}
@@ -60,7 +60,7 @@ module _ (has : List ℕ → Bool) where
   finish_of (Header before chains) e = absurd (cc e)
   finish_of (Over finish) e = (finish, refl)
 
-  pub heading_read : (first now : Desk) (count : ℕ) (h : HeadingState) → Led heading_walk first unread now count h
+  pub heading_read : (first now : Desk) (count : ℕ) (h : HeadingState) → Led heading_walk first nothing_headed now count h
       → is_some (finish_told h.stage) ≡ true → IsHeading has h first now
   heading_read first now count h p over =
       let f = finish_of h.stage over in
@@ -82,14 +82,14 @@ module _ (has : List ℕ → Bool) where
   cut_at (Over finish) e = absurd (cc e)
 
   pub heading_cut : (first s t : Desk) (count : ℕ) (h : HeadingState) (fault : InputFault Refusal)
-      → fault ≡ Refused (refusal [] CutShort) → is_some (finish_told h.stage) ≡ false → Led heading_walk first unread s count h → IsLast s t
+      → fault ≡ Refused (refusal [] CutShort) → is_some (finish_told h.stage) ≡ false → Led heading_walk first nothing_headed s count h → IsLast s t
       → Stops (λ bytes r. headed has (ahead first.at bytes) ≡ Err r) first t fault
   heading_cut first s t count h fault is not_over p q =
       let P : Result Headed Refusal → Type 0 = λ r. r ≡ Err (refusal [] CutShort) in
       let says : P (finished_heading h []) = fails_with (stage_finish h.stage) (λ f. Ok (record { many = h.many; finish = f; lines = [] })) (refusal [] CutShort)
       (cut_at h.stage not_over) in
       subst (λ (f : InputFault Refusal). Stops (λ bytes r. headed has (ahead first.at bytes) ≡ Err r) first t f) (sym is)
-      (led_to_last heading_walk first unread P s t count h says p q)
+      (led_to_last heading_walk first nothing_headed P s t count h says p q)
 
 -- The lines of the events.
 
@@ -104,7 +104,7 @@ has_stepped gives many w v (e ∷ es) p =
     )
 
 pub is_replayed : (gives : MayGive) (many : ManyJob) (old new : ManyState) (first now : Desk)
-    → IsWalked (HasStepped gives many) (next_told many) old new first now → IsReplayed gives many old new first now
+    → IsWalked (HasStepped gives many) (next_told many) old new first now → HaveReplayed gives many old new first now
 is_replayed gives many old new first now k =
     let h = has_stepped gives many old new k.events k.stepped in
     record { events = k.events; told = k.are_told; gone = h.0; can = h.1 }

@@ -26,26 +26,26 @@ use Rattle.swap_world.proofs.Team.{is_ready}
 use Rattle.swap_many.specs.declared.many_event.ManyEvent.{ManyEvent}
 use Rattle.swap_many.specs.declared.overdrawn.Overdrawn.{Overdrawn}
 use Rattle.swap_many.specs.declared.place.Place.{Place}
-use Rattle.swap_many.specs.Chains.{Setup, opening, set_aside}
+use Rattle.swap_many.specs.Chains.{Setup, opening_units, set_aside}
 use Rattle.swap_many.specs.Kept.{kept_start}
-use Rattle.swap_many.specs.Laws.{CanCome, IsReady}
+use Rattle.swap_many.specs.Laws.{CanCome, IsReadySetup}
 use Rattle.swap_many.specs.Opened.{account_lack, chain_lack, overdrawn}
 use Rattle.swap_many.specs.Opening.{AreOpenable, opened, setup_of_worlds}
 use Rattle.swap_many.specs.Ticking.{nth}
-use Rattle.swap_many.specs.Value.{AreAllHeld, AreSame, ManyState, kept_state, world_setup, nth_world}
+use Rattle.swap_many.specs.Value.{AreAllHeld, AreSame, ManyState, many_kept, world_setup, nth_world}
 use Rattle.swap_many.proofs.Accounts.{any_default}
 use Rattle.swap_many.proofs.Begun.{map_next, was_opened, was_refused}
 use Rattle.swap_many.proofs.Opened.{no_lack_is_covered}
 use Rattle.swap_many.proofs.Starting.{kept_is}
 use Rattle.swap_many.proofs.Values.{same_setup}
-use Rattle.many_lines.specs.Heading.{unread}
+use Rattle.many_lines.specs.Heading.{nothing_headed}
 use Rattle.many_lines.specs.Places.{job_of_swap, no_job, find_places}
 use Rattle.many_lines.specs.Setup.{MayCome, setup_with_answers}
-use Rattle.many_lines.specs.Whole.{AreChains, ArePlaced, AreSwaps, HoldsEverySwap, IsSwap}
+use Rattle.many_lines.specs.Whole.{AreBoundedChains, ArePlaced, AreSwaps, HoldsEverySwap, IsSwap}
 use Rattle.many_lines.specs.declared.many_job.ManyJob.{ManyJob}
 use Rattle.many_text.specs.Shown.{AreChainsShown, AreShown}
 use Rattle.swap_commands.specs.Many.{opened_places, unless_lacking}
-use Rattle.swap_commands.specs.ManyRead.{AreSwapWorlds, IsLack, IsOpened, new_worlds}
+use Rattle.swap_commands.specs.ManyRead.{AreSwapWorlds, IsLack, AreOpenedWorlds, new_worlds}
 use Rattle.swap_commands.proofs.Acting.{have_roles}
 use Rattle.swap_commands.proofs.Raced.{have_seeds}
 use Rattle.swap_commands.proofs.Replays.{held, wallets_fit}
@@ -95,7 +95,7 @@ ready_with : (c : Cast) (g : Answers) → IsReadyCast c → IsReadyCast (with_an
 ready_with c g k = record { accepted = k.accepted; one_each = k.one_each; roles = k.roles; wallets = k.wallets; scripts = k.scripts }
 
 pub all_is_ready : (many : ManyJob) (places : List (List Place)) → AreSwaps many → ArePlaced many places
-    → overdrawn (setup_with_answers (λ s k. None) many places) ≡ None → (g : ℕ → Answers) → IsReady (setup_with_answers g many places)
+    → overdrawn (setup_with_answers (λ s k. None) many places) ≡ None → (g : ℕ → Answers) → IsReadySetup (setup_with_answers g many places)
 all_is_ready many places swaps placed none g = record {
   casts = λ s l. ready_with (job_cast (job_of_swap many.jobs s)) (g s)
       (cast_is_ready (length many.names) (job_of_swap many.jobs s) (slice_index_or many.chains s []) (swaps.swaps s l));
@@ -110,7 +110,7 @@ all_is_ready many places swaps placed none g = record {
 
 -- what is kept before any event
 pub kept_before : (many : ManyJob) (places : List (List Place)) (g : ℕ → Answers) → AreOpenable many.units (map new_world many.jobs) places
-    → kept_state (new_worlds many places) ≡ kept_start (setup_with_answers g many places)
+    → many_kept (new_worlds many places) ≡ kept_start (setup_with_answers g many places)
 kept_before many places g opening_deadline =
     kept_is many.units (map new_world many.jobs) places opening_deadline g ∙ ap (λ (m : Setup). kept_start m) (new_are_of many places g)
 
@@ -136,7 +136,7 @@ places_fail many refusal e =
 
 pub are_opened : (many : ManyJob) (places : List (List Place)) (w : ManyState) → AreSwaps many → ArePlaced many places → find_places many ≡ Ok places
     → AreOpenable many.units (map new_world many.jobs) places
-    → opened many.units (map new_world many.jobs) places ≡ Ok w → IsOpened many w
+    → opened many.units (map new_world many.jobs) places ≡ Ok w → AreOpenedWorlds many w
 are_opened many places w swaps placed e opening_deadline made =
     let k = was_opened (overdrawn (setup_of_worlds (map new_world many.jobs) places many.units)) (new_worlds many places) w made in
     let none : overdrawn (setup_with_answers (λ s k. None) many places) ≡ None = sym (lacks_as many places) ∙ k.0 in
@@ -161,13 +161,13 @@ pub record IsAccount (chains : List (List ℕ)) (l : Overdrawn) : Type 0 where
   pub account : l.account < length (slice_index_or chains l.chain [])
 
 lack_is : (m : Setup) (i x : ℕ) (l : Overdrawn) → account_lack m i x ≡ Some l → (l.chain ≡ i) × (l.account ≡ x)
-lack_is m i x l e = go (nat_lt (opening m i x) (set_aside m i x)) e
+lack_is m i x l e = go (nat_lt (opening_units m i x) (set_aside m i x)) e
   where
-    go : (b : Bool) → cond {A = Option Overdrawn} b (Some (record { chain = i; account = x; have = opening m i x; wanted = set_aside m i x })) None ≡ Some l
+    go : (b : Bool) → cond {A = Option Overdrawn} b (Some (record { chain = i; account = x; have = opening_units m i x; wanted = set_aside m i x })) None ≡ Some l
         → (l.chain ≡ i) × (l.account ≡ x)
     go false e = absurd (cc e)
     go true e =
-        let same : ◌≡◌ {A = Overdrawn} (record { chain = i; account = x; have = opening m i x; wanted = set_aside m i x }) l = cc e in
+        let same : ◌≡◌ {A = Overdrawn} (record { chain = i; account = x; have = opening_units m i x; wanted = set_aside m i x }) l = cc e in
         (sym (ap (λ (o : Overdrawn). o.chain) same), sym (ap (λ (o : Overdrawn). o.account) same))
 
 lack_is_known : (m : Setup) (l : Overdrawn) → overdrawn m ≡ Some l → IsAccount m.chains l
@@ -224,15 +224,15 @@ all_made jobs k worlds e so_far = so_far ∙ ap (map new_world) (all_taken jobs 
 
 -- What was opened.
 
-pub opened_are_of : (many : ManyJob) (w : ManyState) → IsOpened many w → AreSwapWorlds many w
+pub opened_are_of : (many : ManyJob) (w : ManyState) → AreOpenedWorlds many w → AreSwapWorlds many w
 opened_are_of many w k = subst (λ (v : ManyState). AreSwapWorlds many v) (sym k.new) (new_are_of many k.places)
 
-pub opened_are_held : (has : List ℕ → Bool) (many : ManyJob) (w : ManyState) → IsOpened many w → HoldsEverySwap has many → AreAllHeld has w
+pub opened_are_held : (has : List ℕ → Bool) (many : ManyJob) (w : ManyState) → AreOpenedWorlds many w → HoldsEverySwap has many → AreAllHeld has w
 opened_are_held has many w k holds = subst (λ (v : ManyState). AreAllHeld has v) (sym k.new) (all_held has many k.places holds)
 
 -- What is shown of worlds that came from them.
 
-module _ (gives : MayGive) (many : ManyJob) (places : List (List Place)) (swaps : AreSwaps many) (chains : AreChains many) (w : ManyState)
+module _ (gives : MayGive) (many : ManyJob) (places : List (List Place)) (swaps : AreSwaps many) (chains : AreBoundedChains many) (w : ManyState)
     (k : AreSame gives (new_worlds many places) w) where
   pub worlds_shown : AreShown w many.jobs
   worlds_shown = record {
@@ -260,7 +260,7 @@ module _ (gives : MayGive) (many : ManyJob) (places : List (List Place)) (swaps 
   }
 
 -- no swap was read yet
-pub unread_holds : (has : List ℕ → Bool) → HoldsEverySwap has unread.many
+pub unread_holds : (has : List ℕ → Bool) → HoldsEverySwap has nothing_headed.many
 unread_holds has s l = absurd (omega (arith, l))
 
 -- The next swap, with its wallets and those of the swaps after it.
@@ -313,7 +313,7 @@ lack_fails many places lack offer.NoMemory k e = tt
 lack_fails many places lack (offer.Refused r) k e = e ∙ ap (λ (x : Refusal). let y : Result (List (List Place)) Refusal = Err x in y) (sym k)
 
 -- the account has a name
-pub named_lack : (many : ManyJob) (l : Overdrawn) → AreChains many → IsAccount many.units l
+pub named_lack : (many : ManyJob) (l : Overdrawn) → AreBoundedChains many → IsAccount many.units l
     → (l.chain < length many.names) × (l.account < length (slice_index_or many.names l.chain []))
 named_lack many l chains k =
     let low : l.chain < length many.names = subst (λ n. l.chain < n) chains.each k.chain in

@@ -25,21 +25,21 @@ use Rattle.outcome_rules.proofs.Promises as laws
 use Rattle.refusals.specs.declared.reason.Reason.{Reason}
 use Rattle.swap_offer.specs.Job.{counted, parse_job_events, parse_events, parse_header_job, job_of_lines}
 use Rattle.swap_gen.specs.Made.{made}
-use Rattle.made_jobs.specs.Making.{copied, line_step, with_line, written_line, IsMade}
+use Rattle.made_jobs.specs.Making.{copied, line_step, with_copied_line, written_line, IsMade}
 use Rattle.made_jobs.proofs.Copying.{lines_put}
 use Rattle.offer_fields.proofs.Chains.{went}
 use Rattle.command_input.specs.Written.{Written}
-use Rattle.swap_commands.specs.Output.{AreGiven, command_cast, run_state, collected_book, finished, story_report, reported, told}
+use Rattle.swap_commands.specs.Output.{AreGiven, command_cast, run_state, collected_book, finished_state, book_report, reported, told}
 use Rattle.swap_commands.specs.Recorded.{AreRecorded}
 use Rattle.swap_commands.specs.Promised.{IsPromised, IsRace, IsRun, IsCheck, IsMaking}
 use Rattle.party_threads.specs.Race.{IsRaceBook}
-use Rattle.swap_commands.specs.Replay.{skipped_event, replayed}
+use Rattle.swap_commands.specs.Replay.{skipped_event, folded_events}
 use Rattle.swap_commands.proofs.Raced.{no_events, none_is_late}
 
 module _ (has : List ℕ → Bool) where
   -- The laws of a legal book, of the report that is shown of it.
 
-  pub is_promised : (job : Job) (b : Histories) → IsAccepted job.deal → IsKept (job_cast job) b → IsPromised job b (story_report job b)
+  pub is_promised : (job : Job) (b : Histories) → IsAccepted job.deal → IsKept (job_cast job) b → IsPromised job b (book_report job b)
   unfolding build_report
   is_promised job b k kept =
       let found : List Finding = findings job.deal (is_conforming_party job.conforming) b in
@@ -72,8 +72,8 @@ module _ (has : List ℕ → Bool) where
     read : parse_events job 0 ls ≡ Ok events
     leads : y ≡ fold f x events
 
-  replayed_by : {A : Type 0} (f : A → Event → A) (job : Job) (x y : A) (ls : List (ℕ × List ℕ)) → replayed f job 0 x ls ≡ Ok y → Replayed f job x y ls
-  unfolding replayed
+  replayed_by : {A : Type 0} (f : A → Event → A) (job : Job) (x y : A) (ls : List (ℕ × List ℕ)) → folded_events f job 0 x ls ≡ Ok y → Replayed f job x y ls
+  unfolding folded_events
   replayed_by f job x y ls e =
       let w = went (parse_events job 0 ls) (λ events. Ok (fold f x events)) y e in
       record { events = w.0; read = w.1; leads = cc (w.2) }
@@ -102,10 +102,10 @@ module _ (has : List ℕ → Bool) where
 
   pub is_run : (gives : MayGive) (a : Answers) (transcript : Bool) (line : ℕ) (text : List ℕ) (ls : List (ℕ × List ℕ)) (job : Job) (s : State)
       (b : Histories) (output : Written)
-      → parse_header_job has purposes.Run line text ≡ Ok job → replayed (step (command_cast a job)) job 0 (start (job_cast job)) ls ≡ Ok s
-      → AreGiven gives job.deal a (finished job.finish (command_cast a job) s).asked → b ≡ (finished job.finish (command_cast a job) s).book
+      → parse_header_job has purposes.Run line text ≡ Ok job → folded_events (step (command_cast a job)) job 0 (start (job_cast job)) ls ≡ Ok s
+      → AreGiven gives job.deal a (finished_state job.finish (command_cast a job) s).asked → b ≡ (finished_state job.finish (command_cast a job) s).book
       → output ≡ reported transcript job b → IsAccepted job.deal → IsKept (job_cast job) b
-      → AreRecorded (command_cast a job) (finished job.finish (command_cast a job) s)
+      → AreRecorded (command_cast a job) (finished_state job.finish (command_cast a job) s)
       → (job.finish ≡ Fair → IsEnded job.deal b)
       → (job.finish ≡ Fair → s ≡ start (job_cast job) → AllAreConforming job.deal job.conforming → IsDealt job.deal (is_conforming_party job.conforming) b)
       → IsRun gives a transcript (job_of_lines has purposes.Run ((line, text) ∷ ls)) output
@@ -113,15 +113,15 @@ module _ (has : List ℕ → Bool) where
       let p = replayed_by (step (command_cast a job)) job (start (job_cast job)) s ls r in
       world_run gives a transcript job p.events (job_of_lines has purposes.Run ((line, text) ∷ ls)) b output
       (read_of (parse_header_job has purposes.Run line text) (λ j. parse_events j 0 ls) job p.events h p.read)
-      (subst (λ (s : State). AreGiven gives job.deal a (finished job.finish (command_cast a job) s).asked) p.leads given)
-      (same ∙ ap (λ (s : State). (finished job.finish (command_cast a job) s).book) p.leads) shown k kept
-      (subst (λ (s : State). AreRecorded (command_cast a job) (finished job.finish (command_cast a job) s)) p.leads disks) ended
+      (subst (λ (s : State). AreGiven gives job.deal a (finished_state job.finish (command_cast a job) s).asked) p.leads given)
+      (same ∙ ap (λ (s : State). (finished_state job.finish (command_cast a job) s).book) p.leads) shown k kept
+      (subst (λ (s : State). AreRecorded (command_cast a job) (finished_state job.finish (command_cast a job) s)) p.leads disks) ended
       (λ fair none. dealt fair (p.leads ∙ ap (λ (es : List Event). fold (step (command_cast a job)) (start (job_cast job)) es) none))
 
   -- A race.
 
   pub is_race : (gives : MayGive) (b : Histories) (ticks : ℕ) (transcript : Bool) (line : ℕ) (text : List ℕ) (ls : List (ℕ × List ℕ)) (job : Job)
-      (output : Written) → parse_header_job has purposes.Race line text ≡ Ok job → replayed skipped_event job 0 tt ls ≡ Ok tt
+      (output : Written) → parse_header_job has purposes.Race line text ≡ Ok job → folded_events skipped_event job 0 tt ls ≡ Ok tt
       → output ≡ reported transcript job b → job.purpose ≡ purposes.Race → IsAccepted job.deal → IsRaceBook gives (job_cast job) ticks b
       → IsRace gives b ticks transcript (job_of_lines has purposes.Race ((line, text) ∷ ls)) output
   unfolding build_report
@@ -142,7 +142,7 @@ module _ (has : List ℕ → Bool) where
   -- A check.
 
   pub is_check : (line : ℕ) (text : List ℕ) (ls : List (ℕ × List ℕ)) (job : Job) (u : Unit {0}) (output : Written)
-      → parse_header_job has purposes.Check line text ≡ Ok job → replayed skipped_event job 0 tt ls ≡ Ok u → output ≡ told job → IsAccepted job.deal
+      → parse_header_job has purposes.Check line text ≡ Ok job → folded_events skipped_event job 0 tt ls ≡ Ok u → output ≡ told job → IsAccepted job.deal
       → IsCheck (job_of_lines has purposes.Check ((line, text) ∷ ls)) output
   is_check line text ls job u output h r shown k =
       let p = replayed_by skipped_event job tt u ls r in
@@ -157,9 +157,9 @@ module _ (has : List ℕ → Bool) where
   -- A job that is made.
 
   read_counts : (r : Result ℕ Reason) (text : List ℕ) (ls : List (ℕ × List ℕ)) (s : ℕ × List ℕ)
-      → (r >>= λ n. let x : Result (ℕ × List ℕ) Reason = Ok (n, fold with_line text ls) in x) ≡ Ok s → r ≡ Ok s.0
+      → (r >>= λ n. let x : Result (ℕ × List ℕ) Reason = Ok (n, fold with_copied_line text ls) in x) ≡ Ok s → r ≡ Ok s.0
   read_counts (Ok n) text ls s e =
-      let same : (n, fold with_line text ls) ≡ s = cc e in
+      let same : (n, fold with_copied_line text ls) ≡ s = cc e in
       ap (λ (p : ℕ × List ℕ). let x : Result ℕ Reason = Ok p.0 in x) same
   read_counts (Err reason) text ls s e = absurd (cc e)
 

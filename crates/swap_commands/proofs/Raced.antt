@@ -29,7 +29,7 @@ use Rattle.swap_rules.specs.Laws.{IsOnTime}
 use Rattle.swap_world.specs.Actors.{ConformingHaveSeeds}
 use Rattle.offer_fields.proofs.Chains.{went}
 use Rattle.offer_fields.specs.Fields.{parse_data}
-use Rattle.offer_events.specs.Event.{asked, checked, conforming_crash, parse_event, outside_race}
+use Rattle.offer_events.specs.Event.{asked, checked_event, conforming_crash, parse_event, outside_race}
 use Rattle.offer_events.specs.Reading.{raw_event}
 use Rattle.swap_offer.specs.Job.{parse_events, limited_event, IsWholeJob}
 use Rattle.swap_offer.specs.Wallets.{HaveWallets}
@@ -50,7 +50,7 @@ unfolding parse_event asked
 no_event job line text e is ok =
     let d = went (parse_data line text) (λ d. raw_event line d >>= λ raw. asked job line raw) e ok in
     let raw = went (raw_event line d.0) (λ raw. asked job line raw) e d.2 in
-    let event = went (checked job line raw.0)
+    let event = went (checked_event job line raw.0)
     (λ event. outside_race line job.purpose >>= λ u. conforming_crash job.conforming line event >>= λ w. Ok event) e raw.2 in
     not_outside line job.purpose (λ u. conforming_crash job.conforming line event.0 >>= λ w. Ok event.0) e is event.2
 

@@ -11,7 +11,7 @@ use Rattle.swap_job.specs.declared.job.Purpose.TheVariants as purposes
 use Rattle.refusals.specs.declared.reason.Reason.{Reason}
 use Rattle.refusals.specs.declared.reason.Reason.TheVariants.{NotJson}
 use Rattle.refusals.specs.declared.refusal.Refusal.{Refusal}
-use Rattle.refusals.specs.Refusal.{named}
+use Rattle.refusals.specs.Refusal.{named_result}
 use Rattle.refusals.proofs.Named.{named_err}
 use Rattle.command_input.specs.Lines.{collect_lines, filled_lines}
 use Rattle.swap_offer.specs.Job.{parse_header_job, parse_job, header_names, offer_line_names, job_of_lines}
@@ -26,11 +26,11 @@ use Rattle.command_input.specs.Faults.{named_fault, of_offer}
 use Rattle.command_input.specs.Input.{At, Desk, Ends, GivesLine, IsLast, IsLine, Stops, Tells, ahead, desk, fresh, limit}
 use Rattle.swap_gen.specs.Made.{made}
 use Rattle.made_jobs.specs.Making.{copied, written_line}
-use Rattle.swap_commands.specs.Output.{Chance, by_answers, by_book, command_cast, finished, refusal_names, no_chance, output_given_chance, command_purpose, reported}
+use Rattle.swap_commands.specs.Output.{Chance, by_answers, by_book, command_cast, finished_state, refusal_names, no_chance, output_given_chance, command_purpose, reported}
 use Rattle.swap_commands.specs.Output.{told, plain_text}
 use Rattle.swap_commands.specs.Promised.{IsCheck, IsRace, IsRun, IsMaking}
-use Rattle.swap_commands.specs.Replay.{IsChecked, IsEntered, IsPlayed, IsRead, of_check, of_header, of_lines}
-use Rattle.swap_commands.specs.Replay.{of_race, of_run, skipped_event, replayed, IsCopied, of_make}
+use Rattle.swap_commands.specs.Replay.{IsChecked, IsEntered, IsPlayed, IsReadInput, of_check, of_header, of_lines}
+use Rattle.swap_commands.specs.Replay.{of_race, of_run, skipped_event, folded_events, IsCopied, of_make}
 use Rattle.swap_commands.specs.Says.{IsCommandRefusal}
 use Rattle.command_input.specs.Written.{Written}
 use Rattle.swap_commands.proofs.Replays.{of_input, replay_fails}
@@ -79,19 +79,19 @@ module _ (has : List ℕ → Bool) where
 
   run_by : (a : Answers) (transcript : Bool) (n : ℕ) (t : List ℕ) (ls : List (ℕ × List ℕ)) (job : Job) (r : Result State Reason)
       → parse_header_job has purposes.Run n t ≡ Ok job
-      → replayed (step (command_cast a job)) job 0 (start (job_cast job)) ls ≡ r
-      → of_run has a transcript n t ls ≡ r >>= λ s. Ok (reported transcript job (finished job.finish (command_cast a job) s).book)
+      → folded_events (step (command_cast a job)) job 0 (start (job_cast job)) ls ≡ r
+      → of_run has a transcript n t ls ≡ r >>= λ s. Ok (reported transcript job (finished_state job.finish (command_cast a job) s).book)
   unfolding of_run
   run_by a transcript n t ls job r h e = rw (h, e) refl
 
   race_by : (b : Histories) (transcript : Bool) (n : ℕ) (t : List ℕ) (ls : List (ℕ × List ℕ)) (job : Job) (r : Result (Unit {0}) Reason)
-      → parse_header_job has purposes.Race n t ≡ Ok job → replayed skipped_event job 0 tt ls ≡ r
+      → parse_header_job has purposes.Race n t ≡ Ok job → folded_events skipped_event job 0 tt ls ≡ r
       → of_race has b transcript n t ls ≡ r >>= λ u. Ok (reported transcript job b)
   unfolding of_race
   race_by b transcript n t ls job r h e = rw (h, e) refl
 
   check_by : (n : ℕ) (t : List ℕ) (ls : List (ℕ × List ℕ)) (job : Job) (r : Result (Unit {0}) Reason) → parse_header_job has purposes.Check n t ≡ Ok job
-      → replayed skipped_event job 0 tt ls ≡ r → of_check has n t ls ≡ r >>= λ u. Ok (told job)
+      → folded_events skipped_event job 0 tt ls ≡ r → of_check has n t ls ≡ r >>= λ u. Ok (told job)
   unfolding of_check
   check_by n t ls job r h e = rw (h, e) refl
 
@@ -101,7 +101,7 @@ module _ (has : List ℕ → Bool) where
   make_by n t ls job r h e = rw (h, e) refl
 
   pub gives_run : (a : Answers) (transcript : Bool) (bytes : List ℕ) (job : Job) (s : State) → IsPlayed has a bytes job s
-      → output_given_chance has (by_answers a) (OfJob (Run transcript)) bytes ≡ Ok (reported transcript job (finished job.finish (command_cast a job) s).book)
+      → output_given_chance has (by_answers a) (OfJob (Run transcript)) bytes ≡ Ok (reported transcript job (finished_state job.finish (command_cast a job) s).book)
   gives_run a transcript bytes job s p =
       by_lines (by_answers a) (Run transcript) bytes ((p.line, p.text) ∷ p.others) p.lines
       ∙ run_by a transcript p.line p.text p.others job (Ok s) p.header p.leads
@@ -172,7 +172,7 @@ module _ (has : List ℕ → Bool) where
 
   -- its header is refused
   against_header : (command : JobCommand) (left : Option (List ℕ)) (n : ℕ) (now : Desk) (fault : Fault Refusal) → IsLine (desk left n fresh) now
-      → Fails fault (named (header_names has (command_purpose command) now.at.number now.at.text) (parse_header_job has
+      → Fails fault (named_result (header_names has (command_purpose command) now.at.number now.at.text) (parse_header_job has
       (command_purpose command) now.at.number now.at.text))
       → Stops (IsCommandRefusal has (OfJob command)) (desk left n fresh) now (of_offer fault)
   against_header command left n now offer.NoMemory p fails = no_memory_after (desk left n fresh) now p.bytes p.stands
@@ -194,17 +194,17 @@ module _ (has : List ℕ → Bool) where
 
   pub header_stops : (command : JobCommand) (more : Bool) (left : Option (List ℕ)) (n : ℕ) (s : At) (now : Desk) (fault : Fault Refusal) (purpose : Purpose)
       (line : ℕ) (text : List ℕ) → s ≡ fresh → more ≡ true → GivesLine more (desk left n s) now → purpose ≡ command_purpose command
-      → line ≡ now.at.number → text ≡ now.at.text → Fails fault (named (header_names has purpose line text) (parse_header_job has purpose line text))
+      → line ≡ now.at.number → text ≡ now.at.text → Fails fault (named_result (header_names has purpose line text) (parse_header_job has purpose line text))
       → Stops (IsCommandRefusal has (OfJob command)) (desk left n fresh) now (of_offer fault)
   header_stops command more left n s now fault purpose line text first some gives asked number same fails =
       let p : IsLine (desk left n fresh) now =
       line_of more (desk left n fresh) now some (subst (λ (x : At). GivesLine more (desk left n x) now) first gives) in
-      let f : Fails fault (named (header_names has (command_purpose command) line text) (parse_header_job has (command_purpose command) line text)) =
-      subst (λ (q : Purpose). Fails fault (named (header_names has q line text) (parse_header_job has q line text))) asked fails in
-      let g : Fails fault (named (header_names has (command_purpose command) now.at.number text) (parse_header_job has (command_purpose command) now.at.number text)) =
-      subst (λ (k : ℕ). Fails fault (named (header_names has (command_purpose command) k text) (parse_header_job has (command_purpose command) k text))) number f in
+      let f : Fails fault (named_result (header_names has (command_purpose command) line text) (parse_header_job has (command_purpose command) line text)) =
+      subst (λ (q : Purpose). Fails fault (named_result (header_names has q line text) (parse_header_job has q line text))) asked fails in
+      let g : Fails fault (named_result (header_names has (command_purpose command) now.at.number text) (parse_header_job has (command_purpose command) now.at.number text)) =
+      subst (λ (k : ℕ). Fails fault (named_result (header_names has (command_purpose command) k text) (parse_header_job has (command_purpose command) k text))) number f in
       against_header command left n now fault p
-      (subst (λ (t : List ℕ). Fails fault (named (header_names has (command_purpose command) now.at.number t)
+      (subst (λ (t : List ℕ). Fails fault (named_result (header_names has (command_purpose command) now.at.number t)
       (parse_header_job has (command_purpose command) now.at.number t))) same g)
 
   -- A further line of it is refused, after its header was read.
@@ -227,18 +227,18 @@ module _ (has : List ℕ → Bool) where
 
   -- what the events of a run, a race and a check say against it
   pub run_says : (transcript : Bool) (n : ℕ) (t : List ℕ) (job : Job) → parse_header_job has purposes.Run n t ≡ Ok job → (ls : List (ℕ × List ℕ)) (reason : Reason)
-      → replayed skipped_event job 0 tt ls ≡ Err reason → of_header has no_chance (Run transcript) n t ls ≡ Err reason
+      → folded_events skipped_event job 0 tt ls ≡ Err reason → of_header has no_chance (Run transcript) n t ls ≡ Err reason
   run_says transcript n t job h ls reason e =
       run_by no_chance.answers transcript n t ls job (Err reason) h (replay_fails (step (command_cast no_chance.answers job)) (start
       (job_cast job)) job ls reason e)
 
   pub race_says : (ticks : ℕ) (transcript : Bool) (n : ℕ) (t : List ℕ) (job : Job) → parse_header_job has purposes.Race n t ≡ Ok job
-      → (ls : List (ℕ × List ℕ)) (reason : Reason) → replayed skipped_event job 0 tt ls ≡ Err reason
+      → (ls : List (ℕ × List ℕ)) (reason : Reason) → folded_events skipped_event job 0 tt ls ≡ Err reason
       → of_header has no_chance (Race ticks transcript) n t ls ≡ Err reason
   race_says ticks transcript n t job h ls reason e = race_by no_chance.book transcript n t ls job (Err reason) h e
 
   pub check_says : (n : ℕ) (t : List ℕ) (job : Job) → parse_header_job has purposes.Check n t ≡ Ok job → (ls : List (ℕ × List ℕ)) (reason : Reason)
-      → replayed skipped_event job 0 tt ls ≡ Err reason → of_header has no_chance Check n t ls ≡ Err reason
+      → folded_events skipped_event job 0 tt ls ≡ Err reason → of_header has no_chance Check n t ls ≡ Err reason
   check_says n t job h ls reason e = check_by n t ls job (Err reason) h e
 
   pub make_says : (n : ℕ) (t : List ℕ) (job : Job) → parse_header_job has purposes.Make n t ≡ Ok job → (ls : List (ℕ × List ℕ)) (reason : Reason)
@@ -249,7 +249,7 @@ module _ (has : List ℕ → Bool) where
   pub is_read : {A : Type 0} (purpose : Purpose) (walk : Job → List (ℕ × List ℕ) → Result A Reason) (left : Option (List ℕ)) (n : ℕ) (mid now : Desk)
       (job : Job) (y : A) (p : IsLine (desk left n fresh) mid)
       → parse_header_job has purpose mid.at.number mid.at.text ≡ Ok job → (e : Ends (λ bytes. walk job (ahead mid.at bytes) ≡ Ok y) mid now)
-      → Ends (λ bytes. IsRead has purpose walk bytes job y) (desk left n fresh) now
+      → Ends (λ bytes. IsReadInput has purpose walk bytes job y) (desk left n fresh) now
   is_read purpose walk left n mid now job y p h e = record {
     bytes = p.bytes ++ e.bytes;
     stands = stands_on (desk left n fresh) mid now p.bytes e.bytes p.stands e.stands;

@@ -34,11 +34,11 @@ use Rattle.swap_gen.specs.Made.{made}
 use Rattle.made_jobs.specs.Making.{copied, made_text, written_line}
 use Rattle.made_jobs.specs.Generating.{IsJobWorld}
 use Rattle.made_jobs.proofs.Copying.{made_is}
-use Rattle.swap_commands.specs.Output.{AreGiven, Chance, command_cast, command_purpose, finished, collected_book, reported, told, output_given_chance}
+use Rattle.swap_commands.specs.Output.{AreGiven, Chance, command_cast, command_purpose, finished_state, collected_book, reported, told, output_given_chance}
 use Rattle.swap_commands.specs.Output.{job_output, plain_text}
 use Rattle.swap_commands.specs.Recorded.{AreRecorded}
 use Rattle.swap_commands.specs.Walk.{lines_told}
-use Rattle.swap_commands.specs.Replay.{replayed, skipped_event, IsConcluded, of_run, of_race, of_check, of_lines, of_make}
+use Rattle.swap_commands.specs.Replay.{folded_events, skipped_event, IsConcluded, of_run, of_race, of_check, of_lines, of_make}
 
 -- Events as a walk along their lines tells them.
 
@@ -50,14 +50,14 @@ told_events job n (l ∷ ls) =
     (told_events job (n + 1) ls)
 
 pub replayed_told : {A : Type 0} (f : A → Event → A) (job : Job) (x : A) (ls : List (ℕ × List ℕ)) (events : List Event)
-    → lines_told (limited_event job) 0 ls ≡ Ok events → replayed f job 0 x ls ≡ Ok (fold f x events)
-unfolding replayed
+    → lines_told (limited_event job) 0 ls ≡ Ok events → folded_events f job 0 x ls ≡ Ok (fold f x events)
+unfolding folded_events
 replayed_told {A} f job x ls events e =
     ap (λ (r : Result (List Event) Reason). r >>= λ es. let t : Result A Reason = Ok (fold f x es) in t) (told_events job 0 ls ∙ e)
 
 pub replayed_refused : {A : Type 0} (f : A → Event → A) (job : Job) (x : A) (ls : List (ℕ × List ℕ)) (reason : Reason)
-    → lines_told (limited_event job) 0 ls ≡ Err reason → replayed f job 0 x ls ≡ Err reason
-unfolding replayed
+    → lines_told (limited_event job) 0 ls ≡ Err reason → folded_events f job 0 x ls ≡ Err reason
+unfolding folded_events
 replayed_refused {A} f job x ls reason e =
     ap (λ (r : Result (List Event) Reason). r >>= λ es. let t : Result A Reason = Ok (fold f x es) in t) (told_events job 0 ls ∙ e)
 
@@ -66,7 +66,7 @@ skipped [] = refl
 skipped (e ∷ es) = skipped es
 
 pub skipped_told : (job : Job) (ls : List (ℕ × List ℕ)) (events : List Event) → lines_told (limited_event job) 0 ls ≡ Ok events
-    → replayed skipped_event job 0 tt ls ≡ Ok tt
+    → folded_events skipped_event job 0 tt ls ≡ Ok tt
 skipped_told job ls events e = replayed_told skipped_event job tt ls events e ∙ ap (λ (u : Unit {0}). Ok u) (skipped events)
 
 -- The lines of an input.
@@ -103,7 +103,7 @@ of_some_make has a l ls =
 
 of_some : (has : List ℕ → Bool) (a : Chance) (command : JobCommand) (ls : List (ℕ × List ℕ))
     → of_lines has a command ls ≡ job_output a command ls (job_of_lines has (command_purpose command) ls)
-unfolding of_run of_race of_check replayed
+unfolding of_run of_race of_check folded_events
 of_some has a command [] = by command
   where
     by : (command : JobCommand) → of_lines has a command [] ≡ job_output a command [] (job_of_lines has (command_purpose command) [])
@@ -113,7 +113,7 @@ of_some has a command [] = by command
     by Make = refl
 of_some has a (Run transcript) (l ∷ ls) =
     together (parse_header_job has purposes.Run l.0 l.1) (λ job. parse_events job 0 ls) (λ job. step (command_cast a.answers job)) (λ job. start (job_cast job))
-    (λ job s. reported transcript job (finished job.finish (command_cast a.answers job) s).book) (λ j. reported transcript j.0
+    (λ job s. reported transcript job (finished_state job.finish (command_cast a.answers job) s).book) (λ j. reported transcript j.0
     (collected_book a.answers j.0 j.1))
     (λ job es. refl)
 of_some has a (Race ticks transcript) (l ∷ ls) =
@@ -143,8 +143,8 @@ held has roles all = λ p lt. all p kinds.Manual lt
 
 -- a reason against an event is one whatever is made of the events
 pub replay_fails : {A : Type 0} (f : A → Event → A) (x : A) (job : Job) (ls : List (ℕ × List ℕ)) (reason : Reason)
-    → replayed skipped_event job 0 tt ls ≡ Err reason → replayed f job 0 x ls ≡ Err reason
-unfolding replayed
+    → folded_events skipped_event job 0 tt ls ≡ Err reason → folded_events f job 0 x ls ≡ Err reason
+unfolding folded_events
 replay_fails {A = A} f x job ls reason e = by (parse_events job 0 ls) e
   where
     by : (r : Result (List Event) Reason) → (r >>= λ es. let y : Result (Unit {0}) Reason = Ok (fold skipped_event tt es) in y) ≡ Err reason
@@ -180,8 +180,8 @@ is_of_new job w e = record {
   roles = ap (λ (x : WorldState). x.roles) e;
 }
 
-pub stays_finished : (gives : MayGive) (w : WorldState) → HasGone gives (finished Stop) w w
-stays_finished gives w = stays gives (finished Stop) w (λ a. refl)
+pub stays_finished : (gives : MayGive) (w : WorldState) → HasGone gives (finished_state Stop) w w
+stays_finished gives w = stays gives (finished_state Stop) w (λ a. refl)
 
 -- A world that has gone on.
 
@@ -201,12 +201,12 @@ module _ (gives : MayGive) (job : Job) (w new : WorldState) (k : IsJobWorld job 
   for_job a = ap (λ (c : Cast). with_answers c a) (same_cast job w k)
 
   -- after the job's finish
-  pub concluded : (b : Histories) → b ≡ new.state.book → HasAsked gives (new_world job) w → HasGone gives (finished job.finish) w new
+  pub concluded : (b : Histories) → b ≡ new.state.book → HasAsked gives (new_world job) w → HasGone gives (finished_state job.finish) w new
       → AreRecorded (world_cast new) new.state → IsConcluded gives job w b
   concluded b is asked h kept =
       let a = world_answers new in
-      let state : new.state ≡ finished job.finish (command_cast a job) w.state =
-      h.state a (λ i l. refl) ∙ ap (λ (c : Cast). finished job.finish c w.state) (for_job a) in
+      let state : new.state ≡ finished_state job.finish (command_cast a job) w.state =
+      h.state a (λ i l. refl) ∙ ap (λ (c : Cast). finished_state job.finish c w.state) (for_job a) in
       let all = more_asked gives (new_world job) w new asked k.deal h.asked in
       record {
         answers = a;
@@ -216,12 +216,12 @@ module _ (gives : MayGive) (job : Job) (w new : WorldState) (k : IsJobWorld job 
         book = is ∙ ap (λ (s : State). s.book) state;
         recorded =
             subst (AreRecorded (command_cast a job)) state
-            (subst (λ (c : Cast). AreRecorded c new.state) (same_cast job new (is_of_still (finished job.finish) h)) kept);
+            (subst (λ (c : Cast). AreRecorded c new.state) (same_cast job new (is_of_still (finished_state job.finish) h)) kept);
       }
 
   -- the book of the world
   pub concluded_book : {E : Type 0} (r : Result Book E) → IfOk r (λ b. b.histories ≡ new.state.book) → HasAsked gives (new_world job) w
-      → HasGone gives (finished job.finish) w new → AreRecorded (world_cast new) new.state → IfOk r (λ b. IsConcluded gives job w b.histories)
+      → HasGone gives (finished_state job.finish) w new → AreRecorded (world_cast new) new.state → IfOk r (λ b. IsConcluded gives job w b.histories)
   concluded_book (Ok b) is asked h kept = concluded b.histories is asked h kept
   concluded_book (Err e) is asked h kept = tt
 
@@ -241,7 +241,7 @@ module _ (gives : MayGive) (job : Job) (new w : WorldState) (is : new ≡ new_wo
 
   -- the state is the one to which the events of the lines lead
   pub leads_to : (a : Answers) → Continues w a → (ls : List (ℕ × List ℕ)) → lines_told (limited_event job) 0 ls ≡ Ok events
-      → replayed (step (command_cast a job)) job 0 (start (job_cast job)) ls ≡ Ok w.state
+      → folded_events (step (command_cast a job)) job 0 (start (job_cast job)) ls ≡ Ok w.state
   leads_to a x ls e =
       let state : w.state ≡ fold (step (command_cast a job)) (start (job_cast job)) events =
       (has_stepped gives new w events way).state a x

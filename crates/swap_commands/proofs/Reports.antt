@@ -11,7 +11,7 @@ use Rattle.ledger_core.specs.Book.{Histories, IsLegalBook}
 use Rattle.swap_job.specs.declared.job.Job.{Job}
 use Rattle.outcome_rules.specs.declared.report.Report.{Report}
 use Rattle.command_input.specs.Written.{IsWrittenWhole}
-use Rattle.swap_commands.specs.Output.{story_report, reported, run_text}
+use Rattle.swap_commands.specs.Output.{book_report, reported, run_text}
 
 most : (v : Version) → most_arcs v ≤ 256
 most One = omega arith
@@ -22,7 +22,7 @@ pub few_histories : (d : Deal) (b : Histories) → IsWellSized d → IsLegalBook
 few_histories d b k legal = let m = most d.version in omega (arith, k.arcs.1, legal.one_each)
 
 -- The report r of a job's book was written, or the transcript.
-module _ (transcript : Bool) (job : Job) (b : Histories) (r : Report) (taken taken' : Option (List ℕ)) (is : r ≡ story_report job b) where
+module _ (transcript : Bool) (job : Job) (b : Histories) (r : Report) (taken taken' : Option (List ℕ)) (is : r ≡ book_report job b) where
   pub written_none : Appends taken taken' (run_text transcript job b r) → (length r.findings == 0) ≡ true
       → IsWrittenWhole taken taken' false (reported transcript job b)
   unfolding reported

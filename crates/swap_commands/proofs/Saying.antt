@@ -24,15 +24,15 @@ use Rattle.made_jobs.specs.Making.{IsMade}
 use Rattle.swap_commands.specs.Entered.{HasEntered}
 use Rattle.swap_commands.specs.Replay.{IsChecked, IsConcluded, IsEntered, IsPlayed, IsCopied}
 use Rattle.command_input.specs.Faults.{unread}
-use Rattle.command_input.specs.Input.{At, Drains, Ends, HasStopped, IsPart, IsTooLong, Stops, desk, fresh, limit}
+use Rattle.command_input.specs.Input.{At, Drains, Ends, HasStopped, TookPart, IsTooLong, Stops, desk, fresh, limit}
 use Rattle.command_input.specs.declared.fault.InputFault.{InputFault}
 use Rattle.command_input.specs.declared.fault.InputFault.TheVariants as fault
 use Rattle.command_input.proofs.Streams.{calm_unread, has_stopped}
-use Rattle.swap_commands.specs.Output.{AreGiven, Chance, by_answers, by_book, command_cast, finished, no_chance, output_given_chance, reported, told, plain_text}
+use Rattle.swap_commands.specs.Output.{AreGiven, Chance, by_answers, by_book, command_cast, finished_state, no_chance, output_given_chance, reported, told, plain_text}
 use Rattle.swap_commands.specs.Recorded.{AreRecorded}
 use Rattle.swap_commands.specs.Promised.{AsPromised}
-use Rattle.swap_commands.specs.Says.{HasRead, IsCommandRefusal, Says}
-use Rattle.command_input.specs.Written.{Writes, Written}
+use Rattle.swap_commands.specs.Says.{HasRead, IsCommandRefusal, StatusSays}
+use Rattle.command_input.specs.Written.{StatusWrites, Written}
 use Rattle.swap_commands.specs.Words.{Command, OfJob, Check, Run, Race, Make}
 use Rattle.command_input.specs.declared.status.Status.{Status}
 use Rattle.command_input.specs.declared.status.Status.TheVariants.{Done, Named, WrongWords, Refused, ReadFault, WriteFault, NoMemory, TooLong}
@@ -43,7 +43,7 @@ use Rattle.swap_commands.proofs.Reading.{gives_make, making_of_bytes}
 use Rattle.swap_commands.specs.Strategies.{strategies}
 
 -- no more was taken than an input may have
-pub is_consumed : (left left' : Option (List ℕ)) (n m : ℕ) (now : At) → IsPart (desk left n fresh) (desk left' m now) → ConsumesAtMost left left' limit
+pub is_consumed : (left left' : Option (List ℕ)) (n m : ℕ) (now : At) → TookPart (desk left n fresh) (desk left' m now) → ConsumesAtMost left left' limit
 is_consumed left left' n m now t = (t.0.0, omega (arith, t.0.1.counted, t.1), t.0.1.consumed)
 
 -- nothing was taken
@@ -57,7 +57,7 @@ too_long left left' n m now t = (t.0.0, omega (arith, t.0.1.counted, t.1), t.0.1
 module _ (has : List ℕ → Bool) where
   pub says_written : (gives : MayGive) (a : Chance) (command : Command) (left left' : Option (List ℕ)) (n m : ℕ) (taken taken' : Option (List ℕ)) (p q : ℕ)
       (output : Written) (r : HasRead has a command left left' (Ok output)) → AsPromised has gives a command r.input output
-      → (s : Status) → Writes taken taken' p q output s → Says (strategies has gives) command (streams left n taken p) (streams left' m taken' q) s
+      → (s : Status) → StatusWrites taken taken' p q output s → StatusSays (strategies has gives) command (streams left n taken p) (streams left' m taken' q) s
   says_written gives a command left left' n m taken taken' p q output r promised Done w =
       record { chance = a; output = output; read = r; promised = promised; written = w }
   says_written gives a command left left' n m taken taken' p q output r promised Named w =
@@ -76,7 +76,7 @@ module _ (has : List ℕ → Bool) where
   pub says_unread : (gives : MayGive) (command : Command) (left left' : Option (List ℕ)) (n m : ℕ) (now : At) (taken taken' : Option (List ℕ)) (p q : ℕ)
       → Keeps taken taken'
       → (f : InputFault Refusal) → HasStopped (IsCommandRefusal has command) (desk left n fresh) (desk left' m now) f
-      → Says (strategies has gives) command (streams left n taken p) (streams left' m taken' q) (unread f)
+      → StatusSays (strategies has gives) command (streams left n taken p) (streams left' m taken' q) (unread f)
   says_unread gives command left left' n m now taken taken' p q k (fault.Refused r) u = (
     record {
       read = record {
@@ -98,7 +98,7 @@ module _ (has : List ℕ → Bool) where
   pub says_stopped : (gives : MayGive) (command : Command) (left left' left'' : Option (List ℕ)) (n m k : ℕ) (mid now : At) (taken : Option (List ℕ)) (p : ℕ)
       (f answer : InputFault Refusal) → Stops (IsCommandRefusal has command) (desk left n fresh) (desk left' m mid) f
       → Drains (desk left' m mid) (desk left'' k now) f answer
-      → Says (strategies has gives) command (streams left n taken p) (streams left'' k taken p) (unread answer)
+      → StatusSays (strategies has gives) command (streams left n taken p) (streams left'' k taken p) (unread answer)
   says_stopped gives command left left' left'' n m k mid now taken p f answer s d =
       says_unread gives command left left'' n k now taken taken p p (Keeps-refl taken) answer
       (has_stopped (IsCommandRefusal has command) (desk left n fresh) (desk left' m mid) (desk left'' k now) f answer s d)
@@ -119,12 +119,12 @@ module _ (has : List ℕ → Bool) where
   module _ (gives : MayGive) (transcript : Bool) (left left' : Option (List ℕ)) (n m : ℕ) (taken taken' : Option (List ℕ)) (p q : ℕ) where
     says_played : (a : Answers) (now : At) (job : Job) (s : State) (b : Histories) (status : Status)
         (e : Ends (λ bytes. IsPlayed has a bytes job s) (desk left n fresh) (desk left' m now))
-        → AreGiven gives job.deal a (finished job.finish (command_cast a job) s).asked
-        → b ≡ (finished job.finish (command_cast a job) s).book → IsAccepted job.deal → IsKept (job_cast job) b
-        → AreRecorded (command_cast a job) (finished job.finish (command_cast a job) s) → (job.finish ≡ Fair → IsEnded job.deal b)
+        → AreGiven gives job.deal a (finished_state job.finish (command_cast a job) s).asked
+        → b ≡ (finished_state job.finish (command_cast a job) s).book → IsAccepted job.deal → IsKept (job_cast job) b
+        → AreRecorded (command_cast a job) (finished_state job.finish (command_cast a job) s) → (job.finish ≡ Fair → IsEnded job.deal b)
         → (job.finish ≡ Fair → s ≡ start (job_cast job) → AllAreConforming job.deal job.conforming → IsDealt job.deal (is_conforming_party job.conforming) b)
-        → Writes taken taken' p q (reported transcript job b) status
-        → Says (strategies has gives) (OfJob (Run transcript)) (streams left n taken p) (streams left' m taken' q) status
+        → StatusWrites taken taken' p q (reported transcript job b) status
+        → StatusSays (strategies has gives) (OfJob (Run transcript)) (streams left n taken p) (streams left' m taken' q) status
     says_played a now job s b status e given same k kept disks ended dealt w =
         let out : Written = reported transcript job b in
         let made : output_given_chance has (by_answers a) (OfJob (Run transcript)) e.bytes ≡ Ok out =
@@ -149,15 +149,15 @@ module _ (has : List ℕ → Bool) where
         → IsAccepted job.deal → IsKept (job_cast job) b → (job.finish ≡ Fair → IsEnded job.deal b)
         → (job.finish ≡ Fair → world.state ≡ start (job_cast job) → AllAreConforming job.deal job.conforming
         → IsDealt job.deal (is_conforming_party job.conforming) b)
-        → Writes taken taken' p q (reported transcript job b) status
-        → Says (strategies has gives) (OfJob (Run transcript)) (streams left n taken p) (streams left' m taken' q) status
+        → StatusWrites taken taken' p q (reported transcript job b) status
+        → StatusSays (strategies has gives) (OfJob (Run transcript)) (streams left n taken p) (streams left' m taken' q) status
     says_run now job world b status e c k kept ended dealt w =
         says_played c.answers now job world.state b status (e c.answers c.continues) c.given c.book k kept c.recorded ended dealt w
 
   pub says_race : (gives : MayGive) (ticks : ℕ) (transcript : Bool) (left left' : Option (List ℕ)) (n m : ℕ) (taken taken' : Option (List ℕ)) (p q : ℕ)
       (job : Job) (b : Histories) (status : Status) → HasEntered has left left' job → IsAccepted job.deal → job.purpose ≡ purposes.Race
-      → IsRaceBook gives (job_cast job) ticks b → Writes taken taken' p q (reported transcript job b) status
-      → Says (strategies has gives) (OfJob (Race ticks transcript)) (streams left n taken p) (streams left' m taken' q) status
+      → IsRaceBook gives (job_cast job) ticks b → StatusWrites taken taken' p q (reported transcript job b) status
+      → StatusSays (strategies has gives) (OfJob (Race ticks transcript)) (streams left n taken p) (streams left' m taken' q) status
   says_race gives ticks transcript left left' n m taken taken' p q job b status e k purpose raced w =
       let out : Written = reported transcript job b in
       let r = e.entered in
@@ -188,8 +188,8 @@ module _ (has : List ℕ → Bool) where
   pub says_check : (gives : MayGive) (left left' : Option (List ℕ)) (n m : ℕ) (taken taken' : Option (List ℕ)) (p q : ℕ) (now : At) (job : Job)
       (status : Status)
       (e : Ends (λ bytes. IsChecked has bytes job) (desk left n fresh) (desk left' m now))
-      → IsAccepted job.deal → Writes taken taken' p q (told job) status
-      → Says (strategies has gives) (OfJob Check) (streams left n taken p) (streams left' m taken' q) status
+      → IsAccepted job.deal → StatusWrites taken taken' p q (told job) status
+      → StatusSays (strategies has gives) (OfJob Check) (streams left n taken p) (streams left' m taken' q) status
   says_check gives left left' n m taken taken' p q now job status e k w =
       says_written gives no_chance (OfJob Check) left left' n m taken taken' p q (told job)
       (record {
@@ -207,8 +207,8 @@ module _ (has : List ℕ → Bool) where
   pub says_make : (gives : MayGive) (left left' : Option (List ℕ)) (n m : ℕ) (taken taken' : Option (List ℕ)) (p q : ℕ) (now : At) (job : Job)
       (text : List ℕ) (status : Status)
       (e : Ends (λ bytes. IsCopied has bytes job text) (desk left n fresh) (desk left' m now))
-      → IsMade job → Writes taken taken' p q (plain_text text) status
-      → Says (strategies has gives) (OfJob Make) (streams left n taken p) (streams left' m taken' q) status
+      → IsMade job → StatusWrites taken taken' p q (plain_text text) status
+      → StatusSays (strategies has gives) (OfJob Make) (streams left n taken p) (streams left' m taken' q) status
   says_make gives left left' n m taken taken' p q now job text status e k w =
       says_written gives no_chance (OfJob Make) left left' n m taken taken' p q (plain_text text)
       (record {

@@ -5,7 +5,7 @@ use Rattle.command_input.specs.Lines.{collect_lines, filled_lines}
 use Rattle.command_input.specs.Written.{Written}
 use Rattle.clear_line.specs.ClearedText.{IsClearedLine}
 use Rattle.command_input.specs.Input.{At, ahead}
-use Rattle.swap_commands.specs.Output.{alone, plain_text}
+use Rattle.swap_commands.specs.Output.{refuse_further_line, plain_text}
 
 -- The input is one line of wishes, and the text is what is cleared of it.
 pub record IsCleared (bytes text : List ℕ) : Type 0 where
@@ -16,7 +16,7 @@ pub record IsCleared (bytes text : List ℕ) : Type 0 where
 
 -- what is said against further lines
 abbrev pub IsFurther : At → List ℕ → Refusal → Type 0
-IsFurther s bytes refusal = (alone (ahead s bytes) ≡ Err refusal.reason) × (refusal.names ≡ [])
+IsFurther s bytes refusal = (refuse_further_line (ahead s bytes) ≡ Err refusal.reason) × (refusal.names ≡ [])
 
 -- what a clearing promises that wrote its output
 pub record IsClearing (input : List ℕ) (output : Written) : Type 0 where

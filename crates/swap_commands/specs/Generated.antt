@@ -7,8 +7,8 @@ use Rattle.swap_rules.specs.Accepted.{IsAccepted}
 use Rattle.swap_rules.specs.Outcome.{IsEnded}
 use Rattle.swap_gen.specs.Drawn.{generated}
 use Rattle.made_jobs.specs.Generating.{generated_book, generated_summary, generated_text, is_found}
-use Rattle.command_input.specs.Written.{Writes, Written}
-use Rattle.swap_commands.specs.Output.{plain_text, story_report}
+use Rattle.command_input.specs.Written.{StatusWrites, Written}
+use Rattle.swap_commands.specs.Output.{plain_text, book_report}
 use Rattle.swap_commands.specs.Promised.{IsPromised}
 use Rattle.swap_commands.specs.Words.{words_request}
 use Rattle.program_words.specs.declared.task.Request.{Request}
@@ -34,7 +34,7 @@ generated_output r = if r.summary then summary_output r else text_output r
 -- book keeps what every run promises, and every ledger in it has ended.
 pub record IsSummary (job : Job) (b : Histories) (r : Request) (output : Written) : Type 0 where
   pub shown : output ≡ summary_output r
-  pub promised : IsPromised job b (story_report job b)
+  pub promised : IsPromised job b (book_report job b)
   pub ended : IsEnded job.deal b
 
 -- what is promised of a request's output, where that is a summary
@@ -44,7 +44,7 @@ AsRequested r output = r.summary ≡ true → IsSummary (generated r.seed r.part
 -- What a status says of a number's job, by what the sink took and how many of its calls failed.
 -- After want of memory no summary was made, and nothing was written where one was asked for.
 pub record IsRequestStatus (taken taken' : Option (List ℕ)) (p q : ℕ) (r : Request) (s : Status) : Type 0 where
-  pub writes : Writes taken taken' p q (generated_output r) s
+  pub writes : StatusWrites taken taken' p q (generated_output r) s
   pub promised : ¬ (s ≡ NoMemory) → AsRequested r (generated_output r)
   pub silent : s ≡ NoMemory → r.summary ≡ true → Keeps taken taken'
 

@@ -16,7 +16,7 @@ use Rattle.swap_many.specs.Opened.{overdrawn}
 use Rattle.swap_many.specs.declared.many_event.ManyEvent.{ManyEvent}
 use Rattle.swap_many.specs.declared.overdrawn.Overdrawn.{Overdrawn}
 use Rattle.swap_many.specs.declared.place.Place.{Place}
-use Rattle.many_lines.specs.Heading.{HeadingState, stage_finish, finish_told, line_taken, unread}
+use Rattle.many_lines.specs.Heading.{HeadingState, stage_finish, finish_told, line_taken, nothing_headed}
 use Rattle.many_lines.specs.Places.{find_places}
 use Rattle.many_lines.specs.Event.{next_told}
 use Rattle.many_lines.specs.Setup.{setup_with_answers}
@@ -42,7 +42,7 @@ headed_lines has h (l ∷ ls) =
     if is_some (finish_told h.stage) then finished_heading h (l ∷ ls) else (line_taken has h l.0 l.1 >>= λ t. headed_lines has t ls)
 
 abbrev pub headed : (List ℕ → Bool) → List (ℕ × List ℕ) → Result Headed Refusal
-headed has ls = headed_lines has unread ls
+headed has ls = headed_lines has nothing_headed ls
 
 -- the events of lines, where so many came before
 abbrev pub events_told : ManyJob → ℕ → List (ℕ × List ℕ) → Result (List ManyEvent) Refusal

@@ -11,7 +11,7 @@ use Rattle.swap_run.specs.Asked.{Answers}
 use Rattle.swap_world.specs.Gone.{MayGive}
 use Rattle.swap_world.specs.Value.{new_world}
 use Rattle.swap_many.specs.Kept.{kept_step}
-use Rattle.swap_many.specs.Laws.{IsReady}
+use Rattle.swap_many.specs.Laws.{IsReadySetup}
 use Rattle.swap_many.specs.Opening.{AreOpenable, new_many}
 use Rattle.swap_many.specs.Value.{AreAllHeld, HasManyGone, ManyState, made_setup}
 use Rattle.swap_many.specs.declared.many_event.ManyEvent.{ManyEvent}
@@ -19,7 +19,7 @@ use Rattle.swap_many.specs.declared.overdrawn.Overdrawn.{Overdrawn}
 use Rattle.swap_many.specs.declared.place.Place.{Place}
 use Rattle.many_lines.specs.Heading.{HeadingState}
 use Rattle.many_lines.specs.Setup.{MayCome, setup_with_answers}
-use Rattle.many_lines.specs.Whole.{AreChains, AreSwaps}
+use Rattle.many_lines.specs.Whole.{AreBoundedChains, AreSwaps}
 use Rattle.many_lines.specs.declared.many_job.ManyJob.{ManyJob}
 use Rattle.many_lines.specs.declared.stage.Stage.TheVariants.{Over}
 use Rattle.command_input.specs.Input.{CanBeLeft, Desk, Ends, Stands, ahead}
@@ -47,12 +47,12 @@ new_worlds many places = new_many many.units (map new_world many.jobs) places
 
 -- The worlds are those of the swaps before any event, and each account has what is set aside from
 -- it.
-pub record IsOpened (many : ManyJob) (w : ManyState) : Type 0 where
+pub record AreOpenedWorlds (many : ManyJob) (w : ManyState) : Type 0 where
   pub places : List (List Place)
   pub are_placed : opened_places many ≡ Ok places
   pub openable : AreOpenable many.units (map new_world many.jobs) places
   pub new : w ≡ new_worlds many places
-  pub ready : (g : ℕ → Answers) → IsReady (setup_with_answers g many places)
+  pub ready : (g : ℕ → Answers) → IsReadySetup (setup_with_answers g many places)
 
 -- the worlds are those of the swaps
 abbrev pub AreSwapWorlds : ManyJob → ManyState → Type 0
@@ -61,7 +61,7 @@ AreSwapWorlds many w = (g : ℕ → Answers) → made_setup w g ≡ setup_with_a
 -- The worlds are those of the swaps, and can take their next event, where the staff holds these
 -- strategies.
 pub record CanReplayMany (holds : List ℕ → Bool) (many : ManyJob) (w : ManyState) : Type 0 where
-  pub chains : AreChains many
+  pub chains : AreBoundedChains many
   pub swaps : AreSwaps many
   pub are_worlds : AreSwapWorlds many w
   pub held : AreAllHeld holds w
@@ -76,7 +76,7 @@ abbrev pub HasReplayed : MayGive → List ManyEvent → (old new : ManyState) �
 HasReplayed gives events old new = HasManyGone gives (λ m z. fold (kept_step m) z events) old new
 
 -- The lines ahead told events, to which the worlds have come.
-pub record IsReplayed (gives : MayGive) (many : ManyJob) (old new : ManyState) (first now : Desk) : Type 0 where
+pub record HaveReplayed (gives : MayGive) (many : ManyJob) (old new : ManyState) (first now : Desk) : Type 0 where
   pub events : List ManyEvent
   pub told : Ends (λ bytes. events_told many 0 (ahead first.at bytes) ≡ Ok events) first now
   pub gone : HasReplayed gives events old new
@@ -89,8 +89,8 @@ places_after_events many ls = events_told many 0 ls >>= λ events. opened_places
 -- The worlds were opened, and have come to where the lines ahead lead.
 pub record AreRun (gives : MayGive) (many : ManyJob) (w : ManyState) (first now : Desk) : Type 0 where
   pub new : ManyState
-  pub begun : IsOpened many new
-  pub replayed : IsReplayed gives many new w first now
+  pub begun : AreOpenedWorlds many new
+  pub replayed : HaveReplayed gives many new w first now
 
 -- The bytes are several swaps, and the worlds have come to where their events lead.
 pub record IsManyPlayed (has : List ℕ → Bool) (gives : MayGive) (bytes : List ℕ) (many : ManyJob) (finish : Finish) (w : ManyState) : Type 0 where
@@ -99,6 +99,6 @@ pub record IsManyPlayed (has : List ℕ → Bool) (gives : MayGive) (bytes : Lis
   pub new : ManyState
   pub is_headed : headed has (filled_lines 1 (collect_lines bytes)) ≡ Ok (record { many = many; finish = finish; lines = lines })
   pub are_told : events_told many 0 lines ≡ Ok events
-  pub begun : IsOpened many new
+  pub begun : AreOpenedWorlds many new
   pub gone : HasReplayed gives events new w
   pub can : All (MayCome many) events

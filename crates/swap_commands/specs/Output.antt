@@ -49,17 +49,17 @@ abbrev pub with_report : Bool → Job → Histories → Report → Written
 with_report transcript job b r = record { text = run_text transcript job b r; found = not (length r.findings == 0) }
 
 -- the report of a job's book
-abbrev pub story_report : Job → Histories → Report
-story_report job b = build_report job.deal job.conforming b
+abbrev pub book_report : Job → Histories → Report
+book_report job b = build_report job.deal job.conforming b
 
 -- what is written of a job's book
 unfoldable pub reported : Bool → Job → Histories → Written
-reported transcript job b = with_report transcript job b (story_report job b)
+reported transcript job b = with_report transcript job b (book_report job b)
 
 -- what a finish makes of a state: nothing more is done, or the fair finish is
-abbrev pub finished : Finish → Cast → State → State
-finished Stop c s = s
-finished Fair c s = finish c s
+abbrev pub finished_state : Finish → Cast → State → State
+finished_state Stop c s = s
+finished_state Fair c s = finish c s
 
 -- who takes part in a job's run, where strategies answer a
 abbrev pub command_cast : Answers → Job → Cast
@@ -67,7 +67,7 @@ command_cast a job = with_answers (job_cast job) a
 
 -- the state to which a job's run leads: after its events, and then after its finish
 abbrev pub run_state : Answers → Job → List Event → State
-run_state a job events = finished job.finish (command_cast a job) (run (command_cast a job) events)
+run_state a job events = finished_state job.finish (command_cast a job) (run (command_cast a job) events)
 
 -- its histories
 abbrev pub collected_book : Answers → Job → List Event → Histories
@@ -119,23 +119,23 @@ job_output chance Check lines read = read >>= λ j. Ok (told j.0)
 job_output chance Make lines read = read >>= λ j. Ok (plain_text (made_text j.0 (drop 1 lines)))
 
 -- no further line
-abbrev pub alone : List (ℕ × List ℕ) → Result (Unit {0}) Reason
-alone [] = Ok tt
-alone (l ∷ ls) = Err (BadLine l.0)
+abbrev pub refuse_further_line : List (ℕ × List ℕ) → Result (Unit {0}) Reason
+refuse_further_line [] = Ok tt
+refuse_further_line (l ∷ ls) = Err (BadLine l.0)
 
 -- what is written of wishes, by the lines of their input, or the first reason why they are refused:
 -- the line's own first, and then a further line
 abbrev pub wish_lines_output : List (ℕ × List ℕ) → Result Written Reason
 wish_lines_output [] = Err (NotJson 1)
-wish_lines_output (l ∷ ls) = cleared_line l.0 l.1 >>= λ text. alone ls >>= λ u. Ok (plain_text text)
+wish_lines_output (l ∷ ls) = cleared_line l.0 l.1 >>= λ text. refuse_further_line ls >>= λ u. Ok (plain_text text)
 
 unfoldable pub clear_output : List ℕ → Result Written Reason
 clear_output input = wish_lines_output (filled_lines 1 (collect_lines input))
 
 -- the reason of a refusal
-abbrev pub by_reason : Result Written Refusal → Result Written Reason
-by_reason (Ok output) = Ok output
-by_reason (Err refusal) = Err refusal.reason
+abbrev pub reason_alone : Result Written Refusal → Result Written Reason
+reason_alone (Ok output) = Ok output
+reason_alone (Err refusal) = Err refusal.reason
 
 -- the names of the parties that a refusal may speak of
 abbrev pub names_told : Result Written Refusal → List (List ℕ)
@@ -146,9 +146,9 @@ names_told (Err refusal) = refusal.names
 -- which strategies exist, and `chance` has what the input doesn't decide
 unfoldable pub output_given_chance : (List ℕ → Bool) → Chance → Command → List ℕ → Result Written Reason
 output_given_chance has chance (OfJob command) input = job_output chance command (filled_lines 1 (collect_lines input)) (parse_job has (command_purpose command) input)
-output_given_chance has chance Audit input = by_reason (audit_output input)
+output_given_chance has chance Audit input = reason_alone (audit_output input)
 output_given_chance has chance Clear input = clear_output input
-output_given_chance has chance Many input = by_reason (many_output has chance.many input)
+output_given_chance has chance Many input = reason_alone (many_output has chance.many input)
 
 -- strategies that never call, and a race without a ledger
 abbrev pub no_chance : Chance

@@ -38,7 +38,7 @@ use Rattle.party_threads.specs.Race.{IsRaceBook}
 use Rattle.swap_commands.specs.Cleared.{IsClearing}
 use Rattle.swap_commands.specs.Many.{Headed, events_told, headed, many_state, many_written, opened_places, finished_run}
 use Rattle.swap_commands.specs.Recorded.{AreRecorded}
-use Rattle.swap_commands.specs.Output.{AreGiven, Chance, collected_book, command_cast, run_state, command_purpose, story_report, reported, told}
+use Rattle.swap_commands.specs.Output.{AreGiven, Chance, collected_book, command_cast, run_state, command_purpose, book_report, reported, told}
 use Rattle.made_jobs.specs.Making.{IsMade}
 use Rattle.swap_commands.specs.Words.{Command, OfJob, Audit, Clear, Many, JobCommand, Check, Run, Race, Make}
 
@@ -69,14 +69,14 @@ pub record IsRun (gives : MayGive) (a : Answers) (transcript : Bool) (read : Res
   -- each answer is one that its strategy may give to what it was asked
   pub given : AreGiven gives job.deal a (run_state a job events).asked
   pub shown : output ≡ reported transcript job (collected_book a job events)
-  pub promised : IsPromised job (collected_book a job events) (story_report job (collected_book a job events))
+  pub promised : IsPromised job (collected_book a job events) (book_report job (collected_book a job events))
   -- whatever crashes came, the disk of each conforming party has recorded each hashkey that the
   -- party presented
   pub recorded : AreRecorded (command_cast a job) (run_state a job events)
   -- a fair finish ends every ledger
   pub ended : job.finish ≡ Fair → IsEnded job.deal (collected_book a job events)
   -- and where all conform and no event came before it, nothing is found
-  pub fair : job.finish ≡ Fair → events ≡ [] → AllAreConforming job.deal job.conforming → (story_report job (collected_book a job events)).findings ≡ []
+  pub fair : job.finish ≡ Fair → events ≡ [] → AllAreConforming job.deal job.conforming → (book_report job (collected_book a job events)).findings ≡ []
 
 -- A race that wrote its output, the report or the transcript: its job, as it was read without an
 -- event, the book that it came to, and what it promises.
@@ -86,11 +86,11 @@ pub record IsRace (gives : MayGive) (b : Histories) (ticks : ℕ) (transcript : 
   -- the book is what a race with `ticks` ticks a round makes, whatever the order of its threads
   pub raced : IsRaceBook gives (job_cast job) ticks b
   pub shown : output ≡ reported transcript job b
-  pub promised : IsPromised job b (story_report job b)
+  pub promised : IsPromised job b (book_report job b)
   -- nobody is named late where two rounds' ticks fit in delta
-  pub on_time : 2 * ticks ≤ job.deal.delta → (v : ℕ) (rule : Rule) (a due : ℕ) → ¬ IsElement (Late v rule a due) (story_report job b).findings
+  pub on_time : 2 * ticks ≤ job.deal.delta → (v : ℕ) (rule : Rule) (a due : ℕ) → ¬ IsElement (Late v rule a due) (book_report job b).findings
   -- and where all conform besides, nothing is found
-  pub dealt : 2 * ticks ≤ job.deal.delta → AllAreConforming job.deal job.conforming → (story_report job b).findings ≡ []
+  pub dealt : 2 * ticks ≤ job.deal.delta → AllAreConforming job.deal job.conforming → (book_report job b).findings ≡ []
 
 -- A check that wrote its output: its job and its events, as they were read, and the deal is
 -- accepted.

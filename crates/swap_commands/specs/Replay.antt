@@ -20,14 +20,14 @@ use Rattle.swap_world.specs.Value.{Continues, WorldState}
 use Rattle.swap_gen.specs.Made.{made}
 use Rattle.made_jobs.specs.Making.{copied, written_line}
 use Rattle.made_jobs.specs.Generating.{IsJobWorld}
-use Rattle.swap_commands.specs.Output.{AreGiven, Chance, command_cast, finished, plain_text, reported, told}
+use Rattle.swap_commands.specs.Output.{AreGiven, Chance, command_cast, finished_state, plain_text, reported, told}
 use Rattle.swap_commands.specs.Recorded.{AreRecorded}
 use Rattle.command_input.specs.Written.{Written}
 use Rattle.swap_commands.specs.Words.{JobCommand, Check, Run, Race, Make}
 
 -- what f makes of x along the events of lines; `n` events came before
-unfoldable pub replayed : {A : Type 0} → (A → Event → A) → Job → ℕ → A → List (ℕ × List ℕ) → Result A Reason
-replayed f job count x lines = parse_events job count lines >>= λ events. Ok (fold f x events)
+unfoldable pub folded_events : {A : Type 0} → (A → Event → A) → Job → ℕ → A → List (ℕ × List ℕ) → Result A Reason
+folded_events f job count x lines = parse_events job count lines >>= λ events. Ok (fold f x events)
 
 -- The world is one of the job, and can take its next event, where the staff holds these strategies.
 pub record CanReplay (holds : List ℕ → Bool) (job : Job) (w : WorldState) : Type 0 where
@@ -42,9 +42,9 @@ pub record CanReplay (holds : List ℕ → Bool) (job : Job) (w : WorldState) : 
 pub record IsConcluded (gives : MayGive) (job : Job) (w : WorldState) (b : Histories) : Type 0 where
   pub answers : Answers
   pub continues : Continues w answers
-  pub given : AreGiven gives job.deal answers (finished job.finish (command_cast answers job) w.state).asked
-  pub book : b ≡ (finished job.finish (command_cast answers job) w.state).book
-  pub recorded : AreRecorded (command_cast answers job) (finished job.finish (command_cast answers job) w.state)
+  pub given : AreGiven gives job.deal answers (finished_state job.finish (command_cast answers job) w.state).asked
+  pub book : b ≡ (finished_state job.finish (command_cast answers job) w.state).book
+  pub recorded : AreRecorded (command_cast answers job) (finished_state job.finish (command_cast answers job) w.state)
 
 -- an event is read and passed over
 abbrev pub skipped_event : Unit {0} → Event → Unit {0}
@@ -52,7 +52,7 @@ skipped_event u e = u
 
 -- The lines of an input that isn't blank: its header is that of a job, and a walk along the others
 -- leads to y.
-pub record IsRead {A : Type 0} (has : List ℕ → Bool) (purpose : Purpose) (walk : Job → List (ℕ × List ℕ)
+pub record IsReadInput {A : Type 0} (has : List ℕ → Bool) (purpose : Purpose) (walk : Job → List (ℕ × List ℕ)
     → Result A Reason) (bytes : List ℕ) (job : Job) (y : A) : Type 0 where
   pub line : ℕ
   pub text : List ℕ
@@ -63,39 +63,39 @@ pub record IsRead {A : Type 0} (has : List ℕ → Bool) (purpose : Purpose) (wa
 
 -- the bytes are a job, and its events lead to the state, where strategies answer a
 abbrev pub IsPlayed : (List ℕ → Bool) → Answers → List ℕ → Job → State → Type 0
-IsPlayed has a bytes job s = IsRead has purposes.Run (λ job. replayed (step (command_cast a job)) job 0 (start (job_cast job))) bytes job s
+IsPlayed has a bytes job s = IsReadInput has purposes.Run (λ job. folded_events (step (command_cast a job)) job 0 (start (job_cast job))) bytes job s
 
 -- the bytes are a job with its events
 abbrev pub IsChecked : (List ℕ → Bool) → List ℕ → Job → Type 0
-IsChecked has bytes job = IsRead has purposes.Check (λ job. replayed skipped_event job 0 tt) bytes job tt
+IsChecked has bytes job = IsReadInput has purposes.Check (λ job. folded_events skipped_event job 0 tt) bytes job tt
 
 -- the bytes are the job of a race, and its further lines were passed over
 abbrev pub IsEntered : (List ℕ → Bool) → List ℕ → Job → Type 0
-IsEntered has bytes job = IsRead has purposes.Race (λ job. replayed skipped_event job 0 tt) bytes job tt
+IsEntered has bytes job = IsReadInput has purposes.Race (λ job. folded_events skipped_event job 0 tt) bytes job tt
 
 -- the bytes are a plain job, and its made header and its further lines are the text
 abbrev pub IsCopied : (List ℕ → Bool) → List ℕ → Job → List ℕ → Type 0
-IsCopied has bytes job text = IsRead has purposes.Make (λ job. copied 0 (written_line (made job))) bytes job text
+IsCopied has bytes job text = IsReadInput has purposes.Make (λ job. copied 0 (written_line (made job))) bytes job text
 
 -- what a run writes, where strategies answer a
 unfoldable pub of_run : (List ℕ → Bool) → Answers → Bool → ℕ → List ℕ → List (ℕ × List ℕ) → Result Written Reason
 of_run has a transcript line text ls = do
   job ← parse_header_job has purposes.Run line text
-  s ← replayed (step (command_cast a job)) job 0 (start (job_cast job)) ls
-  Ok (reported transcript job (finished job.finish (command_cast a job) s).book)
+  s ← folded_events (step (command_cast a job)) job 0 (start (job_cast job)) ls
+  Ok (reported transcript job (finished_state job.finish (command_cast a job) s).book)
 
 -- what a race writes that comes to the book b
 unfoldable pub of_race : (List ℕ → Bool) → Histories → Bool → ℕ → List ℕ → List (ℕ × List ℕ) → Result Written Reason
 of_race has b transcript line text ls = do
   job ← parse_header_job has purposes.Race line text
-  u ← replayed skipped_event job 0 tt ls
+  u ← folded_events skipped_event job 0 tt ls
   Ok (reported transcript job b)
 
 -- what a check writes
 unfoldable pub of_check : (List ℕ → Bool) → ℕ → List ℕ → List (ℕ × List ℕ) → Result Written Reason
 of_check has line text ls = do
   job ← parse_header_job has purposes.Check line text
-  u ← replayed skipped_event job 0 tt ls
+  u ← folded_events skipped_event job 0 tt ls
   Ok (told job)
 
 -- what a command that makes a job writes

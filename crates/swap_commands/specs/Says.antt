@@ -44,18 +44,18 @@ abbrev pub IsCommandRefusal : (List ℕ → Bool) → Command → List ℕ → R
 IsCommandRefusal has command input refusal = (command_output has command input ≡ Err refusal.reason) × (refusal.names ≡ refusal_names has command input)
 
 -- what a status says, by the source and the sink before and after
-abbrev pub Says : Strategies → Command → Streams → Streams → Status → Type 0
-Says who command before after Done = HasOutput who.holds who.gives (IsWrittenWhole before.taken after.taken false) command before.left after.left
-Says who command before after Named = HasOutput who.holds who.gives (IsWrittenWhole before.taken after.taken true) command before.left after.left
-Says who command before after WrongWords = ⊥
-Says who command before after (Refused reason names) =
+abbrev pub StatusSays : Strategies → Command → Streams → Streams → Status → Type 0
+StatusSays who command before after Done = HasOutput who.holds who.gives (IsWrittenWhole before.taken after.taken false) command before.left after.left
+StatusSays who command before after Named = HasOutput who.holds who.gives (IsWrittenWhole before.taken after.taken true) command before.left after.left
+StatusSays who command before after WrongWords = ⊥
+StatusSays who command before after (Refused reason names) =
     HasReason who.holds command before.left after.left reason names × Keeps before.taken after.taken
-Says who command before after ReadFault =
+StatusSays who command before after ReadFault =
     HasReadFault before after × Keeps before.taken after.taken × ConsumesAtMost before.left after.left limit
-Says who command before after WriteFault =
+StatusSays who command before after WriteFault =
     HasWriteFault before after
     × HasOutput who.holds who.gives (λ output. AppendsProperPrefix before.taken after.taken output.text) command before.left after.left
-Says who command before after NoMemory =
+StatusSays who command before after NoMemory =
     (Keeps before.taken after.taken × ConsumesAtMost before.left after.left limit)
     ⊎ HasOutput who.holds who.gives (λ output. AppendsPrefix before.taken after.taken output.text) command before.left after.left
-Says who command before after TooLong = ConsumesSome before.left after.left (limit + 1) × Keeps before.taken after.taken
+StatusSays who command before after TooLong = ConsumesSome before.left after.left (limit + 1) × Keeps before.taken after.taken

@@ -5,11 +5,11 @@ ghost use Rattle.swap_digraph.specs.Deal.{IsWellSized};
 ghost use Rattle.swap_rules.specs.Accepted.{IsAccepted};
 ghost use Rattle.swap_offer.specs.Checks.{deal_need};
 ghost use Rattle.command_input.specs.Input.{Ends, Stops, desk, fresh};
-ghost use Rattle.command_input.specs.Written.{Writes};
+ghost use Rattle.command_input.specs.Written.{StatusWrites};
 ghost use Rattle.command_input.specs.Streams.{streams};
 ghost use Rattle.swap_commands.specs.Output.{check_text, told};
 ghost use Rattle.swap_commands.specs.Replay.{IsChecked};
-ghost use Rattle.swap_commands.specs.Says.{IsCommandRefusal, Says};
+ghost use Rattle.swap_commands.specs.Says.{IsCommandRefusal, StatusSays};
 ghost use Rattle.swap_commands.specs.Words.{Check, OfJob};
 ghost use Rattle.swap_commands.specs.Strategies.{strategies};
 
@@ -79,7 +79,7 @@ fn examine<S: Source, A: Strategies>(
 fn tell<K: Sink>(alloc: Global, sink: &mut K, job: &Job, need: u32) -> Status
     requires sized { IsWellSized job.now.deal }
     requires need { need ≡ deal_need job.now.deal }
-    ensures { Writes (K.taken sink.old) (K.taken sink.new) (K.faults sink.old) (K.faults sink.new) (told job.now) result }
+    ensures { StatusWrites (K.taken sink.old) (K.taken sink.new) (K.faults sink.old) (K.faults sink.new) (told job.now) result }
 {
     let Ok(text) = check_text(alloc, &job.deal, need) else {
         return Status::NoMemory;
@@ -99,7 +99,7 @@ pub(crate) fn check<S: Source, K: Sink, A: Strategies>(
     sink: &mut K,
 ) -> Status
     requires { input.old ≡ fresh }
-    ensures says { Says (strategies (A.holds staff.now) (A.gives staff.now)) (OfJob Check)
+    ensures says { StatusSays (strategies (A.holds staff.now) (A.gives staff.now)) (OfJob Check)
         (streams (S.left source.old) (S.faults source.old) (K.taken sink.old) (K.faults sink.old))
         (streams (S.left source.new) (S.faults source.new) (K.taken sink.new) (K.faults sink.new)) result }
     ensures calm { ¬ (result ≡ Status.ReadFault) → S.faults source.new ≡ S.faults source.old }

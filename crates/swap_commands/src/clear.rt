@@ -5,7 +5,7 @@ ghost use Rattle.clear_line.specs.ClearedText.{IsClearedLine};
 ghost use Rattle.swap_commands.specs.Cleared.{IsCleared, IsFurther};
 ghost use Rattle.command_input.specs.Input.{Ends, Fits, IsLast, IsLine, Stops, desk, fresh};
 ghost use Rattle.command_input.specs.Streams.{streams};
-ghost use Rattle.swap_commands.specs.Says.{IsCommandRefusal, Says};
+ghost use Rattle.swap_commands.specs.Says.{IsCommandRefusal, StatusSays};
 ghost use Rattle.swap_commands.specs.Words.{Clear};
 ghost use Rattle.swap_commands.specs.Strategies.{strategies};
 
@@ -41,7 +41,7 @@ fn first_wishes<S: Source>(
 }
 
 /// A further line that isn't blank is a bad one.
-fn alone<S: Source>(
+fn refuse_further_line<S: Source>(
     alloc: Global,
     input: &mut Input,
     source: &mut S,
@@ -74,7 +74,7 @@ fn clear_wishes<S: Source>(
         (desk (S.left source.new) (S.faults source.new) input.new) e) }
 {
     let text = first_wishes(alloc, input, source)?;
-    match alone(alloc, input, source) {
+    match refuse_further_line(alloc, input, source) {
         Ok(()) => Ok(text),
         Err(fault) => Err(fault),
     }
@@ -89,7 +89,7 @@ pub(crate) fn clear<S: Source, K: Sink, A: Strategies>(
     sink: &mut K,
 ) -> Status
     requires { input.old ≡ fresh }
-    ensures says { Says (strategies (A.holds _staff.now) (A.gives _staff.now)) Clear
+    ensures says { StatusSays (strategies (A.holds _staff.now) (A.gives _staff.now)) Clear
         (streams (S.left source.old) (S.faults source.old) (K.taken sink.old) (K.faults sink.old))
         (streams (S.left source.new) (S.faults source.new) (K.taken sink.new) (K.faults sink.new)) result }
     ensures calm { ¬ (result ≡ Status.ReadFault) → S.faults source.new ≡ S.faults source.old }

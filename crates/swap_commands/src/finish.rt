@@ -10,7 +10,7 @@ ghost use Rattle.swap_world.specs.Actors.{AreHeld};
 ghost use Rattle.outcome_rules.specs.Report.{is_conforming_party};
 ghost use Rattle.outcome_rules.specs.Promises.{AllAreConforming};
 ghost use Rattle.made_jobs.specs.Generating.{IsJobWorld};
-ghost use Rattle.swap_commands.specs.Output.{finished};
+ghost use Rattle.swap_commands.specs.Output.{finished_state};
 
 use deviators::Strategies;
 use swap_base::NoMemory;
@@ -22,7 +22,7 @@ pub(crate) fn finish<A: Strategies>(world: &mut World, staff: &A, job: &Job) -> 
     requires held { AreHeld (A.holds staff.now) job.now.roles }
     requires of { IsJobWorld job.now world.old }
     requires goes_on { world.old.stopped ≡ false }
-    ensures gone { OnOk result (HasGone (A.gives staff.now) (finished job.now.finish) world.old world.new) }
+    ensures gone { OnOk result (HasGone (A.gives staff.now) (finished_state job.now.finish) world.old world.new) }
     ensures ended { OnOk result (job.now.finish ≡ Finish.Fair → IsEnded job.now.deal world.new.state.book) }
     ensures dealt { OnOk result (job.now.finish ≡ Finish.Fair → world.old.state ≡ start (job_cast job.now) → AllAreConforming job.now.deal job.now.conforming
         → IsDealt job.now.deal (is_conforming_party job.now.conforming) world.new.state.book) }

@@ -2,7 +2,7 @@
 
 ghost use Rattle.std.specs.Prelude.{◌≡◌, ◌≤◌};
 ghost use Rattle.std.specs.Io.KnownBytes.{Keeps};
-ghost use Rattle.command_input.specs.Written.{Writes};
+ghost use Rattle.command_input.specs.Written.{StatusWrites};
 ghost use Rattle.swap_commands.specs.Generated.{IsRequestStatus, IsSummary, summary_output, text_output};
 ghost use Rattle.swap_gen.specs.Drawn.{generated};
 ghost use Rattle.made_jobs.specs.Generating.{generated_book};
@@ -17,7 +17,7 @@ use swap_io::{Sink, TextFault, write_all};
 fn write_job<K: Sink>(alloc: Global, request: Request, sink: &mut K) -> Status
     requires low { 2 ≤ request.parties }
     requires high { request.parties ≤ 24 }
-    ensures { Writes (K.taken sink.old) (K.taken sink.new) (K.faults sink.old) (K.faults sink.new) (text_output request) result }
+    ensures { StatusWrites (K.taken sink.old) (K.taken sink.new) (K.faults sink.old) (K.faults sink.new) (text_output request) result }
 {
     match write_generated(alloc, sink, request.seed, request.parties, request.events) {
         Ok(()) => Status::Done,
@@ -30,7 +30,7 @@ fn write_job<K: Sink>(alloc: Global, request: Request, sink: &mut K) -> Status
 fn tell<K: Sink>(sink: &mut K, request: Request, summary: &Summary) -> Status
     requires text { summary.now.text ≡ (summary_output request).text }
     requires found { summary.now.found ≡ (summary_output request).found }
-    ensures writes { Writes (K.taken sink.old) (K.taken sink.new) (K.faults sink.old) (K.faults sink.new) (summary_output request) result }
+    ensures writes { StatusWrites (K.taken sink.old) (K.taken sink.new) (K.faults sink.old) (K.faults sink.new) (summary_output request) result }
     ensures whole { ¬ (result ≡ Status.NoMemory) }
 {
     match write_all(sink, summary.text.as_slice()) {
@@ -49,7 +49,7 @@ fn tell<K: Sink>(sink: &mut K, request: Request, summary: &Summary) -> Status
 fn write_summary<K: Sink>(alloc: Global, request: Request, sink: &mut K) -> Status
     requires low { 2 ≤ request.parties }
     requires high { request.parties ≤ 24 }
-    ensures writes { Writes (K.taken sink.old) (K.taken sink.new) (K.faults sink.old) (K.faults sink.new) (summary_output request) result }
+    ensures writes { StatusWrites (K.taken sink.old) (K.taken sink.new) (K.faults sink.old) (K.faults sink.new) (summary_output request) result }
     // Without the memory for a summary there is none, and nothing of it is promised.
     ensures promised { ¬ (result ≡ Status.NoMemory) → IsSummary (generated request.seed request.parties)
         (generated_book request.seed request.parties request.events) request (summary_output request) }

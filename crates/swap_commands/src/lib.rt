@@ -4,7 +4,7 @@
 //! `specs/Many.antt`); then `specs/Promised.antt`: what is promised of the histories that a report
 //! shows; then `specs/Says.antt`: what each status says of a command. A job is read line by line
 //! (`Input.antt` of `command_input`), its events by one walk (`walk.rt`), and each command but the
-//! audit has a file of its own, whose function says `Says`.
+//! audit has a file of its own, whose function says `StatusSays`.
 #![tactic(auto)]
 
 mod check;

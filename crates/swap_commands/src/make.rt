@@ -3,11 +3,11 @@
 ghost use Rattle.std.specs.Prelude.{◌≡◌, IfOk, IfErr, OnOk, Ok, Err};
 ghost use Rattle.made_jobs.specs.Making.{copied, IsMade};
 ghost use Rattle.command_input.specs.Input.{Ends, Fits, Stops, ahead, desk, fresh};
-ghost use Rattle.command_input.specs.Written.{Writes};
+ghost use Rattle.command_input.specs.Written.{StatusWrites};
 ghost use Rattle.command_input.specs.Streams.{streams};
 ghost use Rattle.swap_commands.specs.Output.{plain_text};
 ghost use Rattle.swap_commands.specs.Replay.{IsCopied};
-ghost use Rattle.swap_commands.specs.Says.{IsCommandRefusal, Says};
+ghost use Rattle.swap_commands.specs.Says.{IsCommandRefusal, StatusSays};
 ghost use Rattle.swap_commands.specs.Words.{Make, OfJob};
 ghost use Rattle.swap_commands.specs.Strategies.{strategies};
 
@@ -69,7 +69,7 @@ fn copy<S: Source, A: Strategies>(
 
 /// Writes a text.
 pub(crate) fn tell<K: Sink>(sink: &mut K, text: &[u8]) -> Status
-    ensures { Writes (K.taken sink.old) (K.taken sink.new) (K.faults sink.old) (K.faults sink.new) (plain_text text.now) result }
+    ensures { StatusWrites (K.taken sink.old) (K.taken sink.new) (K.faults sink.old) (K.faults sink.new) (plain_text text.now) result }
 {
     match write_all(sink, text) {
         Ok(()) => Status::Done,
@@ -86,7 +86,7 @@ pub(crate) fn make<S: Source, K: Sink, A: Strategies>(
     sink: &mut K,
 ) -> Status
     requires { input.old ≡ fresh }
-    ensures says { Says (strategies (A.holds staff.now) (A.gives staff.now)) (OfJob Make)
+    ensures says { StatusSays (strategies (A.holds staff.now) (A.gives staff.now)) (OfJob Make)
         (streams (S.left source.old) (S.faults source.old) (K.taken sink.old) (K.faults sink.old))
         (streams (S.left source.new) (S.faults source.new) (K.taken sink.new) (K.faults sink.new)) result }
     ensures calm { ¬ (result ≡ Status.ReadFault) → S.faults source.new ≡ S.faults source.old }

@@ -5,17 +5,17 @@ ghost use Rattle.swap_base.specs.Fault.{Fails};
 ghost use Rattle.offer_header.specs.Names.{has_strategy};
 ghost use Rattle.swap_offer.specs.Wallets.{prepared_wallets};
 ghost use Rattle.swap_world.specs.Value.{new_world};
-ghost use Rattle.swap_many.specs.Value.{AreAllHeld, HasManyGone, kept_state};
+ghost use Rattle.swap_many.specs.Value.{AreAllHeld, HasManyGone, many_kept};
 ghost use Rattle.many_lines.specs.Heading.{finish_told};
 ghost use Rattle.many_lines.specs.Event.{next_told};
-ghost use Rattle.many_lines.specs.Whole.{AreChains, AreSwaps, HoldsEverySwap};
+ghost use Rattle.many_lines.specs.Whole.{AreBoundedChains, AreSwaps, HoldsEverySwap};
 ghost use Rattle.many_text.specs.Shown.{AreChainsShown, AreShown};
 ghost use Rattle.command_input.specs.Input.{Ends, Fits, Stops, ahead, desk, fresh};
-ghost use Rattle.command_input.specs.Written.{Writes};
+ghost use Rattle.command_input.specs.Written.{StatusWrites};
 ghost use Rattle.command_input.specs.Streams.{streams};
 ghost use Rattle.swap_commands.specs.Many.{kept_after_finish, headed, many_written, opened_places};
-ghost use Rattle.swap_commands.specs.ManyRead.{AreRun, CanReplayMany, HasStepped, IsHeading, IsLack, IsManyPlayed, IsOpened, places_after_events};
-ghost use Rattle.swap_commands.specs.Says.{IsCommandRefusal, Says};
+ghost use Rattle.swap_commands.specs.ManyRead.{AreRun, CanReplayMany, HasStepped, IsHeading, IsLack, IsManyPlayed, AreOpenedWorlds, places_after_events};
+ghost use Rattle.swap_commands.specs.Says.{IsCommandRefusal, StatusSays};
 ghost use Rattle.swap_commands.specs.Words.{Many};
 ghost use Rattle.swap_commands.specs.Strategies.{strategies};
 
@@ -144,10 +144,10 @@ fn open(
     many: &ManyJob,
     wallets: Vec<Vec<Option<Wallet>>>,
 ) -> Result<ManyWorld, HeaderFault>
-    requires chains { AreChains many.now }
+    requires chains { AreBoundedChains many.now }
     requires swaps { AreSwaps many.now }
     requires made { map (λ v. v.items) wallets.items ≡ map (prepared_wallets Purpose.Run) many.now.jobs }
-    ensures opened { IfOk result (IsOpened many.now) }
+    ensures opened { IfOk result (AreOpenedWorlds many.now) }
     ensures refused { IfErr result (λ e. Fails e (opened_places many.now)) }
 {
     let places = find_places(alloc, many)?;
@@ -188,7 +188,7 @@ impl<'v, A: Strategies> Walker<(&'v ManyJob, &'v A), Refusal> for ManyWorld {
 impl<'v> Walker<&'v ManyJob, Refusal> for Skip {
     type Event = ManyEvent;
 
-    ghost can_take = { λ many u. AreChains many.now × AreSwaps many.now };
+    ghost can_take = { λ many u. AreBoundedChains many.now × AreSwaps many.now };
 
     ghost told = { λ many. next_told many.now };
 
@@ -216,7 +216,7 @@ fn refuse<S: Source>(
     input: &mut Input,
     source: &mut S,
 ) -> InputFault<Refusal>
-    requires chains { AreChains many.now }
+    requires chains { AreBoundedChains many.now }
     requires swaps { AreSwaps many.now }
     requires refused { opened_places many.now ≡ Err refusal }
     requires fits { Fits (S.left source.old) input.old }
@@ -238,7 +238,7 @@ fn run_events<S: Source, A: Strategies>(
     input: &mut Input,
     source: &mut S,
 ) -> Result<ManyWorld, InputFault<Refusal>>
-    requires chains { AreChains many.now }
+    requires chains { AreBoundedChains many.now }
     requires swaps { AreSwaps many.now }
     requires made { map (λ v. v.items) wallets.items ≡ map (prepared_wallets Purpose.Run) many.now.jobs }
     requires held { HoldsEverySwap (A.holds staff.now) many.now }
@@ -271,7 +271,7 @@ fn play<S: Source, A: Strategies>(
     ensures played { IfOk result (λ p. Ends (λ bytes. IsManyPlayed (A.holds staff.now)
         (A.gives staff.now) bytes p.many p.finish p.world) (desk (S.left source.old) (S.faults source.old) fresh)
         (desk (S.left source.new) (S.faults source.new) input.new)) }
-    ensures chains { IfOk result (λ p. AreChains p.many) }
+    ensures chains { IfOk result (λ p. AreBoundedChains p.many) }
     ensures swaps { IfOk result (λ p. AreSwaps p.many) }
     ensures held { IfOk result (λ p. AreAllHeld (A.holds staff.now) p.world) }
     ensures stops { IfErr result (λ e. Stops (IsCommandRefusal (A.holds staff.now) Many) (desk (S.left source.old) (S.faults source.old) fresh)
@@ -312,7 +312,7 @@ fn conclude<A: Strategies>(
 fn tell<K: Sink>(alloc: Global, sink: &mut K, many: &ManyJob, world: &ManyWorld) -> Status
     requires shown { AreShown world.now many.now.jobs }
     requires chains { AreChainsShown world.now many.now.names }
-    ensures { Writes (K.taken sink.old) (K.taken sink.new) (K.faults sink.old) (K.faults sink.new) (many_written many.now (kept_state world.now)) result }
+    ensures { StatusWrites (K.taken sink.old) (K.taken sink.new) (K.faults sink.old) (K.faults sink.new) (many_written many.now (many_kept world.now)) result }
 {
     match write_many(
         alloc,
@@ -337,7 +337,7 @@ pub(crate) fn many<S: Source, K: Sink, A: Strategies>(
     sink: &mut K,
 ) -> Status
     requires { input.old ≡ fresh }
-    ensures says { Says (strategies (A.holds staff.now) (A.gives staff.now)) Many
+    ensures says { StatusSays (strategies (A.holds staff.now) (A.gives staff.now)) Many
         (streams (S.left source.old) (S.faults source.old) (K.taken sink.old) (K.faults sink.old))
         (streams (S.left source.new) (S.faults source.new) (K.taken sink.new) (K.faults sink.new)) result }
     ensures calm { ¬ (result ≡ Status.ReadFault) → S.faults source.new ≡ S.faults source.old }

@@ -3,7 +3,7 @@
 ghost use Rattle.std.specs.Prelude.{◌≡◌};
 ghost use Rattle.command_input.specs.Streams.{streams};
 ghost use Rattle.swap_commands.specs.Words.{ordered};
-ghost use Rattle.swap_commands.specs.Says.{Says};
+ghost use Rattle.swap_commands.specs.Says.{StatusSays};
 ghost use Rattle.swap_commands.specs.Strategies.{strategies};
 
 use crate::check::check;
@@ -26,7 +26,7 @@ pub fn obey<S: Source, K: Sink, A: Strategies>(
     sink: &mut K,
     staff: &A,
 ) -> Status
-    ensures says { Says (strategies (A.holds staff.now) (A.gives staff.now)) (ordered order)
+    ensures says { StatusSays (strategies (A.holds staff.now) (A.gives staff.now)) (ordered order)
         (streams (S.left source.old) (S.faults source.old) (K.taken sink.old) (K.faults sink.old))
         (streams (S.left source.new) (S.faults source.new) (K.taken sink.new) (K.faults sink.new)) result }
     // No read failed, unless the status tells of it.

@@ -6,7 +6,7 @@ ghost use Rattle.swap_commands.specs.Entered.{CanRace, HasEntered, HasNotEntered
 ghost use Rattle.command_input.specs.Input.{Ends, Stops, desk, fresh};
 ghost use Rattle.command_input.specs.Streams.{streams};
 ghost use Rattle.swap_commands.specs.Replay.{IsEntered};
-ghost use Rattle.swap_commands.specs.Says.{IsCommandRefusal, Says};
+ghost use Rattle.swap_commands.specs.Says.{IsCommandRefusal, StatusSays};
 ghost use Rattle.swap_commands.specs.Words.{OfJob, Race};
 ghost use Rattle.swap_commands.specs.Strategies.{strategies};
 
@@ -85,7 +85,7 @@ pub fn race<R: Threads + Wait + Sync, K: Sink, G: Gate, A: Strategies + Sync>(
     requires some { 1 ≤ ticks }
     requires below { ticks ≤ 1000 }
     ensures { (left left' : Option (List ℕ)) (n m : ℕ) → HasEntered (A.holds staff.now) left left' job.now
-        → Says (strategies (A.holds staff.now) (A.gives staff.now)) (OfJob (Race ticks transcript)) (streams left n (K.taken sink.old) (K.faults sink.old))
+        → StatusSays (strategies (A.holds staff.now) (A.gives staff.now)) (OfJob (Race ticks transcript)) (streams left n (K.taken sink.old) (K.faults sink.old))
         (streams left' m (K.taken sink.new) (K.faults sink.new)) result }
 {
     match race_fitting(rt, alloc, job, staff, wallets, ticks, gate) {

@@ -15,7 +15,7 @@ ghost use Rattle.swap_world.specs.Value.{Continues, new_world};
 ghost use Rattle.command_input.specs.Input.{Ends, Fits, Stops, ahead, desk};
 ghost use Rattle.made_jobs.specs.Generating.{IsJobWorld};
 ghost use Rattle.swap_commands.specs.Output.{command_cast};
-ghost use Rattle.swap_commands.specs.Replay.{CanReplay, replayed, skipped_event};
+ghost use Rattle.swap_commands.specs.Replay.{CanReplay, folded_events, skipped_event};
 
 use crate::walk::{Skip, Walker, walk};
 use command_input::{Input, InputFault};
@@ -112,13 +112,13 @@ pub(crate) fn replay<S: Source, A: Strategies>(
     requires fits { Fits (S.left source.old) input.old }
     // Whatever strategies may answer after the last event.
     ensures exact { IfOk result (λ w. (a : Answers) → Continues w a
-        → Ends (λ bytes. replayed (step (command_cast a job.now)) job.now 0 (start (job_cast job.now)) (ahead input.old bytes) ≡ Ok w.state)
+        → Ends (λ bytes. folded_events (step (command_cast a job.now)) job.now 0 (start (job_cast job.now)) (ahead input.old bytes) ≡ Ok w.state)
         (desk (S.left source.old) (S.faults source.old) input.old)
         (desk (S.left source.new) (S.faults source.new) input.new)) }
     ensures asked { IfOk result (λ w. HasAsked (A.gives staff.now) (new_world job.now) w) }
     ensures of { IfOk result (λ w. IsJobWorld job.now w) }
     ensures goes_on { IfOk result (λ w. w.stopped ≡ false) }
-    ensures stops { IfErr result (λ e. Stops (λ bytes reason. replayed skipped_event job.now 0 tt (ahead input.old bytes) ≡ Err reason)
+    ensures stops { IfErr result (λ e. Stops (λ bytes reason. folded_events skipped_event job.now 0 tt (ahead input.old bytes) ≡ Err reason)
         (desk (S.left source.old) (S.faults source.old) input.old)
         (desk (S.left source.new) (S.faults source.new) input.new) e) }
 {
@@ -136,10 +136,10 @@ pub(crate) fn skip_events<S: Source>(
 ) -> Result<(), InputFault<Reason>>
     requires whole { IsWholeJob job.now }
     requires fits { Fits (S.left source.old) input.old }
-    ensures exact { OnOk result (Ends (λ bytes. replayed skipped_event job.now 0 tt (ahead input.old bytes) ≡ Ok tt)
+    ensures exact { OnOk result (Ends (λ bytes. folded_events skipped_event job.now 0 tt (ahead input.old bytes) ≡ Ok tt)
         (desk (S.left source.old) (S.faults source.old) input.old)
         (desk (S.left source.new) (S.faults source.new) input.new)) }
-    ensures stops { IfErr result (λ e. Stops (λ bytes reason. replayed skipped_event job.now 0 tt (ahead input.old bytes) ≡ Err reason)
+    ensures stops { IfErr result (λ e. Stops (λ bytes reason. folded_events skipped_event job.now 0 tt (ahead input.old bytes) ≡ Err reason)
         (desk (S.left source.old) (S.faults source.old) input.old)
         (desk (S.left source.new) (S.faults source.new) input.new) e) }
 {

@@ -22,12 +22,12 @@ ghost use Rattle.swap_world.specs.Actors.{AreHeld};
 ghost use Rattle.swap_world.specs.Value.{Continues, new_world};
 ghost use Rattle.swap_offer.specs.Job.{IsWholeJob};
 ghost use Rattle.command_input.specs.Input.{Ends, Stops, desk, fresh};
-ghost use Rattle.command_input.specs.Written.{Writes};
+ghost use Rattle.command_input.specs.Written.{StatusWrites};
 ghost use Rattle.command_input.specs.Streams.{streams};
 ghost use Rattle.made_jobs.specs.Generating.{IsJobWorld};
-ghost use Rattle.swap_commands.specs.Output.{story_report, reported, run_text};
+ghost use Rattle.swap_commands.specs.Output.{book_report, reported, run_text};
 ghost use Rattle.swap_commands.specs.Replay.{IsConcluded, IsPlayed};
-ghost use Rattle.swap_commands.specs.Says.{IsCommandRefusal, Says};
+ghost use Rattle.swap_commands.specs.Says.{IsCommandRefusal, StatusSays};
 ghost use Rattle.swap_commands.specs.Words.{OfJob, Run};
 ghost use Rattle.swap_commands.specs.Strategies.{strategies};
 
@@ -116,7 +116,7 @@ fn write_text<K: Sink>(
     requires names { AreNames job.now.names }
     requires shown { is_make job.now.purpose ≡ false }
     requires legal { IsLegalBook job.now.deal book.now.histories }
-    requires report { report.now ≡ story_report job.now book.now.histories }
+    requires report { report.now ≡ book_report job.now book.now.histories }
     ensures all { OnOk result (Appends (K.taken sink.old) (K.taken sink.new) (run_text transcript job.now book.now.histories report.now)) }
     ensures write_fault { IsErrOf result TextFault.WriteFault
         → AppendsProperPrefix (K.taken sink.old) (K.taken sink.new) (run_text transcript job.now book.now.histories report.now) }
@@ -144,7 +144,7 @@ pub(crate) fn tell<K: Sink>(
     requires names { AreNames job.now.names }
     requires shown { is_make job.now.purpose ≡ false }
     requires legal { IsLegalBook job.now.deal book.now.histories }
-    ensures { Writes (K.taken sink.old) (K.taken sink.new) (K.faults sink.old) (K.faults sink.new) (reported transcript job.now book.now.histories) result }
+    ensures { StatusWrites (K.taken sink.old) (K.taken sink.new) (K.faults sink.old) (K.faults sink.new) (reported transcript job.now book.now.histories) result }
 {
     let Ok(report) = build_report(alloc, &job.deal, &job.conforming, book) else {
         return Status::NoMemory;
@@ -172,7 +172,7 @@ pub(crate) fn run<S: Source, K: Sink, A: Strategies>(
     sink: &mut K,
 ) -> Status
     requires { input.old ≡ fresh }
-    ensures says { Says (strategies (A.holds staff.now) (A.gives staff.now)) (OfJob (Run transcript))
+    ensures says { StatusSays (strategies (A.holds staff.now) (A.gives staff.now)) (OfJob (Run transcript))
         (streams (S.left source.old) (S.faults source.old) (K.taken sink.old) (K.faults sink.old))
         (streams (S.left source.new) (S.faults source.new) (K.taken sink.new) (K.faults sink.new)) result }
     ensures calm { ¬ (result ≡ Status.ReadFault) → S.faults source.new ≡ S.faults source.old }

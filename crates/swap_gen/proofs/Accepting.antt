@@ -17,7 +17,7 @@ use Rattle.leader_check.proofs.Far.{dist_is, dist_bounded, dist_by_rounds}
 use Rattle.hashkey_path.proofs.Feeding.{any_id}
 use Rattle.swap_rules.specs.Accepted.{IsAccepted, IsOfVersion, IsTimed}
 use Rattle.proposed_deal.specs.Proposed.{HasModeLeaders, IsProposed}
-use Rattle.swap_gen.specs.Made.{seed_hashlock, seed_keys, all_keys, arc_timelock, all_timelocks, filled, made_deal}
+use Rattle.swap_gen.specs.Made.{seed_hashlock, seed_keys, all_keys, arc_timelock, all_timelocks, seed_filled_deal, made_deal}
 
 -- The one leader of a deal with timelocks.
 
@@ -89,7 +89,7 @@ timelocks_low Timelocks d k one a lt =
     omega (arith, e, m, s, t)
 timelocks_low Hashkeys d k one a lt = let e = get_or-replicate {A = ℕ} (length d.graph.arcs) a 0 0 lt in omega (arith, e)
 
-pub filled_is_sized : (seeds : List (Option (List ℕ))) (d : Deal) → IsProposed d → IsWellSized (filled seeds d)
+pub filled_is_sized : (seeds : List (Option (List ℕ))) (d : Deal) → IsProposed d → IsWellSized (seed_filled_deal seeds d)
 filled_is_sized seeds d k = record {
   ends = k.ends;
   parties = k.parties;
@@ -102,7 +102,7 @@ filled_is_sized seeds d k = record {
   amounts = k.one_amount_each;
   amount = λ a lt. (k.amounts a lt).1;
   hashlocks = length-map d.leaders (seed_hashlock seeds);
-  keys = keys_sized d.mode seeds d (filled seeds d) refl refl refl;
+  keys = keys_sized d.mode seeds d (seed_filled_deal seeds d) refl refl refl;
   timelocks = timelocks_sized d.mode d;
   timelock = timelocks_low d.mode d k k.led;
 }
@@ -167,7 +167,7 @@ made_is_accepted seeds d k =
       keys = keys_sized d.mode seeds d (made_deal seeds d) refl refl refl;
       one_timelock_each = sized.timelocks;
       timed = timed_by d.mode seeds d (made_deal seeds d) k k.led refl refl;
-      id = sym (any_id (filled seeds d) (made_deal seeds d).id);
+      id = sym (any_id (seed_filled_deal seeds d) (made_deal seeds d).id);
     }
 
 pub made_accepted : (seeds : List (Option (List ℕ))) (d e : Deal) → IsProposed d → e ≡ made_deal seeds d → IsAccepted e

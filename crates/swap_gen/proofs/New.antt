@@ -6,7 +6,7 @@ use Rattle.swap_job.specs.declared.job.Job.{Job}
 use Rattle.swap_gen.specs.Word.{DrawState}
 use Rattle.swap_gen.specs.Drawn.{generated}
 use Rattle.swap_gen.specs.Events.{touching, first_place, GeneratorState}
-use Rattle.swap_gen.specs.Inside.{generator_state, Holds}
+use Rattle.swap_gen.specs.Inside.{generator_state, GeneratorHolds}
 use Rattle.swap_gen.specs.declared.generator.Generator.TheInside.{Inside}
 use Rattle.swap_gen.proofs.Generated.{generated_graph}
 
@@ -22,7 +22,7 @@ module _ (seed n : ℕ) (many : 2 ≤ n) (few : n ≤ 24) (draws : DrawState) (j
   seed_is : draws.seed ≡ seed
   seed_is = ap (λ (s : DrawState). s.seed) draws_are
 
-  pub new_holds : Holds inside
+  pub new_holds : GeneratorHolds inside
   new_holds = record {
     parties = subst (λ k. (2 ≤ k) × (k ≤ 24)) (sym parties_are) (many, few);
     job = job_is ∙ ap (λ s. generated s n) (sym seed_is) ∙ ap (generated draws.seed) (sym parties_are);

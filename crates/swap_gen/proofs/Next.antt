@@ -15,7 +15,7 @@ use Rattle.std.proofs.lemmas.List.FromFn.{length-range_with_len}
 use Rattle.swap_gen.specs.Word.{word, next, DrawState}
 use Rattle.swap_gen.specs.Drawn.{drawn_arcs, drawn_graph, generated}
 use Rattle.swap_gen.specs.Events.{touching, picked, drawn_event, GeneratorState}
-use Rattle.swap_gen.specs.Inside.{generator_state, Holds}
+use Rattle.swap_gen.specs.Inside.{generator_state, GeneratorHolds}
 use Rattle.swap_gen.specs.declared.generator.Generator.TheInside.{Inside}
 use Rattle.swap_gen.proofs.Rings.{arcs_have_ring}
 use Rattle.swap_gen.proofs.Stepping.{touching_some, length-filter}
@@ -46,7 +46,7 @@ look_comes seed g k some few =
     ∙ ap (λ b. by_kind seed g k false b) (le-leb (word seed k % 8) 4 few)
 
 -- What a generator holds.
-module _ (i : Inside) (h : Holds i) where
+module _ (i : Inside) (h : GeneratorHolds i) where
   pub graph_is : i.job.deal.graph ≡ drawn_graph i.draws.seed i.job.deal.graph.n
   graph_is = ap (λ (j : Job). j.deal.graph) h.job ∙ generated_graph i.draws.seed i.job.deal.graph.n
 

@@ -75,8 +75,8 @@ plain_deal seed n = record {
 }
 
 -- the name of party i: p and its number
-abbrev pub party_label : ℕ → List ℕ
-party_label i = codes "p" ++ decimal i
+abbrev pub drawn_party_label : ℕ → List ℕ
+drawn_party_label i = codes "p" ++ decimal i
 
 -- the seed of party i
 abbrev pub drawn_seed : (seed i : ℕ) → List ℕ
@@ -87,7 +87,7 @@ unfoldable pub plain_job : (seed n : ℕ) → Job
 plain_job seed n = record {
   purpose = Make;
   deal = plain_deal seed n;
-  names = map party_label (range_with_len 0 n);
+  names = map drawn_party_label (range_with_len 0 n);
   roles = replicate n Conforming;
   conforming = replicate n true;
   seeds = map (λ i. Some (drawn_seed seed i)) (range_with_len 0 n);

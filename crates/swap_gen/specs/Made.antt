@@ -40,12 +40,12 @@ all_timelocks Timelocks d = map (arc_timelock d) (arcs d.graph)
 all_timelocks Hashkeys d = replicate (length d.graph.arcs) 0
 
 -- the deal but for its id
-abbrev pub filled : List (Option (List ℕ)) → Deal → Deal
-filled seeds d = record d { hashlocks = map (seed_hashlock seeds) d.leaders; keys = all_keys d.mode seeds d; timelocks = all_timelocks d.mode d }
+abbrev pub seed_filled_deal : List (Option (List ℕ)) → Deal → Deal
+seed_filled_deal seeds d = record d { hashlocks = map (seed_hashlock seeds) d.leaders; keys = all_keys d.mode seeds d; timelocks = all_timelocks d.mode d }
 
 -- the deal with all that the seeds give, and the digest of what it then says as its id
 unfoldable pub made_deal : List (Option (List ℕ)) → Deal → Deal
-made_deal seeds d = record (filled seeds d) { id = deal_id (filled seeds d) }
+made_deal seeds d = record (seed_filled_deal seeds d) { id = deal_id (seed_filled_deal seeds d) }
 
 -- the job with its deal made; all else is as it was given
 abbrev pub made : Job → Job

@@ -1,7 +1,7 @@
 //! Words drawn one after another.
 
 ghost use Rattle.std.specs.Prelude.{◌≡◌, ◌%◌, ◌<◌};
-ghost use Rattle.swap_gen.specs.Word.{key_bytes, next, word};
+ghost use Rattle.swap_gen.specs.Word.{seed_key_bytes, next, word};
 
 use rand_chacha::ChaCha20Rng;
 use rand_core::SeedableRng;
@@ -18,17 +18,17 @@ pub(crate) struct Draws {
 impl Model for Draws {
     ghost use Rattle.std.specs.Prelude.{◌≡◌};
     ghost use Rattle.rand_chacha.specs.ChaCha.{key_of};
-    ghost use Rattle.swap_gen.specs.Word.{key_bytes, DrawState};
+    ghost use Rattle.swap_gen.specs.Word.{seed_key_bytes, DrawState};
 
     ghost Value = { DrawState };
 
     ghost view = { λ d. record { seed = d.seed; place = d.words.word_pos } };
 
-    ghost invariant = { λ d. (d.words.key ≡ key_of (key_bytes d.seed)) × (d.words.stream ≡ 0) };
+    ghost invariant = { λ d. (d.words.key ≡ key_of (seed_key_bytes d.seed)) × (d.words.stream ≡ 0) };
 }
 
 fn cipher_key(seed: u32) -> [u8; 32]
-    ensures { result ≡ key_bytes seed }
+    ensures { result ≡ seed_key_bytes seed }
 {
     let mut key = [0; 32];
     key[..8].copy_from_slice(&(seed as u64).to_be_bytes());

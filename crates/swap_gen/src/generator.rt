@@ -33,11 +33,11 @@ impl Model for Generator {
 
     ghost Value = { GeneratorState };
 
-    ghost use Rattle.swap_gen.specs.Inside.{generator_state, Holds};
+    ghost use Rattle.swap_gen.specs.Inside.{generator_state, GeneratorHolds};
 
     ghost view = { generator_state };
 
-    ghost invariant = { Holds };
+    ghost invariant = { GeneratorHolds };
 }
 
 fn touches(arc: ArcEnds, p: PartyId) -> bool

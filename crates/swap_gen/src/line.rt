@@ -1,14 +1,14 @@
 //! The line of an event.
 
 ghost use Rattle.std.specs.Prelude.{◌≡◌, ◌++◌, OnOk, OnErr};
-ghost use Rattle.swap_gen.specs.Line.{event_line, party_name};
+ghost use Rattle.swap_gen.specs.Line.{event_line, drawn_party_name};
 
 use swap_base::{ByteText, NoMemory, PartyId, Piece, put};
 use swap_job::Event;
 
 /// The name of a party; no text where the number is nobody's.
-fn party_name(names: &[ByteText], p: PartyId) -> &[u8]
-    ensures { result.now ≡ party_name names.now p }
+fn drawn_party_name(names: &[ByteText], p: PartyId) -> &[u8]
+    ensures { result.now ≡ drawn_party_name names.now p }
 {
     match names.get(p as usize) {
         Some(name) => name.as_slice(),
@@ -38,7 +38,7 @@ fn put_line(out: &mut Vec<u8>, names: &[ByteText], event: &Event) -> Result<(), 
                 Piece::Text("{\"arc\":"),
                 Piece::Number(*arc as u64),
                 Piece::Text(",\"look\":\""),
-                Piece::Bytes(party_name(names, *p)),
+                Piece::Bytes(drawn_party_name(names, *p)),
                 Piece::Text("\"}\n"),
             ],
         ),
@@ -46,7 +46,7 @@ fn put_line(out: &mut Vec<u8>, names: &[ByteText], event: &Event) -> Result<(), 
             out,
             &[
                 Piece::Text("{\"act\":\""),
-                Piece::Bytes(party_name(names, *p)),
+                Piece::Bytes(drawn_party_name(names, *p)),
                 Piece::Text("\"}\n"),
             ],
         ),

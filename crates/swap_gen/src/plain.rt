@@ -4,7 +4,7 @@ ghost use Rattle.std.specs.Prelude.{◌≡◌, ◌≤◌, ◌<◌, IfOk, OnOk, S
 ghost use Rattle.std.specs.List.{range_with_len};
 ghost use Rattle.swap_digraph.specs.Arcs.{first_fault};
 ghost use Rattle.swap_job.specs.declared.job.Role.TheVariants.{Conforming};
-ghost use Rattle.swap_gen.specs.Drawn.{drawn_arcs, party_label, plain_deal, plain_job, drawn_seed};
+ghost use Rattle.swap_gen.specs.Drawn.{drawn_arcs, drawn_party_label, plain_deal, plain_job, drawn_seed};
 ghost use Rattle.swap_gen.specs.Events.{first_place};
 
 use crate::arcs::{drawn_amounts, drawn_arcs, leader_count};
@@ -15,8 +15,8 @@ use swap_base::{ByteText, Digest, Listed, NoMemory, PartyId, Piece, put};
 use swap_digraph::{ArcEnds, Deal, Digraph, Mode, Version};
 use swap_job::{Finish, Job, Purpose, Role};
 
-fn party_label(alloc: Global, p: PartyId) -> Result<ByteText, NoMemory>
-    ensures { IfOk result (λ t. t ≡ party_label p) }
+fn drawn_party_label(alloc: Global, p: PartyId) -> Result<ByteText, NoMemory>
+    ensures { IfOk result (λ t. t ≡ drawn_party_label p) }
 {
     let mut name = Vec::new(alloc);
     put(&mut name, &[Piece::Text("p"), Piece::Number(p as u64)])?;
@@ -24,11 +24,11 @@ fn party_label(alloc: Global, p: PartyId) -> Result<ByteText, NoMemory>
 }
 
 fn names(alloc: Global, parties: u8) -> Result<Listed<ByteText>, NoMemory>
-    ensures { IfOk result (λ l. l ≡ map party_label (range_with_len 0 parties)) }
+    ensures { IfOk result (λ l. l ≡ map drawn_party_label (range_with_len 0 parties)) }
 {
     let mut names = Vec::new(alloc);
     for p in 0..parties {
-        names.push(party_label(alloc, p)?)?;
+        names.push(drawn_party_label(alloc, p)?)?;
     }
     Ok(Listed::new(names))
 }

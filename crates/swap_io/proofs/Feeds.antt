@@ -7,7 +7,7 @@ use Rattle.std.proofs.lemmas.Bool.Decides.{nat_tests}
 use Rattle.std.proofs.lemmas.List.{take-append-drop}
 use Rattle.std.proofs.KnownBytes.{Consumes-nil, Consumes-trans}
 use Rattle.memchr.specs.Find.{Nowhere, NoneBefore, Passes, is_byte}
-use Rattle.swap_io.specs.Lines.{Reading, lacks_feed, Took, IsNext, IsCutAtFeed, TakesLine, IsFilled, line_end_bytes, HasLineEnd}
+use Rattle.swap_io.specs.Lines.{Reading, lacks_feed, TookFromSource, IsNext, IsCutAtFeed, TakesLine, IsFilled, line_end_bytes, HasLineEnd}
 use Rattle.swap_io.specs.declared.line_end.LineEnd.{LineEnd}
 use Rattle.swap_io.specs.declared.line_end.LineEnd.TheVariants.{Ended, Rest, End}
 
@@ -50,10 +50,10 @@ both_lack (x ∷ xs) ys p q =
 
 -- What was taken.
 
-pub took_none : (left : Option (List ℕ)) (s t : Reading) → t.taken ≡ s.taken → t.limit ≡ s.limit → Took left left s t []
+pub took_none : (left : Option (List ℕ)) (s t : Reading) → t.taken ≡ s.taken → t.limit ≡ s.limit → TookFromSource left left s t []
 took_none left s t taken limit = record { consumed = Consumes-nil left; counted = omega (arith, taken); limit = limit }
 
-pub took_on : (a b c : Option (List ℕ)) (s t u : Reading) (xs ys : List ℕ) → Took a b s t xs → Took b c t u ys → Took a c s u (xs ++ ys)
+pub took_on : (a b c : Option (List ℕ)) (s t u : Reading) (xs ys : List ℕ) → TookFromSource a b s t xs → TookFromSource b c t u ys → TookFromSource a c s u (xs ++ ys)
 took_on a b c s t u xs ys p q = record {
   consumed = Consumes-trans a b c xs ys p.consumed q.consumed;
   counted = rw length-append (omega (arith, p.counted, q.counted));
@@ -61,7 +61,7 @@ took_on a b c s t u xs ys p q = record {
 }
 
 -- only what is kept has changed
-pub took_same : (a b : Option (List ℕ)) (s t u : Reading) (xs : List ℕ) → Took a b s t xs → u.taken ≡ t.taken → u.limit ≡ t.limit → Took a b s u xs
+pub took_same : (a b : Option (List ℕ)) (s t u : Reading) (xs : List ℕ) → TookFromSource a b s t xs → u.taken ≡ t.taken → u.limit ≡ t.limit → TookFromSource a b s u xs
 took_same a b s t u xs p taken limit = record { consumed = p.consumed; counted = taken ∙ p.counted; limit = limit ∙ p.limit }
 
 -- an answer that is no fault of reading, and no call that failed
@@ -85,7 +85,7 @@ pub all_of_it : (first bytes line line' kept more : List ℕ) → first ++ bytes
 all_of_it first bytes line line' kept more so_far wrote = sym (append_assoc first bytes more) ∙ ap (λ (xs : List ℕ). xs ++ more) (so_far ∙ sym wrote)
 
 -- A line that its line feed ends.
-pub is_ended : (a b : Option (List ℕ)) (r s t : Reading) (bytes line line' : List ℕ) (ended : Bool) → ended ≡ true → Took a b r s bytes
+pub is_ended : (a b : Option (List ℕ)) (r s t : Reading) (bytes line line' : List ℕ) (ended : Bool) → ended ≡ true → TookFromSource a b r s bytes
     → r.kept ++ bytes ≡ line ++ s.kept → IsTrue (lacks_feed line) → TakesLine ended s t line line'
     → t.taken ≡ s.taken → t.limit ≡ s.limit → IsNext a b r t line' Ended
 is_ended a b r s t bytes line line' false e took parts one cut taken limit = absurd (cc e)
@@ -99,8 +99,8 @@ is_ended a b r s t bytes line line' true e took parts one cut taken limit = reco
 
 -- The line goes on in what is read next.
 pub more_taken : (a b c : Option (List ℕ)) (r s t u : Reading) (bytes line line' : List ℕ) (ended more : Bool) → ended ≡ false → more ≡ true
-    → Took a b r s bytes → r.kept ++ bytes ≡ line ++ s.kept → TakesLine ended s t line line'
-    → t.taken ≡ s.taken → t.limit ≡ s.limit → IsFilled more b c t u → (xs : List ℕ) × Took a c r u xs × (r.kept ++ xs ≡ line' ++ u.kept)
+    → TookFromSource a b r s bytes → r.kept ++ bytes ≡ line ++ s.kept → TakesLine ended s t line line'
+    → t.taken ≡ s.taken → t.limit ≡ s.limit → IsFilled more b c t u → (xs : List ℕ) × TookFromSource a c r u xs × (r.kept ++ xs ≡ line' ++ u.kept)
 more_taken a b c r s t u bytes line line' true more e f took parts moved taken limit filled = absurd (cc e)
 more_taken a b c r s t u bytes line line' false false e f took parts moved taken limit filled = absurd (cc f)
 more_taken a b c r s t u bytes line line' false true e f took parts moved taken limit filled = (
@@ -116,7 +116,7 @@ still_lacks s t line line' false e one moved = rw moved.2 (both_lack line s.kept
 
 -- The rest of the input, which no line feed ends.
 pub is_rest : (a b c : Option (List ℕ)) (r s t u : Reading) (bytes line line' : List ℕ) (ended more : Bool) → ended ≡ false → more ≡ false
-    → Took a b r s bytes → r.kept ++ bytes ≡ line ++ s.kept → IsTrue (lacks_feed line) → TakesLine ended s t line line'
+    → TookFromSource a b r s bytes → r.kept ++ bytes ≡ line ++ s.kept → IsTrue (lacks_feed line) → TakesLine ended s t line line'
     → t.taken ≡ s.taken → t.limit ≡ s.limit → IsFilled more b c t u → 0 < length line' → IsNext a c r u line' Rest
 is_rest a b c r s t u bytes line line' true more e f took parts one moved taken limit filled some = absurd (cc e)
 is_rest a b c r s t u bytes line line' false true e f took parts one moved taken limit filled some = absurd (cc f)

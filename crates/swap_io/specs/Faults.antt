@@ -5,6 +5,6 @@ use Rattle.swap_io.specs.declared.fault.DrainFault.{DrainFault}
 use Rattle.swap_io.specs.declared.fault.DrainFault.TheVariants.{ReadFault, TooLong}
 
 -- the fault of a line, by that of a drain
-abbrev pub to_offer_fault : DrainFault → LineFault
-to_offer_fault ReadFault = line.ReadFault
-to_offer_fault TooLong = line.TooLong
+abbrev pub drain_line_fault : DrainFault → LineFault
+drain_line_fault ReadFault = line.ReadFault
+drain_line_fault TooLong = line.TooLong

@@ -29,14 +29,14 @@ abbrev pub past_feeds : Reading → Reading
 past_feeds r = record r { kept = drop (feeds r.kept) r.kept }
 
 -- The bytes were taken from the source and counted.
-pub record Took (left left' : Option (List ℕ)) (old new : Reading) (bytes : List ℕ) : Type 0 where
+pub record TookFromSource (left left' : Option (List ℕ)) (old new : Reading) (bytes : List ℕ) : Type 0 where
   pub consumed : Consumes left left' bytes
   pub counted : new.taken ≡ old.taken + length bytes
   pub limit : new.limit ≡ old.limit
 
 -- some bytes were taken from the source and counted
 abbrev pub TookSome : Option (List ℕ) → Option (List ℕ) → Reading → Reading → Type 0
-TookSome left left' old new = (bytes : List ℕ) × Took left left' old new bytes
+TookSome left left' old new = (bytes : List ℕ) × TookFromSource left left' old new bytes
 
 -- nothing is kept, and nothing is left
 pub record IsReadingOver (left : Option (List ℕ)) (now : Reading) : Type 0 where
@@ -59,7 +59,7 @@ HasLineEnd End line left now = (line ≡ []) × IsReadingOver left now
 -- is kept now.
 pub record IsNext (left left' : Option (List ℕ)) (old new : Reading) (line : List ℕ) (end : LineEnd) : Type 0 where
   pub bytes : List ℕ
-  pub took : Took left left' old new bytes
+  pub took : TookFromSource left left' old new bytes
   pub parts : old.kept ++ bytes ≡ line ++ (line_end_bytes end ++ new.kept)
   pub one : IsTrue (lacks_feed line)
   pub ends : HasLineEnd end line left' new
@@ -76,5 +76,5 @@ TakesLine false old new line line' = (new.kept ≡ []) × IsTrue (lacks_feed old
 
 -- some bytes were taken and are kept, or nothing is left
 abbrev pub IsFilled : Bool → Option (List ℕ) → Option (List ℕ) → Reading → Reading → Type 0
-IsFilled true left left' old new = Took left left' old new new.kept × (0 < length new.kept)
-IsFilled false left left' old new = Took left left' old new [] × IsReadingOver left' new
+IsFilled true left left' old new = TookFromSource left left' old new new.kept × (0 < length new.kept)
+IsFilled false left left' old new = TookFromSource left left' old new [] × IsReadingOver left' new

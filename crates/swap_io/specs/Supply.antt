@@ -37,8 +37,8 @@ abbrev pub IsFull : Store → Type 0
 IsFull s = length s.taken ≡ s.room
 
 -- how many of these bytes the next call takes, unless it fails
-abbrev pub accepted : Store → List ℕ → ℕ
-accepted s bytes = min (min (length bytes) s.per_call) (s.room - length s.taken)
+abbrev pub accepted_byte_count : Store → List ℕ → ℕ
+accepted_byte_count s bytes = min (min (length bytes) s.per_call) (s.room - length s.taken)
 
 abbrev pub after_write : {E : Type 0} → Store → List ℕ → Result ℕ E → Store
 after_write s bytes (Ok n) = record s { taken = s.taken ++ take n bytes; calls = next_count s.calls }

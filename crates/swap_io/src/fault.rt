@@ -5,7 +5,7 @@ ghost use Rattle.swap_io.specs.declared.fault.ReadAllFault.TheVariants.{ReadFaul
 ghost use Rattle.swap_io.specs.declared.fault.DrainFault.TheVariants as drained;
 ghost use Rattle.swap_io.specs.declared.fault.LineFault.TheVariants as line;
 ghost use Rattle.swap_io.specs.declared.fault.TextFault.TheVariants as text;
-ghost use Rattle.swap_io.specs.Faults.{to_offer_fault};
+ghost use Rattle.swap_io.specs.Faults.{drain_line_fault};
 
 use std::alloc::AllocError;
 use swap_base::NoMemory;
@@ -86,7 +86,7 @@ impl From<Failed> for DrainFault {
 }
 
 impl From<DrainFault> for LineFault {
-    ghost from_gives = { λ d e. e ≡ to_offer_fault d };
+    ghost from_gives = { λ d e. e ≡ drain_line_fault d };
 
     fn from(e: DrainFault) -> LineFault {
         match e {

@@ -3,7 +3,7 @@
 ghost use Rattle.std.specs.Prelude.{◌≡◌, ◌<◌, ◌≤◌, ◌+◌, ◌^◌, ◌↔◌, [], length, take, drop, IsTrue, MatchOption, IfOk, IfSome, IsErrOf, OnOk};
 ghost use Rattle.std.specs.Io.KnownBytes.{IsAtEnd};
 ghost use Rattle.swap_io.specs.Causes.{Rose};
-ghost use Rattle.swap_io.specs.Lines.{Reading, feeds, lacks_feed, past_feeds, Took, TookSome, IsNext, IsCutAtFeed, TakesLine, IsFilled};
+ghost use Rattle.swap_io.specs.Lines.{Reading, feeds, lacks_feed, past_feeds, TookFromSource, TookSome, IsNext, IsCutAtFeed, TakesLine, IsFilled};
 
 use crate::fault::{DrainFault, LineFault};
 use crate::line_end::LineEnd;
@@ -83,7 +83,7 @@ impl Lines {
     fn pull<S: Source>(&mut self, source: &mut S, chunk: &mut [u8]) -> Result<usize, DrainFault>
         requires room { 0 < length chunk.old }
         requires before { self.old.taken ≤ self.old.limit }
-        ensures bytes { IfOk result (λ n. (n ≤ length chunk.new) × Took (S.left source.old) (S.left source.new) self.old self.new (take n chunk.new)) }
+        ensures bytes { IfOk result (λ n. (n ≤ length chunk.new) × TookFromSource (S.left source.old) (S.left source.new) self.old self.new (take n chunk.new)) }
         ensures end { IfOk result (λ n. n ≡ 0 → IsAtEnd (S.left source.new)) }
         ensures takes { TookSome (S.left source.old) (S.left source.new) self.old self.new }
         ensures too_long { IsErrOf result DrainFault.TooLong ↔ (self.new.limit < self.new.taken) }

@@ -4,7 +4,7 @@ ghost use Rattle.std.specs.Prelude.{◌≡◌, ◌<◌, ◌≤◌, ◌↔◌, �
 ghost use Rattle.std.specs.Io.{ReadsAtMost, WritesAtMost};
 ghost use Rattle.std.specs.Io.KnownBytes.{ReadConsumes, WriteAppends};
 ghost use Rattle.swap_io.specs.Causes.{HasCause};
-ghost use Rattle.swap_io.specs.Supply.{Supply, given, after_read, Store, IsFull, accepted, after_write};
+ghost use Rattle.swap_io.specs.Supply.{Supply, given, after_read, Store, IsFull, accepted_byte_count, after_write};
 
 use crate::fault::Failed;
 use crate::sink::Sink;
@@ -175,7 +175,7 @@ impl Sink for VecSink {
         ensures fails { IsErr result ↔ (Contains self.old.failing self.old.calls
             ⊎ (IsFull self.old × (0 < length bytes.now))) }
         ensures full { self.old.failing ≡ [] → IsErr result ↔ (IsFull self.old × (0 < length bytes.now)) }
-        ensures count { IfOk result (λ n. n ≡ accepted self.old bytes.now) }
+        ensures count { IfOk result (λ n. n ≡ accepted_byte_count self.old bytes.now) }
         ensures after { self.new ≡ after_write self.old bytes.now result }
     {
         let call = self.calls;

@@ -24,8 +24,8 @@ use Rattle.ledger_core.specs.Book.{Histories, history, IsLegalBook}
 use Rattle.ledger_core.proofs.History.{opened_done, of_unlock}
 use Rattle.party_wallet.specs.Keys.{own_key, onto_key}
 use Rattle.swap_job.specs.Crafted.{Seeds, make_seed, prepend_party, crafted, crafted_within_limit}
-use Rattle.swap_job.specs.Fitting.{is_plain, fits_if, CanCraft, NamesFitting, IsFitting}
-use Rattle.swap_job.specs.Parts.{HasRoom, IsUsable}
+use Rattle.swap_job.specs.Fitting.{is_plain_move, fits_if, CanCraft, NamesFitting, IsFitting}
+use Rattle.swap_job.specs.Parts.{HasPathRoom, IsUsable}
 use Rattle.swap_job.specs.Resolved.{move_arc, opening_named, key_opened, plain_call, build_call, call_of_move, resolved}
 use Rattle.swap_job.specs.declared.moves.Move.{Move}
 use Rattle.swap_job.specs.declared.moves.Move.TheVariants.{Publish, Craft, Replay, Raw, Claim, Refund, Transfer, Wait}
@@ -88,14 +88,14 @@ put_range d seeds i (Some key) v l k r =
 
 -- parties in a row, each of which puts itself before what is made so far
 all_put : (d : Deal) (seeds : Seeds) (i : ℕ) (made : Option Hashkey) (vs : List ℕ) → i < length d.leaders → list_all (λ v. nat_lt v d.graph.n) vs ≡ true
-    → InRange d made → HasRoom d (length vs) made
-    → InRange d (fold (λ o v. Some (prepend_party d seeds i o v)) made vs) × HasRoom d 0 (fold (λ o v. Some (prepend_party d seeds i o v)) made vs)
+    → InRange d made → HasPathRoom d (length vs) made
+    → InRange d (fold (λ o v. Some (prepend_party d seeds i o v)) made vs) × HasPathRoom d 0 (fold (λ o v. Some (prepend_party d seeds i o v)) made vs)
 all_put d seeds i made [] l k r room = (r, room)
 all_put d seeds i made (v ∷ vs) l k r room =
     let h = and_parts (nat_lt v d.graph.n) (list_all (λ v. nat_lt v d.graph.n) vs) k in
     all_put d seeds i (Some (prepend_party d seeds i made v)) vs l h.1 (put_range d seeds i made v l h.0 r) (put_room d seeds i made v (length vs) room)
 
-fits_of : (d : Deal) (o : Option Hashkey) → InRange d o → HasRoom d 0 o → ForSome (option_map Unlock o) (λ c. IsTrue (fit d 0 c))
+fits_of : (d : Deal) (o : Option Hashkey) → InRange d o → HasPathRoom d 0 o → ForSome (option_map Unlock o) (λ c. IsTrue (fit d 0 c))
 fits_of d None r room = λ c q. absurd (cc q)
 fits_of d (Some key) r room =
     let h = r key refl in
@@ -109,12 +109,12 @@ fits_of d (Some key) r room =
     λ c q. subst (λ x. IsTrue (fit d 0 x)) (same_Some (Unlock key) c q) fits
 
 crafted_fits : (d : Deal) (seeds : Seeds) (i : ℕ) (start : Option Hashkey) (via : List ℕ) → i < length d.leaders → CanCraft d seeds via
-    → InRange d start → HasRoom d (length via) start
+    → InRange d start → HasPathRoom d (length via) start
     → ForSome (option_map Unlock (crafted d seeds i start via)) (λ c. IsTrue (fit d 0 c))
 crafted_fits d seeds i start via l can r room =
     let h =
     all_put d seeds i start (reverse via) l (all_reverse (λ v. nat_lt v d.graph.n) via can.known) r
-    (subst (λ n. HasRoom d n start) (sym (length-reverse via)) room) in
+    (subst (λ n. HasPathRoom d n start) (sym (length-reverse via)) room) in
     fits_of d (crafted d seeds i start via) h.0 h.1
 
 -- the parts of a hashkey that can be used
@@ -190,7 +190,7 @@ resolved_fits d seeds k mv legal f =
     with_arc d mv (call_of_move d seeds k mv) (call_fits d seeds (key_opened k (opening_named mv)) mv f (named_usable d seeds k mv legal f))
 
 -- a move that stands for a call by itself names what its call does
-pub plain_names : (d : Deal) (seeds : Seeds) (mv : Move) → IsTrue (is_plain mv) → IsTrue (fits_if d (move_arc mv) (plain_call d mv)) → NamesFitting d seeds mv
+pub plain_names : (d : Deal) (seeds : Seeds) (mv : Move) → IsTrue (is_plain_move mv) → IsTrue (fits_if d (move_arc mv) (plain_call d mv)) → NamesFitting d seeds mv
 plain_names d seeds (Craft a lock via onto) p f = absurd (cc p)
 plain_names d seeds (Replay a lock b) p f = absurd (cc p)
 plain_names d seeds (Publish a start delta bound timelock amount locks) p f = f

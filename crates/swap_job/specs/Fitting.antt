@@ -11,11 +11,11 @@ use Rattle.swap_job.specs.declared.moves.Move.{Move}
 use Rattle.swap_job.specs.declared.moves.Move.TheVariants.{Craft, Replay, Wait}
 
 -- a move that names no opening, no crafting party and no height
-abbrev pub is_plain : Move → Bool
-is_plain (Craft a lock via onto) = false
-is_plain (Replay a lock onto) = false
-is_plain (Wait a height) = false
-is_plain _ = true
+abbrev pub is_plain_move : Move → Bool
+is_plain_move (Craft a lock via onto) = false
+is_plain_move (Replay a lock onto) = false
+is_plain_move (Wait a height) = false
+is_plain_move _ = true
 
 abbrev pub fits_if : Deal → ℕ → Option Call → Bool
 fits_if d a (Some c) = fit d a c

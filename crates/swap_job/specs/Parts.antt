@@ -14,14 +14,14 @@ use Rattle.swap_job.specs.declared.moves.Move.{Move}
 use Rattle.swap_job.specs.declared.moves.Move.TheVariants.{Publish}
 
 -- the terms that a publish states
-abbrev pub make_publish : Deal → Move → Option Terms
-make_publish d (Publish a start delta bound timelock amount locks) = Some (overridden_terms (stated_terms d a) start delta bound timelock amount locks)
-make_publish d _ = None
+abbrev pub move_publish_terms : Deal → Move → Option Terms
+move_publish_terms d (Publish a start delta bound timelock amount locks) = Some (overridden_terms (stated_terms d a) start delta bound timelock amount locks)
+move_publish_terms d _ = None
 
 -- n parties can be put before the hashkey; where there is none, the last of them makes its own
-abbrev pub HasRoom : Deal → ℕ → Option Hashkey → Type 0
-HasRoom d n None = n ≤ path_limit d
-HasRoom d n (Some key) = (n + length key.path ≤ path_limit d) × (length key.sigs ≡ length key.path)
+abbrev pub HasPathRoom : Deal → ℕ → Option Hashkey → Type 0
+HasPathRoom d n None = n ≤ path_limit d
+HasPathRoom d n (Some key) = (n + length key.path ≤ path_limit d) × (length key.sigs ≡ length key.path)
 
 -- An unlock with the hashkey fits, and it has as many signatures as vertices.
 pub record IsUsable (d : Deal) (key : Hashkey) : Type 0 where

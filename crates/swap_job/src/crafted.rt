@@ -4,7 +4,7 @@ ghost use Rattle.std.specs.Prelude.{◌≡◌, ◌<◌, IfOk, Some, None, true, 
 ghost use Rattle.std.specs.Option.{ForSome};
 ghost use Rattle.swap_job.specs.Crafted.{prepend_party, crafted, crafted_within_limit};
 ghost use Rattle.swap_job.specs.Fitting.{CanCraft};
-ghost use Rattle.swap_job.specs.Parts.{HasRoom, IsUsable};
+ghost use Rattle.swap_job.specs.Parts.{HasPathRoom, IsUsable};
 
 use hashkey_path::Hashkey;
 use party_wallet::{sign_onto_anew, sign_own_anew};
@@ -24,7 +24,7 @@ fn prepend_party(
 ) -> Result<Hashkey, NoMemory>
     requires party { party < deal.now.graph.n }
     requires seeded { is_some (slice_index_or seeds.now party None) ≡ true }
-    requires room { HasRoom deal.now 1 made }
+    requires room { HasPathRoom deal.now 1 made }
     ensures { IfOk result (λ k. k ≡ prepend_party deal.now seeds.now lock made party) }
 {
     match &seeds[party as usize] {
@@ -46,7 +46,7 @@ pub(crate) fn craft(
     via: &[PartyId],
 ) -> Result<Option<Hashkey>, NoMemory>
     requires crafters { CanCraft deal.now seeds.now via.now }
-    requires room { HasRoom deal.now (length via.now) start }
+    requires room { HasPathRoom deal.now (length via.now) start }
     ensures { IfOk result (λ o. o ≡ crafted deal.now seeds.now lock start via.now) }
 {
     let mut made = start;

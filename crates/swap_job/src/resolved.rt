@@ -6,7 +6,7 @@ ghost use Rattle.swap_digraph.specs.Deal.{IsWellSized};
 ghost use Rattle.ledger_core.specs.History.{fit};
 ghost use Rattle.ledger_core.specs.Book.{IsLegalBook};
 ghost use Rattle.swap_job.specs.Fitting.{IsFitting};
-ghost use Rattle.swap_job.specs.Parts.{IsUsable, make_publish};
+ghost use Rattle.swap_job.specs.Parts.{IsUsable, move_publish_terms};
 ghost use Rattle.swap_job.specs.Resolved.{move_arc, opening_named, key_opened, build_call, plain_call, resolved, is_idle};
 
 use crate::crafted::{craft, extend_craft};
@@ -19,10 +19,10 @@ use std::alloc::Global;
 use swap_base::{ArcId, Digest, LockId, NoMemory, Shared, TryCopy};
 use swap_digraph::Deal;
 
-fn make_publish(deal: &Deal, mv: &Move) -> Option<Terms>
+fn move_publish_terms(deal: &Deal, mv: &Move) -> Option<Terms>
     requires sized { IsWellSized deal.now }
     requires arc { move_arc mv.now < length deal.now.graph.arcs }
-    ensures { result ≡ make_publish deal.now mv.now }
+    ensures { result ≡ move_publish_terms deal.now mv.now }
 {
     match mv {
         Move::Publish {
@@ -55,7 +55,7 @@ fn plain_call(alloc: Global, deal: &Deal, mv: &Move) -> Result<Option<Call>, NoM
     ensures { IfOk result (λ c. c ≡ plain_call deal.now mv.now) }
 {
     match mv {
-        Move::Publish { .. } => match make_publish(deal, mv) {
+        Move::Publish { .. } => match move_publish_terms(deal, mv) {
             Some(terms) => Ok(Some(Call::Publish(Shared::new(alloc, terms)?))),
             None => Ok(None),
         },

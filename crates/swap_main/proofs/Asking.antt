@@ -11,7 +11,7 @@ use Rattle.program_words.specs.declared.task.Order.TheVariants as orders
 use Rattle.swap_commands.specs.Generated.{generated_output, AsRequested, Generates, IsRequestStatus}
 use Rattle.swap_main.specs.Top.{command_status}
 use Rattle.swap_commands.specs.Words.{AsksRace, Command, OfJob, Race as OfRace, task_command, words_command, ordered, task_request, words_request}
-use Rattle.command_input.specs.Written.{IsWrittenWhole, Writes, Written}
+use Rattle.command_input.specs.Written.{IsWrittenWhole, StatusWrites, Written}
 use Rattle.program_words.specs.declared.task.Request.{Request}
 use Rattle.program_words.specs.declared.task.Task.{Task}
 use Rattle.program_words.specs.declared.task.Task.TheVariants.{Input, Race, Number}
@@ -71,7 +71,7 @@ module _ (words : List (List ℕ)) (before after : Streams) (request : Request) 
   Said s = IsRequestStatus before.taken after.taken before.write_faults after.write_faults request s
 
   abbrev WrittenSo : Status → Type 0
-  WrittenSo s = Writes before.taken after.taken before.write_faults after.write_faults (generated_output request) s
+  WrittenSo s = StatusWrites before.taken after.taken before.write_faults after.write_faults (generated_output request) s
 
   writes_at : (s t : Status) → Said s → s ≡ t → WrittenSo t
   writes_at s t h e = subst WrittenSo e h.writes

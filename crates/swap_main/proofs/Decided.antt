@@ -19,7 +19,7 @@ use Rattle.swap_job.specs.declared.job.Role.TheVariants.{Conforming, Manual, Scr
 use Rattle.refusals.specs.declared.reason.Reason.{Reason}
 use Rattle.swap_rules.specs.Machine.{Begins}
 use Rattle.swap_rules.proofs.Prefixes.{begins_more, begins_refl}
-use Rattle.swap_run.specs.Asked.{Answers, Rule, is_strategy, IsByRule}
+use Rattle.swap_run.specs.Asked.{Answers, StrategyRule, is_strategy, IsByRule}
 use Rattle.swap_run.specs.Run.{Cast, Question, State, conforms, party_role, party_plan, look, next_action, act, watch, after_turn, question}
 use Rattle.swap_run.specs.Run.{after_question, answered_call, role_act, step, continued_run, run, start}
 use Rattle.swap_run.proofs.Asked.{runs_without_strategies, finishes_without_strategies, rules_decide_runs, rules_decide_finishes, take_asked, make_asked, begins_length}
@@ -31,7 +31,7 @@ use Rattle.command_input.specs.Written.{Written}
 use Rattle.swap_main.specs.Laws.{SameWithoutStrategies, RulesDecide}
 use Rattle.swap_main.specs.Known.{by_rule}
 use Rattle.swap_main.proofs.ManyTexts.{one_text}
-use Rattle.swap_commands.specs.Output.{AreGiven, Chance, command_cast, finished, output_given_chance, job_output, reported, run_state}
+use Rattle.swap_commands.specs.Output.{AreGiven, Chance, command_cast, finished_state, output_given_chance, job_output, reported, run_state}
 use Rattle.swap_commands.specs.Words.{OfJob, Audit, Clear, Many, Check, Run, Race, Make}
 use Rattle.swap_main.proofs.ManyDecided.{as_before}
 
@@ -55,14 +55,14 @@ written_same has a b transcript input job events is same =
 -- Where nobody follows a strategy.
 
 plain_finish : (fin : Finish) (job : Job) (a : Answers) (s : State) → list_any is_strategy job.roles ≡ false
-    → finished fin (command_cast a job) s ≡ finished fin (job_cast job) s
+    → finished_state fin (command_cast a job) s ≡ finished_state fin (job_cast job) s
 plain_finish Stop job a s none = refl
 plain_finish Fair job a s none = finishes_without_strategies (job_cast job) a s none
 
 plain_state : (job : Job) (a : Answers) (events : List Event) → list_any is_strategy job.roles ≡ false
-    → run_state a job events ≡ finished job.finish (job_cast job) (run (job_cast job) events)
+    → run_state a job events ≡ finished_state job.finish (job_cast job) (run (job_cast job) events)
 plain_state job a events none =
-    ap (λ (s : State). finished job.finish (command_cast a job) s) (runs_without_strategies (job_cast job) a (start (job_cast job)) events none)
+    ap (λ (s : State). finished_state job.finish (command_cast a job) s) (runs_without_strategies (job_cast job) a (start (job_cast job)) events none)
     ∙ plain_finish job.finish job a (run (job_cast job) events) none
 
 pub same_without_strategies : SameWithoutStrategies
@@ -99,27 +99,27 @@ run_begins c s [] = begins_refl s.asked
 run_begins c s (e ∷ events) =
     begins_more s.asked (step c s e).asked (continued_run c (step c s e) events).asked (step_begins c s e) (run_begins c (step c s e) events)
 
-finished_begins : (fin : Finish) (c : Cast) (s : State) → Begins s.asked (finished fin c s).asked
+finished_begins : (fin : Finish) (c : Cast) (s : State) → Begins s.asked (finished_state fin c s).asked
 finished_begins Stop c s = begins_refl s.asked
 finished_begins Fair c s =
     let r = finish_events c s in
     subst (λ (t : State). Begins s.asked t.asked) (sym r.state) (run_begins c s r.events)
 
-early : (rule : Rule) (c : Cast) (s t u : State) → Begins t.asked u.asked → IsByRule rule c s u → IsByRule rule c s t
+early : (rule : StrategyRule) (c : Cast) (s t u : State) → Begins t.asked u.asked → IsByRule rule c s u → IsByRule rule c s t
 early rule c s t u b by = λ i q lo hi is.
     let l = begins_length t.asked u.asked b in
     by i q lo (omega arith) (is ∙ sym (ap (λ (qs : List Question). get_or qs i q) b.1 ∙ get_or_append_left t.asked b.0 q i hi))
 
-late : (rule : Rule) (c : Cast) (s t u : State) → Begins s.asked t.asked → IsByRule rule c s u → IsByRule rule c t u
+late : (rule : StrategyRule) (c : Cast) (s t u : State) → Begins s.asked t.asked → IsByRule rule c s u → IsByRule rule c t u
 late rule c s t u b by = λ i q lo hi is. let l = begins_length s.asked t.asked b in by i q (omega arith) hi is
 
 -- Where a rule gives each answer.
 
 -- all that a run asks is answered by the rule
-abbrev IsRunByRule : Rule → Answers → Job → List Event → Type 0
+abbrev IsRunByRule : StrategyRule → Answers → Job → List Event → Type 0
 IsRunByRule rule a job events = IsByRule rule (command_cast a job) (start (job_cast job)) (run_state a job events)
 
-module _ (rule : Rule) (job : Job) (a b : Answers) (events : List Event) where
+module _ (rule : StrategyRule) (job : Job) (a b : Answers) (events : List Event) where
   abbrev mid : Answers → State
   mid x = run (command_cast x job) events
 
@@ -129,24 +129,24 @@ module _ (rule : Rule) (job : Job) (a b : Answers) (events : List Event) where
       (early rule (command_cast a job) (start (job_cast job)) (mid a) (run_state a job events) (finished_begins job.finish (command_cast a job) (mid a)) k)
       (early rule (command_cast b job) (start (job_cast job)) (mid b) (run_state b job events) (finished_begins job.finish (command_cast b job) (mid b)) l)
 
-  ends : (fin : Finish) (s : State) → IsByRule rule (command_cast a job) s (finished fin (command_cast a job) s)
-      → IsByRule rule (command_cast b job) s (finished fin (command_cast b job) s) → finished fin (command_cast b job) s ≡ finished fin (command_cast a job) s
+  ends : (fin : Finish) (s : State) → IsByRule rule (command_cast a job) s (finished_state fin (command_cast a job) s)
+      → IsByRule rule (command_cast b job) s (finished_state fin (command_cast b job) s) → finished_state fin (command_cast b job) s ≡ finished_state fin (command_cast a job) s
   ends Stop s k l = refl
   ends Fair s k l = rules_decide_finishes rule (command_cast a job) b s k l
 
   same_state : IsRunByRule rule a job events → IsRunByRule rule b job events → run_state a job events ≡ run_state b job events
   same_state k l =
       let e : mid b ≡ mid a = mids k l in
-      let after : IsByRule rule (command_cast b job) (mid b) (finished job.finish (command_cast b job) (mid b)) =
+      let after : IsByRule rule (command_cast b job) (mid b) (finished_state job.finish (command_cast b job) (mid b)) =
       late rule (command_cast b job) (start (job_cast job)) (mid b) (run_state b job events) (run_begins (command_cast b job) (start
       (job_cast job)) events) l in
-      sym (ap (λ (s : State). finished job.finish (command_cast b job) s) e ∙ ends job.finish (mid a)
+      sym (ap (λ (s : State). finished_state job.finish (command_cast b job) s) e ∙ ends job.finish (mid a)
       (late rule (command_cast a job) (start (job_cast job)) (mid a) (run_state a job events) (run_begins (command_cast a job) (start
       (job_cast job)) events) k)
-      (subst (λ (s : State). IsByRule rule (command_cast b job) s (finished job.finish (command_cast b job) s)) e after))
+      (subst (λ (s : State). IsByRule rule (command_cast b job) s (finished_state job.finish (command_cast b job) s)) e after))
 
 -- a rule of names, as one of what is asked
-abbrev of_question : (List ℕ → Deal → ℕ → ℕ → Histories → Option (ℕ × Call)) → Rule
+abbrev of_question : (List ℕ → Deal → ℕ → ℕ → Histories → Option (ℕ × Call)) → StrategyRule
 of_question rule d q = rule q.strategy d q.party q.turn q.known
 
 signature_matches : (rule : List ℕ → Deal → ℕ → ℕ → Histories → Option (ℕ × Call)) (a : Answers) (job : Job) (events : List Event)

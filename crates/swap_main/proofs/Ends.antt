@@ -8,8 +8,8 @@ use Rattle.command_input.specs.Input.{limit}
 use Rattle.swap_commands.specs.Words.{words_command, Command}
 use Rattle.command_input.specs.Written.{IsWrittenWhole, Written}
 use Rattle.swap_commands.specs.Output.{Chance, no_chance, output_given_chance, command_output, refusal_names}
-use Rattle.swap_commands.specs.Says.{HasOutput, HasRead, Says}
-use Rattle.swap_main.specs.Top.{AsksFairMany, AsksFairRace, AsksFairRun, Read, IsDone, IsCut, IsRefused, IsShort, IsOutputStatus, command_status}
+use Rattle.swap_commands.specs.Says.{HasOutput, HasRead, StatusSays}
+use Rattle.swap_main.specs.Top.{AsksFairMany, AsksFairRace, AsksFairRun, Read, IsDone, IsCut, IsRefused, IsCutShort, IsOutputStatus, command_status}
 use Rattle.command_input.specs.declared.status.Status.{Status}
 use Rattle.command_input.specs.declared.status.Status.TheVariants.{Done, Named, WrongWords, Refused, ReadFault, WriteFault, NoMemory, TooLong}
 use Rattle.command_input.specs.Streams.{HasReadFault, HasWriteFault, Streams}
@@ -31,7 +31,7 @@ module _ (has : List ℕ → Bool) where
   module _ (gives : MayGive) (words : List (List ℕ)) (before after : Streams)
       (command : Command) (asked : words_command words ≡ Some command) where
     abbrev Said : Status → Type 0
-    Said s = Says (strategies has gives) command before after s
+    Said s = StatusSays (strategies has gives) command before after s
 
     abbrev read_by : (a : Chance) (output : Result Written Reason) → HasRead has a command before.left after.left output
         → Read has a words before.left after.left output
@@ -88,10 +88,10 @@ module _ (has : List ℕ → Bool) where
     pub too_long : (s : Status) → Said s → s ≡ TooLong → ConsumesSome before.left after.left (limit + 1)
     too_long s h e = let o = subst Said e h in o.0
 
-    pub short : (s : Status) → Said s → s ≡ NoMemory → Keeps before.taken after.taken ⊎ IsShort (strategies has gives) words before after
+    pub short : (s : Status) → Said s → s ≡ NoMemory → Keeps before.taken after.taken ⊎ IsCutShort (strategies has gives) words before after
     short s h e = by (subst Said e h)
       where
-        by : Said NoMemory → Keeps before.taken after.taken ⊎ IsShort (strategies has gives) words before after
+        by : Said NoMemory → Keeps before.taken after.taken ⊎ IsCutShort (strategies has gives) words before after
         by (inl k) = inl k.0
         by (inr o) = inr (record {
           chance = o.chance;

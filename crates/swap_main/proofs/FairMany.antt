@@ -15,7 +15,7 @@ use Rattle.many_lines.specs.Places.{job_of_swap}
 use Rattle.many_text.specs.ManyText.{kept_report, finding_count}
 use Rattle.swap_commands.specs.Words.{Command, Many, words_command}
 use Rattle.swap_commands.specs.Many.{Headed, events_told, headed, many_state}
-use Rattle.swap_commands.specs.Output.{Chance, by_reason, command_output, no_chance, output_given_chance}
+use Rattle.swap_commands.specs.Output.{Chance, reason_alone, command_output, no_chance, output_given_chance}
 use Rattle.swap_commands.specs.Promised.{AsPromised, IsManyRun}
 use Rattle.swap_commands.proofs.ManySaying.{gives_many}
 use Rattle.swap_main.specs.Top.{AsksFairMany}
@@ -61,7 +61,7 @@ module _ (has : List ℕ → Bool) (words : List (List ℕ)) (left left' : Optio
       let r : ◌≡◌ {A = Result Written Reason} (command_output has Many items) (Err reason) =
       ap (λ (c : Command). command_output has c items) (sym is_many) ∙ e in
       let nobody : Chance = no_chance in
-      let made = ap by_reason (gives_many has nobody.many items a.head [] a.places is_headed a.none a.placed) in
+      let made = ap reason_alone (gives_many has nobody.many items a.head [] a.places is_headed a.none a.placed) in
       cc (sym made ∙ r)
 
   nothing_found : (gives : MayGive) (g : ℕ → Answers) (output : Written) → IsManyRun has gives g items output → output.found ≡ false

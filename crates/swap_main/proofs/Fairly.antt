@@ -16,7 +16,7 @@ use Rattle.swap_run.specs.Asked.{Answers}
 use Rattle.ledger_core.specs.Book.{Histories}
 use Rattle.swap_world.specs.Gone.{MayGive}
 use Rattle.command_input.specs.Lines.{collect_lines, filled_lines}
-use Rattle.swap_commands.specs.Output.{Chance, collected_book, no_chance, output_given_chance, job_output, command_output, story_report, reported}
+use Rattle.swap_commands.specs.Output.{Chance, collected_book, no_chance, output_given_chance, job_output, command_output, book_report, reported}
 use Rattle.swap_commands.specs.Promised.{AsPromised, IsRace, IsRun}
 use Rattle.swap_commands.proofs.ManySaying.{many_fails_by}
 use Rattle.swap_main.specs.Top.{AsksFairRace, AsksFairRun}
@@ -31,7 +31,7 @@ module _ (has : List ℕ → Bool) where
       sym (append-nil items) ∙ ap (λ (zs : List ℕ). items ++ zs) (sym end) ∙ sym taken ∙ e
 
   -- nothing is told of as found where nothing is
-  told_found : (transcript : Bool) (job : Job) (b : Histories) (output : Written) → output ≡ reported transcript job b → (story_report job b).findings ≡ []
+  told_found : (transcript : Bool) (job : Job) (b : Histories) (output : Written) → output ≡ reported transcript job b → (book_report job b).findings ≡ []
       → output.found ≡ false
   unfolding reported
   told_found transcript job b output shown none = ap (λ (w : Written). w.found) shown ∙ ap (λ (l : List Finding). not (length l == 0)) none

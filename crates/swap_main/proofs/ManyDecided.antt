@@ -18,18 +18,18 @@ use Rattle.deviators.specs.Script.{next_call, moves_left}
 use Rattle.swap_rules.specs.Due.{Action}
 use Rattle.swap_rules.specs.Machine.{Begins}
 use Rattle.swap_rules.proofs.Prefixes.{begins_more, begins_refl}
-use Rattle.swap_run.specs.Asked.{Answers, Rule, with_answers}
+use Rattle.swap_run.specs.Asked.{Answers, StrategyRule, with_answers}
 use Rattle.swap_run.specs.Run.{Cast, Question, State, act, role_act, after_question, after_turn, answered_call, conforms, look, make, next_action, party_plan}
 use Rattle.swap_run.specs.Run.{question, party_role, step, take_call, watch}
 use Rattle.swap_run.specs.Fair.{repeat, adjacent_arcs, most_acts}
 use Rattle.swap_run.specs.Called.{Called, sender_call, by_due, role_call, is_barred, noted_state, planned_state, apply_step, role_turn}
 use Rattle.swap_many.specs.declared.many_event.ManyEvent.{ManyEvent}
 use Rattle.swap_many.specs.declared.many_event.ManyEvent.TheVariants.{Tick, In, Pay, Sweep}
-use Rattle.swap_many.specs.Chains.{Setup, Slot, arc_chain, put, is_done, has_no_tick, paid, slots}
+use Rattle.swap_many.specs.Chains.{Setup, Slot, arc_chain, put, is_accepted_deed, has_no_tick, paid, slots}
 use Rattle.swap_many.specs.Many.{last_horizon}
 use Rattle.swap_many.specs.Kept.{Kept, answer_payment, answer_sweep, kept_done, kept_start, kept_step, kept_sweep, later, tick_ledgers, ticked}
 use Rattle.swap_many.specs.Fair.{have_ended, kept_act, kept_acts, kept_looks, kept_round, kept_round_or_rest, kept_rounds, kept_sweeps, kept_ticks, kept_turn}
-use Rattle.swap_many.specs.Fair.{kept_turns, entry_tick}
+use Rattle.swap_many.specs.Fair.{kept_turns, kept_chain_tick}
 use Rattle.swap_many.proofs.Projections.{put_each, put_same}
 use Rattle.swap_commands.specs.Many.{kept_after_finish}
 use Rattle.swap_run.proofs.Asked.{begins_length}
@@ -183,7 +183,7 @@ module _ (rule : Question → Option (ℕ × Call)) (swept : ℕ → Bool) (c : 
 
 -- The same of all that is kept.
 
-module _ (rule : Rule) (m : Setup) (g h : ℕ → Answers) where
+module _ (rule : StrategyRule) (m : Setup) (g h : ℕ → Answers) where
   -- what runs, where the strategies of swap s answer x s
   abbrev pub answering : (ℕ → Answers) → Setup
   answering x = record m { cast = λ s. with_answers (m.cast s) (x s) }
@@ -290,14 +290,14 @@ module _ (rule : Rule) (m : Setup) (g h : ℕ → Answers) where
   done_orderly fair (In s e) z = event_orderly fair s e z
   done_orderly fair (Pay i from to units) z =
       at_once z (kept_done fair a z (Pay i from to units)) (kept_done fair b z (Pay i from to units))
-      (λ s. paid_asked (is_done (answer_payment z i from units)) s) refl
+      (λ s. paid_asked (is_accepted_deed (answer_payment z i from units)) s) refl
     where
       paid_asked : (n : Bool) (s : ℕ)
           → ((cond n (let k : Kept = record z { free = put z.free i (paid (z.free i) from to units) } in k) z).swaps s).asked ≡ (z.swaps s).asked
       paid_asked true s = refl
       paid_asked false s = refl
   done_orderly fair (Sweep s x) z =
-      at_once z (kept_done fair a z (Sweep s x)) (kept_done fair b z (Sweep s x)) (λ t. swept_asked (is_done (answer_sweep fair a z s x)) t) refl
+      at_once z (kept_done fair a z (Sweep s x)) (kept_done fair b z (Sweep s x)) (λ t. swept_asked (is_accepted_deed (answer_sweep fair a z s x)) t) refl
     where
       swept_asked : (n : Bool) (t : ℕ) → ((cond n (kept_sweep a z s x) z).swaps t).asked ≡ (z.swaps t).asked
       swept_asked true t = refl
@@ -329,7 +329,7 @@ module _ (rule : Rule) (m : Setup) (g h : ℕ → Answers) where
   round_orderly z =
       and_then z (fold (kept_turns a) z (range_with_len 0 m.swaps)) (fold (kept_turns b) z (range_with_len 0 m.swaps)) (kept_ticks a) (kept_ticks b)
       (along (kept_turns a) (kept_turns b) (range_with_len 0 m.swaps) turns_orderly z)
-      (along (entry_tick a) (entry_tick b) (range_with_len 0 (length m.chains)) (λ z i. done_orderly false (Tick i 1) z))
+      (along (kept_chain_tick a) (kept_chain_tick b) (range_with_len 0 (length m.chains)) (λ z i. done_orderly false (Tick i 1) z))
 
   rounds_orderly : (z : Kept) → Orderly z (kept_rounds a z) (kept_rounds b z)
   rounds_orderly =

@@ -5,7 +5,7 @@ use Rattle.ledger_core.specs.declared.entry.Call.{Call}
 use Rattle.ledger_core.specs.Book.{Histories}
 use Rattle.refusals.specs.declared.refusal.Refusal.{Refusal}
 use Rattle.command_input.specs.Written.{Written}
-use Rattle.swap_run.specs.Asked.{Answers, Rule}
+use Rattle.swap_run.specs.Asked.{Answers, StrategyRule}
 use Rattle.swap_many.specs.Kept.{Kept}
 use Rattle.swap_many.specs.declared.many_event.ManyEvent.{ManyEvent}
 use Rattle.swap_many.specs.declared.place.Place.{Place}
@@ -22,7 +22,7 @@ abbrev NameRule : Type 0
 NameRule = List ℕ → Deal → ℕ → ℕ → Histories → Option (ℕ × Call)
 
 -- as one of what is asked
-abbrev of_question : NameRule → Rule
+abbrev of_question : NameRule → StrategyRule
 of_question rule d q = rule q.strategy d q.party q.turn q.known
 
 -- the rule gives each answer

@@ -14,13 +14,13 @@ use Rattle.command_input.specs.Input.{limit}
 use Rattle.command_input.specs.declared.status.Status.{Status}
 use Rattle.command_input.specs.declared.status.Status.TheVariants.{WrongWords, NoMemory}
 use Rattle.command_input.specs.Streams.{Streams, streams}
-use Rattle.command_input.specs.Written.{Writes}
+use Rattle.command_input.specs.Written.{StatusWrites}
 use Rattle.swap_commands.specs.Generated.{generated_output, Generates, IsRequestStatus}
-use Rattle.swap_commands.specs.Says.{Says}
+use Rattle.swap_commands.specs.Says.{StatusSays}
 use Rattle.swap_commands.specs.Strategies.{Strategies, strategies}
 use Rattle.swap_commands.specs.Words.{Command, OfJob, Race as OfRace, task_command, words_command, ordered, task_request, words_request}
 use Rattle.swap_main.specs.Answer.{IsAnswer}
-use Rattle.swap_main.specs.Top.{IsShort}
+use Rattle.swap_main.specs.Top.{IsCutShort}
 use Rattle.swap_commands.proofs.Saying.{none_consumed}
 use Rattle.swap_main.proofs.Asking as asking
 use Rattle.swap_main.proofs.Asking.{command_is, no_command, request_is}
@@ -28,8 +28,8 @@ use Rattle.swap_main.proofs.Ends as ends
 
 -- what a status says of a task: by its input, or without one by what is written of a number's job
 abbrev pub Performs : Strategies → Task → Streams → Streams → Status → Type 0
-Performs who (Input order) before after s = Says who (ordered order) before after s
-Performs who (Race ticks transcript) before after s = Says who (OfJob (OfRace ticks transcript)) before after s
+Performs who (Input order) before after s = StatusSays who (ordered order) before after s
+Performs who (Race ticks transcript) before after s = StatusSays who (OfJob (OfRace ticks transcript)) before after s
 Performs who (Number request) before after s = (after.left ≡ before.left) × IsRequestStatus before.taken after.taken before.write_faults after.write_faults request s
 
 -- the task that was read of words is theirs
@@ -48,14 +48,14 @@ pub number_is : (words : List (List ℕ)) (task : Task) (request : Request) → 
 number_is words task request asked is = sym (ap (λ (o : Option Task). option_and_then task_request o) asked) ∙ is
 
 module _ (who : Strategies) (words : List (List ℕ)) (before after : Streams) where
-  short_input : Keeps before.taken after.taken ⊎ IsShort who words before after
-      → Keeps before.taken after.taken ⊎ IsShort who words before after
+  short_input : Keeps before.taken after.taken ⊎ IsCutShort who words before after
+      → Keeps before.taken after.taken ⊎ IsCutShort who words before after
       ⊎ Generates (λ output. AppendsPrefix before.taken after.taken output.text) words before.left after.left
   short_input (inl k) = inl k
   short_input (inr o) = inr (inl o)
 
   short_number : Keeps before.taken after.taken ⊎ Generates (λ output. AppendsPrefix before.taken after.taken output.text) words before.left after.left
-      → Keeps before.taken after.taken ⊎ IsShort who words before after
+      → Keeps before.taken after.taken ⊎ IsCutShort who words before after
       ⊎ Generates (λ output. AppendsPrefix before.taken after.taken output.text) words before.left after.left
   short_number (inl k) = inl k
   short_number (inr g) = inr (inr g)
@@ -65,7 +65,7 @@ module _ (who : Strategies) (words : List (List ℕ)) (before after : Streams) w
     no_number request is = cc (sym asked ∙ no_command words request is)
 
     -- what is promised of a command that reads an input
-    pub by_command : (s : Status) → Says who command before after s → IsAnswer who words before after s
+    pub by_command : (s : Status) → StatusSays who command before after s → IsAnswer who words before after s
     by_command s h = record {
       done = λ e. inl (ends.done who.holds who.gives words before after command asked s h e);
       named = λ e. inl (ends.named who.holds who.gives words before after command asked s h e);
@@ -130,12 +130,12 @@ module _ (who : Strategies) (words : List (List ℕ)) (before after : Streams) w
 -- call of it need not name them.
 
 pub said_is_right : (has : List ℕ → Bool) (gives : MayGive) (command : Command) (left left' : Option (List ℕ)) (n m : ℕ) (taken taken' : Option (List ℕ))
-    (p q : ℕ) (s : Status) → Says (strategies has gives) command (streams left n taken p) (streams left' m taken' q) s → ¬ (s ≡ WrongWords)
+    (p q : ℕ) (s : Status) → StatusSays (strategies has gives) command (streams left n taken p) (streams left' m taken' q) s → ¬ (s ≡ WrongWords)
 said_is_right has gives command left left' n m taken taken' p q s h e =
-    subst (λ (t : Status). Says (strategies has gives) command (streams left n taken p) (streams left' m taken' q) t) e h
+    subst (λ (t : Status). StatusSays (strategies has gives) command (streams left n taken p) (streams left' m taken' q) t) e h
 
 pub made_is_right : (taken taken' : Option (List ℕ)) (p q : ℕ) (request : Request) (s : Status) → IsRequestStatus taken taken' p q request s → ¬ (s ≡ WrongWords)
-made_is_right taken taken' p q request s h e = subst (λ (t : Status). Writes taken taken' p q (generated_output request) t) e h.writes
+made_is_right taken taken' p q request s h e = subst (λ (t : Status). StatusWrites taken taken' p q (generated_output request) t) e h.writes
 
 pub never_wrong : (words : List (List ℕ)) (task : Task) → task_text words ≡ Some task → (s : Status) → ¬ (s ≡ WrongWords)
     → (s ≡ WrongWords) ↔ (task_text words ≡ None)

@@ -14,7 +14,7 @@ use Rattle.swap_commands.specs.Generated.{generated_output, Generates}
 use Rattle.swap_commands.specs.Strategies.{Strategies}
 use Rattle.command_input.specs.Input.{limit}
 use Rattle.command_input.specs.Streams.{HasReadFault, HasWriteFault, Streams}
-use Rattle.swap_main.specs.Top.{AsksFairMany, AsksFairRace, AsksFairRun, IsDone, IsCut, IsRefused, IsShort, IsOutputStatus, command_status}
+use Rattle.swap_main.specs.Top.{AsksFairMany, AsksFairRace, AsksFairRun, IsDone, IsCut, IsRefused, IsCutShort, IsOutputStatus, command_status}
 
 -- What the program's answer promises, by its words, and by its input and its output before and
 -- after.
@@ -31,7 +31,7 @@ pub record IsAnswer (who : Strategies) (words : List (List ℕ)) (before after :
       → IsCut who words before after ⊎ Generates (λ output. AppendsProperPrefix before.taken after.taken output.text) words before.left after.left
   pub too_long : s ≡ TooLong → ConsumesSome before.left after.left (limit + 1)
   pub short : s ≡ NoMemory
-      → Keeps before.taken after.taken ⊎ IsShort who words before after
+      → Keeps before.taken after.taken ⊎ IsCutShort who words before after
       ⊎ Generates (λ output. AppendsPrefix before.taken after.taken output.text) words before.left after.left
   -- With any other status nothing is written.
   pub silent : ¬ (s ≡ Done) → ¬ (s ≡ Named) → ¬ (s ≡ WriteFault) → ¬ (s ≡ NoMemory) → Keeps before.taken after.taken

@@ -55,7 +55,7 @@ pub record IsCut (who : Strategies) (words : List (List ℕ)) (before after : St
   pub prefix : AppendsProperPrefix before.taken after.taken output.text
 
 -- The input was read to its end, and a prefix of its text was written.
-pub record IsShort (who : Strategies) (words : List (List ℕ)) (before after : Streams) : Type 0 where
+pub record IsCutShort (who : Strategies) (words : List (List ℕ)) (before after : Streams) : Type 0 where
   pub chance : Chance
   pub output : Written
   pub read : Read who.holds chance words before.left after.left (Ok output)

@@ -5,7 +5,7 @@ ghost use Rattle.program_words.specs.Words.{task_text};
 ghost use Rattle.program_words.specs.declared.task.Request.{Request};
 ghost use Rattle.command_input.specs.Streams.{streams};
 ghost use Rattle.swap_main.specs.Answer.{IsAnswer};
-ghost use Rattle.swap_commands.specs.Says.{Says};
+ghost use Rattle.swap_commands.specs.Says.{StatusSays};
 ghost use Rattle.swap_commands.specs.Words.{AsksRace, OfJob, Race, words_request};
 ghost use Rattle.swap_commands.specs.Strategies.{strategies};
 
@@ -32,7 +32,7 @@ fn perform_race<R: Threads + Wait + Sync, S: Source, K: Sink, G: Gate, A: Strate
 ) -> Status
     requires some { 1 ≤ ticks }
     requires below { ticks ≤ 1000 }
-    ensures says { Says (strategies (A.holds staff.now) (A.gives staff.now)) (OfJob (Race ticks transcript))
+    ensures says { StatusSays (strategies (A.holds staff.now) (A.gives staff.now)) (OfJob (Race ticks transcript))
         (streams (S.left source.old) (S.faults source.old) (K.taken sink.old) (K.faults sink.old))
         (streams (S.left source.new) (S.faults source.new) (K.taken sink.new) (K.faults sink.new)) result }
     ensures calm { ¬ (result ≡ Status.ReadFault) → S.faults source.new ≡ S.faults source.old }

@@ -5,17 +5,17 @@ use Rattle.swap_run.specs.Fair.{repeat}
 use Rattle.swap_world.specs.Gone.{MayGive}
 use Rattle.swap_many.specs.Kept.{Kept}
 use Rattle.swap_many.specs.Fair.{kept_ticks, kept_round, kept_round_or_rest, SkipsKeptRounds}
-use Rattle.swap_many.specs.Value.{ManyState, AreReady, made_setup, kept_state, HasManyGone, IsManyStopped}
+use Rattle.swap_many.specs.Value.{ManyState, AreReady, made_setup, many_kept, HasManyGone, IsManyStopped}
 use Rattle.swap_many.proofs.Way.{round_steps}
 use Rattle.swap_many.proofs.Gone.{LeadOn, gone_as, gone_then, leads_repeat, stopped_as, stopped_then, stopped_after}
 use Rattle.swap_many.proofs.Turning.{ticks_lead, unless_leads}
 use Rattle.swap_world.proofs.Ways.{repeat_split}
 
 module _ (gives : MayGive) (old mid new : ManyState) (n : ℕ) (ready : AreReady old)
-    (skips : (g : ℕ → Answers) → SkipsKeptRounds (made_setup old g) n (kept_state old)) where
-  are_rounds : (g : ℕ → Answers) → kept_round (made_setup old g) (repeat n (kept_ticks (made_setup old g)) (kept_state old))
-      ≡ repeat (n + 1) (kept_round_or_rest (made_setup old g)) (kept_state old)
-  are_rounds g = let e : suc n ≡ n + 1 = omega arith in sym (skips g) ∙ ap (λ k. repeat k (kept_round_or_rest (made_setup old g)) (kept_state old)) e
+    (skips : (g : ℕ → Answers) → SkipsKeptRounds (made_setup old g) n (many_kept old)) where
+  are_rounds : (g : ℕ → Answers) → kept_round (made_setup old g) (repeat n (kept_ticks (made_setup old g)) (many_kept old))
+      ≡ repeat (n + 1) (kept_round_or_rest (made_setup old g)) (many_kept old)
+  are_rounds g = let e : suc n ≡ n + 1 = omega arith in sym (skips g) ∙ ap (λ k. repeat k (kept_round_or_rest (made_setup old g)) (many_kept old)) e
 
   round_leads : LeadOn old kept_round
   round_leads g z = round_steps (made_setup old g) (ready g) z
@@ -54,7 +54,7 @@ module _ (gives : MayGive) (old mid new : ManyState) (all left n : ℕ) (few : l
   goes_further h =
       gone_as gives (λ m z. repeat n (kept_round_or_rest m) (repeat (all - left) (kept_round_or_rest m) z))
       (λ m z. repeat (all - (left - n)) (kept_round_or_rest m) z) old new
-      (λ g. in_a_row (kept_round_or_rest (made_setup old g)) (kept_state old))
+      (λ g. in_a_row (kept_round_or_rest (made_setup old g)) (many_kept old))
       (gone_then gives (λ m z. repeat (all - left) (kept_round_or_rest m) z) (λ m z. repeat n (kept_round_or_rest m) z) old mid new so_far h)
 
   all_of_them : (f : Kept → Kept) (z : Kept) → repeat (left - n) f (repeat n f (repeat (all - left) f z)) ≡ repeat all f z
@@ -67,7 +67,7 @@ module _ (gives : MayGive) (old mid new : ManyState) (all left n : ℕ) (few : l
   stops_further ready k =
       let leads = λ (i : ℕ). leads_repeat old ready kept_round_or_rest (unless_leads old ready) i in
       stopped_as gives (λ m z. repeat (left - n) (kept_round_or_rest m) (repeat n (kept_round_or_rest m) (repeat (all - left) (kept_round_or_rest m) z)))
-      (λ m z. repeat all (kept_round_or_rest m) z) old new (λ g. all_of_them (kept_round_or_rest (made_setup old g)) (kept_state old))
+      (λ m z. repeat all (kept_round_or_rest m) z) old new (λ g. all_of_them (kept_round_or_rest (made_setup old g)) (many_kept old))
       (stopped_then gives (λ m z. repeat n (kept_round_or_rest m) (repeat (all - left) (kept_round_or_rest m) z))
       (λ m z. repeat (left - n) (kept_round_or_rest m) z) old new ready (leads (left - n))
       (stopped_after gives (λ m z. repeat (all - left) (kept_round_or_rest m) z) (λ m z. repeat n (kept_round_or_rest m) z) old mid new ready

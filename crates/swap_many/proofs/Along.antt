@@ -5,15 +5,15 @@ use Rattle.swap_run.specs.Run.{State}
 use Rattle.swap_many.specs.Chains.{Setup}
 use Rattle.swap_many.specs.Many.{Run, many_run}
 use Rattle.swap_many.specs.Kept.{Kept, Time, kept_run}
-use Rattle.swap_many.specs.Laws.{IsReady, CanCome}
+use Rattle.swap_many.specs.Laws.{IsReadySetup, CanCome}
 use Rattle.swap_many.specs.Sound.{Keeps}
 use Rattle.swap_many.specs.Way.{Step, collect_kept}
-use Rattle.swap_many.specs.Value.{ManyState, IsBetween}
+use Rattle.swap_many.specs.Value.{ManyState, IsIntermediateState}
 use Rattle.swap_many.specs.Along.{run_step, stepped_run, ArePlacedAfterSteps, IsCutRun, UnitsStayPlaced}
 use Rattle.swap_many.proofs.Units.{keeps_step, keeps_run, counted_is_placed}
 use Rattle.swap_many.proofs.Way.{finish_steps}
 
-module _ (m : Setup) (ready : IsReady m) where
+module _ (m : Setup) (ready : IsReadySetup m) where
   abbrev Can : Step → Type 0
   Can x = CanCome m x.event
 
@@ -38,7 +38,7 @@ module _ (m : Setup) (ready : IsReady m) where
       record { follows = k.follows; units = λ i l. counted_is_placed m (stepped_run m r steps) (fold (collect_kept m) z steps) i l k }
 
   -- where memory ran out on the way
-  pub cut_run : (r : Run) (z t : Kept) (w : ManyState) → length w.worlds ≡ m.swaps → Keeps m r z → IsBetween m z t w → IsCutRun m r w
+  pub cut_run : (r : Run) (z t : Kept) (w : ManyState) → length w.worlds ≡ m.swaps → Keeps m r z → IsIntermediateState m z t w → IsCutRun m r w
   cut_run r z t w many k b =
       let steps = b.before.steps in
       let after = keeps_on steps r z b.before.can k in

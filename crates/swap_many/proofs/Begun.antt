@@ -7,7 +7,7 @@ use Rattle.std.proofs.lemmas.List.Sums.{sum_by_push, sum_by-cons}
 use Rattle.swap_base.specs.Lists.{first_given_answer, or_else}
 use Rattle.swap_base.proofs.Lists.{first_given_answer-append, first_given_answer-front}
 use Rattle.swap_many.specs.declared.overdrawn.Overdrawn.{Overdrawn}
-use Rattle.swap_many.specs.Chains.{Setup, set_aside, opening, first_free}
+use Rattle.swap_many.specs.Chains.{Setup, set_aside, opening_units, first_free}
 use Rattle.std.proofs.Common.{Result, Ok, Err, slice_index_or, ◌^◌}
 use Rattle.std.proofs.lemmas.List.Sums.{sum-map}
 use Rattle.swap_base.specs.Fault.{Fails}
@@ -63,16 +63,16 @@ first_here f n k y l none e =
 
 -- What an account lacks.
 
-pub lacks : (m : Setup) (i x : ℕ) → opening m i x < set_aside m i x
-    → account_lack m i x ≡ Some (record { chain = i; account = x; have = opening m i x; wanted = set_aside m i x })
+pub lacks : (m : Setup) (i x : ℕ) → opening_units m i x < set_aside m i x
+    → account_lack m i x ≡ Some (record { chain = i; account = x; have = opening_units m i x; wanted = set_aside m i x })
 lacks m i x l =
-    ap (λ (b : Bool). cond {A = Option Overdrawn} b (Some (record { chain = i; account = x; have = opening m i x; wanted = set_aside m i x })) None)
-    (lt-ltb (opening m i x) (set_aside m i x) l)
+    ap (λ (b : Bool). cond {A = Option Overdrawn} b (Some (record { chain = i; account = x; have = opening_units m i x; wanted = set_aside m i x })) None)
+    (lt-ltb (opening_units m i x) (set_aside m i x) l)
 
-pub lacks_none : (m : Setup) (i x : ℕ) → set_aside m i x ≤ opening m i x → account_lack m i x ≡ None
+pub lacks_none : (m : Setup) (i x : ℕ) → set_aside m i x ≤ opening_units m i x → account_lack m i x ≡ None
 lacks_none m i x l =
-    ap (λ (b : Bool). cond {A = Option Overdrawn} b (Some (record { chain = i; account = x; have = opening m i x; wanted = set_aside m i x })) None)
-    (le-ltb (opening m i x) (set_aside m i x) l)
+    ap (λ (b : Bool). cond {A = Option Overdrawn} b (Some (record { chain = i; account = x; have = opening_units m i x; wanted = set_aside m i x })) None)
+    (le-ltb (opening_units m i x) (set_aside m i x) l)
 
 -- one more of a list that is made place by place
 pub map_next : {A B : Type 0} (f : A → B) (xs : List A) (k : ℕ) (d : A) (old new : List B) → k < length xs → new ≡ old ++ f (get_or xs k d) ∷ []
@@ -105,9 +105,9 @@ pub free_fits : (m : Setup) (i n : ℕ) (xs : List ℕ) → n ≡ length (slice_
     → sum_by (λ u. u) (slice_index_or m.chains i []) ≤ 10 ^ 18 → sum_by (λ u. u) xs ≤ 10 ^ 18
 free_fits m i n xs e is l =
     let a : sum_by (λ u. u) xs ≡ sum_by (first_free m i) (range_with_len 0 n) = ap (sum_by (λ u. u)) is ∙ sum-map (first_free m i) (range_with_len 0 n) in
-    let b = sum_below (first_free m i) (opening m i) (range_with_len 0 n) (λ x. less (opening m i x) (set_aside m i x)) in
-    let d : sum_by (opening m i) (range_with_len 0 n) ≡ sum_by (λ u. u) (slice_index_or m.chains i []) =
-    ap (λ k. sum_by (opening m i) (range_with_len 0 k)) e ∙ list_sum (slice_index_or m.chains i []) in
+    let b = sum_below (first_free m i) (opening_units m i) (range_with_len 0 n) (λ x. less (opening_units m i x) (set_aside m i x)) in
+    let d : sum_by (opening_units m i) (range_with_len 0 n) ≡ sum_by (λ u. u) (slice_index_or m.chains i []) =
+    ap (λ k. sum_by (opening_units m i) (range_with_len 0 k)) e ∙ list_sum (slice_index_or m.chains i []) in
     omega (arith, a, b, d, l)
   where
     less : (p q : ℕ) → p - q ≤ p

@@ -4,18 +4,18 @@ use Rattle.std.proofs.lemmas.List.{length-set}
 use Rattle.swap_world.specs.Gone.{MayGive}
 use Rattle.swap_many.specs.declared.many_event.ManyEvent.TheVariants.{Pay}
 use Rattle.swap_many.specs.Accounts.{ChainState, account_units}
-use Rattle.swap_many.specs.Chains.{put, paid, is_done, reply_to_payment, Units}
+use Rattle.swap_many.specs.Chains.{put, paid, is_accepted_deed, reply_to_payment, Units}
 use Rattle.swap_many.specs.Kept.{Kept, Time, kept_done}
 use Rattle.swap_many.specs.Laws.{CanPay}
-use Rattle.swap_many.specs.Value.{ManyState, nth_chain, world_setup, kept_state, AreSame, HasManyGone}
+use Rattle.swap_many.specs.Value.{ManyState, nth_chain, world_setup, many_kept, AreSame, HasManyGone}
 use Rattle.swap_many.specs.Inside.{AreWhole}
 use Rattle.swap_many.proofs.Projections.{put_still}
 use Rattle.swap_many.proofs.Values.{can_for, with_chain, each_chain, chain_kept, whole_next, sound_step, all_same}
 
 -- What a payment does to a chain.
 pub record IsPaid (old new : ChainState) (from to units : ℕ) : Type 0 where
-  pub refused : is_done (reply_to_payment (account_units old.free from) units) ≡ false → new ≡ old
-  pub paid : IsTrue (is_done (reply_to_payment (account_units old.free from) units)) → account_units new.free ≡ paid (account_units old.free) from to units
+  pub refused : is_accepted_deed (reply_to_payment (account_units old.free from) units) ≡ false → new ≡ old
+  pub paid : IsTrue (is_accepted_deed (reply_to_payment (account_units old.free from) units)) → account_units new.free ≡ paid (account_units old.free) from to units
   pub clock : new.clock ≡ old.clock
   pub count : length new.free ≡ length old.free
 
@@ -30,18 +30,18 @@ module _ (gives : MayGive) (w : ManyState) (i : ℕ) (x : ChainState) (low : i <
       goes_on = refl;
       kept =
           λ g c. chain_kept w i x low
-          ∙ (ap (λ (c : ℕ → Time). let z : Kept = record (kept_state w) { clocks = c; free = put (kept_state w).free i (account_units x.free) } in z)
-          (put_still (kept_state w).clocks i x.clock k.clock)
-          ∙ go (is_done (reply_to_payment (account_units (nth_chain w i).free from) units)) refl);
+          ∙ (ap (λ (c : ℕ → Time). let z : Kept = record (many_kept w) { clocks = c; free = put (many_kept w).free i (account_units x.free) } in z)
+          (put_still (many_kept w).clocks i x.clock k.clock)
+          ∙ go (is_accepted_deed (reply_to_payment (account_units (nth_chain w i).free from) units)) refl);
     }
       where
-        go : (b : Bool) → is_done (reply_to_payment (account_units (nth_chain w i).free from) units) ≡ b
-            → (let z : Kept = record (kept_state w) { free = put (kept_state w).free i (account_units x.free) } in z)
-            ≡ cond b (record (kept_state w) { free = put (kept_state w).free i (paid (account_units (nth_chain w i).free) from to units) }) (kept_state w)
-        go true e = ap (λ (u : Units). let z : Kept = record (kept_state w) { free = put (kept_state w).free i u } in z) (k.paid e)
+        go : (b : Bool) → is_accepted_deed (reply_to_payment (account_units (nth_chain w i).free from) units) ≡ b
+            → (let z : Kept = record (many_kept w) { free = put (many_kept w).free i (account_units x.free) } in z)
+            ≡ cond b (record (many_kept w) { free = put (many_kept w).free i (paid (account_units (nth_chain w i).free) from to units) }) (many_kept w)
+        go true e = ap (λ (u : Units). let z : Kept = record (many_kept w) { free = put (many_kept w).free i u } in z) (k.paid e)
         go false e =
-            ap (λ (f : ℕ → Units). let z : Kept = record (kept_state w) { free = f } in z)
-            (put_still (kept_state w).free i (account_units x.free) (ap (λ (y : ChainState). account_units y.free) (k.refused e)))
+            ap (λ (f : ℕ → Units). let z : Kept = record (many_kept w) { free = f } in z)
+            (put_still (many_kept w).free i (account_units x.free) (ap (λ (y : ChainState). account_units y.free) (k.refused e)))
 
     pub paid_whole : AreWhole w → w.stopped ≡ false → CanPay (world_setup w) i from to → IsPaid (nth_chain w i) x from to units
         → AreWhole (with_chain w i x low)

@@ -24,11 +24,11 @@ use Rattle.swap_run.proofs.Good.{good_is_kept}
 use Rattle.swap_run.proofs.Rounds.{turns_from}
 use Rattle.swap_run.proofs.Swept.{none_swept}
 use Rattle.swap_many.specs.declared.many_event.ManyEvent.TheVariants.{Sweep}
-use Rattle.swap_many.specs.Chains.{Setup, Slot, slots, arc_chain, book, is_done}
+use Rattle.swap_many.specs.Chains.{Setup, Slot, slots, arc_chain, book, is_accepted_deed}
 use Rattle.swap_many.specs.Many.{Run, done, last_horizon, round_or_rest, many_start, many_finish}
 use Rattle.swap_many.specs.Kept.{Kept, answer_sweep, kept_done, kept_start, kept_sweep}
 use Rattle.swap_many.specs.Fair.{kept_round, kept_round_or_rest, kept_rounds, have_ended}
-use Rattle.swap_many.specs.Laws.{IsReady, EveryFairSwapIsDealt}
+use Rattle.swap_many.specs.Laws.{IsReadySetup, EveryFairSwapIsDealt}
 use Rattle.swap_many.specs.Sound.{Keeps}
 use Rattle.swap_many.proofs.Projections.{height_is, shown_at}
 use Rattle.swap_many.proofs.Units.{keeps_start}
@@ -44,7 +44,7 @@ with_book t b = record t { book = b }
 -- Sweeps leave each swap as it is.
 
 sweep_swaps : (m : Setup) (z : Kept) (t : Slot) → (kept_done true m z (Sweep t.swap t.arc)).swaps ≡ z.swaps
-sweep_swaps m z t = go (is_done (answer_sweep true m z t.swap t.arc))
+sweep_swaps m z t = go (is_accepted_deed (answer_sweep true m z t.swap t.arc))
   where
     go : (b : Bool) → (cond b (kept_sweep m z t.swap t.arc) z).swaps ≡ z.swaps
     go true = refl
@@ -60,7 +60,7 @@ record AtHeight (m : Setup) (r : ℕ) (x : Run) (z : Kept) : Type 0 where
   at : (i : ℕ) → i < length m.chains → (z.clocks i).height ≡ r
   unswept : z.swept ≡ (λ s a. false)
 
-module _ (m : Setup) (ready : IsReady m) (s : ℕ) (low : s < m.swaps) (all : (v : ℕ) → v < (m.cast s).deal.graph.n → conforms (m.cast s) v ≡ true) where
+module _ (m : Setup) (ready : IsReadySetup m) (s : ℕ) (low : s < m.swaps) (all : (v : ℕ) → v < (m.cast s).deal.graph.n → conforms (m.cast s) v ≡ true) where
   abbrev c : Cast
   c = m.cast s
 

@@ -18,12 +18,12 @@ use Rattle.swap_many.specs.declared.many_reply.ManyReply.{ManyReply}
 use Rattle.swap_many.specs.declared.many_reply.ManyReply.TheVariants.{Plain}
 use Rattle.swap_many.specs.Accounts.{ChainState, account_units}
 use Rattle.swap_many.specs.declared.place.Place.{Place}
-use Rattle.swap_many.specs.Chains.{place, arc_chain, put, plus, returned, Units, is_done, projection, free, opening, in_accounts}
+use Rattle.swap_many.specs.Chains.{place, arc_chain, put, plus, returned, Units, is_accepted_deed, projection, free, opening_units, in_accounts}
 use Rattle.swap_many.specs.Kept.{Time, kept_sweep, kept_done, answer_sweep}
 use Rattle.swap_many.specs.Many.{Run}
 use Rattle.swap_many.specs.Laws.{CanSweep}
 use Rattle.swap_many.specs.Sound.{Keeps}
-use Rattle.swap_many.specs.Value.{ManyState, nth_world, nth_chain, swept_slots, world_setup, made_setup, kept_state, AreSame, HasManyGone}
+use Rattle.swap_many.specs.Value.{ManyState, nth_world, nth_chain, swept_slots, world_setup, made_setup, many_kept, AreSame, HasManyGone}
 use Rattle.swap_many.specs.Inside.{AreWhole}
 use Rattle.swap_many.proofs.Projections.{put_still, put_each, shown_at}
 use Rattle.swap_many.proofs.Accounts.{set_is_put}
@@ -45,20 +45,20 @@ list_sum xs =
 pub record MayGoBack (w : ManyState) (s a : ℕ) (fair : Bool) (p : Place) (y : ChainState) (b : Accounts) : Type 0 where
   pub on : w.stopped ≡ false
   pub can : CanSweep (world_setup w) s a
-  pub accepted : answer_sweep fair (world_setup w) (kept_state w) s a ≡ Plain Accepted
+  pub accepted : answer_sweep fair (world_setup w) (many_kept w) s a ≡ Plain Accepted
   pub at : p ≡ place (world_setup w) s a
   pub here : y ≡ nth_chain w p.chain
   pub is : b ≡ accounts (nth_world w s).deal a (history (nth_world w s).state.book a)
 
 module _ (w : ManyState) (s a : ℕ) (fair : Bool) (whole : AreWhole w) (on : w.stopped ≡ false) (can : CanSweep (world_setup w) s a)
-    (accepted : answer_sweep fair (world_setup w) (kept_state w) s a ≡ Plain Accepted) where
-  open_slot : (kept_state w).swept s a ≡ false
+    (accepted : answer_sweep fair (world_setup w) (many_kept w) s a ≡ Plain Accepted) where
+  open_slot : (many_kept w).swept s a ≡ false
   open_slot =
       let past = history (nth_world w s).state.book a in
-      let k = done_rows (nat_lt ((kept_state w).clocks (arc_chain (world_setup w) s a)).height (the_horizon (nth_world w s).deal + 1))
-      ((kept_state w).swept s a)
+      let k = done_rows (nat_lt ((many_kept w).clocks (arc_chain (world_setup w) s a)).height (the_horizon (nth_world w s).deal + 1))
+      ((many_kept w).swept s a)
       (is_some (published past) && is_none (settled past)) (not fair && is_none (published past)) (the_horizon (nth_world w s).deal + 1) (held past)
-      (ap is_done accepted) in
+      (ap is_accepted_deed accepted) in
       k.1
 
   -- the two balances fit into the free accounts
@@ -69,24 +69,24 @@ module _ (w : ManyState) (s a : ℕ) (fair : Bool) (whole : AreWhole w) (on : w.
       let was = whole.sound on (λ t. world_answers (nth_world w t)) (λ t l k lt. refl) in
       fits was.0 was.1
     where
-      fits : (r : Run) → Keeps (made_setup w (λ t. world_answers (nth_world w t))) r (kept_state w)
+      fits : (r : Run) → Keeps (made_setup w (λ t. world_answers (nth_world w t))) r (many_kept w)
           → sum_by (λ u. u) (nth_chain w (arc_chain (world_setup w) s a)).free
           + (accounts (nth_world w s).deal a (history (nth_world w s).state.book a)).party
           + (accounts (nth_world w s).deal a (history (nth_world w s).state.book a)).counterparty ≤ 10 ^ 18
       fits r k =
           let m = made_setup w (λ t. world_answers (nth_world w t)) in
           let j = arc_chain m s a in
-          let few = sweep_fits m r (kept_state w) s a (whole.ready (λ t. world_answers (nth_world w t))) (record { swap = can.swap; arc = can.arc }) k
+          let few = sweep_fits m r (many_kept w) s a (whole.ready (λ t. world_answers (nth_world w t))) (record { swap = can.swap; arc = can.arc }) k
           (sym (k.follows.swept s a) ∙ open_slot) in
           let past : projection s a (r.chains j) ≡ history (nth_world w s).state.book a =
           sym (ap (λ (y : State). history y.book a) (k.follows.swaps s can.swap) ∙ shown_at m r.chains s a can.arc) in
           let sum : in_accounts m j (free m j (r.chains j)) ≡ sum_by (λ u. u) (nth_chain w j).free =
           ap (in_accounts m j) (sym (k.follows.free j))
           ∙ (ap (λ n. sum_by (account_units (nth_chain w j).free) (range_with_len 0 n)) (sym (whole.accounts j)) ∙ list_sum (nth_chain w j).free) in
-          let all : in_accounts m j (opening m j) ≡ sum_by (λ u. u) (slice_index_or w.openings j []) = list_sum (slice_index_or w.openings j []) in
+          let all : in_accounts m j (opening_units m j) ≡ sum_by (λ u. u) (slice_index_or w.openings j []) = list_sum (slice_index_or w.openings j []) in
           end (in_accounts m j (free m j (r.chains j))) (sum_by (λ u. u) (nth_chain w j).free)
           (accounts (nth_world w s).deal a (projection s a (r.chains j))) (accounts (nth_world w s).deal a (history (nth_world w s).state.book a))
-          (in_accounts m j (opening m j)) (sum_by (λ u. u) (slice_index_or w.openings j [])) sum
+          (in_accounts m j (opening_units m j)) (sum_by (λ u. u) (slice_index_or w.openings j [])) sum
           (ap (accounts (nth_world w s).deal a) past) few all (whole.units j)
         where
           end : (f x : ℕ) (p q : Accounts) (c y : ℕ) → f ≡ x → p ≡ q → f + p.party + p.counterparty ≤ c → c ≡ y → y ≤ 10 ^ 18
@@ -115,36 +115,36 @@ module _ (w : ManyState) (s a : ℕ) (fair : Bool) (whole : AreWhole w) (on : w.
     sweep_same =
         let k = all_same gives w in record { swaps = k.swaps; casts = k.casts; asked = k.asked; places = k.places; openings = k.openings }
 
-    swept_now : (λ t c. slice_index_or (swept_slots with_sweep t) c false) ≡ put (kept_state w).swept s (put ((kept_state w).swept s) a true)
+    swept_now : (λ t c. slice_index_or (swept_slots with_sweep t) c false) ≡ put (many_kept w).swept s (put ((many_kept w).swept s) a true)
     swept_now =
         ap (λ (h : ℕ → List Bool). let k : ℕ → ℕ → Bool = λ t c. slice_index_or (h t) c false in k) flags_put
         ∙ (put_map (λ (xs : List Bool). let k : ℕ → Bool = λ c. slice_index_or xs c false in k) (swept_slots w) s f
-        ∙ ap (λ (k : ℕ → Bool). put (kept_state w).swept s k)
+        ∙ ap (λ (k : ℕ → Bool). put (many_kept w).swept s k)
         (ap (λ (xs : List Bool). let k : ℕ → Bool = λ c. slice_index_or xs c false in k) flag
         ∙ set_is_put false (swept_slots w s) a true (subst (λ n. a < n) (sym (whole.slots s can.swap)) can.arc)))
 
-    clocks_now : (λ j. (nth_chain with_sweep j).clock) ≡ (kept_state w).clocks
+    clocks_now : (λ j. (nth_chain with_sweep j).clock) ≡ (many_kept w).clocks
     clocks_now =
         ap (λ (f : ℕ → ChainState). let h : ℕ → Time = λ j. (f j).clock in h) (chains_put w (arc_chain (world_setup w) s a) x (chain_low w s a whole can))
         ∙ (put_map (λ (y : ChainState). y.clock) (nth_chain w) (arc_chain (world_setup w) s a) x
-        ∙ put_still (kept_state w).clocks (arc_chain (world_setup w) s a) x.clock clock)
+        ∙ put_still (many_kept w).clocks (arc_chain (world_setup w) s a) x.clock clock)
 
     free_now : (λ j. account_units (nth_chain with_sweep j).free)
-        ≡ put (kept_state w).free (arc_chain (world_setup w) s a)
-        (returned ((kept_state w).free (arc_chain (world_setup w) s a)) (place (world_setup w) s a)
+        ≡ put (many_kept w).free (arc_chain (world_setup w) s a)
+        (returned ((many_kept w).free (arc_chain (world_setup w) s a)) (place (world_setup w) s a)
         (accounts (nth_world w s).deal a (history (nth_world w s).state.book a)))
     free_now =
         ap (λ (f : ℕ → ChainState). let h : ℕ → Units = λ j. account_units (f j).free in h)
         (chains_put w (arc_chain (world_setup w) s a) x (chain_low w s a whole can))
         ∙ (put_map (λ (y : ChainState). account_units y.free) (nth_chain w) (arc_chain (world_setup w) s a) x
-        ∙ ap (λ (u : Units). put (kept_state w).free (arc_chain (world_setup w) s a) u) units)
+        ∙ ap (λ (u : Units). put (many_kept w).free (arc_chain (world_setup w) s a) u) units)
 
     pub sweep_gone : HasManyGone gives (λ m z. kept_done fair m z (Sweep s a)) w with_sweep
     sweep_gone = record {
       same = sweep_same;
       goes_on = refl;
-      kept = λ g c. (λ j. record { swaps = (kept_state w).swaps; clocks = clocks_now j; free = free_now j; swept = swept_now j })
-          ∙ sym (ap (λ (r : ManyReply). cond (is_done r) (kept_sweep (world_setup w) (kept_state w) s a) (kept_state w)) accepted);
+      kept = λ g c. (λ j. record { swaps = (many_kept w).swaps; clocks = clocks_now j; free = free_now j; swept = swept_now j })
+          ∙ sym (ap (λ (r : ManyReply). cond (is_accepted_deed r) (kept_sweep (world_setup w) (many_kept w) s a) (many_kept w)) accepted);
     }
 
     pub sweep_whole : AreWhole with_sweep

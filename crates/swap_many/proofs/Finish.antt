@@ -19,13 +19,13 @@ use Rattle.swap_run.specs.Laws.{IsGood, IsKept}
 use Rattle.swap_run.proofs.Good.{good_is_kept}
 use Rattle.swap_run.proofs.Ticks.{horizon_low}
 use Rattle.swap_many.specs.declared.many_event.ManyEvent.TheVariants.{Tick, In, Sweep}
-use Rattle.swap_many.specs.Chains.{Setup, Slot, chain_slots, slots, arc_chain, put, chain_height, has_no_tick, book, is_done}
+use Rattle.swap_many.specs.Chains.{Setup, Slot, chain_slots, slots, arc_chain, put, chain_height, has_no_tick, book, is_accepted_deed}
 use Rattle.swap_many.specs.Many.{Run, swap_state, done, last_horizon, swap_looks, swap_turn, swap_turns, many_round, all_ended, round_or_rest, many_run, many_finish}
 use Rattle.swap_many.specs.Kept.{Kept, Time, later, ticked, kept_tick, kept_sweep, kept_done, kept_run, kept_finish}
 use Rattle.swap_many.specs.Kept.{answer_sweep}
-use Rattle.swap_many.specs.Laws.{IsReady, ManyFinishesEnd}
+use Rattle.swap_many.specs.Laws.{IsReadySetup, ManyFinishesEnd}
 use Rattle.swap_many.proofs.Projections.{put_same, put_each, height_is, shown_at}
-use Rattle.swap_many.specs.Sound.{IsTimed, Keeps}
+use Rattle.swap_many.specs.Sound.{AreTicksBelowHeights, Keeps}
 use Rattle.swap_many.proofs.Clocks.{same_timed}
 use Rattle.swap_many.proofs.Units.{keeps_step, keeps_run, counted_is_placed}
 
@@ -42,7 +42,7 @@ run_height r i = chain_height (r.chains i)
 abbrev pub kept_height : Kept → ℕ → ℕ
 kept_height z i = (z.clocks i).height
 
-module _ (m : Setup) (ready : IsReady m) where
+module _ (m : Setup) (ready : IsReadySetup m) where
   both_fold : {B : Type 0} (f : Run → B → Run) (g : Kept → B → Kept) (xs : List B) (r : Run) (z : Kept)
       → ((r : Run) (z : Kept) (x : B) → IsElement x xs → Keeps m r z → Keeps m (f r x) (g z x)) → Keeps m r z → Keeps m (fold f r xs) (fold g z xs)
   both_fold f g [] r z h k = k
@@ -137,17 +137,17 @@ module _ (m : Setup) (ready : IsReady m) where
 
 -- What ticks by 1 of the chains from lo on, n of them, leave.
 pub record Raised (m : Setup) (lo n : ℕ) (z t : Kept) : Type 0 where
-  pub timed : IsTimed t
+  pub timed : AreTicksBelowHeights t
   pub mono : (j : ℕ) → (z.clocks j).height ≤ (t.clocks j).height
   pub up : (j : ℕ) → lo ≤ j → j < lo + n → (z.clocks j).height ≤ last_horizon m → (z.clocks j).height + 1 ≤ (t.clocks j).height
 
-module _ (m : Setup) (ready : IsReady m) where
+module _ (m : Setup) (ready : IsReadySetup m) where
   last_low : last_horizon m ≤ 14000
   last_low =
       greatest-below (λ s. the_horizon (m.cast s).deal) (range_with_len 0 m.swaps) 14000
       (λ s i. horizon_low (m.cast s).deal (ready.casts s (from_range s m.swaps i)).accepted)
 
-  has_room : (z : Kept) (i : ℕ) → IsTimed z → (z.clocks i).height ≤ last_horizon m → has_no_tick (z.clocks i).ticks (z.clocks i).height 1 ≡ false
+  has_room : (z : Kept) (i : ℕ) → AreTicksBelowHeights z → (z.clocks i).height ≤ last_horizon m → has_no_tick (z.clocks i).ticks (z.clocks i).height 1 ≡ false
   has_room z i t low =
       let h = last_low in
       let c = t i in
@@ -155,7 +155,7 @@ module _ (m : Setup) (ready : IsReady m) where
       (not-true (nat_le 20000 (z.clocks i).ticks) (λ e. let y : 20000 ≤ (z.clocks i).ticks = leb-true 20000 _ e in absurd (omega arith)))
       (le-ltb 1000000 ((z.clocks i).height + 1) (omega arith))
 
-  tick_one : (z : Kept) (i : ℕ) → IsTimed z → Raised m i 1 z (kept_tick m z i 1)
+  tick_one : (z : Kept) (i : ℕ) → AreTicksBelowHeights z → Raised m i 1 z (kept_tick m z i 1)
   tick_one z i t = go (has_no_tick (z.clocks i).ticks (z.clocks i).height 1) refl
     where
       grown : (j : ℕ) → (z.clocks j).height ≤ (put z.clocks i (later (z.clocks i) 1) j).height
@@ -195,7 +195,7 @@ module _ (m : Setup) (ready : IsReady m) where
           same : (n : ℕ) → n + 1 ≤ n + 1
           same n = omega arith
 
-  tick_all : (n lo : ℕ) (z : Kept) → IsTimed z → Raised m lo n z (fold (λ z i. kept_done false m z (Tick i 1)) z (range_with_len lo n))
+  tick_all : (n lo : ℕ) (z : Kept) → AreTicksBelowHeights z → Raised m lo n z (fold (λ z i. kept_done false m z (Tick i 1)) z (range_with_len lo n))
   tick_all zero lo z t = record { timed = t; mono = λ j. omega arith; up = λ j l h low. absurd (omega arith) }
   tick_all (suc n) lo z t =
       let one = tick_one z lo t in
@@ -259,7 +259,7 @@ module _ (m : Setup) (ready : IsReady m) where
       (λ z s. fold_clocks (swap_turn m (kept_done false m) (kept_done true m) kept_height s) (range_with_len 0 (m.cast s).deal.graph.n) z
       (λ z v. turn_clocks s v z))
 
-  pub round_raised : (z : Kept) → IsTimed z → Raised m 0 (length m.chains) z (many_round m (kept_done false m) (kept_done true m) kept_height z)
+  pub round_raised : (z : Kept) → AreTicksBelowHeights z → Raised m 0 (length m.chains) z (many_round m (kept_done false m) (kept_done true m) kept_height z)
   round_raised z t =
       let mid = fold (swap_turns m (kept_done false m) (kept_done true m) kept_height) z (range_with_len 0 m.swaps) in
       let x = tick_all (length m.chains) 0 mid (same_timed z mid (turns_clocks z) t) in
@@ -274,7 +274,7 @@ module _ (m : Setup) (ready : IsReady m) where
 
   -- What n rounds leave.
   record Above (n : ℕ) (z : Kept) : Type 0 where
-    timed : IsTimed z
+    timed : AreTicksBelowHeights z
     above : (i : ℕ) → i < length m.chains → n ≤ (z.clocks i).height
 
   next_above : (n : ℕ) (z : Kept) → n ≤ last_horizon m → Above n z → Above (suc n) (round_or_rest m (kept_done false m) (kept_done true m) kept_height z)
@@ -297,21 +297,21 @@ module _ (m : Setup) (ready : IsReady m) where
           at i li y (inl c) = let k = y.mono i in omega arith
           at i li y (inr c) = let k = y.up i (omega arith) (omega arith) c in let q = x.above i li in omega arith
 
-  all_above : (n : ℕ) (z : Kept) → n ≤ last_horizon m + 1 → IsTimed z → Above n
+  all_above : (n : ℕ) (z : Kept) → n ≤ last_horizon m + 1 → AreTicksBelowHeights z → Above n
       (repeat n (round_or_rest m (kept_done false m) (kept_done true m) kept_height) z)
   all_above zero z l t = record { timed = t; above = λ i li. omega arith }
   all_above (suc n) z l t =
       next_above n (repeat n (round_or_rest m (kept_done false m) (kept_done true m) kept_height) z) (omega arith) (all_above n z (omega arith) t)
 
   sweep_clocks : (z : Kept) (t : Slot) → (kept_done true m z (Sweep t.swap t.arc)).clocks ≡ z.clocks
-  sweep_clocks z t = go (is_done (answer_sweep true m z t.swap t.arc))
+  sweep_clocks z t = go (is_accepted_deed (answer_sweep true m z t.swap t.arc))
     where
       go : (b : Bool) → (cond b (kept_sweep m z t.swap t.arc) z).clocks ≡ z.clocks
       go true = refl
       go false = refl
 
   -- after a fair finish every chain is above every horizon
-  pub finish_above : (z : Kept) → IsTimed z → (i : ℕ) → i < length m.chains → last_horizon m < ((kept_finish m z).clocks i).height
+  pub finish_above : (z : Kept) → AreTicksBelowHeights z → (i : ℕ) → i < length m.chains → last_horizon m < ((kept_finish m z).clocks i).height
   finish_above z t i l =
       let rounds = repeat (last_horizon m + 1) (round_or_rest m (kept_done false m) (kept_done true m) kept_height) z in
       let x = all_above (last_horizon m + 1) z (omega arith) t in
@@ -331,7 +331,7 @@ module _ (m : Setup) (ready : IsReady m) where
       end : (a b c d : ℕ) → a ≤ b → b < c → d ≡ c → a < d
       end a b c d l h e = omega arith
 
-keeps_kept : (m : Setup) (r : Run) (z : Kept) (s : ℕ) → IsReady m → s < m.swaps → Keeps m r z → IsKept (m.cast s) (book m r.chains s)
+keeps_kept : (m : Setup) (r : Run) (z : Kept) (s : ℕ) → IsReadySetup m → s < m.swaps → Keeps m r z → IsKept (m.cast s) (book m r.chains s)
 keeps_kept m r z s ready l k = good_is_kept (m.cast s) (swap_state m r s) (ready.casts s l) (subst (IsGood (m.cast s)) (k.follows.swaps s l) (k.good s l))
 
 pub many_finishes_end : ManyFinishesEnd

@@ -22,14 +22,14 @@ use Rattle.swap_many.specs.declared.many_reply.ManyReply.{ManyReply}
 use Rattle.swap_many.specs.declared.many_reply.ManyReply.TheVariants.{Plain, Swept}
 use Rattle.swap_run.specs.Called.{Called, called, before_call, is_due_act, noted_state, planned_state, told}
 use Rattle.swap_many.specs.Chains.{Setup, arc_chain, place, put, Ticked, Paid, Emptied, ChainEntry, chain_height, chain_ticks, has_no_tick}
-use Rattle.swap_many.specs.Chains.{projection, Chains, book, Units, paid, returned, free, is_done, is_swept, reply_to_call}
+use Rattle.swap_many.specs.Chains.{projection, Chains, book, Units, paid, returned, free, is_accepted_deed, is_swept, reply_to_call}
 use Rattle.swap_run.specs.Called.{is_barred, landed_event}
 use Rattle.swap_many.specs.Chains.{reply_to_payment, reply_to_sweep, entered}
 use Rattle.swap_many.specs.Many.{Run, swap_state, post_call, posted, heard, done, many_step, many_start, many_run}
-use Rattle.swap_many.specs.Kept.{Kept, later, ticked, is_passed, answer_call, answer_payment, answer_sweep, kept_sweep, kept_done, kept_step}
+use Rattle.swap_many.specs.Kept.{Kept, later, ticked, is_barred_call, answer_call, answer_payment, answer_sweep, kept_sweep, kept_done, kept_step}
 use Rattle.swap_many.specs.Kept.{kept_start}
 use Rattle.swap_run.specs.CalledLaws.{IsSplit}
-use Rattle.swap_many.specs.Laws.{IsReady, CanHappen, CanSweep, CanCome, Follows, AreGood, StartFollows, StepsFollow}
+use Rattle.swap_many.specs.Laws.{IsReadySetup, CanHappen, CanSweep, CanCome, Follows, AreGood, StartFollows, StepsFollow}
 use Rattle.swap_many.specs.Laws.{RepliesFollow, RunsFollow, BooksAreKept}
 use Rattle.swap_run.proofs.Calls.{calls_split, calls_are_placed}
 use Rattle.swap_run.proofs.Swept.{steps_on_are_good}
@@ -167,7 +167,7 @@ swaps_follow m r z s x y h old new others t l = go (same_or_not t s)
 
 -- whether a call is passed over is what the chain's history says
 passed_is : (m : Setup) (r : Run) (z : Kept) (s : ℕ) (x : Called) → Follows m r z → s < m.swaps → x.arc < length (m.cast s).deal.graph.arcs
-    → is_passed z s x
+    → is_barred_call z s x
     ≡ is_barred (is_swept s x.arc (r.chains (arc_chain m s x.arc))) (projection s x.arc (r.chains (arc_chain m s x.arc))) x.call
 passed_is m r z s x f ls la =
     ap₂ (λ b h. is_barred b h x.call) (f.swept s x.arc) (ap (λ t. history t.book x.arc) (f.swaps s ls) ∙ shown_at m r.chains s x.arc la)
@@ -177,7 +177,7 @@ heard_is : (m : Setup) (r : Run) (z : Kept) (s : ℕ) (e : Event) (x : Called) �
     → IsSplit (m.cast s) (swap_state m r s) e → called (m.cast s) (swap_state m r s) e ≡ Some x
     → in_swap m z s e (Some x) ≡ heard m r (posted r.chains (Some (post_call m r s x))) s e (Some x)
 heard_is m r z s e x f ls la split q =
-    ap (λ t. cond (is_passed z s x) (told (m.cast s) t e x (history t.book x.arc)) (step (m.cast s) t e)) (f.swaps s ls)
+    ap (λ t. cond (is_barred_call z s x) (told (m.cast s) t e x (history t.book x.arc)) (step (m.cast s) t e)) (f.swaps s ls)
     ∙ (ap (λ b. cond b (told (m.cast s) (swap_state m r s) e x (history (swap_state m r s).book x.arc)) (step (m.cast s) (swap_state m r s) e))
     (passed_is m r z s x f ls la)
     ∙ (go (is_barred (is_swept s x.arc here) (projection s x.arc here) x.call)
@@ -198,7 +198,7 @@ heard_is m r z s e x f ls la split q =
         split.calls x q
         ∙ ap (λ h. told (m.cast s) (swap_state m r s) e x (after_call (m.cast s).deal x.arc x.sender x.call h)) (shown_at m r.chains s x.arc la)
 
-in_follows : (fair : Bool) (m : Setup) (r : Run) (z : Kept) (s : ℕ) (e : Event) → IsReady m → CanHappen m s e → Follows m r z → AreGood m z
+in_follows : (fair : Bool) (m : Setup) (r : Run) (z : Kept) (s : ℕ) (e : Event) → IsReadySetup m → CanHappen m s e → Follows m r z → AreGood m z
     → Follows m (done fair m r (In s e)) (kept_done fair m z (In s e))
 in_follows fair m r z s e ready can f good =
     subst (λ o. Follows m (done fair m r (In s e)) (record z { swaps = put z.swaps s (in_swap m z s e o) }))
@@ -254,7 +254,7 @@ in_follows fair m r z s e ready can f good =
         new : List ChainEntry
         new = entered here (parse_call s x.arc x.sender x.call here reply)
 
-in_good : (m : Setup) (z : Kept) (s : ℕ) (e : Event) → IsReady m → CanHappen m s e → AreGood m z
+in_good : (m : Setup) (z : Kept) (s : ℕ) (e : Event) → IsReadySetup m → CanHappen m s e → AreGood m z
     → IsGood (m.cast s) (in_swap m z s e (called (m.cast s) (z.swaps s) e))
 in_good m z s e ready can good = steps_on_are_good (z.swept s) (m.cast s) (z.swaps s) e (ready.casts s can.swap) can.can (good s can.swap)
 
@@ -285,7 +285,7 @@ pay_follows : (fair : Bool) (m : Setup) (r : Run) (z : Kept) (i from to units : 
     → Follows m (done fair m r (Pay i from to units)) (kept_done fair m z (Pay i from to units))
 pay_follows fair m r z i from to units f =
     subst (λ u. Follows m (done fair m r (Pay i from to units))
-    (cond (is_done (reply_to_payment (u from) units)) (record z { free = put z.free i (paid u from to units) }) z)) (sym (f.free i)) (go (is_done reply) refl)
+    (cond (is_accepted_deed (reply_to_payment (u from) units)) (record z { free = put z.free i (paid u from to units) }) z)) (sym (f.free i)) (go (is_accepted_deed reply) refl)
   where
     reply : ManyReply
     reply = reply_to_payment (free m i (r.chains i) from) units
@@ -301,7 +301,7 @@ pay_follows fair m r z i from to units f =
 
     swept : (t a : ℕ) → is_swept t a new ≡ is_swept t a (r.chains i)
     swept t a =
-        swept_more t a (r.chains i) entry ∙ (ap (λ b. is_swept t a (r.chains i) || b) (and-end (is_done reply)) ∙ or-end (is_swept t a (r.chains i)))
+        swept_more t a (r.chains i) entry ∙ (ap (λ b. is_swept t a (r.chains i) || b) (and-end (is_accepted_deed reply)) ∙ or-end (is_swept t a (r.chains i)))
 
     clock : (j : ℕ) → (z.clocks j).height ≡ chain_height (put r.chains i new j)
     clock =
@@ -314,11 +314,11 @@ pay_follows fair m r z i from to units f =
     all_swept =
         all_slots m z.swept r.chains i new (λ t a e. f.swept t a ∙ (ap (λ j. is_swept t a (r.chains j)) e ∙ sym (swept t a))) (λ t a n. f.swept t a)
 
-    freeing : (b : Bool) → is_done reply ≡ b → free m i new ≡ cond b (paid (free m i (r.chains i)) from to units) (free m i (r.chains i))
+    freeing : (b : Bool) → is_accepted_deed reply ≡ b → free m i new ≡ cond b (paid (free m i (r.chains i)) from to units) (free m i (r.chains i))
     freeing b q =
         free_more m i (r.chains i) entry ∙ ap (λ b. cond b (paid (free m i (r.chains i)) from to units) (free m i (r.chains i))) q
 
-    go : (b : Bool) → is_done reply ≡ b
+    go : (b : Bool) → is_accepted_deed reply ≡ b
         → Follows m (record { chains = put r.chains i new; minds = r.minds })
         (cond b (record z { free = put z.free i (paid (free m i (r.chains i)) from to units) }) z)
     go true q = record {
@@ -370,8 +370,8 @@ sweep_answer fair m r z s a can f =
 sweep_follows : (fair : Bool) (m : Setup) (r : Run) (z : Kept) (s a : ℕ) → CanSweep m s a → Follows m r z
     → Follows m (done fair m r (Sweep s a)) (kept_done fair m z (Sweep s a))
 sweep_follows fair m r z s a can f =
-    subst (λ y. Follows m (done fair m r (Sweep s a)) (cond (is_done y) (kept_sweep m z s a) z)) (sym (sweep_answer fair m r z s a can f))
-    (go (is_done reply) refl)
+    subst (λ y. Follows m (done fair m r (Sweep s a)) (cond (is_accepted_deed y) (kept_sweep m z s a) z)) (sym (sweep_answer fair m r z s a can f))
+    (go (is_accepted_deed reply) refl)
   where
     i : ℕ
     i = arc_chain m s a
@@ -409,7 +409,7 @@ sweep_follows fair m r z s a can f =
     units : Units
     units = returned (z.free (arc_chain m s a)) (place m s a) (accounts (m.cast s).deal a (history (z.swaps s).book a))
 
-    freeing : (b : Bool) → is_done reply ≡ b → free m (arc_chain m s a) new ≡ cond b units (z.free (arc_chain m s a))
+    freeing : (b : Bool) → is_accepted_deed reply ≡ b → free m (arc_chain m s a) new ≡ cond b units (z.free (arc_chain m s a))
     freeing b q =
         free_more m (arc_chain m s a) (r.chains (arc_chain m s a)) entry
         ∙ (ap (λ b. cond b (returned (free m (arc_chain m s a) (r.chains (arc_chain m s a))) (place m s a)
@@ -417,7 +417,7 @@ sweep_follows fair m r z s a can f =
         ∙ ap₂ (λ u h. cond b (returned u (place m s a) (accounts (m.cast s).deal a h)) u) (sym (f.free (arc_chain m s a)))
         (sym (ap (λ t. history t.book a) (f.swaps s can.swap) ∙ shown_at m r.chains s a can.arc)))
 
-    swept : (b : Bool) → is_done reply ≡ b → (t c : ℕ) → is_swept t c new ≡ (is_swept t c (r.chains (arc_chain m s a)) || (b && ((t == s) && (c == a))))
+    swept : (b : Bool) → is_accepted_deed reply ≡ b → (t c : ℕ) → is_swept t c new ≡ (is_swept t c (r.chains (arc_chain m s a)) || (b && ((t == s) && (c == a))))
     swept b q t c =
         swept_more t c (r.chains (arc_chain m s a)) entry
         ∙ ap (λ b. is_swept t c (r.chains (arc_chain m s a)) || (b && ((t == s) && (c == a)))) q
@@ -430,7 +430,7 @@ sweep_follows fair m r z s a can f =
         at (inl e) (inr k) = ap (λ y. (t == s) && y) (not-true (c == a) (λ w. k (eqb-true c a w))) ∙ and-end (t == s)
         at (inr k) other = ap (λ x. x && (c == a)) (not-true (t == s) (λ w. k (eqb-true t s w)))
 
-    go : (b : Bool) → is_done reply ≡ b
+    go : (b : Bool) → is_accepted_deed reply ≡ b
         → Follows m (record { chains = put r.chains (arc_chain m s a) new; minds = r.minds }) (cond b (kept_sweep m z s a) z)
     go true q = record {
       swaps = same_swaps m r z (arc_chain m s a) new f shown;
@@ -456,14 +456,14 @@ sweep_follows fair m r z s a can f =
 
 -- All events.
 
-pub step_follows : (fair : Bool) (m : Setup) (r : Run) (z : Kept) (e : ManyEvent) → IsReady m → CanCome m e → Follows m r z → AreGood m z
+pub step_follows : (fair : Bool) (m : Setup) (r : Run) (z : Kept) (e : ManyEvent) → IsReadySetup m → CanCome m e → Follows m r z → AreGood m z
     → Follows m (done fair m r e) (kept_done fair m z e)
 step_follows fair m r z (Tick i k) ready can f g = tick_follows fair m r z i k f
 step_follows fair m r z (In s e) ready can f g = in_follows fair m r z s e ready can f g
 step_follows fair m r z (Pay i from to units) ready can f g = pay_follows fair m r z i from to units f
 step_follows fair m r z (Sweep s a) ready can f g = sweep_follows fair m r z s a can f
 
-pub step_good : (fair : Bool) (m : Setup) (z : Kept) (e : ManyEvent) → IsReady m → CanCome m e → AreGood m z → AreGood m (kept_done fair m z e)
+pub step_good : (fair : Bool) (m : Setup) (z : Kept) (e : ManyEvent) → IsReadySetup m → CanCome m e → AreGood m z → AreGood m (kept_done fair m z e)
 step_good fair m z (Tick i k) ready can g = λ s l. go s l (has_no_tick (z.clocks i).ticks (z.clocks i).height k)
   where
     go : (s : ℕ) → s < m.swaps → (b : Bool)
@@ -478,12 +478,12 @@ step_good fair m z (In s e) ready can g = λ t l. go t l (same_or_not t s)
     go t l (inl q) = subst (λ t. IsGood (m.cast t) (put z.swaps s (in_swap m z s e (called (m.cast s) (z.swaps s) e)) t)) (sym q)
         (subst (IsGood (m.cast s)) (sym (put_same z.swaps s (in_swap m z s e (called (m.cast s) (z.swaps s) e)))) (in_good m z s e ready can g))
     go t l (inr n) = subst (IsGood (m.cast t)) (sym (put_other z.swaps s (in_swap m z s e (called (m.cast s) (z.swaps s) e)) t n)) (g t l)
-step_good fair m z (Pay i from to units) ready can g = λ s l. go s l (is_done (answer_payment z i from units))
+step_good fair m z (Pay i from to units) ready can g = λ s l. go s l (is_accepted_deed (answer_payment z i from units))
   where
     go : (s : ℕ) → s < m.swaps → (b : Bool) → IsGood (m.cast s) ((cond b (record z { free = put z.free i (paid (z.free i) from to units) }) z).swaps s)
     go s l true = g s l
     go s l false = g s l
-step_good fair m z (Sweep s a) ready can g = λ t l. go t l (is_done (answer_sweep fair m z s a))
+step_good fair m z (Sweep s a) ready can g = λ t l. go t l (is_accepted_deed (answer_sweep fair m z s a))
   where
     go : (t : ℕ) → t < m.swaps → (b : Bool) → IsGood (m.cast t) ((cond b (kept_sweep m z s a) z).swaps t)
     go t l true = g t l
@@ -517,7 +517,7 @@ replies_follow m r z (Sweep s a) ready can f g = ap Some (sweep_answer false m r
 
 -- Runs.
 
-runs_from : (m : Setup) (events : List ManyEvent) (r : Run) (z : Kept) → IsReady m → All (CanCome m) events → Follows m r z → AreGood m z
+runs_from : (m : Setup) (events : List ManyEvent) (r : Run) (z : Kept) → IsReadySetup m → All (CanCome m) events → Follows m r z → AreGood m z
     → Follows m (fold (many_step m) r events) (fold (kept_step m) z events) × AreGood m (fold (kept_step m) z events)
 runs_from m [] r z ready all f g = (f, g)
 runs_from m (e ∷ events) r z ready all f g =

@@ -14,9 +14,9 @@ use Rattle.swap_world.specs.Gone.{MayGive}
 use Rattle.swap_world.proofs.Gone.{nothing_asked}
 use Rattle.swap_many.specs.Chains.{Setup}
 use Rattle.swap_many.specs.Kept.{Kept}
-use Rattle.swap_many.specs.Laws.{IsReady}
+use Rattle.swap_many.specs.Laws.{IsReadySetup}
 use Rattle.swap_many.specs.Way.{Leads}
-use Rattle.swap_many.specs.Value.{ManyState, AreReady, CanContinue, IsSwapParty, nth_world, made_setup, kept_state, HasManyGone, IsBetween, IsManyStopped}
+use Rattle.swap_many.specs.Value.{ManyState, AreReady, CanContinue, IsSwapParty, nth_world, made_setup, many_kept, HasManyGone, IsIntermediateState, IsManyStopped}
 use Rattle.swap_many.proofs.Values.{all_same, same_deal, held_same, same_then, same_setup, continue_less}
 use Rattle.swap_many.proofs.Way.{no_step, more_steps}
 use Rattle.swap_world.proofs.Ways.{range_all, repeat_split}
@@ -38,7 +38,7 @@ module _ (gives : MayGive) where
   begun w = record { same = all_same gives w; goes_on = refl; kept = λ g c. refl }
 
   pub gone_as : (f h : Setup → Kept → Kept) (old new : ManyState)
-      → ((g : ℕ → Answers) → f (made_setup old g) (kept_state old) ≡ h (made_setup old g) (kept_state old)) → HasManyGone gives f old new
+      → ((g : ℕ → Answers) → f (made_setup old g) (many_kept old) ≡ h (made_setup old g) (many_kept old)) → HasManyGone gives f old new
       → HasManyGone gives h old new
   gone_as f h old new e k = record { same = k.same; goes_on = k.goes_on; kept = λ g c. k.kept g c ∙ e g }
 
@@ -53,7 +53,7 @@ module _ (gives : MayGive) where
   pub on_gone : (f : Setup → Kept → Kept) (old new : ManyState) (holds : List ℕ → Bool) → HasManyGone gives f old new → CanContinue holds old → CanContinue holds new
   on_gone f old new holds k on = record {
     goes_on = k.goes_on ∙ on.goes_on;
-    ready = λ g. subst IsReady (sym (same_setup gives old new g k.same)) (on.ready g);
+    ready = λ g. subst IsReadySetup (sym (same_setup gives old new g k.same)) (on.ready g);
     held = held_same gives old new holds k.same on.held;
   }
 
@@ -72,12 +72,12 @@ module _ (gives : MayGive) where
   -- Such that stop.
 
   pub stopped_as : (f h : Setup → Kept → Kept) (old new : ManyState)
-      → ((g : ℕ → Answers) → f (made_setup old g) (kept_state old) ≡ h (made_setup old g) (kept_state old)) → IsManyStopped gives f old new
+      → ((g : ℕ → Answers) → f (made_setup old g) (many_kept old) ≡ h (made_setup old g) (many_kept old)) → IsManyStopped gives f old new
       → IsManyStopped gives h old new
   stopped_as f h old new e k = record {
     stopped = k.stopped;
     same = k.same;
-    way = λ g c. subst (λ t. IsBetween (made_setup old g) (kept_state old) t new) (e g) (k.way g c);
+    way = λ g c. subst (λ t. IsIntermediateState (made_setup old g) (many_kept old) t new) (e g) (k.way g c);
   }
 
   -- on the way to a state from which steps lead on
@@ -91,7 +91,7 @@ module _ (gives : MayGive) where
         record {
           there = w.there;
           before = w.before;
-          after = more_steps m (ready g) w.there (f m (kept_state old)) (h m (f m (kept_state old))) w.after (leads g (f m (kept_state old)));
+          after = more_steps m (ready g) w.there (f m (many_kept old)) (h m (f m (many_kept old))) w.after (leads g (f m (many_kept old)));
           books = w.books;
           clocks = w.clocks;
           free = w.free;
@@ -105,12 +105,12 @@ module _ (gives : MayGive) where
     stopped = k.stopped;
     same = same_then gives old mid new a.same k.same;
     way = λ g c. let m = made_setup old g in
-        let w : IsBetween m (f m (kept_state old)) (h m (f m (kept_state old))) new
-        = subst (λ z. IsBetween m z (h m z) new) (a.kept g (continue_less gives mid new g k.same c))
-        (subst (λ m. IsBetween m (kept_state mid) (h m (kept_state mid)) new) (same_setup gives old mid g a.same) (k.way g c)) in
+        let w : IsIntermediateState m (f m (many_kept old)) (h m (f m (many_kept old))) new
+        = subst (λ z. IsIntermediateState m z (h m z) new) (a.kept g (continue_less gives mid new g k.same c))
+        (subst (λ m. IsIntermediateState m (many_kept mid) (h m (many_kept mid)) new) (same_setup gives old mid g a.same) (k.way g c)) in
         record {
           there = w.there;
-          before = more_steps m (ready g) (kept_state old) (f m (kept_state old)) w.there (leads g (kept_state old)) w.before;
+          before = more_steps m (ready g) (many_kept old) (f m (many_kept old)) w.there (leads g (many_kept old)) w.before;
           after = w.after;
           books = w.books;
           clocks = w.clocks;
@@ -124,9 +124,9 @@ module _ (gives : MayGive) where
     stopped = e;
     same = all_same gives w;
     way = λ g c. record {
-      there = kept_state w;
-      before = no_step (made_setup w g) (ready g) (kept_state w);
-      after = leads g (kept_state w);
+      there = many_kept w;
+      before = no_step (made_setup w g) (ready g) (many_kept w);
+      after = leads g (many_kept w);
       books = λ s l. refl;
       clocks = λ i. refl;
       free = λ i. refl;
@@ -145,9 +145,9 @@ module _ (gives : MayGive) where
       openings = refl;
     };
     way = λ g c. record {
-      there = kept_state w;
-      before = no_step (made_setup w g) (ready g) (kept_state w);
-      after = leads g (kept_state w);
+      there = many_kept w;
+      before = no_step (made_setup w g) (ready g) (many_kept w);
+      after = leads g (many_kept w);
       books = λ s l. refl;
       clocks = λ i. refl;
       free = λ i. refl;
@@ -187,7 +187,7 @@ module _ (gives : MayGive) {B : Type 0} (f : Setup → Kept → B → Kept) (old
   list_on l is h =
       gone_as gives (λ m z. f m (fold (f m) z (take k xs)) x) (λ m z. fold (f m) z (take (k + 1) xs)) old new
       (λ g. let m = made_setup old g in
-      ap (λ (y : B). f m (fold (f m) (kept_state old) (take k xs)) y) is ∙ sym (fold_more (f m) (kept_state old) xs k x l))
+      ap (λ (y : B). f m (fold (f m) (many_kept old) (take k xs)) y) is ∙ sym (fold_more (f m) (many_kept old) xs k x l))
       (gone_then gives (λ m z. fold (f m) z (take k xs)) (λ m z. f m z x) old mid new so_far h)
 
   pub list_stops : k < length xs → x ≡ get_or xs k x → AreReady old → AllLead old f xs → IsManyStopped gives (λ m z. f m z x) mid new
@@ -195,7 +195,7 @@ module _ (gives : MayGive) {B : Type 0} (f : Setup → Kept → B → Kept) (old
   list_stops l is ready leads h =
       let P : B → Type 0 = λ x. LeadOn old (λ m z. f m z x) in
       stopped_as gives (λ m z. fold (f m) (f m (fold (f m) z (take k xs)) x) (drop (k + 1) xs)) (λ m z. fold (f m) z xs) old new
-      (λ g. sym (split_at (f (made_setup old g)) (kept_state old) xs k x l is))
+      (λ g. sym (split_at (f (made_setup old g)) (many_kept old) xs k x l is))
       (stopped_then gives (λ m z. f m (fold (f m) z (take k xs)) x) (λ m z. fold (f m) z (drop (k + 1) xs)) old new ready
       (leads_fold old ready f (drop (k + 1) xs) (All-drop P (k + 1) xs leads))
       (stopped_after gives (λ m z. fold (f m) z (take k xs)) (λ m z. f m z x) old mid new ready
@@ -205,7 +205,7 @@ pub list_done : (gives : MayGive) {B : Type 0} (f : Setup → Kept → B → Kep
     → HasManyGone gives (λ m z. fold (f m) z (take k xs)) old mid → HasManyGone gives (λ m z. fold (f m) z xs) old mid
 list_done gives {B = B} f old mid xs k l so_far =
     gone_as gives (λ m z. fold (f m) z (take k xs)) (λ m z. fold (f m) z xs) old mid
-    (λ g. ap (λ (ys : List B). fold (f (made_setup old g)) (kept_state old) ys) (take_all k xs l)) so_far
+    (λ g. ap (λ (ys : List B). fold (f (made_setup old g)) (many_kept old) ys) (take_all k xs l)) so_far
 
 -- Over the first n numbers.
 module _ (gives : MayGive) (f : Setup → Kept → ℕ → Kept) (old mid new : ManyState) (n k : ℕ)
@@ -243,24 +243,24 @@ module _ (gives : MayGive) (f : Setup → Kept → Kept) (old mid new : ManyStat
   pub repeat_on : HasManyGone gives f mid new → HasManyGone gives (λ m z. repeat (k + 1) (f m) z) old new
   repeat_on h =
       gone_as gives (λ m z. f m (repeat k (f m) z)) (λ m z. repeat (k + 1) (f m) z) old new
-      (λ g. sym (repeat_one k (f (made_setup old g)) (kept_state old))) (gone_then gives (λ m z. repeat k (f m) z) f old mid new so_far h)
+      (λ g. sym (repeat_one k (f (made_setup old g)) (many_kept old))) (gone_then gives (λ m z. repeat k (f m) z) f old mid new so_far h)
 
   pub repeat_stops : k < n → AreReady old → LeadOn old f → IsManyStopped gives f mid new → IsManyStopped gives (λ m z. repeat n (f m) z) old new
   repeat_stops l ready leads h =
       let e : n ≡ (n - suc k) + suc k = omega arith in
       stopped_as gives (λ m z. repeat (n - suc k) (f m) (f m (repeat k (f m) z))) (λ m z. repeat n (f m) z) old new
-      (λ g. sym (ap (λ j. repeat j (f (made_setup old g)) (kept_state old)) e ∙ repeat_split (n - suc k) (suc k) (f (made_setup old g)) (kept_state old)))
+      (λ g. sym (ap (λ j. repeat j (f (made_setup old g)) (many_kept old)) e ∙ repeat_split (n - suc k) (suc k) (f (made_setup old g)) (many_kept old)))
       (stopped_then gives (λ m z. f m (repeat k (f m) z)) (λ m z. repeat (n - suc k) (f m) z) old new ready (leads_repeat old ready f leads (n - suc k))
       (stopped_after gives (λ m z. repeat k (f m) z) f old mid new ready (leads_repeat old ready f leads k) so_far h))
 
   -- once f changes nothing
-  pub repeat_rests : k ≤ n → ((g : ℕ → Answers) → f (made_setup mid g) (kept_state mid) ≡ kept_state mid) → HasManyGone gives (λ m z. repeat n (f m) z) old mid
+  pub repeat_rests : k ≤ n → ((g : ℕ → Answers) → f (made_setup mid g) (many_kept mid) ≡ many_kept mid) → HasManyGone gives (λ m z. repeat n (f m) z) old mid
   repeat_rests l rests = record {
     same = so_far.same;
     goes_on = so_far.goes_on;
     kept = λ g c. let m = made_setup old g in
-        let is : kept_state mid ≡ repeat k (f m) (kept_state old) = so_far.kept g c in
-        let rest : f m (kept_state mid) ≡ kept_state mid
-        = sym (ap (λ (x : Setup). f x (kept_state mid)) (same_setup gives old mid g so_far.same)) ∙ rests g in
-        is ∙ sym (rest_more k n (f m) (kept_state old) (sym (ap (f m) is) ∙ (rest ∙ is)) l);
+        let is : many_kept mid ≡ repeat k (f m) (many_kept old) = so_far.kept g c in
+        let rest : f m (many_kept mid) ≡ many_kept mid
+        = sym (ap (λ (x : Setup). f x (many_kept mid)) (same_setup gives old mid g so_far.same)) ∙ rests g in
+        is ∙ sym (rest_more k n (f m) (many_kept old) (sym (ap (f m) is) ∙ (rest ∙ is)) l);
   }

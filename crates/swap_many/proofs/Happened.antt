@@ -24,7 +24,7 @@ use Rattle.swap_many.specs.Chains.{put}
 use Rattle.swap_many.specs.Kept.{Kept, kept_done, kept_reply, answer_call}
 use Rattle.swap_many.specs.Laws.{CanHappen, CanCome}
 use Rattle.swap_many.specs.Told.{reply_told, told_result}
-use Rattle.swap_many.specs.Value.{ManyState, nth_world, swept_slots, world_setup, made_setup, kept_state, ContinueAll, AreSame, HasManyGone, IsBetween}
+use Rattle.swap_many.specs.Value.{ManyState, nth_world, swept_slots, world_setup, made_setup, many_kept, ContinueAll, AreSame, HasManyGone, IsIntermediateState}
 use Rattle.swap_many.specs.Value.{IsManyStopped}
 use Rattle.swap_many.specs.Inside.{AreWhole}
 use Rattle.swap_many.proofs.Projections.{put_same, put_other}
@@ -34,7 +34,7 @@ use Rattle.swap_many.proofs.Way.{no_step, one_step}
 -- What is told is the reply.
 pub told_is : (w : ManyState) (s : ℕ) (e : Event) (g : ℕ → Answers)
     → reply_told (event_told (is_slot_swept (swept_slots w s)) (answering_cast (nth_world w s) (g s)) (nth_world w s).state e)
-    ≡ kept_reply false (made_setup w g) (kept_state w) (In s e)
+    ≡ kept_reply false (made_setup w g) (many_kept w) (In s e)
 told_is w s e g = go (called (answering_cast (nth_world w s) (g s)) (nth_world w s).state e)
   where
     by : (b : Bool) (r : ManyReply) (t : Told) → Some r ≡ reply_told t → reply_told (cond b Passed t) ≡ Some (cond b Swept r)
@@ -43,7 +43,7 @@ told_is w s e g = go (called (answering_cast (nth_world w s) (g s)) (nth_world w
 
     go : (o : Option Called)
         → reply_told (told_of_call (is_slot_swept (swept_slots w s)) (answering_cast (nth_world w s) (g s)) (nth_world w s).state o)
-        ≡ option_map (answer_call (made_setup w g) (kept_state w) s) o
+        ≡ option_map (answer_call (made_setup w g) (many_kept w) s) o
     go None = refl
     go (Some x) =
         let r = history_reply (nth_world w s).deal x.arc (history (nth_world w s).state.book x.arc) x.sender x.call in
@@ -69,7 +69,7 @@ module _ (gives : MayGive) (w : ManyState) (s : ℕ) (e : Event) (x : WorldState
   happened b on k = record {
     same = world_same w s x b low gives (ap world_cast k.same) k.asked;
     goes_on = on;
-    kept = λ g c. world_kept w s x b low ∙ ap (λ (y : State). let z : Kept = record (kept_state w) { swaps = put (kept_state w).swaps s y } in z)
+    kept = λ g c. world_kept w s x b low ∙ ap (λ (y : State). let z : Kept = record (many_kept w) { swaps = put (many_kept w).swaps s y } in z)
         (k.state (g s) (own b g c));
   }
 
@@ -89,29 +89,29 @@ module _ (gives : MayGive) (w : ManyState) (s : ℕ) (e : Event) (x : WorldState
       may g = can_for w g (In s e) can
 
       after : (g : ℕ → Answers) → Kept
-      after g = kept_done false (made_setup w g) (kept_state w) (In s e)
+      after g = kept_done false (made_setup w g) (many_kept w) (In s e)
 
       way : (g : ℕ → Answers) → ContinueAll (with_world w s x b low) g
           → (x.state.book ≡ (nth_world w s).state.book)
           ⊎ ((g : Answers) → Continues x g
           → x.state.book ≡ (apply_step (is_slot_swept (swept_slots w s)) (answering_cast (nth_world w s) g) (nth_world w s).state e).book)
-          → IsBetween (made_setup w g) (kept_state w) (kept_done false (made_setup w g) (kept_state w) (In s e)) (with_world w s x b low)
+          → IsIntermediateState (made_setup w g) (many_kept w) (kept_done false (made_setup w g) (many_kept w) (In s e)) (with_world w s x b low)
       way g c (inl h) = record {
-        there = kept_state w;
-        before = no_step (made_setup w g) (whole.ready g) (kept_state w);
-        after = one_step (made_setup w g) (whole.ready g) (kept_state w) (record { fair = false; event = In s e }) (may g);
+        there = many_kept w;
+        before = no_step (made_setup w g) (whole.ready g) (many_kept w);
+        after = one_step (made_setup w g) (whole.ready g) (many_kept w) (record { fair = false; event = In s e }) (may g);
         books = λ t l. each_world w s x b low (λ t y. y.state.book ≡ (nth_world w t).state.book) h (λ t n. refl) t;
         clocks = λ i. refl;
         free = λ i. refl;
       }
       way g c (inr h) = record {
         there = after g;
-        before = one_step (made_setup w g) (whole.ready g) (kept_state w) (record { fair = false; event = In s e }) (may g);
+        before = one_step (made_setup w g) (whole.ready g) (many_kept w) (record { fair = false; event = In s e }) (may g);
         after = no_step (made_setup w g) (whole.ready g) (after g);
         books = λ t l. each_world w s x b low (λ t y. y.state.book ≡ ((after g).swaps t).book)
-            (h (g s) (own b g c) ∙ sym (ap (λ (y : State). y.book) (put_same (kept_state w).swaps s
+            (h (g s) (own b g c) ∙ sym (ap (λ (y : State). y.book) (put_same (many_kept w).swaps s
             (apply_step (is_slot_swept (swept_slots w s)) (answering_cast (nth_world w s) (g s)) (nth_world w s).state e))))
-            (λ t n. sym (ap (λ (y : State). y.book) (put_other (kept_state w).swaps s
+            (λ t n. sym (ap (λ (y : State). y.book) (put_other (many_kept w).swaps s
             (apply_step (is_slot_swept (swept_slots w s)) (answering_cast (nth_world w s) (g s)) (nth_world w s).state e) t n))) t;
         clocks = λ i. refl;
         free = λ i. refl;
@@ -135,7 +135,7 @@ module _ (gives : MayGive) (w : ManyState) (s : ℕ) (e : Event) (x : WorldState
     pub ok : OnOk (told_result r) (HasManyGone gives (λ m z. kept_done false m z (In s e)) w (with_world w s x b low))
     pub err : OnErr (told_result r) (IsManyStopped gives (λ m z. kept_done false m z (In s e)) w (with_world w s x b low))
     pub reply : IfOk (told_result r) (λ o. (g : ℕ → Answers) → ContinueAll (with_world w s x b low) g
-        → o ≡ kept_reply false (made_setup w g) (kept_state w) (In s e))
+        → o ≡ kept_reply false (made_setup w g) (many_kept w) (In s e))
 
   module _ {E : Type 0} (r : Result Told E) (b : Bool) (is : b ≡ is_err r) (on : w.stopped ≡ false) (whole : AreWhole w)
       (can : CanHappen (world_setup w) s e) (k : IsTaken gives (swept_slots w s) e (nth_world w s) x r) where
@@ -167,12 +167,12 @@ module _ (gives : MayGive) (w : ManyState) (s : ℕ) (e : Event) (x : WorldState
         go (Err t) is k = was_cut b is whole can k.cut
 
     then_reply : IfOk (told_result r) (λ o. (g : ℕ → Answers) → ContinueAll (with_world w s x b low) g
-        → o ≡ kept_reply false (made_setup w g) (kept_state w) (In s e))
+        → o ≡ kept_reply false (made_setup w g) (many_kept w) (In s e))
     then_reply = go r k
       where
         go : (r : Result Told E) → IsTaken gives (swept_slots w s) e (nth_world w s) x r
             → IfOk (told_result r) (λ o. (g : ℕ → Answers) → ContinueAll (with_world w s x b low) g
-            → o ≡ kept_reply false (made_setup w g) (kept_state w) (In s e))
+            → o ≡ kept_reply false (made_setup w g) (many_kept w) (In s e))
         go (Ok t) k = λ g c. ap reply_told (k.told (g s) (own b g c)) ∙ told_is w s e g
         go (Err t) k = tt
 

@@ -13,7 +13,7 @@ use Rattle.swap_rules.proofs.Conducting.{history_same, history_other}
 use Rattle.swap_many.specs.declared.many_reply.ManyReply.{ManyReply}
 use Rattle.swap_many.specs.declared.many_reply.ManyReply.TheVariants.{Plain, Swept}
 use Rattle.swap_many.specs.Chains.{Setup, arc_chain, put, Called, ChainEntry, chain_height, chain_ticks, entry_if_plain, projection, Chains, book, free}
-use Rattle.swap_many.specs.Chains.{is_done, is_swept, reply_to_call, leaves_none, entered}
+use Rattle.swap_many.specs.Chains.{is_accepted_deed, is_swept, reply_to_call, leaves_none, entered}
 use Rattle.swap_run.specs.Called.{is_barred}
 use Rattle.swap_many.proofs.Projections.{put_same, put_other, shown_more, chain_height_more, chain_ticks_more, free_more, swept_more, height_is, shown_at}
 use Rattle.swap_many.proofs.Projections.{book_length, collected_book, same_book}
@@ -90,14 +90,14 @@ pub call_ticks : (s a p : ℕ) (c : Call) (h : List ChainEntry) (y : ManyReply) 
 call_ticks s a p c h y = stays chain_ticks s a p c h y (no_more _ _ (chain_ticks_more h (parse_call s a p c h y)))
 
 pub call_free : (m : Setup) (i s a p : ℕ) (c : Call) (h : List ChainEntry) (y : ManyReply) → free m i (entered h (parse_call s a p c h y)) ≡ free m i h
-call_free m i s a p c h y = stays (free m i) s a p c h y (free_more m i h (parse_call s a p c h y) ∙ go (is_done y))
+call_free m i s a p c h y = stays (free m i) s a p c h y (free_more m i h (parse_call s a p c h y) ∙ go (is_accepted_deed y))
   where
     go : (x : Bool) → cond x (free m i h) (free m i h) ≡ free m i h
     go true = refl
     go false = refl
 
 pub call_swept : (t b s a p : ℕ) (c : Call) (h : List ChainEntry) (y : ManyReply) → is_swept t b (entered h (parse_call s a p c h y)) ≡ is_swept t b h
-call_swept t b s a p c h y = stays (is_swept t b) s a p c h y (swept_more t b h (parse_call s a p c h y) ∙ go (is_done y) (is_swept t b h))
+call_swept t b s a p c h y = stays (is_swept t b) s a p c h y (swept_more t b h (parse_call s a p c h y) ∙ go (is_accepted_deed y) (is_swept t b h))
   where
     go : (x z : Bool) → (z || (x && false)) ≡ z
     go true true = refl

@@ -8,7 +8,7 @@ use Rattle.swap_digraph.specs.Graph.{arcs}
 use Rattle.swap_digraph.specs.Deal.{amount}
 use Rattle.ledger_core.proofs.History.{not-true}
 use Rattle.swap_many.specs.declared.overdrawn.Overdrawn.{Overdrawn}
-use Rattle.swap_many.specs.Chains.{Setup, place, arc_chain, slot_funding, opening, set_aside}
+use Rattle.swap_many.specs.Chains.{Setup, place, arc_chain, slot_funding, opening_units, set_aside}
 use Rattle.swap_many.specs.Opened.{account_lack, chain_lack, overdrawn, ArePlaces, NoLackIsCovered}
 use Rattle.swap_many.proofs.Sums.{sum_zero}
 
@@ -27,34 +27,34 @@ module _ (m : Setup) (places : ArePlaces m) where
           ap (λ (b : Bool). cond {A = ℕ} b (amount (m.cast s).deal a) 0)
           (not-true (x == (place m s a).from) (λ q. apart s a ls la (eqb-true (arc_chain m s a) i e) (eqb-true x (place m s a).from q)))
 
-  covered : overdrawn m ≡ None → (i x : ℕ) → set_aside m i x ≤ opening m i x
+  covered : overdrawn m ≡ None → (i x : ℕ) → set_aside m i x ≤ opening_units m i x
   covered none i x = go (below_or i (length m.chains)) (below_or x (length (slice_index_or m.chains i [])))
     where
       low : (n o : ℕ) → n ≡ 0 → n ≤ o
       low n o e = omega arith
 
-      within : (b : Bool) → nat_lt (opening m i x) (set_aside m i x) ≡ b
-          → cond {A = Option Overdrawn} b (Some (record { chain = i; account = x; have = opening m i x; wanted = set_aside m i x })) None ≡ None
-          → set_aside m i x ≤ opening m i x
+      within : (b : Bool) → nat_lt (opening_units m i x) (set_aside m i x) ≡ b
+          → cond {A = Option Overdrawn} b (Some (record { chain = i; account = x; have = opening_units m i x; wanted = set_aside m i x })) None ≡ None
+          → set_aside m i x ≤ opening_units m i x
       within true e q = absurd (cc q)
-      within false e q = ltb-false (opening m i x) (set_aside m i x) e
+      within false e q = ltb-false (opening_units m i x) (set_aside m i x) e
 
       go : (i < length m.chains) ⊎ (length m.chains ≤ i)
-          → (x < length (slice_index_or m.chains i [])) ⊎ (length (slice_index_or m.chains i []) ≤ x) → set_aside m i x ≤ opening m i x
+          → (x < length (slice_index_or m.chains i [])) ⊎ (length (slice_index_or m.chains i []) ≤ x) → set_aside m i x ≤ opening_units m i x
       go (inl li) (inl lx) =
-          within (nat_lt (opening m i x) (set_aside m i x)) refl
+          within (nat_lt (opening_units m i x) (set_aside m i x)) refl
           (none_in (account_lack m i) (range_with_len 0 (length (slice_index_or m.chains i []))) x
           (none_in (chain_lack m) (range_with_len 0 (length m.chains)) i none
           (in_range i (length m.chains) li)) (in_range x (length (slice_index_or m.chains i [])) lx))
       go (inl li) (inr above) =
-          low (set_aside m i x) (opening m i x) (none_aside i x (λ s a ls la e q.
+          low (set_aside m i x) (opening_units m i x) (none_aside i x (λ s a ls la e q.
           past x (place m s a).from (length (slice_index_or m.chains i [])) q
           (subst (λ j. (place m s a).from < length (slice_index_or m.chains j [])) e (places.from s a ls la)) above))
         where
           past : (x f n : ℕ) → x ≡ f → f < n → n ≤ x → ⊥
           past x f n e l g = absurd (omega arith)
       go (inr above) other =
-          low (set_aside m i x) (opening m i x) (none_aside i x (λ s a ls la e q. past (arc_chain m s a) i (length m.chains) e (places.chain s a ls la) above))
+          low (set_aside m i x) (opening_units m i x) (none_aside i x (λ s a ls la e q. past (arc_chain m s a) i (length m.chains) e (places.chain s a ls la) above))
         where
           past : (c i n : ℕ) → c ≡ i → c < n → n ≤ i → ⊥
           past c i n e l g = absurd (omega arith)

@@ -21,7 +21,7 @@ use Rattle.swap_rules.specs.Machine.{Begins}
 use Rattle.swap_rules.proofs.Prefixes.{same_or_not}
 use Rattle.swap_many.specs.declared.many_reply.ManyReply.{ManyReply}
 use Rattle.swap_many.specs.declared.many_reply.ManyReply.TheVariants.{Plain, NotEnded, Swept, StillHeld, Unpublished}
-use Rattle.swap_many.specs.Chains.{Setup, Emptied, Paid, ChainEntry, chain_height, projection, is_done, is_swept, reply_to_call}
+use Rattle.swap_many.specs.Chains.{Setup, Emptied, Paid, ChainEntry, chain_height, projection, is_accepted_deed, is_swept, reply_to_call}
 use Rattle.swap_run.specs.Called.{is_barred}
 use Rattle.swap_many.specs.Chains.{reply_to_sweep, entered}
 use Rattle.swap_many.specs.Sound.{Over, AreSweptSlotsFinal}
@@ -117,11 +117,11 @@ pub over_after_payment : (from to units : ℕ) (h : List ChainEntry) (y : ManyRe
 over_after_payment from to units h y o s a e =
     subst Over (sym (shown_more s a h (record { height = chain_height h; deed = Paid from to units; reply = y }) ∙ append-nil (projection s a h)))
     (o s a (sym (swept_more s a h (record { height = chain_height h; deed = Paid from to units; reply = y })
-    ∙ (ap (λ b. is_swept s a h || b) (and-end (is_done y)) ∙ or-end (is_swept s a h))) ∙ e))
+    ∙ (ap (λ b. is_swept s a h || b) (and-end (is_accepted_deed y)) ∙ or-end (is_swept s a h))) ∙ e))
 
 -- a sweep that is accepted: neither low nor swept nor held
 pub done_rows : (x y w z : Bool) (f u : ℕ)
-    → is_done (cond x (NotEnded f) (cond y Swept (cond w (StillHeld u) (cond z Unpublished (Plain replies.Accepted))))) ≡ true
+    → is_accepted_deed (cond x (NotEnded f) (cond y Swept (cond w (StillHeld u) (cond z Unpublished (Plain replies.Accepted))))) ≡ true
     → (x ≡ false) × (y ≡ false) × (w ≡ false)
 done_rows true y w z f u e = absurd (cc e)
 done_rows false true w z f u e = absurd (cc e)
@@ -144,7 +144,7 @@ pub over_after_sweep : (fair : Bool) (horizon s a : ℕ) (h : List ChainEntry) �
     } ∷ [])
 over_after_sweep fair horizon s a h o t b e =
     subst Over (sym (shown_more t b h entry ∙ append-nil (projection t b h)))
-    (go (is_swept t b h) (is_done reply) ((t == s) && (b == a)) refl refl (same_or_not t s) (same_or_not b a) (sym (swept_more t b h entry) ∙ e))
+    (go (is_swept t b h) (is_accepted_deed reply) ((t == s) && (b == a)) refl refl (same_or_not t s) (same_or_not b a) (sym (swept_more t b h entry) ∙ e))
   where
     reply : ManyReply
     reply = reply_to_sweep fair horizon (chain_height h) (is_swept s a h) (projection s a h)
@@ -156,13 +156,13 @@ over_after_sweep fair horizon s a h o t b e =
       reply = reply_to_sweep fair horizon (chain_height h) (is_swept s a h) (projection s a h);
     }
 
-    here : is_done (reply_to_sweep fair horizon (chain_height h) (is_swept s a h) (projection s a h)) ≡ true → Over (projection s a h)
+    here : is_accepted_deed (reply_to_sweep fair horizon (chain_height h) (is_swept s a h) (projection s a h)) ≡ true → Over (projection s a h)
     here q =
         over_swept (projection s a h) (done_rows (nat_lt (chain_height h) (horizon + 1)) (is_swept s a h)
         (is_some (published (projection s a h)) && is_none (settled (projection s a h))) (not fair && is_none (published (projection s a h)))
         (horizon + 1) (held (projection s a h)) q).2
 
-    go : (x y w : Bool) → is_swept t b h ≡ x → is_done reply ≡ y → (t ≡ s) ⊎ (t ≢ s) → (b ≡ a) ⊎ (b ≢ a) → (x || (y && ((t == s) && (b == a)))) ≡ true
+    go : (x y w : Bool) → is_swept t b h ≡ x → is_accepted_deed reply ≡ y → (t ≡ s) ⊎ (t ≢ s) → (b ≡ a) ⊎ (b ≢ a) → (x || (y && ((t == s) && (b == a)))) ≡ true
         → Over (projection t b h)
     go true y w q r i j k = o t b q
     go false false w q r i j k = absurd (cc k)

@@ -22,7 +22,7 @@ use Rattle.swap_many.specs.Kept.{Kept, kept_done, kept_reply, kept_finish}
 use Rattle.swap_many.specs.Laws.{CanCome, Follows}
 use Rattle.swap_many.specs.Sound.{Keeps}
 use Rattle.swap_many.specs.Stages.{Stage, Came, Finished, run_stage, staged_run, stretch_stages}
-use Rattle.swap_many.specs.Value.{ManyState, AreReady, nth_world, world_setup, made_setup, kept_state, world_run, ContinueAll, AreSame, HasManyGone}
+use Rattle.swap_many.specs.Value.{ManyState, AreReady, nth_world, world_setup, made_setup, many_kept, world_run, ContinueAll, AreSame, HasManyGone}
 use Rattle.swap_many.specs.Value.{IsManyStopped, AreUnitsPlaced}
 use Rattle.swap_many.specs.Inside.{AreWhole}
 use Rattle.swap_many.specs.Along.{IsCutRun}
@@ -114,24 +114,24 @@ module _ (gives : MayGive) (f : Setup → Kept → Kept) (x : Stage) (old new : 
   still_of_run k goes g c =
       let m = made_setup old g in
       let was = runs on g (continue_less gives old new g k.same c) in
-      subst (λ (n : Setup). Keeps n (staged_run n new.stages) (kept_state new)) (sym (same_setup gives old new g k.same))
-      (subst (λ (xs : List Stage). Keeps m (staged_run m xs) (kept_state new)) (sym more)
-      (subst (λ (r : Run). Keeps m r (kept_state new)) (sym (run_more m old.stages x))
-      (subst (Keeps m (run_stage m (staged_run m old.stages) x)) (sym (k.kept g c)) (stage g (staged_run m old.stages) (kept_state old) was))))
+      subst (λ (n : Setup). Keeps n (staged_run n new.stages) (many_kept new)) (sym (same_setup gives old new g k.same))
+      (subst (λ (xs : List Stage). Keeps m (staged_run m xs) (many_kept new)) (sym more)
+      (subst (λ (r : Run). Keeps m r (many_kept new)) (sym (run_more m old.stages x))
+      (subst (Keeps m (run_stage m (staged_run m old.stages) x)) (sym (k.kept g c)) (stage g (staged_run m old.stages) (many_kept old) was))))
 
   pub of_run : {A E : Type 0} (r : Result A E) → OnOk r (HasManyGone gives f old new) → OnErr r (IsManyStopped gives f old new) → IsOfRun new
   of_run (Ok a) ok err = λ goes. still_of_run ok goes
   of_run (Err e) ok err = λ goes. absurd (false≢true (sym goes ∙ err.stopped))
 
   pub then_follows : {A E : Type 0} (r : Result A E) → OnOk r (HasManyGone gives f old new)
-      → OnOk r ((g : ℕ → Answers) → ContinueAll new g → Follows (made_setup new g) (world_run new g) (kept_state new))
+      → OnOk r ((g : ℕ → Answers) → ContinueAll new g → Follows (made_setup new g) (world_run new g) (many_kept new))
   then_follows (Err e) ok = tt
   then_follows (Ok a) ok = λ g c. (still_of_run ok (ok.goes_on ∙ on) g c).follows
 
   pub then_placed : {A E : Type 0} (r : Result A E) → OnOk r (HasManyGone gives f old new)
       → OnOk r ((g : ℕ → Answers) → ContinueAll new g → AreUnitsPlaced (made_setup new g) (world_run new g))
   then_placed (Err e) ok = tt
-  then_placed (Ok a) ok = λ g c i l. counted_is_placed (made_setup new g) (world_run new g) (kept_state new) i l (still_of_run ok (ok.goes_on ∙ on) g c)
+  then_placed (Ok a) ok = λ g c i l. counted_is_placed (made_setup new g) (world_run new g) (many_kept new) i l (still_of_run ok (ok.goes_on ∙ on) g c)
 
 -- What a stage made of the worlds, whose stages it was added to.
 pub record HasTaken {A E : Type 0} (gives : MayGive) (f : Setup → Kept → Kept) (x : Stage) (old new : ManyState) (r : Result A E) : Type 0 where
@@ -140,7 +140,7 @@ pub record HasTaken {A E : Type 0} (gives : MayGive) (f : Setup → Kept → Kep
   pub err : OnErr r (IsManyStopped gives f old new)
   pub more : new.stages ≡ old.stages ++ x ∷ []
   pub runs : IsOfRun new
-  pub follows : OnOk r ((g : ℕ → Answers) → ContinueAll new g → Follows (made_setup new g) (world_run new g) (kept_state new))
+  pub follows : OnOk r ((g : ℕ → Answers) → ContinueAll new g → Follows (made_setup new g) (world_run new g) (many_kept new))
   pub placed : OnOk r ((g : ℕ → Answers) → ContinueAll new g → AreUnitsPlaced (made_setup new g) (world_run new g))
 
 pub has_taken : {A E : Type 0} (gives : MayGive) (f : Setup → Kept → Kept) (x : Stage) (a b : ManyState) (xs ys : List Stage) (r : Result A E)
@@ -169,18 +169,18 @@ pub then_cut : {A E : Type 0} (gives : MayGive) (f : Setup → Kept → Kept) (o
 then_cut gives f old new (Ok a) ready runs err = tt
 then_cut gives f old new (Err e) ready runs err = λ on g c.
     let m = made_setup old g in
-    cut_run m (ready g) (world_run old g) (kept_state old) (f m (kept_state old)) new err.same.swaps (runs on g (continue_less gives old new g err.same c))
+    cut_run m (ready g) (world_run old g) (many_kept old) (f m (many_kept old)) new err.same.swaps (runs on g (continue_less gives old new g err.same c))
     (err.way g c)
 
 -- The reply is that of the run.
 pub then_reply : {E : Type 0} (gives : MayGive) (f : Setup → Kept → Kept) (old new : ManyState) (e : ManyEvent) (r : Result (Option ManyReply) E)
     → AreReady old → CanCome (world_setup old) e → IsOfRun old → old.stopped ≡ false → OnOk r (HasManyGone gives f old new)
-    → IfOk r (λ o. (g : ℕ → Answers) → ContinueAll new g → o ≡ kept_reply false (made_setup old g) (kept_state old) e)
+    → IfOk r (λ o. (g : ℕ → Answers) → ContinueAll new g → o ≡ kept_reply false (made_setup old g) (many_kept old) e)
     → IfOk r (λ o. (g : ℕ → Answers) → ContinueAll new g → o ≡ many_reply (made_setup old g) (world_run old g) e)
 then_reply gives f old new e (Err x) ready can runs on ok reply = tt
 then_reply gives f old new e (Ok o) ready can runs on ok reply = λ g c.
     let k = runs on g (continue_less gives old new g ok.same c) in
-    reply g c ∙ replies_follow (made_setup old g) (world_run old g) (kept_state old) e (ready g) (can_for old g e can) k.follows k.good
+    reply g c ∙ replies_follow (made_setup old g) (world_run old g) (many_kept old) e (ready g) (can_for old g e can) k.follows k.good
 
 -- After a fair finish every swap's book has ended.
 pub then_ended : {A E : Type 0} (gives : MayGive) (old new : ManyState) (r : Result A E) → AreReady old → IsOfRun old → old.stopped ≡ false
@@ -192,10 +192,10 @@ then_ended gives old new (Ok a) ready runs on ok = λ s l.
     let c : ContinueAll new g = λ t l i lt. refl in
     let m = made_setup old g in
     let k = runs on g (continue_less gives old new g ok.same c) in
-    let done = both_finish m (ready g) (world_run old g) (kept_state old) k in
+    let done = both_finish m (ready g) (world_run old g) (many_kept old) k in
     let low = subst (λ n. s < n) ok.same.swaps l in
-    let ended = swap_ended m (ready g) (many_finish m (world_run old g)) (kept_finish m (kept_state old)) s low done
-    (finish_above m (ready g) (kept_state old) k.timed) in
+    let ended = swap_ended m (ready g) (many_finish m (world_run old g)) (kept_finish m (many_kept old)) s low done
+    (finish_above m (ready g) (many_kept old) k.timed) in
     let book = ap (λ (z : Kept). (z.swaps s).book) (ok.kept g c) ∙ ap (λ (t : State). t.book) (done.follows.swaps s low) in
     subst (λ (d : Deal). IsEnded d (nth_world new s).state.book) (sym (same_deal gives old new s ok.same))
     (subst (IsEnded (nth_world old s).deal) (sym book) ended)

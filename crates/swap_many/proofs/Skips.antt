@@ -22,13 +22,13 @@ use Rattle.swap_run.specs.Called.{swept_turns}
 use Rattle.swap_run.specs.Fair.{repeat}
 use Rattle.swap_run.specs.Quiet.{IsIdle}
 use Rattle.swap_run.proofs.Entries.{tick_full, tick_room}
-use Rattle.swap_world.specs.Quiet.{IsRaised, AreRaised, IsStill}
+use Rattle.swap_world.specs.Quiet.{IsRaised, AreRaised, IsQuietState}
 use Rattle.swap_world.specs.Value.{world_cast}
 use Rattle.swap_many.specs.Chains.{Setup, arc_chain, put, has_no_tick}
 use Rattle.swap_many.specs.Many.{last_horizon}
 use Rattle.swap_many.specs.Kept.{Kept, Time, later, ticked}
-use Rattle.swap_many.specs.Fair.{entry_tick, kept_turns, kept_ticks, kept_round, kept_round_or_rest, have_ended}
-use Rattle.swap_many.specs.Value.{ManyState, nth_world, nth_chain, world_setup, made_setup, kept_state}
+use Rattle.swap_many.specs.Fair.{kept_chain_tick, kept_turns, kept_ticks, kept_round, kept_round_or_rest, have_ended}
+use Rattle.swap_many.specs.Value.{ManyState, nth_world, nth_chain, world_setup, made_setup, many_kept}
 use Rattle.swap_many.proofs.Projections.{put_same, put_other}
 use Rattle.swap_many.proofs.Tick.{book_tick, ticked_is, book_tick_length, ticks_inside}
 use Rattle.swap_many.proofs.On.{turns_are_on}
@@ -94,7 +94,7 @@ module _ (m : Setup) where
     swaps = λ s. record (z.swaps s) { book = chain_tick z.clocks i s (z.swaps s).book };
   }
 
-  tick_is : (z : Kept) (i : ℕ) → entry_tick m z i ≡ after_tick_of z i
+  tick_is : (z : Kept) (i : ℕ) → kept_chain_tick m z i ≡ after_tick_of z i
   tick_is z i = go (full z.clocks i)
     where
       go : (b : Bool)
@@ -111,9 +111,9 @@ module _ (m : Setup) where
         swept = z.swept;
       }
 
-  ticks_are : (is : List ℕ) (z : Kept) → fold (entry_tick m) z is ≡ after_ticks z is
+  ticks_are : (is : List ℕ) (z : Kept) → fold (kept_chain_tick m) z is ≡ after_ticks z is
   ticks_are [] z = refl
-  ticks_are (i ∷ is) z = ap (λ (t : Kept). fold (entry_tick m) t is) (tick_is z i) ∙ ticks_are is (after_tick_of z i)
+  ticks_are (i ∷ is) z = ap (λ (t : Kept). fold (kept_chain_tick m) t is) (tick_is z i) ∙ ticks_are is (after_tick_of z i)
 
   -- What the turns of each swap of a list do.
 
@@ -367,22 +367,22 @@ module _ (m : Setup) where
       absurd (omega (arith, r, above, low, few)))
 
 -- Fewer rounds in which nobody makes a call.
-pub still_less : (c : Cast) (n k : ℕ) (s : State) → k ≤ n → IsStill c n s → IsStill c k s
+pub still_less : (c : Cast) (n k : ℕ) (s : State) → k ≤ n → IsQuietState c n s → IsQuietState c k s
 still_less c n k s l r = record { noted = r.noted; plain = r.plain; idle = λ i b less. r.idle i b (omega (arith, less, l)) }
 
 -- Many worlds in which nobody makes a call in n rounds, and a chain stays low.
 pub many_skip : (w : ManyState) (g : ℕ → Answers) (n : ℕ)
     → ((s : ℕ) → s < length w.worlds → length (nth_world w s).state.book ≡ length (nth_world w s).deal.graph.arcs)
-    → have_ended (world_setup w) (kept_state w) ≡ false
+    → have_ended (world_setup w) (many_kept w) ≡ false
     → (0 < n → (q : ℕ) × (q < length w.openings) × ((nth_chain w q).clock.height + n ≤ last_horizon (world_setup w)))
-    → (0 < n → (s : ℕ) → s < length w.worlds → IsStill (world_cast (nth_world w s)) n (nth_world w s).state)
-    → repeat (suc n) (kept_round_or_rest (made_setup w g)) (kept_state w) ≡ kept_round (made_setup w g) (repeat n (kept_ticks (made_setup w g)) (kept_state w))
-many_skip w g zero whole on low still = goes_on (made_setup w g) (kept_state w) on
+    → (0 < n → (s : ℕ) → s < length w.worlds → IsQuietState (world_cast (nth_world w s)) n (nth_world w s).state)
+    → repeat (suc n) (kept_round_or_rest (made_setup w g)) (many_kept w) ≡ kept_round (made_setup w g) (repeat n (kept_ticks (made_setup w g)) (many_kept w))
+many_skip w g zero whole on low still = goes_on (made_setup w g) (many_kept w) on
 many_skip w g (suc k) whole on low still =
     let n = suc k in
     let more : 0 < n = omega arith in
     let m = made_setup w g in
-    let z = kept_state w in
+    let z = many_kept w in
     let a = low more in
     rounds_skip m n z (not_ended m n z a.0 a.1 a.2) (λ i l s ls.
     let r = still more s ls in

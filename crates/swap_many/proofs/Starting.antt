@@ -12,15 +12,15 @@ use Rattle.swap_run.proofs.Good.{start_is_good, good_is_kept}
 use Rattle.swap_world.specs.Value.{WorldState, world_cast, answering_cast}
 use Rattle.swap_many.specs.declared.place.Place.{Place}
 use Rattle.swap_many.specs.Accounts.{ChainState, account_units}
-use Rattle.swap_many.specs.Chains.{Setup, opening, set_aside, first_free}
+use Rattle.swap_many.specs.Chains.{Setup, opening_units, set_aside, first_free}
 use Rattle.swap_many.specs.Many.{many_start}
 use Rattle.swap_many.specs.Kept.{kept_start}
-use Rattle.swap_many.specs.Laws.{IsReady}
+use Rattle.swap_many.specs.Laws.{IsReadySetup}
 use Rattle.swap_many.specs.Sound.{Keeps}
 use Rattle.swap_many.specs.Opened.{overdrawn}
 use Rattle.swap_many.specs.Opening.{AreOpenable, setup_of_worlds, new_chain, none_swept, new_many}
 use Rattle.swap_many.specs.Ticking.{nth}
-use Rattle.swap_many.specs.Value.{ManyState, no_world, no_chain, nth_chain, swept_slots, made_setup, kept_state}
+use Rattle.swap_many.specs.Value.{ManyState, no_world, no_chain, nth_chain, swept_slots, made_setup, many_kept}
 use Rattle.swap_many.specs.Inside.{AreWhole}
 use Rattle.swap_many.proofs.Units.{keeps_start}
 use Rattle.swap_many.proofs.Opened.{no_lack_is_covered}
@@ -73,10 +73,10 @@ module _ (chains : List (List ℕ)) (ws : List WorldState) (places : List (List 
       go (inl l) (inr k) =
           let e = accounts_new i in
           past_end (nth_chain new i).free x 0 (omega (arith, e, k))
-          ∙ none (opening m i x) (set_aside m i x) (past_end (slice_index_or chains i []) x 0 k)
+          ∙ none (opening_units m i x) (set_aside m i x) (past_end (slice_index_or chains i []) x 0 k)
       go (inr l) k =
           ap (λ (y : ChainState). account_units y.free x) (chain_out i l)
-          ∙ none (opening m i x) (set_aside m i x) (ap (λ (xs : List ℕ). slice_index_or xs x 0) (past_end chains i [] l))
+          ∙ none (opening_units m i x) (set_aside m i x) (ap (λ (xs : List ℕ). slice_index_or xs x 0) (past_end chains i [] l))
 
   clock_new : (i : ℕ) → (nth_chain new i).clock ≡ no_chain.clock
   clock_new i = go (below_or i (length chains))
@@ -111,7 +111,7 @@ module _ (chains : List (List ℕ)) (ws : List WorldState) (places : List (List 
       go (inr l) =
           subst (λ (y : WorldState). y.state ≡ start (answering_cast y (g s))) (sym (past_end ws s no_world l)) refl
 
-  pub kept_is : (g : ℕ → Answers) → kept_state new ≡ kept_start (made_setup new g)
+  pub kept_is : (g : ℕ → Answers) → many_kept new ≡ kept_start (made_setup new g)
   kept_is g = λ j. record {
     swaps = λ s. state_new g s j;
     clocks = λ i. clock_new i j;
@@ -119,11 +119,11 @@ module _ (chains : List (List ℕ)) (ws : List WorldState) (places : List (List 
     swept = λ s a. swept_new s a j;
   }
 
-  pub start_keeps : (g : ℕ → Answers) → IsReady (made_setup new g) → Keeps (made_setup new g) (many_start (made_setup new g)) (kept_state new)
+  pub start_keeps : (g : ℕ → Answers) → IsReadySetup (made_setup new g) → Keeps (made_setup new g) (many_start (made_setup new g)) (many_kept new)
   start_keeps g ready = subst (Keeps (made_setup new g) (many_start (made_setup new g))) (sym (kept_is g)) (keeps_start (made_setup new g) ready)
 
   module _ (none : overdrawn (setup_of_worlds ws places chains) ≡ None) (casts : (s : ℕ) → s < length ws → IsReadyCast (world_cast (nth ws s))) where
-    ready_new : (g : ℕ → Answers) → IsReady (made_setup new g)
+    ready_new : (g : ℕ → Answers) → IsReadySetup (made_setup new g)
     ready_new g = record {
       casts = λ s l. ready_for (world_cast (nth ws s)) (g s) (casts s l);
       chain = λ s a l k. (opening_deadline.known s a l k).chain;

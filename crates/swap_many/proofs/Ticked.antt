@@ -24,11 +24,11 @@ use Rattle.swap_world.proofs.Ways.{range_all}
 use Rattle.swap_many.specs.declared.many_event.ManyEvent.TheVariants.{Tick}
 use Rattle.swap_many.specs.declared.place.Place.{Place}
 use Rattle.swap_many.specs.Accounts.{ChainState, account_units}
-use Rattle.swap_many.specs.Chains.{Setup, put, has_no_tick, nowhere, Units, is_done, chain_tick_reply}
+use Rattle.swap_many.specs.Chains.{Setup, put, has_no_tick, nowhere, Units, is_accepted_deed, chain_tick_reply}
 use Rattle.swap_many.specs.Kept.{Kept, Time, later, tick_ledgers, ticked, kept_done}
 use Rattle.swap_many.specs.Laws.{CanTickChain}
 use Rattle.swap_many.specs.Ticking.{nth, IsTicked, AreTicked, AreTickable, some_stopped}
-use Rattle.swap_many.specs.Value.{ManyState, no_world, nth_world, nth_chain, world_setup, made_setup, kept_state, AreSame, HasManyGone, IsManyStopped}
+use Rattle.swap_many.specs.Value.{ManyState, no_world, nth_world, nth_chain, world_setup, made_setup, many_kept, AreSame, HasManyGone, IsManyStopped}
 use Rattle.swap_many.specs.Inside.{stands, standing, AreWhole}
 use Rattle.swap_many.proofs.Projections.{put_still}
 use Rattle.swap_many.proofs.Each.{none_stopped}
@@ -99,10 +99,10 @@ may_tick w i whole on = record {
     here s l = map_at (stands i) w.places s [] [] (subst (λ n. s < n) (sym whole.places) l)
 
 -- a tick that is accepted has room
-pub has_room : (ticks height k : ℕ) → is_done (chain_tick_reply ticks height k) ≡ true → has_no_tick ticks height k ≡ false
+pub has_room : (ticks height k : ℕ) → is_accepted_deed (chain_tick_reply ticks height k) ≡ true → has_no_tick ticks height k ≡ false
 has_room ticks height k e = go (has_no_tick ticks height k) e
   where
-    go : (b : Bool) → is_done (cond b (Plain ClockFull) (Plain Accepted)) ≡ true → b ≡ false
+    go : (b : Bool) → is_accepted_deed (cond b (Plain ClockFull) (Plain Accepted)) ≡ true → b ≡ false
     go true e = absurd (cc e)
     go false e = refl
 
@@ -160,16 +160,16 @@ module _ (gives : MayGive) (w : ManyState) (i k : ℕ) (x : ChainState) (ws : Li
   rests g s l =
       sym (ap (λ (y : WorldState). fold (tick_ledgers (made_setup w g) i k s) (nth_world w s).state (arcs y.deal.graph)) (past_end w.worlds s no_world l))
 
-  pub ticks_kept : (g : ℕ → Answers) → kept_state with_ticks ≡ kept_done false (made_setup w g) (kept_state w) (Tick i k)
+  pub ticks_kept : (g : ℕ → Answers) → many_kept with_ticks ≡ kept_done false (made_setup w g) (many_kept w) (Tick i k)
   ticks_kept g =
       (λ j. record {
         swaps = λ s. swaps s j;
         clocks = clocks j;
         free = frees j;
-        swept = (kept_state w).swept;
+        swept = (many_kept w).swept;
       })
-      ∙ sym (ap (λ b. cond b (kept_state w) (record (kept_state w) {
-        clocks = put (kept_state w).clocks i (later (nth_chain w i).clock k);
+      ∙ sym (ap (λ b. cond b (many_kept w) (record (many_kept w) {
+        clocks = put (many_kept w).clocks i (later (nth_chain w i).clock k);
         swaps = λ s. ticked (made_setup w g) i k s (nth_world w s).state;
       })) room)
     where
@@ -179,17 +179,17 @@ module _ (gives : MayGive) (w : ManyState) (i k : ℕ) (x : ChainState) (ws : Li
           (whole.arcs s l))
           (rests g)
 
-      clocks : (λ j. (nth_chain (with_chain w i x low) j).clock) ≡ put (kept_state w).clocks i (later (nth_chain w i).clock k)
+      clocks : (λ j. (nth_chain (with_chain w i x low) j).clock) ≡ put (many_kept w).clocks i (later (nth_chain w i).clock k)
       clocks =
           ap (λ (f : ℕ → ChainState). let h : ℕ → Time = λ j. (f j).clock in h) (chains_put w i x low)
           ∙ (put_map (λ (y : ChainState). y.clock) (nth_chain w) i x
-          ∙ ap (λ (y : ChainState). put (kept_state w).clocks i y.clock) clock)
+          ∙ ap (λ (y : ChainState). put (many_kept w).clocks i y.clock) clock)
 
-      frees : (λ j. account_units (nth_chain (with_chain w i x low) j).free) ≡ (kept_state w).free
+      frees : (λ j. account_units (nth_chain (with_chain w i x low) j).free) ≡ (many_kept w).free
       frees =
           ap (λ (f : ℕ → ChainState). let h : ℕ → Units = λ j. account_units (f j).free in h) (chains_put w i x low)
           ∙ (put_map (λ (y : ChainState). account_units y.free) (nth_chain w) i x
-          ∙ put_still (kept_state w).free i (account_units x.free) (ap (λ (y : ChainState). account_units y.free) clock))
+          ∙ put_still (many_kept w).free i (account_units x.free) (ap (λ (y : ChainState). account_units y.free) clock))
 
   ticks_gone : b ≡ w.stopped → HasManyGone gives (λ m z. kept_done false m z (Tick i k)) w with_ticks
   ticks_gone on = record { same = ticks_same; goes_on = on; kept = λ g c. ticks_kept g }
@@ -200,9 +200,9 @@ module _ (gives : MayGive) (w : ManyState) (i k : ℕ) (x : ChainState) (ws : Li
     same = ticks_same;
     way = λ g c. let m = made_setup w g in
         record {
-          there = kept_done false m (kept_state w) (Tick i k);
-          before = one_step m (whole.ready g) (kept_state w) (record { fair = false; event = Tick i k }) (can_for w g (Tick i k) can);
-          after = no_step m (whole.ready g) (kept_done false m (kept_state w) (Tick i k));
+          there = kept_done false m (many_kept w) (Tick i k);
+          before = one_step m (whole.ready g) (many_kept w) (record { fair = false; event = Tick i k }) (can_for w g (Tick i k) can);
+          after = no_step m (whole.ready g) (kept_done false m (many_kept w) (Tick i k));
           books = λ s l. ap (λ (z : Kept). (z.swaps s).book) (ticks_kept g);
           clocks = λ j. ap (λ (z : Kept). z.clocks j) (ticks_kept g);
           free = λ j. ap (λ (z : Kept). z.free j) (ticks_kept g);

@@ -31,9 +31,9 @@ use Rattle.swap_many.specs.Many.{last_horizon}
 use Rattle.swap_many.specs.Kept.{Kept, kept_done, kept_reply, answer_call}
 use Rattle.swap_many.specs.Laws.{CanHappen}
 use Rattle.swap_many.specs.Way.{Leads}
-use Rattle.swap_many.specs.Fair.{kept_look, kept_looks, kept_act, kept_acts, kept_turn, kept_turns, entry_tick, kept_ticks, kept_round}
+use Rattle.swap_many.specs.Fair.{kept_look, kept_looks, kept_act, kept_acts, kept_turn, kept_turns, kept_chain_tick, kept_ticks, kept_round}
 use Rattle.swap_many.specs.Fair.{kept_round_or_rest, kept_rounds, kept_swap_sweeps, kept_sweeps, have_ended}
-use Rattle.swap_many.specs.Value.{ManyState, IsSwapParty, AreReady, nth_world, swept_slots, world_setup, made_setup, kept_state, ContinueAll, HasManyGone}
+use Rattle.swap_many.specs.Value.{ManyState, IsSwapParty, AreReady, nth_world, swept_slots, world_setup, made_setup, many_kept, ContinueAll, HasManyGone}
 use Rattle.swap_many.specs.Value.{IsManyStopped}
 use Rattle.swap_many.proofs.Projections.{put_still}
 use Rattle.swap_many.proofs.Values.{same_setup}
@@ -115,13 +115,13 @@ module _ (w : ManyState) (ready : AreReady w) where
       fold_steps (made_setup w g) (ready g) (kept_turns (made_setup w g)) (range_with_len 0 (length w.worlds)) z
       (λ z s j. turns_lead s (from_range s (length w.worlds) j) g z)
 
-  pub tick_leads : (i : ℕ) → i < length w.openings → LeadOn w (λ m z. entry_tick m z i)
+  pub tick_leads : (i : ℕ) → i < length w.openings → LeadOn w (λ m z. kept_chain_tick m z i)
   tick_leads i l g z =
       one_step (made_setup w g) (ready g) z (record { fair = false; event = Tick i 1 }) (record { chain = l; some = omega arith; few = omega arith })
 
   pub ticks_lead : LeadOn w kept_ticks
   ticks_lead g z =
-      fold_steps (made_setup w g) (ready g) (entry_tick (made_setup w g)) (range_with_len 0 (length w.openings)) z
+      fold_steps (made_setup w g) (ready g) (kept_chain_tick (made_setup w g)) (range_with_len 0 (length w.openings)) z
       (λ z i j. tick_leads i (from_range i (length w.openings) j) g z)
 
   pub unless_leads : LeadOn w kept_round_or_rest
@@ -139,19 +139,19 @@ module _ (w : ManyState) (s p : ℕ) (c : conforms (world_cast (nth_world w s)) 
       (role_call (answering_cast (nth_world w s) g) (nth_world w s).state p (party_role (world_cast (nth_world w s)) p))) c
 
   -- where it calls nothing its act changes nothing
-  pub idle : (h g : ℕ → Answers) → None ≡ kept_reply false (made_setup w h) (kept_state w) (In s (Act p))
-      → kept_act s p (made_setup w g) (kept_state w) ≡ kept_state w
+  pub idle : (h g : ℕ → Answers) → None ≡ kept_reply false (made_setup w h) (many_kept w) (In s (Act p))
+      → kept_act s p (made_setup w g) (many_kept w) ≡ many_kept w
   idle h g e =
       let x = answering_cast (nth_world w s) (g s) in
       let t = (nth_world w s).state in
       let sw = is_slot_swept (swept_slots w s) in
       let none : called x t (Act p) ≡ None =
-      due_is (g s) ∙ (sym (due_is (h s)) ∙ none_of (answer_call (made_setup w h) (kept_state w) s) (called (answering_cast (nth_world w s) (h s)) t (Act p)) e) in
+      due_is (g s) ∙ (sym (due_is (h s)) ∙ none_of (answer_call (made_setup w h) (many_kept w) s) (called (answering_cast (nth_world w s) (h s)) t (Act p)) e) in
       let rests : apply_step sw x t (Act p) ≡ t =
       ap (landed_event sw x t (Act p)) none
       ∙ ((calls_split x t (Act p) refl).alone none ∙ ap (λ b. cond b t (role_turn x t p (party_role x p))) c) in
-      ap (λ (y : State). let z : Kept = record (kept_state w) { swaps = put (kept_state w).swaps s y } in z) rests
-      ∙ ap (λ (f : ℕ → State). let z : Kept = record (kept_state w) { swaps = f } in z) (put_still (kept_state w).swaps s t refl)
+      ap (λ (y : State). let z : Kept = record (many_kept w) { swaps = put (many_kept w).swaps s y } in z) rests
+      ∙ ap (λ (f : ℕ → State). let z : Kept = record (many_kept w) { swaps = f } in z) (put_still (many_kept w).swaps s t refl)
 
 none_if : {A : Type 0} (o : Option A) → is_some o ≡ false → o ≡ None
 none_if None e = refl
@@ -160,18 +160,18 @@ none_if (Some x) e = absurd (cc e)
 -- once an act made no call, more acts change nothing
 pub acts_done : (gives : MayGive) (old mid new : ManyState) (s p n k : ℕ) (o : Option ManyReply) → k < n → conforms (world_cast (nth_world mid s)) p ≡ true
     → is_some o ≡ false
-    → ((g : ℕ → Answers) → ContinueAll new g → o ≡ kept_reply false (made_setup mid g) (kept_state mid) (In s (Act p)))
+    → ((g : ℕ → Answers) → ContinueAll new g → o ≡ kept_reply false (made_setup mid g) (many_kept mid) (In s (Act p)))
     → HasManyGone gives (λ m z. repeat k (kept_act s p m) z) old mid → HasManyGone gives (λ m z. kept_done false m z (In s (Act p))) mid new
     → HasManyGone gives (λ m z. repeat n (kept_act s p m) z) old new
 acts_done gives old mid new s p n k o l c none reply so_far act =
     repeat_rests gives (kept_act s p) old new new n (k + 1) (repeat_on gives (kept_act s p) old mid new n k so_far act) (omega (arith, l)) (λ g.
-    ap (λ z. kept_act s p (made_setup new g) z) same ∙ (ap (λ m. kept_act s p m (kept_state mid)) (same_setup gives mid new g act.same)
+    ap (λ z. kept_act s p (made_setup new g) z) same ∙ (ap (λ m. kept_act s p m (many_kept mid)) (same_setup gives mid new g act.same)
     ∙ (idle mid s p c (λ t. world_answers (nth_world new t)) g nothing ∙ sym same)))
   where
-    nothing : None ≡ kept_reply false (made_setup mid (λ t. world_answers (nth_world new t))) (kept_state mid) (In s (Act p))
+    nothing : None ≡ kept_reply false (made_setup mid (λ t. world_answers (nth_world new t))) (many_kept mid) (In s (Act p))
     nothing = sym (none_if o none) ∙ reply (λ t. world_answers (nth_world new t)) (λ t l i lt. refl)
 
-    same : kept_state new ≡ kept_state mid
+    same : many_kept new ≡ many_kept mid
     same =
         act.kept (λ t. world_answers (nth_world new t)) (λ t l i lt. refl)
         ∙ idle mid s p c (λ t. world_answers (nth_world new t)) (λ t. world_answers (nth_world new t)) nothing
@@ -198,12 +198,12 @@ module _ (gives : MayGive) (w mid new : ManyState) (s p : ℕ) (ready : AreReady
     same_conforms = ap (λ (c : Cast). conforms c p) (sym (looked.same.casts s))
 
     rest_is : (b : Bool) → conforms (world_cast (nth_world mid s)) p ≡ b → (g : ℕ → Answers)
-        → cond b (kept_acts s p (made_setup w g) (kept_looks s p (made_setup w g) (kept_state w)))
-        (kept_act s p (made_setup w g) (kept_looks s p (made_setup w g) (kept_state w)))
-        ≡ kept_turn s (made_setup w g) (kept_state w) p
+        → cond b (kept_acts s p (made_setup w g) (kept_looks s p (made_setup w g) (many_kept w)))
+        (kept_act s p (made_setup w g) (kept_looks s p (made_setup w g) (many_kept w)))
+        ≡ kept_turn s (made_setup w g) (many_kept w) p
     rest_is b e g =
-        sym (ap (λ b. cond b (kept_acts s p (made_setup w g) (kept_looks s p (made_setup w g) (kept_state w)))
-        (kept_act s p (made_setup w g) (kept_looks s p (made_setup w g) (kept_state w)))) (same_conforms ∙ e))
+        sym (ap (λ b. cond b (kept_acts s p (made_setup w g) (kept_looks s p (made_setup w g) (many_kept w)))
+        (kept_act s p (made_setup w g) (kept_looks s p (made_setup w g) (many_kept w)))) (same_conforms ∙ e))
 
     pub turn_acts : conforms (world_cast (nth_world mid s)) p ≡ true → HasManyGone gives (kept_acts s p) mid new
         → HasManyGone gives (λ m z. kept_turn s m z p) w new
@@ -250,13 +250,13 @@ sweeps_lead w ready g z =
 -- Rounds.
 
 -- where every chain is above every horizon, a round is a rest, and else it is a round
-pub rests : (w : ManyState) (g : ℕ → Answers) → have_ended (world_setup w) (kept_state w) ≡ true
-    → kept_round_or_rest (made_setup w g) (kept_state w) ≡ kept_state w
-rests w g e = ap (λ b. cond b (kept_state w) (kept_round (made_setup w g) (kept_state w))) e
+pub rests : (w : ManyState) (g : ℕ → Answers) → have_ended (world_setup w) (many_kept w) ≡ true
+    → kept_round_or_rest (made_setup w g) (many_kept w) ≡ many_kept w
+rests w g e = ap (λ b. cond b (many_kept w) (kept_round (made_setup w g) (many_kept w))) e
 
-pub is_round : (w : ManyState) (g : ℕ → Answers) → have_ended (world_setup w) (kept_state w) ≡ false
-    → kept_round (made_setup w g) (kept_state w) ≡ kept_round_or_rest (made_setup w g) (kept_state w)
-is_round w g e = sym (ap (λ b. cond b (kept_state w) (kept_round (made_setup w g) (kept_state w))) e)
+pub is_round : (w : ManyState) (g : ℕ → Answers) → have_ended (world_setup w) (many_kept w) ≡ false
+    → kept_round (made_setup w g) (many_kept w) ≡ kept_round_or_rest (made_setup w g) (many_kept w)
+is_round w g e = sym (ap (λ b. cond b (many_kept w) (kept_round (made_setup w g) (many_kept w))) e)
 
 -- The greatest horizon, swap by swap.
 

@@ -24,12 +24,12 @@ use Rattle.swap_many.specs.declared.many_reply.ManyReply.{ManyReply}
 use Rattle.swap_many.specs.declared.many_reply.ManyReply.TheVariants.{Plain}
 use Rattle.swap_run.specs.Called.{Called, called}
 use Rattle.swap_many.specs.Chains.{Setup, place, arc_chain, put, Emptied, Paid, Ticked, ChainEntry, chain_height, chain_ticks, has_no_tick, projection, Chains}
-use Rattle.swap_many.specs.Chains.{total, slot_funding, set_aside, opening, Units, plus, paid, returned, is_done, first_free, free, is_swept}
+use Rattle.swap_many.specs.Chains.{sum_over_arcs, slot_funding, set_aside, opening_units, Units, plus, paid, returned, is_accepted_deed, first_free, free, is_swept}
 use Rattle.swap_many.specs.Chains.{reply_to_call, reply_to_payment, reply_to_sweep, entered, in_accounts, unswept, in_slot, placed}
 use Rattle.swap_many.specs.Many.{Run, swap_state, post_call, posted, done, many_step, many_start, many_run}
 use Rattle.swap_many.specs.Kept.{Kept, kept_done, kept_step, kept_start, kept_run}
-use Rattle.swap_many.specs.Laws.{IsReady, CanPay, CanSweep, CanCome, Follows, AreGood, UnitsArePlaced, SweptAcceptNothing}
-use Rattle.swap_many.specs.Sound.{AreSweptSlotsFinal, worth, Count, IsSound, Keeps}
+use Rattle.swap_many.specs.Laws.{IsReadySetup, CanPay, CanSweep, CanCome, Follows, AreGood, UnitsArePlaced, SweptAcceptNothing}
+use Rattle.swap_many.specs.Sound.{AreSweptSlotsFinal, worth, Count, AreSoundChains, Keeps}
 use Rattle.swap_many.proofs.Projections.{put_same, put_other, put_each, put_still, free_more, swept_more, shown_at, book_length}
 use Rattle.swap_many.proofs.Tick.{entry_tick}
 use Rattle.swap_many.proofs.Landed.{parse_call, call_free, call_swept}
@@ -40,22 +40,22 @@ use Rattle.swap_many.proofs.Over.{over_held, over_after_tick, over_after_call, o
 
 -- Sums over slots.
 
-total_same : (m : Setup) (f g : ℕ → ℕ → ℕ) → ((s a : ℕ) → s < m.swaps → a < length (m.cast s).deal.graph.arcs → f s a ≡ g s a) → total m f ≡ total m g
+total_same : (m : Setup) (f g : ℕ → ℕ → ℕ) → ((s a : ℕ) → s < m.swaps → a < length (m.cast s).deal.graph.arcs → f s a ≡ g s a) → sum_over_arcs m f ≡ sum_over_arcs m g
 total_same m f g e =
     sum_same (λ s. sum_by (f s) (arcs (m.cast s).deal.graph)) (λ s. sum_by (g s) (arcs (m.cast s).deal.graph)) (range_with_len 0 m.swaps)
     (λ s i. sum_same (f s) (g s) (arcs (m.cast s).deal.graph)
     (λ a j. e s a (from_range s m.swaps i) (from_range a (length (m.cast s).deal.graph.arcs) j)))
 
 pub total_put : (m : Setup) (g : ℕ → ℕ → ℕ) (s a v : ℕ) → s < m.swaps → a < length (m.cast s).deal.graph.arcs
-    → total m (put g s (put (g s) a v)) + g s a ≡ total m g + v
+    → sum_over_arcs m (put g s (put (g s) a v)) + g s a ≡ sum_over_arcs m g + v
 total_put m g s a v ls la =
-    let e1 : total m (put g s (put (g s) a v)) ≡ sum_by (put inner s (sum_by (put (g s) a v) (arcs (m.cast s).deal.graph))) (range_with_len 0 m.swaps) =
+    let e1 : sum_over_arcs m (put g s (put (g s) a v)) ≡ sum_by (put inner s (sum_by (put (g s) a v) (arcs (m.cast s).deal.graph))) (range_with_len 0 m.swaps) =
     sum_same (λ t. sum_by (put g s (put (g s) a v) t) (arcs (m.cast t).deal.graph)) (put inner s (sum_by (put (g s) a v) (arcs (m.cast s).deal.graph)))
     (range_with_len 0 m.swaps) (λ t i. at t (same_or_not t s)) in
     let e2 = sum_put inner 0 m.swaps s (sum_by (put (g s) a v) (arcs (m.cast s).deal.graph)) (omega arith) (omega arith) in
     let e3 = sum_put (g s) 0 (length (m.cast s).deal.graph.arcs) a v (omega arith) (omega arith) in
-    join (total m (put g s (put (g s) a v))) (sum_by (put inner s (sum_by (put (g s) a v) (arcs (m.cast s).deal.graph))) (range_with_len 0 m.swaps))
-    (inner s) (total m g) (sum_by (put (g s) a v) (arcs (m.cast s).deal.graph)) (g s a) e1 e2 e3
+    join (sum_over_arcs m (put g s (put (g s) a v))) (sum_by (put inner s (sum_by (put (g s) a v) (arcs (m.cast s).deal.graph))) (range_with_len 0 m.swaps))
+    (inner s) (sum_over_arcs m g) (sum_by (put (g s) a v) (arcs (m.cast s).deal.graph)) (g s a) e1 e2 e3
   where
     inner : ℕ → ℕ
     inner t = sum_by (g t) (arcs (m.cast t).deal.graph)
@@ -76,11 +76,11 @@ total_put m g s a v ls la =
 
 -- The beginning.
 
-pub start_count : (m : Setup) (i : ℕ) → IsReady m → Count m i []
+pub start_count : (m : Setup) (i : ℕ) → IsReadySetup m → Count m i []
 start_count m i ready =
-    join (in_accounts m i (first_free m i)) (in_accounts m i (set_aside m i)) (total m (worth m i [])) (in_accounts m i (opening m i))
+    join (in_accounts m i (first_free m i)) (in_accounts m i (set_aside m i)) (sum_over_arcs m (worth m i [])) (in_accounts m i (opening_units m i))
     (sym (sum_plus (first_free m i) (set_aside m i) history_accounts)
-    ∙ sum_same (λ x. first_free m i x + set_aside m i x) (opening m i) history_accounts (λ x j. back (opening m i x) (set_aside m i x) (ready.covered i x)))
+    ∙ sum_same (λ x. first_free m i x + set_aside m i x) (opening_units m i) history_accounts (λ x j. back (opening_units m i x) (set_aside m i x) (ready.covered i x)))
     (sum_swap (λ x s. sum_by (slot_funding m i x s) (arcs (m.cast s).deal.graph)) history_accounts (range_with_len 0 m.swaps)
     ∙ (sum_same (λ s. sum_by (λ x. sum_by (slot_funding m i x s) (arcs (m.cast s).deal.graph)) history_accounts)
     (λ s. sum_by (λ a. sum_by (λ x. slot_funding m i x s a) history_accounts) (arcs (m.cast s).deal.graph)) (range_with_len 0 m.swaps)
@@ -142,7 +142,7 @@ pay_count m i from to units h can c = go (nat_lt (free m i h from) units) refl
         → is_swept s a (h ++ record { height = chain_height h; deed = Paid from to units; reply = y } ∷ []) ≡ is_swept s a h
     swept y s a =
         swept_more s a h (record { height = chain_height h; deed = Paid from to units; reply = y })
-        ∙ (ap (λ b. is_swept s a h || b) (and-end (is_done y)) ∙ or-end (is_swept s a h))
+        ∙ (ap (λ b. is_swept s a h || b) (and-end (is_accepted_deed y)) ∙ or-end (is_swept s a h))
 
     go : (b : Bool) → nat_lt (free m i h from) units ≡ b
         → Count m i (h ++ record {
@@ -176,10 +176,10 @@ module _ (m : Setup) (fair : Bool) (s a : ℕ) (h : List ChainEntry) where
     reply = reply_to_sweep fair (the_horizon (m.cast s).deal) (chain_height h) (is_swept s a h) (projection s a h);
   }
 
-  swept_now : (b : Bool) → is_done sweep_reply ≡ b → (t c : ℕ) → is_swept t c (h ++ sweep_entry ∷ []) ≡ (is_swept t c h || (b && ((t == s) && (c == a))))
+  swept_now : (b : Bool) → is_accepted_deed sweep_reply ≡ b → (t c : ℕ) → is_swept t c (h ++ sweep_entry ∷ []) ≡ (is_swept t c h || (b && ((t == s) && (c == a))))
   swept_now b q t c = swept_more t c h sweep_entry ∙ ap (λ b. is_swept t c h || (b && ((t == s) && (c == a)))) q
 
-  free_now : (b : Bool) → is_done sweep_reply ≡ b
+  free_now : (b : Bool) → is_accepted_deed sweep_reply ≡ b
       → free m (arc_chain m s a) (h ++ sweep_entry ∷ [])
       ≡ cond b (returned (free m (arc_chain m s a) h) (place m s a) (accounts (m.cast s).deal a (projection s a h))) (free m (arc_chain m s a) h)
   free_now b q =
@@ -191,7 +191,7 @@ module _ (m : Setup) (fair : Bool) (s a : ℕ) (h : List ChainEntry) where
   same_test t c (inr n) = ap (λ y. (t == s) && y) (not-true (c == a) (λ w. n (eqb-true c a w))) ∙ and-end (t == s)
 
   -- the slot counts for nothing more, and each other one for what it did
-  worth_now : is_done sweep_reply ≡ true → (t c : ℕ)
+  worth_now : is_accepted_deed sweep_reply ≡ true → (t c : ℕ)
       → worth m (arc_chain m s a) (h ++ sweep_entry ∷ []) t c
       ≡ put (worth m (arc_chain m s a) h) s (put (worth m (arc_chain m s a) h s) a 0) t c
   worth_now q t c = go (same_or_not t s) (same_or_not c a)
@@ -226,11 +226,11 @@ module _ (m : Setup) (fair : Bool) (s a : ℕ) (h : List ChainEntry) where
           old (same_test t c (inl n))
           ∙ sym (ap (λ f. f c) (put_other (worth m (arc_chain m s a) h) s (put (worth m (arc_chain m s a) h s) a 0) t n))
 
-  sweep_count : IsReady m → CanSweep m s a → IsLegal (m.cast s).deal a (projection s a h) → Count m (arc_chain m s a) h
+  sweep_count : IsReadySetup m → CanSweep m s a → IsLegal (m.cast s).deal a (projection s a h) → Count m (arc_chain m s a) h
       → Count m (arc_chain m s a) (h ++ sweep_entry ∷ [])
-  sweep_count ready can legal c = go (is_done sweep_reply) refl
+  sweep_count ready can legal c = go (is_accepted_deed sweep_reply) refl
     where
-      rows : is_done sweep_reply ≡ true → (nat_lt (chain_height h) (the_horizon (m.cast s).deal + 1) ≡ false) × (is_swept s a h ≡ false) ×
+      rows : is_accepted_deed sweep_reply ≡ true → (nat_lt (chain_height h) (the_horizon (m.cast s).deal + 1) ≡ false) × (is_swept s a h ≡ false) ×
           ((is_some (published (projection s a h)) && is_none (settled (projection s a h))) ≡ false)
       rows q =
           done_rows (nat_lt (chain_height h) (the_horizon (m.cast s).deal + 1)) (is_swept s a h)
@@ -240,7 +240,7 @@ module _ (m : Setup) (fair : Bool) (s a : ℕ) (h : List ChainEntry) where
       b : Accounts
       b = accounts (m.cast s).deal a (projection s a h)
 
-      was : is_done sweep_reply ≡ true → worth m (arc_chain m s a) h s a ≡ amount (m.cast s).deal a
+      was : is_accepted_deed sweep_reply ≡ true → worth m (arc_chain m s a) h s a ≡ amount (m.cast s).deal a
       was q =
           ap₂ (λ x y. cond x (cond y 0 (amount (m.cast s).deal a)) 0) (eq-eqb (arc_chain m s a) (arc_chain m s a) refl) (rows q).1
 
@@ -250,14 +250,14 @@ module _ (m : Setup) (fair : Bool) (s a : ℕ) (h : List ChainEntry) where
       end : (f g p q x y t u o : ℕ) → g ≡ (f + p) + q → (p + q) + u ≡ o → u ≡ 0 → t + y ≡ x + 0 → y ≡ o → g + t ≡ f + x
       end f g p q x y t u o e1 e2 e3 e4 e5 = omega arith
 
-      go : (d : Bool) → is_done sweep_reply ≡ d → Count m (arc_chain m s a) (h ++ sweep_entry ∷ [])
+      go : (d : Bool) → is_accepted_deed sweep_reply ≡ d → Count m (arc_chain m s a) (h ++ sweep_entry ∷ [])
       go false q =
           count_same m (arc_chain m s a) h (h ++ sweep_entry ∷ []) (free_now false q) (λ t c. swept_now false q t c ∙ or-end (is_swept t c h)) c
       go true q =
           end (in_accounts m (arc_chain m s a) (free m (arc_chain m s a) h)) (in_accounts m (arc_chain m s a) (free m (arc_chain m s a) (h ++ sweep_entry
           ∷ [])))
-          b.party b.counterparty (total m (worth m (arc_chain m s a) h)) (worth m (arc_chain m s a) h s a)
-          (total m (worth m (arc_chain m s a) (h ++ sweep_entry ∷ []))) (held (projection s a h)) (amount (m.cast s).deal a)
+          b.party b.counterparty (sum_over_arcs m (worth m (arc_chain m s a) h)) (worth m (arc_chain m s a) h s a)
+          (sum_over_arcs m (worth m (arc_chain m s a) (h ++ sweep_entry ∷ []))) (held (projection s a h)) (amount (m.cast s).deal a)
           (ap (in_accounts m (arc_chain m s a)) (free_now true q)
           ∙ (plus_sum (length (slice_index_or m.chains (arc_chain m s a) [])) (plus (free m (arc_chain m s a) h) (place m s a).from b.party) (place m s a).to
           b.counterparty (ready.to s a can.swap can.arc)
@@ -281,31 +281,31 @@ shown_legal m r z s a f g ls la =
     subst (IsLegal (m.cast s).deal a) (shown_at m r.chains s a la) (k.legal.legal a (subst (λ n. a < n) (sym (book_length m r.chains s)) la))
 
 -- a chain gets a history that is as sound as its own was
-sound_next : (m : Setup) (h : Chains) (i : ℕ) (new : List ChainEntry) → IsSound m h → AreSweptSlotsFinal new → (i < length m.chains → Count m i new)
-    → IsSound m (put h i new)
+sound_next : (m : Setup) (h : Chains) (i : ℕ) (new : List ChainEntry) → AreSoundChains m h → AreSweptSlotsFinal new → (i < length m.chains → Count m i new)
+    → AreSoundChains m (put h i new)
 sound_next m h i new k o c = record {
   over = put_each (λ j l. AreSweptSlotsFinal l) h i new o k.over;
   count = put_each (λ j l. j < length m.chains → Count m j l) h i new c k.count;
 }
 
-pub step_sound : (fair : Bool) (m : Setup) (r : Run) (z : Kept) (e : ManyEvent) → IsReady m → CanCome m e → Follows m r z → AreGood m z → IsSound m r.chains
-    → IsSound m (done fair m r e).chains
+pub step_sound : (fair : Bool) (m : Setup) (r : Run) (z : Kept) (e : ManyEvent) → IsReadySetup m → CanCome m e → Follows m r z → AreGood m z → AreSoundChains m r.chains
+    → AreSoundChains m (done fair m r e).chains
 step_sound fair m r z (Tick i k) ready can f g x = go (has_no_tick (chain_ticks (r.chains i)) (chain_height (r.chains i)) k)
   where
     go : (b : Bool)
-        → IsSound m (put r.chains i (entered (r.chains i) (record {
+        → AreSoundChains m (put r.chains i (entered (r.chains i) (record {
           height = chain_height (r.chains i) + k;
           deed = Ticked k;
           reply = cond b (Plain ClockFull) (Plain Accepted);
         })))
-    go true = subst (IsSound m) (sym (put_still r.chains i (r.chains i) refl)) x
+    go true = subst (AreSoundChains m) (sym (put_still r.chains i (r.chains i) refl)) x
     go false =
         sound_next m r.chains i (r.chains i ++ entry_tick k (r.chains i) ∷ []) x (over_after_tick k (r.chains i) (x.over i))
         (λ l. count_same m i (r.chains i) (r.chains i ++ entry_tick k (r.chains i) ∷ []) (free_more m i (r.chains i) (entry_tick k (r.chains i)))
         (λ s a. tick_swept s a k (r.chains i)) (x.count i l))
 step_sound fair m r z (In s e) ready can f g x = go (called (m.cast s) (swap_state m r s) e)
   where
-    go : (o : Option Called) → IsSound m (posted r.chains (option_map (post_call m r s) o))
+    go : (o : Option Called) → AreSoundChains m (posted r.chains (option_map (post_call m r s) o))
     go None = x
     go (Some c) =
         sound_next m r.chains (arc_chain m s c.arc)
@@ -328,13 +328,13 @@ step_sound fair m r z (Sweep s a) ready can f g x =
     (over_after_sweep fair (the_horizon (m.cast s).deal) s a (r.chains (arc_chain m s a)) (x.over (arc_chain m s a)))
     (λ l. sweep_count m fair s a (r.chains (arc_chain m s a)) ready can (shown_legal m r z s a f g can.swap can.arc) (x.count (arc_chain m s a) l))
 
-pub start_sound : (m : Setup) → IsReady m → IsSound m (many_start m).chains
+pub start_sound : (m : Setup) → IsReadySetup m → AreSoundChains m (many_start m).chains
 start_sound m ready = record { over = λ i s a e. absurd (cc e); count = λ i l. start_count m i ready }
 
-pub keeps_start : (m : Setup) → IsReady m → Keeps m (many_start m) (kept_start m)
+pub keeps_start : (m : Setup) → IsReadySetup m → Keeps m (many_start m) (kept_start m)
 keeps_start m ready = let x = start_follows m ready in record { follows = x.0; good = x.1; sound = start_sound m ready; timed = λ i. omega arith }
 
-pub keeps_step : (fair : Bool) (m : Setup) (r : Run) (z : Kept) (e : ManyEvent) → IsReady m → CanCome m e → Keeps m r z
+pub keeps_step : (fair : Bool) (m : Setup) (r : Run) (z : Kept) (e : ManyEvent) → IsReadySetup m → CanCome m e → Keeps m r z
     → Keeps m (done fair m r e) (kept_done fair m z e)
 keeps_step fair m r z e ready can k = record {
   follows = step_follows fair m r z e ready can k.follows k.good;
@@ -343,19 +343,19 @@ keeps_step fair m r z e ready can k = record {
   timed = step_timed fair m z e can k.timed;
 }
 
-keeps_from : (m : Setup) (events : List ManyEvent) (r : Run) (z : Kept) → IsReady m → All (CanCome m) events → Keeps m r z
+keeps_from : (m : Setup) (events : List ManyEvent) (r : Run) (z : Kept) → IsReadySetup m → All (CanCome m) events → Keeps m r z
     → Keeps m (fold (many_step m) r events) (fold (kept_step m) z events)
 keeps_from m [] r z ready all k = k
 keeps_from m (e ∷ events) r z ready all k =
     keeps_from m events (many_step m r e) (kept_step m z e) ready (λ k d l. all (suc k) d (omega arith))
     (keeps_step false m r z e ready (all 0 e (omega arith)) k)
 
-pub keeps_run : (m : Setup) (events : List ManyEvent) → IsReady m → All (CanCome m) events → Keeps m (many_run m events) (kept_run m events)
+pub keeps_run : (m : Setup) (events : List ManyEvent) → IsReadySetup m → All (CanCome m) events → Keeps m (many_run m events) (kept_run m events)
 keeps_run m events ready all = keeps_from m events (many_start m) (kept_start m) ready all (keeps_start m ready)
 
 -- where the units count, they are placed
 pub counted_is_placed : (m : Setup) (r : Run) (z : Kept) (i : ℕ) → i < length m.chains → Keeps m r z
-    → placed m i (r.chains i) ≡ in_accounts m i (opening m i)
+    → placed m i (r.chains i) ≡ in_accounts m i (opening_units m i)
 counted_is_placed m r z i l k =
     ap (λ n. in_accounts m i (free m i (r.chains i)) + n)
     (total_same m (in_slot m i (r.chains i)) (worth m i (r.chains i)) (λ s a ls la. one s a ls la (same_or_not (arc_chain m s a) i))) ∙ k.sound.count i l

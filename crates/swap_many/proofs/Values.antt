@@ -19,9 +19,9 @@ use Rattle.ledger_core.specs.History.{IsLegal}
 use Rattle.ledger_core.specs.Book.{history}
 use Rattle.swap_many.specs.Many.{Run, done}
 use Rattle.swap_many.specs.Kept.{Kept, Time, kept_done}
-use Rattle.swap_many.specs.Laws.{IsReady, CanCome, CanSweep}
+use Rattle.swap_many.specs.Laws.{IsReadySetup, CanCome, CanSweep}
 use Rattle.swap_many.specs.Sound.{Keeps}
-use Rattle.swap_many.specs.Value.{ManyState, no_world, no_chain, nth_world, nth_chain, swept_slots, world_setup, made_setup, kept_state, ContinueAll, AreAllHeld}
+use Rattle.swap_many.specs.Value.{ManyState, no_world, no_chain, nth_world, nth_chain, swept_slots, world_setup, made_setup, many_kept, ContinueAll, AreAllHeld}
 use Rattle.swap_many.specs.Value.{AreSame, HasManyGone}
 use Rattle.swap_many.specs.Inside.{AreWhole}
 use Rattle.swap_many.proofs.Projections.{put_same, put_other, put_each}
@@ -91,7 +91,7 @@ module _ (gives : MayGive) where
       → ((i : ℕ) → length (nth_chain new i).free ≡ length (nth_chain old i).free) → length new.swept ≡ length old.swept
       → ((s : ℕ) → length (swept_slots new s) ≡ length (swept_slots old s))
       → (new.stopped ≡ false → (s : ℕ) → s < length new.worlds → (nth_world new s).stopped ≡ false)
-      → (new.stopped ≡ false → (g : ℕ → Answers) → ContinueAll new g → (r : Run) × Keeps (made_setup new g) r (kept_state new))
+      → (new.stopped ≡ false → (g : ℕ → Answers) → ContinueAll new g → (r : Run) × Keeps (made_setup new g) r (many_kept new))
       → ((s : ℕ) → s < length new.worlds → IsKept (world_cast (nth_world new s)) (nth_world new s).state.book) → AreWhole new
   whole_next old new w same chains accounts swept slots on sound kept = record {
     few = subst (λ n. n ≤ 8) (sym same.swaps) w.few;
@@ -106,7 +106,7 @@ module _ (gives : MayGive) where
     chains = chains ∙ (w.chains ∙ ap length (sym same.openings));
     accounts = λ i. accounts i ∙ (w.accounts i ∙ ap (λ os. length (slice_index_or os i [])) (sym same.openings));
     units = λ i. subst (λ os. sum_by (λ u. u) (slice_index_or os i []) ≤ 10 ^ 18) (sym same.openings) (w.units i);
-    ready = λ g. subst IsReady (sym (same_setup old new g same)) (w.ready g);
+    ready = λ g. subst IsReadySetup (sym (same_setup old new g same)) (w.ready g);
     on = on;
     sound = sound;
     kept = kept;
@@ -115,13 +115,13 @@ module _ (gives : MayGive) where
   -- where f is a step
   pub sound_step : (old new : ManyState) (fair : Bool) (e : ManyEvent) → AreWhole old → old.stopped ≡ false
       → ((g : ℕ → Answers) → CanCome (made_setup old g) e) → HasManyGone gives (λ m z. kept_done fair m z e) old new
-      → (g : ℕ → Answers) → ContinueAll new g → (r : Run) × Keeps (made_setup new g) r (kept_state new)
+      → (g : ℕ → Answers) → ContinueAll new g → (r : Run) × Keeps (made_setup new g) r (many_kept new)
   sound_step old new fair e w on can k g c =
       let was = w.sound on g (continue_less old new g k.same c) in
       let m = made_setup old g in (
         done fair m was.0 e,
-        subst (λ (m : Setup). Keeps m (done fair (made_setup old g) was.0 e) (kept_state new)) (sym (same_setup old new g k.same))
-            (subst (Keeps m (done fair m was.0 e)) (sym (k.kept g c)) (keeps_step fair m was.0 (kept_state old) e (w.ready g) (can g) was.1)),
+        subst (λ (m : Setup). Keeps m (done fair (made_setup old g) was.0 e) (many_kept new)) (sym (same_setup old new g k.same))
+            (subst (Keeps m (done fair m was.0 e)) (sym (k.kept g c)) (keeps_step fair m was.0 (many_kept old) e (w.ready g) (can g) was.1)),
       )
 
 -- what may come doesn't hang on answers
@@ -157,9 +157,9 @@ module _ (w : ManyState) (s : ℕ) (x : WorldState) (b : Bool) (low : s < length
     openings = refl;
   }
 
-  pub world_kept : kept_state with_world ≡ record (kept_state w) { swaps = put (kept_state w).swaps s x.state }
+  pub world_kept : many_kept with_world ≡ record (many_kept w) { swaps = put (many_kept w).swaps s x.state }
   world_kept =
-      ap (λ (f : ℕ → State). let z : Kept = record (kept_state w) { swaps = f } in z)
+      ap (λ (f : ℕ → State). let z : Kept = record (many_kept w) { swaps = f } in z)
       (ap (λ (f : ℕ → WorldState). let h : ℕ → State = λ t. (f t).state in h) worlds_put ∙ put_map (λ (y : WorldState). y.state) (nth_world w) s x)
 
 -- A chain changes.
@@ -174,12 +174,12 @@ module _ (w : ManyState) (i : ℕ) (x : ChainState) (low : i < length w.chains) 
   pub each_chain : (P : ℕ → ChainState → Type 0) → P i x → ((j : ℕ) → P j (nth_chain w j)) → (j : ℕ) → P j (nth_chain with_chain j)
   each_chain P new old j = subst (P j) (sym (ap (λ (f : ℕ → ChainState). f j) chains_put)) (put_each P (nth_chain w) i x new old j)
 
-  pub chain_kept : kept_state with_chain ≡ record (kept_state w) {
-    clocks = put (kept_state w).clocks i x.clock;
-    free = put (kept_state w).free i (account_units x.free);
+  pub chain_kept : many_kept with_chain ≡ record (many_kept w) {
+    clocks = put (many_kept w).clocks i x.clock;
+    free = put (many_kept w).free i (account_units x.free);
   }
   chain_kept =
-      ap₂ (λ (c : ℕ → Time) (f : ℕ → Units). let z : Kept = record (kept_state w) { clocks = c; free = f } in z)
+      ap₂ (λ (c : ℕ → Time) (f : ℕ → Units). let z : Kept = record (many_kept w) { clocks = c; free = f } in z)
       (ap (λ (f : ℕ → ChainState). let h : ℕ → Time = λ j. (f j).clock in h) chains_put ∙ put_map (λ (y : ChainState). y.clock) (nth_chain w) i x)
       (ap (λ (f : ℕ → ChainState). let h : ℕ → Units = λ j. account_units (f j).free in h) chains_put ∙ put_map (λ (y : ChainState). account_units y.free)
       (nth_chain w) i x)

@@ -15,11 +15,11 @@ use Rattle.swap_many.specs.declared.many_event.ManyEvent.TheVariants.{Tick, In, 
 use Rattle.swap_many.specs.Chains.{Setup, slots}
 use Rattle.swap_many.specs.Many.{last_horizon, swap_looks, swap_turn, swap_turns, many_round, all_ended, round_or_rest}
 use Rattle.swap_many.specs.Kept.{Kept, kept_done, kept_finish}
-use Rattle.swap_many.specs.Laws.{IsReady, CanCome}
+use Rattle.swap_many.specs.Laws.{IsReadySetup, CanCome}
 use Rattle.swap_many.specs.Way.{Step, collect_kept, Leads, ManyFinishesAreSteps}
 use Rattle.swap_many.proofs.Finish.{slot_known}
 
-module _ (m : Setup) (ready : IsReady m) where
+module _ (m : Setup) (ready : IsReadySetup m) where
   abbrev Can : Step → Type 0
   Can x = CanCome m x.event
 

@@ -6,7 +6,7 @@ use Rattle.swap_many.specs.Accounts.{account_units}
 use Rattle.swap_many.specs.Chains.{Setup, book, free, chain_height}
 use Rattle.swap_many.specs.Many.{Run, done, many_run}
 use Rattle.swap_many.specs.Kept.{Kept, kept_finish, kept_run}
-use Rattle.swap_many.specs.Laws.{IsReady, CanCome, Follows}
+use Rattle.swap_many.specs.Laws.{IsReadySetup, CanCome, Follows}
 use Rattle.swap_many.specs.Way.{Step, collect_kept, Leads}
 use Rattle.swap_many.specs.Value.{ManyState, nth_world, nth_chain, AreUnitsPlaced}
 
@@ -30,7 +30,7 @@ pub record IsPlacedOnTheWay (m : Setup) (r : Run) (z : Kept) : Type 0 where
 
 abbrev pub UnitsStayPlaced : Type 0
 UnitsStayPlaced =
-    (m : Setup) (events : List ManyEvent) → IsReady m → All (CanCome m) events → IsPlacedOnTheWay m (many_run m events) (kept_run m events)
+    (m : Setup) (events : List ManyEvent) → IsReadySetup m → All (CanCome m) events → IsPlacedOnTheWay m (many_run m events) (kept_run m events)
 
 -- The books, the heights and the free accounts are those of a run that goes on from r by steps,
 -- after which all units are in one place.

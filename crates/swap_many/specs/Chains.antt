@@ -101,15 +101,15 @@ abbrev pub entry_if_plain : ManyReply → (Reply → Entry) → List Entry
 entry_if_plain (Plain r) f = f r ∷ []
 entry_if_plain _ f = []
 
-abbrev pub all_entries : (s a at : ℕ) → Deed → ManyReply → List Entry
-all_entries s a at (Ticked k) r = tick_entry k at (ledger_reply r) ∷ []
-all_entries s a at (Called t b p c) r = if (s == t) && (a == b) then entry_if_plain r (call_entry p at c) else []
-all_entries s a at (Paid from to units) r = []
-all_entries s a at (Emptied t b) r = []
+abbrev pub deed_arc_entries : (s a at : ℕ) → Deed → ManyReply → List Entry
+deed_arc_entries s a at (Ticked k) r = tick_entry k at (ledger_reply r) ∷ []
+deed_arc_entries s a at (Called t b p c) r = if (s == t) && (a == b) then entry_if_plain r (call_entry p at c) else []
+deed_arc_entries s a at (Paid from to units) r = []
+deed_arc_entries s a at (Emptied t b) r = []
 
 -- the history of the slot of arc a of swap s
 abbrev pub projection : (s a : ℕ) → List ChainEntry → List Entry
-projection s a h = flat_map (λ e. all_entries s a e.height e.deed e.reply) h
+projection s a h = flat_map (λ e. deed_arc_entries s a e.height e.deed e.reply) h
 
 abbrev pub Chains : Type 0
 Chains = ℕ → List ChainEntry
@@ -121,8 +121,8 @@ book m h s = map (λ a. projection s a (h (arc_chain m s a))) (arcs (m.cast s).d
 -- The accounts of a chain.
 
 -- the sum of f over every arc of every swap
-abbrev pub total : Setup → (ℕ → ℕ → ℕ) → ℕ
-total m f = sum_by (λ s. sum_by (f s) (arcs (m.cast s).deal.graph)) (range_with_len 0 m.swaps)
+abbrev pub sum_over_arcs : Setup → (ℕ → ℕ → ℕ) → ℕ
+sum_over_arcs m f = sum_by (λ s. sum_by (f s) (arcs (m.cast s).deal.graph)) (range_with_len 0 m.swaps)
 
 -- what account x of chain i pays for arc a of swap s
 abbrev pub slot_funding : Setup → (i x s a : ℕ) → ℕ
@@ -130,11 +130,11 @@ slot_funding m i x s a = if arc_chain m s a == i then (if x == (place m s a).fro
 
 -- what is set aside from account x of chain i
 abbrev pub set_aside : Setup → ℕ → ℕ → ℕ
-set_aside m i x = total m (slot_funding m i x)
+set_aside m i x = sum_over_arcs m (slot_funding m i x)
 
 -- the opening units of account x of chain i
-abbrev pub opening : Setup → ℕ → ℕ → ℕ
-opening m i x = slice_index_or (slice_index_or m.chains i []) x 0
+abbrev pub opening_units : Setup → ℕ → ℕ → ℕ
+opening_units m i x = slice_index_or (slice_index_or m.chains i []) x 0
 
 -- units of each account of a chain
 abbrev pub Units : Type 0
@@ -152,9 +152,9 @@ paid f from to units = plus (put f from (f from - units)) to units
 abbrev pub returned : Units → Place → Accounts → Units
 returned f at b = plus (plus f at.from b.party) at.to b.counterparty
 
-abbrev pub is_done : ManyReply → Bool
-is_done (Plain Accepted) = true
-is_done _ = false
+abbrev pub is_accepted_deed : ManyReply → Bool
+is_accepted_deed (Plain Accepted) = true
+is_accepted_deed _ = false
 
 -- what an accepted deed does to the free accounts of its chain
 abbrev pub freed_accounts : Setup → List ChainEntry → Deed → Units → Units
@@ -164,11 +164,11 @@ freed_accounts m past (Paid from to units) f = paid f from to units
 freed_accounts m past (Emptied s a) f = returned f (place m s a) (accounts (m.cast s).deal a (projection s a past))
 
 abbrev pub freed : Setup → Units → Moment ChainEntry → Units
-freed m f z = if is_done z.now.reply then freed_accounts m z.past z.now.deed f else f
+freed m f z = if is_accepted_deed z.now.reply then freed_accounts m z.past z.now.deed f else f
 
 -- what is free before anything is done on chain i
 abbrev pub first_free : Setup → ℕ → Units
-first_free m i x = opening m i x - set_aside m i x
+first_free m i x = opening_units m i x - set_aside m i x
 
 -- the free accounts of chain i
 abbrev pub free : Setup → ℕ → List ChainEntry → Units
@@ -182,7 +182,7 @@ empties s a _ = false
 
 -- the slot of arc a of swap s is swept
 abbrev pub is_swept : (s a : ℕ) → List ChainEntry → Bool
-is_swept s a h = list_any (λ e. is_done e.reply && empties s a e.deed) h
+is_swept s a h = list_any (λ e. is_accepted_deed e.reply && empties s a e.deed) h
 
 abbrev pub reply_to_call : Setup → List ChainEntry → (s a p : ℕ) → Call → ManyReply
 reply_to_call m h s a p c =
@@ -212,14 +212,14 @@ abbrev pub reply_to_sweep : (fair : Bool) → (horizon height : ℕ) → (swept 
 reply_to_sweep fair horizon height swept past = first_applying (sweep_rows fair horizon height swept past)
 
 -- a reply of a ledger that passes the test
-abbrev pub is_plain : (Reply → Bool) → ManyReply → Bool
-is_plain test (Plain r) = test r
-is_plain test _ = false
+abbrev pub is_plain_reply : (Reply → Bool) → ManyReply → Bool
+is_plain_reply test (Plain r) = test r
+is_plain_reply test _ = false
 
 -- the reply leaves no entry: to a tick where the clock is full, and to a call where the sender is
 abbrev pub leaves_none : Deed → ManyReply → Bool
-leaves_none (Ticked k) r = is_plain is_clock_full_reply r
-leaves_none (Called s a p c) r = is_plain is_sender_full r
+leaves_none (Ticked k) r = is_plain_reply is_clock_full_reply r
+leaves_none (Called s a p c) r = is_plain_reply is_sender_full r
 leaves_none (Paid from to units) r = false
 leaves_none (Emptied s a) r = false
 
@@ -245,4 +245,4 @@ in_slot m i h s a =
 
 -- the free accounts, the slots' balances that aren't swept and the held amounts of chain i
 abbrev pub placed : Setup → ℕ → List ChainEntry → ℕ
-placed m i h = in_accounts m i (free m i h) + total m (in_slot m i h)
+placed m i h = in_accounts m i (free m i h) + sum_over_arcs m (in_slot m i h)

@@ -32,11 +32,11 @@ kept_turn s m z v = swap_turn m (kept_done false m) (kept_done true m) high s z 
 abbrev pub kept_turns : Setup → Kept → ℕ → Kept
 kept_turns m z s = swap_turns m (kept_done false m) (kept_done true m) high z s
 
-abbrev pub entry_tick : Setup → Kept → ℕ → Kept
-entry_tick m z i = kept_done false m z (Tick i 1)
+abbrev pub kept_chain_tick : Setup → Kept → ℕ → Kept
+kept_chain_tick m z i = kept_done false m z (Tick i 1)
 
 abbrev pub kept_ticks : Setup → Kept → Kept
-kept_ticks m z = fold (entry_tick m) z (range_with_len 0 (length m.chains))
+kept_ticks m z = fold (kept_chain_tick m) z (range_with_len 0 (length m.chains))
 
 abbrev pub kept_round : Setup → Kept → Kept
 kept_round m z = many_round m (kept_done false m) (kept_done true m) high z

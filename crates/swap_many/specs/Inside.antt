@@ -8,9 +8,9 @@ use Rattle.swap_many.specs.declared.place.Place.{Place}
 use Rattle.swap_many.specs.declared.worlds.Worlds.TheInside.{Inside}
 use Rattle.swap_many.specs.Chains.{nowhere}
 use Rattle.swap_many.specs.Many.{Run}
-use Rattle.swap_many.specs.Laws.{IsReady}
+use Rattle.swap_many.specs.Laws.{IsReadySetup}
 use Rattle.swap_many.specs.Sound.{Keeps}
-use Rattle.swap_many.specs.Value.{ManyState, nth_world, nth_chain, swept_slots, made_setup, kept_state, ContinueAll}
+use Rattle.swap_many.specs.Value.{ManyState, nth_world, nth_chain, swept_slots, made_setup, many_kept, ContinueAll}
 
 abbrev pub inside_worlds : Inside → ManyState
 inside_worlds w = record {
@@ -42,12 +42,12 @@ pub record AreWhole (w : ManyState) : Type 0 where
   pub chains : length w.chains ≡ length w.openings
   pub accounts : (i : ℕ) → length (nth_chain w i).free ≡ length (slice_index_or w.openings i [])
   pub units : (i : ℕ) → sum_by (λ u. u) (slice_index_or w.openings i []) ≤ 10 ^ 18
-  pub ready : (g : ℕ → Answers) → IsReady (made_setup w g)
+  pub ready : (g : ℕ → Answers) → IsReadySetup (made_setup w g)
   pub on : w.stopped ≡ false → (s : ℕ) → s < length w.worlds → (nth_world w s).stopped ≡ false
-  pub sound : w.stopped ≡ false → (g : ℕ → Answers) → ContinueAll w g → (r : Run) × Keeps (made_setup w g) r (kept_state w)
+  pub sound : w.stopped ≡ false → (g : ℕ → Answers) → ContinueAll w g → (r : Run) × Keeps (made_setup w g) r (many_kept w)
   pub kept : (s : ℕ) → s < length w.worlds → IsKept (world_cast (nth_world w s)) (nth_world w s).state.book
 
-pub record Holds (w : Inside) : Type 0 where
+pub record WorldsHold (w : Inside) : Type 0 where
   pub whole : AreWhole (inside_worlds w)
   -- the arcs that stand on each chain are looked up
   pub on : w.on ≡ standing (length w.openings.items) w.places

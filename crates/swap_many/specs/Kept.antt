@@ -12,7 +12,7 @@ use Rattle.swap_many.specs.declared.many_event.ManyEvent.TheVariants.{Tick, In, 
 use Rattle.swap_many.specs.declared.many_reply.ManyReply.{ManyReply}
 use Rattle.swap_many.specs.declared.many_reply.ManyReply.TheVariants.{Plain, Swept}
 use Rattle.swap_run.specs.Called.{Called, called, is_barred, apply_step}
-use Rattle.swap_many.specs.Chains.{Setup, arc_chain, place, put, Units, first_free, paid, returned, has_no_tick, is_done, chain_tick_reply}
+use Rattle.swap_many.specs.Chains.{Setup, arc_chain, place, put, Units, first_free, paid, returned, has_no_tick, is_accepted_deed, chain_tick_reply}
 use Rattle.swap_many.specs.Chains.{reply_to_payment, reply_to_sweep}
 use Rattle.swap_many.specs.Many.{swept_finish}
 
@@ -48,11 +48,11 @@ kept_tick m z i k =
 -- Events of a swap.
 
 -- the call is answered before its ledger's rows
-abbrev pub is_passed : Kept → ℕ → Called → Bool
-is_passed z s x = is_barred (z.swept s x.arc) (history (z.swaps s).book x.arc) x.call
+abbrev pub is_barred_call : Kept → ℕ → Called → Bool
+is_barred_call z s x = is_barred (z.swept s x.arc) (history (z.swaps s).book x.arc) x.call
 
 abbrev pub answer_call : Setup → Kept → ℕ → Called → ManyReply
-answer_call m z s x = if is_passed z s x then Swept else Plain (history_reply (m.cast s).deal x.arc (history (z.swaps s).book x.arc) x.sender x.call)
+answer_call m z s x = if is_barred_call z s x then Swept else Plain (history_reply (m.cast s).deal x.arc (history (z.swaps s).book x.arc) x.sender x.call)
 
 -- Ticks, payments and sweeps.
 
@@ -80,8 +80,8 @@ abbrev pub kept_done : (fair : Bool) → Setup → Kept → ManyEvent → Kept
 kept_done fair m z (Tick i k) = kept_tick m z i k
 kept_done fair m z (In s e) = record z { swaps = put z.swaps s (apply_step (z.swept s) (m.cast s) (z.swaps s) e) }
 kept_done fair m z (Pay i from to units) =
-    if is_done (answer_payment z i from units) then record z { free = put z.free i (paid (z.free i) from to units) } else z
-kept_done fair m z (Sweep s a) = if is_done (answer_sweep fair m z s a) then kept_sweep m z s a else z
+    if is_accepted_deed (answer_payment z i from units) then record z { free = put z.free i (paid (z.free i) from to units) } else z
+kept_done fair m z (Sweep s a) = if is_accepted_deed (answer_sweep fair m z s a) then kept_sweep m z s a else z
 
 abbrev pub kept_step : Setup → Kept → ManyEvent → Kept
 kept_step m z e = kept_done false m z e

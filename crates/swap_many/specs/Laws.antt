@@ -17,19 +17,19 @@ use Rattle.swap_many.specs.declared.many_event.ManyEvent.TheVariants.{Tick, In, 
 use Rattle.swap_many.specs.declared.many_reply.ManyReply.TheVariants.{Plain}
 use Rattle.swap_run.specs.Called.{swept_turns}
 use Rattle.swap_run.specs.CalledLaws.{is_no_tick}
-use Rattle.swap_many.specs.Chains.{Setup, place, arc_chain, put, ChainEntry, projection, has_no_tick, chain_height, chain_ticks, book, free, opening}
+use Rattle.swap_many.specs.Chains.{Setup, place, arc_chain, put, ChainEntry, projection, has_no_tick, chain_height, chain_ticks, book, free, opening_units}
 use Rattle.swap_many.specs.Chains.{set_aside, is_swept, reply_to_call}
 use Rattle.swap_many.specs.Chains.{in_accounts, placed}
 use Rattle.swap_many.specs.Many.{Run, swap_state, done, many_reply, many_start, many_run, many_finish, swap_turns}
 use Rattle.swap_many.specs.Kept.{Kept, kept_done, kept_reply, kept_start, kept_run, kept_finish}
 
 -- What runs is ready: who takes part, the places of the arcs, and what is set aside.
-pub record IsReady (m : Setup) : Type 0 where
+pub record IsReadySetup (m : Setup) : Type 0 where
   pub casts : (s : ℕ) → s < m.swaps → IsReadyCast (m.cast s)
   pub chain : (s a : ℕ) → s < m.swaps → a < length (m.cast s).deal.graph.arcs → arc_chain m s a < length m.chains
   pub from : (s a : ℕ) → s < m.swaps → a < length (m.cast s).deal.graph.arcs → (place m s a).from < length (slice_index_or m.chains (arc_chain m s a) [])
   pub to : (s a : ℕ) → s < m.swaps → a < length (m.cast s).deal.graph.arcs → (place m s a).to < length (slice_index_or m.chains (arc_chain m s a) [])
-  pub covered : (i x : ℕ) → set_aside m i x ≤ opening m i x
+  pub covered : (i x : ℕ) → set_aside m i x ≤ opening_units m i x
 
 -- A chain may tick by k.
 pub record CanTickChain (m : Setup) (i k : ℕ) : Type 0 where
@@ -74,29 +74,29 @@ abbrev pub AreGood : Setup → Kept → Type 0
 AreGood m z = (s : ℕ) → s < m.swaps → IsGood (m.cast s) (z.swaps s)
 
 abbrev pub StartFollows : Type 0
-StartFollows = (m : Setup) → IsReady m → Follows m (many_start m) (kept_start m) × AreGood m (kept_start m)
+StartFollows = (m : Setup) → IsReadySetup m → Follows m (many_start m) (kept_start m) × AreGood m (kept_start m)
 
 abbrev pub StepsFollow : Type 0
 StepsFollow =
-    (fair : Bool) (m : Setup) (r : Run) (z : Kept) (e : ManyEvent) → IsReady m → CanCome m e → Follows m r z → AreGood m z
+    (fair : Bool) (m : Setup) (r : Run) (z : Kept) (e : ManyEvent) → IsReadySetup m → CanCome m e → Follows m r z → AreGood m z
     → Follows m (done fair m r e) (kept_done fair m z e) × AreGood m (kept_done fair m z e)
 
 -- the reply is that of the chains' histories
 abbrev pub RepliesFollow : Type 0
 RepliesFollow =
-    (m : Setup) (r : Run) (z : Kept) (e : ManyEvent) → IsReady m → CanCome m e → Follows m r z → AreGood m z
+    (m : Setup) (r : Run) (z : Kept) (e : ManyEvent) → IsReadySetup m → CanCome m e → Follows m r z → AreGood m z
     → kept_reply false m z e ≡ many_reply m r e
 
 -- after every list of events: what is kept is what the chains' histories give
 abbrev pub RunsFollow : Type 0
 RunsFollow =
-    (m : Setup) (events : List ManyEvent) → IsReady m → All (CanCome m) events
+    (m : Setup) (events : List ManyEvent) → IsReadySetup m → All (CanCome m) events
     → Follows m (many_run m events) (kept_run m events) × AreGood m (kept_run m events)
 
 -- and each swap's book by the chains' histories is legal, and its conforming parties are conducted
 abbrev pub BooksAreKept : Type 0
 BooksAreKept =
-    (m : Setup) (events : List ManyEvent) (s : ℕ) → IsReady m → All (CanCome m) events → s < m.swaps
+    (m : Setup) (events : List ManyEvent) (s : ℕ) → IsReadySetup m → All (CanCome m) events → s < m.swaps
     → IsKept (m.cast s) (book m (many_run m events).chains s)
 
 -- Chains and slots.
@@ -112,13 +112,13 @@ SlotsShowTheClock =
 -- on every chain, after every list of events, all units are in one place
 abbrev pub UnitsArePlaced : Type 0
 UnitsArePlaced =
-    (m : Setup) (events : List ManyEvent) (i : ℕ) → IsReady m → All (CanCome m) events → i < length m.chains
-    → placed m i ((many_run m events).chains i) ≡ in_accounts m i (opening m i)
+    (m : Setup) (events : List ManyEvent) (i : ℕ) → IsReadySetup m → All (CanCome m) events → i < length m.chains
+    → placed m i ((many_run m events).chains i) ≡ in_accounts m i (opening_units m i)
 
 -- on a swept slot a call that its ledger answers is refused
 abbrev pub SweptAcceptNothing : Type 0
 SweptAcceptNothing =
-    (m : Setup) (events : List ManyEvent) (s a p : ℕ) (c : Call) → IsReady m → All (CanCome m) events → s < m.swaps
+    (m : Setup) (events : List ManyEvent) (s a p : ℕ) (c : Call) → IsReadySetup m → All (CanCome m) events → s < m.swaps
     → a < length (m.cast s).deal.graph.arcs → is_swept s a ((many_run m events).chains (arc_chain m s a)) ≡ true
     → reply_to_call m ((many_run m events).chains (arc_chain m s a)) s a p c ≢ Plain Accepted
 
@@ -130,11 +130,11 @@ pub record IsManyFinished (m : Setup) (r : Run) (z : Kept) : Type 0 where
   pub follows : Follows m r z
   pub ended : (s : ℕ) → s < m.swaps → IsEnded (m.cast s).deal (book m r.chains s)
   pub kept : (s : ℕ) → s < m.swaps → IsKept (m.cast s) (book m r.chains s)
-  pub units : (i : ℕ) → i < length m.chains → placed m i (r.chains i) ≡ in_accounts m i (opening m i)
+  pub units : (i : ℕ) → i < length m.chains → placed m i (r.chains i) ≡ in_accounts m i (opening_units m i)
 
 abbrev pub ManyFinishesEnd : Type 0
 ManyFinishesEnd =
-    (m : Setup) (events : List ManyEvent) → IsReady m → All (CanCome m) events
+    (m : Setup) (events : List ManyEvent) → IsReadySetup m → All (CanCome m) events
     → IsManyFinished m (many_finish m (many_run m events)) (kept_finish m (kept_run m events))
 
 -- What a program over the worlds of the swaps stands on.
@@ -149,12 +149,12 @@ TurnsStayInSwap =
 -- what a sweep gives back fits: with the free accounts it is no more than the chain's opening units
 abbrev pub SweepsFit : Type 0
 SweepsFit =
-    (m : Setup) (events : List ManyEvent) (s a : ℕ) → IsReady m → All (CanCome m) events → CanSweep m s a
+    (m : Setup) (events : List ManyEvent) (s a : ℕ) → IsReadySetup m → All (CanCome m) events → CanSweep m s a
     → is_swept s a ((many_run m events).chains (arc_chain m s a)) ≡ false
     → in_accounts m (arc_chain m s a) (free m (arc_chain m s a) ((many_run m events).chains (arc_chain m s a)))
     + (accounts (m.cast s).deal a (projection s a ((many_run m events).chains (arc_chain m s a)))).party
     + (accounts (m.cast s).deal a (projection s a ((many_run m events).chains (arc_chain m s a)))).counterparty
-    ≤ in_accounts m (arc_chain m s a) (opening m (arc_chain m s a))
+    ≤ in_accounts m (arc_chain m s a) (opening_units m (arc_chain m s a))
 
 -- Each swap by the laws over books.
 
@@ -162,7 +162,7 @@ SweepsFit =
 -- has its refunds, and where none stands in its name it isn't underwater
 abbrev pub EverySwapIsSafe : Type 0
 EverySwapIsSafe =
-    (m : Setup) (events : List ManyEvent) (s v : ℕ) → IsReady m → All (CanCome m) events → s < m.swaps → v < (m.cast s).deal.graph.n
+    (m : Setup) (events : List ManyEvent) (s v : ℕ) → IsReadySetup m → All (CanCome m) events → s < m.swaps → v < (m.cast s).deal.graph.n
     → conforms (m.cast s) v ≡ true
     → list_any (is_against_party v) (findings (m.cast s).deal (conforms (m.cast s)) (book m (many_finish m (many_run m events)).chains s)) ≡ false
     → (list_any (names_party (m.cast s).deal v)
@@ -174,7 +174,7 @@ EverySwapIsSafe =
 -- time and every outcome is the whole deal
 abbrev pub EverySwapIsTransferred : Type 0
 EverySwapIsTransferred =
-    (m : Setup) (events : List ManyEvent) (s : ℕ) (ready : IsReady m) → All (CanCome m) events → (low : s < m.swaps)
+    (m : Setup) (events : List ManyEvent) (s : ℕ) (ready : IsReadySetup m) → All (CanCome m) events → (low : s < m.swaps)
     → ((v : ℕ) → v < (m.cast s).deal.graph.n → conforms (m.cast s) v ≡ true)
     → findings (m.cast s).deal (conforms (m.cast s)) (book m (many_finish m (many_run m events)).chains s) ≡ []
     → IsTransferred (m.cast s).deal (book m (many_finish m (many_run m events)).chains s) (ready.casts s low).accepted
@@ -183,5 +183,5 @@ EverySwapIsTransferred =
 -- the swap, and every outcome is the whole deal
 abbrev pub EveryFairSwapIsDealt : Type 0
 EveryFairSwapIsDealt =
-    (m : Setup) (s : ℕ) → IsReady m → s < m.swaps → ((v : ℕ) → v < (m.cast s).deal.graph.n → conforms (m.cast s) v ≡ true)
+    (m : Setup) (s : ℕ) → IsReadySetup m → s < m.swaps → ((v : ℕ) → v < (m.cast s).deal.graph.n → conforms (m.cast s) v ≡ true)
     → IsDealt (m.cast s).deal (conforms (m.cast s)) (book m (many_finish m (many_start m)).chains s)

@@ -3,11 +3,11 @@ use Rattle.std.specs.Prelude.{◌≡◌, ℕ, ◌<◌, ◌≤◌, nat_lt, [], le
 use Rattle.std.specs.List.{range_with_len}
 use Rattle.swap_base.specs.Lists.{first_given_answer}
 use Rattle.swap_many.specs.declared.overdrawn.Overdrawn.{Overdrawn}
-use Rattle.swap_many.specs.Chains.{Setup, place, arc_chain, opening, set_aside}
+use Rattle.swap_many.specs.Chains.{Setup, place, arc_chain, opening_units, set_aside}
 
 abbrev pub account_lack : Setup → (i x : ℕ) → Option Overdrawn
 account_lack m i x =
-    if nat_lt (opening m i x) (set_aside m i x) then Some (record { chain = i; account = x; have = opening m i x; wanted = set_aside m i x }) else None
+    if nat_lt (opening_units m i x) (set_aside m i x) then Some (record { chain = i; account = x; have = opening_units m i x; wanted = set_aside m i x }) else None
 
 -- the least account of chain i that lacks units, where there is one
 abbrev pub chain_lack : Setup → ℕ → Option Overdrawn
@@ -25,4 +25,4 @@ pub record ArePlaces (m : Setup) : Type 0 where
 
 -- where no account lacks units, every one has what is set aside from it
 abbrev pub NoLackIsCovered : Type 0
-NoLackIsCovered = (m : Setup) → ArePlaces m → overdrawn m ≡ None → (i x : ℕ) → set_aside m i x ≤ opening m i x
+NoLackIsCovered = (m : Setup) → ArePlaces m → overdrawn m ≡ None → (i x : ℕ) → set_aside m i x ≤ opening_units m i x

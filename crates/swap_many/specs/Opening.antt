@@ -15,7 +15,7 @@ use Rattle.swap_many.specs.Ticking.{nth}
 use Rattle.swap_many.specs.Value.{ManyState}
 
 -- A world before any event.
-pub record IsNew (w : WorldState) : Type 0 where
+pub record IsNewWorld (w : WorldState) : Type 0 where
   pub state : w.state ≡ start (world_cast w)
   pub goes_on : w.stopped ≡ false
 
@@ -36,7 +36,7 @@ pub record AreOpenable (chains : List (List ℕ)) (ws : List WorldState) (places
   pub few_chains : length chains ≤ 32
   pub accounts : (i : ℕ) → length (slice_index_or chains i []) ≤ 64
   pub units : (i : ℕ) → sum_by (λ u. u) (slice_index_or chains i []) ≤ 10 ^ 18
-  pub new : (s : ℕ) → s < length ws → IsNew (nth ws s)
+  pub new : (s : ℕ) → s < length ws → IsNewWorld (nth ws s)
   pub placed : AreWorldPlaces ws places
   pub known : (s a : ℕ) → s < length ws → a < length (nth ws s).deal.graph.arcs → IsChainPlace chains (slice_index_or (slice_index_or places s []) a nowhere)
 

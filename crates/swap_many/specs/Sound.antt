@@ -4,7 +4,7 @@ use Rattle.std.specs.Prelude.{◌≡◌, ◌⊎◌, ℕ, ◌+◌, ◌==◌, ◌<
 use Rattle.swap_digraph.specs.Deal.{amount}
 use Rattle.ledger_core.specs.declared.entry.Entry.{Entry}
 use Rattle.ledger_core.specs.History.{published, settled}
-use Rattle.swap_many.specs.Chains.{Setup, arc_chain, opening, ChainEntry, projection, Chains, total, free, is_swept, in_accounts}
+use Rattle.swap_many.specs.Chains.{Setup, arc_chain, opening_units, ChainEntry, projection, Chains, sum_over_arcs, free, is_swept, in_accounts}
 use Rattle.swap_many.specs.Many.{Run}
 use Rattle.swap_many.specs.Kept.{Kept}
 use Rattle.swap_many.specs.Laws.{Follows, AreGood}
@@ -23,20 +23,20 @@ worth m i h s a = if arc_chain m s a == i then (if is_swept s a h then 0 else am
 
 -- what is free and what the slots count for are the opening units
 abbrev pub Count : Setup → ℕ → List ChainEntry → Type 0
-Count m i h = in_accounts m i (free m i h) + total m (worth m i h) ≡ in_accounts m i (opening m i)
+Count m i h = in_accounts m i (free m i h) + sum_over_arcs m (worth m i h) ≡ in_accounts m i (opening_units m i)
 
 -- What every chain keeps: what is swept is over, and its units add up.
-pub record IsSound (m : Setup) (h : Chains) : Type 0 where
+pub record AreSoundChains (m : Setup) (h : Chains) : Type 0 where
   pub over : (i : ℕ) → AreSweptSlotsFinal (h i)
   pub count : (i : ℕ) → i < length m.chains → Count m i (h i)
 
 -- no chain ticked more often than it is high
-abbrev pub IsTimed : Kept → Type 0
-IsTimed z = (i : ℕ) → (z.clocks i).ticks ≤ (z.clocks i).height
+abbrev pub AreTicksBelowHeights : Kept → Type 0
+AreTicksBelowHeights z = (i : ℕ) → (z.clocks i).ticks ≤ (z.clocks i).height
 
 -- What is kept is what a run keeps, and all its chains and swaps are sound.
 pub record Keeps (m : Setup) (r : Run) (z : Kept) : Type 0 where
   pub follows : Follows m r z
   pub good : AreGood m z
-  pub sound : IsSound m r.chains
-  pub timed : IsTimed z
+  pub sound : AreSoundChains m r.chains
+  pub timed : AreTicksBelowHeights z

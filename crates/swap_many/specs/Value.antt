@@ -9,10 +9,10 @@ use Rattle.swap_world.specs.Gone.{MayGive, HasAsked}
 use Rattle.swap_world.specs.Actors.{AreHeld}
 use Rattle.swap_many.specs.declared.place.Place.{Place}
 use Rattle.swap_many.specs.Accounts.{ChainState, account_units}
-use Rattle.swap_many.specs.Chains.{Setup, in_accounts, opening, placed}
+use Rattle.swap_many.specs.Chains.{Setup, in_accounts, opening_units, placed}
 use Rattle.swap_many.specs.Many.{Run}
 use Rattle.swap_many.specs.Kept.{Kept}
-use Rattle.swap_many.specs.Laws.{IsReady}
+use Rattle.swap_many.specs.Laws.{IsReadySetup}
 use Rattle.swap_many.specs.Way.{Leads}
 use Rattle.swap_many.specs.Stages.{Stage, staged_run}
 
@@ -31,8 +31,8 @@ pub record ManyState : Type 0 where
   -- memory ran out in an earlier step
   pub stopped : Bool
 
-abbrev pub no_deal : Deal
-no_deal = record {
+abbrev pub blank_deal : Deal
+blank_deal = record {
   version = One;
   graph = record { n = 0; arcs = [] };
   leaders = [];
@@ -49,7 +49,7 @@ no_deal = record {
 
 abbrev pub no_world : WorldState
 no_world = record {
-  deal = no_deal;
+  deal = blank_deal;
   conforming = [];
   seeds = [];
   roles = [];
@@ -82,8 +82,8 @@ abbrev pub made_setup : ManyState → (ℕ → Answers) → Setup
 made_setup w g = record { swaps = length w.worlds; cast = λ s. answering_cast (nth_world w s) (g s); places = w.places; chains = w.openings }
 
 -- what is kept
-abbrev pub kept_state : ManyState → Kept
-kept_state w = record {
+abbrev pub many_kept : ManyState → Kept
+many_kept w = record {
   swaps = λ s. (nth_world w s).state;
   clocks = λ i. (nth_chain w i).clock;
   free = λ i. account_units (nth_chain w i).free;
@@ -96,7 +96,7 @@ world_run w g = staged_run (made_setup w g) w.stages
 
 -- on each chain all units are in one place
 abbrev pub AreUnitsPlaced : Setup → Run → Type 0
-AreUnitsPlaced m r = (i : ℕ) → i < length m.chains → placed m i (r.chains i) ≡ in_accounts m i (opening m i)
+AreUnitsPlaced m r = (i : ℕ) → i < length m.chains → placed m i (r.chains i) ≡ in_accounts m i (opening_units m i)
 
 -- the answers of each swap's strategies begin with those so far
 abbrev pub ContinueAll : ManyState → (ℕ → Answers) → Type 0
@@ -108,7 +108,7 @@ AreAllHeld holds w = (s : ℕ) → s < length w.worlds → AreHeld holds (nth_wo
 
 -- all is ready, whatever is answered
 abbrev pub AreReady : ManyState → Type 0
-AreReady w = (g : ℕ → Answers) → IsReady (made_setup w g)
+AreReady w = (g : ℕ → Answers) → IsReadySetup (made_setup w g)
 
 -- A fair finish may go on: memory never ran out, all is ready, and each strategy is held.
 pub record CanContinue (holds : List ℕ → Bool) (w : ManyState) : Type 0 where
@@ -133,11 +133,11 @@ pub record AreSame (gives : MayGive) (old new : ManyState) : Type 0 where
 pub record HasManyGone (gives : MayGive) (f : Setup → Kept → Kept) (old new : ManyState) : Type 0 where
   pub same : AreSame gives old new
   pub goes_on : new.stopped ≡ old.stopped
-  pub kept : (g : ℕ → Answers) → ContinueAll new g → kept_state new ≡ f (made_setup old g) (kept_state old)
+  pub kept : (g : ℕ → Answers) → ContinueAll new g → many_kept new ≡ f (made_setup old g) (many_kept old)
 
 -- The books, the heights and the free accounts are those of a state between z and t, which steps
 -- lead to and from.
-pub record IsBetween (m : Setup) (z t : Kept) (w : ManyState) : Type 0 where
+pub record IsIntermediateState (m : Setup) (z t : Kept) (w : ManyState) : Type 0 where
   pub there : Kept
   pub before : Leads m z there
   pub after : Leads m there t
@@ -149,4 +149,4 @@ pub record IsBetween (m : Setup) (z t : Kept) (w : ManyState) : Type 0 where
 pub record IsManyStopped (gives : MayGive) (f : Setup → Kept → Kept) (old new : ManyState) : Type 0 where
   pub stopped : new.stopped ≡ true
   pub same : AreSame gives old new
-  pub way : (g : ℕ → Answers) → ContinueAll new g → IsBetween (made_setup old g) (kept_state old) (f (made_setup old g) (kept_state old)) new
+  pub way : (g : ℕ → Answers) → ContinueAll new g → IsIntermediateState (made_setup old g) (many_kept old) (f (made_setup old g) (many_kept old)) new

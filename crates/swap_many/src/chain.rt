@@ -2,7 +2,7 @@
 
 ghost use Rattle.std.specs.Prelude.{◌≡◌, ◌≤◌, ◌<◌, ◌+◌, ◌^◌, IsTrue, length, sum_by, false};
 ghost use Rattle.swap_many.specs.Accounts.{ChainState, account_units};
-ghost use Rattle.swap_many.specs.Chains.{has_no_tick, is_done, paid, plus, reply_to_payment, chain_tick_reply};
+ghost use Rattle.swap_many.specs.Chains.{has_no_tick, is_accepted_deed, paid, plus, reply_to_payment, chain_tick_reply};
 ghost use Rattle.swap_many.specs.Kept.{later};
 
 use crate::many_reply::ManyReply;
@@ -22,11 +22,11 @@ impl Model for Chain {
 
     ghost Value = { ChainState };
 
-    ghost use Rattle.swap_many.specs.Accounts.{inside_chain, IsSafe};
+    ghost use Rattle.swap_many.specs.Accounts.{inside_chain, IsSafeChain};
 
     ghost view = { inside_chain };
 
-    ghost invariant = { IsSafe };
+    ghost invariant = { IsSafeChain };
 }
 
 impl Chain {
@@ -78,8 +78,8 @@ impl Chain {
         requires from { from < length self.old.free }
         requires to { to < length self.old.free }
         ensures reply { result ≡ reply_to_payment (account_units self.old.free from) units }
-        ensures refused { is_done (reply_to_payment (account_units self.old.free from) units) ≡ false → self.new ≡ self.old }
-        ensures paid { IsTrue (is_done (reply_to_payment (account_units self.old.free from) units))
+        ensures refused { is_accepted_deed (reply_to_payment (account_units self.old.free from) units) ≡ false → self.new ≡ self.old }
+        ensures paid { IsTrue (is_accepted_deed (reply_to_payment (account_units self.old.free from) units))
             → account_units self.new.free ≡ paid (account_units self.old.free) from to units }
         ensures clock { self.new.clock ≡ self.old.clock }
         ensures count { length self.new.free ≡ length self.old.free }

@@ -10,7 +10,7 @@ ghost use Rattle.swap_many.specs.Fair.{have_ended, kept_swap_sweeps};
 ghost use Rattle.swap_many.specs.Kept.{kept_finish};
 ghost use Rattle.swap_many.specs.Many.{last_horizon};
 ghost use Rattle.swap_many.specs.Near.{AreNear, swap_adjacent_arcs};
-ghost use Rattle.swap_many.specs.Value.{HasManyGone, IsManyStopped, CanContinue, IsSwapParty, kept_state, world_setup, nth_world};
+ghost use Rattle.swap_many.specs.Value.{HasManyGone, IsManyStopped, CanContinue, IsSwapParty, many_kept, world_setup, nth_world};
 
 use crate::worlds::Worlds;
 use deviators::Strategies;
@@ -150,7 +150,7 @@ fn round<A: Strategies>(
 /// Whether each chain is above that height.
 fn have_ended(worlds: &Worlds, horizon: u64) -> bool
     requires { horizon ≡ last_horizon (world_setup worlds.now) }
-    ensures { result ≡ have_ended (world_setup worlds.now) (kept_state worlds.now) }
+    ensures { result ≡ have_ended (world_setup worlds.now) (many_kept worlds.now) }
 {
     'each: for chain in 0..worlds.chains() {
         if worlds.height(chain) as u64 <= horizon {
@@ -183,7 +183,7 @@ fn advance<A: Strategies>(
 ) -> Result<u64, NoMemory>
     requires near { AreNear near.now worlds.old.worlds }
     requires horizon { horizon ≡ last_horizon (world_setup worlds.old) }
-    requires low { have_ended (world_setup worlds.old) (kept_state worlds.old) ≡ false }
+    requires low { have_ended (world_setup worlds.old) (many_kept worlds.old) ≡ false }
     requires some { 1 ≤ most }
     requires on { CanContinue (A.holds staff.now) worlds.old }
     ensures ok { IfOk result (λ n. HasManyGone (A.gives staff.now) (λ m z. repeat n (kept_round_or_rest m) z) worlds.old worlds.new) }

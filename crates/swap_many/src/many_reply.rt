@@ -1,7 +1,7 @@
 //! What a chain replies.
 
 ghost use Rattle.std.specs.Prelude.{◌≡◌};
-ghost use Rattle.swap_many.specs.Chains.{is_done};
+ghost use Rattle.swap_many.specs.Chains.{is_accepted_deed};
 
 use escrow_core::Reply;
 
@@ -23,7 +23,7 @@ pub enum ManyReply {
 impl ManyReply {
     /// Whether nothing was refused.
     pub fn is_accepted(&self) -> bool
-        ensures { result ≡ is_done self.now }
+        ensures { result ≡ is_accepted_deed self.now }
     {
         match self {
             ManyReply::Plain(Reply::Accepted) => true,

@@ -14,7 +14,7 @@ ghost use Rattle.swap_many.specs.Many.{many_reply};
 ghost use Rattle.swap_many.specs.Opening.{AreOpenable, opened};
 ghost use Rattle.swap_many.specs.Stages.{Came, Finished};
 ghost use Rattle.swap_many.specs.Along.{IsCutRun};
-ghost use Rattle.swap_many.specs.Value.{AreAllHeld, ContinueAll, HasManyGone, IsManyStopped, AreUnitsPlaced, nth_chain, kept_state, world_run, made_setup, world_setup};
+ghost use Rattle.swap_many.specs.Value.{AreAllHeld, ContinueAll, HasManyGone, IsManyStopped, AreUnitsPlaced, nth_chain, many_kept, world_run, made_setup, world_setup};
 ghost use Rattle.swap_many.specs.Value.{nth_world};
 
 use crate::fair;
@@ -45,11 +45,11 @@ impl Model for ManyWorld {
 
     ghost Value = { ManyState };
 
-    ghost use Rattle.swap_many.specs.Whole.{inside_many_job, Holds};
+    ghost use Rattle.swap_many.specs.Whole.{inside_many_state, ManyWorldHolds};
 
-    ghost view = { inside_many_job };
+    ghost view = { inside_many_state };
 
-    ghost invariant = { Holds };
+    ghost invariant = { ManyWorldHolds };
 }
 
 impl ManyWorld {
@@ -93,7 +93,7 @@ impl ManyWorld {
         ensures reply { IfOk result (λ r. (g : ℕ → Answers) → ContinueAll self.new g
             → r ≡ many_reply (made_setup self.old g) (world_run self.old g) event.now) }
         ensures history { OnOk result ((g : ℕ → Answers) → ContinueAll self.new g
-            → Follows (made_setup self.new g) (world_run self.new g) (kept_state self.new)) }
+            → Follows (made_setup self.new g) (world_run self.new g) (many_kept self.new)) }
         // On every chain all units are in one place.
         ensures units { OnOk result ((g : ℕ → Answers) → ContinueAll self.new g → AreUnitsPlaced (made_setup self.new g) (world_run self.new g)) }
         // And so they are where memory ran out in this call.
@@ -124,7 +124,7 @@ impl ManyWorld {
         ensures ok { OnOk result (HasManyGone (A.gives staff.now) kept_finish self.old self.new) }
         ensures stages { OnOk result (self.new.stages ≡ self.old.stages ++ Finished ∷ []) }
         ensures history { OnOk result ((g : ℕ → Answers) → ContinueAll self.new g
-            → Follows (made_setup self.new g) (world_run self.new g) (kept_state self.new)) }
+            → Follows (made_setup self.new g) (world_run self.new g) (many_kept self.new)) }
         ensures units { OnOk result ((g : ℕ → Answers) → ContinueAll self.new g → AreUnitsPlaced (made_setup self.new g) (world_run self.new g)) }
         // And so they are where memory ran out in this call.
         ensures cut { OnErr result (self.old.stopped ≡ false → (g : ℕ → Answers) → ContinueAll self.new g

@@ -1,7 +1,7 @@
 //! For how many rounds nobody of any swap has anything to do.
 
 ghost use Rattle.std.specs.Prelude.{◌≡◌, ◌⊎◌, ◌<◌, ◌≤◌, ◌+◌, ℕ, false, length, slice_index_or};
-ghost use Rattle.swap_world.specs.Quiet.{IsStill};
+ghost use Rattle.swap_world.specs.Quiet.{IsQuietState};
 ghost use Rattle.swap_world.specs.Value.{world_cast};
 ghost use Rattle.swap_many.specs.Near.{AreNear};
 ghost use Rattle.swap_many.specs.Ticking.{nth};
@@ -49,7 +49,7 @@ pub(crate) fn rounds_still(worlds: &[World], near: &[Listed<Listed<ArcId>>], mos
     requires near { AreNear near.now worlds.now }
     requires go_on { (s : ℕ) → s < length worlds.now → (nth worlds.now s).stopped ≡ false }
     ensures few { result ≤ most }
-    ensures still { 0 < result → (s : ℕ) → s < length worlds.now → IsStill (world_cast (nth worlds.now s)) result (nth worlds.now s).state }
+    ensures still { 0 < result → (s : ℕ) → s < length worlds.now → IsQuietState (world_cast (nth worlds.now s)) result (nth worlds.now s).state }
 {
     let mut rounds = most;
     'swaps: for s in 0..worlds.len() {

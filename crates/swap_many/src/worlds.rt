@@ -19,7 +19,7 @@ ghost use Rattle.swap_many.specs.Laws.{CanCome, CanHappen, CanPay, CanSweep, Can
 ghost use Rattle.swap_many.specs.Near.{AreNear};
 ghost use Rattle.swap_many.specs.Opening.{AreOpenable, opened};
 ghost use Rattle.swap_many.specs.Told.{told_result};
-ghost use Rattle.swap_many.specs.Value.{AreAllHeld, ContinueAll, HasManyGone, IsManyStopped, nth_chain, kept_state, made_setup, world_setup, nth_world};
+ghost use Rattle.swap_many.specs.Value.{AreAllHeld, ContinueAll, HasManyGone, IsManyStopped, nth_chain, many_kept, made_setup, world_setup, nth_world};
 
 use crate::chain::Chain;
 use crate::flags::Flags;
@@ -61,11 +61,11 @@ impl Model for Worlds {
 
     ghost Value = { ManyState };
 
-    ghost use Rattle.swap_many.specs.Inside.{inside_worlds, Holds};
+    ghost use Rattle.swap_many.specs.Inside.{inside_worlds, WorldsHold};
 
     ghost view = { inside_worlds };
 
-    ghost invariant = { Holds };
+    ghost invariant = { WorldsHold };
 }
 
 /// What a chain replies where a world is told that of a call.
@@ -140,7 +140,7 @@ impl Worlds {
         requires goes_on { self.old.stopped ≡ false }
         ensures ok { OnOk result (HasManyGone (A.gives staff.now) (λ m z. kept_done false m z (ManyEvent.In swap event.now)) self.old self.new) }
         ensures reply { IfOk result (λ r. (g : ℕ → Answers) → ContinueAll self.new g
-            → r ≡ kept_reply false (made_setup self.old g) (kept_state self.old) (ManyEvent.In swap event.now)) }
+            → r ≡ kept_reply false (made_setup self.old g) (many_kept self.old) (ManyEvent.In swap event.now)) }
         ensures err { OnErr result (IsManyStopped (A.gives staff.now) (λ m z. kept_done false m z (ManyEvent.In swap event.now)) self.old self.new) }
     {
         let place = swap as usize;
@@ -161,7 +161,7 @@ impl Worlds {
         requires event { CanPay (world_setup self.old) chain from to }
         requires goes_on { self.old.stopped ≡ false }
         ensures gone { HasManyGone (A.gives _staff.now) (λ m z. kept_done false m z (ManyEvent.Pay chain from to units)) self.old self.new }
-        ensures reply { result ≡ answer_payment (kept_state self.old) chain from units }
+        ensures reply { result ≡ answer_payment (many_kept self.old) chain from units }
     {
         self.chains[chain as usize].pay(from, to, units)
     }
@@ -176,7 +176,7 @@ impl Worlds {
         requires event { CanTickChain (world_setup self.old) chain k }
         requires goes_on { self.old.stopped ≡ false }
         ensures ok { OnOk result (HasManyGone (A.gives _staff.now) (λ m z. kept_done false m z (ManyEvent.Tick chain k)) self.old self.new) }
-        ensures reply { IfOk result (λ r. r ≡ answer_tick (kept_state self.old) chain k) }
+        ensures reply { IfOk result (λ r. r ≡ answer_tick (many_kept self.old) chain k) }
         ensures err { OnErr result (IsManyStopped (A.gives _staff.now) (λ m z. kept_done false m z (ManyEvent.Tick chain k)) self.old self.new) }
     {
         let reply = self.chains[chain as usize].tick(k);
@@ -213,7 +213,7 @@ impl Worlds {
     /// The height of the chain of an arc.
     fn arc_chain_height(&self, swap: u8, arc: ArcId) -> u32
         requires { CanSweep (world_setup self.now) swap arc }
-        ensures { result ≡ ((kept_state self.now).clocks (arc_chain (world_setup self.now) swap arc)).height }
+        ensures { result ≡ ((many_kept self.now).clocks (arc_chain (world_setup self.now) swap arc)).height }
     {
         let place = self.place(swap, arc);
         self.chains[place.chain as usize].height()
@@ -222,7 +222,7 @@ impl Worlds {
     /// Whether the slot of an arc is swept.
     fn is_swept(&self, swap: u8, arc: ArcId) -> bool
         requires { CanSweep (world_setup self.now) swap arc }
-        ensures { result ≡ (kept_state self.now).swept swap arc }
+        ensures { result ≡ (many_kept self.now).swept swap arc }
     {
         self.swept[swap as usize].as_slice()[arc as usize]
     }
@@ -230,8 +230,8 @@ impl Worlds {
     /// Whether a publish was accepted on an arc that isn't settled.
     fn is_unsettled(&self, swap: u8, arc: ArcId) -> bool
         requires { CanSweep (world_setup self.now) swap arc }
-        ensures { result ≡ (is_some (published (history ((kept_state self.now).swaps swap).book arc))
-            && is_none (settled (history ((kept_state self.now).swaps swap).book arc))) }
+        ensures { result ≡ (is_some (published (history ((many_kept self.now).swaps swap).book arc))
+            && is_none (settled (history ((many_kept self.now).swaps swap).book arc))) }
     {
         self.worlds[swap as usize].is_unsettled(arc)
     }
@@ -239,7 +239,7 @@ impl Worlds {
     /// Whether a publish was accepted on an arc.
     fn is_published(&self, swap: u8, arc: ArcId) -> bool
         requires { CanSweep (world_setup self.now) swap arc }
-        ensures { result ≡ is_some (published (history ((kept_state self.now).swaps swap).book arc)) }
+        ensures { result ≡ is_some (published (history ((many_kept self.now).swaps swap).book arc)) }
     {
         self.worlds[swap as usize].is_published(arc)
     }
@@ -247,8 +247,8 @@ impl Worlds {
     /// The units of an arc.
     fn accounts(&self, swap: u8, arc: ArcId) -> Accounts
         requires { CanSweep (world_setup self.now) swap arc }
-        ensures value { result ≡ accounts ((world_setup self.now).cast swap).deal arc (history ((kept_state self.now).swaps swap).book arc) }
-        ensures held { result.held ≡ held (history ((kept_state self.now).swaps swap).book arc) }
+        ensures value { result ≡ accounts ((world_setup self.now).cast swap).deal arc (history ((many_kept self.now).swaps swap).book arc) }
+        ensures held { result.held ≡ held (history ((many_kept self.now).swaps swap).book arc) }
     {
         self.worlds[swap as usize].accounts(arc)
     }
@@ -256,7 +256,7 @@ impl Worlds {
     /// The reply to a sweep of a slot, by the first row that applies.
     fn reply_to_sweep(&self, swap: u8, arc: ArcId, fair: bool) -> ManyReply
         requires { CanSweep (world_setup self.now) swap arc }
-        ensures { result ≡ answer_sweep fair (world_setup self.now) (kept_state self.now) swap arc }
+        ensures { result ≡ answer_sweep fair (world_setup self.now) (many_kept self.now) swap arc }
     {
         let horizon = self.horizon(swap);
         if self.arc_chain_height(swap, arc) as u64 <= horizon {
@@ -278,7 +278,7 @@ impl Worlds {
     fn put_back<A: Strategies>(&mut self, _staff: &A, swap: u8, arc: ArcId, fair: bool)
         requires event { CanSweep (world_setup self.old) swap arc }
         requires goes_on { self.old.stopped ≡ false }
-        requires accepted { answer_sweep fair (world_setup self.old) (kept_state self.old) swap arc ≡ ManyReply.Plain Reply.Accepted }
+        requires accepted { answer_sweep fair (world_setup self.old) (many_kept self.old) swap arc ≡ ManyReply.Plain Reply.Accepted }
         ensures { HasManyGone (A.gives _staff.now) (λ m z. kept_done fair m z (ManyEvent.Sweep swap arc)) self.old self.new }
     {
         let place = self.place(swap, arc);
@@ -300,7 +300,7 @@ impl Worlds {
         requires event { CanSweep (world_setup self.old) swap arc }
         requires goes_on { self.old.stopped ≡ false }
         ensures gone { HasManyGone (A.gives staff.now) (λ m z. kept_done fair m z (ManyEvent.Sweep swap arc)) self.old self.new }
-        ensures reply { result ≡ answer_sweep fair (world_setup self.old) (kept_state self.old) swap arc }
+        ensures reply { result ≡ answer_sweep fair (world_setup self.old) (many_kept self.old) swap arc }
     {
         let reply = self.reply_to_sweep(swap, arc, fair);
         if reply.is_accepted() {
@@ -319,7 +319,7 @@ impl Worlds {
         requires goes_on { self.old.stopped ≡ false }
         ensures ok { OnOk result (HasManyGone (A.gives staff.now) (λ m z. kept_done false m z event.now) self.old self.new) }
         ensures reply { IfOk result (λ r. (g : ℕ → Answers) → ContinueAll self.new g
-            → r ≡ kept_reply false (made_setup self.old g) (kept_state self.old) event.now) }
+            → r ≡ kept_reply false (made_setup self.old g) (many_kept self.old) event.now) }
         ensures err { OnErr result (IsManyStopped (A.gives staff.now) (λ m z. kept_done false m z event.now) self.old self.new) }
     {
         match event {
@@ -422,9 +422,9 @@ impl Worlds {
         requires near { AreNear near.now self.now.worlds }
         requires goes_on { self.now.stopped ≡ false }
         requires horizon { horizon ≡ last_horizon (world_setup self.now) }
-        requires low { have_ended (world_setup self.now) (kept_state self.now) ≡ false }
+        requires low { have_ended (world_setup self.now) (many_kept self.now) ≡ false }
         ensures few { result ≤ most }
-        ensures skips { (g : ℕ → Answers) → SkipsKeptRounds (made_setup self.now g) result (kept_state self.now) }
+        ensures skips { (g : ℕ → Answers) → SkipsKeptRounds (made_setup self.now g) result (many_kept self.now) }
     {
         let low = horizon_rounds(&self.chains, horizon, most);
         rounds_still(&self.worlds, near, low)

@@ -32,8 +32,8 @@ use Rattle.offer_fields.proofs.Chains.{went}
 use Rattle.offer_header.specs.Raw.{is_plain, IsVersionMode}
 use Rattle.offer_header.specs.declared.header.Header.{Header}
 use Rattle.offer_header.specs.Header.{IsHeaderInLimits}
-use Rattle.swap_offer.specs.Checks.{build_graph, by_arcs, least_bound, connected, unless_closed, one_leader, led, unless_cycle, bounded, started, timed}
-use Rattle.swap_offer.specs.Checks.{unless_wrong, wrong_timelock, timed_unless, checked, unnamed, header_deal, IsAcceptedOrProposed, IsAcceptedUnless}
+use Rattle.swap_offer.specs.Checks.{build_graph, by_arcs, least_bound, connected, unless_closed, one_leader, led, unless_cycle, bounded, start_after_delta, timed}
+use Rattle.swap_offer.specs.Checks.{unless_wrong, wrong_timelock, timed_unless, checked_digraph, unnamed, header_deal, IsAcceptedOrProposed, IsAcceptedUnless}
 use Rattle.swap_offer.proofs.Size.{is_sized}
 
 is_connected : (g : Graph) (u : Unit {0}) → connected g ≡ Ok u → IsStronglyConnected g
@@ -60,8 +60,8 @@ is_bounded : (bound needed : ℕ) (u : Unit {0}) → bounded bound needed ≡ Ok
 unfolding bounded
 is_bounded bound needed u e = ltb-false bound needed (not_refused (nat_lt bound needed) (BoundTooSmall bound needed) u e)
 
-is_started : (start delta : ℕ) (u : Unit {0}) → started start delta ≡ Ok u → delta ≤ start
-unfolding started
+is_started : (start delta : ℕ) (u : Unit {0}) → start_after_delta start delta ≡ Ok u → delta ≤ start
+unfolding start_after_delta
 is_started start delta u e = ltb-false start delta (not_refused (nat_lt start delta) (StartTooSoon start delta) u e)
 
 has_one : (leaders : List ℕ) (u : Unit {0}) → one_leader Timelocks leaders ≡ Ok u → length leaders ≤ 1
@@ -166,14 +166,14 @@ record Passed (h : Header) (g : Graph) : Type 0 where
   start : h.delta ≤ h.start
   timed : (v : Unit {0}) × (timed_unless (is_plain h.purpose) h g ≡ Ok v)
 
-passed : (h : Header) (g : Graph) (u : Unit {0}) → checked h g ≡ Ok u → Passed h g
-unfolding checked
+passed : (h : Header) (g : Graph) (u : Unit {0}) → checked_digraph h g ≡ Ok u → Passed h g
+unfolding checked_digraph
 passed h g u e =
     let c = went (connected g) _ u e in
     let o = went (one_leader h.mode h.leaders) _ u c.2 in
     let l = went (led g h.leaders) _ u o.2 in
     let b = went (bounded h.bound (least_bound g h.leaders)) _ u l.2 in
-    let s = went (started h.start h.delta) _ u b.2 in
+    let s = went (start_after_delta h.start h.delta) _ u b.2 in
     record {
       strong = is_connected g c.0 c.1;
       one = (o.0, o.1);
@@ -218,7 +218,7 @@ accepted h g k has n arcs made p stated =
     (sym (any_id (unnamed h g (replicate 32 0)) (header_deal h g).id))
 
 pub accepted_for : (h : Header) (g : Graph) (u : Unit {0}) → IsHeaderInLimits h → HasEnds g → g.n ≡ length h.names → g.arcs ≡ h.arcs → build_graph h ≡ Ok g
-    → checked h g ≡ Ok u → IsAcceptedOrProposed h.purpose (header_deal h g)
+    → checked_digraph h g ≡ Ok u → IsAcceptedOrProposed h.purpose (header_deal h g)
 accepted_for h g u k has n arcs made e = by (is_plain h.purpose) refl
   where
     by : (plain : Bool) → is_plain h.purpose ≡ plain → IsAcceptedUnless plain (header_deal h g)

@@ -36,8 +36,8 @@ use Rattle.offer_header.specs.declared.header.Header.{Header}
 use Rattle.offer_header.specs.Header.{IsHeaderInLimits}
 use Rattle.offer_header.specs.Raw.{is_plain}
 use Rattle.swap_offer.specs.Checks.{build_graph, by_arcs, header_digraph, connected, unless_closed, one_leader, led, unless_cycle, least_bound}
-use Rattle.swap_offer.specs.Checks.{bounded, started}
-use Rattle.swap_offer.specs.Checks.{timed, unless_wrong, wrong_timelock, timed_unless, checked, admitted, header_deal, IsAcceptedOrProposed, IsAcceptedUnless}
+use Rattle.swap_offer.specs.Checks.{bounded, start_after_delta}
+use Rattle.swap_offer.specs.Checks.{timed, unless_wrong, wrong_timelock, timed_unless, checked_digraph, admitted, header_deal, IsAcceptedOrProposed, IsAcceptedUnless}
 use Rattle.swap_offer.specs.Laws.{AdmittedIsAccepted}
 use Rattle.swap_offer.proofs.Accepted.{no_fault, accepted_for}
 
@@ -159,8 +159,8 @@ module _ (h : Header) (a : IsProposed (header_deal h (header_digraph h))) where
   unfolding bounded
   is_bounded = rw (le-ltb h.bound (least_bound (header_digraph h) h.leaders) enough) refl
 
-  is_started : started h.start h.delta ≡ Ok tt
-  unfolding started
+  is_started : start_after_delta h.start h.delta ≡ Ok tt
+  unfolding start_after_delta
   is_started = rw (le-ltb h.start h.delta a.start.0) refl
 
   is_party : (leader : ℕ) → h.leaders ≡ leader ∷ [] → leader < length h.names
@@ -208,8 +208,8 @@ module _ (h : Header) (a : IsProposed (header_deal h (header_digraph h))) where
           (λ b i. right_timelock leader b e t (from_range b (length h.arcs) i)))
       go (x ∷ y ∷ ls) e = refl
 
-  checked_is : timed_unless (is_plain h.purpose) h (header_digraph h) ≡ Ok tt → checked h (header_digraph h) ≡ Ok tt
-  unfolding checked
+  checked_is : timed_unless (is_plain h.purpose) h (header_digraph h) ≡ Ok tt → checked_digraph h (header_digraph h) ≡ Ok tt
+  unfolding checked_digraph
   checked_is t = rw (is_connected, has_one h.mode a.led, is_led, is_bounded, is_started) t
 
   is_admitted : timed_unless (is_plain h.purpose) h (header_digraph h) ≡ Ok tt → admitted h ≡ Ok (header_digraph h)
@@ -227,10 +227,10 @@ passes : (h : Header) → IsHeaderInLimits h → admitted h ≡ Ok (header_digra
 unfolding admitted
 passes h k e =
     let g = went (build_graph h) _ (header_digraph h) e in
-    let c = went (checked h g.0) _ (header_digraph h) g.2 in
+    let c = went (checked_digraph h g.0) _ (header_digraph h) g.2 in
     let same : g.0 ≡ header_digraph h = cc (c.2) in
     let made : build_graph h ≡ Ok (header_digraph h) = subst (λ (x : Graph). build_graph h ≡ Ok x) same g.1 in
-    let check : checked h (header_digraph h) ≡ Ok c.0 = subst (λ (x : Graph). checked h x ≡ Ok c.0) same c.1 in
+    let check : checked_digraph h (header_digraph h) ≡ Ok c.0 = subst (λ (x : Graph). checked_digraph h x ≡ Ok c.0) same c.1 in
     let has = has_ends (length h.names) h.version h.arcs (sym (no_fault h (header_digraph h) made)) in
     accepted_for h (header_digraph h) c.0 k has refl refl made check
 

@@ -28,13 +28,13 @@ use Rattle.party_wallet.specs.Fits.{wrong_lock}
 use Rattle.refusals.specs.declared.reason.Reason.{Reason}
 use Rattle.refusals.specs.declared.reason.Reason.TheVariants.{BoundTooSmall, StartTooSoon, ManyLeaders, WrongTimelock, NoSeed, WrongWallet}
 use Rattle.refusals.specs.declared.refusal.Refusal.{Refusal}
-use Rattle.refusals.specs.Refusal.{fault_with_names, named}
+use Rattle.refusals.specs.Refusal.{fault_with_names, named_result}
 use Rattle.refusals.proofs.Named.{named_err}
 use Rattle.offer_header.specs.declared.header.Header.{Header}
 use Rattle.offer_header.specs.Header.{IsHeaderInLimits}
 use Rattle.offer_header.specs.Raw.{is_plain}
 use Rattle.swap_offer.specs.Checks.{build_graph, by_arcs, header_digraph, connected, unless_closed, one_leader, led, unless_cycle, least_bound, bounded}
-use Rattle.swap_offer.specs.Checks.{started, timed, unless_wrong, wrong_timelock, timed_unless, checked, admitted, assemble_job}
+use Rattle.swap_offer.specs.Checks.{start_after_delta, timed, unless_wrong, wrong_timelock, timed_unless, checked_digraph, admitted, assemble_job}
 use Rattle.swap_offer.specs.Wallets.{party_conforms, party_seed, needs_seed, no_seed, seeded, wrong_seed, wrong_wallet, fitting, fitting_wallets, walleted}
 use Rattle.swap_offer.specs.Job.{provided, accepted_entries}
 use Rattle.swap_offer.specs.Certificates.{IsCertified, Certifies}
@@ -126,8 +126,8 @@ module _ (h : Header) (k : IsHeaderInLimits h) where
   unfolding bounded
   of_bounded needed = by_test (IsCertified h) (nat_lt h.bound needed) (BoundTooSmall h.bound needed) tt
 
-  of_started : IfBad Shows (started h.start h.delta)
-  unfolding started
+  of_started : IfBad Shows (start_after_delta h.start h.delta)
+  unfolding start_after_delta
   of_started = by_test (IsCertified h) (nat_lt h.start h.delta) (StartTooSoon h.start h.delta) tt
 
   of_timelock : (leader a : ℕ) → IfThere Shows (wrong_timelock h (header_digraph h) leader a)
@@ -149,14 +149,14 @@ module _ (h : Header) (k : IsHeaderInLimits h) where
   of_times true = tt
   of_times false = of_timed h.mode h.leaders
 
-  of_checked : HasEnds (header_digraph h) → IfBad Shows (checked h (header_digraph h))
-  unfolding checked
+  of_checked : HasEnds (header_digraph h) → IfBad Shows (checked_digraph h (header_digraph h))
+  unfolding checked_digraph
   of_checked has =
       onward (IsCertified h) (connected (header_digraph h)) _ (of_connected has)
       (λ u e. onward (IsCertified h) (one_leader h.mode h.leaders) _ (of_one_leader h.mode)
       (λ v f. onward (IsCertified h) (led (header_digraph h) h.leaders) _ of_led
       (λ w d. onward (IsCertified h) (bounded h.bound (least_bound (header_digraph h) h.leaders)) _ (of_bounded (least_bound (header_digraph h) h.leaders))
-      (λ x b. onward (IsCertified h) (started h.start h.delta) _ of_started (λ y s. of_times (is_plain h.purpose))))))
+      (λ x b. onward (IsCertified h) (start_after_delta h.start h.delta) _ of_started (λ y s. of_times (is_plain h.purpose))))))
 
   of_admitted : IfBad Shows (admitted h)
   unfolding admitted
@@ -164,8 +164,8 @@ module _ (h : Header) (k : IsHeaderInLimits h) where
       onward (IsCertified h) (build_graph h) _ of_arcs
       (λ g e.
       let m = made g e in
-      subst (λ (x : Graph). IfBad (IsCertified h) (checked h x >>= λ u. let r : Result Graph Reason = Ok x in r)) (sym m.0)
-      (onward (IsCertified h) (checked h (header_digraph h)) _ (of_checked m.1) (λ u c. tt)))
+      subst (λ (x : Graph). IfBad (IsCertified h) (checked_digraph h x >>= λ u. let r : Result Graph Reason = Ok x in r)) (sym m.0)
+      (onward (IsCertified h) (checked_digraph h (header_digraph h)) _ (of_checked m.1) (λ u c. tt)))
 
   of_seed : (job : Job) (p : ℕ) → IfThere Shows (no_seed job p)
   of_seed job p = if_so (IsCertified h) (needs_seed job.purpose job p && is_none (party_seed job p)) (NoSeed p) tt
@@ -217,7 +217,7 @@ module _ (h : Header) (k : IsHeaderInLimits h) where
   shown_by (Err given) reason e bad = let same : given ≡ reason = cc e in subst (IsCertified h) same bad
 
   pub certifies : {X : Type 0} (view : X → Job) (names : List (List ℕ)) (result : Result X (Fault Refusal))
-      → Gives view result (named names (accepted_entries h)) → Certifies h result
+      → Gives view result (named_result names (accepted_entries h)) → Certifies h result
   certifies view names (Ok x) e = tt
   certifies view names (Err NoMemory) e = tt
   certifies view names (Err (Refused refusal)) e = shown_by (accepted_entries h) refusal.reason (named_err names (accepted_entries h) refusal e).0 of_accepted

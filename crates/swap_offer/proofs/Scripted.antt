@@ -21,7 +21,7 @@ use Rattle.swap_job.specs.declared.job.Role.TheVariants as kinds
 use Rattle.swap_job.specs.declared.moves.Move.{Move}
 use Rattle.swap_job.specs.declared.moves.Move.TheVariants.{Publish, Craft, Replay, Raw, Claim, Refund, Transfer, Wait}
 use Rattle.offer_moves.specs.declared.moves.Sizes.{Sizes}
-use Rattle.offer_moves.specs.Kept.{AreBoundedCrafters, AreSeeded, IsMade}
+use Rattle.offer_moves.specs.Kept.{AreBoundedCrafters, AreSeeded, IsMadeMove}
 use Rattle.offer_moves.specs.Placed.{placed}
 use Rattle.offer_moves.proofs.Made.{placed_fits}
 use Rattle.offer_fields.proofs.Chains.{went}
@@ -98,8 +98,8 @@ fit h g line u k has n arcs made are asks have p lt =
     (each_role h.arcs h.conforming line 0 h.roles are p kinds.Manual below) in
     All-from_get_or (IsPartyMove d h.seeds p) (role_script role) (Claim 0) (λ i l.
     let mv = get_or (role_script role) i (Claim 0) in
-    let m = All-get_or (IsMade d h.seeds line) (role_script role) i (Claim 0) l
-    (All-get_or (λ (r : Role). All (IsMade d h.seeds line) (role_script r)) h.roles p kinds.Manual below own) in
+    let m = All-get_or (IsMadeMove d h.seeds line) (role_script role) i (Claim 0) l
+    (All-get_or (λ (r : Role). All (IsMadeMove d h.seeds line) (role_script r)) h.roles p kinds.Manual below own) in
     let seeds = seeds_there (assemble_job h g) u asks have role mv (in_place h.roles p kinds.Manual below) (in_place (role_script role) i
     (Claim 0) l) m.below in
     let f = placed_fits d h.conforming h.seeds line p mv tt m seeds

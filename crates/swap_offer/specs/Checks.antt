@@ -79,8 +79,8 @@ unfoldable pub bounded : (bound needed : ℕ) → Result (Unit {0}) Reason
 bounded bound needed = if nat_lt bound needed then Err (BoundTooSmall bound needed) else Ok tt
 
 -- the start is at least delta
-unfoldable pub started : (start delta : ℕ) → Result (Unit {0}) Reason
-started start delta = if nat_lt start delta then Err (StartTooSoon start delta) else Ok tt
+unfoldable pub start_after_delta : (start delta : ℕ) → Result (Unit {0}) Reason
+start_after_delta start delta = if nat_lt start delta then Err (StartTooSoon start delta) else Ok tt
 
 -- the reason against the timelock of arc a, if any: it goes by the distance of the arc's
 -- counterparty from the leader
@@ -137,20 +137,20 @@ assemble_job h g = record {
 }
 
 -- the digraph and its leaders, in order
-unfoldable pub checked : Header → Graph → Result (Unit {0}) Reason
-checked h g = do
+unfoldable pub checked_digraph : Header → Graph → Result (Unit {0}) Reason
+checked_digraph h g = do
   u ← connected g
   v ← one_leader h.mode h.leaders
   w ← led g h.leaders
   x ← bounded h.bound (least_bound g h.leaders)
-  y ← started h.start h.delta
+  y ← start_after_delta h.start h.delta
   timed_unless (is_plain h.purpose) h g
 
 -- the digraph of a header, where its digraph, its leaders and its times pass their checks
 unfoldable pub admitted : Header → Result Graph Reason
 admitted h = do
   g ← build_graph h
-  u ← checked h g
+  u ← checked_digraph h g
   Ok g
 
 abbrev pub IsAcceptedUnless : (plain : Bool) → Deal → Type 0

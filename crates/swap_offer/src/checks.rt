@@ -8,8 +8,8 @@ ghost use Rattle.leader_check.specs.Levels.{greatest_level};
 ghost use Rattle.leader_check.specs.Distance.{leader_distance};
 ghost use Rattle.offer_header.specs.Header.{IsHeaderInLimits};
 ghost use Rattle.offer_header.specs.Raw.{is_plain};
-ghost use Rattle.swap_offer.specs.Checks.{arc_reason, build_graph, connected, one_leader, led, least_bound, bounded, started, wrong_timelock, timed};
-ghost use Rattle.swap_offer.specs.Checks.{timed_unless, checked};
+ghost use Rattle.swap_offer.specs.Checks.{arc_reason, build_graph, connected, one_leader, led, least_bound, bounded, start_after_delta, wrong_timelock, timed};
+ghost use Rattle.swap_offer.specs.Checks.{timed_unless, checked_digraph};
 
 use digraph_check::{Strength, strong};
 use leader_check::{LeaderAnswer, Levels, dist, levels};
@@ -104,9 +104,9 @@ fn check_bound(bound: u32, needed: u32) -> Result<(), OfferFault>
     }
 }
 
-#[tactic(auto, unfolding(crate::specs::Checks::started))]
+#[tactic(auto, unfolding(crate::specs::Checks::start_after_delta))]
 fn check_start(start: u32, delta: u32) -> Result<(), OfferFault>
-    ensures { Gives (λ u. u) result (started start delta) }
+    ensures { Gives (λ u. u) result (start_after_delta start delta) }
 {
     if start < delta {
         Err(Fault::Refused(Reason::StartTooSoon(start as u64, delta as u64)))
@@ -218,7 +218,7 @@ fn check_times(
 }
 
 /// The least bound of a header. Its digraph, leaders and times pass their checks, in this order.
-#[tactic(auto, using(crate::proofs::Few::few_names, crate::proofs::Few::few_arcs), unfolding(crate::specs::Checks::checked))]
+#[tactic(auto, using(crate::proofs::Few::few_names, crate::proofs::Few::few_arcs), unfolding(crate::specs::Checks::checked_digraph))]
 pub(crate) fn check_header(
     alloc: Global,
     header: &Header,
@@ -228,7 +228,7 @@ pub(crate) fn check_header(
     requires parts { graph.now.arcs ≡ header.now.arcs }
     requires parties { graph.now.n ≡ length header.now.names }
     requires ends { HasEnds graph.now }
-    ensures exact { Gives (λ _. tt) result (checked header.now graph.now) }
+    ensures exact { Gives (λ _. tt) result (checked_digraph header.now graph.now) }
     ensures need { IfOk result (λ n. n ≡ least_bound graph.now header.now.leaders) }
 {
     let leaders = header.leaders.as_slice();

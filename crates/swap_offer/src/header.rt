@@ -4,7 +4,7 @@ ghost use Rattle.std.specs.Prelude.{◌≡◌, ℕ, List, IfOk, Ok, OnOk, length
 ghost use Rattle.swap_base.specs.Fault.{Gives};
 ghost use Rattle.swap_digraph.specs.Deal.{IsWellSized};
 ghost use Rattle.swap_digraph.specs.Graph.{HasEnds};
-ghost use Rattle.refusals.specs.Refusal.{named};
+ghost use Rattle.refusals.specs.Refusal.{named_result};
 ghost use Rattle.offer_header.specs.declared.header.Header.{Header};
 ghost use Rattle.offer_header.specs.Header.{parse_whole_header, HasSimpleRoles, IsUntoldHeader, IsHeaderInLimits};
 ghost use Rattle.offer_header.specs.Limits.{HoldsEach};
@@ -96,7 +96,7 @@ fn accept(alloc: Global, line: u32, header: Header) -> Result<Prepared, HeaderFa
     requires simple { HasSimpleRoles header.purpose header }
     requires placed { scripts_placed line header ≡ Ok tt }
     requires made { AreMade line header }
-    ensures exact { Gives (λ p. p.job) result (named header.names (accepted_entries header)) }
+    ensures exact { Gives (λ p. p.job) result (named_result header.names (accepted_entries header)) }
     ensures names { IfOk result (λ p. p.job.names ≡ header.names) }
     ensures known { IfOk result (λ p. AreNames p.job.names) }
     ensures purpose { IfOk result (λ p. p.job.purpose ≡ header.purpose) }
@@ -137,7 +137,7 @@ pub fn read_header(
     purpose: Purpose,
     strategies: &[ByteText],
 ) -> Result<Prepared, HeaderFault>
-    ensures exact { Gives (λ p. p.job) result (named (header_names (has_strategy strategies.now) purpose line text.now)
+    ensures exact { Gives (λ p. p.job) result (named_result (header_names (has_strategy strategies.now) purpose line text.now)
         (parse_header_job (has_strategy strategies.now) purpose line text.now)) }
     ensures names { IfOk result (λ p. p.job.names ≡ header_names (has_strategy strategies.now) purpose line text.now) }
     ensures known { IfOk result (λ p. AreNames p.job.names) }

@@ -4,7 +4,7 @@ ghost use Rattle.std.specs.Prelude.{true, ◌≡◌, ◌<◌, ◌≤◌, ◌^◌
 ghost use Rattle.swap_base.specs.Fault.{Gives, steps};
 ghost use Rattle.swap_job.specs.Step.{IsJobEvent};
 ghost use Rattle.offer_events.specs.Event.{needs_seeds};
-ghost use Rattle.refusals.specs.Refusal.{named};
+ghost use Rattle.refusals.specs.Refusal.{named_result};
 ghost use Rattle.offer_header.specs.Limits.{HoldsEach};
 ghost use Rattle.offer_header.specs.Names.{AreNames, has_strategy};
 ghost use Rattle.offer_header.specs.Raw.{is_plain};
@@ -115,7 +115,7 @@ fn read_source(
     further: &[(u32, &[u8])],
 ) -> Result<(Job, Vec<Event>), HeaderFault>
     requires few { length further.now < 2 ^ 31 }
-    ensures exact { Gives (λ j. (j.0, j.1.items)) result (named (header_names (has_strategy strategies.now) purpose line text.now)
+    ensures exact { Gives (λ j. (j.0, j.1.items)) result (named_result (header_names (has_strategy strategies.now) purpose line text.now)
         (job_of_lines (has_strategy strategies.now) purpose ((line, text.now) ∷ map (λ l. (l.0, l.1.now)) further.now))) }
     ensures whole { IfOk result (λ j. IsWholeJob j.0) }
     ensures accepted { IfOk result (λ j. IsAcceptedOrProposed purpose j.0.deal) }
@@ -143,7 +143,7 @@ fn read_lines(
     lines: &[(u32, &[u8])],
 ) -> Result<(Job, Vec<Event>), HeaderFault>
     requires few { length lines.now < 2 ^ 31 }
-    ensures exact { Gives (λ j. (j.0, j.1.items)) result (named
+    ensures exact { Gives (λ j. (j.0, j.1.items)) result (named_result
         (offer_line_names (has_strategy strategies.now) purpose (map (λ l. (l.0, l.1.now)) lines.now))
         (job_of_lines (has_strategy strategies.now) purpose (map (λ l. (l.0, l.1.now)) lines.now))) }
     ensures whole { IfOk result (λ j. IsWholeJob j.0) }
@@ -176,7 +176,7 @@ pub fn read_job(
     strategies: &[ByteText],
 ) -> Result<(Job, Vec<Event>), HeaderFault>
     requires few { length bytes.now < 2 ^ 31 }
-    ensures exact { Gives (λ j. (j.0, j.1.items)) result (named (names_of_offer (has_strategy strategies.now) purpose bytes.now)
+    ensures exact { Gives (λ j. (j.0, j.1.items)) result (named_result (names_of_offer (has_strategy strategies.now) purpose bytes.now)
         (parse_job (has_strategy strategies.now) purpose bytes.now)) }
     ensures whole { IfOk result (λ j. IsWholeJob j.0) }
     ensures accepted { IfOk result (λ j. IsAcceptedOrProposed purpose j.0.deal) }

@@ -4,13 +4,13 @@ use Rattle.swap_rules.specs.Accepted.{IsAccepted}
 use Rattle.swap_job.specs.declared.job.Job.{Job}
 use Rattle.swap_job.specs.declared.job.Purpose.TheVariants.{Audit}
 use Rattle.refusals.specs.declared.refusal.Refusal.{Refusal}
-use Rattle.refusals.specs.Refusal.{named}
+use Rattle.refusals.specs.Refusal.{named_result}
 use Rattle.offer_header.specs.Names.{no_strategy}
 use Rattle.swap_offer.specs.Job.{parse_header_job, header_names}
 use Rattle.party_answer.specs.declared.given.Answer.{Answer}
 use Rattle.party_answer.specs.declared.reason.AnswerReason.{AnswerReason}
-use Rattle.party_answer.specs.Promised.{IsAnswer}
-use Rattle.party_rows.specs.Dealt.{IsDealt}
+use Rattle.party_answer.specs.Promised.{IsTextAnswer}
+use Rattle.party_rows.specs.Dealt.{IsDealtText}
 use Rattle.party_rows.specs.declared.reason.DealReason.{DealReason}
 use Rattle.party_main.specs.declared.reason.PartyReason.TheVariants.{Header, Deal, Next}
 use Rattle.party_main.specs.Reasons.{reason_line}
@@ -39,7 +39,7 @@ IsTextSaid (Err refusal) old new said = IsSaid 3 (reason_line (Header refusal)) 
 -- status 0 with the header line of an accepted deal, or 3 with the line of the first reason against
 -- the text
 abbrev pub IsDealSaid : Result (List ℕ) DealReason → List ℕ → List ℕ → Said → Type 0
-IsDealSaid (Ok text) old new said = IsDealt text × IsSaid 0 text old new said
+IsDealSaid (Ok text) old new said = IsDealtText text × IsSaid 0 text old new said
 IsDealSaid (Err reason) old new said = IsSaid 3 (reason_line (Deal reason)) old new said
 
 -- ---- what is due
@@ -58,14 +58,14 @@ answer_status false = 0
 -- status 0, or 2 where it warns, with the answer, which is promised; or 3 with the line of the
 -- first reason against the text
 abbrev pub IsAnswerSaid : Asked → Result Answer AnswerReason → List ℕ → List ℕ → Said → Type 0
-IsAnswerSaid q (Ok answer) old new said = IsAnswer 2 q.name q.seed q.text answer × IsSaid (answer_status answer.warns) answer.text old new said
+IsAnswerSaid q (Ok answer) old new said = IsTextAnswer 2 q.name q.seed q.text answer × IsSaid (answer_status answer.warns) answer.text old new said
 IsAnswerSaid q (Err reason) old new said = IsSaid 3 (reason_line (Next reason)) old new said
 
 -- ---- a header
 
 -- the job of a header line as a transcript has it, or the first reason against it
 unfoldable pub header_said : List ℕ → Result Job Refusal
-header_said line = named (header_names no_strategy Audit 1 line) (parse_header_job no_strategy Audit 1 line)
+header_said line = named_result (header_names no_strategy Audit 1 line) (parse_header_job no_strategy Audit 1 line)
 
 -- status 0 with the id of its deal, which is an accepted one, or 3 with the line of the first
 -- reason against it

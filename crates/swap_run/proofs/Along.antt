@@ -17,7 +17,7 @@ use Rattle.swap_job.specs.declared.event.Event.{Event}
 use Rattle.swap_job.specs.declared.event.Event.TheVariants.{Tick, Look, Act}
 use Rattle.swap_job.specs.Step.{CanStep}
 use Rattle.swap_run.specs.Run.{Cast, State, conforms, after_tick, continued_run, step}
-use Rattle.swap_run.specs.Fair.{repeat, adjacent_arcs, looks, acts, most_acts, turn, turns, the_horizon, tick_low, ticks, round, has_ended}
+use Rattle.swap_run.specs.Fair.{repeat, adjacent_arcs, looks, acts, most_acts, turn, turns, the_horizon, tick_low, ticks, round, is_above_horizon}
 use Rattle.swap_run.specs.Fair.{round_unless_ended, finish}
 use Rattle.swap_run.specs.FairLaws.{IsReached}
 use Rattle.swap_run.specs.Steps.{after_low, act_steps, finish_steps, look_steps, low_step, low_steps, pass_steps, round_steps, rounds_steps, tick_steps}
@@ -144,7 +144,7 @@ module _ (c : Cast) where
       ∙ ap (λ (t : State). continued_run c t (tick_steps c.deal (turns c s).book)) (turns_run s) ∙ ticks_run (turns c s)
 
   pub unless_run : (s : State) → continued_run c s (unless_steps c s) ≡ round_unless_ended c s
-  unless_run s = go (has_ended c.deal s.book)
+  unless_run s = go (is_above_horizon c.deal s.book)
     where
       go : (y : Bool) → continued_run c s (cond y [] (round_steps c s)) ≡ cond y s (round c s)
       go true = refl
@@ -274,7 +274,7 @@ module _ (c : Cast) where
       (low_can (arcs c.deal.graph) (turns c s).book (λ a i. from_range a (length c.deal.graph.arcs) i))
 
   unless_can : (s : State) → All Can (unless_steps c s)
-  unless_can s = go (has_ended c.deal s.book)
+  unless_can s = go (is_above_horizon c.deal s.book)
     where
       go : (y : Bool) → All Can (cond y [] (round_steps c s))
       go true = All-nil Can

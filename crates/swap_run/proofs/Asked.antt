@@ -20,7 +20,7 @@ use Rattle.swap_rules.specs.Machine.{Begins}
 use Rattle.swap_rules.proofs.Prefixes.{begins_more}
 use Rattle.swap_run.specs.Run.{Cast, Question, State, conforms, party_role, party_plan, look, make, next_action, act, watch, take_call, after_turn, question}
 use Rattle.swap_run.specs.Run.{after_question, answered_call, role_act, step}
-use Rattle.swap_run.specs.Fair.{repeat, adjacent_arcs, looks, acts, most_acts, turn, turns, the_horizon, tick_low, ticks, round, has_ended}
+use Rattle.swap_run.specs.Fair.{repeat, adjacent_arcs, looks, acts, most_acts, turn, turns, the_horizon, tick_low, ticks, round, is_above_horizon}
 use Rattle.swap_run.specs.Fair.{round_unless_ended, finish}
 use Rattle.swap_run.specs.Asked.{Answers, with_answers, Agree, is_strategy, RunsAskInOrder, FinishesAskInOrder, RunsWithoutStrategies}
 use Rattle.swap_run.specs.Asked.{FinishesWithoutStrategies, RulesDecideRuns, RulesDecideFinishes}
@@ -182,7 +182,7 @@ module _
   finish_orderly : (s : State) → Orderly s (finish c s) (finish w s)
   unfolding finish
   finish_orderly = again (round_unless_ended c) (round_unless_ended w) (the_horizon c.deal + 1) (λ s.
-      either (has_ended c.deal s.book) s s s (round c s) (round w s) (at_once s s s refl refl) (round_orderly s))
+      either (is_above_horizon c.deal s.book) s s s (round c s) (round w s) (at_once s s s refl refl) (round_orderly s))
 
 -- The laws.
 
@@ -264,7 +264,7 @@ module _ (c : Cast) (none : list_any is_strategy c.roles ≡ false) where
   quiet_finish : (s : State) → (finish c s).asked ≡ s.asked
   unfolding finish
   quiet_finish = quiet_again (round_unless_ended c) (the_horizon c.deal + 1) (λ s.
-      quiet_either (has_ended c.deal s.book) s s (round c s) refl (quiet_round s))
+      quiet_either (is_above_horizon c.deal s.book) s s (round c s) refl (quiet_round s))
 
 -- nothing is asked, so any answers agree
 agree_on_nothing : (s t : State) (f g : Answers) → t.asked ≡ s.asked → Agree s t f g

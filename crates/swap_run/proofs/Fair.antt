@@ -21,7 +21,7 @@ use Rattle.swap_rules.proofs.Dealing.{all_dealt}
 use Rattle.party_wallet.specs.Value.{signed_hashkey}
 use Rattle.swap_run.specs.Run.{Cast, State, conforms, state_notes, next_action, start}
 use Rattle.swap_run.specs.Laws.{IsReadyCast, IsGood}
-use Rattle.swap_run.specs.Fair.{repeat, turn, turns, the_horizon, raised, round, has_ended, round_unless_ended, finish}
+use Rattle.swap_run.specs.Fair.{repeat, turn, turns, the_horizon, raised, round, is_above_horizon, round_unless_ended, finish}
 use Rattle.swap_run.specs.FairLaws.{FairIsDealt}
 use Rattle.swap_run.proofs.Good.{start_is_good, good_is_kept, empty_at}
 use Rattle.swap_run.proofs.Acts.{first_none}
@@ -140,7 +140,7 @@ module _ (c : Cast) (ready : IsReadyCast c) (all : (v : ℕ) → v < c.deal.grap
             };
       }
 
-  not_ended : (r : ℕ) (s : State) → r ≤ the_horizon c.deal → IsAtOneHeight c s r → has_ended c.deal s.book ≡ false
+  not_ended : (r : ℕ) (s : State) → r ≤ the_horizon c.deal → IsAtOneHeight c s r → is_above_horizon c.deal s.book ≡ false
   not_ended r s l x = not-true _ (λ e.
       let n : 2 ≤ length c.deal.graph.arcs = ready.accepted.arcs.0 in
       let z =

@@ -9,16 +9,16 @@ use Rattle.ledger_core.specs.History.{height}
 use Rattle.ledger_core.specs.Book.{Histories, history}
 use Rattle.swap_run.specs.Run.{Cast, State, start, run}
 use Rattle.swap_run.specs.Laws.{IsReadyCast, IsGood}
-use Rattle.swap_run.specs.Fair.{repeat, the_horizon, round, has_ended, round_unless_ended, finish}
+use Rattle.swap_run.specs.Fair.{repeat, the_horizon, round, is_above_horizon, round_unless_ended, finish}
 use Rattle.swap_run.specs.FairLaws.{FinishesEnd, FinishesAreGood, FinishHeights, FinishStops, FinishContinues}
 use Rattle.swap_run.proofs.Good.{start_is_good, runs_are_good, good_is_kept}
 use Rattle.swap_run.proofs.Repeats.{repeat_first, repeat_fixed}
 use Rattle.swap_run.proofs.Rounds.{rounded}
 
-pub round_rests : (c : Cast) (s : State) → has_ended c.deal s.book ≡ true → round_unless_ended c s ≡ s
+pub round_rests : (c : Cast) (s : State) → is_above_horizon c.deal s.book ≡ true → round_unless_ended c s ≡ s
 round_rests c s e = ap (λ z. cond z s (round c s)) e
 
-pub round_goes_on : (c : Cast) (s : State) → has_ended c.deal s.book ≡ false → round_unless_ended c s ≡ round c s
+pub round_goes_on : (c : Cast) (s : State) → is_above_horizon c.deal s.book ≡ false → round_unless_ended c s ≡ round c s
 round_goes_on c s e = ap (λ z. cond z s (round c s)) e
 
 abbrev AllAbove : Cast → State → ℕ → Type 0
@@ -37,9 +37,9 @@ record Reached (c : Cast) (r : ℕ) (s : State) : Type 0 where
   above : AllAbove c s r
 
 next_reached : (c : Cast) → IsReadyCast c → (r : ℕ) (s : State) → r ≤ the_horizon c.deal → Reached c r s → Reached c (suc r) (round_unless_ended c s)
-next_reached c ready r s l x = go (has_ended c.deal s.book) refl
+next_reached c ready r s l x = go (is_above_horizon c.deal s.book) refl
   where
-    go : (y : Bool) → has_ended c.deal s.book ≡ y → Reached c (suc r) (cond y s (round c s))
+    go : (y : Bool) → is_above_horizon c.deal s.book ≡ y → Reached c (suc r) (cond y s (round c s))
     go false e =
         let k = rounded c ready s x.good in
         record {
@@ -62,7 +62,7 @@ all_rounds : (c : Cast) → IsReadyCast c → (s : State) → IsGood c s → Rea
 unfolding finish
 all_rounds c ready s g = reached c ready (the_horizon c.deal + 1) s (omega arith) g
 
-pub ended_of : (d : Deal) (b : Histories) → ((a : ℕ) → a < length d.graph.arcs → the_horizon d < height (history b a)) → has_ended d b ≡ true
+pub ended_of : (d : Deal) (b : Histories) → ((a : ℕ) → a < length d.graph.arcs → the_horizon d < height (history b a)) → is_above_horizon d b ≡ true
 ended_of d b h =
     list_all-from (λ a. nat_lt (the_horizon d) (height (history b a))) (arcs d.graph) (λ a i. lt-ltb _ _ (h a (from_range a (length d.graph.arcs) i)))
 
@@ -104,7 +104,7 @@ record Steady (c : Cast) (old new : State) : Type 0 where
   high : (a : ℕ) → a < length c.deal.graph.arcs → the_horizon c.deal < height (history old.book a) → height (history new.book a) ≡ height (history old.book a)
 
 next_steady : (c : Cast) → IsReadyCast c → (old s : State) → Steady c old s → Steady c old (round_unless_ended c s)
-next_steady c ready old s x = go (has_ended c.deal s.book)
+next_steady c ready old s x = go (is_above_horizon c.deal s.book)
   where
     go : (y : Bool) → Steady c old (cond y s (round c s))
     go true = x

@@ -34,7 +34,7 @@ use Rattle.swap_rules.proofs.Conducting.{Next, next_call as next_of_call, next_l
 use Rattle.party_wallet.specs.Value.{signed_hashkey}
 use Rattle.swap_run.specs.Run.{Cast, Notes, State, conforms, party_role, state_notes, party_plan, signed_through_call, after_tick, notes_with_ledger, look, make}
 use Rattle.swap_run.specs.Run.{next_action}
-use Rattle.swap_run.specs.Run.{is_recorded, recorded_hashkeys, relearnt, crash}
+use Rattle.swap_run.specs.Run.{is_recorded_after_crash, recorded_hashkeys, relearnt, crash}
 use Rattle.swap_run.specs.Run.{act, watch, take_call, after_turn, follow, question, after_question, ask, answered_call, role_act}
 use Rattle.swap_run.specs.Run.{step, no_histories, no_notes, first_plan, start, run}
 use Rattle.ledger_core.specs.Ledger.{after_call}
@@ -211,7 +211,7 @@ module _ (c : Cast) (s : State) (v k image : ℕ) (ready : IsReadyCast c) (lv : 
   hold_crash : (o : Option Action) → next_action c s v ≡ o
       → Holds c.deal s.book (record { known = relearnt c.deal v s.book; signed = recorded_hashkeys (state_notes s v).signed o k image }) v
   hold_crash None e = hold_restart c.deal s.book (state_notes s v) v g.legal hv
-  hold_crash (Some x) e = kept (is_recorded k image)
+  hold_crash (Some x) e = kept (is_recorded_after_crash k image)
     where
       kept : (y : Bool) → Holds c.deal s.book (record {
         known = relearnt c.deal v s.book;

@@ -24,7 +24,7 @@ use Rattle.swap_rules.proofs.Prefixes.{same_or_not}
 use Rattle.swap_rules.proofs.Conducting.{history_same, history_other}
 use Rattle.swap_run.specs.Run.{Cast, Notes, State, conforms, party_role, is_planned, state_notes, notes_with_ledger, signed_through_call, after_tick, look}
 use Rattle.swap_run.specs.Run.{watch, make, act, role_act, next_action, step}
-use Rattle.swap_run.specs.Fair.{repeat, adjacent_arcs, looks, acts, most_acts, turn, turns, the_horizon, tick_low, ticks, round, has_ended, round_unless_ended}
+use Rattle.swap_run.specs.Fair.{repeat, adjacent_arcs, looks, acts, most_acts, turn, turns, the_horizon, tick_low, ticks, round, is_above_horizon, round_unless_ended}
 use Rattle.swap_run.specs.Quiet.{overlaid_histories, looked, IsIdle}
 use Rattle.swap_run.proofs.Entries.{tick_full, tick_room}
 use Rattle.swap_run.proofs.Repeats.{repeat_fixed}
@@ -302,7 +302,7 @@ module _ (c : Cast) where
 
   -- a ledger that isn't above the horizon after them
   pub stays_low : (n : ℕ) (s : State) (z : ℕ) → z < length c.deal.graph.arcs → z < length s.book → height (history s.book z) + n ≤ the_horizon c.deal
-      → (i : ℕ) → i ≤ n → has_ended c.deal (repeat i (ticks c) s).book ≡ false
+      → (i : ℕ) → i ≤ n → is_above_horizon c.deal (repeat i (ticks c) s).book ≡ false
   stays_low n s z lz l low i few = not-true _ (λ e.
       let r = (rises i s z l).high in
       let p = list_all-in (λ a. nat_lt (the_horizon c.deal) (height (history (repeat i (ticks c) s).book a))) (arcs c.deal.graph) z e
@@ -495,7 +495,7 @@ module _ (c : Cast) where
 
     -- some quiet rounds and one more lead to the same state as their ticks and one round
     pub finish_skips : (n : ℕ) (s : State) → length s.notes ≡ c.deal.graph.n
-        → ((i : ℕ) → i ≤ n → has_ended c.deal (repeat i (ticks c) s).book ≡ false)
+        → ((i : ℕ) → i ≤ n → is_above_horizon c.deal (repeat i (ticks c) s).book ≡ false)
         → ((i : ℕ) → i < n → (v : ℕ) → v < c.deal.graph.n → conforms c v ≡ true
         → IsIdle c (repeat i (ticks c) s).book v (state_notes (repeat i (ticks c) s) v))
         → repeat (suc n) (round_unless_ended c) s ≡ round c (repeat n (ticks c) s)
@@ -504,6 +504,6 @@ module _ (c : Cast) where
         let t = repeat n (ticks c) s in
         let far : length t.notes ≡ c.deal.graph.n = ap length (notes_kept n s) ∙ many in
         let still = idle n (omega arith) in
-        let low : has_ended c.deal (round c t).book ≡ false = ap (has_ended c.deal) (calm_round t far still) ∙ on (suc n) (omega arith) in
+        let low : is_above_horizon c.deal (round c t).book ≡ false = ap (is_above_horizon c.deal) (calm_round t far still) ∙ on (suc n) (omega arith) in
         ap (round_unless_ended c) (finish_skips n s many (λ i l. on i (omega (arith, l))) (λ i l. idle i (omega (arith, l))))
         ∙ round_goes_on c (round c t) low ∙ round_skips t far still

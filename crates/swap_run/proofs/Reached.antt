@@ -14,7 +14,7 @@ use Rattle.swap_job.specs.declared.event.Event.{Event}
 use Rattle.swap_job.specs.declared.event.Event.TheVariants.{Tick, Look, Act}
 use Rattle.swap_job.specs.Step.{CanStep}
 use Rattle.swap_run.specs.Run.{Cast, State, conforms, step}
-use Rattle.swap_run.specs.Fair.{repeat, adjacent_arcs, looks, acts, most_acts, turn, turns, the_horizon, tick_low, ticks, round, has_ended}
+use Rattle.swap_run.specs.Fair.{repeat, adjacent_arcs, looks, acts, most_acts, turn, turns, the_horizon, tick_low, ticks, round, is_above_horizon}
 use Rattle.swap_run.specs.Fair.{round_unless_ended, finish}
 use Rattle.swap_run.specs.FairLaws.{IsReached, FinishesAreRuns}
 
@@ -75,7 +75,7 @@ module _ (c : Cast) where
       (fold_events (tick_low c) (arcs c.deal.graph) (turns c s) (λ s a i. tick_events s a (from_range a (length c.deal.graph.arcs) i)))
 
   unless_events : (s : State) → IsReached c s (round_unless_ended c s)
-  unless_events s = go (has_ended c.deal s.book)
+  unless_events s = go (is_above_horizon c.deal s.book)
     where
       go : (y : Bool) → IsReached c s (cond y s (round c s))
       go true = no_event s

@@ -13,7 +13,7 @@ use Rattle.swap_job.specs.declared.job.Role.{Role}
 use Rattle.swap_job.specs.declared.job.Role.TheVariants.{Conforming, Manual, Script, Strategy}
 use Rattle.swap_rules.proofs.Prefixes.{same_or_not}
 use Rattle.swap_run.specs.Run.{Cast, Notes, State, conforms, party_role, is_planned, state_notes, act, role_act, look, watch, continued_run, step}
-use Rattle.swap_run.specs.Fair.{repeat, adjacent_arcs, looks, acts, most_acts, turn, turns, ticks, round, has_ended, round_unless_ended}
+use Rattle.swap_run.specs.Fair.{repeat, adjacent_arcs, looks, acts, most_acts, turn, turns, ticks, round, is_above_horizon, round_unless_ended}
 use Rattle.swap_run.specs.Quiet.{overlaid_histories}
 use Rattle.swap_run.specs.Steps.{act_steps, look_steps, pass_steps, round_steps, rounds_steps, tick_steps, turn_steps, turns_steps, unless_steps}
 use Rattle.swap_run.specs.Steps.{IsAlong, IsSkipped}
@@ -160,7 +160,7 @@ module _ (c : Cast) where
     -- So many quiet rounds.
 
     module _ (n : ℕ) (s : State) (many : length s.notes ≡ c.deal.graph.n)
-        (on : (i : ℕ) → i ≤ n → has_ended c.deal (repeat i (ticks c) s).book ≡ false)
+        (on : (i : ℕ) → i ≤ n → is_above_horizon c.deal (repeat i (ticks c) s).book ≡ false)
         (idle : (i : ℕ) → i < n → AllIdle c plain (repeat i (ticks c) s)) where
       abbrev ticked : ℕ → State
       ticked i = repeat i (ticks c) s
@@ -189,7 +189,7 @@ module _ (c : Cast) where
       -- on the way of the round number i
       here : (i : ℕ) (b : Histories) → i ≤ n → IsAlong c (rounded i) (round_steps c (rounded i)) b → IsAlong c s (rounds_steps (suc i) c s) b
       here i b le k =
-          let low : has_ended c.deal (rounded i).book ≡ false = ap (has_ended c.deal) (round_book i le) ∙ on i le in
+          let low : is_above_horizon c.deal (rounded i).book ≡ false = ap (is_above_horizon c.deal) (round_book i le) ∙ on i le in
           let is : unless_steps c (rounded i) ≡ round_steps c (rounded i) = ap (λ (y : Bool). cond y [] (round_steps c (rounded i))) low in
           along_after c s (rounds_steps i c s) (unless_steps c (rounded i)) b
           (subst (λ (es : List Event). IsAlong c (continued_run c s (rounds_steps i c s)) es b) (sym is)
@@ -244,7 +244,7 @@ module _ (c : Cast) where
       }
 
   -- no round but the next
-  pub none_skipped : (s : State) → has_ended c.deal s.book ≡ false → IsSkipped c 0 s
+  pub none_skipped : (s : State) → is_above_horizon c.deal s.book ≡ false → IsSkipped c 0 s
   none_skipped s on = record {
     skips = ap (λ (y : Bool). cond y s (round c s)) on;
     pass = λ b k. along_start c s (rounds_steps 1 c s) b (along_none c s b k);

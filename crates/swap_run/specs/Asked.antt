@@ -50,23 +50,23 @@ FinishesWithoutStrategies =
     (c : Cast) (answers : Answers) (s : State) → list_any is_strategy c.roles ≡ false → finish (with_answers c answers) s ≡ finish c s
 
 -- what a strategy answers, where a rule decides it
-abbrev pub Rule : Type 0
-Rule = Deal → Question → Option (ℕ × Call)
+abbrev pub StrategyRule : Type 0
+StrategyRule = Deal → Question → Option (ℕ × Call)
 
 -- all that is asked from the state s to the state t is answered by the rule
-abbrev pub IsByRule : Rule → Cast → State → State → Type 0
+abbrev pub IsByRule : StrategyRule → Cast → State → State → Type 0
 IsByRule rule c s t = (i : ℕ) (q : Question) → length s.asked ≤ i → i < length t.asked → q ≡ slice_index_or t.asked i q → c.answers i ≡ rule c.deal q
 
 -- where a rule gives all answers, it decides what a run comes to
 abbrev pub RulesDecideRuns : Type 0
 RulesDecideRuns =
-    (rule : Rule) (c : Cast) (answers : Answers) (s : State) (events : List Event) → IsByRule rule c s (continued_run c s events)
+    (rule : StrategyRule) (c : Cast) (answers : Answers) (s : State) (events : List Event) → IsByRule rule c s (continued_run c s events)
     → IsByRule rule (with_answers c answers) s (continued_run (with_answers c answers) s events)
     → continued_run (with_answers c answers) s events ≡ continued_run c s events
 
 -- and what a fair finish comes to
 abbrev pub RulesDecideFinishes : Type 0
 RulesDecideFinishes =
-    (rule : Rule) (c : Cast) (answers : Answers) (s : State) → IsByRule rule c s (finish c s)
+    (rule : StrategyRule) (c : Cast) (answers : Answers) (s : State) → IsByRule rule c s (finish c s)
     → IsByRule rule (with_answers c answers) s (finish (with_answers c answers) s)
     → finish (with_answers c answers) s ≡ finish c s

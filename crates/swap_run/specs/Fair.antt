@@ -74,8 +74,8 @@ unfoldable pub round : Cast → State → State
 round c s = ticks c (turns c s)
 
 -- each ledger is above the horizon
-abbrev pub has_ended : Deal → Histories → Bool
-has_ended d b = list_all (λ a. nat_lt (the_horizon d) (height (history b a))) (arcs d.graph)
+abbrev pub is_above_horizon : Deal → Histories → Bool
+is_above_horizon d b = list_all (λ a. nat_lt (the_horizon d) (height (history b a))) (arcs d.graph)
 
 -- the heights that the least ledger lacks
 abbrev pub rounds_left : Deal → Histories → ℕ
@@ -83,7 +83,7 @@ rounds_left d b = greatest (λ a. (the_horizon d + 1) - height (history b a)) (a
 
 -- a round, unless each ledger is above the horizon
 abbrev pub round_unless_ended : Cast → State → State
-round_unless_ended c s = if has_ended c.deal s.book then s else round c s
+round_unless_ended c s = if is_above_horizon c.deal s.book then s else round c s
 
 -- rounds until each ledger is above the horizon, for which one more than the horizon are enough
 unfoldable pub finish : Cast → State → State

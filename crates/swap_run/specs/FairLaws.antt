@@ -8,7 +8,7 @@ use Rattle.swap_rules.specs.Outcome.{IsEnded}
 use Rattle.swap_rules.specs.Laws.{IsDealt}
 use Rattle.swap_run.specs.Run.{Cast, State, conforms, party_role, is_planned, next_action, start, continued_run, run}
 use Rattle.swap_run.specs.Laws.{IsReadyCast, IsGood, IsKept}
-use Rattle.swap_run.specs.Fair.{acts, most_acts, turn, raised, end_height, round, has_ended, rounds_left, finish}
+use Rattle.swap_run.specs.Fair.{acts, most_acts, turn, raised, end_height, round, is_above_horizon, rounds_left, finish}
 
 -- The state t is reached from the state s by events of a run.
 pub record IsReached (c : Cast) (s t : State) : Type 0 where
@@ -78,13 +78,13 @@ RoundsRaise =
 -- so each round leaves one less to do
 abbrev pub RoundsCountDown : Type 0
 RoundsCountDown =
-    (c : Cast) (s : State) → IsReadyCast c → IsGood c s → has_ended c.deal s.book ≡ false
+    (c : Cast) (s : State) → IsReadyCast c → IsGood c s → is_above_horizon c.deal s.book ≡ false
     → rounds_left c.deal (round c s).book + 1 ≡ rounds_left c.deal s.book
 
 -- a finish of an ended book is no round
 abbrev pub FinishStops : Type 0
-FinishStops = (c : Cast) (s : State) → has_ended c.deal s.book ≡ true → finish c s ≡ s
+FinishStops = (c : Cast) (s : State) → is_above_horizon c.deal s.book ≡ true → finish c s ≡ s
 
 -- and else it is a round and a finish
 abbrev pub FinishContinues : Type 0
-FinishContinues = (c : Cast) (s : State) → IsReadyCast c → IsGood c s → has_ended c.deal s.book ≡ false → finish c (round c s) ≡ finish c s
+FinishContinues = (c : Cast) (s : State) → IsReadyCast c → IsGood c s → is_above_horizon c.deal s.book ≡ false → finish c (round c s) ≡ finish c s

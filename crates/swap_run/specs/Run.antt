@@ -195,13 +195,13 @@ role_act c s v (Strategy name) = ask c s v name
 
 -- An act that is stopped within the disk call after k of them, of the four that record a hashkey,
 -- has it recorded after the crash: its gate was written, and what isn't synced holds its new bytes.
-abbrev pub is_recorded : (k image : ℕ) → Bool
-is_recorded k image = nat_le 2 k && (image == 1)
+abbrev pub is_recorded_after_crash : (k image : ℕ) → Bool
+is_recorded_after_crash k image = nat_le 2 k && (image == 1)
 
 -- the hashkeys that are recorded after the act was stopped
 abbrev pub recorded_hashkeys : List (Option Hashkey) → Option Action → (k image : ℕ) → List (Option Hashkey)
 recorded_hashkeys signed None k image = signed
-recorded_hashkeys signed (Some x) k image = if is_recorded k image then signed_through_call signed x.call else signed
+recorded_hashkeys signed (Some x) k image = if is_recorded_after_crash k image then signed_through_call signed x.call else signed
 
 -- what v knows that has learnt the history of each ledger that touches it to its end
 abbrev pub relearnt : Deal → ℕ → Histories → Histories

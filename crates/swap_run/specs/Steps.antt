@@ -8,7 +8,7 @@ use Rattle.ledger_core.specs.Book.{Histories, history}
 use Rattle.swap_job.specs.declared.event.Event.{Event}
 use Rattle.swap_job.specs.declared.event.Event.TheVariants.{Tick, Look, Act}
 use Rattle.swap_run.specs.Run.{Cast, State, conforms, after_tick, continued_run}
-use Rattle.swap_run.specs.Fair.{repeat, adjacent_arcs, most_acts, turns, the_horizon, ticks, has_ended, round_unless_ended, finish}
+use Rattle.swap_run.specs.Fair.{repeat, adjacent_arcs, most_acts, turns, the_horizon, ticks, is_above_horizon, round_unless_ended, finish}
 use Rattle.swap_run.specs.Quiet.{SkipsQuietRounds}
 
 -- The histories b are those after the first so many of these events.
@@ -57,7 +57,7 @@ round_steps c s = turns_steps c ++ tick_steps c.deal (turns c s).book
 
 -- a round, unless each ledger is above the horizon
 abbrev pub unless_steps : Cast → State → List Event
-unless_steps c s = if has_ended c.deal s.book then [] else round_steps c s
+unless_steps c s = if is_above_horizon c.deal s.book then [] else round_steps c s
 
 -- so many of them
 abbrev pub rounds_steps : ℕ → Cast → State → List Event

@@ -35,8 +35,8 @@ use Rattle.swap_run.proofs.Good.{unlocks_are_signed}
 use Rattle.swap_run.proofs.Swept.{steps_on_are_good}
 use Rattle.swap_world.specs.Acting.{next_book, histories, next_machine, IsSameOwner}
 use Rattle.swap_world.specs.Cast.{made_cast}
-use Rattle.swap_world.specs.Inside.{actor_notes, inside_run_state, ArePartyActors, Holds, IsPartyActor}
-use Rattle.swap_world.specs.Journals.{AreMachineDisks, AreMachineJournals, IsBetween, IsMachineDisk, IsSomeDisk, IsSomeJournal}
+use Rattle.swap_world.specs.Inside.{actor_notes, inside_run_state, ArePartyActors, WorldHolds, IsPartyActor}
+use Rattle.swap_world.specs.Journals.{AreMachineDisks, AreMachineJournals, IsDiskDuringSigning, IsMachineDisk, IsSomeDisk, IsSomeJournal}
 use Rattle.swap_world.specs.declared.actor.Actor.{Actor}
 use Rattle.swap_world.specs.declared.actor.Actor.TheVariants.{Conforming, Planned, Manual}
 use Rattle.swap_world.specs.declared.world.World.TheInside.{Inside}
@@ -63,7 +63,7 @@ OthersSigned d b xs p =
 
 -- Disks between what was signed and what is.
 
-pub between_disk : (d : Deal) (v : ℕ) (b : Histories) (before after : List (Option Hashkey)) (h : Held) → IsBetween before after h → IsSigned d v b before
+pub between_disk : (d : Deal) (v : ℕ) (b : Histories) (before after : List (Option Hashkey)) (h : Held) → IsDiskDuringSigning before after h → IsSigned d v b before
     → IsMachineDisk d v b after h
 between_disk d v b before after h k signed = record {
   places = k.places ∙ signed.places;
@@ -85,7 +85,7 @@ between_disk d v b before after h k signed = record {
     has key c mine (inr e) = e ∙ k.stays key.lock key mine
 
 -- a disk that has just what is signed
-pub exact_between : (signed shown : List (Option Hashkey)) (h : Held) → shown ≡ signed → ShowsAll shown h → IsBetween signed signed h
+pub exact_between : (signed shown : List (Option Hashkey)) (h : Held) → shown ≡ signed → ShowsAll shown h → IsDiskDuringSigning signed signed h
 exact_between signed shown h same shows = record {
   places = refl;
   each = λ i lt c left. inl (subst (λ (l : List (Option Hashkey)). ShowsAll l h) same shows i lt c left);
@@ -94,7 +94,7 @@ exact_between signed shown h same shows = record {
 
 -- the same, of which some was signed since
 pub signed_between : (before after shown : List (Option Hashkey)) (h : Held) → length after ≡ length before
-    → ((i : ℕ) (key : Hashkey) → signed_hashkey before i ≡ Some key → signed_hashkey after i ≡ Some key) → shown ≡ after → ShowsAll shown h → IsBetween before after h
+    → ((i : ℕ) (key : Hashkey) → signed_hashkey before i ≡ Some key → signed_hashkey after i ≡ Some key) → shown ≡ after → ShowsAll shown h → IsDiskDuringSigning before after h
 signed_between before after shown h places stays same shows = record {
   places = places;
   each = λ i lt c left. inr (subst (λ (l : List (Option Hashkey)). ShowsAll l h) same shows i lt c left);
@@ -104,15 +104,15 @@ signed_between before after shown h places stays same shows = record {
 -- a disk of which a crash leaves nothing new
 pub unwritten_between : (before after shown : List (Option Hashkey)) (h h' : Held) → length after ≡ length before
     → ((i : ℕ) (key : Hashkey) → signed_hashkey before i ≡ Some key → signed_hashkey after i ≡ Some key) → shown ≡ before → ShowsAll shown h
-    → ((c : List ℕ) → Leaves h' c → Leaves h c) → IsBetween before after h'
+    → ((c : List ℕ) → Leaves h' c → Leaves h c) → IsDiskDuringSigning before after h'
 unwritten_between before after shown h h' places stays same shows fewer = record {
   places = places;
   each = λ i lt c left. inl (subst (λ (l : List (Option Hashkey)). ShowsAll l h) same shows i (subst (λ n. i < n) places lt) c (fewer c left));
   stays = stays;
 }
 
-pub fewer_between : (before after : List (Option Hashkey)) (h h' : Held) → IsBetween before after h → ((c : List ℕ) → Leaves h' c → Leaves h c)
-    → IsBetween before after h'
+pub fewer_between : (before after : List (Option Hashkey)) (h h' : Held) → IsDiskDuringSigning before after h → ((c : List ℕ) → Leaves h' c → Leaves h c)
+    → IsDiskDuringSigning before after h'
 fewer_between before after h h' k fewer = record { places = k.places; each = λ i lt c left. k.each i lt c (fewer c left); stays = k.stays }
 
 -- while a hashkey is recorded
@@ -132,7 +132,7 @@ module _ (before after : List (Option Hashkey)) (d : DiskState) (h : Held) (next
   may None is i c lt (inr new) = absurd new
   may (Some key) is i c lt (inr new) = there i c key lt is (new i (omega (arith, lt, few)))
 
-  pub recording_between : IsBetween before after h
+  pub recording_between : IsDiskDuringSigning before after h
   recording_between = record {
     places = places;
     each = λ i lt c left. may next refl i c (subst (λ n. i < n) places lt) (whole c left);
@@ -140,7 +140,7 @@ module _ (before after : List (Option Hashkey)) (d : DiskState) (h : Held) (next
   }
 
 -- after a crash, whose disk the journal shows
-module _ (before after shown : List (Option Hashkey)) (h h' : Held) (bytes : List ℕ) (k : IsBetween before after h) (left : Leaves h bytes)
+module _ (before after shown : List (Option Hashkey)) (h h' : Held) (bytes : List ℕ) (k : IsDiskDuringSigning before after h) (left : Leaves h bytes)
     (places : length shown ≡ length after) (is : (i : ℕ) → i < length shown → listed_hashkey shown i ≡ recorded bytes i) (shows : ShowsAll shown h') where
   read : (i : ℕ) → i < length after → (recorded bytes i ≡ signed_hashkey before i) ⊎ (recorded bytes i ≡ signed_hashkey after i)
   read i lt = k.each i lt bytes left
@@ -148,7 +148,7 @@ module _ (before after shown : List (Option Hashkey)) (h h' : Held) (bytes : Lis
   all : (i : ℕ) → i < length after → (c : List ℕ) → Leaves h' c → recorded c i ≡ recorded bytes i
   all i lt c l = let low = subst (λ n. i < n) (sym places) lt in shows i low c l ∙ is i low
 
-  pub crashed_between : IsBetween before after h'
+  pub crashed_between : IsDiskDuringSigning before after h'
   crashed_between = record { places = k.places; each = λ i lt c l. by i c (all i lt c l) (read i lt); stays = k.stays }
     where
       by : (i : ℕ) (c : List ℕ) → recorded c i ≡ recorded bytes i → (recorded bytes i ≡ signed_hashkey before i) ⊎ (recorded bytes i ≡ signed_hashkey after i)
@@ -157,7 +157,7 @@ module _ (before after shown : List (Option Hashkey)) (h h' : Held) (bytes : Lis
       by i c e (inr x) = inr (e ∙ x)
 
   -- the party then goes on with what the journal shows
-  pub resumed_between : (now : List (Option Hashkey)) → now ≡ shown → IsBetween before now h'
+  pub resumed_between : (now : List (Option Hashkey)) → now ≡ shown → IsDiskDuringSigning before now h'
   resumed_between now same = signed_between before now shown h' (ap (λ (l : List (Option Hashkey)). length l) same ∙ (places ∙ k.places)) stays (sym same) shows
     where
       by : (i : ℕ) (key : Hashkey) → signed_hashkey before i ≡ Some key → (recorded bytes i ≡ signed_hashkey before i) ⊎ (recorded bytes i ≡ signed_hashkey after i)
@@ -278,7 +278,7 @@ pub crashed_disks : (d : Deal) (conforming : List Bool) (seeds : Seeds) (roles :
     (js : List (Option (JournalState DiskState))) (p : ℕ) (m new : MachineState) (j : JournalState DiskState)
     → IsAt d conforming seeds roles qs ls xs p m → ArePartyActors d conforming seeds roles xs
     → IsGood (c d conforming seeds roles qs ls xs) (s d conforming seeds roles qs ls xs) → AreMachineJournals d xs js
-    → IsBetween m.signed new.signed j.disk.held → AreMachineDisks d (histories ls) (set xs p (Conforming new)) (set js p (Some j))
+    → IsDiskDuringSigning m.signed new.signed j.disk.held → AreMachineDisks d (histories ls) (set xs p (Conforming new)) (set js p (Some j))
 crashed_disks d conforming seeds roles qs ls xs js p m new j place actors good k between =
     let signed = have_signed d conforming seeds roles (s d conforming seeds roles qs ls xs) xs actors good refl in
     disks_set d (histories ls) xs js p new j k (λ v l apart lt here. signed v l lt here) place.below
@@ -324,7 +324,7 @@ module _ (d : Deal) (conforming : List Bool) (seeds : Seeds) (roles : List Role)
       (between_disk d p called new.signed new.signed j.disk.held (exact_between new.signed new.signed j.disk.held refl e.2)
       (subst (λ (l : List (Option Hashkey)). IsSigned d p called l) (sym e.1) here_signed)))
 
-  pub stopped_disks : {A E : Type 0} (r : Result A E) → OnErr r (IsBetween m.signed new.signed j.disk.held)
+  pub stopped_disks : {A E : Type 0} (r : Result A E) → OnErr r (IsDiskDuringSigning m.signed new.signed j.disk.held)
       → OnErr r ((b ≡ histories ls) ⊎ ((b ≡ called) × (new.signed ≡ after.signed) × ShowsAll new.signed j.disk.held))
       → OnErr r (AreMachineDisks d b (set xs p (Conforming new)) (set js p (Some j)))
   stopped_disks (Ok x) between made = tt
@@ -333,7 +333,7 @@ module _ (d : Deal) (conforming : List Bool) (seeds : Seeds) (roles : List Role)
       (crashed_disks d conforming seeds roles qs ls xs js p m new j place actors good k between)
   stopped_disks (Err e) between (inr is) = made_disks is
 
-pub all_disks : (w : Inside) → Holds w → AreMachineDisks w.deal (histories w.ledgers.items) w.actors.items w.journals.items
+pub all_disks : (w : Inside) → WorldHolds w → AreMachineDisks w.deal (histories w.ledgers.items) w.actors.items w.journals.items
 all_disks w k = go w.stopped refl
   where
     go : (b : Bool) → w.stopped ≡ b → AreMachineDisks w.deal (histories w.ledgers.items) w.actors.items w.journals.items

@@ -15,7 +15,7 @@ use Rattle.swap_job.specs.declared.event.Event.TheVariants.{Look, Act, Tick}
 use Rattle.swap_job.specs.Step.{CanLook}
 use Rattle.swap_run.specs.Run.{Cast, State, conforms, step}
 use Rattle.swap_run.specs.Fair.{repeat, adjacent_arcs, looks, acts, most_acts, turn, turns, the_horizon, tick_low}
-use Rattle.swap_run.specs.Fair.{ticks, round, has_ended, round_unless_ended, finish}
+use Rattle.swap_run.specs.Fair.{ticks, round, is_above_horizon, round_unless_ended, finish}
 use Rattle.swap_run.specs.Steps.{finish_steps, look_steps, low_step, pass_steps, round_steps, rounds_steps, tick_steps, turn_steps, turns_steps, IsSkipped}
 use Rattle.swap_run.proofs.Along.{along_start, looks_run, turns_run, rounds_run, rounds_plus}
 use Rattle.swap_run.specs.Run.{start}
@@ -28,7 +28,7 @@ use Rattle.swap_rules.specs.Laws.{IsDealt}
 use Rattle.swap_world.specs.Value.{WorldState, world_answers, world_cast, answering_cast}
 use Rattle.swap_world.specs.Gone.{MayGive, HasGone}
 use Rattle.swap_world.specs.Near.{all_adjacent}
-use Rattle.swap_world.specs.Stopped.{AllConform, IsStopped}
+use Rattle.swap_world.specs.Stopped.{AllWorldPartiesConform, IsStopped}
 use Rattle.swap_world.proofs.Ways.{over, over_ticks, over_turns, repeat_split, range_all}
 use Rattle.swap_world.proofs.Gone.{gone_as, gone_then, cast_gone, deal_gone, more_asked, nothing_asked, stopped_as, stopped_after, stopped_then, way_from}
 use Rattle.swap_world.proofs.Worlds.{ready_for, good_for}
@@ -180,10 +180,10 @@ module _ (gives : MayGive) (old mid new : WorldState) (turned : HasGone gives tu
 pub round_cut : (gives : MayGive) (old new : WorldState) → IsStopped gives (λ c s. turns_steps c) old new → IsStopped gives round_steps old new
 round_cut gives old new k = stopped_then gives (λ c s. turns_steps c) (λ c s. tick_steps c.deal (turns c s).book) old new k
 
-pub is_round : (c : Cast) (s : State) → has_ended c.deal s.book ≡ false → round_unless_ended c s ≡ round c s
+pub is_round : (c : Cast) (s : State) → is_above_horizon c.deal s.book ≡ false → round_unless_ended c s ≡ round c s
 is_round c s e = ap (λ (b : Bool). cond b s (round c s)) e
 
-pub is_rest : (c : Cast) (s : State) → has_ended c.deal s.book ≡ true → round_unless_ended c s ≡ s
+pub is_rest : (c : Cast) (s : State) → is_above_horizon c.deal s.book ≡ true → round_unless_ended c s ≡ s
 is_rest c s e = ap (λ (b : Bool). cond b s (round c s)) e
 
 -- Rounds of which only the ticks are taken, and one more.
@@ -283,7 +283,7 @@ module _ {A E : Type 0} (gives : MayGive) (w new : WorldState) (ready : IsReadyC
   has_ended_by (Err x) k good = tt
 
   pub dealt_by : (r : Result A E) → OnOk r (HasGone gives finish w new)
-      → OnOk r (AllConform w → w.state ≡ start (world_cast w) → IsDealt w.deal (conforms (world_cast w)) new.state.book)
+      → OnOk r (AllWorldPartiesConform w → w.state ≡ start (world_cast w) → IsDealt w.deal (conforms (world_cast w)) new.state.book)
   dealt_by (Ok x) k = λ all at.
       let g = world_answers new in
       subst (λ (s : State). IsDealt w.deal (conforms (world_cast w)) s.book)

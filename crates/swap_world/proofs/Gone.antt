@@ -23,7 +23,7 @@ use Rattle.swap_run.proofs.Along.{along_start, along_more, along_after, along_st
 use Rattle.swap_world.specs.Cast.{asks}
 use Rattle.swap_world.specs.Value.{WorldState, world_cast, answering_cast, Continues}
 use Rattle.swap_world.specs.Actors.{AreHeld}
-use Rattle.swap_world.specs.Gone.{MayGive, Answered, MayBeGiven, HasAsked, HasGone, IsCutMidway, IsCut}
+use Rattle.swap_world.specs.Gone.{MayGive, Answered, MayBeGiven, HasAsked, HasGone, IsCutMidway, IsCutInEvent}
 use Rattle.swap_world.specs.On.{event_told, told_of_call}
 use Rattle.swap_world.specs.declared.told.Told.{Told}
 use Rattle.swap_world.specs.Stopped.{IsStopped}
@@ -156,7 +156,7 @@ module _ (gives : MayGive) where
   }
 
   -- in an event that wanted memory
-  pub stopped_in : (old new : WorldState) (e : Event) → new.stopped ≡ true → IsCut gives e old new → IsStopped gives (λ c s. e ∷ []) old new
+  pub stopped_in : (old new : WorldState) (e : Event) → new.stopped ≡ true → IsCutInEvent gives e old new → IsStopped gives (λ c s. e ∷ []) old new
   stopped_in old new e stopped k = record {
     stopped = stopped;
     cast = k.cast;
@@ -171,7 +171,7 @@ module _ (gives : MayGive) where
       either g x (inr h) = inr (h g x)
 
   pub stopped_by : {A E : Type 0} (r : Result A E) (old new : WorldState) (e : Event) (f : Cast → State → List Event)
-      → ((g : Answers) → e ∷ [] ≡ f (answering_cast old g) old.state) → OnErr r (new.stopped ≡ true) → OnErr r (IsCut gives e old new)
+      → ((g : Answers) → e ∷ [] ≡ f (answering_cast old g) old.state) → OnErr r (new.stopped ≡ true) → OnErr r (IsCutInEvent gives e old new)
       → OnErr r (IsStopped gives f old new)
   stopped_by (Ok x) old new e f same stopped k = tt
   stopped_by (Err x) old new e f same stopped k = stopped_as (λ c s. e ∷ []) f old new same (stopped_in old new e stopped k)

@@ -27,7 +27,7 @@ use Rattle.party_machine.specs.Rest.{IsAtRest}
 use Rattle.party_machine.proofs.Resting.{still}
 use Rattle.swap_run.specs.Asked.{Answers, with_answers}
 use Rattle.swap_run.specs.Run.{Cast, Notes, Question, State, conforms, party_role, is_planned, state_notes}
-use Rattle.swap_run.specs.Fair.{repeat, adjacent_arcs, the_horizon, ticks, has_ended}
+use Rattle.swap_run.specs.Fair.{repeat, adjacent_arcs, the_horizon, ticks, is_above_horizon}
 use Rattle.swap_run.specs.Quiet.{overlaid_histories, IsIdle}
 use Rattle.swap_run.specs.Steps.{IsSkipped}
 use Rattle.swap_run.specs.Laws.{IsReadyCast, IsGood}
@@ -36,7 +36,7 @@ use Rattle.swap_run.proofs.Skipped.{is_skipped, none_skipped}
 use Rattle.swap_world.specs.Cast.{signing_wallet}
 use Rattle.swap_world.specs.Acting.{histories}
 use Rattle.swap_world.specs.Inside.{IsPartyActor, ArePartyActors, AreArcLedgers}
-use Rattle.swap_world.specs.Quiet.{IsRaised, AreRaised, IsStill, IsLow, IsCalm, IsCalmActor, IsReadyActor, HaveArcs}
+use Rattle.swap_world.specs.Quiet.{IsRaised, AreRaised, IsQuietState, IsLow, IsCalm, IsCalmActor, IsReadyActor, HaveArcs}
 use Rattle.swap_world.specs.declared.actor.Actor.{Actor}
 use Rattle.swap_world.specs.declared.actor.Actor.TheVariants.{Conforming, Planned, Manual}
 use Rattle.swap_world.proofs.Known.{whole}
@@ -189,7 +189,7 @@ module _ (d : Deal) (conforming : List Bool) (seeds : List (Option (List ℕ))) 
 
   -- rounds in which nobody makes a call
   pub rests : (n : ℕ) → ArePartyActors d conforming seeds roles xs
-      → ((v : ℕ) (x : Actor) → v < length xs → IsCalmActor n book (adjacent_arcs d v) (slice_index_or xs v x)) → IsStill cast n now
+      → ((v : ℕ) (x : Actor) → v < length xs → IsCalmActor n book (adjacent_arcs d v) (slice_index_or xs v x)) → IsQuietState cast n now
   rests n actors calm =
       let at = λ (v : ℕ) (lv : v < d.graph.n). subst (λ z. v < z) (sym actors.one_each) lv in
       let x = λ (v : ℕ). get_or xs v Manual in
@@ -226,8 +226,8 @@ raised_by : (n : ℕ) (h after : List Entry) → Risen n h after → IsRaised n 
 raised_by n h after r = record { more = r.more; ticks = r.ticks; is = r.is; high = r.high }
 
 -- such rounds, and one more, where a ledger stays low
-pub skips : (c : Cast) (n : ℕ) (s : State) (g : Answers) → IsReadyCast c → IsGood c s → has_ended c.deal s.book ≡ false
-    → (0 < n → 0 < length c.deal.graph.arcs) → (0 < n → height (history s.book 0) + n ≤ the_horizon c.deal) → (0 < n → IsStill c n s)
+pub skips : (c : Cast) (n : ℕ) (s : State) (g : Answers) → IsReadyCast c → IsGood c s → is_above_horizon c.deal s.book ≡ false
+    → (0 < n → 0 < length c.deal.graph.arcs) → (0 < n → height (history s.book 0) + n ≤ the_horizon c.deal) → (0 < n → IsQuietState c n s)
     → IsSkipped (with_answers c g) n s
 skips c zero s g ready good on some low still = none_skipped (with_answers c g) s on
 skips c (suc k) s g ready good on some low still =

@@ -12,7 +12,7 @@ use Rattle.ledger_core.specs.Book.{Histories}
 use Rattle.swap_run.specs.Steps.{IsAlong}
 use Rattle.swap_run.proofs.Repeats.{repeat_one, rest_more}
 use Rattle.swap_world.specs.Value.{WorldState, answering_cast, Continues}
-use Rattle.swap_world.specs.Gone.{MayGive, HasGone, IsCut}
+use Rattle.swap_world.specs.Gone.{MayGive, HasGone, IsCutInEvent}
 use Rattle.swap_world.specs.Stopped.{IsAfterSome, IsStopped}
 use Rattle.swap_world.proofs.Gone.{gone_as, gone_then, cast_gone, continues_less, deal_gone, more_asked, way_from, for_gone}
 use Rattle.swap_world.proofs.Ways.{along_over, over}
@@ -100,7 +100,7 @@ module _ (gives : MayGive) (f : Cast → State → State) (old mid new : WorldSt
 
 -- memory ran out in an event of a list
 pub after_some : (gives : MayGive) (old mid new : WorldState) (xs : List Event) (k : ℕ) (x : Event) → k < length xs → x ≡ get_or xs k x
-    → HasGone gives (λ c s. continued_run c s (take k xs)) old mid → IsCut gives x mid new → IsAfterSome xs old new
+    → HasGone gives (λ c s. continued_run c s (take k xs)) old mid → IsCutInEvent gives x mid new → IsAfterSome xs old new
 after_some gives old mid new xs k x l is so_far cut = go cut.book
   where
     there : (g : Answers) → Continues new g → mid.state ≡ continued_run (answering_cast old g) old.state (take k xs)

@@ -7,7 +7,7 @@ use Rattle.swap_run.specs.Run.{Plan}
 use Rattle.swap_run.specs.Shown.{IsShown}
 use Rattle.party_machine.specs.Machine.{MachineState, next_due}
 use Rattle.swap_world.specs.Acting.{IsMakable, histories}
-use Rattle.swap_world.specs.Inside.{inside_questions, Holds}
+use Rattle.swap_world.specs.Inside.{inside_questions, WorldHolds}
 use Rattle.swap_world.specs.declared.actor.Actor.{Actor}
 use Rattle.swap_world.specs.declared.actor.Actor.TheVariants.{Conforming, Planned}
 use Rattle.swap_world.specs.declared.world.World.TheInside.{Inside}
@@ -24,7 +24,7 @@ abbrev pub IsMachineOf : Inside → ℕ → MachineState → Type 0
 IsMachineOf i p m = IsAt i.deal i.conforming i.seeds i.roles (inside_questions i) i.ledgers.items i.actors.items p m
 
 -- What was found at the place of party p.
-module _ (i : Inside) (h : Holds i) (p : ℕ) (known : p < i.deal.graph.n) (x : Actor) (here : x ≡ get_or i.actors.items p x) where
+module _ (i : Inside) (h : WorldHolds i) (p : ℕ) (known : p < i.deal.graph.n) (x : Actor) (here : x ≡ get_or i.actors.items p x) where
   pub plan_found : (n : Plan) → x ≡ Planned n → IsPlanOf i p n
   plan_found n e = plan_placed i.deal i.conforming i.seeds i.roles (inside_questions i) i.ledgers.items i.actors.items p x n h.actors known e here
 
@@ -32,7 +32,7 @@ module _ (i : Inside) (h : Holds i) (p : ℕ) (known : p < i.deal.graph.n) (x : 
   machine_found m e = placed i.deal i.conforming i.seeds i.roles (inside_questions i) i.ledgers.items i.actors.items p x m h.actors known e here
 
 -- What is known of a party that plans.
-module _ (i : Inside) (h : Holds i) (goes_on : i.stopped ≡ false) (p : ℕ) (known : p < i.deal.graph.n) (n : Plan) (k : IsPlanOf i p n) where
+module _ (i : Inside) (h : WorldHolds i) (goes_on : i.stopped ≡ false) (p : ℕ) (known : p < i.deal.graph.n) (n : Plan) (k : IsPlanOf i p n) where
   pub plan_each : length n.known ≡ length i.deal.graph.arcs
   plan_each = knows_each i.deal i.conforming i.seeds i.roles (inside_questions i) i.ledgers.items i.actors.items h.ready (h.good goes_on) p known n k
 
@@ -43,7 +43,7 @@ module _ (i : Inside) (h : Holds i) (goes_on : i.stopped ≡ false) (p : ℕ) (k
   plan_shown = shown i.deal i.conforming i.seeds i.roles (inside_questions i) i.ledgers.items i.actors.items h.ready (h.good goes_on) p known n k
 
 -- What is known of a party that conforms.
-module _ (i : Inside) (h : Holds i) (goes_on : i.stopped ≡ false) (p : ℕ) (known : p < i.deal.graph.n) (m : MachineState) (k : IsMachineOf i p m) where
+module _ (i : Inside) (h : WorldHolds i) (goes_on : i.stopped ≡ false) (p : ℕ) (known : p < i.deal.graph.n) (m : MachineState) (k : IsMachineOf i p m) where
   pub machine_before : (a : ℕ) → Begins (history m.known a) (history (histories i.ledgers.items) a)
   machine_before a = begins i.deal i.conforming i.seeds i.roles (inside_questions i) i.ledgers.items i.actors.items h.ready (h.good goes_on) p known m k a
 
@@ -51,7 +51,7 @@ module _ (i : Inside) (h : Holds i) (goes_on : i.stopped ≡ false) (p : ℕ) (k
   machine_makable = makable i.deal i.conforming i.seeds i.roles (inside_questions i) i.ledgers.items i.actors.items h.ready (h.good goes_on) p known m k
 
 -- Where memory ran out, no more is asked of a world.
-pub stopped_holds : (i : Inside) → Holds i → Holds (record i { stopped = true })
+pub stopped_holds : (i : Inside) → WorldHolds i → WorldHolds (record i { stopped = true })
 stopped_holds i h = record {
   ready = h.ready;
   ledgers = h.ledgers;

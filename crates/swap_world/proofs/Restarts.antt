@@ -20,7 +20,7 @@ use Rattle.std.specs.List.{AllByRecursion}
 use Rattle.wallet_journal.specs.Held.{Held, IsOnDisk, Leaves, MayBeLeft, after_writes, synced_bytes, visible_bytes}
 use Rattle.wallet_journal.specs.Memory.{DiskState}
 use Rattle.wallet_journal.specs.Layout.{recorded}
-use Rattle.wallet_journal.specs.Stopped.{is_kept, kept_key, IsOfWrites, IsWrittenUp}
+use Rattle.wallet_journal.specs.Stopped.{is_kept_after_crash, kept_key, IsOfWrites, IsWrittenUp}
 use Rattle.swap_run.specs.Run.{signed_through_call, recorded_hashkeys}
 use Rattle.swap_run.proofs.Noted.{signed_below, signed_length}
 
@@ -59,7 +59,7 @@ module _ (old after : List (Option Hashkey)) (k image : ℕ) (as_long : length a
 
   stays : (o : Option Action) → ((x : Action) → o ≡ Some x → signed_through_call old x.call ≡ old) → recorded_hashkeys old o k image ≡ old
   stays None f = refl
-  stays (Some x) f = go (is_kept k image)
+  stays (Some x) f = go (is_kept_after_crash k image)
     where
       go : (b : Bool) → cond b (signed_through_call old x.call) old ≡ old
       go true = f x refl
@@ -74,7 +74,7 @@ module _ (old after : List (Option Hashkey)) (k image : ℕ) (as_long : length a
   module _ (x : Action) (key : Hashkey) (call : x.call ≡ Unlock key) (none : signed_hashkey old key.lock ≡ None)
       (here : recorded bytes key.lock ≡ kept_key key k image)
       (others : (i : ℕ) → i < length old → i ≢ key.lock → recorded bytes i ≡ signed_hashkey old i) where
-    at : (i : ℕ) → i < length old → (b : Bool) → is_kept k image ≡ b → (i ≡ key.lock) ⊎ (i ≢ key.lock)
+    at : (i : ℕ) → i < length old → (b : Bool) → is_kept_after_crash k image ≡ b → (i ≡ key.lock) ⊎ (i ≢ key.lock)
         → recorded bytes i ≡ signed_hashkey (cond b (signed_through_call old x.call) old) i
     at i lt true kept (inl e) =
         let mine : kept_key key k image ≡ Some key = ap (λ (b : Bool). cond b (Some key) None) kept in
@@ -98,8 +98,8 @@ module _ (old after : List (Option Hashkey)) (k image : ℕ) (as_long : length a
 
     pub one_recorded : after ≡ recorded_hashkeys old (Some x) k image
     one_recorded =
-        same_signed after (recorded_hashkeys old (Some x) k image) (as_long ∙ sym (length_of (is_kept k image)))
-        (λ i lt. shown i lt ∙ at i (low i lt) (is_kept k image) refl (same_or_not i key.lock))
+        same_signed after (recorded_hashkeys old (Some x) k image) (as_long ∙ sym (length_of (is_kept_after_crash k image)))
+        (λ i lt. shown i lt ∙ at i (low i lt) (is_kept_after_crash k image) refl (same_or_not i key.lock))
 
 -- From what a party was due to call.
 

@@ -43,5 +43,5 @@ pub record IsCutMidway (gives : MayGive) (f : Cast → State → State) (old new
   pub book : (new.state.book ≡ old.state.book) ⊎ ((g : Answers) → Continues new g → new.state.book ≡ (f (answering_cast old g) old.state).book)
 
 -- memory ran out in an event: the histories are those before it or after it
-abbrev pub IsCut : MayGive → Event → (old new : WorldState) → Type 0
-IsCut gives event old new = IsCutMidway gives (λ c s. step c s event) old new
+abbrev pub IsCutInEvent : MayGive → Event → (old new : WorldState) → Type 0
+IsCutInEvent gives event old new = IsCutMidway gives (λ c s. step c s event) old new

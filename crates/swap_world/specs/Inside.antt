@@ -109,7 +109,7 @@ pub record ArePartyActors (d : Deal) (conforming : List Bool) (seeds : List (Opt
   pub each : (v : ℕ) (x : Actor) → v < length xs → x ≡ slice_index_or xs v x
       → IsPartyActor d (slice_index_or conforming v false) (slice_index_or seeds v None) (slice_index_or roles v kinds.Manual) v x
 
-pub record Holds (w : Inside) : Type 0 where
+pub record WorldHolds (w : Inside) : Type 0 where
   pub ready : IsReadyCast (inside_cast w)
   pub ledgers : AreArcLedgers w.deal w.ledgers.items
   pub actors : ArePartyActors w.deal w.conforming w.seeds w.roles w.actors.items

@@ -40,7 +40,7 @@ pub record AreMachineJournals (d : Deal) (xs : List Actor) (js : List (Option (J
 
 -- Each device that a crash leaves has for each lock the hashkey that was signed before, or the one
 -- signed by the act. What was signed before stays signed.
-pub record IsBetween (before after : List (Option Hashkey)) (h : Held) : Type 0 where
+pub record IsDiskDuringSigning (before after : List (Option Hashkey)) (h : Held) : Type 0 where
   pub places : length after ≡ length before
   pub each : (i : ℕ) → i < length after → (c : List ℕ) → Leaves h c → (recorded c i ≡ signed_hashkey before i) ⊎ (recorded c i ≡ signed_hashkey after i)
   pub stays : (i : ℕ) (key : Hashkey) → signed_hashkey before i ≡ Some key → signed_hashkey after i ≡ Some key

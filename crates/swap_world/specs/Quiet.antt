@@ -27,7 +27,7 @@ AreRaised n b after = (a : ℕ) → a < length b → IsRaised n (history b a) (h
 
 -- Nobody makes a call in the next n rounds, where ticks alone come between them, which raise each
 -- ledger by at most one height a round.
-pub record IsStill (c : Cast) (n : ℕ) (s : State) : Type 0 where
+pub record IsQuietState (c : Cast) (n : ℕ) (s : State) : Type 0 where
   pub noted : length s.notes ≡ c.deal.graph.n
   pub plain : (v : ℕ) → v < c.deal.graph.n → conforms c v ≡ false → is_planned (party_role c v) ≡ false
   pub idle : (i : ℕ) (b : Histories) → i < n → AreRaised i s.book b → (v : ℕ) → v < c.deal.graph.n → conforms c v ≡ true

@@ -23,5 +23,5 @@ pub record IsAfterSome (events : List Event) (old new : WorldState) : Type 0 whe
   pub book : (g : Answers) → Continues new g → new.state.book ≡ (continued_run (answering_cast old g) old.state (take count events)).book
 
 -- every party conforms
-abbrev pub AllConform : WorldState → Type 0
-AllConform w = (v : ℕ) → v < w.deal.graph.n → conforms (world_cast w) v ≡ true
+abbrev pub AllWorldPartiesConform : WorldState → Type 0
+AllWorldPartiesConform w = (v : ℕ) → v < w.deal.graph.n → conforms (world_cast w) v ≡ true

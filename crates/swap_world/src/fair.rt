@@ -3,7 +3,7 @@
 ghost use Rattle.std.specs.Prelude.{◌≡◌, ◌<◌, ◌≤◌, ◌+◌, ℕ, IfOk, OnOk, OnErr, length, replicate, true, false};
 ghost use Rattle.swap_digraph.specs.Deal.{IsWellSized};
 ghost use Rattle.swap_run.specs.Run.{conforms};
-ghost use Rattle.swap_run.specs.Fair.{acts, adjacent_arcs, finish, has_ended, looks, most_acts, repeat, round, round_unless_ended};
+ghost use Rattle.swap_run.specs.Fair.{acts, adjacent_arcs, finish, is_above_horizon, looks, most_acts, repeat, round, round_unless_ended};
 ghost use Rattle.swap_run.specs.Fair.{the_horizon, tick_low, ticks, turn, turns};
 ghost use Rattle.swap_run.specs.Steps.{finish_steps, look_steps, low_step, pass_steps, round_steps, rounds_steps, tick_steps, turn_steps, turns_steps};
 ghost use Rattle.swap_world.specs.Value.{world_cast};
@@ -138,8 +138,8 @@ fn ticks<A: Strategies>(world: &mut World, staff: &A) -> Result<(), NoMemory>
 }
 
 /// Whether each ledger is above the horizon.
-fn has_ended(world: &World) -> bool
-    ensures { result ≡ has_ended world.now.deal world.now.state.book }
+fn is_above_horizon(world: &World) -> bool
+    ensures { result ≡ is_above_horizon world.now.deal world.now.state.book }
 {
     let horizon = deal_horizon(world.deal());
     for arc in 0..world.deal().graph.arcs().len() as ArcId {
@@ -189,7 +189,7 @@ fn advance<A: Strategies>(
 ) -> Result<u64, NoMemory>
     requires near { near.now ≡ all_adjacent world.old.deal }
     requires goes_on { world.old.stopped ≡ false }
-    requires low { has_ended world.old.deal world.old.state.book ≡ false }
+    requires low { is_above_horizon world.old.deal world.old.state.book ≡ false }
     requires some { 1 ≤ most }
     requires held { AreHeld (A.holds staff.now) world.old.roles }
     ensures ok { IfOk result (λ n. HasGone (A.gives staff.now) (λ c s. repeat n (round_unless_ended c) s) world.old world.new) }
@@ -217,7 +217,7 @@ fn rounds<A: Strategies>(
 {
     let mut left = deal_horizon(world.deal()) + 1;
     'rounds: while left > 0 {
-        if has_ended(world) {
+        if is_above_horizon(world) {
             return Ok(());
         }
         let taken = advance(world, staff, near, left)?;

@@ -14,7 +14,7 @@ ghost use Rattle.party_machine.specs.Recording.{signs_next, MayHave};
 ghost use Rattle.swap_run.specs.Run.{recorded_hashkeys, relearnt, signed_through_call};
 ghost use Rattle.swap_world.specs.Acting.{histories, IsSameOwner};
 ghost use Rattle.swap_world.specs.Inside.{AreArcLedgers};
-ghost use Rattle.swap_world.specs.Journals.{near_known, AreFirstJournals, IsBetween, IsFirstJournal, IsMachineJournal};
+ghost use Rattle.swap_world.specs.Journals.{near_known, AreFirstJournals, IsDiskDuringSigning, IsFirstJournal, IsMachineJournal};
 
 use crate::turn::learn;
 use ledger_core::{Ledger, is_adjacent};
@@ -78,7 +78,7 @@ fn begin(machine: &mut Machine, journal: &mut Journal<MemoryDisk>, _k: u8) -> Re
         → (c : List ℕ) → Leaves journal.new.disk.held c → IsOwn machine.old.deal journal.old.me c }
     ensures same { IsOfSame machine.old machine.new }
     ensures party { journal.new.me ≡ journal.old.me }
-    ensures between { IsBetween machine.old.signed machine.new.signed journal.new.disk.held }
+    ensures between { IsDiskDuringSigning machine.old.signed machine.new.signed journal.new.disk.held }
 {
     match machine.next_recorded(journal) {
         Ok(_answer) => Ok(()),
@@ -106,7 +106,7 @@ fn restart(
         ≡ resumed_machine machine.old.deal machine.old.me machine.old.seed (recorded_hashkeys machine.old.signed (next_due machine.old) k image)) }
     ensures owner { IsSameOwner machine.old machine.new }
     ensures journal { OnOk result (IsMachineJournal deal.now machine.old.me machine.new.signed journal.new) }
-    ensures between { IsBetween machine.old.signed machine.new.signed journal.new.disk.held }
+    ensures between { IsDiskDuringSigning machine.old.signed machine.new.signed journal.new.disk.held }
 {
     journal.limit_calls(k);
     begin(machine, journal, k)?;
@@ -177,7 +177,7 @@ pub(crate) fn crash(
     }) }
     ensures owner { IsSameOwner machine.old machine.new }
     ensures journal { OnOk result (IsMachineJournal deal.now machine.old.me machine.new.signed journal.new) }
-    ensures between { OnErr result (IsBetween machine.old.signed machine.new.signed journal.new.disk.held) }
+    ensures between { OnErr result (IsDiskDuringSigning machine.old.signed machine.new.signed journal.new.disk.held) }
 {
     restart(alloc, machine, journal, deal, k, image)?;
     relearn(machine, deal, ledgers)

@@ -21,7 +21,7 @@ ghost use Rattle.swap_run.specs.Called.{is_barred};
 ghost use Rattle.party_wallet.specs.Value.{signed_hashkey};
 ghost use Rattle.party_machine.specs.Machine.{due_action, next_due, noted_if_called, IsOfSame};
 ghost use Rattle.wallet_journal.specs.Stopped.{ShowsAll};
-ghost use Rattle.swap_world.specs.Journals.{IsBetween, IsMachineJournal};
+ghost use Rattle.swap_world.specs.Journals.{IsDiskDuringSigning, IsMachineJournal};
 ghost use Rattle.swap_world.specs.Acting.{IsMakable, IsSameOwner, histories, landed, next_book, next_machine, build_told, seen, taken, party_told, turned};
 ghost use Rattle.swap_world.specs.On.{is_slot_swept, call_told};
 ghost use Rattle.swap_world.specs.Inside.{AreArcLedgers, IsArcLedger, HaveRoom};
@@ -321,7 +321,7 @@ fn next(
     ensures signed { IfOk result (λ o. signed_hashkey machine.new.signed ≡ noted_if_called (signed_hashkey machine.old.signed) o) }
     ensures same { IsOfSame machine.old machine.new }
     ensures journal { OnOk result (IsMachineJournal machine.old.deal machine.old.me machine.new.signed journal.new) }
-    ensures between { IsBetween machine.old.signed machine.new.signed journal.new.disk.held }
+    ensures between { IsDiskDuringSigning machine.old.signed machine.new.signed journal.new.disk.held }
 {
     match machine.next_recorded(journal) {
         Ok(answer) => {
@@ -356,7 +356,7 @@ pub(crate) fn act(
     ensures room { OnOk result (HaveRoom ledgers.new.items) }
     ensures owner { IsSameOwner machine.old machine.new }
     ensures journal { OnOk result (IsMachineJournal machine.old.deal machine.old.me machine.new.signed journal.new) }
-    ensures between { OnErr result (IsBetween machine.old.signed machine.new.signed journal.new.disk.held) }
+    ensures between { OnErr result (IsDiskDuringSigning machine.old.signed machine.new.signed journal.new.disk.held) }
     ensures made { OnErr result ((histories ledgers.new.items ≡ histories ledgers.old.items)
         ⊎ ((histories ledgers.new.items ≡ next_book (is_slot_swept swept.now) machine.old (next_due machine.old) (histories ledgers.old.items))
         × (machine.new.signed ≡ (next_machine (is_slot_swept swept.now) machine.old (next_due machine.old) (histories ledgers.old.items)).signed)

@@ -22,16 +22,16 @@ ghost use Rattle.swap_run.specs.Asked.{is_strategy};
 ghost use Rattle.swap_run.specs.Run.{conforms, is_planned, state_notes, party_role, start, step, continued_run};
 ghost use Rattle.swap_run.specs.Called.{apply_step};
 ghost use Rattle.swap_run.specs.Asked.{Answers};
-ghost use Rattle.swap_run.specs.Fair.{finish, has_ended};
+ghost use Rattle.swap_run.specs.Fair.{finish, is_above_horizon};
 ghost use Rattle.swap_run.specs.Steps.{finish_steps, IsSkipped};
 ghost use Rattle.swap_run.specs.Laws.{IsKept, IsReadyCast};
 ghost use Rattle.party_wallet.specs.Wallets.{new_wallets};
-ghost use Rattle.swap_world.specs.Stopped.{IsAfterSome, IsStopped, AllConform};
+ghost use Rattle.swap_world.specs.Stopped.{IsAfterSome, IsStopped, AllWorldPartiesConform};
 ghost use Rattle.swap_world.specs.Cast.{asks};
 ghost use Rattle.swap_world.specs.Value.{world_cast, answering_cast, new_world, Continues};
 ghost use Rattle.swap_world.specs.Near.{all_adjacent};
-ghost use Rattle.swap_world.specs.Quiet.{IsStill};
-ghost use Rattle.swap_world.specs.Gone.{HasGone, IsCut};
+ghost use Rattle.swap_world.specs.Quiet.{IsQuietState};
+ghost use Rattle.swap_world.specs.Gone.{HasGone, IsCutInEvent};
 ghost use Rattle.swap_world.specs.On.{is_slot_swept, event_told, tick_arcs, IsCutWithSweeps};
 ghost use Rattle.swap_world.specs.Actors.{AllFit, AreHeld, HaveRoles, ConformingHaveSeeds, IsFirstWrongFault};
 ghost use Rattle.swap_world.specs.Inside.{AreNewLedgers};
@@ -78,11 +78,11 @@ impl Model for World {
 
     ghost Value = { WorldState };
 
-    ghost use Rattle.swap_world.specs.Inside.{inside_world, Holds};
+    ghost use Rattle.swap_world.specs.Inside.{inside_world, WorldHolds};
 
     ghost view = { inside_world };
 
-    ghost invariant = { Holds };
+    ghost invariant = { WorldHolds };
 }
 
 fn make_ledgers(alloc: Global, deal: &Deal) -> Result<Vec<Ledger>, NoMemory>
@@ -538,7 +538,7 @@ impl World {
     pub(crate) fn quiet_rounds(&self, near: &[Listed<ArcId>], most: u64) -> u64
         requires near { near.now ≡ all_adjacent self.now.deal }
         requires goes_on { self.now.stopped ≡ false }
-        requires low { has_ended self.now.deal self.now.state.book ≡ false }
+        requires low { is_above_horizon self.now.deal self.now.state.book ≡ false }
         ensures few { result ≤ most }
         ensures skips { (g : Answers) → IsSkipped (answering_cast self.now g) result self.now.state }
     {
@@ -551,7 +551,7 @@ impl World {
         requires near { near.now ≡ all_adjacent self.now.deal }
         requires goes_on { self.now.stopped ≡ false }
         ensures few { result ≤ most }
-        ensures still { 0 < result → IsStill (world_cast self.now) result self.now.state }
+        ensures still { 0 < result → IsQuietState (world_cast self.now) result self.now.state }
     {
         quiet::rounds(&self.deal, &self.ledgers, &self.actors, near, most)
     }
@@ -597,7 +597,7 @@ impl World {
         requires held { AreHeld (A.holds staff.now) self.old.roles }
         ensures ok { OnOk result (HasGone (A.gives staff.now) (λ c s. step c s event.now) self.old self.new) }
         ensures err { OnErr result (self.new.stopped ≡ true) }
-        ensures cut { OnErr result (IsCut (A.gives staff.now) event.now self.old self.new) }
+        ensures cut { OnErr result (IsCutInEvent (A.gives staff.now) event.now self.old self.new) }
         ensures stopped { IsTrue self.old.stopped → IsErr result × (self.new.state.book ≡ self.old.state.book) }
         // Whatever the others do, and whether memory ran out or not, every conforming party has
         // kept its conduct.
@@ -634,7 +634,7 @@ impl World {
         ensures ok { OnOk result (HasGone (A.gives staff.now) finish self.old self.new) }
         ensures ended { OnOk result (IsEnded self.old.deal self.new.state.book) }
         // Where every party conforms and nothing came before, everything moves.
-        ensures dealt { OnOk result (AllConform self.old → self.old.state ≡ start (world_cast self.old)
+        ensures dealt { OnOk result (AllWorldPartiesConform self.old → self.old.state ≡ start (world_cast self.old)
             → IsDealt self.old.deal (conforms (world_cast self.old)) self.new.state.book) }
         ensures err { OnErr result (IsStopped (A.gives staff.now) finish_steps self.old self.new) }
         ensures stopped { IsTrue self.old.stopped → IsErr result × (self.new.state.book ≡ self.old.state.book) }

@@ -23,7 +23,7 @@ use Rattle.swap_rules.specs.Party.{is_arc_correct}
 use Rattle.swap_rules.specs.Due.{has_called}
 use Rattle.swap_rules.specs.Rest.{is_ticking}
 use Rattle.swap_rules.proofs.Prefixes.{begins_refl}
-use Rattle.told_books.specs.Told.{is_of_contract, is_told, is_useless, is_needed, needed, needs, all_needed, merged, call_count, SaysTheSame}
+use Rattle.told_books.specs.Told.{is_of_contract, is_told, is_useless, is_needed, needed_history, needs, all_needed, merged, call_count, SaysTheSame}
 use Rattle.told_books.specs.Told.{AreUseless, SayEnough}
 use Rattle.told_books.specs.Told.{IsTrueEntry, IsTrueMoment, IsChain, IsTrueClock, HasTrueClock, IsNeededChain, IsNeededBook}
 use Rattle.told_books.specs.Laws.{KeepsLedgerLimits, MergedSaysEnough, ChainIsNeeded, NeededIsLegal, NeededIsShort, NeededCanBeTold}
@@ -77,7 +77,7 @@ module _ (d : Deal) (a : ℕ) where
 pub needed_is_legal : NeededIsLegal
 needed_is_legal d v a h few chain w = go (is_useless d v a h) refl
   where
-    go : (b : Bool) → is_useless d v a h ≡ b → IsLegal d a (needed d v a h)
+    go : (b : Bool) → is_useless d v a h ≡ b → IsLegal d a (needed_history d v a h)
     go true e = subst (IsLegal d a) (sym (useless_is_ticks d v a h e)) (ticks_legal d a h chain.clock w.ticks w.height)
     go false e =
         subst (IsLegal d a) (sym (ap (λ b. filter (is_needed b v) h) e ∙ all_told v h)) (telling_is_legal d v a h few (chain.contract e) w)
@@ -95,7 +95,7 @@ no_calls (e ∷ h) t =
 pub needed_is_short : NeededIsShort
 needed_is_short d v a h chain = go (is_useless d v a h) refl
   where
-    go : (b : Bool) → is_useless d v a h ≡ b → length (merged (needed d v a h)) ≤ 2 * (count_by (λ e. is_sender v e.sender) h + length d.leaders + 2) + 1
+    go : (b : Bool) → is_useless d v a h ≡ b → length (merged (needed_history d v a h)) ≤ 2 * (count_by (λ e. is_sender v e.sender) h + length d.leaders + 2) + 1
     go true e =
         let few = merged_short (ticks h) in
         let none = no_calls (ticks h) (λ x i. (from_filter (λ y. is_ticking y.what) x h i).1) in

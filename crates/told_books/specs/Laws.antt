@@ -16,7 +16,7 @@ use Rattle.swap_rules.specs.Machine.{Begins}
 use Rattle.swap_rules.specs.Laws.{IsUnforged}
 use Rattle.swap_rules.specs.Walking.{pressing, IsWatchful}
 use Rattle.swap_rules.specs.Useful.{useful}
-use Rattle.told_books.specs.Told.{telling, tellings, is_useless, needed, parts, needs, all_needed, merged, SaysTheSame, SayTheSame, SayEnough}
+use Rattle.told_books.specs.Told.{telling, tellings, is_useless, needed_history, parts, needs, all_needed, merged, SaysTheSame, SayTheSame, SayEnough}
 use Rattle.told_books.specs.Told.{IsChain, IsChainBook, IsNeededChain, IsNeededBook, MakesNoTransfer}
 
 -- over books that say the same to v, the same is due for it
@@ -69,7 +69,7 @@ NeededSaysEnough =
 
 -- of a useless arc that is the ticks alone
 abbrev pub UselessIsTicks : Type 0
-UselessIsTicks = (d : Deal) (v a : ℕ) (h : List Entry) → is_useless d v a h ≡ true → needed d v a h ≡ filter (λ e. is_ticking e.what) h
+UselessIsTicks = (d : Deal) (v a : ℕ) (h : List Entry) → is_useless d v a h ≡ true → needed_history d v a h ≡ filter (λ e. is_ticking e.what) h
 
 -- What v did in book b, and its effect for v, is the same as in book c, which is what is told of b.
 pub record HoldsAsTold (d : Deal) (v : ℕ) (c b : Histories) : Type 0 where
@@ -148,13 +148,13 @@ ChainIsNeeded = (d : Deal) (v : ℕ) (b : Histories) → IsChainBook d v b → I
 -- is useless to v may hold anything
 abbrev pub NeededIsLegal : Type 0
 NeededIsLegal =
-    (d : Deal) (v a : ℕ) (h : List Entry) → length d.leaders ≤ 8 → IsNeededChain d v a h → KeepsLedgerLimits v h → IsLegal d a (needed d v a h)
+    (d : Deal) (v a : ℕ) (h : List Entry) → length d.leaders ≤ 8 → IsNeededChain d v a h → KeepsLedgerLimits v h → IsLegal d a (needed_history d v a h)
 
 -- and short
 abbrev pub NeededIsShort : Type 0
 NeededIsShort =
     (d : Deal) (v a : ℕ) (h : List Entry) → IsNeededChain d v a h
-    → length (merged (needed d v a h)) ≤ 2 * (count_by (λ e. is_sender v e.sender) h + length d.leaders + 2) + 1
+    → length (merged (needed_history d v a h)) ≤ 2 * (count_by (λ e. is_sender v e.sender) h + length d.leaders + 2) + 1
 
 -- so each such book can be told: legal, in few entries, and saying enough
 abbrev pub NeededCanBeTold : Type 0

@@ -85,8 +85,8 @@ is_needed true v e = is_ticking e.what || is_sender v e.sender
 is_needed false v e = is_told v e
 
 -- the history of arc a, as far as v needs it
-abbrev pub needed : Deal → ℕ → ℕ → List Entry → List Entry
-needed d v a h = filter (is_needed (is_useless d v a h) v) h
+abbrev pub needed_history : Deal → ℕ → ℕ → List Entry → List Entry
+needed_history d v a h = filter (is_needed (is_useless d v a h) v) h
 
 -- of each arc's history the entries that pass the arc's test
 abbrev pub parts : (ℕ → Entry → Bool) → Histories → Histories

@@ -11,7 +11,7 @@ use Rattle.told_ledgers.specs.declared.told.OwnUnlock.{OwnUnlock}
 use Rattle.told_ledgers.specs.declared.one_ledger.Heard.{Heard}
 use Rattle.told_ledgers.specs.declared.one_ledger.Heard.TheVariants.{More, Bad}
 use Rattle.told_ledgers.specs.SoFar.{LedgerSoFar}
-use Rattle.told_ledgers.specs.Ledger.{is_first_publish, is_passed, line_heard, line_read, own_unlock, publishes, replied, stated_entry, with_stated}
+use Rattle.told_ledgers.specs.Ledger.{is_first_publish, is_passed, line_heard, kind_line_read, own_unlock, publishes, replied, stated_entry, with_stated}
 use Rattle.told_ledgers.specs.Inside.{IsHeardLedgerForParty, IsLedgerForParty}
 
 -- the same ledger, read for the same party
@@ -37,11 +37,11 @@ module _ (n : ℕ) (s : LedgerSoFar) where
   chosen_same true r = record { deal = refl; me = refl; arc = refl }
   chosen_same false r = stated_same r
 
-  read_same : (kind : Kind) (r : Result Entry Misspelling) → HeardSame s (line_read n s kind r)
-  unfolding line_read
+  read_same : (kind : Kind) (r : Result Entry Misspelling) → HeardSame s (kind_line_read n s kind r)
+  unfolding kind_line_read
   read_same kind r = chosen_same (is_first_publish s kind && not (publishes s r)) r
 
-  passed_same : (t : Bool) (kind : Kind) (r : Result Entry Misspelling) → HeardSame s (cond t (More s) (line_read n s kind r))
+  passed_same : (t : Bool) (kind : Kind) (r : Result Entry Misspelling) → HeardSame s (cond t (More s) (kind_line_read n s kind r))
   passed_same true kind r = record { deal = refl; me = refl; arc = refl }
   passed_same false kind r = read_same kind r
 

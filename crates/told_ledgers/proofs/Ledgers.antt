@@ -28,7 +28,7 @@ use Rattle.told_ledgers.specs.declared.stage.Stage.TheVariants.{Between, Over, P
 use Rattle.told_ledgers.specs.SoFar.{LedgerSoFar}
 use Rattle.told_ledgers.specs.Words.{line_kind}
 use Rattle.told_ledgers.specs.Ledger.{line_heard, nothing_read, whole_told_ledger, untold}
-use Rattle.told_ledgers.specs.Telling.{Telling, begun, frame_told, with_heard, heading_said, line_told_at_stage, line_told, next_number, numbered, one_less, passing, reading}
+use Rattle.told_ledgers.specs.Telling.{Telling, begun_at_heading, frame_told, with_heard, heading_said, line_told_at_stage, line_told, next_number, unless_bad_line, one_less, passing, reading}
 use Rattle.told_ledgers.specs.Telling.{told_book, further_lines_told}
 use Rattle.told_ledgers.specs.Inside.{AreLegal}
 
@@ -36,11 +36,11 @@ use Rattle.told_ledgers.specs.Inside.{AreLegal}
 
 module _ (n : ℕ) (s : Telling) (line : List ℕ) (ls rest : List (List ℕ)) (total : Result (List ToldLedger) Reason) (is : ls ≡ line ∷ rest)
     (so_far : further_lines_told n s ls ≡ total) where
-  pub told_more : (t : Telling) → numbered n (line_told s line) ≡ Ok t → further_lines_told (next_number n) t rest ≡ total
+  pub told_more : (t : Telling) → unless_bad_line n (line_told s line) ≡ Ok t → further_lines_told (next_number n) t rest ≡ total
   told_more t e =
       sym (ap (further_lines_told n s) is ∙ ap (λ (r : Result Telling Reason). r >>= λ u. further_lines_told (next_number n) u rest) e) ∙ so_far
 
-  pub told_fault : (fault : Fault Reason) → Fails fault (numbered n (line_told s line)) → Fails fault total
+  pub told_fault : (fault : Fault Reason) → Fails fault (unless_bad_line n (line_told s line)) → Fails fault total
   told_fault NoMemory f = tt
   told_fault (Refused reason) f =
       sym so_far ∙ ap (further_lines_told n s) is ∙ ap (λ (r : Result Telling Reason). r >>= λ u. further_lines_told (next_number n) u rest) f
@@ -62,7 +62,7 @@ gone_deal : (a : ℕ) (h : Heard) (s : Telling) → (with_heard a h s).deal ≡ 
 gone_deal a (More l) s = reading_deal l s
 gone_deal a (Bad t) s = refl
 
-begun_deal : (h : Heading) (s : Telling) → (begun h s).deal ≡ s.deal
+begun_deal : (h : Heading) (s : Telling) → (begun_at_heading h s).deal ≡ s.deal
 begun_deal h s = by (touches s.deal s.me h.arc)
   where
     at : Telling
@@ -76,7 +76,7 @@ frame_deal : (s : Telling) (line : List ℕ) → KeepsDeal s (frame_told s line)
 unfolding frame_told
 frame_deal s line = by (bytes_eq line (codes "end")) (heading_said s.least (length s.deal.graph.arcs) line)
   where
-    by : (t : Bool) (r : Result Heading Misspelling) → KeepsDeal s (cond t (Ok (record s { stage = Over })) (r >>= λ h. Ok (begun h s)))
+    by : (t : Bool) (r : Result Heading Misspelling) → KeepsDeal s (cond t (Ok (record s { stage = Over })) (r >>= λ h. Ok (begun_at_heading h s)))
     by true r = refl
     by false (Ok h) = begun_deal h s
     by false (Err e) = tt
@@ -88,10 +88,10 @@ line_deal (Reading l) s line =
     gone_deal l.arc (line_heard (s.count - s.more) l (line_kind s.me (separated_parts 32 line)) line) (one_less s)
 line_deal Over s line = tt
 
-pub deal_stays : (n : ℕ) (s t : Telling) (line : List ℕ) → numbered n (line_told s line) ≡ Ok t → t.deal ≡ s.deal
+pub deal_stays : (n : ℕ) (s t : Telling) (line : List ℕ) → unless_bad_line n (line_told s line) ≡ Ok t → t.deal ≡ s.deal
 deal_stays n s t line e = by (line_told s line) (line_deal s.stage s line) e
   where
-    by : (r : Result Telling Misspelling) → KeepsDeal s r → numbered n r ≡ Ok t → t.deal ≡ s.deal
+    by : (r : Result Telling Misspelling) → KeepsDeal s r → unless_bad_line n r ≡ Ok t → t.deal ≡ s.deal
     by (Ok u) k q = let same : u ≡ t = cc q in ap (λ (x : Telling). x.deal) (sym same) ∙ k
     by (Err w) k q = absurd (cc q)
 

@@ -24,7 +24,7 @@ use Rattle.told_ledgers.specs.declared.kind.Kind.TheVariants.{Read}
 use Rattle.told_ledgers.specs.declared.told.OwnUnlock.{OwnUnlock}
 use Rattle.told_ledgers.specs.declared.one_ledger.Heard.TheVariants.{More}
 use Rattle.told_ledgers.specs.SoFar.{LedgerSoFar}
-use Rattle.told_ledgers.specs.Ledger.{line_heard, line_read, replied, stated_entry}
+use Rattle.told_ledgers.specs.Ledger.{line_heard, kind_line_read, replied, stated_entry}
 use Rattle.told_ledgers.specs.Inside.{IsTicked, tick_line}
 
 -- the digits of a number
@@ -54,11 +54,11 @@ module _ (n k : ℕ) (s t : LedgerSoFar) (line : List ℕ) (is : line ≡ tick_l
       ∙ placed_back s.deal s.arc s.past Clock (Tick k) Accepted (height s.past + k) f
 
   pub tick_heard : IsTicked k s t → line_heard n s Read line ≡ More t
-  unfolding line_read entry
+  unfolding kind_line_read entry
   tick_heard g =
       let room = tick_room s.past k Accepted g.accepted (λ q. absurd (cc q)) in
       let past = s.past ++ entry ∷ [] in
-      ap (line_read n s Read) (stated room.height)
+      ap (kind_line_read n s Read) (stated room.height)
       ∙ ap (replied n s entry) (entry_stands s.deal s.arc s.past past entry Accepted g.accepted refl refl)
       ∙ ap (λ (u : List OwnUnlock). More (record s { past = past; unlocks = u })) (append-nil s.unlocks)
       ∙ ap (λ (x : LedgerSoFar). More x) (sym g.ticked)

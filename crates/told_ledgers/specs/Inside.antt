@@ -34,7 +34,7 @@ so_far l = record {
 }
 
 -- What was taken is what was replayed, and is legal.
-pub record IsReplayed (l : one_ledger.Inside) : Type 0 where
+pub record IsReplayedLedger (l : one_ledger.Inside) : Type 0 where
   pub replayed : l.ledger.history ≡ l.past.list
   pub legal : IsLegal l.ledger.deal l.ledger.arc l.past.list
 
@@ -54,8 +54,8 @@ pub record IsTicked (k : ℕ) (old new : LedgerSoFar) : Type 0 where
 
 -- ---- all ledgers
 
-abbrev pub telling : reader.Inside → Telling
-telling r = record {
+abbrev pub inside_telling : reader.Inside → Telling
+inside_telling r = record {
   deal = r.deal;
   me = r.me;
   ledgers = r.ledgers.items;

@@ -80,13 +80,13 @@ with_stated n s (Err w) = bad_entry n s None
 
 -- what line n, of that kind, makes of the ledger by what it states; a first accepted publish that
 -- isn't the correct one closes the ledger
-unfoldable pub line_read : ℕ → LedgerSoFar → Kind → Result Entry Misspelling → Heard
-line_read n s kind stated =
+unfoldable pub kind_line_read : ℕ → LedgerSoFar → Kind → Result Entry Misspelling → Heard
+kind_line_read n s kind stated =
     if is_first_publish s kind && not (publishes s stated) then More (record s { is_closed = true }) else with_stated n s stated
 
 -- what line n of that kind makes of the ledger
 abbrev pub line_heard : ℕ → LedgerSoFar → Kind → List ℕ → Heard
-line_heard n s kind line = if is_passed s.is_closed kind then More s else line_read n s kind (stated_entry s line)
+line_heard n s kind line = if is_passed s.is_closed kind then More s else kind_line_read n s kind (stated_entry s line)
 
 -- nothing was told
 abbrev pub untold : ToldLedger

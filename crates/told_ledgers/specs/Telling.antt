@@ -87,8 +87,8 @@ one_less s = record s { more = s.more - 1 }
 abbrev pub begun_ledger : ℕ → Telling → Telling
 begun_ledger a s = if touches s.deal s.me a then reading (nothing_read s.deal s.me a) s else passing s
 
-abbrev pub begun : Heading → Telling → Telling
-begun h s = begun_ledger h.arc (record s { least = h.arc + 1; count = h.count; more = h.count })
+abbrev pub begun_at_heading : Heading → Telling → Telling
+begun_at_heading h s = begun_ledger h.arc (record s { least = h.arc + 1; count = h.count; more = h.count })
 
 -- what stands behind a bad entry is passed over
 abbrev pub with_heard : ℕ → Heard → Telling → Telling
@@ -99,7 +99,7 @@ with_heard a (Bad t) s = passing (record s { ledgers = slice_set s.ledgers a t }
 unfoldable pub frame_told : Telling → List ℕ → Result Telling Misspelling
 frame_told s line =
     if bytes_eq line (codes "end") then Ok (record s { stage = Over })
-    else (heading_said s.least (length s.deal.graph.arcs) line >>= λ h. Ok (begun h s))
+    else (heading_said s.least (length s.deal.graph.arcs) line >>= λ h. Ok (begun_at_heading h s))
 
 -- a line of the ledger
 abbrev pub ledger_told : LedgerSoFar → Telling → List ℕ → Telling
@@ -121,9 +121,9 @@ abbrev pub next_number : ℕ → ℕ
 next_number n = min (n + 1) (2 ^ 32 - 1)
 
 -- the line of that number isn't bad
-abbrev pub numbered : {A : Type 0} → ℕ → Result A Misspelling → Result A Reason
-numbered n (Ok x) = Ok x
-numbered n (Err e) = Err (BadLine n)
+abbrev pub unless_bad_line : {A : Type 0} → ℕ → Result A Misspelling → Result A Reason
+unless_bad_line n (Ok x) = Ok x
+unless_bad_line n (Err e) = Err (BadLine n)
 
 -- the last line was read
 abbrev pub all_told : Stage → List ToldLedger → Result (List ToldLedger) Reason
@@ -133,7 +133,7 @@ all_told _ ledgers = Err CutShort
 -- what further lines tell, the first of which has that number
 abbrev pub further_lines_told : ℕ → Telling → List (List ℕ) → Result (List ToldLedger) Reason
 further_lines_told n s [] = all_told s.stage s.ledgers
-further_lines_told n s (l ∷ ls) = numbered n (line_told s l) >>= λ t. further_lines_told (next_number n) t ls
+further_lines_told n s (l ∷ ls) = unless_bad_line n (line_told s l) >>= λ t. further_lines_told (next_number n) t ls
 
 -- what is told to v of each arc's ledger by lines, the first of which has that number
 unfoldable pub ledgers_told : Deal → (v first : ℕ) → List (List ℕ) → Result (List ToldLedger) Reason

@@ -7,7 +7,7 @@ ghost use Rattle.ledger_core.specs.History.{IsLegal};
 ghost use Rattle.ledger_core.specs.WellFormed.{IsFormedEntry};
 ghost use Rattle.swap_rules.specs.Party.{pick_call};
 ghost use Rattle.told_ledgers.specs.Inside.{IsLegalHeard, IsTicked, tick_line};
-ghost use Rattle.told_ledgers.specs.Ledger.{is_correct_publish, is_first_publish, is_passed, line_heard, line_read, nothing_read, own_unlock, publishes_terms, whole_told_ledger};
+ghost use Rattle.told_ledgers.specs.Ledger.{is_correct_publish, is_first_publish, is_passed, line_heard, kind_line_read, nothing_read, own_unlock, publishes_terms, whole_told_ledger};
 ghost use Rattle.told_ledgers.specs.Ledger.{stated_entry, with_stated};
 ghost use Rattle.told_ledgers.specs.declared.one_ledger.Heard.TheVariants.{More};
 
@@ -38,11 +38,11 @@ impl Model for OneLedger {
 
     ghost Value = { LedgerSoFar };
 
-    ghost use Rattle.told_ledgers.specs.Inside.{so_far, IsReplayed};
+    ghost use Rattle.told_ledgers.specs.Inside.{so_far, IsReplayedLedger};
 
     ghost view = { so_far };
 
-    ghost invariant = { IsReplayed };
+    ghost invariant = { IsReplayedLedger };
 }
 
 /// What a line makes of a ledger.
@@ -297,7 +297,7 @@ impl OneLedger {
     }
 
     /// Reads the entry of the line of that number and kind.
-    #[tactic(auto, unfolding(crate::specs::Ledger::line_read))]
+    #[tactic(auto, unfolding(crate::specs::Ledger::kind_line_read))]
     fn into_entered(
         self,
         found: &mut Found,
@@ -307,7 +307,7 @@ impl OneLedger {
     ) -> Result<Heard, NoMemory>
         requires found { found.old ≡ self.deal }
         requires formed { IsFormedEntry self.deal self.arc self.past entry }
-        ensures exact { IfOk result (λ h. h ≡ line_read number self kind (Ok entry)) }
+        ensures exact { IfOk result (λ h. h ≡ kind_line_read number self kind (Ok entry)) }
         ensures legal { IfOk result (IsLegalHeard self.deal self.arc) }
         ensures found { found.new ≡ found.old }
     {
@@ -319,9 +319,9 @@ impl OneLedger {
     }
 
     /// The line of that number and kind states no entry.
-    #[tactic(auto, unfolding(crate::specs::Ledger::line_read))]
+    #[tactic(auto, unfolding(crate::specs::Ledger::kind_line_read))]
     fn into_unread(self, kind: Kind, number: u32) -> Heard
-        ensures exact { result ≡ line_read number self kind (Err Misspelling.Misspelt) }
+        ensures exact { result ≡ kind_line_read number self kind (Err Misspelling.Misspelt) }
         ensures legal { IsLegalHeard self.deal self.arc result }
     {
         if self.is_first_publish(kind) {

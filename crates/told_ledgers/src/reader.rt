@@ -9,7 +9,7 @@ ghost use Rattle.told_ledgers.specs.Inside.{IsHeardLedgerForParty, IsLegalHeard,
 ghost use Rattle.told_ledgers.specs.SoFar.{LedgerSoFar};
 ghost use Rattle.told_ledgers.specs.declared.stage.Stage.TheVariants.{Reading};
 ghost use Rattle.told_ledgers.specs.Ledger.{untold};
-ghost use Rattle.told_ledgers.specs.Telling.{all_told, begun, begun_ledger, frame_told, with_heard, ledger_told, line_told, nothing_told, one_less, passing, reading, told_book};
+ghost use Rattle.told_ledgers.specs.Telling.{all_told, begun_at_heading, begun_ledger, frame_told, with_heard, ledger_told, line_told, nothing_told, one_less, passing, reading, told_book};
 
 use crate::heading::{Heading, heading_said};
 use crate::kind::{Kind, line_kind};
@@ -49,9 +49,9 @@ impl Model for LedgersReader {
 
     ghost Value = { Telling };
 
-    ghost use Rattle.told_ledgers.specs.Inside.{telling, IsTelling};
+    ghost use Rattle.told_ledgers.specs.Inside.{inside_telling, IsTelling};
 
-    ghost view = { telling };
+    ghost view = { inside_telling };
 
     ghost invariant = { IsTelling };
 }
@@ -143,7 +143,7 @@ impl LedgersReader {
     fn begin(&mut self, heading: Heading) -> Result<(), NoMemory>
         requires arc { heading.arc < length self.old.deal.graph.arcs }
         requires few { heading.arc < 128 }
-        ensures { OnOk result (self.new ≡ begun heading self.old) }
+        ensures { OnOk result (self.new ≡ begun_at_heading heading self.old) }
     {
         self.least = heading.arc + 1;
         self.count = heading.count;

@@ -4,7 +4,7 @@ ghost use Rattle.std.specs.Prelude.{◌≡◌, IfOk, length};
 ghost use Rattle.swap_base.specs.Fault.{Gives};
 ghost use Rattle.swap_digraph.specs.Deal.{IsWellSized};
 ghost use Rattle.ledger_core.specs.Book.{IsLegalBook};
-ghost use Rattle.told_ledgers.specs.Telling.{ledgers_told, line_told, numbered, told_book};
+ghost use Rattle.told_ledgers.specs.Telling.{ledgers_told, line_told, unless_bad_line, told_book};
 
 use crate::reader::LedgersReader;
 use crate::told::ToldLedger;
@@ -16,7 +16,7 @@ use transcript_book::Parts;
 
 /// Reads the line of that number.
 fn push_line(reader: &mut LedgersReader, number: u32, line: &[u8]) -> Result<(), OfferFault>
-    ensures { Gives (λ _. reader.new) result (numbered number (line_told reader.old line.now)) }
+    ensures { Gives (λ _. reader.new) result (unless_bad_line number (line_told reader.old line.now)) }
 {
     match reader.push(line) {
         Ok(()) => Ok(()),

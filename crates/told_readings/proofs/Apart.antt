@@ -24,8 +24,8 @@ use Rattle.told_ledgers.specs.declared.stage.Stage.TheVariants.{Between, Reading
 use Rattle.told_ledgers.specs.SoFar.{LedgerSoFar}
 use Rattle.told_ledgers.specs.Words.{line_kind}
 use Rattle.told_ledgers.specs.Ledger.{line_heard, nothing_read, whole_told_ledger, untold}
-use Rattle.told_ledgers.specs.Telling.{Telling, arc_said, begun, frame_told, with_heard, heading_said, heading_words, ledgers_told, next_number}
-use Rattle.told_ledgers.specs.Telling.{numbered, passing, reading, further_lines_told}
+use Rattle.told_ledgers.specs.Telling.{Telling, arc_said, begun_at_heading, frame_told, with_heard, heading_said, heading_words, ledgers_told, next_number}
+use Rattle.told_ledgers.specs.Telling.{unless_bad_line, passing, reading, further_lines_told}
 use Rattle.told_ledgers.proofs.Kept.{HeardSame, IsSame, heard_same}
 use Rattle.told_readings.specs.Apart.{AreAscending, EachIsToldAlone, LedgerLines, all_heard, all_lines, heading_line, heard_ledger, ledger_alone, then_heard}
 use Rattle.told_readings.specs.Apart.{with_ledger}
@@ -137,7 +137,7 @@ module _ (d : Deal) (v : ℕ) where
   untold_still ts least a t low u c le = get_or-set_other ts a c t untold (λ e. absurd (omega arith)) ∙ u c (omega arith)
 
   begun_is : (n : ℕ) (ts : List ToldLedger) (least m c : ℕ) (b : LedgerLines) (rest : List (List ℕ)) → AreUntold ts least → least ≤ b.arc
-      → further_lines_told n (begun (record { arc = b.arc; count = length b.lines }) (at_hand ts least c m Between)) (b.lines ++ rest)
+      → further_lines_told n (begun_at_heading (record { arc = b.arc; count = length b.lines }) (at_hand ts least c m Between)) (b.lines ++ rest)
       ≡ further_lines_told (after n (length b.lines)) (at_hand (with_ledger d v ts b) (b.arc + 1) (length b.lines) 0 Between) rest
   begun_is n ts least m c b rest u low = by (touches d v b.arc)
     where
@@ -155,10 +155,10 @@ module _ (d : Deal) (v : ℕ) where
   heading_read : (n : ℕ) (ts : List ToldLedger) (least c m : ℕ) (b : LedgerLines) (rest : List (List ℕ)) → least ≤ b.arc → b.arc < length d.graph.arcs
       → length d.graph.arcs < 2 ^ 64 → length b.lines < 2 ^ 32
       → further_lines_told n (at_hand ts least c m Between) (heading_line b ∷ rest)
-      ≡ further_lines_told (next_number n) (begun (record { arc = b.arc; count = length b.lines }) (at_hand ts least c m Between)) rest
+      ≡ further_lines_told (next_number n) (begun_at_heading (record { arc = b.arc; count = length b.lines }) (at_hand ts least c m Between)) rest
   unfolding frame_told
   heading_read n ts least c m b rest low high small few =
-      ap (λ (r : Result Heading Misspelling). numbered n (r >>= λ h. Ok (begun h (at_hand ts least c m Between))) >>= λ t. further_lines_told (next_number n) t rest)
+      ap (λ (r : Result Heading Misspelling). unless_bad_line n (r >>= λ h. Ok (begun_at_heading h (at_hand ts least c m Between))) >>= λ t. further_lines_told (next_number n) t rest)
       (heading_is least (length d.graph.arcs) b low high small few)
 
   all_read : (n : ℕ) (ts : List ToldLedger) (least c m : ℕ) (bs : List LedgerLines) → AreUntold ts least → length d.graph.arcs < 2 ^ 64

@@ -24,10 +24,10 @@ use Rattle.ledger_core.specs.declared.entry.What.TheVariants.{Call as Made, Tick
 use Rattle.ledger_core.specs.declared.entry.Entry.{Entry}
 use Rattle.ledger_core.specs.Book.{Histories}
 use Rattle.typed_books.specs.Typed.{IsDigest, IsSignature, IsTypedCall, IsTypedReply, IsTypedSender, IsTypedWhat}
-use Rattle.transcript_lines.specs.Between.{between, ended, spaced}
+use Rattle.transcript_lines.specs.Between.{between, fed_lines, spaced}
 use Rattle.transcript_lines.specs.Lines.{entry_line, ledger_line, ledger_lines, lines_from_arc}
 use Rattle.transcript_lines.specs.Words.{call_words, entry_words, list_word, reply_words, signature_word}
-use Rattle.told_readings.specs.Written.{IsMade}
+use Rattle.told_readings.specs.Written.{IsPossibleEntry}
 use Rattle.told_readings.specs.Bounded.{BriefIsBounded, IsBrief, IsShortCall, IsShortEntry, IsShortWhat, is_unlocking}
 
 -- ---- words
@@ -167,7 +167,7 @@ abbrev line_most : Bool → ℕ
 line_most true = 137520
 line_most false = 690
 
-line_short : (e : Entry) (s : Sender) (w : What) → e.sender ≡ s → e.what ≡ w → IsMade s w → IsTypedSender s → IsTypedWhat w → IsTypedReply e.reply
+line_short : (e : Entry) (s : Sender) (w : What) → e.sender ≡ s → e.what ≡ w → IsPossibleEntry s w → IsTypedSender s → IsTypedWhat w → IsTypedReply e.reply
     → IsShortWhat w → length (entry_line e) + 1 ≤ line_most (is_unlocking w)
 line_short e (Party p) (Made c) es ew m ts tw tr short =
     let words = call_words c ++ codes "=" ∷ reply_words e.reply in
@@ -202,10 +202,10 @@ entry_short : (e : Entry) → IsShortEntry e → length (entry_line e) + 1 ≤ l
 entry_short e k =
     let t = k.written.typed in line_short e e.sender e.what refl refl k.written.made t.sender t.what t.reply k.short
 
-ended_more : (l : List ℕ) (ls : List (List ℕ)) → length (ended (l ∷ ls)) ≡ length l + 1 + length (ended ls)
-ended_more l ls = length-append (l ++ 10 ∷ []) (ended ls) ∙ ap (λ n. n + length (ended ls)) (length-append l (10 ∷ []))
+ended_more : (l : List ℕ) (ls : List (List ℕ)) → length (fed_lines (l ∷ ls)) ≡ length l + 1 + length (fed_lines ls)
+ended_more l ls = length-append (l ++ 10 ∷ []) (fed_lines ls) ∙ ap (λ n. n + length (fed_lines ls)) (length-append l (10 ∷ []))
 
-ended_all : (ks ls : List (List ℕ)) → length (ended (ks ++ ls)) ≡ length (ended ks) + length (ended ls)
+ended_all : (ks ls : List (List ℕ)) → length (fed_lines (ks ++ ls)) ≡ length (fed_lines ks) + length (fed_lines ls)
 ended_all [] ls = omega arith
 ended_all (k ∷ ks) ls =
     let rest = ended_all ks ls in
@@ -218,15 +218,15 @@ counted : (e : Entry) (h : List Entry) (t : Bool) → is_unlocking e.what ≡ t 
 counted e h t q = sum_by-cons (λ x. cond (is_unlocking x.what) 1 0) e h ∙ ap (λ b. cond b 1 0 + count_by (λ x. is_unlocking x.what) h) q
 
 entry_by : (e : Entry) (h : List Entry) (t : Bool) → is_unlocking e.what ≡ t → length (entry_line e) + 1 ≤ line_most t
-    → length (ended (map entry_line h)) ≤ 690 * length h + 136830 * count_by (λ x. is_unlocking x.what) h
-    → length (ended (entry_line e ∷ map entry_line h)) ≤ 690 * length (e ∷ h) + 136830 * count_by (λ x. is_unlocking x.what) (e ∷ h)
+    → length (fed_lines (map entry_line h)) ≤ 690 * length h + 136830 * count_by (λ x. is_unlocking x.what) h
+    → length (fed_lines (entry_line e ∷ map entry_line h)) ≤ 690 * length (e ∷ h) + 136830 * count_by (λ x. is_unlocking x.what) (e ∷ h)
 entry_by e h true q l rest =
     let whole = ended_more (entry_line e) (map entry_line h) in let count = counted e h true q in omega arith
 entry_by e h false q l rest =
     let whole = ended_more (entry_line e) (map entry_line h) in let count = counted e h false q in omega arith
 
 entries_short : (h : List Entry) → AllByRecursion IsShortEntry h
-    → length (ended (map entry_line h)) ≤ 690 * length h + 136830 * count_by (λ e. is_unlocking e.what) h
+    → length (fed_lines (map entry_line h)) ≤ 690 * length h + 136830 * count_by (λ e. is_unlocking e.what) h
 entries_short [] k = omega arith
 entries_short (e ∷ h) k = entry_by e h (is_unlocking e.what) refl (entry_short e k.0) (entries_short h k.1)
 
@@ -239,7 +239,7 @@ heading_short a h la lh =
     let other = small_short (length h) lh in
     omega arith
 
-ledger_short : (a : ℕ) (h : List Entry) → a < 2 ^ 32 → IsBrief h → length (ended (ledger_lines a h)) ≤ 1153330
+ledger_short : (a : ℕ) (h : List Entry) → a < 2 ^ 32 → IsBrief h → length (fed_lines (ledger_lines a h)) ≤ 1153330
 ledger_short a h la k =
     let whole = ended_more (ledger_line a h) (map entry_line h) in
     let few = k.few in
@@ -248,7 +248,7 @@ ledger_short a h la k =
     let heading = heading_short a h la (omega arith) in
     omega arith
 
-book_short : (a : ℕ) (k : Histories) → a + length k ≤ 128 → AllByRecursion IsBrief k → length (ended (lines_from_arc a k)) ≤ 1153330 * length k + 4
+book_short : (a : ℕ) (k : Histories) → a + length k ≤ 128 → AllByRecursion IsBrief k → length (fed_lines (lines_from_arc a k)) ≤ 1153330 * length k + 4
 book_short a [] le b = omega arith
 book_short a (h ∷ k) le b =
     let whole = ended_all (ledger_lines a h) (lines_from_arc (a + 1) k) in

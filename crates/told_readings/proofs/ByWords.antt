@@ -23,7 +23,7 @@ use Rattle.transcript_lines.proofs.Spelling.{high_call, high_reply}
 use Rattle.told_ledgers.specs.declared.kind.Kind.{Kind}
 use Rattle.told_ledgers.specs.declared.kind.Kind.TheVariants.{Read, Noise, Publish as PublishLine, Accepted as AcceptedLine}
 use Rattle.told_ledgers.specs.Words.{ends_accepted, foreign_kind, line_kind}
-use Rattle.told_readings.specs.Enough.{call_kind, is_accepted}
+use Rattle.told_readings.specs.Enough.{call_kind, is_accepting}
 
 -- ---- the words
 
@@ -46,7 +46,7 @@ ends_more x [] le = absurd (omega arith)
 ends_more x (w ∷ []) le = absurd (omega arith)
 ends_more x (w ∷ y ∷ l) le = refl
 
-ends_reply : (r : Reply) → ends_accepted (codes "=" ∷ reply_words r) ≡ is_accepted r
+ends_reply : (r : Reply) → ends_accepted (codes "=" ∷ reply_words r) ≡ is_accepting r
 ends_reply Accepted = refl
 ends_reply Settled = refl
 ends_reply NotCounterparty = refl
@@ -84,7 +84,7 @@ some_words (NoFunds n) = omega arith
 some_words SenderFull = omega arith
 some_words ClockFull = omega arith
 
-pub ends_words : (ws : List (List ℕ)) (r : Reply) → ends_accepted (ws ++ codes "=" ∷ reply_words r) ≡ is_accepted r
+pub ends_words : (ws : List (List ℕ)) (r : Reply) → ends_accepted (ws ++ codes "=" ∷ reply_words r) ≡ is_accepting r
 ends_words [] r = ends_reply r
 ends_words (w ∷ ws) r =
     ends_more w (ws ++ codes "=" ∷ reply_words r) (omega (arith, some_words r, length-append ws (codes "=" ∷ reply_words r))) ∙ ends_words ws r

@@ -47,10 +47,10 @@ use Rattle.told_ledgers.specs.declared.one_ledger.Heard.{Heard}
 use Rattle.told_ledgers.specs.declared.one_ledger.Heard.TheVariants.{More}
 use Rattle.told_ledgers.specs.SoFar.{LedgerSoFar}
 use Rattle.told_ledgers.specs.Words.{line_kind}
-use Rattle.told_ledgers.specs.Ledger.{is_correct_publish, is_first_publish, is_passed, line_heard, line_read, own_unlock, replied, stated_entry}
+use Rattle.told_ledgers.specs.Ledger.{is_correct_publish, is_first_publish, is_passed, line_heard, kind_line_read, own_unlock, replied, stated_entry}
 use Rattle.told_ledgers.specs.Ledger.{with_stated}
 use Rattle.told_readings.specs.Apart.{all_heard, then_heard}
-use Rattle.told_readings.specs.Enough.{SayEntries, SaysEntry, call_kind, is_accepted, is_publish_call, is_transfer_call}
+use Rattle.told_readings.specs.Enough.{SayEntries, SaysEntry, call_kind, is_accepting, is_publish_call, is_transfer_call}
 use Rattle.told_readings.proofs.ByWords.{call_parts, other_kind, own_kind, tick_kind, tick_parts}
 use Rattle.told_readings.proofs.Useless.{accepted_or, is_published, published_more, refused_or}
 
@@ -90,7 +90,7 @@ stands d a past e l =
 
 -- ---- what is told isn't noise
 
-noise_idle : (c : Call) (r : Reply) (x : Bool) → is_accepted r ≡ x
+noise_idle : (c : Call) (r : Reply) (x : Bool) → is_accepting r ≡ x
     → cond (not x || is_transfer_call c) Noise (cond (is_publish_call c) PublishLine AcceptedLine) ≡ Noise → is_of_contract (accepted_call (Made c) r) ≡ false
 noise_idle c r false q k = ap is_of_contract (refused_or r q c)
 noise_idle (Publish t) r true q k = absurd (cc k)
@@ -106,7 +106,7 @@ noise_idle (Transfer to units) r true q k = by (accepted_or (Transfer to units) 
 
 pub not_noise : (c : Call) (r : Reply) → is_of_contract (accepted_call (Made c) r) ≡ true → call_kind c r ≡ Noise → ⊥
 not_noise c r told k =
-    false≢true (sym (noise_idle c r (is_accepted r) refl k) ∙ told)
+    false≢true (sym (noise_idle c r (is_accepting r) refl k) ∙ told)
 
 -- ---- a history
 
@@ -158,11 +158,11 @@ module _ (d : Deal) (v a : ℕ) (small : v < 256) (h : List Entry) (u : IsNeeded
     by_kind : (kind : Kind) → is_passed false kind ≡ false
         → (is_first_publish (now (telling v past) us) kind && not (is_correct_publish d a e.sender e.what)) ≡ false
         → HeardAll (past ++ e ∷ []) (line_heard n (now (telling v past) us) kind line)
-    unfolding line_read
+    unfolding kind_line_read
     by_kind kind pass first = (
       us ++ own_unlock n (pick_call v e),
-      ap (λ t. cond t (More (now (telling v past) us)) (line_read n (now (telling v past) us) kind (stated_entry (now (telling v past) us) line))) pass
-          ∙ ap (line_read n (now (telling v past) us) kind) read
+      ap (λ t. cond t (More (now (telling v past) us)) (kind_line_read n (now (telling v past) us) kind (stated_entry (now (telling v past) us) line))) pass
+          ∙ ap (kind_line_read n (now (telling v past) us) kind) read
           ∙ ap (λ t. cond t (More (record (now (telling v past) us) { is_closed = true })) (with_stated n (now (telling v past) us) (Ok e))) first ∙ taken,
     )
 

@@ -44,11 +44,11 @@ use Rattle.told_ledgers.specs.declared.one_ledger.Heard.{Heard}
 use Rattle.told_ledgers.specs.declared.one_ledger.Heard.TheVariants.{More, Bad}
 use Rattle.told_ledgers.specs.SoFar.{LedgerSoFar}
 use Rattle.told_ledgers.specs.Words.{line_kind, nth_word}
-use Rattle.told_ledgers.specs.Ledger.{is_correct_publish, is_first_publish, is_passed, line_heard, line_read, nothing_read}
+use Rattle.told_ledgers.specs.Ledger.{is_correct_publish, is_first_publish, is_passed, line_heard, kind_line_read, nothing_read}
 use Rattle.told_ledgers.specs.Ledger.{publishes, replied, stated_entry, with_stated}
 use Rattle.told_ledgers.proofs.Kept.{HeardSame, heard_same}
 use Rattle.told_readings.specs.Apart.{all_heard, heard_ledger, then_heard}
-use Rattle.told_readings.specs.Enough.{IsForeignLine, IsKindOfCall, SayEntries, SaysEntry, call_kind, is_accepted, is_publish_call, is_transfer_call}
+use Rattle.told_readings.specs.Enough.{IsForeignLine, IsKindOfCall, SayEntries, SaysEntry, call_kind, is_accepting, is_publish_call, is_transfer_call}
 use Rattle.told_readings.proofs.ByWords.{call_parts, other_kind, own_kind, tick_kind, tick_parts}
 
 -- What was taken makes no call of v, and publishes nothing.
@@ -99,7 +99,7 @@ unpublishing t c r e = by (accepted_or c r)
     by (inr q) = ap (publication t) q
 
 -- a call that isn't accepted publishes nothing
-pub refused_or : (r : Reply) → is_accepted r ≡ false → (c : Call) → accepted_call (Made c) r ≡ None
+pub refused_or : (r : Reply) → is_accepting r ≡ false → (c : Call) → accepted_call (Made c) r ≡ None
 refused_or Accepted e c = absurd (cc e)
 refused_or _ e c = refl
 
@@ -107,7 +107,7 @@ abbrev kind_by : (accepted transfer publish : Bool) → Kind
 kind_by x y z = cond (not x || y) Noise (cond z PublishLine AcceptedLine)
 
 -- noise publishes nothing
-noise_by : (t : ℕ) (c : Call) (r : Reply) (x : Bool) → is_accepted r ≡ x → kind_by x (is_transfer_call c) (is_publish_call c) ≡ Noise
+noise_by : (t : ℕ) (c : Call) (r : Reply) (x : Bool) → is_accepting r ≡ x → kind_by x (is_transfer_call c) (is_publish_call c) ≡ Noise
     → publication t (accepted_call (Made c) r) ≡ None
 noise_by t c r false q k = ap (publication t) (refused_or r q c)
 noise_by t (Publish terms) r true q k = absurd (cc k)
@@ -117,7 +117,7 @@ noise_by t Refund r true q k = unpublishing t Refund r refl
 noise_by t (Transfer to units) r true q k = unpublishing t (Transfer to units) r refl
 
 pub noise_unpublishing : (t : ℕ) (c : Call) (r : Reply) → call_kind c r ≡ Noise → publication t (accepted_call (Made c) r) ≡ None
-noise_unpublishing t c r k = noise_by t c r (is_accepted r) refl k
+noise_unpublishing t c r k = noise_by t c r (is_accepting r) refl k
 
 accepted_only : (c : Call) (r : Reply) (a b : Bool) → is_publish_call c ≡ b → cond a Noise (cond b PublishLine AcceptedLine) ≡ AcceptedLine
     → is_publish_call c ≡ false
@@ -139,7 +139,7 @@ module _ (v : ℕ) (small : v < 256) where
       absurd (read_not (sym (ap (λ q. line_kind v (entry_words (Party q) (Made c) x.reply)) (eqb-true p v e) ∙ own_kind v c x.reply) ∙ k))
   call_quiet x p c false es ew lp e k = record {
     unpublished = ap (λ (w : What). publication x.height (accepted_call w x.reply)) ew ∙ unpublishing x.height c x.reply
-        (accepted_only c x.reply (not (is_accepted x.reply) || is_transfer_call c) (is_publish_call c) refl
+        (accepted_only c x.reply (not (is_accepting x.reply) || is_transfer_call c) (is_publish_call c) refl
         (sym (other_kind v p c x.reply lp small (λ q. false≢true (sym e ∙ eq-eqb p v q))) ∙ k));
     call = ap (λ (s : Sender). cond (is_sender v s) (made_call x.what) None) es ∙ ap (λ t. cond t (made_call x.what) None) e;
   }
@@ -208,15 +208,15 @@ module _ (d : Deal) (v a : ℕ) (small : v < 256) (n : ℕ) (k : List Entry) (us
 
   -- it is passed over
   passed_on : (b : Bool) (kind : Kind) → is_passed b kind ≡ true → StaysIdle v b (line_heard n (at b) kind line)
-  passed_on b kind e = subst (StaysIdle v b) (sym (ap (λ t. cond t (More (at b)) (line_read n (at b) kind (stated_entry (at b) line))) e)) (i, refl)
+  passed_on b kind e = subst (StaysIdle v b) (sym (ap (λ t. cond t (More (at b)) (kind_line_read n (at b) kind (stated_entry (at b) line))) e)) (i, refl)
 
   -- it is read
   read_on : (b : Bool) (kind : Kind) → is_passed b kind ≡ false → is_first_publish (at b) kind ≡ false
       → ((x : Entry) → stated_entry (at b) line ≡ Ok x → IsQuiet v x) → StaysIdle v b (line_heard n (at b) kind line)
-  unfolding line_read
+  unfolding kind_line_read
   read_on b kind e f q =
       subst (StaysIdle v b)
-      (sym (ap (λ t. cond t (More (at b)) (line_read n (at b) kind (stated_entry (at b) line))) e
+      (sym (ap (λ t. cond t (More (at b)) (kind_line_read n (at b) kind (stated_entry (at b) line))) e
       ∙ ap (λ t. cond (t && not (publishes (at b) (stated_entry (at b) line))) (More (record (at b) { is_closed = true }))
       (with_stated n (at b) (stated_entry (at b) line))) f))
       (stated_idle d v a n k us b i (stated_entry (at b) line) q)
@@ -224,7 +224,7 @@ module _ (d : Deal) (v a : ℕ) (small : v < 256) (n : ℕ) (k : List Entry) (us
   -- it closes the ledger
   closes_on : (v == counterparty d a) ≡ true → publishes (at false) (stated_entry (at false) line) ≡ false
       → StaysIdle v true (line_heard n (at false) PublishLine line)
-  unfolding line_read
+  unfolding kind_line_read
   closes_on mine wrong =
       subst (StaysIdle v true)
       (sym (ap (λ t. cond (t && not (publishes (at false) (stated_entry (at false) line))) (More (at true))
@@ -270,7 +270,7 @@ module _ (d : Deal) (v a : ℕ) (small : v < 256) (n : ℕ) (k : List Entry) (us
 -- ---- calls of others, by their kinds
 
 pub never_read : (c : Call) (r : Reply) → call_kind c r ≡ Read → ⊥
-never_read c r e = by (not (is_accepted r) || is_transfer_call c) (is_publish_call c) e
+never_read c r e = by (not (is_accepting r) || is_transfer_call c) (is_publish_call c) e
   where
     by : (x y : Bool) → cond x Noise (cond y PublishLine AcceptedLine) ≡ Read → ⊥
     by true y q = cc q
@@ -290,7 +290,7 @@ publish_of Claim e = absurd (cc e)
 publish_of Refund e = absurd (cc e)
 publish_of (Transfer to units) e = absurd (cc e)
 
-accepted_is : (r : Reply) → is_accepted r ≡ true → r ≡ Accepted
+accepted_is : (r : Reply) → is_accepting r ≡ true → r ≡ Accepted
 accepted_is Accepted e = refl
 accepted_is _ e = absurd (cc e)
 
@@ -303,7 +303,7 @@ pub record IsPublished (e : Entry) : Type 0 where
 
 pub is_published : (e : Entry) (c : Call) → e.what ≡ Made c → call_kind c e.reply ≡ PublishLine → IsPublished e
 is_published e c ew k =
-    let p = publish_by e.reply (is_accepted e.reply) (is_transfer_call c) (is_publish_call c) k in
+    let p = publish_by e.reply (is_accepting e.reply) (is_transfer_call c) (is_publish_call c) k in
     let t = publish_of c p.0 in
     let what = ew ∙ ap Made t.1 in record {
       terms = t.0;
@@ -395,11 +395,11 @@ module _ (d : Deal) (v a : ℕ) (small : v < 256) (h : List Entry) (u : IsUseles
       subst (λ (x : Kind). StaysIdle v (is_past (past ++ e ∷ [])) (line_heard n (now k us (is_past past)) x line)) (sym kind)
       (by_kind d v a small n k us i line (is_past past) (is_past (past ++ e ∷ [])) (call_kind c e.reply) kind (never_read c e.reply)
       (λ q. still (noise_unpublishing e.height c e.reply q))
-      (λ q. still (unpublishing e.height c e.reply (accepted_only c e.reply (not (is_accepted e.reply) || is_transfer_call c) (is_publish_call c) refl q)))
+      (λ q. still (unpublishing e.height c e.reply (accepted_only c e.reply (not (is_accepting e.reply) || is_transfer_call c) (is_publish_call c) refl q)))
       (λ q. publish_past past e (is_published e c ew q))
       (λ q b. u.mine)
       (λ q b. let y = is_published e c ew q in
-      f.wrong (ap is_accepted y.reply) (first_wrong d a h past more e whole u.wrong (none_of (published past) b) y)))
+      f.wrong (ap is_accepting y.reply) (first_wrong d a h past more e whole u.wrong (none_of (published past) b) y)))
 
   entry_step : (n : ℕ) (past more k : List Entry) (us : List OwnUnlock) (e : Entry) (line : List ℕ) (w : What) → h ≡ past ++ e ∷ more → IsIdle v k
       → e.what ≡ w → SaysEntry true d v a e line

@@ -35,18 +35,18 @@ use Rattle.transcript_lines.proofs.Spelling.{call_line_back}
 use Rattle.told_ledgers.specs.declared.kind.Kind.TheVariants.{Noise, Publish as PublishLine, Accepted as AcceptedLine}
 use Rattle.told_ledgers.specs.Words.{ends_accepted, line_kind, nth_word}
 use Rattle.told_ledgers.specs.Ledger.{is_correct_publish}
-use Rattle.told_readings.specs.Enough.{IsForeignLine, IsKindOfCall, call_kind, is_accepted, is_publish_call, is_transfer_call}
-use Rattle.told_readings.specs.Written.{IsMade, LinesAreHeard, WrittenIsSaid}
+use Rattle.told_readings.specs.Enough.{IsForeignLine, IsKindOfCall, call_kind, is_accepting, is_publish_call, is_transfer_call}
+use Rattle.told_readings.specs.Written.{IsPossibleEntry, LinesAreHeard, WrittenIsSaid}
 use Rattle.told_readings.proofs.ByWords.{call_parts, ends_words, other_kind}
 use Rattle.told_readings.proofs.Enough.{lines_say_enough, small_party}
 
 -- ---- noise
 
-accepted_here : (r : Reply) → is_accepted r ≡ true → r ≡ Accepted
+accepted_here : (r : Reply) → is_accepting r ≡ true → r ≡ Accepted
 accepted_here Accepted e = refl
 accepted_here _ e = absurd (cc e)
 
-idle_noise : (c : Call) (r : Reply) (x : Bool) → is_accepted r ≡ x → is_of_contract (accepted_call (Made c) r) ≡ false
+idle_noise : (c : Call) (r : Reply) (x : Bool) → is_accepting r ≡ x → is_of_contract (accepted_call (Made c) r) ≡ false
     → cond (not x || is_transfer_call c) Noise (cond (is_publish_call c) PublishLine AcceptedLine) ≡ Noise
 idle_noise c r false q k = refl
 idle_noise (Transfer to units) r true q k = refl
@@ -64,7 +64,7 @@ module _ (v : ℕ) (small : v < 256) where
       ∙ ap (λ (w : What). line_kind v (separated_parts 32 (spaced (entry_words (Party p) w e.reply)))) ew
       ∙ ap (line_kind v) (call_parts p c e.reply lp kc kr) ∙ other_kind v p c e.reply lp small (λ q. false≢true (sym other ∙ eq-eqb p v q))
 
-  noise_by : (e : Entry) (s : Sender) (w : What) → e.sender ≡ s → e.what ≡ w → IsMade s w → IsTypedSender s → IsTypedWhat w → IsTypedReply e.reply
+  noise_by : (e : Entry) (s : Sender) (w : What) → e.sender ≡ s → e.what ≡ w → IsPossibleEntry s w → IsTypedSender s → IsTypedWhat w → IsTypedReply e.reply
       → is_told v e ≡ false → line_kind v (separated_parts 32 (entry_line e)) ≡ Noise
   noise_by e (Party p) (Made c) es ew m ts tw tr t =
       let parts = or_neither (is_ticking e.what || is_sender v e.sender) (is_of_contract (accepted_call e.what e.reply)) t in
@@ -72,7 +72,7 @@ module _ (v : ℕ) (small : v < 256) where
       let other : (p == v) ≡ false = sym (ap (is_sender v) es) ∙ both.1 in
       let idle : is_of_contract (accepted_call (Made c) e.reply) ≡ false =
       sym (ap (λ (w : What). is_of_contract (accepted_call w e.reply)) ew) ∙ parts.1 in
-      kind_here e p c es ew ts tw tr other ∙ idle_noise c e.reply (is_accepted e.reply) refl idle
+      kind_here e p c es ew ts tw tr other ∙ idle_noise c e.reply (is_accepting e.reply) refl idle
   noise_by e Clock (Tick k) es ew m ts tw tr t =
       absurd (false≢true (sym t ∙ ap (λ (w : What). is_ticking w || is_sender v e.sender || is_of_contract (accepted_call e.what e.reply)) ew))
   noise_by e (Party p) (Tick k) es ew m ts tw tr t = absurd m
@@ -92,7 +92,7 @@ publish_word p q Refund r s t e = absurd (false≢true (ap (λ (ws : List (List 
 publish_word p q (Transfer to units) r s t e = absurd (false≢true (ap (λ (ws : List (List ℕ)). is_word (nth_word 2 ws) (codes "publish")) e))
 
 -- both are accepted, and state as many locks
-same_reply_too : (p q : ℕ) (c b : Call) (r s : Reply) → entry_words (Party p) (Made c) r ≡ entry_words (Party q) (Made b) s → is_accepted r ≡ is_accepted s
+same_reply_too : (p q : ℕ) (c b : Call) (r s : Reply) → entry_words (Party p) (Made c) r ≡ entry_words (Party q) (Made b) s → is_accepting r ≡ is_accepting s
 same_reply_too p q c b r s e =
     sym (ends_words (codes "c" ∷ decimal p ∷ call_words c) r) ∙ ap ends_accepted e ∙ ends_words (codes "c" ∷ decimal q ∷ call_words b) s
 
@@ -194,7 +194,7 @@ module _ (d : Deal) (a : ℕ) (sized : IsWellSized d) where
         (is_correct_publish d a x.sender x.what) refl;
   }
 
-  useless_by : (v : ℕ) → v < 256 → (e : Entry) (s : Sender) (w : What) → e.sender ≡ s → e.what ≡ w → IsMade s w → IsTypedSender s → IsTypedWhat w
+  useless_by : (v : ℕ) → v < 256 → (e : Entry) (s : Sender) (w : What) → e.sender ≡ s → e.what ≡ w → IsPossibleEntry s w → IsTypedSender s → IsTypedWhat w
       → IsTypedReply e.reply → pick_call v e ≡ None → is_ticking e.what ≡ false → IsForeignLine d v a e (entry_line e)
   useless_by v small e (Party p) (Made c) es ew m ts tw tr none t =
       foreign_by v small e p c es ew ts tw tr (other (p == v) refl

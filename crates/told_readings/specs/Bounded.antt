@@ -9,9 +9,9 @@ use Rattle.ledger_core.specs.declared.entry.What.{What}
 use Rattle.ledger_core.specs.declared.entry.What.TheVariants.{Call as Made, Tick}
 use Rattle.ledger_core.specs.declared.entry.Entry.{Entry}
 use Rattle.ledger_core.specs.Book.{Histories}
-use Rattle.transcript_lines.specs.Between.{ended}
+use Rattle.transcript_lines.specs.Between.{fed_lines}
 use Rattle.transcript_lines.specs.Lines.{lines_from_arc}
-use Rattle.told_readings.specs.Written.{IsWritten}
+use Rattle.told_readings.specs.Written.{IsWritableEntry}
 
 -- what a publish or an unlock of a deal states is as long as it may be
 abbrev pub IsShortCall : Call → Type 0
@@ -25,7 +25,7 @@ IsShortWhat (Tick k) = Unit {0}
 
 -- An entry of a deal, whose line a program can write.
 pub record IsShortEntry (e : Entry) : Type 0 where
-  pub written : IsWritten e
+  pub written : IsWritableEntry e
   pub short : IsShortWhat e.what
 
 abbrev pub is_unlocking : What → Bool
@@ -41,4 +41,4 @@ pub record IsBrief (h : List Entry) : Type 0 where
 
 -- the lines of at most 128 ledgers that are told briefly have so few bytes, with their line feeds
 abbrev pub BriefIsBounded : Type 0
-BriefIsBounded = (k : Histories) → length k ≤ 128 → AllByRecursion IsBrief k → length (ended (lines_from_arc 0 k)) ≤ 147700000
+BriefIsBounded = (k : Histories) → length k ≤ 128 → AllByRecursion IsBrief k → length (fed_lines (lines_from_arc 0 k)) ≤ 147700000

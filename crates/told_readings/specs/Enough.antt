@@ -33,9 +33,9 @@ use Rattle.told_readings.specs.Apart.{LedgerLines, all_lines}
 
 -- ---- what the lines of a ledger say
 
-abbrev pub is_accepted : Reply → Bool
-is_accepted Accepted = true
-is_accepted _ = false
+abbrev pub is_accepting : Reply → Bool
+is_accepting Accepted = true
+is_accepting _ = false
 
 abbrev pub is_transfer_call : Call → Bool
 is_transfer_call (Transfer to units) = true
@@ -47,7 +47,7 @@ is_publish_call _ = false
 
 -- what somebody else's call is by the words of its line
 abbrev pub call_kind : Call → Reply → Kind
-call_kind c reply = if not (is_accepted reply) || is_transfer_call c then Noise else if is_publish_call c then PublishLine else AcceptedLine
+call_kind c reply = if not (is_accepting reply) || is_transfer_call c then Noise else if is_publish_call c then PublishLine else AcceptedLine
 
 abbrev pub IsKindOfCall : ℕ → What → Reply → List ℕ → Type 0
 IsKindOfCall v (Made c) reply line = line_kind v (separated_parts 32 line) ≡ call_kind c reply
@@ -57,7 +57,7 @@ IsKindOfCall v (Tick k) reply line = ⊥
 -- publish of the correct terms isn't the line of one.
 pub record IsForeignLine (d : Deal) (v a : ℕ) (e : Entry) (line : List ℕ) : Type 0 where
   pub kind : IsKindOfCall v e.what e.reply line
-  pub wrong : is_accepted e.reply ≡ true → is_correct_publish d a e.sender e.what ≡ false → (x : Entry) → IsStatable x → line ≡ entry_line x
+  pub wrong : is_accepting e.reply ≡ true → is_correct_publish d a e.sender e.what ≡ false → (x : Entry) → IsStatable x → line ≡ entry_line x
       → is_correct_publish d a x.sender x.what ≡ false
 
 -- The line says the entry to v. Of a useless arc a tick has its line, and a call any line that

@@ -20,21 +20,21 @@ use Rattle.told_readings.specs.Apart.{all_lines}
 use Rattle.told_readings.specs.Enough.{IsToldBook, SaysEntry, deal_ledger_lines}
 
 -- a party calls, and the clock ticks
-abbrev pub IsMade : Sender → What → Type 0
-IsMade (Party p) (Made c) = Unit {0}
-IsMade Clock (Tick k) = Unit {0}
-IsMade (Party p) (Tick k) = ⊥
-IsMade Clock (Made c) = ⊥
+abbrev pub IsPossibleEntry : Sender → What → Type 0
+IsPossibleEntry (Party p) (Made c) = Unit {0}
+IsPossibleEntry Clock (Tick k) = Unit {0}
+IsPossibleEntry (Party p) (Tick k) = ⊥
+IsPossibleEntry Clock (Made c) = ⊥
 
 -- An entry whose line a program can write: a call of a party or a tick, of the program's own types.
-pub record IsWritten (e : Entry) : Type 0 where
+pub record IsWritableEntry (e : Entry) : Type 0 where
   pub typed : IsTyped e
-  pub made : IsMade e.sender e.what
+  pub made : IsPossibleEntry e.sender e.what
 
 -- the line of an entry says it, and so it does of a useless arc, on which v makes no call
 abbrev pub WrittenIsSaid : Type 0
 WrittenIsSaid =
-    (d : Deal) (v a : ℕ) (e : Entry) → IsWellSized d → v < d.graph.n → IsWritten e
+    (d : Deal) (v a : ℕ) (e : Entry) → IsWellSized d → v < d.graph.n → IsWritableEntry e
     → SaysEntry false d v a e (entry_line e) × (pick_call v e ≡ None → SaysEntry true d v a e (entry_line e))
 
 -- what is told by lines of how the ledgers began is heard by the party, whatever it kept: a life

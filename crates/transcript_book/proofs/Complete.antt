@@ -29,7 +29,7 @@ use Rattle.transcript_lines.proofs.Spelling.{field_back}
 use Rattle.transcript_lines.proofs.Stories.{entry_says, inside_said}
 use Rattle.transcript_book.specs.Counts.{parse_limited_count, just, ledger_word, words_count}
 use Rattle.transcript_book.specs.Entries.{parse_entry, parse_next_entry, placed_entry}
-use Rattle.transcript_book.specs.Stages.{BookSoFar, begun, ended, entry_read, with_next_entry, ledger_read, line_read}
+use Rattle.transcript_book.specs.Stages.{BookSoFar, with_next_ledger, end_line_read, entry_read, with_next_entry, ledger_read, line_read}
 use Rattle.transcript_book.specs.Books.{WholeIsRead, whole}
 use Rattle.transcript_book.proofs.Heights.{held_again}
 use Rattle.transcript_book.proofs.Placed.{count_line}
@@ -107,12 +107,12 @@ entries_back job b h e (x ∷ more) ls f k =
     ∙ ap (λ (l : List Entry). steps line_read (at_ledger job (b ++ l ∷ [])) ls) (append_assoc h (e ∷ []) (x ∷ more))
 
 ledger_begun : (job : Job) (b : Histories) (n : ℕ) (ls : List (List ℕ)) → length b < length job.deal.graph.arcs → length b < 2 ^ 64 → n ≤ 20064
-    → steps line_read (at_ledger job b) (count_line (length b) n ∷ ls) ≡ steps line_read (begun (at_ledger job b) n) ls
+    → steps line_read (at_ledger job b) (count_line (length b) n ∷ ls) ≡ steps line_read (with_next_ledger (at_ledger job b) n) ls
 unfolding steps ledger_read
 ledger_begun job b n ls lt small le =
-    stepped _ (begun (at_ledger job b) n) (λ u. steps line_read u ls)
-    (ap (λ t. cond t (parse_limited_count (length b) (count_line (length b) n) >>= λ m. Ok (begun (at_ledger job b) m))
-    (ended (at_ledger job b) (count_line (length b) n)))
+    stepped _ (with_next_ledger (at_ledger job b) n) (λ u. steps line_read u ls)
+    (ap (λ t. cond t (parse_limited_count (length b) (count_line (length b) n) >>= λ m. Ok (with_next_ledger (at_ledger job b) m))
+    (end_line_read (at_ledger job b) (count_line (length b) n)))
     (lt-ltb (length b) (length job.deal.graph.arcs) lt)
     ∙ stepped (parse_limited_count (length b) (count_line (length b) n)) n _ (count_back (length b) n small le))
 
@@ -130,7 +130,7 @@ end_back : (job : Job) (b : Histories) → length b ≡ length job.deal.graph.ar
 unfolding steps ledger_read
 end_back job b all =
     stepped _ (whole job b) (λ u. Ok u)
-    (ap (λ t. cond t (parse_limited_count (length b) (codes "end") >>= λ m. Ok (begun (at_ledger job b) m)) (ended (at_ledger job b) (codes "end"))) (not_less all))
+    (ap (λ t. cond t (parse_limited_count (length b) (codes "end") >>= λ m. Ok (with_next_ledger (at_ledger job b) m)) (end_line_read (at_ledger job b) (codes "end"))) (not_less all))
   where
     not_less : length b ≡ length job.deal.graph.arcs → nat_lt (length b) (length job.deal.graph.arcs) ≡ false
     not_less e = le-ltb (length b) (length job.deal.graph.arcs) (omega arith)

@@ -22,9 +22,9 @@ use Rattle.transcript_lines.specs.declared.said.Misspelling.{Misspelling}
 use Rattle.transcript_lines.specs.Between.{between, longer_first, separated_parts}
 use Rattle.typed_books.specs.Typed.{IsDigest, IsSignature}
 use Rattle.transcript_lines.specs.Words.{list_word, signature_word}
-use Rattle.transcript_lines.specs.Reading.{misspelt, continue_reading, decimal_number, bounded_number, is_lower_digit, decoded, lower_hex_bytes, to_digest}
+use Rattle.transcript_lines.specs.Reading.{misspelt, continue_reading, decimal_number, bounded_number, is_lower_digit, decoded_word, lower_hex_bytes, lower_hex_digest}
 use Rattle.transcript_lines.specs.Reading.{parse_signature, parse_each_word}
-use Rattle.transcript_lines.specs.Reading.{inside_entries}
+use Rattle.transcript_lines.specs.Reading.{listed_field}
 use Rattle.transcript_book.proofs.HexDigits.{digits_are}
 
 -- ---- steps of a reading
@@ -97,16 +97,16 @@ below_is limit w n e =
 
 -- ---- digests and signatures
 
-decoded_ok : (r : Result (List ℕ) FromHexError) (xs : List ℕ) → decoded r ≡ Ok xs → r ≡ Ok xs
+decoded_ok : (r : Result (List ℕ) FromHexError) (xs : List ℕ) → decoded_word r ≡ Ok xs → r ≡ Ok xs
 decoded_ok (Ok ys) xs e = ap (λ (l : List ℕ). Ok l) (ok_is ys xs e)
 decoded_ok (Err f) xs e = absurd (cc e)
 
 bytes_are : (n : ℕ) (w xs : List ℕ) → lower_hex_bytes n w ≡ Ok xs → (w ≡ encode_lower xs) × (length xs ≡ n) × IsBytes xs
 bytes_are n w xs e =
-    let p = if_ok (list_all is_lower_digit w) (decoded (decode_sized w n)) xs e in
+    let p = if_ok (list_all is_lower_digit w) (decoded_word (decode_sized w n)) xs e in
     digits_are n w xs p.0 (decoded_ok (decode_sized w n) xs p.1)
 
-pub digest_is : IsExact to_digest encode_lower IsDigest
+pub digest_is : IsExact lower_hex_digest encode_lower IsDigest
 digest_is w xs e = let k = bytes_are 32 w xs e in (k.0, record { size = k.1; bytes = k.2 })
 
 bytes_cons : (x : ℕ) (xs : List ℕ) → x < 256 → IsBytes xs → IsBytes (x ∷ xs)
@@ -204,7 +204,7 @@ module _ {A : Type 0} (f : List ℕ → Result A Misspelling) (word : A → List
   some_word ws [] some e = absurd (omega (arith, some, ap length e))
   some_word ws (x ∷ xs) some e = ap (between 44) e
 
-  pub list_is : IsExact (inside_entries f) (λ xs. list_word (map word xs)) (All P)
+  pub list_is : IsExact (listed_field f) (λ xs. list_word (map word xs)) (All P)
   list_is w xs e = by (bytes_eq w (codes "-")) refl e
     where
       by : (t : Bool) → bytes_eq w (codes "-") ≡ t → cond t (Ok []) (parse_each_word f (separated_parts 44 w)) ≡ Ok xs → (w ≡ list_word (map word xs)) × All P xs

@@ -16,8 +16,8 @@ use Rattle.ledger_core.specs.declared.entry.Call.TheVariants.{Publish, Unlock, C
 use Rattle.transcript_lines.specs.declared.said.Misspelling.{Misspelling}
 use Rattle.typed_books.specs.Typed.{IsDigest, IsSignature, IsTypedCall, IsTypedReply}
 use Rattle.transcript_lines.specs.Words.{list_word, signature_word, call_words, reply_words}
-use Rattle.transcript_lines.specs.Reading.{decimal_number, bounded_number, to_digest, parse_signature, inside_entries, is_word, parse_first_field, parse_locks}
-use Rattle.transcript_lines.specs.Reading.{stated_terms, parse_unlock_fields, read_units, pick_call, parse_call, plain_reply, numbered_reply, make_reply}
+use Rattle.transcript_lines.specs.Reading.{decimal_number, bounded_number, lower_hex_digest, parse_signature, listed_field, is_word, parse_first_field, parse_locks}
+use Rattle.transcript_lines.specs.Reading.{parse_publish_fields, parse_unlock_fields, read_units, parse_named_call, parse_call, plain_reply, numbered_reply, make_reply}
 use Rattle.transcript_book.specs.Spelling.{HasLocks}
 use Rattle.transcript_book.proofs.Exact.{IsExact, went, ok_is, number_is, below_is, digest_is, signature_is, list_is}
 
@@ -60,10 +60,10 @@ locks_are zero ws xs rest e =
     let same : ◌≡◌ {A = List (List ℕ) × List (List ℕ)} ([], ws) (xs, rest) = ok_is ([], ws) (xs, rest) e in
     subst (λ (q : List (List ℕ) × List (List ℕ)). AreLocks 0 ws q.0 q.1) same (record { words = refl; count = refl; each = λ i d lt. absurd (omega arith) })
 locks_are (suc n) ws xs rest e =
-    let p = went (parse_first_field to_digest ws) _ (xs, rest) e in
+    let p = went (parse_first_field lower_hex_digest ws) _ (xs, rest) e in
     let q = went (parse_locks n p.0.1) _ (xs, rest) p.2 in
     let same : ◌≡◌ {A = List (List ℕ) × List (List ℕ)} (p.0.0 ∷ q.0.0, q.0.1) (xs, rest) = ok_is (p.0.0 ∷ q.0.0, q.0.1) (xs, rest) q.2 in
-    let one = field_is to_digest encode_lower IsDigest digest_is ws p.0.0 p.0.1 p.1 in
+    let one = field_is lower_hex_digest encode_lower IsDigest digest_is ws p.0.0 p.0.1 p.1 in
     let more = locks_are n p.0.1 q.0.0 q.0.1 q.1 in
     let count : length q.0.0 ≡ n = more.count in
     subst (λ (r : List (List ℕ) × List (List ℕ)). AreLocks (suc n) ws r.0 r.1) same (record {
@@ -89,9 +89,9 @@ record IsSaidAfter (locks : ℕ) (word : List ℕ) (ws : List (List ℕ)) (c : C
 abbrev Rest : Type 0
 Rest = List (List ℕ)
 
-terms_are : (locks : ℕ) (ws : List (List ℕ)) (c : Call) (rest : List (List ℕ)) → stated_terms locks ws ≡ Ok (c, rest)
+terms_are : (locks : ℕ) (ws : List (List ℕ)) (c : Call) (rest : List (List ℕ)) → parse_publish_fields locks ws ≡ Ok (c, rest)
     → IsSaidAfter locks (codes "publish") ws c rest
-unfolding stated_terms
+unfolding parse_publish_fields
 terms_are locks ws c rest e =
     let a = went (parse_first_field (bounded_number (2 ^ 32)) ws) _ (c, rest) e in
     let b = went (parse_first_field (bounded_number (2 ^ 32)) a.0.1) _ (c, rest) a.2 in
@@ -118,16 +118,16 @@ key_is : (locks : ℕ) (ws : List (List ℕ)) (c : Call) (rest : List (List ℕ)
 unfolding parse_unlock_fields
 key_is locks ws c rest e =
     let a = went (parse_first_field (bounded_number 256) ws) _ (c, rest) e in
-    let b = went (parse_first_field to_digest a.0.1) _ (c, rest) a.2 in
-    let d = went (parse_first_field (inside_entries (bounded_number 256)) b.0.1) _ (c, rest) b.2 in
-    let f = went (parse_first_field (inside_entries parse_signature) d.0.1) _ (c, rest) d.2 in
+    let b = went (parse_first_field lower_hex_digest a.0.1) _ (c, rest) a.2 in
+    let d = went (parse_first_field (listed_field (bounded_number 256)) b.0.1) _ (c, rest) b.2 in
+    let f = went (parse_first_field (listed_field parse_signature) d.0.1) _ (c, rest) d.2 in
     let key : Hashkey = record { lock = a.0.0; secret = b.0.0; path = d.0.0; sigs = f.0.0 } in
     let same : ◌≡◌ {A = Call × Rest} (Unlock key, f.0.1) (c, rest) = ok_is (Unlock key, f.0.1) (c, rest) f.2 in
     let ka = byte_is ws a.0.0 a.0.1 a.1 in
-    let kb = field_is to_digest encode_lower IsDigest digest_is a.0.1 b.0.0 b.0.1 b.1 in
-    let kd = field_is (inside_entries (bounded_number 256)) (λ xs. list_word (map decimal xs)) (All (λ p. p < 256))
+    let kb = field_is lower_hex_digest encode_lower IsDigest digest_is a.0.1 b.0.0 b.0.1 b.1 in
+    let kd = field_is (listed_field (bounded_number 256)) (λ xs. list_word (map decimal xs)) (All (λ p. p < 256))
     (list_is (bounded_number 256) decimal (λ n. n < 256) (below_is 256)) b.0.1 d.0.0 d.0.1 d.1 in
-    let kf = field_is (inside_entries parse_signature) (λ xs. list_word (map signature_word xs)) (All IsSignature)
+    let kf = field_is (listed_field parse_signature) (λ xs. list_word (map signature_word xs)) (All IsSignature)
     (list_is parse_signature signature_word IsSignature signature_is) d.0.1 f.0.0 f.0.1 f.1 in
     subst (λ (q : Call × Rest). IsSaidAfter locks (codes "unlock") ws q.0 q.1) same (record {
       words = ap (λ (l : Rest). codes "unlock" ∷ l) (ka.0 ∙ ap (λ (l : Rest). decimal a.0.0 ∷ l) (kb.0 ∙ ap (λ (l : Rest). encode_lower b.0.0 ∷ l) (kd.0
@@ -174,7 +174,7 @@ named : (locks : ℕ) (w word : List ℕ) (ws : List (List ℕ)) (c : Call) (res
     → IsSaidCall locks (w ∷ ws) c rest
 named locks w word ws c rest is k = record { words = ap (λ (v : List ℕ). v ∷ ws) is ∙ k.words; few = k.few; typed = k.typed }
 
-call_by_is : (locks : ℕ) (w : List ℕ) (ws : List (List ℕ)) (c : Call) (rest : List (List ℕ)) → pick_call locks w ws ≡ Ok (c, rest)
+call_by_is : (locks : ℕ) (w : List ℕ) (ws : List (List ℕ)) (c : Call) (rest : List (List ℕ)) → parse_named_call locks w ws ≡ Ok (c, rest)
     → IsSaidCall locks (w ∷ ws) c rest
 call_by_is locks w ws c rest e =
     let P = IsSaidCall locks (w ∷ ws) c rest in

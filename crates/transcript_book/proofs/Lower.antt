@@ -6,7 +6,7 @@ use Rattle.std.proofs.lemmas.Bool.{leb-true, eqb-false}
 use Rattle.hex.specs.Hex.{decode_pairs, decode_sized, hex_digit_value}
 use Rattle.hex.specs.declared.error.FromHexError.TheVariants.{InvalidStringLength, OddLength}
 use Rattle.swap_base.proofs.Lists.{and_parts}
-use Rattle.transcript_lines.specs.Reading.{decoded, is_lower_digit, misspelt}
+use Rattle.transcript_lines.specs.Reading.{decoded_word, is_lower_digit, misspelt}
 
 abbrev pub field_value : ℕ → ℕ
 field_value c = if nat_le c 57 then c - 48 else c - 87
@@ -74,11 +74,11 @@ value_is c lower = by (is_lower_digit c) (hex_digit_value c) lower (valued_at 10
     by false o l k = absurd (cc l)
 
 -- a text of another length says no signature
-pub wrong_length : (w : List ℕ) → length w ≢ 4288 → decoded (decode_sized w 2144) ≡ misspelt
+pub wrong_length : (w : List ℕ) → length w ≢ 4288 → decoded_word (decode_sized w 2144) ≡ misspelt
 wrong_length w off = by (length w % 2 == 1) (length w / 2 == 2144) refl refl
   where
     by : (s t : Bool) → (length w % 2 == 1) ≡ s → (length w / 2 == 2144) ≡ t
-        → decoded (if s then Err OddLength else (if t then decode_pairs 0 w else Err InvalidStringLength)) ≡ misspelt
+        → decoded_word (if s then Err OddLength else (if t then decode_pairs 0 w else Err InvalidStringLength)) ≡ misspelt
     by true t p q = refl
     by false false p q = refl
     by false true p q =

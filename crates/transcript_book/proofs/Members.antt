@@ -2,7 +2,7 @@
 use Rattle.std.proofs.Common.{◌≡◌, ℕ, suc, List, [], ◌∷◌, ◌++◌, Result, Ok, Err, refl, sym, ap, ◌∙◌, append_assoc}
 use Rattle.swap_base.specs.Fault.{◌>>=◌}
 use Rattle.transcript_lines.specs.declared.said.Misspelling.{Misspelling}
-use Rattle.transcript_lines.specs.Reading.{to_digest, parse_first_field, parse_locks}
+use Rattle.transcript_lines.specs.Reading.{lower_hex_digest, parse_first_field, parse_locks}
 
 -- what was read before, and what is still read
 abbrev pub with_front : {A : Type 0} → List A → Result (List A) Misspelling → Result (List A) Misspelling
@@ -28,7 +28,7 @@ locks_start (Ok r) = refl
 locks_start (Err e) = refl
 
 module _ (front : List (List ℕ)) (total : Result (List (List ℕ) × List (List ℕ)) Misspelling) (k n : ℕ) (more : k ≡ suc n) where
-  pub locks_on : (old new : List (List ℕ)) (x : List ℕ) → parse_first_field to_digest old ≡ Ok (x, new) → with_locks front (parse_locks k old) ≡ total
+  pub locks_on : (old new : List (List ℕ)) (x : List ℕ) → parse_first_field lower_hex_digest old ≡ Ok (x, new) → with_locks front (parse_locks k old) ≡ total
       → with_locks (front ++ x ∷ []) (parse_locks n new) ≡ total
   locks_on old new x one so_far =
       sym (ap (λ m. with_locks front (parse_locks m old)) more

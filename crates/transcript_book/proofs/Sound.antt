@@ -15,7 +15,7 @@ use Rattle.transcript_lines.specs.Lines.{IsStatable, IsStated, entry_line, lines
 use Rattle.transcript_book.specs.Counts.{parse_limited_count}
 use Rattle.transcript_book.specs.declared.place.Place.TheVariants.{Ledger, Entries, Over}
 use Rattle.transcript_book.specs.Entries.{parse_next_entry}
-use Rattle.transcript_book.specs.Stages.{BookSoFar, begun, ended, entry_read, with_next_entry, ledger_read, line_read, with_whole}
+use Rattle.transcript_book.specs.Stages.{BookSoFar, with_next_ledger, end_line_read, entry_read, with_next_entry, ledger_read, line_read, with_whole}
 use Rattle.transcript_book.specs.Books.{ReadIsWhole, whole}
 use Rattle.transcript_book.proofs.Exact.{went, ok_is, if_ok}
 use Rattle.transcript_book.proofs.Placed.{count_is, count_line, entry_is}
@@ -174,7 +174,7 @@ nothing_after s t (l ∷ ls) over e = absurd (by over e)
 still : (m : ℕ) (s : BookSoFar) → with_whole (suc m == 0) s ≡ s
 still m s = ap (λ t. with_whole t s) (ne_eqb (suc m) 0 (λ e. absurd (omega (arith, e))))
 
-pub begun_some : (job : Job) (b : Histories) (m : ℕ) → begun (at_ledger job b) (suc m) ≡ in_ledger job b [] (suc m)
+pub begun_some : (job : Job) (b : Histories) (m : ℕ) → with_next_ledger (at_ledger job b) (suc m) ≡ in_ledger job b [] (suc m)
 begun_some job b m = still m (in_ledger job b [] (suc m))
 
 pub one_left : (job : Job) (b : Histories) (h : List Entry) (m : ℕ) (x : Entry)
@@ -187,7 +187,7 @@ one_left job b h m x =
 begins : (job : Job) (b : Histories) (ls : List (List ℕ)) (t : BookSoFar) (n : ℕ)
     → ((m : ℕ) → steps line_read (in_ledger job b [] (suc m)) ls ≡ Ok t → FromEntries job b [] (suc m) ls t)
     → (steps line_read (at_ledger job (b ++ [] ∷ [])) ls ≡ Ok t → FromLedger job (b ++ [] ∷ []) ls t)
-    → steps line_read (begun (at_ledger job b) n) ls ≡ Ok t → FromEntries job b [] n ls t
+    → steps line_read (with_next_ledger (at_ledger job b) n) ls ≡ Ok t → FromEntries job b [] n ls t
 begins job b ls t zero some none k = none_come job b [] ls t (none k)
 begins job b ls t (suc m) some none k = some m (ap (λ (s : BookSoFar). steps line_read s ls) (sym (begun_some job b m)) ∙ k)
 
@@ -201,9 +201,9 @@ goes_on job b h ls t x (suc m) some none k = some m (ap (λ (s : BookSoFar). ste
 
 -- the last line is read
 all_ends : (job : Job) (b : Histories) (l : List ℕ) (ls : List (List ℕ)) (t : BookSoFar) → length b ≡ length job.deal.graph.arcs
-    → (ended (at_ledger job b) l >>= λ u. steps line_read u ls) ≡ Ok t → FromLedger job b (l ∷ ls) t
+    → (end_line_read (at_ledger job b) l >>= λ u. steps line_read u ls) ≡ Ok t → FromLedger job b (l ∷ ls) t
 all_ends job b l ls t all k =
-    let p = went (ended (at_ledger job b) l) (λ u. steps line_read u ls) t k in
+    let p = went (end_line_read (at_ledger job b) l) (λ u. steps line_read u ls) t k in
     let q = if_ok (bytes_eq l (codes "end")) (Ok (whole job b)) p.0 p.1 in
     let same : whole job b ≡ p.0 = ok_is (whole job b) p.0 q.1 in
     let last = nothing_after p.0 t ls (ap (λ (s : BookSoFar). s.place) (sym same)) p.2 in record {
@@ -223,14 +223,14 @@ unfolding ledger_read
 ledger_on job b l ls t le some none e = by (nat_lt (length b) (length job.deal.graph.arcs)) refl e
   where
     by : (test : Bool) → nat_lt (length b) (length job.deal.graph.arcs) ≡ test
-        → (cond test (parse_limited_count (length b) l >>= λ n. Ok (begun (at_ledger job b) n)) (ended (at_ledger job b) l) >>= λ u. steps line_read u ls)
+        → (cond test (parse_limited_count (length b) l >>= λ n. Ok (with_next_ledger (at_ledger job b) n)) (end_line_read (at_ledger job b) l) >>= λ u. steps line_read u ls)
         ≡ Ok t
         → FromLedger job b (l ∷ ls) t
     by true q k =
         let lt : length b < length job.deal.graph.arcs = ltb-true (length b) (length job.deal.graph.arcs) q in
-        let p = went (parse_limited_count (length b) l >>= λ n. Ok (begun (at_ledger job b) n)) (λ u. steps line_read u ls) t k in
-        let r = went (parse_limited_count (length b) l) (λ n. Ok (begun (at_ledger job b) n)) p.0 p.1 in
-        let same : begun (at_ledger job b) r.0 ≡ p.0 = ok_is (begun (at_ledger job b) r.0) p.0 r.2 in
+        let p = went (parse_limited_count (length b) l >>= λ n. Ok (with_next_ledger (at_ledger job b) n)) (λ u. steps line_read u ls) t k in
+        let r = went (parse_limited_count (length b) l) (λ n. Ok (with_next_ledger (at_ledger job b) n)) p.0 p.1 in
+        let same : with_next_ledger (at_ledger job b) r.0 ≡ p.0 = ok_is (with_next_ledger (at_ledger job b) r.0) p.0 r.2 in
         ledger_begins job b r.0 l ls t r.1 (begins job b ls t r.0 (some lt) (none lt) (ap (λ (u : BookSoFar). steps line_read u ls) same ∙ p.2))
     by false q k =
         let ge : length job.deal.graph.arcs ≤ length b = ltb-false (length b) (length job.deal.graph.arcs) q in

@@ -32,27 +32,27 @@ abbrev pub with_whole : Bool → BookSoFar → BookSoFar
 with_whole true s = record { job = s.job; book = s.book ++ s.entries ∷ []; entries = []; more = 0; place = Ledger }
 with_whole false s = s
 
-abbrev pub settled : BookSoFar → BookSoFar
-settled s = with_whole (s.more == 0) s
+abbrev pub with_ledger_if_whole : BookSoFar → BookSoFar
+with_ledger_if_whole s = with_whole (s.more == 0) s
 
 -- the next ledger, with so many entries
-abbrev pub begun : BookSoFar → ℕ → BookSoFar
-begun s count = settled (record { job = s.job; book = s.book; entries = []; more = count; place = Entries })
+abbrev pub with_next_ledger : BookSoFar → ℕ → BookSoFar
+with_next_ledger s count = with_ledger_if_whole (record { job = s.job; book = s.book; entries = []; more = count; place = Entries })
 
 -- one more entry of the ledger
 abbrev pub with_next_entry : BookSoFar → Entry → BookSoFar
-with_next_entry s e = settled (record { job = s.job; book = s.book; entries = s.entries ++ e ∷ []; more = s.more - 1; place = Entries })
+with_next_entry s e = with_ledger_if_whole (record { job = s.job; book = s.book; entries = s.entries ++ e ∷ []; more = s.more - 1; place = Entries })
 
 -- the last line
-abbrev pub ended : BookSoFar → List ℕ → Result BookSoFar Misspelling
-ended s line =
+abbrev pub end_line_read : BookSoFar → List ℕ → Result BookSoFar Misspelling
+end_line_read s line =
     if bytes_eq line (codes "end") then Ok (record { job = s.job; book = s.book; entries = s.entries; more = s.more; place = Over })
     else misspelt
 
 -- the line of the next ledger, or the last one where no ledger is to come
 unfoldable pub ledger_read : BookSoFar → List ℕ → Result BookSoFar Misspelling
 ledger_read s line =
-    if nat_lt (length s.book) (length s.job.deal.graph.arcs) then (parse_limited_count (length s.book) line >>= λ n. Ok (begun s n)) else ended s line
+    if nat_lt (length s.book) (length s.job.deal.graph.arcs) then (parse_limited_count (length s.book) line >>= λ n. Ok (with_next_ledger s n)) else end_line_read s line
 
 -- the line of an entry
 unfoldable pub entry_read : BookSoFar → List ℕ → Result BookSoFar Misspelling

@@ -1,7 +1,7 @@
 //! The call of an entry's line.
 
 ghost use Rattle.std.specs.Prelude.{◌≤◌};
-ghost use Rattle.transcript_lines.specs.Reading.{pick_call, parse_call, parse_unlock_fields, parse_locks, stated_terms, read_units};
+ghost use Rattle.transcript_lines.specs.Reading.{parse_named_call, parse_call, parse_unlock_fields, parse_locks, parse_publish_fields, read_units};
 ghost use Rattle.transcript_book.specs.Taking.{Takes};
 
 use crate::field::{
@@ -27,10 +27,14 @@ fn parse_locks(count: usize, fields: &mut Parts<'_>) -> Result<LockList, WordFau
     Ok(locks)
 }
 
-#[tactic(auto, unfolding(transcript_lines::specs::Reading::stated_terms))]
-fn stated_terms(alloc: Global, count: usize, fields: &mut Parts<'_>) -> Result<Call, WordFault>
+#[tactic(auto, unfolding(transcript_lines::specs::Reading::parse_publish_fields))]
+fn parse_publish_fields(
+    alloc: Global,
+    count: usize,
+    fields: &mut Parts<'_>,
+) -> Result<Call, WordFault>
     requires { count ≤ 8 }
-    ensures { Takes (λ c. c) result fields.new (stated_terms count fields.old) }
+    ensures { Takes (λ c. c) result fields.new (parse_publish_fields count fields.old) }
 {
     let start = small_field(fields)?;
     let delta = small_field(fields)?;
@@ -76,17 +80,17 @@ fn read_units(fields: &mut Parts<'_>) -> Result<Call, WordFault>
     Ok(Call::Transfer(to, units))
 }
 
-fn pick_call(
+fn parse_named_call(
     alloc: Global,
     count: usize,
     first: &[u8],
     fields: &mut Parts<'_>,
 ) -> Result<Call, WordFault>
     requires { count ≤ 8 }
-    ensures { Takes (λ c. c) result fields.new (pick_call count first.now fields.old) }
+    ensures { Takes (λ c. c) result fields.new (parse_named_call count first.now fields.old) }
 {
     if first == b"publish".as_slice() {
-        stated_terms(alloc, count, fields)
+        parse_publish_fields(alloc, count, fields)
     } else if first == b"unlock".as_slice() {
         parse_unlock_fields(alloc, fields)
     } else if first == b"claim".as_slice() {
@@ -111,5 +115,5 @@ pub(crate) fn parse_call(
     ensures { Takes (λ c. c) result fields.new (parse_call count fields.old) }
 {
     let first = word(fields)?;
-    pick_call(alloc, count, first, fields)
+    parse_named_call(alloc, count, first, fields)
 }

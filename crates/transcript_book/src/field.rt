@@ -2,10 +2,10 @@
 
 ghost use Rattle.std.specs.Prelude.{◌<◌, ◌≤◌, ◌^◌, IfOk};
 ghost use Rattle.swap_base.specs.Fault.{Gives};
-ghost use Rattle.transcript_lines.specs.Reading.{to_digest, equals, parse_first_field, first_field, inside_entries, nothing_more, bounded_number, decimal_number, parse_signature};
+ghost use Rattle.transcript_lines.specs.Reading.{lower_hex_digest, equals, parse_first_field, first_field, listed_field, nothing_more, bounded_number, decimal_number, parse_signature};
 ghost use Rattle.transcript_book.specs.Taking.{Takes};
 
-use crate::digits::to_digest;
+use crate::digits::lower_hex_digest;
 use crate::lists::{make_path, parse_signatures};
 use crate::number::{WordFault, decimal_number, misspelt, parse_byte, parse_small, read_bounded};
 use crate::parts::Parts;
@@ -62,15 +62,15 @@ pub fn bounded_field(limit: usize, fields: &mut Parts<'_>) -> Result<u8, WordFau
 /// A digest.
 #[tactic(auto, unfolding(transcript_lines::specs::Reading::parse_first_field))]
 pub fn digest_field(fields: &mut Parts<'_>) -> Result<Digest, WordFault>
-    ensures { Takes (λ d. d) result fields.new (parse_first_field to_digest fields.old) }
+    ensures { Takes (λ d. d) result fields.new (parse_first_field lower_hex_digest fields.old) }
 {
-    to_digest(word(fields)?)
+    lower_hex_digest(word(fields)?)
 }
 
 /// A path.
 #[tactic(auto, unfolding(transcript_lines::specs::Reading::parse_first_field))]
 pub fn path_field(alloc: Global, fields: &mut Parts<'_>) -> Result<PathList, WordFault>
-    ensures { Takes (λ l. l) result fields.new (parse_first_field (inside_entries (bounded_number 256)) fields.old) }
+    ensures { Takes (λ l. l) result fields.new (parse_first_field (listed_field (bounded_number 256)) fields.old) }
 {
     make_path(alloc, word(fields)?)
 }
@@ -78,7 +78,7 @@ pub fn path_field(alloc: Global, fields: &mut Parts<'_>) -> Result<PathList, Wor
 /// Signatures, in one field.
 #[tactic(auto, unfolding(transcript_lines::specs::Reading::parse_first_field))]
 pub fn signatures_field(alloc: Global, fields: &mut Parts<'_>) -> Result<SigList, WordFault>
-    ensures { Takes (λ l. l) result fields.new (parse_first_field (inside_entries parse_signature) fields.old) }
+    ensures { Takes (λ l. l) result fields.new (parse_first_field (listed_field parse_signature) fields.old) }
 {
     parse_signatures(alloc, word(fields)?)
 }

@@ -25,7 +25,7 @@ mod stated;
 
 pub use call::parse_unlock_fields;
 pub use count::ledger_field;
-pub use digits::to_digest;
+pub use digits::lower_hex_digest;
 pub use field::{
     bounded_field, byte_field, digest_field, nothing_more, number_field, path_field,
     signatures_field, small_field, word,

@@ -1,7 +1,7 @@
 //! Lists in one field.
 
 ghost use Rattle.swap_base.specs.Fault.{Gives};
-ghost use Rattle.transcript_lines.specs.Reading.{parse_each_word, inside_entries, bounded_number, parse_signature};
+ghost use Rattle.transcript_lines.specs.Reading.{parse_each_word, listed_field, bounded_number, parse_signature};
 
 use crate::digits::parse_signature;
 use crate::number::{WordFault, parse_byte};
@@ -24,7 +24,7 @@ fn each_party(alloc: Global, parts: &mut Parts<'_>) -> Result<PathList, WordFaul
 
 /// The path that a field says.
 pub(crate) fn make_path(alloc: Global, word: &[u8]) -> Result<PathList, WordFault>
-    ensures { Gives (λ l. l) result (inside_entries (bounded_number 256) word.now) }
+    ensures { Gives (λ l. l) result (listed_field (bounded_number 256) word.now) }
 {
     if word == b"-".as_slice() {
         return Ok(Listed::empty(alloc));
@@ -45,7 +45,7 @@ fn each_signature(alloc: Global, count: usize, parts: &mut Parts<'_>) -> Result<
 
 /// The signatures that a field says.
 pub(crate) fn parse_signatures(alloc: Global, word: &[u8]) -> Result<SigList, WordFault>
-    ensures { Gives (λ l. l) result (inside_entries parse_signature word.now) }
+    ensures { Gives (λ l. l) result (listed_field parse_signature word.now) }
 {
     if word == b"-".as_slice() {
         return Ok(Listed::empty(alloc));

@@ -3,7 +3,7 @@
 ghost use Rattle.std.specs.Prelude.{◌≡◌, IfOk};
 ghost use Rattle.swap_digraph.specs.Deal.{IsWellSized};
 ghost use Rattle.transcript_book.specs.declared.place.Place.TheVariants.{Ledger, Entries};
-ghost use Rattle.transcript_book.specs.Stages.{Reads, entry_read, is_finished, ledger_read, line_read, no_ledgers, settled};
+ghost use Rattle.transcript_book.specs.Stages.{Reads, entry_read, is_finished, ledger_read, line_read, no_ledgers, with_ledger_if_whole};
 
 use crate::count::read_count;
 use crate::known::{Known, none_known, with_known};
@@ -82,7 +82,7 @@ impl BookReader {
     /// Keeps the ledger that is read, where none of its entries is to come.
     fn settle(&mut self)
         requires { self.old.place ≡ Entries }
-        ensures { self.new ≡ settled self.old }
+        ensures { self.new ≡ with_ledger_if_whole self.old }
     {
         if self.more == 0 {
             let none = EntryList::empty(*self.histories.allocator());

@@ -13,7 +13,7 @@ use Rattle.hash_signature.specs.declared.sig.Sig.{Sig}
 use Rattle.hash_signature.specs.Signature.{text_values}
 use Rattle.hash_signature.proofs.Values.{text_values-joined}
 use Rattle.transcript_lines.specs.declared.said.Misspelling.{Misspelling}
-use Rattle.transcript_lines.specs.Reading.{misspelt, is_lower_digit, decoded, lower_hex_bytes, to_digest, parse_signature}
+use Rattle.transcript_lines.specs.Reading.{misspelt, is_lower_digit, decoded_word, lower_hex_bytes, lower_hex_digest, parse_signature}
 use Rattle.typed_books.specs.Typed.{IsDigest, IsSignature}
 use Rattle.transcript_lines.specs.Words.{signature_word}
 use Rattle.transcript_lines.proofs.Parts.{IsHigh}
@@ -64,9 +64,9 @@ high_hex xs h = high_lower (encode_lower xs) (lower_word xs h)
 
 bytes_back : (n : ℕ) (xs : List ℕ) → length xs ≡ n → IsBytes xs → lower_hex_bytes n (encode_lower xs) ≡ Ok xs
 bytes_back n xs size h =
-    ap (λ t. cond t (decoded (decode_sized (encode_lower xs) n)) misspelt) (lower_word xs h) ∙ ap decoded (decode_sized-encode_lower xs n size h)
+    ap (λ t. cond t (decoded_word (decode_sized (encode_lower xs) n)) misspelt) (lower_word xs h) ∙ ap decoded_word (decode_sized-encode_lower xs n size h)
 
-pub digest_back : (x : List ℕ) → IsDigest x → to_digest (encode_lower x) ≡ Ok x
+pub digest_back : (x : List ℕ) → IsDigest x → lower_hex_digest (encode_lower x) ≡ Ok x
 digest_back x k = bytes_back 32 x k.size k.bytes
 
 -- the bytes of digests, one after another

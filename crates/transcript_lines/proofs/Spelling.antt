@@ -28,7 +28,7 @@ use Rattle.transcript_lines.specs.declared.said.Misspelling.{Misspelling}
 use Rattle.transcript_lines.specs.Between.{between, spaced, separated_parts}
 use Rattle.typed_books.specs.Typed.{IsDigest, IsSignature, IsTerms, IsHashkey, IsTypedCall, IsTypedReply, IsTypedSender, IsTypedWhat}
 use Rattle.transcript_lines.specs.Words.{list_word, signature_word, terms_words, key_words, call_words, reply_words, entry_words}
-use Rattle.transcript_lines.specs.Reading.{decimal_number, bounded_number, to_digest, parse_signature, parse_each_word, inside_entries, parse_first_field, parse_locks, stated_terms}
+use Rattle.transcript_lines.specs.Reading.{decimal_number, bounded_number, lower_hex_digest, parse_signature, parse_each_word, listed_field, parse_first_field, parse_locks, parse_publish_fields}
 use Rattle.transcript_lines.specs.Reading.{parse_unlock_fields, read_units, parse_call, make_reply, equals, call_said, tick_said, words_said, line_said}
 use Rattle.transcript_lines.proofs.Parts.{IsHigh, high_too, parts_between, high_between, all_append}
 use Rattle.transcript_lines.proofs.Numbers.{number_back, below_back, high_number}
@@ -73,7 +73,7 @@ module _ {A : Type 0} (P : A → Type 0) (word : A → List ℕ) (f : List ℕ �
   not_dash w [] h k = ap (λ (l : List ℕ). bytes_eq l (codes "-")) (sym (append-nil w)) ∙ no_dash w [] h k
   not_dash w (v ∷ ws) h k = no_dash w (44 ∷ between 44 (v ∷ ws)) h k
 
-  pub list_back : (xs : List A) → All P xs → inside_entries f (list_word (map word xs)) ≡ Ok xs
+  pub list_back : (xs : List A) → All P xs → listed_field f (list_word (map word xs)) ≡ Ok xs
   list_back [] h = refl
   list_back (x ∷ xs) h =
       let px = first_of_all P x xs h in
@@ -96,7 +96,7 @@ module _ {A : Type 0} (P : A → Type 0) (word : A → List ℕ) (f : List ℕ �
 some_number : (n : ℕ) → n < 256 → 0 < length (decimal n)
 some_number n lt = decimal_nonempty n (omega arith)
 
-path_back : (xs : List ℕ) → All (λ p. p < 256) xs → inside_entries (bounded_number 256) (list_word (map decimal xs)) ≡ Ok xs
+path_back : (xs : List ℕ) → All (λ p. p < 256) xs → listed_field (bounded_number 256) (list_word (map decimal xs)) ≡ Ok xs
 path_back xs h =
     list_back (λ p. p < 256) decimal (bounded_number 256) (λ n lt. below_back 256 n lt (omega arith)) (λ n lt.
     high_number n (omega arith)) some_number xs h
@@ -106,7 +106,7 @@ high_path xs h =
     high_list (λ p. p < 256) decimal (bounded_number 256) (λ n lt. below_back 256 n lt (omega arith)) (λ n lt.
     high_number n (omega arith)) some_number xs h
 
-sigs_back : (xs : List Sig) → All IsSignature xs → inside_entries parse_signature (list_word (map signature_word xs)) ≡ Ok xs
+sigs_back : (xs : List Sig) → All IsSignature xs → listed_field parse_signature (list_word (map signature_word xs)) ≡ Ok xs
 sigs_back xs h = list_back IsSignature signature_word parse_signature signature_back high_signature some_signature xs h
 
 high_sigs : (xs : List Sig) → All IsSignature xs → IsHigh 44 (list_word (map signature_word xs))
@@ -120,9 +120,9 @@ field_back f w x rest e = went (f w) x (λ y. Ok (y, rest)) e
 locks_back : (xs : List (List ℕ)) (rest : List (List ℕ)) → All IsDigest xs → parse_locks (length xs) (map encode_lower xs ++ rest) ≡ Ok (xs, rest)
 locks_back [] rest h = refl
 locks_back (x ∷ xs) rest h =
-    went (parse_first_field to_digest (encode_lower x ∷ (map encode_lower xs ++ rest))) (x, map encode_lower xs ++ rest) (λ y. parse_locks (length xs) y.1 >>= λ r.
+    went (parse_first_field lower_hex_digest (encode_lower x ∷ (map encode_lower xs ++ rest))) (x, map encode_lower xs ++ rest) (λ y. parse_locks (length xs) y.1 >>= λ r.
     Ok (y.0 ∷ r.0, r.1))
-    (field_back to_digest (encode_lower x) x (map encode_lower xs ++ rest) (digest_back x (first_of_all IsDigest x xs h)))
+    (field_back lower_hex_digest (encode_lower x) x (map encode_lower xs ++ rest) (digest_back x (first_of_all IsDigest x xs h)))
     ∙ went (parse_locks (length xs) (map encode_lower xs ++ rest)) (xs, rest) (λ r. Ok (x ∷ r.0, r.1)) (locks_back xs rest (rest_of IsDigest x xs h))
 
 -- Calls.
@@ -139,8 +139,8 @@ byte_field n rest lt = field_back (bounded_number 256) (decimal n) n rest (below
 number_field : (n : ℕ) (rest : List (List ℕ)) → n < 2 ^ 64 → parse_first_field decimal_number (decimal n ∷ rest) ≡ Ok (n, rest)
 number_field n rest lt = field_back decimal_number (decimal n) n rest (number_back n lt)
 
-terms_back : (t : Terms) (rest : List (List ℕ)) → IsTerms t → stated_terms (length t.locks) (terms_words t ++ rest) ≡ Ok (Publish t, rest)
-unfolding stated_terms
+terms_back : (t : Terms) (rest : List (List ℕ)) → IsTerms t → parse_publish_fields (length t.locks) (terms_words t ++ rest) ≡ Ok (Publish t, rest)
+unfolding parse_publish_fields
 terms_back t rest k =
     let locks = map encode_lower t.locks ++ rest in
     went _ (t.start, decimal t.delta ∷ decimal t.bound ∷ decimal t.timelock ∷ decimal t.amount ∷ locks) _ (small_field t.start _ k.start)
@@ -156,9 +156,9 @@ key_back key rest k =
     let sigs = list_word (map signature_word key.sigs) ∷ rest in
     let path = list_word (map decimal key.path) ∷ sigs in
     went _ (key.lock, encode_lower key.secret ∷ path) _ (byte_field key.lock _ k.lock)
-    ∙ went _ (key.secret, path) _ (field_back to_digest (encode_lower key.secret) key.secret path (digest_back key.secret k.secret))
-    ∙ went _ (key.path, sigs) _ (field_back (inside_entries (bounded_number 256)) (list_word (map decimal key.path)) key.path sigs (path_back key.path k.path))
-    ∙ went _ (key.sigs, rest) _ (field_back (inside_entries parse_signature) (list_word (map signature_word key.sigs)) key.sigs rest
+    ∙ went _ (key.secret, path) _ (field_back lower_hex_digest (encode_lower key.secret) key.secret path (digest_back key.secret k.secret))
+    ∙ went _ (key.path, sigs) _ (field_back (listed_field (bounded_number 256)) (list_word (map decimal key.path)) key.path sigs (path_back key.path k.path))
+    ∙ went _ (key.sigs, rest) _ (field_back (listed_field parse_signature) (list_word (map signature_word key.sigs)) key.sigs rest
     (sigs_back key.sigs k.sigs))
 
 units_back : (to units : ℕ) (rest : List (List ℕ)) → to < 256 → units < 2 ^ 64 → read_units (decimal to ∷ decimal units ∷ rest) ≡ Ok (Transfer to units, rest)
@@ -173,7 +173,7 @@ HasLocks locks _ = Unit {0}
 
 call_back : (locks : ℕ) (c : Call) (rest : List (List ℕ)) → HasLocks locks c → IsTypedCall c → parse_call locks (call_words c ++ rest) ≡ Ok (c, rest)
 unfolding parse_call
-call_back locks (Publish t) rest few k = ap (λ n. stated_terms n (terms_words t ++ rest)) (sym few) ∙ terms_back t rest k
+call_back locks (Publish t) rest few k = ap (λ n. parse_publish_fields n (terms_words t ++ rest)) (sym few) ∙ terms_back t rest k
 call_back locks (Unlock key) rest few k = key_back key rest k
 call_back locks Claim rest few k = refl
 call_back locks Refund rest few k = refl

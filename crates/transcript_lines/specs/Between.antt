@@ -13,8 +13,8 @@ abbrev pub spaced : List (List ℕ) → List ℕ
 spaced ws = between 32 ws
 
 -- lines, each ended by a line feed
-abbrev pub ended : List (List ℕ) → List ℕ
-ended ls = flat_map (λ l. l ++ 10 ∷ []) ls
+abbrev pub fed_lines : List (List ℕ) → List ℕ
+fed_lines ls = flat_map (λ l. l ++ 10 ∷ []) ls
 
 -- with one more byte in the first part
 abbrev pub longer_first : ℕ → List (List ℕ) → List (List ℕ)

@@ -10,7 +10,7 @@ use Rattle.ledger_core.specs.Book.{Histories, history}
 use Rattle.swap_job.specs.declared.job.Job.{Job}
 use Rattle.ledger_core.specs.WellFormed.{IsWellFormed}
 use Rattle.offer_text.specs.HeaderLine.{header_line}
-use Rattle.transcript_lines.specs.Between.{spaced, ended}
+use Rattle.transcript_lines.specs.Between.{spaced, fed_lines}
 use Rattle.typed_books.specs.Typed.{IsTypedSender, IsTypedWhat, IsTypedReply}
 use Rattle.transcript_lines.specs.Words.{entry_words}
 
@@ -36,7 +36,7 @@ transcript_lines header b = codes "swap transcript 1" ∷ header ∷ lines_from_
 
 -- the transcript of a job's book
 unfoldable pub transcript : Job → Histories → List ℕ
-transcript job b = ended (transcript_lines (header_line job) b)
+transcript job b = fed_lines (transcript_lines (header_line job) b)
 
 -- ---- what a transcript can state
 

@@ -45,16 +45,16 @@ bounded_number limit w = decimal_number w >>= λ n. if nat_lt n limit then Ok n 
 abbrev pub is_lower_digit : ℕ → Bool
 is_lower_digit b = (nat_le 48 b && nat_le b 57) || (nat_le 97 b && nat_le b 102)
 
-abbrev pub decoded : Result (List ℕ) FromHexError → Result (List ℕ) Misspelling
-decoded (Ok bytes) = Ok bytes
-decoded (Err e) = misspelt
+abbrev pub decoded_word : Result (List ℕ) FromHexError → Result (List ℕ) Misspelling
+decoded_word (Ok bytes) = Ok bytes
+decoded_word (Err e) = misspelt
 
 -- so many bytes, in hexadecimal digits of lower case
 abbrev pub lower_hex_bytes : ℕ → List ℕ → Result (List ℕ) Misspelling
-lower_hex_bytes n w = if list_all is_lower_digit w then decoded (decode_sized w n) else misspelt
+lower_hex_bytes n w = if list_all is_lower_digit w then decoded_word (decode_sized w n) else misspelt
 
-abbrev pub to_digest : List ℕ → Result (List ℕ) Misspelling
-to_digest w = lower_hex_bytes 32 w
+abbrev pub lower_hex_digest : List ℕ → Result (List ℕ) Misspelling
+lower_hex_digest w = lower_hex_bytes 32 w
 
 abbrev pub parse_signature : List ℕ → Result Sig Misspelling
 parse_signature w = lower_hex_bytes 2144 w >>= λ bytes. Ok (text_values bytes)
@@ -66,8 +66,8 @@ parse_each_word f [] = Ok []
 parse_each_word f (w ∷ ws) = f w >>= λ x. parse_each_word f ws >>= λ xs. Ok (x ∷ xs)
 
 -- a list in one field
-abbrev pub inside_entries : {A : Type 0} → (List ℕ → Result A Misspelling) → List ℕ → Result (List A) Misspelling
-inside_entries f w = if bytes_eq w (codes "-") then Ok [] else parse_each_word f (separated_parts 44 w)
+abbrev pub listed_field : {A : Type 0} → (List ℕ → Result A Misspelling) → List ℕ → Result (List A) Misspelling
+listed_field f w = if bytes_eq w (codes "-") then Ok [] else parse_each_word f (separated_parts 44 w)
 
 -- ---- calls, each with the fields that follow it
 
@@ -89,10 +89,10 @@ parse_first_field f ws = do
 -- so many digests, and the fields after them
 abbrev pub parse_locks : ℕ → List (List ℕ) → Result (List (List ℕ) × List (List ℕ)) Misspelling
 parse_locks zero ws = Ok ([], ws)
-parse_locks (suc n) ws = parse_first_field to_digest ws >>= λ first. parse_locks n first.1 >>= λ r. Ok (first.0 ∷ r.0, r.1)
+parse_locks (suc n) ws = parse_first_field lower_hex_digest ws >>= λ first. parse_locks n first.1 >>= λ r. Ok (first.0 ∷ r.0, r.1)
 
-unfoldable pub stated_terms : ℕ → List (List ℕ) → Result (Call × List (List ℕ)) Misspelling
-stated_terms count ws = do
+unfoldable pub parse_publish_fields : ℕ → List (List ℕ) → Result (Call × List (List ℕ)) Misspelling
+parse_publish_fields count ws = do
   start ← parse_first_field (bounded_number (2 ^ 32)) ws
   delta ← parse_first_field (bounded_number (2 ^ 32)) start.1
   bound ← parse_first_field (bounded_number (2 ^ 32)) delta.1
@@ -104,9 +104,9 @@ stated_terms count ws = do
 unfoldable pub parse_unlock_fields : List (List ℕ) → Result (Call × List (List ℕ)) Misspelling
 parse_unlock_fields ws = do
   lock ← parse_first_field (bounded_number 256) ws
-  secret ← parse_first_field to_digest lock.1
-  path ← parse_first_field (inside_entries (bounded_number 256)) secret.1
-  sigs ← parse_first_field (inside_entries parse_signature) path.1
+  secret ← parse_first_field lower_hex_digest lock.1
+  path ← parse_first_field (listed_field (bounded_number 256)) secret.1
+  sigs ← parse_first_field (listed_field parse_signature) path.1
   Ok (Unlock (record { lock = lock.0; secret = secret.0; path = path.0; sigs = sigs.0 }), sigs.1)
 
 unfoldable pub read_units : List (List ℕ) → Result (Call × List (List ℕ)) Misspelling
@@ -115,9 +115,9 @@ read_units ws = do
   units ← parse_first_field decimal_number to.1
   Ok (Transfer to.0 units.0, units.1)
 
-abbrev pub pick_call : ℕ → List ℕ → List (List ℕ) → Result (Call × List (List ℕ)) Misspelling
-pick_call locks w ws =
-    if is_word w (codes "publish") then stated_terms locks ws
+abbrev pub parse_named_call : ℕ → List ℕ → List (List ℕ) → Result (Call × List (List ℕ)) Misspelling
+parse_named_call locks w ws =
+    if is_word w (codes "publish") then parse_publish_fields locks ws
     else if is_word w (codes "unlock") then parse_unlock_fields ws
     else if is_word w (codes "claim") then Ok (Claim, ws)
     else if is_word w (codes "refund") then Ok (Refund, ws)
@@ -127,7 +127,7 @@ pick_call locks w ws =
 unfoldable pub parse_call : ℕ → List (List ℕ) → Result (Call × List (List ℕ)) Misspelling
 parse_call locks ws = do
   first ← first_field ws
-  pick_call locks first.0 first.1
+  parse_named_call locks first.0 first.1
 
 -- ---- replies of an entry
 

@@ -16,7 +16,7 @@ use Rattle.transcript_reader.specs.declared.reason.TranscriptReason.{TranscriptR
 use Rattle.transcript_reader.specs.declared.stage.Stage.{Stage}
 use Rattle.transcript_reader.specs.declared.stage.Stage.TheVariants.{First, Header, Ledgers, Bad}
 use Rattle.transcript_reader.specs.Stages.{Progress, no_lines, with_line}
-use Rattle.transcript_reader.specs.Reading.{ReadsLine, finished, parts_read, so_far, job_story, transcript_read}
+use Rattle.transcript_reader.specs.Reading.{ReadsTranscriptLine, story_at_end, parts_read, so_far, job_story, transcript_read}
 use Rattle.transcript_reader.specs.Laws.{IsWholeText}
 use Rattle.transcript_reader.proofs.Whole.{at_stage, bad_stands, text_is_whole}
 
@@ -79,7 +79,7 @@ module _ (header : List ℕ → Result Job Refusal) where
   -- a line that is bad, or for which memory runs out
   pub led_fault : (bytes : List ℕ) (at end n : ℕ) (p q : Progress) (rest : List ℕ) (fault : Fault TranscriptReason) → IsLed bytes at p
       → rest ≡ drop at bytes → NoneBefore (Passes (is_byte 10) rest) 0 (length rest) end → Passes (is_byte 10) rest end
-      → ReadsLine {T = Unit {0}} (Err fault) p q (with_line header p (take n (drop at bytes))) → n ≡ end
+      → ReadsTranscriptLine {T = Unit {0}} (Err fault) p q (with_line header p (take n (drop at bytes))) → n ≡ end
       → Gives {X = Job × Book} job_story (Err fault) (transcript_read header bytes)
   led_fault bytes at end n p q rest NoMemory k is before here h same = tt
   led_fault bytes at end n p q rest (Refused reason) k is before here h same =
@@ -90,7 +90,7 @@ module _ (header : List ℕ → Result Job Refusal) where
 
   -- what stands after the last line feed
   pub led_to_end : (bytes : List ℕ) (at : ℕ) (p : Progress) (rest : List ℕ) → IsLed bytes at p → rest ≡ drop at bytes
-      → Nowhere (Passes (is_byte 10) rest) 0 (length rest) → transcript_read header bytes ≡ finished p rest
+      → Nowhere (Passes (is_byte 10) rest) 0 (length rest) → transcript_read header bytes ≡ story_at_end p rest
   led_to_end bytes at p rest k is nowhere = k.led ∙ ap (parts_read header p) (next_none 10 at bytes rest false refl is nowhere)
 
   -- what is read is a whole transcript

@@ -3,18 +3,18 @@ use Rattle.std.proofs.Common.{◌≡◌, ◌<◌, ◌≤◌, ℕ, true, false, L
 use Rattle.transcript_book.specs.Stages.{BookSoFar, is_finished}
 use Rattle.command_input.specs.Input.{limit}
 use Rattle.transcript_reader.specs.declared.reason.TranscriptReason.TheVariants.{BadLine, TooLong, CutShort}
-use Rattle.transcript_reader.specs.Stages.{next_line}
-use Rattle.transcript_reader.specs.Reading.{ledgers_told, story_so_far, unless_long}
+use Rattle.transcript_reader.specs.Stages.{next_line_number}
+use Rattle.transcript_reader.specs.Reading.{story_without_rest, story_so_far, unless_long}
 
 module _ (n m : ℕ) (s : BookSoFar) (rest : List ℕ) where
-  pub not_over : is_finished s.place ≡ false → ledgers_told n m s rest ≡ unless_long m (Err CutShort)
+  pub not_over : is_finished s.place ≡ false → story_without_rest n m s rest ≡ unless_long m (Err CutShort)
   not_over e = rw e refl
 
-  pub with_more : is_finished s.place ≡ true → 0 < length rest → ledgers_told n m s rest ≡ Err (BadLine (next_line n))
+  pub with_more : is_finished s.place ≡ true → 0 < length rest → story_without_rest n m s rest ≡ Err (BadLine (next_line_number n))
   with_more e some = rw (e, lt-ltb 0 (length rest) some) refl
 
-  pub too_long : is_finished s.place ≡ true → length rest ≤ 0 → limit < m → ledgers_told n m s rest ≡ Err TooLong
+  pub too_long : is_finished s.place ≡ true → length rest ≤ 0 → limit < m → story_without_rest n m s rest ≡ Err TooLong
   too_long e none long = rw (e, le-ltb 0 (length rest) none, lt-ltb limit m long) refl
 
-  pub without_more : is_finished s.place ≡ true → length rest ≤ 0 → m ≤ limit → ledgers_told n m s rest ≡ Ok (story_so_far s)
+  pub without_more : is_finished s.place ≡ true → length rest ≤ 0 → m ≤ limit → story_without_rest n m s rest ≡ Ok (story_so_far s)
   without_more e none few = rw (e, le-ltb 0 (length rest) none, le-ltb limit m few) refl

@@ -9,7 +9,7 @@ use Rattle.hashkey_path.proofs.Validity.{bytes_eq-true}
 use Rattle.swap_job.specs.declared.job.Job.{Job}
 use Rattle.refusals.specs.declared.refusal.Refusal.{Refusal}
 use Rattle.transcript_lines.specs.declared.said.Misspelling.{Misspelling}
-use Rattle.transcript_lines.specs.Between.{between, ended, separated_parts}
+use Rattle.transcript_lines.specs.Between.{between, fed_lines, separated_parts}
 use Rattle.transcript_lines.specs.Lines.{IsStated, lines_from_arc}
 use Rattle.transcript_book.specs.declared.place.Place.{Place}
 use Rattle.transcript_book.specs.declared.place.Place.TheVariants.{Ledger, Entries, Over}
@@ -22,9 +22,9 @@ use Rattle.transcript_reader.specs.declared.reason.TranscriptReason.{TranscriptR
 use Rattle.transcript_reader.specs.declared.reason.TranscriptReason.TheVariants.{BadLine, TooLong, CutShort, Header as BadHeader}
 use Rattle.transcript_reader.specs.declared.stage.Stage.{Stage}
 use Rattle.transcript_reader.specs.declared.stage.Stage.TheVariants.{Header, Ledgers, Bad}
-use Rattle.transcript_reader.specs.Stages.{Progress, ledgers_stage, headed, more_bytes, next_line, no_lines, next_stage}
-use Rattle.transcript_reader.specs.Reading.{Story, ledgers_told, parts_read, story_so_far, transcript_read, unless_long}
-use Rattle.transcript_reader.specs.Laws.{IsWholeText, ReadIsWhole, job_or_none}
+use Rattle.transcript_reader.specs.Stages.{Progress, ledgers_stage, headed_stage, more_bytes, next_line_number, no_lines, next_stage}
+use Rattle.transcript_reader.specs.Reading.{Story, story_without_rest, parts_read, story_so_far, transcript_read, unless_long}
+use Rattle.transcript_reader.specs.Laws.{IsWholeText, ReadTextIsWhole, job_or_none}
 
 abbrev pub at_stage : Stage → (lines bytes : ℕ) → Progress
 at_stage stage lines bytes = record { stage = stage; lines = lines; bytes = bytes }
@@ -35,7 +35,7 @@ pub bad_stands : (header : List ℕ → Result Job Refusal) (reason : Transcript
 unfolding next_stage
 bad_stands header reason n m [] = refl
 bad_stands header reason n m (rest ∷ []) = refl
-bad_stands header reason n m (l ∷ next ∷ ps) = bad_stands header reason (next_line n) (more_bytes m (length l + 1)) (next ∷ ps)
+bad_stands header reason n m (l ∷ next ∷ ps) = bad_stands header reason (next_line_number n) (more_bytes m (length l + 1)) (next ∷ ps)
 
 not_long : {A : Type 0} (m : ℕ) (r : Result A TranscriptReason) (y : A) → unless_long m r ≡ Ok y → r ≡ Ok y
 not_long m r y e = by (nat_lt limit m) e
@@ -68,12 +68,12 @@ over_is Over e = refl
 ok_is : (x y : Story) → ◌≡◌ {A = Result Story TranscriptReason} (Ok x) (Ok y) → x ≡ y
 ok_is x y q = cc
 
-told_is : (n m : ℕ) (s : BookSoFar) (rest : List ℕ) (t : Story) → ledgers_told n m s rest ≡ Ok t → AreLines s (rest ∷ []) t
+told_is : (n m : ℕ) (s : BookSoFar) (rest : List ℕ) (t : Story) → story_without_rest n m s rest ≡ Ok t → AreLines s (rest ∷ []) t
 unfolding steps
 told_is n m s rest t e = by (is_finished s.place) (nat_lt 0 (length rest)) refl refl e
   where
     by : (over some : Bool) → is_finished s.place ≡ over → nat_lt 0 (length rest) ≡ some
-        → cond (over && some) (Err (BadLine (next_line n))) (unless_long m (cond over (Ok (story_so_far s)) (Err CutShort))) ≡ Ok t → AreLines s (rest ∷ []) t
+        → cond (over && some) (Err (BadLine (next_line_number n))) (unless_long m (cond over (Ok (story_so_far s)) (Err CutShort))) ≡ Ok t → AreLines s (rest ∷ []) t
     by true true p q k = absurd (cc k)
     by true false p q k =
         let none : rest ≡ [] = nil_from_length rest (let le : length rest ≤ 0 = ltb-false 0 (length rest) q in omega arith) in
@@ -94,11 +94,11 @@ unfolding next_stage steps
 ledgers_are header s n m [] t some e = absurd (omega arith)
 ledgers_are header s n m (rest ∷ []) t some e = told_is n (more_bytes m (length rest)) s rest t e
 ledgers_are header s n m (l ∷ next ∷ ps) t some e =
-    by (line_read s l) refl (λ u. ledgers_are header u (next_line n) (more_bytes m (length l + 1)) (next ∷ ps) t (omega arith)) e
+    by (line_read s l) refl (λ u. ledgers_are header u (next_line_number n) (more_bytes m (length l + 1)) (next ∷ ps) t (omega arith)) e
   where
     by : (r : Result BookSoFar Misspelling) → line_read s l ≡ r
-        → ((u : BookSoFar) → parts_read header (at_stage (Ledgers u) (next_line n) (more_bytes m (length l + 1))) (next ∷ ps) ≡ Ok t → AreLines u (next ∷ ps) t)
-        → parts_read header (at_stage (ledgers_stage (next_line n) r) (next_line n) (more_bytes m (length l + 1))) (next ∷ ps) ≡ Ok t → AreLines s (l ∷ next ∷ ps) t
+        → ((u : BookSoFar) → parts_read header (at_stage (Ledgers u) (next_line_number n) (more_bytes m (length l + 1))) (next ∷ ps) ≡ Ok t → AreLines u (next ∷ ps) t)
+        → parts_read header (at_stage (ledgers_stage (next_line_number n) r) (next_line_number n) (more_bytes m (length l + 1))) (next ∷ ps) ≡ Ok t → AreLines s (l ∷ next ∷ ps) t
     by (Ok u) q more k =
         let rest = more u k in record {
           lines = l ∷ rest.lines;
@@ -109,18 +109,18 @@ ledgers_are header s n m (l ∷ next ∷ ps) t some e =
           job_is = rest.job_is;
           book_is = rest.book_is;
         }
-    by (Err f) q more k = absurd (cc (sym (bad_stands header (BadLine (next_line n)) (next_line n) (more_bytes m (length l + 1)) (next ∷ ps)) ∙ k))
+    by (Err f) q more k = absurd (cc (sym (bad_stands header (BadLine (next_line_number n)) (next_line_number n) (more_bytes m (length l + 1)) (next ∷ ps)) ∙ k))
 
 -- ---- the first two lines
 
 -- lines, each with its line feed
-pub ended_between : (ls : List (List ℕ)) → between 10 (ls ++ [] ∷ []) ≡ ended ls
+pub ended_between : (ls : List (List ℕ)) → between 10 (ls ++ [] ∷ []) ≡ fed_lines ls
 ended_between [] = refl
 ended_between (l ∷ ls) = by ls (ended_between ls)
   where
-    by : (ks : List (List ℕ)) → between 10 (ks ++ [] ∷ []) ≡ ended ks → between 10 (l ∷ (ks ++ [] ∷ [])) ≡ (l ++ 10 ∷ []) ++ ended ks
+    by : (ks : List (List ℕ)) → between 10 (ks ++ [] ∷ []) ≡ fed_lines ks → between 10 (l ∷ (ks ++ [] ∷ [])) ≡ (l ++ 10 ∷ []) ++ fed_lines ks
     by [] e = sym (append_assoc l (10 ∷ []) [])
-    by (k ∷ ks) e = ap (λ (x : List ℕ). l ++ 10 ∷ x) e ∙ sym (append_assoc l (10 ∷ []) (ended (k ∷ ks)))
+    by (k ∷ ks) e = ap (λ (x : List ℕ). l ++ 10 ∷ x) e ∙ sym (append_assoc l (10 ∷ []) (fed_lines (k ∷ ks)))
 
 whole_text : (header : List ℕ → Result Job Refusal) (bytes line : List ℕ) (ps : List (List ℕ)) (job : Job) (t : Story) → header line ≡ Ok job
     → separated_parts 10 bytes ≡ codes "swap transcript 1" ∷ line ∷ ps → AreLines (no_ledgers job) ps t → IsWholeText header bytes t
@@ -140,11 +140,11 @@ whole_text header bytes line ps job t gives parts k =
     }
 
 after_header : (header : List ℕ → Result Job Refusal) (bytes line next : List ℕ) (ps : List (List ℕ)) (t : Story) (n m : ℕ)
-    → separated_parts 10 bytes ≡ codes "swap transcript 1" ∷ line ∷ next ∷ ps → parts_read header (at_stage (headed (header line)) n m) (next ∷ ps) ≡ Ok t
+    → separated_parts 10 bytes ≡ codes "swap transcript 1" ∷ line ∷ next ∷ ps → parts_read header (at_stage (headed_stage (header line)) n m) (next ∷ ps) ≡ Ok t
     → IsWholeText header bytes t
 after_header header bytes line next ps t n m parts e = by (header line) refl e
   where
-    by : (r : Result Job Refusal) → header line ≡ r → parts_read header (at_stage (headed r) n m) (next ∷ ps) ≡ Ok t → IsWholeText header bytes t
+    by : (r : Result Job Refusal) → header line ≡ r → parts_read header (at_stage (headed_stage r) n m) (next ∷ ps) ≡ Ok t → IsWholeText header bytes t
     by (Ok job) q k = whole_text header bytes line (next ∷ ps) job t q parts (ledgers_are header (no_ledgers job) n m (next ∷ ps) t (omega arith) k)
     by (Err refusal) q k = absurd (cc (sym (bad_stands header (BadHeader refusal) n m (next ∷ ps)) ∙ k))
 
@@ -153,7 +153,7 @@ after_first : (header : List ℕ → Result Job Refusal) (bytes : List ℕ) (ps 
 unfolding next_stage
 after_first header bytes [] t n m some parts e = absurd (omega arith)
 after_first header bytes (line ∷ []) t n m some parts e = cut_off (more_bytes m (length line)) t e
-after_first header bytes (line ∷ next ∷ ps) t n m some parts e = after_header header bytes line next ps t (next_line n) (more_bytes m (length line + 1)) parts e
+after_first header bytes (line ∷ next ∷ ps) t n m some parts e = after_header header bytes line next ps t (next_line_number n) (more_bytes m (length line + 1)) parts e
 
 from_parts : (header : List ℕ → Result Job Refusal) (bytes : List ℕ) (ps : List (List ℕ)) (t : Story) → 0 < length ps → separated_parts 10 bytes ≡ ps
     → parts_read header no_lines ps ≡ Ok t → IsWholeText header bytes t
@@ -163,13 +163,13 @@ from_parts header bytes (l ∷ []) t some parts e = cut_off (more_bytes 0 (lengt
 from_parts header bytes (l ∷ next ∷ ps) t some parts e = by (bytes_eq l (codes "swap transcript 1")) refl e
   where
     by : (test : Bool) → bytes_eq l (codes "swap transcript 1") ≡ test
-        → parts_read header (at_stage (cond test Header (Bad (BadLine (next_line 0)))) (next_line 0) (more_bytes 0 (length l + 1))) (next ∷ ps) ≡ Ok t
+        → parts_read header (at_stage (cond test Header (Bad (BadLine (next_line_number 0)))) (next_line_number 0) (more_bytes 0 (length l + 1))) (next ∷ ps) ≡ Ok t
         → IsWholeText header bytes t
     by true q k =
-        after_first header bytes (next ∷ ps) t (next_line 0) (more_bytes 0 (length l + 1)) (omega arith)
+        after_first header bytes (next ∷ ps) t (next_line_number 0) (more_bytes 0 (length l + 1)) (omega arith)
         (parts ∙ ap (λ (x : List ℕ). x ∷ next ∷ ps) (bytes_eq-true l (codes "swap transcript 1") q)) k
-    by false q k = absurd (cc (sym (bad_stands header (BadLine (next_line 0)) (next_line 0) (more_bytes 0 (length l + 1)) (next ∷ ps)) ∙ k))
+    by false q k = absurd (cc (sym (bad_stands header (BadLine (next_line_number 0)) (next_line_number 0) (more_bytes 0 (length l + 1)) (next ∷ ps)) ∙ k))
 
-pub text_is_whole : ReadIsWhole
+pub text_is_whole : ReadTextIsWhole
 unfolding transcript_read
 text_is_whole header bytes t e = from_parts header bytes (separated_parts 10 bytes) t (parts_some 10 bytes) refl e

@@ -7,7 +7,7 @@ use Rattle.swap_rules.specs.Accepted.{IsAccepted}
 use Rattle.offer_header.specs.Header.{simple_role}
 use Rattle.offer_header.specs.Names.{no_strategy, AreNames}
 use Rattle.refusals.specs.declared.refusal.Refusal.{Refusal}
-use Rattle.refusals.specs.Refusal.{named}
+use Rattle.refusals.specs.Refusal.{named_result}
 use Rattle.swap_offer.specs.Wallets.{party_seed}
 use Rattle.swap_offer.specs.Job.{parse_header_job, header_names, IsWholeJob}
 use Rattle.transcript_reader.specs.declared.stage.Stage.{Stage}
@@ -16,11 +16,11 @@ use Rattle.transcript_reader.specs.declared.stage.Stage.TheVariants.{Ledgers}
 -- the job of a header line, or the first reason against it; it is the second line, and states no
 -- strategy
 unfoldable pub header_read : List ℕ → Result Job Refusal
-header_read line = named (header_names no_strategy Audit 2 line) (parse_header_job no_strategy Audit 2 line)
+header_read line = named_result (header_names no_strategy Audit 2 line) (parse_header_job no_strategy Audit 2 line)
 
 -- A job as a transcript tells it: its deal is accepted, its parties are named, nobody's seed is
 -- there, and nothing is done after its last entry.
-pub record IsTold (job : Job) : Type 0 where
+pub record IsTranscriptJob (job : Job) : Type 0 where
   pub purpose : job.purpose ≡ Audit
   pub accepted : IsAccepted job.deal
   pub whole : IsWholeJob job
@@ -31,5 +31,5 @@ pub record IsTold (job : Job) : Type 0 where
 
 -- the job with the ledgers that are read is one of which a transcript tells
 abbrev pub IsToldStage : Stage → Type 0
-IsToldStage (Ledgers s) = IsTold s.job
+IsToldStage (Ledgers s) = IsTranscriptJob s.job
 IsToldStage _ = Unit {0}

@@ -13,7 +13,7 @@ use Rattle.transcript_reader.specs.declared.reason.TranscriptReason.{TranscriptR
 use Rattle.transcript_reader.specs.declared.reason.TranscriptReason.TheVariants.{BadLine, TooLong, CutShort}
 use Rattle.transcript_reader.specs.declared.stage.Stage.{Stage}
 use Rattle.transcript_reader.specs.declared.stage.Stage.TheVariants.{Ledgers, Bad}
-use Rattle.transcript_reader.specs.Stages.{Progress, headed, next_line, more_bytes, no_lines, with_line}
+use Rattle.transcript_reader.specs.Stages.{Progress, headed_stage, next_line_number, more_bytes, no_lines, with_line}
 
 -- what a job and its book are
 pub record Story : Type 0 where
@@ -37,22 +37,22 @@ abbrev pub told : BookSoFar → Result Story TranscriptReason
 told s = if is_finished s.place then Ok (story_so_far s) else Err CutShort
 
 -- no bytes stand after the last line
-abbrev pub ledgers_told : (lines bytes : ℕ) → BookSoFar → List ℕ → Result Story TranscriptReason
-ledgers_told lines bytes s rest = if is_finished s.place && nat_lt 0 (length rest) then Err (BadLine (next_line lines)) else unless_long bytes (told s)
+abbrev pub story_without_rest : (lines bytes : ℕ) → BookSoFar → List ℕ → Result Story TranscriptReason
+story_without_rest lines bytes s rest = if is_finished s.place && nat_lt 0 (length rest) then Err (BadLine (next_line_number lines)) else unless_long bytes (told s)
 
 abbrev pub stage_answer : Stage → Progress → List ℕ → Result Story TranscriptReason
 stage_answer (Bad reason) p rest = Err reason
-stage_answer (Ledgers s) p rest = ledgers_told p.lines (more_bytes p.bytes (length rest)) s rest
+stage_answer (Ledgers s) p rest = story_without_rest p.lines (more_bytes p.bytes (length rest)) s rest
 stage_answer _ p rest = unless_long (more_bytes p.bytes (length rest)) (Err CutShort)
 
 -- what is answered at the end, after bytes that no line feed ended
-abbrev pub finished : Progress → List ℕ → Result Story TranscriptReason
-finished p rest = stage_answer p.stage p rest
+abbrev pub story_at_end : Progress → List ℕ → Result Story TranscriptReason
+story_at_end p rest = stage_answer p.stage p rest
 
 -- the lines are read, and what stands after the last line feed ends them
 abbrev pub parts_read : (List ℕ → Result Job Refusal) → Progress → List (List ℕ) → Result Story TranscriptReason
-parts_read header p [] = finished p []
-parts_read header p (rest ∷ []) = finished p rest
+parts_read header p [] = story_at_end p []
+parts_read header p (rest ∷ []) = story_at_end p rest
 parts_read header p (line ∷ next ∷ parts) = parts_read header (with_line header p line) (next ∷ parts)
 
 -- what bytes give, where header says what a header line gives
@@ -65,9 +65,9 @@ job_story p = record { job = p.0; book = p.1.histories }
 
 -- What stands next after a header line, or the reason against it.
 abbrev pub Heads : Result Stage (Fault TranscriptReason) → Result Job Refusal → Type 0
-Heads (Ok stage) read = (headed read ≡ stage) × (so_far stage ≡ Ok tt)
+Heads (Ok stage) read = (headed_stage read ≡ stage) × (so_far stage ≡ Ok tt)
 Heads (Err NoMemory) read = Unit {0}
-Heads (Err (Refused reason)) read = headed read ≡ Bad reason
+Heads (Err (Refused reason)) read = headed_stage read ≡ Bad reason
 
 -- A line makes a stage so: one that isn't bad goes on, and any other answer leaves it as it was.
 abbrev pub Turns : {T : Type 0} → Result T (Fault TranscriptReason) → Stage → Stage → Stage → Type 0
@@ -76,7 +76,7 @@ Turns (Err NoMemory) old new read = new ≡ old
 Turns (Err (Refused reason)) old new read = (new ≡ old) × (read ≡ Bad reason)
 
 -- A call that reads a line answers so. After want of memory all is as it was.
-abbrev pub ReadsLine : {T : Type 0} → Result T (Fault TranscriptReason) → Progress → Progress → Progress → Type 0
-ReadsLine (Ok x) old new read = (new ≡ read) × (so_far read.stage ≡ Ok tt)
-ReadsLine (Err NoMemory) old new read = new ≡ old
-ReadsLine (Err (Refused reason)) old new read = (new ≡ read) × (so_far read.stage ≡ Err reason)
+abbrev pub ReadsTranscriptLine : {T : Type 0} → Result T (Fault TranscriptReason) → Progress → Progress → Progress → Type 0
+ReadsTranscriptLine (Ok x) old new read = (new ≡ read) × (so_far read.stage ≡ Ok tt)
+ReadsTranscriptLine (Err NoMemory) old new read = new ≡ old
+ReadsTranscriptLine (Err (Refused reason)) old new read = (new ≡ read) × (so_far read.stage ≡ Err reason)

@@ -10,9 +10,9 @@ use Rattle.transcript_reader.specs.declared.stage.Stage.{Stage}
 use Rattle.transcript_reader.specs.declared.stage.Stage.TheVariants.{First, Header, Ledgers, Bad}
 
 -- the job of a header line, or the reason against it
-abbrev pub headed : Result Job Refusal → Stage
-headed (Ok job) = Ledgers (no_ledgers job)
-headed (Err refusal) = Bad (BadHeader refusal)
+abbrev pub headed_stage : Result Job Refusal → Stage
+headed_stage (Ok job) = Ledgers (no_ledgers job)
+headed_stage (Err refusal) = Bad (BadHeader refusal)
 
 abbrev pub ledgers_stage : ℕ → Result BookSoFar Misspelling → Stage
 ledgers_stage n (Ok s) = Ledgers s
@@ -22,7 +22,7 @@ ledgers_stage n (Err e) = Bad (BadLine n)
 -- bad line stands
 unfoldable pub next_stage : (List ℕ → Result Job Refusal) → ℕ → Stage → List ℕ → Stage
 next_stage header n First line = if bytes_eq line (codes "swap transcript 1") then Header else Bad (BadLine n)
-next_stage header n Header line = headed (header line)
+next_stage header n Header line = headed_stage (header line)
 next_stage header n (Ledgers s) line = ledgers_stage n (line_read s line)
 next_stage header n (Bad reason) line = Bad reason
 
@@ -37,8 +37,8 @@ pub record Progress : Type 0 where
 abbrev pub no_lines : Progress
 no_lines = record { stage = First; lines = 0; bytes = 0 }
 
-abbrev pub next_line : ℕ → ℕ
-next_line n = min (n + 1) (2 ^ 32 - 1)
+abbrev pub next_line_number : ℕ → ℕ
+next_line_number n = min (n + 1) (2 ^ 32 - 1)
 
 abbrev pub more_bytes : ℕ → ℕ → ℕ
 more_bytes n k = min (n + k) (2 ^ 64 - 1)
@@ -46,7 +46,7 @@ more_bytes n k = min (n + k) (2 ^ 64 - 1)
 -- with one more line, which a line feed ended
 abbrev pub with_line : (List ℕ → Result Job Refusal) → Progress → List ℕ → Progress
 with_line header s line = record {
-  stage = next_stage header (next_line s.lines) s.stage line;
-  lines = next_line s.lines;
+  stage = next_stage header (next_line_number s.lines) s.stage line;
+  lines = next_line_number s.lines;
   bytes = more_bytes s.bytes (length line + 1);
 }

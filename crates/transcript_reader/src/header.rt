@@ -2,7 +2,7 @@
 
 ghost use Rattle.std.specs.Prelude.{IfOk};
 ghost use Rattle.swap_base.specs.Fault.{Gives};
-ghost use Rattle.transcript_reader.specs.Header.{header_read, IsTold};
+ghost use Rattle.transcript_reader.specs.Header.{header_read, IsTranscriptJob};
 
 use refusals::HeaderFault;
 use std::alloc::Global;
@@ -13,7 +13,7 @@ use swap_offer::read_header;
 #[tactic(auto, unfolding(crate::specs::Header::header_read))]
 pub(crate) fn read_job(alloc: Global, line: &[u8]) -> Result<Job, HeaderFault>
     ensures exact { Gives (λ j. j) result (header_read line.now) }
-    ensures told { IfOk result IsTold }
+    ensures told { IfOk result IsTranscriptJob }
 {
     let prepared = read_header(alloc, 2, line, Purpose::Audit, &[])?;
     Ok(prepared.job)

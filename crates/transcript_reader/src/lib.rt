@@ -5,7 +5,7 @@
 //! `specs/Reading.antt`: what is answered at the end.
 #![tactic(auto)]
 
-ghost use Rattle.transcript_reader.specs.Laws.{ReadIsWhole, WholeIsRead};
+ghost use Rattle.transcript_reader.specs.Laws.{ReadTextIsWhole, WholeTextIsRead};
 
 mod copied;
 mod header;
@@ -20,10 +20,10 @@ pub use text::read_transcript;
 
 /// Bytes that give a job and a book are a whole transcript of them.
 pub fn read_is_whole()
-    ensures { ReadIsWhole }
+    ensures { ReadTextIsWhole }
 {}
 
 /// A whole transcript gives its job and its book.
 pub fn whole_is_read()
-    ensures { WholeIsRead }
+    ensures { WholeTextIsRead }
 {}

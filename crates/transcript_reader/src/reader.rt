@@ -2,8 +2,8 @@
 
 ghost use Rattle.std.specs.Prelude.{◌≡◌, IfOk, MatchOption, Ok, Err};
 ghost use Rattle.swap_base.specs.Fault.{Gives};
-ghost use Rattle.transcript_reader.specs.Header.{header_read, IsTold};
-ghost use Rattle.transcript_reader.specs.Reading.{ReadsLine, Story, finished, ledgers_told, job_story, story_so_far, unless_long};
+ghost use Rattle.transcript_reader.specs.Header.{header_read, IsTranscriptJob};
+ghost use Rattle.transcript_reader.specs.Reading.{ReadsTranscriptLine, Story, story_at_end, story_without_rest, job_story, story_so_far, unless_long};
 ghost use Rattle.transcript_reader.specs.Stages.{no_lines, with_line};
 
 use crate::reason::{TranscriptFault, TranscriptReason};
@@ -53,7 +53,7 @@ impl TranscriptReader {
     /// Reads a line, which a line feed ended. After a refusal each later line gives the same one;
     /// want of memory changes nothing.
     pub fn push(&mut self, line: &[u8]) -> Result<(), TranscriptFault>
-        ensures { ReadsLine result self.old self.new (with_line header_read self.old line.now) }
+        ensures { ReadsTranscriptLine result self.old self.new (with_line header_read self.old line.now) }
     {
         let number = self.lines.saturating_add(1);
         let answer = match self.stage.read(self.alloc, number, line) {
@@ -72,8 +72,8 @@ impl TranscriptReader {
     /// The job and the book that the transcript states, where these bytes stand after the last line
     /// feed.
     pub fn finish(self, rest: &[u8]) -> Result<(Job, Book), TranscriptFault>
-        ensures exact { Gives job_story result (finished self rest.now) }
-        ensures told { IfOk result (λ p. IsTold p.0) }
+        ensures exact { Gives job_story result (story_at_end self rest.now) }
+        ensures told { IfOk result (λ p. IsTranscriptJob p.0) }
     {
         let lines = self.lines;
         let bytes = self.bytes.saturating_add(rest.len() as u64);
@@ -104,8 +104,8 @@ fn wrong_at_end(
     bytes: u64,
     rest: &[u8],
 ) -> Option<TranscriptReason>
-    ensures { MatchOption result (ledgers_told lines bytes reader.now rest.now ≡ Ok (story_so_far reader.now))
-        (λ r. ledgers_told lines bytes reader.now rest.now ≡ Err r) }
+    ensures { MatchOption result (story_without_rest lines bytes reader.now rest.now ≡ Ok (story_so_far reader.now))
+        (λ r. story_without_rest lines bytes reader.now rest.now ≡ Err r) }
 {
     if !reader.is_finished() {
         Some(cut_or_long(bytes))
@@ -125,9 +125,9 @@ fn told(
     bytes: u64,
     rest: &[u8],
 ) -> Result<(Job, Book), TranscriptFault>
-    requires { IsTold reader.job }
-    ensures exact { Gives job_story result (ledgers_told lines bytes reader rest.now) }
-    ensures told { IfOk result (λ p. IsTold p.0) }
+    requires { IsTranscriptJob reader.job }
+    ensures exact { Gives job_story result (story_without_rest lines bytes reader rest.now) }
+    ensures told { IfOk result (λ p. IsTranscriptJob p.0) }
 {
     match wrong_at_end(&reader, lines, bytes, rest) {
         Some(reason) => Err(Fault::Refused(reason)),

@@ -2,7 +2,7 @@
 
 ghost use Rattle.std.specs.Prelude.{IfOk};
 ghost use Rattle.swap_base.specs.Fault.{Gives};
-ghost use Rattle.transcript_reader.specs.Header.{header_read, IsTold};
+ghost use Rattle.transcript_reader.specs.Header.{header_read, IsTranscriptJob};
 ghost use Rattle.transcript_reader.specs.Laws.{IsWholeText};
 ghost use Rattle.transcript_reader.specs.Reading.{job_story, transcript_read};
 
@@ -17,7 +17,7 @@ use swap_job::Job;
 pub fn read_transcript(alloc: Global, bytes: &[u8]) -> Result<(Job, Book), TranscriptFault>
     ensures exact { Gives job_story result (transcript_read header_read bytes.now) }
     ensures whole { IfOk result (λ p. IsWholeText header_read bytes.now (job_story p)) }
-    ensures told { IfOk result (λ p. IsTold p.0) }
+    ensures told { IfOk result (λ p. IsTranscriptJob p.0) }
 {
     let mut reader = TranscriptReader::new(alloc);
     let mut at = 0;

@@ -7,7 +7,7 @@ use Rattle.ledger_core.specs.declared.runs.Item.{Item}
 use Rattle.ledger_core.specs.Book.{Histories}
 use Rattle.ledger_core.specs.Runs.{ledger_entries, expand}
 use Rattle.swap_job.specs.declared.job.Job.{Job}
-use Rattle.transcript_lines.specs.Between.{ended}
+use Rattle.transcript_lines.specs.Between.{fed_lines}
 use Rattle.transcript_lines.specs.Lines.{entry_line, ledger_lines, lines_from_arc, transcript}
 use Rattle.transcript_writer.specs.Texts.{count_text, entries_text, entry_text, head_text, item_text, ledger_text}
 
@@ -40,7 +40,7 @@ of_entry e = sym (append-nil (entry_text 0 e))
 
 -- ---- ledgers
 
-ended_entries : (h : List Entry) → ended (map entry_line h) ≡ entries_text h
+ended_entries : (h : List Entry) → fed_lines (map entry_line h) ≡ entries_text h
 unfolding lines
 ended_entries [] = refl
 ended_entries (e ∷ h) = ap (λ (l : List ℕ). entry_text 0 e ++ l) (ended_entries h ∙ numbered_as 0 1 h)
@@ -49,11 +49,11 @@ pub of_ledger : (a : ℕ) (h : List Entry) → count_text a h ++ entries_text h 
 unfolding ledger_text
 of_ledger a h = refl
 
-ended_ledger : (a : ℕ) (h : List Entry) → ended (ledger_lines a h) ≡ ledger_text a h
+ended_ledger : (a : ℕ) (h : List Entry) → fed_lines (ledger_lines a h) ≡ ledger_text a h
 unfolding ledger_text
 ended_ledger a h = ap (λ (l : List ℕ). count_text a h ++ l) (ended_entries h)
 
-ended_book : (a : ℕ) (b : Histories) → ended (lines_from_arc a b) ≡ lines ledger_text a b ++ codes "end\n"
+ended_book : (a : ℕ) (b : Histories) → fed_lines (lines_from_arc a b) ≡ lines ledger_text a b ++ codes "end\n"
 unfolding lines
 ended_book a [] = refl
 ended_book a (h ∷ b) =

@@ -23,7 +23,7 @@ use Rattle.offer_events.specs.Event.{event_of_tick, event_of_look, event_of_act,
 use Rattle.offer_events.specs.Event.{conforming_crash, event_of_crash}
 use Rattle.swap_job.specs.declared.event.Event.{Event}
 use Rattle.swap_job.specs.declared.event.Event.TheVariants as event_kinds
-use Rattle.offer_events.specs.Event.{checked, outside_race, asked, parse_event}
+use Rattle.offer_events.specs.Event.{checked_event, outside_race, asked, parse_event}
 use Rattle.offer_events.specs.declared.raw.RawEvent.TheVariants as raws
 use Rattle.swap_job.specs.declared.job.Purpose.TheVariants as purpose_kinds
 use Rattle.swap_job.specs.declared.moves.Move.TheVariants as move_kinds
@@ -134,7 +134,7 @@ event_of_crash_bare job line name n m =
     (λ p. onward (ranged_number line (codes "after") 0 3 n) _ (number_within_bare line (codes "after") 0 3 n)
     (λ k. onward (ranged_number line (codes "image") 0 255 m) _ (number_within_bare line (codes "image") 0 255 m) (λ image. landed _)))
 
-pub checked_bare : (job : Job) (line : ℕ) (x2 : RawEvent) → Bare (checked job line x2)
+pub checked_bare : (job : Job) (line : ℕ) (x2 : RawEvent) → Bare (checked_event job line x2)
 checked_bare job line (raws.Tick n by) = event_of_tick_bare job.deal line n by
 checked_bare job line (raws.Look name n) = event_of_look_bare job line name n
 checked_bare job line (raws.Act name) = event_of_act_bare job line name
@@ -159,7 +159,7 @@ conforming_crash_bare conforming line (event_kinds.Call a1 a2) = landed _
 pub asked_bare : (job : Job) (line : ℕ) (raw : RawEvent) → Bare (asked job line raw)
 unfolding asked
 asked_bare job line raw =
-    onward (checked job line raw) _ (checked_bare job line raw)
+    onward (checked_event job line raw) _ (checked_bare job line raw)
     (λ event. onward (outside_race line job.purpose) _ (outside_race_bare line job.purpose)
     (λ u. onward (conforming_crash job.conforming line event) _ (conforming_crash_bare job.conforming line event) (λ w. landed _)))
 

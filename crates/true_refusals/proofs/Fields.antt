@@ -12,7 +12,7 @@ use Rattle.offer_fields.specs.Fields.{object_or, parse_data, kind, present, need
 use Rattle.offer_fields.specs.Fields.{first_unknown, no_unknown, only, listed, each, read_array_field, field_list, required_object, optional_text, optional_field_text}
 use Rattle.offer_fields.specs.Fields.{text_member}
 use Rattle.offer_fields.specs.Limits.{check_range, ranged_number, decoded, to_digest}
-use Rattle.offer_fields.specs.Names.{found, party_of_name}
+use Rattle.offer_fields.specs.Names.{found_place, party_of_name}
 use Rattle.true_refusals.proofs.Bare.{Bare, onward, landed, refused, choose, each_of_bare}
 
 pub object_or_bare : (line : ℕ) (x1 : Option Data) → Bare (object_or line x1)
@@ -100,7 +100,7 @@ pub digest_of_bare : (line : ℕ) (field : List ℕ) (text : List ℕ) → Bare 
 unfolding to_digest
 digest_of_bare line field text = decoded_bare line field (decode_sized text 32)
 
-pub found_bare : (line : ℕ) (name : List ℕ) (x2 : Option ℕ) → Bare (found line name x2)
+pub found_bare : (line : ℕ) (name : List ℕ) (x2 : Option ℕ) → Bare (found_place line name x2)
 found_bare line name (Some k) = landed _
 found_bare line name None = refused (Unknown line name) tt
 

@@ -19,9 +19,9 @@ use Rattle.offer_header.specs.declared.raw.RawLeader.{RawLeader}
 use Rattle.offer_header.specs.declared.raw.RawRow.{RawRow}
 use Rattle.offer_header.specs.declared.raw.RawHeader.{RawHeader}
 use Rattle.offer_header.specs.declared.names.Numbered.{Numbered}
-use Rattle.offer_header.specs.Limits.{seed_or_none, checked_seed, script_role, checked_role, parse_acting, count_parties, header_sizes, stated_terms}
+use Rattle.offer_header.specs.Limits.{seed_or_none, checked_seed, script_role, checked_role, parse_acting, count_parties, header_sizes, limited_arc_terms}
 use Rattle.offer_header.specs.Limits.{limited_terms}
-use Rattle.offer_header.specs.Limits.{lock_hashlock}
+use Rattle.offer_header.specs.Limits.{stated_hashlock}
 use Rattle.offer_header.specs.Limits.{read_hashlocks, leader_hashlocks, key_digest, party_key_row, stated_keys, read_listed_keys, derived_keys}
 use Rattle.offer_header.specs.Limits.{limited_lists, limited_value}
 use Rattle.true_refusals.proofs.Bare.{Bare, onward, landed, each_of_bare}
@@ -62,8 +62,8 @@ parties_of_bare version sizes names line parties =
     onward (check_range line (codes "parties") 2 (most_parties version) (length parties)) _ (within_bare line (codes "parties") 2 (most_parties version)
     (length parties)) (λ u. each_of_bare (parse_acting sizes names line) (acting_of_bare sizes names line) parties)
 
-pub terms_of_bare : (line : ℕ) (a : RawArc) → Bare (stated_terms line a)
-unfolding stated_terms
+pub terms_of_bare : (line : ℕ) (a : RawArc) → Bare (limited_arc_terms line a)
+unfolding limited_arc_terms
 terms_of_bare line a =
     onward (check_range line (codes "amount") 1 (10 ^ 12) a.amount) _ (within_bare line (codes "amount") 1 (10 ^ 12) a.amount)
     (λ u. onward (ranged_number line (codes "timelock") 0 1000000 a.timelock)
@@ -73,15 +73,15 @@ pub all_terms_of_bare : (version : Version) (line : ℕ) (arcs : List RawArc) �
 unfolding limited_terms
 all_terms_of_bare version line arcs =
     onward (check_range line (codes "arcs") 2 (most_arcs version) (length arcs))
-    _ (within_bare line (codes "arcs") 2 (most_arcs version) (length arcs)) (λ u. each_of_bare (stated_terms line) (terms_of_bare line) arcs)
+    _ (within_bare line (codes "arcs") 2 (most_arcs version) (length arcs)) (λ u. each_of_bare (limited_arc_terms line) (terms_of_bare line) arcs)
 
-pub hashlock_of_bare : (line : ℕ) (l : RawLeader) → Bare (lock_hashlock line l)
-unfolding lock_hashlock
+pub hashlock_of_bare : (line : ℕ) (l : RawLeader) → Bare (stated_hashlock line l)
+unfolding stated_hashlock
 hashlock_of_bare line l = digest_of_bare line (codes "hashlock") l.hashlock
 
 pub hashlocks_by_bare : (true : Bool) (line : ℕ) (leaders : List RawLeader) → Bare (read_hashlocks true line leaders)
 hashlocks_by_bare true line leaders = landed _
-hashlocks_by_bare false line leaders = each_of_bare (lock_hashlock line) (hashlock_of_bare line) leaders
+hashlocks_by_bare false line leaders = each_of_bare (stated_hashlock line) (hashlock_of_bare line) leaders
 
 pub hashlocks_of_bare : (plain : Bool) (line : ℕ) (leaders : List RawLeader) → Bare (leader_hashlocks plain line leaders)
 unfolding leader_hashlocks

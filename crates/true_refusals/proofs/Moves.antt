@@ -10,7 +10,7 @@ use Rattle.offer_moves.specs.declared.raw.RawTerms.{RawTerms}
 use Rattle.offer_moves.specs.declared.raw.RawKey.{RawKey}
 use Rattle.offer_moves.specs.declared.raw.RawCraft.{RawCraft}
 use Rattle.offer_moves.specs.declared.raw.RawMove.{RawMove}
-use Rattle.offer_moves.specs.Limits.{bounded_number, optional_most, optional_locks, parse_sig, parse_locks}
+use Rattle.offer_moves.specs.Limits.{number_below_count, optional_most, optional_locks, parse_sig, limited_locks}
 use Rattle.offer_moves.specs.Moves.{parse_arc, make_publish, optional_arc, parse_craft, parse_replay, checked_hashkey, parse_unlock, parse_claim, parse_refund}
 use Rattle.offer_moves.specs.Moves.{parse_transfer, parse_wait}
 use Rattle.offer_moves.specs.Moves.{parse_move}
@@ -18,16 +18,16 @@ use Rattle.offer_moves.specs.declared.raw.RawMove.TheVariants as raws
 use Rattle.true_refusals.proofs.Bare.{Bare, onward, landed, refused, choose, each_of_bare}
 use Rattle.true_refusals.proofs.Fields.{within_bare, number_within_bare, decoded_bare, digest_of_bare, party_of_name_bare}
 
-pub number_below_bare : (line : ℕ) (field : List ℕ) (count : ℕ) (n : ℕ) → Bare (bounded_number line field count n)
-unfolding bounded_number
+pub number_below_bare : (line : ℕ) (field : List ℕ) (count : ℕ) (n : ℕ) → Bare (number_below_count line field count n)
+unfolding number_below_count
 number_below_bare line field count n = choose (nat_lt n count) _ _ (landed _) (refused (OverLimit line field n) tt)
 
 pub optional_most_bare : (line : ℕ) (field : List ℕ) (high : ℕ) (x3 : Option ℕ) → Bare (optional_most line field high x3)
 optional_most_bare line field high None = landed _
 optional_most_bare line field high (Some n) = onward (ranged_number line field 0 high n) _ (number_within_bare line field 0 high n) (λ m. landed _)
 
-pub locks_of_bare : (line : ℕ) (count : ℕ) (texts : List (List ℕ)) → Bare (parse_locks line count texts)
-unfolding parse_locks
+pub locks_of_bare : (line : ℕ) (count : ℕ) (texts : List (List ℕ)) → Bare (limited_locks line count texts)
+unfolding limited_locks
 locks_of_bare line count texts =
     onward (check_range line (codes "locks") count count (length texts)) _ (within_bare line (codes "locks") count count (length texts))
     (λ u. onward (collected_results (to_digest line (codes "locks")) texts)
@@ -35,7 +35,7 @@ locks_of_bare line count texts =
 
 pub optional_locks_bare : (line : ℕ) (count : ℕ) (x2 : Option (List (List ℕ))) → Bare (optional_locks line count x2)
 optional_locks_bare line count None = landed _
-optional_locks_bare line count (Some texts) = onward (parse_locks line count texts) _ (locks_of_bare line count texts) (λ locks. landed _)
+optional_locks_bare line count (Some texts) = onward (limited_locks line count texts) _ (locks_of_bare line count texts) (λ locks. landed _)
 
 pub sig_of_bare : (line : ℕ) (text : List ℕ) → Bare (parse_sig line text)
 unfolding parse_sig
@@ -66,7 +66,7 @@ unfolding parse_craft
 craft_of_bare s names line n k =
     onward (collected_results (party_of_name line names) k.via) _ (each_of_bare (party_of_name line names) (party_of_name_bare line names) k.via)
     (λ via. onward (parse_arc s line (codes "arc") n) _ (arc_of_bare s line (codes "arc") n)
-    (λ arc. onward (bounded_number line (codes "lock") s.locks k.lock) _ (number_below_bare line (codes "lock") s.locks k.lock)
+    (λ arc. onward (number_below_count line (codes "lock") s.locks k.lock) _ (number_below_bare line (codes "lock") s.locks k.lock)
     (λ lock. onward (check_range line (codes "via") 1 s.path (length k.via)) _ (within_bare line (codes "via") 1 s.path (length k.via))
     (λ u. onward (optional_arc s line (codes "onto") k.onto) _ (optional_arc_bare s line (codes "onto") k.onto) (λ onto. landed _)))))
 
@@ -74,13 +74,13 @@ pub replay_of_bare : (s : Sizes) (line : ℕ) (n : ℕ) (m : ℕ) (k : ℕ) → 
 unfolding parse_replay
 replay_of_bare s line n m k =
     onward (parse_arc s line (codes "arc") n) _ (arc_of_bare s line (codes "arc") n)
-    (λ arc. onward (bounded_number line (codes "lock") s.locks m) _ (number_below_bare line (codes "lock") s.locks m)
+    (λ arc. onward (number_below_count line (codes "lock") s.locks m) _ (number_below_bare line (codes "lock") s.locks m)
     (λ lock. onward (parse_arc s line (codes "onto") k) _ (arc_of_bare s line (codes "onto") k) (λ onto. landed _)))
 
 pub key_of_bare : (s : Sizes) (line : ℕ) (path : List ℕ) (k : RawKey) → Bare (checked_hashkey s line path k)
 unfolding checked_hashkey
 key_of_bare s line path k =
-    onward (bounded_number line (codes "lock") s.locks k.lock) _ (number_below_bare line (codes "lock") s.locks k.lock)
+    onward (number_below_count line (codes "lock") s.locks k.lock) _ (number_below_bare line (codes "lock") s.locks k.lock)
     (λ lock. onward (to_digest line (codes "secret") k.secret) _ (digest_of_bare line (codes "secret") k.secret)
     (λ secret. onward (check_range line (codes "path") 0 s.path (length k.path)) _ (within_bare line (codes "path") 0 s.path (length k.path))
     (λ u. onward (check_range line (codes "sigs") 0 s.path (length k.sigs)) _ (within_bare line (codes "sigs") 0 s.path (length k.sigs))

@@ -14,10 +14,10 @@ use Rattle.offer_fields.specs.Fields.{kind, field_number, field_text, optional_f
 use Rattle.offer_moves.specs.Reading.{script_move}
 use Rattle.offer_header.specs.declared.raw.Front.{Front}
 use Rattle.offer_header.specs.declared.raw.Reading.{Reading}
-use Rattle.offer_header.specs.Raw.{is_plain, states_timelocks, states_keys, script_actor, strategy_actor, planned_actor, object_actor, actor_of_word, new_actor}
+use Rattle.offer_header.specs.Raw.{is_plain, states_timelocks, states_keys, script_actor, strategy_actor, planned_actor, object_actor, actor_of_word, parse_raw_actor}
 use Rattle.offer_header.specs.Raw.{actor_or_conforming, actor_member, seed_member, party_fields, parse_party, timelock_member, arc_fields, read_arc, object_arc}
 use Rattle.offer_header.specs.Raw.{hashlock_member}
-use Rattle.offer_header.specs.Raw.{leader_fields, object_leader, parse_row, keys_member, parse_version, version_member, parse_mode, checked_mode}
+use Rattle.offer_header.specs.Raw.{leader_fields, object_leader, parse_key_row, keys_member, parse_version, version_member, parse_mode, checked_mode}
 use Rattle.offer_header.specs.Raw.{stated_mode, mode_member}
 use Rattle.offer_header.specs.Raw.{finish_of_word, finish_or_stop, stated_finish, finish_member, header_fields, raw_header_lists, object_header}
 use Rattle.swap_job.specs.declared.job.Purpose.TheVariants as purpose_kinds
@@ -53,7 +53,7 @@ actor_of_word_bare line word =
     choose (bytes_eq word (codes "conforming"))
     _ _ (landed _) (choose (bytes_eq word (codes "manual")) _ _ (landed _) (refused (WrongKind line (codes "actor")) tt))
 
-pub actor_of_bare : (line : ℕ) (purpose : Purpose) (d : Data) → Bare (new_actor line purpose d)
+pub actor_of_bare : (line : ℕ) (purpose : Purpose) (d : Data) → Bare (parse_raw_actor line purpose d)
 actor_of_bare line purpose d =
     choose (is_some (as_object d)) _ _ (object_actor_bare line purpose d) (onward (text_member line (codes "actor") d) _ (member_text_of_bare line
     (codes "actor") d) (λ word. actor_of_word_bare line word))
@@ -111,15 +111,15 @@ leader_of_bare reading line d =
     (λ hashlock. onward (only line (leader_fields (is_plain reading.purpose)) d)
     _ (only_bare line (leader_fields (is_plain reading.purpose)) d) (λ u. landed _))))
 
-pub row_of_bare : (line : ℕ) (d : Data) → Bare (parse_row line d)
-unfolding parse_row
+pub row_of_bare : (line : ℕ) (d : Data) → Bare (parse_key_row line d)
+unfolding parse_key_row
 row_of_bare line d =
     onward (kind line (codes "keys") (as_array d)) _ (kind_bare line (codes "keys") (as_array d))
     (λ items. onward (each (text_member line (codes "keys")) items)
     _ (each_bare (text_member line (codes "keys")) (member_text_of_bare line (codes "keys")) items) (λ texts. landed _))
 
 pub keys_at_bare : (line : ℕ) (stated : Bool) (d : Data) → Bare (keys_member line stated d)
-keys_at_bare line stated d = choose stated _ _ (list_at_bare line (codes "keys") (parse_row line) (row_of_bare line) d) (landed _)
+keys_at_bare line stated d = choose stated _ _ (list_at_bare line (codes "keys") (parse_key_row line) (row_of_bare line) d) (landed _)
 
 pub version_of_bare : (line : ℕ) (n : ℕ) → Bare (parse_version line n)
 version_of_bare line n = choose (n == 1) _ _ (landed _) (choose (n == 2) _ _ (landed _) (refused (WrongKind line (codes "swap")) tt))

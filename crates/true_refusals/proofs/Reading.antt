@@ -6,7 +6,7 @@ use Rattle.serde_json.specs.Find.{get, as_array}
 use Rattle.refusals.specs.declared.reason.Reason.TheVariants.{WrongKind}
 use Rattle.offer_fields.specs.Fields.{kind, field_number, field_text, optional_field_number, required_object, only, text_member}
 use Rattle.offer_moves.specs.declared.raw.MoveKind.{MoveKind}
-use Rattle.offer_moves.specs.Reading.{list_texts, optional_texts, optional_field_texts, field_texts, parse_wait, word_move_kind, move_kind, raw_publish_terms, publish_fields}
+use Rattle.offer_moves.specs.Reading.{list_texts, optional_texts, optional_field_texts, field_texts, wait_move_kind, word_move_kind, move_kind, raw_publish_terms, publish_fields}
 use Rattle.offer_moves.specs.Reading.{raw_publish_move}
 use Rattle.offer_moves.specs.Reading.{raw_crafting, craft_fields, raw_craft_move, replay_fields, raw_replay_move, raw_hashkey, raw_fields, raw_unlock_move, plain_fields, raw_claim_move}
 use Rattle.offer_moves.specs.Reading.{raw_refund_move, transfer_fields, raw_transfer_move, wait_fields, raw_wait_move, raw_move_of_kind, stated_raw_move, script_move}
@@ -33,7 +33,7 @@ pub texts_at_bare : (line : ℕ) (field : List ℕ) (d : Data) → Bare (field_t
 unfolding field_texts
 texts_at_bare line field d = list_at_bare line field (text_member line field) (member_text_of_bare line field) d
 
-pub wait_of_bare : (line : ℕ) (scripted : Bool) (word : List ℕ) → Bare (parse_wait line scripted word)
+pub wait_of_bare : (line : ℕ) (scripted : Bool) (word : List ℕ) → Bare (wait_move_kind line scripted word)
 wait_of_bare line scripted word = choose (scripted && bytes_eq word (codes "wait")) _ _ (landed _) (refused (WrongKind line (codes "do")) tt)
 
 pub kind_of_bare : (line : ℕ) (scripted : Bool) (word : List ℕ) → Bare (word_move_kind line scripted word)

@@ -6,7 +6,7 @@ use Rattle.swap_base.specs.declared.fault.Fault.TheVariants as fault
 use Rattle.swap_job.specs.declared.event.Event.{Event}
 use Rattle.swap_job.specs.declared.job.Job.{Job}
 use Rattle.swap_job.specs.declared.job.Purpose.{Purpose}
-use Rattle.refusals.specs.Refusal.{named, refusal}
+use Rattle.refusals.specs.Refusal.{named_result, refusal}
 use Rattle.refusals.specs.declared.reason.Reason.{Reason}
 use Rattle.refusals.specs.declared.reason.Reason.TheVariants.{NotFeedback, NotJson, NotStrong, OverLimit}
 use Rattle.offer_fields.specs.Fields.{parse_data}
@@ -62,7 +62,7 @@ set_contains_ends has purpose line text h e =
 
 certified : (h : Header) → IsHeaderInLimits h → (reason : Reason) → accepted_entries h ≡ Err reason → IsCertified h reason
 certified h k reason e =
-    certifies h k (λ (j : Job). j) [] (Err (fault.Refused (refusal [] reason))) (ap (λ (r : Result Job Reason). named [] r) e)
+    certifies h k (λ (j : Job). j) [] (Err (fault.Refused (refusal [] reason))) (ap (λ (r : Result Job Reason). named_result [] r) e)
 
 err_is : {A B : Type 0} (x y : Reason) → ◌≡◌ {A = Result A Reason} (Err x) (Err y) → ◌≡◌ {A = Result B Reason} (Err x) (Err y)
 err_is x y e = let same : x ≡ y = cc e in ap (λ (r : Reason). Err r) same

@@ -2,7 +2,7 @@
 
 ghost use Rattle.std.specs.Prelude.{◌≡◌, ℕ, ◌+◌, ◌<◌, ◌≤◌, [], ◌∷◌, ◌++◌, length, vec_len, vec_capacity, false, IfOk, IfErr, IsTrue};
 ghost use Rattle.std.specs.List.{AllByRecursion};
-ghost use Rattle.turn_lock.specs.Parts.{AreBelow, IsContinuedByAuthor, has_number, Covers};
+ghost use Rattle.turn_lock.specs.Parts.{HaveAuthorsBelow, IsContinuedByAuthor, has_number, Covers};
 ghost use Rattle.turn_lock.specs.Turns.{idle, busy, joined_view, key_opening, seat_number, known_key, IsIdle, IsBusy, IsResting, AreNumberedSeats};
 
 use crate::journal::Journal;
@@ -48,7 +48,7 @@ impl<T: Journal> TurnLock<T> {
         seats: u32,
     ) -> Result<(TurnLock<T>, Vec<TurnSeat<T>>), ValueBack<T>>
         requires seats { (1 ≤ seats) × (seats ≤ 8) }
-        requires authors { AreBelow T.author seats (T.history value) }
+        requires authors { HaveAuthorsBelow T.author seats (T.history value) }
         ensures lock { IfOk result (λ r. r.0.seats ≡ seats) }
         ensures count { IfOk result (λ r. length r.1.items ≡ seats) }
         ensures seats { IfOk result (λ r. AreNumberedSeats r.0.lock (T.history value) 0 r.1.items) }

@@ -1,7 +1,7 @@
 //! How a lock gets its seats: each is split from the maker's, and claims its number.
 
 ghost use Rattle.std.specs.Prelude.{◌≡◌, ◌+◌, ◌*◌, ◌%◌, ◌<◌, [], IfSome};
-ghost use Rattle.turn_lock.specs.Parts.{AreBelow, IsContinuedByAuthor};
+ghost use Rattle.turn_lock.specs.Parts.{HaveAuthorsBelow, IsContinuedByAuthor};
 ghost use Rattle.turn_lock.specs.Turns.{fresh, idle, busy, mark, key_opening, seat_number, known_key, IsBusy};
 
 use crate::journal::Journal;
@@ -18,7 +18,7 @@ pub(crate) fn vacant<T: Journal>(
     value: &T,
     seats: u32,
 ) -> Option<(TurnTable<T>, TurnSeat<T>)>
-    requires { AreBelow T.author seats (T.history value.now) }
+    requires { HaveAuthorsBelow T.author seats (T.history value.now) }
     ensures history { IfSome result (λ r. T.history r.0.shared.key.value.value ≡ T.history value.now) }
     ensures seats { IfSome result (λ r. r.0.shared.key.seats ≡ seats) }
     ensures shape { IfSome result (λ r. (r.0.shared.table_id.words ≡ 2) × (r.0.shared.table_id.slots ≡ 1)) }

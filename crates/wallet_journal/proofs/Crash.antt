@@ -6,8 +6,8 @@ use Rattle.std.proofs.lemmas.List.{get_or-drop}
 use Rattle.std.proofs.lemmas.Option.{same_Some}
 use Rattle.hashkey_path.specs.declared.hashkey.Hashkey.{Hashkey}
 use Rattle.wallet_journal.specs.Device.{written, Torn}
-use Rattle.wallet_journal.specs.Layout.{byte, is_made, is_open, journal_deal_id, journal_party, gate_position, body_position, body, body_hashkey, is_recorded, recorded, encoded_body}
-use Rattle.wallet_journal.specs.Layout.{are_bounded, is_bad, is_damaged, IsTold}
+use Rattle.wallet_journal.specs.Layout.{byte, is_made, is_gate_open, journal_deal_id, journal_party, gate_position, body_position, body, body_hashkey, is_recorded, recorded, encoded_body}
+use Rattle.wallet_journal.specs.Layout.{are_bounded, is_bad, is_damaged, HasWholeParts}
 use Rattle.wallet_journal.specs.Journal.{MayHaveRecorded, KeepsRecorded, Gains}
 use Rattle.wallet_journal.specs.Opening.{is_damaged_contents}
 use Rattle.wallet_journal.specs.Own.{IsOwn, FitsDeal, IsInRecord}
@@ -26,15 +26,15 @@ same old new i made gate b = λ j. shown (made j == 1) (gate j == 1) i (b j)
 
 -- a journal that isn't made has nothing recorded
 pub unmade : (bytes : List ℕ) (i : ℕ) → is_made bytes ≡ false → recorded bytes i ≡ None
-unmade bytes i h = ap (λ (b : Bool). shown b (is_open bytes i) i (body i bytes)) h
+unmade bytes i h = ap (λ (b : Bool). shown b (is_gate_open bytes i) i (body i bytes)) h
 
 shut_parts : (made opened : Bool) (i : ℕ) (b : List ℕ) → opened ≡ false → shown made opened i b ≡ None
 shut_parts false opened i b h = refl
 shut_parts true opened i b h = ap (λ (o : Bool). shown true o i b) h
 
 -- nor has one at a gate that is closed
-pub shut : (bytes : List ℕ) (i : ℕ) → is_open bytes i ≡ false → recorded bytes i ≡ None
-shut bytes i h = shut_parts (is_made bytes) (is_open bytes i) i (body i bytes) h
+pub shut : (bytes : List ℕ) (i : ℕ) → is_gate_open bytes i ≡ false → recorded bytes i ≡ None
+shut bytes i h = shut_parts (is_made bytes) (is_gate_open bytes i) i (body i bytes) h
 
 -- where the same bytes say whether lock i is recorded, and it isn't, the body is of no matter
 none_parts : (made opened : Bool) (i : ℕ) (b d : List ℕ) → shown made opened i b ≡ None → shown made opened i d ≡ None
@@ -49,7 +49,7 @@ lock_parts true true i b k h = sym (ap (λ (x : Hashkey). x.lock) (same_Some (bo
 
 -- what is recorded for a lock is a hashkey for it
 pub recorded_lock : (bytes : List ℕ) (i : ℕ) (k : Hashkey) → recorded bytes i ≡ Some k → k.lock ≡ i
-recorded_lock bytes i k h = lock_parts (is_made bytes) (is_open bytes i) i (body i bytes) k h
+recorded_lock bytes i k h = lock_parts (is_made bytes) (is_gate_open bytes i) i (body i bytes) k h
 
 -- nor has it a damaged body
 unrecorded_parts : (made opened : Bool) (i : ℕ) (b : List ℕ) → shown made opened i b ≡ None → (made && opened) ≡ false
@@ -58,7 +58,7 @@ unrecorded_parts true false i b h = refl
 unrecorded_parts true true i b h = absurd (cc h)
 
 unrecorded : (bytes : List ℕ) (i : ℕ) → recorded bytes i ≡ None → is_recorded bytes i ≡ false
-unrecorded bytes i h = unrecorded_parts (is_made bytes) (is_open bytes i) i (body i bytes) h
+unrecorded bytes i h = unrecorded_parts (is_made bytes) (is_gate_open bytes i) i (body i bytes) h
 
 pub undamaged : (limit n : ℕ) (bytes : List ℕ) (i : ℕ) → recorded bytes i ≡ None → is_damaged limit n bytes i ≡ false
 undamaged limit n bytes i h = ap (λ (b : Bool). b && is_bad limit n (body i bytes)) (unrecorded bytes i h)
@@ -108,7 +108,7 @@ module _ (l n : ℕ) (lt : l < 8) (few : n ≤ 68673) (old new : List ℕ) (torn
     where
       still_none : recorded new l ≡ None
       still_none =
-          (λ j. shown (body_made j == 1) (body_gate l lt j == 1) l (body l new)) ∙ none_parts (is_made old) (is_open old l) l (body l old) (body l new) none
+          (λ j. shown (body_made j == 1) (body_gate l lt j == 1) l (body l new)) ∙ none_parts (is_made old) (is_gate_open old l) l (body l old) (body l new) none
 
       at_l : i ≡ l → recorded new i ≡ recorded old i
       at_l here = ap (recorded new) here ∙ still_none ∙ sym none ∙ ap (recorded old) (sym here)
@@ -156,7 +156,7 @@ module _ (l : ℕ) (lt : l < 8) (old new : List ℕ) (torn : Torn (gate_position
   ]
     where
       at_l : i ≡ l → (recorded new i ≡ recorded old i) ⊎ ((i ≡ k.lock) × (recorded new i ≡ Some k))
-      at_l here = elim (either_parts (is_made new) (is_open new l) l (body l new) k (ap (body_hashkey l) (gate_body l) ∙ tells)) [
+      at_l here = elim (either_parts (is_made new) (is_gate_open new l) l (body l new) k (ap (body_hashkey l) (gate_body l) ∙ tells)) [
         | inl still ↦ inl (ap (recorded new) here ∙ still ∙ sym none ∙ ap (recorded old) (sym here))
         | inr now ↦ inr (here ∙ is_lock, ap (recorded new) here ∙ now)
       ]
@@ -183,7 +183,7 @@ module _ (l : ℕ) (lt : l < 8) (old new : List ℕ) (torn : Torn (gate_position
   gate_others i apart = same old new i gate_made (gate_other i apart) (gate_body i)
 
 -- What was written stands there.
-pub body_there : (k : Hashkey) (l : ℕ) (old new : List ℕ) → length old ≡ 549426 → l < 8 → length k.path ≤ 32 → length k.sigs ≡ length k.path → IsTold k
+pub body_there : (k : Hashkey) (l : ℕ) (old new : List ℕ) → length old ≡ 549426 → l < 8 → length k.path ≤ 32 → length k.sigs ≡ length k.path → HasWholeParts k
     → new ≡ written old (body_position l) (encoded_body k)
     → body l new ≡ encoded_body k ++ take (68673 - length (encoded_body k)) (drop (body_position l + length (encoded_body k)) old)
 body_there k l old new sized lt few paired told is =
@@ -198,7 +198,7 @@ body_there k l old new sized lt few paired told is =
     take_over (suc n) (x ∷ xs) ys le = ap (λ (l : List ℕ). x ∷ l) (take_over n xs ys (omega (arith, le)) ∙ ap (λ (m : ℕ). xs ++ take m ys) (omega arith))
 
 -- The body of a hashkey that fits a deal can be one of the deal's.
-pub not_bad : (k : Hashkey) → length k.sigs ≡ length k.path → IsTold k → (rest : List ℕ) (limit n : ℕ) → length k.path ≤ limit → are_bounded n k.path ≡ true
+pub not_bad : (k : Hashkey) → length k.sigs ≡ length k.path → HasWholeParts k → (rest : List ℕ) (limit n : ℕ) → length k.path ≤ limit → are_bounded n k.path ≡ true
     → is_bad limit n (encoded_body k ++ rest) ≡ false
 not_bad k paired told rest limit n few below =
     let path = ap (λ (b : List ℕ). take (length k.path) (drop 33 b)) (parts k paired told rest) ∙ path_is k paired told k.lock refl rest in
@@ -207,7 +207,7 @@ not_bad k paired told rest limit n few below =
 
 -- A body that was written tells its hashkey.
 pub tells_written : (k : Hashkey) (l : ℕ) (old new : List ℕ) → length old ≡ 549426 → l < 8 → l ≡ k.lock → length k.path ≤ 32 → length k.sigs ≡ length k.path
-    → IsTold k
+    → HasWholeParts k
     → new ≡ written old (body_position l) (encoded_body k) → body_hashkey l (body l new) ≡ k
 tells_written k l old new sized lt is_lock few paired told is =
     ap (body_hashkey l) (body_there k l old new sized lt few paired told is)
@@ -226,7 +226,7 @@ keeps outcomes old c k among none h i x lt all = elim (h i lt) [
 
 -- The two writes of a record, from a journal that is made and hasn't its lock recorded.
 module _ (k : Hashkey) (old : List ℕ) (sized : length old ≡ 549426) (made : is_made old ≡ true) (lt : k.lock < 8) (none : recorded old k.lock ≡ None)
-    (few : length k.path ≤ 32) (paired : length k.sigs ≡ length k.path) (told : IsTold k) where
+    (few : length k.path ≤ 32) (paired : length k.sigs ≡ length k.path) (told : HasWholeParts k) where
   body_fits : length (encoded_body k) ≤ 68673
   body_fits = omega (arith, body_size k paired told, few)
 

@@ -5,7 +5,7 @@ use Rattle.std.proofs.Common.{ap, ◌∙◌, subst, arith}
 use Rattle.std.proofs.lemmas.Bool.{false≢true}
 use Rattle.swap_digraph.specs.declared.deal.Deal.{Deal}
 use Rattle.hashkey_path.specs.declared.hashkey.Hashkey.{Hashkey}
-use Rattle.wallet_journal.specs.Layout.{is_made, is_open, is_bad, body, body_hashkey, recorded}
+use Rattle.wallet_journal.specs.Layout.{is_made, is_gate_open, is_bad, body, body_hashkey, recorded}
 use Rattle.swap_digraph.specs.Deal.{path_limit}
 use Rattle.wallet_journal.specs.Journal.{listed_hashkey}
 use Rattle.wallet_journal.specs.Held.{disk_size, no_bytes}
@@ -20,12 +20,12 @@ none_made : is_made no_bytes ≡ false
 none_made = ap (λ (b : ℕ). b == 1) (all_zero disk_size 0)
 
 pub none_recorded : (i : ℕ) → recorded no_bytes i ≡ None
-none_recorded i = ap (λ (b : Bool). cond (b && is_open no_bytes i) (Some (body_hashkey i (body i no_bytes))) None) none_made
+none_recorded i = ap (λ (b : Bool). cond (b && is_gate_open no_bytes i) (Some (body_hashkey i (body i no_bytes))) None) none_made
 
 pub none_own : (d : Deal) (me : ℕ) (c : List ℕ) → c ≡ no_bytes → IsOwn d me c
 none_own d me c is = subst (IsOwn d me) (sym is) (record {
   partys = λ made. absurd (false≢true (sym none_made ∙ made));
-  sound = λ i lt. ap (λ (b : Bool). (b && is_open no_bytes i) && is_bad (path_limit d) d.graph.n (body i no_bytes)) none_made;
+  sound = λ i lt. ap (λ (b : Bool). (b && is_gate_open no_bytes i) && is_bad (path_limit d) d.graph.n (body i no_bytes)) none_made;
 })
 
 -- where nothing is recorded at any lock, the list has nothing

@@ -4,7 +4,7 @@ use Rattle.std.proofs.Common.{take, drop, get_or, None, sym, ◌∙◌, ap, arit
 use Rattle.std.proofs.lemmas.List.{take-take, get_or-take, get_or-drop, set_at, take_at, get_or_at, get_or-append_right, get_or-replicate}
 use Rattle.wallet_journal.specs.Device.{slice, written, Torn}
 use Rattle.wallet_journal.specs.Layout.{byte, is_made, journal_deal_id, journal_party, gate_position, recorded}
-use Rattle.wallet_journal.specs.Journal.{IsUnused, IsNew, IsHead}
+use Rattle.wallet_journal.specs.Journal.{IsUnused, IsNewJournal, IsHead}
 use Rattle.wallet_journal.proofs.Bytes.{slice_after, byte_before, byte_after, slice_written, drop_written, written_torn}
 use Rattle.wallet_journal.proofs.Crash.{unmade, shut}
 
@@ -60,7 +60,7 @@ module _ (old head id : List ℕ) (me : ℕ) (sized : length old ≡ 549426) (no
     second_write = record { none = closed; partys = λ made. (same_id, same_party) }
 
   -- after both
-  pub made : IsNew id me (written mid 0 (1 ∷ []))
+  pub made : IsNewJournal id me (written mid 0 (1 ∷ []))
   made =
       let end = written mid 0 (1 ∷ []) in
       let small : 0 + 1 ≤ length mid = omega (arith, mid_torn.as_long, sized) in

@@ -5,7 +5,7 @@ use Rattle.std.specs.List.{AllByRecursion}
 use Rattle.std.proofs.lemmas.List.{length-replicate}
 use Rattle.wallet_journal.specs.Device.{Write, written, Torn, Elapses}
 use Rattle.wallet_journal.specs.Held.{Held, disk_size, no_bytes, after_writes, synced_bytes, visible_bytes, MayBeLeft, Leaves, IsOnDisk, AreOnDisk}
-use Rattle.wallet_journal.specs.Memory.{with_write, settled, filled, crashed}
+use Rattle.wallet_journal.specs.Memory.{with_write, all_synced, filled, crashed}
 use Rattle.wallet_journal.proofs.Bytes.{written_torn}
 use Rattle.wallet_journal.proofs.Writes.{after_push, after_both, left_push}
 use Rattle.wallet_journal.proofs.Moment.{Since, elapses_push}
@@ -56,7 +56,7 @@ module _ (h h' : Held) where
     put_left c left = left_push (synced_bytes h) h.loose (record { at = at; bytes = bytes }) c (subst (λ (g : Held). Leaves g c) is left)
 
   -- after a sync
-  module _ (is : h' ≡ settled h) where
+  module _ (is : h' ≡ all_synced h) where
     pub settled_bytes : visible_bytes h' ≡ visible_bytes h
     settled_bytes = ap visible_bytes is ∙ after_both no_bytes h.synced h.loose
 

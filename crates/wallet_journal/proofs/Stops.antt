@@ -9,11 +9,11 @@ use Rattle.std.proofs.lemmas.List.{get_or-drop}
 use Rattle.std.proofs.lemmas.Bool.Decides.{nat_tests}
 use Rattle.hashkey_path.specs.declared.hashkey.Hashkey.{Hashkey}
 use Rattle.wallet_journal.specs.Device.{Write, written}
-use Rattle.wallet_journal.specs.Layout.{byte, is_made, recorded, gate_position, body_position, encoded_body, IsTold}
+use Rattle.wallet_journal.specs.Layout.{byte, is_made, recorded, gate_position, body_position, encoded_body, HasWholeParts}
 use Rattle.wallet_journal.specs.Held.{Held, no_bytes, after_writes, visible_bytes, IsOnDisk}
 use Rattle.wallet_journal.specs.Memory.{crashed}
 use Rattle.wallet_journal.specs.Recording.{body_write, gate_write, IsStoppedRecording}
-use Rattle.wallet_journal.specs.Stopped.{bytes_left, is_kept, kept_key, IsOfWrites}
+use Rattle.wallet_journal.specs.Stopped.{bytes_left, is_kept_after_crash, kept_key, IsOfWrites}
 use Rattle.wallet_journal.proofs.Bytes.{drop_written, written_torn}
 use Rattle.wallet_journal.proofs.Tells.{body_size}
 use Rattle.wallet_journal.proofs.Crash.{body_torn, shut, stored, mid}
@@ -21,7 +21,7 @@ use Rattle.wallet_journal.proofs.Writes.{after_push}
 use Rattle.wallet_journal.proofs.Holds.{none_size, writes_size, crash_left}
 
 module _ (k : Hashkey) (ws : List Write) (spare : ℕ) (on : AllByRecursion IsOnDisk ws) (made : is_made (after_writes no_bytes ws) ≡ true) (lt : k.lock < 8)
-    (none : recorded (after_writes no_bytes ws) k.lock ≡ None) (few : length k.path ≤ 32) (paired : length k.sigs ≡ length k.path) (told : IsTold k) where
+    (none : recorded (after_writes no_bytes ws) k.lock ≡ None) (few : length k.path ≤ 32) (paired : length k.sigs ≡ length k.path) (told : HasWholeParts k) where
   abbrev old : List ℕ
   old = after_writes no_bytes ws
 
@@ -96,14 +96,14 @@ every_err (Err e) f = f e
 
 -- the same from what the record left of its writes
 module _ (k : Hashkey) (ws : List Write) (bytes : List ℕ) (of : IsOfWrites bytes ws) (is_there : is_made bytes ≡ true) (lt : k.lock < 8)
-    (unrecorded : recorded bytes k.lock ≡ None) (few : length k.path ≤ 32) (paired : length k.sigs ≡ length k.path) (told : IsTold k) where
+    (unrecorded : recorded bytes k.lock ≡ None) (few : length k.path ≤ 32) (paired : length k.sigs ≡ length k.path) (told : HasWholeParts k) where
   made_of : is_made (after_writes no_bytes ws) ≡ true
   made_of = ap is_made (sym of.reads) ∙ is_there
 
   none_of : recorded (after_writes no_bytes ws) k.lock ≡ None
   none_of = ap (λ (b : List ℕ). recorded b k.lock) (sym of.reads) ∙ unrecorded
 
-  at_first : (n image : ℕ) (ws' loose' : List Write) → is_kept n image ≡ false → ws' ≡ ws → loose' ≡ body_write k ∷ []
+  at_first : (n image : ℕ) (ws' loose' : List Write) → is_kept_after_crash n image ≡ false → ws' ≡ ws → loose' ≡ body_write k ∷ []
       → recorded (bytes_left image ws' loose') k.lock ≡ kept_key k n image
   at_first n image ws' loose' shut is is' =
       (λ i. recorded (bytes_left image (is i) (is' i)) k.lock) ∙ early_none k ws 0 of.on made_of lt none_of few paired told image

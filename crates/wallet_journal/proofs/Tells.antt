@@ -9,7 +9,7 @@ use Rattle.hash_signature.specs.declared.sig.Sig.{Sig}
 use Rattle.hash_signature.specs.Signature.{text_values}
 use Rattle.hashkey_path.specs.declared.hashkey.Hashkey.{Hashkey}
 use Rattle.wallet_journal.specs.Device.{slice}
-use Rattle.wallet_journal.specs.Layout.{body_signatures, body_hashkey, encoded_body, IsWholeSig, IsTold}
+use Rattle.wallet_journal.specs.Layout.{body_signatures, body_hashkey, encoded_body, IsWholeSig, HasWholeParts}
 
 -- one more signature at the end
 pub sigs_more : (j : ℕ) (bytes : List ℕ) → body_signatures (j + 1) bytes ≡ body_signatures j bytes ++ text_values (take 2144 (drop (2144 * j) bytes)) ∷ []
@@ -36,7 +36,7 @@ sigs_size : (sigs : List Sig) → AllByRecursion IsWholeSig sigs → length (fla
 sigs_size [] all = refl
 sigs_size (s ∷ sigs) all = omega (arith, length-append (joined s) (flat_map joined sigs), all.0.bytes, sigs_size sigs all.1)
 
-module _ (k : Hashkey) (paired : length k.sigs ≡ length k.path) (told : IsTold k) where
+module _ (k : Hashkey) (paired : length k.sigs ≡ length k.path) (told : HasWholeParts k) where
   whole : AllByRecursion IsWholeSig k.sigs
   whole = recursion_from_All IsWholeSig k.sigs told.sigs
 

@@ -3,7 +3,7 @@ use Rattle.std.proofs.Common.{◌≡◌, ◌≢◌, ℕ, zero, suc, ◌+◌, ◌
 use Rattle.std.proofs.lemmas.List.{length-take-le, take-append-drop, take-take, take_all, drop_all, take-append-le, drop-append-le, length-drop}
 use Rattle.wallet_journal.specs.Device.{Write, written, Torn}
 use Rattle.wallet_journal.specs.Held.{Held, after_writes, MayBeLeft}
-use Rattle.wallet_journal.specs.Memory.{span_writes, total, with_write, settled, filled, crash_writes, crashed}
+use Rattle.wallet_journal.specs.Memory.{span_writes, total, with_write, all_synced, filled, crash_writes, crashed}
 use Rattle.wallet_journal.specs.declared.contents.Span.{Span}
 
 -- one span more, with its bytes behind all others
@@ -74,7 +74,7 @@ put_shown bytes more spans s synced spare bytes' spans' is is' all len le =
     })
 
 pub settle_shown : (bytes : List ℕ) (spans : List Span) (synced n spare : ℕ) → n ≡ length spans
-    → shown bytes spans n spare ≡ settled (shown bytes spans synced spare)
+    → shown bytes spans n spare ≡ all_synced (shown bytes spans synced spare)
 settle_shown bytes spans synced n spare is =
     let w = span_writes bytes spans in
     let whole : length (span_writes bytes spans) ≤ n = omega (arith, is, length-writes bytes spans) in

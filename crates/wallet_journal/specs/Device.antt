@@ -60,9 +60,9 @@ pub record IsStill (bytes : List ℕ) (may_leave : List ℕ → Type 0) (loose :
   pub settled : loose ≡ []
 
 -- one call of n that pass before every later one fails
-abbrev pub IsStopped : {T E : Type 0} → ℕ → Result T E → (ℕ → Type 0) → Type 0
-IsStopped zero result stops = IsErr result × stops 0
-IsStopped (suc n) result stops = IsOk result × stops n
+abbrev pub IsStoppingCall : {T E : Type 0} → ℕ → Result T E → (ℕ → Type 0) → Type 0
+IsStoppingCall zero result stops = IsErr result × stops 0
+IsStoppingCall (suc n) result stops = IsOk result × stops n
 
 -- two of them
 abbrev pub AreStopped : {T E : Type 0} → ℕ → Result T E → (ℕ → Type 0) → Type 0
@@ -73,7 +73,7 @@ AreStopped (suc (suc n)) result stops = IsOk result × stops n
 -- What was known of calls to come holds of this one, and of those after it.
 pub record IsFated {T E : Type 0} (never never' : Type 0) (stops stops' : ℕ → Type 0) (result : Result T E) : Type 0 where
   pub passes : never → IsOk result × never'
-  pub stopped : (n : ℕ) → stops n → IsStopped n result stops'
+  pub stopped : (n : ℕ) → stops n → IsStoppingCall n result stops'
 
 -- what a sync does to the writes that were synced and those that weren't
 abbrev pub IsSettled : {T E : Type 0} → Result T E → List Write → List Write → List Write → List Write → Type 0

@@ -60,7 +60,7 @@ pub record IsUnused (id : List ℕ) (me : ℕ) (bytes : List ℕ) : Type 0 where
   pub partys : IsPartys id me bytes
 
 -- A new journal.
-pub record IsNew (id : List ℕ) (me : ℕ) (bytes : List ℕ) : Type 0 where
+pub record IsNewJournal (id : List ℕ) (me : ℕ) (bytes : List ℕ) : Type 0 where
   pub made : is_made bytes ≡ true
   pub id_there : journal_deal_id bytes ≡ id
   pub party_there : journal_party bytes ≡ me

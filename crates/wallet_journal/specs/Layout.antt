@@ -37,12 +37,12 @@ abbrev pub body : ℕ → List ℕ → List ℕ
 body i bytes = slice (body_position i) 68673 bytes
 
 -- the gate of lock i is open
-abbrev pub is_open : List ℕ → ℕ → Bool
-is_open bytes i = byte bytes (gate_position i) == 1
+abbrev pub is_gate_open : List ℕ → ℕ → Bool
+is_gate_open bytes i = byte bytes (gate_position i) == 1
 
 -- lock i is recorded
 abbrev pub is_recorded : List ℕ → ℕ → Bool
-is_recorded bytes i = is_made bytes && is_open bytes i
+is_recorded bytes i = is_made bytes && is_gate_open bytes i
 
 -- the signatures that n times 2,144 bytes hold
 abbrev pub body_signatures : ℕ → List ℕ → List Sig
@@ -75,7 +75,7 @@ pub record IsWholeSig (s : Sig) : Type 0 where
   pub values : text_values (joined s) ≡ s
 
 -- The hashkey's parts have their sizes, so that its body tells it.
-pub record IsTold (k : Hashkey) : Type 0 where
+pub record HasWholeParts (k : Hashkey) : Type 0 where
   pub secret : length k.secret ≡ 32
   pub sigs : All IsWholeSig k.sigs
 

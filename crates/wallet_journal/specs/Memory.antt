@@ -5,9 +5,9 @@ use Rattle.wallet_journal.specs.Held.{Held}
 use Rattle.wallet_journal.specs.declared.contents.Span.{Span}
 
 -- no call passes any more
-abbrev pub is_stopped : Option ℕ → Bool
-is_stopped None = false
-is_stopped (Some n) = n == 0
+abbrev pub passes_no_call : Option ℕ → Bool
+passes_no_call None = false
+passes_no_call (Some n) = n == 0
 
 pub record DiskState : Type 0 where
   pub held : Held
@@ -33,8 +33,8 @@ abbrev pub with_write : Held → ℕ → List ℕ → ℕ → Held
 with_write h at bytes spare = record { synced = h.synced; loose = h.loose ++ record { at = at; bytes = bytes } ∷ []; spare = spare }
 
 -- all is synced
-abbrev pub settled : Held → Held
-settled h = record { synced = h.synced ++ h.loose; loose = []; spare = h.spare }
+abbrev pub all_synced : Held → Held
+all_synced h = record { synced = h.synced ++ h.loose; loose = []; spare = h.spare }
 
 -- a write whose bytes are all of one value
 abbrev pub filled : ℕ → Write → Write

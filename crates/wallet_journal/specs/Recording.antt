@@ -13,9 +13,9 @@ IsRecordFault before now old new may_leave loose DiskFault = Rose before now
 IsRecordFault before now old new may_leave loose NoMemory = IsStill new may_leave loose × (new ≡ old)
 
 -- the same as callers see it: after want of memory the journal is as it was and sound
-abbrev pub IsRefused : ℕ → ℕ → RecordFault → List (Option Hashkey) → List (Option Hashkey) → Bool → Type 0
-IsRefused before now DiskFault old new sound = Rose before now
-IsRefused before now NoMemory old new sound = (sound ≡ true) × (new ≡ old)
+abbrev pub IsRefusedRecord : ℕ → ℕ → RecordFault → List (Option Hashkey) → List (Option Hashkey) → Bool → Type 0
+IsRefusedRecord before now DiskFault old new sound = Rose before now
+IsRefusedRecord before now NoMemory old new sound = (sound ≡ true) × (new ≡ old)
 
 -- the write of a hashkey's body
 abbrev pub body_write : Hashkey → Write

@@ -16,12 +16,12 @@ bytes_left image synced loose = after_writes no_bytes (crash_writes image synced
 
 -- A record that is stopped within its call number n, of four, counted from 0, has its hashkey
 -- recorded after the crash: its gate was written, and what isn't synced holds its new bytes.
-abbrev pub is_kept : (n image : ℕ) → Bool
-is_kept n image = nat_le 2 n && (image == 1)
+abbrev pub is_kept_after_crash : (n image : ℕ) → Bool
+is_kept_after_crash n image = nat_le 2 n && (image == 1)
 
 -- the hashkey that is then recorded, if any
 abbrev pub kept_key : Hashkey → (n image : ℕ) → Option Hashkey
-kept_key k n image = if is_kept n image then Some k else None
+kept_key k n image = if is_kept_after_crash n image then Some k else None
 
 -- A disk reads as its writes, each of which lies on it.
 pub record IsOfWrites (bytes : List ℕ) (writes : List Write) : Type 0 where

@@ -3,7 +3,7 @@
 ghost use Rattle.std.specs.Prelude.{◌≡◌, ◌||◌, if◌then◌else◌, nat_eq, ◌-◌, option_map};
 ghost use Rattle.std.specs.List.{list_any};
 ghost use Rattle.swap_io.specs.Causes.{next_count};
-ghost use Rattle.wallet_journal.specs.Memory.{is_stopped};
+ghost use Rattle.wallet_journal.specs.Memory.{passes_no_call};
 
 /// The calls that are to fail: by their numbers, from 0, and every one after so many more.
 #[derive(Debug, Drop)]
@@ -14,8 +14,8 @@ pub(crate) struct Failures {
     pub count: u64,
 }
 
-fn is_stopped(left: Option<u8>) -> bool
-    ensures { result ≡ is_stopped left }
+fn passes_no_call(left: Option<u8>) -> bool
+    ensures { result ≡ passes_no_call left }
 {
     match left {
         None => false,
@@ -35,7 +35,7 @@ fn one_fewer(left: Option<u8>) -> Option<u8>
 impl Failures {
     /// Whether the next call fails, which is counted.
     pub(crate) fn next(&mut self) -> bool
-        ensures exact { result ≡ (is_stopped self.old.left || list_any (nat_eq self.old.calls) self.old.failing.items) }
+        ensures exact { result ≡ (passes_no_call self.old.left || list_any (nat_eq self.old.calls) self.old.failing.items) }
         ensures calls { self.new.calls ≡ next_count self.old.calls }
         ensures count { self.new.count ≡ (if result then next_count self.old.count else self.old.count) }
         ensures left { self.new.left ≡ option_map (λ n. n - 1) self.old.left }
@@ -43,7 +43,7 @@ impl Failures {
     {
         let call = self.calls;
         self.calls = self.calls.saturating_add(1);
-        let fails = is_stopped(self.left) || self.failing.contains(&call);
+        let fails = passes_no_call(self.left) || self.failing.contains(&call);
         self.left = one_fewer(self.left);
         if fails {
             self.count = self.count.saturating_add(1);

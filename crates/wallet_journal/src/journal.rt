@@ -8,7 +8,7 @@ ghost use Rattle.wallet_journal.specs.Layout.{recorded};
 ghost use Rattle.wallet_journal.specs.Journal.{MayHaveRecorded, IsKeptJournal, IsMadePartyJournal, KeepsRecorded, listed_hashkey};
 ghost use Rattle.wallet_journal.specs.Opening.{IsOpenFault, IsOpened};
 ghost use Rattle.wallet_journal.specs.Own.{IsInRecord, IsOwn, IsOwnFault, FitsDeal};
-ghost use Rattle.wallet_journal.specs.Recording.{IsRecordFault, IsRefused, IsStoppedRecord, IsWritten};
+ghost use Rattle.wallet_journal.specs.Recording.{IsRecordFault, IsRefusedRecord, IsStoppedRecord, IsWritten};
 ghost use Rattle.swap_digraph.specs.declared.deal.Deal.{Deal as AnyDeal};
 ghost use Rattle.hashkey_path.specs.declared.hashkey.Hashkey.{Hashkey as AnyKey};
 ghost use Rattle.wallet_journal.specs.Held.{Leaves, visible_bytes};
@@ -185,7 +185,7 @@ impl<D: Disk> Journal<D> {
         // Want of memory comes before anything is written.
         ensures untouched { IfErr result (λ e. e ≡ Wanting
             → IsUntouched (D.seen self.old.disk) (D.seen self.new.disk) (D.may_leave self.old.disk) (D.may_leave self.new.disk)) }
-        ensures fault { IfErr result (λ e. IsRefused (D.faults self.old.disk) (D.faults self.new.disk) e self.old.signed self.new.signed self.new.sound) }
+        ensures fault { IfErr result (λ e. IsRefusedRecord (D.faults self.old.disk) (D.faults self.new.disk) e self.old.signed self.new.signed self.new.sound) }
     {
         match record_key(&mut self.disk, &self.id, self.me, &mut self.signed, key) {
             Ok(()) => Ok(()),

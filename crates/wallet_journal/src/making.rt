@@ -4,7 +4,7 @@ ghost use Rattle.std.specs.Prelude.{◌≡◌, ◌<◌, ◌≤◌, false, IsOk, 
 ghost use Rattle.swap_io.specs.Causes.{HasCause};
 ghost use Rattle.wallet_journal.specs.Device.{LeavesOnly, IsStill};
 ghost use Rattle.wallet_journal.specs.Layout.{is_made};
-ghost use Rattle.wallet_journal.specs.Journal.{IsUnused, IsNew, IsHead};
+ghost use Rattle.wallet_journal.specs.Journal.{IsUnused, IsNewJournal, IsHead};
 
 use crate::disk::Disk;
 use crate::writing::write_synced;
@@ -27,7 +27,7 @@ pub(crate) fn make<D: Disk>(disk: &mut D, id: &Digest, me: PartyId) -> Result<()
     requires unmade { is_made (D.seen disk.old) ≡ false }
     requires spare { 4 ≤ D.spare disk.old }
     ensures still { OnOk result (IsStill (D.seen disk.new) (D.may_leave disk.new) (D.loose disk.new)) }
-    ensures new { OnOk result (IsNew id.now me (D.seen disk.new)) }
+    ensures new { OnOk result (IsNewJournal id.now me (D.seen disk.new)) }
     ensures any_moment { LeavesOnly D.moment D.left_since disk.old disk.new (IsUnused id.now me) }
     ensures never { D.never_fails disk.old → IsOk result × D.never_fails disk.new }
     ensures cause { HasCause (D.faults disk.old) (D.faults disk.new) result }

@@ -3,7 +3,7 @@
 ghost use Rattle.std.specs.Prelude.{◌≡◌, ◌<◌, ◌≤◌, ◌+◌, ℕ, length, None, true, IsOk, IsErr, OnOk, IfErr};
 ghost use Rattle.swap_io.specs.Causes.{HasCause};
 ghost use Rattle.wallet_journal.specs.Device.{LeavesOnly, IsStill, IsUntouched};
-ghost use Rattle.wallet_journal.specs.Layout.{IsTold, encoded_body, is_made, recorded};
+ghost use Rattle.wallet_journal.specs.Layout.{HasWholeParts, encoded_body, is_made, recorded};
 ghost use Rattle.wallet_journal.specs.Journal.{Gains};
 ghost use Rattle.wallet_journal.specs.Own.{IsInRecord};
 ghost use Rattle.wallet_journal.specs.Recording.{IsRecordFault, IsStoppedRecording, IsStoppedRecord, IsWritten};
@@ -26,7 +26,7 @@ pub(crate) fn store<D: Disk>(disk: &mut D, key: &Hashkey, body: &[u8]) -> Result
     requires unrecorded { recorded (D.seen disk.old) key.now.lock ≡ None }
     requires few { length key.now.path ≤ 32 }
     requires paired { length key.now.sigs ≡ length key.now.path }
-    requires told { IsTold key.now }
+    requires told { HasWholeParts key.now }
     requires body { body.now ≡ encoded_body key.now }
     requires spare { 4 ≤ D.spare disk.old }
     ensures still { OnOk result (IsStill (D.seen disk.new) (D.may_leave disk.new) (D.loose disk.new)) }

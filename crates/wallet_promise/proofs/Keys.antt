@@ -15,7 +15,7 @@ use Rattle.swap_rules.specs.Machine.{KeepsKey, IsWallet}
 use Rattle.swap_rules.proofs.Words.{same_key-refl}
 use Rattle.swap_rules.proofs.Cases.{Case, ToPublish, ToUnlock, ToClaim, ToRefund, case_of}
 use Rattle.swap_rules.proofs.DueKeys.{AreGood, OwnTerms, key_rule}
-use Rattle.wallet_promise.specs.Life.{Asking, is_kept, Make, Keep, kept_note, make_if, action_answer, IsPart, IsKeepingStep, MayKeep}
+use Rattle.wallet_promise.specs.Life.{Asking, is_kept, Make, Keep, kept_note, make_if, action_answer, IsPartKept, IsKeepingStep, MayKeep}
 use Rattle.wallet_promise.specs.Life.{IsJournal, IsTold}
 
 -- a hashkey that was kept is the one that is due
@@ -95,8 +95,8 @@ module _ (d : Deal) (v : ℕ) (w : Wallet) (b : Histories) (legal : IsLegalBook 
       record { rule = u.0; free = not_first (q.kept key.lock) key k.1 u.1 }
 
   -- what is kept next is good, and holds what was kept
-  next_good : (before : ℕ → Option Hashkey) (q : Asking) (next : ℕ → Option Hashkey) → IsTold b q → AreGood d b v before → IsPart q.kept before
-      → IsKeepingStep d v w before q next → AreGood d b v next × IsPart before next
+  next_good : (before : ℕ → Option Hashkey) (q : Asking) (next : ℕ → Option Hashkey) → IsTold b q → AreGood d b v before → IsPartKept q.kept before
+      → IsKeepingStep d v w before q next → AreGood d b v next × IsPartKept before next
   next_good before q next told good part (inl e) = (subst (AreGood d b v) (sym e) good, λ i key z. ap (λ f. f i) e ∙ z)
   next_good before q next told good part (inr k) =
       let n = is_new q k.0 told (λ i key z. good i key (part i key z)) k.1 in (
@@ -116,9 +116,9 @@ module _ (d : Deal) (v : ℕ) (w : Wallet) (b : Histories) (legal : IsLegalBook 
   -- What a journal keeps.
   pub record Keeps (before : ℕ → Option Hashkey) (askings : List Asking) (after : ℕ → Option Hashkey) : Type 0 where
     pub good : AreGood d b v after
-    pub grows : IsPart before after
+    pub grows : IsPartKept before after
     pub each : (q : Asking) → IsElement q askings → AreGood d b v q.kept
-    pub lasts : (q : Asking) → IsElement q askings → IsPart q.kept after
+    pub lasts : (q : Asking) → IsElement q askings → IsPartKept q.kept after
 
   pub journal_keeps : (before : ℕ → Option Hashkey) (askings : List Asking) (after : ℕ → Option Hashkey) → ((q : Asking) → IsElement q askings → IsTold b q)
       → AreGood d b v before → IsJournal d v w before askings after → Keeps before askings after
@@ -142,6 +142,6 @@ module _ (d : Deal) (v : ℕ) (w : Wallet) (b : Histories) (legal : IsLegalBook 
       each r p (inl e) = subst (λ z. AreGood d b v z.kept) (sym e) (λ i key z. good i key (j.0 i key z))
       each r p (inr i) = r.each p i
 
-      lasts : IsPart before j.1 → Keeps j.1 qs after → (p : Asking) → (p ≡ q) ⊎ IsElement p qs → IsPart p.kept after
+      lasts : IsPartKept before j.1 → Keeps j.1 qs after → (p : Asking) → (p ≡ q) ⊎ IsElement p qs → IsPartKept p.kept after
       lasts n r p (inl e) i key z = r.grows i key (n i key (j.0 i key (ap (λ y. y.kept i) (sym e) ∙ z)))
       lasts n r p (inr k) i key z = r.lasts p k i key z

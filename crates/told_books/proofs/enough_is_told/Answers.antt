@@ -1,5 +1,5 @@
 use Rattle.told_books.proofs.Enough as enough
-use Rattle.told_books.proofs.Needed as needed
+use Rattle.told_books.proofs.Needed as needed_history
 use Rattle.told_books.proofs.Ticks as ticks
 use Rattle.told_books.proofs.enough_is_told.Goals as goal
 
@@ -19,7 +19,7 @@ pub returns-clause-merged : goal.returns-clause-merged
 returns-clause-merged c = ticks.merged_says_enough
 
 pub returns-clause-needed : goal.returns-clause-needed
-returns-clause-needed c = needed.needed_says_enough
+returns-clause-needed c = needed_history.needed_says_enough
 
 pub returns-clause-useless : goal.returns-clause-useless
-returns-clause-useless c = needed.useless_is_ticks
+returns-clause-useless c = needed_history.useless_is_ticks

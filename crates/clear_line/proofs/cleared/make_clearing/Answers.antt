@@ -1,12 +1,12 @@
 use Rattle.swap_clear.specs.Proposals.{proposed_graph}
-use Rattle.clear_line.specs.Cleared.{IsShown}
+use Rattle.clear_line.specs.Cleared.{IsShownClearing}
 use Rattle.clear_line.proofs.Within.{shows_of}
 use Rattle.clear_line.proofs.cleared.make_clearing.Goals as goal
 
 pub returns-in-Ok-clause-shows : goal.returns-in-Ok-clause-shows
 returns-in-Ok-clause-shows c =
     let arcs = c.as_slice-2.result.now in
-    let shown : IsShown (proposed_graph c.len.result arcs) arcs c.in-Ok.clearing = record {
+    let shown : IsShownClearing (proposed_graph c.len.result arcs) arcs c.in-Ok.clearing = record {
       left_out = c.in-Ok.ensures.left_out;
       groups = c.in-Ok.ensures.groups;
       strong = c.in-Ok.ensures.strong;

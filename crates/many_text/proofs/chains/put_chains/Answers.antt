@@ -1,12 +1,12 @@
 use Rattle.std.proofs.Common.{◌≡◌, ◌<◌, ◌≤◌, ◌++◌, ℕ, List, arith, length, subst}
 use Rattle.swap_base.proofs.Lines.{lines_on, lines_done}
-use Rattle.swap_many.specs.Value.{kept_state}
+use Rattle.swap_many.specs.Value.{many_kept}
 use Rattle.many_text.specs.ManyText.{kept_chain_text}
 use Rattle.many_text.proofs.chains.put_chains.Goals as goal
 
 pub each-preserved : goal.each-preserved
 each-preserved c =
-    let z = kept_state c.args.world.now in
+    let z = many_kept c.args.world.now in
     let i = c.each.chain in
     let names = c.index-names-chain.result in
     let lt : i < length c.args.names.now = omega (arith, c.each-test.true, c.chains-count.ensures, c.requires.shown.one_each) in
@@ -17,4 +17,4 @@ each-preserved c =
 pub returns : goal.returns
 returns c =
     let le : length c.args.names.now ≤ c.each.chain = omega (arith, c.each-test.false, c.chains-count.ensures, c.requires.shown.one_each) in
-    lines_done (kept_chain_text (kept_state c.args.world.now)) c.each.out.items _ c.each.chain c.args.names.now c.each.chain le c.each.invariant
+    lines_done (kept_chain_text (many_kept c.args.world.now)) c.each.out.items _ c.each.chain c.args.names.now c.each.chain le c.each.invariant

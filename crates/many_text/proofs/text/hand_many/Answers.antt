@@ -4,7 +4,7 @@ use Rattle.swap_base.specs.Text.{lines}
 use Rattle.swap_io.specs.Handed.{Handed, Lost}
 use Rattle.swap_io.specs.declared.fault.TextFault.TheVariants.{NoMemory}
 use Rattle.swap_io.proofs.Handing.{handed_on, handed_put, handed_was, hands_err, hands_ok, lost_before, lost_then, lost_was, rose_was}
-use Rattle.swap_many.specs.Value.{kept_state}
+use Rattle.swap_many.specs.Value.{many_kept}
 use Rattle.report_text.specs.Report.{count_line}
 use Rattle.many_text.specs.ManyText.{kept_chain_text, finding_count, kept_swap_text}
 use Rattle.many_text.proofs.Handing.{of_many}
@@ -13,7 +13,7 @@ use Rattle.many_text.proofs.text.hand_many.Goals as goal
 
 pub returns-in_err-count-clause-hands : goal.returns-in_err-count-clause-hands
 returns-in_err-count-clause-hands g c =
-    let z = kept_state c.args.world.now in
+    let z = many_kept c.args.world.now in
     let t1 = lines (kept_swap_text z) 0 c.args.jobs.now in
     let t2 = lines (kept_chain_text z) 0 c.args.names.now in
     let t3 = count_line (finding_count z 0 c.args.jobs.now) in
@@ -27,7 +27,7 @@ returns-in_err-count-clause-hands g c =
 
 pub returns-in_err-put_chains-clause-hands : goal.returns-in_err-put_chains-clause-hands
 returns-in_err-put_chains-clause-hands g c =
-    let z = kept_state c.args.world.now in
+    let z = many_kept c.args.world.now in
     let t1 = lines (kept_swap_text z) 0 c.args.jobs.now in
     let t2 = lines (kept_chain_text z) 0 c.args.names.now in
     let t3 = count_line (finding_count z 0 c.args.jobs.now) in
@@ -39,7 +39,7 @@ returns-in_err-put_chains-clause-hands g c =
 
 pub returns-in_err-put_count-clause-hands : goal.returns-in_err-put_count-clause-hands
 returns-in_err-put_count-clause-hands g c =
-    let z = kept_state c.args.world.now in
+    let z = many_kept c.args.world.now in
     let t1 = lines (kept_swap_text z) 0 c.args.jobs.now in
     let t2 = lines (kept_chain_text z) 0 c.args.names.now in
     let t3 = count_line (finding_count z 0 c.args.jobs.now) in
@@ -52,7 +52,7 @@ returns-in_err-put_count-clause-hands g c =
 
 pub returns-clause-hands : goal.returns-clause-hands
 returns-clause-hands g c =
-    let z = kept_state c.args.world.now in
+    let z = many_kept c.args.world.now in
     let t1 = lines (kept_swap_text z) 0 c.args.jobs.now in
     let t2 = lines (kept_chain_text z) 0 c.args.names.now in
     let t3 = count_line (finding_count z 0 c.args.jobs.now) in

@@ -3,7 +3,7 @@ use Rattle.std.specs.Prelude.{IfOk}
 use Rattle.swap_base.specs.Fault.{Gives}
 use Rattle.party_answer.specs.declared.given.Answer.{Answer}
 use Rattle.party_answer.specs.declared.reason.AnswerReason.{AnswerReason}
-use Rattle.party_answer.specs.Asked.{Question}
+use Rattle.party_answer.specs.Asked.{PartyQuestion}
 use Rattle.party_answer.specs.Promised.{IsPromisedAnswer}
 use Rattle.party_answer.proofs.Asking.{asks_lines, by_lines, needs_agreement, no_lines}
 use Rattle.party_answer.proofs.answering.answer.Goals as goal
@@ -15,7 +15,7 @@ returns-in-Ok-clause-exact c =
 
 pub returns-in-Ok-clause-promised : goal.returns-in-Ok-clause-promised
 returns-in-Ok-clause-promised c =
-    subst (λ (r : Result Question AnswerReason). IfOk c.answer_lines.result (IsPromisedAnswer r))
+    subst (λ (r : Result PartyQuestion AnswerReason). IfOk c.answer_lines.result (IsPromisedAnswer r))
     (sym (asks_lines c.args.first c.args.name.now c.args.seed.now c.args.text.now _ c.in-Ok.ensures)) c.answer_lines.ensures.promised
 
 pub returns-in-Ok-clause-agreed : goal.returns-in-Ok-clause-agreed

@@ -3,7 +3,7 @@ use Rattle.std.specs.Prelude.{IfOk}
 use Rattle.swap_base.specs.Fault.{Gives}
 use Rattle.party_answer.specs.declared.given.Answer.{Answer}
 use Rattle.party_answer.specs.declared.reason.AnswerReason.{AnswerReason}
-use Rattle.party_answer.specs.Asked.{Question, said_asked}
+use Rattle.party_answer.specs.Asked.{PartyQuestion, said_asked}
 use Rattle.party_answer.specs.Text.{said_answer}
 use Rattle.party_answer.specs.Promised.{IsPromisedAnswer}
 use Rattle.party_answer.proofs.Asking.{lines_give, lines_refused}
@@ -17,7 +17,7 @@ returns-in-Ok-clause-exact c =
 
 pub returns-in-Ok-clause-promised : goal.returns-in-Ok-clause-promised
 returns-in-Ok-clause-promised c =
-    subst (λ (r : Result Question AnswerReason). IfOk c.answer_said.result (IsPromisedAnswer r))
+    subst (λ (r : Result PartyQuestion AnswerReason). IfOk c.answer_said.result (IsPromisedAnswer r))
     (sym (lines_give c.args.first c.args.lines.now _ (said_asked c.args.first c.args.name.now c.args.seed.now) c.in-Ok.ensures.exact))
     c.answer_said.ensures.promised
 

@@ -9,7 +9,7 @@ use Rattle.swap_world.proofs.Team.{role_each}
 use Rattle.typed_books.specs.Books.{IsTypedBook}
 use Rattle.party_threads.specs.declared.turn.Turn.{Turn}
 use Rattle.party_threads.specs.Race.{IsRaceBook}
-use Rattle.party_threads.specs.Standing.{race_book, race_state, Stands}
+use Rattle.party_threads.specs.Standing.{race_book, race_state, StandsHome}
 use Rattle.party_threads.proofs.Racing.{races_are_kept}
 use Rattle.party_threads.proofs.Starting.{first_state, stands_first, cast}
 use Rattle.party_threads.proofs.rounds.race_fitting.Goals as goal
@@ -28,7 +28,7 @@ run_rounds-requires-clause-stands g c = λ κs lives.
     let e = c.in_ok-ledgers.ensures in
     let ls : map (λ (x : LedgerState). Some x) (new_ledgers c.args.job.now.deal) ≡ c.as_mut_slice.result.now = sym (c.as_mut_slice.ensures.value ∙ e) in
     let ts : c.in_ok-turns.turns.items ≡ c.as_mut_slice-2.result.now = sym c.as_mut_slice-2.ensures.value in
-    subst (λ (w : List (Option LedgerState) × List Turn). Stands c.args.job.now w.0 w.1) (λ i. (ls i, ts i))
+    subst (λ (w : List (Option LedgerState) × List Turn). StandsHome c.args.job.now w.0 w.1) (λ i. (ls i, ts i))
     (stands_first c.args.job.now c.in_ok-turns.turns.items c.requires.accepted c.requires.seeds c.requires.roles c.requires.fit
     c.in_ok-turns.ensures)
 

@@ -7,7 +7,7 @@ use Rattle.escrow_core.specs.Terms.{stated_terms}
 use Rattle.ledger_core.specs.History.{accounts, height}
 use Rattle.swap_io.proofs.Handing.{handed_none, handed_on, handed_put, handed_was, hands_after, hands_err, lost_then, lost_was, lost_with, rose_was}
 use Rattle.swap_io.specs.declared.fault.TextFault.TheVariants.{NoMemory}
-use Rattle.report_text.specs.Report.{entry_line, ledger_end, ledger_head}
+use Rattle.report_text.specs.Report.{report_entry_line, ledger_end, ledger_head}
 use Rattle.report_text.proofs.Parts.{all_three, of_ledger, two}
 use Rattle.report_text.proofs.ledgers.write_ledger.Goals as goal
 
@@ -27,7 +27,7 @@ returns-in_err-write_entries g c =
     let a = c.args.number in
     let h = c.args.entries.now in
     let head = ledger_head names a (ends d.graph a) (amount d a) in
-    let middle = lines (entry_line names (stated_terms d a)) 0 h in
+    let middle = lines (report_entry_line names (stated_terms d a)) 0 h in
     let last = ledger_end names (ends d.graph a) (height h) (accounts d a h) in
     hands_err e _ _ _ _ _ _ _ _ (p.1 ∙ ap Err p.2)
     (lost_with e _ _ _ _ _ head middle (last ++ []) _ (handed_put _ _ _ head c.in_ok-put_head.ensures)
@@ -42,7 +42,7 @@ returns-in_err-put_last g c =
     let a = c.args.number in
     let h = c.args.entries.now in
     let head = ledger_head names a (ends d.graph a) (amount d a) in
-    let middle = lines (entry_line names (stated_terms d a)) 0 h in
+    let middle = lines (report_entry_line names (stated_terms d a)) 0 h in
     let last = ledger_end names (ends d.graph a) (height h) (accounts d a h) in
     hands_err NoMemory _ _ _ _ _ _ _ _ (p.1 ∙ ap Err p.2)
     (lost_then _ _ _ _ (head ++ middle) (last ++ []) _
@@ -58,7 +58,7 @@ returns g c =
     let a = c.args.number in
     let h = c.args.entries.now in
     let head = ledger_head names a (ends d.graph a) (amount d a) in
-    let middle = lines (entry_line names (stated_terms d a)) 0 h in
+    let middle = lines (report_entry_line names (stated_terms d a)) 0 h in
     let last = ledger_end names (ends d.graph a) (height h) (accounts d a h) in
     hands_after _ _ _ _ _ _ _ _ _ ((head ++ middle) ++ last) _ c.flush_waiting.result
     (handed_on _ _ _ _ _ _ (head ++ middle) last

@@ -2,7 +2,7 @@ use Rattle.std.proofs.Common.{◌≡◌, ◌<◌, ◌≤◌, ◌∙◌, Err, Lis
 use Rattle.std.proofs.lemmas.Result.{err_from_is_err_and}
 use Rattle.ledger_core.specs.declared.entry.Entry.{Entry}
 use Rattle.swap_io.proofs.Handing.{all_lines, handed_was, hands_err, hands_ok, lost_was, rose_before, rose_was, text_lost, text_on}
-use Rattle.report_text.specs.Report.{ledger_lines}
+use Rattle.report_text.specs.Report.{ledger_report_text}
 use Rattle.report_text.proofs.ledgers.write_ledgers.Goals as goal
 
 pub returns-in_err-write_ledger : goal.returns-in_err-write_ledger
@@ -13,7 +13,7 @@ returns-in_err-write_ledger g c =
     let is : c.entries-item.result ≡ get_or c.args.book.now.histories c.loop-number.number c.entries-item.result =
     c.entries-item.is ∙ ap (λ (b : List (List Entry)). get_or b c.loop-number.number c.entries-item.result) c.as_slice-entries-items.ensures in
     hands_err e _ _ _ _ _ _ _ _ (p.1 ∙ ap Err p.2)
-    (text_lost (ledger_lines c.args.names.now c.args.deal.now) c.args.book.now.histories _ _ _ e _ _ _ c.loop-number.number c.entries-item.result
+    (text_lost (ledger_report_text c.args.names.now c.args.deal.now) c.args.book.now.histories _ _ _ e _ _ _ c.loop-number.number c.entries-item.result
     c.entries-item.result lt is
     (lost_was e _ _ _ _ _ _ _ _ c.in_err-write_ledger.was c.write_ledger.ensures) c.loop-number.invariant.so_far)
     (omega (arith, c.loop-number.invariant.later, c.write_ledger.ensures.later))
@@ -25,7 +25,7 @@ loop-number-preserved g c =
     let is : c.entries-item.result ≡ get_or c.args.book.now.histories c.loop-number.number c.entries-item.result =
     c.entries-item.is ∙ ap (λ (b : List (List Entry)). get_or b c.loop-number.number c.entries-item.result) c.as_slice-entries-items.ensures in
     record {
-      so_far = text_on (ledger_lines c.args.names.now c.args.deal.now) c.args.book.now.histories _ _ _ _ _ _ _ c.loop-number.number c.entries-item.result
+      so_far = text_on (ledger_report_text c.args.names.now c.args.deal.now) c.args.book.now.histories _ _ _ _ _ _ _ c.loop-number.number c.entries-item.result
           c.entries-item.result lt is
           (handed_was _ _ _ _ _ _ _ _ _ c.in_ok-write_ledger.was c.write_ledger.ensures) c.loop-number.invariant.so_far;
       later = omega (arith, c.loop-number.invariant.later, c.write_ledger.ensures.later);
@@ -34,5 +34,5 @@ loop-number-preserved g c =
 pub returns : goal.returns
 returns g c =
     let le : length c.args.book.now.histories ≤ c.loop-number.number = rw c.as_slice-entries-items.ensures at c.loop-number-test.false in
-    hands_ok tt _ _ _ _ _ _ _ _ refl (all_lines (ledger_lines c.args.names.now c.args.deal.now)
+    hands_ok tt _ _ _ _ _ _ _ _ refl (all_lines (ledger_report_text c.args.names.now c.args.deal.now)
     c.args.book.now.histories _ _ _ _ _ c.loop-number.number le c.loop-number.invariant.so_far) c.loop-number.invariant.later

@@ -4,7 +4,7 @@ use Rattle.swap_base.specs.Text.{lines}
 use Rattle.swap_io.specs.Handed.{Handed}
 use Rattle.swap_io.proofs.Handing.{handed_none, handed_on, handed_put, handed_was, hands_err, hands_ok, lost_then, lost_was, lost_with, rose_before, rose_was}
 use Rattle.swap_io.specs.declared.fault.TextFault.TheVariants.{NoMemory}
-use Rattle.report_text.specs.Report.{count_line, finding_line, head_lines, ledger_lines, party_line}
+use Rattle.report_text.specs.Report.{count_line, finding_line, head_lines, ledger_report_text, party_line}
 use Rattle.report_text.proofs.Parts.{all_five, four, of_report, two}
 use Rattle.report_text.proofs.report.write_lines.Goals as goal
 
@@ -23,7 +23,7 @@ returns-in_err-write_book g c =
     let b = c.args.book.now.histories in
     let r = c.args.report.now in
     let t1 = head_lines job.deal in
-    let t2 = lines (ledger_lines job.names job.deal) 0 b in
+    let t2 = lines (ledger_report_text job.names job.deal) 0 b in
     let t3 = lines (party_line job.names job.conforming r.ended) 0 r.outcomes in
     let t4 = lines (λ _. finding_line job.names) 0 r.findings in
     let t5 = count_line (length r.findings) in
@@ -39,7 +39,7 @@ returns-in_err-put_roles g c =
     let b = c.args.book.now.histories in
     let r = c.args.report.now in
     let t1 = head_lines job.deal in
-    let t2 = lines (ledger_lines job.names job.deal) 0 b in
+    let t2 = lines (ledger_report_text job.names job.deal) 0 b in
     let t3 = lines (party_line job.names job.conforming r.ended) 0 r.outcomes in
     let t4 = lines (λ _. finding_line job.names) 0 r.findings in
     let t5 = count_line (length r.findings) in
@@ -56,7 +56,7 @@ returns-in_err-write_found g c =
     let b = c.args.book.now.histories in
     let r = c.args.report.now in
     let t1 = head_lines job.deal in
-    let t2 = lines (ledger_lines job.names job.deal) 0 b in
+    let t2 = lines (ledger_report_text job.names job.deal) 0 b in
     let t3 = lines (party_line job.names job.conforming r.ended) 0 r.outcomes in
     let t4 = lines (λ _. finding_line job.names) 0 r.findings in
     let t5 = count_line (length r.findings) in
@@ -75,7 +75,7 @@ returns-in_err-put_last g c =
     let b = c.args.book.now.histories in
     let r = c.args.report.now in
     let t1 = head_lines job.deal in
-    let t2 = lines (ledger_lines job.names job.deal) 0 b in
+    let t2 = lines (ledger_report_text job.names job.deal) 0 b in
     let t3 = lines (party_line job.names job.conforming r.ended) 0 r.outcomes in
     let t4 = lines (λ _. finding_line job.names) 0 r.findings in
     let t5 = count_line (length r.findings) in
@@ -92,7 +92,7 @@ returns g c =
     let b = c.args.book.now.histories in
     let r = c.args.report.now in
     let t1 = head_lines job.deal in
-    let t2 = lines (ledger_lines job.names job.deal) 0 b in
+    let t2 = lines (ledger_report_text job.names job.deal) 0 b in
     let t3 = lines (party_line job.names job.conforming r.ended) 0 r.outcomes in
     let t4 = lines (λ _. finding_line job.names) 0 r.findings in
     let t5 = count_line (length r.findings) in

@@ -3,8 +3,8 @@ use Rattle.command_input.specs.Input.{desk}
 use Rattle.swap_commands.proofs.Clearings.{against_further, is_cleared}
 use Rattle.swap_commands.proofs.clear.clear_wishes.Goals as goal
 
-pub alone-requires : goal.alone-requires
-alone-requires g c = record { fits = c.in_ok-text.ensures.line.stands.fits }
+pub refuse_further_line-requires : goal.refuse_further_line-requires
+refuse_further_line-requires g c = record { fits = c.in_ok-text.ensures.line.stands.fits }
 
 pub returns-in-Ok-clause-cleared : goal.returns-in-Ok-clause-cleared
 returns-in-Ok-clause-cleared g c = is_cleared _ _ _ _ _ c.in_ok-text.ensures.line c.in_ok-text.ensures.cleared c.in-Ok.ensures.none
@@ -12,7 +12,7 @@ returns-in-Ok-clause-cleared g c = is_cleared _ _ _ _ _ c.in_ok-text.ensures.lin
 pub returns-in-Err-clause-stops : goal.returns-in-Err-clause-stops
 returns-in-Err-clause-stops g c = λ has.
     let mid = desk (g.S.Source.left c.first_wishes.new.source) (g.S.Source.faults c.first_wishes.new.source) c.first_wishes.new.input in
-    let now = desk (g.S.Source.left c.alone.new.source) (g.S.Source.faults c.alone.new.source) c.alone.new.input in
+    let now = desk (g.S.Source.left c.refuse_further_line.new.source) (g.S.Source.faults c.refuse_further_line.new.source) c.refuse_further_line.new.input in
     against_further has _ _ mid now _ c.in_ok-text.ensures.cleared c.in_ok-text.ensures.line c.in-Err.fault c.in-Err.ensures.stops
 
 pub returns-in_err-text-clause-stops : goal.returns-in_err-text-clause-stops

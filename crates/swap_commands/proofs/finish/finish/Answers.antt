@@ -7,7 +7,7 @@ use Rattle.swap_world.specs.Gone.{HasGone}
 use Rattle.swap_world.specs.Actors.{AreHeld}
 use Rattle.swap_world.proofs.Ledgers.{on_ok}
 use Rattle.made_jobs.specs.Generating.{IsJobWorld}
-use Rattle.swap_commands.specs.Output.{finished}
+use Rattle.swap_commands.specs.Output.{finished_state}
 use Rattle.swap_commands.proofs.Replays.{same_cast, stays_finished}
 use Rattle.swap_commands.proofs.finish.finish.Goals as goal
 
@@ -18,12 +18,12 @@ finish_fair-requires g c = record {
 
 pub returns-in-Stop-clause-gone : goal.returns-in-Stop-clause-gone
 returns-in-Stop-clause-gone g c =
-    subst (λ f. HasGone (g.A.Strategies.gives c.args.staff.now) (finished f) c.args.world.now c.args.world.now) (sym c.in-Stop.is)
+    subst (λ f. HasGone (g.A.Strategies.gives c.args.staff.now) (finished_state f) c.args.world.now c.args.world.now) (sym c.in-Stop.is)
     (stays_finished (g.A.Strategies.gives c.args.staff.now) c.args.world.now)
 
 pub returns-in-Fair-clause-gone : goal.returns-in-Fair-clause-gone
 returns-in-Fair-clause-gone g c =
-    on_ok c.finish_fair.result (λ k. subst (λ f. HasGone (g.A.Strategies.gives c.args.staff.now) (finished f) c.args.world.now c.finish_fair.new.self)
+    on_ok c.finish_fair.result (λ k. subst (λ f. HasGone (g.A.Strategies.gives c.args.staff.now) (finished_state f) c.args.world.now c.finish_fair.new.self)
     (sym c.in-Fair.is) k) c.finish_fair.ensures.ok
 
 pub returns-in-Fair-clause-dealt : goal.returns-in-Fair-clause-dealt

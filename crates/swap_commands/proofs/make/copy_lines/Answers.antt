@@ -1,6 +1,6 @@
 use Rattle.std.proofs.Common.{◌≡◌, Err, arith}
 use Rattle.std.proofs.lemmas.Result.{err_from_is_err_and}
-use Rattle.made_jobs.specs.Making.{copied, next_line}
+use Rattle.made_jobs.specs.Making.{copied, next_made_line}
 use Rattle.made_jobs.proofs.Copying.{copied_none, copied_one, step_fails, step_says}
 use Rattle.command_input.specs.Input.{ahead, desk}
 use Rattle.command_input.proofs.Streams.{last_run, led_none, led_on, led_stops, led_to_end, led_to_fault, line_of}
@@ -25,7 +25,7 @@ returns-in_err-count-clause-stops g c =
     let now = desk (g.S.Source.left c.next.new.source) (g.S.Source.faults c.next.new.source) c.next.new.self in
     let p = err_from_is_err_and c.from_residual-in_err-count.result c.from_residual-in_err-count.ensures.1 in
     rw (p.1, p.2)
-    (led_to_fault _ _ _ next_line copied_one _ now _ _ c.in_err-count.field-0.0 c.lines.invariant.led
+    (led_to_fault _ _ _ next_made_line copied_one _ now _ _ c.in_err-count.field-0.0 c.lines.invariant.led
     (line_of _ _ _ c.if-branch.true c.in_ok-next.ensures.gives)
     (step_fails _ _ _ _ _ (rw (c.number.ensures, c.text.ensures) at c.in_err-count.ensures.exact)))
 
@@ -34,7 +34,7 @@ lines-preserved g c =
     let line = line_of _ _ _ c.if-branch.true c.in_ok-next.ensures.gives in
     let says = step_says _ _ _ _ _ _ (rw (c.number.ensures, c.text.ensures) at c.in_ok-count.ensures.exact) in
     record {
-      led = rw says.0 (led_on _ _ _ next_line copied_one _ _ _ _ _ c.lines.invariant.led line says.1);
+      led = rw says.0 (led_on _ _ _ next_made_line copied_one _ _ _ _ _ c.lines.invariant.led line says.1);
       few = c.in_ok-count.ensures.few;
     }
 

@@ -1,7 +1,7 @@
 use Rattle.std.proofs.Common.{◌≡◌, ◌+◌, ◌∙◌, Err, arith, false, is_some, not, sym, ap, subst, refl}
 use Rattle.std.proofs.lemmas.Result.{err_from_is_err_and}
 use Rattle.offer_header.specs.Names.{has_strategy}
-use Rattle.many_lines.specs.Heading.{HeadingState, finish_told, unread}
+use Rattle.many_lines.specs.Heading.{HeadingState, finish_told, nothing_headed}
 use Rattle.many_lines.specs.Whole.{HoldsEverySwap}
 use Rattle.command_input.specs.Input.{At, ahead, desk, fresh}
 use Rattle.swap_commands.specs.Many.{headed}
@@ -16,13 +16,13 @@ lines-init g c =
     let left = g.S.Source.left c.args.source.now in
     let n = g.S.Source.faults c.args.source.now in
     let first : c.args.input.now ≡ fresh = c.requires in
-    let new : c.in_ok-heading.heading ≡ unread = c.in_ok-heading.ensures in
+    let new : c.in_ok-heading.heading ≡ nothing_headed = c.in_ok-heading.ensures in
     record {
       led = (
         0,
-        subst (λ (i : At). Led (heading_walk has) (desk left n fresh) unread (desk left n i) 0 c.in_ok-heading.heading) (sym first)
-            (subst (λ (h : HeadingState). Led (heading_walk has) (desk left n fresh) unread (desk left n fresh) 0 h) (sym new)
-            (led_none (heading_walk has) (desk left n fresh) unread (fits_fresh left fresh refl))),
+        subst (λ (i : At). Led (heading_walk has) (desk left n fresh) nothing_headed (desk left n i) 0 c.in_ok-heading.heading) (sym first)
+            (subst (λ (h : HeadingState). Led (heading_walk has) (desk left n fresh) nothing_headed (desk left n fresh) 0 h) (sym new)
+            (led_none (heading_walk has) (desk left n fresh) nothing_headed (fits_fresh left fresh refl))),
       );
       held = subst (λ (h : HeadingState). HoldsEverySwap has h.many) (sym new) (unread_holds has);
     }

@@ -3,7 +3,7 @@ use Rattle.std.proofs.lemmas.Result.{err_from_is_err_and}
 use Rattle.command_input.specs.Input.{desk}
 use Rattle.swap_job.specs.declared.job.Purpose.TheVariants as purposes
 use Rattle.swap_commands.specs.Words.{Race}
-use Rattle.swap_commands.specs.Replay.{skipped_event, replayed}
+use Rattle.swap_commands.specs.Replay.{skipped_event, folded_events}
 use Rattle.swap_commands.proofs.Reading.{against_event, is_read, race_says}
 use Rattle.swap_commands.proofs.Replays.{held}
 use Rattle.swap_commands.proofs.racing.read_job.Goals as goal
@@ -18,7 +18,7 @@ returns-in_err-job-clause-stops g c = λ ticks transcript.
 
 pub returns-in-Ok-clause-entered : goal.returns-in-Ok-clause-entered
 returns-in-Ok-clause-entered g c =
-    is_read _ purposes.Race (λ job. replayed skipped_event job 0 tt) _ _ _ _ c.in_ok-job.field-0.job tt c.in_ok-job.ensures.line c.in_ok-job.ensures.header
+    is_read _ purposes.Race (λ job. folded_events skipped_event job 0 tt) _ _ _ _ c.in_ok-job.field-0.job tt c.in_ok-job.ensures.line c.in_ok-job.ensures.header
     c.in-Ok.ensures.exact
 
 pub returns-in-Ok-clause-can : goal.returns-in-Ok-clause-can
@@ -41,6 +41,6 @@ returns-in-Err-clause-stops g c = λ ticks transcript.
     let mid = desk (g.S.Source.left c.first_line.new.source) (g.S.Source.faults c.first_line.new.source) c.first_line.new.input in
     let now = desk (g.S.Source.left c.skip_events.new.source) (g.S.Source.faults c.skip_events.new.source) c.skip_events.new.input in
     rw c.with_names.ensures
-    (against_event _ (replayed skipped_event job 0 tt) (Race ticks transcript) (g.S.Source.left c.args.source.now)
+    (against_event _ (folded_events skipped_event job 0 tt) (Race ticks transcript) (g.S.Source.left c.args.source.now)
     (g.S.Source.faults c.args.source.now) mid now job.names
     (race_says _ ticks transcript _ _ job c.in_ok-job.ensures.header) c.in_ok-job.ensures.names c.in_ok-job.ensures.line c.in-Err.fault c.in-Err.ensures.stops)

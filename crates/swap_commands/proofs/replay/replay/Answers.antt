@@ -8,7 +8,7 @@ use Rattle.command_input.specs.Input.{ahead, desk}
 use Rattle.command_input.proofs.Ahead.{stands_none}
 use Rattle.command_input.proofs.Streams.{no_memory_after, stops_as}
 use Rattle.swap_commands.specs.Output.{command_cast}
-use Rattle.swap_commands.specs.Replay.{replayed, skipped_event}
+use Rattle.swap_commands.specs.Replay.{folded_events, skipped_event}
 use Rattle.swap_commands.specs.Walk.{lines_told}
 use Rattle.swap_commands.proofs.Replays.{has_asked, is_of_new, leads_to, replayed_refused}
 use Rattle.swap_commands.proofs.Walks.{ends_as}
@@ -36,7 +36,7 @@ returns-in_err-walk-clause-stops g c =
     let p = err_from_is_err_and c.from_residual-in_err-walk.result c.from_residual-in_err-walk.ensures.1 in
     rw (p.1, p.2)
     (stops_as (λ bytes r. lines_told (limited_event job) 0 (ahead c.args.input.now bytes) ≡ Err r)
-    (λ bytes r. replayed skipped_event job 0 tt (ahead c.args.input.now bytes) ≡ Err r)
+    (λ bytes r. folded_events skipped_event job 0 tt (ahead c.args.input.now bytes) ≡ Err r)
     (λ bytes r e. replayed_refused skipped_event job tt (ahead c.args.input.now bytes) r e) _ now _ c.in_err-walk.ensures.stops)
 
 pub returns-clause-exact : goal.returns-clause-exact
@@ -44,7 +44,7 @@ returns-clause-exact g c = λ a x.
     let job = c.args.job.now in
     let k = c.in_ok-walk.ensures.walked in
     ends_as (λ bytes. lines_told (limited_event job) 0 (ahead c.args.input.now bytes) ≡ Ok k.events)
-    (λ bytes. replayed (step (command_cast a job)) job 0 (start (job_cast job)) (ahead c.args.input.now bytes) ≡ Ok c.walk.new.walker.state)
+    (λ bytes. folded_events (step (command_cast a job)) job 0 (start (job_cast job)) (ahead c.args.input.now bytes) ≡ Ok c.walk.new.walker.state)
     (λ bytes e. leads_to (g.A.Strategies.gives c.args.staff.now) job c.in_ok-world.world c.walk.new.walker c.in_ok-world.ensures.new k.events k.stepped a x
     (ahead c.args.input.now bytes) e)
     _ _ k.are_told

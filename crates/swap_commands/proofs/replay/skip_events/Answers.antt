@@ -4,7 +4,7 @@ use Rattle.swap_many.proofs.Gone.{on_ok}
 use Rattle.swap_offer.specs.Job.{limited_event}
 use Rattle.command_input.specs.Input.{ahead, desk}
 use Rattle.command_input.proofs.Streams.{stops_as}
-use Rattle.swap_commands.specs.Replay.{replayed, skipped_event}
+use Rattle.swap_commands.specs.Replay.{folded_events, skipped_event}
 use Rattle.swap_commands.specs.Walk.{lines_told}
 use Rattle.swap_commands.proofs.Replays.{replayed_refused, skipped_told}
 use Rattle.swap_commands.proofs.Walks.{ends_as}
@@ -15,7 +15,7 @@ returns-clause-exact g c =
     let job = c.args.job.now in
     on_ok c.walk.result
     (λ k. ends_as (λ bytes. lines_told (limited_event job) 0 (ahead c.args.input.now bytes) ≡ Ok k.events)
-    (λ bytes. replayed skipped_event job 0 tt (ahead c.args.input.now bytes) ≡ Ok tt)
+    (λ bytes. folded_events skipped_event job 0 tt (ahead c.args.input.now bytes) ≡ Ok tt)
     (λ bytes e. skipped_told job (ahead c.args.input.now bytes) k.events e) _ _ k.are_told)
     c.walk.ensures.walked
 
@@ -25,6 +25,6 @@ returns-clause-stops g c =
     let now = desk (g.S.Source.left c.walk.new.source) (g.S.Source.faults c.walk.new.source) c.walk.new.input in
     IfErr-weaker c.walk.result _ _
     (λ f h. stops_as (λ bytes r. lines_told (limited_event job) 0 (ahead c.args.input.now bytes) ≡ Err r)
-    (λ bytes r. replayed skipped_event job 0 tt (ahead c.args.input.now bytes) ≡ Err r)
+    (λ bytes r. folded_events skipped_event job 0 tt (ahead c.args.input.now bytes) ≡ Err r)
     (λ bytes r e. replayed_refused skipped_event job tt (ahead c.args.input.now bytes) r e) _ now f h)
     c.walk.ensures.stops

@@ -6,7 +6,7 @@ use Rattle.swap_world.specs.Cast.{job_cast}
 use Rattle.swap_job.specs.declared.job.Purpose.TheVariants as purposes
 use Rattle.swap_commands.specs.Words.{Run}
 use Rattle.swap_commands.specs.Output.{command_cast}
-use Rattle.swap_commands.specs.Replay.{skipped_event, replayed}
+use Rattle.swap_commands.specs.Replay.{skipped_event, folded_events}
 use Rattle.swap_commands.proofs.Reading.{against_event, is_read, run_says}
 use Rattle.swap_commands.proofs.Replays.{held}
 use Rattle.swap_commands.proofs.run.play.Goals as goal
@@ -24,7 +24,7 @@ returns-in_err-job-clause-stops g c =
 
 pub returns-in-Ok-clause-played : goal.returns-in-Ok-clause-played
 returns-in-Ok-clause-played g c = λ a x.
-    is_read _ purposes.Run (λ job. replayed (step (command_cast a job)) job 0 (start (job_cast job)))
+    is_read _ purposes.Run (λ job. folded_events (step (command_cast a job)) job 0 (start (job_cast job)))
     _ _ _ _ c.in_ok-job.field-0.job c.in-Ok.world.state c.in_ok-job.ensures.line c.in_ok-job.ensures.header (c.in-Ok.ensures.exact a x)
 
 pub returns-in-Ok-clause-held : goal.returns-in-Ok-clause-held
@@ -36,6 +36,6 @@ returns-in-Err-clause-stops g c =
     let mid = desk (g.S.Source.left c.first_line.new.source) (g.S.Source.faults c.first_line.new.source) c.first_line.new.input in
     let now = desk (g.S.Source.left c.replay.new.source) (g.S.Source.faults c.replay.new.source) c.replay.new.input in
     rw c.with_names.ensures
-    (against_event _ (replayed skipped_event job 0 tt) (Run c.args.transcript) (g.S.Source.left c.args.source.now)
+    (against_event _ (folded_events skipped_event job 0 tt) (Run c.args.transcript) (g.S.Source.left c.args.source.now)
     (g.S.Source.faults c.args.source.now) mid now job.names
     (run_says _ c.args.transcript _ _ job c.in_ok-job.ensures.header) c.in_ok-job.ensures.names c.in_ok-job.ensures.line c.in-Err.fault c.in-Err.ensures.stops)

@@ -4,7 +4,7 @@ use Rattle.swap_world.proofs.Idle.{any_default}
 use Rattle.swap_many.specs.Chains.{Setup}
 use Rattle.swap_many.specs.Kept.{Kept}
 use Rattle.swap_many.specs.Fair.{kept_look, kept_looks}
-use Rattle.swap_many.specs.Value.{made_setup, kept_state}
+use Rattle.swap_many.specs.Value.{made_setup, many_kept}
 use Rattle.swap_many.proofs.Gone.{deal_gone, gone_as, list_done, list_on, list_stops, on_gone, party_gone, stopped_as}
 use Rattle.swap_many.proofs.Turning.{look_leads, may_look}
 use Rattle.swap_world.proofs.Ways.{if_err}
@@ -47,7 +47,7 @@ returns-in_err-happen-clause-err g c =
     let near = c.args.near.now in
     let k = c.arcs.arc-index in
     if_err _ (stopped_as gives (λ m z. fold (kept_look c.args.swap c.args.p m) z near) (kept_looks c.args.swap c.args.p) w c.happen.new.self
-    (λ a. ap (λ (xs : List ℕ). fold (kept_look c.args.swap c.args.p (made_setup w a)) (kept_state w) xs) c.requires.near)
+    (λ a. ap (λ (xs : List ℕ). fold (kept_look c.args.swap c.args.p (made_setup w a)) (many_kept w) xs) c.requires.near)
     (list_stops gives (kept_look c.args.swap c.args.p) w c.arcs.worlds c.happen.new.self near k (slice_index near k) c.arcs.invariant c.arcs-test.true
     (any_default near k 0 (slice_index near k) c.arcs-test.true) c.requires.on.ready
     (look_leads w c.requires.on.ready c.args.swap c.args.p near c.requires.party c.requires.near) c.in_err-happen.ensures.err))
@@ -58,5 +58,5 @@ returns-clause-ok g c =
     let w = c.args.worlds.now in
     let near = c.args.near.now in
     gone_as gives (λ m z. fold (kept_look c.args.swap c.args.p m) z near) (kept_looks c.args.swap c.args.p) w c.arcs.worlds
-    (λ a. ap (λ (xs : List ℕ). fold (kept_look c.args.swap c.args.p (made_setup w a)) (kept_state w) xs) c.requires.near)
+    (λ a. ap (λ (xs : List ℕ). fold (kept_look c.args.swap c.args.p (made_setup w a)) (many_kept w) xs) c.requires.near)
     (list_done gives (kept_look c.args.swap c.args.p) w c.arcs.worlds near c.arcs.arc-index c.arcs-test.false c.arcs.invariant)

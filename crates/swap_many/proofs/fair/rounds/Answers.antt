@@ -4,7 +4,7 @@ use Rattle.swap_many.specs.Many.{last_horizon}
 use Rattle.swap_many.specs.Chains.{Setup}
 use Rattle.swap_many.specs.Kept.{Kept}
 use Rattle.swap_many.specs.Fair.{kept_round_or_rest, kept_rounds, have_ended}
-use Rattle.swap_many.specs.Value.{HasManyGone, kept_state, world_setup}
+use Rattle.swap_many.specs.Value.{HasManyGone, many_kept, world_setup}
 use Rattle.swap_many.proofs.Values.{same_setup_of}
 use Rattle.swap_many.proofs.Gone.{begun, gone_as, on_gone, repeat_rests, stopped_as}
 use Rattle.swap_many.proofs.Nearby.{near_gone}
@@ -69,7 +69,7 @@ returns-then-have_ended-clause-ok g c =
     let mid = c.rounds.worlds in
     let all = last_horizon (world_setup w) + 1 in
     let part = λ (m : Setup) (z : Kept). repeat (last_horizon (world_setup w) + 1) (kept_round_or_rest m) z in
-    let ended : have_ended (world_setup mid) (kept_state mid) ≡ true = sym c.have_ended.ensures ∙ c.if-have_ended.true in
+    let ended : have_ended (world_setup mid) (many_kept mid) ≡ true = sym c.have_ended.ensures ∙ c.if-have_ended.true in
     gone_as gives part kept_rounds w mid (λ a. refl)
     (repeat_rests gives kept_round_or_rest w mid mid all (all - c.rounds.left) c.rounds.invariant.gone (omega arith) (λ a. lemmas.rests mid a ended))
 

@@ -1,7 +1,7 @@
 use Rattle.std.proofs.Common.{◌<◌, ◌≤◌, length, fold, take, arith}
 use Rattle.std.specs.List.{range_with_len}
 use Rattle.swap_many.specs.Fair.{kept_swap_sweeps, kept_sweeps}
-use Rattle.swap_many.specs.Value.{kept_state, made_setup}
+use Rattle.swap_many.specs.Value.{many_kept, made_setup}
 use Rattle.swap_many.proofs.Gone.{gone_as, on_gone}
 use Rattle.swap_many.proofs.Gone.{range_on, range_done}
 use Rattle.swap_many.proofs.Turning as lemmas
@@ -26,5 +26,5 @@ returns g c =
     let w = c.args.worlds.now in
     let l : length w.worlds ≤ c.each.swap = omega (arith, c.each-test.false, c.swaps-swap-end.ensures) in
     gone_as gives (λ m z. fold (kept_swap_sweeps m) z (range_with_len 0 (length w.worlds))) kept_sweeps w c.each.worlds
-    (λ a. lemmas.sweeps_are (made_setup w a) (kept_state w))
+    (λ a. lemmas.sweeps_are (made_setup w a) (many_kept w))
     (range_done gives kept_swap_sweeps w c.each.worlds (length w.worlds) c.each.swap l c.each.invariant)

@@ -1,7 +1,7 @@
 use Rattle.std.proofs.Common.{◌≡◌, ◌<◌, ◌≤◌, ◌-◌, ◌++◌, ◌∷◌, [], ℕ, List, Err, arith, length, slice_index_or, sym, ap, ap₂, ◌∙◌, subst}
 use Rattle.swap_digraph.proofs.Ranges.{map_more}
 use Rattle.swap_many.specs.declared.overdrawn.Overdrawn.{Overdrawn}
-use Rattle.swap_many.specs.Chains.{opening, set_aside, first_free}
+use Rattle.swap_many.specs.Chains.{opening_units, set_aside, first_free}
 use Rattle.swap_many.specs.Opened.{account_lack}
 use Rattle.swap_many.specs.Opening.{setup_of_worlds, new_chain, opened_or}
 use Rattle.swap_many.proofs.Values.{item_is}
@@ -16,9 +16,9 @@ returns-then-have-wanted c =
     let inv = c.accounts.invariant in
     let units : c.as_slice-opening.result.now ≡ slice_index_or c.args.chains.now i [] =
     c.as_slice-opening.ensures ∙ item_is c.args.chains.now i [] c.index-chains-chain.result c.requires.chain c.index-chains-chain.is in
-    let have : slice_index_or c.as_slice-opening.result.now x 0 ≡ opening m i x = ap (λ (xs : List ℕ). slice_index_or xs x 0) units in
+    let have : slice_index_or c.as_slice-opening.result.now x 0 ≡ opening_units m i x = ap (λ (xs : List ℕ). slice_index_or xs x 0) units in
     let l : x < length (slice_index_or c.args.chains.now i []) = subst (λ (xs : List ℕ). x < length xs) units c.accounts-test.true in
-    let less : opening m i x < set_aside m i x = rw (← have, ← c.aside-wanted.ensures) c.if-have-wanted.true in
+    let less : opening_units m i x < set_aside m i x = rw (← have, ← c.aside-wanted.ensures) c.if-have-wanted.true in
     ap (λ o. opened_or o (new_chain m i)) (first_here (account_lack m i) (length (slice_index_or c.args.chains.now i [])) x _ l inv.0 (lacks m i x less))
     ∙ ap₂ (λ h k. Err (let y : Overdrawn = record { chain = i; account = x; have = h; wanted = k } in y)) (sym have) (sym c.aside-wanted.ensures)
 
@@ -30,8 +30,8 @@ accounts-preserved c =
     let inv = c.accounts.invariant in
     let units : c.as_slice-opening.result.now ≡ slice_index_or c.args.chains.now i [] =
     c.as_slice-opening.ensures ∙ item_is c.args.chains.now i [] c.index-chains-chain.result c.requires.chain c.index-chains-chain.is in
-    let have : slice_index_or c.as_slice-opening.result.now x 0 ≡ opening m i x = ap (λ (xs : List ℕ). slice_index_or xs x 0) units in
-    let enough : set_aside m i x ≤ opening m i x = rw (← have, ← c.aside-wanted.ensures) c.if-have-wanted.false in (
+    let have : slice_index_or c.as_slice-opening.result.now x 0 ≡ opening_units m i x = ap (λ (xs : List ℕ). slice_index_or xs x 0) units in
+    let enough : set_aside m i x ≤ opening_units m i x = rw (← have, ← c.aside-wanted.ensures) c.if-have-wanted.false in (
       first_next (account_lack m i) x inv.0 (lacks_none m i x enough),
       map_more (first_free m i) x c.accounts.free.items c.push.new.self.items
           (c.in_ok-push.ensures.items ∙ ap₂ (λ (h k : ℕ). c.accounts.free.items ++ (h - k) ∷ []) have c.aside-wanted.ensures) inv.1,

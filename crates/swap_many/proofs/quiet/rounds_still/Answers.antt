@@ -1,7 +1,7 @@
 use Rattle.std.proofs.Common.{◌≡◌, ◌≢◌, ◌⊎◌, inl, inr, ℕ, ◌<◌, ◌+◌, [], arith, sym, ap, ◌∙◌, subst}
 use Rattle.swap_rules.proofs.Prefixes.{same_or_not}
 use Rattle.swap_world.specs.Near.{all_adjacent}
-use Rattle.swap_world.specs.Quiet.{IsStill}
+use Rattle.swap_world.specs.Quiet.{IsQuietState}
 use Rattle.swap_world.specs.Value.{WorldState, world_cast}
 use Rattle.swap_many.specs.Ticking.{nth}
 use Rattle.swap_many.specs.Value.{no_world}
@@ -45,10 +45,10 @@ swaps-preserved c =
     record {
       few = omega (arith, less, few);
       still = λ more s l.
-          next (λ s. IsStill (world_cast (nth ws s)) n (nth ws s).state) k s
+          next (λ s. IsQuietState (world_cast (nth ws s)) n (nth ws s).state) k s
           (λ low. still_less (world_cast (nth ws s)) c.swaps.rounds n (nth ws s).state less
           (c.swaps.invariant.still (omega (arith, more, less)) s low))
-          (subst (λ (y : WorldState). IsStill (world_cast y) n y.state) here (c.rest_rounds-rounds.ensures.still more)) l (same_or_not s k);
+          (subst (λ (y : WorldState). IsQuietState (world_cast y) n y.state) here (c.rest_rounds-rounds.ensures.still more)) l (same_or_not s k);
     }
 
 pub returns-clause-still : goal.returns-clause-still

@@ -1,5 +1,5 @@
 use Rattle.std.proofs.Common.{◌≡◌, ◌+◌, ◌-◌, true, arith, sym, ◌∙◌, subst}
-use Rattle.swap_run.specs.Fair.{repeat, the_horizon, has_ended, round_unless_ended}
+use Rattle.swap_run.specs.Fair.{repeat, the_horizon, is_above_horizon, round_unless_ended}
 use Rattle.swap_world.specs.Value.{answering_cast}
 use Rattle.swap_world.specs.Gone.{HasGone}
 use Rattle.swap_world.specs.Near.{all_adjacent}
@@ -34,7 +34,7 @@ advance-requires-clause-goes_on g c =
     c.rounds.invariant.gone c.requires.goes_on
 
 pub advance-requires-clause-low : goal.advance-requires-clause-low
-advance-requires-clause-low g c = sym c.has_ended.ensures ∙ c.if-has_ended.false
+advance-requires-clause-low g c = sym c.is_above_horizon.ensures ∙ c.if-is_above_horizon.false
 
 pub advance-requires-clause-held : goal.advance-requires-clause-held
 advance-requires-clause-held g c =
@@ -55,13 +55,13 @@ rounds-preserved g c =
           i.gone c.in_ok-taken.ensures.ok;
     }
 
-pub returns-then-has_ended-clause-ok : goal.returns-then-has_ended-clause-ok
-returns-then-has_ended-clause-ok g c =
+pub returns-then-is_above_horizon-clause-ok : goal.returns-then-is_above_horizon-clause-ok
+returns-then-is_above_horizon-clause-ok g c =
     let gives = g.A.Strategies.gives c.args.staff.now in
     let w = c.args.world.now in
     let mid = c.rounds.world in
     let all = the_horizon w.deal + 1 in
-    let e : has_ended mid.deal mid.state.book ≡ true = sym c.has_ended.ensures ∙ c.if-has_ended.true in
+    let e : is_above_horizon mid.deal mid.state.book ≡ true = sym c.is_above_horizon.ensures ∙ c.if-is_above_horizon.true in
     finish_is gives w mid (repeat_rests gives round_unless_ended w mid mid all (all - c.rounds.left) c.rounds.invariant.gone (omega arith)
     (λ a. is_rest (answering_cast mid a) mid.state e))
 

@@ -9,7 +9,7 @@ use Rattle.party_machine.specs.Recording.{signs_next, MayHave}
 use Rattle.swap_run.specs.Run.{recorded_hashkeys}
 use Rattle.swap_world.proofs.Ledgers.{on_err, on_ok}
 use Rattle.swap_world.proofs.Disks.{any_result, crashed_between, resumed_between}
-use Rattle.swap_world.specs.Journals.{IsBetween}
+use Rattle.swap_world.specs.Journals.{IsDiskDuringSigning}
 use Rattle.swap_world.proofs.Restarts.{recorded_as}
 use Rattle.swap_world.proofs.journals.restart.Goals as goal
 
@@ -56,6 +56,6 @@ returns-clause-between c =
     any_result c.restart.result
     (on_ok c.restart.result (λ e. resumed_between m.signed after shown h h' bytes c.begin.ensures.between c.crash.ensures.left places
     c.in_ok-crash.ensures.shown c.in_ok-crash.ensures.durable c.restart.new.self.signed (ap (λ (x : MachineState). x.signed) e)) c.restart.ensures.ok)
-    (on_err c.restart.result (λ (e : c.restart.new.self ≡ c.begin.new.machine). subst (λ (x : MachineState). IsBetween m.signed x.signed h') (sym e)
+    (on_err c.restart.result (λ (e : c.restart.new.self ≡ c.begin.new.machine). subst (λ (x : MachineState). IsDiskDuringSigning m.signed x.signed h') (sym e)
     (crashed_between m.signed after shown h h' bytes c.begin.ensures.between c.crash.ensures.left places c.in_ok-crash.ensures.shown
     c.in_ok-crash.ensures.durable)) c.restart.ensures.err)

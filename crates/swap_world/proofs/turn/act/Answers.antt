@@ -1,6 +1,6 @@
 use Rattle.std.proofs.Common.{◌<◌, ℕ, List, length, Option, arith, inr, sym, ap, ◌∙◌, subst}
 use Rattle.wallet_journal.specs.Stopped.{ShowsAll}
-use Rattle.swap_world.specs.Journals.{IsBetween}
+use Rattle.swap_world.specs.Journals.{IsDiskDuringSigning}
 use Rattle.hashkey_path.specs.declared.hashkey.Hashkey.{Hashkey}
 use Rattle.swap_world.specs.Inside.{IsArcLedger}
 use Rattle.swap_world.proofs.Ledgers.{history_at}
@@ -110,5 +110,5 @@ returns-in_err-told-in-Some-clause-made c =
 
 pub returns-in_err-told-in-Some-clause-between : goal.returns-in_err-told-in-Some-clause-between
 returns-in_err-told-in-Some-clause-between c =
-    if_err _ (subst (λ (l : List (Option Hashkey)). IsBetween c.args.machine.now.signed l c.next.new.journal.disk.held) (sym c.make_due.ensures.signed)
+    if_err _ (subst (λ (l : List (Option Hashkey)). IsDiskDuringSigning c.args.machine.now.signed l c.next.new.journal.disk.held) (sym c.make_due.ensures.signed)
     c.next.ensures.between)

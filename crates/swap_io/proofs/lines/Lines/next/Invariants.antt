@@ -1,10 +1,10 @@
 use Rattle.std.proofs.Common.{◌≡◌, ◌≤◌, ◌+◌, ◌-◌, ◌++◌, length, ℕ, List, IsTrue}
-use Rattle.swap_io.specs.Lines.{Took, lacks_feed}
+use Rattle.swap_io.specs.Lines.{TookFromSource, lacks_feed}
 use Rattle.swap_io.proofs.lines.Lines.next.Given as goal
 
 abbrev pub invariant-parts : goal.invariant-parts
 invariant-parts g l = record {
-  read : (bytes : List ℕ) × Took (g.S.Source.left l.fn.source) (g.S.Source.left l.source) l.fn.self l.self bytes
+  read : (bytes : List ℕ) × TookFromSource (g.S.Source.left l.fn.source) (g.S.Source.left l.source) l.fn.self l.self bytes
       × (l.fn.self.kept ++ bytes ≡ l.line.items ++ l.self.kept);
   one : IsTrue (lacks_feed l.line.items);
   no_more : length l.self.kept + l.fn.self.taken ≤ length l.fn.self.kept + l.self.taken;

@@ -2,7 +2,7 @@ use Rattle.std.proofs.Common.{◌≡◌, true, map, sym, ◌∙◌}
 use Rattle.std.proofs.lemmas.Bool.{false≢true}
 use Rattle.swap_many.specs.Kept.{kept_finish}
 use Rattle.swap_many.specs.Stages.{Finished, stretch_stages}
-use Rattle.swap_many.specs.Whole.{inside_many_job}
+use Rattle.swap_many.specs.Whole.{inside_many_state}
 use Rattle.swap_many.proofs.Gone.{on_ok, stopped_before}
 use Rattle.swap_many.proofs.Runs as lemmas
 use Rattle.swap_many.proofs.many_world.ManyWorld.finish_fair.Given as given
@@ -11,12 +11,12 @@ use Rattle.swap_many.proofs.many_world.ManyWorld.finish_fair.Goals.{After-finish
 
 -- the worlds after the fair finish, and what came before it
 taken : (g : given.Over) (c : goal.After-finish-done g)
-    → lemmas.HasTaken (g.A.Strategies.gives c.args.staff.now) kept_finish Finished (inside_many_job c.self.inside)
+    → lemmas.HasTaken (g.A.Strategies.gives c.args.staff.now) kept_finish Finished (inside_many_state c.self.inside)
     (record c.finish-done.new.worlds { stages = stretch_stages (map (λ p. p.items) c.and-stretches.result.items) c.new-self-inside.result.items })
     c.finish-done.result
 taken g c =
     let i = c.self.inside in
-    let w = inside_many_job i in
+    let w = inside_many_state i in
     lemmas.has_taken (g.A.Strategies.gives c.args.staff.now) kept_finish Finished i.worlds c.finish-done.new.worlds w.stages
     (stretch_stages (map (λ p. p.items) c.and-stretches.result.items) c.new-self-inside.result.items) c.finish-done.result
     (lemmas.finish_is_stage w c.self.invariant.whole.ready) c.self.invariant.runs
@@ -25,7 +25,7 @@ taken g c =
 
 pub returns-then-is_stopped-clause-err : goal.returns-then-is_stopped-clause-err
 returns-then-is_stopped-clause-err g c =
-    let w = inside_many_job c.self.inside in
+    let w = inside_many_state c.self.inside in
     let stopped : w.stopped ≡ true = sym c.is_stopped.ensures ∙ c.if-is_stopped.true in
     rw (← c.self.view_is)
     (stopped_before (g.A.Strategies.gives c.args.staff.now) kept_finish w stopped c.self.invariant.whole.ready
@@ -66,5 +66,5 @@ returns-clause-cut g c =
 
 pub returns-then-is_stopped-clause-cut : goal.returns-then-is_stopped-clause-cut
 returns-then-is_stopped-clause-cut g c =
-    let stopped : (inside_many_job c.self.inside).stopped ≡ true = sym c.is_stopped.ensures ∙ c.if-is_stopped.true in
+    let stopped : (inside_many_state c.self.inside).stopped ≡ true = sym c.is_stopped.ensures ∙ c.if-is_stopped.true in
     rw (← c.self.view_is) (λ on. absurd (false≢true (sym on ∙ stopped)))

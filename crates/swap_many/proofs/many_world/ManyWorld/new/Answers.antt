@@ -1,11 +1,11 @@
 use Rattle.std.proofs.Common.{◌≡◌, List, [], Ok, map, sym, ap₂, subst}
 use Rattle.swap_many.specs.Many.{many_start}
-use Rattle.swap_many.specs.Laws.{IsReady}
+use Rattle.swap_many.specs.Laws.{IsReadySetup}
 use Rattle.swap_many.specs.Sound.{Keeps}
 use Rattle.swap_many.specs.Opened.{overdrawn}
 use Rattle.swap_many.specs.Opening.{setup_of_worlds, new_many, opened}
 use Rattle.swap_many.specs.Stages.{Stage, stretch_stages, staged_run}
-use Rattle.swap_many.specs.Value.{ManyState, made_setup, kept_state}
+use Rattle.swap_many.specs.Value.{ManyState, made_setup, many_kept}
 use Rattle.swap_many.proofs.Begun.{was_opened}
 use Rattle.swap_many.proofs.Starting.{start_keeps}
 use Rattle.swap_many.proofs.Runs.{whole_staged}
@@ -24,7 +24,7 @@ invariant_of-result c =
     record {
       whole = whole_staged made ys c.keep.ensures;
       runs =
-          λ on g more. subst (λ (xs : List Stage). Keeps (made_setup made g) (staged_run (made_setup made g) xs) (kept_state made)) (sym none)
-          (subst (λ (v : ManyState). Keeps (made_setup v g) (many_start (made_setup v g)) (kept_state v)) (sym k.1)
-          (start_keeps cs ws ps c.requires g (subst (λ (v : ManyState). IsReady (made_setup v g)) k.1 (c.keep.ensures.ready g))));
+          λ on g more. subst (λ (xs : List Stage). Keeps (made_setup made g) (staged_run (made_setup made g) xs) (many_kept made)) (sym none)
+          (subst (λ (v : ManyState). Keeps (made_setup v g) (many_start (made_setup v g)) (many_kept v)) (sym k.1)
+          (start_keeps cs ws ps c.requires g (subst (λ (v : ManyState). IsReadySetup (made_setup v g)) k.1 (c.keep.ensures.ready g))));
     }

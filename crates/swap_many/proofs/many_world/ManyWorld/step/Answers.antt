@@ -5,7 +5,7 @@ use Rattle.swap_many.specs.Kept.{kept_done}
 use Rattle.swap_many.specs.Laws.{CanCome}
 use Rattle.swap_many.specs.Stages.{Came, stretch_stages}
 use Rattle.swap_many.specs.Value.{world_setup}
-use Rattle.swap_many.specs.Whole.{inside_many_job}
+use Rattle.swap_many.specs.Whole.{inside_many_state}
 use Rattle.swap_many.proofs.Gone.{stopped_before}
 use Rattle.swap_many.proofs.Runs as lemmas
 use Rattle.swap_many.proofs.many_world.ManyWorld.step.Given as given
@@ -15,11 +15,11 @@ use Rattle.swap_many.proofs.many_world.ManyWorld.step.Goals.{After-step-done}
 -- the worlds after the event, and what came before it
 taken : (g : given.Over) (c : goal.After-step-done g)
     → lemmas.HasTaken (g.A.Strategies.gives c.args.staff.now) (λ m z. kept_done false m z c.args.event.now) (Came c.args.event.now)
-    (inside_many_job c.self.inside)
+    (inside_many_state c.self.inside)
     (record c.step-done.new.self { stages = stretch_stages (map (λ p. p.items) c.self.inside.stretches.items) c.and-events.result.items }) c.step-done.result
 taken g c =
     let i = c.self.inside in
-    let w = inside_many_job i in
+    let w = inside_many_state i in
     let e = c.args.event.now in
     let can : CanCome (world_setup w) e = rw (← c.self.view_is) at c.requires.event in
     let xs : List (List ManyEvent) = map (λ p. p.items) i.stretches.items in
@@ -30,7 +30,7 @@ taken g c =
 
 pub returns-then-is_stopped-clause-err : goal.returns-then-is_stopped-clause-err
 returns-then-is_stopped-clause-err g c =
-    let w = inside_many_job c.self.inside in
+    let w = inside_many_state c.self.inside in
     let e = c.args.event.now in
     let can : CanCome (world_setup w) e = rw (← c.self.view_is) at c.requires.event in
     let stopped : w.stopped ≡ true = sym c.is_stopped.ensures ∙ c.if-is_stopped.true in
@@ -49,7 +49,7 @@ returns-clause-ok g c = rw (← c.self.view_is) (taken g (goal.at.returns-clause
 pub returns-clause-reply : goal.returns-clause-reply
 returns-clause-reply g c =
     let t = taken g (goal.at.returns-clause-reply g c).After-step-done in
-    let can : CanCome (world_setup (inside_many_job c.self.inside)) c.args.event.now = rw (← c.self.view_is) at c.requires.event in
+    let can : CanCome (world_setup (inside_many_state c.self.inside)) c.args.event.now = rw (← c.self.view_is) at c.requires.event in
     rw (← c.self.view_is)
     (lemmas.then_reply _ _ _ _ c.args.event.now c.step-done.result c.self.invariant.whole.ready can c.self.invariant.runs t.on t.ok c.step-done.ensures.reply)
 
@@ -70,5 +70,5 @@ returns-clause-cut g c =
 
 pub returns-then-is_stopped-clause-cut : goal.returns-then-is_stopped-clause-cut
 returns-then-is_stopped-clause-cut g c =
-    let stopped : (inside_many_job c.self.inside).stopped ≡ true = sym c.is_stopped.ensures ∙ c.if-is_stopped.true in
+    let stopped : (inside_many_state c.self.inside).stopped ≡ true = sym c.is_stopped.ensures ∙ c.if-is_stopped.true in
     rw (← c.self.view_is) (λ on. absurd (false≢true (sym on ∙ stopped)))

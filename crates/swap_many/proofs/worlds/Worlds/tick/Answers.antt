@@ -1,6 +1,6 @@
 use Rattle.std.proofs.Common.{◌≡◌, ◌<◌, false, [], length, sym, ap, ◌∙◌, subst}
 use Rattle.swap_many.specs.Accounts.{ChainState}
-use Rattle.swap_many.specs.Chains.{has_no_tick, is_done}
+use Rattle.swap_many.specs.Chains.{has_no_tick, is_accepted_deed}
 use Rattle.swap_many.specs.Kept.{later}
 use Rattle.swap_many.specs.Laws.{CanTickChain}
 use Rattle.swap_many.specs.Ticking.{AreTickable, AreTicked, some_stopped}
@@ -43,7 +43,7 @@ ticked g c =
     let y = c.index_mut.result.now in
     let here = item_is w.chains i no_chain y low c.index_mut.ensures.value in
     let has = has_room y.clock.ticks y.clock.height c.args.k
-    (sym (ap is_done c.tick-reply.ensures.reply) ∙ (sym c.is_accepted.ensures ∙ c.if-not-is_accepted.false)) in
+    (sym (ap is_accepted_deed c.tick-reply.ensures.reply) ∙ (sym c.is_accepted.ensures ∙ c.if-not-is_accepted.false)) in
     let room = subst (λ (y : ChainState). has_no_tick y.clock.ticks y.clock.height c.args.k ≡ false) here has in
     let clock = subst (λ (y : ChainState). c.tick-reply.new.self ≡ record y { clock = later y.clock c.args.k }) here (c.tick-reply.ensures.ticked has) in
     let all = subst (λ xs. AreTicked xs c.args.k (length w.worlds) w.worlds c.tick_worlds.new.worlds.items) there c.tick_worlds.ensures in

@@ -4,7 +4,7 @@ use Rattle.ledger_core.specs.Value.{LedgerState}
 use Rattle.ledger_core.specs.History.{height}
 use Rattle.ledger_core.specs.Book.{history}
 use Rattle.swap_run.specs.Asked.{Answers}
-use Rattle.swap_run.specs.Fair.{has_ended}
+use Rattle.swap_run.specs.Fair.{is_above_horizon}
 use Rattle.swap_run.specs.Steps.{IsSkipped}
 use Rattle.swap_world.specs.Value.{WorldState, answering_cast}
 use Rattle.swap_world.specs.Acting.{histories}
@@ -22,7 +22,7 @@ returns-clause-skips c =
     let d = i.deal in
     let n = c.rest_rounds.result in
     let goes_on : i.stopped ≡ false = rw (← c.self.view_is) at c.requires.goes_on in
-    let on : has_ended d (histories ls) ≡ false = rw (← c.self.view_is) at c.requires.low in
+    let on : is_above_horizon d (histories ls) ≡ false = rw (← c.self.view_is) at c.requires.low in
     let less = c.rest_rounds.ensures.few in
     let below = subst (λ (ks : List LedgerState). 0 < c.horizon_rounds-low.result → 0 < length ks) c.deref.ensures.value c.horizon_rounds-low.ensures.some in
     let high = subst (λ (ks : List LedgerState). 0 < c.horizon_rounds-low.result

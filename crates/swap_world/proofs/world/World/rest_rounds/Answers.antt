@@ -4,7 +4,7 @@ use Rattle.swap_run.specs.Fair.{adjacent_arcs}
 use Rattle.swap_world.specs.Value.{WorldState, world_cast}
 use Rattle.swap_world.specs.Acting.{histories}
 use Rattle.swap_world.specs.Inside.{inside_questions}
-use Rattle.swap_world.specs.Quiet.{IsCalmActor, IsReadyActor, IsStill}
+use Rattle.swap_world.specs.Quiet.{IsCalmActor, IsReadyActor, IsQuietState}
 use Rattle.swap_world.specs.declared.actor.Actor.{Actor}
 use Rattle.swap_world.proofs.Idle.{are_ready, rests}
 use Rattle.swap_world.proofs.world.World.rest_rounds.Goals as goal
@@ -38,6 +38,6 @@ returns-clause-still c =
     → IsCalmActor n (histories ks) (adjacent_arcs d v) (slice_index_or xs v x)) c.deref.ensures.value
     (subst (λ (ys : List Actor). 0 < n → (v : ℕ) (x : Actor) → v < length ys
     → IsCalmActor n (histories c.deref.result.now) (adjacent_arcs d v) (slice_index_or ys v x)) c.deref-2.ensures.value c.rounds.ensures.calm) in
-    subst (λ (w : WorldState). 0 < n → IsStill (world_cast w) n w.state) c.self.view_is (λ more.
+    subst (λ (w : WorldState). 0 < n → IsQuietState (world_cast w) n w.state) c.self.view_is (λ more.
     rests d i.conforming i.seeds i.roles (inside_questions i) ls xs c.self.invariant.ready (c.self.invariant.good goes_on) n c.self.invariant.actors
     (calm more))

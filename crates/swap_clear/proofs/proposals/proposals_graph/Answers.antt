@@ -2,7 +2,7 @@ use Rattle.std.proofs.Common.{◌∙◌, sym, ap}
 use Rattle.swap_digraph.specs.declared.deal.Version.TheVariants.{Two}
 use Rattle.swap_digraph.specs.Arcs.{build_digraph}
 use Rattle.swap_clear.proofs.Faults.{refused_as, refused_so, accepted_so, not_parallel}
-use Rattle.swap_clear.proofs.proposals.build_graph.Goals as goal
+use Rattle.swap_clear.proofs.proposals.proposals_graph.Goals as goal
 
 pub unreachable-requires : goal.unreachable-requires
 unreachable-requires c =

@@ -4,7 +4,7 @@ use Rattle.std.specs.Prelude.{nat_lt}
 use Rattle.ledger_core.specs.History.{height}
 use Rattle.ledger_core.specs.Book.{history}
 use Rattle.swap_run.specs.Fair.{the_horizon}
-use Rattle.swap_world.proofs.fair.has_ended.Given as goal
+use Rattle.swap_world.proofs.fair.is_above_horizon.Given as goal
 
 abbrev pub invariant-loop-arc : goal.invariant-loop-arc
 invariant-loop-arc l =

@@ -6,7 +6,7 @@ use Rattle.command_input.specs.Input.{desk}
 use Rattle.command_input.specs.declared.fault.InputFault.TheVariants.{Refused}
 use Rattle.swap_commands.proofs.Clearings.{further_stops}
 use Rattle.command_input.proofs.Streams.{last_run, line_stops}
-use Rattle.swap_commands.proofs.clear.alone.Goals as goal
+use Rattle.swap_commands.proofs.clear.refuse_further_line.Goals as goal
 
 pub returns-in_err-next-clause-stops : goal.returns-in_err-next-clause-stops
 returns-in_err-next-clause-stops g c =

@@ -3,7 +3,7 @@ use Rattle.ledger_core.specs.History.{height}
 use Rattle.ledger_core.specs.Book.{history}
 use Rattle.swap_run.specs.Fair.{the_horizon}
 use Rattle.swap_world.proofs.Ways.{range_fails, range_holds_more, range_holds}
-use Rattle.swap_world.proofs.fair.has_ended.Goals as goal
+use Rattle.swap_world.proofs.fair.is_above_horizon.Goals as goal
 
 pub returns-then-height-horizon : goal.returns-then-height-horizon
 returns-then-height-horizon c =
