@@ -26,16 +26,15 @@ def listed() -> dict[str, list[str]]:
 
 
 def below(name: str, crates: Mapping[str, list[str]]) -> dict[str, str]:
-    """The lines of the crates that the crate stands on, and its own."""
-    used: dict[str, str] = {}
+    """The lines of the crates that the crate stands on, and its own, in their order."""
+    used: set[str] = set()
     ways = [name]
     while ways:
         crate = ways.pop()
         if crate in crates and crate not in used:
-            head, *libraries = crates[crate]
-            used[crate] = f"{head}: {' '.join(libraries)}\n"
-            ways += libraries
-    return used
+            used.add(crate)
+            ways += crates[crate][1:]
+    return {crate: f"{head}: {' '.join(libraries)}\n" for crate, (head, *libraries) in crates.items() if crate in used}
 
 
 @contextmanager
