@@ -102,9 +102,9 @@ fn make_due_key(
     }
 }
 
-/// The hashkey of the unlocks for the lock, if there is one, where the lock isn't stopped. It is the
-/// kept one. Without a kept one it is the party's own if the party leads the lock, and else the one
-/// that it makes from a hashkey that it saw.
+/// The hashkey of the unlocks for the lock, if there is one, where the lock isn't stopped. It is
+/// the kept one. Without a kept one it is the party's own if the party leads the lock, and else the
+/// one that it makes from a hashkey that it saw.
 pub(crate) fn due_key(
     alloc: Global,
     deal: &Deal,

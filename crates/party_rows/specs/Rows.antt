@@ -77,8 +77,7 @@ parse_rows job line ls = with_rows job line (replicate job.deal.graph.n None) ls
 abbrev pub first_missing : List (Option Row) → Option ℕ
 first_missing rows = position is_none rows
 
--- The rows are of parties of the deal, and each has a hashlock where its party leads, and a key for
--- each lock.
+-- There is a place for each party of the deal, and each row has as many keys as the deal wants.
 pub record AreDealRows (d : Deal) (rows : List (Option Row)) : Type 0 where
   pub one_each : length rows ≡ d.graph.n
   pub keys : (p : ℕ) (row : Row) → p < d.graph.n → find_row rows p ≡ Some row → length row.keys ≡ keys_wanted d.mode d

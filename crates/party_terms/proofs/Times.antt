@@ -1,10 +1,10 @@
 -- The heights that terms tell are those of the rule book.
-use Rattle.std.proofs.Common.{◌≡◌, ◌+◌, ◌<◌, ◌≤◌, ℕ, nat_lt, Bool, true, false, cond, not, ◌&&◌, ◌||◌, List, Some, refl, sym, ap, ◌∙◌, subst}
-use Rattle.std.proofs.Common.{inl, inr, arith, leb-true, lt-ltb}
+use Rattle.std.proofs.Common.{◌≡◌, ◌+◌, ◌<◌, ◌≤◌, ℕ, nat_lt, max, Bool, true, false, cond, not, ◌&&◌, ◌||◌, ◌⊎◌, List, [], ◌∷◌, Some, refl, sym, ap, ◌∙◌, subst}
+use Rattle.std.proofs.Common.{inl, inr, arith, le-leb, leb-true, lt-ltb}
 use Rattle.std.proofs.lemmas.Bool.{false≢true}
 use Rattle.std.proofs.lemmas.Option.{same_Some}
 use Rattle.swap_base.specs.Lists.{greatest, IsElement}
-use Rattle.swap_base.proofs.Lists.{and_both, and_parts, greatest-in, list_any-in, some_fails_all}
+use Rattle.swap_base.proofs.Lists.{and_both, and_parts, greatest-in, in_flat_map, list_any-in, some_fails_all}
 use Rattle.time_bounds.specs.Times as times
 use Rattle.swap_digraph.specs.declared.deal.Deal.{Deal}
 use Rattle.swap_digraph.specs.Deal.{locks}
@@ -20,7 +20,7 @@ use Rattle.swap_rules.specs.Due.{Action, is_due_publish, when_due}
 use Rattle.swap_rules.specs.Late.{reference_height, when}
 use Rattle.swap_rules.specs.Useful.{opens_in_time, useful_publishes}
 use Rattle.swap_rules.proofs.Prefixes.{from_flat_map}
-use Rattle.party_terms.specs.Laws.{FollowersPublishBelow, LeadersAreOnTime, RefundsAreOpen}
+use Rattle.party_terms.specs.Laws.{FollowersPublishBelow, FollowersPublishUpTo, LeadersAreOnTime, RefundsAreOpen, RefundsOpenNoEarlier}
 use Rattle.party_terms.specs.Times.{publish_deadline, publish_height, refund_height}
 
 pub leaders_are_on_time : LeadersAreOnTime
@@ -55,3 +55,33 @@ refunds_are_open d a h at closed high =
     let below : expiry d a f.0 < at = omega (arith, least, high) in
     list_any-in (λ i. not (is_open h i) && nat_lt (expiry d a i) at) (locks d) f.0
     (and_both (not (is_open h f.0)) (nat_lt (expiry d a f.0) at) (ap not f.2) (lt-ltb (expiry d a f.0) at below)) f.1
+
+when_in : (test : Bool) (a : ℕ) (c : Call) → test ≡ true → IsElement (record { arc = a; call = c }) (when_due test a c)
+when_in true a c e = inl refl
+when_in false a c e = absurd (false≢true e)
+
+pub followers_publish_up_to : FollowersPublishUpTo
+followers_publish_up_to d k v a follows i due low =
+    let early : height (history k a) ≤ times.opening_deadline d.start d.delta d.bound =
+    subst (λ (b : Bool). height (history k a) ≤ publish_height b d) follows low in
+    in_flat_map (λ a. when_due (is_due_publish d v k a && opens_in_time d k a) a (Publish (stated_terms d a))) (leaving d.graph v) a
+    (record { arc = a; call = Publish (stated_terms d a) }) i
+    (when_in (is_due_publish d v k a && opens_in_time d k a) a (Publish (stated_terms d a))
+    (and_both (is_due_publish d v k a) (opens_in_time d k a) due
+    (le-leb (height (history k a)) (times.opening_deadline d.start d.delta d.bound) early)))
+
+-- below the greatest value of f is one of its values
+one_reaches : (f : ℕ → ℕ) (xs : List ℕ) (n : ℕ) → 0 < n → n ≤ greatest f xs → (x : ℕ) × IsElement x xs × (n ≤ f x)
+one_reaches f [] n some low = absurd (omega (arith, some, low))
+one_reaches f (x ∷ xs) n some low = pick (either n (f x) (greatest f xs) low) (λ l. one_reaches f xs n some l)
+  where
+    either : (n a b : ℕ) → n ≤ max a b → (n ≤ a) ⊎ (n ≤ b)
+    either n a b h = grind arith
+
+    pick : (n ≤ f x) ⊎ (n ≤ greatest f xs) → (n ≤ greatest f xs → (y : ℕ) × IsElement y xs × (n ≤ f y))
+        → (y : ℕ) × IsElement y (x ∷ xs) × (n ≤ f y)
+    pick (inl l) more = (x, inl refl, l)
+    pick (inr l) more = let y = more l in (y.0, inr y.1, y.2)
+
+pub refunds_open_no_earlier : RefundsOpenNoEarlier
+refunds_open_no_earlier d a at some low = one_reaches (expiry d a) (locks d) at some (omega (arith, low))

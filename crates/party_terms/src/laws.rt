@@ -1,10 +1,12 @@
 //! The laws of the heights that terms tell.
 
-ghost use Rattle.party_terms.specs.Laws.{FollowersPublishBelow, LeadersAreOnTime, RefundsAreOpen};
+ghost use Rattle.party_terms.specs.Laws.{FollowersPublishBelow, FollowersPublishUpTo, LeadersAreOnTime, RefundsAreOpen, RefundsOpenNoEarlier};
 
 /// The heights that terms tell of an arc are those of the rule book.
 pub fn heights_hold()
     ensures leaders { LeadersAreOnTime }
     ensures followers { FollowersPublishBelow }
+    ensures up_to { FollowersPublishUpTo }
     ensures refunds { RefundsAreOpen }
+    ensures no_earlier { RefundsOpenNoEarlier }
 {}

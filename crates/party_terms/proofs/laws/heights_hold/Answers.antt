@@ -1,4 +1,4 @@
-use Rattle.party_terms.proofs.Times.{followers_publish_below, leaders_are_on_time, refunds_are_open}
+use Rattle.party_terms.proofs.Times.{followers_publish_below, followers_publish_up_to, leaders_are_on_time, refunds_are_open, refunds_open_no_earlier}
 use Rattle.party_terms.proofs.laws.heights_hold.Goals as goal
 
 pub returns-clause-leaders : goal.returns-clause-leaders
@@ -9,3 +9,9 @@ returns-clause-followers c = followers_publish_below
 
 pub returns-clause-refunds : goal.returns-clause-refunds
 returns-clause-refunds c = refunds_are_open
+
+pub returns-clause-up_to : goal.returns-clause-up_to
+returns-clause-up_to c = followers_publish_up_to
+
+pub returns-clause-no_earlier : goal.returns-clause-no_earlier
+returns-clause-no_earlier c = refunds_open_no_earlier
