@@ -30,6 +30,7 @@ use Rattle.party_rows.proofs.Making.{dealt_line_is_made}
 use Rattle.dealt_texts.specs.Texts.{deal_input, keys_input, job_party_name, seeded_row_line, AreSeeds, DealsOfRowsAreMade, IsOfferLine, IsEachPartyOnce, KeysGiveRows}
 use Rattle.dealt_texts.proofs.Ends.{ended_back, no_feed, HasNoFeed}
 use Rattle.dealt_texts.proofs.Named.{finds}
+use Rattle.dealt_texts.proofs.Proposing.{is_read, IsOfferedJob}
 use Rattle.dealt_texts.proofs.Order.{is_high, row_text, rows_back, step}
 
 went : {A B : Type 0} (r : Result A Misspelling) (x : A) (f : A → Result B Misspelling) → r ≡ Ok x → (r >>= f) ≡ f x
@@ -61,15 +62,18 @@ seed_no_feed seed k =
 -- ---- keys
 
 module _ (offer : List ℕ) (job : Job) (seeds : List (Option (List ℕ))) (k : IsOfferLine offer job) (s : AreSeeds seeds job) where
+  known : IsOfferedJob job
+  known = is_read 1 offer job k.reads
+
   named_below : (p : ℕ) → p < job.deal.graph.n → p < length job.names
-  named_below p lt = omega (arith, k.offered.whole.names, lt)
+  named_below p lt = omega (arith, known.offered.whole.names, lt)
 
   row_is : (p : ℕ) → p < job.deal.graph.n
       → row_from_lines (job_party_name job p) (seed_or_zeros seeds p) (offer ∷ []) ≡ Ok (seeded_row_line seeds job p)
   unfolding row_from_lines row_of_name
   row_is p lt =
-      step (parse_offer 2 offer) job _ (k.reads 2)
-      ∙ step (party_named 2 job.names (job_party_name job p)) p _ (finds 2 job.names p k.offered.names (named_below p lt))
+      step (parse_offer 2 offer) job _ k.reads_second
+      ∙ step (party_named 2 job.names (job_party_name job p)) p _ (finds 2 job.names p known.offered.names (named_below p lt))
 
   line_is : (p : ℕ) → p < job.deal.graph.n
       → digest_line (codes "seed") 1 (seed_text (seed_or_zeros seeds p) ∷ offer ∷ []) ≡ Ok (seed_or_zeros seeds p, offer ∷ [])
@@ -88,7 +92,7 @@ module _ (offer : List ℕ) (job : Job) (seeds : List (Option (List ℕ))) (k : 
   -- ---- deal
 
   abbrev text : ℕ → List ℕ
-  text p = row_text job seeds k.offered k.names p
+  text p = row_text job seeds known.offered known.names p
 
   same_texts : (rows : ℕ → List ℕ) (order : List ℕ) → ((p : ℕ) → IsElement p order → rows p ≡ text p ++ 10 ∷ []) → flat_map rows order ≡ fed_lines (map text order)
   same_texts rows [] same = refl
@@ -97,7 +101,7 @@ module _ (offer : List ℕ) (job : Job) (seeds : List (Option (List ℕ))) (k : 
   no_feeds : (order : List ℕ) → ((p : ℕ) → IsElement p order → p < job.deal.graph.n) → AllByRecursion HasNoFeed (map text order)
   no_feeds [] below = tt
   no_feeds (p ∷ ps) below =
-      (no_feed (text p) (is_high job seeds k.offered k.names p (named_below p (below p (inl refl)))), no_feeds ps (λ q i. below q (inr i)))
+      (no_feed (text p) (is_high job seeds known.offered known.names p (named_below p (below p (inl refl)))), no_feeds ps (λ q i. below q (inr i)))
 
   abbrev state : DealingState
   state = record { job = job; rows = seeded_rows seeds job.deal }
@@ -105,8 +109,8 @@ module _ (offer : List ℕ) (job : Job) (seeds : List (Option (List ℕ))) (k : 
   dealing_is : (order : List ℕ) → IsEachPartyOnce job.deal.graph.n order → parse_dealing_lines (offer ∷ map text order) ≡ Ok state
   unfolding parse_dealing_lines
   dealing_is order o =
-      step (parse_offer 1 offer) job _ (k.reads 1)
-      ∙ step (parse_rows job 2 (map text order)) (seeded_rows seeds job.deal) _ (rows_back job seeds k.offered k.names 2 order o)
+      step (parse_offer 1 offer) job _ k.reads
+      ∙ step (parse_rows job 2 (map text order)) (seeded_rows seeds job.deal) _ (rows_back job seeds known.offered known.names 2 order o)
 
   whole_is : (order : List ℕ) → IsEachPartyOnce job.deal.graph.n order → parse_dealing (fed_lines (offer ∷ map text order)) ≡ Ok state
   unfolding parse_dealing
@@ -150,4 +154,4 @@ keys_give_rows offer job seeds p k s lt = keys_give offer job seeds k s p lt
 pub deals_of_rows_are_made : DealsOfRowsAreMade
 deals_of_rows_are_made offer job seeds order rows k s o written =
     deal_of_rows offer job seeds k s order rows o written
-    ∙ ap (λ (t : List ℕ). Ok t) (dealt_line_is_made seeds job k.offered.proposed)
+    ∙ ap (λ (t : List ℕ). Ok t) (dealt_line_is_made seeds job (let known : IsOfferedJob job = is_read 1 offer job k.reads in known.offered.proposed))

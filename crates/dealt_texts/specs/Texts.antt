@@ -1,27 +1,24 @@
 -- The laws of the texts that `keys` and `deal` write.
-use Rattle.std.specs.Prelude.{◌≡◌, ◌<◌, ◌==◌, ◌++◌, ℕ, List, [], ◌∷◌, All, codes, not, true, slice_index_or, Option, Ok}
+use Rattle.std.specs.Prelude.{◌≡◌, ◌<◌, ◌==◌, ◌++◌, ℕ, List, [], ◌∷◌, codes, not, true, slice_index_or, Option, Ok}
 use Rattle.std.specs.List.{flat_map, list_all}
 use Rattle.hex.specs.Hex.{encode_lower}
 use Rattle.swap_base.specs.Lists.{IsElement}
 use Rattle.swap_job.specs.declared.job.Job.{Job}
 use Rattle.swap_job.specs.declared.job.Purpose.TheVariants.{Audit}
 use Rattle.typed_books.specs.Typed.{IsDigest}
-use Rattle.offer_header.specs.Names.{is_name}
 use Rattle.swap_gen.specs.Made.{made_deal, seed_or_zeros}
 use Rattle.transcript_lines.specs.Between.{fed_lines, spaced}
 use Rattle.party_rows.specs.Dealt.{dealt_line}
-use Rattle.party_rows.specs.Inside.{IsOffered}
 use Rattle.party_rows.specs.Keys.{deal_output, keys_output}
 use Rattle.party_rows.specs.Offer.{parse_offer}
 use Rattle.party_rows.specs.Row.{row_line, seeded_row}
 
--- A plain offer's line: it holds no line feed, whatever its number it proposes the job, and the
--- job's names are names.
+-- A plain offer's line: it holds no line feed, and it proposes the job as the first line, where
+-- `deal` reads it, and as the second line, where `keys` reads it behind the line of a seed.
 pub record IsOfferLine (offer : List ℕ) (job : Job) : Type 0 where
   pub one_line : list_all (λ x. not (x == 10)) offer ≡ true
-  pub reads : (line : ℕ) → parse_offer line offer ≡ Ok job
-  pub offered : IsOffered job
-  pub names : All (λ x. is_name x ≡ true) job.names
+  pub reads : parse_offer 1 offer ≡ Ok job
+  pub reads_second : parse_offer 2 offer ≡ Ok job
 
 -- the seeds of the parties of a job have 32 bytes each
 abbrev pub AreSeeds : List (Option (List ℕ)) → Job → Type 0
