@@ -123,10 +123,10 @@ def clauses_of(function: str) -> str:
 
 
 def roots() -> Iterator[Named]:
-    """What the clauses of both calls name, and what the program's own staff stands for."""
-    top, staff = TOP / "crates/swap_main/src/top.rt", TOP / "crates/swap_main/src/program.rt"
+    """What the clauses of both calls name, and what the program's own strategies stand for."""
+    top, strategies = TOP / "crates/swap_main/src/top.rt", TOP / "crates/swap_main/src/program.rt"
     yield from named_in(clauses_of("swap_plain") + clauses_of("swap_top"), imports_of(top))
-    yield from named_in("is_known by_rule program_rule", imports_of(staff))
+    yield from named_in("is_known by_rule program_rule", imports_of(strategies))
 
 
 def read_list() -> Set[Tuple[str, Tuple[str, ...], Optional[str]]]:

@@ -36,7 +36,7 @@ use Rattle.swap_rules.proofs.Prefixes.{from_flat_map, split, begins_height, list
 use Rattle.swap_rules.proofs.Words.{and_three, and_five, enters, leaves, pick_call-act}
 use Rattle.answer_rules.specs.Finished.{greatest_expiry, is_shut, is_finished, are_finished, ContinuesWithoutParty}
 use Rattle.answer_rules.specs.Laws.{FinishedStays}
-use Rattle.answer_rules.proofs.Parts.{in_when, to_when, Kind, InPublishes, InUnlocks, InClaims, InRefunds, kind, is_useful, unlocked, in_unlocks, free_before}
+use Rattle.answer_rules.proofs.UsefulKinds.{in_when, to_when, Kind, InPublishes, InUnlocks, InClaims, InRefunds, kind, is_useful, unlocked, in_unlocks, free_before}
 
 first_same : {A B : Type 0} (f g : A → Option B) (xs : List A) → ((x : A) → IsElement x xs → f x ≡ g x) → first_given_answer f xs ≡ first_given_answer g xs
 first_same f g [] h = refl

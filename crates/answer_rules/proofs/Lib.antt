@@ -2,7 +2,7 @@ pub mod Arcs
 pub mod Due
 pub mod OnTime
 pub mod Until
-pub mod Parts
+pub mod UsefulKinds
 pub mod Waiting
 pub mod Ending
 pub mod Measured

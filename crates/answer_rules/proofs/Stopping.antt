@@ -19,7 +19,7 @@ use Rattle.swap_rules.proofs.Prefixes.{from_flat_map}
 use Rattle.answer_rules.specs.Stopped.{is_stopped_call, unlocks_unless_stopped, unstopped, useful_unless_stopped}
 use Rattle.answer_rules.specs.Laws.{AreGoodKeys, SignsItsLock}
 use Rattle.answer_rules.proofs.Due.{due_lock, origin}
-use Rattle.answer_rules.proofs.Parts.{in_cond, in_if, in_presented}
+use Rattle.answer_rules.proofs.UsefulKinds.{in_cond, in_if, in_presented}
 
 -- Calls that stay, and calls that are left out.
 module _ (stops : ℕ → Bool) where

@@ -21,8 +21,8 @@ use Rattle.swap_rules.proofs.Prefixes.{from_flat_map, begins_height}
 use Rattle.swap_rules.proofs.Rest.{reads, grows_on, same_publish, same_unlock, same_claims, none_refunded}
 use Rattle.answer_rules.specs.Stopped.{is_stopped_call, unstopped}
 use Rattle.answer_rules.specs.Laws.{TicksLeaveNothing}
-use Rattle.answer_rules.proofs.Parts.{nothing_in, in_when, to_when, Kind, InPublishes, InUnlocks, InClaims, InRefunds, kind, is_useful, unlocked, in_due_unlocks}
-use Rattle.answer_rules.proofs.Parts.{free_before}
+use Rattle.answer_rules.proofs.UsefulKinds.{nothing_in, in_when, to_when, Kind, InPublishes, InUnlocks, InClaims, InRefunds, kind, is_useful, unlocked, in_due_unlocks}
+use Rattle.answer_rules.proofs.UsefulKinds.{free_before}
 
 module _ (d : Deal) (v : ℕ) (w : Wallet) (kept : ℕ → Option Hashkey) (stops : ℕ → Bool) (k : Histories) (a : ℕ) (more : List Entry)
     (ticks : are_ticks more ≡ true) (none : unstopped stops (useful d v w kept k) ≡ []) (low : StaysLow d v k a more) where

@@ -1,4 +1,4 @@
 pub mod Leads
 pub mod Ends
 pub mod Reported
-pub mod Told
+pub mod AuditEnds

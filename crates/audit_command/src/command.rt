@@ -21,7 +21,13 @@ use swap_io::{Sink, Source, TextFault};
 use swap_job::Job;
 
 /// Writes the report of a job's book.
-fn tell<K: Sink>(alloc: Global, sink: &mut K, job: &Job, book: &Book, report: &Report) -> Status
+fn write_audit_report<K: Sink>(
+    alloc: Global,
+    sink: &mut K,
+    job: &Job,
+    book: &Book,
+    report: &Report,
+) -> Status
     requires told { IsTranscriptJob job.now }
     requires sound { IsSoundAudit (story job.now book.now.histories) report.now }
     ensures { StatusWrites (K.taken sink.old) (K.taken sink.new) (K.faults sink.old) (K.faults sink.new) (story_output (story job.now book.now.histories) report.now)
@@ -58,7 +64,7 @@ pub fn audit_transcript<S: Source, K: Sink>(
         Err(fault) => return unread(fault),
     };
     match judge(alloc, &job, &book) {
-        Ok(report) => tell(alloc, sink, &job, &book, &report),
+        Ok(report) => write_audit_report(alloc, sink, &job, &book, &report),
         Err(Fault::Refused(refusal)) => Status::Refused(refusal.reason, refusal.names),
         Err(Fault::NoMemory) => Status::NoMemory,
     }

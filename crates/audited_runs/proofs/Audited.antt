@@ -33,8 +33,8 @@ use Rattle.command_input.specs.Streams.{Streams}
 use Rattle.swap_commands.specs.Output.{Chance, collected_book, reason_alone, output_given_chance, reported}
 use Rattle.swap_commands.specs.Words.{OfJob, Audit, Run, Race, Command}
 use Rattle.swap_commands.specs.Promised.{AsPromised}
-use Rattle.swap_commands.specs.Strategies.{strategies}
-use Rattle.swap_main.specs.Known.{by_rule, is_known}
+use Rattle.swap_commands.specs.Strategies.{given_strategies}
+use Rattle.swap_main.specs.KnownStrategies.{by_rule, is_known}
 use Rattle.swap_main.specs.Top.{IsDone}
 use Rattle.audited_runs.proofs.Rules.{program_keeps_digests}
 use Rattle.audited_runs.proofs.Whole.{runs_hold_digests}
@@ -151,8 +151,8 @@ unfolding output_given_chance
 any_chance has a b text = refl
 
 module _ (words others : List (List ℕ)) (before after first last : Streams) (found named : Bool)
-    (done : IsDone (strategies is_known (by_rule program_rule)) words before after found)
-    (told : IsDone (strategies is_known (by_rule program_rule)) others first last named) (q : told.read.command ≡ Audit)
+    (done : IsDone (given_strategies is_known (by_rule program_rule)) words before after found)
+    (told : IsDone (given_strategies is_known (by_rule program_rule)) others first last named) (q : told.read.command ≡ Audit)
     (same : told.read.input ≡ done.output.text) where
   within : length done.output.text ≤ limit
   within = subst (λ (l : List ℕ). length l ≤ limit) same told.read.within

@@ -12,7 +12,7 @@ use Rattle.swap_world.specs.Cast.{signing_wallet}
 use Rattle.swap_offer.specs.Job.{parse_events, parse_header_job, parse_job, job_of_lines}
 use Rattle.command_input.specs.Lines.{filled_lines, collect_lines}
 use Rattle.swap_commands.specs.Output.{AreGiven, command_cast, run_state}
-use Rattle.swap_main.specs.Known.{by_rule}
+use Rattle.swap_main.specs.KnownStrategies.{by_rule}
 use Rattle.read_back.specs.Headers.{IsShowable}
 use Rattle.read_back.proofs.Onward.{landed, onward}
 use Rattle.read_back.proofs.Showable.{read_is_showable}

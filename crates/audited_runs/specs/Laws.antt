@@ -7,10 +7,10 @@ use Rattle.command_input.specs.Input.{limit}
 use Rattle.command_input.specs.Streams.{Streams}
 use Rattle.swap_commands.specs.Output.{Chance, output_given_chance}
 use Rattle.swap_commands.specs.Promised.{AsPromised}
-use Rattle.swap_main.specs.Known.{by_rule, is_known}
+use Rattle.swap_main.specs.KnownStrategies.{by_rule, is_known}
 use Rattle.swap_main.specs.Top.{IsDone}
 use Rattle.swap_commands.specs.Words.{Command, OfJob, Audit, Run, Race}
-use Rattle.swap_commands.specs.Strategies.{strategies}
+use Rattle.swap_commands.specs.Strategies.{given_strategies}
 use Rattle.audited_runs.specs.RunDigests.{KeepsDigests, NamedStrategyRule}
 
 -- What was written of an input is a transcript. Its audit writes what the command writes for that
@@ -42,7 +42,7 @@ RacesAreAudited =
 abbrev pub ProgramRunsAreAudited : Type 0
 ProgramRunsAreAudited =
     (words : List (List ℕ)) (before after : Streams) (found : Bool)
-    (done : IsDone (strategies is_known (by_rule program_rule)) words before after found) → done.read.command ≡ OfJob (Run true)
+    (done : IsDone (given_strategies is_known (by_rule program_rule)) words before after found) → done.read.command ≡ OfJob (Run true)
     → length done.output.text ≤ limit → IsAudited is_known done.chance (OfJob (Run false)) done.read.input done.output
 
 -- When an audit of such a transcript ends, it wrote the text that the run writes, and it tells of a
@@ -50,8 +50,8 @@ ProgramRunsAreAudited =
 abbrev pub AuditsTellTheRun : Type 0
 AuditsTellTheRun =
     (words others : List (List ℕ)) (before after first last : Streams) (found named : Bool)
-    (done : IsDone (strategies is_known (by_rule program_rule)) words before after found) → done.read.command ≡ OfJob (Run true)
-    → (told : IsDone (strategies is_known (by_rule program_rule)) others first last named) → told.read.command ≡ Audit
+    (done : IsDone (given_strategies is_known (by_rule program_rule)) words before after found) → done.read.command ≡ OfJob (Run true)
+    → (told : IsDone (given_strategies is_known (by_rule program_rule)) others first last named) → told.read.command ≡ Audit
     → told.read.input ≡ done.output.text
     → (output_given_chance is_known done.chance (OfJob (Run false)) done.read.input ≡ Ok told.output) × (named ≡ found)
 
@@ -59,14 +59,14 @@ AuditsTellTheRun =
 abbrev pub ProgramRacesAreAudited : Type 0
 ProgramRacesAreAudited =
     (words : List (List ℕ)) (before after : Streams) (found : Bool) (ticks : ℕ)
-    (done : IsDone (strategies is_known (by_rule program_rule)) words before after found) → done.read.command ≡ OfJob (Race ticks true)
+    (done : IsDone (given_strategies is_known (by_rule program_rule)) words before after found) → done.read.command ≡ OfJob (Race ticks true)
     → length done.output.text ≤ limit → IsAudited is_known done.chance (OfJob (Race ticks false)) done.read.input done.output
 
 -- An audit of the race's transcript wrote the text that the race writes if it leads to that book.
 abbrev pub AuditsTellTheRace : Type 0
 AuditsTellTheRace =
     (words others : List (List ℕ)) (before after first last : Streams) (found named : Bool) (ticks : ℕ)
-    (done : IsDone (strategies is_known (by_rule program_rule)) words before after found) → done.read.command ≡ OfJob (Race ticks true)
-    → (told : IsDone (strategies is_known (by_rule program_rule)) others first last named) → told.read.command ≡ Audit
+    (done : IsDone (given_strategies is_known (by_rule program_rule)) words before after found) → done.read.command ≡ OfJob (Race ticks true)
+    → (told : IsDone (given_strategies is_known (by_rule program_rule)) others first last named) → told.read.command ≡ Audit
     → told.read.input ≡ done.output.text
     → (output_given_chance is_known done.chance (OfJob (Race ticks false)) done.read.input ≡ Ok told.output) × (named ≡ found)

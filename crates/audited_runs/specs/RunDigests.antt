@@ -10,7 +10,7 @@ use Rattle.deviators.specs.Program.{program_rule}
 use Rattle.swap_run.specs.Asked.{Answers}
 use Rattle.swap_offer.specs.Job.{parse_job}
 use Rattle.swap_commands.specs.Output.{AreGiven, collected_book, run_state}
-use Rattle.swap_main.specs.Known.{by_rule}
+use Rattle.swap_main.specs.KnownStrategies.{by_rule}
 use Rattle.typed_books.specs.Typed.{IsDigest}
 use Rattle.audited_runs.specs.Digests.{HasDigests, HoldsDigests}
 

@@ -27,8 +27,8 @@ can_come s rest not_over = λ over. absurd (cc (sym not_over ∙ over))
 pub fits_fresh : (left : Option (List ℕ)) (s : At) → s ≡ fresh → Fits left s
 fits_fresh left s e = subst (λ (t : At). Fits left t) (sym e) (record { within = omega arith; ended = λ over. absurd (cc over) })
 
--- what a walk that has come to y makes of the next line, where so many came before, and then of
--- those after it
+-- what a walk that has come to y makes of the next line, whose number is given, and then of the
+-- lines after it
 abbrev pub IsStepAt : {A R E : Type 0} → (ℕ → A → List (ℕ × List ℕ) → Result R E) → (ℕ → A → ℕ → List ℕ → Result A E) → ℕ → A → Type 0
 IsStepAt walk next n y = (number : ℕ) (text : List ℕ) (rest : List (ℕ × List ℕ))
     → walk n y ((number, text) ∷ rest) ≡ next n y number text >>= λ z. walk (n + 1) z rest

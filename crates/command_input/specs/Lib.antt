@@ -3,4 +3,4 @@ pub mod Faults
 pub mod Input
 pub mod Written
 pub mod Streams
-pub mod Told
+pub mod StandardError

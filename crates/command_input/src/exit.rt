@@ -1,7 +1,7 @@
 //! What a program ends with: its number, and what it tells on standard error.
 
 ghost use Rattle.std.specs.Prelude.{◌≡◌, IfOk};
-ghost use Rattle.command_input.specs.Told.{refusal_text, told_text};
+ghost use Rattle.command_input.specs.StandardError.{refusal_text, told_text};
 
 use refusals::{Reason, refusal_line};
 use std::alloc::Global;

@@ -28,8 +28,8 @@ use Rattle.swap_rules.specs.declared.finding.Finding.TheVariants.{Broke}
 use Rattle.swap_rules.specs.Conduct.{keeps, keeps_entry}
 use Rattle.swap_rules.specs.Forged.{forges, is_forged}
 use Rattle.swap_rules.specs.Findings.{failing}
-use Rattle.conduct_check.specs.Parts.{HasDealLock}
-use Rattle.sent_keys.proofs.Own.{unsent}
+use Rattle.conduct_check.specs.CallConduct.{HasDealLock}
+use Rattle.sent_keys.proofs.OwnArcs.{unsent}
 use Rattle.sent_keys.proofs.Unlocks.{sent_of_tick}
 use Rattle.conduct_check.proofs.Asked.{accepted_of_tick, made_fails}
 

@@ -6,7 +6,7 @@ use Rattle.ledger_core.specs.Book.{Histories, history}
 use Rattle.history_index.specs.declared.made.Made.{Made}
 use Rattle.swap_rules.specs.Party.{pick_call}
 use Rattle.swap_rules.specs.Conduct.{keeps}
-use Rattle.conduct_check.specs.Parts.{keeps_call, keeps_made}
+use Rattle.conduct_check.specs.CallConduct.{keeps_call, keeps_made}
 
 pub as_made : (d : Deal) (b : Histories) (v a : ℕ) (m : Made) (call read : Call) (kept : Bool) → Some call ≡ pick_call v m.entry → call ≡ read
     → kept ≡ keeps_call d b v a m.number m.entry.height read → kept ≡ keeps_made d b v a m

@@ -12,9 +12,9 @@ use Rattle.swap_digraph.specs.declared.deal.Deal.{Deal}
 use Rattle.hashkey_path.specs.declared.hashkey.Hashkey.{Hashkey}
 use Rattle.hashkey_path.specs.Hashkey.{same_key, is_wrong_secret, is_wrong_path, is_wrong_signature}
 use Rattle.hashkey_path.specs.Hashkey.{is_valid}
-use Rattle.hashkey_path.specs.Known.{is_last_signed, are_last_signed}
+use Rattle.hashkey_path.specs.LastSignatures.{is_last_signed, are_last_signed}
 use Rattle.hashkey_path.proofs.Validity.{bytes_eq_self}
-use Rattle.hashkey_path.proofs.Known.{valid_is_known}
+use Rattle.hashkey_path.proofs.LastSignatures.{valid_is_known}
 use Rattle.hash_signature.specs.Signature.{hashed_value}
 use Rattle.ledger_core.specs.declared.entry.Entry.{Entry}
 use Rattle.ledger_core.specs.History.{Opening, opened, IsLegal, accepted, rows}

@@ -8,7 +8,7 @@ ghost use Rattle.swap_rules.specs.Conduct.{is_publish, keeps};
 ghost use Rattle.history_index.specs.Indexes.{all_entries, AreIndexes};
 ghost use Rattle.sent_keys.specs.Sent.{shown, party_unlocks};
 ghost use Rattle.conduct_check.specs.Standing.{IsStanding};
-ghost use Rattle.conduct_check.specs.Parts.{is_first, is_good_key, is_arc_key_valid, keeps_call, keeps_made, HasDealLock};
+ghost use Rattle.conduct_check.specs.CallConduct.{is_first, is_good_key, is_arc_key_valid, keeps_call, keeps_made, HasDealLock};
 
 use crate::past::{had_expired, made_calls, was_published, was_triggered};
 use crate::standing::Standing;

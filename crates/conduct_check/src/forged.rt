@@ -6,7 +6,7 @@ ghost use Rattle.ledger_core.specs.History.{accepted};
 ghost use Rattle.swap_rules.specs.Forged.{has_forged_suffix, is_forged};
 ghost use Rattle.history_index.specs.Indexes.{all_entries};
 ghost use Rattle.sent_keys.specs.Sent.{shown, party_unlocks};
-ghost use Rattle.conduct_check.specs.Parts.{has_made_parts, has_sent, is_forged_secret, HasDealLock};
+ghost use Rattle.conduct_check.specs.CallConduct.{has_made_parts, has_sent, is_forged_secret, HasDealLock};
 
 use due_calls::leads;
 use hash_signature::{Sig, hashed_value};

@@ -7,7 +7,7 @@ ghost use Rattle.swap_rules.specs.Findings.{broken, forgeries};
 ghost use Rattle.history_index.specs.Indexes.{all_entries, AreIndexes};
 ghost use Rattle.sent_keys.specs.Sent.{shown, party_unlocks};
 ghost use Rattle.conduct_check.specs.Standing.{IsStanding};
-ghost use Rattle.conduct_check.specs.Parts.{arc_broken_findings, arc_forged_findings};
+ghost use Rattle.conduct_check.specs.CallConduct.{arc_broken_findings, arc_forged_findings};
 
 use crate::conduct::keeps_entry;
 use crate::forged::is_forged;

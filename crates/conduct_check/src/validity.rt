@@ -5,7 +5,7 @@ ghost use Rattle.std.specs.List.{list_any};
 ghost use Rattle.swap_digraph.specs.Deal.{IsWellSized, lock_hashlock};
 ghost use Rattle.swap_digraph.specs.Graph.{entering};
 ghost use Rattle.hashkey_path.specs.Hashkey.{is_valid};
-ghost use Rattle.hashkey_path.specs.Known.{is_last_signed};
+ghost use Rattle.hashkey_path.specs.LastSignatures.{is_last_signed};
 ghost use Rattle.ledger_core.specs.Book.{history, IsLegalBook};
 ghost use Rattle.ledger_core.specs.History.{opened};
 ghost use Rattle.history_index.specs.Indexes.{all_entries, AreIndexes};

@@ -10,7 +10,7 @@ use Rattle.swap_base.proofs.Lists.{and_both, and_parts}
 use Rattle.refusals.specs.declared.refusal.Refusal.{Refusal}
 use Rattle.refusals.specs.declared.reason.Reason.TheVariants.{CutShort}
 use Rattle.transcript_lines.specs.Between.{between, fed_lines, longer_first, separated_parts}
-use Rattle.transcript_lines.proofs.Parts.{IsHigh}
+use Rattle.transcript_lines.proofs.SeparatedParts.{IsHigh}
 use Rattle.party_lines.specs.Lines.{ended_lines, is_ended, nameless}
 
 -- no byte is a line feed

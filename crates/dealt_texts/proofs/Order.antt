@@ -28,7 +28,7 @@ use Rattle.offer_fields.specs.Limits.{check_range}
 use Rattle.offer_header.specs.Names.{is_name}
 use Rattle.swap_gen.specs.Made.{seed_or_zeros}
 use Rattle.transcript_lines.specs.Between.{spaced}
-use Rattle.transcript_lines.proofs.Parts.{IsHigh}
+use Rattle.transcript_lines.proofs.SeparatedParts.{IsHigh}
 use Rattle.party_lines.specs.Lines.{following_line_number, or_bad_line}
 use Rattle.party_lines.specs.Names.{party_named}
 use Rattle.party_rows.specs.declared.row.Row.{Row}

@@ -14,7 +14,7 @@ use Rattle.transcript_lines.specs.declared.said.Misspelling.{Misspelling}
 use Rattle.transcript_lines.specs.Between.{spaced}
 use Rattle.transcript_lines.specs.Reading.{listed_field, misspelt, lower_hex_digest}
 use Rattle.transcript_lines.specs.Words.{list_word}
-use Rattle.transcript_lines.proofs.Parts.{IsHigh, high_between, high_too, parts_between}
+use Rattle.transcript_lines.proofs.SeparatedParts.{IsHigh, high_between, high_too, parts_between}
 use Rattle.transcript_lines.proofs.Hex.{digest_back, high_hex, some_hex}
 use Rattle.transcript_lines.proofs.Spelling.{field_back, list_back, high_list}
 use Rattle.party_lines.specs.Digests.{this_word}

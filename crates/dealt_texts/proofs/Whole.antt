@@ -13,7 +13,7 @@ use Rattle.swap_gen.specs.Made.{seed_or_zeros}
 use Rattle.transcript_lines.specs.declared.said.Misspelling.{Misspelling}
 use Rattle.transcript_lines.specs.Between.{fed_lines, spaced}
 use Rattle.transcript_lines.specs.Reading.{lower_hex_digest}
-use Rattle.transcript_lines.proofs.Parts.{high_between, high_too, parts_between}
+use Rattle.transcript_lines.proofs.SeparatedParts.{high_between, high_too, parts_between}
 use Rattle.transcript_lines.proofs.Hex.{digest_back, high_hex}
 use Rattle.transcript_lines.proofs.Spelling.{field_back}
 use Rattle.party_lines.specs.Digests.{digest_line, digest_told, this_word, told_digest}

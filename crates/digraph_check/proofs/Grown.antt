@@ -19,7 +19,8 @@ open_count [] = 0
 open_count (None ∷ tree) = suc (open_count tree)
 open_count (Some a ∷ tree) = open_count tree
 
--- so many steps lead from v back to party 0, no more than arcs were put into the tree
+-- some number of steps leads from v back to party 0, at most the number of arcs that were put into
+-- the tree
 pub record StepsBack (g : Graph) (tree : List (Option ℕ)) (v : ℕ) : Type 0 where
   pub steps : ℕ
   pub few : steps + open_count tree ≤ g.n

@@ -11,7 +11,7 @@ use Rattle.ledger_core.specs.Book.{Histories, history}
 use Rattle.swap_rules.specs.Party.{opens_without_party, key_without_party, first_seen_key}
 use Rattle.swap_rules.specs.Due.{Wallet, due_key, seen_key, extended}
 use Rattle.due_calls.specs.Unlocks.{make_due_key, first_seen_arc}
-use Rattle.due_calls.specs.Parts.{due_base}
+use Rattle.due_calls.specs.DueUnlock.{due_base}
 use Rattle.due_calls.specs.declared.unlock_due.Base.{Base}
 use Rattle.due_calls.specs.declared.unlock_due.Base.TheVariants.{Signed, Own, Onto}
 

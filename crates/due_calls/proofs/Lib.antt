@@ -1,7 +1,7 @@
 pub mod Publishing
 pub mod First
 pub mod Greatest
-pub mod Known
+pub mod ArcMembers
 pub mod Openings
 pub mod Numbers
 pub mod Settling

@@ -17,8 +17,8 @@ use Rattle.hashkey_path.specs.declared.hashkey.Hashkey.{Hashkey}
 use Rattle.swap_rules.specs.Party.{opens_without_party}
 use Rattle.ledger_core.specs.History.{accepted, Opening, opening, opened, is_open}
 use Rattle.ledger_core.specs.Facts.{opened_number}
-use Rattle.due_calls.specs.Known.{AreDealTerms}
-use Rattle.due_calls.proofs.Known.{terms_at}
+use Rattle.due_calls.specs.DealTerms.{AreDealTerms}
+use Rattle.due_calls.proofs.ArcMembers.{terms_at}
 
 -- the first answer is that of the first element with an answer
 

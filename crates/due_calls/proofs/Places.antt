@@ -12,7 +12,7 @@ use Rattle.ledger_core.specs.Book.{Histories, history}
 use Rattle.swap_rules.specs.Party.{opens_without_party}
 use Rattle.due_calls.proofs.First.{leaving_below, entering_below}
 use Rattle.due_calls.specs.Unlocks.{first_seen_arc, IsSeenBase}
-use Rattle.due_calls.specs.Parts.{not_called, due_base, first_closed, unlock_due, next_due_unlock}
+use Rattle.due_calls.specs.DueUnlock.{not_called, due_base, first_closed, unlock_due, next_due_unlock}
 use Rattle.due_calls.specs.declared.unlock_due.Base.{Base}
 use Rattle.due_calls.specs.declared.unlock_due.Base.TheVariants.{Signed, Own, Onto}
 use Rattle.due_calls.specs.declared.unlock_due.UnlockDue.{UnlockDue}

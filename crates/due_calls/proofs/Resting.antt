@@ -3,7 +3,7 @@ use Rattle.std.proofs.Common.{◌≡◌, ℕ, ◌+◌, ◌<◌, Bool, true, fals
 use Rattle.std.proofs.Common.{◌∙◌, append-nil}
 use Rattle.std.proofs.lemmas.List.{map-append}
 use Rattle.std.proofs.lemmas.List.Elements.{filter_more}
-use Rattle.escrow_core.specs.Parts.{lesser}
+use Rattle.escrow_core.specs.ContractRows.{lesser}
 use Rattle.escrow_core.proofs.Least.{least_number-push}
 use Rattle.swap_rules.specs.Rest.{least_number}
 

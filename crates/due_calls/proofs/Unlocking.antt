@@ -13,7 +13,7 @@ use Rattle.swap_rules.specs.Party.{is_ready}
 use Rattle.swap_rules.specs.Due.{Wallet, Action, due_key, due_arc_unlock, due_unlocks, presented, first}
 use Rattle.due_calls.proofs.First.{call_on, first_find}
 use Rattle.due_calls.specs.Unlocks.{make_due_key, IsFirstUnlock}
-use Rattle.due_calls.specs.Parts.{not_called, due_base, first_closed, unlock_due, next_due_unlock}
+use Rattle.due_calls.specs.DueUnlock.{not_called, due_base, first_closed, unlock_due, next_due_unlock}
 use Rattle.due_calls.specs.declared.unlock_due.Base.{Base}
 use Rattle.due_calls.specs.declared.unlock_due.UnlockDue.{UnlockDue}
 use Rattle.due_calls.proofs.Keys.{ComesFrom, comes_from}

@@ -1,5 +1,5 @@
 pub mod Publish
-pub mod Known
+pub mod DealTerms
 pub mod Unlocks
 pub mod Settling
-pub mod Parts
+pub mod DueUnlock

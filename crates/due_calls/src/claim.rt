@@ -6,7 +6,7 @@ ghost use Rattle.swap_digraph.specs.Graph.{entering};
 ghost use Rattle.swap_digraph.specs.Deal.{IsWellSized};
 ghost use Rattle.swap_rules.specs.Due.{due_claims, first, has_called, is_claiming, is_due_claim};
 ghost use Rattle.ledger_core.specs.Book.{history};
-ghost use Rattle.due_calls.specs.Known.{AreDealTerms};
+ghost use Rattle.due_calls.specs.DealTerms.{AreDealTerms};
 ghost use Rattle.due_calls.specs.Settling.{claim_action};
 
 use crate::locks::is_triggered;

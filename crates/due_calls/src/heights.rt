@@ -5,7 +5,7 @@ ghost use Rattle.swap_digraph.specs.Deal.{IsWellSized};
 ghost use Rattle.ledger_core.specs.Book.{history};
 ghost use Rattle.ledger_core.specs.History.{height, published};
 ghost use Rattle.swap_rules.specs.Party.{publication_height, least_expiry, ready_height};
-ghost use Rattle.due_calls.specs.Known.{AreDealTerms};
+ghost use Rattle.due_calls.specs.DealTerms.{AreDealTerms};
 
 use crate::locks::{expiry, is_open};
 use crate::readings::published;

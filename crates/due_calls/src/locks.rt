@@ -5,7 +5,7 @@ ghost use Rattle.swap_digraph.specs.Deal.{leads, IsWellSized};
 ghost use Rattle.ledger_core.specs.Book.{history};
 ghost use Rattle.ledger_core.specs.History.{is_open};
 ghost use Rattle.swap_rules.specs.Party.{expiry, has_expired, is_triggered};
-ghost use Rattle.due_calls.specs.Known.{AreDealTerms};
+ghost use Rattle.due_calls.specs.DealTerms.{AreDealTerms};
 
 use ledger_core::Facts;
 use swap_base::{ArcId, LockId, PartyId};

@@ -8,7 +8,7 @@ ghost use Rattle.swap_rules.specs.Party.{is_ready, leads_one};
 ghost use Rattle.swap_rules.specs.Conduct.{is_publish};
 ghost use Rattle.swap_rules.specs.Due.{due_publishes, first, has_called};
 ghost use Rattle.ledger_core.specs.Book.{history};
-ghost use Rattle.due_calls.specs.Known.{AreDealTerms};
+ghost use Rattle.due_calls.specs.DealTerms.{AreDealTerms};
 ghost use Rattle.due_calls.specs.Publish.{publish_action};
 
 use crate::readings::{is_ready, leads_one};

@@ -6,7 +6,7 @@ ghost use Rattle.swap_rules.specs.Party.{is_correct, is_good, is_ready, leads_on
 ghost use Rattle.ledger_core.specs.Book.{history};
 ghost use Rattle.ledger_core.specs.Facts.{checked_history_publication};
 ghost use Rattle.escrow_core.specs.Terms.{stated_terms};
-ghost use Rattle.due_calls.specs.Known.{AreDealTerms};
+ghost use Rattle.due_calls.specs.DealTerms.{AreDealTerms};
 
 use ledger_core::{Facts, Published};
 use swap_base::{ArcId, PartyId};

@@ -7,7 +7,7 @@ ghost use Rattle.swap_digraph.specs.Deal.{IsWellSized};
 ghost use Rattle.swap_rules.specs.Due.{due_refunds, first, has_called, is_due_refund, is_refunding};
 ghost use Rattle.ledger_core.specs.Book.{history};
 ghost use Rattle.ledger_core.specs.History.{published, settled};
-ghost use Rattle.due_calls.specs.Known.{AreDealTerms};
+ghost use Rattle.due_calls.specs.DealTerms.{AreDealTerms};
 ghost use Rattle.due_calls.specs.Settling.{refund_action};
 
 use crate::heights::arc_height;

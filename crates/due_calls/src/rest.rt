@@ -3,7 +3,7 @@
 ghost use Rattle.std.specs.Prelude.{◌≡◌, ◌<◌, true, map, length};
 ghost use Rattle.swap_digraph.specs.Deal.{IsWellSized};
 ghost use Rattle.swap_rules.specs.Rest.{is_waiting, rest_deadline};
-ghost use Rattle.due_calls.specs.Known.{AreDealTerms};
+ghost use Rattle.due_calls.specs.DealTerms.{AreDealTerms};
 
 use crate::heights::least_expiry;
 use crate::locks::is_triggered;

@@ -7,8 +7,8 @@ ghost use Rattle.swap_rules.specs.Party.{opens_without_party};
 ghost use Rattle.swap_rules.specs.Due.{due_unlocks, has_called, unlocks_lock, Wallet};
 ghost use Rattle.ledger_core.specs.Book.{history};
 ghost use Rattle.ledger_core.specs.History.{opened};
-ghost use Rattle.due_calls.specs.Known.{AreDealTerms};
-ghost use Rattle.due_calls.specs.Parts.{due_base, first_closed, next_due_unlock};
+ghost use Rattle.due_calls.specs.DealTerms.{AreDealTerms};
+ghost use Rattle.due_calls.specs.DueUnlock.{due_base, first_closed, next_due_unlock};
 ghost use Rattle.due_calls.specs.Unlocks.{first_seen_arc, IsFirstUnlock, IsSeenBase};
 ghost use Rattle.party_wallet.specs.Value.{signed_hashkey};
 
@@ -52,7 +52,7 @@ fn first_seen_arc<F: Facts>(deal: &Deal, me: PartyId, known: &[F], lock: LockId)
 }
 
 /// Where the hashkey for the lock comes from, if there is one.
-#[tactic(auto, unfolding(crate::specs::Parts::due_base))]
+#[tactic(auto, unfolding(crate::specs::DueUnlock::due_base))]
 pub fn due_base<F: Facts>(
     deal: &Deal,
     me: PartyId,
@@ -102,7 +102,7 @@ fn first_closed<F: Facts>(deal: &Deal, me: PartyId, known: &[F], lock: LockId) -
 }
 
 /// The unlock for the lock that is due where the party is ready.
-#[tactic(auto, unfolding(crate::specs::Parts::next_due_unlock))]
+#[tactic(auto, unfolding(crate::specs::DueUnlock::next_due_unlock))]
 fn next_due_unlock<F: Facts>(
     deal: &Deal,
     me: PartyId,

@@ -19,7 +19,7 @@ use Rattle.escrow_core.specs.declared.reply.Reply.{Reply}
 use Rattle.escrow_core.specs.declared.reply.Reply.TheVariants.{Accepted, WrongSecret, WrongPath, WrongSignature, TooLate}
 use Rattle.escrow_core.specs.Table.{first_row}
 use Rattle.escrow_core.specs.Terms.{terms_hashlock, last_unlock}
-use Rattle.escrow_core.specs.Parts.{key_rows}
+use Rattle.escrow_core.specs.ContractRows.{key_rows}
 
 -- the reply that follows from the answer, where late tells that the height is above last
 abbrev pub reply_for : HashkeyAnswer → (late : Bool) → (last : ℕ) → Reply

@@ -4,7 +4,7 @@ use Rattle.std.specs.Prelude.{unwrap_or, IfSome}
 use Rattle.std.specs.List.{range_with_len}
 use Rattle.swap_digraph.proofs.Ranges.{filter_on, filter_off}
 use Rattle.escrow_core.specs.Terms.{least}
-use Rattle.escrow_core.specs.Parts.{lesser}
+use Rattle.escrow_core.specs.ContractRows.{lesser}
 
 -- the least, where there is one
 abbrev pub least_number : List ℕ → Option ℕ

@@ -3,4 +3,4 @@ pub mod Terms
 pub mod Table
 pub mod Value
 pub mod Inside
-pub mod Parts
+pub mod ContractRows

@@ -3,10 +3,10 @@
 ghost use Rattle.std.specs.Prelude.{◌≡◌, ◌≢◌, ◌≤◌, ◌<◌, IsTrue, length};
 ghost use Rattle.swap_digraph.specs.declared.deal.Deal.{Deal};
 ghost use Rattle.swap_digraph.specs.Deal.{IsWellSized};
-ghost use Rattle.hashkey_path.specs.Known.{is_last_signed};
+ghost use Rattle.hashkey_path.specs.LastSignatures.{is_last_signed};
 ghost use Rattle.escrow_core.specs.Table.{first_row, unlock_rows, claim_rows, refund_rows};
 ghost use Rattle.escrow_core.specs.Value.{AreFitting, IsDealContract, is_lock_open, new_contract, with_opened, with_settled};
-ghost use Rattle.escrow_core.specs.Parts.{own_claim_rows};
+ghost use Rattle.escrow_core.specs.ContractRows.{own_claim_rows};
 
 use crate::decisions::{first_closed, key_reply};
 use crate::reply::Reply;
@@ -108,12 +108,12 @@ impl Contract {
         height: u32,
         sender: PartyId,
         key: &Hashkey,
-        known: usize,
+        verified: usize,
     ) -> Reply
         requires sized { IsWellSized deal.now }
         requires of_the_deal { IsDealContract deal.now self.now }
         requires lock { key.now.lock < length deal.now.leaders }
-        requires known { IsTrue (is_last_signed known deal.now key.now) }
+        requires known { IsTrue (is_last_signed verified deal.now key.now) }
         ensures { result ≡ first_row (unlock_rows deal.now self.now.arc self.now.terms (is_lock_open self.now) self.now.settled height sender key.now) }
     {
         if self.is_settled() {
@@ -125,7 +125,7 @@ impl Contract {
         if self.is_open(key.lock) {
             return Reply::AlreadyUnlocked;
         }
-        key_reply(deal, self.arc(), self.terms(), height, key, known)
+        key_reply(deal, self.arc(), self.terms(), height, key, verified)
     }
 
     fn claim_reply(&self, sender: PartyId) -> Reply
@@ -178,26 +178,26 @@ impl Contract {
         self.to
     }
 
-    /// Opens the hashkey's lock, where the table accepts it. The last `known` signatures are known
-    /// to be valid, and aren't verified.
+    /// Opens the hashkey's lock, where the table accepts it. The last `verified` signatures were
+    /// verified before, and aren't verified here.
     pub fn unlock(
         &mut self,
         deal: &Deal,
         height: u32,
         sender: PartyId,
         key: &Hashkey,
-        known: usize,
+        verified: usize,
     ) -> Reply
         requires sized { IsWellSized deal.now }
         requires of_the_deal { IsDealContract deal.now self.old }
         requires lock { key.now.lock < length deal.now.leaders }
-        requires known { IsTrue (is_last_signed known deal.now key.now) }
+        requires known { IsTrue (is_last_signed verified deal.now key.now) }
         ensures reply { result ≡ first_row (unlock_rows deal.now self.old.arc self.old.terms (is_lock_open self.old) self.old.settled height sender key.now) }
         ensures accepted { result ≡ Reply.Accepted → self.new ≡ with_opened self.old key.now.lock }
         ensures refused { result ≢ Reply.Accepted → self.new ≡ self.old }
         ensures kept { IsDealContract deal.now self.new }
     {
-        let reply = self.unlock_reply(deal, height, sender, key, known);
+        let reply = self.unlock_reply(deal, height, sender, key, verified);
         match reply {
             Reply::Accepted => self.opened[key.lock as usize] = true,
             _ => {}

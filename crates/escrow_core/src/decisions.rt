@@ -3,10 +3,10 @@
 ghost use Rattle.std.specs.Prelude.{◌≡◌, ◌<◌, length, not, IfSome, IsTrue};
 ghost use Rattle.std.specs.List.{position_from};
 ghost use Rattle.swap_digraph.specs.Deal.{IsWellSized};
-ghost use Rattle.hashkey_path.specs.Known.{is_last_signed};
+ghost use Rattle.hashkey_path.specs.LastSignatures.{is_last_signed};
 ghost use Rattle.escrow_core.specs.Table.{first_row};
 ghost use Rattle.escrow_core.specs.Value.{AreFitting};
-ghost use Rattle.escrow_core.specs.Parts.{key_rows};
+ghost use Rattle.escrow_core.specs.ContractRows.{key_rows};
 
 use crate::reply::Reply;
 use crate::terms::Terms;
@@ -30,17 +30,17 @@ pub(crate) fn key_reply(
     terms: &Terms,
     height: u32,
     key: &Hashkey,
-    known: usize,
+    verified: usize,
 ) -> Reply
     requires sized { IsWellSized deal.now }
     requires arc { arc < length deal.now.graph.arcs }
     requires fitting { AreFitting deal.now terms.now }
     requires lock { key.now.lock < length deal.now.leaders }
-    requires known { IsTrue (is_last_signed known deal.now key.now) }
+    requires known { IsTrue (is_last_signed verified deal.now key.now) }
     ensures { result ≡ first_row (key_rows deal.now arc terms.now height key.now) }
 {
     let hashlock = terms.locks.get(key.lock);
-    match check(deal, arc, &hashlock, key, known) {
+    match check(deal, arc, &hashlock, key, verified) {
         HashkeyAnswer::WrongSecret => Reply::WrongSecret,
         HashkeyAnswer::WrongPath => Reply::WrongPath,
         HashkeyAnswer::WrongSignature(_) => Reply::WrongSignature,

@@ -3,7 +3,7 @@
 ghost use Rattle.std.specs.Prelude.{◌≡◌, ◌≤◌, ◌<◌, ◌^◌, false, length, slice_index_or};
 ghost use Rattle.escrow_core.specs.Terms.{lock_expiry, is_own, last_unlock, refund_expiry};
 ghost use Rattle.escrow_core.specs.Value.{AreFitting};
-ghost use Rattle.escrow_core.specs.Parts.{lesser};
+ghost use Rattle.escrow_core.specs.ContractRows.{lesser};
 
 use crate::terms::Terms;
 use hashkey_path::Hashkey;

@@ -108,7 +108,7 @@ impl Chains {
         })
     }
 
-    /// The value that so many steps lead to from the start of a chain.
+    /// The value that stands `steps` steps behind the start of a chain.
     pub fn value(&self, chain: usize, steps: u8) -> &ChainValue
         requires chain { chain < 67 }
         requires steps { steps ≤ 15 }

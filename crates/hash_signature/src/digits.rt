@@ -26,7 +26,7 @@ pub(crate) fn digits(message: &Digest) -> [u8; CHAINS]
     out
 }
 
-/// How many steps are left of each chain after so many.
+/// How many steps are left of each chain, given how many were taken.
 pub(crate) fn rests(steps: &[u8; CHAINS]) -> [u8; CHAINS]
     requires { (j : ℕ) → slice_index steps.now j ≤ 15 }
     ensures { (j : ℕ) → j < 67 → slice_index result j ≡ 15 - slice_index steps.now j }

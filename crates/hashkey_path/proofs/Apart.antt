@@ -91,7 +91,7 @@ same_digests (x ∷ xs) (y ∷ ys) us vs l a b e =
     let r = same_digests xs ys us vs (omega arith) (all_tail (λ z. length z ≡ 32) x xs a) (all_tail (λ z. length z ≡ 32) y ys b) p.1 in
     (ap (λ z. z ∷ xs) p.0 ∙ ap (λ zs. y ∷ zs) r.0, r.1)
 
--- rows of so many digests each
+-- rows of n digests each
 same_rows : (n : ℕ) (xs ys : List (List (List ℕ))) (us vs : List ℕ) → length xs ≡ length ys → All AreDigests xs → All AreDigests ys
     → All (λ row. length row ≡ n) xs → All (λ row. length row ≡ n) ys → flat_map joined xs ++ us ≡ flat_map joined ys ++ vs → (xs ≡ ys) × (us ≡ vs)
 same_rows n [] [] us vs l a b s t e = (refl, e)

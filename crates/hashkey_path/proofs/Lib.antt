@@ -1,6 +1,6 @@
 pub mod Answered
 pub mod Feeding
-pub mod Known
+pub mod LastSignatures
 pub mod Paths
 pub mod Signed
 pub mod Validity

@@ -1,5 +1,5 @@
 pub mod Digest
 pub mod Hashkey
-pub mod Known
+pub mod LastSignatures
 pub mod Law
 pub mod Signed

@@ -3,7 +3,7 @@
 ghost use Rattle.std.specs.Prelude.{◌≡◌, ◌<◌, ◌↔◌, IsTrue, length};
 ghost use Rattle.swap_digraph.specs.Deal.{IsWellSized};
 ghost use Rattle.hashkey_path.specs.Hashkey.{hashkey_answer, is_wrong_path, IsValidHashkey};
-ghost use Rattle.hashkey_path.specs.Known.{is_last_signed};
+ghost use Rattle.hashkey_path.specs.LastSignatures.{is_last_signed};
 
 use crate::hashkey::{Hashkey, HashkeyAnswer};
 use crate::path::{first_is, is_path, last_is};
@@ -37,12 +37,12 @@ fn hashkey_answer(
     arc: ArcId,
     hashlock: &Digest,
     key: &Hashkey,
-    known: usize,
+    verified: usize,
 ) -> HashkeyAnswer
     requires sized { IsWellSized deal.now }
     requires arc { arc < length deal.now.graph.arcs }
     requires lock { key.now.lock < length deal.now.leaders }
-    requires known { IsTrue (is_last_signed known deal.now key.now) }
+    requires known { IsTrue (is_last_signed verified deal.now key.now) }
     ensures { result ≡ hashkey_answer deal.now arc hashlock.now key.now }
 {
     if hashed_value(&key.secret) != *hashlock {
@@ -56,7 +56,7 @@ fn hashkey_answer(
         Mode::Hashkeys => {
             let path = key.path.as_slice();
             let sigs = key.sigs.as_slice();
-            match wrong_signature(0, deal, key.lock, &key.secret, path, sigs, known) {
+            match wrong_signature(0, deal, key.lock, &key.secret, path, sigs, verified) {
                 None => HashkeyAnswer::Valid,
                 Some(place) => HashkeyAnswer::WrongSignature(place),
             }
@@ -65,21 +65,21 @@ fn hashkey_answer(
 }
 
 /// Whether the hashkey is valid on the arc under the hashlock, or the first thing that is wrong
-/// with it. The last `known` signatures are known to be valid, and aren't verified: all are where
-/// it is at least their number. It takes no memory.
+/// with it. The last `verified` signatures were verified before, and aren't verified here. Where
+/// `verified` is at least the number of signatures, none is verified. It takes no memory.
 pub fn check(
     deal: &Deal,
     arc: ArcId,
     hashlock: &Digest,
     key: &Hashkey,
-    known: usize,
+    verified: usize,
 ) -> HashkeyAnswer
     requires sized { IsWellSized deal.now }
     requires arc { arc < length deal.now.graph.arcs }
     requires lock { key.now.lock < length deal.now.leaders }
-    requires known { IsTrue (is_last_signed known deal.now key.now) }
+    requires known { IsTrue (is_last_signed verified deal.now key.now) }
     ensures first { result ≡ hashkey_answer deal.now arc hashlock.now key.now }
     ensures valid { (result ≡ HashkeyAnswer.Valid) ↔ IsValidHashkey deal.now arc hashlock.now key.now }
 {
-    hashkey_answer(deal, arc, hashlock, key, known)
+    hashkey_answer(deal, arc, hashlock, key, verified)
 }

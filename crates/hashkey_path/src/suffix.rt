@@ -3,7 +3,7 @@
 ghost use Rattle.std.specs.Prelude.{◌≡◌, ◌+◌, ◌<◌, All, IsTrue, length};
 ghost use Rattle.swap_digraph.specs.Deal.{HasKeys};
 ghost use Rattle.hashkey_path.specs.Hashkey.{party_public_key, signing_message, wrong_signature};
-ghost use Rattle.hashkey_path.specs.Known.{are_last_signed};
+ghost use Rattle.hashkey_path.specs.LastSignatures.{are_last_signed};
 
 use hash_signature::{Sig, verify};
 use sha2::{Digest as Hasher, Sha256};
@@ -50,7 +50,8 @@ pub(crate) fn signing_message(
 }
 
 /// The first place, counted from `place`, with a signature that its vertex didn't make over its
-/// suffix. It ends where either list does, and verifies none of the last `known` signatures.
+/// suffix. It ends where either list does, and verifies none of the last `verified` signatures,
+/// which were verified before.
 #[tactic(auto, unfolding(crate::specs::Hashkey::is_signed))]
 pub(crate) fn wrong_signature(
     place: u8,
@@ -59,24 +60,24 @@ pub(crate) fn wrong_signature(
     secret: &Digest,
     path: &[PartyId],
     sigs: &[Sig],
-    known: usize,
+    verified: usize,
 ) -> Option<u8>
     requires keys { HasKeys Mode.Hashkeys deal.now }
     requires lock { lock < length deal.now.leaders }
     requires few { place + length path.now < 256 }
     requires within { All (λ v. v < deal.now.graph.n) path.now }
-    requires known { IsTrue (are_last_signed known deal.now lock secret.now path.now sigs.now) }
+    requires known { IsTrue (are_last_signed verified deal.now lock secret.now path.now sigs.now) }
     ensures { result ≡ wrong_signature place deal.now lock secret.now path.now sigs.now }
 {
     match (path, sigs) {
         ([v, rest @ ..], [sig, inner @ ..]) => {
-            if sigs.len() <= known {
+            if sigs.len() <= verified {
                 return None;
             }
             let public = party_public_key(deal, *v, lock);
             let message = signing_message(&deal.id, lock, path, secret, inner);
             if verify(&public, &message, sig) {
-                wrong_signature(place + 1, deal, lock, secret, rest, inner, known)
+                wrong_signature(place + 1, deal, lock, secret, rest, inner, verified)
             } else {
                 Some(place)
             }

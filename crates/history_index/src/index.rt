@@ -24,7 +24,7 @@ use ledger_core::{BoxedEntry, CallKind, Entry, Facts, Item, Published, Run, Sett
 use std::alloc::Global;
 use std::marker::Model;
 use std::sync::ledger::Ledger;
-use swap_base::{ArcId, LockId, NoMemory, PartyId, Past};
+use swap_base::{ArcId, GhostList, LockId, NoMemory, PartyId};
 use swap_digraph::Deal;
 
 /// The calls of an arc's ledger, with the answers over all its entries, oldest first. Of ticks it
@@ -36,7 +36,7 @@ pub struct Index {
     from: Caller,
     to: Caller,
     /// What was pushed, which only clauses read.
-    past: Past<Item>,
+    past: GhostList<Item>,
     count: u32,
     answers: Answers,
     made: Vec<Made>,
@@ -69,7 +69,7 @@ impl Index {
             terms: stated_terms(deal, arc),
             from: Caller::new(alloc, ends.from),
             to: Caller::new(alloc, ends.to),
-            past: Past::new(),
+            past: GhostList::new(),
             count: 0,
             answers: Answers::new(),
             made: Vec::new(alloc),
@@ -77,7 +77,7 @@ impl Index {
         })
     }
 
-    /// Makes room for so many further calls. Want of memory leaves everything as it was.
+    /// Makes room for `more` further calls. Want of memory leaves everything as it was.
     pub fn reserve(&mut self, more: usize) -> Result<(), NoMemory>
         ensures ok { OnOk result (more ≤ self.new.spare) }
         ensures room { more ≤ self.old.spare → IsOk result }
@@ -205,7 +205,7 @@ impl Index {
 }
 
 /// What was pushed with one more entry, and that entry again.
-fn with_entry(past: &Past<Item>, entry: BoxedEntry) -> (Past<Item>, Entry)
+fn with_entry(past: &GhostList<Item>, entry: BoxedEntry) -> (GhostList<Item>, Entry)
     ensures past { result.0.items ≡ past.now.items ++ One entry ∷ [] }
     ensures entry { result.1 ≡ entry }
 {

@@ -20,7 +20,7 @@ use Rattle.swap_rules.specs.Late.{unlock_base, counts, reference_height, trigger
 use Rattle.swap_digraph.proofs.Paths.{is_listed-true, in-is_listed}
 use Rattle.hash_signature.proofs.Bytes.{same_truth}
 use Rattle.late_check.specs.declared.counting.Counted.TheVariants as counted
-use Rattle.late_check.specs.Parts.{claim_start, is_counted_call, publish_start, refund_start, unlock_start, IsAsked}
+use Rattle.late_check.specs.Overdue.{claim_start, is_counted_call, publish_start, refund_start, unlock_start, IsAsked}
 
 -- The ends of an arc tell whether it leaves or enters a party.
 

@@ -10,7 +10,7 @@ use Rattle.ledger_core.specs.History.{Opening, opened}
 use Rattle.ledger_core.specs.Book.{Histories, history}
 use Rattle.swap_rules.specs.Party.{first_seen_key, key_without_party, opens_without_party}
 use Rattle.swap_rules.specs.Late.{unlock_base}
-use Rattle.late_check.specs.Parts.{greatest_index_use}
+use Rattle.late_check.specs.Overdue.{greatest_index_use}
 use Rattle.late_check.proofs.FirstAnswer.{some_first}
 
 pub base_with : (d : Deal) (b : Histories) (v i : ℕ) (first : Option Hashkey)

@@ -18,7 +18,7 @@ use Rattle.swap_rules.specs.Late.{counts, is_done, is_past_due, reference_height
 use Rattle.swap_rules.specs.Party.{pick_call}
 use Rattle.swap_rules.specs.Findings.{arc_late_findings, lates, or_zero}
 use Rattle.late_check.specs.declared.counting.Counted.{Counted}
-use Rattle.late_check.specs.Parts.{is_counted_call, counts_entry, has_counted_call, is_overdue, rule_late_findings, overdue, IsAsked}
+use Rattle.late_check.specs.Overdue.{is_counted_call, counts_entry, has_counted_call, is_overdue, rule_late_findings, overdue, IsAsked}
 use Rattle.late_check.proofs.Base.{any_same}
 
 abbrev pub listed : ℕ → Rule → ℕ → Option ℕ → List Finding

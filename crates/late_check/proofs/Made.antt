@@ -14,7 +14,7 @@ use Rattle.swap_rules.specs.Conduct.{extends}
 use Rattle.swap_rules.specs.Late.{height_if, is_carried}
 use Rattle.late_check.specs.declared.counting.Counted.{Counted}
 use Rattle.late_check.specs.declared.counting.Counted.TheVariants as counted
-use Rattle.late_check.specs.Parts.{is_counted_call, counts_entry, greatest_index_use, has_counted_call, is_used_with_key}
+use Rattle.late_check.specs.Overdue.{is_counted_call, counts_entry, greatest_index_use, has_counted_call, is_used_with_key}
 
 -- no tick is a call
 

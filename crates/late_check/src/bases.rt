@@ -8,7 +8,7 @@ ghost use Rattle.ledger_core.specs.Book.{history};
 ghost use Rattle.ledger_core.specs.History.{opened};
 ghost use Rattle.history_index.specs.Indexes.{all_entries, AreIndexes};
 ghost use Rattle.swap_rules.specs.Late.{unlock_base, height_of_opening, is_carried};
-ghost use Rattle.late_check.specs.Parts.{greatest_index_use, is_used_with_key};
+ghost use Rattle.late_check.specs.Overdue.{greatest_index_use, is_used_with_key};
 
 use crate::openings::{first_seen_key, opening_height};
 use hashkey_path::Hashkey;
@@ -60,7 +60,7 @@ fn greatest_index_use(
 }
 
 /// The greatest height at which the used hashkey was accepted on the arc.
-#[tactic(auto, unfolding(crate::specs::Parts::greatest_index_use))]
+#[tactic(auto, unfolding(crate::specs::Overdue::greatest_index_use))]
 fn greatest_arc_use(
     known: &[Index],
     party: PartyId,

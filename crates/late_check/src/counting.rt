@@ -4,7 +4,7 @@ ghost use Rattle.std.specs.Prelude.{◌≡◌, option_copied};
 ghost use Rattle.std.specs.List.{list_any};
 ghost use Rattle.ledger_core.specs.Book.{history};
 ghost use Rattle.history_index.specs.Indexes.{all_entries};
-ghost use Rattle.late_check.specs.Parts.{is_counted_call, counts_entry, has_counted_call};
+ghost use Rattle.late_check.specs.Overdue.{is_counted_call, counts_entry, has_counted_call};
 
 use hashkey_path::Hashkey;
 use history_index::{Index, Made};
@@ -38,7 +38,7 @@ fn counts(counted: &Counted, at: u32, call: Option<&Call>) -> bool
 }
 
 /// Whether the entry is a call of the party that counts, at a height of at most due.
-#[tactic(auto, unfolding(crate::specs::Parts::counts_entry))]
+#[tactic(auto, unfolding(crate::specs::Overdue::counts_entry))]
 fn counts_entry(counted: &Counted, party: PartyId, due: u64, entry: &Entry) -> bool
     ensures { result ≡ counts_entry counted.now party due entry.now }
 {

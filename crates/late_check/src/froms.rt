@@ -8,7 +8,7 @@ ghost use Rattle.ledger_core.specs.Book.{history};
 ghost use Rattle.ledger_core.specs.History.{opened};
 ghost use Rattle.history_index.specs.Indexes.{all_entries, AreIndexes};
 ghost use Rattle.swap_rules.specs.Party.{first_key, least_expiry, opens_without_party};
-ghost use Rattle.late_check.specs.Parts.{claim_start, publish_start, refund_start, unlock_start};
+ghost use Rattle.late_check.specs.Overdue.{claim_start, publish_start, refund_start, unlock_start};
 
 use crate::bases::unlock_base;
 use crate::openings::{first_seen_key, trigger_height};

@@ -9,7 +9,7 @@ ghost use Rattle.history_index.specs.Indexes.{all_entries, AreIndexes};
 ghost use Rattle.swap_rules.specs.Party.{first_key};
 ghost use Rattle.swap_rules.specs.Findings.{arc_late_findings, lates};
 ghost use Rattle.sent_keys.specs.Sent.{shown, party_unlocks};
-ghost use Rattle.late_check.specs.Parts.{rule_late_findings, overdue, publish_start, unlock_start, IsAsked};
+ghost use Rattle.late_check.specs.Overdue.{rule_late_findings, overdue, publish_start, unlock_start, IsAsked};
 
 use crate::counting::{Counted, is_done};
 use crate::froms::{claim_start, publish_start, refund_start, unlock_start};

@@ -66,7 +66,7 @@ module _ (g : Graph) (leaders : List ℕ) (h : ℕ) (height : IsHeight g leaders
           let sh : suc (length r.run) ≤ h = height.most (u ∷ r.run) long.0 long.2 in
           record { run = u ∷ r.run; short = sh; part = λ x. elim [ inl q ↦ inl q | inr j ↦ inr (r.part x j) ]; path = inr long; bound = omega arith }
 
-  -- a path that ends in a leader has at most so many vertices
+  -- a path that ends in a leader has at most as many arcs as `need` says
   pub path_law : (p : List ℕ) (l : ℕ) → is_path g p ≡ true → last_is l p ≡ true → IsElement l leaders → listed_arcs p ≤ need g.n (length leaders) h
   path_law [] l e last i = absurd (cc e)
   path_law (u ∷ p) l e last i =

@@ -12,7 +12,7 @@ use Rattle.time_bounds.specs.Times.{need}
 use Rattle.leader_check.specs.Followers.{is_follower}
 use Rattle.leader_check.proofs.Followers.{follower_is, parse_arc, arc_from, greatest-reached}
 use Rattle.swap_digraph.proofs.Paths.{in-is_listed, path_step, path_more, path_length}
-use Rattle.swap_digraph.proofs.Parts.{leader_among, not_leader, is_leader_not, meets_rest, part_to}
+use Rattle.swap_digraph.proofs.LeaderPaths.{leader_among, not_leader, is_leader_not, meets_rest, part_to}
 use Rattle.leader_check.proofs.Bounds.{paths_to_leaders_are_bounded}
 use Rattle.leader_check.specs.Distance.{greatest_next_value, prior_distance, bounded_distance, leader_distance}
 
@@ -127,7 +127,7 @@ module _ (g : Graph) (l : ℕ) where
       omega (arith, r, x, y)
 
 module _ (g : Graph) (l : ℕ) (ends : HasEnds g) (strong : IsStronglyConnected g) (leads : l < g.n) (feedback : IsFeedback g (l ∷ [])) where
-  -- a path of so many arcs from v that ends in the leader, or is cut off
+  -- a path of d arcs from v that ends in the leader, or is cut off at k arcs
   record Far (v k d : ℕ) : Type 0 where
     rest : List ℕ
     path : is_path g (v ∷ rest) ≡ true
@@ -188,7 +188,7 @@ module _ (g : Graph) (l : ℕ) (ends : HasEnds g) (strong : IsStronglyConnected 
           let s : prior_distance g l (bounded_distance g l k) v ≡ 0 = before-other g l (bounded_distance g l k) v (follower_is g (l ∷ []) v b ∙ e) in
           subst (Far v (suc k)) (sym s) (at_leader v (suc k) (leader_among l v e) b)
 
-  -- so many arcs are enough
+  -- k arcs are enough where k is at least the height
   pub dist_is : (h k v : ℕ) → IsHeight g (l ∷ []) h → h ≤ k → v < g.n → IsDist g l v (bounded_distance g l k v)
   dist_is h k v height le b = record { reached = go (far k v b); most = most }
     where

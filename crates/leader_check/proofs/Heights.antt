@@ -135,7 +135,7 @@ level-most g ls v (u ∷ q) e last o =
     omega (arith, x, r, m)
 
 module _ (g : Graph) (ls : List ℕ) (feedback : IsFeedback g ls) where
-  -- a path of so many followers that ends in v
+  -- a path of k followers that ends in v
   pub record Run (v k : ℕ) : Type 0 where
     pub run : List ℕ
     pub path : is_path g run ≡ true

@@ -13,7 +13,7 @@ greatest_next_value g f v = greatest (λ a. if a.from == v then f a.to else 0) g
 unfoldable pub prior_distance : Graph → ℕ → (ℕ → ℕ) → ℕ → ℕ
 prior_distance g leader f v = if is_follower g (leader ∷ []) v then greatest_next_value g f v + 1 else 0
 
--- the distance of v, counted along walks of at most so many arcs
+-- the distance of v, counted along walks of a bounded number of arcs
 unfoldable pub bounded_distance : Graph → ℕ → ℕ → ℕ → ℕ
 bounded_distance g leader zero v = 0
 bounded_distance g leader (suc most) v = prior_distance g leader (bounded_distance g leader most) v
@@ -23,6 +23,6 @@ bounded_distance g leader (suc most) v = prior_distance g leader (bounded_distan
 unfoldable pub leader_distance : Graph → ℕ → ℕ → ℕ
 leader_distance g leader v = bounded_distance g leader g.n v
 
--- the distances of the parties, counted along walks of at most so many arcs
+-- the distances of the parties, counted along walks of a bounded number of arcs
 abbrev pub bounded_distances : Graph → ℕ → ℕ → List ℕ
 bounded_distances g leader most = map (bounded_distance g leader most) (parties g)

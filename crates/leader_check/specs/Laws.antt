@@ -15,7 +15,7 @@ NoCycleIsFeedback = (g : Graph) (leaders : List ℕ) → (follower_cycle g leade
 abbrev pub GreatestLevelIsHeight : Type 0
 GreatestLevelIsHeight = (g : Graph) (leaders : List ℕ) → IsFeedback g leaders → IsHeight g leaders (greatest_level g leaders)
 
--- every path that ends in a leader has at most so many arcs
+-- every path that ends in a leader has at most this number of arcs
 abbrev pub HasBoundedLeaderPaths : Graph → List ℕ → ℕ → Type 0
 HasBoundedLeaderPaths g leaders most = (p : List ℕ) (leader : ℕ) → IsTrue (is_path g p) → IsTrue (last_is leader p) → IsTrue (is_listed leader leaders)
     → listed_arcs p ≤ most

@@ -14,7 +14,8 @@ greatest_prior_value g f v = greatest (λ a. if a.to == v then f a.from else 0) 
 unfoldable pub following_level : Graph → List ℕ → (ℕ → ℕ) → ℕ → ℕ
 following_level g leaders f v = if is_follower g leaders v then greatest_prior_value g f v + 1 else 0
 
--- the most vertices on a walk of followers that ends in v, of walks with at most so many vertices
+-- the most vertices on a walk of followers that ends in v, among walks of a bounded number of
+-- vertices
 unfoldable pub bounded_level : Graph → List ℕ → ℕ → ℕ → ℕ
 bounded_level g leaders zero v = 0
 bounded_level g leaders (suc most) v = following_level g leaders (bounded_level g leaders most) v
@@ -28,7 +29,7 @@ party_level g leaders v = bounded_level g leaders g.n v
 unfoldable pub greatest_level : Graph → List ℕ → ℕ
 greatest_level g leaders = greatest (party_level g leaders) (parties g)
 
--- the levels of the parties, of walks with at most so many vertices
+-- the levels of the parties, among walks of a bounded number of vertices
 abbrev pub bounded_levels : Graph → List ℕ → ℕ → List ℕ
 bounded_levels g leaders most = map (bounded_level g leaders most) (parties g)
 

@@ -13,8 +13,8 @@ pub fn greatest_level_is_height()
     ensures { GreatestLevelIsHeight }
 {}
 
-/// A path that ends in a leader has at most so many arcs as the parties, the leaders and the paths
-/// of followers allow.
+/// The numbers of parties and leaders and the longest path of followers bound the arcs of a path
+/// that ends in a leader.
 pub fn paths_to_leaders_are_bounded()
     ensures { PathsToLeadersAreBounded }
 {}

@@ -1,5 +1,5 @@
 pub mod History
-pub mod Known
+pub mod CallSignatures
 pub mod Units
 pub mod Bounds
 pub mod Contracts

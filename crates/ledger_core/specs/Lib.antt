@@ -4,7 +4,7 @@ pub mod Book
 pub mod Value
 pub mod Ledger
 pub mod Inside
-pub mod Known
+pub mod CallSignatures
 pub mod Runs
-pub mod Parts
+pub mod HistoryFields
 pub mod WellFormed

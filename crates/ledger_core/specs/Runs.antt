@@ -8,7 +8,7 @@ use Rattle.ledger_core.specs.declared.runs.Run.{Run}
 use Rattle.ledger_core.specs.declared.runs.Item.{Item}
 use Rattle.ledger_core.specs.declared.runs.Item.TheVariants.{One, Ticks}
 
--- so many ticks by k, above a height
+-- `count` ticks by k, above the height `at`
 abbrev pub ticks_above : (at k count : ℕ) → List Entry
 ticks_above at k zero = []
 ticks_above at k (suc n) = ticks_above at k n ++ tick_entry k (at + k * suc n) Accepted ∷ []

@@ -3,7 +3,7 @@
 ghost use Rattle.std.specs.Prelude.{◌≡◌, ◌≢◌, ◌<◌, ◌≤◌, ◌+◌, ◌==◌, ◌||◌, ◌&&◌, [], IsTrue, length, drop, is_some, is_none, OnOk, OnErr, IfOk};
 ghost use Rattle.swap_digraph.specs.Deal.{party, counterparty, IsWellSized, touches};
 ghost use Rattle.ledger_core.specs.History.{height, held, balance, accounts, published, settled, fit, is_full, history_reply, reply_to_tick, IsLegal};
-ghost use Rattle.ledger_core.specs.Known.{is_known_call};
+ghost use Rattle.ledger_core.specs.CallSignatures.{is_known_call};
 ghost use Rattle.ledger_core.specs.Ledger.{call_entry, tick_entry, HasEntryAdded, AreKept, AddUp};
 
 use crate::accounts::Accounts;
@@ -102,13 +102,13 @@ impl Ledger {
     }
 
     /// Makes a call at the present height, and answers with the reply that the table gives. The
-    /// last `known` signatures of its hashkey are known to be valid, and aren't verified. It takes
-    /// no memory.
-    pub fn apply(&mut self, sender: PartyId, call: Call, known: usize) -> Reply
+    /// last `verified` signatures of its hashkey were verified before, and aren't verified here. It
+    /// takes no memory.
+    pub fn apply(&mut self, sender: PartyId, call: Call, verified: usize) -> Reply
         requires spare { 0 < self.old.spare }
         requires of_the_two { IsTrue (touches self.old.deal sender self.old.arc) }
         requires fits { IsTrue (fit self.old.deal self.old.arc call) }
-        requires known { IsTrue (is_known_call known self.old.deal call) }
+        requires known { IsTrue (is_known_call verified self.old.deal call) }
         ensures reply { result ≡ history_reply self.old.deal self.old.arc self.old.history sender call }
         ensures full { result ≡ Reply.SenderFull → self.new ≡ self.old }
         ensures kept { result ≢ Reply.SenderFull → HasEntryAdded self.old (call_entry sender (height self.old.history) call result) self.new }
@@ -129,7 +129,7 @@ impl Ledger {
             balance,
             sender,
             &call,
-            known,
+            verified,
         );
         self.accounts = updated_accounts(self.party, self.accounts, from_party, &call, reply);
         self.party_calls = one_more_where(from_party, self.party_calls);

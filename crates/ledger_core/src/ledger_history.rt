@@ -30,7 +30,7 @@ impl Model for LedgerHistory {
 
     ghost Value = { HistoryState };
 
-    ghost use Rattle.ledger_core.specs.Parts.{inside_history, AreParts};
+    ghost use Rattle.ledger_core.specs.HistoryFields.{inside_history, AreParts};
 
     ghost view = { inside_history };
 

@@ -3,7 +3,7 @@
 ghost use Rattle.std.specs.Prelude.{◌≡◌, ◌+◌, ◌<◌, ◌≤◌, ◌==◌, IsTrue, length, nat_lt, if◌then◌else◌};
 ghost use Rattle.swap_digraph.specs.Deal.{IsWellSized};
 ghost use Rattle.ledger_core.specs.History.{accepted_call, moved_accounts, transferred, fit};
-ghost use Rattle.ledger_core.specs.Known.{is_known_call};
+ghost use Rattle.ledger_core.specs.CallSignatures.{is_known_call};
 ghost use Rattle.ledger_core.specs.Ledger.{reply_by_contract, next_contract, CanMove, IsHistoryContract};
 
 use crate::accounts::Accounts;
@@ -60,13 +60,13 @@ pub(crate) fn make_reply(
     balance: u64,
     sender: PartyId,
     call: &Call,
-    known: usize,
+    verified: usize,
 ) -> Reply
     requires sized { IsWellSized deal.now }
     requires arc { arc < length deal.now.graph.arcs }
     requires contract { IsHistoryContract deal.now arc contract.old }
     requires fits { IsTrue (fit deal.now arc call.now) }
-    requires known { IsTrue (is_known_call known deal.now call.now) }
+    requires known { IsTrue (is_known_call verified deal.now call.now) }
     ensures reply { result ≡ reply_by_contract deal.now arc contract.old height balance sender call.now }
     ensures contract { contract.new ≡ next_contract deal.now arc contract.old (accepted_call (What.Call call.now) result) }
 {
@@ -74,7 +74,7 @@ pub(crate) fn make_reply(
         Call::Publish(terms) => publish(deal, arc, contract, balance, sender, terms),
         Call::Unlock(key) => match contract {
             None => Reply::NoContract,
-            Some(contract) => contract.unlock(deal, height, sender, key, known),
+            Some(contract) => contract.unlock(deal, height, sender, key, verified),
         },
         Call::Claim => match contract {
             None => Reply::NoContract,

@@ -3,7 +3,7 @@ use Rattle.std.proofs.Common.{◌≡◌, ℕ, suc, ◌<◌, ◌==◌, Bool, true
 use Rattle.std.proofs.Common.{if◌then◌else◌}
 use Rattle.std.specs.List.{AllByRecursion}
 use mathlib.Core.List.{IsPrefix}
-use Rattle.turn_lock.specs.Parts.{author_entries, Covers, HaveAuthorsBelow}
+use Rattle.turn_lock.specs.SeatHistory.{author_entries, Covers, HaveAuthorsBelow}
 use Rattle.swap_digraph.specs.declared.deal.Deal.{Deal}
 use Rattle.swap_digraph.specs.Deal.{party, counterparty}
 use Rattle.ledger_core.specs.declared.entry.Entry.{Entry}

@@ -4,7 +4,7 @@
 ghost use Rattle.std.specs.Prelude.{◌≡◌, ◌<◌, ◌≤◌, ◌+◌, ◌^◌, ◌++◌, ◌==◌, ◌||◌, IsTrue, OnOk, OnErr, IfOk, IfErr, length, drop};
 ghost use Rattle.swap_digraph.specs.Deal.{party, counterparty};
 ghost use Rattle.ledger_core.specs.History.{height, fit, history_reply, reply_to_tick, IsLegal};
-ghost use Rattle.ledger_core.specs.Known.{is_known_call};
+ghost use Rattle.ledger_core.specs.CallSignatures.{is_known_call};
 ghost use Rattle.ledger_core.specs.Ledger.{call_entry, tick_entry};
 ghost use Rattle.ledger_shared.specs.Value.{added_by_call, added_by_tick};
 
@@ -60,13 +60,13 @@ fn make(
     prepared: Prepared,
     sender: PartyId,
     call: Call,
-    known: usize,
+    verified: usize,
 ) -> Called
     requires room { 0 < ledger.old.spare }
     requires copied { prepared.call ≡ call }
     requires of_the_two { IsTrue ((sender == party ledger.old.deal ledger.old.arc) || (sender == counterparty ledger.old.deal ledger.old.arc)) }
     requires fits { IsTrue (fit ledger.old.deal ledger.old.arc call) }
-    requires known { IsTrue (is_known_call known ledger.old.deal call) }
+    requires known { IsTrue (is_known_call verified ledger.old.deal call) }
     ensures reply { result.reply ≡ history_reply ledger.old.deal ledger.old.arc ledger.old.history sender call }
     ensures deal { ledger.new.deal ≡ ledger.old.deal }
     ensures arc { ledger.new.arc ≡ ledger.old.arc }
@@ -79,7 +79,7 @@ fn make(
         mut fresh,
         call: copy,
     } = prepared;
-    let reply = ledger.apply(sender, call, known);
+    let reply = ledger.apply(sender, call, verified);
     match reply {
         Reply::SenderFull => {}
         _ => fresh.push(Entry {
@@ -102,12 +102,12 @@ pub(crate) fn call_at_end(
     seen: u32,
     sender: PartyId,
     call: Call,
-    known: usize,
+    verified: usize,
 ) -> Result<Called, Call>
     requires seen { seen ≤ length ledger.old.history }
     requires of_the_two { IsTrue ((sender == party ledger.old.deal ledger.old.arc) || (sender == counterparty ledger.old.deal ledger.old.arc)) }
     requires fits { IsTrue (fit ledger.old.deal ledger.old.arc call) }
-    requires known { IsTrue (is_known_call known ledger.old.deal call) }
+    requires known { IsTrue (is_known_call verified ledger.old.deal call) }
     ensures reply { IfOk result (λ c. c.reply ≡ history_reply ledger.old.deal ledger.old.arc ledger.old.history sender call) }
     ensures deal { ledger.new.deal ≡ ledger.old.deal }
     ensures arc { ledger.new.arc ≡ ledger.old.arc }
@@ -120,7 +120,7 @@ pub(crate) fn call_at_end(
     ensures kept { OnErr result (ledger.new.history ≡ ledger.old.history) }
 {
     match prepare(ledger, seen, &call) {
-        Ok(prepared) => Ok(make(ledger, prepared, sender, call, known)),
+        Ok(prepared) => Ok(make(ledger, prepared, sender, call, verified)),
         Err(NoMemory) => Err(call),
     }
 }

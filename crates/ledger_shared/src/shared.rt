@@ -4,7 +4,7 @@ ghost use Rattle.std.specs.Prelude.{◌≡◌, ◌≤◌, [], IsTrue, OnOk, OnEr
 ghost use mathlib.Core.List.{IsPrefix};
 ghost use Rattle.swap_digraph.specs.Deal.{party, counterparty};
 ghost use Rattle.ledger_core.specs.History.{fit, IsLegal};
-ghost use Rattle.ledger_core.specs.Known.{is_known_call};
+ghost use Rattle.ledger_core.specs.CallSignatures.{is_known_call};
 ghost use Rattle.ledger_shared.specs.Value.{party_made, with_seen, party_pass, table_clock, IsPartyPass, IsCounterpartyPass, HasCalled, HasTicked, Closes};
 ghost use Rattle.ledger_shared.specs.Value.{ClosesClock};
 
@@ -114,18 +114,18 @@ impl SharedLedger {
         self.call_known(rt, pass, call, 0)
     }
 
-    /// Makes a call, the last `known` of whose signatures are known to be valid and aren't
-    /// verified. It waits for the turn.
+    /// Makes a call. The last `verified` of its signatures were verified before, and aren't
+    /// verified here. It waits for the turn.
     pub fn call_known<R: Wait>(
         &self,
         rt: &R,
         pass: &mut Pass,
         call: Call,
-        known: usize,
+        verified: usize,
     ) -> Result<Called, CallBack>
         requires lock { pass.old.lock ≡ self.now.lock }
         requires fits { IsTrue (fit pass.old.deal pass.old.arc call) }
-        requires known { IsTrue (is_known_call known pass.old.deal call) }
+        requires known { IsTrue (is_known_call verified pass.old.deal call) }
         ensures called { IfOk result (λ c. HasCalled pass.old call c.reply c.fresh) }
         ensures seen { IfOk result (λ c. pass.new ≡ with_seen pass.old c.fresh) }
         ensures whole { OnOk result (IsPrefix pass.old.shared pass.new.seen) }
@@ -134,7 +134,7 @@ impl SharedLedger {
         ensures kept { OnErr result (pass.new ≡ pass.old) }
     {
         let mut ledger = take(rt, &self.lock, &mut pass.seat);
-        match call_at_end(&mut ledger, pass.seen, pass.party, call, known) {
+        match call_at_end(&mut ledger, pass.seen, pass.party, call, verified) {
             Ok(called) => {
                 pass.seen = ledger.len();
                 give(&self.lock, &mut pass.seat, ledger);

@@ -15,12 +15,12 @@ use Rattle.swap_gen.specs.Line.{event_line}
 use Rattle.made_jobs.specs.Summary.{summary}
 use Rattle.made_jobs.specs.Making.{written_line}
 
--- the header line of the job, and a line for each of so many events
+-- the header line of the job, and a line for each of its first `events` events
 unfoldable pub generated_text : (seed parties events : ℕ) → List ℕ
 generated_text seed parties events =
     written_line (generated seed parties) ++ lines (λ _. event_line (generated seed parties).names) 0 (generated_events seed parties events)
 
--- the histories after so many events and the fair finish
+-- the histories after the first `events` events and the fair finish
 unfoldable pub generated_book : (seed parties events : ℕ) → Histories
 generated_book seed parties events =
     (finish (job_cast (generated seed parties)) (run (job_cast (generated seed parties)) (generated_events seed parties events))).book
@@ -33,7 +33,7 @@ generated_summary seed parties events = summary (generated seed parties) events 
 abbrev pub is_found : Job → Histories → Bool
 is_found job b = not (length (build_report job.deal job.conforming b).findings == 0)
 
--- Of a job's events so many were drawn: the generator's next event is the next of them.
+-- The first `drawn` of a job's events were drawn, and the generator draws the next one.
 pub record HasDrawnEvents (seed parties events drawn : ℕ) (g : GeneratorState) : Type 0 where
   pub seed_is : g.seed ≡ seed
   pub parties_are : g.parties ≡ parties

@@ -44,8 +44,8 @@ line_step s l = do
   n ← counted s.0 l
   Ok (n, with_copied_line s.1 l)
 
--- a text with further lines after it, where so many were put before, or the reason against one of
--- them
+-- a text with further lines after it, given how many stand before them, or the reason against one
+-- of them
 unfoldable pub copied : ℕ → List ℕ → List (ℕ × List ℕ) → Result (List ℕ) Reason
 copied count text ls = do
   s ← steps line_step (count, text) ls

@@ -29,11 +29,12 @@ outcome_line os =
 unfoldable pub found_line : ℕ → List ℕ
 found_line found = joined (codes "findings " ∷ decimal found ∷ codes "\n" ∷ [])
 
--- the summary of so many events and their book, where the parties ended so and so much was found
+-- the summary of a number of events and their book, with the parties' outcomes and the number of
+-- findings
 unfoldable pub outcome_summary : DealOf → (events : ℕ) → Histories → List Outcome → (found : ℕ) → List ℕ
 outcome_summary d events b outcomes found = joined (codes "swap summary 1\n" ∷ size_line d ∷ run_line events b ∷ outcome_line outcomes ∷ found_line found ∷ [])
 
--- the summary of a job, so many events and the book of its run
+-- the summary of a job, its number of events and the book of its run
 unfoldable pub summary : Job → (events : ℕ) → Histories → List ℕ
 summary job events b =
     outcome_summary job.deal events b (map (outcome job.deal b) (range_with_len 0 job.deal.graph.n))

@@ -38,7 +38,7 @@ fn begin(alloc: Global, out: &mut Vec<u8>, seed: u32, parties: u8) -> Result<Beg
     Ok(Begun { generator, names })
 }
 
-/// Draws so many events, and hands on the line of each.
+/// Draws the given number of events, and hands on the line of each.
 fn write_events<K: Sink>(
     sink: &mut K,
     out: &mut Vec<u8>,

@@ -34,8 +34,8 @@ pub fn made_line(alloc: Global, job: &Job) -> Result<Vec<u8>, NoMemory>
     Ok(line)
 }
 
-/// Puts a line and a line feed behind a text, where so many lines were put before, and answers how
-/// many there are with it. The line isn't examined. A fault leaves the text as it was.
+/// Puts a line and a line feed behind a text, given how many lines the text has, and answers how
+/// many it has with this one. The line isn't examined. A fault leaves the text as it was.
 #[tactic(auto, unfolding(crate::specs::Making::line_step))]
 pub fn copy_line(
     alloc: Global,

@@ -26,7 +26,7 @@ pub struct Summary {
     pub found: bool,
 }
 
-/// The summary of a job's book after so many events.
+/// The summary of a job's book after `events` events.
 fn summed(alloc: Global, job: &Job, events: u32, book: &Book) -> Result<Summary, NoMemory>
     requires sized { IsWellSized job.now.deal }
     requires conforming { length job.now.conforming ≡ job.now.deal.graph.n }
@@ -42,7 +42,7 @@ fn summed(alloc: Global, job: &Job, events: u32, book: &Book) -> Result<Summary,
     Ok(Summary { text, found })
 }
 
-/// The summary of the run of a number's job, after so many events and the fair finish.
+/// The summary of the run of a number's job, after `events` events and the fair finish.
 pub fn summarize(alloc: Global, seed: u32, parties: u8, events: u32) -> Result<Summary, NoMemory>
     requires low { 2 ≤ parties }
     requires high { parties ≤ 24 }

@@ -20,6 +20,6 @@ pub record IsBoundedChain (names : List (List ℕ)) (units : List ℕ) : Type 0 
   pub each : length units ≡ length names
   pub low : AreLowUnits units
 
--- each is one of so many chains
+-- each is below the number of chains
 abbrev pub AreChainsBelow : ℕ → List ℕ → Type 0
 AreChainsBelow count chains = All (λ n. n < count) chains

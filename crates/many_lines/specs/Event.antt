@@ -95,8 +95,8 @@ parse_told many line word rest =
     else if is_word word (codes "sweep") then sweep_told many line rest
     else swap_told many line word rest
 
--- the event of a line, where so many event lines came before: what the line says goes by its first
--- field
+-- the event of a line, given the number of event lines before it: the line's first field decides
+-- how it is read
 unfoldable pub next_told : ManyJob → ℕ → ℕ → List ℕ → Result ManyEvent Refusal
 next_told many count line text =
     if count == 200000 then Err (refusal [] (OverLimit line (codes "events") 200001)) else parse_told many line (before_space text) (after_space text)

@@ -47,7 +47,7 @@ further_accounts a (name ∷ word ∷ ws) = account_added a name word >>= λ mor
 unfoldable pub history_accounts : List (List ℕ) → Result ChainAccounts Misspelling
 history_accounts ws = further_accounts no_accounts ws >>= λ a. if nat_lt 1 (length a.names) then Ok a else misspelt
 
--- ---- the chains of a swap's arcs, of so many
+-- ---- the chains of a swap's arcs, each below the number of chains
 
 unfoldable pub parse_chain_list : ℕ → List (List ℕ) → Result (List ℕ) Misspelling
 parse_chain_list count ws = parse_each_word (bounded_number count) ws
@@ -69,7 +69,7 @@ parse_finish_fields ws = do
 abbrev pub parse_heights : List ℕ → Result ℕ Misspelling
 parse_heights word = bounded_number 1000001 word >>= λ n. if nat_le 1 n then Ok n else misspelt
 
--- a tick of one of so many chains: the chain, and by how many heights
+-- a tick of a chain, which is below the number of chains: the chain, and by how many heights
 unfoldable pub parse_chain_tick : ℕ → List (List ℕ) → Result (ℕ × ℕ) Misspelling
 parse_chain_tick chains ws = do
   chain ← parse_first_field (bounded_number chains) ws

@@ -213,7 +213,7 @@ fn parse_told(
     }
 }
 
-/// The event of a line, where so many event lines came before it.
+/// The event of a line, given the number of event lines before it.
 #[tactic(auto, unfolding(crate::specs::Event::next_told))]
 pub fn next_many(
     alloc: Global,

@@ -42,8 +42,8 @@ fn heights_field(fields: &mut Parts<'_>) -> Result<u32, WordFault>
     parse_heights(word(fields)?)
 }
 
-/// A tick of one of so many chains, by the fields after the first: the chain, and by how many
-/// heights.
+/// A tick of a chain, by the fields after the first: the chain, which is below the number of
+/// chains, and by how many heights.
 #[tactic(auto, unfolding(crate::specs::Fields::parse_chain_tick))]
 pub fn read_tick(chains: usize, fields: &mut Parts<'_>) -> Result<(u8, u32), WordFault>
     requires { chains ≤ 256 }

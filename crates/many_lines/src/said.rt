@@ -66,7 +66,7 @@ pub(crate) fn parse_finish(
     }
 }
 
-/// A tick of one of so many chains.
+/// A tick of a chain, which is below the number of chains.
 #[tactic(auto, using(crate::proofs::Failing::fails))]
 pub(crate) fn parse_tick(
     alloc: Global,
@@ -122,7 +122,7 @@ pub(crate) fn parse_sweep(
     }
 }
 
-/// The number of a swap, of so many.
+/// The number of a swap, which is below the number of swaps.
 #[tactic(auto, using(crate::proofs::Failing::fails))]
 pub(crate) fn parse_swap(
     alloc: Global,

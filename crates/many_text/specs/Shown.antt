@@ -13,7 +13,7 @@ pub record AreShown (w : ManyState) (jobs : List Job) : Type 0 where
   pub one_each : length jobs ≡ length w.worlds
   pub swaps : (s : ℕ) (job : Job) → s < length jobs → job ≡ slice_index_or jobs s job → IsShownSwap w s job
 
--- Chain i of the world has so many accounts.
+-- Chain i of the world has an account for each of these names.
 pub record IsChainShown (w : ManyState) (i : ℕ) (names : List (List ℕ)) : Type 0 where
   pub few : length names ≤ 64
   pub accounts : length (slice_index_or w.openings i []) ≡ length names

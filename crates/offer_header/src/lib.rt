@@ -7,9 +7,9 @@
 
 mod fields;
 mod header;
+mod header_lists;
 mod limits;
 mod names;
-mod parts;
 mod raw;
 mod scripts;
 mod versions;

@@ -1,4 +1,4 @@
-pub mod Parts
+pub mod ReadNumbers
 pub mod Crafters
 pub mod Stands
 pub mod Made

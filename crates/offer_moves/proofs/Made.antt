@@ -31,7 +31,7 @@ use Rattle.offer_moves.specs.Placed.{adjacent, crafted_by_others, placed}
 use Rattle.offer_moves.specs.Kept.{AreSeeded, IsMadeMove}
 use Rattle.offer_fields.proofs.Chains.{went, each_length}
 use Rattle.offer_fields.proofs.Ranges.{passed, within_ok, number_within_ok}
-use Rattle.offer_moves.proofs.Parts.{number_below_ok, each_below}
+use Rattle.offer_moves.proofs.ReadNumbers.{number_below_ok, each_below}
 
 pub arc_fits : (d : Deal) (line : ℕ) (field : List ℕ) (n a : ℕ) → parse_arc (deal_sizes d) line field n ≡ Ok a → a < length d.graph.arcs
 unfolding parse_arc

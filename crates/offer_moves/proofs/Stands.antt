@@ -17,7 +17,7 @@ use Rattle.offer_moves.specs.Moves.{parse_transfer, parse_wait}
 use Rattle.offer_moves.specs.Moves.{parse_move}
 use Rattle.offer_moves.specs.Kept.{CanStand}
 use Rattle.offer_fields.proofs.Chains.{went}
-use Rattle.offer_moves.proofs.Parts.{number_below_ok, each_below}
+use Rattle.offer_moves.proofs.ReadNumbers.{number_below_ok, each_below}
 
 arc_below : (s : Sizes) (line : ℕ) (field : List ℕ) (n a : ℕ) → parse_arc s line field n ≡ Ok a → a < s.arcs
 unfolding parse_arc

@@ -8,7 +8,7 @@ ghost use Rattle.swap_rules.specs.Accepted.{IsAccepted};
 ghost use Rattle.swap_rules.specs.Findings.{findings, party_findings, unfinished};
 ghost use Rattle.swap_rules.specs.Outcome.{outcome};
 ghost use Rattle.swap_rules.specs.Laws.{FindsNothing, IsTransferred};
-ghost use Rattle.outcome_rules.specs.Parts.{arc_unfinished};
+ghost use Rattle.outcome_rules.specs.UnfinishedArcs.{arc_unfinished};
 ghost use Rattle.outcome_rules.specs.Promises.{AllAreConforming, AllHaveRefunds, NoneIsUnderwater};
 ghost use Rattle.outcome_rules.specs.Report.{is_conforming_party};
 

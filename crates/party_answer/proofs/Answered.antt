@@ -34,7 +34,7 @@ use Rattle.answer_rules.proofs.OnTime.{useful_has_height}
 use Rattle.answer_rules.proofs.Until.{unlocks_have_last}
 use Rattle.answer_rules.proofs.Ending.{finished_stays}
 use Rattle.answer_rules.proofs.Waiting.{ticks_leave_nothing}
-use Rattle.answer_rules.proofs.Parts.{nothing_in}
+use Rattle.answer_rules.proofs.UsefulKinds.{nothing_in}
 use Rattle.party_answer.specs.declared.timed.Timed.{Timed}
 use Rattle.party_answer.specs.declared.given.Answer.{Answer}
 use Rattle.party_answer.specs.declared.reason.AnswerReason.{AnswerReason}

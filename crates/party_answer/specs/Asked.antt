@@ -9,7 +9,7 @@ use Rattle.refusals.specs.declared.reason.Reason.TheVariants.{WrongWallet}
 use Rattle.refusals.specs.declared.refusal.Refusal.{Refusal}
 use Rattle.refusals.specs.Refusal.{refusal}
 use Rattle.party_wallet.specs.Fits.{wrong_lock}
-use Rattle.told_ledgers.specs.declared.told.ToldLedger.{ToldLedger}
+use Rattle.told_ledgers.specs.declared.told_ledger.ToldLedger.{ToldLedger}
 use Rattle.told_ledgers.specs.Telling.{ledgers_told, told_book}
 use Rattle.party_lines.specs.Lines.{ended_lines, nameless, following_line_number}
 use Rattle.party_lines.specs.Names.{party_named}

@@ -18,9 +18,9 @@ use Rattle.transcript_lines.specs.Between.{spaced}
 use Rattle.transcript_lines.specs.Words.{call_words, list_word, signature_word}
 use Rattle.answer_rules.specs.Finished.{are_finished}
 use Rattle.answer_rules.specs.Stopped.{unstopped}
-use Rattle.told_ledgers.specs.declared.told.BadEntry.{BadEntry}
-use Rattle.told_ledgers.specs.declared.told.Replies.{Replies}
-use Rattle.told_ledgers.specs.declared.told.ToldLedger.{ToldLedger}
+use Rattle.told_ledgers.specs.declared.told_ledger.BadEntry.{BadEntry}
+use Rattle.told_ledgers.specs.declared.told_ledger.Replies.{Replies}
+use Rattle.told_ledgers.specs.declared.told_ledger.ToldLedger.{ToldLedger}
 use Rattle.party_answer.specs.declared.reason.AnswerReason.{AnswerReason}
 use Rattle.party_answer.specs.declared.given.Answer.{Answer}
 use Rattle.party_answer.specs.declared.unkept.Unkept.{Unkept}

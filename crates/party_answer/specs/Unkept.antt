@@ -4,8 +4,8 @@ use Rattle.std.specs.Prelude.{ℕ, ◌+◌, ◌==◌, ◌&&◌, ◌||◌, Bool, 
 use Rattle.std.specs.List.{list_any}
 use Rattle.hashkey_path.specs.declared.hashkey.Hashkey.{Hashkey}
 use Rattle.swap_rules.specs.Conduct.{is_first_key}
-use Rattle.told_ledgers.specs.declared.told.OwnUnlock.{OwnUnlock}
-use Rattle.told_ledgers.specs.declared.told.ToldLedger.{ToldLedger}
+use Rattle.told_ledgers.specs.declared.told_ledger.OwnUnlock.{OwnUnlock}
+use Rattle.told_ledgers.specs.declared.told_ledger.ToldLedger.{ToldLedger}
 use Rattle.party_answer.specs.declared.unkept.Unkept.{Unkept}
 
 -- one of them is for the lock on arc a

@@ -27,11 +27,11 @@ use Rattle.due_calls.proofs.Unlocking.{not_ready}
 use Rattle.due_calls.proofs.Openings.{has_lock}
 use Rattle.due_calls.specs.declared.unlock_due.Base.{Base}
 use Rattle.due_calls.specs.declared.unlock_due.Base.TheVariants.{Signed, Own, Onto}
-use Rattle.due_calls.specs.Parts.{due_base}
+use Rattle.due_calls.specs.DueUnlock.{due_base}
 use Rattle.due_calls.specs.Unlocks.{make_due_key, first_seen_arc}
 use Rattle.due_calls.proofs.Keys.{ComesFrom, comes_from}
 use Rattle.party_machine.specs.Unlocking.{IsSignable}
-use Rattle.party_machine.proofs.Known.{released_history}
+use Rattle.party_machine.proofs.MachineEntries.{released_history}
 use Rattle.party_machine.proofs.Onto.{can_put_onto, found}
 
 -- Where a hashkey comes from.

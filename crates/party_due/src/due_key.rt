@@ -7,7 +7,7 @@ ghost use Rattle.ledger_core.specs.Facts.{opened_key};
 ghost use Rattle.history_index.specs.Indexes.{all_entries, AreIndexes};
 ghost use Rattle.swap_rules.specs.Due.{due_key, extended};
 ghost use Rattle.party_wallet.specs.Value.{signed_hashkey};
-ghost use Rattle.due_calls.specs.Parts.{due_base};
+ghost use Rattle.due_calls.specs.DueUnlock.{due_base};
 ghost use Rattle.due_calls.specs.Unlocks.{make_due_key};
 ghost use Rattle.party_machine.specs.Wallet.{seed_wallet};
 ghost use Rattle.party_machine.specs.Unlocking.{IsSignable};

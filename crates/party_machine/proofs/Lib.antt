@@ -1,6 +1,6 @@
 pub mod Digests
 pub mod Good
-pub mod Known
+pub mod MachineEntries
 pub mod Onto
 pub mod Signed
 pub mod Next

@@ -15,7 +15,7 @@ use Rattle.party_wallet.specs.Value.{signed_hashkey}
 use Rattle.wallet_journal.specs.Device.{LeavesOnly}
 use Rattle.wallet_journal.specs.Layout.{recorded}
 use Rattle.wallet_journal.specs.Journal.{MayHaveRecorded}
-use Rattle.wallet_journal.specs.Own.{FitsDeal}
+use Rattle.wallet_journal.specs.OwnDisks.{FitsDeal}
 use Rattle.party_machine.specs.Machine.{MachineState, due_action, next_due, noted_if_called}
 use Rattle.party_machine.specs.Recording.{unsigned_key, new_key, signs_next, MayHave, IsCallPlaced, IsPlaced, IsCallRecorded, IsRecorded}
 use Rattle.party_machine.proofs.Signed.{set_again, is_noted}

@@ -35,7 +35,7 @@ use Rattle.party_machine.specs.Rest.{rest_end_height, remaining_rest, EndsByExpi
 use Rattle.party_machine.specs.Within.{all_entries, IsReadyWallet}
 use Rattle.party_machine.specs.declared.rest.Rest.{Rest}
 use Rattle.party_machine.specs.declared.rest.Rest.TheVariants.{Awake, Until}
-use Rattle.party_machine.proofs.Known.{one_each, released_history, called_shows}
+use Rattle.party_machine.proofs.MachineEntries.{one_each, released_history, called_shows}
 
 -- what is awake may be
 pub awake : (r : Rest) (s : MachineState) → r ≡ Awake → MayRest r s

@@ -24,7 +24,7 @@ use Rattle.party_machine.specs.Wallet.{seed_wallet}
 use Rattle.party_machine.specs.Machine.{MachineState, due_action, next_due}
 use Rattle.party_machine.specs.Within.{all_entries, IsReadyWallet}
 use Rattle.party_machine.specs.Unlocking.{IsSignable, base_key, due_hashkey}
-use Rattle.party_machine.proofs.Known.{legal_at}
+use Rattle.party_machine.proofs.MachineEntries.{legal_at}
 use Rattle.party_machine.proofs.Onto.{can_put_onto}
 use Rattle.party_machine.proofs.Signed.{signed_ready, is_noted, stays}
 use Rattle.party_machine.proofs.Next.{later, last_run, party_unlocks}

@@ -27,7 +27,7 @@ use Rattle.party_machine.specs.Machine.{due_action, noted_if_called}
 use Rattle.party_machine.specs.Within.{all_entries, IsReadyWallet}
 use Rattle.party_machine.specs.Unlocking.{IsSignable, base_key, due_hashkey}
 use Rattle.party_machine.specs.Recording.{new_key, unsigned_key, IsWholeKey}
-use Rattle.party_machine.proofs.Known.{legal_at}
+use Rattle.party_machine.proofs.MachineEntries.{legal_at}
 use Rattle.party_machine.proofs.Onto.{can_put_onto, some_room}
 use Rattle.party_machine.proofs.Step.{due_lock}
 

@@ -9,7 +9,7 @@ use Rattle.party_wallet.specs.Value.{signed_hashkey}
 use Rattle.wallet_journal.specs.Device.{Write}
 use Rattle.wallet_journal.specs.Layout.{recorded}
 use Rattle.wallet_journal.specs.Journal.{MayHaveRecorded}
-use Rattle.wallet_journal.specs.Own.{FitsDeal}
+use Rattle.wallet_journal.specs.OwnDisks.{FitsDeal}
 use Rattle.wallet_journal.specs.Recording.{IsStoppedRecording}
 use Rattle.wallet_journal.specs.declared.fault.RecordFault.{RecordFault}
 use Rattle.wallet_journal.specs.declared.fault.RecordFault.TheVariants.{DiskFault, NoMemory}

@@ -19,7 +19,7 @@ ghost use Rattle.party_machine.specs.Wallet.{seed_wallet};
 ghost use Rattle.party_machine.specs.Rest.{rest_end_height, IsAtRest};
 ghost use Rattle.wallet_journal.specs.Device.{LeavesOnly, IsUntouched};
 ghost use Rattle.wallet_journal.specs.Journal.{KeepsRecorded};
-ghost use Rattle.wallet_journal.specs.Own.{IsOwn};
+ghost use Rattle.wallet_journal.specs.OwnDisks.{IsOwn};
 ghost use Rattle.wallet_journal.specs.Recording.{IsRefusedRecord, IsWritten};
 ghost use Rattle.wallet_journal.specs.Layout.{recorded};
 ghost use Rattle.wallet_journal.specs.Stopped.{bytes_left, kept_key, IsOfWrites};
@@ -150,9 +150,9 @@ impl Machine {
         })
     }
 
-    /// A party that is restarted: it knows nothing, and signed what its journal has recorded, which
-    /// was opened for this deal and party; or the least lock for which the wallet lacks what the
-    /// deal states of the party.
+    /// A party that is restarted, or the least lock for which the wallet lacks what the deal states
+    /// of the party. The party knows nothing, and has signed what its journal records; the journal
+    /// was opened for this deal and party. For programs of others.
     pub fn resume<D: Disk>(
         alloc: Global,
         deal: &Deal,

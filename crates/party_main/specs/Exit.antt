@@ -1,7 +1,7 @@
 -- How the program `party` ends: the number of its status, and what it tells on standard error.
 use Rattle.std.specs.Prelude.{◌≡◌, ℕ, List, [], codes}
 use Rattle.command_input.specs.declared.exit.Exit.{Exit}
-use Rattle.command_input.specs.Told.{told_text}
+use Rattle.command_input.specs.StandardError.{told_text}
 use Rattle.party_main.specs.declared.top.PartyStatus.{PartyStatus}
 use Rattle.party_main.specs.declared.top.PartyStatus.TheVariants.{Done, Warned, WrongWords, Refused, ReadFault, WriteFault, NoMemory, TooLong}
 use Rattle.party_main.specs.Reasons.{reason_line}

@@ -1,7 +1,7 @@
 //! Why the program `party` writes nothing.
 
 ghost use Rattle.std.specs.Prelude.{◌≡◌, IfOk};
-ghost use Rattle.command_input.specs.Told.{refusal_text};
+ghost use Rattle.command_input.specs.StandardError.{refusal_text};
 ghost use Rattle.party_main.specs.Reasons.{answer_fault, answer_line, deal_fault, deal_line, header_fault, reason_line};
 
 use command_input::refusal_text;

@@ -49,7 +49,7 @@ fn write_text<K: Sink>(sink: &mut K, what: &Answer) -> PartyStatus
 }
 
 /// Reads an input to its end, and writes what the command makes of it.
-fn obey<S: Source, K: Sink>(
+fn run_party_command<S: Source, K: Sink>(
     alloc: Global,
     command: &Command<'_>,
     source: &mut S,
@@ -83,7 +83,7 @@ pub fn party_top<S: Source, K: Sink>(
         (streams (S.left source.new) (S.faults source.new) (K.taken sink.new) (K.faults sink.new)) result }
 {
     match words_party_command(words) {
-        Some(command) => obey(alloc, &command, source, sink),
+        Some(command) => run_party_command(alloc, &command, source, sink),
         None => PartyStatus::WrongWords,
     }
 }

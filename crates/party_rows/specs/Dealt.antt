@@ -30,7 +30,7 @@ told_hashlock rows leader = row_hashlock (find_row rows leader)
 abbrev pub told_keys : List (Option Row) → ℕ → List (List ℕ)
 told_keys rows p = row_keys (find_row rows p)
 
--- the keys of each of so many parties; none with timelocks
+-- the keys of each party, given the number of parties; none with timelocks
 abbrev pub all_told_keys : Mode → List (Option Row) → ℕ → List (List (List ℕ))
 all_told_keys Timelocks rows n = []
 all_told_keys Hashkeys rows n = map (told_keys rows) (range_with_len 0 n)

@@ -1,2 +1,2 @@
-pub mod Near
+pub mod TouchingArcs
 pub mod Times

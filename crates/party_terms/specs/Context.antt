@@ -25,7 +25,7 @@ is_plain_line line = nat_le (length line) 256 && list_all is_printable line
 abbrev pub nonempty_word : List ℕ → Result (Unit {0}) Misspelling
 nonempty_word w = if length w == 0 then misspelt else Ok tt
 
--- the arc of which the fields of a line tell something, of a deal with so many arcs
+-- the arc that the fields of a line are about, which is below the number of arcs
 unfoldable pub context_arc : ℕ → List (List ℕ) → Result ℕ Misspelling
 context_arc arcs ws = do
   word ← parse_first_field (this_word (codes "about")) ws

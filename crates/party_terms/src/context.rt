@@ -158,8 +158,8 @@ fn next_context_line<'a>(lines: &mut Parts<'a>) -> Option<&'a [u8]>
     }
 }
 
-/// The lines of context of a deal with so many arcs. The first has that number; lines that aren't
-/// of context stay.
+/// The lines of context of a deal with this number of arcs. The first has that number; lines that
+/// aren't of context stay.
 #[tactic(auto, unfolding(crate::specs::Context::parse_context))]
 pub(crate) fn read_context(
     alloc: Global,

@@ -2,7 +2,7 @@
 use Rattle.std.proofs.Common.{◌≡◌, ℕ, ◌+◌, ◌≤◌, List, Option, Some, None, option_map, refl, sym, ap, ◌∙◌}
 use Rattle.std.proofs.Common.{subst, arith, Result, Ok, Err, OnOk}
 use Rattle.ledger_core.specs.declared.entry.Call.{Call}
-use Rattle.ledger_core.proofs.Known.{valid_is_known_in}
+use Rattle.ledger_core.proofs.CallSignatures.{valid_is_known_in}
 use Rattle.ledger_shared.specs.Value.{PassState, SharedState}
 use Rattle.party_wallet.specs.Value.{signed_hashkey}
 use Rattle.party_machine.specs.Machine.{MachineState, due_action, next_due, noted_if_called, IsOfSame}

@@ -5,7 +5,7 @@ use denote.Param.SendFields.{declared_send, owner_send}
 use Rattle.std.specs.contracts.option.Option as Option
 use Rattle.std.specs.contracts.marker.PhantomData as Mark
 use Rattle.std.proofs.Crossing.{Vec-send, crosses}
-use Rattle.swap_base.specs.contracts.past.Past as Past
+use Rattle.swap_base.specs.contracts.ghost_list.GhostList as GhostList
 use Rattle.atomic_table.proofs.shared.Seat.TheSendSync as Seat
 use Rattle.party_wallet.specs.contracts.wallet.Wallet as Wallet
 use Rattle.history_index.specs.contracts.made.Made as Made
@@ -30,8 +30,8 @@ mark : (T : RattleType) → IsSend (Mark.the_row T)
 mark T = search sendable
 
 -- what only clauses read crosses anywhere
-past : (T : RattleType) → IsSend (Past.the_row T)
-past T = owner_send (Past.the_type T) (mark T, tt) (λ d. tt) (λ k d w. tt)
+past : (T : RattleType) → IsSend (GhostList.the_row T)
+past T = owner_send (GhostList.the_type T) (mark T, tt) (λ d. tt) (λ k d w. tt)
 
 made : IsSend Made.the_row
 made = search (sendable, crosses) depth 60 fits 100000

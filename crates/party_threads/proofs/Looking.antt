@@ -1,4 +1,4 @@
--- A party that looks around: what holds once so many of its ledgers were looked at.
+-- A party that looks around: what holds once it has looked at a first part of its ledgers.
 use Rattle.std.proofs.Common.{◌≡◌, ◌≢◌, ◌⊎◌, ℕ, ◌+◌, ◌<◌, ◌++◌, List, [], ◌∷◌, zero, suc, length, set, Option, Some, None, append_assoc, refl}
 use Rattle.std.proofs.Common.{sym, ap, ◌∙◌, subst, inl, inr, arith}
 use Rattle.std.proofs.lemmas.List.Elements.{filter-append}

@@ -206,7 +206,7 @@ races_are_kept gives c ticks t ready some raced typed =
     (kept gives c ticks (needed_rounds c.deal ticks) ready some raced.states raced.first raced.each past refl
     (subst (λ (s : State). IsTypedBook s.book) (sym raced.last) typed))
 
--- after so many rounds, whether they pass the horizon or not
+-- after r rounds, whether they pass the horizon or not
 pub following_level : (gives : MayGive) (c : Cast) (ticks r : ℕ) (t : State) → IsReadyCast c → 1 ≤ ticks → IsRaced gives c ticks r t → (a : ℕ)
     → IsElement a (arcs c.deal.graph) → height (history t.book a) ≡ r * ticks
 following_level gives c ticks r t ready some raced a i =

@@ -29,7 +29,7 @@ use Rattle.typed_books.specs.Books.{IsTypedBook}
 use Rattle.swap_world.specs.Gone.{MayGive}
 use Rattle.party_threads.specs.Views.{HasPlayedInRound, PlaysByViews}
 
--- the fewest rounds of so many ticks that pass the horizon
+-- the fewest rounds that pass the horizon, given the ticks of a round
 abbrev pub needed_rounds : Deal → ℕ → ℕ
 needed_rounds d ticks = the_horizon d / ticks + 1
 
@@ -48,14 +48,14 @@ pub record IsRound (gives : MayGive) (c : Cast) (ticks : ℕ) (s t : State) : Ty
       → party_made v (history t.book a) ≡ party_made v (history s.book a)
   pub played : (v : ℕ) → v < c.deal.graph.n → conforms c v ≡ false → is_planned (party_role c v) ≡ true → HasPlayedInRound gives c s t v
 
--- The state after so many rounds from the start, with those between.
+-- The state after `rounds` rounds from the start, with the states between.
 pub record IsRaced (gives : MayGive) (c : Cast) (ticks rounds : ℕ) (t : State) : Type 0 where
   pub states : ℕ → State
   pub first : states 0 ≡ start c
   pub last : states rounds ≡ t
   pub each : (r : ℕ) → r < rounds → IsRound gives c ticks (states r) (states (r + 1))
 
--- the books at the ends of so many rounds, oldest first, and before them that of the start
+-- the books at the ends of a number of rounds, oldest first, and before them the book of the start
 abbrev pub round_books : (ℕ → State) → ℕ → List Histories
 round_books states rounds = map (λ r. (states r).book) (range_with_len 0 (rounds + 1))
 
@@ -68,7 +68,7 @@ pub record IsOfRounds (gives : MayGive) (c : Cast) (ticks : ℕ) (b : Histories)
   pub listed : (v : ℕ) → v < c.deal.graph.n → conforms c v ≡ true
       → AreRaceBooks c.deal v (c.wallet v) ticks (needed_rounds c.deal ticks) (round_books raced.states (needed_rounds c.deal ticks))
 
--- the ticks of so many rounds
+-- the ticks of a number of rounds
 abbrev pub ticks_of_rounds : ℕ → ℕ → List Entry
 ticks_of_rounds ticks zero = []
 ticks_of_rounds ticks (suc r) = ticks_of_rounds ticks r ++ tick_entry ticks (suc r * ticks) Accepted ∷ []

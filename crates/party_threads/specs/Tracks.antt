@@ -7,7 +7,7 @@ use Rattle.swap_digraph.specs.Deal.{touches}
 use Rattle.ledger_core.specs.declared.entry.Call.{Call}
 use Rattle.ledger_core.specs.declared.entry.Entry.{Entry}
 use Rattle.ledger_core.specs.History.{fit, IsLegal}
-use Rattle.ledger_core.specs.Known.{is_known_call}
+use Rattle.ledger_core.specs.CallSignatures.{is_known_call}
 use Rattle.ledger_core.specs.Ledger.{after_call}
 use Rattle.ledger_core.specs.Book.{Histories, history}
 use Rattle.ledger_shared.specs.Value.{PassState, SharedState, party_made, with_seen}

@@ -23,7 +23,7 @@ use std::sync::ledger::{Blank, Ledger as Counted};
 use swap_base::{ArcId, NoMemory};
 use swap_world::most_acts;
 
-fn learn_counted<L: Counted>(
+fn learn_entries_counted<L: Counted>(
     machine: &mut Machine,
     arc: ArcId,
     entries: EntryList,
@@ -47,7 +47,7 @@ impl Learner for Machine {
     ghost rest = { machine_rest };
 
     fn learn(&mut self, arc: ArcId, entries: EntryList) -> Result<(), NoMemory> {
-        learn_counted::<Brand>(self, arc, entries, Blank::new(1))
+        learn_entries_counted::<Brand>(self, arc, entries, Blank::new(1))
     }
 }
 

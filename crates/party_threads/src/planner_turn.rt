@@ -34,16 +34,16 @@ impl Learner for Planner {
 
 /// The call that answers what the party knows, if any. The party has acted once more.
 fn answer<A: Strategies>(
-    staff: &A,
+    strategies: &A,
     job: &Job,
     me: PartyId,
     planner: &mut Planner,
 ) -> Result<Option<(ArcId, Call)>, NoMemory>
     requires role { me < length job.now.roles }
     requires planned { is_planned (job_role job.now me) ≡ true }
-    requires held { IsHeld (A.holds staff.now) (job_role job.now me) }
+    requires held { IsHeld (A.holds strategies.now) (job_role job.now me) }
     requires shown { IsShown job.now.deal job.now.seeds me planner.old }
-    ensures answered { IfOk result (λ o. IsPlanAnswer (A.gives staff.now) job.now.deal job.now.seeds me planner.old.known o planner.old planner.new
+    ensures answered { IfOk result (λ o. IsPlanAnswer (A.gives strategies.now) job.now.deal job.now.seeds me planner.old.known o planner.old planner.new
         (job_role job.now me)) }
     ensures fits { IfOk result (MayAnswer job.now.deal me) }
     ensures moves { OnOk result (All (IsPartyMove job.now.deal job.now.seeds me) planner.new.moves) }
@@ -52,7 +52,7 @@ fn answer<A: Strategies>(
 {
     match &job.roles.as_slice()[me as usize] {
         Role::Script(_) => planner.follow(&job.deal, me, job.seeds.as_slice()),
-        Role::Strategy(name) => planner.ask(staff, name, &job.deal, me),
+        Role::Strategy(name) => planner.ask(strategies, name, &job.deal, me),
         _ => unreachable!(),
     }
 }
@@ -84,15 +84,15 @@ fn make<R: Wait>(
 pub(crate) fn take_planner_turn<R: Wait, A: Strategies>(
     rt: &R,
     side: &Side<'_>,
-    staff: &A,
+    strategies: &A,
     planner: &mut Planner,
     passes: &mut [Option<Pass>],
 ) -> Result<(), NoMemory>
-    requires seated { IsPlannerSeated (A.holds staff.now) side.now.job.now side.now.ledgers.now side.now.me planner.old passes.old }
+    requires seated { IsPlannerSeated (A.holds strategies.now) side.now.job.now side.now.ledgers.now side.now.me planner.old passes.old }
     ensures gone_on { HaveAdvanced passes.old passes.new }
-    ensures planned { OnOk result (HasPlanned (A.gives staff.now) side.now.job.now side.now.me planner.old passes.old planner.new passes.new) }
+    ensures planned { OnOk result (HasPlanned (A.gives strategies.now) side.now.job.now side.now.me planner.old passes.old planner.new passes.new) }
 {
     look_round(rt, side, planner, passes)?;
-    let call = answer(staff, side.job, side.me, planner)?;
+    let call = answer(strategies, side.job, side.me, planner)?;
     make(rt, side, planner, passes, call)
 }

@@ -30,26 +30,26 @@ use swap_base::{NoMemory, PartyId};
 fn play<R: Wait, A: Strategies>(
     rt: &R,
     side: &Side<'_>,
-    staff: &A,
+    strategies: &A,
     ticks: u32,
     turn: &mut Turn,
 ) -> Result<(), NoMemory>
     requires some { 1 ≤ ticks }
     requires below { ticks ≤ 1000 }
-    requires seated { IsSeated (A.holds staff.now) side.now.job.now side.now.ledgers.now ticks side.now.me turn.old }
+    requires seated { IsSeated (A.holds strategies.now) side.now.job.now side.now.ledgers.now ticks side.now.me turn.old }
     ensures actor { IsSameActor turn.old.actor turn.new.actor }
     ensures passes { HaveAdvanced turn.old.passes.items turn.new.passes.items }
     ensures clocks { HaveClocksAdvanced turn.old.clocks.items turn.new.clocks.items }
     ensures places { length turn.new.passes.items ≡ length turn.old.passes.items }
     ensures clock_places { length turn.new.clocks.items ≡ length turn.old.clocks.items }
-    ensures did { OnOk result (DidInTurn (A.gives staff.now) side.now.job.now ticks side.now.me turn.old turn.new) }
+    ensures did { OnOk result (DidInTurn (A.gives strategies.now) side.now.job.now ticks side.now.me turn.old turn.new) }
 {
     match &mut turn.actor {
         Actor::Conforming(machine) => {
             take_machine_turn(rt, side, machine, turn.passes.as_mut_slice())
         }
         Actor::Planned(planner) => {
-            take_planner_turn(rt, side, staff, planner, turn.passes.as_mut_slice())
+            take_planner_turn(rt, side, strategies, planner, turn.passes.as_mut_slice())
         }
         Actor::Manual => Ok(()),
         Actor::Clock => take_clock_turn(rt, side.ledgers, turn.clocks.as_mut_slice(), ticks),
@@ -59,20 +59,20 @@ fn play<R: Wait, A: Strategies>(
 fn take_turn<R: Wait, A: Strategies>(
     rt: &R,
     side: &Side<'_>,
-    staff: &A,
+    strategies: &A,
     ticks: u32,
     turn: &mut Turn,
 )
     requires some { 1 ≤ ticks }
     requires below { ticks ≤ 1000 }
-    requires seated { IsSeated (A.holds staff.now) side.now.job.now side.now.ledgers.now ticks side.now.me turn.old }
-    ensures { Took (A.gives staff.now) side.now.job.now ticks side.now.me turn.old turn.new }
+    requires seated { IsSeated (A.holds strategies.now) side.now.job.now side.now.ledgers.now ticks side.now.me turn.old }
+    ensures { Took (A.gives strategies.now) side.now.job.now ticks side.now.me turn.old turn.new }
 {
-    turn.failed = play(rt, side, staff, ticks, turn).is_err();
+    turn.failed = play(rt, side, strategies, ticks, turn).is_err();
 }
 
-/// Every actor's turn, on at most so many threads: each takes some that follow one another. One is
-/// this thread.
+/// Every actor's turn, on at most this number of threads. Each thread takes turns that follow one
+/// another, and one of the threads is the caller's.
 fn take_turns<R: Threads + Wait + Sync, A: Strategies + Sync, G: Gate>(
     rt: &R,
     setting: &Setting<'_, A, G>,
@@ -86,13 +86,13 @@ fn take_turns<R: Threads + Wait + Sync, A: Strategies + Sync, G: Gate>(
     requires some { 1 ≤ setting.now.ticks }
     requires below { setting.now.ticks ≤ 1000 }
     requires seated { (i : ℕ) (t : Turn) → i < length turns.old
-        → IsSeated (A.holds setting.now.staff.now) setting.now.job.now ledgers.now setting.now.ticks i (slice_index_or turns.old i t) }
+        → IsSeated (A.holds setting.now.strategies.now) setting.now.job.now ledgers.now setting.now.ticks i (slice_index_or turns.old i t) }
     ensures took { (i : ℕ) (t : Turn) → i < length turns.old
-        → Took (A.gives setting.now.staff.now) setting.now.job.now setting.now.ticks i (slice_index_or turns.old i t) (slice_index_or turns.new i t) }
+        → Took (A.gives setting.now.strategies.now) setting.now.job.now setting.now.ticks i (slice_index_or turns.old i t) (slice_index_or turns.new i t) }
     ensures number { length turns.new ≡ length turns.old }
 {
     let job = setting.job;
-    let staff = setting.staff;
+    let strategies = setting.strategies;
     let gate = setting.gate;
     let ticks = setting.ticks;
     thread::for_each_mut(
@@ -100,8 +100,8 @@ fn take_turns<R: Threads + Wait + Sync, A: Strategies + Sync, G: Gate>(
         turns,
         threads,
         &|i, turn: &mut Turn|
-            requires { IsSeated (A.holds staff.now) job.now ledgers.now ticks i turn.now × (i < 256) × (1 ≤ ticks) × (ticks ≤ 1000) }
-            ensures { Took (A.gives staff.entry.now) job.entry.now ticks i turn.entry.now turn.exit.now }
+            requires { IsSeated (A.holds strategies.now) job.now ledgers.now ticks i turn.now × (i < 256) × (1 ≤ ticks) × (ticks ≤ 1000) }
+            ensures { Took (A.gives strategies.entry.now) job.entry.now ticks i turn.entry.now turn.exit.now }
         {
             gate.pass(rt, i as PartyId, round);
             let side = Side {
@@ -109,7 +109,7 @@ fn take_turns<R: Threads + Wait + Sync, A: Strategies + Sync, G: Gate>(
                 job,
                 me: i as PartyId,
             };
-            take_turn(rt, &side, staff, ticks, turn)
+            take_turn(rt, &side, strategies, ticks, turn)
         },
     );
 }
@@ -135,10 +135,10 @@ pub(crate) fn round<R: Threads + Wait + Sync, A: Strategies + Sync, G: Gate>(
     requires some { 1 ≤ setting.now.ticks }
     requires below { setting.now.ticks ≤ 1000 }
     requires stands { StandsHome setting.now.job.now ledgers.old turns.old }
-    requires held { AreHeld (A.holds setting.now.staff.now) setting.now.job.now.roles }
+    requires held { AreHeld (A.holds setting.now.strategies.now) setting.now.job.now.roles }
     requires room { AllHaveRoom setting.now.ticks setting.now.job.now.deal (race_book ledgers.old) }
     ensures stands { OnOk result (StandsHome setting.now.job.now ledgers.new turns.new) }
-    ensures round { OnOk result (IsRound (A.gives setting.now.staff.now) (job_cast setting.now.job.now) setting.now.ticks
+    ensures round { OnOk result (IsRound (A.gives setting.now.strategies.now) (job_cast setting.now.job.now) setting.now.ticks
         (race_state setting.now.job.now ledgers.old turns.old) (race_state setting.now.job.now ledgers.new turns.new)) }
 {
     let deal = &setting.job.deal;

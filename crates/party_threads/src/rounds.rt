@@ -30,7 +30,7 @@ use swap_world::{WorldFault, wrong_wallet};
 use time_bounds::horizon;
 use typed_books::visit_book;
 
-/// From so many calls in a round on each actor has a thread of its own in the next.
+/// After a round with this number of calls or more, each actor has a thread of its own.
 const MANY_CALLS: usize = 8;
 
 /// No fewer than there ever are actors, with the clock.
@@ -72,7 +72,7 @@ fn collected_book(alloc: Global, ledgers: Vec<Option<Home>>) -> Result<Book, NoM
     })
 }
 
-/// The fewest rounds of so many ticks that pass the horizon.
+/// The fewest rounds of `ticks` ticks that pass the horizon.
 fn needed_rounds(deal: &Deal, ticks: u32) -> u32
     requires sized { IsWellSized deal.now }
     requires some { 1 ≤ ticks }
@@ -116,9 +116,9 @@ fn run_rounds<R: Threads + Wait + Sync, A: Strategies + Sync, G: Gate>(
     requires some { 1 ≤ setting.now.ticks }
     requires below { setting.now.ticks ≤ 1000 }
     requires stands { StandsHome setting.now.job.now ledgers.old turns.old }
-    requires held { AreHeld (A.holds setting.now.staff.now) setting.now.job.now.roles }
+    requires held { AreHeld (A.holds setting.now.strategies.now) setting.now.job.now.roles }
     requires first { race_state setting.now.job.now ledgers.old turns.old ≡ start (job_cast setting.now.job.now) }
-    ensures raced { OnOk result (IsRaced (A.gives setting.now.staff.now) (job_cast setting.now.job.now) setting.now.ticks
+    ensures raced { OnOk result (IsRaced (A.gives setting.now.strategies.now) (job_cast setting.now.job.now) setting.now.ticks
         (needed_rounds setting.now.job.now.deal setting.now.ticks) (race_state setting.now.job.now ledgers.new turns.new)) }
 {
     // In the first round everybody may have something to do.
@@ -133,13 +133,13 @@ fn run_rounds<R: Threads + Wait + Sync, A: Strategies + Sync, G: Gate>(
 }
 
 /// Races a job whose wallets are right. In each round every party and the clock have a turn. Each
-/// turn has a thread of its own, or shares one after a round with few calls. Strategies answer from
-/// the staff. The race waits for locks and at the gate.
+/// turn has a thread of its own, or shares one after a round with few calls. `strategies` answers
+/// for each party that follows a strategy. The race waits for locks and at the gate.
 pub fn race_fitting<R: Threads + Wait + Sync, A: Strategies + Sync, G: Gate>(
     rt: &R,
     alloc: Global,
     job: &Job,
-    staff: &A,
+    strategies: &A,
     wallets: Vec<Option<Wallet>>,
     ticks: u32,
     gate: &G,
@@ -147,19 +147,19 @@ pub fn race_fitting<R: Threads + Wait + Sync, A: Strategies + Sync, G: Gate>(
     requires accepted { IsAccepted job.now.deal }
     requires seeds { ConformingHaveSeeds job.now }
     requires roles { HaveRoles job.now }
-    requires held { AreHeld (A.holds staff.now) job.now.roles }
+    requires held { AreHeld (A.holds strategies.now) job.now.roles }
     requires wallets { wallets.items ≡ new_wallets job.now.deal job.now.conforming job.now.seeds }
     requires fit { AllFit job.now }
     requires some { 1 ≤ ticks }
     requires below { ticks ≤ 1000 }
-    ensures { IfOk result (λ b. IsRaceBook (A.gives staff.now) (job_cast job.now) ticks b.histories) }
+    ensures { IfOk result (λ b. IsRaceBook (A.gives strategies.now) (job_cast job.now) ticks b.histories) }
 {
     let mut turns = new_turns(alloc, job, wallets)?;
     let mut ledgers = make_ledgers(alloc, &job.deal)?;
     let setting = Setting {
         alloc,
         job,
-        staff,
+        strategies,
         gate,
         ticks,
     };
@@ -170,12 +170,12 @@ pub fn race_fitting<R: Threads + Wait + Sync, A: Strategies + Sync, G: Gate>(
 }
 
 /// Races a job with these wallets, or answers the first conforming party whose seed isn't the
-/// deal's.
+/// deal's. For programs of others.
 pub fn race<R: Threads + Wait + Sync, A: Strategies + Sync, G: Gate>(
     rt: &R,
     alloc: Global,
     job: &Job,
-    staff: &A,
+    strategies: &A,
     wallets: Vec<Option<Wallet>>,
     ticks: u32,
     gate: &G,
@@ -183,16 +183,16 @@ pub fn race<R: Threads + Wait + Sync, A: Strategies + Sync, G: Gate>(
     requires accepted { IsAccepted job.now.deal }
     requires seeds { ConformingHaveSeeds job.now }
     requires roles { HaveRoles job.now }
-    requires held { AreHeld (A.holds staff.now) job.now.roles }
+    requires held { AreHeld (A.holds strategies.now) job.now.roles }
     requires wallets { wallets.items ≡ new_wallets job.now.deal job.now.conforming job.now.seeds }
     requires some { 1 ≤ ticks }
     requires below { ticks ≤ 1000 }
-    ensures book { IfOk result (λ b. IsRaceBook (A.gives staff.now) (job_cast job.now) ticks b.histories) }
+    ensures book { IfOk result (λ b. IsRaceBook (A.gives strategies.now) (job_cast job.now) ticks b.histories) }
     ensures fit { OnOk result (AllFit job.now) }
     ensures wrong { IfErr result (IsFirstWrongFault job.now) }
 {
     match wrong_wallet(job, &wallets) {
         Some(wrong) => Err(Fault::Refused(wrong)),
-        None => Ok(race_fitting(rt, alloc, job, staff, wallets, ticks, gate)?),
+        None => Ok(race_fitting(rt, alloc, job, strategies, wallets, ticks, gate)?),
     }
 }

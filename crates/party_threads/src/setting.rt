@@ -9,7 +9,7 @@ use swap_job::Job;
 pub(crate) struct Setting<'a, A, G> {
     pub alloc: Global,
     pub job: &'a Job,
-    pub staff: &'a A,
+    pub strategies: &'a A,
     pub gate: &'a G,
     pub ticks: u32,
 }

@@ -33,8 +33,7 @@ pub(crate) struct Turn {
     pub failed: bool,
 }
 
-/// How much of the history of an arc, which has so many entries, an actor's pass has seen as it is
-/// dealt.
+/// How many of an arc's `whole` entries an actor's pass has seen when it is dealt.
 pub(crate) fn seen_count(turns: &[Turn], v: PartyId, arc: ArcId, whole: u32) -> u32
     requires actor { v < length turns.now }
     requires arc { HasArc (turn_actor turns.now v) arc }

@@ -79,7 +79,7 @@ pub(crate) fn look_round<R: Wait, L: Learner>(
 }
 
 /// Makes a call on the ledger of its arc through the pass at its place, and learns what is fresh.
-/// The last `known` of the call's signatures are known to be valid, and the ledger verifies the
+/// The last `verified` of the call's signatures were verified before, and the ledger verifies the
 /// others.
 fn call<R: Wait, L: Learner>(
     rt: &R,
@@ -87,11 +87,11 @@ fn call<R: Wait, L: Learner>(
     learner: &mut L,
     place: &mut Option<Pass>,
     due: (ArcId, Call),
-    known: usize,
+    verified: usize,
 ) -> Result<(), NoMemory>
     requires ledger { due.0 < length side.now.ledgers.now }
     requires arc { KnowsArc (L.watcher side.now learner.old) due.0 }
-    requires can { CanCall (L.watcher side.now learner.old) due.0 due.1 known }
+    requires can { CanCall (L.watcher side.now learner.old) due.0 due.1 verified }
     requires place { IsWatcherPlace side.now.ledgers.now (L.watcher side.now learner.old) due.0 place.old }
     requires there { place.old ≢ None }
     ensures later { Advanced place.old place.new }
@@ -104,7 +104,7 @@ fn call<R: Wait, L: Learner>(
         None => unreachable!(),
         Some(pass) => {
             let ledger = &side.ledgers[arc as usize];
-            match ledger.call_known(rt, pass, call, known) {
+            match ledger.call_known(rt, pass, call, verified) {
                 Ok(called) => learner.learn(arc, called.fresh),
                 Err(_) => Err(NoMemory),
             }
@@ -119,10 +119,10 @@ pub(crate) fn submit<R: Wait, L: Learner>(
     learner: &mut L,
     passes: &mut [Option<Pass>],
     due: (ArcId, Call),
-    known: usize,
+    verified: usize,
 ) -> Result<(), NoMemory>
     requires watching { IsWatching side.now.ledgers.now (L.watcher side.now learner.old) passes.old }
-    requires can { CanCall (L.watcher side.now learner.old) due.0 due.1 known }
+    requires can { CanCall (L.watcher side.now learner.old) due.0 due.1 verified }
     ensures gone_on { HaveAdvanced passes.old passes.new }
     ensures submitted { OnOk result (HasSubmitted side.now.ledgers.now (L.watcher side.now learner.old) due.0 due.1 passes.old (L.watcher side.now learner.new)
         passes.new) }
@@ -130,5 +130,5 @@ pub(crate) fn submit<R: Wait, L: Learner>(
     ensures rest { L.rest learner.new ≡ L.rest learner.old }
 {
     let place = due.0 as usize;
-    call(rt, side, learner, &mut passes[place], due, known)
+    call(rt, side, learner, &mut passes[place], due, verified)
 }

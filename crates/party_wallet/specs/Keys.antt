@@ -33,7 +33,7 @@ abbrev pub party_public : Mode → List ℕ → ℕ → ℕ → Option (List ℕ
 party_public Timelocks seed v i = None
 party_public Hashkeys seed v i = Some (derive_public_key seed v i)
 
--- the wallet of v for so many locks, with nothing signed
+-- the wallet of v for a number of locks, with nothing signed
 abbrev pub empty_wallet : Mode → List ℕ → ℕ → ℕ → WalletState
 empty_wallet m seed v locks = record { mode = m; seed = seed; party = v; signed = replicate locks None }
 

@@ -95,7 +95,7 @@ fn keep(signed: &mut Signed, alloc: Global, lock: LockId, hashkey: Shared<Hashke
 }
 
 impl Wallet {
-    /// The keys that a party's seed gives it for so many locks, with nothing signed.
+    /// The keys that a party's seed gives it for a number of locks, with nothing signed.
     pub fn new(
         alloc: Global,
         mode: Mode,

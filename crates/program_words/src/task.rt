@@ -5,8 +5,8 @@
 pub enum Task {
     /// An input is read, and what the order asks for is written.
     Input(Order),
-    /// A job is read and raced on threads by so many ticks a round, and the report is written, or
-    /// the transcript.
+    /// A job is read and raced on threads, with `ticks` ticks a round. Its report is written, or
+    /// its transcript.
     Race { ticks: u32, transcript: bool },
     /// The job of a number is made, without an input.
     Number(Request),
@@ -30,7 +30,7 @@ pub enum Order {
     Many,
 }
 
-/// The job of a number: it is written with so many events, or run and its summary written.
+/// The job of a number, with its first events, is written; or it is run and its summary is written.
 #[derive(Clone, Copy, Debug, PartialEq, Eq)]
 pub struct Request {
     pub seed: u32,

@@ -4,7 +4,7 @@ use Rattle.swap_base.proofs.Lists.{and_both}
 use Rattle.time_bounds.specs.Times.{need}
 use Rattle.swap_digraph.specs.Value.{Graph}
 use Rattle.swap_digraph.specs.Graph.{is_listed, IsHeight}
-use Rattle.swap_digraph.proofs.Parts.{not_leader}
+use Rattle.swap_digraph.proofs.LeaderPaths.{not_leader}
 
 a_follower : (leader : ℕ) → (v : ℕ) × (v < 2) × (v ≡ leader → ⊥)
 a_follower zero = (1, omega arith, λ e. omega (arith, e))

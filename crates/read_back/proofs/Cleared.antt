@@ -16,7 +16,7 @@ use Rattle.swap_clear.specs.declared.answer.Group.{Group}
 use Rattle.swap_clear.specs.declared.answer.Clearing.{Clearing}
 use Rattle.swap_clear.specs.declared.fault.ClearReason.{ClearReason}
 use Rattle.swap_clear.specs.Clearing.{cleared_groups}
-use Rattle.swap_clear.proofs.Told as told
+use Rattle.swap_clear.proofs.ClearingAnswers as told
 use Rattle.clear_line.specs.Cleared.{by_clearing, parse_cleared, make_clearing, wished_start, without_self_arcs}
 use Rattle.clear_line.specs.Fields.{raw_wishes}
 use Rattle.clear_line.specs.Limits.{limited_proposals, limited_times, parse_wishes, parse_wish_text, AreWishesInLimits}

@@ -36,7 +36,7 @@ use Rattle.read_back.specs.Made.{numbered_lines, reads_jobs, told_job, with_job,
 use Rattle.read_back.proofs.Events.{drawn_from, event_lines, event_text, events_back, lines_are_text, AreDrawn, HasPlainNames}
 use Rattle.read_back.proofs.Outputs.{text_back}
 use Rattle.read_back.proofs.Plain.{hash_is, made_is_told, IsPlainJob}
-use Rattle.read_back.proofs.Told.{few_arcs, sizes_at, IsTold, IsToldRole, MayBeDigest}
+use Rattle.read_back.proofs.ToldJobs.{few_arcs, sizes_at, IsTold, IsToldRole, MayBeDigest}
 
 -- ---- names
 

@@ -25,7 +25,7 @@ use Rattle.offer_text.specs.HeaderLine.{arc_json, arc_data, arcs_data, fields_by
 use Rattle.offer_text.specs.HeaderLine.{version_number}
 use Rattle.offer_text.specs.HeaderLine.{parties_data, shown_header, shown_party}
 use Rattle.transcript_lines.proofs.Numbers.{high_number}
-use Rattle.transcript_lines.proofs.Parts.{IsHigh}
+use Rattle.transcript_lines.proofs.SeparatedParts.{IsHigh}
 use Rattle.read_back.specs.Headers.{HeaderIsOneLine}
 
 abbrev pub IsOneLine : List ℕ → Type 0

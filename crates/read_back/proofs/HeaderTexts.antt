@@ -32,7 +32,7 @@ use Rattle.read_back.proofs.MadeLimited.{role_is}
 use Rattle.read_back.proofs.MoveLimits.{IsLimited, IsSmall}
 use Rattle.read_back.proofs.MoveTexts.{move_plain, move_read}
 use Rattle.read_back.proofs.RawMoves.{party_label}
-use Rattle.read_back.proofs.Told.{sizes_are_small, sizes_at, IsTold, IsToldRole}
+use Rattle.read_back.proofs.ToldJobs.{sizes_are_small, sizes_at, IsTold, IsToldRole}
 use Rattle.offer_moves.specs.declared.moves.Sizes.{Sizes}
 
 -- what nests so deep nests no deeper than more

@@ -24,7 +24,7 @@ pub mod RawMoves
 pub mod Signatures
 pub mod MoveLimits
 pub mod MoveTexts
-pub mod Told
+pub mod ToldJobs
 pub mod MadeFields
 pub mod MadeNamed
 pub mod MadeLimited

@@ -44,7 +44,7 @@ use Rattle.read_back.specs.Made.{reads_jobs}
 use Rattle.read_back.proofs.MadeFields.{raw_actor, role_at, read_seed, told_header, told_party}
 use Rattle.read_back.proofs.MoveLimits.{limited_move_back, IsLimited, IsSmall}
 use Rattle.read_back.proofs.RawMoves.{party_label, raw_move}
-use Rattle.read_back.proofs.Told.{sizes_are_small, sizes_at, IsTold, IsToldRole, MayBeDigest}
+use Rattle.read_back.proofs.ToldJobs.{sizes_are_small, sizes_at, IsTold, IsToldRole, MayBeDigest}
 use Rattle.read_back.proofs.Lists.{twice}
 
 -- ---- how a party acts, and its seed

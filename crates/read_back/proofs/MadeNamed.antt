@@ -28,7 +28,7 @@ use Rattle.read_back.proofs.Steps.{step}
 use Rattle.read_back.proofs.MadeFields.{raw_actor, role_at, told_header, told_party}
 use Rattle.read_back.proofs.MoveLimits.{IsLimited}
 use Rattle.read_back.proofs.RawMoves.{party_label, raw_move}
-use Rattle.read_back.proofs.Told.{sizes_at, IsTold, IsToldRole}
+use Rattle.read_back.proofs.ToldJobs.{sizes_at, IsTold, IsToldRole}
 
 -- each step passes, so all do
 all_pass : {A B : Type 0} (f : B → Result (Unit {0}) Reason) (g : A → B) (xs : List A) → ((x : A) → IsElement x xs → f (g x) ≡ Ok tt)

@@ -24,7 +24,7 @@ use Rattle.read_back.proofs.HeaderWhole.{is_remade, mode_of_version, remade, unt
 use Rattle.read_back.proofs.MadeFields.{raw_back, told_header}
 use Rattle.read_back.proofs.MadeLimited.{header_at, limited_back, not_plain}
 use Rattle.read_back.proofs.MadeNamed.{numbered_back}
-use Rattle.read_back.proofs.Told.{IsTold}
+use Rattle.read_back.proofs.ToldJobs.{IsTold}
 
 object_back : (line : ℕ) (text : List ℕ) (job : Job) → is_utf8 text ≡ true → read text ≡ Some (made_header job) → parse_data line text ≡ Ok (made_header job)
 unfolding parse_data

@@ -23,7 +23,7 @@ use Rattle.offer_moves.specs.declared.raw.RawKey.{RawKey}
 use Rattle.offer_moves.specs.declared.raw.RawMove.{RawMove}
 use Rattle.offer_moves.specs.declared.raw.RawMove.TheVariants as raws
 use Rattle.offer_moves.specs.declared.raw.RawTerms.{RawTerms}
-use Rattle.offer_moves.proofs.Parts.{number_below_ok}
+use Rattle.offer_moves.proofs.ReadNumbers.{number_below_ok}
 use Rattle.typed_books.specs.Typed.{IsDigest}
 use Rattle.read_back.proofs.HeaderLimited.{all_in, digest_back, map_self, number_back, within_back}
 use Rattle.read_back.proofs.Onward.{landed, onward}
@@ -76,7 +76,7 @@ pub record IsKey (s : Sizes) (n : ℕ) (key : Hashkey) : Type 0 where
   pub few : length key.sigs ≤ s.path
   pub sigs : All IsOfBytes key.sigs
 
--- a move among so many arcs, locks and parties
+-- a move within the numbers of arcs, locks and parties
 abbrev pub IsLimited : Sizes → ℕ → Move → Type 0
 IsLimited s n (Publish arc start delta bound timelock amount locks) = AreTerms s arc start delta bound timelock amount locks
 IsLimited s n (Craft arc lock via onto) = IsCraft s n arc lock via onto
@@ -107,7 +107,7 @@ optional_arc_in s line field (Some n) =
 kept_all : (digests : List (List ℕ)) → length digests ≤ 8 → kept digests ≡ digests
 kept_all digests few = ap (λ (b : Bool). cond b digests []) (le-leb (length digests) 8 few)
 
--- so many digests
+-- a list of this number of digests
 abbrev AreMany : ℕ → List (List ℕ) → Type 0
 AreMany count ds = (length ds ≡ count) × All IsDigest ds
 

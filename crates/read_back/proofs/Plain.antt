@@ -38,7 +38,7 @@ use Rattle.typed_books.specs.Typed.{IsDigest}
 use Rattle.read_back.specs.Headers.{IsShowable}
 use Rattle.read_back.proofs.Steps.{step}
 use Rattle.read_back.specs.Made.{reads_jobs, told_job}
-use Rattle.read_back.proofs.Told.{sizes_at, IsTold, IsToldRole, MayBeDigest}
+use Rattle.read_back.proofs.ToldJobs.{sizes_at, IsTold, IsToldRole, MayBeDigest}
 
 -- A plain job whose header line tells it whole once it is made.
 pub record IsPlainJob (has : List ℕ → Bool) (job : Job) : Type 0 where

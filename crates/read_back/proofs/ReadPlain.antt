@@ -49,7 +49,7 @@ use Rattle.read_back.specs.Made.{HasTexts}
 use Rattle.read_back.proofs.MoveLimits.{read_move, IsLimited, IsSmall}
 use Rattle.read_back.proofs.Placed.{placed_anywhere}
 use Rattle.read_back.proofs.Plain.{IsPlainJob}
-use Rattle.read_back.proofs.Told.{few_arcs, IsToldRole, MayBeDigest}
+use Rattle.read_back.proofs.ToldJobs.{few_arcs, IsToldRole, MayBeDigest}
 
 -- ---- how a party acts, and its seed
 

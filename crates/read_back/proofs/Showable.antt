@@ -59,7 +59,7 @@ decoded_ok : (line : ℕ) (field : List ℕ) (r : Result (List ℕ) FromHexError
 decoded_ok line field (Ok ys) xs e = ap (λ (l : List ℕ). Ok l) (ok_is ys xs e)
 decoded_ok line field (Err f) xs e = absurd (cc e)
 
--- so many bytes
+-- n bytes
 pub sized_bytes : (n : ℕ) (w xs : List ℕ) → decode_sized w n ≡ Ok xs → (length xs ≡ n) × IsBytes xs
 sized_bytes n w xs e =
     let long : length w ≡ 2 * n = decode_sized-ok w n xs e in

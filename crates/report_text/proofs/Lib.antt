@@ -1,3 +1,3 @@
 pub mod Books
 pub mod ItemLines
-pub mod Parts
+pub mod LedgerLines

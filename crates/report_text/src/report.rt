@@ -147,7 +147,8 @@ pub fn write_report<K: Sink>(
     flush(sink, &mut out)
 }
 
-/// The report of a job's book, as `write_report` writes it.
+/// The report of a job's book, as `write_report` writes it. For programs of others: this
+/// repository's programs write it line by line.
 pub fn report_text(
     alloc: Global,
     job: &Job,

@@ -1,3 +1,3 @@
 pub mod Unlocks
-pub mod Own
+pub mod OwnArcs
 pub mod Loops

@@ -30,7 +30,7 @@ fn main(rt: HostRuntime) -> ExitCode {
         Ok(Some(words)) => {
             let mut source = ReaderSource::new(rt.reader());
             let mut sink = WriterSink::new(io::writer(&rt));
-            let staff = Program { alloc: rt.alloc() };
+            let strategies = Program { alloc: rt.alloc() };
             if may_race(&words) {
                 swap_top(
                     &rt,
@@ -39,10 +39,10 @@ fn main(rt: HostRuntime) -> ExitCode {
                     &mut source,
                     &mut sink,
                     &OpenGate,
-                    &staff,
+                    &strategies,
                 )
             } else {
-                swap_plain(rt.alloc(), &words, &mut source, &mut sink, &staff)
+                swap_plain(rt.alloc(), &words, &mut source, &mut sink, &strategies)
             }
         }
         Ok(None) => Status::WrongWords,

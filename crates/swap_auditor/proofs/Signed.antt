@@ -6,8 +6,8 @@ use Rattle.swap_digraph.specs.declared.deal.Deal.{Deal}
 use Rattle.swap_digraph.specs.Deal.{counterparty}
 use Rattle.hashkey_path.specs.declared.hashkey.Hashkey.{Hashkey}
 use Rattle.hashkey_path.specs.Hashkey.{is_wrong_secret, is_wrong_path, is_wrong_signature}
-use Rattle.hashkey_path.specs.Known.{is_last_signed}
-use Rattle.hashkey_path.proofs.Known.{valid_is_known}
+use Rattle.hashkey_path.specs.LastSignatures.{is_last_signed}
+use Rattle.hashkey_path.proofs.LastSignatures.{valid_is_known}
 use Rattle.escrow_core.specs.declared.reply.Reply.{Reply}
 use Rattle.escrow_core.specs.declared.reply.Reply.TheVariants.{Accepted, Settled, NotCounterparty, AlreadyUnlocked, WrongSecret, WrongPath}
 use Rattle.escrow_core.specs.declared.reply.Reply.TheVariants.{WrongSignature, TooLate, NoContract, SenderFull}
@@ -16,7 +16,7 @@ use Rattle.ledger_core.specs.declared.entry.Call.{Call}
 use Rattle.ledger_core.specs.declared.entry.Call.TheVariants.{Publish, Unlock, Claim, Refund, Transfer}
 use Rattle.ledger_core.specs.declared.entry.Entry.{Entry}
 use Rattle.ledger_core.specs.History.{height, published, settled, the_terms, is_open, is_full, history_reply, rows}
-use Rattle.ledger_core.specs.Known.{is_known_call}
+use Rattle.ledger_core.specs.CallSignatures.{is_known_call}
 use Rattle.swap_auditor.specs.Replies.{is_after_check}
 use Rattle.swap_auditor.specs.Found.{IsSigned, TellsSignatures, SharesLast}
 

@@ -38,8 +38,8 @@ fn accepted_entries(alloc: Global, list: &EntryList) -> Result<EntryList, NoMemo
     Ok(accepted)
 }
 
-/// The book with every entry left out whose reply isn't `Accepted`. Refused calls change nothing
-/// for anybody.
+/// The book without each entry whose reply isn't `Accepted`. Refused calls change nothing for
+/// anybody. For programs of others.
 pub fn accepted_only(alloc: Global, deal: &Deal, book: &Book) -> Result<Book, NoMemory>
     requires legal { IsLegalBook deal.now book.now.histories }
     ensures exact { IfOk result (λ b. b.histories ≡ accepted_only book.now.histories) }

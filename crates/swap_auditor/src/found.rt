@@ -2,8 +2,8 @@
 
 ghost use Rattle.std.specs.Prelude.{◌≡◌, ◌≤◌, IsTrue, IfOk, length, true};
 ghost use Rattle.swap_digraph.specs.Deal.{IsWellSized};
-ghost use Rattle.hashkey_path.specs.Known.{is_last_signed};
-ghost use Rattle.ledger_core.specs.Known.{is_known_call};
+ghost use Rattle.hashkey_path.specs.LastSignatures.{is_last_signed};
+ghost use Rattle.ledger_core.specs.CallSignatures.{is_known_call};
 ghost use Rattle.swap_auditor.specs.Found.{IsSigned, TellsSignatures, SharesLast};
 
 use crate::same_reply::is_after_check;
@@ -128,14 +128,19 @@ impl Found {
     }
 
     /// Keeps the hashkey of a call if the reply tells that its signatures are valid. The last
-    /// `known` of them were known to be.
-    pub(crate) fn note(&mut self, call: &Call, reply: Reply, known: usize) -> Result<(), NoMemory>
+    /// `verified` of them were verified before.
+    pub(crate) fn note(
+        &mut self,
+        call: &Call,
+        reply: Reply,
+        verified: usize,
+    ) -> Result<(), NoMemory>
         requires { TellsSignatures self.old call.now reply }
         ensures { self.new ≡ self.old }
     {
         match call {
             Call::Unlock(key) => {
-                if is_after_check(reply) && known < key.sigs.len() {
+                if is_after_check(reply) && verified < key.sigs.len() {
                     self.keep(key)
                 } else {
                     Ok(())

@@ -7,18 +7,18 @@
 
 mod copy;
 mod fault;
+mod ghost_list;
 mod ids;
 mod listed;
-mod past;
 mod pieces;
 mod shared;
 mod text;
 
 pub use copy::TryCopy;
 pub use fault::{Fault, NoMemory};
+pub use ghost_list::GhostList;
 pub use ids::{ArcId, Digest, LockId, PartyId};
 pub use listed::Listed;
-pub use past::Past;
 pub use pieces::{Piece, put};
 pub use shared::Shared;
 pub use text::{ByteText, find_place};

@@ -10,5 +10,5 @@ pub mod Remaining
 pub mod Leading
 pub mod Sizes
 pub mod Deals
-pub mod Told
+pub mod ClearingAnswers
 pub mod Refusals

@@ -22,8 +22,8 @@ own_group_graph g v = own_graph g (strong_component g v) (inner_arcs g (strong_c
 abbrev pub is_least : Graph → ℕ → Bool
 is_least g v = first_is v (strong_component g v) && not (length (inner_arcs g (strong_component g v)) == 0)
 
--- Of the group with that number, by its least party, so many leaders remain when its parties are
--- dropped in order, more than 8; of each group before it at most 8 do.
+-- Groups are numbered by their least party. When the parties of this group are dropped in order,
+-- `count` leaders remain, more than 8. Of each group before it at most 8 remain.
 pub record IsTooMany (g : Graph) (group count : ℕ) : Type 0 where
   pub head : ℕ
   pub party : head < g.n

@@ -9,7 +9,8 @@ pub enum ClearReason {
     OutOfRange(u32),
     /// The arc leads from a party to itself.
     SelfArc(u32),
-    /// The group, by its number, has so many leaders, more than 8. It is the least such.
+    /// The group with the first number has the second number of leaders, more than 8. It is the
+    /// least such group.
     TooManyLeaders(u32, u32),
 }
 

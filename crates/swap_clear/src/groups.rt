@@ -11,8 +11,8 @@ ghost use Rattle.swap_clear.specs.Rows.{TellsReach};
 
 use crate::answer::Group;
 use crate::fault::{ClearFault, ClearReason};
+use crate::group_digraph::{inner_arcs, named, own_graph, strong_component};
 use crate::leaders::{choose_leaders, party_cycle};
-use crate::own::{inner_arcs, named, own_graph, strong_component};
 use leader_check::height;
 use std::alloc::Global;
 use swap_base::{Fault, Listed, NoMemory, PartyId};

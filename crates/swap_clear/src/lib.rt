@@ -9,11 +9,11 @@
 mod answer;
 mod clearing;
 mod fault;
+mod group_digraph;
 mod groups;
 mod law;
 mod leaders;
 mod left_out;
-mod own;
 mod proposals;
 mod proposed;
 mod reach;

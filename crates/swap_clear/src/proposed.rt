@@ -2,7 +2,7 @@
 
 use swap_base::PartyId;
 
-/// A transfer that is proposed: so many units, from one party to another.
+/// A transfer that is proposed: a number of units, from one party to another.
 #[derive(Clone, Copy, Debug, PartialEq, Eq)]
 pub struct Proposed {
     pub from: PartyId,

@@ -14,7 +14,7 @@ use Rattle.command_input.specs.Written.{IsWrittenWhole, Written}
 use Rattle.swap_commands.specs.Output.{reason_alone, refusal_names, names_told, no_chance, output_given_chance}
 use Rattle.swap_commands.specs.Says.{HasOutput, HasRead, StatusSays}
 use Rattle.swap_commands.specs.Words.{Audit}
-use Rattle.swap_commands.specs.Strategies.{strategies}
+use Rattle.swap_commands.specs.Strategies.{given_strategies}
 
 module _ (has : List ℕ → Bool) (gives : MayGive) where
   gives_by : (input : List ℕ) (output : Result Written Refusal) → audit_output input ≡ output → output_given_chance has no_chance Audit input ≡ reason_alone output
@@ -52,7 +52,7 @@ module _ (has : List ℕ → Bool) (gives : MayGive) where
   short a b taken taken' o = written_by (λ w. AppendsPrefix taken taken' w.text) (λ w. AppendsPrefix taken taken' w.text) (λ w x. x) a b o
 
   pub says_audit : (a b : Option (List ℕ)) (n m : ℕ) (taken taken' : Option (List ℕ)) (p q : ℕ) (s : Status)
-      → AuditSays (streams a n taken p) (streams b m taken' q) s → StatusSays (strategies has gives) Audit (streams a n taken p) (streams b m taken' q) s
+      → AuditSays (streams a n taken p) (streams b m taken' q) s → StatusSays (given_strategies has gives) Audit (streams a n taken p) (streams b m taken' q) s
   says_audit a b n m taken taken' p q Done s = written_by (IsWrittenWhole taken taken' false) (IsWrittenWhole taken taken' false) (λ w x. x) a b s
   says_audit a b n m taken taken' p q Named s = written_by (IsWrittenWhole taken taken' true) (IsWrittenWhole taken taken' true) (λ w x. x) a b s
   says_audit a b n m taken taken' p q WrongWords s = absurd s

@@ -21,7 +21,7 @@ use Rattle.command_input.specs.declared.status.Status.{Status}
 use Rattle.command_input.proofs.Ahead.{stands_on}
 use Rattle.swap_commands.proofs.Reading.{set_contains_ends}
 use Rattle.swap_commands.proofs.Saying.{says_written}
-use Rattle.swap_commands.specs.Strategies.{strategies}
+use Rattle.swap_commands.specs.Strategies.{given_strategies}
 use Rattle.command_input.proofs.Streams.{can_come, last_run, line_of, no_memory_after, stops_same}
 use Rattle.command_input.specs.Written.{StatusWrites}
 use Rattle.command_input.specs.Streams.{streams}
@@ -114,7 +114,7 @@ module _ (has : List ℕ → Bool) where
 
   pub says_clear : (may : MayGive) (left left' : Option (List ℕ)) (n m : ℕ) (taken taken' : Option (List ℕ)) (p q : ℕ) (now : At) (text : List ℕ)
       (status : Status) (e : Ends (λ bytes. IsCleared bytes text) (desk left n fresh) (desk left' m now)) → StatusWrites taken taken' p q (plain_text text) status
-      → StatusSays (strategies has may) Clear (streams left n taken p) (streams left' m taken' q) status
+      → StatusSays (given_strategies has may) Clear (streams left n taken p) (streams left' m taken' q) status
   says_clear may left left' n m taken taken' p q now text status e w =
       says_written has may no_chance Clear left left' n m taken taken' p q (plain_text text)
       (record {

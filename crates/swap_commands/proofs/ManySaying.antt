@@ -37,7 +37,7 @@ use Rattle.swap_commands.proofs.ManyWorlds.{all_can, kept_before, new_are_of, ne
 use Rattle.swap_commands.proofs.Reading.{set_contains_ends}
 use Rattle.swap_commands.proofs.Replays.{are_given}
 use Rattle.swap_commands.proofs.Saying.{says_written}
-use Rattle.swap_commands.specs.Strategies.{strategies}
+use Rattle.swap_commands.specs.Strategies.{given_strategies}
 
 module _ (has : List ℕ → Bool) where
   -- What is written of an input, by its lines.
@@ -222,7 +222,7 @@ module _ (has : List ℕ → Bool) where
       (finish : Finish) (w last : ManyState) (status : Status)
       (e : Ends (λ bytes. IsManyPlayed has gives bytes many finish w) (desk left n fresh) (desk left' m now))
       → AreSwaps many → HasManyGone gives (kept_after_finish finish) w last → StatusWrites taken taken' p q (many_written many (many_kept last)) status
-      → StatusSays (strategies has gives) Many (streams left n taken p) (streams left' m taken' q) status
+      → StatusSays (given_strategies has gives) Many (streams left n taken p) (streams left' m taken' q) status
   says_many gives left left' n m taken taken' p q now many finish w last status e swaps gone wrote =
       says_written has gives (by_many (λ s. world_answers (nth_world last s))) Many left left' n m taken taken' p q (many_written many (many_kept last))
       (record {

@@ -196,7 +196,7 @@ known_lack many places lack made =
 
 -- The wallets of each swap, one after another.
 
--- those of the next swap, where so many came before
+-- the wallets of the next swap, given the number of swaps before it
 pub next_own : (jobs : List Job) (k : ℕ) (own : List (Option WalletState)) (rest : List (List (Option WalletState)))
     → own ∷ rest ≡ map (prepared_wallets Run) (drop k jobs)
     → (k < length jobs) × (own ≡ prepared_wallets Run (job_of_swap jobs k)) × (rest ≡ map (prepared_wallets Run) (drop (k + 1) jobs))

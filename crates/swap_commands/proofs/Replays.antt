@@ -137,7 +137,7 @@ pub same_cast : (job : Job) (w : WorldState) → IsJobWorld job w → world_cast
 same_cast job w k = ap₂ (λ (d : Deal) (rs : List Role). made_cast d w.conforming w.seeds rs) k.deal k.roles
     ∙ ap₂ (λ (c : List Bool) (s : List (Option (List ℕ))). made_cast job.deal c s job.roles) k.conforming k.seeds
 
--- a staff that holds each strategy that the job names
+-- each strategy that the job names exists
 pub held : (has : List ℕ → Bool) (roles : List Role) → HoldsEach has roles → AreHeld has roles
 held has roles all = λ p lt. all p kinds.Manual lt
 

@@ -40,7 +40,7 @@ use Rattle.command_input.specs.Streams.{streams}
 use Rattle.swap_commands.proofs.Promises.{is_check, is_race, is_run, is_making}
 use Rattle.swap_commands.proofs.Reading.{check_of_bytes, gives_check, gives_race, gives_run, set_contains_ends, race_of_bytes, run_of_bytes}
 use Rattle.swap_commands.proofs.Reading.{gives_make, making_of_bytes}
-use Rattle.swap_commands.specs.Strategies.{strategies}
+use Rattle.swap_commands.specs.Strategies.{given_strategies}
 
 -- no more was taken than an input may have
 pub is_consumed : (left left' : Option (List ℕ)) (n m : ℕ) (now : At) → TookPart (desk left n fresh) (desk left' m now) → ConsumesAtMost left left' limit
@@ -57,7 +57,7 @@ too_long left left' n m now t = (t.0.0, omega (arith, t.0.1.counted, t.1), t.0.1
 module _ (has : List ℕ → Bool) where
   pub says_written : (gives : MayGive) (a : Chance) (command : Command) (left left' : Option (List ℕ)) (n m : ℕ) (taken taken' : Option (List ℕ)) (p q : ℕ)
       (output : Written) (r : HasRead has a command left left' (Ok output)) → AsPromised has gives a command r.input output
-      → (s : Status) → StatusWrites taken taken' p q output s → StatusSays (strategies has gives) command (streams left n taken p) (streams left' m taken' q) s
+      → (s : Status) → StatusWrites taken taken' p q output s → StatusSays (given_strategies has gives) command (streams left n taken p) (streams left' m taken' q) s
   says_written gives a command left left' n m taken taken' p q output r promised Done w =
       record { chance = a; output = output; read = r; promised = promised; written = w }
   says_written gives a command left left' n m taken taken' p q output r promised Named w =
@@ -76,7 +76,7 @@ module _ (has : List ℕ → Bool) where
   pub says_unread : (gives : MayGive) (command : Command) (left left' : Option (List ℕ)) (n m : ℕ) (now : At) (taken taken' : Option (List ℕ)) (p q : ℕ)
       → Keeps taken taken'
       → (f : InputFault Refusal) → HasStopped (IsCommandRefusal has command) (desk left n fresh) (desk left' m now) f
-      → StatusSays (strategies has gives) command (streams left n taken p) (streams left' m taken' q) (unread f)
+      → StatusSays (given_strategies has gives) command (streams left n taken p) (streams left' m taken' q) (unread f)
   says_unread gives command left left' n m now taken taken' p q k (fault.Refused r) u = (
     record {
       read = record {
@@ -98,7 +98,7 @@ module _ (has : List ℕ → Bool) where
   pub says_stopped : (gives : MayGive) (command : Command) (left left' left'' : Option (List ℕ)) (n m k : ℕ) (mid now : At) (taken : Option (List ℕ)) (p : ℕ)
       (f answer : InputFault Refusal) → Stops (IsCommandRefusal has command) (desk left n fresh) (desk left' m mid) f
       → Drains (desk left' m mid) (desk left'' k now) f answer
-      → StatusSays (strategies has gives) command (streams left n taken p) (streams left'' k taken p) (unread answer)
+      → StatusSays (given_strategies has gives) command (streams left n taken p) (streams left'' k taken p) (unread answer)
   says_stopped gives command left left' left'' n m k mid now taken p f answer s d =
       says_unread gives command left left'' n k now taken taken p p (Keeps-refl taken) answer
       (has_stopped (IsCommandRefusal has command) (desk left n fresh) (desk left' m mid) (desk left'' k now) f answer s d)
@@ -124,7 +124,7 @@ module _ (has : List ℕ → Bool) where
         → AreRecorded (command_cast a job) (finished_state job.finish (command_cast a job) s) → (job.finish ≡ Fair → IsEnded job.deal b)
         → (job.finish ≡ Fair → s ≡ start (job_cast job) → AllAreConforming job.deal job.conforming → IsDealt job.deal (is_conforming_party job.conforming) b)
         → StatusWrites taken taken' p q (reported transcript job b) status
-        → StatusSays (strategies has gives) (OfJob (Run transcript)) (streams left n taken p) (streams left' m taken' q) status
+        → StatusSays (given_strategies has gives) (OfJob (Run transcript)) (streams left n taken p) (streams left' m taken' q) status
     says_played a now job s b status e given same k kept disks ended dealt w =
         let out : Written = reported transcript job b in
         let made : output_given_chance has (by_answers a) (OfJob (Run transcript)) e.bytes ≡ Ok out =
@@ -150,14 +150,14 @@ module _ (has : List ℕ → Bool) where
         → (job.finish ≡ Fair → world.state ≡ start (job_cast job) → AllAreConforming job.deal job.conforming
         → IsDealt job.deal (is_conforming_party job.conforming) b)
         → StatusWrites taken taken' p q (reported transcript job b) status
-        → StatusSays (strategies has gives) (OfJob (Run transcript)) (streams left n taken p) (streams left' m taken' q) status
+        → StatusSays (given_strategies has gives) (OfJob (Run transcript)) (streams left n taken p) (streams left' m taken' q) status
     says_run now job world b status e c k kept ended dealt w =
         says_played c.answers now job world.state b status (e c.answers c.continues) c.given c.book k kept c.recorded ended dealt w
 
   pub says_race : (gives : MayGive) (ticks : ℕ) (transcript : Bool) (left left' : Option (List ℕ)) (n m : ℕ) (taken taken' : Option (List ℕ)) (p q : ℕ)
       (job : Job) (b : Histories) (status : Status) → HasEntered has left left' job → IsAccepted job.deal → job.purpose ≡ purposes.Race
       → IsRaceBook gives (job_cast job) ticks b → StatusWrites taken taken' p q (reported transcript job b) status
-      → StatusSays (strategies has gives) (OfJob (Race ticks transcript)) (streams left n taken p) (streams left' m taken' q) status
+      → StatusSays (given_strategies has gives) (OfJob (Race ticks transcript)) (streams left n taken p) (streams left' m taken' q) status
   says_race gives ticks transcript left left' n m taken taken' p q job b status e k purpose raced w =
       let out : Written = reported transcript job b in
       let r = e.entered in
@@ -189,7 +189,7 @@ module _ (has : List ℕ → Bool) where
       (status : Status)
       (e : Ends (λ bytes. IsChecked has bytes job) (desk left n fresh) (desk left' m now))
       → IsAccepted job.deal → StatusWrites taken taken' p q (told job) status
-      → StatusSays (strategies has gives) (OfJob Check) (streams left n taken p) (streams left' m taken' q) status
+      → StatusSays (given_strategies has gives) (OfJob Check) (streams left n taken p) (streams left' m taken' q) status
   says_check gives left left' n m taken taken' p q now job status e k w =
       says_written gives no_chance (OfJob Check) left left' n m taken taken' p q (told job)
       (record {
@@ -208,7 +208,7 @@ module _ (has : List ℕ → Bool) where
       (text : List ℕ) (status : Status)
       (e : Ends (λ bytes. IsCopied has bytes job text) (desk left n fresh) (desk left' m now))
       → IsMade job → StatusWrites taken taken' p q (plain_text text) status
-      → StatusSays (strategies has gives) (OfJob Make) (streams left n taken p) (streams left' m taken' q) status
+      → StatusSays (given_strategies has gives) (OfJob Make) (streams left n taken p) (streams left' m taken' q) status
   says_make gives left left' n m taken taken' p q now job text status e k w =
       says_written gives no_chance (OfJob Make) left left' n m taken taken' p q (plain_text text)
       (record {

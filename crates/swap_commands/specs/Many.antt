@@ -44,7 +44,7 @@ headed_lines has h (l ∷ ls) =
 abbrev pub headed : (List ℕ → Bool) → List (ℕ × List ℕ) → Result Headed Refusal
 headed has ls = headed_lines has nothing_headed ls
 
--- the events of lines, where so many came before
+-- the events of lines, given the number of event lines before them
 abbrev pub events_told : ManyJob → ℕ → List (ℕ × List ℕ) → Result (List ManyEvent) Refusal
 events_told many = lines_told (next_told many)
 

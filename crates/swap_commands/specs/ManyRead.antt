@@ -58,8 +58,7 @@ pub record AreOpenedWorlds (many : ManyJob) (w : ManyState) : Type 0 where
 abbrev pub AreSwapWorlds : ManyJob → ManyState → Type 0
 AreSwapWorlds many w = (g : ℕ → Answers) → made_setup w g ≡ setup_with_answers g many w.places
 
--- The worlds are those of the swaps, and can take their next event, where the staff holds these
--- strategies.
+-- The worlds are those of the swaps, and can take their next event, where these strategies exist.
 pub record CanReplayMany (holds : List ℕ → Bool) (many : ManyJob) (w : ManyState) : Type 0 where
   pub chains : AreBoundedChains many
   pub swaps : AreSwaps many

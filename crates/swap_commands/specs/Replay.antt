@@ -29,7 +29,7 @@ use Rattle.swap_commands.specs.Words.{JobCommand, Check, Run, Race, Make}
 unfoldable pub folded_events : {A : Type 0} → (A → Event → A) → Job → ℕ → A → List (ℕ × List ℕ) → Result A Reason
 folded_events f job count x lines = parse_events job count lines >>= λ events. Ok (fold f x events)
 
--- The world is one of the job, and can take its next event, where the staff holds these strategies.
+-- The world is one of the job, and can take its next event, where these strategies exist.
 pub record CanReplay (holds : List ℕ → Bool) (job : Job) (w : WorldState) : Type 0 where
   pub whole : IsWholeJob job
   pub seeds : needs_seeds job.purpose ≡ true

@@ -9,5 +9,5 @@ pub record Strategies : Type 1 where
   -- what it may answer
   pub gives : MayGive
 
-abbrev pub strategies : (List ℕ → Bool) → MayGive → Strategies
-strategies holds gives = record { holds = holds; gives = gives }
+abbrev pub given_strategies : (List ℕ → Bool) → MayGive → Strategies
+given_strategies holds gives = record { holds = holds; gives = gives }

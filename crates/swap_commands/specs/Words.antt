@@ -7,8 +7,8 @@ use Rattle.program_words.specs.declared.task.Request.{Request}
 use Rattle.program_words.specs.declared.task.Task.{Task}
 use Rattle.program_words.specs.declared.task.Task.TheVariants as tasks
 
--- A command that reads a job. A race has so many ticks a round; of a run and a race the report is
--- written, or the transcript.
+-- A command that reads a job. A race states the ticks of a round. A run and a race write their
+-- report, or their transcript.
 pub data JobCommand : Type 0 where
   Check : JobCommand
   Run : (transcript : Bool) → JobCommand

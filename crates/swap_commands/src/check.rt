@@ -11,7 +11,7 @@ ghost use Rattle.swap_commands.specs.Output.{check_text, told};
 ghost use Rattle.swap_commands.specs.Replay.{IsChecked};
 ghost use Rattle.swap_commands.specs.Says.{IsCommandRefusal, StatusSays};
 ghost use Rattle.swap_commands.specs.Words.{Check, OfJob};
-ghost use Rattle.swap_commands.specs.Strategies.{strategies};
+ghost use Rattle.swap_commands.specs.Strategies.{given_strategies};
 
 use crate::header::first_line;
 use crate::replay::skip_events;
@@ -54,21 +54,21 @@ fn check_text(alloc: Global, deal: &Deal, need: u32) -> Result<ByteText, NoMemor
 /// The job of an input, and the least bound that it may have. All lines of the input are examined.
 fn examine<S: Source, A: Strategies>(
     alloc: Global,
-    staff: &A,
+    strategies: &A,
     input: &mut Input,
     source: &mut S,
 ) -> Result<(Job, u32), InputFault<Refusal>>
     requires { input.old ≡ fresh }
-    ensures checked { IfOk result (λ j. Ends (λ bytes. IsChecked (A.holds staff.now) bytes j.0) (desk (S.left source.old) (S.faults source.old) fresh)
+    ensures checked { IfOk result (λ j. Ends (λ bytes. IsChecked (A.holds strategies.now) bytes j.0) (desk (S.left source.old) (S.faults source.old) fresh)
         (desk (S.left source.new) (S.faults source.new) input.new)) }
     ensures accepted { IfOk result (λ j. IsAccepted j.0.deal) }
     ensures sized { IfOk result (λ j. IsWellSized j.0.deal) }
     ensures need { IfOk result (λ j. j.1 ≡ deal_need j.0.deal) }
-    ensures stops { IfErr result (λ e. Stops (IsCommandRefusal (A.holds staff.now) (OfJob Check))
+    ensures stops { IfErr result (λ e. Stops (IsCommandRefusal (A.holds strategies.now) (OfJob Check))
         (desk (S.left source.old) (S.faults source.old) fresh)
         (desk (S.left source.new) (S.faults source.new) input.new) e) }
 {
-    let Prepared { job, need, .. } = first_line(alloc, staff, Purpose::Check, input, source)?;
+    let Prepared { job, need, .. } = first_line(alloc, strategies, Purpose::Check, input, source)?;
     match skip_events(alloc, &job, input, source) {
         Ok(()) => Ok((job, need)),
         Err(fault) => Err(fault.with_names(job.names)),
@@ -76,7 +76,7 @@ fn examine<S: Source, A: Strategies>(
 }
 
 /// Writes the text of a checked offer.
-fn tell<K: Sink>(alloc: Global, sink: &mut K, job: &Job, need: u32) -> Status
+fn write_checked_offer<K: Sink>(alloc: Global, sink: &mut K, job: &Job, need: u32) -> Status
     requires sized { IsWellSized job.now.deal }
     requires need { need ≡ deal_need job.now.deal }
     ensures { StatusWrites (K.taken sink.old) (K.taken sink.new) (K.faults sink.old) (K.faults sink.new) (told job.now) result }
@@ -93,19 +93,19 @@ fn tell<K: Sink>(alloc: Global, sink: &mut K, job: &Job, need: u32) -> Status
 /// Checks an offer.
 pub(crate) fn check<S: Source, K: Sink, A: Strategies>(
     alloc: Global,
-    staff: &A,
+    strategies: &A,
     input: &mut Input,
     source: &mut S,
     sink: &mut K,
 ) -> Status
     requires { input.old ≡ fresh }
-    ensures says { StatusSays (strategies (A.holds staff.now) (A.gives staff.now)) (OfJob Check)
+    ensures says { StatusSays (given_strategies (A.holds strategies.now) (A.gives strategies.now)) (OfJob Check)
         (streams (S.left source.old) (S.faults source.old) (K.taken sink.old) (K.faults sink.old))
         (streams (S.left source.new) (S.faults source.new) (K.taken sink.new) (K.faults sink.new)) result }
     ensures calm { ¬ (result ≡ Status.ReadFault) → S.faults source.new ≡ S.faults source.old }
 {
-    match examine(alloc, staff, input, source) {
-        Ok((job, need)) => tell(alloc, sink, &job, need),
+    match examine(alloc, strategies, input, source) {
+        Ok((job, need)) => write_checked_offer(alloc, sink, &job, need),
         Err(fault) => unread(input.stop(source, fault)),
     }
 }

@@ -7,9 +7,9 @@ ghost use Rattle.command_input.specs.Input.{Ends, Fits, IsLast, IsLine, Stops, d
 ghost use Rattle.command_input.specs.Streams.{streams};
 ghost use Rattle.swap_commands.specs.Says.{IsCommandRefusal, StatusSays};
 ghost use Rattle.swap_commands.specs.Words.{Clear};
-ghost use Rattle.swap_commands.specs.Strategies.{strategies};
+ghost use Rattle.swap_commands.specs.Strategies.{given_strategies};
 
-use crate::make::tell;
+use crate::make::write_plain_text;
 use clear_line::cleared_line;
 use command_input::{Input, InputFault, Status, no_line, unread};
 use deviators::Strategies;
@@ -83,19 +83,19 @@ fn clear_wishes<S: Source>(
 /// Clears wishes, for which no strategy is asked.
 pub(crate) fn clear<S: Source, K: Sink, A: Strategies>(
     alloc: Global,
-    _staff: &A,
+    _strategies: &A,
     input: &mut Input,
     source: &mut S,
     sink: &mut K,
 ) -> Status
     requires { input.old ≡ fresh }
-    ensures says { StatusSays (strategies (A.holds _staff.now) (A.gives _staff.now)) Clear
+    ensures says { StatusSays (given_strategies (A.holds _strategies.now) (A.gives _strategies.now)) Clear
         (streams (S.left source.old) (S.faults source.old) (K.taken sink.old) (K.faults sink.old))
         (streams (S.left source.new) (S.faults source.new) (K.taken sink.new) (K.faults sink.new)) result }
     ensures calm { ¬ (result ≡ Status.ReadFault) → S.faults source.new ≡ S.faults source.old }
 {
     match clear_wishes(alloc, input, source) {
-        Ok(text) => tell(sink, &text),
+        Ok(text) => write_plain_text(sink, &text),
         Err(fault) => unread(input.stop(source, fault)),
     }
 }

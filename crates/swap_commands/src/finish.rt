@@ -18,17 +18,21 @@ use swap_job::{Finish, Job};
 use swap_world::World;
 
 /// Finishes the world as its job asks.
-pub(crate) fn finish<A: Strategies>(world: &mut World, staff: &A, job: &Job) -> Result<(), NoMemory>
-    requires held { AreHeld (A.holds staff.now) job.now.roles }
+pub(crate) fn finish<A: Strategies>(
+    world: &mut World,
+    strategies: &A,
+    job: &Job,
+) -> Result<(), NoMemory>
+    requires held { AreHeld (A.holds strategies.now) job.now.roles }
     requires of { IsJobWorld job.now world.old }
     requires goes_on { world.old.stopped ≡ false }
-    ensures gone { OnOk result (HasGone (A.gives staff.now) (finished_state job.now.finish) world.old world.new) }
+    ensures gone { OnOk result (HasGone (A.gives strategies.now) (finished_state job.now.finish) world.old world.new) }
     ensures ended { OnOk result (job.now.finish ≡ Finish.Fair → IsEnded job.now.deal world.new.state.book) }
     ensures dealt { OnOk result (job.now.finish ≡ Finish.Fair → world.old.state ≡ start (job_cast job.now) → AllAreConforming job.now.deal job.now.conforming
         → IsDealt job.now.deal (is_conforming_party job.now.conforming) world.new.state.book) }
 {
     match job.finish {
         Finish::Stop => Ok(()),
-        Finish::Fair => world.finish_fair(staff),
+        Finish::Fair => world.finish_fair(strategies),
     }
 }

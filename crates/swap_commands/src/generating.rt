@@ -27,7 +27,7 @@ fn write_job<K: Sink>(alloc: Global, request: Request, sink: &mut K) -> Status
 }
 
 /// Writes a summary.
-fn tell<K: Sink>(sink: &mut K, request: Request, summary: &Summary) -> Status
+fn write_summary_text<K: Sink>(sink: &mut K, request: Request, summary: &Summary) -> Status
     requires text { summary.now.text ≡ (summary_output request).text }
     requires found { summary.now.found ≡ (summary_output request).found }
     ensures writes { StatusWrites (K.taken sink.old) (K.taken sink.new) (K.faults sink.old) (K.faults sink.new) (summary_output request) result }
@@ -56,7 +56,7 @@ fn write_summary<K: Sink>(alloc: Global, request: Request, sink: &mut K) -> Stat
     ensures silent { result ≡ Status.NoMemory → Keeps (K.taken sink.old) (K.taken sink.new) }
 {
     match summarize(alloc, request.seed, request.parties, request.events) {
-        Ok(summary) => tell(sink, request, &summary),
+        Ok(summary) => write_summary_text(sink, request, &summary),
         Err(_) => Status::NoMemory,
     }
 }

@@ -23,7 +23,7 @@ use swap_offer::{Prepared, read_header};
 /// The job of an input's header, where these are the names of the strategies.
 fn prepare_first<S: Source>(
     alloc: Global,
-    strategies: &[ByteText],
+    strategy_names: &[ByteText],
     purpose: Purpose,
     input: &mut Input,
     source: &mut S,
@@ -31,9 +31,9 @@ fn prepare_first<S: Source>(
     requires { input.old ≡ fresh }
     ensures line { OnOk result (IsLine (desk (S.left source.old) (S.faults source.old) fresh)
         (desk (S.left source.new) (S.faults source.new) input.new)) }
-    ensures header { IfOk result (λ p. parse_header_job (has_strategy strategies.now) purpose input.new.number
+    ensures header { IfOk result (λ p. parse_header_job (has_strategy strategy_names.now) purpose input.new.number
         input.new.text ≡ Ok p.job) }
-    ensures names { IfOk result (λ p. p.job.names ≡ header_names (has_strategy strategies.now) purpose input.new.number
+    ensures names { IfOk result (λ p. p.job.names ≡ header_names (has_strategy strategy_names.now) purpose input.new.number
         input.new.text) }
     ensures whole { IfOk result (λ p. IsWholeJob p.job) }
     ensures known { IfOk result (λ p. AreNames p.job.names) }
@@ -41,20 +41,20 @@ fn prepare_first<S: Source>(
     ensures accepted { IfOk result (λ p. IsAcceptedOrProposed purpose p.job.deal) }
     ensures seeds { IfOk result (λ p. HaveRequiredSeeds purpose p.job) }
     ensures wallets { IfOk result (λ p. HaveRequiredWallets purpose p.job) }
-    ensures strategies { IfOk result (λ p. HoldsEach (has_strategy strategies.now) p.job.roles) }
+    ensures strategies { IfOk result (λ p. HoldsEach (has_strategy strategy_names.now) p.job.roles) }
     ensures scripts { IfOk result (λ p. HaveRequiredScripts purpose p.job) }
     ensures made { IfOk result (λ p. p.wallets.items ≡ prepared_wallets purpose p.job) }
     ensures need { IfOk result (λ p. p.need ≡ deal_need p.job.deal) }
     // Whatever command of that purpose.
     ensures stops { (command : JobCommand) → purpose ≡ command_purpose command
-        → IfErr result (λ e. Stops (IsCommandRefusal (has_strategy strategies.now) (OfJob command)) (desk (S.left source.old) (S.faults source.old) fresh)
+        → IfErr result (λ e. Stops (IsCommandRefusal (has_strategy strategy_names.now) (OfJob command)) (desk (S.left source.old) (S.faults source.old) fresh)
         (desk (S.left source.new) (S.faults source.new) input.new) e) }
 {
     if !input.next(source)? {
         return Err(no_line(alloc));
     }
     let number = input.number();
-    let prepared = read_header(alloc, number, input.text(), purpose, strategies)?;
+    let prepared = read_header(alloc, number, input.text(), purpose, strategy_names)?;
     Ok(prepared)
 }
 
@@ -62,7 +62,7 @@ fn prepare_first<S: Source>(
 /// said against it.
 pub(crate) fn first_line<S: Source, A: Strategies>(
     alloc: Global,
-    staff: &A,
+    strategies: &A,
     purpose: Purpose,
     input: &mut Input,
     source: &mut S,
@@ -70,9 +70,9 @@ pub(crate) fn first_line<S: Source, A: Strategies>(
     requires { input.old ≡ fresh }
     ensures line { OnOk result (IsLine (desk (S.left source.old) (S.faults source.old) fresh)
         (desk (S.left source.new) (S.faults source.new) input.new)) }
-    ensures header { IfOk result (λ p. parse_header_job (A.holds staff.now) purpose input.new.number
+    ensures header { IfOk result (λ p. parse_header_job (A.holds strategies.now) purpose input.new.number
         input.new.text ≡ Ok p.job) }
-    ensures names { IfOk result (λ p. p.job.names ≡ header_names (A.holds staff.now) purpose input.new.number
+    ensures names { IfOk result (λ p. p.job.names ≡ header_names (A.holds strategies.now) purpose input.new.number
         input.new.text) }
     ensures whole { IfOk result (λ p. IsWholeJob p.job) }
     ensures known { IfOk result (λ p. AreNames p.job.names) }
@@ -80,15 +80,15 @@ pub(crate) fn first_line<S: Source, A: Strategies>(
     ensures accepted { IfOk result (λ p. IsAcceptedOrProposed purpose p.job.deal) }
     ensures seeds { IfOk result (λ p. HaveRequiredSeeds purpose p.job) }
     ensures wallets { IfOk result (λ p. HaveRequiredWallets purpose p.job) }
-    ensures strategies { IfOk result (λ p. HoldsEach (A.holds staff.now) p.job.roles) }
+    ensures strategies { IfOk result (λ p. HoldsEach (A.holds strategies.now) p.job.roles) }
     ensures scripts { IfOk result (λ p. HaveRequiredScripts purpose p.job) }
     ensures made { IfOk result (λ p. p.wallets.items ≡ prepared_wallets purpose p.job) }
     ensures need { IfOk result (λ p. p.need ≡ deal_need p.job.deal) }
     // Whatever command of that purpose.
     ensures stops { (command : JobCommand) → purpose ≡ command_purpose command
-        → IfErr result (λ e. Stops (IsCommandRefusal (A.holds staff.now) (OfJob command)) (desk (S.left source.old) (S.faults source.old) fresh)
+        → IfErr result (λ e. Stops (IsCommandRefusal (A.holds strategies.now) (OfJob command)) (desk (S.left source.old) (S.faults source.old) fresh)
         (desk (S.left source.new) (S.faults source.new) input.new) e) }
 {
-    let strategies = staff.names()?;
-    prepare_first(alloc, strategies.as_slice(), purpose, input, source)
+    let strategy_names = strategies.names()?;
+    prepare_first(alloc, strategy_names.as_slice(), purpose, input, source)
 }

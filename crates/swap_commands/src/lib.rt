@@ -22,5 +22,5 @@ mod run;
 mod walk;
 
 pub use generating::generate;
-pub use orders::obey;
+pub use orders::run_order;
 pub use racing::{enter, race};

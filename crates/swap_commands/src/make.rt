@@ -9,7 +9,7 @@ ghost use Rattle.swap_commands.specs.Output.{plain_text};
 ghost use Rattle.swap_commands.specs.Replay.{IsCopied};
 ghost use Rattle.swap_commands.specs.Says.{IsCommandRefusal, StatusSays};
 ghost use Rattle.swap_commands.specs.Words.{Make, OfJob};
-ghost use Rattle.swap_commands.specs.Strategies.{strategies};
+ghost use Rattle.swap_commands.specs.Strategies.{given_strategies};
 
 use crate::header::first_line;
 use command_input::{Input, InputFault, Status, unread};
@@ -46,20 +46,20 @@ fn copy_lines<S: Source>(
 /// The text that is made of an input, and the plain job that it was read as.
 fn copy<S: Source, A: Strategies>(
     alloc: Global,
-    staff: &A,
+    strategies: &A,
     input: &mut Input,
     source: &mut S,
 ) -> Result<(Job, Vec<u8>), InputFault<Refusal>>
     requires { input.old ≡ fresh }
-    ensures copied { IfOk result (λ c. Ends (λ bytes. IsCopied (A.holds staff.now) bytes c.0 c.1.items)
+    ensures copied { IfOk result (λ c. Ends (λ bytes. IsCopied (A.holds strategies.now) bytes c.0 c.1.items)
         (desk (S.left source.old) (S.faults source.old) fresh)
         (desk (S.left source.new) (S.faults source.new) input.new)) }
     ensures made { IfOk result (λ c. IsMade c.0) }
-    ensures stops { IfErr result (λ e. Stops (IsCommandRefusal (A.holds staff.now) (OfJob Make))
+    ensures stops { IfErr result (λ e. Stops (IsCommandRefusal (A.holds strategies.now) (OfJob Make))
         (desk (S.left source.old) (S.faults source.old) fresh)
         (desk (S.left source.new) (S.faults source.new) input.new) e) }
 {
-    let Prepared { job, .. } = first_line(alloc, staff, Purpose::Make, input, source)?;
+    let Prepared { job, .. } = first_line(alloc, strategies, Purpose::Make, input, source)?;
     let mut text = made_line(alloc, &job)?;
     match copy_lines(alloc, &mut text, input, source) {
         Ok(()) => Ok((job, text)),
@@ -68,7 +68,7 @@ fn copy<S: Source, A: Strategies>(
 }
 
 /// Writes a text.
-pub(crate) fn tell<K: Sink>(sink: &mut K, text: &[u8]) -> Status
+pub(crate) fn write_plain_text<K: Sink>(sink: &mut K, text: &[u8]) -> Status
     ensures { StatusWrites (K.taken sink.old) (K.taken sink.new) (K.faults sink.old) (K.faults sink.new) (plain_text text.now) result }
 {
     match write_all(sink, text) {
@@ -80,19 +80,19 @@ pub(crate) fn tell<K: Sink>(sink: &mut K, text: &[u8]) -> Status
 /// Makes a job.
 pub(crate) fn make<S: Source, K: Sink, A: Strategies>(
     alloc: Global,
-    staff: &A,
+    strategies: &A,
     input: &mut Input,
     source: &mut S,
     sink: &mut K,
 ) -> Status
     requires { input.old ≡ fresh }
-    ensures says { StatusSays (strategies (A.holds staff.now) (A.gives staff.now)) (OfJob Make)
+    ensures says { StatusSays (given_strategies (A.holds strategies.now) (A.gives strategies.now)) (OfJob Make)
         (streams (S.left source.old) (S.faults source.old) (K.taken sink.old) (K.faults sink.old))
         (streams (S.left source.new) (S.faults source.new) (K.taken sink.new) (K.faults sink.new)) result }
     ensures calm { ¬ (result ≡ Status.ReadFault) → S.faults source.new ≡ S.faults source.old }
 {
-    match copy(alloc, staff, input, source) {
-        Ok((_, text)) => tell(sink, &text),
+    match copy(alloc, strategies, input, source) {
+        Ok((_, text)) => write_plain_text(sink, &text),
         Err(fault) => unread(input.stop(source, fault)),
     }
 }

@@ -17,7 +17,7 @@ ghost use Rattle.swap_commands.specs.Many.{kept_after_finish, headed, many_writt
 ghost use Rattle.swap_commands.specs.ManyRead.{AreRun, CanReplayMany, HasStepped, IsHeading, IsLack, IsManyPlayed, AreOpenedWorlds, places_after_events};
 ghost use Rattle.swap_commands.specs.Says.{IsCommandRefusal, StatusSays};
 ghost use Rattle.swap_commands.specs.Words.{Many};
-ghost use Rattle.swap_commands.specs.Strategies.{strategies};
+ghost use Rattle.swap_commands.specs.Strategies.{given_strategies};
 
 use crate::replay::new_world;
 use crate::walk::{Skip, Walker, walk};
@@ -52,16 +52,16 @@ fn cut_short(alloc: Global) -> InputFault<Refusal>
 /// The lines before the events, where these are the names of the strategies.
 fn read_checked_heading<S: Source>(
     alloc: Global,
-    strategies: &[ByteText],
+    strategy_names: &[ByteText],
     input: &mut Input,
     source: &mut S,
 ) -> Result<Heading, InputFault<Refusal>>
     requires { input.old ≡ fresh }
-    ensures heading { IfOk result (λ h. IsHeading (has_strategy strategies.now) h (desk (S.left source.old) (S.faults source.old) fresh)
+    ensures heading { IfOk result (λ h. IsHeading (has_strategy strategy_names.now) h (desk (S.left source.old) (S.faults source.old) fresh)
         (desk (S.left source.new) (S.faults source.new) input.new)) }
     ensures over { IfOk result (λ h. is_some (finish_told h.stage) ≡ true) }
-    ensures held { IfOk result (λ h. HoldsEverySwap (has_strategy strategies.now) h.many) }
-    ensures stops { IfErr result (λ e. Stops (λ bytes r. headed (has_strategy strategies.now) (ahead fresh bytes) ≡ Err r)
+    ensures held { IfOk result (λ h. HoldsEverySwap (has_strategy strategy_names.now) h.many) }
+    ensures stops { IfErr result (λ e. Stops (λ bytes r. headed (has_strategy strategy_names.now) (ahead fresh bytes) ≡ Err r)
         (desk (S.left source.old) (S.faults source.old) fresh)
         (desk (S.left source.new) (S.faults source.new) input.new) e) }
 {
@@ -70,7 +70,7 @@ fn read_checked_heading<S: Source>(
         if !input.next(source)? {
             return Err(cut_short(alloc));
         }
-        heading.push(alloc, strategies, input.number(), input.text())?;
+        heading.push(alloc, strategy_names, input.number(), input.text())?;
     }
     Ok(heading)
 }
@@ -78,21 +78,21 @@ fn read_checked_heading<S: Source>(
 /// The lines before the events.
 fn read_heading<S: Source, A: Strategies>(
     alloc: Global,
-    staff: &A,
+    strategies: &A,
     input: &mut Input,
     source: &mut S,
 ) -> Result<Heading, InputFault<Refusal>>
     requires { input.old ≡ fresh }
-    ensures heading { IfOk result (λ h. IsHeading (A.holds staff.now) h (desk (S.left source.old) (S.faults source.old) fresh)
+    ensures heading { IfOk result (λ h. IsHeading (A.holds strategies.now) h (desk (S.left source.old) (S.faults source.old) fresh)
         (desk (S.left source.new) (S.faults source.new) input.new)) }
     ensures over { IfOk result (λ h. is_some (finish_told h.stage) ≡ true) }
-    ensures held { IfOk result (λ h. HoldsEverySwap (A.holds staff.now) h.many) }
-    ensures stops { IfErr result (λ e. Stops (λ bytes r. headed (A.holds staff.now) (ahead fresh bytes) ≡ Err r)
+    ensures held { IfOk result (λ h. HoldsEverySwap (A.holds strategies.now) h.many) }
+    ensures stops { IfErr result (λ e. Stops (λ bytes r. headed (A.holds strategies.now) (ahead fresh bytes) ≡ Err r)
         (desk (S.left source.old) (S.faults source.old) fresh)
         (desk (S.left source.new) (S.faults source.new) input.new) e) }
 {
-    let strategies = staff.names()?;
-    read_checked_heading(alloc, strategies.as_slice(), input, source)
+    let strategy_names = strategies.names()?;
+    read_checked_heading(alloc, strategy_names.as_slice(), input, source)
 }
 
 /// A copy of the name of an account.
@@ -159,7 +159,8 @@ fn open(
     }
 }
 
-/// The worlds step by the events of the swaps' lines, where the staff answers for strategies.
+/// The worlds step by the events of the swaps' lines, where `strategies` answers for each party
+/// that follows a strategy.
 impl<'v, A: Strategies> Walker<(&'v ManyJob, &'v A), Refusal> for ManyWorld {
     type Event = ManyEvent;
 
@@ -177,9 +178,9 @@ impl<'v, A: Strategies> Walker<(&'v ManyJob, &'v A), Refusal> for ManyWorld {
         line: u32,
         text: &[u8],
     ) -> Result<(), HeaderFault> {
-        let (many, staff) = context;
+        let (many, strategies) = context;
         let event = next_many(alloc, many, count, line, text)?;
-        self.step(staff, &event)?;
+        self.step(strategies, &event)?;
         Ok(())
     }
 }
@@ -234,25 +235,25 @@ fn run_events<S: Source, A: Strategies>(
     alloc: Global,
     many: &ManyJob,
     wallets: Vec<Vec<Option<Wallet>>>,
-    staff: &A,
+    strategies: &A,
     input: &mut Input,
     source: &mut S,
 ) -> Result<ManyWorld, InputFault<Refusal>>
     requires chains { AreBoundedChains many.now }
     requires swaps { AreSwaps many.now }
     requires made { map (λ v. v.items) wallets.items ≡ map (prepared_wallets Purpose.Run) many.now.jobs }
-    requires held { HoldsEverySwap (A.holds staff.now) many.now }
+    requires held { HoldsEverySwap (A.holds strategies.now) many.now }
     requires fits { Fits (S.left source.old) input.old }
-    ensures run { IfOk result (λ w. AreRun (A.gives staff.now) many.now w (desk (S.left source.old) (S.faults source.old) input.old)
+    ensures run { IfOk result (λ w. AreRun (A.gives strategies.now) many.now w (desk (S.left source.old) (S.faults source.old) input.old)
         (desk (S.left source.new) (S.faults source.new) input.new)) }
-    ensures held { IfOk result (AreAllHeld (A.holds staff.now)) }
+    ensures held { IfOk result (AreAllHeld (A.holds strategies.now)) }
     ensures stops { IfErr result (λ e. Stops (λ bytes r. places_after_events many.now (ahead input.old bytes) ≡ Err r)
         (desk (S.left source.old) (S.faults source.old) input.old)
         (desk (S.left source.new) (S.faults source.new) input.new) e) }
 {
     match open(alloc, many, wallets) {
         Ok(mut world) => {
-            walk(alloc, (many, staff), &mut world, input, source)?;
+            walk(alloc, (many, strategies), &mut world, input, source)?;
             Ok(world)
         }
         Err(Fault::Refused(refusal)) => Err(refuse(alloc, many, refusal, input, source)),
@@ -263,24 +264,24 @@ fn run_events<S: Source, A: Strategies>(
 /// The swaps of an input, and their worlds after all events.
 fn play<S: Source, A: Strategies>(
     alloc: Global,
-    staff: &A,
+    strategies: &A,
     input: &mut Input,
     source: &mut S,
 ) -> Result<Played, InputFault<Refusal>>
     requires { input.old ≡ fresh }
-    ensures played { IfOk result (λ p. Ends (λ bytes. IsManyPlayed (A.holds staff.now)
-        (A.gives staff.now) bytes p.many p.finish p.world) (desk (S.left source.old) (S.faults source.old) fresh)
+    ensures played { IfOk result (λ p. Ends (λ bytes. IsManyPlayed (A.holds strategies.now)
+        (A.gives strategies.now) bytes p.many p.finish p.world) (desk (S.left source.old) (S.faults source.old) fresh)
         (desk (S.left source.new) (S.faults source.new) input.new)) }
     ensures chains { IfOk result (λ p. AreBoundedChains p.many) }
     ensures swaps { IfOk result (λ p. AreSwaps p.many) }
-    ensures held { IfOk result (λ p. AreAllHeld (A.holds staff.now) p.world) }
-    ensures stops { IfErr result (λ e. Stops (IsCommandRefusal (A.holds staff.now) Many) (desk (S.left source.old) (S.faults source.old) fresh)
+    ensures held { IfOk result (λ p. AreAllHeld (A.holds strategies.now) p.world) }
+    ensures stops { IfErr result (λ e. Stops (IsCommandRefusal (A.holds strategies.now) Many) (desk (S.left source.old) (S.faults source.old) fresh)
         (desk (S.left source.new) (S.faults source.new) input.new) e) }
 {
-    let heading = read_heading(alloc, staff, input, source)?;
+    let heading = read_heading(alloc, strategies, input, source)?;
     let finish = heading.finish().unwrap();
     let (many, wallets) = heading.into_parts();
-    match run_events(alloc, &many, wallets, staff, input, source) {
+    match run_events(alloc, &many, wallets, strategies, input, source) {
         Ok(world) => Ok(Played {
             many,
             finish,
@@ -292,24 +293,29 @@ fn play<S: Source, A: Strategies>(
 
 /// The worlds after the finish of the swaps.
 fn conclude<A: Strategies>(
-    staff: &A,
+    strategies: &A,
     finish: Finish,
     mut world: ManyWorld,
 ) -> Result<ManyWorld, NoMemory>
-    requires held { AreAllHeld (A.holds staff.now) world }
-    ensures { IfOk result (λ w. HasManyGone (A.gives staff.now) (kept_after_finish finish) world w) }
+    requires held { AreAllHeld (A.holds strategies.now) world }
+    ensures { IfOk result (λ w. HasManyGone (A.gives strategies.now) (kept_after_finish finish) world w) }
 {
     match finish {
         Finish::Stop => Ok(world),
         Finish::Fair => {
-            world.finish_fair(staff)?;
+            world.finish_fair(strategies)?;
             Ok(world)
         }
     }
 }
 
 /// Writes the text of the swaps, and says whether it tells of a finding.
-fn tell<K: Sink>(alloc: Global, sink: &mut K, many: &ManyJob, world: &ManyWorld) -> Status
+fn write_played_swaps<K: Sink>(
+    alloc: Global,
+    sink: &mut K,
+    many: &ManyJob,
+    world: &ManyWorld,
+) -> Status
     requires shown { AreShown world.now many.now.jobs }
     requires chains { AreChainsShown world.now many.now.names }
     ensures { StatusWrites (K.taken sink.old) (K.taken sink.new) (K.faults sink.old) (K.faults sink.new) (many_written many.now (many_kept world.now)) result }
@@ -331,13 +337,13 @@ fn tell<K: Sink>(alloc: Global, sink: &mut K, many: &ManyJob, world: &ManyWorld)
 /// Runs several swaps on shared chains.
 pub(crate) fn many<S: Source, K: Sink, A: Strategies>(
     alloc: Global,
-    staff: &A,
+    strategies: &A,
     input: &mut Input,
     source: &mut S,
     sink: &mut K,
 ) -> Status
     requires { input.old ≡ fresh }
-    ensures says { StatusSays (strategies (A.holds staff.now) (A.gives staff.now)) Many
+    ensures says { StatusSays (given_strategies (A.holds strategies.now) (A.gives strategies.now)) Many
         (streams (S.left source.old) (S.faults source.old) (K.taken sink.old) (K.faults sink.old))
         (streams (S.left source.new) (S.faults source.new) (K.taken sink.new) (K.faults sink.new)) result }
     ensures calm { ¬ (result ≡ Status.ReadFault) → S.faults source.new ≡ S.faults source.old }
@@ -346,12 +352,12 @@ pub(crate) fn many<S: Source, K: Sink, A: Strategies>(
         many,
         finish,
         world,
-    } = match play(alloc, staff, input, source) {
+    } = match play(alloc, strategies, input, source) {
         Ok(played) => played,
         Err(fault) => return unread(input.stop(source, fault)),
     };
-    let Ok(world) = conclude(staff, finish, world) else {
+    let Ok(world) = conclude(strategies, finish, world) else {
         return Status::NoMemory;
     };
-    tell(alloc, sink, &many, &world)
+    write_played_swaps(alloc, sink, &many, &world)
 }

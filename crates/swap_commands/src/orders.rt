@@ -4,7 +4,7 @@ ghost use Rattle.std.specs.Prelude.{◌≡◌};
 ghost use Rattle.command_input.specs.Streams.{streams};
 ghost use Rattle.swap_commands.specs.Words.{ordered};
 ghost use Rattle.swap_commands.specs.Says.{StatusSays};
-ghost use Rattle.swap_commands.specs.Strategies.{strategies};
+ghost use Rattle.swap_commands.specs.Strategies.{given_strategies};
 
 use crate::check::check;
 use crate::clear::clear;
@@ -18,15 +18,16 @@ use program_words::Order;
 use std::alloc::Global;
 use swap_io::{Sink, Source};
 
-/// Does what the order asks for with an input. The staff answers for strategies.
-pub fn obey<S: Source, K: Sink, A: Strategies>(
+/// Does what the order asks for with an input. `strategies` answers for each party that follows a
+/// strategy.
+pub fn run_order<S: Source, K: Sink, A: Strategies>(
     alloc: Global,
     order: Order,
     source: &mut S,
     sink: &mut K,
-    staff: &A,
+    strategies: &A,
 ) -> Status
-    ensures says { StatusSays (strategies (A.holds staff.now) (A.gives staff.now)) (ordered order)
+    ensures says { StatusSays (given_strategies (A.holds strategies.now) (A.gives strategies.now)) (ordered order)
         (streams (S.left source.old) (S.faults source.old) (K.taken sink.old) (K.faults sink.old))
         (streams (S.left source.new) (S.faults source.new) (K.taken sink.new) (K.faults sink.new)) result }
     // No read failed, unless the status tells of it.
@@ -36,11 +37,11 @@ pub fn obey<S: Source, K: Sink, A: Strategies>(
         return Status::NoMemory;
     };
     match order {
-        Order::Check => check(alloc, staff, &mut input, source, sink),
-        Order::Run { transcript } => run(alloc, staff, transcript, &mut input, source, sink),
-        Order::Make => make(alloc, staff, &mut input, source, sink),
+        Order::Check => check(alloc, strategies, &mut input, source, sink),
+        Order::Run { transcript } => run(alloc, strategies, transcript, &mut input, source, sink),
+        Order::Make => make(alloc, strategies, &mut input, source, sink),
         Order::Audit => audit_transcript(alloc, &mut input, source, sink),
-        Order::Clear => clear(alloc, staff, &mut input, source, sink),
-        Order::Many => many(alloc, staff, &mut input, source, sink),
+        Order::Clear => clear(alloc, strategies, &mut input, source, sink),
+        Order::Many => many(alloc, strategies, &mut input, source, sink),
     }
 }

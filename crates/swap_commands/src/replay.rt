@@ -29,7 +29,8 @@ use swap_job::{Event, Job};
 use swap_offer::next_event;
 use swap_world::World;
 
-/// A world steps by the events of its job's lines, where the staff answers for strategies.
+/// A world steps by the events of its job's lines, where `strategies` answers for each party that
+/// follows a strategy.
 impl<'v, A: Strategies> Walker<(&'v Job, &'v A), Reason> for World {
     type Event = Event;
 
@@ -47,9 +48,9 @@ impl<'v, A: Strategies> Walker<(&'v Job, &'v A), Reason> for World {
         line: u32,
         text: &[u8],
     ) -> Result<(), OfferFault> {
-        let (job, staff) = context;
+        let (job, strategies) = context;
         let event = next_event(alloc, job, count, line, text)?;
-        self.step(staff, &event)?;
+        self.step(strategies, &event)?;
         Ok(())
     }
 }
@@ -98,7 +99,7 @@ pub(crate) fn replay<S: Source, A: Strategies>(
     alloc: Global,
     job: &Job,
     wallets: Vec<Option<Wallet>>,
-    staff: &A,
+    strategies: &A,
     input: &mut Input,
     source: &mut S,
 ) -> Result<World, InputFault<Reason>>
@@ -108,14 +109,14 @@ pub(crate) fn replay<S: Source, A: Strategies>(
     requires wallets { HaveWallets job.now }
     requires scripts { HaveScripts job.now }
     requires made { wallets.items ≡ new_wallets job.now.deal job.now.conforming job.now.seeds }
-    requires held { AreHeld (A.holds staff.now) job.now.roles }
+    requires held { AreHeld (A.holds strategies.now) job.now.roles }
     requires fits { Fits (S.left source.old) input.old }
     // Whatever strategies may answer after the last event.
     ensures exact { IfOk result (λ w. (a : Answers) → Continues w a
         → Ends (λ bytes. folded_events (step (command_cast a job.now)) job.now 0 (start (job_cast job.now)) (ahead input.old bytes) ≡ Ok w.state)
         (desk (S.left source.old) (S.faults source.old) input.old)
         (desk (S.left source.new) (S.faults source.new) input.new)) }
-    ensures asked { IfOk result (λ w. HasAsked (A.gives staff.now) (new_world job.now) w) }
+    ensures asked { IfOk result (λ w. HasAsked (A.gives strategies.now) (new_world job.now) w) }
     ensures of { IfOk result (λ w. IsJobWorld job.now w) }
     ensures goes_on { IfOk result (λ w. w.stopped ≡ false) }
     ensures stops { IfErr result (λ e. Stops (λ bytes reason. folded_events skipped_event job.now 0 tt (ahead input.old bytes) ≡ Err reason)
@@ -123,7 +124,7 @@ pub(crate) fn replay<S: Source, A: Strategies>(
         (desk (S.left source.new) (S.faults source.new) input.new) e) }
 {
     let mut world = new_world(alloc, job, wallets)?;
-    walk(alloc, (job, staff), &mut world, input, source)?;
+    walk(alloc, (job, strategies), &mut world, input, source)?;
     Ok(world)
 }
 

@@ -29,7 +29,7 @@ ghost use Rattle.swap_commands.specs.Output.{book_report, reported, run_text};
 ghost use Rattle.swap_commands.specs.Replay.{IsConcluded, IsPlayed};
 ghost use Rattle.swap_commands.specs.Says.{IsCommandRefusal, StatusSays};
 ghost use Rattle.swap_commands.specs.Words.{OfJob, Run};
-ghost use Rattle.swap_commands.specs.Strategies.{strategies};
+ghost use Rattle.swap_commands.specs.Strategies.{given_strategies};
 
 use crate::disks::look_at_disks;
 use crate::finish::finish;
@@ -52,7 +52,7 @@ use transcript_writer::write_transcript;
 /// The job of an input, and its world after all events.
 fn play<S: Source, A: Strategies>(
     alloc: Global,
-    staff: &A,
+    strategies: &A,
     transcript: bool,
     input: &mut Input,
     source: &mut S,
@@ -60,10 +60,10 @@ fn play<S: Source, A: Strategies>(
     requires { input.old ≡ fresh }
     // Whatever strategies may answer after the last event.
     ensures played { IfOk result (λ p. (a : Answers) → Continues p.1 a
-        → Ends (λ bytes. IsPlayed (A.holds staff.now) a bytes p.0 p.1.state) (desk (S.left source.old) (S.faults source.old) fresh)
+        → Ends (λ bytes. IsPlayed (A.holds strategies.now) a bytes p.0 p.1.state) (desk (S.left source.old) (S.faults source.old) fresh)
         (desk (S.left source.new) (S.faults source.new) input.new)) }
-    ensures asked { IfOk result (λ p. HasAsked (A.gives staff.now) (new_world p.0) p.1) }
-    ensures held { IfOk result (λ p. AreHeld (A.holds staff.now) p.0.roles) }
+    ensures asked { IfOk result (λ p. HasAsked (A.gives strategies.now) (new_world p.0) p.1) }
+    ensures held { IfOk result (λ p. AreHeld (A.holds strategies.now) p.0.roles) }
     ensures whole { IfOk result (λ p. IsWholeJob p.0) }
     ensures names { IfOk result (λ p. AreNames p.0.names) }
     ensures purpose { IfOk result (λ p. p.0.purpose ≡ Purpose.Run) }
@@ -71,11 +71,11 @@ fn play<S: Source, A: Strategies>(
     ensures of { IfOk result (λ p. IsJobWorld p.0 p.1) }
     ensures goes_on { IfOk result (λ p. p.1.stopped ≡ false) }
     ensures stops { IfErr result (λ e.
-        Stops (IsCommandRefusal (A.holds staff.now) (OfJob (Run transcript))) (desk (S.left source.old) (S.faults source.old) fresh)
+        Stops (IsCommandRefusal (A.holds strategies.now) (OfJob (Run transcript))) (desk (S.left source.old) (S.faults source.old) fresh)
         (desk (S.left source.new) (S.faults source.new) input.new) e) }
 {
-    let Prepared { job, wallets, .. } = first_line(alloc, staff, Purpose::Run, input, source)?;
-    match replay(alloc, &job, wallets, staff, input, source) {
+    let Prepared { job, wallets, .. } = first_line(alloc, strategies, Purpose::Run, input, source)?;
+    match replay(alloc, &job, wallets, strategies, input, source) {
         Ok(world) => Ok((job, world)),
         Err(fault) => Err(fault.with_names(job.names)),
     }
@@ -84,21 +84,21 @@ fn play<S: Source, A: Strategies>(
 /// The book of a world after the job's finish.
 fn conclude<A: Strategies>(
     alloc: Global,
-    staff: &A,
+    strategies: &A,
     job: &Job,
     mut world: World,
 ) -> Result<Book, NoMemory>
-    requires held { AreHeld (A.holds staff.now) job.now.roles }
-    requires asked { HasAsked (A.gives staff.now) (new_world job.now) world }
+    requires held { AreHeld (A.holds strategies.now) job.now.roles }
+    requires asked { HasAsked (A.gives strategies.now) (new_world job.now) world }
     requires of { IsJobWorld job.now world }
     requires goes_on { world.stopped ≡ false }
-    ensures book { IfOk result (λ b. IsConcluded (A.gives staff.now) job.now world b.histories) }
+    ensures book { IfOk result (λ b. IsConcluded (A.gives strategies.now) job.now world b.histories) }
     ensures kept { IfOk result (λ b. IsKept (job_cast job.now) b.histories) }
     ensures ended { IfOk result (λ b. job.now.finish ≡ Finish.Fair → IsEnded job.now.deal b.histories) }
     ensures dealt { IfOk result (λ b. job.now.finish ≡ Finish.Fair → world.state ≡ start (job_cast job.now) → AllAreConforming job.now.deal job.now.conforming
         → IsDealt job.now.deal (is_conforming_party job.now.conforming) b.histories) }
 {
-    finish(&mut world, staff, job)?;
+    finish(&mut world, strategies, job)?;
     look_at_disks(&world);
     world.into_book(alloc)
 }
@@ -133,7 +133,7 @@ fn write_text<K: Sink>(
 
 /// Writes the report of a job's book, or its transcript, and says whether the report tells of a
 /// finding.
-pub(crate) fn tell<K: Sink>(
+pub(crate) fn write_report_or_transcript<K: Sink>(
     alloc: Global,
     transcript: bool,
     sink: &mut K,
@@ -165,24 +165,24 @@ pub(crate) fn tell<K: Sink>(
 /// Runs a job.
 pub(crate) fn run<S: Source, K: Sink, A: Strategies>(
     alloc: Global,
-    staff: &A,
+    strategies: &A,
     transcript: bool,
     input: &mut Input,
     source: &mut S,
     sink: &mut K,
 ) -> Status
     requires { input.old ≡ fresh }
-    ensures says { StatusSays (strategies (A.holds staff.now) (A.gives staff.now)) (OfJob (Run transcript))
+    ensures says { StatusSays (given_strategies (A.holds strategies.now) (A.gives strategies.now)) (OfJob (Run transcript))
         (streams (S.left source.old) (S.faults source.old) (K.taken sink.old) (K.faults sink.old))
         (streams (S.left source.new) (S.faults source.new) (K.taken sink.new) (K.faults sink.new)) result }
     ensures calm { ¬ (result ≡ Status.ReadFault) → S.faults source.new ≡ S.faults source.old }
 {
-    let (job, world) = match play(alloc, staff, transcript, input, source) {
+    let (job, world) = match play(alloc, strategies, transcript, input, source) {
         Ok(played) => played,
         Err(fault) => return unread(input.stop(source, fault)),
     };
-    let Ok(book) = conclude(alloc, staff, &job, world) else {
+    let Ok(book) = conclude(alloc, strategies, &job, world) else {
         return Status::NoMemory;
     };
-    tell(alloc, transcript, sink, &job, &book)
+    write_report_or_transcript(alloc, transcript, sink, &job, &book)
 }

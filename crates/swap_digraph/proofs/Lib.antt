@@ -2,4 +2,4 @@ pub mod Ranges
 pub mod Faults
 pub mod Distinct
 pub mod Paths
-pub mod Parts
+pub mod LeaderPaths

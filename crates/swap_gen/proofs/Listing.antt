@@ -28,7 +28,7 @@ is_done seed g k e count xs whole le so_far =
     let z : count - e ≡ 0 = omega arith in
     sym (append-nil xs) ∙ ap (λ j. xs ++ drawn_events seed g k j) (sym z) ∙ so_far
 
--- so many events of a number's job are listed, and a world of it can take each
+-- the first events of a number's job are listed, and a world of the job can take each
 abbrev pub AreListed : (seed n count e : ℕ) → GeneratorState → List Event → Type 0
 AreListed seed n count e g xs =
     (g.seed ≡ seed) × (g.parties ≡ n) × (xs ++ drawn_events seed (drawn_graph seed n) g.place (count - e) ≡ generated_events seed n count)

@@ -94,6 +94,6 @@ plain_job seed n = record {
   finish = Fair;
 }
 
--- the job of a number and so many parties
+-- the job of a number with n parties
 abbrev pub generated : (seed n : ℕ) → Job
 generated seed n = made (plain_job seed n)

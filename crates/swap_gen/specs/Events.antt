@@ -26,7 +26,7 @@ drawn_event seed g k =
     else if nat_le kind 4 then (Look (w % g.n) (picked (touching g (w % g.n)) (word seed on)), next on)
     else (Act (w % g.n), on)
 
--- so many events of the words from place k on
+-- `count` events of the words from place k on
 abbrev pub drawn_events : (seed : ℕ) → Graph → (k count : ℕ) → List Event
 drawn_events seed g k zero = []
 drawn_events seed g k (suc count) = (drawn_event seed g k).0 ∷ drawn_events seed g (drawn_event seed g k).1 count
@@ -36,11 +36,11 @@ drawn_events seed g k (suc count) = (drawn_event seed g k).0 ∷ drawn_events se
 abbrev pub first_place : (seed n : ℕ) → ℕ
 first_place seed n = 1 + 2 * n + length (drawn_arcs seed n)
 
--- the first events of the job of a number and so many parties
+-- the first `count` events of the job of a number with n parties
 unfoldable pub generated_events : (seed n count : ℕ) → List Event
 generated_events seed n count = drawn_events seed (drawn_graph seed n) (first_place seed n) count
 
--- A job of a number and so many parties, and where its next event is drawn.
+-- The job of a number with a number of parties, and the place where its next event is drawn.
 pub record GeneratorState : Type 0 where
   pub seed : ℕ
   pub parties : ℕ

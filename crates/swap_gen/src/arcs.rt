@@ -95,7 +95,8 @@ pub(crate) fn drawn_arcs(
     Ok(arcs)
 }
 
-/// The units of each arc, where so many words were drawn.
+/// The units of `count` arcs, drawn one after another. The words for the arcs' ends were drawn
+/// before.
 pub(crate) fn drawn_amounts(
     alloc: Global,
     draws: &mut Draws,

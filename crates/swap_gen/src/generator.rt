@@ -81,7 +81,7 @@ fn pick(draws: &mut Draws, arcs: &[ArcId]) -> ArcId
 }
 
 impl Generator {
-    /// The job of a number and so many parties, before its first event.
+    /// The job of a number with this number of parties, before its first event.
     pub fn new(alloc: Global, seed: u32, parties: u8) -> Result<Generator, NoMemory>
         requires low { 2 ≤ parties }
         requires high { parties ≤ 24 }

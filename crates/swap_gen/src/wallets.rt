@@ -91,8 +91,8 @@ fn prepared_wallets(alloc: Global, job: &Job) -> Result<KeyedWallets, NoMemory>
     Ok(made)
 }
 
-/// The job of a number and so many parties, with their wallets. The draws then stand at the first
-/// event.
+/// The job of a number with this number of parties, and their wallets. The draws then stand at the
+/// first event.
 pub(crate) fn made_job(
     alloc: Global,
     draws: &mut Draws,

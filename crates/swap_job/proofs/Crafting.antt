@@ -8,7 +8,7 @@ use Rattle.swap_digraph.specs.Deal.{path_limit}
 use Rattle.hashkey_path.specs.declared.hashkey.Hashkey.{Hashkey}
 use Rattle.party_wallet.specs.Keys.{own_key, onto_key}
 use Rattle.swap_job.specs.Crafted.{Seeds, make_seed, prepend_party}
-use Rattle.swap_job.specs.Parts.{HasPathRoom}
+use Rattle.swap_job.specs.MoveKeys.{HasPathRoom}
 
 own_room : (m : Mode) (d : Deal) (v : ℕ) (seed : List ℕ) (i n : ℕ) → suc n ≤ path_limit d → HasPathRoom d n (Some (own_key m d v seed i))
 own_room Timelocks d v seed i n l = (omega (arith, l), refl)

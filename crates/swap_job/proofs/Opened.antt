@@ -10,7 +10,7 @@ use Rattle.ledger_core.specs.declared.runs.Item.TheVariants.{One, Ticks}
 use Rattle.ledger_core.specs.Runs.{ticks_above, run_ticks, ledger_entries, expand}
 use Rattle.ledger_core.specs.Ledger.{tick_entry}
 use Rattle.ledger_core.specs.History.{Opening, opening, opened, accepted}
-use Rattle.swap_job.specs.Parts.{item_opening}
+use Rattle.swap_job.specs.MoveKeys.{item_opening}
 
 or_none : {B : Type 0} (o : Option B) → or_else o None ≡ o
 or_none None = refl

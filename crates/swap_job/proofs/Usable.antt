@@ -25,7 +25,7 @@ use Rattle.ledger_core.proofs.History.{opened_done, of_unlock}
 use Rattle.party_wallet.specs.Keys.{own_key, onto_key}
 use Rattle.swap_job.specs.Crafted.{Seeds, make_seed, prepend_party, crafted, crafted_within_limit}
 use Rattle.swap_job.specs.Fitting.{is_plain_move, fits_if, CanCraft, NamesFitting, IsFitting}
-use Rattle.swap_job.specs.Parts.{HasPathRoom, IsUsable}
+use Rattle.swap_job.specs.MoveKeys.{HasPathRoom, IsUsable}
 use Rattle.swap_job.specs.Resolved.{move_arc, opening_named, key_opened, plain_call, build_call, call_of_move, resolved}
 use Rattle.swap_job.specs.declared.moves.Move.{Move}
 use Rattle.swap_job.specs.declared.moves.Move.TheVariants.{Publish, Craft, Replay, Raw, Claim, Refund, Transfer, Wait}

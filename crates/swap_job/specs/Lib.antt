@@ -3,5 +3,5 @@ pub mod Resolved
 pub mod Fitting
 pub mod Step
 pub mod Names
-pub mod Parts
+pub mod MoveKeys
 pub mod Roles

@@ -4,7 +4,7 @@ ghost use Rattle.std.specs.Prelude.{◌≡◌, ◌<◌, IfOk, Some, None, true, 
 ghost use Rattle.std.specs.Option.{ForSome};
 ghost use Rattle.swap_job.specs.Crafted.{prepend_party, crafted, crafted_within_limit};
 ghost use Rattle.swap_job.specs.Fitting.{CanCraft};
-ghost use Rattle.swap_job.specs.Parts.{HasPathRoom, IsUsable};
+ghost use Rattle.swap_job.specs.MoveKeys.{HasPathRoom, IsUsable};
 
 use hashkey_path::Hashkey;
 use party_wallet::{sign_onto_anew, sign_own_anew};

@@ -4,7 +4,7 @@ ghost use Rattle.std.specs.Prelude.{◌≡◌, option_map, option_copied};
 ghost use Rattle.swap_base.specs.Lists.{first_given_answer};
 ghost use Rattle.ledger_core.specs.Facts.{opened_key};
 ghost use Rattle.ledger_core.specs.History.{opening, accepted};
-ghost use Rattle.swap_job.specs.Parts.{item_opening};
+ghost use Rattle.swap_job.specs.MoveKeys.{item_opening};
 
 use escrow_core::Reply;
 use hashkey_path::Hashkey;

@@ -6,7 +6,7 @@ ghost use Rattle.swap_digraph.specs.Deal.{IsWellSized};
 ghost use Rattle.ledger_core.specs.History.{fit};
 ghost use Rattle.ledger_core.specs.Book.{IsLegalBook};
 ghost use Rattle.swap_job.specs.Fitting.{IsFitting};
-ghost use Rattle.swap_job.specs.Parts.{IsUsable, move_publish_terms};
+ghost use Rattle.swap_job.specs.MoveKeys.{IsUsable, move_publish_terms};
 ghost use Rattle.swap_job.specs.Resolved.{move_arc, opening_named, key_opened, build_call, plain_call, resolved, is_idle};
 
 use crate::crafted::{craft, extend_craft};
@@ -101,7 +101,7 @@ pub fn opening_named(mv: &Move) -> Option<(ArcId, LockId)>
 }
 
 /// The hashkey of the opening that a move names, where it is known.
-fn key_named<'k>(known: &'k Book, mv: &Move) -> Option<&'k Hashkey>
+fn known_key_named<'k>(known: &'k Book, mv: &Move) -> Option<&'k Hashkey>
     requires { ForSome (opening_named mv.now) (λ x. x.0 < length known.now.histories) }
     ensures { option_copied result ≡ key_opened known.now.histories (opening_named mv.now) }
 {
@@ -190,5 +190,5 @@ pub fn resolve(
     ensures none { IfOk result (λ o. is_some o ≡ not (is_idle deal.now known.now.histories mv.now)) }
     ensures fits { IfOk result (λ o. ForSome o (λ x. IsTrue (fit deal.now x.0 x.1))) }
 {
-    resolve_keyed_move(alloc, deal, seeds, mv, key_named(known, mv))
+    resolve_keyed_move(alloc, deal, seeds, mv, known_key_named(known, mv))
 }

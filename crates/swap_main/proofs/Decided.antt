@@ -29,7 +29,7 @@ use Rattle.swap_offer.specs.Job.{parse_job}
 use Rattle.command_input.specs.Lines.{collect_lines, filled_lines}
 use Rattle.command_input.specs.Written.{Written}
 use Rattle.swap_main.specs.Laws.{SameWithoutStrategies, RulesDecide}
-use Rattle.swap_main.specs.Known.{by_rule}
+use Rattle.swap_main.specs.KnownStrategies.{by_rule}
 use Rattle.swap_main.proofs.ManyTexts.{one_text}
 use Rattle.swap_commands.specs.Output.{AreGiven, Chance, command_cast, finished_state, output_given_chance, job_output, reported, run_state}
 use Rattle.swap_commands.specs.Words.{OfJob, Audit, Clear, Many, Check, Run, Race, Make}

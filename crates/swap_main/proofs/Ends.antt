@@ -15,7 +15,7 @@ use Rattle.command_input.specs.declared.status.Status.TheVariants.{Done, Named, 
 use Rattle.command_input.specs.Streams.{HasReadFault, HasWriteFault, Streams}
 use Rattle.swap_world.specs.Gone.{MayGive}
 use Rattle.swap_commands.specs.Promised.{AsPromised}
-use Rattle.swap_commands.specs.Strategies.{strategies}
+use Rattle.swap_commands.specs.Strategies.{given_strategies}
 use Rattle.swap_main.proofs.FairMany.{many_is_not_named, many_is_not_refused}
 use Rattle.swap_main.proofs.Fairly.{all_read, fails_by, is_not_named, is_not_refused, race_is_not_named, race_is_not_refused}
 
@@ -31,14 +31,14 @@ module _ (has : List ℕ → Bool) where
   module _ (gives : MayGive) (words : List (List ℕ)) (before after : Streams)
       (command : Command) (asked : words_command words ≡ Some command) where
     abbrev Said : Status → Type 0
-    Said s = StatusSays (strategies has gives) command before after s
+    Said s = StatusSays (given_strategies has gives) command before after s
 
     abbrev read_by : (a : Chance) (output : Result Written Reason) → HasRead has a command before.left after.left output
         → Read has a words before.left after.left output
     read_by a output r = record { command = command; asked = asked; input = r.input; taken = r.taken; ended = r.ended; within = r.within; gives = r.gives }
 
     whole : (found : Bool) → HasOutput has gives (IsWrittenWhole before.taken after.taken found) command before.left after.left
-        → IsDone (strategies has gives) words before after found
+        → IsDone (given_strategies has gives) words before after found
     whole found o = record {
       chance = o.chance;
       output = o.output;
@@ -48,10 +48,10 @@ module _ (has : List ℕ → Bool) where
       promised = o.promised;
     }
 
-    pub done : (s : Status) → Said s → s ≡ Done → IsDone (strategies has gives) words before after false
+    pub done : (s : Status) → Said s → s ≡ Done → IsDone (given_strategies has gives) words before after false
     done s h e = whole false (subst Said e h)
 
-    pub named : (s : Status) → Said s → s ≡ Named → IsDone (strategies has gives) words before after true
+    pub named : (s : Status) → Said s → s ≡ Named → IsDone (given_strategies has gives) words before after true
     named s h e = whole true (subst Said e h)
 
     pub refused : (s : Status) → Said s → (reason : Reason) (names : List (List ℕ)) → s ≡ Refused reason names
@@ -74,7 +74,7 @@ module _ (has : List ℕ → Bool) where
     pub write_fault : (s : Status) → Said s → s ≡ WriteFault → HasWriteFault before after
     write_fault s h e = let o = subst Said e h in o.0
 
-    pub cut : (s : Status) → Said s → s ≡ WriteFault → IsCut (strategies has gives) words before after
+    pub cut : (s : Status) → Said s → s ≡ WriteFault → IsCut (given_strategies has gives) words before after
     cut s h e =
         let o = subst Said e h in
         record {
@@ -88,10 +88,10 @@ module _ (has : List ℕ → Bool) where
     pub too_long : (s : Status) → Said s → s ≡ TooLong → ConsumesSome before.left after.left (limit + 1)
     too_long s h e = let o = subst Said e h in o.0
 
-    pub short : (s : Status) → Said s → s ≡ NoMemory → Keeps before.taken after.taken ⊎ IsCutShort (strategies has gives) words before after
+    pub short : (s : Status) → Said s → s ≡ NoMemory → Keeps before.taken after.taken ⊎ IsCutShort (given_strategies has gives) words before after
     short s h e = by (subst Said e h)
       where
-        by : Said NoMemory → Keeps before.taken after.taken ⊎ IsCutShort (strategies has gives) words before after
+        by : Said NoMemory → Keeps before.taken after.taken ⊎ IsCutShort (given_strategies has gives) words before after
         by (inl k) = inl k.0
         by (inr o) = inr (record {
           chance = o.chance;

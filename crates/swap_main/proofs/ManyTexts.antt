@@ -14,7 +14,7 @@ use Rattle.many_lines.specs.Setup.{setup_with_answers}
 use Rattle.swap_commands.specs.Many.{Headed, events_told, many_state, many_written, opened_places}
 use Rattle.swap_commands.specs.Output.{AreGiven}
 use Rattle.swap_commands.specs.Promised.{IsManyRun}
-use Rattle.swap_main.specs.Known.{by_rule}
+use Rattle.swap_main.specs.KnownStrategies.{by_rule}
 use Rattle.swap_main.proofs.ManyDecided.{rule_decides}
 
 -- A rule of names.

@@ -4,7 +4,7 @@ use Rattle.std.specs.List.{list_any}
 use Rattle.std.specs.Prelude.{IfOk, Result, Ok, Err}
 use Rattle.std.specs.Str.{bytes_eq}
 use Rattle.deviators.specs.Program.{program_names}
-use Rattle.swap_main.specs.Known.{is_known}
+use Rattle.swap_main.specs.KnownStrategies.{is_known}
 
 -- the names that are told are those that the program knows
 pub all_known : {E : Type 0} (told : Result (List (List ℕ)) E) → IfOk told (λ ns. ns ≡ program_names)

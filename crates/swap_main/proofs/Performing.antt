@@ -17,7 +17,7 @@ use Rattle.command_input.specs.Streams.{Streams, streams}
 use Rattle.command_input.specs.Written.{StatusWrites}
 use Rattle.swap_commands.specs.Generated.{generated_output, Generates, IsRequestStatus}
 use Rattle.swap_commands.specs.Says.{StatusSays}
-use Rattle.swap_commands.specs.Strategies.{Strategies, strategies}
+use Rattle.swap_commands.specs.Strategies.{Strategies, given_strategies}
 use Rattle.swap_commands.specs.Words.{Command, OfJob, Race as OfRace, task_command, words_command, ordered, task_request, words_request}
 use Rattle.swap_main.specs.Answer.{IsAnswer}
 use Rattle.swap_main.specs.Top.{IsCutShort}
@@ -130,9 +130,9 @@ module _ (who : Strategies) (words : List (List ℕ)) (before after : Streams) w
 -- call of it need not name them.
 
 pub said_is_right : (has : List ℕ → Bool) (gives : MayGive) (command : Command) (left left' : Option (List ℕ)) (n m : ℕ) (taken taken' : Option (List ℕ))
-    (p q : ℕ) (s : Status) → StatusSays (strategies has gives) command (streams left n taken p) (streams left' m taken' q) s → ¬ (s ≡ WrongWords)
+    (p q : ℕ) (s : Status) → StatusSays (given_strategies has gives) command (streams left n taken p) (streams left' m taken' q) s → ¬ (s ≡ WrongWords)
 said_is_right has gives command left left' n m taken taken' p q s h e =
-    subst (λ (t : Status). StatusSays (strategies has gives) command (streams left n taken p) (streams left' m taken' q) t) e h
+    subst (λ (t : Status). StatusSays (given_strategies has gives) command (streams left n taken p) (streams left' m taken' q) t) e h
 
 pub made_is_right : (taken taken' : Option (List ℕ)) (p q : ℕ) (request : Request) (s : Status) → IsRequestStatus taken taken' p q request s → ¬ (s ≡ WrongWords)
 made_is_right taken taken' p q request s h e = subst (λ (t : Status). StatusWrites taken taken' p q (generated_output request) t) e h.writes

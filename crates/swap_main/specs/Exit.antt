@@ -4,7 +4,7 @@ use Rattle.swap_base.specs.Text.{joined}
 use Rattle.command_input.specs.declared.exit.Exit.{Exit}
 use Rattle.command_input.specs.declared.status.Status.{Status}
 use Rattle.command_input.specs.declared.status.Status.TheVariants.{Done, Named, WrongWords, Refused, ReadFault, WriteFault, NoMemory, TooLong}
-use Rattle.command_input.specs.Told.{refusal_text, told_text}
+use Rattle.command_input.specs.StandardError.{refusal_text, told_text}
 
 -- the number of a status
 abbrev pub exit_number : Status → ℕ

@@ -13,7 +13,7 @@ use Rattle.command_input.specs.Written.{Written}
 use Rattle.swap_commands.specs.Output.{Chance, output_given_chance}
 use Rattle.swap_commands.specs.Words.{is_race, Command, OfJob, Run}
 use Rattle.swap_commands.specs.Promised.{AsPromised}
-use Rattle.swap_main.specs.Known.{by_rule}
+use Rattle.swap_main.specs.KnownStrategies.{by_rule}
 
 -- if nobody follows a strategy, the text of a run is the same whatever chance decides
 abbrev pub SameWithoutStrategies : Type 0

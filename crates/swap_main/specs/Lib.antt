@@ -2,4 +2,4 @@ pub mod Top
 pub mod Answer
 pub mod Exit
 pub mod Laws
-pub mod Known
+pub mod KnownStrategies

@@ -2,7 +2,7 @@
 
 ghost use Rattle.std.specs.Prelude.{◌≡◌, IfOk};
 ghost use Rattle.deviators.specs.Program.{program_names, program_rule};
-ghost use Rattle.swap_main.specs.Known.{by_rule, is_known};
+ghost use Rattle.swap_main.specs.KnownStrategies.{by_rule, is_known};
 
 use deviators::{Strategies, greedy_rule, replayer_rule, silent_rule, spoiler_rule};
 use ledger_core::{Book, Call};

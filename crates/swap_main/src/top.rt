@@ -7,7 +7,7 @@ ghost use Rattle.command_input.specs.Streams.{streams};
 ghost use Rattle.swap_main.specs.Answer.{IsAnswer};
 ghost use Rattle.swap_commands.specs.Says.{StatusSays};
 ghost use Rattle.swap_commands.specs.Words.{AsksRace, OfJob, Race, words_request};
-ghost use Rattle.swap_commands.specs.Strategies.{strategies};
+ghost use Rattle.swap_commands.specs.Strategies.{given_strategies};
 
 use command_input::{Status, unread};
 use deviators::Strategies;
@@ -16,7 +16,7 @@ use program_words::{Task, read_task};
 use std::alloc::Global;
 use std::sync::Wait;
 use std::thread::Threads;
-use swap_commands::{enter, generate, obey, race};
+use swap_commands::{enter, generate, race, run_order};
 use swap_io::{Sink, Source};
 
 /// Reads the job of a race, and races it.
@@ -28,39 +28,39 @@ fn perform_race<R: Threads + Wait + Sync, S: Source, K: Sink, G: Gate, A: Strate
     source: &mut S,
     sink: &mut K,
     gate: &G,
-    staff: &A,
+    strategies: &A,
 ) -> Status
     requires some { 1 ≤ ticks }
     requires below { ticks ≤ 1000 }
-    ensures says { StatusSays (strategies (A.holds staff.now) (A.gives staff.now)) (OfJob (Race ticks transcript))
+    ensures says { StatusSays (given_strategies (A.holds strategies.now) (A.gives strategies.now)) (OfJob (Race ticks transcript))
         (streams (S.left source.old) (S.faults source.old) (K.taken sink.old) (K.faults sink.old))
         (streams (S.left source.new) (S.faults source.new) (K.taken sink.new) (K.faults sink.new)) result }
     ensures calm { ¬ (result ≡ Status.ReadFault) → S.faults source.new ≡ S.faults source.old }
 {
-    match enter(alloc, source, staff) {
+    match enter(alloc, source, strategies) {
         Ok((job, wallets)) => race(
-            rt, alloc, ticks, transcript, &job, wallets, sink, gate, staff,
+            rt, alloc, ticks, transcript, &job, wallets, sink, gate, strategies,
         ),
         Err(fault) => unread(fault),
     }
 }
 
 /// Runs the program but for races: the words after its name, its standard input and its standard
-/// output. The staff answers for strategies. It waits for nobody, and to words that ask for a race
-/// it answers as to wrong ones.
+/// output. `strategies` answers for each party that follows a strategy. It waits for nobody, and
+/// treats words that ask for a race as wrong words.
 pub fn swap_plain<S: Source, K: Sink, A: Strategies>(
     alloc: Global,
     words: &Vec<String>,
     source: &mut S,
     sink: &mut K,
-    staff: &A,
+    strategies: &A,
 ) -> Status
     // Wrong words are those that aren't well formed.
     ensures words { ¬ AsksRace (map string_bytes words.now.items)
         → ((result ≡ Status.WrongWords) ↔ (task_text (map string_bytes words.now.items) ≡ None)) }
     ensures unread { result ≡ Status.WrongWords → source.new ≡ source.old }
     ensures unread_by_number { (request : Request) → words_request (map string_bytes words.now.items) ≡ Some request → source.new ≡ source.old }
-    ensures answer { ¬ AsksRace (map string_bytes words.now.items) → IsAnswer (strategies (A.holds staff.now) (A.gives staff.now))
+    ensures answer { ¬ AsksRace (map string_bytes words.now.items) → IsAnswer (given_strategies (A.holds strategies.now) (A.gives strategies.now))
         (map string_bytes words.now.items) (streams (S.left source.old) (S.faults source.old) (K.taken sink.old) (K.faults sink.old))
         (streams (S.left source.new) (S.faults source.new) (K.taken sink.new) (K.faults sink.new)) result }
     // No read failed, unless the status tells of it.
@@ -78,14 +78,14 @@ pub fn swap_plain<S: Source, K: Sink, A: Strategies>(
     };
     match task {
         Task::Race { .. } => Status::WrongWords,
-        Task::Input(order) => obey(alloc, order, source, sink, staff),
+        Task::Input(order) => run_order(alloc, order, source, sink, strategies),
         Task::Number(request) => generate(alloc, request, sink),
     }
 }
 
-/// Runs the program: the words after its name, its standard input and its standard output. The
-/// staff answers for strategies, and each turn of a race passes the gate. Where a race is asked for
-/// it waits for the race's threads.
+/// Runs the program: the words after its name, its standard input and its standard output.
+/// `strategies` answers for each party that follows a strategy, and each turn of a race passes the
+/// gate. Where a race is asked for it waits for the race's threads.
 pub fn swap_top<R: Threads + Wait + Sync, S: Source, K: Sink, G: Gate, A: Strategies + Sync>(
     rt: &R,
     alloc: Global,
@@ -93,13 +93,13 @@ pub fn swap_top<R: Threads + Wait + Sync, S: Source, K: Sink, G: Gate, A: Strate
     source: &mut S,
     sink: &mut K,
     gate: &G,
-    staff: &A,
+    strategies: &A,
 ) -> Status
     // Wrong words are those that aren't well formed.
     ensures words { (result ≡ Status.WrongWords) ↔ (task_text (map string_bytes words.now.items) ≡ None) }
     ensures unread { result ≡ Status.WrongWords → source.new ≡ source.old }
     ensures unread_by_number { (request : Request) → words_request (map string_bytes words.now.items) ≡ Some request → source.new ≡ source.old }
-    ensures answer { IsAnswer (strategies (A.holds staff.now) (A.gives staff.now)) (map string_bytes words.now.items)
+    ensures answer { IsAnswer (given_strategies (A.holds strategies.now) (A.gives strategies.now)) (map string_bytes words.now.items)
         (streams (S.left source.old) (S.faults source.old) (K.taken sink.old) (K.faults sink.old))
         (streams (S.left source.new) (S.faults source.new) (K.taken sink.new) (K.faults sink.new)) result }
     // No read failed, unless the status tells of it.
@@ -112,9 +112,9 @@ pub fn swap_top<R: Threads + Wait + Sync, S: Source, K: Sink, G: Gate, A: Strate
         return Status::WrongWords;
     };
     match asked {
-        Task::Input(given) => obey(alloc, given, source, sink, staff),
+        Task::Input(given) => run_order(alloc, given, source, sink, strategies),
         Task::Race { ticks, transcript } => {
-            perform_race(rt, alloc, ticks, transcript, source, sink, gate, staff)
+            perform_race(rt, alloc, ticks, transcript, source, sink, gate, strategies)
         }
         Task::Number(request) => generate(alloc, request, sink),
     }

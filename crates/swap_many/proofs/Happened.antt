@@ -12,8 +12,8 @@ use Rattle.swap_run.specs.Asked.{Answers}
 use Rattle.swap_run.specs.Run.{State}
 use Rattle.swap_run.specs.Called.{Called, called, is_barred, apply_step}
 use Rattle.swap_run.specs.Laws.{IsKept}
-use Rattle.swap_world.specs.declared.told.Told.{Told}
-use Rattle.swap_world.specs.declared.told.Told.TheVariants.{Passed, Replied}
+use Rattle.swap_world.specs.declared.call_outcome.Told.{Told}
+use Rattle.swap_world.specs.declared.call_outcome.Told.TheVariants.{Passed, Replied}
 use Rattle.swap_world.specs.Value.{WorldState, world_cast, answering_cast, Continues}
 use Rattle.swap_world.specs.Gone.{MayGive, HasGone}
 use Rattle.swap_world.specs.On.{is_slot_swept, told_of_call, event_told, IsCutWithSweeps}
@@ -23,7 +23,7 @@ use Rattle.swap_many.specs.declared.many_reply.ManyReply.TheVariants.{Plain, Swe
 use Rattle.swap_many.specs.Chains.{put}
 use Rattle.swap_many.specs.Kept.{Kept, kept_done, kept_reply, answer_call}
 use Rattle.swap_many.specs.Laws.{CanHappen, CanCome}
-use Rattle.swap_many.specs.Told.{reply_told, told_result}
+use Rattle.swap_many.specs.ChainReplies.{reply_told, told_result}
 use Rattle.swap_many.specs.Value.{ManyState, nth_world, swept_slots, world_setup, made_setup, many_kept, ContinueAll, AreSame, HasManyGone, IsIntermediateState}
 use Rattle.swap_many.specs.Value.{IsManyStopped}
 use Rattle.swap_many.specs.Inside.{AreWhole}

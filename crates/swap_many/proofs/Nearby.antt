@@ -1,12 +1,12 @@
 -- The lists of the arcs that touch each party of each swap.
 use Rattle.std.proofs.Common.{◌≡◌, ◌<◌, ℕ, List, [], length, map, slice_index_or, sym, ap, ◌∙◌, subst}
 use Rattle.std.proofs.lemmas.List.{length-map}
-use Rattle.swap_world.specs.Near.{all_adjacent}
+use Rattle.swap_world.specs.TouchingArcs.{all_adjacent}
 use Rattle.swap_world.specs.Gone.{MayGive}
 use Rattle.swap_world.specs.Value.{WorldState}
 use Rattle.swap_many.specs.Chains.{Setup}
 use Rattle.swap_many.specs.Kept.{Kept}
-use Rattle.swap_many.specs.Near.{AreNear, swap_adjacent_arcs}
+use Rattle.swap_many.specs.TouchingArcs.{AreNear, swap_adjacent_arcs}
 use Rattle.swap_many.specs.Value.{ManyState, HasManyGone, no_world}
 use Rattle.swap_many.proofs.Gone.{deal_gone}
 use Rattle.swap_many.proofs.Ticked.{map_at}

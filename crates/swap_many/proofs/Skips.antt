@@ -207,7 +207,7 @@ module _ (m : Setup) where
   pub goes_on : (z : Kept) → have_ended m z ≡ false → kept_round_or_rest m z ≡ kept_round m z
   goes_on z e = ap (λ b. cond b z (kept_round m z)) e
 
-  -- so many rounds in which nobody makes a call, and one more
+  -- n rounds in which nobody makes a call, and one more
   rounds_skip : (n : ℕ) (z : Kept) → ((i : ℕ) → i ≤ n → have_ended m (repeat i (kept_ticks m) z) ≡ false)
       → ((i : ℕ) → i < n → (s : ℕ) → s < m.swaps → IsResting s ((repeat i (kept_ticks m) z).swaps s))
       → repeat (suc n) (kept_round_or_rest m) z ≡ kept_round m (repeat n (kept_ticks m) z)
@@ -219,7 +219,7 @@ module _ (m : Setup) where
       ap (kept_round_or_rest m) (rounds_skip n z (λ i l. low i (omega (arith, l))) (λ i l. rests i (omega (arith, l))))
       ∙ (goes_on (kept_round m t) on ∙ round_again t (rests n (omega arith)))
 
-  -- What so many ticks of all chains leave: the notes, and histories that are longer by ticks.
+  -- What n ticks of all chains leave: the notes, and histories that are longer by ticks.
 
   module _ (s : ℕ) where
     abbrev pub count : ℕ

@@ -20,7 +20,7 @@ use Rattle.swap_many.specs.declared.place.Place.{Place}
 use Rattle.swap_many.specs.declared.many_reply.ManyReply.{ManyReply}
 use Rattle.swap_many.specs.declared.many_reply.ManyReply.TheVariants.{Plain, NotEnded, Swept, StillHeld, Unpublished}
 
--- What runs: so many swaps with who takes part in each, the place of each of their arcs, and the
+-- What runs: the number of swaps, who takes part in each, the place of each of their arcs, and the
 -- opening units of each chain's accounts.
 pub record Setup : Type 0 where
   pub swaps : ℕ
@@ -140,7 +140,7 @@ opening_units m i x = slice_index_or (slice_index_or m.chains i []) x 0
 abbrev pub Units : Type 0
 Units = ℕ → ℕ
 
--- an account has so many units more
+-- an account has a number of units more
 abbrev pub plus : Units → ℕ → ℕ → Units
 plus f x units = put f x (f x + units)
 

@@ -27,7 +27,7 @@ inside_worlds w = record {
 abbrev pub stands : ℕ → List Place → List ℕ
 stands i places = filter (λ a. (slice_index_or places a nowhere).chain == i) (range_with_len 0 (length places))
 
--- the arcs that stand on each of so many chains, by chain and swap
+-- the arcs that stand on each chain, by chain and swap, given the number of chains
 abbrev pub standing : ℕ → List (List Place) → List (List (List ℕ))
 standing n places = map (λ i. map (stands i) places) (range_with_len 0 n)
 

@@ -8,9 +8,9 @@ pub mod Stages
 pub mod Opened
 pub mod Accounts
 pub mod Value
-pub mod Told
+pub mod ChainReplies
 pub mod Ticking
-pub mod Near
+pub mod TouchingArcs
 pub mod Inside
 pub mod Along
 pub mod Fair

@@ -9,7 +9,7 @@ ghost use Rattle.swap_many.specs.Fair.{kept_acts, kept_looks, kept_round, kept_r
 ghost use Rattle.swap_many.specs.Fair.{have_ended, kept_swap_sweeps};
 ghost use Rattle.swap_many.specs.Kept.{kept_finish};
 ghost use Rattle.swap_many.specs.Many.{last_horizon};
-ghost use Rattle.swap_many.specs.Near.{AreNear, swap_adjacent_arcs};
+ghost use Rattle.swap_many.specs.TouchingArcs.{AreNear, swap_adjacent_arcs};
 ghost use Rattle.swap_many.specs.Value.{HasManyGone, IsManyStopped, CanContinue, IsSwapParty, many_kept, world_setup, nth_world};
 
 use crate::worlds::Worlds;
@@ -21,19 +21,19 @@ use swap_world::most_acts;
 /// Lets a party of a swap look at each of these arcs, which are those that touch it.
 fn look_around<A: Strategies>(
     worlds: &mut Worlds,
-    staff: &A,
+    strategies: &A,
     swap: u8,
     p: PartyId,
     near: &[ArcId],
 ) -> Result<(), NoMemory>
     requires party { IsSwapParty worlds.old swap p }
     requires near { near.now ≡ adjacent_arcs (nth_world worlds.old swap).deal p }
-    requires on { CanContinue (A.holds staff.now) worlds.old }
-    ensures ok { OnOk result (HasManyGone (A.gives staff.now) (kept_looks swap p) worlds.old worlds.new) }
-    ensures err { OnErr result (IsManyStopped (A.gives staff.now) (kept_looks swap p) worlds.old worlds.new) }
+    requires on { CanContinue (A.holds strategies.now) worlds.old }
+    ensures ok { OnOk result (HasManyGone (A.gives strategies.now) (kept_looks swap p) worlds.old worlds.new) }
+    ensures err { OnErr result (IsManyStopped (A.gives strategies.now) (kept_looks swap p) worlds.old worlds.new) }
 {
     'arcs: for arc in near {
-        worlds.happen(staff, swap, &Event::Look(p, *arc))?;
+        worlds.happen(strategies, swap, &Event::Look(p, *arc))?;
     }
     Ok(())
 }
@@ -41,18 +41,18 @@ fn look_around<A: Strategies>(
 /// Lets a conforming party act until nothing is due.
 fn act_to_rest<A: Strategies>(
     worlds: &mut Worlds,
-    staff: &A,
+    strategies: &A,
     swap: u8,
     p: PartyId,
 ) -> Result<(), NoMemory>
     requires party { IsSwapParty worlds.old swap p }
     requires conforms { conforms (world_cast (nth_world worlds.old swap)) p ≡ true }
-    requires on { CanContinue (A.holds staff.now) worlds.old }
-    ensures ok { OnOk result (HasManyGone (A.gives staff.now) (kept_acts swap p) worlds.old worlds.new) }
-    ensures err { OnErr result (IsManyStopped (A.gives staff.now) (kept_acts swap p) worlds.old worlds.new) }
+    requires on { CanContinue (A.holds strategies.now) worlds.old }
+    ensures ok { OnOk result (HasManyGone (A.gives strategies.now) (kept_acts swap p) worlds.old worlds.new) }
+    ensures err { OnErr result (IsManyStopped (A.gives strategies.now) (kept_acts swap p) worlds.old worlds.new) }
 {
     'acts: for _ in 0..most_acts(worlds.deal(swap)) {
-        if worlds.happen(staff, swap, &Event::Act(p))?.is_none() {
+        if worlds.happen(strategies, swap, &Event::Act(p))?.is_none() {
             return Ok(());
         }
     }
@@ -63,41 +63,41 @@ fn act_to_rest<A: Strategies>(
 /// once.
 fn turn<A: Strategies>(
     worlds: &mut Worlds,
-    staff: &A,
+    strategies: &A,
     swap: u8,
     p: PartyId,
     near: &[ArcId],
 ) -> Result<(), NoMemory>
     requires party { IsSwapParty worlds.old swap p }
     requires near { near.now ≡ adjacent_arcs (nth_world worlds.old swap).deal p }
-    requires on { CanContinue (A.holds staff.now) worlds.old }
-    ensures ok { OnOk result (HasManyGone (A.gives staff.now) (λ m z. kept_turn swap m z p) worlds.old worlds.new) }
-    ensures err { OnErr result (IsManyStopped (A.gives staff.now) (λ m z. kept_turn swap m z p) worlds.old worlds.new) }
+    requires on { CanContinue (A.holds strategies.now) worlds.old }
+    ensures ok { OnOk result (HasManyGone (A.gives strategies.now) (λ m z. kept_turn swap m z p) worlds.old worlds.new) }
+    ensures err { OnErr result (IsManyStopped (A.gives strategies.now) (λ m z. kept_turn swap m z p) worlds.old worlds.new) }
 {
-    look_around(worlds, staff, swap, p, near)?;
+    look_around(worlds, strategies, swap, p, near)?;
     if worlds.conforms(swap, p) {
-        return act_to_rest(worlds, staff, swap, p);
+        return act_to_rest(worlds, strategies, swap, p);
     }
-    worlds.happen(staff, swap, &Event::Act(p))?;
+    worlds.happen(strategies, swap, &Event::Act(p))?;
     Ok(())
 }
 
 /// The turns of a swap's parties, in their order.
 fn turns<A: Strategies>(
     worlds: &mut Worlds,
-    staff: &A,
+    strategies: &A,
     swap: u8,
     near: &[Listed<ArcId>],
 ) -> Result<(), NoMemory>
     requires swap { swap < length worlds.old.worlds }
     requires near { near.now ≡ swap_adjacent_arcs (nth_world worlds.old swap) }
-    requires on { CanContinue (A.holds staff.now) worlds.old }
-    ensures ok { OnOk result (HasManyGone (A.gives staff.now) (λ m z. kept_turns m z swap) worlds.old worlds.new) }
-    ensures err { OnErr result (IsManyStopped (A.gives staff.now) (λ m z. kept_turns m z swap) worlds.old worlds.new) }
+    requires on { CanContinue (A.holds strategies.now) worlds.old }
+    ensures ok { OnOk result (HasManyGone (A.gives strategies.now) (λ m z. kept_turns m z swap) worlds.old worlds.new) }
+    ensures err { OnErr result (IsManyStopped (A.gives strategies.now) (λ m z. kept_turns m z swap) worlds.old worlds.new) }
 {
     'parties: for p in 0..worlds.deal(swap).graph.n() {
         let place = p as usize;
-        turn(worlds, staff, swap, p, near[place].as_slice())?;
+        turn(worlds, strategies, swap, p, near[place].as_slice())?;
     }
     Ok(())
 }
@@ -105,29 +105,29 @@ fn turns<A: Strategies>(
 /// Every swap's turns.
 fn all_turns<A: Strategies>(
     worlds: &mut Worlds,
-    staff: &A,
+    strategies: &A,
     near: &[Listed<Listed<ArcId>>],
 ) -> Result<(), NoMemory>
     requires near { AreNear near.now worlds.old.worlds }
-    requires on { CanContinue (A.holds staff.now) worlds.old }
-    ensures ok { OnOk result (HasManyGone (A.gives staff.now) (λ m z. fold (kept_turns m) z (range_with_len 0 m.swaps)) worlds.old worlds.new) }
-    ensures err { OnErr result (IsManyStopped (A.gives staff.now) (λ m z. fold (kept_turns m) z (range_with_len 0 m.swaps)) worlds.old worlds.new) }
+    requires on { CanContinue (A.holds strategies.now) worlds.old }
+    ensures ok { OnOk result (HasManyGone (A.gives strategies.now) (λ m z. fold (kept_turns m) z (range_with_len 0 m.swaps)) worlds.old worlds.new) }
+    ensures err { OnErr result (IsManyStopped (A.gives strategies.now) (λ m z. fold (kept_turns m) z (range_with_len 0 m.swaps)) worlds.old worlds.new) }
 {
     'each: for swap in 0..worlds.swaps() {
         let place = swap as usize;
-        turns(worlds, staff, swap, near[place].as_slice())?;
+        turns(worlds, strategies, swap, near[place].as_slice())?;
     }
     Ok(())
 }
 
 /// Each chain ticks by one height.
-fn ticks<A: Strategies>(worlds: &mut Worlds, staff: &A) -> Result<(), NoMemory>
-    requires on { CanContinue (A.holds staff.now) worlds.old }
-    ensures ok { OnOk result (HasManyGone (A.gives staff.now) kept_ticks worlds.old worlds.new) }
-    ensures err { OnErr result (IsManyStopped (A.gives staff.now) kept_ticks worlds.old worlds.new) }
+fn ticks<A: Strategies>(worlds: &mut Worlds, strategies: &A) -> Result<(), NoMemory>
+    requires on { CanContinue (A.holds strategies.now) worlds.old }
+    ensures ok { OnOk result (HasManyGone (A.gives strategies.now) kept_ticks worlds.old worlds.new) }
+    ensures err { OnErr result (IsManyStopped (A.gives strategies.now) kept_ticks worlds.old worlds.new) }
 {
     'each: for chain in 0..worlds.chains() {
-        worlds.tick(staff, chain, 1)?;
+        worlds.tick(strategies, chain, 1)?;
     }
     Ok(())
 }
@@ -135,16 +135,16 @@ fn ticks<A: Strategies>(worlds: &mut Worlds, staff: &A) -> Result<(), NoMemory>
 /// Every swap's turns, and then the chains tick.
 fn round<A: Strategies>(
     worlds: &mut Worlds,
-    staff: &A,
+    strategies: &A,
     near: &[Listed<Listed<ArcId>>],
 ) -> Result<(), NoMemory>
     requires near { AreNear near.now worlds.old.worlds }
-    requires on { CanContinue (A.holds staff.now) worlds.old }
-    ensures ok { OnOk result (HasManyGone (A.gives staff.now) kept_round worlds.old worlds.new) }
-    ensures err { OnErr result (IsManyStopped (A.gives staff.now) kept_round worlds.old worlds.new) }
+    requires on { CanContinue (A.holds strategies.now) worlds.old }
+    ensures ok { OnOk result (HasManyGone (A.gives strategies.now) kept_round worlds.old worlds.new) }
+    ensures err { OnErr result (IsManyStopped (A.gives strategies.now) kept_round worlds.old worlds.new) }
 {
-    all_turns(worlds, staff, near)?;
-    ticks(worlds, staff)
+    all_turns(worlds, strategies, near)?;
+    ticks(worlds, strategies)
 }
 
 /// Whether each chain is above that height.
@@ -161,13 +161,13 @@ fn have_ended(worlds: &Worlds, horizon: u64) -> bool
 }
 
 /// So many ticks of each chain.
-fn pass<A: Strategies>(worlds: &mut Worlds, staff: &A, count: u64) -> Result<(), NoMemory>
-    requires on { CanContinue (A.holds staff.now) worlds.old }
-    ensures ok { OnOk result (HasManyGone (A.gives staff.now) (λ m z. repeat count (kept_ticks m) z) worlds.old worlds.new) }
-    ensures err { OnErr result (IsManyStopped (A.gives staff.now) (λ m z. repeat count (kept_ticks m) z) worlds.old worlds.new) }
+fn pass<A: Strategies>(worlds: &mut Worlds, strategies: &A, count: u64) -> Result<(), NoMemory>
+    requires on { CanContinue (A.holds strategies.now) worlds.old }
+    ensures ok { OnOk result (HasManyGone (A.gives strategies.now) (λ m z. repeat count (kept_ticks m) z) worlds.old worlds.new) }
+    ensures err { OnErr result (IsManyStopped (A.gives strategies.now) (λ m z. repeat count (kept_ticks m) z) worlds.old worlds.new) }
 {
     'rounds: for _ in 0..count {
-        ticks(worlds, staff)?;
+        ticks(worlds, strategies)?;
     }
     Ok(())
 }
@@ -176,7 +176,7 @@ fn pass<A: Strategies>(worlds: &mut Worlds, staff: &A, count: u64) -> Result<(),
 /// ticks are taken. Then comes one more. It answers the number of rounds.
 fn advance<A: Strategies>(
     worlds: &mut Worlds,
-    staff: &A,
+    strategies: &A,
     near: &[Listed<Listed<ArcId>>],
     horizon: u64,
     most: u64,
@@ -185,29 +185,29 @@ fn advance<A: Strategies>(
     requires horizon { horizon ≡ last_horizon (world_setup worlds.old) }
     requires low { have_ended (world_setup worlds.old) (many_kept worlds.old) ≡ false }
     requires some { 1 ≤ most }
-    requires on { CanContinue (A.holds staff.now) worlds.old }
-    ensures ok { IfOk result (λ n. HasManyGone (A.gives staff.now) (λ m z. repeat n (kept_round_or_rest m) z) worlds.old worlds.new) }
+    requires on { CanContinue (A.holds strategies.now) worlds.old }
+    ensures ok { IfOk result (λ n. HasManyGone (A.gives strategies.now) (λ m z. repeat n (kept_round_or_rest m) z) worlds.old worlds.new) }
     ensures some { IfOk result (λ n. 1 ≤ n) }
     ensures few { IfOk result (λ n. n ≤ most) }
     ensures err { OnErr result ((n : ℕ) × (n ≤ most)
-        × IsManyStopped (A.gives staff.now) (λ m z. repeat n (kept_round_or_rest m) z) worlds.old worlds.new) }
+        × IsManyStopped (A.gives strategies.now) (λ m z. repeat n (kept_round_or_rest m) z) worlds.old worlds.new) }
 {
     let quiet = worlds.quiet_rounds(near, horizon, most - 1);
-    pass(worlds, staff, quiet)?;
-    round(worlds, staff, near)?;
+    pass(worlds, strategies, quiet)?;
+    round(worlds, strategies, near)?;
     Ok(quiet + 1)
 }
 
 /// Rounds until each chain is above every horizon, for which one more than the greatest are enough.
 fn rounds<A: Strategies>(
     worlds: &mut Worlds,
-    staff: &A,
+    strategies: &A,
     near: &[Listed<Listed<ArcId>>],
 ) -> Result<(), NoMemory>
     requires near { AreNear near.now worlds.old.worlds }
-    requires on { CanContinue (A.holds staff.now) worlds.old }
-    ensures ok { OnOk result (HasManyGone (A.gives staff.now) kept_rounds worlds.old worlds.new) }
-    ensures err { OnErr result (IsManyStopped (A.gives staff.now) kept_rounds worlds.old worlds.new) }
+    requires on { CanContinue (A.holds strategies.now) worlds.old }
+    ensures ok { OnOk result (HasManyGone (A.gives strategies.now) kept_rounds worlds.old worlds.new) }
+    ensures err { OnErr result (IsManyStopped (A.gives strategies.now) kept_rounds worlds.old worlds.new) }
 {
     let horizon = worlds.last_horizon();
     let mut left = horizon + 1;
@@ -215,41 +215,41 @@ fn rounds<A: Strategies>(
         if have_ended(worlds, horizon) {
             return Ok(());
         }
-        let taken = advance(worlds, staff, near, horizon, left)?;
+        let taken = advance(worlds, strategies, near, horizon, left)?;
         left -= taken;
     }
     Ok(())
 }
 
 /// Sweeps every slot of a swap.
-fn sweep_all<A: Strategies>(worlds: &mut Worlds, staff: &A, swap: u8)
+fn sweep_all<A: Strategies>(worlds: &mut Worlds, strategies: &A, swap: u8)
     requires swap { swap < length worlds.old.worlds }
-    requires on { CanContinue (A.holds staff.now) worlds.old }
-    ensures { HasManyGone (A.gives staff.now) (λ m z. kept_swap_sweeps m z swap) worlds.old worlds.new }
+    requires on { CanContinue (A.holds strategies.now) worlds.old }
+    ensures { HasManyGone (A.gives strategies.now) (λ m z. kept_swap_sweeps m z swap) worlds.old worlds.new }
 {
     'arcs: for arc in 0..worlds.deal(swap).graph.arcs().len() as ArcId {
-        worlds.sweep(staff, swap, arc, true);
+        worlds.sweep(strategies, swap, arc, true);
     }
 }
 
 /// Sweeps every slot.
-fn sweeps<A: Strategies>(worlds: &mut Worlds, staff: &A)
-    requires on { CanContinue (A.holds staff.now) worlds.old }
-    ensures { HasManyGone (A.gives staff.now) kept_sweeps worlds.old worlds.new }
+fn sweeps<A: Strategies>(worlds: &mut Worlds, strategies: &A)
+    requires on { CanContinue (A.holds strategies.now) worlds.old }
+    ensures { HasManyGone (A.gives strategies.now) kept_sweeps worlds.old worlds.new }
 {
     'each: for swap in 0..worlds.swaps() {
-        sweep_all(worlds, staff, swap);
+        sweep_all(worlds, strategies, swap);
     }
 }
 
 /// The rounds, for which the arcs that touch each party are listed once.
-fn listed_rounds<A: Strategies>(worlds: &mut Worlds, staff: &A) -> Result<(), NoMemory>
-    requires on { CanContinue (A.holds staff.now) worlds.old }
-    ensures ok { OnOk result (HasManyGone (A.gives staff.now) kept_rounds worlds.old worlds.new) }
-    ensures err { OnErr result (IsManyStopped (A.gives staff.now) kept_rounds worlds.old worlds.new) }
+fn listed_rounds<A: Strategies>(worlds: &mut Worlds, strategies: &A) -> Result<(), NoMemory>
+    requires on { CanContinue (A.holds strategies.now) worlds.old }
+    ensures ok { OnOk result (HasManyGone (A.gives strategies.now) kept_rounds worlds.old worlds.new) }
+    ensures err { OnErr result (IsManyStopped (A.gives strategies.now) kept_rounds worlds.old worlds.new) }
 {
     match worlds.near() {
-        Ok(near) => rounds(worlds, staff, &near),
+        Ok(near) => rounds(worlds, strategies, &near),
         Err(NoMemory) => {
             worlds.stop();
             Err(NoMemory)
@@ -258,12 +258,12 @@ fn listed_rounds<A: Strategies>(worlds: &mut Worlds, staff: &A) -> Result<(), No
 }
 
 /// The fair finish: rounds, and then a sweep of every slot.
-pub(crate) fn finish<A: Strategies>(worlds: &mut Worlds, staff: &A) -> Result<(), NoMemory>
-    requires on { CanContinue (A.holds staff.now) worlds.old }
-    ensures ok { OnOk result (HasManyGone (A.gives staff.now) kept_finish worlds.old worlds.new) }
-    ensures err { OnErr result (IsManyStopped (A.gives staff.now) kept_finish worlds.old worlds.new) }
+pub(crate) fn finish<A: Strategies>(worlds: &mut Worlds, strategies: &A) -> Result<(), NoMemory>
+    requires on { CanContinue (A.holds strategies.now) worlds.old }
+    ensures ok { OnOk result (HasManyGone (A.gives strategies.now) kept_finish worlds.old worlds.new) }
+    ensures err { OnErr result (IsManyStopped (A.gives strategies.now) kept_finish worlds.old worlds.new) }
 {
-    listed_rounds(worlds, staff)?;
-    sweeps(worlds, staff);
+    listed_rounds(worlds, strategies)?;
+    sweeps(worlds, strategies);
     Ok(())
 }

@@ -19,7 +19,7 @@ impl Model for Flags {
 }
 
 impl Flags {
-    /// None of so many slots is swept.
+    /// None of the slots is swept.
     pub(crate) fn none(alloc: Global, slots: usize) -> Result<Flags, NoMemory>
         ensures { IfOk result (λ f. f ≡ replicate slots false) }
     {

@@ -4,18 +4,18 @@
 //! Read `specs/Chains.antt` first, then `specs/Many.antt`, `specs/Kept.antt` and `specs/Laws.antt`.
 #![tactic(auto)]
 
-mod chain;
+mod chain_accounts;
 mod fair;
 mod flags;
 mod many_event;
 mod many_reply;
 mod many_world;
-mod near;
 mod opening;
 mod overdrawn;
 mod place;
 mod quiet;
 mod ticking;
+mod touching_arcs;
 mod worlds;
 
 ghost use Rattle.swap_many.specs.Laws.{StartFollows, StepsFollow, RepliesFollow, RunsFollow, BooksAreKept};

@@ -27,7 +27,7 @@ use deviators::Strategies;
 use ledger_core::Book;
 use std::alloc::Global;
 use std::marker::Model;
-use swap_base::{Listed, NoMemory, Past};
+use swap_base::{GhostList, Listed, NoMemory};
 use swap_digraph::Deal;
 use swap_world::World;
 
@@ -36,8 +36,8 @@ use swap_world::World;
 pub struct ManyWorld {
     worlds: Worlds,
     /// The events up to each fair finish, and those since the last one, for clauses alone.
-    stretches: Past<Past<ManyEvent>>,
-    events: Past<ManyEvent>,
+    stretches: GhostList<GhostList<ManyEvent>>,
+    events: GhostList<ManyEvent>,
 }
 
 impl Model for ManyWorld {
@@ -69,25 +69,26 @@ impl ManyWorld {
                 worlds.keep();
                 Ok(ManyWorld {
                     worlds,
-                    stretches: Past::new(),
-                    events: Past::new(),
+                    stretches: GhostList::new(),
+                    events: GhostList::new(),
                 })
             }
             Err(fault) => Err(fault),
         }
     }
 
-    /// Takes one event, where the staff answers for strategies, and answers the reply of its tick,
-    /// its call, its payment or its sweep, if it makes one. After want of memory the books are
-    /// those before the event or after it, and every later step wants memory too.
+    /// Takes one event, where `strategies` answers for each party that follows a strategy. It
+    /// answers with the reply of its tick, its call, its payment or its sweep, if it makes one.
+    /// After want of memory the books are those before the event or after it, and every later step
+    /// wants memory too.
     pub fn step<A: Strategies>(
         &mut self,
-        staff: &A,
+        strategies: &A,
         event: &ManyEvent,
     ) -> Result<Option<ManyReply>, NoMemory>
         requires event { CanCome (world_setup self.old) event.now }
-        requires held { AreAllHeld (A.holds staff.now) self.old }
-        ensures ok { OnOk result (HasManyGone (A.gives staff.now) (λ m z. kept_done false m z event.now) self.old self.new) }
+        requires held { AreAllHeld (A.holds strategies.now) self.old }
+        ensures ok { OnOk result (HasManyGone (A.gives strategies.now) (λ m z. kept_done false m z event.now) self.old self.new) }
         ensures stages { OnOk result (self.new.stages ≡ self.old.stages ++ Came event.now ∷ []) }
         // The reply, and all that is kept, are those of the run by the chains' histories.
         ensures reply { IfOk result (λ r. (g : ℕ → Answers) → ContinueAll self.new g
@@ -99,7 +100,7 @@ impl ManyWorld {
         // And so they are where memory ran out in this call.
         ensures cut { OnErr result (self.old.stopped ≡ false → (g : ℕ → Answers) → ContinueAll self.new g
             → IsCutRun (made_setup self.old g) (world_run self.old g) self.new) }
-        ensures err { OnErr result (IsManyStopped (A.gives staff.now) (λ m z. kept_done false m z event.now) self.old self.new) }
+        ensures err { OnErr result (IsManyStopped (A.gives strategies.now) (λ m z. kept_done false m z event.now) self.old self.new) }
         ensures stopped { IsTrue self.old.stopped → IsErr result × (self.new ≡ self.old) }
         // Whatever the others do, and whether memory ran out or not, every swap's book is legal and
         // its conforming parties have kept their conduct.
@@ -110,7 +111,7 @@ impl ManyWorld {
         }
         let events = self.events.and(event);
         self.events = events;
-        let done = self.worlds.step(staff, event);
+        let done = self.worlds.step(strategies, event);
         self.worlds.keep();
         done
     }
@@ -119,9 +120,9 @@ impl ManyWorld {
     /// arc that touches it and acts, until nothing is due where it conforms, else once. Then each
     /// chain ticks by one height. After want of memory the books are those after some of its steps,
     /// and every later step wants memory too.
-    pub fn finish_fair<A: Strategies>(&mut self, staff: &A) -> Result<(), NoMemory>
-        requires held { AreAllHeld (A.holds staff.now) self.old }
-        ensures ok { OnOk result (HasManyGone (A.gives staff.now) kept_finish self.old self.new) }
+    pub fn finish_fair<A: Strategies>(&mut self, strategies: &A) -> Result<(), NoMemory>
+        requires held { AreAllHeld (A.holds strategies.now) self.old }
+        ensures ok { OnOk result (HasManyGone (A.gives strategies.now) kept_finish self.old self.new) }
         ensures stages { OnOk result (self.new.stages ≡ self.old.stages ++ Finished ∷ []) }
         ensures history { OnOk result ((g : ℕ → Answers) → ContinueAll self.new g
             → Follows (made_setup self.new g) (world_run self.new g) (many_kept self.new)) }
@@ -130,7 +131,7 @@ impl ManyWorld {
         ensures cut { OnErr result (self.old.stopped ≡ false → (g : ℕ → Answers) → ContinueAll self.new g
             → IsCutRun (made_setup self.old g) (world_run self.old g) self.new) }
         ensures ended { OnOk result ((s : ℕ) → s < length self.new.worlds → IsEnded (nth_world self.new s).deal (nth_world self.new s).state.book) }
-        ensures err { OnErr result (IsManyStopped (A.gives staff.now) kept_finish self.old self.new) }
+        ensures err { OnErr result (IsManyStopped (A.gives strategies.now) kept_finish self.old self.new) }
         ensures stopped { IsTrue self.old.stopped → IsErr result × (self.new ≡ self.old) }
         ensures kept { (s : ℕ) → s < length self.new.worlds → IsKept (world_cast (nth_world self.new s)) (nth_world self.new s).state.book }
     {
@@ -140,8 +141,8 @@ impl ManyWorld {
         self.worlds.keep();
         let stretches = self.stretches.and(&self.events);
         self.stretches = stretches;
-        self.events = Past::new();
-        let done = fair::finish(&mut self.worlds, staff);
+        self.events = GhostList::new();
+        let done = fair::finish(&mut self.worlds, strategies);
         self.worlds.keep();
         done
     }

@@ -13,12 +13,12 @@ ghost use Rattle.swap_many.specs.Opened.{chain_lack, overdrawn};
 ghost use Rattle.swap_many.specs.Opening.{AreOpenable, AreWorldPlaces, new_chain, none_swept, opened_or, place_funding, arc_funding, setup_of_worlds};
 ghost use Rattle.swap_many.specs.Ticking.{nth};
 
-use crate::chain::Chain;
+use crate::chain_accounts::Chain;
 use crate::flags::Flags;
 use crate::overdrawn::{ManyFault, Overdrawn};
 use crate::place::Place;
 use std::alloc::Global;
-use swap_base::{ArcId, Fault, Listed, NoMemory, Past};
+use swap_base::{ArcId, Fault, GhostList, Listed, NoMemory};
 use swap_digraph::Deal;
 use swap_world::World;
 
@@ -163,7 +163,7 @@ fn stand(
     Ok(Listed::new(on))
 }
 
-/// Those of each swap's arcs that stand on each of so many chains.
+/// The arcs that stand on each chain, by chain and swap.
 pub(crate) fn standing(
     alloc: Global,
     worlds: &[World],
@@ -181,10 +181,10 @@ pub(crate) fn standing(
 }
 
 /// The opening units, for clauses alone.
-pub(crate) fn build_told(chains: &[Listed<u64>]) -> Past<Listed<u64>>
+pub(crate) fn build_told(chains: &[Listed<u64>]) -> GhostList<Listed<u64>>
     ensures { result.items ≡ chains.now }
 {
-    let mut told = Past::new();
+    let mut told = GhostList::new();
     'chains: for chain in chains {
         let more = told.and(chain);
         told = more;

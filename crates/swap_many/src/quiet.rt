@@ -3,11 +3,11 @@
 ghost use Rattle.std.specs.Prelude.{◌≡◌, ◌⊎◌, ◌<◌, ◌≤◌, ◌+◌, ℕ, false, length, slice_index_or};
 ghost use Rattle.swap_world.specs.Quiet.{IsQuietState};
 ghost use Rattle.swap_world.specs.Value.{world_cast};
-ghost use Rattle.swap_many.specs.Near.{AreNear};
+ghost use Rattle.swap_many.specs.TouchingArcs.{AreNear};
 ghost use Rattle.swap_many.specs.Ticking.{nth};
 ghost use Rattle.swap_many.specs.Value.{no_chain};
 
-use crate::chain::Chain;
+use crate::chain_accounts::Chain;
 use swap_base::{ArcId, Listed};
 use swap_world::World;
 

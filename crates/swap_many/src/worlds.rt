@@ -16,27 +16,27 @@ ghost use Rattle.swap_many.specs.Many.{last_horizon};
 ghost use Rattle.swap_many.specs.Chains.{arc_chain, place};
 ghost use Rattle.swap_many.specs.Kept.{answer_payment, answer_sweep, answer_tick, kept_done, kept_reply};
 ghost use Rattle.swap_many.specs.Laws.{CanCome, CanHappen, CanPay, CanSweep, CanTickChain};
-ghost use Rattle.swap_many.specs.Near.{AreNear};
+ghost use Rattle.swap_many.specs.TouchingArcs.{AreNear};
 ghost use Rattle.swap_many.specs.Opening.{AreOpenable, opened};
-ghost use Rattle.swap_many.specs.Told.{told_result};
+ghost use Rattle.swap_many.specs.ChainReplies.{told_result};
 ghost use Rattle.swap_many.specs.Value.{AreAllHeld, ContinueAll, HasManyGone, IsManyStopped, nth_chain, many_kept, made_setup, world_setup, nth_world};
 
-use crate::chain::Chain;
+use crate::chain_accounts::Chain;
 use crate::flags::Flags;
 use crate::many_event::ManyEvent;
 use crate::many_reply::ManyReply;
-use crate::near::arcs_by_swap;
 use crate::opening::{build_told, none_swept, open_chains, standing};
 use crate::overdrawn::ManyFault;
 use crate::place::Place;
 use crate::quiet::{horizon_rounds, rounds_still};
 use crate::ticking::{has_stopped, tick_worlds};
+use crate::touching_arcs::arcs_by_swap;
 use deviators::Strategies;
 use escrow_core::Reply;
 use ledger_core::{Accounts, Book};
 use std::alloc::Global;
 use std::marker::Model;
-use swap_base::{ArcId, Listed, NoMemory, PartyId, Past};
+use swap_base::{ArcId, GhostList, Listed, NoMemory, PartyId};
 use swap_digraph::Deal;
 use swap_job::Event;
 use swap_world::{Told, World};
@@ -48,7 +48,7 @@ pub(crate) struct Worlds {
     worlds: Vec<World>,
     places: Listed<Listed<Place>>,
     /// The opening units of each account, for clauses alone.
-    openings: Past<Listed<u64>>,
+    openings: GhostList<Listed<u64>>,
     chains: Vec<Chain>,
     swept: Vec<Flags>,
     /// The arcs that stand on each chain, by chain and swap.
@@ -131,20 +131,20 @@ impl Worlds {
     /// Takes an event of a swap, which is no tick.
     pub(crate) fn happen<A: Strategies>(
         &mut self,
-        staff: &A,
+        strategies: &A,
         swap: u8,
         event: &Event,
     ) -> Result<Option<ManyReply>, NoMemory>
         requires event { CanHappen (world_setup self.old) swap event.now }
-        requires held { AreAllHeld (A.holds staff.now) self.old }
+        requires held { AreAllHeld (A.holds strategies.now) self.old }
         requires goes_on { self.old.stopped ≡ false }
-        ensures ok { OnOk result (HasManyGone (A.gives staff.now) (λ m z. kept_done false m z (ManyEvent.In swap event.now)) self.old self.new) }
+        ensures ok { OnOk result (HasManyGone (A.gives strategies.now) (λ m z. kept_done false m z (ManyEvent.In swap event.now)) self.old self.new) }
         ensures reply { IfOk result (λ r. (g : ℕ → Answers) → ContinueAll self.new g
             → r ≡ kept_reply false (made_setup self.old g) (many_kept self.old) (ManyEvent.In swap event.now)) }
-        ensures err { OnErr result (IsManyStopped (A.gives staff.now) (λ m z. kept_done false m z (ManyEvent.In swap event.now)) self.old self.new) }
+        ensures err { OnErr result (IsManyStopped (A.gives strategies.now) (λ m z. kept_done false m z (ManyEvent.In swap event.now)) self.old self.new) }
     {
         let place = swap as usize;
-        let told = self.worlds[place].apply_step(staff, event, self.swept[place].as_slice());
+        let told = self.worlds[place].apply_step(strategies, event, self.swept[place].as_slice());
         self.stopped = told.is_err();
         make_reply(told)
     }
@@ -152,7 +152,7 @@ impl Worlds {
     /// Pays units from one free account of a chain to another.
     pub(crate) fn pay<A: Strategies>(
         &mut self,
-        _staff: &A,
+        _strategies: &A,
         chain: u8,
         from: u8,
         to: u8,
@@ -160,7 +160,7 @@ impl Worlds {
     ) -> ManyReply
         requires event { CanPay (world_setup self.old) chain from to }
         requires goes_on { self.old.stopped ≡ false }
-        ensures gone { HasManyGone (A.gives _staff.now) (λ m z. kept_done false m z (ManyEvent.Pay chain from to units)) self.old self.new }
+        ensures gone { HasManyGone (A.gives _strategies.now) (λ m z. kept_done false m z (ManyEvent.Pay chain from to units)) self.old self.new }
         ensures reply { result ≡ answer_payment (many_kept self.old) chain from units }
     {
         self.chains[chain as usize].pay(from, to, units)
@@ -169,15 +169,15 @@ impl Worlds {
     /// full.
     pub(crate) fn tick<A: Strategies>(
         &mut self,
-        _staff: &A,
+        _strategies: &A,
         chain: u8,
         k: u32,
     ) -> Result<ManyReply, NoMemory>
         requires event { CanTickChain (world_setup self.old) chain k }
         requires goes_on { self.old.stopped ≡ false }
-        ensures ok { OnOk result (HasManyGone (A.gives _staff.now) (λ m z. kept_done false m z (ManyEvent.Tick chain k)) self.old self.new) }
+        ensures ok { OnOk result (HasManyGone (A.gives _strategies.now) (λ m z. kept_done false m z (ManyEvent.Tick chain k)) self.old self.new) }
         ensures reply { IfOk result (λ r. r ≡ answer_tick (many_kept self.old) chain k) }
-        ensures err { OnErr result (IsManyStopped (A.gives _staff.now) (λ m z. kept_done false m z (ManyEvent.Tick chain k)) self.old self.new) }
+        ensures err { OnErr result (IsManyStopped (A.gives _strategies.now) (λ m z. kept_done false m z (ManyEvent.Tick chain k)) self.old self.new) }
     {
         let reply = self.chains[chain as usize].tick(k);
         if !reply.is_accepted() {
@@ -275,11 +275,11 @@ impl Worlds {
     }
 
     /// Gives a slot's two balances back to the free accounts of its parties.
-    fn put_back<A: Strategies>(&mut self, _staff: &A, swap: u8, arc: ArcId, fair: bool)
+    fn put_back<A: Strategies>(&mut self, _strategies: &A, swap: u8, arc: ArcId, fair: bool)
         requires event { CanSweep (world_setup self.old) swap arc }
         requires goes_on { self.old.stopped ≡ false }
         requires accepted { answer_sweep fair (world_setup self.old) (many_kept self.old) swap arc ≡ ManyReply.Plain Reply.Accepted }
-        ensures { HasManyGone (A.gives _staff.now) (λ m z. kept_done fair m z (ManyEvent.Sweep swap arc)) self.old self.new }
+        ensures { HasManyGone (A.gives _strategies.now) (λ m z. kept_done fair m z (ManyEvent.Sweep swap arc)) self.old self.new }
     {
         let place = self.place(swap, arc);
         let left = self.accounts(swap, arc);
@@ -292,43 +292,43 @@ impl Worlds {
     /// Sweeps a slot, where no row of its table refuses that.
     pub(crate) fn sweep<A: Strategies>(
         &mut self,
-        staff: &A,
+        strategies: &A,
         swap: u8,
         arc: ArcId,
         fair: bool,
     ) -> ManyReply
         requires event { CanSweep (world_setup self.old) swap arc }
         requires goes_on { self.old.stopped ≡ false }
-        ensures gone { HasManyGone (A.gives staff.now) (λ m z. kept_done fair m z (ManyEvent.Sweep swap arc)) self.old self.new }
+        ensures gone { HasManyGone (A.gives strategies.now) (λ m z. kept_done fair m z (ManyEvent.Sweep swap arc)) self.old self.new }
         ensures reply { result ≡ answer_sweep fair (world_setup self.old) (many_kept self.old) swap arc }
     {
         let reply = self.reply_to_sweep(swap, arc, fair);
         if reply.is_accepted() {
-            self.put_back(staff, swap, arc, fair);
+            self.put_back(strategies, swap, arc, fair);
         }
         reply
     }
     /// Takes an event, where memory never ran out.
     pub(crate) fn step<A: Strategies>(
         &mut self,
-        staff: &A,
+        strategies: &A,
         event: &ManyEvent,
     ) -> Result<Option<ManyReply>, NoMemory>
         requires event { CanCome (world_setup self.old) event.now }
-        requires held { AreAllHeld (A.holds staff.now) self.old }
+        requires held { AreAllHeld (A.holds strategies.now) self.old }
         requires goes_on { self.old.stopped ≡ false }
-        ensures ok { OnOk result (HasManyGone (A.gives staff.now) (λ m z. kept_done false m z event.now) self.old self.new) }
+        ensures ok { OnOk result (HasManyGone (A.gives strategies.now) (λ m z. kept_done false m z event.now) self.old self.new) }
         ensures reply { IfOk result (λ r. (g : ℕ → Answers) → ContinueAll self.new g
             → r ≡ kept_reply false (made_setup self.old g) (many_kept self.old) event.now) }
-        ensures err { OnErr result (IsManyStopped (A.gives staff.now) (λ m z. kept_done false m z event.now) self.old self.new) }
+        ensures err { OnErr result (IsManyStopped (A.gives strategies.now) (λ m z. kept_done false m z event.now) self.old self.new) }
     {
         match event {
-            ManyEvent::Tick(chain, k) => Ok(Some(self.tick(staff, *chain, *k)?)),
-            ManyEvent::In(swap, event) => self.happen(staff, *swap, event),
+            ManyEvent::Tick(chain, k) => Ok(Some(self.tick(strategies, *chain, *k)?)),
+            ManyEvent::In(swap, event) => self.happen(strategies, *swap, event),
             ManyEvent::Pay(chain, from, to, units) => {
-                Ok(Some(self.pay(staff, *chain, *from, *to, *units)))
+                Ok(Some(self.pay(strategies, *chain, *from, *to, *units)))
             }
-            ManyEvent::Sweep(swap, arc) => Ok(Some(self.sweep(staff, *swap, *arc, false))),
+            ManyEvent::Sweep(swap, arc) => Ok(Some(self.sweep(strategies, *swap, *arc, false))),
         }
     }
 

@@ -49,16 +49,16 @@ abbrev pub offer_line_names : (List ℕ → Bool) → Purpose → List (ℕ × L
 offer_line_names has purpose [] = []
 offer_line_names has purpose (l ∷ ls) = header_names has purpose l.0 l.1
 
--- the event of a line, where so many events came before
+-- the event of a line, given the number of events before it
 unfoldable pub limited_event : Job → ℕ → ℕ → List ℕ → Result Event Reason
 limited_event job count line text = if count == 200000 then Err (OverLimit line (codes "events") 200001) else parse_event job line text
 
--- the events of lines, where so many came before
+-- the events of lines, given the number of events before them
 unfoldable pub parse_events : Job → ℕ → List (ℕ × List ℕ) → Result (List Event) Reason
 parse_events job count [] = Ok []
 parse_events job count (l ∷ ls) = limited_event job count l.0 l.1 >>= λ e. parse_events job (count + 1) ls >>= λ es. Ok (e ∷ es)
 
--- how many lines there are with one more, where so many came before: its text isn't examined
+-- how many lines there are with one more, given how many came before it; its text isn't examined
 unfoldable pub counted : ℕ → ℕ × List ℕ → Result ℕ Reason
 counted count l = if count == 200000 then Err (OverLimit l.0 (codes "events") 200001) else Ok (count + 1)
 

@@ -25,7 +25,7 @@ use swap_job::{Event, Job, Purpose};
 /// The most events of an offer.
 const MOST_EVENTS: u32 = 200_000;
 
-/// The event of a line, where so many events came before it.
+/// The event of a line, given the number of events before it.
 #[tactic(auto, unfolding(crate::specs::Job::limited_event))]
 pub fn next_event(
     alloc: Global,
@@ -168,6 +168,7 @@ fn read_lines(
 }
 
 /// The job and the events of an offer, or the first reason against it with the names in its header.
+/// For programs of others: this repository's programs read line by line.
 #[tactic(auto, unfolding(crate::specs::Job::parse_job))]
 pub fn read_job(
     alloc: Global,

@@ -13,7 +13,7 @@ use Rattle.ledger_core.specs.declared.entry.Call.{Call}
 use Rattle.ledger_core.specs.declared.entry.Call.TheVariants.{Publish, Unlock, Claim, Refund, Transfer}
 use Rattle.ledger_core.specs.declared.entry.Entry.{Entry}
 use Rattle.ledger_core.specs.History.{height, published, settled, fit, IsLegal}
-use Rattle.ledger_core.specs.Known.{presents_valid}
+use Rattle.ledger_core.specs.CallSignatures.{presents_valid}
 use Rattle.ledger_core.specs.Book.{Histories, history, IsLegalBook}
 use Rattle.swap_rules.specs.Party.{has_expired, is_correct, is_ready, is_triggered, leads_one, pick_call}
 use Rattle.swap_rules.specs.Conduct.{is_publish}

@@ -8,7 +8,7 @@ use Rattle.swap_base.proofs.Lists.{list_all-in, in_range, length-range}
 use Rattle.swap_digraph.specs.Value.{Graph}
 use Rattle.swap_digraph.specs.Graph.{is_path, is_listed, has_arc, listed_arcs, are_followers, IsConnectingPath, IsFeedback, IsHeight, IsDist}
 use Rattle.swap_digraph.proofs.Paths.{in-is_listed, path_more, path_distinct, path_below, subset_length}
-use Rattle.swap_digraph.proofs.Parts.{part_to}
+use Rattle.swap_digraph.proofs.LeaderPaths.{part_to}
 
 -- followers on a path are fewer than all vertices, where there is a leader
 pub height_below : (g : Graph) (ls : List ℕ) (l : ℕ) (h : ℕ) → IsElement l ls → l < g.n → IsHeight g ls h → h + 1 ≤ g.n

@@ -49,7 +49,7 @@ pub record IsRaceTurn (d : Deal) (v : ℕ) (w : Wallet) (old new : Histories) : 
   pub knows : (a : ℕ) → Knows v (history known a) (history new a)
   pub done : due d v w (first_key known v) known ≡ []
 
--- the book at the end of so many rounds
+-- the book at the end of a number of rounds
 abbrev pub round_book : List Histories → ℕ → Histories
 round_book books r = get_or books r []
 

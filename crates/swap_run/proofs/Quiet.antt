@@ -53,7 +53,7 @@ again b before js (a ∷ more) k h =
 
 -- Ticks.
 
--- a history is longer by ticks alone, which raise it by at most so many heights
+-- a history is longer by ticks alone, which raise it by at most n heights
 pub record Risen (n : ℕ) (h after : List Entry) : Type 0 where
   pub more : List Entry
   pub ticks : are_ticks more ≡ true
@@ -291,7 +291,7 @@ module _ (c : Cast) where
   book_many zero s = refl
   book_many (suc n) s = ticks_many (repeat n (ticks c) s) ∙ book_many n s
 
-  -- so many ticks of each ledger that isn't above the horizon
+  -- n ticks of each ledger that isn't above the horizon
   pub rises : (n : ℕ) (s : State) (z : ℕ) → z < length s.book → Risen n (history s.book z) (history (repeat n (ticks c) s).book z)
   rises zero s z l = not_risen 0 (history s.book z)
   rises (suc n) s z l =

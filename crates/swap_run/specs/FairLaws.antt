@@ -45,13 +45,13 @@ FinishHeights =
 abbrev pub FairIsDealt : Type 0
 FairIsDealt = (c : Cast) → IsReadyCast c → ((v : ℕ) → v < c.deal.graph.n → conforms c v ≡ true) → IsDealt c.deal (conforms c) (finish c (start c)).book
 
--- after so many acts nothing is due for a conforming party
+-- after the greatest number of acts nothing is due for a conforming party
 abbrev pub ActsComeToRest : Type 0
 ActsComeToRest =
     (c : Cast) (s : State) (v : ℕ) → IsReadyCast c → IsGood c s → v < c.deal.graph.n → conforms c v ≡ true
     → next_action c (acts c v (most_acts c.deal) s) v ≡ None
 
--- acts until nothing is due leave what so many acts leave
+-- acts until nothing is due leave what the greatest number of acts leaves
 abbrev pub ActsAreEnough : Type 0
 ActsAreEnough =
     (c : Cast) (s : State) (v n : ℕ) → IsReadyCast c → IsGood c s → v < c.deal.graph.n → conforms c v ≡ true → next_action c (acts c v n s) v ≡ None

@@ -11,7 +11,7 @@ use Rattle.swap_run.specs.Run.{Cast, State, conforms, after_tick, continued_run}
 use Rattle.swap_run.specs.Fair.{repeat, adjacent_arcs, most_acts, turns, the_horizon, ticks, is_above_horizon, round_unless_ended, finish}
 use Rattle.swap_run.specs.Quiet.{SkipsQuietRounds}
 
--- The histories b are those after the first so many of these events.
+-- The histories b are those after the first `count` of these events.
 pub record IsAlong (c : Cast) (s : State) (events : List Event) (b : Histories) : Type 0 where
   pub count : ℕ
   pub few : count ≤ length events
@@ -59,7 +59,7 @@ round_steps c s = turns_steps c ++ tick_steps c.deal (turns c s).book
 abbrev pub unless_steps : Cast → State → List Event
 unless_steps c s = if is_above_horizon c.deal s.book then [] else round_steps c s
 
--- so many of them
+-- the steps of a number of rounds
 abbrev pub rounds_steps : ℕ → Cast → State → List Event
 rounds_steps zero c s = []
 rounds_steps (suc n) c s = rounds_steps n c s ++ unless_steps c (repeat n (round_unless_ended c) s)
@@ -72,7 +72,7 @@ finish_steps c s = rounds_steps (the_horizon c.deal + 1) c s
 abbrev pub FinishIsSteps : Type 0
 FinishIsSteps = (c : Cast) (s : State) → continued_run c s (finish_steps c s) ≡ finish c s
 
--- the ticks of so many rounds alone
+-- the ticks alone of a number of rounds
 abbrev pub pass_steps : ℕ → Cast → State → List Event
 pass_steps zero c s = []
 pass_steps (suc n) c s = pass_steps n c s ++ tick_steps c.deal (repeat n (ticks c) s).book

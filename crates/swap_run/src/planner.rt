@@ -109,14 +109,14 @@ impl Planner {
     /// want of memory everything is as it was.
     pub fn ask<A: Strategies>(
         &mut self,
-        staff: &A,
+        strategies: &A,
         name: &ByteText,
         deal: &Deal,
         me: PartyId,
     ) -> Result<Option<(ArcId, Call)>, NoMemory>
-        requires holds { A.holds staff.now name.now ≡ true }
+        requires holds { A.holds strategies.now name.now ≡ true }
         requires view { IsView deal.now me self.old.known }
-        ensures gives { IfOk result (A.gives staff.now name.now deal.now me self.old.turns self.old.known) }
+        ensures gives { IfOk result (A.gives strategies.now name.now deal.now me self.old.turns self.old.known) }
         ensures turned { OnOk result (self.new ≡ record self.old { turns = self.old.turns + 1 }) }
         ensures fits { IfOk result (MayAnswer deal.now me) }
         ensures err { OnErr result (self.new ≡ self.old) }
@@ -124,7 +124,7 @@ impl Planner {
         if self.turns == u32::MAX {
             return Err(NoMemory);
         }
-        let call = staff.answer(name, deal, me, self.turns, &self.known)?;
+        let call = strategies.answer(name, deal, me, self.turns, &self.known)?;
         self.turns += 1;
         Ok(call)
     }

@@ -10,7 +10,7 @@ use Rattle.swap_rules.specs.Machine.{noted}
 use Rattle.swap_rules.specs.Due.{Action}
 use Rattle.party_wallet.specs.Value.{signed_hashkey}
 use Rattle.party_machine.specs.Machine.{MachineState, IsOfSame, due_action, next_due, noted_if_called}
-use Rattle.swap_world.specs.declared.told.Told.{Told}
+use Rattle.swap_world.specs.declared.call_outcome.Told.{Told}
 use Rattle.swap_world.specs.On.{call_told}
 use Rattle.swap_world.specs.Acting.{histories, landed, next_book, next_machine, build_told}
 use Rattle.swap_world.proofs.Ledgers.{history_at, book_ok}

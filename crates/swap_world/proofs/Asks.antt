@@ -23,7 +23,7 @@ use Rattle.swap_world.specs.Value.{WorldState}
 use Rattle.swap_world.specs.Acting.{histories, taken, seen, party_told, asked_once, answer_question}
 use Rattle.swap_world.specs.Gone.{MayGive, Answered, MayBeGiven, HasAsked, HasGone}
 use Rattle.swap_world.specs.On.{IsCutWithSweeps, event_told}
-use Rattle.swap_world.specs.declared.told.Told.{Told}
+use Rattle.swap_world.specs.declared.call_outcome.Told.{Told}
 use Rattle.swap_world.specs.Inside.{strategy_name, asked_questions, ArePartyActors}
 use Rattle.swap_world.specs.declared.actor.Actor.{Actor}
 use Rattle.swap_world.specs.declared.actor.Actor.TheVariants.{Planned}

@@ -27,7 +27,7 @@ use Rattle.swap_rules.specs.Outcome.{IsEnded}
 use Rattle.swap_rules.specs.Laws.{IsDealt}
 use Rattle.swap_world.specs.Value.{WorldState, world_answers, world_cast, answering_cast}
 use Rattle.swap_world.specs.Gone.{MayGive, HasGone}
-use Rattle.swap_world.specs.Near.{all_adjacent}
+use Rattle.swap_world.specs.TouchingArcs.{all_adjacent}
 use Rattle.swap_world.specs.Stopped.{AllWorldPartiesConform, IsStopped}
 use Rattle.swap_world.proofs.Ways.{over, over_ticks, over_turns, repeat_split, range_all}
 use Rattle.swap_world.proofs.Gone.{gone_as, gone_then, cast_gone, deal_gone, more_asked, nothing_asked, stopped_as, stopped_after, stopped_then, way_from}
@@ -220,7 +220,7 @@ module _ (gives : MayGive) (old mid new : WorldState) (n : ℕ) (skips : (g : An
         book = λ g x. (skips g).last new.state.book (way_from gives (λ c s. repeat n (ticks c) s) round_steps old mid new g a k.asked x (k.book g x));
       })
 
--- Rounds of which m are left of so many.
+-- Rounds, with the number that are left and the number in all.
 module _ (gives : MayGive) (old mid new : WorldState) (all left n : ℕ) (few : left ≤ all) (some : n ≤ left)
     (so_far : HasGone gives (λ c s. repeat (all - left) (round_unless_ended c) s) old mid) where
   in_a_row : (f : State → State) (s : State) → repeat n f (repeat (all - left) f s) ≡ repeat (all - (left - n)) f s

@@ -25,7 +25,7 @@ use Rattle.swap_world.specs.Value.{WorldState, world_cast, answering_cast, Conti
 use Rattle.swap_world.specs.Actors.{AreHeld}
 use Rattle.swap_world.specs.Gone.{MayGive, Answered, MayBeGiven, HasAsked, HasGone, IsCutMidway, IsCutInEvent}
 use Rattle.swap_world.specs.On.{event_told, told_of_call}
-use Rattle.swap_world.specs.declared.told.Told.{Told}
+use Rattle.swap_world.specs.declared.call_outcome.Told.{Told}
 use Rattle.swap_world.specs.Stopped.{IsStopped}
 use Rattle.swap_world.proofs.On.{make_on, take_on, act_on, act_is, call_is, plainly}
 use Rattle.swap_world.proofs.Plans.{take_same}

@@ -39,7 +39,7 @@ use Rattle.swap_world.specs.Inside.{IsPartyActor, ArePartyActors, AreArcLedgers}
 use Rattle.swap_world.specs.Quiet.{IsRaised, AreRaised, IsQuietState, IsLow, IsCalm, IsCalmActor, IsReadyActor, HaveArcs}
 use Rattle.swap_world.specs.declared.actor.Actor.{Actor}
 use Rattle.swap_world.specs.declared.actor.Actor.TheVariants.{Conforming, Planned, Manual}
-use Rattle.swap_world.proofs.Known.{whole}
+use Rattle.swap_world.proofs.WholeHistory.{whole}
 use Rattle.swap_world.proofs.States.{IsAt, c, s, notes_at}
 use Rattle.swap_world.proofs.Worlds.{begins}
 use Rattle.swap_world.proofs.Finishes.{near_low}

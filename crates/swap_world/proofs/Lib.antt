@@ -2,7 +2,7 @@ pub mod Turns
 pub mod On
 pub mod Ledgers
 pub mod Signed
-pub mod Known
+pub mod WholeHistory
 pub mod Plans
 pub mod States
 pub mod Kept

@@ -27,7 +27,7 @@ use Rattle.party_machine.specs.Machine.{MachineState}
 use Rattle.swap_world.specs.Acting.{landed, build_told, party_told}
 use Rattle.swap_world.specs.Inside.{IsArcLedger}
 use Rattle.swap_world.specs.On.{call_told, told_of_call, event_told}
-use Rattle.swap_world.specs.declared.told.Told.{Told}
+use Rattle.swap_world.specs.declared.call_outcome.Told.{Told}
 use Rattle.swap_world.proofs.Turns.{call_begins}
 
 -- What a call leaves.

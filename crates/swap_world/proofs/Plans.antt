@@ -22,7 +22,7 @@ use Rattle.swap_world.specs.Cast.{made_cast}
 use Rattle.swap_world.specs.Acting.{landed, taken, seen, turned, asked_once, answer_question}
 use Rattle.swap_world.specs.Inside.{strategy_name}
 use Rattle.swap_world.specs.On.{told_of_call, event_told}
-use Rattle.swap_world.specs.declared.told.Told.TheVariants.{Nothing}
+use Rattle.swap_world.specs.declared.call_outcome.Told.TheVariants.{Nothing}
 use Rattle.swap_world.proofs.On.{make_on, take_on, act_on, act_is, told_act}
 
 -- the role is a script

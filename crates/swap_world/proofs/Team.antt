@@ -195,7 +195,7 @@ module _ (f : Bool → Role) (same : (b : Bool) → is_conforming (f b) ≡ b) (
         subst (All (IsPartyMove job.deal job.seeds p)) (sym none) (All-nil (IsPartyMove job.deal job.seeds p));
   }
 
--- where nobody follows a strategy, every staff will do
+-- where nobody follows a strategy, any `Strategies` will do
 
 held_by : (holds : List ℕ → Bool) (role : Role) → is_strategy role ≡ false → IsHeld holds role
 held_by holds kinds.Conforming e = tt

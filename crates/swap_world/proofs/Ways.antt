@@ -112,7 +112,7 @@ module _ (c : Cast) where
       ap (λ (ys : List Event). low_step c.deal s.book a ++ ys) (over_ticks js (tick_low c s a)
       ∙ ap (λ (b : Histories). low_steps c.deal b js) (low_book s a))
 
-  -- on the way of one act of so many
+  -- on the way of act k of m acts
   pub along_acts : (m k v : ℕ) (s : State) (b : Histories) → k < m → IsAlong c (acts c v k s) (Act v ∷ []) b → IsAlong c s (replicate m (Act v)) b
   along_acts m k v s b l w =
       let e : k + (1 + (m - (k + 1))) ≡ m = omega (arith, l) in
@@ -124,7 +124,7 @@ module _ (c : Cast) where
       (subst (λ (t : State). IsAlong c t (replicate 1 (Act v) ++ rest) b) (sym (acts_run c k v s))
       (along_more c (acts c v k s) (replicate 1 (Act v)) rest b w)))
 
-  -- on the way of the ticks of one round of so many
+  -- on the way of the ticks of round k of m rounds
   pub along_pass : (m k : ℕ) (s : State) (b : Histories) → k < m → IsAlong c (repeat k (ticks c) s) (tick_steps c.deal (repeat k (ticks c) s).book) b
       → IsAlong c s (pass_steps m c s) b
   along_pass zero k s b l w = absurd (omega (arith, l))

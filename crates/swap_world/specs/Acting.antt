@@ -7,7 +7,7 @@ use Rattle.ledger_core.specs.declared.entry.Call.{Call}
 use Rattle.ledger_core.specs.declared.entry.Entry.{Entry}
 use Rattle.ledger_core.specs.Value.{LedgerState}
 use Rattle.ledger_core.specs.History.{fit}
-use Rattle.ledger_core.specs.Known.{presents_valid}
+use Rattle.ledger_core.specs.CallSignatures.{presents_valid}
 use Rattle.ledger_core.specs.Book.{Histories, history}
 use Rattle.deviators.specs.Script.{moves_left}
 use Rattle.swap_rules.specs.Due.{Action}
@@ -16,8 +16,8 @@ use Rattle.swap_run.specs.Run.{Plan, Question, plan_with_ledger, signed_through_
 use Rattle.swap_run.specs.Called.{is_barred}
 use Rattle.party_machine.specs.Machine.{MachineState}
 use Rattle.swap_world.specs.On.{call_told}
-use Rattle.swap_world.specs.declared.told.Told.{Told}
-use Rattle.swap_world.specs.declared.told.Told.TheVariants.{Nothing}
+use Rattle.swap_world.specs.declared.call_outcome.Told.{Told}
+use Rattle.swap_world.specs.declared.call_outcome.Told.TheVariants.{Nothing}
 
 -- The call fits, stands on an arc that touches party v, and presents no hashkey that isn't valid.
 pub record IsMakable (d : Deal) (v : ℕ) (x : Action) : Type 0 where

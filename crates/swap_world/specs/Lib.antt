@@ -5,7 +5,7 @@ pub mod On
 pub mod Actors
 pub mod Stopped
 pub mod Acting
-pub mod Near
+pub mod TouchingArcs
 pub mod Journals
 pub mod Inside
 pub mod Quiet

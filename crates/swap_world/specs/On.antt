@@ -12,8 +12,8 @@ use Rattle.swap_run.specs.Run.{Cast, State, step}
 use Rattle.swap_run.specs.Called.{Called, called, is_barred, apply_step}
 use Rattle.swap_world.specs.Value.{WorldState}
 use Rattle.swap_world.specs.Gone.{MayGive, IsCutMidway}
-use Rattle.swap_world.specs.declared.told.Told.{Told}
-use Rattle.swap_world.specs.declared.told.Told.TheVariants.{Nothing, Passed, Replied}
+use Rattle.swap_world.specs.declared.call_outcome.Told.{Told}
+use Rattle.swap_world.specs.declared.call_outcome.Told.TheVariants.{Nothing, Passed, Replied}
 
 -- whether the slot of arc a is swept, by a list that is empty where none is
 abbrev pub is_slot_swept : List Bool → ℕ → Bool

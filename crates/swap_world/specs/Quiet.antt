@@ -14,7 +14,7 @@ use Rattle.swap_run.specs.Quiet.{IsIdle}
 use Rattle.swap_world.specs.declared.actor.Actor.{Actor}
 use Rattle.swap_world.specs.declared.actor.Actor.TheVariants.{Conforming, Planned, Manual}
 
--- A history is longer by ticks alone, which raise it by at most so many heights.
+-- A history is longer by ticks alone, which raise it by at most n heights.
 pub record IsRaised (n : ℕ) (h after : List Entry) : Type 0 where
   pub more : List Entry
   pub ticks : are_ticks more ≡ true
@@ -33,13 +33,13 @@ pub record IsQuietState (c : Cast) (n : ℕ) (s : State) : Type 0 where
   pub idle : (i : ℕ) (b : Histories) → i < n → AreRaised i s.book b → (v : ℕ) → v < c.deal.graph.n → conforms c v ≡ true
       → IsIdle c b v (state_notes s v)
 
--- of the entries after those that were seen all are ticks, and n further ticks by 1 don't bring the
--- ledger above that height
+-- all entries after the first `seen` ones are ticks, and n further ticks by 1 leave the ledger at
+-- `until` or below
 pub record IsLow (seen until n : ℕ) (h : List Entry) : Type 0 where
   pub ticks : are_ticks (drop seen h) ≡ true
   pub low : height h + n ≤ until
 
--- the same of each of these arcs, of which so much is known
+-- each of these arcs is low, where the length of its known history is what was seen of it
 abbrev pub AreLow : (known : Histories) → (until n : ℕ) → Histories → List ℕ → Type 0
 AreLow known until n b near = All (λ a. IsLow (length (history known a)) until n (history b a)) near
 

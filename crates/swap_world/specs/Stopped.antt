@@ -8,7 +8,7 @@ use Rattle.swap_world.specs.Value.{WorldState, world_cast, answering_cast, Conti
 use Rattle.swap_world.specs.Gone.{MayGive, HasAsked}
 
 -- The world has stopped on the way along these steps, whatever would have been answered: its
--- histories are those after the first so many of them.
+-- histories are those after some first part of the steps.
 pub record IsStopped (gives : MayGive) (steps : Cast → State → List Event) (old new : WorldState) : Type 0 where
   pub stopped : new.stopped ≡ true
   pub cast : world_cast new ≡ world_cast old

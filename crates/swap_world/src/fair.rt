@@ -9,10 +9,10 @@ ghost use Rattle.swap_run.specs.Steps.{finish_steps, look_steps, low_step, pass_
 ghost use Rattle.swap_world.specs.Value.{world_cast};
 ghost use Rattle.swap_world.specs.Gone.{HasGone};
 ghost use Rattle.swap_world.specs.Actors.{AreHeld};
-ghost use Rattle.swap_world.specs.Near.{all_adjacent};
+ghost use Rattle.swap_world.specs.TouchingArcs.{all_adjacent};
 ghost use Rattle.swap_world.specs.Stopped.{IsStopped};
 
-use crate::near::arcs_by_party;
+use crate::touching_arcs::arcs_by_party;
 use crate::world::World;
 use deviators::Strategies;
 use swap_base::{ArcId, Listed, NoMemory, PartyId};
@@ -23,18 +23,18 @@ use time_bounds::horizon;
 /// Lets a party look at each of these arcs, which are those that touch it.
 fn look_around<A: Strategies>(
     world: &mut World,
-    staff: &A,
+    strategies: &A,
     p: PartyId,
     near: &[ArcId],
 ) -> Result<(), NoMemory>
     requires party { p < world.old.deal.graph.n }
     requires near { near.now ≡ adjacent_arcs world.old.deal p }
-    requires held { AreHeld (A.holds staff.now) world.old.roles }
-    ensures ok { OnOk result (HasGone (A.gives staff.now) (λ c s. looks c p s) world.old world.new) }
-    ensures err { OnErr result (IsStopped (A.gives staff.now) (λ c s. look_steps c.deal p) world.old world.new) }
+    requires held { AreHeld (A.holds strategies.now) world.old.roles }
+    ensures ok { OnOk result (HasGone (A.gives strategies.now) (λ c s. looks c p s) world.old world.new) }
+    ensures err { OnErr result (IsStopped (A.gives strategies.now) (λ c s. look_steps c.deal p) world.old world.new) }
 {
     'arcs: for arc in near {
-        world.step(staff, &Event::Look(p, *arc))?;
+        world.step(strategies, &Event::Look(p, *arc))?;
     }
     Ok(())
 }
@@ -48,12 +48,16 @@ pub fn most_acts(deal: &Deal) -> u32
 }
 
 /// Lets a conforming party act until nothing is due.
-fn act_to_rest<A: Strategies>(world: &mut World, _staff: &A, p: PartyId) -> Result<(), NoMemory>
+fn act_to_rest<A: Strategies>(
+    world: &mut World,
+    _strategies: &A,
+    p: PartyId,
+) -> Result<(), NoMemory>
     requires party { p < world.old.deal.graph.n }
     requires conforms { conforms (world_cast world.old) p ≡ true }
     requires goes_on { world.old.stopped ≡ false }
-    ensures ok { OnOk result (HasGone (A.gives _staff.now) (λ c s. acts c p (most_acts world.old.deal) s) world.old world.new) }
-    ensures err { OnErr result (IsStopped (A.gives _staff.now) (λ c s. replicate (most_acts world.old.deal) (Event.Act p)) world.old world.new) }
+    ensures ok { OnOk result (HasGone (A.gives _strategies.now) (λ c s. acts c p (most_acts world.old.deal) s) world.old world.new) }
+    ensures err { OnErr result (IsStopped (A.gives _strategies.now) (λ c s. replicate (most_acts world.old.deal) (Event.Act p)) world.old world.new) }
 {
     'acts: for _ in 0..most_acts(world.deal()) {
         if !world.act_if_due(p)? {
@@ -67,39 +71,39 @@ fn act_to_rest<A: Strategies>(world: &mut World, _staff: &A, p: PartyId) -> Resu
 /// once.
 fn turn<A: Strategies>(
     world: &mut World,
-    staff: &A,
+    strategies: &A,
     p: PartyId,
     near: &[ArcId],
 ) -> Result<(), NoMemory>
     requires party { p < world.old.deal.graph.n }
     requires near { near.now ≡ adjacent_arcs world.old.deal p }
     requires goes_on { world.old.stopped ≡ false }
-    requires held { AreHeld (A.holds staff.now) world.old.roles }
-    ensures ok { OnOk result (HasGone (A.gives staff.now) (λ c s. turn c s p) world.old world.new) }
-    ensures err { OnErr result (IsStopped (A.gives staff.now) (λ c s. turn_steps c p) world.old world.new) }
+    requires held { AreHeld (A.holds strategies.now) world.old.roles }
+    ensures ok { OnOk result (HasGone (A.gives strategies.now) (λ c s. turn c s p) world.old world.new) }
+    ensures err { OnErr result (IsStopped (A.gives strategies.now) (λ c s. turn_steps c p) world.old world.new) }
 {
-    look_around(world, staff, p, near)?;
+    look_around(world, strategies, p, near)?;
     if world.conforms(p) {
-        return act_to_rest(world, staff, p);
+        return act_to_rest(world, strategies, p);
     }
-    world.step(staff, &Event::Act(p))
+    world.step(strategies, &Event::Act(p))
 }
 
 /// Every party's turn, in their order.
 fn turns<A: Strategies>(
     world: &mut World,
-    staff: &A,
+    strategies: &A,
     near: &[Listed<ArcId>],
 ) -> Result<(), NoMemory>
     requires near { near.now ≡ all_adjacent world.old.deal }
     requires goes_on { world.old.stopped ≡ false }
-    requires held { AreHeld (A.holds staff.now) world.old.roles }
-    ensures ok { OnOk result (HasGone (A.gives staff.now) turns world.old world.new) }
-    ensures err { OnErr result (IsStopped (A.gives staff.now) (λ c s. turns_steps c) world.old world.new) }
+    requires held { AreHeld (A.holds strategies.now) world.old.roles }
+    ensures ok { OnOk result (HasGone (A.gives strategies.now) turns world.old world.new) }
+    ensures err { OnErr result (IsStopped (A.gives strategies.now) (λ c s. turns_steps c) world.old world.new) }
 {
     'parties: for p in 0..world.deal().graph.n() {
         let place = p as usize;
-        turn(world, staff, p, near[place].as_slice())?;
+        turn(world, strategies, p, near[place].as_slice())?;
     }
     Ok(())
 }
@@ -113,26 +117,26 @@ pub(crate) fn deal_horizon(deal: &Deal) -> u64
 }
 
 /// Ticks a ledger by one height, where it isn't above the horizon.
-fn tick_low<A: Strategies>(world: &mut World, staff: &A, arc: ArcId) -> Result<(), NoMemory>
+fn tick_low<A: Strategies>(world: &mut World, strategies: &A, arc: ArcId) -> Result<(), NoMemory>
     requires arc { arc < length world.old.deal.graph.arcs }
-    requires held { AreHeld (A.holds staff.now) world.old.roles }
-    ensures ok { OnOk result (HasGone (A.gives staff.now) (λ c s. tick_low c s arc) world.old world.new) }
-    ensures err { OnErr result (IsStopped (A.gives staff.now) (λ c s. low_step c.deal s.book arc) world.old world.new) }
+    requires held { AreHeld (A.holds strategies.now) world.old.roles }
+    ensures ok { OnOk result (HasGone (A.gives strategies.now) (λ c s. tick_low c s arc) world.old world.new) }
+    ensures err { OnErr result (IsStopped (A.gives strategies.now) (λ c s. low_step c.deal s.book arc) world.old world.new) }
 {
     if world.height(arc) as u64 > deal_horizon(world.deal()) {
         return Ok(());
     }
-    world.step(staff, &Event::Tick(arc, 1))
+    world.step(strategies, &Event::Tick(arc, 1))
 }
 
 /// Ticks each ledger that isn't above the horizon by one height.
-fn ticks<A: Strategies>(world: &mut World, staff: &A) -> Result<(), NoMemory>
-    requires held { AreHeld (A.holds staff.now) world.old.roles }
-    ensures ok { OnOk result (HasGone (A.gives staff.now) ticks world.old world.new) }
-    ensures err { OnErr result (IsStopped (A.gives staff.now) (λ c s. tick_steps c.deal s.book) world.old world.new) }
+fn ticks<A: Strategies>(world: &mut World, strategies: &A) -> Result<(), NoMemory>
+    requires held { AreHeld (A.holds strategies.now) world.old.roles }
+    ensures ok { OnOk result (HasGone (A.gives strategies.now) ticks world.old world.new) }
+    ensures err { OnErr result (IsStopped (A.gives strategies.now) (λ c s. tick_steps c.deal s.book) world.old world.new) }
 {
     'arcs: for arc in 0..world.deal().graph.arcs().len() as ArcId {
-        tick_low(world, staff, arc)?;
+        tick_low(world, strategies, arc)?;
     }
     Ok(())
 }
@@ -154,27 +158,27 @@ fn is_above_horizon(world: &World) -> bool
 #[tactic(auto, unfolding(swap_run::specs::Fair::round))]
 fn round<A: Strategies>(
     world: &mut World,
-    staff: &A,
+    strategies: &A,
     near: &[Listed<ArcId>],
 ) -> Result<(), NoMemory>
     requires near { near.now ≡ all_adjacent world.old.deal }
     requires goes_on { world.old.stopped ≡ false }
-    requires held { AreHeld (A.holds staff.now) world.old.roles }
-    ensures ok { OnOk result (HasGone (A.gives staff.now) round world.old world.new) }
-    ensures err { OnErr result (IsStopped (A.gives staff.now) round_steps world.old world.new) }
+    requires held { AreHeld (A.holds strategies.now) world.old.roles }
+    ensures ok { OnOk result (HasGone (A.gives strategies.now) round world.old world.new) }
+    ensures err { OnErr result (IsStopped (A.gives strategies.now) round_steps world.old world.new) }
 {
-    turns(world, staff, near)?;
-    ticks(world, staff)
+    turns(world, strategies, near)?;
+    ticks(world, strategies)
 }
 
 /// So many ticks of each ledger that isn't above the horizon.
-fn pass<A: Strategies>(world: &mut World, staff: &A, count: u64) -> Result<(), NoMemory>
-    requires held { AreHeld (A.holds staff.now) world.old.roles }
-    ensures ok { OnOk result (HasGone (A.gives staff.now) (λ c s. repeat count (ticks c) s) world.old world.new) }
-    ensures err { OnErr result (IsStopped (A.gives staff.now) (pass_steps count) world.old world.new) }
+fn pass<A: Strategies>(world: &mut World, strategies: &A, count: u64) -> Result<(), NoMemory>
+    requires held { AreHeld (A.holds strategies.now) world.old.roles }
+    ensures ok { OnOk result (HasGone (A.gives strategies.now) (λ c s. repeat count (ticks c) s) world.old world.new) }
+    ensures err { OnErr result (IsStopped (A.gives strategies.now) (pass_steps count) world.old world.new) }
 {
     'rounds: for _ in 0..count {
-        ticks(world, staff)?;
+        ticks(world, strategies)?;
     }
     Ok(())
 }
@@ -183,7 +187,7 @@ fn pass<A: Strategies>(world: &mut World, staff: &A, count: u64) -> Result<(), N
 /// ticks are taken. Then comes one more. It answers the number of rounds.
 fn advance<A: Strategies>(
     world: &mut World,
-    staff: &A,
+    strategies: &A,
     near: &[Listed<ArcId>],
     most: u64,
 ) -> Result<u64, NoMemory>
@@ -191,50 +195,50 @@ fn advance<A: Strategies>(
     requires goes_on { world.old.stopped ≡ false }
     requires low { is_above_horizon world.old.deal world.old.state.book ≡ false }
     requires some { 1 ≤ most }
-    requires held { AreHeld (A.holds staff.now) world.old.roles }
-    ensures ok { IfOk result (λ n. HasGone (A.gives staff.now) (λ c s. repeat n (round_unless_ended c) s) world.old world.new) }
+    requires held { AreHeld (A.holds strategies.now) world.old.roles }
+    ensures ok { IfOk result (λ n. HasGone (A.gives strategies.now) (λ c s. repeat n (round_unless_ended c) s) world.old world.new) }
     ensures some { IfOk result (λ n. 1 ≤ n) }
     ensures few { IfOk result (λ n. n ≤ most) }
-    ensures err { OnErr result ((n : ℕ) × (n ≤ most) × IsStopped (A.gives staff.now) (rounds_steps n) world.old world.new) }
+    ensures err { OnErr result ((n : ℕ) × (n ≤ most) × IsStopped (A.gives strategies.now) (rounds_steps n) world.old world.new) }
 {
     let quiet = world.quiet_rounds(near, most - 1);
-    pass(world, staff, quiet)?;
-    round(world, staff, near)?;
+    pass(world, strategies, quiet)?;
+    round(world, strategies, near)?;
     Ok(quiet + 1)
 }
 
 /// Rounds until each ledger is above the horizon, for which one more than the horizon are enough.
 fn rounds<A: Strategies>(
     world: &mut World,
-    staff: &A,
+    strategies: &A,
     near: &[Listed<ArcId>],
 ) -> Result<(), NoMemory>
     requires near { near.now ≡ all_adjacent world.old.deal }
     requires goes_on { world.old.stopped ≡ false }
-    requires held { AreHeld (A.holds staff.now) world.old.roles }
-    ensures ok { OnOk result (HasGone (A.gives staff.now) finish world.old world.new) }
-    ensures err { OnErr result (IsStopped (A.gives staff.now) finish_steps world.old world.new) }
+    requires held { AreHeld (A.holds strategies.now) world.old.roles }
+    ensures ok { OnOk result (HasGone (A.gives strategies.now) finish world.old world.new) }
+    ensures err { OnErr result (IsStopped (A.gives strategies.now) finish_steps world.old world.new) }
 {
     let mut left = deal_horizon(world.deal()) + 1;
     'rounds: while left > 0 {
         if is_above_horizon(world) {
             return Ok(());
         }
-        let taken = advance(world, staff, near, left)?;
+        let taken = advance(world, strategies, near, left)?;
         left -= taken;
     }
     Ok(())
 }
 
 /// The fair finish. The arcs that touch each party are listed once.
-pub(crate) fn finish<A: Strategies>(world: &mut World, staff: &A) -> Result<(), NoMemory>
+pub(crate) fn finish<A: Strategies>(world: &mut World, strategies: &A) -> Result<(), NoMemory>
     requires goes_on { world.old.stopped ≡ false }
-    requires held { AreHeld (A.holds staff.now) world.old.roles }
-    ensures ok { OnOk result (HasGone (A.gives staff.now) finish world.old world.new) }
-    ensures err { OnErr result (IsStopped (A.gives staff.now) finish_steps world.old world.new) }
+    requires held { AreHeld (A.holds strategies.now) world.old.roles }
+    ensures ok { OnOk result (HasGone (A.gives strategies.now) finish world.old world.new) }
+    ensures err { OnErr result (IsStopped (A.gives strategies.now) finish_steps world.old world.new) }
 {
     match arcs_by_party(world.allocator(), world.deal()) {
-        Ok(near) => rounds(world, staff, &near),
+        Ok(near) => rounds(world, strategies, &near),
         Err(NoMemory) => {
             world.stop();
             Err(NoMemory)

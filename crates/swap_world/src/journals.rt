@@ -7,7 +7,7 @@ ghost use Rattle.hashkey_path.specs.declared.hashkey.Hashkey.{Hashkey};
 ghost use Rattle.swap_rules.specs.Due.{Action};
 ghost use Rattle.wallet_journal.specs.Held.{Leaves, visible_bytes};
 ghost use Rattle.wallet_journal.specs.Layout.{recorded};
-ghost use Rattle.wallet_journal.specs.Own.{IsOwn};
+ghost use Rattle.wallet_journal.specs.OwnDisks.{IsOwn};
 ghost use Rattle.wallet_journal.specs.Stopped.{bytes_left, kept_key, IsWrittenUp};
 ghost use Rattle.party_machine.specs.Machine.{next_due, resumed_machine, IsOfSame};
 ghost use Rattle.party_machine.specs.Recording.{signs_next, MayHave};

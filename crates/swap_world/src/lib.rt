@@ -7,19 +7,19 @@
 
 mod actor;
 mod actors;
-mod chain;
+mod call_outcome;
+mod chain_tick;
 mod fair;
 mod journals;
 mod many;
-mod near;
 mod quiet;
-mod told;
+mod touching_arcs;
 mod turn;
 mod world;
 
 pub use actor::Actor;
 pub use actors::{WorldFault, WrongWallet, new_actors, wrong_wallet};
+pub use call_outcome::Told;
 pub use fair::most_acts;
-pub use near::arcs_by_party;
-pub use told::Told;
+pub use touching_arcs::arcs_by_party;
 pub use world::World;

@@ -15,17 +15,17 @@ use swap_job::Event;
 /// Takes events in their order.
 pub(crate) fn run<A: Strategies>(
     world: &mut World,
-    staff: &A,
+    strategies: &A,
     events: &[Event],
 ) -> Result<(), NoMemory>
     requires events { All (CanStep world.old.deal world.old.conforming world.old.seeds) events.now }
-    requires held { AreHeld (A.holds staff.now) world.old.roles }
-    ensures ok { OnOk result (HasGone (A.gives staff.now) (λ c s. continued_run c s events.now) world.old world.new) }
-    ensures err { OnErr result (IsStopped (A.gives staff.now) (λ c s. events.now) world.old world.new) }
+    requires held { AreHeld (A.holds strategies.now) world.old.roles }
+    ensures ok { OnOk result (HasGone (A.gives strategies.now) (λ c s. continued_run c s events.now) world.old world.new) }
+    ensures err { OnErr result (IsStopped (A.gives strategies.now) (λ c s. events.now) world.old world.new) }
     ensures prefix { OnErr result (IsAfterSome events.now world.old world.new) }
 {
     'events: for event in events {
-        world.step(staff, event)?;
+        world.step(strategies, event)?;
     }
     Ok(())
 }

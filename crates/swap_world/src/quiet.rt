@@ -5,7 +5,7 @@ ghost use Rattle.ledger_core.specs.History.{height};
 ghost use Rattle.ledger_core.specs.Book.{history};
 ghost use Rattle.swap_run.specs.Fair.{adjacent_arcs};
 ghost use Rattle.swap_world.specs.Acting.{histories};
-ghost use Rattle.swap_world.specs.Near.{all_adjacent};
+ghost use Rattle.swap_world.specs.TouchingArcs.{all_adjacent};
 ghost use Rattle.swap_world.specs.Quiet.{IsLow, AreLow, IsCalm, IsCalmActor, IsReadyActor, HasSeen, HaveArcs};
 
 use crate::actor::Actor;

@@ -4,7 +4,7 @@
 ghost use Rattle.std.specs.Prelude.{◌≡◌, ◌==◌, ◌||◌, ◌<◌, ◌≤◌, ◌+◌, ◌-◌, ◌⊎◌, ℕ, Some, None, false, IsTrue, OnOk};
 ghost use Rattle.std.specs.Prelude.{OnErr, IfOk, IfSome, length, drop, slice_set, option_copied, option_map};
 ghost use Rattle.swap_digraph.specs.Deal.{IsWellSized, party, counterparty};
-ghost use Rattle.ledger_core.specs.Known.{is_known_call};
+ghost use Rattle.ledger_core.specs.CallSignatures.{is_known_call};
 ghost use Rattle.ledger_core.specs.History.{IsLegal, fit};
 ghost use Rattle.ledger_core.specs.Book.{history};
 ghost use Rattle.ledger_core.specs.Runs.{run_ticks, IsRightRun};
@@ -26,7 +26,7 @@ ghost use Rattle.swap_world.specs.Acting.{IsMakable, IsSameOwner, histories, lan
 ghost use Rattle.swap_world.specs.On.{is_slot_swept, call_told};
 ghost use Rattle.swap_world.specs.Inside.{AreArcLedgers, IsArcLedger, HaveRoom};
 
-use crate::told::Told;
+use crate::call_outcome::Told;
 use hashkey_path::Hashkey;
 use history_index::Steps;
 use ledger_core::{Call, Ledger, Run};
@@ -77,12 +77,12 @@ fn call(
     ledger: &mut Ledger,
     sender: PartyId,
     call: Call,
-    known: usize,
+    verified: usize,
     swept: bool,
 ) -> Result<Told, NoMemory>
     requires of_the_two { IsTrue ((sender == party ledger.old.deal ledger.old.arc) || (sender == counterparty ledger.old.deal ledger.old.arc)) }
     requires fits { IsTrue (fit ledger.old.deal ledger.old.arc call) }
-    requires known { IsTrue (is_known_call known ledger.old.deal call) }
+    requires known { IsTrue (is_known_call verified ledger.old.deal call) }
     requires legal { IsLegal ledger.old.deal ledger.old.arc ledger.old.history }
     requires room { 0 < ledger.old.spare }
     ensures leaves { ledger.new.history ≡ landed swept ledger.old.deal ledger.old.arc sender call ledger.old.history }
@@ -95,7 +95,7 @@ fn call(
     if is_barred(ledger, &call, swept) {
         return Ok(Told::Passed);
     }
-    let reply = ledger.apply(sender, call, known);
+    let reply = ledger.apply(sender, call, verified);
     ledger.reserve()?;
     Ok(Told::Replied(reply))
 }
@@ -111,7 +111,7 @@ fn is_swept(swept: &[bool], arc: ArcId) -> bool
 }
 
 /// The hashkey of the opening that a move names, where it came.
-fn key_named<'l>(ledgers: &'l [Ledger], mv: &Move) -> Option<&'l Hashkey>
+fn ledger_key_named<'l>(ledgers: &'l [Ledger], mv: &Move) -> Option<&'l Hashkey>
     requires { ForSome (opening_named mv.now) (λ x. x.0 < length ledgers.now) }
     ensures { option_copied result ≡ key_opened (histories ledgers.now) (opening_named mv.now) }
 {
@@ -135,7 +135,7 @@ fn resolve_move(
     ensures exact { IfOk result (λ o. o ≡ resolved deal.now seeds.now (histories ledgers.now) mv.now) }
     ensures fits { IfOk result (λ o. ForSome o (λ x. IsTrue (fit deal.now x.0 x.1))) }
 {
-    resolve_keyed_move(alloc, deal, seeds, mv, key_named(ledgers, mv))
+    resolve_keyed_move(alloc, deal, seeds, mv, ledger_key_named(ledgers, mv))
 }
 
 /// Makes the call that a move stands for, if any, over the ledgers as they stand, and answers what
@@ -249,7 +249,7 @@ fn learn_entries<L: Counted>(
     }
 }
 
-fn learn_counted<L: Counted>(
+fn learn_ledger_counted<L: Counted>(
     machine: &mut Machine,
     ledger: &Ledger,
     blank: Blank,
@@ -277,12 +277,12 @@ pub(crate) fn learn(machine: &mut Machine, ledger: &Ledger) -> Result<(), NoMemo
     ensures ok { OnOk result (machine.new ≡ record machine.old { known = slice_set machine.old.known ledger.now.arc ledger.now.history }) }
     ensures err { OnErr result (machine.new ≡ machine.old) }
 {
-    learn_counted::<Brand>(machine, ledger, Blank::new(1))
+    learn_ledger_counted::<Brand>(machine, ledger, Blank::new(1))
 }
 
 /// Makes a call of a machine, which then knows the ledger up to its end. It verifies none of its
 /// signatures.
-#[tactic(auto, using(ledger_core::proofs::Known::valid_is_known_in))]
+#[tactic(auto, using(ledger_core::proofs::CallSignatures::valid_is_known_in))]
 fn make_due(
     machine: &mut Machine,
     ledger: &mut Ledger,

@@ -29,7 +29,7 @@ ghost use Rattle.party_wallet.specs.Wallets.{new_wallets};
 ghost use Rattle.swap_world.specs.Stopped.{IsAfterSome, IsStopped, AllWorldPartiesConform};
 ghost use Rattle.swap_world.specs.Cast.{asks};
 ghost use Rattle.swap_world.specs.Value.{world_cast, answering_cast, new_world, Continues};
-ghost use Rattle.swap_world.specs.Near.{all_adjacent};
+ghost use Rattle.swap_world.specs.TouchingArcs.{all_adjacent};
 ghost use Rattle.swap_world.specs.Quiet.{IsQuietState};
 ghost use Rattle.swap_world.specs.Gone.{HasGone, IsCutInEvent};
 ghost use Rattle.swap_world.specs.On.{is_slot_swept, event_told, tick_arcs, IsCutWithSweeps};
@@ -38,15 +38,15 @@ ghost use Rattle.swap_world.specs.Inside.{AreNewLedgers};
 
 use crate::actor::Actor;
 use crate::actors::{WorldFault, new_actors, wrong_wallet};
+use crate::call_outcome::Told;
 use crate::journals::new_journals;
-use crate::told::Told;
-use crate::{chain, fair, journals, many, quiet, turn};
+use crate::{chain_tick, fair, journals, many, quiet, turn};
 use deviators::Strategies;
 use ledger_core::{Accounts, Book, Call, EntryList, Ledger, share_deal};
 use party_wallet::Wallet;
 use std::alloc::Global;
 use std::marker::Model;
-use swap_base::{ArcId, Digest, Fault, Listed, NoMemory, PartyId, Past, TryCopy};
+use swap_base::{ArcId, Digest, Fault, GhostList, Listed, NoMemory, PartyId, TryCopy};
 use swap_digraph::{Deal, copy_deal};
 use swap_job::{Event, Job, Move, Role};
 use swap_run::Planner;
@@ -65,11 +65,11 @@ pub struct World {
     /// The journal of each party that conforms.
     journals: Vec<Option<Journal<MemoryDisk>>>,
     /// Who asked a strategy, one after another.
-    askers: Past<PartyId>,
+    askers: GhostList<PartyId>,
     /// What each of them planned then.
-    told: Past<Planner>,
+    told: GhostList<Planner>,
     /// What was answered to each.
-    answers: Past<Option<(ArcId, Call)>>,
+    answers: GhostList<Option<(ArcId, Call)>>,
     stopped: bool,
 }
 
@@ -143,15 +143,15 @@ impl World {
             journals: new_journals(alloc, &job.deal, job.conforming.as_slice())?,
             deal: copy_deal(&job.deal)?,
             actors,
-            askers: Past::new(),
-            told: Past::new(),
-            answers: Past::new(),
+            askers: GhostList::new(),
+            told: GhostList::new(),
+            answers: GhostList::new(),
             stopped: false,
         })
     }
 
     /// The world of a job with these wallets, or the first conforming party whose seed isn't the
-    /// deal's.
+    /// deal's. For programs of others.
     pub fn new(alloc: Global, job: &Job, wallets: Vec<Option<Wallet>>) -> Result<World, WorldFault>
         requires accepted { IsAccepted job.now.deal }
         requires seeds { ConformingHaveSeeds job.now }
@@ -343,18 +343,18 @@ impl World {
     /// Lets a party act that follows a strategy: it asks, and makes the call that is answered.
     fn ask<A: Strategies>(
         &mut self,
-        staff: &A,
+        strategies: &A,
         p: PartyId,
         swept: &[bool],
     ) -> Result<Told, NoMemory>
         requires party { p < self.old.deal.graph.n }
         requires asks { asks (world_cast self.old) p ≡ true }
         requires goes_on { self.old.stopped ≡ false }
-        requires held { AreHeld (A.holds staff.now) self.old.roles }
-        ensures ok { OnOk result (HasGone (A.gives staff.now) (λ c s. apply_step (is_slot_swept swept.now) c s (Event.Act p)) self.old self.new) }
+        requires held { AreHeld (A.holds strategies.now) self.old.roles }
+        ensures ok { OnOk result (HasGone (A.gives strategies.now) (λ c s. apply_step (is_slot_swept swept.now) c s (Event.Act p)) self.old self.new) }
         ensures told { IfOk result (λ r. (g : Answers) → Continues self.new g
             → r ≡ event_told (is_slot_swept swept.now) (answering_cast self.old g) self.old.state (Event.Act p)) }
-        ensures cut { OnErr result (IsCutWithSweeps (A.gives staff.now) (is_slot_swept swept.now) (Event.Act p) self.old self.new) }
+        ensures cut { OnErr result (IsCutWithSweeps (A.gives strategies.now) (is_slot_swept swept.now) (Event.Act p) self.old self.new) }
     {
         let Role::Strategy(name) = &self.roles.as_slice()[p as usize] else {
             unreachable!();
@@ -364,7 +364,7 @@ impl World {
         };
         let askers = self.askers.and(&p);
         let told = self.told.and(planner);
-        let answer = planner.ask(staff, name, &self.deal, p)?;
+        let answer = planner.ask(strategies, name, &self.deal, p)?;
         self.askers = askers;
         self.told = told;
         self.answers = self.answers.and(&answer);
@@ -376,20 +376,20 @@ impl World {
     /// Lets a party act.
     fn act<A: Strategies>(
         &mut self,
-        staff: &A,
+        strategies: &A,
         p: PartyId,
         swept: &[bool],
     ) -> Result<Told, NoMemory>
         requires party { p < self.old.deal.graph.n }
         requires goes_on { self.old.stopped ≡ false }
-        requires held { AreHeld (A.holds staff.now) self.old.roles }
-        ensures ok { OnOk result (HasGone (A.gives staff.now) (λ c s. apply_step (is_slot_swept swept.now) c s (Event.Act p)) self.old self.new) }
+        requires held { AreHeld (A.holds strategies.now) self.old.roles }
+        ensures ok { OnOk result (HasGone (A.gives strategies.now) (λ c s. apply_step (is_slot_swept swept.now) c s (Event.Act p)) self.old self.new) }
         ensures told { IfOk result (λ r. (g : Answers) → Continues self.new g
             → r ≡ event_told (is_slot_swept swept.now) (answering_cast self.old g) self.old.state (Event.Act p)) }
-        ensures cut { OnErr result (IsCutWithSweeps (A.gives staff.now) (is_slot_swept swept.now) (Event.Act p) self.old self.new) }
+        ensures cut { OnErr result (IsCutWithSweeps (A.gives strategies.now) (is_slot_swept swept.now) (Event.Act p) self.old self.new) }
     {
         if self.asks(p) {
-            return self.ask(staff, p, swept);
+            return self.ask(strategies, p, swept);
         }
         self.act_alone(p, swept)
     }
@@ -473,17 +473,17 @@ impl World {
     /// Lets an event happen.
     fn happen<A: Strategies>(
         &mut self,
-        staff: &A,
+        strategies: &A,
         event: &Event,
         swept: &[bool],
     ) -> Result<Told, NoMemory>
         requires event { CanStep self.old.deal self.old.conforming self.old.seeds event.now }
         requires goes_on { self.old.stopped ≡ false }
-        requires held { AreHeld (A.holds staff.now) self.old.roles }
-        ensures ok { OnOk result (HasGone (A.gives staff.now) (λ c s. apply_step (is_slot_swept swept.now) c s event.now) self.old self.new) }
+        requires held { AreHeld (A.holds strategies.now) self.old.roles }
+        ensures ok { OnOk result (HasGone (A.gives strategies.now) (λ c s. apply_step (is_slot_swept swept.now) c s event.now) self.old self.new) }
         ensures told { IfOk result (λ r. (g : Answers) → Continues self.new g
             → r ≡ event_told (is_slot_swept swept.now) (answering_cast self.old g) self.old.state event.now) }
-        ensures cut { OnErr result (IsCutWithSweeps (A.gives staff.now) (is_slot_swept swept.now) event.now self.old self.new) }
+        ensures cut { OnErr result (IsCutWithSweeps (A.gives strategies.now) (is_slot_swept swept.now) event.now self.old self.new) }
     {
         match event {
             Event::Tick(arc, k) => {
@@ -494,7 +494,7 @@ impl World {
                 self.look(*p, *arc)?;
                 Ok(Told::Nothing)
             }
-            Event::Act(p) => self.act(staff, *p, swept),
+            Event::Act(p) => self.act(strategies, *p, swept),
             Event::Call(sender, mv) => self.make(*sender, mv, swept),
             Event::Crash(p, k, image) => {
                 self.crash(*p, *k, *image)?;
@@ -506,20 +506,20 @@ impl World {
     /// Takes an event, where memory never ran out.
     fn take<A: Strategies>(
         &mut self,
-        staff: &A,
+        strategies: &A,
         event: &Event,
         swept: &[bool],
     ) -> Result<Told, NoMemory>
         requires event { CanStep self.old.deal self.old.conforming self.old.seeds event.now }
         requires goes_on { self.old.stopped ≡ false }
-        requires held { AreHeld (A.holds staff.now) self.old.roles }
-        ensures ok { OnOk result (HasGone (A.gives staff.now) (λ c s. apply_step (is_slot_swept swept.now) c s event.now) self.old self.new) }
+        requires held { AreHeld (A.holds strategies.now) self.old.roles }
+        ensures ok { OnOk result (HasGone (A.gives strategies.now) (λ c s. apply_step (is_slot_swept swept.now) c s event.now) self.old self.new) }
         ensures told { IfOk result (λ r. (g : Answers) → Continues self.new g
             → r ≡ event_told (is_slot_swept swept.now) (answering_cast self.old g) self.old.state event.now) }
         ensures err { OnErr result (self.new.stopped ≡ true) }
-        ensures cut { OnErr result (IsCutWithSweeps (A.gives staff.now) (is_slot_swept swept.now) event.now self.old self.new) }
+        ensures cut { OnErr result (IsCutWithSweeps (A.gives strategies.now) (is_slot_swept swept.now) event.now self.old self.new) }
     {
-        match self.happen(staff, event, swept) {
+        match self.happen(strategies, event, swept) {
             Ok(told) => Ok(told),
             Err(NoMemory) => {
                 self.stopped = true;
@@ -568,17 +568,17 @@ impl World {
     /// or after it, and every later step wants memory too.
     pub fn apply_step<A: Strategies>(
         &mut self,
-        staff: &A,
+        strategies: &A,
         event: &Event,
         swept: &[bool],
     ) -> Result<Told, NoMemory>
         requires event { CanStep self.old.deal self.old.conforming self.old.seeds event.now }
-        requires held { AreHeld (A.holds staff.now) self.old.roles }
-        ensures ok { OnOk result (HasGone (A.gives staff.now) (λ c s. apply_step (is_slot_swept swept.now) c s event.now) self.old self.new) }
+        requires held { AreHeld (A.holds strategies.now) self.old.roles }
+        ensures ok { OnOk result (HasGone (A.gives strategies.now) (λ c s. apply_step (is_slot_swept swept.now) c s event.now) self.old self.new) }
         ensures told { IfOk result (λ r. (g : Answers) → Continues self.new g
             → r ≡ event_told (is_slot_swept swept.now) (answering_cast self.old g) self.old.state event.now) }
         ensures err { OnErr result (self.new.stopped ≡ true) }
-        ensures cut { OnErr result (IsCutWithSweeps (A.gives staff.now) (is_slot_swept swept.now) event.now self.old self.new) }
+        ensures cut { OnErr result (IsCutWithSweeps (A.gives strategies.now) (is_slot_swept swept.now) event.now self.old self.new) }
         ensures stopped { IsTrue self.old.stopped → IsErr result × (self.new.state.book ≡ self.old.state.book) }
         // Whatever the others do, and whether memory ran out or not, every conforming party has
         // kept its conduct.
@@ -587,34 +587,36 @@ impl World {
         if self.stopped {
             return Err(NoMemory);
         }
-        self.take(staff, event, swept)
+        self.take(strategies, event, swept)
     }
 
-    /// Takes one event, where the staff answers for strategies. After want of memory the histories
-    /// are those before the event or after it, and every later step wants memory too.
-    pub fn step<A: Strategies>(&mut self, staff: &A, event: &Event) -> Result<(), NoMemory>
+    /// Takes one event, where `strategies` answers for each party that follows a strategy. After
+    /// want of memory the histories are those before the event or after it, and every later step
+    /// wants memory too.
+    pub fn step<A: Strategies>(&mut self, strategies: &A, event: &Event) -> Result<(), NoMemory>
         requires event { CanStep self.old.deal self.old.conforming self.old.seeds event.now }
-        requires held { AreHeld (A.holds staff.now) self.old.roles }
-        ensures ok { OnOk result (HasGone (A.gives staff.now) (λ c s. step c s event.now) self.old self.new) }
+        requires held { AreHeld (A.holds strategies.now) self.old.roles }
+        ensures ok { OnOk result (HasGone (A.gives strategies.now) (λ c s. step c s event.now) self.old self.new) }
         ensures err { OnErr result (self.new.stopped ≡ true) }
-        ensures cut { OnErr result (IsCutInEvent (A.gives staff.now) event.now self.old self.new) }
+        ensures cut { OnErr result (IsCutInEvent (A.gives strategies.now) event.now self.old self.new) }
         ensures stopped { IsTrue self.old.stopped → IsErr result × (self.new.state.book ≡ self.old.state.book) }
         // Whatever the others do, and whether memory ran out or not, every conforming party has
         // kept its conduct.
         ensures kept { IsKept (world_cast self.new) self.new.state.book }
     {
-        match self.apply_step(staff, event, &[]) {
+        match self.apply_step(strategies, event, &[]) {
             Ok(_) => Ok(()),
             Err(NoMemory) => Err(NoMemory),
         }
     }
 
-    /// Takes events in their order. After want of memory every later step wants memory too.
-    pub fn run<A: Strategies>(&mut self, staff: &A, events: &[Event]) -> Result<(), NoMemory>
+    /// Takes events in their order. After want of memory every later step wants memory too. For
+    /// programs of others: this repository's programs take one event at a time.
+    pub fn run<A: Strategies>(&mut self, strategies: &A, events: &[Event]) -> Result<(), NoMemory>
         requires events { All (CanStep self.old.deal self.old.conforming self.old.seeds) events.now }
-        requires held { AreHeld (A.holds staff.now) self.old.roles }
-        ensures ok { OnOk result (HasGone (A.gives staff.now) (λ c s. continued_run c s events.now) self.old self.new) }
-        ensures err { OnErr result (IsStopped (A.gives staff.now) (λ c s. events.now) self.old self.new) }
+        requires held { AreHeld (A.holds strategies.now) self.old.roles }
+        ensures ok { OnOk result (HasGone (A.gives strategies.now) (λ c s. continued_run c s events.now) self.old self.new) }
+        ensures err { OnErr result (IsStopped (A.gives strategies.now) (λ c s. events.now) self.old self.new) }
         ensures prefix { OnErr result (IsAfterSome events.now self.old self.new) }
         ensures stopped { IsTrue self.old.stopped → IsErr result × (self.new.state.book ≡ self.old.state.book) }
         ensures kept { IsKept (world_cast self.new) self.new.state.book }
@@ -622,28 +624,28 @@ impl World {
         if self.stopped {
             return Err(NoMemory);
         }
-        many::run(self, staff, events)
+        many::run(self, strategies, events)
     }
 
     /// The fair finish: rounds until each ledger is above the horizon. In a round each party in its
     /// order looks at each arc that touches it and acts: until nothing is due where it conforms,
     /// else once. Then each ledger that isn't above the horizon ticks by one height. After want of
     /// memory every later step wants memory too.
-    pub fn finish_fair<A: Strategies>(&mut self, staff: &A) -> Result<(), NoMemory>
-        requires held { AreHeld (A.holds staff.now) self.old.roles }
-        ensures ok { OnOk result (HasGone (A.gives staff.now) finish self.old self.new) }
+    pub fn finish_fair<A: Strategies>(&mut self, strategies: &A) -> Result<(), NoMemory>
+        requires held { AreHeld (A.holds strategies.now) self.old.roles }
+        ensures ok { OnOk result (HasGone (A.gives strategies.now) finish self.old self.new) }
         ensures ended { OnOk result (IsEnded self.old.deal self.new.state.book) }
         // Where every party conforms and nothing came before, everything moves.
         ensures dealt { OnOk result (AllWorldPartiesConform self.old → self.old.state ≡ start (world_cast self.old)
             → IsDealt self.old.deal (conforms (world_cast self.old)) self.new.state.book) }
-        ensures err { OnErr result (IsStopped (A.gives staff.now) finish_steps self.old self.new) }
+        ensures err { OnErr result (IsStopped (A.gives strategies.now) finish_steps self.old self.new) }
         ensures stopped { IsTrue self.old.stopped → IsErr result × (self.new.state.book ≡ self.old.state.book) }
         ensures kept { IsKept (world_cast self.new) self.new.state.book }
     {
         if self.stopped {
             return Err(NoMemory);
         }
-        fair::finish(self, staff)
+        fair::finish(self, strategies)
     }
 
     /// The deal.
@@ -676,7 +678,7 @@ impl World {
         // Every conforming party has kept its conduct.
         ensures kept { IsKept (world_cast self.new) self.new.state.book }
     {
-        let ready = chain::tick_all(&mut self.ledgers, &self.deal, on, k);
+        let ready = chain_tick::tick_all(&mut self.ledgers, &self.deal, on, k);
         self.stopped = !ready;
     }
 

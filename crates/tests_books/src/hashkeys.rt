@@ -123,7 +123,7 @@ fn edited(key: &Hashkey, place: usize) -> Result<Hashkey, Fail> {
     })
 }
 
-/// A hashkey has so many signatures, and is valid on the arc that enters the party `until`.
+/// A hashkey has `length` signatures, and is valid on the arc that enters the party `until`.
 fn is_valid(rt: &impl Abort, deal: &Deal, key: &Hashkey, until: PartyId, length: usize)
     requires { IsWellSized deal.now }
 {

@@ -82,7 +82,7 @@ fn tells_of_little(rt: &impl Abort, alloc: Global, job: &Job, book: &Book) -> Re
 fn played<A: Strategies>(
     alloc: Global,
     job: &Job,
-    staff: &A,
+    strategies: &A,
     wallets: Vec<Option<Wallet>>,
     events: &[Event],
 ) -> Result<Book, Fail>
@@ -91,13 +91,13 @@ fn played<A: Strategies>(
     requires accepted { IsAccepted job.now.deal }
     requires wallets { HaveWallets job.now }
     requires scripts { HaveScripts job.now }
-    requires strategies { HoldsEach (A.holds staff.now) job.now.roles }
+    requires strategies { HoldsEach (A.holds strategies.now) job.now.roles }
     requires made { wallets.items ≡ new_wallets job.now.deal job.now.conforming job.now.seeds }
     requires events { All (IsJobEvent job.now) events.now }
     ensures { IfOk result (λ b. IsLegalBook job.now.deal b.histories) }
 {
     let mut world = World::new(alloc, job, wallets)?;
-    world.run(staff, events)?;
+    world.run(strategies, events)?;
     Ok(world.into_book(alloc)?)
 }
 
@@ -106,7 +106,7 @@ fn tells<A: Strategies>(
     rt: &impl Abort,
     alloc: Global,
     job: &Job,
-    staff: &A,
+    strategies: &A,
     wallets: Vec<Option<Wallet>>,
 ) -> Result<(), Fail>
     requires whole { IsWholeJob job.now }
@@ -114,25 +114,25 @@ fn tells<A: Strategies>(
     requires accepted { IsAccepted job.now.deal }
     requires wallets { HaveWallets job.now }
     requires scripts { HaveScripts job.now }
-    requires strategies { HoldsEach (A.holds staff.now) job.now.roles }
+    requires strategies { HoldsEach (A.holds strategies.now) job.now.roles }
     requires made { wallets.items ≡ new_wallets job.now.deal job.now.conforming job.now.seeds }
 {
     let events = [next_event(alloc, job, 0, 2, b"{\"tick\":0,\"by\":2}")?];
-    let book = played(alloc, job, staff, wallets, &events)?;
+    let book = played(alloc, job, strategies, wallets, &events)?;
     tells_of_little(rt, alloc, job, &book)
 }
 
 /// Tells of the book of three parties, with whoever answers for strategies.
-fn check_told<A: Strategies>(rt: &impl Abort, alloc: Global, staff: &A) -> Result<(), Fail> {
-    let strategies = staff.names()?;
+fn check_told<A: Strategies>(rt: &impl Abort, alloc: Global, strategies: &A) -> Result<(), Fail> {
+    let strategy_names = strategies.names()?;
     let Prepared { job, wallets, .. } = read_header(
         alloc,
         1,
         jobs::THREE.as_bytes(),
         Purpose::Run,
-        strategies.as_slice(),
+        strategy_names.as_slice(),
     )?;
-    tells(rt, alloc, &job, staff, wallets)
+    tells(rt, alloc, &job, strategies, wallets)
 }
 
 #[test]

@@ -23,7 +23,7 @@ fn append_marked_line(
     Ok(true)
 }
 
-/// Reads at most so many lines.
+/// Reads at most this number of lines.
 fn collect_lines(
     lines: &mut Lines,
     source: &mut VecSource,
@@ -77,7 +77,7 @@ fn marked(alloc: Global, input: &[u8]) -> Result<Vec<u8>, Fail> {
     Ok(all)
 }
 
-/// The lines of an input come as they are wanted, with so many bytes a call.
+/// The lines of an input come as they are wanted, with this number of bytes a call.
 fn gives_lines(
     alloc: Global,
     input: &[u8],
@@ -138,7 +138,7 @@ fn gives_lines_that_are_longer_than_its_buffer(rt: HostRuntime) -> Result<(), Fa
     comes_back(rt.alloc(), &input, &calls, 50_000)
 }
 
-/// How the reading of two lines ends that may take at most so many bytes.
+/// How the reading of two lines ends, where it may take at most `limit` bytes.
 fn limited(alloc: Global, limit: u32) -> Result<String, Fail> {
     let mut source = make_source(alloc, b"ab\ncd", 2, &[])?;
     let mut all = Vec::new(alloc);
@@ -170,7 +170,7 @@ fn drained_after_one(alloc: Global, source: &mut VecSource, limit: u32) -> Resul
     drain_lines(alloc, &mut lines, source, &mut line)
 }
 
-/// What a drain answers after the first of three lines of seven bytes, with so many bytes at most.
+/// What a drain of at most `limit` bytes answers after the first of three lines of seven bytes.
 fn drained(alloc: Global, limit: u32, failing: &[u64]) -> Result<String, Fail> {
     let mut source = make_source(alloc, b"a\nb\ncd\n", 4, failing)?;
     drained_after_one(alloc, &mut source, limit)

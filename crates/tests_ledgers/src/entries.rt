@@ -20,13 +20,13 @@ b claim => NoContract 99 1 0
 tick 1 => Accepted 99 1 0
 3 times tick 2 => Accepted 99 1 0";
 
-/// Whether a list has so many entries, as it says and one by one.
+/// Whether a list has `count` entries, by its length and one by one.
 fn has(alloc: Global, list: &EntryList, count: usize) -> Result<bool, Fail> {
     let entries = list.to_vec(alloc)?;
     Ok(list.len() == count && entries.len() == count)
 }
 
-/// Whether a ledger's copy that begins at a place has so many entries.
+/// Whether a ledger's copy that begins at place k has `count` entries.
 fn has_tail(alloc: Global, ledger: &Ledger, k: usize, count: usize) -> Result<bool, Fail>
     requires { k ≤ length ledger.now.history }
 {

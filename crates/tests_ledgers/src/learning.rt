@@ -61,8 +61,8 @@ fn are_ticks(index: &Index) -> bool
     index.count() == 10_000 && index.height() == 10_000 && index.made().is_empty()
 }
 
-/// Lets a machine learn ticks in pieces of so many, until there are 10,000, which are as many
-/// steps.
+/// Lets a machine learn ticks in pieces of one size, until there are 10,000 ticks. That takes
+/// 10,000 steps.
 fn learn_in_pieces<L: Counted>(
     rt: &impl Abort,
     machine: &mut Machine,

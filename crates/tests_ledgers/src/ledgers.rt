@@ -51,13 +51,13 @@ fn two(words: &str) -> Result<(&str, &str), Fail> {
     Ok(words.split_once(" ").ok_or("no two words")?)
 }
 
-/// The transfer to a party of so many units.
+/// The transfer of a number of units to a party.
 fn parse_transfer(words: &str) -> Result<Call, Fail> {
     let (to, units) = two(words)?;
     Ok(Call::Transfer(parse_party(to)?, units.parse()?))
 }
 
-/// The publish of so many units.
+/// The publish of a number of units.
 fn make_publish(alloc: Global, ledger: &Ledger, words: &str) -> Result<Call, Fail> {
     Ok(publish(alloc, ledger, words.parse()?)?)
 }

@@ -4,6 +4,8 @@
 
 mod deals;
 #[cfg(test)]
+mod digraph_text;
+#[cfg(test)]
 mod graphs;
 #[cfg(test)]
 mod lists;
@@ -11,7 +13,5 @@ mod lists;
 mod rows;
 #[cfg(test)]
 mod signatures;
-#[cfg(test)]
-mod told;
 
 pub use deals::small_deal;

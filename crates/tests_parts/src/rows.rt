@@ -1,9 +1,9 @@
 //! Tables of questions and answers.
 
+use crate::digraph_text::told;
 use crate::graphs::build_graph;
 use crate::lists::list_told;
 use crate::signatures::list_digests;
-use crate::told::told;
 use std::alloc::{AllocError, Global};
 use std::test::Fail;
 

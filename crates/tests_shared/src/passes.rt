@@ -169,8 +169,7 @@ fn shows_publish<R: Wait>(
     Ok(is_publish(&shown))
 }
 
-/// Whether the second of two ticks finds the clock full, and the pass has then seen so many
-/// entries.
+/// Whether the second of two ticks finds the clock full, and the pass has then seen `seen` entries.
 fn fills_clock<R: Wait>(rt: &R, ledger: &SharedLedger, pass: &mut ClockPass, seen: u32) -> bool
     requires { pass.old.lock ≡ ledger.now.lock }
 {
@@ -179,8 +178,8 @@ fn fills_clock<R: Wait>(rt: &R, ledger: &SharedLedger, pass: &mut ClockPass, see
     first == Some(Reply::Accepted) && second == Some(Reply::ClockFull) && pass.seen() == seen
 }
 
-/// Whether a claim finds its sender full, and the pass has then seen so many entries, the last
-/// alone by this call.
+/// Whether a claim finds its sender full, and the pass has then seen `seen` entries, of which this
+/// call added the last.
 fn is_full<R: Wait>(rt: &R, ledger: &SharedLedger, pass: &mut Pass, seen: u32) -> bool
     requires { pass.old.lock ≡ ledger.now.lock }
 {

@@ -2,8 +2,8 @@
 -- project's own; the deadlines of Herlihy 2018 needn't be the same.
 use Rattle.std.specs.Prelude.{ℕ, ◌+◌, ◌-◌, ◌*◌, min}
 
--- by so many arcs a path to a leader is bounded: n parties, so many leaders, at most h followers in
--- a row
+-- a bound on the arcs of a path to a leader, given the number of parties, the number of leaders and
+-- the most followers in a row
 abbrev pub need : ℕ → ℕ → ℕ → ℕ
 need n leaders h = min (n - 1) (leaders * (h + 1) - 1)
 

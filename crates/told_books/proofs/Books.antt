@@ -34,7 +34,7 @@ use Rattle.swap_rules.specs.Forged.{has_made, has_forged_suffix, forges, is_forg
 use Rattle.swap_rules.specs.Due.{has_called}
 use Rattle.swap_rules.specs.Laws.{IsUnforged}
 use Rattle.swap_rules.proofs.Prefixes.{list_any-none, begins_refl}
-use Rattle.told_books.specs.Told.{is_of_contract, is_told, telling, is_useless, is_needed, SaysTheSame, AreUseless, SayEnough}
+use Rattle.told_books.specs.WithoutNoise.{is_of_contract, is_told, telling, is_useless, is_needed, SaysTheSame, AreUseless, SayEnough}
 use Rattle.told_books.proofs.Filters.{first_given_answer-filter, list_any-filter, sum_by-filter, greatest-filter, all_moments-filter, moment-filter, moment_unfilter}
 use Rattle.told_books.proofs.Filters.{any-same, greatest-same, first_each, any_each}
 use Rattle.told_books.proofs.Telling.{noise, no_call, no_unlock, says_telling}

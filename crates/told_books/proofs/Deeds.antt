@@ -27,7 +27,7 @@ use Rattle.ledger_core.specs.History.{is_sender}
 use Rattle.ledger_core.proofs.Bounds.{total_calls, calls-push}
 use Rattle.ledger_core.proofs.History.{clear, AreClear, not-true, not-false, lock-below}
 use Rattle.swap_rules.specs.Rest.{is_ticking}
-use Rattle.told_books.specs.Told.{is_of_contract, is_told, telling, reply_without_limit, IsTrueEntry, IsTrueMoment, IsChain}
+use Rattle.told_books.specs.WithoutNoise.{is_of_contract, is_told, telling, reply_without_limit, IsTrueEntry, IsTrueMoment, IsChain}
 use Rattle.told_books.specs.Laws.{OthersAreFew}
 use Rattle.told_books.proofs.Filters.{filter-on, filter-off}
 

@@ -29,7 +29,7 @@ use Rattle.swap_rules.specs.Outcome.{outcome, is_got, is_claim, got, lost}
 use Rattle.swap_rules.specs.Walking.{is_withheld, pressing_unlocks, pressing}
 use Rattle.swap_rules.specs.Useful.{opens_in_time, useful_publishes, useful_unlocks, useful}
 use Rattle.swap_rules.proofs.Growth.{ready_good}
-use Rattle.told_books.specs.Told.{SaysTheSame, AreUseless, SayEnough}
+use Rattle.told_books.specs.WithoutNoise.{SaysTheSame, AreUseless, SayEnough}
 use Rattle.told_books.proofs.Filters.{any_each, filter-same, map-same, all-same, greatest-same, count-same, flat-same, first-same}
 
 -- no answer is one that no test passes

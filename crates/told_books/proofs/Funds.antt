@@ -27,7 +27,7 @@ use Rattle.swap_rules.specs.Party.{pick_call}
 use Rattle.swap_rules.specs.Outcome.{is_claim}
 use Rattle.swap_rules.specs.Rest.{is_ticking}
 use Rattle.swap_rules.proofs.Prefixes.{moment_more}
-use Rattle.told_books.specs.Told.{is_of_contract, is_told, telling, purse, IsPaid, IsTrueMoment, IsChain, is_transfer, MakesNoTransfer}
+use Rattle.told_books.specs.WithoutNoise.{is_of_contract, is_told, telling, purse, IsPaid, IsTrueMoment, IsChain, is_transfer, MakesNoTransfer}
 use Rattle.told_books.specs.Laws.{BalancesAreTold}
 use Rattle.told_books.proofs.Filters.{filter-on, filter-off}
 use Rattle.told_books.proofs.Deeds.{deed, told_if, of_claim, of_refund}

@@ -8,7 +8,7 @@ use Rattle.ledger_core.specs.Book.{Histories, history}
 use Rattle.swap_rules.specs.declared.outcome.Outcome.TheVariants.{NoDeal, FreeRide, Underwater, Deal as WholeDeal, Discount}
 use Rattle.swap_rules.specs.Party.{is_arc_correct}
 use Rattle.swap_rules.specs.Outcome.{outcome, is_got, is_claim, got, lost}
-use Rattle.told_books.specs.Told.{tellings, is_useless, is_needed, needs, all_needed}
+use Rattle.told_books.specs.WithoutNoise.{tellings, is_useless, is_needed, needs, all_needed}
 use Rattle.told_books.specs.Laws.{HoldsAsTold, AllHoldsAsTold, AllOutcomesAreTold, NeededHoldsAsTold}
 use Rattle.told_books.proofs.Telling.{history_is, say_tellings}
 use Rattle.told_books.proofs.Needed.{part_is, all_told}

@@ -27,8 +27,8 @@ use Rattle.ledger_core.specs.History.{IsLegal, IsLegalEntry, IsLegalMoment}
 use Rattle.ledger_core.proofs.Bounds.{total_calls, run_ticks, calls-push, ticks-push, height-push}
 use Rattle.ledger_core.proofs.History.{of_transfer, clear_at}
 use Rattle.swap_rules.specs.Rest.{is_ticking}
-use Rattle.told_books.specs.Told.{is_of_contract, is_told, telling, SaysTheSame, reply_without_limit, IsTrueEntry, IsPaid, IsTrueMoment, IsChain}
-use Rattle.told_books.specs.Told.{is_transfer}
+use Rattle.told_books.specs.WithoutNoise.{is_of_contract, is_told, telling, SaysTheSame, reply_without_limit, IsTrueEntry, IsPaid, IsTrueMoment, IsChain}
+use Rattle.told_books.specs.WithoutNoise.{is_transfer}
 use Rattle.told_books.specs.Laws.{LegalIsChain, KeepsLedgerLimits, TellingIsLegal}
 use Rattle.told_books.proofs.Filters.{filter-on, filter-off, sum_by-part}
 use Rattle.told_books.proofs.Telling.{says_telling}

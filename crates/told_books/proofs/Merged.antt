@@ -27,7 +27,7 @@ use Rattle.ledger_core.proofs.Bounds.{total_calls, run_ticks, calls-push, ticks-
 use Rattle.ledger_core.proofs.Units.{accounts-push}
 use Rattle.swap_rules.specs.Party.{pick_call}
 use Rattle.swap_rules.specs.Rest.{is_ticking}
-use Rattle.told_books.specs.Told.{SaysTheSame, as_one, join, merged}
+use Rattle.told_books.specs.WithoutNoise.{SaysTheSame, as_one, join, merged}
 use Rattle.told_books.specs.Laws.{MergedIsLegal}
 use Rattle.told_books.proofs.Merging.{ticks_may_be_merged}
 

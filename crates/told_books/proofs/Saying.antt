@@ -21,7 +21,7 @@ use Rattle.swap_rules.specs.Due.{Wallet, Action, unlocks_lock, is_claiming, is_r
 use Rattle.swap_rules.specs.Due.{presented, may_unlock, due_arc_unlock, is_due_claim, is_due_refund, when_due, due_publishes, due_unlocks, due_claims}
 use Rattle.swap_rules.specs.Due.{due_refunds, due}
 use Rattle.swap_rules.specs.Rest.{is_waiting, least_number, rest_deadline}
-use Rattle.told_books.specs.Told.{SayTheSame}
+use Rattle.told_books.specs.WithoutNoise.{SayTheSame}
 
 module _ (d : Deal) (v : ℕ) (k h : Histories) (s : SayTheSame v k h) where
   pub same_correct : (a : ℕ) → is_correct d k a ≡ is_correct d h a

@@ -8,7 +8,7 @@ use Rattle.ledger_core.specs.declared.entry.Entry.{Entry}
 use Rattle.ledger_core.specs.History.{accepted, is_sender}
 use Rattle.ledger_core.proofs.Bounds.{total_calls}
 use Rattle.swap_rules.specs.Rest.{is_ticking}
-use Rattle.told_books.specs.Told.{is_of_contract, telling, join, as_one, merged, call_count, IsTrueMoment, IsChain}
+use Rattle.told_books.specs.WithoutNoise.{is_of_contract, telling, join, as_one, merged, call_count, IsTrueMoment, IsChain}
 use Rattle.told_books.specs.Laws.{TellingIsShort}
 use Rattle.told_books.proofs.Deeds.{progress, goes_on, gains, all_progress, some_call, deed, told_if}
 

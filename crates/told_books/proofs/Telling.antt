@@ -12,7 +12,7 @@ use Rattle.ledger_core.specs.History.{entry_ticks, made_call, accepted, publicat
 use Rattle.ledger_core.specs.Book.{Histories, history}
 use Rattle.swap_rules.specs.Party.{pick_call}
 use Rattle.swap_rules.specs.Rest.{is_ticking}
-use Rattle.told_books.specs.Told.{is_of_contract, is_told, telling, tellings, SaysTheSame, SayTheSame}
+use Rattle.told_books.specs.WithoutNoise.{is_of_contract, is_told, telling, tellings, SaysTheSame, SayTheSame}
 use Rattle.told_books.proofs.Filters.{first_given_answer-filter, list_any-filter, sum_by-filter, flat-filter}
 
 -- What noise is.

@@ -23,9 +23,9 @@ use Rattle.swap_rules.specs.Party.{is_arc_correct}
 use Rattle.swap_rules.specs.Due.{has_called}
 use Rattle.swap_rules.specs.Rest.{is_ticking}
 use Rattle.swap_rules.proofs.Prefixes.{begins_refl}
-use Rattle.told_books.specs.Told.{is_of_contract, is_told, is_useless, is_needed, needed_history, needs, all_needed, merged, call_count, SaysTheSame}
-use Rattle.told_books.specs.Told.{AreUseless, SayEnough}
-use Rattle.told_books.specs.Told.{IsTrueEntry, IsTrueMoment, IsChain, IsTrueClock, HasTrueClock, IsNeededChain, IsNeededBook}
+use Rattle.told_books.specs.WithoutNoise.{is_of_contract, is_told, is_useless, is_needed, needed_history, needs, all_needed, merged, call_count, SaysTheSame}
+use Rattle.told_books.specs.WithoutNoise.{AreUseless, SayEnough}
+use Rattle.told_books.specs.WithoutNoise.{IsTrueEntry, IsTrueMoment, IsChain, IsTrueClock, HasTrueClock, IsNeededChain, IsNeededBook}
 use Rattle.told_books.specs.Laws.{KeepsLedgerLimits, MergedSaysEnough, ChainIsNeeded, NeededIsLegal, NeededIsShort, NeededCanBeTold}
 use Rattle.told_books.proofs.Filters.{filter-on, filter-off, sum_by-filter, sum_by-part}
 use Rattle.told_books.proofs.Telling.{no_ticks}

@@ -5,7 +5,7 @@ use Rattle.std.proofs.lemmas.List.{length-map, get_or_past}
 use Rattle.swap_digraph.specs.declared.deal.Deal.{Deal}
 use Rattle.ledger_core.specs.History.{IsLegal}
 use Rattle.ledger_core.specs.Book.{Histories, history, IsLegalBook}
-use Rattle.told_books.specs.Told.{telling, tellings, merged, SaysTheSame, SayTheSame, IsChain, IsChainBook}
+use Rattle.told_books.specs.WithoutNoise.{telling, tellings, merged, SaysTheSame, SayTheSame, IsChain, IsChainBook}
 use Rattle.told_books.specs.Laws.{KeepsLedgerLimits, BookCanBeTold}
 use Rattle.told_books.proofs.Telling.{says_telling, history_is}
 use Rattle.told_books.proofs.Legal.{telling_is_legal}

@@ -17,7 +17,7 @@ use Rattle.swap_rules.specs.Due.{is_claiming}
 use Rattle.swap_rules.specs.Rest.{is_ticking}
 use Rattle.swap_rules.specs.Walking.{UnlocksArc, ClaimsAll, UnlocksAll, AsksBack, AsksAllBack, HasLost, IsWatchful}
 use Rattle.swap_rules.proofs.Words.{call_of_parts, or-left, or-first}
-use Rattle.told_books.specs.Told.{is_of_contract, is_useless, is_needed}
+use Rattle.told_books.specs.WithoutNoise.{is_of_contract, is_useless, is_needed}
 use Rattle.told_books.proofs.Filters.{any-same, moment-filter, moment_unfilter}
 use Rattle.told_books.proofs.Telling.{says_telling}
 use Rattle.told_books.proofs.Needed.{all_told}

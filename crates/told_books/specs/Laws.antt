@@ -16,8 +16,8 @@ use Rattle.swap_rules.specs.Machine.{Begins}
 use Rattle.swap_rules.specs.Laws.{IsUnforged}
 use Rattle.swap_rules.specs.Walking.{pressing, IsWatchful}
 use Rattle.swap_rules.specs.Useful.{useful}
-use Rattle.told_books.specs.Told.{telling, tellings, is_useless, needed_history, parts, needs, all_needed, merged, SaysTheSame, SayTheSame, SayEnough}
-use Rattle.told_books.specs.Told.{IsChain, IsChainBook, IsNeededChain, IsNeededBook, MakesNoTransfer}
+use Rattle.told_books.specs.WithoutNoise.{telling, tellings, is_useless, needed_history, parts, needs, all_needed, merged, SaysTheSame, SayTheSame, SayEnough}
+use Rattle.told_books.specs.WithoutNoise.{IsChain, IsChainBook, IsNeededChain, IsNeededBook, MakesNoTransfer}
 
 -- over books that say the same to v, the same is due for it
 abbrev pub WhatIsSaidIsDue : Type 0

@@ -1,7 +1,7 @@
 //! What a party needs to be told of each ledger: all but noise, and of a useless arc the ticks
 //! alone.
 //!
-//! Read `specs/Told.antt` first, then `specs/Laws.antt`.
+//! Read `specs/WithoutNoise.antt` first, then `specs/Laws.antt`.
 #![tactic(auto)]
 
 ghost use Rattle.told_books.specs.Laws.{WhatIsSaidIsDue, EnoughIsDue, EnoughIsUseful, EnoughIsPressing, EnoughRests, MergedSaysEnough};

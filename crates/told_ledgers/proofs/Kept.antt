@@ -7,7 +7,7 @@ use Rattle.swap_auditor.specs.declared.replay.BadReply.{BadReply}
 use Rattle.swap_auditor.specs.Audit.{with_entry}
 use Rattle.transcript_lines.specs.declared.said.Misspelling.{Misspelling}
 use Rattle.told_ledgers.specs.declared.kind.Kind.{Kind}
-use Rattle.told_ledgers.specs.declared.told.OwnUnlock.{OwnUnlock}
+use Rattle.told_ledgers.specs.declared.told_ledger.OwnUnlock.{OwnUnlock}
 use Rattle.told_ledgers.specs.declared.one_ledger.Heard.{Heard}
 use Rattle.told_ledgers.specs.declared.one_ledger.Heard.TheVariants.{More, Bad}
 use Rattle.told_ledgers.specs.SoFar.{LedgerSoFar}

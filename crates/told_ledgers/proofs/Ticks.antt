@@ -21,7 +21,7 @@ use Rattle.transcript_book.proofs.Exact.{below_is}
 use Rattle.transcript_book.proofs.Complete.{placed_back}
 use Rattle.told_ledgers.specs.declared.kind.Kind.{Kind}
 use Rattle.told_ledgers.specs.declared.kind.Kind.TheVariants.{Read}
-use Rattle.told_ledgers.specs.declared.told.OwnUnlock.{OwnUnlock}
+use Rattle.told_ledgers.specs.declared.told_ledger.OwnUnlock.{OwnUnlock}
 use Rattle.told_ledgers.specs.declared.one_ledger.Heard.TheVariants.{More}
 use Rattle.told_ledgers.specs.SoFar.{LedgerSoFar}
 use Rattle.told_ledgers.specs.Ledger.{line_heard, kind_line_read, replied, stated_entry}

@@ -10,7 +10,7 @@ use Rattle.ledger_core.specs.Ledger.{tick_entry}
 use Rattle.transcript_lines.specs.Between.{spaced}
 use Rattle.transcript_lines.specs.Words.{entry_words}
 use Rattle.told_ledgers.specs.declared.kind.Kind.{Kind}
-use Rattle.told_ledgers.specs.declared.told.ToldLedger.{ToldLedger}
+use Rattle.told_ledgers.specs.declared.told_ledger.ToldLedger.{ToldLedger}
 use Rattle.told_ledgers.specs.declared.one_ledger.Heard.{Heard}
 use Rattle.told_ledgers.specs.declared.one_ledger.Heard.TheVariants.{More, Bad}
 use Rattle.told_ledgers.specs.declared.stage.Stage.{Stage}

@@ -2,7 +2,7 @@
 use Rattle.std.specs.Prelude.{ℕ, Bool, List}
 use Rattle.swap_digraph.specs.declared.deal.Deal.{Deal}
 use Rattle.ledger_core.specs.declared.entry.Entry.{Entry}
-use Rattle.told_ledgers.specs.declared.told.OwnUnlock.{OwnUnlock}
+use Rattle.told_ledgers.specs.declared.told_ledger.OwnUnlock.{OwnUnlock}
 
 pub record LedgerSoFar : Type 0 where
   pub deal : Deal

@@ -13,7 +13,7 @@ use Rattle.transcript_lines.specs.declared.said.Misspelling.{Misspelling}
 use Rattle.transcript_lines.specs.Between.{separated_parts}
 use Rattle.transcript_lines.specs.Reading.{parse_first_field, misspelt, nothing_more, bounded_number, decimal_number}
 use Rattle.transcript_book.specs.Counts.{ledger_word}
-use Rattle.told_ledgers.specs.declared.told.ToldLedger.{ToldLedger}
+use Rattle.told_ledgers.specs.declared.told_ledger.ToldLedger.{ToldLedger}
 use Rattle.told_ledgers.specs.declared.one_ledger.Heard.{Heard}
 use Rattle.told_ledgers.specs.declared.one_ledger.Heard.TheVariants.{More, Bad}
 use Rattle.told_ledgers.specs.declared.stage.Stage.{Stage}
@@ -25,7 +25,7 @@ use Rattle.told_ledgers.specs.Ledger.{line_heard, nothing_read, whole_told_ledge
 
 -- ---- the line before those of a ledger
 
--- the number of an arc, from least on, of so many arcs
+-- the number of an arc, at least `least` and below the number of arcs
 abbrev pub arc_said : (least arcs : ℕ) → List ℕ → Result ℕ Misspelling
 arc_said least arcs w = decimal_number w >>= λ a. if nat_le least a && nat_lt a arcs then Ok a else misspelt
 

@@ -11,7 +11,7 @@ mod one_ledger;
 mod reader;
 mod stage;
 mod telling;
-mod told;
+mod told_ledger;
 
 pub use telling::read_ledgers;
-pub use told::{BadEntry, OwnUnlock, Replies, ToldLedger};
+pub use told_ledger::{BadEntry, OwnUnlock, Replies, ToldLedger};

@@ -12,7 +12,7 @@ ghost use Rattle.told_ledgers.specs.Ledger.{stated_entry, with_stated};
 ghost use Rattle.told_ledgers.specs.declared.one_ledger.Heard.TheVariants.{More};
 
 use crate::kind::Kind;
-use crate::told::{BadEntry, OwnUnlock, Replies, ToldLedger};
+use crate::told_ledger::{BadEntry, OwnUnlock, Replies, ToldLedger};
 use escrow_core::{Reply, stated_terms};
 use ledger_core::{Call, Entry, EntryList, Ledger, LedgerHistory, Sender, What};
 use std::alloc::Global;

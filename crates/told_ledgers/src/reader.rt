@@ -15,7 +15,7 @@ use crate::heading::{Heading, heading_said};
 use crate::kind::{Kind, line_kind};
 use crate::one_ledger::{Heard, OneLedger};
 use crate::stage::Stage;
-use crate::told::ToldLedger;
+use crate::told_ledger::ToldLedger;
 use ledger_core::{EntryList, is_adjacent};
 use refusals::{OfferFault, Reason};
 use std::alloc::Global;
@@ -65,7 +65,7 @@ fn written(alloc: Global, number: u8) -> Result<ByteText, NoMemory>
     Ok(ByteText::new(out))
 }
 
-/// Nothing is told of each of so many arcs.
+/// Nothing is told of each of the arcs.
 fn none_told(alloc: Global, arcs: usize) -> Result<Vec<ToldLedger>, NoMemory>
     ensures { IfOk result (λ v. v.items ≡ replicate arcs untold) }
 {

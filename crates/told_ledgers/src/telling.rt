@@ -7,7 +7,7 @@ ghost use Rattle.ledger_core.specs.Book.{IsLegalBook};
 ghost use Rattle.told_ledgers.specs.Telling.{ledgers_told, line_told, unless_bad_line, told_book};
 
 use crate::reader::LedgersReader;
-use crate::told::ToldLedger;
+use crate::told_ledger::ToldLedger;
 use refusals::{OfferFault, Reason};
 use std::alloc::Global;
 use swap_base::{Fault, Listed, PartyId, Shared};

@@ -31,8 +31,8 @@ use Rattle.swap_rules.proofs.Cases.{Case, ToPublish, ToUnlock, ToClaim, ToRefund
 use Rattle.swap_rules.proofs.Growth.{is_correct-more, ready_good}
 use Rattle.swap_rules.proofs.Prefixes.{begins_refl, list_any-none}
 use Rattle.swap_rules.proofs.Words.{and_three, leaves}
-use Rattle.told_books.specs.Told.{telling, tellings, is_useless, is_needed, parts, needs, all_needed, SaysTheSame, SayEnough, IsChain, IsNeededBook}
-use Rattle.told_books.specs.Told.{is_transfer, MakesNoTransfer}
+use Rattle.told_books.specs.WithoutNoise.{telling, tellings, is_useless, is_needed, parts, needs, all_needed, SaysTheSame, SayEnough, IsChain, IsNeededBook}
+use Rattle.told_books.specs.WithoutNoise.{is_transfer, MakesNoTransfer}
 use Rattle.told_books.specs.Laws.{KeepsLedgerLimits, HoldsAsTold}
 use Rattle.told_books.proofs.Filters.{any-same}
 use Rattle.told_books.proofs.Telling.{history_is}

@@ -16,7 +16,7 @@ use Rattle.swap_rules.specs.Due.{Wallet}
 use Rattle.swap_rules.specs.Machine.{Begins, IsWallet}
 use Rattle.swap_rules.specs.Laws.{IsOnTime, IsSafe}
 use Rattle.swap_rules.specs.Walking.{IsWatchful}
-use Rattle.told_books.specs.Told.{tellings, is_useless, all_needed, SayEnough, IsNeededBook, MakesNoTransfer}
+use Rattle.told_books.specs.WithoutNoise.{tellings, is_useless, all_needed, SayEnough, IsNeededBook, MakesNoTransfer}
 use Rattle.wallet_promise.specs.Life.{Asking, answer, IsLife}
 use Rattle.wallet_promise.specs.Answers.{answers}
 use Rattle.told_lives.specs.ToldLife.{Hearing, whole, without_noise, as_needed, IsHeard, IsToldLife, IsToldAttentive, IsToldMindful}

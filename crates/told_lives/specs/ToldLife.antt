@@ -18,7 +18,7 @@ use Rattle.swap_rules.specs.Due.{Wallet, has_called, due}
 use Rattle.swap_rules.specs.Machine.{Begins, Knows}
 use Rattle.swap_rules.specs.Rounds.{IsNear}
 use Rattle.swap_rules.specs.Walking.{HasLost, IsPastExpiries, pressing}
-use Rattle.told_books.specs.Told.{tellings, parts, needs, SayEnough}
+use Rattle.told_books.specs.WithoutNoise.{tellings, parts, needs, SayEnough}
 use Rattle.wallet_promise.specs.Life.{Asking, nothing_kept, MayGo, IsJournal}
 
 -- An asking, with what the ledgers had done behind what is told of them.

@@ -11,11 +11,11 @@ use Rattle.transcript_lines.specs.declared.said.Misspelling.{Misspelling}
 use Rattle.transcript_lines.specs.Between.{separated_parts}
 use Rattle.transcript_lines.specs.Reading.{misspelt, bounded_number, decimal_number}
 use Rattle.transcript_lines.proofs.Numbers.{below_back, high_number, number_back}
-use Rattle.transcript_lines.proofs.Parts.{high_too, parts_between}
+use Rattle.transcript_lines.proofs.SeparatedParts.{high_too, parts_between}
 use Rattle.transcript_lines.proofs.Spelling.{field_back}
 use Rattle.transcript_book.specs.Counts.{ledger_word}
 use Rattle.transcript_book.proofs.Complete.{few_arcs}
-use Rattle.told_ledgers.specs.declared.told.ToldLedger.{ToldLedger}
+use Rattle.told_ledgers.specs.declared.told_ledger.ToldLedger.{ToldLedger}
 use Rattle.told_ledgers.specs.declared.heading.Heading.{Heading}
 use Rattle.told_ledgers.specs.declared.one_ledger.Heard.{Heard}
 use Rattle.told_ledgers.specs.declared.one_ledger.Heard.TheVariants.{More, Bad}
@@ -33,7 +33,7 @@ use Rattle.told_readings.specs.Apart.{with_ledger}
 stepped : {A B : Type 0} (r : Result A Misspelling) (x : A) (f : A → Result B Misspelling) → r ≡ Ok x → (r >>= f) ≡ f x
 stepped r x f e = ap (λ (q : Result _ Misspelling). q >>= f) e
 
--- the number of the line behind so many
+-- the number of a line, given how many lines stand before it
 abbrev after : ℕ → ℕ → ℕ
 after n zero = n
 after n (suc k) = after (next_number n) k

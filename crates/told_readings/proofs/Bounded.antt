@@ -126,7 +126,7 @@ reply_short (StillLocked n) k = let one = byte_short n k in omega arith
 reply_short (NotExpired n) k = let one = wide_short n k in omega arith
 reply_short (NoFunds n) k = let one = wide_short n k in omega arith
 
--- an unlock has at most so many bytes, and any other call
+-- the most bytes of an unlock, and of any other call
 abbrev most : Bool → ℕ
 most true = 137467
 most false = 630

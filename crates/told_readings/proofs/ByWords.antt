@@ -18,7 +18,7 @@ use Rattle.transcript_lines.specs.Between.{separated_parts, spaced}
 use Rattle.transcript_lines.specs.Reading.{is_word, decimal_number}
 use Rattle.transcript_lines.specs.Words.{call_words, entry_words, reply_words}
 use Rattle.transcript_lines.proofs.Numbers.{high_number, number_back}
-use Rattle.transcript_lines.proofs.Parts.{all_append, high_too, parts_between}
+use Rattle.transcript_lines.proofs.SeparatedParts.{all_append, high_too, parts_between}
 use Rattle.transcript_lines.proofs.Spelling.{high_call, high_reply}
 use Rattle.told_ledgers.specs.declared.kind.Kind.{Kind}
 use Rattle.told_ledgers.specs.declared.kind.Kind.TheVariants.{Read, Noise, Publish as PublishLine, Accepted as AcceptedLine}

@@ -26,14 +26,14 @@ use Rattle.swap_rules.specs.Party.{is_arc_correct}
 use Rattle.swap_rules.specs.Due.{has_called}
 use Rattle.swap_rules.specs.Rest.{is_ticking}
 use Rattle.swap_rules.proofs.Words.{enters, leaves}
-use Rattle.told_books.specs.Told.{is_told, is_useless, telling, AreUseless, IsTrueClock, IsTrueEntry, SaysTheSame}
+use Rattle.told_books.specs.WithoutNoise.{is_told, is_useless, telling, AreUseless, IsTrueClock, IsTrueEntry, SaysTheSame}
 use Rattle.told_books.proofs.Legal.{telling_is_legal}
 use Rattle.told_books.proofs.Needed.{silent_in, useless}
 use Rattle.told_books.proofs.Telling.{says_telling}
 use Rattle.transcript_lines.specs.Lines.{IsStatable}
 use Rattle.transcript_book.specs.Stated.{IsTyped}
 use Rattle.transcript_book.proofs.Legal.{legal_is_stated}
-use Rattle.told_ledgers.specs.declared.told.ToldLedger.{ToldLedger}
+use Rattle.told_ledgers.specs.declared.told_ledger.ToldLedger.{ToldLedger}
 use Rattle.told_ledgers.specs.Ledger.{nothing_read, untold}
 use Rattle.told_ledgers.specs.Telling.{told_book}
 use Rattle.told_ledgers.proofs.Ledgers.{told_history}

@@ -31,7 +31,7 @@ use Rattle.swap_rules.specs.Party.{is_arc_correct, pick_call}
 use Rattle.swap_rules.specs.Rest.{is_ticking}
 use Rattle.swap_auditor.specs.Audit.{replayed, with_entry}
 use Rattle.swap_auditor.specs.Replies.{same_reply}
-use Rattle.told_books.specs.Told.{is_of_contract, is_told, telling}
+use Rattle.told_books.specs.WithoutNoise.{is_of_contract, is_told, telling}
 use Rattle.told_books.proofs.Filters.{filter-off, filter-on, moment-filter}
 use Rattle.told_books.proofs.Telling.{says_telling}
 use Rattle.typed_books.specs.Typed.{IsTypedSender, IsTypedWhat}
@@ -42,7 +42,7 @@ use Rattle.transcript_book.specs.Entries.{parse_next_entry}
 use Rattle.transcript_book.proofs.Complete.{entry_back}
 use Rattle.told_ledgers.specs.declared.kind.Kind.{Kind}
 use Rattle.told_ledgers.specs.declared.kind.Kind.TheVariants.{Read, Noise, Publish as PublishLine, Accepted as AcceptedLine}
-use Rattle.told_ledgers.specs.declared.told.OwnUnlock.{OwnUnlock}
+use Rattle.told_ledgers.specs.declared.told_ledger.OwnUnlock.{OwnUnlock}
 use Rattle.told_ledgers.specs.declared.one_ledger.Heard.{Heard}
 use Rattle.told_ledgers.specs.declared.one_ledger.Heard.TheVariants.{More}
 use Rattle.told_ledgers.specs.SoFar.{LedgerSoFar}

@@ -26,7 +26,7 @@ use Rattle.swap_rules.specs.Rest.{is_ticking}
 use Rattle.swap_auditor.specs.declared.replay.BadReply.{BadReply}
 use Rattle.swap_auditor.specs.Audit.{with_entry}
 use Rattle.swap_auditor.proofs.Replays.{entry_kept}
-use Rattle.told_books.specs.Told.{AreUseless}
+use Rattle.told_books.specs.WithoutNoise.{AreUseless}
 use Rattle.told_books.proofs.Filters.{any-append}
 use Rattle.told_books.proofs.Merging.{no_accepted}
 use Rattle.typed_books.specs.Typed.{IsTypedReply, IsTypedSender, IsTypedWhat}
@@ -39,7 +39,7 @@ use Rattle.transcript_book.specs.Stated.{IsTyped}
 use Rattle.transcript_book.proofs.Placed.{entry_is}
 use Rattle.told_ledgers.specs.declared.kind.Kind.{Kind}
 use Rattle.told_ledgers.specs.declared.kind.Kind.TheVariants.{Read, Noise, Publish as PublishLine, Accepted as AcceptedLine}
-use Rattle.told_ledgers.specs.declared.told.OwnUnlock.{OwnUnlock}
+use Rattle.told_ledgers.specs.declared.told_ledger.OwnUnlock.{OwnUnlock}
 use Rattle.told_ledgers.specs.declared.one_ledger.Heard.{Heard}
 use Rattle.told_ledgers.specs.declared.one_ledger.Heard.TheVariants.{More, Bad}
 use Rattle.told_ledgers.specs.SoFar.{LedgerSoFar}

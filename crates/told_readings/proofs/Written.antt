@@ -23,7 +23,7 @@ use Rattle.ledger_core.specs.declared.entry.Entry.{Entry}
 use Rattle.ledger_core.specs.History.{accepted_call, is_sender, made_call}
 use Rattle.swap_rules.specs.Party.{pick_call}
 use Rattle.swap_rules.specs.Rest.{is_ticking}
-use Rattle.told_books.specs.Told.{is_of_contract, is_told}
+use Rattle.told_books.specs.WithoutNoise.{is_of_contract, is_told}
 use Rattle.typed_books.specs.Typed.{IsTypedCall, IsTypedReply, IsTypedSender, IsTypedWhat}
 use Rattle.transcript_lines.specs.declared.said.Said.{Said}
 use Rattle.transcript_lines.specs.declared.said.Misspelling.{Misspelling}

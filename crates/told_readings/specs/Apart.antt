@@ -4,7 +4,7 @@ use Rattle.std.specs.Prelude.{if◌then◌else◌}
 use Rattle.swap_digraph.specs.declared.deal.Deal.{Deal}
 use Rattle.swap_digraph.specs.Deal.{touches, IsWellSized}
 use Rattle.transcript_lines.specs.Between.{separated_parts, spaced}
-use Rattle.told_ledgers.specs.declared.told.ToldLedger.{ToldLedger}
+use Rattle.told_ledgers.specs.declared.told_ledger.ToldLedger.{ToldLedger}
 use Rattle.told_ledgers.specs.declared.one_ledger.Heard.{Heard}
 use Rattle.told_ledgers.specs.declared.one_ledger.Heard.TheVariants.{More, Bad}
 use Rattle.told_ledgers.specs.SoFar.{LedgerSoFar}
@@ -48,8 +48,8 @@ abbrev pub all_lines : List LedgerLines → List (List ℕ)
 all_lines [] = codes "end" ∷ []
 all_lines (b ∷ bs) = heading_line b ∷ (b.lines ++ all_lines bs)
 
--- the arcs ascend, from least on and below so many, and no ledger has too many lines for a number
--- of 32 bits
+-- the arcs ascend from `least` on and are below `arcs`, and no ledger has too many lines for a
+-- number of 32 bits
 abbrev pub AreAscending : (least arcs : ℕ) → List LedgerLines → Type 0
 AreAscending least arcs [] = Unit {0}
 AreAscending least arcs (b ∷ bs) = (least ≤ b.arc) × (b.arc < arcs) × (length b.lines < 2 ^ 32) × AreAscending (b.arc + 1) arcs bs

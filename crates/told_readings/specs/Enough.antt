@@ -18,14 +18,14 @@ use Rattle.ledger_core.specs.Book.{Histories, history}
 use Rattle.swap_rules.specs.Party.{is_arc_correct}
 use Rattle.swap_rules.specs.Due.{has_called}
 use Rattle.swap_rules.specs.Rest.{is_ticking}
-use Rattle.told_books.specs.Told.{is_told, is_useless, IsNeededChain, SayEnough}
+use Rattle.told_books.specs.WithoutNoise.{is_told, is_useless, IsNeededChain, SayEnough}
 use Rattle.told_books.specs.Laws.{KeepsLedgerLimits}
 use Rattle.transcript_lines.specs.Between.{separated_parts}
 use Rattle.transcript_lines.specs.Lines.{IsStatable, entry_line}
 use Rattle.transcript_book.specs.Stated.{IsTyped}
 use Rattle.told_ledgers.specs.declared.kind.Kind.{Kind}
 use Rattle.told_ledgers.specs.declared.kind.Kind.TheVariants.{Noise, Publish as PublishLine, Accepted as AcceptedLine}
-use Rattle.told_ledgers.specs.declared.told.ToldLedger.{ToldLedger}
+use Rattle.told_ledgers.specs.declared.told_ledger.ToldLedger.{ToldLedger}
 use Rattle.told_ledgers.specs.Words.{line_kind}
 use Rattle.told_ledgers.specs.Ledger.{is_correct_publish, untold}
 use Rattle.told_ledgers.specs.Telling.{ledgers_told, told_book}

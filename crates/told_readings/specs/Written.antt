@@ -14,7 +14,7 @@ use Rattle.swap_rules.specs.Machine.{Begins}
 use Rattle.told_lives.specs.ToldLife.{IsHeard}
 use Rattle.transcript_lines.specs.Lines.{entry_line}
 use Rattle.transcript_book.specs.Stated.{IsTyped}
-use Rattle.told_ledgers.specs.declared.told.ToldLedger.{ToldLedger}
+use Rattle.told_ledgers.specs.declared.told_ledger.ToldLedger.{ToldLedger}
 use Rattle.told_ledgers.specs.Telling.{ledgers_told, told_book}
 use Rattle.told_readings.specs.Apart.{all_lines}
 use Rattle.told_readings.specs.Enough.{IsToldBook, SaysEntry, deal_ledger_lines}

@@ -24,7 +24,7 @@ use Rattle.transcript_lines.specs.declared.said.Misspelling.{Misspelling}
 use Rattle.transcript_lines.specs.Lines.{IsStatable, IsStated, entry_line, ledger_lines, lines_from_arc}
 use Rattle.transcript_lines.specs.Reading.{parse_first_field, line_said, misspelt, bounded_number, decimal_number}
 use Rattle.transcript_lines.proofs.Numbers.{below_back, high_number, number_back}
-use Rattle.transcript_lines.proofs.Parts.{high_too, parts_between}
+use Rattle.transcript_lines.proofs.SeparatedParts.{high_too, parts_between}
 use Rattle.transcript_lines.proofs.Spelling.{field_back}
 use Rattle.transcript_lines.proofs.Stories.{entry_says, inside_said}
 use Rattle.transcript_book.specs.Counts.{parse_limited_count, just, ledger_word, words_count}

@@ -49,7 +49,7 @@ all_cons : {A : Type 0} (P : A → Type 0) (x : A) (xs : List A) → P x → All
 all_cons P x xs p h zero d lt = p
 all_cons P x xs p h (suc i) d lt = h i d (omega arith)
 
--- so many digests, each in a field
+-- n digests, each in a field
 record AreLocks (n : ℕ) (ws : List (List ℕ)) (xs : List (List ℕ)) (rest : List (List ℕ)) : Type 0 where
   words : ws ≡ map encode_lower xs ++ rest
   count : length xs ≡ n

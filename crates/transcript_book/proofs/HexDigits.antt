@@ -71,7 +71,7 @@ pairs_are i (a ∷ b ∷ rest) xs h e =
     ∙ ap (λ (r : List ℕ). slice_index lower_digits (p.0 / 16) ∷ slice_index lower_digits (p.0 % 16) ∷ r) (pairs_are (i + 2) rest q.0 second.1 q.1)
     ∙ ap encode_lower (ok_is (p.0 ∷ q.0) xs q.2)
 
--- so many bytes
+-- n bytes
 pub digits_are : (n : ℕ) (w xs : List ℕ) → list_all is_lower_digit w ≡ true → decode_sized w n ≡ Ok xs → (w ≡ encode_lower xs) × (length xs ≡ n) × IsBytes xs
 digits_are n w xs h e =
     let long : length w ≡ 2 * n = decode_sized-ok w n xs e in

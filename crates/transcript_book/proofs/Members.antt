@@ -12,7 +12,7 @@ pub starts : {A : Type 0} (read : Result (List A) Misspelling) → with_front []
 starts (Ok xs) = refl
 starts (Err e) = refl
 
--- ---- digests, so many
+-- ---- a number of digests
 
 abbrev pub with_locks : List (List ℕ) → Result (List (List ℕ) × List (List ℕ)) Misspelling → Result (List (List ℕ) × List (List ℕ)) Misspelling
 with_locks front read = read >>= λ r. Ok (front ++ r.0, r.1)

@@ -18,7 +18,7 @@ use Rattle.typed_books.specs.Typed.{IsTypedReply, IsTypedSender, IsTypedWhat}
 use Rattle.transcript_lines.specs.Words.{call_words, entry_words, reply_words}
 use Rattle.transcript_lines.specs.Lines.{IsStatable, entry_line, lines_from_arc}
 use Rattle.transcript_lines.proofs.Numbers.{high_number}
-use Rattle.transcript_lines.proofs.Parts.{IsHigh, all_append, high_between, high_too}
+use Rattle.transcript_lines.proofs.SeparatedParts.{IsHigh, all_append, high_between, high_too}
 use Rattle.transcript_lines.proofs.Spelling.{high_call, high_reply}
 use Rattle.transcript_book.proofs.Sound.{AreFrom}
 

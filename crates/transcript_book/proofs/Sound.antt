@@ -61,7 +61,8 @@ at_ledger job b = record { job = job; book = b; entries = []; more = 0; place = 
 abbrev pub in_ledger : Job → Histories → List Entry → ℕ → BookSoFar
 in_ledger job b h more = record { job = job; book = b; entries = h; more = more; place = Entries }
 
--- so many entries are to come of the next ledger; none where it wasn't begun
+-- where a text stands, with the number of entries that are to come of the next ledger; none where
+-- it wasn't begun
 abbrev at_place : Job → Histories → List Entry → ℕ → BookSoFar
 at_place job b h zero = at_ledger job b
 at_place job b h (suc more) = in_ledger job b h (suc more)
@@ -74,7 +75,7 @@ record FromLedger (job : Job) (b : Histories) (ls : List (List ℕ)) (t : BookSo
   stated : AreFrom job.deal (length b) rest
   count : length b + length rest ≡ length job.deal.graph.arcs
 
--- The entries that the lines are of, so many after those of h, and then ledgers.
+-- The lines tell `more` entries after those of h, and then further ledgers.
 record FromEntries (job : Job) (b : Histories) (h : List Entry) (more : ℕ) (ls : List (List ℕ)) (t : BookSoFar) : Type 0 where
   entries : List Entry
   rest : Histories

@@ -35,7 +35,7 @@ with_whole false s = s
 abbrev pub with_ledger_if_whole : BookSoFar → BookSoFar
 with_ledger_if_whole s = with_whole (s.more == 0) s
 
--- the next ledger, with so many entries
+-- the next ledger, with a number of entries
 abbrev pub with_next_ledger : BookSoFar → ℕ → BookSoFar
 with_next_ledger s count = with_ledger_if_whole (record { job = s.job; book = s.book; entries = []; more = count; place = Entries })
 

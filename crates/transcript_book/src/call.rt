@@ -8,7 +8,7 @@ use crate::field::{
     byte_field, digest_field, number_field, path_field, signatures_field, small_field, word,
 };
 use crate::number::{WordFault, misspelt};
-use crate::parts::Parts;
+use crate::text_parts::Parts;
 use escrow_core::{LockList, Terms};
 use hashkey_path::Hashkey;
 use ledger_core::Call;
@@ -104,7 +104,7 @@ fn parse_named_call(
     }
 }
 
-/// The call that the next fields say of a deal with so many locks.
+/// The call that the next fields say, in a deal with this number of locks.
 #[tactic(auto, unfolding(transcript_lines::specs::Reading::parse_call))]
 pub(crate) fn parse_call(
     alloc: Global,

@@ -7,7 +7,7 @@ ghost use Rattle.transcript_book.specs.Taking.{Takes};
 
 use crate::field::{nothing_more, word};
 use crate::number::{WordFault, decimal_number, misspelt, read_bounded};
-use crate::parts::Parts;
+use crate::text_parts::Parts;
 use swap_base::ArcId;
 
 fn ledger_word(word: &[u8]) -> Result<(), WordFault>

@@ -7,8 +7,8 @@ ghost use Rattle.transcript_lines.specs.Reading.{call_said, line_said, parse_sai
 use crate::call::parse_call;
 use crate::field::{byte_field, nothing_more, sign_field, small_field, word};
 use crate::number::{WordFault, misspelt};
-use crate::parts::Parts;
 use crate::reply::make_reply;
+use crate::text_parts::Parts;
 use escrow_core::Reply;
 use ledger_core::{Sender, What};
 use std::alloc::Global;
@@ -70,7 +70,7 @@ fn words_said(alloc: Global, locks: usize, fields: &mut Parts<'_>) -> Result<Sai
     parse_said(alloc, locks, first, fields)
 }
 
-/// What a line says of a deal with so many locks, or that no writer writes it.
+/// What a line says in a deal with this number of locks, or that no writer writes it.
 #[tactic(auto, unfolding(transcript_lines::specs::Reading::line_said))]
 pub fn read_entry(alloc: Global, locks: usize, line: &[u8]) -> Result<Said, WordFault>
     requires { locks ≤ 8 }

@@ -8,7 +8,7 @@ ghost use Rattle.transcript_book.specs.Taking.{Takes};
 use crate::digits::lower_hex_digest;
 use crate::lists::{make_path, parse_signatures};
 use crate::number::{WordFault, decimal_number, misspelt, parse_byte, parse_small, read_bounded};
-use crate::parts::Parts;
+use crate::text_parts::Parts;
 use hashkey_path::SigList;
 use std::alloc::Global;
 use swap_base::Digest;

@@ -13,15 +13,15 @@ mod count;
 mod digits;
 mod entry;
 mod field;
-mod known;
 mod laws;
 mod lists;
 mod number;
-mod parts;
 mod place;
+mod read_hashkeys;
 mod reader;
 mod reply;
 mod stated;
+mod text_parts;
 
 pub use call::parse_unlock_fields;
 pub use count::ledger_field;
@@ -30,10 +30,10 @@ pub use field::{
     bounded_field, byte_field, digest_field, nothing_more, number_field, path_field,
     signatures_field, small_field, word,
 };
-pub use known::{Known, none_known, with_known};
 pub use laws::{legal_is_stated, one_spelling, read_is_whole, whole_is_read};
 pub use number::{WordFault, decimal_number, misspelt, read_bounded};
-pub use parts::Parts;
 pub use place::Place;
+pub use read_hashkeys::{Known, none_known, with_known};
 pub use reader::BookReader;
 pub use stated::parse_entry;
+pub use text_parts::Parts;

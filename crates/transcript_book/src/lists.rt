@@ -5,7 +5,7 @@ ghost use Rattle.transcript_lines.specs.Reading.{parse_each_word, listed_field, 
 
 use crate::digits::parse_signature;
 use crate::number::{WordFault, parse_byte};
-use crate::parts::Parts;
+use crate::text_parts::Parts;
 use hash_signature::SIGNATURE_BYTES;
 use hashkey_path::SigList;
 use std::alloc::Global;
@@ -32,7 +32,7 @@ pub(crate) fn make_path(alloc: Global, word: &[u8]) -> Result<PathList, WordFaul
     each_party(alloc, &mut Parts::new(b',', word))
 }
 
-/// It takes memory for so many at once, as each is 2 KB.
+/// It takes memory for `count` signatures at once, as each has 2 KB.
 fn each_signature(alloc: Global, count: usize, parts: &mut Parts<'_>) -> Result<SigList, WordFault>
     ensures { Gives (λ l. l) result (parse_each_word parse_signature parts.old) }
 {

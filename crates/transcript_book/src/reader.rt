@@ -6,9 +6,9 @@ ghost use Rattle.transcript_book.specs.declared.place.Place.TheVariants.{Ledger,
 ghost use Rattle.transcript_book.specs.Stages.{Reads, entry_read, is_finished, ledger_read, line_read, no_ledgers, with_ledger_if_whole};
 
 use crate::count::read_count;
-use crate::known::{Known, none_known, with_known};
 use crate::number::{WordFault, misspelt};
 use crate::place::Place;
+use crate::read_hashkeys::{Known, none_known, with_known};
 use crate::stated::parse_entry;
 use ledger_core::{Book, EntryList};
 use std::alloc::Global;

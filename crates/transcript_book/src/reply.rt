@@ -5,7 +5,7 @@ ghost use Rattle.transcript_lines.specs.Reading.{numbered_reply, plain_reply, ma
 
 use crate::field::{nothing_more, word};
 use crate::number::{WordFault, decimal_number, misspelt, parse_byte};
-use crate::parts::Parts;
+use crate::text_parts::Parts;
 use escrow_core::Reply;
 
 fn plain_reply(word: &[u8]) -> Result<Reply, WordFault>

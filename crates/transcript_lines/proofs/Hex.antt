@@ -16,7 +16,7 @@ use Rattle.transcript_lines.specs.declared.said.Misspelling.{Misspelling}
 use Rattle.transcript_lines.specs.Reading.{misspelt, is_lower_digit, decoded_word, lower_hex_bytes, lower_hex_digest, parse_signature}
 use Rattle.typed_books.specs.Typed.{IsDigest, IsSignature}
 use Rattle.transcript_lines.specs.Words.{signature_word}
-use Rattle.transcript_lines.proofs.Parts.{IsHigh}
+use Rattle.transcript_lines.proofs.SeparatedParts.{IsHigh}
 
 -- the first n digits are lower ones
 abbrev are_lower : ℕ → Bool

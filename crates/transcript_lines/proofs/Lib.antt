@@ -1,4 +1,4 @@
-pub mod Parts
+pub mod SeparatedParts
 pub mod Numbers
 pub mod Hex
 pub mod Spelling

@@ -7,7 +7,7 @@ use Rattle.swap_base.specs.Fault.{◌>>=◌}
 use Rattle.swap_base.proofs.Lists.{and_both}
 use Rattle.transcript_lines.specs.declared.said.Misspelling.{Misspelling}
 use Rattle.transcript_lines.specs.Reading.{misspelt, continue_reading, decimal_number, bounded_number}
-use Rattle.transcript_lines.proofs.Parts.{IsHigh, high_append}
+use Rattle.transcript_lines.proofs.SeparatedParts.{IsHigh, high_append}
 
 -- one more digit
 one_digit : (m d : ℕ) → d < 10 → m * 10 + d < 2 ^ 64 → continue_reading m ((48 + d) ∷ []) ≡ Ok (m * 10 + d)

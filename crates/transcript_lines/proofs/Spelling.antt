@@ -30,7 +30,7 @@ use Rattle.typed_books.specs.Typed.{IsDigest, IsSignature, IsTerms, IsHashkey, I
 use Rattle.transcript_lines.specs.Words.{list_word, signature_word, terms_words, key_words, call_words, reply_words, entry_words}
 use Rattle.transcript_lines.specs.Reading.{decimal_number, bounded_number, lower_hex_digest, parse_signature, parse_each_word, listed_field, parse_first_field, parse_locks, parse_publish_fields}
 use Rattle.transcript_lines.specs.Reading.{parse_unlock_fields, read_units, parse_call, make_reply, equals, call_said, tick_said, words_said, line_said}
-use Rattle.transcript_lines.proofs.Parts.{IsHigh, high_too, parts_between, high_between, all_append}
+use Rattle.transcript_lines.proofs.SeparatedParts.{IsHigh, high_too, parts_between, high_between, all_append}
 use Rattle.transcript_lines.proofs.Numbers.{number_back, below_back, high_number}
 use Rattle.transcript_lines.proofs.Hex.{digest_back, signature_back, high_hex, high_signature, some_signature}
 

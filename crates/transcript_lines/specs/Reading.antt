@@ -49,7 +49,7 @@ abbrev pub decoded_word : Result (List ℕ) FromHexError → Result (List ℕ) M
 decoded_word (Ok bytes) = Ok bytes
 decoded_word (Err e) = misspelt
 
--- so many bytes, in hexadecimal digits of lower case
+-- a number of bytes, in hexadecimal digits of lower case
 abbrev pub lower_hex_bytes : ℕ → List ℕ → Result (List ℕ) Misspelling
 lower_hex_bytes n w = if list_all is_lower_digit w then decoded_word (decode_sized w n) else misspelt
 
@@ -86,7 +86,7 @@ parse_first_field f ws = do
   x ← f first.0
   Ok (x, first.1)
 
--- so many digests, and the fields after them
+-- a number of digests, and the fields after them
 abbrev pub parse_locks : ℕ → List (List ℕ) → Result (List (List ℕ) × List (List ℕ)) Misspelling
 parse_locks zero ws = Ok ([], ws)
 parse_locks (suc n) ws = parse_first_field lower_hex_digest ws >>= λ first. parse_locks n first.1 >>= λ r. Ok (first.0 ∷ r.0, r.1)
@@ -188,7 +188,7 @@ parse_said locks w ws =
     else if is_word w (codes "c") then call_said locks ws
     else misspelt
 
--- what the fields of a line say, of a deal with so many locks
+-- what the fields of a line say, in a deal with this number of locks
 unfoldable pub words_said : ℕ → List (List ℕ) → Result Said Misspelling
 words_said locks ws = do
   first ← first_field ws

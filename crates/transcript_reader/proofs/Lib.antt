@@ -1,4 +1,4 @@
 pub mod Whole
 pub mod Back
 pub mod Steps
-pub mod Told
+pub mod LastLine

@@ -97,7 +97,7 @@ fn cut_or_long(bytes: u64) -> TranscriptReason
 }
 
 /// Why ledgers that were read are no whole transcript, if they aren't.
-#[tactic(auto, using(crate::proofs::Told::with_more, crate::proofs::Told::too_long, crate::proofs::Told::without_more, crate::proofs::Told::not_over))]
+#[tactic(auto, using(crate::proofs::LastLine::with_more, crate::proofs::LastLine::too_long, crate::proofs::LastLine::without_more, crate::proofs::LastLine::not_over))]
 fn wrong_at_end(
     reader: &BookReader,
     lines: u32,

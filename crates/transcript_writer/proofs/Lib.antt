@@ -1,4 +1,4 @@
 pub mod Fields
-pub mod Parts
+pub mod TextSections
 pub mod Sequence
 pub mod Ticks

@@ -16,7 +16,7 @@ use Rattle.atomic_table.proofs.Lists.{at_set, set_again, set_here, set_else, at_
 use Rattle.atomic_table.specs.Seated.{TableId}
 use Rattle.atomic_table.specs.declared.shared.Seat.{Seat}
 use Rattle.turn_lock.specs.declared.view.View.{View}
-use Rattle.turn_lock.specs.Parts.{author_entries, IsContinuedByAuthor, HaveAuthorsBelow, IsOnceEach, Part, has_number, first_part_history, Covers}
+use Rattle.turn_lock.specs.SeatHistory.{author_entries, IsContinuedByAuthor, HaveAuthorsBelow, IsOnceEach, Part, has_number, first_part_history, Covers}
 use Rattle.turn_lock.specs.Turns.{Phase, early, home, out, mark, turn_word, phase_slot, fresh, spent, resting, turning, joined_opening, joined_view, IsOwn, Knows, Stands, IsKept, Sat}
 use Rattle.turn_lock.specs.Turns.{idle, Claims, ClaimsFirst, Takes, Asks, Gives, AreNumberedSeats}
 use Rattle.turn_lock.proofs.Histories.{prefix_self, prefix_trans, all_map, all_append, others_stay, none_above}

@@ -1,3 +1,3 @@
-pub mod Parts
+pub mod SeatHistory
 pub mod Turns
 pub mod Value

@@ -10,7 +10,7 @@ use Rattle.atomic_table.specs.Table.{State, Me, Step}
 use Rattle.atomic_table.specs.Seated.{TableId}
 use Rattle.atomic_table.specs.declared.shared.Seat.{Seat}
 use Rattle.turn_lock.specs.declared.view.View.{View}
-use Rattle.turn_lock.specs.Parts.{author_entries, first_part_number, first_part_history, Part, IsOnceEach, Covers}
+use Rattle.turn_lock.specs.SeatHistory.{author_entries, first_part_number, first_part_history, Part, IsOnceEach, Covers}
 
 -- where the value is: the lock is being made, or the value is at home, or out with the seat at that
 -- place

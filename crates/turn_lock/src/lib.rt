@@ -5,8 +5,8 @@
 //! history, and at the end each number's entries are exactly those that its seat made. Only `new`
 //! and `take` may wait, and promise what they promise if they return.
 //!
-//! Read `specs/Parts.antt` first: the entries of an author, and what a history says to a seat.
-//! `specs/Turns.antt` has the rule that holds between any two steps.
+//! Read `specs/SeatHistory.antt` first: the entries of an author, and what a history says to a
+//! seat. `specs/Turns.antt` has the rule that holds between any two steps.
 #![tactic(auto)]
 
 mod journal;

@@ -2,7 +2,7 @@
 
 ghost use Rattle.std.specs.Prelude.{◌≡◌, ℕ, ◌+◌, ◌<◌, ◌≤◌, [], ◌∷◌, ◌++◌, length, vec_len, vec_capacity, false, IfOk, IfErr, IsTrue};
 ghost use Rattle.std.specs.List.{AllByRecursion};
-ghost use Rattle.turn_lock.specs.Parts.{HaveAuthorsBelow, IsContinuedByAuthor, has_number, Covers};
+ghost use Rattle.turn_lock.specs.SeatHistory.{HaveAuthorsBelow, IsContinuedByAuthor, has_number, Covers};
 ghost use Rattle.turn_lock.specs.Turns.{idle, busy, joined_view, key_opening, seat_number, known_key, IsIdle, IsBusy, IsResting, AreNumberedSeats};
 
 use crate::journal::Journal;

@@ -1,7 +1,7 @@
 //! How a lock gets its seats: each is split from the maker's, and claims its number.
 
 ghost use Rattle.std.specs.Prelude.{◌≡◌, ◌+◌, ◌*◌, ◌%◌, ◌<◌, [], IfSome};
-ghost use Rattle.turn_lock.specs.Parts.{HaveAuthorsBelow, IsContinuedByAuthor};
+ghost use Rattle.turn_lock.specs.SeatHistory.{HaveAuthorsBelow, IsContinuedByAuthor};
 ghost use Rattle.turn_lock.specs.Turns.{fresh, idle, busy, mark, key_opening, seat_number, known_key, IsBusy};
 
 use crate::journal::Journal;

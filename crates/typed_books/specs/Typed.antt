@@ -1,5 +1,5 @@
--- What every value of the program's own types meets: numbers of so many bits, and digests of 32
--- bytes.
+-- What every value of the program's own types meets: numbers are below the bound of their type, and
+-- digests have 32 bytes.
 use Rattle.std.specs.Prelude.{◌≡◌, ℕ, ◌<◌, ◌^◌, List, length, All}
 use Rattle.hex.specs.Hex.{IsBytes}
 use Rattle.hash_signature.specs.declared.sig.Sig.{Sig}

@@ -1,5 +1,5 @@
-//! What the program's own types say of a book: its numbers have so many bits, its digests 32 bytes
-//! and its signatures 67 digests, whoever made the call.
+//! What the program's own types say of a book, whoever made its calls: its numbers are below the
+//! bounds of their types, its digests have 32 bytes and its signatures 67 digests.
 //!
 //! A type's bounds are known of a value once it is read, so a book is read from end to end; nothing
 //! is changed or answered.

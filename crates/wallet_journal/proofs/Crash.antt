@@ -10,7 +10,7 @@ use Rattle.wallet_journal.specs.Layout.{byte, is_made, is_gate_open, journal_dea
 use Rattle.wallet_journal.specs.Layout.{are_bounded, is_bad, is_damaged, HasWholeParts}
 use Rattle.wallet_journal.specs.Journal.{MayHaveRecorded, KeepsRecorded, Gains}
 use Rattle.wallet_journal.specs.Opening.{is_damaged_contents}
-use Rattle.wallet_journal.specs.Own.{IsOwn, FitsDeal, IsInRecord}
+use Rattle.wallet_journal.specs.OwnDisks.{IsOwn, FitsDeal, IsInRecord}
 use Rattle.swap_digraph.specs.declared.deal.Deal.{Deal}
 use Rattle.swap_digraph.specs.Deal.{path_limit}
 use Rattle.wallet_journal.proofs.Bytes.{slice_before, slice_after, byte_before, byte_after, drop_written, written_torn}

@@ -9,7 +9,7 @@ use Rattle.wallet_journal.specs.Device.{Write, IsStill, slice}
 use Rattle.wallet_journal.specs.Layout.{is_made, journal_deal_id, journal_party, recorded}
 use Rattle.wallet_journal.specs.Journal.{KeepsRecorded, IsKeptJournal, IsUnused, listed_hashkey}
 use Rattle.wallet_journal.specs.Opening.{is_damaged_contents, IsLeastDamaged, IsPartyJournal, IsFit, IsUnfit, IsOpenFault, IsOpened}
-use Rattle.wallet_journal.specs.Own.{IsOwn, IsInOpening}
+use Rattle.wallet_journal.specs.OwnDisks.{IsOwn, IsInOpening}
 use Rattle.wallet_journal.specs.declared.fault.Unopened.{Unopened}
 use Rattle.wallet_journal.specs.declared.fault.Unopened.TheVariants.{DiskFault, Foreign, Damaged, NoMemory}
 use Rattle.wallet_journal.proofs.Bytes.{front}

@@ -9,7 +9,7 @@ use Rattle.wallet_journal.specs.Layout.{is_made, is_gate_open, is_bad, body, bod
 use Rattle.swap_digraph.specs.Deal.{path_limit}
 use Rattle.wallet_journal.specs.Journal.{listed_hashkey}
 use Rattle.wallet_journal.specs.Held.{disk_size, no_bytes}
-use Rattle.wallet_journal.specs.Own.{IsOwn}
+use Rattle.wallet_journal.specs.OwnDisks.{IsOwn}
 
 all_zero : (n i : ℕ) → ◌≡◌ {A = ℕ} (get_or (replicate n 0) i 0) 0
 all_zero zero i = refl

@@ -4,7 +4,7 @@ use Rattle.swap_digraph.specs.declared.deal.Deal.{Deal}
 use Rattle.hashkey_path.specs.declared.hashkey.Hashkey.{Hashkey}
 use Rattle.wallet_journal.specs.Device.{Write, LeavesOnly}
 use Rattle.wallet_journal.specs.Journal.{JournalState, IsKeptJournal, MayHaveRecorded, IsMadePartyJournal, KeepsRecorded, listed_hashkey}
-use Rattle.wallet_journal.specs.Own.{IsInRecord, IsOwn, FitsDeal}
+use Rattle.wallet_journal.specs.OwnDisks.{IsInRecord, IsOwn, FitsDeal}
 use Rattle.wallet_journal.proofs.Moments.{weaker}
 use Rattle.wallet_journal.specs.Layout.{journal_deal_id, is_made, journal_party, recorded}
 use Rattle.wallet_journal.proofs.Crash.{keeps, recorded_lock}

@@ -2,7 +2,7 @@
 use Rattle.std.proofs.Common.{◌≡◌, ℕ, List, inl, refl, sym, ◌∙◌, subst}
 use Rattle.hashkey_path.specs.declared.hashkey.Hashkey.{Hashkey}
 use Rattle.wallet_journal.specs.Device.{Write, IsStill, IsUntouched, Elapses, LeavesOnly, AddsNone}
-use Rattle.wallet_journal.specs.Own.{IsInRecord}
+use Rattle.wallet_journal.specs.OwnDisks.{IsInRecord}
 use Rattle.wallet_journal.proofs.Moments.{started, goes_on}
 
 -- a still disk that is still again and reads as before

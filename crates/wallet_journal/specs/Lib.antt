@@ -2,7 +2,7 @@ pub mod Device
 pub mod Layout
 pub mod Journal
 pub mod Opening
-pub mod Own
+pub mod OwnDisks
 pub mod Recording
 pub mod Held
 pub mod Memory

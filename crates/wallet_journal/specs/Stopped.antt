@@ -8,7 +8,7 @@ use Rattle.wallet_journal.specs.Layout.{recorded}
 use Rattle.wallet_journal.specs.Journal.{listed_hashkey}
 use Rattle.wallet_journal.specs.Held.{Held, no_bytes, after_writes, Leaves, IsOnDisk}
 use Rattle.wallet_journal.specs.Memory.{DiskState, crash_writes}
-use Rattle.wallet_journal.specs.Own.{IsOwn}
+use Rattle.wallet_journal.specs.OwnDisks.{IsOwn}
 
 -- what a crash leaves of these writes, which may not be synced
 abbrev pub bytes_left : (image : ℕ) → (synced loose : List Write) → List ℕ

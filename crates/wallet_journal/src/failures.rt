@@ -5,7 +5,8 @@ ghost use Rattle.std.specs.List.{list_any};
 ghost use Rattle.swap_io.specs.Causes.{next_count};
 ghost use Rattle.wallet_journal.specs.Memory.{passes_no_call};
 
-/// The calls that are to fail: by their numbers, from 0, and every one after so many more.
+/// The calls that are to fail: those with the numbers in `failing`, counted from 0, and every call
+/// after `left` further ones.
 #[derive(Debug, Drop)]
 pub(crate) struct Failures {
     pub failing: Vec<u64>,

@@ -7,7 +7,7 @@ ghost use Rattle.wallet_journal.specs.Device.{LeavesOnly, IsUntouched};
 ghost use Rattle.wallet_journal.specs.Layout.{recorded};
 ghost use Rattle.wallet_journal.specs.Journal.{MayHaveRecorded, IsKeptJournal, IsMadePartyJournal, KeepsRecorded, listed_hashkey};
 ghost use Rattle.wallet_journal.specs.Opening.{IsOpenFault, IsOpened};
-ghost use Rattle.wallet_journal.specs.Own.{IsInRecord, IsOwn, IsOwnFault, FitsDeal};
+ghost use Rattle.wallet_journal.specs.OwnDisks.{IsInRecord, IsOwn, IsOwnFault, FitsDeal};
 ghost use Rattle.wallet_journal.specs.Recording.{IsRecordFault, IsRefusedRecord, IsStoppedRecord, IsWritten};
 ghost use Rattle.swap_digraph.specs.declared.deal.Deal.{Deal as AnyDeal};
 ghost use Rattle.hashkey_path.specs.declared.hashkey.Hashkey.{Hashkey as AnyKey};

@@ -12,14 +12,14 @@ use crate::disk::Disk;
 use crate::failures::Failures;
 use std::alloc::Global;
 use std::marker::Model;
-use swap_base::{NoMemory, Past};
+use swap_base::{GhostList, NoMemory};
 use swap_io::Failed;
 
 /// A disk in memory.
 #[derive(Drop)]
 pub struct MemoryDisk {
     contents: Contents,
-    past: Past<Contents>,
+    past: GhostList<Contents>,
     failures: Failures,
 }
 
@@ -56,7 +56,7 @@ impl MemoryDisk {
     {
         MemoryDisk {
             contents: Contents::new(alloc),
-            past: Past::new(),
+            past: GhostList::new(),
             failures: Failures {
                 failing,
                 calls: 0,
@@ -102,7 +102,7 @@ impl MemoryDisk {
         let alloc = *self.failures.failing.allocator();
         MemoryDisk {
             contents: self.contents.crash(image),
-            past: Past::new(),
+            past: GhostList::new(),
             failures: Failures {
                 failing: Vec::new(alloc),
                 calls: 0,

@@ -8,7 +8,7 @@ ghost use Rattle.wallet_journal.specs.Device.{AddsNone, IsStill, IsUntouched, Le
 ghost use Rattle.wallet_journal.specs.Layout.{is_made, recorded};
 ghost use Rattle.wallet_journal.specs.Journal.{IsUnused, IsKeptJournal};
 ghost use Rattle.wallet_journal.specs.Opening.{IsReadFault, IsLeastDamaged, IsPartyJournal, IsOpenFault, IsOpened, is_damaged_contents};
-ghost use Rattle.wallet_journal.specs.Own.{IsInOpening};
+ghost use Rattle.wallet_journal.specs.OwnDisks.{IsInOpening};
 ghost use Rattle.wallet_journal.specs.declared.fault.Unopened.TheVariants.{DiskFault as Failing};
 
 use crate::disk::{DISK_BYTES, Disk};

@@ -14,7 +14,7 @@ use swap_base::{Listed, LockId, Shared};
 /// For each lock the hashkey that is recorded, if any.
 pub type SignedKeys = Listed<Option<Shared<Hashkey>>>;
 
-/// Whether the vertices are of so many parties.
+/// Whether each vertex is below the number of parties.
 fn are_bounded(path: &[u8], parties: u8) -> bool
     ensures { result ≡ are_bounded parties path.now }
 {

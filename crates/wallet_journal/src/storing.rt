@@ -5,7 +5,7 @@ ghost use Rattle.swap_io.specs.Causes.{HasCause};
 ghost use Rattle.wallet_journal.specs.Device.{LeavesOnly, IsStill, IsUntouched};
 ghost use Rattle.wallet_journal.specs.Layout.{HasWholeParts, encoded_body, is_made, recorded};
 ghost use Rattle.wallet_journal.specs.Journal.{Gains};
-ghost use Rattle.wallet_journal.specs.Own.{IsInRecord};
+ghost use Rattle.wallet_journal.specs.OwnDisks.{IsInRecord};
 ghost use Rattle.wallet_journal.specs.Recording.{IsRecordFault, IsStoppedRecording, IsStoppedRecord, IsWritten};
 ghost use Rattle.wallet_journal.specs.Stopped.{bytes_left, kept_key, IsOfWrites};
 ghost use Rattle.wallet_journal.specs.declared.fault.RecordFault.TheVariants.{DiskFault as Failing, NoMemory as Wanting};

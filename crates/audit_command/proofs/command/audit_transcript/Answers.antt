@@ -5,7 +5,7 @@ use Rattle.command_input.proofs.Streams.{calm_unread}
 use Rattle.audit_command.specs.Reading.{IsStoryRefusal}
 use Rattle.transcript_reader.specs.Reading.{job_story}
 use Rattle.audit_command.proofs.Ends.{all_consumed}
-use Rattle.audit_command.proofs.Told.{is_formed, says_refused, says_unread, says_written}
+use Rattle.audit_command.proofs.AuditEnds.{is_formed, says_refused, says_unread, says_written}
 use Rattle.audit_command.proofs.command.audit_transcript.Goals as goal
 
 pub returns-in-Err-clause-says : goal.returns-in-Err-clause-says
@@ -17,7 +17,7 @@ judge-requires-clause-formed g c = is_formed _ _ _ _ c.read_story.new.input (job
 pub returns-in-Ok-judge-clause-says : goal.returns-in-Ok-judge-clause-says
 returns-in-Ok-judge-clause-says g c =
     says_written _ _ _ _ c.read_story.new.input (job_story c.in-Ok.story) c.in-Ok.ensures.read _ _ _ _ c.in-Ok-judge.report c.in-Ok.ensures.told c.in-Ok-judge.ensures.exact
-    c.in-Ok-judge.ensures.sound c.tell.result c.tell.ensures
+    c.in-Ok-judge.ensures.sound c.write_audit_report.result c.write_audit_report.ensures
 
 pub returns-in-Err-Refused-clause-says : goal.returns-in-Err-Refused-clause-says
 returns-in-Err-Refused-clause-says g c =

@@ -1,6 +1,6 @@
 use Rattle.std.proofs.Common.{◌≡◌, ◌-◌, ◌<◌, true, List, length, sym, subst, ◌∙◌}
 use Rattle.hash_signature.specs.declared.sig.Sig.{Sig}
-use Rattle.hashkey_path.specs.Known.{is_last_signed}
+use Rattle.hashkey_path.specs.LastSignatures.{is_last_signed}
 use Rattle.history_index.specs.Indexes.{all_entries}
 use Rattle.conduct_check.proofs.Valid.{known_opened, known_seen}
 use Rattle.conduct_check.proofs.validity.known_signatures.Goals as goal

@@ -1,6 +1,6 @@
 use Rattle.std.proofs.Common.{◌∙◌, ap}
 use Rattle.ledger_core.specs.History.{height}
-use Rattle.due_calls.proofs.Known.{history_at}
+use Rattle.due_calls.proofs.ArcMembers.{history_at}
 use Rattle.due_calls.proofs.heights.arc_height.Goals as goal
 
 pub returns-in-Some : goal.returns-in-Some

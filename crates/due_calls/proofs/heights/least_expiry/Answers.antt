@@ -2,7 +2,7 @@ use Rattle.std.proofs.Common.{◌≡◌, ◌∙◌, ℕ, not, Option, Some, map,
 use Rattle.std.specs.Prelude.{IfSome}
 use Rattle.ledger_core.specs.Book.{history}
 use Rattle.ledger_core.specs.History.{is_open}
-use Rattle.escrow_core.specs.Parts.{lesser}
+use Rattle.escrow_core.specs.ContractRows.{lesser}
 use Rattle.escrow_core.proofs.Least.{least_on, least_off, lesser_below}
 use Rattle.swap_rules.specs.Party.{expiry}
 use Rattle.due_calls.proofs.heights.least_expiry.Goals as goal

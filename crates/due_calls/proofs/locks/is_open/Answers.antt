@@ -1,6 +1,6 @@
 use Rattle.std.proofs.Common.{◌∙◌, ap, is_some}
 use Rattle.ledger_core.specs.History.{is_open}
-use Rattle.due_calls.proofs.Known.{history_at}
+use Rattle.due_calls.proofs.ArcMembers.{history_at}
 use Rattle.due_calls.proofs.Openings.{has_lock, open_number}
 use Rattle.due_calls.proofs.locks.is_open.Goals as goal
 

@@ -1,5 +1,5 @@
 use Rattle.std.proofs.Common.{◌∙◌}
-use Rattle.due_calls.proofs.Known.{published_at}
+use Rattle.due_calls.proofs.ArcMembers.{published_at}
 use Rattle.due_calls.proofs.readings.published.Goals as goal
 
 pub returns-in-Some : goal.returns-in-Some

@@ -1,6 +1,6 @@
 use Rattle.std.proofs.Common.{arith, sym, ◌∙◌}
 use Rattle.std.proofs.lemmas.Bool.{false≢true}
-use Rattle.due_calls.proofs.Known.{one_each}
+use Rattle.due_calls.proofs.ArcMembers.{one_each}
 use Rattle.due_calls.proofs.refund.is_due_refund.Goals as goal
 use Rattle.due_calls.proofs.refund.is_due_refund.Goals.{then-is_held, else-is_held}
 

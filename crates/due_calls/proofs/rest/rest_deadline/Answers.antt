@@ -1,9 +1,9 @@
 use Rattle.std.proofs.Common.{◌≡◌, ◌∙◌, ℕ, map, Some, sym, ap, arith}
-use Rattle.escrow_core.specs.Parts.{lesser}
+use Rattle.escrow_core.specs.ContractRows.{lesser}
 use Rattle.ledger_core.specs.Book.{history}
 use Rattle.swap_rules.specs.Party.{least_expiry}
 use Rattle.swap_rules.specs.Rest.{is_waiting}
-use Rattle.due_calls.proofs.Known.{one_each}
+use Rattle.due_calls.proofs.ArcMembers.{one_each}
 use Rattle.due_calls.proofs.Resting.{counts_on, counts_off}
 use Rattle.due_calls.proofs.rest.rest_deadline.Goals as goal
 use Rattle.due_calls.proofs.rest.rest_deadline.Goals.{then-is_waiting, else-is_waiting}

@@ -1,5 +1,5 @@
 use Rattle.std.proofs.Common.{map, length, sym, ◌∙◌, arith}
-use Rattle.due_calls.specs.Parts.{next_due_unlock}
+use Rattle.due_calls.specs.DueUnlock.{next_due_unlock}
 use Rattle.party_wallet.specs.Value.{signed_hashkey}
 use Rattle.due_calls.proofs.Numbers.{none_more, is_found}
 use Rattle.due_calls.proofs.unlock.first_unlock.Goals as goal

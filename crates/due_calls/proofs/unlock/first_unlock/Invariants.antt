@@ -1,7 +1,7 @@
 use Rattle.std.proofs.Common.{◌≡◌, None, map}
 use Rattle.std.specs.List.{range_with_len}
 use Rattle.swap_base.specs.Lists.{first_given_answer}
-use Rattle.due_calls.specs.Parts.{next_due_unlock}
+use Rattle.due_calls.specs.DueUnlock.{next_due_unlock}
 use Rattle.party_wallet.specs.Value.{signed_hashkey}
 use Rattle.due_calls.proofs.unlock.first_unlock.Given as goal
 

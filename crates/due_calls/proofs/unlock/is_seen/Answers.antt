@@ -3,7 +3,7 @@ use Rattle.std.specs.Option.{option_copied}
 use Rattle.swap_digraph.specs.Graph.{is_listed}
 use Rattle.ledger_core.specs.History.{opened}
 use Rattle.swap_rules.specs.Party.{opens_without_party}
-use Rattle.due_calls.proofs.Known.{history_at}
+use Rattle.due_calls.proofs.ArcMembers.{history_at}
 use Rattle.due_calls.proofs.Openings.{has_lock, opens_by_key, opens_by_none}
 use Rattle.due_calls.proofs.unlock.is_seen.Goals as goal
 

@@ -1,7 +1,7 @@
 use Rattle.std.proofs.Common.{◌≡◌, ◌∙◌, ℕ, not, false, get_or, Option, Some, sym, ap, subst, ◌<◌, ◌^◌}
 use Rattle.std.specs.Prelude.{IfSome}
 use Rattle.escrow_core.specs.Terms.{lock_expiry}
-use Rattle.escrow_core.specs.Parts.{lesser}
+use Rattle.escrow_core.specs.ContractRows.{lesser}
 use Rattle.escrow_core.proofs.Least.{least_on, least_off, lesser_below}
 use Rattle.escrow_core.proofs.times.refund_expiry.Goals as goal
 use Rattle.escrow_core.proofs.times.refund_expiry.Goals.{then-not-opened-lock, else-not-opened-lock}

@@ -1,10 +1,10 @@
 use Rattle.std.proofs.Common.{◌<◌, sym, rules}
-use Rattle.hashkey_path.proofs.Known.{none_wrong, known_on, all_on}
+use Rattle.hashkey_path.proofs.LastSignatures.{none_wrong, known_on, all_on}
 use Rattle.hashkey_path.proofs.suffix.+wrong_signature.Goals as goal
 
-pub returns-then-sigs-known : goal.returns-then-sigs-known
-returns-then-sigs-known t c =
-    sym (none_wrong c.args.known c.args.place c.args.deal.now c.args.lock c.args.secret.now c.args.path.now c.args.sigs.now c.if-sigs-known.true
+pub returns-then-sigs-verified : goal.returns-then-sigs-verified
+returns-then-sigs-verified t c =
+    sym (none_wrong c.args.verified c.args.place c.args.deal.now c.args.lock c.args.secret.now c.args.path.now c.args.sigs.now c.if-sigs-verified.true
     c.requires.known)
 
 pub wrong_signature-requires : goal.wrong_signature-requires
@@ -18,7 +18,7 @@ wrong_signature-requires t c = (
         search rules,
         (
           all_on (λ v. v < c.args.deal.now.graph.n) c.args.path.now c.requires.within,
-          known_on c.args.known c.args.deal.now c.args.lock c.args.secret.now c.args.path.now c.args.sigs.now c.if-sigs-known.false c.requires.known,
+          known_on c.args.verified c.args.deal.now c.args.lock c.args.secret.now c.args.path.now c.args.sigs.now c.if-sigs-verified.false c.requires.known,
         ),
       ),
     ),

@@ -1,7 +1,7 @@
 use Rattle.std.proofs.Common.{◌∙◌, ap, option_copied}
 use Rattle.history_index.specs.Value.{IndexState}
-use Rattle.due_calls.proofs.Known.{history_at}
-use Rattle.late_check.specs.Parts.{greatest_index_use}
+use Rattle.due_calls.proofs.ArcMembers.{history_at}
+use Rattle.late_check.specs.Overdue.{greatest_index_use}
 use Rattle.late_check.proofs.bases.greatest_arc_use.Goals as goal
 
 pub returns-in-Some : goal.returns-in-Some

@@ -4,7 +4,7 @@ use Rattle.swap_digraph.specs.Graph.{leaving}
 use Rattle.ledger_core.specs.Book.{history}
 use Rattle.history_index.specs.Indexes.{all_entries}
 use Rattle.swap_rules.specs.Late.{unlock_base}
-use Rattle.late_check.specs.Parts.{greatest_index_use}
+use Rattle.late_check.specs.Overdue.{greatest_index_use}
 use Rattle.late_check.proofs.Base.{base_with}
 use Rattle.late_check.proofs.bases.unlock_base.Goals as goal
 

@@ -2,8 +2,8 @@ use Rattle.std.proofs.Common.{sym, ◌∙◌, ap}
 use Rattle.std.specs.List.{list_any}
 use Rattle.history_index.specs.Value.{IndexState}
 use Rattle.history_index.specs.declared.made.Made.{Made}
-use Rattle.due_calls.proofs.Known.{history_at}
-use Rattle.late_check.specs.Parts.{counts_entry, has_counted_call}
+use Rattle.due_calls.proofs.ArcMembers.{history_at}
+use Rattle.late_check.specs.Overdue.{counts_entry, has_counted_call}
 use Rattle.late_check.proofs.Made.{done_made}
 use Rattle.late_check.proofs.counting.is_done.Goals as goal
 

@@ -2,7 +2,7 @@ use Rattle.std.proofs.Common.{◌≡◌, ◌++◌}
 use Rattle.std.specs.List.{flat_map, range_with_len}
 use Rattle.history_index.specs.Indexes.{all_entries}
 use Rattle.swap_rules.specs.declared.finding.Rule.TheVariants.{Unlock}
-use Rattle.late_check.specs.Parts.{rule_late_findings}
+use Rattle.late_check.specs.Overdue.{rule_late_findings}
 use Rattle.late_check.proofs.lates.put_late_unlocks.Given as goal
 
 abbrev pub invariant-loop-lock : goal.invariant-loop-lock

@@ -1,7 +1,7 @@
 use Rattle.std.proofs.Common.{◌∙◌, ap}
 use Rattle.ledger_core.specs.History.{opened}
 use Rattle.history_index.specs.Value.{IndexState}
-use Rattle.due_calls.proofs.Known.{history_at}
+use Rattle.due_calls.proofs.ArcMembers.{history_at}
 use Rattle.due_calls.proofs.Openings.{has_lock}
 use Rattle.late_check.proofs.openings.opened.Goals as goal
 

@@ -8,7 +8,7 @@ use Rattle.swap_many.specs.Value.{many_kept}
 use Rattle.report_text.specs.Report.{count_line}
 use Rattle.many_text.specs.ManyText.{kept_chain_text, finding_count, kept_swap_text}
 use Rattle.many_text.proofs.Handing.{of_many}
-use Rattle.report_text.proofs.Parts.{all_three}
+use Rattle.report_text.proofs.LedgerLines.{all_three}
 use Rattle.many_text.proofs.text.hand_many.Goals as goal
 
 pub returns-in_err-count-clause-hands : goal.returns-in_err-count-clause-hands

@@ -1,6 +1,6 @@
 use Rattle.std.proofs.Common.{◌≡◌, ◌++◌}
 use Rattle.std.specs.List.{flat_map, range_with_len}
-use Rattle.outcome_rules.specs.Parts.{arc_unfinished}
+use Rattle.outcome_rules.specs.UnfinishedArcs.{arc_unfinished}
 use Rattle.history_index.specs.Indexes.{all_entries}
 use Rattle.outcome_rules.proofs.listing.put_unfinished.Given as goal
 

@@ -5,7 +5,7 @@ use Rattle.due_calls.specs.Unlocks.{IsSeenBase}
 use Rattle.due_calls.proofs.Openings.{has_lock}
 use Rattle.party_machine.specs.Within.{all_entries}
 use Rattle.party_machine.specs.Unlocking.{IsSignable}
-use Rattle.party_machine.proofs.Known.{one_each, legal_at, released_history}
+use Rattle.party_machine.proofs.MachineEntries.{one_each, legal_at, released_history}
 use Rattle.party_machine.proofs.Onto.{can_put_onto}
 use Rattle.party_machine.proofs.signing.sign_new.Goals as goal
 

@@ -1,4 +1,4 @@
-use Rattle.party_terms.proofs.Near.{entering_below}
+use Rattle.party_terms.proofs.TouchingArcs.{entering_below}
 use Rattle.party_terms.proofs.text.put_entering.Goals as goal
 
 pub put_got-requires-clause-arc : goal.put_got-requires-clause-arc

@@ -1,4 +1,4 @@
-use Rattle.party_terms.proofs.Near.{leaving_below}
+use Rattle.party_terms.proofs.TouchingArcs.{leaving_below}
 use Rattle.party_terms.proofs.text.put_leaving.Goals as goal
 
 pub put_paid-requires-clause-arc : goal.put_paid-requires-clause-arc

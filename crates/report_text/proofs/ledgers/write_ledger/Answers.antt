@@ -8,7 +8,7 @@ use Rattle.ledger_core.specs.History.{accounts, height}
 use Rattle.swap_io.proofs.Handing.{handed_none, handed_on, handed_put, handed_was, hands_after, hands_err, lost_then, lost_was, lost_with, rose_was}
 use Rattle.swap_io.specs.declared.fault.TextFault.TheVariants.{NoMemory}
 use Rattle.report_text.specs.Report.{report_entry_line, ledger_end, ledger_head}
-use Rattle.report_text.proofs.Parts.{all_three, of_ledger, two}
+use Rattle.report_text.proofs.LedgerLines.{all_three, of_ledger, two}
 use Rattle.report_text.proofs.ledgers.write_ledger.Goals as goal
 
 pub returns-in_err-put_head : goal.returns-in_err-put_head

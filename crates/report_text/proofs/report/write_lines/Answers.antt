@@ -5,7 +5,7 @@ use Rattle.swap_io.specs.Handed.{Handed}
 use Rattle.swap_io.proofs.Handing.{handed_none, handed_on, handed_put, handed_was, hands_err, hands_ok, lost_then, lost_was, lost_with, rose_before, rose_was}
 use Rattle.swap_io.specs.declared.fault.TextFault.TheVariants.{NoMemory}
 use Rattle.report_text.specs.Report.{count_line, finding_line, head_lines, ledger_report_text, party_line}
-use Rattle.report_text.proofs.Parts.{all_five, four, of_report, two}
+use Rattle.report_text.proofs.LedgerLines.{all_five, four, of_report, two}
 use Rattle.report_text.proofs.report.write_lines.Goals as goal
 
 pub returns-in_err-put_head : goal.returns-in_err-put_head

@@ -1,7 +1,7 @@
 use Rattle.std.proofs.Common.{◌++◌, sym, ap, ◌∙◌, append-nil}
 use Rattle.history_index.specs.Indexes.{all_entries}
 use Rattle.sent_keys.specs.Sent.{shown}
-use Rattle.sent_keys.proofs.Own.{no_unlocks}
+use Rattle.sent_keys.proofs.OwnArcs.{no_unlocks}
 use Rattle.sent_keys.proofs.keys.put_own_unlocks.Goals as goal
 
 pub returns-else-is_adjacent : goal.returns-else-is_adjacent

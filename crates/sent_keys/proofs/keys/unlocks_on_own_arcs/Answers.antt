@@ -4,7 +4,7 @@ use Rattle.ledger_core.specs.Book.{history}
 use Rattle.history_index.specs.Indexes.{all_entries}
 use Rattle.sent_keys.specs.Sent.{shown, lock_unlocks}
 use Rattle.sent_keys.proofs.Loops.{flat_more}
-use Rattle.sent_keys.proofs.Own.{all_unlocks}
+use Rattle.sent_keys.proofs.OwnArcs.{all_unlocks}
 use Rattle.sent_keys.proofs.keys.unlocks_on_own_arcs.Goals as goal
 
 pub loop-arc-preserved : goal.loop-arc-preserved

@@ -1,5 +1,5 @@
-use Rattle.swap_clear.proofs.Told as told
-use Rattle.swap_clear.proofs.Told.{if_cleared, if_refused}
+use Rattle.swap_clear.proofs.ClearingAnswers as told
+use Rattle.swap_clear.proofs.ClearingAnswers.{if_cleared, if_refused}
 use Rattle.swap_clear.proofs.clearing.clear.Goals as goal
 
 pub returns-clause-left_out : goal.returns-clause-left_out

@@ -1,4 +1,4 @@
-use Rattle.swap_clear.proofs.Told as told
+use Rattle.swap_clear.proofs.ClearingAnswers as told
 use Rattle.swap_clear.proofs.Refusals.{clearing_refused}
 use Rattle.swap_clear.proofs.law.clearings_tell.Goals as goal
 

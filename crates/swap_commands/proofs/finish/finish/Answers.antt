@@ -13,17 +13,17 @@ use Rattle.swap_commands.proofs.finish.finish.Goals as goal
 
 pub finish_fair-requires : goal.finish_fair-requires
 finish_fair-requires g c = record {
-  held = subst (λ rs. AreHeld (g.A.Strategies.holds c.args.staff.now) rs) (sym c.requires.of.roles) c.requires.held;
+  held = subst (λ rs. AreHeld (g.A.Strategies.holds c.args.strategies.now) rs) (sym c.requires.of.roles) c.requires.held;
 }
 
 pub returns-in-Stop-clause-gone : goal.returns-in-Stop-clause-gone
 returns-in-Stop-clause-gone g c =
-    subst (λ f. HasGone (g.A.Strategies.gives c.args.staff.now) (finished_state f) c.args.world.now c.args.world.now) (sym c.in-Stop.is)
-    (stays_finished (g.A.Strategies.gives c.args.staff.now) c.args.world.now)
+    subst (λ f. HasGone (g.A.Strategies.gives c.args.strategies.now) (finished_state f) c.args.world.now c.args.world.now) (sym c.in-Stop.is)
+    (stays_finished (g.A.Strategies.gives c.args.strategies.now) c.args.world.now)
 
 pub returns-in-Fair-clause-gone : goal.returns-in-Fair-clause-gone
 returns-in-Fair-clause-gone g c =
-    on_ok c.finish_fair.result (λ k. subst (λ f. HasGone (g.A.Strategies.gives c.args.staff.now) (finished_state f) c.args.world.now c.finish_fair.new.self)
+    on_ok c.finish_fair.result (λ k. subst (λ f. HasGone (g.A.Strategies.gives c.args.strategies.now) (finished_state f) c.args.world.now c.finish_fair.new.self)
     (sym c.in-Fair.is) k) c.finish_fair.ensures.ok
 
 pub returns-in-Fair-clause-dealt : goal.returns-in-Fair-clause-dealt

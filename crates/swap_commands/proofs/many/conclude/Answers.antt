@@ -6,5 +6,5 @@ use Rattle.swap_commands.proofs.many.conclude.Goals as goal
 
 pub returns-in-Stop : goal.returns-in-Stop
 returns-in-Stop g c =
-    let gives = g.A.Strategies.gives c.args.staff.now in
+    let gives = g.A.Strategies.gives c.args.strategies.now in
     subst (λ f. HasManyGone gives (kept_after_finish f) c.args.world c.args.world) (sym c.in-Stop.is) (begun gives c.args.world)

@@ -9,20 +9,20 @@ use Rattle.swap_commands.proofs.many.many.Goals as goal
 pub returns-in-Err-clause-says : goal.returns-in-Err-clause-says
 returns-in-Err-clause-says g c =
     rw c.unread.ensures
-    (says_stopped (g.A.Strategies.holds c.args.staff.now) (g.A.Strategies.gives c.args.staff.now) Many (g.S.Source.left c.args.source.now)
+    (says_stopped (g.A.Strategies.holds c.args.strategies.now) (g.A.Strategies.gives c.args.strategies.now) Many (g.S.Source.left c.args.source.now)
     (g.S.Source.left c.play.new.source) (g.S.Source.left c.stop.new.source)
     (g.S.Source.faults c.args.source.now) (g.S.Source.faults c.play.new.source) (g.S.Source.faults c.stop.new.source) c.play.new.input
     c.stop.new.self (g.K.Sink.taken c.args.sink.now) (g.K.Sink.faults c.args.sink.now) c.in-Err.fault c.stop.result c.in-Err.ensures.stops c.stop.ensures)
 
-pub tell-requires-clause-shown : goal.tell-requires-clause-shown
-tell-requires-clause-shown g c =
+pub write_played_swaps-requires-clause-shown : goal.write_played_swaps-requires-clause-shown
+write_played_swaps-requires-clause-shown g c =
     let e = c.in-Ok.ensures.played in
     let k = e.told in
     let same = last_same _ _ e.bytes c.in-Ok.played.many c.in-Ok.played.finish c.in-Ok.played.world c.in-Ok-conclude.world k c.in-Ok-conclude.ensures in
     worlds_shown _ c.in-Ok.played.many k.begun.places c.in-Ok.ensures.swaps c.in-Ok.ensures.chains c.in-Ok-conclude.world same
 
-pub tell-requires-clause-chains : goal.tell-requires-clause-chains
-tell-requires-clause-chains g c =
+pub write_played_swaps-requires-clause-chains : goal.write_played_swaps-requires-clause-chains
+write_played_swaps-requires-clause-chains g c =
     let e = c.in-Ok.ensures.played in
     let k = e.told in
     let same = last_same _ _ e.bytes c.in-Ok.played.many c.in-Ok.played.finish c.in-Ok.played.world c.in-Ok-conclude.world k c.in-Ok-conclude.ensures in
@@ -30,20 +30,20 @@ tell-requires-clause-chains g c =
 
 pub returns-in_default-clause-says : goal.returns-in_default-clause-says
 returns-in_default-clause-says g c =
-    let has = g.A.Strategies.holds c.args.staff.now in
+    let has = g.A.Strategies.holds c.args.strategies.now in
     let e = c.in-Ok.ensures.played in
     inl (Keeps-refl (g.K.Sink.taken c.args.sink.now), all_consumed has _ _ _ _ _ c.play.new.input e)
 
 pub returns-clause-says : goal.returns-clause-says
 returns-clause-says g c =
-    says_many _ _ _ _ _ _ _ _ _ _ c.play.new.input c.in-Ok.played.many c.in-Ok.played.finish c.in-Ok.played.world c.in-Ok-conclude.world c.tell.result
-    c.in-Ok.ensures.played c.in-Ok.ensures.swaps c.in-Ok-conclude.ensures c.tell.ensures
+    says_many _ _ _ _ _ _ _ _ _ _ c.play.new.input c.in-Ok.played.many c.in-Ok.played.finish c.in-Ok.played.world c.in-Ok-conclude.world c.write_played_swaps.result
+    c.in-Ok.ensures.played c.in-Ok.ensures.swaps c.in-Ok-conclude.ensures c.write_played_swaps.ensures
 
 -- No read failed, unless the status tells of it.
 
 pub returns-in-Err-clause-calm : goal.returns-in-Err-clause-calm
 returns-in-Err-clause-calm g c = λ unless.
-    calm_stopped (g.A.Strategies.holds c.args.staff.now) Many (g.S.Source.left c.args.source.now) (g.S.Source.left c.play.new.source)
+    calm_stopped (g.A.Strategies.holds c.args.strategies.now) Many (g.S.Source.left c.args.source.now) (g.S.Source.left c.play.new.source)
     (g.S.Source.left c.stop.new.source) (g.S.Source.faults c.args.source.now) (g.S.Source.faults c.play.new.source)
     (g.S.Source.faults c.stop.new.source) c.play.new.input c.stop.new.self c.in-Err.fault c.stop.result c.in-Err.ensures.stops c.stop.ensures
     (λ e. unless (c.unread.ensures ∙ e))

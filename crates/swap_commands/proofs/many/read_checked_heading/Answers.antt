@@ -12,7 +12,7 @@ use Rattle.swap_commands.proofs.many.read_checked_heading.Goals as goal
 
 pub lines-init : goal.lines-init
 lines-init g c =
-    let has = has_strategy c.args.strategies.now in
+    let has = has_strategy c.args.strategy_names.now in
     let left = g.S.Source.left c.args.source.now in
     let n = g.S.Source.faults c.args.source.now in
     let first : c.args.input.now ≡ fresh = c.requires in
@@ -37,7 +37,7 @@ returns-in_err-heading-clause-stops g c =
 
 pub returns-in_err-next-clause-stops : goal.returns-in_err-next-clause-stops
 returns-in_err-next-clause-stops g c =
-    let has = has_strategy c.args.strategies.now in
+    let has = has_strategy c.args.strategy_names.now in
     let now = desk (g.S.Source.left c.next.new.source) (g.S.Source.faults c.next.new.source) c.next.new.self in
     let p = err_from_is_err_and c.from_residual-in_err-next.result c.from_residual-in_err-next.ensures.1 in
     rw (p.1, p.2)
@@ -54,7 +54,7 @@ returns-then-not-branch-clause-stops g c =
 
 pub lines-preserved : goal.lines-preserved
 lines-preserved g c =
-    let has = has_strategy c.args.strategies.now in
+    let has = has_strategy c.args.strategy_names.now in
     let i = c.lines.invariant in
     let not_over : is_some (finish_told c.lines.heading.stage) ≡ false =
     ap is_some (sym c.finish.ensures) ∙ (c.is_none.ensures ∙ ap not c.lines-test.true) in
@@ -75,7 +75,7 @@ lines-smaller g c =
 
 pub returns-in_err-push-clause-stops : goal.returns-in_err-push-clause-stops
 returns-in_err-push-clause-stops g c =
-    let has = has_strategy c.args.strategies.now in
+    let has = has_strategy c.args.strategy_names.now in
     let i = c.lines.invariant in
     let now = desk (g.S.Source.left c.next.new.source) (g.S.Source.faults c.next.new.source) c.next.new.self in
     let not_over : is_some (finish_told c.lines.heading.stage) ≡ false =

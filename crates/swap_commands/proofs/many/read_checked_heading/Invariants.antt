@@ -9,9 +9,9 @@ use Rattle.swap_commands.proofs.many.read_checked_heading.Given as goal
 
 abbrev pub invariant-lines : goal.invariant-lines
 invariant-lines g l = record {
-  led : (count : ℕ) × Led (heading_walk (has_strategy l.strategies)) (desk (g.S.Source.left l.fn.source) (g.S.Source.faults l.fn.source) fresh) nothing_headed
+  led : (count : ℕ) × Led (heading_walk (has_strategy l.strategy_names)) (desk (g.S.Source.left l.fn.source) (g.S.Source.faults l.fn.source) fresh) nothing_headed
       (desk (g.S.Source.left l.source) (g.S.Source.faults l.source) l.input) count l.heading;
-  held : HoldsEverySwap (has_strategy l.strategies) l.heading.many;
+  held : HoldsEverySwap (has_strategy l.strategy_names) l.heading.many;
 }
 
 abbrev pub decreases-lines : goal.decreases-lines

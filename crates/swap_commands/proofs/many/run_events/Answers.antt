@@ -14,14 +14,14 @@ walk-requires-clause-can g c =
       chains = c.requires.chains;
       swaps = c.requires.swaps;
       are_worlds = opened_are_of many c.in-Ok.world opened;
-      held = opened_are_held (g.A.Strategies.holds c.args.staff.now) many c.in-Ok.world opened c.requires.held;
+      held = opened_are_held (g.A.Strategies.holds c.args.strategies.now) many c.in-Ok.world opened c.requires.held;
     }
 
 pub returns-in_ok-walk-in-Ok-clause-run : goal.returns-in_ok-walk-in-Ok-clause-run
 returns-in_ok-walk-in-Ok-clause-run g c = record {
   new = c.in-Ok.world;
   begun = c.in-Ok.ensures.opened;
-  replayed = is_replayed (g.A.Strategies.gives c.args.staff.now) c.args.many.now _ _ _ _ c.in_ok-walk-in-Ok.ensures.walked;
+  replayed = is_replayed (g.A.Strategies.gives c.args.strategies.now) c.args.many.now _ _ _ _ c.in_ok-walk-in-Ok.ensures.walked;
 }
 
 pub returns-in_ok-walk-in-Ok-clause-held : goal.returns-in_ok-walk-in-Ok-clause-held

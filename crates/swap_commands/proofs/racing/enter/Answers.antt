@@ -35,10 +35,10 @@ returns-in-Ok-clause-calm g c = λ unless. c.in-Ok.ensures.entered.stands.calm
 
 pub returns-clause-calm : goal.returns-clause-calm
 returns-clause-calm g c = λ unless.
-    calm_of (IsCommandRefusal (g.A.Strategies.holds c.args.staff.now) (OfJob (Race 1 false)))
+    calm_of (IsCommandRefusal (g.A.Strategies.holds c.args.strategies.now) (OfJob (Race 1 false)))
     (desk (g.S.Source.left c.args.source.now) (g.S.Source.faults c.args.source.now) fresh)
     (desk (g.S.Source.left c.stop.new.source) (g.S.Source.faults c.stop.new.source) c.stop.new.self) c.stop.result
-    (has_stopped (IsCommandRefusal (g.A.Strategies.holds c.args.staff.now) (OfJob (Race 1 false)))
+    (has_stopped (IsCommandRefusal (g.A.Strategies.holds c.args.strategies.now) (OfJob (Race 1 false)))
     (desk (g.S.Source.left c.args.source.now) (g.S.Source.faults c.args.source.now) fresh)
     (desk (g.S.Source.left c.read_job.new.source) (g.S.Source.faults c.read_job.new.source) c.read_job.new.input)
     (desk (g.S.Source.left c.stop.new.source) (g.S.Source.faults c.stop.new.source) c.stop.new.self) c.in-Err.fault c.stop.result

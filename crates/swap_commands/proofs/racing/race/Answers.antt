@@ -17,8 +17,8 @@ race_fitting-requires-clause-fit g c = λ κs lives. wallets_fit c.args.job.now 
 
 pub returns-in-Ok : goal.returns-in-Ok
 returns-in-Ok g c = λ left left' n m e.
-    says_race _ _ c.args.ticks c.args.transcript left left' n m _ _ _ _ c.args.job.now c.in-Ok.book.histories c.tell.result e c.requires.can.accepted
-    c.requires.can.purpose c.in-Ok.ensures c.tell.ensures
+    says_race _ _ c.args.ticks c.args.transcript left left' n m _ _ _ _ c.args.job.now c.in-Ok.book.histories c.write_report_or_transcript.result e c.requires.can.accepted
+    c.requires.can.purpose c.in-Ok.ensures c.write_report_or_transcript.ensures
 
 pub returns-in-Err : goal.returns-in-Err
 returns-in-Err g c = λ left left' n m e. inl (Keeps-refl (g.K.Sink.taken c.args.sink.now), (e.input, e.within, e.taken))

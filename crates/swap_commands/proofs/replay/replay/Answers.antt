@@ -45,14 +45,14 @@ returns-clause-exact g c = λ a x.
     let k = c.in_ok-walk.ensures.walked in
     ends_as (λ bytes. lines_told (limited_event job) 0 (ahead c.args.input.now bytes) ≡ Ok k.events)
     (λ bytes. folded_events (step (command_cast a job)) job 0 (start (job_cast job)) (ahead c.args.input.now bytes) ≡ Ok c.walk.new.walker.state)
-    (λ bytes e. leads_to (g.A.Strategies.gives c.args.staff.now) job c.in_ok-world.world c.walk.new.walker c.in_ok-world.ensures.new k.events k.stepped a x
+    (λ bytes e. leads_to (g.A.Strategies.gives c.args.strategies.now) job c.in_ok-world.world c.walk.new.walker c.in_ok-world.ensures.new k.events k.stepped a x
     (ahead c.args.input.now bytes) e)
     _ _ k.are_told
 
 pub returns-clause-asked : goal.returns-clause-asked
 returns-clause-asked g c =
     let k = c.in_ok-walk.ensures.walked in
-    has_asked (g.A.Strategies.gives c.args.staff.now) c.args.job.now c.in_ok-world.world c.walk.new.walker c.in_ok-world.ensures.new k.events k.stepped
+    has_asked (g.A.Strategies.gives c.args.strategies.now) c.args.job.now c.in_ok-world.world c.walk.new.walker c.in_ok-world.ensures.new k.events k.stepped
 
 pub returns-clause-of : goal.returns-clause-of
 returns-clause-of g c = c.in_ok-walk.ensures.can.is_world

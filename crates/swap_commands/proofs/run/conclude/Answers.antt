@@ -3,16 +3,16 @@ use Rattle.swap_commands.proofs.run.conclude.Goals as goal
 
 pub returns-clause-book : goal.returns-clause-book
 returns-clause-book g c =
-    concluded_book (g.A.Strategies.gives c.args.staff.now) c.args.job.now c.args.world c.finish.new.world c.requires.of c.into_book.result
+    concluded_book (g.A.Strategies.gives c.args.strategies.now) c.args.job.now c.args.world c.finish.new.world c.requires.of c.into_book.result
     c.into_book.ensures.value c.requires.asked c.in_ok-finish.ensures.gone c.look_at_disks.ensures
 
 pub returns-clause-kept : goal.returns-clause-kept
 returns-clause-kept g c =
     kept_book c.args.job.now c.finish.new.world
-    (is_of_still (g.A.Strategies.gives c.args.staff.now) c.args.job.now c.args.world c.finish.new.world c.requires.of _ c.in_ok-finish.ensures.gone)
+    (is_of_still (g.A.Strategies.gives c.args.strategies.now) c.args.job.now c.args.world c.finish.new.world c.requires.of _ c.in_ok-finish.ensures.gone)
     c.into_book.result c.into_book.ensures.value c.into_book.ensures.kept
 
 pub look_at_disks-requires : goal.look_at_disks-requires
 look_at_disks-requires g c =
-    goes_on_still (g.A.Strategies.gives c.args.staff.now) c.args.job.now c.args.world c.finish.new.world c.requires.of _ c.in_ok-finish.ensures.gone
+    goes_on_still (g.A.Strategies.gives c.args.strategies.now) c.args.job.now c.args.world c.finish.new.world c.requires.of _ c.in_ok-finish.ensures.gone
     c.requires.goes_on

@@ -9,14 +9,14 @@ use Rattle.swap_commands.proofs.run.run.Goals as goal
 pub returns-in-Err-clause-says : goal.returns-in-Err-clause-says
 returns-in-Err-clause-says g c =
     rw c.unread.ensures
-    (says_stopped (g.A.Strategies.holds c.args.staff.now) (g.A.Strategies.gives c.args.staff.now) (OfJob (Run c.args.transcript))
+    (says_stopped (g.A.Strategies.holds c.args.strategies.now) (g.A.Strategies.gives c.args.strategies.now) (OfJob (Run c.args.transcript))
     (g.S.Source.left c.args.source.now) (g.S.Source.left c.play.new.source) (g.S.Source.left c.stop.new.source)
     (g.S.Source.faults c.args.source.now) (g.S.Source.faults c.play.new.source) (g.S.Source.faults c.stop.new.source) c.play.new.input
     c.stop.new.self (g.K.Sink.taken c.args.sink.now) (g.K.Sink.faults c.args.sink.now) c.in-Err.fault c.stop.result c.in-Err.ensures.stops c.stop.ensures)
 
 pub returns-in_default-clause-says : goal.returns-in_default-clause-says
 returns-in_default-clause-says g c =
-    let has = g.A.Strategies.holds c.args.staff.now in
+    let has = g.A.Strategies.holds c.args.strategies.now in
     let a = world_answers c.in-Ok.played.1 in
     inl (
       Keeps-refl (g.K.Sink.taken c.args.sink.now),
@@ -26,15 +26,15 @@ returns-in_default-clause-says g c =
 
 pub returns-clause-says : goal.returns-clause-says
 returns-clause-says g c =
-    says_run _ _ c.args.transcript _ _ _ _ _ _ _ _ c.play.new.input c.in-Ok.played.0 c.in-Ok.played.1 c.in-Ok-conclude.book.histories c.tell.result
+    says_run _ _ c.args.transcript _ _ _ _ _ _ _ _ c.play.new.input c.in-Ok.played.0 c.in-Ok.played.1 c.in-Ok-conclude.book.histories c.write_report_or_transcript.result
     c.in-Ok.ensures.played c.in-Ok-conclude.ensures.book c.in-Ok.ensures.accepted c.in-Ok-conclude.ensures.kept c.in-Ok-conclude.ensures.ended
-    c.in-Ok-conclude.ensures.dealt c.tell.ensures
+    c.in-Ok-conclude.ensures.dealt c.write_report_or_transcript.ensures
 
 -- No read failed, unless the status tells of it.
 
 pub returns-in-Err-clause-calm : goal.returns-in-Err-clause-calm
 returns-in-Err-clause-calm g c = λ unless.
-    calm_stopped (g.A.Strategies.holds c.args.staff.now) (OfJob (Run c.args.transcript)) (g.S.Source.left c.args.source.now) (g.S.Source.left c.play.new.source)
+    calm_stopped (g.A.Strategies.holds c.args.strategies.now) (OfJob (Run c.args.transcript)) (g.S.Source.left c.args.source.now) (g.S.Source.left c.play.new.source)
     (g.S.Source.left c.stop.new.source) (g.S.Source.faults c.args.source.now) (g.S.Source.faults c.play.new.source)
     (g.S.Source.faults c.stop.new.source) c.play.new.input c.stop.new.self c.in-Err.fault c.stop.result c.in-Err.ensures.stops c.stop.ensures
     (λ e. unless (c.unread.ensures ∙ e))

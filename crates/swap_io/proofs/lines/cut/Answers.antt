@@ -1,6 +1,6 @@
 use Rattle.std.proofs.Common.{◌+◌}
 use Rattle.swap_io.proofs.Feeds.{cut_none, cut_some}
-use Rattle.swap_io.proofs.Known.{whole}
+use Rattle.swap_io.proofs.ByteLaws.{whole}
 use Rattle.swap_io.proofs.lines.cut.Goals as goal
 
 pub returns-in-Some : goal.returns-in-Some

@@ -1,6 +1,6 @@
 use Rattle.std.proofs.Common.{arith, take}
 use Rattle.std.proofs.lemmas.Grind.{common_steps}
-use Rattle.swap_io.proofs.Known.{consumed}
+use Rattle.swap_io.proofs.ByteLaws.{consumed}
 use Rattle.swap_io.proofs.source.read_all.Goals as goal
 
 pub returns-in_err-extend_from_slice-clause-no_memory : goal.returns-in_err-extend_from_slice-clause-no_memory

@@ -2,7 +2,7 @@ use Rattle.std.proofs.Common.{◌≡◌, ◌≤◌, ℕ, List, length, take, Opt
 use Rattle.swap_digraph.specs.declared.deal.Deal.{Deal}
 use Rattle.hashkey_path.specs.declared.hashkey.Hashkey.{Hashkey}
 use Rattle.swap_job.specs.Crafted.{Seeds, crafted}
-use Rattle.swap_job.specs.Parts.{HasPathRoom}
+use Rattle.swap_job.specs.MoveKeys.{HasPathRoom}
 use Rattle.swap_job.proofs.crafted.craft.Given as goal
 
 -- what is made so far, with the parties that are left, is the whole

@@ -2,7 +2,7 @@ use Rattle.std.proofs.Common.{sym, ◌∙◌}
 use Rattle.std.specs.Option.{option_copied}
 use Rattle.ledger_core.proofs.FirstAnswer.{found_mapped, none_mapped}
 use Rattle.ledger_core.proofs.Contracts.{is_some-map}
-use Rattle.swap_job.specs.Parts.{item_opening}
+use Rattle.swap_job.specs.MoveKeys.{item_opening}
 use Rattle.swap_job.proofs.openings.find_key.Goals as goal
 
 pub returns-then-is_some : goal.returns-then-is_some

@@ -27,7 +27,7 @@ pub returns-in-Input-clause-words : goal.returns-in-Input-clause-words
 returns-in-Input-clause-words g c calm =
     let words : List (List ℕ) = map string_bytes c.args.words.now.items in
     let is = tasks.asked_as _ _ _ _ _ _ c.deref.ensures.value c.in-Ok.ensures.exact c.in-Some.is c.in-Input.is in
-    tasks.never_wrong words (Input c.in-Input.order) is c.obey.result (tasks.said_is_right _ _ _ _ _ _ _ _ _ _ _ c.obey.result c.obey.ensures.says)
+    tasks.never_wrong words (Input c.in-Input.order) is c.run_order.result (tasks.said_is_right _ _ _ _ _ _ _ _ _ _ _ c.run_order.result c.run_order.ensures.says)
 
 pub returns-in-Number-clause-words : goal.returns-in-Number-clause-words
 returns-in-Number-clause-words g c calm =
@@ -42,7 +42,7 @@ returns-in_default-asked-clause-words g c calm =
 
 pub returns-in-Input-clause-unread : goal.returns-in-Input-clause-unread
 returns-in-Input-clause-unread g c e =
-    absurd (tasks.said_is_right _ _ _ _ _ _ _ _ _ _ _ c.obey.result c.obey.ensures.says e)
+    absurd (tasks.said_is_right _ _ _ _ _ _ _ _ _ _ _ c.run_order.result c.run_order.ensures.says e)
 
 pub returns-in-Number-clause-unread : goal.returns-in-Number-clause-unread
 returns-in-Number-clause-unread g c e =
@@ -64,7 +64,7 @@ pub returns-in-Input-clause-answer : goal.returns-in-Input-clause-answer
 returns-in-Input-clause-answer g c calm =
     let words : List (List ℕ) = map string_bytes c.args.words.now.items in
     let is = tasks.asked_as _ _ _ _ _ _ c.deref.ensures.value c.in-Ok.ensures.exact c.in-Some.is c.in-Input.is in
-    tasks.answer _ words _ _ (Input c.in-Input.order) is c.obey.result c.obey.ensures.says
+    tasks.answer _ words _ _ (Input c.in-Input.order) is c.run_order.result c.run_order.ensures.says
 
 pub returns-in-Number-clause-answer : goal.returns-in-Number-clause-answer
 returns-in-Number-clause-answer g c calm =

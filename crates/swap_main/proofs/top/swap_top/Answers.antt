@@ -34,7 +34,7 @@ pub returns-in-Input-clause-words : goal.returns-in-Input-clause-words
 returns-in-Input-clause-words g c =
     let words : List (List ℕ) = map string_bytes c.args.words.now.items in
     let is = tasks.asked_as _ _ _ _ _ _ c.deref.ensures.value c.in-Ok.ensures.exact c.in-Some.is c.in-Input.is in
-    tasks.never_wrong words (Input c.in-Input.given) is c.obey.result (tasks.said_is_right _ _ _ _ _ _ _ _ _ _ _ c.obey.result c.obey.ensures.says)
+    tasks.never_wrong words (Input c.in-Input.given) is c.run_order.result (tasks.said_is_right _ _ _ _ _ _ _ _ _ _ _ c.run_order.result c.run_order.ensures.says)
 
 pub returns-in-Race-clause-words : goal.returns-in-Race-clause-words
 returns-in-Race-clause-words g c =
@@ -56,7 +56,7 @@ returns-in_default-read-clause-words g c =
 
 pub returns-in-Input-clause-unread : goal.returns-in-Input-clause-unread
 returns-in-Input-clause-unread g c e =
-    absurd (tasks.said_is_right _ _ _ _ _ _ _ _ _ _ _ c.obey.result c.obey.ensures.says e)
+    absurd (tasks.said_is_right _ _ _ _ _ _ _ _ _ _ _ c.run_order.result c.run_order.ensures.says e)
 
 pub returns-in-Race-clause-unread : goal.returns-in-Race-clause-unread
 returns-in-Race-clause-unread g c e =
@@ -82,7 +82,7 @@ pub returns-in-Input-clause-answer : goal.returns-in-Input-clause-answer
 returns-in-Input-clause-answer g c =
     let words : List (List ℕ) = map string_bytes c.args.words.now.items in
     let is = tasks.asked_as _ _ _ _ _ _ c.deref.ensures.value c.in-Ok.ensures.exact c.in-Some.is c.in-Input.is in
-    tasks.answer _ words _ _ (Input c.in-Input.given) is c.obey.result c.obey.ensures.says
+    tasks.answer _ words _ _ (Input c.in-Input.given) is c.run_order.result c.run_order.ensures.says
 
 pub returns-in-Race-clause-answer : goal.returns-in-Race-clause-answer
 returns-in-Race-clause-answer g c =

@@ -14,7 +14,7 @@ use Rattle.swap_many.proofs.fair.act_to_rest.Goals as goal
 
 pub returns-in_err-happen-clause-err : goal.returns-in_err-happen-clause-err
 returns-in_err-happen-clause-err g c =
-    let gives = g.A.Strategies.gives c.args.staff.now in
+    let gives = g.A.Strategies.gives c.args.strategies.now in
     let w = c.args.worlds.now in
     let l : c.acts.counter < most_acts (nth_world w c.args.swap).deal = rw (← c.deal.ensures.value, ← c.most_acts-end.ensures) c.acts-test.true in
     let part = λ (m : Setup) (z : Kept). repeat (most_acts (nth_world w c.args.swap).deal) (kept_act c.args.swap c.args.p m) z in
@@ -24,7 +24,7 @@ returns-in_err-happen-clause-err g c =
 
 pub returns-then-is_none-clause-ok : goal.returns-then-is_none-clause-ok
 returns-then-is_none-clause-ok g c =
-    let gives = g.A.Strategies.gives c.args.staff.now in
+    let gives = g.A.Strategies.gives c.args.strategies.now in
     let w = c.args.worlds.now in
     let l : c.acts.counter < most_acts (nth_world w c.args.swap).deal = rw (← c.deal.ensures.value, ← c.most_acts-end.ensures) c.acts-test.true in
     let conforming = subst (λ x. conforms x c.args.p ≡ true) (sym (c.acts.invariant.same.casts c.args.swap)) c.requires.conforms in
@@ -35,7 +35,7 @@ returns-then-is_none-clause-ok g c =
 
 pub acts-preserved : goal.acts-preserved
 acts-preserved g c =
-    let gives = g.A.Strategies.gives c.args.staff.now in
+    let gives = g.A.Strategies.gives c.args.strategies.now in
     let w = c.args.worlds.now in
     repeat_on gives (kept_act c.args.swap c.args.p) w c.acts.worlds c.happen.new.self (most_acts (nth_world w c.args.swap).deal) c.acts.counter
     c.acts.invariant c.in_ok-happen.ensures.ok

@@ -13,12 +13,12 @@ quiet_rounds-quiet-requires-clause-goes_on g c = c.requires.on.goes_on
 
 pub round-requires-clause-near : goal.round-requires-clause-near
 round-requires-clause-near g c =
-    near_gone (g.A.Strategies.gives c.args.staff.now) (λ m z. repeat c.quiet_rounds-quiet.result (kept_ticks m) z) c.args.worlds.now c.pass.new.worlds
+    near_gone (g.A.Strategies.gives c.args.strategies.now) (λ m z. repeat c.quiet_rounds-quiet.result (kept_ticks m) z) c.args.worlds.now c.pass.new.worlds
     c.args.near.now c.in_ok-pass.ensures.ok c.requires.near
 
 pub round-requires-clause-on : goal.round-requires-clause-on
 round-requires-clause-on g c =
-    on_gone (g.A.Strategies.gives c.args.staff.now) (λ m z. repeat c.quiet_rounds-quiet.result (kept_ticks m) z) c.args.worlds.now c.pass.new.worlds _
+    on_gone (g.A.Strategies.gives c.args.strategies.now) (λ m z. repeat c.quiet_rounds-quiet.result (kept_ticks m) z) c.args.worlds.now c.pass.new.worlds _
     c.in_ok-pass.ensures.ok c.requires.on
 
 pub returns-in_err-pass-clause-err : goal.returns-in_err-pass-clause-err
@@ -27,7 +27,7 @@ returns-in_err-pass-clause-err g c =
     let few = c.quiet_rounds-quiet.ensures.few in
     let some = c.requires.some in
     let most : n + 1 ≤ c.args.most = omega (arith, few, some) in
-    let gives = g.A.Strategies.gives c.args.staff.now in
+    let gives = g.A.Strategies.gives c.args.strategies.now in
     let w = c.args.worlds.now in
     let new = c.pass.new.worlds in
     let so : (k : ℕ) × (k ≤ c.args.most) × IsManyStopped gives (λ m z. repeat k (kept_round_or_rest m) z) w new
@@ -40,7 +40,7 @@ returns-in_err-round-clause-err g c =
     let few = c.quiet_rounds-quiet.ensures.few in
     let some = c.requires.some in
     let most : n + 1 ≤ c.args.most = omega (arith, few, some) in
-    let gives = g.A.Strategies.gives c.args.staff.now in
+    let gives = g.A.Strategies.gives c.args.strategies.now in
     let w = c.args.worlds.now in
     let new = c.round.new.worlds in
     let so : (k : ℕ) × (k ≤ c.args.most) × IsManyStopped gives (λ m z. repeat k (kept_round_or_rest m) z) w new
@@ -54,5 +54,5 @@ returns-in_err-round-clause-err g c =
 
 pub returns-clause-ok : goal.returns-clause-ok
 returns-clause-ok g c =
-    advance_ends (g.A.Strategies.gives c.args.staff.now) c.args.worlds.now c.pass.new.worlds c.round.new.worlds c.quiet_rounds-quiet.result
+    advance_ends (g.A.Strategies.gives c.args.strategies.now) c.args.worlds.now c.pass.new.worlds c.round.new.worlds c.quiet_rounds-quiet.result
     c.requires.on.ready c.quiet_rounds-quiet.ensures.skips c.in_ok-pass.ensures.ok c.in_ok-round.ensures.ok

@@ -8,7 +8,7 @@ use Rattle.swap_many.proofs.fair.finish.Goals as goal
 
 pub returns-in_err-listed_rounds-clause-err : goal.returns-in_err-listed_rounds-clause-err
 returns-in_err-listed_rounds-clause-err g c =
-    let gives = g.A.Strategies.gives c.args.staff.now in
+    let gives = g.A.Strategies.gives c.args.strategies.now in
     let w = c.args.worlds.now in
     let mid = c.listed_rounds.new.worlds in
     if_err _ (stopped_as gives (λ m z. kept_sweeps m (kept_rounds m z)) kept_finish w mid (λ a. refl)
@@ -16,14 +16,14 @@ returns-in_err-listed_rounds-clause-err g c =
 
 pub sweeps-requires : goal.sweeps-requires
 sweeps-requires g c =
-    let gives = g.A.Strategies.gives c.args.staff.now in
+    let gives = g.A.Strategies.gives c.args.strategies.now in
     let w = c.args.worlds.now in
     let mid = c.listed_rounds.new.worlds in
     record { on = on_gone gives kept_rounds w mid _ c.in_ok-listed_rounds.ensures.ok c.requires.on }
 
 pub returns-clause-ok : goal.returns-clause-ok
 returns-clause-ok g c =
-    let gives = g.A.Strategies.gives c.args.staff.now in
+    let gives = g.A.Strategies.gives c.args.strategies.now in
     let w = c.args.worlds.now in
     let mid = c.listed_rounds.new.worlds in
     gone_as gives (λ m z. kept_sweeps m (kept_rounds m z)) kept_finish w c.sweeps.new.worlds (λ a. refl)

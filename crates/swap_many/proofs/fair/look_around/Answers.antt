@@ -12,7 +12,7 @@ use Rattle.swap_many.proofs.fair.look_around.Goals as goal
 
 pub happen-requires-clause-event : goal.happen-requires-clause-event
 happen-requires-clause-event g c =
-    let gives = g.A.Strategies.gives c.args.staff.now in
+    let gives = g.A.Strategies.gives c.args.strategies.now in
     let w = c.args.worlds.now in
     let mid = c.arcs.worlds in
     let near = c.args.near.now in
@@ -24,7 +24,7 @@ happen-requires-clause-event g c =
 
 pub happen-requires-clause-held : goal.happen-requires-clause-held
 happen-requires-clause-held g c =
-    let gives = g.A.Strategies.gives c.args.staff.now in
+    let gives = g.A.Strategies.gives c.args.strategies.now in
     let w = c.args.worlds.now in
     (on_gone gives (λ m z. fold (kept_look c.args.swap c.args.p m) z (take c.arcs.arc-index c.args.near.now)) w c.arcs.worlds _ c.arcs.invariant
     c.requires.on).held
@@ -34,7 +34,7 @@ happen-requires-clause-goes_on g c = c.arcs.invariant.goes_on ∙ c.requires.on.
 
 pub arcs-preserved : goal.arcs-preserved
 arcs-preserved g c =
-    let gives = g.A.Strategies.gives c.args.staff.now in
+    let gives = g.A.Strategies.gives c.args.strategies.now in
     let near = c.args.near.now in
     let k = c.arcs.arc-index in
     list_on gives (kept_look c.args.swap c.args.p) c.args.worlds.now c.arcs.worlds c.happen.new.self near k (slice_index near k) c.arcs.invariant
@@ -42,7 +42,7 @@ arcs-preserved g c =
 
 pub returns-in_err-happen-clause-err : goal.returns-in_err-happen-clause-err
 returns-in_err-happen-clause-err g c =
-    let gives = g.A.Strategies.gives c.args.staff.now in
+    let gives = g.A.Strategies.gives c.args.strategies.now in
     let w = c.args.worlds.now in
     let near = c.args.near.now in
     let k = c.arcs.arc-index in
@@ -54,7 +54,7 @@ returns-in_err-happen-clause-err g c =
 
 pub returns-clause-ok : goal.returns-clause-ok
 returns-clause-ok g c =
-    let gives = g.A.Strategies.gives c.args.staff.now in
+    let gives = g.A.Strategies.gives c.args.strategies.now in
     let w = c.args.worlds.now in
     let near = c.args.near.now in
     gone_as gives (λ m z. fold (kept_look c.args.swap c.args.p m) z near) (kept_looks c.args.swap c.args.p) w c.arcs.worlds

@@ -10,7 +10,7 @@ use Rattle.swap_many.proofs.fair.round.Goals as goal
 
 pub returns-in_err-all_turns-clause-err : goal.returns-in_err-all_turns-clause-err
 returns-in_err-all_turns-clause-err g c =
-    let gives = g.A.Strategies.gives c.args.staff.now in
+    let gives = g.A.Strategies.gives c.args.strategies.now in
     let w = c.args.worlds.now in
     let all = λ (m : Setup) (z : Kept). fold (kept_turns m) z (range_with_len 0 m.swaps) in
     let mid = c.all_turns.new.worlds in
@@ -19,7 +19,7 @@ returns-in_err-all_turns-clause-err g c =
 
 pub ticks-requires : goal.ticks-requires
 ticks-requires g c =
-    let gives = g.A.Strategies.gives c.args.staff.now in
+    let gives = g.A.Strategies.gives c.args.strategies.now in
     let w = c.args.worlds.now in
     let all = λ (m : Setup) (z : Kept). fold (kept_turns m) z (range_with_len 0 m.swaps) in
     let mid = c.all_turns.new.worlds in
@@ -27,7 +27,7 @@ ticks-requires g c =
 
 pub returns-clause-ok : goal.returns-clause-ok
 returns-clause-ok g c =
-    let gives = g.A.Strategies.gives c.args.staff.now in
+    let gives = g.A.Strategies.gives c.args.strategies.now in
     let w = c.args.worlds.now in
     let all = λ (m : Setup) (z : Kept). fold (kept_turns m) z (range_with_len 0 m.swaps) in
     let mid = c.all_turns.new.worlds in
@@ -36,7 +36,7 @@ returns-clause-ok g c =
 
 pub returns-clause-err : goal.returns-clause-err
 returns-clause-err g c =
-    let gives = g.A.Strategies.gives c.args.staff.now in
+    let gives = g.A.Strategies.gives c.args.strategies.now in
     let w = c.args.worlds.now in
     let all = λ (m : Setup) (z : Kept). fold (kept_turns m) z (range_with_len 0 m.swaps) in
     let mid = c.all_turns.new.worlds in

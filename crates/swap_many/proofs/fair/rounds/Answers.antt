@@ -15,7 +15,7 @@ use Rattle.swap_many.proofs.fair.rounds.Goals as goal
 
 pub rounds-init : goal.rounds-init
 rounds-init g c =
-    let gives = g.A.Strategies.gives c.args.staff.now in
+    let gives = g.A.Strategies.gives c.args.strategies.now in
     let w = c.args.worlds.now in
     let h = c.last_horizon-horizon.ensures.value in
     let none : 0 ≡ (last_horizon (world_setup w) + 1) - (c.last_horizon-horizon.result + 1) = omega (arith, h) in
@@ -27,18 +27,18 @@ rounds-init g c =
 pub have_ended-requires : goal.have_ended-requires
 have_ended-requires g c =
     c.last_horizon-horizon.ensures.value
-    ∙ ap last_horizon (sym (same_setup_of (g.A.Strategies.gives c.args.staff.now) c.args.worlds.now c.rounds.worlds c.rounds.invariant.gone.same))
+    ∙ ap last_horizon (sym (same_setup_of (g.A.Strategies.gives c.args.strategies.now) c.args.worlds.now c.rounds.worlds c.rounds.invariant.gone.same))
 
 pub advance-requires-clause-near : goal.advance-requires-clause-near
 advance-requires-clause-near g c =
     let w = c.args.worlds.now in
-    near_gone (g.A.Strategies.gives c.args.staff.now) (λ m z. repeat ((last_horizon (world_setup w) + 1) - c.rounds.left) (kept_round_or_rest m) z) w
+    near_gone (g.A.Strategies.gives c.args.strategies.now) (λ m z. repeat ((last_horizon (world_setup w) + 1) - c.rounds.left) (kept_round_or_rest m) z) w
     c.rounds.worlds c.args.near.now c.rounds.invariant.gone c.requires.near
 
 pub advance-requires-clause-horizon : goal.advance-requires-clause-horizon
 advance-requires-clause-horizon g c =
     c.last_horizon-horizon.ensures.value
-    ∙ ap last_horizon (sym (same_setup_of (g.A.Strategies.gives c.args.staff.now) c.args.worlds.now c.rounds.worlds c.rounds.invariant.gone.same))
+    ∙ ap last_horizon (sym (same_setup_of (g.A.Strategies.gives c.args.strategies.now) c.args.worlds.now c.rounds.worlds c.rounds.invariant.gone.same))
 
 pub advance-requires-clause-low : goal.advance-requires-clause-low
 advance-requires-clause-low g c = sym c.have_ended.ensures ∙ c.if-have_ended.false
@@ -46,7 +46,7 @@ advance-requires-clause-low g c = sym c.have_ended.ensures ∙ c.if-have_ended.f
 pub advance-requires-clause-on : goal.advance-requires-clause-on
 advance-requires-clause-on g c =
     let w = c.args.worlds.now in
-    on_gone (g.A.Strategies.gives c.args.staff.now) (λ m z. repeat ((last_horizon (world_setup w) + 1) - c.rounds.left) (kept_round_or_rest m) z) w
+    on_gone (g.A.Strategies.gives c.args.strategies.now) (λ m z. repeat ((last_horizon (world_setup w) + 1) - c.rounds.left) (kept_round_or_rest m) z) w
     c.rounds.worlds _ c.rounds.invariant.gone c.requires.on
 
 pub rounds-preserved : goal.rounds-preserved
@@ -58,13 +58,13 @@ rounds-preserved g c =
     let few = i.few in
     record {
       few = omega (arith, few);
-      gone = goes_further (g.A.Strategies.gives c.args.staff.now) w c.rounds.worlds c.advance.new.worlds (last_horizon (world_setup w) + 1) c.rounds.left n
+      gone = goes_further (g.A.Strategies.gives c.args.strategies.now) w c.rounds.worlds c.advance.new.worlds (last_horizon (world_setup w) + 1) c.rounds.left n
           i.few less i.gone c.in_ok-taken.ensures.ok;
     }
 
 pub returns-then-have_ended-clause-ok : goal.returns-then-have_ended-clause-ok
 returns-then-have_ended-clause-ok g c =
-    let gives = g.A.Strategies.gives c.args.staff.now in
+    let gives = g.A.Strategies.gives c.args.strategies.now in
     let w = c.args.worlds.now in
     let mid = c.rounds.worlds in
     let all = last_horizon (world_setup w) + 1 in
@@ -75,7 +75,7 @@ returns-then-have_ended-clause-ok g c =
 
 pub returns-in_err-taken-clause-err : goal.returns-in_err-taken-clause-err
 returns-in_err-taken-clause-err g c =
-    let gives = g.A.Strategies.gives c.args.staff.now in
+    let gives = g.A.Strategies.gives c.args.strategies.now in
     let w = c.args.worlds.now in
     let i = c.rounds.invariant in
     let k = c.in_err-taken.ensures.err in
@@ -85,7 +85,7 @@ returns-in_err-taken-clause-err g c =
 
 pub returns-clause-ok : goal.returns-clause-ok
 returns-clause-ok g c =
-    let gives = g.A.Strategies.gives c.args.staff.now in
+    let gives = g.A.Strategies.gives c.args.strategies.now in
     let w = c.args.worlds.now in
     let part = λ (m : Setup) (z : Kept). repeat (last_horizon (world_setup w) + 1) (kept_round_or_rest m) z in
     let none : (last_horizon (world_setup w) + 1) - c.rounds.left ≡ last_horizon (world_setup w) + 1 = omega (arith, c.rounds-test.false) in

@@ -8,7 +8,7 @@ use Rattle.swap_many.proofs.fair.rounds.Given as goal
 abbrev pub invariant-rounds : goal.invariant-rounds
 invariant-rounds g l = record {
   few : l.left ≤ last_horizon (world_setup l.fn.worlds) + 1;
-  gone : HasManyGone (g.A.Strategies.gives l.staff) (λ m z. repeat ((last_horizon (world_setup l.fn.worlds) + 1) - l.left) (kept_round_or_rest m) z) l.fn.worlds
+  gone : HasManyGone (g.A.Strategies.gives l.strategies) (λ m z. repeat ((last_horizon (world_setup l.fn.worlds) + 1) - l.left) (kept_round_or_rest m) z) l.fn.worlds
       l.worlds;
 }
 

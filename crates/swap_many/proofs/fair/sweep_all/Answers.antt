@@ -8,7 +8,7 @@ use Rattle.swap_many.proofs.fair.sweep_all.Goals as goal
 
 pub arcs-preserved : goal.arcs-preserved
 arcs-preserved g c =
-    let gives = g.A.Strategies.gives c.args.staff.now in
+    let gives = g.A.Strategies.gives c.args.strategies.now in
     let w = c.args.worlds.now in
     let l : c.arcs.arc < length (nth_world w c.args.swap).deal.graph.arcs = rw (← c.deal.ensures.value, ← c.arcs-2.ensures) c.arcs-test.true in
     range_on gives (swept_kept c.args.swap) w c.arcs.worlds c.sweep.new.self (length
@@ -17,7 +17,7 @@ arcs-preserved g c =
 
 pub returns : goal.returns
 returns g c =
-    let gives = g.A.Strategies.gives c.args.staff.now in
+    let gives = g.A.Strategies.gives c.args.strategies.now in
     let w = c.args.worlds.now in
     let l : length (nth_world w c.args.swap).deal.graph.arcs ≤ c.arcs.arc = rw (← c.deal.ensures.value, ← c.arcs-2.ensures) c.arcs-test.false in
     gone_as gives (λ m z. fold (swept_kept c.args.swap m) z (range_with_len 0 (length (nth_world w c.args.swap).deal.graph.arcs)))

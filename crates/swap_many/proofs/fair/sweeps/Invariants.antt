@@ -5,5 +5,5 @@ use Rattle.swap_many.specs.Value.{HasManyGone}
 use Rattle.swap_many.proofs.fair.sweeps.Given as goal
 
 abbrev pub invariant-each : goal.invariant-each
-invariant-each g l = HasManyGone (g.A.Strategies.gives l.staff) (λ m z. fold (kept_swap_sweeps m) z (take l.swap (range_with_len 0 (length l.fn.worlds.worlds))))
+invariant-each g l = HasManyGone (g.A.Strategies.gives l.strategies) (λ m z. fold (kept_swap_sweeps m) z (take l.swap (range_with_len 0 (length l.fn.worlds.worlds))))
     l.fn.worlds l.worlds

@@ -18,7 +18,7 @@ bounds-near-place g c =
 
 pub turn-requires-clause-near : goal.turn-requires-clause-near
 turn-requires-clause-near g c =
-    let gives = g.A.Strategies.gives c.args.staff.now in
+    let gives = g.A.Strategies.gives c.args.strategies.now in
     let w = c.args.worlds.now in
     let l : c.parties.p < (nth_world w c.args.swap).deal.graph.n = rw (← c.deal.ensures.value) (omega (arith, c.parties-test.true, c.n-p-end.ensures)) in
     c.as_slice.ensures
@@ -28,14 +28,14 @@ turn-requires-clause-near g c =
 
 pub turn-requires-clause-on : goal.turn-requires-clause-on
 turn-requires-clause-on g c =
-    let gives = g.A.Strategies.gives c.args.staff.now in
+    let gives = g.A.Strategies.gives c.args.strategies.now in
     let w = c.args.worlds.now in
     on_gone gives (λ m z. fold (kept_turn c.args.swap m) z (take c.parties.p (range_with_len 0 ((nth_world w c.args.swap).deal.graph.n)))) w
     c.parties.worlds _ c.parties.invariant c.requires.on
 
 pub returns-in_err-turn-clause-err : goal.returns-in_err-turn-clause-err
 returns-in_err-turn-clause-err g c =
-    let gives = g.A.Strategies.gives c.args.staff.now in
+    let gives = g.A.Strategies.gives c.args.strategies.now in
     let w = c.args.worlds.now in
     let l : c.parties.p < (nth_world w c.args.swap).deal.graph.n = rw (← c.deal.ensures.value) (omega (arith, c.parties-test.true, c.n-p-end.ensures)) in
     if_err _ (stopped_as gives (λ m z. fold (kept_turn c.args.swap m) z (range_with_len 0 ((nth_world w c.args.swap).deal.graph.n)))
@@ -46,7 +46,7 @@ returns-in_err-turn-clause-err g c =
 
 pub parties-preserved : goal.parties-preserved
 parties-preserved g c =
-    let gives = g.A.Strategies.gives c.args.staff.now in
+    let gives = g.A.Strategies.gives c.args.strategies.now in
     let w = c.args.worlds.now in
     let l : c.parties.p < (nth_world w c.args.swap).deal.graph.n = rw (← c.deal.ensures.value) (omega (arith, c.parties-test.true, c.n-p-end.ensures)) in
     range_on gives (kept_turn c.args.swap) w c.parties.worlds c.turn.new.worlds ((nth_world w c.args.swap).deal.graph.n) c.parties.p c.parties.invariant
@@ -54,7 +54,7 @@ parties-preserved g c =
 
 pub returns-clause-ok : goal.returns-clause-ok
 returns-clause-ok g c =
-    let gives = g.A.Strategies.gives c.args.staff.now in
+    let gives = g.A.Strategies.gives c.args.strategies.now in
     let w = c.args.worlds.now in
     let l : (nth_world w c.args.swap).deal.graph.n ≤ c.parties.p = rw (← c.deal.ensures.value) (omega (arith, c.parties-test.false, c.n-p-end.ensures)) in
     gone_as gives (λ m z. fold (kept_turn c.args.swap m) z (range_with_len 0 ((nth_world w c.args.swap).deal.graph.n)))

@@ -4,7 +4,7 @@ use Rattle.swap_many.specs.Value.{no_chain}
 use Rattle.swap_many.proofs.Values.{item_is}
 use Rattle.swap_many.proofs.quiet.horizon_rounds.Goals as goal
 
--- some chain stays low for so many rounds
+-- some chain stays low for n rounds
 abbrev SomeLow : List ChainState → (horizon n : ℕ) → Type 0
 SomeLow xs horizon n = 0 < n → (q : ℕ) × (q < length xs) × ((slice_index_or xs q no_chain).clock.height + n ≤ horizon)
 

@@ -1,6 +1,6 @@
 use Rattle.std.proofs.Common.{◌≡◌, ◌≢◌, ◌⊎◌, inl, inr, ℕ, ◌<◌, ◌+◌, [], arith, sym, ap, ◌∙◌, subst}
 use Rattle.swap_rules.proofs.Prefixes.{same_or_not}
-use Rattle.swap_world.specs.Near.{all_adjacent}
+use Rattle.swap_world.specs.TouchingArcs.{all_adjacent}
 use Rattle.swap_world.specs.Quiet.{IsQuietState}
 use Rattle.swap_world.specs.Value.{WorldState, world_cast}
 use Rattle.swap_many.specs.Ticking.{nth}

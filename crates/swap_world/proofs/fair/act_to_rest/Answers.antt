@@ -13,26 +13,26 @@ abbrev act_of : ℕ → Cast → State → State
 act_of p x s = step x s (Act p)
 
 pub acts-init : goal.acts-init
-acts-init g c = begun (g.A.Strategies.gives c.args._staff.now) c.args.world.now
+acts-init g c = begun (g.A.Strategies.gives c.args._strategies.now) c.args.world.now
 
 pub act_if_due-requires-clause-party : goal.act_if_due-requires-clause-party
 act_if_due-requires-clause-party g c =
-    subst (λ d. c.args.p < d.graph.n) (sym (deal_gone (g.A.Strategies.gives c.args._staff.now) (λ x s. repeat c.acts.counter (act_of c.args.p x) s)
+    subst (λ d. c.args.p < d.graph.n) (sym (deal_gone (g.A.Strategies.gives c.args._strategies.now) (λ x s. repeat c.acts.counter (act_of c.args.p x) s)
     c.args.world.now c.acts.world c.acts.invariant)) c.requires.party
 
 pub act_if_due-requires-clause-conforms : goal.act_if_due-requires-clause-conforms
 act_if_due-requires-clause-conforms g c =
-    subst (λ x. conforms x c.args.p ≡ true) (sym (cast_gone (g.A.Strategies.gives c.args._staff.now) (λ x s. repeat c.acts.counter (act_of c.args.p x) s)
+    subst (λ x. conforms x c.args.p ≡ true) (sym (cast_gone (g.A.Strategies.gives c.args._strategies.now) (λ x s. repeat c.acts.counter (act_of c.args.p x) s)
     c.args.world.now c.acts.world c.acts.invariant)) c.requires.conforms
 
 pub act_if_due-requires-clause-goes_on : goal.act_if_due-requires-clause-goes_on
 act_if_due-requires-clause-goes_on g c =
-    goes_on_gone (g.A.Strategies.gives c.args._staff.now) (λ x s. repeat c.acts.counter (act_of c.args.p x) s) c.args.world.now c.acts.world c.acts.invariant
+    goes_on_gone (g.A.Strategies.gives c.args._strategies.now) (λ x s. repeat c.acts.counter (act_of c.args.p x) s) c.args.world.now c.acts.world c.acts.invariant
     c.requires.goes_on
 
 pub acts-preserved : goal.acts-preserved
 acts-preserved g c =
-    let gives = g.A.Strategies.gives c.args._staff.now in
+    let gives = g.A.Strategies.gives c.args._strategies.now in
     let w = c.args.world.now in
     let mid = c.acts.world in
     let conforming : conforms (world_cast mid) c.args.p ≡ true =
@@ -44,7 +44,7 @@ acts-preserved g c =
 
 pub returns-in_err-act_if_due-clause-err : goal.returns-in_err-act_if_due-clause-err
 returns-in_err-act_if_due-clause-err g c =
-    let gives = g.A.Strategies.gives c.args._staff.now in
+    let gives = g.A.Strategies.gives c.args._strategies.now in
     let w = c.args.world.now in
     let mid = c.acts.world in
     let new = c.act_if_due.new.self in
@@ -64,7 +64,7 @@ returns-in_err-act_if_due-clause-err g c =
 
 pub returns-then-not-branch-clause-ok : goal.returns-then-not-branch-clause-ok
 returns-then-not-branch-clause-ok g c =
-    let gives = g.A.Strategies.gives c.args._staff.now in
+    let gives = g.A.Strategies.gives c.args._strategies.now in
     let w = c.args.world.now in
     let mid = c.acts.world in
     let l : c.acts.counter < most_acts w.deal = rw (← c.deal.ensures.value, ← c.most_acts-end.ensures) c.acts-test.true in
@@ -84,4 +84,4 @@ returns-clause-ok g c =
     let w = c.args.world.now in
     let e : c.acts.counter ≡ c.most_acts-end.result = omega (arith, c.acts-test.false, c.acts.auto) in
     let h : c.most_acts-end.result ≡ most_acts w.deal = rw c.deal.ensures.value at c.most_acts-end.ensures in
-    subst (λ n. HasGone (g.A.Strategies.gives c.args._staff.now) (λ x s. repeat n (act_of c.args.p x) s) w c.acts.world) (e ∙ h) c.acts.invariant
+    subst (λ n. HasGone (g.A.Strategies.gives c.args._strategies.now) (λ x s. repeat n (act_of c.args.p x) s) w c.acts.world) (e ∙ h) c.acts.invariant

@@ -5,4 +5,4 @@ use Rattle.swap_world.specs.Gone.{HasGone}
 use Rattle.swap_world.proofs.fair.act_to_rest.Given as goal
 
 abbrev pub invariant-acts : goal.invariant-acts
-invariant-acts g l = HasGone (g.A.Strategies.gives l._staff) (λ c s. repeat l.counter (λ t. step c t (Act l.p)) s) l.fn.world l.world
+invariant-acts g l = HasGone (g.A.Strategies.gives l._strategies) (λ c s. repeat l.counter (λ t. step c t (Act l.p)) s) l.fn.world l.world

@@ -1,7 +1,7 @@
 use Rattle.std.proofs.Common.{◌≡◌, ℕ, ◌+◌, ◌≤◌, arith, sym, subst}
 use Rattle.swap_run.specs.Fair.{repeat, ticks}
 use Rattle.swap_run.specs.Steps.{rounds_steps}
-use Rattle.swap_world.specs.Near.{all_adjacent}
+use Rattle.swap_world.specs.TouchingArcs.{all_adjacent}
 use Rattle.swap_world.specs.Stopped.{IsStopped}
 use Rattle.swap_world.proofs.Ways.{if_err}
 use Rattle.swap_world.proofs.Gone.{deal_gone, goes_on_gone, held_gone}
@@ -10,17 +10,17 @@ use Rattle.swap_world.proofs.fair.advance.Goals as goal
 
 pub round-requires-clause-near : goal.round-requires-clause-near
 round-requires-clause-near g c =
-    subst (λ d. c.args.near.now ≡ all_adjacent d) (sym (deal_gone (g.A.Strategies.gives c.args.staff.now)
+    subst (λ d. c.args.near.now ≡ all_adjacent d) (sym (deal_gone (g.A.Strategies.gives c.args.strategies.now)
     (λ x s. repeat c.quiet_rounds-quiet.result (ticks x) s) c.args.world.now c.pass.new.world c.in_ok-pass.ensures.ok)) c.requires.near
 
 pub round-requires-clause-goes_on : goal.round-requires-clause-goes_on
 round-requires-clause-goes_on g c =
-    goes_on_gone (g.A.Strategies.gives c.args.staff.now) (λ x s. repeat c.quiet_rounds-quiet.result (ticks x) s) c.args.world.now c.pass.new.world
+    goes_on_gone (g.A.Strategies.gives c.args.strategies.now) (λ x s. repeat c.quiet_rounds-quiet.result (ticks x) s) c.args.world.now c.pass.new.world
     c.in_ok-pass.ensures.ok c.requires.goes_on
 
 pub round-requires-clause-held : goal.round-requires-clause-held
 round-requires-clause-held g c =
-    held_gone (g.A.Strategies.gives c.args.staff.now) (λ x s. repeat c.quiet_rounds-quiet.result (ticks x) s) c.args.world.now c.pass.new.world _
+    held_gone (g.A.Strategies.gives c.args.strategies.now) (λ x s. repeat c.quiet_rounds-quiet.result (ticks x) s) c.args.world.now c.pass.new.world _
     c.in_ok-pass.ensures.ok c.requires.held
 
 pub returns-in_err-pass-clause-err : goal.returns-in_err-pass-clause-err
@@ -29,7 +29,7 @@ returns-in_err-pass-clause-err g c =
     let few = c.quiet_rounds-quiet.ensures.few in
     let some = c.requires.some in
     let most : n + 1 ≤ c.args.most = omega (arith, few, some) in
-    let gives = g.A.Strategies.gives c.args.staff.now in
+    let gives = g.A.Strategies.gives c.args.strategies.now in
     let w = c.args.world.now in
     let new = c.pass.new.world in
     let so : (m : ℕ) × (m ≤ c.args.most) × IsStopped gives (rounds_steps m) w new
@@ -42,7 +42,7 @@ returns-in_err-round-clause-err g c =
     let few = c.quiet_rounds-quiet.ensures.few in
     let some = c.requires.some in
     let most : n + 1 ≤ c.args.most = omega (arith, few, some) in
-    let gives = g.A.Strategies.gives c.args.staff.now in
+    let gives = g.A.Strategies.gives c.args.strategies.now in
     let w = c.args.world.now in
     let new = c.round.new.world in
     let so : (m : ℕ) × (m ≤ c.args.most) × IsStopped gives (rounds_steps m) w new
@@ -51,5 +51,5 @@ returns-in_err-round-clause-err g c =
 
 pub returns-clause-ok : goal.returns-clause-ok
 returns-clause-ok g c =
-    advance_ends (g.A.Strategies.gives c.args.staff.now) c.args.world.now c.pass.new.world c.round.new.world c.quiet_rounds-quiet.result
+    advance_ends (g.A.Strategies.gives c.args.strategies.now) c.args.world.now c.pass.new.world c.round.new.world c.quiet_rounds-quiet.result
     c.quiet_rounds-quiet.ensures.skips c.in_ok-pass.ensures.ok c.in_ok-round.ensures.ok

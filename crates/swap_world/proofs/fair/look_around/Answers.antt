@@ -28,30 +28,30 @@ can_at d p k x xs l e lt is = subst (CanLook d p) (sym is) (All-get_or (CanLook 
     (All-same (CanLook d p) xs (adjacent_arcs d p) e (can_look d p l)))
 
 pub arcs-init : goal.arcs-init
-arcs-init g c = begun (g.A.Strategies.gives c.args.staff.now) c.args.world.now
+arcs-init g c = begun (g.A.Strategies.gives c.args.strategies.now) c.args.world.now
 
 pub step-requires-clause-event : goal.step-requires-clause-event
 step-requires-clause-event g c =
     let w = c.args.world.now in
-    can_gone (g.A.Strategies.gives c.args.staff.now) (λ x s. fold (look_at c.args.p x) s (take c.arcs.arc-index c.args.near.now)) w c.arcs.world
+    can_gone (g.A.Strategies.gives c.args.strategies.now) (λ x s. fold (look_at c.args.p x) s (take c.arcs.arc-index c.args.near.now)) w c.arcs.world
     (Look c.args.p (slice_index c.args.near.now c.arcs.arc-index)) c.arcs.invariant
     (can_at w.deal c.args.p c.arcs.arc-index (slice_index c.args.near.now c.arcs.arc-index) c.args.near.now c.requires.party c.requires.near
     c.arcs-test.true (item c.args.near.now c.arcs.arc-index c.arcs-test.true))
 
 pub step-requires-clause-held : goal.step-requires-clause-held
 step-requires-clause-held g c =
-    held_gone (g.A.Strategies.gives c.args.staff.now) (λ x s. fold (look_at c.args.p x) s (take c.arcs.arc-index c.args.near.now)) c.args.world.now
+    held_gone (g.A.Strategies.gives c.args.strategies.now) (λ x s. fold (look_at c.args.p x) s (take c.arcs.arc-index c.args.near.now)) c.args.world.now
     c.arcs.world _ c.arcs.invariant c.requires.held
 
 pub arcs-preserved : goal.arcs-preserved
 arcs-preserved g c =
-    list_on (g.A.Strategies.gives c.args.staff.now) (look_at c.args.p) c.args.world.now c.arcs.world c.step.new.self c.args.near.now c.arcs.arc-index
+    list_on (g.A.Strategies.gives c.args.strategies.now) (look_at c.args.p) c.args.world.now c.arcs.world c.step.new.self c.args.near.now c.arcs.arc-index
     (slice_index c.args.near.now c.arcs.arc-index) c.arcs.invariant c.arcs-test.true (item c.args.near.now c.arcs.arc-index c.arcs-test.true)
     c.in_ok-step.ensures.ok
 
 pub returns-in_err-step-clause-err : goal.returns-in_err-step-clause-err
 returns-in_err-step-clause-err g c =
-    let gives = g.A.Strategies.gives c.args.staff.now in
+    let gives = g.A.Strategies.gives c.args.strategies.now in
     let w = c.args.world.now in
     let mid = c.arcs.world in
     let new = c.step.new.self in
@@ -65,7 +65,7 @@ returns-in_err-step-clause-err g c =
 
 pub returns-clause-ok : goal.returns-clause-ok
 returns-clause-ok g c =
-    let gives = g.A.Strategies.gives c.args.staff.now in
+    let gives = g.A.Strategies.gives c.args.strategies.now in
     let w = c.args.world.now in
     gone_as gives (λ x s. fold (look_at c.args.p x) s c.args.near.now) (λ x s. looks x c.args.p s) w c.arcs.world
     (λ a. looks_over (answering_cast w a) c.args.p w.state c.args.near.now c.requires.near)

@@ -9,27 +9,27 @@ use Rattle.swap_world.proofs.Loops.{repeat_on, repeat_stops}
 use Rattle.swap_world.proofs.fair.pass.Goals as goal
 
 pub rounds-init : goal.rounds-init
-rounds-init g c = begun (g.A.Strategies.gives c.args.staff.now) c.args.world.now
+rounds-init g c = begun (g.A.Strategies.gives c.args.strategies.now) c.args.world.now
 
 pub ticks-requires : goal.ticks-requires
 ticks-requires g c = record {
-  held = held_gone (g.A.Strategies.gives c.args.staff.now) (λ x s. repeat c.rounds.counter (ticks x) s) c.args.world.now c.rounds.world _ c.rounds.invariant
+  held = held_gone (g.A.Strategies.gives c.args.strategies.now) (λ x s. repeat c.rounds.counter (ticks x) s) c.args.world.now c.rounds.world _ c.rounds.invariant
       c.requires.held;
 }
 
 pub rounds-preserved : goal.rounds-preserved
 rounds-preserved g c =
-    repeat_on (g.A.Strategies.gives c.args.staff.now) ticks c.args.world.now c.rounds.world c.ticks.new.world c.args.count c.rounds.counter
+    repeat_on (g.A.Strategies.gives c.args.strategies.now) ticks c.args.world.now c.rounds.world c.ticks.new.world c.args.count c.rounds.counter
     c.rounds.invariant c.in_ok-ticks.ensures.ok
 
 pub returns-in_err-ticks-clause-err : goal.returns-in_err-ticks-clause-err
 returns-in_err-ticks-clause-err g c =
     let w = c.args.world.now in
-    if_err _ (repeat_stops (g.A.Strategies.gives c.args.staff.now) ticks w c.rounds.world c.ticks.new.world c.args.count c.rounds.counter
+    if_err _ (repeat_stops (g.A.Strategies.gives c.args.strategies.now) ticks w c.rounds.world c.ticks.new.world c.args.count c.rounds.counter
     c.rounds.invariant (λ x s. tick_steps x.deal s.book) (pass_steps c.args.count)
     (λ a b k. along_pass (answering_cast w a) c.args.count c.rounds.counter w.state b c.rounds-test.true k) c.in_err-ticks.ensures.err)
 
 pub returns-clause-ok : goal.returns-clause-ok
 returns-clause-ok g c =
     let e : c.rounds.counter ≡ c.args.count = omega (arith, c.rounds-test.false, c.rounds.auto) in
-    subst (λ n. HasGone (g.A.Strategies.gives c.args.staff.now) (λ x s. repeat n (ticks x) s) c.args.world.now c.rounds.world) e c.rounds.invariant
+    subst (λ n. HasGone (g.A.Strategies.gives c.args.strategies.now) (λ x s. repeat n (ticks x) s) c.args.world.now c.rounds.world) e c.rounds.invariant

@@ -6,7 +6,7 @@ use Rattle.swap_world.proofs.fair.rounds.Given as goal
 abbrev pub invariant-rounds : goal.invariant-rounds
 invariant-rounds g l = record {
   few : l.left ≤ the_horizon l.fn.world.deal + 1;
-  gone : HasGone (g.A.Strategies.gives l.staff) (λ c s. repeat ((the_horizon l.fn.world.deal + 1) - l.left) (round_unless_ended c) s) l.fn.world l.world;
+  gone : HasGone (g.A.Strategies.gives l.strategies) (λ c s. repeat ((the_horizon l.fn.world.deal + 1) - l.left) (round_unless_ended c) s) l.fn.world l.world;
 }
 
 abbrev pub decreases-rounds : goal.decreases-rounds

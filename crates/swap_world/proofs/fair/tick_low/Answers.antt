@@ -17,7 +17,7 @@ returns-then-height-deal_horizon-clause-ok g c =
     let e : c.deal_horizon.result ≡ the_horizon w.deal = rw c.deal.ensures.value at c.deal_horizon.ensures in
     let h : c.height.result ≡ height (history w.state.book c.args.arc) = c.height.ensures in
     let l : the_horizon w.deal < height (history w.state.book c.args.arc) = rw (← h, ← e) c.if-height-deal_horizon.true in
-    stays (g.A.Strategies.gives c.args.staff.now) (λ x s. tick_low x s c.args.arc) w (λ a. is_high (answering_cast w a) w.state c.args.arc l)
+    stays (g.A.Strategies.gives c.args.strategies.now) (λ x s. tick_low x s c.args.arc) w (λ a. is_high (answering_cast w a) w.state c.args.arc l)
 
 pub returns-clause-ok : goal.returns-clause-ok
 returns-clause-ok g c =
@@ -25,7 +25,7 @@ returns-clause-ok g c =
     let e : c.deal_horizon.result ≡ the_horizon w.deal = rw c.deal.ensures.value at c.deal_horizon.ensures in
     let h : c.height.result ≡ height (history w.state.book c.args.arc) = c.height.ensures in
     let l : height (history w.state.book c.args.arc) ≤ the_horizon w.deal = rw (← h, ← e) c.if-height-deal_horizon.false in
-    on_ok c.step.result (gone_as (g.A.Strategies.gives c.args.staff.now) (λ x s. step x s (Tick c.args.arc 1)) (λ x s. tick_low x s c.args.arc) w
+    on_ok c.step.result (gone_as (g.A.Strategies.gives c.args.strategies.now) (λ x s. step x s (Tick c.args.arc 1)) (λ x s. tick_low x s c.args.arc) w
     c.step.new.self (λ a. sym (is_low (answering_cast w a) w.state c.args.arc l))) c.step.ensures.ok
 
 pub returns-clause-err : goal.returns-clause-err
@@ -34,5 +34,5 @@ returns-clause-err g c =
     let e : c.deal_horizon.result ≡ the_horizon w.deal = rw c.deal.ensures.value at c.deal_horizon.ensures in
     let h : c.height.result ≡ height (history w.state.book c.args.arc) = c.height.ensures in
     let l : height (history w.state.book c.args.arc) ≤ the_horizon w.deal = rw (← h, ← e) c.if-height-deal_horizon.false in
-    stopped_by (g.A.Strategies.gives c.args.staff.now) c.step.result w c.step.new.self (Tick c.args.arc 1) (λ x s. low_step x.deal s.book c.args.arc)
+    stopped_by (g.A.Strategies.gives c.args.strategies.now) c.step.result w c.step.new.self (Tick c.args.arc 1) (λ x s. low_step x.deal s.book c.args.arc)
     (λ a. sym (is_low_step w.deal w.state.book c.args.arc l)) c.step.ensures.err c.step.ensures.cut

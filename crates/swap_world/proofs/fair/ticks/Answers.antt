@@ -10,24 +10,24 @@ use Rattle.swap_world.proofs.Finishes.{ticks_stop, ticks_are}
 use Rattle.swap_world.proofs.fair.ticks.Goals as goal
 
 pub arcs-init : goal.arcs-init
-arcs-init g c = begun (g.A.Strategies.gives c.args.staff.now) c.args.world.now
+arcs-init g c = begun (g.A.Strategies.gives c.args.strategies.now) c.args.world.now
 
 pub tick_low-requires-clause-arc : goal.tick_low-requires-clause-arc
 tick_low-requires-clause-arc g c =
     let w = c.args.world.now in
     let l : c.arcs.arc < length w.deal.graph.arcs = rw (← c.deal.ensures.value, ← c.arcs-2.ensures) c.arcs-test.true in
-    subst (λ d. c.arcs.arc < length d.graph.arcs) (sym (deal_gone (g.A.Strategies.gives c.args.staff.now)
+    subst (λ d. c.arcs.arc < length d.graph.arcs) (sym (deal_gone (g.A.Strategies.gives c.args.strategies.now)
     (λ x s. fold (tick_low x) s (take c.arcs.arc (range_with_len 0 (length w.deal.graph.arcs)))) w c.arcs.world c.arcs.invariant)) l
 
 pub tick_low-requires-clause-held : goal.tick_low-requires-clause-held
 tick_low-requires-clause-held g c =
     let w = c.args.world.now in
-    held_gone (g.A.Strategies.gives c.args.staff.now) (λ x s. fold (tick_low x) s (take c.arcs.arc (range_with_len 0 (length w.deal.graph.arcs)))) w
+    held_gone (g.A.Strategies.gives c.args.strategies.now) (λ x s. fold (tick_low x) s (take c.arcs.arc (range_with_len 0 (length w.deal.graph.arcs)))) w
     c.arcs.world _ c.arcs.invariant c.requires.held
 
 pub returns-in_err-tick_low-clause-err : goal.returns-in_err-tick_low-clause-err
 returns-in_err-tick_low-clause-err g c =
-    let gives = g.A.Strategies.gives c.args.staff.now in
+    let gives = g.A.Strategies.gives c.args.strategies.now in
     let w = c.args.world.now in
     let l : c.arcs.arc < length w.deal.graph.arcs = rw (← c.deal.ensures.value, ← c.arcs-2.ensures) c.arcs-test.true in
     if_err _ (ticks_stop gives w c.tick_low.new.world (range_stops gives tick_low w c.arcs.world c.tick_low.new.world (length w.deal.graph.arcs) c.arcs.arc
@@ -37,12 +37,12 @@ pub arcs-preserved : goal.arcs-preserved
 arcs-preserved g c =
     let w = c.args.world.now in
     let l : c.arcs.arc < length w.deal.graph.arcs = rw (← c.deal.ensures.value, ← c.arcs-2.ensures) c.arcs-test.true in
-    range_on (g.A.Strategies.gives c.args.staff.now) tick_low w c.arcs.world c.tick_low.new.world (length w.deal.graph.arcs) c.arcs.arc c.arcs.invariant l
+    range_on (g.A.Strategies.gives c.args.strategies.now) tick_low w c.arcs.world c.tick_low.new.world (length w.deal.graph.arcs) c.arcs.arc c.arcs.invariant l
     c.in_ok-tick_low.ensures.ok
 
 pub returns-clause-ok : goal.returns-clause-ok
 returns-clause-ok g c =
-    let gives = g.A.Strategies.gives c.args.staff.now in
+    let gives = g.A.Strategies.gives c.args.strategies.now in
     let w = c.args.world.now in
     let l : length w.deal.graph.arcs ≤ c.arcs.arc = rw (← c.deal.ensures.value, ← c.arcs-2.ensures) c.arcs-test.false in
     ticks_are gives w c.arcs.world (range_done gives tick_low w c.arcs.world (length w.deal.graph.arcs) c.arcs.arc l c.arcs.invariant)

@@ -6,4 +6,4 @@ use Rattle.swap_world.proofs.fair.ticks.Given as goal
 
 abbrev pub invariant-arcs : goal.invariant-arcs
 invariant-arcs g l =
-    HasGone (g.A.Strategies.gives l.staff) (λ c s. fold (tick_low c) s (take l.arc (range_with_len 0 (length l.fn.world.deal.graph.arcs)))) l.fn.world l.world
+    HasGone (g.A.Strategies.gives l.strategies) (λ c s. fold (tick_low c) s (take l.arc (range_with_len 0 (length l.fn.world.deal.graph.arcs)))) l.fn.world l.world

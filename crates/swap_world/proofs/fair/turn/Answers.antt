@@ -9,26 +9,26 @@ use Rattle.swap_world.proofs.fair.turn.Goals as goal
 
 pub returns-in_err-look_around-clause-err : goal.returns-in_err-look_around-clause-err
 returns-in_err-look_around-clause-err g c =
-    if_err _ (turn_cut (g.A.Strategies.gives c.args.staff.now) c.args.world.now c.look_around.new.world c.args.p c.in_err-look_around.ensures.err)
+    if_err _ (turn_cut (g.A.Strategies.gives c.args.strategies.now) c.args.world.now c.look_around.new.world c.args.p c.in_err-look_around.ensures.err)
 
 pub conforms-requires : goal.conforms-requires
 conforms-requires g c =
-    subst (λ d. c.args.p < d.graph.n) (sym (deal_gone (g.A.Strategies.gives c.args.staff.now) (λ x s. looks x c.args.p s) c.args.world.now
+    subst (λ d. c.args.p < d.graph.n) (sym (deal_gone (g.A.Strategies.gives c.args.strategies.now) (λ x s. looks x c.args.p s) c.args.world.now
     c.look_around.new.world c.in_ok-look_around.ensures.ok)) c.requires.party
 
 pub act_to_rest-requires-clause-party : goal.act_to_rest-requires-clause-party
 act_to_rest-requires-clause-party g c =
-    subst (λ d. c.args.p < d.graph.n) (sym (deal_gone (g.A.Strategies.gives c.args.staff.now) (λ x s. looks x c.args.p s) c.args.world.now
+    subst (λ d. c.args.p < d.graph.n) (sym (deal_gone (g.A.Strategies.gives c.args.strategies.now) (λ x s. looks x c.args.p s) c.args.world.now
     c.look_around.new.world c.in_ok-look_around.ensures.ok)) c.requires.party
 
 pub act_to_rest-requires-clause-goes_on : goal.act_to_rest-requires-clause-goes_on
 act_to_rest-requires-clause-goes_on g c =
-    goes_on_gone (g.A.Strategies.gives c.args.staff.now) (λ x s. looks x c.args.p s) c.args.world.now c.look_around.new.world
+    goes_on_gone (g.A.Strategies.gives c.args.strategies.now) (λ x s. looks x c.args.p s) c.args.world.now c.look_around.new.world
     c.in_ok-look_around.ensures.ok c.requires.goes_on
 
 pub returns-then-conforms-clause-err : goal.returns-then-conforms-clause-err
 returns-then-conforms-clause-err g c =
-    let gives = g.A.Strategies.gives c.args.staff.now in
+    let gives = g.A.Strategies.gives c.args.strategies.now in
     let mid = c.look_around.new.world in
     on_err c.act_to_rest.result (λ k. turn_stops gives c.args.world.now mid c.act_to_rest.new.world c.args.p true
     (sym c.conforms.ensures ∙ c.if-conforms.true) c.in_ok-look_around.ensures.ok
@@ -37,7 +37,7 @@ returns-then-conforms-clause-err g c =
 
 pub returns-then-conforms-clause-ok : goal.returns-then-conforms-clause-ok
 returns-then-conforms-clause-ok g c =
-    let gives = g.A.Strategies.gives c.args.staff.now in
+    let gives = g.A.Strategies.gives c.args.strategies.now in
     let mid = c.look_around.new.world in
     on_ok c.act_to_rest.result (λ k. turn_ends gives c.args.world.now mid c.act_to_rest.new.world c.args.p true
     (sym c.conforms.ensures ∙ c.if-conforms.true) c.in_ok-look_around.ensures.ok
@@ -46,17 +46,17 @@ returns-then-conforms-clause-ok g c =
 
 pub step-requires-clause-event : goal.step-requires-clause-event
 step-requires-clause-event g c =
-    subst (λ d. c.args.p < d.graph.n) (sym (deal_gone (g.A.Strategies.gives c.args.staff.now) (λ x s. looks x c.args.p s) c.args.world.now
+    subst (λ d. c.args.p < d.graph.n) (sym (deal_gone (g.A.Strategies.gives c.args.strategies.now) (λ x s. looks x c.args.p s) c.args.world.now
     c.look_around.new.world c.in_ok-look_around.ensures.ok)) c.requires.party
 
 pub step-requires-clause-held : goal.step-requires-clause-held
 step-requires-clause-held g c =
-    held_gone (g.A.Strategies.gives c.args.staff.now) (λ x s. looks x c.args.p s) c.args.world.now c.look_around.new.world _
+    held_gone (g.A.Strategies.gives c.args.strategies.now) (λ x s. looks x c.args.p s) c.args.world.now c.look_around.new.world _
     c.in_ok-look_around.ensures.ok c.requires.held
 
 pub returns-clause-err : goal.returns-clause-err
 returns-clause-err g c =
-    let gives = g.A.Strategies.gives c.args.staff.now in
+    let gives = g.A.Strategies.gives c.args.strategies.now in
     let mid = c.look_around.new.world in
     on_err c.step.result (turn_stops gives c.args.world.now mid c.step.new.self c.args.p false
     (sym c.conforms.ensures ∙ c.if-conforms.false) c.in_ok-look_around.ensures.ok)
@@ -65,5 +65,5 @@ returns-clause-err g c =
 
 pub returns-clause-ok : goal.returns-clause-ok
 returns-clause-ok g c =
-    on_ok c.step.result (turn_ends (g.A.Strategies.gives c.args.staff.now) c.args.world.now c.look_around.new.world c.step.new.self c.args.p false
+    on_ok c.step.result (turn_ends (g.A.Strategies.gives c.args.strategies.now) c.args.world.now c.look_around.new.world c.step.new.self c.args.p false
     (sym c.conforms.ensures ∙ c.if-conforms.false) c.in_ok-look_around.ensures.ok) c.step.ensures.ok

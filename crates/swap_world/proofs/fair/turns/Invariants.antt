@@ -6,4 +6,4 @@ use Rattle.swap_world.proofs.fair.turns.Given as goal
 
 abbrev pub invariant-parties : goal.invariant-parties
 invariant-parties g l =
-    HasGone (g.A.Strategies.gives l.staff) (λ c s. fold (turn c) s (take l.p (range_with_len 0 l.fn.world.deal.graph.n))) l.fn.world l.world
+    HasGone (g.A.Strategies.gives l.strategies) (λ c s. fold (turn c) s (take l.p (range_with_len 0 l.fn.world.deal.graph.n))) l.fn.world l.world

@@ -4,4 +4,4 @@ use Rattle.swap_world.specs.Gone.{HasGone}
 use Rattle.swap_world.proofs.many.run.Given as goal
 
 abbrev pub invariant-events : goal.invariant-events
-invariant-events g l = HasGone (g.A.Strategies.gives l.staff) (λ c s. continued_run c s (take l.event-index l.events)) l.fn.world l.world
+invariant-events g l = HasGone (g.A.Strategies.gives l.strategies) (λ c s. continued_run c s (take l.event-index l.events)) l.fn.world l.world

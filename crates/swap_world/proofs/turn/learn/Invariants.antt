@@ -1,4 +1,4 @@
 use Rattle.swap_world.proofs.turn.learn.Given as goal
 
-abbrev pub ghosts-learn_counted : goal.ghosts-learn_counted
-ghosts-learn_counted a = record { name = a.blank.name; parts = a.blank.parts }
+abbrev pub ghosts-learn_ledger_counted : goal.ghosts-learn_ledger_counted
+ghosts-learn_ledger_counted a = record { name = a.blank.name; parts = a.blank.parts }

@@ -1,7 +1,7 @@
 use Rattle.std.proofs.Common.{◌≡◌, ℕ, List, length, drop, sym, ap, ◌∙◌}
 use Rattle.ledger_core.specs.declared.entry.Entry.{Entry}
 use Rattle.ledger_core.specs.Book.{history}
-use Rattle.swap_world.proofs.Known.{whole}
+use Rattle.swap_world.proofs.WholeHistory.{whole}
 use Rattle.swap_world.proofs.turn.learn_copied.Goals as goal
 
 pub learn-requires-clause-legal : goal.learn-requires-clause-legal

@@ -2,7 +2,7 @@ use Rattle.std.proofs.Common.{◌≡◌, ℕ, List, ◌++◌, length, drop, ap, 
 use Rattle.ledger_core.specs.declared.entry.Entry.{Entry}
 use Rattle.ledger_core.specs.Book.{history}
 use Rattle.swap_run.specs.Run.{plan_with_ledger}
-use Rattle.swap_world.proofs.Known.{whole}
+use Rattle.swap_world.proofs.WholeHistory.{whole}
 use Rattle.swap_world.proofs.Ledgers.{on_ok}
 use Rattle.swap_world.proofs.turn.watch.Goals as goal
 

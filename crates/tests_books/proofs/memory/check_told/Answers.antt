@@ -7,5 +7,5 @@ use Rattle.tests_books.proofs.memory.check_told.Goals as goal
 pub tells-requires-clause-strategies : goal.tells-requires-clause-strategies
 tells-requires-clause-strategies g c =
     subst (λ (has : List ℕ → Bool). HoldsEach has c.in_ok-job.field-0.job.roles)
-    (ap has_strategy c.as_slice.ensures ∙ same_strategies _ (g.A.Strategies.holds c.args.staff.now) c.in_ok-strategies.ensures)
+    (ap has_strategy c.as_slice.ensures ∙ same_strategies _ (g.A.Strategies.holds c.args.strategies.now) c.in_ok-strategy_names.ensures)
     c.in_ok-job.ensures.strategies

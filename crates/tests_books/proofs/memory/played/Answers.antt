@@ -10,6 +10,6 @@ new-requires-clause-roles g c = have_roles c.args.job.now c.requires.whole c.req
 
 pub run-requires-clause-held : goal.run-requires-clause-held
 run-requires-clause-held g c =
-    let has : List ℕ → Bool = g.A.Strategies.holds c.args.staff.now in
+    let has : List ℕ → Bool = g.A.Strategies.holds c.args.strategies.now in
     subst (λ (rs : List Role). AreHeld has rs) (sym (ap (λ (w : WorldState). w.roles) c.in_ok-world.ensures.new))
     (are_held has c.args.job.now.roles c.requires.strategies)

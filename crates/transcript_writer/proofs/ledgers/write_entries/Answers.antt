@@ -4,7 +4,7 @@ use Rattle.swap_base.specs.Text.{lines}
 use Rattle.ledger_core.specs.Runs.{run_ticks}
 use Rattle.swap_io.proofs.Handing.{handed_none, handed_was}
 use Rattle.transcript_writer.specs.Texts.{entries_text, item_text}
-use Rattle.transcript_writer.proofs.Parts.{of_items}
+use Rattle.transcript_writer.proofs.TextSections.{of_items}
 use Rattle.transcript_writer.proofs.Sequence.{hands_failed, hands_then}
 use Rattle.transcript_writer.proofs.ledgers.write_entries.Goals as goal
 

@@ -2,7 +2,7 @@ use Rattle.std.proofs.Common.{Err, [], ap, arith, refl, ◌∙◌}
 use Rattle.std.proofs.lemmas.Result.{err_from_is_err_and}
 use Rattle.swap_io.proofs.Handing.{handed_none, handed_put}
 use Rattle.transcript_writer.specs.Texts.{count_text, entries_text}
-use Rattle.transcript_writer.proofs.Parts.{of_ledger}
+use Rattle.transcript_writer.proofs.TextSections.{of_ledger}
 use Rattle.transcript_writer.proofs.Sequence.{hands_short, hands_then}
 use Rattle.transcript_writer.proofs.ledgers.write_ledger.Goals as goal
 

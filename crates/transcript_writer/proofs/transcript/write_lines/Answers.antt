@@ -4,7 +4,7 @@ use Rattle.swap_base.specs.Text.{lines}
 use Rattle.swap_io.specs.Handed.{Handed}
 use Rattle.swap_io.proofs.Handing.{handed_none, handed_on, handed_put, handed_was, hands_ok}
 use Rattle.transcript_writer.specs.Texts.{head_text, ledger_text}
-use Rattle.transcript_writer.proofs.Parts.{of_text}
+use Rattle.transcript_writer.proofs.TextSections.{of_text}
 use Rattle.transcript_writer.proofs.Sequence.{hands_failed, hands_short}
 use Rattle.transcript_writer.proofs.transcript.write_lines.Goals as goal
 

@@ -3,7 +3,7 @@ use Rattle.std.proofs.lemmas.Result.{on_ok_weaker}
 use Rattle.wallet_journal.specs.Device.{Torn, written}
 use Rattle.wallet_journal.specs.Layout.{gate_position, body_position}
 use Rattle.wallet_journal.specs.Journal.{Gains}
-use Rattle.wallet_journal.specs.Own.{IsInRecord}
+use Rattle.wallet_journal.specs.OwnDisks.{IsInRecord}
 use Rattle.wallet_journal.proofs.Moments.{weaker, both}
 use Rattle.wallet_journal.proofs.Tells.{body_size}
 use Rattle.wallet_journal.proofs.Crash.{first_write, second_write, stored, mid}

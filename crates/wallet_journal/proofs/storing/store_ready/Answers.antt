@@ -1,7 +1,7 @@
 use Rattle.std.proofs.Common.{ℕ, List, subst}
 use Rattle.wallet_journal.specs.Device.{Write, LeavesOnly}
 use Rattle.wallet_journal.specs.Recording.{IsStoppedRecording}
-use Rattle.wallet_journal.specs.Own.{IsInRecord}
+use Rattle.wallet_journal.specs.OwnDisks.{IsInRecord}
 use Rattle.wallet_journal.proofs.Moments.{both}
 use Rattle.wallet_journal.proofs.Stays.{stays, untouched}
 use Rattle.wallet_journal.proofs.Stops.{every_err, left_as}

@@ -1,4 +1,4 @@
-use Rattle.party_machine.proofs.Known.{is_good}
+use Rattle.party_machine.proofs.MachineEntries.{is_good}
 use Rattle.party_machine.proofs.machine.Machine.deal.Goals as goal
 
 pub returns-clause-wallet : goal.returns-clause-wallet

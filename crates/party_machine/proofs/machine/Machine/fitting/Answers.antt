@@ -1,5 +1,5 @@
 use Rattle.party_machine.proofs.Good.{fitting_is_good}
-use Rattle.party_machine.proofs.Known.{new_ready, new_is}
+use Rattle.party_machine.proofs.MachineEntries.{new_ready, new_is}
 use Rattle.party_machine.proofs.machine.Machine.fitting.Goals as goal
 
 pub invariant_of-result : goal.invariant_of-result

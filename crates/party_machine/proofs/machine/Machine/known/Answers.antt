@@ -2,7 +2,7 @@ use Rattle.std.proofs.Common.{◌∙◌, sym, ap, subst, length, ◌<◌}
 use Rattle.ledger_core.specs.Book.{history}
 use Rattle.history_index.specs.Value.{new_index, IsSameArc}
 use Rattle.party_machine.specs.Machine.{MachineState}
-use Rattle.party_machine.proofs.Known.{one_each, released_history, renewed_wallet}
+use Rattle.party_machine.proofs.MachineEntries.{one_each, released_history, renewed_wallet}
 use Rattle.party_machine.proofs.machine.Machine.known.Goals as goal
 
 pub returns-clause-entries : goal.returns-clause-entries

@@ -2,7 +2,7 @@ use Rattle.std.proofs.Common.{◌≡◌, subst, sym, set}
 use Rattle.std.specs.Prelude.{OnOk}
 use Rattle.party_machine.specs.Machine.{MachineState, learnt}
 use Rattle.party_machine.specs.Within.{all_entries}
-use Rattle.party_machine.proofs.Known.{fronts, called_ready, called_shows}
+use Rattle.party_machine.proofs.MachineEntries.{fronts, called_ready, called_shows}
 use Rattle.party_machine.specs.Rest.{MayRest}
 use Rattle.party_machine.proofs.Resting.{shown, learns}
 use Rattle.party_machine.proofs.machine.Machine.learn.Goals as goal

@@ -5,7 +5,7 @@ use Rattle.history_index.proofs.Extending.{takes_all}
 use Rattle.party_machine.specs.Machine.{MachineState, learnt}
 use Rattle.party_machine.specs.Within.{all_entries}
 use Rattle.party_machine.specs.Rest.{MayRest}
-use Rattle.party_machine.proofs.Known.{fronts, called_ready, called_shows}
+use Rattle.party_machine.proofs.MachineEntries.{fronts, called_ready, called_shows}
 use Rattle.party_machine.proofs.Resting.{shown, learns, are_all_ticks}
 use Rattle.party_machine.proofs.machine.Machine.learn_ticks.Goals as goal
 

@@ -1,4 +1,4 @@
-use Rattle.party_machine.proofs.Known.{fits_fresh, made_fresh}
+use Rattle.party_machine.proofs.MachineEntries.{fits_fresh, made_fresh}
 use Rattle.party_machine.proofs.machine.Machine.new.Goals as goal
 
 pub fitting-requires-clause-wallet : goal.fitting-requires-clause-wallet

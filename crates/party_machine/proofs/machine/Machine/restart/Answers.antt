@@ -1,7 +1,7 @@
 use Rattle.std.proofs.Common.{◌≡◌, ◌∙◌, length, ap}
 use Rattle.party_wallet.specs.Keys.{with_recorded}
 use Rattle.party_machine.specs.Machine.{MachineState, resumed_machine}
-use Rattle.party_machine.proofs.Known.{restarted_ready, restarted_is}
+use Rattle.party_machine.proofs.MachineEntries.{restarted_ready, restarted_is}
 use Rattle.party_machine.proofs.Recorded.{below}
 use Rattle.party_machine.proofs.machine.Machine.restart.Goals as goal
 

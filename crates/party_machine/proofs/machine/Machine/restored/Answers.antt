@@ -1,5 +1,5 @@
 use Rattle.std.proofs.Common.{◌≡◌, length}
-use Rattle.party_machine.proofs.Known.{restored_ready}
+use Rattle.party_machine.proofs.MachineEntries.{restored_ready}
 use Rattle.party_machine.proofs.Recorded.{below}
 use Rattle.party_machine.proofs.machine.Machine.restored.Goals as goal
 

@@ -1,5 +1,5 @@
 use Rattle.std.proofs.Common.{◌≡◌, true}
-use Rattle.hashkey_path.specs.Known.{is_last_signed}
+use Rattle.hashkey_path.specs.LastSignatures.{is_last_signed}
 use Rattle.swap_auditor.proofs.found.Found.known_key.Given as goal
 
 abbrev pub invariant-loop-found : goal.invariant-loop-found

@@ -1,6 +1,6 @@
 use Rattle.std.proofs.Common.{arith, ◌+◌}
 use Rattle.std.proofs.lemmas.List.{nil_from_length, length-drop}
-use Rattle.swap_io.proofs.Known.{copied}
+use Rattle.swap_io.proofs.ByteLaws.{copied}
 use Rattle.swap_io.proofs.memory.VecSourceSource.read.Goals as goal
 
 pub returns-clause-bytes : goal.returns-clause-bytes

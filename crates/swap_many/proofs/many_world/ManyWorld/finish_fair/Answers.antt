@@ -11,13 +11,13 @@ use Rattle.swap_many.proofs.many_world.ManyWorld.finish_fair.Goals.{After-finish
 
 -- the worlds after the fair finish, and what came before it
 taken : (g : given.Over) (c : goal.After-finish-done g)
-    → lemmas.HasTaken (g.A.Strategies.gives c.args.staff.now) kept_finish Finished (inside_many_state c.self.inside)
+    → lemmas.HasTaken (g.A.Strategies.gives c.args.strategies.now) kept_finish Finished (inside_many_state c.self.inside)
     (record c.finish-done.new.worlds { stages = stretch_stages (map (λ p. p.items) c.and-stretches.result.items) c.new-self-inside.result.items })
     c.finish-done.result
 taken g c =
     let i = c.self.inside in
     let w = inside_many_state i in
-    lemmas.has_taken (g.A.Strategies.gives c.args.staff.now) kept_finish Finished i.worlds c.finish-done.new.worlds w.stages
+    lemmas.has_taken (g.A.Strategies.gives c.args.strategies.now) kept_finish Finished i.worlds c.finish-done.new.worlds w.stages
     (stretch_stages (map (λ p. p.items) c.and-stretches.result.items) c.new-self-inside.result.items) c.finish-done.result
     (lemmas.finish_is_stage w c.self.invariant.whole.ready) c.self.invariant.runs
     (lemmas.stretch_more _ i.stretches.items c.and-stretches.result.items i.events c.new-self-inside.result.items c.and-stretches.ensures
@@ -28,7 +28,7 @@ returns-then-is_stopped-clause-err g c =
     let w = inside_many_state c.self.inside in
     let stopped : w.stopped ≡ true = sym c.is_stopped.ensures ∙ c.if-is_stopped.true in
     rw (← c.self.view_is)
-    (stopped_before (g.A.Strategies.gives c.args.staff.now) kept_finish w stopped c.self.invariant.whole.ready
+    (stopped_before (g.A.Strategies.gives c.args.strategies.now) kept_finish w stopped c.self.invariant.whole.ready
     (lemmas.finish_leads w c.self.invariant.whole.ready))
 
 pub invariant_of-self : goal.invariant_of-self
@@ -62,7 +62,7 @@ pub returns-clause-cut : goal.returns-clause-cut
 returns-clause-cut g c =
     let t = taken g (goal.at.returns-clause-cut g c).After-finish-done in
     rw (← c.self.view_is)
-    (lemmas.then_cut (g.A.Strategies.gives c.args.staff.now) kept_finish _ _ c.finish-done.result c.self.invariant.whole.ready c.self.invariant.runs t.err)
+    (lemmas.then_cut (g.A.Strategies.gives c.args.strategies.now) kept_finish _ _ c.finish-done.result c.self.invariant.whole.ready c.self.invariant.runs t.err)
 
 pub returns-then-is_stopped-clause-cut : goal.returns-then-is_stopped-clause-cut
 returns-then-is_stopped-clause-cut g c =

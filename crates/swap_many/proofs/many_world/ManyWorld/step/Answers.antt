@@ -14,7 +14,7 @@ use Rattle.swap_many.proofs.many_world.ManyWorld.step.Goals.{After-step-done}
 
 -- the worlds after the event, and what came before it
 taken : (g : given.Over) (c : goal.After-step-done g)
-    → lemmas.HasTaken (g.A.Strategies.gives c.args.staff.now) (λ m z. kept_done false m z c.args.event.now) (Came c.args.event.now)
+    → lemmas.HasTaken (g.A.Strategies.gives c.args.strategies.now) (λ m z. kept_done false m z c.args.event.now) (Came c.args.event.now)
     (inside_many_state c.self.inside)
     (record c.step-done.new.self { stages = stretch_stages (map (λ p. p.items) c.self.inside.stretches.items) c.and-events.result.items }) c.step-done.result
 taken g c =
@@ -23,7 +23,7 @@ taken g c =
     let e = c.args.event.now in
     let can : CanCome (world_setup w) e = rw (← c.self.view_is) at c.requires.event in
     let xs : List (List ManyEvent) = map (λ p. p.items) i.stretches.items in
-    lemmas.has_taken (g.A.Strategies.gives c.args.staff.now) (λ m z. kept_done false m z e) (Came e) i.worlds c.step-done.new.self w.stages
+    lemmas.has_taken (g.A.Strategies.gives c.args.strategies.now) (λ m z. kept_done false m z e) (Came e) i.worlds c.step-done.new.self w.stages
     (stretch_stages xs c.and-events.result.items) c.step-done.result (lemmas.step_is_stage w e c.self.invariant.whole.ready can) c.self.invariant.runs
     (ap (stretch_stages xs) c.and-events.ensures ∙ lemmas.came_more xs i.events.items e) (sym c.is_stopped.ensures ∙ c.if-is_stopped.false)
     c.step-done.ensures.ok c.step-done.ensures.err
@@ -35,7 +35,7 @@ returns-then-is_stopped-clause-err g c =
     let can : CanCome (world_setup w) e = rw (← c.self.view_is) at c.requires.event in
     let stopped : w.stopped ≡ true = sym c.is_stopped.ensures ∙ c.if-is_stopped.true in
     rw (← c.self.view_is)
-    (stopped_before (g.A.Strategies.gives c.args.staff.now) (λ m z. kept_done false m z e) w stopped c.self.invariant.whole.ready
+    (stopped_before (g.A.Strategies.gives c.args.strategies.now) (λ m z. kept_done false m z e) w stopped c.self.invariant.whole.ready
     (lemmas.step_leads w e c.self.invariant.whole.ready can))
 
 pub invariant_of-self : goal.invariant_of-self
@@ -66,7 +66,7 @@ pub returns-clause-cut : goal.returns-clause-cut
 returns-clause-cut g c =
     let t = taken g (goal.at.returns-clause-cut g c).After-step-done in
     rw (← c.self.view_is)
-    (lemmas.then_cut (g.A.Strategies.gives c.args.staff.now) (λ m z. kept_done false m z c.args.event.now) _ _ c.step-done.result c.self.invariant.whole.ready c.self.invariant.runs t.err)
+    (lemmas.then_cut (g.A.Strategies.gives c.args.strategies.now) (λ m z. kept_done false m z c.args.event.now) _ _ c.step-done.result c.self.invariant.whole.ready c.self.invariant.runs t.err)
 
 pub returns-then-is_stopped-clause-cut : goal.returns-then-is_stopped-clause-cut
 returns-then-is_stopped-clause-cut g c =

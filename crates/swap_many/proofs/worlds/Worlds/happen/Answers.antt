@@ -14,12 +14,12 @@ can g c = rw (← c.self.view_is) at c.requires.event
 
 -- the worlds after the event
 happened : (g : given.Over) (c : goal.After-is_err-self-inside g)
-    → HasHappened (g.A.Strategies.gives c.args.staff.now) (inside_worlds c.self.inside) c.args.swap c.args.event.now c.apply_step-told.new.self (can g c).swap
+    → HasHappened (g.A.Strategies.gives c.args.strategies.now) (inside_worlds c.self.inside) c.args.swap c.args.event.now c.apply_step-told.new.self (can g c).swap
     c.apply_step-told.result c.is_err-self-inside.result
 happened g c =
     let w = inside_worlds c.self.inside in
     let s = c.args.swap in
-    let gives = g.A.Strategies.gives c.args.staff.now in
+    let gives = g.A.Strategies.gives c.args.strategies.now in
     let may : CanHappen (world_setup w) s c.args.event.now = can g c in
     let on : w.stopped ≡ false = rw (← c.self.view_is) at c.requires.goes_on in
     let here = item_is w.worlds s no_world c.index_mut.result.now may.swap c.index_mut.ensures.value in

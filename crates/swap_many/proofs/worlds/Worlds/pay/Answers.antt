@@ -30,7 +30,7 @@ pub invariant_of-self : goal.invariant_of-self
 invariant_of-self g c =
     let k = (goal.at.invariant_of-self g c).After-pay in
     record {
-      whole = paid_whole (g.A.Strategies.gives c.args._staff.now) (inside_worlds c.self.inside) c.args.chain c.pay.new.self (low g k) c.args.from c.args.to
+      whole = paid_whole (g.A.Strategies.gives c.args._strategies.now) (inside_worlds c.self.inside) c.args.chain c.pay.new.self (low g k) c.args.from c.args.to
           c.args.units c.self.invariant.whole (rw (← c.self.view_is) at c.requires.goes_on) (can g k) (paid g k);
       on = c.self.invariant.on;
     }
@@ -38,5 +38,5 @@ invariant_of-self g c =
 pub returns-clause-gone : goal.returns-clause-gone
 returns-clause-gone g c =
     let k = (goal.at.returns-clause-gone g c).After-pay in
-    rw (← c.self.view_is) (paid_gone (g.A.Strategies.gives c.args._staff.now) (inside_worlds c.self.inside) c.args.chain c.pay.new.self (low g k) c.args.from
+    rw (← c.self.view_is) (paid_gone (g.A.Strategies.gives c.args._strategies.now) (inside_worlds c.self.inside) c.args.chain c.pay.new.self (low g k) c.args.from
     c.args.to c.args.units (paid g k))

@@ -61,7 +61,7 @@ invariant_of-self g c =
     let flags : c.args.swap < length w.swept = subst (λ n. c.args.swap < n) (sym c.self.invariant.whole.swept) m.can.swap in
     record {
       whole = back_whole w c.args.swap c.args.arc c.args.fair c.self.invariant.whole m.on m.can m.accepted _ _ _ m.at m.here m.is
-          (g.A.Strategies.gives c.args._staff.now) c.put_back.new.self c.put_back-2.new.self c.set.new.self c.index_mut.result.now c.put_back.ensures.units
+          (g.A.Strategies.gives c.args._strategies.now) c.put_back.new.self c.put_back-2.new.self c.set.new.self c.index_mut.result.now c.put_back.ensures.units
           c.put_back-2.ensures.units c.put_back.ensures.clock c.put_back-2.ensures.clock c.put_back.ensures.count c.put_back-2.ensures.count
           (item_is w.swept c.args.swap [] c.index_mut.result.now flags c.index_mut.ensures.value) c.set.ensures;
       on = c.self.invariant.on;
@@ -73,6 +73,6 @@ returns g c =
     let m = may g (goal.at.returns g c).After-index_mut-chain in
     let flags : c.args.swap < length w.swept = subst (λ n. c.args.swap < n) (sym c.self.invariant.whole.swept) m.can.swap in
     rw (← c.self.view_is) (back_gone w c.args.swap c.args.arc c.args.fair c.self.invariant.whole m.on m.can m.accepted _ _ _ m.at m.here m.is
-    (g.A.Strategies.gives c.args._staff.now) c.put_back.new.self c.put_back-2.new.self c.set.new.self c.index_mut.result.now c.put_back.ensures.units
+    (g.A.Strategies.gives c.args._strategies.now) c.put_back.new.self c.put_back-2.new.self c.set.new.self c.index_mut.result.now c.put_back.ensures.units
     c.put_back-2.ensures.units c.put_back.ensures.clock c.put_back-2.ensures.clock c.put_back.ensures.count c.put_back-2.ensures.count
     (item_is w.swept c.args.swap [] c.index_mut.result.now flags c.index_mut.ensures.value) c.set.ensures)

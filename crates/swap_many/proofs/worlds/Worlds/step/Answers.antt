@@ -6,10 +6,10 @@ use Rattle.swap_many.proofs.worlds.Worlds.step.Goals as goal
 
 pub returns-in-Pay-clause-ok : goal.returns-in-Pay-clause-ok
 returns-in-Pay-clause-ok g c =
-    subst (λ (e : ManyEvent). HasManyGone (g.A.Strategies.gives c.args.staff.now) (λ m z. kept_done false m z e) c.args.self.now c.pay.new.self)
+    subst (λ (e : ManyEvent). HasManyGone (g.A.Strategies.gives c.args.strategies.now) (λ m z. kept_done false m z e) c.args.self.now c.pay.new.self)
     (sym c.in-Pay.is) c.pay.ensures.gone
 
 pub returns-in-Sweep-clause-ok : goal.returns-in-Sweep-clause-ok
 returns-in-Sweep-clause-ok g c =
-    subst (λ (e : ManyEvent). HasManyGone (g.A.Strategies.gives c.args.staff.now) (λ m z. kept_done false m z e) c.args.self.now c.sweep.new.self)
+    subst (λ (e : ManyEvent). HasManyGone (g.A.Strategies.gives c.args.strategies.now) (λ m z. kept_done false m z e) c.args.self.now c.sweep.new.self)
     (sym c.in-Sweep.is) c.sweep.ensures.gone

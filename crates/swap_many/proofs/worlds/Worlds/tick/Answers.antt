@@ -30,7 +30,7 @@ tick_worlds-requires-clause-fits g c =
 
 -- the worlds after the ticks
 ticked : (g : given.Over) (c : goal.After-has_stopped-self-inside g)
-    → HasTicked (g.A.Strategies.gives c.args._staff.now)
+    → HasTicked (g.A.Strategies.gives c.args._strategies.now)
     (inside_worlds c.self.inside) c.args.chain c.args.k c.tick-reply.new.self c.tick_worlds.new.worlds.items
     c.has_stopped-self-inside.result
 ticked g c =
@@ -47,7 +47,7 @@ ticked g c =
     let room = subst (λ (y : ChainState). has_no_tick y.clock.ticks y.clock.height c.args.k ≡ false) here has in
     let clock = subst (λ (y : ChainState). c.tick-reply.new.self ≡ record y { clock = later y.clock c.args.k }) here (c.tick-reply.ensures.ticked has) in
     let all = subst (λ xs. AreTicked xs c.args.k (length w.worlds) w.worlds c.tick_worlds.new.worlds.items) there c.tick_worlds.ensures in
-    has_ticked (g.A.Strategies.gives c.args._staff.now) w i c.args.k c.tick-reply.new.self c.tick_worlds.new.worlds.items c.has_stopped-self-inside.result low
+    has_ticked (g.A.Strategies.gives c.args._strategies.now) w i c.args.k c.tick-reply.new.self c.tick_worlds.new.worlds.items c.has_stopped-self-inside.result low
     c.self.invariant.whole room clock all (rw (← c.self.view_is) at c.requires.goes_on)
     (c.has_stopped-self-inside.ensures ∙ ap some_stopped c.deref.ensures.value) may
 

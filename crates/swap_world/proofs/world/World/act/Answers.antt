@@ -9,7 +9,7 @@ pub returns-clause-ok : goal.returns-clause-ok
 returns-clause-ok g c =
     let w = c.args.self.now in
     let sw = is_slot_swept c.args.swept.now in
-    went c.act_alone.result (g.A.Strategies.gives c.args.staff.now) (stepping sw (Act c.args.p)) w c.act_alone.new.self
+    went c.act_alone.result (g.A.Strategies.gives c.args.strategies.now) (stepping sw (Act c.args.p)) w c.act_alone.new.self
     (quiet_act sw (world_cast w) w.state c.args.p (sym c.asks.ensures ∙ c.if-asks.false)) c.act_alone.ensures.ok
 
 pub returns-clause-told : goal.returns-clause-told
@@ -24,6 +24,6 @@ pub returns-clause-cut : goal.returns-clause-cut
 returns-clause-cut g c =
     let w = c.args.self.now in
     let sw = is_slot_swept c.args.swept.now in
-    cut c.act_alone.result (g.A.Strategies.gives c.args.staff.now) (stepping sw (Act c.args.p)) w c.act_alone.new.self
+    cut c.act_alone.result (g.A.Strategies.gives c.args.strategies.now) (stepping sw (Act c.args.p)) w c.act_alone.new.self
     (quiet_act sw (world_cast w) w.state c.args.p (sym c.asks.ensures ∙ c.if-asks.false)) c.act_alone.ensures.cast c.act_alone.ensures.asked
     c.act_alone.ensures.answers c.act_alone.ensures.book

@@ -75,7 +75,7 @@ module _ (g : given.Over) (c : goal.After-is_err-self-inside g) where
   place : IsPlanOf i c.args.p n
   place = plan_found i c.self.invariant c.args.p known c.index_mut.result.now c.index_mut.ensures.value n c.in-Planned.is
 
-  asking : IsAsking (g.A.Strategies.gives c.args.staff.now) i.deal i.conforming i.seeds i.roles i.askers.items i.told.items i.answers.items i.ledgers.items
+  asking : IsAsking (g.A.Strategies.gives c.args.strategies.now) i.deal i.conforming i.seeds i.roles i.askers.items i.told.items i.answers.items i.ledgers.items
       i.actors.items c.args.p n c.in-Strategy.name c.in_ok-answer.answer c.and-askers.result.items c.and-told.result.items c.and-self-inside.result.items
   asking =
       let r : Role = c.index-as_slice-p.result in

@@ -13,7 +13,7 @@ pub returns-in-Call-clause-ok : goal.returns-in-Call-clause-ok
 returns-in-Call-clause-ok g c =
     let w = c.args.self.now in
     let sw = is_slot_swept c.args.swept.now in
-    let gives = g.A.Strategies.gives c.args.staff.now in
+    let gives = g.A.Strategies.gives c.args.strategies.now in
     let is = ap (λ mv. Made c.in-Call.sender mv) c.deref.ensures ∙ sym c.in-Call.is in
     subst (λ (e : Event). OnOk c.make.result (HasGone gives (stepping sw e) w c.make.new.self)) is
     (went c.make.result gives (stepping sw (Made c.in-Call.sender c.deref.result.now)) w c.make.new.self
@@ -32,7 +32,7 @@ pub returns-in-Call-clause-cut : goal.returns-in-Call-clause-cut
 returns-in-Call-clause-cut g c =
     let w = c.args.self.now in
     let sw = is_slot_swept c.args.swept.now in
-    let gives = g.A.Strategies.gives c.args.staff.now in
+    let gives = g.A.Strategies.gives c.args.strategies.now in
     let is = ap (λ mv. Made c.in-Call.sender mv) c.deref.ensures ∙ sym c.in-Call.is in
     subst (λ (e : Event). OnErr c.make.result (IsCutMidway gives (stepping sw e) w c.make.new.self)) is
     (cut c.make.result gives (stepping sw (Made c.in-Call.sender c.deref.result.now)) w c.make.new.self
@@ -43,7 +43,7 @@ pub returns-in_err-tick-in-Tick-clause-cut : goal.returns-in_err-tick-in-Tick-cl
 returns-in_err-tick-in-Tick-clause-cut g c =
     let w = c.args.self.now in
     let sw = is_slot_swept c.args.swept.now in
-    let gives = g.A.Strategies.gives c.args.staff.now in
+    let gives = g.A.Strategies.gives c.args.strategies.now in
     let e = c.in_err-tick-in-Tick.ensures in
     if_err _ (subst (λ (x : Event). IsCutMidway gives (stepping sw x) w c.tick.new.self) (sym c.in-Tick.is)
     (cut_to gives (stepping sw (Tick c.in-Tick.arc c.in-Tick.k)) w c.tick.new.self (quiet_tick sw (world_cast w) w.state c.in-Tick.arc c.in-Tick.k)

@@ -1,7 +1,7 @@
 use Rattle.std.proofs.Common.{ap, ◌∙◌, ◌<◌, ◌≡◌, sym, subst, Some}
 use Rattle.std.specs.List.{AllByRecursion}
 use mathlib.Core.Option.{some-injective}
-use Rattle.turn_lock.specs.Parts.{Covers}
+use Rattle.turn_lock.specs.SeatHistory.{Covers}
 use Rattle.turn_lock.proofs.Keeps.{closes}
 use Rattle.turn_lock.proofs.lock.TurnLock.close.Goals as goal
 

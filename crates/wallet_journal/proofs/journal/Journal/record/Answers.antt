@@ -1,6 +1,6 @@
 use Rattle.std.proofs.Common.{subst}
 use Rattle.wallet_journal.specs.Device.{LeavesOnly}
-use Rattle.wallet_journal.specs.Own.{IsInRecord}
+use Rattle.wallet_journal.specs.OwnDisks.{IsInRecord}
 use Rattle.wallet_journal.proofs.Keeping.{keeps_recorded, keeps_whole, keeps_own, kept_state}
 use Rattle.wallet_journal.proofs.journal.Journal.record.Goals as goal
 

@@ -1,4 +1,0 @@
-use Rattle.offer_header.proofs.parts.only_arc_fields.Goals as goal
-
-pub returns-then-stated : goal.returns-then-stated
-returns-then-stated c = rw c.if-stated.true c.allow_only.ensures

@@ -1,0 +1,30 @@
+use Rattle.std.proofs.Common.{inl}
+use Rattle.std.proofs.KnownBytes.{Keeps-refl}
+use Rattle.swap_commands.proofs.Audits.{says_audit}
+use Rattle.swap_commands.proofs.Saying.{none_consumed}
+use Rattle.swap_commands.proofs.orders.run_order.Goals as goal
+
+pub returns-in-Check-clause-says : goal.returns-in-Check-clause-says
+returns-in-Check-clause-says g c = rw c.in-Check.is c.check.ensures.says
+
+pub returns-in-Run-clause-says : goal.returns-in-Run-clause-says
+returns-in-Run-clause-says g c = rw c.in-Run.is c.run.ensures.says
+
+pub returns-in-Make-clause-says : goal.returns-in-Make-clause-says
+returns-in-Make-clause-says g c = rw c.in-Make.is c.make.ensures.says
+
+pub returns-in-Audit-clause-says : goal.returns-in-Audit-clause-says
+returns-in-Audit-clause-says g c =
+    rw c.in-Audit.is (says_audit _ _ _ _ _ _ _ _ _ _ c.audit_transcript.result c.audit_transcript.ensures.says)
+
+pub returns-in-Audit-clause-calm : goal.returns-in-Audit-clause-calm
+returns-in-Audit-clause-calm g c = c.audit_transcript.ensures.calm
+
+pub returns-in-Clear-clause-says : goal.returns-in-Clear-clause-says
+returns-in-Clear-clause-says g c = rw c.in-Clear.is c.clear.ensures.says
+
+pub returns-clause-says : goal.returns-clause-says
+returns-clause-says g c = rw c.in-Many.is c.many.ensures.says
+
+pub returns-in_default-clause-says : goal.returns-in_default-clause-says
+returns-in_default-clause-says g c = inl (Keeps-refl (g.K.Sink.taken c.args.sink.now), none_consumed (g.S.Source.left c.args.source.now))
